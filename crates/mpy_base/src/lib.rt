@@ -1,0 +1,16 @@
+//! What every other crate stands on: texts, want of memory, refusals, numbers of the file format, and limits.
+#![tactic(auto)]
+
+pub mod limits;
+mod refused;
+mod source;
+mod text;
+mod vuint;
+
+pub use refused::{NoMemory, Refused};
+pub use source::{SourceCode, SourceFault};
+pub use text::Text;
+pub use vuint::{VuintFault, read_vuint, vuint_law, write_vuint};
+
+#[cfg(test)]
+mod tests;
