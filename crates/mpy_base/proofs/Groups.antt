@@ -206,3 +206,8 @@ shifted at (Err fault) = Err fault
 pub moved : (at n len m k : ℕ) → found_at n len ≡ found_at m k → found_at n (at + len) ≡ found_at m (at + k)
 unfolding shifted
 moved at n len m k e = ap (shifted at) e
+
+-- no spelling is longer than five bytes
+pub length-vuint : (n : ℕ) → length (vuint n) ≤ 5
+unfolding vuint
+length-vuint n = omega (arith, length_push (high_groups 4 (n / 128)) (n % 128), length-high_groups 4 (n / 128))

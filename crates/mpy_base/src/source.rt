@@ -4,6 +4,7 @@ ghost use Rattle.std.specs.Prelude.{◌≡◌};
 ghost use Rattle.mpy_base.specs.Source.{name_of, number_of};
 
 use crate::Text;
+use std::alloc::Global;
 
 /// What is wrong with a source.
 #[derive(Clone, Copy, Debug, PartialEq, Eq)]
@@ -73,4 +74,20 @@ pub struct SourceFault {
     /// Counted from 1.
     pub line: u32,
     pub word: Text,
+}
+
+impl SourceFault {
+    ghost use Rattle.std.specs.Prelude.{◌≡◌};
+    ghost use Rattle.mpy_base.specs.Fault.{too_long};
+
+    /// What is too long is so from its first line on.
+    pub fn too_long(alloc: Global) -> SourceFault
+        ensures { result ≡ too_long }
+    {
+        SourceFault {
+            code: SourceCode::TooLong,
+            line: 1,
+            word: Text::empty(alloc),
+        }
+    }
 }

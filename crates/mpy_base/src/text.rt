@@ -1,6 +1,6 @@
 //! A text that definitions can compare.
 
-ghost use Rattle.std.specs.Prelude.{◌≡◌, IfOk};
+ghost use Rattle.std.specs.Prelude.{◌≡◌, [], IfOk};
 
 use crate::NoMemory;
 use std::alloc::Global;
@@ -21,6 +21,15 @@ impl Model for Text {
 }
 
 impl Text {
+    /// The text of no bytes, which takes no memory.
+    pub fn empty(alloc: Global) -> Text
+        ensures { result ≡ [] }
+    {
+        Text {
+            bytes: Vec::new(alloc),
+        }
+    }
+
     /// A copy of the bytes.
     pub fn new(alloc: Global, bytes: &[u8]) -> Result<Text, NoMemory>
         ensures { IfOk result (λ text. text ≡ bytes.now) }
