@@ -1,13 +1,25 @@
-// A library with one function.
+//! The outside as the tool chain sees it: a folder of files and a sink of bytes, each with a count of its faults.
+//!
+//! The forms in memory tell what they hold, so that contracts can speak of it. The real ends tell nothing.
 #![tactic(auto)]
 
-ghost use Rattle.std.specs.Prelude.{◌≡◌};
-ghost use Rattle.mpy_io.specs.Echo.{echo_of};
+mod cut;
+mod disk;
+mod fault;
+mod folder;
+mod mem_folder;
+mod mem_sink;
+mod out_sink;
+mod place;
+mod sink;
 
-// The `ensures` clause is the contract: what `echo` returns is `echo_of` of its argument, a definition
-// in `specs/Echo.antt`, which a caller's clause can cite too.
-pub fn echo(x: usize) -> usize
-    ensures { result ≡ echo_of x }
-{
-    x
-}
+pub use disk::DiskFolder;
+pub use fault::{Failed, ReadFault};
+pub use folder::Folder;
+pub use mem_folder::MemFolder;
+pub use mem_sink::MemSink;
+pub use out_sink::OutSink;
+pub use sink::Sink;
+
+#[cfg(test)]
+mod tests;
