@@ -1,14 +1,14 @@
 -- Groups of seven bits: bytes begin with one number at most, and the shortest spelling is one.
 use Rattle.mpy_base.specs.declared.vuint.VuintFault.{VuintFault}
-use Rattle.std.proofs.Common.{Result, Ok, Err, ◌≡◌, ◌⊎◌, ℕ, zero, suc, ◌+◌, ◌*◌, ◌/◌, ◌%◌, ◌^◌, ◌<◌, ◌≤◌, List, [], ◌∷◌, ◌++◌, length, take, drop, get_or, cond, eqb, true, false, fold, All, refl, ap, sym, subst, ◌∙◌, inl, inr, arith, append_assoc, length-append}
+use Rattle.std.proofs.Common.{Result, Ok, Err, ◌≡◌, ℕ, zero, suc, ◌+◌, ◌*◌, ◌/◌, ◌%◌, ◌^◌, ◌<◌, ◌≤◌, List, [], ◌∷◌, ◌++◌, length, take, drop, get_or, cond, eqb, true, false, fold, All, refl, ap, sym, subst, ◌∙◌, inl, inr, arith, append_assoc, length-append}
 use Rattle.std.specs.List.{AllByRecursion}
-use Rattle.std.proofs.lemmas.List.{length_push, get_or_at, get_or-take, take_more, length-take-le, take-append-drop, take_all}
-use Rattle.std.proofs.lemmas.List.Elements.{All-nil, All-push, All-append, All-take, All-cons, recursion_from_All}
+use Rattle.std.proofs.lemmas.List.{length_push, get_or_at, get_or-take, take_more, length-take-le, take-append-drop}
+use Rattle.std.proofs.lemmas.List.Elements.{All-nil, All-push, recursion_from_All}
 use Rattle.std.proofs.lemmas.List.Sums.{fold-append}
 use Rattle.std.proofs.lemmas.Nat.{div_below}
 use Rattle.std.proofs.lemmas.Bool.Decides.{nat_tests}
-use Rattle.std.proofs.Math.Nat.{pow-suc, mul-le-mul_left, mul-le-mul_right}
-use Rattle.mpy_base.specs.Vuint.{HasMore, value_of, Groups, Spells, EndsInside, PassesForm, HasFiveMore, BeginsTooBig, high_groups, vuint}
+use Rattle.std.proofs.Math.Nat.{pow-suc, mul-le-mul_right}
+use Rattle.mpy_base.specs.Vuint.{HasMore, value_of, Groups, Spells, EndsInside, PassesForm, HasFiveMore, high_groups, vuint}
 
 -- a byte without bit 7 parts a list in one way
 one_split : (h k : List ℕ) (l m : ℕ) (x y : List ℕ) → AllByRecursion HasMore h → AllByRecursion HasMore k → l < 128 → m < 128 → h ++ l ∷ x ≡ k ++ m ∷ y → (h ≡ k) × (l ≡ m)

@@ -1,6 +1,6 @@
-use Rattle.std.proofs.Common.{◌≡◌, ◌+◌, ◌*◌, ◌≤◌, ℕ, take, drop, length, get_or, All, refl, sym, ap, subst, arith}
+use Rattle.std.proofs.Common.{◌≡◌, ◌+◌, ◌*◌, take, drop, length, All, refl, subst, arith}
 use Rattle.std.proofs.lemmas.List.{take_all}
-use Rattle.mpy_base.specs.Vuint.{HasMore, value_of, Groups, EndsInside, PassesForm}
+use Rattle.mpy_base.specs.Vuint.{HasMore}
 use Rattle.mpy_base.proofs.Groups.{groups_at, length_taken, rejoins, only_one, too_big_at, five_more, not_past, not_inside, not_both}
 use Rattle.mpy_base.proofs.vuint.read_front.Goals as goal
 

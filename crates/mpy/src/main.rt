@@ -1,0 +1,82 @@
+//! The program: the tool's top call over the working folder and the standard streams.
+#![tactic(auto)]
+
+use mpy_io::{DiskFolder, OutSink, Sink};
+use mpy_tool::mpy;
+use std::alloc::Global;
+use std::io::ErrorKind;
+use std::process::ExitCode;
+use std::{env, io};
+
+const VERSION: &[u8] = b"mpy 0.1.0\n";
+
+const HELP: &[u8] = b"mpy: a verified tool chain for MicroPython bytecode files
+
+usage:
+  mpy go SRC      compile the source SRC and run it
+  mpy --help      print this text
+  mpy --version   print the version
+
+exit status:
+  0   all of it was done
+  2   the words are no command
+  3   the source isn't accepted
+  7   a read failed
+  8   a write failed
+  9   out of memory
+  10  a file is absent
+";
+
+/// The words after the program's own name.
+fn words(rt: &HostRuntime) -> io::Result<Vec<String>> {
+    let mut words = Vec::new(rt.alloc());
+    for word in env::args(rt)?.skip(1) {
+        words.push(word)?;
+    }
+    Ok(words)
+}
+
+/// What `--help` or `--version` as the only word prints.
+fn notice(words: &[String]) -> Option<&'static [u8]> {
+    match words {
+        [word] if word.as_str() == "--help" => Some(HELP),
+        [word] if word.as_str() == "--version" => Some(VERSION),
+        _ => None,
+    }
+}
+
+/// Says why the words can't be read: one of them is no text, or memory is not found for them.
+fn refuse<E: Sink>(say: &mut E, fault: ErrorKind) -> u8 {
+    if fault == ErrorKind::OutOfMemory {
+        let _ = say.put(b"mpy: memory\n");
+        return 9;
+    }
+    let _ = say.put(b"mpy: words 2 Unknown\n");
+    2
+}
+
+fn tell<S: Sink, E: Sink>(text: &[u8], out: &mut S, say: &mut E) -> u8 {
+    if out.put(text).is_ok() {
+        return 0;
+    }
+    let _ = say.put(b"mpy: write fault out\n");
+    8
+}
+
+fn main(rt: HostRuntime) -> ExitCode {
+    let alloc: Global = rt.alloc();
+    let mut out = OutSink::new(rt.stdout());
+    let mut say = OutSink::new(rt.stderr());
+    let words = match words(&rt) {
+        Ok(words) => words,
+        Err(error) => return ExitCode::from(refuse(&mut say, error.kind())),
+    };
+    if let Some(text) = notice(&words) {
+        return ExitCode::from(tell(text, &mut out, &mut say));
+    }
+    let Ok(root) = String::from_str(alloc, ".") else {
+        return ExitCode::from(refuse(&mut say, ErrorKind::OutOfMemory));
+    };
+    let mut folder = DiskFolder::new(&rt, root);
+    ExitCode::from(mpy(alloc, &words, &mut folder, &mut out, &mut say))
+}

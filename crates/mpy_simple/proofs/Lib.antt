@@ -1,0 +1,7 @@
+pub mod Faults
+pub mod Lines
+pub mod Named
+pub mod Parts
+pub mod Reread
+pub mod Sizes
+pub mod Written

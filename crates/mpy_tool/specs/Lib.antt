@@ -1,0 +1,4 @@
+pub mod Words
+pub mod Go
+pub mod Line
+pub mod Outside

@@ -1,0 +1,39 @@
+-- What the outside tells before and after a command, and what the command did to it.
+use Rattle.std.specs.Prelude.{◌≡◌, ℕ, List, Option}
+use Rattle.std.specs.Io.KnownBytes.{Keeps}
+use Rattle.mpy_io.specs.Count.{Counts}
+use Rattle.mpy_io.specs.Files.{FileOf}
+use Rattle.mpy_tool.specs.declared.go.Ending.{Ending}
+use Rattle.mpy_tool.specs.declared.words.WordFault.{WordFault}
+use Rattle.mpy_tool.specs.Go.{Went, is_read_fault, is_write_fault, status_of}
+use Rattle.mpy_tool.specs.Line.{Says, line_of, words_line}
+
+-- what a folder and two sinks tell, and their counts of faults
+pub record Outside : Type 0 where
+  pub files : Option FileOf
+  pub folder_faults : ℕ
+  pub out : Option (List ℕ)
+  pub out_faults : ℕ
+  pub say : Option (List ℕ)
+  pub say_faults : ℕ
+
+-- what they tell, by their members, in three states
+abbrev pub seen : {F S E : Type 0} → (F → Option FileOf) → (F → ℕ) → (S → Option (List ℕ)) → (S → ℕ) → (E → Option (List ℕ)) → (E → ℕ) → F → S → E → Outside
+seen files folder_faults out out_faults say say_faults f s e = record { files = files f; folder_faults = folder_faults f; out = out s; out_faults = out_faults s; say = say e; say_faults = say_faults e }
+
+-- words of no order end with status 2, and nothing is done but to say so
+pub record RefusesWords (words : List (List ℕ)) (fault : WordFault) (old new : Outside) (status : ℕ) : Type 0 where
+  pub status_is : status ≡ 2
+  pub prints : Keeps old.out new.out
+  pub reads : new.folder_faults ≡ old.folder_faults
+  pub writes : new.out_faults ≡ old.out_faults
+  pub says : Says old.say new.say old.say_faults new.say_faults (words_line words fault)
+
+-- go SRC ended so: why, with what printed, which count of faults rose, and what was said
+pub record Goes (name : List ℕ) (old new : Outside) (status : ℕ) : Type 0 where
+  pub ending : Ending
+  pub status_is : status ≡ status_of ending
+  pub went : Went old.files name ending old.out new.out
+  pub reads : Counts old.folder_faults new.folder_faults (is_read_fault ending)
+  pub writes : Counts old.out_faults new.out_faults (is_write_fault ending)
+  pub says : Says old.say new.say old.say_faults new.say_faults (line_of name ending)

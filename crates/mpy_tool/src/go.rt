@@ -1,0 +1,96 @@
+//! The command `go`.
+
+ghost use Rattle.std.specs.Prelude.{◌≡◌, IfOk};
+ghost use Rattle.mpy_io.specs.Count.{Counts};
+ghost use Rattle.mpy_tool.specs.Go.{stored, ascii_of, Compiles, RanSource, Went, is_read_fault, is_write_fault};
+
+use bc_vm::run_simple;
+use mpy_base::{NoMemory, Refused, SourceFault, Text};
+use mpy_io::{Failed, Folder, ReadFault, Sink};
+use mpy_simple::{simple_file, simple_read};
+use std::alloc::Global;
+
+/// How a run of a source ended.
+#[derive(Debug, Drop)]
+pub enum Ending {
+    /// All of it ran.
+    Ran,
+    /// The source isn't accepted.
+    Unaccepted(SourceFault),
+    /// The folder failed.
+    ReadFault,
+    /// The sink failed.
+    WriteFault,
+    NoMemory,
+    /// The folder has no such file.
+    Absent,
+}
+
+fn stored_byte(byte: u8) -> u8
+    ensures { result ≡ ascii_of byte }
+{
+    if byte < 128 { byte } else { b'?' }
+}
+
+/// The name that a file stores of its source.
+fn stored_name(alloc: Global, name: &str) -> Result<Text, NoMemory>
+    ensures { IfOk result (λ text. text ≡ stored name.now) }
+{
+    let bytes: Vec<u8> = name
+        .as_bytes()
+        .iter()
+        .map(|byte| stored_byte(*byte))
+        .collect(alloc)?;
+    Text::new(alloc, &bytes)
+}
+
+/// The texts that a source prints, by the file that it compiles to.
+fn compiled(alloc: Global, source: &[u8], name: &[u8]) -> Result<Vec<Text>, Refused<SourceFault>>
+    ensures { Compiles source.now name.now result }
+{
+    let file = simple_file(alloc, source, name)?;
+    match simple_read(alloc, &file)? {
+        Some(texts) => Ok(texts),
+        None => unreachable!(),
+    }
+}
+
+/// Runs a source under the name that its file stores.
+fn run<S: Sink>(alloc: Global, source: &[u8], name: &[u8], out: &mut S) -> Ending
+    ensures ran { RanSource source.now name.now result (S.told out.old) (S.told out.new) }
+    ensures cause { Counts (S.count out.old) (S.count out.new) (is_write_fault result) }
+{
+    match compiled(alloc, source, name) {
+        Ok(texts) => match run_simple(&texts, out) {
+            Ok(()) => Ending::Ran,
+            Err(Failed) => Ending::WriteFault,
+        },
+        Err(Refused::Fault(fault)) => Ending::Unaccepted(fault),
+        Err(Refused::NoMemory) => Ending::NoMemory,
+    }
+}
+
+/// Runs the source of this name.
+pub(crate) fn go<F: Folder, S: Sink>(
+    alloc: Global,
+    name: &str,
+    folder: &mut F,
+    out: &mut S,
+) -> Ending
+    ensures went { Went (F.files folder.old) name.now result (S.told out.old) (S.told out.new) }
+    ensures reads { Counts (F.count folder.old) (F.count folder.new) (is_read_fault result) }
+    ensures writes { Counts (S.count out.old) (S.count out.new) (is_write_fault result) }
+    ensures files { F.files folder.new ≡ F.files folder.old }
+{
+    let source = match folder.read(alloc, name) {
+        Ok(source) => source,
+        Err(ReadFault::Absent) => return Ending::Absent,
+        Err(ReadFault::TooLong) => return Ending::Unaccepted(SourceFault::too_long(alloc)),
+        Err(ReadFault::Failed) => return Ending::ReadFault,
+        Err(ReadFault::NoMemory) => return Ending::NoMemory,
+    };
+    match stored_name(alloc, name) {
+        Ok(stored) => run(alloc, &source, stored.bytes(), out),
+        Err(NoMemory) => Ending::NoMemory,
+    }
+}

@@ -1,0 +1,2 @@
+print("hello")
+print("from mpy")
