@@ -1,0 +1,11 @@
+//! Interned texts: those that every file may name by number, and pools of a file's own.
+#![tactic(auto)]
+
+mod pool;
+mod table;
+
+pub use pool::{Full, Pool, pool_law};
+pub use table::{FIRST_OWN, STATIC_COUNT, static_law, static_number, static_text};
+
+#[cfg(test)]
+mod tests;
