@@ -12,6 +12,7 @@ const SPELLINGS: [(Instr, &[u8]); 6] = [
 ];
 
 #[test]
+#[tactic(auto, unfolding(crate::specs::Code::form_of))]
 fn instructions_are_written_and_read(rt: HostRuntime) -> Result<(), Fail> {
     let mut out = Vec::new(rt.alloc());
     encode(&mut out, &Instr::Plain(Op::PopTop))?;

@@ -1,5 +1,5 @@
 -- Files computed from their definition.
-use Rattle.std.proofs.Common.{◌≡◌, List, [], ◌∷◌, codes, refl}
+use Rattle.std.proofs.Common.{◌≡◌, [], ◌∷◌, codes, refl}
 use Rattle.mpy_base.specs.Vuint.{vuint}
 use Rattle.mpy_simple.specs.File.{file_of}
 

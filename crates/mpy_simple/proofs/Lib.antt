@@ -2,6 +2,7 @@ mod Examples
 pub mod Faults
 pub mod Lines
 pub mod Named
+pub mod Numbered
 pub mod Parts
 pub mod Reread
 pub mod Sizes

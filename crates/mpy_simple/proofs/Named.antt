@@ -64,7 +64,7 @@ found_at (other ∷ names) name h =
           (omega (arith, r.0), ap (λ (i : ℕ). get_or (other ∷ names) i []) next ∙ r.1)
     ] refl h
 
-number_within : (names : List (List ℕ)) (name : List ℕ) → number_of names name ≤ length names
+pub number_within : (names : List (List ℕ)) (name : List ℕ) → number_of names name ≤ length names
 number_within names name = prefix_len-le-length (λ y. not (bytes_eq name y)) names
 
 -- the instructions load the texts
@@ -88,7 +88,7 @@ encodable_instrs names (text ∷ texts) small =
     ((refl, print_small), ((refl, text_small), ((refl, omega arith), (refl, encodable_instrs names texts small))))
 
 -- how many names there are
-length-with_name : (names : List (List ℕ)) (name : List ℕ) → length (with_name names name) ≤ length names + 1
+pub length-with_name : (names : List (List ℕ)) (name : List ℕ) → length (with_name names name) ≤ length names + 1
 length-with_name names name =
     elim (list_any (bytes_eq name) names) as (λ b. length (cond b names (names ++ name ∷ [])) ≤ length names + 1) [
       | true ↦ omega arith

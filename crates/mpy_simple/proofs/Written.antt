@@ -1,29 +1,11 @@
 -- The code and the line table of the lines so far, one line on.
-use Rattle.std.proofs.Common.{◌≡◌, ℕ, suc, ◌+◌, ◌-◌, ◌<◌, ◌≤◌, Bool, true, false, not, ◌||◌, cond, List, [], ◌∷◌, ◌++◌, length, take, get_or, flat_map, refl, ap, sym, ◌∙◌, arith, length-append}
-use Rattle.std.specs.List.{list_any, position_or_len}
+use Rattle.std.proofs.Common.{◌≡◌, ℕ, ◌+◌, ◌-◌, ◌<◌, ◌≤◌, List, [], ◌∷◌, ◌++◌, length, take, get_or, flat_map, refl, ap, sym, ◌∙◌, arith, length-append}
 use Rattle.std.proofs.lemmas.List.{take_more, get_or_read, flat_map_more}
 use Rattle.std.proofs.lemmas.Grind.{flat_map-append}
 use Rattle.mpy_base.specs.Vuint.{vuint}
 use Rattle.mpy_base.proofs.Groups.{length-vuint}
 use Rattle.bc_ops.specs.Code.{spelling}
 use Rattle.mpy_simple.specs.File.{line_instrs, line_table, number_of, print_name}
-
--- the place of the first that passes is past the end exactly where none passes
-pub is_new : {X : Type 0} (p : X → Bool) (xs : List X) → position_or_len p xs ≡ length xs → list_any p xs ≡ false
-is_new p [] e = refl
-is_new p (x ∷ xs) e =
-    elim (p x) as (λ b. cond (not b) (1 + position_or_len p xs) 0 ≡ suc (length xs) → (b || list_any p xs) ≡ false) [
-      | true ↦ λ h. absurd (omega arith)
-      | false ↦ λ h. is_new p xs (omega arith)
-    ] e
-
-pub is_there : {X : Type 0} (p : X → Bool) (xs : List X) → (position_or_len p xs ≡ length xs → ⊥) → list_any p xs ≡ true
-is_there p [] n = absurd (n refl)
-is_there p (x ∷ xs) n =
-    elim (p x) as (λ b. (cond (not b) (1 + position_or_len p xs) 0 ≡ suc (length xs) → ⊥) → (b || list_any p xs) ≡ true) [
-      | true ↦ λ _. refl
-      | false ↦ λ h. is_there p xs (λ e. h (omega arith))
-    ] n
 
 -- the code of a line is short
 pub length-line : (names : List (List ℕ)) (text : List ℕ) → length (flat_map spelling (line_instrs names text)) ≤ 19

@@ -11,37 +11,30 @@ use crate::source::{MAX_LINES, texts_of};
 use bc_ops::{Instr, Op, encode};
 use mpy_base::limits::{MAX_FILE_BYTES, MAX_SOURCE_BYTES};
 use mpy_base::{NoMemory, Refused, SourceFault, Text, write_vuint};
+use qstr_pool::Pool;
 use std::alloc::Global;
 
 /// The bytes that a file begins with: its mark, the version, no architecture, and the small integers' bits.
 const HEADER: [u8; 4] = [0x4d, 0x06, 0x00, 0x1f];
 
 /// Adds the code of one line.
-fn write_line(out: &mut Vec<u8>, names: &[Text], text: &[u8]) -> Result<(), NoMemory>
-    requires { length names.now < 2 ^ 31 }
-    ensures { OnOk result (out.new.items ≡ out.old.items ++ flat_map spelling (line_instrs names.now text.now)) }
+fn write_line(out: &mut Vec<u8>, names: &Pool, text: &[u8]) -> Result<(), NoMemory>
+    requires from_zero { names.now.first ≡ 0 }
+    requires names_fit { length names.now.texts < 2 ^ 31 }
+    ensures { OnOk result (out.new.items ≡ out.old.items ++ flat_map spelling (line_instrs names.now.texts text.now)) }
 {
-    encode(
-        out,
-        &Instr::Name(Op::LoadName, number(names, PRINT_NAME) as u32),
-    )?;
-    encode(
-        out,
-        &Instr::Name(Op::LoadConstString, number(names, text) as u32),
-    )?;
+    encode(out, &Instr::Name(Op::LoadName, number(names, PRINT_NAME)))?;
+    encode(out, &Instr::Name(Op::LoadConstString, number(names, text)))?;
     encode(out, &Instr::Num(Op::CallFunction, 1))?;
     encode(out, &Instr::Plain(Op::PopTop))
 }
 
 /// The code of the lines and the end, and beside it the line table.
-fn write_lines(
-    alloc: Global,
-    names: &[Text],
-    texts: &[Text],
-) -> Result<(Vec<u8>, Vec<u8>), NoMemory>
-    requires { length names.now < 2 ^ 31 }
-    ensures { IfOk result (λ written. (written.0.items ≡ flat_map spelling (instrs_of names.now texts.now))
-        × (written.1.items ≡ line_table names.now texts.now)) }
+fn write_lines(alloc: Global, names: &Pool, texts: &[Text]) -> Result<(Vec<u8>, Vec<u8>), NoMemory>
+    requires from_zero { names.now.first ≡ 0 }
+    requires names_fit { length names.now.texts < 2 ^ 31 }
+    ensures { IfOk result (λ written. (written.0.items ≡ flat_map spelling (instrs_of names.now.texts texts.now))
+        × (written.1.items ≡ line_table names.now.texts texts.now)) }
 {
     let mut code = Vec::new(alloc);
     let mut table = Vec::new(alloc);
@@ -74,14 +67,15 @@ fn write_size(out: &mut Vec<u8>, size: usize) -> Result<(), NoMemory>
 }
 
 /// The code with its prelude.
-fn code(alloc: Global, names: &[Text], texts: &[Text]) -> Result<Vec<u8>, NoMemory>
-    requires names_fit { length names.now < 2 ^ 31 }
+fn code(alloc: Global, names: &Pool, texts: &[Text]) -> Result<Vec<u8>, NoMemory>
+    requires from_zero { names.now.first ≡ 0 }
+    requires names_fit { length names.now.texts < 2 ^ 31 }
     requires few { length texts.now ≤ 1230 }
-    ensures { IfOk result (λ code. code.items ≡ code_of names.now texts.now) }
+    ensures { IfOk result (λ code. code.items ≡ code_of names.now.texts texts.now) }
 {
     let (lines, table) = write_lines(alloc, names, texts)?;
     let mut information = Vec::new(alloc);
-    write_vuint(&mut information, number(names, MODULE_NAME) as u32)?;
+    write_vuint(&mut information, number(names, MODULE_NAME))?;
     information.extend_from_slice(&table)?;
     let mut out = Vec::new(alloc);
     out.push(if texts.is_empty() { 0 } else { 8 })?;
@@ -92,17 +86,18 @@ fn code(alloc: Global, names: &[Text], texts: &[Text]) -> Result<Vec<u8>, NoMemo
 }
 
 /// The file with these names and this code.
-fn file_from(alloc: Global, names: &[Text], code: &[u8]) -> Result<Vec<u8>, NoMemory>
-    requires names_fit { length names.now < 2 ^ 31 }
-    requires each_fits { All (λ name. 2 * length name < 2 ^ 31) names.now }
+fn file_from(alloc: Global, names: &Pool, code: &[u8]) -> Result<Vec<u8>, NoMemory>
+    requires from_zero { names.now.first ≡ 0 }
+    requires names_fit { length names.now.texts < 2 ^ 31 }
+    requires each_fits { All (λ name. 2 * length name < 2 ^ 31) names.now.texts }
     requires code_fits { 8 * length code.now < 2 ^ 31 }
-    ensures { IfOk result (λ file. file.items ≡ file_with names.now code.now) }
+    ensures { IfOk result (λ file. file.items ≡ file_with names.now.texts code.now) }
 {
     let mut out = Vec::from_slice(alloc, &HEADER)?;
     write_vuint(&mut out, names.len() as u32)?;
     write_vuint(&mut out, 0)?;
-    for name in names {
-        write_name(&mut out, name.bytes())?;
+    for n in 0..names.len() {
+        write_name(&mut out, names.text(n as u32).unwrap())?;
     }
     write_vuint(&mut out, 8 * code.len() as u32)?;
     out.extend_from_slice(code)?;

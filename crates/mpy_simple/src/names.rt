@@ -1,9 +1,11 @@
 //! The names of a file.
 
 ghost use Rattle.std.specs.Prelude.{◌≡◌, ◌≤◌, ◌<◌, ◌*◌, ◌^◌, ◌++◌, List, ℕ, length, map, OnOk, OnErr, IfOk};
+ghost use Rattle.mpy_base.specs.declared.limits.TheConstants.{MAX_TABLE};
 ghost use Rattle.mpy_simple.specs.File.{with_name, names_of, number_of, qstr, module_name, print_name};
 
-use mpy_base::{NoMemory, Text, write_vuint};
+use mpy_base::{NoMemory, Refused, Text, write_vuint};
+use qstr_pool::Pool;
 use std::alloc::Global;
 
 /// The name of a module's code.
@@ -12,34 +14,39 @@ pub(crate) const MODULE_NAME: &[u8] = b"<module>";
 /// The name that each line calls.
 pub(crate) const PRINT_NAME: &[u8] = b"print";
 
-/// The place of a name, or how many names there are where it is none of them.
-pub(crate) fn number(names: &[Text], name: &[u8]) -> usize
-    ensures number { result ≡ number_of names.now name.now }
-    ensures within { result ≤ length names.now }
+/// The number of a name, or how many names there are where it is none of them.
+pub(crate) fn number(names: &Pool, name: &[u8]) -> u32
+    requires from_zero { names.now.first ≡ 0 }
+    requires names_fit { length names.now.texts < 2 ^ 31 }
+    ensures number { result ≡ number_of names.now.texts name.now }
+    ensures within { result ≤ length names.now.texts }
 {
-    for (i, other) in names.iter().enumerate() {
-        if name == other.bytes() {
-            return i;
-        }
+    match names.find(name) {
+        Some(n) => n,
+        None => names.len() as u32,
     }
-    names.len()
 }
 
 /// Adds a name where it isn't there yet.
-fn add_name(alloc: Global, names: &mut Vec<Text>, name: &[u8]) -> Result<(), NoMemory>
-    ensures { OnOk result (names.new.items ≡ with_name names.old.items name.now) }
+fn add_name(alloc: Global, names: &mut Pool, name: &[u8]) -> Result<(), NoMemory>
+    requires { length names.old.texts < MAX_TABLE }
+    ensures first { OnOk result (names.new.first ≡ names.old.first) }
+    ensures texts { OnOk result (names.new.texts ≡ with_name names.old.texts name.now) }
 {
-    if number(names, name) == names.len() {
-        names.push(Text::new(alloc, name)?)?;
+    match names.intern(alloc, name) {
+        Ok(_) => Ok(()),
+        Err(Refused::NoMemory) => Err(NoMemory),
+        Err(Refused::Fault(_)) => unreachable!(),
     }
-    Ok(())
 }
 
 /// The names of the file of a source of this name that prints these texts.
-pub(crate) fn names(alloc: Global, name: &[u8], texts: &[Text]) -> Result<Vec<Text>, NoMemory>
-    ensures { IfOk result (λ names. names.items ≡ names_of name.now texts.now) }
+pub(crate) fn names(alloc: Global, name: &[u8], texts: &[Text]) -> Result<Pool, NoMemory>
+    requires { length texts.now ≤ 1230 }
+    ensures from_zero { IfOk result (λ names. names.first ≡ 0) }
+    ensures names { IfOk result (λ names. names.texts ≡ names_of name.now texts.now) }
 {
-    let mut names = Vec::new(alloc);
+    let mut names = Pool::new(alloc, 0)?;
     add_name(alloc, &mut names, name)?;
     add_name(alloc, &mut names, MODULE_NAME)?;
     for text in texts {

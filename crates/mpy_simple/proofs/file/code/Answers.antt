@@ -7,7 +7,7 @@ use Rattle.mpy_simple.proofs.file.code.Goals as goal
 
 pub write_size-requires : goal.write_size-requires
 write_size-requires c =
-    let names = c.args.names.now in
+    let names = c.args.names.now.texts in
     let texts = c.args.texts.now in
     let table : c.deref.result.now ≡ line_table names texts = c.deref.ensures.value ∙ c.in_ok-lines.ensures.1 in
     let name : c.write_vuint.new.out.items ≡ c.new-information.result.items ++ vuint c.number.result = c.in_ok-write_vuint.ensures.ok in

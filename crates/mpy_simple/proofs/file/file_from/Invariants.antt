@@ -3,5 +3,5 @@ use Rattle.mpy_base.specs.Vuint.{vuint}
 use Rattle.mpy_simple.specs.File.{header, qstr}
 use Rattle.mpy_simple.proofs.file.file_from.Given as goal
 
-abbrev pub invariant-loop-name : goal.invariant-loop-name
-invariant-loop-name l = l.out.items ≡ header ++ vuint (length l.names) ++ vuint 0 ++ flat_map qstr (take l.name-index l.names)
+abbrev pub invariant-loop-n : goal.invariant-loop-n
+invariant-loop-n l = l.out.items ≡ header ++ vuint (length l.names.texts) ++ vuint 0 ++ flat_map qstr (take l.n l.names.texts)

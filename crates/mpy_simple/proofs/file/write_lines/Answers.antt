@@ -17,7 +17,7 @@ encode-requires-2 c = refl
 
 pub loop-i-preserved : goal.loop-i-preserved
 loop-i-preserved c =
-    let names = c.args.names.now in
+    let names = c.args.names.now.texts in
     let texts = c.args.texts.now in
     let i = c.loop-i.i in
     let inv = c.loop-i.invariant in

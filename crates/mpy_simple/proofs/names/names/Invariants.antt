@@ -4,4 +4,7 @@ use Rattle.mpy_simple.proofs.names.names.Given as goal
 
 -- the names so far are those of the texts so far
 abbrev pub invariant-loop-text : goal.invariant-loop-text
-invariant-loop-text l = l.names.items ≡ fold with_name [] (uses l.name (take l.text-index l.texts))
+invariant-loop-text l = record {
+  from_zero : l.names.first ≡ 0;
+  names_are : l.names.texts ≡ fold with_name [] (uses l.name (take l.text-index l.texts));
+}
