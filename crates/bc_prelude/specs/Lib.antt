@@ -1,0 +1,6 @@
+pub mod Chain
+pub mod Lines
+pub mod Names
+pub mod Prelude
+pub mod Signature
+pub mod Size
