@@ -1,2 +1,6 @@
+pub mod Integers
 pub mod Law
+pub mod Lists
+pub mod Offsets
 pub mod Reading
+pub mod Table

@@ -1,12 +1,14 @@
 //! Instructions read from bytes.
 
-ghost use Rattle.std.specs.Prelude.{◌≡◌, ◌≢◌, ◌⊎◌, ℕ, ◌+◌, ◌≤◌, ◌↔◌, List, ◌++◌, length, drop, IfOk, IfErr, IsErrOf, Ok, Err};
-ghost use Rattle.mpy_base.specs.Vuint as numbers;
+ghost use Rattle.std.specs.Prelude.{◌≡◌, ℕ, ◌+◌, ◌≤◌, ◌↔◌, List, ◌++◌, length, drop, IfOk, IsErrOf, Ok};
 ghost use Rattle.bc_ops.specs.declared.instr.Instr.{Instr};
-ghost use Rattle.bc_ops.specs.Code.{Spells, Operand, spelling, IsEncodable, IsOutside, IsCut, IsPast, BeginsOutside, EndsInside, PassesForm};
+ghost use Rattle.bc_ops.specs.Code.{Spells, spelling, IsEncodable, BeginsOutside, BeginsUnknown, EndsInside, PassesForm};
+ghost use Rattle.bc_ops.specs.Reading.{ReadsNumber, ReadsUnwind, ReadsOperand, Reads};
 
 use crate::form::{Form, form_at};
 use crate::instr::Instr;
+use crate::offset::read_offset;
+use crate::signed::read_signed;
 use mpy_base::{VuintFault, read_vuint};
 use thiserror::Error;
 
@@ -32,13 +34,7 @@ const MAX_COUNTS: u32 = 0xffff;
 
 /// The number in front of the bytes, and how many of them it takes.
 fn number(bytes: &[u8]) -> Result<(u32, usize), CodeFault>
-    ensures found { IfOk result (λ found. (text rest : List ℕ) × numbers.Spells text found.0
-        × (bytes.now ≡ text ++ rest) × (found.1 ≡ length text)) }
-    ensures only { (text rest : List ℕ) (n : ℕ) → numbers.Spells text n
-        → bytes.now ≡ text ++ rest → result ≡ Ok (n, length text) }
-    ensures truncated { IsErrOf result CodeFault.Truncated ↔ numbers.EndsInside bytes.now }
-    ensures bad_number { IsErrOf result CodeFault.BadNumber ↔ numbers.PassesForm bytes.now }
-    ensures no_other { IfErr result (λ fault. (fault ≡ CodeFault.Truncated) ⊎ (fault ≡ CodeFault.BadNumber)) }
+    ensures { ReadsNumber bytes.now result }
 {
     match read_vuint(bytes, 0) {
         Ok(found) => Ok(found),
@@ -47,23 +43,31 @@ fn number(bytes: &[u8]) -> Result<(u32, usize), CodeFault>
     }
 }
 
+/// An unwinding jump's offset and byte in front of the bytes, and how many of them they take.
+fn unwind(bytes: &[u8]) -> Result<(Instr, usize), CodeFault>
+    ensures { ReadsUnwind bytes.now result }
+{
+    let (offset, wide, len) = read_offset(bytes, true)?;
+    if len == bytes.len() {
+        return Err(CodeFault::Truncated);
+    }
+    let byte = bytes[len];
+    Ok((Instr::Unwind { offset, wide, byte }, len + 1))
+}
+
 /// The instruction whose first byte, of this form, stands before the bytes, and how many of these it takes.
 fn operand(form: Form, first: u8, bytes: &[u8]) -> Result<(Instr, usize), CodeFault>
-    ensures found { IfOk result (λ found. (text rest : List ℕ) × Operand form text found.0
-        × (bytes.now ≡ text ++ rest) × (found.1 ≡ length text)) }
-    ensures only { (text rest : List ℕ) (instr : Instr) → Operand form text instr
-        → bytes.now ≡ text ++ rest → result ≡ Ok (instr, length text) }
-    ensures outside { (byte : ℕ) → IsErrOf result (CodeFault.OutsideProfile byte)
-        ↔ ((byte ≡ first) × IsOutside form bytes.now) }
-    ensures truncated { IsErrOf result CodeFault.Truncated ↔ IsCut form bytes.now }
-    ensures bad_number { IsErrOf result CodeFault.BadNumber ↔ IsPast form bytes.now }
-    ensures known { (byte : ℕ) → result ≢ Err (CodeFault.UnknownOpcode byte) }
+    ensures { ReadsOperand form first bytes.now result }
 {
     match form {
-        Form::Plain(op) => Ok((Instr::Plain(op), 0)),
+        Form::Whole(instr) => Ok((instr, 0)),
         Form::Name(op) => {
             let (n, len) = number(bytes)?;
             Ok((Instr::Name(op, n), len))
+        }
+        Form::Number(op) => {
+            let (n, len) = number(bytes)?;
+            Ok((Instr::Num(op, n), len))
         }
         Form::Call(op) => {
             let (n, len) = number(bytes)?;
@@ -72,20 +76,23 @@ fn operand(form: Form, first: u8, bytes: &[u8]) -> Result<(Instr, usize), CodeFa
             }
             Ok((Instr::Num(op, n), len))
         }
+        Form::Signed => {
+            let (n, len) = read_signed(bytes)?;
+            Ok((Instr::Int(n), len))
+        }
+        Form::Offset { op, signed } => {
+            let (offset, wide, len) = read_offset(bytes, signed)?;
+            Ok((Instr::Jump { op, offset, wide }, len))
+        }
+        Form::Unwind => unwind(bytes),
         Form::Outside => Err(CodeFault::OutsideProfile(first)),
+        Form::Unknown => Err(CodeFault::UnknownOpcode(first)),
     }
 }
 
 /// The instruction in front of the bytes, and how many of them it takes.
 fn decode_front(bytes: &[u8]) -> Result<(Instr, usize), CodeFault>
-    ensures found { IfOk result (λ found. (text rest : List ℕ) × Spells text found.0
-        × (bytes.now ≡ text ++ rest) × (found.1 ≡ length text)) }
-    ensures only { (text rest : List ℕ) (instr : Instr) → Spells text instr
-        → bytes.now ≡ text ++ rest → result ≡ Ok (instr, length text) }
-    ensures outside { (byte : ℕ) → IsErrOf result (CodeFault.OutsideProfile byte) ↔ BeginsOutside byte bytes.now }
-    ensures truncated { IsErrOf result CodeFault.Truncated ↔ EndsInside bytes.now }
-    ensures bad_number { IsErrOf result CodeFault.BadNumber ↔ PassesForm bytes.now }
-    ensures known { (byte : ℕ) → result ≢ Err (CodeFault.UnknownOpcode byte) }
+    ensures { Reads bytes.now result }
 {
     match bytes {
         [] => Err(CodeFault::Truncated),
@@ -111,7 +118,8 @@ pub fn decode_at(code: &[u8], at: usize) -> Result<(Instr, usize), CodeFault>
         ↔ BeginsOutside byte (drop at code.now) }
     ensures truncated { IsErrOf result CodeFault.Truncated ↔ EndsInside (drop at code.now) }
     ensures bad_number { IsErrOf result CodeFault.BadNumber ↔ PassesForm (drop at code.now) }
-    ensures known { (byte : ℕ) → result ≢ Err (CodeFault.UnknownOpcode byte) }
+    ensures unknown { (byte : ℕ) → IsErrOf result (CodeFault.UnknownOpcode byte)
+        ↔ BeginsUnknown byte (drop at code.now) }
 {
     let (_, behind) = code.split_at(at);
     match decode_front(behind) {
@@ -120,10 +128,11 @@ pub fn decode_at(code: &[u8], at: usize) -> Result<(Instr, usize), CodeFault>
     }
 }
 
-/// What is written for an instruction is read as that instruction, what is read may be written, and bytes begin with one
-/// instruction at most.
+/// What is written for an instruction is read as that instruction, and nothing shorter is; what is read may be written;
+/// and bytes begin with one instruction at most.
 pub fn instruction_law()
     ensures spells { (instr : Instr) → IsEncodable instr → Spells (spelling instr) instr }
+    ensures shortest { (text : List ℕ) (instr : Instr) → Spells text instr → length (spelling instr) ≤ length text }
     ensures encodable { (text : List ℕ) (instr : Instr) → Spells text instr → IsEncodable instr }
     ensures one_instruction { (a b x y : List ℕ) (m n : Instr) → Spells a m → Spells b n
         → a ++ x ≡ b ++ y → (a ≡ b) × (m ≡ n) }

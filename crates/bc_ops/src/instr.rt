@@ -1,7 +1,7 @@
 //! Instructions.
 
 ghost use Rattle.std.specs.Prelude.{◌≡◌};
-ghost use Rattle.bc_ops.specs.Code.{code_of};
+ghost use Rattle.bc_ops.specs.Table.{code_of};
 
 /// What an instruction does. The number is the byte that its bytes begin with; of the short forms of locals, which have
 /// the local's number inside that byte, it is the first.

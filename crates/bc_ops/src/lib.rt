@@ -5,10 +5,14 @@ mod decoding;
 mod encoding;
 mod form;
 mod instr;
+mod listing;
+mod offset;
+mod signed;
 
 pub use decoding::{CodeFault, decode_at, instruction_law};
 pub use encoding::encode;
 pub use instr::{Instr, Op};
+pub use listing::{Item, Target, listing_law};
 
 #[cfg(test)]
 mod tests;

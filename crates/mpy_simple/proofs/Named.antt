@@ -7,7 +7,8 @@ use Rattle.std.proofs.lemmas.List.Elements.{All-push, All-nil, All-from_recursio
 use Rattle.std.proofs.lemmas.List.Folds.{list_any-append}
 use Rattle.std.proofs.lemmas.List.Sums.{prefix_len-le-length}
 use Rattle.std.proofs.lemmas.Slice.Eq.{bytes_eq-Decides}
-use Rattle.bc_ops.specs.Code.{form_of, IsEncodable, spelling}
+use Rattle.bc_ops.specs.Code.{IsEncodable, spelling}
+use Rattle.bc_ops.specs.Table.{form_of, name_form, number_form, plain_form}
 use Rattle.mpy_simple.specs.File.{with_name, uses, names_of, number_of, instrs_of, module_name, print_name}
 use Rattle.mpy_simple.specs.Reading.{IsNamed, strings}
 
@@ -80,7 +81,7 @@ named_instrs names [] h = (tt, (tt, tt))
 named_instrs names (text ∷ texts) h = (tt, ((found_at names text h.0).0, (tt, (tt, named_instrs names texts h.1))))
 
 encodable_instrs : (names texts : List (List ℕ)) → length names < 2 ^ 31 → AllByRecursion IsEncodable (instrs_of names texts)
-unfolding form_of
+unfolding form_of name_form number_form plain_form
 encodable_instrs names [] small = (refl, (refl, tt))
 encodable_instrs names (text ∷ texts) small =
     let print_small : number_of names print_name < 2 ^ 31 = omega (arith, number_within names print_name) in

@@ -5,10 +5,12 @@ use Rattle.std.proofs.lemmas.Grind.{flat_map-append}
 use Rattle.mpy_base.specs.Vuint.{vuint}
 use Rattle.mpy_base.proofs.Groups.{length-vuint}
 use Rattle.bc_ops.specs.Code.{spelling}
+use Rattle.bc_ops.specs.Table.{form_of, number_form}
 use Rattle.mpy_simple.specs.File.{line_instrs, line_table, number_of, print_name}
 
 -- the code of a line is short
 pub length-line : (names : List (List ℕ)) (text : List ℕ) → length (flat_map spelling (line_instrs names text)) ≤ 19
+unfolding form_of number_form
 length-line names text =
     let print = vuint (number_of names print_name) in
     let loaded = vuint (number_of names text) in

@@ -1,18 +1,19 @@
 use Rattle.std.proofs.Common.{◌≡◌, ◌-◌, ℕ, ◌++◌, length, get_or, flat_map, refl, ap, ◌∙◌, arith, rules, length-append}
 use Rattle.std.specs.Prelude.{Vec}
 use Rattle.std.specs.declared.alloc.Global.{Global}
-use Rattle.bc_ops.specs.Code.{form_of, spelling}
+use Rattle.bc_ops.specs.Code.{spelling}
+use Rattle.bc_ops.specs.Table.{form_of, name_form, number_form, plain_form}
 use Rattle.mpy_simple.specs.File.{line_instrs}
 use Rattle.mpy_simple.proofs.Written.{first_table, next_table, next_code, this_line, length-line}
 use Rattle.mpy_simple.proofs.file.write_lines.Goals as goal
 use Rattle.mpy_simple.proofs.file.write_lines.Goals.{then-i-gt0+in_ok-push, else-i-gt0}
 
 pub encode-requires : goal.encode-requires
-unfolding form_of
+unfolding form_of name_form number_form plain_form
 encode-requires c = refl
 
 pub encode-requires-2 : goal.encode-requires-2
-unfolding form_of
+unfolding form_of name_form number_form plain_form
 encode-requires-2 c = refl
 
 pub loop-i-preserved : goal.loop-i-preserved
