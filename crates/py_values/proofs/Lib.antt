@@ -1,0 +1,5 @@
+pub mod Powers
+pub mod Quotients
+pub mod Range
+pub mod Shifted
+pub mod TwosComplement

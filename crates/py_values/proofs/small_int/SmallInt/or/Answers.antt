@@ -1,0 +1,10 @@
+use Rattle.std.proofs.Common.{◌∙◌, ap}
+use Rattle.py_values.specs.Small.{checked}
+use Rattle.py_values.proofs.TwosComplement.{or_result}
+use Rattle.py_values.proofs.small_int.SmallInt.or.Goals as goal
+
+pub returns : goal.returns
+returns c =
+    let a = c.value.ensures in
+    let b = c.value-2.ensures in
+    c.checked.ensures ∙ ap checked (or_result c.args.self c.args.other c.value.result c.value-2.result c.from.result a.value b.value a.small b.small c.from.ensures)

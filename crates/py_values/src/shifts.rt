@@ -1,0 +1,36 @@
+//! Shifts by any number of bits.
+
+ghost use Rattle.std.specs.Prelude.{◌≡◌};
+ghost use Rattle.py_values.specs.Shifts.{shl_of, shr_of, bits_of};
+
+use crate::{NumFault, SmallInt};
+
+/// By this many bits, all but 0 leave the range, and only the sign of a number is left. More bits do the same.
+const MOST_BITS: u32 = 31;
+
+fn bits(n: SmallInt) -> Result<u32, NumFault>
+    ensures { result ≡ bits_of n }
+{
+    let n = n.value();
+    if n < 0 {
+        return Err(NumFault::NegativeShift);
+    }
+    Ok(n.unsigned_abs().min(MOST_BITS))
+}
+
+impl SmallInt {
+    pub fn shl(self, other: SmallInt) -> Result<SmallInt, NumFault>
+        ensures { result ≡ shl_of self other }
+    {
+        let factor = 1i64 << bits(other)?;
+        SmallInt::checked(i64::from(self.value()) * factor)
+    }
+
+    /// Rounds towards minus infinity.
+    pub fn shr(self, other: SmallInt) -> Result<SmallInt, NumFault>
+        ensures { result ≡ shr_of self other }
+    {
+        let bits = bits(other)?;
+        SmallInt::checked(i64::from(self.value() >> bits))
+    }
+}
