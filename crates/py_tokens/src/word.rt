@@ -1,0 +1,173 @@
+//! Words: texts that would be names, had they no meaning of their own.
+
+ghost use Rattle.std.specs.Prelude.{◌≡◌, ◌↔◌, ◌≤◌, Contains};
+ghost use Rattle.std.specs.List.{find};
+ghost use Rattle.std.specs.Str.{bytes_eq};
+ghost use Rattle.py_tokens.specs.declared.word.Word.{Word};
+ghost use Rattle.py_tokens.specs.Word.{spelling, refused_words, debug_word, IsWord};
+
+use crate::texts::is_any_of;
+
+/// A word with a meaning of its own.
+#[derive(Clone, Copy, Debug, PartialEq, Eq)]
+pub enum Word {
+    False,
+    None,
+    True,
+    And,
+    As,
+    Assert,
+    Break,
+    Continue,
+    Def,
+    Del,
+    Elif,
+    Else,
+    Except,
+    Finally,
+    For,
+    From,
+    Global,
+    If,
+    Import,
+    In,
+    Is,
+    Not,
+    Or,
+    Pass,
+    Raise,
+    Return,
+    Try,
+    While,
+}
+
+const WORDS: [Word; 28] = [
+    Word::False,
+    Word::None,
+    Word::True,
+    Word::And,
+    Word::As,
+    Word::Assert,
+    Word::Break,
+    Word::Continue,
+    Word::Def,
+    Word::Del,
+    Word::Elif,
+    Word::Else,
+    Word::Except,
+    Word::Finally,
+    Word::For,
+    Word::From,
+    Word::Global,
+    Word::If,
+    Word::Import,
+    Word::In,
+    Word::Is,
+    Word::Not,
+    Word::Or,
+    Word::Pass,
+    Word::Raise,
+    Word::Return,
+    Word::Try,
+    Word::While,
+];
+
+/// The name that is a word, of one meaning or the other.
+const DEBUG: &[u8] = b"__debug__";
+
+/// Words of Python that this language leaves out.
+const REFUSED: [&[u8]; 7] = [
+    b"class",
+    b"lambda",
+    b"nonlocal",
+    b"async",
+    b"await",
+    b"with",
+    b"yield",
+];
+
+/// What a text of letters, digits and underscores is.
+#[derive(Clone, Copy, Debug, PartialEq, Eq)]
+pub enum Spelled {
+    Word(Word),
+    /// A word of Python that this language leaves out.
+    Refused,
+    Name,
+}
+
+impl Word {
+    /// How the word is written.
+    pub fn spelling(self) -> &'static [u8]
+        ensures { result.now ≡ spelling self }
+    {
+        match self {
+            Word::False => b"False",
+            Word::None => b"None",
+            Word::True => b"True",
+            Word::And => b"and",
+            Word::As => b"as",
+            Word::Assert => b"assert",
+            Word::Break => b"break",
+            Word::Continue => b"continue",
+            Word::Def => b"def",
+            Word::Del => b"del",
+            Word::Elif => b"elif",
+            Word::Else => b"else",
+            Word::Except => b"except",
+            Word::Finally => b"finally",
+            Word::For => b"for",
+            Word::From => b"from",
+            Word::Global => b"global",
+            Word::If => b"if",
+            Word::Import => b"import",
+            Word::In => b"in",
+            Word::Is => b"is",
+            Word::Not => b"not",
+            Word::Or => b"or",
+            Word::Pass => b"pass",
+            Word::Raise => b"raise",
+            Word::Return => b"return",
+            Word::Try => b"try",
+            Word::While => b"while",
+        }
+    }
+}
+
+/// The word that stands for whether programs check their assertions.
+fn debug_value(opt: u8) -> Word
+    ensures { result ≡ debug_word opt }
+{
+    if opt == 0 { Word::True } else { Word::False }
+}
+
+fn word_of(text: &[u8]) -> Option<Word>
+    ensures { result ≡ find (λ w. bytes_eq text.now (spelling w)) WORDS }
+{
+    WORDS.iter().copied().find(|word| text == word.spelling())
+}
+
+/// Reads a text of letters, digits and underscores at a level of optimization.
+pub fn read_word(text: &[u8], opt: u8) -> Spelled
+    requires { opt ≤ 3 }
+    ensures word { (w : Word) → (result ≡ Spelled.Word w) ↔ IsWord opt text.now w }
+    ensures refused { (result ≡ Spelled.Refused) ↔ Contains refused_words text.now }
+    ensures name { (result ≡ Spelled.Name)
+        ↔ (((w : Word) → ¬ IsWord opt text.now w) × ¬ Contains refused_words text.now) }
+{
+    if text == DEBUG {
+        Spelled::Word(debug_value(opt))
+    } else if is_any_of(text, &REFUSED) {
+        Spelled::Refused
+    } else {
+        match word_of(text) {
+            Some(word) => Spelled::Word(word),
+            None => Spelled::Name,
+        }
+    }
+}
+
+/// A spelling has one word, and no refused word is one.
+pub fn word_law()
+    ensures one_word { (v w : Word) → spelling v ≡ spelling w → v ≡ w }
+    ensures apart { (w : Word) → ¬ Contains refused_words (spelling w) }
+{}
