@@ -27,6 +27,7 @@ abbrev pub IsNeeded : List Labelled → List Bool → Type 0
 IsNeeded items widths =
     (other : List Bool) → ShortFit items other → (i : ℕ) → width_at widths i ≡ true → width_at other i ≡ true
 
+-- the choice with the fewest wide offsets of those in which the others fit one byte
 pub record IsFewest (items : List Labelled) (widths : List Bool) : Type 0 where
   pub sized : length widths ≡ length items
   pub short_fit : ShortFit items widths
@@ -59,6 +60,7 @@ abbrev pub instrs_to : List Labelled → List Bool → ℕ → List Instr
 instrs_to items widths zero = []
 instrs_to items widths (suc i) = instrs_to items widths i ++ instr_of (item_at items i) (offset items widths i) (width_at widths i)
 
+-- those of all items
 abbrev pub instrs_of : List Labelled → List Bool → List Instr
 instrs_of items widths = instrs_to items widths (length items)
 

@@ -20,18 +20,19 @@ is_label label item = false
 abbrev pub label_item : List Labelled → ℕ → ℕ
 label_item items label = position_or_len (is_label label) items
 
--- the item that a jump goes to
+-- the item that a jump goes to, and 0 for an item that is no jump
 abbrev pub target_of : List Labelled → Labelled → ℕ
 target_of items (Jump op label) = label_item items label
 target_of items (Unwind label byte) = label_item items label
 target_of items item = 0
 
--- has the item an offset, and is that signed?
+-- has the item an offset?
 abbrev pub is_jump : Labelled → Bool
 is_jump (Jump op label) = true
 is_jump (Unwind label byte) = true
 is_jump item = false
 
+-- is that signed?
 abbrev pub signed_of : Labelled → Bool
 signed_of (Jump op label) = is_signed (form_of (code_of op))
 signed_of item = true

@@ -5,9 +5,11 @@ use Rattle.bc_labels.specs.declared.labelled.Labelled.{Labelled}
 use Rattle.bc_labels.specs.declared.labelled.Labelled.TheVariants.{At, Plain, Jump, Unwind}
 use Rattle.bc_labels.specs.Labels.{target_of}
 
+-- the item at the position
 abbrev pub item_at : List Labelled → ℕ → Labelled
 item_at items i = slice_index_or items i (At 0)
 
+-- is its offset wide?
 abbrev pub width_at : List Bool → ℕ → Bool
 width_at widths i = slice_index_or widths i false
 
