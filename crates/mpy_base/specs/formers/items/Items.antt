@@ -45,7 +45,7 @@ module _ (R S : RattleType) (h : R.Denot → S.Denot) where
       (outer.the_row R).coded (outer.the_row S).coded (invariant R.Denot) (invariant S.Denot) (λ _ _ _. refl) (λ _ _ _. refl) (λ _ _. tt) (λ _ _. tt)
       (over (inner.the_row R)) (over (inner.the_row S))
       (struct_places (inner.the_type R) (inner.the_type S) (vectors.mapped h, tt) _ (λ _. refl) refl
-          (laid _ _ _ (vectors.the_places heap.the_row ghosts R S h alike), tt))
+      (laid _ _ _ (vectors.the_places heap.the_row ghosts R S h alike), tt))
 
   pub the_codes_placed : Recodes R S h → Recodes (outer.the_row R) (outer.the_row S) ((the_former this).map R.Denot S.Denot h)
   the_codes_placed same elements = sym (code_map R.coded.code S.coded.code h (λ x. sym (same x)) elements)
