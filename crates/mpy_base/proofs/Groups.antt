@@ -50,7 +50,7 @@ not_inside bytes text rest n g e inside =
     omega (arith, g.ends, at_end, inside.more (length g.high) 0 (length_front bytes text rest n g e))
 
 -- nor do five of them have bit 7 set
-not_five : (bytes text rest : List ℕ) (n : ℕ) → Groups text n → bytes ≡ text ++ rest → HasFiveMore bytes → ⊥
+pub not_five : (bytes text rest : List ℕ) (n : ℕ) → Groups text n → bytes ≡ text ++ rest → HasFiveMore bytes → ⊥
 not_five bytes text rest n g e five =
     let at_end = last_at bytes text rest n g e 0 in
     let short : length (take 5 bytes) ≡ 5 = omega (arith, five.five, length-take-le 5 bytes five.five) in

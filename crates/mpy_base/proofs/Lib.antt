@@ -1,1 +1,4 @@
 pub mod Groups
+pub mod KindTree
+pub mod Rooms
+pub mod Worlds

@@ -47,3 +47,21 @@ fn texts_and_codes(rt: HostRuntime) -> Result<(), Fail> {
     assert_eq!(rt; SourceCode::NotInProfile.name(), "NotInProfile");
     Ok(())
 }
+
+#[test]
+fn kinds_lie_in_a_tree(rt: HostRuntime) {
+    assert_eq!(rt; Kind::OsError.name(), "OSError");
+    assert_eq!(rt; Kind::KeyError.parent(), Some(Kind::LookupError));
+    assert!(rt; Kind::KeyError.is_under(Kind::Exception));
+    assert!(rt; !Kind::SystemExit.is_under(Kind::Exception));
+    assert!(rt; !Kind::LookupError.is_under(Kind::KeyError));
+}
+
+#[test]
+fn rooms_are_powers_of_two(rt: HostRuntime) {
+    assert_eq!(rt; room_for(0), Some(4));
+    assert_eq!(rt; room_for(4), Some(4));
+    assert_eq!(rt; room_for(5), Some(8));
+    assert_eq!(rt; room_for(1 << 63), Some(1 << 63));
+    assert_eq!(rt; room_for((1 << 63) + 1), None);
+}
