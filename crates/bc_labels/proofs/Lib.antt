@@ -1,6 +1,6 @@
 pub mod Fewest
+pub mod Positions
 pub mod Reading
-pub mod Signs
 pub mod Sizes
 pub mod Standing
 pub mod Widening

@@ -36,7 +36,7 @@ either : (items : List Labelled) (widths : List Bool) (i : ℕ) (b : Bool) → w
 either items widths i true e short wide = subst (λ (b : Bool). FitsAt items widths i b) (sym e) (wide e)
 either items widths i false e short wide = subst (λ (b : Bool). FitsAt items widths i b) (sym e) (short e)
 
-encodable_to : (items : List Labelled) (widths : List Bool) (n : ℕ) → All (IsSound items) items → ShortFit items widths → AllFit items widths true → n ≤ length items → All IsEncodable (instrs_to items widths n)
+pub encodable_to : (items : List Labelled) (widths : List Bool) (n : ℕ) → All (IsSound items) items → ShortFit items widths → AllFit items widths true → n ≤ length items → All IsEncodable (instrs_to items widths n)
 encodable_to items widths zero sound short wide within = All-nil IsEncodable
 encodable_to items widths (suc n) sound short wide within =
     let here : n < length items = omega arith in

@@ -1,3 +1,4 @@
 pub mod Choice
 pub mod Labels
+pub mod Listed
 pub mod Places

@@ -2,9 +2,11 @@
 
 ghost use Rattle.std.specs.Prelude.{◌≡◌, ◌++◌, pos, ◌+ℤ◌, ◌≤ℤ◌, ◌<ℤ◌, List, ℕ, Bool, length, All, map, flat_map, IfOk, OnOk, IsErrOf};
 ghost use Rattle.bc_ops.specs.Code.{spelling, IsEncodable};
+ghost use Rattle.bc_ops.specs.Listing.{IsListOf};
 ghost use Rattle.bc_labels.specs.declared.labelled.Labelled.{Labelled};
 ghost use Rattle.bc_labels.specs.Labels.{IsSound, target_of};
 ghost use Rattle.bc_labels.specs.Places.{place, places_to};
+ghost use Rattle.bc_labels.specs.Listed.{listed};
 ghost use Rattle.bc_labels.specs.Choice.{IsFewest, IsLayout, IsTooFar, IsCode, instr_of, instrs_to};
 
 use crate::labelled::{Labelled, LayoutFault, reaches};
@@ -75,6 +77,9 @@ pub fn layout(alloc: Global, items: &[Labelled]) -> Result<Vec<u8>, Refused<Layo
     requires { All (IsSound items.now) items.now }
     ensures found { IfOk result (λ bytes. IsLayout items.now bytes.items) }
 
+    // The bytes are read as the items without the labels, each jump at the position of its label.
+    ensures list { IfOk result (λ bytes. IsListOf bytes.items (listed items.now (length bytes.items))) }
+
     // Want of memory is the only other answer.
     ensures too_far { IsErrOf result (Refused.Fault LayoutFault.TooFar) → IsTooFar items.now }
 {
@@ -87,7 +92,8 @@ pub fn layout(alloc: Global, items: &[Labelled]) -> Result<Vec<u8>, Refused<Layo
 }
 
 /// The bytes in front of an item are as many as its place says. There is one layout at most, and none where an offset fits
-/// no form; its bytes are those of instructions that may be written.
+/// no form; its bytes are those of instructions that may be written, and are read as the items without the labels, each
+/// jump at the position of its label.
 pub fn layout_law()
     ensures places { (items : List Labelled) (widths : List Bool) (i : ℕ)
         → length (flat_map spelling (instrs_to items widths i)) ≡ place items widths i }
@@ -95,4 +101,6 @@ pub fn layout_law()
     ensures one_layout { (items : List Labelled) (a b : List ℕ) → IsLayout items a → IsLayout items b → a ≡ b }
     ensures never_both { (items : List Labelled) (bytes : List ℕ) → IsLayout items bytes → IsTooFar items → ⊥ }
     ensures read { (items : List Labelled) (bytes : List ℕ) → All (IsSound items) items → IsLayout items bytes → IsCode bytes }
+    ensures list { (items : List Labelled) (bytes : List ℕ) → All (IsSound items) items → IsLayout items bytes
+        → IsListOf bytes (listed items (length bytes)) }
 {}

@@ -89,3 +89,7 @@ pub bias_bound : (signed wide : Bool) → bias signed wide ≤ 0x4000
 bias_bound false wide = omega arith
 bias_bound true false = omega arith
 bias_bound true true = omega arith
+
+pub limit_bound : (wide : Bool) → limit wide ≤ 0x8000
+limit_bound false = omega arith
+limit_bound true = omega arith

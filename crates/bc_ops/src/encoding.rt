@@ -44,7 +44,7 @@ fn spell(out: &mut Vec<u8>, instr: &Instr) -> Result<(), NoMemory>
         }
         Instr::Jump { op, offset, wide } => {
             push(out, op.code())?;
-            write_offset(out, form_at(op.code()).is_signed(), wide, offset)
+            write_offset(out, op.has_signed_offset(), wide, offset)
         }
         Instr::Unwind { offset, wide, byte } => {
             push(out, 0x40)?;

@@ -1,7 +1,10 @@
 //! Instructions.
 
 ghost use Rattle.std.specs.Prelude.{◌≡◌};
-ghost use Rattle.bc_ops.specs.Table.{code_of};
+ghost use Rattle.bc_ops.specs.Code.{is_signed};
+ghost use Rattle.bc_ops.specs.Table.{code_of, form_of};
+
+use crate::form::form_at;
 
 /// What an instruction does. The number is the byte that its bytes begin with; of the short forms of locals, which have
 /// the local's number inside that byte, it is the first.
@@ -67,6 +70,13 @@ impl Op {
         ensures { result ≡ code_of self }
     {
         self as u8
+    }
+
+    /// Is it a jump whose offset is signed?
+    pub fn has_signed_offset(self) -> bool
+        ensures { result ≡ is_signed (form_of (code_of self)) }
+    {
+        form_at(self.code()).is_signed()
     }
 }
 

@@ -13,6 +13,7 @@ pub use decoding::{CodeFault, decode_at, instruction_law};
 pub use encoding::encode;
 pub use instr::{Instr, Op};
 pub use listing::{Item, Target, listing_law};
+pub use offset::offset_fits;
 
 #[cfg(test)]
 mod tests;

@@ -1,6 +1,6 @@
 //! The offsets of jumps, in one byte or in two.
 
-ghost use Rattle.std.specs.Prelude.{◌≡◌, ◌++◌, pos, OnOk, OnErr};
+ghost use Rattle.std.specs.Prelude.{◌≡◌, ◌↔◌, ◌++◌, pos, IsTrue, OnOk, OnErr};
 ghost use Rattle.bc_ops.specs.Offset as specs;
 ghost use Rattle.bc_ops.specs.Offset.{Fits, offset_bytes};
 ghost use Rattle.bc_ops.specs.Reading.{ReadsOffset};
@@ -17,6 +17,21 @@ fn bias(signed: bool, wide: bool) -> i32
         (true, false) => 0x40,
         (true, true) => 0x4000,
     }
+}
+
+/// The first number past the bytes.
+fn limit(wide: bool) -> i64
+    ensures { result ≡ pos (specs.limit wide) }
+{
+    if wide { 0x8000 } else { 0x80 }
+}
+
+/// Does the offset fit one byte, or two where it is wide?
+pub fn offset_fits(signed: bool, wide: bool, offset: i64) -> bool
+    ensures { IsTrue result ↔ Fits signed wide offset }
+{
+    let bias = i64::from(bias(signed, wide));
+    -bias <= offset && offset < limit(wide) - bias
 }
 
 /// The offset in front of the bytes, whether it is wide, and how many bytes it takes.

@@ -1,4 +1,5 @@
 use Rattle.bc_labels.proofs.Fewest.{one_choice, one_layout, never_both}
+use Rattle.bc_labels.proofs.Positions.{is_list}
 use Rattle.bc_labels.proofs.Reading.{is_code, length-instrs}
 use Rattle.bc_labels.proofs.bytes.layout_law.Goals as goal
 
@@ -16,3 +17,6 @@ returns-clause-never_both c = never_both
 
 pub returns-clause-read : goal.returns-clause-read
 returns-clause-read c = is_code
+
+pub returns-clause-list : goal.returns-clause-list
+returns-clause-list c = is_list
