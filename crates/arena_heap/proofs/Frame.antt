@@ -1,0 +1,227 @@
+-- The three changes that every call is made of: cells are taken, a head is written, a region is written.
+use Rattle.std.proofs.Common.{ℕ, ◌+◌, ◌-◌, ◌≤◌, ◌<◌, ◌≡◌, ◌≢◌, List, [], ◌++◌, length, Option, None, get_or, set, replicate, refl, sym, ◌∙◌, ap, subst, inl, inr, arith, length-append, length-set, get_or-set_same, get_or-set_other}
+use Rattle.std.proofs.Math.Path.{fun_ext, ap₂}
+use Rattle.std.proofs.lemmas.List.{ext_get_or, get_or_past, get_or_append_left, get_or-append_right, length-replicate, set_past}
+use Rattle.std.proofs.lemmas.List.FromFn.{length-map-range_with_len, get_or-map-range_with_len}
+use Rattle.std.proofs.lemmas.Bool.{cases_eq, cases_lt}
+use Rattle.arena_heap.specs.declared.value.Value.{Value}
+use Rattle.arena_heap.specs.declared.cells.Cell.{Cell}
+use Rattle.mpy_base.specs.World.{object}
+use Rattle.arena_heap.specs.Values.{ArenaObject}
+use Rattle.arena_heap.specs.Cells.{blank, cell_of, head_of, heads, first, size, byte_first, byte_size, Full, part, decode, read, object_at, objects_of, In, Apart, Kept, Holds}
+use Rattle.mpy_base.proofs.Worlds.{object_nones}
+use Rattle.arena_heap.proofs.CellValues.{head_of-cell_of}
+use Rattle.arena_heap.proofs.Parts.{part_same, apart_set, apart_more, in_same}
+
+pub heads_past : (cells : List Cell) (n : ℕ) → length cells ≤ n → heads cells n ≡ blank
+heads_past cells n h = ap head_of (get_or_past cells n blank h)
+
+pub object_past : (cells : List Cell) (bytes : List ℕ) (n : ℕ) → length cells ≤ n → object_at cells bytes n ≡ None
+object_past cells bytes n h = ap (λ c. read n c cells bytes) (heads_past cells n h)
+
+pub length-objects : (cells : List Cell) (bytes : List ℕ) → length (objects_of cells bytes) ≡ length cells
+length-objects cells bytes = length-map-range_with_len (object_at cells bytes) 0 (length cells)
+
+-- the object of a number is what stands at its cell
+pub object_is : (cells : List Cell) (bytes : List ℕ) (n : ℕ) → object (objects_of cells bytes) n ≡ object_at cells bytes n
+object_is cells bytes n =
+    elim (cases_lt n (length cells)) [
+      | inl h ↦ get_or-map-range_with_len (object_at cells bytes) 0 (length cells) n n None h (omega arith)
+      | inr h ↦ get_or_past (objects_of cells bytes) n None (omega (arith, length-objects cells bytes)) ∙ sym (object_past cells bytes n h)
+    ]
+
+pub object_held : {cells : List Cell} {bytes : List ℕ} {obs : List (Option ArenaObject)} → Holds cells bytes obs → (n : ℕ) → object obs n ≡ object_at cells bytes n
+object_held {cells} {bytes} {obs} h n = ap (λ os. object os n) (sym h.objects) ∙ object_is cells bytes n
+
+pub length_held : {cells : List Cell} {bytes : List ℕ} {obs : List (Option ArenaObject)} → Holds cells bytes obs → length obs ≡ length cells
+length_held {cells} {bytes} h = ap length (sym h.objects) ∙ length-objects cells bytes
+
+-- the objects are these where each is
+pub objects_are : (cells : List Cell) (bytes : List ℕ) (obs : List (Option ArenaObject)) → length obs ≡ length cells
+    → ((n : ℕ) → n < length cells → object_at cells bytes n ≡ object obs n) → objects_of cells bytes ≡ obs
+objects_are cells bytes obs e each =
+    let l = length-objects cells bytes in
+    ext_get_or None (objects_of cells bytes) obs (l ∙ sym e) (λ n h. object_is cells bytes n ∙ each n (omega arith))
+
+-- an object whose head and regions nobody wrote
+pub object_same : (cells cells' : List Cell) (bytes bytes' : List ℕ) (n : ℕ) → Kept (heads cells) (length cells) (length bytes)
+    → length cells ≤ length cells' → length bytes ≤ length bytes' → heads cells' n ≡ heads cells n
+    → ((c : ℕ) (d : Cell) → In (first n (heads cells n)) (size (heads cells n)) c → get_or cells' c d ≡ get_or cells c d)
+    → ((c : ℕ) (d : ℕ) → In (byte_first n (heads cells n)) (byte_size (heads cells n)) c → get_or bytes' c d ≡ get_or bytes c d)
+    → object_at cells' bytes' n ≡ object_at cells bytes n
+object_same cells cells' bytes bytes' n k lc lb e sc sb =
+    let h = heads cells n in
+    ap (λ (x : Cell). read n x cells' bytes') e
+    ∙ (ap (λ (ps : List Cell). decode h ps (part bytes' (byte_first n h) (byte_size h)))
+    (part_same cells cells' (first n h) (size h) (k.cells_apart.inside n) (omega (arith, k.cells_apart.inside n)) sc)
+    ∙ ap (λ (bs : List ℕ). decode h (part cells (first n h) (size h)) bs)
+    (part_same bytes bytes' (byte_first n h) (byte_size h) (k.bytes_apart.inside n) (omega (arith, k.bytes_apart.inside n)) sb))
+
+pub heads_used : (cells ps : List Cell) → ((k : ℕ) → heads ps k ≡ blank) → heads (cells ++ ps) ≡ heads cells
+heads_used cells ps plain = fun_ext (λ n. elim (cases_lt n (length cells)) [
+  | inl h ↦ ap head_of (get_or_append_left cells ps blank n h)
+  | inr h ↦ ap head_of (get_or-append_right cells ps (length cells) n blank refl h) ∙ (plain (n - length cells) ∙ sym (heads_past cells n h))
+])
+
+pub kept_more : {h : ℕ → Cell} {m n m' n' : ℕ} → Kept h m n → m ≤ m' → n ≤ n' → Kept h m' n'
+kept_more k a b = record { cells_apart = apart_more _ _ _ _ k.cells_apart a; bytes_apart = apart_more _ _ _ _ k.bytes_apart b; plain = k.plain; full = k.full }
+
+-- 1. Cells are taken. They hold values, and belong to nobody yet
+pub holds_used : {cells : List Cell} {bytes : List ℕ} {obs : List (Option ArenaObject)} → Holds cells bytes obs → (ps : List Cell)
+    → ((k : ℕ) → heads ps k ≡ blank) → Holds (cells ++ ps) bytes (obs ++ replicate (length ps) None)
+holds_used {cells} {bytes} {obs} h ps plain =
+    let l : length (cells ++ ps) ≡ length cells + length ps = length-append cells ps in
+    let same : heads (cells ++ ps) ≡ heads cells = heads_used cells ps plain in
+    let k : Kept (heads cells) (length (cells ++ ps)) (length bytes) = kept_more h.kept (omega arith) (omega arith) in
+    record {
+      kept = subst (λ (x : ℕ → Cell). Kept x (length (cells ++ ps)) (length bytes)) (sym same) k;
+      objects = objects_are (cells ++ ps) bytes (obs ++ replicate (length ps) None)
+          (length-append obs (replicate (length ps) None) ∙ ap₂ (λ (a b : ℕ). a + b) (length_held h) (length-replicate (length ps) None) ∙ sym l)
+          (λ n _. elim (cases_lt n (length cells)) [
+            | inl low ↦ object_same cells (cells ++ ps) bytes bytes n h.kept (omega arith) (omega arith) (ap (λ (x : ℕ → Cell). x n) same)
+                (λ c d i. get_or_append_left cells ps d c (omega (arith, h.kept.cells_apart.inside n, i.high))) (λ c d i. refl)
+                ∙ (sym (object_held h n) ∙ sym (get_or_append_left obs (replicate (length ps) None) None n (omega (arith, length_held h))))
+            | inr high ↦ ap (λ (x : Cell). read n x (cells ++ ps) bytes) (ap (λ (x : ℕ → Cell). x n) same ∙ heads_past cells n high)
+                ∙ sym (get_or-append_right obs (replicate (length ps) None) (length cells) n None (length_held h) high ∙ object_nones (length ps) (n - length cells))
+          ]);
+    }
+
+-- 2. A head is written, at a cell that is in nobody's region; its region is free or its own
+pub record Placed (h : ℕ → Cell) (cells bytes n : ℕ) (c : Cell) : Type 0 where
+  pub head : head_of c ≡ c
+  pub inside : first n c + size c ≤ cells
+  pub byte_inside : byte_first n c + byte_size c ≤ bytes
+  pub free : (m x : ℕ) → In (first n c) (size c) x → In (first m (h m)) (size (h m)) x → m ≡ n
+  pub byte_free : (m x : ℕ) → In (byte_first n c) (byte_size c) x → In (byte_first m (h m)) (byte_size (h m)) x → m ≡ n
+  pub mine : (m : ℕ) → In (first m (h m)) (size (h m)) n → ⊥
+  pub outside : In (first n c) (size c) n → ⊥
+  pub plain : (x : ℕ) → In (first n c) (size c) x → h x ≡ blank
+  pub full : Full c
+
+pub kept_head : {h h' : ℕ → Cell} {cells bytes n : ℕ} {c : Cell} → Kept h cells bytes → Placed h cells bytes n c → h' n ≡ c → ((k : ℕ) → k ≢ n → h' k ≡ h k) → Kept h' cells bytes
+kept_head {h} {h'} {cells} {bytes} {n} {c} k p here there =
+    record {
+      cells_apart = apart_set (λ m. first m (h m)) (λ m. size (h m)) (λ m. first m (h' m)) (λ m. size (h' m)) cells n (first n c) (size c) k.cells_apart
+          (ap (λ (x : Cell). first n x) here) (ap size here) (λ m ne. (ap (λ (x : Cell). first m x) (there m ne), ap size (there m ne))) p.inside p.free;
+      bytes_apart = apart_set (λ m. byte_first m (h m)) (λ m. byte_size (h m)) (λ m. byte_first m (h' m)) (λ m. byte_size (h' m)) bytes n (byte_first n c) (byte_size c) k.bytes_apart
+          (ap (λ (x : Cell). byte_first n x) here) (ap byte_size here) (λ m ne. (ap (λ (x : Cell). byte_first m x) (there m ne), ap byte_size (there m ne))) p.byte_inside p.byte_free;
+      plain = λ m x i. elim (cases_eq m n) [
+        | inl e ↦
+            let j : In (first n c) (size c) x = in_same (subst (λ (y : ℕ). first y (h' y) ≡ first n c) (sym e) (ap (λ (x : Cell). first n x) here)) (subst (λ (y : ℕ). size (h' y) ≡ size c) (sym e) (ap size here)) i in
+            there x (λ q. p.outside (subst (λ (y : ℕ). In (first n c) (size c) y) q j)) ∙ p.plain x j
+        | inr ne ↦
+            let j : In (first m (h m)) (size (h m)) x = in_same (ap (λ (x : Cell). first m x) (there m ne)) (ap size (there m ne)) i in
+            there x (λ q. p.mine m (subst (λ (y : ℕ). In (first m (h m)) (size (h m)) y) q j)) ∙ k.plain m x j
+      ];
+      full = λ m. elim (cases_eq m n) [
+        | inl e ↦ subst (λ (y : ℕ). Full (h' y)) (sym e) (subst Full (sym here) p.full)
+        | inr ne ↦ subst Full (sym (there m ne)) (k.full m)
+      ];
+    }
+
+pub heads_set_same : (cells : List Cell) (n : ℕ) (c : Cell) → n < length cells → head_of c ≡ c → heads (set cells n c) n ≡ c
+heads_set_same cells n c h e = ap head_of (get_or-set_same cells n c blank h) ∙ e
+
+pub heads_set_other : (cells : List Cell) (n k : ℕ) (c : Cell) → k ≢ n → heads (set cells n c) k ≡ heads cells k
+heads_set_other cells n k c ne = ap head_of (get_or-set_other cells n k c blank ne)
+
+pub holds_head : {cells : List Cell} {bytes : List ℕ} {obs : List (Option ArenaObject)} → Holds cells bytes obs → (n : ℕ) (c : Cell) → n < length cells
+    → Placed (heads cells) (length cells) (length bytes) n c → Holds (set cells n c) bytes (set obs n (read n c cells bytes))
+holds_head {cells} {bytes} {obs} h n c low p =
+    let l : length (set cells n c) ≡ length cells = length-set cells n c in
+    let here : heads (set cells n c) n ≡ c = heads_set_same cells n c low p.head in
+    let k : Kept (heads (set cells n c)) (length cells) (length bytes) = kept_head h.kept p here (λ k ne. heads_set_other cells n k c ne) in
+    record {
+      kept = kept_more k (omega arith) (omega arith);
+      objects = objects_are (set cells n c) bytes (set obs n (read n c cells bytes)) (length-set obs n (read n c cells bytes) ∙ (length_held h ∙ sym l))
+          (λ m _. elim (cases_eq m n) [
+            | inl e ↦ subst (λ (y : ℕ). object_at (set cells n c) bytes y ≡ object (set obs n (read n c cells bytes)) y) (sym e)
+                (ap (λ (x : Cell). read n x (set cells n c) bytes) here
+                ∙ (ap (λ (ps : List Cell). decode c ps (part bytes (byte_first n c) (byte_size c)))
+                (part_same cells (set cells n c) (first n c) (size c) p.inside (omega (arith, p.inside, l))
+                (λ x d i. get_or-set_other cells n x c d (λ q. p.outside (subst (λ (y : ℕ). In (first n c) (size c) y) q i))))
+                ∙ sym (get_or-set_same obs n (read n c cells bytes) None (omega (arith, length_held h)))))
+            | inr ne ↦ object_same cells (set cells n c) bytes bytes m h.kept (omega arith) (omega arith) (heads_set_other cells n m c ne)
+                (λ x d i. get_or-set_other cells n x c d (λ q. p.mine m (subst (λ (y : ℕ). In (first m (heads cells m)) (size (heads cells m)) y) q i))) (λ x d i. refl)
+                ∙ (sym (object_held h m) ∙ sym (get_or-set_other obs n m (read n c cells bytes) None ne))
+          ]);
+    }
+
+-- 3. A region of cells is written, with values
+pub holds_written : {cells : List Cell} {bytes : List ℕ} {obs : List (Option ArenaObject)} → Holds cells bytes obs → (n : ℕ) (cells' : List Cell) → n < length cells → length cells' ≡ length cells
+    → heads cells' ≡ heads cells → ((c : ℕ) (d : Cell) → (In (first n (heads cells n)) (size (heads cells n)) c → ⊥) → get_or cells' c d ≡ get_or cells c d)
+    → Holds cells' bytes (set obs n (read n (heads cells n) cells' bytes))
+holds_written {cells} {bytes} {obs} h n cells' low l same out =
+    let o : Option ArenaObject = read n (heads cells n) cells' bytes in
+    record {
+      kept = subst (λ (x : ℕ → Cell). Kept x (length cells') (length bytes)) (sym same) (kept_more h.kept (omega arith) (omega arith));
+      objects = objects_are cells' bytes (set obs n o) (length-set obs n o ∙ (length_held h ∙ sym l))
+          (λ m _. elim (cases_eq m n) [
+            | inl e ↦ subst (λ (y : ℕ). object_at cells' bytes y ≡ object (set obs n o) y) (sym e)
+                (ap (λ (x : ℕ → Cell). read n (x n) cells' bytes) same ∙ sym (get_or-set_same obs n o None (omega (arith, length_held h))))
+            | inr ne ↦ object_same cells cells' bytes bytes m h.kept (omega arith) (omega arith) (ap (λ (x : ℕ → Cell). x m) same)
+                (λ x d i. out x d (λ j. ne (h.kept.cells_apart.apart m n x i j))) (λ x d i. refl)
+                ∙ (sym (object_held h m) ∙ sym (get_or-set_other obs n m o None ne))
+          ]);
+    }
+
+heads_set_plain : (cells : List Cell) (c : ℕ) (x : Cell) → head_of x ≡ blank → heads cells c ≡ blank → heads (set cells c x) ≡ heads cells
+heads_set_plain cells c x plain e = fun_ext (λ k. elim (cases_eq k c) [
+  | inl q ↦ subst (λ (y : ℕ). heads (set cells c x) y ≡ heads cells y) (sym q)
+      (elim (cases_lt c (length cells)) [
+        | inl low ↦ ap head_of (get_or-set_same cells c x blank low) ∙ (plain ∙ sym e)
+        | inr high ↦ ap (λ (y : List Cell). heads y c) (set_past cells c x high)
+      ])
+  | inr ne ↦ heads_set_other cells c k x ne
+])
+
+pub holds_plain : {cells : List Cell} {bytes : List ℕ} {obs : List (Option ArenaObject)} → Holds cells bytes obs → (n c : ℕ) (x : Cell) → head_of x ≡ blank → n < length cells
+    → In (first n (heads cells n)) (size (heads cells n)) c → Holds (set cells c x) bytes (set obs n (read n (heads cells n) (set cells c x) bytes))
+holds_plain {cells} h n c x plain low i =
+    holds_written h n (set cells c x) low (length-set cells c x) (heads_set_plain cells c x plain (h.kept.plain n c i))
+    (λ y d ni. get_or-set_other cells c y x d (λ q. ni (subst (λ (z : ℕ). In (first n (heads cells n)) (size (heads cells n)) z) (sym q) i)))
+
+pub holds_item : {cells : List Cell} {bytes : List ℕ} {obs : List (Option ArenaObject)} → Holds cells bytes obs → (n c : ℕ) (v : Value) → n < length cells
+    → In (first n (heads cells n)) (size (heads cells n)) c → Holds (set cells c (cell_of v)) bytes (set obs n (read n (heads cells n) (set cells c (cell_of v)) bytes))
+holds_item h n c v low i = holds_plain h n c (cell_of v) (head_of-cell_of v) low i
+
+-- 4. Bytes are taken; a byte of a region is written
+pub holds_more_bytes : {cells : List Cell} {bytes : List ℕ} {obs : List (Option ArenaObject)} → Holds cells bytes obs → (bs : List ℕ) → Holds cells (bytes ++ bs) obs
+holds_more_bytes {cells} {bytes} {obs} h bs =
+    let l : length (bytes ++ bs) ≡ length bytes + length bs = length-append bytes bs in
+    record {
+      kept = kept_more h.kept (omega arith) (omega arith);
+      objects = objects_are cells (bytes ++ bs) obs (length_held h)
+          (λ n _. object_same cells cells bytes (bytes ++ bs) n h.kept (omega arith) (omega arith) refl (λ c d i. refl)
+          (λ c d i. get_or_append_left bytes bs d c (omega (arith, h.kept.bytes_apart.inside n, i.high))) ∙ sym (object_held h n));
+    }
+
+pub holds_byte : {cells : List Cell} {bytes : List ℕ} {obs : List (Option ArenaObject)} → Holds cells bytes obs → (n c b : ℕ) → n < length cells
+    → In (byte_first n (heads cells n)) (byte_size (heads cells n)) c → Holds cells (set bytes c b) (set obs n (read n (heads cells n) cells (set bytes c b)))
+holds_byte {cells} {bytes} {obs} h n c b low i =
+    let l : length (set bytes c b) ≡ length bytes = length-set bytes c b in
+    let o : Option ArenaObject = read n (heads cells n) cells (set bytes c b) in
+    record {
+      kept = kept_more h.kept (omega arith) (omega arith);
+      objects = objects_are cells (set bytes c b) (set obs n o) (length-set obs n o ∙ length_held h)
+          (λ m _. elim (cases_eq m n) [
+            | inl e ↦ subst (λ (y : ℕ). object_at cells (set bytes c b) y ≡ object (set obs n o) y) (sym e) (sym (get_or-set_same obs n o None (omega (arith, length_held h))))
+            | inr ne ↦ object_same cells cells bytes (set bytes c b) m h.kept (omega arith) (omega arith) refl (λ x d j. refl)
+                (λ x d j. get_or-set_other bytes c x b d (λ q. ne (h.kept.bytes_apart.apart m n c (subst (λ (y : ℕ). In (byte_first m (heads cells m)) (byte_size (heads cells m)) y) q j) i)))
+                ∙ (sym (object_held h m) ∙ sym (get_or-set_other obs n m o None ne))
+          ]);
+    }
+
+-- nothing yet
+pub holds_nothing : Holds [] [] []
+holds_nothing =
+    let none : (h : ℕ → ℕ) → Apart (λ n. 0) (λ n. 0) 0 = λ h. record { inside = λ n. omega arith; apart = λ n m c i j. absurd (omega (arith, i.low, i.high)) } in
+    record {
+      kept = record {
+        cells_apart = none (λ n. n);
+        bytes_apart = none (λ n. n);
+        plain = λ n c i. refl;
+        full = λ n. tt;
+      };
+      objects = refl;
+    }

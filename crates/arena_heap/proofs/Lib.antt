@@ -1,0 +1,9 @@
+pub mod Asking
+pub mod CellValues
+pub mod Frame
+pub mod Moves
+pub mod NewObjects
+pub mod Parts
+pub mod Seen
+pub mod Sounds
+pub mod Views

@@ -1,0 +1,36 @@
+use Rattle.std.proofs.Common.{List, ◌∷◌, ◌++◌, Some, None, sym, ◌∙◌, ap, subst, replicate, arith, le_refl}
+use Rattle.arena_heap.specs.declared.cells.Cell.{Cell}
+use Rattle.arena_heap.specs.declared.cells.Cell.TheVariants as variants
+use Rattle.mpy_base.specs.World.{ExceptionObject}
+use Rattle.mpy_base.specs.Weights.{more_cells}
+use Rattle.mpy_base.proofs.Worlds.{later_made}
+use Rattle.arena_heap.specs.Values.{ArenaObject, Leads}
+use Rattle.arena_heap.specs.Cells.{blank, Holds}
+use Rattle.arena_heap.proofs.NewObjects.{exception_made}
+use Rattle.arena_heap.proofs.Sounds.{all_one}
+use Rattle.arena_heap.proofs.Seen.{objects, holds_now, seen_fits, made_again, made_seen}
+use Rattle.arena_heap.proofs.arena.Arena.make_exc.Goals as goal
+use Rattle.arena_heap.proofs.arena.Arena.make_exc.Goals.{After-take_cells}
+
+abbrev new : (c : After-take_cells) → ArenaObject
+new c = ExceptionObject c.args.kind c.args.args 1 0 1
+
+left : (c : After-take_cells) → Holds c.take_cells.new.cells.items c.self.inside.bytes.items (objects c.self.inside ++ Some (new c) ∷ replicate (more_cells (new c)) None)
+left c =
+    subst (λ (x : List Cell). Holds x c.self.inside.bytes.items (objects c.self.inside ++ Some (new c) ∷ replicate (more_cells (new c)) None))
+    (ap (λ x. c.self.inside.cells.items ++ variants.ExcHead c.args.kind ∷ x ∷ variants.Place 1 0 1 ∷ replicate 3 blank) (sym c.of.ensures) ∙ sym c.take_cells.ensures.items)
+    (exception_made (holds_now c.self.inside c.self.invariant) c.args.kind c.args.args)
+
+pub take_cells-requires : goal.take_cells-requires
+take_cells-requires c = let f = seen_fits c.self.inside c.self.view_is c.in_ok-ask.ensures.ok in omega (arith, f.0, c.self.invariant.cells_taken)
+
+pub invariant_of-self : goal.invariant_of-self
+invariant_of-self c =
+    made_again c.self.inside c.self.invariant c.self.view_is (new c) _ _ _ _ c.in_ok-ask.ensures.ok (left c) (omega arith) c.take_cells.ensures.capacity (le_refl _)
+    (all_one (Leads c.args.self.now.objects) c.args.args c.requires.leads) (c.requires.tuple)
+
+pub returns-clause-made : goal.returns-clause-made
+returns-clause-made c = made_seen c.self.inside c.self.view_is (new c) _ _ c.in_ok-ask.ensures.ok (left c) (omega arith) c.len-cell.result (omega arith)
+
+pub returns-clause-later : goal.returns-clause-later
+returns-clause-later c = later_made (returns-clause-made c)

@@ -1,0 +1,37 @@
+use Rattle.std.proofs.Common.{List, ◌∷◌, ◌++◌, Some, None, sym, ◌∙◌, ap, subst, replicate, arith, le_refl}
+use Rattle.arena_heap.specs.declared.value.Value.TheVariants as values
+use Rattle.arena_heap.specs.declared.cells.Cell.{Cell}
+use Rattle.arena_heap.specs.declared.cells.Cell.TheVariants as variants
+use Rattle.mpy_base.specs.World.{FunctionObject}
+use Rattle.mpy_base.specs.Weights.{more_cells}
+use Rattle.mpy_base.proofs.Worlds.{later_made}
+use Rattle.arena_heap.specs.Values.{ArenaObject, Leads}
+use Rattle.arena_heap.specs.Cells.{blank, Holds}
+use Rattle.arena_heap.proofs.NewObjects.{function_made}
+use Rattle.arena_heap.proofs.Sounds.{all_two}
+use Rattle.arena_heap.proofs.Seen.{objects, holds_now, seen_fits, made_again, made_seen}
+use Rattle.arena_heap.proofs.arena.Arena.make_fun.Goals as goal
+use Rattle.arena_heap.proofs.arena.Arena.make_fun.Goals.{After-take_cells}
+
+abbrev new : (c : After-take_cells) → ArenaObject
+new c = FunctionObject c.args.name c.args.«module» c.args.code c.args.names.cell c.args.defaults
+
+left : (c : After-take_cells) → Holds c.take_cells.new.cells.items c.self.inside.bytes.items (objects c.self.inside ++ Some (new c) ∷ replicate (more_cells (new c)) None)
+left c =
+    subst (λ (x : List Cell). Holds x c.self.inside.bytes.items (objects c.self.inside ++ Some (new c) ∷ replicate (more_cells (new c)) None))
+    (ap (λ x. c.self.inside.cells.items ++ variants.FunHead c.args.name c.args.«module» c.args.code ∷ variants.Dict c.args.names ∷ x ∷ replicate 1 blank) (sym c.of.ensures) ∙ sym c.take_cells.ensures.items)
+    (function_made (holds_now c.self.inside c.self.invariant) c.args.name c.args.«module» c.args.code c.args.names c.args.defaults)
+
+pub take_cells-requires : goal.take_cells-requires
+take_cells-requires c = let f = seen_fits c.self.inside c.self.view_is c.in_ok-ask.ensures.ok in omega (arith, f.0, c.self.invariant.cells_taken)
+
+pub invariant_of-self : goal.invariant_of-self
+invariant_of-self c =
+    made_again c.self.inside c.self.invariant c.self.view_is (new c) _ _ _ _ c.in_ok-ask.ensures.ok (left c) (omega arith) c.take_cells.ensures.capacity (le_refl _)
+    (all_two (Leads c.args.self.now.objects) (values.Dict (record { cell = c.args.names.cell })) c.args.defaults (record { meets = c.requires.names; small = tt }) c.requires.leads) (c.requires.defaults)
+
+pub returns-clause-made : goal.returns-clause-made
+returns-clause-made c = made_seen c.self.inside c.self.view_is (new c) _ _ c.in_ok-ask.ensures.ok (left c) (omega arith) c.len-cell.result (omega arith)
+
+pub returns-clause-later : goal.returns-clause-later
+returns-clause-later c = later_made (returns-clause-made c)

@@ -1,0 +1,43 @@
+use Rattle.std.proofs.Common.{ℕ, suc, ◌+◌, ◌*◌, ◌≡◌, List, [], ◌∷◌, ◌++◌, length, Some, None, sym, ◌∙◌, subst, replicate, arith, le_refl}
+use Rattle.std.proofs.Math.Path.{ap₂}
+use Rattle.std.proofs.lemmas.List.Elements.{All-nil}
+use Rattle.arena_heap.specs.declared.cells.Cell.{Cell}
+use Rattle.arena_heap.specs.declared.cells.Cell.TheVariants as variants
+use Rattle.mpy_base.specs.World.{ListObject}
+use Rattle.mpy_base.specs.Weights.{Fits, more_cells, room_for}
+use Rattle.mpy_base.proofs.Worlds.{later_made}
+use Rattle.mpy_base.proofs.Rooms.{room_is}
+use Rattle.arena_heap.specs.Values.{ArenaObject, Leads}
+use Rattle.arena_heap.specs.Cells.{blank, Holds}
+use Rattle.arena_heap.proofs.NewObjects.{list_made}
+use Rattle.arena_heap.proofs.Seen.{objects, holds_now, seen_fits, made_again, made_seen}
+use Rattle.arena_heap.proofs.arena.Arena.make_list.Goals as goal
+use Rattle.arena_heap.proofs.arena.Arena.make_list.Goals.{After-take_cells}
+
+abbrev new : (c : After-take_cells) → ArenaObject
+new c = ListObject [] (room_for c.args.items)
+
+left : (c : After-take_cells) → Holds c.take_cells.new.cells.items c.self.inside.bytes.items (objects c.self.inside ++ Some (new c) ∷ replicate (more_cells (new c)) None)
+left c =
+    subst (λ (x : List Cell). Holds x c.self.inside.bytes.items (objects c.self.inside ++ Some (new c) ∷ replicate (more_cells (new c)) None))
+    ((let room : room_for c.args.items ≡ c.in_ok-room.room = sym c.in_ok-room.ensures.room in
+    let start : length c.self.inside.cells.items + 3 ≡ c.len-cell.result + 3 = omega arith in
+    ap₂ (λ (from room : ℕ). c.self.inside.cells.items ++ variants.ListHead (record { start = from; len = 0; room = room }) ∷ replicate (2 + room) blank) start room ∙ sym c.take_cells.ensures.items))
+    (list_made (holds_now c.self.inside c.self.invariant) (room_for c.args.items) (room_is c.args.items).is_room)
+
+pub take_cells-requires : goal.take_cells-requires
+take_cells-requires c = let f = seen_fits c.self.inside c.self.view_is (let e : 3 + 1 * room_for c.args.items ≡ suc (2 + room_for c.args.items) = omega arith in subst (λ (x : ℕ). Fits c.args.self.now x 0) e c.in_ok-room.ensures.fits) in omega (arith, f.0, c.in_ok-room.ensures.room, c.self.invariant.cells_taken)
+
+pub invariant_of-self : goal.invariant_of-self
+invariant_of-self c =
+    made_again c.self.inside c.self.invariant c.self.view_is (new c) _ _ _ _ (let e : 3 + 1 * room_for c.args.items ≡ suc (2 + room_for c.args.items) = omega arith in subst (λ (x : ℕ). Fits c.args.self.now x 0) e c.in_ok-room.ensures.fits) (left c) (omega arith) c.take_cells.ensures.capacity (le_refl _)
+    (All-nil (Leads c.args.self.now.objects)) (tt)
+
+pub returns-clause-made : goal.returns-clause-made
+returns-clause-made c = made_seen c.self.inside c.self.view_is (new c) _ _ (let e : 3 + 1 * room_for c.args.items ≡ suc (2 + room_for c.args.items) = omega arith in subst (λ (x : ℕ). Fits c.args.self.now x 0) e c.in_ok-room.ensures.fits) (left c) (omega arith) c.len-cell.result (omega arith)
+
+pub returns-clause-later : goal.returns-clause-later
+returns-clause-later c = later_made (returns-clause-made c)
+
+pub overflow_add-start : goal.overflow_add-start
+overflow_add-start c = let f = seen_fits c.self.inside c.self.view_is (let e : 3 + 1 * room_for c.args.items ≡ suc (2 + room_for c.args.items) = omega arith in subst (λ (x : ℕ). Fits c.args.self.now x 0) e c.in_ok-room.ensures.fits) in omega (arith, f.0, c.self.invariant.cells_few)

@@ -1,0 +1,213 @@
+-- How the cells and the bytes of an arena are read as objects, and what is kept of them.
+use Rattle.std.specs.Prelude.{ℕ, suc, ◌+◌, ◌*◌, ◌^◌, ◌≤◌, ◌<◌, ◌≡◌, List, length, Option, Some, None, slice_index_or, map, take, drop}
+use Rattle.std.specs.List.{range_with_len}
+use Rattle.arena_heap.specs.declared.value.Value.{Value}
+use Rattle.arena_heap.specs.declared.value.Value.TheVariants as values
+use Rattle.arena_heap.specs.declared.value.StrNo.TheVariants as strs
+use Rattle.arena_heap.specs.declared.cells.Cell.{Cell}
+use Rattle.arena_heap.specs.declared.cells.Cell.TheVariants as cells
+use Rattle.mpy_base.specs.World.{ListObject, TupleObject, TextObject, DictObject, FunctionObject, ExceptionObject, MethodObject, RangeObject, ModuleObject, Heap, ObjectKind, AList, ATuple, AText, ADict, AFunction, AnException, AMethod, ARange, AModule}
+use Rattle.mpy_base.specs.Weights.{IsRoom}
+use Rattle.arena_heap.specs.Values.{ArenaObject, Sound}
+
+abbrev pub blank : Cell
+blank = cells.None
+
+-- the cell that holds a value
+abbrev pub cell_of : Value → Cell
+cell_of values.None = cells.None
+cell_of (values.Bool b) = cells.Bool b
+cell_of (values.Int z) = cells.Int z
+cell_of (values.Str (strs.Pool n)) = cells.Pool n
+cell_of (values.Str (strs.Object c)) = cells.Object c
+cell_of (values.Fixed c) = cells.Fixed c
+cell_of values.Empty = cells.Empty
+cell_of (values.List l) = cells.List l
+cell_of (values.Dict d) = cells.Dict d
+cell_of (values.Tuple t) = cells.Tuple t
+cell_of (values.Text t) = cells.Text t
+cell_of (values.Fun f) = cells.Fun f
+cell_of (values.Exc e) = cells.Exc e
+cell_of (values.Method m) = cells.Method m
+cell_of (values.Range r) = cells.Range r
+cell_of (values.Module m) = cells.Module m
+cell_of (values.Built b) = cells.Built b
+
+-- the value in a cell, and None where it holds none
+abbrev pub value_of : Cell → Value
+value_of (cells.Bool b) = values.Bool b
+value_of (cells.Int z) = values.Int z
+value_of (cells.Pool n) = values.Str (strs.Pool n)
+value_of (cells.Object c) = values.Str (strs.Object c)
+value_of (cells.Fixed c) = values.Fixed c
+value_of cells.Empty = values.Empty
+value_of (cells.List l) = values.List l
+value_of (cells.Dict d) = values.Dict d
+value_of (cells.Tuple t) = values.Tuple t
+value_of (cells.Text t) = values.Text t
+value_of (cells.Fun f) = values.Fun f
+value_of (cells.Exc e) = values.Exc e
+value_of (cells.Method m) = values.Method m
+value_of (cells.Range r) = values.Range r
+value_of (cells.Module m) = values.Module m
+value_of (cells.Built b) = values.Built b
+value_of _ = values.None
+
+-- the kind of object that the cell is the first of
+abbrev pub kind_at : Cell → Option ObjectKind
+kind_at (cells.ListHead r) = Some AList
+kind_at (cells.DictHead r) = Some ADict
+kind_at (cells.TupleHead k) = Some ATuple
+kind_at (cells.TextHead t) = Some AText
+kind_at (cells.FunHead name module_no code) = Some AFunction
+kind_at (cells.ExcHead kind) = Some AnException
+kind_at (cells.MethodHead method) = Some AMethod
+kind_at (cells.RangeHead start stop step) = Some ARange
+kind_at (cells.ModuleHead name) = Some AModule
+kind_at _ = None
+
+-- the cell, where it is a head
+abbrev pub head_of : Cell → Cell
+head_of (cells.ListHead r) = cells.ListHead r
+head_of (cells.DictHead r) = cells.DictHead r
+head_of (cells.TupleHead k) = cells.TupleHead k
+head_of (cells.TextHead t) = cells.TextHead t
+head_of (cells.FunHead name module_no code) = cells.FunHead name module_no code
+head_of (cells.ExcHead kind) = cells.ExcHead kind
+head_of (cells.MethodHead method) = cells.MethodHead method
+head_of (cells.RangeHead start stop step) = cells.RangeHead start stop step
+head_of (cells.ModuleHead name) = cells.ModuleHead name
+head_of _ = blank
+
+-- the heads of objects, by their places
+abbrev pub heads : List Cell → ℕ → Cell
+heads cells n = head_of (slice_index_or cells n blank)
+
+-- the region of cells that the object with this head at n has now
+abbrev pub first : ℕ → Cell → ℕ
+first n (cells.ListHead r) = r.start
+first n (cells.DictHead r) = r.start
+first n (cells.TupleHead k) = suc n
+first n (cells.FunHead name module_no code) = suc n
+first n (cells.ExcHead kind) = suc n
+first n (cells.MethodHead method) = suc n
+first n (cells.ModuleHead name) = suc n
+first n _ = 0
+
+abbrev pub size : Cell → ℕ
+size (cells.ListHead r) = r.room
+size (cells.DictHead r) = 3 * r.room
+size (cells.TupleHead k) = k
+size (cells.FunHead name module_no code) = 2
+size (cells.ExcHead kind) = 2
+size (cells.MethodHead method) = 1
+size (cells.ModuleHead name) = 1
+size _ = 0
+
+-- and of bytes
+abbrev pub byte_first : ℕ → Cell → ℕ
+byte_first n (cells.TextHead t) = t.start
+byte_first n _ = 0
+
+abbrev pub byte_size : Cell → ℕ
+byte_size (cells.TextHead t) = t.len
+byte_size _ = 0
+
+-- a list or dict has a room, and no more than it holds
+abbrev pub Full : Cell → Type 0
+Full (cells.ListHead r) = (r.len ≤ r.room) × IsRoom r.room
+Full (cells.DictHead r) = (r.len ≤ r.room) × IsRoom r.room
+Full _ = Unit {0}
+
+abbrev pub part : {X : Type 0} → List X → ℕ → ℕ → List X
+part xs from size = take size (drop from xs)
+
+-- three cells for each pair: its key, its value, and one more
+abbrev pub pair_in : List Cell → ℕ → Value × Value
+pair_in ps i = (value_of (slice_index_or ps (3 * i) blank), value_of (slice_index_or ps (3 * i + 1) blank))
+
+abbrev pub pairs_in : List Cell → ℕ → List (Value × Value)
+pairs_in ps n = map (pair_in ps) (range_with_len 0 n)
+
+-- the dict that a cell leads to, if it does
+abbrev pub dict_in : Cell → Option ℕ
+dict_in (cells.Dict d) = Some d.cell
+dict_in _ = None
+
+abbrev pub dict_number : Cell → ℕ
+dict_number (cells.Dict d) = d.cell
+dict_number _ = 0
+
+-- the place of an exception: one that wasn't raised yet has the empty file, line 0 and the empty name
+pub record Raised : Type 0 where
+  pub file : ℕ
+  pub line : ℕ
+  pub name : ℕ
+
+abbrev pub place_in : Cell → Raised
+place_in (cells.Place file line name) = record { file = file; line = line; name = name }
+place_in _ = record { file = 1; line = 0; name = 1 }
+
+-- an object from its head, the cells of its region, and its bytes
+abbrev pub decode : Cell → List Cell → List ℕ → Option ArenaObject
+decode (cells.ListHead r) ps bs = Some (ListObject (map value_of (take r.len ps)) r.room)
+decode (cells.DictHead r) ps bs = Some (DictObject (pairs_in ps r.len) r.room)
+decode (cells.TupleHead k) ps bs = Some (TupleObject (map value_of ps))
+decode (cells.TextHead t) ps bs = Some (TextObject bs)
+decode (cells.FunHead name module_no code) ps bs =
+    Some (FunctionObject name module_no code (dict_number (slice_index_or ps 0 blank)) (value_of (slice_index_or ps 1 blank)))
+decode (cells.ExcHead kind) ps bs =
+    let place = place_in (slice_index_or ps 1 blank) in
+    Some (ExceptionObject kind (value_of (slice_index_or ps 0 blank)) place.file place.line place.name)
+decode (cells.MethodHead method) ps bs = Some (MethodObject (value_of (slice_index_or ps 0 blank)) method)
+decode (cells.RangeHead start stop step) ps bs = Some (RangeObject start stop step)
+decode (cells.ModuleHead name) ps bs = Some (ModuleObject name (dict_in (slice_index_or ps 0 blank)))
+decode _ ps bs = None
+
+-- the same, from the head and both regions whole
+abbrev pub read : ℕ → Cell → List Cell → List ℕ → Option ArenaObject
+read n h cells bytes = decode h (part cells (first n h) (size h)) (part bytes (byte_first n h) (byte_size h))
+
+abbrev pub object_at : List Cell → List ℕ → ℕ → Option ArenaObject
+object_at cells bytes n = read n (heads cells n) cells bytes
+
+abbrev pub objects_of : List Cell → List ℕ → List (Option ArenaObject)
+objects_of cells bytes = map (object_at cells bytes) (range_with_len 0 (length cells))
+
+pub record In (from size c : ℕ) : Type 0 where
+  pub low : from ≤ c
+  pub high : c < from + size
+
+-- regions by the number of their object, all below the limit, no two with a place in common
+pub record Apart (from size : ℕ → ℕ) (limit : ℕ) : Type 0 where
+  pub inside : (n : ℕ) → from n + size n ≤ limit
+  pub apart : (n m c : ℕ) → In (from n) (size n) c → In (from m) (size m) c → n ≡ m
+
+-- what is kept of the heads h of an arena with so many cells and bytes used
+pub record Kept (h : ℕ → Cell) (cells bytes : ℕ) : Type 0 where
+  pub cells_apart : Apart (λ n. first n (h n)) (λ n. size (h n)) cells
+  pub bytes_apart : Apart (λ n. byte_first n (h n)) (λ n. byte_size (h n)) bytes
+  -- no head lies in a region
+  pub plain : (n c : ℕ) → In (first n (h n)) (size (h n)) c → h c ≡ blank
+  pub full : (n : ℕ) → Full (h n)
+
+-- the heap that contracts see
+abbrev pub heap_of : List Cell → List ℕ → ℕ → ℕ → Heap Value ℕ
+heap_of cells bytes cell_size byte_size =
+    record { objects = objects_of cells bytes; bytes = length bytes; cell_size = cell_size; byte_size = byte_size }
+
+-- what is kept of an arena of these sizes, whose vectors have this capacity
+pub record IsArena (cells : List Cell) (bytes : List ℕ) (cell_size byte_size cell_capacity byte_capacity : ℕ) : Type 0 where
+  pub kept : Kept (heads cells) (length cells) (length bytes)
+  pub sound : Sound (objects_of cells bytes)
+  pub cells_fit : length cells ≤ cell_size
+  pub bytes_fit : length bytes ≤ byte_size
+  pub cells_few : cell_size < 2 ^ 32
+  pub bytes_few : byte_size < 2 ^ 32
+  pub cells_taken : cell_size ≤ cell_capacity
+  pub bytes_taken : byte_size ≤ byte_capacity
+
+-- the cells and bytes are kept, and hold these objects
+pub record Holds (cells : List Cell) (bytes : List ℕ) (obs : List (Option ArenaObject)) : Type 0 where
+  pub kept : Kept (heads cells) (length cells) (length bytes)
+  pub objects : objects_of cells bytes ≡ obs

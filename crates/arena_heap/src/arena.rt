@@ -1,0 +1,81 @@
+//! The arena, and what fits it.
+
+ghost use Rattle.std.specs.Prelude.{◌≡◌, ◌^◌, ◌<◌, IfOk, IfErr, OnOk, OnErr};
+ghost use Rattle.mpy_base.specs.Weights.{empty, used, Fits, no_room};
+
+use crate::cells::Cell;
+use mpy_base::{NoMemory, NoRoom, Room};
+use std::alloc::Global;
+use std::marker::Model;
+
+/// A fixed arena, which contracts see as its objects and the room used.
+#[derive(Drop)]
+pub struct Arena {
+    pub(crate) cells: Vec<Cell>,
+    pub(crate) bytes: Vec<u8>,
+    pub(crate) room: Room,
+}
+
+impl Model for Arena {
+    ghost use Rattle.std.specs.Prelude.{ℕ};
+    ghost use Rattle.std.specs.Vec.{vec_capacity};
+    ghost use Rattle.mpy_base.specs.World.{Heap};
+    ghost use Rattle.arena_heap.specs.declared.value.Value.{Value as Item};
+    ghost use Rattle.arena_heap.specs.Cells.{heap_of, IsArena};
+
+    ghost Value = { Heap Item ℕ };
+
+    ghost view = { λ a. heap_of a.cells.items a.bytes.items a.room.cells a.room.bytes };
+
+    ghost invariant = { λ a. IsArena a.cells.items a.bytes.items a.room.cells a.room.bytes (vec_capacity a.cells) (vec_capacity a.bytes) };
+}
+
+impl Arena {
+    /// An empty arena of this room. It takes all its memory here.
+    pub fn new(alloc: Global, room: Room) -> Result<Arena, NoMemory>
+        ensures { IfOk result (λ arena. arena ≡ empty room.cells room.bytes) }
+    {
+        let cells = Vec::with_capacity(alloc, room.cells as usize)?;
+        let bytes = Vec::with_capacity(alloc, room.bytes as usize)?;
+        Ok(Arena { cells, bytes, room })
+    }
+
+    /// The room used.
+    pub fn used(&self) -> Room
+        ensures cells { result.cells ≡ used self.now }
+        ensures bytes { result.bytes ≡ self.now.bytes }
+    {
+        Room {
+            cells: self.cells.len() as u32,
+            bytes: self.bytes.len() as u32,
+        }
+    }
+
+    /// Whether so much more fits.
+    pub(crate) fn ask(&self, cells: u64, bytes: u64) -> Result<(), NoRoom>
+        ensures ok { OnOk result (Fits self.now cells bytes) }
+        ensures told { IfErr result (λ e. e ≡ no_room self.now cells bytes) }
+        ensures err { OnErr result (Fits self.now cells bytes → ⊥) }
+        ensures few { self.now.cell_size < 2 ^ 32 }
+    {
+        let cells_used = self.cells.len() as u32;
+        if cells > (self.room.cells - cells_used) as u64 {
+            return Err(NoRoom {
+                asked: cells,
+                used: cells_used,
+                size: self.room.cells,
+                bytes: false,
+            });
+        }
+        let bytes_used = self.bytes.len() as u32;
+        if bytes > (self.room.bytes - bytes_used) as u64 {
+            return Err(NoRoom {
+                asked: bytes,
+                used: bytes_used,
+                size: self.room.bytes,
+                bytes: true,
+            });
+        }
+        Ok(())
+    }
+}

@@ -1,0 +1,114 @@
+//! What a cell of an arena holds.
+
+ghost use Rattle.std.specs.Prelude.{◌≡◌};
+ghost use Rattle.arena_heap.specs.Cells.{cell_of, value_of};
+
+use crate::value::{
+    ConstNo, DictNo, ExcNo, FunNo, ListNo, MethodNo, ModuleNo, RangeNo, StrNo, TextNo, TupleNo,
+    Value,
+};
+use mpy_base::{Builtin, Kind};
+
+/// Where the items of a list or the pairs of a dict lie. A pair has three cells.
+#[derive(Clone, Copy, Debug)]
+pub(crate) struct Region {
+    pub start: u32,
+    pub len: u32,
+    pub room: u32,
+}
+
+/// Where a text's bytes lie.
+#[derive(Clone, Copy, Debug)]
+pub(crate) struct Span {
+    pub start: u32,
+    pub len: u32,
+}
+
+/// A value, the first cell of an object, or the place of an exception. Values stand here with no enum inside, so that a
+/// cell has 16 bytes.
+#[derive(Clone, Copy, Debug)]
+pub(crate) enum Cell {
+    None,
+    Bool(bool),
+    Int(i32),
+    Pool(u32),
+    Object(ConstNo),
+    Fixed(ConstNo),
+    Empty,
+    List(ListNo),
+    Dict(DictNo),
+    Tuple(TupleNo),
+    Text(TextNo),
+    Fun(FunNo),
+    Exc(ExcNo),
+    Method(MethodNo),
+    Range(RangeNo),
+    Module(ModuleNo),
+    Built(Builtin),
+    ListHead(Region),
+    DictHead(Region),
+    /// How many items follow.
+    TupleHead(u32),
+    TextHead(Span),
+    /// Its namespace and its defaults follow.
+    FunHead { name: u32, module: u32, code: u32 },
+    /// Its arguments and its place follow.
+    ExcHead(Kind),
+    /// The object follows.
+    MethodHead(Builtin),
+    RangeHead { start: i32, stop: i32, step: i32 },
+    /// Its name. Its namespace follows, or None.
+    ModuleHead(u32),
+    Place { file: u32, line: u32, name: u32 },
+}
+
+impl Cell {
+    pub(crate) fn of(v: Value) -> Cell
+        ensures { result ≡ cell_of v }
+    {
+        match v {
+            Value::None => Cell::None,
+            Value::Bool(b) => Cell::Bool(b),
+            Value::Int(n) => Cell::Int(n),
+            Value::Str(StrNo::Pool(n)) => Cell::Pool(n),
+            Value::Str(StrNo::Object(c)) => Cell::Object(c),
+            Value::Fixed(c) => Cell::Fixed(c),
+            Value::Empty => Cell::Empty,
+            Value::List(l) => Cell::List(l),
+            Value::Dict(d) => Cell::Dict(d),
+            Value::Tuple(t) => Cell::Tuple(t),
+            Value::Text(t) => Cell::Text(t),
+            Value::Fun(f) => Cell::Fun(f),
+            Value::Exc(e) => Cell::Exc(e),
+            Value::Method(m) => Cell::Method(m),
+            Value::Range(r) => Cell::Range(r),
+            Value::Module(m) => Cell::Module(m),
+            Value::Built(b) => Cell::Built(b),
+        }
+    }
+
+    /// The value in the cell, and None where it holds none.
+    pub(crate) fn value(self) -> Value
+        ensures { result ≡ value_of self }
+    {
+        match self {
+            Cell::Bool(b) => Value::Bool(b),
+            Cell::Int(n) => Value::Int(n),
+            Cell::Pool(n) => Value::Str(StrNo::Pool(n)),
+            Cell::Object(c) => Value::Str(StrNo::Object(c)),
+            Cell::Fixed(c) => Value::Fixed(c),
+            Cell::Empty => Value::Empty,
+            Cell::List(l) => Value::List(l),
+            Cell::Dict(d) => Value::Dict(d),
+            Cell::Tuple(t) => Value::Tuple(t),
+            Cell::Text(t) => Value::Text(t),
+            Cell::Fun(f) => Value::Fun(f),
+            Cell::Exc(e) => Value::Exc(e),
+            Cell::Method(m) => Value::Method(m),
+            Cell::Range(r) => Value::Range(r),
+            Cell::Module(m) => Value::Module(m),
+            Cell::Built(b) => Value::Built(b),
+            _ => Value::None,
+        }
+    }
+}

@@ -1,0 +1,65 @@
+use super::*;
+use crate::cells::Cell;
+use mpy_base::{Kind, NoRoom, Room};
+use std::test::Fail;
+
+#[test]
+fn a_cell_has_sixteen_bytes(rt: HostRuntime) {
+    assert_eq!(rt; size_of::<Cell>(), 16);
+}
+
+// 3 + 4 cells for the list, 2 cells and 5 bytes for the text, 1 + 2 for the tuple, 6 for the exception.
+#[test]
+fn makings_take_their_weight(rt: HostRuntime) -> Result<(), Fail> {
+    let room = Room {
+        cells: 18,
+        bytes: 5,
+    };
+    let mut arena = Arena::new(rt.alloc(), room)?;
+    let list = arena.make_list(3).ok().ok_or("a list")?;
+    assert_eq!(rt; list.cell, 0);
+    let text = arena.make_text(5).ok().ok_or("a text")?;
+    assert_eq!(rt; text.cell, 7);
+    let tuple = arena.make_tuple(2).ok().ok_or("a tuple")?;
+    assert_eq!(rt; tuple.cell, 9);
+    let full = arena.make_text(1);
+    let asked_byte = NoRoom {
+        asked: 1,
+        used: 5,
+        size: 5,
+        bytes: true,
+    };
+    assert_eq!(rt; full, Err(asked_byte));
+    let error = arena
+        .make_exc(Kind::ValueError, Value::Empty)
+        .ok()
+        .ok_or("an exception")?;
+    assert_eq!(rt; error.cell, 12);
+    let asked_cells = NoRoom {
+        asked: 7,
+        used: 18,
+        size: 18,
+        bytes: false,
+    };
+    assert_eq!(rt; arena.make_list(0), Err(asked_cells));
+    assert_eq!(rt; arena.used(), room);
+    Ok(())
+}
+
+#[test]
+fn more_than_every_number_is_asked(rt: HostRuntime) -> Result<(), Fail> {
+    let room = Room {
+        cells: 1_000,
+        bytes: 0,
+    };
+    let mut arena = Arena::new(rt.alloc(), room)?;
+    let most = NoRoom {
+        asked: u64::MAX,
+        used: 0,
+        size: 1_000,
+        bytes: false,
+    };
+    assert_eq!(rt; arena.make_list(u64::MAX), Err(most));
+    assert_eq!(rt; arena.make_tuple(u64::MAX), Err(most));
+    Ok(())
+}
