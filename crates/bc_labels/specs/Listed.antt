@@ -14,7 +14,7 @@ abbrev pub is_instr : Labelled → Bool
 is_instr (At label) = false
 is_instr item = true
 
--- the instructions in front of the label
+-- how many instructions stand in front of the label
 abbrev pub label_position : List Labelled → ℕ → ℕ
 label_position items label = count_by is_instr (before_first (is_label label) items)
 
