@@ -1,0 +1,15 @@
+use Rattle.std.proofs.Common.{suc}
+use Rattle.bc_flow.specs.Code.{code_of}
+use Rattle.bc_flow.specs.Verified.{Comes, PendingFrom}
+use Rattle.bc_flow.specs.Views.{table_of}
+use Rattle.bc_flow.proofs.Puts.{weigh}
+use Rattle.bc_flow.proofs.walk.flow.Given as goal
+
+abbrev pub invariant-loop-p : goal.invariant-loop-p
+invariant-loop-p l = record {
+  comes : Comes (code_of l.code) (table_of l.states.items);
+  front : PendingFrom (table_of l.states.items) l.from;
+}
+
+abbrev pub decreases-loop-p : goal.decreases-loop-p
+decreases-loop-p l = weigh (suc l.code.n_state) (table_of l.states.items)

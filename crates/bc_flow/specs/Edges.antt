@@ -1,0 +1,230 @@
+-- What one instruction asks of the slots and entries before it, and where it leads.
+use Rattle.std.specs.Prelude.{ℕ, zero, suc, ◌+◌, ◌-◌, min, Bool, true, false, not, ◌&&◌, ◌||◌, List, [], ◌∷◌, ◌++◌, length, map, drop, replicate, Option, Some, None, nat_eq, nat_le, nat_lt, if◌then◌else◌}
+use Rattle.bc_flow.specs.declared.kinds.Kind.{Kind}
+use Rattle.bc_flow.specs.declared.kinds.Kind.TheVariants as kinds
+use Rattle.bc_flow.specs.declared.kinds.Want.{Want}
+use Rattle.bc_flow.specs.declared.kinds.Want.TheVariants as wants
+use Rattle.bc_flow.specs.declared.kinds.Give.{Give}
+use Rattle.bc_flow.specs.declared.shape.Entry.{Entry}
+use Rattle.bc_flow.specs.declared.edges.Change.{Change}
+use Rattle.bc_flow.specs.declared.edges.Change.TheVariants.{Keep, Push, DropExcept, DropActive, Leave}
+use Rattle.bc_flow.specs.Action.{Action, Straight, Branch, Jump, Setup, PopExcept, EndFinally, Unwind, Return, Raise, iterator, takes as values_on}
+use Rattle.bc_flow.specs.Code.{Code}
+use Rattle.bc_flow.specs.Shape.{At, fits, after}
+
+abbrev pub iterator_if : Bool → List Want
+iterator_if true = iterator
+iterator_if false = []
+
+unfoldable pub takes : Action → List Want
+takes (Straight wants given) = wants
+takes (Branch wants given there to) = wants
+takes EndFinally = wants.Cause ∷ []
+takes (Unwind to count takes_it) = iterator_if takes_it
+takes Return = wants.Value ∷ []
+takes (Raise count) = values_on count []
+takes _ = []
+
+-- what is given where the flow goes on to the next instruction
+unfoldable pub gives : Action → List Give
+gives (Straight wants given) = given
+gives (Branch wants given there to) = given
+gives _ = []
+
+-- and where it jumps
+unfoldable pub gives_there : Action → List Give
+gives_there (Branch wants given there to) = there
+gives_there _ = []
+
+-- does the flow go on to the next instruction?
+unfoldable pub falls : Action → Bool
+falls (Jump to) = false
+falls (PopExcept to) = false
+falls (Unwind to count takes_it) = false
+falls Return = false
+falls (Raise count) = false
+falls _ = true
+
+-- where it jumps
+unfoldable pub target : Action → Option ℕ
+target (Branch wants given there to) = Some to
+target (Jump to) = Some to
+target (PopExcept to) = Some to
+target (Unwind to count takes_it) = Some to
+target _ = None
+
+-- what it does with the entries
+unfoldable pub change : Action → Change
+change (Setup handler is_finally) = Push handler is_finally
+change (PopExcept to) = DropExcept
+change EndFinally = DropActive
+change (Unwind to count takes_it) = Leave count
+change _ = Keep
+
+-- among how many of so many entries it runs the finallys
+unfoldable pub runs : Action → ℕ → ℕ
+runs Return n = n
+runs (Unwind to count takes_it) n = count
+runs _ n = 0
+
+abbrev pub rest_of : List Entry → List Entry
+rest_of [] = []
+rest_of (e ∷ es) = es
+
+abbrev pub floor : List Entry → ℕ
+floor [] = 0
+floor (e ∷ es) = e.height
+
+-- the entries behind it, where so many slots are before it
+abbrev pub behind : Change → ℕ → List Entry → List Entry
+behind Keep n es = es
+behind (Push h last) n es = record { handler = h; is_finally = last; active = false; height = n } ∷ es
+behind DropExcept n es = rest_of es
+behind DropActive n es = rest_of es
+behind (Leave k) n es = drop k es
+
+abbrev pub top_is_except : List Entry → Bool
+top_is_except [] = false
+top_is_except (e ∷ es) = not e.is_finally
+
+abbrev pub top_is_active : List Entry → Bool
+top_is_active [] = false
+top_is_active (e ∷ es) = e.active
+
+abbrev pub asks : Change → List Entry → Bool
+asks Keep es = true
+asks (Push h last) es = true
+asks DropExcept es = top_is_except es
+asks DropActive es = top_is_active es
+asks (Leave k) es = nat_le k (length es)
+
+abbrev pub floor_of : Change → List Entry → ℕ
+floor_of (Leave k) es = floor (drop k es)
+floor_of _ es = floor es
+
+-- how many slots are left when so many entries are left, each with a cut
+abbrev pub lowest : ℕ → List Entry → ℕ → ℕ
+lowest zero es n = n
+lowest (suc k) [] n = n
+lowest (suc k) (e ∷ es) n = lowest k es (min e.height n)
+
+abbrev pub left : Change → List Entry → ℕ → ℕ
+left (Leave k) es n = lowest k es n
+left _ es n = n
+
+-- the entry that is dropped leaves its height
+abbrev pub leaves : Change → List Entry → ℕ → Bool
+leaves DropExcept es n = nat_eq n (floor es)
+leaves DropActive es n = nat_eq n (floor es)
+leaves _ es n = true
+
+-- where the slots of an edge come from: the next instruction's, the jump's, or a handler's over so many slots
+pub data How : Type 0 where
+  Next : How
+  There : How
+  Run : ℕ → Bool → How
+
+-- an edge without its slots
+pub record Way : Type 0 where
+  pub to : ℕ
+  pub entries : List Entry
+  pub how : How
+
+abbrev pub mark : ℕ → Entry → Entry
+mark to e = record e { active = e.active || nat_eq e.handler to }
+
+abbrev pub arrive : ℕ → List Entry → How → Way
+arrive to es how = record { to = to; entries = map (mark to) es; how = how }
+
+abbrev pub way_in : Entry → List Entry → Way
+way_in e es = arrive e.handler (record e { active = true } ∷ es) (Run e.height e.is_finally)
+
+-- a raise goes to the topmost entry that isn't active
+abbrev pub raise_ways : List Entry → List Way
+raise_ways [] = []
+raise_ways (e ∷ es) = if e.active then raise_ways es else (way_in e es ∷ [])
+
+abbrev pub one_run : Entry → List Entry → List Way
+one_run e es = if e.is_finally && not e.active then (way_in e es ∷ []) else []
+
+-- the finallys among so many entries
+abbrev pub run_ways : ℕ → List Entry → List Way
+run_ways zero es = []
+run_ways (suc n) [] = []
+run_ways (suc n) (e ∷ es) = one_run e es ++ run_ways n es
+
+abbrev pub next_way : Bool → ℕ → List Entry → List Way
+next_way true p es = arrive (suc p) es Next ∷ []
+next_way false p es = []
+
+abbrev pub jump_way : Option ℕ → List Entry → List Way
+jump_way (Some t) es = arrive t es There ∷ []
+jump_way None es = []
+
+-- all edges that leave a position, with the entries that arrive, where so many slots are before it
+unfoldable pub ways : Code → Action → ℕ → ℕ → List Entry → List Way
+ways code i p n es = next_way (falls i && nat_lt (suc p) (length code.actions)) p (behind (change i) n es) ++ jump_way (target i) (behind (change i) n es) ++ raise_ways es ++ run_ways (runs i (length es)) es
+
+abbrev pub is_marked : ℕ → List Entry → Bool
+is_marked to [] = true
+is_marked to (e ∷ es) = (if e.active then nat_le e.handler to else nat_lt to e.handler) && is_marked to es
+
+abbrev pub all_marked : List Way → Bool
+all_marked [] = true
+all_marked (w ∷ ws) = is_marked w.to w.entries && all_marked ws
+
+-- rule 3, but for the entries that meet
+unfoldable pub holds : Code → Action → ℕ → ℕ → List Entry → Bool
+holds code i p n es = asks (change i) es && nat_le (length (behind (change i) n es)) code.n_exc && all_marked (ways code i p n es)
+
+-- the slots that it works on
+unfoldable pub base : Action → At → List Kind
+base i x = drop (length x.slots - left (change i) x.entries (length x.slots)) x.slots
+
+-- none of the slots that it takes lies below the top entry's height, where so many of so many are taken
+abbrev pub deep : Change → List Entry → ℕ → ℕ → Bool
+deep c es taken n = nat_le taken n && nat_le (floor_of c es) (n - taken) && leaves c es (n - taken)
+
+-- rule 2, but for the shapes that meet
+unfoldable pub finds : Action → At → Bool
+finds i x = fits (takes i) (base i x) && deep (change i) x.entries (length (takes i)) (length (base i x))
+
+abbrev pub pushed : Bool → List Kind → List Kind
+pushed true ks = kinds.Cause ∷ ks
+pushed false ks = kinds.Either ∷ ks
+
+unfoldable pub slots_of : Action → At → How → List Kind
+slots_of i x Next = after (gives i) (length (takes i)) (base i x)
+slots_of i x There = after (gives_there i) (length (takes i)) (base i x)
+slots_of i x (Run h last) = pushed last (drop (length x.slots - h) x.slots)
+
+-- is there room for so many slots before an instruction, behind it and where it jumps?
+abbrev pub has_room : ℕ → ℕ → ℕ → ℕ → ℕ → Bool
+has_room locals n_state before next there = nat_le (locals + before) n_state && nat_le (locals + next) n_state && nat_le (locals + there) n_state
+
+-- rule 6
+unfoldable pub room : Code → Action → At → Bool
+room code i x = has_room code.locals code.n_state (length x.slots) (length (slots_of i x Next)) (length (slots_of i x There))
+
+-- rule 4
+unfoldable pub stays : Code → Action → ℕ → Bool
+stays code i p = not (falls i) || nat_lt (suc p) (length code.actions)
+
+pub record Edge : Type 0 where
+  pub to : ℕ
+  pub at : At
+
+abbrev pub edge_of : Action → At → Way → Edge
+edge_of i x w = record { to = w.to; at = record { slots = slots_of i x w.how; entries = w.entries } }
+
+abbrev pub edges : Code → Action → ℕ → At → List Edge
+edges code i p x = map (edge_of i x) (ways code i p (length x.slots) x.entries)
+
+-- the same marks of the edges
+abbrev pub edges_marked : List Edge → Bool
+edges_marked [] = true
+edges_marked (e ∷ es) = is_marked e.to e.at.entries && edges_marked es
+
+-- rule 3 by these edges
+abbrev pub holds_over : Code → Action → At → List Edge → Bool
+holds_over code i x es = asks (change i) x.entries && nat_le (length (behind (change i) (length x.slots) x.entries)) code.n_exc && edges_marked es

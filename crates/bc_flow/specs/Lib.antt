@@ -1,0 +1,9 @@
+pub mod Action
+pub mod Code
+pub mod Edges
+pub mod Judged
+pub mod Machine
+pub mod Rules
+pub mod Shape
+pub mod Verified
+pub mod Views

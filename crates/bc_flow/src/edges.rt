@@ -1,0 +1,388 @@
+//! Where the flow goes from an instruction, and the handler entries and slots that arrive there.
+
+ghost use Rattle.std.specs.Prelude.{◌≡◌, ◌+◌, ◌-◌, ◌^◌, ◌<◌, ◌≤◌, ◌++◌, ◌∷◌, [], IfOk, OnOk, ℕ, List, drop, length, map, min, Some, true};
+ghost use Rattle.bc_flow.specs.Action.{Action as Does};
+ghost use Rattle.bc_flow.specs.Edges as specs;
+ghost use Rattle.bc_flow.specs.Code.{code_of};
+ghost use Rattle.bc_flow.specs.Shape.{At};
+ghost use Rattle.bc_flow.specs.Views.{action_of, at_of, edge_of_rust, takes_of, gives_of, behind_of};
+
+use crate::action::{Action, Gives, Takes};
+use crate::code::Code;
+use crate::kinds::{Kind, Want};
+use crate::shape::{Entry, Shape, after, below};
+use mpy_base::NoMemory;
+use std::alloc::Global;
+
+/// What an instruction does with the entries.
+#[derive(Clone, Copy)]
+pub(crate) enum Change {
+    Keep,
+    /// Pushes the entry of a handler, which is a finally handler or not.
+    Push(usize, bool),
+    /// Drops the top entry, which is an except entry.
+    DropExcept,
+    /// Drops the top entry, which is active.
+    DropActive,
+    /// Drops so many entries, each with a cut to its height.
+    Leave(usize),
+}
+
+/// A position that the flow goes to, and what arrives there.
+#[derive(Drop)]
+pub(crate) struct Edge {
+    pub to: usize,
+    pub at: Shape,
+}
+
+/// Entries as a new one, if there is one, on others.
+#[derive(Clone, Copy)]
+pub(crate) struct Behind<'a> {
+    pub new: Option<Entry>,
+    pub rest: &'a [Entry],
+}
+
+impl<'a> Behind<'a> {
+    ghost use Rattle.std.specs.Prelude.{◌≡◌, length};
+    ghost use Rattle.bc_flow.specs.Views.{behind_of};
+
+    pub(crate) fn len(self) -> usize
+        ensures { result ≡ length (behind_of self.entry) }
+    {
+        match self.new {
+            Some(_) => self.rest.len() + 1,
+            None => self.rest.len(),
+        }
+    }
+}
+
+/// What it takes from the top.
+#[tactic(auto, unfolding(crate::specs::Edges::takes))]
+pub(crate) fn takes(action: &Action) -> Takes
+    ensures { takes_of result ≡ specs.takes (action_of action.now) }
+{
+    match *action {
+        Action::Straight(takes, _) | Action::Branch(takes, _, _, _) => takes,
+        Action::EndFinally => Takes {
+            values: 0,
+            others: &[Want::Cause],
+        },
+        Action::Unwind(_, _, true) => Takes {
+            values: 0,
+            others: &[Want::Iter4, Want::Iter3, Want::Iter2, Want::Iter1],
+        },
+        Action::Return => Takes {
+            values: 0,
+            others: &[Want::Value],
+        },
+        Action::Raise(values) => Takes {
+            values,
+            others: &[],
+        },
+        _ => Takes {
+            values: 0,
+            others: &[],
+        },
+    }
+}
+
+/// What it gives where the flow goes on.
+#[tactic(auto, unfolding(crate::specs::Edges::gives))]
+pub(crate) fn gives(action: &Action) -> Gives
+    ensures { gives_of result ≡ specs.gives (action_of action.now) }
+{
+    match *action {
+        Action::Straight(_, gives) | Action::Branch(_, gives, _, _) => gives,
+        _ => Gives {
+            values: 0,
+            others: &[],
+        },
+    }
+}
+
+/// What it gives where it jumps.
+#[tactic(auto, unfolding(crate::specs::Edges::gives_there))]
+pub(crate) fn gives_there(action: &Action) -> Gives
+    ensures { gives_of result ≡ specs.gives_there (action_of action.now) }
+{
+    match *action {
+        Action::Branch(_, _, there, _) => there,
+        _ => Gives {
+            values: 0,
+            others: &[],
+        },
+    }
+}
+
+/// Does the flow go on to the next instruction?
+#[tactic(auto, unfolding(crate::specs::Edges::falls))]
+pub(crate) fn falls(action: &Action) -> bool
+    ensures { result ≡ specs.falls (action_of action.now) }
+{
+    !matches!(
+        action,
+        Action::Jump(_)
+            | Action::PopExcept(_)
+            | Action::Unwind(_, _, _)
+            | Action::Return
+            | Action::Raise(_)
+    )
+}
+
+/// Where it jumps.
+#[tactic(auto, unfolding(crate::specs::Edges::target))]
+fn target(action: &Action) -> Option<usize>
+    ensures { result ≡ specs.target (action_of action.now) }
+{
+    match *action {
+        Action::Branch(_, _, _, to)
+        | Action::Jump(to)
+        | Action::PopExcept(to)
+        | Action::Unwind(to, _, _) => Some(to),
+        _ => None,
+    }
+}
+
+/// What it does with the entries.
+#[tactic(auto, unfolding(crate::specs::Edges::change))]
+pub(crate) fn change_of(action: &Action) -> Change
+    ensures { result ≡ specs.change (action_of action.now) }
+{
+    match *action {
+        Action::Setup(handler, is_finally) => Change::Push(handler, is_finally),
+        Action::PopExcept(_) => Change::DropExcept,
+        Action::EndFinally => Change::DropActive,
+        Action::Unwind(_, count, _) => Change::Leave(count),
+        _ => Change::Keep,
+    }
+}
+
+/// Among how many of so many entries it runs the finallys.
+#[tactic(auto, unfolding(crate::specs::Edges::runs))]
+fn runs(action: &Action, entries: usize) -> usize
+    ensures { result ≡ specs.runs (action_of action.now) entries }
+{
+    match *action {
+        Action::Return => entries,
+        Action::Unwind(_, count, _) => count,
+        _ => 0,
+    }
+}
+
+/// The entries behind an instruction, where so many slots are before it.
+#[tactic(auto, using(crate::proofs::Loops::rest_drop))]
+pub(crate) fn entries_behind<'a>(change: Change, slots: usize, entries: &'a [Entry]) -> Behind<'a>
+    ensures { behind_of result ≡ specs.behind change slots entries.now }
+{
+    match change {
+        Change::Keep => Behind {
+            new: None,
+            rest: entries,
+        },
+        Change::Push(handler, is_finally) => Behind {
+            new: Some(Entry {
+                handler,
+                is_finally,
+                active: false,
+                height: slots,
+            }),
+            rest: entries,
+        },
+        Change::DropExcept | Change::DropActive => Behind {
+            new: None,
+            rest: below(entries, 1),
+        },
+        Change::Leave(count) => Behind {
+            new: None,
+            rest: below(entries, count),
+        },
+    }
+}
+
+/// An entry where the flow arrives: its handler's position makes it active.
+fn mark(to: usize, entry: Entry) -> Entry
+    ensures { result ≡ specs.mark to entry }
+{
+    Entry {
+        handler: entry.handler,
+        is_finally: entry.is_finally,
+        active: entry.active || entry.handler == to,
+        height: entry.height,
+    }
+}
+
+/// The edge to the position with these slots.
+fn arrive(
+    alloc: Global,
+    to: usize,
+    entries: Behind,
+    slots: Vec<Kind>,
+) -> Result<Edge, NoMemory>
+    ensures { IfOk result (λ e. edge_of_rust e ≡ record { to = to; at = record { slots = slots.items; entries = map (specs.mark to) (behind_of entries.entry) } }) }
+{
+    let mut marked = Vec::new(alloc);
+    if let Some(entry) = entries.new {
+        marked.push(mark(to, entry))?;
+    }
+    for entry in entries.rest {
+        marked.push(mark(to, *entry))?;
+    }
+    Ok(Edge {
+        to,
+        at: Shape {
+            slots,
+            entries: marked,
+        },
+    })
+}
+
+/// The slots that a handler begins with.
+fn pushed(
+    alloc: Global,
+    is_finally: bool,
+    slots: &[Kind],
+    height: usize,
+) -> Result<Vec<Kind>, NoMemory>
+    ensures { IfOk result (λ v. v.items ≡ specs.pushed is_finally (drop (length slots.now - height) slots.now)) }
+{
+    let cause = if is_finally {
+        Kind::Cause
+    } else {
+        Kind::Either
+    };
+    let mut v = Vec::new(alloc);
+    v.push(cause)?;
+    v.extend_from_slice(&slots[slots.len().saturating_sub(height)..])?;
+    Ok(v)
+}
+
+/// The edge into a handler, over these entries.
+#[tactic(auto, unfolding(crate::specs::Edges::slots_of))]
+fn enter(alloc: Global, x: &Shape, entry: Entry, below: &[Entry]) -> Result<Edge, NoMemory>
+    ensures { (a : Does) → IfOk result (λ e. edge_of_rust e ≡ specs.edge_of a (at_of x.now) (specs.way_in entry below.now)) }
+{
+    let active = Entry {
+        handler: entry.handler,
+        is_finally: entry.is_finally,
+        active: true,
+        height: entry.height,
+    };
+    let entries = Behind {
+        new: Some(active),
+        rest: below,
+    };
+    let slots = pushed(alloc, entry.is_finally, &x.slots, entry.height)?;
+    arrive(alloc, entry.handler, entries, slots)
+}
+
+/// Adds the edge to the handler of the topmost entry that isn't active.
+fn push_raise(alloc: Global, edges: &mut Vec<Edge>, x: &Shape) -> Result<(), NoMemory>
+    ensures { (a : Does) → OnOk result (map edge_of_rust edges.new.items ≡ map edge_of_rust edges.old.items ++ map (specs.edge_of a (at_of x.now)) (specs.raise_ways x.now.entries.items)) }
+{
+    for (i, entry) in x.entries.iter().enumerate() {
+        if !entry.active {
+            let edge = enter(alloc, x, *entry, &x.entries[i + 1..])?;
+            edges.push(edge)?;
+            return Ok(());
+        }
+    }
+    Ok(())
+}
+
+/// Adds the edge to the handler of an entry, if that is a finally handler that runs.
+fn push_run(
+    alloc: Global,
+    edges: &mut Vec<Edge>,
+    x: &Shape,
+    entry: Entry,
+    below: &[Entry],
+) -> Result<(), NoMemory>
+    ensures { (a : Does) → OnOk result (map edge_of_rust edges.new.items ≡ map edge_of_rust edges.old.items ++ map (specs.edge_of a (at_of x.now)) (specs.one_run entry below.now)) }
+{
+    if entry.is_finally && !entry.active {
+        let edge = enter(alloc, x, entry, below)?;
+        edges.push(edge)?;
+    }
+    Ok(())
+}
+
+/// Adds those to the finally handlers that run among so many entries from the top.
+#[tactic(auto, using(crate::proofs::Loops::runs_end))]
+fn push_runs(
+    alloc: Global,
+    edges: &mut Vec<Edge>,
+    x: &Shape,
+    entries: &[Entry],
+    count: usize,
+) -> Result<(), NoMemory>
+    ensures { (a : Does) → OnOk result (map edge_of_rust edges.new.items ≡ map edge_of_rust edges.old.items ++ map (specs.edge_of a (at_of x.now)) (specs.run_ways count entries.now)) }
+{
+    for (i, entry) in entries.iter().enumerate() {
+        if i >= count {
+            return Ok(());
+        }
+        push_run(alloc, edges, x, *entry, below(entries, i + 1))?;
+    }
+    Ok(())
+}
+
+/// Adds the edge to the next position, if the flow goes on.
+fn push_next(
+    alloc: Global,
+    edges: &mut Vec<Edge>,
+    action: &Action,
+    p: usize,
+    behind: Behind,
+    base: &[Kind],
+) -> Result<(), NoMemory>
+    requires { p + 1 < 2 ^ 64 }
+    ensures { (x : At) → base.now ≡ specs.base (action_of action.now) x → OnOk result (map edge_of_rust edges.new.items ≡ map edge_of_rust edges.old.items ++ map (specs.edge_of (action_of action.now) x) (specs.next_way true p (behind_of behind.entry))) }
+{
+    let slots = after(alloc, gives(action), takes(action).len(), base)?;
+    let edge = arrive(alloc, p + 1, behind, slots)?;
+    edges.push(edge)?;
+    Ok(())
+}
+
+/// Adds the edge to the position that it jumps to, if it does.
+fn push_jump(
+    alloc: Global,
+    edges: &mut Vec<Edge>,
+    action: &Action,
+    behind: Behind,
+    base: &[Kind],
+) -> Result<(), NoMemory>
+    ensures { (x : At) → base.now ≡ specs.base (action_of action.now) x → OnOk result (map edge_of_rust edges.new.items ≡ map edge_of_rust edges.old.items ++ map (specs.edge_of (action_of action.now) x) (specs.jump_way (specs.target (action_of action.now)) (behind_of behind.entry))) }
+{
+    if let Some(to) = target(action) {
+        let slots = after(alloc, gives_there(action), takes(action).len(), base)?;
+        let edge = arrive(alloc, to, behind, slots)?;
+        edges.push(edge)?;
+    }
+    Ok(())
+}
+
+/// All edges that leave a position, with what arrives.
+#[tactic(auto, unfolding(crate::specs::Edges::ways))]
+pub(crate) fn edges(
+    alloc: Global,
+    code: &Code,
+    action: &Action,
+    p: usize,
+    x: &Shape,
+    base: &[Kind],
+) -> Result<Vec<Edge>, NoMemory>
+    requires within { p < length code.now.items.items }
+    requires base_is { base.now ≡ specs.base (action_of action.now) (at_of x.now) }
+    ensures { IfOk result (λ v. map edge_of_rust v.items ≡ specs.edges (code_of code.now) (action_of action.now) p (at_of x.now)) }
+{
+    let mut edges = Vec::new(alloc);
+    let behind = entries_behind(change_of(action), x.slots.len(), &x.entries);
+    if falls(action) && p + 1 < code.items.len() {
+        push_next(alloc, &mut edges, action, p, behind, base)?;
+    }
+    push_jump(alloc, &mut edges, action, behind, base)?;
+    push_raise(alloc, &mut edges, x)?;
+    push_runs(alloc, &mut edges, x, &x.entries, runs(action, x.entries.len()))?;
+    Ok(edges)
+}

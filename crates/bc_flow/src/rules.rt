@@ -1,0 +1,198 @@
+//! The rules on one position.
+
+ghost use Rattle.std.specs.Prelude.{◌≡◌, ◌+◌, ◌-◌, ◌<◌, ◌≤◌, ℕ, drop, length, map, min, nat_le, ◌&&◌, List, IfOk};
+ghost use Rattle.bc_flow.specs.Edges as specs;
+ghost use Rattle.bc_flow.specs.Code.{code_of, locals};
+ghost use Rattle.bc_flow.specs.Views.{action_of, at_of, edge_of_rust};
+
+use crate::action::Action;
+use crate::code::Code;
+use crate::edges::{Change, Edge, change_of, entries_behind, falls, gives, gives_there, takes};
+use crate::kinds::Kind;
+use crate::shape::{Entry, Shape, fits};
+
+/// Does it find the entries that it asks for?
+fn asks(change: Change, entries: &[Entry]) -> bool
+    ensures { result ≡ specs.asks change entries.now }
+{
+    match change {
+        Change::Keep | Change::Push(_, _) => true,
+        Change::DropExcept => match entries {
+            [top, ..] => !top.is_finally,
+            [] => false,
+        },
+        Change::DropActive => match entries {
+            [top, ..] => top.active,
+            [] => false,
+        },
+        Change::Leave(count) => count <= entries.len(),
+    }
+}
+
+/// Is each entry active exactly from its handler's position on?
+#[tactic(auto, using(crate::proofs::Loops::marked_step, crate::proofs::Loops::and_first))]
+fn is_marked(to: usize, entries: &[Entry]) -> bool
+    ensures { result ≡ specs.is_marked to entries.now }
+{
+    for entry in entries {
+        let right = if entry.active {
+            entry.handler <= to
+        } else {
+            to < entry.handler
+        };
+        if !right {
+            return false;
+        }
+    }
+    true
+}
+
+fn all_marked(edges: &[Edge]) -> bool
+    ensures { result ≡ specs.edges_marked (map edge_of_rust edges.now) }
+{
+    for edge in edges {
+        if !is_marked(edge.to, &edge.at.entries) {
+            return false;
+        }
+    }
+    true
+}
+
+/// Rule 3, but for the entries that meet.
+pub(crate) fn holds(code: &Code, action: &Action, x: &Shape, edges: &[Edge]) -> bool
+    ensures { result ≡ specs.holds_over (code_of code.now) (action_of action.now) (at_of x.now) (map edge_of_rust edges.now) }
+{
+    let behind = entries_behind(change_of(action), x.slots.len(), &x.entries);
+    asks(change_of(action), &x.entries) && behind.len() <= code.n_exc && all_marked(edges)
+}
+
+/// The height of the entry below so many others.
+#[tactic(auto, using(crate::proofs::Loops::floor_at, crate::proofs::Loops::floor_past))]
+fn floor_below(entries: &[Entry], n: usize) -> usize
+    ensures { result ≡ specs.floor (drop n entries.now) }
+{
+    if n < entries.len() {
+        entries[n].height
+    } else {
+        0
+    }
+}
+
+/// The height of the top entry that remains.
+fn floor(change: Change, entries: &[Entry]) -> usize
+    ensures { result ≡ specs.floor_of change entries.now }
+{
+    match change {
+        Change::Leave(count) => floor_below(entries, count),
+        _ => floor_below(entries, 0),
+    }
+}
+
+fn lower(a: usize, b: usize) -> usize
+    ensures { result ≡ min a b }
+{
+    a.min(b)
+}
+
+/// How many slots are left when so many entries are left.
+#[tactic(auto, using(crate::proofs::Loops::lowest_end))]
+fn lowest(count: usize, entries: &[Entry], slots: usize) -> usize
+    ensures { result ≡ specs.lowest count entries.now slots }
+{
+    let mut least = slots;
+    for (i, entry) in entries.iter().enumerate() {
+        if i >= count {
+            return least;
+        }
+        least = lower(entry.height, least);
+    }
+    least
+}
+
+fn left(change: Change, entries: &[Entry], slots: usize) -> usize
+    ensures { result ≡ specs.left change entries.now slots }
+{
+    match change {
+        Change::Leave(count) => lowest(count, entries, slots),
+        _ => slots,
+    }
+}
+
+/// Does the entry that is dropped leave its height?
+fn leaves(change: Change, entries: &[Entry], slots: usize) -> bool
+    ensures { result ≡ specs.leaves change entries.now slots }
+{
+    match change {
+        Change::DropExcept | Change::DropActive => slots == floor_below(entries, 0),
+        _ => true,
+    }
+}
+
+/// The slots that it works on.
+#[tactic(auto, unfolding(crate::specs::Edges::base))]
+pub(crate) fn base<'a>(action: &Action, x: &'a Shape) -> &'a [Kind]
+    ensures { result.now ≡ specs.base (action_of action.now) (at_of x.now) }
+{
+    let slots = x.slots.len();
+    let left = left(change_of(action), &x.entries, slots);
+    &x.slots[slots.saturating_sub(left)..]
+}
+
+/// Does none of the slots that are taken lie below the height of the top entry that remains?
+fn deep(change: Change, entries: &[Entry], taken: usize, slots: usize) -> bool
+    ensures { result ≡ specs.deep change entries.now taken slots }
+{
+    if taken <= slots {
+        let left = slots - taken;
+        floor(change, entries) <= left && leaves(change, entries, left)
+    } else {
+        false
+    }
+}
+
+/// Rule 2, but for the shapes that meet.
+#[tactic(auto, unfolding(crate::specs::Edges::finds))]
+pub(crate) fn finds(action: &Action, x: &Shape, base: &[Kind]) -> bool
+    requires { base.now ≡ specs.base (action_of action.now) (at_of x.now) }
+    ensures { result ≡ specs.finds (action_of action.now) (at_of x.now) }
+{
+    let takes = takes(action);
+    fits(takes, base) && deep(change_of(action), &x.entries, takes.len(), base.len())
+}
+
+/// Is there room for so many slots beside the locals?
+fn has_room(locals: usize, slots: usize, n_state: usize) -> bool
+    ensures { result ≡ nat_le (locals + slots) n_state }
+{
+    slots <= n_state && locals <= n_state - slots
+}
+
+/// Is there room before an instruction, behind it and where it jumps?
+fn has_all_room(code: &Code, locals: usize, before: usize, next: usize, there: usize) -> bool
+    ensures { result ≡ specs.has_room locals code.now.n_state before next there }
+{
+    has_room(locals, before, code.n_state)
+        && has_room(locals, next, code.n_state)
+        && has_room(locals, there, code.n_state)
+}
+
+/// Rule 6.
+pub(crate) fn room(code: &Code, locals: usize, action: &Action, x: &Shape, base: &[Kind]) -> bool
+    requires base_is { base.now ≡ specs.base (action_of action.now) (at_of x.now) }
+    requires locals_are { locals ≡ (code_of code.now).locals }
+    ensures { result ≡ specs.room (code_of code.now) (action_of action.now) (at_of x.now) }
+{
+    let left = base.len().saturating_sub(takes(action).len());
+    let next = gives(action).len() + left;
+    let there = gives_there(action).len() + left;
+    has_all_room(code, locals, x.slots.len(), next, there)
+}
+
+/// Rule 4.
+#[tactic(auto, unfolding(crate::specs::Edges::stays))]
+pub(crate) fn stays(code: &Code, action: &Action, p: usize) -> bool
+    requires { p < length code.now.items.items }
+    ensures { result ≡ specs.stays (code_of code.now) (action_of action.now) p }
+{
+    !falls(action) || p + 1 < code.items.len()
+}

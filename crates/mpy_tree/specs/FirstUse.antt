@@ -1,0 +1,56 @@
+-- Tables in the order of first use.
+use Rattle.std.specs.Prelude.{◌≡◌, ◌⊎◌, ℕ, List, [], ◌∷◌, ◌++◌, map, Some, Contains}
+use Rattle.std.specs.List.{flat_map}
+use Rattle.mpy_tree.specs.declared.module.Constant.{Constant}
+use Rattle.mpy_tree.specs.Raw.{Module, text_of}
+use Rattle.mpy_tree.specs.File.{IsFile}
+use Rattle.mpy_tree.specs.Resolved.{Resolved, named, object, Body, Tree, node, Trees, no_more, more, ResolvedModule, Resolves}
+
+-- the texts and objects that instructions name
+abbrev pub text_in : Resolved → List (List ℕ)
+text_in (named op text) = text ∷ []
+text_in instr = []
+
+abbrev pub object_in : Resolved → List Constant
+object_in (object constant) = constant ∷ []
+object_in instr = []
+
+-- those of a code without its children: its name, its arguments, and its instructions in their order
+abbrev pub body_texts : Body → List (List ℕ)
+body_texts body = body.name ∷ (body.args ++ flat_map text_in body.instrs)
+
+abbrev pub body_objects : Body → List Constant
+body_objects body = flat_map object_in body.instrs
+
+-- those of a code and then of its children, one after another
+abbrev mutual
+  pub in_tree : {A : Type 0} → (Body → List A) → Tree → List A
+  in_tree of_body (node body children) = of_body body ++ in_trees of_body children
+
+  pub in_trees : {A : Type 0} → (Body → List A) → Trees → List A
+  in_trees of_body no_more = []
+  in_trees of_body (more tree trees) = in_tree of_body tree ++ in_trees of_body trees
+
+abbrev pub texts_used : ResolvedModule → List (List ℕ)
+texts_used tree = tree.source ∷ in_tree body_texts tree.code
+
+abbrev pub objects_used : ResolvedModule → List Constant
+objects_used tree = in_tree body_objects tree.code
+
+-- the list has each of those that are used behind the ones before, once, in the order of their first use
+abbrev pub FirstUsed : {A : Type 0} → List A → List A → List A → Type 0
+FirstUsed before [] table = table ≡ []
+FirstUsed before (used ∷ others) table =
+    (Contains before used × FirstUsed before others table)
+    ⊎ ((Contains before used → ⊥) × (rest : _) × (table ≡ used ∷ rest) × FirstUsed (before ++ used ∷ []) others rest)
+
+-- the texts and the objects of the file are those that are used, each once, in the order of first use
+pub record InFirstUse (bytes : List ℕ) : Type 0 where
+  pub m : Module
+  pub tree : ResolvedModule
+  pub is_file : IsFile bytes m
+  pub resolves : Resolves m tree
+  pub texts : List (List ℕ)
+  pub texts_are : map text_of m.qstrs ≡ map Some texts
+  pub texts_used_first : FirstUsed [] (texts_used tree) texts
+  pub objects_used_first : FirstUsed [] (objects_used tree) m.objects

@@ -1,0 +1,5 @@
+pub mod Canonical
+pub mod File
+pub mod FirstUse
+pub mod Raw
+pub mod Resolved

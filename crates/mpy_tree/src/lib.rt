@@ -1,0 +1,8 @@
+//! Modules: as a tree with texts, objects and positions in it, and as a file holds them.
+#![tactic(auto)]
+
+mod module;
+mod raw;
+
+pub use module::{Code, Constant, Item, ModuleCode};
+pub use raw::{Qstr, RawCode, RawModule, module_law};

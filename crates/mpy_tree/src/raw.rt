@@ -1,0 +1,99 @@
+//! Modules as a file holds them.
+
+ghost use Rattle.std.specs.Prelude.{◌≡◌};
+ghost use Rattle.mpy_tree.specs.File.{IsModule};
+
+use crate::module::Constant;
+use mpy_base::{Items, Text};
+use std::marker::Model;
+
+/// An entry of a file's table of texts.
+#[derive(Drop)]
+pub enum Qstr {
+    /// The number of a text that every file may name.
+    Static(u16),
+    /// A text of the file's own.
+    Own(Text),
+}
+
+/// A code as a file holds it.
+#[derive(Drop)]
+pub struct RawCode {
+    /// The prelude and the instructions, as they were read.
+    pub bytes: Text,
+    pub children: Items<RawCode>,
+}
+
+/// A module as a file holds it.
+#[derive(Drop)]
+pub struct RawModule {
+    bits: u8,
+    qstrs: Items<Qstr>,
+    objects: Items<Constant>,
+    code: RawCode,
+}
+
+impl Model for RawModule {
+    ghost use Rattle.std.specs.Coded.{codes};
+    ghost use Rattle.mpy_tree.specs.contracts.module.Constant as constants;
+    ghost use Rattle.mpy_tree.specs.contracts.raw.RawCode as raw_codes;
+    ghost use Rattle.mpy_tree.specs.Raw.{Module};
+    ghost use Rattle.mpy_tree.specs.File.{IsModule};
+
+    ghost Value = { Module };
+
+    ghost coded = { Prim.hlevel (codes, constants.the_row.coded, raw_codes.the_row.coded) };
+
+    ghost view = { λ m. record { bits = m.bits; qstrs = m.qstrs; objects = m.objects; code = m.code } };
+
+    ghost invariant = { λ m. IsModule (record { bits = m.bits; qstrs = m.qstrs; objects = m.objects; code = m.code }) };
+}
+
+impl RawModule {
+    pub fn new(bits: u8, qstrs: Items<Qstr>, objects: Items<Constant>, code: RawCode) -> RawModule
+        requires { IsModule (record { bits = bits; qstrs = qstrs; objects = objects; code = code }) }
+        ensures { result ≡ record { bits = bits; qstrs = qstrs; objects = objects; code = code } }
+    {
+        RawModule {
+            bits,
+            qstrs,
+            objects,
+            code,
+        }
+    }
+
+    /// The bits that small integers take.
+    pub fn bits(&self) -> u8
+        ensures { result ≡ self.now.bits }
+    {
+        self.bits
+    }
+
+    /// The table of texts, of which the first is the name of the source.
+    pub fn qstrs(&self) -> &[Qstr]
+        ensures { result.now ≡ self.now.qstrs }
+    {
+        self.qstrs.as_slice()
+    }
+
+    pub fn objects(&self) -> &[Constant]
+        ensures { result.now ≡ self.now.objects }
+    {
+        self.objects.as_slice()
+    }
+
+    /// The outermost code.
+    pub fn code(&self) -> &RawCode
+        ensures { result.now ≡ self.now.code }
+    {
+        &self.code
+    }
+}
+
+/// What holds of every module: some text is its spelling, so that its preludes and codes decode, its texts are ASCII,
+/// and its counts, lengths and depths keep their limits.
+pub fn module_law(raw: &RawModule)
+    ensures { IsModule raw.now }
+{
+    let _ = &raw.bits;
+}
