@@ -35,7 +35,8 @@ pub record Heap (V N : Type 0) : Type 0 where
   pub cell_size : ℕ
   pub byte_size : ℕ
 
--- what a port tells: its answers to come, the numbers put, the calls made, and the numbers of the calls that fail
+-- what a port tells: the answers that no get has taken yet, the numbers that were put, how many puts and gets were made,
+-- and the numbers of those that fail, counted from 0
 pub record PortState : Type 0 where
   pub pending : List ℤ
   pub written : List ℤ

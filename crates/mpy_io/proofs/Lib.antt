@@ -1,3 +1,5 @@
+pub mod Decimals
 pub mod Fronts
+pub mod Lines
 pub mod Places
 pub mod Written

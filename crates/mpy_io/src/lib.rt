@@ -7,18 +7,24 @@ mod cut;
 mod disk;
 mod fault;
 mod folder;
+mod input_port;
 mod mem_folder;
 mod mem_sink;
 mod out_sink;
 mod place;
+mod port;
+mod script_port;
 mod sink;
 
 pub use disk::DiskFolder;
 pub use fault::{Failed, ReadFault};
 pub use folder::Folder;
+pub use input_port::InputPort;
 pub use mem_folder::MemFolder;
 pub use mem_sink::MemSink;
 pub use out_sink::OutSink;
+pub use port::Port;
+pub use script_port::ScriptPort;
 pub use sink::Sink;
 
 #[cfg(test)]

@@ -117,3 +117,40 @@ fn a_folder_on_disk(rt: HostRuntime) -> Result<(), Fail> {
     fs::remove_file(&rt, format!(in alloc; "/tmp/{name}")?)?;
     Ok(())
 }
+
+#[test]
+fn a_port_in_memory(rt: HostRuntime) -> Result<(), Fail> {
+    let alloc = rt.alloc();
+    let answers = vec![in alloc; 7, -8]?;
+    let mut port = ScriptPort::new(answers, vec![in alloc; 1]?, vec![in alloc; 1, 4]?);
+    assert_eq!(rt; port.get(), Ok(Some(7)));
+    assert_eq!(rt; port.get(), Err(Failed));
+    assert_eq!(rt; port.get(), Ok(Some(-8)));
+    assert_eq!(rt; port.put(2), Ok(()));
+    assert_eq!(rt; port.put(3), Err(Failed));
+    assert_eq!(rt; port.get(), Ok(None));
+    assert_eq!(rt; port.written_at(0), Some(1));
+    assert_eq!(rt; port.written_at(1), Some(2));
+    assert_eq!(rt; port.written_at(2), None);
+    assert_eq!(rt; port.faults(), 2);
+    assert_eq!(rt; port.starved(), 0);
+    Ok(())
+}
+
+#[test]
+fn a_port_over_lines(rt: HostRuntime) -> Result<(), Fail> {
+    let lines = b"12\n-2147483648\n+5\n\n 1\n2147483648\n123456789012345\n-07".as_slice();
+    let mut port = InputPort::new(lines, Vec::new(rt.alloc()));
+    assert_eq!(rt; port.get(), Ok(Some(12)));
+    assert_eq!(rt; port.get(), Ok(Some(-2_147_483_648)));
+    for _ in 0..5 {
+        assert_eq!(rt; port.get(), Err(Failed));
+    }
+    assert_eq!(rt; port.get(), Ok(Some(345)));
+    assert_eq!(rt; port.get(), Ok(Some(-7)));
+    assert_eq!(rt; port.get(), Ok(None));
+    assert_eq!(rt; port.put(-3), Ok(()));
+    assert_eq!(rt; port.writer().as_slice(), b"port -3\n".as_slice());
+    assert_eq!(rt; port.faults(), 5);
+    Ok(())
+}

@@ -1,0 +1,7 @@
+-- Nothing was read so far.
+use Rattle.std.proofs.Common.{[]}
+use Rattle.std.specs.Io.KnownBytes.{Consumes}
+use Rattle.mpy_io.proofs.input_port.next_byte.Given as goal
+
+abbrev pub invariant-loop : goal.invariant-loop
+invariant-loop g l = Consumes (g.R.Read.remaining l.initial.reader) (g.R.Read.remaining l.reader) []

@@ -1,0 +1,24 @@
+//! What a call does where every port tells its contents.
+
+ghost use Rattle.std.specs.Prelude.{◌≡◌, ℕ, ℤ, Bool, IsTrue, List, Option, Result, IfOk, is_err};
+ghost use Rattle.mpy_base.specs.World.{PortState};
+ghost use Rattle.mpy_io.specs.Ports.{PortView, IsFailing, first_pending, after_put, after_get, Puts, Gets};
+ghost use Rattle.port_set.specs.Calls.{CallsOne, CallsTold, Tell};
+ghost use Rattle.port_set.specs.declared.fault.PortFault.{PortFault};
+
+/// A put on one of many ports that tell their contents: that port becomes what a put makes of it.
+pub fn put_law()
+    ensures { (old new : List PortView) (ports : List PortState) (i : ℕ) (n : ℤ) (failed : Bool)
+        → Tell old ports
+        → CallsOne old new i (λ before after. Puts before after n failed)
+        → CallsTold ports new i (λ before after. (after ≡ after_put before n failed) × (IsFailing before → IsTrue failed)) }
+{}
+
+/// The same of a get, which answers the first pending answer of that port.
+pub fn get_law()
+    ensures { (old new : List PortView) (ports : List PortState) (i : ℕ) (result : Result (Option ℤ) PortFault)
+        → Tell old ports
+        → CallsOne old new i (λ before after. Gets before after result)
+        → CallsTold ports new i (λ before after. (after ≡ after_get before (is_err result))
+        × (IsFailing before → IsTrue (is_err result)) × IfOk result (λ answer. answer ≡ first_pending before)) }
+{}
