@@ -11,7 +11,7 @@ use Rattle.arena_heap.specs.Values.{ArenaObject}
 use Rattle.arena_heap.specs.Cells.{blank, cell_of, head_of, heads, first, size, byte_first, byte_size, Full, part, decode, read, object_at, objects_of, In, Apart, Kept, Holds}
 use Rattle.mpy_base.proofs.Worlds.{object_nones}
 use Rattle.arena_heap.proofs.CellValues.{head_of-cell_of}
-use Rattle.arena_heap.proofs.Parts.{part_same, apart_set, apart_more, in_same}
+use Rattle.arena_heap.proofs.Regions.{part_same, apart_set, apart_more, in_same}
 
 pub heads_past : (cells : List Cell) (n : ℕ) → length cells ≤ n → heads cells n ≡ blank
 heads_past cells n h = ap head_of (get_or_past cells n blank h)

@@ -1,9 +1,16 @@
 pub mod Asking
 pub mod CellValues
+pub mod DictCells
+pub mod DictSeen
 pub mod Frame
+pub mod Growths
+pub mod ListCells
+pub mod ListSeen
 pub mod Moves
 pub mod NewObjects
-pub mod Parts
+pub mod PartSeen
+pub mod Regions
 pub mod Seen
 pub mod Sounds
+pub mod TupleSeen
 pub mod Views

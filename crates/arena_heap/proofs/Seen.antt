@@ -1,5 +1,5 @@
 -- From an arena's fields to what contracts see.
-use Rattle.std.proofs.Common.{ℕ, suc, ◌+◌, ◌^◌, ◌≤◌, ◌<◌, ◌≡◌, List, ◌∷◌, ◌++◌, length, Option, Some, None, replicate, refl, sym, ◌∙◌, ap, subst, arith, length-append}
+use Rattle.std.proofs.Common.{ℕ, suc, ◌+◌, ◌^◌, ◌≤◌, ◌<◌, ◌≡◌, List, ◌∷◌, ◌++◌, length, Option, Some, None, set, replicate, refl, sym, ◌∙◌, ap, subst, arith, length-append, length-set}
 use Rattle.std.proofs.Math.Path.{ap₂}
 use Rattle.std.specs.List.{All}
 use Rattle.std.specs.Vec.{vec_capacity}
@@ -7,12 +7,13 @@ use Rattle.std.proofs.lemmas.List.{length-replicate}
 use Rattle.arena_heap.specs.declared.arena.Arena.TheInside.{Inside}
 use Rattle.arena_heap.specs.declared.value.Value.{Value}
 use Rattle.arena_heap.specs.declared.cells.Cell.{Cell}
-use Rattle.mpy_base.specs.World.{Heap, ObjectKind, IsA, object}
-use Rattle.mpy_base.specs.Weights.{Fits, used, with_made, Made, cells_of, more_cells, bytes_of}
+use Rattle.mpy_base.specs.World.{Heap, ObjectKind, IsA, object, kind_of, with_object}
+use Rattle.mpy_base.proofs.Worlds.{later_append}
+use Rattle.mpy_base.specs.Weights.{Fits, used, with_used, with_made, Made, cells_of, more_cells, bytes_of}
 use Rattle.arena_heap.specs.Values.{ArenaObject, Leads, Sound, held, IsFormed}
 use Rattle.arena_heap.specs.Cells.{heads, read, kind_at, objects_of, heap_of, Holds, IsArena}
 use Rattle.arena_heap.proofs.Frame.{length-objects, length_held, object_is}
-use Rattle.arena_heap.proofs.Sounds.{sound_made}
+use Rattle.arena_heap.proofs.Sounds.{sound_made, sound_set, sound_used, all_later}
 use Rattle.arena_heap.proofs.Views.{head_is, head_within, used_is}
 
 abbrev pub seen : Inside → Heap Value ℕ
@@ -93,3 +94,45 @@ made_seen a e o cells bytes fits held1 lb n en =
       world = ap₂ (λ (os : List (Option ArenaObject)) (j : ℕ). record { objects = os; bytes = j; cell_size = a.room.cells; byte_size = a.room.bytes }) held1.objects lb
           ∙ ap (λ (h : Heap Value ℕ). with_made h o) e;
     }
+
+-- the invariant where an object was replaced by one of its kind
+pub replaced_again : (a : Inside) {h : Heap Value ℕ} → Invariant a → seen a ≡ h → (kind : ObjectKind) (n : ℕ) → IsA h.objects kind n → (o : ArenaObject) → kind_of (Some o) ≡ Some kind
+    → (cells : List Cell) (bytes : List ℕ) (cell_capacity byte_capacity : ℕ) → Holds cells bytes (set (objects a) n (Some o)) → length bytes ≡ length a.bytes.items
+    → vec_capacity a.cells ≤ cell_capacity → vec_capacity a.bytes ≤ byte_capacity → All (Leads h.objects) (held (Some o)) → IsFormed (Some o)
+    → IsArena cells bytes a.room.cells a.room.bytes cell_capacity byte_capacity
+replaced_again a i e kind n is o is_kind cells bytes cell_capacity byte_capacity held1 lb cc cb leads formed =
+    let lo = length-objects a.cells.items a.bytes.items in
+    let old = seen_is a e kind n is in
+    let lc : length cells ≡ length a.cells.items = omega (arith, length_held held1, length-set (objects a) n (Some o), lo) in
+    arena_again a cells bytes _ cell_capacity byte_capacity i held1
+    (sound_set (objects a) n (Some o) i.sound (omega (arith, seen_within a e kind n is, lo)) (λ k q. is_kind ∙ (sym old ∙ q)) (seen_leads a e _ leads) formed)
+    (omega (arith, lc, i.cells_fit)) (omega (arith, lb, i.bytes_fit)) (omega (arith, cc, i.cells_taken)) (omega (arith, cb, i.bytes_taken))
+
+pub replaced_seen : (a : Inside) {h : Heap Value ℕ} → seen a ≡ h → (n : ℕ) (o : Option ArenaObject) (cells : List Cell) (bytes : List ℕ) → Holds cells bytes (set (objects a) n o) → length bytes ≡ length a.bytes.items
+    → heap_of cells bytes a.room.cells a.room.bytes ≡ record h { objects = set h.objects n o }
+replaced_seen a e n o cells bytes held1 lb =
+    ap₂ (λ (os : List (Option ArenaObject)) (j : ℕ). record { objects = os; bytes = j; cell_size = a.room.cells; byte_size = a.room.bytes }) held1.objects lb
+    ∙ ap (λ (h : Heap Value ℕ). record h { objects = set h.objects n o }) e
+
+-- the same where cells were taken for it
+pub grown_again : (a : Inside) {h : Heap Value ℕ} → Invariant a → seen a ≡ h → (kind : ObjectKind) (n m : ℕ) → IsA h.objects kind n → (o : ArenaObject) → kind_of (Some o) ≡ Some kind
+    → (cells : List Cell) (cell_capacity : ℕ) → Fits h m 0 → Holds cells a.bytes.items (set (objects a ++ replicate m None) n (Some o))
+    → vec_capacity a.cells ≤ cell_capacity → All (Leads h.objects) (held (Some o)) → IsFormed (Some o)
+    → IsArena cells a.bytes.items a.room.cells a.room.bytes cell_capacity (vec_capacity a.bytes)
+grown_again a i e kind n m is o is_kind cells cell_capacity fits held1 cc leads formed =
+    let none : Option ArenaObject = None in
+    let f = seen_fits a e fits in
+    let lo = length-objects a.cells.items a.bytes.items in
+    let more = objects a ++ replicate m none in
+    let lm : length more ≡ length (objects a) + m = length-append (objects a) (replicate m none) ∙ ap (λ j. length (objects a) + j) (length-replicate m none) in
+    let later = later_append (objects a) (replicate m none) in
+    let old = later.keeps kind n (seen_is a e kind n is) in
+    arena_again a cells a.bytes.items _ cell_capacity (vec_capacity a.bytes) i held1
+    (sound_set more n (Some o) (sound_used (objects a) m i.sound) (omega (arith, seen_within a e kind n is, lo, lm)) (λ k q. is_kind ∙ (sym old ∙ q)) (all_later later _ (seen_leads a e _ leads)) formed)
+    (omega (arith, f.0, lo, lm, length_held held1, length-set more n (Some o))) i.bytes_fit (omega (arith, cc, i.cells_taken)) i.bytes_taken
+
+pub grown_seen : (a : Inside) {h : Heap Value ℕ} → seen a ≡ h → (n m : ℕ) (o : ArenaObject) (cells : List Cell) → Holds cells a.bytes.items (set (objects a ++ replicate m None) n (Some o))
+    → heap_of cells a.bytes.items a.room.cells a.room.bytes ≡ with_object (with_used h m) n o
+grown_seen a e n m o cells held1 =
+    ap (λ (os : List (Option ArenaObject)). record { objects = os; bytes = length a.bytes.items; cell_size = a.room.cells; byte_size = a.room.bytes }) held1.objects
+    ∙ ap (λ (h : Heap Value ℕ). with_object (with_used h m) n o) e

@@ -1,3 +1,4 @@
 pub mod Cells
 pub mod Constants
+pub mod Dicts
 pub mod Values

@@ -1,7 +1,7 @@
 //! What a cell of an arena holds.
 
 ghost use Rattle.std.specs.Prelude.{◌≡◌};
-ghost use Rattle.arena_heap.specs.Cells.{cell_of, value_of};
+ghost use Rattle.arena_heap.specs.Cells.{cell_of, value_of, dict_number, place_in};
 
 use crate::value::{
     ConstNo, DictNo, ExcNo, FunNo, ListNo, MethodNo, ModuleNo, RangeNo, StrNo, TextNo, TupleNo,
@@ -109,6 +109,28 @@ impl Cell {
             Cell::Module(m) => Value::Module(m),
             Cell::Built(b) => Value::Built(b),
             _ => Value::None,
+        }
+    }
+
+    /// The dict that the cell leads to, and number 0 where it leads to none.
+    pub(crate) fn dict(self) -> DictNo
+        ensures { result.cell ≡ dict_number self }
+    {
+        match self {
+            Cell::Dict(d) => d,
+            _ => DictNo { cell: 0 },
+        }
+    }
+
+    /// The file, the line and the name of a place, which are empty where the cell holds none.
+    pub(crate) fn place(self) -> (u32, u32, u32)
+        ensures file { result.0 ≡ (place_in self).file }
+        ensures line { result.1 ≡ (place_in self).line }
+        ensures name { result.2 ≡ (place_in self).name }
+    {
+        match self {
+            Cell::Place { file, line, name } => (file, line, name),
+            _ => (1, 0, 1),
         }
     }
 }

@@ -4,11 +4,24 @@
 mod arena;
 mod cells;
 mod constants;
+mod dicts;
+mod heads;
+mod lists;
 mod makings;
+mod parts;
+mod texts;
+mod tuples;
 mod value;
 
 pub use arena::Arena;
 pub use constants::Constants;
+pub use dicts::{dict_at, dict_len, dict_push, dict_remove_at, dict_set_at};
+pub use lists::{list_append, list_at, list_insert, list_len, list_pop, list_set};
+pub use parts::{
+    exc_parts, exc_place, fun_parts, method_parts, module_names, module_parts, range_parts,
+};
+pub use texts::{made_text, text_fill};
+pub use tuples::{tuple_at, tuple_fill, tuple_len};
 pub use value::{
     ConstNo, DictNo, ExcNo, FunNo, ListNo, MethodNo, ModuleNo, RangeNo, StrNo, TextNo, TupleNo,
     Value,

@@ -2,7 +2,7 @@
 
 ghost use Rattle.std.specs.Prelude.{◌≡◌, ◌≢◌, ℕ, pos, suc, ◌+◌, ◌*◌, ◌<◌, ◌≤◌, length, [], ◌∷◌, ◌++◌, replicate, None, IfOk, IfErr, OnErr, vec_len};
 ghost use Rattle.std.specs.Vec.{vec_capacity};
-ghost use Rattle.mpy_base.specs.World.{ListObject, TupleObject, TextObject, DictObject, FunctionObject, ExceptionObject, MethodObject, RangeObject, ModuleObject, ADict, IsA, Later};
+ghost use Rattle.mpy_base.specs.World.{ListObject, TupleObject, TextObject, DictObject, FunctionObject, ExceptionObject, MethodObject, RangeObject, ModuleObject, AList, ATuple, AText, ADict, AFunction, AnException, AMethod, ARange, AModule, IsA, Later};
 ghost use Rattle.mpy_base.specs.Weights.{room_for, Fits, Made, Refused, no_room};
 ghost use Rattle.arena_heap.specs.Values.{Leads, IsSmall, IsTuple, IsDefaults, IsMethodOf};
 ghost use Rattle.arena_heap.specs.Cells.{blank};
@@ -54,6 +54,7 @@ impl Arena {
     pub fn make_list(&mut self, items: u64) -> Result<ListNo, NoRoom>
         ensures made { IfOk result (λ l. Made self.old self.new l.cell (ListObject [] (room_for items))) }
         ensures refused { IfErr result (λ e. Refused self.old self.new e (3 + room_for items) 0) }
+        ensures kind { IfOk result (λ l. IsA self.new.objects AList l.cell) }
         ensures later { Later self.old.objects self.new.objects }
     {
         let room = self.ask_room(3, 1, items)?;
@@ -72,6 +73,7 @@ impl Arena {
     pub fn make_dict(&mut self, pairs: u32) -> Result<DictNo, NoRoom>
         ensures made { IfOk result (λ d. Made self.old self.new d.cell (DictObject [] (room_for pairs))) }
         ensures refused { IfErr result (λ e. Refused self.old self.new e (3 + 3 * room_for pairs) 0) }
+        ensures kind { IfOk result (λ d. IsA self.new.objects ADict d.cell) }
         ensures later { Later self.old.objects self.new.objects }
     {
         let room = self.ask_room(3, 3, pairs as u64)?;
@@ -91,6 +93,7 @@ impl Arena {
         requires { 0 < count }
         ensures made { IfOk result (λ t. Made self.old self.new t.cell (TupleObject (replicate count Value.None))) }
         ensures refused { IfErr result (λ e. Refused self.old self.new e (1 + count) 0) }
+        ensures kind { IfOk result (λ t. IsA self.new.objects ATuple t.cell) }
         ensures later { Later self.old.objects self.new.objects }
     {
         self.ask(count.saturating_add(1), 0)?;
@@ -105,6 +108,7 @@ impl Arena {
         requires { 0 < count }
         ensures made { IfOk result (λ t. Made self.old self.new t.cell (TextObject (replicate count 0))) }
         ensures refused { IfErr result (λ e. Refused self.old self.new e 2 count) }
+        ensures kind { IfOk result (λ t. IsA self.new.objects AText t.cell) }
         ensures later { Later self.old.objects self.new.objects }
     {
         self.ask(2, count)?;
@@ -131,6 +135,7 @@ impl Arena {
         requires defaults { IsDefaults defaults }
         ensures made { IfOk result (λ f. Made self.old self.new f.cell (FunctionObject name «module» code names.cell defaults)) }
         ensures refused { IfErr result (λ e. Refused self.old self.new e 4 0) }
+        ensures kind { IfOk result (λ f. IsA self.new.objects AFunction f.cell) }
         ensures later { Later self.old.objects self.new.objects }
     {
         self.ask(4, 0)?;
@@ -151,6 +156,7 @@ impl Arena {
         requires tuple { IsTuple args }
         ensures made { IfOk result (λ e. Made self.old self.new e.cell (ExceptionObject kind args 1 0 1)) }
         ensures refused { IfErr result (λ e. Refused self.old self.new e 6 0) }
+        ensures kind { IfOk result (λ e. IsA self.new.objects AnException e.cell) }
         ensures later { Later self.old.objects self.new.objects }
     {
         self.ask(6, 0)?;
@@ -173,6 +179,7 @@ impl Arena {
         requires method { IsMethodOf method object }
         ensures made { IfOk result (λ m. Made self.old self.new m.cell (MethodObject object method)) }
         ensures refused { IfErr result (λ e. Refused self.old self.new e 3 0) }
+        ensures kind { IfOk result (λ m. IsA self.new.objects AMethod m.cell) }
         ensures later { Later self.old.objects self.new.objects }
     {
         self.ask(3, 0)?;
@@ -190,6 +197,7 @@ impl Arena {
         requires nonzero { step ≢ pos 0 }
         ensures made { IfOk result (λ r. Made self.old self.new r.cell (RangeObject start stop step)) }
         ensures refused { IfErr result (λ e. Refused self.old self.new e 4 0) }
+        ensures kind { IfOk result (λ r. IsA self.new.objects ARange r.cell) }
         ensures later { Later self.old.objects self.new.objects }
     {
         self.ask(4, 0)?;
@@ -207,6 +215,7 @@ impl Arena {
     pub fn make_module(&mut self, name: u32) -> Result<ModuleNo, NoRoom>
         ensures made { IfOk result (λ m. Made self.old self.new m.cell (ModuleObject name None)) }
         ensures refused { IfErr result (λ e. Refused self.old self.new e 4 0) }
+        ensures kind { IfOk result (λ m. IsA self.new.objects AModule m.cell) }
         ensures later { Later self.old.objects self.new.objects }
     {
         self.ask(4, 0)?;

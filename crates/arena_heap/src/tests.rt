@@ -63,3 +63,33 @@ fn more_than_every_number_is_asked(rt: HostRuntime) -> Result<(), Fail> {
     assert_eq!(rt; arena.make_tuple(u64::MAX), Err(most));
     Ok(())
 }
+
+// A list with room for four takes 7 cells. The fifth item moves it to 8 new cells.
+#[test]
+fn a_list_fits_to_the_cell(rt: HostRuntime) -> Result<(), Fail> {
+    let room = Room {
+        cells: 15,
+        bytes: 0,
+    };
+    let mut arena = Arena::new(rt.alloc(), room)?;
+    let list = arena.make_list(0).ok().ok_or("a list")?;
+    list_append(&mut arena, list, Value::Int(0))
+        .ok()
+        .ok_or("an item")?;
+    list_append(&mut arena, list, Value::Int(1))
+        .ok()
+        .ok_or("an item")?;
+    list_append(&mut arena, list, Value::Int(2))
+        .ok()
+        .ok_or("an item")?;
+    list_insert(&mut arena, list, 0, Value::Int(3))
+        .ok()
+        .ok_or("an item")?;
+    assert_eq!(rt; arena.used().cells, 7);
+    list_append(&mut arena, list, Value::Int(4))
+        .ok()
+        .ok_or("an item")?;
+    assert_eq!(rt; arena.used().cells, 15);
+    assert_eq!(rt; list_at(&arena, list, 0), Some(Value::Int(3)));
+    Ok(())
+}

@@ -1,12 +1,12 @@
 -- A step of verified code holds no more entries than there may be.
-use Rattle.std.proofs.Common.{◌≡◌, ℕ, zero, suc, ◌≤◌, Bool, true, false, List, [], ◌∷◌, length, map, drop, Option, Some, None, refl, sym, ap, ◌∙◌, subst, arith, if◌then◌else◌}
+use Rattle.std.proofs.Common.{◌≡◌, ℕ, zero, suc, ◌≤◌, Bool, true, false, List, [], ◌∷◌, length, drop, Option, Some, None, arith, if◌then◌else◌}
 use Rattle.std.proofs.lemmas.Bool.{and_parts, leb-true}
 use Rattle.std.proofs.lemmas.List.{length-map}
 use Rattle.bc_flow.specs.declared.shape.Entry.{Entry}
 use Rattle.bc_flow.specs.Action.{Action, Straight, Branch, Jump, Setup, PopExcept, EndFinally, Unwind, Return, Raise}
 use Rattle.bc_flow.specs.Code.{Code}
 use Rattle.bc_flow.specs.Edges.{takes, gives, gives_there, falls, target, change, behind, holds, iterator_if}
-use Rattle.bc_flow.specs.Machine.{Slot, Value, NoneOrException, KeptReturn, KeptJump, Iter1, Iter2, Iter3, Iter4, Null, Method, Stack, St, Run, Ends, Stuck, is_wanted, all_wanted, given, cut, remark, go, enter, throw, is_run, leave, without_iter, unwind, resume, goes, plain, act}
+use Rattle.bc_flow.specs.Machine.{Slot, NoneOrException, KeptReturn, KeptJump, Stack, St, Run, Ends, Stuck, is_wanted, all_wanted, given, cut, remark, go, enter, throw, is_run, leave, unwind, resume, goes, plain, act}
 
 abbrev pub FewOut : ℕ → St → Type 0
 FewOut m (Run p st es) = length es ≤ m

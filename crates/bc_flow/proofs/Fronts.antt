@@ -1,9 +1,9 @@
 -- The front of a table in which nothing is pending.
-use Rattle.std.proofs.Common.{◌≡◌, ◌⊎◌, ℕ, zero, suc, ◌+◌, ◌≤◌, List, [], ◌∷◌, Option, Some, None, refl, sym, ap, subst, arith, inl, inr}
+use Rattle.std.proofs.Common.{◌≡◌, ◌⊎◌, ℕ, zero, suc, ◌+◌, ◌≤◌, [], ◌∷◌, Option, Some, None, refl, sym, ap, subst, arith, inl, inr}
 use Rattle.std.specs.Prelude.{option_map, IfSome, Bool, true, false}
 use Rattle.std.specs.Bool.{OnFalse}
 use Rattle.bc_flow.specs.Shape.{At}
-use Rattle.bc_flow.specs.Verified.{Cell, Table, Pending, Done, put, done_at, meet, IsPending, here, later, IsLeast, PendingFrom}
+use Rattle.bc_flow.specs.Verified.{Cell, Table, put, done_at, meet, IsPending, here, later, IsLeast, PendingFrom}
 use Rattle.bc_flow.proofs.Joins.{On, on_at}
 use Rattle.bc_flow.proofs.Puts.{on_map}
 

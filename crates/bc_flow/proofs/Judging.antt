@@ -1,6 +1,6 @@
 -- What is judged of one position.
-use Rattle.std.proofs.Common.{◌≡◌, ℕ, ◌+◌, ◌-◌, Bool, ◌&&◌, List, [], ◌∷◌, ◌++◌, length, map, refl, sym, ap, ◌∙◌, subst}
-use Rattle.std.specs.Prelude.{nat_le, slice_get, Some, Option}
+use Rattle.std.proofs.Common.{◌≡◌, ℕ, ◌+◌, ◌-◌, ◌&&◌, List, [], ◌∷◌, ◌++◌, length, map, refl, sym, ap, ◌∙◌}
+use Rattle.std.specs.Prelude.{nat_le}
 use Rattle.bc_flow.specs.declared.kinds.Kind.{Kind}
 use Rattle.bc_flow.specs.declared.kinds.Give.{Give}
 use Rattle.bc_flow.specs.declared.shape.Entry.{Entry}

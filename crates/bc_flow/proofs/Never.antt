@@ -17,7 +17,7 @@ use Rattle.bc_flow.specs.Shape.{At, fits, after}
 use Rattle.bc_flow.specs.Edges.{takes, gives, gives_there, falls, target, change, runs, behind, floor, lowest, left, deep, base, holds, finds, room, stays, iterator_if, run_ways, all_marked, slots_of, edge_of, edges, mark, is_marked}
 use Rattle.bc_flow.specs.Verified.{Assigned, Leads, Each, Fine, Holds, Verified}
 use Rattle.bc_flow.specs.Machine.{Slot, Value, NoneOrException, KeptReturn, KeptJump, Iter1, Iter2, Iter3, Iter4, Null, Method, Stack, St, Run, Ends, Stuck, Choice, is_wanted, all_wanted, cut, go, throw, leave, unwind, resume, act, fetched, within, step, steps, NeverStuck}
-use Rattle.bc_flow.proofs.Sound.{Stands, empty, more, stands_below, stands-length, stands_drop, stands_wanted, cut_all, cut-length, Fits, Reach, KeptOk, Sound, sound_setup, sound_pop}
+use Rattle.bc_flow.proofs.Sound.{Stands, empty, stands_below, stands-length, stands_drop, stands_wanted, cut_all, cut-length, Fits, KeptOk, Sound, sound_setup, sound_pop}
 use Rattle.bc_flow.proofs.Runs.{GoodOut, reach_good, way_reach, throw_good, leave_good, unwind_good, can_return, can_unwind}
 use Rattle.bc_flow.proofs.Going.{shape, Here, Arrives, raise_parts, run_parts, next_part, jump_part, asks_part, fits_part, deep_part, whole, slots-next, slots-there, raise_good, plain_good, gives_fine}
 
@@ -207,10 +207,10 @@ pub record Good (code : Code) (a : Assigned) (s : St) : Type 0 where
   pub few : FewOut code.n_exc s
 
 -- no instruction gives a cause again
-abbrev pub Fine_rows : Code → Type 0
-Fine_rows code = (p : ℕ) (i : Action) → slice_get code.actions p ≡ Some i → gives_fine i ≡ true
+abbrev pub GivesNoCause : Code → Type 0
+GivesNoCause code = (p : ℕ) (i : Action) → slice_get code.actions p ≡ Some i → gives_fine i ≡ true
 
-pub step_good : (code : Code) (a : Assigned) → Fine_rows code → Holds code a → (c : Choice) (s : St) → Good code a s → Good code a (step code c s)
+pub step_good : (code : Code) (a : Assigned) → GivesNoCause code → Holds code a → (c : Choice) (s : St) → Good code a s → Good code a (step code c s)
 step_good code a rows v c Ends g = record { runs = tt; few = tt }
 step_good code a rows v c Stuck g = g
 step_good code a rows v c (Run p st es) g =
@@ -241,7 +241,7 @@ start_good code a v =
       few = omega arith;
     }
 
-pub steps_good : (code : Code) (a : Assigned) → Fine_rows code → Holds code a → (cs : List Choice) (s : St) → Good code a s → Good code a (steps code cs s)
+pub steps_good : (code : Code) (a : Assigned) → GivesNoCause code → Holds code a → (cs : List Choice) (s : St) → Good code a s → Good code a (steps code cs s)
 steps_good code a rows v [] s g = g
 steps_good code a rows v (c ∷ cs) s g = steps_good code a rows v cs (step code c s) (step_good code a rows v c s g)
 

@@ -1,5 +1,5 @@
 -- No instruction of the table gives a cause again.
-use Rattle.std.proofs.Common.{◌≡◌, ℕ, zero, suc, Bool, true, ◌&&◌, List, [], ◌∷◌, ◌++◌, length, map, replicate, Option, Some, refl, ap, subst}
+use Rattle.std.proofs.Common.{◌≡◌, ℕ, zero, suc, true, List, [], ◌∷◌, ◌++◌, length, map, replicate, Some, refl, subst}
 use Rattle.std.specs.Prelude.{slice_get}
 use Rattle.bc_ops.specs.declared.instr.Op.{Op}
 use Rattle.bc_ops.specs.declared.instr.Op.TheVariants as ops
@@ -9,8 +9,6 @@ use Rattle.bc_ops.specs.declared.listing.Item.{Item}
 use Rattle.bc_ops.specs.declared.listing.Item.TheVariants as items
 use Rattle.bc_flow.specs.declared.kinds.Kind.TheVariants as kinds
 use Rattle.bc_flow.specs.declared.kinds.Want.{Want}
-use Rattle.bc_flow.specs.declared.kinds.Want.TheVariants as wants
-use Rattle.bc_flow.specs.declared.kinds.Give.{Give}
 use Rattle.bc_flow.specs.declared.kinds.Give.TheVariants.{New}
 use Rattle.bc_flow.specs.declared.code.Code.{Code as RustCode}
 use Rattle.bc_flow.specs.Action.{Action, takes, op_action, jump_action, instr_action, action}

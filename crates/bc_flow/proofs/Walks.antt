@@ -1,5 +1,5 @@
 -- The walk over the states is the definition's over their table.
-use Rattle.std.proofs.Common.{◌≡◌, ℕ, zero, suc, ◌<◌, ◌≤◌, Bool, ◌&&◌, List, [], ◌∷◌, length, map, get_or, Option, Some, None, refl, sym, ap, ◌∙◌, subst, arith}
+use Rattle.std.proofs.Common.{◌≡◌, ℕ, zero, suc, ◌<◌, Bool, ◌&&◌, List, [], ◌∷◌, length, map, get_or, Some, refl, sym, ap, ◌∙◌, subst, arith}
 use Rattle.std.specs.Prelude.{slice_get, Result, Ok, Err, IfOk}
 use Rattle.std.proofs.lemmas.List.{length-map}
 use Rattle.bc_ops.specs.declared.listing.Item.{Item}
@@ -18,7 +18,6 @@ use Rattle.bc_flow.specs.Views.{cell_of, table_of, visit_of, edge_of_rust}
 use Rattle.bc_flow.proofs.Puts.{weigh}
 use Rattle.bc_flow.proofs.Visits.{visit_on, visited_lighter, pending_in}
 use Rattle.bc_flow.proofs.Decides.{at_visit, kept, comes_reached, no_means, yes_means, stays_below, holds_in}
-use Rattle.bc_flow.proofs.Tables.{same_at}
 
 pub if_ok_map : {A E : Type 0} → (r : Result A E) (P Q : A → Type 0) → ((x : A) → P x → Q x) → IfOk r P → IfOk r Q
 if_ok_map (Ok x) P Q f h = f x h

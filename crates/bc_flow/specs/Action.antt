@@ -1,5 +1,5 @@
 -- The table of the instructions: what each does with slots, handler entries and the flow. Slots are listed from the top.
-use Rattle.std.specs.Prelude.{ℕ, zero, suc, ◌+◌, ◌*◌, ◌/◌, ◌%◌, Bool, true, false, List, [], ◌∷◌, ◌++◌, replicate, nat_le}
+use Rattle.std.specs.Prelude.{ℕ, ◌+◌, ◌*◌, ◌/◌, ◌%◌, Bool, true, false, List, [], ◌∷◌, ◌++◌, replicate, nat_le}
 use Rattle.bc_ops.specs.declared.instr.Op.{Op}
 use Rattle.bc_ops.specs.declared.instr.Op.TheVariants as ops
 use Rattle.bc_ops.specs.declared.instr.Instr.{Instr}
@@ -8,7 +8,6 @@ use Rattle.bc_ops.specs.declared.listing.Target.{Target}
 use Rattle.bc_ops.specs.declared.listing.Target.TheVariants.{Position, Offset}
 use Rattle.bc_ops.specs.declared.listing.Item.{Item}
 use Rattle.bc_ops.specs.declared.listing.Item.TheVariants as items
-use Rattle.bc_flow.specs.declared.kinds.Kind.{Kind}
 use Rattle.bc_flow.specs.declared.kinds.Kind.TheVariants as kinds
 use Rattle.bc_flow.specs.declared.kinds.Want.{Want}
 use Rattle.bc_flow.specs.declared.kinds.Want.TheVariants as wants

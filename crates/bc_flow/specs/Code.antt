@@ -1,8 +1,7 @@
 -- A code, and the rules on each of its instructions.
-use Rattle.std.specs.Prelude.{◌≡◌, ℕ, ◌+◌, ◌<◌, ◌≤◌, List, [], ◌∷◌, length, map, max, Option, Some, None, Vec}
+use Rattle.std.specs.Prelude.{ℕ, ◌+◌, ◌≤◌, List, [], ◌∷◌, length, map, max}
 use Rattle.bc_ops.specs.declared.instr.Op.{Op}
 use Rattle.bc_ops.specs.declared.instr.Op.TheVariants as ops
-use Rattle.bc_ops.specs.declared.instr.Instr.{Instr}
 use Rattle.bc_ops.specs.declared.instr.Instr.TheVariants as instrs
 use Rattle.bc_ops.specs.declared.listing.Target.{Target}
 use Rattle.bc_ops.specs.declared.listing.Target.TheVariants.{Position, Offset}

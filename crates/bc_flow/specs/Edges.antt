@@ -1,5 +1,5 @@
 -- What one instruction asks of the slots and entries before it, and where it leads.
-use Rattle.std.specs.Prelude.{ℕ, zero, suc, ◌+◌, ◌-◌, min, Bool, true, false, not, ◌&&◌, ◌||◌, List, [], ◌∷◌, ◌++◌, length, map, drop, replicate, Option, Some, None, nat_eq, nat_le, nat_lt, if◌then◌else◌}
+use Rattle.std.specs.Prelude.{ℕ, zero, suc, ◌+◌, ◌-◌, min, Bool, true, false, not, ◌&&◌, ◌||◌, List, [], ◌∷◌, ◌++◌, length, map, drop, Option, Some, None, nat_eq, nat_le, nat_lt, if◌then◌else◌}
 use Rattle.bc_flow.specs.declared.kinds.Kind.{Kind}
 use Rattle.bc_flow.specs.declared.kinds.Kind.TheVariants as kinds
 use Rattle.bc_flow.specs.declared.kinds.Want.{Want}
@@ -12,10 +12,12 @@ use Rattle.bc_flow.specs.Action.{Action, Straight, Branch, Jump, Setup, PopExcep
 use Rattle.bc_flow.specs.Code.{Code}
 use Rattle.bc_flow.specs.Shape.{At, fits, after}
 
+-- the slots of an iterator, or none
 abbrev pub iterator_if : Bool → List Want
 iterator_if true = iterator
 iterator_if false = []
 
+-- what is taken, from the top
 unfoldable pub takes : Action → List Want
 takes (Straight wants given) = wants
 takes (Branch wants given there to) = wants
@@ -67,10 +69,12 @@ runs Return n = n
 runs (Unwind to count takes_it) n = count
 runs _ n = 0
 
+-- all but the top entry
 abbrev pub rest_of : List Entry → List Entry
 rest_of [] = []
 rest_of (e ∷ es) = es
 
+-- the height of the top entry
 abbrev pub floor : List Entry → ℕ
 floor [] = 0
 floor (e ∷ es) = e.height
@@ -91,6 +95,7 @@ abbrev pub top_is_active : List Entry → Bool
 top_is_active [] = false
 top_is_active (e ∷ es) = e.active
 
+-- the entries are there that it asks
 abbrev pub asks : Change → List Entry → Bool
 asks Keep es = true
 asks (Push h last) es = true
@@ -98,21 +103,23 @@ asks DropExcept es = top_is_except es
 asks DropActive es = top_is_active es
 asks (Leave k) es = nat_le k (length es)
 
+-- the height of the top entry that remains: the entries that are left are gone
 abbrev pub floor_of : Change → List Entry → ℕ
 floor_of (Leave k) es = floor (drop k es)
 floor_of _ es = floor es
 
--- how many slots are left when so many entries are left, each with a cut
+-- how many of so many slots remain when so many entries are left, each with a cut to its height
 abbrev pub lowest : ℕ → List Entry → ℕ → ℕ
 lowest zero es n = n
 lowest (suc k) [] n = n
 lowest (suc k) (e ∷ es) n = lowest k es (min e.height n)
 
+-- how many of so many slots it works on
 abbrev pub left : Change → List Entry → ℕ → ℕ
 left (Leave k) es n = lowest k es n
 left _ es n = n
 
--- the entry that is dropped leaves its height
+-- where an entry is dropped, its height is what is left
 abbrev pub leaves : Change → List Entry → ℕ → Bool
 leaves DropExcept es n = nat_eq n (floor es)
 leaves DropActive es n = nat_eq n (floor es)
@@ -130,12 +137,15 @@ pub record Way : Type 0 where
   pub entries : List Entry
   pub how : How
 
+-- an entry gets active on arrival at its handler
 abbrev pub mark : ℕ → Entry → Entry
 mark to e = record e { active = e.active || nat_eq e.handler to }
 
+-- the edge to a position with these entries
 abbrev pub arrive : ℕ → List Entry → How → Way
 arrive to es how = record { to = to; entries = map (mark to) es; how = how }
 
+-- the edge to an entry's handler, with the entries below it
 abbrev pub way_in : Entry → List Entry → Way
 way_in e es = arrive e.handler (record e { active = true } ∷ es) (Run e.height e.is_finally)
 
@@ -144,6 +154,7 @@ abbrev pub raise_ways : List Entry → List Way
 raise_ways [] = []
 raise_ways (e ∷ es) = if e.active then raise_ways es else (way_in e es ∷ [])
 
+-- a finally that isn't active is run
 abbrev pub one_run : Entry → List Entry → List Way
 one_run e es = if e.is_finally && not e.active then (way_in e es ∷ []) else []
 
@@ -153,18 +164,23 @@ run_ways zero es = []
 run_ways (suc n) [] = []
 run_ways (suc n) (e ∷ es) = one_run e es ++ run_ways n es
 
+-- the edge to the next position, if there is one
 abbrev pub next_way : Bool → ℕ → List Entry → List Way
 next_way true p es = arrive (suc p) es Next ∷ []
 next_way false p es = []
 
+-- the edge of a jump
 abbrev pub jump_way : Option ℕ → List Entry → List Way
 jump_way (Some t) es = arrive t es There ∷ []
 jump_way None es = []
 
 -- all edges that leave a position, with the entries that arrive, where so many slots are before it
 unfoldable pub ways : Code → Action → ℕ → ℕ → List Entry → List Way
-ways code i p n es = next_way (falls i && nat_lt (suc p) (length code.actions)) p (behind (change i) n es) ++ jump_way (target i) (behind (change i) n es) ++ raise_ways es ++ run_ways (runs i (length es)) es
+ways code i p n es =
+    next_way (falls i && nat_lt (suc p) (length code.actions)) p (behind (change i) n es)
+    ++ jump_way (target i) (behind (change i) n es) ++ raise_ways es ++ run_ways (runs i (length es)) es
 
+-- each entry is active exactly from its handler's position on
 abbrev pub is_marked : ℕ → List Entry → Bool
 is_marked to [] = true
 is_marked to (e ∷ es) = (if e.active then nat_le e.handler to else nat_lt to e.handler) && is_marked to es
@@ -173,7 +189,7 @@ abbrev pub all_marked : List Way → Bool
 all_marked [] = true
 all_marked (w ∷ ws) = is_marked w.to w.entries && all_marked ws
 
--- rule 3, but for the entries that meet
+-- the rule Handlers, but for the entries that meet
 unfoldable pub holds : Code → Action → ℕ → ℕ → List Entry → Bool
 holds code i p n es = asks (change i) es && nat_le (length (behind (change i) n es)) code.n_exc && all_marked (ways code i p n es)
 
@@ -185,14 +201,16 @@ base i x = drop (length x.slots - left (change i) x.entries (length x.slots)) x.
 abbrev pub deep : Change → List Entry → ℕ → ℕ → Bool
 deep c es taken n = nat_le taken n && nat_le (floor_of c es) (n - taken) && leaves c es (n - taken)
 
--- rule 2, but for the shapes that meet
+-- the rule Height, but for the shapes that meet
 unfoldable pub finds : Action → At → Bool
 finds i x = fits (takes i) (base i x) && deep (change i) x.entries (length (takes i)) (length (base i x))
 
+-- a finally handler begins with a cause, an except handler with an exception
 abbrev pub pushed : Bool → List Kind → List Kind
 pushed true ks = kinds.Cause ∷ ks
 pushed false ks = kinds.Either ∷ ks
 
+-- the slots that arrive
 unfoldable pub slots_of : Action → At → How → List Kind
 slots_of i x Next = after (gives i) (length (takes i)) (base i x)
 slots_of i x There = after (gives_there i) (length (takes i)) (base i x)
@@ -202,21 +220,28 @@ slots_of i x (Run h last) = pushed last (drop (length x.slots - h) x.slots)
 abbrev pub has_room : ℕ → ℕ → ℕ → ℕ → ℕ → Bool
 has_room locals n_state before next there = nat_le (locals + before) n_state && nat_le (locals + next) n_state && nat_le (locals + there) n_state
 
--- rule 6
+-- the rule State
 unfoldable pub room : Code → Action → At → Bool
 room code i x = has_room code.locals code.n_state (length x.slots) (length (slots_of i x Next)) (length (slots_of i x There))
 
--- rule 4
+-- the rule Falls
 unfoldable pub stays : Code → Action → ℕ → Bool
 stays code i p = not (falls i) || nat_lt (suc p) (length code.actions)
 
+-- where the flow goes, and what arrives there
 pub record Edge : Type 0 where
   pub to : ℕ
   pub at : At
 
+-- an edge with its slots
 abbrev pub edge_of : Action → At → Way → Edge
 edge_of i x w = record { to = w.to; at = record { slots = slots_of i x w.how; entries = w.entries } }
 
+-- the edge that brings these slots, and these entries with their marks
+abbrev pub edge_to : ℕ → List Kind → List Entry → Edge
+edge_to to slots es = record { to = to; at = record { slots = slots; entries = map (mark to) es } }
+
+-- all edges that leave a position
 abbrev pub edges : Code → Action → ℕ → At → List Edge
 edges code i p x = map (edge_of i x) (ways code i p (length x.slots) x.entries)
 
@@ -225,6 +250,6 @@ abbrev pub edges_marked : List Edge → Bool
 edges_marked [] = true
 edges_marked (e ∷ es) = is_marked e.to e.at.entries && edges_marked es
 
--- rule 3 by these edges
+-- the rule Handlers by these edges
 abbrev pub holds_over : Code → Action → At → List Edge → Bool
 holds_over code i x es = asks (change i) x.entries && nat_le (length (behind (change i) (length x.slots) x.entries)) code.n_exc && edges_marked es

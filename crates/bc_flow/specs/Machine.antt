@@ -22,12 +22,13 @@ pub data Slot : Type 0 where
   Iter1 Iter2 Iter3 Iter4 : Slot
   Null Method : Slot
 
+-- the topmost first
 abbrev pub Stack : Type 0
 Stack = List Slot
 
 -- a state: at a position with slots and entries, at the end of the code's frame, or where an instruction can't go on
 pub data St : Type 0 where
-  Run : (pc : ℕ) → Stack → List Entry → St
+  Run : (p : ℕ) → Stack → List Entry → St
   Ends : St
   Stuck : St
 
@@ -60,11 +61,13 @@ is_wanted wants.Iter3 Iter3 = true
 is_wanted wants.Iter4 Iter4 = true
 is_wanted _ _ = false
 
+-- what is asked lies on top
 abbrev pub all_wanted : List Want → Stack → Bool
 all_wanted [] st = true
 all_wanted (w ∷ ws) [] = false
 all_wanted (w ∷ ws) (s ∷ st) = is_wanted w s && all_wanted ws st
 
+-- a new slot of a kind
 abbrev pub slot_of : Kind → Slot
 slot_of kinds.Value = Value
 slot_of kinds.Cause = NoneOrException
@@ -76,10 +79,12 @@ slot_of kinds.Iter4 = Iter4
 slot_of kinds.Null = Null
 slot_of kinds.Method = Method
 
+-- the slot that is given
 abbrev pub give_slot : Stack → Give → Slot
 give_slot st (New k) = slot_of k
 give_slot st (Again n) = get_or st n NoneOrException
 
+-- so many slots taken, and these given
 abbrev pub given : List Give → ℕ → Stack → Stack
 given gs n st = map (give_slot st) gs ++ drop n st
 
@@ -89,10 +94,11 @@ cut h xs = drop (length xs - h) xs
 
 -- an entry is active from its handler's position on
 abbrev pub remark : ℕ → Entry → Entry
-remark pc e = record e { active = nat_le e.handler pc }
+remark p e = record e { active = nat_le e.handler p }
 
+-- at the position
 abbrev pub go : ℕ → Stack → List Entry → St
-go pc st es = Run pc st (map (remark pc) es)
+go p st es = Run p st (map (remark p) es)
 
 -- into an entry's handler
 abbrev pub enter : Entry → List Entry → Slot → Stack → St
@@ -103,6 +109,7 @@ abbrev pub throw : List Entry → Stack → St
 throw [] st = Ends
 throw (e ∷ es) st = if e.active then throw es (cut e.height st) else enter e es NoneOrException st
 
+-- a return or a jump out of the entry runs its handler
 abbrev pub is_run : Entry → Bool
 is_run e = e.is_finally && not e.active
 
@@ -111,6 +118,7 @@ abbrev pub leave : List Entry → Stack → St
 leave [] st = Ends
 leave (e ∷ es) st = if is_run e then enter e es KeptReturn st else leave es (cut e.height st)
 
+-- a jump that takes an iterator or not
 abbrev pub without_iter : ℕ → Bool → Stack → List Entry → St
 without_iter t it st es = if all_wanted (iterator_if it) st then go t (drop (length (iterator_if it)) st) es else Stuck
 
@@ -122,50 +130,56 @@ unwind t it (suc d) (e ∷ es) st = if is_run e then enter e es (KeptJump t d it
 
 -- on with what a finally's slot has kept
 abbrev pub resume : Slot → Bool → ℕ → List Entry → Stack → St
-resume NoneOrException raises pc es st = if raises then throw es st else go (suc pc) st es
-resume KeptReturn raises pc es st = leave es st
-resume (KeptJump t d it) raises pc es st = unwind t it d es st
-resume _ raises pc es st = Stuck
+resume NoneOrException raises p es st = if raises then throw es st else go (suc p) st es
+resume KeptReturn raises p es st = leave es st
+resume (KeptJump t d it) raises p es st = unwind t it d es st
+resume _ raises p es st = Stuck
 
 -- on to the next instruction, there, or a raise
 abbrev pub goes : Option ℕ → Bool → Bool → ℕ → Stack → Stack → Stack → List Entry → St
-goes (Some t) false falls pc next there st es = go t there es
-goes (Some t) true true pc next there st es = go (suc pc) next es
-goes (Some t) true false pc next there st es = go t there es
-goes None straight true pc next there st es = go (suc pc) next es
-goes None straight false pc next there st es = throw es st
+goes (Some t) false falls p next there st es = go t there es
+goes (Some t) true true p next there st es = go (suc p) next es
+goes (Some t) true false p next there st es = go t there es
+goes None straight true p next there st es = go (suc p) next es
+goes None straight false p next there st es = throw es st
 
 -- an instruction that finds what it takes
 abbrev pub plain : Action → Bool → ℕ → Stack → List Entry → St
-plain i straight pc st es =
-    if all_wanted (takes i) st then goes (target i) straight (falls i) pc (given (gives i) (length (takes i)) st) (given (gives_there i) (length (takes i)) st) st es else Stuck
+plain i straight p st es =
+    if all_wanted (takes i) st
+    then goes (target i) straight (falls i) p (given (gives i) (length (takes i)) st) (given (gives_there i) (length (takes i)) st) st es
+    else Stuck
 
 -- what an instruction does that doesn't raise
 abbrev pub act : Action → Bool → ℕ → Stack → List Entry → St
-act (Setup h last) b pc st es = go (suc pc) st (record { handler = h; is_finally = last; active = false; height = length st } ∷ es)
-act Return b pc [] es = Stuck
-act Return b pc (s ∷ st) es = if is_wanted wants.Value s then leave es (s ∷ st) else Stuck
-act (Unwind t d it) b pc st es = unwind t it d es st
-act EndFinally b pc (s ∷ st) (e ∷ es) = if e.active then resume s b pc es st else Stuck
-act EndFinally b pc _ _ = Stuck
-act (PopExcept t) b pc st [] = Stuck
-act (PopExcept t) b pc st (e ∷ es) = if e.is_finally then Stuck else go t st es
-act i b pc st es = plain i b pc st es
+act (Setup h last) b p st es = go (suc p) st (record { handler = h; is_finally = last; active = false; height = length st } ∷ es)
+act Return b p [] es = Stuck
+act Return b p (s ∷ st) es = if is_wanted wants.Value s then leave es (s ∷ st) else Stuck
+act (Unwind t d it) b p st es = unwind t it d es st
+act EndFinally b p (s ∷ st) (e ∷ es) = if e.active then resume s b p es st else Stuck
+act EndFinally b p _ _ = Stuck
+act (PopExcept t) b p st [] = Stuck
+act (PopExcept t) b p st (e ∷ es) = if e.is_finally then Stuck else go t st es
+act i b p st es = plain i b p st es
 
+-- the instruction at the position, if there is one
 abbrev pub fetched : Option Action → Choice → ℕ → Stack → List Entry → St
-fetched None c pc st es = Stuck
-fetched (Some i) c pc st es = if c.raises then throw es st else act i c.straight pc st es
+fetched None c p st es = Stuck
+fetched (Some i) c p st es = if c.raises then throw es st else act i c.straight p st es
 
+-- stuck, where it has no room
 abbrev pub within : Bool → St → St
 within true s = s
 within false s = Stuck
 
 -- one step. It is stuck where slots or entries pass their room, outside the code, and where a slot is missing or wrong.
 abbrev pub step : Code → Choice → St → St
-step code c (Run pc st es) = within (nat_le (code.locals + length st) code.n_state && nat_le (length es) code.n_exc) (fetched (slice_get code.actions pc) c pc st es)
+step code c (Run p st es) =
+    within (nat_le (code.locals + length st) code.n_state && nat_le (length es) code.n_exc) (fetched (slice_get code.actions p) c p st es)
 step code c Ends = Ends
 step code c Stuck = Stuck
 
+-- a step for each choice
 abbrev pub steps : Code → List Choice → St → St
 steps code [] s = s
 steps code (c ∷ cs) s = steps code cs (step code c s)

@@ -1,5 +1,5 @@
 -- What the code's values are as the definitions'.
-use Rattle.std.specs.Prelude.{ℕ, Bool, true, false, List, [], ◌∷◌, ◌++◌, replicate, map, Option, Some, None, Result, Ok, Err, Vec}
+use Rattle.std.specs.Prelude.{◌≡◌, ℕ, Bool, true, false, List, [], ◌∷◌, ◌++◌, map, Option, Some, None, Result, Ok, Err, Vec}
 use Rattle.std.specs.declared.alloc.Global.{Global}
 use Rattle.bc_flow.specs.declared.kinds.Want.{Want}
 use Rattle.bc_flow.specs.declared.kinds.Give.{Give}
@@ -16,7 +16,7 @@ use Rattle.bc_flow.specs.declared.walk.State.{State}
 use Rattle.bc_flow.specs.declared.walk.State.TheVariants as states
 use Rattle.bc_flow.specs.Action.{Action, Straight, Branch, Jump, Setup, PopExcept, EndFinally, Unwind, Return, Raise, takes, gives}
 use Rattle.bc_flow.specs.Shape.{At}
-use Rattle.bc_flow.specs.Edges.{Edge}
+use Rattle.bc_flow.specs.Edges.{Way, Edge, edge_of}
 use Rattle.bc_flow.specs.Verified.{Cell, Unseen, Pending, Done, Table, Visit, Bad, Good}
 
 abbrev pub takes_of : Takes → List Want
@@ -36,6 +36,7 @@ action_of (rust.Unwind to count iterator) = Unwind to count iterator
 action_of rust.Return = Return
 action_of (rust.Raise count) = Raise count
 
+-- the items of a vector
 abbrev pub items_of : {A : Type 0} → Vec A Global → List A
 items_of v = v.items
 
@@ -44,6 +45,10 @@ at_of s = record { slots = s.slots.items; entries = s.entries.items }
 
 abbrev pub edge_of_rust : RustEdge → Edge
 edge_of_rust e = record { to = e.to; at = at_of e.at }
+
+-- the edges of these ways were added
+abbrev pub AddsEdges : Action → At → List RustEdge → List RustEdge → List Way → Type 0
+AddsEdges a x old new ways = map edge_of_rust new ≡ map edge_of_rust old ++ map (edge_of a x) ways
 
 abbrev pub option_list : {A : Type 0} → Option A → List A
 option_list None = []

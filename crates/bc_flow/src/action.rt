@@ -63,12 +63,7 @@ pub(crate) enum Action {
     Raise(u32),
 }
 
-fn straight(
-    values: u32,
-    wants: &'static [Want],
-    new_values: u32,
-    gives: &'static [Give],
-) -> Action
+fn straight(values: u32, wants: &'static [Want], new_values: u32, gives: &'static [Give]) -> Action
     ensures { action_of result ≡ specs.straight values wants.now new_values gives.now }
 {
     let takes = Takes {
@@ -82,12 +77,7 @@ fn straight(
     Action::Straight(takes, gives)
 }
 
-fn branch(
-    takes: Takes,
-    gives: Gives,
-    there: &'static [Give],
-    to: usize,
-) -> Action
+fn branch(takes: Takes, gives: Gives, there: &'static [Give], to: usize) -> Action
     ensures { action_of result ≡ specs.branch takes.values takes.others.now gives.values gives.others.now there.now to }
 {
     let there = Gives {

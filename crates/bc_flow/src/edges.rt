@@ -5,7 +5,7 @@ ghost use Rattle.bc_flow.specs.Action.{Action as Does};
 ghost use Rattle.bc_flow.specs.Edges as specs;
 ghost use Rattle.bc_flow.specs.Code.{code_of};
 ghost use Rattle.bc_flow.specs.Shape.{At};
-ghost use Rattle.bc_flow.specs.Views.{action_of, at_of, edge_of_rust, takes_of, gives_of, behind_of};
+ghost use Rattle.bc_flow.specs.Views.{action_of, at_of, edge_of_rust, takes_of, gives_of, behind_of, AddsEdges};
 
 use crate::action::{Action, Gives, Takes};
 use crate::code::Code;
@@ -212,15 +212,10 @@ fn mark(to: usize, entry: Entry) -> Entry
 }
 
 /// The edge to the position with these slots.
-fn arrive(
-    alloc: Global,
-    to: usize,
-    entries: Behind,
-    slots: Vec<Kind>,
-) -> Result<Edge, NoMemory>
-    ensures { IfOk result (λ e. edge_of_rust e ≡ record { to = to; at = record { slots = slots.items; entries = map (specs.mark to) (behind_of entries.entry) } }) }
+fn arrive(alloc: Global, to: usize, entries: Behind, slots: Vec<Kind>) -> Result<Edge, NoMemory>
+    ensures { IfOk result (λ e. edge_of_rust e ≡ specs.edge_to to slots.items (behind_of entries.entry)) }
 {
-    let mut marked = Vec::new(alloc);
+    let mut marked = Vec::with_capacity(alloc, entries.len())?;
     if let Some(entry) = entries.new {
         marked.push(mark(to, entry))?;
     }
@@ -259,7 +254,8 @@ fn pushed(
 /// The edge into a handler, over these entries.
 #[tactic(auto, unfolding(crate::specs::Edges::slots_of))]
 fn enter(alloc: Global, x: &Shape, entry: Entry, below: &[Entry]) -> Result<Edge, NoMemory>
-    ensures { (a : Does) → IfOk result (λ e. edge_of_rust e ≡ specs.edge_of a (at_of x.now) (specs.way_in entry below.now)) }
+    ensures { (a : Does) → IfOk result (λ e. edge_of_rust e
+        ≡ specs.edge_of a (at_of x.now) (specs.way_in entry below.now)) }
 {
     let active = Entry {
         handler: entry.handler,
@@ -277,7 +273,8 @@ fn enter(alloc: Global, x: &Shape, entry: Entry, below: &[Entry]) -> Result<Edge
 
 /// Adds the edge to the handler of the topmost entry that isn't active.
 fn push_raise(alloc: Global, edges: &mut Vec<Edge>, x: &Shape) -> Result<(), NoMemory>
-    ensures { (a : Does) → OnOk result (map edge_of_rust edges.new.items ≡ map edge_of_rust edges.old.items ++ map (specs.edge_of a (at_of x.now)) (specs.raise_ways x.now.entries.items)) }
+    ensures { (a : Does) → OnOk result (AddsEdges a (at_of x.now) edges.old.items edges.new.items
+        (specs.raise_ways x.now.entries.items)) }
 {
     for (i, entry) in x.entries.iter().enumerate() {
         if !entry.active {
@@ -297,7 +294,8 @@ fn push_run(
     entry: Entry,
     below: &[Entry],
 ) -> Result<(), NoMemory>
-    ensures { (a : Does) → OnOk result (map edge_of_rust edges.new.items ≡ map edge_of_rust edges.old.items ++ map (specs.edge_of a (at_of x.now)) (specs.one_run entry below.now)) }
+    ensures { (a : Does) → OnOk result (AddsEdges a (at_of x.now) edges.old.items edges.new.items
+        (specs.one_run entry below.now)) }
 {
     if entry.is_finally && !entry.active {
         let edge = enter(alloc, x, entry, below)?;
@@ -315,7 +313,8 @@ fn push_runs(
     entries: &[Entry],
     count: usize,
 ) -> Result<(), NoMemory>
-    ensures { (a : Does) → OnOk result (map edge_of_rust edges.new.items ≡ map edge_of_rust edges.old.items ++ map (specs.edge_of a (at_of x.now)) (specs.run_ways count entries.now)) }
+    ensures { (a : Does) → OnOk result (AddsEdges a (at_of x.now) edges.old.items edges.new.items
+        (specs.run_ways count entries.now)) }
 {
     for (i, entry) in entries.iter().enumerate() {
         if i >= count {
@@ -336,7 +335,9 @@ fn push_next(
     base: &[Kind],
 ) -> Result<(), NoMemory>
     requires { p + 1 < 2 ^ 64 }
-    ensures { (x : At) → base.now ≡ specs.base (action_of action.now) x → OnOk result (map edge_of_rust edges.new.items ≡ map edge_of_rust edges.old.items ++ map (specs.edge_of (action_of action.now) x) (specs.next_way true p (behind_of behind.entry))) }
+    ensures { (x : At) → base.now ≡ specs.base (action_of action.now) x
+        → OnOk result (AddsEdges (action_of action.now) x edges.old.items edges.new.items
+        (specs.next_way true p (behind_of behind.entry))) }
 {
     let slots = after(alloc, gives(action), takes(action).len(), base)?;
     let edge = arrive(alloc, p + 1, behind, slots)?;
@@ -352,7 +353,9 @@ fn push_jump(
     behind: Behind,
     base: &[Kind],
 ) -> Result<(), NoMemory>
-    ensures { (x : At) → base.now ≡ specs.base (action_of action.now) x → OnOk result (map edge_of_rust edges.new.items ≡ map edge_of_rust edges.old.items ++ map (specs.edge_of (action_of action.now) x) (specs.jump_way (specs.target (action_of action.now)) (behind_of behind.entry))) }
+    ensures { (x : At) → base.now ≡ specs.base (action_of action.now) x
+        → OnOk result (AddsEdges (action_of action.now) x edges.old.items edges.new.items
+        (specs.jump_way (specs.target (action_of action.now)) (behind_of behind.entry))) }
 {
     if let Some(to) = target(action) {
         let slots = after(alloc, gives_there(action), takes(action).len(), base)?;
@@ -374,7 +377,8 @@ pub(crate) fn edges(
 ) -> Result<Vec<Edge>, NoMemory>
     requires within { p < length code.now.items.items }
     requires base_is { base.now ≡ specs.base (action_of action.now) (at_of x.now) }
-    ensures { IfOk result (λ v. map edge_of_rust v.items ≡ specs.edges (code_of code.now) (action_of action.now) p (at_of x.now)) }
+    ensures { IfOk result (λ v. map edge_of_rust v.items
+        ≡ specs.edges (code_of code.now) (action_of action.now) p (at_of x.now)) }
 {
     let mut edges = Vec::new(alloc);
     let behind = entries_behind(change_of(action), x.slots.len(), &x.entries);
@@ -383,6 +387,12 @@ pub(crate) fn edges(
     }
     push_jump(alloc, &mut edges, action, behind, base)?;
     push_raise(alloc, &mut edges, x)?;
-    push_runs(alloc, &mut edges, x, &x.entries, runs(action, x.entries.len()))?;
+    push_runs(
+        alloc,
+        &mut edges,
+        x,
+        &x.entries,
+        runs(action, x.entries.len()),
+    )?;
     Ok(edges)
 }

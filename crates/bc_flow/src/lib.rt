@@ -13,3 +13,6 @@ pub use code::{Code, Fault, Rule, fault_of};
 pub use kinds::Kind;
 pub use shape::{Entry, Shape};
 pub use walk::{State, flow, one_fault, order, progress};
+
+#[cfg(test)]
+mod tests;

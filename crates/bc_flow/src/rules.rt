@@ -58,9 +58,10 @@ fn all_marked(edges: &[Edge]) -> bool
     true
 }
 
-/// Rule 3, but for the entries that meet.
+/// The rule Handlers, but for the entries that meet.
 pub(crate) fn holds(code: &Code, action: &Action, x: &Shape, edges: &[Edge]) -> bool
-    ensures { result ≡ specs.holds_over (code_of code.now) (action_of action.now) (at_of x.now) (map edge_of_rust edges.now) }
+    ensures { result ≡ specs.holds_over (code_of code.now) (action_of action.now) (at_of x.now)
+        (map edge_of_rust edges.now) }
 {
     let behind = entries_behind(change_of(action), x.slots.len(), &x.entries);
     asks(change_of(action), &x.entries) && behind.len() <= code.n_exc && all_marked(edges)
@@ -150,7 +151,7 @@ fn deep(change: Change, entries: &[Entry], taken: usize, slots: usize) -> bool
     }
 }
 
-/// Rule 2, but for the shapes that meet.
+/// The rule Height, but for the shapes that meet.
 #[tactic(auto, unfolding(crate::specs::Edges::finds))]
 pub(crate) fn finds(action: &Action, x: &Shape, base: &[Kind]) -> bool
     requires { base.now ≡ specs.base (action_of action.now) (at_of x.now) }
@@ -176,7 +177,7 @@ fn has_all_room(code: &Code, locals: usize, before: usize, next: usize, there: u
         && has_room(locals, there, code.n_state)
 }
 
-/// Rule 6.
+/// The rule State.
 pub(crate) fn room(code: &Code, locals: usize, action: &Action, x: &Shape, base: &[Kind]) -> bool
     requires base_is { base.now ≡ specs.base (action_of action.now) (at_of x.now) }
     requires locals_are { locals ≡ (code_of code.now).locals }
@@ -188,7 +189,7 @@ pub(crate) fn room(code: &Code, locals: usize, action: &Action, x: &Shape, base:
     has_all_room(code, locals, x.slots.len(), next, there)
 }
 
-/// Rule 4.
+/// The rule Falls.
 #[tactic(auto, unfolding(crate::specs::Edges::stays))]
 pub(crate) fn stays(code: &Code, action: &Action, p: usize) -> bool
     requires { p < length code.now.items.items }

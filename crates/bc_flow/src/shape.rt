@@ -93,11 +93,7 @@ fn give_of(slots: &[Kind], give: Give) -> Kind
 pub(crate) fn below<T>(items: &[T], n: usize) -> &[T]
     ensures { result.now ≡ drop n items.now }
 {
-    if n < items.len() {
-        &items[n..]
-    } else {
-        &[]
-    }
+    if n < items.len() { &items[n..] } else { &[] }
 }
 
 /// So many slots taken, and these given.
@@ -111,7 +107,7 @@ pub(crate) fn after(
     ensures { IfOk result (λ v. v.items ≡ specs.after (gives_of gives) taken slots.now) }
 {
     let left = below(slots, taken);
-    let mut given = Vec::new(alloc);
+    let mut given = Vec::with_capacity(alloc, gives.len().saturating_add(left.len()))?;
     for _i in 0..gives.values {
         given.push(Kind::Value)?;
     }
@@ -156,17 +152,13 @@ fn only(kind: Kind, same: bool) -> Option<Kind>
 
 /// Where two lists of slots meet.
 #[tactic(auto, using(crate::proofs::Loops::join_step, crate::proofs::Loops::join_none, crate::proofs::Loops::prefix_more, crate::proofs::Loops::prefix_none))]
-pub(crate) fn join(
-    alloc: Global,
-    ks: &[Kind],
-    ls: &[Kind],
-) -> Result<Option<Vec<Kind>>, NoMemory>
+pub(crate) fn join(alloc: Global, ks: &[Kind], ls: &[Kind]) -> Result<Option<Vec<Kind>>, NoMemory>
     ensures { IfOk result (λ o. option_map items_of o ≡ specs.join ks.now ls.now) }
 {
     if ks.len() != ls.len() {
         return Ok(None);
     }
-    let mut joined = Vec::new(alloc);
+    let mut joined = Vec::with_capacity(alloc, ks.len())?;
     for (n, k) in ks.iter().enumerate() {
         match join_kind(*k, ls[n]) {
             Some(m) => joined.push(m)?,

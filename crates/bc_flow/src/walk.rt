@@ -171,8 +171,10 @@ fn put_all(
     edges: Vec<Edge>,
     mut from: usize,
 ) -> Result<Option<usize>, NoMemory>
-    ensures table { IfOk result (λ o. has_if (is_some o) states.new.items ≡ specs.put_next (map edge_of_rust edges.items) (Some (table_of states.old.items))) }
-    ensures pending { PendingFrom (table_of states.old.items) from → IfOk result (λ o. IfSome o (PendingFrom (table_of states.new.items))) }
+    ensures table { IfOk result (λ o. has_if (is_some o) states.new.items
+        ≡ specs.put_next (map edge_of_rust edges.items) (Some (table_of states.old.items))) }
+    ensures pending { PendingFrom (table_of states.old.items) from
+        → IfOk result (λ o. IfSome o (PendingFrom (table_of states.new.items))) }
 {
     for edge in edges {
         let to = edge.to;
@@ -186,7 +188,8 @@ fn put_all(
 
 fn set_done(states: &mut Vec<State>, p: usize)
     requires { p < length states.now.items }
-    ensures { (x : At) → IsPending (table_of states.old.items) p x → table_of states.new.items ≡ specs.done_at (table_of states.old.items) p x }
+    ensures { (x : At) → IsPending (table_of states.old.items) p x
+        → table_of states.new.items ≡ specs.done_at (table_of states.old.items) p x }
 {
     let old = mem::replace(&mut states[p], State::Unseen);
     if let State::Pending(x) = old {
@@ -240,8 +243,10 @@ fn act(
 ) -> Result<Result<usize, Rule>, NoMemory>
     requires { p < length states.now.items }
     ensures table { (x : At) → IsPending (table_of states.old.items) p x → IfOk result (λ r. visit_of r states.new.items
-        ≡ specs.after_holds (judged.handlers && judged.meets) judged.height judged.state judged.falls (specs.put_next (map edge_of_rust judged.edges.items) (Some (specs.done_at (table_of states.old.items) p x)))) }
-    ensures pending { (x : At) → IsLeast (table_of states.old.items) p x → IfOk result (λ r. IfOk r (PendingFrom (table_of states.new.items))) }
+        ≡ specs.after_holds (judged.handlers && judged.meets) judged.height judged.state judged.falls
+        (specs.put_next (map edge_of_rust judged.edges.items) (Some (specs.done_at (table_of states.old.items) p x)))) }
+    ensures pending { (x : At) → IsLeast (table_of states.old.items) p x
+        → IfOk result (λ r. IfOk r (PendingFrom (table_of states.new.items))) }
 {
     if !judged.handlers || !judged.meets {
         return Ok(Err(Rule::Handlers));
@@ -274,8 +279,10 @@ fn visit(
     requires long { length states.now.items ≡ length code.now.items.items }
     requires within { p < length code.now.items.items }
     requires locals_are { locals ≡ (code_of code.now).locals }
-    ensures table { (x : At) → IsPending (table_of states.old.items) p x → IfOk result (λ r. visit_of r states.new.items ≡ specs.visit (code_of code.now) (table_of states.old.items) p x) }
-    ensures pending { (x : At) → IsLeast (table_of states.old.items) p x → IfOk result (λ r. IfOk r (PendingFrom (table_of states.new.items))) }
+    ensures table { (x : At) → IsPending (table_of states.old.items) p x → IfOk result (λ r. visit_of r states.new.items
+        ≡ specs.visit (code_of code.now) (table_of states.old.items) p x) }
+    ensures pending { (x : At) → IsLeast (table_of states.old.items) p x
+        → IfOk result (λ r. IfOk r (PendingFrom (table_of states.new.items))) }
 {
     let judged = match &states[p] {
         State::Pending(x) => judge(alloc, code, locals, states, p, x)?,
@@ -358,5 +365,6 @@ pub fn progress()
 
 /// There is one first fault.
 pub fn one_fault()
-    ensures { (code : SpecCode) (r s : Rule) (p q : ℕ) → FirstFault code r p → FirstFault code s q → (r ≡ s) × (p ≡ q) }
+    ensures { (code : SpecCode) (r s : Rule) (p q : ℕ) → FirstFault code r p → FirstFault code s q
+        → (r ≡ s) × (p ≡ q) }
 {}

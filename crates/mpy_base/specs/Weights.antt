@@ -1,7 +1,7 @@
 -- What makings take of an arena's cells and bytes, and when they fit.
 use Rattle.std.specs.Prelude.{◌≡◌, ℕ, zero, suc, ◌+◌, ◌*◌, ◌-◌, ◌^◌, ◌≤◌, min, Bool, true, false, ◌&&◌, nat_le, List, [], ◌∷◌, ◌++◌, length, Some, None, replicate, if◌then◌else◌}
 use Rattle.mpy_base.specs.declared.room.NoRoom.{NoRoom}
-use Rattle.mpy_base.specs.World.{Object, ListObject, TupleObject, TextObject, DictObject, FunctionObject, ExceptionObject, MethodObject, RangeObject, ModuleObject, Heap, room_at, with_object}
+use Rattle.mpy_base.specs.World.{Object, ListObject, TupleObject, TextObject, DictObject, FunctionObject, ExceptionObject, MethodObject, RangeObject, ModuleObject, Heap, items_at, pairs_at, room_at, with_object}
 
 -- the cells of an object behind its first
 abbrev pub more_cells : {V N : Type 0} → Object V N → ℕ
@@ -94,7 +94,17 @@ dict_growth heap n pairs = if nat_le pairs (room_at heap n) then 0 else 3 * room
 abbrev pub grown_room : {V N : Type 0} → Heap V N → ℕ → ℕ → ℕ
 grown_room heap n items = if nat_le items (room_at heap n) then room_at heap n else room_for items
 
--- a list that holds these items from now on. The cells that it had stay used
+-- a list with the same items, in a room that holds so many. The cells that it had stay used
+abbrev pub with_list_room : {V N : Type 0} → Heap V N → ℕ → ℕ → Heap V N
+with_list_room heap n items =
+    with_object (with_used heap (list_growth heap n items)) n (ListObject (items_at heap n) (grown_room heap n items))
+
+-- a dict with the same pairs, in a room that holds so many
+abbrev pub with_dict_room : {V N : Type 0} → Heap V N → ℕ → ℕ → Heap V N
+with_dict_room heap n pairs =
+    with_object (with_used heap (dict_growth heap n pairs)) n (DictObject (pairs_at heap n) (grown_room heap n pairs))
+
+-- a list that holds these items from now on
 abbrev pub with_items : {V N : Type 0} → Heap V N → ℕ → List V → Heap V N
 with_items heap n items =
     with_object (with_used heap (list_growth heap n (length items))) n (ListObject items (grown_room heap n (length items)))

@@ -93,6 +93,11 @@ abbrev pub pairs_of : {V N : Type 0} → Option (Object V N) → List (V × V)
 pairs_of (Some (DictObject pairs room)) = pairs
 pairs_of _ = []
 
+-- the dict of a module's names, once it is set
+abbrev pub names_of : {V N : Type 0} → Option (Object V N) → Option ℕ
+names_of (Some (ModuleObject name names)) = names
+names_of _ = None
+
 abbrev pub items_at : {V N : Type 0} → Heap V N → ℕ → List V
 items_at heap n = items_of (object heap.objects n)
 

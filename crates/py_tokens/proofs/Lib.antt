@@ -1,6 +1,17 @@
+pub mod Classes
+pub mod Escapes
+pub mod Fronts
+pub mod Going
+pub mod Lexemes
+pub mod Literals
 pub mod Names
 pub mod Numbers
 pub mod Operators
+pub mod Prefixes
+pub mod Reading
+pub mod Readings
+pub mod Seams
+pub mod Sources
 pub mod Tables
 pub mod Values
 pub mod Words

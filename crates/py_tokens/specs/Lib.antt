@@ -1,5 +1,13 @@
 pub mod Digits
+pub mod Escape
+pub mod Going
+pub mod Lexeme
+pub mod LineEnd
+pub mod Lines
+pub mod Literal
 pub mod Name
 pub mod Number
 pub mod Operator
+pub mod Prefix
+pub mod Tokens
 pub mod Word

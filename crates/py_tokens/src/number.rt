@@ -109,7 +109,7 @@ fn small(value: Option<u64>) -> Result<i32, NumberFault>
     }
 }
 
-fn read_number(run: &[u8]) -> Result<i32, NumberFault>
+pub(crate) fn read_number(run: &[u8]) -> Result<i32, NumberFault>
     ensures { Says run.now result }
 {
     if let Some((base, digits)) = prefixed(run) {

@@ -1,4 +1,4 @@
-use Rattle.std.proofs.Common.{◌≡◌, ◌∙◌, ◌+◌, ◌-◌, ap, length, sym, rules, arith}
+use Rattle.std.proofs.Common.{◌≡◌, ◌∙◌, ◌+◌, ◌-◌, ap, length, rules, arith}
 use Rattle.bc_flow.specs.Code.{code_of}
 use Rattle.bc_flow.specs.Edges.{gives, gives_there, takes, has_room}
 use Rattle.bc_flow.specs.Views.{action_of, at_of}

@@ -1,7 +1,4 @@
-use Rattle.std.proofs.Common.{◌≡◌, ap, sym, ◌∙◌, ◌&&◌, arith, drop, ◌-◌, length, take}
-use Rattle.std.proofs.lemmas.List.{take_all}
-use Rattle.std.proofs.Common.{length-drop}
-use Rattle.bc_flow.specs.Shape.{fits}
+use Rattle.std.proofs.Common.{ap, sym, ◌∙◌, ◌&&◌, arith}
 use Rattle.bc_flow.proofs.Loops.{fits_rest, fits_few, after_values, first_false}
 use Rattle.bc_flow.proofs.shape.fits.Goals as goal
 

@@ -1,4 +1,3 @@
-use Rattle.std.proofs.Common.{◌≤◌, ℕ}
 use Rattle.bc_flow.specs.Verified.{PendingFrom}
 use Rattle.bc_flow.specs.Views.{table_of}
 use Rattle.bc_flow.proofs.walk.least.Given as goal

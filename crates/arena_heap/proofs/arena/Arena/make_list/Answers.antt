@@ -1,11 +1,11 @@
-use Rattle.std.proofs.Common.{ℕ, suc, ◌+◌, ◌*◌, ◌≡◌, List, [], ◌∷◌, ◌++◌, length, Some, None, sym, ◌∙◌, subst, replicate, arith, le_refl}
+use Rattle.std.proofs.Common.{ℕ, suc, ◌+◌, ◌*◌, ◌≡◌, List, [], ◌∷◌, ◌++◌, length, Some, None, sym, ◌∙◌, subst, replicate, arith, le_refl, ap}
 use Rattle.std.proofs.Math.Path.{ap₂}
 use Rattle.std.proofs.lemmas.List.Elements.{All-nil}
 use Rattle.arena_heap.specs.declared.cells.Cell.{Cell}
 use Rattle.arena_heap.specs.declared.cells.Cell.TheVariants as variants
-use Rattle.mpy_base.specs.World.{ListObject}
+use Rattle.mpy_base.specs.World.{kind_of, ListObject}
 use Rattle.mpy_base.specs.Weights.{Fits, more_cells, room_for}
-use Rattle.mpy_base.proofs.Worlds.{later_made}
+use Rattle.mpy_base.proofs.Worlds.{later_made, object_made}
 use Rattle.mpy_base.proofs.Rooms.{room_is}
 use Rattle.arena_heap.specs.Values.{ArenaObject, Leads}
 use Rattle.arena_heap.specs.Cells.{blank, Holds}
@@ -41,3 +41,6 @@ returns-clause-later c = later_made (returns-clause-made c)
 
 pub overflow_add-start : goal.overflow_add-start
 overflow_add-start c = let f = seen_fits c.self.inside c.self.view_is (let e : 3 + 1 * room_for c.args.items ≡ suc (2 + room_for c.args.items) = omega arith in subst (λ (x : ℕ). Fits c.args.self.now x 0) e c.in_ok-room.ensures.fits) in omega (arith, f.0, c.self.invariant.cells_few)
+
+pub returns-clause-kind : goal.returns-clause-kind
+returns-clause-kind c = ap kind_of (object_made (returns-clause-made c))

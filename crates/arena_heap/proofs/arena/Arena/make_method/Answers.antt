@@ -1,9 +1,9 @@
 use Rattle.std.proofs.Common.{List, ◌∷◌, ◌++◌, Some, None, sym, ◌∙◌, ap, subst, replicate, arith, le_refl}
 use Rattle.arena_heap.specs.declared.cells.Cell.{Cell}
 use Rattle.arena_heap.specs.declared.cells.Cell.TheVariants as variants
-use Rattle.mpy_base.specs.World.{MethodObject}
+use Rattle.mpy_base.specs.World.{kind_of, MethodObject}
 use Rattle.mpy_base.specs.Weights.{more_cells}
-use Rattle.mpy_base.proofs.Worlds.{later_made}
+use Rattle.mpy_base.proofs.Worlds.{later_made, object_made}
 use Rattle.arena_heap.specs.Values.{ArenaObject, Leads}
 use Rattle.arena_heap.specs.Cells.{blank, Holds}
 use Rattle.arena_heap.proofs.NewObjects.{method_made}
@@ -34,3 +34,6 @@ returns-clause-made c = made_seen c.self.inside c.self.view_is (new c) _ _ c.in_
 
 pub returns-clause-later : goal.returns-clause-later
 returns-clause-later c = later_made (returns-clause-made c)
+
+pub returns-clause-kind : goal.returns-clause-kind
+returns-clause-kind c = ap kind_of (object_made (returns-clause-made c))

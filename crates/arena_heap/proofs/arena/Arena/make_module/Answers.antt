@@ -1,9 +1,9 @@
-use Rattle.std.proofs.Common.{List, ◌∷◌, ◌++◌, Some, None, sym, subst, replicate, arith, le_refl}
+use Rattle.std.proofs.Common.{List, ◌∷◌, ◌++◌, Some, None, sym, subst, replicate, arith, le_refl, ap}
 use Rattle.std.proofs.lemmas.List.Elements.{All-nil}
 use Rattle.arena_heap.specs.declared.cells.Cell.{Cell}
-use Rattle.mpy_base.specs.World.{ModuleObject}
+use Rattle.mpy_base.specs.World.{kind_of, ModuleObject}
 use Rattle.mpy_base.specs.Weights.{more_cells}
-use Rattle.mpy_base.proofs.Worlds.{later_made}
+use Rattle.mpy_base.proofs.Worlds.{later_made, object_made}
 use Rattle.arena_heap.specs.Values.{ArenaObject, Leads}
 use Rattle.arena_heap.specs.Cells.{Holds}
 use Rattle.arena_heap.proofs.NewObjects.{module_made}
@@ -33,3 +33,6 @@ returns-clause-made c = made_seen c.self.inside c.self.view_is (new c) _ _ c.in_
 
 pub returns-clause-later : goal.returns-clause-later
 returns-clause-later c = later_made (returns-clause-made c)
+
+pub returns-clause-kind : goal.returns-clause-kind
+returns-clause-kind c = ap kind_of (object_made (returns-clause-made c))

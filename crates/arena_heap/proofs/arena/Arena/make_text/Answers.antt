@@ -5,9 +5,9 @@ use Rattle.std.proofs.lemmas.List.{length-replicate}
 use Rattle.std.proofs.lemmas.List.Elements.{All-nil, All-replicate}
 use Rattle.arena_heap.specs.declared.cells.Cell.{Cell}
 use Rattle.arena_heap.specs.declared.cells.Cell.TheVariants as variants
-use Rattle.mpy_base.specs.World.{TextObject}
+use Rattle.mpy_base.specs.World.{kind_of, TextObject}
 use Rattle.mpy_base.specs.Weights.{Fits, more_cells}
-use Rattle.mpy_base.proofs.Worlds.{later_made}
+use Rattle.mpy_base.proofs.Worlds.{later_made, object_made}
 use Rattle.arena_heap.specs.Values.{ArenaObject, Leads}
 use Rattle.arena_heap.specs.Cells.{blank, Holds}
 use Rattle.arena_heap.proofs.NewObjects.{text_made}
@@ -46,3 +46,6 @@ returns-clause-later c = later_made (returns-clause-made c)
 
 pub take_bytes-requires : goal.take_bytes-requires
 take_bytes-requires c = let f = seen_fits c.self.inside c.self.view_is c.in_ok-ask.ensures.ok in omega (arith, f.1, c.self.invariant.bytes_taken)
+
+pub returns-clause-kind : goal.returns-clause-kind
+returns-clause-kind c = ap kind_of (object_made (returns-clause-made c))

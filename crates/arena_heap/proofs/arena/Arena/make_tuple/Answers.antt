@@ -1,13 +1,13 @@
-use Rattle.std.proofs.Common.{ℕ, suc, ◌+◌, ◌-◌, ◌^◌, ◌<◌, ◌≡◌, min, List, ◌∷◌, ◌++◌, length, Some, None, sym, subst, replicate, arith, le_refl}
+use Rattle.std.proofs.Common.{ℕ, suc, ◌+◌, ◌-◌, ◌^◌, ◌<◌, ◌≡◌, min, List, ◌∷◌, ◌++◌, length, Some, None, sym, subst, replicate, arith, le_refl, ap}
 use Rattle.std.proofs.lemmas.List.{length-replicate}
 use Rattle.arena_heap.proofs.Views.{fits_uncapped}
 use Rattle.std.proofs.lemmas.List.Elements.{All-replicate}
 use Rattle.arena_heap.specs.declared.value.Value.TheVariants as values
 use Rattle.arena_heap.specs.declared.cells.Cell.{Cell}
 use Rattle.arena_heap.specs.declared.value.Value.{Value}
-use Rattle.mpy_base.specs.World.{Heap, TupleObject}
+use Rattle.mpy_base.specs.World.{kind_of, Heap, TupleObject}
 use Rattle.mpy_base.specs.Weights.{Fits, more_cells}
-use Rattle.mpy_base.proofs.Worlds.{later_made}
+use Rattle.mpy_base.proofs.Worlds.{later_made, object_made}
 use Rattle.arena_heap.specs.Values.{ArenaObject, Leads}
 use Rattle.arena_heap.specs.Cells.{Holds}
 use Rattle.arena_heap.proofs.NewObjects.{tuple_made}
@@ -42,3 +42,6 @@ returns-clause-made c = made_seen c.self.inside c.self.view_is (new c) _ _ (fits
 
 pub returns-clause-later : goal.returns-clause-later
 returns-clause-later c = later_made (returns-clause-made c)
+
+pub returns-clause-kind : goal.returns-clause-kind
+returns-clause-kind c = ap kind_of (object_made (returns-clause-made c))

@@ -1,0 +1,11 @@
+use Rattle.py_tokens.proofs.Readings.{one_list, one_fault, apart}
+use Rattle.py_tokens.proofs.source.tokens_law.Goals as goal
+
+pub returns-clause-one_list : goal.returns-clause-one_list
+returns-clause-one_list c = one_list
+
+pub returns-clause-one_fault : goal.returns-clause-one_fault
+returns-clause-one_fault c = one_fault
+
+pub returns-clause-apart : goal.returns-clause-apart
+returns-clause-apart c = apart
