@@ -1,12 +1,12 @@
 -- Bytes begin one thing.
-use Rattle.std.proofs.Common.{◌≡◌, ◌⊎◌, ℕ, ◌≤◌, List, [], ◌∷◌, inl, inr, refl, sym, arith}
+use Rattle.std.proofs.Common.{◌≡◌, ◌⊎◌, ℕ, List, [], ◌∷◌, inl, inr, refl, arith}
 use Rattle.py_tokens.specs.declared.lexeme.Class.{Class}
 use Rattle.py_tokens.specs.declared.lexeme.Class.TheVariants as classes
 use Rattle.py_tokens.specs.LineEnd.{IsLineByte}
 use Rattle.py_tokens.specs.Name.{IsDigit, IsNameStart}
 use Rattle.py_tokens.specs.Number.{BeginsRun}
 use Rattle.py_tokens.specs.Literal.{IsQuote, IsPrintable}
-use Rattle.py_tokens.specs.Lexeme.{IsBlank, IsMark, Announces}
+use Rattle.py_tokens.specs.Lexeme.{IsBlank, Announces}
 
 abbrev IsHash : ℕ → Type 0
 IsHash byte = byte ≡ 35

@@ -1,15 +1,12 @@
 -- One lexeme or fault stands in front of bytes.
-use Rattle.std.proofs.Common.{◌≡◌, ◌⊎◌, ℕ, ◌+◌, ◌≤◌, Bool, true, false, List, [], ◌∷◌, ◌++◌, length, drop, codes, Contains, Result, Ok, Err, ℤ, inl, inr, refl, sym, ap, ◌∙◌, subst, arith}
+use Rattle.std.proofs.Common.{◌≡◌, ℕ, ◌+◌, Bool, true, false, List, [], ◌∷◌, ◌++◌, length, drop, Result, Ok, Err, ℤ, inl, inr, refl, sym, ap, ◌∙◌, subst}
 use Rattle.std.proofs.lemmas.List.Elements.{All-head, All-tail}
 use Rattle.std.specs.List.{All}
-use Rattle.mpy_base.specs.declared.source.SourceCode.TheVariants as code
-use Rattle.py_tokens.specs.declared.lexeme.Lexeme.{Lexeme}
 use Rattle.py_tokens.specs.declared.lexeme.Lexeme.TheVariants as lexemes
 use Rattle.py_tokens.specs.declared.lexeme.Class.{Class}
 use Rattle.py_tokens.specs.declared.lexeme.Class.TheVariants as classes
 use Rattle.py_tokens.specs.declared.prefix.Prefix.{Prefix}
 use Rattle.py_tokens.specs.declared.prefix.Prefix.TheVariants as prefixes
-use Rattle.py_tokens.specs.declared.token.Tok.{Tok}
 use Rattle.py_tokens.specs.declared.token.Tok.TheVariants as toks
 use Rattle.py_tokens.specs.declared.word.Word.{Word}
 use Rattle.py_tokens.specs.declared.number.NumberFault.{NumberFault}
@@ -18,10 +15,9 @@ use Rattle.py_tokens.specs.declared.string.StringFault.{StringFault}
 use Rattle.py_tokens.specs.LineEnd.{Begins, IsLineByte, IsLineEnd}
 use Rattle.py_tokens.specs.Name.{IsNamePart}
 use Rattle.py_tokens.specs.Number as number
-use Rattle.py_tokens.specs.Word.{spelling, refused_words, IsWord}
-use Rattle.py_tokens.specs.Prefix.{IsPrefix}
-use Rattle.py_tokens.specs.Literal.{IsQuote, IsLiteral, IsLiteralFault}
-use Rattle.py_tokens.specs.Lexeme.{Answer, IsBlank, IsInLine, IsRunOf, Announces, fault, not_in_profile, token, number_answer, operator_answer, string_fault, StringAnswers, PrefixAnswers, WordAnswers, NameAnswers, Answers, IsFront}
+use Rattle.py_tokens.specs.Word.{refused_words, IsWord}
+use Rattle.py_tokens.specs.Literal.{IsLiteralFault}
+use Rattle.py_tokens.specs.Lexeme.{Answer, IsBlank, IsInLine, IsRunOf, Announces, token, number_answer, operator_answer, string_fault, StringAnswers, PrefixAnswers, WordAnswers, NameAnswers, Answers, IsFront}
 use Rattle.py_tokens.proofs.Numbers.{one_answer}
 use Rattle.py_tokens.proofs.Operators.{one_longest}
 use Rattle.py_tokens.proofs.Tables.{contains_any}

@@ -11,7 +11,7 @@ use Rattle.py_tokens.specs.declared.lines.Change.{Change}
 use Rattle.py_tokens.specs.declared.token.Tok.{Tok}
 use Rattle.py_tokens.specs.declared.token.Tok.TheVariants as toks
 use Rattle.py_tokens.specs.declared.token.Token.{Token}
-use Rattle.py_tokens.specs.Lines.{Piece, Place, Line, Level, Tokens, count_behind, brackets_behind, ends_line, empty_token, newline, level, level_of_first, lines, all_lines, with_piece, tokens_of, with_token, with_front, change, change_at, innermost, change_tokens, levels_behind, line_tokens, changed_line, is_empty, with_line, all_tokens, last_tokens, bad_indent, tokens_of_pieces}
+use Rattle.py_tokens.specs.Lines.{Piece, Place, Line, Level, Tokens, count_behind, brackets_behind, ends_line, empty_token, newline, level, level_of_first, lines, all_lines, with_piece, tokens_of, with_front, change, change_at, innermost, change_tokens, levels_behind, line_tokens, changed_line, all_tokens, bad_indent, tokens_of_pieces}
 use Rattle.py_tokens.specs.Going.{known_level, from_here, goes_from}
 
 abbrev Stop : Type 0

@@ -1,5 +1,5 @@
 -- What is found in front of bytes.
-use Rattle.std.proofs.Common.{◌≡◌, ◌⊎◌, ◌↔◌, ℕ, zero, suc, ◌+◌, ◌-◌, ◌<◌, ◌≤◌, Bool, true, false, cond, List, [], ◌∷◌, ◌++◌, length, take, drop, get_or, codes, Contains, Option, Some, None, MatchOption, Result, Ok, Err, ℤ, inl, inr, refl, sym, ap, ◌∙◌, subst, append_assoc, arith}
+use Rattle.std.proofs.Common.{◌≡◌, ◌⊎◌, ℕ, ◌+◌, ◌-◌, ◌<◌, ◌≤◌, Bool, cond, List, [], ◌∷◌, ◌++◌, length, take, drop, get_or, Contains, Option, Some, None, MatchOption, Result, Ok, Err, ℤ, inl, inr, refl, sym, ap, ◌∙◌, subst, append_assoc, arith}
 use Rattle.std.proofs.lemmas.List.{take-append-drop, length-take-le, take_at, take_all, take-append-le, drop_more, drop_all, length-append, length-drop}
 use Rattle.std.proofs.lemmas.List.Elements.{All-from_recursion, All-cons}
 use Rattle.std.proofs.lemmas.Bool.{cases_order}
@@ -28,7 +28,7 @@ use Rattle.py_tokens.specs.Prefix.{IsPrefix}
 use Rattle.py_tokens.specs.Word.{IsWord, refused_words}
 use Rattle.py_tokens.specs.Literal as literal
 use Rattle.py_tokens.specs.Tokens.{line_ends}
-use Rattle.py_tokens.specs.Lexeme.{Answer, IsRunOf, Announces, StringAnswers, PrefixAnswers, WordAnswers, NameAnswers, Answers, IsFront, not_in_profile, token, number_answer, Refuses, Finds}
+use Rattle.py_tokens.specs.Lexeme.{Answer, IsRunOf, Announces, StringAnswers, PrefixAnswers, WordAnswers, Answers, IsFront, token, number_answer, Refuses, Finds}
 
 abbrev Found : Type 0
 Found = Result (Lexeme × ℕ) (Refused LexemeFault)

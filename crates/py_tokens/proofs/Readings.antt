@@ -1,5 +1,5 @@
 -- A source is read one way.
-use Rattle.std.proofs.Common.{◌≡◌, ◌⊎◌, ℕ, ◌+◌, ◌<◌, ◌≤◌, List, [], ◌∷◌, ◌++◌, length, Result, Ok, Err, MatchResult, Vec, Global, inl, inr, refl, sym, ap, ◌∙◌, subst, arith}
+use Rattle.std.proofs.Common.{◌≡◌, ◌⊎◌, ℕ, ◌+◌, ◌≤◌, List, [], ◌∷◌, ◌++◌, length, Result, Ok, Err, MatchResult, Vec, Global, inl, inr, refl, sym, ap, ◌∙◌, subst, arith}
 use Rattle.mpy_base.specs.declared.limits.TheConstants.{MAX_SOURCE_BYTES}
 use Rattle.std.proofs.lemmas.List.{append-nil}
 use Rattle.mpy_base.specs.declared.refused.Refused.{Refused}

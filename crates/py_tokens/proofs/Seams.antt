@@ -1,5 +1,5 @@
 -- Line ends on both sides of a seam: no lexeme ends between CR and LF.
-use Rattle.std.proofs.Common.{◌≡◌, ◌⊎◌, ℕ, zero, suc, ◌+◌, ◌≤◌, Bool, true, false, cond, eqb, ◌||◌, ◌&&◌, not, List, [], ◌∷◌, ◌++◌, length, take, Result, Ok, Err, ℤ, inl, inr, refl, sym, ap, ◌∙◌, subst, append_assoc, zero-add, arith}
+use Rattle.std.proofs.Common.{◌≡◌, ◌⊎◌, ℕ, zero, suc, ◌+◌, Bool, true, false, cond, eqb, ◌||◌, ◌&&◌, not, List, [], ◌∷◌, ◌++◌, take, Result, Ok, Err, ℤ, inl, inr, refl, sym, ap, ◌∙◌, subst, append_assoc, zero-add, arith}
 use Rattle.std.proofs.lemmas.List.{append-nil}
 use Rattle.std.proofs.lemmas.List.Elements.{All-head, All-tail}
 use Rattle.std.proofs.lemmas.Bool.{eqb-true}
@@ -17,7 +17,7 @@ use Rattle.py_tokens.specs.declared.operator.Op.{Op}
 use Rattle.py_tokens.specs.declared.operator.Op.TheVariants as ops
 use Rattle.py_tokens.specs.declared.operator.Operator.{Operator}
 use Rattle.py_tokens.specs.declared.operator.Operator.TheVariants as operators
-use Rattle.py_tokens.specs.LineEnd.{Begins, IsLineByte, IsLineEnd}
+use Rattle.py_tokens.specs.LineEnd.{Begins, IsLineEnd}
 use Rattle.py_tokens.specs.Name.{IsNamePart}
 use Rattle.py_tokens.specs.Number as number
 use Rattle.py_tokens.specs.Operator.{spelling, Stands, IsLongest}

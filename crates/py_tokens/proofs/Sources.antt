@@ -1,5 +1,5 @@
 -- What has been read of a source, and how it goes on.
-use Rattle.std.proofs.Common.{◌≡◌, ◌⊎◌, ℕ, suc, ◌+◌, ◌≤◌, List, [], ◌∷◌, ◌++◌, length, take, drop, Result, Ok, Err, inl, inr, refl, sym, ap, ◌∙◌, subst, append_assoc, zero-add, arith}
+use Rattle.std.proofs.Common.{◌≡◌, ℕ, suc, ◌+◌, List, [], ◌∷◌, ◌++◌, length, take, drop, Result, Ok, Err, inl, inr, refl, sym, ap, ◌∙◌, subst, append_assoc, zero-add, arith}
 use Rattle.std.proofs.lemmas.List.{append-nil, take-append-drop, take_at, length-append}
 use Rattle.mpy_base.specs.declared.refused.Refused.{Refused}
 use Rattle.mpy_base.specs.declared.refused.Refused.TheVariants as refused
@@ -12,8 +12,8 @@ use Rattle.py_tokens.specs.declared.token.Tok.{Tok}
 use Rattle.py_tokens.specs.declared.token.Token.{Token}
 use Rattle.py_tokens.specs.Going.{goes_on, piece_here, StaysAt, GoesAlike, Adds, OpensLine, fault_from}
 use Rattle.py_tokens.specs.Lexeme.{IsFront}
-use Rattle.py_tokens.specs.Lines.{Piece, Place, Tokens, tokens_of_pieces}
-use Rattle.py_tokens.specs.Tokens.{line_ends, line_at, AreInFront, IsReading, IsRefused, IsFault, Says}
+use Rattle.py_tokens.specs.Lines.{Piece, Place, tokens_of_pieces}
+use Rattle.py_tokens.specs.Tokens.{line_ends, line_at, AreInFront, IsReading, IsFault, Says}
 use Rattle.py_tokens.proofs.Going.{piece_of}
 use Rattle.py_tokens.proofs.Seams.{IsSeam, line_ends-append, front_of_rest, seam_front, front_seam, next_seam}
 

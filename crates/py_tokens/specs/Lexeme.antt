@@ -1,5 +1,5 @@
 -- What stands in front of the bytes of a source, told by the byte or two that they begin with.
-use Rattle.std.specs.Prelude.{◌≡◌, ◌≢◌, ◌⊎◌, ℕ, ◌+◌, ◌<◌, ◌≤◌, List, [], ◌∷◌, ◌++◌, length, take, drop, codes, All, Contains, Bool, true, false, ℤ, pos, Result, Ok, Err}
+use Rattle.std.specs.Prelude.{◌≡◌, ◌≢◌, ◌⊎◌, ℕ, ◌+◌, ◌≤◌, List, [], ◌∷◌, ◌++◌, length, take, drop, codes, All, Contains, Bool, true, false, ℤ, Result, Ok, Err}
 use Rattle.mpy_base.specs.declared.source.SourceCode.{SourceCode}
 use Rattle.mpy_base.specs.declared.source.SourceCode.TheVariants as code
 use Rattle.mpy_base.specs.declared.refused.Refused.{Refused}
@@ -22,7 +22,7 @@ use Rattle.py_tokens.specs.declared.escape.StringFaultKind.TheVariants as string
 use Rattle.py_tokens.specs.declared.string.StringFault.{StringFault}
 use Rattle.py_tokens.specs.declared.word.Word.{Word}
 use Rattle.py_tokens.specs.LineEnd.{Begins, IsLineByte, IsLineEnd}
-use Rattle.py_tokens.specs.Name.{IsNameStart, IsNamePart, IsName}
+use Rattle.py_tokens.specs.Name.{IsNameStart, IsNamePart}
 use Rattle.py_tokens.specs.Word.{IsWord, refused_words}
 use Rattle.py_tokens.specs.Number as number
 use Rattle.py_tokens.specs.Operator.{Spells, Stands, IsLongest}

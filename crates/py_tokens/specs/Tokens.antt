@@ -1,5 +1,5 @@
 -- The tokens of a source, and its first fault.
-use Rattle.std.specs.Prelude.{◌≡◌, ℕ, ◌+◌, ◌<◌, ◌≤◌, ◌⊎◌, List, [], ◌∷◌, ◌++◌, length, take, Result, Ok, Err, if◌then◌else◌, ◌==◌, ◌&&◌, ◌||◌, Bool, false, true, not, Vec}
+use Rattle.std.specs.Prelude.{◌≡◌, ℕ, ◌+◌, ◌<◌, ◌≤◌, ◌⊎◌, List, [], ◌∷◌, ◌++◌, length, take, Result, Ok, Err, if◌then◌else◌, ◌==◌, ◌&&◌, ◌||◌, Bool, false, not, Vec}
 use Rattle.std.specs.declared.alloc.Global.{Global}
 use Rattle.mpy_base.specs.declared.limits.TheConstants.{MAX_SOURCE_BYTES}
 use Rattle.mpy_base.specs.declared.refused.Refused.{Refused}

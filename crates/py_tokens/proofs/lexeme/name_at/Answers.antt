@@ -1,4 +1,4 @@
-use Rattle.std.proofs.Common.{◌≡◌, ◌≤◌, true, false, List, ℕ, take, drop, length, get_or, All, refl, sym, ap, ◌∙◌, subst, arith}
+use Rattle.std.proofs.Common.{◌≡◌, true, false, take, drop, All, sym, ◌∙◌, subst, arith}
 use Rattle.py_tokens.specs.declared.prefix.Prefix.{Prefix}
 use Rattle.py_tokens.specs.LineEnd.{Begins}
 use Rattle.py_tokens.specs.Literal.{IsQuote}

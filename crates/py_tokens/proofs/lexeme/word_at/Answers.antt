@@ -1,4 +1,4 @@
-use Rattle.std.proofs.Common.{◌≡◌, refl, sym, ap, ◌∙◌, arith}
+use Rattle.std.proofs.Common.{ap, ◌∙◌, arith}
 use Rattle.py_tokens.proofs.Lexemes.{word_token, name_token}
 use Rattle.py_tokens.specs.declared.token.Tok.TheVariants as toks
 use Rattle.py_tokens.proofs.lexeme.word_at.Goals.{in-Word, in-Name+in_ok-new-in-Name}

@@ -1,5 +1,4 @@
-use Rattle.std.proofs.Common.{◌≡◌, ℕ, ◌+◌, true, false, Bool, cond, drop, sym, ap, ◌∙◌, subst, arith}
-use Rattle.py_tokens.specs.Tokens.{line_ends}
+use Rattle.std.proofs.Common.{◌≡◌, ℕ, Bool, cond, ap, arith}
 use Rattle.py_tokens.proofs.Lexemes.{line_ends_more}
 use Rattle.py_tokens.proofs.lines.count_line_ends.Goals.{then-ends_line, else-ends_line}
 use Rattle.py_tokens.proofs.lines.count_line_ends.Goals as goal

@@ -1,6 +1,5 @@
 use Rattle.std.proofs.Common.{arith}
 use Rattle.std.proofs.lemmas.List.{length-take-le}
-use Rattle.mpy_base.specs.declared.limits.TheConstants.{MAX_SOURCE_BYTES}
 use Rattle.py_tokens.proofs.source.placed.Goals as goal
 
 pub count_line_ends-requires : goal.count_line_ends-requires

@@ -1,4 +1,4 @@
-use Rattle.std.proofs.Common.{◌≡◌, ◌+◌, ◌++◌, length, sym, subst, Ok, Err, arith}
+use Rattle.std.proofs.Common.{sym, subst, Ok, Err, arith}
 use Rattle.std.proofs.lemmas.Result.{err_from_is_err_and}
 use Rattle.mpy_base.specs.declared.refused.Refused.{Refused}
 use Rattle.py_tokens.specs.declared.lexeme.LexemeFault.{LexemeFault}

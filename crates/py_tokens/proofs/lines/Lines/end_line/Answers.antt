@@ -1,4 +1,4 @@
-use Rattle.std.proofs.Common.{◌≡◌, ℕ, List, ap, ◌∙◌, arith}
+use Rattle.std.proofs.Common.{◌≡◌, ap, ◌∙◌, arith}
 use Rattle.py_tokens.specs.Going.{known_level}
 use Rattle.py_tokens.proofs.Going.{inside, ends_open, ends_closed}
 use Rattle.py_tokens.proofs.lines.Lines.end_line.Goals.{then-self+in_ok-push, else-self}

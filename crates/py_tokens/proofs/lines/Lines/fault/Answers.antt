@@ -1,4 +1,4 @@
-use Rattle.std.proofs.Common.{◌≡◌, ap, ◌∙◌, sym}
+use Rattle.std.proofs.Common.{ap, ◌∙◌, sym}
 use Rattle.py_tokens.specs.Going.{known_level}
 use Rattle.py_tokens.proofs.Going.{faults_open, faults_level, faults_refused, change_is, error}
 use Rattle.py_tokens.proofs.lines.Lines.fault.Goals as goal

@@ -1,4 +1,4 @@
-use Rattle.std.proofs.Common.{◌≡◌, ◌++◌, List, ℕ, [], ◌∷◌, ap, ◌∙◌}
+use Rattle.std.proofs.Common.{◌++◌, List, ℕ, [], ◌∷◌, ap, ◌∙◌}
 use Rattle.py_tokens.proofs.Going.{starts}
 use Rattle.py_tokens.proofs.lines.Lines.new.Goals as goal
 

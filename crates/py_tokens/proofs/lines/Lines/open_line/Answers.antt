@@ -1,4 +1,4 @@
-use Rattle.std.proofs.Common.{◌≡◌, ◌∷◌, true, ap, ◌∙◌, sym}
+use Rattle.std.proofs.Common.{◌∷◌, true, ap, ◌∙◌, sym}
 use Rattle.py_tokens.specs.declared.lexeme.Lexeme.TheVariants as lexemes
 use Rattle.py_tokens.proofs.Going.{piece_of, refuses_level, opens_line, same_state, change_is, error}
 use Rattle.py_tokens.proofs.lines.Lines.open_line.Goals as goal

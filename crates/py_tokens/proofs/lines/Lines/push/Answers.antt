@@ -1,4 +1,3 @@
-use Rattle.std.proofs.Common.{arith}
 use Rattle.py_tokens.specs.Going.{known_level}
 use Rattle.py_tokens.proofs.Going.{adds_token}
 use Rattle.py_tokens.proofs.lines.Lines.push.Goals as goal
