@@ -1,3 +1,5 @@
+mod ValueExamples
+pub mod KeyPairs
 pub mod Powers
 pub mod Quotients
 pub mod Range
