@@ -278,6 +278,7 @@ fn visit(
 ) -> Result<Result<usize, Rule>, NoMemory>
     requires long { length states.now.items ≡ length code.now.items.items }
     requires within { p < length code.now.items.items }
+    requires pending { (x : At) × IsPending (table_of states.now.items) p x }
     requires locals_are { locals ≡ (code_of code.now).locals }
     ensures table { (x : At) → IsPending (table_of states.old.items) p x → IfOk result (λ r. visit_of r states.new.items
         ≡ specs.visit (code_of code.now) (table_of states.old.items) p x) }
@@ -286,7 +287,7 @@ fn visit(
 {
     let judged = match &states[p] {
         State::Pending(x) => judge(alloc, code, locals, states, p, x)?,
-        _ => return Ok(Err(Rule::Falls)),
+        _ => unreachable!(),
     };
     act(alloc, states, p, judged)
 }

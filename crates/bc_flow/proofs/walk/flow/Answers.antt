@@ -25,6 +25,11 @@ visit-requires-clause-within c =
     let l = walks.least_in c.deref.result.now c.loop-p.states.items c.in-Some.p c.deref.ensures.value c.in-Some.ensures.some in
     walks.least_within c.args.code.now (λ e. search rules) (table_of c.loop-p.states.items) c.loop-p.invariant.comes c.in-Some.p l
 
+pub visit-requires-clause-pending : goal.visit-requires-clause-pending
+visit-requires-clause-pending c =
+    let l = walks.least_in c.deref.result.now c.loop-p.states.items c.in-Some.p c.deref.ensures.value c.in-Some.ensures.some in
+    (l.0, l.1.pending)
+
 pub loop-p-smaller : goal.loop-p-smaller
 loop-p-smaller c =
     let l = walks.least_in c.deref.result.now c.loop-p.states.items c.in-Some.p c.deref.ensures.value c.in-Some.ensures.some in

@@ -6,11 +6,8 @@ use Rattle.bc_flow.proofs.Tables.{not_here, same_at}
 use Rattle.bc_flow.proofs.Walks.{if_ok_map, judged_visit}
 use Rattle.bc_flow.proofs.walk.visit.Goals as goal
 
-pub returns-in_default : goal.returns-in_default
-returns-in_default c = record {
-  table = λ x w. absurd (not_here c.args.states.now.items c.args.p c.index.result.now c.index.ensures c.in_default.not-Pending c.args.p x w refl);
-  pending = λ x l. tt;
-}
+pub unreachable-requires : goal.unreachable-requires
+unreachable-requires c = not_here c.args.states.now.items c.args.p c.index.result.now c.index.ensures c.in_default.not-Pending c.args.p c.requires.pending.0 c.requires.pending.1 refl
 
 pub returns-clause-table : goal.returns-clause-table
 returns-clause-table c x w =

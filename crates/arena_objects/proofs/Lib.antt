@@ -1,0 +1,3 @@
+pub mod AfterSet
+pub mod Places
+pub mod Tolds

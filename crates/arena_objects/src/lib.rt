@@ -1,0 +1,18 @@
+//! The calls on the objects of an arena. Those that compare values or read constants stand here: the bytes of a str, and
+//! dicts by their keys. The others are passed on.
+#![tactic(auto)]
+
+mod dicts;
+mod keys;
+mod strs;
+
+pub use arena_heap::{
+    dict_at, dict_len, exc_parts, exc_place, fun_parts, list_append, list_at, list_insert,
+    list_len, list_pop, list_set, method_parts, module_names, module_parts, range_parts, text_fill,
+    tuple_at, tuple_fill, tuple_len,
+};
+pub use dicts::{dict_delete, dict_get, dict_set};
+pub use strs::text_bytes;
+
+#[cfg(test)]
+mod tests;
