@@ -15,7 +15,8 @@ use Rattle.mpy_base.specs.Weights.{with_pairs, dict_growth, grown_room}
 use Rattle.mpy_base.proofs.Worlds.{object_nones, is_within, object_pairs}
 use Rattle.arena_heap.specs.Values.{ArenaObject}
 use Rattle.arena_heap.specs.Dicts.{with_value}
-use Rattle.arena_objects.specs.Keys.{TextKey, key_of, key_in, StandsAt, Lacks, IsValueOf, KeepsOthers, IsDistinct}
+use Rattle.arena_objects.specs.Keys.{key_of, key_in, StandsAt, Lacks, IsValueOf, KeepsOthers, IsDistinct}
+use Rattle.py_values.specs.Keys.{TextKey}
 use Rattle.arena_objects.proofs.Places.{no_pair}
 
 text_of_dict : (o : Option ArenaObject) → kind_of o ≡ Some ADict → text_of o ≡ []

@@ -5,15 +5,10 @@ use Rattle.arena_heap.specs.declared.value.Value.{Value}
 use Rattle.arena_heap.specs.declared.value.Value.TheVariants as values
 use Rattle.arena_heap.specs.declared.value.StrNo.{StrNo}
 use Rattle.arena_heap.specs.declared.value.ConstNo.{ConstNo}
+use Rattle.py_values.specs.Keys.{PlainKey, NoneKey, NumberKey, TextKey}
 use Rattle.mpy_base.specs.World.{Heap, Objects, object, pairs_at, text_at}
 use Rattle.arena_heap.specs.Values.{held}
 use Rattle.arena_heap.specs.Constants.{IsTold}
-
--- what a dict knows of a key: True is the number 1, and a str is its bytes
-pub data PlainKey : Type 0 where
-  NoneKey : PlainKey
-  NumberKey : ℤ → PlainKey
-  TextKey : List ℕ → PlainKey
 
 -- the bytes of a str. Those of one that lies outside the arena are told
 abbrev pub bytes_of : (StrNo → Option (List ℕ)) → Heap Value ℕ → Value → Option (List ℕ)

@@ -1,7 +1,7 @@
 -- A key that was read, as what it is to a dict.
 use Rattle.arena_objects.specs.declared.keys.Key.{Key}
 use Rattle.arena_objects.specs.declared.keys.Key.TheVariants as keys
-use Rattle.arena_objects.specs.Keys.{PlainKey, NoneKey, NumberKey, TextKey}
+use Rattle.py_values.specs.Keys.{PlainKey, NoneKey, NumberKey, TextKey}
 
 abbrev pub plain : Key → PlainKey
 plain keys.None = NoneKey

@@ -5,7 +5,7 @@ use Rattle.std.proofs.lemmas.List.{append_cancel_left}
 use Rattle.std.proofs.lemmas.List.Elements.{recursion_from_All}
 use Rattle.bc_ops.specs.declared.instr.Instr.{Instr}
 use Rattle.bc_ops.specs.declared.listing.Item.{Item}
-use Rattle.bc_ops.specs.Listing.{Piece, IsPiece, joined, starts, items_at, IsListOf}
+use Rattle.bc_ops.specs.Listing.{Piece, IsPiece, joined, starts, items_at, IsListOf, Lists}
 use Rattle.bc_ops.proofs.Law.{one_instruction}
 
 some_text : (piece : Piece) (bytes : List ℕ) → IsPiece piece → [] ≡ piece.text ++ bytes → ⊥
@@ -27,7 +27,15 @@ one_parting (p ∷ ps) (q ∷ qs) s t e =
     let tails : ps ≡ qs = one_parting ps qs s.1 t.1 others in
     cc
 
+same_pieces : (bytes : List ℕ) (a b : List Item) (s : IsListOf bytes a) (t : IsListOf bytes b) → s.pieces ≡ t.pieces
+same_pieces bytes a b s t = one_parting s.pieces t.pieces (recursion_from_All IsPiece s.pieces s.spelled) (recursion_from_All IsPiece t.pieces t.spelled) (sym s.bytes_are ∙ t.bytes_are)
+
 pub one_list : (bytes : List ℕ) (a b : List Item) → IsListOf bytes a → IsListOf bytes b → a ≡ b
 one_list bytes a b s t =
-    let same : s.pieces ≡ t.pieces = one_parting s.pieces t.pieces (recursion_from_All IsPiece s.pieces s.spelled) (recursion_from_All IsPiece t.pieces t.spelled) (sym s.bytes_are ∙ t.bytes_are) in
-    s.items_are ∙ (ap (λ (pieces : List Piece). items_at (starts 0 pieces) 0 pieces) same ∙ sym t.items_are)
+    s.items_are ∙ (ap (λ (pieces : List Piece). items_at (starts 0 pieces) 0 pieces) (same_pieces bytes a b s t) ∙ sym t.items_are)
+
+pub one_listing : (bytes : List ℕ) (a b : List Item) (m n : List ℕ) → Lists bytes a m → Lists bytes b n → (a ≡ b) × (m ≡ n)
+one_listing bytes a b m n s t = (
+  one_list bytes a b s.is_list t.is_list,
+  s.offsets_are ∙ (ap (starts 0) (same_pieces bytes a b s.is_list t.is_list) ∙ sym t.offsets_are),
+)

@@ -1,6 +1,7 @@
 pub mod Code
 pub mod Listing
 pub mod Offset
+pub mod Parting
 pub mod Reading
 pub mod Signed
 pub mod Table

@@ -49,3 +49,8 @@ pub record IsListOf (bytes : List ℕ) (items : List Item) : Type 0 where
   pub spelled : All IsPiece pieces
   pub bytes_are : bytes ≡ joined pieces
   pub items_are : items ≡ items_at (starts 0 pieces) 0 pieces
+
+-- the list of the bytes, and the offset that each of its instructions starts at
+pub record Lists (bytes : List ℕ) (items : List Item) (offsets : List ℕ) : Type 0 where
+  pub is_list : IsListOf bytes items
+  pub offsets_are : offsets ≡ starts 0 is_list.pieces

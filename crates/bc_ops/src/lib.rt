@@ -7,6 +7,7 @@ mod form;
 mod instr;
 mod listing;
 mod offset;
+mod parting;
 mod signed;
 
 pub use decoding::{CodeFault, decode_at, instruction_law};
@@ -14,6 +15,7 @@ pub use encoding::encode;
 pub use instr::{Instr, Op};
 pub use listing::{Item, Target, listing_law};
 pub use offset::offset_fits;
+pub use parting::{Listed, items_of};
 
 #[cfg(test)]
 mod tests;

@@ -2,7 +2,7 @@
 
 ghost use Rattle.std.specs.Prelude.{◌≡◌, ℕ, List};
 ghost use Rattle.bc_ops.specs.declared.listing.Item.{Item};
-ghost use Rattle.bc_ops.specs.Listing.{IsListOf};
+ghost use Rattle.bc_ops.specs.Listing.{IsListOf, Lists};
 
 use crate::instr::{Instr, Op};
 
@@ -25,7 +25,9 @@ pub enum Item {
     Unwind(Target, u8),
 }
 
-/// A code has one list at most.
+/// A code has one list at most, and its instructions start at one list of offsets.
 pub fn listing_law()
-    ensures { (bytes : List ℕ) (a b : List Item) → IsListOf bytes a → IsListOf bytes b → a ≡ b }
+    ensures one_list { (bytes : List ℕ) (a b : List Item) → IsListOf bytes a → IsListOf bytes b → a ≡ b }
+    ensures one_start { (bytes : List ℕ) (a b : List Item) (m n : List ℕ) → Lists bytes a m → Lists bytes b n
+        → (a ≡ b) × (m ≡ n) }
 {}

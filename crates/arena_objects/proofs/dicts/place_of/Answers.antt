@@ -3,7 +3,8 @@ use Rattle.std.specs.Prelude.{slice_get}
 use Rattle.arena_heap.specs.declared.value.Value.{Value}
 use Rattle.mpy_base.specs.World.{pairs_at}
 use Rattle.arena_heap.specs.Constants.{IsTold}
-use Rattle.arena_objects.specs.Keys.{PlainKey, key_of, key_in}
+use Rattle.arena_objects.specs.Keys.{key_of, key_in}
+use Rattle.py_values.specs.Keys.{PlainKey}
 use Rattle.arena_objects.specs.PlainKeys.{plain}
 use Rattle.arena_objects.proofs.Places.{no_pair, read_pair}
 use Rattle.arena_objects.proofs.Tolds.{told_pairs}

@@ -1,0 +1,6 @@
+use Rattle.bc_flow.proofs.Decides.{decides}
+use Rattle.bc_verify.specs.Body.{flow_of}
+use Rattle.bc_verify.proofs.verified.order.Goals as goal
+
+pub returns : goal.returns
+returns c body = decides (flow_of body)

@@ -1,0 +1,37 @@
+-- What a code's own bytes say.
+use Rattle.std.specs.Prelude.{◌≡◌, ℕ, List, length, map}
+use Rattle.bc_ops.specs.declared.listing.Item.{Item}
+use Rattle.bc_ops.specs.Listing.{Lists}
+use Rattle.bc_prelude.specs.declared.prelude.Prelude.{Prelude}
+use Rattle.bc_prelude.specs.Prelude.{Begins}
+use Rattle.bc_flow.specs.declared.code.Code.{Code as RustCode}
+use Rattle.bc_flow.specs.Action.{action}
+use Rattle.bc_flow.specs.Code.{Code, locals}
+
+-- the instructions, and the numbers of the prelude
+pub record Body : Type 0 where
+  pub items : List Item
+  pub n_state : ℕ
+  pub n_exc : ℕ
+  pub arguments : ℕ
+
+-- the bytes are the code, whose instructions start at the offsets
+pub record Says (bytes : List ℕ) (body : Body) (offsets : List ℕ) : Type 0 where
+  pub prelude : Prelude
+  pub begins : Begins bytes prelude
+  pub lists : Lists begins.instructions body.items offsets
+  pub n_state : body.n_state ≡ prelude.n_state
+  pub n_exc : body.n_exc ≡ prelude.n_exc
+  pub arguments : body.arguments ≡ prelude.args
+
+abbrev pub body_of : RustCode → Body
+body_of c = record { items = c.items.items; n_state = c.n_state; n_exc = c.n_exc; arguments = c.arguments }
+
+-- what the flow is about
+abbrev pub flow_of : Body → Code
+flow_of body = record {
+  actions = map (action (length body.items)) body.items;
+  n_state = body.n_state;
+  n_exc = body.n_exc;
+  locals = locals body.arguments body.items;
+}

@@ -1,0 +1,5 @@
+pub mod Body
+pub mod Path
+pub mod Rule
+pub mod Rules
+pub mod Verified

@@ -1,0 +1,12 @@
+//! Modules whose codes keep the rules: told apart from others, and held as such.
+#![tactic(auto)]
+
+mod code;
+mod fault;
+mod instruction;
+mod tree;
+mod verified;
+
+pub use code::shapes;
+pub use fault::{Rule, VerifyFault};
+pub use verified::{Verified, codes_law, one_fault, order, verify};

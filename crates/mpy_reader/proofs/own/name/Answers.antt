@@ -1,0 +1,19 @@
+use Rattle.std.proofs.Common.{refl, arith}
+use Rattle.std.proofs.lemmas.Result.{err_from_is_err_and}
+use Rattle.mpy_reader.specs.Reading.{goes_on, name}
+use Rattle.mpy_reader.proofs.Steps.{exit, judged, unjudged}
+use Rattle.mpy_reader.proofs.own.name.Goals as goal
+
+pub returns-in_err-n : goal.returns-in_err-n
+unfolding name
+returns-in_err-n c =
+    let p = err_from_is_err_and c.from_residual.result c.from_residual.ensures.1 in
+    exit _ _ _ _ _ _ p.1 p.2 c.in_err-n.ensures
+
+pub returns-then-n-texts : goal.returns-then-n-texts
+unfolding name
+returns-then-n-texts c = goes_on (c.in_ok-n.n, c.in_ok-n.rest.now) c.in_ok-n.ensures (unjudged (λ le. omega arith))
+
+pub returns : goal.returns
+unfolding name
+returns c = goes_on (c.in_ok-n.n, c.in_ok-n.rest.now) c.in_ok-n.ensures (judged (omega arith) refl)

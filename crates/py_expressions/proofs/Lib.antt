@@ -1,0 +1,15 @@
+pub mod Turns
+pub mod Steps
+pub mod Tables
+pub mod Forward
+pub mod Sizes
+pub mod Complete
+pub mod Backward
+pub mod Faults
+pub mod Whole
+pub mod Aimed
+pub mod Embedded
+pub mod Aims
+pub mod Names
+pub mod Behind
+pub mod Clauses

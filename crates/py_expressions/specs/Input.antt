@@ -1,0 +1,128 @@
+-- What a reader reads from, and the steps that every rule is made of.
+use Rattle.std.specs.Prelude.{◌≡◌, ℕ, zero, suc, ◌+◌, Bool, true, false, if◌then◌else◌, ◌==◌, List, [], ◌∷◌, ◌++◌, length, drop, Option, Some, None, Result, Ok, Err}
+use Rattle.std.specs.Str.{bytes_eq}
+use Rattle.mpy_base.specs.declared.refused.Refused.{Refused}
+use Rattle.mpy_base.specs.declared.refused.Refused.TheVariants as refused
+use Rattle.py_tokens.specs.declared.token.Tok.{Tok}
+use Rattle.py_tokens.specs.declared.token.Tok.TheVariants as tok
+use Rattle.py_tokens.specs.declared.token.Token.{Token}
+use Rattle.py_tokens.specs.Word as word
+use Rattle.py_tokens.specs.Operator as op
+use Rattle.py_expressions.specs.declared.cursor.Mark.{Mark}
+use Rattle.py_expressions.specs.declared.cursor.Mark.TheVariants as mark
+use Rattle.py_expressions.specs.declared.cursor.Syntax.{Syntax}
+use Rattle.py_expressions.specs.declared.cursor.Cursor.{Cursor}
+
+-- where a token stands
+pub record Place : Type 0 where
+  pub at : ℕ
+  pub end : ℕ
+  pub line : ℕ
+
+abbrev pub at : Place → Tok → Token
+at place kind = record { kind = kind; at = place.at; end = place.end; line = place.line }
+
+-- What is ahead, and how many tokens were ahead at the end of the longest front so far.
+pub record Input : Type 0 where
+  pub ahead : List Token
+  pub front : ℕ
+
+-- what a cursor of the code stands for
+abbrev pub input_of : Cursor → Input
+input_of c = record { ahead = c.ahead.now; front = c.front }
+
+-- the kind of the first token, and `End` where there is none
+abbrev pub kind_at : List Token → Tok
+kind_at [] = tok.End
+kind_at (t ∷ ts) = t.kind
+
+abbrev pub kind : Input → Tok
+kind i = kind_at i.ahead
+
+abbrev pub is_mark : Mark → Tok → Bool
+is_mark (mark.Word a) (tok.Word b) = bytes_eq (word.spelling a) (word.spelling b)
+is_mark (mark.Op a) (tok.Op b) = bytes_eq (op.spelling a) (op.spelling b)
+is_mark mark.Newline tok.Newline = true
+is_mark mark.Indent tok.Indent = true
+is_mark mark.Dedent tok.Dedent = true
+is_mark mark.End tok.End = true
+is_mark _ _ = false
+
+-- the kind of the first token, where there is one
+abbrev pub seen : Option Tok → Tok
+seen None = tok.End
+seen (Some kind) = kind
+
+abbrev pub next : Input → Input
+next i = record i { ahead = drop 1 i.ahead }
+
+-- ---- readers
+
+abbrev pub Outcome : Type 0 → Type 0
+Outcome A = Result (A × Input) ℕ
+
+abbrev pub Parser : Type 0 → Type 0
+Parser A = Input → Outcome A
+
+abbrev pub and_then : {A B : Type 0} → Outcome A → (A → Parser B) → Outcome B
+and_then (Ok p) f = f p.0 p.1
+and_then (Err e) f = Err e
+
+infixl 10 ◌>>=◌
+abbrev pub ◌>>=◌ : {A B : Type 0} → Parser A → (A → Parser B) → Parser B
+p >>= f = λ i. and_then (p i) f
+
+infixl 10 ◌>>◌
+abbrev pub ◌>>◌ : {A B : Type 0} → Parser A → Parser B → Parser B
+p >> q = p >>= (λ _. q)
+
+abbrev pub pure : {A : Type 0} → A → Parser A
+pure a = λ i. Ok (a, i)
+
+infixr 11 ◌<$>◌
+abbrev pub ◌<$>◌ : {A B : Type 0} → (A → B) → Parser A → Parser B
+f <$> p = p >>= (λ x. pure (f x))
+
+-- a refusal names the longest front so far
+abbrev pub refuse : {A : Type 0} → Parser A
+refuse = λ i. Err i.front
+
+abbrev pub peek : Parser Tok
+peek = λ i. Ok (kind i, i)
+
+abbrev pub take_token : Parser (Unit {0})
+take_token = λ i. Ok (tt, next i)
+
+-- this mark comes next, and is there
+abbrev pub sees_at : Mark → List Token → Bool
+sees_at mark [] = false
+sees_at mark (t ∷ ts) = is_mark mark t.kind
+
+unfoldable pub sees : Mark → Input → Bool
+sees mark i = sees_at mark i.ahead
+
+unfoldable pub expect : Mark → Parser (Unit {0})
+expect mark = λ i. if sees mark i then Ok (tt, next i) else refuse i
+
+unfoldable pub after : Mark → Input → Input
+after mark i = if sees mark i then next i else i
+
+-- takes this mark, if it comes next
+abbrev pub eat : Mark → Parser Bool
+eat mark = λ i. Ok (sees mark i, after mark i)
+
+abbrev pub name_by : Tok → Parser (List ℕ)
+name_by (tok.Name text) = take_token >> pure text
+name_by _ = refuse
+
+unfoldable pub name : Parser (List ℕ)
+name = peek >>= name_by
+
+abbrev pub turns : Input → ℕ
+turns i = length i.ahead
+
+-- what a function that reads ensures: the outcome, unless memory fails
+abbrev pub Reads : {A : Type 0} → Outcome A → Result A (Refused Syntax) → Cursor → Type 0
+Reads outcome (Ok a) new = outcome ≡ Ok (a, input_of new)
+Reads outcome (Err (refused.Fault e)) new = outcome ≡ Err e.left
+Reads outcome (Err refused.NoMemory) new = Unit {0}

@@ -1,0 +1,210 @@
+//! Comparisons, `not`, `and`, `or` and `if`.
+
+ghost use Rattle.std.specs.Prelude.{◌≡◌, IfOk};
+ghost use Rattle.std.specs.Option.{option_copied};
+ghost use Rattle.py_tokens.specs.declared.word.Word.TheVariants as word;
+ghost use Rattle.py_tree.specs.declared.expr.Expr.TheVariants as ex;
+ghost use Rattle.py_expressions.specs.Input.{Reads, input_of, seen};
+ghost use Rattle.py_expressions.specs.Reading as spec;
+ghost use Rattle.py_expressions.specs.Nests.{Nests};
+
+use crate::cursor::{Cursor, Mark, Syntax};
+use crate::grammar::{Grammar, Rule};
+use crate::members::{and_of, or_of};
+use mpy_base::{Boxed, Items, NoMemory, Refused};
+use py_tokens::{Op, Tok, Word};
+use py_tree::{CompareOp, Expr};
+use std::alloc::Global;
+
+/// The level of the loosest binary operators.
+const TOP_LEVEL: u8 = 6;
+
+/// The comparisons of one token, but `is`.
+fn comparison(kind: Option<&Tok>) -> Option<CompareOp>
+    ensures { result ≡ spec.comparison (seen (option_copied kind.entry)) }
+{
+    match kind {
+        Some(Tok::Op(Op::Less)) => Some(CompareOp::Lt),
+        Some(Tok::Op(Op::Greater)) => Some(CompareOp::Gt),
+        Some(Tok::Op(Op::Equal)) => Some(CompareOp::Eq),
+        Some(Tok::Op(Op::LessEqual)) => Some(CompareOp::Le),
+        Some(Tok::Op(Op::GreaterEqual)) => Some(CompareOp::Ge),
+        Some(Tok::Op(Op::NotEqual)) => Some(CompareOp::Ne),
+        Some(Tok::Word(Word::In)) => Some(CompareOp::In),
+        _ => None,
+    }
+}
+
+#[tactic(auto, unfolding(crate::specs::Reading::compare_op))]
+fn compare_op(tokens: &mut Cursor<'_>) -> Result<Option<CompareOp>, Refused<Syntax>>
+    ensures { Reads (spec.compare_op (input_of tokens.old)) result tokens.new }
+{
+    match tokens.peek() {
+        Some(Tok::Word(Word::Not)) => {
+            tokens.take();
+            tokens.expect(Mark::Word(Word::In))?;
+            Ok(Some(CompareOp::NotIn))
+        }
+        Some(Tok::Word(Word::Is)) => {
+            tokens.take();
+            let negates = tokens.eat(Mark::Word(Word::Not));
+            Ok(Some(if negates {
+                CompareOp::IsNot
+            } else {
+                CompareOp::Is
+            }))
+        }
+        kind => {
+            let found = comparison(kind);
+            if found.is_some() {
+                tokens.take();
+            }
+            Ok(found)
+        }
+    }
+}
+
+/// `yes if test else no`
+fn cond(alloc: Global, test: Expr, yes: Expr, no: Expr) -> Result<Expr, NoMemory>
+    ensures { IfOk result (λ e. e ≡ ex.Cond test yes no) }
+{
+    let test = Boxed::new(alloc, test)?;
+    let yes = Boxed::new(alloc, yes)?;
+    let no = Boxed::new(alloc, no)?;
+    Ok(Expr::Cond { test, yes, no })
+}
+
+#[tactic(auto, unfolding(crate::specs::Reading::compared))]
+fn compared(alloc: Global, first: Expr, rest: Items<(CompareOp, Expr)>) -> Result<Expr, NoMemory>
+    ensures { IfOk result (λ e. e ≡ spec.compared first rest) }
+{
+    if rest.is_empty() {
+        return Ok(first);
+    }
+    let first = Boxed::new(alloc, first)?;
+    Ok(Expr::Compare { first, rest })
+}
+
+impl<F: Fn(Global, &mut Cursor<'_>, usize, Rule) -> Result<Expr, Refused<Syntax>>> Grammar<F> {
+    fn comparisons(
+        &self,
+        tokens: &mut Cursor<'_>,
+    ) -> Result<Items<(CompareOp, Expr)>, Refused<Syntax>>
+        requires { Nests self.now.depth (F.pre self.now.expr) (F.post self.now.expr) }
+        ensures { Reads (spec.all_comparisons (spec.expr self.now.depth) (input_of tokens.old)) result tokens.new }
+    {
+        let mut found = Items::new(self.alloc);
+        for _turn in 0..tokens.left() {
+            let Some(op) = compare_op(tokens)? else {
+                return Ok(found);
+            };
+            let right = self.sum(tokens, TOP_LEVEL)?;
+            found.push((op, right))?;
+        }
+        Ok(found)
+    }
+
+    #[tactic(auto, unfolding(crate::specs::Reading::compare))]
+    fn compare(&self, tokens: &mut Cursor<'_>) -> Result<Expr, Refused<Syntax>>
+        requires { Nests self.now.depth (F.pre self.now.expr) (F.post self.now.expr) }
+        ensures { Reads (spec.compare (spec.expr self.now.depth) (input_of tokens.old)) result tokens.new }
+    {
+        let first = self.sum(tokens, TOP_LEVEL)?;
+        let rest = self.comparisons(tokens)?;
+        Ok(compared(self.alloc, first, rest)?)
+    }
+
+    #[tactic(auto, unfolding(crate::specs::Reading::not_test))]
+    pub fn not_test(&self, tokens: &mut Cursor<'_>) -> Result<Expr, Refused<Syntax>>
+        requires { Nests self.now.depth (F.pre self.now.expr) (F.post self.now.expr) }
+        ensures { Reads (spec.not_test (spec.expr self.now.depth) (input_of tokens.old)) result tokens.new }
+    {
+        if !tokens.eat(Mark::Word(Word::Not)) {
+            return self.compare(tokens);
+        }
+        let value = Boxed::new(self.alloc, self.inner(tokens, Rule::NotTest)?)?;
+        Ok(Expr::Not(value))
+    }
+
+    fn and_operands(
+        &self,
+        tokens: &mut Cursor<'_>,
+        first: Expr,
+    ) -> Result<Items<Expr>, Refused<Syntax>>
+        requires { Nests self.now.depth (F.pre self.now.expr) (F.post self.now.expr) }
+        ensures { Reads (spec.operands (spec.not_test (spec.expr self.now.depth)) word.And first (input_of tokens.old)) result tokens.new }
+    {
+        let mut found = Items::new(self.alloc);
+        found.push(first)?;
+        for _turn in 0..tokens.left() {
+            if !tokens.eat(Mark::Word(Word::And)) {
+                return Ok(found);
+            }
+            found.push(self.not_test(tokens)?)?;
+        }
+        Ok(found)
+    }
+
+    #[tactic(auto, unfolding(crate::specs::Reading::and_test, crate::specs::Reading::junction))]
+    fn and_test(&self, tokens: &mut Cursor<'_>) -> Result<Expr, Refused<Syntax>>
+        requires { Nests self.now.depth (F.pre self.now.expr) (F.post self.now.expr) }
+        ensures { Reads (spec.and_test (spec.expr self.now.depth) (input_of tokens.old)) result tokens.new }
+    {
+        let first = self.not_test(tokens)?;
+        let found = self.and_operands(tokens, first)?;
+        Ok(and_of(found))
+    }
+
+    fn or_operands(
+        &self,
+        tokens: &mut Cursor<'_>,
+        first: Expr,
+    ) -> Result<Items<Expr>, Refused<Syntax>>
+        requires { Nests self.now.depth (F.pre self.now.expr) (F.post self.now.expr) }
+        ensures { Reads (spec.operands (spec.and_test (spec.expr self.now.depth)) word.Or first (input_of tokens.old)) result tokens.new }
+    {
+        let mut found = Items::new(self.alloc);
+        found.push(first)?;
+        for _turn in 0..tokens.left() {
+            if !tokens.eat(Mark::Word(Word::Or)) {
+                return Ok(found);
+            }
+            found.push(self.and_test(tokens)?)?;
+        }
+        Ok(found)
+    }
+
+    #[tactic(auto, unfolding(crate::specs::Reading::or_test, crate::specs::Reading::junction))]
+    fn or_test(&self, tokens: &mut Cursor<'_>) -> Result<Expr, Refused<Syntax>>
+        requires { Nests self.now.depth (F.pre self.now.expr) (F.post self.now.expr) }
+        ensures { Reads (spec.or_test (spec.expr self.now.depth) (input_of tokens.old)) result tokens.new }
+    {
+        let first = self.and_test(tokens)?;
+        let found = self.or_operands(tokens, first)?;
+        Ok(or_of(found))
+    }
+
+    #[tactic(auto, unfolding(crate::specs::Reading::conditional))]
+    fn conditional(&self, tokens: &mut Cursor<'_>, yes: Expr) -> Result<Expr, Refused<Syntax>>
+        requires { Nests self.now.depth (F.pre self.now.expr) (F.post self.now.expr) }
+        ensures { Reads (spec.conditional (spec.expr self.now.depth) yes (input_of tokens.old)) result tokens.new }
+    {
+        let test = self.or_test(tokens)?;
+        tokens.expect(Mark::Word(Word::Else))?;
+        let no = self.inner(tokens, Rule::Test)?;
+        Ok(cond(self.alloc, test, yes, no)?)
+    }
+
+    #[tactic(auto, unfolding(crate::specs::Reading::test))]
+    pub fn test(&self, tokens: &mut Cursor<'_>) -> Result<Expr, Refused<Syntax>>
+        requires { Nests self.now.depth (F.pre self.now.expr) (F.post self.now.expr) }
+        ensures { Reads (spec.test (spec.expr self.now.depth) (input_of tokens.old)) result tokens.new }
+    {
+        let first = self.or_test(tokens)?;
+        if tokens.eat(Mark::Word(Word::If)) {
+            self.conditional(tokens, first)
+        } else {
+            Ok(first)
+        }
+    }
+}

@@ -1,0 +1,18 @@
+//! Expressions and targets, read from tokens.
+#![tactic(auto)]
+
+mod atoms;
+mod calls;
+mod conditions;
+mod cursor;
+mod expressions;
+mod grammar;
+mod members;
+mod operators;
+mod targets;
+
+pub use calls::Arguments;
+pub use cursor::{Cursor, Mark, Syntax};
+pub use expressions::{expressions_law, read_test, read_tests};
+pub use grammar::Rule;
+pub use targets::targets_law;
