@@ -7,7 +7,6 @@ use Rattle.bc_ops.specs.declared.instr.Op.{Op}
 use Rattle.bc_ops.specs.declared.instr.Op.TheVariants as ops
 use Rattle.bc_ops.specs.declared.instr.Instr.{Instr}
 use Rattle.bc_ops.specs.declared.instr.Instr.TheVariants as instrs
-use Rattle.bc_ops.specs.declared.listing.Target.{Target}
 use Rattle.bc_ops.specs.declared.listing.Item.{Item}
 use Rattle.bc_ops.specs.declared.listing.Item.TheVariants as items
 use Rattle.bc_flow.specs.Code.{LeavesCode, item_locals, op_locals, named, op_named}

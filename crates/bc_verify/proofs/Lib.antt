@@ -1,4 +1,5 @@
 pub mod Bodies
 pub mod Breaking
 pub mod Once
+pub mod Samples
 pub mod Trees

@@ -1,7 +1,6 @@
 -- One first fault at most, and none where a module is verified.
 use Rattle.std.proofs.Common.{◌≡◌, ℕ, zero, suc, ◌<◌, List, [], ◌∷◌, length, Some, inl, inr, refl, sym, ap, subst, ◌∙◌, arith}
 use Rattle.std.specs.Prelude.{slice_get, slice_index, ◌⊎◌}
-use Rattle.bc_ops.specs.declared.listing.Item.{Item}
 use Rattle.bc_flow.specs.Code.{Code}
 use Rattle.bc_flow.specs.declared.code.Rule.{Rule as FlowRule}
 use Rattle.bc_flow.specs.Verified as flow
@@ -16,7 +15,7 @@ use Rattle.bc_verify.specs.Body.{Body, flow_of}
 use Rattle.bc_verify.specs.Path.{code_at, IsBefore}
 use Rattle.bc_verify.specs.Rule.{of_flow}
 use Rattle.bc_verify.specs.Rules.{Breaks, KeepsAll, IsFirstBroken}
-use Rattle.bc_verify.specs.Verified.{children_of, IsVerifiedCode, AreVerified, IsVerified, IsFlowFault, IsFirstIn, IsCodeFault, IsTreeFault, IsFirstFault}
+use Rattle.bc_verify.specs.Verified.{children_of, IsVerifiedCode, AreVerified, IsVerified, IsFirstIn, IsCodeFault, IsTreeFault, IsFirstFault}
 use Rattle.bc_verify.proofs.Bodies.{one_body}
 use Rattle.bc_verify.proofs.Breaking.{one_rule}
 

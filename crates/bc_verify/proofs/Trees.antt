@@ -1,11 +1,11 @@
 -- The codes of a tree, as a walk through it meets them.
-use Rattle.std.proofs.Common.{◌≡◌, ℕ, zero, suc, ◌+◌, ◌-◌, ◌<◌, ◌≤◌, List, [], ◌∷◌, ◌++◌, length, get_or, take, below_more, Option, Some, None, inl, inr, refl, sym, ap, subst, ◌∙◌, arith}
-use Rattle.std.specs.Prelude.{slice_get, option_and_then, ◌⊎◌, IfSome, IfNone, min, sum_by, Bool, true, false}
+use Rattle.std.proofs.Common.{◌≡◌, ℕ, zero, suc, ◌+◌, ◌-◌, ◌<◌, ◌≤◌, List, [], ◌∷◌, length, get_or, take, below_more, Option, Some, None, inl, inr, refl, sym, ap, subst, ◌∙◌, arith}
+use Rattle.std.specs.Prelude.{slice_get, option_and_then, IfSome, IfNone, min, sum_by, Bool, true, false}
 use Rattle.std.proofs.lemmas.List.{take_all}
 use Rattle.mpy_base.specs.declared.limits.TheConstants.{MAX_CODE_BYTES, MAX_DEPTH}
 use Rattle.mpy_tree.specs.declared.raw.RawCode.{RawCode, out-RawCode, out-roll-RawCode}
 use Rattle.mpy_tree.specs.Raw.{Module}
-use Rattle.mpy_tree.specs.File.{Many, AreChildren, IsElement, IsCode, IsOwnCode, IsModule}
+use Rattle.mpy_tree.specs.File.{Many, AreChildren, IsCode, IsOwnCode, IsModule}
 use Rattle.bc_verify.specs.declared.fault.Rule.{Rule}
 use Rattle.bc_verify.specs.Path.{code_at, IsBefore}
 use Rattle.bc_verify.specs.Verified.{IsVerifiedCode, AreVerified, IsCodeFault, IsTreeFault, codes_in}

@@ -10,3 +10,6 @@ mod verified;
 pub use code::shapes;
 pub use fault::{Rule, VerifyFault};
 pub use verified::{Verified, codes_law, one_fault, order, verify};
+
+#[cfg(test)]
+mod tests;

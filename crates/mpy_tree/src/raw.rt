@@ -2,6 +2,8 @@
 
 ghost use Rattle.std.specs.Prelude.{◌≡◌};
 ghost use Rattle.mpy_tree.specs.File.{IsModule};
+ghost use Rattle.mpy_tree.specs.Raw.{Module};
+ghost use Rattle.mpy_tree.specs.Resolved.{ResolvedModule, Resolves};
 
 use crate::module::Constant;
 use mpy_base::{Items, Text};
@@ -97,3 +99,8 @@ pub fn module_law(raw: &RawModule)
 {
     let _ = &raw.bits;
 }
+
+/// A module resolves to one tree at most.
+pub fn resolving_law()
+    ensures { (m : Module) (a b : ResolvedModule) → Resolves m a → Resolves m b → a ≡ b }
+{}

@@ -1,4 +1,4 @@
-use Rattle.std.proofs.Common.{ℕ, ◌∙◌, ap, sym, subst}
+use Rattle.std.proofs.Common.{◌∙◌, ap, sym, subst}
 use Rattle.std.specs.Prelude.{IfNone, slice_index}
 use Rattle.bc_verify.specs.Body.{Says, body_of}
 use Rattle.bc_verify.specs.Rules.{KeepsAll}

@@ -1,4 +1,4 @@
-use Rattle.std.proofs.Common.{◌≡◌, Ok, sym, ap, subst, ◌∙◌, drop, rules}
+use Rattle.std.proofs.Common.{◌≡◌, sym, ap, subst, ◌∙◌, drop, rules}
 use Rattle.bc_ops.specs.Listing.{IsListOf, Lists}
 use Rattle.bc_verify.proofs.Bodies.{instructions_at}
 use Rattle.bc_verify.proofs.code.read_code.Goals as goal

@@ -1,7 +1,6 @@
-use Rattle.std.proofs.Common.{◌≡◌, ℕ, ◌-◌, ◌∷◌, List, Some, length, sym, ap, subst, ◌∙◌, arith}
+use Rattle.std.proofs.Common.{◌≡◌, ◌-◌, Some, length, ap, subst, arith}
 use Rattle.std.specs.Prelude.{slice_get}
-use Rattle.bc_verify.specs.Verified.{IsTreeFault, AreVerified}
-use Rattle.bc_verify.proofs.Trees.{Nests, children, whole, get_at, some_of, none_of, one_done, all_done, fault_here, fault_below}
+use Rattle.bc_verify.proofs.Trees.{Nests, children, whole, get_at, some_of, none_of, one_done, all_done, fault_below}
 use Rattle.bc_verify.proofs.tree.+tree_fault.Goals as goal
 
 pub code_fault-requires-clause-own : goal.code_fault-requires-clause-own

@@ -1,4 +1,4 @@
-use Rattle.std.proofs.Common.{◌≡◌, rules}
+use Rattle.std.proofs.Common.{rules}
 use Rattle.bc_verify.specs.Verified.{IsFirstFault}
 use Rattle.bc_verify.proofs.Once.{fault_apart}
 use Rattle.bc_verify.proofs.verified.verify.Goals as goal
