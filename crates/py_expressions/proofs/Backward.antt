@@ -648,8 +648,8 @@ module _ (inner : Rule → Parser Expr) (test_sound : Sound g.test_text g.test_t
       named_anew g.or_text g.or_tree i (read.joined ex.Or c.0) x c.1 j c.3
       (record { reading = g.or_test s.reading f.reading; spelled = s.spelled ∙ ap (g.and_text s.reading) f.spelled; is = ap (λ q. read.joined ex.Or (q ∷ g.or_list f.reading)) s.is ∙ ap (read.joined ex.Or) f.is; kept = s.kept ∙ f.kept })
 
-  pub read_test_sound : Sound g.test_text g.test_tree (read.test inner)
-  unfolding read.test read.conditional
+  pub read_test_sound : Sound g.test_text g.test_tree (read.whole_test inner)
+  unfolding read.whole_test read.conditional
   read_test_sound i x j e =
       let b = bind_ok (read.or_test inner i) _ x j e in
       let o = or_sound i b.0 b.1 b.2 in

@@ -207,7 +207,7 @@ mutual
       ∙ commas_complete cs n d (found ++ x ∷ []) (input (g.test_text t (g.commas_text cs rest)) front) (g.test_tree t) rest front (omega arith) (omega arith) h first
       ∙ ap (λ (xs : List Expr). Ok ((xs, g.commas_last cs), input rest front)) (append_assoc found (x ∷ []) (g.test_tree t ∷ g.commas_list cs))
 
-  pub test_complete : (t : g.Test) (d : ℕ) (rest : List Token) (front : ℕ) → length (g.test_text t rest) ≤ d → 13 ≤ rank rest → read.test (read.expr d) (input (g.test_text t rest) front) ≡ Ok (g.test_tree t, input rest front)
+  pub test_complete : (t : g.Test) (d : ℕ) (rest : List Token) (front : ℕ) → length (g.test_text t rest) ≤ d → 13 ≤ rank rest → read.whole_test (read.expr d) (input (g.test_text t rest) front) ≡ Ok (g.test_tree t, input rest front)
   test_complete (g.plain o) d rest front le h = Forward.test_plain (read.expr d) (input (g.or_text o rest) front) (g.or_tree o) rest front (or_complete o d rest front le (omega arith)) h
   test_complete (g.conditional o l c r t) zero rest front le h = let k = or_grows o (at l (tok.Word word.If) ∷ g.or_text c (at r (tok.Word word.Else) ∷ g.test_text t rest)) in absurd (omega arith)
   test_complete (g.conditional o l c r t) (suc d) rest front le h =

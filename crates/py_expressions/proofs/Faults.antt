@@ -380,8 +380,8 @@ module _ (inner : Rule → Parser Expr) (s : RulesSound inner) (f : RulesFail in
   unfolding read.conditional
   conditional_fails first = fails_bind (read.or_test inner) _ or_keeps or_fails (λ asked. fails_expect (mark.Word word.Else) _ (fails_bind (inner rule.Test) _ test_keeps f.test (λ other. fails_pure (ex.Cond asked first other))))
 
-  read_test_fails : Fails (read.test inner)
-  unfolding read.test
+  read_test_fails : Fails (read.whole_test inner)
+  unfolding read.whole_test
   read_test_fails = fails_bind (read.or_test inner) _ or_keeps or_fails (λ first. fails_eat (mark.Word word.If) _ (λ b. fails_if b (read.conditional inner first) (pure first) (conditional_fails first) (fails_pure first)))
 
 pub expr_fails : (d : ℕ) → RulesFail (read.expr d)

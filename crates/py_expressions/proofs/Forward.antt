@@ -308,18 +308,18 @@ module _ (inner : Rule → Parser Expr) where
   unfolding read.not_test after
   not_compare ts front o b h = rw (no_not_at ts front b) h
 
-  pub test_plain : (i : Input) (x : Expr) (rest : List Token) (front : ℕ) → read.or_test inner i ≡ Ok (x, input rest front) → 13 ≤ rank rest → read.test inner i ≡ Ok (x, input rest front)
-  unfolding read.test after
+  pub test_plain : (i : Input) (x : Expr) (rest : List Token) (front : ℕ) → read.or_test inner i ≡ Ok (x, input rest front) → 13 ≤ rank rest → read.whole_test inner i ≡ Ok (x, input rest front)
+  unfolding read.whole_test after
   test_plain i x rest front h r = rw (h, no_if_at rest front r) refl
 
   pub test_conditional : (i : Input) (x c y : Expr) (l r : Place) (ts us : List Token) (front : ℕ) (j : Input) → read.or_test inner i ≡ Ok (x, input (at l (tok.Word word.If) ∷ ts) front) → read.or_test inner (input ts front) ≡ Ok (c, input (at r (tok.Word word.Else) ∷ us) front)
-      → inner rule.Test (input us front) ≡ Ok (y, j) → read.test inner i ≡ Ok (ex.Cond c x y, j)
-  unfolding read.test read.conditional after sees expect
+      → inner rule.Test (input us front) ≡ Ok (y, j) → read.whole_test inner i ≡ Ok (ex.Cond c x y, j)
+  unfolding read.whole_test read.conditional after sees expect
   test_conditional i x c y l r ts us front j h e f = rw (h, e, f) refl
 
 -- ---- one level of nesting
 
-pub expr_test : (d : ℕ) (i : Input) → read.expr (suc d) rule.Test i ≡ read.test (read.expr d) i
+pub expr_test : (d : ℕ) (i : Input) → read.expr (suc d) rule.Test i ≡ read.whole_test (read.expr d) i
 unfolding read.expr
 expr_test d i = refl
 

@@ -411,14 +411,14 @@ module _ (inner : Rule → Parser Expr) where
     other ← inner rule.Test
     pure (ex.Cond asked first other)
 
-  unfoldable pub test : Parser Expr
-  test = do
+  unfoldable pub whole_test : Parser Expr
+  whole_test = do
     first ← or_test
     asks ← eat (mark.Word word.If)
     if asks then conditional first else pure first
 
   abbrev pub by_rule : Rule → Parser Expr
-  by_rule rule.Test = test
+  by_rule rule.Test = whole_test
   by_rule rule.NotTest = not_test
   by_rule rule.Factor = factor
 

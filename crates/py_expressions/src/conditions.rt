@@ -195,10 +195,10 @@ impl<F: Fn(Global, &mut Cursor<'_>, usize, Rule) -> Result<Expr, Refused<Syntax>
         Ok(cond(self.alloc, test, yes, no)?)
     }
 
-    #[tactic(auto, unfolding(crate::specs::Reading::test))]
+    #[tactic(auto, unfolding(crate::specs::Reading::whole_test))]
     pub fn test(&self, tokens: &mut Cursor<'_>) -> Result<Expr, Refused<Syntax>>
         requires { Nests self.now.depth (F.pre self.now.expr) (F.post self.now.expr) }
-        ensures { Reads (spec.test (spec.expr self.now.depth) (input_of tokens.old)) result tokens.new }
+        ensures { Reads (spec.whole_test (spec.expr self.now.depth) (input_of tokens.old)) result tokens.new }
     {
         let first = self.or_test(tokens)?;
         if tokens.eat(Mark::Word(Word::If)) {
