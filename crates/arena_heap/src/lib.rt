@@ -16,7 +16,9 @@ mod value;
 pub use arena::Arena;
 pub use constants::Constants;
 pub use dicts::{dict_at, dict_len, dict_push, dict_remove_at, dict_set_at};
-pub use lists::{list_append, list_at, list_insert, list_len, list_pop, list_set};
+pub use lists::{
+    list_append, list_at, list_insert, list_len, list_pop, list_set, put_in_list, reserve_list,
+};
 pub use parts::{
     exc_parts, exc_place, fun_parts, method_parts, module_names, module_parts, range_parts,
 };

@@ -69,7 +69,7 @@ pub fn list_set(arena: &mut Arena, l: ListNo, at: u32, v: Value) -> Option<()>
 }
 
 /// Moves a list to the room for so many items, unless its room holds them.
-pub(crate) fn reserve_list(arena: &mut Arena, l: ListNo, items: u64) -> Result<(), NoRoom>
+pub fn reserve_list(arena: &mut Arena, l: ListNo, items: u64) -> Result<(), NoRoom>
     requires { IsA arena.old.objects AList l.cell }
     ensures ok { OnOk result (arena.new ≡ with_list_room arena.old l.cell items) }
     ensures fits { OnOk result (Fits arena.old (list_growth arena.old l.cell items) 0) }
@@ -97,7 +97,7 @@ pub(crate) fn reserve_list(arena: &mut Arena, l: ListNo, items: u64) -> Result<(
 }
 
 /// Puts a value in front of a place of a list that has room.
-pub(crate) fn put_in_list(arena: &mut Arena, l: ListNo, at: u32, v: Value)
+pub fn put_in_list(arena: &mut Arena, l: ListNo, at: u32, v: Value)
     requires list { IsA arena.old.objects AList l.cell }
     requires leads { Leads arena.old.objects v }
     requires within { at ≤ length (items_at arena.old l.cell) }

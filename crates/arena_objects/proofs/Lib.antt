@@ -1,3 +1,7 @@
 pub mod AfterSet
 pub mod Places
 pub mod Tolds
+pub mod RangeNumbers
+pub mod Gifts
+pub mod MadeTexts
+pub mod Extension

@@ -8,8 +8,8 @@ use Rattle.std.proofs.lemmas.Bool.{cases_eq, cases_lt}
 use Rattle.arena_heap.specs.declared.value.Value.{Value}
 use Rattle.arena_heap.specs.declared.value.StrNo.{StrNo}
 use Rattle.arena_heap.specs.declared.value.ConstNo.{ConstNo}
-use Rattle.mpy_base.specs.World.{Heap, DictObject, ADict, IsA, object, kind_of, pairs_of, pairs_at, room_at, with_dict}
-use Rattle.mpy_base.specs.Weights.{Made, more_cells, with_pairs, dict_growth, grown_room}
+use Rattle.mpy_base.specs.World.{Heap, ListObject, TupleObject, DictObject, AList, ATuple, ADict, IsA, object, kind_of, items_of, items_at, pairs_of, pairs_at, room_at, with_list, with_dict}
+use Rattle.mpy_base.specs.Weights.{Made, more_cells, with_made, with_pairs, with_list_room, list_growth, dict_growth, grown_room}
 use Rattle.mpy_base.proofs.Worlds.{object_nones, is_within}
 use Rattle.arena_heap.specs.Values.{ArenaObject, held}
 use Rattle.arena_heap.specs.Constants.{IsTold}
@@ -37,6 +37,19 @@ pairs_held : (P : Value → Type 0) (pairs : List (Value × Value)) (room : ℕ)
 pairs_held P pairs room all =
     All-append P (map (λ (p : Value × Value). p.0) pairs) (map (λ (p : Value × Value). p.1) pairs)
     (All-map P (λ (p : Value × Value). p.0) pairs (λ k d h. (all k d h).0)) (All-map P (λ (p : Value × Value). p.1) pairs (λ k d h. (all k d h).1))
+
+-- cells that belong to no new object hold nothing
+pub told_used : (texts : StrNo → Option (List ℕ)) (tuples : ConstNo → Option (List Value)) (obs : List (Option ArenaObject)) → AllTold texts tuples obs → (cells : ℕ) → AllTold texts tuples (obs ++ replicate cells None)
+told_used texts tuples obs all cells =
+    let none : Option ArenaObject = None in
+    let more = replicate cells none in
+    record {
+      told = λ m. elim (cases_lt m (length obs)) [
+        | inl lt ↦ subst (λ (o : Option ArenaObject). All (IsTold texts tuples) (held o)) (sym (get_or_append_left obs more none m lt)) (all.told m)
+        | inr ge ↦ subst (λ (o : Option ArenaObject). All (IsTold texts tuples) (held o))
+            (sym (get_or-append_right obs more (length obs) m none refl ge ∙ object_nones cells (m - length obs))) (All-nil (IsTold texts tuples))
+      ];
+    }
 
 module _ (texts : StrNo → Option (List ℕ)) (tuples : ConstNo → Option (List Value)) (h : Heap Value ℕ) (n : ℕ) (is : IsA h.objects ADict n) (all : AllTold texts tuples h.objects) where
   -- the keys and the values of a dict are told
@@ -68,13 +81,7 @@ module _ (texts : StrNo → Option (List ℕ)) (tuples : ConstNo → Option (Lis
       let none : Option ArenaObject = None in
       let more = replicate (dict_growth h n (length pairs)) none in
       let low = is_within h.objects ADict n is in
-      let used : AllTold texts tuples (h.objects ++ more) = record {
-        told = λ m. elim (cases_lt m (length h.objects)) [
-          | inl lt ↦ subst (λ (o : Option ArenaObject). All (IsTold texts tuples) (held o)) (sym (get_or_append_left h.objects more none m lt)) (all.told m)
-          | inr ge ↦ subst (λ (o : Option ArenaObject). All (IsTold texts tuples) (held o))
-              (sym (get_or-append_right h.objects more (length h.objects) m none refl ge ∙ object_nones (dict_growth h n (length pairs)) (m - length h.objects))) (All-nil (IsTold texts tuples))
-        ];
-      } in
+      let used = told_used texts tuples h.objects all (dict_growth h n (length pairs)) in
       told_set (h.objects ++ more) used (omega (arith, length-append h.objects more)) pairs (grown_room h n (length pairs)) t
 
   pub told_with_value : (at : ℕ) (v : Value) → at < length (pairs_at h n) → IsTold texts tuples v → All (Both (IsTold texts tuples)) (with_value (pairs_at h n) at v)
@@ -91,20 +98,62 @@ module _ (texts : StrNo → Option (List ℕ)) (tuples : ConstNo → Option (Lis
 pub told_nothing : (texts : StrNo → Option (List ℕ)) (tuples : ConstNo → Option (List Value)) → AllTold texts tuples []
 told_nothing texts tuples = record { told = λ n. All-nil (IsTold texts tuples) }
 
--- a making whose values are told
-pub told_made : (texts : StrNo → Option (List ℕ)) (tuples : ConstNo → Option (List Value)) {old new : Heap Value ℕ} {n : ℕ} {o : ArenaObject} → Made old new n o → AllTold texts tuples old.objects
-    → All (IsTold texts tuples) (held (Some o)) → AllTold texts tuples new.objects
-told_made texts tuples {old} {new} {n} {o} made all t =
+-- an object whose values are told
+pub told_with_made : (texts : StrNo → Option (List ℕ)) (tuples : ConstNo → Option (List Value)) (h : Heap Value ℕ) (o : ArenaObject) → AllTold texts tuples h.objects
+    → All (IsTold texts tuples) (held (Some o)) → AllTold texts tuples (with_made h o).objects
+told_with_made texts tuples h o all t =
     let none : Option ArenaObject = None in
-    let obs = old.objects in
+    let obs = h.objects in
     let more = Some o ∷ replicate (more_cells o) none in
     let each : (k : ℕ) → All (IsTold texts tuples) (held (object more k)) = λ k. elim k as (λ j. All (IsTold texts tuples) (held (object more j))) [
       | zero ↦ t
       | suc j ↦ subst (λ (x : Option ArenaObject). All (IsTold texts tuples) (held x)) (sym (object_nones (more_cells o) j)) (All-nil (IsTold texts tuples))
     ] in
-    subst (λ (w : Heap Value ℕ). AllTold texts tuples w.objects) (sym made.world) (record {
+    record {
       told = λ m. elim (cases_lt m (length obs)) [
         | inl lt ↦ subst (λ (x : Option ArenaObject). All (IsTold texts tuples) (held x)) (sym (get_or_append_left obs more none m lt)) (all.told m)
         | inr ge ↦ subst (λ (x : Option ArenaObject). All (IsTold texts tuples) (held x)) (sym (get_or-append_right obs more (length obs) m none refl ge)) (each (m - length obs))
       ];
-    })
+    }
+
+pub told_made : (texts : StrNo → Option (List ℕ)) (tuples : ConstNo → Option (List Value)) {old new : Heap Value ℕ} {n : ℕ} {o : ArenaObject} → Made old new n o → AllTold texts tuples old.objects
+    → All (IsTold texts tuples) (held (Some o)) → AllTold texts tuples new.objects
+told_made texts tuples {old} {new} {n} {o} made all t = subst (λ (w : Heap Value ℕ). AllTold texts tuples w.objects) (sym made.world) (told_with_made texts tuples old o all t)
+
+-- another list in the place of one
+told_list_set : (texts : StrNo → Option (List ℕ)) (tuples : ConstNo → Option (List Value)) (obs : List (Option ArenaObject)) → AllTold texts tuples obs → (n : ℕ) → n < length obs → (items : List Value) (room : ℕ)
+    → All (IsTold texts tuples) items → AllTold texts tuples (set obs n (Some (ListObject items room)))
+told_list_set texts tuples obs was n low items room t =
+    let o : Option ArenaObject = Some (ListObject items room) in
+    record {
+      told = λ m. elim (cases_eq m n) [
+        | inl q ↦ subst (λ (o : Option ArenaObject). All (IsTold texts tuples) (held o)) (sym (subst (λ (j : ℕ). object (set obs n o) j ≡ o) (sym q) (get_or-set_same obs n o None low))) t
+        | inr ne ↦ subst (λ (o : Option ArenaObject). All (IsTold texts tuples) (held o)) (sym (get_or-set_other obs n m o None ne)) (was.told m)
+      ];
+    }
+
+-- the values of a list or tuple are its items
+pub held_list : (P : Value → Type 0) (o : Option ArenaObject) → kind_of o ≡ Some AList → All P (held o) → All P (items_of o)
+held_list P (Some (ListObject items room)) q all = all
+held_list P _ q all = absurd cc
+
+pub held_tuple : (P : Value → Type 0) (o : Option ArenaObject) → kind_of o ≡ Some ATuple → All P (held o) → All P (items_of o)
+held_tuple P (Some (TupleObject items)) q all = all
+held_tuple P _ q all = absurd cc
+
+module _ (texts : StrNo → Option (List ℕ)) (tuples : ConstNo → Option (List Value)) (h : Heap Value ℕ) (n : ℕ) (is : IsA h.objects AList n) (all : AllTold texts tuples h.objects) where
+  pub told_items : All (IsTold texts tuples) (items_at h n)
+  told_items = held_list (IsTold texts tuples) (object h.objects n) is (all.told n)
+
+  -- a list with more items
+  pub told_list : (items : List Value) → All (IsTold texts tuples) items → AllTold texts tuples (with_list h n (items_at h n ++ items)).objects
+  told_list items t =
+      told_list_set texts tuples h.objects all n (is_within h.objects AList n is) (items_at h n ++ items) (room_at h n) (All-append (IsTold texts tuples) (items_at h n) items told_items t)
+
+  -- a list with more room
+  pub told_room : (items : ℕ) → AllTold texts tuples (with_list_room h n items).objects
+  told_room items =
+      let none : Option ArenaObject = None in
+      let low = is_within h.objects AList n is in
+      told_list_set texts tuples (h.objects ++ replicate (list_growth h n items) none) (told_used texts tuples h.objects all (list_growth h n items)) n
+      (omega (arith, length-append h.objects (replicate (list_growth h n items) none))) (items_at h n) (grown_room h n items) told_items

@@ -1,5 +1,5 @@
 -- The keys of dicts, and where a dict has the pair of a key.
-use Rattle.std.specs.Prelude.{◌≡◌, ℕ, ℤ, pos, ◌<◌, List, length, true, false, Option, Some, None, slice_index_or, slice_get, All}
+use Rattle.std.specs.Prelude.{◌≡◌, ℕ, pos, ◌<◌, List, length, true, false, Option, Some, None, slice_index_or, slice_get, All}
 use Rattle.std.specs.Option.{option_map}
 use Rattle.arena_heap.specs.declared.value.Value.{Value}
 use Rattle.arena_heap.specs.declared.value.Value.TheVariants as values

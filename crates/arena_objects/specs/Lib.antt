@@ -1,2 +1,3 @@
+pub mod Iterables
 pub mod Keys
 pub mod PlainKeys

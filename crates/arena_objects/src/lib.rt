@@ -1,9 +1,11 @@
-//! The calls on the objects of an arena. Those that compare values or read constants stand here: the bytes of a str, and
-//! dicts by their keys. The others are passed on.
+//! The calls on the objects of an arena. Those that compare values or read constants stand here: the bytes of a str,
+//! dicts by their keys, and lists that take the items of an iterable. The others are passed on.
 #![tactic(auto)]
 
 mod dicts;
+mod extend;
 mod keys;
+mod ranges;
 mod strs;
 
 pub use arena_heap::{
@@ -12,6 +14,7 @@ pub use arena_heap::{
     tuple_at, tuple_fill, tuple_len,
 };
 pub use dicts::{dict_delete, dict_get, dict_set};
+pub use extend::list_extend;
 pub use strs::text_bytes;
 
 #[cfg(test)]
