@@ -13,14 +13,16 @@ const VERSION: &[u8] = b"mpy 0.1.0\n";
 const HELP: &[u8] = b"mpy: a verified tool chain for MicroPython bytecode files
 
 usage:
-  mpy go SRC      compile the source SRC and run it
-  mpy --help      print this text
-  mpy --version   print the version
+  mpy go SRC [-O N]  compile the source SRC and run it, at optimization level N
+  mpy check FILE     verify the file FILE, and print how many codes it has
+  mpy --help         print this text
+  mpy --version      print the version
 
 exit status:
   0   all of it was done
   2   the words are no command
   3   the source isn't accepted
+  4   the file isn't read, or isn't verified
   7   a read failed
   8   a write failed
   9   out of memory

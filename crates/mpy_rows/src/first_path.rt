@@ -86,6 +86,46 @@ const SURPLUS: Row = Row {
     ..NO_WORDS
 };
 
+const LEVEL: Row = Row {
+    words: &["go", "a.py", "-O", "3"],
+    ..HI
+};
+
+const GREAT_LEVEL: Row = Row {
+    words: &["go", "a.py", "-O", "9"],
+    say: "mpy: words 4 BadNumber 9\n",
+    ..NO_WORDS
+};
+
+const LEVEL_TWICE: Row = Row {
+    words: &["go", "a.py", "-O", "1", "-O", "x"],
+    say: "mpy: words 5 Twice -O\n",
+    ..NO_WORDS
+};
+
+const NO_LEVEL: Row = Row {
+    words: &["go", "a.py", "-O"],
+    say: "mpy: words 3 Missing -O\n",
+    ..NO_WORDS
+};
+
+const LEVEL_BEFORE_SOURCE: Row = Row {
+    words: &["go", "-O", "1"],
+    ..NO_SOURCE
+};
+
+const NO_FILE: Row = Row {
+    words: &["check"],
+    say: "mpy: words 3 Missing FILE\n",
+    ..NO_WORDS
+};
+
+const LEVEL_OF_CHECK: Row = Row {
+    words: &["check", "a.py", "-O", "1"],
+    say: "mpy: words 2 Unknown -O\n",
+    ..NO_WORDS
+};
+
 const ABSENT: Row = Row {
     words: &["go", "b.py"],
     status: 10,
@@ -110,7 +150,7 @@ const WRITE_FAULT: Row = Row {
     ..HI
 };
 
-const ROWS: [Row; 13] = [
+const ROWS: [Row; 20] = [
     HI,
     TWO_LINES,
     NO_LINE,
@@ -121,6 +161,13 @@ const ROWS: [Row; 13] = [
     NO_SOURCE,
     DASH,
     SURPLUS,
+    LEVEL,
+    GREAT_LEVEL,
+    LEVEL_TWICE,
+    NO_LEVEL,
+    LEVEL_BEFORE_SOURCE,
+    NO_FILE,
+    LEVEL_OF_CHECK,
     ABSENT,
     READ_FAULT,
     WRITE_FAULT,

@@ -1,2 +1,4 @@
 pub mod Said
 pub mod Runs
+pub mod Checked
+pub mod Words

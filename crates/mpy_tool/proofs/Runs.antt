@@ -10,11 +10,13 @@ use Rattle.mpy_base.specs.Fault.{too_long}
 use Rattle.mpy_io.specs.Files.{FileOf, Reads}
 use Rattle.mpy_simple.specs.Source.{IsFault}
 use Rattle.mpy_simple.proofs.Faults.{same_fault, no_fault}
-use Rattle.mpy_tool.specs.declared.go.Ending.{Ending}
-use Rattle.mpy_tool.specs.declared.go.Ending.TheVariants.{Ran, Unaccepted, ReadFault, WriteFault, NoMemory, Absent}
-use Rattle.mpy_tool.specs.Go.{stored, MayHold, RanSource, RanFile, Went, IsSettled}
+use Rattle.mpy_tool.specs.declared.ending.Ending.{Ending}
+use Rattle.mpy_tool.specs.declared.ending.Ending.TheVariants.{Done, Unaccepted, Unread, Unverified, ReadFault, WriteFault, NoMemory, Absent}
+use Rattle.mpy_tool.specs.Ending.{IsSettled}
+use Rattle.mpy_tool.specs.Folder.{MayHold}
+use Rattle.mpy_tool.specs.Go.{stored, RanSource, RanFile, Went}
 
-some_long : (n : ℕ) → (source : List ℕ) × (n < length source)
+pub some_long : (n : ℕ) → (source : List ℕ) × (n < length source)
 some_long n = (replicate (n + 1) 0, omega (arith, length-replicate {A = ℕ} (n + 1) 0))
 
 -- a file that is too long to be read is a source that is too long
@@ -31,8 +33,10 @@ too_long_read files name told fault said e f h =
 
 -- a run of the source that the folder has under the name
 pub went_from : (files : Option FileOf) (name source : List ℕ) (ending : Ending) (old new : Option (List ℕ)) → MayHold files name (Some source) → RanSource source (stored name) ending old new → Went files name ending old new
-went_from files name source Ran old new h r = (source, h, r)
+went_from files name source Done old new h r = (source, h, r)
 went_from files name source (Unaccepted fault) old new h r = (source, h, r)
+went_from files name source (Unread fault) old new h r = absurd r
+went_from files name source (Unverified fault) old new h r = absurd r
 went_from files name source ReadFault old new h r = absurd r
 went_from files name source WriteFault old new h r = (source, h, r)
 went_from files name source NoMemory old new h r = r
@@ -43,27 +47,35 @@ same_source file name a b p q = let same : Some a ≡ Some b = sym p ∙ q in cc
 
 -- the source under a name ends in one way
 pub one_ending : (file : FileOf) (name : List ℕ) (a b : Ending) (old new_a new_b : Option (List ℕ)) → IsSettled a → IsSettled b → Went (Some file) name a old new_a → Went (Some file) name b old new_b → a ≡ b
-one_ending file name Ran Ran old m n h k p q = refl
-one_ending file name Ran (Unaccepted f) old m n h k p q =
+one_ending file name Done Done old m n h k p q = refl
+one_ending file name Done (Unaccepted f) old m n h k p q =
     absurd (no_fault p.0 (stored name) p.2.0 f p.2.1 (subst (λ (s : List ℕ). IsFault s (stored name) f) (same_source file name q.0 p.0 q.1 p.1) q.2.0))
-one_ending file name Ran Absent old m n h k p q = absurd (let same = sym p.1 ∙ q.0 in cc)
-one_ending file name (Unaccepted f) Ran old m n h k p q =
+one_ending file name Done Absent old m n h k p q = absurd (let same = sym p.1 ∙ q.0 in cc)
+one_ending file name (Unaccepted f) Done old m n h k p q =
     absurd (no_fault q.0 (stored name) q.2.0 f q.2.1 (subst (λ (s : List ℕ). IsFault s (stored name) f) (same_source file name p.0 q.0 p.1 q.1) p.2.0))
 one_ending file name (Unaccepted f) (Unaccepted g) old m n h k p q =
     ap Unaccepted (same_fault q.0 (stored name) f g (subst (λ (s : List ℕ). IsFault s (stored name) f) (same_source file name p.0 q.0 p.1 q.1) p.2.0) q.2.0)
 one_ending file name (Unaccepted f) Absent old m n h k p q = absurd (let same = sym p.1 ∙ q.0 in cc)
-one_ending file name Absent Ran old m n h k p q = absurd (let same = sym q.1 ∙ p.0 in cc)
+one_ending file name Absent Done old m n h k p q = absurd (let same = sym q.1 ∙ p.0 in cc)
 one_ending file name Absent (Unaccepted g) old m n h k p q = absurd (let same = sym q.1 ∙ p.0 in cc)
 one_ending file name Absent Absent old m n h k p q = refl
+one_ending file name (Unread f) b old m n h k p q = absurd p
+one_ending file name (Unverified f) b old m n h k p q = absurd p
 one_ending file name ReadFault b old m n h k p q = absurd h
 one_ending file name WriteFault b old m n h k p q = absurd h
 one_ending file name NoMemory b old m n h k p q = absurd h
-one_ending file name Ran ReadFault old m n h k p q = absurd k
-one_ending file name Ran WriteFault old m n h k p q = absurd k
-one_ending file name Ran NoMemory old m n h k p q = absurd k
+one_ending file name Done (Unread f) old m n h k p q = absurd q
+one_ending file name Done (Unverified f) old m n h k p q = absurd q
+one_ending file name Done ReadFault old m n h k p q = absurd k
+one_ending file name Done WriteFault old m n h k p q = absurd k
+one_ending file name Done NoMemory old m n h k p q = absurd k
+one_ending file name (Unaccepted f) (Unread g) old m n h k p q = absurd q
+one_ending file name (Unaccepted f) (Unverified g) old m n h k p q = absurd q
 one_ending file name (Unaccepted f) ReadFault old m n h k p q = absurd k
 one_ending file name (Unaccepted f) WriteFault old m n h k p q = absurd k
 one_ending file name (Unaccepted f) NoMemory old m n h k p q = absurd k
+one_ending file name Absent (Unread g) old m n h k p q = absurd q
+one_ending file name Absent (Unverified g) old m n h k p q = absurd q
 one_ending file name Absent ReadFault old m n h k p q = absurd k
 one_ending file name Absent WriteFault old m n h k p q = absurd k
 one_ending file name Absent NoMemory old m n h k p q = absurd k

@@ -23,6 +23,14 @@ both a b c l m n x y u (Err f) p q =
     let front = q.0 in
     (record { front = x ++ front.front; rest = front.rest; parts = ap (λ (bs : List ℕ). x ++ bs) front.parts ∙ sym (append_assoc x front.front front.rest); added = Appends-trans a b c x front.front p.0 front.added }, rose_from l m n p.1 q.1)
 
+-- the same for pieces that are told by what they equal
+pub cut_is : (a b : Option (List ℕ)) (m n : ℕ) (w x y : List ℕ) (f : Failed) → w ≡ x → Puts a b m n w (Err f) → Puts a b m n (x ++ y) (Err f)
+cut_is a b m n w x y f e p = cut a b m n x y f (subst (λ (bs : List ℕ). Puts a b m n bs (Err f)) e p)
+
+pub both_are : (a b c : Option (List ℕ)) (l m n : ℕ) (w x y z : List ℕ) (u : Unit {0}) (r : Result (Unit {0}) Failed) → w ≡ x → y ≡ z → Puts a b l m w (Ok u) → Puts b c m n y r → Puts a c l n (x ++ z) r
+both_are a b c l m n w x y z u r e g p q =
+    both a b c l m n x z u r (subst (λ (bs : List ℕ). Puts a b l m bs (Ok u)) e p) (subst (λ (bs : List ℕ). Puts b c m n bs r) g q)
+
 pub says_from : (a b : Option (List ℕ)) (m n : ℕ) (line : List ℕ) (r : Result (Unit {0}) Failed) → Puts a b m n line r → Says a b m n line
 says_from a b m n line (Ok u) p = inl p
 says_from a b m n line (Err f) p = inr p

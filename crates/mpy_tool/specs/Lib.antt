@@ -1,4 +1,6 @@
-pub mod Words
+pub mod Ending
+pub mod Folder
 pub mod Go
+pub mod Check
 pub mod Line
 pub mod Outside

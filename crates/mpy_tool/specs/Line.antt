@@ -1,28 +1,45 @@
 -- The line that is said at the end.
-use Rattle.std.specs.Prelude.{◌≡◌, ◌⊎◌, ℕ, List, [], ◌∷◌, ◌++◌, Option, codes, decimal, slice_index_or, Result, Ok, Err}
+use Rattle.std.specs.Prelude.{◌≡◌, ◌⊎◌, ℕ, List, [], ◌∷◌, ◌++◌, Option, Some, None, codes, decimal, slice_index_or, Result, Ok, Err}
 use Rattle.mpy_io.specs.declared.fault.Failed.{Failed}
 use Rattle.std.specs.Io.KnownBytes.{Appends}
 use Rattle.mpy_base.specs.declared.source.SourceFault.{SourceFault}
 use Rattle.mpy_base.specs.Source.{number_of, name_of}
 use Rattle.mpy_io.specs.Count.{Rose}
 use Rattle.mpy_io.specs.Told.{AppendsFront}
-use Rattle.mpy_tool.specs.declared.go.Ending.{Ending}
-use Rattle.mpy_tool.specs.declared.go.Ending.TheVariants.{Ran, Unaccepted, ReadFault, WriteFault, NoMemory, Absent}
-use Rattle.mpy_tool.specs.declared.words.WordFault.{WordFault}
-use Rattle.mpy_tool.specs.declared.words.WordFault.TheVariants.{NoCommand, Unknown, Missing}
+use Rattle.mpy_reader.specs.declared.fault.FileFault.{FileFault}
+use Rattle.mpy_reader.specs.Fault as file
+use Rattle.bc_verify.specs.declared.fault.VerifyFault.{VerifyFault}
+use Rattle.bc_verify.specs.Rule as rule
+use Rattle.mpy_words.specs.declared.order.WordFault.{WordFault}
+use Rattle.mpy_words.specs.declared.order.WordFault.TheVariants.{NoCommand, Unknown, MissingName, MissingValue, BadNumber, Twice}
+use Rattle.mpy_words.specs.Command.{name_of as word_name, spelling_of}
+use Rattle.mpy_tool.specs.declared.ending.Ending.{Ending}
+use Rattle.mpy_tool.specs.declared.ending.Ending.TheVariants.{Done, Unaccepted, Unread, Unverified, ReadFault, WriteFault, NoMemory, Absent}
 
 -- a word that a fault names, left out where it is empty
 abbrev pub spaced : List ℕ → List ℕ
 spaced [] = []
 spaced (byte ∷ bytes) = 32 ∷ byte ∷ bytes
 
-abbrev pub unknown_line : List ℕ → List ℕ
-unknown_line word = codes "mpy: words 2 Unknown" ++ (spaced word ++ codes "\n")
+-- what is said of a fault of the words, and the word that it names
+abbrev pub fault_text : WordFault → List ℕ
+fault_text NoCommand = codes "mpy: words 1 NoCommand"
+fault_text (Unknown at) = codes "mpy: words 2 Unknown"
+fault_text (MissingName wanted) = codes "mpy: words 3 Missing"
+fault_text (MissingValue setting) = codes "mpy: words 3 Missing"
+fault_text (BadNumber at) = codes "mpy: words 4 BadNumber"
+fault_text (Twice setting) = codes "mpy: words 5 Twice"
+
+abbrev pub fault_word : List (List ℕ) → WordFault → List ℕ
+fault_word words NoCommand = []
+fault_word words (Unknown at) = slice_index_or words at []
+fault_word words (MissingName wanted) = word_name wanted
+fault_word words (MissingValue setting) = spelling_of setting
+fault_word words (BadNumber at) = slice_index_or words at []
+fault_word words (Twice setting) = spelling_of setting
 
 abbrev pub words_line : List (List ℕ) → WordFault → List ℕ
-words_line words NoCommand = codes "mpy: words 1 NoCommand\n"
-words_line words (Unknown at) = unknown_line (slice_index_or words at [])
-words_line words Missing = codes "mpy: words 3 Missing SRC\n"
+words_line words fault = fault_text fault ++ (spaced (fault_word words fault) ++ codes "\n")
 
 abbrev pub source_line : List ℕ → SourceFault → List ℕ
 source_line name fault =
@@ -31,10 +48,37 @@ source_line name fault =
     ++ (spaced fault.word ++ codes " line ")
     ++ (decimal fault.line ++ codes "\n")
 
--- what is said of a run of the source of this name
+-- the tag that a fault of an object names
+abbrev pub tag_text : Option ℕ → List ℕ
+tag_text None = []
+tag_text (Some tag) = codes " " ++ decimal tag
+
+abbrev pub file_line : List ℕ → FileFault → List ℕ
+file_line name fault =
+    (codes "mpy: " ++ name ++ codes ": file ")
+    ++ (decimal (file.number_of fault) ++ codes " " ++ file.name_of fault)
+    ++ tag_text (file.tag_of fault)
+    ++ codes "\n"
+
+-- the places of a path with dots between
+abbrev pub path_text : List ℕ → List ℕ
+path_text [] = []
+path_text (place ∷ []) = decimal place
+path_text (place ∷ next ∷ places) = decimal place ++ codes "." ++ path_text (next ∷ places)
+
+abbrev pub verify_line : List ℕ → VerifyFault → List ℕ
+verify_line name fault =
+    (codes "mpy: " ++ name ++ codes ": verify ")
+    ++ (decimal (rule.number_of fault.rule) ++ codes " " ++ rule.name_of fault.rule)
+    ++ (codes " code " ++ path_text fault.path)
+    ++ (codes " offset " ++ decimal fault.offset ++ codes "\n")
+
+-- what is said of a command on the file of this name
 abbrev pub line_of : List ℕ → Ending → List ℕ
-line_of name Ran = []
+line_of name Done = []
 line_of name (Unaccepted fault) = source_line name fault
+line_of name (Unread fault) = file_line name fault
+line_of name (Unverified fault) = verify_line name fault
 line_of name ReadFault = codes "mpy: read fault " ++ name ++ codes "\n"
 line_of name WriteFault = codes "mpy: write fault out\n"
 line_of name NoMemory = codes "mpy: memory\n"

@@ -3,9 +3,9 @@ use Rattle.std.specs.Prelude.{◌≡◌, ℕ, List, Option}
 use Rattle.std.specs.Io.KnownBytes.{Keeps}
 use Rattle.mpy_io.specs.Count.{Counts}
 use Rattle.mpy_io.specs.Files.{FileOf}
-use Rattle.mpy_tool.specs.declared.go.Ending.{Ending}
-use Rattle.mpy_tool.specs.declared.words.WordFault.{WordFault}
-use Rattle.mpy_tool.specs.Go.{Went, is_read_fault, is_write_fault, status_of}
+use Rattle.mpy_words.specs.declared.order.WordFault.{WordFault}
+use Rattle.mpy_tool.specs.declared.ending.Ending.{Ending}
+use Rattle.mpy_tool.specs.Ending.{is_read_fault, is_write_fault, status_of}
 use Rattle.mpy_tool.specs.Line.{Says, line_of, words_line}
 
 -- what a folder and two sinks tell, and their counts of faults
@@ -29,11 +29,12 @@ pub record RefusesWords (words : List (List ℕ)) (fault : WordFault) (old new :
   pub writes : new.out_faults ≡ old.out_faults
   pub says : Says old.say new.say old.say_faults new.say_faults (words_line words fault)
 
--- go SRC ended so: why, with what printed, which count of faults rose, and what was said
-pub record Goes (name : List ℕ) (old new : Outside) (status : ℕ) : Type 0 where
+-- A command on the file of this name ended so: why, with what printed, which count of faults rose, and what was said. The
+-- relation says what it has to do with what the folder has and what was printed.
+pub record Ends (Relates : Option FileOf → List ℕ → Ending → Option (List ℕ) → Option (List ℕ) → Type 0) (name : List ℕ) (old new : Outside) (status : ℕ) : Type 0 where
   pub ending : Ending
   pub status_is : status ≡ status_of ending
-  pub went : Went old.files name ending old.out new.out
+  pub went : Relates old.files name ending old.out new.out
   pub reads : Counts old.folder_faults new.folder_faults (is_read_fault ending)
   pub writes : Counts old.out_faults new.out_faults (is_write_fault ending)
   pub says : Says old.say new.say old.say_faults new.say_faults (line_of name ending)

@@ -2,29 +2,15 @@
 
 ghost use Rattle.std.specs.Prelude.{◌≡◌, IfOk};
 ghost use Rattle.mpy_io.specs.Count.{Counts};
-ghost use Rattle.mpy_tool.specs.Go.{stored, ascii_of, Compiles, RanSource, Went, is_read_fault, is_write_fault};
+ghost use Rattle.mpy_tool.specs.Ending.{is_read_fault, is_write_fault};
+ghost use Rattle.mpy_tool.specs.Go.{stored, ascii_of, Compiles, RanSource, Went};
 
+use crate::ending::Ending;
 use bc_vm::run_simple;
 use mpy_base::{NoMemory, Refused, SourceFault, Text};
 use mpy_io::{Failed, Folder, ReadFault, Sink};
 use mpy_simple::{simple_file, simple_read};
 use std::alloc::Global;
-
-/// How a run of a source ended.
-#[derive(Debug, Drop)]
-pub enum Ending {
-    /// All of it ran.
-    Ran,
-    /// The source isn't accepted.
-    Unaccepted(SourceFault),
-    /// The folder failed.
-    ReadFault,
-    /// The sink failed.
-    WriteFault,
-    NoMemory,
-    /// The folder has no such file.
-    Absent,
-}
 
 fn stored_byte(byte: u8) -> u8
     ensures { result ≡ ascii_of byte }
@@ -62,7 +48,7 @@ fn run<S: Sink>(alloc: Global, source: &[u8], name: &[u8], out: &mut S) -> Endin
 {
     match compiled(alloc, source, name) {
         Ok(texts) => match run_simple(&texts, out) {
-            Ok(()) => Ending::Ran,
+            Ok(()) => Ending::Done,
             Err(Failed) => Ending::WriteFault,
         },
         Err(Refused::Fault(fault)) => Ending::Unaccepted(fault),

@@ -1,13 +1,18 @@
 //! The line that is said at the end of a command.
 
-ghost use Rattle.std.specs.Prelude.{◌≡◌, ◌++◌, List, ℕ, map, string_bytes};
-ghost use Rattle.mpy_tool.specs.Line.{Puts, spaced, unknown_line, words_line, source_line, line_of};
+ghost use Rattle.std.specs.Prelude.{◌≡◌, ◌++◌, List, ℕ, [], map, string_bytes, slice_index_or, codes, decimal};
+ghost use Rattle.mpy_reader.specs.Fault as file;
+ghost use Rattle.bc_verify.specs.Rule as rules;
+ghost use Rattle.mpy_tool.specs.Line as spec;
+ghost use Rattle.mpy_tool.specs.Line.{Puts, spaced, words_line, source_line, file_line, tag_text, path_text, verify_line, line_of};
 
-use crate::go::Ending;
-use crate::words::WordFault;
+use crate::ending::Ending;
+use bc_verify::{Rule, VerifyFault};
 use itoa::Buffer;
 use mpy_base::SourceFault;
 use mpy_io::{Failed, Sink};
+use mpy_reader::FileFault;
+use mpy_words::WordFault;
 
 /// Puts a piece.
 fn put<E: Sink>(say: &mut E, piece: &[u8]) -> Result<(), Failed>
@@ -26,7 +31,12 @@ fn put_two<E: Sink>(say: &mut E, first: &[u8], second: &[u8]) -> Result<(), Fail
 }
 
 /// Puts three pieces, and stops where a put fails.
-fn put_three<E: Sink>(say: &mut E, first: &[u8], second: &[u8], third: &[u8]) -> Result<(), Failed>
+pub(crate) fn put_three<E: Sink>(
+    say: &mut E,
+    first: &[u8],
+    second: &[u8],
+    third: &[u8],
+) -> Result<(), Failed>
     ensures { Puts (E.told say.old) (E.told say.new) (E.count say.old) (E.count say.new)
         (first.now ++ second.now ++ third.now) result }
 {
@@ -41,13 +51,41 @@ fn gap(word: &[u8]) -> &'static [u8]
     if word.is_empty() { b"" } else { b" " }
 }
 
-/// Says that the words are of no order since this one is unknown.
-fn say_unknown<E: Sink>(say: &mut E, word: &[u8]) -> Result<(), Failed>
-    ensures { Puts (E.told say.old) (E.told say.new) (E.count say.old) (E.count say.new)
-        (unknown_line word.now) result }
+/// The word at a place, and the empty one where there is none.
+fn word_at(words: &[String], at: usize) -> &[u8]
+    ensures { result.now ≡ slice_index_or (map string_bytes words.now) at [] }
 {
-    put(say, b"mpy: words 2 Unknown")?;
-    put_three(say, gap(word), word, b"\n")
+    match words.get(at) {
+        Some(word) => word.as_bytes(),
+        None => b"",
+    }
+}
+
+/// What is said of a fault of the words.
+fn fault_text(fault: WordFault) -> &'static [u8]
+    ensures { result.now ≡ spec.fault_text fault }
+{
+    match fault {
+        WordFault::NoCommand => b"mpy: words 1 NoCommand",
+        WordFault::Unknown(_) => b"mpy: words 2 Unknown",
+        WordFault::MissingName(_) | WordFault::MissingValue(_) => b"mpy: words 3 Missing",
+        WordFault::BadNumber(_) => b"mpy: words 4 BadNumber",
+        WordFault::Twice(_) => b"mpy: words 5 Twice",
+    }
+}
+
+/// The word that it names.
+fn fault_word(words: &[String], fault: WordFault) -> &[u8]
+    ensures { result.now ≡ spec.fault_word (map string_bytes words.now) fault }
+{
+    match fault {
+        WordFault::NoCommand => b"",
+        WordFault::Unknown(at) | WordFault::BadNumber(at) => word_at(words, at),
+        WordFault::MissingName(wanted) => wanted.name().as_bytes(),
+        WordFault::MissingValue(setting) | WordFault::Twice(setting) => setting
+            .spelling()
+            .as_bytes(),
+    }
 }
 
 /// Says why the words are of no order.
@@ -59,14 +97,9 @@ pub(crate) fn say_words<E: Sink>(
     ensures { Puts (E.told say.old) (E.told say.new) (E.count say.old) (E.count say.new)
         (words_line (map string_bytes words.now) fault) result }
 {
-    match fault {
-        WordFault::NoCommand => put(say, b"mpy: words 1 NoCommand\n"),
-        WordFault::Unknown(at) => match words.get(at) {
-            Some(word) => say_unknown(say, word.as_bytes()),
-            None => say_unknown(say, b""),
-        },
-        WordFault::Missing => put(say, b"mpy: words 3 Missing SRC\n"),
-    }
+    let word = fault_word(words, fault);
+    put(say, fault_text(fault))?;
+    put_three(say, gap(word), word, b"\n")
 }
 
 /// Says why the source of this name isn't accepted.
@@ -85,14 +118,113 @@ fn say_fault<E: Sink>(say: &mut E, name: &str, fault: &SourceFault) -> Result<()
     put_two(say, line, b"\n")
 }
 
-/// Says how a run of the source of this name ended.
+/// Puts what a line on the file of this name begins with.
+fn put_head<E: Sink>(say: &mut E, name: &str, what: &[u8]) -> Result<(), Failed>
+    ensures { Puts (E.told say.old) (E.told say.new) (E.count say.old) (E.count say.new)
+        (codes "mpy: " ++ name.now ++ what.now) result }
+{
+    put_three(say, b"mpy: ", name.as_bytes(), what)
+}
+
+/// Puts the number and the name of a file's fault.
+fn put_fault<E: Sink>(say: &mut E, fault: FileFault) -> Result<(), Failed>
+    ensures { Puts (E.told say.old) (E.told say.new) (E.count say.old) (E.count say.new)
+        (decimal (file.number_of fault) ++ codes " " ++ file.name_of fault) result }
+{
+    let mut digits = Buffer::new();
+    let digits = digits.format(fault.number()).as_bytes();
+    put_three(say, digits, b" ", fault.name().as_bytes())
+}
+
+/// Puts the number and the name of a rule.
+fn put_rule<E: Sink>(say: &mut E, broken: Rule) -> Result<(), Failed>
+    ensures { Puts (E.told say.old) (E.told say.new) (E.count say.old) (E.count say.new)
+        (decimal (rules.number_of broken) ++ codes " " ++ rules.name_of broken) result }
+{
+    let mut digits = Buffer::new();
+    let digits = digits.format(broken.number()).as_bytes();
+    put_three(say, digits, b" ", broken.name().as_bytes())
+}
+
+/// Puts the tag that a fault of an object names.
+fn put_tag<E: Sink>(say: &mut E, tag: Option<u8>) -> Result<(), Failed>
+    ensures { Puts (E.told say.old) (E.told say.new) (E.count say.old) (E.count say.new) (tag_text tag) result }
+{
+    match tag {
+        None => put(say, b""),
+        Some(tag) => {
+            let mut digits = Buffer::new();
+            put_two(say, b" ", digits.format(tag).as_bytes())
+        }
+    }
+}
+
+/// Says why the file of this name isn't read.
+fn say_unread<E: Sink>(say: &mut E, name: &str, fault: FileFault) -> Result<(), Failed>
+    ensures { Puts (E.told say.old) (E.told say.new) (E.count say.old) (E.count say.new)
+        (file_line name.now fault) result }
+{
+    put_head(say, name, b": file ")?;
+    put_fault(say, fault)?;
+    put_tag(say, fault.tag())?;
+    put(say, b"\n")
+}
+
+/// Puts the places of a path with dots between.
+fn put_path<E: Sink>(say: &mut E, path: &[usize]) -> Result<(), Failed>
+    ensures { Puts (E.told say.old) (E.told say.new) (E.count say.old) (E.count say.new) (path_text path.now) result }
+{
+    let Some((place, behind)) = path.split_first() else {
+        return put(say, b"");
+    };
+    let mut digits = Buffer::new();
+    let digits = digits.format(*place).as_bytes();
+    if behind.is_empty() {
+        return put(say, digits);
+    }
+    put_two(say, digits, b".")?;
+    put_path(say, behind)
+}
+
+/// Puts which code it is by its path.
+fn put_code<E: Sink>(say: &mut E, path: &[usize]) -> Result<(), Failed>
+    ensures { Puts (E.told say.old) (E.told say.new) (E.count say.old) (E.count say.new)
+        (codes " code " ++ path_text path.now) result }
+{
+    put(say, b" code ")?;
+    put_path(say, path)
+}
+
+/// Puts an offset and ends the line.
+fn put_offset<E: Sink>(say: &mut E, offset: usize) -> Result<(), Failed>
+    ensures { Puts (E.told say.old) (E.told say.new) (E.count say.old) (E.count say.new)
+        (codes " offset " ++ decimal offset ++ codes "\n") result }
+{
+    let mut digits = Buffer::new();
+    put_three(say, b" offset ", digits.format(offset).as_bytes(), b"\n")
+}
+
+/// Says why the module of the file of this name isn't verified.
+fn say_unverified<E: Sink>(say: &mut E, name: &str, fault: &VerifyFault) -> Result<(), Failed>
+    ensures { Puts (E.told say.old) (E.told say.new) (E.count say.old) (E.count say.new)
+        (verify_line name.now fault.now) result }
+{
+    put_head(say, name, b": verify ")?;
+    put_rule(say, fault.rule)?;
+    put_code(say, fault.path.as_slice())?;
+    put_offset(say, fault.offset)
+}
+
+/// Says how a command on the file of this name ended.
 pub(crate) fn say_ending<E: Sink>(say: &mut E, name: &str, ending: &Ending) -> Result<(), Failed>
     ensures { Puts (E.told say.old) (E.told say.new) (E.count say.old) (E.count say.new)
         (line_of name.now ending.now) result }
 {
     match ending {
-        Ending::Ran => Ok(()),
+        Ending::Done => Ok(()),
         Ending::Unaccepted(fault) => say_fault(say, name, fault),
+        Ending::Unread(fault) => say_unread(say, name, *fault),
+        Ending::Unverified(fault) => say_unverified(say, name, fault),
         Ending::ReadFault => put_three(say, b"mpy: read fault ", name.as_bytes(), b"\n"),
         Ending::WriteFault => put(say, b"mpy: write fault out\n"),
         Ending::NoMemory => put(say, b"mpy: memory\n"),

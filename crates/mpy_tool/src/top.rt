@@ -1,32 +1,44 @@
 //! The top call.
 
 ghost use Rattle.std.specs.Prelude.{◌≡◌, ℕ, List, Option, Some, map, string_bytes, IfOk, IfErr};
+ghost use Rattle.mpy_io.specs.Count.{Counts};
 ghost use Rattle.mpy_io.specs.Files.{FileOf};
-ghost use Rattle.mpy_tool.specs.declared.go.Ending.{Ending};
-ghost use Rattle.mpy_tool.specs.Words.{order_of};
-ghost use Rattle.mpy_tool.specs.Go.{Went, IsSettled, status_of};
-ghost use Rattle.mpy_tool.specs.Outside.{seen, RefusesWords, Goes};
+ghost use Rattle.mpy_words.specs.declared.order.Command.TheVariants as commands;
+ghost use Rattle.mpy_words.specs.Words.{order_of, first_name};
+ghost use Rattle.mpy_tool.specs.declared.ending.Ending.{Ending};
+ghost use Rattle.mpy_tool.specs.Ending.{IsSettled, is_read_fault, is_write_fault};
+ghost use Rattle.mpy_tool.specs.Check.{Checks};
+ghost use Rattle.mpy_tool.specs.Go.{Went};
+ghost use Rattle.mpy_tool.specs.Outside.{seen, RefusesWords, Ends};
 
-use crate::go::{Ending, go};
+use crate::check::check;
+use crate::ending::Ending;
+use crate::go::go;
 use crate::line::{say_ending, say_words};
-use crate::words::order;
 use mpy_io::{Folder, Sink};
+use mpy_words::{Command, order_of};
 use std::alloc::Global;
 
 /// The status of words that are of no order.
 const WORDS_STATUS: u8 = 2;
 
-/// The exit status of a run.
-fn status(ending: &Ending) -> u8
-    ensures { result ≡ status_of ending.now }
+/// Does a command on the file of this name.
+fn done<F: Folder, S: Sink>(
+    command: Command,
+    alloc: Global,
+    name: &str,
+    folder: &mut F,
+    out: &mut S,
+) -> Ending
+    ensures go { command ≡ commands.Go → Went (F.files folder.old) name.now result (S.told out.old) (S.told out.new) }
+    ensures check { command ≡ commands.Check → Checks (F.files folder.old) name.now result (S.told out.old) (S.told out.new) }
+    ensures reads { Counts (F.count folder.old) (F.count folder.new) (is_read_fault result) }
+    ensures writes { Counts (S.count out.old) (S.count out.new) (is_write_fault result) }
+    ensures files { F.files folder.new ≡ F.files folder.old }
 {
-    match ending {
-        Ending::Ran => 0,
-        Ending::Unaccepted(_) => 3,
-        Ending::ReadFault => 7,
-        Ending::WriteFault => 8,
-        Ending::NoMemory => 9,
-        Ending::Absent => 10,
+    match command {
+        Command::Go => go(alloc, name, folder, out),
+        Command::Check => check(alloc, name, folder, out),
     }
 }
 
@@ -45,20 +57,27 @@ pub fn mpy<F: Folder, S: Sink, E: Sink>(
         (seen F.files F.count S.told S.count E.told E.count folder.new out.new say.new) result) }
 
     // go SRC: the source's texts are printed, or what kept them from it is said.
-    ensures go { IfOk (order_of (map string_bytes words.now)) (λ source.
-        Goes source
+    ensures go { IfOk (order_of (map string_bytes words.now)) (λ order. order.command ≡ commands.Go
+        → Ends Went (first_name (map string_bytes words.now))
+        (seen F.files F.count S.told S.count E.told E.count folder.old out.old say.old)
+        (seen F.files F.count S.told S.count E.told E.count folder.new out.new say.new) result) }
+
+    // check FILE: how many codes are verified is printed, or what keeps the file from it is said.
+    ensures check { IfOk (order_of (map string_bytes words.now)) (λ order. order.command ≡ commands.Check
+        → Ends Checks (first_name (map string_bytes words.now))
         (seen F.files F.count S.told S.count E.told E.count folder.old out.old say.old)
         (seen F.files F.count S.told S.count E.told E.count folder.new out.new say.new) result) }
 
     // No command that is built so far changes a file.
     ensures files { F.files folder.new ≡ F.files folder.old }
 {
-    match order(words) {
-        Ok(source) => {
-            let ending = go(alloc, source, folder, out);
+    match order_of(words) {
+        Ok(order) => {
+            let name = words[1].as_str();
+            let ending = done(order.command, alloc, name, folder, out);
             // A failed put on `say` changes nothing else.
-            let _ = say_ending(say, source, &ending);
-            status(&ending)
+            let _ = say_ending(say, name, &ending);
+            ending.status()
         }
         Err(fault) => {
             let _ = say_words(say, words, fault);

@@ -1,5 +1,5 @@
 use Rattle.std.proofs.Common.{ℕ, List, ◌++◌, codes, ap, sym, subst, ◌∙◌}
-use Rattle.mpy_tool.specs.declared.go.Ending.{Ending}
+use Rattle.mpy_tool.specs.declared.ending.Ending.{Ending}
 use Rattle.mpy_tool.specs.Line.{Puts, line_of}
 use Rattle.mpy_tool.proofs.line.say_ending.Goals as goal
 

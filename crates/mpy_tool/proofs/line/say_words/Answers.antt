@@ -1,27 +1,18 @@
-use Rattle.std.proofs.Common.{◌≡◌, ◌<◌, ℕ, List, map, length, get_or, string_bytes, ap, sym, subst, ◌∙◌, rules}
-use Rattle.mpy_tool.specs.declared.words.WordFault.{WordFault}
-use Rattle.mpy_tool.specs.Line.{Puts, unknown_line, words_line}
-use Rattle.mpy_tool.proofs.Said.{word_at, no_word}
+use Rattle.std.proofs.Common.{◌≡◌, ℕ, List, ◌++◌, map, string_bytes, codes, ap, ◌∙◌}
+use Rattle.std.proofs.lemmas.Result.{err_from_is_err_and}
+use Rattle.mpy_tool.specs.Line.{spaced, fault_text, fault_word}
+use Rattle.mpy_tool.proofs.Said.{cut_is, both_are}
 use Rattle.mpy_tool.proofs.line.say_words.Goals as goal
 
-pub returns-in-Some : goal.returns-in-Some
-returns-in-Some g c =
-    let words = c.args.words.now in
-    let at = c.in-Unknown.at in
-    let within : at < length words = search rules in
-    let read : c.in-Some.word.now ≡ get_or words at c.in-Some.word.now = search rules in
-    let word = c.as_bytes.ensures.value ∙ word_at words at c.in-Some.word.now within read in
-    let line = ap unknown_line word ∙ sym (ap (words_line (map string_bytes words)) c.in-Unknown.is) in
-    subst (λ (bs : List ℕ). Puts (g.E.Sink.told c.args.say.now) (g.E.Sink.told c.say_unknown.new.say) (g.E.Sink.count c.args.say.now) (g.E.Sink.count c.say_unknown.new.say) bs c.say_unknown.result) line c.say_unknown.ensures
+pub returns-in_err-put : goal.returns-in_err-put
+returns-in_err-put g c =
+    let word = fault_word (map string_bytes c.args.words.now) c.args.fault in
+    let failed = err_from_is_err_and c.from_residual.result c.from_residual.ensures.1 in
+    rw failed.1 (cut_is (g.E.Sink.told c.args.say.now) (g.E.Sink.told c.put.new.say) (g.E.Sink.count c.args.say.now) (g.E.Sink.count c.put.new.say) c.fault_text.result.now (fault_text c.args.fault) (spaced word ++ codes "\n") failed.0 c.fault_text.ensures c.in_err-put.ensures)
 
-pub returns-in-None : goal.returns-in-None
-returns-in-None g c =
-    let words = c.args.words.now in
-    let at = c.in-Unknown.at in
-    let past = no_word words at (search rules) in
-    let line = ap unknown_line past ∙ sym (ap (words_line (map string_bytes words)) c.in-Unknown.is) in
-    subst (λ (bs : List ℕ). Puts (g.E.Sink.told c.args.say.now) (g.E.Sink.told c.say_unknown-in-None.new.say) (g.E.Sink.count c.args.say.now) (g.E.Sink.count c.say_unknown-in-None.new.say) bs c.say_unknown-in-None.result) line c.say_unknown-in-None.ensures
-
-pub returns-in-Missing : goal.returns-in-Missing
-returns-in-Missing g c =
-    subst (λ (f : WordFault). Puts (g.E.Sink.told c.args.say.now) (g.E.Sink.told c.put-in-Missing.new.say) (g.E.Sink.count c.args.say.now) (g.E.Sink.count c.put-in-Missing.new.say) (words_line (map string_bytes c.args.words.now) f) c.put-in-Missing.result) (sym c.in-Missing.is) c.put-in-Missing.ensures
+pub returns : goal.returns
+returns g c =
+    let word = fault_word (map string_bytes c.args.words.now) c.args.fault in
+    let named : c.gap.result.now ++ c.fault_word-word.result.now ≡ spaced word = c.gap.ensures ∙ ap spaced c.fault_word-word.ensures in
+    let rest : c.gap.result.now ++ c.fault_word-word.result.now ++ codes "\n" ≡ spaced word ++ codes "\n" = ap (λ (bs : List ℕ). bs ++ codes "\n") named in
+    both_are (g.E.Sink.told c.args.say.now) (g.E.Sink.told c.put.new.say) (g.E.Sink.told c.put_three.new.say) (g.E.Sink.count c.args.say.now) (g.E.Sink.count c.put.new.say) (g.E.Sink.count c.put_three.new.say) c.fault_text.result.now (fault_text c.args.fault) (c.gap.result.now ++ c.fault_word-word.result.now ++ codes "\n") (spaced word ++ codes "\n") c.in_ok-put.field-0 c.put_three.result c.fault_text.ensures rest c.in_ok-put.ensures c.put_three.ensures

@@ -1,0 +1,32 @@
+-- A file that is too long to be read, and the text of a path.
+use Rattle.std.proofs.Common.{◌≡◌, ◌<◌, ◌≤◌, ◌++◌, ◌∷◌, [], ℕ, Bool, true, false, List, length, ◌==◌, sym, ◌∙◌, codes, decimal, Option, Some, None, IfSome, Err, refl, subst, inr, arith}
+use Rattle.std.specs.Io.KnownBytes.{Keeps}
+use Rattle.std.proofs.KnownBytes.{Keeps-refl}
+use Rattle.mpy_base.specs.declared.limits.TheConstants.{MAX_READ_BYTES, MAX_FILE_BYTES}
+use Rattle.mpy_io.specs.declared.fault.ReadFault.{ReadFault as FolderFault}
+use Rattle.mpy_io.specs.declared.fault.ReadFault.TheVariants.{TooLong}
+use Rattle.mpy_io.specs.Files.{FileOf, Reads}
+use Rattle.mpy_reader.specs.declared.fault.FileFault.TheVariants.{TooBig}
+use Rattle.mpy_reader.specs.Reading.{FirstFault, file, stops}
+use Rattle.mpy_tool.specs.Folder.{MayHold}
+use Rattle.mpy_tool.specs.Line.{path_text}
+use Rattle.mpy_tool.proofs.Runs.{some_long}
+
+-- a file past its limit has that fault before all others
+long_fault : (bytes : List ℕ) → MAX_FILE_BYTES < length bytes → FirstFault bytes TooBig
+unfolding file
+long_fault bytes h = stops TooBig (inr ((λ (f : length bytes ≤ MAX_FILE_BYTES). omega (arith, f, h)), refl)) refl
+
+long_file : (files : Option FileOf) (name : List ℕ) → IfSome files (λ file. (bytes : List ℕ) × (file name ≡ Some bytes) × (MAX_READ_BYTES < length bytes)) → (bytes : List ℕ) × MayHold files name (Some bytes) × FirstFault bytes TooBig
+long_file None name h = let long = some_long MAX_FILE_BYTES in (long.0, tt, long_fault long.0 long.1)
+long_file (Some held) name h = (h.0, h.1, long_fault h.0 (let past : MAX_READ_BYTES < length h.0 = h.2 in omega (arith, past)))
+
+pub too_long_read : (files : Option FileOf) (name : List ℕ) (told : Option (List ℕ)) (fault : FolderFault) → fault ≡ TooLong → IfSome files (λ file. Reads (file name) (Err fault))
+    → ((bytes : List ℕ) × MayHold files name (Some bytes) × FirstFault bytes TooBig) × Keeps told told
+too_long_read files name told fault e h =
+    (long_file files name (subst (λ (x : FolderFault). IfSome files (λ file. Reads (file name) (Err x))) e h), Keeps-refl told)
+
+-- a place with others behind it
+pub path_more : (path behind : List ℕ) (place : ℕ) (alone : Bool) → path ≡ place ∷ behind → alone ≡ (length behind == 0) → alone ≡ false → path_text path ≡ (decimal place ++ codes ".") ++ path_text behind
+path_more path [] place alone e h n = absurd (let clash : true ≡ false = sym h ∙ n in cc)
+path_more path (next ∷ places) place alone e h n = rw e refl

@@ -1,0 +1,75 @@
+//! Orders, and what keeps words from being one.
+
+ghost use Rattle.std.specs.Prelude.{◌≡◌};
+ghost use Rattle.mpy_words.specs.Command as spec;
+
+/// What a first word asks for.
+#[derive(Clone, Copy, Debug, PartialEq, Eq)]
+pub enum Command {
+    /// `go SRC`
+    Go,
+    /// `check FILE`
+    Check,
+}
+
+/// A word that a command names.
+#[derive(Clone, Copy, Debug, PartialEq, Eq)]
+pub enum Named {
+    Source,
+    File,
+}
+
+/// An option, which stands behind the named words with its value.
+#[derive(Clone, Copy, Debug, PartialEq, Eq)]
+pub enum Setting {
+    /// `-O`, the level of optimization.
+    Level,
+}
+
+/// What words order. A named word stands at its place behind the command, so the first one at 1.
+#[derive(Clone, Copy, Debug, PartialEq, Eq)]
+pub struct Order {
+    pub command: Command,
+    /// The level of optimization, 0 to 3.
+    pub level: u8,
+}
+
+/// Why words are of no order: the first fault from left to right.
+#[derive(Clone, Copy, Debug, PartialEq, Eq)]
+pub enum WordFault {
+    /// There is no word.
+    NoCommand,
+    /// No command, no option of this command, or a surplus word, by its place.
+    Unknown(usize),
+    /// A named word isn't there.
+    MissingName(Named),
+    /// An option's value isn't there.
+    MissingValue(Setting),
+    /// An option's value is no number, or one outside its bounds, by its place.
+    BadNumber(usize),
+    /// An option stands a second time.
+    Twice(Setting),
+}
+
+impl Named {
+    /// The name by which a line names the word.
+    pub fn name(self) -> &'static str
+        ensures { result.now ≡ spec.name_of self }
+    {
+        match self {
+            Named::Source => "SRC",
+            Named::File => "FILE",
+        }
+    }
+}
+
+impl Setting {
+    /// The option as it is spelled.
+    pub fn spelling(self) -> &'static str
+        ensures { result.now ≡ spec.spelling_of self }
+    {
+        match self {
+            Setting::Level => "-O",
+        }
+    }
+}

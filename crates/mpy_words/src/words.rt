@@ -1,0 +1,126 @@
+//! The order of words.
+
+ghost use Rattle.std.specs.Prelude.{◌≡◌, ◌≤◌, ◌<◌, ◌^◌, length, map, string_bytes, None, IfOk};
+ghost use Rattle.mpy_words.specs.Command as commands;
+ghost use Rattle.mpy_words.specs.Words as spec;
+
+use crate::number::number;
+use crate::order::{Command, Named, Order, Setting, WordFault};
+
+fn command(word: &str) -> Option<Command>
+    ensures { result ≡ commands.command_of word.now }
+{
+    match word {
+        "go" => Some(Command::Go),
+        "check" => Some(Command::Check),
+        _ => None,
+    }
+}
+
+fn setting(command: Command, word: &str) -> Option<Setting>
+    ensures { result ≡ commands.setting_of command word.now }
+{
+    match command {
+        Command::Go if word == "-O" => Some(Setting::Level),
+        _ => None,
+    }
+}
+
+/// The words that a command names.
+fn names(command: Command) -> &'static [Named]
+    ensures { result.now ≡ commands.names_of command }
+{
+    match command {
+        Command::Go => &[Named::Source],
+        Command::Check => &[Named::File],
+    }
+}
+
+/// The greatest value of an option.
+fn greatest(setting: Setting) -> u64
+    ensures value { result ≡ commands.greatest_of setting }
+    ensures small { result < 2 ^ 8 }
+{
+    match setting {
+        Setting::Level => 3,
+    }
+}
+
+fn begins_with_dash(word: &str) -> bool
+    ensures { result ≡ spec.begins_with_dash word.now }
+{
+    match word.as_bytes() {
+        [byte, ..] => *byte == b'-',
+        [] => false,
+    }
+}
+
+/// Reads options, the last of so many words.
+#[tactic(auto, unfolding(crate::specs::Words::settings))]
+fn settings(count: usize, command: Command, words: &[String]) -> Result<Order, WordFault>
+    requires { length words.now ≤ count }
+    ensures order { result ≡ spec.settings count command None (map string_bytes words.now) }
+    ensures same { IfOk result (λ order. order.command ≡ command) }
+{
+    let mut level = None;
+    let mut rest = words;
+    'more: while let Some((word, behind)) = rest.split_first() {
+        let Some(setting) = setting(command, word.as_str()) else {
+            return Err(WordFault::Unknown(count - rest.len()));
+        };
+        if level.is_some() {
+            return Err(WordFault::Twice(setting));
+        }
+        let Some((value, more)) = behind.split_first() else {
+            return Err(WordFault::MissingValue(setting));
+        };
+        let Some(n) = number(greatest(setting), value.as_bytes()) else {
+            return Err(WordFault::BadNumber(count - behind.len()));
+        };
+        level = Some(n as u8);
+        rest = more;
+    }
+    Ok(Order {
+        command,
+        level: level.unwrap_or(0),
+    })
+}
+
+/// Reads the named words, and then options.
+#[tactic(auto, unfolding(crate::specs::Words::named))]
+fn named(count: usize, command: Command, words: &[String]) -> Result<Order, WordFault>
+    requires { length words.now ≤ count }
+    ensures order { result ≡ spec.named count command (commands.names_of command) (map string_bytes words.now) }
+    ensures named { IfOk result (λ order. length (commands.names_of order.command) ≤ length words.now) }
+{
+    let mut rest = words;
+    for wanted in names(command) {
+        let Some((word, behind)) = rest.split_first() else {
+            return Err(WordFault::MissingName(*wanted));
+        };
+        if begins_with_dash(word.as_str()) {
+            return match setting(command, word.as_str()) {
+                Some(_) => Err(WordFault::MissingName(*wanted)),
+                None => Err(WordFault::Unknown(count - rest.len())),
+            };
+        }
+        rest = behind;
+    }
+    settings(count, command, rest)
+}
+
+/// The order that words give, the program's own name left out.
+pub fn order_of(words: &[String]) -> Result<Order, WordFault>
+    ensures order { result ≡ spec.order_of (map string_bytes words.now) }
+
+    // The named words are there.
+    ensures named { IfOk result (λ order. length (commands.names_of order.command) < length words.now) }
+{
+    let Some((first, behind)) = words.split_first() else {
+        return Err(WordFault::NoCommand);
+    };
+    match command(first.as_str()) {
+        Some(command) => named(words.len(), command, behind),
+        None => Err(WordFault::Unknown(0)),
+    }
+}
