@@ -20,7 +20,6 @@ use Rattle.py_tokens.specs.Literal.{IsLiteralFault}
 use Rattle.py_tokens.specs.Lexeme.{Answer, IsBlank, IsInLine, IsRunOf, Announces, token, number_answer, operator_answer, string_fault, StringAnswers, PrefixAnswers, WordAnswers, NameAnswers, Answers, IsFront}
 use Rattle.py_tokens.proofs.Numbers.{one_answer}
 use Rattle.py_tokens.proofs.Operators.{one_longest}
-use Rattle.py_tokens.proofs.Tables.{contains_any}
 use Rattle.py_tokens.proofs.Words.{one_word, debug_apart, refused_no_word}
 use Rattle.py_tokens.proofs.Classes.{one_class}
 use Rattle.py_tokens.proofs.Prefixes.{one_prefix}
@@ -106,9 +105,9 @@ word_one opt text v w (inr a) (inr b) = a.1 ∙ sym b.1
 
 one_named : (opt : ℕ) (name : List ℕ) (a b : Answer) → WordAnswers opt name a → WordAnswers opt name b → a ≡ b
 one_named opt name a b (inl x) (inl y) = let same : x.0 ≡ y.0 = word_one opt name x.0 y.0 x.1 y.1 in x.2 ∙ (ap (λ w. token (toks.Word w) name) same ∙ sym y.2)
-one_named opt name a b (inl x) (inr (inl y)) = absurd (refused_no_word opt name x.0 (contains_any refused_words name y.0) x.1)
+one_named opt name a b (inl x) (inr (inl y)) = absurd (refused_no_word opt name x.0 y.0 x.1)
 one_named opt name a b (inl x) (inr (inr y)) = absurd (y.0 x.0 x.1)
-one_named opt name a b (inr (inl x)) (inl y) = absurd (refused_no_word opt name y.0 (contains_any refused_words name x.0) y.1)
+one_named opt name a b (inr (inl x)) (inl y) = absurd (refused_no_word opt name y.0 x.0 y.1)
 one_named opt name a b (inr (inl x)) (inr (inl y)) = x.1 ∙ sym y.1
 one_named opt name a b (inr (inl x)) (inr (inr y)) = absurd (y.1 x.0)
 one_named opt name a b (inr (inr x)) (inl y) = absurd (x.0 y.0 y.1)

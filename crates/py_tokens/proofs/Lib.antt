@@ -12,6 +12,6 @@ pub mod Reading
 pub mod Readings
 pub mod Seams
 pub mod Sources
-pub mod Tables
+pub mod Spans
 pub mod Values
 pub mod Words

@@ -1,12 +1,12 @@
 -- The tables of operators, and the longest one in front.
-use Rattle.std.proofs.Common.{◌≡◌, ℕ, ◌<◌, ◌≤◌, true, false, inl, inr, List, length, take, drop, Option, Some, refl, sym, ap, ◌∙◌, subst, arith}
-use Rattle.std.specs.List.{find, list_any, All}
+use Rattle.std.proofs.Common.{◌≡◌, ℕ, ◌+◌, ◌*◌, ◌-◌, ◌%◌, ◌<◌, ◌≤◌, Bool, true, false, inl, inr, List, [], ◌∷◌, length, take, drop, get_or, Contains, Option, Some, refl, sym, ap, ◌∙◌, subst, arith}
+use Rattle.std.specs.List.{All, AllPass}
 use Rattle.std.specs.Str.{bytes_eq}
 use Rattle.std.proofs.lemmas.List.{take_at, length-append, take-append-drop, length-take-le}
 use Rattle.std.proofs.lemmas.List.Elements.{All-contains, All-from_recursion}
+use Rattle.std.proofs.lemmas.List.Sums.{AllPass-from_list_all}
 use Rattle.std.proofs.lemmas.Bool.{cases_order}
 use Rattle.std.proofs.lemmas.Slice.Eq.{bytes_eq-Decides}
-use Rattle.py_tokens.proofs.Tables.{find_passes, contains_any}
 use Rattle.py_tokens.specs.declared.operator.Op.{Op}
 use Rattle.py_tokens.specs.declared.operator.Op.TheVariants as ops
 use Rattle.py_tokens.specs.declared.operator.Operator.{Operator}
@@ -14,160 +14,147 @@ use Rattle.py_tokens.specs.declared.operator.Operator.TheVariants as operators
 use Rattle.py_tokens.specs.declared.operator.TheConstants.{OPS}
 use Rattle.py_tokens.specs.Operator.{spelling, refused, Spells, Stands, IsLongest}
 
-abbrev pub op_of : List ℕ → Option Op
-op_of text = find (λ v. bytes_eq text (spelling v)) OPS
+abbrev pub slot : ℕ → ℕ → ℕ → ℕ
+slot len first last = (len + 60 * first + 55 * last) % 71
 
-pub op_found : (op : Op) → op_of (spelling op) ≡ Some op
-op_found ops.OpenParen = refl
-op_found ops.CloseParen = refl
-op_found ops.OpenBracket = refl
-op_found ops.CloseBracket = refl
-op_found ops.OpenBrace = refl
-op_found ops.CloseBrace = refl
-op_found ops.Comma = refl
-op_found ops.Colon = refl
-op_found ops.Semicolon = refl
-op_found ops.Dot = refl
-op_found ops.Assign = refl
-op_found ops.Equal = refl
-op_found ops.NotEqual = refl
-op_found ops.Less = refl
-op_found ops.Greater = refl
-op_found ops.LessEqual = refl
-op_found ops.GreaterEqual = refl
-op_found ops.Plus = refl
-op_found ops.Minus = refl
-op_found ops.Star = refl
-op_found ops.DoubleSlash = refl
-op_found ops.Percent = refl
-op_found ops.DoubleStar = refl
-op_found ops.Ampersand = refl
-op_found ops.Bar = refl
-op_found ops.Caret = refl
-op_found ops.Tilde = refl
-op_found ops.ShiftLeft = refl
-op_found ops.ShiftRight = refl
-op_found ops.PlusAssign = refl
-op_found ops.MinusAssign = refl
-op_found ops.StarAssign = refl
-op_found ops.DoubleSlashAssign = refl
-op_found ops.PercentAssign = refl
-op_found ops.DoubleStarAssign = refl
-op_found ops.AmpersandAssign = refl
-op_found ops.BarAssign = refl
-op_found ops.CaretAssign = refl
-op_found ops.ShiftLeftAssign = refl
-op_found ops.ShiftRightAssign = refl
+-- the operator in the slot of a text
+unfoldable pub slotted : List ℕ → Op
+slotted text = get_or OPS (slot (length text) (get_or text 0 0) (get_or text (length text - 1) 0)) ops.OpenParen
 
-pub not_refused : (op : Op) → list_any (bytes_eq (spelling op)) refused ≡ false
-not_refused ops.OpenParen = refl
-not_refused ops.CloseParen = refl
-not_refused ops.OpenBracket = refl
-not_refused ops.CloseBracket = refl
-not_refused ops.OpenBrace = refl
-not_refused ops.CloseBrace = refl
-not_refused ops.Comma = refl
-not_refused ops.Colon = refl
-not_refused ops.Semicolon = refl
-not_refused ops.Dot = refl
-not_refused ops.Assign = refl
-not_refused ops.Equal = refl
-not_refused ops.NotEqual = refl
-not_refused ops.Less = refl
-not_refused ops.Greater = refl
-not_refused ops.LessEqual = refl
-not_refused ops.GreaterEqual = refl
-not_refused ops.Plus = refl
-not_refused ops.Minus = refl
-not_refused ops.Star = refl
-not_refused ops.DoubleSlash = refl
-not_refused ops.Percent = refl
-not_refused ops.DoubleStar = refl
-not_refused ops.Ampersand = refl
-not_refused ops.Bar = refl
-not_refused ops.Caret = refl
-not_refused ops.Tilde = refl
-not_refused ops.ShiftLeft = refl
-not_refused ops.ShiftRight = refl
-not_refused ops.PlusAssign = refl
-not_refused ops.MinusAssign = refl
-not_refused ops.StarAssign = refl
-not_refused ops.DoubleSlashAssign = refl
-not_refused ops.PercentAssign = refl
-not_refused ops.DoubleStarAssign = refl
-not_refused ops.AmpersandAssign = refl
-not_refused ops.BarAssign = refl
-not_refused ops.CaretAssign = refl
-not_refused ops.ShiftLeftAssign = refl
-not_refused ops.ShiftRightAssign = refl
+op_slotted : (op : Op) → slotted (spelling op) ≡ op
+unfolding slotted
+op_slotted ops.OpenParen = refl
+op_slotted ops.CloseParen = refl
+op_slotted ops.OpenBracket = refl
+op_slotted ops.CloseBracket = refl
+op_slotted ops.OpenBrace = refl
+op_slotted ops.CloseBrace = refl
+op_slotted ops.Comma = refl
+op_slotted ops.Colon = refl
+op_slotted ops.Semicolon = refl
+op_slotted ops.Dot = refl
+op_slotted ops.Assign = refl
+op_slotted ops.Equal = refl
+op_slotted ops.NotEqual = refl
+op_slotted ops.Less = refl
+op_slotted ops.Greater = refl
+op_slotted ops.LessEqual = refl
+op_slotted ops.GreaterEqual = refl
+op_slotted ops.Plus = refl
+op_slotted ops.Minus = refl
+op_slotted ops.Star = refl
+op_slotted ops.DoubleSlash = refl
+op_slotted ops.Percent = refl
+op_slotted ops.DoubleStar = refl
+op_slotted ops.Ampersand = refl
+op_slotted ops.Bar = refl
+op_slotted ops.Caret = refl
+op_slotted ops.Tilde = refl
+op_slotted ops.ShiftLeft = refl
+op_slotted ops.ShiftRight = refl
+op_slotted ops.PlusAssign = refl
+op_slotted ops.MinusAssign = refl
+op_slotted ops.StarAssign = refl
+op_slotted ops.DoubleSlashAssign = refl
+op_slotted ops.PercentAssign = refl
+op_slotted ops.DoubleStarAssign = refl
+op_slotted ops.AmpersandAssign = refl
+op_slotted ops.BarAssign = refl
+op_slotted ops.CaretAssign = refl
+op_slotted ops.ShiftLeftAssign = refl
+op_slotted ops.ShiftRightAssign = refl
+
+-- the operator that the code reads
+pub reads : (text : List ℕ) (first last : ℕ) → first ≡ get_or text 0 0 → last ≡ get_or text (length text - 1) 0 → get_or OPS (slot (length text) first last) ops.OpenParen ≡ slotted text
+unfolding slotted
+reads text first last is also = ap (λ k. get_or OPS (slot (length text) k last) ops.OpenParen) is ∙ ap (λ k. get_or OPS (slot (length text) (get_or text 0 0) k) ops.OpenParen) also
+
+is_op : (text : List ℕ) (op other : Op) → op ≡ slotted text → text ≡ spelling other → op ≡ other
+is_op text op other at is = at ∙ (ap slotted is ∙ op_slotted other)
+
+some_is : (a b : Op) → Some a ≡ Some b → a ≡ b
+some_is a b e = cc
+
+-- a text is the operator in its slot, or none
+pub slot_has : (text its : List ℕ) (op : Op) (r : Bool) → op ≡ slotted text → its ≡ spelling op → r ≡ bytes_eq text its → r ≡ true → (other : Op) → (Some op ≡ Some other → text ≡ spelling other) × (text ≡ spelling other → Some op ≡ Some other)
+slot_has text its op r at is eq equal other =
+    let same : text ≡ its = (bytes_eq-Decides text its).0 (sym eq ∙ equal) in
+    (λ e. same ∙ (is ∙ ap spelling (some_is op other e)), λ e. ap (λ x. Some x) (is_op text op other at e))
+
+pub slot_lacks : (text its : List ℕ) (op : Op) (r : Bool) → op ≡ slotted text → its ≡ spelling op → r ≡ bytes_eq text its → r ≡ false → (other : Op) → text ≡ spelling other → ⊥
+slot_lacks text its op r at is eq differs other e =
+    let same : text ≡ its = e ∙ (ap spelling (sym (is_op text op other at e)) ∙ sym is) in
+    let equal = (bytes_eq-Decides text its).1 same in
+    cc
+
+-- no operator that is left out is one of the others
+IsNone : List ℕ → Type 0
+IsNone text = bytes_eq text (spelling (slotted text)) ≡ false
+
+all_none : All IsNone refused
+unfolding IsNone slotted
+all_none = All-from_recursion IsNone refused (refl, (refl, (refl, (refl, (refl, (refl, (refl, tt)))))))
+
+pub apart : (text : List ℕ) (op : Op) → text ≡ spelling op → Contains refused text → ⊥
+unfolding IsNone
+apart text op is h =
+    let none = All-contains IsNone refused text all_none h in
+    let same : text ≡ spelling (slotted text) = is ∙ ap spelling (sym (op_slotted op) ∙ ap slotted (sym is)) in
+    let equal = (bytes_eq-Decides text (spelling (slotted text))).1 same in
+    cc
+
+pub one_operator : (a b : Operator) (text : List ℕ) → Spells a text → Spells b text → a ≡ b
+one_operator (operators.Op a) (operators.Op b) text is also = let same : a ≡ b = sym (op_slotted a) ∙ (ap slotted (sym is ∙ also) ∙ op_slotted b) in ap (λ op. operators.Op op) same
+one_operator (operators.Op a) operators.Refused text is also = absurd (apart text a is also)
+one_operator operators.Refused (operators.Op b) text is also = absurd (apart text b also is)
+one_operator operators.Refused operators.Refused text is also = refl
+
+abbrev found : Operator → Option Operator
+found operator = Some operator
+
+pub op_spells : (text : List ℕ) (op : Op) (operator : Operator) → text ≡ spelling op
+    → (found (operators.Op op) ≡ found operator → Spells operator text) × (Spells operator text → found (operators.Op op) ≡ found operator)
+op_spells text op operator is =
+    (λ e. (let same : operators.Op op ≡ operator = cc in subst (λ a. Spells a text) same is), λ its. ap found (one_operator (operators.Op op) operator text is its))
+
+-- what holds of each in the table
+pub op_passes : (p : List ℕ → Bool) → AllPass (λ op. p (spelling op)) OPS → (op : Op) → p (spelling op) ≡ true
+unfolding slotted
+op_passes p all op = subst (λ it. p (spelling it) ≡ true) (op_slotted op) (all (slot (length (spelling op)) (get_or (spelling op) 0 0) (get_or (spelling op) (length (spelling op) - 1) 0)) ops.OpenParen (omega arith))
+
+is_short : List ℕ → Bool
+is_short [] = false
+is_short (first ∷ []) = true
+is_short (first ∷ second ∷ []) = true
+is_short (first ∷ second ∷ third ∷ []) = true
+is_short (first ∷ second ∷ third ∷ fourth ∷ others) = false
+
+all_short : AllPass (λ op. is_short (spelling op)) OPS
+unfolding is_short
+all_short = AllPass-from_list_all (λ op. is_short (spelling op)) OPS refl
+
+refused_short : AllPass is_short refused
+unfolding is_short
+refused_short = AllPass-from_list_all is_short refused refl
+
+is_short_one : (operator : Operator) (text : List ℕ) → Spells operator text → is_short text ≡ true
+is_short_one (operators.Op op) text is = subst (λ it. is_short it ≡ true) (sym is) (op_passes is_short all_short op)
+is_short_one operators.Refused text is = All-contains (λ it. is_short it ≡ true) refused text refused_short is
 
 abbrev IsShort : List ℕ → Type 0
 IsShort text = (1 ≤ length text) × (length text ≤ 3)
 
-short_op : (op : Op) → IsShort (spelling op)
-short_op ops.OpenParen = (omega arith, omega arith)
-short_op ops.CloseParen = (omega arith, omega arith)
-short_op ops.OpenBracket = (omega arith, omega arith)
-short_op ops.CloseBracket = (omega arith, omega arith)
-short_op ops.OpenBrace = (omega arith, omega arith)
-short_op ops.CloseBrace = (omega arith, omega arith)
-short_op ops.Comma = (omega arith, omega arith)
-short_op ops.Colon = (omega arith, omega arith)
-short_op ops.Semicolon = (omega arith, omega arith)
-short_op ops.Dot = (omega arith, omega arith)
-short_op ops.Assign = (omega arith, omega arith)
-short_op ops.Equal = (omega arith, omega arith)
-short_op ops.NotEqual = (omega arith, omega arith)
-short_op ops.Less = (omega arith, omega arith)
-short_op ops.Greater = (omega arith, omega arith)
-short_op ops.LessEqual = (omega arith, omega arith)
-short_op ops.GreaterEqual = (omega arith, omega arith)
-short_op ops.Plus = (omega arith, omega arith)
-short_op ops.Minus = (omega arith, omega arith)
-short_op ops.Star = (omega arith, omega arith)
-short_op ops.DoubleSlash = (omega arith, omega arith)
-short_op ops.Percent = (omega arith, omega arith)
-short_op ops.DoubleStar = (omega arith, omega arith)
-short_op ops.Ampersand = (omega arith, omega arith)
-short_op ops.Bar = (omega arith, omega arith)
-short_op ops.Caret = (omega arith, omega arith)
-short_op ops.Tilde = (omega arith, omega arith)
-short_op ops.ShiftLeft = (omega arith, omega arith)
-short_op ops.ShiftRight = (omega arith, omega arith)
-short_op ops.PlusAssign = (omega arith, omega arith)
-short_op ops.MinusAssign = (omega arith, omega arith)
-short_op ops.StarAssign = (omega arith, omega arith)
-short_op ops.DoubleSlashAssign = (omega arith, omega arith)
-short_op ops.PercentAssign = (omega arith, omega arith)
-short_op ops.DoubleStarAssign = (omega arith, omega arith)
-short_op ops.AmpersandAssign = (omega arith, omega arith)
-short_op ops.BarAssign = (omega arith, omega arith)
-short_op ops.CaretAssign = (omega arith, omega arith)
-short_op ops.ShiftLeftAssign = (omega arith, omega arith)
-short_op ops.ShiftRightAssign = (omega arith, omega arith)
-
-short_refused : All IsShort refused
-short_refused = All-from_recursion IsShort refused (((omega arith, omega arith), ((omega arith, omega arith), ((omega arith, omega arith), ((omega arith, omega arith), ((omega arith, omega arith), ((omega arith, omega arith), ((omega arith, omega arith), tt))))))))
+short_if : (text : List ℕ) → is_short text ≡ true → IsShort text
+unfolding is_short
+short_if [] e = absurd cc
+short_if (first ∷ []) e = (omega arith, omega arith)
+short_if (first ∷ second ∷ []) e = (omega arith, omega arith)
+short_if (first ∷ second ∷ third ∷ []) e = (omega arith, omega arith)
+short_if (first ∷ second ∷ third ∷ fourth ∷ others) e = absurd cc
 
 -- how long an operator is
 pub short : (operator : Operator) (text : List ℕ) → Spells operator text → IsShort text
-short (operators.Op op) text is = subst IsShort (sym is) (short_op op)
-short operators.Refused text is = All-contains IsShort refused text short_refused is
-
-pub op_is : (text : List ℕ) (op : Op) → op_of text ≡ Some op → text ≡ spelling op
-op_is text op e = (bytes_eq-Decides text (spelling op)).0 (find_passes (λ v. bytes_eq text (spelling v)) OPS op e)
-
-pub is_op : (text : List ℕ) (op : Op) → text ≡ spelling op → op_of text ≡ Some op
-is_op text op e = ap op_of e ∙ op_found op
-
-pub apart : (text : List ℕ) (op : Op) → text ≡ spelling op → list_any (bytes_eq text) refused ≡ true → ⊥
-apart text op is any = let f = not_refused op in let g = ap (λ t. list_any (bytes_eq t) refused) is in cc
-
-pub one_operator : (a b : Operator) (text : List ℕ) → Spells a text → Spells b text → a ≡ b
-one_operator (operators.Op a) (operators.Op b) text is also = let f = is_op text a is in let g = is_op text b also in cc
-one_operator (operators.Op a) operators.Refused text is also = absurd (apart text a is (contains_any refused text also))
-one_operator operators.Refused (operators.Op b) text is also = absurd (apart text b also (contains_any refused text is))
-one_operator operators.Refused operators.Refused text is also = refl
+short operator text is = short_if text (is_short_one operator text is)
 
 -- what stands in front is the front of its length
 pub front_is : (text bytes : List ℕ) → Stands text bytes → (take (length text) bytes ≡ text) × (length text ≤ length bytes)

@@ -1,127 +1,113 @@
--- The tables of words.
-use Rattle.std.proofs.Common.{◌≡◌, ℕ, true, false, inl, inr, List, codes, Contains, Option, Some, refl, sym, ap, ◌∙◌}
-use Rattle.std.specs.List.{find, list_any}
+-- The table of words.
+use Rattle.std.proofs.Common.{◌≡◌, ℕ, ◌+◌, ◌*◌, ◌-◌, ◌%◌, Bool, true, false, inl, inr, List, length, get_or, codes, Contains, Some, refl, sym, ap, ◌∙◌, subst}
+use Rattle.std.specs.List.{All}
+use Rattle.std.proofs.lemmas.List.Elements.{All-contains, All-from_recursion}
 use Rattle.std.proofs.lemmas.Slice.Eq.{bytes_eq-Decides}
 use Rattle.std.specs.Str.{bytes_eq}
-use Rattle.py_tokens.proofs.Tables.{find_passes, contains_any}
 use Rattle.py_tokens.specs.declared.word.Word.{Word}
 use Rattle.py_tokens.specs.declared.word.Word.TheVariants as words
 use Rattle.py_tokens.specs.declared.word.TheConstants.{WORDS}
 use Rattle.py_tokens.specs.Word.{spelling, refused_words, IsWord}
 
-pub word_found : (w : Word) → find (λ v. bytes_eq (spelling w) (spelling v)) WORDS ≡ Some w
-word_found words.False = refl
-word_found words.None = refl
-word_found words.True = refl
-word_found words.And = refl
-word_found words.As = refl
-word_found words.Assert = refl
-word_found words.Break = refl
-word_found words.Continue = refl
-word_found words.Def = refl
-word_found words.Del = refl
-word_found words.Elif = refl
-word_found words.Else = refl
-word_found words.Except = refl
-word_found words.Finally = refl
-word_found words.For = refl
-word_found words.From = refl
-word_found words.Global = refl
-word_found words.If = refl
-word_found words.Import = refl
-word_found words.In = refl
-word_found words.Is = refl
-word_found words.Not = refl
-word_found words.Or = refl
-word_found words.Pass = refl
-word_found words.Raise = refl
-word_found words.Return = refl
-word_found words.Try = refl
-word_found words.While = refl
+abbrev pub slot : ℕ → ℕ → ℕ → ℕ
+slot len first last = (len + 22 * first + 43 * last) % 48
 
-pub not_refused : (w : Word) → list_any (bytes_eq (spelling w)) refused_words ≡ false
-not_refused words.False = refl
-not_refused words.None = refl
-not_refused words.True = refl
-not_refused words.And = refl
-not_refused words.As = refl
-not_refused words.Assert = refl
-not_refused words.Break = refl
-not_refused words.Continue = refl
-not_refused words.Def = refl
-not_refused words.Del = refl
-not_refused words.Elif = refl
-not_refused words.Else = refl
-not_refused words.Except = refl
-not_refused words.Finally = refl
-not_refused words.For = refl
-not_refused words.From = refl
-not_refused words.Global = refl
-not_refused words.If = refl
-not_refused words.Import = refl
-not_refused words.In = refl
-not_refused words.Is = refl
-not_refused words.Not = refl
-not_refused words.Or = refl
-not_refused words.Pass = refl
-not_refused words.Raise = refl
-not_refused words.Return = refl
-not_refused words.Try = refl
-not_refused words.While = refl
+-- the word in the slot of a text
+unfoldable pub slotted : List ℕ → Word
+slotted text = get_or WORDS (slot (length text) (get_or text 0 0) (get_or text (length text - 1) 0)) words.False
 
-pub not_debug : (w : Word) → bytes_eq (spelling w) (codes "__debug__") ≡ false
-not_debug words.False = refl
-not_debug words.None = refl
-not_debug words.True = refl
-not_debug words.And = refl
-not_debug words.As = refl
-not_debug words.Assert = refl
-not_debug words.Break = refl
-not_debug words.Continue = refl
-not_debug words.Def = refl
-not_debug words.Del = refl
-not_debug words.Elif = refl
-not_debug words.Else = refl
-not_debug words.Except = refl
-not_debug words.Finally = refl
-not_debug words.For = refl
-not_debug words.From = refl
-not_debug words.Global = refl
-not_debug words.If = refl
-not_debug words.Import = refl
-not_debug words.In = refl
-not_debug words.Is = refl
-not_debug words.Not = refl
-not_debug words.Or = refl
-not_debug words.Pass = refl
-not_debug words.Raise = refl
-not_debug words.Return = refl
-not_debug words.Try = refl
-not_debug words.While = refl
+pub word_slotted : (w : Word) → slotted (spelling w) ≡ w
+unfolding slotted
+word_slotted words.False = refl
+word_slotted words.None = refl
+word_slotted words.True = refl
+word_slotted words.And = refl
+word_slotted words.As = refl
+word_slotted words.Assert = refl
+word_slotted words.Break = refl
+word_slotted words.Continue = refl
+word_slotted words.Def = refl
+word_slotted words.Del = refl
+word_slotted words.Elif = refl
+word_slotted words.Else = refl
+word_slotted words.Except = refl
+word_slotted words.Finally = refl
+word_slotted words.For = refl
+word_slotted words.From = refl
+word_slotted words.Global = refl
+word_slotted words.If = refl
+word_slotted words.Import = refl
+word_slotted words.In = refl
+word_slotted words.Is = refl
+word_slotted words.Not = refl
+word_slotted words.Or = refl
+word_slotted words.Pass = refl
+word_slotted words.Raise = refl
+word_slotted words.Return = refl
+word_slotted words.Try = refl
+word_slotted words.While = refl
 
-abbrev pub word_of : List ℕ → Option Word
-word_of text = find (λ v. bytes_eq text (spelling v)) WORDS
+-- the word that the code reads
+pub reads : (text : List ℕ) (first last : ℕ) → first ≡ get_or text 0 0 → last ≡ get_or text (length text - 1) 0 → get_or WORDS (slot (length text) first last) words.False ≡ slotted text
+unfolding slotted
+reads text first last is also = ap (λ k. get_or WORDS (slot (length text) k last) words.False) is ∙ ap (λ k. get_or WORDS (slot (length text) (get_or text 0 0) k) words.False) also
 
-pub word_is : (text : List ℕ) (w : Word) → word_of text ≡ Some w → text ≡ spelling w
-word_is text w e = (bytes_eq-Decides text (spelling w)).0 (find_passes (λ v. bytes_eq text (spelling v)) WORDS w e)
+pub is_word : (text : List ℕ) (w v : Word) → w ≡ slotted text → text ≡ spelling v → w ≡ v
+is_word text w v at is = at ∙ (ap slotted is ∙ word_slotted v)
 
-pub is_word : (text : List ℕ) (w : Word) → text ≡ spelling w → word_of text ≡ Some w
-is_word text w e = ap word_of e ∙ word_found w
+some_is : (v w : Word) → Some v ≡ Some w → v ≡ w
+some_is v w e = cc
 
-pub apart : (w : Word) → Contains refused_words (spelling w) → ⊥
-apart w h = let e = contains_any refused_words (spelling w) h in let f = not_refused w in cc
+-- a text is the word in its slot, or none
+pub slot_has : (text its : List ℕ) (v : Word) (r : Bool) → v ≡ slotted text → its ≡ spelling v → r ≡ bytes_eq text its → r ≡ true → (w : Word) → (Some v ≡ Some w → text ≡ spelling w) × (text ≡ spelling w → Some v ≡ Some w)
+slot_has text its v r at is eq equal w =
+    let same : text ≡ its = (bytes_eq-Decides text its).0 (sym eq ∙ equal) in
+    (λ e. same ∙ (is ∙ ap spelling (some_is v w e)), λ e. ap (λ x. Some x) (is_word text v w at e))
 
-pub debug_apart : (w : Word) → codes "__debug__" ≡ spelling w → ⊥
-debug_apart w e = let same = (bytes_eq-Decides (spelling w) (codes "__debug__")).1 (sym e) in let f = not_debug w in cc
-
-pub refused_no_word : (opt : ℕ) (text : List ℕ) (w : Word) → list_any (bytes_eq text) refused_words ≡ true → IsWord opt text w → ⊥
-refused_no_word opt text w e (inl is) = let f = not_refused w in let g = ap (λ t. list_any (bytes_eq t) refused_words) is in cc
-refused_no_word opt text w e (inr is) = let g = ap (λ t. list_any (bytes_eq t) refused_words) is.0 in cc
-
--- a text that is no `__debug__` is a word where it is its spelling
-pub spelled_word : (opt : ℕ) (text : List ℕ) (w : Word) → (text ≡ codes "__debug__" → ⊥) → IsWord opt text w → word_of text ≡ Some w
-spelled_word opt text w other (inl is) = is_word text w is
-spelled_word opt text w other (inr is) = absurd (other is.0)
+pub slot_lacks : (text its : List ℕ) (v : Word) (r : Bool) → v ≡ slotted text → its ≡ spelling v → r ≡ bytes_eq text its → r ≡ false → (w : Word) → text ≡ spelling w → ⊥
+slot_lacks text its v r at is eq other w e =
+    let same : text ≡ its = e ∙ (ap spelling (sym (is_word text v w at e)) ∙ sym is) in
+    let equal = (bytes_eq-Decides text its).1 same in
+    cc
 
 pub one_word : (v w : Word) → spelling v ≡ spelling w → v ≡ w
-one_word v w e = let f = word_found v in let g = is_word (spelling v) w e in cc
+one_word v w e = sym (word_slotted v) ∙ (ap slotted e ∙ word_slotted w)
+
+-- the words that are left out, and `__debug__`, are no words
+IsNone : List ℕ → Type 0
+IsNone text = bytes_eq text (spelling (slotted text)) ≡ false
+
+none_is : (text : List ℕ) (w : Word) → IsNone text → text ≡ spelling w → ⊥
+unfolding IsNone
+none_is text w none is =
+    let same : text ≡ spelling (slotted text) = is ∙ ap spelling (sym (word_slotted w) ∙ ap slotted (sym is)) in
+    let equal = (bytes_eq-Decides text (spelling (slotted text))).1 same in
+    cc
+
+all_none : All IsNone refused_words
+unfolding IsNone slotted
+all_none = All-from_recursion IsNone refused_words (refl, (refl, (refl, (refl, (refl, (refl, (refl, tt)))))))
+
+pub apart : (w : Word) → Contains refused_words (spelling w) → ⊥
+apart w h = none_is (spelling w) w (All-contains IsNone refused_words (spelling w) all_none h) refl
+
+debug_none : IsNone (codes "__debug__")
+unfolding IsNone slotted
+debug_none = refl
+
+pub debug_apart : (w : Word) → codes "__debug__" ≡ spelling w → ⊥
+debug_apart w e = none_is (codes "__debug__") w debug_none e
+
+debug_not_refused : Contains refused_words (codes "__debug__") → ⊥
+debug_not_refused h = All-contains (λ text. text ≡ codes "__debug__" → ⊥) refused_words (codes "__debug__") others h refl
+  where
+    others : All (λ text. text ≡ codes "__debug__" → ⊥) refused_words
+    others = All-from_recursion (λ text. text ≡ codes "__debug__" → ⊥) refused_words ((λ e. cc), ((λ e. cc), ((λ e. cc), ((λ e. cc), ((λ e. cc), ((λ e. cc), ((λ e. cc), tt)))))))
+
+pub refused_no_word : (opt : ℕ) (text : List ℕ) (w : Word) → Contains refused_words text → IsWord opt text w → ⊥
+refused_no_word opt text w h (inl is) = none_is text w (All-contains IsNone refused_words text all_none h) is
+refused_no_word opt text w h (inr is) = debug_not_refused (subst (Contains refused_words) is.0 h)
+
+pub only_word : (opt : ℕ) (text : List ℕ) (v w : Word) → text ≡ spelling v → IsWord opt text w → v ≡ w
+only_word opt text v w is (inl its) = one_word v w (sym is ∙ its)
+only_word opt text v w is (inr its) = absurd (debug_apart v (sym its.0 ∙ is))

@@ -119,6 +119,13 @@ NameAnswers opt name behind answer =
     ((prefix : Prefix) × IsPrefix prefix name × Begins IsQuote behind × PrefixAnswers prefix name behind answer)
     ⊎ (((prefix : Prefix) → IsPrefix prefix name → ¬ Begins IsQuote behind) × WordAnswers opt name answer)
 
+-- a join, a line end or a string, whose text may hold a line end
+abbrev pub may_span : Lexeme → Bool
+may_span lexemes.Join = true
+may_span lexemes.LineEnd = true
+may_span (lexemes.Token (toks.Str value)) = true
+may_span lexeme = false
+
 -- the answer is what stands in front of bytes that begin so
 abbrev pub Answers : ℕ → Class → List ℕ → Answer → Type 0
 Answers opt classes.Blank bytes answer = (text : List ℕ) × IsRunOf IsBlank text bytes × (answer ≡ Ok (lexemes.Blank, text))

@@ -9,7 +9,7 @@ ghost use Rattle.py_tokens.specs.LineEnd.{Begins, IsLineByte};
 ghost use Rattle.py_tokens.specs.Name.{IsNameStart, IsName};
 ghost use Rattle.py_tokens.specs.Number.{BeginsRun};
 ghost use Rattle.py_tokens.specs.Literal.{IsQuote};
-ghost use Rattle.py_tokens.specs.Lexeme.{IsBlank, IsInLine, IsMark, IsRunOf, Announces, WordAnswers, PrefixAnswers, StringAnswers, Answers, IsFront, string_fault, Refuses, Finds};
+ghost use Rattle.py_tokens.specs.Lexeme.{IsBlank, IsInLine, IsMark, IsRunOf, Announces, WordAnswers, PrefixAnswers, StringAnswers, Answers, IsFront, string_fault, Refuses, Finds, may_span};
 
 use crate::escape::{StringFaultKind, line_end_len};
 use crate::name::name_len;
@@ -32,6 +32,15 @@ pub(crate) enum Lexeme {
     Join,
     LineEnd,
     Token(Tok),
+}
+
+impl Lexeme {
+    /// Whether its text may hold a line end.
+    pub(crate) fn may_span(&self) -> bool
+        ensures { result ≡ may_span self.now }
+    {
+        matches!(self, Lexeme::Join | Lexeme::LineEnd | Lexeme::Token(Tok::Str(_)))
+    }
 }
 
 /// Why no lexeme stands in front.

@@ -11,7 +11,6 @@ mod operator;
 mod prefix;
 mod source;
 mod string;
-mod texts;
 mod token;
 mod word;
 

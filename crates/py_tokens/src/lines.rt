@@ -149,6 +149,7 @@ impl Lines {
     ghost use Rattle.py_tokens.specs.declared.lexeme.Lexeme.{Lexeme};
     ghost use Rattle.py_tokens.specs.declared.lexeme.Lexeme.TheVariants as lexemes;
     ghost use Rattle.py_tokens.specs.declared.token.Tok.{Tok};
+    ghost use Rattle.py_tokens.specs.Lexeme.{may_span};
     ghost use Rattle.py_tokens.specs.Lines.{Piece, Place, bad_indent, change_tokens, levels_behind, tokens_of_pieces};
     ghost use Rattle.py_tokens.specs.Going.{goes_on, piece_here, StaysAt, StaysInLine, GoesAlike, Adds, OpensLine};
 
@@ -312,6 +313,7 @@ impl Lines {
     /// Takes the lexeme of that text, which stands here. An `Err` leaves no reading that goes on.
     pub(crate) fn add(&mut self, lexeme: Lexeme, text: &[u8]) -> Result<(), Refused<SourceFault>>
         requires short { self.old.at + length text.now ≤ MAX_SOURCE_BYTES }
+        requires plain { may_span lexeme ≡ false → line_ends text.now ≡ 0 }
         ensures at { OnOk result (self.new.at ≡ self.old.at + length text.now) }
         ensures line { OnOk result (self.new.line ≡ self.old.line + line_ends text.now) }
         ensures adds { Adds (piece_here self.old lexeme text.now) self.old self.new result }
@@ -319,8 +321,9 @@ impl Lines {
         if self.is_new {
             self.begin_line(&lexeme, text)?;
         }
+        let line_ends = if lexeme.may_span() { count_line_ends(text) } else { 0 };
         self.take(lexeme, text)?;
-        self.line += count_line_ends(text);
+        self.line += line_ends;
         self.at += text.len() as u32;
         Ok(())
     }

@@ -1,12 +1,9 @@
 //! Operators and other marks, of which the longest counts.
 
-ghost use Rattle.std.specs.Prelude.{◌≡◌, ℕ, ◌≤◌, ◌↔◌, List, length, take, Some, IfSome, IsNone};
-ghost use Rattle.std.specs.List.{find};
-ghost use Rattle.std.specs.Str.{bytes_eq};
+ghost use Rattle.std.specs.Prelude.{◌≡◌, ℕ, ◌≤◌, ◌↔◌, List, Contains, length, take, Some, IfSome, IsNone, IsTrue};
+ghost use Rattle.py_tokens.specs.declared.operator.Op.{Op};
 ghost use Rattle.py_tokens.specs.declared.operator.Operator.{Operator};
-ghost use Rattle.py_tokens.specs.Operator.{spelling, Spells, Stands, IsLongest};
-
-use crate::texts::is_any_of;
+ghost use Rattle.py_tokens.specs.Operator.{spelling, refused, Spells, Stands, IsLongest};
 
 /// An operator, a bracket or another mark of this language.
 #[derive(Clone, Copy, Debug, PartialEq, Eq)]
@@ -53,52 +50,6 @@ pub enum Op {
     ShiftRightAssign,
 }
 
-const OPS: [Op; 40] = [
-    Op::OpenParen,
-    Op::CloseParen,
-    Op::OpenBracket,
-    Op::CloseBracket,
-    Op::OpenBrace,
-    Op::CloseBrace,
-    Op::Comma,
-    Op::Colon,
-    Op::Semicolon,
-    Op::Dot,
-    Op::Assign,
-    Op::Equal,
-    Op::NotEqual,
-    Op::Less,
-    Op::Greater,
-    Op::LessEqual,
-    Op::GreaterEqual,
-    Op::Plus,
-    Op::Minus,
-    Op::Star,
-    Op::DoubleSlash,
-    Op::Percent,
-    Op::DoubleStar,
-    Op::Ampersand,
-    Op::Bar,
-    Op::Caret,
-    Op::Tilde,
-    Op::ShiftLeft,
-    Op::ShiftRight,
-    Op::PlusAssign,
-    Op::MinusAssign,
-    Op::StarAssign,
-    Op::DoubleSlashAssign,
-    Op::PercentAssign,
-    Op::DoubleStarAssign,
-    Op::AmpersandAssign,
-    Op::BarAssign,
-    Op::CaretAssign,
-    Op::ShiftLeftAssign,
-    Op::ShiftRightAssign,
-];
-
-/// Operators of Python that this language leaves out.
-const REFUSED: [&[u8]; 7] = [b"/", b"/=", b"@", b"@=", b":=", b"->", b"..."];
-
 /// What the bytes of an operator are.
 #[derive(Clone, Copy, Debug, PartialEq, Eq)]
 pub enum Operator {
@@ -106,6 +57,81 @@ pub enum Operator {
     /// One of Python that this language leaves out.
     Refused,
 }
+
+/// Each operator in the slot that its text gives. The other slots have the first operator.
+static OPS: [Op; 71] = [
+    Op::ShiftLeftAssign,
+    Op::DoubleSlashAssign,
+    Op::OpenParen,
+    Op::Star,
+    Op::DoubleStar,
+    Op::BarAssign,
+    Op::OpenParen,
+    Op::Tilde,
+    Op::OpenParen,
+    Op::OpenParen,
+    Op::OpenParen,
+    Op::DoubleSlash,
+    Op::NotEqual,
+    Op::OpenParen,
+    Op::Less,
+    Op::ShiftLeft,
+    Op::OpenParen,
+    Op::OpenBrace,
+    Op::OpenParen,
+    Op::Caret,
+    Op::Comma,
+    Op::OpenParen,
+    Op::MinusAssign,
+    Op::OpenParen,
+    Op::OpenParen,
+    Op::OpenParen,
+    Op::OpenParen,
+    Op::OpenParen,
+    Op::AmpersandAssign,
+    Op::OpenBracket,
+    Op::CloseParen,
+    Op::Greater,
+    Op::ShiftRight,
+    Op::OpenParen,
+    Op::CloseBrace,
+    Op::OpenParen,
+    Op::OpenParen,
+    Op::Dot,
+    Op::OpenParen,
+    Op::PercentAssign,
+    Op::Ampersand,
+    Op::Semicolon,
+    Op::OpenParen,
+    Op::OpenParen,
+    Op::PlusAssign,
+    Op::OpenParen,
+    Op::CloseBracket,
+    Op::Plus,
+    Op::GreaterEqual,
+    Op::ShiftRightAssign,
+    Op::OpenParen,
+    Op::CaretAssign,
+    Op::OpenParen,
+    Op::OpenParen,
+    Op::OpenParen,
+    Op::StarAssign,
+    Op::DoubleStarAssign,
+    Op::OpenParen,
+    Op::Assign,
+    Op::Equal,
+    Op::OpenParen,
+    Op::Bar,
+    Op::OpenParen,
+    Op::OpenParen,
+    Op::Minus,
+    Op::OpenParen,
+    Op::OpenParen,
+    Op::Percent,
+    Op::Colon,
+    Op::OpenParen,
+    Op::LessEqual,
+];
 
 impl Op {
     /// How the operator is written.
@@ -158,18 +184,44 @@ impl Op {
 }
 
 fn op_of(text: &[u8]) -> Option<Op>
-    ensures { result ≡ find (λ op. bytes_eq text.now (spelling op)) OPS }
+    ensures { (op : Op) → (result ≡ Some op) ↔ (text.now ≡ spelling op) }
 {
-    OPS.iter().copied().find(|op| text == op.spelling())
+    if text.is_empty() {
+        return None;
+    }
+    let (first, last) = (usize::from(text[0]), usize::from(text[text.len() - 1]));
+    let op = OPS[(text.len() + 60 * first + 55 * last) % OPS.len()];
+    if text == op.spelling() { Some(op) } else { None }
+}
+
+/// Whether the text is an operator of Python that this language leaves out.
+fn is_refused(text: &[u8]) -> bool
+    ensures { IsTrue result ↔ Contains refused text.now }
+{
+    matches!(
+        text,
+        b"/" | b"/=" | b"@" | b"@=" | b":=" | b"->" | b"..."
+    )
+}
+
+/// Whether an operator may have the second byte of the text, or is as short.
+fn may_spell(text: &[u8]) -> bool
+    ensures { (operator : Operator) → Spells operator text.now → IsTrue result }
+{
+    matches!(text, [_] | [_, b'=' | b'*' | b'/' | b'<' | b'>' | b'.', ..])
 }
 
 fn operator_of(text: &[u8]) -> Option<Operator>
     ensures { (operator : Operator) → (result ≡ Some operator) ↔ Spells operator text.now }
 {
-    if is_any_of(text, &REFUSED) {
-        return Some(Operator::Refused);
+    if !may_spell(text) {
+        return None;
     }
-    Some(Operator::Op(op_of(text)?))
+    match op_of(text) {
+        Some(op) => Some(Operator::Op(op)),
+        None if is_refused(text) => Some(Operator::Refused),
+        None => None,
+    }
 }
 
 /// The operator that the front of that length is.

@@ -63,7 +63,7 @@ fn piece_at(bytes: &[u8], quotes: &[u8], raw: bool) -> Result<Option<Piece>, Str
         b'\t' | b' '..=b'~' if bytes.starts_with(quotes) => return Ok(None),
         b'\t' | b' '..=b'~' => Piece {
             len: 1,
-            given: Given::Itself,
+            given: Given::Byte(*byte),
         },
         _ => return Err(StringFaultKind::BadByte),
     };

@@ -1,12 +1,8 @@
 //! Words: texts that would be names, had they no meaning of their own.
 
-ghost use Rattle.std.specs.Prelude.{◌≡◌, ◌↔◌, ◌≤◌, Contains};
-ghost use Rattle.std.specs.List.{find};
-ghost use Rattle.std.specs.Str.{bytes_eq};
+ghost use Rattle.std.specs.Prelude.{◌≡◌, ◌↔◌, ◌≤◌, Contains, IsTrue, Some};
 ghost use Rattle.py_tokens.specs.declared.word.Word.{Word};
 ghost use Rattle.py_tokens.specs.Word.{spelling, refused_words, debug_word, IsWord};
-
-use crate::texts::is_any_of;
 
 /// A word with a meaning of its own.
 #[derive(Clone, Copy, Debug, PartialEq, Eq)]
@@ -41,50 +37,8 @@ pub enum Word {
     While,
 }
 
-const WORDS: [Word; 28] = [
-    Word::False,
-    Word::None,
-    Word::True,
-    Word::And,
-    Word::As,
-    Word::Assert,
-    Word::Break,
-    Word::Continue,
-    Word::Def,
-    Word::Del,
-    Word::Elif,
-    Word::Else,
-    Word::Except,
-    Word::Finally,
-    Word::For,
-    Word::From,
-    Word::Global,
-    Word::If,
-    Word::Import,
-    Word::In,
-    Word::Is,
-    Word::Not,
-    Word::Or,
-    Word::Pass,
-    Word::Raise,
-    Word::Return,
-    Word::Try,
-    Word::While,
-];
-
 /// The name that is a word, of one meaning or the other.
 const DEBUG: &[u8] = b"__debug__";
-
-/// Words of Python that this language leaves out.
-const REFUSED: [&[u8]; 7] = [
-    b"class",
-    b"lambda",
-    b"nonlocal",
-    b"async",
-    b"await",
-    b"with",
-    b"yield",
-];
 
 /// What a text of letters, digits and underscores is.
 #[derive(Clone, Copy, Debug, PartialEq, Eq)]
@@ -94,6 +48,58 @@ pub enum Spelled {
     Refused,
     Name,
 }
+
+/// Each word in the slot that its text gives. The other slots have the first word.
+static WORDS: [Word; 48] = [
+    Word::False,
+    Word::Continue,
+    Word::Or,
+    Word::True,
+    Word::Global,
+    Word::And,
+    Word::While,
+    Word::False,
+    Word::Import,
+    Word::Is,
+    Word::False,
+    Word::False,
+    Word::False,
+    Word::Def,
+    Word::Finally,
+    Word::None,
+    Word::Except,
+    Word::False,
+    Word::False,
+    Word::Not,
+    Word::False,
+    Word::Pass,
+    Word::False,
+    Word::From,
+    Word::Assert,
+    Word::As,
+    Word::If,
+    Word::False,
+    Word::False,
+    Word::False,
+    Word::Try,
+    Word::Del,
+    Word::False,
+    Word::False,
+    Word::In,
+    Word::False,
+    Word::Elif,
+    Word::False,
+    Word::False,
+    Word::False,
+    Word::Raise,
+    Word::Else,
+    Word::Break,
+    Word::False,
+    Word::Return,
+    Word::For,
+    Word::False,
+    Word::False,
+];
 
 impl Word {
     /// How the word is written.
@@ -141,9 +147,24 @@ fn debug_value(opt: u8) -> Word
 }
 
 fn word_of(text: &[u8]) -> Option<Word>
-    ensures { result ≡ find (λ w. bytes_eq text.now (spelling w)) WORDS }
+    ensures { (w : Word) → (result ≡ Some w) ↔ (text.now ≡ spelling w) }
 {
-    WORDS.iter().copied().find(|word| text == word.spelling())
+    if text.is_empty() {
+        return None;
+    }
+    let (first, last) = (usize::from(text[0]), usize::from(text[text.len() - 1]));
+    let word = WORDS[(text.len() + 22 * first + 43 * last) % WORDS.len()];
+    if text == word.spelling() { Some(word) } else { None }
+}
+
+/// Whether the text is a word of Python that this language leaves out.
+fn is_refused(text: &[u8]) -> bool
+    ensures { IsTrue result ↔ Contains refused_words text.now }
+{
+    matches!(
+        text,
+        b"class" | b"lambda" | b"nonlocal" | b"async" | b"await" | b"with" | b"yield"
+    )
 }
 
 /// Reads a text of letters, digits and underscores at a level of optimization.
@@ -154,15 +175,11 @@ pub fn read_word(text: &[u8], opt: u8) -> Spelled
     ensures name { (result ≡ Spelled.Name)
         ↔ (((w : Word) → ¬ IsWord opt text.now w) × ¬ Contains refused_words text.now) }
 {
-    if text == DEBUG {
-        Spelled::Word(debug_value(opt))
-    } else if is_any_of(text, &REFUSED) {
-        Spelled::Refused
-    } else {
-        match word_of(text) {
-            Some(word) => Spelled::Word(word),
-            None => Spelled::Name,
-        }
+    match word_of(text) {
+        Some(word) => Spelled::Word(word),
+        None if text == DEBUG => Spelled::Word(debug_value(opt)),
+        None if is_refused(text) => Spelled::Refused,
+        None => Spelled::Name,
     }
 }
 

@@ -4,6 +4,7 @@ use Rattle.mpy_base.specs.declared.refused.Refused.{Refused}
 use Rattle.py_tokens.specs.declared.lexeme.LexemeFault.{LexemeFault}
 use Rattle.py_tokens.specs.Lexeme.{IsFront, Finds}
 use Rattle.py_tokens.proofs.Sources.{read_start, read_more, read_fault, says_refused, cut}
+use Rattle.py_tokens.proofs.Spans.{front_free}
 use Rattle.py_tokens.proofs.source.read.Goals as goal
 
 pub returns-in_err-add-in-Ok : goal.returns-in_err-add-in-Ok
@@ -13,6 +14,10 @@ returns-in_err-add-in-Ok c =
     let text = c.split_at.result.0.now in
     let front = subst (λ z. IsFront c.args.opt rest (Ok (c.in-Ok.lexeme, z))) (sym c.split_at.ensures.front) c.in-Ok.ensures.2 in
     rw (p.1, p.2) (says_refused c.args.opt c.args.source.now c.loop-rest.lines c.add.new.self rest c.split_at.result.1.now c.in-Ok.lexeme text c.in_err-add-in-Ok.field-0.0 c.loop-rest.invariant.read front (cut rest text c.split_at.result.1.now c.in-Ok.len c.split_at.ensures.front c.split_at.ensures.back) c.in_err-add-in-Ok.ensures.adds)
+
+pub add-requires-clause-plain : goal.add-requires-clause-plain
+add-requires-clause-plain c =
+    front_free c.args.opt c.loop-rest.rest.now c.in-Ok.lexeme c.split_at.result.0.now (subst (λ z. IsFront c.args.opt c.loop-rest.rest.now (Ok (c.in-Ok.lexeme, z))) (sym c.split_at.ensures.front) c.in-Ok.ensures.2)
 
 pub loop-rest-preserved : goal.loop-rest-preserved
 loop-rest-preserved c =
