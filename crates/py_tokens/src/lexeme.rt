@@ -39,7 +39,10 @@ impl Lexeme {
     pub(crate) fn may_span(&self) -> bool
         ensures { result ≡ may_span self.now }
     {
-        matches!(self, Lexeme::Join | Lexeme::LineEnd | Lexeme::Token(Tok::Str(_)))
+        matches!(
+            self,
+            Lexeme::Join | Lexeme::LineEnd | Lexeme::Token(Tok::Str(_))
+        )
     }
 }
 
@@ -84,12 +87,6 @@ fn class_of(bytes: &[u8]) -> Class
     }
 }
 
-fn is_blank(byte: u8) -> bool
-    ensures { IsTrue result ↔ IsBlank byte }
-{
-    byte == b' ' || byte == b'\t'
-}
-
 /// The length of the blanks in front.
 fn blank_len(bytes: &[u8]) -> usize
     ensures within { result ≤ length bytes.now }
@@ -97,7 +94,7 @@ fn blank_len(bytes: &[u8]) -> usize
     ensures ends { ¬ Begins IsBlank (drop result bytes.now) }
 {
     for (i, byte) in bytes.iter().enumerate() {
-        if !is_blank(*byte) {
+        if *byte != b' ' && *byte != b'\t' {
             return i;
         }
     }

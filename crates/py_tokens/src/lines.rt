@@ -321,7 +321,11 @@ impl Lines {
         if self.is_new {
             self.begin_line(&lexeme, text)?;
         }
-        let line_ends = if lexeme.may_span() { count_line_ends(text) } else { 0 };
+        let line_ends = if lexeme.may_span() {
+            count_line_ends(text)
+        } else {
+            0
+        };
         self.take(lexeme, text)?;
         self.line += line_ends;
         self.at += text.len() as u32;

@@ -9,12 +9,6 @@ fn is_name_start(byte: u8) -> bool
     byte.is_ascii_alphabetic() || byte == b'_'
 }
 
-fn is_name_part(byte: u8) -> bool
-    ensures { IsTrue result ↔ IsNamePart byte }
-{
-    is_name_start(byte) || byte.is_ascii_digit()
-}
-
 /// How many letters, digits and underscores stand in front.
 fn run_len(bytes: &[u8]) -> usize
     ensures within { result ≤ length bytes.now }
@@ -22,7 +16,7 @@ fn run_len(bytes: &[u8]) -> usize
     ensures ends { result < length bytes.now → ¬ IsNamePart (slice_index bytes.now result) }
 {
     for (i, byte) in bytes.iter().enumerate() {
-        if !is_name_part(*byte) {
+        if !is_name_start(*byte) && !byte.is_ascii_digit() {
             return i;
         }
     }

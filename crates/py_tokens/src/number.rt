@@ -17,12 +17,6 @@ pub enum NumberFault {
     TooBig,
 }
 
-fn is_run_part(byte: u8) -> bool
-    ensures { IsTrue result ↔ IsRunPart byte }
-{
-    byte.is_ascii_alphanumeric() || byte == b'_' || byte == b'.'
-}
-
 /// How many letters, digits, underscores and dots stand in front.
 fn run_len(bytes: &[u8]) -> usize
     ensures within { result ≤ length bytes.now }
@@ -30,7 +24,7 @@ fn run_len(bytes: &[u8]) -> usize
     ensures ends { result < length bytes.now → ¬ IsRunPart (slice_index bytes.now result) }
 {
     for (i, byte) in bytes.iter().enumerate() {
-        if !is_run_part(*byte) {
+        if !byte.is_ascii_alphanumeric() && *byte != b'_' && *byte != b'.' {
             return i;
         }
     }

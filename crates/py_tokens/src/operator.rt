@@ -191,17 +191,18 @@ fn op_of(text: &[u8]) -> Option<Op>
     }
     let (first, last) = (usize::from(text[0]), usize::from(text[text.len() - 1]));
     let op = OPS[(text.len() + 60 * first + 55 * last) % OPS.len()];
-    if text == op.spelling() { Some(op) } else { None }
+    if text == op.spelling() {
+        Some(op)
+    } else {
+        None
+    }
 }
 
 /// Whether the text is an operator of Python that this language leaves out.
 fn is_refused(text: &[u8]) -> bool
     ensures { IsTrue result ↔ Contains refused text.now }
 {
-    matches!(
-        text,
-        b"/" | b"/=" | b"@" | b"@=" | b":=" | b"->" | b"..."
-    )
+    matches!(text, b"/" | b"/=" | b"@" | b"@=" | b":=" | b"->" | b"...")
 }
 
 /// Whether an operator may have the second byte of the text, or is as short.
@@ -214,9 +215,6 @@ fn may_spell(text: &[u8]) -> bool
 fn operator_of(text: &[u8]) -> Option<Operator>
     ensures { (operator : Operator) → (result ≡ Some operator) ↔ Spells operator text.now }
 {
-    if !may_spell(text) {
-        return None;
-    }
     match op_of(text) {
         Some(op) => Some(Operator::Op(op)),
         None if is_refused(text) => Some(Operator::Refused),
@@ -225,11 +223,17 @@ fn operator_of(text: &[u8]) -> Option<Operator>
 }
 
 /// The operator that the front of that length is.
+#[inline(always)]
 fn operator_of_front(bytes: &[u8], len: usize) -> Option<Operator>
     ensures { (operator : Operator) → (result ≡ Some operator)
         ↔ ((len ≤ length bytes.now) × Spells operator (take len bytes.now)) }
 {
-    operator_of(bytes.get(..len)?)
+    let front = bytes.get(..len)?;
+    if may_spell(front) {
+        operator_of(front)
+    } else {
+        None
+    }
 }
 
 /// The longest operator in front and its length.

@@ -60,7 +60,7 @@ fn piece_at(bytes: &[u8], quotes: &[u8], raw: bool) -> Result<Option<Piece>, Str
             given: Given::Itself,
         },
         b'\\' => escape_at(bytes)?,
-        b'\t' | b' '..=b'~' if bytes.starts_with(quotes) => return Ok(None),
+        b'"' | b'\'' if bytes.starts_with(quotes) => return Ok(None),
         b'\t' | b' '..=b'~' => Piece {
             len: 1,
             given: Given::Byte(*byte),
@@ -92,7 +92,7 @@ pub(crate) fn read_string(
     ensures { Reads raw bytes.now result }
 {
     let quotes = quotes_of(bytes);
-    let mut text = Vec::new(alloc);
+    let mut text = Vec::with_capacity(alloc, 32)?;
     let mut at = quotes.len();
     loop {
         let rest = &bytes[at..];

@@ -154,7 +154,11 @@ fn word_of(text: &[u8]) -> Option<Word>
     }
     let (first, last) = (usize::from(text[0]), usize::from(text[text.len() - 1]));
     let word = WORDS[(text.len() + 22 * first + 43 * last) % WORDS.len()];
-    if text == word.spelling() { Some(word) } else { None }
+    if text == word.spelling() {
+        Some(word)
+    } else {
+        None
+    }
 }
 
 /// Whether the text is a word of Python that this language leaves out.

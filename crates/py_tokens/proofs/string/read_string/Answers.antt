@@ -6,7 +6,7 @@ use Rattle.py_tokens.proofs.string.read_string.Goals as goal
 pub loop-piece-init : goal.loop-piece-init
 loop-piece-init c =
     let quotes = c.quotes_of-quotes in
-    subst (λ (t : List ℕ). Progress c.args.raw quotes.result.now c.args.bytes.now (length quotes.result.now) t) (sym c.new-text.ensures.items)
+    subst (λ (t : List ℕ). Progress c.args.raw quotes.result.now c.args.bytes.now (length quotes.result.now) t) (sym (c.in_ok-text.ensures.items))
     (start c.args.raw quotes.result.now c.args.bytes.now quotes.ensures.0 quotes.ensures.1 quotes.ensures.2)
 
 pub loop-piece-preserved : goal.loop-piece-preserved
