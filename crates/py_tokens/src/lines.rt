@@ -153,17 +153,18 @@ impl Lines {
     ghost use Rattle.py_tokens.specs.Lines.{Piece, Place, bad_indent, change_tokens, levels_behind, tokens_of_pieces};
     ghost use Rattle.py_tokens.specs.Going.{goes_on, piece_here, StaysAt, StaysInLine, GoesAlike, Adds, OpensLine};
 
-    /// Where nothing has been read.
-    pub(crate) fn new(alloc: Global) -> Result<Lines, NoMemory>
+    /// Where nothing has been read, with room for so many tokens.
+    pub(crate) fn new(alloc: Global, room: usize) -> Result<Lines, NoMemory>
         ensures place { IfOk result (λ here. (here.at ≡ 0) × (here.line ≡ 1)) }
         ensures whole { IfOk result (λ here. (pieces : List Piece) (stop : Result Place SourceFault)
             → goes_on here pieces stop ≡ tokens_of_pieces pieces stop) }
     {
+        let tokens = Vec::with_capacity(alloc, room)?;
         let mut levels = Vec::new(alloc);
         levels.push(Text::empty(alloc))?;
         Ok(Lines {
             alloc,
-            tokens: Vec::new(alloc),
+            tokens,
             levels,
             brackets: 0,
             level: Text::empty(alloc),

@@ -28,12 +28,15 @@ fn placed(fault: LexemeFault, rest: &[u8], line: u32) -> SourceFault
     SourceFault { code, line, word }
 }
 
+/// The bytes of a source that usually give a token, for which room is made.
+const BYTES_A_TOKEN: usize = 4;
+
 fn read(alloc: Global, source: &[u8], opt: u8) -> Result<Vec<Token>, Refused<SourceFault>>
     requires level { opt ≤ 3 }
     requires short { length source.now ≤ MAX_SOURCE_BYTES }
     ensures { Says opt source.now result }
 {
-    let mut lines = Lines::new(alloc)?;
+    let mut lines = Lines::new(alloc, source.len() / BYTES_A_TOKEN)?;
     let mut rest = source;
     while !rest.is_empty() {
         match lexeme_at(alloc, rest, opt) {
