@@ -15,7 +15,7 @@ use Rattle.py_tokens.specs.declared.string.StringFault.{StringFault}
 use Rattle.py_tokens.specs.LineEnd.{Begins, IsLineByte, IsLineEnd}
 use Rattle.py_tokens.specs.Name.{IsNamePart}
 use Rattle.py_tokens.specs.Number as number
-use Rattle.py_tokens.specs.Word.{refused_words, IsWord}
+use Rattle.py_tokens.specs.Word.{IsWord}
 use Rattle.py_tokens.specs.Literal.{IsLiteralFault}
 use Rattle.py_tokens.specs.Lexeme.{Answer, IsBlank, IsInLine, IsRunOf, Announces, token, number_answer, operator_answer, string_fault, StringAnswers, PrefixAnswers, WordAnswers, NameAnswers, Answers, IsFront}
 use Rattle.py_tokens.proofs.Numbers.{one_answer}

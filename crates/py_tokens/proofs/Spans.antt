@@ -1,5 +1,5 @@
 -- Which lexemes hold no line end.
-use Rattle.std.proofs.Common.{◌≡◌, ◌⊎◌, ℕ, Bool, true, false, ◌==◌, suc, List, [], ◌∷◌, length, Result, Ok, Err, ℤ, inl, inr, refl, sym, ap, ◌∙◌, subst, arith}
+use Rattle.std.proofs.Common.{◌≡◌, ℕ, Bool, true, false, ◌==◌, suc, List, [], ◌∷◌, Result, Ok, Err, ℤ, inl, inr, refl, ap, ◌∙◌, arith}
 use Rattle.std.proofs.lemmas.Bool.{ne_eqb}
 use Rattle.std.proofs.lemmas.List.Sums.{AllPass-from_list_all}
 use Rattle.std.proofs.lemmas.Bool.Decides.{Decides-eqb}
@@ -9,7 +9,6 @@ use Rattle.py_tokens.specs.declared.lexeme.Lexeme.TheVariants as lexemes
 use Rattle.py_tokens.specs.declared.lexeme.Class.TheVariants as classes
 use Rattle.py_tokens.specs.declared.prefix.Prefix.{Prefix}
 use Rattle.py_tokens.specs.declared.prefix.Prefix.TheVariants as prefixes
-use Rattle.py_tokens.specs.declared.token.Tok.TheVariants as toks
 use Rattle.py_tokens.specs.declared.number.NumberFault.{NumberFault}
 use Rattle.py_tokens.specs.declared.number.NumberFault.TheVariants as numbers
 use Rattle.py_tokens.specs.declared.operator.Op.{Op}
@@ -21,7 +20,7 @@ use Rattle.py_tokens.specs.Name.{IsNamePart}
 use Rattle.py_tokens.specs.Number.{IsRunPart}
 use Rattle.py_tokens.specs.Operator.{spelling, Spells}
 use Rattle.py_tokens.specs.Tokens.{line_ends}
-use Rattle.py_tokens.specs.Lexeme.{Answer, IsBlank, IsInLine, StringAnswers, PrefixAnswers, WordAnswers, NameAnswers, number_answer, operator_answer, IsFront, may_span}
+use Rattle.py_tokens.specs.Lexeme.{Answer, IsBlank, StringAnswers, PrefixAnswers, WordAnswers, NameAnswers, number_answer, operator_answer, IsFront, may_span}
 use Rattle.py_tokens.proofs.Operators.{op_passes}
 
 -- a text with no byte of a line end has no line end

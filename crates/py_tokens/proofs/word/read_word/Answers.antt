@@ -1,6 +1,5 @@
 use Rattle.std.proofs.Common.{◌≡◌, codes, inl, inr, refl, ap, ◌∙◌, rules}
 use Rattle.py_tokens.specs.declared.word.Spelled.TheVariants as spelled
-use Rattle.py_tokens.specs.declared.word.Word.{Word}
 use Rattle.py_tokens.specs.Word.{spelling}
 use Rattle.py_tokens.proofs.Words.{refused_no_word, only_word}
 use Rattle.py_tokens.proofs.word.read_word.Goals as goal
