@@ -1,3 +1,4 @@
+mod IterableExamples
 pub mod AfterSet
 pub mod Places
 pub mod Tolds
