@@ -103,13 +103,6 @@ module _ {S : Type 0} where
   names-set_other (s ∷ sets) (suc f) zero set ne = refl
   names-set_other (s ∷ sets) (suc f) (suc g) set ne = names-set_other sets f g set (λ e. ne (ap suc e))
 
-  -- a new set has no names
-  pub names-push : (sets : List (HashSet (Vec ℕ Global) S)) (set : HashSet (Vec ℕ Global) S) (f : ℕ) → names_of set ≡ [] → names_in (sets ++ set ∷ []) f ≡ names_in sets f
-  names-push [] set zero e = e
-  names-push [] set (suc f) e = refl
-  names-push (s ∷ sets) set zero e = refl
-  names-push (s ∷ sets) set (suc f) e = names-push sets set f e
-
   -- one more name in one of the sets
   pub names-added : (sets : List (HashSet (Vec ℕ Global) S)) (f g : ℕ) (old new : HashSet (Vec ℕ Global) S) (key : Vec ℕ Global) (name : List ℕ) →
       f < length sets → old ≡ get_or sets f old → new.keys ≡ insert_key same_key old.keys key → key.items ≡ name →

@@ -120,6 +120,3 @@ step_on tells events i e around next sets new h at w around_is count inside name
 pub ended : {S : Type 0} (tells : Tells) (events rest : List Event) (around : List ℕ) (sets : List (HashSet (Vec ℕ Global) S)) → rest ≡ [] → (w : Walked tells events rest around sets) → w.front ≡ marks events
 ended tells events rest around sets e w =
     sym (append-nil w.front) ∙ (ap (λ (r : List Event). w.front ++ marks_from (length sets) around r) (sym e) ∙ w.all)
-
-pub counted_all : {S : Type 0} (tells : Tells) (events rest : List Event) (around : List ℕ) (sets : List (HashSet (Vec ℕ Global) S)) → rest ≡ [] → Walked tells events rest around sets → length sets ≡ functions events
-counted_all tells events rest around sets e w = let k : functions rest ≡ 0 = ap functions e in omega (arith, k, w.count)
