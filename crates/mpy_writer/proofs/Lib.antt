@@ -1,0 +1,15 @@
+pub mod Bodies
+pub mod Faults
+pub mod Labelled
+pub mod LineTables
+pub mod Lists
+pub mod Numbers
+pub mod Objects
+pub mod Own
+pub mod Raws
+pub mod Spelled
+pub mod Steps
+pub mod Texts
+pub mod Trees
+pub mod Uses
+pub mod Whole

@@ -1,0 +1,6 @@
+pub mod Codes
+pub mod Ends
+pub mod File
+pub mod Outcome
+pub mod Tables
+pub mod Writable

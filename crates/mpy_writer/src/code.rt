@@ -1,0 +1,184 @@
+//! Codes as they are written.
+
+ghost use Rattle.std.specs.Prelude.{◌≡◌, ◌++◌, ◌<◌, ◌≤◌, ℕ, List, length, map, All, IfOk, OnOk};
+ghost use Rattle.std.specs.List.{AllZip, zip};
+ghost use Rattle.bc_ops.specs.declared.listing.Item.{Item};
+ghost use Rattle.bc_ops.specs.Listing.{Lists};
+ghost use Rattle.bc_labels.specs.Choice.{IsLayout, IsTooFar};
+ghost use Rattle.bc_prelude.specs.Names.{spelling};
+ghost use Rattle.mpy_tree.specs.Canonical.{changes};
+ghost use Rattle.mpy_writer.specs.File as specs;
+ghost use Rattle.mpy_writer.specs.File.{IsOwn, IsBig, SomeFar, SomeBig, indexes_of, signature_of, head_bytes, heads};
+ghost use Rattle.mpy_writer.specs.Outcome.{IfFault};
+ghost use Rattle.mpy_writer.specs.Tables.{TablesFit};
+ghost use Rattle.mpy_writer.specs.Writable.{IsSoundCode};
+
+use crate::fault::WriteFault;
+use crate::labels::labelled;
+use crate::tables::Tables;
+use bc_labels::{LayoutFault, layout};
+use bc_ops::items_of;
+use bc_prelude::{Signature, write_lines, write_signature, write_size};
+use mpy_base::limits::MAX_CODE_BYTES;
+use mpy_base::{NoMemory, Refused, write_vuint};
+use mpy_tree::Code;
+use std::alloc::Global;
+
+/// The instructions of a code.
+fn instructions(alloc: Global, tables: &Tables, code: &Code) -> Result<Vec<u8>, Refused<WriteFault>>
+    requires fit { TablesFit tables.now }
+    requires sound { IsSoundCode code.now }
+    ensures ok { IfOk result (λ bytes. IsLayout (specs.labelled tables.now code.now) bytes.items) }
+    ensures fault { IfFault result (λ fault. (fault ≡ WriteFault.TooFar) × IsTooFar (specs.labelled tables.now code.now)) }
+{
+    let items = labelled(alloc, tables, code)?;
+    match layout(alloc, &items) {
+        Ok(bytes) => Ok(bytes),
+        Err(Refused::Fault(LayoutFault::TooFar)) => Err(Refused::Fault(WriteFault::TooFar)),
+        Err(Refused::NoMemory) => Err(Refused::NoMemory),
+    }
+}
+
+/// The instructions of each code.
+pub(crate) fn layouts(
+    alloc: Global,
+    tables: &Tables,
+    codes: &[&Code],
+) -> Result<Vec<Vec<u8>>, Refused<WriteFault>>
+    requires fit { TablesFit tables.now }
+    requires sound { All IsSoundCode (map (λ c. c.now) codes.now) }
+    ensures ok { IfOk result (λ all. AllZip (λ code bytes. IsLayout (specs.labelled tables.now code) bytes)
+        (map (λ c. c.now) codes.now) (map (λ bytes. bytes.items) all.items)) }
+    ensures fault { IfFault result (λ fault. (fault ≡ WriteFault.TooFar) × SomeFar tables.now (map (λ c. c.now) codes.now)) }
+{
+    let mut all = Vec::new(alloc);
+    for code in codes {
+        all.push(instructions(alloc, tables, code)?)?;
+    }
+    Ok(all)
+}
+
+/// The offsets at which the line isn't that of the instruction before, each with its line.
+fn line_changes(
+    alloc: Global,
+    instructions: &[u8],
+    lines: &[u32],
+) -> Result<Vec<(u32, u32)>, NoMemory>
+    requires short { length instructions.now ≤ MAX_CODE_BYTES }
+    requires a_line_each { (items : List Item) × (offsets : List ℕ) × Lists instructions.now items offsets × (length offsets ≡ length lines.now) }
+    ensures { (items : List Item) (offsets : List ℕ) → Lists instructions.now items offsets
+        → IfOk result (λ pairs. pairs.items ≡ changes 1 (zip offsets lines.now)) }
+{
+    let listed = items_of(alloc, instructions)?;
+    let offsets = listed.offsets.as_slice();
+    let mut pairs = Vec::new(alloc);
+    let mut last = 1;
+    for (i, line) in lines.iter().enumerate() {
+        if *line != last {
+            pairs.push((offsets[i] as u32, *line))?;
+            last = *line;
+        }
+    }
+    Ok(pairs)
+}
+
+/// Adds the numbers of the code's name and arguments.
+fn write_names(out: &mut Vec<u8>, tables: &Tables, code: &Code) -> Result<(), NoMemory>
+    requires { TablesFit tables.now }
+    ensures { OnOk result (out.new.items ≡ out.old.items ++ spelling (indexes_of tables.now code.now)) }
+{
+    write_vuint(out, tables.text_number(&code.name))?;
+    for arg in code.args.as_slice() {
+        write_vuint(out, tables.text_number(arg))?;
+    }
+    Ok(())
+}
+
+fn signature(code: &Code) -> Signature
+    requires { IsSoundCode code.now }
+    ensures { result ≡ signature_of code.now }
+{
+    Signature {
+        n_state: code.n_state,
+        n_exc: code.n_exc,
+        flags: 0,
+        args: code.args.len() as u32,
+        kwonly: 0,
+        defaults: code.defaults,
+    }
+}
+
+/// The code's own bytes.
+fn own_code(
+    alloc: Global,
+    tables: &Tables,
+    code: &Code,
+    instructions: &[u8],
+) -> Result<Vec<u8>, Refused<WriteFault>>
+    requires fit { TablesFit tables.now }
+    requires sound { IsSoundCode code.now }
+    requires layout { IsLayout (specs.labelled tables.now code.now) instructions.now }
+    ensures ok { IfOk result (λ own. IsOwn tables.now code.now own.items × (length own.items ≤ MAX_CODE_BYTES)) }
+    ensures fault { IfFault result (λ fault. (fault ≡ WriteFault.TooBig) × IsBig tables.now code.now) }
+{
+    if instructions.len() > MAX_CODE_BYTES {
+        return Err(Refused::Fault(WriteFault::TooBig));
+    }
+    let mut info = Vec::new(alloc);
+    write_names(&mut info, tables, code)?;
+    write_lines(
+        &mut info,
+        &line_changes(alloc, instructions, code.lines.as_slice())?,
+    )?;
+    let mut own = Vec::new(alloc);
+    write_signature(&mut own, &signature(code))?;
+    write_size(&mut own, info.len())?;
+    own.extend_from_slice(&info)?;
+    own.extend_from_slice(instructions)?;
+    if own.len() > MAX_CODE_BYTES {
+        return Err(Refused::Fault(WriteFault::TooBig));
+    }
+    Ok(own)
+}
+
+/// Adds the header, the code's own bytes and the number of its children.
+fn write_head(out: &mut Vec<u8>, code: &Code, own: &[u8]) -> Result<(), NoMemory>
+    requires sound { IsSoundCode code.now }
+    requires short { length own.now ≤ MAX_CODE_BYTES }
+    ensures { OnOk result (out.new.items ≡ out.old.items ++ head_bytes code.now own.now) }
+{
+    if code.children.is_empty() {
+        write_vuint(out, 8 * own.len() as u32)?;
+        out.extend_from_slice(own)?;
+    } else {
+        write_vuint(out, 8 * own.len() as u32 + 4)?;
+        out.extend_from_slice(own)?;
+        write_vuint(out, code.children.len() as u32)?;
+    }
+    Ok(())
+}
+
+/// Adds the codes, of which each has these instructions.
+pub(crate) fn write_codes(
+    alloc: Global,
+    out: &mut Vec<u8>,
+    tables: &Tables,
+    codes: &[&Code],
+    layouts: &[Vec<u8>],
+) -> Result<(), Refused<WriteFault>>
+    requires fit { TablesFit tables.now }
+    requires sound { All IsSoundCode (map (λ c. c.now) codes.now) }
+    requires layouts { AllZip (λ code bytes. IsLayout (specs.labelled tables.now code) bytes)
+        (map (λ c. c.now) codes.now) (map (λ bytes. bytes.items) layouts.now) }
+    ensures ok { OnOk result ((owns : List (List ℕ)) × AllZip (IsOwn tables.now) (map (λ c. c.now) codes.now) owns
+        × All (λ own. length own ≤ MAX_CODE_BYTES) owns
+        × (out.new.items ≡ out.old.items ++ heads (map (λ c. c.now) codes.now) owns)) }
+    ensures fault { IfFault result (λ fault. (fault ≡ WriteFault.TooBig) × SomeBig tables.now (map (λ c. c.now) codes.now)) }
+{
+    for (i, code) in codes.iter().enumerate() {
+        let instructions = layouts.get(i).unwrap();
+        let own = own_code(alloc, tables, code, instructions)?;
+        write_head(out, code, &own)?;
+    }
+    Ok(())
+}

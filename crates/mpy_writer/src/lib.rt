@@ -1,0 +1,13 @@
+//! Modules written as files.
+#![tactic(auto)]
+
+mod code;
+mod codes;
+mod fault;
+mod file;
+mod labels;
+mod object;
+mod tables;
+
+pub use fault::WriteFault;
+pub use file::{write, write_law};
