@@ -1,9 +1,9 @@
 -- Tests that are targets, and targets as tests.
-use Rattle.std.proofs.Common.{◌≡◌, ℕ, ℤ, zero, suc, ◌+◌, ◌≤◌, ◌<◌, ◌⊎◌, inl, inr, Bool, true, false, List, [], ◌∷◌, ◌++◌, length, Option, Some, None, refl, sym, ap, ◌∙◌, arith, rules}
+use Rattle.std.proofs.Common.{◌≡◌, ℕ, ℤ, zero, suc, ◌⊎◌, inl, inr, Bool, true, false, List, [], ◌∷◌, ◌++◌, Option, Some, None, refl, sym, ap, ◌∙◌, arith, rules}
 use Rattle.py_tokens.specs.declared.token.Token.{Token}
 use Rattle.py_tokens.specs.declared.token.Tok.TheVariants as tok
 use Rattle.py_tokens.specs.declared.operator.Op.TheVariants as op
-use Rattle.py_tree.specs.declared.expr.Expr.{Expr, out-Expr, the_lemmas}
+use Rattle.py_tree.specs.declared.expr.Expr.{Expr, the_lemmas}
 use Rattle.py_tree.specs.declared.expr.Expr.TheVariants as ex
 use Rattle.py_tree.specs.declared.expr.UnaryOp.{UnaryOp}
 use Rattle.py_tree.specs.declared.expr.BinaryOp.{BinaryOp}
@@ -11,7 +11,7 @@ use Rattle.py_tree.specs.declared.expr.BinaryOp.TheVariants as binary
 use Rattle.py_tree.specs.declared.expr.CompareOp.{CompareOp}
 use Rattle.py_tree.specs.declared.stmt.Target.{Target}
 use Rattle.py_tree.specs.declared.stmt.Target.TheVariants as target
-use Rattle.py_expressions.specs.Input.{Place, at}
+use Rattle.py_expressions.specs.Input.{at}
 use Rattle.py_expressions.specs.Grammar as g
 use Rattle.py_expressions.specs.Reading.{tuple_of, compared, joined}
 use Rattle.py_expressions.specs.Targets as t

@@ -1,7 +1,7 @@
 -- Targets are read as the grammar says.
-use Rattle.std.proofs.Common.{◌≡◌, ℕ, zero, suc, ◌+◌, ◌-◌, ◌≤◌, ◌<◌, ◌⊎◌, inl, inr, Bool, true, false, cond, List, [], ◌∷◌, ◌++◌, length, Option, Some, None, Ok, refl, sym, ap, ◌∙◌, arith, rules, append_assoc}
+use Rattle.std.proofs.Common.{◌≡◌, ℕ, zero, suc, ◌-◌, ◌≤◌, ◌⊎◌, inl, inr, Bool, true, false, List, [], ◌∷◌, ◌++◌, length, Option, Some, None, Ok, refl, sym, ap, ◌∙◌, arith, rules, append_assoc}
+use Rattle.std.specs.Bool.{then_some}
 use Rattle.py_tokens.specs.declared.token.Token.{Token}
-use Rattle.py_tokens.specs.declared.token.Tok.{Tok}
 use Rattle.py_tokens.specs.declared.token.Tok.TheVariants as tok
 use Rattle.py_tokens.specs.declared.word.Word.TheVariants as word
 use Rattle.py_tokens.specs.declared.operator.Op.TheVariants as op
@@ -11,22 +11,22 @@ use Rattle.py_tree.specs.declared.stmt.Target.{Target}
 use Rattle.py_tree.specs.declared.stmt.Target.TheVariants as target
 use Rattle.py_expressions.specs.declared.cursor.Mark.TheVariants as mark
 use Rattle.py_expressions.specs.declared.grammar.Rule.{Rule}
-use Rattle.py_expressions.specs.Input.{Input, Place, at, Outcome, Parser, ◌>>=◌, kind_at, sees}
+use Rattle.py_expressions.specs.Input.{Input, Place, at, Parser, ◌>>=◌, kind_at, sees}
 use Rattle.py_expressions.specs.Follow.{rank, behind_primary}
 use Rattle.py_expressions.specs.Grammar as g
 use Rattle.py_expressions.specs.Reading as read
 use Rattle.py_expressions.specs.Targets as t
-use Rattle.py_expressions.specs.Targets.{target_of, part_of, item_of, variable_of, given, single}
-use Rattle.py_expressions.specs.Laws.{input, Found, Sound, Complete, Fails}
+use Rattle.py_expressions.specs.Targets.{target_of, part_of, item_of, alone_of, given, single}
+use Rattle.py_expressions.specs.Laws.{input, Sound, Complete, Fails}
 use Rattle.py_expressions.proofs.Steps.{done, bind_ok, done_is, no_err, chosen}
 use Rattle.py_expressions.proofs.Tables.{no_trailer_at, operand_begins_test}
 use Rattle.py_expressions.proofs.Sizes.{atom_grows, atom_starts, strings_rank}
 use Rattle.py_expressions.proofs.Forward
 use Rattle.py_expressions.proofs.Complete.{atom_complete, trailers_complete, primary_complete}
-use Rattle.py_expressions.proofs.Backward.{RulesSound, expr_sound, members_sound, atom_sound, trailer_sound, trailers_sound, primary_sound, has_trailer, Primary, primary_text, primary_tree}
+use Rattle.py_expressions.proofs.Backward.{RulesSound, expr_sound, members_sound, atom_sound, trailer_sound, trailers_sound, primary_sound, has_trailer}
 use Rattle.py_expressions.proofs.Faults.{Keeps, RulesFail, expr_fails, fails_bind, fails_pure, fails_refuse, fails_if, fails_peek, members_fails, atom_fails, atom_keeps, trailers_fails, primary_fails, primary_keeps}
 use Rattle.py_expressions.proofs.Aimed.{EndsAs, members_aimed}
-use Rattle.py_expressions.proofs.Embedded.{as_trailers, trailers_same, as_test, test_same, test_tree_same, as_primary, as_factor, as_members, as_commas, factor_same, aim_grows, more_grows, members_target}
+use Rattle.py_expressions.proofs.Embedded.{as_trailers, trailers_same, as_test, test_same, test_tree_same, as_primary, as_factor, as_members, as_commas, factor_same, aim_grows, members_target}
 
 -- ---- what a primary with trailers may be
 
@@ -34,11 +34,11 @@ part_call : (x : Expr) (xs : List Expr) (keys : List (List ℕ × Expr)) → par
 unfolding part_of
 part_call x xs keys = first_of (search (rules, the_lemmas), grind (arith, the_lemmas))
 
-part_index : (x y : Expr) → part_of (ex.Index x y) ≡ Some (target.Index x y)
+pub part_index : (x y : Expr) → part_of (ex.Index x y) ≡ Some (target.Index x y)
 unfolding part_of
 part_index x y = first_of (search (rules, the_lemmas), grind (arith, the_lemmas))
 
-part_attribute : (x : Expr) (text : List ℕ) → part_of (ex.Attr x text) ≡ Some (target.Attr x text)
+pub part_attribute : (x : Expr) (text : List ℕ) → part_of (ex.Attr x text) ≡ Some (target.Attr x text)
 unfolding part_of
 part_attribute x text = first_of (search (rules, the_lemmas), grind (arith, the_lemmas))
 
@@ -46,13 +46,18 @@ item_call : (x : Expr) (xs : List Expr) (keys : List (List ℕ × Expr)) → ite
 unfolding item_of
 item_call x xs keys = first_of (search (rules, the_lemmas), grind (arith, the_lemmas))
 
-item_index : (x y : Expr) → item_of (ex.Index x y) ≡ Some (target.Index x y)
+pub item_index : (x y : Expr) → item_of (ex.Index x y) ≡ Some (target.Index x y)
 unfolding item_of
 item_index x y = first_of (search (rules, the_lemmas), grind (arith, the_lemmas))
 
 item_attribute : (x : Expr) (text : List ℕ) → item_of (ex.Attr x text) ≡ None
 unfolding item_of
 item_attribute x text = first_of (search (rules, the_lemmas), grind (arith, the_lemmas))
+
+pub alone_name : (b : Bool) (text : List ℕ) → alone_of b (ex.Name text) ≡ then_some b (target.Name text)
+unfolding alone_of
+alone_name true text = first_of (search (rules, the_lemmas), grind (arith, the_lemmas))
+alone_name false text = refl
 
 some_is : (x y : Target) → (let o : Option Target = Some x in o ≡ Some y) → x ≡ y
 some_is x y e = cc
@@ -114,16 +119,17 @@ given_ok : (o : Option Target) (i : Input) (x : Target) (j : Input) → given o 
 given_ok None i x j e = absurd (no_err i.front x j e)
 given_ok (Some y) i x j e = let d = done_is y x i j e in (ap (λ q. Some q) d.0, d.1)
 
-variable_atom : (a : g.Atom) (rest : List Token) (x : Target) → variable_of (kind_at (g.atom_text a rest)) ≡ Some x → (l : Place) × (text : List ℕ) × (g.atom_text a rest ≡ at l (tok.Name text) ∷ rest) × (target.Name text ≡ x)
-variable_atom (g.name l text) rest x e = (l, text, refl, some_is (target.Name text) x e)
-variable_atom (g.int l n) rest x e = absurd cc
-variable_atom (g.strings l text ss) rest x e = absurd cc
-variable_atom (g.none l) rest x e = absurd cc
-variable_atom (g.truth l) rest x e = absurd cc
-variable_atom (g.falsity l) rest x e = absurd cc
-variable_atom (g.round l m r) rest x e = absurd cc
-variable_atom (g.square l m r) rest x e = absurd cc
-variable_atom (g.brace l ps r) rest x e = absurd cc
+alone_atom : (a : g.Atom) (rest : List Token) (x : Target) → alone_of (read.is_name (kind_at (g.atom_text a rest))) (g.atom_tree a) ≡ Some x → (l : Place) × (text : List ℕ) × (g.atom_text a rest ≡ at l (tok.Name text) ∷ rest) × (target.Name text ≡ x)
+unfolding alone_of
+alone_atom (g.name l text) rest x e = (l, text, refl, some_is (target.Name text) x (sym (alone_name true text) ∙ e))
+alone_atom (g.int l n) rest x e = absurd cc
+alone_atom (g.strings l text ss) rest x e = absurd cc
+alone_atom (g.none l) rest x e = absurd cc
+alone_atom (g.truth l) rest x e = absurd cc
+alone_atom (g.falsity l) rest x e = absurd cc
+alone_atom (g.round l m r) rest x e = absurd cc
+alone_atom (g.square l m r) rest x e = absurd cc
+alone_atom (g.brace l ps r) rest x e = absurd cc
 
 -- a name alone
 record Named (i : Input) (x : Target) (j : Input) : Type 0 where
@@ -176,8 +182,8 @@ module _ (inner : Rule → Parser Expr) (s : RulesSound inner) where
               kept = a.kept ∙ f.4 ∙ ap (λ (q : Input). q.front) v.1;
             })
         | inr w ↦
-            let v = given_ok (variable_of (kind_at i.ahead)) b.1 x j w.1 in
-            let n = variable_atom a.reading b.1.ahead x (ap (λ ts. variable_of (kind_at ts)) (sym a.spelled) ∙ v.0) in
+            let v = given_ok (alone_of (read.is_name (kind_at i.ahead)) b.0) b.1 x j w.1 in
+            let n = alone_atom a.reading b.1.ahead x (ap (λ ts. alone_of (read.is_name (kind_at ts)) (g.atom_tree a.reading)) (sym a.spelled) ∙ ap (alone_of (read.is_name (kind_at i.ahead))) a.is ∙ v.0) in
             inl (record {
               at_ = n.0;
               text = n.1;
@@ -217,7 +223,7 @@ one_gone_sound i x j e =
 single_variable : (whole_of : Expr → Option Target) (inner : Rule → Parser Expr) (l : Place) (text : List ℕ) (rest : List Token) (front : ℕ) → 2 ≤ rank rest
     → single whole_of inner (input (at l (tok.Name text) ∷ rest) front) ≡ Ok (target.Name text, input rest front)
 unfolding single
-single_variable whole_of inner l text rest front h = rw (Forward.atom_name inner l text rest front, no_trailer_at rest h) refl
+single_variable whole_of inner l text rest front h = rw (Forward.atom_name inner l text rest front, no_trailer_at rest h, alone_name true text) refl
 
 single_whole : (whole_of : Expr → Option Target) (inner : Rule → Parser Expr) (i j m : Input) (x y : Expr) (z : Target) → read.atom inner i ≡ Ok (x, j) → read.begins_trailer (kind_at j.ahead) ≡ true → read.trailers inner (length j.ahead) x j ≡ Ok (y, m) → whole_of y ≡ Some z
     → single whole_of inner i ≡ Ok (z, m)
@@ -293,7 +299,7 @@ module _ (inner : Rule → Parser Expr) (s : RulesSound inner) (f : RulesFail in
   unfolding single
   single_fails whole_of = fails_peek _ (λ kd. fails_bind (read.atom inner) _ (atom_keeps inner s f) (atom_fails inner s f) (λ first. fails_peek _ (λ behind. fails_if (read.begins_trailer behind) _ _
       (fails_bind (read.all_trailers inner first) _ (all_trailers_keeps first) (all_trailers_fails first) (λ whole. given_fails (whole_of whole)))
-      (given_fails (variable_of kd)))))
+      (given_fails (alone_of (read.is_name kd) first)))))
 
 pub one_target_fails : Fails t.one_target
 unfolding t.one_target

@@ -1,10 +1,9 @@
 -- What is read is read by the grammar.
-use Rattle.std.proofs.Common.{◌≡◌, ℕ, ℤ, zero, suc, ◌+◌, Bool, true, false, cond, List, [], ◌∷◌, ◌++◌, length, drop, Option, Some, None, Ok, Err, refl, sym, ap, ◌∙◌, arith, append_assoc, ◌⊎◌, inl, inr}
+use Rattle.std.proofs.Common.{◌≡◌, ℕ, zero, suc, Bool, true, false, cond, List, [], ◌∷◌, ◌++◌, length, Option, Some, None, refl, sym, ap, ◌∙◌, append_assoc, ◌⊎◌, inl, inr}
 use Rattle.std.proofs.lemmas.List.{append-nil}
 use Rattle.py_tokens.specs.declared.token.Token.{Token}
 use Rattle.py_tokens.specs.declared.token.Tok.{Tok}
 use Rattle.py_tokens.specs.declared.token.Tok.TheVariants as tok
-use Rattle.py_tokens.specs.declared.word.Word.{Word}
 use Rattle.py_tokens.specs.declared.word.Word.TheVariants as word
 use Rattle.py_tokens.specs.declared.operator.Op.TheVariants as op
 use Rattle.py_tree.specs.declared.expr.Expr.{Expr}
@@ -19,11 +18,11 @@ use Rattle.py_expressions.specs.declared.cursor.Mark.TheVariants as mark
 use Rattle.py_expressions.specs.declared.grammar.Rule.{Rule}
 use Rattle.py_expressions.specs.declared.grammar.Rule.TheVariants as rule
 use Rattle.py_expressions.specs.declared.calls.Arguments.{Arguments}
-use Rattle.py_expressions.specs.Input.{Input, Place, at, Outcome, Parser, and_then, ◌>>=◌, pure, kind_at, sees, after, eat, expect, name, next}
+use Rattle.py_expressions.specs.Input.{Input, Place, at, Outcome, Parser, and_then, ◌>>=◌, pure, kind_at, sees, after, expect, name, next}
 use Rattle.py_expressions.specs.Grammar as g
 use Rattle.py_expressions.specs.Reading as read
 use Rattle.py_expressions.specs.Laws.{input, Found, Sound}
-use Rattle.py_expressions.proofs.Steps.{done, stopped, bind_ok, done_is, no_err, chosen, tok_of, taken, after_false, expect_ok, name_sound, named_anew}
+use Rattle.py_expressions.proofs.Steps.{done, bind_ok, done_is, no_err, chosen, tok_of, taken, after_false, expect_ok, name_sound, named_anew}
 use Rattle.py_expressions.proofs.Tables.{operator_there, sign_there}
 use Rattle.py_expressions.proofs.Complete.{names_snoc}
 

@@ -1,5 +1,5 @@
 -- Targets that were found, and those that are still to be found.
-use Rattle.std.proofs.Common.{◌≡◌, ℕ, List, [], ◌∷◌, ◌++◌, Option, Some, None, refl, sym, ap, ◌∙◌, append_assoc}
+use Rattle.std.proofs.Common.{◌≡◌, List, [], ◌∷◌, ◌++◌, length, Option, Some, None, refl, sym, ap, ◌∙◌, append_assoc, arith}
 use Rattle.std.proofs.lemmas.List.{append-nil}
 use Rattle.py_tree.specs.declared.expr.Expr.{Expr}
 use Rattle.py_tree.specs.declared.stmt.Target.{Target}
@@ -24,3 +24,11 @@ each_more go found x xs all t e h = ap (λ q. behind found (each go q)) e ∙ ap
 pub each_refused : (go : Expr → Option Target) (found : List Target) (x : Expr) (xs all : List Expr) → all ≡ x ∷ xs → go x ≡ None → behind found (each go all) ≡ None
 unfolding each
 each_refused go found x xs all e h = ap (λ q. behind found (each go q)) e ∙ ap (λ o. behind found (both o (each go xs))) h
+
+pub behind_start : (found : List Target) (o : Option (List Target)) → found ≡ [] → o ≡ behind found o
+behind_start found None e = refl
+behind_start found (Some ts) e = ap (λ (xs : List Target). Some (xs ++ ts)) (sym e)
+
+pub no_length : (xs : List Expr) → length xs ≡ 0 → xs ≡ []
+no_length [] e = refl
+no_length (x ∷ xs) e = absurd (omega (arith, e))

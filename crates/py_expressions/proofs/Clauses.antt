@@ -1,5 +1,5 @@
 -- What the code's readers ensure, from the laws of the reading functions.
-use Rattle.std.proofs.Common.{◌≡◌, ℕ, ◌≤◌, List, Result, Ok, Err, refl, sym, ap, ◌∙◌}
+use Rattle.std.proofs.Common.{◌≡◌, ℕ, ◌≤◌, List, Result, Ok, Err, sym, ap, ◌∙◌}
 use Rattle.mpy_base.specs.declared.refused.Refused.{Refused}
 use Rattle.mpy_base.specs.declared.refused.Refused.TheVariants as refused
 use Rattle.py_tokens.specs.declared.token.Token.{Token}
@@ -7,8 +7,8 @@ use Rattle.py_expressions.specs.declared.cursor.Cursor.{Cursor}
 use Rattle.py_expressions.specs.declared.cursor.Syntax.{Syntax}
 use Rattle.py_expressions.specs.Input.{Input, input_of, Parser, Reads}
 use Rattle.py_expressions.specs.Follow.{rank}
-use Rattle.py_expressions.specs.Laws.{input, Found, Sound, Complete, Fails, IsFound, IsRead, NamesFront}
-use Rattle.py_expressions.proofs.Steps.{done, stopped, done_is, no_err}
+use Rattle.py_expressions.specs.Laws.{input, Sound, Complete, Fails, IsFound, IsRead, NamesFront}
+use Rattle.py_expressions.proofs.Steps.{done, done_is, no_err}
 
 pub found : {C A : Type 0} (text : C → List Token → List Token) (tree : C → A) (p : Parser A) → Sound text tree p → (old : Cursor) (r : Result A (Refused Syntax)) (new : Cursor) → Reads (p (input_of old)) r new → IsFound text tree old r new
 found text tree p sound old (Ok x) new e = sound (input_of old) x (input_of new) e

@@ -1,5 +1,5 @@
 -- What the grammar reads is read.
-use Rattle.std.proofs.Common.{◌≡◌, ℕ, zero, suc, ◌+◌, ◌-◌, ◌<◌, ◌≤◌, Bool, true, false, List, [], ◌∷◌, ◌++◌, length, Some, None, Ok, refl, sym, ap, ◌∙◌, arith, append_assoc}
+use Rattle.std.proofs.Common.{◌≡◌, ℕ, zero, suc, ◌+◌, ◌-◌, ◌≤◌, true, false, List, [], ◌∷◌, ◌++◌, length, Ok, refl, sym, ap, ◌∙◌, arith, append_assoc}
 use Rattle.std.proofs.lemmas.List.{append-nil}
 use Rattle.py_tokens.specs.declared.token.Token.{Token}
 use Rattle.py_tokens.specs.declared.token.Tok.TheVariants as tok
@@ -12,14 +12,14 @@ use Rattle.py_expressions.specs.declared.cursor.Mark.TheVariants as mark
 use Rattle.py_expressions.specs.declared.grammar.Rule.{Rule}
 use Rattle.py_expressions.specs.declared.grammar.Rule.TheVariants as rule
 use Rattle.py_expressions.specs.declared.calls.Arguments.{Arguments}
-use Rattle.py_expressions.specs.Input.{Input, Place, at, Outcome, Parser, kind_at, sees}
+use Rattle.py_expressions.specs.Input.{Input, Place, at, Parser, kind_at, sees}
 use Rattle.py_expressions.specs.Follow.{rank}
 use Rattle.py_expressions.specs.Grammar as g
 use Rattle.py_expressions.specs.Reading as read
 use Rattle.py_expressions.specs.Laws.{input}
 use Rattle.py_expressions.proofs.Tables.{no_and_at, no_or_at, no_comma_at, no_test_at}
 use Rattle.py_expressions.proofs.Forward
-use Rattle.py_expressions.proofs.Sizes.{assigns, strings_grows, comparison_grows, factor_grows, atom_grows, inside_grows, pairs_grows, behind_pair_grows, trailers_grows, arguments_grows, behind_argument_grows, members_grows, commas_grows, test_grows, or_grows, or_more_grows, and_grows, and_more_grows, not_grows, comparisons_grows, sum_grows, chain_grows, atom_starts, sum_starts, test_starts, members_start, strings_rank, chain_rank, comparisons_rank, and_more_rank, or_more_rank, commas_rank, behind_pair_rank, behind_argument_rank, behind_argument_assign, test_keyword}
+use Rattle.py_expressions.proofs.Sizes.{assigns, comparison_grows, atom_grows, trailers_grows, arguments_grows, members_grows, test_grows, or_grows, and_grows, not_grows, sum_grows, sum_starts, test_starts, members_start, strings_rank, chain_rank, comparisons_rank, and_more_rank, or_more_rank, commas_rank, behind_pair_rank, behind_argument_rank, behind_argument_assign, test_keyword}
 
 -- ---- keyword arguments
 

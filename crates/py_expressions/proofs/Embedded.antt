@@ -1,14 +1,14 @@
 -- Targets are tests.
-use Rattle.std.proofs.Common.{◌≡◌, ℕ, zero, suc, ◌+◌, ◌≤◌, ◌<◌, Bool, true, false, List, [], ◌∷◌, length, Option, Some, None, refl, sym, ap, ◌∙◌, arith}
+use Rattle.std.proofs.Common.{◌≡◌, ℕ, zero, suc, ◌≤◌, ◌<◌, List, [], ◌∷◌, length, Option, Some, refl, sym, ap, ◌∙◌, arith}
 use Rattle.py_tokens.specs.declared.token.Token.{Token}
 use Rattle.py_tokens.specs.declared.token.Tok.TheVariants as tok
 use Rattle.py_tokens.specs.declared.operator.Op.TheVariants as op
 use Rattle.py_tree.specs.declared.expr.Expr.{Expr}
 use Rattle.py_tree.specs.declared.expr.Expr.TheVariants as ex
 use Rattle.py_tree.specs.declared.stmt.Target.{Target}
-use Rattle.py_expressions.specs.Input.{Place, at}
+use Rattle.py_expressions.specs.Input.{at}
 use Rattle.py_expressions.specs.Grammar as g
-use Rattle.py_expressions.specs.Reading.{tuple_of, joined}
+use Rattle.py_expressions.specs.Reading.{joined}
 use Rattle.py_expressions.specs.Targets as t
 use Rattle.py_expressions.specs.Targets.{target_of, unpack, unpacked, each, both, unpacks}
 use Rattle.py_expressions.proofs.Sizes.{factor_grows, commas_grows}

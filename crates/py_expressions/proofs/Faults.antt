@@ -1,5 +1,5 @@
 -- Readers stop only at the front that they were given.
-use Rattle.std.proofs.Common.{◌≡◌, ℕ, zero, suc, Bool, true, false, cond, List, [], ◌∷◌, ◌++◌, length, Option, Some, None, Ok, Err, refl, sym, ap, ◌∙◌, ◌⊎◌, inl, inr}
+use Rattle.std.proofs.Common.{◌≡◌, ℕ, zero, suc, Bool, true, false, cond, List, [], ◌∷◌, ◌++◌, length, Option, Some, None, refl, sym, ap, ◌∙◌, inl, inr}
 use Rattle.py_tokens.specs.declared.token.Tok.{Tok}
 use Rattle.py_tokens.specs.declared.token.Tok.TheVariants as tok
 use Rattle.py_tokens.specs.declared.word.Word.{Word}
@@ -17,12 +17,11 @@ use Rattle.py_expressions.specs.declared.cursor.Mark.TheVariants as mark
 use Rattle.py_expressions.specs.declared.grammar.Rule.{Rule}
 use Rattle.py_expressions.specs.declared.grammar.Rule.TheVariants as rule
 use Rattle.py_expressions.specs.declared.calls.Arguments.{Arguments}
-use Rattle.py_expressions.specs.Input.{Input, Outcome, Parser, and_then, ◌>>=◌, pure, refuse, peek, take_token, kind, kind_at, sees, after, eat, expect, name, name_by, next}
-use Rattle.py_expressions.specs.Grammar as g
+use Rattle.py_expressions.specs.Input.{Input, Parser, ◌>>=◌, pure, refuse, peek, take_token, kind, kind_at, sees, after, eat, expect, name, name_by, next}
 use Rattle.py_expressions.specs.Reading as read
-use Rattle.py_expressions.specs.Laws.{input, Found, Sound, Fails}
+use Rattle.py_expressions.specs.Laws.{Sound, Fails}
 use Rattle.py_expressions.proofs.Steps.{done, stopped, bind_ok, bind_err, done_is, no_err, no_ok, err_is, chosen, after_front, name_sound}
-use Rattle.py_expressions.proofs.Backward.{RulesSound, expr_sound, members_sound, strings_sound, compare_op_sound, some_members_sound, pair_sound, pairs_sound, atom_sound, argument_sound, arguments_sound, trailer_sound, trailers_sound, primary_sound, sum_sound, comparisons_sound, read_not_sound, and_sound, or_sound, listed_both, inside_both}
+use Rattle.py_expressions.proofs.Backward.{RulesSound, expr_sound, members_sound, strings_sound, compare_op_sound, some_members_sound, pair_sound, pairs_sound, atom_sound, argument_sound, arguments_sound, trailer_sound, primary_sound, sum_sound, comparisons_sound, read_not_sound, and_sound, or_sound}
 
 -- ---- what keeps the front
 

@@ -10,6 +10,7 @@ pub mod Whole
 pub mod Aimed
 pub mod Embedded
 pub mod Aims
+pub mod Singles
 pub mod Names
 pub mod Behind
 pub mod Clauses

@@ -1,5 +1,5 @@
 -- How long readings are, how they begin, and what stands behind their parts.
-use Rattle.std.proofs.Common.{◌≡◌, ℕ, zero, suc, ◌+◌, ◌<◌, ◌≤◌, Bool, true, false, List, [], ◌∷◌, length, Option, Some, refl, arith}
+use Rattle.std.proofs.Common.{◌≡◌, ℕ, zero, suc, ◌+◌, ◌<◌, ◌≤◌, Bool, true, false, List, [], ◌∷◌, length, Some, refl, arith}
 use Rattle.py_tokens.specs.declared.token.Token.{Token}
 use Rattle.py_tokens.specs.declared.token.Tok.{Tok}
 use Rattle.py_tokens.specs.declared.token.Tok.TheVariants as tok
@@ -8,9 +8,9 @@ use Rattle.py_tokens.specs.declared.operator.Op.TheVariants as op
 use Rattle.py_tree.specs.declared.expr.UnaryOp.{UnaryOp}
 use Rattle.py_tree.specs.declared.expr.BinaryOp.{BinaryOp}
 use Rattle.py_expressions.specs.declared.cursor.Mark.TheVariants as mark
-use Rattle.py_expressions.specs.Input.{kind_at, is_mark, Place, at}
+use Rattle.py_expressions.specs.Input.{kind_at, is_mark, at}
 use Rattle.py_expressions.specs.Follow.{joins, rank}
-use Rattle.py_expressions.specs.Reading.{sign, operator, comparison, begins_operand, begins_test, is_name, keyword_at}
+use Rattle.py_expressions.specs.Reading.{sign, operator, begins_operand, begins_test, is_name, keyword_at}
 use Rattle.py_expressions.specs.Grammar as g
 use Rattle.py_expressions.proofs.Tables.{operator_joins, comparison_joins, operand_begins_test, sign_begins}
 

@@ -1,5 +1,5 @@
 -- Single steps of readers, and single tokens.
-use Rattle.std.proofs.Common.{◌≡◌, ℕ, Bool, true, false, cond, List, [], ◌∷◌, Some, Result, Ok, Err, refl, sym, ap, ◌∙◌, ◌⊎◌, inl, inr}
+use Rattle.std.proofs.Common.{◌≡◌, ℕ, Bool, true, false, cond, List, [], ◌∷◌, Some, Ok, Err, refl, sym, ap, ◌∙◌, ◌⊎◌, inl, inr}
 use Rattle.std.specs.Str.{bytes_eq}
 use Rattle.std.proofs.lemmas.Slice.Eq.{bytes_eq-Decides}
 use Rattle.py_tokens.specs.declared.token.Token.{Token}
@@ -13,8 +13,8 @@ use Rattle.py_tokens.proofs.Words.{one_word}
 use Rattle.py_tokens.proofs.Operators.{op_found, op_of}
 use Rattle.py_expressions.specs.declared.cursor.Mark.{Mark}
 use Rattle.py_expressions.specs.declared.cursor.Mark.TheVariants as mark
-use Rattle.py_expressions.specs.Input.{Input, Place, at, Outcome, Parser, and_then, pure, kind_at, is_mark, sees, sees_at, after, expect, next, name, name_by}
-use Rattle.py_expressions.specs.Laws.{input, Found, Sound, Fails}
+use Rattle.py_expressions.specs.Input.{Input, Place, at, Outcome, Parser, and_then, kind_at, is_mark, sees, sees_at, after, expect, next, name, name_by}
+use Rattle.py_expressions.specs.Laws.{input, Found}
 
 -- ---- outcomes
 

@@ -1,9 +1,8 @@
 -- Tests are read as the grammar says.
-use Rattle.std.proofs.Common.{◌≡◌, ℕ, suc, ◌+◌, ◌≤◌, List, length, Ok, refl, ◌∙◌, arith}
-use Rattle.py_expressions.specs.Follow.{rank, behind_test, behind_tests}
-use Rattle.py_expressions.specs.declared.grammar.Rule.TheVariants as rule
-use Rattle.py_expressions.specs.Reading.{all_tests, one_test, expr, tests, members, tuple_of}
-use Rattle.py_expressions.specs.Grammar.{Members, members_text, members_tree, members_list, members_comma, test_text, test_tree}
+use Rattle.std.proofs.Common.{suc, length, refl, ◌∙◌, arith}
+use Rattle.py_expressions.specs.Follow.{behind_test, behind_tests}
+use Rattle.py_expressions.specs.Reading.{all_tests, one_test, tests}
+use Rattle.py_expressions.specs.Grammar.{members_text, members_tree, test_text, test_tree}
 use Rattle.py_expressions.specs.Laws.{input, Sound, Complete, Fails}
 use Rattle.py_expressions.proofs.Forward.{expr_test}
 use Rattle.py_expressions.proofs.Complete.{members_complete, test_complete}

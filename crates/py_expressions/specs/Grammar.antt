@@ -1,7 +1,7 @@
 -- The grammar of expressions. A value of these types is a reading by the grammar's rules: one type for each rule, one
 -- constructor for each of its alternatives, and a place for each token. It says where the brackets were, and the tree
 -- doesn't.
-use Rattle.std.specs.Prelude.{◌≡◌, ℕ, ℤ, zero, suc, Bool, true, false, List, [], ◌∷◌, ◌++◌, Option, Some, None}
+use Rattle.std.specs.Prelude.{◌≡◌, ℕ, ℤ, zero, suc, Bool, true, false, List, [], ◌∷◌, ◌++◌, Some}
 use Rattle.py_tokens.specs.declared.token.Tok.{Tok}
 use Rattle.py_tokens.specs.declared.token.Tok.TheVariants as tok
 use Rattle.py_tokens.specs.declared.token.Token.{Token}

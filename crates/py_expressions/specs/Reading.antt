@@ -1,5 +1,5 @@
 -- Expressions, read from left to right. No rule goes back.
-use Rattle.std.specs.Prelude.{ℕ, zero, suc, ◌+◌, Bool, true, false, if◌then◌else◌, List, [], ◌∷◌, ◌++◌, length, Option, Some, None, Ok, Err}
+use Rattle.std.specs.Prelude.{ℕ, zero, suc, Bool, true, false, if◌then◌else◌, List, [], ◌∷◌, ◌++◌, Option, Some, None}
 use Rattle.std.specs.Str.{bytes_eq}
 use Rattle.py_tokens.specs.declared.token.Tok.{Tok}
 use Rattle.py_tokens.specs.declared.token.Tok.TheVariants as tok

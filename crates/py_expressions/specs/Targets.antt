@@ -1,18 +1,15 @@
 -- Targets: their grammar, and the targets that expressions are.
-use Rattle.std.specs.Prelude.{◌≡◌, ℕ, zero, suc, ◌+◌, Bool, true, false, if◌then◌else◌, List, [], ◌∷◌, Option, Some, None}
-use Rattle.py_tokens.specs.declared.token.Tok.{Tok}
+use Rattle.std.specs.Prelude.{◌≡◌, ℕ, zero, suc, Bool, true, false, if◌then◌else◌, List, [], ◌∷◌, Option, Some, None}
 use Rattle.py_tokens.specs.declared.token.Tok.TheVariants as tok
 use Rattle.py_tokens.specs.declared.token.Token.{Token}
 use Rattle.py_tokens.specs.declared.operator.Op.TheVariants as op
 use Rattle.py_tree.specs.declared.expr.Expr.{Expr, out-Expr}
 use Rattle.py_tree.specs.declared.expr.Expr.TheOpen.{Expr-F}
-use Rattle.py_tree.specs.declared.expr.Expr.TheVariants as ex
-use Rattle.py_tree.specs.declared.expr.CompareOp.{CompareOp}
 use Rattle.py_tree.specs.declared.stmt.Target.{Target}
 use Rattle.py_tree.specs.declared.stmt.Target.TheVariants as target
 use Rattle.py_expressions.specs.declared.grammar.Rule.{Rule}
 use Rattle.py_expressions.specs.Input.{Parser, ◌>>=◌, pure, refuse, peek, turns, Place, at}
-use Rattle.py_expressions.specs.Reading.{expr, atom, primary, all_trailers, begins_trailer, members, tuple_of}
+use Rattle.py_expressions.specs.Reading.{expr, atom, primary, all_trailers, begins_trailer, is_name, members, tuple_of}
 use Rattle.py_expressions.specs.Grammar.{Atom, Trailers, Members, atom_text, atom_tree, trailers_text, trailers_tree, members_text, members_tree}
 
 -- ---- the grammar
@@ -177,9 +174,14 @@ item_by _ = None
 unfoldable pub item_of : Expr → Option Target
 item_of x = item_by (out-Expr x)
 
-abbrev pub variable_of : Tok → Option Target
-variable_of (tok.Name text) = Some (target.Name text)
-variable_of _ = None
+-- What an atom alone is as either: a name that no bracket encloses, so that a name is its first token.
+abbrev pub alone_by : Bool → Layer → Option Target
+alone_by false _ = None
+alone_by true (Expr-F.Name text) = Some (target.Name text)
+alone_by true _ = None
+
+unfoldable pub alone_of : Bool → Expr → Option Target
+alone_of is_name x = alone_by is_name (out-Expr x)
 
 -- ---- targets that are read as primaries
 
@@ -204,7 +206,7 @@ single whole_of inner = do
   behind ← peek
   if begins_trailer behind then (do
     whole ← all_trailers inner first
-    given (whole_of whole)) else given (variable_of kind)
+    given (whole_of whole)) else given (alone_of (is_name kind) first)
 
 -- the target of an augmented assignment
 unfoldable pub one_target : Parser Target

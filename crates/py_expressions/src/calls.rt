@@ -37,7 +37,7 @@ fn is_new(name: &Text, keys: &Items<(Text, Expr)>) -> bool
 }
 
 /// Whether a primary goes on so.
-fn begins_trailer(kind: Option<&Tok>) -> bool
+pub(crate) fn begins_trailer(kind: Option<&Tok>) -> bool
     ensures { result ≡ spec.begins_trailer (seen (option_copied kind.entry)) }
 {
     matches!(
@@ -167,7 +167,7 @@ impl<F: Fn(Global, &mut Cursor<'_>, usize, Rule) -> Result<Expr, Refused<Syntax>
         }
     }
 
-    fn trailers(&self, tokens: &mut Cursor<'_>, mut left: Expr) -> Result<Expr, Refused<Syntax>>
+    pub fn trailers(&self, tokens: &mut Cursor<'_>, mut left: Expr) -> Result<Expr, Refused<Syntax>>
         requires { Nests self.now.depth (F.pre self.now.expr) (F.post self.now.expr) }
         ensures { Reads (spec.all_trailers (spec.expr self.now.depth) left (input_of tokens.old)) result tokens.new }
     {

@@ -15,4 +15,4 @@ pub use calls::Arguments;
 pub use cursor::{Cursor, Mark, Syntax};
 pub use expressions::{expressions_law, read_test, read_tests};
 pub use grammar::Rule;
-pub use targets::targets_law;
+pub use targets::{read_gone, read_one, read_targets, target_of, targets_law};

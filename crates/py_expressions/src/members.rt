@@ -86,6 +86,24 @@ impl<F: Fn(Global, &mut Cursor<'_>, usize, Rule) -> Result<Expr, Refused<Syntax>
         Err(tokens.refuse())
     }
 
+    /// One primary or more, and whether a comma stands behind the last.
+    pub fn primaries(&self, tokens: &mut Cursor<'_>) -> Result<(Items<Expr>, bool), Refused<Syntax>>
+        requires { Nests self.now.depth (F.pre self.now.expr) (F.post self.now.expr) }
+        ensures { Reads (spec.members (spec.primary (spec.expr self.now.depth)) (input_of tokens.old)) result tokens.new }
+    {
+        let mut found = Items::new(self.alloc);
+        for _turn in 0..tokens.left() {
+            found.push(self.primary(tokens)?)?;
+            if !tokens.eat(Mark::Op(Op::Comma)) {
+                return Ok((found, false));
+            }
+            if !begins_test(tokens.peek()) {
+                return Ok((found, true));
+            }
+        }
+        Err(tokens.refuse())
+    }
+
     /// Members in brackets, if there are any.
     #[tactic(auto, unfolding(crate::specs::Reading::some_members))]
     pub fn some_members(

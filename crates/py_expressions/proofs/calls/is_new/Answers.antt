@@ -1,4 +1,4 @@
-use Rattle.std.proofs.Common.{◌≡◌, ◌∙◌, ap, not, rules, arith}
+use Rattle.std.proofs.Common.{rules, arith}
 use Rattle.std.proofs.lemmas.Grind.{common_steps}
 use Rattle.py_expressions.proofs.Names.{is_new_any}
 use Rattle.py_expressions.proofs.calls.is_new.Goals as goal

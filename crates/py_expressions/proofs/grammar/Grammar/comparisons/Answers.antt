@@ -1,4 +1,4 @@
-use Rattle.std.proofs.Common.{◌-◌, rules, arith}
+use Rattle.std.proofs.Common.{rules, arith}
 use Rattle.std.proofs.lemmas.Grind.{common_steps}
 use Rattle.py_expressions.specs.Input.{input_of}
 use Rattle.py_expressions.specs.Reading.{expr, comparisons, all_comparisons}

@@ -1,0 +1,8 @@
+pub mod Ends
+pub mod Series
+pub mod Named
+pub mod Starts
+pub mod Assigned
+pub mod Smalls
+pub mod Whole
+mod LineExamples

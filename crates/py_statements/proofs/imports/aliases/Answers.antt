@@ -1,0 +1,40 @@
+use Rattle.std.proofs.Common.{rules, arith}
+use Rattle.std.proofs.lemmas.Grind.{common_steps}
+use Rattle.py_expressions.specs.Input.{input_of}
+use Rattle.py_expressions.proofs.Turns.{one_more, no_more}
+use Rattle.py_statements.specs.Reading.{series, series_from, alias}
+use Rattle.py_statements.proofs.imports.aliases.Goals as goal
+
+pub loop-turn-init : goal.loop-turn-init
+unfolding series
+loop-turn-init c = first_of (search rules, grind (arith, common_steps))
+
+pub returns-in_err-alias : goal.returns-in_err-alias
+unfolding series_from
+returns-in_err-alias c =
+    let e = one_more (λ n. series_from (alias c.args.with_dots) c.args.bracketed n c.loop-turn.found (input_of c.loop-turn.tokens)) _ c.loop-turn._turn c.loop-turn-test.true c.loop-turn.invariant in
+    first_of (search rules, grind (arith, common_steps))
+
+pub returns-then-not-eat : goal.returns-then-not-eat
+unfolding series_from
+returns-then-not-eat c =
+    let e = one_more (λ n. series_from (alias c.args.with_dots) c.args.bracketed n c.loop-turn.found (input_of c.loop-turn.tokens)) _ c.loop-turn._turn c.loop-turn-test.true c.loop-turn.invariant in
+    first_of (search rules, grind (arith, common_steps))
+
+pub returns-then-is_closed : goal.returns-then-is_closed
+unfolding series_from
+returns-then-is_closed c =
+    let e = one_more (λ n. series_from (alias c.args.with_dots) c.args.bracketed n c.loop-turn.found (input_of c.loop-turn.tokens)) _ c.loop-turn._turn c.loop-turn-test.true c.loop-turn.invariant in
+    first_of (search rules, grind (arith, common_steps))
+
+pub loop-turn-preserved : goal.loop-turn-preserved
+unfolding series_from
+loop-turn-preserved c =
+    let e = one_more (λ n. series_from (alias c.args.with_dots) c.args.bracketed n c.loop-turn.found (input_of c.loop-turn.tokens)) _ c.loop-turn._turn c.loop-turn-test.true c.loop-turn.invariant in
+    first_of (search rules, grind (arith, common_steps))
+
+pub returns : goal.returns
+unfolding series_from
+returns c =
+    let e = no_more (λ n. series_from (alias c.args.with_dots) c.args.bracketed n c.loop-turn.found (input_of c.loop-turn.tokens)) _ c.loop-turn._turn c.loop-turn-test.false c.loop-turn.invariant in
+    first_of (search rules, grind (arith, common_steps))
