@@ -1,0 +1,8 @@
+mod Examples
+pub mod Files
+pub mod Own
+pub mod Pools
+pub mod Preludes
+pub mod Preorders
+pub mod Shelves
+pub mod Told

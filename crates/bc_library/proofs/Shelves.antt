@@ -1,0 +1,175 @@
+-- A library as it is kept, and as it is seen.
+use Rattle.std.proofs.Common.{◌≡◌, ℕ, zero, suc, ◌+◌, ◌<◌, ◌≤◌, Bool, false, List, [], ◌∷◌, ◌++◌, length, map, Option, Some, None, option_map, position, refl, sym, ap, ap₂, subst, ◌∙◌, arith, length-append}
+use Rattle.std.specs.Prelude.{slice_get, option_and_then, IfSome, IsSome, is_some}
+use Rattle.std.specs.List.{list_any}
+use Rattle.std.specs.Str.{bytes_eq}
+use Rattle.std.proofs.lemmas.List.{map-append, length-map}
+use Rattle.std.proofs.lemmas.Option.{slice_get-map}
+use Rattle.mpy_base.specs.declared.limits.TheConstants.{MAX_MODULES}
+use Rattle.mpy_base.specs.declared.refused.Refused.{Refused}
+use Rattle.mpy_base.specs.declared.refused.Refused.TheVariants as refusals
+use Rattle.qstr_pool.specs.Pool.{Texts}
+use Rattle.qstr_pool.proofs.Places.{position-map}
+use Rattle.mpy_tree.specs.declared.raw.Qstr.{Qstr}
+use Rattle.mpy_tree.specs.Raw as raw
+use Rattle.mpy_tree.specs.Raw.{Module}
+use Rattle.bc_library.specs.declared.fault.LibFault.{LibFault}
+use Rattle.bc_library.specs.declared.fault.LibFault.TheVariants as faults
+use Rattle.bc_library.specs.declared.fault.Member.{Member}
+use Rattle.bc_library.specs.declared.library.Loaded.{Loaded}
+use Rattle.bc_library.specs.declared.library.Brought.{Brought}
+use Rattle.bc_library.specs.Added.{IsBrought}
+use Rattle.bc_library.specs.Kept.{IsLoaded, IsLibrary, named, shelf_of}
+use Rattle.bc_library.specs.Shelf.{Shelf, Named, IsFull, fault_in, member_by, member_of, module_at, entry_at, table_text, with_module}
+use Rattle.bc_library.specs.Texts.{AreNumbers, text_numbered, texts_of}
+use Rattle.bc_library.proofs.Pools.{are_kept}
+
+map-map : {A B C : Type 0} (f : B → C) (g : A → B) (xs : List A) → map f (map g xs) ≡ map (λ x. f (g x)) xs
+map-map f g [] = refl
+map-map f g (x ∷ xs) = ap (λ z. f (g x) ∷ z) (map-map f g xs)
+
+-- names
+-- =====
+
+place_is : (modules : List Loaded) (name : List ℕ) → position (bytes_eq name) (map (λ (n : Named). n.name) (map named modules)) ≡ position (λ (l : Loaded). bytes_eq name l.name) modules
+place_is modules name =
+    ap (position (bytes_eq name)) (map-map (λ (n : Named). n.name) named modules) ∙ position-map (λ (l : Loaded). l.name) (bytes_eq name) modules
+
+pub member_is : (modules : List Loaded) (refused : List (List ℕ)) (pool : Texts) (shelf : Shelf) (name : List ℕ) (place : Option ℕ) (b : Bool) → shelf_of modules refused pool ≡ shelf → place ≡ position (λ (l : Loaded). bytes_eq name l.name) modules → b ≡ list_any (bytes_eq name) refused → member_by place b ≡ member_of shelf name
+member_is modules refused pool shelf name place b is e f =
+    ap₂ member_by (e ∙ sym (place_is modules name)) f ∙ ap (λ (s : Shelf). member_of s name) is
+
+pub member_at : (modules : List Loaded) (refused : List (List ℕ)) (pool : Texts) (shelf : Shelf) (name : List ℕ) (place : ℕ) → shelf_of modules refused pool ≡ shelf → Some place ≡ position (λ (l : Loaded). bytes_eq name l.name) modules → member_by (Some place) (list_any (bytes_eq name) refused) ≡ member_of shelf name
+member_at modules refused pool shelf name place is e = member_is modules refused pool shelf name (Some place) (list_any (bytes_eq name) refused) is e refl
+
+-- texts
+-- =====
+
+pub module_is : (modules : List Loaded) (refused : List (List ℕ)) (pool : Texts) (shelf : Shelf) (i : ℕ) (l : Loaded) → shelf_of modules refused pool ≡ shelf → slice_get modules i ≡ Some l → module_at shelf i ≡ Some l.«module»
+module_is modules refused pool shelf i l is e =
+    ap (λ (s : Shelf). module_at s i) (sym is) ∙ ap (option_and_then (λ (n : Named). Some n.held)) (slice_get-map named modules i ∙ ap (option_map named) e)
+
+entry_is : (modules : List Loaded) (refused : List (List ℕ)) (pool : Texts) (shelf : Shelf) (i q : ℕ) (l : Loaded) → shelf_of modules refused pool ≡ shelf → slice_get modules i ≡ Some l → entry_at shelf i q ≡ slice_get l.«module».qstrs q
+entry_is modules refused pool shelf i q l is e = ap (option_and_then (λ (m : Module). slice_get m.qstrs q)) (module_is modules refused pool shelf i l is e)
+
+-- the entries that have numbers are those that there are
+same_there : (pool : Texts) (numbers : List ℕ) (qstrs : List Qstr) (q : ℕ) → AreNumbers pool numbers qstrs → option_map (text_numbered pool) (slice_get numbers q) ≡ option_map raw.text_of (slice_get qstrs q)
+same_there pool numbers qstrs q a =
+    sym (slice_get-map (text_numbered pool) numbers q)
+    ∙ (ap (λ z. slice_get z q) (a.numbers_are ∙ sym a.texts_are) ∙ slice_get-map raw.text_of qstrs q)
+
+told_by : (pool : Texts) (r : Option ℕ) (s : Option Qstr) → option_map (text_numbered pool) r ≡ option_map raw.text_of s → IfSome r (λ n. text_numbered pool n ≡ option_and_then raw.text_of s)
+told_by pool None s e = tt
+told_by pool (Some n) None e = absurd cc
+told_by pool (Some n) (Some q) e = cc
+
+some_by : (pool : Texts) (r : Option ℕ) (s : Option Qstr) → option_map (text_numbered pool) r ≡ option_map raw.text_of s → is_some r ≡ is_some s
+some_by pool None None e = refl
+some_by pool None (Some q) e = cc
+some_by pool (Some n) None e = cc
+some_by pool (Some n) (Some q) e = refl
+
+pub text_told : (modules : List Loaded) (refused : List (List ℕ)) (pool : Texts) (shelf : Shelf) (i q : ℕ) (l : Loaded) (r : Option ℕ) → shelf_of modules refused pool ≡ shelf → IsLibrary modules refused pool → slice_get modules i ≡ Some l → r ≡ slice_get l.numbers.items q → IfSome r (λ n. text_numbered shelf.pool n ≡ table_text shelf i q)
+text_told modules refused pool shelf i q l r is lib e f =
+    let told = told_by pool (slice_get l.numbers.items q) (slice_get l.«module».qstrs q) (same_there pool l.numbers.items l.«module».qstrs q (lib.loaded i l e).numbers) in
+    let at_entry = subst (λ s. IfSome (slice_get l.numbers.items q) (λ n. text_numbered pool n ≡ option_and_then raw.text_of s)) (sym (entry_is modules refused pool shelf i q l is e)) told in
+    let at_pool = subst (λ (p : Texts). IfSome (slice_get l.numbers.items q) (λ n. text_numbered p n ≡ table_text shelf i q)) (ap (λ (s : Shelf). s.pool) is) at_entry in
+    subst (λ o. IfSome o (λ n. text_numbered shelf.pool n ≡ table_text shelf i q)) (sym f) at_pool
+
+pub entry_told : (modules : List Loaded) (refused : List (List ℕ)) (pool : Texts) (shelf : Shelf) (i q : ℕ) (l : Loaded) (r : Option ℕ) → shelf_of modules refused pool ≡ shelf → IsLibrary modules refused pool → slice_get modules i ≡ Some l → r ≡ slice_get l.numbers.items q → is_some r ≡ is_some (entry_at shelf i q)
+entry_told modules refused pool shelf i q l r is lib e f =
+    ap is_some f
+    ∙ (some_by pool (slice_get l.numbers.items q) (slice_get l.«module».qstrs q) (same_there pool l.numbers.items l.«module».qstrs q (lib.loaded i l e).numbers)
+    ∙ ap is_some (sym (entry_is modules refused pool shelf i q l is e)))
+
+-- a further module
+-- ================
+
+data Pushed {A : Type 0} (xs : List A) (y : A) (i : ℕ) (x : A) : Type 0 where
+  before : slice_get xs i ≡ Some x → Pushed xs y i x
+  last : i ≡ length xs → y ≡ x → Pushed xs y i x
+
+pushed : {A : Type 0} (xs : List A) (y : A) (i : ℕ) (x : A) → slice_get (xs ++ y ∷ []) i ≡ Some x → Pushed xs y i x
+pushed [] y zero x e = last refl cc
+pushed [] y (suc i) x e = absurd cc
+pushed (z ∷ xs) y zero x e = before e
+pushed (z ∷ xs) y (suc i) x e =
+    elim (pushed xs y i x e) [ before f ↦ before f | last f g ↦ last (ap suc f) g ]
+
+abbrev pub loaded_of : Brought → Module → Loaded
+loaded_of k m = record { name = k.name; «module» = m; numbers = k.numbers; values = k.values; parts = k.parts }
+
+pub brought_as : (pool : Texts) (n i : ℕ) (name : List ℕ) (raw m : Module) (k : Brought) → n ≡ i → raw ≡ m → IsBrought pool n name raw k → IsBrought pool i name m k
+brought_as pool n i name raw m k e f b = subst (λ z. IsBrought pool z name m k) e (subst (λ z. IsBrought pool n name z k) f b)
+
+pub with_further : (modules : List Loaded) (refused : List (List ℕ)) (pool : Texts) (name : List ℕ) (m : Module) (k : Brought) → IsLibrary modules refused pool → IsBrought pool (length modules) name m k → length modules + length refused < MAX_MODULES → IsLibrary (modules ++ loaded_of k m ∷ []) refused k.pool
+with_further modules refused pool name m k lib b room = record {
+  own = b.own;
+  loaded = λ i l e.
+      elim (pushed modules (loaded_of k m) i l e) [
+        | before f ↦
+            let was = lib.loaded i l f in
+            record {
+              numbers = subst (λ (p : Texts). AreNumbers p l.numbers.items l.«module».qstrs) (sym b.pool_is) (are_kept pool (texts_of name m) l.numbers.items l.«module».qstrs was.numbers);
+              values = was.values;
+              parts = was.parts;
+              fine = was.fine;
+            }
+        | last f g ↦
+            let here : IsLoaded k.pool (length modules) (loaded_of k m) = record { numbers = b.numbers; values = b.values; parts = b.parts; fine = b.fine } in
+            subst (λ n. IsLoaded k.pool n l) (sym f) (subst (IsLoaded k.pool (length modules)) g here)
+      ];
+  few = omega (arith, room, length-append modules (loaded_of k m ∷ []));
+}
+
+pub with_refusal : (modules : List Loaded) (refused : List (List ℕ)) (pool : Texts) (name : List ℕ) → IsLibrary modules refused pool → length modules + length refused < MAX_MODULES → IsLibrary modules (refused ++ name ∷ []) pool
+with_refusal modules refused pool name lib room = record {
+  own = lib.own;
+  loaded = lib.loaded;
+  few = omega (arith, room, length-append refused (name ∷ []));
+}
+
+-- as it is seen
+abbrev named_as : List ℕ → Module → Named
+named_as t m = record { name = t; held = m }
+
+abbrev as_shelf : List Named → List (List ℕ) → Texts → Shelf
+as_shelf ns refused p = record { modules = ns; refused = refused; pool = p }
+
+pub seen_further : (modules : List Loaded) (refused : List (List ℕ)) (pool : Texts) (shelf : Shelf) (name : List ℕ) (m : Module) (k : Brought) → shelf_of modules refused pool ≡ shelf → IsBrought pool (length modules) name m k → shelf_of (modules ++ loaded_of k m ∷ []) refused k.pool ≡ with_module shelf name m
+seen_further modules refused pool shelf name m k is b =
+    let first : map named (modules ++ loaded_of k m ∷ []) ≡ map named modules ++ record { name = name; held = m } ∷ [] =
+    map-append named modules (loaded_of k m ∷ []) ∙ ap (λ (t : List ℕ). map named modules ++ named_as t m ∷ []) b.name_is in
+    ap₂ (λ (ns : List Named) (p : Texts). as_shelf ns refused p) first b.pool_is ∙ ap (λ (s : Shelf). with_module s name m) is
+
+-- where an entry goes in
+-- ======================
+
+below_or : (a b : ℕ) → a ≡ b → (MAX_MODULES ≤ a → ⊥) → b < MAX_MODULES
+below_or a b e none = omega (arith, none)
+
+pub has_room : (modules : List Loaded) (refused : List (List ℕ)) (pool : Texts) (shelf : Shelf) → shelf_of modules refused pool ≡ shelf → (IsFull shelf → ⊥) → length modules + length refused < MAX_MODULES
+has_room modules refused pool shelf is room =
+    let count : length shelf.modules ≡ length modules = ap (λ (s : Shelf). length s.modules) (sym is) ∙ length-map modules named in
+    let names : length shelf.refused ≡ length refused = ap (λ (s : Shelf). length s.refused) (sym is) in
+    below_or (length shelf.modules + length shelf.refused) (length modules + length refused) (omega (arith, count, names)) room
+
+-- the only fault beside the first two
+fault_is : (r : Refused LibFault) (f : LibFault) → fault_in r ≡ Some f → r ≡ refusals.Fault f
+fault_is (refusals.Fault g) f e = let same : g ≡ f = cc in ap (λ (z : LibFault). refusals.Fault z) same
+fault_is refusals.NoMemory f e = absurd cc
+
+pub record OnlyNames (r : Refused LibFault) (N : Type 0) : Type 0 where
+  pub twice : fault_in r ≡ Some faults.Twice → ⊥
+  pub too_many : fault_in r ≡ Some faults.TooMany → ⊥
+  pub full : fault_in r ≡ Some faults.Names → N
+
+pub only_names : (r : Refused LibFault) (N : Type 0) → ((f : LibFault) → r ≡ refusals.Fault f → (f ≡ faults.Names) × N) → OnlyNames r N
+only_names r N told = record {
+  twice = λ e. let f = (told faults.Twice (fault_is r faults.Twice e)).0 in cc;
+  too_many = λ e. let f = (told faults.TooMany (fault_is r faults.TooMany e)).0 in cc;
+  full = λ e. (told faults.Names (fault_is r faults.Names e)).1;
+}
+
+pub not_there : (o : Option Member) → o ≡ None → IsSome o → ⊥
+not_there o e s = let none : is_some o ≡ false = ap is_some e in cc

@@ -1,0 +1,97 @@
+use Rattle.std.proofs.Common.{◌≡◌, ℕ, ◌<◌, ◌≤◌, List, length, Err, sym, ap, subst, ◌∙◌, arith}
+use Rattle.mpy_base.specs.declared.limits.TheConstants.{MAX_TABLE}
+use Rattle.mpy_tree.specs.Raw.{Module}
+use Rattle.qstr_pool.specs.Pool.{Texts}
+use Rattle.bc_library.specs.declared.library.Loaded.{Loaded}
+use Rattle.bc_library.specs.Kept.{IsLibrary, shelf_of}
+use Rattle.bc_library.specs.Shelf.{Shelf}
+use Rattle.bc_library.specs.Texts.{with_texts, texts_of}
+use Rattle.bc_library.proofs.Shelves.{OnlyNames, has_room, only_names, not_there, brought_as, with_further, seen_further}
+use Rattle.bc_library.proofs.library.Library.add.Goals as goal
+
+pub returns-in-Some-clause-twice : goal.returns-in-Some-clause-twice
+returns-in-Some-clause-twice c = c.in-Some.ensures.twice
+
+pub returns-in-Some-clause-too_many : goal.returns-in-Some-clause-too_many
+returns-in-Some-clause-too_many c = c.in-Some.ensures.too_many
+
+pub returns-in-Some-clause-names : goal.returns-in-Some-clause-names
+returns-in-Some-clause-names c e = absurd (c.in-Some.ensures.others e)
+
+pub overflow_cast-number : goal.overflow_cast-number
+overflow_cast-number c = omega (arith, c.len-number.ensures, c.self.invariant.few)
+
+pub brought_by-requires-clause-own : goal.brought_by-requires-clause-own
+brought_by-requires-clause-own c = c.self.invariant.own
+
+pub brought_by-requires-clause-plain : goal.brought_by-requires-clause-plain
+brought_by-requires-clause-plain c = record { ascii = c.requires.ascii; short = c.requires.short }
+
+pub invariant_of-self : goal.invariant_of-self
+invariant_of-self c =
+    let number : c.len-number.result ≡ length c.self.inside.modules.items = omega (arith, c.len-number.ensures) in
+    let brought = brought_as c.self.inside.pool c.len-number.result (length c.self.inside.modules.items) c.args.name.now c.module.result.now c.args.verified c.in-Ok.brought number c.module.ensures c.in-Ok.ensures.brought in
+    let room = has_room c.self.inside.modules.items c.self.inside.refused c.self.inside.pool c.args.self.now c.self.view_is c.in_default.ensures.none.1 in
+    subst (λ (ls : List Loaded). IsLibrary ls c.self.inside.refused c.in-Ok.brought.pool) (sym c.in-Ok-put.ensures.ok)
+    (with_further c.self.inside.modules.items c.self.inside.refused c.self.inside.pool c.args.name.now c.args.verified c.in-Ok.brought c.self.invariant brought room)
+
+pub invariant_of-self-in-Err-put : goal.invariant_of-self-in-Err-put
+invariant_of-self-in-Err-put c =
+    subst (λ (ls : List Loaded). IsLibrary ls c.self.inside.refused c.self.inside.pool) (sym c.in-Err-put.ensures.err) c.self.invariant
+
+abbrev Overflows : Texts → List ℕ → Module → Type 0
+Overflows pool name m = MAX_TABLE < length (with_texts pool (texts_of name m)).texts
+
+faults_of : (c : goal.In-Err) → OnlyNames c.in-Err.refused (Overflows c.args.self.now.pool c.args.name.now c.args.verified)
+faults_of c =
+    let told = only_names c.in-Err.refused (Overflows c.self.inside.pool c.args.name.now c.module.result.now) (λ f e. c.in-Err.ensures.names f (ap (λ z. Err z) e)) in
+    subst (λ (p : Texts). OnlyNames c.in-Err.refused (Overflows p c.args.name.now c.args.verified)) (ap (λ (s : Shelf). s.pool) c.self.view_is)
+    (subst (λ (m : Module). OnlyNames c.in-Err.refused (Overflows c.self.inside.pool c.args.name.now m)) c.module.ensures told)
+
+pub returns-in-Err-clause-twice : goal.returns-in-Err-clause-twice
+returns-in-Err-clause-twice c =
+    (λ e. absurd ((faults_of c).twice e), λ s. absurd (not_there _ c.in_default.ensures.none.0 s))
+
+pub returns-in-Err-clause-too_many : goal.returns-in-Err-clause-too_many
+returns-in-Err-clause-too_many c =
+    (λ e. absurd ((faults_of c).too_many e), λ s. absurd (c.in_default.ensures.none.1 s.1))
+
+pub returns-in-Err-clause-names : goal.returns-in-Err-clause-names
+returns-in-Err-clause-names c e = (c.in_default.ensures.none.0, c.in_default.ensures.none.1, (faults_of c).full e)
+
+pub returns-in-Ok-put-clause-added : goal.returns-in-Ok-put-clause-added
+returns-in-Ok-put-clause-added c =
+    let number : c.len-number.result ≡ length c.self.inside.modules.items = omega (arith, c.len-number.ensures) in
+    let brought = brought_as c.self.inside.pool c.len-number.result (length c.self.inside.modules.items) c.args.name.now c.module.result.now c.args.verified c.in-Ok.brought number c.module.ensures c.in-Ok.ensures.brought in
+    ap (λ (ls : List Loaded). shelf_of ls c.self.inside.refused c.in-Ok.brought.pool) c.in-Ok-put.ensures.ok
+    ∙ seen_further c.self.inside.modules.items c.self.inside.refused c.self.inside.pool c.args.self.now c.args.name.now c.args.verified c.in-Ok.brought c.self.view_is brought
+
+pub returns-in-Ok-put-clause-twice : goal.returns-in-Ok-put-clause-twice
+returns-in-Ok-put-clause-twice c = (λ e. absurd cc, λ s. absurd (not_there _ c.in_default.ensures.none.0 s))
+
+pub returns-in-Ok-put-clause-too_many : goal.returns-in-Ok-put-clause-too_many
+returns-in-Ok-put-clause-too_many c = (λ e. absurd cc, λ s. absurd (c.in_default.ensures.none.1 s.1))
+
+pub returns-in-Ok-put-clause-names : goal.returns-in-Ok-put-clause-names
+returns-in-Ok-put-clause-names c e = absurd cc
+
+pub returns-in-Ok-put-clause-fits : goal.returns-in-Ok-put-clause-fits
+returns-in-Ok-put-clause-fits c =
+    subst (λ (p : Texts). length (with_texts p (texts_of c.args.name.now c.args.verified)).texts ≤ MAX_TABLE) (ap (λ (s : Shelf). s.pool) c.self.view_is)
+    (subst (λ (m : Module). length (with_texts c.self.inside.pool (texts_of c.args.name.now m)).texts ≤ MAX_TABLE) c.module.ensures c.in-Ok.ensures.fits)
+
+pub returns-in-Err-put-clause-twice : goal.returns-in-Err-put-clause-twice
+returns-in-Err-put-clause-twice c = (λ e. absurd cc, λ s. absurd (not_there _ c.in_default.ensures.none.0 s))
+
+pub returns-in-Err-put-clause-too_many : goal.returns-in-Err-put-clause-too_many
+returns-in-Err-put-clause-too_many c = (λ e. absurd cc, λ s. absurd (c.in_default.ensures.none.1 s.1))
+
+pub returns-in-Err-put-clause-names : goal.returns-in-Err-put-clause-names
+returns-in-Err-put-clause-names c e = absurd cc
+
+pub returns-in-Err-put-clause-back : goal.returns-in-Err-put-clause-back
+returns-in-Err-put-clause-back c = c.in-Err-put.ensures.back
+
+pub returns-in-Err-put-clause-err : goal.returns-in-Err-put-clause-err
+returns-in-Err-put-clause-err c =
+    ap (λ (ls : List Loaded). shelf_of ls c.self.inside.refused c.self.inside.pool) c.in-Err-put.ensures.err ∙ c.self.view_is

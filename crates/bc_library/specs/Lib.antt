@@ -1,0 +1,10 @@
+pub mod Added
+pub mod Constants
+pub mod Fine
+pub mod Greatest
+pub mod Kept
+pub mod Own
+pub mod Parts
+pub mod Shelf
+pub mod Texts
+pub mod Told

@@ -1,0 +1,16 @@
+-- The pool of a library.
+use Rattle.std.specs.Prelude.{◌≡◌, ℕ, List, None}
+use Rattle.qstr_pool.specs.declared.table.TheConstants.{FIRST_OWN}
+use Rattle.qstr_pool.specs.Pool.{Texts}
+use Rattle.qstr_pool.specs.Static.{static_number_of}
+use Rattle.bc_library.specs.Fine.{Each}
+use Rattle.bc_library.specs.Texts.{IsPlain}
+
+-- a text of the pool is plain, and no file may name it by a static number
+pub record IsOwnText (text : List ℕ) : Type 0 where
+  pub plain : IsPlain text
+  pub own : static_number_of text ≡ None
+
+pub record IsOwnPool (pool : Texts) : Type 0 where
+  pub first : pool.first ≡ FIRST_OWN
+  pub each : Each IsOwnText pool.texts

@@ -1,0 +1,28 @@
+//! The greatest numbers of slots and of handler entries of codes.
+
+ghost use Rattle.std.specs.Prelude.{◌≡◌, ℕ, ◌<◌, ◌≤◌, List, Some};
+ghost use Rattle.mpy_tree.specs.declared.raw.RawCode.{RawCode};
+ghost use Rattle.mpy_tree.specs.File.{IsCode};
+ghost use Rattle.bc_prelude.specs.declared.prelude.Prelude.{Prelude};
+ghost use Rattle.bc_library.specs.Greatest.{HasPrelude, IsGreatestIn};
+
+use bc_prelude::read_prelude;
+use mpy_tree::RawCode;
+
+/// The greatest of a code and of those in it, of which there are so many levels at most.
+pub(crate) fn greatest_in(code: &RawCode, levels: usize) -> (u32, u32)
+    requires { (texts : ℕ) × (text : List ℕ) × IsCode levels texts text code.now }
+    ensures { IsGreatestIn (HasPrelude code.now) result.0 result.1 }
+{
+    let Ok(prelude) = read_prelude(code.bytes.bytes()) else {
+        unreachable!();
+    };
+    let mut state = prelude.n_state;
+    let mut exc = prelude.n_exc;
+    for child in code.children.as_slice() {
+        let (child_state, child_exc) = greatest_in(child, levels - 1);
+        state = state.max(child_state);
+        exc = exc.max(child_exc);
+    }
+    (state, exc)
+}
