@@ -10,7 +10,8 @@ use Rattle.py_tokens.specs.declared.operator.Op.{Op}
 use Rattle.py_tokens.specs.Word as words
 use Rattle.py_tokens.specs.Operator as ops
 use Rattle.py_tokens.proofs.Words.{one_word}
-use Rattle.py_tokens.proofs.Operators.{op_found, op_of}
+use Rattle.py_tokens.specs.declared.operator.Operator.TheVariants as operators
+use Rattle.py_tokens.proofs.Operators.{one_operator}
 use Rattle.py_expressions.specs.declared.cursor.Mark.{Mark}
 use Rattle.py_expressions.specs.declared.cursor.Mark.TheVariants as mark
 use Rattle.py_expressions.specs.Input.{Input, Place, at, Outcome, Parser, and_then, kind_at, is_mark, sees, sees_at, after, expect, next, name, name_by}
@@ -61,7 +62,7 @@ tok_of mark.Dedent = tok.Dedent
 tok_of mark.End = tok.End
 
 one_op : (a b : Op) → ops.spelling a ≡ ops.spelling b → a ≡ b
-one_op a b e = let h : Some a ≡ Some b = sym (op_found a) ∙ ap op_of e ∙ op_found b in cc
+one_op a b e = let h : operators.Op a ≡ operators.Op b = one_operator (operators.Op a) (operators.Op b) (ops.spelling b) (sym e) refl in cc
 
 same_word : (a b : Word) → bytes_eq (words.spelling a) (words.spelling b) ≡ true → a ≡ b
 same_word a b e = one_word a b ((bytes_eq-Decides (words.spelling a) (words.spelling b)).0 e)
