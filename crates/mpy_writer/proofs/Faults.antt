@@ -21,6 +21,7 @@ use Rattle.mpy_writer.specs.File.{labelled, indexes_of, signature_of, lines_of, 
 use Rattle.mpy_writer.specs.Ends.{IsFile, Ends}
 use Rattle.mpy_writer.specs.Outcome.{FaultIs, no_texts, all_interned, PassesTable}
 use Rattle.mpy_writer.specs.Codes as used
+use Rattle.mpy_writer.proofs.Steps.{failed}
 use Rattle.mpy_writer.proofs.Uses.{one_table, made}
 use Rattle.bc_prelude.specs.Names as names
 
@@ -184,16 +185,12 @@ ends_by : {A : Type 0} (m : ModuleCode) (bytes_of : A → List ℕ) (e : Refused
 ends_by m bytes_of (refusals.Fault f) h = h
 ends_by m bytes_of refusals.NoMemory h = tt
 
-turned : (P Q : WriteFault → Type 0) (e : Refused WriteFault) → FaultIs e P → ((f : WriteFault) → P f → Q f) → FaultIs e Q
-turned P Q (refusals.Fault f) h more = more f h
-turned P Q refusals.NoMemory h more = tt
-
 exit_ends : {A : Type 0} (m : ModuleCode) (bytes_of : A → List ℕ) (P : WriteFault → Type 0) (r : Result A (Refused WriteFault)) (y e : Refused WriteFault) → r ≡ Err y → y ≡ e → FaultIs e P → ((f : WriteFault) → P f → FirstFault m f) → Ends m bytes_of r
 exit_ends {A} m bytes_of P r y e is same h more =
     let made : Result A (Refused WriteFault) = Err e in
     let whole : r ≡ made = is ∙ ap (λ z. Err z) same in
     let F : Result A (Refused WriteFault) → Type 0 = λ z. Ends m bytes_of z in
-    subst F (sym whole) (ends_by m bytes_of e (turned P (FirstFault m) e h more))
+    subst F (sym whole) (ends_by m bytes_of e (failed P (FirstFault m) e h more))
 
 pub codes_are : {B : Type 0} (see : B → Code) (start new view : List B) (cs : List Code) → map see new ≡ map see start ++ cs → start ≡ [] → view ≡ new → map see view ≡ cs
 codes_are see start new view cs e none same = ap (map see) same ∙ (e ∙ ap (λ bs. map see bs ++ cs) none)

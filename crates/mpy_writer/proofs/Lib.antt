@@ -7,6 +7,7 @@ pub mod Numbers
 pub mod Objects
 pub mod Own
 pub mod Raws
+pub mod Samples
 pub mod Spelled
 pub mod Steps
 pub mod Texts

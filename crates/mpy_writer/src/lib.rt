@@ -11,3 +11,6 @@ mod tables;
 
 pub use fault::WriteFault;
 pub use file::{write, write_law};
+
+#[cfg(test)]
+mod tests;
