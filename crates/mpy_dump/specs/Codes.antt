@@ -1,0 +1,69 @@
+-- The codes of a module in preorder, and what is written for each.
+use Rattle.std.specs.Prelude.{◌≡◌, ℕ, ◌+◌, List, [], ◌∷◌, ◌++◌, length, All, codes, decimal, slice_index}
+use Rattle.std.specs.List.{flat_map}
+use Rattle.bc_ops.specs.Listing.{Piece, IsPiece, joined}
+use Rattle.bc_prelude.specs.declared.prelude.Prelude.{Prelude}
+use Rattle.bc_prelude.specs.Prelude.{Begins}
+use Rattle.mpy_tree.specs.declared.raw.RawCode.{RawCode, RawCode-F}
+use Rattle.mpy_tree.specs.declared.raw.RawCode.TheFolds.{fold-RawCode}
+use Rattle.mpy_tree.specs.Raw.{Module}
+use Rattle.mpy_tree.specs.File.{Many}
+use Rattle.mpy_dump.specs.declared.path.Path.{Path, fold-Path}
+use Rattle.mpy_dump.specs.declared.path.Path.TheOpen.{Path-F}
+use Rattle.mpy_dump.specs.Instructions.{name_text_at, instr_lines}
+
+-- how a code is reached from the outermost one: the places among the children
+abbrev pub path_step : Path-F (List ℕ) → List ℕ
+path_step Path-F.Outermost = []
+path_step (Path-F.Child above place) = above.now ++ place ∷ []
+
+abbrev pub places : Path → List ℕ
+places = fold-Path (List ℕ) path_step
+
+-- a code's own bytes and its path
+pub record Placed : Type 0 where
+  pub path : List ℕ
+  pub bytes : List ℕ
+
+abbrev pub placed : List ℕ → List ℕ → Placed
+placed path bytes = record { path = path; bytes = bytes }
+
+-- the codes in children, by what each gives for its path, where the first has the place that is given
+abbrev pub in_children : List ℕ → ℕ → List (List ℕ → List Placed) → List Placed
+in_children path place [] = []
+in_children path place (child ∷ children) = child (path ++ place ∷ []) ++ in_children path (place + 1) children
+
+abbrev pub preorder_step : RawCode-F (List ℕ → List Placed) → List ℕ → List Placed
+preorder_step code path = placed path code.bytes ∷ in_children path 0 code.children
+
+-- a code with this path, then those in it, each before those in it
+abbrev pub preorder : RawCode → List ℕ → List Placed
+preorder = fold-RawCode (List ℕ → List Placed) preorder_step
+
+-- the outermost code is 0, and a dot stands in front of each place
+abbrev pub path_text : List ℕ → List ℕ
+path_text path = codes "0" ++ flat_map (λ place. codes "." ++ decimal place) path
+
+abbrev pub numbers_text : Prelude → ℕ → List ℕ
+numbers_text prelude size =
+    codes " args " ++ (decimal prelude.args ++ (codes " defaults " ++ (decimal prelude.defaults
+    ++ (codes " state " ++ (decimal prelude.n_state ++ (codes " handlers " ++ (decimal prelude.n_exc
+    ++ (codes " bytes " ++ (decimal size ++ codes "\n")))))))))
+
+abbrev pub code_line : Module → List ℕ → ℕ → Prelude → ℕ → List ℕ
+code_line m path name prelude size =
+    codes "code " ++ (path_text path ++ (codes " " ++ (name_text_at m name ++ numbers_text prelude size)))
+
+-- what is written for a code without its children: its line, and those of its instructions
+pub record IsCodeText (m : Module) (text : List ℕ) (code : Placed) : Type 0 where
+  pub prelude : Prelude
+  pub begins : Begins code.bytes prelude
+  pub pieces : List Piece
+  pub spelled : All IsPiece pieces
+  pub instructions : begins.instructions ≡ joined pieces
+  pub text_is : text ≡ code_line m code.path (slice_index begins.indexes 0) prelude (length code.bytes)
+      ++ instr_lines m begins.lines 0 pieces
+
+-- what is written for a code with this path and for those in it, in preorder
+abbrev pub AreCodesText : Module → List ℕ → RawCode → List ℕ → Type 0
+AreCodesText m path code text = Many (IsCodeText m) text (preorder code path)

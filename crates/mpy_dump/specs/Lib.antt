@@ -1,0 +1,9 @@
+pub mod Codes
+pub mod Cursor
+pub mod Instructions
+pub mod Listing
+pub mod Numbered
+pub mod Objects
+pub mod Operations
+pub mod Puts
+pub mod Texts

@@ -1,0 +1,131 @@
+//! The codes of a module in preorder.
+
+ghost use Rattle.std.specs.Prelude.{◌≡◌, ◌≤◌, ℕ, List, length, slice_index};
+ghost use Rattle.bc_prelude.specs.Prelude.{Begins};
+ghost use Rattle.mpy_tree.specs.File.{IsOwnCode, IsCode};
+ghost use Rattle.mpy_dump.specs.Codes as specs;
+ghost use Rattle.mpy_dump.specs.Codes.{placed, places, IsCodeText, AreCodesText};
+ghost use Rattle.mpy_dump.specs.Puts.{Puts};
+
+use crate::instructions::put_instrs;
+use crate::names::put_name_at;
+use crate::path::{Path, put_path};
+use crate::put::{digits, put, put_all};
+use bc_prelude::{Prelude, read_prelude};
+use itoa::Buffer;
+use mpy_base::limits::MAX_CODE_BYTES;
+use mpy_base::read_vuint;
+use mpy_io::{Failed, Sink};
+use mpy_tree::{RawCode, RawModule};
+
+/// The parts of a code's own bytes.
+#[derive(Clone, Copy)]
+struct Parts<'a> {
+    prelude: Prelude,
+    name: u32,
+    table: &'a [u8],
+    instructions: &'a [u8],
+}
+
+fn parts_of(bytes: &[u8]) -> Parts<'_>
+    requires { (texts : ℕ) × IsOwnCode texts bytes.now }
+    ensures { (begins : Begins bytes.now result.prelude) × (result.name ≡ slice_index begins.indexes 0)
+        × (result.table.now ≡ begins.lines) × (result.instructions.now ≡ begins.instructions) }
+{
+    let Ok(prelude) = read_prelude(bytes) else {
+        unreachable!();
+    };
+    let Ok((name, _)) = read_vuint(bytes, prelude.info_at) else {
+        unreachable!();
+    };
+    let (front, instructions) = bytes.split_at(prelude.code_at);
+    let (_, table) = front.split_at(prelude.lines_at);
+    Parts {
+        prelude,
+        name,
+        table,
+        instructions,
+    }
+}
+
+/// Puts the numbers of a code with so many bytes.
+fn put_numbers<S: Sink>(out: &mut S, prelude: &Prelude, size: usize) -> Result<(), Failed>
+    ensures { Puts S.told S.count out.old out.new (specs.numbers_text prelude.now size) result }
+{
+    let (mut first, mut second, mut third) = (Buffer::new(), Buffer::new(), Buffer::new());
+    let (mut fourth, mut fifth) = (Buffer::new(), Buffer::new());
+    let args = digits(&mut first, prelude.args);
+    let defaults = digits(&mut second, prelude.defaults);
+    let state = digits(&mut third, prelude.n_state);
+    let handlers = digits(&mut fourth, prelude.n_exc);
+    let size = digits(&mut fifth, size);
+    put_all(
+        out,
+        &[
+            b" args ",
+            args,
+            b" defaults ",
+            defaults,
+            b" state ",
+            state,
+            b" handlers ",
+            handlers,
+            b" bytes ",
+            size,
+            b"\n",
+        ],
+    )
+}
+
+/// Puts the line of a code with so many bytes.
+fn put_line<S: Sink>(
+    out: &mut S,
+    module: &RawModule,
+    path: &Path<'_>,
+    parts: &Parts<'_>,
+    size: usize,
+) -> Result<(), Failed>
+    ensures { Puts S.told S.count out.old out.new
+        (specs.code_line module.now (places path.now) parts.now.name parts.now.prelude size) result }
+{
+    put(out, b"code ")?;
+    put_path(out, path)?;
+    put(out, b" ")?;
+    put_name_at(out, module, parts.name)?;
+    put_numbers(out, &parts.prelude, size)
+}
+
+/// Puts the lines of a code without those in it.
+fn put_code<S: Sink>(
+    out: &mut S,
+    module: &RawModule,
+    path: &Path<'_>,
+    bytes: &[u8],
+) -> Result<(), Failed>
+    requires own { (texts : ℕ) × IsOwnCode texts bytes.now }
+    requires short { length bytes.now ≤ MAX_CODE_BYTES }
+    ensures { (text : List ℕ) × IsCodeText module.now text (placed (places path.now) bytes.now)
+        × Puts S.told S.count out.old out.new text result }
+{
+    let parts = parts_of(bytes);
+    put_line(out, module, path, &parts, bytes.len())?;
+    put_instrs(out, module, parts.table, parts.instructions)
+}
+
+/// Puts the lines of a code, and of those in it.
+pub(crate) fn put_codes<'a, S: Sink>(
+    out: &mut S,
+    module: &'a RawModule,
+    path: &'a Path<'a>,
+    code: &'a RawCode,
+) -> Result<(), Failed>
+    requires { (levels : ℕ) × (texts : ℕ) × (text : List ℕ) × IsCode levels texts text code.now }
+    ensures { (text : List ℕ) × AreCodesText module.now (places path.now) code.now text
+        × Puts S.told S.count out.old out.new text result }
+{
+    put_code(out, module, path, code.bytes.bytes())?;
+    for (place, child) in code.children.as_slice().iter().enumerate() {
+        put_codes(out, module, &Path::Child(path, place), child)?;
+    }
+    Ok(())
+}

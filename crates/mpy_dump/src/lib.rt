@@ -1,0 +1,15 @@
+//! The listing of a module, as a file holds it.
+#![tactic(auto)]
+
+mod codes;
+mod cursor;
+mod instructions;
+mod names;
+mod objects;
+mod operations;
+mod path;
+mod put;
+mod texts;
+mod whole;
+
+pub use whole::{listing, listing_law};
