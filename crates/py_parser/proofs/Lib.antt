@@ -1,0 +1,12 @@
+pub mod Below
+pub mod Sounder
+pub mod Stops
+pub mod Sizes
+pub mod Completer
+pub mod Longest
+pub mod Headers
+pub mod Whole
+pub mod Tails
+pub mod Names
+pub mod Made
+pub mod Parses

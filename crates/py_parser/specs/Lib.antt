@@ -1,0 +1,6 @@
+pub mod Clauses
+pub mod Grammar
+pub mod Reading
+pub mod Fronts
+pub mod Nests
+pub mod Parsed
