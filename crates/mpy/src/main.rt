@@ -15,6 +15,7 @@ const HELP: &[u8] = b"mpy: a verified tool chain for MicroPython bytecode files
 usage:
   mpy go SRC [-O N]  compile the source SRC and run it, at optimization level N
   mpy check FILE     verify the file FILE, and print how many codes it has
+  mpy dump FILE      list what the file FILE holds
   mpy --help         print this text
   mpy --version      print the version
 

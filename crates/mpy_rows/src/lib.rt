@@ -4,4 +4,8 @@
 #[cfg(test)]
 mod check;
 #[cfg(test)]
+mod dump;
+#[cfg(test)]
 mod first_path;
+#[cfg(test)]
+mod sources;

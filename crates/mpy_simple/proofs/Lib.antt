@@ -1,9 +1,4 @@
-mod Examples
-pub mod Faults
-pub mod Lines
-pub mod Named
-pub mod Numbered
-pub mod Parts
-pub mod Reread
-pub mod Sizes
 pub mod Written
+pub mod Prints
+pub mod Faults
+pub mod Bodies

@@ -1,65 +1,69 @@
--- The code and the line table of the lines so far, one line on.
-use Rattle.std.proofs.Common.{◌≡◌, ℕ, ◌+◌, ◌-◌, ◌<◌, ◌≤◌, List, [], ◌∷◌, ◌++◌, length, take, get_or, flat_map, refl, ap, sym, ◌∙◌, arith, length-append}
-use Rattle.std.proofs.lemmas.List.{take_more, get_or_read, flat_map_more}
-use Rattle.std.proofs.lemmas.Grind.{flat_map-append}
-use Rattle.mpy_base.specs.Vuint.{vuint}
-use Rattle.mpy_base.proofs.Groups.{length-vuint}
-use Rattle.bc_ops.specs.Code.{spelling}
-use Rattle.bc_ops.specs.Table.{form_of, number_form}
-use Rattle.mpy_simple.specs.File.{line_instrs, line_table, number_of, print_name}
+-- The module of prints may be written.
+use Rattle.std.proofs.Common.{◌≡◌, ℕ, suc, ◌<◌, ◌≤◌, max, Bool, true, false, leb, ◌&&◌, List, [], ◌∷◌, length, codes, refl, ap, arith}
+use Rattle.std.specs.Bool.{IsTrue}
+use Rattle.std.specs.Char.{is_ascii}
+use Rattle.std.specs.List.{list_all, AllByRecursion}
+use Rattle.std.proofs.Math.Nat.{le-max_left}
+use Rattle.std.proofs.lemmas.Bool.{leb-true}
+use Rattle.std.proofs.lemmas.List.Elements.{All-from_recursion, recursion_from_All}
+use Rattle.mpy_base.specs.declared.limits.TheConstants.{MAX_FILE_BYTES}
+use Rattle.bc_ops.specs.declared.instr.Op.TheVariants as ops
+use Rattle.mpy_tree.specs.File.{IsAscii}
+use Rattle.mpy_tree.specs.declared.module.Code.{out-roll-Code}
+use Rattle.mpy_writer.specs.Writable.{IsText, IsSoundItem, NeverFall, IsWritable}
+use Rattle.mpy_writer.proofs.Samples.{text_by, lone, plain, loads_none, returns_value, pops, loads_name, loads_string, calls}
+use Rattle.mpy_simple.specs.declared.print.Print.{Print}
+use Rattle.mpy_simple.specs.Print.{is_short}
+use Rattle.mpy_simple.specs.Compiled.{items_of, line_at, lines_from, state_of, code_of, module_of, AreShort}
 
--- the code of a line is short
-pub length-line : (names : List (List ℕ)) (text : List ℕ) → length (flat_map spelling (line_instrs names text)) ≤ 19
-unfolding form_of number_form
-length-line names text =
-    let print = vuint (number_of names print_name) in
-    let loaded = vuint (number_of names text) in
-    let one = vuint 1 in
-    omega (arith, length-append print (16 ∷ (loaded ++ 52 ∷ (one ++ 89 ∷ []))), length-append loaded (52 ∷ (one ++ 89 ∷ [])), length-append one (89 ∷ []), length-vuint (number_of names print_name), length-vuint (number_of names text), length-vuint 1)
+both : (a b : Bool) → (a && b) ≡ true → (a ≡ true) × (b ≡ true)
+both true true e = (refl, refl)
+both true false e = absurd cc
+both false b e = absurd cc
 
--- behind one line more, the line before has its entry
-pub line_table-push : (names texts : List (List ℕ)) (last next : List ℕ) → line_table names ((texts ++ last ∷ []) ++ next ∷ []) ≡ line_table names (texts ++ last ∷ []) ++ (32 + length (flat_map spelling (line_instrs names last))) ∷ []
-line_table-push names [] last next = refl
-line_table-push names (t ∷ []) last next = refl
-line_table-push names (t ∷ u ∷ texts) last next =
-    ap (λ (entries : List ℕ). (32 + length (flat_map spelling (line_instrs names t))) ∷ entries) (line_table-push names (u ∷ texts) last next)
+short_text : (text : List ℕ) → IsTrue (is_short text) → IsText text
+short_text text h =
+    let parts = both (leb (length text) 10) (list_all is_ascii text) h in
+    text_by text parts.1 (omega (arith, leb-true (length text) 10 parts.0))
 
-pub first_table : (names texts : List (List ℕ)) (i : ℕ) (table : List ℕ) → i < length texts → i ≤ 0 → table ≡ line_table names (take i texts) → table ≡ line_table names (take (i + 1) texts)
-first_table names texts i table within first t =
-    let start : i ≡ 0 = omega arith in
-    let next : 1 ≡ i + 1 = omega arith in
-    let none : table ≡ [] = t ∙ ap (λ (k : ℕ). line_table names (take k texts)) start in
-    let one : [] ≡ line_table names (take 1 texts) = ap (line_table names) (sym (take_more texts 0 [] (omega arith))) in
-    none ∙ (one ∙ ap (λ (k : ℕ). line_table names (take k texts)) next)
+print_text : IsText (codes "print")
+print_text = text_by (codes "print") refl (omega arith)
 
-pub next_table : (names texts : List (List ℕ)) (i last : ℕ) (table : List ℕ) → 0 < i → i < length texts → table ≡ line_table names (take i texts) → last ≡ length (flat_map spelling (line_instrs names (get_or texts (i - 1) []))) → table ++ (32 + last) ∷ [] ≡ line_table names (take (i + 1) texts)
-next_table names texts i last table some within t l =
-    let before = get_or texts (i - 1) [] in
-    let this = get_or texts i [] in
-    let step : i - 1 + 1 ≡ i = omega arith in
-    let front : take i texts ≡ take (i - 1) texts ++ before ∷ [] = ap (λ (k : ℕ). take k texts) (sym step) ∙ take_more texts (i - 1) [] (omega arith) in
-    let all : take (i + 1) texts ≡ (take (i - 1) texts ++ before ∷ []) ++ this ∷ [] = take_more texts i [] within ∙ ap (λ (ts : List (List ℕ)). ts ++ this ∷ []) front in
-    let table_is : table ≡ line_table names (take (i - 1) texts ++ before ∷ []) = t ∙ ap (line_table names) front in
-    let entries : table ++ (32 + last) ∷ [] ≡ line_table names (take (i - 1) texts ++ before ∷ []) ++ (32 + length (flat_map spelling (line_instrs names before))) ∷ [] = ap (λ (es : List ℕ). es ++ (32 + last) ∷ []) table_is ∙ ap (λ (n : ℕ). line_table names (take (i - 1) texts ++ before ∷ []) ++ (32 + n) ∷ []) l in
-    entries ∙ (sym (line_table-push names (take (i - 1) texts) before this) ∙ ap (line_table names) (sym all))
+sound_items : (n : ℕ) (prints : List Print) → AllByRecursion (λ (print : Print). IsTrue (is_short print.text)) prints
+    → AllByRecursion (IsSoundItem n) (items_of prints)
+sound_items n [] h = (plain n ops.LoadConstNone loads_none, (plain n ops.ReturnValue returns_value, tt))
+sound_items n (print ∷ prints) h =
+    ((loads_name, print_text), ((loads_string, short_text print.text h.0), (calls n, (plain n ops.PopTop pops, sound_items n prints h.1))))
 
--- the code of one line more
-pub next_code : (names texts : List (List ℕ)) (i : ℕ) (text code : List ℕ) → i < length texts → text ≡ get_or texts i text → code ≡ flat_map spelling (flat_map (line_instrs names) (take i texts)) → code ++ flat_map spelling (line_instrs names text) ≡ flat_map spelling (flat_map (line_instrs names) (take (i + 1) texts))
-next_code names texts i text code within read e =
-    let this : text ≡ get_or texts i [] = get_or_read texts i text within read [] in
-    let taken : take (i + 1) texts ≡ take i texts ++ text ∷ [] = take_more texts i [] within ∙ ap (λ (t : List ℕ). take i texts ++ t ∷ []) (sym this) in
-    let lines = line_instrs names in
-    ap (λ (bs : List ℕ). bs ++ flat_map spelling (lines text)) e
-    ∙ (sym (flat_map-append spelling (flat_map lines (take i texts)) (lines text))
-    ∙ ap (flat_map spelling) (flat_map_more lines [] (take i texts) text ∙ ap (flat_map lines) (sym taken)))
+a_line_each : (level line : ℕ) (prints : List Print) → length (lines_from level line prints) ≡ length (items_of prints)
+a_line_each level line [] = refl
+a_line_each level line (print ∷ prints) =
+    ap (λ n. suc (suc (suc (suc n)))) (a_line_each level (max line (line_at level print.line)) prints)
 
-pub this_line : (names texts : List (List ℕ)) (i : ℕ) (text : List ℕ) → i < length texts → text ≡ get_or texts i text → flat_map spelling (line_instrs names text) ≡ flat_map spelling (line_instrs names (get_or texts (i + 1 - 1) []))
-this_line names texts i text within read =
-    let place : i ≡ i + 1 - 1 = omega arith in
-    ap (λ (t : List ℕ). flat_map spelling (line_instrs names t)) (get_or_read texts i text within read [] ∙ ap (λ (k : ℕ). get_or texts k []) place)
+never_fall : (level line : ℕ) (prints : List Print) → NeverFall line (lines_from level line prints)
+never_fall level line [] = (omega arith, (omega arith, tt))
+never_fall level line (print ∷ prints) =
+    let next = max line (line_at level print.line) in
+    (le-max_left line (line_at level print.line), (omega arith, (omega arith, (omega arith, never_fall level next prints))))
 
--- the line table has fewer entries than there are lines
-pub length-line_table : (names texts : List (List ℕ)) → length (line_table names texts) ≤ length texts
-length-line_table names [] = omega arith
-length-line_table names (t ∷ []) = omega arith
-length-line_table names (t ∷ u ∷ texts) = omega (arith, length-line_table names (u ∷ texts))
+some_state : (prints : List Print) → (0 < state_of prints) × (state_of prints < 128)
+some_state [] = (omega arith, omega arith)
+some_state (print ∷ prints) = (omega arith, omega arith)
+
+pub writable : (level : ℕ) (name : List ℕ) (prints : List Print) → IsAscii name → length name ≤ MAX_FILE_BYTES → AreShort prints
+    → IsWritable (module_of level name prints)
+writable level name prints ascii short are_short =
+    let n = length (items_of prints) in
+    lone (module_of level name prints) (code_of level prints) (out-roll-Code (code_of level prints)) (record {
+      name = text_by (codes "<module>") refl (omega arith);
+      args = refl;
+      defaults = refl;
+      some_state = (some_state prints).0;
+      few_state = (some_state prints).1;
+      handlers = refl;
+      instrs = All-from_recursion (IsSoundItem n) (items_of prints)
+          (sound_items n prints (recursion_from_All (λ (print : Print). IsTrue (is_short print.text)) prints are_short));
+      a_line_each = a_line_each level 1 prints;
+      lines = never_fall level 1 prints;
+      children = refl;
+    }) (record { ascii = ascii; short = omega (arith, short) })

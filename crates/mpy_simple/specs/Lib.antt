@@ -1,3 +1,4 @@
+pub mod Print
+pub mod Compiled
+pub mod Loaded
 pub mod Source
-pub mod File
-pub mod Reading

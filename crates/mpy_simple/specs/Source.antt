@@ -1,91 +1,93 @@
--- Sources that are a list of lines print("T"), and the first fault of any other.
-use Rattle.std.specs.Prelude.{◌≡◌, ◌≢◌, ◌⊎◌, ℕ, ◌+◌, ◌<◌, ◌≤◌, List, [], ◌++◌, length, flat_map, All, codes, Result, Ok, Err, Vec}
+-- Sources of prints alone, and the first fault of any other.
+use Rattle.std.specs.Prelude.{◌≡◌, ◌⊎◌, ℕ, List, Result, Ok, Err, Vec}
 use Rattle.std.specs.declared.alloc.Global.{Global}
 use Rattle.mpy_base.specs.declared.refused.Refused.{Refused}
 use Rattle.mpy_base.specs.declared.refused.Refused.TheVariants as refused
-use Rattle.mpy_base.specs.declared.limits.TheConstants.{MAX_SOURCE_BYTES, MAX_FILE_BYTES}
 use Rattle.mpy_base.specs.declared.source.SourceFault.{SourceFault}
 use Rattle.mpy_base.specs.Fault.{too_long}
-use Rattle.mpy_base.specs.declared.source.SourceCode.TheVariants.{NotInProfile}
-use Rattle.mpy_simple.specs.File.{file_of}
+use Rattle.py_tokens.specs.declared.token.Token.{Token}
+use Rattle.py_tokens.specs.Tokens as tokens
+use Rattle.py_nest.specs.Nest.{Nests}
+use Rattle.py_tree.specs.declared.stmt.Module.{Module}
+use Rattle.py_parser.specs.Grammar.{IsTree}
+use Rattle.py_parser.specs.Parsed as parser
+use Rattle.py_scopes.specs.Scopes as names
+use Rattle.mpy_simple.specs.declared.print.Print.{Print}
+use Rattle.mpy_simple.specs.Print.{ArePrints, FirstOther, later}
+use Rattle.mpy_simple.specs.Compiled.{IsWithinLimits, PassesLimits, IsFileOf, texts_of}
 
--- a byte from blank to tilde, other than the quote and the backslash
-pub record IsPlain (byte : ℕ) : Type 0 where
-  pub from_blank : 32 ≤ byte
-  pub to_tilde : byte ≤ 126
-  pub no_quote : byte ≢ 34
-  pub no_backslash : byte ≢ 92
+-- the source has these tokens, which give this tree, whose names are used as they may be
+pub record IsSourceOf (level : ℕ) (source : List ℕ) (tree : Module) : Type 0 where
+  pub list : List Token
+  pub are_tokens : tokens.IsTokens level source list
+  pub nests : Nests list
+  pub is_tree : IsTree list tree
+  pub faultless : names.IsFaultless tree
 
--- what such a line prints
-pub record IsText (text : List ℕ) : Type 0 where
-  pub short : length text ≤ 10
-  pub plain : All IsPlain text
+-- a source of tokens that are no tree's
+pub record IsParserFault (level : ℕ) (source : List ℕ) (fault : SourceFault) : Type 0 where
+  pub list : List Token
+  pub are_tokens : tokens.IsTokens level source list
+  pub is : parser.IsFault list fault
 
--- a line that prints the text
-abbrev pub line : List ℕ → List ℕ
-line text = codes "print(\"" ++ text ++ codes "\")\n"
+-- a tree that misuses a name or a word
+pub record IsNameFault (level : ℕ) (source : List ℕ) (fault : SourceFault) : Type 0 where
+  pub list : List Token
+  pub are_tokens : tokens.IsTokens level source list
+  pub nests : Nests list
+  pub tree : Module
+  pub is_tree : IsTree list tree
+  pub is : names.IsFirstFault tree fault
 
--- the source prints these texts, a line for each
-pub record IsSimple (source : List ℕ) (texts : List (List ℕ)) : Type 0 where
-  pub texts_are : All IsText texts
-  pub lines_are : source ≡ flat_map line texts
+-- the first fault of a source that isn't the language's
+abbrev pub IsFrontFault : ℕ → List ℕ → SourceFault → Type 0
+IsFrontFault level source fault =
+    tokens.IsFirstFault level source fault ⊎ (IsParserFault level source fault ⊎ IsNameFault level source fault)
 
--- bytes that begin with no such line
-abbrev pub HasNoLine : List ℕ → Type 0
-HasNoLine bytes = (text rest : List ℕ) → IsText text → bytes ≢ line text ++ rest
+-- what reading a source gives: its tree, or its first fault; want of memory says nothing
+abbrev pub GivesTree : ℕ → List ℕ → Result Module (Refused SourceFault) → Type 0
+GivesTree level source (Ok tree) = IsSourceOf level source tree
+GivesTree level source (Err (refused.Fault fault)) = IsFrontFault level source fault
+GivesTree level source (Err refused.NoMemory) = Unit {0}
 
--- the first line that isn't such a line is the n-th, counted from 1
-pub record FirstOther (source : List ℕ) (n : ℕ) : Type 0 where
-  pub texts : List (List ℕ)
-  pub rest : List ℕ
-  pub texts_are : All IsText texts
-  pub parts : source ≡ flat_map line texts ++ rest
-  pub more : rest ≢ []
-  pub other : HasNoLine rest
-  pub number : n ≡ length texts + 1
+-- the source under this name is accepted at the level, and these are its prints
+pub record IsCompiled (level : ℕ) (source name : List ℕ) (prints : List Print) : Type 0 where
+  pub tree : Module
+  pub is_source : IsSourceOf level source tree
+  pub are_prints : ArePrints tree.body prints
+  pub limits : IsWithinLimits level name prints
 
--- what it compiles to is within the limits: 1,230 lines, and the bytes of a file
-pub record IsWithinLimits (name : List ℕ) (texts : List (List ℕ)) : Type 0 where
-  pub few : length texts ≤ 1230
-  pub fits : length (file_of name texts) ≤ MAX_FILE_BYTES
+-- the source under this name is accepted at the level, and prints the texts
+pub record Accepts (level : ℕ) (source name : List ℕ) (texts : List (List ℕ)) : Type 0 where
+  pub prints : List Print
+  pub compiled : IsCompiled level source name prints
+  pub texts_are : texts ≡ texts_of prints
 
--- the source under this name is accepted, and prints the texts
-pub record Accepts (source name : List ℕ) (texts : List (List ℕ)) : Type 0 where
-  pub size : length source ≤ MAX_SOURCE_BYTES
-  pub simple : IsSimple source texts
-  pub limits : IsWithinLimits name texts
+-- a source of the language with a statement that isn't compiled yet
+pub record IsLaterFault (level : ℕ) (source : List ℕ) (fault : SourceFault) : Type 0 where
+  pub tree : Module
+  pub is_source : IsSourceOf level source tree
+  pub line : ℕ
+  pub first : FirstOther tree.body line
+  pub is : fault ≡ later line
 
--- a statement that isn't compiled yet
-abbrev pub later : ℕ → SourceFault
-later n = record { code = NotInProfile; line = n; word = codes "later" }
-
--- what reading the lines of a source gives: its texts, or the first line that is another; want of memory says nothing
-abbrev pub GivesTexts : List ℕ → Result (Vec (List ℕ) Global) (Refused SourceFault) → Type 0
-GivesTexts source (Ok texts) = IsSimple source texts.items
-GivesTexts source (Err (refused.Fault fault)) = (n : ℕ) × FirstOther source n × (fault ≡ later n)
-GivesTexts source (Err refused.NoMemory) = Unit {0}
-
--- a simple source whose file would pass a limit
-pub record PassesLimits (source name : List ℕ) : Type 0 where
-  pub texts : List (List ℕ)
-  pub simple : IsSimple source texts
-  pub past : (1230 < length texts) ⊎ (MAX_FILE_BYTES < length (file_of name texts))
+-- a source of prints that pass a limit
+pub record IsLongFault (level : ℕ) (source name : List ℕ) (fault : SourceFault) : Type 0 where
+  pub tree : Module
+  pub is_source : IsSourceOf level source tree
+  pub prints : List Print
+  pub are_prints : ArePrints tree.body prints
+  pub past : PassesLimits level name prints
+  pub is : fault ≡ too_long
 
 -- the first fault of a source under a name
-abbrev pub IsFault : List ℕ → List ℕ → SourceFault → Type 0
-IsFault source name fault =
-    ((MAX_SOURCE_BYTES < length source) × (fault ≡ too_long))
-    ⊎ (((length source ≤ MAX_SOURCE_BYTES) × ((n : ℕ) × FirstOther source n × (fault ≡ later n)))
-    ⊎ ((length source ≤ MAX_SOURCE_BYTES) × PassesLimits source name × (fault ≡ too_long)))
+abbrev pub IsFault : ℕ → List ℕ → List ℕ → SourceFault → Type 0
+IsFault level source name fault =
+    IsFrontFault level source fault ⊎ (IsLaterFault level source fault ⊎ IsLongFault level source name fault)
 
 -- what compiling a source under a name gives: its file, or its first fault; want of memory says nothing
-abbrev pub GivesFile : List ℕ → List ℕ → Result (Vec ℕ Global) (Refused SourceFault) → Type 0
-GivesFile source name (Ok file) = (texts : List (List ℕ)) × Accepts source name texts × (file.items ≡ file_of name texts)
-GivesFile source name (Err (refused.Fault fault)) = IsFault source name fault
-GivesFile source name (Err refused.NoMemory) = Unit {0}
-
--- the bytes are the file of a simple source of this name
-pub record IsSimpleFile (bytes name : List ℕ) (texts : List (List ℕ)) : Type 0 where
-  pub texts_are : All IsText texts
-  pub limits : IsWithinLimits name texts
-  pub bytes_are : bytes ≡ file_of name texts
+abbrev pub Compiles : ℕ → List ℕ → List ℕ → Result (Vec ℕ Global) (Refused SourceFault) → Type 0
+Compiles level source name (Ok file) =
+    (prints : List Print) × IsCompiled level source name prints × IsFileOf level name prints file.items
+Compiles level source name (Err (refused.Fault fault)) = IsFault level source name fault
+Compiles level source name (Err refused.NoMemory) = Unit {0}

@@ -1,15 +1,14 @@
-//! Sources that only print texts: which they are, the file that one compiles to, and the texts of such a file.
+//! Sources that only print short texts: which they are, the file that one compiles to, and the texts of such a file.
 #![tactic(auto)]
 
-mod file;
-mod names;
-mod printed;
-mod reading;
+mod compiled;
+mod print;
+mod read;
 mod source;
 
-pub use file::simple_file;
-pub use reading::simple_read;
-pub use source::{MAX_LINES, one_source_law};
+pub use print::Print;
+pub use read::simple_read;
+pub use source::{one_source_law, simple_file};
 
 #[cfg(test)]
 mod tests;

@@ -1,9 +1,10 @@
 use super::*;
 use std::test::Fail;
 
-// A source, the name that its file stores, the file, and the texts that the source prints.
-const FILES: [(&[u8], &[u8], &[u8], &[&[u8]]); 3] = [
+// A level, a source, the name that its file stores, the file, and the texts that the source prints.
+const FILES: [(u8, &[u8], &[u8], &[u8], &[&[u8]]); 5] = [
     (
+        0,
         b"print(\"hi\")\n",
         b"a.py",
         &[
@@ -14,6 +15,7 @@ const FILES: [(&[u8], &[u8], &[u8], &[&[u8]]); 3] = [
         &[b"hi"],
     ),
     (
+        0,
         b"print(\"a\")\nprint(\"b\")\n",
         b"b.py",
         &[
@@ -25,6 +27,7 @@ const FILES: [(&[u8], &[u8], &[u8], &[&[u8]]); 3] = [
         &[b"a", b"b"],
     ),
     (
+        0,
         b"",
         b"e.py",
         &[
@@ -33,21 +36,44 @@ const FILES: [(&[u8], &[u8], &[u8], &[&[u8]]); 3] = [
         ],
         &[],
     ),
+    (
+        0,
+        b"print(\"a\"); print(\"b\")\n\n\n#x\nprint(\"c\")",
+        b"c.py",
+        &[
+            0x4d, 0x06, 0x00, 0x1f, 0x06, 0x00, 0x08, 0x63, 0x2e, 0x70, 0x79, 0x00, 0x0f, 0x81,
+            0x77, 0x02, 0x61, 0x00, 0x02, 0x62, 0x00, 0x02, 0x63, 0x00, 0x81, 0x60, 0x08, 0x06,
+            0x01, 0x6e, 0x20, 0x11, 0x02, 0x10, 0x03, 0x34, 0x01, 0x59, 0x11, 0x02, 0x10, 0x04,
+            0x34, 0x01, 0x59, 0x11, 0x02, 0x10, 0x05, 0x34, 0x01, 0x59, 0x51, 0x63,
+        ],
+        &[b"a", b"b", b"c"],
+    ),
+    (
+        3,
+        b"print(\"a\"); print(\"b\")\n\n\n#x\nprint(\"c\")",
+        b"c.py",
+        &[
+            0x4d, 0x06, 0x00, 0x1f, 0x06, 0x00, 0x08, 0x63, 0x2e, 0x70, 0x79, 0x00, 0x0f, 0x81,
+            0x77, 0x02, 0x61, 0x00, 0x02, 0x62, 0x00, 0x02, 0x63, 0x00, 0x81, 0x50, 0x08, 0x02,
+            0x01, 0x11, 0x02, 0x10, 0x03, 0x34, 0x01, 0x59, 0x11, 0x02, 0x10, 0x04, 0x34, 0x01,
+            0x59, 0x11, 0x02, 0x10, 0x05, 0x34, 0x01, 0x59, 0x51, 0x63,
+        ],
+        &[b"a", b"b", b"c"],
+    ),
 ];
 
 #[test]
 fn files_are_written_and_read(rt: HostRuntime) -> Result<(), Fail> {
-    for (source, name, bytes, texts) in FILES {
-        let file = simple_file(rt.alloc(), source, name)
+    for (level, source, name, bytes, texts) in FILES {
+        let file = simple_file(rt.alloc(), source, level, name)
             .ok()
             .ok_or("the source is simple")?;
         assert_eq!(rt; file.as_slice(), bytes);
-        let read = simple_read(rt.alloc(), &file)?.ok_or("the file is a simple source's")?;
+        let read = simple_read(rt.alloc(), &file)?;
         assert_eq!(rt; read.len(), texts.len());
         for (text, want) in read.iter().zip(texts) {
             assert_eq!(rt; text.bytes(), *want);
         }
-        assert!(rt; simple_read(rt.alloc(), &bytes[1..])?.is_none());
     }
     Ok(())
 }

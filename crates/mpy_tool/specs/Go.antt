@@ -21,34 +21,35 @@ ascii_of byte = if nat_lt byte 128 then byte else 63
 abbrev pub stored : List ℕ → List ℕ
 stored name = map ascii_of name
 
--- what compiling a source under its name and reading the file back gives; want of memory says nothing
-abbrev pub Compiles : List ℕ → List ℕ → Result (Vec (List ℕ) Global) (Refused SourceFault) → Type 0
-Compiles source name (Ok texts) = Accepts source name texts.items
-Compiles source name (Err (refused.Fault fault)) = IsFault source name fault
-Compiles source name (Err refused.NoMemory) = Unit {0}
+-- the texts that a source prints, or its first fault; want of memory says nothing
+abbrev pub GivesTexts : ℕ → List ℕ → List ℕ → Result (Vec (List ℕ) Global) (Refused SourceFault) → Type 0
+GivesTexts level source name (Ok texts) = Accepts level source name texts.items
+GivesTexts level source name (Err (refused.Fault fault)) = IsFault level source name fault
+GivesTexts level source name (Err refused.NoMemory) = Unit {0}
 
--- How a source that was read ended, why, and what it printed: the texts of an accepted source, all of them or a front.
-abbrev pub RanSource : List ℕ → List ℕ → Ending → Option (List ℕ) → Option (List ℕ) → Type 0
-RanSource source name Done old new = (texts : List (List ℕ)) × Accepts source name texts × Appends old new (printed texts)
-RanSource source name (Unaccepted fault) old new = IsFault source name fault × Keeps old new
-RanSource source name (Unread fault) old new = ⊥
-RanSource source name (Unverified fault) old new = ⊥
-RanSource source name ReadFault old new = ⊥
-RanSource source name WriteFault old new = (texts : List (List ℕ)) × Accepts source name texts × AppendsFront old new (printed texts)
-RanSource source name NoMemory old new = Keeps old new
-RanSource source name Absent old new = ⊥
+-- How a source that was read ended at a level of optimization, why, and what it printed: the texts of an accepted source,
+-- all of them or a front.
+abbrev pub RanSource : ℕ → List ℕ → List ℕ → Ending → Option (List ℕ) → Option (List ℕ) → Type 0
+RanSource level source name Done old new = (texts : List (List ℕ)) × Accepts level source name texts × Appends old new (printed texts)
+RanSource level source name (Unaccepted fault) old new = IsFault level source name fault × Keeps old new
+RanSource level source name (Unread fault) old new = ⊥
+RanSource level source name (Unverified fault) old new = ⊥
+RanSource level source name ReadFault old new = ⊥
+RanSource level source name WriteFault old new = (texts : List (List ℕ)) × Accepts level source name texts × AppendsFront old new (printed texts)
+RanSource level source name NoMemory old new = Keeps old new
+RanSource level source name Absent old new = ⊥
 
 -- the same of the source that the folder has under the name
-abbrev pub RanFile : Option FileOf → List ℕ → Ending → Option (List ℕ) → Option (List ℕ) → Type 0
-RanFile files name ending old new = (source : List ℕ) × MayHold files name (Some source) × RanSource source (stored name) ending old new
+abbrev pub RanFile : ℕ → Option FileOf → List ℕ → Ending → Option (List ℕ) → Option (List ℕ) → Type 0
+RanFile level files name ending old new = (source : List ℕ) × MayHold files name (Some source) × RanSource level source (stored name) ending old new
 
 -- how a run of the source of this name ended
-abbrev pub Went : Option FileOf → List ℕ → Ending → Option (List ℕ) → Option (List ℕ) → Type 0
-Went files name Done old new = RanFile files name Done old new
-Went files name (Unaccepted fault) old new = RanFile files name (Unaccepted fault) old new
-Went files name (Unread fault) old new = ⊥
-Went files name (Unverified fault) old new = ⊥
-Went files name WriteFault old new = RanFile files name WriteFault old new
-Went files name ReadFault old new = Keeps old new
-Went files name NoMemory old new = Keeps old new
-Went files name Absent old new = MayHold files name None × Keeps old new
+abbrev pub Went : ℕ → Option FileOf → List ℕ → Ending → Option (List ℕ) → Option (List ℕ) → Type 0
+Went level files name Done old new = RanFile level files name Done old new
+Went level files name (Unaccepted fault) old new = RanFile level files name (Unaccepted fault) old new
+Went level files name (Unread fault) old new = ⊥
+Went level files name (Unverified fault) old new = ⊥
+Went level files name WriteFault old new = RanFile level files name WriteFault old new
+Went level files name ReadFault old new = Keeps old new
+Went level files name NoMemory old new = Keeps old new
+Went level files name Absent old new = MayHold files name None × Keeps old new

@@ -2,5 +2,6 @@ pub mod Ending
 pub mod Folder
 pub mod Go
 pub mod Check
+pub mod Dump
 pub mod Line
 pub mod Outside

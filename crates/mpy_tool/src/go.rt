@@ -1,9 +1,10 @@
 //! The command `go`.
 
-ghost use Rattle.std.specs.Prelude.{◌≡◌, IfOk};
+ghost use Rattle.std.specs.Prelude.{◌≡◌, ◌≤◌, IfOk};
 ghost use Rattle.mpy_io.specs.Count.{Counts};
 ghost use Rattle.mpy_tool.specs.Ending.{is_read_fault, is_write_fault};
-ghost use Rattle.mpy_tool.specs.Go.{stored, ascii_of, Compiles, RanSource, Went};
+ghost use Rattle.mpy_tree.specs.File.{IsAscii};
+ghost use Rattle.mpy_tool.specs.Go.{stored, ascii_of, GivesTexts, RanSource, Went};
 
 use crate::ending::Ending;
 use bc_vm::run_simple;
@@ -31,22 +32,28 @@ fn stored_name(alloc: Global, name: &str) -> Result<Text, NoMemory>
 }
 
 /// The texts that a source prints, by the file that it compiles to.
-fn compiled(alloc: Global, source: &[u8], name: &[u8]) -> Result<Vec<Text>, Refused<SourceFault>>
-    ensures { Compiles source.now name.now result }
+fn texts_of(
+    alloc: Global,
+    source: &[u8],
+    level: u8,
+    name: &[u8],
+) -> Result<Vec<Text>, Refused<SourceFault>>
+    requires level_is { level ≤ 3 }
+    requires name_is { IsAscii name.now }
+    ensures { GivesTexts level source.now name.now result }
 {
-    let file = simple_file(alloc, source, name)?;
-    match simple_read(alloc, &file)? {
-        Some(texts) => Ok(texts),
-        None => unreachable!(),
-    }
+    let file = simple_file(alloc, source, level, name)?;
+    Ok(simple_read(alloc, &file)?)
 }
 
 /// Runs a source under the name that its file stores.
-fn run<S: Sink>(alloc: Global, source: &[u8], name: &[u8], out: &mut S) -> Ending
-    ensures ran { RanSource source.now name.now result (S.told out.old) (S.told out.new) }
+fn run<S: Sink>(alloc: Global, source: &[u8], level: u8, name: &[u8], out: &mut S) -> Ending
+    requires level_is { level ≤ 3 }
+    requires name_is { IsAscii name.now }
+    ensures ran { RanSource level source.now name.now result (S.told out.old) (S.told out.new) }
     ensures cause { Counts (S.count out.old) (S.count out.new) (is_write_fault result) }
 {
-    match compiled(alloc, source, name) {
+    match texts_of(alloc, source, level, name) {
         Ok(texts) => match run_simple(&texts, out) {
             Ok(()) => Ending::Done,
             Err(Failed) => Ending::WriteFault,
@@ -56,14 +63,16 @@ fn run<S: Sink>(alloc: Global, source: &[u8], name: &[u8], out: &mut S) -> Endin
     }
 }
 
-/// Runs the source of this name.
+/// Runs the source of this name, at a level of optimization.
 pub(crate) fn go<F: Folder, S: Sink>(
     alloc: Global,
+    level: u8,
     name: &str,
     folder: &mut F,
     out: &mut S,
 ) -> Ending
-    ensures went { Went (F.files folder.old) name.now result (S.told out.old) (S.told out.new) }
+    requires { level ≤ 3 }
+    ensures went { Went level (F.files folder.old) name.now result (S.told out.old) (S.told out.new) }
     ensures reads { Counts (F.count folder.old) (F.count folder.new) (is_read_fault result) }
     ensures writes { Counts (S.count out.old) (S.count out.new) (is_write_fault result) }
     ensures files { F.files folder.new ≡ F.files folder.old }
@@ -76,7 +85,7 @@ pub(crate) fn go<F: Folder, S: Sink>(
         Err(ReadFault::NoMemory) => return Ending::NoMemory,
     };
     match stored_name(alloc, name) {
-        Ok(stored) => run(alloc, &source, stored.bytes(), out),
+        Ok(stored) => run(alloc, &source, level, stored.bytes(), out),
         Err(NoMemory) => Ending::NoMemory,
     }
 }

@@ -2,6 +2,7 @@
 #![tactic(auto)]
 
 mod check;
+mod dump;
 mod ending;
 mod go;
 mod line;

@@ -1,6 +1,6 @@
 //! The top call.
 
-ghost use Rattle.std.specs.Prelude.{◌≡◌, ℕ, List, Option, Some, map, string_bytes, IfOk, IfErr};
+ghost use Rattle.std.specs.Prelude.{◌≡◌, ◌≤◌, ℕ, List, Option, Some, map, string_bytes, IfOk, IfErr};
 ghost use Rattle.mpy_io.specs.Count.{Counts};
 ghost use Rattle.mpy_io.specs.Files.{FileOf};
 ghost use Rattle.mpy_words.specs.declared.order.Command.TheVariants as commands;
@@ -8,37 +8,42 @@ ghost use Rattle.mpy_words.specs.Words.{order_of, first_name};
 ghost use Rattle.mpy_tool.specs.declared.ending.Ending.{Ending};
 ghost use Rattle.mpy_tool.specs.Ending.{IsSettled, is_read_fault, is_write_fault};
 ghost use Rattle.mpy_tool.specs.Check.{Checks};
+ghost use Rattle.mpy_tool.specs.Dump.{Dumps};
 ghost use Rattle.mpy_tool.specs.Go.{Went};
 ghost use Rattle.mpy_tool.specs.Outside.{seen, RefusesWords, Ends};
 
 use crate::check::check;
+use crate::dump::dump;
 use crate::ending::Ending;
 use crate::go::go;
 use crate::line::{say_ending, say_words};
 use mpy_io::{Folder, Sink};
-use mpy_words::{Command, order_of};
+use mpy_words::{Command, Order, order_of};
 use std::alloc::Global;
 
 /// The status of words that are of no order.
 const WORDS_STATUS: u8 = 2;
 
-/// Does a command on the file of this name.
+/// Does what is ordered on the file of this name.
 fn done<F: Folder, S: Sink>(
-    command: Command,
+    order: Order,
     alloc: Global,
     name: &str,
     folder: &mut F,
     out: &mut S,
 ) -> Ending
-    ensures go { command ≡ commands.Go → Went (F.files folder.old) name.now result (S.told out.old) (S.told out.new) }
-    ensures check { command ≡ commands.Check → Checks (F.files folder.old) name.now result (S.told out.old) (S.told out.new) }
+    requires { order.level ≤ 3 }
+    ensures go { order.command ≡ commands.Go → Went order.level (F.files folder.old) name.now result (S.told out.old) (S.told out.new) }
+    ensures check { order.command ≡ commands.Check → Checks (F.files folder.old) name.now result (S.told out.old) (S.told out.new) }
+    ensures dump { order.command ≡ commands.Dump → Dumps (F.files folder.old) name.now result (S.told out.old) (S.told out.new) }
     ensures reads { Counts (F.count folder.old) (F.count folder.new) (is_read_fault result) }
     ensures writes { Counts (S.count out.old) (S.count out.new) (is_write_fault result) }
     ensures files { F.files folder.new ≡ F.files folder.old }
 {
-    match command {
-        Command::Go => go(alloc, name, folder, out),
+    match order.command {
+        Command::Go => go(alloc, order.level, name, folder, out),
         Command::Check => check(alloc, name, folder, out),
+        Command::Dump => dump(alloc, name, folder, out),
     }
 }
 
@@ -58,7 +63,7 @@ pub fn mpy<F: Folder, S: Sink, E: Sink>(
 
     // go SRC: the source's texts are printed, or what kept them from it is said.
     ensures go { IfOk (order_of (map string_bytes words.now)) (λ order. order.command ≡ commands.Go
-        → Ends Went (first_name (map string_bytes words.now))
+        → Ends (Went order.level) (first_name (map string_bytes words.now))
         (seen F.files F.count S.told S.count E.told E.count folder.old out.old say.old)
         (seen F.files F.count S.told S.count E.told E.count folder.new out.new say.new) result) }
 
@@ -68,13 +73,19 @@ pub fn mpy<F: Folder, S: Sink, E: Sink>(
         (seen F.files F.count S.told S.count E.told E.count folder.old out.old say.old)
         (seen F.files F.count S.told S.count E.told E.count folder.new out.new say.new) result) }
 
+    // dump FILE: what the file holds is listed, or what keeps it from being read is said.
+    ensures dump { IfOk (order_of (map string_bytes words.now)) (λ order. order.command ≡ commands.Dump
+        → Ends Dumps (first_name (map string_bytes words.now))
+        (seen F.files F.count S.told S.count E.told E.count folder.old out.old say.old)
+        (seen F.files F.count S.told S.count E.told E.count folder.new out.new say.new) result) }
+
     // No command that is built so far changes a file.
     ensures files { F.files folder.new ≡ F.files folder.old }
 {
     match order_of(words) {
         Ok(order) => {
             let name = words[1].as_str();
-            let ending = done(order.command, alloc, name, folder, out);
+            let ending = done(order, alloc, name, folder, out);
             // A failed put on `say` changes nothing else.
             let _ = say_ending(say, name, &ending);
             ending.status()
@@ -88,6 +99,6 @@ pub fn mpy<F: Folder, S: Sink, E: Sink>(
 
 /// Where a folder tells its files, a run that neither a failing call nor want of memory cut short ends in one way only.
 pub fn one_ending_law()
-    ensures { (files : FileOf) (name : List ℕ) (a b : Ending) (old new_a new_b : Option (List ℕ)) → IsSettled a → IsSettled b
-        → Went (Some files) name a old new_a → Went (Some files) name b old new_b → a ≡ b }
+    ensures { (level : ℕ) (files : FileOf) (name : List ℕ) (a b : Ending) (old new_a new_b : Option (List ℕ)) → IsSettled a
+        → IsSettled b → Went level (Some files) name a old new_a → Went level (Some files) name b old new_b → a ≡ b }
 {}

@@ -10,6 +10,8 @@ pub enum Command {
     Go,
     /// `check FILE`
     Check,
+    /// `dump FILE`
+    Dump,
 }
 
 /// A word that a command names.

@@ -1,6 +1,6 @@
 //! The order of words.
 
-ghost use Rattle.std.specs.Prelude.{◌≡◌, ◌≤◌, ◌<◌, ◌^◌, length, map, string_bytes, None, IfOk};
+ghost use Rattle.std.specs.Prelude.{◌≡◌, ◌≤◌, ◌<◌, length, map, string_bytes, None, IfOk};
 ghost use Rattle.mpy_words.specs.Command as commands;
 ghost use Rattle.mpy_words.specs.Words as spec;
 
@@ -13,6 +13,7 @@ fn command(word: &str) -> Option<Command>
     match word {
         "go" => Some(Command::Go),
         "check" => Some(Command::Check),
+        "dump" => Some(Command::Dump),
         _ => None,
     }
 }
@@ -32,14 +33,14 @@ fn names(command: Command) -> &'static [Named]
 {
     match command {
         Command::Go => &[Named::Source],
-        Command::Check => &[Named::File],
+        Command::Check | Command::Dump => &[Named::File],
     }
 }
 
 /// The greatest value of an option.
 fn greatest(setting: Setting) -> u64
     ensures value { result ≡ commands.greatest_of setting }
-    ensures small { result < 2 ^ 8 }
+    ensures small { result ≤ 3 }
 {
     match setting {
         Setting::Level => 3,
@@ -61,6 +62,7 @@ fn settings(count: usize, command: Command, words: &[String]) -> Result<Order, W
     requires { length words.now ≤ count }
     ensures order { result ≡ spec.settings count command None (map string_bytes words.now) }
     ensures same { IfOk result (λ order. order.command ≡ command) }
+    ensures level { IfOk result (λ order. order.level ≤ 3) }
 {
     let mut level = None;
     let mut rest = words;
@@ -92,6 +94,7 @@ fn named(count: usize, command: Command, words: &[String]) -> Result<Order, Word
     requires { length words.now ≤ count }
     ensures order { result ≡ spec.named count command (commands.names_of command) (map string_bytes words.now) }
     ensures named { IfOk result (λ order. length (commands.names_of order.command) ≤ length words.now) }
+    ensures level { IfOk result (λ order. order.level ≤ 3) }
 {
     let mut rest = words;
     for wanted in names(command) {
@@ -115,6 +118,9 @@ pub fn order_of(words: &[String]) -> Result<Order, WordFault>
 
     // The named words are there.
     ensures named { IfOk result (λ order. length (commands.names_of order.command) < length words.now) }
+
+    // The level is one of the four.
+    ensures level { IfOk result (λ order. order.level ≤ 3) }
 {
     let Some((first, behind)) = words.split_first() else {
         return Err(WordFault::NoCommand);
