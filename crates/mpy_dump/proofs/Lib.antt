@@ -4,5 +4,6 @@ pub mod Once
 pub mod Paths
 pub mod Pieces
 pub mod Putting
+pub mod Samples
 pub mod Trees
 pub mod Tuples

@@ -13,3 +13,6 @@ mod texts;
 mod whole;
 
 pub use whole::{listing, listing_law};
+
+#[cfg(test)]
+mod tests;
