@@ -6,7 +6,7 @@ use std::alloc::{AllocError, Global};
 use std::test::Fail;
 
 // What a file of one code begins with: the name of its source, and that of the code.
-const HEAD: [u8; 13] = [
+pub(crate) const HEAD: [u8; 13] = [
     0x4d, 0x06, 0x00, 0x1f, 0x02, 0x00, 0x08, 0x62, 0x2e, 0x70, 0x79, 0x00, 0x0f,
 ];
 
@@ -20,13 +20,13 @@ const LOOP: [u8; 58] = [
 
 /// What the check of a file answers, prints and says.
 #[derive(Drop)]
-struct Answer {
-    status: u8,
-    out: MemSink,
-    say: MemSink,
+pub(crate) struct Answer {
+    pub(crate) status: u8,
+    pub(crate) out: MemSink,
+    pub(crate) say: MemSink,
 }
 
-fn checked(alloc: Global, file: Vec<u8>) -> Result<Answer, AllocError> {
+pub(crate) fn checked(alloc: Global, file: Vec<u8>) -> Result<Answer, AllocError> {
     let mut files = Vec::new(alloc);
     files.push((String::from_str(alloc, "b.mpy")?, file))?;
     let mut folder = MemFolder::new(alloc, files, Vec::new(alloc));
