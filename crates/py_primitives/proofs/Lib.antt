@@ -1,0 +1,2 @@
+mod PrimitiveExamples
+pub mod Makings
