@@ -1,2 +1,3 @@
+mod CallExamples
 mod PrimitiveExamples
 pub mod Makings
