@@ -1,5 +1,6 @@
 pub mod Bodies
 pub mod Cursors
+mod Examples
 pub mod Once
 pub mod Paths
 pub mod Pieces
