@@ -1,0 +1,10 @@
+//! Walks over the values of an arena. So far: truth, and how built-ins are called.
+#![tactic(auto)]
+
+mod look;
+mod names;
+mod ranges;
+mod truths;
+
+pub use names::builtin_name;
+pub use truths::truth;
