@@ -96,6 +96,12 @@ one_texts level source name a b p q =
     let same : p.prints ≡ q.prints = one_list q.compiled.tree.body p.prints q.prints (prints_are level source p.compiled.tree q.compiled.tree p.prints p.compiled.is_source q.compiled.is_source p.compiled.are_prints) q.compiled.are_prints in
     p.texts_are ∙ (ap texts_of same ∙ sym q.texts_are)
 
+-- tokens that are refused
+pub tree_refused : (level : ℕ) (source : List ℕ) (list : List Token) → tokens'.IsTokens level source list
+    → (r : Refused SourceFault) → ((f : SourceFault) → r ≡ refused.Fault f → parsed.IsFault list f) → GivesTree level source (Err r)
+tree_refused level source list are refused.NoMemory h = tt
+tree_refused level source list are (refused.Fault f) h = inr (inl (record { list = list; are_tokens = are; is = h f refl }))
+
 -- a tree that is refused for its names
 pub names_refused : (level : ℕ) (source : List ℕ) (list : List Token) (tree : Module) → tokens'.IsTokens level source list → Nests list → IsTree list tree
     → (r : Refused SourceFault) → ((f : SourceFault) → r ≡ refused.Fault f → names.IsFirstFault tree f) → GivesTree level source (Err r)

@@ -20,7 +20,10 @@ fn tree_of(alloc: Global, source: &[u8], level: u8) -> Result<Module, Refused<So
     ensures { GivesTree level source.now result }
 {
     let tokens = tokens(alloc, source, level)?;
-    let tree = parse(alloc, &tokens)?;
+    let tree = match parse(alloc, &tokens) {
+        Ok(tree) => tree,
+        Err(refusal) => return Err(refusal),
+    };
     match scopes(alloc, &tree) {
         Ok(_) => Ok(tree),
         Err(refusal) => Err(refusal),
