@@ -17,7 +17,6 @@ use Rattle.mpy_tree.specs.Resolved.{ReadsAs}
 use Rattle.mpy_writer.specs.declared.fault.WriteFault.{WriteFault}
 use Rattle.mpy_writer.specs.File.{FirstFault}
 use Rattle.mpy_simple.specs.declared.print.Print.{Print}
-use Rattle.mpy_simple.specs.declared.print.TheConstants.{MAX_PRINTS}
 use Rattle.mpy_simple.specs.Print.{is_short}
 
 -- the instructions of a print: `print` and the text are loaded, it is called, and what it gives is dropped
@@ -68,15 +67,15 @@ IsFileOf level name prints bytes = ReadsAs bytes (module_of level name prints)
 abbrev pub texts_of : List Print → List (List ℕ)
 texts_of prints = map (λ (print : Print). print.text) prints
 
--- the prints are no more than are compiled, and their module has a file
+-- the prints are 1,230 at most, and their module has a file
 pub record IsWithinLimits (level : ℕ) (name : List ℕ) (prints : List Print) : Type 0 where
-  pub few : length prints ≤ MAX_PRINTS
+  pub few : length prints ≤ 1230
   pub short_name : length name ≤ MAX_FILE_BYTES
   pub written : (fault : WriteFault) → ¬ FirstFault (module_of level name prints) fault
 
 abbrev pub PassesLimits : ℕ → List ℕ → List Print → Type 0
 PassesLimits level name prints =
-    (MAX_PRINTS < length prints) ⊎ ((MAX_FILE_BYTES < length name)
+    (1230 < length prints) ⊎ ((MAX_FILE_BYTES < length name)
     ⊎ ((fault : WriteFault) × FirstFault (module_of level name prints) fault))
 
 -- the file of the prints under a name at a level, or that they pass a limit; want of memory says nothing
