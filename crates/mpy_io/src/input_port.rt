@@ -72,7 +72,9 @@ impl<R: Read + Drop, W: Write + Drop> Port for InputPort<R, W> {
         result
     }
 
-    fn written_at(&self, _i: usize) -> Option<i32> {
+    fn written_at(&self, _i: usize) -> Option<i32>
+        ensures { result ≡ None }
+    {
         None
     }
 
