@@ -2,6 +2,7 @@
 
 ghost use Rattle.std.specs.Prelude.{◌≡◌, ◌^◌, ◌<◌, IfOk, IfErr, OnOk, OnErr};
 ghost use Rattle.mpy_base.specs.Weights.{empty, used, Fits, no_room};
+ghost use Rattle.arena_heap.specs.Values.{Sound};
 
 use crate::cells::Cell;
 use mpy_base::{NoMemory, NoRoom, Room};
@@ -77,5 +78,12 @@ impl Arena {
             });
         }
         Ok(())
+    }
+
+    /// The objects of an arena are formed, and their values lead to objects of their kinds.
+    pub fn sound_law(&self)
+        ensures { Sound self.now.objects }
+    {
+        let _ = &self.room;
     }
 }

@@ -17,7 +17,7 @@ use arena_heap::{
 use mpy_base::NoRoom;
 
 /// How many items an iterable has. A str has none yet.
-fn item_count<C: Constants>(arena: &Arena, consts: &C, from: Value) -> u32
+pub fn item_count<C: Constants>(arena: &Arena, consts: &C, from: Value) -> u32
     requires leads { Leads arena.now.objects from }
     requires told { IsTold (C.text_of consts.now) (C.items_of consts.now) from }
     ensures { result ≡ length (items_in (C.items_of consts.now) arena.now from) }
@@ -36,7 +36,7 @@ fn item_count<C: Constants>(arena: &Arena, consts: &C, from: Value) -> u32
 }
 
 /// The item of an iterable at a place.
-fn item_at<C: Constants>(arena: &Arena, consts: &C, from: Value, at: u32) -> Value
+pub fn item_at<C: Constants>(arena: &Arena, consts: &C, from: Value, at: u32) -> Value
     requires leads { Leads arena.now.objects from }
     requires told { IsTold (C.text_of consts.now) (C.items_of consts.now) from }
     requires all_told { AllTold (C.text_of consts.now) (C.items_of consts.now) arena.now.objects }

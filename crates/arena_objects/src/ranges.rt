@@ -14,7 +14,7 @@ fn steps_over(span: i32, size: u32) -> u32
 }
 
 /// How many numbers a range has.
-pub(crate) fn range_count(start: i32, stop: i32, step: i32) -> u32
+pub fn range_count(start: i32, stop: i32, step: i32) -> u32
     requires start { IsSmall start }
     requires stop { IsSmall stop }
     requires step { IsSmall step }
@@ -26,7 +26,7 @@ pub(crate) fn range_count(start: i32, stop: i32, step: i32) -> u32
 }
 
 /// The number at a place of a range.
-pub(crate) fn range_number(start: i32, stop: i32, step: i32, k: u32) -> i32
+pub fn range_number(start: i32, stop: i32, step: i32, k: u32) -> i32
     requires start { IsSmall start }
     requires stop { IsSmall stop }
     requires nonzero { step ≢ pos 0 }

@@ -14,3 +14,4 @@ pub mod Singles
 pub mod Names
 pub mod Behind
 pub mod Clauses
+pub mod Formed

@@ -10,3 +10,8 @@ pub mod Tails
 pub mod Names
 pub mod Made
 pub mod Parses
+pub mod Formed
+pub mod Lines
+pub mod Defs
+pub mod FormedTree
+pub mod Ended

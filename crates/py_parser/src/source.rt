@@ -4,7 +4,9 @@ ghost use Rattle.std.specs.Prelude.{◌≡◌, ◌⊎◌, ◌-◌, [], ◌∷◌
 ghost use Rattle.mpy_base.specs.declared.refused.Refused.TheVariants as refused;
 ghost use Rattle.mpy_base.specs.declared.source.SourceFault.{SourceFault};
 ghost use Rattle.py_tokens.specs.declared.token.Token.{Token};
+ghost use Rattle.py_tokens.specs.Formed.{AreFormed};
 ghost use Rattle.py_tree.specs.declared.stmt.Module.{Module};
+ghost use Rattle.py_tree.specs.Formed.{IsFormed};
 ghost use Rattle.py_expressions.specs.Input.{Reads, input_of};
 ghost use Rattle.py_nest.specs.Nest.{Nests};
 ghost use Rattle.py_statements.specs.Reading.{line_at};
@@ -119,4 +121,7 @@ pub fn parser_law()
     // Where tokens end with an End, one of them stands behind their longest front.
     ensures stands { (tokens rest : List Token) → IsEnded tokens → IsLongest tokens rest
         → (token : Token) × (more : List Token) × (rest ≡ token ∷ more) }
+
+    // Tokens such as a source gives have a formed tree.
+    ensures formed { (tokens : List Token) (tree : Module) → AreFormed tokens → IsTree tokens tree → IsFormed tree }
 {}

@@ -5,4 +5,6 @@ pub mod Starts
 pub mod Assigned
 pub mod Smalls
 pub mod Whole
+pub mod Formed
 mod LineExamples
+pub mod Rows

@@ -15,3 +15,5 @@ pub mod Sources
 pub mod Spans
 pub mod Values
 pub mod Words
+pub mod Formed
+pub mod Fewer

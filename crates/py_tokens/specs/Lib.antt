@@ -11,3 +11,4 @@ pub mod Operator
 pub mod Prefix
 pub mod Tokens
 pub mod Word
+pub mod Formed

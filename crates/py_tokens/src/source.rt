@@ -1,12 +1,15 @@
 //! The tokens of a source.
 
-ghost use Rattle.std.specs.Prelude.{◌≡◌, ◌⊎◌, ◌+◌, ℕ, ◌≤◌, ◌<◌, List, length, Err, IfOk, MatchResult};
+ghost use Rattle.std.specs.Prelude.{◌≡◌, ◌⊎◌, ◌+◌, ℕ, ◌≤◌, ◌<◌, List, [], ◌∷◌, ◌++◌, length, Err, IfOk, MatchResult};
 ghost use Rattle.mpy_base.specs.declared.limits.TheConstants.{MAX_SOURCE_BYTES};
 ghost use Rattle.mpy_base.specs.declared.refused.Refused.TheVariants as refused;
 ghost use Rattle.mpy_base.specs.declared.source.SourceFault.{SourceFault};
+ghost use Rattle.py_tokens.specs.declared.token.Tok.TheVariants as toks;
 ghost use Rattle.py_tokens.specs.declared.token.Token.{Token};
 ghost use Rattle.py_tokens.specs.declared.lexeme.LexemeFault.{LexemeFault};
+ghost use Rattle.py_tokens.specs.Formed.{AreFormed};
 ghost use Rattle.py_tokens.specs.Going.{fault_from};
+ghost use Rattle.py_tokens.specs.Lines.{Place, empty_token};
 ghost use Rattle.py_tokens.specs.Tokens.{IsTokens, IsFirstFault, Says};
 
 use crate::lexeme::{LexemeFault, lexeme_at};
@@ -82,6 +85,11 @@ pub fn tokens_law()
         → IsFirstFault opt source first → IsFirstFault opt source second → first ≡ second }
     ensures apart { (opt : ℕ) (source : List ℕ) (list : List Token) (fault : SourceFault)
         → IsTokens opt source list → ¬ IsFirstFault opt source fault }
+
+    // The tokens of a source are formed, and an End is the last of them.
+    ensures formed { (opt : ℕ) (source : List ℕ) (list : List Token) → IsTokens opt source list → AreFormed list }
+    ensures ends { (opt : ℕ) (source : List ℕ) (list : List Token) → IsTokens opt source list
+        → (front : List Token) × (place : Place) × (list ≡ front ++ empty_token toks.End place ∷ []) }
 {}
 
 #[cfg(test)]

@@ -3,7 +3,6 @@
 
 mod look;
 mod names;
-mod ranges;
 mod truths;
 
 pub use names::builtin_name;

@@ -7,9 +7,8 @@ ghost use Rattle.py_values.specs.Shown.{truth as truth_of};
 ghost use Rattle.vm_walks.specs.Plain.{plain, plain_heap};
 
 use crate::look::{Look, look_at};
-use crate::ranges::range_count;
 use arena_heap::{Arena, Constants, Value};
-use arena_objects::dict_len;
+use arena_objects::{dict_len, range_count};
 
 /// Whether a value counts as true.
 pub fn truth<C: Constants>(arena: &Arena, consts: &C, v: Value) -> bool
