@@ -59,7 +59,7 @@ fn refuse<E: Sink>(say: &mut E, fault: ErrorKind) -> u8 {
 }
 
 fn tell<S: Sink, E: Sink>(text: &[u8], out: &mut S, say: &mut E) -> u8 {
-    if out.put(text).is_ok() {
+    if out.put(text).is_ok() && out.flush().is_ok() {
         return 0;
     }
     let _ = say.put(b"mpy: write fault out\n");
@@ -68,8 +68,10 @@ fn tell<S: Sink, E: Sink>(text: &[u8], out: &mut S, say: &mut E) -> u8 {
 
 fn main(rt: HostRuntime) -> ExitCode {
     let alloc: Global = rt.alloc();
-    let mut out = OutSink::new(rt.stdout());
-    let mut say = OutSink::new(rt.stderr());
+    let mut say = OutSink::new(alloc, rt.stderr());
+    let Ok(mut out) = OutSink::gathering(alloc, rt.stdout()) else {
+        return ExitCode::from(refuse(&mut say, ErrorKind::OutOfMemory));
+    };
     let words = match words(&rt) {
         Ok(words) => words,
         Err(error) => return ExitCode::from(refuse(&mut say, error.kind())),

@@ -8,3 +8,4 @@ pub mod Putting
 pub mod Samples
 pub mod Trees
 pub mod Tuples
+pub mod Plain

@@ -1,6 +1,7 @@
 //! Names and strs.
 
-ghost use Rattle.std.specs.Prelude.{◌≡◌, ◌<◌};
+ghost use Rattle.std.specs.Prelude.{◌≡◌, ◌<◌, ◌==◌, ◌||◌};
+ghost use Rattle.std.specs.List.{list_any};
 ghost use Rattle.mpy_dump.specs.Puts.{Puts};
 ghost use Rattle.mpy_dump.specs.Texts as specs;
 
@@ -28,24 +29,48 @@ fn is_control(byte: u8) -> bool
     byte < 32 || byte == 127
 }
 
+/// Whether a byte of a name is written by its number.
+fn is_numbered(byte: u8) -> bool
+    ensures { result ≡ (specs.is_control byte || byte == 92) }
+{
+    is_control(byte) || byte == b'\\'
+}
+
 fn put_name_byte<S: Sink>(out: &mut S, byte: u8) -> Result<(), Failed>
     ensures { Puts S.told S.count out.old out.new (specs.name_byte byte) result }
 {
-    if is_control(byte) || byte == b'\\' {
+    if is_numbered(byte) {
         put(out, &hex(byte))
     } else {
         put(out, &[byte])
     }
 }
 
-/// Puts a name.
-pub(crate) fn put_name<S: Sink>(out: &mut S, name: &[u8]) -> Result<(), Failed>
+/// Puts a name byte by byte.
+fn put_name_bytes<S: Sink>(out: &mut S, name: &[u8]) -> Result<(), Failed>
     ensures { Puts S.told S.count out.old out.new (specs.name_text name.now) result }
 {
     for byte in name {
         put_name_byte(out, *byte)?;
     }
     Ok(())
+}
+
+fn has_numbered(name: &[u8]) -> bool
+    ensures { result ≡ list_any (λ byte. specs.is_control byte || byte == 92) name.now }
+{
+    name.iter().any(|byte| is_numbered(*byte))
+}
+
+/// Puts a name, in one piece where it is written as it is.
+pub(crate) fn put_name<S: Sink>(out: &mut S, name: &[u8]) -> Result<(), Failed>
+    ensures { Puts S.told S.count out.old out.new (specs.name_text name.now) result }
+{
+    if has_numbered(name) {
+        put_name_bytes(out, name)
+    } else {
+        put(out, name)
+    }
 }
 
 fn put_str_byte<S: Sink>(out: &mut S, quote: u8, byte: u8) -> Result<(), Failed>

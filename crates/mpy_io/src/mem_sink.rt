@@ -59,7 +59,11 @@ impl MemSink {
 }
 
 impl Sink for MemSink {
+    ghost use Rattle.std.specs.Prelude.{[]};
+
     ghost told = { λ s. Some s.bytes };
+
+    ghost held = { λ _. [] };
 
     ghost count = { λ s. s.faults };
 
@@ -93,6 +97,13 @@ impl Sink for MemSink {
             self.faults = self.faults.saturating_add(1);
             return Err(Failed);
         }
+        Ok(())
+    }
+
+    /// Nothing is held back, so it never fails.
+    fn flush(&mut self) -> Result<(), Failed>
+        ensures { IsOk result × (self.new ≡ self.old) }
+    {
         Ok(())
     }
 

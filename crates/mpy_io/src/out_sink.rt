@@ -1,45 +1,79 @@
 //! A sink that writes on.
 
-ghost use Rattle.std.specs.Prelude.{◌≡◌, OnOk, OnErr, is_err, if◌then◌else◌};
-ghost use Rattle.std.specs.Io.KnownBytes.{Appends};
+ghost use Rattle.std.specs.Prelude.{◌≡◌, [], IfOk, OnOk, OnErr, is_err, if◌then◌else◌};
+ghost use Rattle.std.specs.Io.KnownBytes.{Appends, Keeps};
 ghost use Rattle.mpy_io.specs.Count.{Counts};
 ghost use Rattle.mpy_io.specs.Told.{AppendsFront};
 ghost use Rattle.mpy_io.specs.Memory.{next};
+ghost use Rattle.mpy_io.specs.Out.{out_told};
 
 use crate::{Failed, Sink};
-use std::io::{ErrorKind, Write};
+use mpy_base::NoMemory;
+use std::alloc::Global;
+use std::io::{BufWriter, ErrorKind, Write};
+use std::marker::Model;
 
-/// Hands what is put to a writer. It holds no bytes back and never flushes: a writer that keeps some, as a
-/// `BufWriter`, is flushed by its owner. A write that is interrupted is tried again, and one that takes nothing
-/// is a fault. The standard output needs no flush, since `io::writer` writes through.
+/// How many bytes a sink that gathers may hold back.
+const GATHERED_BYTES: usize = 65_536;
+
+/// Hands what is put to a writer: each piece at once, or gathered, so that few calls of the writer take many pieces.
+/// A write that is interrupted is tried again, and one that takes nothing is a fault.
+///
+/// What is gathered is certain to be written only after a flush that answers Ok. A sink that is dropped tries to write
+/// what it still holds, and tells nothing of how that went.
 #[derive(Drop)]
 pub struct OutSink<W: Write + Drop> {
-    writer: W,
+    writer: BufWriter<W>,
     faults: u64,
 }
 
+impl<W: Write + Drop> Model for OutSink<W> {
+    ghost use Rattle.std.specs.Io.Buffered.{writer_inner, writer_buffer};
+    ghost use Rattle.mpy_io.specs.Out.{OutState};
+
+    ghost Value = { OutState W };
+
+    ghost view = { λ s. record { writer = writer_inner s.writer; held = writer_buffer s.writer; faults = s.faults } };
+}
+
 impl<W: Write + Drop> OutSink<W> {
-    pub fn new(writer: W) -> OutSink<W>
-        ensures { result ≡ record { writer = writer; faults = 0 } }
+    /// A sink that gathers nothing.
+    pub fn new(alloc: Global, writer: W) -> OutSink<W>
+        ensures { result ≡ record { writer = writer; held = []; faults = 0 } }
     {
+        let Ok(writer) = BufWriter::with_capacity(alloc, 0, writer) else {
+            unreachable!();
+        };
         OutSink { writer, faults: 0 }
+    }
+
+    /// A sink that gathers, unless memory isn't found.
+    pub fn gathering(alloc: Global, writer: W) -> Result<OutSink<W>, NoMemory>
+        ensures { IfOk result (λ sink. sink ≡ record { writer = writer; held = []; faults = 0 }) }
+    {
+        match BufWriter::with_capacity(alloc, GATHERED_BYTES, writer) {
+            Ok(writer) => Ok(OutSink { writer, faults: 0 }),
+            Err(_) => Err(NoMemory),
+        }
     }
 
     pub fn writer(&self) -> &W
         ensures { result.now ≡ self.now.writer }
     {
-        &self.writer
+        self.writer.get_ref()
     }
 }
 
 impl<W: Write + Drop> Sink for OutSink<W> {
-    ghost told = { λ s. W.contents s.writer };
+    ghost told = { out_told W.contents };
+
+    ghost held = { λ s. s.held };
 
     ghost count = { λ s. s.faults };
 
     fn put(&mut self, bytes: &[u8]) -> Result<(), Failed>
-        ensures ok { OnOk result (Appends (W.contents self.old.writer) (W.contents self.new.writer) bytes.now) }
-        ensures err { OnErr result (AppendsFront (W.contents self.old.writer) (W.contents self.new.writer) bytes.now) }
+        ensures ok { OnOk result (Appends (out_told W.contents self.old) (out_told W.contents self.new) bytes.now) }
+        ensures err { OnErr result (AppendsFront (out_told W.contents self.old) (out_told W.contents self.new) bytes.now) }
         ensures cause { Counts self.old.faults self.new.faults (is_err result) }
         ensures counted { self.new.faults ≡ (if is_err result then next self.old.faults else self.old.faults) }
     {
@@ -48,6 +82,19 @@ impl<W: Write + Drop> Sink for OutSink<W> {
             self.faults = self.faults.saturating_add(1);
         }
         result
+    }
+
+    fn flush(&mut self) -> Result<(), Failed>
+        ensures same { Keeps (out_told W.contents self.old) (out_told W.contents self.new) }
+        ensures ok { OnOk result (self.new.held ≡ []) }
+        ensures cause { Counts self.old.faults self.new.faults (is_err result) }
+        ensures counted { self.new.faults ≡ (if is_err result then next self.old.faults else self.old.faults) }
+    {
+        if self.writer.flush().is_err() {
+            self.faults = self.faults.saturating_add(1);
+            return Err(Failed);
+        }
+        Ok(())
     }
 
     fn faults(&self) -> u64 {

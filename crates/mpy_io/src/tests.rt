@@ -50,10 +50,22 @@ fn a_file_that_is_too_long(rt: HostRuntime) -> Result<(), Fail> {
 
 #[test]
 fn a_sink_over_bytes(rt: HostRuntime) -> Result<(), Fail> {
-    let mut sink = OutSink::new(Vec::new(rt.alloc()));
+    let mut sink = OutSink::new(rt.alloc(), Vec::new(rt.alloc()));
     assert_eq!(rt; sink.put(b"ab"), Ok(()));
     assert_eq!(rt; sink.put(b""), Ok(()));
     assert_eq!(rt; sink.put(b"c"), Ok(()));
+    assert_eq!(rt; sink.writer().as_slice(), b"abc".as_slice());
+    assert_eq!(rt; sink.faults(), 0);
+    Ok(())
+}
+
+#[test]
+fn a_sink_that_gathers(rt: HostRuntime) -> Result<(), Fail> {
+    let mut sink = OutSink::gathering(rt.alloc(), Vec::new(rt.alloc()))?;
+    assert_eq!(rt; sink.put(b"ab"), Ok(()));
+    assert_eq!(rt; sink.put(b"c"), Ok(()));
+    assert_eq!(rt; sink.writer().len(), 0);
+    assert_eq!(rt; sink.flush(), Ok(()));
     assert_eq!(rt; sink.writer().as_slice(), b"abc".as_slice());
     assert_eq!(rt; sink.faults(), 0);
     Ok(())
@@ -88,13 +100,28 @@ impl Write for Slow {
 
 #[test]
 fn a_slow_writer(rt: HostRuntime) -> Result<(), Fail> {
-    let mut sink = OutSink::new(Slow {
+    let writer = Slow {
         taken: Vec::new(rt.alloc()),
         calls: 0,
-    });
+    };
+    let mut sink = OutSink::new(rt.alloc(), writer);
     assert_eq!(rt; sink.put(b"abc"), Ok(()));
     assert_eq!(rt; sink.put(b"d"), Err(Failed));
     assert_eq!(rt; sink.writer().taken.as_slice(), b"abc".as_slice());
+    assert_eq!(rt; sink.faults(), 1);
+    Ok(())
+}
+
+#[test]
+fn a_flush_that_fails(rt: HostRuntime) -> Result<(), Fail> {
+    let writer = Slow {
+        taken: Vec::new(rt.alloc()),
+        calls: 3,
+    };
+    let mut sink = OutSink::gathering(rt.alloc(), writer)?;
+    assert_eq!(rt; sink.put(b"abc"), Ok(()));
+    assert_eq!(rt; sink.flush(), Err(Failed));
+    assert_eq!(rt; sink.writer().taken.len(), 0);
     assert_eq!(rt; sink.faults(), 1);
     Ok(())
 }

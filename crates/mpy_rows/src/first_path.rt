@@ -1,8 +1,10 @@
 //! `go` for sources that only print texts.
 
-use mpy_io::{MemFolder, MemSink};
+use mpy_io::{MemFolder, MemSink, OutSink};
 use mpy_tool::mpy;
 use std::alloc::{AllocError, Global};
+use std::io;
+use std::io::Write;
 use std::test::Fail;
 
 /// A command, what the folder holds, which calls fail, and what comes of it.
@@ -201,6 +203,35 @@ fn commands_end_as_they_should(rt: HostRuntime) -> Result<(), Fail> {
         assert_eq!(rt; out.bytes(), row.out.as_bytes());
         assert_eq!(rt; say.bytes(), row.say.as_bytes());
     }
+    Ok(())
+}
+
+// A writer that takes nothing.
+#[derive(Drop)]
+struct Full;
+
+impl Write for Full {
+    fn write(&mut self, _buf: &[u8]) -> io::Result<usize> {
+        Ok(0)
+    }
+
+    fn flush(&mut self) -> io::Result<()> {
+        Ok(())
+    }
+}
+
+#[test]
+fn a_flush_that_fails(rt: HostRuntime) -> Result<(), Fail> {
+    let alloc = rt.alloc();
+    let words = texts(alloc, HI.words)?;
+    let mut folder = folder(alloc, &HI)?;
+    let mut out = OutSink::gathering(alloc, Full)?;
+    let mut say = MemSink::new(alloc, Vec::new(alloc));
+    assert_eq!(rt;
+        mpy(alloc, &words, &mut folder, &mut out, &mut say),
+        WRITE_FAULT.status
+    );
+    assert_eq!(rt; say.bytes(), WRITE_FAULT.say.as_bytes());
     Ok(())
 }
 

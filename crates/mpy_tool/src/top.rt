@@ -1,11 +1,12 @@
 //! The top call.
 
-ghost use Rattle.std.specs.Prelude.{◌≡◌, ◌≤◌, ℕ, List, Option, Some, map, string_bytes, IfOk, IfErr};
+ghost use Rattle.std.specs.Prelude.{◌≡◌, ◌≤◌, ℕ, List, [], Option, Some, map, string_bytes, IfOk, IfErr};
 ghost use Rattle.mpy_io.specs.Count.{Counts};
 ghost use Rattle.mpy_io.specs.Files.{FileOf};
 ghost use Rattle.mpy_words.specs.declared.order.Command.TheVariants as commands;
 ghost use Rattle.mpy_words.specs.Words.{order_of, first_name};
 ghost use Rattle.mpy_tool.specs.declared.ending.Ending.{Ending};
+ghost use Rattle.mpy_tool.specs.declared.ending.Ending.TheVariants.{Done};
 ghost use Rattle.mpy_tool.specs.Ending.{IsSettled, is_read_fault, is_write_fault};
 ghost use Rattle.mpy_tool.specs.Check.{Checks};
 ghost use Rattle.mpy_tool.specs.Dump.{Dumps};
@@ -17,15 +18,15 @@ use crate::dump::dump;
 use crate::ending::Ending;
 use crate::go::go;
 use crate::line::{say_ending, say_words};
-use mpy_io::{Folder, Sink};
+use mpy_io::{Failed, Folder, Sink};
 use mpy_words::{Command, Order, order_of};
 use std::alloc::Global;
 
 /// The status of words that are of no order.
 const WORDS_STATUS: u8 = 2;
 
-/// Does what is ordered on the file of this name.
-fn done<F: Folder, S: Sink>(
+/// Does what is ordered on the file of this name, and may leave some of what is printed in the sink.
+fn ran<F: Folder, S: Sink>(
     order: Order,
     alloc: Global,
     name: &str,
@@ -47,7 +48,34 @@ fn done<F: Folder, S: Sink>(
     }
 }
 
-/// Does what the words order, the program's own name left out, and answers the exit status.
+/// Does what is ordered on the file of this name, and hands on what is printed.
+fn done<F: Folder, S: Sink>(
+    order: Order,
+    alloc: Global,
+    name: &str,
+    folder: &mut F,
+    out: &mut S,
+) -> Ending
+    requires { order.level ≤ 3 }
+    ensures go { order.command ≡ commands.Go → Went order.level (F.files folder.old) name.now result (S.told out.old) (S.told out.new) }
+    ensures check { order.command ≡ commands.Check → Checks (F.files folder.old) name.now result (S.told out.old) (S.told out.new) }
+    ensures dump { order.command ≡ commands.Dump → Dumps (F.files folder.old) name.now result (S.told out.old) (S.told out.new) }
+    ensures flushed { result ≡ Done → S.held out.new ≡ [] }
+    ensures reads { Counts (F.count folder.old) (F.count folder.new) (is_read_fault result) }
+    ensures writes { Counts (S.count out.old) (S.count out.new) (is_write_fault result) }
+    ensures files { F.files folder.new ≡ F.files folder.old }
+{
+    match ran(order, alloc, name, folder, out) {
+        Ending::Done => match out.flush() {
+            Ok(()) => Ending::Done,
+            Err(Failed) => Ending::WriteFault,
+        },
+        ending => ending,
+    }
+}
+
+/// Does what the words order, the program's own name left out, and answers the exit status. The line on `say` isn't
+/// flushed: give it a sink that holds nothing back, or flush it after the call.
 pub fn mpy<F: Folder, S: Sink, E: Sink>(
     alloc: Global,
     words: &[String],
@@ -78,6 +106,9 @@ pub fn mpy<F: Folder, S: Sink, E: Sink>(
         → Ends Dumps (first_name (map string_bytes words.now))
         (seen F.files F.count S.told S.count E.told E.count folder.old out.old say.old)
         (seen F.files F.count S.told S.count E.told E.count folder.new out.new say.new) result) }
+
+    // With status 0 nothing of what is printed is held back.
+    ensures flushed { result ≡ 0 → S.held out.new ≡ [] }
 
     // No command that is built so far changes a file.
     ensures files { F.files folder.new ≡ F.files folder.old }

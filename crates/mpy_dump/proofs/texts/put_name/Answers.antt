@@ -1,11 +1,7 @@
-use Rattle.mpy_dump.specs.Texts.{name_byte}
-use Rattle.mpy_dump.proofs.Putting.{step_at, stop_at}
+use Rattle.std.proofs.Common.{sym, rules}
+use Rattle.mpy_dump.proofs.Plain.{plain_text}
+use Rattle.mpy_dump.proofs.Putting.{puts_is}
 use Rattle.mpy_dump.proofs.texts.put_name.Goals as goal
 
-pub loop-byte-preserved : goal.loop-byte-preserved
-loop-byte-preserved g c =
-    step_at name_byte c.args.name.now c.loop-byte.byte-index _ c.loop-byte-test.true c.loop-byte.invariant c.in_ok-put_name_byte.ensures
-
-pub returns-in_err-put_name_byte : goal.returns-in_err-put_name_byte
-returns-in_err-put_name_byte g c =
-    stop_at name_byte c.args.name.now c.loop-byte.byte-index _ c.from_residual.result c.from_residual.ensures.0 c.loop-byte-test.true c.loop-byte.invariant c.in_err-put_name_byte.ensures
+pub returns-else-has_numbered : goal.returns-else-has_numbered
+returns-else-has_numbered g c = puts_is (sym (plain_text c.args.name.now (search rules))) c.put.ensures

@@ -1,7 +1,7 @@
 use Rattle.std.proofs.Common.{drop}
 use Rattle.mpy_dump.specs.Texts.{name_text}
 use Rattle.mpy_dump.proofs.Putting.{Partway}
-use Rattle.mpy_dump.proofs.texts.put_name.Given as goal
+use Rattle.mpy_dump.proofs.texts.put_name_bytes.Given as goal
 
 abbrev pub invariant-loop-byte : goal.invariant-loop-byte
 invariant-loop-byte g l =
