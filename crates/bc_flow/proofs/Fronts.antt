@@ -1,21 +1,17 @@
--- The front of a table in which nothing is pending.
-use Rattle.std.proofs.Common.{◌≡◌, ◌⊎◌, ℕ, zero, suc, ◌+◌, ◌≤◌, [], ◌∷◌, Option, Some, None, refl, sym, ap, subst, arith, inl, inr}
-use Rattle.std.specs.Prelude.{option_map, IfSome, Bool, true, false}
+-- What is pending after something arrived.
+use Rattle.std.proofs.Common.{◌≡◌, ◌⊎◌, ℕ, zero, suc, [], ◌∷◌, Option, Some, None, refl, ap, inl, inr}
+use Rattle.std.specs.Prelude.{option_map, Bool, true, false}
 use Rattle.std.specs.Bool.{OnFalse}
 use Rattle.bc_flow.specs.Shape.{At}
-use Rattle.bc_flow.specs.Verified.{Cell, Table, put, done_at, meet, IsPending, here, later, IsLeast, PendingFrom}
-use Rattle.bc_flow.proofs.Joins.{On, on_at}
+use Rattle.bc_flow.specs.Verified.{Cell, Table, put, done_at, meet, IsPending, here, later}
+use Rattle.bc_flow.proofs.Joins.{On}
 use Rattle.bc_flow.proofs.Puts.{on_map}
 
-done_before : (t : Table) (p : ℕ) (x : At) (q : ℕ) (y : At) → IsPending (done_at t p x) q y → IsPending t q y
+pub done_before : (t : Table) (p : ℕ) (x : At) (q : ℕ) (y : At) → IsPending (done_at t p x) q y → IsPending t q y
 done_before [] p x q y h = h
 done_before (c ∷ t) zero x q y (later h) = later h
 done_before (c ∷ t) (suc p) x q y here = here
 done_before (c ∷ t) (suc p) x q y (later {p = r} h) = later (done_before t p x r y h)
-
--- a visited position leaves the front as it is
-pub front_done : (t : Table) (p : ℕ) (x : At) → IsLeast t p x → PendingFrom (done_at t p x) p
-front_done t p x l = record { each = λ q y h. l.least q y (done_before t p x q y h) }
 
 head_put : (c d : Cell) (t : Table) (q : ℕ) (y : At) → IsPending (d ∷ t) q y → (q ≡ 0) ⊎ IsPending (c ∷ t) q y
 head_put c d t q y here = inl refl
@@ -29,7 +25,7 @@ tail_put c t u n f q y (later {p = r} h) = elim (f r y h) [ inl e ↦ inl (ap su
 abbrev pub Adds : Table → ℕ → Table → Type 0
 Adds t n u = (q : ℕ) (y : At) → IsPending u q y → (q ≡ n) ⊎ IsPending t q y
 
-put_adds : (t : Table) (n : ℕ) (x : At) → On (put t n x) (Adds t n)
+pub put_adds : (t : Table) (n : ℕ) (x : At) → On (put t n x) (Adds t n)
 put_adds [] n x = tt
 put_adds (c ∷ t) zero x = by_meet (meet c x)
   where
@@ -37,24 +33,6 @@ put_adds (c ∷ t) zero x = by_meet (meet c x)
     by_meet None = tt
     by_meet (Some d) = head_put c d t
 put_adds (c ∷ t) (suc n) x = on_map (put t n x) (λ u. c ∷ u) (Adds t n) (Adds (c ∷ t) (suc n)) (λ u f. tail_put c t u n f) (put_adds t n x)
-
-pub front_put : (t u : Table) (n : ℕ) (x : At) (from to : ℕ) → Some u ≡ put t n x → to ≤ from → ((y : At) → IsPending u n y → to ≤ n) → PendingFrom t from → PendingFrom u to
-front_put t u n x from to e le f g = record { each = each }
-  where
-    each : (q : ℕ) (y : At) → IsPending u q y → to ≤ q
-    each q y h = elim (on_at (put t n x) (Adds t n) u (sym e) (put_adds t n x) q y h) [
-      | inl w ↦ subst (λ z. to ≤ z) (sym w) (f y (subst (λ z. IsPending u z y) w h))
-      | inr w ↦ let m = g.each q y w in omega (arith, m, le)
-    ]
-
-pub front_more : (t : Table) (p : ℕ) → PendingFrom t p → ((y : At) → IsPending t p y → ⊥) → PendingFrom t (p + 1)
-front_more t p g f = record { each = each }
-  where
-    each : (q : ℕ) (y : At) → IsPending t q y → p + 1 ≤ q
-    each q y h = let le = g.each q y h in let ne = λ (e : p ≡ q). f y (subst (λ z. IsPending t z y) (sym e) h) in omega (arith, le, ne)
-
-pub front_at : (t : Table) (o : Option ℕ) (m : ℕ) → o ≡ Some m → IfSome o (PendingFrom t) → PendingFrom t m
-front_at t o m e h = subst (λ z. IfSome z (PendingFrom t)) e h
 
 pub on_false : (b : Bool) (P : Type 0) → P → OnFalse b P
 on_false true P h = tt

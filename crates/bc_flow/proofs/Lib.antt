@@ -9,6 +9,7 @@ pub mod Loops
 pub mod Mono
 pub mod Never
 pub mod Puts
+pub mod Queues
 pub mod Rows
 pub mod Runs
 pub mod Sound

@@ -1,6 +1,6 @@
 -- The walk over the states is the definition's over their table.
 use Rattle.std.proofs.Common.{◌≡◌, ℕ, zero, suc, ◌<◌, Bool, ◌&&◌, List, [], ◌∷◌, length, map, get_or, Some, refl, sym, ap, ◌∙◌, subst, arith}
-use Rattle.std.specs.Prelude.{slice_get, Result, Ok, Err, IfOk}
+use Rattle.std.specs.Prelude.{slice_get, Result, Ok, Err, IfOk, OnOk}
 use Rattle.std.proofs.lemmas.List.{length-map}
 use Rattle.bc_ops.specs.declared.listing.Item.{Item}
 use Rattle.bc_flow.specs.Action.{Action, action}
@@ -12,8 +12,10 @@ use Rattle.bc_flow.specs.declared.walk.Judged.{Judged}
 use Rattle.bc_flow.specs.declared.walk.State.{State}
 use Rattle.bc_flow.specs.Shape.{At}
 use Rattle.bc_flow.specs.Edges.{Edge, edges, holds, finds, room, stays}
-use Rattle.bc_flow.specs.Verified.{Table, Verified, Visit, Bad, Good, visit, visit_action, after_holds, agree, put_next, done_at, IsPending, IsLeast, PendingFrom, Comes, FirstFault, table_at}
+use Rattle.bc_flow.specs.Verified.{Table, Verified, Visit, Bad, Good, visit, visit_action, after_holds, agree, put_next, done_at, IsPending, IsLeast, Comes, FirstFault, table_at}
 use Rattle.bc_flow.specs.Judged.{Judges}
+use Rattle.bc_flow.specs.Queue.{Queued}
+use Rattle.std.specs.declared.cmp.Reverse.{Reverse}
 use Rattle.bc_flow.specs.Views.{cell_of, table_of, visit_of, edge_of_rust}
 use Rattle.bc_flow.proofs.Puts.{weigh}
 use Rattle.bc_flow.proofs.Visits.{visit_on, visited_lighter, pending_in}
@@ -107,14 +109,20 @@ module _ (c : RustCode) where
   ends_least t k b h = stays_below code b h t (comes_reached code t k)
 
 -- a visit's answer is known
-pub good_from : (o : Result ℕ Rule) (states : List State) (n : ℕ) (v : Visit) → o ≡ Ok n → visit_of o states ≡ v → Good (table_of states) ≡ v
-good_from o states n v e h = subst (λ z. visit_of z states ≡ v) e h
+pub good_else : {A : Type 0} → (o : Result A Rule) (states : List State) (v : Visit) → ((r : Rule) → o ≡ Err r → ⊥) → visit_of o states ≡ v → Good (table_of states) ≡ v
+good_else (Ok a) states v f h = h
+good_else (Err r) states v f h = absurd (f r refl)
 
-pub bad_from : (o : Result ℕ Rule) (states : List State) (r : Rule) (v : Visit) → o ≡ Err r → visit_of o states ≡ v → Bad r ≡ v
+pub ok_else : {A : Type 0} → (o : Result A Rule) (P : Type 0) → ((r : Rule) → o ≡ Err r → ⊥) → OnOk o P → P
+ok_else (Ok a) P f h = h
+ok_else (Err r) P f h = absurd (f r refl)
+
+pub bad_from : {A : Type 0} → (o : Result A Rule) (states : List State) (r : Rule) (v : Visit) → o ≡ Err r → visit_of o states ≡ v → Bad r ≡ v
 bad_from o states r v e h = subst (λ z. visit_of z states ≡ v) e h
 
-pub front_from : (o : Result ℕ Rule) (t : Table) (n : ℕ) → o ≡ Ok n → IfOk o (PendingFrom t) → PendingFrom t n
-front_from o t n e h = subst (λ z. IfOk z (PendingFrom t)) e h
+-- the least was taken out of the queue
+abbrev pub Taken : Table → ℕ → List (Reverse ℕ) → Type 0
+Taken t p queue = (x : At) × IsLeast t p x × Queued (done_at t p x) queue
 
-pub least_in : (xs ys : List State) (p : ℕ) → xs ≡ ys → Least (table_of xs) p → Least (table_of ys) p
-least_in xs ys p e h = subst (λ z. Least (table_of z) p) e h
+pub taken_in : (xs ys : List State) (p : ℕ) (queue : List (Reverse ℕ)) → xs ≡ ys → Taken (table_of xs) p queue → Taken (table_of ys) p queue
+taken_in xs ys p queue e h = subst (λ z. Taken (table_of z) p queue) e h

@@ -3,6 +3,7 @@ pub mod Code
 pub mod Edges
 pub mod Judged
 pub mod Machine
+pub mod Queue
 pub mod Rules
 pub mod Shape
 pub mod Verified

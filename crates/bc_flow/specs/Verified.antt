@@ -156,10 +156,6 @@ pub data IsPending : Table → ℕ → At → Type 0 where
   here : {x : At} {t : Table} → IsPending (Pending x ∷ t) 0 x
   later : {c : Cell} {t : Table} {p : ℕ} {x : At} → IsPending t p x → IsPending (c ∷ t) (suc p) x
 
--- none is pending in front of the position
-pub record PendingFrom (t : Table) (from : ℕ) : Type 0 where
-  pub each : (q : ℕ) (y : At) → IsPending t q y → from ≤ q
-
 -- the least pending position
 pub record IsLeast (t : Table) (p : ℕ) (x : At) : Type 0 where
   pub pending : IsPending t p x

@@ -1,5 +1,5 @@
 -- What the code's values are as the definitions'.
-use Rattle.std.specs.Prelude.{◌≡◌, ℕ, Bool, true, false, List, [], ◌∷◌, ◌++◌, map, Option, Some, None, Result, Ok, Err, Vec}
+use Rattle.std.specs.Prelude.{◌≡◌, Bool, true, false, List, [], ◌∷◌, ◌++◌, map, Option, Some, None, Result, Ok, Err, Vec}
 use Rattle.std.specs.declared.alloc.Global.{Global}
 use Rattle.bc_flow.specs.declared.kinds.Want.{Want}
 use Rattle.bc_flow.specs.declared.kinds.Give.{Give}
@@ -65,9 +65,9 @@ cell_of (states.Done x) = Done (at_of x)
 abbrev pub table_of : List State → Table
 table_of states = map cell_of states
 
--- what a visit answers: the position from which on positions may be pending, or the broken rule
-abbrev pub visit_of : Result ℕ Rule → List State → Visit
-visit_of (Ok from) states = Good (table_of states)
+-- what a visit answers: nothing, or the broken rule
+abbrev pub visit_of : {A : Type 0} → Result A Rule → List State → Visit
+visit_of (Ok done) states = Good (table_of states)
 visit_of (Err rule) states = Bad rule
 
 abbrev pub has_if : Bool → List State → Option Table

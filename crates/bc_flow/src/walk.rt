@@ -1,6 +1,7 @@
 //! The table of the positions, and the walk that works through the pending ones, the least first.
 
 ghost use Rattle.std.specs.Prelude.{◌≡◌, ◌+◌, ◌<◌, ◌≤◌, ◌↔◌, ◌&&◌, not, Bool, List, is_some, IfOk, OnOk, IfErr, IfSome, IfNone, ℕ, drop, length, map, option_map, slice_get, Some, None, MatchOption};
+ghost use Rattle.std.specs.BinaryHeap.{heap_items};
 ghost use Rattle.std.specs.Bool.{OnTrue, OnFalse};
 ghost use Rattle.bc_flow.specs.Shape.{At};
 ghost use Rattle.bc_flow.specs.Edges as edges_specs;
@@ -8,8 +9,9 @@ ghost use Rattle.bc_flow.specs.Code.{Code as SpecCode, code_of};
 ghost use Rattle.bc_flow.specs.declared.code.Code.{Code as RustCode};
 ghost use Rattle.bc_flow.specs.Machine.{NeverStuck};
 ghost use Rattle.bc_flow.specs.Verified as specs;
-ghost use Rattle.bc_flow.specs.Verified.{Verified, Holds, FirstFault, IsLeast, IsLeastOf, IsPending, PendingFrom, Decides, at};
+ghost use Rattle.bc_flow.specs.Verified.{Verified, Holds, FirstFault, IsLeast, IsLeastOf, IsPending, Decides, at, done_at};
 ghost use Rattle.bc_flow.specs.Judged.{Judges};
+ghost use Rattle.bc_flow.specs.Queue.{Queued};
 ghost use Rattle.bc_flow.specs.Views.{action_of, at_of, edge_of_rust, cell_of, table_of, visit_of, has_if};
 
 use crate::action::{Action, action_at};
@@ -19,6 +21,8 @@ use crate::rules::{base, finds, holds, room, stays};
 use crate::shape::{Entry, Shape, join, opens, same_entries};
 use mpy_base::NoMemory;
 use std::alloc::Global;
+use std::cmp::Reverse;
+use std::collections::BinaryHeap;
 use std::mem;
 
 /// What is known of a position.
@@ -151,39 +155,47 @@ fn is_pending(states: &[State], n: usize) -> bool
     n < states.len() && matches!(&states[n], State::Pending(_))
 }
 
-/// The lesser of `from` and of `n`, if that is pending.
-fn lower_pending(states: &[State], n: usize, from: usize) -> usize
-    ensures below { result ≤ from }
-    ensures here { (y : At) → IsPending (table_of states.now) n y → result ≤ n }
+/// Lets the shape of an edge arrive, if it may, and queues the position where it gets pending.
+fn put_edge(
+    alloc: Global,
+    states: &mut Vec<State>,
+    queue: &mut BinaryHeap<Reverse<usize>>,
+    edge: Edge,
+) -> Result<bool, NoMemory>
+    ensures table { IfOk result (λ b. has_if b states.new.items
+        ≡ specs.put (table_of states.old.items) edge.to (at_of edge.at)) }
+    ensures queued { Queued (table_of states.old.items) (heap_items queue.old)
+        → IfOk result (λ b. OnTrue b (Queued (table_of states.new.items) (heap_items queue.new))) }
 {
-    if n < from && is_pending(states, n) {
-        n
-    } else {
-        from
+    let to = edge.to;
+    let was_pending = is_pending(states, to);
+    if !put(alloc, states, to, edge.at)? {
+        return Ok(false);
     }
+    if !was_pending && is_pending(states, to) {
+        queue.push(Reverse(to))?;
+    }
+    Ok(true)
 }
 
-/// Lets all edges arrive, if they may. The answer is a position in front of which none is pending, where none was in
-/// front of `from`.
+/// Lets all edges arrive, if they may.
 fn put_all(
     alloc: Global,
     states: &mut Vec<State>,
+    queue: &mut BinaryHeap<Reverse<usize>>,
     edges: Vec<Edge>,
-    mut from: usize,
-) -> Result<Option<usize>, NoMemory>
-    ensures table { IfOk result (λ o. has_if (is_some o) states.new.items
+) -> Result<bool, NoMemory>
+    ensures table { IfOk result (λ b. has_if b states.new.items
         ≡ specs.put_next (map edge_of_rust edges.items) (Some (table_of states.old.items))) }
-    ensures pending { PendingFrom (table_of states.old.items) from
-        → IfOk result (λ o. IfSome o (PendingFrom (table_of states.new.items))) }
+    ensures queued { Queued (table_of states.old.items) (heap_items queue.old)
+        → IfOk result (λ b. OnTrue b (Queued (table_of states.new.items) (heap_items queue.new))) }
 {
     for edge in edges {
-        let to = edge.to;
-        if !put(alloc, states, to, edge.at)? {
-            return Ok(None);
+        if !put_edge(alloc, states, queue, edge)? {
+            return Ok(false);
         }
-        from = lower_pending(states, to, from);
     }
-    Ok(Some(from))
+    Ok(true)
 }
 
 fn set_done(states: &mut Vec<State>, p: usize)
@@ -233,20 +245,21 @@ fn judge(
     })
 }
 
-/// Marks the position as visited and lets its edges arrive. The answer is a position in front of which none is pending,
-/// or the rule that is broken.
+/// Marks the position as visited and lets its edges arrive, or answers the rule that is broken.
 fn act(
     alloc: Global,
     states: &mut Vec<State>,
+    queue: &mut BinaryHeap<Reverse<usize>>,
     p: usize,
     judged: Judged,
-) -> Result<Result<usize, Rule>, NoMemory>
+) -> Result<Result<(), Rule>, NoMemory>
     requires { p < length states.now.items }
     ensures table { (x : At) → IsPending (table_of states.old.items) p x → IfOk result (λ r. visit_of r states.new.items
         ≡ specs.after_holds (judged.handlers && judged.meets) judged.height judged.state judged.falls
-        (specs.put_next (map edge_of_rust judged.edges.items) (Some (specs.done_at (table_of states.old.items) p x)))) }
-    ensures pending { (x : At) → IsLeast (table_of states.old.items) p x
-        → IfOk result (λ r. IfOk r (PendingFrom (table_of states.new.items))) }
+        (specs.put_next (map edge_of_rust judged.edges.items) (Some (done_at (table_of states.old.items) p x)))) }
+    ensures queued { (x : At) → IsPending (table_of states.old.items) p x
+        → Queued (done_at (table_of states.old.items) p x) (heap_items queue.old)
+        → IfOk result (λ r. OnOk r (Queued (table_of states.new.items) (heap_items queue.new))) }
 {
     if !judged.handlers || !judged.meets {
         return Ok(Err(Rule::Handlers));
@@ -255,17 +268,16 @@ fn act(
         return Ok(Err(Rule::Height));
     }
     set_done(states, p);
-    let from = match put_all(alloc, states, judged.edges, p)? {
-        Some(from) => from,
-        None => return Ok(Err(Rule::Height)),
-    };
+    if !put_all(alloc, states, queue, judged.edges)? {
+        return Ok(Err(Rule::Height));
+    }
     if !judged.state {
         return Ok(Err(Rule::State));
     }
     if !judged.falls {
         return Ok(Err(Rule::Falls));
     }
-    Ok(Ok(from))
+    Ok(Ok(()))
 }
 
 /// Tries the rules at a pending position, in their order, and lets its edges arrive.
@@ -274,31 +286,34 @@ fn visit(
     code: &Code,
     locals: usize,
     states: &mut Vec<State>,
+    queue: &mut BinaryHeap<Reverse<usize>>,
     p: usize,
-) -> Result<Result<usize, Rule>, NoMemory>
+) -> Result<Result<(), Rule>, NoMemory>
     requires long { length states.now.items ≡ length code.now.items.items }
     requires within { p < length code.now.items.items }
     requires pending { (x : At) × IsPending (table_of states.now.items) p x }
     requires locals_are { locals ≡ (code_of code.now).locals }
     ensures table { (x : At) → IsPending (table_of states.old.items) p x → IfOk result (λ r. visit_of r states.new.items
         ≡ specs.visit (code_of code.now) (table_of states.old.items) p x) }
-    ensures pending { (x : At) → IsLeast (table_of states.old.items) p x
-        → IfOk result (λ r. IfOk r (PendingFrom (table_of states.new.items))) }
+    ensures queued { (x : At) → IsPending (table_of states.old.items) p x
+        → Queued (done_at (table_of states.old.items) p x) (heap_items queue.old)
+        → IfOk result (λ r. OnOk r (Queued (table_of states.new.items) (heap_items queue.new))) }
 {
     let judged = match &states[p] {
         State::Pending(x) => judge(alloc, code, locals, states, p, x)?,
         _ => unreachable!(),
     };
-    act(alloc, states, p, judged)
+    act(alloc, states, queue, p, judged)
 }
 
-/// The least pending position, where none is pending in front of `from`.
-fn least(states: &[State], from: usize) -> Option<usize>
-    requires { PendingFrom (table_of states.now) from }
-    ensures some { IfSome result (λ p. (x : At) × IsLeast (table_of states.now) p x) }
+/// Takes the least pending position out of the queue.
+fn least(states: &[State], queue: &mut BinaryHeap<Reverse<usize>>) -> Option<usize>
+    requires { Queued (table_of states.now) (heap_items queue.now) }
+    ensures some { IfSome result (λ p. (x : At) × IsLeast (table_of states.now) p x
+        × Queued (done_at (table_of states.now) p x) (heap_items queue.new)) }
     ensures none { IfNone result ((p : ℕ) (x : At) → IsPending (table_of states.now) p x → ⊥) }
 {
-    for p in from..states.len() {
+    while let Some(Reverse(p)) = queue.pop() {
         if is_pending(states, p) {
             return Some(p);
         }
@@ -343,11 +358,11 @@ pub fn flow(alloc: Global, code: &Code) -> Result<Result<Vec<State>, Fault>, NoM
     }
     let locals = locals(code);
     let mut states = start(alloc, size)?;
-    let mut from = 0;
-    while let Some(p) = least(&states, from) {
-        match visit(alloc, code, locals, &mut states, p)? {
-            Ok(next) => from = next,
-            Err(rule) => return Ok(Err(Fault { rule, position: p })),
+    let mut queue = BinaryHeap::new(alloc);
+    queue.push(Reverse(0))?;
+    while let Some(p) = least(&states, &mut queue) {
+        if let Err(rule) = visit(alloc, code, locals, &mut states, &mut queue, p)? {
+            return Ok(Err(Fault { rule, position: p }));
         }
     }
     Ok(Ok(states))

@@ -1,9 +1,9 @@
 use Rattle.std.proofs.Common.{sym, subst}
-use Rattle.bc_flow.specs.Verified.{PendingFrom}
-use Rattle.bc_flow.proofs.Fronts.{front_done, front_at}
+use Rattle.std.specs.BinaryHeap.{heap_items}
+use Rattle.bc_flow.specs.Queue.{Queued}
+use Rattle.bc_flow.proofs.Queues.{on_true}
 use Rattle.bc_flow.proofs.walk.act.Goals as goal
 
-pub returns-clause-pending : goal.returns-clause-pending
-returns-clause-pending c x l =
-    front_at _ c.in_ok-from.field-0 c.in-Some.from c.in-Some.is
-    (c.in_ok-from.ensures.pending (subst (λ t. PendingFrom t c.args.p) (sym (c.set_done.ensures x l.pending)) (front_done _ c.args.p x l)))
+pub returns-clause-queued : goal.returns-clause-queued
+returns-clause-queued c x w q =
+    on_true _ _ c.if-not-branch.false (c.in_ok-put_all.ensures.queued (subst (λ t. Queued t (heap_items c.args.queue.now)) (sym (c.set_done.ensures x w)) q))
