@@ -5,5 +5,6 @@ mod look;
 mod names;
 mod truths;
 
+pub use look::{Look, look_at};
 pub use names::builtin_name;
 pub use truths::truth;

@@ -12,7 +12,7 @@ use arena_objects::{list_len, range_parts, text_bytes, tuple_len};
 
 /// What a walk sees of a value. A tuple or list comes with its count of items.
 #[derive(Clone, Copy)]
-pub(crate) enum Look<'a> {
+pub enum Look<'a> {
     Nothing,
     Number(i32),
     Text(&'a [u8]),
@@ -24,7 +24,7 @@ pub(crate) enum Look<'a> {
 }
 
 /// A look at a value.
-pub(crate) fn look_at<'a, C: Constants>(arena: &'a Arena, consts: &'a C, v: Value) -> Look<'a>
+pub fn look_at<'a, C: Constants>(arena: &'a Arena, consts: &'a C, v: Value) -> Look<'a>
     requires leads { Leads arena.now.objects v }
     requires told { IsTold (C.text_of consts.now) (C.items_of consts.now) v }
     ensures shown { seen (C.text_of consts.now) (C.items_of consts.now) arena.now v result ≡ shown (plain_heap (C.text_of consts.now) (C.items_of consts.now) arena.now) (plain (C.text_of consts.now) (C.items_of consts.now) v) }
