@@ -1,0 +1,4 @@
+pub mod Heaps
+pub mod Outcomes
+pub mod TypeNames
+pub mod Wordings

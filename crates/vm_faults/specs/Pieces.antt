@@ -1,0 +1,31 @@
+-- Texts in pieces.
+use Rattle.std.specs.Prelude.{◌≡◌, ℕ, ◌+◌, ◌≤◌, List, length, Option}
+use Rattle.std.specs.Fmt.{decimal}
+use Rattle.std.specs.List.{flat_map}
+use Rattle.mpy_base.specs.World.{Heap}
+use Rattle.arena_heap.specs.declared.value.Value.{Value}
+use Rattle.arena_heap.specs.declared.value.StrNo.{StrNo}
+use Rattle.arena_heap.specs.declared.value.ConstNo.{ConstNo}
+use Rattle.py_primitives.specs.Faults.{fault_text}
+use Rattle.vm_faults.specs.declared.fault.Fault.{Fault}
+use Rattle.vm_faults.specs.Faults.{plain_fault, name_in}
+use Rattle.vm_faults.specs.declared.piece.Piece.{Piece}
+use Rattle.vm_faults.specs.declared.piece.Piece.TheVariants.{Text, Number, Name}
+
+abbrev pub piece_text : List ℕ → Piece → List ℕ
+piece_text name (Text text) = text.now
+piece_text name (Number n) = decimal n
+piece_text name Name = name
+
+-- the text of pieces, one behind another
+abbrev pub wording_text : List ℕ → List Piece → List ℕ
+wording_text name pieces = flat_map (piece_text name) pieces
+
+-- the text is the name with a few bytes more at most
+abbrev pub AreFew : List Piece → Type 0
+AreFew pieces = (name : List ℕ) → length (wording_text name pieces) ≤ 512 + length name
+
+-- the pieces of a fault's text, whatever its name is
+abbrev pub IsWordingOf : Fault → List Piece → Type 0
+IsWordingOf fault pieces =
+    (texts : StrNo → Option (List ℕ)) (tuples : ConstNo → Option (List Value)) (heap : Heap Value ℕ) → wording_text (name_in texts tuples heap fault) pieces ≡ fault_text (plain_fault texts tuples heap fault)

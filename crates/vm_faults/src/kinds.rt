@@ -1,0 +1,44 @@
+//! The kinds of faults.
+
+ghost use Rattle.std.specs.Prelude.{◌≡◌};
+ghost use Rattle.py_primitives.specs.Faults.{number_kind as kind_of_number};
+ghost use Rattle.vm_faults.specs.Faults.{IsKindOf};
+
+use crate::fault::Fault;
+use mpy_base::Kind;
+use py_values::NumFault;
+
+fn number_kind(fault: NumFault) -> Kind
+    ensures { result ≡ kind_of_number fault }
+{
+    match fault {
+        NumFault::Overflow => Kind::OverflowError,
+        NumFault::ZeroDivide => Kind::ZeroDivisionError,
+        NumFault::NegativeShift | NumFault::NegativePower => Kind::ValueError,
+    }
+}
+
+/// The kind of exceptions that a fault is.
+pub fn fault_kind(fault: Fault) -> Kind
+    ensures { IsKindOf fault result }
+{
+    match fault {
+        Fault::Arithmetic(fault) => number_kind(fault),
+        Fault::OutOfRange(_) | Fault::EmptyList => Kind::IndexError,
+        Fault::NoKey(_) => Kind::KeyError,
+        Fault::NoAttribute { .. } => Kind::AttributeError,
+        Fault::ZeroStep
+        | Fault::NothingToCompare
+        | Fault::NoNumeral
+        | Fault::NoCode
+        | Fault::EmptySeparator
+        | Fault::NoSuchPort
+        | Fault::UnpacksMore(_)
+        | Fault::UnpacksFewer(_) => Kind::ValueError,
+        Fault::PortFailed => Kind::OsError,
+        Fault::NoSuchName(_) | Fault::Unassigned => Kind::NameError,
+        Fault::NotImported(_) => Kind::ImportError,
+        Fault::NothingToRaise | Fault::TooDeep => Kind::RuntimeError,
+        _ => Kind::TypeError,
+    }
+}

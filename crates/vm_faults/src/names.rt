@@ -1,0 +1,43 @@
+//! The names that faults have.
+
+ghost use Rattle.std.specs.Prelude.{◌≡◌, IsSome};
+ghost use Rattle.arena_objects.specs.Iterables.{or_nothing, spelled};
+ghost use Rattle.vm_faults.specs.Faults.{IsKnownFault, IsKnownStr, name_in};
+
+use crate::fault::Fault;
+use arena_heap::{Arena, Constants, StrNo, Value};
+use arena_objects::text_bytes;
+
+fn constant_name<C: Constants>(consts: &C, name: StrNo) -> &[u8]
+    requires { IsSome (C.text_of consts.now name) }
+    ensures { result.now ≡ or_nothing (C.text_of consts.now name) }
+{
+    consts.text(name).unwrap()
+}
+
+fn made_name<'a, C: Constants>(arena: &'a Arena, consts: &'a C, name: Value) -> &'a [u8]
+    requires { IsKnownStr (C.text_of consts.now) (C.items_of consts.now) arena.now.objects name }
+    ensures { result.now ≡ spelled (C.text_of consts.now) arena.now name }
+{
+    text_bytes(arena, consts, name)
+}
+
+/// The name that a fault has, and no bytes where it has none.
+pub(crate) fn fault_name<'a, C: Constants>(
+    arena: &'a Arena,
+    consts: &'a C,
+    fault: Fault,
+) -> &'a [u8]
+    requires { IsKnownFault (C.text_of consts.now) (C.items_of consts.now) arena.now.objects fault }
+    ensures { result.now ≡ name_in (C.text_of consts.now) (C.items_of consts.now) arena.now fault }
+{
+    match fault {
+        Fault::NoAttribute { name, .. } | Fault::NoSuchName(name) | Fault::NotImported(name) => {
+            constant_name(consts, name)
+        }
+        Fault::UnknownKeyword(name) | Fault::RepeatedKeyword(name) | Fault::NotAStr(name) => {
+            made_name(arena, consts, name)
+        }
+        _ => &[],
+    }
+}
