@@ -1,1 +1,9 @@
+pub mod EqualSteps
+pub mod FoundKeys
+pub mod FoundPairs
+pub mod Identities
+pub mod OrderSteps
+pub mod PlainOrders
 pub mod PlainValues
+pub mod RangeTests
+pub mod RunSteps

@@ -6,12 +6,12 @@ use Rattle.arena_heap.specs.declared.value.Value.{Value}
 use Rattle.arena_heap.specs.declared.value.Value.TheVariants as values
 use Rattle.arena_heap.specs.declared.value.StrNo.{StrNo}
 use Rattle.arena_heap.specs.declared.value.ConstNo.{ConstNo}
-use Rattle.mpy_base.specs.World.{RangeObject, Heap, object}
+use Rattle.mpy_base.specs.World.{TextObject, RangeObject, Heap, AText, IsA, object, kind_of, text_of, text_at}
 use Rattle.mpy_base.specs.Val.{Val, At, vals}
 use Rattle.arena_heap.specs.Values.{ArenaObject}
 use Rattle.arena_heap.specs.Constants.{NestsWithin}
 use Rattle.arena_objects.specs.Iterables.{or_nothing}
-use Rattle.py_values.specs.Shown.{PlainHeap, Tuple, Range, shown, shown_object}
+use Rattle.py_values.specs.Shown.{PlainHeap, Text, Tuple, Range, shown, shown_object}
 use Rattle.vm_walks.specs.Plain.{vals_from, fixed_of, plain_by, fixed_within, plain, plain_object, plain_heap}
 
 vals_same : (v : Val) (vs : List Val) → vals (vals_from v vs) ≡ v ∷ vs
@@ -26,6 +26,13 @@ shown_fixed heap (v ∷ vs) = ap (λ (ws : List Val). Tuple ws) (vals_same v vs)
 module _ (texts : StrNo → Option (List ℕ)) (tuples : ConstNo → Option (List Value)) where
   pub object_plain : (objects : List (Option ArenaObject)) (n : ℕ) → object (map (plain_object texts tuples) objects) n ≡ plain_object texts tuples (object objects n)
   object_plain objects n = get_or-map (plain_object texts tuples) objects n None
+
+  of_text : (o : Option ArenaObject) → kind_of o ≡ Some AText → shown_object (plain_object texts tuples o) ≡ Text (text_of o)
+  of_text (Some (TextObject bytes)) e = refl
+  of_text _ e = absurd cc
+
+  pub text_shown : (heap : Heap Value ℕ) (n : ℕ) → IsA heap.objects AText n → shown (plain_heap texts tuples heap) (At n) ≡ Text (text_at heap n)
+  text_shown heap n is = ap shown_object (object_plain heap.objects n) ∙ of_text (object heap.objects n) is
 
   pub range_shown : (heap : Heap Value ℕ) (n : ℕ) (start stop step : ℤ) → object heap.objects n ≡ Some (RangeObject start stop step) → shown (plain_heap texts tuples heap) (At n) ≡ Range start stop step
   range_shown heap n start stop step e = ap shown_object (object_plain heap.objects n) ∙ ap (λ (o : Option ArenaObject). shown_object (plain_object texts tuples o)) e

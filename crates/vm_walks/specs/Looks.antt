@@ -1,7 +1,6 @@
 -- What a look at a value of an arena shows.
 use Rattle.std.specs.Prelude.{◌≡◌, ◌≢◌, ℕ, pos, List, length, map, Option}
 use Rattle.arena_heap.specs.declared.value.Value.{Value}
-use Rattle.arena_heap.specs.declared.value.Value.TheVariants as values
 use Rattle.arena_heap.specs.declared.value.StrNo.{StrNo}
 use Rattle.arena_heap.specs.declared.value.ConstNo.{ConstNo}
 use Rattle.mpy_base.specs.World.{Heap, ADict, IsA, pairs_at}
@@ -11,14 +10,6 @@ use Rattle.py_values.specs.Shown.{Shown, Nothing, Number, Text, Tuple, Items, Pa
 use Rattle.vm_walks.specs.declared.look.Look.{Look}
 use Rattle.vm_walks.specs.declared.look.Look.TheVariants as looks
 use Rattle.vm_walks.specs.Plain.{plain, plain_pair}
-
--- a list or a tuple
-abbrev pub IsSequence : Value → Type 0
-IsSequence (values.Fixed c) = Unit {0}
-IsSequence values.Empty = Unit {0}
-IsSequence (values.List l) = Unit {0}
-IsSequence (values.Tuple t) = Unit {0}
-IsSequence _ = ⊥
 
 module _ (texts : StrNo → Option (List ℕ)) (tuples : ConstNo → Option (List Value)) (heap : Heap Value ℕ) (v : Value) where
   -- the same of the meaning's value
@@ -34,8 +25,8 @@ module _ (texts : StrNo → Option (List ℕ)) (tuples : ConstNo → Option (Lis
 
   -- what the parts of a look are
   abbrev pub IsLook : Look → Type 0
-  IsLook (looks.Tuple count) = IsSequence v × (count ≡ length (items_in tuples heap v))
-  IsLook (looks.Items count) = IsSequence v × (count ≡ length (items_in tuples heap v))
+  IsLook (looks.Tuple count) = count ≡ length (items_in tuples heap v)
+  IsLook (looks.Items count) = count ≡ length (items_in tuples heap v)
   IsLook (looks.Pairs d) = IsA heap.objects ADict d.cell
   IsLook (looks.Range start stop step) = IsSmall start × IsSmall stop × IsSmall step × (step ≢ pos 0)
   IsLook _ = Unit {0}
