@@ -1,8 +1,10 @@
 -- A piece that is written in parts.
-use Rattle.std.proofs.Common.{◌≡◌, ℕ, ◌-◌, ◌<◌, ◌≤◌, List, [], ◌++◌, length, take, drop, Option, Some, None, IfSome, option_map, sym, ap, subst, ◌∙◌, append_assoc, arith}
+use Rattle.std.proofs.Common.{◌≡◌, ℕ, ◌-◌, ◌<◌, ◌≤◌, List, [], ◌++◌, length, take, drop, Option, Some, None, IfSome, Result, Ok, Err, OnErr, option_map, sym, ap, subst, ◌∙◌, append_assoc, arith}
 use Rattle.std.proofs.lemmas.List.{take-append-drop, take_rest, take_all, length-take-le}
 use Rattle.std.proofs.KnownBytes.{Appends-trans}
 use Rattle.std.specs.Io.KnownBytes.{Appends, Keeps}
+use Rattle.mpy_io.specs.declared.fault.Failed.{Failed}
+use Rattle.mpy_io.specs.Told.{AppendsFront}
 
 -- the front of the piece was written, and the rest is left
 pub record Halfway (old new : Option (List ℕ)) (piece rest : List ℕ) : Type 0 where
@@ -28,6 +30,20 @@ wrote_none old mid new piece rest later half same e = record {
   front = half.front;
   parts = half.parts ∙ ap (λ (xs : List ℕ). half.front ++ xs) (sym e);
   added = still_added old mid new half.front half.added same;
+}
+
+parts_of : (piece later : List ℕ) (n : ℕ) → later ≡ take (length piece - n) (drop n piece) → piece ≡ take n piece ++ later
+parts_of piece later n e =
+    sym (take-append-drop n piece) ∙ ap (λ (xs : List ℕ). take n piece ++ xs) (sym (take_rest piece n) ∙ sym e)
+
+-- behind the front that a first write took, the rest was cut
+pub cut_in_rest : (old mid new : Option (List ℕ)) (piece later : List ℕ) (n : ℕ) (r : Result (Unit {0}) Failed) → Appends old mid (take n piece) → later ≡ take (length piece - n) (drop n piece) → OnErr r (AppendsFront mid new later) → OnErr r (AppendsFront old new piece)
+cut_in_rest old mid new piece later n (Ok _) added e cut = tt
+cut_in_rest old mid new piece later n (Err _) added e cut = record {
+  front = take n piece ++ cut.front;
+  rest = cut.rest;
+  parts = parts_of piece later n e ∙ (ap (λ (xs : List ℕ). take n piece ++ xs) cut.parts ∙ sym (append_assoc (take n piece) cut.front cut.rest));
+  added = Appends-trans old mid new (take n piece) cut.front added cut.added;
 }
 
 is_shorter : (xs : List ℕ) (limit : ℕ) → length (take limit xs) < limit → length xs < limit

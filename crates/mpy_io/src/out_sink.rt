@@ -106,6 +106,25 @@ fn write_through<W: Write>(writer: &mut W, bytes: &[u8]) -> Result<(), Failed>
     ensures ok { OnOk result (Appends (W.contents writer.old) (W.contents writer.new) bytes.now) }
     ensures err { OnErr result (AppendsFront (W.contents writer.old) (W.contents writer.new) bytes.now) }
 {
+    if bytes.is_empty() {
+        return Ok(());
+    }
+    match writer.write(bytes) {
+        Ok(count) if count == bytes.len() => Ok(()),
+        Ok(0) => Err(Failed),
+        Ok(count) => write_rest(writer, &bytes[count..]),
+        Err(error) if error.kind() == ErrorKind::Interrupted => write_rest(writer, bytes),
+        Err(_) => Err(Failed),
+    }
+}
+
+// What a first write left. It stands apart, so that a piece that is taken at once costs little.
+#[cold]
+#[inline(never)]
+fn write_rest<W: Write>(writer: &mut W, bytes: &[u8]) -> Result<(), Failed>
+    ensures ok { OnOk result (Appends (W.contents writer.old) (W.contents writer.new) bytes.now) }
+    ensures err { OnErr result (AppendsFront (W.contents writer.old) (W.contents writer.new) bytes.now) }
+{
     let mut rest = bytes;
     for _ in 0..u64::MAX {
         if rest.is_empty() {

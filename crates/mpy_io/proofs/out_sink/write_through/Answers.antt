@@ -1,11 +1,7 @@
 use Rattle.std.proofs.Common.{rules}
-use Rattle.mpy_io.proofs.Written.{wrote_more, wrote_none}
+use Rattle.mpy_io.proofs.Written.{cut_in_rest}
 use Rattle.mpy_io.proofs.out_sink.write_through.Goals as goal
-use Rattle.mpy_io.proofs.out_sink.write_through.Goals.{in-Ok, in-Err}
 
-pub loop-preserved : goal.loop-preserved
-loop-preserved g c =
-    elim c.match-write.branch [
-      | in-Ok w ↦ wrote_more _ _ _ _ c.loop.rest.now c.match-write.rest.now _ c.loop.invariant w.in-Ok.ensures.bytes (search rules)
-      | in-Err w ↦ wrote_none _ _ _ _ c.loop.rest.now c.match-write.rest.now c.loop.invariant w.in-Err.ensures.bytes (search rules)
-    ]
+pub returns-in-Ok-2-clause-err : goal.returns-in-Ok-2-clause-err
+returns-in-Ok-2-clause-err g c =
+    cut_in_rest _ _ _ c.args.bytes.now _ c.in-Ok-2.count c.write_rest.result c.in-Ok-2.ensures.bytes (search rules) c.write_rest.ensures.err
