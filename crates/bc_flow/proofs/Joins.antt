@@ -109,7 +109,7 @@ under_trans x y z f g = record { slots = belows_trans x.slots y.slots z.slots f.
 
 -- Where two meet: above both, below all that are above both, with fewer b or the same.
 
-join_kind_on : (k l : Kind) → On (join_kind k l) (λ m. Below k m × Below l m)
+pub join_kind_on : (k l : Kind) → On (join_kind k l) (λ m. Below k m × Below l m)
 join_kind_on kinds.Value kinds.Value = (same, same)
 join_kind_on kinds.Value kinds.Either = (same, value)
 join_kind_on kinds.Cause kinds.Cause = (same, same)

@@ -3,6 +3,7 @@ pub mod Few
 pub mod Fronts
 pub mod Going
 pub mod Items
+pub mod Joining
 pub mod Joins
 pub mod Judging
 pub mod Loops

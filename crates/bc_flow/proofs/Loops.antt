@@ -1,7 +1,6 @@
 -- Steps of the code's loops.
-use Rattle.std.proofs.Common.{◌≡◌, ℕ, zero, suc, ◌+◌, ◌-◌, ◌<◌, ◌≤◌, Bool, true, false, ◌&&◌, List, [], ◌∷◌, ◌++◌, length, get_or, take, drop, map, replicate, Option, Some, None, refl, sym, ap, ◌∙◌, arith, if◌then◌else◌, append_assoc}
+use Rattle.std.proofs.Common.{◌≡◌, ℕ, zero, suc, ◌+◌, ◌-◌, ◌<◌, ◌≤◌, Bool, true, false, ◌&&◌, List, [], ◌∷◌, ◌++◌, length, get_or, take, drop, map, replicate, refl, sym, ap, ◌∙◌, arith, if◌then◌else◌, append_assoc}
 use Rattle.std.proofs.Common.{length-append, length-drop}
-use Rattle.std.specs.Prelude.{option_map}
 use Rattle.std.proofs.lemmas.List.{drop_more, drop_all, length-map, take_all}
 use Rattle.std.proofs.lemmas.Bool.{true≢false}
 use Rattle.bc_flow.specs.declared.kinds.Kind.{Kind}
@@ -13,15 +12,8 @@ use Rattle.bc_flow.specs.declared.kinds.Want.{Want}
 use Rattle.bc_flow.specs.declared.kinds.Want.TheVariants as wants
 use Rattle.bc_flow.specs.declared.shape.Entry.{Entry}
 use Rattle.std.specs.Prelude.{nat_le, nat_lt, min}
-use Rattle.bc_flow.specs.Edges.{Edge, rest_of, floor, is_marked, lowest, Way, way_in, raise_ways, one_run, run_ways, edges_marked, edge_of, all_marked}
-use Rattle.bc_flow.specs.Shape.{At, stands, fits, are_values, give_of, after, join_kind, both, join, is_either, opens, same_entry, same_entries}
-
-abbrev pub prefix : List Kind → Option (List Kind) → Option (List Kind)
-prefix ks o = option_map (λ ls. ks ++ ls) o
-
-pub prefix_more : (ks : List Kind) (m : Kind) (o : Option (List Kind)) → prefix ks (both (Some m) o) ≡ prefix (ks ++ m ∷ []) o
-prefix_more ks m None = refl
-prefix_more ks m (Some ls) = ap Some (sym (append_assoc ks (m ∷ []) ls))
+use Rattle.bc_flow.specs.Edges.{Edge, rest_of, floor, is_marked, lowest, Way, way_in, raise_ways, one_run, run_ways, edges_marked, edge_of, all_marked, mark, pushed}
+use Rattle.bc_flow.specs.Shape.{At, stands, fits, are_values, give_of, after, same_entry, same_entries}
 
 pub drop_uncons : {A : Type 0} → (xs : List A) (i : ℕ) (x : A) → i < length xs → x ≡ get_or xs i x → drop i xs ≡ x ∷ drop (i + 1) xs
 drop_uncons xs i x lt e = drop_more xs i x lt ∙ ap (λ y. y ∷ drop (i + 1) xs) (sym e)
@@ -29,34 +21,59 @@ drop_uncons xs i x lt e = drop_more xs i x lt ∙ ap (λ y. y ∷ drop (i + 1) x
 pub fits_step : (ws : List Want) (ks : List Kind) (i : ℕ) (w : Want) (k : Kind) → i < length ws → i < length ks → w ≡ get_or ws i w → k ≡ get_or ks i k → fits (drop i ws) (drop i ks) ≡ (stands w k && fits (drop (i + 1) ws) (drop (i + 1) ks))
 fits_step ws ks i w k a b e f = ap (λ z. fits z (drop i ks)) (drop_uncons ws i w a e) ∙ ap (λ z. fits (w ∷ drop (i + 1) ws) z) (drop_uncons ks i k b f)
 
-pub join_step : (ks ls : List Kind) (i : ℕ) (k l : Kind) → i < length ks → i < length ls → k ≡ get_or ks i k → l ≡ get_or ls i l → join (drop i ks) (drop i ls) ≡ both (join_kind k l) (join (drop (i + 1) ks) (drop (i + 1) ls))
-join_step ks ls i k l a b e f = ap (λ z. join z (drop i ls)) (drop_uncons ks i k a e) ∙ ap (λ z. join (k ∷ drop (i + 1) ks) z) (drop_uncons ls i l b f)
+-- entries that arrive, with their marks
+entries_step : (ds es : List Entry) (to i : ℕ) (e f : Entry) → i < length ds → i < length es → e ≡ mark to (get_or es i e) → same_entries (drop i ds) (map (mark to) (drop i es)) ≡ (same_entry (get_or ds i f) e && same_entries (drop (i + 1) ds) (map (mark to) (drop (i + 1) es)))
+entries_step ds es to i e f a b q =
+    ap (λ z. same_entries z (map (mark to) (drop i es))) (drop_more ds i f a)
+    ∙ ap (λ z. same_entries (get_or ds i f ∷ drop (i + 1) ds) (map (mark to) z)) (drop_more es i e b)
+    ∙ ap (λ z. same_entry (get_or ds i f) z && same_entries (drop (i + 1) ds) (map (mark to) (drop (i + 1) es))) (sym q)
 
-pub join_none : (ks ls : List Kind) → (length ks ≡ length ls → ⊥) → None ≡ join ks ls
-join_none [] [] f = absurd (f refl)
-join_none [] (l ∷ ls) f = refl
-join_none (k ∷ ks) [] f = refl
-join_none (k ∷ ks) (l ∷ ls) f = both_none (join_kind k l) ∙ ap (both (join_kind k l)) (join_none ks ls (λ e. f (ap suc e)))
-  where
-    both_none : (o : Option Kind) → None ≡ both o None
-    both_none None = refl
-    both_none (Some k) = refl
+arriving_step : (ds es : List Entry) (from to i : ℕ) (d e : Entry) → i < length ds → i < length es → d ≡ mark from (get_or ds i d) → e ≡ mark to (get_or es i e) → same_entries (map (mark from) (drop i ds)) (map (mark to) (drop i es)) ≡ (same_entry d e && same_entries (map (mark from) (drop (i + 1) ds)) (map (mark to) (drop (i + 1) es)))
+arriving_step ds es from to i d e a b p q =
+    ap (λ z. same_entries (map (mark from) z) (map (mark to) (drop i es))) (drop_more ds i d a)
+    ∙ ap (λ z. same_entries (mark from (get_or ds i d) ∷ map (mark from) (drop (i + 1) ds)) (map (mark to) z)) (drop_more es i e b)
+    ∙ ap (λ z. same_entry z (mark to (get_or es i e)) && same_entries (map (mark from) (drop (i + 1) ds)) (map (mark to) (drop (i + 1) es))) (sym p)
+    ∙ ap (λ z. same_entry d z && same_entries (map (mark from) (drop (i + 1) ds)) (map (mark to) (drop (i + 1) es))) (sym q)
 
-pub entries_step : (ds es : List Entry) (i : ℕ) (d e : Entry) → i < length ds → i < length es → d ≡ get_or ds i d → e ≡ get_or es i e → same_entries (drop i ds) (drop i es) ≡ (same_entry d e && same_entries (drop (i + 1) ds) (drop (i + 1) es))
-entries_step ds es i d e a b p q = ap (λ z. same_entries z (drop i es)) (drop_uncons ds i d a p) ∙ ap (λ z. same_entries (d ∷ drop (i + 1) ds) z) (drop_uncons es i e b q)
+and_on : (r a b : Bool) → r ≡ a → r ≡ true → (a && b) ≡ b
+and_on r a b e t = ap (λ z. z && b) (sym e ∙ t)
 
-pub entries_differ : (ds es : List Entry) → (length ds ≡ length es → ⊥) → false ≡ same_entries ds es
-entries_differ [] [] f = absurd (f refl)
-entries_differ [] (e ∷ es) f = refl
-entries_differ (d ∷ ds) [] f = refl
-entries_differ (d ∷ ds) (e ∷ es) f = sym (and_false (same_entry d e) (same_entries ds es) (sym (entries_differ ds es (λ p. f (ap suc p)))))
+and_off : (r a b : Bool) → r ≡ a → r ≡ false → (a && b) ≡ false
+and_off r a b e t = ap (λ z. z && b) (sym e ∙ t)
+
+pub entries_on : (ds es : List Entry) (to i : ℕ) (e f : Entry) (r : Bool) → i < length ds → i < length es → e ≡ mark to (get_or es i e) → r ≡ same_entry (get_or ds i f) e → r ≡ true → same_entries (drop i ds) (map (mark to) (drop i es)) ≡ same_entries (drop (i + 1) ds) (map (mark to) (drop (i + 1) es))
+entries_on ds es to i e f r a b q s t = entries_step ds es to i e f a b q ∙ and_on r _ _ s t
+
+pub entries_off : (ds es : List Entry) (to i : ℕ) (e f : Entry) (r : Bool) → i < length ds → i < length es → e ≡ mark to (get_or es i e) → r ≡ same_entry (get_or ds i f) e → r ≡ false → same_entries (drop i ds) (map (mark to) (drop i es)) ≡ false
+entries_off ds es to i e f r a b q s t = entries_step ds es to i e f a b q ∙ and_off r _ _ s t
+
+pub arriving_on : (ds es : List Entry) (from to i : ℕ) (d e : Entry) (r : Bool) → i < length ds → i < length es → d ≡ mark from (get_or ds i d) → e ≡ mark to (get_or es i e) → r ≡ same_entry d e → r ≡ true → same_entries (map (mark from) (drop i ds)) (map (mark to) (drop i es)) ≡ same_entries (map (mark from) (drop (i + 1) ds)) (map (mark to) (drop (i + 1) es))
+arriving_on ds es from to i d e r a b p q s t = arriving_step ds es from to i d e a b p q ∙ and_on r _ _ s t
+
+pub arriving_off : (ds es : List Entry) (from to i : ℕ) (d e : Entry) (r : Bool) → i < length ds → i < length es → d ≡ mark from (get_or ds i d) → e ≡ mark to (get_or es i e) → r ≡ same_entry d e → r ≡ false → same_entries (map (mark from) (drop i ds)) (map (mark to) (drop i es)) ≡ false
+arriving_off ds es from to i d e r a b p q s t = arriving_step ds es from to i d e a b p q ∙ and_off r _ _ s t
+
+pub entries_end : (ds es : List Entry) (to i : ℕ) → length ds ≤ i → length es ≤ i → same_entries (drop i ds) (map (mark to) (drop i es)) ≡ true
+entries_end ds es to i a b = ap (λ z. same_entries z (map (mark to) (drop i es))) (drop_all i ds a) ∙ ap (λ z. same_entries [] (map (mark to) z)) (drop_all i es b)
+
+pub arriving_end : (ds es : List Entry) (from to i : ℕ) → length ds ≤ i → length es ≤ i → same_entries (map (mark from) (drop i ds)) (map (mark to) (drop i es)) ≡ true
+arriving_end ds es from to i a b = ap (λ z. same_entries (map (mark from) z) (map (mark to) (drop i es))) (drop_all i ds a) ∙ ap (λ z. same_entries [] (map (mark to) z)) (drop_all i es b)
+
+unlike : (ds es : List Entry) → (length ds ≡ length es → ⊥) → false ≡ same_entries ds es
+unlike [] [] f = absurd (f refl)
+unlike [] (e ∷ es) f = refl
+unlike (d ∷ ds) [] f = refl
+unlike (d ∷ ds) (e ∷ es) f = sym (and_false (same_entry d e) (same_entries ds es) (sym (unlike ds es (λ p. f (ap suc p)))))
   where
     and_false : (a b : Bool) → b ≡ false → (a && b) ≡ false
     and_false true b h = h
     and_false false b h = refl
 
-pub opens_step : (ks : List Kind) (i : ℕ) (k : Kind) → i < length ks → k ≡ get_or ks i k → opens (drop i ks) ≡ (if is_either k then suc (opens (drop (i + 1) ks)) else opens (drop (i + 1) ks))
-opens_step ks i k lt e = ap opens (drop_uncons ks i k lt e)
+pub entries_differ : (ds es : List Entry) (to : ℕ) → (length ds ≡ length es → ⊥) → false ≡ same_entries ds (map (mark to) es)
+entries_differ ds es to f = unlike ds (map (mark to) es) (λ h. f (h ∙ length-map es (mark to)))
+
+pub arriving_differ : (ds es : List Entry) (from to : ℕ) → (length ds ≡ length es → ⊥) → false ≡ same_entries (map (mark from) ds) (map (mark to) es)
+arriving_differ ds es from to f = unlike (map (mark from) ds) (map (mark to) es) (λ h. f (sym (length-map ds (mark from)) ∙ h ∙ length-map es (mark to)))
 
 pub and_first : (a b : Bool) → a ≡ false → (a && b) ≡ false
 and_first true b h = absurd (true≢false h)
@@ -74,12 +91,83 @@ fits_short (w ∷ ws) (k ∷ ks) zero a b = absurd (omega (arith, b))
 fits_short (w ∷ ws) [] (suc i) a b = fits_none ws i (omega (arith, a))
 fits_short (w ∷ ws) (k ∷ ks) (suc i) a b = fits_short ws ks i (omega (arith, a)) (omega (arith, b))
 
-pub prefix_none : (ks : List Kind) (a : Option Kind) (o : Option (List Kind)) → a ≡ None → prefix ks (both a o) ≡ None
-prefix_none ks None o e = refl
-prefix_none ks (Some k) o e = cc
+marked_step : (to : ℕ) (es : List Entry) (i : ℕ) (e : Entry) → i < length es → e ≡ mark to (get_or es i e) → is_marked to (map (mark to) (drop i es)) ≡ ((if e.active then nat_le e.handler to else nat_lt to e.handler) && is_marked to (map (mark to) (drop (i + 1) es)))
+marked_step to es i e lt h =
+    ap (λ z. is_marked to (map (mark to) z)) (drop_more es i e lt)
+    ∙ ap (λ z. (if z.active then nat_le z.handler to else nat_lt to z.handler) && is_marked to (map (mark to) (drop (i + 1) es))) (sym h)
 
-pub marked_step : (to : ℕ) (es : List Entry) (i : ℕ) (e : Entry) → i < length es → e ≡ get_or es i e → is_marked to (drop i es) ≡ ((if e.active then nat_le e.handler to else nat_lt to e.handler) && is_marked to (drop (i + 1) es))
-marked_step to es i e lt h = ap (is_marked to) (drop_uncons es i e lt h)
+pub marked_on : (to : ℕ) (es : List Entry) (i : ℕ) (e : Entry) (r : Bool) → i < length es → e ≡ mark to (get_or es i e) → r ≡ (if e.active then nat_le e.handler to else nat_lt to e.handler) → r ≡ true → is_marked to (map (mark to) (drop i es)) ≡ is_marked to (map (mark to) (drop (i + 1) es))
+marked_on to es i e r lt h s t = marked_step to es i e lt h ∙ and_on r _ _ s t
+
+pub marked_off : (to : ℕ) (es : List Entry) (i : ℕ) (e : Entry) (r : Bool) → i < length es → e ≡ mark to (get_or es i e) → r ≡ (if e.active then nat_le e.handler to else nat_lt to e.handler) → r ≡ false → is_marked to (map (mark to) (drop i es)) ≡ false
+marked_off to es i e r lt h s t = marked_step to es i e lt h ∙ and_off r _ _ s t
+
+pub marked_end : (to : ℕ) (es : List Entry) (i : ℕ) → length es ≤ i → is_marked to (map (mark to) (drop i es)) ≡ true
+marked_end to es i le = ap (λ z. is_marked to (map (mark to) z)) (drop_all i es le)
+
+pub mark_more : (to : ℕ) (es : List Entry) (i : ℕ) (e : Entry) → i < length es → e ≡ mark to (get_or es i e) → map (mark to) (take i es) ++ e ∷ [] ≡ map (mark to) (take (i + 1) es)
+mark_more to [] i e lt h = absurd (omega (arith, lt))
+mark_more to (d ∷ es) zero e lt h = ap (λ z. z ∷ []) h ∙ ap (λ n. map (mark to) (take n (d ∷ es))) (let q : 1 ≡ zero + 1 = omega arith in q)
+mark_more to (d ∷ es) (suc i) e lt h =
+    ap (λ z. mark to d ∷ z) (mark_more to es i e (omega (arith, lt)) h)
+    ∙ ap (λ n. map (mark to) (take n (d ∷ es))) (let q : suc (i + 1) ≡ suc i + 1 = omega arith in q)
+
+pub mark_all : (to : ℕ) (es : List Entry) (i : ℕ) → length es ≤ i → map (mark to) (take i es) ≡ map (mark to) es
+mark_all to es i le = ap (map (mark to)) (take_all i es le)
+
+pub after_size : (gs : List Give) (n : ℕ) (ks : List Kind) → length (after gs n ks) ≡ length gs + (length ks - n)
+after_size gs n ks = length-append (map (give_of ks) gs) (drop n ks) ∙ ap (λ z. z + length (drop n ks)) (length-map gs (give_of ks)) ∙ ap (λ z. length gs + z) (let e = length-drop n ks in let q : length (drop n ks) ≡ length ks - n = omega (arith, e) in q)
+
+-- the slots that arrive, one by one
+pub slot_value : (n i : ℕ) (gs : List Give) (taken : ℕ) (ks : List Kind) (d : Kind) → i < n → get_or (after (replicate n (New kinds.Value) ++ gs) taken ks) i d ≡ kinds.Value
+slot_value zero i gs taken ks d lt = absurd (omega (arith, lt))
+slot_value (suc n) zero gs taken ks d lt = refl
+slot_value (suc n) (suc i) gs taken ks d lt = slot_value n i gs taken ks d (omega (arith, lt))
+
+slot_past : (n i : ℕ) (gs : List Give) (taken : ℕ) (ks : List Kind) (d : Kind) → n ≤ i → get_or (after (replicate n (New kinds.Value) ++ gs) taken ks) i d ≡ get_or (after gs taken ks) (i - n) d
+slot_past zero i gs taken ks d le = ap (λ j. get_or (after gs taken ks) j d) (let q : i ≡ i - zero = omega arith in q)
+slot_past (suc n) zero gs taken ks d le = absurd (omega (arith, le))
+slot_past (suc n) (suc i) gs taken ks d le = slot_past n i gs taken ks d (omega (arith, le)) ∙ ap (λ j. get_or (after gs taken ks) j d) (let q : i - n ≡ suc i - suc n = omega arith in q)
+
+slot_given : (i : ℕ) (gs : List Give) (js ks : List Kind) (g : Give) (d : Kind) → i < length gs → get_or (map (give_of ks) gs ++ js) i d ≡ give_of ks (get_or gs i g)
+slot_given i [] js ks g d lt = absurd (omega (arith, lt))
+slot_given zero (h ∷ gs) js ks g d lt = refl
+slot_given (suc i) (h ∷ gs) js ks g d lt = slot_given i gs js ks g d (omega (arith, lt))
+
+slot_below : (i : ℕ) (gs : List Give) (js ks : List Kind) (d : Kind) → length gs ≤ i → get_or (map (give_of ks) gs ++ js) i d ≡ get_or js (i - length gs) d
+slot_below i [] js ks d le = ap (λ j. get_or js j d) (let q : i ≡ i - zero = omega arith in q)
+slot_below zero (h ∷ gs) js ks d le = absurd (omega (arith, le))
+slot_below (suc i) (h ∷ gs) js ks d le = slot_below i gs js ks d (omega (arith, le)) ∙ ap (λ j. get_or js j d) (let q : i - length gs ≡ suc i - suc (length gs) = omega arith in q)
+
+get_drop : (n i : ℕ) (ks : List Kind) (d : Kind) → get_or (drop n ks) i d ≡ get_or ks (n + i) d
+get_drop zero i ks d = ap (λ j. get_or ks j d) (let q : i ≡ zero + i = omega arith in q)
+get_drop (suc n) i [] d = refl
+get_drop (suc n) i (k ∷ ks) d = get_drop n i ks d ∙ ap (λ j. get_or (k ∷ ks) j d) (let q : suc (n + i) ≡ suc n + i = omega arith in q)
+
+-- whatever stands for what isn't there
+pub at_rest : {A : Type 0} → (xs : List A) (i : ℕ) (x d : A) → i < length xs → x ≡ get_or xs i x → x ≡ get_or xs i d
+at_rest [] i x d lt e = absurd (omega (arith, lt))
+at_rest (y ∷ xs) zero x d lt e = e
+at_rest (y ∷ xs) (suc i) x d lt e = at_rest xs i x d (omega (arith, lt)) e
+
+pub at_cons : {A : Type 0} → (y : A) (xs : List A) (i : ℕ) (x d : A) → i < length (y ∷ xs) → (i ≡ 0 → ⊥) → x ≡ get_or xs (i - 1) x → x ≡ get_or (y ∷ xs) i d
+at_cons y xs zero x d lt f e = absurd (f refl)
+at_cons y xs (suc i) x d lt f e = at_rest xs i x d (omega (arith, lt)) (e ∙ ap (λ j. get_or xs j x) (let q : suc i - 1 ≡ i = omega arith in q))
+
+pub slot_other : (n i : ℕ) (gs : List Give) (taken : ℕ) (ks : List Kind) (g : Give) (d : Kind) → n ≤ i → i - n < length gs → give_of ks (get_or gs (i - n) g) ≡ get_or (after (replicate n (New kinds.Value) ++ gs) taken ks) i d
+slot_other n i gs taken ks g d le lt = sym (slot_past n i gs taken ks d le ∙ slot_given (i - n) gs (drop taken ks) ks g d lt)
+
+same_read : (ks : List Kind) (i : ℕ) (d e : Kind) → i < length ks → get_or ks i d ≡ get_or ks i e
+same_read [] i d e lt = absurd (omega (arith, lt))
+same_read (k ∷ ks) zero d e lt = refl
+same_read (k ∷ ks) (suc i) d e lt = same_read ks i d e (omega (arith, lt))
+
+pub slot_found : (n i : ℕ) (gs : List Give) (taken : ℕ) (ks : List Kind) (d e : Kind) → n ≤ i → length gs ≤ i - n → taken + (i - n - length gs) < length ks → get_or ks (taken + (i - n - length gs)) e ≡ get_or (after (replicate n (New kinds.Value) ++ gs) taken ks) i d
+slot_found n i gs taken ks d e le lt within = same_read ks (taken + (i - n - length gs)) e d within ∙ sym (slot_past n i gs taken ks d le ∙ slot_below (i - n) gs (drop taken ks) ks d lt ∙ get_drop taken (i - n - length gs) ks d)
+
+pub slots_size : (n : ℕ) (gs : List Give) (taken : ℕ) (ks : List Kind) → length (after (replicate n (New kinds.Value) ++ gs) taken ks) ≡ n + length gs + (length ks - taken)
+slots_size zero gs taken ks = after_size gs taken ks ∙ (let q : length gs + (length ks - taken) ≡ zero + length gs + (length ks - taken) = omega arith in q)
+slots_size (suc n) gs taken ks = let e = slots_size n gs taken ks in let q : suc (length (after (replicate n (New kinds.Value) ++ gs) taken ks)) ≡ suc n + length gs + (length ks - taken) = omega (arith, e) in q
 
 pub lowest_end : (k n : ℕ) (es : List Entry) (i : ℕ) → length es ≤ i → lowest k (drop i es) n ≡ n
 lowest_end zero n es i h = refl
@@ -157,6 +245,10 @@ after_is ks n i taken gs given left out e le f g =
     g ∙ ap (λ z. z ++ left) (e ∙ ap (λ z. replicate n kinds.Value ++ map (give_of ks) z) (take_all i gs le) ∙ sym (given_values ks n gs))
     ∙ ap (λ z. map (give_of ks) (replicate n (New kinds.Value) ++ gs) ++ z) f
 
+pub pushed_is : (last : Bool) (gs : List Give) (ks : List Kind) → gs ≡ (if last then New kinds.Cause ∷ [] else New kinds.Either ∷ []) → after (replicate 0 (New kinds.Value) ++ gs) 0 ks ≡ pushed last ks
+pushed_is true gs ks e = ap (λ z. map (give_of ks) z ++ ks) e
+pushed_is false gs ks e = ap (λ z. map (give_of ks) z ++ ks) e
+
 map_append : {A B : Type 0} → (f : A → B) (xs ys : List A) → map f (xs ++ ys) ≡ map f xs ++ map f ys
 map_append f [] ys = refl
 map_append f (x ∷ xs) ys = ap (λ z. f x ∷ z) (map_append f xs ys)
@@ -169,9 +261,6 @@ run_edges_more f ws vs k i es bs d lt lk b q =
     ∙ append_assoc ws (map f (one_run (get_or es i d) (drop (i + 1) es))) (map f (run_ways (k - (i + 1)) (drop (i + 1) es)))
     ∙ ap (λ z. ws ++ z) (sym (map_append f (one_run (get_or es i d) (drop (i + 1) es)) (run_ways (k - (i + 1)) (drop (i + 1) es))))
     ∙ ap (λ z. ws ++ map f z) (sym (ap (λ z. run_ways (k - i) z) (drop_more es i d lt) ∙ ap (λ m. run_ways m (get_or es i d ∷ drop (i + 1) es)) n))
-
-pub after_size : (gs : List Give) (n : ℕ) (ks : List Kind) → length (after gs n ks) ≡ length gs + (length ks - n)
-after_size gs n ks = length-append (map (give_of ks) gs) (drop n ks) ∙ ap (λ z. z + length (drop n ks)) (length-map gs (give_of ks)) ∙ ap (λ z. length gs + z) (let e = length-drop n ks in let q : length (drop n ks) ≡ length ks - n = omega (arith, e) in q)
 
 pub after_values : (n : ℕ) (ws : List Want) (ks : List Kind) (a b r : Bool) → n ≤ length ks → a ≡ are_values (take n ks) → b ≡ fits ws (drop n ks) → r ≡ (a && b) → r ≡ fits (new_values n ++ ws) ks
 after_values n ws ks a b r le e f g = g ∙ ap (λ z. z && b) e ∙ ap (λ z. are_values (take n ks) && z) f ∙ sym (fits_values n ws ks le)

@@ -1,17 +1,20 @@
 -- Steps of the code's loops over its table.
-use Rattle.std.proofs.Common.{◌≡◌, ℕ, zero, suc, ◌+◌, ◌<◌, ◌≤◌, true, false, not, ◌&&◌, List, [], ◌∷◌, ◌++◌, length, map, get_or, set, drop, replicate, Option, Some, None, refl, sym, ap, ◌∙◌, subst, arith, if◌then◌else◌}
+use Rattle.std.proofs.Common.{◌≡◌, ℕ, zero, suc, ◌+◌, ◌<◌, ◌≤◌, Bool, true, false, not, ◌&&◌, List, [], ◌∷◌, ◌++◌, length, map, get_or, set, drop, replicate, Option, Some, None, refl, sym, ap, ◌∙◌, subst, arith, if◌then◌else◌}
 use Rattle.std.specs.Prelude.{slice_get, option_map, nat_eq, ◌||◌}
+use Rattle.std.proofs.lemmas.Bool.{and_parts, and_from, eq-eqb, false≢true}
+use Rattle.std.proofs.lemmas.List.{drop_more}
 use Rattle.bc_flow.specs.declared.shape.Entry.{Entry}
 use Rattle.bc_flow.specs.declared.edges.Edge.{Edge as RustEdge}
 use Rattle.bc_flow.specs.declared.shape.Shape.{Shape}
 use Rattle.bc_flow.specs.declared.walk.State.{State}
 use Rattle.bc_flow.specs.declared.walk.State.TheVariants as Rust
 use Rattle.bc_flow.specs.declared.kinds.Kind.{Kind}
-use Rattle.bc_flow.specs.Shape.{At, join, same_entries}
+use Rattle.bc_flow.specs.Shape.{At, join, opens, same_entries}
+use Rattle.bc_flow.specs.Joins.{Joins}
 use Rattle.bc_flow.proofs.Joins.{same_entries_is}
 use Rattle.bc_flow.specs.Edges.{Edge}
-use Rattle.bc_flow.specs.Verified.{Cell, Unseen, Pending, Done, Table, meet_at, meet, put, put_next, agrees_cell, agrees, others, agree, done_at, IsPending, here, later, table_at, begin}
-use Rattle.bc_flow.specs.Views.{cell_of, at_of, edge_of_rust}
+use Rattle.bc_flow.specs.Verified.{Cell, Unseen, Pending, Done, Table, meet_at, settle, meet, put, put_next, agrees_cell, agrees, others, agree, done_at, IsPending, here, later, table_at, begin}
+use Rattle.bc_flow.specs.Views.{cell_of, cell_if, has_if, at_of, edge_of_rust}
 use Rattle.bc_flow.proofs.Loops.{drop_uncons}
 use Rattle.bc_flow.proofs.Visits.{pending_in}
 
@@ -25,10 +28,10 @@ agrees_out [] n es h = refl
 agrees_out (c ∷ cells) zero es h = absurd (omega (arith, h))
 agrees_out (c ∷ cells) (suc n) es h = agrees_out cells n es (omega (arith, h))
 
-pub others_step : (e : Edge) (es : List RustEdge) (k : ℕ) (f : RustEdge) → k < length es → f ≡ get_or es k f → others e (map edge_of_rust (drop k es)) ≡ ((not (nat_eq e.to f.to) || same_entries e.at.entries f.at.entries.items) && others e (map edge_of_rust (drop (k + 1) es)))
+pub others_step : (e : Edge) (es : List RustEdge) (k : ℕ) (f : RustEdge) → k < length es → f ≡ get_or es k f → others e (map edge_of_rust (drop k es)) ≡ ((not (nat_eq e.to f.to) || same_entries e.at.entries (edge_of_rust f).at.entries) && others e (map edge_of_rust (drop (k + 1) es)))
 others_step e es k f lt h = ap (λ z. others e (map edge_of_rust z)) (drop_uncons es k f lt h)
 
-pub agree_step : (t : Table) (es : List RustEdge) (k : ℕ) (e : RustEdge) → k < length es → e ≡ get_or es k e → agree t (map edge_of_rust (drop k es)) ≡ (agrees t e.to e.at.entries.items && others (edge_of_rust e) (map edge_of_rust (drop (k + 1) es)) && agree t (map edge_of_rust (drop (k + 1) es)))
+pub agree_step : (t : Table) (es : List RustEdge) (k : ℕ) (e : RustEdge) → k < length es → e ≡ get_or es k e → agree t (map edge_of_rust (drop k es)) ≡ (agrees t e.to (edge_of_rust e).at.entries && others (edge_of_rust e) (map edge_of_rust (drop (k + 1) es)) && agree t (map edge_of_rust (drop (k + 1) es)))
 agree_step t es k e lt h = ap (λ z. agree t (map edge_of_rust z)) (drop_uncons es k e lt h)
 
 map-set : (cells : List State) (n : ℕ) (c : State) → map cell_of (set cells n c) ≡ set (map cell_of cells) n (cell_of c)
@@ -56,7 +59,7 @@ put_out [] n x h = refl
 put_out (c ∷ cells) zero x h = absurd (omega (arith, h))
 put_out (c ∷ cells) (suc n) x h = ap (option_map (λ u. cell_of c ∷ u)) (put_out cells n x (omega (arith, h)))
 
-pub put_next_step : (t : Table) (es : List RustEdge) (k : ℕ) (e : RustEdge) → k < length es → e ≡ get_or es k e → put_next (map edge_of_rust (drop k es)) (Some t) ≡ put_next (map edge_of_rust (drop (k + 1) es)) (put t e.to (at_of e.at))
+pub put_next_step : (t : Table) (es : List RustEdge) (k : ℕ) (e : RustEdge) → k < length es → e ≡ get_or es k e → put_next (map edge_of_rust (drop k es)) (Some t) ≡ put_next (map edge_of_rust (drop (k + 1) es)) (put t e.to (edge_of_rust e).at)
 put_next_step t es k e lt h = ap (λ z. put_next (map edge_of_rust z) (Some t)) (drop_uncons es k e lt h)
 
 pub put_next_none : (es : List Edge) (o : Option Table) → o ≡ None → put_next es o ≡ None
@@ -158,9 +161,144 @@ not_pending_at states p d f y w = not_here states p (get_or states p d) (same_ge
 pub past_pending : (states : List State) (p : ℕ) → length states ≤ p → (y : At) → IsPending (map cell_of states) p y → ⊥
 past_pending states p le y w = let lt = pending_in (map cell_of states) p y w in let e = length-cells states in omega (arith, lt, e, le)
 
--- where shapes meet that have the same entries
-pub meet_some : (y x : At) (s : List Kind) → same_entries y.entries x.entries ≡ true → join y.slots x.slots ≡ Some s → Some (let z : At = record { slots = s; entries = x.entries } in z) ≡ meet_at y x
-meet_some y x s t e =
-    ap (λ l. Some (let z : At = record { slots = s; entries = l } in z)) (sym (same_entries_is y.entries x.entries t))
-    ∙ sym (ap (λ b. if b then option_map (λ l. let z : At = record { slots = l; entries = y.entries } in z) (join y.slots x.slots) else None) t
-    ∙ ap (option_map (λ l. let z : At = record { slots = l; entries = y.entries } in z)) e)
+-- Slots that are joined where they are.
+
+abbrev pub with_slots : List Entry → List Kind → At
+with_slots es s = record { slots = s; entries = es }
+
+meet_is : (y x : At) (o : Option (List Kind)) → same_entries y.entries x.entries ≡ true → join y.slots x.slots ≡ o → meet_at y x ≡ option_map (with_slots y.entries) o
+meet_is y x o t e =
+    ap (λ b. if b then option_map (with_slots y.entries) (join y.slots x.slots) else None) t
+    ∙ ap (option_map (with_slots y.entries)) e
+
+pub meet_pending : (y x : At) (s : List Kind) (b : Bool) → same_entries y.entries x.entries ≡ true → Joins y.slots x.slots s b → Some (Pending (with_slots y.entries s)) ≡ meet (Pending y) x
+meet_pending y x s b t j = sym (ap (option_map Pending) (meet_is y x (Some s) t j.is))
+
+pub meet_changed : (y x : At) (s : List Kind) → same_entries y.entries x.entries ≡ true → Joins y.slots x.slots s true → Some (Pending (with_slots y.entries s)) ≡ meet (Done y) x
+meet_changed y x s t j =
+    let less = j.fewer in
+    let ne : nat_eq (opens s) (opens y.slots) ≡ false = grind (arith, less) in
+    sym (ap (option_map (settle y)) (meet_is y x (Some s) t j.is) ∙ ap (λ b. Some (if b then Done (with_slots y.entries s) else Pending (with_slots y.entries s))) ne)
+
+pub meet_kept : (y x : At) (s : List Kind) → same_entries y.entries x.entries ≡ true → Joins y.slots x.slots s false → Some (Done (with_slots y.entries s)) ≡ meet (Done y) x
+meet_kept y x s t j =
+    let e : nat_eq (opens s) (opens y.slots) ≡ true = eq-eqb (opens s) (opens y.slots) (ap opens j.kept) in
+    sym (ap (option_map (settle y)) (meet_is y x (Some s) t j.is) ∙ ap (λ b. Some (if b then Done (with_slots y.entries s) else Pending (with_slots y.entries s))) e)
+
+pub meet_unseen : (c : Cell) (x y : At) → c ≡ Unseen → y ≡ x → Some (Pending y) ≡ meet c x
+meet_unseen c x y e f = ap (λ z. Some (Pending z)) f ∙ ap (λ z. meet z x) (sym e)
+
+pub refuse_pending : (y x : At) → same_entries y.entries x.entries ≡ true → join y.slots x.slots ≡ None → None ≡ meet (Pending y) x
+refuse_pending y x t e = sym (ap (option_map Pending) (meet_is y x None t e))
+
+pub refuse_done : (y x : At) → same_entries y.entries x.entries ≡ true → join y.slots x.slots ≡ None → None ≡ meet (Done y) x
+refuse_done y x t e = sym (ap (option_map (settle y)) (meet_is y x None t e))
+
+pub put_meets : (cells : List State) (n : ℕ) (x : At) (s c : State) (b : Bool) → n < length cells → s ≡ get_or cells n s → cell_if b c ≡ meet (cell_of s) x → has_if b (set cells n c) ≡ put (map cell_of cells) n x
+put_meets cells n x s c true lt e h = put_some cells n x s c lt e h
+put_meets cells n x s c false lt e h = put_none cells n x s lt e h
+
+-- Lists of entries still agree.
+
+agrees_done : (t : Table) (p n : ℕ) (x : At) (es : List Entry) → IsPending t p x → agrees (done_at t p x) n es ≡ agrees t n es
+agrees_done t p zero x es here = refl
+agrees_done t p (suc n) x es here = refl
+agrees_done t p zero x es (later w) = refl
+agrees_done t p (suc n) x es (later {t = u} {p = q} w) = agrees_done u q n x es w
+
+pub agree_done : (t : Table) (p : ℕ) (x : At) (es : List Edge) → IsPending t p x → agree (done_at t p x) es ≡ agree t es
+agree_done t p x [] w = refl
+agree_done t p x (e ∷ es) w = ap (λ b. b && others e es && agree (done_at t p x) es) (agrees_done t p e.to x e.at.entries w) ∙ ap (λ b. agrees t e.to e.at.entries && others e es && b) (agree_done t p x es w)
+
+none_some : {A : Type 0} → (x : A) → Some x ≡ None → ⊥
+none_some x e = cc
+
+some_is : {A : Type 0} → (x y : A) → Some x ≡ Some y → x ≡ y
+some_is x y e = cc
+
+settled : (b : Bool) (z : At) (es : List Entry) → same_entries z.entries es ≡ true → agrees_cell (if b then Done z else Pending z) es ≡ true
+settled true z es h = h
+settled false z es h = h
+
+-- what arrived at a position has the entries that were there, or its own
+cell_after : (c : Cell) (x : At) (d : Cell) (es : List Entry) → Some d ≡ meet c x → agrees_cell c x.entries ≡ true → same_entries x.entries es ≡ true → agrees_cell d es ≡ true
+cell_after Unseen x d es e a s = subst (λ z. agrees_cell z es ≡ true) (some_is (Pending x) d (sym e)) s
+cell_after (Pending y) x d es e a s = by_join (join y.slots x.slots) refl
+  where
+    ends : same_entries y.entries es ≡ true
+    ends = subst (λ z. same_entries z es ≡ true) (sym (same_entries_is y.entries x.entries a)) s
+
+    by_join : (o : Option (List Kind)) → join y.slots x.slots ≡ o → agrees_cell d es ≡ true
+    by_join None h = absurd (none_some d (e ∙ ap (option_map Pending) (meet_is y x None a h)))
+    by_join (Some l) h = subst (λ z. agrees_cell z es ≡ true) (sym (some_is d (Pending (with_slots y.entries l)) (e ∙ ap (option_map Pending) (meet_is y x (Some l) a h)))) ends
+cell_after (Done y) x d es e a s = by_join (join y.slots x.slots) refl
+  where
+    ends : same_entries y.entries es ≡ true
+    ends = subst (λ z. same_entries z es ≡ true) (sym (same_entries_is y.entries x.entries a)) s
+
+    by_join : (o : Option (List Kind)) → join y.slots x.slots ≡ o → agrees_cell d es ≡ true
+    by_join None h = absurd (none_some d (e ∙ ap (option_map (settle y)) (meet_is y x None a h)))
+    by_join (Some l) h =
+        subst (λ q. agrees_cell q es ≡ true) (sym (some_is d (settle y (with_slots y.entries l)) (e ∙ ap (option_map (settle y)) (meet_is y x (Some l) a h))))
+        (settled (nat_eq (opens l) (opens y.slots)) (with_slots y.entries l) es ends)
+
+-- after an edge, at the target of another
+agrees_after : (t u : Table) (n : ℕ) (x : At) (m : ℕ) (es : List Entry) → Some u ≡ put t n x → agrees t n x.entries ≡ true → agrees t m es ≡ true → (n ≡ m → same_entries x.entries es ≡ true) → agrees u m es ≡ true
+agrees_after [] u n x m es e a b f = absurd (false≢true a)
+agrees_after (c ∷ t) u zero x m es e a b f = by_meet (meet c x) refl
+  where
+    at_place : (d : Cell) (m : ℕ) → Some d ≡ meet c x → agrees (c ∷ t) m es ≡ true → (zero ≡ m → same_entries x.entries es ≡ true) → agrees (d ∷ t) m es ≡ true
+    at_place d zero h b f = cell_after c x d es h a (f refl)
+    at_place d (suc m) h b f = b
+
+    by_meet : (o : Option Cell) → o ≡ meet c x → agrees u m es ≡ true
+    by_meet None h = absurd (none_some u (e ∙ ap (option_map (λ d. d ∷ t)) (sym h)))
+    by_meet (Some d) h = subst (λ v. agrees v m es ≡ true) (sym (some_is u (d ∷ t) (e ∙ ap (option_map (λ d. d ∷ t)) (sym h)))) (at_place d m h b f)
+agrees_after (c ∷ t) u (suc n) x m es e a b f = by_put (λ v m h b f. agrees_after t v n x m es h a b f) (put t n x) refl
+  where
+    at_place : ((v : Table) (m : ℕ) → Some v ≡ put t n x → agrees t m es ≡ true → (n ≡ m → same_entries x.entries es ≡ true) → agrees v m es ≡ true) → (v : Table) (m : ℕ) → Some v ≡ put t n x → agrees (c ∷ t) m es ≡ true → (suc n ≡ m → same_entries x.entries es ≡ true) → agrees (c ∷ v) m es ≡ true
+    at_place g v zero h b f = b
+    at_place g v (suc m) h b f = g v m h b (λ q. f (ap suc q))
+
+    by_put : ((v : Table) (m : ℕ) → Some v ≡ put t n x → agrees t m es ≡ true → (n ≡ m → same_entries x.entries es ≡ true) → agrees v m es ≡ true) → (o : Option Table) → o ≡ put t n x → agrees u m es ≡ true
+    by_put g None h = absurd (none_some u (e ∙ ap (option_map (λ v. c ∷ v)) (sym h)))
+    by_put g (Some v) h = subst (λ w. agrees w m es ≡ true) (sym (some_is u (c ∷ v) (e ∙ ap (option_map (λ v. c ∷ v)) (sym h)))) (at_place g v m h b f)
+
+not_other : (a b : Bool) → (not a || b) ≡ true → a ≡ true → b ≡ true
+not_other true b h e = h
+not_other false b h e = absurd (false≢true e)
+
+agree_others : (t u : Table) (e : Edge) (es : List Edge) → Some u ≡ put t e.to e.at → agrees t e.to e.at.entries ≡ true → others e es ≡ true → agree t es ≡ true → agree u es ≡ true
+agree_others t u e [] h a o g = refl
+agree_others t u e (f ∷ fs) h a o g =
+    let os = and_parts (not (nat_eq e.to f.to) || same_entries e.at.entries f.at.entries) (others e fs) o in
+    let gs = and_parts (agrees t f.to f.at.entries && others f fs) (agree t fs) g in
+    let hs = and_parts (agrees t f.to f.at.entries) (others f fs) gs.0 in
+    and_from (agrees u f.to f.at.entries && others f fs) (agree u fs)
+    (and_from (agrees u f.to f.at.entries) (others f fs) (agrees_after t u e.to e.at f.to f.at.entries h a hs.0 (λ q. not_other (nat_eq e.to f.to) (same_entries e.at.entries f.at.entries) os.0 (eq-eqb e.to f.to q))) hs.1)
+    (agree_others t u e fs h a os.1 gs.1)
+
+-- the first agrees, and all that are left do so after it
+pub agree_first : (t : Table) (e : Edge) (es : List Edge) → agree t (e ∷ es) ≡ true → agrees t e.to e.at.entries ≡ true
+agree_first t e es h = (and_parts (agrees t e.to e.at.entries) (others e es) (and_parts (agrees t e.to e.at.entries && others e es) (agree t es) h).0).0
+
+pub agree_rest : (t u : Table) (e : Edge) (es : List Edge) → Some u ≡ put t e.to e.at → agree t (e ∷ es) ≡ true → agree u es ≡ true
+agree_rest t u e es h g =
+    let p = and_parts (agrees t e.to e.at.entries && others e es) (agree t es) g in
+    let q = and_parts (agrees t e.to e.at.entries) (others e es) p.0 in
+    agree_others t u e es h q.0 q.1 p.1
+
+pub put_all_step : (t u : Table) (es : List RustEdge) (k : ℕ) (f : RustEdge) → k < length es → Some u ≡ put t (get_or es k f).to (edge_of_rust (get_or es k f)).at → put_next (map edge_of_rust (drop k es)) (Some t) ≡ put_next (map edge_of_rust (drop (k + 1) es)) (Some u)
+put_all_step t u es k f lt h = ap (λ z. put_next (map edge_of_rust z) (Some t)) (drop_more es k f lt) ∙ ap (put_next (map edge_of_rust (drop (k + 1) es))) (sym h)
+
+pub agree_all_step : (t u : Table) (es : List RustEdge) (k : ℕ) (f : RustEdge) → k < length es → Some u ≡ put t (get_or es k f).to (edge_of_rust (get_or es k f)).at → agree t (map edge_of_rust (drop k es)) ≡ true → agree u (map edge_of_rust (drop (k + 1) es)) ≡ true
+agree_all_step t u es k f lt h g = agree_rest t u (edge_of_rust (get_or es k f)) (map edge_of_rust (drop (k + 1) es)) h (subst (λ z. agree t (map edge_of_rust z) ≡ true) (drop_more es k f lt) g)
+
+-- where entries agree there is a state
+pub agrees_within : (cells : List State) (n : ℕ) (es : List Entry) → agrees (map cell_of cells) n es ≡ true → n < length cells
+agrees_within [] n es h = absurd (false≢true h)
+agrees_within (c ∷ cells) zero es h = omega arith
+agrees_within (c ∷ cells) (suc n) es h = let lt = agrees_within cells n es h in omega (arith, lt)
+
+pub agrees_here : (cells : List State) (n : ℕ) (es : List Entry) (s : State) → agrees (map cell_of cells) n es ≡ true → s ≡ get_or cells n s → agrees_cell (cell_of s) es ≡ true
+agrees_here cells n es s h e = sym (agrees_in cells n es s (agrees_within cells n es h) e) ∙ h

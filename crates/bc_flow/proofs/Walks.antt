@@ -25,6 +25,10 @@ pub if_ok_map : {A E : Type 0} → (r : Result A E) (P Q : A → Type 0) → ((x
 if_ok_map (Ok x) P Q f h = f x h
 if_ok_map (Err e) P Q f h = h
 
+pub on_ok_map : {A E : Type 0} → (r : Result A E) (P Q : Type 0) → (P → Q) → OnOk r P → OnOk r Q
+on_ok_map (Ok x) P Q f h = f h
+on_ok_map (Err e) P Q f h = tt
+
 -- what the instruction at a position does
 pub action_is : (size : ℕ) (items : List Item) (p : ℕ) (item : Item) → p < length items → item ≡ get_or items p item → slice_get (map (action size) items) p ≡ Some (action size item)
 action_is size [] p item lt e = absurd (omega (arith, lt))

@@ -1,6 +1,7 @@
 pub mod Action
 pub mod Code
 pub mod Edges
+pub mod Joins
 pub mod Judged
 pub mod Machine
 pub mod Queue

@@ -1,16 +1,17 @@
 //! Where the flow goes from an instruction, and the handler entries and slots that arrive there.
 
-ghost use Rattle.std.specs.Prelude.{◌≡◌, ◌+◌, ◌-◌, ◌^◌, ◌<◌, ◌≤◌, ◌++◌, ◌∷◌, [], IfOk, OnOk, ℕ, List, drop, length, map, min, Some, true};
+ghost use Rattle.std.specs.Prelude.{◌≡◌, ◌+◌, ◌-◌, ◌^◌, ◌<◌, ◌≤◌, ◌++◌, ◌∷◌, [], IfOk, OnOk, ℕ, List, drop, length, map, min, Some, true, if◌then◌else◌};
 ghost use Rattle.bc_flow.specs.Action.{Action as Does};
 ghost use Rattle.bc_flow.specs.Edges as specs;
 ghost use Rattle.bc_flow.specs.Code.{code_of};
 ghost use Rattle.bc_flow.specs.Shape.{At};
-ghost use Rattle.bc_flow.specs.Views.{action_of, at_of, edge_of_rust, takes_of, gives_of, behind_of, AddsEdges};
+ghost use Rattle.bc_flow.specs.declared.kinds.Give.TheVariants.{New};
+ghost use Rattle.bc_flow.specs.Views.{action_of, at_of, edge_of_rust, takes_of, gives_of, slots_of_rust, behind_of, AddsEdges};
 
 use crate::action::{Action, Gives, Takes};
 use crate::code::Code;
-use crate::kinds::{Kind, Want};
-use crate::shape::{Entry, Shape, after, below};
+use crate::kinds::{Give, Kind, Want};
+use crate::shape::{Entry, Shape, Slots, below};
 use mpy_base::NoMemory;
 use std::alloc::Global;
 
@@ -28,13 +29,6 @@ pub(crate) enum Change {
     Leave(usize),
 }
 
-/// A position that the flow goes to, and what arrives there.
-#[derive(Drop)]
-pub(crate) struct Edge {
-    pub to: usize,
-    pub at: Shape,
-}
-
 /// Entries as a new one, if there is one, on others.
 #[derive(Clone, Copy)]
 pub(crate) struct Behind<'a> {
@@ -43,7 +37,7 @@ pub(crate) struct Behind<'a> {
 }
 
 impl<'a> Behind<'a> {
-    ghost use Rattle.std.specs.Prelude.{◌≡◌, length};
+    ghost use Rattle.std.specs.Prelude.{◌≡◌, ◌<◌, length, slice_index_or};
     ghost use Rattle.bc_flow.specs.Views.{behind_of};
 
     pub(crate) fn len(self) -> usize
@@ -53,6 +47,55 @@ impl<'a> Behind<'a> {
             Some(_) => self.rest.len() + 1,
             None => self.rest.len(),
         }
+    }
+
+    /// The entry below so many others.
+    #[tactic(auto, using(crate::proofs::Loops::at_cons, crate::proofs::Loops::at_rest))]
+    pub(crate) fn at(self, i: usize) -> Entry
+        requires { i < length (behind_of self) }
+        ensures { (d : Entry) → result ≡ slice_index_or (behind_of self.entry) i d }
+    {
+        match self.new {
+            Some(entry) if i == 0 => entry,
+            Some(_) => self.rest[i - 1],
+            None => self.rest[i],
+        }
+    }
+}
+
+/// A position that the flow goes to, the slots that arrive there, and the entries without their marks.
+#[derive(Clone, Copy)]
+pub(crate) struct Edge<'a> {
+    pub to: usize,
+    pub slots: Slots<'a>,
+    pub entries: Behind<'a>,
+}
+
+impl<'a> Edge<'a> {
+    ghost use Rattle.std.specs.Prelude.{◌≡◌, ◌<◌, IfOk, length, slice_index_or};
+    ghost use Rattle.bc_flow.specs.Views.{at_of, edge_of_rust, behind_of};
+    ghost use Rattle.bc_flow.specs.Edges as specs;
+
+    /// The entry below so many others, as it arrives.
+    pub(crate) fn entry(self, i: usize) -> Entry
+        requires { i < length (behind_of self.entries) }
+        ensures { (d : Entry) → result ≡ specs.mark self.entry.to (slice_index_or (behind_of self.entry.entries) i d) }
+    {
+        mark(self.to, self.entries.at(i))
+    }
+
+    /// What arrives.
+    #[tactic(auto, using(crate::proofs::Loops::mark_more, crate::proofs::Loops::mark_all))]
+    pub(crate) fn shape(self, alloc: Global) -> Result<Shape, NoMemory>
+        ensures { IfOk result (λ x. at_of x ≡ (edge_of_rust self.entry).at) }
+    {
+        let slots = self.slots.list(alloc)?;
+        let count = self.entries.len();
+        let mut entries = Vec::with_capacity(alloc, count)?;
+        for i in 0..count {
+            entries.push(self.entry(i))?;
+        }
+        Ok(Shape { slots, entries })
     }
 }
 
@@ -211,51 +254,36 @@ fn mark(to: usize, entry: Entry) -> Entry
     }
 }
 
-/// The edge to the position with these slots.
-fn arrive(alloc: Global, to: usize, entries: Behind, slots: Vec<Kind>) -> Result<Edge, NoMemory>
-    ensures { IfOk result (λ e. edge_of_rust e ≡ specs.edge_to to slots.items (behind_of entries.entry)) }
+/// What a handler begins with.
+fn first(is_finally: bool) -> &'static [Give]
+    ensures { result.now ≡ (if is_finally then New Kind.Cause ∷ [] else New Kind.Either ∷ []) }
 {
-    let mut marked = Vec::with_capacity(alloc, entries.len())?;
-    if let Some(entry) = entries.new {
-        marked.push(mark(to, entry))?;
+    if is_finally {
+        &[Give::New(Kind::Cause)]
+    } else {
+        &[Give::New(Kind::Either)]
     }
-    for entry in entries.rest {
-        marked.push(mark(to, *entry))?;
-    }
-    Ok(Edge {
-        to,
-        at: Shape {
-            slots,
-            entries: marked,
-        },
-    })
 }
 
 /// The slots that a handler begins with.
-fn pushed(
-    alloc: Global,
-    is_finally: bool,
-    slots: &[Kind],
-    height: usize,
-) -> Result<Vec<Kind>, NoMemory>
-    ensures { IfOk result (λ v. v.items ≡ specs.pushed is_finally (drop (length slots.now - height) slots.now)) }
+#[tactic(auto, using(crate::proofs::Loops::pushed_is))]
+fn pushed<'a>(is_finally: bool, slots: &'a [Kind], height: usize) -> Slots<'a>
+    ensures { slots_of_rust result ≡ specs.pushed is_finally (drop (length slots.now - height) slots.now) }
 {
-    let cause = if is_finally {
-        Kind::Cause
-    } else {
-        Kind::Either
-    };
-    let mut v = Vec::new(alloc);
-    v.push(cause)?;
-    v.extend_from_slice(&slots[slots.len().saturating_sub(height)..])?;
-    Ok(v)
+    Slots {
+        gives: Gives {
+            values: 0,
+            others: first(is_finally),
+        },
+        taken: 0,
+        found: &slots[slots.len().saturating_sub(height)..],
+    }
 }
 
 /// The edge into a handler, over these entries.
 #[tactic(auto, unfolding(crate::specs::Edges::slots_of))]
-fn enter(alloc: Global, x: &Shape, entry: Entry, below: &[Entry]) -> Result<Edge, NoMemory>
-    ensures { (a : Does) → IfOk result (λ e. edge_of_rust e
-        ≡ specs.edge_of a (at_of x.now) (specs.way_in entry below.now)) }
+fn enter<'a>(x: &'a Shape, entry: Entry, below: &'a [Entry]) -> Edge<'a>
+    ensures { (a : Does) → edge_of_rust result ≡ specs.edge_of a (at_of x.now) (specs.way_in entry below.now) }
 {
     let active = Entry {
         handler: entry.handler,
@@ -267,19 +295,21 @@ fn enter(alloc: Global, x: &Shape, entry: Entry, below: &[Entry]) -> Result<Edge
         new: Some(active),
         rest: below,
     };
-    let slots = pushed(alloc, entry.is_finally, &x.slots, entry.height)?;
-    arrive(alloc, entry.handler, entries, slots)
+    Edge {
+        to: entry.handler,
+        slots: pushed(entry.is_finally, &x.slots, entry.height),
+        entries,
+    }
 }
 
 /// Adds the edge to the handler of the topmost entry that isn't active.
-fn push_raise(alloc: Global, edges: &mut Vec<Edge>, x: &Shape) -> Result<(), NoMemory>
+fn push_raise<'a>(edges: &mut Vec<Edge<'a>>, x: &'a Shape) -> Result<(), NoMemory>
     ensures { (a : Does) → OnOk result (AddsEdges a (at_of x.now) edges.old.items edges.new.items
         (specs.raise_ways x.now.entries.items)) }
 {
     for (i, entry) in x.entries.iter().enumerate() {
         if !entry.active {
-            let edge = enter(alloc, x, *entry, &x.entries[i + 1..])?;
-            edges.push(edge)?;
+            edges.push(enter(x, *entry, &x.entries[i + 1..]))?;
             return Ok(());
         }
     }
@@ -287,30 +317,27 @@ fn push_raise(alloc: Global, edges: &mut Vec<Edge>, x: &Shape) -> Result<(), NoM
 }
 
 /// Adds the edge to the handler of an entry, if that is a finally handler that runs.
-fn push_run(
-    alloc: Global,
-    edges: &mut Vec<Edge>,
-    x: &Shape,
+fn push_run<'a>(
+    edges: &mut Vec<Edge<'a>>,
+    x: &'a Shape,
     entry: Entry,
-    below: &[Entry],
+    below: &'a [Entry],
 ) -> Result<(), NoMemory>
     ensures { (a : Does) → OnOk result (AddsEdges a (at_of x.now) edges.old.items edges.new.items
         (specs.one_run entry below.now)) }
 {
     if entry.is_finally && !entry.active {
-        let edge = enter(alloc, x, entry, below)?;
-        edges.push(edge)?;
+        edges.push(enter(x, entry, below))?;
     }
     Ok(())
 }
 
 /// Adds those to the finally handlers that run among so many entries from the top.
 #[tactic(auto, using(crate::proofs::Loops::runs_end))]
-fn push_runs(
-    alloc: Global,
-    edges: &mut Vec<Edge>,
-    x: &Shape,
-    entries: &[Entry],
+fn push_runs<'a>(
+    edges: &mut Vec<Edge<'a>>,
+    x: &'a Shape,
+    entries: &'a [Entry],
     count: usize,
 ) -> Result<(), NoMemory>
     ensures { (a : Does) → OnOk result (AddsEdges a (at_of x.now) edges.old.items edges.new.items
@@ -320,79 +347,85 @@ fn push_runs(
         if i >= count {
             return Ok(());
         }
-        push_run(alloc, edges, x, *entry, below(entries, i + 1))?;
+        push_run(edges, x, *entry, below(entries, i + 1))?;
     }
     Ok(())
 }
 
 /// Adds the edge to the next position, if the flow goes on.
-fn push_next(
-    alloc: Global,
-    edges: &mut Vec<Edge>,
+fn push_next<'a>(
+    edges: &mut Vec<Edge<'a>>,
     action: &Action,
     p: usize,
-    behind: Behind,
-    base: &[Kind],
+    behind: Behind<'a>,
+    base: &'a [Kind],
 ) -> Result<(), NoMemory>
     requires { p + 1 < 2 ^ 64 }
     ensures { (x : At) → base.now ≡ specs.base (action_of action.now) x
         → OnOk result (AddsEdges (action_of action.now) x edges.old.items edges.new.items
         (specs.next_way true p (behind_of behind.entry))) }
 {
-    let slots = after(alloc, gives(action), takes(action).len(), base)?;
-    let edge = arrive(alloc, p + 1, behind, slots)?;
-    edges.push(edge)?;
+    let slots = Slots {
+        gives: gives(action),
+        taken: takes(action).len(),
+        found: base,
+    };
+    edges.push(Edge {
+        to: p + 1,
+        slots,
+        entries: behind,
+    })?;
     Ok(())
 }
 
 /// Adds the edge to the position that it jumps to, if it does.
-fn push_jump(
-    alloc: Global,
-    edges: &mut Vec<Edge>,
+fn push_jump<'a>(
+    edges: &mut Vec<Edge<'a>>,
     action: &Action,
-    behind: Behind,
-    base: &[Kind],
+    behind: Behind<'a>,
+    base: &'a [Kind],
 ) -> Result<(), NoMemory>
     ensures { (x : At) → base.now ≡ specs.base (action_of action.now) x
         → OnOk result (AddsEdges (action_of action.now) x edges.old.items edges.new.items
         (specs.jump_way (specs.target (action_of action.now)) (behind_of behind.entry))) }
 {
     if let Some(to) = target(action) {
-        let slots = after(alloc, gives_there(action), takes(action).len(), base)?;
-        let edge = arrive(alloc, to, behind, slots)?;
-        edges.push(edge)?;
+        let slots = Slots {
+            gives: gives_there(action),
+            taken: takes(action).len(),
+            found: base,
+        };
+        edges.push(Edge {
+            to,
+            slots,
+            entries: behind,
+        })?;
     }
     Ok(())
 }
 
 /// All edges that leave a position, with what arrives.
 #[tactic(auto, unfolding(crate::specs::Edges::ways))]
-pub(crate) fn edges(
+pub(crate) fn edges<'a>(
     alloc: Global,
     code: &Code,
     action: &Action,
     p: usize,
-    x: &Shape,
-    base: &[Kind],
-) -> Result<Vec<Edge>, NoMemory>
+    x: &'a Shape,
+    base: &'a [Kind],
+) -> Result<Vec<Edge<'a>>, NoMemory>
     requires within { p < length code.now.items.items }
     requires base_is { base.now ≡ specs.base (action_of action.now) (at_of x.now) }
     ensures { IfOk result (λ v. map edge_of_rust v.items
         ≡ specs.edges (code_of code.now) (action_of action.now) p (at_of x.now)) }
 {
-    let mut edges = Vec::new(alloc);
+    let mut edges = Vec::with_capacity(alloc, 3)?;
     let behind = entries_behind(change_of(action), x.slots.len(), &x.entries);
     if falls(action) && p + 1 < code.items.len() {
-        push_next(alloc, &mut edges, action, p, behind, base)?;
+        push_next(&mut edges, action, p, behind, base)?;
     }
-    push_jump(alloc, &mut edges, action, behind, base)?;
-    push_raise(alloc, &mut edges, x)?;
-    push_runs(
-        alloc,
-        &mut edges,
-        x,
-        &x.entries,
-        runs(action, x.entries.len()),
-    )?;
+    push_jump(&mut edges, action, behind, base)?;
+    push_raise(&mut edges, x)?;
+    push_runs(&mut edges, x, &x.entries, runs(action, x.entries.len()))?;
     Ok(edges)
 }

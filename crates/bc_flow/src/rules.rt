@@ -1,6 +1,6 @@
 //! The rules on one position.
 
-ghost use Rattle.std.specs.Prelude.{◌≡◌, ◌+◌, ◌-◌, ◌<◌, ◌≤◌, ℕ, drop, length, map, min, nat_le, ◌&&◌, List, IfOk};
+ghost use Rattle.std.specs.Prelude.{◌≡◌, ◌+◌, ◌-◌, ◌<◌, ◌≤◌, ℕ, drop, length, map, min, nat_le, nat_lt, if◌then◌else◌};
 ghost use Rattle.bc_flow.specs.Edges as specs;
 ghost use Rattle.bc_flow.specs.Code.{code_of, locals};
 ghost use Rattle.bc_flow.specs.Views.{action_of, at_of, edge_of_rust};
@@ -29,18 +29,24 @@ fn asks(change: Change, entries: &[Entry]) -> bool
     }
 }
 
-/// Is each entry active exactly from its handler's position on?
-#[tactic(auto, using(crate::proofs::Loops::marked_step, crate::proofs::Loops::and_first))]
-fn is_marked(to: usize, entries: &[Entry]) -> bool
-    ensures { result ≡ specs.is_marked to entries.now }
+/// Is the entry active exactly from its handler's position on?
+fn is_marked(to: usize, entry: Entry) -> bool
+    ensures { result ≡ (if entry.active then nat_le entry.handler to else nat_lt to entry.handler) }
 {
-    for entry in entries {
-        let right = if entry.active {
-            entry.handler <= to
-        } else {
-            to < entry.handler
-        };
-        if !right {
+    if entry.active {
+        entry.handler <= to
+    } else {
+        to < entry.handler
+    }
+}
+
+/// Are all entries that arrive?
+#[tactic(auto, using(crate::proofs::Loops::marked_end))]
+fn are_marked(edge: Edge) -> bool
+    ensures { result ≡ specs.is_marked edge.entry.to (edge_of_rust edge.entry).at.entries }
+{
+    for i in 0..edge.entries.len() {
+        if !is_marked(edge.to, edge.entry(i)) {
             return false;
         }
     }
@@ -51,7 +57,7 @@ fn all_marked(edges: &[Edge]) -> bool
     ensures { result ≡ specs.edges_marked (map edge_of_rust edges.now) }
 {
     for edge in edges {
-        if !is_marked(edge.to, &edge.at.entries) {
+        if !are_marked(*edge) {
             return false;
         }
     }

@@ -1,8 +1,10 @@
 //! Shapes, and where two meet.
 
-ghost use Rattle.std.specs.Prelude.{◌≡◌, ◌-◌, ◌≤◌, IfOk, ℕ, drop, length, map, MatchOption, option_map};
+ghost use Rattle.std.specs.Prelude.{◌≡◌, ◌-◌, ◌<◌, ◌≤◌, ◌||◌, not, IfSome, IfNone, None, ℕ, drop, length, map, slice_index_or};
 ghost use Rattle.bc_flow.specs.Shape as specs;
-ghost use Rattle.bc_flow.specs.Views.{items_of, takes_of, gives_of};
+ghost use Rattle.bc_flow.specs.Joins.{JoinsAt, Joins};
+ghost use Rattle.bc_flow.specs.Views.{takes_of, slots_of_rust};
+ghost use Rattle.bc_flow.specs.declared.kinds.Kind.TheVariants.{Either};
 
 use crate::action::{Gives, Takes};
 use crate::kinds::{Give, Kind, Want};
@@ -96,26 +98,59 @@ pub(crate) fn below<T>(items: &[T], n: usize) -> &[T]
     if n < items.len() { &items[n..] } else { &[] }
 }
 
-/// So many slots taken, and these given.
-#[tactic(auto, using(crate::proofs::Loops::replicate_more, crate::proofs::Loops::after_is))]
-pub(crate) fn after(
-    alloc: Global,
-    gives: Gives,
-    taken: usize,
-    slots: &[Kind],
-) -> Result<Vec<Kind>, NoMemory>
-    ensures { IfOk result (λ v. v.items ≡ specs.after (gives_of gives) taken slots.now) }
-{
-    let left = below(slots, taken);
-    let mut given = Vec::with_capacity(alloc, gives.len().saturating_add(left.len()))?;
-    for _i in 0..gives.values {
-        given.push(Kind::Value)?;
+/// Slots that arrive: some that are given on those that were found, but for so many.
+#[derive(Clone, Copy)]
+pub(crate) struct Slots<'a> {
+    pub gives: Gives,
+    pub taken: usize,
+    pub found: &'a [Kind],
+}
+
+impl<'a> Slots<'a> {
+    ghost use Rattle.std.specs.Prelude.{◌≡◌, ◌<◌, IfOk, length, slice_index_or};
+    ghost use Rattle.bc_flow.specs.Views.{slots_of_rust};
+    ghost use Rattle.bc_flow.specs.declared.kinds.Kind.TheVariants.{Either};
+
+    #[tactic(auto, using(crate::proofs::Loops::slots_size))]
+    fn len(self) -> usize
+        ensures { result ≡ length (slots_of_rust self.entry) }
+    {
+        self.gives.len() + self.found.len().saturating_sub(self.taken)
     }
-    for give in gives.others {
-        given.push(give_of(slots, *give))?;
+
+    /// The slot below so many others.
+    #[tactic(auto, using(crate::proofs::Loops::slots_size))]
+    fn at(self, i: usize) -> Kind
+        requires { i < length (slots_of_rust self) }
+        ensures { result ≡ slice_index_or (slots_of_rust self.entry) i Either }
+    {
+        let values = self.gives.values as usize;
+        let others = self.gives.others;
+        if i < values {
+            Kind::Value
+        } else if i - values < others.len() {
+            give_of(self.found, others[i - values])
+        } else {
+            self.found[self.taken + (i - values - others.len())]
+        }
     }
-    given.extend_from_slice(left)?;
-    Ok(given)
+
+    /// A list of them.
+    #[tactic(auto, using(crate::proofs::Loops::replicate_more, crate::proofs::Loops::after_is))]
+    pub(crate) fn list(self, alloc: Global) -> Result<Vec<Kind>, NoMemory>
+        ensures { IfOk result (λ v. v.items ≡ slots_of_rust self.entry) }
+    {
+        let left = below(self.found, self.taken);
+        let mut given = Vec::with_capacity(alloc, self.gives.len().saturating_add(left.len()))?;
+        for _i in 0..self.gives.values {
+            given.push(Kind::Value)?;
+        }
+        for give in self.gives.others {
+            given.push(give_of(self.found, *give))?;
+        }
+        given.extend_from_slice(left)?;
+        Ok(given)
+    }
 }
 
 /// The kind of a slot where two kinds meet.
@@ -150,42 +185,56 @@ fn only(kind: Kind, same: bool) -> Option<Kind>
     if same { Some(kind) } else { None }
 }
 
-/// Where two lists of slots meet.
-#[tactic(auto, using(crate::proofs::Loops::join_step, crate::proofs::Loops::join_none, crate::proofs::Loops::prefix_more, crate::proofs::Loops::prefix_none))]
-pub(crate) fn join(alloc: Global, ks: &[Kind], ls: &[Kind]) -> Result<Option<Vec<Kind>>, NoMemory>
-    ensures { IfOk result (λ o. option_map items_of o ≡ specs.join ks.now ls.now) }
-{
-    if ks.len() != ls.len() {
-        return Ok(None);
-    }
-    let mut joined = Vec::with_capacity(alloc, ks.len())?;
-    for (n, k) in ks.iter().enumerate() {
-        match join_kind(*k, ls[n]) {
-            Some(m) => joined.push(m)?,
-            None => return Ok(None),
-        }
-    }
-    Ok(Some(joined))
-}
-
 fn is_open(kind: Kind) -> bool
     ensures { result ≡ specs.is_either kind }
 {
     matches!(kind, Kind::Either)
 }
 
-/// How many slots may still become a value or a cause.
-#[tactic(auto, using(crate::proofs::Loops::opens_step, crate::proofs::Joins::opens_most))]
-pub(crate) fn opens(slots: &[Kind]) -> usize
-    ensures { result ≡ specs.opens slots.now }
+/// Is the slot the same where it has met another kind?
+fn stays(old: Kind, new: Kind) -> bool
+    ensures { result ≡ (specs.is_either new || not (specs.is_either old)) }
 {
-    let mut n = 0;
-    for kind in slots {
-        if is_open(*kind) {
-            n += 1;
-        }
+    is_open(new) || !is_open(old)
+}
+
+/// Joins a slot with a kind that arrives, if they meet, and says whether it changed.
+#[tactic(auto, using(crate::proofs::Joining::slot_kept, crate::proofs::Joining::slot_none))]
+fn join_slot(slots: &mut Vec<Kind>, i: usize, kind: Kind) -> Option<bool>
+    requires { i < length slots.now.items }
+    ensures some { IfSome result (λ changed. JoinsAt slots.old.items i kind slots.new.items changed) }
+    ensures none { IfNone result (specs.join_kind (slice_index_or slots.old.items i Either) kind ≡ None) }
+{
+    let old = slots[i];
+    let new = join_kind(old, kind)?;
+    if stays(old, new) {
+        return Some(false);
     }
-    n
+    slots[i] = new;
+    Some(true)
+}
+
+fn either(a: bool, b: bool) -> bool
+    ensures { result ≡ (a || b) }
+{
+    a || b
+}
+
+/// Joins slots with those that arrive, if they meet, and says whether any changed.
+pub(crate) fn join(slots: &mut Vec<Kind>, arriving: Slots) -> Option<bool>
+    ensures some { IfSome result (Joins slots.old.items (slots_of_rust arriving.entry) slots.new.items) }
+    ensures none { IfNone result (specs.join slots.old.items (slots_of_rust arriving.entry) ≡ None) }
+{
+    let count = arriving.len();
+    if slots.len() != count {
+        return None;
+    }
+    let mut changed = false;
+    for i in 0..count {
+        let closed = join_slot(slots, i, arriving.at(i))?;
+        changed = either(changed, closed);
+    }
+    Some(changed)
 }
 
 fn same_bool(a: bool, b: bool) -> bool
@@ -194,26 +243,11 @@ fn same_bool(a: bool, b: bool) -> bool
     if a { b } else { !b }
 }
 
-fn same_entry(d: Entry, e: Entry) -> bool
+pub(crate) fn same_entry(d: Entry, e: Entry) -> bool
     ensures { result ≡ specs.same_entry d e }
 {
     d.handler == e.handler
         && same_bool(d.is_finally, e.is_finally)
         && same_bool(d.active, e.active)
         && d.height == e.height
-}
-
-#[tactic(auto, using(crate::proofs::Loops::entries_step, crate::proofs::Loops::entries_differ, crate::proofs::Loops::and_first))]
-pub(crate) fn same_entries(ds: &[Entry], es: &[Entry]) -> bool
-    ensures { result ≡ specs.same_entries ds.now es.now }
-{
-    if ds.len() != es.len() {
-        return false;
-    }
-    for (n, d) in ds.iter().enumerate() {
-        if !same_entry(*d, es[n]) {
-            return false;
-        }
-    }
-    true
 }

@@ -1,9 +1,9 @@
 //! The table of the positions, and the walk that works through the pending ones, the least first.
 
-ghost use Rattle.std.specs.Prelude.{◌≡◌, ◌+◌, ◌<◌, ◌≤◌, ◌↔◌, ◌&&◌, not, Bool, List, is_some, IfOk, OnOk, IfErr, IfSome, IfNone, ℕ, drop, length, map, option_map, slice_get, Some, None, MatchOption};
+ghost use Rattle.std.specs.Prelude.{◌≡◌, ◌+◌, ◌<◌, ◌≤◌, ◌↔◌, ◌&&◌, not, Bool, List, is_some, IfOk, OnOk, IfErr, IfSome, IfNone, ℕ, drop, length, map, option_map, slice_get, Some, None, true, MatchOption};
 ghost use Rattle.std.specs.BinaryHeap.{heap_items};
 ghost use Rattle.std.specs.Bool.{OnTrue, OnFalse};
-ghost use Rattle.bc_flow.specs.Shape.{At};
+ghost use Rattle.bc_flow.specs.Shape.{At, same_entries};
 ghost use Rattle.bc_flow.specs.Edges as edges_specs;
 ghost use Rattle.bc_flow.specs.Code.{Code as SpecCode, code_of};
 ghost use Rattle.bc_flow.specs.declared.code.Code.{Code as RustCode};
@@ -12,13 +12,13 @@ ghost use Rattle.bc_flow.specs.Verified as specs;
 ghost use Rattle.bc_flow.specs.Verified.{Verified, Holds, FirstFault, IsLeast, IsLeastOf, IsPending, Decides, at, done_at};
 ghost use Rattle.bc_flow.specs.Judged.{Judges};
 ghost use Rattle.bc_flow.specs.Queue.{Queued};
-ghost use Rattle.bc_flow.specs.Views.{action_of, at_of, edge_of_rust, cell_of, table_of, visit_of, has_if};
+ghost use Rattle.bc_flow.specs.Views.{action_of, at_of, edge_of_rust, cell_of, cell_if, table_of, visit_of, has_if};
 
 use crate::action::{Action, action_at};
 use crate::code::{Code, Fault, Rule, locals};
 use crate::edges::{Edge, edges};
 use crate::rules::{base, finds, holds, room, stays};
-use crate::shape::{Entry, Shape, join, opens, same_entries};
+use crate::shape::{Entry, Shape, join, same_entry};
 use mpy_base::NoMemory;
 use std::alloc::Global;
 use std::cmp::Reverse;
@@ -35,23 +35,57 @@ pub enum State {
     Done(Shape),
 }
 
-/// Are these the entries that hold there, if any do?
-fn agrees_state(state: &State, entries: &[Entry]) -> bool
-    ensures { result ≡ specs.agrees_cell (cell_of state.now) entries.now }
+/// Are these the entries that arrive?
+#[tactic(auto, using(crate::proofs::Loops::entries_end, crate::proofs::Loops::entries_differ))]
+fn same_entries(entries: &[Entry], edge: Edge) -> bool
+    ensures { result ≡ same_entries entries.now (edge_of_rust edge.entry).at.entries }
+{
+    let count = edge.entries.len();
+    if entries.len() != count {
+        return false;
+    }
+    for i in 0..count {
+        if !same_entry(entries[i], edge.entry(i)) {
+            return false;
+        }
+    }
+    true
+}
+
+/// Do the same entries arrive along both edges?
+#[tactic(auto, using(crate::proofs::Loops::arriving_end, crate::proofs::Loops::arriving_differ))]
+fn same_arrive(edge: Edge, other: Edge) -> bool
+    ensures { result ≡ same_entries (edge_of_rust edge.entry).at.entries (edge_of_rust other.entry).at.entries }
+{
+    let count = edge.entries.len();
+    if other.entries.len() != count {
+        return false;
+    }
+    for i in 0..count {
+        if !same_entry(edge.entry(i), other.entry(i)) {
+            return false;
+        }
+    }
+    true
+}
+
+/// Are the entries that arrive those that hold there, if any do?
+fn agrees_state(state: &State, edge: Edge) -> bool
+    ensures { result ≡ specs.agrees_cell (cell_of state.now) (edge_of_rust edge.entry).at.entries }
 {
     match state {
         State::Unseen => true,
-        State::Pending(shape) => same_entries(&shape.entries, entries),
-        State::Done(shape) => same_entries(&shape.entries, entries),
+        State::Pending(shape) => same_entries(&shape.entries, edge),
+        State::Done(shape) => same_entries(&shape.entries, edge),
     }
 }
 
 #[tactic(auto, using(crate::proofs::Tables::agrees_in, crate::proofs::Tables::agrees_out))]
-fn agrees(states: &[State], n: usize, entries: &[Entry]) -> bool
-    ensures { result ≡ specs.agrees (table_of states.now) n entries.now }
+fn agrees(states: &[State], edge: Edge) -> bool
+    ensures { result ≡ specs.agrees (table_of states.now) edge.entry.to (edge_of_rust edge.entry).at.entries }
 {
-    if n < states.len() {
-        agrees_state(&states[n], entries)
+    if edge.to < states.len() {
+        agrees_state(&states[edge.to], edge)
     } else {
         false
     }
@@ -59,11 +93,11 @@ fn agrees(states: &[State], n: usize, entries: &[Entry]) -> bool
 
 /// Does none of the edges bring other entries to the same position?
 #[tactic(auto, using(crate::proofs::Tables::others_step, crate::proofs::Loops::and_first))]
-fn others(edge: &Edge, edges: &[Edge]) -> bool
-    ensures { result ≡ specs.others (edge_of_rust edge.now) (map edge_of_rust edges.now) }
+fn others(edge: Edge, edges: &[Edge]) -> bool
+    ensures { result ≡ specs.others (edge_of_rust edge.entry) (map edge_of_rust edges.now) }
 {
     for other in edges {
-        let fine = edge.to != other.to || same_entries(&edge.at.entries, &other.at.entries);
+        let fine = edge.to != other.to || same_arrive(edge, *other);
         if !fine {
             return false;
         }
@@ -77,75 +111,59 @@ fn agree(states: &[State], edges: &[Edge]) -> bool
     ensures { result ≡ specs.agree (table_of states.now) (map edge_of_rust edges.now) }
 {
     for (k, edge) in edges.iter().enumerate() {
-        if !agrees(states, edge.to, &edge.at.entries) {
+        if !agrees(states, *edge) {
             return false;
         }
-        if !others(edge, &edges[k + 1..]) {
+        if !others(*edge, &edges[k + 1..]) {
             return false;
         }
     }
     true
 }
 
-/// Where a shape that is there and one that arrives meet.
-fn meet_at(alloc: Global, y: &Shape, x: Shape) -> Result<Option<Shape>, NoMemory>
-    ensures { IfOk result (λ o. option_map at_of o ≡ specs.meet_at (at_of y.now) (at_of x)) }
+/// Marks a visited state as pending.
+fn reopen(state: &mut State)
+    ensures { (x : At) → cell_of state.old ≡ specs.Done x → cell_of state.new ≡ specs.Pending x }
 {
-    if !same_entries(&y.entries, &x.entries) {
-        return Ok(None);
-    }
-    match join(alloc, &y.slots, &x.slots)? {
-        Some(slots) => Ok(Some(Shape {
-            slots,
-            entries: x.entries,
-        })),
-        None => Ok(None),
+    let old = mem::replace(state, State::Unseen);
+    if let State::Done(x) = old {
+        *state = State::Pending(x);
     }
 }
 
-/// The state of a visited position where what holds there has become that.
-fn settle(y: &Shape, z: Shape) -> State
-    ensures { cell_of result ≡ specs.settle (at_of y.now) (at_of z) }
-{
-    if opens(&z.slots) == opens(&y.slots) {
-        State::Done(z)
-    } else {
-        State::Pending(z)
-    }
-}
-
-fn meet(alloc: Global, state: &State, x: Shape) -> Result<Option<State>, NoMemory>
-    ensures { IfOk result (λ o. option_map cell_of o ≡ specs.meet (cell_of state.now) (at_of x)) }
+/// Lets what an edge brings meet a state with the same entries, if it may.
+#[tactic(auto, using(crate::proofs::Tables::meet_unseen, crate::proofs::Tables::meet_pending, crate::proofs::Tables::meet_changed, crate::proofs::Tables::meet_kept, crate::proofs::Tables::refuse_pending, crate::proofs::Tables::refuse_done))]
+fn meet(alloc: Global, state: &mut State, edge: Edge) -> Result<bool, NoMemory>
+    requires { specs.agrees_cell (cell_of state.now) (edge_of_rust edge).at.entries ≡ true }
+    ensures { IfOk result (λ b. cell_if b state.new ≡ specs.meet (cell_of state.old) (edge_of_rust edge.entry).at) }
 {
     match state {
-        State::Unseen => Ok(Some(State::Pending(x))),
-        State::Pending(y) => match meet_at(alloc, y, x)? {
-            Some(z) => Ok(Some(State::Pending(z))),
-            None => Ok(None),
+        State::Unseen => {
+            *state = State::Pending(edge.shape(alloc)?);
+            Ok(true)
+        }
+        State::Pending(x) => match join(&mut x.slots, edge.slots) {
+            Some(_) => Ok(true),
+            None => Ok(false),
         },
-        State::Done(y) => match meet_at(alloc, y, x)? {
-            Some(z) => Ok(Some(settle(y, z))),
-            None => Ok(None),
+        State::Done(x) => match join(&mut x.slots, edge.slots) {
+            Some(true) => {
+                reopen(state);
+                Ok(true)
+            }
+            Some(false) => Ok(true),
+            None => Ok(false),
         },
     }
 }
 
-/// Lets the shape arrive at the position, if it may.
-#[tactic(auto, using(crate::proofs::Tables::put_some, crate::proofs::Tables::put_none, crate::proofs::Tables::put_out))]
-fn put(alloc: Global, states: &mut Vec<State>, n: usize, x: Shape) -> Result<bool, NoMemory>
-    ensures { IfOk result (λ b. has_if b states.new.items ≡ specs.put (table_of states.old.items) n (at_of x)) }
+/// Lets what the edge brings arrive, if it may.
+fn put(alloc: Global, states: &mut Vec<State>, edge: Edge) -> Result<bool, NoMemory>
+    requires { specs.agrees (table_of states.now.items) edge.to (edge_of_rust edge).at.entries ≡ true }
+    ensures { IfOk result (λ b. has_if b states.new.items
+        ≡ specs.put (table_of states.old.items) edge.entry.to (edge_of_rust edge.entry).at) }
 {
-    if n < states.len() {
-        match meet(alloc, &states[n], x)? {
-            Some(state) => {
-                states[n] = state;
-                Ok(true)
-            }
-            None => Ok(false),
-        }
-    } else {
-        Ok(false)
-    }
+    meet(alloc, &mut states[edge.to], edge)
 }
 
 fn is_pending(states: &[State], n: usize) -> bool
@@ -162,18 +180,18 @@ fn put_edge(
     queue: &mut BinaryHeap<Reverse<usize>>,
     edge: Edge,
 ) -> Result<bool, NoMemory>
+    requires { specs.agrees (table_of states.now.items) edge.to (edge_of_rust edge).at.entries ≡ true }
     ensures table { IfOk result (λ b. has_if b states.new.items
-        ≡ specs.put (table_of states.old.items) edge.to (at_of edge.at)) }
+        ≡ specs.put (table_of states.old.items) edge.entry.to (edge_of_rust edge.entry).at) }
     ensures queued { Queued (table_of states.old.items) (heap_items queue.old)
         → IfOk result (λ b. OnTrue b (Queued (table_of states.new.items) (heap_items queue.new))) }
 {
-    let to = edge.to;
-    let was_pending = is_pending(states, to);
-    if !put(alloc, states, to, edge.at)? {
+    let was_pending = is_pending(states, edge.to);
+    if !put(alloc, states, edge)? {
         return Ok(false);
     }
-    if !was_pending && is_pending(states, to) {
-        queue.push(Reverse(to))?;
+    if !was_pending && is_pending(states, edge.to) {
+        queue.push(Reverse(edge.to))?;
     }
     Ok(true)
 }
@@ -183,15 +201,16 @@ fn put_all(
     alloc: Global,
     states: &mut Vec<State>,
     queue: &mut BinaryHeap<Reverse<usize>>,
-    edges: Vec<Edge>,
+    edges: &[Edge],
 ) -> Result<bool, NoMemory>
+    requires { specs.agree (table_of states.now.items) (map edge_of_rust edges.now) ≡ true }
     ensures table { IfOk result (λ b. has_if b states.new.items
-        ≡ specs.put_next (map edge_of_rust edges.items) (Some (table_of states.old.items))) }
+        ≡ specs.put_next (map edge_of_rust edges.now) (Some (table_of states.old.items))) }
     ensures queued { Queued (table_of states.old.items) (heap_items queue.old)
         → IfOk result (λ b. OnTrue b (Queued (table_of states.new.items) (heap_items queue.new))) }
 {
     for edge in edges {
-        if !put_edge(alloc, states, queue, edge)? {
+        if !put_edge(alloc, states, queue, *edge)? {
             return Ok(false);
         }
     }
@@ -211,23 +230,23 @@ fn set_done(states: &mut Vec<State>, p: usize)
 
 /// What the rules say of one position, and the edges that leave it.
 #[derive(Drop)]
-struct Judged {
+struct Judged<'a> {
     handlers: bool,
     meets: bool,
     height: bool,
     state: bool,
     falls: bool,
-    edges: Vec<Edge>,
+    edges: Vec<Edge<'a>>,
 }
 
-fn judge(
+fn judge<'a>(
     alloc: Global,
     code: &Code,
     locals: usize,
     states: &[State],
     p: usize,
-    x: &Shape,
-) -> Result<Judged, NoMemory>
+    x: &'a Shape,
+) -> Result<Judged<'a>, NoMemory>
     requires within { p < length code.now.items.items }
     requires locals_are { locals ≡ (code_of code.now).locals }
     ensures { IfOk result (λ j. Judges (code_of code.now) (table_of states.now) p (at_of x.now) j) }
@@ -251,24 +270,29 @@ fn act(
     states: &mut Vec<State>,
     queue: &mut BinaryHeap<Reverse<usize>>,
     p: usize,
-    judged: Judged,
+    judged: &Judged,
 ) -> Result<Result<(), Rule>, NoMemory>
-    requires { p < length states.now.items }
+    requires within { p < length states.now.items }
+    requires pending { (x : At) × IsPending (table_of states.now.items) p x }
+    requires meets { judged.now.meets ≡ specs.agree (table_of states.now.items) (map edge_of_rust judged.now.edges.items) }
     ensures table { (x : At) → IsPending (table_of states.old.items) p x → IfOk result (λ r. visit_of r states.new.items
-        ≡ specs.after_holds (judged.handlers && judged.meets) judged.height judged.state judged.falls
-        (specs.put_next (map edge_of_rust judged.edges.items) (Some (done_at (table_of states.old.items) p x)))) }
+        ≡ specs.after_holds (judged.now.handlers && judged.now.meets) judged.now.height judged.now.state judged.now.falls
+        (specs.put_next (map edge_of_rust judged.now.edges.items) (Some (done_at (table_of states.old.items) p x)))) }
     ensures queued { (x : At) → IsPending (table_of states.old.items) p x
         → Queued (done_at (table_of states.old.items) p x) (heap_items queue.old)
         → IfOk result (λ r. OnOk r (Queued (table_of states.new.items) (heap_items queue.new))) }
 {
-    if !judged.handlers || !judged.meets {
+    if !judged.handlers {
+        return Ok(Err(Rule::Handlers));
+    }
+    if !judged.meets {
         return Ok(Err(Rule::Handlers));
     }
     if !judged.height {
         return Ok(Err(Rule::Height));
     }
     set_done(states, p);
-    if !put_all(alloc, states, queue, judged.edges)? {
+    if !put_all(alloc, states, queue, &judged.edges)? {
         return Ok(Err(Rule::Height));
     }
     if !judged.state {
@@ -280,13 +304,38 @@ fn act(
     Ok(Ok(()))
 }
 
-/// Tries the rules at a pending position, in their order, and lets its edges arrive.
+/// Makes the one shape the other.
+fn copy(x: &mut Shape, y: &Shape) -> Result<(), NoMemory>
+    ensures { OnOk result (at_of x.new ≡ at_of y.now) }
+{
+    x.slots.clear();
+    x.slots.extend_from_slice(&y.slots)?;
+    x.entries.clear();
+    x.entries.extend_from_slice(&y.entries)?;
+    Ok(())
+}
+
+/// Copies what holds at a pending position.
+fn read(x: &mut Shape, states: &[State], p: usize) -> Result<(), NoMemory>
+    requires within { p < length states.now }
+    requires pending { (y : At) × IsPending (table_of states.now) p y }
+    ensures { (y : At) → IsPending (table_of states.now) p y → OnOk result (at_of x.new ≡ y) }
+{
+    match &states[p] {
+        State::Pending(y) => copy(x, y),
+        _ => unreachable!(),
+    }
+}
+
+/// Tries the rules at a pending position, in their order, and lets its edges arrive. What holds there is copied into `x`
+/// meanwhile.
 fn visit(
     alloc: Global,
     code: &Code,
     locals: usize,
     states: &mut Vec<State>,
     queue: &mut BinaryHeap<Reverse<usize>>,
+    x: &mut Shape,
     p: usize,
 ) -> Result<Result<(), Rule>, NoMemory>
     requires long { length states.now.items ≡ length code.now.items.items }
@@ -299,11 +348,9 @@ fn visit(
         → Queued (done_at (table_of states.old.items) p x) (heap_items queue.old)
         → IfOk result (λ r. OnOk r (Queued (table_of states.new.items) (heap_items queue.new))) }
 {
-    let judged = match &states[p] {
-        State::Pending(x) => judge(alloc, code, locals, states, p, x)?,
-        _ => unreachable!(),
-    };
-    act(alloc, states, queue, p, judged)
+    read(x, states, p)?;
+    let judged = judge(alloc, code, locals, states, p, x)?;
+    act(alloc, states, queue, p, &judged)
 }
 
 /// Takes the least pending position out of the queue.
@@ -321,6 +368,15 @@ fn least(states: &[State], queue: &mut BinaryHeap<Reverse<usize>>) -> Option<usi
     None
 }
 
+fn nothing(alloc: Global) -> Shape
+    ensures { at_of result ≡ specs.begin }
+{
+    Shape {
+        slots: Vec::new(alloc),
+        entries: Vec::new(alloc),
+    }
+}
+
 /// The table at the start: position 0 is pending, with nothing.
 #[tactic(auto, using(crate::proofs::Tables::table_more))]
 fn start(alloc: Global, size: usize) -> Result<Vec<State>, NoMemory>
@@ -328,10 +384,7 @@ fn start(alloc: Global, size: usize) -> Result<Vec<State>, NoMemory>
 {
     let mut states = Vec::with_capacity(alloc, size)?;
     if size > 0 {
-        states.push(State::Pending(Shape {
-            slots: Vec::new(alloc),
-            entries: Vec::new(alloc),
-        }))?;
+        states.push(State::Pending(nothing(alloc)))?;
         for _i in 1..size {
             states.push(State::Unseen)?;
         }
@@ -359,9 +412,10 @@ pub fn flow(alloc: Global, code: &Code) -> Result<Result<Vec<State>, Fault>, NoM
     let locals = locals(code);
     let mut states = start(alloc, size)?;
     let mut queue = BinaryHeap::new(alloc);
+    let mut x = nothing(alloc);
     queue.push(Reverse(0))?;
     while let Some(p) = least(&states, &mut queue) {
-        if let Err(rule) = visit(alloc, code, locals, &mut states, &mut queue, p)? {
+        if let Err(rule) = visit(alloc, code, locals, &mut states, &mut queue, &mut x, p)? {
             return Ok(Err(Fault { rule, position: p }));
         }
     }

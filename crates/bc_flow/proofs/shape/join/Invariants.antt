@@ -1,7 +1,7 @@
-use Rattle.std.proofs.Common.{◌≡◌, drop}
-use Rattle.bc_flow.specs.Shape.{join}
-use Rattle.bc_flow.proofs.Loops.{prefix}
+use Rattle.std.proofs.Common.{◌≤◌}
+use Rattle.bc_flow.specs.Views.{slots_of_rust}
+use Rattle.bc_flow.proofs.Joining.{Partly}
 use Rattle.bc_flow.proofs.shape.join.Given as goal
 
-abbrev pub invariant-loop-n : goal.invariant-loop-n
-invariant-loop-n l = join l.ks l.ls ≡ prefix l.joined.items (join (drop l.n l.ks) (drop l.n l.ls))
+abbrev pub invariant-loop-i : goal.invariant-loop-i
+invariant-loop-i l = Partly l.initial.slots.items (slots_of_rust l.arriving) (λ k. l.i ≤ k) l.slots.items l.changed

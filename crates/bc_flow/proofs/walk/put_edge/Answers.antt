@@ -2,14 +2,14 @@ use Rattle.std.proofs.Common.{◌≡◌, ◌∙◌, ap, sym, subst, refl, Some}
 use Rattle.std.specs.BinaryHeap.{heap_items}
 use Rattle.bc_flow.specs.Verified.{put, IsPending}
 use Rattle.bc_flow.specs.Shape.{At}
-use Rattle.bc_flow.specs.Views.{at_of, table_of, has_if}
+use Rattle.bc_flow.specs.Views.{edge_of_rust, table_of, has_if}
 use Rattle.bc_flow.proofs.Queues.{put_queued, put_was, put_never}
 use Rattle.bc_flow.proofs.walk.put_edge.Goals.{else-not-was_pending-via-then-not-was_pending+else-is_pending, else-not-was_pending-via-else-not-was_pending}
 use Rattle.bc_flow.proofs.walk.put_edge.Goals as goal
 
 pub returns-in_ok-push-clause-queued : goal.returns-in_ok-push-clause-queued
 returns-in_ok-push-clause-queued c q =
-    put_queued (table_of c.args.states.now.items) (table_of c.put.new.states.items) c.args.edge.to (at_of c.args.edge.at) _ (heap_items c.args.queue.now) (heap_items c.push.new.self)
+    put_queued (table_of c.args.states.now.items) (table_of c.put.new.states.items) c.args.edge.to (edge_of_rust c.args.edge).at _ (heap_items c.args.queue.now) (heap_items c.push.new.self)
     (ap (λ b. has_if b c.put.new.states.items) (sym c.if-not-branch.false) ∙ c.in_ok-put.ensures)
     refl (c.in_ok-push.ensures.heap_order q.ordered) c.in_ok-push.ensures.permutation q
 
@@ -17,7 +17,7 @@ pub returns-else-not-was_pending-clause-queued : goal.returns-else-not-was_pendi
 returns-else-not-was_pending-clause-queued c q =
     let t = table_of c.args.states.now.items in
     let u = table_of c.put.new.states.items in
-    let x = at_of c.args.edge.at in
+    let x = (edge_of_rust c.args.edge).at in
     let n = c.args.edge.to in
     let xs = heap_items c.args.queue.now in
     let puts : Some u ≡ put t n x = ap (λ b. has_if b c.put.new.states.items) (sym c.if-not-branch.false) ∙ c.in_ok-put.ensures in

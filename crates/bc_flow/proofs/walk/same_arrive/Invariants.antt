@@ -1,0 +1,8 @@
+use Rattle.std.proofs.Common.{◌≡◌, drop, map}
+use Rattle.bc_flow.specs.Edges.{mark}
+use Rattle.bc_flow.specs.Shape.{same_entries}
+use Rattle.bc_flow.specs.Views.{behind_of, edge_of_rust}
+use Rattle.bc_flow.proofs.walk.same_arrive.Given as goal
+
+abbrev pub invariant-loop-i : goal.invariant-loop-i
+invariant-loop-i l = same_entries (edge_of_rust l.edge).at.entries (edge_of_rust l.other).at.entries ≡ same_entries (map (mark l.edge.to) (drop l.i (behind_of l.edge.entries))) (map (mark l.other.to) (drop l.i (behind_of l.other.entries)))
