@@ -11,7 +11,7 @@ pub(crate) const HEAD: [u8; 13] = [
 ];
 
 // The constants of a tuple, and a loop; no source gives it.
-const LOOP: [u8; 58] = [
+pub(crate) const LOOP: [u8; 58] = [
     0x4d, 0x06, 0x00, 0x1f, 0x03, 0x01, 0x08, 0x68, 0x2e, 0x70, 0x79, 0x00, 0x0f, 0x81, 0x77, 0x0a,
     0x03, 0x05, 0x02, 0x61, 0x62, 0x00, 0x01, 0x07, 0x01, 0x35, 0x81, 0x70, 0x10, 0x02, 0x01, 0x11,
     0x02, 0x23, 0x00, 0x34, 0x01, 0x59, 0x80, 0x42, 0x49, 0x57, 0x11, 0x02, 0x5a, 0x34, 0x01, 0x59,
@@ -102,5 +102,26 @@ fn verified_codes_are_counted(rt: HostRuntime) -> Result<(), Fail> {
         answer.say.bytes(),
         "mpy: b.mpy: file 1 BadHeader\n".as_bytes()
     );
+    Ok(())
+}
+
+/// A file of so many codes, each in the one before, which makes it and drops it.
+fn nested(alloc: Global, depth: usize) -> Result<Vec<u8>, AllocError> {
+    let mut file = Vec::from_slice(alloc, &HEAD)?;
+    for _code in 1..depth {
+        file.extend_from_slice(&[0x44, 0x00, 0x02, 0x01, 0x32, 0x00, 0x59, 0x51, 0x63, 0x01])?;
+    }
+    file.extend_from_slice(&[0x28, 0x00, 0x02, 0x01, 0x51, 0x63])?;
+    Ok(file)
+}
+
+#[test]
+fn codes_nest(rt: HostRuntime) -> Result<(), Fail> {
+    let alloc = rt.alloc();
+    let answer = checked(alloc, nested(alloc, 32)?)?;
+    assert_eq!(rt; answer.status, 0);
+    assert_eq!(rt; answer.out.bytes(), "verified 32\n".as_bytes());
+    let answer = checked(alloc, nested(alloc, 33)?)?;
+    assert_eq!(rt; answer.say.bytes(), "mpy: b.mpy: file 9 TooBig\n".as_bytes());
     Ok(())
 }

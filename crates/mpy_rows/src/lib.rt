@@ -10,4 +10,8 @@ mod dump;
 #[cfg(test)]
 mod first_path;
 #[cfg(test)]
+mod library;
+#[cfg(test)]
+mod slots;
+#[cfg(test)]
 mod sources;

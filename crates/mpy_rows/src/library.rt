@@ -1,0 +1,237 @@
+//! Libraries of files that were read and verified.
+
+ghost use Rattle.std.specs.Prelude.{◌<◌, ◌^◌, length, All};
+ghost use Rattle.std.specs.Bool.{OnTrue};
+
+use crate::check::LOOP;
+use arena_heap::{ConstNo, Constants, StrNo, Value};
+use bc_library::{LibFault, Library, Member};
+use bc_verify::{Verified, verify};
+use mpy_base::Refused;
+use mpy_reader::read;
+use std::alloc::Global;
+use std::test::Fail;
+
+/// An entry to add, a module's or one whose file was refused, and what is answered.
+#[derive(Clone, Copy)]
+struct Step<'a> {
+    refused: bool,
+    name: &'a [u8],
+    answer: Option<LibFault>,
+}
+
+const fn takes(name: &[u8]) -> Step<'_> {
+    Step {
+        refused: false,
+        name,
+        answer: None,
+    }
+}
+
+const fn refuses(name: &[u8]) -> Step<'_> {
+    Step {
+        refused: true,
+        name,
+        answer: None,
+    }
+}
+
+/// The module of `LOOP`.
+fn module(alloc: Global) -> Result<Verified, Fail> {
+    let Ok(raw) = read(alloc, &LOOP) else {
+        return Err("not read".into());
+    };
+    match verify(alloc, raw) {
+        Ok(verified) => Ok(verified),
+        Err(_) => Err("not verified".into()),
+    }
+}
+
+/// Is it short, and of ASCII alone?
+fn is_name(name: &[u8]) -> bool
+    ensures short { OnTrue result (length name.now < 2 ^ 31) }
+    ensures ascii { OnTrue result (All (λ byte. byte < 128) name.now) }
+{
+    name.len() < 100 && name.iter().all(|byte| *byte < 128)
+}
+
+/// Why the module isn't added.
+fn add(alloc: Global, library: &mut Library, name: &[u8]) -> Result<Option<LibFault>, Fail>
+    requires short { length name.now < 2 ^ 31 }
+    requires ascii { All (λ byte. byte < 128) name.now }
+{
+    match library.add(alloc, name, module(alloc)?) {
+        Ok(()) => Ok(None),
+        Err((Refused::Fault(fault), _)) => Ok(Some(fault)),
+        Err((Refused::NoMemory, _)) => Err("memory".into()),
+    }
+}
+
+fn refuse(alloc: Global, library: &mut Library, name: &[u8]) -> Result<Option<LibFault>, Fail>
+    requires short { length name.now < 2 ^ 31 }
+    requires ascii { All (λ byte. byte < 128) name.now }
+{
+    match library.add_refused(alloc, name) {
+        Ok(()) => Ok(None),
+        Err(Refused::Fault(fault)) => Ok(Some(fault)),
+        Err(Refused::NoMemory) => Err("memory".into()),
+    }
+}
+
+/// Does the step, if it is answered so.
+fn go(alloc: Global, library: &mut Library, step: Step<'_>) -> Result<(), Fail> {
+    if !is_name(step.name) {
+        return Err("no name".into());
+    }
+    let answer = if step.refused {
+        refuse(alloc, library, step.name)?
+    } else {
+        add(alloc, library, step.name)?
+    };
+    if answer == step.answer {
+        Ok(())
+    } else {
+        Err("another answer".into())
+    }
+}
+
+/// A library that these steps lead to.
+fn library_of(alloc: Global, steps: &[Step<'_>]) -> Result<Library, Fail> {
+    let mut library = Library::new(alloc)?;
+    for step in steps {
+        go(alloc, &mut library, *step)?;
+    }
+    Ok(library)
+}
+
+fn told(fine: bool, wrong: &'static str) -> Result<(), Fail> {
+    if fine { Ok(()) } else { Err(wrong.into()) }
+}
+
+const TWICE: Option<LibFault> = Some(LibFault::Twice);
+
+const NAMES: [Step<'static>; 6] = [
+    takes(b"a"),
+    refuses(b"b"),
+    takes(b"c"),
+    Step {
+        answer: TWICE,
+        ..takes(b"b")
+    },
+    Step {
+        answer: TWICE,
+        ..takes(b"c")
+    },
+    Step {
+        answer: TWICE,
+        ..refuses(b"a")
+    },
+];
+
+const MEMBERS: [(&[u8], Option<Member>); 4] = [
+    (b"a", Some(Member::Module(0))),
+    (b"b", Some(Member::Refused)),
+    (b"c", Some(Member::Module(1))),
+    (b"d", None),
+];
+
+#[test]
+fn entries_have_names_of_their_own(rt: HostRuntime) -> Result<(), Fail> {
+    let library = library_of(rt.alloc(), &NAMES)?;
+    for (name, member) in MEMBERS {
+        told(library.find(name) == member, "another member")?;
+    }
+    told(library.module(1).is_some(), "no second module")?;
+    told(library.module(2).is_none(), "a third module")?;
+    told(library.greatest() == (3, 0), "other counts")
+}
+
+/// A library of 128 modules and as many refused entries.
+fn filled(alloc: Global) -> Result<Library, Fail> {
+    let mut library = Library::new(alloc)?;
+    for n in 0..128u8 {
+        let name = [b'a' + n / 16, b'a' + n % 16];
+        go(alloc, &mut library, takes(&name))?;
+        go(alloc, &mut library, refuses(&[b'x', name[0], name[1]]))?;
+    }
+    Ok(library)
+}
+
+const MANY: Option<LibFault> = Some(LibFault::TooMany);
+
+const PAST: [Step<'static>; 3] = [
+    Step {
+        answer: MANY,
+        ..takes(b"a")
+    },
+    Step {
+        answer: MANY,
+        ..refuses(b"a")
+    },
+    Step {
+        answer: TWICE,
+        ..takes(b"aa")
+    },
+];
+
+#[test]
+fn refused_entries_count_too(rt: HostRuntime) -> Result<(), Fail> {
+    let alloc = rt.alloc();
+    let mut library = filled(alloc)?;
+    for step in PAST {
+        go(alloc, &mut library, step)?;
+    }
+    told(library.find(b"a").is_none(), "a further entry")
+}
+
+// The names, their last part, and the text of the file's own. Of the second name only the name itself is new.
+const TEXTS: [(u32, Option<&[u8]>); 6] = [
+    (7, Some(b"<module>")),
+    (166, Some(b"a.b")),
+    (167, Some(b"b")),
+    (168, Some(b"h.py")),
+    (169, Some(b"c.b")),
+    (170, None),
+];
+
+const NUMBERS: [(u32, Option<u32>); 3] = [(0, Some(168)), (1, Some(7)), (3, None)];
+
+#[test]
+fn a_text_has_one_number(rt: HostRuntime) -> Result<(), Fail> {
+    let library = library_of(rt.alloc(), &[takes(b"a.b"), takes(b"c.b")])?;
+    for (number, text) in TEXTS {
+        told(library.text(StrNo::Pool(number)) == text, "another text")?;
+    }
+    for (qstr, number) in NUMBERS {
+        told(library.text_number(0, qstr) == number, "another number")?;
+        told(library.text_number(1, qstr) == number, "another number of the second")?;
+    }
+    Ok(())
+}
+
+// The one object of each module is a tuple of the text `ab`, None and 5.
+const fn constant(module: u32, object: u32) -> ConstNo {
+    ConstNo { module, object }
+}
+
+const ITEMS: [(u32, Option<Value>); 4] = [
+    (0, Some(Value::Str(StrNo::Object(constant(1, 1))))),
+    (1, Some(Value::None)),
+    (2, Some(Value::Int(5))),
+    (3, None),
+];
+
+#[test]
+fn constants_have_numbers(rt: HostRuntime) -> Result<(), Fail> {
+    let library = library_of(rt.alloc(), &[takes(b"a"), takes(b"b")])?;
+    let pair = constant(1, 0);
+    for (at, item) in ITEMS {
+        told(library.item(pair, at) == item, "another item")?;
+    }
+    let text = library.text(StrNo::Object(constant(1, 1)));
+    told(text == Some("ab".as_bytes()), "another text")?;
+    told(library.object(1, 0) == Some(Value::Fixed(pair)), "another object")?;
+    told(library.object(1, 1).is_none(), "a second object")?;
+    told(library.len(pair) == Some(3), "another length")?;
+    told(library.len(constant(2, 0)).is_none(), "a third module")
+}
