@@ -51,6 +51,10 @@ module_cell _ q = absurd cc
 pub module_head : (a : Inside) {h : Heap Value ℕ} → seen a ≡ h → (n : ℕ) → IsA h.objects AModule n → (name : ℕ) × (heads a.cells.items n ≡ variants.ModuleHead name)
 module_head a e n is = module_cell (heads a.cells.items n) (seen_head a e AModule n is)
 
+-- a module has the names that it has
+pub titled : (o : Option ArenaObject) (name : ℕ) (names : Option ℕ) → o ≡ Some (ModuleObject name names) → o ≡ Some (ModuleObject name (names_of o))
+titled o name names e = e ∙ ap (λ (k : Option ℕ). Some (ModuleObject name k)) (sym (ap names_of e))
+
 -- what has names is a module
 pub named_module : (h : Heap Value ℕ) (n : ℕ) → IsSome (names_of (object h.objects n)) → IsA h.objects AModule n
 named_module h n some = of_some (object h.objects n) some

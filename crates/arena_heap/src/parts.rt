@@ -72,6 +72,14 @@ pub fn module_parts(arena: &Arena, m: ModuleNo) -> (u32, DictNo)
     (name, names)
 }
 
+/// The name of a module, whether its namespace is set or not.
+pub fn module_title(arena: &Arena, m: ModuleNo) -> u32
+    requires { IsA arena.now.objects AModule m.cell }
+    ensures { object arena.now.objects m.cell ≡ Some (ModuleObject result (names_of (object arena.now.objects m.cell))) }
+{
+    module_name(&arena.cells, m.cell)
+}
+
 /// Sets the place of an exception: where it was raised last.
 pub fn exc_place(arena: &mut Arena, e: ExcNo, file: u32, line: u32, name: u32)
     requires { IsA arena.old.objects AnException e.cell }

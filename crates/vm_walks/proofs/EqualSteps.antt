@@ -25,7 +25,7 @@ mapped f xs at x e = slice_get-map f xs at ∙ ap (option_map f) e
 pub dropped : {X Y : Type 0} (f : X → Y) (xs : List X) (at : ℕ) (x : X) → slice_get xs at ≡ Some x → drop at (map f xs) ≡ f x ∷ drop (at + 1) (map f xs)
 dropped f xs at x e = drop_item (map f xs) at (f x) (mapped f xs at x e)
 
-none_left : {X Y : Type 0} (f : X → Y) (xs : List X) (at : ℕ) → length xs ≤ at → drop at (map f xs) ≡ []
+pub none_left : {X Y : Type 0} (f : X → Y) (xs : List X) (at : ℕ) → length xs ≤ at → drop at (map f xs) ≡ []
 none_left f xs at h = drop_of_length-le (map f xs) (omega (arith, length-map xs f))
 
 module _ {X : Type 0} (heap : PlainHeap) (equal : Val → Val → Walk Bool) (f : X → Val) where

@@ -1,9 +1,16 @@
+pub mod AsciiNames
+pub mod ContainSteps
 pub mod EqualSteps
 pub mod FoundKeys
 pub mod FoundPairs
 pub mod Identities
+pub mod LeafTexts
 pub mod OrderSteps
+pub mod PenSteps
 pub mod PlainOrders
 pub mod PlainValues
 pub mod RangeTests
 pub mod RunSteps
+pub mod TextParts
+pub mod TextSteps
+pub mod WholeTexts

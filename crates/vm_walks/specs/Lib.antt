@@ -1,6 +1,9 @@
+pub mod Leaves
 pub mod Looks
 pub mod Meetings
 pub mod Numbers
 pub mod Orders
+pub mod Pens
 pub mod Plain
 pub mod Runs
+pub mod Whole

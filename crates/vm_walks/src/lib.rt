@@ -1,20 +1,35 @@
-//! Walks over the values of an arena: truth, equality and order, and how many visits a comparison makes.
+//! Walks over the values of an arena: truth, equality, order, the search for an item and the texts of values, and how
+//! many visits each makes.
 #![tactic(auto)]
 
 mod budget;
+mod containing;
 mod equality;
+mod exceptions;
 mod identity;
+mod leaves;
 mod look;
 mod meeting;
 mod names;
 mod orders;
 mod pairs;
+mod parts;
+mod pen;
+mod pieces;
 mod ranges;
 mod ranking;
+mod ruler;
+mod texts;
 mod truths;
+mod tuples;
+mod writing;
 
+pub use containing::{contains, visits_contains};
 pub use equality::{equal, visits_equal};
 pub use look::{Look, look_at};
 pub use names::builtin_name;
 pub use orders::{Unordered, order, visits_order};
+pub use parts::TextPart;
+pub use pen::Pen;
+pub use texts::{text_len, text_part, visits_text, write_text};
 pub use truths::truth;

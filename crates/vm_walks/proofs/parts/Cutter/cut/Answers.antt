@@ -1,0 +1,18 @@
+use Rattle.vm_walks.proofs.TextParts.{few_taken, skip_one, keep_one, full_one}
+use Rattle.std.proofs.Common.{arith}
+use Rattle.vm_walks.proofs.parts.Cutter.cut.Goals as goal
+
+pub returns-then-self-gt0-clause-kept : goal.returns-then-self-gt0-clause-kept
+returns-then-self-gt0-clause-kept c =
+    let s = c.args.self.now in
+    skip_one 256 s.skip _ c.args.byte c.if-self-gt0.true (few_taken s.part.count s.part.bytes 256 s.within)
+
+pub returns-then-self-lt256-clause-kept : goal.returns-then-self-lt256-clause-kept
+returns-then-self-lt256-clause-kept c =
+    let s = c.args.self.now in
+    keep_one 256 s.part.bytes s.part.count s.skip c.args.byte c.if-self-gt0.false (omega (arith, s.room, c.if-self-lt256.true)) c.if-self-lt256.true
+
+pub returns-else-self-lt256-clause-kept : goal.returns-else-self-lt256-clause-kept
+returns-else-self-lt256-clause-kept c =
+    let s = c.args.self.now in
+    full_one 256 s.part.bytes s.part.count s.skip c.args.byte s.room s.within c.if-self-lt256.false
