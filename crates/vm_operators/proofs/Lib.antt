@@ -1,0 +1,9 @@
+pub mod DictKeys
+pub mod IndexUses
+pub mod ItemFills
+pub mod ItemsShown
+pub mod KeyUses
+pub mod Looked
+pub mod Removals
+pub mod Repeats
+pub mod TextFills

@@ -1,0 +1,5 @@
+pub mod Changeless
+pub mod Containers
+pub mod Operands
+pub mod Operators
+pub mod Sources

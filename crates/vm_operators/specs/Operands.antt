@@ -1,0 +1,43 @@
+-- What operators see of their operands.
+use Rattle.std.specs.Prelude.{◌≡◌, ℕ, ℤ, Bool, List, Option, Some, None, is_some}
+use Rattle.mpy_base.specs.World.{Heap}
+use Rattle.arena_heap.specs.declared.value.Value.{Value}
+use Rattle.arena_heap.specs.declared.value.Value.TheVariants as values
+use Rattle.arena_heap.specs.declared.value.StrNo.{StrNo}
+use Rattle.arena_heap.specs.declared.value.ConstNo.{ConstNo}
+use Rattle.arena_heap.specs.Constants.{NestsWithin}
+use Rattle.py_values.specs.Shown.{number_of_truth}
+use Rattle.py_values.specs.Keys.{key_of}
+use Rattle.py_primitives.specs.Iterables.{items_in}
+use Rattle.vm_walks.specs.Plain.{plain, plain_heap}
+
+-- the number that a value counts as
+abbrev pub number_in : Value → Option ℤ
+number_in (values.Bool b) = Some (number_of_truth b)
+number_in (values.Int z) = Some z
+number_in _ = None
+
+-- does a value have items, whatever the constants are?
+abbrev pub DecidesIterable : Heap Value ℕ → Value → Bool → Type 0
+DecidesIterable heap v answer =
+    (texts : StrNo → Option (List ℕ)) (tuples : ConstNo → Option (List Value)) → answer ≡ is_some (items_in (plain_heap texts tuples heap) (plain texts tuples v))
+
+-- may a value be a key, whatever the constants are?
+abbrev pub DecidesKey : Heap Value ℕ → Value → Bool → Type 0
+DecidesKey heap v answer =
+    (texts : StrNo → Option (List ℕ)) (tuples : ConstNo → Option (List Value)) → answer ≡ is_some (key_of (plain_heap texts tuples heap) (plain texts tuples v))
+
+-- values whose items are no new texts
+abbrev pub HasItems : Value → Type 0
+HasItems (values.Fixed c) = Unit {0}
+HasItems values.Empty = Unit {0}
+HasItems (values.List l) = Unit {0}
+HasItems (values.Tuple t) = Unit {0}
+HasItems (values.Dict d) = Unit {0}
+HasItems (values.Range r) = Unit {0}
+HasItems _ = ⊥
+
+-- a constant tuple has tuples in it to a depth of 32 at most
+abbrev pub IsNested : (ConstNo → Option (List Value)) → Value → Type 0
+IsNested tuples (values.Fixed c) = NestsWithin tuples 32 c
+IsNested tuples _ = Unit {0}

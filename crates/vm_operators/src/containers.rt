@@ -1,0 +1,30 @@
+//! What indexes find in values.
+
+ghost use Rattle.arena_heap.specs.Values.{Leads};
+ghost use Rattle.vm_operators.specs.Containers.{IsContainer};
+
+use arena_heap::{Arena, DictNo, ListNo, Value};
+
+/// What an index finds in a value: a dict's keys, places that can be set, places, or nothing.
+#[derive(Clone, Copy)]
+pub(crate) enum Container {
+    Dict(DictNo),
+    List(ListNo),
+    Sequence,
+    Other,
+}
+
+pub(crate) fn container_of(_arena: &Arena, v: Value) -> Container
+    requires { Leads _arena.now.objects v }
+    ensures { IsContainer _arena.now v result }
+{
+    match v {
+        Value::Dict(d) => Container::Dict(d),
+        Value::List(l) => Container::List(l),
+        Value::Fixed(_) => Container::Sequence,
+        Value::Str(_) | Value::Text(_) | Value::Empty | Value::Tuple(_) | Value::Range(_) => {
+            Container::Sequence
+        }
+        _ => Container::Other,
+    }
+}

@@ -1,0 +1,120 @@
+//! Iterables and their items.
+
+ghost use Rattle.std.specs.Prelude.{◌≡◌, ◌^◌, ◌<◌, ◌∷◌, [], length, IfOk, IfErr};
+ghost use Rattle.mpy_base.specs.World.{TextObject, AText, IsA};
+ghost use Rattle.mpy_base.specs.Weights.{Made, Refused};
+ghost use Rattle.arena_heap.specs.Values.{Leads, IsStr};
+ghost use Rattle.arena_heap.specs.Constants.{IsTold};
+ghost use Rattle.arena_objects.specs.Keys.{AllTold};
+ghost use Rattle.arena_objects.specs.Iterables.{spelled, items_in as items_in_arena};
+ghost use Rattle.py_primitives.specs.Outcome.{gives};
+ghost use Rattle.py_primitives.specs.Iterables.{use_iter as use_iter_of, item_of as item_in, length_of as length_in};
+ghost use Rattle.vm_walks.specs.Plain.{plain, plain_heap};
+ghost use Rattle.vm_faults.specs.Outcomes.{IsOutcome};
+ghost use Rattle.vm_operators.specs.Operands.{DecidesIterable, HasItems, IsNested};
+
+use arena_heap::{Arena, Constants, TextNo, Value, text_fill};
+use arena_objects::{item_at, item_count, text_bytes};
+use mpy_base::NoRoom;
+use vm_faults::{Fault, Stop, type_of};
+
+/// A text of one byte.
+fn make_letter(arena: &mut Arena, byte: u8) -> Result<TextNo, NoRoom>
+    requires { byte < 128 }
+    ensures made { IfOk result (λ t. Made arena.old arena.new t.cell (TextObject (byte ∷ []))) }
+    ensures refused { IfErr result (λ e. Refused arena.old arena.new e 2 1) }
+    ensures kind { IfOk result (λ t. IsA arena.new.objects AText t.cell) }
+{
+    let t = arena.make_text(1)?;
+    text_fill(arena, t, 0, byte);
+    Ok(t)
+}
+
+fn is_iterable(_arena: &Arena, v: Value) -> bool
+    requires { Leads _arena.now.objects v }
+    ensures { DecidesIterable _arena.now v result }
+{
+    match v {
+        Value::Fixed(_) => true,
+        Value::Str(_) | Value::Text(_) | Value::Empty | Value::Tuple(_) | Value::List(_) => true,
+        Value::Dict(_) | Value::Range(_) => true,
+        _ => false,
+    }
+}
+
+/// An iterable itself.
+pub fn use_iter<C: Constants>(arena: &Arena, consts: &C, v: Value) -> Result<Value, Stop>
+    requires leads { Leads arena.now.objects v }
+    requires told { IsTold (C.text_of consts.now) (C.items_of consts.now) v }
+    requires all_told { AllTold (C.text_of consts.now) (C.items_of consts.now) arena.now.objects }
+    ensures { IsOutcome (C.text_of consts.now) (C.items_of consts.now) arena.now arena.now result (use_iter_of (plain_heap (C.text_of consts.now) (C.items_of consts.now) arena.now) (plain (C.text_of consts.now) (C.items_of consts.now) v)) }
+{
+    if is_iterable(arena, v) {
+        Ok(v)
+    } else {
+        Err(Stop::Raises(Fault::NotIterable(type_of(arena, v))))
+    }
+}
+
+/// Constant tuples nest at most 32 deep, and no iterable has 2^32 items.
+pub(crate) fn items_law<C: Constants>(arena: &Arena, consts: &C, v: Value)
+    requires leads { Leads arena.now.objects v }
+    requires told { IsTold (C.text_of consts.now) (C.items_of consts.now) v }
+    ensures nested { IsNested (C.items_of consts.now) v }
+    ensures few { length (items_in_arena (C.items_of consts.now) arena.now v) < 2 ^ 32 }
+{
+    if let Value::Fixed(c) = v {
+        let _len = consts.len(c);
+    }
+    let _count = item_count(arena, consts, v);
+}
+
+/// The item of a str, which is made.
+fn str_item<C: Constants>(arena: &mut Arena, consts: &C, s: Value, at: usize) -> Result<Value, Stop>
+    requires str { IsStr s }
+    requires leads { Leads arena.old.objects s }
+    requires told { IsTold (C.text_of consts.now) (C.items_of consts.now) s }
+    requires all_told { AllTold (C.text_of consts.now) (C.items_of consts.now) arena.old.objects }
+    requires within { at < length (spelled (C.text_of consts.now) arena.old s) }
+    ensures { IsOutcome (C.text_of consts.now) (C.items_of consts.now) arena.old arena.new result (item_in (plain_heap (C.text_of consts.now) (C.items_of consts.now) arena.old) (plain (C.text_of consts.now) (C.items_of consts.now) s) at) }
+{
+    let byte = text_bytes(arena, consts, s)[at];
+    match make_letter(arena, byte) {
+        Ok(letter) => Ok(Value::Text(letter)),
+        Err(room) => Err(Stop::Full(room)),
+    }
+}
+
+/// The item of another iterable.
+fn other_item<C: Constants>(arena: &Arena, consts: &C, over: Value, at: usize) -> Value
+    requires items { HasItems over }
+    requires leads { Leads arena.now.objects over }
+    requires told { IsTold (C.text_of consts.now) (C.items_of consts.now) over }
+    requires all_told { AllTold (C.text_of consts.now) (C.items_of consts.now) arena.now.objects }
+    requires within { at < length_in (plain_heap (C.text_of consts.now) (C.items_of consts.now) arena.now) (plain (C.text_of consts.now) (C.items_of consts.now) over) }
+    ensures item { item_in (plain_heap (C.text_of consts.now) (C.items_of consts.now) arena.now) (plain (C.text_of consts.now) (C.items_of consts.now) over) at ≡ gives (plain (C.text_of consts.now) (C.items_of consts.now) result) (plain_heap (C.text_of consts.now) (C.items_of consts.now) arena.now) }
+    ensures leads { Leads arena.now.objects result }
+    ensures told { IsTold (C.text_of consts.now) (C.items_of consts.now) result }
+{
+    items_law(arena, consts, over);
+    item_at(arena, consts, over, at as u32)
+}
+
+/// The item of an iterable at a place that is there. That of a str is made.
+pub fn item_of<C: Constants>(
+    arena: &mut Arena,
+    consts: &C,
+    over: Value,
+    at: usize,
+) -> Result<Value, Stop>
+    requires leads { Leads arena.old.objects over }
+    requires told { IsTold (C.text_of consts.now) (C.items_of consts.now) over }
+    requires all_told { AllTold (C.text_of consts.now) (C.items_of consts.now) arena.old.objects }
+    requires within { at < length_in (plain_heap (C.text_of consts.now) (C.items_of consts.now) arena.old) (plain (C.text_of consts.now) (C.items_of consts.now) over) }
+    ensures { IsOutcome (C.text_of consts.now) (C.items_of consts.now) arena.old arena.new result (item_in (plain_heap (C.text_of consts.now) (C.items_of consts.now) arena.old) (plain (C.text_of consts.now) (C.items_of consts.now) over) at) }
+{
+    match over {
+        Value::Str(_) | Value::Text(_) => str_item(arena, consts, over, at),
+        _ => Ok(other_item(arena, consts, over, at)),
+    }
+}

@@ -1,0 +1,56 @@
+//! Strs that are joined and repeated.
+
+ghost use Rattle.std.specs.Prelude.{◌≡◌, ◌≢◌, ◌^◌, ◌<◌, Some, [], length};
+ghost use Rattle.mpy_base.specs.World.{AText, IsA, Later, text_at, with_text};
+ghost use Rattle.arena_heap.specs.declared.value.StrNo.TheVariants as strs;
+ghost use Rattle.arena_objects.specs.Keys.{AllTold};
+ghost use Rattle.py_primitives.specs.Outcome.{making_text};
+ghost use Rattle.vm_walks.specs.Plain.{plain_heap};
+ghost use Rattle.vm_faults.specs.Outcomes.{IsOutcome};
+ghost use Rattle.vm_operators.specs.Sources.{source_bytes, AreStrs, IsApart};
+
+use crate::sources::{Source, byte_at, bytes_len};
+use arena_heap::{Arena, Constants, StrNo, TextNo, Value, text_fill};
+use vm_faults::Stop;
+
+/// Writes the bytes of strs to a text of their length.
+fn fill_text<C: Constants>(arena: &mut Arena, consts: &C, t: TextNo, count: u32, source: Source)
+    requires text { IsA arena.old.objects AText t.cell }
+    requires strs { AreStrs (C.text_of consts.now) (C.items_of consts.now) arena.old.objects source }
+    requires apart { IsApart t.cell source }
+    requires bytes { length (source_bytes (C.text_of consts.now) arena.old source) ≡ count }
+    requires room { length (text_at arena.old t.cell) ≡ count }
+    ensures filled { arena.new ≡ with_text arena.old t.cell (source_bytes (C.text_of consts.now) arena.old source) }
+    ensures later { Later arena.old.objects arena.new.objects }
+{
+    for at in 0..count {
+        let byte = byte_at(arena, consts, source, at as usize);
+        text_fill(arena, t, at, byte);
+    }
+}
+
+/// A text of the bytes of strs. The empty one is a constant.
+pub(crate) fn make_joined<C: Constants>(
+    arena: &mut Arena,
+    consts: &C,
+    source: Source,
+) -> Result<Value, Stop>
+    requires strs { AreStrs (C.text_of consts.now) (C.items_of consts.now) arena.old.objects source }
+    requires all_told { AllTold (C.text_of consts.now) (C.items_of consts.now) arena.old.objects }
+    requires empty { C.text_of consts.now (strs.Pool 1) ≡ Some [] }
+    ensures { IsOutcome (C.text_of consts.now) (C.items_of consts.now) arena.old arena.new result (making_text (plain_heap (C.text_of consts.now) (C.items_of consts.now) arena.old) (source_bytes (C.text_of consts.now) arena.old source)) }
+{
+    let len = bytes_len(arena, consts, source);
+    if len == 0 {
+        return Ok(Value::Str(StrNo::Pool(1)));
+    }
+    let before = arena.used().bytes;
+    match arena.make_text(len) {
+        Ok(t) => {
+            let count = arena.used().bytes - before;
+            fill_text(arena, consts, t, count, source);
+            Ok(Value::Text(t))
+        }
+        Err(room) => Err(Stop::Full(room)),
+    }
+}

@@ -1,0 +1,24 @@
+//! Operators and uses of values over an arena: each call is the primitive of its name.
+#![tactic(auto)]
+
+mod containers;
+mod deletions;
+mod indexes;
+mod item_joins;
+mod items;
+mod joins;
+mod keys;
+mod lengths;
+mod numbers;
+mod one_operand;
+mod operand;
+mod operators;
+mod places;
+mod sources;
+
+pub use deletions::delete_item;
+pub use indexes::get_item;
+pub use items::{item_of, use_iter};
+pub use lengths::length_of;
+pub use one_operand::{unary, unary_not};
+pub use operators::{Operator, UnaryOperator};

@@ -1,0 +1,20 @@
+//! What operators see of their operands.
+
+ghost use Rattle.std.specs.Prelude.{◌≡◌};
+ghost use Rattle.arena_heap.specs.Values.{HasSmall};
+ghost use Rattle.vm_operators.specs.Operands.{number_in};
+
+use arena_heap::Value;
+use py_values::SmallInt;
+
+/// The number that a value counts as, if it does.
+pub(crate) fn number_of(v: Value) -> Option<SmallInt>
+    requires { HasSmall v }
+    ensures { result ≡ number_in v }
+{
+    match v {
+        Value::Bool(b) => SmallInt::new(b as i32),
+        Value::Int(n) => SmallInt::new(n),
+        _ => None,
+    }
+}
