@@ -23,7 +23,9 @@ use Rattle.py_primitives.specs.Outcome.{Outcome, gives, raises}
 use Rattle.py_primitives.specs.Iterables.{range_number, shown_items, items_in, shown_length, shown_item, or_nil, over_items}
 use Rattle.vm_walks.specs.Plain.{plain, plain_by, plain_pair, plain_object, plain_heap, fixed_within}
 use Rattle.vm_walks.proofs.PlainValues.{object_plain, fixed_shown, within_step, shown_fixed}
+use Rattle.vm_operators.specs.declared.operands.Shape.TheVariants as shapes
 use Rattle.vm_operators.specs.Operands.{HasItems, IsNested}
+use Rattle.vm_operators.specs.Pairs.{ShowsShape}
 
 -- an iterable, and what is none
 pub iterates : (heap : PlainHeap) (v : Val) (o : Option (List Val)) → true ≡ is_some o → over_items heap v o (λ items. gives v heap) ≡ gives v heap
@@ -134,3 +136,11 @@ fixed_no_key texts tuples h v c is =
     let items = map (plain_by texts (fixed_within texts tuples 31)) (or_nothing (tuples c)) in
     sym (ap (λ (w : Value). is_some (key_of heap (plain texts tuples w))) is
     ∙ (ap (λ (w : Val). is_some (key_of heap w)) (within_step texts tuples 31 c) ∙ ap (λ (s : Shown). is_some (shown_key s)) (shown_fixed heap items)))
+
+pub fixed_shape : (texts : StrNo → Option (List ℕ)) (tuples : ConstNo → Option (List Value)) (h : Heap Value ℕ) (v : Value) (c : ConstNo) → v ≡ values.Fixed c
+    → ShowsShape (shown (plain_heap texts tuples h) (plain texts tuples v)) shapes.Tuple
+fixed_shape texts tuples h v c is =
+    let heap = plain_heap texts tuples h in
+    let items = map (plain_by texts (fixed_within texts tuples 31)) (or_nothing (tuples c)) in
+    let shows : shown heap (plain texts tuples v) ≡ Tuple items = ap (λ (w : Value). shown heap (plain texts tuples w)) is ∙ (ap (shown heap) (within_step texts tuples 31 c) ∙ shown_fixed heap items) in
+    subst (λ (s : Shown). ShowsShape s shapes.Tuple) (sym shows) tt

@@ -4,6 +4,8 @@ pub mod ItemFills
 pub mod ItemsShown
 pub mod KeyUses
 pub mod Looked
+pub mod Pairings
 pub mod Removals
 pub mod Repeats
+pub mod Shaped
 pub mod TextFills

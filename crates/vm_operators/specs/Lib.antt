@@ -2,4 +2,5 @@ pub mod Changeless
 pub mod Containers
 pub mod Operands
 pub mod Operators
+pub mod Pairs
 pub mod Sources

@@ -12,9 +12,11 @@ mod lengths;
 mod numbers;
 mod one_operand;
 mod operand;
+mod operands;
 mod operators;
 mod places;
 mod sources;
+mod two_operands;
 
 pub use deletions::delete_item;
 pub use indexes::get_item;
@@ -22,3 +24,4 @@ pub use items::{item_of, use_iter};
 pub use lengths::length_of;
 pub use one_operand::{unary, unary_not};
 pub use operators::{Operator, UnaryOperator};
+pub use two_operands::binary;

@@ -1,0 +1,169 @@
+//! Operators over two operands.
+
+ghost use Rattle.std.specs.Prelude.{◌≡◌, Some, []};
+ghost use Rattle.arena_heap.specs.declared.value.StrNo.TheVariants as strs;
+ghost use Rattle.arena_heap.specs.Values.{Leads};
+ghost use Rattle.arena_heap.specs.Constants.{IsTold};
+ghost use Rattle.arena_objects.specs.Keys.{AllTold};
+ghost use Rattle.py_values.specs.Shown.{at_least_zero};
+ghost use Rattle.py_primitives.specs.Operators.{binary as binary_of};
+ghost use Rattle.vm_walks.specs.Plain.{plain, plain_heap};
+ghost use Rattle.vm_faults.specs.Outcomes.{IsOutcome};
+ghost use Rattle.vm_operators.specs.Operators.{plain_operator};
+ghost use Rattle.vm_operators.specs.Pairs.{AreShaped, IsOperands, joined, IsUnsupported};
+
+use crate::item_joins::{make_joined_list, make_joined_tuple};
+use crate::items::items_law;
+use crate::joins::make_joined;
+use crate::numbers::{gives_number, number_answer};
+use crate::operands::{Operands, Shape, operands_of};
+use crate::operators::Operator;
+use crate::sources::Source;
+use arena_heap::{Arena, Constants, Value};
+use py_values::SmallInt;
+use vm_faults::{Fault, Stop, type_of};
+
+/// A new str, tuple or list of these.
+fn make_shaped<C: Constants>(
+    arena: &mut Arena,
+    consts: &C,
+    shape: Shape,
+    source: Source,
+) -> Result<Value, Stop>
+    requires shaped { AreShaped (C.text_of consts.now) (C.items_of consts.now) arena.old.objects shape source }
+    requires all_told { AllTold (C.text_of consts.now) (C.items_of consts.now) arena.old.objects }
+    requires empty { C.text_of consts.now (strs.Pool 1) ≡ Some [] }
+    ensures { IsOutcome (C.text_of consts.now) (C.items_of consts.now) arena.old arena.new result (joined (C.text_of consts.now) (C.items_of consts.now) arena.old shape source) }
+{
+    match shape {
+        Shape::Text => make_joined(arena, consts, source),
+        Shape::Tuple => make_joined_tuple(arena, consts, source),
+        Shape::List => make_joined_list(arena, consts, source),
+    }
+}
+
+/// What an operator raises over operands of other types.
+fn unsupported(arena: &Arena, op: Operator, left: Value, right: Value) -> Fault
+    requires left { Leads arena.now.objects left }
+    requires right { Leads arena.now.objects right }
+    ensures { IsUnsupported arena.now (plain_operator op) left right result }
+{
+    Fault::Unsupported {
+        method: op.method(),
+        left: type_of(arena, left),
+        right: type_of(arena, right),
+    }
+}
+
+fn times(n: SmallInt) -> u32
+    ensures { result ≡ at_least_zero n }
+{
+    n.value().max(0) as u32
+}
+
+/// Two strs, tuples or lists, which `+` joins.
+fn of_shapes<C: Constants>(
+    arena: &mut Arena,
+    consts: &C,
+    op: Operator,
+    left: Value,
+    right: Value,
+    shape: Shape,
+) -> Result<Value, Stop>
+    requires left_leads { Leads arena.old.objects left }
+    requires right_leads { Leads arena.old.objects right }
+    requires left_told { IsTold (C.text_of consts.now) (C.items_of consts.now) left }
+    requires right_told { IsTold (C.text_of consts.now) (C.items_of consts.now) right }
+    requires all_told { AllTold (C.text_of consts.now) (C.items_of consts.now) arena.old.objects }
+    requires empty { C.text_of consts.now (strs.Pool 1) ≡ Some [] }
+    requires operands { IsOperands arena.old left right (Operands.Alike shape) }
+    ensures { IsOutcome (C.text_of consts.now) (C.items_of consts.now) arena.old arena.new result (binary_of (plain_heap (C.text_of consts.now) (C.items_of consts.now) arena.old) (plain_operator op) (plain (C.text_of consts.now) (C.items_of consts.now) left) (plain (C.text_of consts.now) (C.items_of consts.now) right)) }
+{
+    items_law(arena, consts, left);
+    items_law(arena, consts, right);
+    match op {
+        Operator::Add => make_shaped(arena, consts, shape, Source::Joined(left, right)),
+        _ => Err(Stop::Raises(unsupported(arena, op, left, right))),
+    }
+}
+
+/// A str, tuple or list and a number, so many times of which `*` gives.
+fn of_left<C: Constants>(
+    arena: &mut Arena,
+    consts: &C,
+    op: Operator,
+    left: Value,
+    right: Value,
+    shape: Shape,
+    n: SmallInt,
+) -> Result<Value, Stop>
+    requires left_leads { Leads arena.old.objects left }
+    requires right_leads { Leads arena.old.objects right }
+    requires left_told { IsTold (C.text_of consts.now) (C.items_of consts.now) left }
+    requires right_told { IsTold (C.text_of consts.now) (C.items_of consts.now) right }
+    requires all_told { AllTold (C.text_of consts.now) (C.items_of consts.now) arena.old.objects }
+    requires empty { C.text_of consts.now (strs.Pool 1) ≡ Some [] }
+    requires operands { IsOperands arena.old left right (Operands.Left shape n) }
+    ensures { IsOutcome (C.text_of consts.now) (C.items_of consts.now) arena.old arena.new result (binary_of (plain_heap (C.text_of consts.now) (C.items_of consts.now) arena.old) (plain_operator op) (plain (C.text_of consts.now) (C.items_of consts.now) left) (plain (C.text_of consts.now) (C.items_of consts.now) right)) }
+{
+    items_law(arena, consts, left);
+    match op {
+        Operator::Multiply => {
+            make_shaped(arena, consts, shape, Source::Repeated(times(n), left))
+        }
+        _ => Err(Stop::Raises(unsupported(arena, op, left, right))),
+    }
+}
+
+/// The same with the number on the left.
+fn of_right<C: Constants>(
+    arena: &mut Arena,
+    consts: &C,
+    op: Operator,
+    left: Value,
+    right: Value,
+    shape: Shape,
+    n: SmallInt,
+) -> Result<Value, Stop>
+    requires left_leads { Leads arena.old.objects left }
+    requires right_leads { Leads arena.old.objects right }
+    requires left_told { IsTold (C.text_of consts.now) (C.items_of consts.now) left }
+    requires right_told { IsTold (C.text_of consts.now) (C.items_of consts.now) right }
+    requires all_told { AllTold (C.text_of consts.now) (C.items_of consts.now) arena.old.objects }
+    requires empty { C.text_of consts.now (strs.Pool 1) ≡ Some [] }
+    requires operands { IsOperands arena.old left right (Operands.Right shape n) }
+    ensures { IsOutcome (C.text_of consts.now) (C.items_of consts.now) arena.old arena.new result (binary_of (plain_heap (C.text_of consts.now) (C.items_of consts.now) arena.old) (plain_operator op) (plain (C.text_of consts.now) (C.items_of consts.now) left) (plain (C.text_of consts.now) (C.items_of consts.now) right)) }
+{
+    items_law(arena, consts, right);
+    match op {
+        Operator::Multiply => {
+            make_shaped(arena, consts, shape, Source::Repeated(times(n), right))
+        }
+        _ => Err(Stop::Raises(unsupported(arena, op, left, right))),
+    }
+}
+
+/// An operator over two numbers, or that joins or repeats strs, tuples and lists.
+pub fn binary<C: Constants>(
+    arena: &mut Arena,
+    consts: &C,
+    op: Operator,
+    left: Value,
+    right: Value,
+) -> Result<Value, Stop>
+    requires left_leads { Leads arena.old.objects left }
+    requires right_leads { Leads arena.old.objects right }
+    requires left_told { IsTold (C.text_of consts.now) (C.items_of consts.now) left }
+    requires right_told { IsTold (C.text_of consts.now) (C.items_of consts.now) right }
+    requires all_told { AllTold (C.text_of consts.now) (C.items_of consts.now) arena.old.objects }
+    requires empty { C.text_of consts.now (strs.Pool 1) ≡ Some [] }
+    ensures { IsOutcome (C.text_of consts.now) (C.items_of consts.now) arena.old arena.new result (binary_of (plain_heap (C.text_of consts.now) (C.items_of consts.now) arena.old) (plain_operator op) (plain (C.text_of consts.now) (C.items_of consts.now) left) (plain (C.text_of consts.now) (C.items_of consts.now) right)) }
+{
+    match operands_of(arena, left, right) {
+        Operands::Numbers(x, y) => gives_number(number_answer(op, x, y)),
+        Operands::Alike(shape) => of_shapes(arena, consts, op, left, right, shape),
+        Operands::Left(shape, n) => of_left(arena, consts, op, left, right, shape, n),
+        Operands::Right(shape, n) => of_right(arena, consts, op, left, right, shape, n),
+        Operands::Unfit => Err(Stop::Raises(unsupported(arena, op, left, right))),
+    }
+}
