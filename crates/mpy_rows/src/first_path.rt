@@ -8,6 +8,7 @@ use std::io::Write;
 use std::test::Fail;
 
 /// A command, what the folder holds, which calls fail, and what comes of it.
+#[derive(Clone, Copy)]
 struct Row {
     words: &'static [&'static str],
     name: &'static str,

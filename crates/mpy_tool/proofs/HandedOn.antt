@@ -1,5 +1,5 @@
 -- A command that was done, and whose text couldn't be handed on: all of it is told, as a front of itself.
-use Rattle.std.proofs.Common.{◌≡◌, ℕ, List, [], Option, sym}
+use Rattle.std.proofs.Common.{List, [], ℕ, Option, sym}
 use Rattle.std.proofs.lemmas.List.{append-nil}
 use Rattle.std.specs.Io.KnownBytes.{Appends, Keeps}
 use Rattle.std.proofs.KnownBytes.{Appends-kept}
