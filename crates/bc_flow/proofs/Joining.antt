@@ -1,5 +1,5 @@
 -- Slots that are joined in place, one after another.
-use Rattle.std.proofs.Common.{◌≡◌, ◌⊎◌, ℕ, zero, suc, ◌+◌, ◌<◌, ◌≤◌, Bool, true, false, List, [], ◌∷◌, length, get_or, set, Option, Some, None, refl, sym, ap, ◌∙◌, subst, arith, inl, inr}
+use Rattle.std.proofs.Common.{◌≡◌, ◌⊎◌, ℕ, zero, suc, ◌+◌, ◌<◌, ◌≤◌, Bool, true, false, List, [], ◌∷◌, length, get_or, set, take, drop, replicate, ◌++◌, ◌-◌, Option, Some, None, refl, sym, ap, ◌∙◌, subst, arith, inl, inr}
 use Rattle.std.specs.Bool.{OnTrue, OnFalse}
 use Rattle.std.specs.Prelude.{◌||◌, not, IfNone}
 use Rattle.std.proofs.lemmas.Bool.{false≢true, true≢false}
@@ -8,7 +8,12 @@ use Rattle.bc_flow.specs.declared.kinds.Kind.{Kind}
 use Rattle.bc_flow.specs.declared.kinds.Kind.TheVariants as kinds
 use Rattle.bc_flow.specs.Shape.{Below, same, value, cause, Belows, none, also, join_kind, both, join, is_either, opens}
 use Rattle.bc_flow.specs.Joins.{JoinsAt, Joins}
-use Rattle.bc_flow.proofs.Loops.{at_rest}
+use Rattle.bc_flow.specs.Partly.{Partly}
+use Rattle.std.proofs.Common.{length-drop, length-take}
+use Rattle.bc_flow.specs.Shape.{after}
+use Rattle.bc_flow.specs.declared.kinds.Give.{Give}
+use Rattle.bc_flow.specs.declared.kinds.Give.TheVariants.{New}
+use Rattle.bc_flow.proofs.Loops.{at_rest, get_drop, slot_rest, gives_size}
 use Rattle.bc_flow.proofs.Joins.{on_at, join_kind_on, belows_refl, belows_trans, belows_same, opens_below}
 
 abbrev pub slot : List Kind → ℕ → Kind
@@ -149,14 +154,6 @@ slot_kept ks i l old m o lt r e f c =
 pub slot_none : (ks : List Kind) (i : ℕ) (l old : Kind) (o : Option Kind) → i < length ks → old ≡ get_or ks i old → o ≡ join_kind old l → o ≡ None → join_kind (slot ks i) l ≡ None
 slot_none ks i l old o lt r e f = ap (λ z. join_kind z l) (sym (at_rest ks i old kinds.Either lt r)) ∙ sym e ∙ f
 
--- the slots so far, where those of `Left` may still be to join
-pub record Partly (ks ls : List Kind) (Left : ℕ → Type 0) (ms : List Kind) (changed : Bool) : Type 0 where
-  pub long : length ms ≡ length ks
-  pub each : (k : ℕ) → k < length ks → (join_kind (slot ks k) (slot ls k) ≡ Some (slot ms k)) ⊎ (Left k × (slot ms k ≡ slot ks k))
-  pub up : Belows ks ms
-  pub fewer : OnTrue changed (opens ms < opens ks)
-  pub kept : OnFalse changed (ms ≡ ks)
-
 pub partly_start : (ks ls : List Kind) (Left : ℕ → Type 0) → ((k : ℕ) → k < length ks → (join_kind (slot ks k) (slot ls k) ≡ Some (slot ks k)) ⊎ Left k) → Partly ks ls Left ks false
 partly_start ks ls Left f = record {
   long = refl;
@@ -261,3 +258,72 @@ le_cases (suc i) (suc k) h = elim (le_cases i k (omega (arith, h))) [ inl e ↦ 
 pub if_none_from : {A : Type 0} → (o : Option A) (P : Type 0) → P → IfNone o P
 if_none_from None P h = h
 if_none_from (Some x) P h = tt
+
+or_false : (b : Bool) → b ≡ (b || false)
+or_false true = refl
+or_false false = refl
+
+or_assoc : (b c d : Bool) → ((b || c) || d) ≡ (b || (c || d))
+or_assoc true c d = refl
+or_assoc false c d = refl
+
+itself : (k : Kind) → join_kind k k ≡ Some k
+itself kinds.Value = refl
+itself kinds.Cause = refl
+itself kinds.Either = refl
+itself kinds.Iter1 = refl
+itself kinds.Iter2 = refl
+itself kinds.Iter3 = refl
+itself kinds.Iter4 = refl
+itself kinds.Null = refl
+itself kinds.Method = refl
+
+-- one run of slots after another
+pub run_none : (ks ls ms : List Kind) (Left : ℕ → Type 0) (b : Bool) → Partly ks ls Left ms b → Partly ks ls Left ms (b || false)
+run_none ks ls ms Left b p = subst (Partly ks ls Left ms) (or_false b) p
+
+pub run_more : (ks ls ms : List Kind) (Left : ℕ → Type 0) (b c d e : Bool) → e ≡ (c || d) → Partly ks ls Left ms ((b || c) || d) → Partly ks ls Left ms (b || e)
+run_more ks ls ms Left b c d e h p = subst (Partly ks ls Left ms) (or_assoc b c d ∙ ap (λ z. b || z) (sym h)) p
+
+le_decides : (n k : ℕ) → (n ≤ k) ⊎ (k < n)
+le_decides zero k = inl (omega arith)
+le_decides (suc n) zero = inr (omega arith)
+le_decides (suc n) (suc k) = elim (le_decides n k) [ inl h ↦ inl (omega (arith, h)) | inr h ↦ inr (omega (arith, h)) ]
+
+pub run_skip : (ks ls ms : List Kind) (from to : ℕ) (b : Bool) → ((k : ℕ) → from ≤ k → k < to → slot ms k ≡ slot ls k) → Partly ks ls (λ k. from ≤ k) ms b → Partly ks ls (λ k. to ≤ k) ms b
+run_skip ks ls ms from to b f p = record {
+  long = p.long;
+  each = λ k lt. elim (p.each k lt) [
+    | inl e ↦ inl e
+    | inr h ↦ elim (le_decides to k) [
+      | inl le ↦ inr (le, h.1)
+      | inr less ↦ inl (ap (join_kind (slot ks k)) (sym (f k h.0 less) ∙ h.1) ∙ itself (slot ks k) ∙ ap Some (sym h.1))
+    ]
+  ];
+  up = p.up;
+  fewer = p.fewer;
+  kept = p.kept;
+}
+
+-- a run of slots in its place
+get_run : (xs : List Kind) (a n k : ℕ) (d : Kind) → a ≤ k → k < a + n → get_or (take n (drop a xs)) (k - a) d ≡ get_or xs k d
+get_run xs a n k d le lt = taken n (drop a xs) (k - a) (omega (arith, le, lt)) ∙ get_drop a (k - a) xs d ∙ ap (λ j. get_or xs j d) (let q : a + (k - a) ≡ k = omega arith in q)
+  where
+    taken : (n : ℕ) (ys : List Kind) (i : ℕ) → i < n → get_or (take n ys) i d ≡ get_or ys i d
+    taken zero ys i h = absurd (omega (arith, h))
+    taken (suc n) [] i h = refl
+    taken (suc n) (y ∷ ys) zero h = refl
+    taken (suc n) (y ∷ ys) (suc i) h = taken n ys i (omega (arith, h))
+
+pub runs_same : (ms dl found bel : List Kind) (n : ℕ) (gs : List Give) (tk from to given : ℕ) → dl ≡ ms → bel ≡ drop tk found → given ≡ length (replicate n (New kinds.Value) ++ gs) → length (replicate n (New kinds.Value) ++ gs) ≤ from → from ≤ to → to ≤ length ms → ((k : ℕ) → k < length (take (to - from) (drop from dl)) → slot (take (to - from) (drop from dl)) k ≡ slot (take (to - given - (from - given)) (drop (from - given) bel)) k) → (k : ℕ) → from ≤ k → k < to → slot ms k ≡ slot (after (replicate n (New kinds.Value) ++ gs) tk found) k
+runs_same ms dl found bel n gs tk from to given d b g a le most f k low high =
+    let many = gives_size n gs in
+    let size : length (take (to - from) (drop from dl)) ≡ to - from = let p = length-take (to - from) (drop from dl) in let q = length-drop from dl in let r = ap length d in omega (arith, p, q, r, most, le) in
+    sym (get_run ms from (to - from) k kinds.Either low (omega (arith, high, low)))
+    ∙ ap (λ z. slot (take (to - from) (drop from z)) (k - from)) (sym d)
+    ∙ f (k - from) (omega (arith, size, low, high))
+    ∙ ap (slot (take (to - given - (from - given)) (drop (from - given) bel))) (let q : k - from ≡ (k - given) - (from - given) = omega (arith, a, g, low) in q)
+    ∙ get_run bel (from - given) (to - given - (from - given)) (k - given) kinds.Either (omega (arith, a, g, low)) (omega (arith, a, g, low, high))
+    ∙ ap (λ z. slot z (k - given)) b
+    ∙ ap (slot (drop tk found)) (let q : k - given ≡ k - (n + length gs) = omega (arith, g, many) in q)
+    ∙ sym (slot_rest n gs tk found k kinds.Either (omega (arith, a, many, low)))

@@ -139,7 +139,7 @@ slot_below i [] js ks d le = ap (λ j. get_or js j d) (let q : i ≡ i - zero = 
 slot_below zero (h ∷ gs) js ks d le = absurd (omega (arith, le))
 slot_below (suc i) (h ∷ gs) js ks d le = slot_below i gs js ks d (omega (arith, le)) ∙ ap (λ j. get_or js j d) (let q : i - length gs ≡ suc i - suc (length gs) = omega arith in q)
 
-get_drop : (n i : ℕ) (ks : List Kind) (d : Kind) → get_or (drop n ks) i d ≡ get_or ks (n + i) d
+pub get_drop : (n i : ℕ) (ks : List Kind) (d : Kind) → get_or (drop n ks) i d ≡ get_or ks (n + i) d
 get_drop zero i ks d = ap (λ j. get_or ks j d) (let q : i ≡ zero + i = omega arith in q)
 get_drop (suc n) i [] d = refl
 get_drop (suc n) i (k ∷ ks) d = get_drop n i ks d ∙ ap (λ j. get_or (k ∷ ks) j d) (let q : suc (n + i) ≡ suc n + i = omega arith in q)
@@ -164,6 +164,15 @@ same_read (k ∷ ks) (suc i) d e lt = same_read ks i d e (omega (arith, lt))
 
 pub slot_found : (n i : ℕ) (gs : List Give) (taken : ℕ) (ks : List Kind) (d e : Kind) → n ≤ i → length gs ≤ i - n → taken + (i - n - length gs) < length ks → get_or ks (taken + (i - n - length gs)) e ≡ get_or (after (replicate n (New kinds.Value) ++ gs) taken ks) i d
 slot_found n i gs taken ks d e le lt within = same_read ks (taken + (i - n - length gs)) e d within ∙ sym (slot_past n i gs taken ks d le ∙ slot_below (i - n) gs (drop taken ks) ks d lt ∙ get_drop taken (i - n - length gs) ks d)
+
+pub gives_size : (n : ℕ) (gs : List Give) → length (replicate n (New kinds.Value) ++ gs) ≡ n + length gs
+gives_size zero gs = let q : length gs ≡ zero + length gs = omega arith in q
+gives_size (suc n) gs = let e = gives_size n gs in let q : suc (length (replicate n (New kinds.Value) ++ gs)) ≡ suc n + length gs = omega (arith, e) in q
+
+pub slot_rest : (n : ℕ) (gs : List Give) (taken : ℕ) (ks : List Kind) (k : ℕ) (d : Kind) → n + length gs ≤ k → get_or (after (replicate n (New kinds.Value) ++ gs) taken ks) k d ≡ get_or (drop taken ks) (k - (n + length gs)) d
+slot_rest n gs taken ks k d le =
+    slot_past n k gs taken ks d (omega (arith, le)) ∙ slot_below (k - n) gs (drop taken ks) ks d (omega (arith, le))
+    ∙ ap (λ j. get_or (drop taken ks) j d) (let q : k - n - length gs ≡ k - (n + length gs) = omega arith in q)
 
 pub slots_size : (n : ℕ) (gs : List Give) (taken : ℕ) (ks : List Kind) → length (after (replicate n (New kinds.Value) ++ gs) taken ks) ≡ n + length gs + (length ks - taken)
 slots_size zero gs taken ks = after_size gs taken ks ∙ (let q : length gs + (length ks - taken) ≡ zero + length gs + (length ks - taken) = omega arith in q)

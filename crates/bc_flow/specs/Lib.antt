@@ -4,6 +4,7 @@ pub mod Edges
 pub mod Joins
 pub mod Judged
 pub mod Machine
+pub mod Partly
 pub mod Queue
 pub mod Rules
 pub mod Shape

@@ -1,15 +1,21 @@
 //! Shapes, and where two meet.
 
-ghost use Rattle.std.specs.Prelude.{◌≡◌, ◌-◌, ◌<◌, ◌≤◌, ◌||◌, not, IfSome, IfNone, None, ℕ, drop, length, map, slice_index_or};
+ghost use Rattle.std.specs.Prelude.{◌≡◌, ◌-◌, ◌<◌, ◌≤◌, ◌||◌, not, IfSome, IfNone, OnSome, None, Bool, List, ℕ, drop, length, map, slice_index_or};
 ghost use Rattle.bc_flow.specs.Shape as specs;
 ghost use Rattle.bc_flow.specs.Joins.{JoinsAt, Joins};
-ghost use Rattle.bc_flow.specs.Views.{takes_of, slots_of_rust};
+ghost use Rattle.bc_flow.specs.Partly.{Partly};
+ghost use Rattle.bc_flow.specs.declared.kinds.Kind.{Kind as SpecKind};
+ghost use Rattle.std.specs.Bool.{OnTrue};
+ghost use Rattle.bc_flow.specs.Views.{takes_of, gives_of, slots_of_rust};
 ghost use Rattle.bc_flow.specs.declared.kinds.Kind.TheVariants.{Either};
 
 use crate::action::{Gives, Takes};
 use crate::kinds::{Give, Kind, Want};
 use mpy_base::NoMemory;
 use std::alloc::Global;
+
+/// How many slots are compared at a time.
+const RUN: usize = 64;
 
 /// A handler entry.
 #[derive(Clone, Copy, Debug, PartialEq, Eq)]
@@ -220,6 +226,56 @@ fn either(a: bool, b: bool) -> bool
     a || b
 }
 
+/// Joins the slots from one place up to another with those that arrive, if they meet, and says whether any changed.
+fn join_run(slots: &mut Vec<Kind>, arriving: Slots, from: usize, to: usize) -> Option<bool>
+    requires from { from ≤ to }
+    requires within { to ≤ length slots.now.items }
+    requires long { length slots.now.items ≡ length (slots_of_rust arriving) }
+    ensures some { (ks : List SpecKind) (b : Bool) → Partly ks (slots_of_rust arriving.entry) (λ k. from ≤ k) slots.old.items b
+        → IfSome result (λ c. Partly ks (slots_of_rust arriving.entry) (λ k. to ≤ k) slots.new.items (b || c)) }
+    ensures none { (ks : List SpecKind) (b : Bool) → Partly ks (slots_of_rust arriving.entry) (λ k. from ≤ k) slots.old.items b
+        → IfNone result (specs.join ks (slots_of_rust arriving.entry) ≡ None) }
+    ensures len { OnSome result (length slots.new.items ≡ length slots.old.items) }
+{
+    let mut changed = false;
+    for i in from..to {
+        let closed = join_slot(slots, i, arriving.at(i))?;
+        changed = either(changed, closed);
+    }
+    Some(changed)
+}
+
+/// Are these the same? All are looked at, which is fast where many are the same.
+fn same_kinds(ks: &[Kind], ls: &[Kind]) -> bool
+    requires { length ks.now ≡ length ls.now }
+    ensures { OnTrue result ((k : ℕ) → k < length ks.now → slice_index_or ks.now k Either ≡ slice_index_or ls.now k Either) }
+{
+    let mut differ = false;
+    for i in 0..ks.len() {
+        differ = either(differ, ks[i] != ls[i]);
+    }
+    !differ
+}
+/// Joins slots that are found with those that arrive, where they aren't the same.
+fn join_found(slots: &mut Vec<Kind>, arriving: Slots, from: usize, to: usize) -> Option<bool>
+    requires found { length (gives_of arriving.gives) ≤ from }
+    requires from { from ≤ to }
+    requires within { to ≤ length slots.now.items }
+    requires long { length slots.now.items ≡ length (slots_of_rust arriving) }
+    ensures some { (ks : List SpecKind) (b : Bool) → Partly ks (slots_of_rust arriving.entry) (λ k. from ≤ k) slots.old.items b
+        → IfSome result (λ c. Partly ks (slots_of_rust arriving.entry) (λ k. to ≤ k) slots.new.items (b || c)) }
+    ensures none { (ks : List SpecKind) (b : Bool) → Partly ks (slots_of_rust arriving.entry) (λ k. from ≤ k) slots.old.items b
+        → IfNone result (specs.join ks (slots_of_rust arriving.entry) ≡ None) }
+    ensures len { OnSome result (length slots.new.items ≡ length slots.old.items) }
+{
+    let given = arriving.gives.len();
+    let found = below(arriving.found, arriving.taken);
+    if same_kinds(&slots[from..to], &found[from - given..to - given]) {
+        return Some(false);
+    }
+    join_run(slots, arriving, from, to)
+}
+
 /// Joins slots with those that arrive, if they meet, and says whether any changed.
 pub(crate) fn join(slots: &mut Vec<Kind>, arriving: Slots) -> Option<bool>
     ensures some { IfSome result (Joins slots.old.items (slots_of_rust arriving.entry) slots.new.items) }
@@ -229,10 +285,13 @@ pub(crate) fn join(slots: &mut Vec<Kind>, arriving: Slots) -> Option<bool>
     if slots.len() != count {
         return None;
     }
-    let mut changed = false;
-    for i in 0..count {
-        let closed = join_slot(slots, i, arriving.at(i))?;
+    let mut from = arriving.gives.len();
+    let mut changed = join_run(slots, arriving, 0, from)?;
+    while from < count {
+        let to = count.min(from + RUN);
+        let closed = join_found(slots, arriving, from, to)?;
         changed = either(changed, closed);
+        from = to;
     }
     Some(changed)
 }

@@ -1,7 +1,14 @@
-use Rattle.std.proofs.Common.{◌≤◌}
-use Rattle.bc_flow.specs.Views.{slots_of_rust}
-use Rattle.bc_flow.proofs.Joining.{Partly}
+use Rattle.std.proofs.Common.{◌≤◌, ◌-◌, length}
+use Rattle.bc_flow.specs.Partly.{Partly}
+use Rattle.bc_flow.specs.Views.{gives_of, slots_of_rust}
 use Rattle.bc_flow.proofs.shape.join.Given as goal
 
-abbrev pub invariant-loop-i : goal.invariant-loop-i
-invariant-loop-i l = Partly l.initial.slots.items (slots_of_rust l.arriving) (λ k. l.i ≤ k) l.slots.items l.changed
+abbrev pub invariant-loop-from : goal.invariant-loop-from
+invariant-loop-from l = record {
+  partly : Partly l.fn.slots.items (slots_of_rust l.arriving) (λ k. l.from ≤ k) l.slots.items l.changed;
+  given : length (gives_of l.arriving.gives) ≤ l.from;
+  most : l.from ≤ l.count;
+}
+
+abbrev pub decreases-loop-from : goal.decreases-loop-from
+decreases-loop-from l = l.count - l.from
