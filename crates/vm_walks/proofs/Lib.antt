@@ -5,6 +5,7 @@ pub mod FoundKeys
 pub mod FoundPairs
 pub mod Identities
 pub mod LeafTexts
+pub mod OneSteps
 pub mod OrderSteps
 pub mod PenSteps
 pub mod PlainOrders

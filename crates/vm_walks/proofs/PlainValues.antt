@@ -68,6 +68,11 @@ module _ (texts : StrNo → Option (List ℕ)) (tuples : ConstNo → Option (Lis
       within_step (suc n) c
       ∙ (ap fixed_of (items_same (fixed_within texts tuples (suc n)) (fixed_within texts tuples n) n (tuples c) nests (λ d p. settled n d p)) ∙ sym (within_step n c))
 
+  -- a constant tuple has the values of its items
+  pub fixed_plain : (c : ConstNo) → NestsWithin tuples 32 c → plain texts tuples (values.Fixed c) ≡ fixed_of (map (plain texts tuples) (or_nothing (tuples c)))
+  fixed_plain c nests =
+      within_step 31 c ∙ ap fixed_of (items_same (fixed_within texts tuples 31) (fixed_within texts tuples 32) 31 (tuples c) nests (λ d p. sym (settled 31 d p)))
+
   -- what a constant tuple shows
   pub fixed_shown : (heap : PlainHeap) (c : ConstNo) → NestsWithin tuples 32 c → shown heap (plain texts tuples (values.Fixed c)) ≡ Tuple (map (plain texts tuples) (or_nothing (tuples c)))
   fixed_shown heap c nests =

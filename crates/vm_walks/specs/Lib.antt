@@ -2,6 +2,7 @@ pub mod Leaves
 pub mod Looks
 pub mod Meetings
 pub mod Numbers
+pub mod Ones
 pub mod Orders
 pub mod Pens
 pub mod Plain

@@ -1,4 +1,4 @@
-//! Walks over the values of an arena: truth, equality, order, the search for an item and the texts of values, and how
+//! Walks over the values of an arena: truth, identity, equality, order, the search for an item and texts, and how
 //! many visits each makes.
 #![tactic(auto)]
 
@@ -11,6 +11,7 @@ mod leaves;
 mod look;
 mod meeting;
 mod names;
+mod ones;
 mod orders;
 mod pairs;
 mod parts;
@@ -28,6 +29,7 @@ pub use containing::{contains, visits_contains};
 pub use equality::{equal, visits_equal};
 pub use look::{Look, look_at};
 pub use names::builtin_name;
+pub use ones::is_one;
 pub use orders::{Unordered, order, visits_order};
 pub use parts::TextPart;
 pub use pen::Pen;
