@@ -1,15 +1,14 @@
 -- Changes of an arena's heap, as changes of the heap that the meaning has.
-use Rattle.std.proofs.Common.{◌≡◌, ℕ, zero, suc, ◌+◌, ◌-◌, ◌^◌, min, List, [], ◌∷◌, ◌++◌, length, map, set, replicate, Bool, true, false, nat_le, ◌&&◌, Option, Some, None, refl, sym, ap, ap₂, ◌∙◌}
+use Rattle.std.proofs.Common.{◌≡◌, ℕ, zero, suc, ◌+◌, ◌-◌, ◌^◌, min, List, ◌∷◌, ◌++◌, map, set, replicate, true, false, nat_le, ◌&&◌, Option, Some, None, refl, sym, ap, ap₂, ◌∙◌}
 use Rattle.std.specs.Prelude.{if◌then◌else◌}
 use Rattle.std.proofs.lemmas.List.{map-append, map-set, length-map}
 use Rattle.arena_heap.specs.declared.value.Value.{Value}
 use Rattle.arena_heap.specs.declared.value.StrNo.{StrNo}
 use Rattle.arena_heap.specs.declared.value.ConstNo.{ConstNo}
-use Rattle.mpy_base.specs.World.{Object, ListObject, TupleObject, TextObject, DictObject, FunctionObject, ExceptionObject, MethodObject, RangeObject, ModuleObject, Heap, ObjectKind, object, kind_of, items_of, items_at, room_of, room_at, text_of, pairs_of, pairs_at, with_object, with_list, with_dict, with_tuple}
-use Rattle.mpy_base.specs.Weights.{used, more_cells, bytes_of, with_made, with_used, with_items, with_pairs, does_fit, no_room, list_growth, dict_growth, grown_room}
+use Rattle.mpy_base.specs.World.{Object, ListObject, TupleObject, TextObject, DictObject, FunctionObject, ExceptionObject, MethodObject, RangeObject, ModuleObject, Heap, object, kind_of, items_of, items_at, room_of, room_at, pairs_of, pairs_at, with_object, with_list, with_dict}
+use Rattle.mpy_base.specs.Weights.{used, more_cells, bytes_of, with_made, does_fit, no_room}
 use Rattle.mpy_base.specs.Val.{Val}
 use Rattle.arena_heap.specs.Values.{ArenaObject}
-use Rattle.py_values.specs.Shown.{PlainHeap}
 use Rattle.vm_walks.specs.Plain.{plain, plain_pair, plain_name, plain_object, plain_heap}
 use Rattle.vm_walks.proofs.PlainValues.{object_plain}
 

@@ -1,12 +1,12 @@
 -- Answers of calls that are a primitive's.
-use Rattle.std.proofs.Common.{◌≡◌, ℕ, suc, ◌+◌, List, Bool, true, false, cond, Option, Some, Result, Ok, Err, inl, inr, refl, sym, ap, ap₂, ◌∙◌, subst, arith}
+use Rattle.std.proofs.Common.{◌≡◌, ℕ, suc, List, Bool, true, false, cond, Option, Some, Ok, Err, refl, sym, ap, ap₂, ◌∙◌, subst, arith}
 use Rattle.std.specs.List.{All}
 use Rattle.arena_heap.specs.declared.value.Value.{Value}
 use Rattle.arena_heap.specs.declared.value.StrNo.{StrNo}
 use Rattle.arena_heap.specs.declared.value.ConstNo.{ConstNo}
 use Rattle.mpy_base.specs.declared.room.NoRoom.{NoRoom}
 use Rattle.mpy_base.specs.World.{Object, Heap, Later}
-use Rattle.mpy_base.specs.Weights.{used, does_fit, no_room, Fits, Made, Refused, cells_of, bytes_of, with_made}
+use Rattle.mpy_base.specs.Weights.{used, does_fit, Fits, Made, Refused, cells_of, bytes_of, with_made}
 use Rattle.mpy_base.specs.Val.{Val, At}
 use Rattle.mpy_base.proofs.Worlds.{later_made, later_same}
 use Rattle.arena_heap.specs.Values.{ArenaObject, Leads, held}

@@ -1,5 +1,5 @@
 -- The keys and pairs of an arena's dicts, as the meaning has them.
-use Rattle.std.proofs.Common.{◌≡◌, ℕ, zero, suc, ◌+◌, ◌<◌, List, [], ◌∷◌, ◌++◌, length, map, get_or, Bool, true, false, cond, Option, Some, None, refl, sym, ap, subst, ◌∙◌, arith, length-append}
+use Rattle.std.proofs.Common.{◌≡◌, ℕ, zero, suc, ◌<◌, List, [], ◌∷◌, ◌++◌, length, map, get_or, Bool, true, false, Option, Some, None, refl, ap, subst, ◌∙◌, arith, length-append}
 use Rattle.std.specs.Prelude.{ℤ, IsSome}
 use Rattle.std.specs.Option.{option_map}
 use Rattle.std.specs.List.{remove}
@@ -21,7 +21,7 @@ use Rattle.arena_objects.specs.Keys as arena
 use Rattle.arena_objects.specs.Keys.{key_in, AllTold}
 use Rattle.arena_objects.specs.Iterables.{or_nothing}
 use Rattle.arena_objects.proofs.Places.{no_pair}
-use Rattle.py_values.specs.Shown.{PlainHeap, shown_object}
+use Rattle.py_values.specs.Shown.{shown_object}
 use Rattle.py_values.specs.Keys.{PlainKey, NoneKey, NumberKey, TextKey, shown_key, key_of, is_same_key, has_key, value_of_key, with_key, without_key}
 use Rattle.vm_walks.specs.Plain.{plain, plain_pair, plain_object, plain_heap}
 use Rattle.vm_walks.proofs.PlainValues.{object_plain}

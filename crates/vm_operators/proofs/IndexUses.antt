@@ -1,18 +1,18 @@
 -- Uses of items by their indexes.
-use Rattle.std.proofs.Common.{◌≡◌, ℕ, ℤ, List, map, Option, Some, None, refl, sym, ap, ◌∙◌, subst}
+use Rattle.std.proofs.Common.{◌≡◌, ℕ, List, map, Option, Some, None, refl, sym, ap, ◌∙◌, subst}
 use Rattle.arena_heap.specs.declared.value.Value.{Value}
 use Rattle.arena_heap.specs.declared.value.Value.TheVariants as values
 use Rattle.arena_heap.specs.declared.value.StrNo.{StrNo}
 use Rattle.arena_heap.specs.declared.value.ConstNo.{ConstNo}
 use Rattle.arena_heap.specs.declared.value.DictNo.{DictNo}
 use Rattle.arena_heap.specs.declared.value.ListNo.{ListNo}
-use Rattle.mpy_base.specs.World.{ListObject, DictObject, Heap, AList, ADict, IsA, object, kind_of, items_of, items_at, pairs_of, pairs_at}
+use Rattle.mpy_base.specs.World.{ListObject, DictObject, Heap, AList, ADict, object, kind_of, items_of, items_at, pairs_of, pairs_at}
 use Rattle.mpy_base.specs.Val.{Val, At}
 use Rattle.arena_heap.specs.Values.{ArenaObject, Leads}
 use Rattle.arena_objects.specs.Iterables.{or_nothing}
 use Rattle.py_values.specs.Shown.{PlainHeap, Shown, Nothing, Number, Text, Tuple, Items, Pairs, Range, Other, shown, shown_object}
 use Rattle.py_values.specs.Names.{type_name}
-use Rattle.py_primitives.specs.Faults.{NotAnIndex, NotSubscriptable, NotAssignable, NotDeletable}
+use Rattle.py_primitives.specs.Faults.{NotAnIndex, NotSubscriptable, NotDeletable}
 use Rattle.py_primitives.specs.Outcome.{Outcome, raises}
 use Rattle.py_primitives.specs.Iterables.{item_of}
 use Rattle.py_primitives.specs.Uses.{at_shown, at_place, shown_at, delete_shown, delete_item}

@@ -1,9 +1,9 @@
 -- Tuples and lists that are filled item by item.
-use Rattle.std.proofs.Common.{◌≡◌, ℕ, zero, suc, ◌+◌, ◌-◌, ◌<◌, ◌≤◌, List, [], ◌∷◌, ◌++◌, length, take, drop, map, get_or, set, replicate, Option, Some, None, refl, sym, ap, ap₂, ◌∙◌, subst, inl, inr, arith, length-append, get_or-set_same, get_or-set_other}
+use Rattle.std.proofs.Common.{◌≡◌, ℕ, suc, ◌+◌, ◌<◌, ◌≤◌, List, [], ◌∷◌, ◌++◌, length, take, map, get_or, set, replicate, Option, Some, None, refl, sym, ap, ap₂, ◌∙◌, subst, inl, inr, arith, get_or-set_same, get_or-set_other}
 use Rattle.std.specs.Prelude.{slice_get}
 use Rattle.std.specs.List.{repeat, insert, All}
 use Rattle.std.proofs.Math.Seq.{take-suc}
-use Rattle.std.proofs.lemmas.List.{set_at, set-set, set-get_or, length-take-le, length-map, take_all, length-replicate}
+use Rattle.std.proofs.lemmas.List.{set_at, set-set, set-get_or, length-take-le, take_all, length-replicate}
 use Rattle.std.proofs.lemmas.Option.{slice_get-get_or, slice_get_within}
 use Rattle.std.proofs.lemmas.List.Edits.{insert_end}
 use Rattle.std.proofs.lemmas.List.Elements.{All-set, All-push, All-nil, All-replicate}
@@ -13,10 +13,10 @@ use Rattle.arena_heap.specs.declared.value.Value.TheVariants as values
 use Rattle.arena_heap.specs.declared.value.StrNo.{StrNo}
 use Rattle.arena_heap.specs.declared.value.ConstNo.{ConstNo}
 use Rattle.mpy_base.specs.World.{ListObject, TupleObject, Heap, ObjectKind, AList, ATuple, IsA, Later, object, kind_of, items_of, items_at, room_of, room_at, text_of, with_object, with_list, with_tuple}
-use Rattle.mpy_base.specs.Weights.{used, Fits, Made}
+use Rattle.mpy_base.specs.Weights.{Fits, Made}
 use Rattle.mpy_base.specs.Val.{Val, Empty}
 use Rattle.mpy_base.proofs.Worlds.{is_within, object_before, object_made, used_made}
-use Rattle.arena_heap.specs.Values.{ArenaObject, Leads, needs, held}
+use Rattle.arena_heap.specs.Values.{ArenaObject, Leads, held}
 use Rattle.arena_heap.specs.Constants.{IsTold}
 use Rattle.arena_heap.proofs.Sounds.{leads_later}
 use Rattle.arena_objects.specs.Keys.{AllTold}

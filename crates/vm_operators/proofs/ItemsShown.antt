@@ -1,16 +1,15 @@
 -- The items of an arena's iterables, as the meaning has them.
-use Rattle.std.proofs.Common.{◌≡◌, ℕ, ℤ, pos, ◌+ℤ◌, ◌*ℤ◌, ◌<◌, List, [], ◌∷◌, length, map, get_or, Bool, true, false, Option, Some, None, refl, sym, ap, ap₂, ◌∙◌, subst, arith}
-use Rattle.std.specs.Prelude.{slice_get, is_some, slice_index}
+use Rattle.std.proofs.Common.{◌≡◌, ℕ, pos, ◌+ℤ◌, ◌*ℤ◌, ◌<◌, List, [], ◌∷◌, length, map, true, false, Option, Some, None, refl, sym, ap, ◌∙◌, subst, arith}
+use Rattle.std.specs.Prelude.{slice_get, is_some}
 use Rattle.std.specs.Option.{option_map}
-use Rattle.std.specs.List.{range_with_len}
 use Rattle.std.proofs.lemmas.List.{length-map}
 use Rattle.std.proofs.lemmas.Option.{slice_get-map, slice_get_within}
 use Rattle.arena_heap.specs.declared.value.Value.{Value}
 use Rattle.arena_heap.specs.declared.value.Value.TheVariants as values
 use Rattle.arena_heap.specs.declared.value.StrNo.{StrNo}
 use Rattle.arena_heap.specs.declared.value.ConstNo.{ConstNo}
-use Rattle.mpy_base.specs.World.{Object, ListObject, TupleObject, TextObject, DictObject, RangeObject, Heap, ObjectKind, AList, ATuple, ADict, ARange, AText, object, kind_of, text_of}
-use Rattle.mpy_base.specs.Val.{Val, Int}
+use Rattle.mpy_base.specs.World.{ListObject, TupleObject, TextObject, DictObject, RangeObject, Heap, ObjectKind, AList, ATuple, ADict, ARange, AText, object, kind_of, text_of}
+use Rattle.mpy_base.specs.Val.{Val}
 use Rattle.arena_heap.specs.Values.{ArenaObject, Leads, IsStr}
 use Rattle.arena_objects.specs.Iterables as arena
 use Rattle.arena_objects.specs.Iterables.{or_nothing, given, spelled}
@@ -19,8 +18,8 @@ use Rattle.py_values.specs.Shown.{PlainHeap, Shown, Text, Tuple, range_len, show
 use Rattle.py_values.specs.Names.{type_name}
 use Rattle.py_values.specs.Keys.{key_of, shown_key}
 use Rattle.py_primitives.specs.Faults.{NotIterable}
-use Rattle.py_primitives.specs.Outcome.{Outcome, gives, raises}
-use Rattle.py_primitives.specs.Iterables.{range_number, shown_items, items_in, shown_length, shown_item, or_nil, over_items}
+use Rattle.py_primitives.specs.Outcome.{gives, raises}
+use Rattle.py_primitives.specs.Iterables.{shown_items, items_in, shown_length, shown_item, or_nil, over_items}
 use Rattle.vm_walks.specs.Plain.{plain, plain_by, plain_pair, plain_object, plain_heap, fixed_within}
 use Rattle.vm_walks.proofs.PlainValues.{object_plain, fixed_shown, within_step, shown_fixed}
 use Rattle.vm_operators.specs.declared.operands.Shape.TheVariants as shapes

@@ -1,5 +1,5 @@
 -- Uses of the value of a key.
-use Rattle.std.proofs.Common.{◌≡◌, ℕ, List, Bool, true, false, cond, Option, Some, None, refl, sym, ap, ◌∙◌}
+use Rattle.std.proofs.Common.{◌≡◌, List, Bool, true, false, cond, Option, Some, None, sym, ap, ◌∙◌}
 use Rattle.std.specs.Prelude.{is_some, codes}
 use Rattle.mpy_base.specs.Val.{Val}
 use Rattle.py_values.specs.Shown.{PlainHeap}

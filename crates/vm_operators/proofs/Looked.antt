@@ -1,5 +1,5 @@
 -- What values of an arena show.
-use Rattle.std.proofs.Common.{◌≡◌, ℕ, ℤ, List, [], ◌∷◌, map, Bool, true, false, Option, Some, None, refl, sym, ap, ◌∙◌}
+use Rattle.std.proofs.Common.{◌≡◌, ℕ, ℤ, List, map, Option, Some, None, refl, ap, ◌∙◌}
 use Rattle.arena_heap.specs.declared.value.Value.{Value}
 use Rattle.arena_heap.specs.declared.value.Value.TheVariants as values
 use Rattle.arena_heap.specs.declared.value.StrNo.{StrNo}
@@ -10,7 +10,7 @@ use Rattle.arena_objects.specs.Iterables.{or_nothing}
 use Rattle.py_values.specs.Shown.{PlainHeap, Shown, Number, shown, shown_object}
 use Rattle.py_values.specs.Names.{type_name}
 use Rattle.py_primitives.specs.Faults.{UnsupportedOne}
-use Rattle.py_primitives.specs.Outcome.{Outcome, raises}
+use Rattle.py_primitives.specs.Outcome.{raises}
 use Rattle.py_primitives.specs.Operators.{UnaryOperator, unary_method, unary_shown}
 use Rattle.vm_walks.specs.Plain.{plain, plain_by, plain_heap, fixed_within}
 use Rattle.vm_walks.proofs.PlainValues.{within_step, shown_fixed}

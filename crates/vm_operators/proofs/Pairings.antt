@@ -1,8 +1,7 @@
 -- Operators over texts, tuples, lists and numbers, as what they show.
-use Rattle.std.proofs.Common.{◌≡◌, ℕ, ℤ, List, refl, sym, ap, ap₂, ◌∙◌, subst}
+use Rattle.std.proofs.Common.{◌≡◌, ℤ, refl, sym, ap, ap₂, ◌∙◌, subst}
 use Rattle.mpy_base.specs.Val.{Val}
 use Rattle.py_values.specs.Shown.{PlainHeap, Shown, Nothing, Number, Text, Tuple, Items, Pairs, Range, Other}
-use Rattle.py_primitives.specs.Outcome.{Outcome}
 use Rattle.py_primitives.specs.Operators.{Operator, Or, Xor, And, ShiftLeft, ShiftRight, Add, Subtract, Multiply, FloorDivide, Modulo, Power, operator_method, binary_shown, unsupported, gives_number, number_answer}
 use Rattle.vm_operators.specs.declared.operands.Shape.{Shape}
 use Rattle.vm_operators.specs.declared.operands.Shape.TheVariants as shapes

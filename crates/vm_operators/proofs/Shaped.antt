@@ -1,5 +1,5 @@
 -- Strs, tuples and lists that are joined and repeated.
-use Rattle.std.proofs.Common.{◌≡◌, ℕ, zero, suc, ℤ, List, [], ◌∷◌, ◌++◌, map, Option, Some, refl, sym, ap, ap₂, ◌∙◌}
+use Rattle.std.proofs.Common.{◌≡◌, ℕ, zero, suc, ℤ, List, ◌++◌, map, Option, Some, refl, sym, ap, ◌∙◌}
 use Rattle.std.specs.List.{repeat}
 use Rattle.std.proofs.lemmas.List.{map-append}
 use Rattle.arena_heap.specs.declared.value.Value.{Value}
@@ -11,7 +11,7 @@ use Rattle.mpy_base.specs.Val.{Val}
 use Rattle.arena_heap.specs.Values.{ArenaObject, Leads}
 use Rattle.arena_objects.specs.Iterables.{given, items_in, spelled}
 use Rattle.py_values.specs.Shown.{Shown, Number, Text, Tuple, Items, at_least_zero, shown, shown_object}
-use Rattle.py_primitives.specs.Outcome.{Outcome, making_tuple, making_list}
+use Rattle.py_primitives.specs.Outcome.{making_tuple, making_list}
 use Rattle.py_primitives.specs.Operators.{Add, Multiply, binary_shown}
 use Rattle.vm_walks.specs.Plain.{plain, plain_object, plain_heap}
 use Rattle.vm_walks.proofs.PlainValues.{object_plain, fixed_shown}

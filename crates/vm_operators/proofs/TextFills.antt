@@ -1,19 +1,19 @@
 -- Texts that are filled byte by byte.
-use Rattle.std.proofs.Common.{◌≡◌, ℕ, zero, suc, ◌+◌, ◌-◌, ◌^◌, ◌<◌, ◌≤◌, min, List, [], ◌∷◌, ◌++◌, length, take, drop, get_or, set, replicate, append_assoc, Option, Some, None, refl, sym, ap, ap₂, ◌∙◌, subst, arith, length-append, get_or-set_same, get_or-set_other}
+use Rattle.std.proofs.Common.{◌≡◌, ℕ, suc, ◌+◌, ◌-◌, ◌^◌, ◌<◌, ◌≤◌, min, List, [], ◌∷◌, ◌++◌, length, take, drop, get_or, set, replicate, append_assoc, Option, Some, None, refl, sym, ap, ap₂, ◌∙◌, subst, arith, length-append, get_or-set_same, get_or-set_other}
 use Rattle.std.specs.Prelude.{if◌then◌else◌, nat_le, true, false}
 use Rattle.std.specs.List.{repeat}
 use Rattle.std.proofs.Math.Seq.{take-suc, drop-cons}
-use Rattle.std.proofs.lemmas.List.{set_at, set-set, set-get_or, length-take-le, length-drop, take_all, drop_all, append-nil, length-replicate, get_or_append_left}
+use Rattle.std.proofs.lemmas.List.{set_at, set-set, set-get_or, length-take-le, length-drop, take_all, drop_all, append-nil, length-replicate}
 use Rattle.arena_heap.specs.declared.value.Value.{Value}
 use Rattle.arena_heap.specs.declared.value.Value.TheVariants as values
 use Rattle.arena_heap.specs.declared.value.StrNo.{StrNo}
 use Rattle.arena_heap.specs.declared.value.ConstNo.{ConstNo}
 use Rattle.mpy_base.specs.declared.room.NoRoom.{NoRoom}
 use Rattle.mpy_base.specs.World.{TextObject, Heap, AText, IsA, Later, object, kind_of, text_of, text_at, with_text}
-use Rattle.mpy_base.specs.Weights.{used, with_made, more_cells, Fits, Made, Refused, no_room}
-use Rattle.mpy_base.specs.Val.{Val, Str}
+use Rattle.mpy_base.specs.Weights.{used, Fits, Made, Refused}
+use Rattle.mpy_base.specs.Val.{Str}
 use Rattle.mpy_base.proofs.Worlds.{is_within, object_before, object_made, used_made}
-use Rattle.arena_heap.specs.Values.{ArenaObject, Leads}
+use Rattle.arena_heap.specs.Values.{ArenaObject}
 use Rattle.arena_heap.proofs.Sounds.{leads_later}
 use Rattle.arena_objects.specs.Iterables.{given, spelled}
 use Rattle.arena_objects.proofs.Gifts.{Keeps, spelled_kept}

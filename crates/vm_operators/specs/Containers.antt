@@ -5,7 +5,7 @@ use Rattle.arena_heap.specs.declared.value.Value.{Value}
 use Rattle.arena_heap.specs.declared.value.Value.TheVariants as values
 use Rattle.arena_heap.specs.declared.value.StrNo.{StrNo}
 use Rattle.arena_heap.specs.declared.value.ConstNo.{ConstNo}
-use Rattle.py_values.specs.Shown.{Shown, Nothing, Number, Text, Tuple, Items, Pairs, Range, Other, shown}
+use Rattle.py_values.specs.Shown.{Shown, Nothing, Number, Text, Tuple, Range, Other, shown}
 use Rattle.mpy_base.specs.Val.{Val}
 use Rattle.py_primitives.specs.Outcome.{Outcome, raises}
 use Rattle.py_primitives.specs.Uses.{at_place}

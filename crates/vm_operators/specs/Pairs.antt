@@ -6,7 +6,7 @@ use Rattle.arena_heap.specs.declared.value.Value.{Value}
 use Rattle.arena_heap.specs.declared.value.StrNo.{StrNo}
 use Rattle.arena_heap.specs.declared.value.ConstNo.{ConstNo}
 use Rattle.arena_heap.specs.Values.{IsStr, IsTuple, IsList}
-use Rattle.py_values.specs.Shown.{Shown, Nothing, Number, Text, Tuple, Items, Pairs, Range, Other, shown}
+use Rattle.py_values.specs.Shown.{Shown, Number, Text, Tuple, Items, shown}
 use Rattle.py_values.specs.Names.{type_name}
 use Rattle.py_primitives.specs.Faults.{Unsupported}
 use Rattle.py_primitives.specs.Outcome.{Outcome, making_text, making_tuple, making_list}

@@ -6,8 +6,6 @@ use Rattle.arena_heap.specs.declared.value.Value.{Value}
 use Rattle.arena_heap.specs.declared.value.Value.TheVariants as values
 use Rattle.arena_heap.specs.declared.value.StrNo.{StrNo}
 use Rattle.arena_heap.specs.declared.value.ConstNo.{ConstNo}
-use Rattle.arena_heap.specs.Values.{Leads, IsStr}
-use Rattle.arena_heap.specs.Constants.{IsTold}
 use Rattle.arena_objects.specs.Iterables.{items_in, spelled}
 use Rattle.vm_faults.specs.Faults.{IsKnown, IsKnownStr}
 use Rattle.vm_operators.specs.declared.sources.Source.{Source}

@@ -1,4 +1,4 @@
-use Rattle.std.proofs.Common.{◌≡◌, ℕ, List, map, get_or, Err, sym, ap, ◌∙◌, subst}
+use Rattle.std.proofs.Common.{◌≡◌, ℕ, List, map, Err, sym, ap, ◌∙◌, subst}
 use Rattle.std.specs.Prelude.{codes}
 use Rattle.std.specs.List.{remove}
 use Rattle.mpy_base.specs.World.{Heap, pairs_at, with_dict}
@@ -7,7 +7,6 @@ use Rattle.arena_heap.specs.declared.value.Value.{Value}
 use Rattle.arena_heap.specs.declared.value.Value.TheVariants as values
 use Rattle.py_values.specs.Shown.{PlainHeap}
 use Rattle.py_values.specs.Keys.{without_key}
-use Rattle.arena_objects.proofs.Places.{no_pair}
 use Rattle.py_primitives.specs.Faults.{UnsupportedOne}
 use Rattle.py_primitives.specs.Outcome.{Outcome, gives, raises}
 use Rattle.py_primitives.specs.Uses.{of_key}

@@ -6,7 +6,6 @@ use Rattle.mpy_base.specs.World.{Heap, ListObject, AList, items_at, room_at, wit
 use Rattle.mpy_base.specs.Val.{Val, Nil}
 use Rattle.arena_heap.specs.declared.value.Value.{Value}
 use Rattle.arena_heap.specs.declared.value.Value.TheVariants as values
-use Rattle.arena_heap.specs.Values.{Leads}
 use Rattle.arena_heap.specs.Constants.{IsTold}
 use Rattle.arena_objects.specs.Keys.{AllTold}
 use Rattle.arena_objects.proofs.Gifts.{given_list}

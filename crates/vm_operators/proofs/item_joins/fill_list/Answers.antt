@@ -1,6 +1,6 @@
-use Rattle.std.proofs.Common.{◌≡◌, ℕ, ◌<◌, ◌≤◌, List, length, sym, ap, ◌∙◌, subst, arith}
+use Rattle.std.proofs.Common.{ℕ, ◌<◌, ◌≤◌, List, length, sym, ap, subst, arith}
 use Rattle.arena_heap.specs.declared.value.Value.{Value}
-use Rattle.mpy_base.specs.World.{Heap, AList, IsA, Later, items_at, with_list}
+use Rattle.mpy_base.specs.World.{Heap, AList, Later}
 use Rattle.mpy_base.proofs.Worlds.{later_list}
 use Rattle.vm_operators.specs.Sources.{source_items}
 use Rattle.vm_operators.proofs.ItemFills.{source_later, list_begins, list_source, list_count, list_room, list_step, list_told, list_ends}

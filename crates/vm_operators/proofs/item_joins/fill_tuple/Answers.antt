@@ -1,6 +1,6 @@
-use Rattle.std.proofs.Common.{◌≡◌, ℕ, ◌<◌, ◌≤◌, List, length, sym, ap, ◌∙◌, subst, arith}
+use Rattle.std.proofs.Common.{ℕ, ◌≤◌, List, length, sym, ap, subst, arith}
 use Rattle.arena_heap.specs.declared.value.Value.{Value}
-use Rattle.mpy_base.specs.World.{Heap, ATuple, IsA, Later, items_at, with_tuple}
+use Rattle.mpy_base.specs.World.{Heap, ATuple, Later}
 use Rattle.mpy_base.proofs.Worlds.{later_tuple}
 use Rattle.vm_operators.proofs.ItemFills.{source_later, told_fill, tuple_begins, tuple_source, tuple_length, tuple_step, tuple_ends}
 use Rattle.vm_operators.proofs.item_joins.fill_tuple.Goals as goal

@@ -1,4 +1,4 @@
-use Rattle.std.proofs.Common.{◌≡◌, ℕ, suc, ◌+◌, ◌<◌, List, length, map, replicate, refl, sym, ap, ◌∙◌, subst, arith}
+use Rattle.std.proofs.Common.{◌≡◌, ℕ, suc, ◌+◌, ◌<◌, List, length, replicate, refl, ap, ◌∙◌, subst, arith}
 use Rattle.std.proofs.lemmas.List.{length-replicate}
 use Rattle.mpy_base.specs.World.{TupleObject, ATuple, with_tuple}
 use Rattle.mpy_base.specs.Weights.{Made, Refused}
@@ -7,9 +7,9 @@ use Rattle.mpy_base.proofs.Worlds.{object_made, used_made}
 use Rattle.arena_heap.specs.declared.value.Value.{Value}
 use Rattle.arena_heap.specs.declared.value.Value.TheVariants as values
 use Rattle.vm_walks.specs.Plain.{plain, plain_heap}
-use Rattle.vm_faults.proofs.Outcomes.{gives_outcome, made_outcome, refused_outcome}
+use Rattle.vm_faults.proofs.Outcomes.{made_outcome, refused_outcome}
 use Rattle.vm_operators.specs.Sources.{source_items}
-use Rattle.vm_operators.proofs.ItemFills.{source_later, items_made, elsewhere_made, told_nones, nones_made, tuple_made, nothing_tuple, tuple_making, held_told}
+use Rattle.vm_operators.proofs.ItemFills.{source_later, items_made, elsewhere_made, told_nones, nones_made, tuple_made, tuple_making, held_told}
 use Rattle.vm_operators.proofs.item_joins.make_joined_tuple.Goals as goal
 
 pub fill_tuple-requires-clause-known : goal.fill_tuple-requires-clause-known

@@ -1,5 +1,4 @@
 use Rattle.std.proofs.Common.{ℕ, ◌<◌, arith, subst}
-use Rattle.vm_walks.specs.Plain.{plain_heap}
 use Rattle.vm_operators.proofs.ItemsShown.{item_plain, length_plain}
 use Rattle.vm_operators.proofs.items.other_item.Goals as goal
 

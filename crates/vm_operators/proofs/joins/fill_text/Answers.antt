@@ -1,6 +1,6 @@
-use Rattle.std.proofs.Common.{◌≡◌, ℕ, ◌<◌, ◌≤◌, List, length, sym, ap, ◌∙◌, subst, arith}
+use Rattle.std.proofs.Common.{◌≡◌, ℕ, ◌≤◌, List, length, sym, ap, ◌∙◌, subst, arith}
 use Rattle.arena_heap.specs.declared.value.Value.{Value}
-use Rattle.mpy_base.specs.World.{Heap, AText, IsA, Later, text_at, with_text}
+use Rattle.mpy_base.specs.World.{Heap, AText, Later, text_at, with_text}
 use Rattle.mpy_base.proofs.Worlds.{later_text}
 use Rattle.vm_operators.specs.Sources.{source_bytes}
 use Rattle.vm_operators.proofs.TextFills.{partly, begins, source_there, text_length, step, ends, sources_later}

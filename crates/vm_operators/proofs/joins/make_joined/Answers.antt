@@ -1,19 +1,14 @@
-use Rattle.std.proofs.Common.{◌≡◌, ℕ, ◌<◌, List, [], length, replicate, refl, sym, ap, ◌∙◌, subst, arith}
-use Rattle.std.specs.Prelude.{Option, IsSome}
+use Rattle.std.proofs.Common.{◌≡◌, ℕ, ◌<◌, List, length, replicate, refl, ap, ◌∙◌, arith}
 use Rattle.std.proofs.lemmas.List.Elements.{All-nil}
 use Rattle.mpy_base.specs.World.{TextObject, AText, with_text}
 use Rattle.std.proofs.lemmas.List.{length-replicate}
 use Rattle.mpy_base.specs.Weights.{Made}
-use Rattle.mpy_base.specs.Val.{Val, Str}
 use Rattle.arena_heap.specs.declared.value.Value.TheVariants as values
-use Rattle.arena_heap.specs.declared.value.StrNo.TheVariants as strs
 use Rattle.arena_heap.specs.Constants.{IsTold}
-use Rattle.arena_objects.specs.Iterables.{or_nothing}
-use Rattle.py_primitives.specs.Outcome.{gives}
 use Rattle.vm_walks.specs.Plain.{plain_heap}
-use Rattle.vm_faults.proofs.Outcomes.{gives_outcome, made_outcome, refused_outcome}
+use Rattle.vm_faults.proofs.Outcomes.{made_outcome, refused_outcome}
 use Rattle.vm_operators.specs.Sources.{source_bytes}
-use Rattle.vm_operators.proofs.TextFills.{sources_later, source_made, apart_made, filled_made, bytes_made, zeros_made, refused_all, nothing_making, text_making}
+use Rattle.vm_operators.proofs.TextFills.{sources_later, source_made, apart_made, filled_made, bytes_made, zeros_made, refused_all, text_making}
 use Rattle.vm_operators.proofs.joins.make_joined.Goals as goal
 
 pub fill_text-requires-clause-strs : goal.fill_text-requires-clause-strs

@@ -1,4 +1,4 @@
-use Rattle.std.proofs.Common.{◌≡◌, ℕ, ℤ, List, Result, refl, sym, ap, ap₂, ◌∙◌, subst}
+use Rattle.std.proofs.Common.{ℕ, ℤ, List, Result, sym, ap, ap₂, ◌∙◌, subst}
 use Rattle.mpy_base.specs.Val.{Val}
 use Rattle.py_values.specs.Shown.{Shown}
 use Rattle.py_primitives.specs.Faults.{UnsupportedOne}

@@ -1,4 +1,4 @@
-use Rattle.std.proofs.Common.{◌≡◌, ℕ, ◌*◌, List, length, sym, ap, ◌∙◌}
+use Rattle.std.proofs.Common.{ℕ, ◌*◌, length, sym, ap, ◌∙◌}
 use Rattle.std.proofs.Math.Nat.{mul_comm}
 use Rattle.arena_objects.specs.Iterables.{items_in}
 use Rattle.vm_operators.specs.declared.sources.Source.{Source}

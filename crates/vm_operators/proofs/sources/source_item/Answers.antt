@@ -1,8 +1,7 @@
-use Rattle.std.proofs.Common.{◌≡◌, ℕ, ◌-◌, ◌<◌, ◌≤◌, ◌%◌, List, length, get_or, refl, sym, ap, ◌∙◌, subst, arith}
+use Rattle.std.proofs.Common.{◌≡◌, ℕ, ◌-◌, ◌<◌, ◌≤◌, ◌%◌, length, get_or, refl, sym, ap, ◌∙◌, subst, arith}
 use Rattle.std.specs.List.{repeat}
 use Rattle.std.proofs.lemmas.List.{get_or_append_left, get_or-append_right}
 use Rattle.std.proofs.lemmas.Nat.{mod_below}
-use Rattle.arena_heap.specs.declared.value.Value.{Value}
 use Rattle.arena_heap.specs.declared.value.Value.TheVariants as values
 use Rattle.arena_objects.specs.Iterables.{items_in}
 use Rattle.vm_operators.specs.declared.sources.Source.{Source}

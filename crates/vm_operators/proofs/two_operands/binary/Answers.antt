@@ -1,19 +1,14 @@
-use Rattle.std.proofs.Common.{◌≡◌, ℕ, ℤ, List, Result, sym, ap, ap₂, ◌∙◌, subst}
+use Rattle.std.proofs.Common.{ℤ, Result, sym, ap, ◌∙◌, subst}
 use Rattle.mpy_base.specs.Val.{Val}
 use Rattle.py_values.specs.declared.small_int.NumFault.{NumFault}
-use Rattle.py_values.specs.Shown.{Shown}
 use Rattle.py_primitives.specs.Faults.{Fault}
 use Rattle.py_primitives.specs.Outcome.{Outcome, raises}
-use Rattle.py_primitives.specs.Operators.{Add, Multiply, binary, binary_shown, gives_number}
+use Rattle.py_primitives.specs.Operators.{gives_number}
 use Rattle.vm_walks.specs.Plain.{plain, plain_heap}
 use Rattle.vm_faults.specs.Outcomes.{IsOutcome}
 use Rattle.vm_faults.proofs.Outcomes.{raises_outcome}
-use Rattle.vm_operators.specs.declared.operators.Operator.{Operator}
-use Rattle.vm_operators.specs.declared.sources.Source.TheVariants.{Repeated}
 use Rattle.vm_operators.specs.Operators.{plain_operator}
-use Rattle.vm_operators.specs.Pairs.{joined}
-use Rattle.vm_operators.proofs.Pairings.{unfit_unsupported, alike_unsupported, left_unsupported, right_unsupported, numbers_answer}
-use Rattle.vm_operators.proofs.Shaped.{shape_shown, joined_add, joined_left, joined_right, shaped_joined, shaped_repeated, no_add, no_multiply}
+use Rattle.vm_operators.proofs.Pairings.{unfit_unsupported, numbers_answer}
 use Rattle.vm_operators.proofs.two_operands.binary.Goals as goal
 
 pub returns-in-Numbers : goal.returns-in-Numbers
