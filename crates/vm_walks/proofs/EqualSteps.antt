@@ -1,5 +1,5 @@
 -- Comparisons of items and of pairs, one after another.
-use Rattle.std.proofs.Common.{◌≡◌, ℕ, suc, ◌+◌, ◌-◌, ◌≤◌, List, [], ◌∷◌, Bool, true, false, Option, Some, None, Result, Ok, Err, length, map, drop, drop_of_length-le, refl, sym, ap, ◌∙◌, arith}
+use Rattle.std.proofs.Common.{◌≡◌, ℕ, suc, ◌+◌, ◌-◌, ◌≤◌, List, [], ◌∷◌, Bool, false, Option, Some, None, Result, Ok, Err, length, map, drop, drop_of_length-le, refl, sym, ap, ◌∙◌, arith}
 use Rattle.std.proofs.Math.Seq.{drop-cons}
 use Rattle.std.specs.Prelude.{slice_get}
 use Rattle.std.specs.Option.{option_map}
@@ -38,10 +38,6 @@ module _ {X : Type 0} (heap : PlainHeap) (equal : Val → Val → Walk Bool) (f 
       ∙ (ap (λ (zs : List Val). run (all_equal heap equal (f x ∷ drop (at + 1) (map f xs)) zs) old) (dropped f ys at y is_y)
       ∙ (run_so (equal (f x) (f y)) others old ∙ ap (λ (p : Result Bool Halt × Option ℕ). run_on p.0 p.1 others) e))
 
-  pub items_end : (xs ys : List X) (at : ℕ) (left : Option ℕ) → length xs ≤ at → run (all_equal heap equal (drop at (map f xs)) (drop at (map f ys))) left ≡ (Ok true, left)
-  items_end xs ys at left h =
-      ap (λ (zs : List Val). run (all_equal heap equal zs (drop at (map f ys))) left) (none_left f xs at h) ∙ run_answers true left
-
 module _ {X : Type 0} (heap : PlainHeap) (equal : Val → Val → Walk Bool) (f : X → Val × Val) (others : List (Val × Val)) where
   -- the value of a key is compared with the one that the other dict has
   pub pairs_step : (ps : List X) (at : ℕ) (p : X) (v : Val) (old new : Option ℕ) (r : Result Bool Halt) → slice_get ps at ≡ Some p → value_of_key heap others ((f p).0) ≡ Some v
@@ -59,10 +55,6 @@ module _ {X : Type 0} (heap : PlainHeap) (equal : Val → Val → Walk Bool) (f 
       let rest = all_found heap equal (drop (at + 1) (map f ps)) others in
       ap (λ (zs : List (Val × Val)). run (all_found heap equal zs others) left) (dropped f ps at p is_p)
       ∙ (ap (λ (o : Option Val). run (equal_found heap equal ((f p).1) o rest) left) found ∙ run_answers false left)
-
-  pub pairs_end : (ps : List X) (at : ℕ) (left : Option ℕ) → length ps ≤ at → run (all_found heap equal (drop at (map f ps)) others) left ≡ (Ok true, left)
-  pairs_end ps at left h =
-      ap (λ (zs : List (Val × Val)). run (all_found heap equal zs others) left) (none_left f ps at h) ∙ run_answers true left
 
 module _ (heap : PlainHeap) (a b : Val) (depth : ℕ) where
   pub too_deep : (left : Option ℕ) → depth ≡ 0 → run (equal_within heap depth a b) left ≡ (Err TooDeep, left)

@@ -1,6 +1,5 @@
 -- Identity of values as the meaning has them.
-use Rattle.std.proofs.Common.{◌≡◌, ℕ, List, [], ◌∷◌, false, Option, Some, None, map, refl, ap, ◌∙◌}
-use Rattle.std.specs.Prelude.{nat_eq}
+use Rattle.std.proofs.Common.{◌≡◌, ℕ, List, [], ◌∷◌, false, Option, None, map, refl, ap, ◌∙◌}
 use Rattle.mpy_base.specs.declared.builtin.Builtin.{Builtin}
 use Rattle.arena_heap.specs.declared.value.Value.{Value}
 use Rattle.arena_heap.specs.declared.value.Value.TheVariants as values
@@ -15,7 +14,7 @@ use Rattle.arena_heap.specs.declared.value.ExcNo.{ExcNo}
 use Rattle.arena_heap.specs.declared.value.MethodNo.{MethodNo}
 use Rattle.arena_heap.specs.declared.value.RangeNo.{RangeNo}
 use Rattle.arena_heap.specs.declared.value.ModuleNo.{ModuleNo}
-use Rattle.mpy_base.specs.Val.{Val, Nil, Built, At}
+use Rattle.mpy_base.specs.Val.{Val, Nil, Built}
 use Rattle.arena_objects.specs.Iterables.{or_nothing}
 use Rattle.py_values.specs.Equality.{is_same}
 use Rattle.vm_walks.specs.Numbers.{number_in}
@@ -76,14 +75,3 @@ module _ (texts : StrNo → Option (List ℕ)) (tuples : ConstNo → Option (Lis
   none_same (values.Str x) w n b e = refl
   none_same values.Empty w n b e = refl
   none_same _ w n b e = absurd cc
-
--- objects by their numbers
-pub numbers_same : (v w : Val) (m n : ℕ) → number_in v ≡ Some m → number_in w ≡ Some n → is_same v w ≡ nat_eq m n
-numbers_same (At i) (At j) m n e f = let p : i ≡ m = cc in let q : j ≡ n = cc in ap (λ (k : ℕ). nat_eq k j) p ∙ ap (nat_eq m) q
-numbers_same (At i) _ m n e f = absurd cc
-numbers_same _ w m n e f = absurd cc
-
-pub number_alone : (v w : Val) (m : ℕ) → number_in v ≡ Some m → number_in w ≡ None → is_same v w ≡ false
-number_alone (At i) (At j) m e f = absurd cc
-number_alone (At i) _ m e f = refl
-number_alone _ w m e f = absurd cc

@@ -1,5 +1,5 @@
 -- Values that are one, by their forms.
-use Rattle.std.proofs.Common.{◌≡◌, ℕ, suc, ◌+◌, ◌≤◌, ℤ, List, [], ◌∷◌, Bool, true, false, ◌&&◌, Option, Some, length, map, drop, refl, sym, ap, ◌∙◌}
+use Rattle.std.proofs.Common.{◌≡◌, ℕ, suc, ◌+◌, ℤ, List, [], ◌∷◌, Bool, true, false, ◌&&◌, Option, Some, length, map, drop, refl, sym, ap, ◌∙◌}
 use Rattle.std.specs.Prelude.{slice_get}
 use Rattle.arena_heap.specs.declared.value.Value.{Value}
 use Rattle.arena_heap.specs.declared.value.Value.TheVariants as values
@@ -9,12 +9,12 @@ use Rattle.mpy_base.specs.World.{Heap}
 use Rattle.mpy_base.specs.Val.{Val, Truth, Int}
 use Rattle.arena_heap.specs.Constants.{NestsWithin}
 use Rattle.arena_objects.specs.Iterables.{or_nothing, items_in}
-use Rattle.py_values.specs.Shown.{PlainHeap, shown}
-use Rattle.py_primitives.specs.Operators.{is_one, are_one, is_one_shown}
+use Rattle.py_values.specs.Shown.{PlainHeap}
+use Rattle.py_primitives.specs.Operators.{is_one, are_one}
 use Rattle.vm_walks.specs.Plain.{vals_from, fixed_of, plain_by, fixed_within, plain}
 use Rattle.vm_walks.specs.Ones.{all_one, IsConstant}
 use Rattle.vm_walks.proofs.PlainValues.{within_step, fixed_plain}
-use Rattle.vm_walks.proofs.EqualSteps.{dropped, none_left}
+use Rattle.vm_walks.proofs.EqualSteps.{dropped}
 
 module _ (heap : PlainHeap) where
   from_one : (v : Val) (vs : List Val) (w : Val) (ws : List Val) → are_one heap (vals_from v vs) (vals_from w ws) ≡ all_one heap (v ∷ vs) (w ∷ ws)
@@ -63,15 +63,6 @@ module _ (heap : PlainHeap) (texts : StrNo → Option (List ℕ)) (tuples : Cons
   int_other z (values.Fixed c) ne = ap (is_one heap (Int z)) (within_step texts tuples 31 c) ∙ int_fixed heap z (map (plain_by texts (fixed_within texts tuples 31)) (or_nothing (tuples c)))
   int_other z _ ne = refl
 
-  -- what is neither a bool, a number nor a constant tuple
-  pub rest_one : (v : Value) (w : Val) → ((x : Bool) → v ≡ values.Bool x → ⊥) → ((z : ℤ) → v ≡ values.Int z → ⊥) → ((c : ConstNo) → v ≡ values.Fixed c → ⊥) → (v ≡ values.Empty → ⊥)
-      → is_one heap (plain texts tuples v) w ≡ is_one_shown (plain texts tuples v) w (shown heap (plain texts tuples v)) (shown heap w)
-  rest_one (values.Bool x) w b i f m = absurd (b x refl)
-  rest_one (values.Int z) w b i f m = absurd (i z refl)
-  rest_one (values.Fixed c) w b i f m = absurd (f c refl)
-  rest_one values.Empty w b i f m = absurd (m refl)
-  rest_one _ w b i f m = refl
-
   fixed_rest : (xs : List Val) (v : Value) → ((c : ConstNo) → v ≡ values.Fixed c → ⊥) → (v ≡ values.Empty → ⊥) → is_one heap (fixed_of xs) (plain texts tuples v) ≡ false
   fixed_rest xs (values.Fixed c) f m = absurd (f c refl)
   fixed_rest xs values.Empty f m = absurd (m refl)
@@ -104,10 +95,6 @@ module _ {X : Type 0} (heap : PlainHeap) (f : X → Val) where
       let rest = all_one heap (drop (at + 1) (map f xs)) (drop (at + 1) (map f ys)) in
       ap (λ (zs : List Val). all_one heap zs (drop at (map f ys))) (dropped f xs at x is_x)
       ∙ (ap (λ (zs : List Val). all_one heap (f x ∷ drop (at + 1) (map f xs)) zs) (dropped f ys at y is_y) ∙ ap (λ (t : Bool). t && rest) (sym e))
-
-  pub one_end : (xs ys : List X) (at : ℕ) → length xs ≤ at → length ys ≤ at → all_one heap (drop at (map f xs)) (drop at (map f ys)) ≡ true
-  one_end xs ys at h i =
-      ap (λ (zs : List Val). all_one heap zs (drop at (map f ys))) (none_left f xs at h) ∙ ap (all_one heap []) (none_left f ys at i)
 
   pub one_lengths : (xs ys : List X) → (length xs ≡ length ys → ⊥) → all_one heap (map f xs) (map f ys) ≡ false
   one_lengths [] [] ne = absurd (ne refl)
