@@ -1,3 +1,4 @@
+pub mod AttributeUses
 pub mod DictKeys
 pub mod IndexUses
 pub mod ItemFills

@@ -1,3 +1,4 @@
+pub mod Attributes
 pub mod Changeless
 pub mod Containers
 pub mod Operands

@@ -1,6 +1,7 @@
 //! Operators and uses of values over an arena: each call is the primitive of its name.
 #![tactic(auto)]
 
+mod attributes;
 mod containers;
 mod deletions;
 mod indexes;
@@ -18,6 +19,7 @@ mod places;
 mod sources;
 mod two_operands;
 
+pub use attributes::get_attr;
 pub use deletions::delete_item;
 pub use indexes::get_item;
 pub use items::{item_of, use_iter};

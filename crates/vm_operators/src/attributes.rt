@@ -1,0 +1,205 @@
+//! Attributes.
+
+ghost use Rattle.std.specs.Prelude.{◌≡◌, IsSome};
+ghost use Rattle.mpy_base.specs.World.{MethodObject, names_of, object};
+ghost use Rattle.mpy_base.specs.Val.{At};
+ghost use Rattle.arena_heap.specs.Values.{Leads, IsStr, IsList, IsDict, IsMethodOf};
+ghost use Rattle.arena_heap.specs.Constants.{IsTold};
+ghost use Rattle.arena_objects.specs.Keys.{AllTold};
+ghost use Rattle.arena_objects.specs.Iterables.{or_nothing};
+ghost use Rattle.py_primitives.specs.Builtins.{list_methods, dict_methods, str_methods};
+ghost use Rattle.py_primitives.specs.Outcome.{making};
+ghost use Rattle.py_primitives.specs.Uses.{attribute as attribute_in, get_attr as get_attr_of};
+ghost use Rattle.vm_walks.specs.Plain.{plain, plain_heap};
+ghost use Rattle.vm_faults.specs.Outcomes.{IsOutcome};
+ghost use Rattle.vm_operators.specs.Attributes.{plain_attribute, IsKnownAttribute, IsMethodsAttribute, IsArgsAttribute, IsBuiltAttribute, IsNamed};
+
+use arena_heap::{Arena, Constants, ModuleNo, StrNo, Value, exc_parts, module_parts};
+use arena_objects::dict_get;
+use mpy_base::Builtin;
+use vm_faults::{Fault, Stop, type_of};
+
+/// What an attribute of a value is.
+#[derive(Clone, Copy)]
+enum Attribute {
+    Found(Value),
+    Method(Builtin),
+    Absent,
+}
+
+fn name_bytes<C: Constants>(consts: &C, name: StrNo) -> &[u8]
+    requires { IsSome (C.text_of consts.now name) }
+    ensures { result.now ≡ or_nothing (C.text_of consts.now name) }
+{
+    consts.text(name).unwrap()
+}
+
+fn list_attribute(name: &[u8]) -> Attribute
+    ensures { IsMethodsAttribute list_methods IsList name.now result }
+{
+    if b"append".as_slice() == name {
+        Attribute::Method(Builtin::ListAppend)
+    } else if b"pop".as_slice() == name {
+        Attribute::Method(Builtin::ListPop)
+    } else if b"insert".as_slice() == name {
+        Attribute::Method(Builtin::ListInsert)
+    } else if b"extend".as_slice() == name {
+        Attribute::Method(Builtin::ListExtend)
+    } else {
+        Attribute::Absent
+    }
+}
+
+fn dict_attribute(name: &[u8]) -> Attribute
+    ensures { IsMethodsAttribute dict_methods IsDict name.now result }
+{
+    if b"get".as_slice() == name {
+        Attribute::Method(Builtin::DictGet)
+    } else if b"keys".as_slice() == name {
+        Attribute::Method(Builtin::DictKeys)
+    } else if b"values".as_slice() == name {
+        Attribute::Method(Builtin::DictValues)
+    } else if b"items".as_slice() == name {
+        Attribute::Method(Builtin::DictItems)
+    } else if b"pop".as_slice() == name {
+        Attribute::Method(Builtin::DictPop)
+    } else {
+        Attribute::Absent
+    }
+}
+
+fn str_attribute(name: &[u8]) -> Attribute
+    ensures { IsMethodsAttribute str_methods IsStr name.now result }
+{
+    if b"join".as_slice() == name {
+        Attribute::Method(Builtin::StrJoin)
+    } else if b"find".as_slice() == name {
+        Attribute::Method(Builtin::StrFind)
+    } else if b"startswith".as_slice() == name {
+        Attribute::Method(Builtin::StrStartsWith)
+    } else if b"split".as_slice() == name {
+        Attribute::Method(Builtin::StrSplit)
+    } else {
+        Attribute::Absent
+    }
+}
+
+/// The arguments of an exception are its one attribute.
+fn exception_attribute(args: Value, name: &[u8]) -> Attribute
+    ensures { IsArgsAttribute args name.now result }
+{
+    if name == b"args".as_slice() {
+        Attribute::Found(args)
+    } else {
+        Attribute::Absent
+    }
+}
+
+fn port_attribute(name: &[u8]) -> Attribute
+    ensures { IsBuiltAttribute Builtin.Port name.now result }
+{
+    if b"put".as_slice() == name {
+        Attribute::Found(Value::Built(Builtin::PortPut))
+    } else if b"get".as_slice() == name {
+        Attribute::Found(Value::Built(Builtin::PortGet))
+    } else if b"count".as_slice() == name {
+        Attribute::Found(Value::Built(Builtin::PortCount))
+    } else {
+        Attribute::Absent
+    }
+}
+
+/// `port` alone of the built-ins has attributes.
+fn built_attribute(b: Builtin, name: &[u8]) -> Attribute
+    ensures { IsBuiltAttribute b name.now result }
+{
+    match b {
+        Builtin::Port => port_attribute(name),
+        _ => Attribute::Absent,
+    }
+}
+
+/// A name of a module's namespace.
+fn module_attribute<C: Constants>(arena: &Arena, consts: &C, m: ModuleNo, name: StrNo) -> Attribute
+    requires named { IsSome (names_of (object arena.now.objects m.cell)) }
+    requires name { IsSome (C.text_of consts.now name) }
+    requires all_told { AllTold (C.text_of consts.now) (C.items_of consts.now) arena.now.objects }
+    ensures plain { plain_attribute (C.text_of consts.now) (C.items_of consts.now) result ≡ attribute_in (plain_heap (C.text_of consts.now) (C.items_of consts.now) arena.now) (At m.cell) (or_nothing (C.text_of consts.now name)) }
+    ensures known { IsKnownAttribute (C.text_of consts.now) (C.items_of consts.now) arena.now.objects (Value.Module m) result }
+{
+    arena.sound_law();
+    let (_, names) = module_parts(arena, m);
+    match dict_get(arena, consts, names, Value::Str(name)) {
+        Some(v) => Attribute::Found(v),
+        None => Attribute::Absent,
+    }
+}
+
+fn attribute_of<C: Constants>(arena: &Arena, consts: &C, v: Value, name: StrNo) -> Attribute
+    requires leads { Leads arena.now.objects v }
+    requires named { IsNamed arena.now v }
+    requires name { IsSome (C.text_of consts.now name) }
+    requires all_told { AllTold (C.text_of consts.now) (C.items_of consts.now) arena.now.objects }
+    ensures plain { plain_attribute (C.text_of consts.now) (C.items_of consts.now) result ≡ attribute_in (plain_heap (C.text_of consts.now) (C.items_of consts.now) arena.now) (plain (C.text_of consts.now) (C.items_of consts.now) v) (or_nothing (C.text_of consts.now name)) }
+    ensures known { IsKnownAttribute (C.text_of consts.now) (C.items_of consts.now) arena.now.objects v result }
+{
+    let text = name_bytes(consts, name);
+    match v {
+        Value::Str(_) => str_attribute(text),
+        Value::Text(_) => str_attribute(text),
+        Value::List(_) => list_attribute(text),
+        Value::Dict(_) => dict_attribute(text),
+        Value::Exc(e) => exception_attribute(exc_parts(arena, e).1, text),
+        Value::Module(m) => module_attribute(arena, consts, m, name),
+        Value::Built(b) => built_attribute(b, text),
+        Value::Fixed(_) => Attribute::Absent,
+        Value::Tuple(_) => Attribute::Absent,
+        Value::Range(_) => Attribute::Absent,
+        Value::Fun(_) => Attribute::Absent,
+        Value::Method(_) => Attribute::Absent,
+        _ => Attribute::Absent,
+    }
+}
+
+/// A method that is bound to its object.
+fn bind_method<C: Constants>(
+    arena: &mut Arena,
+    consts: &C,
+    object: Value,
+    method: Builtin,
+) -> Result<Value, Stop>
+    requires leads { Leads arena.old.objects object }
+    requires told { IsTold (C.text_of consts.now) (C.items_of consts.now) object }
+    requires method { IsMethodOf method object }
+    requires all_told { AllTold (C.text_of consts.now) (C.items_of consts.now) arena.old.objects }
+    ensures { IsOutcome (C.text_of consts.now) (C.items_of consts.now) arena.old arena.new result (making (plain_heap (C.text_of consts.now) (C.items_of consts.now) arena.old) (MethodObject (plain (C.text_of consts.now) (C.items_of consts.now) object) method)) }
+{
+    match arena.make_method(object, method) {
+        Ok(m) => Ok(Value::Method(m)),
+        Err(room) => Err(Stop::Full(room)),
+    }
+}
+
+/// An attribute of a value. A method is bound to its object. The namespace of a module has to be set.
+pub fn get_attr<C: Constants>(
+    arena: &mut Arena,
+    consts: &C,
+    object: Value,
+    name: StrNo,
+) -> Result<Value, Stop>
+    requires leads { Leads arena.old.objects object }
+    requires told { IsTold (C.text_of consts.now) (C.items_of consts.now) object }
+    requires named { IsNamed arena.old object }
+    requires name { IsSome (C.text_of consts.now name) }
+    requires all_told { AllTold (C.text_of consts.now) (C.items_of consts.now) arena.old.objects }
+    ensures { IsOutcome (C.text_of consts.now) (C.items_of consts.now) arena.old arena.new result (get_attr_of (plain_heap (C.text_of consts.now) (C.items_of consts.now) arena.old) (plain (C.text_of consts.now) (C.items_of consts.now) object) (or_nothing (C.text_of consts.now name))) }
+{
+    match attribute_of(arena, consts, object, name) {
+        Attribute::Found(v) => Ok(v),
+        Attribute::Method(method) => bind_method(arena, consts, object, method),
+        Attribute::Absent => Err(Stop::Raises(Fault::NoAttribute {
+            object: type_of(arena, object),
+            name,
+        })),
+    }
+}
