@@ -1,5 +1,5 @@
 -- Attributes of an arena's values, as the meaning has them.
-use Rattle.std.proofs.Common.{◌≡◌, ℕ, List, [], ◌∷◌, map, Option, Some, None, refl, sym, ap, ◌∙◌, subst}
+use Rattle.std.proofs.Common.{◌≡◌, ℕ, List, [], ◌∷◌, map, Option, Some, refl, sym, ap, ◌∙◌, subst}
 use Rattle.std.specs.Prelude.{bytes_eq, codes, if◌then◌else◌}
 use Rattle.arena_heap.specs.declared.value.Value.{Value}
 use Rattle.arena_heap.specs.declared.value.Value.TheVariants as values
@@ -13,8 +13,8 @@ use Rattle.arena_objects.specs.Iterables.{or_nothing}
 use Rattle.py_values.specs.Shown.{PlainHeap}
 use Rattle.py_values.specs.Keys.{value_of_key}
 use Rattle.py_primitives.specs.Builtins.{named, list_methods, dict_methods, str_methods}
-use Rattle.py_primitives.specs.Uses.{Attribute, Found, Absent, found_value, found_method, object_attribute, attribute}
-use Rattle.vm_walks.specs.Plain.{plain, plain_by, plain_pair, plain_name, plain_object, plain_heap, fixed_of, fixed_within}
+use Rattle.py_primitives.specs.Uses.{Found, Absent, found_value, found_method, object_attribute, attribute}
+use Rattle.vm_walks.specs.Plain.{plain, plain_by, plain_pair, plain_object, plain_heap, fixed_of, fixed_within}
 use Rattle.vm_walks.proofs.PlainValues.{object_plain, within_step}
 use Rattle.vm_faults.proofs.Heaps.{pairs_of_plain}
 

@@ -1,4 +1,4 @@
-use Rattle.std.proofs.Common.{◌≡◌, ℕ, zero, ◌<◌, List, refl, sym, ap, ◌∙◌, subst, arith}
+use Rattle.std.proofs.Common.{ℕ, zero, List, refl, sym, ap, ◌∙◌, subst, arith}
 use Rattle.std.specs.Prelude.{bytes_eq, codes, if◌then◌else◌, All}
 use Rattle.mpy_base.specs.Val.{Built}
 use Rattle.mpy_base.specs.World.{ATuple, AFunction, AMethod, ARange}
@@ -8,7 +8,7 @@ use Rattle.arena_heap.specs.Values.{Leads, IsStr, IsList, IsDict, held}
 use Rattle.arena_heap.specs.Constants.{IsTold}
 use Rattle.arena_objects.specs.Iterables.{or_nothing}
 use Rattle.py_primitives.specs.Builtins.{named, list_methods, dict_methods, str_methods}
-use Rattle.py_primitives.specs.Uses.{Attribute, Found, Absent, found_method, attribute}
+use Rattle.py_primitives.specs.Uses.{Found, Absent, found_method, attribute}
 use Rattle.vm_walks.specs.Plain.{plain, plain_heap}
 use Rattle.vm_faults.specs.Faults.{IsKnown}
 use Rattle.vm_operators.proofs.AttributeUses.{has_str_methods, has_list_methods, has_dict_methods, has_args, has_none, nothing_here}
