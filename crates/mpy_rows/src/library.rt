@@ -12,29 +12,8 @@ use mpy_reader::read;
 use std::alloc::Global;
 use std::test::Fail;
 
-/// An entry to add, a module's or one whose file was refused, and what is answered.
-#[derive(Clone, Copy)]
-struct Step<'a> {
-    refused: bool,
-    name: &'a [u8],
-    answer: Option<LibFault>,
-}
-
-const fn takes(name: &[u8]) -> Step<'_> {
-    Step {
-        refused: false,
-        name,
-        answer: None,
-    }
-}
-
-const fn refuses(name: &[u8]) -> Step<'_> {
-    Step {
-        refused: true,
-        name,
-        answer: None,
-    }
-}
+/// An entry to add: whether it is one whose file was refused, its name, and what is answered.
+type Step = (bool, &'static [u8], Option<LibFault>);
 
 /// The module of `LOOP`.
 fn module(alloc: Global) -> Result<Verified, Fail> {
@@ -78,17 +57,23 @@ fn refuse(alloc: Global, library: &mut Library, name: &[u8]) -> Result<Option<Li
     }
 }
 
-/// Does the step, if it is answered so.
-fn go(alloc: Global, library: &mut Library, step: Step<'_>) -> Result<(), Fail> {
-    if !is_name(step.name) {
+/// Adds an entry, a module's or one whose file was refused, if it is answered so.
+fn go(
+    alloc: Global,
+    library: &mut Library,
+    refused: bool,
+    name: &[u8],
+    answer: Option<LibFault>,
+) -> Result<(), Fail> {
+    if !is_name(name) {
         return Err("no name".into());
     }
-    let answer = if step.refused {
-        refuse(alloc, library, step.name)?
+    let found = if refused {
+        refuse(alloc, library, name)?
     } else {
-        add(alloc, library, step.name)?
+        add(alloc, library, name)?
     };
-    if answer == step.answer {
+    if found == answer {
         Ok(())
     } else {
         Err("another answer".into())
@@ -96,10 +81,10 @@ fn go(alloc: Global, library: &mut Library, step: Step<'_>) -> Result<(), Fail> 
 }
 
 /// A library that these steps lead to.
-fn library_of(alloc: Global, steps: &[Step<'_>]) -> Result<Library, Fail> {
+fn library_of(alloc: Global, steps: &[Step]) -> Result<Library, Fail> {
     let mut library = Library::new(alloc)?;
-    for step in steps {
-        go(alloc, &mut library, *step)?;
+    for (refused, name, answer) in steps {
+        go(alloc, &mut library, *refused, name, *answer)?;
     }
     Ok(library)
 }
@@ -108,24 +93,13 @@ fn told(fine: bool, wrong: &'static str) -> Result<(), Fail> {
     if fine { Ok(()) } else { Err(wrong.into()) }
 }
 
-const TWICE: Option<LibFault> = Some(LibFault::Twice);
-
-const NAMES: [Step<'static>; 6] = [
-    takes(b"a"),
-    refuses(b"b"),
-    takes(b"c"),
-    Step {
-        answer: TWICE,
-        ..takes(b"b")
-    },
-    Step {
-        answer: TWICE,
-        ..takes(b"c")
-    },
-    Step {
-        answer: TWICE,
-        ..refuses(b"a")
-    },
+const NAMES: [Step; 6] = [
+    (false, b"a", None),
+    (true, b"b", None),
+    (false, b"c", None),
+    (false, b"b", Some(LibFault::Twice)),
+    (false, b"c", Some(LibFault::Twice)),
+    (true, b"a", Some(LibFault::Twice)),
 ];
 
 const MEMBERS: [(&[u8], Option<Member>); 4] = [
@@ -151,38 +125,29 @@ fn filled(alloc: Global) -> Result<Library, Fail> {
     let mut library = Library::new(alloc)?;
     for n in 0..128u8 {
         let name = [b'a' + n / 16, b'a' + n % 16];
-        go(alloc, &mut library, takes(&name))?;
-        go(alloc, &mut library, refuses(&[b'x', name[0], name[1]]))?;
+        go(alloc, &mut library, false, &name, None)?;
+        go(alloc, &mut library, true, &[b'x', name[0], name[1]], None)?;
     }
     Ok(library)
 }
 
-const MANY: Option<LibFault> = Some(LibFault::TooMany);
-
-const PAST: [Step<'static>; 3] = [
-    Step {
-        answer: MANY,
-        ..takes(b"a")
-    },
-    Step {
-        answer: MANY,
-        ..refuses(b"a")
-    },
-    Step {
-        answer: TWICE,
-        ..takes(b"aa")
-    },
+const PAST: [Step; 3] = [
+    (false, b"a", Some(LibFault::TooMany)),
+    (true, b"a", Some(LibFault::TooMany)),
+    (false, b"aa", Some(LibFault::Twice)),
 ];
 
 #[test]
 fn refused_entries_count_too(rt: HostRuntime) -> Result<(), Fail> {
     let alloc = rt.alloc();
     let mut library = filled(alloc)?;
-    for step in PAST {
-        go(alloc, &mut library, step)?;
+    for (refused, name, answer) in PAST {
+        go(alloc, &mut library, refused, name, answer)?;
     }
     told(library.find(b"a").is_none(), "a further entry")
 }
+
+const DOTTED: [Step; 2] = [(false, b"a.b", None), (false, b"c.b", None)];
 
 // The names, their last part, and the text of the file's own. Of the second name only the name itself is new.
 const TEXTS: [(u32, Option<&[u8]>); 6] = [
@@ -198,7 +163,7 @@ const NUMBERS: [(u32, Option<u32>); 3] = [(0, Some(168)), (1, Some(7)), (3, None
 
 #[test]
 fn a_text_has_one_number(rt: HostRuntime) -> Result<(), Fail> {
-    let library = library_of(rt.alloc(), &[takes(b"a.b"), takes(b"c.b")])?;
+    let library = library_of(rt.alloc(), &DOTTED)?;
     for (number, text) in TEXTS {
         told(library.text(StrNo::Pool(number)) == text, "another text")?;
     }
@@ -209,27 +174,23 @@ fn a_text_has_one_number(rt: HostRuntime) -> Result<(), Fail> {
     Ok(())
 }
 
-// The one object of each module is a tuple of the text `ab`, None and 5.
-const fn constant(module: u32, object: u32) -> ConstNo {
+const TWO: [Step; 2] = [(false, b"a", None), (false, b"b", None)];
+
+fn constant(module: u32, object: u32) -> ConstNo {
     ConstNo { module, object }
 }
 
-const ITEMS: [(u32, Option<Value>); 4] = [
-    (0, Some(Value::Str(StrNo::Object(constant(1, 1))))),
-    (1, Some(Value::None)),
-    (2, Some(Value::Int(5))),
-    (3, None),
-];
-
+// The one object of each module is a tuple of the text `ab`, None and 5.
 #[test]
 fn constants_have_numbers(rt: HostRuntime) -> Result<(), Fail> {
-    let library = library_of(rt.alloc(), &[takes(b"a"), takes(b"b")])?;
+    let library = library_of(rt.alloc(), &TWO)?;
     let pair = constant(1, 0);
-    for (at, item) in ITEMS {
-        told(library.item(pair, at) == item, "another item")?;
+    let text = StrNo::Object(constant(1, 1));
+    let items = [Some(Value::Str(text)), Some(Value::None), Some(Value::Int(5)), None];
+    for (at, item) in items.iter().enumerate() {
+        told(library.item(pair, at as u32) == *item, "another item")?;
     }
-    let text = library.text(StrNo::Object(constant(1, 1)));
-    told(text == Some("ab".as_bytes()), "another text")?;
+    told(library.text(text) == Some("ab".as_bytes()), "another text")?;
     told(library.object(1, 0) == Some(Value::Fixed(pair)), "another object")?;
     told(library.object(1, 1).is_none(), "a second object")?;
     told(library.len(pair) == Some(3), "another length")?;
