@@ -4,7 +4,8 @@ use Rattle.std.specs.declared.cmp.Ordering.{Ordering}
 use Rattle.arena_heap.specs.declared.value.Value.{Value}
 use Rattle.arena_heap.specs.declared.value.StrNo.{StrNo}
 use Rattle.arena_heap.specs.declared.value.ConstNo.{ConstNo}
-use Rattle.mpy_base.specs.World.{Heap}
+use Rattle.arena_heap.specs.Values.{Leads}
+use Rattle.mpy_base.specs.World.{Heap, Objects}
 use Rattle.mpy_base.specs.Val.{Val}
 use Rattle.arena_objects.specs.Iterables.{items_in}
 use Rattle.py_values.specs.Equality.{Walk, answers}
@@ -15,6 +16,10 @@ use Rattle.vm_walks.specs.declared.orders.Unordered.{Unordered}
 use Rattle.vm_walks.specs.declared.ranking.Ranking.{Ranking}
 use Rattle.vm_walks.specs.declared.ranking.Ranking.TheVariants as rankings
 use Rattle.vm_walks.specs.Plain.{plain}
+
+-- both values lead to objects
+abbrev pub BothLead : Objects Value ℕ → Unordered → Type 0
+BothLead objects e = Leads objects e.left × Leads objects e.right
 
 module _ (texts : StrNo → Option (List ℕ)) (tuples : ConstNo → Option (List Value)) where
   -- two values that have no order, as the meaning has them

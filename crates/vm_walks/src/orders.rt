@@ -1,6 +1,6 @@
 //! Order, visit by visit.
 
-ghost use Rattle.std.specs.Prelude.{◌≡◌, length, map, min};
+ghost use Rattle.std.specs.Prelude.{◌≡◌, length, map, min, IfOk, IfErr, IfSome};
 ghost use Rattle.std.specs.Option.{option_map};
 ghost use Rattle.arena_heap.specs.Values.{Leads};
 ghost use Rattle.arena_heap.specs.Constants.{IsTold};
@@ -9,7 +9,7 @@ ghost use Rattle.arena_objects.specs.Iterables.{items_in};
 ghost use Rattle.py_values.specs.Equality.{equal_within};
 ghost use Rattle.py_primitives.specs.Order.{order as order_of, order_within, order_items as order_of_items};
 ghost use Rattle.vm_walks.specs.Plain.{plain, plain_heap};
-ghost use Rattle.vm_walks.specs.Orders.{plain_order, plain_answer};
+ghost use Rattle.vm_walks.specs.Orders.{plain_order, plain_answer, BothLead};
 ghost use Rattle.vm_walks.specs.Runs.{run};
 
 use crate::budget::{Budget, Halt};
@@ -40,6 +40,7 @@ pub fn order<C: Constants>(
     requires b_told { IsTold (C.text_of consts.now) (C.items_of consts.now) b }
     requires all_told { AllTold (C.text_of consts.now) (C.items_of consts.now) arena.now.objects }
     ensures answer { option_map (plain_order (C.text_of consts.now) (C.items_of consts.now)) result ≡ (order_of (plain_heap (C.text_of consts.now) (C.items_of consts.now) arena.now) (plain (C.text_of consts.now) (C.items_of consts.now) a) (plain (C.text_of consts.now) (C.items_of consts.now) b)).answer }
+    ensures lead { IfSome result (λ found. IfErr found (BothLead arena.now.objects)) }
 {
     let mut budget = Budget { left: None };
     order_values(arena, consts, a, b, MAX_WALK_DEPTH as u32, &mut budget).ok()
@@ -74,7 +75,8 @@ fn order_values<C: Constants>(
     requires a_told { IsTold (C.text_of consts.now) (C.items_of consts.now) a }
     requires b_told { IsTold (C.text_of consts.now) (C.items_of consts.now) b }
     requires all_told { AllTold (C.text_of consts.now) (C.items_of consts.now) arena.now.objects }
-    ensures { run (order_within (plain_heap (C.text_of consts.now) (C.items_of consts.now) arena.now) depth (plain (C.text_of consts.now) (C.items_of consts.now) a) (plain (C.text_of consts.now) (C.items_of consts.now) b)) budget.old.left ≡ (plain_answer (C.text_of consts.now) (C.items_of consts.now) result, budget.new.left) }
+    ensures ran { run (order_within (plain_heap (C.text_of consts.now) (C.items_of consts.now) arena.now) depth (plain (C.text_of consts.now) (C.items_of consts.now) a) (plain (C.text_of consts.now) (C.items_of consts.now) b)) budget.old.left ≡ (plain_answer (C.text_of consts.now) (C.items_of consts.now) result, budget.new.left) }
+    ensures lead { IfOk result (λ found. IfErr found (BothLead arena.now.objects)) }
 {
     if depth == 0 {
         return Err(Halt::TooDeep);
@@ -109,7 +111,8 @@ fn order_items<C: Constants>(
     requires all_told { AllTold (C.text_of consts.now) (C.items_of consts.now) arena.now.objects }
     requires a_count { m ≡ length (items_in (C.items_of consts.now) arena.now a) }
     requires b_count { n ≡ length (items_in (C.items_of consts.now) arena.now b) }
-    ensures { run (order_of_items (equal_within (plain_heap (C.text_of consts.now) (C.items_of consts.now) arena.now) depth) (order_within (plain_heap (C.text_of consts.now) (C.items_of consts.now) arena.now) depth) (map (plain (C.text_of consts.now) (C.items_of consts.now)) (items_in (C.items_of consts.now) arena.now a)) (map (plain (C.text_of consts.now) (C.items_of consts.now)) (items_in (C.items_of consts.now) arena.now b))) budget.old.left ≡ (plain_answer (C.text_of consts.now) (C.items_of consts.now) result, budget.new.left) }
+    ensures ran { run (order_of_items (equal_within (plain_heap (C.text_of consts.now) (C.items_of consts.now) arena.now) depth) (order_within (plain_heap (C.text_of consts.now) (C.items_of consts.now) arena.now) depth) (map (plain (C.text_of consts.now) (C.items_of consts.now)) (items_in (C.items_of consts.now) arena.now a)) (map (plain (C.text_of consts.now) (C.items_of consts.now)) (items_in (C.items_of consts.now) arena.now b))) budget.old.left ≡ (plain_answer (C.text_of consts.now) (C.items_of consts.now) result, budget.new.left) }
+    ensures lead { IfOk result (λ found. IfErr found (BothLead arena.now.objects)) }
 {
     for at in 0..m.min(n) {
         let x = item_at(arena, consts, a, at);

@@ -11,8 +11,8 @@ use Rattle.vm_walks.proofs.RunSteps.{run_answers}
 use Rattle.vm_walks.proofs.OrderSteps.{Found, order_step, order_end, halted, went}
 use Rattle.vm_walks.proofs.orders.+order_values.Goals as goal
 
-pub order_items-returns-in-Ok-false : goal.order_items-returns-in-Ok-false
-order_items-returns-in-Ok-false g t c =
+pub order_items-returns-in-Ok-false-clause-ran : goal.order_items-returns-in-Ok-false-clause-ran
+order_items-returns-in-Ok-false-clause-ran g t c =
     let texts = g.C.Constants.text_of c.args.consts.now in
     let tuples = g.C.Constants.items_of c.args.consts.now in
     let h = c.args.arena.now in
@@ -20,10 +20,10 @@ order_items-returns-in-Ok-false g t c =
     let new = c.equal_values.new.budget.left in
     let pair : Bool → Result Bool Halt × Option ℕ = λ b. (Ok b, new) in
     c.loop-at.invariant ∙ (order_step (equal_within heap c.args.depth) (order_within heap c.args.depth) (plain texts tuples) (items_in tuples h c.args.a) (items_in tuples h c.args.b) c.loop-at.at c.item_at-x.result c.item_at-y.result
-    c.loop-at.budget.left new (Ok false) c.item_at-x.ensures.item c.item_at-y.ensures.item (c.in-Ok-false.ensures ∙ ap pair c.in-Ok-false.field-0-test) ∙ c.order_values.ensures)
+    c.loop-at.budget.left new (Ok false) c.item_at-x.ensures.item c.item_at-y.ensures.item (c.in-Ok-false.ensures ∙ ap pair c.in-Ok-false.field-0-test) ∙ c.order_values.ensures.ran)
 
-pub order_items-returns-in-Err : goal.order_items-returns-in-Err
-order_items-returns-in-Err g t c =
+pub order_items-returns-in-Err-clause-ran : goal.order_items-returns-in-Err-clause-ran
+order_items-returns-in-Err-clause-ran g t c =
     let texts = g.C.Constants.text_of c.args.consts.now in
     let tuples = g.C.Constants.items_of c.args.consts.now in
     let h = c.args.arena.now in
@@ -43,8 +43,8 @@ order_items-loop-at-preserved g t c =
     c.loop-at.invariant ∙ order_step (equal_within heap c.args.depth) (order_within heap c.args.depth) (plain texts tuples) (items_in tuples h c.args.a) (items_in tuples h c.args.b) c.loop-at.at c.item_at-x.result c.item_at-y.result
     c.loop-at.budget.left new (Ok true) c.item_at-x.ensures.item c.item_at-y.ensures.item (c.in-Ok-true.ensures ∙ ap pair c.in-Ok-true.field-0-test)
 
-pub order_items-returns : goal.order_items-returns
-order_items-returns g t c =
+pub order_items-returns-clause-ran : goal.order_items-returns-clause-ran
+order_items-returns-clause-ran g t c =
     let texts = g.C.Constants.text_of c.args.consts.now in
     let tuples = g.C.Constants.items_of c.args.consts.now in
     let h = c.args.arena.now in
@@ -57,8 +57,8 @@ order_items-returns g t c =
     let over : c.loop-at.at ≡ min (length xs) (length ys) = omega (arith, c.min-at-end.ensures, c.loop-at.auto.at-end, c.loop-at-test.false, c.requires.a_count, c.requires.b_count) in
     c.loop-at.invariant ∙ (order_end (equal_within heap c.args.depth) (order_within heap c.args.depth) (plain texts tuples) xs ys c.loop-at.at left over ∙ ap pair counts)
 
-pub order_values-returns-in-Err : goal.order_values-returns-in-Err
-order_values-returns-in-Err g t c =
+pub order_values-returns-in-Err-clause-ran : goal.order_values-returns-in-Err-clause-ran
+order_values-returns-in-Err-clause-ran g t c =
     let texts = g.C.Constants.text_of c.args.consts.now in
     let tuples = g.C.Constants.items_of c.args.consts.now in
     let left : Option ℕ = c.args.budget.now.left in
@@ -67,8 +67,8 @@ order_values-returns-in-Err g t c =
     halted (plain_heap texts tuples c.args.arena.now) (plain texts tuples c.args.a) (plain texts tuples c.args.b) c.args.depth left c.if-depth-eq0.false c.in-Err.ensures.spent
     ∙ (ap pair (sym c.in-Err.ensures.cause) ∙ ap kept (sym c.in-Err.ensures.kept))
 
-pub order_values-returns-in-Decided : goal.order_values-returns-in-Decided
-order_values-returns-in-Decided g t c =
+pub order_values-returns-in-Decided-clause-ran : goal.order_values-returns-in-Decided-clause-ran
+order_values-returns-in-Decided-clause-ran g t c =
     let texts = g.C.Constants.text_of c.args.consts.now in
     let tuples = g.C.Constants.items_of c.args.consts.now in
     let h = c.args.arena.now in
@@ -77,18 +77,18 @@ order_values-returns-in-Decided g t c =
     went heap (plain texts tuples c.args.a) (plain texts tuples c.args.b) c.args.depth c.args.budget.now.left mid mid _ _ c.if-depth-eq0.false c.in-Ok.ensures.ok
     (c.in-Decided.ensures.ranked (equal_within heap (c.args.depth - 1)) (order_within heap (c.args.depth - 1))) (run_answers _ mid)
 
-pub order_values-returns-in-Items : goal.order_values-returns-in-Items
-order_values-returns-in-Items g t c =
+pub order_values-returns-in-Items-clause-ran : goal.order_values-returns-in-Items-clause-ran
+order_values-returns-in-Items-clause-ran g t c =
     let texts = g.C.Constants.text_of c.args.consts.now in
     let tuples = g.C.Constants.items_of c.args.consts.now in
     let h = c.args.arena.now in
     let heap = plain_heap texts tuples h in
     let mid = c.spend.new.self.left in
     went heap (plain texts tuples c.args.a) (plain texts tuples c.args.b) c.args.depth c.args.budget.now.left mid c.order_items.new.budget.left (plain_answer texts tuples c.order_items.result) _ c.if-depth-eq0.false c.in-Ok.ensures.ok
-    (c.in-Items.ensures.ranked (equal_within heap (c.args.depth - 1)) (order_within heap (c.args.depth - 1))) c.order_items.ensures
+    (c.in-Items.ensures.ranked (equal_within heap (c.args.depth - 1)) (order_within heap (c.args.depth - 1))) c.order_items.ensures.ran
 
-pub order_values-returns-in-Unordered : goal.order_values-returns-in-Unordered
-order_values-returns-in-Unordered g t c =
+pub order_values-returns-in-Unordered-clause-ran : goal.order_values-returns-in-Unordered-clause-ran
+order_values-returns-in-Unordered-clause-ran g t c =
     let texts = g.C.Constants.text_of c.args.consts.now in
     let tuples = g.C.Constants.items_of c.args.consts.now in
     let h = c.args.arena.now in

@@ -6,7 +6,7 @@ use Rattle.vm_walks.specs.Plain.{plain, plain_heap}
 use Rattle.vm_walks.specs.Orders.{plain_order, plain_answer}
 use Rattle.vm_walks.proofs.RunSteps.{answer_is}
 use Rattle.vm_walks.proofs.OrderSteps.{Found, order_is}
-use Rattle.vm_walks.proofs.PlainOrders.{answer_plain}
+use Rattle.vm_walks.proofs.PlainOrders.{answer_plain, led_plain}
 use Rattle.vm_walks.proofs.orders.order.Goals as goal
 
 pub returns : goal.returns
@@ -19,5 +19,6 @@ returns g c =
     let r = c.order_values.result in
     record {
       answer = ap (option_map (plain_order texts tuples)) c.ok.ensures.value ∙ (answer_plain texts tuples r
-          ∙ (answer_is (order_within heap 32 a b) (plain_answer texts tuples r) c.order_values.new.budget.left c.order_values.ensures ∙ sym (ap (λ (walk : Walk Found). walk.answer) (order_is heap a b))));
+          ∙ (answer_is (order_within heap 32 a b) (plain_answer texts tuples r) c.order_values.new.budget.left c.order_values.ensures.ran ∙ sym (ap (λ (walk : Walk Found). walk.answer) (order_is heap a b))));
+      lead = led_plain c.args.arena.now.objects r c.ok.result c.ok.ensures.value c.order_values.ensures.lead;
     }

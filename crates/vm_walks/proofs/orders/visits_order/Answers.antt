@@ -15,5 +15,5 @@ returns g c =
     let heap = plain_heap texts tuples c.args.arena.now in
     let a = plain texts tuples c.args.a in
     let b = plain texts tuples c.args.b in
-    let left = ap (λ (p : Result Found Halt × Option ℕ). p.1) c.order_values.ensures in
+    let left = ap (λ (p : Result Found Halt × Option ℕ). p.1) c.order_values.ensures.ran in
     record { visits = visits_are (order_within heap 32 a b) c.args.most c.made_of.result c.order_values.new.budget.left left c.made_of.ensures ∙ sym (ap (λ (walk : Walk Found). min walk.visits c.args.most) (order_is heap a b)) }
