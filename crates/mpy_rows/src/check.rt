@@ -122,6 +122,9 @@ fn codes_nest(rt: HostRuntime) -> Result<(), Fail> {
     assert_eq!(rt; answer.status, 0);
     assert_eq!(rt; answer.out.bytes(), "verified 32\n".as_bytes());
     let answer = checked(alloc, nested(alloc, 33)?)?;
-    assert_eq!(rt; answer.say.bytes(), "mpy: b.mpy: file 9 TooBig\n".as_bytes());
+    assert_eq!(rt;
+        answer.say.bytes(),
+        "mpy: b.mpy: file 9 TooBig\n".as_bytes()
+    );
     Ok(())
 }

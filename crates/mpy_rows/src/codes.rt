@@ -254,7 +254,11 @@ fn bytes_of(alloc: Global, row: &str) -> Result<Vec<u8>, AllocError> {
     let mut bytes = Vec::new(alloc);
     for pair in row.as_bytes().chunks_exact(2) {
         if let [high, low] = pair {
-            bytes.push(digit_of(*high).wrapping_mul(16).wrapping_add(digit_of(*low)))?;
+            bytes.push(
+                digit_of(*high)
+                    .wrapping_mul(16)
+                    .wrapping_add(digit_of(*low)),
+            )?;
         }
     }
     Ok(bytes)

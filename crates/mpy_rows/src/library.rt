@@ -169,7 +169,10 @@ fn a_text_has_one_number(rt: HostRuntime) -> Result<(), Fail> {
     }
     for (qstr, number) in NUMBERS {
         told(library.text_number(0, qstr) == number, "another number")?;
-        told(library.text_number(1, qstr) == number, "another number of the second")?;
+        told(
+            library.text_number(1, qstr) == number,
+            "another number of the second",
+        )?;
     }
     Ok(())
 }
@@ -186,12 +189,20 @@ fn constants_have_numbers(rt: HostRuntime) -> Result<(), Fail> {
     let library = library_of(rt.alloc(), &TWO)?;
     let pair = constant(1, 0);
     let text = StrNo::Object(constant(1, 1));
-    let items = [Some(Value::Str(text)), Some(Value::None), Some(Value::Int(5)), None];
+    let items = [
+        Some(Value::Str(text)),
+        Some(Value::None),
+        Some(Value::Int(5)),
+        None,
+    ];
     for (at, item) in items.iter().enumerate() {
         told(library.item(pair, at as u32) == *item, "another item")?;
     }
     told(library.text(text) == Some("ab".as_bytes()), "another text")?;
-    told(library.object(1, 0) == Some(Value::Fixed(pair)), "another object")?;
+    told(
+        library.object(1, 0) == Some(Value::Fixed(pair)),
+        "another object",
+    )?;
     told(library.object(1, 1).is_none(), "a second object")?;
     told(library.len(pair) == Some(3), "another length")?;
     told(library.len(constant(2, 0)).is_none(), "a third module")
