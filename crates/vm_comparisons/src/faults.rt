@@ -1,0 +1,20 @@
+//! What a comparison raises over operands that it doesn't take.
+
+ghost use Rattle.arena_heap.specs.Values.{Leads};
+ghost use Rattle.vm_faults.specs.Faults.{method_text};
+ghost use Rattle.vm_comparisons.specs.Operands.{IsUnsupported};
+
+use arena_heap::{Arena, Value};
+use vm_faults::{Fault, SpecialMethod, type_of};
+
+pub(crate) fn unsupported(arena: &Arena, method: SpecialMethod, left: Value, right: Value) -> Fault
+    requires left { Leads arena.now.objects left }
+    requires right { Leads arena.now.objects right }
+    ensures { IsUnsupported arena.now (method_text method) left right result }
+{
+    Fault::Unsupported {
+        method,
+        left: type_of(arena, left),
+        right: type_of(arena, right),
+    }
+}

@@ -1,0 +1,57 @@
+//! Order.
+
+ghost use Rattle.std.specs.Prelude.{◌≡◌, min};
+ghost use Rattle.arena_heap.specs.Values.{Leads};
+ghost use Rattle.arena_heap.specs.Constants.{IsTold};
+ghost use Rattle.arena_objects.specs.Keys.{AllTold};
+ghost use Rattle.py_primitives.specs.Operators.{op_order as order_of};
+ghost use Rattle.vm_walks.specs.Plain.{plain, plain_heap};
+ghost use Rattle.vm_faults.specs.Outcomes.{IsOutcome};
+ghost use Rattle.vm_comparisons.specs.Signs.{plain_sign};
+
+use crate::faults::unsupported;
+use crate::signs::Sign;
+use arena_heap::{Arena, Constants, Value};
+use vm_faults::{Fault, Stop};
+use vm_walks::{order, visits_order};
+
+/// Whether two values stand in the order of a sign.
+pub fn op_order<C: Constants>(
+    arena: &Arena,
+    consts: &C,
+    sign: Sign,
+    a: Value,
+    b: Value,
+) -> Result<Value, Stop>
+    requires a_leads { Leads arena.now.objects a }
+    requires b_leads { Leads arena.now.objects b }
+    requires a_told { IsTold (C.text_of consts.now) (C.items_of consts.now) a }
+    requires b_told { IsTold (C.text_of consts.now) (C.items_of consts.now) b }
+    requires all_told { AllTold (C.text_of consts.now) (C.items_of consts.now) arena.now.objects }
+    ensures { IsOutcome (C.text_of consts.now) (C.items_of consts.now) arena.now arena.now result (order_of (plain_heap (C.text_of consts.now) (C.items_of consts.now) arena.now) (plain_sign sign) (plain (C.text_of consts.now) (C.items_of consts.now) a) (plain (C.text_of consts.now) (C.items_of consts.now) b)) }
+{
+    match order(arena, consts, a, b) {
+        Some(Ok(found)) => Ok(Value::Bool(sign.holds(found))),
+        Some(Err(e)) => Err(Stop::Raises(unsupported(arena, sign.method(), e.left, e.right))),
+        None => Err(Stop::Raises(Fault::TooDeep)),
+    }
+}
+
+/// How many visits `op_order` makes, up to so many, whichever the sign. It goes no further.
+pub fn visits_op_order<C: Constants>(
+    arena: &Arena,
+    consts: &C,
+    _sign: Sign,
+    a: Value,
+    b: Value,
+    most: u64,
+) -> u64
+    requires a_leads { Leads arena.now.objects a }
+    requires b_leads { Leads arena.now.objects b }
+    requires a_told { IsTold (C.text_of consts.now) (C.items_of consts.now) a }
+    requires b_told { IsTold (C.text_of consts.now) (C.items_of consts.now) b }
+    requires all_told { AllTold (C.text_of consts.now) (C.items_of consts.now) arena.now.objects }
+    ensures { result ≡ min (order_of (plain_heap (C.text_of consts.now) (C.items_of consts.now) arena.now) (plain_sign _sign) (plain (C.text_of consts.now) (C.items_of consts.now) a) (plain (C.text_of consts.now) (C.items_of consts.now) b)).visits most }
+{
+    visits_order(arena, consts, a, b, most)
+}
