@@ -1,1 +1,6 @@
+pub mod Contents
+pub mod KeysFound
+pub mod NumbersWithin
+pub mod RangePlaces
+pub mod TextParts
 pub mod Walked

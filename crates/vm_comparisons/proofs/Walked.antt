@@ -1,5 +1,5 @@
 -- What comes behind a walk over an arena's values.
-use Rattle.std.proofs.Common.{◌≡◌, ℕ, ◌+◌, List, Bool, Option, Some, None, Result, Ok, Err, refl, sym, ap, ◌∙◌, subst, arith}
+use Rattle.std.proofs.Common.{◌≡◌, ℕ, List, Bool, Option, Some, None, Result, Ok, Err, refl, sym, ap, subst, arith}
 use Rattle.mpy_base.specs.World.{Heap}
 use Rattle.mpy_base.specs.Val.{Val, Truth}
 use Rattle.arena_heap.specs.declared.value.Value.{Value}
@@ -9,13 +9,11 @@ use Rattle.arena_heap.specs.declared.value.ConstNo.{ConstNo}
 use Rattle.arena_objects.specs.Keys.{AllTold}
 use Rattle.py_values.specs.Shown.{PlainHeap}
 use Rattle.py_values.specs.Equality.{Walk}
-use Rattle.py_primitives.specs.Outcome.{Outcome, gives, raises, with_visits, after_answer, after_walk}
+use Rattle.py_primitives.specs.Outcome.{Outcome, gives, with_visits, after_answer, after_walk}
 use Rattle.vm_walks.specs.Plain.{plain_heap}
-use Rattle.vm_faults.specs.declared.fault.Fault.{Fault}
 use Rattle.vm_faults.specs.declared.fault.Fault.TheVariants as faults
 use Rattle.vm_faults.specs.declared.stop.Stop.{Stop}
 use Rattle.vm_faults.specs.declared.stop.Stop.TheVariants.{Raises}
-use Rattle.vm_faults.specs.Faults.{plain_fault, IsKnownFault}
 use Rattle.vm_faults.specs.Outcomes.{IsOutcome}
 use Rattle.vm_faults.proofs.Outcomes.{gives_outcome, raises_outcome}
 

@@ -1,0 +1,126 @@
+//! Membership.
+
+ghost use Rattle.std.specs.Prelude.{◌≡◌, ◌↔◌, IsTrue, map, min, is_some};
+ghost use Rattle.mpy_base.specs.World.{ADict, IsA, pairs_at};
+ghost use Rattle.mpy_base.specs.Val.{Truth};
+ghost use Rattle.arena_heap.specs.Values.{Leads, IsKey};
+ghost use Rattle.arena_heap.specs.Constants.{IsTold};
+ghost use Rattle.arena_objects.specs.Keys.{AllTold};
+ghost use Rattle.arena_objects.specs.Iterables.{items_in};
+ghost use Rattle.py_values.specs.Shown.{Text, Range, shown};
+ghost use Rattle.py_values.specs.Keys.{value_of_key};
+ghost use Rattle.py_primitives.specs.Outcome.{gives, after_walk};
+ghost use Rattle.py_primitives.specs.Operators.{op_contains as contains_of, contains_equal, contains_shown, with_key_of};
+ghost use Rattle.vm_walks.specs.Plain.{plain, plain_pair, plain_heap};
+ghost use Rattle.vm_faults.specs.Outcomes.{IsOutcome};
+
+use crate::faults::unsupported;
+use crate::keys::is_key;
+use crate::parts::has_part;
+use crate::ranges::has_number;
+use arena_heap::{Arena, Constants, DictNo, Value};
+use arena_objects::dict_get;
+use vm_faults::{Fault, SpecialMethod, Stop, type_of};
+use vm_walks::{Look, contains, look_at, visits_contains};
+
+/// Whether a list or tuple has an item that equals a value.
+fn has_item<C: Constants>(arena: &Arena, consts: &C, v: Value, over: Value) -> Result<Value, Stop>
+    requires v_leads { Leads arena.now.objects v }
+    requires over_leads { Leads arena.now.objects over }
+    requires v_told { IsTold (C.text_of consts.now) (C.items_of consts.now) v }
+    requires over_told { IsTold (C.text_of consts.now) (C.items_of consts.now) over }
+    requires all_told { AllTold (C.text_of consts.now) (C.items_of consts.now) arena.now.objects }
+    ensures { IsOutcome (C.text_of consts.now) (C.items_of consts.now) arena.now arena.now result (after_walk (plain_heap (C.text_of consts.now) (C.items_of consts.now) arena.now) (contains_equal (plain_heap (C.text_of consts.now) (C.items_of consts.now) arena.now) (plain (C.text_of consts.now) (C.items_of consts.now) v) (map (plain (C.text_of consts.now) (C.items_of consts.now)) (items_in (C.items_of consts.now) arena.now over))) (λ found. gives (Truth found) (plain_heap (C.text_of consts.now) (C.items_of consts.now) arena.now))) }
+{
+    match contains(arena, consts, over, v) {
+        Some(found) => Ok(Value::Bool(found)),
+        None => Err(Stop::Raises(Fault::TooDeep)),
+    }
+}
+
+/// Whether a dict has a key.
+fn has_key<C: Constants>(arena: &Arena, consts: &C, v: Value, d: DictNo) -> Result<Value, Stop>
+    requires dict { IsA arena.now.objects ADict d.cell }
+    requires v_leads { Leads arena.now.objects v }
+    requires v_told { IsTold (C.text_of consts.now) (C.items_of consts.now) v }
+    requires all_told { AllTold (C.text_of consts.now) (C.items_of consts.now) arena.now.objects }
+    ensures { IsOutcome (C.text_of consts.now) (C.items_of consts.now) arena.now arena.now result (with_key_of (plain_heap (C.text_of consts.now) (C.items_of consts.now) arena.now) (plain (C.text_of consts.now) (C.items_of consts.now) v) (gives (Truth (is_some (value_of_key (plain_heap (C.text_of consts.now) (C.items_of consts.now) arena.now) (map (plain_pair (C.text_of consts.now) (C.items_of consts.now)) (pairs_at arena.now d.cell)) (plain (C.text_of consts.now) (C.items_of consts.now) v)))) (plain_heap (C.text_of consts.now) (C.items_of consts.now) arena.now))) }
+{
+    if !is_key(arena, v) {
+        return Err(Stop::Raises(Fault::UnsupportedOne {
+            method: SpecialMethod::Hash,
+            operand: type_of(arena, v),
+        }));
+    }
+    arena.sound_law();
+    Ok(Value::Bool(dict_get(arena, consts, d, v).is_some()))
+}
+
+/// Whether a str has a str in it. Nothing else can be.
+fn has_text<C: Constants>(
+    arena: &Arena,
+    consts: &C,
+    v: Value,
+    container: Value,
+    bytes: &[u8],
+) -> Result<Value, Stop>
+    requires v_leads { Leads arena.now.objects v }
+    requires container_leads { Leads arena.now.objects container }
+    requires v_told { IsTold (C.text_of consts.now) (C.items_of consts.now) v }
+    requires container_told { IsTold (C.text_of consts.now) (C.items_of consts.now) container }
+    requires all_told { AllTold (C.text_of consts.now) (C.items_of consts.now) arena.now.objects }
+    ensures { IsOutcome (C.text_of consts.now) (C.items_of consts.now) arena.now arena.now result (contains_shown (plain_heap (C.text_of consts.now) (C.items_of consts.now) arena.now) (plain (C.text_of consts.now) (C.items_of consts.now) v) (plain (C.text_of consts.now) (C.items_of consts.now) container) (shown (plain_heap (C.text_of consts.now) (C.items_of consts.now) arena.now) (plain (C.text_of consts.now) (C.items_of consts.now) v)) (Text bytes.now)) }
+{
+    match look_at(arena, consts, v) {
+        Look::Text(part) => Ok(Value::Bool(has_part(bytes, part))),
+        _ => Err(Stop::Raises(unsupported(arena, SpecialMethod::Contains, container, v))),
+    }
+}
+
+/// `in`: whether a container has a value.
+pub fn op_contains<C: Constants>(
+    arena: &Arena,
+    consts: &C,
+    v: Value,
+    container: Value,
+) -> Result<Value, Stop>
+    requires v_leads { Leads arena.now.objects v }
+    requires container_leads { Leads arena.now.objects container }
+    requires v_told { IsTold (C.text_of consts.now) (C.items_of consts.now) v }
+    requires container_told { IsTold (C.text_of consts.now) (C.items_of consts.now) container }
+    requires all_told { AllTold (C.text_of consts.now) (C.items_of consts.now) arena.now.objects }
+    ensures { IsOutcome (C.text_of consts.now) (C.items_of consts.now) arena.now arena.now result (contains_of (plain_heap (C.text_of consts.now) (C.items_of consts.now) arena.now) (plain (C.text_of consts.now) (C.items_of consts.now) v) (plain (C.text_of consts.now) (C.items_of consts.now) container)) }
+{
+    match look_at(arena, consts, container) {
+        Look::Tuple(_) => has_item(arena, consts, v, container),
+        Look::Items(_) => has_item(arena, consts, v, container),
+        Look::Pairs(d) => has_key(arena, consts, v, d),
+        Look::Range { start, stop, step } => {
+            Ok(Value::Bool(has_number(arena, v, start, stop, step)))
+        }
+        Look::Text(bytes) => has_text(arena, consts, v, container, bytes),
+        _ => Err(Stop::Raises(unsupported(arena, SpecialMethod::Contains, container, v))),
+    }
+}
+
+/// How many visits `op_contains` makes, up to so many. It goes no further.
+pub fn visits_op_contains<C: Constants>(
+    arena: &Arena,
+    consts: &C,
+    v: Value,
+    container: Value,
+    most: u64,
+) -> u64
+    requires v_leads { Leads arena.now.objects v }
+    requires container_leads { Leads arena.now.objects container }
+    requires v_told { IsTold (C.text_of consts.now) (C.items_of consts.now) v }
+    requires container_told { IsTold (C.text_of consts.now) (C.items_of consts.now) container }
+    requires all_told { AllTold (C.text_of consts.now) (C.items_of consts.now) arena.now.objects }
+    ensures { result ≡ min (contains_of (plain_heap (C.text_of consts.now) (C.items_of consts.now) arena.now) (plain (C.text_of consts.now) (C.items_of consts.now) v) (plain (C.text_of consts.now) (C.items_of consts.now) container)).visits most }
+{
+    match look_at(arena, consts, container) {
+        Look::Tuple(_) => visits_contains(arena, consts, container, v, most),
+        Look::Items(_) => visits_contains(arena, consts, container, v, most),
+        _ => 0,
+    }
+}
