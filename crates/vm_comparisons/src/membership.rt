@@ -1,13 +1,13 @@
 //! Membership.
 
-ghost use Rattle.std.specs.Prelude.{◌≡◌, ◌↔◌, IsTrue, map, min, is_some};
+ghost use Rattle.std.specs.Prelude.{◌≡◌, map, min, is_some};
 ghost use Rattle.mpy_base.specs.World.{ADict, IsA, pairs_at};
 ghost use Rattle.mpy_base.specs.Val.{Truth};
-ghost use Rattle.arena_heap.specs.Values.{Leads, IsKey};
+ghost use Rattle.arena_heap.specs.Values.{Leads};
 ghost use Rattle.arena_heap.specs.Constants.{IsTold};
 ghost use Rattle.arena_objects.specs.Keys.{AllTold};
 ghost use Rattle.arena_objects.specs.Iterables.{items_in};
-ghost use Rattle.py_values.specs.Shown.{Text, Range, shown};
+ghost use Rattle.py_values.specs.Shown.{Text, shown};
 ghost use Rattle.py_values.specs.Keys.{value_of_key};
 ghost use Rattle.py_primitives.specs.Outcome.{gives, after_walk};
 ghost use Rattle.py_primitives.specs.Operators.{op_contains as contains_of, contains_equal, contains_shown, with_key_of};
