@@ -1,0 +1,63 @@
+//! The arguments of calls.
+
+ghost use Rattle.std.specs.Prelude.{◌≡◌, ◌≢◌, ◌<◌, ◌^◌, [], ◌∷◌, length, IfOk, IfErr};
+ghost use Rattle.py_primitives.specs.Calls.{Exactly};
+ghost use Rattle.vm_faults.specs.declared.fault.Fault.TheVariants as faults;
+ghost use Rattle.vm_builtins.specs.Arguments.{IsRefusal};
+
+use arena_heap::Value;
+use vm_faults::Fault;
+
+/// Keyword arguments are refused.
+fn no_keywords(keys: &[(Value, Value)]) -> Result<(), Fault>
+    ensures none { IfOk result (λ _. keys.now ≡ []) }
+    ensures some { IfErr result (λ fault. keys.now ≢ []) }
+    ensures fault { IfErr result (λ fault. fault ≡ faults.NoKeywords) }
+{
+    if keys.is_empty() {
+        Ok(())
+    } else {
+        Err(Fault::NoKeywords)
+    }
+}
+
+/// Another count of arguments is refused.
+fn so_many(takes: u32, args: &[Value]) -> Result<(), Fault>
+    requires few { length args.now < 2 ^ 32 }
+    ensures as_many { IfOk result (λ _. length args.now ≡ takes) }
+    ensures others { IfErr result (λ fault. length args.now ≢ takes) }
+    ensures fault { IfErr result (λ fault. fault ≡ faults.WrongCount takes (length args.now)) }
+{
+    let given = args.len() as u32;
+    if given == takes {
+        Ok(())
+    } else {
+        Err(Fault::WrongCount { takes, given })
+    }
+}
+
+/// So many arguments are taken, and no keyword arguments.
+fn only_so_many(takes: u32, args: &[Value], keys: &[(Value, Value)]) -> Result<(), Fault>
+    requires few { length args.now < 2 ^ 32 }
+    ensures as_many { IfOk result (λ _. length args.now ≡ takes) }
+    ensures no_keywords { IfOk result (λ _. keys.now ≡ []) }
+    ensures refused { IfErr result (λ fault. IsRefusal (Exactly takes) args.now keys.now fault) }
+{
+    match no_keywords(keys) {
+        Ok(()) => so_many(takes, args),
+        Err(fault) => Err(fault),
+    }
+}
+
+/// The only argument.
+pub(crate) fn one_argument(args: &[Value], keys: &[(Value, Value)]) -> Result<Value, Fault>
+    requires few { length args.now < 2 ^ 32 }
+    ensures given { IfOk result (λ v. args.now ≡ v ∷ []) }
+    ensures no_keywords { IfOk result (λ _. keys.now ≡ []) }
+    ensures refused { IfErr result (λ fault. IsRefusal (Exactly 1) args.now keys.now fault) }
+{
+    match only_so_many(1, args, keys) {
+        Ok(()) => Ok(args[0]),
+        Err(fault) => Err(fault),
+    }
+}

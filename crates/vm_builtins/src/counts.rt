@@ -1,0 +1,22 @@
+//! Numbers that are no less than 0.
+
+ghost use Rattle.std.specs.Prelude.{pos};
+ghost use Rattle.py_values.specs.Small.{checked};
+ghost use Rattle.py_primitives.specs.Operators.{gives_number};
+ghost use Rattle.vm_operators.specs.Changeless.{IsAnswerOf};
+
+use arena_heap::Value;
+use py_values::NumFault;
+use vm_faults::{Fault, Stop};
+
+const GREATEST: usize = 1_073_741_823;
+
+/// A number, or the fault of one that is out of range.
+pub(crate) fn gives_count(n: usize) -> Result<Value, Stop>
+    ensures { IsAnswerOf result (λ heap. gives_number heap (checked (pos n))) }
+{
+    if n > GREATEST {
+        return Err(Stop::Raises(Fault::Arithmetic(NumFault::Overflow)));
+    }
+    Ok(Value::Int(n as i32))
+}
