@@ -1,3 +1,5 @@
+pub mod BoundsLeading
 pub mod Calls
 pub mod Numbered
 pub mod SmallCounts
+pub mod SmallSame

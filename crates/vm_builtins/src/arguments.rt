@@ -1,9 +1,9 @@
 //! The arguments of calls.
 
-ghost use Rattle.std.specs.Prelude.{◌≡◌, ◌≢◌, ◌<◌, ◌^◌, [], ◌∷◌, length, IfOk, IfErr};
-ghost use Rattle.py_primitives.specs.Calls.{Exactly};
+ghost use Rattle.std.specs.Prelude.{◌≡◌, ◌≢◌, ◌<◌, ◌≤◌, ◌^◌, [], ◌∷◌, length, IfOk, IfErr};
+ghost use Rattle.py_primitives.specs.Calls.{Exactly, Between};
 ghost use Rattle.vm_faults.specs.declared.fault.Fault.TheVariants as faults;
-ghost use Rattle.vm_builtins.specs.Arguments.{IsRefusal};
+ghost use Rattle.vm_builtins.specs.Arguments.{IsRefusal, IsMiscount};
 
 use arena_heap::Value;
 use vm_faults::Fault;
@@ -36,6 +36,22 @@ fn so_many(takes: u32, args: &[Value]) -> Result<(), Fault>
     }
 }
 
+/// A count of arguments out of these bounds is refused.
+fn between(least: u32, most: u32, args: &[Value]) -> Result<(), Fault>
+    requires few { length args.now < 2 ^ 32 }
+    ensures as_many { IfOk result (λ _. (least ≤ length args.now) × (length args.now ≤ most)) }
+    ensures fault { IfErr result (IsMiscount least most (length args.now)) }
+{
+    let given = args.len() as u32;
+    if given < least {
+        Err(Fault::TooFew { least, given })
+    } else if given > most {
+        Err(Fault::TooMany { most, given })
+    } else {
+        Ok(())
+    }
+}
+
 /// So many arguments are taken, and no keyword arguments.
 fn only_so_many(takes: u32, args: &[Value], keys: &[(Value, Value)]) -> Result<(), Fault>
     requires few { length args.now < 2 ^ 32 }
@@ -58,6 +74,24 @@ pub(crate) fn one_argument(args: &[Value], keys: &[(Value, Value)]) -> Result<Va
 {
     match only_so_many(1, args, keys) {
         Ok(()) => Ok(args[0]),
+        Err(fault) => Err(fault),
+    }
+}
+
+/// From `least` to `most` arguments are taken, and no keyword arguments.
+pub(crate) fn only_between(
+    least: u32,
+    most: u32,
+    args: &[Value],
+    keys: &[(Value, Value)],
+) -> Result<(), Fault>
+    requires few { length args.now < 2 ^ 32 }
+    ensures as_many { IfOk result (λ _. (least ≤ length args.now) × (length args.now ≤ most)) }
+    ensures no_keywords { IfOk result (λ _. keys.now ≡ []) }
+    ensures refused { IfErr result (λ fault. IsRefusal (Between least most) args.now keys.now fault) }
+{
+    match no_keywords(keys) {
+        Ok(()) => between(least, most, args),
         Err(fault) => Err(fault),
     }
 }

@@ -1,0 +1,200 @@
+//! `range`.
+
+ghost use Rattle.std.specs.Prelude.{◌≡◌, ◌≢◌, ◌<◌, ◌^◌, ◌≤◌, pos, length, map, All};
+ghost use Rattle.mpy_base.specs.World.{RangeObject};
+ghost use Rattle.mpy_base.specs.declared.builtin.Builtin.TheVariants as builtins;
+ghost use Rattle.arena_heap.specs.Values.{Leads, IsSmall};
+ghost use Rattle.arena_objects.specs.Keys.{AllTold};
+ghost use Rattle.py_primitives.specs.Outcome.{making};
+ghost use Rattle.py_primitives.specs.Calls.{call, call_range as range_in, range_of as range_from, with_number};
+ghost use Rattle.vm_walks.specs.Plain.{plain, plain_pair, plain_heap};
+ghost use Rattle.vm_faults.specs.Faults.{IsKnown};
+ghost use Rattle.vm_faults.specs.Outcomes.{IsOutcome};
+ghost use Rattle.vm_builtins.specs.Bounds.{given_by, BoundsLead};
+
+use crate::arguments::only_between;
+use crate::numbers::number_of;
+use arena_heap::{Arena, Constants, Value};
+use vm_faults::{Fault, Stop};
+
+/// What a range is called with.
+#[derive(Clone, Copy)]
+pub(crate) enum Bounds {
+    Stop(Value),
+    StartStop(Value, Value),
+    StartStopStep(Value, Value, Value),
+}
+
+fn make_range<C: Constants>(
+    arena: &mut Arena,
+    consts: &C,
+    start: i32,
+    stop: i32,
+    step: i32,
+) -> Result<Value, Stop>
+    requires start_small { IsSmall start }
+    requires stop_small { IsSmall stop }
+    requires step_small { IsSmall step }
+    requires nonzero { step ≢ pos 0 }
+    requires all_told { AllTold (C.text_of consts.now) (C.items_of consts.now) arena.old.objects }
+    ensures { IsOutcome (C.text_of consts.now) (C.items_of consts.now) arena.old arena.new result (making (plain_heap (C.text_of consts.now) (C.items_of consts.now) arena.old) (RangeObject start stop step)) }
+{
+    match arena.make_range(start, stop, step) {
+        Ok(range) => Ok(Value::Range(range)),
+        Err(room) => Err(Stop::Full(room)),
+    }
+}
+
+fn range_of<C: Constants>(
+    arena: &mut Arena,
+    consts: &C,
+    start: i32,
+    stop: i32,
+    step: i32,
+) -> Result<Value, Stop>
+    requires start_small { IsSmall start }
+    requires stop_small { IsSmall stop }
+    requires step_small { IsSmall step }
+    requires all_told { AllTold (C.text_of consts.now) (C.items_of consts.now) arena.old.objects }
+    ensures { IsOutcome (C.text_of consts.now) (C.items_of consts.now) arena.old arena.new result (range_from (plain_heap (C.text_of consts.now) (C.items_of consts.now) arena.old) start stop step) }
+{
+    if step == 0 {
+        return Err(Stop::Raises(Fault::ZeroStep));
+    }
+    make_range(arena, consts, start, stop, step)
+}
+
+fn with_step<C: Constants>(
+    arena: &mut Arena,
+    consts: &C,
+    start: i32,
+    stop: i32,
+    step: Value,
+) -> Result<Value, Stop>
+    requires start_small { IsSmall start }
+    requires stop_small { IsSmall stop }
+    requires step_leads { Leads arena.old.objects step }
+    requires all_told { AllTold (C.text_of consts.now) (C.items_of consts.now) arena.old.objects }
+    ensures { IsOutcome (C.text_of consts.now) (C.items_of consts.now) arena.old arena.new result (with_number (plain_heap (C.text_of consts.now) (C.items_of consts.now) arena.old) (plain (C.text_of consts.now) (C.items_of consts.now) step) (λ w. range_from (plain_heap (C.text_of consts.now) (C.items_of consts.now) arena.old) start stop w)) }
+{
+    match number_of(arena, step) {
+        Ok(z) => range_of(arena, consts, start, stop, z),
+        Err(fault) => Err(Stop::Raises(fault)),
+    }
+}
+
+fn with_stop_and_step<C: Constants>(
+    arena: &mut Arena,
+    consts: &C,
+    start: i32,
+    stop: Value,
+    step: Value,
+) -> Result<Value, Stop>
+    requires start_small { IsSmall start }
+    requires stop_leads { Leads arena.old.objects stop }
+    requires step_leads { Leads arena.old.objects step }
+    requires all_told { AllTold (C.text_of consts.now) (C.items_of consts.now) arena.old.objects }
+    ensures { IsOutcome (C.text_of consts.now) (C.items_of consts.now) arena.old arena.new result (with_number (plain_heap (C.text_of consts.now) (C.items_of consts.now) arena.old) (plain (C.text_of consts.now) (C.items_of consts.now) stop) (λ y. with_number (plain_heap (C.text_of consts.now) (C.items_of consts.now) arena.old) (plain (C.text_of consts.now) (C.items_of consts.now) step) (λ w. range_from (plain_heap (C.text_of consts.now) (C.items_of consts.now) arena.old) start y w))) }
+{
+    match number_of(arena, stop) {
+        Ok(z) => with_step(arena, consts, start, z, step),
+        Err(fault) => Err(Stop::Raises(fault)),
+    }
+}
+
+fn with_all<C: Constants>(
+    arena: &mut Arena,
+    consts: &C,
+    start: Value,
+    stop: Value,
+    step: Value,
+) -> Result<Value, Stop>
+    requires start_leads { Leads arena.old.objects start }
+    requires stop_leads { Leads arena.old.objects stop }
+    requires step_leads { Leads arena.old.objects step }
+    requires all_told { AllTold (C.text_of consts.now) (C.items_of consts.now) arena.old.objects }
+    ensures { IsOutcome (C.text_of consts.now) (C.items_of consts.now) arena.old arena.new result (with_number (plain_heap (C.text_of consts.now) (C.items_of consts.now) arena.old) (plain (C.text_of consts.now) (C.items_of consts.now) start) (λ x. with_number (plain_heap (C.text_of consts.now) (C.items_of consts.now) arena.old) (plain (C.text_of consts.now) (C.items_of consts.now) stop) (λ y. with_number (plain_heap (C.text_of consts.now) (C.items_of consts.now) arena.old) (plain (C.text_of consts.now) (C.items_of consts.now) step) (λ w. range_from (plain_heap (C.text_of consts.now) (C.items_of consts.now) arena.old) x y w)))) }
+{
+    match number_of(arena, start) {
+        Ok(z) => with_stop_and_step(arena, consts, z, stop, step),
+        Err(fault) => Err(Stop::Raises(fault)),
+    }
+}
+
+fn with_stop<C: Constants>(
+    arena: &mut Arena,
+    consts: &C,
+    start: i32,
+    stop: Value,
+) -> Result<Value, Stop>
+    requires start_small { IsSmall start }
+    requires stop_leads { Leads arena.old.objects stop }
+    requires all_told { AllTold (C.text_of consts.now) (C.items_of consts.now) arena.old.objects }
+    ensures { IsOutcome (C.text_of consts.now) (C.items_of consts.now) arena.old arena.new result (with_number (plain_heap (C.text_of consts.now) (C.items_of consts.now) arena.old) (plain (C.text_of consts.now) (C.items_of consts.now) stop) (λ y. range_from (plain_heap (C.text_of consts.now) (C.items_of consts.now) arena.old) start y (pos 1))) }
+{
+    match number_of(arena, stop) {
+        Ok(z) => range_of(arena, consts, start, z, 1),
+        Err(fault) => Err(Stop::Raises(fault)),
+    }
+}
+
+fn with_start_and_stop<C: Constants>(
+    arena: &mut Arena,
+    consts: &C,
+    start: Value,
+    stop: Value,
+) -> Result<Value, Stop>
+    requires start_leads { Leads arena.old.objects start }
+    requires stop_leads { Leads arena.old.objects stop }
+    requires all_told { AllTold (C.text_of consts.now) (C.items_of consts.now) arena.old.objects }
+    ensures { IsOutcome (C.text_of consts.now) (C.items_of consts.now) arena.old arena.new result (with_number (plain_heap (C.text_of consts.now) (C.items_of consts.now) arena.old) (plain (C.text_of consts.now) (C.items_of consts.now) start) (λ x. with_number (plain_heap (C.text_of consts.now) (C.items_of consts.now) arena.old) (plain (C.text_of consts.now) (C.items_of consts.now) stop) (λ y. range_from (plain_heap (C.text_of consts.now) (C.items_of consts.now) arena.old) x y (pos 1)))) }
+{
+    match number_of(arena, start) {
+        Ok(z) => with_stop(arena, consts, z, stop),
+        Err(fault) => Err(Stop::Raises(fault)),
+    }
+}
+
+fn with_bounds<C: Constants>(arena: &mut Arena, consts: &C, bounds: Bounds) -> Result<Value, Stop>
+    requires leads { BoundsLead arena.old.objects bounds }
+    requires all_told { AllTold (C.text_of consts.now) (C.items_of consts.now) arena.old.objects }
+    ensures { IsOutcome (C.text_of consts.now) (C.items_of consts.now) arena.old arena.new result (range_in (plain_heap (C.text_of consts.now) (C.items_of consts.now) arena.old) (map (plain (C.text_of consts.now) (C.items_of consts.now)) (given_by bounds))) }
+{
+    match bounds {
+        Bounds::Stop(stop) => with_stop(arena, consts, 0, stop),
+        Bounds::StartStop(start, stop) => with_start_and_stop(arena, consts, start, stop),
+        Bounds::StartStopStep(start, stop, step) => with_all(arena, consts, start, stop, step),
+    }
+}
+
+fn bounds_of(args: &[Value]) -> Bounds
+    requires least { 1 ≤ length args.now }
+    requires most { length args.now ≤ 3 }
+    ensures { given_by result ≡ args.now }
+{
+    if args.len() == 1 {
+        Bounds::Stop(args[0])
+    } else if args.len() == 2 {
+        Bounds::StartStop(args[0], args[1])
+    } else {
+        Bounds::StartStopStep(args[0], args[1], args[2])
+    }
+}
+
+/// `range` of these arguments.
+pub fn call_range<C: Constants>(
+    arena: &mut Arena,
+    consts: &C,
+    args: &[Value],
+    keys: &[(Value, Value)],
+) -> Result<Value, Stop>
+    requires few { length args.now < 2 ^ 32 }
+    requires known { All (IsKnown (C.text_of consts.now) (C.items_of consts.now) arena.old.objects) args.now }
+    requires all_told { AllTold (C.text_of consts.now) (C.items_of consts.now) arena.old.objects }
+    ensures { IsOutcome (C.text_of consts.now) (C.items_of consts.now) arena.old arena.new result (call (plain_heap (C.text_of consts.now) (C.items_of consts.now) arena.old) builtins.Range (map (plain (C.text_of consts.now) (C.items_of consts.now)) args.now) (map (plain_pair (C.text_of consts.now) (C.items_of consts.now)) keys.now)) }
+{
+    match only_between(1, 3, args, keys) {
+        Ok(()) => with_bounds(arena, consts, bounds_of(args)),
+        Err(fault) => Err(Stop::Raises(fault)),
+    }
+}
