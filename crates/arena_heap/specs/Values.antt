@@ -1,5 +1,5 @@
 -- What the values and objects of an arena keep.
-use Rattle.std.specs.Prelude.{◌≢◌, ℕ, ℤ, pos, neg_ℤ, ◌^◌, ◌<◌, ◌≤ℤ◌, ◌<ℤ◌, List, [], ◌∷◌, ◌++◌, Option, Some, None, map, All}
+use Rattle.std.specs.Prelude.{◌≢◌, ℕ, ℤ, pos, neg_ℤ, ◌^◌, ◌<◌, ◌≤◌, ◌≤ℤ◌, ◌<ℤ◌, length, List, [], ◌∷◌, ◌++◌, Option, Some, None, map, All}
 use Rattle.mpy_base.specs.declared.builtin.Builtin.{Builtin}
 use Rattle.mpy_base.specs.declared.builtin.Builtin.TheVariants as builtins
 use Rattle.arena_heap.specs.declared.value.Value.{Value}
@@ -116,3 +116,9 @@ IsFormed _ = Unit {0}
 pub record Sound (objects : Objects Value ℕ) : Type 0 where
   pub leads : (n : ℕ) → All (Leads objects) (held (object objects n))
   pub formed : (n : ℕ) → IsFormed (object objects n)
+
+-- a list or dict holds no more than its room
+abbrev pub IsWithinRoom : Option ArenaObject → Type 0
+IsWithinRoom (Some (ListObject items room)) = length items ≤ room
+IsWithinRoom (Some (DictObject pairs room)) = length pairs ≤ room
+IsWithinRoom _ = Unit {0}

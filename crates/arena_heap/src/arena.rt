@@ -1,8 +1,9 @@
 //! The arena, and what fits it.
 
-ghost use Rattle.std.specs.Prelude.{◌≡◌, ◌^◌, ◌<◌, IfOk, IfErr, OnOk, OnErr};
+ghost use Rattle.std.specs.Prelude.{◌≡◌, ℕ, ◌^◌, ◌<◌, IfOk, IfErr, OnOk, OnErr};
+ghost use Rattle.mpy_base.specs.World.{object};
 ghost use Rattle.mpy_base.specs.Weights.{empty, used, Fits, no_room};
-ghost use Rattle.arena_heap.specs.Values.{Sound};
+ghost use Rattle.arena_heap.specs.Values.{Sound, IsWithinRoom};
 
 use crate::cells::Cell;
 use mpy_base::{NoMemory, NoRoom, Room};
@@ -83,6 +84,15 @@ impl Arena {
     /// The objects of an arena are formed, and their values lead to objects of their kinds.
     pub fn sound_law(&self)
         ensures { Sound self.now.objects }
+    {
+        let _ = &self.room;
+    }
+    /// An arena's lists and dicts hold no more than their rooms, and what is used of the arena lies within it.
+    pub fn room_law(&self)
+        ensures rooms { (n : ℕ) → IsWithinRoom (object self.now.objects n) }
+        ensures fits { Fits self.now 0 0 }
+        ensures few { self.now.cell_size < 2 ^ 32 }
+        ensures few_bytes { self.now.byte_size < 2 ^ 32 }
     {
         let _ = &self.room;
     }

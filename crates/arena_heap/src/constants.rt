@@ -4,7 +4,7 @@ use crate::value::{ConstNo, StrNo, Value};
 
 /// What a library tells of its texts and its constant tuples.
 pub trait Constants {
-    ghost use Rattle.std.specs.Prelude.{◌≡◌, ℕ, ◌<◌, ◌^◌, List, length, Option, Some, option_and_then, slice_get, MatchOption, IfSome, All};
+    ghost use Rattle.std.specs.Prelude.{◌≡◌, ℕ, ◌<◌, ◌^◌, List, [], length, Option, Some, option_and_then, slice_get, MatchOption, IfSome, All};
     ghost use Rattle.std.specs.Option.{option_map};
     ghost use Rattle.arena_heap.specs.declared.value.StrNo.{StrNo as TextName};
     ghost use Rattle.arena_heap.specs.declared.value.ConstNo.{ConstNo as TupleName};
@@ -22,6 +22,10 @@ pub trait Constants {
         ensures text { MatchOption result (text_of self.now s ≡ None) (λ bytes. text_of self.now s ≡ Some bytes.now) }
         ensures ascii { IfSome result (λ bytes. All (λ b. b < 128) bytes.now) }
         ensures few { IfSome result (λ bytes. length bytes.now < 2 ^ 31) };
+
+    /// The text with number 1 is the empty one.
+    fn empty_law(&self)
+        ensures { text_of self.now (StrNo.Pool 1) ≡ Some [] };
 
     /// How many items a constant tuple has, or None where there is no such tuple. Constant tuples nest at most 32 deep.
     fn len(&self, c: ConstNo) -> Option<u32>

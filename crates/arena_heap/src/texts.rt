@@ -1,6 +1,6 @@
 //! Calls on texts that were made.
 
-ghost use Rattle.std.specs.Prelude.{◌≡◌, ◌<◌, length, slice_set, All};
+ghost use Rattle.std.specs.Prelude.{◌≡◌, ◌<◌, ◌^◌, length, slice_set, All};
 ghost use Rattle.mpy_base.specs.World.{AText, IsA, Later, text_at, with_text};
 
 use crate::arena::Arena;
@@ -12,6 +12,7 @@ pub fn made_text(arena: &Arena, t: TextNo) -> &[u8]
     requires { IsA arena.now.objects AText t.cell }
     ensures bytes { result.now ≡ text_at arena.now t.cell }
     ensures ascii { All (λ b. b < 128) result.now }
+    ensures few { length result.now < 2 ^ 32 }
 {
     let span = text_span(&arena.cells, t.cell);
     let start = span.start as usize;

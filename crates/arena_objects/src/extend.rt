@@ -89,10 +89,11 @@ fn put_items<C: Constants>(arena: &mut Arena, consts: &C, l: ListNo, from: Value
 }
 
 /// Makes a text of one byte.
-fn make_byte(arena: &mut Arena, byte: u8) -> Result<TextNo, NoRoom>
+pub fn make_byte(arena: &mut Arena, byte: u8) -> Result<TextNo, NoRoom>
     requires { byte < 128 }
     ensures made { IfOk result (λ t. Made arena.old arena.new t.cell (TextObject (byte ∷ []))) }
     ensures refused { IfErr result (λ e. Refused arena.old arena.new e 2 1) }
+    ensures kind { IfOk result (λ t. IsA arena.new.objects AText t.cell) }
 {
     let t = arena.make_text(1)?;
     text_fill(arena, t, 0, byte);

@@ -1,6 +1,6 @@
 //! The bytes of strs.
 
-ghost use Rattle.std.specs.Prelude.{◌≡◌, ◌<◌, Some, All};
+ghost use Rattle.std.specs.Prelude.{◌≡◌, ◌<◌, ◌^◌, length, Some, All};
 ghost use Rattle.arena_heap.specs.Values.{Leads, IsStr};
 ghost use Rattle.arena_heap.specs.Constants.{IsTold};
 ghost use Rattle.arena_objects.specs.Keys.{bytes_of};
@@ -14,6 +14,7 @@ pub fn text_bytes<'a, C: Constants>(arena: &'a Arena, consts: &'a C, s: Value) -
     requires told { IsTold (C.text_of consts.now) (C.items_of consts.now) s }
     ensures bytes { bytes_of (C.text_of consts.now) arena.now s ≡ Some result.now }
     ensures ascii { All (λ b. b < 128) result.now }
+    ensures few { length result.now < 2 ^ 32 }
 {
     match s {
         Value::Str(n) => consts.text(n).unwrap(),

@@ -11,20 +11,23 @@ use mpy_base::{NoRoom, Room};
 use std::alloc::Global;
 use std::test::Fail;
 
-/// One text, which is 1, and one tuple, (1, 2).
+/// The empty text, one that is 1, and one tuple, (1, 2).
 struct Words;
 
 impl Constants for Words {
-    ghost text_of = { λ _. elim [ Pool n ↦ (if nat_eq n 2 then Some (49 ∷ []) else None) | Object c ↦ None ] };
+    ghost text_of = { λ _. elim [ Pool n ↦ (if nat_eq n 1 then Some [] else (if nat_eq n 2 then Some (49 ∷ []) else None)) | Object c ↦ None ] };
 
     ghost items_of = { λ _ _. Some (Int (pos 1) ∷ Int (pos 2) ∷ []) };
 
     fn text(&self, s: StrNo) -> Option<&[u8]> {
         match s {
+            StrNo::Pool(1) => Some(b""),
             StrNo::Pool(2) => Some(b"1"),
             _ => None,
         }
     }
+
+    fn empty_law(&self) {}
 
     fn len(&self, _c: ConstNo) -> Option<u32> {
         Some(2)

@@ -102,6 +102,10 @@ impl Constants for Library {
         }
     }
 
+    fn empty_law(&self) {
+        let _ = &self.pool;
+    }
+
     fn len(&self, c: ConstNo) -> Option<u32> {
         match self.tuple_at(c) {
             Some(values) => Some(values.len() as u32),

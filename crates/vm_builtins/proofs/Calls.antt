@@ -10,6 +10,7 @@ use Rattle.mpy_base.specs.World.{Heap}
 use Rattle.mpy_base.specs.Val.{Val}
 use Rattle.arena_objects.specs.Keys.{AllTold}
 use Rattle.py_primitives.specs.Outcome.{Outcome}
+use Rattle.py_primitives.specs.Methods.{call_method}
 use Rattle.py_primitives.specs.Calls.{Counts, Exactly, counts_of, count_fault, unless_fault, call, called}
 use Rattle.vm_walks.specs.Plain.{plain, plain_pair, plain_heap}
 use Rattle.vm_faults.specs.declared.fault.Fault.{Fault}
@@ -30,6 +31,10 @@ module _ (texts : StrNo → Option (List ℕ)) (tuples : ConstNo → Option (Lis
     pub refused : (counts : Counts) (fault : Fault) → AllTold texts tuples h.objects → IsRefusal counts args keys fault → counts_of b ≡ counts
         → IsOutcome texts tuples h h (Err (Raises fault)) (call (plain_heap texts tuples h) b (map (plain texts tuples) args) (map (plain_pair texts tuples) keys))
     refused counts fault all r e = raises_outcome texts tuples h fault _ all (r.known texts tuples h) (r.raised texts tuples h b e)
+
+    pub method_refused : (object : Val) (counts : Counts) (fault : Fault) → AllTold texts tuples h.objects → IsRefusal counts args keys fault → counts_of b ≡ counts
+        → IsOutcome texts tuples h h (Err (Raises fault)) (call_method (plain_heap texts tuples h) b object (map (plain texts tuples) args) (map (plain_pair texts tuples) keys))
+    method_refused object counts fault all r e = raises_outcome texts tuples h fault _ all (r.known texts tuples h) (r.method_raised texts tuples h b object e)
 
     -- one argument, as the built-in takes it
     pub with_one : (v : Value) → args ≡ v ∷ [] → keys ≡ [] → counts_of b ≡ Exactly 1

@@ -53,7 +53,7 @@ fn between(least: u32, most: u32, args: &[Value]) -> Result<(), Fault>
 }
 
 /// So many arguments are taken, and no keyword arguments.
-fn only_so_many(takes: u32, args: &[Value], keys: &[(Value, Value)]) -> Result<(), Fault>
+pub fn only_so_many(takes: u32, args: &[Value], keys: &[(Value, Value)]) -> Result<(), Fault>
     requires few { length args.now < 2 ^ 32 }
     ensures as_many { IfOk result (λ _. length args.now ≡ takes) }
     ensures no_keywords { IfOk result (λ _. keys.now ≡ []) }
@@ -66,7 +66,7 @@ fn only_so_many(takes: u32, args: &[Value], keys: &[(Value, Value)]) -> Result<(
 }
 
 /// The only argument.
-pub(crate) fn one_argument(args: &[Value], keys: &[(Value, Value)]) -> Result<Value, Fault>
+pub fn one_argument(args: &[Value], keys: &[(Value, Value)]) -> Result<Value, Fault>
     requires few { length args.now < 2 ^ 32 }
     ensures given { IfOk result (λ v. args.now ≡ v ∷ []) }
     ensures no_keywords { IfOk result (λ _. keys.now ≡ []) }
@@ -79,7 +79,7 @@ pub(crate) fn one_argument(args: &[Value], keys: &[(Value, Value)]) -> Result<Va
 }
 
 /// From `least` to `most` arguments are taken, and no keyword arguments.
-pub(crate) fn only_between(
+pub fn only_between(
     least: u32,
     most: u32,
     args: &[Value],

@@ -1,8 +1,6 @@
 //! `chr`.
 
 ghost use Rattle.std.specs.Prelude.{◌≡◌, ◌<◌, ◌^◌, ◌⊎◌, pos, ◌<ℤ◌, [], ◌∷◌, length, map, All, IfOk, IfErr, IfSome, MatchOption};
-ghost use Rattle.mpy_base.specs.World.{TextObject, AText, IsA};
-ghost use Rattle.mpy_base.specs.Weights.{Made, Refused};
 ghost use Rattle.mpy_base.specs.declared.builtin.Builtin.TheVariants as builtins;
 ghost use Rattle.arena_heap.specs.Values.{Leads};
 ghost use Rattle.arena_objects.specs.Keys.{AllTold};
@@ -14,8 +12,8 @@ ghost use Rattle.vm_faults.specs.Outcomes.{IsOutcome};
 
 use crate::arguments::one_argument;
 use crate::numbers::number_of;
-use arena_heap::{Arena, Constants, TextNo, Value, text_fill};
-use mpy_base::NoRoom;
+use arena_heap::{Arena, Constants, Value};
+use arena_objects::make_byte;
 use vm_faults::{Fault, Stop};
 
 /// The byte that has this code, if it is one below 0x80.
@@ -30,23 +28,12 @@ fn ascii_code(z: i32) -> Option<u8>
 }
 
 /// A text of one byte.
-fn make_letter(arena: &mut Arena, byte: u8) -> Result<TextNo, NoRoom>
-    requires { byte < 128 }
-    ensures made { IfOk result (λ t. Made arena.old arena.new t.cell (TextObject (byte ∷ []))) }
-    ensures refused { IfErr result (λ e. Refused arena.old arena.new e 2 1) }
-    ensures kind { IfOk result (λ t. IsA arena.new.objects AText t.cell) }
-{
-    let t = arena.make_text(1)?;
-    text_fill(arena, t, 0, byte);
-    Ok(t)
-}
-
-fn letter<C: Constants>(arena: &mut Arena, _consts: &C, byte: u8) -> Result<Value, Stop>
+pub fn letter<C: Constants>(arena: &mut Arena, _consts: &C, byte: u8) -> Result<Value, Stop>
     requires ascii { byte < 128 }
     requires all_told { AllTold (C.text_of _consts.now) (C.items_of _consts.now) arena.old.objects }
     ensures { IsOutcome (C.text_of _consts.now) (C.items_of _consts.now) arena.old arena.new result (making_text (plain_heap (C.text_of _consts.now) (C.items_of _consts.now) arena.old) (byte ∷ [])) }
 {
-    match make_letter(arena, byte) {
+    match make_byte(arena, byte) {
         Ok(letter) => Ok(Value::Text(letter)),
         Err(room) => Err(Stop::Full(room)),
     }

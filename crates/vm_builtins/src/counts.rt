@@ -12,7 +12,7 @@ use vm_faults::{Fault, Stop};
 const GREATEST: usize = 1_073_741_823;
 
 /// A number, or the fault of one that is out of range.
-pub(crate) fn gives_count(n: usize) -> Result<Value, Stop>
+pub fn gives_count(n: usize) -> Result<Value, Stop>
     ensures { IsAnswerOf result (λ heap. gives_number heap (checked (pos n))) }
 {
     if n > GREATEST {

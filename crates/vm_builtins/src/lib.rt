@@ -11,9 +11,12 @@ mod ordinals;
 mod ranges;
 mod truths;
 
-pub use characters::call_chr;
+pub use arguments::{one_argument, only_between, only_so_many};
+pub use characters::{call_chr, letter};
+pub use counts::gives_count;
 pub use lengths::call_len;
 pub use magnitudes::call_abs;
+pub use numbers::number_of;
 pub use ordinals::call_ord;
 pub use ranges::call_range;
 pub use truths::call_bool;

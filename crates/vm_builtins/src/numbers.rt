@@ -9,7 +9,7 @@ use arena_heap::{Arena, Value};
 use vm_faults::{Fault, type_of};
 
 /// The number that an argument counts as. Other values are refused.
-pub(crate) fn number_of(arena: &Arena, v: Value) -> Result<i32, Fault>
+pub fn number_of(arena: &Arena, v: Value) -> Result<i32, Fault>
     requires { Leads arena.now.objects v }
     ensures number { IfOk result (λ z. number_in v ≡ Some z) }
     ensures small { IfOk result IsSmall }

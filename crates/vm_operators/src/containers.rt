@@ -7,14 +7,15 @@ use arena_heap::{Arena, DictNo, ListNo, Value};
 
 /// What an index finds in a value: a dict's keys, places that can be set, places, or nothing.
 #[derive(Clone, Copy)]
-pub(crate) enum Container {
+pub enum Container {
     Dict(DictNo),
     List(ListNo),
     Sequence,
     Other,
 }
 
-pub(crate) fn container_of(_arena: &Arena, v: Value) -> Container
+/// What an index finds in the value.
+pub fn container_of(_arena: &Arena, v: Value) -> Container
     requires { Leads _arena.now.objects v }
     ensures { IsContainer _arena.now v result }
 {

@@ -20,7 +20,7 @@ use arena_heap::{Arena, Constants, Value};
 use vm_faults::{Fault, Stop, type_of};
 
 /// The place that an index names, or the fault.
-pub(crate) fn place_of<C: Constants>(
+pub fn place_of<C: Constants>(
     arena: &Arena,
     consts: &C,
     object: Value,

@@ -1,8 +1,6 @@
 //! Iterables and their items.
 
-ghost use Rattle.std.specs.Prelude.{◌≡◌, ◌^◌, ◌<◌, ◌∷◌, [], length, IfOk, IfErr};
-ghost use Rattle.mpy_base.specs.World.{TextObject, AText, IsA};
-ghost use Rattle.mpy_base.specs.Weights.{Made, Refused};
+ghost use Rattle.std.specs.Prelude.{◌≡◌, ◌^◌, ◌<◌, length};
 ghost use Rattle.arena_heap.specs.Values.{Leads, IsStr};
 ghost use Rattle.arena_heap.specs.Constants.{IsTold};
 ghost use Rattle.arena_objects.specs.Keys.{AllTold};
@@ -13,22 +11,9 @@ ghost use Rattle.vm_walks.specs.Plain.{plain, plain_heap};
 ghost use Rattle.vm_faults.specs.Outcomes.{IsOutcome};
 ghost use Rattle.vm_operators.specs.Operands.{DecidesIterable, HasItems, IsNested};
 
-use arena_heap::{Arena, Constants, TextNo, Value, text_fill};
-use arena_objects::{item_at, item_count, text_bytes};
-use mpy_base::NoRoom;
+use arena_heap::{Arena, Constants, Value};
+use arena_objects::{item_at, item_count, make_byte, text_bytes};
 use vm_faults::{Fault, Stop, type_of};
-
-/// A text of one byte.
-fn make_letter(arena: &mut Arena, byte: u8) -> Result<TextNo, NoRoom>
-    requires { byte < 128 }
-    ensures made { IfOk result (λ t. Made arena.old arena.new t.cell (TextObject (byte ∷ []))) }
-    ensures refused { IfErr result (λ e. Refused arena.old arena.new e 2 1) }
-    ensures kind { IfOk result (λ t. IsA arena.new.objects AText t.cell) }
-{
-    let t = arena.make_text(1)?;
-    text_fill(arena, t, 0, byte);
-    Ok(t)
-}
 
 fn is_iterable(_arena: &Arena, v: Value) -> bool
     requires { Leads _arena.now.objects v }
@@ -57,7 +42,7 @@ pub fn use_iter<C: Constants>(arena: &Arena, consts: &C, v: Value) -> Result<Val
 }
 
 /// Constant tuples nest at most 32 deep, and no iterable has 2^32 items.
-pub(crate) fn items_law<C: Constants>(arena: &Arena, consts: &C, v: Value)
+pub fn items_law<C: Constants>(arena: &Arena, consts: &C, v: Value)
     requires leads { Leads arena.now.objects v }
     requires told { IsTold (C.text_of consts.now) (C.items_of consts.now) v }
     ensures nested { IsNested (C.items_of consts.now) v }
@@ -79,7 +64,7 @@ fn str_item<C: Constants>(arena: &mut Arena, consts: &C, s: Value, at: usize) ->
     ensures { IsOutcome (C.text_of consts.now) (C.items_of consts.now) arena.old arena.new result (item_in (plain_heap (C.text_of consts.now) (C.items_of consts.now) arena.old) (plain (C.text_of consts.now) (C.items_of consts.now) s) at) }
 {
     let byte = text_bytes(arena, consts, s)[at];
-    match make_letter(arena, byte) {
+    match make_byte(arena, byte) {
         Ok(letter) => Ok(Value::Text(letter)),
         Err(room) => Err(Stop::Full(room)),
     }

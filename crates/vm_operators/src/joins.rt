@@ -37,11 +37,11 @@ pub(crate) fn make_joined<C: Constants>(
 ) -> Result<Value, Stop>
     requires strs { AreStrs (C.text_of consts.now) (C.items_of consts.now) arena.old.objects source }
     requires all_told { AllTold (C.text_of consts.now) (C.items_of consts.now) arena.old.objects }
-    requires empty { C.text_of consts.now (strs.Pool 1) ≡ Some [] }
     ensures { IsOutcome (C.text_of consts.now) (C.items_of consts.now) arena.old arena.new result (making_text (plain_heap (C.text_of consts.now) (C.items_of consts.now) arena.old) (source_bytes (C.text_of consts.now) arena.old source)) }
 {
     let len = bytes_len(arena, consts, source);
     if len == 0 {
+        consts.empty_law();
         return Ok(Value::Str(StrNo::Pool(1)));
     }
     let before = arena.used().bytes;

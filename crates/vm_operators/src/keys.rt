@@ -16,7 +16,7 @@ use arena_objects::dict_get;
 use vm_faults::{Fault, SpecialMethod, Stop, type_of};
 
 /// Whether a value may be a key.
-pub(crate) fn is_key(_arena: &Arena, v: Value) -> bool
+pub fn is_key(_arena: &Arena, v: Value) -> bool
     requires { Leads _arena.now.objects v }
     ensures key { IsTrue result ↔ IsKey v }
     ensures shown { DecidesKey _arena.now v result }

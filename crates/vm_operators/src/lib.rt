@@ -20,10 +20,13 @@ mod sources;
 mod two_operands;
 
 pub use attributes::get_attr;
+pub use containers::{Container, container_of};
 pub use deletions::delete_item;
-pub use indexes::get_item;
-pub use items::{item_of, use_iter};
+pub use indexes::{get_item, place_of};
+pub use items::{item_of, items_law, use_iter};
+pub use keys::is_key;
 pub use lengths::length_of;
 pub use one_operand::{unary, unary_not};
+pub use operand::number_of;
 pub use operators::{Operator, UnaryOperator};
 pub use two_operands::binary;

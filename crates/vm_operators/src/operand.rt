@@ -8,7 +8,7 @@ use arena_heap::Value;
 use py_values::SmallInt;
 
 /// The number that a value counts as, if it does.
-pub(crate) fn number_of(v: Value) -> Option<SmallInt>
+pub fn number_of(v: Value) -> Option<SmallInt>
     requires { HasSmall v }
     ensures { result ≡ number_in v }
 {

@@ -32,7 +32,6 @@ fn make_shaped<C: Constants>(
 ) -> Result<Value, Stop>
     requires shaped { AreShaped (C.text_of consts.now) (C.items_of consts.now) arena.old.objects shape source }
     requires all_told { AllTold (C.text_of consts.now) (C.items_of consts.now) arena.old.objects }
-    requires empty { C.text_of consts.now (strs.Pool 1) ≡ Some [] }
     ensures { IsOutcome (C.text_of consts.now) (C.items_of consts.now) arena.old arena.new result (joined (C.text_of consts.now) (C.items_of consts.now) arena.old shape source) }
 {
     match shape {
@@ -75,7 +74,6 @@ fn of_shapes<C: Constants>(
     requires left_told { IsTold (C.text_of consts.now) (C.items_of consts.now) left }
     requires right_told { IsTold (C.text_of consts.now) (C.items_of consts.now) right }
     requires all_told { AllTold (C.text_of consts.now) (C.items_of consts.now) arena.old.objects }
-    requires empty { C.text_of consts.now (strs.Pool 1) ≡ Some [] }
     requires operands { IsOperands arena.old left right (Operands.Alike shape) }
     ensures { IsOutcome (C.text_of consts.now) (C.items_of consts.now) arena.old arena.new result (binary_of (plain_heap (C.text_of consts.now) (C.items_of consts.now) arena.old) (plain_operator op) (plain (C.text_of consts.now) (C.items_of consts.now) left) (plain (C.text_of consts.now) (C.items_of consts.now) right)) }
 {
@@ -102,7 +100,6 @@ fn of_left<C: Constants>(
     requires left_told { IsTold (C.text_of consts.now) (C.items_of consts.now) left }
     requires right_told { IsTold (C.text_of consts.now) (C.items_of consts.now) right }
     requires all_told { AllTold (C.text_of consts.now) (C.items_of consts.now) arena.old.objects }
-    requires empty { C.text_of consts.now (strs.Pool 1) ≡ Some [] }
     requires operands { IsOperands arena.old left right (Operands.Left shape n) }
     ensures { IsOutcome (C.text_of consts.now) (C.items_of consts.now) arena.old arena.new result (binary_of (plain_heap (C.text_of consts.now) (C.items_of consts.now) arena.old) (plain_operator op) (plain (C.text_of consts.now) (C.items_of consts.now) left) (plain (C.text_of consts.now) (C.items_of consts.now) right)) }
 {
@@ -130,7 +127,6 @@ fn of_right<C: Constants>(
     requires left_told { IsTold (C.text_of consts.now) (C.items_of consts.now) left }
     requires right_told { IsTold (C.text_of consts.now) (C.items_of consts.now) right }
     requires all_told { AllTold (C.text_of consts.now) (C.items_of consts.now) arena.old.objects }
-    requires empty { C.text_of consts.now (strs.Pool 1) ≡ Some [] }
     requires operands { IsOperands arena.old left right (Operands.Right shape n) }
     ensures { IsOutcome (C.text_of consts.now) (C.items_of consts.now) arena.old arena.new result (binary_of (plain_heap (C.text_of consts.now) (C.items_of consts.now) arena.old) (plain_operator op) (plain (C.text_of consts.now) (C.items_of consts.now) left) (plain (C.text_of consts.now) (C.items_of consts.now) right)) }
 {
@@ -156,7 +152,6 @@ pub fn binary<C: Constants>(
     requires left_told { IsTold (C.text_of consts.now) (C.items_of consts.now) left }
     requires right_told { IsTold (C.text_of consts.now) (C.items_of consts.now) right }
     requires all_told { AllTold (C.text_of consts.now) (C.items_of consts.now) arena.old.objects }
-    requires empty { C.text_of consts.now (strs.Pool 1) ≡ Some [] }
     ensures { IsOutcome (C.text_of consts.now) (C.items_of consts.now) arena.old arena.new result (binary_of (plain_heap (C.text_of consts.now) (C.items_of consts.now) arena.old) (plain_operator op) (plain (C.text_of consts.now) (C.items_of consts.now) left) (plain (C.text_of consts.now) (C.items_of consts.now) right)) }
 {
     match operands_of(arena, left, right) {

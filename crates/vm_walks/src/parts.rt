@@ -4,10 +4,10 @@ ghost use Rattle.std.specs.Prelude.{◌≡◌, ◌≤◌, ◌<◌, ◌-◌, ◌+
 
 use crate::pen::Pen;
 
-/// The bytes of a text from a place on, 256 at most.
+/// The bytes of a text from a place on, 4,096 at most.
 #[derive(Clone, Copy)]
 pub struct TextPart {
-    pub bytes: [u8; 256],
+    pub bytes: [u8; 4096],
     pub count: usize,
 }
 
@@ -16,8 +16,8 @@ pub struct TextPart {
 pub(crate) struct Cutter {
     pub(crate) skip: u64,
     pub(crate) part: TextPart,
-    ghost room: { length part.bytes ≡ 256 },
-    ghost within: { part.count ≤ 256 },
+    ghost room: { length part.bytes ≡ 4096 },
+    ghost within: { part.count ≤ 4096 },
     ghost ascii: { All (λ b. b < 128) (take part.count part.bytes) },
 }
 
@@ -26,11 +26,11 @@ impl Cutter {
     fn cut(&mut self, byte: u8)
         requires ascii { byte < 128 }
         ensures skip { self.new.skip ≡ self.old.skip - 1 }
-        ensures kept { take self.new.part.count self.new.part.bytes ≡ take 256 (take self.old.part.count self.old.part.bytes ++ drop self.old.skip (byte ∷ [])) }
+        ensures kept { take self.new.part.count self.new.part.bytes ≡ take 4096 (take self.old.part.count self.old.part.bytes ++ drop self.old.skip (byte ∷ [])) }
     {
         if self.skip > 0 {
             self.skip -= 1;
-        } else if self.part.count < 256 {
+        } else if self.part.count < 4096 {
             self.part.bytes[self.part.count] = byte;
             self.part.count += 1;
         }
@@ -40,7 +40,7 @@ impl Cutter {
 impl Pen for Cutter {
     ghost use Rattle.std.specs.Prelude.{◌≡◌, ◌-◌, ◌++◌, length, take, drop};
 
-    ghost Takes = { λ old piece new. (new.skip ≡ old.skip - length piece) × (take new.part.count new.part.bytes ≡ take 256 (take old.part.count old.part.bytes ++ drop old.skip piece)) };
+    ghost Takes = { λ old piece new. (new.skip ≡ old.skip - length piece) × (take new.part.count new.part.bytes ≡ take 4096 (take old.part.count old.part.bytes ++ drop old.skip piece)) };
 
     fn put(&mut self, piece: &[u8]) {
         for byte in piece {

@@ -80,7 +80,7 @@ pub fn visits_text<C: Constants>(arena: &Arena, consts: &C, v: Value, raw: bool,
     budget.made_of(most)
 }
 
-/// A part of the text of a value: its bytes from a place on, 256 at most. It gives None where the text goes too deep.
+/// A part of the text of a value: its bytes from a place on, 4,096 at most. It gives None where the text goes too deep.
 pub fn text_part<C: Constants>(
     arena: &Arena,
     consts: &C,
@@ -91,12 +91,12 @@ pub fn text_part<C: Constants>(
     requires leads { Leads arena.now.objects v }
     requires told { IsTold (C.text_of consts.now) (C.items_of consts.now) v }
     requires all_told { AllTold (C.text_of consts.now) (C.items_of consts.now) arena.now.objects }
-    ensures part { option_map (λ part. take part.count part.bytes) result ≡ option_map (λ text. take 256 (drop from text)) (text_of (plain_heap (C.text_of consts.now) (C.items_of consts.now) arena.now) raw (plain (C.text_of consts.now) (C.items_of consts.now) v)).answer }
-    ensures within { IfSome result (λ part. part.count ≤ 256) }
+    ensures part { option_map (λ part. take part.count part.bytes) result ≡ option_map (λ text. take 4096 (drop from text)) (text_of (plain_heap (C.text_of consts.now) (C.items_of consts.now) arena.now) raw (plain (C.text_of consts.now) (C.items_of consts.now) v)).answer }
+    ensures within { IfSome result (λ part. part.count ≤ 4096) }
     ensures ascii { IfSome result (λ part. All (λ b. b < 128) (take part.count part.bytes)) }
 {
     let part = TextPart {
-        bytes: [0; 256],
+        bytes: [0; 4096],
         count: 0,
     };
     let mut cutter = Cutter { skip: from, part };

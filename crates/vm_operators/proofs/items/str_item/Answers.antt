@@ -22,7 +22,7 @@ returns-in-Ok g c =
     let same : spelled texts h c.args.s ≡ bytes = ap or_nothing c.text_bytes.ensures.bytes in
     let is = ap (λ (s : Shown). shown_item heap c.args.at s) (str_shown texts tuples h c.args.s c.requires.str c.requires.leads ∙ ap (λ (bs : List ℕ). Text bs) same) in
     let o : ArenaObject = TextObject (get_or bytes c.args.at 0 ∷ []) in
-    made_outcome texts tuples h c.make_letter.new.arena o c.requires.all_told _ is _ (values.Text c.in-Ok.letter) c.in-Ok.ensures.made refl
+    made_outcome texts tuples h c.make_byte.new.arena o c.requires.all_told _ is _ (values.Text c.in-Ok.letter) c.in-Ok.ensures.made refl
     (record { meets = c.in-Ok.ensures.kind; small = tt }) tt (All-nil (IsTold texts tuples))
 
 pub returns-in-Err : goal.returns-in-Err
@@ -35,4 +35,4 @@ returns-in-Err g c =
     let same : spelled texts h c.args.s ≡ bytes = ap or_nothing c.text_bytes.ensures.bytes in
     let is = ap (λ (s : Shown). shown_item heap c.args.at s) (str_shown texts tuples h c.args.s c.requires.str c.requires.leads ∙ ap (λ (bs : List ℕ). Text bs) same) in
     let o : ArenaObject = TextObject (get_or bytes c.args.at 0 ∷ []) in
-    refused_outcome texts tuples h c.make_letter.new.arena o c.requires.all_told _ is c.in-Err.room c.in-Err.ensures.refused
+    refused_outcome texts tuples h c.make_byte.new.arena o c.requires.all_told _ is c.in-Err.room c.in-Err.ensures.refused

@@ -5,14 +5,14 @@ use Rattle.vm_walks.proofs.parts.Cutter.cut.Goals as goal
 pub returns-then-self-gt0-clause-kept : goal.returns-then-self-gt0-clause-kept
 returns-then-self-gt0-clause-kept c =
     let s = c.args.self.now in
-    skip_one 256 s.skip _ c.args.byte c.if-self-gt0.true (few_taken s.part.count s.part.bytes 256 s.within)
+    skip_one 4096 s.skip _ c.args.byte c.if-self-gt0.true (few_taken s.part.count s.part.bytes 4096 s.within)
 
-pub returns-then-self-lt256-clause-kept : goal.returns-then-self-lt256-clause-kept
-returns-then-self-lt256-clause-kept c =
+pub returns-then-self-lt4096-clause-kept : goal.returns-then-self-lt4096-clause-kept
+returns-then-self-lt4096-clause-kept c =
     let s = c.args.self.now in
-    keep_one 256 s.part.bytes s.part.count s.skip c.args.byte c.if-self-gt0.false (omega (arith, s.room, c.if-self-lt256.true)) c.if-self-lt256.true
+    keep_one 4096 s.part.bytes s.part.count s.skip c.args.byte c.if-self-gt0.false (omega (arith, s.room, c.if-self-lt4096.true)) c.if-self-lt4096.true
 
-pub returns-else-self-lt256-clause-kept : goal.returns-else-self-lt256-clause-kept
-returns-else-self-lt256-clause-kept c =
+pub returns-else-self-lt4096-clause-kept : goal.returns-else-self-lt4096-clause-kept
+returns-else-self-lt4096-clause-kept c =
     let s = c.args.self.now in
-    full_one 256 s.part.bytes s.part.count s.skip c.args.byte s.room s.within c.if-self-lt256.false
+    full_one 4096 s.part.bytes s.part.count s.skip c.args.byte s.room s.within c.if-self-lt4096.false

@@ -1,0 +1,33 @@
+-- The rooms of an arena's lists and dicts, and what is left of the arena.
+use Rattle.std.proofs.Common.{ℕ, ◌^◌, ◌<◌, ◌≡◌, List, length, map, take, sym, subst, arith}
+use Rattle.std.proofs.lemmas.List.FromFn.{length-map-range_with_len}
+use Rattle.std.proofs.lemmas.List.{length-map, length-take}
+use Rattle.arena_heap.specs.declared.arena.Arena.TheInside.{Inside}
+use Rattle.arena_heap.specs.declared.value.Value.{Value}
+use Rattle.arena_heap.specs.declared.cells.Cell.{Cell}
+use Rattle.arena_heap.specs.declared.cells.Cell.TheVariants as cells
+use Rattle.mpy_base.specs.World.{Heap, object}
+use Rattle.mpy_base.specs.Weights.{Fits}
+use Rattle.arena_heap.specs.Values.{IsWithinRoom}
+use Rattle.arena_heap.specs.Cells.{heads, decode, Full, value_of, pair_in}
+use Rattle.arena_heap.proofs.Frame.{object_is}
+use Rattle.arena_heap.proofs.Seen.{seen, Invariant}
+use Rattle.arena_heap.proofs.Views.{used_is}
+
+decoded_room : (c : Cell) (ps : List Cell) (bs : List ℕ) → Full c → IsWithinRoom (decode c ps bs)
+decoded_room (cells.ListHead r) ps bs f = omega (arith, f.0, length-map (take r.len ps) value_of, length-take r.len ps)
+decoded_room (cells.DictHead r) ps bs f = omega (arith, f.0, length-map-range_with_len (pair_in ps) 0 r.len)
+decoded_room _ ps bs f = tt
+
+pub seen_rooms : (a : Inside) {h : Heap Value ℕ} → Invariant a → seen a ≡ h → (n : ℕ) → IsWithinRoom (object h.objects n)
+seen_rooms a i e n =
+    subst (λ (h : Heap Value ℕ). IsWithinRoom (object h.objects n)) e
+    (subst IsWithinRoom (sym (object_is a.cells.items a.bytes.items n)) (decoded_room (heads a.cells.items n) _ _ (i.kept.full n)))
+
+pub seen_left : (a : Inside) {h : Heap Value ℕ} → Invariant a → seen a ≡ h → Fits h 0 0
+seen_left a i e =
+    subst (λ (h : Heap Value ℕ). Fits h 0 0) e
+    (record { cells_fit = omega (arith, i.cells_fit, used_is a.cells.items a.bytes.items a.room.cells a.room.bytes); bytes_fit = omega (arith, i.bytes_fit) })
+
+pub seen_few_bytes : (a : Inside) {h : Heap Value ℕ} → Invariant a → seen a ≡ h → h.byte_size < 2 ^ 32
+seen_few_bytes a i e = subst (λ (h : Heap Value ℕ). h.byte_size < 2 ^ 32) e i.bytes_few
