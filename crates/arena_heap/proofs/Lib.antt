@@ -10,7 +10,7 @@ pub mod Moves
 pub mod NewObjects
 pub mod PartSeen
 pub mod Regions
-mod Rooms
+pub mod Rooms
 pub mod Seen
 pub mod Sounds
 pub mod TupleSeen
