@@ -5,7 +5,7 @@ use Rattle.std.specs.Fmt.{digits}
 use Rattle.mpy_base.specs.declared.builtin.Builtin.TheVariants as builtins
 use Rattle.mpy_base.specs.declared.kind.Kind.TheVariants as kinds
 use Rattle.mpy_base.specs.Kind.{kind_name}
-use Rattle.mpy_base.specs.World.{Object, ListObject, TupleObject, TextObject, DictObject, ExceptionObject, RangeObject}
+use Rattle.mpy_base.specs.World.{ListObject, TupleObject, TextObject, DictObject, ExceptionObject, RangeObject}
 use Rattle.mpy_base.specs.Weights.{used}
 use Rattle.mpy_base.specs.Val.{Val, Nil, Truth, Int, Str, Fixed, Only, Then, Empty, Built, At}
 use Rattle.py_values.specs.Small.{checked}

@@ -1,3 +1,4 @@
 mod CallExamples
 mod PrimitiveExamples
+pub mod CallTable
 pub mod Makings

@@ -1,0 +1,826 @@
+-- A table of calls of primitives: what each gives (the repr of its value, the kind and the text of its fault, or what didn't fit), its
+-- visits and the cells that it took. The answers are those of a reference interpreter.
+use Rattle.std.proofs.Common.{◌≡◌, ℕ, ◌-◌, ℤ, List, [], ◌∷◌, ◌++◌, codes, Option, refl, true, false, Some, None, Result, Ok, Err, pos, negsuc}
+use Rattle.std.specs.Fmt.{decimal, digits}
+use Rattle.mpy_base.specs.declared.builtin.Builtin.TheVariants as builtins
+use Rattle.mpy_base.specs.declared.kind.Kind.TheVariants as kinds
+use Rattle.mpy_base.specs.Kind.{kind_name}
+use Rattle.mpy_base.specs.World.{Object, ListObject, TupleObject, TextObject, DictObject, ExceptionObject, RangeObject, ModuleObject, PortState}
+use Rattle.mpy_base.specs.Weights.{used}
+use Rattle.mpy_base.specs.Val.{Val, Nil, Truth, Int, Str, Fixed, Only, Then, Empty, Built, At}
+use Rattle.py_values.specs.Small.{checked}
+use Rattle.py_values.specs.Power.{power}
+use Rattle.py_values.specs.Shown.{PlainHeap}
+use Rattle.py_values.specs.Equality.{equal}
+use Rattle.py_primitives.specs.Texts.{str_of, repr_of}
+use Rattle.py_primitives.specs.Order.{Below, Above, NotAbove, NotBelow, order}
+use Rattle.py_primitives.specs.Faults.{fault_kind, fault_text}
+use Rattle.py_primitives.specs.Outcome.{Outcome, Stop, Raises, Full}
+use Rattle.py_primitives.specs.Operators.{binary, in_place, unary, Or, Xor, And, ShiftLeft, ShiftRight, Add, Subtract, Multiply, FloorDivide, Modulo, Power, Plus, Minus, Invert, op_eq, op_order, op_match, op_contains}
+use Rattle.py_primitives.specs.Uses.{get_item, set_item, delete_item, get_attr, set_attr}
+use Rattle.py_primitives.specs.Calls.{call}
+use Rattle.py_primitives.specs.Methods.{call_method}
+use Rattle.py_primitives.specs.Output.{PortOutcome, printed, call_port_put, call_port_get}
+
+abbrev list_of : List Val → ℕ → Option (Object Val (List ℕ))
+list_of items room = Some (ListObject items room)
+
+abbrev count : ℕ → Val
+count n = Int (pos n)
+
+-- lists, dicts, ranges, texts, tuples, exceptions and a module, a list that holds itself (7), and lists in lists, 33 deep (21)
+abbrev heap : PlainHeap
+heap = record {
+  objects = list_of (count 1 ∷ count 2 ∷ count 3 ∷ []) 4
+      ∷ Some (DictObject ((count 1, Str (codes "a")) ∷ (Str (codes "k"), Nil) ∷ []) 4)
+      ∷ list_of [] 4
+      ∷ Some (RangeObject (pos 0) (pos 10) (pos 3))
+      ∷ Some (TextObject (codes "made"))
+      ∷ Some (TupleObject (count 1 ∷ count 2 ∷ []))
+      ∷ Some (ExceptionObject kinds.ValueError (At 5) [] 0 [])
+      ∷ list_of (At 7 ∷ []) 4
+      ∷ list_of (count 0 ∷ count 1 ∷ count 2 ∷ count 3 ∷ []) 4
+      ∷ list_of (count 0 ∷ count 1 ∷ count 2 ∷ count 3 ∷ count 4 ∷ count 5 ∷ count 6 ∷ count 7 ∷ []) 8
+      ∷ list_of (count 0 ∷ count 1 ∷ count 2 ∷ count 3 ∷ count 4 ∷ count 5 ∷ count 6 ∷ count 7 ∷ count 8 ∷ count 9 ∷ count 10 ∷ count 11 ∷ count 12 ∷ count 13 ∷ count 14 ∷ count 15 ∷ []) 16
+      ∷ Some (DictObject ((Truth true, Str (codes "one")) ∷ []) 4)
+      ∷ Some (RangeObject (pos 5) (negsuc 6) (negsuc 2))
+      ∷ Some (ExceptionObject kinds.KeyError (At 14) [] 0 [])
+      ∷ Some (TupleObject (Str (codes "k") ∷ []))
+      ∷ Some (ExceptionObject kinds.ValueError Empty [] 0 [])
+      ∷ list_of (Str (codes "a") ∷ Str (codes "b") ∷ Str (codes "c") ∷ []) 4
+      ∷ list_of (count 3 ∷ count 1 ∷ count 2 ∷ []) 4
+      ∷ Some (DictObject ((count 1, count 1) ∷ (count 2, count 2) ∷ (count 3, count 3) ∷ (count 4, count 4) ∷ []) 4)
+      ∷ Some (ModuleObject (codes "m") (Some 20))
+      ∷ Some (DictObject ((Str (codes "x"), count 5) ∷ []) 4)
+      ∷ list_of (At 22 ∷ []) 4
+      ∷ list_of (At 23 ∷ []) 4
+      ∷ list_of (At 24 ∷ []) 4
+      ∷ list_of (At 25 ∷ []) 4
+      ∷ list_of (At 26 ∷ []) 4
+      ∷ list_of (At 27 ∷ []) 4
+      ∷ list_of (At 28 ∷ []) 4
+      ∷ list_of (At 29 ∷ []) 4
+      ∷ list_of (At 30 ∷ []) 4
+      ∷ list_of (At 31 ∷ []) 4
+      ∷ list_of (At 32 ∷ []) 4
+      ∷ list_of (At 33 ∷ []) 4
+      ∷ list_of (At 34 ∷ []) 4
+      ∷ list_of (At 35 ∷ []) 4
+      ∷ list_of (At 36 ∷ []) 4
+      ∷ list_of (At 37 ∷ []) 4
+      ∷ list_of (At 38 ∷ []) 4
+      ∷ list_of (At 39 ∷ []) 4
+      ∷ list_of (At 40 ∷ []) 4
+      ∷ list_of (At 41 ∷ []) 4
+      ∷ list_of (At 42 ∷ []) 4
+      ∷ list_of (At 43 ∷ []) 4
+      ∷ list_of (At 44 ∷ []) 4
+      ∷ list_of (At 45 ∷ []) 4
+      ∷ list_of (At 46 ∷ []) 4
+      ∷ list_of (At 47 ∷ []) 4
+      ∷ list_of (At 48 ∷ []) 4
+      ∷ list_of (At 49 ∷ []) 4
+      ∷ list_of (At 50 ∷ []) 4
+      ∷ list_of (At 51 ∷ []) 4
+      ∷ list_of (At 52 ∷ []) 4
+      ∷ list_of (At 53 ∷ []) 4
+      ∷ list_of [] 4
+      ∷ [];
+  bytes = 0;
+  cell_size = 200;
+  byte_size = 100;
+}
+
+abbrev text_or_deep : Option (List ℕ) → List ℕ
+text_or_deep (Some text) = text
+text_or_deep None = codes "<deep>"
+
+abbrev answer_text : PlainHeap → Result Val Stop → List ℕ
+answer_text behind (Ok v) = text_or_deep (repr_of behind v).answer
+answer_text behind (Err (Raises fault)) = kind_name (fault_kind fault) ++ codes ": " ++ fault_text fault
+answer_text behind (Err (Full e)) = codes "full: " ++ decimal e.asked ++ codes " asked, " ++ decimal e.used ++ codes " used"
+
+abbrev told : Outcome Val → List ℕ × ℕ × ℕ
+told outcome = (answer_text outcome.heap outcome.answer, outcome.visits, used outcome.heap - used heap)
+
+abbrev printed_text : Result (List ℕ) Stop → List ℕ
+printed_text (Ok bytes) = bytes
+printed_text (Err (Raises fault)) = kind_name (fault_kind fault) ++ codes ": " ++ fault_text fault
+printed_text (Err (Full e)) = codes "full"
+
+abbrev told_print : Outcome (List ℕ) → List ℕ × ℕ
+told_print outcome = (printed_text outcome.answer, outcome.visits)
+
+abbrev told_port : PortOutcome → List ℕ × List PortState
+told_port outcome = (answer_text heap outcome.answer, outcome.ports)
+
+abbrev port : List ℤ → List ℤ → ℕ → List ℕ → PortState
+port pending written calls failing = record { pending = pending; written = written; calls = calls; failing = failing }
+
+numbers :
+    told (binary heap Add (Int (pos 1073741823)) (Int (pos 1)))
+    ∷ told (binary heap Add (Int (pos 1073741823)) (Int (pos 0)))
+    ∷ told (binary heap Add (Int (negsuc 1073741823)) (Int (negsuc 0)))
+    ∷ told (binary heap Subtract (Int (negsuc 1073741823)) (Int (pos 0)))
+    ∷ told (binary heap Subtract (Int (pos 0)) (Int (negsuc 1073741823)))
+    ∷ told (binary heap Subtract (Int (negsuc 0)) (Int (pos 1073741823)))
+    ∷ told (binary heap Multiply (Int (pos 32768)) (Int (pos 32767)))
+    ∷ told (binary heap Multiply (Int (pos 32768)) (Int (pos 32768)))
+    ∷ told (binary heap Multiply (Int (negsuc 32767)) (Int (pos 32768)))
+    ∷ told (binary heap Multiply (Int (negsuc 1073741823)) (Int (negsuc 0)))
+    ∷ told (binary heap FloorDivide (Int (negsuc 1073741823)) (Int (negsuc 0)))
+    ∷ told (binary heap FloorDivide (Int (negsuc 1073741823)) (Int (pos 1)))
+    ∷ told (binary heap FloorDivide (Int (pos 7)) (Int (negsuc 1)))
+    ∷ told (binary heap FloorDivide (Int (negsuc 6)) (Int (negsuc 1)))
+    ∷ told (binary heap Modulo (Int (negsuc 6)) (Int (pos 3)))
+    ∷ told (binary heap Modulo (Int (pos 7)) (Int (negsuc 2)))
+    ∷ told (binary heap Modulo (Int (negsuc 1073741823)) (Int (pos 1073741823)))
+    ∷ told (binary heap Modulo (Int (negsuc 1073741823)) (Int (negsuc 0)))
+    ∷ told (binary heap Power (Int (negsuc 1)) (Int (pos 30)))
+    ∷ told (binary heap Power (Int (pos 2)) (Int (pos 30)))
+    ∷ told (binary heap Power (Int (pos 0)) (Int (pos 0)))
+    ∷ told (binary heap Power (Int (negsuc 0)) (Int (pos 31)))
+    ∷ told (binary heap Power (Int (pos 2)) (Int (pos 29)))
+    ∷ told (binary heap ShiftLeft (Int (negsuc 0)) (Int (pos 30)))
+    ∷ told (binary heap ShiftLeft (Int (pos 1)) (Int (pos 29)))
+    ∷ told (binary heap ShiftLeft (Int (pos 0)) (Int (pos 40)))
+    ∷ told (binary heap ShiftRight (Int (negsuc 1073741823)) (Int (pos 31)))
+    ∷ told (binary heap ShiftRight (Int (pos 1073741823)) (Int (pos 40)))
+    ∷ told (binary heap ShiftRight (Int (pos 1)) (Int (negsuc 0)))
+    ∷ told (binary heap And (Int (negsuc 1073741823)) (Int (pos 1073741823)))
+    ∷ told (binary heap Or (Int (negsuc 1073741823)) (Int (pos 1073741823)))
+    ∷ told (binary heap Xor (Int (negsuc 0)) (Int (pos 1073741823)))
+    ∷ told (binary heap And (Truth true) (Truth true))
+    ∷ told (binary heap FloorDivide (Int (pos 0)) (Int (pos 0)))
+    ∷ told (unary heap Minus (Int (negsuc 1073741823)))
+    ∷ told (unary heap Invert (Int (pos 1073741823)))
+    ∷ told (unary heap Invert (Int (negsuc 1073741823)))
+    ∷ told (unary heap Minus (Truth true))
+    ∷ told (unary heap Plus (Str (codes "a")))
+    ∷ told (unary heap Invert Nil)
+    ∷ []
+    ≡ (codes "OverflowError: small int overflow", 0, 0)
+    ∷ (codes "1073741823", 0, 0)
+    ∷ (codes "OverflowError: small int overflow", 0, 0)
+    ∷ (codes "-1073741824", 0, 0)
+    ∷ (codes "OverflowError: small int overflow", 0, 0)
+    ∷ (codes "-1073741824", 0, 0)
+    ∷ (codes "1073709056", 0, 0)
+    ∷ (codes "OverflowError: small int overflow", 0, 0)
+    ∷ (codes "-1073741824", 0, 0)
+    ∷ (codes "OverflowError: small int overflow", 0, 0)
+    ∷ (codes "OverflowError: small int overflow", 0, 0)
+    ∷ (codes "-1073741824", 0, 0)
+    ∷ (codes "-4", 0, 0)
+    ∷ (codes "3", 0, 0)
+    ∷ (codes "2", 0, 0)
+    ∷ (codes "-2", 0, 0)
+    ∷ (codes "1073741822", 0, 0)
+    ∷ (codes "0", 0, 0)
+    ∷ (codes "OverflowError: small int overflow", 0, 0)
+    ∷ (codes "OverflowError: small int overflow", 0, 0)
+    ∷ (codes "1", 0, 0)
+    ∷ (codes "-1", 0, 0)
+    ∷ (codes "536870912", 0, 0)
+    ∷ (codes "-1073741824", 0, 0)
+    ∷ (codes "536870912", 0, 0)
+    ∷ (codes "0", 0, 0)
+    ∷ (codes "-1", 0, 0)
+    ∷ (codes "0", 0, 0)
+    ∷ (codes "ValueError: negative shift count", 0, 0)
+    ∷ (codes "0", 0, 0)
+    ∷ (codes "-1", 0, 0)
+    ∷ (codes "-1073741824", 0, 0)
+    ∷ (codes "1", 0, 0)
+    ∷ (codes "ZeroDivisionError: divide by zero", 0, 0)
+    ∷ (codes "OverflowError: small int overflow", 0, 0)
+    ∷ (codes "-1073741824", 0, 0)
+    ∷ (codes "1073741823", 0, 0)
+    ∷ (codes "-1", 0, 0)
+    ∷ (codes "TypeError: unsupported type for __pos__: 'str'", 0, 0)
+    ∷ (codes "TypeError: unsupported type for __invert__: 'NoneType'", 0, 0)
+    ∷ []
+unfolding str_of repr_of equal order checked power digits
+numbers = refl
+
+sequences :
+    told (binary heap Multiply (Str (codes "ab")) (Int (negsuc 0)))
+    ∷ told (binary heap Multiply (Int (negsuc 1073741823)) (Str (codes "ab")))
+    ∷ told (binary heap Multiply (Str (codes "ab")) (Int (pos 60)))
+    ∷ told (binary heap Multiply (Str (codes "ab")) (Int (pos 200)))
+    ∷ told (binary heap Multiply (At 2) (Int (pos 5)))
+    ∷ told (binary heap Multiply (Fixed (Then (Int (pos 1)) (Only (Int (pos 2))))) (Int (negsuc 2)))
+    ∷ told (binary heap Multiply (Fixed (Then (Int (pos 1)) (Only (Int (pos 2))))) (Int (pos 100)))
+    ∷ told (binary heap Multiply (At 0) (Int (pos 50)))
+    ∷ told (binary heap Add (Str []) (Str []))
+    ∷ told (binary heap Add (Str []) (Str (codes "a")))
+    ∷ told (binary heap Add Empty Empty)
+    ∷ told (binary heap Add (Fixed (Only (Int (pos 1)))) (Fixed (Only (Int (pos 2)))))
+    ∷ told (binary heap Add (At 8) (At 9))
+    ∷ told (binary heap Add (At 4) (Str (codes "aaaaaaaaaaaaaaaaaaaaaaaaaaaaaaaaaaaaaaaaaaaaaaaaaaaaaaaaaaaaaaaaaaaaaaaaaaaaaaaaaaaaaaaaaaaaaaaaa")))
+    ∷ told (binary heap Add (Str (codes "a")) (Int (pos 5)))
+    ∷ told (binary heap Add (Fixed (Only (Int (pos 1)))) (At 0))
+    ∷ told (binary heap Multiply Nil (Int (pos 3)))
+    ∷ told (binary heap Multiply (Str (codes "a")) (Str (codes "b")))
+    ∷ []
+    ≡ (codes "''", 0, 0)
+    ∷ (codes "''", 0, 0)
+    ∷ (codes "full: 120 asked, 0 used", 0, 0)
+    ∷ (codes "full: 400 asked, 0 used", 0, 0)
+    ∷ (codes "[]", 0, 7)
+    ∷ (codes "()", 0, 0)
+    ∷ (codes "full: 201 asked, 54 used", 0, 0)
+    ∷ (codes "full: 259 asked, 54 used", 0, 0)
+    ∷ (codes "''", 0, 0)
+    ∷ (codes "'a'", 0, 2)
+    ∷ (codes "()", 0, 0)
+    ∷ (codes "(1, 2)", 0, 3)
+    ∷ (codes "[0, 1, 2, 3, 0, 1, 2, 3, 4, 5, 6, 7]", 0, 19)
+    ∷ (codes "full: 101 asked, 0 used", 0, 0)
+    ∷ (codes "TypeError: unsupported types for __add__: 'str', 'int'", 0, 0)
+    ∷ (codes "TypeError: unsupported types for __add__: 'tuple', 'list'", 0, 0)
+    ∷ (codes "TypeError: unsupported types for __mul__: 'NoneType', 'int'", 0, 0)
+    ∷ (codes "TypeError: unsupported types for __mul__: 'str', 'str'", 0, 0)
+    ∷ []
+unfolding str_of repr_of equal order checked power digits
+sequences = refl
+
+growth :
+    told (call_method heap builtins.ListAppend (At 0) ((Int (pos 4)) ∷ []) [])
+    ∷ told (call_method heap builtins.ListAppend (At 8) ((Int (pos 4)) ∷ []) [])
+    ∷ told (call_method heap builtins.ListAppend (At 9) ((Int (pos 8)) ∷ []) [])
+    ∷ told (call_method heap builtins.ListAppend (At 10) ((Int (pos 16)) ∷ []) [])
+    ∷ told (call_method heap builtins.ListInsert (At 8) ((Int (pos 0)) ∷ (Int (pos 9)) ∷ []) [])
+    ∷ told (call_method heap builtins.ListInsert (At 8) ((Int (negsuc 99)) ∷ (Int (pos 9)) ∷ []) [])
+    ∷ told (call_method heap builtins.ListInsert (At 8) ((Int (pos 100)) ∷ (Int (pos 9)) ∷ []) [])
+    ∷ told (call_method heap builtins.ListInsert (At 0) ((Int (negsuc 0)) ∷ (Int (pos 9)) ∷ []) [])
+    ∷ told (in_place heap Add (At 8) (Str (codes "xyz")))
+    ∷ told (in_place heap Add (At 0) (Str (codes "x")))
+    ∷ told (in_place heap Add (At 8) (Fixed (Then (Int (pos 1)) (Only (Int (pos 2))))))
+    ∷ told (in_place heap Add (At 8) (At 1))
+    ∷ told (in_place heap Add (At 8) (At 3))
+    ∷ told (in_place heap Add (At 8) (At 2))
+    ∷ told (in_place heap Add (At 8) (At 8))
+    ∷ told (in_place heap Add (At 2) Empty)
+    ∷ told (in_place heap Add (At 0) Nil)
+    ∷ told (in_place heap Subtract (At 0) (At 0))
+    ∷ told (set_item heap (At 18) (Truth true) (Int (pos 0)))
+    ∷ told (set_item heap (At 18) (Int (pos 5)) (Int (pos 0)))
+    ∷ told (set_item heap (At 11) (Int (pos 1)) (Int (pos 0)))
+    ∷ told (call_method heap builtins.ListExtend (At 9) ((At 12) ∷ []) [])
+    ∷ told (call_method heap builtins.ListExtend (At 0) ((Int (pos 5)) ∷ []) [])
+    ∷ told (set_item heap (At 18) (At 0) (Int (pos 0)))
+    ∷ []
+    ≡ (codes "None", 0, 0)
+    ∷ (codes "None", 0, 8)
+    ∷ (codes "None", 0, 16)
+    ∷ (codes "None", 0, 32)
+    ∷ (codes "None", 0, 8)
+    ∷ (codes "None", 0, 8)
+    ∷ (codes "None", 0, 8)
+    ∷ (codes "None", 0, 0)
+    ∷ (codes "[0, 1, 2, 3, 'x', 'y', 'z']", 3, 14)
+    ∷ (codes "[1, 2, 3, 'x']", 1, 2)
+    ∷ (codes "[0, 1, 2, 3, 1, 2]", 2, 8)
+    ∷ (codes "[0, 1, 2, 3, 1, 'k']", 2, 8)
+    ∷ (codes "[0, 1, 2, 3, 0, 3, 6, 9]", 4, 8)
+    ∷ (codes "[0, 1, 2, 3]", 0, 0)
+    ∷ (codes "[0, 1, 2, 3, 0, 1, 2, 3]", 4, 8)
+    ∷ (codes "[]", 0, 0)
+    ∷ (codes "TypeError: 'NoneType' object isn't iterable", 0, 0)
+    ∷ (codes "TypeError: unsupported types for __sub__: 'list', 'list'", 0, 0)
+    ∷ (codes "None", 0, 0)
+    ∷ (codes "None", 0, 24)
+    ∷ (codes "None", 0, 0)
+    ∷ (codes "None", 4, 16)
+    ∷ (codes "TypeError: 'int' object isn't iterable", 0, 0)
+    ∷ (codes "TypeError: unsupported type for __hash__: 'list'", 0, 0)
+    ∷ []
+unfolding str_of repr_of equal order checked power digits
+growth = refl
+
+keys :
+    told (get_item heap (At 11) (Int (pos 1)))
+    ∷ told (get_item heap (At 11) (Truth true))
+    ∷ told (get_item heap (At 11) (Str (codes "1")))
+    ∷ told (get_item heap (At 18) (Truth true))
+    ∷ told (get_item heap (At 1) (Str (codes "made")))
+    ∷ told (get_item heap (At 1) (At 4))
+    ∷ told (get_item heap (At 1) (Fixed (Only (Int (pos 1)))))
+    ∷ told (op_contains heap (Truth true) (At 18))
+    ∷ told (op_contains heap (Str (codes "1")) (At 18))
+    ∷ told (op_contains heap (At 2) (At 11))
+    ∷ told (delete_item heap (At 11) (Int (pos 1)))
+    ∷ told (delete_item heap (At 18) (Truth false))
+    ∷ told (call_method heap builtins.DictGet (At 11) ((Int (pos 1)) ∷ []) [])
+    ∷ told (call_method heap builtins.DictGet (At 11) ((Int (pos 2)) ∷ []) [])
+    ∷ told (call_method heap builtins.DictGet (At 11) ((Int (pos 2)) ∷ (Str (codes "no")) ∷ []) [])
+    ∷ told (call_method heap builtins.DictGet (At 11) ((At 0) ∷ []) [])
+    ∷ told (call_method heap builtins.DictPop (At 18) ((Truth true) ∷ []) [])
+    ∷ told (call_method heap builtins.DictPop (At 18) ((Int (pos 9)) ∷ []) [])
+    ∷ told (call_method heap builtins.DictPop (At 18) ((Int (pos 9)) ∷ Nil ∷ []) [])
+    ∷ told (call_method heap builtins.DictKeys (At 18) [] [])
+    ∷ told (call_method heap builtins.DictValues (At 18) [] [])
+    ∷ told (call_method heap builtins.DictItems (At 1) [] [])
+    ∷ told (call_method heap builtins.DictItems (At 1) ((Int (pos 1)) ∷ []) [])
+    ∷ told (call_method heap builtins.DictKeys (At 1) [] (((Str (codes "x")), (Int (pos 1))) ∷ []))
+    ∷ []
+    ≡ (codes "'one'", 0, 0)
+    ∷ (codes "'one'", 0, 0)
+    ∷ (codes "KeyError: ", 0, 0)
+    ∷ (codes "1", 0, 0)
+    ∷ (codes "KeyError: ", 0, 0)
+    ∷ (codes "KeyError: ", 0, 0)
+    ∷ (codes "TypeError: unsupported type for __hash__: 'tuple'", 0, 0)
+    ∷ (codes "True", 0, 0)
+    ∷ (codes "False", 0, 0)
+    ∷ (codes "TypeError: unsupported type for __hash__: 'list'", 0, 0)
+    ∷ (codes "None", 0, 0)
+    ∷ (codes "KeyError: ", 0, 0)
+    ∷ (codes "'one'", 0, 0)
+    ∷ (codes "None", 0, 0)
+    ∷ (codes "'no'", 0, 0)
+    ∷ (codes "TypeError: unsupported type for __hash__: 'list'", 0, 0)
+    ∷ (codes "1", 0, 0)
+    ∷ (codes "KeyError: ", 0, 0)
+    ∷ (codes "None", 0, 0)
+    ∷ (codes "[1, 2, 3, 4]", 4, 7)
+    ∷ (codes "[1, 2, 3, 4]", 4, 7)
+    ∷ (codes "[(1, 'a'), ('k', None)]", 2, 13)
+    ∷ (codes "TypeError: function takes 0 positional arguments but 1 were given", 0, 0)
+    ∷ (codes "TypeError: function doesn't take keyword arguments", 0, 0)
+    ∷ []
+unfolding str_of repr_of equal order checked power digits
+keys = refl
+
+reprs :
+    told (call heap builtins.Repr ((Str (codes "it's")) ∷ []) [])
+    ∷ told (call heap builtins.Repr ((Str (codes "\"")) ∷ []) [])
+    ∷ told (call heap builtins.Repr ((Str (codes "'\"")) ∷ []) [])
+    ∷ told (call heap builtins.Repr ((Str (codes "\\")) ∷ []) [])
+    ∷ told (call heap builtins.Repr ((Str (97 ∷ 10 ∷ 98 ∷ [])) ∷ []) [])
+    ∷ told (call heap builtins.Repr ((Str (9 ∷ 13 ∷ [])) ∷ []) [])
+    ∷ told (call heap builtins.Repr ((Str (0 ∷ 31 ∷ 127 ∷ [])) ∷ []) [])
+    ∷ told (call heap builtins.Repr ((Str (codes " ~")) ∷ []) [])
+    ∷ told (call heap builtins.Repr ((Str []) ∷ []) [])
+    ∷ told (call heap builtins.Str ((Str (codes "it's")) ∷ []) [])
+    ∷ told (call heap builtins.Str ((Str []) ∷ []) [])
+    ∷ told (call heap builtins.Str ((At 4) ∷ []) [])
+    ∷ told (call heap builtins.Str (Nil ∷ []) [])
+    ∷ told (call heap builtins.Str ((Truth true) ∷ []) [])
+    ∷ told (call heap builtins.Str ((Int (negsuc 1073741823)) ∷ []) [])
+    ∷ told (call heap builtins.Str ((At 3) ∷ []) [])
+    ∷ told (call heap builtins.Str ((At 12) ∷ []) [])
+    ∷ told (call heap builtins.Str ((At 13) ∷ []) [])
+    ∷ told (call heap builtins.Str ((At 15) ∷ []) [])
+    ∷ told (call heap builtins.Str ((At 6) ∷ []) [])
+    ∷ told (call heap builtins.Str ((At 19) ∷ []) [])
+    ∷ told (call heap builtins.Str ((Built builtins.Int) ∷ []) [])
+    ∷ told (call heap builtins.Str ((Built builtins.Len) ∷ []) [])
+    ∷ told (call heap builtins.Str ((Built (builtins.Kind kinds.ValueError)) ∷ []) [])
+    ∷ told (call heap builtins.Str ((Built builtins.Port) ∷ []) [])
+    ∷ told (call heap builtins.Str ((Fixed (Only (Str (codes "a")))) ∷ []) [])
+    ∷ told (call heap builtins.Str ((Fixed (Only Empty)) ∷ []) [])
+    ∷ told (call heap builtins.Str ((At 1) ∷ []) [])
+    ∷ told (call heap builtins.Str ((At 7) ∷ []) [])
+    ∷ told (call heap builtins.Repr ((At 13) ∷ []) [])
+    ∷ told (call heap builtins.Repr ((At 15) ∷ []) [])
+    ∷ told (call heap builtins.Repr ((At 6) ∷ []) [])
+    ∷ told (call heap builtins.Repr ((At 16) ∷ []) [])
+    ∷ []
+    ≡ (codes "'\"it\\'s\"'", 1, 2)
+    ∷ (codes "'\\'\"\\''", 1, 2)
+    ∷ (codes "'\\'\\\\\\'\"\\''", 1, 2)
+    ∷ (codes "\"'\\\\\\\\'\"", 1, 2)
+    ∷ (codes "\"'a\\\\nb'\"", 1, 2)
+    ∷ (codes "\"'\\\\t\\\\r'\"", 1, 2)
+    ∷ (codes "\"'\\\\x00\\\\x1f\\\\x7f'\"", 1, 2)
+    ∷ (codes "\"' ~'\"", 1, 2)
+    ∷ (codes "\"''\"", 1, 2)
+    ∷ (codes "\"it's\"", 1, 2)
+    ∷ (codes "''", 1, 0)
+    ∷ (codes "'made'", 1, 2)
+    ∷ (codes "'None'", 1, 2)
+    ∷ (codes "'True'", 1, 2)
+    ∷ (codes "'-1073741824'", 1, 2)
+    ∷ (codes "'range(0, 10, 3)'", 1, 2)
+    ∷ (codes "'range(5, -7, -3)'", 1, 2)
+    ∷ (codes "'k'", 2, 2)
+    ∷ (codes "''", 1, 0)
+    ∷ (codes "'(1, 2)'", 4, 2)
+    ∷ (codes "\"<module 'm'>\"", 1, 2)
+    ∷ (codes "\"<class 'int'>\"", 1, 2)
+    ∷ (codes "'<function>'", 1, 2)
+    ∷ (codes "\"<class 'ValueError'>\"", 1, 2)
+    ∷ (codes "\"<module 'port'>\"", 1, 2)
+    ∷ (codes "\"('a',)\"", 2, 2)
+    ∷ (codes "'((),)'", 2, 2)
+    ∷ (codes "\"{1: 'a', 'k': None}\"", 5, 2)
+    ∷ (codes "RuntimeError: maximum recursion depth exceeded", 32, 0)
+    ∷ (codes "\"KeyError('k')\"", 2, 2)
+    ∷ (codes "'ValueError()'", 1, 2)
+    ∷ (codes "'ValueError(1, 2)'", 3, 2)
+    ∷ (codes "\"['a', 'b', 'c']\"", 4, 2)
+    ∷ []
+unfolding str_of repr_of equal order checked power digits
+reprs = refl
+
+depths :
+    told (call heap builtins.Repr ((At 22) ∷ []) [])
+    ∷ told (call heap builtins.Repr ((At 21) ∷ []) [])
+    ∷ told (call heap builtins.Str ((At 21) ∷ []) [])
+    ∷ told (op_eq heap (At 22) (At 22))
+    ∷ told (op_eq heap (At 21) (At 21))
+    ∷ told (op_eq heap (At 53) (At 2))
+    ∷ told (op_contains heap (At 23) (At 22))
+    ∷ told (op_order heap Below (At 22) (At 22))
+    ∷ told (op_order heap Below (At 21) (At 21))
+    ∷ told (op_contains heap (At 21) (At 7))
+    ∷ []
+    ≡ (codes "'[[[[[[[[[[[[[[[[[[[[[[[[[[[[[[[[]]]]]]]]]]]]]]]]]]]]]]]]]]]]]]]]'", 32, 2)
+    ∷ (codes "RuntimeError: maximum recursion depth exceeded", 32, 0)
+    ∷ (codes "RuntimeError: maximum recursion depth exceeded", 32, 0)
+    ∷ (codes "True", 32, 0)
+    ∷ (codes "RuntimeError: maximum recursion depth exceeded", 32, 0)
+    ∷ (codes "True", 1, 0)
+    ∷ (codes "True", 31, 0)
+    ∷ (codes "False", 32, 0)
+    ∷ (codes "RuntimeError: maximum recursion depth exceeded", 32, 0)
+    ∷ (codes "RuntimeError: maximum recursion depth exceeded", 32, 0)
+    ∷ []
+unfolding str_of repr_of equal order checked power digits
+depths = refl
+
+orders :
+    told (op_order heap Below (Fixed (Then (Int (pos 1)) (Only (Int (pos 2))))) (Fixed (Then (Int (pos 1)) (Only (Int (pos 3))))))
+    ∷ told (op_order heap Below (At 0) (At 17))
+    ∷ told (op_order heap NotAbove (At 17) (At 0))
+    ∷ told (op_order heap Above (Fixed (Then (Int (pos 1)) (Only (Fixed (Only (Int (pos 2))))))) (Fixed (Then (Int (pos 1)) (Only (Fixed (Then (Int (pos 2)) (Only (Int (pos 3)))))))))
+    ∷ told (op_order heap NotBelow Empty Empty)
+    ∷ told (op_order heap Below (Str []) (Str (codes "a")))
+    ∷ told (op_order heap Below (Str (codes "a")) (Str (codes "B")))
+    ∷ told (op_order heap Below Nil (Int (pos 1)))
+    ∷ told (op_order heap Below (Fixed (Only (Int (pos 1)))) (At 0))
+    ∷ told (op_order heap Above (Truth true) (Truth false))
+    ∷ told (op_order heap Below (At 3) (At 3))
+    ∷ told (op_order heap Below (Fixed (Then (Int (pos 1)) (Only (Str (codes "a"))))) (Fixed (Then (Int (pos 1)) (Only (Int (pos 2))))))
+    ∷ told (call heap builtins.Min ((Int (pos 3)) ∷ (Int (pos 1)) ∷ (Int (pos 2)) ∷ []) [])
+    ∷ told (call heap builtins.Max ((At 17) ∷ []) [])
+    ∷ told (call heap builtins.Min ((Str (codes "cab")) ∷ []) [])
+    ∷ told (call heap builtins.Max ((At 3) ∷ []) [])
+    ∷ told (call heap builtins.Max ((At 12) ∷ []) [])
+    ∷ told (call heap builtins.Min (Empty ∷ []) [])
+    ∷ told (call heap builtins.Min ((Int (pos 5)) ∷ []) [])
+    ∷ told (call heap builtins.Min ((Int (pos 2)) ∷ (Str (codes "a")) ∷ []) [])
+    ∷ told (call heap builtins.Max ((Int (pos 2)) ∷ (Str (codes "a")) ∷ []) [])
+    ∷ told (call heap builtins.Min ((At 16) ∷ []) [])
+    ∷ told (call heap builtins.Min ((Str (codes "a")) ∷ (Str (codes "b")) ∷ (Str (codes "A")) ∷ []) [])
+    ∷ told (call heap builtins.Max ((Truth true) ∷ (Int (pos 1)) ∷ []) [])
+    ∷ told (call heap builtins.Max ((Int (pos 1)) ∷ (Truth true) ∷ []) [])
+    ∷ told (call heap builtins.Min [] [])
+    ∷ told (call heap builtins.Min ((At 2) ∷ []) [])
+    ∷ told (call heap builtins.Max ((At 1) ∷ []) [])
+    ∷ told (call heap builtins.Min ((Int (pos 1)) ∷ []) (((Str (codes "key")), (Int (pos 1))) ∷ []))
+    ∷ []
+    ≡ (codes "True", 4, 0)
+    ∷ (codes "True", 3, 0)
+    ∷ (codes "False", 3, 0)
+    ∷ (codes "False", 5, 0)
+    ∷ (codes "True", 1, 0)
+    ∷ (codes "True", 1, 0)
+    ∷ (codes "False", 1, 0)
+    ∷ (codes "TypeError: unsupported types for __lt__: 'NoneType', 'int'", 1, 0)
+    ∷ (codes "TypeError: unsupported types for __lt__: 'tuple', 'list'", 1, 0)
+    ∷ (codes "True", 1, 0)
+    ∷ (codes "TypeError: unsupported types for __lt__: 'range', 'range'", 1, 0)
+    ∷ (codes "TypeError: unsupported types for __lt__: 'str', 'int'", 4, 0)
+    ∷ (codes "1", 5, 0)
+    ∷ (codes "3", 5, 0)
+    ∷ (codes "'a'", 5, 2)
+    ∷ (codes "9", 7, 0)
+    ∷ (codes "5", 7, 0)
+    ∷ (codes "ValueError: arg is an empty sequence", 0, 0)
+    ∷ (codes "TypeError: 'int' object isn't iterable", 0, 0)
+    ∷ (codes "TypeError: unsupported types for __lt__: 'str', 'int'", 3, 0)
+    ∷ (codes "TypeError: unsupported types for __gt__: 'str', 'int'", 3, 0)
+    ∷ (codes "'a'", 5, 0)
+    ∷ (codes "'A'", 5, 0)
+    ∷ (codes "True", 3, 0)
+    ∷ (codes "1", 3, 0)
+    ∷ (codes "TypeError: function expected at least 1 arguments, got 0", 0, 0)
+    ∷ (codes "ValueError: arg is an empty sequence", 0, 0)
+    ∷ (codes "TypeError: unsupported types for __gt__: 'str', 'int'", 3, 0)
+    ∷ (codes "TypeError: function doesn't take keyword arguments", 0, 0)
+    ∷ []
+unfolding str_of repr_of equal order checked power digits
+orders = refl
+
+strs :
+    told (call_method heap builtins.StrFind (Str (codes "abcabc")) ((Str (codes "ca")) ∷ []) [])
+    ∷ told (call_method heap builtins.StrFind (Str (codes "abc")) ((Str []) ∷ []) [])
+    ∷ told (call_method heap builtins.StrFind (Str []) ((Str []) ∷ []) [])
+    ∷ told (call_method heap builtins.StrFind (Str []) ((Str (codes "a")) ∷ []) [])
+    ∷ told (call_method heap builtins.StrFind (Str (codes "aab")) ((Str (codes "ab")) ∷ []) [])
+    ∷ told (call_method heap builtins.StrFind (Str (codes "abc")) ((Int (pos 1)) ∷ []) [])
+    ∷ told (call_method heap builtins.StrStartsWith (Str (codes "abc")) ((Str (codes "ab")) ∷ []) [])
+    ∷ told (call_method heap builtins.StrStartsWith (Str (codes "abc")) ((Str []) ∷ []) [])
+    ∷ told (call_method heap builtins.StrStartsWith (Str (codes "a")) ((Str (codes "ab")) ∷ []) [])
+    ∷ told (call_method heap builtins.StrStartsWith (At 4) ((Str (codes "ma")) ∷ []) [])
+    ∷ told (call_method heap builtins.StrSplit (Str (32 ∷ 32 ∷ 97 ∷ 32 ∷ 9 ∷ 10 ∷ 32 ∷ 98 ∷ 32 ∷ [])) [] [])
+    ∷ told (call_method heap builtins.StrSplit (Str []) [] [])
+    ∷ told (call_method heap builtins.StrSplit (Str (codes " ")) [] [])
+    ∷ told (call_method heap builtins.StrSplit (Str (codes "a,b,,")) ((Str (codes ",")) ∷ []) [])
+    ∷ told (call_method heap builtins.StrSplit (Str (codes ",")) ((Str (codes ",")) ∷ []) [])
+    ∷ told (call_method heap builtins.StrSplit (Str []) ((Str (codes ",")) ∷ []) [])
+    ∷ told (call_method heap builtins.StrSplit (Str (codes "a--b--")) ((Str (codes "--")) ∷ []) [])
+    ∷ told (call_method heap builtins.StrSplit (Str (codes "aaa")) ((Str (codes "aa")) ∷ []) [])
+    ∷ told (call_method heap builtins.StrSplit (Str (codes "abc")) ((Str []) ∷ []) [])
+    ∷ told (call_method heap builtins.StrSplit (Str (codes "a")) (Nil ∷ []) [])
+    ∷ told (call_method heap builtins.StrSplit (Str (codes "a b c d e")) [] [])
+    ∷ told (call_method heap builtins.StrJoin (Str (codes ", ")) ((At 16) ∷ []) [])
+    ∷ told (call_method heap builtins.StrJoin (Str []) ((At 16) ∷ []) [])
+    ∷ told (call_method heap builtins.StrJoin (Str (codes "-")) ((Str (codes "abc")) ∷ []) [])
+    ∷ told (call_method heap builtins.StrJoin (Str (codes "-")) (Empty ∷ []) [])
+    ∷ told (call_method heap builtins.StrJoin (Str (codes "-")) ((Fixed (Only (Str (codes "a")))) ∷ []) [])
+    ∷ told (call_method heap builtins.StrJoin (Str (codes "-")) ((Fixed (Then (Str (codes "a")) (Then (Int (pos 1)) (Only (Str (codes "b")))))) ∷ []) [])
+    ∷ told (call_method heap builtins.StrJoin (Str (codes "-")) ((Int (pos 5)) ∷ []) [])
+    ∷ told (call_method heap builtins.StrJoin (Str []) ((Fixed (Then (Str []) (Only (Str [])))) ∷ []) [])
+    ∷ told (call_method heap builtins.StrJoin (Str (codes "xx")) ((At 1) ∷ []) [])
+    ∷ told (call_method heap builtins.StrJoin (Str (codes "aaaaaaaaaaaaaaaaaaaaaaaaaaaaaaaaaaaaaaaaaaaaaaaaaa")) ((At 16) ∷ []) [])
+    ∷ told (call_method heap builtins.StrFind (Str (codes "a")) [] [])
+    ∷ told (call_method heap builtins.StrSplit (Str (codes "a")) ((Str (codes "b")) ∷ (Str (codes "c")) ∷ []) [])
+    ∷ []
+    ≡ (codes "2", 0, 0)
+    ∷ (codes "0", 0, 0)
+    ∷ (codes "0", 0, 0)
+    ∷ (codes "-1", 0, 0)
+    ∷ (codes "1", 0, 0)
+    ∷ (codes "TypeError: unsupported types for __contains__: 'str', 'int'", 0, 0)
+    ∷ (codes "True", 0, 0)
+    ∷ (codes "True", 0, 0)
+    ∷ (codes "False", 0, 0)
+    ∷ (codes "True", 0, 0)
+    ∷ (codes "['a', 'b']", 0, 11)
+    ∷ (codes "[]", 0, 7)
+    ∷ (codes "[]", 0, 7)
+    ∷ (codes "['a', 'b', '', '']", 0, 11)
+    ∷ (codes "['', '']", 0, 7)
+    ∷ (codes "['']", 0, 7)
+    ∷ (codes "['a', 'b', '']", 0, 11)
+    ∷ (codes "['', 'a']", 0, 9)
+    ∷ (codes "ValueError: empty separator", 0, 0)
+    ∷ (codes "TypeError: unsupported types for __contains__: 'str', 'NoneType'", 0, 0)
+    ∷ (codes "['a', 'b', 'c', 'd', 'e']", 0, 21)
+    ∷ (codes "'a, b, c'", 3, 2)
+    ∷ (codes "'abc'", 3, 2)
+    ∷ (codes "'a-b-c'", 3, 2)
+    ∷ (codes "''", 0, 0)
+    ∷ (codes "'a'", 1, 2)
+    ∷ (codes "TypeError: join expects a list of str", 2, 0)
+    ∷ (codes "TypeError: 'int' object isn't iterable", 0, 0)
+    ∷ (codes "''", 2, 0)
+    ∷ (codes "TypeError: join expects a list of str", 1, 0)
+    ∷ (codes "full: 103 asked, 0 used", 3, 0)
+    ∷ (codes "TypeError: function takes 1 positional arguments but 0 were given", 0, 0)
+    ∷ (codes "TypeError: function expected at most 1 arguments, got 2", 0, 0)
+    ∷ []
+unfolding str_of repr_of equal order checked power digits
+strs = refl
+
+functions :
+    told (call heap builtins.Len ((Str (codes "abc")) ∷ []) [])
+    ∷ told (call heap builtins.Len ((At 12) ∷ []) [])
+    ∷ told (call heap builtins.Len ((At 19) ∷ []) [])
+    ∷ told (call heap builtins.Len ((Int (pos 1)) ∷ (Int (pos 2)) ∷ []) [])
+    ∷ told (call heap builtins.Abs ((Int (negsuc 1073741823)) ∷ []) [])
+    ∷ told (call heap builtins.Abs ((Int (negsuc 4)) ∷ []) [])
+    ∷ told (call heap builtins.Abs (Nil ∷ []) [])
+    ∷ told (call heap builtins.Ord ((Str (codes "A")) ∷ []) [])
+    ∷ told (call heap builtins.Ord ((Str (codes "ab")) ∷ []) [])
+    ∷ told (call heap builtins.Ord ((Int (pos 5)) ∷ []) [])
+    ∷ told (call heap builtins.Chr ((Int (pos 0)) ∷ []) [])
+    ∷ told (call heap builtins.Chr ((Int (pos 127)) ∷ []) [])
+    ∷ told (call heap builtins.Chr ((Int (pos 128)) ∷ []) [])
+    ∷ told (call heap builtins.Chr ((Int (negsuc 0)) ∷ []) [])
+    ∷ told (call heap builtins.Chr ((Str (codes "a")) ∷ []) [])
+    ∷ told (call heap builtins.Int ((Str (codes " 12 ")) ∷ []) [])
+    ∷ told (call heap builtins.Int ((Str (codes "-7")) ∷ []) [])
+    ∷ told (call heap builtins.Int ((Str (codes "+7")) ∷ []) [])
+    ∷ told (call heap builtins.Int ((Str []) ∷ []) [])
+    ∷ told (call heap builtins.Int ((Str (codes "1_0")) ∷ []) [])
+    ∷ told (call heap builtins.Int ((Str (codes "- 7")) ∷ []) [])
+    ∷ told (call heap builtins.Int ((Str (53 ∷ 10 ∷ [])) ∷ []) [])
+    ∷ told (call heap builtins.Int ((Str (codes "007")) ∷ []) [])
+    ∷ told (call heap builtins.Int ((Str (codes "1073741824")) ∷ []) [])
+    ∷ told (call heap builtins.Int ((Str (codes "-1073741824")) ∷ []) [])
+    ∷ told (call heap builtins.Int ((Str (codes "9999999999999999999999999999999999999999")) ∷ []) [])
+    ∷ told (call heap builtins.Int ((Truth true) ∷ []) [])
+    ∷ told (call heap builtins.Int (Nil ∷ []) [])
+    ∷ told (call heap builtins.Range ((Int (pos 3)) ∷ []) [])
+    ∷ told (call heap builtins.Range ((Int (pos 1)) ∷ (Int (pos 2)) ∷ (Int (pos 0)) ∷ []) [])
+    ∷ told (call heap builtins.Range [] [])
+    ∷ told (call heap builtins.Range ((Int (pos 1)) ∷ (Int (pos 2)) ∷ (Int (pos 3)) ∷ (Int (pos 4)) ∷ []) [])
+    ∷ told (call heap builtins.Range ((Str (codes "a")) ∷ []) [])
+    ∷ told (call heap builtins.Range ((Truth true) ∷ (Int (pos 5)) ∷ (Int (negsuc 0)) ∷ []) [])
+    ∷ told (call heap builtins.List [] [])
+    ∷ told (call heap builtins.List ((Str (codes "ab")) ∷ []) [])
+    ∷ told (call heap builtins.List ((At 3) ∷ []) [])
+    ∷ told (call heap builtins.List ((At 1) ∷ []) [])
+    ∷ told (call heap builtins.List ((Int (pos 5)) ∷ []) [])
+    ∷ told (call heap builtins.List ((Int (pos 1)) ∷ (Int (pos 2)) ∷ []) [])
+    ∷ told (call heap builtins.Tuple [] [])
+    ∷ told (call heap builtins.Tuple ((Str (codes "ab")) ∷ []) [])
+    ∷ told (call heap builtins.Tuple ((Fixed (Then (Int (pos 1)) (Only (Int (pos 2))))) ∷ []) [])
+    ∷ told (call heap builtins.Tuple ((At 5) ∷ []) [])
+    ∷ told (call heap builtins.Tuple ((At 0) ∷ []) [])
+    ∷ told (call heap builtins.Tuple ((At 2) ∷ []) [])
+    ∷ told (call heap builtins.Tuple (Nil ∷ []) [])
+    ∷ told (call heap builtins.Dict [] [])
+    ∷ told (call heap builtins.Dict ((Int (pos 1)) ∷ []) [])
+    ∷ told (call heap builtins.IsInstance ((Truth true) ∷ (Built builtins.Int) ∷ []) [])
+    ∷ told (call heap builtins.IsInstance ((Truth true) ∷ (Built builtins.Bool) ∷ []) [])
+    ∷ told (call heap builtins.IsInstance ((Int (pos 1)) ∷ (Built builtins.Bool) ∷ []) [])
+    ∷ told (call heap builtins.IsInstance ((At 13) ∷ (Built (builtins.Kind kinds.LookupError)) ∷ []) [])
+    ∷ told (call heap builtins.IsInstance ((At 13) ∷ (Built (builtins.Kind kinds.ValueError)) ∷ []) [])
+    ∷ told (call heap builtins.IsInstance ((Int (pos 1)) ∷ (Fixed (Then (Built builtins.Str) (Only (Built builtins.Int)))) ∷ []) [])
+    ∷ told (call heap builtins.IsInstance ((Int (pos 1)) ∷ (Fixed (Then (Built builtins.Int) (Only (Int (pos 5))))) ∷ []) [])
+    ∷ told (call heap builtins.IsInstance ((Int (pos 1)) ∷ (Built builtins.Range) ∷ []) [])
+    ∷ told (call heap builtins.IsInstance ((Int (pos 1)) ∷ (Built builtins.Len) ∷ []) [])
+    ∷ told (call heap builtins.IsInstance (Empty ∷ (Built builtins.Tuple) ∷ []) [])
+    ∷ told (call heap builtins.IsInstance ((Int (pos 1)) ∷ []) [])
+    ∷ told (call heap (builtins.Kind kinds.ValueError) ((Str (codes "x")) ∷ []) [])
+    ∷ told (call heap (builtins.Kind kinds.KeyError) [] [])
+    ∷ told (call heap (builtins.Kind kinds.ValueError) ((Int (pos 1)) ∷ (Int (pos 2)) ∷ []) [])
+    ∷ told (call heap (builtins.Kind kinds.ValueError) ((Int (pos 1)) ∷ []) (((Str (codes "x")), (Int (pos 1))) ∷ []))
+    ∷ told (call heap builtins.Bool ((At 2) ∷ []) [])
+    ∷ told (call heap builtins.Bool ((At 7) ∷ []) [])
+    ∷ told (call heap builtins.Len [] (((Str (codes "x")), (Int (pos 1))) ∷ []))
+    ∷ told (op_match heap (At 13) (Built (builtins.Kind kinds.LookupError)))
+    ∷ told (op_match heap (At 13) (Fixed (Then (Built (builtins.Kind kinds.ValueError)) (Only (Built (builtins.Kind kinds.KeyError))))))
+    ∷ told (op_match heap (At 13) Empty)
+    ∷ told (op_match heap (At 13) (Int (pos 5)))
+    ∷ told (op_match heap (Int (pos 5)) (Built (builtins.Kind kinds.KeyError)))
+    ∷ told (op_match heap (At 13) (Fixed (Then (Built (builtins.Kind kinds.KeyError)) (Only (Int (pos 5))))))
+    ∷ told (get_attr heap (At 19) (codes "x"))
+    ∷ told (get_attr heap (At 19) (codes "y"))
+    ∷ told (set_attr heap (At 19) (codes "y") (Int (pos 1)))
+    ∷ told (set_attr heap (At 19) (codes "x") (Int (pos 1)))
+    ∷ told (set_attr heap (Built builtins.Port) (codes "x") (Int (pos 1)))
+    ∷ told (get_attr heap (Built builtins.Port) (codes "put"))
+    ∷ told (get_attr heap (Built builtins.Port) (codes "x"))
+    ∷ told (get_attr heap (At 13) (codes "args"))
+    ∷ []
+    ≡ (codes "3", 0, 0)
+    ∷ (codes "4", 0, 0)
+    ∷ (codes "TypeError: object of type 'module' has no len()", 0, 0)
+    ∷ (codes "TypeError: function takes 1 positional arguments but 2 were given", 0, 0)
+    ∷ (codes "OverflowError: small int overflow", 0, 0)
+    ∷ (codes "5", 0, 0)
+    ∷ (codes "TypeError: can't convert NoneType to int", 0, 0)
+    ∷ (codes "65", 0, 0)
+    ∷ (codes "TypeError: ord() expects a character", 0, 0)
+    ∷ (codes "TypeError: ord() expects a character", 0, 0)
+    ∷ (codes "'\\x00'", 0, 2)
+    ∷ (codes "'\\x7f'", 0, 2)
+    ∷ (codes "ValueError: chr() arg not in range(128)", 0, 0)
+    ∷ (codes "ValueError: chr() arg not in range(128)", 0, 0)
+    ∷ (codes "TypeError: can't convert str to int", 0, 0)
+    ∷ (codes "12", 0, 0)
+    ∷ (codes "-7", 0, 0)
+    ∷ (codes "7", 0, 0)
+    ∷ (codes "ValueError: invalid syntax for integer with base 10", 0, 0)
+    ∷ (codes "ValueError: invalid syntax for integer with base 10", 0, 0)
+    ∷ (codes "ValueError: invalid syntax for integer with base 10", 0, 0)
+    ∷ (codes "ValueError: invalid syntax for integer with base 10", 0, 0)
+    ∷ (codes "7", 0, 0)
+    ∷ (codes "OverflowError: small int overflow", 0, 0)
+    ∷ (codes "-1073741824", 0, 0)
+    ∷ (codes "OverflowError: small int overflow", 0, 0)
+    ∷ (codes "1", 0, 0)
+    ∷ (codes "TypeError: can't convert NoneType to int", 0, 0)
+    ∷ (codes "range(0, 3)", 0, 4)
+    ∷ (codes "ValueError: zero step", 0, 0)
+    ∷ (codes "TypeError: function expected at least 1 arguments, got 0", 0, 0)
+    ∷ (codes "TypeError: function expected at most 3 arguments, got 4", 0, 0)
+    ∷ (codes "TypeError: can't convert str to int", 0, 0)
+    ∷ (codes "range(1, 5, -1)", 0, 4)
+    ∷ (codes "[]", 0, 7)
+    ∷ (codes "['a', 'b']", 2, 11)
+    ∷ (codes "[0, 3, 6, 9]", 4, 7)
+    ∷ (codes "[1, 'k']", 2, 7)
+    ∷ (codes "TypeError: 'int' object isn't iterable", 0, 0)
+    ∷ (codes "TypeError: function expected at most 1 arguments, got 2", 0, 0)
+    ∷ (codes "()", 0, 0)
+    ∷ (codes "('a', 'b')", 2, 7)
+    ∷ (codes "(1, 2)", 0, 0)
+    ∷ (codes "(1, 2)", 0, 0)
+    ∷ (codes "(1, 2, 3)", 3, 4)
+    ∷ (codes "()", 0, 0)
+    ∷ (codes "TypeError: 'NoneType' object isn't iterable", 0, 0)
+    ∷ (codes "{}", 0, 15)
+    ∷ (codes "TypeError: function takes 0 positional arguments but 1 were given", 0, 0)
+    ∷ (codes "True", 0, 0)
+    ∷ (codes "True", 0, 0)
+    ∷ (codes "False", 0, 0)
+    ∷ (codes "True", 0, 0)
+    ∷ (codes "False", 0, 0)
+    ∷ (codes "True", 0, 0)
+    ∷ (codes "TypeError: isinstance() arg 2 must be a type or a tuple of types", 0, 0)
+    ∷ (codes "TypeError: isinstance() arg 2 must be a type or a tuple of types", 0, 0)
+    ∷ (codes "TypeError: isinstance() arg 2 must be a type or a tuple of types", 0, 0)
+    ∷ (codes "True", 0, 0)
+    ∷ (codes "TypeError: function takes 2 positional arguments but 1 were given", 0, 0)
+    ∷ (codes "ValueError('x')", 0, 8)
+    ∷ (codes "KeyError()", 0, 6)
+    ∷ (codes "ValueError(1, 2)", 0, 9)
+    ∷ (codes "TypeError: function doesn't take keyword arguments", 0, 0)
+    ∷ (codes "False", 0, 0)
+    ∷ (codes "True", 0, 0)
+    ∷ (codes "TypeError: function doesn't take keyword arguments", 0, 0)
+    ∷ (codes "True", 0, 0)
+    ∷ (codes "True", 0, 0)
+    ∷ (codes "False", 0, 0)
+    ∷ (codes "TypeError: unsupported types for exception match", 0, 0)
+    ∷ (codes "TypeError: unsupported types for exception match", 0, 0)
+    ∷ (codes "TypeError: unsupported types for exception match", 0, 0)
+    ∷ (codes "5", 0, 0)
+    ∷ (codes "AttributeError: 'module' object has no attribute 'y'", 0, 0)
+    ∷ (codes "None", 0, 0)
+    ∷ (codes "None", 0, 0)
+    ∷ (codes "AttributeError: 'module' object has no attribute 'x'", 0, 0)
+    ∷ (codes "<function>", 0, 0)
+    ∷ (codes "AttributeError: 'module' object has no attribute 'x'", 0, 0)
+    ∷ (codes "('k',)", 0, 0)
+    ∷ []
+unfolding str_of repr_of equal order checked power digits
+functions = refl
+
+prints :
+    told_print (printed heap [] [])
+    ∷ told_print (printed heap ((Int (pos 1)) ∷ (Str (codes "a")) ∷ Nil ∷ []) [])
+    ∷ told_print (printed heap ((Str (codes "it's")) ∷ (Fixed (Only (Str (codes "it's")))) ∷ []) [])
+    ∷ told_print (printed heap ((Int (pos 1)) ∷ (Int (pos 2)) ∷ []) (((Str (codes "sep")), (Str [])) ∷ []))
+    ∷ told_print (printed heap ((Int (pos 1)) ∷ (Int (pos 2)) ∷ []) (((Str (codes "end")), (Str [])) ∷ ((Str (codes "sep")), (Str (codes "--"))) ∷ []))
+    ∷ told_print (printed heap ((Int (pos 1)) ∷ []) (((Str (codes "sep")), Nil) ∷ []))
+    ∷ told_print (printed heap ((Int (pos 1)) ∷ []) (((Str (codes "end")), (Int (pos 5))) ∷ []))
+    ∷ told_print (printed heap ((Int (pos 1)) ∷ []) (((Str (codes "x")), (Int (pos 1))) ∷ []))
+    ∷ told_print (printed heap ((Int (pos 1)) ∷ []) (((Int (pos 5)), (Int (pos 1))) ∷ []))
+    ∷ told_print (printed heap ((Int (pos 1)) ∷ []) (((Str (codes "sep")), (Str (codes "a"))) ∷ ((Str (codes "sep")), (Str (codes "b"))) ∷ []))
+    ∷ told_print (printed heap ((Int (pos 1)) ∷ []) (((Str (codes "x")), Nil) ∷ ((Str (codes "sep")), (Str (codes "a"))) ∷ []))
+    ∷ told_print (printed heap ((Int (pos 1)) ∷ (At 7) ∷ (Int (pos 2)) ∷ []) [])
+    ∷ told_print (printed heap ((At 21) ∷ []) (((Str (codes "x")), (Int (pos 1))) ∷ []))
+    ∷ told_print (printed heap ((At 13) ∷ (At 6) ∷ (At 15) ∷ []) [])
+    ∷ []
+    ≡ (10 ∷ [], 0)
+    ∷ (49 ∷ 32 ∷ 97 ∷ 32 ∷ 78 ∷ 111 ∷ 110 ∷ 101 ∷ 10 ∷ [], 3)
+    ∷ (105 ∷ 116 ∷ 39 ∷ 115 ∷ 32 ∷ 40 ∷ 34 ∷ 105 ∷ 116 ∷ 39 ∷ 115 ∷ 34 ∷ 44 ∷ 41 ∷ 10 ∷ [], 3)
+    ∷ (49 ∷ 50 ∷ 10 ∷ [], 2)
+    ∷ (codes "1--2", 2)
+    ∷ (codes "TypeError: sep must be a str", 0)
+    ∷ (codes "TypeError: end must be a str", 0)
+    ∷ (codes "TypeError: unexpected keyword argument 'x'", 0)
+    ∷ (codes "TypeError: keywords must be strings", 0)
+    ∷ (codes "TypeError: function got multiple values for argument 'sep'", 0)
+    ∷ (codes "TypeError: unexpected keyword argument 'x'", 0)
+    ∷ (codes "RuntimeError: maximum recursion depth exceeded", 33)
+    ∷ (codes "TypeError: unexpected keyword argument 'x'", 0)
+    ∷ (107 ∷ 32 ∷ 40 ∷ 49 ∷ 44 ∷ 32 ∷ 50 ∷ 41 ∷ 32 ∷ 10 ∷ [], 7)
+    ∷ []
+unfolding str_of repr_of equal order checked power digits
+prints = refl
+
+ports :
+    told_port (call_port_get heap (port (pos 41 ∷ pos 7 ∷ []) ([]) 0 ([]) ∷ port ([]) (pos 3 ∷ []) 0 (0 ∷ []) ∷ []) (Int (pos 0)))
+    ∷ told_port (call_port_get heap (port (pos 41 ∷ pos 7 ∷ []) ([]) 0 ([]) ∷ port ([]) (pos 3 ∷ []) 0 (0 ∷ []) ∷ []) (Int (pos 1)))
+    ∷ told_port (call_port_get heap (port (pos 41 ∷ pos 7 ∷ []) ([]) 0 ([]) ∷ port ([]) (pos 3 ∷ []) 0 (0 ∷ []) ∷ []) (Int (pos 2)))
+    ∷ told_port (call_port_get heap (port (pos 41 ∷ pos 7 ∷ []) ([]) 0 ([]) ∷ port ([]) (pos 3 ∷ []) 0 (0 ∷ []) ∷ []) (Int (negsuc 0)))
+    ∷ told_port (call_port_get heap (port (pos 41 ∷ pos 7 ∷ []) ([]) 0 ([]) ∷ port ([]) (pos 3 ∷ []) 0 (0 ∷ []) ∷ []) (Str (codes "a")))
+    ∷ told_port (call_port_get heap (port (pos 41 ∷ pos 7 ∷ []) ([]) 0 ([]) ∷ port ([]) (pos 3 ∷ []) 0 (0 ∷ []) ∷ []) (Truth false))
+    ∷ told_port (call_port_put heap (port (pos 41 ∷ pos 7 ∷ []) ([]) 0 ([]) ∷ port ([]) (pos 3 ∷ []) 0 (0 ∷ []) ∷ []) (Int (pos 0)) (Int (pos 5)))
+    ∷ told_port (call_port_put heap (port (pos 41 ∷ pos 7 ∷ []) ([]) 0 ([]) ∷ port ([]) (pos 3 ∷ []) 0 (0 ∷ []) ∷ []) (Int (pos 1)) (Int (pos 5)))
+    ∷ told_port (call_port_put heap (port (pos 41 ∷ pos 7 ∷ []) ([]) 0 ([]) ∷ port ([]) (pos 3 ∷ []) 0 (0 ∷ []) ∷ []) (Int (pos 2)) (Int (pos 5)))
+    ∷ told_port (call_port_put heap (port (pos 41 ∷ pos 7 ∷ []) ([]) 0 ([]) ∷ port ([]) (pos 3 ∷ []) 0 (0 ∷ []) ∷ []) Nil (Int (pos 5)))
+    ∷ told_port (call_port_put heap (port (pos 41 ∷ pos 7 ∷ []) ([]) 0 ([]) ∷ port ([]) (pos 3 ∷ []) 0 (0 ∷ []) ∷ []) (Int (pos 0)) Nil)
+    ∷ told_port (call_port_put heap (port (pos 41 ∷ pos 7 ∷ []) ([]) 0 ([]) ∷ port ([]) (pos 3 ∷ []) 0 (0 ∷ []) ∷ []) (Int (pos 2)) Nil)
+    ∷ told_port (call_port_put heap (port (pos 41 ∷ pos 7 ∷ []) ([]) 0 ([]) ∷ port ([]) (pos 3 ∷ []) 0 (0 ∷ []) ∷ []) (Truth false) (Truth true))
+    ∷ told_port (call_port_get heap (port (pos 1073741824 ∷ pos 7 ∷ []) ([]) 0 ([]) ∷ []) (Int (pos 0)))
+    ∷ told_port (call_port_get heap (port ([]) ([]) 0 ([]) ∷ []) (Int (pos 0)))
+    ∷ []
+    ≡ (codes "41", port (pos 7 ∷ []) ([]) 1 ([]) ∷ port ([]) (pos 3 ∷ []) 0 (0 ∷ []) ∷ [])
+    ∷ (codes "OSError: ", port (pos 41 ∷ pos 7 ∷ []) ([]) 0 ([]) ∷ port ([]) (pos 3 ∷ []) 1 (0 ∷ []) ∷ [])
+    ∷ (codes "ValueError: no such port", port (pos 41 ∷ pos 7 ∷ []) ([]) 0 ([]) ∷ port ([]) (pos 3 ∷ []) 0 (0 ∷ []) ∷ [])
+    ∷ (codes "ValueError: no such port", port (pos 41 ∷ pos 7 ∷ []) ([]) 0 ([]) ∷ port ([]) (pos 3 ∷ []) 0 (0 ∷ []) ∷ [])
+    ∷ (codes "TypeError: can't convert str to int", port (pos 41 ∷ pos 7 ∷ []) ([]) 0 ([]) ∷ port ([]) (pos 3 ∷ []) 0 (0 ∷ []) ∷ [])
+    ∷ (codes "41", port (pos 7 ∷ []) ([]) 1 ([]) ∷ port ([]) (pos 3 ∷ []) 0 (0 ∷ []) ∷ [])
+    ∷ (codes "None", port (pos 41 ∷ pos 7 ∷ []) (pos 5 ∷ []) 1 ([]) ∷ port ([]) (pos 3 ∷ []) 0 (0 ∷ []) ∷ [])
+    ∷ (codes "OSError: ", port (pos 41 ∷ pos 7 ∷ []) ([]) 0 ([]) ∷ port ([]) (pos 3 ∷ []) 1 (0 ∷ []) ∷ [])
+    ∷ (codes "ValueError: no such port", port (pos 41 ∷ pos 7 ∷ []) ([]) 0 ([]) ∷ port ([]) (pos 3 ∷ []) 0 (0 ∷ []) ∷ [])
+    ∷ (codes "TypeError: can't convert NoneType to int", port (pos 41 ∷ pos 7 ∷ []) ([]) 0 ([]) ∷ port ([]) (pos 3 ∷ []) 0 (0 ∷ []) ∷ [])
+    ∷ (codes "TypeError: can't convert NoneType to int", port (pos 41 ∷ pos 7 ∷ []) ([]) 0 ([]) ∷ port ([]) (pos 3 ∷ []) 0 (0 ∷ []) ∷ [])
+    ∷ (codes "TypeError: can't convert NoneType to int", port (pos 41 ∷ pos 7 ∷ []) ([]) 0 ([]) ∷ port ([]) (pos 3 ∷ []) 0 (0 ∷ []) ∷ [])
+    ∷ (codes "None", port (pos 41 ∷ pos 7 ∷ []) (pos 1 ∷ []) 1 ([]) ∷ port ([]) (pos 3 ∷ []) 0 (0 ∷ []) ∷ [])
+    ∷ (codes "OverflowError: small int overflow", port (pos 7 ∷ []) ([]) 1 ([]) ∷ [])
+    ∷ (codes "None", port ([]) ([]) 1 ([]) ∷ [])
+    ∷ []
+unfolding str_of repr_of equal order checked power digits
+ports = refl
