@@ -1,0 +1,7 @@
+pub mod Fronts
+pub mod Named
+pub mod PortNumbers
+pub mod PortRefusals
+pub mod PortsTold
+pub mod Putting
+pub mod Walked

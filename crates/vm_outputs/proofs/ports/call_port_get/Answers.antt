@@ -1,0 +1,29 @@
+use Rattle.std.proofs.Common.{◌≡◌, map, refl}
+use Rattle.mpy_base.specs.declared.builtin.Builtin.TheVariants as builtins
+use Rattle.py_primitives.specs.Calls.{Exactly}
+use Rattle.vm_faults.specs.declared.fault.Fault.TheVariants as faults
+use Rattle.vm_outputs.proofs.PortRefusals.{refusal_told, refusal_no_port}
+use Rattle.vm_builtins.proofs.Calls.{one_known}
+use Rattle.vm_outputs.proofs.ports.call_port_get.Goals as goal
+
+pub get_value-requires : goal.get_value-requires
+get_value-requires g c =
+    let texts = g.C.Constants.text_of c.args.consts.now in
+    let tuples = g.C.Constants.items_of c.args.consts.now in
+    record { leads = (one_known texts tuples c.args.arena.now c.args.args.now c.in-Ok.i c.in-Ok.ensures.given c.requires.known).leads }
+
+pub returns-in-Err-clause-told : goal.returns-in-Err-clause-told
+returns-in-Err-clause-told g c contents tell are fails =
+    let texts = g.C.Constants.text_of c.args.consts.now in
+    let tuples = g.C.Constants.items_of c.args.consts.now in
+    refusal_told texts tuples c.args.arena.now c.args.args.now c.args.keys.now builtins.PortGet (Exactly 1) c.in-Err.fault c.in-Err.ensures.refused refl refl (map g.P.Port.seen c.args.ports.now) contents tell
+
+pub returns-in-Err-clause-known : goal.returns-in-Err-clause-known
+returns-in-Err-clause-known g c = c.in-Err.ensures.refused.known (g.C.Constants.text_of c.args.consts.now) (g.C.Constants.items_of c.args.consts.now) c.args.arena.now
+
+pub returns-in-Err-clause-failed : goal.returns-in-Err-clause-failed
+returns-in-Err-clause-failed g c e =
+    let texts = g.C.Constants.text_of c.args.consts.now in
+    let tuples = g.C.Constants.items_of c.args.consts.now in
+    let same : c.in-Err.fault ≡ faults.PortFailed = cc in
+    absurd (refusal_no_port texts tuples c.args.arena.now c.args.args.now c.args.keys.now builtins.PortGet (Exactly 1) c.in-Err.fault c.in-Err.ensures.refused refl refl same)

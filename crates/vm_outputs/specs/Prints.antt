@@ -1,0 +1,51 @@
+-- What print puts on a sink, and what it answers.
+use Rattle.std.specs.Prelude.{◌≡◌, ℕ, zero, suc, List, [], Option, Bool, true, false, Result, Ok, Err}
+use Rattle.std.specs.Io.KnownBytes.{Appends}
+use Rattle.mpy_base.specs.World.{Heap}
+use Rattle.mpy_io.specs.Count.{Counts}
+use Rattle.mpy_io.specs.Told.{AppendsFront}
+use Rattle.arena_heap.specs.declared.value.Value.{Value}
+use Rattle.arena_heap.specs.declared.value.Value.TheVariants as values
+use Rattle.arena_heap.specs.declared.value.StrNo.{StrNo}
+use Rattle.arena_heap.specs.declared.value.ConstNo.{ConstNo}
+use Rattle.py_primitives.specs.Outcome.{Outcome, Raises}
+use Rattle.vm_faults.specs.declared.fault.Fault.{Fault}
+use Rattle.vm_faults.specs.Faults.{plain_fault, IsKnownFault}
+use Rattle.vm_outputs.specs.declared.prints.PrintStop.{PrintStop}
+use Rattle.vm_outputs.specs.declared.prints.PrintStop.TheVariants as stops
+
+-- what stands in front of the text at a place: nothing in front of the first
+abbrev pub in_front : List ℕ → ℕ → List ℕ
+in_front sep zero = []
+in_front sep (suc at) = sep
+
+module _ {S : Type 0} (told : S → Option (List ℕ)) (count : S → ℕ) where
+  -- the text was put, or a front of it where that failed, and the count of faults rose exactly then
+  pub record Puts (old new : S) (failed : Bool) (text : List ℕ) : Type 0 where
+    pub whole : failed ≡ false → Appends (told old) (told new) text
+    pub front : failed ≡ true → AppendsFront (told old) (told new) text
+    pub cause : Counts (count old) (count new) failed
+
+  -- the same of what has failed already, which puts nothing more
+  abbrev pub PutsOn : Bool → S → S → Bool → List ℕ → Type 0
+  PutsOn true old new failed text = (new ≡ old) × (failed ≡ true)
+  PutsOn false old new failed text = Puts old new failed text
+
+  module _ (texts : StrNo → Option (List ℕ)) (tuples : ConstNo → Option (List Value)) (heap : Heap Value ℕ) where
+    -- a print that was made
+    pub record Printed (old new : S) (failed : Bool) (outcome : Outcome (List ℕ)) : Type 0 where
+      pub text : List ℕ
+      pub is : outcome.answer ≡ Ok text
+      pub puts : Puts old new failed text
+
+    -- one that raises, and puts nothing
+    pub record Raised (old new : S) (fault : Fault) (outcome : Outcome (List ℕ)) : Type 0 where
+      pub is : outcome.answer ≡ Err (Raises (plain_fault texts tuples heap fault))
+      pub known : IsKnownFault texts tuples heap.objects fault
+      pub unchanged : new ≡ old
+
+    -- a call that answers so does what print does
+    abbrev pub IsPrint : S → S → Result Value PrintStop → Outcome (List ℕ) → Type 0
+    IsPrint old new (Ok v) outcome = (v ≡ values.None) × Printed old new false outcome
+    IsPrint old new (Err (stops.Raises fault)) outcome = Raised old new fault outcome
+    IsPrint old new (Err (stops.Out failed)) outcome = Printed old new true outcome

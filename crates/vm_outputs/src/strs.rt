@@ -1,0 +1,32 @@
+//! Arguments that are strs.
+
+ghost use Rattle.std.specs.Prelude.{◌≡◌, ◌<◌, All, IfSome, option_copied};
+ghost use Rattle.arena_heap.specs.Values.{Leads, IsStr};
+ghost use Rattle.arena_heap.specs.Constants.{IsTold};
+ghost use Rattle.arena_objects.specs.Iterables.{spelled};
+ghost use Rattle.py_values.specs.Shown.{shown};
+ghost use Rattle.py_primitives.specs.Methods.{str_in};
+ghost use Rattle.vm_walks.specs.Plain.{plain, plain_heap};
+
+use arena_heap::{Arena, Constants, Value};
+use arena_objects::text_bytes;
+
+/// The bytes of a str. Other values have none.
+pub(crate) fn str_of<'a, C: Constants>(
+    arena: &'a Arena,
+    consts: &'a C,
+    v: Value,
+) -> Option<&'a [u8]>
+    requires leads { Leads arena.now.objects v }
+    requires told { IsTold (C.text_of consts.now) (C.items_of consts.now) v }
+    ensures shown { option_copied result ≡ str_in (shown (plain_heap (C.text_of consts.now) (C.items_of consts.now) arena.now) (plain (C.text_of consts.now) (C.items_of consts.now) v)) }
+    ensures str { IfSome result (λ _. IsStr v) }
+    ensures spelled { IfSome result (λ bytes. bytes.now ≡ spelled (C.text_of consts.now) arena.now v) }
+    ensures ascii { IfSome result (λ bytes. All (λ b. b < 128) bytes.now) }
+{
+    match v {
+        Value::Str(_) | Value::Text(_) => Some(text_bytes(arena, consts, v)),
+        Value::Fixed(_) => None,
+        _ => None,
+    }
+}
