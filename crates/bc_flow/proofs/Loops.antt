@@ -178,6 +178,13 @@ pub slots_size : (n : ℕ) (gs : List Give) (taken : ℕ) (ks : List Kind) → l
 slots_size zero gs taken ks = after_size gs taken ks ∙ (let q : length gs + (length ks - taken) ≡ zero + length gs + (length ks - taken) = omega arith in q)
 slots_size (suc n) gs taken ks = let e = slots_size n gs taken ks in let q : suc (length (after (replicate n (New kinds.Value) ++ gs) taken ks)) ≡ suc n + length gs + (length ks - taken) = omega (arith, e) in q
 
+pub slot_under : (n i g : ℕ) (gs : List Give) (taken : ℕ) (ks : List Kind) (d e : Kind) → g ≡ length (replicate n (New kinds.Value) ++ gs) → length (replicate n (New kinds.Value) ++ gs) ≤ i → i < length (after (replicate n (New kinds.Value) ++ gs) taken ks) → get_or ks (taken + (i - g)) e ≡ get_or (after (replicate n (New kinds.Value) ++ gs) taken ks) i d
+slot_under n i g gs taken ks d e h le lt =
+    let many = gives_size n gs in
+    let size = slots_size n gs taken ks in
+    ap (λ j. get_or ks j e) (let q : taken + (i - g) ≡ taken + (i - n - length gs) = omega (arith, many, h) in q)
+    ∙ slot_found n i gs taken ks d e (omega (arith, many, le)) (omega (arith, many, le)) (omega (arith, size, many, le, lt))
+
 pub lowest_end : (k n : ℕ) (es : List Entry) (i : ℕ) → length es ≤ i → lowest k (drop i es) n ≡ n
 lowest_end zero n es i h = refl
 lowest_end (suc k) n [] zero h = refl

@@ -113,8 +113,8 @@ pub(crate) struct Slots<'a> {
 }
 
 impl<'a> Slots<'a> {
-    ghost use Rattle.std.specs.Prelude.{◌≡◌, ◌<◌, IfOk, length, slice_index_or};
-    ghost use Rattle.bc_flow.specs.Views.{slots_of_rust};
+    ghost use Rattle.std.specs.Prelude.{◌≡◌, ◌<◌, ◌≤◌, IfOk, length, slice_index_or};
+    ghost use Rattle.bc_flow.specs.Views.{gives_of, slots_of_rust};
     ghost use Rattle.bc_flow.specs.declared.kinds.Kind.TheVariants.{Either};
 
     #[tactic(auto, using(crate::proofs::Loops::slots_size))]
@@ -139,6 +139,15 @@ impl<'a> Slots<'a> {
         } else {
             self.found[self.taken + (i - values - others.len())]
         }
+    }
+
+    /// The slot below so many others, which was found.
+    fn found_at(self, i: usize) -> Kind
+        requires found { length (gives_of self.gives) ≤ i }
+        requires within { i < length (slots_of_rust self) }
+        ensures { result ≡ slice_index_or (slots_of_rust self.entry) i Either }
+    {
+        self.found[self.taken + (i - self.gives.len())]
     }
 
     /// A list of them.
@@ -212,6 +221,9 @@ fn join_slot(slots: &mut Vec<Kind>, i: usize, kind: Kind) -> Option<bool>
     ensures none { IfNone result (specs.join_kind (slice_index_or slots.old.items i Either) kind ≡ None) }
 {
     let old = slots[i];
+    if old == kind {
+        return Some(false);
+    }
     let new = join_kind(old, kind)?;
     if stays(old, new) {
         return Some(false);
@@ -223,7 +235,7 @@ fn join_slot(slots: &mut Vec<Kind>, i: usize, kind: Kind) -> Option<bool>
 fn either(a: bool, b: bool) -> bool
     ensures { result ≡ (a || b) }
 {
-    a || b
+    a | b
 }
 
 /// Joins the slots from one place up to another with those that arrive, if they meet, and says whether any changed.
@@ -256,6 +268,27 @@ fn same_kinds(ks: &[Kind], ls: &[Kind]) -> bool
     }
     !differ
 }
+
+/// Joins slots from one place up to another with those that arrive, all of which were found.
+fn join_each_found(slots: &mut Vec<Kind>, arriving: Slots, from: usize, to: usize) -> Option<bool>
+    requires found { length (gives_of arriving.gives) ≤ from }
+    requires from { from ≤ to }
+    requires within { to ≤ length slots.now.items }
+    requires long { length slots.now.items ≡ length (slots_of_rust arriving) }
+    ensures some { (ks : List SpecKind) (b : Bool) → Partly ks (slots_of_rust arriving.entry) (λ k. from ≤ k) slots.old.items b
+        → IfSome result (λ c. Partly ks (slots_of_rust arriving.entry) (λ k. to ≤ k) slots.new.items (b || c)) }
+    ensures none { (ks : List SpecKind) (b : Bool) → Partly ks (slots_of_rust arriving.entry) (λ k. from ≤ k) slots.old.items b
+        → IfNone result (specs.join ks (slots_of_rust arriving.entry) ≡ None) }
+    ensures len { OnSome result (length slots.new.items ≡ length slots.old.items) }
+{
+    let mut changed = false;
+    for i in from..to {
+        let closed = join_slot(slots, i, arriving.found_at(i))?;
+        changed = either(changed, closed);
+    }
+    Some(changed)
+}
+
 /// Joins slots that are found with those that arrive, where they aren't the same.
 fn join_found(slots: &mut Vec<Kind>, arriving: Slots, from: usize, to: usize) -> Option<bool>
     requires found { length (gives_of arriving.gives) ≤ from }
@@ -273,7 +306,7 @@ fn join_found(slots: &mut Vec<Kind>, arriving: Slots, from: usize, to: usize) ->
     if same_kinds(&slots[from..to], &found[from - given..to - given]) {
         return Some(false);
     }
-    join_run(slots, arriving, from, to)
+    join_each_found(slots, arriving, from, to)
 }
 
 /// Joins slots with those that arrive, if they meet, and says whether any changed.

@@ -1,0 +1,12 @@
+use Rattle.std.proofs.Common.{◌≡◌, ◌≤◌, Bool, List, length}
+use Rattle.std.specs.Prelude.{◌||◌}
+use Rattle.bc_flow.specs.declared.kinds.Kind.{Kind}
+use Rattle.bc_flow.specs.Partly.{Partly}
+use Rattle.bc_flow.specs.Views.{slots_of_rust}
+use Rattle.bc_flow.proofs.shape.join_each_found.Given as goal
+
+abbrev pub invariant-loop-i : goal.invariant-loop-i
+invariant-loop-i l = record {
+  each : (ks : List Kind) (b : Bool) → Partly ks (slots_of_rust l.arriving) (λ k. l.from ≤ k) l.initial.slots.items b → Partly ks (slots_of_rust l.arriving) (λ k. l.i ≤ k) l.slots.items (b || l.changed);
+  long : length l.slots.items ≡ length l.initial.slots.items;
+}
