@@ -220,6 +220,24 @@ lowest_more k i n m es d lt lk h = ap (λ z. lowest (k - i) z n) (drop_more es i
 abbrev pub new_values : ℕ → List Want
 new_values n = replicate n wants.Value
 
+values_of : (ks : List Kind) (i : ℕ) (k : Kind) → i < length ks → k ≡ get_or ks i k → are_values (drop i ks) ≡ (stands wants.Value k && are_values (drop (i + 1) ks))
+values_of ks i k lt e = ap are_values (drop_uncons ks i k lt e)
+
+pub values_more : (ks : List Kind) (i : ℕ) (k : Kind) (b c d : Bool) → i < length ks → k ≡ get_or ks i k → d ≡ stands wants.Value k → c ≡ (b && d) → (b && are_values (drop i ks)) ≡ (c && are_values (drop (i + 1) ks))
+values_more ks i k b c d lt e f g =
+    ap (λ z. b && z) (values_of ks i k lt e) ∙ ap (λ z. b && (z && are_values (drop (i + 1) ks))) (sym f) ∙ by_both b d (are_values (drop (i + 1) ks)) ∙ ap (λ z. z && are_values (drop (i + 1) ks)) (sym g)
+  where
+    by_both : (x y z : Bool) → (x && (y && z)) ≡ ((x && y) && z)
+    by_both true y z = refl
+    by_both false y z = refl
+
+pub values_end : (ks : List Kind) (i : ℕ) (b : Bool) → length ks ≤ i → b ≡ (b && are_values (drop i ks))
+values_end ks i b le = sym (ap (λ z. b && are_values z) (drop_all i ks le) ∙ and_true b)
+  where
+    and_true : (b : Bool) → (b && true) ≡ b
+    and_true true = refl
+    and_true false = refl
+
 pub fits_values : (n : ℕ) (ws : List Want) (ks : List Kind) → n ≤ length ks → fits (new_values n ++ ws) ks ≡ (are_values (take n ks) && fits ws (drop n ks))
 fits_values zero ws ks le = refl
 fits_values (suc n) ws [] le = absurd (omega (arith, le))

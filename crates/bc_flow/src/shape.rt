@@ -1,6 +1,6 @@
 //! Shapes, and where two meet.
 
-ghost use Rattle.std.specs.Prelude.{◌≡◌, ◌-◌, ◌<◌, ◌≤◌, ◌||◌, not, IfSome, IfNone, OnSome, None, Bool, List, ℕ, drop, length, map, slice_index_or};
+ghost use Rattle.std.specs.Prelude.{◌≡◌, ◌-◌, ◌<◌, ◌≤◌, ◌&&◌, ◌||◌, not, IfSome, IfNone, OnSome, None, Bool, List, ℕ, drop, length, map, slice_index_or};
 ghost use Rattle.bc_flow.specs.Shape as specs;
 ghost use Rattle.bc_flow.specs.Joins.{JoinsAt, Joins};
 ghost use Rattle.bc_flow.specs.Partly.{Partly};
@@ -69,10 +69,21 @@ fn fit(wants: &[Want], slots: &[Kind]) -> bool
     true
 }
 
+fn both(a: bool, b: bool) -> bool
+    ensures { result ≡ (a && b) }
+{
+    a & b
+}
+
+/// Are these all values? All are looked at, which is fast where there are many.
 fn are_values(slots: &[Kind]) -> bool
     ensures { result ≡ specs.are_values slots.now }
 {
-    slots.iter().all(|kind| stands(Want::Value, *kind))
+    let mut fine = true;
+    for kind in slots {
+        fine = both(fine, stands(Want::Value, *kind));
+    }
+    fine
 }
 
 /// Do the slots that are asked lie on top?
