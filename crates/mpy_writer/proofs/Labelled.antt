@@ -86,7 +86,7 @@ module _ (tables : Tables) where
       let one = ap weight (no_label label x) in
       omega (arith, counted (is_label label) at x xs, other_label label at (λ e. omega (arith, e, lt)), one, none label (at + 1) xs (omega (arith, lt)))
 
-  once : (label at : ℕ) (xs : List Item) → at ≤ label → label < at + length xs → label < 2 ^ 32 → count_by (is_label label) (labelled_from tables at xs) ≡ 1
+  pub once : (label at : ℕ) (xs : List Item) → at ≤ label → label < at + length xs → label < 2 ^ 32 → count_by (is_label label) (labelled_from tables at xs) ≡ 1
   once label at [] le lt small = absurd (omega (arith, le, lt))
   once label at (x ∷ xs) le lt small =
       let one = ap weight (no_label label x) in
@@ -117,7 +117,7 @@ module _ (tables : Tables) where
     by_test true e = absurd cc
     by_test false e = let next : 1 + prefix_len (λ z. not (p z)) ys ≡ suc (prefix_len (λ z. not (p z)) ys) = omega arith in ap (λ (n : ℕ). take n (y ∷ ys)) next
 
-  opened : (at : ℕ) (x : Item) (xs : List Item) → at < 2 ^ 32 → labelled_from tables at (x ∷ xs) ≡ At at ∷ (item_of tables x ∷ labelled_from tables (at + 1) xs)
+  pub opened : (at : ℕ) (x : Item) (xs : List Item) → at < 2 ^ 32 → labelled_from tables at (x ∷ xs) ≡ At at ∷ (item_of tables x ∷ labelled_from tables (at + 1) xs)
   opened at x xs lt = ap (λ (ys : List Labelled). ys ++ (item_of tables x ∷ labelled_from tables (at + 1) xs)) (label_there at lt)
 
   in_front : (label at : ℕ) (xs : List Item) → at ≤ label → label < at + length xs → label < 2 ^ 32 → count_by is_instr (before_first (is_label label) (labelled_from tables at xs)) ≡ label - at
@@ -175,12 +175,12 @@ module _ (tables : Tables) where
   listed_is xs len sound = listed_from (labelled_from tables 0 xs) (length xs) len (target xs len) 0 xs sound
 
   -- the items may be laid out
-  no_offset : (instr : Instr) → IsPlain instr → HasNoOffset instr
+  pub no_offset : (instr : Instr) → IsPlain instr → HasNoOffset instr
   no_offset (instrs.Jump op offset wide) h = absurd h
   no_offset (instrs.Unwind offset wide byte) h = absurd h
   no_offset instr h = tt
 
-  object_form : form_of (code_of LoadConstObj) ≡ forms.Number LoadConstObj
+  pub object_form : form_of (code_of LoadConstObj) ≡ forms.Number LoadConstObj
   unfolding form_of number_form
   object_form = refl
 

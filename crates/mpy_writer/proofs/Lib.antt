@@ -8,9 +8,11 @@ pub mod Objects
 pub mod Own
 pub mod Raws
 pub mod Samples
+pub mod ShortOffsets
 pub mod Spelled
 pub mod Steps
 pub mod Texts
 pub mod Trees
 pub mod Uses
+pub mod Walked
 pub mod Whole

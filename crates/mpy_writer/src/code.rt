@@ -1,8 +1,10 @@
 //! Codes as they are written.
 
-ghost use Rattle.std.specs.Prelude.{◌≡◌, ◌++◌, ◌<◌, ◌≤◌, ℕ, List, length, map, All, IfOk, OnOk};
+ghost use Rattle.std.specs.Prelude.{◌≡◌, ◌+◌, ◌++◌, ◌<◌, ◌≤◌, ℕ, List, length, drop, map, All, IfOk, OnOk};
 ghost use Rattle.std.specs.List.{AllZip, zip};
+ghost use Rattle.bc_ops.specs.declared.instr.Instr.{Instr};
 ghost use Rattle.bc_ops.specs.declared.listing.Item.{Item};
+ghost use Rattle.bc_ops.specs.Code.{Spells};
 ghost use Rattle.bc_ops.specs.Listing.{Lists};
 ghost use Rattle.bc_labels.specs.Choice.{IsLayout, IsTooFar};
 ghost use Rattle.bc_prelude.specs.Names.{spelling};
@@ -15,9 +17,10 @@ ghost use Rattle.mpy_writer.specs.Writable.{IsSoundCode};
 
 use crate::fault::WriteFault;
 use crate::labels::labelled;
+use crate::short::short_layout;
 use crate::tables::Tables;
 use bc_labels::{LayoutFault, layout};
-use bc_ops::items_of;
+use bc_ops::decode_at;
 use bc_prelude::{Signature, write_lines, write_signature, write_size};
 use mpy_base::limits::MAX_CODE_BYTES;
 use mpy_base::{NoMemory, Refused, write_vuint};
@@ -31,6 +34,9 @@ fn instructions(alloc: Global, tables: &Tables, code: &Code) -> Result<Vec<u8>, 
     ensures ok { IfOk result (λ bytes. IsLayout (specs.labelled tables.now code.now) bytes.items) }
     ensures fault { IfFault result (λ fault. (fault ≡ WriteFault.TooFar) × IsTooFar (specs.labelled tables.now code.now)) }
 {
+    if let Some(bytes) = short_layout(alloc, tables, code.instrs.as_slice())? {
+        return Ok(bytes);
+    }
     let items = labelled(alloc, tables, code)?;
     match layout(alloc, &items) {
         Ok(bytes) => Ok(bytes),
@@ -58,6 +64,19 @@ pub(crate) fn layouts(
     Ok(all)
 }
 
+/// Where the instruction ends that starts there.
+fn end_of(instructions: &[u8], at: usize) -> usize
+    requires starts { (text rest : List ℕ) × (instr : Instr) × Spells text instr × (drop at instructions.now ≡ text ++ rest) }
+    requires within { at ≤ length instructions.now }
+    ensures { (text rest : List ℕ) (instr : Instr) → Spells text instr → drop at instructions.now ≡ text ++ rest
+        → result ≡ at + length text }
+{
+    let Ok((_, end)) = decode_at(instructions, at) else {
+        unreachable!();
+    };
+    end
+}
+
 /// The offsets at which the line isn't that of the instruction before, each with its line.
 fn line_changes(
     alloc: Global,
@@ -69,15 +88,15 @@ fn line_changes(
     ensures { (items : List Item) (offsets : List ℕ) → Lists instructions.now items offsets
         → IfOk result (λ pairs. pairs.items ≡ changes 1 (zip offsets lines.now)) }
 {
-    let listed = items_of(alloc, instructions)?;
-    let offsets = listed.offsets.as_slice();
     let mut pairs = Vec::new(alloc);
     let mut last = 1;
-    for (i, line) in lines.iter().enumerate() {
+    let mut at = 0;
+    for line in lines {
         if *line != last {
-            pairs.push((offsets[i] as u32, *line))?;
+            pairs.push((at as u32, *line))?;
             last = *line;
         }
+        at = end_of(instructions, at);
     }
     Ok(pairs)
 }

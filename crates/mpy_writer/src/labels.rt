@@ -16,7 +16,11 @@ use mpy_tree::{Code, Constant, Item};
 use std::alloc::Global;
 
 /// The number of the object, and 0 of one that has none.
-fn object_number(alloc: Global, tables: &Tables, object: &Constant) -> Result<u32, NoMemory>
+pub(crate) fn object_number(
+    alloc: Global,
+    tables: &Tables,
+    object: &Constant,
+) -> Result<u32, NoMemory>
     requires { IsFine MAX_DEPTH object.now }
     ensures { IfOk result (λ n. n ≡ numbers.object_number tables.now object.now) }
 {

@@ -7,6 +7,7 @@ mod fault;
 mod file;
 mod labels;
 mod object;
+mod short;
 mod tables;
 
 pub use fault::WriteFault;
