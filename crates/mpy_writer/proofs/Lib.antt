@@ -8,6 +8,7 @@ pub mod Objects
 pub mod Own
 pub mod Raws
 pub mod Samples
+pub mod ShortJumps
 pub mod ShortOffsets
 pub mod Spelled
 pub mod Steps

@@ -3,7 +3,7 @@ use Rattle.std.proofs.Common.{◌≡◌, ℕ, zero, suc, ◌+◌, ◌<◌, ◌�
 use Rattle.std.specs.List.{flat_map, AllByRecursion}
 use Rattle.std.proofs.lemmas.List.{append-nil, length-map, get_or-map}
 use Rattle.std.proofs.lemmas.List.Concat.{flat_map-append}
-use Rattle.std.proofs.lemmas.List.Elements.{recursion_from_All}
+use Rattle.std.proofs.lemmas.List.Elements.{recursion_from_All, All-from_recursion}
 use Rattle.bc_ops.specs.declared.instr.Instr.{Instr}
 use Rattle.bc_ops.specs.declared.instr.Instr.TheVariants as instrs
 use Rattle.bc_ops.specs.Offset.{Fits}
@@ -26,6 +26,7 @@ use Rattle.mpy_writer.specs.ShortOffsets.{position_of, IsPlaced, short_place, sh
 use Rattle.mpy_writer.specs.Tables.{TablesFit, object_number, spelled}
 use Rattle.mpy_writer.specs.Writable.{IsSoundItem}
 use Rattle.mpy_writer.proofs.Labelled.{once, opened, no_offset, object_form}
+use Rattle.mpy_writer.proofs.Lists.{all_mapped}
 use Rattle.mpy_writer.proofs.Numbers.{number_small}
 
 -- an item stands behind the label of its position
@@ -220,6 +221,11 @@ placed_at tables fit ys sound p lt =
       at p [] lt h = absurd (omega (arith, lt))
       at zero (z ∷ zs) lt h = placed_item tables fit (length ys) z h.0
       at (suc p) (z ∷ zs) lt h = at p zs (omega (arith, lt)) h.1
+
+pub placed_all : (tables : Tables) → TablesFit tables → (ys : List Item) → All (IsSoundItem (length ys)) ys → All (IsPlaced (length (map (item_of tables) ys))) (map (item_of tables) ys)
+placed_all tables fit ys sound =
+    let all = all_mapped (IsSoundItem (length ys)) (IsPlaced (length ys)) (item_of tables) (placed_item tables fit (length ys)) ys (recursion_from_All (IsSoundItem (length ys)) ys sound) in
+    subst (λ (n : ℕ). All (IsPlaced n) (map (item_of tables) ys)) (sym (length-map ys (item_of tables))) (All-from_recursion (IsPlaced (length ys)) (map (item_of tables) ys) all)
 
 -- the bytes of one item more, of no jump
 pub straight_more : (xs : List Labelled) (i : ℕ) (it : Labelled) (out new : List ℕ) → item_at xs i ≡ it → is_jump it ≡ false → out ≡ flat_map spelling (short_instrs xs i) → new ≡ out ++ flat_map spelling (instr_of it (pos 0) false)

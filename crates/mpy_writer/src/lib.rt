@@ -5,6 +5,7 @@ mod code;
 mod codes;
 mod fault;
 mod file;
+mod jumps;
 mod labels;
 mod object;
 mod short;

@@ -9,7 +9,8 @@ ghost use Rattle.mpy_writer.specs.ShortOffsets.{IsShort};
 ghost use Rattle.mpy_writer.specs.Tables.{TablesFit};
 ghost use Rattle.mpy_writer.specs.Writable.{IsSoundItem};
 
-use crate::labels::object_number;
+use crate::jumps::{short_places, write_short};
+use crate::labels::{numbered_items, object_number};
 use crate::tables::Tables;
 use bc_ops::{Instr, Op, encode};
 use mpy_base::NoMemory;
@@ -58,6 +59,31 @@ fn straight(alloc: Global, tables: &Tables, items: &[Item]) -> Result<Option<Vec
 }
 
 /// The bytes of instructions whose offsets all fit one byte, and nothing where one doesn't.
+fn with_jumps(alloc: Global, tables: &Tables, items: &[Item]) -> Result<Option<Vec<u8>>, NoMemory>
+    requires fit { TablesFit tables.now }
+    requires sound { All (IsSoundItem (length items.now)) items.now }
+    ensures { IfOk result (λ found. IfSome found (λ bytes. IsShort (map (item_of tables.now) items.now) bytes.items)) }
+{
+    let numbered = numbered_items(alloc, tables, items)?;
+    let all = numbered.as_slice();
+    let places = short_places(alloc, all)?;
+    write_short(alloc, all, places.as_slice())
+}
+
+/// Those of either.
+fn short_bytes(alloc: Global, tables: &Tables, items: &[Item]) -> Result<Option<Vec<u8>>, NoMemory>
+    requires fit { TablesFit tables.now }
+    requires sound { All (IsSoundItem (length items.now)) items.now }
+    ensures { IfOk result (λ found. IfSome found (λ bytes. IsShort (map (item_of tables.now) items.now) bytes.items)) }
+{
+    let found = straight(alloc, tables, items)?;
+    if found.is_some() {
+        return Ok(found);
+    }
+    with_jumps(alloc, tables, items)
+}
+
+/// The layout of instructions whose offsets all fit one byte, and nothing where one doesn't.
 pub(crate) fn short_layout(
     alloc: Global,
     tables: &Tables,
@@ -70,5 +96,5 @@ pub(crate) fn short_layout(
     if items.len() > u32::MAX as usize {
         return Ok(None);
     }
-    straight(alloc, tables, items)
+    short_bytes(alloc, tables, items)
 }

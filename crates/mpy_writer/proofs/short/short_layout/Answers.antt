@@ -13,6 +13,6 @@ returns c =
     let tables = c.args.tables.now in
     let items = c.args.items.now in
     let few = c.if-items.false in
-    IfOk-weaker c.straight.result (λ found. IfSome found (λ bytes. IsShort (map (item_of tables) items) bytes.items)) (λ found. IfSome found (λ bytes. IsLayout (labelled_from tables 0 items) bytes.items))
+    IfOk-weaker c.short_bytes.result (λ found. IfSome found (λ bytes. IsShort (map (item_of tables) items) bytes.items)) (λ found. IfSome found (λ bytes. IsLayout (labelled_from tables 0 items) bytes.items))
     (λ found some. IfSome_then found some (λ bytes. is_layout tables items bytes.items (omega (arith, few)) (placed_at tables c.requires.fit items c.requires.sound)))
-    c.straight.ensures
+    c.short_bytes.ensures
