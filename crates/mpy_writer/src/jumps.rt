@@ -1,6 +1,6 @@
 //! Instructions with jumps, whose offsets take one byte each.
 
-ghost use Rattle.std.specs.Prelude.{◌≡◌, ◌↔◌, ◌+◌, ◌*◌, ◌<◌, ◌≤◌, ◌++◌, [], length, slice_index, map, flat_map, All, false, true, pos, ◌+ℤ◌, ◌-ℤ◌, ◌≤ℤ◌, ◌<ℤ◌, IsTrue, IfOk, IfSome, OnOk};
+ghost use Rattle.std.specs.Prelude.{◌≡◌, ◌↔◌, ◌+◌, ◌*◌, ◌<◌, ◌≤◌, ◌++◌, [], length, slice_index, flat_map, All, false, true, pos, ◌+ℤ◌, ◌-ℤ◌, ◌≤ℤ◌, ◌<ℤ◌, IsTrue, IfOk, IfSome, OnOk};
 ghost use Rattle.bc_ops.specs.Code.{spelling, IsEncodable};
 ghost use Rattle.bc_ops.specs.Offset as offsets;
 ghost use Rattle.bc_labels.specs.Labels as labels;
