@@ -60,7 +60,7 @@ fn write(
     ensures found { IfOk result (λ bytes. IsLayout items.now bytes.items) }
     ensures too_far { IsErrOf result (Refused.Fault LayoutFault.TooFar) → IsTooFar items.now }
 {
-    let mut out = Vec::new(alloc);
+    let mut out = Vec::with_capacity(alloc, items.len())?;
     for (i, item) in items.iter().enumerate() {
         let wide = widths[i];
         let offset = offset(targets, places, i, wide);
@@ -85,7 +85,7 @@ pub fn layout(alloc: Global, items: &[Labelled]) -> Result<Vec<u8>, Refused<Layo
 {
     let sizes = short_sizes(alloc, items)?;
     let targets = targets(alloc, items)?;
-    let mut places = Vec::new(alloc);
+    let mut places = Vec::with_capacity(alloc, items.len())?;
     let mut widths = vec![in alloc; false; items.len()]?;
     settle(items, &sizes, &targets, &mut places, &mut widths)?;
     write(alloc, items, &targets, &places, &widths)

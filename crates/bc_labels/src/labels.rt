@@ -43,7 +43,7 @@ pub(crate) fn targets(alloc: Global, items: &[Labelled]) -> Result<Vec<usize>, N
     ensures { IfOk result (λ targets. targets.items ≡ map (target_of items.now) items.now) }
 {
     let found = label_items(alloc, items)?;
-    let mut targets = Vec::new(alloc);
+    let mut targets = Vec::with_capacity(alloc, items.len())?;
     for item in items {
         targets.push(target(items, &found, *item))?;
     }

@@ -16,7 +16,7 @@ pub(crate) fn short_sizes(alloc: Global, items: &[Labelled]) -> Result<Vec<usize
     ensures { IfOk result (λ sizes. sizes.items ≡ map (λ item. size_of item false) items.now) }
 {
     let mut text = Vec::new(alloc);
-    let mut sizes = Vec::new(alloc);
+    let mut sizes = Vec::with_capacity(alloc, items.len())?;
     for item in items {
         let size = match item {
             Labelled::At(_) => 0,
