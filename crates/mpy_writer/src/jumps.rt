@@ -21,6 +21,7 @@ fn short_size(text: &mut Vec<u8>, item: Labelled, count: usize) -> Result<usize,
 {
     Ok(match item {
         Labelled::At(_) => 0,
+        Labelled::Plain(Instr::Plain(_)) => 1,
         Labelled::Plain(instr) => {
             text.clear();
             encode(text, &instr)?;
