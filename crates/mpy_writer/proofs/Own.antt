@@ -1,12 +1,12 @@
 -- How a code's own bytes are made.
-use Rattle.std.proofs.Common.{◌≡◌, ℕ, zero, suc, ◌+◌, ◌<◌, ◌≤◌, Bool, true, false, cond, eqb, List, [], ◌∷◌, ◌++◌, length, drop, get_or, map, refl, sym, ap, ap₂, subst, ◌∙◌, append_assoc, arith}
-use Rattle.std.specs.List.{zip, AllByRecursion}
+use Rattle.std.proofs.Common.{◌≡◌, ℕ, suc, ◌+◌, ◌<◌, ◌≤◌, Bool, true, false, cond, eqb, List, [], ◌∷◌, ◌++◌, length, drop, get_or, map, refl, sym, ap, ap₂, ◌∙◌, append_assoc, arith}
+use Rattle.std.specs.List.{zip}
 use Rattle.std.proofs.lemmas.List.{append-nil, length-append, drop_more, drop_all}
 use Rattle.std.proofs.lemmas.Bool.{eq-eqb, ne_eqb}
 use Rattle.bc_ops.specs.declared.instr.Instr.{Instr}
 use Rattle.bc_ops.specs.declared.listing.Item.{Item}
 use Rattle.bc_ops.specs.Code.{spelling}
-use Rattle.bc_ops.specs.Listing.{Piece, joined, starts, Lists}
+use Rattle.bc_ops.specs.Listing.{Lists}
 use Rattle.bc_ops.proofs.Lists.{one_listing}
 use Rattle.bc_labels.specs.Choice.{IsLayout, instrs_of}
 use Rattle.bc_prelude.specs.declared.signature.Signature.{Signature}
@@ -75,26 +75,8 @@ assembled zero_own signed sized informed own info sig names lines bytes n a b c 
     ∙ (append_assoc sig (sizes.spelling (length names + length lines)) ((names ++ lines) ++ bytes)
     ∙ ap (λ (z : List ℕ). sig ++ (sizes.spelling (length names + length lines) ++ z)) (append_assoc names lines bytes)))
 
--- offsets lie within the bytes
-starts_within : (at bound : ℕ) (ps : List Piece) → at + length (joined ps) ≤ bound → AllByRecursion (λ o. o ≤ bound) (starts at ps)
-starts_within at bound [] le = tt
-starts_within at bound (p ∷ ps) le = (omega (arith, le), starts_within (at + length p.text) bound ps (omega (arith, le, length-append p.text (joined ps))))
-
-at_within : (bound : ℕ) (os : List ℕ) (i : ℕ) → AllByRecursion (λ o. o ≤ bound) os → get_or os i 0 ≤ bound
-at_within bound [] i all = omega arith
-at_within bound (o ∷ os) zero all = all.0
-at_within bound (o ∷ os) (suc i) all = at_within bound os i all.1
-
-pub offset_within : (bytes : List ℕ) (items : List Item) (os : List ℕ) (i : ℕ) → Lists bytes items os → get_or os i 0 ≤ length bytes
-offset_within bytes items os i l =
-    let size = ap length l.is_list.bytes_are in
-    at_within (length bytes) os i (subst (AllByRecursion (λ o. o ≤ length bytes)) (sym l.offsets_are) (starts_within 0 (length bytes) l.is_list.pieces (omega (arith, size))))
-
 pub as_many : (bytes : List ℕ) (items : List Item) (os : List ℕ) (count : ℕ) → Lists bytes items os → HasLines bytes count → length os ≡ count
 as_many bytes items os count l h = ap length (one_listing bytes items h.0 os h.1 l h.2).1 ∙ h.3
-
-pub same_offsets : (bytes : List ℕ) (items others : List Item) (os ps : List ℕ) → Lists bytes items os → Lists bytes others ps → os ≡ ps
-same_offsets bytes items others os ps a b = (one_listing bytes items others os ps a b).1
 
 -- the changes of lines, one instruction after the other
 zip_more : (os ls : List ℕ) (i : ℕ) → i < length os → i < length ls → zip (drop i os) (drop i ls) ≡ (get_or os i 0, get_or ls i 0) ∷ zip (drop (i + 1) os) (drop (i + 1) ls)
