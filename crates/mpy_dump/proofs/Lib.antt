@@ -1,11 +1,14 @@
 pub mod Bodies
 pub mod Cursors
 mod Examples
+pub mod Heads
 pub mod Once
 pub mod Paths
+pub mod Pens
 pub mod Pieces
 pub mod Putting
 pub mod Samples
+pub mod Ends
 pub mod Trees
 pub mod Tuples
 pub mod Plain

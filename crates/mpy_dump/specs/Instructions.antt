@@ -45,6 +45,13 @@ operand_text m end (Binary op) = codes " " ++ binary_sign op
 abbrev pub instr_head : ℕ → ℕ → Instr → List ℕ
 instr_head start line instr = decimal start ++ (codes " " ++ (decimal line ++ (codes " " ++ instr_name instr)))
 
+-- the same with the blank behind the line, and what follows it up to the line's end
+abbrev pub head_text : ℕ → ℕ → List ℕ
+head_text start line = decimal start ++ (codes " " ++ (decimal line ++ codes " "))
+
+abbrev pub instr_tail : Module → ℕ → Instr → List ℕ
+instr_tail m end instr = instr_name instr ++ (operand_text m end instr ++ codes "\n")
+
 abbrev pub instr_line : Module → ℕ → ℕ → ℕ → Instr → List ℕ
 instr_line m start line end instr = instr_head start line instr ++ (operand_text m end instr ++ codes "\n")
 

@@ -5,5 +5,8 @@ pub mod Listing
 pub mod Numbered
 pub mod Objects
 pub mod Operations
+pub mod Pen
 pub mod Puts
+pub mod Reads
+pub mod Short
 pub mod Texts

@@ -6,11 +6,14 @@ ghost use Rattle.mpy_tree.specs.File.{IsOwnCode, IsCode};
 ghost use Rattle.mpy_dump.specs.Codes as specs;
 ghost use Rattle.mpy_dump.specs.Codes.{placed, places, IsCodeText, AreCodesText};
 ghost use Rattle.mpy_dump.specs.Puts.{Puts};
+ghost use Rattle.mpy_dump.specs.Short.{AreTails};
 
 use crate::instructions::put_instrs;
 use crate::names::put_name_at;
 use crate::path::{Path, put_path};
+use crate::pen::Pen;
 use crate::put::{digits, put, put_all};
+use crate::tails::{Tails, tails_of};
 use bc_prelude::{Prelude, read_prelude};
 use itoa::Buffer;
 use mpy_base::limits::MAX_CODE_BYTES;
@@ -98,10 +101,13 @@ fn put_line<S: Sink>(
 /// Puts the lines of a code without those in it.
 fn put_code<S: Sink>(
     out: &mut S,
+    pen: &mut Pen,
     module: &RawModule,
+    tails: &Tails,
     path: &Path<'_>,
     bytes: &[u8],
 ) -> Result<(), Failed>
+    requires tails { AreTails module.now tails.now }
     requires own { (texts : ℕ) × IsOwnCode texts bytes.now }
     requires short { length bytes.now ≤ MAX_CODE_BYTES }
     ensures { (text : List ℕ) × IsCodeText module.now text (placed (places path.now) bytes.now)
@@ -109,10 +115,31 @@ fn put_code<S: Sink>(
 {
     let parts = parts_of(bytes);
     put_line(out, module, path, &parts, bytes.len())?;
-    put_instrs(out, module, parts.table, parts.instructions)
+    put_instrs(out, pen, module, tails, parts.table, parts.instructions)
 }
 
 /// Puts the lines of a code, and of those in it.
+fn put_nest<'a, S: Sink>(
+    out: &mut S,
+    pen: &mut Pen,
+    module: &'a RawModule,
+    tails: &Tails,
+    path: &'a Path<'a>,
+    code: &'a RawCode,
+) -> Result<(), Failed>
+    requires tails { AreTails module.now tails.now }
+    requires nests { (levels : ℕ) × (texts : ℕ) × (text : List ℕ) × IsCode levels texts text code.now }
+    ensures { (text : List ℕ) × AreCodesText module.now (places path.now) code.now text
+        × Puts S.told S.count out.old out.new text result }
+{
+    put_code(out, pen, module, tails, path, code.bytes.bytes())?;
+    for (place, child) in code.children.as_slice().iter().enumerate() {
+        put_nest(out, pen, module, tails, &Path::Child(path, place), child)?;
+    }
+    Ok(())
+}
+
+/// The same, by a pen and tails that are made for it.
 pub(crate) fn put_codes<'a, S: Sink>(
     out: &mut S,
     module: &'a RawModule,
@@ -123,9 +150,7 @@ pub(crate) fn put_codes<'a, S: Sink>(
     ensures { (text : List ℕ) × AreCodesText module.now (places path.now) code.now text
         × Puts S.told S.count out.old out.new text result }
 {
-    put_code(out, module, path, code.bytes.bytes())?;
-    for (place, child) in code.children.as_slice().iter().enumerate() {
-        put_codes(out, module, &Path::Child(path, place), child)?;
-    }
-    Ok(())
+    let mut pen = Pen::new();
+    let tails = tails_of(&mut pen, module);
+    put_nest(out, &mut pen, module, &tails, path, code)
 }

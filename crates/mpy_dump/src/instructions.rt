@@ -1,15 +1,22 @@
 //! The lines of a code's instructions.
 
-ghost use Rattle.std.specs.Prelude.{◌≡◌, ◌++◌, ◌≤◌, ◌+◌, List, All, length, codes, decimal};
+ghost use Rattle.std.specs.Prelude.{◌≡◌, ◌++◌, ◌≤◌, ◌+◌, ℕ, List, OnOk, All, length, codes, decimal};
 ghost use Rattle.std.specs.Fmt.{signed_decimal};
 ghost use Rattle.bc_ops.specs.Listing.{Piece, IsPiece, joined};
+ghost use Rattle.bc_ops.specs.declared.instr.Instr.{Instr};
 ghost use Rattle.mpy_dump.specs.Instructions as specs;
+ghost use Rattle.mpy_dump.specs.Pen.{Gathers};
+ghost use Rattle.mpy_dump.specs.Reads.{Stands, IsRead};
+ghost use Rattle.mpy_dump.specs.Short.{IsHead, AreTails};
 ghost use Rattle.mpy_dump.specs.Puts.{Puts};
 
 use crate::cursor::{advance, start};
+use crate::head::{Head, count_up, head_of, set_line};
 use crate::names::put_name_at;
 use crate::operations::{binary_name, binary_sign, operation_name, unary_sign};
+use crate::pen::{Pen, hand_over, make_room};
 use crate::put::{digits, put, put_all, put_number};
+use crate::tails::Tails;
 use bc_ops::{Instr, decode_at};
 use itoa::Buffer;
 use mpy_base::limits::MAX_CODE_BYTES;
@@ -27,16 +34,6 @@ fn instr_name(instr: Instr) -> &'static [u8]
         Instr::Unary(_) => b"UNARY_OP",
         Instr::Binary(op) => binary_name(op),
     }
-}
-
-/// Puts the offset, the line and the name of an instruction.
-fn put_head<S: Sink>(out: &mut S, start: usize, line: u32, instr: Instr) -> Result<(), Failed>
-    ensures { Puts S.told S.count out.old out.new (specs.instr_head start line instr) result }
-{
-    let (mut first, mut second) = (Buffer::new(), Buffer::new());
-    let start = digits(&mut first, start);
-    let line = digits(&mut second, line);
-    put_all(out, &[start, b" ", line, b" ", instr_name(instr)])
 }
 
 fn put_spaced_name<S: Sink>(out: &mut S, module: &RawModule, n: u32) -> Result<(), Failed>
@@ -87,55 +84,124 @@ fn put_operand<S: Sink>(
     }
 }
 
-/// Where an instruction stands: the offsets that it starts and ends at, and its line.
-#[derive(Clone, Copy)]
-struct Span {
-    start: usize,
-    end: usize,
-    line: u32,
-}
-
-fn put_instr<S: Sink>(
+/// Puts the name and the operand of an instruction that ends at the offset, and ends its line.
+pub(crate) fn put_tail<S: Sink>(
     out: &mut S,
     module: &RawModule,
-    span: Span,
+    end: usize,
     instr: Instr,
 ) -> Result<(), Failed>
-    requires { span.end ≤ MAX_CODE_BYTES }
-    ensures { Puts S.told S.count out.old out.new
-        (specs.instr_line module.now span.start span.line span.end instr) result }
+    requires { end ≤ MAX_CODE_BYTES }
+    ensures { Puts S.told S.count out.old out.new (specs.instr_tail module.now end instr) result }
 {
-    put_head(out, span.start, span.line, instr)?;
-    put_operand(out, module, span.end, instr)?;
+    put(out, instr_name(instr))?;
+    put_operand(out, module, end, instr)?;
     put(out, b"\n")
 }
 
-/// Puts a line for each instruction of a code.
+/// Gathers the same, or puts it behind what is gathered.
+fn gather_tail<S: Sink>(
+    out: &mut S,
+    pen: &mut Pen,
+    module: &RawModule,
+    end: usize,
+    instr: Instr,
+) -> Result<(), Failed>
+    requires { end ≤ MAX_CODE_BYTES }
+    ensures { Gathers S.told S.count out.old out.new pen.old.text (specs.instr_tail module.now end instr)
+        pen.new.text result }
+{
+    let mark = pen.len();
+    if put_tail(pen, module, end, instr).is_ok() {
+        return Ok(());
+    }
+    pen.cut(mark);
+    hand_over(out, pen)?;
+    put_tail(out, module, end, instr)
+}
+
+/// Gathers the end of the line of the instruction at `at`, which is moved behind it.
+#[inline(always)]
+fn gather_end<S: Sink>(
+    out: &mut S,
+    pen: &mut Pen,
+    module: &RawModule,
+    tails: &Tails,
+    code: &[u8],
+    at: &mut usize,
+) -> Result<(), Failed>
+    requires tails { AreTails module.now tails.now }
+    requires decodes { Stands code.now at.old }
+    requires room { length pen.old.text + 32 ≤ 4096 }
+    requires short { length code.now ≤ MAX_CODE_BYTES }
+    ensures { (end : ℕ) × (instr : Instr) × IsRead code.now at.old end instr × OnOk result (at.new ≡ end)
+        × Gathers S.told S.count out.old out.new pen.old.text (specs.instr_tail module.now end instr)
+        pen.new.text result }
+{
+    let tail = &tails[usize::from(code[*at])];
+    if tail.len > 0 {
+        pen.add(tail);
+        *at += 1;
+        return Ok(());
+    }
+    let Ok((instr, end)) = decode_at(code, *at) else {
+        unreachable!();
+    };
+    *at = end;
+    gather_tail(out, pen, module, end, instr)
+}
+
+/// Gathers the line of the instruction at `at`, which is moved behind it.
+#[tactic(none)]
+#[inline(always)]
+fn gather_line<S: Sink>(
+    out: &mut S,
+    pen: &mut Pen,
+    module: &RawModule,
+    tails: &Tails,
+    head: &Head,
+    code: &[u8],
+    at: &mut usize,
+) -> Result<(), Failed>
+    requires tails { AreTails module.now tails.now }
+    requires head { IsHead at.old head.now }
+    requires decodes { Stands code.now at.old }
+    requires short { length code.now ≤ MAX_CODE_BYTES }
+    ensures { (end : ℕ) × (instr : Instr) × IsRead code.now at.old end instr × OnOk result (at.new ≡ end)
+        × Gathers S.told S.count out.old out.new pen.old.text
+        (specs.instr_line module.now at.old head.now.line end instr) pen.new.text result }
+{
+    make_room(out, pen)?;
+    pen.add(&head.text);
+    gather_end(out, pen, module, tails, code, at)
+}
+
+/// Puts a line for each instruction of a code. The pen is used for that, and left empty.
+#[tactic(none)]
 pub(crate) fn put_instrs<S: Sink>(
     out: &mut S,
+    pen: &mut Pen,
     module: &RawModule,
+    tails: &Tails,
     table: &[u8],
     code: &[u8],
 ) -> Result<(), Failed>
+    requires tails { AreTails module.now tails.now }
     requires decodes { (pieces : List Piece) × All IsPiece pieces × (code.now ≡ joined pieces) }
     requires short { length table.now + length code.now ≤ MAX_CODE_BYTES }
     ensures { (pieces : List Piece) × All IsPiece pieces × (code.now ≡ joined pieces)
         × Puts S.told S.count out.old out.new (specs.instr_lines module.now table.now 0 pieces) result }
 {
+    pen.cut(0);
     let mut place = start(table);
+    let mut head = head_of(0, place.line);
     let mut at = 0;
     while at < code.len() {
-        let Ok((instr, end)) = decode_at(code, at) else {
-            unreachable!();
-        };
         place = advance(table, place, at as u32);
-        let span = Span {
-            start: at,
-            end,
-            line: place.line,
-        };
-        put_instr(out, module, span, instr)?;
-        at = end;
+        set_line(&mut head, at as u32, place.line);
+        let from = at;
+        gather_line(out, pen, module, tails, &head, code, &mut at)?;
+        count_up(&mut head, from as u32, (at - from) as u32);
     }
-    Ok(())
+    hand_over(out, pen)
 }

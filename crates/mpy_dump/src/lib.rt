@@ -3,12 +3,16 @@
 
 mod codes;
 mod cursor;
+mod head;
 mod instructions;
 mod names;
 mod objects;
 mod operations;
 mod path;
+mod pen;
 mod put;
+mod short;
+mod tails;
 mod texts;
 mod whole;
 

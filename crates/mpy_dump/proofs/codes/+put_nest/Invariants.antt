@@ -1,6 +1,6 @@
 use Rattle.mpy_dump.specs.Codes.{places}
 use Rattle.mpy_dump.proofs.Trees.{Reached}
-use Rattle.mpy_dump.proofs.codes.+put_codes.Given as goal
+use Rattle.mpy_dump.proofs.codes.+put_nest.Given as goal
 
 abbrev pub invariant-loop-place : goal.invariant-loop-place
 invariant-loop-place g l = Reached g.S.Sink.told g.S.Sink.count l.fn.out l.out l.module (places l.path) l.code l.place
