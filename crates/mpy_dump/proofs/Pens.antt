@@ -1,7 +1,7 @@
 -- Bytes that are gathered.
-use Rattle.std.proofs.Common.{◌≡◌, ℕ, ◌+◌, ◌<◌, ◌≤◌, List, [], ◌∷◌, ◌++◌, length, take, drop, Option, Some, Result, Ok, Err, OnOk, OnErr, IsErr, is_ok, true, false, refl, sym, ap, subst, ◌∙◌, append_assoc, arith, length-take-le, take-add, take-take, take_at, drop_at, take_all, length-drop}
+use Rattle.std.proofs.Common.{◌≡◌, ℕ, ◌+◌, ◌≤◌, List, [], ◌++◌, length, take, drop, Option, Some, Result, Ok, Err, OnOk, OnErr, IsErr, is_ok, true, false, refl, sym, ap, subst, ◌∙◌, append_assoc, arith, length-take-le, take-add, take-take, take_at, drop_at, take_all, length-drop}
 use Rattle.std.proofs.lemmas.List.{append-nil}
-use Rattle.std.proofs.lemmas.Simd.{put_chunk_whole, length-chunk}
+use Rattle.std.proofs.lemmas.Simd.{put_chunk_whole}
 use Rattle.std.proofs.lemmas.Slice.{take-put_mid}
 use borrow.Rule.Slice.PartMut.{put_mid, mid_of}
 use lib.Lanes.{chunk, put_chunk}

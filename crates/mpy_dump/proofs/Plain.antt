@@ -1,7 +1,7 @@
 -- Names that are written as they are.
 use Rattle.std.proofs.Common.{◌≡◌, ℕ, ◌==◌, Bool, true, false, ◌||◌, List, [], ◌∷◌, ◌++◌, refl, ap, if◌then◌else◌}
-use Rattle.std.specs.List.{flat_map, list_any}
-use Rattle.mpy_dump.specs.Texts.{is_control, hex, name_byte, name_text}
+use Rattle.std.specs.List.{list_any}
+use Rattle.mpy_dump.specs.Texts.{is_control, hex, name_text}
 
 plain_by : (numbered : Bool) (byte : ℕ) (bytes text : List ℕ) → numbered || list_any (λ b. is_control b || b == 92) bytes ≡ false → (list_any (λ b. is_control b || b == 92) bytes ≡ false → text ≡ bytes) → (if numbered then hex byte else byte ∷ []) ++ text ≡ byte ∷ bytes
 plain_by true byte bytes text e h = absurd cc

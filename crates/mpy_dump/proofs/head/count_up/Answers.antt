@@ -1,4 +1,4 @@
-use Rattle.std.proofs.Common.{◌≡◌, ◌+◌, ◌%◌, ◌<◌, get_or, set, take, ap, ◌∙◌, arith, rules}
+use Rattle.std.proofs.Common.{◌≡◌, ◌+◌, ◌%◌, ◌<◌, set, take, ap, ◌∙◌, arith}
 use Rattle.mpy_dump.proofs.Heads.{last_within, last_is, counted, same_length}
 use Rattle.mpy_dump.proofs.head.count_up.Goals as goal
 

@@ -1,6 +1,6 @@
-use Rattle.std.proofs.Common.{◌+◌, ◌++◌, length, refl, ap, ◌∙◌, arith, length-append}
+use Rattle.std.proofs.Common.{◌+◌, ◌++◌, length, ap, ◌∙◌, arith, length-append}
 use Rattle.std.proofs.lemmas.List.{length-take}
-use Rattle.mpy_dump.specs.Instructions.{head_text, instr_tail}
+use Rattle.mpy_dump.specs.Instructions.{instr_tail}
 use Rattle.mpy_dump.specs.Short.{short_text}
 use Rattle.mpy_dump.proofs.Pens.{gathers_more, gathers_then, gathers_stopped, gathers_is, on_err}
 use Rattle.mpy_dump.proofs.Pieces.{read_there, line_is}

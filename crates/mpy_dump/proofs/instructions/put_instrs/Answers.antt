@@ -1,4 +1,4 @@
-use Rattle.std.proofs.Common.{◌≡◌, ℕ, ◌+◌, ◌-◌, List, ◌++◌, length, sym, ap, subst, ◌∙◌, arith}
+use Rattle.std.proofs.Common.{◌≡◌, ℕ, ◌+◌, ◌-◌, List, ◌++◌, sym, ap, subst, ◌∙◌, arith}
 use Rattle.mpy_dump.specs.Instructions.{instr_line, instr_lines}
 use Rattle.mpy_dump.specs.Short.{IsHead}
 use Rattle.mpy_dump.proofs.Pens.{gathers_is, step_gathered, stop_gathered}

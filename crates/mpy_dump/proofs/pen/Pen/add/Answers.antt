@@ -1,4 +1,4 @@
-use Rattle.std.proofs.Common.{ℕ, List, ◌++◌, ap, ◌∙◌, arith, rules}
+use Rattle.std.proofs.Common.{◌++◌, ap, ◌∙◌, arith, rules}
 use Rattle.mpy_dump.specs.Pen.{PenState}
 use Rattle.mpy_dump.specs.Short.{short_text}
 use Rattle.mpy_dump.proofs.Pens.{added}
