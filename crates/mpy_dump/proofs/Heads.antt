@@ -1,10 +1,12 @@
 -- Offsets that are counted up.
-use Rattle.std.proofs.Common.{◌≡◌, ℕ, ◌+◌, ◌/◌, ◌%◌, ◌^◌, ◌<◌, ◌≤◌, List, [], ◌∷◌, ◌++◌, length, get_or, set, take, sym, ap, ◌∙◌, inl, inr, append_assoc, arith, length-append}
+use Rattle.std.proofs.Common.{◌≡◌, ℕ, zero, suc, ◌+◌, ◌-◌, ◌/◌, ◌%◌, ◌^◌, ◌<◌, ◌≤◌, List, [], ◌∷◌, ◌++◌, length, get_or, set, take, refl, sym, ap, ◌∙◌, inl, inr, append_assoc, arith, length-append}
 use Rattle.std.specs.Prelude.{codes, decimal}
-use Rattle.std.proofs.Math.Seq.{get_or-append_seam, set-append_seam, take-set-lt}
-use Rattle.std.proofs.lemmas.List.{length-take, get_or-take}
+use Rattle.std.proofs.Math.Seq.{get_or-append_seam, set-append_seam, take-set-lt, take-length}
+use Rattle.std.proofs.lemmas.List.{length-take, get_or-take, get_or-set_same, set-get_or, set-append_right, length-set, take_all}
 use Rattle.std.proofs.lemmas.Bool.{cases_lt}
 use Rattle.std.proofs.lemmas.Fmt.{decimal_digit, decimal_step, decimal_nonempty, length-decimal-le}
+use Rattle.mpy_dump.specs.declared.head.Head.{Head}
+use Rattle.mpy_dump.specs.Short.{short_text, begins, IsHead}
 use Rattle.mpy_dump.specs.Instructions.{head_text}
 
 -- how long a number of 32 bits is
@@ -86,3 +88,45 @@ module _ (start line : ℕ) (bytes : List ℕ) (len last : ℕ) (text : take len
   same_length by few small =
       let d = last_digit start (omega (arith, small)) in
       omega (arith, ends, ap length d.is, ap length (d.up by few small), length-append d.front ((48 + start % 10) ∷ []), length-append d.front ((48 + start % 10 + by) ∷ []))
+
+set_twice : (xs : List ℕ) (i a b : ℕ) → set (set xs i a) i b ≡ set xs i b
+set_twice [] i a b = refl
+set_twice (x ∷ xs) zero a b = refl
+set_twice (x ∷ xs) (suc i) a b = ap (λ (z : List ℕ). x ∷ z) (set_twice xs i a b)
+
+-- a digit that was read out of a text is put back
+pub own_digit : (bytes : List ℕ) (len last : ℕ) → last < len → set (take len bytes) last (get_or bytes last 0) ≡ take len bytes
+own_digit bytes len last within =
+    ap (λ d. set (take len bytes) last d) (sym (get_or-take len bytes last 0 within)) ∙ set-get_or (take len bytes) last 0
+
+module _ (start : ℕ) (head : Head) (is : IsHead start head) where
+  pub last_inside : head.last < length (short_text head.text)
+  last_inside =
+      omega (arith, last_within start head.line (begins head) (length (begins head)) head.last (take-length (begins head) ∙ is.text) is.last, length-set (short_text head.text) head.last head.digit)
+
+  pub digit_is : start < 2 ^ 64 → head.digit ≡ 48 + start % 10
+  digit_is small =
+      sym (get_or-set_same (short_text head.text) head.last head.digit 0 last_inside)
+      ∙ last_is start head.line (begins head) (length (begins head)) head.last (take-length (begins head) ∙ is.text) is.last 0 small
+
+  pub counted_text : (by : ℕ) → start % 10 + by < 10 → start + by < 2 ^ 64 → set (short_text head.text) head.last (head.digit + by) ≡ head_text (start + by) head.line
+  counted_text by few small =
+      let v = 48 + start % 10 + by in
+      let t = take-length (begins head) ∙ is.text in
+      ap (λ d. set (short_text head.text) head.last (d + by)) (digit_is (omega (arith, small)))
+      ∙ (sym (set_twice (short_text head.text) head.last head.digit v)
+      ∙ (sym (take_all (length (begins head)) (set (begins head) head.last v) (omega (arith, length-set (begins head) head.last v)))
+      ∙ counted start head.line (begins head) (length (begins head)) head.last t is.last by few small))
+
+  pub counted_last : (by : ℕ) → start % 10 + by < 10 → start + by < 2 ^ 64 → head.last + 1 ≡ length (decimal (start + by))
+  counted_last by few small =
+      same_length start head.line (begins head) (length (begins head)) head.last (take-length (begins head) ∙ is.text) is.last by few small
+
+-- a digit is put into the end of what is held
+pub set_behind : (bytes held text : List ℕ) (len at last digit : ℕ) → take len bytes ≡ held ++ text → length held ≡ at → last < length text → take len (set bytes (at + last) digit) ≡ held ++ set text last digit
+set_behind bytes held text len at last digit e long within =
+    let inside : at + last < len = omega (arith, long, within, ap length e, length-take len bytes, length-append held text) in
+    let place : (at + last) - at ≡ last = omega arith in
+    take-set-lt len bytes (at + last) digit inside
+    ∙ (ap (λ (z : List ℕ). set z (at + last) digit) e
+    ∙ (set-append_right held text at (at + last) digit long (omega arith) ∙ ap (λ n. held ++ set text n digit) place))

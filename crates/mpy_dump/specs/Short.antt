@@ -1,5 +1,5 @@
 -- Texts of a few bytes, and what is listed by them.
-use Rattle.std.specs.Prelude.{◌≡◌, ℕ, ◌+◌, ◌<◌, List, [], ◌∷◌, take, length, decimal, slice_index_or}
+use Rattle.std.specs.Prelude.{◌≡◌, ℕ, ◌+◌, ◌<◌, List, [], ◌∷◌, take, length, decimal, slice_index_or, slice_set}
 use Rattle.bc_ops.specs.declared.instr.Instr.{Instr}
 use Rattle.bc_ops.specs.Code.{Spells}
 use Rattle.mpy_tree.specs.Raw.{Module}
@@ -10,9 +10,13 @@ use Rattle.mpy_dump.specs.Instructions.{head_text, instr_tail}
 abbrev pub short_text : Short → List ℕ
 short_text short = take short.len short.bytes
 
+-- its digit is put into its text
+abbrev pub begins : Head → List ℕ
+begins head = slice_set (short_text head.text) head.last head.digit
+
 -- what the line of an instruction at the offset begins with, and where the offset ends in it
 pub record IsHead (start : ℕ) (head : Head) : Type 0 where
-  pub text : short_text head.text ≡ head_text start head.line
+  pub text : begins head ≡ head_text start head.line
   pub last : head.last + 1 ≡ length (decimal start)
 
 -- how the line of an instruction of this one byte ends, wherever it stands; an empty text says nothing

@@ -8,11 +8,13 @@ use crate::short::Short;
 use itoa::Buffer;
 use mpy_base::limits::MAX_CODE_BYTES;
 
-/// An offset and a line as they are listed, and the place of the offset's last digit.
+/// An offset and a line as they are listed, but for the offset's last digit, which stands beside them with its place: an
+/// array that was just written is slow to copy.
 #[derive(Clone, Copy)]
 pub(crate) struct Head {
     pub text: Short,
     pub last: usize,
+    pub digit: u8,
     pub line: u32,
 }
 
@@ -27,7 +29,13 @@ pub(crate) fn head_of(start: u32, line: u32) -> Head
     text.add(b" ");
     text.add(digits(&mut second, line));
     text.add(b" ");
-    Head { text, last, line }
+    let digit = text.bytes[last];
+    Head {
+        text,
+        last,
+        digit,
+        line,
+    }
 }
 
 /// Counts the offset up. A digit that stays one is all that changes, mostly.
@@ -38,9 +46,9 @@ pub(crate) fn count_up(head: &mut Head, start: u32, by: u32)
     ensures is { IsHead (start + by) head.new }
     ensures line { head.new.line ≡ head.old.line }
 {
-    let digit = u32::from(head.text.bytes[head.last]) + by;
+    let digit = u32::from(head.digit) + by;
     if digit <= u32::from(b'9') {
-        head.text.bytes[head.last] = digit as u8;
+        head.digit = digit as u8;
     } else {
         *head = head_of(start + by, head.line);
     }

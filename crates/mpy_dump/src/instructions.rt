@@ -172,7 +172,7 @@ fn gather_line<S: Sink>(
         (specs.instr_line module.now at.old head.now.line end instr) pen.new.text result }
 {
     make_room(out, pen)?;
-    pen.add(&head.text);
+    pen.add_head(head);
     gather_end(out, pen, module, tails, code, at)
 }
 

@@ -1,12 +1,13 @@
 //! Bytes that are gathered, so that one put takes many lines.
 
-ghost use Rattle.std.specs.Prelude.{◌≡◌, ◌≤◌, ◌+◌, ◌++◌, [], length, take, Some, OnOk, OnErr, IsOk, is_err};
+ghost use Rattle.std.specs.Prelude.{◌≡◌, ◌≤◌, ◌+◌, ◌++◌, [], length, take, Some, ◌<◌, OnOk, OnErr, IsOk, is_err};
 ghost use Rattle.mpy_io.specs.Count.{Counts};
 ghost use Rattle.mpy_io.specs.Told.{AppendsFront};
 ghost use Rattle.mpy_dump.specs.Pen.{Gathers};
 ghost use Rattle.mpy_dump.specs.Puts.{Puts};
-ghost use Rattle.mpy_dump.specs.Short.{short_text};
+ghost use Rattle.mpy_dump.specs.Short.{short_text, begins};
 
+use crate::head::Head;
 use crate::put::put;
 use crate::short::{SHORT_BYTES, Short};
 use mpy_io::{Failed, Sink};
@@ -77,6 +78,18 @@ impl Pen {
         let start = self.len;
         u8x32::from_slice(&piece.bytes).copy_to_slice(&mut self.bytes[start..start + SHORT_BYTES]);
         self.len = start + piece.len;
+    }
+
+    /// Adds what a line begins with, for which there is room.
+    #[inline(always)]
+    pub(crate) fn add_head(&mut self, head: &Head)
+        requires room { length self.old.text + 32 ≤ 4096 }
+        requires last { head.now.last < length (short_text head.now.text) }
+        ensures { self.new.text ≡ self.old.text ++ begins head.now }
+    {
+        let start = self.len;
+        self.add(&head.text);
+        self.bytes[start + head.last] = head.digit;
     }
 }
 

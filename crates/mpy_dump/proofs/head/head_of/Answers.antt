@@ -1,6 +1,6 @@
-use Rattle.std.proofs.Common.{ℕ, List, ◌++◌, length, ap, arith, ◌∙◌}
+use Rattle.std.proofs.Common.{ℕ, List, ◌-◌, ◌++◌, length, ap, arith, ◌∙◌}
 use Rattle.mpy_dump.specs.Short.{short_text}
-use Rattle.mpy_dump.proofs.Heads.{digits_of, joined_head}
+use Rattle.mpy_dump.proofs.Heads.{digits_of, joined_head, own_digit}
 use Rattle.mpy_dump.proofs.head.head_of.Goals as goal
 
 pub add-requires : goal.add-requires
@@ -34,7 +34,7 @@ pub returns-clause-is : goal.returns-clause-is
 returns-clause-is c =
     let first = digits_of c.args.start c.ranges.start.fits in
     record {
-      text = joined_head c.args.start c.args.line c.new-text.ensures.text
+      text = own_digit c.add-4.new.self.bytes c.add-4.new.self.len (c.add.new.self.len - 1) (omega (arith, c.add-4.ensures.len, c.add-3.ensures.len, c.add-2.ensures.len)) ∙ joined_head c.args.start c.args.line c.new-text.ensures.text
           (c.add.ensures.text ∙ ap (λ (z : List ℕ). short_text c.new-text.result ++ z) c.digits.ensures) c.add-2.ensures.text
           (c.add-3.ensures.text ∙ ap (λ (z : List ℕ). short_text c.add-2.new.self ++ z) c.digits-2.ensures) c.add-4.ensures.text;
       last = omega (arith, c.add.ensures.len, c.new-text.ensures.len, ap length c.digits.ensures, first.some);

@@ -1,7 +1,8 @@
 use Rattle.std.proofs.Common.{◌+◌, ◌++◌, length, ap, ◌∙◌, arith, length-append}
-use Rattle.std.proofs.lemmas.List.{length-take}
+use Rattle.std.proofs.lemmas.List.{length-take, length-set}
 use Rattle.mpy_dump.specs.Instructions.{instr_tail}
-use Rattle.mpy_dump.specs.Short.{short_text}
+use Rattle.mpy_dump.specs.Short.{short_text, begins}
+use Rattle.mpy_dump.proofs.Heads.{last_inside}
 use Rattle.mpy_dump.proofs.Pens.{gathers_more, gathers_then, gathers_stopped, gathers_is, on_err}
 use Rattle.mpy_dump.proofs.Pieces.{read_there, line_is}
 use Rattle.mpy_dump.proofs.instructions.gather_line.Goals as goal
@@ -16,8 +17,11 @@ returns-in_err-make_room g c =
       gathers_stopped _ c.from_residual.result c.from_residual.ensures.0 c.in_err-make_room.ensures.gathers,
     )
 
-pub add-requires : goal.add-requires
-add-requires g c = omega (arith, c.in_ok-make_room.ensures.room)
+pub add_head-requires-clause-room : goal.add_head-requires-clause-room
+add_head-requires-clause-room g c = omega (arith, c.in_ok-make_room.ensures.room)
+
+pub add_head-requires-clause-last : goal.add_head-requires-clause-last
+add_head-requires-clause-last g c = last_inside c.args.at.now c.args.head.now c.requires.head
 
 pub gather_end-requires-clause-tails : goal.gather_end-requires-clause-tails
 gather_end-requires-clause-tails g c = c.requires.tails
@@ -28,7 +32,7 @@ gather_end-requires-clause-decodes g c = c.requires.decodes
 pub gather_end-requires-clause-room : goal.gather_end-requires-clause-room
 gather_end-requires-clause-room g c =
     let head = c.args.head.now.text in
-    omega (arith, c.in_ok-make_room.ensures.room, ap length c.add.ensures, length-append c.make_room.new.pen.text (short_text head), length-take head.len head.bytes, head.within)
+    omega (arith, c.in_ok-make_room.ensures.room, ap length c.add_head.ensures, length-append c.make_room.new.pen.text (begins c.args.head.now), length-set (short_text head) c.args.head.now.last c.args.head.now.digit, length-take head.len head.bytes, head.within)
 
 pub gather_end-requires-clause-short : goal.gather_end-requires-clause-short
 gather_end-requires-clause-short g c = c.requires.short
@@ -44,5 +48,5 @@ returns g c =
       e.1,
       e.2,
       e.3,
-      gathers_is line (gathers_then c.gather_end.result (gathers_more (short_text head.text) c.in_ok-make_room.ensures.gathers c.add.ensures) e.4),
+      gathers_is line (gathers_then c.gather_end.result (gathers_more (begins head) c.in_ok-make_room.ensures.gathers c.add_head.ensures) e.4),
     )
