@@ -1,4 +1,4 @@
-use Rattle.std.proofs.Common.{◌≡◌, ◌+◌, ◌%◌, ◌^◌, ◌<◌, set, ap, ◌∙◌, arith}
+use Rattle.std.proofs.Common.{◌+◌, ◌%◌, ◌^◌, ◌<◌, set, ap, ◌∙◌, arith}
 use Rattle.mpy_dump.specs.Short.{short_text}
 use Rattle.mpy_dump.proofs.Heads.{digit_is, counted_text, counted_last}
 use Rattle.mpy_dump.proofs.head.count_up.Goals as goal
