@@ -1,0 +1,62 @@
+//! Attributes that are set.
+
+ghost use Rattle.std.specs.Prelude.{IsSome};
+ghost use Rattle.mpy_base.specs.World.{names_of, object};
+ghost use Rattle.mpy_base.specs.Val.{At};
+ghost use Rattle.arena_heap.specs.Values.{Leads};
+ghost use Rattle.arena_heap.specs.Constants.{IsTold};
+ghost use Rattle.arena_objects.specs.Keys.{AllTold};
+ghost use Rattle.arena_objects.specs.Iterables.{or_nothing};
+ghost use Rattle.py_primitives.specs.Uses.{set_attr as set_attr_of};
+ghost use Rattle.vm_walks.specs.Plain.{plain, plain_heap};
+ghost use Rattle.vm_faults.specs.Outcomes.{IsOutcome};
+ghost use Rattle.vm_operators.specs.Attributes.{IsNamed};
+
+use crate::pairs::put_pair;
+use arena_heap::{Arena, Constants, ModuleNo, StrNo, Value, module_parts};
+use vm_faults::{Fault, Stop, type_of};
+
+/// Sets a name of a module's namespace.
+fn set_name<C: Constants>(
+    arena: &mut Arena,
+    consts: &C,
+    m: ModuleNo,
+    name: StrNo,
+    v: Value,
+) -> Result<Value, Stop>
+    requires named { IsSome (names_of (object arena.old.objects m.cell)) }
+    requires name { IsSome (C.text_of consts.now name) }
+    requires leads { Leads arena.old.objects v }
+    requires told { IsTold (C.text_of consts.now) (C.items_of consts.now) v }
+    requires all_told { AllTold (C.text_of consts.now) (C.items_of consts.now) arena.old.objects }
+    ensures { IsOutcome (C.text_of consts.now) (C.items_of consts.now) arena.old arena.new result (set_attr_of (plain_heap (C.text_of consts.now) (C.items_of consts.now) arena.old) (At m.cell) (or_nothing (C.text_of consts.now name)) (plain (C.text_of consts.now) (C.items_of consts.now) v)) }
+{
+    let (_, names) = module_parts(arena, m);
+    put_pair(arena, consts, names, Value::Str(name), v)
+}
+
+/// Sets an attribute. Only modules take any, whose namespace has to be set.
+pub fn set_attr<C: Constants>(
+    arena: &mut Arena,
+    consts: &C,
+    object: Value,
+    name: StrNo,
+    v: Value,
+) -> Result<Value, Stop>
+    requires object_leads { Leads arena.old.objects object }
+    requires object_told { IsTold (C.text_of consts.now) (C.items_of consts.now) object }
+    requires named { IsNamed arena.old object }
+    requires name { IsSome (C.text_of consts.now name) }
+    requires leads { Leads arena.old.objects v }
+    requires told { IsTold (C.text_of consts.now) (C.items_of consts.now) v }
+    requires all_told { AllTold (C.text_of consts.now) (C.items_of consts.now) arena.old.objects }
+    ensures { IsOutcome (C.text_of consts.now) (C.items_of consts.now) arena.old arena.new result (set_attr_of (plain_heap (C.text_of consts.now) (C.items_of consts.now) arena.old) (plain (C.text_of consts.now) (C.items_of consts.now) object) (or_nothing (C.text_of consts.now name)) (plain (C.text_of consts.now) (C.items_of consts.now) v)) }
+{
+    match object {
+        Value::Module(m) => set_name(arena, consts, m, name, v),
+        _ => Err(Stop::Raises(Fault::NoAttribute {
+            object: type_of(arena, object),
+            name,
+        })),
+    }
+}
