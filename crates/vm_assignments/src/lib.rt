@@ -2,8 +2,14 @@
 #![tactic(auto)]
 
 mod attributes;
+mod extensions;
+mod in_place;
 mod items;
 mod pairs;
+mod unpacking;
 
 pub use attributes::set_attr;
+pub use extensions::{extend_list, visits_extend};
+pub use in_place::{inplace_add, visits_inplace_add};
 pub use items::set_item;
+pub use unpacking::unpack;

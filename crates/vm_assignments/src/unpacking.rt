@@ -1,0 +1,181 @@
+//! Iterables that are unpacked.
+
+ghost use Rattle.std.specs.Prelude.{◌≡◌, ◌+◌, ◌*◌, ◌^◌, ◌<◌, length, All, IsSome, OnErr, OnOk, IfErr};
+ghost use Rattle.mpy_base.specs.Weights.{Fits};
+ghost use Rattle.arena_heap.specs.Values.{Leads, IsStr};
+ghost use Rattle.arena_heap.specs.Constants.{IsTold};
+ghost use Rattle.arena_objects.specs.Keys.{AllTold};
+ghost use Rattle.arena_objects.specs.Iterables.{items_in as items_in_arena, spelled, with_texts, texts_from, TextRefused};
+ghost use Rattle.py_primitives.specs.Iterables.{items_in, length_of as length_in};
+ghost use Rattle.py_primitives.specs.Uses.{unpack as unpack_of};
+ghost use Rattle.vm_walks.specs.Plain.{plain, plain_heap};
+ghost use Rattle.vm_faults.specs.Faults.{IsKnown};
+ghost use Rattle.vm_assignments.specs.Slots.{FillsSlots};
+
+use arena_heap::{Arena, Constants, TextNo, Value};
+use arena_objects::{item_at, item_count, make_byte, text_bytes};
+use mpy_base::NoRoom;
+use vm_faults::{Fault, Stop};
+use vm_operators::{items_law, use_iter};
+
+/// Makes a text of each byte of a str.
+fn make_letters<C: Constants>(arena: &mut Arena, consts: &C, s: Value) -> Result<(), NoRoom>
+    requires str { IsStr s }
+    requires leads { Leads arena.old.objects s }
+    requires told { IsTold (C.text_of consts.now) (C.items_of consts.now) s }
+    requires fits { Fits arena.old 0 0 }
+    ensures ok { OnOk result (arena.new ≡ with_texts arena.old (spelled (C.text_of consts.now) arena.old s)) }
+    ensures fits { OnOk result (Fits arena.old (2 * length (spelled (C.text_of consts.now) arena.old s)) (length (spelled (C.text_of consts.now) arena.old s))) }
+    ensures refused { IfErr result (λ e. TextRefused arena.old arena.new e (spelled (C.text_of consts.now) arena.old s)) }
+{
+    let count = text_bytes(arena, consts, s).len();
+    for k in 0..count {
+        let byte = text_bytes(arena, consts, s)[k];
+        make_byte(arena, byte)?;
+    }
+    Ok(())
+}
+
+/// Puts texts into the slots, from the first.
+fn fill_letters(slots: &mut [Value], first: u32)
+    requires { first + 2 * length slots.old < 2 ^ 32 }
+    ensures { slots.new ≡ texts_from first (length slots.old) }
+{
+    for at in 0..slots.len() {
+        let t = TextNo {
+            cell: first + 2 * at as u32,
+        };
+        slots[at] = Value::Text(t);
+    }
+}
+
+/// Unpacks a str, whose items are made, from the first to the last.
+fn unpack_letters<C: Constants>(
+    arena: &mut Arena,
+    consts: &C,
+    s: Value,
+    slots: &mut [Value],
+) -> Result<(), Stop>
+    requires str { IsStr s }
+    requires leads { Leads arena.old.objects s }
+    requires told { IsTold (C.text_of consts.now) (C.items_of consts.now) s }
+    requires all_told { AllTold (C.text_of consts.now) (C.items_of consts.now) arena.old.objects }
+    requires count { length slots.old ≡ length (spelled (C.text_of consts.now) arena.old s) }
+    ensures outcome { FillsSlots (C.text_of consts.now) (C.items_of consts.now) arena.old arena.new slots.new result (unpack_of (plain_heap (C.text_of consts.now) (C.items_of consts.now) arena.old) (length slots.old) (plain (C.text_of consts.now) (C.items_of consts.now) s)) }
+    ensures count { length slots.new ≡ length slots.old }
+    ensures unchanged { OnErr result (slots.new ≡ slots.old) }
+{
+    arena.room_law();
+    let first = arena.used().cells;
+    match make_letters(arena, consts, s) {
+        Ok(()) => {
+            fill_letters(slots, first);
+            Ok(())
+        }
+        Err(room) => Err(Stop::Full(room)),
+    }
+}
+
+/// Puts the items of an iterable into the slots.
+fn fill_items<C: Constants>(arena: &Arena, consts: &C, over: Value, slots: &mut [Value])
+    requires leads { Leads arena.now.objects over }
+    requires told { IsTold (C.text_of consts.now) (C.items_of consts.now) over }
+    requires all_told { AllTold (C.text_of consts.now) (C.items_of consts.now) arena.now.objects }
+    requires count { length slots.old ≡ length (items_in_arena (C.items_of consts.now) arena.now over) }
+    ensures filled { slots.new ≡ items_in_arena (C.items_of consts.now) arena.now over }
+    ensures known { All (IsKnown (C.text_of consts.now) (C.items_of consts.now) arena.now.objects) slots.new }
+{
+    items_law(arena, consts, over);
+    for at in 0..slots.len() {
+        slots[at] = item_at(arena, consts, over, at as u32);
+    }
+}
+
+/// Unpacks an iterable with as many items as there are slots.
+fn unpack_items<C: Constants>(
+    arena: &mut Arena,
+    consts: &C,
+    over: Value,
+    slots: &mut [Value],
+) -> Result<(), Stop>
+    requires leads { Leads arena.old.objects over }
+    requires told { IsTold (C.text_of consts.now) (C.items_of consts.now) over }
+    requires all_told { AllTold (C.text_of consts.now) (C.items_of consts.now) arena.old.objects }
+    requires iterable { IsSome (items_in (plain_heap (C.text_of consts.now) (C.items_of consts.now) arena.old) (plain (C.text_of consts.now) (C.items_of consts.now) over)) }
+    requires count { length slots.old ≡ length_in (plain_heap (C.text_of consts.now) (C.items_of consts.now) arena.old) (plain (C.text_of consts.now) (C.items_of consts.now) over) }
+    ensures outcome { FillsSlots (C.text_of consts.now) (C.items_of consts.now) arena.old arena.new slots.new result (unpack_of (plain_heap (C.text_of consts.now) (C.items_of consts.now) arena.old) (length slots.old) (plain (C.text_of consts.now) (C.items_of consts.now) over)) }
+    ensures count { length slots.new ≡ length slots.old }
+    ensures unchanged { OnErr result (slots.new ≡ slots.old) }
+{
+    items_law(arena, consts, over);
+    arena.room_law();
+    match over {
+        Value::Str(_) | Value::Text(_) => unpack_letters(arena, consts, over, slots),
+        _ => {
+            fill_items(arena, consts, over, slots);
+            Ok(())
+        }
+    }
+}
+
+/// How many items an iterable has.
+fn count_of<C: Constants>(arena: &Arena, consts: &C, over: Value) -> u32
+    requires leads { Leads arena.now.objects over }
+    requires told { IsTold (C.text_of consts.now) (C.items_of consts.now) over }
+    requires iterable { IsSome (items_in (plain_heap (C.text_of consts.now) (C.items_of consts.now) arena.now) (plain (C.text_of consts.now) (C.items_of consts.now) over)) }
+    ensures { result ≡ length_in (plain_heap (C.text_of consts.now) (C.items_of consts.now) arena.now) (plain (C.text_of consts.now) (C.items_of consts.now) over) }
+{
+    items_law(arena, consts, over);
+    match over {
+        Value::Str(_) | Value::Text(_) => text_bytes(arena, consts, over).len() as u32,
+        _ => item_count(arena, consts, over),
+    }
+}
+
+/// Unpacks what is an iterable.
+fn unpack_iterable<C: Constants>(
+    arena: &mut Arena,
+    consts: &C,
+    over: Value,
+    slots: &mut [Value],
+) -> Result<(), Stop>
+    requires leads { Leads arena.old.objects over }
+    requires told { IsTold (C.text_of consts.now) (C.items_of consts.now) over }
+    requires all_told { AllTold (C.text_of consts.now) (C.items_of consts.now) arena.old.objects }
+    requires iterable { IsSome (items_in (plain_heap (C.text_of consts.now) (C.items_of consts.now) arena.old) (plain (C.text_of consts.now) (C.items_of consts.now) over)) }
+    ensures outcome { FillsSlots (C.text_of consts.now) (C.items_of consts.now) arena.old arena.new slots.new result (unpack_of (plain_heap (C.text_of consts.now) (C.items_of consts.now) arena.old) (length slots.old) (plain (C.text_of consts.now) (C.items_of consts.now) over)) }
+    ensures count { length slots.new ≡ length slots.old }
+    ensures unchanged { OnErr result (slots.new ≡ slots.old) }
+{
+    items_law(arena, consts, over);
+    let have = count_of(arena, consts, over);
+    let want = slots.len();
+    if (have as usize) < want {
+        Err(Stop::Raises(Fault::UnpacksMore(have)))
+    } else if want < have as usize {
+        Err(Stop::Raises(Fault::UnpacksFewer(want as u32)))
+    } else {
+        unpack_items(arena, consts, over, slots)
+    }
+}
+
+/// Unpacks an iterable into so many slots. Those of a str are texts that are made; where one doesn't fit, those in front
+/// of it stay made.
+pub fn unpack<C: Constants>(
+    arena: &mut Arena,
+    consts: &C,
+    over: Value,
+    slots: &mut [Value],
+) -> Result<(), Stop>
+    requires leads { Leads arena.old.objects over }
+    requires told { IsTold (C.text_of consts.now) (C.items_of consts.now) over }
+    requires all_told { AllTold (C.text_of consts.now) (C.items_of consts.now) arena.old.objects }
+    ensures outcome { FillsSlots (C.text_of consts.now) (C.items_of consts.now) arena.old arena.new slots.new result (unpack_of (plain_heap (C.text_of consts.now) (C.items_of consts.now) arena.old) (length slots.old) (plain (C.text_of consts.now) (C.items_of consts.now) over)) }
+    ensures count { length slots.new ≡ length slots.old }
+    ensures unchanged { OnErr result (slots.new ≡ slots.old) }
+{
+    match use_iter(arena, consts, over) {
+        Ok(_) => unpack_iterable(arena, consts, over, slots),
+        Err(stop) => Err(stop),
+    }
+}
