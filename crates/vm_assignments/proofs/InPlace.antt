@@ -1,6 +1,5 @@
 -- Operators in place, and their visits.
-use Rattle.std.proofs.Common.{◌≡◌, ℕ, zero, ◌+◌, ℤ, List, [], ◌∷◌, ◌++◌, length, map, Bool, true, false, cond, Option, Some, None, Result, Ok, Err, refl, sym, ap, ap₂, ◌∙◌, subst, arith}
-use Rattle.std.specs.List.{range_with_len}
+use Rattle.std.proofs.Common.{◌≡◌, ℕ, ℤ, List, [], ◌∷◌, ◌++◌, length, map, Bool, true, false, cond, Option, Some, None, Result, Ok, Err, refl, sym, ap, ◌∙◌, subst, arith}
 use Rattle.std.proofs.lemmas.List.{length-map}
 use Rattle.std.proofs.lemmas.List.FromFn.{length-map-range_with_len}
 use Rattle.arena_heap.specs.declared.value.Value.{Value}
@@ -14,7 +13,7 @@ use Rattle.mpy_base.specs.Val.{Val, At, Int}
 use Rattle.arena_heap.specs.Values.{ArenaObject, Leads}
 use Rattle.arena_objects.specs.Iterables.{or_nothing}
 use Rattle.py_values.specs.declared.small_int.NumFault.{NumFault}
-use Rattle.py_values.specs.Shown.{PlainHeap, Shown, Nothing, Number, Text, Tuple, Items, Pairs, Range, Other, range_len, shown, shown_object}
+use Rattle.py_values.specs.Shown.{PlainHeap, Shown, Number, Text, Tuple, Items, Pairs, Range, range_len, shown, shown_object}
 use Rattle.py_primitives.specs.Outcome as primitives
 use Rattle.py_primitives.specs.Outcome.{Outcome, gives, is_full, with_visits, go_on_with, followed_by, making, making_text, making_tuple, making_texts}
 use Rattle.py_primitives.specs.Iterables.{letter, range_number, range_numbers, shown_items, shown_length, kept_items, over_items}

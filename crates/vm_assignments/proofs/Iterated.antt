@@ -1,6 +1,6 @@
 -- The items of an arena's iterables as they are kept, as the meaning has them.
-use Rattle.std.proofs.Common.{◌≡◌, ℕ, pos, ◌+◌, ◌*◌, ◌+ℤ◌, ◌*ℤ◌, ◌<◌, List, [], ◌∷◌, ◌++◌, length, take, map, true, Option, Some, None, Result, Ok, Err, refl, sym, ap, ◌∙◌, subst, arith}
-use Rattle.std.specs.Prelude.{is_some, IsSome}
+use Rattle.std.proofs.Common.{◌≡◌, ℕ, pos, ◌+◌, ◌*◌, ◌+ℤ◌, ◌*ℤ◌, ◌<◌, List, [], ◌∷◌, ◌++◌, length, take, map, Option, Some, None, Ok, Err, refl, sym, ap, ◌∙◌, subst, arith}
+use Rattle.std.specs.Prelude.{IsSome}
 use Rattle.std.specs.List.{range_with_len}
 use Rattle.std.proofs.lemmas.List.{length-map, append-nil}
 use Rattle.std.proofs.lemmas.Simd.{map-map}
@@ -8,10 +8,10 @@ use Rattle.arena_heap.specs.declared.value.Value.{Value}
 use Rattle.arena_heap.specs.declared.value.Value.TheVariants as values
 use Rattle.arena_heap.specs.declared.value.StrNo.{StrNo}
 use Rattle.arena_heap.specs.declared.value.ConstNo.{ConstNo}
-use Rattle.mpy_base.specs.World.{ListObject, TupleObject, TextObject, DictObject, FunctionObject, ExceptionObject, MethodObject, RangeObject, ModuleObject, Heap, ObjectKind, AList, ATuple, ADict, ARange, AFunction, AnException, AMethod, AModule, object, kind_of}
+use Rattle.mpy_base.specs.World.{ListObject, TupleObject, DictObject, FunctionObject, ExceptionObject, MethodObject, RangeObject, ModuleObject, Heap, ObjectKind, AList, ATuple, ADict, ARange, AFunction, AnException, AMethod, AModule, object, kind_of}
 use Rattle.mpy_base.specs.Weights.{used, Fits}
-use Rattle.mpy_base.specs.Val.{Val, Int}
-use Rattle.arena_heap.specs.Values.{ArenaObject, Leads, IsStr}
+use Rattle.mpy_base.specs.Val.{Val}
+use Rattle.arena_heap.specs.Values.{ArenaObject, Leads}
 use Rattle.arena_objects.specs.Iterables as arena
 use Rattle.arena_objects.specs.Iterables.{or_nothing, given, spelled, with_texts, texts_from}
 use Rattle.py_values.specs.Shown.{PlainHeap, Shown, Text, range_len, shown, shown_object}
@@ -19,7 +19,7 @@ use Rattle.py_values.specs.Names.{type_name}
 use Rattle.py_primitives.specs.Faults.{NotIterable}
 use Rattle.py_primitives.specs.Outcome as primitives
 use Rattle.py_primitives.specs.Outcome.{Outcome, gives, raises, is_full}
-use Rattle.py_primitives.specs.Iterables.{letter, range_number, shown_items, items_in, kept_items, over_items}
+use Rattle.py_primitives.specs.Iterables.{letter, shown_items, items_in, kept_items, over_items}
 use Rattle.vm_walks.specs.Plain.{plain, plain_pair, plain_object, plain_heap}
 use Rattle.vm_walks.proofs.PlainValues.{object_plain, fixed_shown}
 use Rattle.vm_operators.specs.Operands.{HasItems, IsNested}

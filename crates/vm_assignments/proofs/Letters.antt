@@ -12,7 +12,7 @@ use Rattle.arena_heap.specs.Values.{ArenaObject}
 use Rattle.arena_objects.specs.Iterables.{with_texts, texts_from}
 use Rattle.arena_objects.proofs.MadeTexts.{one_byte, text_more}
 use Rattle.py_values.specs.Shown.{PlainHeap}
-use Rattle.py_primitives.specs.Outcome.{Outcome, gives, is_full, with_visits, followed_by, making, making_text, making_texts}
+use Rattle.py_primitives.specs.Outcome.{Outcome, gives, is_full, with_visits, followed_by, making_text, making_texts}
 use Rattle.vm_walks.specs.Plain.{plain, plain_heap}
 use Rattle.vm_faults.proofs.Heaps.{fit_plain, used_plain, made_plain}
 use Rattle.vm_assignments.proofs.Growths.{fits_true, fits_false}

@@ -1,9 +1,7 @@
 -- Lists that take the items of iterables, as the meaning has them.
-use Rattle.std.proofs.Common.{◌≡◌, ℕ, ◌+◌, ◌*◌, ◌<◌, ◌≤◌, List, [], ◌∷◌, ◌++◌, length, take, map, replicate, Bool, true, false, cond, Option, Some, None, Result, Ok, Err, refl, sym, ap, ap₂, ◌∙◌, subst, arith, length-append, length-set}
-use Rattle.std.specs.List.{range_with_len}
+use Rattle.std.proofs.Common.{◌≡◌, ℕ, ◌+◌, ◌*◌, ◌<◌, List, ◌++◌, length, take, map, replicate, Bool, true, false, cond, Option, Some, None, Result, Err, refl, sym, ap, ap₂, ◌∙◌, arith, length-append, length-set}
 use Rattle.std.proofs.lemmas.List.{length-map, map-append, length-replicate}
 use Rattle.arena_heap.specs.declared.value.Value.{Value}
-use Rattle.arena_heap.specs.declared.value.Value.TheVariants as values
 use Rattle.arena_heap.specs.declared.value.StrNo.{StrNo}
 use Rattle.arena_heap.specs.declared.value.ConstNo.{ConstNo}
 use Rattle.mpy_base.specs.declared.room.NoRoom.{NoRoom}
@@ -14,7 +12,7 @@ use Rattle.arena_heap.specs.Values.{ArenaObject}
 use Rattle.arena_objects.specs.Keys.{AllTold}
 use Rattle.arena_objects.specs.Iterables as arena
 use Rattle.arena_objects.specs.Iterables.{spelled, with_texts, texts_from, extended, extended_length}
-use Rattle.py_values.specs.Shown.{PlainHeap, Shown, shown}
+use Rattle.py_values.specs.Shown.{PlainHeap, shown}
 use Rattle.py_primitives.specs.Outcome as primitives
 use Rattle.py_primitives.specs.Outcome.{Outcome, gives, is_full, with_visits, followed_by}
 use Rattle.py_primitives.specs.Iterables.{kept_items, over_items}
@@ -44,7 +42,6 @@ module _ (texts : StrNo → Option (List ℕ)) (tuples : ConstNo → Option (Lis
   }
 
   module _ (h : Heap Value ℕ) (l : ℕ) (from : Value) (i : Iterated texts tuples h from) where
-
     -- what follows on the items that are kept
     abbrev finish : List Val → PlainHeap → Outcome Val
     finish kept behind = gives (At l) (with_list behind l (items_at (plain_heap texts tuples h) l ++ kept))

@@ -1,5 +1,5 @@
 -- Iterables that are unpacked, as the meaning has them.
-use Rattle.std.proofs.Common.{◌≡◌, ℕ, ◌+◌, ◌*◌, ◌<◌, ◌≤◌, List, [], ◌∷◌, ◌++◌, length, take, map, get_or, Bool, true, false, cond, Option, Some, None, Result, Ok, Err, refl, sym, ap, ◌∙◌, subst, arith}
+use Rattle.std.proofs.Common.{◌≡◌, ℕ, ◌+◌, ◌*◌, ◌<◌, ◌≤◌, List, [], ◌++◌, length, take, map, Bool, true, false, cond, Option, Some, Result, Ok, Err, refl, sym, ap, ◌∙◌, subst, arith}
 use Rattle.std.specs.Prelude.{nat_lt}
 use Rattle.std.specs.List.{All, range_with_len}
 use Rattle.std.proofs.lemmas.List.{length-map, append-nil}
@@ -10,7 +10,7 @@ use Rattle.arena_heap.specs.declared.value.StrNo.{StrNo}
 use Rattle.arena_heap.specs.declared.value.ConstNo.{ConstNo}
 use Rattle.arena_heap.specs.declared.value.TextNo.{TextNo}
 use Rattle.mpy_base.specs.declared.room.NoRoom.{NoRoom}
-use Rattle.mpy_base.specs.World.{Heap, Objects, Later}
+use Rattle.mpy_base.specs.World.{Heap, Later}
 use Rattle.mpy_base.specs.Weights.{used, Fits, Refused}
 use Rattle.mpy_base.specs.Val.{Val, Int}
 use Rattle.mpy_base.proofs.Worlds.{later_same}
@@ -19,9 +19,8 @@ use Rattle.arena_objects.specs.Keys.{AllTold}
 use Rattle.arena_objects.specs.Iterables as arena
 use Rattle.arena_objects.specs.Iterables.{spelled, with_texts, texts_from, TextRefused}
 use Rattle.arena_objects.proofs.MadeTexts.{texts_are, texts_later, texts_told}
-use Rattle.py_values.specs.Shown.{PlainHeap, Shown, Text, Tuple, Items, Pairs, Range, range_len, shown}
+use Rattle.py_values.specs.Shown.{Shown, Text, Tuple, Items, Pairs, Range, range_len, shown}
 use Rattle.py_values.specs.Names.{type_name}
-use Rattle.py_primitives.specs.Faults as primitives
 use Rattle.py_primitives.specs.Faults.{NotIterable, UnpacksMore, UnpacksFewer}
 use Rattle.py_primitives.specs.Outcome as outcomes
 use Rattle.py_primitives.specs.Outcome.{Outcome, gives, raises, is_full}

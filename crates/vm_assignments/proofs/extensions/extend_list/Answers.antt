@@ -1,4 +1,4 @@
-use Rattle.std.proofs.Common.{◌≡◌, List, Option, None, Result, Err, sym, ◌∙◌, subst}
+use Rattle.std.proofs.Common.{◌≡◌, Err, sym, ◌∙◌, subst}
 use Rattle.mpy_base.specs.Val.{Val}
 use Rattle.py_primitives.specs.Outcome.{Outcome, gives}
 use Rattle.py_primitives.specs.Iterables.{use_iter, items_in}

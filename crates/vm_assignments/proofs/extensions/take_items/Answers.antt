@@ -1,6 +1,6 @@
-use Rattle.std.proofs.Common.{◌≡◌, ℕ, ◌*◌, ◌<◌, List, length, take, Result, Ok, Err, refl, sym, ap, ◌∙◌, subst, inl, inr}
-use Rattle.mpy_base.specs.World.{Heap, AList}
-use Rattle.mpy_base.specs.Weights.{Fits, list_growth, with_list_room}
+use Rattle.std.proofs.Common.{length, take, Result, Ok, Err, refl, sym, subst, inl, inr}
+use Rattle.mpy_base.specs.World.{AList}
+use Rattle.mpy_base.specs.Weights.{list_growth, with_list_room}
 use Rattle.mpy_base.specs.Val.{Val}
 use Rattle.arena_heap.specs.declared.value.Value.{Value}
 use Rattle.arena_heap.specs.declared.value.Value.TheVariants as values
@@ -14,7 +14,6 @@ use Rattle.vm_faults.proofs.Outcomes.{answered}
 use Rattle.vm_assignments.proofs.Iterated.{iterated}
 use Rattle.vm_assignments.proofs.TakenItems.{visited, full_behind, taken_all, no_room_taken, no_text_taken}
 use Rattle.vm_assignments.proofs.extensions.take_items.Goals as goal
-
 
 pub returns-in-Ok : goal.returns-in-Ok
 returns-in-Ok g c =

@@ -1,7 +1,7 @@
 use Rattle.std.proofs.Common.{sym, subst}
 use Rattle.mpy_base.specs.Val.{Val}
 use Rattle.py_primitives.specs.Outcome.{Outcome}
-use Rattle.vm_walks.specs.Plain.{plain, plain_heap}
+use Rattle.vm_walks.specs.Plain.{plain}
 use Rattle.vm_faults.specs.Outcomes.{IsOutcome}
 use Rattle.vm_assignments.proofs.InPlace.{list_in_place, other_in_place}
 use Rattle.vm_assignments.proofs.in_place.inplace_add.Goals as goal

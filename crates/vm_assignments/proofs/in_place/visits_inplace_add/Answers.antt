@@ -2,7 +2,7 @@ use Rattle.std.proofs.Common.{◌≡◌, ap, sym, ◌∙◌, arith}
 use Rattle.std.specs.Prelude.{ℕ, min}
 use Rattle.mpy_base.specs.Val.{Val}
 use Rattle.py_primitives.specs.Outcome.{Outcome}
-use Rattle.vm_walks.specs.Plain.{plain, plain_heap}
+use Rattle.vm_walks.specs.Plain.{plain}
 use Rattle.vm_assignments.proofs.InPlace.{list_in_place, other_visits}
 use Rattle.vm_assignments.proofs.in_place.visits_inplace_add.Goals as goal
 

@@ -1,4 +1,4 @@
-use Rattle.std.proofs.Common.{◌≡◌, ℕ, List, length, ap, arith}
+use Rattle.std.proofs.Common.{ℕ, List, length, ap, arith}
 use Rattle.vm_assignments.proofs.Iterated.{iterated}
 use Rattle.vm_assignments.proofs.Unpacked.{length_iterated, other_has_items}
 use Rattle.vm_assignments.proofs.unpacking.count_of.Goals as goal

@@ -1,6 +1,5 @@
-use Rattle.std.proofs.Common.{◌≡◌, List, take}
+use Rattle.std.proofs.Common.{◌≡◌, take}
 use Rattle.std.specs.List.{All}
-use Rattle.arena_heap.specs.declared.value.Value.{Value}
 use Rattle.arena_objects.specs.Iterables.{items_in}
 use Rattle.vm_faults.specs.Faults.{IsKnown}
 use Rattle.vm_operators.proofs.TextFills.{partly}

@@ -1,4 +1,4 @@
-use Rattle.std.proofs.Common.{◌≡◌, ℕ, List, length, sym, ap, ◌∙◌}
+use Rattle.std.proofs.Common.{List, length, sym, ap, ◌∙◌}
 use Rattle.arena_heap.specs.declared.value.Value.{Value}
 use Rattle.vm_assignments.proofs.Iterated.{iterated}
 use Rattle.vm_assignments.proofs.Unpacked.{other_has_items, items_count, items_slots}

@@ -1,5 +1,4 @@
 use Rattle.std.proofs.Common.{length}
-use Rattle.vm_walks.specs.Plain.{plain, plain_heap}
 use Rattle.vm_assignments.proofs.Iterated.{iterated}
 use Rattle.vm_assignments.proofs.Unpacked.{raised_slots, unpacks_more, unpacks_fewer}
 use Rattle.vm_assignments.proofs.unpacking.unpack_iterable.Goals as goal
