@@ -1,0 +1,10 @@
+pub mod AnyOf
+pub mod ArgumentFills
+pub mod Decisions
+pub mod Followed
+pub mod KindTests
+pub mod MemberItems
+pub mod OldValues
+pub mod TextFrames
+pub mod TwoArguments
+pub mod TypeTests

@@ -1,0 +1,14 @@
+//! Types called and asked for, over an arena: each call is the primitive of its name.
+#![tactic(auto)]
+
+mod dicts;
+mod exceptions;
+mod instances;
+mod kinds;
+mod matches;
+mod members;
+
+pub use dicts::call_dict;
+pub use exceptions::call_kind;
+pub use instances::call_isinstance;
+pub use matches::op_match;
