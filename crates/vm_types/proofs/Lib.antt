@@ -2,9 +2,11 @@ pub mod AnyOf
 pub mod ArgumentFills
 pub mod Decisions
 pub mod Followed
+pub mod FoundTexts
 pub mod KindTests
 pub mod MemberItems
 pub mod OldValues
+pub mod PartWrites
 pub mod TextFrames
 pub mod TwoArguments
 pub mod TypeTests

@@ -1,3 +1,4 @@
 pub mod Constants
 pub mod Members
+pub mod Texts
 pub mod Types

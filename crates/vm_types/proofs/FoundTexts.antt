@@ -1,0 +1,51 @@
+-- Texts that a walk finds.
+use Rattle.std.proofs.Common.{◌≡◌, ℕ, ◌^◌, ◌-◌, min, List, length, Option, Some, None, Result, Err, refl, sym, ap, subst}
+use Rattle.std.specs.Prelude.{IsSome}
+use Rattle.std.specs.Option.{option_map}
+use Rattle.mpy_base.specs.World.{Heap}
+use Rattle.mpy_base.specs.Val.{Val}
+use Rattle.arena_heap.specs.declared.value.Value.{Value}
+use Rattle.arena_heap.specs.declared.value.StrNo.{StrNo}
+use Rattle.arena_heap.specs.declared.value.ConstNo.{ConstNo}
+use Rattle.arena_objects.specs.Iterables.{or_nothing}
+use Rattle.arena_objects.specs.Keys.{AllTold}
+use Rattle.py_values.specs.Shown.{PlainHeap}
+use Rattle.py_values.specs.Equality.{Walk}
+use Rattle.py_primitives.specs.Outcome.{Outcome, with_visits, after_answer, after_walk}
+use Rattle.vm_walks.specs.Plain.{plain_heap}
+use Rattle.vm_faults.specs.declared.fault.Fault.TheVariants as faults
+use Rattle.vm_faults.specs.declared.stop.Stop.{Stop}
+use Rattle.vm_faults.specs.declared.stop.Stop.TheVariants.{Raises}
+use Rattle.vm_faults.specs.Outcomes.{IsOutcome}
+use Rattle.vm_faults.proofs.Outcomes.{raises_outcome}
+
+pub measured_found : (len : ℕ) (o : Option (List ℕ)) → Some len ≡ option_map (λ text. min (length text) (2 ^ 64 - 1)) o → IsSome o
+measured_found len None e = absurd cc
+measured_found len (Some text) e = refl
+
+pub measured_len : (len : ℕ) (o : Option (List ℕ)) → Some len ≡ option_map (λ text. min (length text) (2 ^ 64 - 1)) o → len ≡ min (length (or_nothing o)) (2 ^ 64 - 1)
+measured_len len None e = absurd cc
+measured_len len (Some text) e = cc
+
+pub unmeasured : (o : Option (List ℕ)) → None ≡ option_map (λ text. min (length text) (2 ^ 64 - 1)) o → o ≡ None
+unmeasured None e = refl
+unmeasured (Some text) e = absurd cc
+
+answer_follows : (heap : PlainHeap) (next : List ℕ → Outcome Val) (o : Option (List ℕ)) → IsSome o → after_answer o heap next ≡ next (or_nothing o)
+answer_follows heap next None some = absurd cc
+answer_follows heap next (Some text) some = refl
+
+module _ (texts : StrNo → Option (List ℕ)) (tuples : ConstNo → Option (List Value)) (h new : Heap Value ℕ) where
+  -- visits change nothing
+  visited : (n : ℕ) (r : Result Value Stop) (o : Outcome Val) → IsOutcome texts tuples h new r o → IsOutcome texts tuples h new r (with_visits n o)
+  visited n r o is = record { answer = is.answer; heap = is.heap; known = is.known; later = is.later; all_told = is.all_told }
+
+  pub text_follows : (walk : Walk (List ℕ)) (next : List ℕ → Outcome Val) (r : Result Value Stop) → IsSome walk.answer → IsOutcome texts tuples h new r (next (or_nothing walk.answer))
+      → IsOutcome texts tuples h new r (after_walk (plain_heap texts tuples h) walk next)
+  text_follows walk next r some is =
+      visited walk.visits r _ (subst (λ (o : Outcome Val). IsOutcome texts tuples h new r o) (sym (answer_follows (plain_heap texts tuples h) next walk.answer some)) is)
+
+pub too_deep : (texts : StrNo → Option (List ℕ)) (tuples : ConstNo → Option (List Value)) (h : Heap Value ℕ) → AllTold texts tuples h.objects → (walk : Walk (List ℕ)) (next : List ℕ → Outcome Val) → walk.answer ≡ None
+    → IsOutcome texts tuples h h (Err (Raises faults.TooDeep)) (after_walk (plain_heap texts tuples h) walk next)
+too_deep texts tuples h all walk next e =
+    visited texts tuples h h walk.visits _ _ (raises_outcome texts tuples h faults.TooDeep _ all tt (ap (λ (o : Option (List ℕ)). after_answer o (plain_heap texts tuples h) next) e))
