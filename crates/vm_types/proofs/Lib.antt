@@ -5,6 +5,7 @@ pub mod Followed
 pub mod FoundTexts
 pub mod KindTests
 pub mod MemberItems
+pub mod NumeralSteps
 pub mod OldValues
 pub mod PartWrites
 pub mod TextFrames

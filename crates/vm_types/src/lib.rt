@@ -7,10 +7,12 @@ mod instances;
 mod kinds;
 mod matches;
 mod members;
+mod numerals;
 mod texts;
 
 pub use dicts::call_dict;
 pub use exceptions::call_kind;
 pub use instances::call_isinstance;
 pub use matches::op_match;
+pub use numerals::call_int;
 pub use texts::{call_repr, call_str, visits_call_repr, visits_call_str};

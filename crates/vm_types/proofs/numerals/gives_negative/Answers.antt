@@ -1,0 +1,28 @@
+use Rattle.std.proofs.Common.{◌≡◌, ◌<◌, ◌≤◌, ◌^◌, ℤ, pos, neg_ℤ, ◌-ℤ◌, to_z, of_z, w32, Result, inl, sym, ap, ◌∙◌, subst, arith}
+use Rattle.std.proofs.lemmas.Int.{ints}
+use Rattle.arena_heap.specs.declared.value.Value.TheVariants as values
+use Rattle.mpy_base.specs.Val.{Int}
+use Rattle.py_primitives.specs.Outcome.{gives}
+use Rattle.py_primitives.specs.Operators.{gives_number}
+use Rattle.py_values.specs.Range.{IsSmall}
+use Rattle.py_values.specs.declared.small_int.NumFault.{NumFault}
+use Rattle.py_values.proofs.Range.{checked_small, checked_big}
+use Rattle.vm_walks.specs.Plain.{plain_heap}
+use Rattle.vm_faults.proofs.Outcomes.{gives_outcome, raises_outcome}
+use Rattle.vm_types.proofs.NumeralSteps.{negative_big, negative_small, negated}
+use Rattle.vm_types.proofs.numerals.gives_negative.Goals as goal
+
+pub returns-then-n-gt1073741824 : goal.returns-then-n-gt1073741824
+returns-then-n-gt1073741824 c = λ texts tuples h all.
+    let heap = plain_heap texts tuples h in
+    raises_outcome texts tuples h _ _ all tt (ap (λ (r : Result ℤ NumFault). gives_number heap r) (checked_big (neg_ℤ (pos c.args.n)) (inl (negative_big c.args.n (omega (arith, c.if-n-gt1073741824.true))))))
+
+pub returns : goal.returns
+returns c = λ texts tuples h all.
+    let heap = plain_heap texts tuples h in
+    let n = c.args.n in
+    let low : n ≤ 2 ^ 30 = omega (arith, c.if-n-gt1073741824.false) in
+    let small = negative_small n low in
+    let same = negated n low in
+    gives_outcome texts tuples h (values.Int (to_z w32 (of_z w32 (pos 0 -ℤ to_z w32 n)))) _ all (record { meets = tt; small = subst IsSmall (sym same) small }) tt
+    (ap (λ (r : Result ℤ NumFault). gives_number heap r) (checked_small (neg_ℤ (pos n)) small) ∙ ap (λ (z : ℤ). gives (Int z) heap) (sym same))
