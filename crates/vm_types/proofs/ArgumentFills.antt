@@ -1,7 +1,6 @@
 -- Tuples that are filled with arguments.
 use Rattle.std.proofs.Common.{◌≡◌, ℕ, ◌+◌, ◌<◌, ◌≤◌, List, length, get_or, set, Option, Some, None, refl, sym, ap, ap₂, ◌∙◌, arith, get_or-set_same}
 use Rattle.std.specs.Prelude.{slice_get}
-use Rattle.std.specs.List.{All}
 use Rattle.std.proofs.lemmas.List.{set-get_or, set-set}
 use Rattle.mpy_base.proofs.Worlds.{is_within}
 use Rattle.arena_heap.specs.declared.value.Value.{Value}

@@ -1,5 +1,5 @@
 -- Calls of which one follows another.
-use Rattle.std.proofs.Common.{◌≡◌, ℕ, List, Option, Result, Ok, Err, ap, ap₂, ◌∙◌}
+use Rattle.std.proofs.Common.{ℕ, List, Option, Result, Ok, Err, ap, ap₂, ◌∙◌}
 use Rattle.arena_heap.specs.declared.value.Value.{Value}
 use Rattle.arena_heap.specs.declared.value.StrNo.{StrNo}
 use Rattle.arena_heap.specs.declared.value.ConstNo.{ConstNo}

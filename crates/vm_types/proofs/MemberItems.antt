@@ -1,5 +1,5 @@
 -- The members of values, as the meaning has them.
-use Rattle.std.proofs.Common.{◌≡◌, ℕ, List, [], ◌∷◌, map, Option, Some, None, refl, sym, ap, ◌∙◌}
+use Rattle.std.proofs.Common.{◌≡◌, ℕ, List, [], ◌∷◌, map, Option, Some, None, refl, ap, ◌∙◌}
 use Rattle.arena_heap.specs.declared.value.Value.{Value}
 use Rattle.arena_heap.specs.declared.value.Value.TheVariants as values
 use Rattle.arena_heap.specs.declared.value.StrNo.{StrNo}
@@ -8,7 +8,7 @@ use Rattle.mpy_base.specs.World.{ListObject, TupleObject, TextObject, DictObject
 use Rattle.mpy_base.specs.Val.{Val, At}
 use Rattle.arena_heap.specs.Values.{ArenaObject, Leads}
 use Rattle.arena_objects.specs.Iterables.{given}
-use Rattle.py_values.specs.Shown.{Shown, shown, shown_object}
+use Rattle.py_values.specs.Shown.{shown, shown_object}
 use Rattle.py_primitives.specs.Operators.{members}
 use Rattle.vm_walks.specs.Plain.{plain, plain_object, plain_heap}
 use Rattle.vm_walks.proofs.PlainValues.{object_plain, fixed_shown}

@@ -1,24 +1,23 @@
 -- Numbers that are read from strs.
-use Rattle.std.proofs.Common.{◌≡◌, ◌≢◌, ℕ, zero, suc, ◌+◌, ◌-◌, ◌*◌, ◌^◌, ◌<◌, ◌≤◌, min, ℤ, pos, neg_ℤ, ◌<ℤ◌, ◌-ℤ◌, to_z, of_z, w32, List, [], ◌∷◌, ◌++◌, length, take, get_or, Bool, true, false, ◌&&◌, Option, Some, None, Result, refl, sym, ap, ap₂, ◌∙◌, inl, inr, arith}
+use Rattle.std.proofs.Common.{◌≡◌, ◌≢◌, ℕ, ◌+◌, ◌-◌, ◌*◌, ◌^◌, ◌<◌, ◌≤◌, min, ℤ, pos, neg_ℤ, ◌<ℤ◌, ◌-ℤ◌, to_z, of_z, w32, List, [], ◌∷◌, ◌++◌, length, take, get_or, Bool, true, false, ◌&&◌, Option, Some, None, Result, refl, sym, ap, ap₂, ◌∙◌, inl, inr, arith}
 use Rattle.std.specs.Prelude.{nat_eq, reverse, fold, if◌then◌else◌}
 use Rattle.std.specs.Char.{is_ascii_digit}
 use Rattle.std.specs.List.{list_all}
 use Rattle.std.specs.Option.{option_map}
 use Rattle.std.proofs.lemmas.Int.{ints}
-use Rattle.std.proofs.lemmas.List.{reverse-append, reverse-reverse, take_all}
+use Rattle.std.proofs.lemmas.List.{reverse-append, reverse-reverse}
 use Rattle.std.proofs.lemmas.List.Sums.{fold_more}
 use Rattle.std.proofs.lemmas.List.Folds.{list_all_more, list_all_at}
 use Rattle.std.proofs.lemmas.Bool.{cases_lt}
 use Rattle.std.proofs.lemmas.Bool.Decides.{Decides-eqb}
-use Rattle.mpy_base.specs.Val.{Val, Int}
 use Rattle.arena_objects.proofs.RangeNumbers.{small_same}
 use Rattle.py_values.specs.declared.small_int.NumFault.{NumFault}
 use Rattle.py_values.specs.Range.{IsSmall}
 use Rattle.py_values.specs.Small.{checked}
 use Rattle.py_values.specs.Shown.{PlainHeap}
-use Rattle.py_values.proofs.Range.{checked_small, checked_big}
+use Rattle.py_values.proofs.Range.{checked_big}
 use Rattle.py_primitives.specs.Faults.{NoNumeral}
-use Rattle.py_primitives.specs.Outcome.{Outcome, raises}
+use Rattle.py_primitives.specs.Outcome.{raises}
 use Rattle.py_primitives.specs.Operators.{gives_number}
 use Rattle.py_primitives.specs.Calls.{without_blanks, digits_number, signed_number, gives_numeral}
 

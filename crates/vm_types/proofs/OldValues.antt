@@ -1,12 +1,12 @@
 -- The texts of values that lead to old objects, while new ones are made.
-use Rattle.std.proofs.Common.{◌≡◌, ℕ, zero, suc, ◌<◌, List, [], ◌∷◌, ◌++◌, map, Bool, Option, Some, None, refl, sym, ap, ◌∙◌, subst}
+use Rattle.std.proofs.Common.{◌≡◌, ℕ, zero, suc, ◌<◌, List, [], ◌∷◌, ◌++◌, map, Bool, Option, Some, None, sym, ap, ◌∙◌, subst}
 use Rattle.std.specs.List.{All}
 use Rattle.std.proofs.lemmas.List.Elements.{All-nil, All-cons, All-head, All-tail}
 use Rattle.arena_heap.specs.declared.value.Value.{Value}
 use Rattle.arena_heap.specs.declared.value.Value.TheVariants as values
 use Rattle.arena_heap.specs.declared.value.StrNo.{StrNo}
 use Rattle.arena_heap.specs.declared.value.ConstNo.{ConstNo}
-use Rattle.mpy_base.specs.World.{Object, ListObject, TupleObject, TextObject, DictObject, FunctionObject, ExceptionObject, MethodObject, RangeObject, ModuleObject, Heap, AList, ATuple, AText, ADict, AFunction, AnException, AMethod, ARange, AModule, object}
+use Rattle.mpy_base.specs.World.{ListObject, TupleObject, TextObject, DictObject, FunctionObject, ExceptionObject, MethodObject, RangeObject, ModuleObject, Heap, AList, ATuple, AText, ADict, AFunction, AnException, AMethod, ARange, AModule, object}
 use Rattle.mpy_base.specs.Weights.{used}
 use Rattle.mpy_base.specs.Val.{Val}
 use Rattle.mpy_base.proofs.Worlds.{is_within}
@@ -79,9 +79,10 @@ module _ (texts : StrNo → Option (List ℕ)) (tuples : ConstNo → Option (Lis
   pairs_below : (pairs : List (Value × Value)) → All (Leads h.objects) (map (λ (p : Value × Value). p.0) pairs) → All (Leads h.objects) (map (λ (p : Value × Value). p.1) pairs)
       → Each (λ (pair : Val × Val). Below (used h) (pair.0) × Below (used h) (pair.1)) (map (plain_pair texts tuples) pairs)
   pairs_below [] keys values = tt
-  pairs_below (p ∷ ps) keys values =
-      ((value_below (p.0) (All-head (Leads h.objects) (p.0) _ keys), value_below (p.1) (All-head (Leads h.objects) (p.1) _ values)),
-      pairs_below ps (All-tail (Leads h.objects) (p.0) _ keys) (All-tail (Leads h.objects) (p.1) _ values))
+  pairs_below (p ∷ ps) keys values = (
+    (value_below (p.0) (All-head (Leads h.objects) (p.0) _ keys), value_below (p.1) (All-head (Leads h.objects) (p.1) _ values)),
+    pairs_below ps (All-tail (Leads h.objects) (p.0) _ keys) (All-tail (Leads h.objects) (p.1) _ values),
+  )
 
   object_below : (o : Option ArenaObject) → All (Leads h.objects) (held o) → BelowObject (used h) (plain_object texts tuples o)
   object_below None all = tt

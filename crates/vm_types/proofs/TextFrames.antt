@@ -8,7 +8,7 @@ use Rattle.mpy_base.specs.Val.{Val, Vals, Only, Then, Nil, Truth, Int, Str, Fixe
 use Rattle.py_values.specs.Shown.{PlainHeap, Shown, shown, shown_object}
 use Rattle.py_values.specs.Equality.{Walk, visit}
 use Rattle.py_primitives.specs.Walks.{and_then, walk_map, walk_all}
-use Rattle.py_primitives.specs.Texts.{joined, items_of_tuple, texts_between, tuple_text, pair_text, dict_text, exception_str, exception_text, object_text, written, write_within}
+use Rattle.py_primitives.specs.Texts.{joined, items_of_tuple, texts_between, tuple_text, pair_text, exception_str, exception_text, object_text, written, write_within}
 
 abbrev pub Each : {A : Type 0} → (A → Type 0) → List A → Type 0
 Each P [] = Unit {0}

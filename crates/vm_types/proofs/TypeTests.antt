@@ -1,5 +1,5 @@
 -- What values are, as the meaning has them.
-use Rattle.std.proofs.Common.{◌≡◌, ℕ, List, [], ◌∷◌, map, Option, Some, None, refl, sym, ap, ◌∙◌}
+use Rattle.std.proofs.Common.{◌≡◌, ℕ, List, [], ◌∷◌, map, Option, Some, None, refl, ap, ◌∙◌}
 use Rattle.std.specs.Prelude.{bytes_eq, is_some}
 use Rattle.mpy_base.specs.declared.builtin.Builtin.{Builtin}
 use Rattle.mpy_base.specs.declared.builtin.Builtin.TheVariants as builtins

@@ -1,8 +1,7 @@
-use Rattle.std.proofs.Common.{◌≡◌, ℕ, suc, ◌+◌, ◌<◌, List, length, replicate, refl, ap, ◌∙◌, subst, arith}
+use Rattle.std.proofs.Common.{◌≡◌, ℕ, suc, ◌+◌, ◌<◌, length, replicate, refl, subst, arith}
 use Rattle.std.proofs.lemmas.List.{length-replicate}
-use Rattle.std.specs.List.{All}
 use Rattle.std.proofs.lemmas.List.Elements.{All-weaker}
-use Rattle.mpy_base.specs.World.{TupleObject, ATuple, with_tuple}
+use Rattle.mpy_base.specs.World.{TupleObject, ATuple}
 use Rattle.mpy_base.specs.Weights.{Made, Refused}
 use Rattle.mpy_base.specs.Val.{Val}
 use Rattle.mpy_base.proofs.Worlds.{object_made}

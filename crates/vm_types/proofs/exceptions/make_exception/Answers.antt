@@ -1,4 +1,4 @@
-use Rattle.std.proofs.Common.{ℕ, List, [], map}
+use Rattle.std.proofs.Common.{[], map}
 use Rattle.mpy_base.specs.World.{ExceptionObject}
 use Rattle.mpy_base.specs.Val.{Val}
 use Rattle.py_values.specs.Shown.{PlainHeap}

@@ -1,4 +1,4 @@
-use Rattle.std.proofs.Common.{List, ap, ◌∙◌, refl}
+use Rattle.std.proofs.Common.{List, ap, ◌∙◌}
 use Rattle.mpy_base.specs.Val.{Val}
 use Rattle.arena_heap.specs.declared.value.Value.TheVariants as values
 use Rattle.py_primitives.specs.Operators.{all_of}

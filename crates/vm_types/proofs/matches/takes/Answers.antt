@@ -1,4 +1,4 @@
-use Rattle.std.proofs.Common.{ℕ, ◌+◌, List, drop, map, Bool, false, ◌||◌, refl, sym, ap, ◌∙◌, arith}
+use Rattle.std.proofs.Common.{◌+◌, List, drop, map, Bool, ◌||◌, sym, ap, ◌∙◌, arith}
 use Rattle.mpy_base.specs.Val.{Val}
 use Rattle.py_primitives.specs.Operators.{is_under, named_kind}
 use Rattle.vm_walks.specs.Plain.{plain}

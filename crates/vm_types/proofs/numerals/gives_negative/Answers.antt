@@ -1,5 +1,4 @@
-use Rattle.std.proofs.Common.{◌≡◌, ◌<◌, ◌≤◌, ◌^◌, ℤ, pos, neg_ℤ, ◌-ℤ◌, to_z, of_z, w32, Result, inl, sym, ap, ◌∙◌, subst, arith}
-use Rattle.std.proofs.lemmas.Int.{ints}
+use Rattle.std.proofs.Common.{◌≤◌, ◌^◌, ℤ, pos, neg_ℤ, ◌-ℤ◌, to_z, of_z, w32, Result, inl, sym, ap, ◌∙◌, subst, arith}
 use Rattle.arena_heap.specs.declared.value.Value.TheVariants as values
 use Rattle.mpy_base.specs.Val.{Int}
 use Rattle.py_primitives.specs.Outcome.{gives}

@@ -1,4 +1,4 @@
-use Rattle.std.proofs.Common.{ℕ, ℤ, pos, neg_ℤ, sym, subst}
+use Rattle.std.proofs.Common.{pos, sym, subst}
 use Rattle.mpy_base.specs.Val.{Val}
 use Rattle.py_primitives.specs.Outcome.{Outcome}
 use Rattle.py_primitives.specs.Calls.{digits_number}

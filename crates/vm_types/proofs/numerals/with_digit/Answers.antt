@@ -1,4 +1,4 @@
-use Rattle.std.proofs.Common.{◌≡◌, ℕ, arith}
+use Rattle.std.proofs.Common.{arith}
 use Rattle.vm_types.proofs.NumeralSteps.{cut_more}
 use Rattle.vm_types.proofs.numerals.with_digit.Goals as goal
 

@@ -1,4 +1,4 @@
-use Rattle.std.proofs.Common.{◌≡◌, ℕ, List, [], ◌∷◌, sym, ap, ◌∙◌}
+use Rattle.std.proofs.Common.{ℕ, List, sym, ap, ◌∙◌}
 use Rattle.std.specs.Prelude.{reverse}
 use Rattle.py_primitives.specs.Calls.{without_blanks}
 use Rattle.vm_types.proofs.NumeralSteps.{blank_less, no_blank_last, no_bytes}

@@ -1,4 +1,4 @@
-use Rattle.std.proofs.Common.{◌≡◌, List, [], ◌∷◌, sym, ap, ◌∙◌}
+use Rattle.std.proofs.Common.{sym, ap, ◌∙◌}
 use Rattle.py_primitives.specs.Calls.{without_blanks}
 use Rattle.vm_types.proofs.NumeralSteps.{blank_more, no_blank, no_bytes}
 use Rattle.vm_types.proofs.numerals.without_front.Goals as goal

@@ -1,4 +1,4 @@
-use Rattle.std.proofs.Common.{◌≡◌, ℕ, ◌+◌, ◌≤◌, List, [], length, take, drop, Option, sym, ap, ◌∙◌, subst, arith}
+use Rattle.std.proofs.Common.{◌≡◌, ℕ, ◌+◌, ◌≤◌, List, length, take, drop, sym, ap, ◌∙◌, subst, arith}
 use Rattle.std.specs.Prelude.{IsSome}
 use Rattle.std.proofs.Math.Seq.{paste}
 use Rattle.std.proofs.lemmas.List.Elements.{All-nil}
@@ -188,9 +188,10 @@ loop-from-preserved g c =
     let put = c.put_next-from.ensures.put ∙ ap (λ (walk : Walk (List ℕ)). with_text a t (written_over from (take 4096 (drop from (or_nothing walk.answer))) (text_at a t))) same in
     let there = part_there h t is text room a from le e in
     let size = part_size 4096 text from in
-    let count : from + length (take 4096 (drop from text)) ≡ from + c.put_next-from.result = omega (arith, there, size, c.put_next-from.ensures.count) in
-    (part_step h t is text room a b from le e put ∙ ap (λ (n : ℕ). with_text h t (paste (text_at h t) 0 (take n text) n)) count,
-    omega (arith, there, c.requires.bytes, c.loop-from-test.true, c.put_next-from.ensures.count))
+    let count : from + length (take 4096 (drop from text)) ≡ from + c.put_next-from.result = omega (arith, there, size, c.put_next-from.ensures.count) in (
+      part_step h t is text room a b from le e put ∙ ap (λ (n : ℕ). with_text h t (paste (text_at h t) 0 (take n text) n)) count,
+      omega (arith, there, c.requires.bytes, c.loop-from-test.true, c.put_next-from.ensures.count),
+    )
 
 pub loop-from-smaller : goal.loop-from-smaller
 loop-from-smaller g c =

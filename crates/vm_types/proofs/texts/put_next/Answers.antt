@@ -1,4 +1,4 @@
-use Rattle.std.proofs.Common.{◌≡◌, ℕ, ◌-◌, min, List, length, take, drop, ap, ◌∙◌, arith}
+use Rattle.std.proofs.Common.{◌≡◌, ℕ, ◌-◌, min, List, length, take, ap, ◌∙◌, arith}
 use Rattle.vm_walks.specs.declared.parts.TextPart.{TextPart}
 use Rattle.vm_types.specs.Texts.{found_text, text_in}
 use Rattle.vm_types.proofs.PartWrites.{piece_is, part_size}

@@ -1,4 +1,4 @@
-use Rattle.std.proofs.Common.{ℕ, ◌+◌, ◌<◌, List, length, take, arith}
+use Rattle.std.proofs.Common.{◌+◌, ◌<◌, length, take, arith}
 use Rattle.mpy_base.specs.World.{text_at}
 use Rattle.vm_types.proofs.PartWrites.{begins, step}
 use Rattle.vm_types.proofs.texts.put_part.Goals as goal
