@@ -1,0 +1,5 @@
+pub mod Kept
+pub mod MadeLists
+pub mod MadeTuples
+pub mod TupleFills
+pub mod Visits

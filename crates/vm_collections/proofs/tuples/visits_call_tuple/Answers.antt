@@ -1,0 +1,16 @@
+use Rattle.std.proofs.Common.{ℕ, ◌≡◌, map, refl, ap, arith}
+use Rattle.mpy_base.specs.declared.builtin.Builtin.TheVariants as builtins
+use Rattle.mpy_base.specs.Val.{Val}
+use Rattle.py_primitives.specs.Outcome.{Outcome}
+use Rattle.py_primitives.specs.Calls.{call}
+use Rattle.vm_walks.specs.Plain.{plain, plain_pair, plain_heap}
+use Rattle.vm_collections.proofs.Visits.{tuple_called}
+use Rattle.vm_collections.proofs.tuples.visits_call_tuple.Goals as goal
+
+pub returns-in-Err : goal.returns-in-Err
+returns-in-Err g c =
+    let texts = g.C.Constants.text_of c.args.consts.now in
+    let tuples = g.C.Constants.items_of c.args.consts.now in
+    let h = c.args.arena.now in
+    let none : (call (plain_heap texts tuples h) builtins.Tuple (map (plain texts tuples) c.args.args.now) (map (plain_pair texts tuples) c.args.keys.now)).visits ≡ 0 = ap (λ (o : Outcome Val). o.visits) (c.in-Err.ensures.refused.raised texts tuples h builtins.Tuple refl) in
+    omega (arith, none)

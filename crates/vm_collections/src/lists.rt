@@ -1,0 +1,102 @@
+//! `list`.
+
+ghost use Rattle.std.specs.Prelude.{◌≡◌, ◌<◌, ◌^◌, min, true, [], length, map, All};
+ghost use Rattle.mpy_base.specs.declared.builtin.Builtin.TheVariants as builtins;
+ghost use Rattle.mpy_base.specs.World.{ListObject};
+ghost use Rattle.mpy_base.specs.Weights.{Made, room_for};
+ghost use Rattle.arena_heap.specs.Values.{Leads};
+ghost use Rattle.arena_heap.specs.Constants.{IsTold};
+ghost use Rattle.arena_objects.specs.Keys.{AllTold};
+ghost use Rattle.py_primitives.specs.Outcome.{making_list};
+ghost use Rattle.py_primitives.specs.Iterables.{iterating};
+ghost use Rattle.py_primitives.specs.Calls.{call, list_from as list_from_items};
+ghost use Rattle.vm_walks.specs.Plain.{plain, plain_pair, plain_heap};
+ghost use Rattle.vm_faults.specs.Faults.{IsKnown};
+ghost use Rattle.vm_faults.specs.Outcomes.{IsOutcome};
+ghost use Rattle.vm_collections.specs.Collected.{is_iterable as iterates};
+
+use crate::arguments::optional_argument;
+use crate::iterables::{is_iterable, kept_count};
+use arena_heap::{Arena, Constants, Value};
+use arena_objects::list_extend;
+use vm_faults::{Fault, Stop, type_of};
+use vm_operators::{items_law, length_of};
+
+fn empty_list<C: Constants>(arena: &mut Arena, _consts: &C) -> Result<Value, Stop>
+    requires all_told { AllTold (C.text_of _consts.now) (C.items_of _consts.now) arena.old.objects }
+    ensures { IsOutcome (C.text_of _consts.now) (C.items_of _consts.now) arena.old arena.new result (making_list (plain_heap (C.text_of _consts.now) (C.items_of _consts.now) arena.old) []) }
+{
+    match arena.make_list(0) {
+        Ok(l) => Ok(Value::List(l)),
+        Err(room) => Err(Stop::Full(room)),
+    }
+}
+
+/// The list of an iterable's items. Its room is made first.
+fn list_from<C: Constants>(arena: &mut Arena, consts: &C, v: Value) -> Result<Value, Stop>
+    requires iterable { iterates v ≡ true }
+    requires leads { Leads arena.old.objects v }
+    requires told { IsTold (C.text_of consts.now) (C.items_of consts.now) v }
+    requires all_told { AllTold (C.text_of consts.now) (C.items_of consts.now) arena.old.objects }
+    ensures { IsOutcome (C.text_of consts.now) (C.items_of consts.now) arena.old arena.new result (iterating (plain_heap (C.text_of consts.now) (C.items_of consts.now) arena.old) (plain (C.text_of consts.now) (C.items_of consts.now) v) (list_from_items (plain_heap (C.text_of consts.now) (C.items_of consts.now) arena.old) (plain (C.text_of consts.now) (C.items_of consts.now) v))) }
+{
+    items_law(arena, consts, v);
+    let count = kept_count(arena, consts, v);
+    match arena.make_list(count as u64) {
+        Ok(l) => match list_extend(arena, consts, l, v) {
+            Ok(()) => Ok(Value::List(l)),
+            Err(room) => Err(Stop::Full(room)),
+        },
+        Err(room) => Err(Stop::Full(room)),
+    }
+}
+
+fn list_of<C: Constants>(arena: &mut Arena, consts: &C, v: Value) -> Result<Value, Stop>
+    requires leads { Leads arena.old.objects v }
+    requires told { IsTold (C.text_of consts.now) (C.items_of consts.now) v }
+    requires all_told { AllTold (C.text_of consts.now) (C.items_of consts.now) arena.old.objects }
+    ensures { IsOutcome (C.text_of consts.now) (C.items_of consts.now) arena.old arena.new result (iterating (plain_heap (C.text_of consts.now) (C.items_of consts.now) arena.old) (plain (C.text_of consts.now) (C.items_of consts.now) v) (list_from_items (plain_heap (C.text_of consts.now) (C.items_of consts.now) arena.old) (plain (C.text_of consts.now) (C.items_of consts.now) v))) }
+{
+    if !is_iterable(v) {
+        return Err(Stop::Raises(Fault::NotIterable(type_of(arena, v))));
+    }
+    list_from(arena, consts, v)
+}
+
+/// `list` of these arguments.
+pub fn call_list<C: Constants>(
+    arena: &mut Arena,
+    consts: &C,
+    args: &[Value],
+    keys: &[(Value, Value)],
+) -> Result<Value, Stop>
+    requires few { length args.now < 2 ^ 32 }
+    requires known { All (IsKnown (C.text_of consts.now) (C.items_of consts.now) arena.old.objects) args.now }
+    requires all_told { AllTold (C.text_of consts.now) (C.items_of consts.now) arena.old.objects }
+    ensures { IsOutcome (C.text_of consts.now) (C.items_of consts.now) arena.old arena.new result (call (plain_heap (C.text_of consts.now) (C.items_of consts.now) arena.old) builtins.List (map (plain (C.text_of consts.now) (C.items_of consts.now)) args.now) (map (plain_pair (C.text_of consts.now) (C.items_of consts.now)) keys.now)) }
+{
+    match optional_argument(args, keys) {
+        Ok(Some(v)) => list_of(arena, consts, v),
+        Ok(None) => empty_list(arena, consts),
+        Err(fault) => Err(Stop::Raises(fault)),
+    }
+}
+
+/// How many visits `call_list` makes, up to so many: the items.
+pub fn visits_call_list<C: Constants>(
+    arena: &Arena,
+    consts: &C,
+    args: &[Value],
+    keys: &[(Value, Value)],
+    most: u64,
+) -> u64
+    requires few { length args.now < 2 ^ 32 }
+    requires known { All (IsKnown (C.text_of consts.now) (C.items_of consts.now) arena.now.objects) args.now }
+    ensures { result ≡ min (call (plain_heap (C.text_of consts.now) (C.items_of consts.now) arena.now) builtins.List (map (plain (C.text_of consts.now) (C.items_of consts.now)) args.now) (map (plain_pair (C.text_of consts.now) (C.items_of consts.now)) keys.now)).visits most }
+{
+    match optional_argument(args, keys) {
+        Ok(Some(v)) => most.min(length_of(arena, consts, v) as u64),
+        Ok(None) => 0,
+        Err(_) => 0,
+    }
+}
