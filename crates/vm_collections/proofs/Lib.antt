@@ -1,4 +1,7 @@
+pub mod BestOutcomes
+pub mod BestSteps
 pub mod Kept
+pub mod LetterOrders
 pub mod MadeLists
 pub mod MadeTuples
 pub mod TupleFills

@@ -41,7 +41,7 @@ no_tuple : (heap : PlainHeap) (n : ℕ) (kept : PlainHeap → Outcome (List Val)
 no_tuple heap zero kept e = refl
 no_tuple heap (suc n) kept e = absurd (omega arith)
 
-str_count : (texts : StrNo → Option (List ℕ)) (tuples : ConstNo → Option (List Value)) (h : Heap Value ℕ) (v : Value) → is_str v ≡ true → kept_length texts tuples h v ≡ length (spelled texts h v)
+pub str_count : (texts : StrNo → Option (List ℕ)) (tuples : ConstNo → Option (List Value)) (h : Heap Value ℕ) (v : Value) → is_str v ≡ true → kept_length texts tuples h v ≡ length (spelled texts h v)
 str_count texts tuples h (values.Str s) str = omega arith
 str_count texts tuples h (values.Text t) str = omega arith
 str_count texts tuples h _ str = absurd cc

@@ -1,7 +1,7 @@
 //! The arguments of calls.
 
 ghost use Rattle.std.specs.Prelude.{◌≡◌, ◌<◌, ◌^◌, [], length, IfOk, IfErr};
-ghost use Rattle.py_primitives.specs.Calls.{Between};
+ghost use Rattle.py_primitives.specs.Calls.{AtLeast, Between};
 ghost use Rattle.vm_builtins.specs.Arguments.{IsRefusal};
 ghost use Rattle.vm_collections.specs.Collected.{AreOptional};
 
@@ -23,5 +23,20 @@ pub(crate) fn optional_argument(
         Ok(()) if args.is_empty() => Ok(None),
         Ok(()) => Ok(Some(args[0])),
         Err(fault) => Err(fault),
+    }
+}
+
+/// Some arguments are taken, and no keyword arguments.
+pub(crate) fn some_arguments(args: &[Value], keys: &[(Value, Value)]) -> Result<(), Fault>
+    ensures some { IfOk result (λ _. 0 < length args.now) }
+    ensures no_keywords { IfOk result (λ _. keys.now ≡ []) }
+    ensures refused { IfErr result (λ fault. IsRefusal (AtLeast 1) args.now keys.now fault) }
+{
+    if !keys.is_empty() {
+        Err(Fault::NoKeywords)
+    } else if args.is_empty() {
+        Err(Fault::TooFew { least: 1, given: 0 })
+    } else {
+        Ok(())
     }
 }

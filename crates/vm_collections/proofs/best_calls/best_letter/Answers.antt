@@ -1,0 +1,61 @@
+use Rattle.std.proofs.Common.{ℕ, ◌≡◌, ◌<◌, ◌≤◌, List, [], ◌∷◌, length, map, true, false, Option, Some, None, Result, Ok, Err, refl, sym, ap, ◌∙◌, subst, arith}
+use Rattle.std.proofs.lemmas.List.{length-map}
+use Rattle.std.specs.declared.cmp.Ordering.{Ordering}
+use Rattle.arena_heap.specs.declared.value.Value.{Value}
+use Rattle.mpy_base.specs.Val.{Val}
+use Rattle.arena_objects.specs.Iterables.{items_in, spelled}
+use Rattle.py_values.specs.Names.{type_name}
+use Rattle.py_values.specs.Shown.{Text, shown}
+use Rattle.py_primitives.specs.Faults as primitives
+use Rattle.py_primitives.specs.Faults.{Unsupported}
+use Rattle.py_primitives.specs.Outcome.{Outcome, gives, raises}
+use Rattle.py_primitives.specs.Order as meaning
+use Rattle.py_primitives.specs.Iterables.{letter, iterating}
+use Rattle.py_primitives.specs.Calls.{AtLeast, gives_best, best_of, made_letter, call_best, call}
+use Rattle.vm_walks.specs.Plain.{plain, plain_pair, plain_heap}
+use Rattle.vm_walks.specs.Orders.{plain_unordered}
+use Rattle.vm_walks.specs.declared.orders.Unordered.{Unordered}
+use Rattle.vm_faults.specs.declared.fault.Fault.TheVariants as faults
+use Rattle.vm_faults.specs.declared.stop.Stop.TheVariants.{Raises}
+use Rattle.vm_faults.specs.Faults.{IsKnown, method_text}
+use Rattle.vm_faults.specs.Types.{type_text}
+use Rattle.vm_faults.specs.Outcomes.{IsOutcome}
+use Rattle.vm_faults.proofs.Outcomes.{gives_outcome, raises_outcome}
+use Rattle.vm_collections.specs.Collected.{is_str, is_iterable}
+use Rattle.vm_collections.specs.Best.{plain_extreme, extreme_builtin, best_among, values_of, plain_best}
+use Rattle.vm_collections.proofs.BestOutcomes.{is_zero, is_more, nothing, something, walked, str_is, str_searched}
+use Rattle.vm_collections.proofs.best_calls.best_letter.Goals as goal
+
+pub returns-then-is_empty : goal.returns-then-is_empty
+returns-then-is_empty g c =
+    let texts = g.C.Constants.text_of c.args.consts.now in
+    let tuples = g.C.Constants.items_of c.args.consts.now in
+    let h = c.args.arena.now in
+    let heap = plain_heap texts tuples h in
+    let sign = plain_extreme c.args.extreme in
+    let v = c.args.s in
+    let bytes = spelled texts h v in
+    let next = made_letter heap (Text bytes) in
+    let str = str_is v c.requires.str in
+    let searched = str_searched texts tuples h sign v c.requires.leads str in
+    let none : length (map letter bytes) ≡ 0 = omega (arith, length-map bytes letter, is_zero (length c.spelled_bytes-bytes.result.now) (sym c.is_empty.ensures ∙ c.if-is_empty.true), ap (λ (bs : List ℕ). length bs) c.spelled_bytes-bytes.ensures.bytes) in
+    raises_outcome texts tuples h faults.NothingToCompare _ c.requires.all_told tt (searched ∙ nothing heap sign next (map letter bytes) none)
+
+pub returns : goal.returns
+returns g c =
+    let texts = g.C.Constants.text_of c.args.consts.now in
+    let tuples = g.C.Constants.items_of c.args.consts.now in
+    let h = c.args.arena.now in
+    let heap = plain_heap texts tuples h in
+    let sign = plain_extreme c.args.extreme in
+    let v = c.args.s in
+    let bytes = spelled texts h v in
+    let next = made_letter heap (Text bytes) in
+    let str = str_is v c.requires.str in
+    let searched = str_searched texts tuples h sign v c.requires.leads str in
+    let byte = c.best_byte-byte.result in
+    let some : 0 < length (map letter bytes) = omega (arith, length-map bytes letter, is_more (length c.spelled_bytes-bytes.result.now) (sym c.is_empty.ensures ∙ c.if-is_empty.false), ap (λ (bs : List ℕ). length bs) c.spelled_bytes-bytes.ensures.bytes) in
+    let answer : (best_among heap sign (map letter bytes)).answer ≡ Some (Ok (letter byte)) =
+    ap (λ (bs : List ℕ). (best_among heap sign (map letter bs)).answer) (sym c.spelled_bytes-bytes.ensures.bytes) ∙ c.best_byte-byte.ensures.answer heap in
+    subst (λ (o : Outcome Val). IsOutcome texts tuples h c.letter.new.arena c.letter.result o) (sym (searched ∙ something heap sign next (map letter bytes) some))
+    (walked texts tuples h c.letter.new.arena (best_among heap sign (map letter bytes)) (gives_best heap sign next) (Ok (letter byte)) c.letter.result answer c.letter.ensures)

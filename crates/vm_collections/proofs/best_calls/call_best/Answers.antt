@@ -1,0 +1,51 @@
+use Rattle.std.proofs.Common.{ℕ, ◌≡◌, ◌<◌, ◌≤◌, List, [], ◌∷◌, length, map, true, false, Option, Some, None, Result, Ok, Err, refl, sym, ap, ◌∙◌, subst, arith}
+use Rattle.std.proofs.lemmas.List.{length-map}
+use Rattle.std.specs.declared.cmp.Ordering.{Ordering}
+use Rattle.arena_heap.specs.declared.value.Value.{Value}
+use Rattle.mpy_base.specs.Val.{Val}
+use Rattle.arena_objects.specs.Iterables.{items_in, spelled}
+use Rattle.py_values.specs.Names.{type_name}
+use Rattle.py_values.specs.Shown.{Text, shown}
+use Rattle.py_primitives.specs.Faults as primitives
+use Rattle.py_primitives.specs.Faults.{Unsupported}
+use Rattle.py_primitives.specs.Outcome.{Outcome, gives, raises}
+use Rattle.py_primitives.specs.Order as meaning
+use Rattle.py_primitives.specs.Iterables.{letter, iterating}
+use Rattle.py_primitives.specs.Calls.{AtLeast, gives_best, best_of, made_letter, call_best, call}
+use Rattle.vm_walks.specs.Plain.{plain, plain_pair, plain_heap}
+use Rattle.vm_walks.specs.Orders.{plain_unordered}
+use Rattle.vm_walks.specs.declared.orders.Unordered.{Unordered}
+use Rattle.vm_faults.specs.declared.fault.Fault.TheVariants as faults
+use Rattle.vm_faults.specs.declared.stop.Stop.TheVariants.{Raises}
+use Rattle.vm_faults.specs.Faults.{IsKnown, method_text}
+use Rattle.vm_faults.specs.Types.{type_text}
+use Rattle.vm_faults.specs.Outcomes.{IsOutcome}
+use Rattle.vm_faults.proofs.Outcomes.{gives_outcome, raises_outcome}
+use Rattle.vm_collections.specs.Collected.{is_str, is_iterable}
+use Rattle.vm_collections.specs.Best.{plain_extreme, extreme_builtin, best_among, values_of, plain_best}
+use Rattle.vm_builtins.proofs.Calls.{refused}
+use Rattle.vm_collections.proofs.BestOutcomes.{best_called, counts_known}
+use Rattle.vm_collections.proofs.best_calls.call_best.Goals as goal
+
+pub returns-in-Ok : goal.returns-in-Ok
+returns-in-Ok g c =
+    let texts = g.C.Constants.text_of c.args.consts.now in
+    let tuples = g.C.Constants.items_of c.args.consts.now in
+    let h = c.args.arena.now in
+    let heap = plain_heap texts tuples h in
+    let sign = plain_extreme c.args.extreme in
+    let args = c.args.args.now in
+    let p : Value → Val = plain texts tuples in
+    let some : 0 < length (map p args) = omega (arith, length-map args p, c.in-Ok.ensures.some) in
+    let keys = map (plain_pair texts tuples) c.args.keys.now in
+    let none : keys ≡ [] = ap (λ (ks : List (Value × Value)). map (plain_pair texts tuples) ks) c.in-Ok.ensures.no_keywords in
+    subst (λ (o : Outcome Val). IsOutcome texts tuples h c.best_of_arguments.new.arena c.best_of_arguments.result o) (sym (best_called c.args.extreme heap (map p args) keys none some)) c.best_of_arguments.ensures
+
+pub returns-in-Err : goal.returns-in-Err
+returns-in-Err g c =
+    let texts = g.C.Constants.text_of c.args.consts.now in
+    let tuples = g.C.Constants.items_of c.args.consts.now in
+    let h = c.args.arena.now in
+    let heap = plain_heap texts tuples h in
+    let sign = plain_extreme c.args.extreme in
+    refused texts tuples h c.args.args.now c.args.keys.now (extreme_builtin c.args.extreme) (AtLeast 1) c.in-Err.fault c.requires.all_told c.in-Err.ensures.refused (counts_known c.args.extreme)

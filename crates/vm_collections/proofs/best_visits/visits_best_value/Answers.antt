@@ -1,0 +1,67 @@
+use Rattle.std.proofs.Common.{ℕ, ◌≡◌, ◌<◌, ◌≤◌, List, [], ◌∷◌, length, map, true, false, Option, Some, None, Result, Ok, Err, refl, sym, ap, ◌∙◌, subst, arith}
+use Rattle.std.proofs.lemmas.List.{length-map}
+use Rattle.std.specs.declared.cmp.Ordering.{Ordering}
+use Rattle.arena_heap.specs.declared.value.Value.{Value}
+use Rattle.mpy_base.specs.Val.{Val}
+use Rattle.arena_objects.specs.Iterables.{items_in, spelled}
+use Rattle.py_values.specs.Names.{type_name}
+use Rattle.py_values.specs.Shown.{Text, shown}
+use Rattle.py_primitives.specs.Faults as primitives
+use Rattle.py_primitives.specs.Faults.{Unsupported}
+use Rattle.py_primitives.specs.Outcome.{Outcome, gives, raises}
+use Rattle.py_primitives.specs.Order as meaning
+use Rattle.py_primitives.specs.Iterables.{letter, iterating}
+use Rattle.py_primitives.specs.Calls.{AtLeast, gives_best, best_of, made_letter, call_best, call}
+use Rattle.vm_walks.specs.Plain.{plain, plain_pair, plain_heap}
+use Rattle.vm_walks.specs.Orders.{plain_unordered}
+use Rattle.vm_walks.specs.declared.orders.Unordered.{Unordered}
+use Rattle.vm_faults.specs.declared.fault.Fault.TheVariants as faults
+use Rattle.vm_faults.specs.declared.stop.Stop.TheVariants.{Raises}
+use Rattle.vm_faults.specs.Faults.{IsKnown, method_text}
+use Rattle.vm_faults.specs.Types.{type_text}
+use Rattle.vm_faults.specs.Outcomes.{IsOutcome}
+use Rattle.vm_faults.proofs.Outcomes.{gives_outcome, raises_outcome}
+use Rattle.vm_collections.specs.Collected.{is_str, is_iterable}
+use Rattle.vm_collections.specs.Best.{plain_extreme, extreme_builtin, best_among, values_of, plain_best}
+use Rattle.vm_collections.proofs.BestOutcomes.{nothing_visits, something_visits}
+use Rattle.vm_collections.proofs.best_visits.visits_best_value.Goals as goal
+
+pub visits_best-requires-clause-some : goal.visits_best-requires-clause-some
+visits_best-requires-clause-some g c =
+    let texts = g.C.Constants.text_of c.args.consts.now in
+    let tuples = g.C.Constants.items_of c.args.consts.now in
+    let h = c.args.arena.now in
+    let heap = plain_heap texts tuples h in
+    let sign = plain_extreme c.args.extreme in
+    let p : Value → Val = plain texts tuples in
+    let xs = values_of tuples h c.args.from in
+    let next : Val → Outcome Val = λ best. gives best heap in
+    omega (arith, c.if-candidate_count-eq0.false, c.candidate_count.ensures)
+
+pub returns-then-candidate_count-eq0 : goal.returns-then-candidate_count-eq0
+returns-then-candidate_count-eq0 g c =
+    let texts = g.C.Constants.text_of c.args.consts.now in
+    let tuples = g.C.Constants.items_of c.args.consts.now in
+    let h = c.args.arena.now in
+    let heap = plain_heap texts tuples h in
+    let sign = plain_extreme c.args.extreme in
+    let p : Value → Val = plain texts tuples in
+    let xs = values_of tuples h c.args.from in
+    let next : Val → Outcome Val = λ best. gives best heap in
+    let empty : length (map p xs) ≡ 0 = omega (arith, length-map xs p, c.if-candidate_count-eq0.true, c.candidate_count.ensures) in
+    let none = nothing_visits heap sign next (λ v. refl) (map p xs) empty in
+    omega (arith, none)
+
+pub returns : goal.returns
+returns g c =
+    let texts = g.C.Constants.text_of c.args.consts.now in
+    let tuples = g.C.Constants.items_of c.args.consts.now in
+    let h = c.args.arena.now in
+    let heap = plain_heap texts tuples h in
+    let sign = plain_extreme c.args.extreme in
+    let p : Value → Val = plain texts tuples in
+    let xs = values_of tuples h c.args.from in
+    let next : Val → Outcome Val = λ best. gives best heap in
+    let some : 0 < length (map p xs) = omega (arith, length-map xs p, c.if-candidate_count-eq0.false, c.candidate_count.ensures) in
+    let all = something_visits heap sign next (λ v. refl) (map p xs) some in
+    omega (arith, all, c.visits_best.ensures)

@@ -1,0 +1,54 @@
+-- The best of values, and the values that are compared.
+use Rattle.std.specs.Prelude.{◌≡◌, ℕ, ◌^◌, ◌<◌, List, [], ◌∷◌, length, map, All, Option, Some, None, Result, Ok, Err}
+use Rattle.mpy_base.specs.declared.builtin.Builtin.{Builtin}
+use Rattle.mpy_base.specs.declared.builtin.Builtin.TheVariants as builtins
+use Rattle.mpy_base.specs.World.{Heap, Objects}
+use Rattle.mpy_base.specs.Val.{Val, Nil}
+use Rattle.arena_heap.specs.declared.value.Value.{Value}
+use Rattle.arena_heap.specs.declared.value.StrNo.{StrNo}
+use Rattle.arena_heap.specs.declared.value.ConstNo.{ConstNo}
+use Rattle.arena_objects.specs.Iterables.{items_in}
+use Rattle.py_values.specs.Shown.{PlainHeap}
+use Rattle.py_values.specs.Equality.{Walk, answers, visit}
+use Rattle.py_primitives.specs.Order as plain
+use Rattle.py_primitives.specs.Order.{Sign, best_from}
+use Rattle.vm_walks.specs.Plain.{plain as plain_value}
+use Rattle.vm_walks.specs.Orders.{plain_unordered, BothLead}
+use Rattle.vm_walks.specs.declared.orders.Unordered.{Unordered}
+use Rattle.vm_faults.specs.Faults.{IsKnown}
+use Rattle.vm_collections.specs.declared.extreme.Extreme.{Extreme}
+use Rattle.vm_collections.specs.declared.extreme.Extreme.TheVariants as extremes
+use Rattle.vm_collections.specs.declared.candidates.Candidates.{Candidates}
+use Rattle.vm_collections.specs.declared.candidates.Candidates.TheVariants as candidates
+
+abbrev pub plain_extreme : Extreme → Sign
+plain_extreme extremes.Least = plain.Below
+plain_extreme extremes.Greatest = plain.Above
+
+-- the walk to the best of values, of which there is one at least
+abbrev pub best_among : PlainHeap → Sign → List Val → Walk (Result Val plain.Unordered)
+best_among heap sign [] = answers (Ok Nil)
+best_among heap sign (v ∷ vs) = visit (best_from heap sign (Ok v) vs)
+
+-- the values that are compared
+abbrev pub values_of : (ConstNo → Option (List Value)) → Heap Value ℕ → Candidates → List Value
+values_of tuples heap (candidates.Items over) = items_in tuples heap over
+values_of tuples heap (candidates.Arguments args) = args.now
+
+module _ (texts : StrNo → Option (List ℕ)) (tuples : ConstNo → Option (List Value)) where
+  abbrev pub AreKnown : Objects Value ℕ → Candidates → Type 0
+  AreKnown objects (candidates.Items over) = IsKnown texts tuples objects over
+  AreKnown objects (candidates.Arguments args) = All (IsKnown texts tuples objects) args.now × (length args.now < 2 ^ 32)
+
+  -- the best value, or two values that have no order, as the meaning has them
+  abbrev pub plain_best : Result Value Unordered → Result Val plain.Unordered
+  plain_best (Ok v) = Ok (plain_value texts tuples v)
+  plain_best (Err e) = Err (plain_unordered texts tuples e)
+
+  abbrev pub IsKnownBest : Objects Value ℕ → Result Value Unordered → Type 0
+  IsKnownBest objects (Ok v) = IsKnown texts tuples objects v
+  IsKnownBest objects (Err e) = BothLead objects e
+
+abbrev pub extreme_builtin : Extreme → Builtin
+extreme_builtin extremes.Least = builtins.Min
+extreme_builtin extremes.Greatest = builtins.Max

@@ -1,0 +1,164 @@
+//! `min` and `max`.
+
+ghost use Rattle.std.specs.Prelude.{◌≡◌, ◌<◌, ◌^◌, true, length, map, All};
+ghost use Rattle.mpy_base.specs.declared.builtin.Builtin.TheVariants as builtins;
+ghost use Rattle.arena_heap.specs.Values.{Leads};
+ghost use Rattle.arena_heap.specs.Constants.{IsTold};
+ghost use Rattle.arena_objects.specs.Keys.{AllTold};
+ghost use Rattle.py_values.specs.Shown.{shown};
+ghost use Rattle.py_primitives.specs.Outcome.{gives};
+ghost use Rattle.py_primitives.specs.Iterables.{iterating};
+ghost use Rattle.py_primitives.specs.Calls.{call, call_best as best_called, best_of, made_letter};
+ghost use Rattle.vm_walks.specs.Plain.{plain, plain_pair, plain_heap};
+ghost use Rattle.vm_faults.specs.Faults.{IsKnown};
+ghost use Rattle.vm_faults.specs.Outcomes.{IsOutcome};
+ghost use Rattle.vm_collections.specs.Collected.{is_str as is_some_str};
+ghost use Rattle.vm_collections.specs.Best.{plain_extreme, values_of, AreKnown, extreme_builtin};
+
+use crate::arguments::some_arguments;
+use crate::best_letters::best_byte;
+use crate::candidates::{Candidates, candidate_count};
+use crate::extreme::Extreme;
+use crate::iterables::{is_iterable, is_str};
+use crate::letters::spelled_bytes;
+use crate::searches::best;
+use arena_heap::{Arena, Constants, Value};
+use vm_builtins::letter;
+use vm_faults::{Fault, Stop, type_of};
+use vm_operators::items_law;
+
+/// The best of values, which is one of them.
+fn best_value<C: Constants>(
+    arena: &Arena,
+    consts: &C,
+    extreme: Extreme,
+    from: Candidates<'_>,
+) -> Result<Value, Stop>
+    requires known { AreKnown (C.text_of consts.now) (C.items_of consts.now) arena.now.objects from }
+    requires all_told { AllTold (C.text_of consts.now) (C.items_of consts.now) arena.now.objects }
+    ensures { IsOutcome (C.text_of consts.now) (C.items_of consts.now) arena.now arena.now result (best_of (plain_heap (C.text_of consts.now) (C.items_of consts.now) arena.now) (plain_extreme extreme) (λ best. gives best (plain_heap (C.text_of consts.now) (C.items_of consts.now) arena.now)) (map (plain (C.text_of consts.now) (C.items_of consts.now)) (values_of (C.items_of consts.now) arena.now from.entry))) }
+{
+    if candidate_count(arena, consts, from) == 0 {
+        return Err(Stop::Raises(Fault::NothingToCompare));
+    }
+    match best(arena, consts, extreme, from) {
+        Some(Ok(v)) => Ok(v),
+        Some(Err(e)) => Err(Stop::Raises(Fault::Unsupported {
+            method: extreme.method(),
+            left: type_of(arena, e.left),
+            right: type_of(arena, e.right),
+        })),
+        None => Err(Stop::Raises(Fault::TooDeep)),
+    }
+}
+
+/// The best letter of a str, which is made.
+fn best_letter<C: Constants>(
+    arena: &mut Arena,
+    consts: &C,
+    extreme: Extreme,
+    s: Value,
+) -> Result<Value, Stop>
+    requires str { is_some_str s ≡ true }
+    requires leads { Leads arena.old.objects s }
+    requires told { IsTold (C.text_of consts.now) (C.items_of consts.now) s }
+    requires all_told { AllTold (C.text_of consts.now) (C.items_of consts.now) arena.old.objects }
+    ensures { IsOutcome (C.text_of consts.now) (C.items_of consts.now) arena.old arena.new result (iterating (plain_heap (C.text_of consts.now) (C.items_of consts.now) arena.old) (plain (C.text_of consts.now) (C.items_of consts.now) s) (best_of (plain_heap (C.text_of consts.now) (C.items_of consts.now) arena.old) (plain_extreme extreme) (made_letter (plain_heap (C.text_of consts.now) (C.items_of consts.now) arena.old) (shown (plain_heap (C.text_of consts.now) (C.items_of consts.now) arena.old) (plain (C.text_of consts.now) (C.items_of consts.now) s))))) }
+{
+    let bytes = spelled_bytes(arena, consts, s);
+    if bytes.is_empty() {
+        return Err(Stop::Raises(Fault::NothingToCompare));
+    }
+    let byte = best_byte(extreme, bytes);
+    letter(arena, consts, byte)
+}
+
+/// The best item of an iterable.
+fn best_item<C: Constants>(
+    arena: &mut Arena,
+    consts: &C,
+    extreme: Extreme,
+    over: Value,
+) -> Result<Value, Stop>
+    requires leads { Leads arena.old.objects over }
+    requires told { IsTold (C.text_of consts.now) (C.items_of consts.now) over }
+    requires all_told { AllTold (C.text_of consts.now) (C.items_of consts.now) arena.old.objects }
+    ensures { IsOutcome (C.text_of consts.now) (C.items_of consts.now) arena.old arena.new result (iterating (plain_heap (C.text_of consts.now) (C.items_of consts.now) arena.old) (plain (C.text_of consts.now) (C.items_of consts.now) over) (best_of (plain_heap (C.text_of consts.now) (C.items_of consts.now) arena.old) (plain_extreme extreme) (made_letter (plain_heap (C.text_of consts.now) (C.items_of consts.now) arena.old) (shown (plain_heap (C.text_of consts.now) (C.items_of consts.now) arena.old) (plain (C.text_of consts.now) (C.items_of consts.now) over))))) }
+{
+    if is_str(over) {
+        best_letter(arena, consts, extreme, over)
+    } else if is_iterable(over) {
+        items_law(arena, consts, over);
+        best_value(arena, consts, extreme, Candidates::Items(over))
+    } else {
+        Err(Stop::Raises(Fault::NotIterable(type_of(arena, over))))
+    }
+}
+
+/// The best item of the only argument, or the best one of the arguments.
+fn best_of_arguments<C: Constants>(
+    arena: &mut Arena,
+    consts: &C,
+    extreme: Extreme,
+    args: &[Value],
+) -> Result<Value, Stop>
+    requires some { 0 < length args.now }
+    requires few { length args.now < 2 ^ 32 }
+    requires known { All (IsKnown (C.text_of consts.now) (C.items_of consts.now) arena.old.objects) args.now }
+    requires all_told { AllTold (C.text_of consts.now) (C.items_of consts.now) arena.old.objects }
+    ensures { IsOutcome (C.text_of consts.now) (C.items_of consts.now) arena.old arena.new result (best_called (plain_heap (C.text_of consts.now) (C.items_of consts.now) arena.old) (plain_extreme extreme) (map (plain (C.text_of consts.now) (C.items_of consts.now)) args.now)) }
+{
+    if args.len() == 1 {
+        best_item(arena, consts, extreme, args[0])
+    } else {
+        best_value(arena, consts, extreme, Candidates::Arguments(args))
+    }
+}
+
+fn call_best<C: Constants>(
+    arena: &mut Arena,
+    consts: &C,
+    extreme: Extreme,
+    args: &[Value],
+    keys: &[(Value, Value)],
+) -> Result<Value, Stop>
+    requires few { length args.now < 2 ^ 32 }
+    requires known { All (IsKnown (C.text_of consts.now) (C.items_of consts.now) arena.old.objects) args.now }
+    requires all_told { AllTold (C.text_of consts.now) (C.items_of consts.now) arena.old.objects }
+    ensures { IsOutcome (C.text_of consts.now) (C.items_of consts.now) arena.old arena.new result (call (plain_heap (C.text_of consts.now) (C.items_of consts.now) arena.old) (extreme_builtin extreme) (map (plain (C.text_of consts.now) (C.items_of consts.now)) args.now) (map (plain_pair (C.text_of consts.now) (C.items_of consts.now)) keys.now)) }
+{
+    match some_arguments(args, keys) {
+        Ok(()) => best_of_arguments(arena, consts, extreme, args),
+        Err(fault) => Err(Stop::Raises(fault)),
+    }
+}
+
+/// `min` of these arguments.
+pub fn call_min<C: Constants>(
+    arena: &mut Arena,
+    consts: &C,
+    args: &[Value],
+    keys: &[(Value, Value)],
+) -> Result<Value, Stop>
+    requires few { length args.now < 2 ^ 32 }
+    requires known { All (IsKnown (C.text_of consts.now) (C.items_of consts.now) arena.old.objects) args.now }
+    requires all_told { AllTold (C.text_of consts.now) (C.items_of consts.now) arena.old.objects }
+    ensures { IsOutcome (C.text_of consts.now) (C.items_of consts.now) arena.old arena.new result (call (plain_heap (C.text_of consts.now) (C.items_of consts.now) arena.old) builtins.Min (map (plain (C.text_of consts.now) (C.items_of consts.now)) args.now) (map (plain_pair (C.text_of consts.now) (C.items_of consts.now)) keys.now)) }
+{
+    call_best(arena, consts, Extreme::Least, args, keys)
+}
+
+/// `max` of these arguments.
+pub fn call_max<C: Constants>(
+    arena: &mut Arena,
+    consts: &C,
+    args: &[Value],
+    keys: &[(Value, Value)],
+) -> Result<Value, Stop>
+    requires few { length args.now < 2 ^ 32 }
+    requires known { All (IsKnown (C.text_of consts.now) (C.items_of consts.now) arena.old.objects) args.now }
+    requires all_told { AllTold (C.text_of consts.now) (C.items_of consts.now) arena.old.objects }
+    ensures { IsOutcome (C.text_of consts.now) (C.items_of consts.now) arena.old arena.new result (call (plain_heap (C.text_of consts.now) (C.items_of consts.now) arena.old) builtins.Max (map (plain (C.text_of consts.now) (C.items_of consts.now)) args.now) (map (plain_pair (C.text_of consts.now) (C.items_of consts.now)) keys.now)) }
+{
+    call_best(arena, consts, Extreme::Greatest, args, keys)
+}

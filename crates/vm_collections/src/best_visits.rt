@@ -1,0 +1,150 @@
+//! How many visits `min` and `max` make.
+
+ghost use Rattle.std.specs.Prelude.{◌≡◌, ◌<◌, ◌^◌, min, true, length, map, All};
+ghost use Rattle.mpy_base.specs.declared.builtin.Builtin.TheVariants as builtins;
+ghost use Rattle.arena_heap.specs.Values.{Leads};
+ghost use Rattle.arena_heap.specs.Constants.{IsTold};
+ghost use Rattle.arena_objects.specs.Keys.{AllTold};
+ghost use Rattle.py_values.specs.Shown.{shown};
+ghost use Rattle.py_primitives.specs.Outcome.{gives};
+ghost use Rattle.py_primitives.specs.Iterables.{iterating};
+ghost use Rattle.py_primitives.specs.Calls.{call, call_best as best_called, best_of, made_letter};
+ghost use Rattle.vm_walks.specs.Plain.{plain, plain_pair, plain_heap};
+ghost use Rattle.vm_faults.specs.Faults.{IsKnown};
+ghost use Rattle.vm_collections.specs.Collected.{is_str as is_some_str};
+ghost use Rattle.vm_collections.specs.Best.{plain_extreme, values_of, AreKnown, extreme_builtin};
+
+use crate::arguments::some_arguments;
+use crate::candidates::{Candidates, candidate_count};
+use crate::extreme::Extreme;
+use crate::iterables::{is_iterable, is_str, kept_count};
+use crate::searches::visits_best;
+use arena_heap::{Arena, Constants, Value};
+use vm_operators::items_law;
+
+fn visits_best_value<C: Constants>(
+    arena: &Arena,
+    consts: &C,
+    extreme: Extreme,
+    from: Candidates<'_>,
+    most: u64,
+) -> u64
+    requires known { AreKnown (C.text_of consts.now) (C.items_of consts.now) arena.now.objects from }
+    requires all_told { AllTold (C.text_of consts.now) (C.items_of consts.now) arena.now.objects }
+    ensures { result ≡ min (best_of (plain_heap (C.text_of consts.now) (C.items_of consts.now) arena.now) (plain_extreme extreme) (λ best. gives best (plain_heap (C.text_of consts.now) (C.items_of consts.now) arena.now)) (map (plain (C.text_of consts.now) (C.items_of consts.now)) (values_of (C.items_of consts.now) arena.now from.entry))).visits most }
+{
+    if candidate_count(arena, consts, from) == 0 {
+        return 0;
+    }
+    visits_best(arena, consts, extreme, from, most)
+}
+
+/// One visit for the first letter, and two for each other one.
+fn visits_letters<C: Constants>(
+    arena: &Arena,
+    consts: &C,
+    _extreme: Extreme,
+    s: Value,
+    most: u64,
+) -> u64
+    requires str { is_some_str s ≡ true }
+    requires leads { Leads arena.now.objects s }
+    requires told { IsTold (C.text_of consts.now) (C.items_of consts.now) s }
+    ensures { result ≡ min (iterating (plain_heap (C.text_of consts.now) (C.items_of consts.now) arena.now) (plain (C.text_of consts.now) (C.items_of consts.now) s) (best_of (plain_heap (C.text_of consts.now) (C.items_of consts.now) arena.now) (plain_extreme _extreme) (made_letter (plain_heap (C.text_of consts.now) (C.items_of consts.now) arena.now) (shown (plain_heap (C.text_of consts.now) (C.items_of consts.now) arena.now) (plain (C.text_of consts.now) (C.items_of consts.now) s))))).visits most }
+{
+    let count = kept_count(arena, consts, s) as u64;
+    most.min((2 * count).saturating_sub(1))
+}
+
+fn visits_best_item<C: Constants>(
+    arena: &Arena,
+    consts: &C,
+    extreme: Extreme,
+    over: Value,
+    most: u64,
+) -> u64
+    requires leads { Leads arena.now.objects over }
+    requires told { IsTold (C.text_of consts.now) (C.items_of consts.now) over }
+    requires all_told { AllTold (C.text_of consts.now) (C.items_of consts.now) arena.now.objects }
+    ensures { result ≡ min (iterating (plain_heap (C.text_of consts.now) (C.items_of consts.now) arena.now) (plain (C.text_of consts.now) (C.items_of consts.now) over) (best_of (plain_heap (C.text_of consts.now) (C.items_of consts.now) arena.now) (plain_extreme extreme) (made_letter (plain_heap (C.text_of consts.now) (C.items_of consts.now) arena.now) (shown (plain_heap (C.text_of consts.now) (C.items_of consts.now) arena.now) (plain (C.text_of consts.now) (C.items_of consts.now) over))))).visits most }
+{
+    if is_str(over) {
+        visits_letters(arena, consts, extreme, over, most)
+    } else if is_iterable(over) {
+        items_law(arena, consts, over);
+        visits_best_value(arena, consts, extreme, Candidates::Items(over), most)
+    } else {
+        0
+    }
+}
+
+fn visits_of_arguments<C: Constants>(
+    arena: &Arena,
+    consts: &C,
+    extreme: Extreme,
+    args: &[Value],
+    most: u64,
+) -> u64
+    requires some { 0 < length args.now }
+    requires few { length args.now < 2 ^ 32 }
+    requires known { All (IsKnown (C.text_of consts.now) (C.items_of consts.now) arena.now.objects) args.now }
+    requires all_told { AllTold (C.text_of consts.now) (C.items_of consts.now) arena.now.objects }
+    ensures { result ≡ min (best_called (plain_heap (C.text_of consts.now) (C.items_of consts.now) arena.now) (plain_extreme extreme) (map (plain (C.text_of consts.now) (C.items_of consts.now)) args.now)).visits most }
+{
+    if args.len() == 1 {
+        visits_best_item(arena, consts, extreme, args[0], most)
+    } else {
+        visits_best_value(arena, consts, extreme, Candidates::Arguments(args), most)
+    }
+}
+
+fn visits_call_best<C: Constants>(
+    arena: &Arena,
+    consts: &C,
+    extreme: Extreme,
+    args: &[Value],
+    keys: &[(Value, Value)],
+    most: u64,
+) -> u64
+    requires few { length args.now < 2 ^ 32 }
+    requires known { All (IsKnown (C.text_of consts.now) (C.items_of consts.now) arena.now.objects) args.now }
+    requires all_told { AllTold (C.text_of consts.now) (C.items_of consts.now) arena.now.objects }
+    ensures { result ≡ min (call (plain_heap (C.text_of consts.now) (C.items_of consts.now) arena.now) (extreme_builtin extreme) (map (plain (C.text_of consts.now) (C.items_of consts.now)) args.now) (map (plain_pair (C.text_of consts.now) (C.items_of consts.now)) keys.now)).visits most }
+{
+    match some_arguments(args, keys) {
+        Ok(()) => visits_of_arguments(arena, consts, extreme, args, most),
+        Err(_) => 0,
+    }
+}
+
+/// How many visits `call_min` makes, up to so many. It goes no further.
+pub fn visits_call_min<C: Constants>(
+    arena: &Arena,
+    consts: &C,
+    args: &[Value],
+    keys: &[(Value, Value)],
+    most: u64,
+) -> u64
+    requires few { length args.now < 2 ^ 32 }
+    requires known { All (IsKnown (C.text_of consts.now) (C.items_of consts.now) arena.now.objects) args.now }
+    requires all_told { AllTold (C.text_of consts.now) (C.items_of consts.now) arena.now.objects }
+    ensures { result ≡ min (call (plain_heap (C.text_of consts.now) (C.items_of consts.now) arena.now) builtins.Min (map (plain (C.text_of consts.now) (C.items_of consts.now)) args.now) (map (plain_pair (C.text_of consts.now) (C.items_of consts.now)) keys.now)).visits most }
+{
+    visits_call_best(arena, consts, Extreme::Least, args, keys, most)
+}
+
+/// How many visits `call_max` makes, up to so many. It goes no further.
+pub fn visits_call_max<C: Constants>(
+    arena: &Arena,
+    consts: &C,
+    args: &[Value],
+    keys: &[(Value, Value)],
+    most: u64,
+) -> u64
+    requires few { length args.now < 2 ^ 32 }
+    requires known { All (IsKnown (C.text_of consts.now) (C.items_of consts.now) arena.now.objects) args.now }
+    requires all_told { AllTold (C.text_of consts.now) (C.items_of consts.now) arena.now.objects }
+    ensures { result ≡ min (call (plain_heap (C.text_of consts.now) (C.items_of consts.now) arena.now) builtins.Max (map (plain (C.text_of consts.now) (C.items_of consts.now)) args.now) (map (plain_pair (C.text_of consts.now) (C.items_of consts.now)) keys.now)).visits most }
+{
+    visits_call_best(arena, consts, Extreme::Greatest, args, keys, most)
+}

@@ -1,0 +1,103 @@
+//! The search for the best of values.
+
+ghost use Rattle.std.specs.Prelude.{◌≡◌, ◌<◌, suc, length, map, min, IfSome, if◌then◌else◌};
+ghost use Rattle.std.specs.Option.{option_map};
+ghost use Rattle.arena_heap.specs.Values.{Leads};
+ghost use Rattle.arena_heap.specs.Constants.{IsTold};
+ghost use Rattle.arena_objects.specs.Keys.{AllTold};
+ghost use Rattle.py_primitives.specs.Order.{order as order_of, has_sign};
+ghost use Rattle.vm_walks.specs.Plain.{plain, plain_heap};
+ghost use Rattle.vm_faults.specs.Faults.{IsKnown};
+ghost use Rattle.vm_collections.specs.Best.{plain_extreme, best_among, values_of, AreKnown, plain_best, IsKnownBest};
+
+use crate::candidates::{Candidates, candidate, candidate_count};
+use crate::extreme::Extreme;
+use arena_heap::{Arena, Constants, Value};
+use std::cmp::Ordering;
+use vm_walks::{Unordered, order, visits_order};
+
+/// The better of a value and the best so far.
+fn better(extreme: Extreme, v: Value, best: Value, found: Ordering) -> Value
+    ensures { result ≡ (if has_sign (plain_extreme extreme) found then v else best) }
+{
+    if extreme.holds(found) { v } else { best }
+}
+
+/// The best of values, or two values in them that have no order. It is None where a comparison goes too deep.
+pub(crate) fn best<C: Constants>(
+    arena: &Arena,
+    consts: &C,
+    extreme: Extreme,
+    from: Candidates<'_>,
+) -> Option<Result<Value, Unordered>>
+    requires known { AreKnown (C.text_of consts.now) (C.items_of consts.now) arena.now.objects from }
+    requires all_told { AllTold (C.text_of consts.now) (C.items_of consts.now) arena.now.objects }
+    requires some { 0 < length (values_of (C.items_of consts.now) arena.now from) }
+    ensures answer { option_map (plain_best (C.text_of consts.now) (C.items_of consts.now)) result ≡ (best_among (plain_heap (C.text_of consts.now) (C.items_of consts.now) arena.now) (plain_extreme extreme) (map (plain (C.text_of consts.now) (C.items_of consts.now)) (values_of (C.items_of consts.now) arena.now from.entry))).answer }
+    ensures known { IfSome result (IsKnownBest (C.text_of consts.now) (C.items_of consts.now) arena.now.objects) }
+{
+    let mut best = candidate(arena, consts, from, 0);
+    for at in 1..candidate_count(arena, consts, from) {
+        let v = candidate(arena, consts, from, at);
+        match order(arena, consts, v, best) {
+            Some(Ok(found)) => best = better(extreme, v, best, found),
+            Some(Err(e)) => return Some(Err(e)),
+            None => return None,
+        }
+    }
+    Some(Ok(best))
+}
+
+/// The visits of a value and of its comparison with the best so far, up to so many.
+fn visits_candidate<C: Constants>(
+    arena: &Arena,
+    consts: &C,
+    v: Value,
+    best: Value,
+    most: u64,
+) -> u64
+    requires v_leads { Leads arena.now.objects v }
+    requires best_leads { Leads arena.now.objects best }
+    requires v_told { IsTold (C.text_of consts.now) (C.items_of consts.now) v }
+    requires best_told { IsTold (C.text_of consts.now) (C.items_of consts.now) best }
+    requires all_told { AllTold (C.text_of consts.now) (C.items_of consts.now) arena.now.objects }
+    ensures { result ≡ min (suc (order_of (plain_heap (C.text_of consts.now) (C.items_of consts.now) arena.now) (plain (C.text_of consts.now) (C.items_of consts.now) v) (plain (C.text_of consts.now) (C.items_of consts.now) best)).visits) most }
+{
+    if most == 0 {
+        return 0;
+    }
+    1 + visits_order(arena, consts, v, best, most - 1)
+}
+
+/// How many visits the search takes, up to so many. It goes no further.
+pub(crate) fn visits_best<C: Constants>(
+    arena: &Arena,
+    consts: &C,
+    extreme: Extreme,
+    from: Candidates<'_>,
+    most: u64,
+) -> u64
+    requires known { AreKnown (C.text_of consts.now) (C.items_of consts.now) arena.now.objects from }
+    requires all_told { AllTold (C.text_of consts.now) (C.items_of consts.now) arena.now.objects }
+    requires some { 0 < length (values_of (C.items_of consts.now) arena.now from) }
+    ensures { result ≡ min (best_among (plain_heap (C.text_of consts.now) (C.items_of consts.now) arena.now) (plain_extreme extreme) (map (plain (C.text_of consts.now) (C.items_of consts.now)) (values_of (C.items_of consts.now) arena.now from.entry))).visits most }
+{
+    if most == 0 {
+        return 0;
+    }
+    let mut left = most - 1;
+    let mut best = candidate(arena, consts, from, 0);
+    for at in 1..candidate_count(arena, consts, from) {
+        let v = candidate(arena, consts, from, at);
+        left -= visits_candidate(arena, consts, v, best, left);
+        if left == 0 {
+            return most;
+        }
+        match order(arena, consts, v, best) {
+            Some(Ok(found)) => best = better(extreme, v, best, found),
+            Some(Err(_e)) => return most - left,
+            None => return most - left,
+        }
+    }
+    most - left
+}
