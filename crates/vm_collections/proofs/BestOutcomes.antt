@@ -1,5 +1,5 @@
 -- What follows on the search for the best of values.
-use Rattle.std.proofs.Common.{◌≡◌, ℕ, zero, suc, ◌+◌, ◌-◌, ◌*◌, ◌<◌, ◌≤◌, List, [], ◌∷◌, length, map, get_or, Bool, true, false, cond, Option, Some, None, Result, Ok, Err, refl, sym, ap, ap₂, ◌∙◌, subst, arith}
+use Rattle.std.proofs.Common.{◌≡◌, ℕ, ◌-◌, ◌*◌, ◌<◌, List, [], ◌∷◌, length, map, get_or, Bool, true, false, cond, Option, Some, None, Result, Ok, Err, refl, sym, ap, ◌∙◌, subst, arith}
 use Rattle.std.specs.Prelude.{nat_eq, nat_lt}
 use Rattle.arena_heap.specs.declared.value.Value.{Value}
 use Rattle.arena_heap.specs.declared.value.Value.TheVariants as values
@@ -14,9 +14,9 @@ use Rattle.arena_objects.specs.Iterables.{items_in as arena_items, spelled}
 use Rattle.py_values.specs.Shown.{PlainHeap, Shown, Text, shown}
 use Rattle.py_values.specs.Equality.{Walk}
 use Rattle.py_primitives.specs.Faults.{TooFew, NothingToCompare}
-use Rattle.py_primitives.specs.Outcome.{Outcome, gives, raises, with_visits, after_answer, after_walk, making_text}
+use Rattle.py_primitives.specs.Outcome.{Outcome, gives, raises, after_answer, after_walk}
 use Rattle.py_primitives.specs.Order.{Sign, Unordered}
-use Rattle.py_primitives.specs.Iterables.{letter, items_in, shown_items, over_items, iterating}
+use Rattle.py_primitives.specs.Iterables.{letter, shown_items, over_items, iterating}
 use Rattle.py_primitives.specs.Calls.{AtLeast, counts_of, gives_best, best_of, made_letter, call_best, call, unless_fault}
 use Rattle.vm_walks.specs.Plain.{plain, plain_heap}
 use Rattle.vm_faults.specs.declared.fault.Fault.TheVariants as faults

@@ -20,7 +20,7 @@ use Rattle.py_values.specs.Shown.{PlainHeap, Shown, Text, Tuple, shown, shown_ob
 use Rattle.py_primitives.specs.Outcome as primitives
 use Rattle.py_primitives.specs.Faults.{NotIterable}
 use Rattle.py_primitives.specs.Outcome.{Outcome, gives, raises, is_full, making, making_text, making_texts, with_visits, followed_by}
-use Rattle.py_primitives.specs.Iterables.{items_in, shown_items, over_items, iterating, kept_items, letter, range_number, range_numbers}
+use Rattle.py_primitives.specs.Iterables.{items_in, shown_items, over_items, iterating, kept_items, letter, range_number}
 use Rattle.py_primitives.specs.Calls.{tuple_shown, tuple_from}
 use Rattle.vm_walks.specs.Plain.{plain, plain_pair, plain_object, plain_heap}
 use Rattle.vm_walks.proofs.PlainValues.{object_plain, fixed_shown}

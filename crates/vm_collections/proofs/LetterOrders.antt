@@ -1,13 +1,13 @@
 -- The order of letters is that of their bytes.
-use Rattle.std.proofs.Common.{◌≡◌, ℕ, zero, suc, ◌+◌, ◌*◌, ◌<◌, ◌≤◌, List, [], ◌∷◌, length, map, drop, get_or, Bool, true, false, cond, Option, Some, None, Result, Ok, Err, refl, sym, ap, ap₂, ◌∙◌, subst, arith, drop-cons}
+use Rattle.std.proofs.Common.{◌≡◌, ℕ, suc, ◌+◌, ◌*◌, ◌<◌, ◌≤◌, List, [], ◌∷◌, length, map, drop, get_or, Bool, true, false, cond, Some, Result, Ok, refl, sym, ap, ◌∙◌, arith, drop-cons}
 use Rattle.std.specs.Prelude.{if◌then◌else◌}
 use Rattle.std.specs.declared.cmp.Ordering.{Ordering}
 use Rattle.std.specs.declared.cmp.Ordering.TheVariants.{Less, Equal, Greater}
 use Rattle.std.specs.Ordering.{nat_cmp, ordering_then}
 use Rattle.std.proofs.lemmas.List.{drop_all}
-use Rattle.mpy_base.specs.Val.{Val, Str}
+use Rattle.mpy_base.specs.Val.{Val}
 use Rattle.py_values.specs.Shown.{PlainHeap}
-use Rattle.py_values.specs.Equality.{Walk, answers, visit}
+use Rattle.py_values.specs.Equality.{Walk, visit}
 use Rattle.py_primitives.specs.Walks.{go_on}
 use Rattle.py_primitives.specs.Order.{Sign, Unordered, order, has_sign, better, best_from}
 use Rattle.py_primitives.specs.Iterables.{letter}

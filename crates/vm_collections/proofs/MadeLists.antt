@@ -1,6 +1,6 @@
 -- Lists that are made of the items of iterables.
-use Rattle.std.proofs.Common.{◌≡◌, ℕ, suc, ◌+◌, ◌*◌, ◌<◌, ◌≤◌, List, [], ◌∷◌, ◌++◌, length, map, set, replicate, Bool, true, cond, Option, Some, None, Result, Ok, Err, refl, sym, ap, ap₂, ◌∙◌, subst, inl, inr, arith}
-use Rattle.std.specs.Prelude.{◌⊎◌, nat_le}
+use Rattle.std.proofs.Common.{◌≡◌, ℕ, suc, ◌+◌, ◌*◌, ◌<◌, List, [], ◌++◌, length, map, set, Bool, true, cond, Option, Some, None, Result, Ok, Err, sym, ap, ap₂, ◌∙◌, subst, inl, inr, arith}
+use Rattle.std.specs.Prelude.{nat_le}
 use Rattle.std.proofs.lemmas.List.{append-nil, set-get_or}
 use Rattle.std.proofs.lemmas.Bool.{le-leb}
 use Rattle.arena_heap.specs.declared.value.Value.{Value}
@@ -10,7 +10,7 @@ use Rattle.arena_heap.specs.declared.value.StrNo.{StrNo}
 use Rattle.arena_heap.specs.declared.value.ConstNo.{ConstNo}
 use Rattle.mpy_base.specs.declared.room.NoRoom.{NoRoom}
 use Rattle.mpy_base.specs.World.{ListObject, Heap, Later, object, items_of, items_at, room_of, room_at, text_of, with_list, with_object}
-use Rattle.mpy_base.specs.Weights.{used, Fits, Made, Refused, room_for, list_growth, grown_room, with_used, with_list_room, with_made}
+use Rattle.mpy_base.specs.Weights.{used, Fits, Made, Refused, room_for, list_growth, with_used, with_list_room}
 use Rattle.mpy_base.specs.Val.{Val, At}
 use Rattle.mpy_base.proofs.Rooms.{room_is}
 use Rattle.mpy_base.proofs.Worlds.{object_before, object_made, used_made}
@@ -19,8 +19,7 @@ use Rattle.arena_objects.specs.Keys.{AllTold}
 use Rattle.arena_objects.specs.Iterables.{given, items_in as arena_items, spelled, with_texts, texts_from, extended, extended_length, TextRefused, NotExtended}
 use Rattle.arena_objects.proofs.Gifts.{Keeps, items_kept, spelled_kept}
 use Rattle.py_values.specs.Shown.{PlainHeap, shown}
-use Rattle.py_primitives.specs.Outcome as primitives
-use Rattle.py_primitives.specs.Outcome.{Outcome, gives, is_full, making, with_visits, followed_by, list_of}
+use Rattle.py_primitives.specs.Outcome.{Outcome, gives, making, with_visits, followed_by}
 use Rattle.py_primitives.specs.Iterables.{iterating, over_items, kept_items}
 use Rattle.py_primitives.specs.Calls.{list_from}
 use Rattle.vm_walks.specs.Plain.{plain, plain_heap}

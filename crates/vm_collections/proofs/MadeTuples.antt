@@ -1,5 +1,5 @@
 -- Tuples that are made of the items of iterables.
-use Rattle.std.proofs.Common.{◌≡◌, ℕ, zero, suc, ◌+◌, ◌*◌, ◌<◌, List, [], ◌∷◌, ◌++◌, length, take, map, replicate, Bool, true, Option, Some, None, Result, Ok, Err, refl, sym, ap, ap₂, ◌∙◌, subst, arith, length-append}
+use Rattle.std.proofs.Common.{◌≡◌, ℕ, zero, suc, ◌+◌, ◌*◌, ◌<◌, List, ◌∷◌, ◌++◌, length, take, map, replicate, true, Option, Ok, Err, refl, sym, ap, ap₂, ◌∙◌, subst, arith, length-append}
 use Rattle.std.proofs.lemmas.List.{length-replicate}
 use Rattle.arena_heap.specs.declared.value.Value.{Value}
 use Rattle.arena_heap.specs.declared.value.Value.TheVariants as values
@@ -7,7 +7,7 @@ use Rattle.arena_heap.specs.declared.value.TupleNo.{TupleNo}
 use Rattle.arena_heap.specs.declared.value.StrNo.{StrNo}
 use Rattle.arena_heap.specs.declared.value.ConstNo.{ConstNo}
 use Rattle.mpy_base.specs.declared.room.NoRoom.{NoRoom}
-use Rattle.mpy_base.specs.World.{TupleObject, Heap, Objects, ObjectKind, ATuple, AText, IsA, Later, items_of, items_at, with_tuple}
+use Rattle.mpy_base.specs.World.{TupleObject, Heap, ObjectKind, IsA, Later, items_of, items_at, with_tuple}
 use Rattle.mpy_base.specs.Weights.{used, Fits, Made, Refused, cells_of}
 use Rattle.mpy_base.specs.Val.{Val, Nil, Empty, At}
 use Rattle.mpy_base.proofs.Worlds.{is_within, later_later, later_made, object_made, used_made}
@@ -17,7 +17,7 @@ use Rattle.arena_objects.specs.Iterables.{items_in as arena_items, spelled, with
 use Rattle.arena_objects.proofs.Gifts.{Keeps, keeps_keeps, items_kept, spelled_kept}
 use Rattle.arena_objects.proofs.MadeTexts.{texts_keep, texts_later, texts_same, texts_are, texts_told}
 use Rattle.py_values.specs.Shown.{PlainHeap, shown}
-use Rattle.py_primitives.specs.Outcome.{Outcome, gives, is_full, making, with_visits, followed_by, tuple_of}
+use Rattle.py_primitives.specs.Outcome.{Outcome, gives, making, with_visits, followed_by, tuple_of}
 use Rattle.py_primitives.specs.Iterables.{iterating, over_items, kept_items}
 use Rattle.py_primitives.specs.Calls.{tuple_from}
 use Rattle.vm_walks.specs.Plain.{plain, plain_heap}

@@ -1,5 +1,5 @@
 -- The best of values, and the values that are compared.
-use Rattle.std.specs.Prelude.{◌≡◌, ℕ, ◌^◌, ◌<◌, List, [], ◌∷◌, length, map, All, Option, Some, None, Result, Ok, Err}
+use Rattle.std.specs.Prelude.{ℕ, ◌^◌, ◌<◌, List, [], ◌∷◌, length, All, Option, Result, Ok, Err}
 use Rattle.mpy_base.specs.declared.builtin.Builtin.{Builtin}
 use Rattle.mpy_base.specs.declared.builtin.Builtin.TheVariants as builtins
 use Rattle.mpy_base.specs.World.{Heap, Objects}

@@ -10,7 +10,7 @@ use std::cmp::Ordering;
 use vm_faults::SpecialMethod;
 
 /// Which of some values is the best one.
-#[derive(Clone, Copy, Debug, PartialEq, Eq)]
+#[derive(Clone, Copy)]
 pub(crate) enum Extreme {
     Least,
     Greatest,

@@ -2,8 +2,6 @@
 
 ghost use Rattle.std.specs.Prelude.{◌≡◌, ◌<◌, ◌^◌, min, true, [], length, map, All};
 ghost use Rattle.mpy_base.specs.declared.builtin.Builtin.TheVariants as builtins;
-ghost use Rattle.mpy_base.specs.World.{ListObject};
-ghost use Rattle.mpy_base.specs.Weights.{Made, room_for};
 ghost use Rattle.arena_heap.specs.Values.{Leads};
 ghost use Rattle.arena_heap.specs.Constants.{IsTold};
 ghost use Rattle.arena_objects.specs.Keys.{AllTold};

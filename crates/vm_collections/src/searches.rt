@@ -7,7 +7,6 @@ ghost use Rattle.arena_heap.specs.Constants.{IsTold};
 ghost use Rattle.arena_objects.specs.Keys.{AllTold};
 ghost use Rattle.py_primitives.specs.Order.{order as order_of, has_sign};
 ghost use Rattle.vm_walks.specs.Plain.{plain, plain_heap};
-ghost use Rattle.vm_faults.specs.Faults.{IsKnown};
 ghost use Rattle.vm_collections.specs.Best.{plain_extreme, best_among, values_of, AreKnown, plain_best, IsKnownBest};
 
 use crate::candidates::{Candidates, candidate, candidate_count};

@@ -1,6 +1,6 @@
 //! `tuple`.
 
-ghost use Rattle.std.specs.Prelude.{◌≡◌, ◌<◌, ◌^◌, min, true, false, length, map, slice_index_or, All};
+ghost use Rattle.std.specs.Prelude.{◌≡◌, ◌<◌, ◌^◌, min, true, length, map, slice_index_or, All};
 ghost use Rattle.mpy_base.specs.declared.builtin.Builtin.TheVariants as builtins;
 ghost use Rattle.mpy_base.specs.World.{ATuple, IsA, Later, items_at, with_tuple};
 ghost use Rattle.arena_heap.specs.Values.{Leads};

@@ -1,4 +1,4 @@
-use Rattle.std.proofs.Common.{ℕ, ◌≡◌, map, refl, ap, subst, arith}
+use Rattle.std.proofs.Common.{◌≡◌, map, refl, ap, subst, arith}
 use Rattle.mpy_base.specs.declared.builtin.Builtin.TheVariants as builtins
 use Rattle.mpy_base.specs.Val.{Val}
 use Rattle.py_primitives.specs.Outcome.{Outcome}

@@ -1,4 +1,4 @@
-use Rattle.std.proofs.Common.{ℕ, ◌≡◌, ◌+◌, ◌<◌, ◌≤◌, suc, List, length, map, drop, get_or, Option, Some, None, Result, Ok, Err, sym, ap, ◌∙◌, subst, arith}
+use Rattle.std.proofs.Common.{◌≡◌, ◌<◌, ◌≤◌, suc, length, map, drop, Option, Some, Result, Ok, sym, ap, ◌∙◌, arith}
 use Rattle.std.specs.declared.cmp.Ordering.{Ordering}
 use Rattle.arena_heap.specs.declared.value.Value.{Value}
 use Rattle.mpy_base.specs.Val.{Val}
@@ -10,7 +10,7 @@ use Rattle.vm_walks.specs.Orders.{plain_unordered, plain_order}
 use Rattle.vm_walks.specs.declared.orders.Unordered.{Unordered}
 use Rattle.vm_faults.specs.Faults.{IsKnown}
 use Rattle.vm_collections.specs.Best.{plain_extreme, best_among, values_of}
-use Rattle.vm_collections.proofs.BestSteps.{chosen_one, best_begins, best_ends, step_answer, step_visits, step_unordered, step_deep, visits_unordered, visits_deep, visits_most}
+use Rattle.vm_collections.proofs.BestSteps.{chosen_one, best_begins, best_ends, step_visits, visits_unordered, visits_deep, visits_most}
 use Rattle.vm_collections.proofs.searches.visits_best.Goals as goal
 
 pub loop-at-init : goal.loop-at-init

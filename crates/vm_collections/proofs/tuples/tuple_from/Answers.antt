@@ -1,4 +1,4 @@
-use Rattle.std.proofs.Common.{ℕ, ◌≡◌, ◌+◌, ◌<◌, List, [], replicate, sym, subst, refl, arith, ◌∙◌}
+use Rattle.std.proofs.Common.{ℕ, ◌+◌, ◌<◌, replicate, sym, subst, refl, arith, ◌∙◌}
 use Rattle.arena_heap.specs.declared.value.Value.TheVariants as values
 use Rattle.mpy_base.specs.World.{TupleObject, ATuple}
 use Rattle.mpy_base.specs.Weights.{Made, Refused}
@@ -6,7 +6,7 @@ use Rattle.mpy_base.proofs.Worlds.{later_later, later_made}
 use Rattle.arena_heap.proofs.Sounds.{leads_later}
 use Rattle.vm_collections.specs.Collected.{kept_length}
 use Rattle.vm_collections.proofs.Kept.{iterable_kept}
-use Rattle.vm_collections.proofs.MadeTuples.{tuple_empty, tuple_refused, told_made, lettered_later, lettered_told, tuple_apart, letters_are, values_length, tuple_room, tuple_filled, tuple_stops}
+use Rattle.vm_collections.proofs.MadeTuples.{tuple_empty, tuple_refused, lettered_later, lettered_told, tuple_apart, letters_are, values_length, tuple_room, tuple_filled, tuple_stops}
 use Rattle.vm_collections.proofs.tuples.tuple_from.Goals as goal
 
 pub returns-then-count-eq0 : goal.returns-then-count-eq0

@@ -1,10 +1,9 @@
-use Rattle.std.proofs.Common.{ℕ, ◌≡◌, map, refl, ap, arith}
+use Rattle.std.proofs.Common.{◌≡◌, map, refl, ap, arith}
 use Rattle.mpy_base.specs.declared.builtin.Builtin.TheVariants as builtins
 use Rattle.mpy_base.specs.Val.{Val}
 use Rattle.py_primitives.specs.Outcome.{Outcome}
 use Rattle.py_primitives.specs.Calls.{call}
 use Rattle.vm_walks.specs.Plain.{plain, plain_pair, plain_heap}
-use Rattle.vm_collections.proofs.Visits.{tuple_called}
 use Rattle.vm_collections.proofs.tuples.visits_call_tuple.Goals as goal
 
 pub returns-in-Err : goal.returns-in-Err

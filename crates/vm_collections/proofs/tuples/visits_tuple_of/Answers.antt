@@ -1,4 +1,4 @@
-use Rattle.std.proofs.Common.{ℕ, ◌≡◌, true, false, sym, ap, ◌∙◌, arith}
+use Rattle.std.proofs.Common.{◌≡◌, true, false, sym, ap, ◌∙◌, arith}
 use Rattle.mpy_base.specs.Val.{Val}
 use Rattle.py_values.specs.Shown.{Shown, shown}
 use Rattle.py_primitives.specs.Outcome.{Outcome}
