@@ -1,0 +1,3 @@
+pub mod Gifts
+pub mod Halves
+pub mod PairTuples
