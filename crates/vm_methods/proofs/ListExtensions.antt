@@ -6,11 +6,12 @@ use Rattle.std.proofs.lemmas.List.{map-append, length-map, length-set, length-re
 use Rattle.mpy_base.specs.declared.room.NoRoom.{NoRoom}
 use Rattle.mpy_base.specs.World.{Object, ListObject, TupleObject, TextObject, DictObject, RangeObject, Heap, ObjectKind, AList, ATuple, ADict, ARange, IsA, Later, object, kind_of, items_at, with_object, with_list}
 use Rattle.mpy_base.specs.Weights.{Fits, Refused, used, does_fit, no_room, list_growth, grown_room, with_used, with_made, with_list_room}
-use Rattle.mpy_base.specs.Val.{Val, Nil, Int, At}
+use Rattle.mpy_base.specs.Val.{Val, Int, At}
 use Rattle.arena_heap.specs.declared.value.Value.{Value}
 use Rattle.arena_heap.specs.declared.value.Value.TheVariants as values
 use Rattle.arena_heap.specs.declared.value.StrNo.{StrNo}
 use Rattle.arena_heap.specs.declared.value.ConstNo.{ConstNo}
+use Rattle.arena_heap.specs.declared.value.ListNo.{ListNo}
 use Rattle.arena_heap.specs.Values.{ArenaObject, Leads, IsStr}
 use Rattle.arena_objects.specs.Keys.{AllTold}
 use Rattle.arena_objects.specs.Iterables as arena
@@ -161,17 +162,17 @@ module _ (texts : StrNo → Option (List ℕ)) (tuples : ConstNo → Option (Lis
 module _ (heap : PlainHeap) (list : ℕ) (v : Val) (items : List Val) (total : ℕ) where
   abbrev pub extending : Bool → Outcome (List Val) → Outcome Val
   extending b kept =
-      followed_by (with_visits (length items) (if b
+      with_visits (length items) (if b
       then followed_by kept (λ kept behind. gives (At list) (with_list behind list (items_at heap list ++ kept)))
-      else is_full heap (list_growth heap list total) 0)) (λ extended behind. gives Nil behind)
+      else is_full heap (list_growth heap list total) 0)
 
   pub extends_as : items_in heap v ≡ Some items → length (items_at heap list ++ items) ≡ total → (b : Bool) (kept : Outcome (List Val)) → does_fit heap (list_growth heap list total) 0 ≡ b
-      → kept_items (with_list_room heap list total) items (shown heap v) ≡ kept → followed_by (extend heap list v) (λ extended behind. gives Nil behind) ≡ extending b kept
+      → kept_items (with_list_room heap list total) items (shown heap v) ≡ kept → extend heap list v ≡ extending b kept
   extends_as has count b kept fits keeps =
-      ap (λ (o : Option (List Val)). followed_by (over_items heap v o (extended_by heap list v)) (λ extended behind. gives Nil behind)) has
-      ∙ (ap (λ (k : ℕ). followed_by (with_visits (length items) (if does_fit heap (list_growth heap list k) 0
+      ap (λ (o : Option (List Val)). over_items heap v o (extended_by heap list v)) has
+      ∙ (ap (λ (k : ℕ). with_visits (length items) (if does_fit heap (list_growth heap list k) 0
       then followed_by (kept_items (with_list_room heap list k) items (shown heap v)) (λ kept behind. gives (At list) (with_list behind list (items_at heap list ++ kept)))
-      else is_full heap (list_growth heap list k) 0)) (λ extended behind. gives Nil behind)) count
+      else is_full heap (list_growth heap list k) 0)) count
       ∙ ap₂ extending fits keeps)
 
 module _ (texts : StrNo → Option (List ℕ)) (tuples : ConstNo → Option (List Value)) (h : Heap Value ℕ) (l : ℕ) where
@@ -206,16 +207,16 @@ module _ (texts : StrNo → Option (List ℕ)) (tuples : ConstNo → Option (Lis
 
   module _ (new : Heap Value ℕ) (later : Later h.objects new.objects) (all : AllTold texts tuples new.objects) (outcome : Outcome Val) where
     -- a list that took items
-    pub extended_outcome : (heap : PlainHeap) (v : Val) (items : List Val) (total : ℕ) (mid : Heap Value ℕ) (more : List Value) → heap ≡ plain_heap texts tuples h
+    pub extended_outcome : (made : ListNo) → made.cell ≡ l → IsA h.objects AList l → (heap : PlainHeap) (v : Val) (items : List Val) (total : ℕ) (mid : Heap Value ℕ) (more : List Value) → heap ≡ plain_heap texts tuples h
         → outcome ≡ extending heap l v items total true (gives (map (plain texts tuples) more) (plain_heap texts tuples mid)) → new ≡ with_list mid l (items_at h l ++ more)
-        → IsOutcome texts tuples h new (Ok values.None) outcome
-    extended_outcome heap v items total mid more is e put = record {
-      answer = sym (ap (λ (o : Outcome Val). o.answer) e);
+        → IsOutcome texts tuples h new (Ok (values.List made)) outcome
+    extended_outcome made number there heap v items total mid more is e put = record {
+      answer = ap (λ (n : ℕ). Ok (At n)) number ∙ sym (ap (λ (o : Outcome Val). o.answer) e);
       heap = ap (plain_heap texts tuples) put ∙ (list_put texts tuples mid l (items_at h l ++ more)
           ∙ (ap (λ (vs : List Val). with_list (plain_heap texts tuples mid) l vs) (map-append (plain texts tuples) (items_at h l) more
           ∙ ap (λ (vs : List Val). vs ++ map (plain texts tuples) more) (sym (items_of_plain texts tuples h l) ∙ sym (ap (λ (w : PlainHeap). items_at w l) is)))
           ∙ sym (ap (λ (o : Outcome Val). o.heap) e)));
-      known = record { leads = record { meets = tt; small = tt }; told = tt };
+      known = record { leads = record { meets = later.keeps AList made.cell (subst (λ (n : ℕ). IsA h.objects AList n) (sym number) there); small = tt }; told = tt };
       later = later;
       all_told = all;
     }
@@ -232,7 +233,7 @@ module _ (texts : StrNo → Option (List ℕ)) (tuples : ConstNo → Option (Lis
     }
 
     pub unroomy_outcome : (v : Val) (items : List Val) (total : ℕ) (e : NoRoom) → items_in (plain_heap texts tuples h) v ≡ Some items → length (items_at (plain_heap texts tuples h) l ++ items) ≡ total
-        → outcome ≡ followed_by (extend (plain_heap texts tuples h) l v) (λ extended behind. gives Nil behind) → Refused h new e (list_growth h l total) 0 → IsOutcome texts tuples h new (Err (Full e)) outcome
+        → outcome ≡ extend (plain_heap texts tuples h) l v → Refused h new e (list_growth h l total) 0 → IsOutcome texts tuples h new (Err (Full e)) outcome
     unroomy_outcome v items total e has count is r =
         let heap = plain_heap texts tuples h in
         let same = is ∙ extends_as heap l v items total has count false _ (growth_fails total r.too_much) refl in

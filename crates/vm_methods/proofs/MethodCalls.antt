@@ -1,9 +1,9 @@
 -- Calls of methods with their objects and arguments.
-use Rattle.std.proofs.Common.{◌≡◌, ℕ, suc, ◌-◌, ◌<◌, ◌≤◌, Bool, true, false, nat_eq, List, [], ◌∷◌, length, map, take, drop, get_or, refl, Option, Some, None, Result, sym, ap, ◌∙◌, subst, arith}
+use Rattle.std.proofs.Common.{◌≡◌, ℕ, suc, ◌-◌, ◌<◌, ◌≤◌, Bool, true, false, nat_eq, List, [], ◌∷◌, length, map, take, drop, get_or, refl, Option, Some, None, Result, Ok, Err, sym, ap, ◌∙◌, subst, arith}
 use Rattle.std.proofs.lemmas.List.{length-map, take_all}
 use Rattle.mpy_base.specs.declared.builtin.Builtin.{Builtin}
 use Rattle.mpy_base.specs.World.{Heap, Objects, AList, ADict, IsA, items_at, pairs_at}
-use Rattle.mpy_base.specs.Val.{Val}
+use Rattle.mpy_base.specs.Val.{Val, Nil}
 use Rattle.arena_heap.specs.declared.value.Value.{Value}
 use Rattle.arena_heap.specs.declared.value.Value.TheVariants as values
 use Rattle.arena_heap.specs.declared.value.StrNo.{StrNo}
@@ -13,7 +13,8 @@ use Rattle.arena_heap.specs.declared.value.DictNo.{DictNo}
 use Rattle.arena_heap.specs.Values.{Leads}
 use Rattle.py_values.specs.Shown.{Shown, Items, Pairs, shown}
 use Rattle.py_primitives.specs.Faults.{Fault}
-use Rattle.py_primitives.specs.Outcome.{Outcome}
+use Rattle.py_primitives.specs.Outcome as primitives
+use Rattle.py_primitives.specs.Outcome.{Outcome, gives, go_on_with, followed_by}
 use Rattle.py_primitives.specs.Calls.{Exactly, Between, counts_of, count_fault, unless_fault}
 use Rattle.py_primitives.specs.Methods.{list_method, dict_method, method_shown, call_method}
 use Rattle.vm_walks.specs.Plain.{plain, plain_pair, plain_heap}
@@ -93,3 +94,30 @@ two_are (a ∷ b ∷ c ∷ rest) d e = absurd (omega arith)
 pub parted : (args : List Value) (d : Value) → 0 < length args → args ≡ get_or args 0 d ∷ take (length args - 1) (drop 1 args)
 parted [] d some = absurd (omega arith)
 parted (arg ∷ args) d some = ap (λ (rest : List Value). arg ∷ rest) (sym (take_all (suc (length args) - 1) args (omega arith)))
+
+-- a call whose value is let go
+module _ (texts : StrNo → Option (List ℕ)) (tuples : ConstNo → Option (List Value)) (h new : Heap Value ℕ) (outcome : Outcome Val) where
+  abbrev after : Result Val primitives.Stop → Outcome Val
+  after answer = go_on_with answer outcome.heap outcome.visits (λ v behind. gives Nil behind)
+
+  pub then_nothing : (v : Value) → IsOutcome texts tuples h new (Ok v) outcome → IsOutcome texts tuples h new (Ok values.None) (followed_by outcome (λ v behind. gives Nil behind))
+  then_nothing v is =
+      let e = ap after is.answer in
+      record {
+        answer = ap (λ (o : Outcome Val). o.answer) e;
+        heap = is.heap ∙ ap (λ (o : Outcome Val). o.heap) e;
+        known = record { leads = record { meets = tt; small = tt }; told = tt };
+        later = is.later;
+        all_told = is.all_told;
+      }
+
+  pub then_stopped : (stop : Stop) → IsOutcome texts tuples h new (Err stop) outcome → IsOutcome texts tuples h new (Err stop) (followed_by outcome (λ v behind. gives Nil behind))
+  then_stopped stop is =
+      let e = ap after is.answer in
+      record {
+        answer = ap (λ (o : Outcome Val). o.answer) e;
+        heap = is.heap ∙ ap (λ (o : Outcome Val). o.heap) e;
+        known = is.known;
+        later = is.later;
+        all_told = is.all_told;
+      }

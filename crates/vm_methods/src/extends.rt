@@ -56,10 +56,10 @@ fn extend_by_letters<C: Constants>(
     requires leads { Leads arena.old.objects from }
     requires told { IsTold (C.text_of consts.now) (C.items_of consts.now) from }
     requires all_told { AllTold (C.text_of consts.now) (C.items_of consts.now) arena.old.objects }
-    ensures { IsOutcome (C.text_of consts.now) (C.items_of consts.now) arena.old arena.new result (followed_by (extend_in (plain_heap (C.text_of consts.now) (C.items_of consts.now) arena.old) l.cell (plain (C.text_of consts.now) (C.items_of consts.now) from)) (λ extended behind. gives Nil behind)) }
+    ensures { IsOutcome (C.text_of consts.now) (C.items_of consts.now) arena.old arena.new result (extend_in (plain_heap (C.text_of consts.now) (C.items_of consts.now) arena.old) l.cell (plain (C.text_of consts.now) (C.items_of consts.now) from)) }
 {
     match list_extend(arena, consts, l, from) {
-        Ok(()) => Ok(Value::None),
+        Ok(()) => Ok(Value::List(l)),
         Err(room) => Err(Stop::Full(room)),
     }
 }
@@ -76,17 +76,37 @@ fn extend_by_items<C: Constants>(
     requires leads { Leads arena.old.objects from }
     requires told { IsTold (C.text_of consts.now) (C.items_of consts.now) from }
     requires all_told { AllTold (C.text_of consts.now) (C.items_of consts.now) arena.old.objects }
-    ensures { IsOutcome (C.text_of consts.now) (C.items_of consts.now) arena.old arena.new result (followed_by (extend_in (plain_heap (C.text_of consts.now) (C.items_of consts.now) arena.old) l.cell (plain (C.text_of consts.now) (C.items_of consts.now) from)) (λ extended behind. gives Nil behind)) }
+    ensures { IsOutcome (C.text_of consts.now) (C.items_of consts.now) arena.old arena.new result (extend_in (plain_heap (C.text_of consts.now) (C.items_of consts.now) arena.old) l.cell (plain (C.text_of consts.now) (C.items_of consts.now) from)) }
 {
     items_law(arena, consts, from);
     match list_extend(arena, consts, l, from) {
-        Ok(()) => Ok(Value::None),
+        Ok(()) => Ok(Value::List(l)),
         Err(room) => Err(Stop::Full(room)),
     }
 }
 
-/// Extends a list by what a value gives.
-fn extend<C: Constants>(
+/// Extends a list by the items of an iterable, its own too. A str gives a new text for each byte.
+pub fn extend_list<C: Constants>(
+    arena: &mut Arena,
+    consts: &C,
+    l: ListNo,
+    from: Value,
+) -> Result<Value, Stop>
+    requires list { IsA arena.old.objects AList l.cell }
+    requires leads { Leads arena.old.objects from }
+    requires told { IsTold (C.text_of consts.now) (C.items_of consts.now) from }
+    requires all_told { AllTold (C.text_of consts.now) (C.items_of consts.now) arena.old.objects }
+    ensures { IsOutcome (C.text_of consts.now) (C.items_of consts.now) arena.old arena.new result (extend_in (plain_heap (C.text_of consts.now) (C.items_of consts.now) arena.old) l.cell (plain (C.text_of consts.now) (C.items_of consts.now) from)) }
+{
+    match gift_of(arena, from) {
+        Gift::Letters => extend_by_letters(arena, consts, l, from),
+        Gift::Items => extend_by_items(arena, consts, l, from),
+        Gift::Nothing => Err(Stop::Raises(Fault::NotIterable(type_of(arena, from)))),
+    }
+}
+
+/// Extends a list, and gives None.
+fn extend_only<C: Constants>(
     arena: &mut Arena,
     consts: &C,
     l: ListNo,
@@ -98,10 +118,9 @@ fn extend<C: Constants>(
     requires all_told { AllTold (C.text_of consts.now) (C.items_of consts.now) arena.old.objects }
     ensures { IsOutcome (C.text_of consts.now) (C.items_of consts.now) arena.old arena.new result (followed_by (extend_in (plain_heap (C.text_of consts.now) (C.items_of consts.now) arena.old) l.cell (plain (C.text_of consts.now) (C.items_of consts.now) from)) (λ extended behind. gives Nil behind)) }
 {
-    match gift_of(arena, from) {
-        Gift::Letters => extend_by_letters(arena, consts, l, from),
-        Gift::Items => extend_by_items(arena, consts, l, from),
-        Gift::Nothing => Err(Stop::Raises(Fault::NotIterable(type_of(arena, from)))),
+    match extend_list(arena, consts, l, from) {
+        Ok(_) => Ok(Value::None),
+        Err(stop) => Err(stop),
     }
 }
 
@@ -122,7 +141,7 @@ pub fn call_list_extend<C: Constants>(
 {
     let l = list_number(object);
     match one_argument(args, keys) {
-        Ok(from) => extend(arena, consts, l, from),
+        Ok(from) => extend_only(arena, consts, l, from),
         Err(fault) => Err(Stop::Raises(fault)),
     }
 }

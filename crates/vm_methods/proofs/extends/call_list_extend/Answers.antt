@@ -10,17 +10,17 @@ use Rattle.vm_builtins.proofs.Calls.{one_known, method_refused}
 use Rattle.vm_methods.proofs.MethodCalls.{exactly, is_list, list_done}
 use Rattle.vm_methods.proofs.extends.call_list_extend.Goals as goal
 
-pub extend-requires-clause-list : goal.extend-requires-clause-list
-extend-requires-clause-list g c = is_list c.args.arena.now.objects c.args.object c.list_number-l.result c.list_number-l.ensures c.requires.leads
+pub extend_only-requires-clause-list : goal.extend_only-requires-clause-list
+extend_only-requires-clause-list g c = is_list c.args.arena.now.objects c.args.object c.list_number-l.result c.list_number-l.ensures c.requires.leads
 
-pub extend-requires-clause-leads : goal.extend-requires-clause-leads
-extend-requires-clause-leads g c =
+pub extend_only-requires-clause-leads : goal.extend_only-requires-clause-leads
+extend_only-requires-clause-leads g c =
     let texts = g.C.Constants.text_of c.args.consts.now in
     let tuples = g.C.Constants.items_of c.args.consts.now in
     (one_known texts tuples c.args.arena.now c.args.args.now c.in-Ok.from c.in-Ok.ensures.given c.requires.known).leads
 
-pub extend-requires-clause-told : goal.extend-requires-clause-told
-extend-requires-clause-told g c =
+pub extend_only-requires-clause-told : goal.extend_only-requires-clause-told
+extend_only-requires-clause-told g c =
     let texts = g.C.Constants.text_of c.args.consts.now in
     let tuples = g.C.Constants.items_of c.args.consts.now in
     (one_known texts tuples c.args.arena.now c.args.args.now c.in-Ok.from c.in-Ok.ensures.given c.requires.known).told
@@ -33,9 +33,9 @@ returns-in-Ok g c =
     let args = c.args.args.now in
     let l = c.list_number-l.result in
     list_done texts tuples h builtins.ListExtend args c.args.keys.now c.args.object c.in-Ok.ensures.no_keywords (exactly 1 (length args) (ap (λ (vs : List Value). length vs) c.in-Ok.ensures.given)) l
-    c.list_number-l.ensures c.requires.leads c.extend.new.arena c.extend.result
-    (subst (λ (vs : List Value). IsOutcome texts tuples h c.extend.new.arena c.extend.result (list_method (plain_heap texts tuples h) builtins.ListExtend l.cell (map (plain texts tuples) (items_at h l.cell)) (map (plain texts tuples) vs)))
-    (sym c.in-Ok.ensures.given) c.extend.ensures)
+    c.list_number-l.ensures c.requires.leads c.extend_only.new.arena c.extend_only.result
+    (subst (λ (vs : List Value). IsOutcome texts tuples h c.extend_only.new.arena c.extend_only.result (list_method (plain_heap texts tuples h) builtins.ListExtend l.cell (map (plain texts tuples) (items_at h l.cell)) (map (plain texts tuples) vs)))
+    (sym c.in-Ok.ensures.given) c.extend_only.ensures)
 
 pub returns-in-Err : goal.returns-in-Err
 returns-in-Err g c =

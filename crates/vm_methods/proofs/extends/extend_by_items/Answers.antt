@@ -33,7 +33,7 @@ returns-in-Ok g c =
     let fit_room : Fits h (list_growth h l total) 0 = record { cells_fit = omega (arith, fits.cells_fit); bytes_fit = omega (arith, fits.bytes_fit) } in
     let keeps = shows.1 (with_list_room heap l total) ∙ ap (λ (w : PlainHeap). gives items w) (sym (roomy_plain texts tuples h l total)) in
     let same = extends_as heap l v items total (shows.0) (count_plain texts tuples h l items total all) true _ (growth_fits texts tuples h l total fit_room) keeps in
-    extended_outcome texts tuples h l new c.in-Ok.ensures.later c.in-Ok.ensures.all_told _ heap v items total roomy xs refl same
+    extended_outcome texts tuples h l new c.in-Ok.ensures.later c.in-Ok.ensures.all_told _ c.args.l refl c.requires.list heap v items total roomy xs refl same
     (c.in-Ok.ensures.ok ∙ (ap (λ (bs : List ℕ). with_list (with_texts roomy bs) l (items_at h l ++ (xs ++ texts_from (used roomy) (length bs)))) empty
     ∙ ap (λ (ys : List Value). with_list roomy l (items_at h l ++ ys)) (append-nil xs)))
 

@@ -38,7 +38,7 @@ returns-in-Ok g c =
     let keeps = ap (λ (s : Shown). kept_items (with_list_room heap l total) items s) shows
     ∙ (ap (λ (w : PlainHeap). making_texts w (map (λ byte. byte ∷ []) bytes)) (sym (roomy_plain texts tuples h l total)) ∙ letters_made texts tuples roomy bytes fit_texts) in
     let same = extends_as heap l v items total (ap shown_items shows) (count_plain texts tuples h l items total all) true _ (growth_fits texts tuples h l total fit_room) keeps in
-    extended_outcome texts tuples h l new c.in-Ok.ensures.later c.in-Ok.ensures.all_told _ heap v items total (with_texts roomy bytes) more refl same
+    extended_outcome texts tuples h l new c.in-Ok.ensures.later c.in-Ok.ensures.all_told _ c.args.l refl c.requires.list heap v items total (with_texts roomy bytes) more refl same
     (c.in-Ok.ensures.ok ∙ ap (λ (xs : List Value). with_list (with_texts roomy bytes) l (items_at h l ++ (xs ++ more))) none)
 
 pub returns-in-Err : goal.returns-in-Err

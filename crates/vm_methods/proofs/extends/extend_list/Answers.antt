@@ -1,12 +1,12 @@
 use Rattle.std.proofs.Common.{List, ℕ, Option, sym, ap, ◌∙◌}
-use Rattle.mpy_base.specs.Val.{Val, Nil}
+use Rattle.mpy_base.specs.Val.{Val}
 use Rattle.py_primitives.specs.Faults.{NotIterable}
-use Rattle.py_primitives.specs.Outcome.{raises, followed_by, gives}
+use Rattle.py_primitives.specs.Outcome.{raises}
 use Rattle.py_primitives.specs.Iterables.{over_items}
 use Rattle.py_primitives.specs.Operators.{extended_by}
 use Rattle.vm_walks.specs.Plain.{plain, plain_heap}
 use Rattle.vm_faults.proofs.Outcomes.{raises_outcome}
-use Rattle.vm_methods.proofs.extends.extend.Goals as goal
+use Rattle.vm_methods.proofs.extends.extend_list.Goals as goal
 
 pub returns-in-Nothing : goal.returns-in-Nothing
 returns-in-Nothing g c =
@@ -16,5 +16,5 @@ returns-in-Nothing g c =
     let heap = plain_heap texts tuples h in
     let v = plain texts tuples c.args.from in
     raises_outcome texts tuples h _ _ c.requires.all_told tt
-    (ap (λ (o : Option (List Val)). followed_by (over_items heap v o (extended_by heap c.args.l.cell v)) (λ extended behind. gives Nil behind)) (c.in-Nothing.ensures texts tuples)
+    (ap (λ (o : Option (List Val)). over_items heap v o (extended_by heap c.args.l.cell v)) (c.in-Nothing.ensures texts tuples)
     ∙ ap (λ (t : List ℕ). raises {A = Val} (NotIterable t) heap) (sym (c.type_of.ensures texts tuples)))
