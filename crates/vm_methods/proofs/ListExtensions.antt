@@ -20,7 +20,7 @@ use Rattle.arena_objects.proofs.MadeTexts.{text_more}
 use Rattle.py_values.specs.Shown.{PlainHeap, Shown, shown, shown_object, range_len}
 use Rattle.py_primitives.specs.Outcome as primitives
 use Rattle.py_primitives.specs.Outcome.{Outcome, gives, is_full, with_visits, followed_by, making_text, making_texts}
-use Rattle.py_primitives.specs.Iterables.{range_number, range_numbers, shown_items, items_in, over_items, kept_items}
+use Rattle.py_primitives.specs.Iterables.{range_number, shown_items, items_in, over_items, kept_items}
 use Rattle.py_primitives.specs.Operators.{extend, extended_by}
 use Rattle.vm_walks.specs.Plain.{plain, plain_pair, plain_object, plain_heap}
 use Rattle.vm_walks.proofs.PlainValues.{object_plain, fixed_shown}

@@ -1,11 +1,11 @@
 -- An empty list that is filled item by item.
-use Rattle.std.proofs.Common.{◌≡◌, ℕ, suc, ◌+◌, ◌<◌, ◌≤◌, List, [], ◌∷◌, ◌++◌, length, take, set, Option, Some, None, refl, sym, ap, ap₂, ◌∙◌, arith, get_or-set_same, get_or-set_other}
+use Rattle.std.proofs.Common.{◌≡◌, ℕ, ◌+◌, ◌<◌, ◌≤◌, List, length, take, Option, Some, None, sym, ap, ap₂, ◌∙◌, arith, get_or-set_same, get_or-set_other}
 use Rattle.std.specs.Prelude.{slice_get}
 use Rattle.std.specs.List.{insert}
-use Rattle.std.proofs.lemmas.List.{set-set, set-get_or, length-take-le, take_all}
+use Rattle.std.proofs.lemmas.List.{set-set, length-take-le, take_all}
 use Rattle.std.proofs.lemmas.List.Edits.{insert_end}
 use Rattle.arena_heap.specs.declared.value.Value.{Value}
-use Rattle.mpy_base.specs.World.{ListObject, Heap, ObjectKind, AList, IsA, object, kind_of, items_of, items_at, room_of, room_at, with_object, with_list}
+use Rattle.mpy_base.specs.World.{ListObject, Heap, AList, IsA, object, items_of, items_at, room_of, room_at, with_object, with_list}
 use Rattle.mpy_base.proofs.Worlds.{is_within}
 use Rattle.arena_heap.specs.Values.{ArenaObject}
 use Rattle.arena_objects.proofs.Gifts.{item_more}
@@ -15,21 +15,8 @@ module _ (h : Heap Value ℕ) (l : ℕ) (is : IsA h.objects AList l) (target : L
   abbrev pub filled : ℕ → Heap Value ℕ
   filled k = with_list h l (take k target)
 
-  list_kept : (o : Option ArenaObject) → kind_of o ≡ Some AList → length (items_of o) ≡ 0 → Some (ListObject [] (room_of o)) ≡ o
-  list_kept (Some (ListObject [] room)) is e = refl
-  list_kept (Some (ListObject (item ∷ items) room)) is e = absurd (omega arith)
-  list_kept _ is e = absurd cc
-
-  pub begins : length (items_at h l) ≡ 0 → h ≡ filled 0
-  begins e =
-      sym (ap (λ (o : Option ArenaObject). record h { objects = set h.objects l o }) (list_kept (object h.objects l) is e)
-      ∙ ap (λ (os : List (Option ArenaObject)). record h { objects = os }) (set-get_or h.objects l None))
-
   there : (a : Heap Value ℕ) (k : ℕ) → a ≡ filled k → object a.objects l ≡ Some (ListObject (take k target) (room_at h l))
   there a k e = ap (λ (w : Heap Value ℕ). object w.objects l) e ∙ get_or-set_same h.objects l (Some (ListObject (take k target) (room_at h l))) None (is_within h.objects AList l is)
-
-  pub room_same : (a : Heap Value ℕ) (k : ℕ) → a ≡ filled k → room_at a l ≡ room_at h l
-  room_same a k e = ap room_of (there a k e)
 
   pub count : (a : Heap Value ℕ) (k : ℕ) → a ≡ filled k → k ≤ length target → length (items_at a l) ≡ k
   count a k e le = ap (λ (o : Option ArenaObject). length (items_of o)) (there a k e) ∙ length-take-le k target le

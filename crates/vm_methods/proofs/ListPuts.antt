@@ -1,5 +1,5 @@
 -- Lists that hold other items from now on.
-use Rattle.std.proofs.Common.{◌≡◌, ℕ, zero, suc, ◌+◌, ◌≤◌, List, [], ◌∷◌, ◌++◌, length, map, take, drop, replicate, cond, Bool, true, false, Option, Some, None, Ok, Err, refl, sym, ap, ap₂, ◌∙◌, subst, arith, length-append}
+use Rattle.std.proofs.Common.{◌≡◌, ℕ, zero, suc, ◌+◌, ◌≤◌, List, [], ◌∷◌, ◌++◌, length, map, take, drop, replicate, cond, Bool, true, false, Option, None, Ok, Err, refl, sym, ap, ap₂, ◌∙◌, subst, arith, length-append}
 use Rattle.std.specs.Prelude.{if◌then◌else◌, nat_le}
 use Rattle.std.specs.List.{insert, All}
 use Rattle.std.proofs.lemmas.List.{map-append, length-map, length-take-le, length-drop}
@@ -18,7 +18,7 @@ use Rattle.arena_heap.specs.Constants.{IsTold}
 use Rattle.arena_objects.specs.Keys.{AllTold}
 use Rattle.arena_objects.proofs.Tolds.{told_used}
 use Rattle.py_values.specs.Shown.{PlainHeap}
-use Rattle.py_primitives.specs.Outcome.{Outcome, gives, is_full}
+use Rattle.py_primitives.specs.Outcome.{gives, is_full}
 use Rattle.py_primitives.specs.Methods.{put_items}
 use Rattle.vm_walks.specs.Plain.{plain, plain_object, plain_heap}
 use Rattle.vm_faults.specs.declared.stop.Stop.TheVariants.{Full}

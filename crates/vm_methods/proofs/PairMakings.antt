@@ -1,15 +1,15 @@
 -- Tuples that are made of the pairs of a dict, and a list that takes them.
-use Rattle.std.proofs.Common.{◌≡◌, ℕ, zero, suc, ◌+◌, ◌*◌, ◌<◌, List, [], ◌∷◌, ◌++◌, length, map, take, set, get_or, replicate, Bool, true, cond, Option, Some, None, Ok, Err, refl, sym, ap, ap₂, ◌∙◌, subst, arith, length-append, get_or-set_same}
+use Rattle.std.proofs.Common.{◌≡◌, ℕ, zero, suc, ◌+◌, ◌*◌, ◌<◌, List, [], ◌∷◌, length, map, take, set, get_or, replicate, Bool, cond, Option, Some, None, Ok, refl, sym, ap, ap₂, ◌∙◌, subst, arith, length-append, get_or-set_same}
 use Rattle.std.specs.Prelude.{slice_get}
 use Rattle.std.specs.List.{range_with_len, All}
 use Rattle.std.proofs.Math.Seq.{take-suc}
-use Rattle.std.proofs.lemmas.List.{set-set, get_or_append_left, get_or_at, length-take-le, length-map}
+use Rattle.std.proofs.lemmas.List.{set-set, get_or_append_left, get_or_at, length-take-le}
 use Rattle.std.proofs.lemmas.List.Sums.{fold-append}
 use Rattle.std.proofs.lemmas.List.FromFn.{length-map-range_with_len, get_or-map-range_with_len}
 use Rattle.std.proofs.lemmas.List.Elements.{All-nil, All-cons}
 use Rattle.std.proofs.lemmas.Option.{slice_get-get_or}
 use Rattle.mpy_base.specs.World.{Object, ListObject, TupleObject, Heap, AList, ATuple, IsA, Later, object, kind_of, items_of, items_at, room_at, with_list, with_tuple}
-use Rattle.mpy_base.specs.Weights.{Fits, Made, used, does_fit, room_for, with_made}
+use Rattle.mpy_base.specs.Weights.{Fits, Made, used, room_for, with_made}
 use Rattle.mpy_base.specs.Val.{Val, At}
 use Rattle.mpy_base.proofs.Worlds.{later_append, later_later, later_same, later_list, later_made, object_made, is_within}
 use Rattle.arena_heap.specs.declared.value.Value.{Value}
@@ -23,7 +23,7 @@ use Rattle.arena_objects.specs.Keys.{AllTold}
 use Rattle.arena_objects.proofs.Places.{no_pair}
 use Rattle.arena_objects.proofs.Tolds.{Both, told_with_made}
 use Rattle.py_values.specs.Shown.{PlainHeap}
-use Rattle.py_primitives.specs.Outcome.{Outcome, gives, is_full, with_visits, followed_by, making, making_tuple, list_of}
+use Rattle.py_primitives.specs.Outcome.{Outcome, gives, is_full, with_visits, followed_by, making_tuple, list_of}
 use Rattle.py_primitives.specs.Methods.{making_pairs}
 use Rattle.vm_walks.specs.Plain.{plain, plain_pair, plain_heap}
 use Rattle.vm_faults.specs.Outcomes.{IsOutcome}
@@ -91,7 +91,7 @@ next_fits h a new n pairs k pair lt ea m =
     }
 
 -- two items that are filled in
-pub filled_once : {old made a : Heap Value ℕ} {t : ℕ} (key : Value) → Made old made t (TupleObject (values.None ∷ values.None ∷ [])) → a ≡ with_tuple made t (set (items_at made t) 0 key)
+filled_once : {old made a : Heap Value ℕ} {t : ℕ} (key : Value) → Made old made t (TupleObject (values.None ∷ values.None ∷ [])) → a ≡ with_tuple made t (set (items_at made t) 0 key)
     → a ≡ with_tuple made t (key ∷ values.None ∷ [])
 filled_once {old} {made} {a} {t} key m e = e ∙ ap (λ (o : Option ArenaObject). with_tuple made t (set (items_of o) 0 key)) (object_made m)
 
@@ -100,10 +100,6 @@ there_once : {old made a : Heap Value ℕ} {t : ℕ} (key : Value) → Made old 
 there_once {old} {made} {a} {t} key m e =
     let o : ArenaObject = TupleObject (key ∷ values.None ∷ []) in
     ap (λ (w : Heap Value ℕ). items_at w t) (filled_once key m e) ∙ ap items_of (get_or-set_same made.objects t (Some o) None (is_within made.objects ATuple t (ap kind_of (object_made m))))
-
-pub room_once : {old made a : Heap Value ℕ} {t : ℕ} (key : Value) → Made old made t (TupleObject (values.None ∷ values.None ∷ [])) → a ≡ with_tuple made t (set (items_at made t) 0 key)
-    → length (items_at a t) ≡ 2
-room_once key m e = ap (λ (xs : List Value). length xs) (there_once key m e)
 
 pub pair_filled : {old made a b : Heap Value ℕ} {t : ℕ} (key v : Value) → Made old made t (TupleObject (values.None ∷ values.None ∷ [])) → a ≡ with_tuple made t (set (items_at made t) 0 key)
     → b ≡ with_tuple a t (set (items_at a t) 1 v) → Made old b (used old) (TupleObject (key ∷ v ∷ []))

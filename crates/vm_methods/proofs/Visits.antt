@@ -1,5 +1,5 @@
 -- Visits of calls that only make.
-use Rattle.std.proofs.Common.{◌≡◌, ℕ, ◌+◌, List, [], ◌∷◌, ◌++◌, length, map, Bool, true, false, cond, Option, Some, None, Result, Ok, Err, refl, ap, ◌∙◌, arith}
+use Rattle.std.proofs.Common.{◌≡◌, ℕ, List, [], ◌∷◌, ◌++◌, length, map, Bool, true, false, cond, Result, Ok, Err, refl, ◌∙◌, arith}
 use Rattle.std.specs.Prelude.{if◌then◌else◌}
 use Rattle.std.proofs.lemmas.List.{length-map}
 use Rattle.std.proofs.lemmas.List.FromFn.{length-map-range_with_len}
@@ -10,25 +10,21 @@ use Rattle.py_values.specs.Shown.{PlainHeap, Shown, Nothing, Number, Text, Tuple
 use Rattle.py_primitives.specs.Outcome.{Outcome, Stop, gives, is_full, with_visits, go_on_with, followed_by, making, making_text, making_texts, making_tuple, list_of}
 use Rattle.py_primitives.specs.Iterables.{letter, range_number, range_numbers, shown_items, shown_length, length_of, over_items, kept_items}
 use Rattle.py_primitives.specs.Operators.{extend}
-use Rattle.py_primitives.specs.Methods.{dict_list, making_pairs}
+use Rattle.py_primitives.specs.Methods.{making_pairs}
 
 tested : (heap : PlainHeap) (o : Object Val (List ℕ)) (b : Bool) → (cond b (gives (At (used heap)) (with_made heap o)) (is_full heap (cells_of o) (bytes_of o))).visits ≡ 0
 tested heap o true = refl
 tested heap o false = refl
 
-pub making_visits : (heap : PlainHeap) (o : Object Val (List ℕ)) → (making heap o).visits ≡ 0
+making_visits : (heap : PlainHeap) (o : Object Val (List ℕ)) → (making heap o).visits ≡ 0
 making_visits heap o = tested heap o (does_fit heap (cells_of o) (bytes_of o))
-
--- a list of what a dict has
-pub list_visits : (heap : PlainHeap) (f : Val × Val → Val) (pairs : List (Val × Val)) → (dict_list heap (map f pairs)).visits ≡ length pairs
-list_visits heap f pairs = omega (arith, making_visits heap (ListObject (map f pairs) (room_for (length (map f pairs)))), length-map pairs f)
 
 go_visits : {A B : Type 0} (r : Result A Stop) (heap : PlainHeap) (n : ℕ) (next : A → PlainHeap → Outcome B) → ((a : A) (w : PlainHeap) → (next a w).visits ≡ 0) → (go_on_with r heap n next).visits ≡ n
 go_visits (Ok a) heap n next z = let e = z a heap in omega (arith, e)
 go_visits (Err stop) heap n next z = refl
 
 -- what comes next visits nothing
-pub followed_visits : {A B : Type 0} (first : Outcome A) (next : A → PlainHeap → Outcome B) → ((a : A) (w : PlainHeap) → (next a w).visits ≡ 0) → (followed_by first next).visits ≡ first.visits
+followed_visits : {A B : Type 0} (first : Outcome A) (next : A → PlainHeap → Outcome B) → ((a : A) (w : PlainHeap) → (next a w).visits ≡ 0) → (followed_by first next).visits ≡ first.visits
 followed_visits first next z = go_visits first.answer first.heap first.visits next z
 
 text_visits : (heap : PlainHeap) (bytes : List ℕ) → (making_text heap bytes).visits ≡ 0

@@ -1,10 +1,9 @@
-use Rattle.std.proofs.Common.{◌≡◌, ℕ, ◌≤◌, List, [], ◌∷◌, ◌++◌, length, map, sym, ap, ◌∙◌, subst, arith}
+use Rattle.std.proofs.Common.{◌≡◌, ℕ, List, [], ◌∷◌, ◌++◌, length, map, sym, ap, ◌∙◌, subst}
 use Rattle.std.specs.List.{insert}
 use Rattle.std.proofs.lemmas.List.{length-map}
 use Rattle.std.proofs.lemmas.List.Edits.{insert_end}
 use Rattle.mpy_base.specs.World.{items_at}
 use Rattle.mpy_base.specs.Val.{Val}
-use Rattle.arena_heap.specs.declared.value.Value.{Value}
 use Rattle.py_primitives.specs.Methods.{put_items}
 use Rattle.vm_walks.specs.Plain.{plain, plain_heap}
 use Rattle.vm_faults.specs.Outcomes.{IsOutcome}

@@ -1,8 +1,7 @@
-use Rattle.std.proofs.Common.{◌≡◌, ℕ, ◌<◌, List, length, map, get_or, Option, sym, ap, ◌∙◌, subst, arith}
+use Rattle.std.proofs.Common.{◌≡◌, ℕ, ◌<◌, List, length, map, get_or, Option, sym, ap, ◌∙◌}
 use Rattle.std.specs.Prelude.{codes}
 use Rattle.mpy_base.specs.World.{pairs_at}
-use Rattle.mpy_base.specs.Val.{Val, Nil}
-use Rattle.arena_heap.specs.declared.value.Value.{Value}
+use Rattle.mpy_base.specs.Val.{Val}
 use Rattle.arena_heap.specs.declared.value.Value.TheVariants as values
 use Rattle.py_values.specs.Keys.{value_of_key}
 use Rattle.py_primitives.specs.Faults.{UnsupportedOne}

@@ -1,4 +1,4 @@
-use Rattle.std.proofs.Common.{◌≡◌, ℕ, ◌+◌, ◌*◌, ◌<◌, List, length, sym, ap, ◌∙◌, subst, arith}
+use Rattle.std.proofs.Common.{ℕ, ◌+◌, ◌*◌, ◌<◌, List, length, sym, ap, ◌∙◌, subst, arith}
 use Rattle.mpy_base.specs.World.{Heap, AList, ATuple, IsA, items_of, room_of, items_at, room_at, pairs_at}
 use Rattle.mpy_base.proofs.Worlds.{is_within}
 use Rattle.arena_heap.specs.declared.value.Value.{Value}

@@ -1,4 +1,4 @@
-use Rattle.std.proofs.Common.{◌≡◌, ℕ, ◌+◌, ◌*◌, ◌<◌, List, [], length, map, take, sym, ap, ◌∙◌, subst, arith}
+use Rattle.std.proofs.Common.{◌≡◌, ℕ, ◌*◌, List, [], length, map, take, sym, ap, ◌∙◌, subst, arith}
 use Rattle.std.proofs.lemmas.List.{length-map}
 use Rattle.std.proofs.lemmas.List.Elements.{All-take}
 use Rattle.mpy_base.specs.World.{Heap, ListObject, ADict, Later, pairs_of, pairs_at, with_list}
@@ -13,7 +13,7 @@ use Rattle.arena_objects.proofs.Tolds.{Both, told_pairs}
 use Rattle.py_values.specs.Shown.{PlainHeap}
 use Rattle.py_primitives.specs.Outcome.{Outcome}
 use Rattle.py_primitives.specs.Methods.{making_pairs}
-use Rattle.vm_walks.specs.Plain.{plain_pair, plain_heap}
+use Rattle.vm_walks.specs.Plain.{plain_pair}
 use Rattle.vm_operators.proofs.ItemFills.{room_made, told_empty}
 use Rattle.vm_methods.specs.PairTuples.{with_tuples, tuples_from, TupleRefused}
 use Rattle.vm_methods.proofs.ListExtensions.{stopped_outcome}

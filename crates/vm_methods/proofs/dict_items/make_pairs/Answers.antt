@@ -1,13 +1,11 @@
-use Rattle.std.proofs.Common.{◌≡◌, ℕ, ◌+◌, ◌*◌, ◌<◌, List, [], ◌∷◌, length, take, get_or, Option, Some, None, sym, ap, ◌∙◌, subst, arith}
+use Rattle.std.proofs.Common.{◌≡◌, ℕ, ◌<◌, List, [], ◌∷◌, length, take, sym, ap, ◌∙◌, subst, arith}
 use Rattle.std.specs.Prelude.{slice_get}
-use Rattle.std.proofs.lemmas.List.{take_all}
 use Rattle.std.proofs.lemmas.Option.{slice_get-get_or}
 use Rattle.mpy_base.specs.World.{Heap, TupleObject, ADict, Later, pairs_of, pairs_at}
-use Rattle.mpy_base.specs.Weights.{Fits, Made, Refused, used}
+use Rattle.mpy_base.specs.Weights.{Made, used}
 use Rattle.mpy_base.proofs.Worlds.{is_within}
 use Rattle.arena_heap.specs.declared.value.Value.{Value}
 use Rattle.arena_objects.proofs.Places.{no_pair, read_pair}
-use Rattle.vm_methods.specs.PairTuples.{with_tuples}
 use Rattle.vm_methods.proofs.PairMakings.{tuples_later, tuples_same, next_tuple, next_fits}
 use Rattle.vm_methods.proofs.dict_items.make_pairs.Goals as goal
 

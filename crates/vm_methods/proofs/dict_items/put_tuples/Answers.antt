@@ -1,4 +1,4 @@
-use Rattle.std.proofs.Common.{◌≡◌, ℕ, ◌+◌, ◌*◌, ◌<◌, ◌≤◌, length, arith}
+use Rattle.std.proofs.Common.{◌+◌, ◌*◌, ◌<◌, ◌≤◌, length, arith}
 use Rattle.arena_heap.specs.declared.value.Value.TheVariants as values
 use Rattle.vm_methods.specs.PairTuples.{tuples_from}
 use Rattle.vm_methods.proofs.ListFills.{count, step, ends}

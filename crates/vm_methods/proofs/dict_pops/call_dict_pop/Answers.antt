@@ -1,4 +1,4 @@
-use Rattle.std.proofs.Common.{◌≡◌, ℕ, ◌<◌, List, length, map, refl, sym, ap, subst, arith}
+use Rattle.std.proofs.Common.{◌<◌, List, length, map, refl, sym, subst, arith}
 use Rattle.mpy_base.specs.declared.builtin.Builtin.TheVariants as builtins
 use Rattle.mpy_base.specs.World.{pairs_at}
 use Rattle.arena_heap.specs.declared.value.Value.{Value}

@@ -1,15 +1,15 @@
-use Rattle.std.proofs.Common.{◌≡◌, ℕ, ◌<◌, List, length, map, get_or, Option, Ok, Err, sym, ap, ◌∙◌, subst, arith}
+use Rattle.std.proofs.Common.{◌≡◌, ℕ, ◌<◌, List, length, map, get_or, Option, Ok, Err, sym, ap, ◌∙◌, subst}
 use Rattle.std.specs.Prelude.{codes}
 use Rattle.std.specs.List.{remove}
 use Rattle.mpy_base.specs.World.{Heap, pairs_at, with_dict}
-use Rattle.mpy_base.specs.Val.{Val, Nil}
+use Rattle.mpy_base.specs.Val.{Val}
 use Rattle.arena_heap.specs.declared.value.Value.{Value}
 use Rattle.arena_heap.specs.declared.value.Value.TheVariants as values
 use Rattle.arena_heap.proofs.Sounds.{leads_later}
 use Rattle.py_values.specs.Shown.{PlainHeap}
 use Rattle.py_values.specs.Keys.{value_of_key}
 use Rattle.py_primitives.specs.Faults.{UnsupportedOne}
-use Rattle.py_primitives.specs.Outcome.{Outcome, gives, raises}
+use Rattle.py_primitives.specs.Outcome.{gives, raises}
 use Rattle.py_primitives.specs.Operators.{with_key_of}
 use Rattle.py_primitives.specs.Methods.{pop_found}
 use Rattle.vm_walks.specs.Plain.{plain, plain_pair, plain_heap}

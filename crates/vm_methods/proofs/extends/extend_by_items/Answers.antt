@@ -1,8 +1,7 @@
-use Rattle.std.proofs.Common.{◌≡◌, ℕ, ◌+◌, ◌*◌, List, length, map, true, inl, inr, refl, sym, ap, ◌∙◌, ◌++◌, arith}
+use Rattle.std.proofs.Common.{◌≡◌, ℕ, ◌+◌, List, length, map, true, inl, inr, refl, sym, ap, ◌∙◌, ◌++◌, arith}
 use Rattle.std.proofs.lemmas.List.{length-map, append-nil}
 use Rattle.mpy_base.specs.World.{items_at, with_list}
 use Rattle.mpy_base.specs.Weights.{Fits, used, list_growth, with_list_room}
-use Rattle.mpy_base.specs.Val.{Val}
 use Rattle.arena_heap.specs.declared.value.Value.{Value}
 use Rattle.arena_objects.specs.Iterables as arena
 use Rattle.arena_objects.specs.Iterables.{spelled, with_texts, texts_from, extended_length}

@@ -1,13 +1,12 @@
-use Rattle.std.proofs.Common.{◌≡◌, ℕ, ◌+◌, ◌*◌, List, [], ◌∷◌, length, map, take, true, Some, Ok, inl, inr, refl, sym, ap, ◌∙◌, ◌++◌, arith}
+use Rattle.std.proofs.Common.{◌≡◌, ◌+◌, ◌*◌, List, [], ◌∷◌, length, map, take, true, inl, inr, refl, sym, ap, ◌∙◌, ◌++◌, arith}
 use Rattle.std.proofs.lemmas.List.{length-map}
 use Rattle.mpy_base.specs.World.{items_at, with_list}
 use Rattle.mpy_base.specs.Weights.{Fits, used, list_growth, with_list_room}
 use Rattle.mpy_base.specs.Val.{Val}
 use Rattle.arena_heap.specs.declared.value.Value.{Value}
-use Rattle.arena_objects.specs.Iterables as arena
 use Rattle.arena_objects.specs.Iterables.{spelled, with_texts, texts_from, extended_length}
 use Rattle.py_values.specs.Shown.{PlainHeap, Shown}
-use Rattle.py_primitives.specs.Outcome.{Outcome, gives, is_full, making_texts}
+use Rattle.py_primitives.specs.Outcome.{Outcome, making_texts}
 use Rattle.py_primitives.specs.Iterables.{letter, shown_items, kept_items}
 use Rattle.vm_walks.specs.Plain.{plain, plain_heap}
 use Rattle.vm_operators.proofs.ItemsShown.{str_shown}

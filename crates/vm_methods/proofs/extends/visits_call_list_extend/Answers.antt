@@ -1,4 +1,4 @@
-use Rattle.std.proofs.Common.{List, length, map, refl, sym, ap, ◌∙◌, arith}
+use Rattle.std.proofs.Common.{List, length, map, refl, ap, ◌∙◌, arith}
 use Rattle.mpy_base.specs.declared.builtin.Builtin.TheVariants as builtins
 use Rattle.mpy_base.specs.World.{items_at}
 use Rattle.mpy_base.specs.Val.{Val}

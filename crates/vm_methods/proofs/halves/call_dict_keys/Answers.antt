@@ -1,4 +1,4 @@
-use Rattle.std.proofs.Common.{length, map, refl}
+use Rattle.std.proofs.Common.{length, refl}
 use Rattle.mpy_base.specs.declared.builtin.Builtin.TheVariants as builtins
 use Rattle.mpy_base.specs.World.{pairs_at}
 use Rattle.py_primitives.specs.Calls.{Exactly}

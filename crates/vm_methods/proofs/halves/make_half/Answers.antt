@@ -1,9 +1,9 @@
-use Rattle.std.proofs.Common.{◌≡◌, ℕ, ◌+◌, ◌<◌, suc, List, [], ◌∷◌, length, map, refl, sym, ap, ◌∙◌, subst, arith}
+use Rattle.std.proofs.Common.{◌≡◌, ℕ, ◌+◌, suc, List, [], length, map, refl, sym, ap, ◌∙◌, subst, arith}
 use Rattle.std.proofs.lemmas.List.{length-map}
-use Rattle.mpy_base.specs.World.{Heap, ListObject, AList, ADict, IsA, Later, kind_of, object, pairs_of, pairs_at, with_list}
+use Rattle.mpy_base.specs.World.{ListObject, ADict, kind_of, pairs_of, pairs_at, with_list}
 use Rattle.mpy_base.specs.Weights.{Made, Refused, room_for}
 use Rattle.mpy_base.proofs.Rooms.{room_is}
-use Rattle.mpy_base.proofs.Worlds.{is_within, later_list, later_later, object_before, object_made}
+use Rattle.mpy_base.proofs.Worlds.{is_within, object_before, object_made}
 use Rattle.arena_heap.specs.declared.value.Value.{Value}
 use Rattle.arena_heap.specs.declared.value.Value.TheVariants as values
 use Rattle.arena_heap.specs.Constants.{IsTold}

@@ -1,10 +1,9 @@
-use Rattle.std.proofs.Common.{◌≡◌, ℕ, ◌<◌, ℤ, negsuc, List, map, length, sym, ap, ◌∙◌, subst}
+use Rattle.std.proofs.Common.{◌<◌, ℤ, map, length, sym, ◌∙◌, subst}
 use Rattle.mpy_base.specs.World.{items_at}
 use Rattle.mpy_base.specs.Val.{Val, Int}
-use Rattle.arena_heap.specs.declared.value.Value.{Value}
 use Rattle.arena_heap.specs.declared.value.Value.TheVariants as values
 use Rattle.py_primitives.specs.Outcome.{Outcome}
-use Rattle.py_primitives.specs.Methods.{pop, pop_from}
+use Rattle.py_primitives.specs.Methods.{pop_from}
 use Rattle.vm_walks.specs.Plain.{plain, plain_heap}
 use Rattle.vm_faults.specs.Outcomes.{IsOutcome}
 use Rattle.vm_faults.proofs.Outcomes.{raises_outcome}

@@ -1,4 +1,4 @@
-use Rattle.std.proofs.Common.{◌≡◌, ℕ, ◌<◌, ℤ, List, map, length, get_or, Option, Some, sym, ap, ◌∙◌, subst, arith}
+use Rattle.std.proofs.Common.{◌≡◌, ℕ, ◌<◌, ℤ, List, map, length, Option, Some, sym, ap, ◌∙◌, subst, arith}
 use Rattle.std.specs.Prelude.{slice_get}
 use Rattle.std.specs.Option.{option_map}
 use Rattle.std.specs.List.{remove}
@@ -16,7 +16,7 @@ use Rattle.arena_objects.proofs.Gifts.{given_list, read_item}
 use Rattle.arena_objects.proofs.RangeNumbers.{small_same}
 use Rattle.arena_objects.proofs.Tolds.{told_items}
 use Rattle.py_values.specs.Shown.{PlainHeap}
-use Rattle.py_primitives.specs.Outcome.{Outcome, gives}
+use Rattle.py_primitives.specs.Outcome.{gives}
 use Rattle.py_primitives.specs.Iterables.{or_nil}
 use Rattle.py_primitives.specs.Uses.{at_place}
 use Rattle.py_primitives.specs.Methods.{pop_at}
@@ -27,7 +27,7 @@ use Rattle.vm_operators.proofs.ItemFills.{told_put}
 use Rattle.vm_operators.proofs.ItemsShown.{length_plain}
 use Rattle.vm_operators.proofs.Removals.{map_remove, all_remove}
 use Rattle.vm_builtins.proofs.SmallSame.{one_same}
-use Rattle.vm_methods.proofs.ItemPops.{empty_popped, popped_from}
+use Rattle.vm_methods.proofs.ItemPops.{popped_from}
 use Rattle.vm_methods.proofs.pops.pop_from.Goals as goal
 
 pub items_law-requires-clause-leads : goal.items_law-requires-clause-leads

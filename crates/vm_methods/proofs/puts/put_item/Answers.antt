@@ -1,9 +1,8 @@
-use Rattle.std.proofs.Common.{◌≡◌, ℕ, List, length, map, Ok, Err, ap, subst}
+use Rattle.std.proofs.Common.{ℕ, List, Ok, Err, subst}
 use Rattle.std.specs.List.{insert}
-use Rattle.mpy_base.specs.World.{Heap, items_at}
+use Rattle.mpy_base.specs.World.{items_at}
 use Rattle.mpy_base.specs.Weights.{Fits, Refused, list_growth}
 use Rattle.mpy_base.specs.Val.{Val}
-use Rattle.arena_heap.specs.declared.value.Value.{Value}
 use Rattle.arena_heap.specs.declared.value.Value.TheVariants as values
 use Rattle.arena_heap.specs.Constants.{IsTold}
 use Rattle.arena_objects.proofs.Tolds.{told_items}
