@@ -1,3 +1,2 @@
-pub mod Gifts
 pub mod Halves
 pub mod PairTuples

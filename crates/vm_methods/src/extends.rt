@@ -4,7 +4,7 @@ ghost use Rattle.std.specs.Prelude.{◌≡◌, ◌<◌, ◌^◌, length, map, mi
 ghost use Rattle.mpy_base.specs.declared.builtin.Builtin.TheVariants as builtins;
 ghost use Rattle.mpy_base.specs.World.{AList, IsA};
 ghost use Rattle.mpy_base.specs.Val.{Nil};
-ghost use Rattle.arena_heap.specs.Values.{Leads, IsList, IsStr};
+ghost use Rattle.arena_heap.specs.Values.{Leads, IsList};
 ghost use Rattle.arena_heap.specs.Constants.{IsTold};
 ghost use Rattle.arena_objects.specs.Keys.{AllTold};
 ghost use Rattle.py_primitives.specs.Outcome.{followed_by, gives};
@@ -13,97 +13,13 @@ ghost use Rattle.py_primitives.specs.Methods.{call_method};
 ghost use Rattle.vm_walks.specs.Plain.{plain, plain_pair, plain_heap};
 ghost use Rattle.vm_faults.specs.Faults.{IsKnown};
 ghost use Rattle.vm_faults.specs.Outcomes.{IsOutcome};
-ghost use Rattle.vm_operators.specs.Operands.{HasItems};
-ghost use Rattle.vm_methods.specs.Gifts.{IsGift};
 
 use crate::objects::list_number;
 use arena_heap::{Arena, Constants, ListNo, Value};
-use arena_objects::list_extend;
+use vm_assignments::extend_list;
 use vm_builtins::one_argument;
-use vm_faults::{Fault, Stop, type_of};
-use vm_operators::{items_law, length_of};
-
-/// What a list takes of a value.
-#[derive(Clone, Copy)]
-enum Gift {
-    Letters,
-    Items,
-    Nothing,
-}
-
-fn gift_of(_arena: &Arena, v: Value) -> Gift
-    requires { Leads _arena.now.objects v }
-    ensures { IsGift _arena.now v result }
-{
-    match v {
-        Value::Fixed(_) => Gift::Items,
-        Value::Str(_) | Value::Text(_) => Gift::Letters,
-        Value::Empty | Value::Tuple(_) | Value::List(_) => Gift::Items,
-        Value::Dict(_) | Value::Range(_) => Gift::Items,
-        _ => Gift::Nothing,
-    }
-}
-
-/// Extends a list by a text for each byte of a str.
-fn extend_by_letters<C: Constants>(
-    arena: &mut Arena,
-    consts: &C,
-    l: ListNo,
-    from: Value,
-) -> Result<Value, Stop>
-    requires list { IsA arena.old.objects AList l.cell }
-    requires str { IsStr from }
-    requires leads { Leads arena.old.objects from }
-    requires told { IsTold (C.text_of consts.now) (C.items_of consts.now) from }
-    requires all_told { AllTold (C.text_of consts.now) (C.items_of consts.now) arena.old.objects }
-    ensures { IsOutcome (C.text_of consts.now) (C.items_of consts.now) arena.old arena.new result (extend_in (plain_heap (C.text_of consts.now) (C.items_of consts.now) arena.old) l.cell (plain (C.text_of consts.now) (C.items_of consts.now) from)) }
-{
-    match list_extend(arena, consts, l, from) {
-        Ok(()) => Ok(Value::List(l)),
-        Err(room) => Err(Stop::Full(room)),
-    }
-}
-
-/// Extends a list by the items of another iterable.
-fn extend_by_items<C: Constants>(
-    arena: &mut Arena,
-    consts: &C,
-    l: ListNo,
-    from: Value,
-) -> Result<Value, Stop>
-    requires list { IsA arena.old.objects AList l.cell }
-    requires has { HasItems from }
-    requires leads { Leads arena.old.objects from }
-    requires told { IsTold (C.text_of consts.now) (C.items_of consts.now) from }
-    requires all_told { AllTold (C.text_of consts.now) (C.items_of consts.now) arena.old.objects }
-    ensures { IsOutcome (C.text_of consts.now) (C.items_of consts.now) arena.old arena.new result (extend_in (plain_heap (C.text_of consts.now) (C.items_of consts.now) arena.old) l.cell (plain (C.text_of consts.now) (C.items_of consts.now) from)) }
-{
-    items_law(arena, consts, from);
-    match list_extend(arena, consts, l, from) {
-        Ok(()) => Ok(Value::List(l)),
-        Err(room) => Err(Stop::Full(room)),
-    }
-}
-
-/// Extends a list by the items of an iterable, its own too. A str gives a new text for each byte.
-pub fn extend_list<C: Constants>(
-    arena: &mut Arena,
-    consts: &C,
-    l: ListNo,
-    from: Value,
-) -> Result<Value, Stop>
-    requires list { IsA arena.old.objects AList l.cell }
-    requires leads { Leads arena.old.objects from }
-    requires told { IsTold (C.text_of consts.now) (C.items_of consts.now) from }
-    requires all_told { AllTold (C.text_of consts.now) (C.items_of consts.now) arena.old.objects }
-    ensures { IsOutcome (C.text_of consts.now) (C.items_of consts.now) arena.old arena.new result (extend_in (plain_heap (C.text_of consts.now) (C.items_of consts.now) arena.old) l.cell (plain (C.text_of consts.now) (C.items_of consts.now) from)) }
-{
-    match gift_of(arena, from) {
-        Gift::Letters => extend_by_letters(arena, consts, l, from),
-        Gift::Items => extend_by_items(arena, consts, l, from),
-        Gift::Nothing => Err(Stop::Raises(Fault::NotIterable(type_of(arena, from)))),
-    }
-}
+use vm_faults::Stop;
+use vm_operators::length_of;
 
 /// Extends a list, and gives None.
 fn extend_only<C: Constants>(

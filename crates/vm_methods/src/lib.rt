@@ -16,7 +16,7 @@ pub use appends::call_list_append;
 pub use dict_gets::call_dict_get;
 pub use dict_items::{call_dict_items, visits_call_dict_items};
 pub use dict_pops::call_dict_pop;
-pub use extends::{call_list_extend, extend_list, visits_call_list_extend};
+pub use extends::{call_list_extend, visits_call_list_extend};
 pub use halves::{
     call_dict_keys, call_dict_values, visits_call_dict_keys, visits_call_dict_values,
 };

@@ -16,7 +16,7 @@ use Rattle.py_primitives.specs.Methods.{making_pairs}
 use Rattle.vm_walks.specs.Plain.{plain_pair}
 use Rattle.vm_operators.proofs.ItemFills.{room_made, told_empty}
 use Rattle.vm_methods.specs.PairTuples.{with_tuples, tuples_from, TupleRefused}
-use Rattle.vm_methods.proofs.ListExtensions.{stopped_outcome}
+use Rattle.vm_methods.proofs.Stopped.{stopped_outcome}
 use Rattle.vm_methods.proofs.PairMakings.{tuples_later, tuples_told, pairs_made, some_pairs_made, list_taking, took_tuples}
 use Rattle.vm_methods.proofs.dict_items.make_items.Goals as goal
 
@@ -73,4 +73,4 @@ returns-in-Err-fill_with_tuples g c =
     let all : AllTold texts tuples new.objects =
     subst (λ (w : Heap Value ℕ). AllTold texts tuples w.objects) (sym t.refused.unchanged) (tuples_told texts tuples made (take t.made pairs) (told_empty texts tuples m c.requires.all_told) told) in
     let is = list_taking texts tuples h made l (length vs) m (λ (behind : PlainHeap). making_pairs behind vs) _ (some_pairs_made texts tuples made pairs t.made t.behind t.fitted t.refused.too_much) in
-    stopped_outcome texts tuples h l.cell new later all _ mid room 3 0 t.refused (ap (λ (o : Outcome Val). o.answer) is) (ap (λ (o : Outcome Val). o.heap) is)
+    stopped_outcome texts tuples h new later all _ mid room 3 0 t.refused (ap (λ (o : Outcome Val). o.answer) is) (ap (λ (o : Outcome Val). o.heap) is)
