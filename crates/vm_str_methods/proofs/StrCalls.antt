@@ -36,17 +36,23 @@ module _ (texts : StrNo → Option (List ℕ)) (tuples : ConstNo → Option (Lis
       ∙ text_method (plain_heap texts tuples h) method (plain texts tuples object) args (spelled texts h object)
 
   -- one argument, as the method takes it
+  pub str_call : (method : Builtin) (object : Value) (args : List Value) (keys : List (Value × Value)) (v : Value)
+      → IsStr object → Leads h.objects object → args ≡ v ∷ [] → keys ≡ [] → counts_of method ≡ Exactly 1
+      → call_method (plain_heap texts tuples h) method (plain texts tuples object) (map (plain texts tuples) args) (map (plain_pair texts tuples) keys)
+      ≡ str_method (plain_heap texts tuples h) method (plain texts tuples object) (spelled texts h object) (plain texts tuples v ∷ [])
+  str_call method object args keys v str leads is none counts =
+      let heap = plain_heap texts tuples h in
+      let shows = method_shown heap method (plain texts tuples object) (plain texts tuples v ∷ []) (shown heap (plain texts tuples object)) in
+      ap₂ (λ (vs : List Value) (ks : List (Value × Value)). call_method heap method (plain texts tuples object) (map (plain texts tuples) vs) (map (plain_pair texts tuples) ks)) is none
+      ∙ (ap (λ (c : Counts). unless_fault heap (count_fault c 1) shows) counts
+      ∙ shown_method method object (plain texts tuples v ∷ []) str leads)
+
   pub str_called : (method : Builtin) (object : Value) (args : List Value) (keys : List (Value × Value)) (new : Heap Value ℕ) (v : Value) (result : Result Value Stop)
       → IsStr object → Leads h.objects object → args ≡ v ∷ [] → keys ≡ [] → counts_of method ≡ Exactly 1
       → IsOutcome texts tuples h new result (str_method (plain_heap texts tuples h) method (plain texts tuples object) (spelled texts h object) (plain texts tuples v ∷ []))
       → IsOutcome texts tuples h new result (call_method (plain_heap texts tuples h) method (plain texts tuples object) (map (plain texts tuples) args) (map (plain_pair texts tuples) keys))
   str_called method object args keys new v result str leads is none counts done =
-      let heap = plain_heap texts tuples h in
-      let shows = method_shown heap method (plain texts tuples object) (plain texts tuples v ∷ []) (shown heap (plain texts tuples object)) in
-      subst (λ (o : Outcome Val). IsOutcome texts tuples h new result o)
-      (sym (ap₂ (λ (vs : List Value) (ks : List (Value × Value)). call_method heap method (plain texts tuples object) (map (plain texts tuples) vs) (map (plain_pair texts tuples) ks)) is none
-      ∙ (ap (λ (c : Counts). unless_fault heap (count_fault c 1) shows) counts
-      ∙ shown_method method object (plain texts tuples v ∷ []) str leads))) done
+      subst (λ (o : Outcome Val). IsOutcome texts tuples h new result o) (sym (str_call method object args keys v str leads is none counts)) done
 
   -- an argument that is no str
   pub refuses : (heap : PlainHeap) (object v : Val) (next : List ℕ → Outcome Val) (look : Look) (w : Value) (s : Shown) → ((part : _) → look ≡ looks.Text part → ⊥) → seen texts tuples h w look ≡ s

@@ -2,8 +2,12 @@
 #![tactic(auto)]
 
 mod arguments;
+mod cuts;
 mod finds;
+mod joins;
+mod parts;
 mod starts;
 
 pub use finds::call_str_find;
+pub use joins::{call_str_join, visits_call_str_join};
 pub use starts::call_str_startswith;
