@@ -1,6 +1,10 @@
 pub mod JoinOutcomes
 pub mod JoinParts
 pub mod Joinings
+pub mod PieceLists
+pub mod PieceSteps
+pub mod PieceTexts
 pub mod Places
+pub mod SplitOutcomes
 pub mod StrCalls
 pub mod Writings

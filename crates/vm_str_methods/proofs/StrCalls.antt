@@ -1,5 +1,5 @@
 -- Calls of str methods with their arguments.
-use Rattle.std.proofs.Common.{◌≡◌, ℕ, List, [], ◌∷◌, map, Option, Result, refl, sym, ap, ap₂, ◌∙◌, subst}
+use Rattle.std.proofs.Common.{◌≡◌, ℕ, ◌≤◌, ◌<◌, length, arith, List, [], ◌∷◌, map, Option, Result, refl, sym, ap, ap₂, ◌∙◌, subst}
 use Rattle.std.specs.Prelude.{codes}
 use Rattle.arena_heap.specs.declared.value.Value.{Value}
 use Rattle.arena_heap.specs.declared.value.StrNo.{StrNo}
@@ -7,6 +7,7 @@ use Rattle.arena_heap.specs.declared.value.ConstNo.{ConstNo}
 use Rattle.arena_heap.specs.Values.{Leads, IsStr}
 use Rattle.arena_objects.specs.Iterables.{spelled}
 use Rattle.mpy_base.specs.declared.builtin.Builtin.{Builtin}
+use Rattle.mpy_base.specs.declared.builtin.Builtin.TheVariants as builtins
 use Rattle.mpy_base.specs.World.{Heap}
 use Rattle.mpy_base.specs.Val.{Val, At}
 use Rattle.py_values.specs.Shown.{PlainHeap, Shown, Text, shown}
@@ -53,6 +54,20 @@ module _ (texts : StrNo → Option (List ℕ)) (tuples : ConstNo → Option (Lis
       → IsOutcome texts tuples h new result (call_method (plain_heap texts tuples h) method (plain texts tuples object) (map (plain texts tuples) args) (map (plain_pair texts tuples) keys))
   str_called method object args keys new v result str leads is none counts done =
       subst (λ (o : Outcome Val). IsOutcome texts tuples h new result o) (sym (str_call method object args keys v str leads is none counts)) done
+
+  -- split takes one argument at most
+  pub split_call : (object : Value) (args : List Value) (keys : List (Value × Value)) → IsStr object → Leads h.objects object → length args ≤ 1 → keys ≡ []
+      → call_method (plain_heap texts tuples h) builtins.StrSplit (plain texts tuples object) (map (plain texts tuples) args) (map (plain_pair texts tuples) keys)
+      ≡ str_method (plain_heap texts tuples h) builtins.StrSplit (plain texts tuples object) (spelled texts h object) (map (plain texts tuples) args)
+  split_call object args keys str leads few none =
+      ap (λ (ks : List (Value × Value)). call_method (plain_heap texts tuples h) builtins.StrSplit (plain texts tuples object) (map (plain texts tuples) args) (map (plain_pair texts tuples) ks)) none
+      ∙ counted args few
+    where
+      counted : (vs : List Value) → length vs ≤ 1 → call_method (plain_heap texts tuples h) builtins.StrSplit (plain texts tuples object) (map (plain texts tuples) vs) []
+          ≡ str_method (plain_heap texts tuples h) builtins.StrSplit (plain texts tuples object) (spelled texts h object) (map (plain texts tuples) vs)
+      counted [] few = shown_method builtins.StrSplit object [] str leads
+      counted (v ∷ []) few = shown_method builtins.StrSplit object (plain texts tuples v ∷ []) str leads
+      counted (v ∷ w ∷ vs) few = absurd (omega arith)
 
   -- an argument that is no str
   pub refuses : (heap : PlainHeap) (object v : Val) (next : List ℕ → Outcome Val) (look : Look) (w : Value) (s : Shown) → ((part : _) → look ≡ looks.Text part → ⊥) → seen texts tuples h w look ≡ s

@@ -17,7 +17,7 @@ use arena_objects::{item_at, item_count};
 use vm_operators::items_law;
 
 /// Whether a value is a str.
-fn is_str(v: Value) -> bool
+pub(crate) fn is_str(v: Value) -> bool
     ensures { IsTrue result ↔ IsStr v }
 {
     match v {
