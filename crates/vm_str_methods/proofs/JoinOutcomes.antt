@@ -139,5 +139,5 @@ join_visits heap v separator (Some items) =
     let next = gives_joined heap separator in
     let none = joined_free heap separator (all_strs (strs_in heap items)) in
     let behind : (after_answer (parts_of heap items).answer heap next).visits ≡ (gives_joined heap separator (all_strs (strs_in heap items))).visits =
-        ap (λ (x : Option (Option (List (List ℕ)))). (after_answer x heap next).visits) (walk_answer heap items) in
+    ap (λ (x : Option (Option (List (List ℕ)))). (after_answer x heap next).visits) (walk_answer heap items) in
     omega (arith, behind, none, walk_visits heap items)

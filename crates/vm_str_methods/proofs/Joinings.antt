@@ -47,8 +47,13 @@ module _ (separator : List ℕ) where
   longer xs [] = omega (arith, ap (λ (l : List (List ℕ)). length (joined separator l)) (append-nil xs))
   longer xs (y ∷ ys) =
       let more = longer (xs ++ y ∷ []) ys in
-      omega (arith, more, ap (λ (l : List (List ℕ)). length (joined separator l)) (append_assoc xs (y ∷ []) ys),
-      ap (λ (l : List ℕ). length l) (joined_more xs y), length-append (joined separator xs) (in_front (length xs) separator ++ y))
+      omega (
+        arith,
+        more,
+        ap (λ (l : List (List ℕ)). length (joined separator l)) (append_assoc xs (y ∷ []) ys),
+        ap (λ (l : List ℕ). length l) (joined_more xs y),
+        length-append (joined separator xs) (in_front (length xs) separator ++ y),
+      )
 
   module _ (parts : List (List ℕ)) (at : ℕ) (lt : at < length parts) where
     pub next_part : joined separator (take (at + 1) parts) ≡ joined separator (take at parts) ++ (in_front at separator ++ get_or parts at [])
@@ -59,8 +64,13 @@ module _ (separator : List ℕ) where
 
     pub next_fits : length (joined separator (take at parts)) + length (in_front at separator ++ get_or parts at []) ≤ length (joined separator parts)
     next_fits =
-        omega (arith, longer (take (at + 1) parts) (drop (at + 1) parts), ap (λ (l : List (List ℕ)). length (joined separator l)) (take-append-drop (at + 1) parts),
-        ap (λ (l : List ℕ). length l) next_part, length-append (joined separator (take at parts)) (in_front at separator ++ get_or parts at []))
+        omega (
+          arith,
+          longer (take (at + 1) parts) (drop (at + 1) parts),
+          ap (λ (l : List (List ℕ)). length (joined separator l)) (take-append-drop (at + 1) parts),
+          ap (λ (l : List ℕ). length l) next_part,
+          length-append (joined separator (take at parts)) (in_front at separator ++ get_or parts at []),
+        )
 
 pub first_front : (separator : List ℕ) (at : ℕ) → at ≡ 0 → in_front at separator ≡ []
 first_front separator zero e = refl
@@ -99,8 +109,17 @@ far_more separator strs at len n s new far lt is first others counted =
     record {
       parts = far.parts ++ p ∷ [];
       are = ap (λ (j : ℕ). take j strs) one ∙ (take-suc strs at None lt ∙ (ap₂ (λ (l : List (Option (List ℕ))) (o : Option (List ℕ)). l ++ o ∷ []) far.are part.1 ∙ sym (map-append (λ (bs : List ℕ). Some bs) far.parts (p ∷ []))));
-      counted = omega (arith, counted, was, step_is separator at s n first others, part.2, front, ap (λ (l : List ℕ). length l) (joined_more separator far.parts p),
-          length-append (joined separator far.parts) (in_front (length far.parts) separator ++ p), length-append (in_front (length far.parts) separator) p);
+      counted = omega (
+        arith,
+        counted,
+        was,
+        step_is separator at s n first others,
+        part.2,
+        front,
+        ap (λ (l : List ℕ). length l) (joined_more separator far.parts p),
+        length-append (joined separator far.parts) (in_front (length far.parts) separator ++ p),
+        length-append (in_front (length far.parts) separator) p,
+      );
     }
 
 pub far_all : (separator : List ℕ) (strs : List (Option (List ℕ))) (at len : ℕ) → length strs ≤ at → SoFar separator strs at len

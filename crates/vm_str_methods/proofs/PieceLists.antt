@@ -138,6 +138,7 @@ module _ (h : Heap Value ℕ) (l first : ℕ) (is : IsA h.objects AList l) (piec
       kept (Some (ListObject [] room)) is none = refl
       kept (Some (ListObject (v ∷ vs) room)) is none = absurd cc
       kept _ is none = absurd cc
+
       same : (o : Option ArenaObject) → kind_of o ≡ Some AList → items_of o ≡ [] → h ≡ with_list h l []
       same o is' none' =
           sym (ap (λ (x : Option ArenaObject). record h { objects = set h.objects l x }) (kept (object h.objects l) is none)
@@ -163,7 +164,7 @@ module _ (h : Heap Value ℕ) (l first : ℕ) (is : IsA h.objects AList l) (piec
       pub value_leads : (v : Value) → v ≡ piece_value cell piece → All (Leads h.objects) (piece_values first pieces) → Leads a.objects v
       value_leads v e all =
           let one : Leads h.objects (piece_value (cells_behind first far.done) piece) =
-              value_there (Leads h.objects) first far.done piece others (subst (λ (ps : List (List ℕ)). All (Leads h.objects) (piece_values first ps)) here all) in
+          value_there (Leads h.objects) first far.done piece others (subst (λ (ps : List (List ℕ)). All (Leads h.objects) (piece_values first ps)) here all) in
           let same : piece_value (cells_behind first far.done) piece ≡ v = ap (λ (n : ℕ). piece_value n piece) (sym far.cells) ∙ sym e in
           leads_later later_put v (subst (Leads h.objects) same one)
 

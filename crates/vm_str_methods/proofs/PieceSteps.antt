@@ -79,6 +79,7 @@ module _ (bytes : List ℕ) where
           let both : get_or bytes to 0 ∷ drop (suc to) bytes ≡ y ∷ ys = sym (drop-cons bytes to 0 more) ∙ e in
           let same : get_or bytes to 0 ≡ y = cc in
           subst (λ (b : ℕ). is_space b ≡ true) same (other_true (is_space (get_or bytes to 0)) (stops more))
+
       by_rest : (ws rest : List ℕ) → 0 < length ws → All (λ byte. is_space byte ≡ false) ws → ((y : ℕ) (ys : List ℕ) → rest ≡ y ∷ ys → is_space y ≡ true) → words_of (ws ++ rest) ≡ ws ∷ words_of rest
       by_rest ws [] some all stop = ap words_of (append-nil ws) ∙ last_word ws some all
       by_rest ws (y ∷ ys) some all stop = word_then ws y ys some all (stop y ys refl)

@@ -74,10 +74,10 @@ module _ (texts : StrNo → Option (List ℕ)) (tuples : ConstNo → Option (Lis
     texts_refused new e r =
         let a = with_pieces mid r.done in
         let full : making_texts (plain_heap texts tuples mid) pieces ≡ is_full (plain_heap texts tuples a) 2 (length r.piece) =
-            ap (making_texts (plain_heap texts tuples mid)) r.are ∙ pieces_full texts tuples empty mid r.done r.piece r.rest r.fitted r.refused.some r.refused.refused.too_much in
+        ap (making_texts (plain_heap texts tuples mid)) r.are ∙ pieces_full texts tuples empty mid r.done r.piece r.rest r.fitted r.refused.some r.refused.refused.too_much in
         let outcome : list_of_texts heap pieces ≡ is_full (plain_heap texts tuples a) 2 (length r.piece) =
-            ap (λ (o : Outcome Val). followed_by o rest) list_made
-            ∙ ap (λ (o : Outcome (List Val)). followed_by (gives (At (used old)) (plain_heap texts tuples mid)) (λ made behind. followed_by o (λ items last. gives made (with_list last (used heap) items)))) full in
+        ap (λ (o : Outcome Val). followed_by o rest) list_made
+        ∙ ap (λ (o : Outcome (List Val)). followed_by (gives (At (used old)) (plain_heap texts tuples mid)) (λ made behind. followed_by o (λ items last. gives made (with_list last (used heap) items)))) full in
         let whole = full_outcome texts tuples a new e 2 (length r.piece) _ r.refused.refused (told_pieces texts tuples mid r.done told_mid) outcome in
         record {
           answer = whole.answer;
@@ -97,14 +97,14 @@ module _ (texts : StrNo → Option (List ℕ)) (tuples : ConstNo → Option (Lis
         let last : Later old.objects (with_list a l vs).objects = later_later (later_made m) (later_later (later_pieces mid pieces) (later_list a l vs there)) in
         let known = values_known texts tuples empty mid pieces in
         let told : AllTold texts tuples (with_list a l vs).objects =
-            told_put texts tuples a l AList there (told_pieces texts tuples mid pieces told_mid) (ListObject vs (room_at a l)) (λ k d lt. (known k d lt).told) in
+        told_put texts tuples a l AList there (told_pieces texts tuples mid pieces told_mid) (ListObject vs (room_at a l)) (λ k d lt. (known k d lt).told) in
         let made = pieces_made texts tuples empty mid pieces fits in
         let number : used heap ≡ l = used_plain texts tuples old ∙ sym m.number in
         let outcome : list_of_texts heap pieces ≡ gives (At (used old)) (with_list (plain_heap texts tuples a) (used heap) (map (plain texts tuples) vs)) =
-            ap (λ (o : Outcome Val). followed_by o rest) list_made
-            ∙ ap (λ (o : Outcome (List Val)). followed_by (gives (At (used old)) (plain_heap texts tuples mid)) (λ made behind. followed_by o (λ items last. gives made (with_list last (used heap) items)))) made in
+        ap (λ (o : Outcome Val). followed_by o rest) list_made
+        ∙ ap (λ (o : Outcome (List Val)). followed_by (gives (At (used old)) (plain_heap texts tuples mid)) (λ made behind. followed_by o (λ items last. gives made (with_list last (used heap) items)))) made in
         let world : with_list (plain_heap texts tuples a) (used heap) (map (plain texts tuples) vs) ≡ plain_heap texts tuples new =
-            ap (λ (n : ℕ). with_list (plain_heap texts tuples a) n (map (plain texts tuples) vs)) number ∙ (sym (list_put texts tuples a l vs) ∙ ap (plain_heap texts tuples) (sym e)) in
+        ap (λ (n : ℕ). with_list (plain_heap texts tuples a) n (map (plain texts tuples) vs)) number ∙ (sym (list_put texts tuples a l vs) ∙ ap (plain_heap texts tuples) (sym e)) in
         answered texts tuples old new (values.List (record { cell = l })) _ (subst (λ (w : Heap Value ℕ). Later old.objects w.objects) (sym e) last)
         (subst (λ (w : Heap Value ℕ). AllTold texts tuples w.objects) (sym e) told)
         (record { meets = subst (λ (w : Heap Value ℕ). IsA w.objects AList l) (sym e) ((later_list a l vs there).keeps AList l there); small = tt }) tt

@@ -54,8 +54,8 @@ written_on start xs ys from e le =
     let rest = drop (0 + length xs) start in
     let front : take from (xs ++ rest) ≡ xs = take_at xs rest from e in
     let back : drop (from + length ys) (xs ++ rest) ≡ drop (0 + length (xs ++ ys)) start =
-        sym (drop-drop (length ys) from (xs ++ rest)) ∙ (ap (λ (l : List ℕ). drop (length ys) l) (drop_at xs rest from e)
-        ∙ (drop-drop (length ys) (0 + length xs) start ∙ ap (λ (n : ℕ). drop n start) (omega (arith, length-append xs ys)))) in
+    sym (drop-drop (length ys) from (xs ++ rest)) ∙ (ap (λ (l : List ℕ). drop (length ys) l) (drop_at xs rest from e)
+    ∙ (drop-drop (length ys) (0 + length xs) start ∙ ap (λ (n : ℕ). drop n start) (omega (arith, length-append xs ys)))) in
     ap₂ (λ (l r : List ℕ). l ++ (ys ++ r)) front back ∙ sym (append_assoc xs ys (drop (0 + length (xs ++ ys)) start))
 
 -- bytes that are written behind others
@@ -69,9 +69,9 @@ written_both start from xs ys place e le =
     let count : length (front ++ xs) ≡ place = omega (arith, length-append front xs, lf) in
     let before : take place (written start from xs) ≡ front ++ xs = ap (λ (l : List ℕ). take place l) whole ∙ take_at (front ++ xs) rest place count in
     let back : drop (place + length ys) (written start from xs) ≡ drop (from + length (xs ++ ys)) start =
-        ap (λ (l : List ℕ). drop (place + length ys) l) whole ∙ (sym (drop-drop (length ys) place ((front ++ xs) ++ rest))
-        ∙ (ap (λ (l : List ℕ). drop (length ys) l) (drop_at (front ++ xs) rest place count)
-        ∙ (drop-drop (length ys) (from + length xs) start ∙ ap (λ (n : ℕ). drop n start) (omega (arith, length-append xs ys))))) in
+    ap (λ (l : List ℕ). drop (place + length ys) l) whole ∙ (sym (drop-drop (length ys) place ((front ++ xs) ++ rest))
+    ∙ (ap (λ (l : List ℕ). drop (length ys) l) (drop_at (front ++ xs) rest place count)
+    ∙ (drop-drop (length ys) (from + length xs) start ∙ ap (λ (n : ℕ). drop n start) (omega (arith, length-append xs ys))))) in
     ap₂ (λ (l r : List ℕ). l ++ (ys ++ r)) before back
     ∙ (append_assoc front xs (ys ++ drop (from + length (xs ++ ys)) start) ∙ ap (λ (l : List ℕ). front ++ l) (sym (append_assoc xs ys (drop (from + length (xs ++ ys)) start))))
 

@@ -36,13 +36,7 @@ fn str_byte<C: Constants>(arena: &Arena, consts: &C, s: Value, at: u32) -> u8
 }
 
 /// Writes a part of a str to a text, from a place on.
-pub(crate) fn put_cut<C: Constants>(
-    arena: &mut Arena,
-    consts: &C,
-    t: TextNo,
-    from: u32,
-    cut: Cut,
-)
+pub(crate) fn put_cut<C: Constants>(arena: &mut Arena, consts: &C, t: TextNo, from: u32, cut: Cut)
     requires text { IsA arena.old.objects AText t.cell }
     requires cut { IsCut (C.text_of consts.now) (C.items_of consts.now) arena.old cut }
     requires apart { IsOtherThan t.cell cut.of }

@@ -3,7 +3,7 @@
 ghost use Rattle.std.specs.Prelude.{◌≡◌, ◌≢◌, ◌+◌, ◌-◌, ◌++◌, ◌≤◌, ◌<◌, ◌^◌, length, map, min, slice_index_or, [], All, OnSome};
 ghost use Rattle.std.specs.Option.{option_map};
 ghost use Rattle.mpy_base.specs.declared.builtin.Builtin.TheVariants as builtins;
-ghost use Rattle.mpy_base.specs.World.{Later, text_at, with_text};
+ghost use Rattle.mpy_base.specs.World.{AText, IsA, Later, text_at, with_text};
 ghost use Rattle.arena_heap.specs.Values.{Leads, IsStr};
 ghost use Rattle.arena_heap.specs.Constants.{IsTold};
 ghost use Rattle.arena_objects.specs.Keys.{AllTold};
@@ -38,12 +38,7 @@ fn step_len(at: u32, separator: u32, part: u32) -> u64
 }
 
 /// How many bytes the joined strs of an iterable have, 2^64 - 1 at most, or None where an item is no str.
-fn joined_len<C: Constants>(
-    arena: &Arena,
-    consts: &C,
-    separator: Value,
-    over: Value,
-) -> Option<u64>
+fn joined_len<C: Constants>(arena: &Arena, consts: &C, separator: Value, over: Value) -> Option<u64>
     requires separator { IsKnownStr (C.text_of consts.now) (C.items_of consts.now) arena.now.objects separator }
     requires over { IsKnown (C.text_of consts.now) (C.items_of consts.now) arena.now.objects over }
     requires all_told { AllTold (C.text_of consts.now) (C.items_of consts.now) arena.now.objects }
@@ -70,9 +65,10 @@ fn put_separator<C: Constants>(
     from: u32,
     at: u32,
     separator: Cut,
-    over: Value,
 ) -> u32
-    requires join { CanJoin (C.text_of consts.now) (C.items_of consts.now) arena.old t.cell separator over }
+    requires text { IsA arena.old.objects AText t.cell }
+    requires cut { IsCut (C.text_of consts.now) (C.items_of consts.now) arena.old separator }
+    requires apart { IsOtherThan t.cell separator.of }
     requires room { from + length (in_front at (cut_bytes (C.text_of consts.now) arena.old separator)) ≤ length (text_at arena.old t.cell) }
     requires few { length (text_at arena.old t.cell) < 2 ^ 32 }
     ensures put { arena.new ≡ with_text arena.old t.cell (written (text_at arena.old t.cell) from (in_front at (cut_bytes (C.text_of consts.now) arena.old separator))) }
@@ -103,7 +99,7 @@ fn put_part<C: Constants>(
     ensures place { result ≡ from + length (in_front at (cut_bytes (C.text_of consts.now) arena.old separator) ++ slice_index_or (parts_in (C.text_of consts.now) arena.old (C.items_of consts.now) over) at []) }
 {
     let part = part_at(arena, consts, over, at);
-    let behind = put_separator(arena, consts, t, from, at, separator, over);
+    let behind = put_separator(arena, consts, t, from, at, separator);
     put_cut(arena, consts, t, behind, part);
     behind + part.len
 }

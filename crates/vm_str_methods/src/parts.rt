@@ -58,12 +58,7 @@ fn item_len<C: Constants>(arena: &Arena, consts: &C, over: Value, at: u32) -> Op
 }
 
 /// How many bytes the part at a place has, or None where it is no str.
-pub(crate) fn part_len<C: Constants>(
-    arena: &Arena,
-    consts: &C,
-    over: Value,
-    at: u32,
-) -> Option<u32>
+pub(crate) fn part_len<C: Constants>(arena: &Arena, consts: &C, over: Value, at: u32) -> Option<u32>
     requires over { IsKnown (C.text_of consts.now) (C.items_of consts.now) arena.now.objects over }
     requires all_told { AllTold (C.text_of consts.now) (C.items_of consts.now) arena.now.objects }
     requires within { at < length (strs_of (plain_heap (C.text_of consts.now) (C.items_of consts.now) arena.now) (plain (C.text_of consts.now) (C.items_of consts.now) over)) }

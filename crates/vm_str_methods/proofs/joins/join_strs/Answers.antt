@@ -23,9 +23,9 @@ make_joined-requires-clause-len g c =
     let vs = or_nothing (items_in heap (plain texts tuples over)) in
     let parts = parts_in texts h tuples over in
     let all : all_strs (strs_of heap (plain texts tuples over)) ≡ Some parts =
-        ap all_strs (known_parts texts tuples h over c.requires.over.leads c.items_law.ensures.nested c.in-Some.ensures.known) ∙ all_some parts in
+    ap all_strs (known_parts texts tuples h over c.requires.over.leads c.items_law.ensures.nested c.in-Some.ensures.known) ∙ all_some parts in
     let both : Some c.in-Some.len ≡ Some (min (length (joined separator parts)) (2 ^ 64 - 1)) =
-        c.in-Some.ensures.len ∙ ap (λ (o : Option (List (List ℕ))). option_map (λ (ps : List (List ℕ)). min (length (joined separator ps)) (2 ^ 64 - 1)) o) all in
+    c.in-Some.ensures.len ∙ ap (λ (o : Option (List (List ℕ))). option_map (λ (ps : List (List ℕ)). min (length (joined separator ps)) (2 ^ 64 - 1)) o) all in
     cc
 
 pub returns-in-Some : goal.returns-in-Some
@@ -39,7 +39,7 @@ returns-in-Some g c =
     let vs = or_nothing (items_in heap (plain texts tuples over)) in
     let parts = parts_in texts h tuples over in
     let all : all_strs (strs_of heap (plain texts tuples over)) ≡ Some parts =
-        ap all_strs (known_parts texts tuples h over c.requires.over.leads c.items_law.ensures.nested c.in-Some.ensures.known) ∙ all_some parts in
+    ap all_strs (known_parts texts tuples h over c.requires.over.leads c.items_law.ensures.nested c.in-Some.ensures.known) ∙ all_some parts in
     joined_behind texts tuples h c.make_joined.new.arena c.make_joined.result separator vs (Some parts) all c.make_joined.ensures
 
 pub returns-in-None : goal.returns-in-None

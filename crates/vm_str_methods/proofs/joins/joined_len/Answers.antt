@@ -45,10 +45,11 @@ loop-at-preserved g c =
     let at = c.loop-at.at in
     let lt : at < length strs = omega (arith, c.loop-at-test.true, c.part_count-at-end.ensures.strs) in
     let same : c.str_len-between.result ≡ length separator = c.str_len-between.ensures in
-    let step = c.step_len.ensures in
-    (far_more separator strs at c.loop-at.len c.in-Some.part c.step_len.result c.saturating_add-len.result c.loop-at.invariant.0 lt c.in-Some.ensures.len
-      step.first (λ ne. let e = step.others ne in omega (arith, e, same)) c.saturating_add-len.ensures,
-      one_seen texts tuples h P items at c.loop-at.invariant.1 c.in-Some.ensures.known)
+    let step = c.step_len.ensures in (
+      far_more separator strs at c.loop-at.len c.in-Some.part c.step_len.result c.saturating_add-len.result c.loop-at.invariant.0 lt c.in-Some.ensures.len
+          step.first (λ ne. let e = step.others ne in omega (arith, e, same)) c.saturating_add-len.ensures,
+      one_seen texts tuples h P items at c.loop-at.invariant.1 c.in-Some.ensures.known,
+    )
 
 pub returns-in-None-clause-len : goal.returns-in-None-clause-len
 returns-in-None-clause-len g c =

@@ -30,7 +30,7 @@ put_parts-requires-clause-join g c =
     let m : Made h made t (TextObject (replicate len 0)) = c.in-Ok.ensures.made in
     let parts = parts_made texts tuples (replicate len 0) m over c.requires.over c.requires.strs in
     let same : joined (cut_bytes texts made cut) (parts_in texts made tuples over) ≡ target =
-        ap₂ (λ (s : List ℕ) (ps : List (List ℕ)). joined s ps) (cut_made texts tuples (replicate len 0) m cut c.whole-cut.ensures.cut ∙ c.whole-cut.ensures.bytes) parts in
+    ap₂ (λ (s : List ℕ) (ps : List (List ℕ)). joined s ps) (cut_made texts tuples (replicate len 0) m cut c.whole-cut.ensures.cut ∙ c.whole-cut.ensures.bytes) parts in
     let fits = m.fits.bytes_fit in
     let size : made.byte_size ≡ h.byte_size = ap (λ (w : Heap Value ℕ). w.byte_size) m.world in
     let count : len ≡ length target = omega (arith, c.requires.len, fits, length-replicate {A = ℕ} len 0, size, c.room_law.ensures.few_bytes) in
@@ -51,7 +51,7 @@ put_parts-requires-clause-count g c =
     let m : Made h made t (TextObject (replicate len 0)) = c.in-Ok.ensures.made in
     let parts = parts_made texts tuples (replicate len 0) m over c.requires.over c.requires.strs in
     let same : joined (cut_bytes texts made cut) (parts_in texts made tuples over) ≡ target =
-        ap₂ (λ (s : List ℕ) (ps : List (List ℕ)). joined s ps) (cut_made texts tuples (replicate len 0) m cut c.whole-cut.ensures.cut ∙ c.whole-cut.ensures.bytes) parts in
+    ap₂ (λ (s : List ℕ) (ps : List (List ℕ)). joined s ps) (cut_made texts tuples (replicate len 0) m cut c.whole-cut.ensures.cut ∙ c.whole-cut.ensures.bytes) parts in
     let fits = m.fits.bytes_fit in
     let size : made.byte_size ≡ h.byte_size = ap (λ (w : Heap Value ℕ). w.byte_size) m.world in
     let count : len ≡ length target = omega (arith, c.requires.len, fits, length-replicate {A = ℕ} len 0, size, c.room_law.ensures.few_bytes) in
@@ -72,7 +72,7 @@ put_parts-requires-clause-room g c =
     let m : Made h made t (TextObject (replicate len 0)) = c.in-Ok.ensures.made in
     let parts = parts_made texts tuples (replicate len 0) m over c.requires.over c.requires.strs in
     let same : joined (cut_bytes texts made cut) (parts_in texts made tuples over) ≡ target =
-        ap₂ (λ (s : List ℕ) (ps : List (List ℕ)). joined s ps) (cut_made texts tuples (replicate len 0) m cut c.whole-cut.ensures.cut ∙ c.whole-cut.ensures.bytes) parts in
+    ap₂ (λ (s : List ℕ) (ps : List (List ℕ)). joined s ps) (cut_made texts tuples (replicate len 0) m cut c.whole-cut.ensures.cut ∙ c.whole-cut.ensures.bytes) parts in
     let fits = m.fits.bytes_fit in
     let size : made.byte_size ≡ h.byte_size = ap (λ (w : Heap Value ℕ). w.byte_size) m.world in
     let count : len ≡ length target = omega (arith, c.requires.len, fits, length-replicate {A = ℕ} len 0, size, c.room_law.ensures.few_bytes) in
@@ -93,7 +93,7 @@ returns-in-Ok g c =
     let m : Made h made t (TextObject (replicate len 0)) = c.in-Ok.ensures.made in
     let parts = parts_made texts tuples (replicate len 0) m over c.requires.over c.requires.strs in
     let same : joined (cut_bytes texts made cut) (parts_in texts made tuples over) ≡ target =
-        ap₂ (λ (s : List ℕ) (ps : List (List ℕ)). joined s ps) (cut_made texts tuples (replicate len 0) m cut c.whole-cut.ensures.cut ∙ c.whole-cut.ensures.bytes) parts in
+    ap₂ (λ (s : List ℕ) (ps : List (List ℕ)). joined s ps) (cut_made texts tuples (replicate len 0) m cut c.whole-cut.ensures.cut ∙ c.whole-cut.ensures.bytes) parts in
     let fits = m.fits.bytes_fit in
     let size : made.byte_size ≡ h.byte_size = ap (λ (w : Heap Value ℕ). w.byte_size) m.world in
     let count : len ≡ length target = omega (arith, c.requires.len, fits, length-replicate {A = ℕ} len 0, size, c.room_law.ensures.few_bytes) in

@@ -55,7 +55,7 @@ put_part-from-requires-clause-within g c =
     let now : text_at a t ≡ here = text_now texts tuples h t can.text a here e in
     let kept : length here ≡ length start = written_length start 0 front (omega (arith, fits, c.requires.room)) in
     let piece_same : in_front at (cut_bytes texts a separator) ++ get_or (parts_in texts a tuples over) at [] ≡ piece =
-        ap (λ (bs : List ℕ). in_front at bs ++ get_or (parts_in texts a tuples over) at []) sep_same ∙ ap (λ (ps : List (List ℕ)). in_front at sep ++ get_or ps at []) parts_same in
+    ap (λ (bs : List ℕ). in_front at bs ++ get_or (parts_in texts a tuples over) at []) sep_same ∙ ap (λ (ps : List (List ℕ)). in_front at sep ++ get_or ps at []) parts_same in
     omega (arith, lt, ap (λ (ps : List (List ℕ)). length ps) parts_same)
 
 pub put_part-from-requires-clause-room : goal.put_part-from-requires-clause-room
@@ -85,7 +85,7 @@ put_part-from-requires-clause-room g c =
     let now : text_at a t ≡ here = text_now texts tuples h t can.text a here e in
     let kept : length here ≡ length start = written_length start 0 front (omega (arith, fits, c.requires.room)) in
     let piece_same : in_front at (cut_bytes texts a separator) ++ get_or (parts_in texts a tuples over) at [] ≡ piece =
-        ap (λ (bs : List ℕ). in_front at bs ++ get_or (parts_in texts a tuples over) at []) sep_same ∙ ap (λ (ps : List (List ℕ)). in_front at sep ++ get_or ps at []) parts_same in
+    ap (λ (bs : List ℕ). in_front at bs ++ get_or (parts_in texts a tuples over) at []) sep_same ∙ ap (λ (ps : List (List ℕ)). in_front at sep ++ get_or ps at []) parts_same in
     omega (arith, fits, place, c.requires.room, kept, ap (λ (bs : List ℕ). length bs) now, ap (λ (bs : List ℕ). length bs) piece_same)
 
 pub put_part-from-requires-clause-few : goal.put_part-from-requires-clause-few
@@ -115,7 +115,7 @@ put_part-from-requires-clause-few g c =
     let now : text_at a t ≡ here = text_now texts tuples h t can.text a here e in
     let kept : length here ≡ length start = written_length start 0 front (omega (arith, fits, c.requires.room)) in
     let piece_same : in_front at (cut_bytes texts a separator) ++ get_or (parts_in texts a tuples over) at [] ≡ piece =
-        ap (λ (bs : List ℕ). in_front at bs ++ get_or (parts_in texts a tuples over) at []) sep_same ∙ ap (λ (ps : List (List ℕ)). in_front at sep ++ get_or ps at []) parts_same in
+    ap (λ (bs : List ℕ). in_front at bs ++ get_or (parts_in texts a tuples over) at []) sep_same ∙ ap (λ (ps : List (List ℕ)). in_front at sep ++ get_or ps at []) parts_same in
     omega (arith, c.requires.few, kept, ap (λ (bs : List ℕ). length bs) now)
 
 pub loop-at-preserved : goal.loop-at-preserved
@@ -145,11 +145,12 @@ loop-at-preserved g c =
     let now : text_at a t ≡ here = text_now texts tuples h t can.text a here e in
     let kept : length here ≡ length start = written_length start 0 front (omega (arith, fits, c.requires.room)) in
     let piece_same : in_front at (cut_bytes texts a separator) ++ get_or (parts_in texts a tuples over) at [] ≡ piece =
-        ap (λ (bs : List ℕ). in_front at bs ++ get_or (parts_in texts a tuples over) at []) sep_same ∙ ap (λ (ps : List (List ℕ)). in_front at sep ++ get_or ps at []) parts_same in
-    let more : front ++ piece ≡ joined sep (take (at + 1) parts) = sym (next_part sep parts at lt) in
-    (put_again texts tuples h t can.text a c.put_part-from.new.arena here (written start 0 (joined sep (take (at + 1) parts))) e
-      (c.put_part-from.ensures.put ∙ ap (λ (bs : List ℕ). with_text a t bs)
-      (ap (λ (bs : List ℕ). written bs from (in_front at (cut_bytes texts a separator) ++ get_or (parts_in texts a tuples over) at [])) now
-      ∙ (ap (λ (bs : List ℕ). written here from bs) piece_same
-      ∙ (written_on start front piece from (sym place) (omega (arith, fits, place, c.requires.room)) ∙ ap (λ (bs : List ℕ). written start 0 bs) more)))),
-      omega (arith, c.put_part-from.ensures.place, place, ap (λ (bs : List ℕ). length bs) piece_same, ap (λ (bs : List ℕ). length bs) more, length-append front piece))
+    ap (λ (bs : List ℕ). in_front at bs ++ get_or (parts_in texts a tuples over) at []) sep_same ∙ ap (λ (ps : List (List ℕ)). in_front at sep ++ get_or ps at []) parts_same in
+    let more : front ++ piece ≡ joined sep (take (at + 1) parts) = sym (next_part sep parts at lt) in (
+      put_again texts tuples h t can.text a c.put_part-from.new.arena here (written start 0 (joined sep (take (at + 1) parts))) e
+          (c.put_part-from.ensures.put ∙ ap (λ (bs : List ℕ). with_text a t bs)
+          (ap (λ (bs : List ℕ). written bs from (in_front at (cut_bytes texts a separator) ++ get_or (parts_in texts a tuples over) at [])) now
+          ∙ (ap (λ (bs : List ℕ). written here from bs) piece_same
+          ∙ (written_on start front piece from (sym place) (omega (arith, fits, place, c.requires.room)) ∙ ap (λ (bs : List ℕ). written start 0 bs) more)))),
+      omega (arith, c.put_part-from.ensures.place, place, ap (λ (bs : List ℕ). length bs) piece_same, ap (λ (bs : List ℕ). length bs) more, length-append front piece),
+    )

@@ -11,12 +11,11 @@ returns-then-at-eq0-clause-put g c =
     let tuples = g.C.Constants.items_of c.args.consts.now in
     let h = c.args.arena.now in
     let t = c.args.t.cell in
-    let can = c.requires.join in
     let at = c.args.at in
     let from = c.args.from in
     let separator = c.args.separator in
     let bytes = cut_bytes texts h separator in
     let start = text_at h t in
-    let whole : length bytes ≡ separator.len = cut_length texts tuples h separator can.cut in
+    let whole : length bytes ≡ separator.len = cut_length texts tuples h separator c.requires.cut in
     let front : in_front at bytes ≡ [] = first_front bytes at c.if-at-eq0.true in
-    same_text texts tuples h t can.text (written start from (in_front at bytes)) (ap (λ (bs : List ℕ). written start from bs) front ∙ written_none start from)
+    same_text texts tuples h t c.requires.text (written start from (in_front at bytes)) (ap (λ (bs : List ℕ). written start from bs) front ∙ written_none start from)

@@ -23,7 +23,7 @@ returns-clause-ok g c =
     let m : Made h made t (TextObject (replicate len 0)) = c.in_ok-t.ensures.made in
     let new = c.put_cut.new.arena in
     let filled : new ≡ with_text made t target =
-        c.put_cut.ensures.put ∙ ap (λ (bs : List ℕ). with_text made t bs)
-        (ap (λ (bs : List ℕ). written (text_at made t) 0 bs) (cut_made texts tuples (replicate len 0) m cut c.requires) ∙ written_all (text_at made t) target (omega (arith, whole, zeros_made len m))) in
+    c.put_cut.ensures.put ∙ ap (λ (bs : List ℕ). with_text made t bs)
+    (ap (λ (bs : List ℕ). written (text_at made t) 0 bs) (cut_made texts tuples (replicate len 0) m cut c.requires) ∙ written_all (text_at made t) target (omega (arith, whole, zeros_made len m))) in
     let all : Made h new t (TextObject target) = filled_made texts tuples (replicate len 0) m new target (omega (arith, whole, length-replicate {A = ℕ} len 0)) filled in
     all.world ∙ sym (some_piece h target (λ e. c.if-cut-eq0.false (omega (arith, whole, e))))
