@@ -1,18 +1,15 @@
 -- What a join answers.
-use Rattle.std.proofs.Common.{◌≡◌, ℕ, ◌+◌, ◌<◌, List, [], ◌∷◌, length, map, take, drop, replicate, Bool, true, false, cond, Option, Some, None, Result, Ok, Err, refl, sym, ap, ap₂, ◌∙◌, subst, inl, inr, arith}
-use Rattle.std.specs.Prelude.{◌⊎◌}
+use Rattle.std.proofs.Common.{◌≡◌, ℕ, ◌<◌, List, [], ◌∷◌, length, map, take, drop, Bool, true, false, cond, Option, Some, None, Result, Ok, Err, refl, sym, ap, ap₂, ◌∙◌, subst, inl, inr, arith}
 use Rattle.std.specs.List.{All}
-use Rattle.std.specs.Option.{option_map}
 use Rattle.std.proofs.lemmas.List.Elements.{All-nil, All-head, All-tail}
 use Rattle.arena_heap.specs.declared.value.Value.{Value}
 use Rattle.arena_heap.specs.declared.value.Value.TheVariants as values
 use Rattle.arena_heap.specs.declared.value.StrNo.{StrNo}
 use Rattle.arena_heap.specs.declared.value.ConstNo.{ConstNo}
-use Rattle.mpy_base.specs.World.{TextObject, Heap, AText, IsA, Later, object, text_of}
+use Rattle.mpy_base.specs.World.{TextObject, Heap, AText, IsA, object, text_of}
 use Rattle.mpy_base.specs.Weights.{used, does_fit, Made, with_made}
-use Rattle.mpy_base.specs.Val.{Val, Str, At}
-use Rattle.mpy_base.proofs.Worlds.{is_within, later_made, object_before, object_made, used_made}
-use Rattle.arena_heap.specs.Values.{ArenaObject, Leads, IsStr}
+use Rattle.mpy_base.specs.Val.{Val, At}
+use Rattle.mpy_base.proofs.Worlds.{is_within, later_made, object_before, used_made}
 use Rattle.arena_heap.specs.Constants.{IsTold}
 use Rattle.arena_heap.proofs.Sounds.{leads_later}
 use Rattle.arena_objects.specs.Keys.{AllTold}
@@ -20,13 +17,12 @@ use Rattle.arena_objects.specs.Iterables.{items_in, given, or_nothing, spelled}
 use Rattle.arena_objects.proofs.Gifts.{Keeps, items_kept, spelled_kept}
 use Rattle.arena_objects.proofs.Tolds.{told_made}
 use Rattle.py_values.specs.Shown.{PlainHeap}
-use Rattle.py_values.specs.Equality.{Walk}
 use Rattle.py_primitives.specs.Outcome as primitives
 use Rattle.py_primitives.specs.Outcome.{Outcome, gives, raises, is_full, with_visits, after_answer, after_walk, making, making_text}
 use Rattle.py_primitives.specs.Iterables.{over_items}
 use Rattle.py_primitives.specs.Texts.{joined}
 use Rattle.py_primitives.specs.Methods.{parts_of, gives_joined}
-use Rattle.vm_walks.specs.Plain.{plain, plain_heap}
+use Rattle.vm_walks.specs.Plain.{plain_heap}
 use Rattle.vm_faults.specs.declared.stop.Stop.{Stop}
 use Rattle.vm_faults.specs.Faults.{IsKnown, IsKnownStr}
 use Rattle.vm_faults.specs.Outcomes.{IsOutcome}

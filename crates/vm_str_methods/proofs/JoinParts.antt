@@ -1,9 +1,9 @@
 -- The parts that a str joins, as the meaning has them.
-use Rattle.std.proofs.Common.{◌≡◌, ℕ, zero, suc, ◌+◌, ◌*◌, pos, ◌+ℤ◌, ◌*ℤ◌, ◌<◌, ◌≤◌, List, [], ◌∷◌, ◌++◌, length, map, take, drop, get_or, Bool, true, false, Option, Some, None, refl, sym, ap, ap₂, ◌∙◌, subst, inl, inr, arith}
+use Rattle.std.proofs.Common.{◌≡◌, ℕ, zero, suc, pos, ◌+ℤ◌, ◌*ℤ◌, ◌<◌, List, [], ◌∷◌, length, map, take, drop, get_or, Bool, true, false, Option, Some, None, refl, sym, ap, ap₂, ◌∙◌, inl, inr, arith}
 use Rattle.std.specs.Prelude.{slice_get, ◌⊎◌}
 use Rattle.std.specs.List.{All, range_with_len}
 use Rattle.std.specs.Option.{option_map}
-use Rattle.std.proofs.lemmas.List.{length-map, get_or-map}
+use Rattle.std.proofs.lemmas.List.{get_or-map}
 use Rattle.std.proofs.Math.Seq.{drop-cons}
 use Rattle.std.proofs.lemmas.List.Elements.{All-head, All-tail}
 use Rattle.arena_heap.specs.declared.value.Value.{Value}
@@ -13,11 +13,10 @@ use Rattle.arena_heap.specs.declared.value.ConstNo.{ConstNo}
 use Rattle.mpy_base.specs.World.{ListObject, TupleObject, TextObject, DictObject, FunctionObject, ExceptionObject, MethodObject, RangeObject, ModuleObject, Heap, ObjectKind, AList, ATuple, AText, ADict, AFunction, AnException, AMethod, ARange, AModule, object, kind_of}
 use Rattle.mpy_base.specs.Val.{Val, Int}
 use Rattle.arena_heap.specs.Values.{ArenaObject, Leads, IsStr}
-use Rattle.arena_heap.specs.Constants.{IsTold}
 use Rattle.arena_objects.specs.Iterables as arena
 use Rattle.arena_objects.specs.Iterables.{or_nothing, given, spelled}
-use Rattle.py_values.specs.Shown.{PlainHeap, Shown, Text, Tuple, shown, shown_object, range_len}
-use Rattle.py_values.specs.Equality.{Walk, visit}
+use Rattle.py_values.specs.Shown.{PlainHeap, Shown, shown, shown_object, range_len}
+use Rattle.py_values.specs.Equality.{visit}
 use Rattle.py_primitives.specs.Iterables.{shown_items, letter, range_number}
 use Rattle.py_primitives.specs.Iterables as plain_items
 use Rattle.py_primitives.specs.Methods.{str_in, part_behind, parts_of}

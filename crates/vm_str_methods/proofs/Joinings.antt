@@ -12,22 +12,22 @@ use Rattle.arena_heap.specs.declared.value.Value.{Value}
 use Rattle.arena_heap.specs.declared.value.Value.TheVariants as values
 use Rattle.arena_heap.specs.declared.value.StrNo.{StrNo}
 use Rattle.arena_heap.specs.declared.value.ConstNo.{ConstNo}
-use Rattle.mpy_base.specs.World.{TextObject, Heap, AText, IsA, Later, object, kind_of, text_at, with_text}
-use Rattle.arena_heap.specs.Values.{ArenaObject, Leads, IsStr}
+use Rattle.mpy_base.specs.World.{TextObject, Heap, AText, Later, object, kind_of, with_text}
+use Rattle.arena_heap.specs.Values.{ArenaObject, Leads}
 use Rattle.arena_heap.specs.Constants.{IsTold}
 use Rattle.arena_heap.proofs.Sounds.{leads_later}
 use Rattle.arena_objects.specs.Keys.{AllTold}
 use Rattle.arena_objects.specs.Iterables.{items_in, given, spelled}
 use Rattle.py_primitives.specs.Texts.{joined}
 use Rattle.vm_walks.specs.Plain.{plain, plain_heap}
-use Rattle.vm_faults.specs.Faults.{IsKnown, IsKnownStr}
+use Rattle.vm_faults.specs.Faults.{IsKnownStr}
 use Rattle.vm_operators.specs.Operands.{IsNested}
 use Rattle.vm_operators.specs.Sources.{IsOtherThan}
 use Rattle.vm_operators.proofs.ItemFills.{object_put_there, told_put}
 use Rattle.vm_str_methods.specs.declared.cuts.Cut.{Cut}
-use Rattle.vm_str_methods.specs.Parts.{strs_of, all_strs, parts_in, cut_bytes, IsCut, CanJoin, written, in_front}
-use Rattle.vm_str_methods.proofs.JoinParts.{str_or_not, letters_in, other_parts_in, no_items, str_parts, strs_plain, strs_length, all_some}
-use Rattle.vm_str_methods.proofs.Writings.{written_on, text_now, later_now, put_again, spelled_apart, known_later}
+use Rattle.vm_str_methods.specs.Parts.{strs_of, all_strs, parts_in, cut_bytes, IsCut, CanJoin, in_front}
+use Rattle.vm_str_methods.proofs.JoinParts.{str_or_not, letters_in, other_parts_in, no_items, strs_plain, strs_length, all_some}
+use Rattle.vm_str_methods.proofs.Writings.{later_now, spelled_apart, known_later}
 
 module _ (separator : List ℕ) where
   abbrev behind : List ℕ → List ℕ

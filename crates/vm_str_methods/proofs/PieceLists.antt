@@ -1,9 +1,9 @@
 -- Lists of pieces.
-use Rattle.std.proofs.Common.{◌≡◌, ℕ, zero, suc, ◌+◌, ◌<◌, ◌≤◌, List, [], ◌∷◌, ◌++◌, length, map, drop, get_or, set, replicate, append_assoc, Bool, true, false, cond, Option, Some, None, Result, Ok, Err, refl, sym, ap, ap₂, ◌∙◌, subst, inl, inr, arith, length-append, get_or-set_other}
+use Rattle.std.proofs.Common.{◌≡◌, ℕ, suc, ◌+◌, ◌<◌, ◌≤◌, List, [], ◌∷◌, ◌++◌, length, drop, set, append_assoc, Option, Some, None, refl, sym, ap, ap₂, ◌∙◌, subst, inl, inr, arith, length-append, get_or-set_other}
 use Rattle.std.specs.Prelude.{codes}
 use Rattle.std.specs.List.{All, insert}
-use Rattle.std.proofs.lemmas.List.{get_or_append_left, append-nil, length-map, set-get_or}
-use Rattle.std.proofs.lemmas.List.Elements.{All-nil, All-head, All-tail}
+use Rattle.std.proofs.lemmas.List.{append-nil, set-get_or}
+use Rattle.std.proofs.lemmas.List.Elements.{All-head, All-tail}
 use Rattle.std.proofs.lemmas.Bool.{cases_eq}
 use Rattle.arena_heap.specs.declared.value.Value.{Value}
 use Rattle.arena_heap.specs.declared.value.Value.TheVariants as values
@@ -11,23 +11,19 @@ use Rattle.arena_heap.specs.declared.value.StrNo.{StrNo}
 use Rattle.arena_heap.specs.declared.value.StrNo.TheVariants as strs
 use Rattle.arena_heap.specs.declared.value.ConstNo.{ConstNo}
 use Rattle.mpy_base.specs.declared.room.NoRoom.{NoRoom}
-use Rattle.mpy_base.specs.World.{ListObject, TextObject, Object, Heap, AList, AText, IsA, Later, object, kind_of, text_of, items_of, items_at, room_of, room_at, with_list}
-use Rattle.mpy_base.specs.Weights.{used, cells_of, bytes_of, does_fit, Fits, Made, Refused, with_made}
-use Rattle.mpy_base.specs.Val.{Val, At}
-use Rattle.mpy_base.proofs.Worlds.{is_within, later_list, object_before, object_made, used_made}
+use Rattle.mpy_base.specs.World.{ListObject, TextObject, Heap, AList, AText, IsA, Later, object, kind_of, text_of, items_of, items_at, room_of, room_at, with_list}
+use Rattle.mpy_base.specs.Weights.{Fits, Made, with_made}
+use Rattle.mpy_base.specs.Val.{Val}
+use Rattle.mpy_base.proofs.Worlds.{later_list, object_before, used_made}
 use Rattle.arena_heap.specs.Values.{ArenaObject, Leads}
-use Rattle.arena_heap.specs.Constants.{IsTold}
 use Rattle.arena_heap.proofs.Sounds.{leads_later}
-use Rattle.arena_objects.specs.Keys.{AllTold}
 use Rattle.arena_objects.specs.Iterables.{given, spelled}
-use Rattle.arena_objects.proofs.Gifts.{Keeps, spelled_kept, list_there, put_again}
+use Rattle.arena_objects.proofs.Gifts.{Keeps, list_there, put_again}
 use Rattle.py_values.specs.Shown.{PlainHeap, Shown, Text}
 use Rattle.py_primitives.specs.Faults.{EmptySeparator}
 use Rattle.py_primitives.specs.Outcome.{Outcome, raises}
 use Rattle.py_primitives.specs.Operators.{unsupported}
 use Rattle.py_primitives.specs.Methods.{str_in, of_str, split_by, list_of_texts, pieces_between, words_of}
-use Rattle.vm_walks.specs.Plain.{plain, plain_heap}
-use Rattle.vm_faults.specs.Faults.{IsKnown, IsKnownStr}
 use Rattle.vm_str_methods.specs.declared.pieces.Split.{Split}
 use Rattle.vm_str_methods.specs.declared.pieces.Split.TheVariants as splits
 use Rattle.vm_str_methods.specs.Pieces.{between, pieces_from, IsSplit, with_piece, with_pieces, cell_behind, cells_behind, piece_value, piece_values, FitsPiece, FitPieces, PieceRefused, PiecesRefused}

@@ -1,32 +1,29 @@
 -- The texts of pieces, as the meaning has them.
-use Rattle.std.proofs.Common.{◌≡◌, ℕ, zero, suc, ◌+◌, ◌<◌, ◌≤◌, List, [], ◌∷◌, ◌++◌, length, map, get_or, replicate, Bool, true, false, cond, Option, Some, None, refl, sym, ap, ap₂, ◌∙◌, subst, arith, length-append}
+use Rattle.std.proofs.Common.{◌≡◌, ℕ, zero, suc, ◌<◌, List, [], ◌∷◌, ◌++◌, length, map, get_or, replicate, Bool, true, false, cond, Option, Some, None, refl, sym, ap, ap₂, ◌∙◌, subst, arith, length-append}
 use Rattle.std.specs.List.{All}
 use Rattle.std.specs.Prelude.{IsSome}
 use Rattle.std.proofs.lemmas.List.{get_or_append_left, get_or_at}
 use Rattle.std.proofs.lemmas.List.Elements.{All-nil}
 use Rattle.arena_heap.specs.declared.value.Value.{Value}
-use Rattle.arena_heap.specs.declared.value.Value.TheVariants as values
 use Rattle.arena_heap.specs.declared.value.StrNo.{StrNo}
 use Rattle.arena_heap.specs.declared.value.StrNo.TheVariants as strs
 use Rattle.arena_heap.specs.declared.value.ConstNo.{ConstNo}
-use Rattle.mpy_base.specs.declared.room.NoRoom.{NoRoom}
-use Rattle.mpy_base.specs.World.{TextObject, Heap, AText, IsA, Later, object, kind_of, text_of, with_list}
+use Rattle.mpy_base.specs.World.{TextObject, Heap, AText, Later, object, kind_of, text_of, with_list}
 use Rattle.mpy_base.specs.Weights.{used, does_fit, Fits, with_made}
 use Rattle.mpy_base.specs.Val.{Val, Str, At}
 use Rattle.mpy_base.proofs.Worlds.{later_append, later_later, later_same}
-use Rattle.arena_heap.specs.Values.{ArenaObject, Leads}
+use Rattle.arena_heap.specs.Values.{ArenaObject}
 use Rattle.arena_heap.specs.Constants.{IsTold}
-use Rattle.arena_heap.proofs.Sounds.{leads_later}
 use Rattle.arena_objects.specs.Keys.{AllTold}
-use Rattle.arena_objects.specs.Iterables.{given, or_nothing, spelled}
-use Rattle.arena_objects.proofs.Gifts.{Keeps, keeps_keeps, spelled_kept}
+use Rattle.arena_objects.specs.Iterables.{given, or_nothing}
+use Rattle.arena_objects.proofs.Gifts.{Keeps, keeps_keeps}
 use Rattle.arena_objects.proofs.Tolds.{told_with_made}
 use Rattle.py_values.specs.Shown.{PlainHeap}
 use Rattle.py_primitives.specs.Outcome.{Outcome, gives, is_full, followed_by, making, making_text, making_texts}
 use Rattle.vm_walks.specs.Plain.{plain, plain_heap}
-use Rattle.vm_faults.specs.Faults.{IsKnown, IsKnownStr}
+use Rattle.vm_faults.specs.Faults.{IsKnown}
 use Rattle.vm_faults.proofs.Heaps.{used_plain, fit_plain, made_plain}
-use Rattle.vm_str_methods.specs.Pieces.{with_piece, with_pieces, cell_behind, cells_behind, piece_value, piece_values, FitsPiece, FitPieces, PieceRefused, PiecesRefused}
+use Rattle.vm_str_methods.specs.Pieces.{with_piece, with_pieces, cell_behind, cells_behind, piece_value, piece_values, FitsPiece, FitPieces}
 
 pub fits_true : {V N : Type 0} (h : Heap V N) (cells bytes : ℕ) → Fits h cells bytes → does_fit h cells bytes ≡ true
 fits_true h cells bytes f = let p = f.cells_fit in let q = f.bytes_fit in grind arith

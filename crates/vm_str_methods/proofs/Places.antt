@@ -1,5 +1,5 @@
 -- The first place of a part of a str.
-use Rattle.std.proofs.Common.{◌≡◌, ℕ, zero, suc, ◌+◌, ◌≤◌, ◌<◌, ◌^◌, ℤ, pos, negsuc, List, [], ◌∷◌, length, take, drop, Bool, true, false, cond, Option, Some, None, Result, refl, sym, ap, ◌∙◌, arith, length-drop, length-take}
+use Rattle.std.proofs.Common.{◌≡◌, ℕ, zero, suc, ◌+◌, ◌≤◌, ◌<◌, ◌^◌, ℤ, pos, negsuc, List, [], ◌∷◌, length, take, drop, Bool, true, false, cond, Some, None, Result, refl, sym, ap, ◌∙◌, arith, length-drop, length-take}
 use Rattle.std.specs.Prelude.{nat_eq}
 use Rattle.std.specs.List.{starts_with}
 use Rattle.std.proofs.lemmas.Slice.Eq.{bytes_eq-Decides}
@@ -12,7 +12,7 @@ use Rattle.py_values.specs.Range.{IsSmall}
 use Rattle.py_values.specs.Small.{checked}
 use Rattle.py_values.proofs.Range.{checked_small}
 use Rattle.py_values.specs.declared.small_int.NumFault.{NumFault}
-use Rattle.py_primitives.specs.Outcome.{Outcome, gives}
+use Rattle.py_primitives.specs.Outcome.{gives}
 use Rattle.py_primitives.specs.Operators.{gives_number}
 use Rattle.py_primitives.specs.Methods.{of_str, found_from}
 use Rattle.vm_builtins.proofs.SmallCounts.{count_small}

@@ -1,24 +1,18 @@
 -- What a split answers.
-use Rattle.std.proofs.Common.{◌≡◌, ℕ, suc, ◌+◌, ◌<◌, ◌≤◌, List, [], ◌∷◌, ◌++◌, length, map, get_or, replicate, Bool, true, false, cond, Option, Some, None, Result, Ok, Err, refl, sym, ap, ap₂, ◌∙◌, subst, arith}
-use Rattle.std.specs.List.{All}
-use Rattle.std.proofs.lemmas.List.{get_or_append_left}
+use Rattle.std.proofs.Common.{◌≡◌, ℕ, suc, ◌+◌, List, [], length, map, Bool, cond, Option, Some, Ok, Err, refl, sym, ap, ap₂, ◌∙◌, subst, arith}
 use Rattle.std.proofs.lemmas.List.Elements.{All-nil}
 use Rattle.arena_heap.specs.declared.value.Value.{Value}
 use Rattle.arena_heap.specs.declared.value.Value.TheVariants as values
-use Rattle.arena_heap.specs.declared.value.ListNo.{ListNo}
 use Rattle.arena_heap.specs.declared.value.StrNo.{StrNo}
 use Rattle.arena_heap.specs.declared.value.StrNo.TheVariants as strs
 use Rattle.arena_heap.specs.declared.value.ConstNo.{ConstNo}
 use Rattle.mpy_base.specs.declared.room.NoRoom.{NoRoom}
-use Rattle.mpy_base.specs.World.{ListObject, TextObject, Heap, AList, IsA, Later, object, kind_of, text_of, items_at, room_at, with_list}
+use Rattle.mpy_base.specs.World.{ListObject, Heap, AList, IsA, Later, kind_of, room_at, with_list}
 use Rattle.mpy_base.specs.Weights.{used, does_fit, Fits, Made, Refused, room_for, with_made}
 use Rattle.mpy_base.specs.Val.{Val, At}
-use Rattle.mpy_base.proofs.Worlds.{later_later, later_made, later_list, object_made, object_before, used_made}
-use Rattle.arena_heap.specs.Values.{ArenaObject, Leads}
+use Rattle.mpy_base.proofs.Worlds.{later_later, later_made, later_list, object_made}
 use Rattle.arena_heap.specs.Constants.{IsTold}
 use Rattle.arena_objects.specs.Keys.{AllTold}
-use Rattle.arena_objects.specs.Iterables.{given, spelled}
-use Rattle.arena_objects.proofs.Gifts.{Keeps}
 use Rattle.arena_objects.proofs.Tolds.{told_made}
 use Rattle.py_values.specs.Shown.{PlainHeap}
 use Rattle.py_primitives.specs.Outcome.{Outcome, gives, is_full, followed_by, making, making_texts}
@@ -29,8 +23,8 @@ use Rattle.vm_faults.specs.Outcomes.{IsOutcome}
 use Rattle.vm_faults.proofs.Heaps.{used_plain, fit_plain, made_plain, list_put}
 use Rattle.vm_faults.proofs.Outcomes.{answered, full_outcome}
 use Rattle.vm_operators.proofs.ItemFills.{told_put}
-use Rattle.vm_str_methods.specs.Pieces.{with_piece, with_pieces, piece_values, FitPieces, PieceRefused, PiecesRefused}
-use Rattle.vm_str_methods.proofs.PieceTexts.{fits_true, fits_false, keeps_pieces, later_pieces, told_pieces, pieces_made, pieces_full, values_known}
+use Rattle.vm_str_methods.specs.Pieces.{with_pieces, piece_values, FitPieces, PiecesRefused}
+use Rattle.vm_str_methods.proofs.PieceTexts.{fits_true, fits_false, later_pieces, told_pieces, pieces_made, pieces_full, values_known}
 
 module _ (texts : StrNo → Option (List ℕ)) (tuples : ConstNo → Option (List Value)) (old : Heap Value ℕ) (pieces : List (List ℕ)) where
   abbrev heap : PlainHeap

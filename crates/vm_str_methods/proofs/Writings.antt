@@ -1,7 +1,7 @@
 -- Texts that are written part by part.
 use Rattle.std.proofs.Common.{◌≡◌, ℕ, suc, ◌+◌, ◌<◌, ◌≤◌, List, [], ◌∷◌, ◌++◌, length, take, drop, get_or, set, append_assoc, Option, Some, None, refl, sym, ap, ap₂, ◌∙◌, subst, arith, length-append, get_or-set_same, get_or-set_other}
 use Rattle.std.proofs.Math.Seq.{take-suc, drop-cons}
-use Rattle.std.proofs.lemmas.List.{set_at, take_at, drop_at, set-set, set-get_or, length-take-le, length-drop, drop-drop, take-append-drop, take_all, length-take, append-nil}
+use Rattle.std.proofs.lemmas.List.{set_at, take_at, drop_at, set-set, set-get_or, length-take-le, length-drop, drop-drop, take-append-drop, append-nil}
 use Rattle.arena_heap.specs.declared.value.Value.{Value}
 use Rattle.arena_heap.specs.declared.value.Value.TheVariants as values
 use Rattle.arena_heap.specs.declared.value.StrNo.{StrNo}

@@ -1,5 +1,5 @@
 -- What a str joins, and parts of strs.
-use Rattle.std.specs.Prelude.{◌≡◌, ℕ, zero, suc, ◌+◌, ◌≤◌, ◌^◌, List, [], ◌∷◌, ◌++◌, length, map, take, drop, Option, Some, None, All}
+use Rattle.std.specs.Prelude.{ℕ, zero, suc, ◌+◌, ◌≤◌, ◌^◌, List, [], ◌∷◌, ◌++◌, length, map, take, drop, Option, Some, None, All}
 use Rattle.std.specs.Option.{option_map}
 use Rattle.mpy_base.specs.World.{Heap, AText, IsA}
 use Rattle.mpy_base.specs.Val.{Val}
@@ -12,7 +12,6 @@ use Rattle.arena_objects.specs.Iterables.{items_in, or_nothing, spelled}
 use Rattle.py_values.specs.Shown.{PlainHeap, shown}
 use Rattle.py_primitives.specs.Iterables as plain_items
 use Rattle.py_primitives.specs.Methods.{str_in}
-use Rattle.vm_walks.specs.Plain.{plain, plain_heap}
 use Rattle.vm_faults.specs.Faults.{IsKnown, IsKnownStr}
 use Rattle.vm_operators.specs.Sources.{IsOtherThan}
 use Rattle.vm_str_methods.specs.declared.cuts.Cut.{Cut}

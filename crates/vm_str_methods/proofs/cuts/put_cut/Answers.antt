@@ -1,6 +1,6 @@
-use Rattle.std.proofs.Common.{◌≡◌, ℕ, ◌+◌, ◌<◌, ◌≤◌, ◌^◌, List, [], length, take, drop, get_or, set, sym, ap, ap₂, ◌∙◌, subst, arith, length-drop, take_all}
+use Rattle.std.proofs.Common.{◌≡◌, ℕ, ◌+◌, ◌≤◌, List, [], length, take, drop, get_or, set, sym, ap, ap₂, ◌∙◌, arith, take_all}
 use Rattle.std.proofs.lemmas.List.{length-take-le, get_or-take, get_or-drop}
-use Rattle.mpy_base.specs.World.{Heap, AText, Later, text_at, with_text}
+use Rattle.mpy_base.specs.World.{AText, text_at, with_text}
 use Rattle.arena_objects.specs.Iterables.{spelled}
 use Rattle.vm_str_methods.specs.Parts.{cut_bytes, written}
 use Rattle.vm_str_methods.proofs.Writings.{written_none, written_length, written_more, same_text, text_now, later_now, put_again, spelled_apart, known_later, cut_length}

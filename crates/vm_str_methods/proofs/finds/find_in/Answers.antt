@@ -1,4 +1,4 @@
-use Rattle.std.proofs.Common.{◌≡◌, ℕ, List, ℤ, refl, sym, ap, ◌∙◌, subst}
+use Rattle.std.proofs.Common.{◌≡◌, ℕ, List, sym, ap, ◌∙◌, subst}
 use Rattle.arena_objects.specs.Iterables.{or_nothing, spelled}
 use Rattle.mpy_base.specs.Val.{Val}
 use Rattle.py_values.specs.Small.{checked}

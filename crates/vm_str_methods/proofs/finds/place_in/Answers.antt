@@ -1,10 +1,8 @@
-use Rattle.std.proofs.Common.{◌≡◌, ℤ, negsuc, Result, refl, sym, ap, ◌∙◌, subst}
+use Rattle.std.proofs.Common.{ℤ, negsuc, Result, sym, ap, ◌∙◌, subst}
 use Rattle.arena_heap.specs.declared.value.Value.TheVariants as values
-use Rattle.mpy_base.specs.Val.{Val}
 use Rattle.py_values.specs.Small.{checked}
 use Rattle.py_values.specs.declared.small_int.NumFault.{NumFault}
 use Rattle.py_values.proofs.Range.{checked_small}
-use Rattle.py_primitives.specs.Outcome.{Outcome}
 use Rattle.py_primitives.specs.Operators.{gives_number}
 use Rattle.vm_walks.specs.Plain.{plain_heap}
 use Rattle.vm_faults.specs.Outcomes.{IsOutcome}

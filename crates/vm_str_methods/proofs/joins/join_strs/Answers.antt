@@ -1,6 +1,5 @@
-use Rattle.std.proofs.Common.{◌≡◌, ℕ, ◌-◌, ◌^◌, List, length, min, Option, Some, None, refl, sym, ap, ◌∙◌, arith}
+use Rattle.std.proofs.Common.{◌≡◌, ℕ, ◌-◌, ◌^◌, List, length, min, Option, Some, None, refl, ap, ◌∙◌}
 use Rattle.std.specs.Option.{option_map}
-use Rattle.mpy_base.specs.Val.{Val}
 use Rattle.arena_objects.specs.Iterables.{or_nothing, spelled}
 use Rattle.py_primitives.specs.Texts.{joined}
 use Rattle.py_primitives.specs.Iterables.{items_in}

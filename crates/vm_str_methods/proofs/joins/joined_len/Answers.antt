@@ -1,12 +1,10 @@
-use Rattle.std.proofs.Common.{get_or, ◌≡◌, ◌≢◌, ℕ, ◌+◌, ◌-◌, ◌^◌, ◌<◌, ◌≤◌, List, length, map, min, Option, Some, None, refl, sym, ap, ◌∙◌, arith}
-use Rattle.std.specs.Prelude.{slice_get}
+use Rattle.std.proofs.Common.{get_or, ◌≡◌, ℕ, ◌-◌, ◌^◌, ◌<◌, List, length, min, Option, None, sym, ap, arith}
 use Rattle.std.specs.Option.{option_map}
-use Rattle.arena_heap.specs.declared.value.Value.{Value}
 use Rattle.arena_objects.specs.Iterables.{items_in, spelled}
 use Rattle.py_primitives.specs.Texts.{joined}
 use Rattle.vm_walks.specs.Plain.{plain, plain_heap}
 use Rattle.vm_faults.specs.Faults.{IsKnownStr}
-use Rattle.vm_str_methods.specs.Parts.{strs_of, all_strs}
+use Rattle.vm_str_methods.specs.Parts.{strs_of}
 use Rattle.vm_str_methods.proofs.JoinParts.{none_there, none_is}
 use Rattle.vm_str_methods.proofs.Joinings.{far_none, far_more, far_all, fewer_items, all_seen, one_seen}
 use Rattle.vm_str_methods.proofs.joins.joined_len.Goals as goal

@@ -1,9 +1,9 @@
-use Rattle.std.proofs.Common.{◌≡◌, ℕ, ◌+◌, ◌≤◌, List, [], ◌++◌, length, get_or, refl, sym, ap, ◌∙◌, arith, length-append}
-use Rattle.mpy_base.specs.World.{text_at, with_text, AText}
+use Rattle.std.proofs.Common.{◌≡◌, ℕ, ◌+◌, List, [], ◌++◌, length, get_or, sym, ap, ◌∙◌, arith, length-append}
+use Rattle.mpy_base.specs.World.{text_at, with_text}
 use Rattle.vm_operators.specs.Sources.{IsOtherThan}
 use Rattle.vm_str_methods.specs.Parts.{parts_in, cut_bytes, written, in_front}
 use Rattle.vm_str_methods.proofs.Joinings.{cut_now, is_cut_now}
-use Rattle.vm_str_methods.proofs.Writings.{written_both, written_length, text_now, later_now, put_again, cut_length}
+use Rattle.vm_str_methods.proofs.Writings.{written_both, written_length, text_now, put_again, cut_length}
 use Rattle.vm_str_methods.proofs.joins.put_part.Goals as goal
 
 pub put_cut-requires-clause-cut : goal.put_cut-requires-clause-cut

@@ -1,10 +1,9 @@
-use Rattle.std.proofs.Common.{◌≡◌, ℕ, ◌+◌, ◌<◌, ◌≤◌, List, [], ◌++◌, length, take, get_or, refl, sym, ap, ◌∙◌, arith, length-append}
-use Rattle.std.proofs.lemmas.List.{take_all}
+use Rattle.std.proofs.Common.{◌≡◌, ℕ, ◌+◌, ◌<◌, List, [], ◌++◌, length, take, get_or, sym, ap, ◌∙◌, arith, length-append}
 use Rattle.mpy_base.specs.World.{text_at, with_text}
 use Rattle.py_primitives.specs.Texts.{joined}
 use Rattle.vm_str_methods.specs.Parts.{parts_in, cut_bytes, written, in_front}
 use Rattle.vm_str_methods.proofs.Joinings.{next_part, next_fits, cut_now, parts_now, can_join_now}
-use Rattle.vm_str_methods.proofs.Writings.{written_none, written_all, written_on, written_length, same_text, text_now, later_now, put_again}
+use Rattle.vm_str_methods.proofs.Writings.{written_on, written_length, text_now, put_again}
 use Rattle.vm_str_methods.proofs.joins.put_parts.Goals as goal
 
 pub put_part-from-requires-clause-join : goal.put_part-from-requires-clause-join

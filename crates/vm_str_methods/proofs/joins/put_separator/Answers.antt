@@ -1,7 +1,7 @@
-use Rattle.std.proofs.Common.{◌≡◌, ◌≢◌, ℕ, ◌+◌, ◌≤◌, List, [], length, refl, sym, ap, ◌∙◌, arith}
-use Rattle.mpy_base.specs.World.{text_at, with_text}
+use Rattle.std.proofs.Common.{◌≡◌, ℕ, List, [], length, ap, ◌∙◌}
+use Rattle.mpy_base.specs.World.{text_at}
 use Rattle.vm_str_methods.specs.Parts.{cut_bytes, written, in_front}
-use Rattle.vm_str_methods.proofs.Joinings.{first_front, other_front}
+use Rattle.vm_str_methods.proofs.Joinings.{first_front}
 use Rattle.vm_str_methods.proofs.Writings.{written_none, same_text, cut_length}
 use Rattle.vm_str_methods.proofs.joins.put_separator.Goals as goal
 

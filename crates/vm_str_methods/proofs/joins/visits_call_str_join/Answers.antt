@@ -1,4 +1,4 @@
-use Rattle.std.proofs.Common.{◌≡◌, ℕ, refl, sym, ap, ◌∙◌, arith}
+use Rattle.std.proofs.Common.{refl, ap, arith}
 use Rattle.mpy_base.specs.declared.builtin.Builtin.TheVariants as builtins
 use Rattle.mpy_base.specs.Val.{Val}
 use Rattle.arena_objects.specs.Iterables.{spelled}

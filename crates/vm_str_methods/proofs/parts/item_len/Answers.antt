@@ -1,9 +1,7 @@
-use Rattle.std.proofs.Common.{◌≡◌, ℕ, List, [], ◌∷◌, length, map, take, get_or, Option, Some, None, sym, ap, ◌∙◌, arith}
+use Rattle.std.proofs.Common.{ℕ, List, length, get_or, Option, Some, None, sym, ap, ◌∙◌}
 use Rattle.std.specs.Option.{option_map}
-use Rattle.std.proofs.lemmas.List.{length-map}
 use Rattle.arena_heap.specs.Values.{IsStr}
-use Rattle.arena_objects.specs.Iterables.{items_in, spelled}
-use Rattle.vm_walks.specs.Plain.{plain}
+use Rattle.arena_objects.specs.Iterables.{items_in}
 use Rattle.vm_str_methods.proofs.JoinParts.{strs_plain, str_at, is_str, no_str, not_both}
 use Rattle.vm_str_methods.proofs.parts.item_len.Goals as goal
 

@@ -1,10 +1,8 @@
-use Rattle.std.proofs.Common.{◌≡◌, ℕ, List, [], ◌∷◌, length, map, take, get_or, Option, Some, None, sym, ap, ◌∙◌, arith}
-use Rattle.std.specs.Option.{option_map}
+use Rattle.std.proofs.Common.{ℕ, List, [], ◌∷◌, length, get_or, sym, ap, ◌∙◌, arith}
 use Rattle.std.proofs.lemmas.List.{length-map}
 use Rattle.arena_heap.specs.Values.{IsStr}
 use Rattle.arena_objects.specs.Iterables.{items_in, spelled}
-use Rattle.vm_walks.specs.Plain.{plain}
-use Rattle.std.proofs.Common.{drop, ◌<◌}
+use Rattle.std.proofs.Common.{◌<◌}
 use Rattle.std.proofs.lemmas.List.{get_or-map, take_all}
 use Rattle.std.proofs.lemmas.Option.{slice_get_within}
 use Rattle.arena_heap.specs.declared.value.Value.{Value}

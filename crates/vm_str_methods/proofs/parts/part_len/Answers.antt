@@ -1,9 +1,8 @@
-use Rattle.std.proofs.Common.{◌≡◌, ℕ, List, [], ◌∷◌, length, map, take, get_or, Option, Some, None, sym, ap, ◌∙◌, arith}
+use Rattle.std.proofs.Common.{ℕ, List, [], ◌∷◌, length, get_or, Option, Some, None, sym, ap, ◌∙◌, arith}
 use Rattle.std.specs.Option.{option_map}
 use Rattle.std.proofs.lemmas.List.{length-map}
 use Rattle.arena_heap.specs.Values.{IsStr}
 use Rattle.arena_objects.specs.Iterables.{items_in, spelled}
-use Rattle.vm_walks.specs.Plain.{plain}
 use Rattle.vm_str_methods.proofs.JoinParts.{strs_plain, strs_length, str_parts, letter_there, not_both}
 use Rattle.std.proofs.lemmas.List.{length-take-le, length-drop}
 use Rattle.std.proofs.Common.{drop, ◌<◌}

@@ -1,4 +1,4 @@
-use Rattle.std.proofs.Common.{◌≡◌, ℕ, ◌+◌, ◌-◌, List, length, drop, Some, None, subst, arith}
+use Rattle.std.proofs.Common.{ℕ, ◌-◌, List, length, drop, Some, None, subst, arith}
 use Rattle.std.proofs.lemmas.List.{length-drop, take_all}
 use Rattle.memchr.specs.Find.{FindsNeedle}
 use Rattle.vm_str_methods.proofs.PieceSteps.{found_next, found_last}

@@ -1,5 +1,4 @@
-use Rattle.std.proofs.Common.{◌≡◌, ℕ, ◌<◌, List, length, drop, sym, ap, ◌∙◌, arith}
-use Rattle.py_primitives.specs.Methods.{words_of}
+use Rattle.std.proofs.Common.{◌<◌, length, ◌∙◌, arith}
 use Rattle.vm_str_methods.proofs.PieceSteps.{spaces_passed, no_words, word_passed, word_goes_on}
 use Rattle.vm_str_methods.proofs.pieces.next_word.Goals as goal
 

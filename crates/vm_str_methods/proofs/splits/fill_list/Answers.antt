@@ -1,10 +1,10 @@
-use Rattle.std.proofs.Common.{◌≡◌, ℕ, ◌+◌, ◌<◌, ◌≤◌, List, [], length, refl, sym, ap, ap₂, ◌∙◌, subst, arith}
+use Rattle.std.proofs.Common.{◌≡◌, ℕ, List, length, sym, ap, ap₂, ◌∙◌, subst, arith}
 use Rattle.std.specs.List.{All}
 use Rattle.arena_heap.specs.declared.value.Value.{Value}
-use Rattle.mpy_base.specs.World.{Heap, AList, Later, object, items_of, room_of, items_at, room_at, with_list}
+use Rattle.mpy_base.specs.World.{Heap, AList, Later, object, items_of, room_of, with_list}
 use Rattle.mpy_base.specs.Weights.{used}
 use Rattle.mpy_base.proofs.Worlds.{is_within}
-use Rattle.arena_heap.specs.Values.{ArenaObject, Leads}
+use Rattle.arena_heap.specs.Values.{Leads}
 use Rattle.arena_objects.specs.Iterables.{spelled}
 use Rattle.arena_objects.proofs.Gifts.{spelled_kept}
 use Rattle.vm_str_methods.specs.Pieces.{pieces_from, piece_values, with_pieces, cells_behind}

@@ -1,12 +1,12 @@
-use Rattle.std.proofs.Common.{◌≡◌, ℕ, ◌+◌, ◌<◌, ◌≤◌, List, length, replicate, refl, sym, ap, ◌∙◌, subst, arith}
+use Rattle.std.proofs.Common.{◌≡◌, ℕ, List, length, replicate, sym, ap, ◌∙◌, arith}
 use Rattle.std.proofs.lemmas.List.{length-replicate}
-use Rattle.mpy_base.specs.World.{TextObject, Heap, text_at, with_text}
-use Rattle.mpy_base.specs.Weights.{Made, Refused, with_made}
+use Rattle.mpy_base.specs.World.{TextObject, text_at, with_text}
+use Rattle.mpy_base.specs.Weights.{Made}
 use Rattle.vm_operators.proofs.TextFills.{filled_made, zeros_made}
 use Rattle.vm_str_methods.specs.Parts.{cut_bytes, written}
 use Rattle.vm_str_methods.proofs.Writings.{written_all, cut_length}
-use Rattle.vm_str_methods.proofs.JoinOutcomes.{cut_made, is_cut_made, other_cut}
-use Rattle.vm_str_methods.proofs.PieceLists.{no_piece, some_piece, piece_fits}
+use Rattle.vm_str_methods.proofs.JoinOutcomes.{cut_made}
+use Rattle.vm_str_methods.proofs.PieceLists.{some_piece}
 use Rattle.vm_str_methods.proofs.splits.make_piece.Goals as goal
 
 pub returns-clause-ok : goal.returns-clause-ok

@@ -1,14 +1,14 @@
-use Rattle.std.proofs.Common.{◌≡◌, ℕ, ◌+◌, ◌<◌, ◌≤◌, List, ◌∷◌, length, refl, sym, ap, ◌∙◌, subst, arith}
+use Rattle.std.proofs.Common.{◌≡◌, ℕ, List, ◌∷◌, length, sym, ap, ◌∙◌, subst, arith}
 use Rattle.arena_heap.specs.declared.value.Value.{Value}
 use Rattle.mpy_base.specs.World.{Heap, Later}
 use Rattle.arena_heap.specs.Values.{Leads}
 use Rattle.arena_objects.specs.Iterables.{spelled}
 use Rattle.arena_objects.proofs.Gifts.{spelled_kept}
 use Rattle.vm_str_methods.specs.Parts.{cut_bytes}
-use Rattle.vm_str_methods.specs.Pieces.{pieces_from, with_pieces}
+use Rattle.vm_str_methods.specs.Pieces.{pieces_from}
 use Rattle.vm_str_methods.proofs.Writings.{known_later}
 use Rattle.vm_str_methods.proofs.PieceTexts.{keeps_pieces, later_pieces}
-use Rattle.vm_str_methods.proofs.PieceLists.{made_none, made_all, made_more, made_refused, pieces_kept, split_kept}
+use Rattle.vm_str_methods.proofs.PieceLists.{made_all, made_more, made_refused, pieces_kept, split_kept}
 use Rattle.vm_str_methods.proofs.splits.make_pieces.Goals as goal
 
 pub next_piece-requires-clause-object : goal.next_piece-requires-clause-object

@@ -1,5 +1,5 @@
-use Rattle.std.proofs.Common.{◌≡◌, ◌++◌, ℕ, List, length}
-use Rattle.vm_str_methods.specs.Pieces.{pieces_from, with_pieces, FitPieces}
+use Rattle.std.proofs.Common.{length}
+use Rattle.vm_str_methods.specs.Pieces.{pieces_from}
 use Rattle.vm_str_methods.proofs.PieceTexts.{MadeSoFar}
 use Rattle.vm_str_methods.proofs.splits.make_pieces.Given as goal
 

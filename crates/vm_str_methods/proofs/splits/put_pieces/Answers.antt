@@ -1,12 +1,12 @@
-use Rattle.std.proofs.Common.{◌≡◌, ℕ, ◌+◌, ◌<◌, ◌≤◌, List, ◌∷◌, length, refl, sym, ap, ◌∙◌, subst, arith}
+use Rattle.std.proofs.Common.{◌≡◌, ℕ, List, ◌∷◌, length, sym, ap, ◌∙◌, arith}
 use Rattle.arena_heap.specs.declared.value.Value.{Value}
-use Rattle.mpy_base.specs.World.{Heap, AList, Later}
+use Rattle.mpy_base.specs.World.{Later}
 use Rattle.arena_heap.specs.Values.{Leads}
 use Rattle.arena_objects.specs.Iterables.{spelled}
 use Rattle.vm_str_methods.specs.Parts.{cut_bytes}
-use Rattle.vm_str_methods.specs.Pieces.{pieces_from, piece_values, piece_value, cell_behind}
-use Rattle.vm_str_methods.proofs.Writings.{known_later, cut_length}
-use Rattle.vm_str_methods.proofs.PieceLists.{put_none, later_put, put_all, value_leads, put_fits, cell_fits, put_more, pieces_kept, split_kept, spelled_list}
+use Rattle.vm_str_methods.specs.Pieces.{pieces_from, piece_values, piece_value}
+use Rattle.vm_str_methods.proofs.Writings.{cut_length}
+use Rattle.vm_str_methods.proofs.PieceLists.{later_put, put_all, value_leads, put_fits, cell_fits, put_more, pieces_kept, spelled_list}
 use Rattle.vm_str_methods.proofs.splits.put_pieces.Goals as goal
 
 pub put_in_list-requires-clause-leads : goal.put_in_list-requires-clause-leads

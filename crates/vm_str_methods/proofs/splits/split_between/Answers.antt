@@ -1,19 +1,18 @@
-use Rattle.std.proofs.Common.{◌≡◌, ℕ, ◌<◌, List, length, drop, refl, sym, ap, ◌∙◌, subst, arith}
+use Rattle.std.proofs.Common.{◌≡◌, ℕ, ◌<◌, List, length, sym, ap, ◌∙◌, subst, arith}
 use Rattle.mpy_base.specs.Val.{Val}
 use Rattle.arena_heap.specs.Values.{IsStr}
 use Rattle.arena_objects.specs.Iterables.{spelled}
 use Rattle.py_values.specs.Shown.{Shown, shown}
 use Rattle.py_primitives.specs.Faults.{Fault}
 use Rattle.py_primitives.specs.Outcome.{Outcome, raises}
-use Rattle.py_primitives.specs.Methods.{of_str, split_by, list_of_texts, pieces_between}
+use Rattle.py_primitives.specs.Methods.{of_str, split_by, list_of_texts}
 use Rattle.vm_walks.specs.Plain.{plain, plain_heap}
-use Rattle.vm_faults.specs.declared.fault.Fault.TheVariants as faults
 use Rattle.vm_faults.specs.Outcomes.{IsOutcome}
 use Rattle.vm_faults.proofs.Outcomes.{raises_outcome}
 use Rattle.vm_operators.proofs.ItemsShown.{str_shown}
 use Rattle.vm_str_methods.proofs.JoinParts.{not_both, no_str}
 use Rattle.vm_str_methods.proofs.PieceSteps.{next_within}
-use Rattle.vm_str_methods.proofs.PieceLists.{of_other, split_empty, split_some}
+use Rattle.vm_str_methods.proofs.PieceLists.{of_other, split_some}
 use Rattle.vm_str_methods.proofs.splits.split_between.Goals as goal
 
 pub returns-then-not-is_str : goal.returns-then-not-is_str

@@ -1,17 +1,15 @@
-use Rattle.std.proofs.Common.{◌≡◌, ℕ, ◌+◌, ◌<◌, ◌≤◌, List, [], length, refl, sym, ap, ap₂, ◌∙◌, subst, arith}
+use Rattle.std.proofs.Common.{◌≡◌, ℕ, List, [], length, ap, ◌∙◌, subst, arith}
 use Rattle.arena_heap.specs.declared.value.Value.{Value}
-use Rattle.mpy_base.specs.declared.room.NoRoom.{NoRoom}
-use Rattle.mpy_base.specs.World.{ListObject, Heap, AList, Later, items_of, room_of, with_list}
-use Rattle.mpy_base.specs.Weights.{used, Made, Refused, room_for}
+use Rattle.mpy_base.specs.World.{ListObject, Later, room_of, with_list}
+use Rattle.mpy_base.specs.Weights.{used, Made, room_for}
 use Rattle.mpy_base.proofs.Rooms.{room_is}
 use Rattle.mpy_base.proofs.Worlds.{later_made, object_made}
 use Rattle.arena_heap.specs.Values.{Leads}
 use Rattle.arena_objects.specs.Iterables.{spelled}
 use Rattle.arena_objects.proofs.Gifts.{spelled_kept}
 use Rattle.vm_str_methods.specs.Pieces.{pieces_from, piece_values, with_pieces, FitPieces, PiecesRefused}
-use Rattle.vm_str_methods.proofs.Writings.{known_later}
-use Rattle.vm_str_methods.proofs.PieceLists.{keeps_made, pieces_kept, split_kept}
-use Rattle.vm_str_methods.proofs.SplitOutcomes.{list_refused, texts_refused, list_filled}
+use Rattle.vm_str_methods.proofs.PieceLists.{keeps_made, pieces_kept}
+use Rattle.vm_str_methods.proofs.SplitOutcomes.{texts_refused, list_filled}
 use Rattle.vm_str_methods.proofs.splits.split_pieces.Goals as goal
 
 pub fill_list-requires-clause-room : goal.fill_list-requires-clause-room

@@ -1,4 +1,4 @@
-use Rattle.std.proofs.Common.{◌≡◌, ℕ, List, Bool, Ok, refl, sym, ap, ◌∙◌, subst}
+use Rattle.std.proofs.Common.{◌≡◌, ℕ, List, Bool, sym, ap, ◌∙◌}
 use Rattle.std.specs.Prelude.{nat_eq}
 use Rattle.std.specs.List.{starts_with}
 use Rattle.arena_heap.specs.declared.value.Value.TheVariants as values
@@ -9,7 +9,6 @@ use Rattle.py_primitives.specs.Faults.{Fault}
 use Rattle.py_primitives.specs.Outcome.{Outcome, gives, raises}
 use Rattle.py_primitives.specs.Methods.{of_str}
 use Rattle.vm_walks.specs.Plain.{plain, plain_heap}
-use Rattle.vm_faults.specs.Outcomes.{IsOutcome}
 use Rattle.vm_faults.proofs.Outcomes.{gives_outcome, raises_outcome}
 use Rattle.vm_str_methods.proofs.StrCalls.{refuses}
 use Rattle.vm_str_methods.proofs.starts.starts_in.Goals as goal
