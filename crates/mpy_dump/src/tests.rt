@@ -43,7 +43,7 @@ fn lists_a_module(rt: HostRuntime) -> Result<(), Fail> {
 fn stops_where_a_put_fails(rt: HostRuntime) -> Result<(), Fail> {
     let alloc = rt.alloc();
     let module = module_of(alloc, &[0, 2, 1, 0x51, 0x63, 0xb1, 0x42, 0x50])?;
-    let mut out = MemSink::new(alloc, Vec::from_slice(alloc, &[40])?);
+    let mut out = MemSink::new(alloc, Vec::from_slice(alloc, &[10])?);
     assert!(rt; listing(&module, &mut out).is_err());
     assert!(rt; LISTING.starts_with(out.bytes()));
     Ok(())
