@@ -1,5 +1,5 @@
 -- What constants are told to be.
-use Rattle.std.specs.Prelude.{◌≡◌, ℕ, zero, suc, ◌<◌, List, Option, Some, None, IsSome, IfSome, slice_get}
+use Rattle.std.specs.Prelude.{◌≡◌, ℕ, zero, suc, ◌<◌, List, Option, Some, None, IsSome, IfSome, All, slice_get}
 use Rattle.arena_heap.specs.declared.value.Value.{Value}
 use Rattle.arena_heap.specs.declared.value.Value.TheVariants as values
 use Rattle.arena_heap.specs.declared.value.StrNo.{StrNo}
@@ -27,3 +27,20 @@ abbrev pub IsTold : (StrNo → Option (List ℕ)) → (ConstNo → Option (List 
 IsTold texts tuples (values.Str s) = IsSome (texts s)
 IsTold texts tuples (values.Fixed c) = IsSome (tuples c)
 IsTold texts tuples _ = Unit {0}
+
+-- a value that leads to no object of an arena
+abbrev pub HoldsNoObject : Value → Type 0
+HoldsNoObject (values.List l) = ⊥
+HoldsNoObject (values.Dict d) = ⊥
+HoldsNoObject (values.Tuple t) = ⊥
+HoldsNoObject (values.Text t) = ⊥
+HoldsNoObject (values.Fun f) = ⊥
+HoldsNoObject (values.Exc e) = ⊥
+HoldsNoObject (values.Method m) = ⊥
+HoldsNoObject (values.Range r) = ⊥
+HoldsNoObject (values.Module m) = ⊥
+HoldsNoObject _ = Unit {0}
+
+-- no item of a constant tuple leads to an object
+abbrev pub HoldNoObjects : (ConstNo → Option (List Value)) → Type 0
+HoldNoObjects tuples = (c : ConstNo) → IfSome (tuples c) (All HoldsNoObject)

@@ -9,7 +9,7 @@ pub trait Constants {
     ghost use Rattle.arena_heap.specs.declared.value.StrNo.{StrNo as TextName};
     ghost use Rattle.arena_heap.specs.declared.value.ConstNo.{ConstNo as TupleName};
     ghost use Rattle.arena_heap.specs.declared.value.Value.{Value as Item};
-    ghost use Rattle.arena_heap.specs.Constants.{IsItemOf, NestsWithin};
+    ghost use Rattle.arena_heap.specs.Constants.{HoldNoObjects, IsItemOf, NestsWithin};
 
     /// The bytes of a text.
     ghost text_of: { Self → TextName → Option (List ℕ) };
@@ -26,6 +26,10 @@ pub trait Constants {
     /// The text with number 1 is the empty one.
     fn empty_law(&self)
         ensures { text_of self.now (StrNo.Pool 1) ≡ Some [] };
+
+    /// No constant tuple holds an object of an arena.
+    fn items_law(&self)
+        ensures { HoldNoObjects (items_of self.now) };
 
     /// How many items a constant tuple has, or None where there is no such tuple. Constant tuples nest at most 32 deep.
     fn len(&self, c: ConstNo) -> Option<u32>

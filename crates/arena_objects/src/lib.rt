@@ -14,7 +14,7 @@ pub use arena_heap::{
     tuple_at, tuple_fill, tuple_len,
 };
 pub use dicts::{dict_delete, dict_get, dict_set};
-pub use extend::{item_at, item_count, list_extend, make_byte};
+pub use extend::{item_at, item_count, list_extend, make_byte, make_texts};
 pub use ranges::{range_count, range_number};
 pub use strs::text_bytes;
 

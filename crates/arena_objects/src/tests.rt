@@ -29,6 +29,8 @@ impl Constants for Words {
 
     fn empty_law(&self) {}
 
+    fn items_law(&self) {}
+
     fn len(&self, _c: ConstNo) -> Option<u32> {
         Some(2)
     }

@@ -1,5 +1,6 @@
 mod Examples
 pub mod Files
+pub mod Objectless
 pub mod Own
 pub mod Pools
 pub mod Preludes

@@ -106,6 +106,10 @@ impl Constants for Library {
         let _ = &self.pool;
     }
 
+    fn items_law(&self) {
+        let _ = &self.modules;
+    }
+
     fn len(&self, c: ConstNo) -> Option<u32> {
         match self.tuple_at(c) {
             Some(values) => Some(values.len() as u32),

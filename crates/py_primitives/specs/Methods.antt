@@ -10,12 +10,13 @@ use Rattle.mpy_base.specs.Val.{Val, Nil, Truth, Int, At}
 use Rattle.py_values.specs.Shown.{PlainHeap, Shown, Text, Items, Pairs, shown, is_empty}
 use Rattle.py_values.specs.Keys.{value_of_key, without_key}
 use Rattle.py_values.specs.Equality.{Walk, answers, visit}
+use Rattle.py_values.specs.Small.{checked}
 use Rattle.py_primitives.specs.Walks.{walk_map}
 use Rattle.py_primitives.specs.Texts.{joined}
 use Rattle.py_primitives.specs.Faults.{NoKeywords, EmptyList, NoKey, JoinsNoStr, EmptySeparator}
 use Rattle.py_primitives.specs.Outcome.{Outcome, gives, raises, is_full, with_visits, followed_by, after_walk, making_text, making_texts, making_tuple, making_list, list_of}
 use Rattle.py_primitives.specs.Iterables.{iterating, or_nil, place_before}
-use Rattle.py_primitives.specs.Operators.{unsupported, extend, with_key_of}
+use Rattle.py_primitives.specs.Operators.{unsupported, gives_number, extend, with_key_of}
 use Rattle.py_primitives.specs.Uses.{at_place}
 use Rattle.py_primitives.specs.Calls.{counts_of, count_fault, unless_fault, with_number}
 
@@ -139,7 +140,7 @@ split_by heap bytes (byte ∷ separator) = list_of_texts heap (pieces_between 0 
 
 abbrev pub str_method : PlainHeap → Builtin → Val → List ℕ → List Val → Outcome Val
 str_method heap builtins.StrJoin object bytes (v ∷ _) = iterating heap v (λ items. after_walk heap (parts_of heap items) (gives_joined heap bytes))
-str_method heap builtins.StrFind object bytes (v ∷ _) = of_str heap object v (shown heap v) (λ part. gives (Int (found_from 0 part bytes)) heap)
+str_method heap builtins.StrFind object bytes (v ∷ _) = of_str heap object v (shown heap v) (λ part. gives_number heap (checked (found_from 0 part bytes)))
 str_method heap builtins.StrStartsWith object bytes (v ∷ _) = of_str heap object v (shown heap v) (λ part. gives (Truth (starts_with nat_eq bytes part)) heap)
 str_method heap builtins.StrSplit object bytes [] = list_of_texts heap (words_of bytes)
 str_method heap builtins.StrSplit object bytes (v ∷ _) = of_str heap object v (shown heap v) (split_by heap bytes)

@@ -1,5 +1,5 @@
 -- Calls that write to the output, and those of ports.
-use Rattle.std.specs.Prelude.{ℕ, ◌+◌, ℤ, pos, negsuc, List, [], ◌∷◌, ◌++◌, length, Bool, Option, Some, None, Result, Ok, Err, nat_eq, bytes_eq, slice_get, slice_set, unwrap_or, codes, if◌then◌else◌}
+use Rattle.std.specs.Prelude.{ℕ, ◌+◌, ◌-◌, ◌^◌, min, ℤ, pos, negsuc, List, [], ◌∷◌, ◌++◌, length, Bool, Option, Some, None, Result, Ok, Err, nat_eq, bytes_eq, slice_get, slice_set, unwrap_or, codes, if◌then◌else◌}
 use Rattle.std.specs.List.{list_any}
 use Rattle.mpy_base.specs.World.{PortState}
 use Rattle.mpy_base.specs.Val.{Val, Nil, Int}
@@ -59,9 +59,9 @@ pub record PortOutcome : Type 0 where
   pub answer : Result Val Stop
   pub ports : List PortState
 
--- a put or a get that is made, whether it fails or not
+-- a put or a get that is made, whether it fails or not. The count of calls stands still at its type's end
 abbrev pub with_call : PortState → PortState
-with_call port = record port { calls = port.calls + 1 }
+with_call port = record port { calls = min (port.calls + 1) (2 ^ 64 - 1) }
 
 abbrev pub call_fails : PortState → Bool
 call_fails port = list_any (nat_eq port.calls) port.failing

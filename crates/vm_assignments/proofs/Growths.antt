@@ -12,16 +12,6 @@ use Rattle.py_values.specs.Shown.{PlainHeap}
 use Rattle.vm_walks.specs.Plain.{plain_pair, plain_object, plain_heap}
 use Rattle.vm_faults.proofs.Heaps.{plain_made, room_of_plain, items_of_plain, object_put}
 
-pub fits_true : {V N : Type 0} (h : Heap V N) (cells bytes : ℕ) → Fits h cells bytes → does_fit h cells bytes ≡ true
-fits_true h cells bytes f = let p = f.cells_fit in let q = f.bytes_fit in grind arith
-
-fits_by : {V N : Type 0} (h : Heap V N) (cells bytes : ℕ) → does_fit h cells bytes ≡ true → Fits h cells bytes
-fits_by h cells bytes e = record { cells_fit = grind arith; bytes_fit = grind arith }
-
-pub fits_false : {V N : Type 0} (h : Heap V N) (cells bytes : ℕ) → (Fits h cells bytes → ⊥) → (b : Bool) → does_fit h cells bytes ≡ b → b ≡ false
-fits_false h cells bytes unfit true e = absurd (unfit (fits_by h cells bytes e))
-fits_false h cells bytes unfit false e = refl
-
 map_nones : {X Y : Type 0} (f : X → Y) (x : X) (k : ℕ) → map f (replicate k x) ≡ replicate k (f x)
 map_nones f x zero = refl
 map_nones f x (suc k) = ap (λ ys. f x ∷ ys) (map_nones f x k)

@@ -15,7 +15,7 @@ use Rattle.py_values.specs.Shown.{PlainHeap}
 use Rattle.py_primitives.specs.Outcome.{Outcome, gives, is_full, with_visits, followed_by, making_text, making_texts}
 use Rattle.vm_walks.specs.Plain.{plain, plain_heap}
 use Rattle.vm_faults.proofs.Heaps.{fit_plain, used_plain, made_plain}
-use Rattle.vm_assignments.proofs.Growths.{fits_true, fits_false}
+use Rattle.vm_faults.proofs.Outcomes.{fits_true, fits_false}
 
 -- a str of each byte
 abbrev pub spelled_out : List ℕ → List (List ℕ)
@@ -47,7 +47,7 @@ module _ (texts : StrNo → Option (List ℕ)) (tuples : ConstNo → Option (Lis
     text_fails : (Fits g 2 1 → ⊥) → making_text (plain_heap texts tuples g) (byte ∷ []) ≡ is_full (plain_heap texts tuples g) 2 1
     text_fails unfit =
         let heap = plain_heap texts tuples g in
-        let fit : does_fit heap 2 1 ≡ false = fit_plain texts tuples g 2 1 ∙ fits_false g 2 1 unfit (does_fit g 2 1) refl in
+        let fit : does_fit heap 2 1 ≡ false = fit_plain texts tuples g 2 1 ∙ fits_false g 2 1 unfit in
         ap (λ (b : Bool). cond b (gives (At (used heap)) (with_made heap (TextObject (byte ∷ [])))) (is_full heap 2 1)) fit
 
     used_more : used (text_more g byte) ≡ used g + 2

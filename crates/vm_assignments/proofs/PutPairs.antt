@@ -21,8 +21,9 @@ use Rattle.py_primitives.specs.Outcome.{gives, is_full}
 use Rattle.py_primitives.specs.Uses.{put_pair}
 use Rattle.vm_walks.specs.Plain.{plain, plain_pair, plain_heap}
 use Rattle.vm_faults.proofs.Heaps.{fit_plain, pairs_of_plain, room_of_plain}
+use Rattle.vm_faults.proofs.Outcomes.{fits_true, fits_false}
 use Rattle.vm_operators.proofs.DictKeys.{IsKnownKey, Each, Stands, Misses, with_at, with_new}
-use Rattle.vm_assignments.proofs.Growths.{fits_true, fits_false, no_growth, pairs_kept, dict_growth_plain, pairs_put}
+use Rattle.vm_assignments.proofs.Growths.{no_growth, pairs_kept, dict_growth_plain, pairs_put}
 
 -- keys that are equal, or not
 numbers : (y z : ℤ) (b : Bool) → int_eq y z ≡ b → (Some (NumberKey y) ≡ Some (NumberKey z)) ⊎ (Some (NumberKey y) ≡ Some (NumberKey z) → ⊥)
@@ -128,6 +129,6 @@ module _ (texts : StrNo → Option (List ℕ)) (tuples : ConstNo → Option (Lis
     pub put_refused : (Fits h (dict_growth h d (length (pairs_at h d) + 1)) 0 → ⊥)
         → put_pair (plain_heap texts tuples h) d (plain texts tuples key) (plain texts tuples v) ≡ is_full (plain_heap texts tuples h) (dict_growth h d (length (pairs_at h d) + 1)) 0
     put_refused unfit =
-        let fails = fits_false h (dict_growth h d (length (pairs_at h d) + 1)) 0 unfit (does_fit h (dict_growth h d (length (pairs_at h d) + 1)) 0) refl in
-        put_by (plain_heap texts tuples h) d (plain texts tuples key) (plain texts tuples v) _ new_pairs false (new_fit false fails)
+        let unfits = fits_false h (dict_growth h d (length (pairs_at h d) + 1)) 0 unfit in
+        put_by (plain_heap texts tuples h) d (plain texts tuples key) (plain texts tuples v) _ new_pairs false (new_fit false unfits)
         ∙ ap (λ (cells : ℕ). is_full {A = Val} (plain_heap texts tuples h) cells 0) new_growth

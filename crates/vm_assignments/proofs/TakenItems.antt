@@ -22,7 +22,8 @@ use Rattle.vm_faults.specs.declared.stop.Stop.{Stop}
 use Rattle.vm_faults.specs.declared.stop.Stop.TheVariants.{Full}
 use Rattle.vm_faults.specs.Outcomes.{IsOutcome}
 use Rattle.vm_faults.proofs.Heaps.{fit_plain, no_room_plain, items_of_plain, list_put}
-use Rattle.vm_assignments.proofs.Growths.{fits_true, fits_false, list_growth_plain, list_room_put}
+use Rattle.vm_faults.proofs.Outcomes.{fits_true, fits_false}
+use Rattle.vm_assignments.proofs.Growths.{list_growth_plain, list_room_put}
 use Rattle.vm_assignments.proofs.Iterated.{Iterated}
 
 module _ (texts : StrNo → Option (List ℕ)) (tuples : ConstNo → Option (List Value)) where
@@ -103,7 +104,7 @@ module _ (texts : StrNo → Option (List ℕ)) (tuples : ConstNo → Option (Lis
         → extend (plain_heap texts tuples h) l (plain texts tuples from) ≡ with_visits (length i.items) (is_full (plain_heap texts tuples h) (list_growth h l (extended_length texts tuples h l from)) 0)
     no_room_taken unfit =
         let cells = list_growth h l (extended_length texts tuples h l from) in
-        extend_is false (fits_false h cells 0 unfit (does_fit h cells 0) refl)
+        extend_is false (fits_false h cells 0 unfit)
 
     -- the room fits, and a text doesn't
     pub no_text_taken : Fits h (list_growth h l (extended_length texts tuples h l from)) 0 → (made : ℕ) → made < length (spelled texts h from)

@@ -1,11 +1,10 @@
 //! Iterables that are unpacked.
 
 ghost use Rattle.std.specs.Prelude.{◌≡◌, ◌+◌, ◌*◌, ◌^◌, ◌<◌, length, All, IsSome, OnErr, OnOk, IfErr};
-ghost use Rattle.mpy_base.specs.Weights.{Fits};
 ghost use Rattle.arena_heap.specs.Values.{Leads, IsStr};
 ghost use Rattle.arena_heap.specs.Constants.{IsTold};
 ghost use Rattle.arena_objects.specs.Keys.{AllTold};
-ghost use Rattle.arena_objects.specs.Iterables.{items_in as items_in_arena, spelled, with_texts, texts_from, TextRefused};
+ghost use Rattle.arena_objects.specs.Iterables.{items_in as items_in_arena, spelled, texts_from};
 ghost use Rattle.py_primitives.specs.Iterables.{items_in, length_of as length_in};
 ghost use Rattle.py_primitives.specs.Uses.{unpack as unpack_of};
 ghost use Rattle.vm_walks.specs.Plain.{plain, plain_heap};
@@ -13,28 +12,9 @@ ghost use Rattle.vm_faults.specs.Faults.{IsKnown};
 ghost use Rattle.vm_assignments.specs.Slots.{FillsSlots};
 
 use arena_heap::{Arena, Constants, TextNo, Value};
-use arena_objects::{item_at, item_count, make_byte, text_bytes};
-use mpy_base::NoRoom;
+use arena_objects::{item_at, item_count, make_texts, text_bytes};
 use vm_faults::{Fault, Stop};
 use vm_operators::{items_law, use_iter};
-
-/// Makes a text of each byte of a str.
-fn make_letters<C: Constants>(arena: &mut Arena, consts: &C, s: Value) -> Result<(), NoRoom>
-    requires str { IsStr s }
-    requires leads { Leads arena.old.objects s }
-    requires told { IsTold (C.text_of consts.now) (C.items_of consts.now) s }
-    requires fits { Fits arena.old 0 0 }
-    ensures ok { OnOk result (arena.new ≡ with_texts arena.old (spelled (C.text_of consts.now) arena.old s)) }
-    ensures fits { OnOk result (Fits arena.old (2 * length (spelled (C.text_of consts.now) arena.old s)) (length (spelled (C.text_of consts.now) arena.old s))) }
-    ensures refused { IfErr result (λ e. TextRefused arena.old arena.new e (spelled (C.text_of consts.now) arena.old s)) }
-{
-    let count = text_bytes(arena, consts, s).len();
-    for k in 0..count {
-        let byte = text_bytes(arena, consts, s)[k];
-        make_byte(arena, byte)?;
-    }
-    Ok(())
-}
 
 /// Puts texts into the slots, from the first.
 fn fill_letters(slots: &mut [Value], first: u32)
@@ -67,7 +47,7 @@ fn unpack_letters<C: Constants>(
 {
     arena.room_law();
     let first = arena.used().cells;
-    match make_letters(arena, consts, s) {
+    match make_texts(arena, consts, s) {
         Ok(()) => {
             fill_letters(slots, first);
             Ok(())

@@ -29,7 +29,7 @@ use Rattle.vm_faults.specs.declared.stop.Stop.TheVariants.{Raises}
 use Rattle.vm_faults.specs.declared.types.ValueType.{ValueType}
 use Rattle.vm_faults.specs.Types.{type_text}
 use Rattle.vm_faults.specs.Outcomes.{IsOutcome}
-use Rattle.vm_faults.proofs.Outcomes.{raises_outcome}
+use Rattle.vm_faults.proofs.Outcomes.{raises_outcome, fits_true, fits_false, fitted, unfitted}
 use Rattle.vm_faults.proofs.Heaps.{plain_made, cells_plain, bytes_plain, used_plain, fit_plain, no_room_plain, made_plain}
 use Rattle.vm_operators.specs.Operands.{IsNested}
 use Rattle.vm_operators.proofs.ItemsShown.{str_shown}
@@ -37,25 +37,6 @@ use Rattle.vm_collections.specs.Collected.{is_iterable, is_str, is_tuple, kept_l
 
 -- makings
 -- =======
-
-pub fits_true : {V N : Type 0} (h : Heap V N) (cells bytes : ℕ) → Fits h cells bytes → does_fit h cells bytes ≡ true
-fits_true h cells bytes f = let p = f.cells_fit in let q = f.bytes_fit in grind arith
-
-fits_by : {V N : Type 0} (h : Heap V N) (cells bytes : ℕ) → does_fit h cells bytes ≡ true → Fits h cells bytes
-fits_by h cells bytes e = record { cells_fit = grind arith; bytes_fit = grind arith }
-
-fits_not : {V N : Type 0} (h : Heap V N) (cells bytes : ℕ) → (Fits h cells bytes → ⊥) → (b : Bool) → does_fit h cells bytes ≡ b → b ≡ false
-fits_not h cells bytes unfit true e = absurd (unfit (fits_by h cells bytes e))
-fits_not h cells bytes unfit false e = refl
-
-pub fits_false : {V N : Type 0} (h : Heap V N) (cells bytes : ℕ) → (Fits h cells bytes → ⊥) → does_fit h cells bytes ≡ false
-fits_false h cells bytes unfit = fits_not h cells bytes unfit (does_fit h cells bytes) refl
-
-pub fitted : (heap : PlainHeap) (o : Object Val (List ℕ)) → does_fit heap (cells_of o) (bytes_of o) ≡ true → making heap o ≡ gives (At (used heap)) (with_made heap o)
-fitted heap o e = ap (λ (b : Bool). cond b (gives (At (used heap)) (with_made heap o)) (is_full heap (cells_of o) (bytes_of o))) e
-
-pub unfitted : (heap : PlainHeap) (o : Object Val (List ℕ)) → does_fit heap (cells_of o) (bytes_of o) ≡ false → making heap o ≡ is_full heap (cells_of o) (bytes_of o)
-unfitted heap o e = ap (λ (b : Bool). cond b (gives (At (used heap)) (with_made heap o)) (is_full heap (cells_of o) (bytes_of o))) e
 
 -- what there is behind a making that doesn't fit
 abbrev pub stopped : {A : Type 0} → NoRoom → PlainHeap → Outcome A

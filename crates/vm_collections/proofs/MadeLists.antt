@@ -27,9 +27,9 @@ use Rattle.vm_faults.specs.declared.stop.Stop.{Stop}
 use Rattle.vm_faults.specs.declared.stop.Stop.TheVariants.{Full}
 use Rattle.vm_faults.specs.Outcomes.{IsOutcome}
 use Rattle.vm_faults.proofs.Heaps.{used_plain, fit_plain, made_plain, list_put}
-use Rattle.vm_faults.proofs.Outcomes.{answered, full_outcome}
+use Rattle.vm_faults.proofs.Outcomes.{answered, full_outcome, fits_true, fits_false, fitted, unfitted}
 use Rattle.vm_collections.specs.Collected.{kept_length}
-use Rattle.vm_collections.proofs.Kept.{fits_true, fits_false, fitted, unfitted, stopped, Kept}
+use Rattle.vm_collections.proofs.Kept.{stopped, Kept}
 
 fits_alone : (h : Heap Value ℕ) (more cells bytes : ℕ) → more ≡ 0 → Fits h (more + cells) bytes → Fits h cells bytes
 fits_alone h more cells bytes e f = record { cells_fit = omega (arith, f.cells_fit); bytes_fit = f.bytes_fit }

@@ -17,9 +17,8 @@ ghost use Rattle.vm_collections.specs.Collected.{is_iterable as iterates, kept_v
 
 use crate::arguments::optional_argument;
 use crate::iterables::{is_iterable, is_str, is_tuple, kept_count};
-use crate::letters::make_letters;
 use arena_heap::{Arena, Constants, TextNo, TupleNo, Value, tuple_fill};
-use arena_objects::item_at;
+use arena_objects::{item_at, make_texts};
 use vm_faults::{Fault, Stop, type_of};
 use vm_operators::{items_law, length_of};
 
@@ -95,7 +94,7 @@ fn tuple_from<C: Constants>(arena: &mut Arena, consts: &C, v: Value) -> Result<V
         Ok(t) => {
             arena.room_law();
             let first = arena.used().cells;
-            match make_letters(arena, consts, v) {
+            match make_texts(arena, consts, v) {
                 Ok(()) => {
                     fill_tuple(arena, consts, t, v, first, count);
                     Ok(Value::Tuple(t))

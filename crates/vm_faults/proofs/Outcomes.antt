@@ -23,20 +23,24 @@ use Rattle.vm_faults.specs.Faults.{plain_fault, IsKnownFault}
 use Rattle.vm_faults.specs.Outcomes.{IsOutcome}
 use Rattle.vm_faults.proofs.Heaps.{plain_made, cells_plain, bytes_plain, used_plain, fit_plain, no_room_plain, made_plain}
 
-fits_true : {V N : Type 0} (h : Heap V N) (cells bytes : ℕ) → Fits h cells bytes → does_fit h cells bytes ≡ true
+-- what fits, as a test says it
+pub fits_true : {V N : Type 0} (h : Heap V N) (cells bytes : ℕ) → Fits h cells bytes → does_fit h cells bytes ≡ true
 fits_true h cells bytes f = let p = f.cells_fit in let q = f.bytes_fit in grind arith
 
 fits_by : {V N : Type 0} (h : Heap V N) (cells bytes : ℕ) → does_fit h cells bytes ≡ true → Fits h cells bytes
 fits_by h cells bytes e = record { cells_fit = grind arith; bytes_fit = grind arith }
 
-fits_false : {V N : Type 0} (h : Heap V N) (cells bytes : ℕ) → (Fits h cells bytes → ⊥) → (b : Bool) → does_fit h cells bytes ≡ b → b ≡ false
-fits_false h cells bytes unfit true e = absurd (unfit (fits_by h cells bytes e))
-fits_false h cells bytes unfit false e = refl
+fits_not : {V N : Type 0} (h : Heap V N) (cells bytes : ℕ) → (Fits h cells bytes → ⊥) → (b : Bool) → does_fit h cells bytes ≡ b → b ≡ false
+fits_not h cells bytes unfit true e = absurd (unfit (fits_by h cells bytes e))
+fits_not h cells bytes unfit false e = refl
 
-fitted : (heap : PlainHeap) (o : Object Val (List ℕ)) → does_fit heap (cells_of o) (bytes_of o) ≡ true → making heap o ≡ gives (At (used heap)) (with_made heap o)
+pub fits_false : {V N : Type 0} (h : Heap V N) (cells bytes : ℕ) → (Fits h cells bytes → ⊥) → does_fit h cells bytes ≡ false
+fits_false h cells bytes unfit = fits_not h cells bytes unfit (does_fit h cells bytes) refl
+
+pub fitted : (heap : PlainHeap) (o : Object Val (List ℕ)) → does_fit heap (cells_of o) (bytes_of o) ≡ true → making heap o ≡ gives (At (used heap)) (with_made heap o)
 fitted heap o e = ap (λ (b : Bool). cond b (gives (At (used heap)) (with_made heap o)) (is_full heap (cells_of o) (bytes_of o))) e
 
-unfitted : (heap : PlainHeap) (o : Object Val (List ℕ)) → does_fit heap (cells_of o) (bytes_of o) ≡ false → making heap o ≡ is_full heap (cells_of o) (bytes_of o)
+pub unfitted : (heap : PlainHeap) (o : Object Val (List ℕ)) → does_fit heap (cells_of o) (bytes_of o) ≡ false → making heap o ≡ is_full heap (cells_of o) (bytes_of o)
 unfitted heap o e = ap (λ (b : Bool). cond b (gives (At (used heap)) (with_made heap o)) (is_full heap (cells_of o) (bytes_of o))) e
 
 module _ (texts : StrNo → Option (List ℕ)) (tuples : ConstNo → Option (List Value)) where
@@ -97,7 +101,6 @@ module _ (texts : StrNo → Option (List ℕ)) (tuples : ConstNo → Option (Lis
     -- and one that didn't
     pub refused_outcome : (e : NoRoom) → Refused old new e (cells_of o) (bytes_of o) → IsOutcome texts tuples old new (Err (Full e)) outcome
     refused_outcome e r =
-        let fails = fits_false old (cells_of o) (bytes_of o) r.too_much (does_fit old (cells_of o) (bytes_of o)) refl in
-        let unfit = unfitted (plain_heap texts tuples old) (plain_made texts tuples o) (fit_same ∙ fails) in
+        let unfit = unfitted (plain_heap texts tuples old) (plain_made texts tuples o) (fit_same ∙ fits_false old (cells_of o) (bytes_of o) r.too_much) in
         let weights = ap₂ (λ (c b : ℕ). is_full {A = Val} (plain_heap texts tuples old) (suc c) b) (cells_plain texts tuples o) (bytes_plain texts tuples o) in
         full_outcome old new e (cells_of o) (bytes_of o) outcome r all (is ∙ (unfit ∙ weights))

@@ -24,7 +24,7 @@ use Rattle.vm_walks.specs.Plain.{plain, plain_object, plain_heap}
 use Rattle.vm_faults.specs.declared.stop.Stop.TheVariants.{Full}
 use Rattle.vm_faults.specs.Outcomes.{IsOutcome}
 use Rattle.vm_faults.proofs.Heaps.{fit_plain, room_of_plain, object_put}
-use Rattle.vm_faults.proofs.Outcomes.{answered, full_outcome}
+use Rattle.vm_faults.proofs.Outcomes.{answered, full_outcome, fits_true, fits_false}
 use Rattle.vm_operators.proofs.ItemFills.{told_put}
 
 pub map_insert : {X Y : Type 0} (f : X → Y) (xs : List X) (at : ℕ) (x : X) → map f (insert xs at x) ≡ insert (map f xs) at (f x)
@@ -42,19 +42,6 @@ length_insert xs at x le = omega (arith, length-append (take at xs) (x ∷ drop 
 map_nones : {X Y : Type 0} (f : X → Y) (x : X) (k : ℕ) → map f (replicate k x) ≡ replicate k (f x)
 map_nones f x zero = refl
 map_nones f x (suc k) = ap (λ ys. f x ∷ ys) (map_nones f x k)
-
-pub fits_true : {V N : Type 0} (h : Heap V N) (cells bytes : ℕ) → Fits h cells bytes → does_fit h cells bytes ≡ true
-fits_true h cells bytes f = let p = f.cells_fit in let q = f.bytes_fit in grind arith
-
-fits_by : {V N : Type 0} (h : Heap V N) (cells bytes : ℕ) → does_fit h cells bytes ≡ true → Fits h cells bytes
-fits_by h cells bytes e = record { cells_fit = grind arith; bytes_fit = grind arith }
-
-fits_false : {V N : Type 0} (h : Heap V N) (cells bytes : ℕ) → (Fits h cells bytes → ⊥) → (b : Bool) → does_fit h cells bytes ≡ b → b ≡ false
-fits_false h cells bytes unfit true e = absurd (unfit (fits_by h cells bytes e))
-fits_false h cells bytes unfit false e = refl
-
-pub fails : {V N : Type 0} (h : Heap V N) (cells bytes : ℕ) → (Fits h cells bytes → ⊥) → does_fit h cells bytes ≡ false
-fails h cells bytes unfit = fits_false h cells bytes unfit (does_fit h cells bytes) refl
 
 module _ (texts : StrNo → Option (List ℕ)) (tuples : ConstNo → Option (List Value)) (h : Heap Value ℕ) where
   -- cells that are used
@@ -120,6 +107,6 @@ module _ (texts : StrNo → Option (List ℕ)) (tuples : ConstNo → Option (Lis
       pub put_refused : (e : NoRoom) → Refused h new e (list_growth h n (length items)) 0 → IsOutcome texts tuples h new (Err (Full e)) (put_items (plain_heap texts tuples h) n (map (plain texts tuples) items))
       put_refused e r =
           full_outcome texts tuples h new e (list_growth h n (length items)) 0 _ r all
-          (tested false (fails h (list_growth h n (length items)) 0 r.too_much)
+          (tested false (fits_false h (list_growth h n (length items)) 0 r.too_much)
           ∙ ap (λ (cells : ℕ). is_full {A = Val} (plain_heap texts tuples h) cells 0)
           (ap (λ (k : ℕ). list_growth (plain_heap texts tuples h) n k) (length-map items (plain texts tuples)) ∙ growth_plain (length items)))

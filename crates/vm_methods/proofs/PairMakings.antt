@@ -28,9 +28,9 @@ use Rattle.py_primitives.specs.Methods.{making_pairs}
 use Rattle.vm_walks.specs.Plain.{plain, plain_pair, plain_heap}
 use Rattle.vm_faults.specs.Outcomes.{IsOutcome}
 use Rattle.vm_faults.proofs.Heaps.{used_plain, fit_plain, made_plain, list_put}
+use Rattle.vm_faults.proofs.Outcomes.{fits_true, fits_false}
 use Rattle.vm_operators.proofs.ItemFills.{told_put, tuple_made}
 use Rattle.vm_methods.specs.PairTuples.{pair_object, with_tuples, tuples_from}
-use Rattle.vm_methods.proofs.ListPuts.{fits_true, fails}
 
 abbrev pub tuple_more : Heap Value ℕ → Value × Value → Heap Value ℕ
 tuple_more h pair = with_made h (pair_object pair)
@@ -157,7 +157,7 @@ module _ (texts : StrNo → Option (List ℕ)) (tuples : ConstNo → Option (Lis
   pair_refused h pair unfit =
       let heap = plain_heap texts tuples h in
       let o = plain_object_of pair in
-      ap (λ (b : Bool). cond b (gives (At (used heap)) (with_made heap o)) (is_full heap 3 0)) (fit_plain texts tuples h 3 0 ∙ fails h 3 0 unfit)
+      ap (λ (b : Bool). cond b (gives (At (used heap)) (with_made heap o)) (is_full heap 3 0)) (fit_plain texts tuples h 3 0 ∙ fits_false h 3 0 unfit)
 
   abbrev and_more : Val → Outcome (List Val) → Outcome (List Val)
   and_more v rest = with_visits 0 (followed_by rest (λ (vs : List Val) (last : PlainHeap). gives (v ∷ vs) last))

@@ -19,7 +19,7 @@ use Rattle.mpy_io.specs.Count.{Rose}
 use Rattle.arena_heap.specs.declared.value.Value.TheVariants as values
 use Rattle.vm_faults.specs.declared.fault.Fault.TheVariants as faults
 use Rattle.vm_faults.specs.declared.stop.Stop.TheVariants as stops
-use Rattle.vm_outputs.specs.PortCalls.{AreCalled, DoesPort, Failed, IsTaken}
+use Rattle.vm_outputs.specs.PortCalls.{DoesPort, Failed, IsTaken}
 use Rattle.std.proofs.lemmas.Bool.{cases_lt}
 use Rattle.std.proofs.lemmas.List.{length-map}
 use Rattle.std.proofs.lemmas.Option.{slice_get_past}
@@ -32,12 +32,6 @@ any_contains : (xs : List ℕ) (x : ℕ) → list_any (nat_eq x) xs ≡ true →
 any_contains [] x e = absurd cc
 any_contains (y ∷ ys) x e =
     any_step (nat_eq x y) x y ys refl (λ c. (suc c.0, (let lt = c.1 in omega arith), c.2)) (any_contains ys x) e
-
-next_same : (calls : ℕ) → calls < 2 ^ 64 - 1 → next calls ≡ calls + 1
-next_same calls lt = omega (arith, lt)
-
-called_at : (contents : List PortState) (at : ℕ) (port : PortState) → AreCalled contents → slice_get contents at ≡ Some port → port.calls < 2 ^ 64 - 1
-called_at contents at port are here = subst (λ (o : Option PortState). IfSome o (λ p. p.calls < 2 ^ 64 - 1)) here (are at)
 
 -- a call of a port that didn't fail isn't one that is to fail
 fine : (port : PortState) (b : Bool) → call_fails port ≡ b → (IsFailing port → IsTrue false) → b ≡ false
@@ -59,14 +53,13 @@ none_at old contents at tell past =
     let count : length old ≡ length contents = sym (length-map old told) ∙ (ap (λ (xs : List (Option PortState)). length xs) tell ∙ length-map contents some) in
     slice_get_past contents at (omega (arith, count))
 
-module _ (contents : List PortState) (new : List PortView) (at : ℕ) (n : ℤ) (are : AreCalled contents) where
+module _ (contents : List PortState) (new : List PortView) (at : ℕ) (n : ℤ) where
   -- a put that didn't fail
   pub put_fine : CallsTold contents new at (λ before after. (after ≡ after_put before n false) × (IsFailing before → IsTrue false))
       → DoesPort new (Ok values.None) (put_to contents at n (slice_get contents at))
   put_fine c =
       let fails : call_fails c.before ≡ false = fine c.before (call_fails c.before) refl c.call.1 in
-      let calls = next_same c.before.calls (called_at contents at c.before are c.here) in
-      let after : c.after ≡ record (with_call c.before) { written = c.before.written ++ n ∷ [] } = c.call.0 ∙ ap (λ (k : ℕ). record c.before { calls = k; written = c.before.written ++ n ∷ [] }) calls in
+      let after : c.after ≡ record (with_call c.before) { written = c.before.written ++ n ∷ [] } = c.call.0 in
       let is : put_to contents at n (slice_get contents at) ≡ record { answer = Ok Nil; ports = slice_set contents at c.after } = rw (c.here, fails, after) refl in
       λ texts tuples heap. record { answer = sym (ap (λ (o : PortOutcome). o.answer) is); ports = subst (λ (o : PortOutcome). Tell new o.ports) (sym is) c.others }
 
@@ -75,8 +68,7 @@ module _ (contents : List PortState) (new : List PortView) (at : ℕ) (n : ℤ) 
       → (put_to contents at n (slice_get contents at)).answer ≡ Err (primitives.Raises PortFailed)
       → DoesPort new (Err (stops.Raises faults.PortFailed)) (put_to contents at n (slice_get contents at))
   put_failed c e =
-      let calls = next_same c.before.calls (called_at contents at c.before are c.here) in
-      let after : c.after ≡ with_call c.before = c.call.0 ∙ ap (λ (k : ℕ). record c.before { calls = k }) calls in
+      let after : c.after ≡ with_call c.before = c.call.0 in
       let fails : call_fails c.before ≡ true = must_fail c.before (call_fails c.before) refl (ap (λ (o : Option PortState). (put_to contents at n o).answer) (sym c.here) ∙ e) in
       let is : put_to contents at n (slice_get contents at) ≡ record { answer = Err (primitives.Raises PortFailed); ports = slice_set contents at c.after } = rw (c.here, fails, after) refl in
       λ texts tuples heap. record { answer = sym (ap (λ (o : PortOutcome). o.answer) is); ports = subst (λ (o : PortOutcome). Tell new o.ports) (sym is) c.others }
@@ -111,16 +103,15 @@ first_taken : (pending : List ℤ) → taken (option_to_list (slice_get pending 
 first_taken [] = refl
 first_taken (n ∷ pending) = refl
 
-module _ (contents : List PortState) (new : List PortView) (at : ℕ) (are : AreCalled contents) where
+module _ (contents : List PortState) (new : List PortView) (at : ℕ) where
   -- a get that didn't fail
   pub get_fine : (answer : Option ℤ) (result : Result Value Stop) → IsTaken (option_to_list answer) result
       → CallsTold contents new at (λ before after. (after ≡ after_get before false) × (IsFailing before → IsTrue false) × (answer ≡ first_pending before))
       → DoesPort new result (get_from contents at (slice_get contents at))
   get_fine answer result gives c =
       let fails : call_fails c.before ≡ false = fine c.before (call_fails c.before) refl c.call.1 in
-      let calls = next_same c.before.calls (called_at contents at c.before are c.here) in
       let after : c.after ≡ record (with_call c.before) { pending = others c.before.pending } =
-      c.call.0 ∙ ap₂ (λ (k : ℕ) (ns : List ℤ). record c.before { calls = k; pending = ns }) calls (sym (others_dropped c.before.pending)) in
+      c.call.0 ∙ ap (λ (ns : List ℤ). record (with_call c.before) { pending = ns }) (sym (others_dropped c.before.pending)) in
       let is : get_from contents at (slice_get contents at) ≡ record { answer = taken c.before.pending; ports = slice_set contents at c.after } = rw (c.here, fails, after) refl in
       λ texts tuples heap. record {
         answer = gives texts tuples heap ∙ (ap (λ (a : Option ℤ). taken (option_to_list a)) c.call.2 ∙ (first_taken c.before.pending ∙ sym (ap (λ (o : PortOutcome). o.answer) is)));
@@ -132,8 +123,7 @@ module _ (contents : List PortState) (new : List PortView) (at : ℕ) (are : Are
       → (get_from contents at (slice_get contents at)).answer ≡ Err (primitives.Raises PortFailed)
       → DoesPort new (Err (stops.Raises faults.PortFailed)) (get_from contents at (slice_get contents at))
   get_failed c e =
-      let calls = next_same c.before.calls (called_at contents at c.before are c.here) in
-      let after : c.after ≡ with_call c.before = c.call.0 ∙ ap (λ (k : ℕ). record c.before { calls = k }) calls in
+      let after : c.after ≡ with_call c.before = c.call.0 in
       let fails : call_fails c.before ≡ true = must_fail c.before (call_fails c.before) refl (ap (λ (o : Option PortState). (get_from contents at o).answer) (sym c.here) ∙ e) in
       let is : get_from contents at (slice_get contents at) ≡ record { answer = Err (primitives.Raises PortFailed); ports = slice_set contents at c.after } = rw (c.here, fails, after) refl in
       λ texts tuples heap. record { answer = sym (ap (λ (o : PortOutcome). o.answer) is); ports = subst (λ (o : PortOutcome). Tell new o.ports) (sym is) c.others }

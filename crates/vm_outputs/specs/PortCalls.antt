@@ -72,10 +72,6 @@ pub record Failed (old new : List PortView) : Type 0 where
   pub is : slice_get new number ≡ Some after
   pub rose : Rose before.count after.count
 
--- no port was called so often that its count of calls stands still
-abbrev pub AreCalled : List PortState → Type 0
-AreCalled contents = (k : ℕ) → IfSome (slice_get contents k) (λ port. port.calls < 2 ^ 64 - 1)
-
 -- the same whatever the constants and the heap are
 abbrev pub DoesPort : List PortView → Result Value Stop → PortOutcome → Type 0
 DoesPort new result outcome = (texts : StrNo → Option (List ℕ)) (tuples : ConstNo → Option (List Value)) (heap : Heap Value ℕ) → IsPortOutcome texts tuples heap new result outcome

@@ -14,7 +14,7 @@ ghost use Rattle.vm_faults.specs.declared.fault.Fault.TheVariants as faults;
 ghost use Rattle.vm_faults.specs.declared.stop.Stop.TheVariants as stops;
 ghost use Rattle.vm_faults.specs.Faults.{IsKnown};
 ghost use Rattle.vm_faults.specs.Outcomes.{IsKnownAnswer};
-ghost use Rattle.vm_outputs.specs.PortCalls.{AreCalled, DoesPort, Failed, IsNoCall, IsPortAnswer, IsPortOutcome, IsTaken, call, get_at, put_at};
+ghost use Rattle.vm_outputs.specs.PortCalls.{DoesPort, Failed, IsNoCall, IsPortAnswer, IsPortOutcome, IsTaken, call, get_at, put_at};
 
 use arena_heap::{Arena, Constants, Value};
 use mpy_io::Port;
@@ -32,7 +32,7 @@ fn place_of(z: i32) -> Option<usize>
 
 /// Writes a number to the port at a place.
 fn put_number<P: Port>(ports: &mut PortSet<P>, at: usize, n: i32) -> Result<Value, Stop>
-    ensures told { (contents : List PortState) → Tell (map P.seen ports.old) contents → AreCalled contents → (result ≡ Err (stops.Raises faults.PortFailed) → (put_to contents at n (slice_get contents at)).answer ≡ Err (outcomes.Raises plain_faults.PortFailed)) → DoesPort (map P.seen ports.new) result (put_to contents at n (slice_get contents at)) }
+    ensures told { (contents : List PortState) → Tell (map P.seen ports.old) contents → (result ≡ Err (stops.Raises faults.PortFailed) → (put_to contents at n (slice_get contents at)).answer ≡ Err (outcomes.Raises plain_faults.PortFailed)) → DoesPort (map P.seen ports.new) result (put_to contents at n (slice_get contents at)) }
     ensures failed { result ≡ Err (stops.Raises faults.PortFailed) → Failed (map P.seen ports.old) (map P.seen ports.new) }
     ensures refused { IsNoCall result → ports.new ≡ ports.old }
     ensures number { IsPortAnswer result }
@@ -46,7 +46,7 @@ fn put_number<P: Port>(ports: &mut PortSet<P>, at: usize, n: i32) -> Result<Valu
 
 /// Writes a number to the port that has a number.
 fn put_numbered<P: Port>(ports: &mut PortSet<P>, i: i32, n: i32) -> Result<Value, Stop>
-    ensures told { (contents : List PortState) → Tell (map P.seen ports.old) contents → AreCalled contents → (result ≡ Err (stops.Raises faults.PortFailed) → (put_at contents i n).answer ≡ Err (outcomes.Raises plain_faults.PortFailed)) → DoesPort (map P.seen ports.new) result (put_at contents i n) }
+    ensures told { (contents : List PortState) → Tell (map P.seen ports.old) contents → (result ≡ Err (stops.Raises faults.PortFailed) → (put_at contents i n).answer ≡ Err (outcomes.Raises plain_faults.PortFailed)) → DoesPort (map P.seen ports.new) result (put_at contents i n) }
     ensures failed { result ≡ Err (stops.Raises faults.PortFailed) → Failed (map P.seen ports.old) (map P.seen ports.new) }
     ensures refused { IsNoCall result → ports.new ≡ ports.old }
     ensures number { IsPortAnswer result }
@@ -67,7 +67,7 @@ fn put_value<C: Constants, P: Port>(
 ) -> Result<Value, Stop>
     requires leads { Leads arena.now.objects i }
     requires n_leads { Leads arena.now.objects n }
-    ensures told { (contents : List PortState) → Tell (map P.seen ports.old) contents → AreCalled contents → (result ≡ Err (stops.Raises faults.PortFailed) → (put_of (plain_heap (C.text_of _consts.now) (C.items_of _consts.now) arena.now) contents (plain (C.text_of _consts.now) (C.items_of _consts.now) i) (plain (C.text_of _consts.now) (C.items_of _consts.now) n)).answer ≡ Err (outcomes.Raises plain_faults.PortFailed)) → IsPortOutcome (C.text_of _consts.now) (C.items_of _consts.now) arena.now (map P.seen ports.new) result (put_of (plain_heap (C.text_of _consts.now) (C.items_of _consts.now) arena.now) contents (plain (C.text_of _consts.now) (C.items_of _consts.now) i) (plain (C.text_of _consts.now) (C.items_of _consts.now) n)) }
+    ensures told { (contents : List PortState) → Tell (map P.seen ports.old) contents → (result ≡ Err (stops.Raises faults.PortFailed) → (put_of (plain_heap (C.text_of _consts.now) (C.items_of _consts.now) arena.now) contents (plain (C.text_of _consts.now) (C.items_of _consts.now) i) (plain (C.text_of _consts.now) (C.items_of _consts.now) n)).answer ≡ Err (outcomes.Raises plain_faults.PortFailed)) → IsPortOutcome (C.text_of _consts.now) (C.items_of _consts.now) arena.now (map P.seen ports.new) result (put_of (plain_heap (C.text_of _consts.now) (C.items_of _consts.now) arena.now) contents (plain (C.text_of _consts.now) (C.items_of _consts.now) i) (plain (C.text_of _consts.now) (C.items_of _consts.now) n)) }
     ensures known { IsKnownAnswer (C.text_of _consts.now) (C.items_of _consts.now) arena.now.objects result }
     ensures failed { result ≡ Err (stops.Raises faults.PortFailed) → Failed (map P.seen ports.old) (map P.seen ports.new) }
     ensures refused { IsNoCall result → ports.new ≡ ports.old }
@@ -92,7 +92,7 @@ pub fn call_port_put<C: Constants, P: Port>(
 ) -> Result<Value, Stop>
     requires few { length args.now < 2 ^ 32 }
     requires known { All (IsKnown (C.text_of consts.now) (C.items_of consts.now) arena.now.objects) args.now }
-    ensures told { (contents : List PortState) → Tell (map P.seen ports.old) contents → AreCalled contents → (result ≡ Err (stops.Raises faults.PortFailed) → (call (plain_heap (C.text_of consts.now) (C.items_of consts.now) arena.now) contents builtins.PortPut (map (plain (C.text_of consts.now) (C.items_of consts.now)) args.now) (map (plain_pair (C.text_of consts.now) (C.items_of consts.now)) keys.now)).answer ≡ Err (outcomes.Raises plain_faults.PortFailed)) → IsPortOutcome (C.text_of consts.now) (C.items_of consts.now) arena.now (map P.seen ports.new) result (call (plain_heap (C.text_of consts.now) (C.items_of consts.now) arena.now) contents builtins.PortPut (map (plain (C.text_of consts.now) (C.items_of consts.now)) args.now) (map (plain_pair (C.text_of consts.now) (C.items_of consts.now)) keys.now)) }
+    ensures told { (contents : List PortState) → Tell (map P.seen ports.old) contents → (result ≡ Err (stops.Raises faults.PortFailed) → (call (plain_heap (C.text_of consts.now) (C.items_of consts.now) arena.now) contents builtins.PortPut (map (plain (C.text_of consts.now) (C.items_of consts.now)) args.now) (map (plain_pair (C.text_of consts.now) (C.items_of consts.now)) keys.now)).answer ≡ Err (outcomes.Raises plain_faults.PortFailed)) → IsPortOutcome (C.text_of consts.now) (C.items_of consts.now) arena.now (map P.seen ports.new) result (call (plain_heap (C.text_of consts.now) (C.items_of consts.now) arena.now) contents builtins.PortPut (map (plain (C.text_of consts.now) (C.items_of consts.now)) args.now) (map (plain_pair (C.text_of consts.now) (C.items_of consts.now)) keys.now)) }
     ensures known { IsKnownAnswer (C.text_of consts.now) (C.items_of consts.now) arena.now.objects result }
     ensures failed { result ≡ Err (stops.Raises faults.PortFailed) → Failed (map P.seen ports.old) (map P.seen ports.new) }
     ensures refused { IsNoCall result → ports.new ≡ ports.old }
@@ -119,7 +119,7 @@ fn answer_value(answer: Option<i32>) -> Result<Value, Stop>
 
 /// Takes an answer of the port at a place.
 fn get_answer<P: Port>(ports: &mut PortSet<P>, at: usize) -> Result<Value, Stop>
-    ensures told { (contents : List PortState) → Tell (map P.seen ports.old) contents → AreCalled contents → (result ≡ Err (stops.Raises faults.PortFailed) → (get_from contents at (slice_get contents at)).answer ≡ Err (outcomes.Raises plain_faults.PortFailed)) → DoesPort (map P.seen ports.new) result (get_from contents at (slice_get contents at)) }
+    ensures told { (contents : List PortState) → Tell (map P.seen ports.old) contents → (result ≡ Err (stops.Raises faults.PortFailed) → (get_from contents at (slice_get contents at)).answer ≡ Err (outcomes.Raises plain_faults.PortFailed)) → DoesPort (map P.seen ports.new) result (get_from contents at (slice_get contents at)) }
     ensures failed { result ≡ Err (stops.Raises faults.PortFailed) → Failed (map P.seen ports.old) (map P.seen ports.new) }
     ensures refused { IsNoCall result → ports.new ≡ ports.old }
     ensures number { IsPortAnswer result }
@@ -133,7 +133,7 @@ fn get_answer<P: Port>(ports: &mut PortSet<P>, at: usize) -> Result<Value, Stop>
 
 /// Takes an answer of the port that has a number.
 fn get_numbered<P: Port>(ports: &mut PortSet<P>, i: i32) -> Result<Value, Stop>
-    ensures told { (contents : List PortState) → Tell (map P.seen ports.old) contents → AreCalled contents → (result ≡ Err (stops.Raises faults.PortFailed) → (get_at contents i).answer ≡ Err (outcomes.Raises plain_faults.PortFailed)) → DoesPort (map P.seen ports.new) result (get_at contents i) }
+    ensures told { (contents : List PortState) → Tell (map P.seen ports.old) contents → (result ≡ Err (stops.Raises faults.PortFailed) → (get_at contents i).answer ≡ Err (outcomes.Raises plain_faults.PortFailed)) → DoesPort (map P.seen ports.new) result (get_at contents i) }
     ensures failed { result ≡ Err (stops.Raises faults.PortFailed) → Failed (map P.seen ports.old) (map P.seen ports.new) }
     ensures refused { IsNoCall result → ports.new ≡ ports.old }
     ensures number { IsPortAnswer result }
@@ -152,7 +152,7 @@ fn get_value<C: Constants, P: Port>(
     i: Value,
 ) -> Result<Value, Stop>
     requires leads { Leads arena.now.objects i }
-    ensures told { (contents : List PortState) → Tell (map P.seen ports.old) contents → AreCalled contents → (result ≡ Err (stops.Raises faults.PortFailed) → (get_of (plain_heap (C.text_of _consts.now) (C.items_of _consts.now) arena.now) contents (plain (C.text_of _consts.now) (C.items_of _consts.now) i)).answer ≡ Err (outcomes.Raises plain_faults.PortFailed)) → IsPortOutcome (C.text_of _consts.now) (C.items_of _consts.now) arena.now (map P.seen ports.new) result (get_of (plain_heap (C.text_of _consts.now) (C.items_of _consts.now) arena.now) contents (plain (C.text_of _consts.now) (C.items_of _consts.now) i)) }
+    ensures told { (contents : List PortState) → Tell (map P.seen ports.old) contents → (result ≡ Err (stops.Raises faults.PortFailed) → (get_of (plain_heap (C.text_of _consts.now) (C.items_of _consts.now) arena.now) contents (plain (C.text_of _consts.now) (C.items_of _consts.now) i)).answer ≡ Err (outcomes.Raises plain_faults.PortFailed)) → IsPortOutcome (C.text_of _consts.now) (C.items_of _consts.now) arena.now (map P.seen ports.new) result (get_of (plain_heap (C.text_of _consts.now) (C.items_of _consts.now) arena.now) contents (plain (C.text_of _consts.now) (C.items_of _consts.now) i)) }
     ensures known { IsKnownAnswer (C.text_of _consts.now) (C.items_of _consts.now) arena.now.objects result }
     ensures failed { result ≡ Err (stops.Raises faults.PortFailed) → Failed (map P.seen ports.old) (map P.seen ports.new) }
     ensures refused { IsNoCall result → ports.new ≡ ports.old }
@@ -173,7 +173,7 @@ pub fn call_port_get<C: Constants, P: Port>(
 ) -> Result<Value, Stop>
     requires few { length args.now < 2 ^ 32 }
     requires known { All (IsKnown (C.text_of consts.now) (C.items_of consts.now) arena.now.objects) args.now }
-    ensures told { (contents : List PortState) → Tell (map P.seen ports.old) contents → AreCalled contents → (result ≡ Err (stops.Raises faults.PortFailed) → (call (plain_heap (C.text_of consts.now) (C.items_of consts.now) arena.now) contents builtins.PortGet (map (plain (C.text_of consts.now) (C.items_of consts.now)) args.now) (map (plain_pair (C.text_of consts.now) (C.items_of consts.now)) keys.now)).answer ≡ Err (outcomes.Raises plain_faults.PortFailed)) → IsPortOutcome (C.text_of consts.now) (C.items_of consts.now) arena.now (map P.seen ports.new) result (call (plain_heap (C.text_of consts.now) (C.items_of consts.now) arena.now) contents builtins.PortGet (map (plain (C.text_of consts.now) (C.items_of consts.now)) args.now) (map (plain_pair (C.text_of consts.now) (C.items_of consts.now)) keys.now)) }
+    ensures told { (contents : List PortState) → Tell (map P.seen ports.old) contents → (result ≡ Err (stops.Raises faults.PortFailed) → (call (plain_heap (C.text_of consts.now) (C.items_of consts.now) arena.now) contents builtins.PortGet (map (plain (C.text_of consts.now) (C.items_of consts.now)) args.now) (map (plain_pair (C.text_of consts.now) (C.items_of consts.now)) keys.now)).answer ≡ Err (outcomes.Raises plain_faults.PortFailed)) → IsPortOutcome (C.text_of consts.now) (C.items_of consts.now) arena.now (map P.seen ports.new) result (call (plain_heap (C.text_of consts.now) (C.items_of consts.now) arena.now) contents builtins.PortGet (map (plain (C.text_of consts.now) (C.items_of consts.now)) args.now) (map (plain_pair (C.text_of consts.now) (C.items_of consts.now)) keys.now)) }
     ensures known { IsKnownAnswer (C.text_of consts.now) (C.items_of consts.now) arena.now.objects result }
     ensures failed { result ≡ Err (stops.Raises faults.PortFailed) → Failed (map P.seen ports.old) (map P.seen ports.new) }
     ensures refused { IsNoCall result → ports.new ≡ ports.old }

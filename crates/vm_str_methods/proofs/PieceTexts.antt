@@ -23,17 +23,8 @@ use Rattle.py_primitives.specs.Outcome.{Outcome, gives, is_full, followed_by, ma
 use Rattle.vm_walks.specs.Plain.{plain, plain_heap}
 use Rattle.vm_faults.specs.Faults.{IsKnown}
 use Rattle.vm_faults.proofs.Heaps.{used_plain, fit_plain, made_plain}
+use Rattle.vm_faults.proofs.Outcomes.{fits_true, fits_false}
 use Rattle.vm_str_methods.specs.Pieces.{with_piece, with_pieces, cell_behind, cells_behind, piece_value, piece_values, FitsPiece, FitPieces}
-
-pub fits_true : {V N : Type 0} (h : Heap V N) (cells bytes : ℕ) → Fits h cells bytes → does_fit h cells bytes ≡ true
-fits_true h cells bytes f = let p = f.cells_fit in let q = f.bytes_fit in grind arith
-
-fits_by : {V N : Type 0} (h : Heap V N) (cells bytes : ℕ) → does_fit h cells bytes ≡ true → Fits h cells bytes
-fits_by h cells bytes e = record { cells_fit = grind arith; bytes_fit = grind arith }
-
-pub fits_false : {V N : Type 0} (h : Heap V N) (cells bytes : ℕ) → (Fits h cells bytes → ⊥) → (b : Bool) → does_fit h cells bytes ≡ b → b ≡ false
-fits_false h cells bytes unfit true e = absurd (unfit (fits_by h cells bytes e))
-fits_false h cells bytes unfit false e = refl
 
 -- heaps with more texts
 -- =====================
@@ -101,7 +92,7 @@ module _ (texts : StrNo → Option (List ℕ)) (tuples : ConstNo → Option (Lis
   text_unfitted h bs unfit =
       let heap = plain_heap texts tuples h in
       ap (λ (b : Bool). cond b (gives (At (used heap)) (with_made heap (TextObject bs))) (is_full heap 2 (length bs)))
-      (fit_plain texts tuples h 2 (length bs) ∙ fits_false h 2 (length bs) unfit (does_fit h 2 (length bs)) refl)
+      (fit_plain texts tuples h 2 (length bs) ∙ fits_false h 2 (length bs) unfit)
 
   module _ (empty : texts (strs.Pool 1) ≡ Some []) where
     piece_made : (h : Heap Value ℕ) (piece : List ℕ) → FitsPiece h piece → making_text (plain_heap texts tuples h) piece ≡ gives (plain texts tuples (piece_value (used h) piece)) (plain_heap texts tuples (with_piece h piece))

@@ -73,21 +73,6 @@ module _ (part : List ℕ) where
   pub place_nowhere : (bytes : List ℕ) → FindsNeedle bytes part 0 None → found_from 0 part bytes ≡ negsuc 0
   place_nowhere bytes found = nowhere bytes 0 (λ k le e. found k (omega arith) (omega arith) (OccursAt-from_part bytes part k (fits bytes k le e) e))
 
--- places in short strs are small numbers
+-- what stands nowhere
 pub nowhere_small : IsSmall (negsuc 0)
 nowhere_small = grind (arith, ints)
-
-either_small : (b : Bool) (x y : ℤ) → IsSmall x → IsSmall y → IsSmall (cond b x y)
-either_small true x y p q = p
-either_small false x y p q = q
-
-place_small : (part bytes : List ℕ) (at : ℕ) → at + length bytes < 2 ^ 30 → IsSmall (found_from at part bytes)
-place_small part [] at lt = either_small (is_empty part) (pos at) (negsuc 0) (count_small at (omega arith)) nowhere_small
-place_small part (byte ∷ bytes) at lt =
-    either_small (starts_with nat_eq (byte ∷ bytes) part) (pos at) (found_from (at + 1) part bytes) (count_small at (omega arith)) (place_small part bytes (at + 1) (omega arith))
-
-pub places_kept : (heap : PlainHeap) (object v : Val) (bytes : List ℕ) → length bytes < 2 ^ 30 → (s : Shown)
-    → of_str {A = Val} heap object v s (λ part. gives_number heap (checked (found_from 0 part bytes))) ≡ of_str heap object v s (λ part. gives (Int (found_from 0 part bytes)) heap)
-places_kept heap object v bytes lt (Text part) =
-    ap (λ (r : Result ℤ NumFault). gives_number heap r) (checked_small (found_from 0 part bytes) (place_small part bytes 0 (omega arith)))
-places_kept heap object v bytes lt _ = refl

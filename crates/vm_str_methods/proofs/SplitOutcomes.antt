@@ -21,10 +21,10 @@ use Rattle.vm_walks.specs.Plain.{plain, plain_heap}
 use Rattle.vm_faults.specs.declared.stop.Stop.TheVariants.{Full}
 use Rattle.vm_faults.specs.Outcomes.{IsOutcome}
 use Rattle.vm_faults.proofs.Heaps.{used_plain, fit_plain, made_plain, list_put}
-use Rattle.vm_faults.proofs.Outcomes.{answered, full_outcome}
+use Rattle.vm_faults.proofs.Outcomes.{answered, full_outcome, fits_true, fits_false}
 use Rattle.vm_operators.proofs.ItemFills.{told_put}
 use Rattle.vm_str_methods.specs.Pieces.{with_pieces, piece_values, FitPieces, PiecesRefused}
-use Rattle.vm_str_methods.proofs.PieceTexts.{fits_true, fits_false, later_pieces, told_pieces, pieces_made, pieces_full, values_known}
+use Rattle.vm_str_methods.proofs.PieceTexts.{later_pieces, told_pieces, pieces_made, pieces_full, values_known}
 
 module _ (texts : StrNo → Option (List ℕ)) (tuples : ConstNo → Option (List Value)) (old : Heap Value ℕ) (pieces : List (List ℕ)) where
   abbrev heap : PlainHeap
@@ -44,7 +44,7 @@ module _ (texts : StrNo → Option (List ℕ)) (tuples : ConstNo → Option (Lis
   list_unfitted : (Fits old (suc (2 + room)) 0 → ⊥) → making heap (ListObject [] room) ≡ is_full heap (suc (2 + room)) 0
   list_unfitted unfit =
       ap (λ (b : Bool). cond b (gives (At (used heap)) (with_made heap (ListObject [] room))) (is_full heap (suc (2 + room)) 0))
-      (fit_plain texts tuples old (suc (2 + room)) 0 ∙ fits_false old (suc (2 + room)) 0 unfit (does_fit old (suc (2 + room)) 0) refl)
+      (fit_plain texts tuples old (suc (2 + room)) 0 ∙ fits_false old (suc (2 + room)) 0 unfit)
 
   -- the list doesn't fit
   pub list_refused : (new : Heap Value ℕ) (e : NoRoom) → Refused old new e (3 + room) 0 → AllTold texts tuples old.objects → IsOutcome texts tuples old new (Err (Full e)) (list_of_texts heap pieces)

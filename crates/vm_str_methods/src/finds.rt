@@ -60,7 +60,6 @@ pub fn call_str_find<C: Constants>(
     requires str { IsStr object }
     requires leads { Leads arena.now.objects object }
     requires told { IsTold (C.text_of consts.now) (C.items_of consts.now) object }
-    requires short { length (spelled (C.text_of consts.now) arena.now object) < 2 ^ 30 }
     requires known { All (IsKnown (C.text_of consts.now) (C.items_of consts.now) arena.now.objects) args.now }
     requires all_told { AllTold (C.text_of consts.now) (C.items_of consts.now) arena.now.objects }
     ensures { IsOutcome (C.text_of consts.now) (C.items_of consts.now) arena.now arena.now result (call_method (plain_heap (C.text_of consts.now) (C.items_of consts.now) arena.now) builtins.StrFind (plain (C.text_of consts.now) (C.items_of consts.now) object) (map (plain (C.text_of consts.now) (C.items_of consts.now)) args.now) (map (plain_pair (C.text_of consts.now) (C.items_of consts.now)) keys.now)) }

@@ -1,5 +1,5 @@
 -- The texts of values that lead to old objects, while new ones are made.
-use Rattle.std.proofs.Common.{◌≡◌, ℕ, zero, suc, ◌<◌, List, [], ◌∷◌, ◌++◌, map, Bool, Option, Some, None, sym, ap, ◌∙◌, subst}
+use Rattle.std.proofs.Common.{IfSome, ◌≡◌, ℕ, zero, suc, ◌<◌, List, [], ◌∷◌, ◌++◌, map, Bool, Option, Some, None, sym, ap, ◌∙◌, subst}
 use Rattle.std.specs.List.{All}
 use Rattle.std.proofs.lemmas.List.Elements.{All-nil, All-cons, All-head, All-tail}
 use Rattle.arena_heap.specs.declared.value.Value.{Value}
@@ -16,7 +16,7 @@ use Rattle.vm_walks.specs.Plain.{vals_from, fixed_of, fixed_within, plain_by, pl
 use Rattle.vm_walks.specs.Whole.{text_of}
 use Rattle.vm_walks.proofs.PlainValues.{within_step, object_plain}
 use Rattle.vm_walks.proofs.WholeTexts.{text_is}
-use Rattle.vm_types.specs.Constants.{HoldsNoObject, HoldNoObjects}
+use Rattle.arena_heap.specs.Constants.{HoldsNoObject, HoldNoObjects}
 use Rattle.vm_types.proofs.TextFrames.{Each, Below, AllBelow, BelowObject, text_stays}
 
 all_front : {A : Type 0} (P : A → Type 0) (xs ys : List A) → All P (xs ++ ys) → All P xs
@@ -26,6 +26,10 @@ all_front P (x ∷ xs) ys all = All-cons P x xs (All-head P x (xs ++ ys) all) (a
 all_back : {A : Type 0} (P : A → Type 0) (xs ys : List A) → All P (xs ++ ys) → All P ys
 all_back P [] ys all = all
 all_back P (x ∷ xs) ys all = all_back P xs ys (All-tail P x (xs ++ ys) all)
+
+held_by : (o : Option (List Value)) → IfSome o (All HoldsNoObject) → All HoldsNoObject (or_nothing o)
+held_by (Some items) all = all
+held_by None all = All-nil HoldsNoObject
 
 module _ (texts : StrNo → Option (List ℕ)) (tuples : ConstNo → Option (List Value)) (limit : ℕ) (formed : HoldNoObjects tuples) where
   nothing_within : (c : ConstNo) → Below limit (fixed_within texts tuples zero c)
@@ -56,7 +60,7 @@ module _ (texts : StrNo → Option (List ℕ)) (tuples : ConstNo → Option (Lis
   -- constant tuples hold no objects
   fixed_below : (depth : ℕ) (c : ConstNo) → Below limit (fixed_within texts tuples depth c)
   fixed_below zero c = nothing_within c
-  fixed_below (suc depth) c = subst (Below limit) (sym (within_step texts tuples depth c)) (tuple_below (fixed_within texts tuples depth) (fixed_below depth) (or_nothing (tuples c)) (formed c))
+  fixed_below (suc depth) c = subst (Below limit) (sym (within_step texts tuples depth c)) (tuple_below (fixed_within texts tuples depth) (fixed_below depth) (or_nothing (tuples c)) (held_by (tuples c) (formed c)))
 
 module _ (texts : StrNo → Option (List ℕ)) (tuples : ConstNo → Option (List Value)) (h : Heap Value ℕ) (formed : HoldNoObjects tuples) where
   value_below : (v : Value) → Leads h.objects v → Below (used h) (plain texts tuples v)

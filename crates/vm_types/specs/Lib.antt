@@ -1,4 +1,3 @@
-pub mod Constants
 pub mod Members
 pub mod Texts
 pub mod Types

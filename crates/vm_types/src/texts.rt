@@ -12,7 +12,6 @@ ghost use Rattle.vm_walks.specs.Plain.{plain, plain_pair, plain_heap};
 ghost use Rattle.vm_walks.specs.Whole.{text_of as text_of_walk};
 ghost use Rattle.vm_faults.specs.Faults.{IsKnown};
 ghost use Rattle.vm_faults.specs.Outcomes.{IsOutcome};
-ghost use Rattle.vm_types.specs.Constants.{HoldNoObjects};
 ghost use Rattle.vm_types.specs.Texts.{found_text, text_in, IsApart, written_over};
 
 use arena_heap::{Arena, Constants, StrNo, TextNo, Value, text_fill};
@@ -117,7 +116,6 @@ fn make_filled<C: Constants>(
     requires leads { Leads arena.old.objects v }
     requires told { IsTold (C.text_of consts.now) (C.items_of consts.now) v }
     requires all_told { AllTold (C.text_of consts.now) (C.items_of consts.now) arena.old.objects }
-    requires constants { HoldNoObjects (C.items_of consts.now) }
     requires found { IsSome (found_text (C.text_of consts.now) (C.items_of consts.now) arena.old raw v) }
     requires len { len ≡ min (length (text_in (C.text_of consts.now) (C.items_of consts.now) arena.old raw v)) (2 ^ 64 - 1) }
     ensures { IsOutcome (C.text_of consts.now) (C.items_of consts.now) arena.old arena.new result (making_text (plain_heap (C.text_of consts.now) (C.items_of consts.now) arena.old) (text_in (C.text_of consts.now) (C.items_of consts.now) arena.old raw v)) }
@@ -127,6 +125,7 @@ fn make_filled<C: Constants>(
         return Ok(Value::Str(StrNo::Pool(1)));
     }
     arena.sound_law();
+    consts.items_law();
     let before = arena.used().bytes;
     match arena.make_text(len) {
         Ok(t) => {
@@ -148,7 +147,6 @@ fn make_shown<C: Constants>(
     requires leads { Leads arena.old.objects v }
     requires told { IsTold (C.text_of consts.now) (C.items_of consts.now) v }
     requires all_told { AllTold (C.text_of consts.now) (C.items_of consts.now) arena.old.objects }
-    requires constants { HoldNoObjects (C.items_of consts.now) }
     ensures { IsOutcome (C.text_of consts.now) (C.items_of consts.now) arena.old arena.new result (after_walk (plain_heap (C.text_of consts.now) (C.items_of consts.now) arena.old) (text_of_walk (plain_heap (C.text_of consts.now) (C.items_of consts.now) arena.old) raw (plain (C.text_of consts.now) (C.items_of consts.now) v)) (making_text (plain_heap (C.text_of consts.now) (C.items_of consts.now) arena.old))) }
 {
     match text_len(arena, consts, v, raw) {
@@ -167,7 +165,6 @@ pub fn call_str<C: Constants>(
     requires few { length args.now < 2 ^ 32 }
     requires known { All (IsKnown (C.text_of consts.now) (C.items_of consts.now) arena.old.objects) args.now }
     requires all_told { AllTold (C.text_of consts.now) (C.items_of consts.now) arena.old.objects }
-    requires constants { HoldNoObjects (C.items_of consts.now) }
     ensures { IsOutcome (C.text_of consts.now) (C.items_of consts.now) arena.old arena.new result (call (plain_heap (C.text_of consts.now) (C.items_of consts.now) arena.old) builtins.Str (map (plain (C.text_of consts.now) (C.items_of consts.now)) args.now) (map (plain_pair (C.text_of consts.now) (C.items_of consts.now)) keys.now)) }
 {
     match one_argument(args, keys) {
@@ -205,7 +202,6 @@ pub fn call_repr<C: Constants>(
     requires few { length args.now < 2 ^ 32 }
     requires known { All (IsKnown (C.text_of consts.now) (C.items_of consts.now) arena.old.objects) args.now }
     requires all_told { AllTold (C.text_of consts.now) (C.items_of consts.now) arena.old.objects }
-    requires constants { HoldNoObjects (C.items_of consts.now) }
     ensures { IsOutcome (C.text_of consts.now) (C.items_of consts.now) arena.old arena.new result (call (plain_heap (C.text_of consts.now) (C.items_of consts.now) arena.old) builtins.Repr (map (plain (C.text_of consts.now) (C.items_of consts.now)) args.now) (map (plain_pair (C.text_of consts.now) (C.items_of consts.now)) keys.now)) }
 {
     match one_argument(args, keys) {

@@ -29,4 +29,4 @@ pub returns-in-Err-clause-outcome : goal.returns-in-Err-clause-outcome
 returns-in-Err-clause-outcome g c =
     let texts = g.C.Constants.text_of c.args.consts.now in
     let tuples = g.C.Constants.items_of c.args.consts.now in
-    stopped_slots texts tuples c.args.arena.now c.args.s c.requires.all_told c.requires.str c.requires.leads c.make_letters.new.arena c.args.slots.now c.in-Err.room (length c.args.slots.now) c.requires.count c.in-Err.ensures.refused
+    stopped_slots texts tuples c.args.arena.now c.args.s c.requires.all_told c.requires.str c.requires.leads c.make_texts.new.arena c.args.slots.now c.in-Err.room (length c.args.slots.now) c.requires.count c.in-Err.ensures.refused

@@ -31,8 +31,8 @@ fill_tuple-requires-clause-tuple g c =
     let t = c.in-Ok.t.cell in
     let made = c.make_tuple.new.self in
     let m = subst (λ (n : ℕ). Made h made t (TupleObject (replicate n values.None))) c.kept_count-count.ensures c.in-Ok.ensures.made in
-    let e = c.in-Ok-make_letters.ensures.ok in
-    let letters = c.make_letters.new.arena in
+    let e = c.in-Ok-make_texts.ensures.ok in
+    let letters = c.make_texts.new.arena in
     let first = c.used-first.result.cells in
     let count = c.kept_count-count.result in
     (lettered_later texts tuples h v kept c.requires.iterable leads m some letters e).keeps ATuple t c.in-Ok.ensures.kind
@@ -49,8 +49,8 @@ fill_tuple-requires-clause-leads g c =
     let t = c.in-Ok.t.cell in
     let made = c.make_tuple.new.self in
     let m = subst (λ (n : ℕ). Made h made t (TupleObject (replicate n values.None))) c.kept_count-count.ensures c.in-Ok.ensures.made in
-    let e = c.in-Ok-make_letters.ensures.ok in
-    let letters = c.make_letters.new.arena in
+    let e = c.in-Ok-make_texts.ensures.ok in
+    let letters = c.make_texts.new.arena in
     let first = c.used-first.result.cells in
     let count = c.kept_count-count.result in
     leads_later (lettered_later texts tuples h v kept c.requires.iterable leads m some letters e) v (leads_later (later_made m) v leads)
@@ -67,8 +67,8 @@ fill_tuple-requires-clause-all_told g c =
     let t = c.in-Ok.t.cell in
     let made = c.make_tuple.new.self in
     let m = subst (λ (n : ℕ). Made h made t (TupleObject (replicate n values.None))) c.kept_count-count.ensures c.in-Ok.ensures.made in
-    let e = c.in-Ok-make_letters.ensures.ok in
-    let letters = c.make_letters.new.arena in
+    let e = c.in-Ok-make_texts.ensures.ok in
+    let letters = c.make_texts.new.arena in
     let first = c.used-first.result.cells in
     let count = c.kept_count-count.result in
     lettered_told texts tuples h v kept c.requires.iterable leads m some c.requires.all_told letters e
@@ -85,8 +85,8 @@ fill_tuple-requires-clause-apart g c =
     let t = c.in-Ok.t.cell in
     let made = c.make_tuple.new.self in
     let m = subst (λ (n : ℕ). Made h made t (TupleObject (replicate n values.None))) c.kept_count-count.ensures c.in-Ok.ensures.made in
-    let e = c.in-Ok-make_letters.ensures.ok in
-    let letters = c.make_letters.new.arena in
+    let e = c.in-Ok-make_texts.ensures.ok in
+    let letters = c.make_texts.new.arena in
     let first = c.used-first.result.cells in
     let count = c.kept_count-count.result in
     tuple_apart texts tuples h v kept c.requires.iterable leads m some
@@ -103,8 +103,8 @@ fill_tuple-requires-clause-letters g c =
     let t = c.in-Ok.t.cell in
     let made = c.make_tuple.new.self in
     let m = subst (λ (n : ℕ). Made h made t (TupleObject (replicate n values.None))) c.kept_count-count.ensures c.in-Ok.ensures.made in
-    let e = c.in-Ok-make_letters.ensures.ok in
-    let letters = c.make_letters.new.arena in
+    let e = c.in-Ok-make_texts.ensures.ok in
+    let letters = c.make_texts.new.arena in
     let first = c.used-first.result.cells in
     let count = c.kept_count-count.result in
     letters_are texts tuples h v kept c.requires.iterable leads m some letters first count e c.used-first.ensures.cells c.kept_count-count.ensures
@@ -121,8 +121,8 @@ fill_tuple-requires-clause-items g c =
     let t = c.in-Ok.t.cell in
     let made = c.make_tuple.new.self in
     let m = subst (λ (n : ℕ). Made h made t (TupleObject (replicate n values.None))) c.kept_count-count.ensures c.in-Ok.ensures.made in
-    let e = c.in-Ok-make_letters.ensures.ok in
-    let letters = c.make_letters.new.arena in
+    let e = c.in-Ok-make_texts.ensures.ok in
+    let letters = c.make_texts.new.arena in
     let first = c.used-first.result.cells in
     let count = c.kept_count-count.result in
     values_length texts tuples h v kept c.requires.iterable leads m some letters first count e c.used-first.ensures.cells c.kept_count-count.ensures
@@ -139,14 +139,14 @@ fill_tuple-requires-clause-room g c =
     let t = c.in-Ok.t.cell in
     let made = c.make_tuple.new.self in
     let m = subst (λ (n : ℕ). Made h made t (TupleObject (replicate n values.None))) c.kept_count-count.ensures c.in-Ok.ensures.made in
-    let e = c.in-Ok-make_letters.ensures.ok in
-    let letters = c.make_letters.new.arena in
+    let e = c.in-Ok-make_texts.ensures.ok in
+    let letters = c.make_texts.new.arena in
     let first = c.used-first.result.cells in
     let count = c.kept_count-count.result in
     tuple_room texts tuples h v kept c.requires.iterable leads m some letters count e c.kept_count-count.ensures
 
-pub returns-in-Ok-make_letters : goal.returns-in-Ok-make_letters
-returns-in-Ok-make_letters g c =
+pub returns-in-Ok-make_texts : goal.returns-in-Ok-make_texts
+returns-in-Ok-make_texts g c =
     let texts = g.C.Constants.text_of c.args.consts.now in
     let tuples = g.C.Constants.items_of c.args.consts.now in
     let h = c.args.arena.now in
@@ -157,16 +157,16 @@ returns-in-Ok-make_letters g c =
     let t = c.in-Ok.t.cell in
     let made = c.make_tuple.new.self in
     let m = subst (λ (n : ℕ). Made h made t (TupleObject (replicate n values.None))) c.kept_count-count.ensures c.in-Ok.ensures.made in
-    let e = c.in-Ok-make_letters.ensures.ok in
-    let letters = c.make_letters.new.arena in
+    let e = c.in-Ok-make_texts.ensures.ok in
+    let letters = c.make_texts.new.arena in
     let first = c.used-first.result.cells in
     let count = c.kept_count-count.result in
     let later = later_later (lettered_later texts tuples h v kept c.requires.iterable leads m some letters e) c.fill_tuple.ensures.later in
-    tuple_filled texts tuples h v kept c.requires.iterable leads m some letters c.fill_tuple.new.arena first count c.in-Ok.t e c.used-first.ensures.cells c.kept_count-count.ensures refl c.fill_tuple.ensures.filled c.in-Ok-make_letters.ensures.fits
+    tuple_filled texts tuples h v kept c.requires.iterable leads m some letters c.fill_tuple.new.arena first count c.in-Ok.t e c.used-first.ensures.cells c.kept_count-count.ensures refl c.fill_tuple.ensures.filled c.in-Ok-make_texts.ensures.fits
     (later_later (later_made m) later) c.fill_tuple.ensures.all_told (record { meets = later.keeps ATuple t c.in-Ok.ensures.kind; small = tt })
 
-pub returns-in-Err-make_letters : goal.returns-in-Err-make_letters
-returns-in-Err-make_letters g c =
+pub returns-in-Err-make_texts : goal.returns-in-Err-make_texts
+returns-in-Err-make_texts g c =
     let texts = g.C.Constants.text_of c.args.consts.now in
     let tuples = g.C.Constants.items_of c.args.consts.now in
     let h = c.args.arena.now in
@@ -177,7 +177,7 @@ returns-in-Err-make_letters g c =
     let t = c.in-Ok.t.cell in
     let made = c.make_tuple.new.self in
     let m = subst (λ (n : ℕ). Made h made t (TupleObject (replicate n values.None))) c.kept_count-count.ensures c.in-Ok.ensures.made in
-    tuple_stops texts tuples h v kept c.requires.iterable leads m some c.requires.all_told c.make_letters.new.arena c.in-Err-make_letters.room c.in-Err-make_letters.ensures.refused
+    tuple_stops texts tuples h v kept c.requires.iterable leads m some c.requires.all_told c.make_texts.new.arena c.in-Err-make_texts.room c.in-Err-make_texts.ensures.refused
 
 pub returns-in-Err : goal.returns-in-Err
 returns-in-Err g c =

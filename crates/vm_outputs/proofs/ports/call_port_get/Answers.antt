@@ -13,7 +13,7 @@ get_value-requires g c =
     record { leads = (one_known texts tuples c.args.arena.now c.args.args.now c.in-Ok.i c.in-Ok.ensures.given c.requires.known).leads }
 
 pub returns-in-Err-clause-told : goal.returns-in-Err-clause-told
-returns-in-Err-clause-told g c contents tell are fails =
+returns-in-Err-clause-told g c contents tell fails =
     let texts = g.C.Constants.text_of c.args.consts.now in
     let tuples = g.C.Constants.items_of c.args.consts.now in
     refusal_told texts tuples c.args.arena.now c.args.args.now c.args.keys.now builtins.PortGet (Exactly 1) c.in-Err.fault c.in-Err.ensures.refused refl refl (map g.P.Port.seen c.args.ports.now) contents tell

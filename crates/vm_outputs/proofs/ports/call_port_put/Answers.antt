@@ -6,7 +6,7 @@ use Rattle.vm_outputs.proofs.PortRefusals.{refusal_told, refusal_no_port}
 use Rattle.vm_outputs.proofs.ports.call_port_put.Goals as goal
 
 pub returns-in-Err-clause-told : goal.returns-in-Err-clause-told
-returns-in-Err-clause-told g c contents tell are fails =
+returns-in-Err-clause-told g c contents tell fails =
     let texts = g.C.Constants.text_of c.args.consts.now in
     let tuples = g.C.Constants.items_of c.args.consts.now in
     refusal_told texts tuples c.args.arena.now c.args.args.now c.args.keys.now builtins.PortPut (Exactly 2) c.in-Err.fault c.in-Err.ensures.refused refl refl (map g.P.Port.seen c.args.ports.now) contents tell

@@ -8,10 +8,10 @@ use Rattle.vm_outputs.specs.PortCalls.{DoesPort, get_at}
 use Rattle.vm_outputs.proofs.ports.get_numbered.Goals as goal
 
 pub returns-in-Some-clause-told : goal.returns-in-Some-clause-told
-returns-in-Some-clause-told g c contents tell are =
+returns-in-Some-clause-told g c contents tell =
     let seen = g.P.Port.seen in
     let new = map seen c.get_answer.new.ports in
     let result = c.get_answer.result in
     subst (λ (z : ℤ). (result ≡ Err (stops.Raises faults.PortFailed) → (get_at contents z).answer ≡ Err (Raises PortFailed)) → DoesPort new result (get_at contents z))
     (sym c.in-Some.ensures ∙ to_z-of_z w32 c.args.i c.ranges.i)
-    (c.get_answer.ensures.told contents tell are)
+    (c.get_answer.ensures.told contents tell)

@@ -6,7 +6,7 @@ use Rattle.vm_outputs.proofs.PortNumbers.{no_port_fault, refused_told, get_no_pl
 use Rattle.vm_outputs.proofs.ports.get_value.Goals as goal
 
 pub returns-in-Err-clause-told : goal.returns-in-Err-clause-told
-returns-in-Err-clause-told g c contents tell are fails =
+returns-in-Err-clause-told g c contents tell fails =
     let texts = g.C.Constants.text_of c.args._consts.now in
     let tuples = g.C.Constants.items_of c.args._consts.now in
     let h = c.args.arena.now in
@@ -19,11 +19,11 @@ pub returns-in-Err-clause-failed : goal.returns-in-Err-clause-failed
 returns-in-Err-clause-failed g c e = absurd (no_port_fault c.args.arena.now c.args.i c.in-Err.fault c.in-Err.ensures.fault _ refl e)
 
 pub returns-in-Ok-clause-told : goal.returns-in-Ok-clause-told
-returns-in-Ok-clause-told g c contents tell are fails =
+returns-in-Ok-clause-told g c contents tell fails =
     let texts = g.C.Constants.text_of c.args._consts.now in
     let tuples = g.C.Constants.items_of c.args._consts.now in
     let h = c.args.arena.now in
     let new = map g.P.Port.seen c.get_numbered.new.ports in
     let is = ap (get_at contents) (small_same _ c.in-Ok.ensures.small) ∙ sym (get_place texts tuples h contents c.args.i _ c.in-Ok.ensures.number) in
     subst (λ (o : PortOutcome). IsPortOutcome texts tuples h new c.get_numbered.result o) is
-    (c.get_numbered.ensures.told contents tell are (λ e. ap (λ (o : PortOutcome). o.answer) is ∙ fails e) texts tuples h)
+    (c.get_numbered.ensures.told contents tell (λ e. ap (λ (o : PortOutcome). o.answer) is ∙ fails e) texts tuples h)

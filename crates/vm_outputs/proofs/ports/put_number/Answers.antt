@@ -10,24 +10,24 @@ use Rattle.vm_outputs.proofs.PortsTold.{within, put_fine, put_failed, put_nowher
 use Rattle.vm_outputs.proofs.ports.put_number.Goals as goal
 
 pub returns-in-Ok-clause-told : goal.returns-in-Ok-clause-told
-returns-in-Ok-clause-told g c contents tell are fails =
+returns-in-Ok-clause-told g c contents tell fails =
     let seen = g.P.Port.seen in
     let old = map seen c.args.ports.now in
     let new = map seen c.put.new.self in
     let lt = within c.put.result (Err NoPort) (length c.args.ports.now) c.args.at c.put.ensures.no_port (λ e. let q = sym c.in-Ok.is ∙ e in cc) in
     let call = subst (λ (r : Result (Unit {0}) PortFault). CallsOne old new c.args.at (λ before after. Puts before after (to_z w32 (of_z w32 c.args.n)) (is_err r))) c.in-Ok.is (c.put.ensures.call lt) in
     let same = subst (λ (z : ℤ). CallsOne old new c.args.at (λ before after. Puts before after z false)) (to_z-of_z w32 c.args.n c.ranges.n) call in
-    put_fine contents new c.args.at c.args.n are (put_told old new contents c.args.at c.args.n false tell same)
+    put_fine contents new c.args.at c.args.n (put_told old new contents c.args.at c.args.n false tell same)
 
 pub returns-in-Err-NoPort-clause-told : goal.returns-in-Err-NoPort-clause-told
-returns-in-Err-NoPort-clause-told g c contents tell are fails =
+returns-in-Err-NoPort-clause-told g c contents tell fails =
     let seen = g.P.Port.seen in
     let old = map seen c.args.ports.now in
     let past = c.put.ensures.no_port.0 (c.in-Err-NoPort.is ∙ ap (λ (f : PortFault). Err f) c.in-Err-NoPort.field-0-is) in
-    put_nowhere contents (map seen c.put.new.self) c.args.at c.args.n are old tell (subst (λ (k : ℕ). k ≤ c.args.at) (sym (length-map c.args.ports.now seen)) past) (ap (map seen) (c.put.ensures.unchanged past))
+    put_nowhere contents (map seen c.put.new.self) c.args.at c.args.n old tell (subst (λ (k : ℕ). k ≤ c.args.at) (sym (length-map c.args.ports.now seen)) past) (ap (map seen) (c.put.ensures.unchanged past))
 
 pub returns-in-Err-Failed-clause-told : goal.returns-in-Err-Failed-clause-told
-returns-in-Err-Failed-clause-told g c contents tell are fails =
+returns-in-Err-Failed-clause-told g c contents tell fails =
     let seen = g.P.Port.seen in
     let old = map seen c.args.ports.now in
     let new = map seen c.put.new.self in
@@ -35,7 +35,7 @@ returns-in-Err-Failed-clause-told g c contents tell are fails =
     let is : c.put.result ≡ Err Failed = c.in-Err-Failed.is ∙ ap (λ (f : PortFault). Err f) c.in-Err-Failed.field-0-is in
     let call = subst (λ (r : Result (Unit {0}) PortFault). CallsOne old new c.args.at (λ before after. Puts before after (to_z w32 (of_z w32 c.args.n)) (is_err r))) is (c.put.ensures.call lt) in
     let same = subst (λ (z : ℤ). CallsOne old new c.args.at (λ before after. Puts before after z true)) (to_z-of_z w32 c.args.n c.ranges.n) call in
-    put_failed contents new c.args.at c.args.n are (put_told old new contents c.args.at c.args.n true tell same) (fails refl)
+    put_failed contents new c.args.at c.args.n (put_told old new contents c.args.at c.args.n true tell same) (fails refl)
 
 pub returns-in-Err-Failed-clause-failed : goal.returns-in-Err-Failed-clause-failed
 returns-in-Err-Failed-clause-failed g c e =

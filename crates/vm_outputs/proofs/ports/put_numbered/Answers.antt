@@ -9,11 +9,11 @@ use Rattle.vm_outputs.specs.PortCalls.{DoesPort, put_at}
 use Rattle.vm_outputs.proofs.ports.put_numbered.Goals as goal
 
 pub returns-in-Some-clause-told : goal.returns-in-Some-clause-told
-returns-in-Some-clause-told g c contents tell are =
+returns-in-Some-clause-told g c contents tell =
     let seen = g.P.Port.seen in
     let new = map seen c.put_number.new.ports in
     let result = c.put_number.result in
     subst (λ (z : ℤ). (result ≡ Err (stops.Raises faults.PortFailed) → (put_at contents z c.args.n).answer ≡ Err (Raises PortFailed)) → DoesPort new result (put_at contents z c.args.n))
     (sym c.in-Some.ensures ∙ to_z-of_z w32 c.args.i c.ranges.i)
     (subst (λ (z : ℤ). (result ≡ Err (stops.Raises faults.PortFailed) → (put_to contents c.in-Some.at z (slice_get contents c.in-Some.at)).answer ≡ Err (Raises PortFailed)) → DoesPort new result (put_to contents c.in-Some.at z (slice_get contents c.in-Some.at)))
-    (to_z-of_z w32 c.args.n c.ranges.n) (c.put_number.ensures.told contents tell are))
+    (to_z-of_z w32 c.args.n c.ranges.n) (c.put_number.ensures.told contents tell))

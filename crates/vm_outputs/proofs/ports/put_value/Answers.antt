@@ -6,7 +6,7 @@ use Rattle.vm_outputs.proofs.PortNumbers.{no_port_fault, refused_told, put_no_pl
 use Rattle.vm_outputs.proofs.ports.put_value.Goals as goal
 
 pub returns-in-Err-clause-told : goal.returns-in-Err-clause-told
-returns-in-Err-clause-told g c contents tell are fails =
+returns-in-Err-clause-told g c contents tell fails =
     let texts = g.C.Constants.text_of c.args._consts.now in
     let tuples = g.C.Constants.items_of c.args._consts.now in
     let h = c.args.arena.now in
@@ -19,7 +19,7 @@ pub returns-in-Err-clause-failed : goal.returns-in-Err-clause-failed
 returns-in-Err-clause-failed g c e = absurd (no_port_fault c.args.arena.now c.args.i c.in-Err.fault c.in-Err.ensures.fault _ refl e)
 
 pub returns-in-Ok-number_of-clause-told : goal.returns-in-Ok-number_of-clause-told
-returns-in-Ok-number_of-clause-told g c contents tell are fails =
+returns-in-Ok-number_of-clause-told g c contents tell fails =
     let texts = g.C.Constants.text_of c.args._consts.now in
     let tuples = g.C.Constants.items_of c.args._consts.now in
     let h = c.args.arena.now in
@@ -27,10 +27,10 @@ returns-in-Ok-number_of-clause-told g c contents tell are fails =
     let is = put_numbers texts tuples h contents c.args.i c.args.n _ _ c.in-Ok.ensures.number c.in-Ok-number_of.ensures.number in
     let kept = ap₂ (λ (y z : ℤ). put_at contents y z) (small_same _ c.in-Ok.ensures.small) (small_same _ c.in-Ok-number_of.ensures.small) in
     subst (λ (o : PortOutcome). IsPortOutcome texts tuples h new c.put_numbered.result o) (kept ∙ sym is)
-    (c.put_numbered.ensures.told contents tell are (λ e. ap (λ (o : PortOutcome). o.answer) (kept ∙ sym is) ∙ fails e) texts tuples h)
+    (c.put_numbered.ensures.told contents tell (λ e. ap (λ (o : PortOutcome). o.answer) (kept ∙ sym is) ∙ fails e) texts tuples h)
 
 pub returns-in-Err-number_of-clause-told : goal.returns-in-Err-number_of-clause-told
-returns-in-Err-number_of-clause-told g c contents tell are fails =
+returns-in-Err-number_of-clause-told g c contents tell fails =
     let texts = g.C.Constants.text_of c.args._consts.now in
     let tuples = g.C.Constants.items_of c.args._consts.now in
     let h = c.args.arena.now in

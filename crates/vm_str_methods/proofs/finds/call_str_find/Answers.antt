@@ -1,13 +1,7 @@
-use Rattle.std.proofs.Common.{refl, subst}
+use Rattle.std.proofs.Common.{refl}
 use Rattle.mpy_base.specs.declared.builtin.Builtin.TheVariants as builtins
 use Rattle.py_primitives.specs.Calls.{Exactly}
-use Rattle.mpy_base.specs.Val.{Val}
-use Rattle.arena_objects.specs.Iterables.{spelled}
-use Rattle.py_values.specs.Shown.{shown}
-use Rattle.py_primitives.specs.Outcome.{Outcome}
-use Rattle.vm_faults.specs.Outcomes.{IsOutcome}
-use Rattle.vm_str_methods.proofs.Places.{places_kept}
-use Rattle.vm_walks.specs.Plain.{plain, plain_heap}
+use Rattle.vm_walks.specs.Plain.{plain}
 use Rattle.vm_builtins.proofs.Calls.{one_known, method_refused}
 use Rattle.vm_str_methods.proofs.StrCalls.{str_called}
 use Rattle.vm_str_methods.proofs.finds.call_str_find.Goals as goal
@@ -23,11 +17,8 @@ returns-in-Ok g c =
     let texts = g.C.Constants.text_of c.args.consts.now in
     let tuples = g.C.Constants.items_of c.args.consts.now in
     let h = c.args.arena.now in
-    let heap = plain_heap texts tuples h in
-    let v = plain texts tuples c.in-Ok.v in
     str_called texts tuples h builtins.StrFind c.args.object c.args.args.now c.args.keys.now h c.in-Ok.v c.find_in.result c.requires.str c.requires.leads c.in-Ok.ensures.given c.in-Ok.ensures.no_keywords refl
-    (subst (λ (o : Outcome Val). IsOutcome texts tuples h h c.find_in.result o)
-    (places_kept heap (plain texts tuples c.args.object) v (spelled texts h c.args.object) c.requires.short (shown heap v)) c.find_in.ensures)
+    c.find_in.ensures
 
 pub returns-in-Err : goal.returns-in-Err
 returns-in-Err g c =

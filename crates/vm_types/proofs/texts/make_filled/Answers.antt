@@ -35,7 +35,7 @@ fill_text-requires-clause-all_told g c =
     let t = c.in-Ok.t.cell in
     let m : Made h made t (TextObject (replicate len 0)) = c.in-Ok.ensures.made in
     let before : (n : ℕ) → n < used h → object made.objects n ≡ object h.objects n = λ n lt. object_before m n lt in
-    let same = old_text texts tuples h c.requires.constants c.sound_law.ensures made before v c.requires.leads raw in
+    let same = old_text texts tuples h c.items_law.ensures c.sound_law.ensures made before v c.requires.leads raw in
     told_made texts tuples m c.requires.all_told (All-nil (IsTold texts tuples))
 
 pub fill_text-requires-clause-found : goal.fill_text-requires-clause-found
@@ -52,7 +52,7 @@ fill_text-requires-clause-found g c =
     let t = c.in-Ok.t.cell in
     let m : Made h made t (TextObject (replicate len 0)) = c.in-Ok.ensures.made in
     let before : (n : ℕ) → n < used h → object made.objects n ≡ object h.objects n = λ n lt. object_before m n lt in
-    let same = old_text texts tuples h c.requires.constants c.sound_law.ensures made before v c.requires.leads raw in
+    let same = old_text texts tuples h c.items_law.ensures c.sound_law.ensures made before v c.requires.leads raw in
     subst (λ (walk : Walk (List ℕ)). IsSome walk.answer) (sym same) c.requires.found
 
 pub fill_text-requires-clause-apart : goal.fill_text-requires-clause-apart
@@ -69,11 +69,11 @@ fill_text-requires-clause-apart g c =
     let t = c.in-Ok.t.cell in
     let m : Made h made t (TextObject (replicate len 0)) = c.in-Ok.ensures.made in
     let before : (n : ℕ) → n < used h → object made.objects n ≡ object h.objects n = λ n lt. object_before m n lt in
-    let same = old_text texts tuples h c.requires.constants c.sound_law.ensures made before v c.requires.leads raw in
+    let same = old_text texts tuples h c.items_law.ensures c.sound_law.ensures made before v c.requires.leads raw in
     λ bytes.
     let others : (n : ℕ) → n < used h → object (with_text made t bytes).objects n ≡ object h.objects n =
     λ n lt. get_or-set_other made.objects t n (Some (TextObject bytes)) None (let number = m.number in λ q. omega (arith, lt, q, number)) ∙ before n lt in
-    old_text texts tuples h c.requires.constants c.sound_law.ensures (with_text made t bytes) others v c.requires.leads raw ∙ sym same
+    old_text texts tuples h c.items_law.ensures c.sound_law.ensures (with_text made t bytes) others v c.requires.leads raw ∙ sym same
 
 pub fill_text-requires-clause-bytes : goal.fill_text-requires-clause-bytes
 fill_text-requires-clause-bytes g c =
@@ -89,7 +89,7 @@ fill_text-requires-clause-bytes g c =
     let t = c.in-Ok.t.cell in
     let m : Made h made t (TextObject (replicate len 0)) = c.in-Ok.ensures.made in
     let before : (n : ℕ) → n < used h → object made.objects n ≡ object h.objects n = λ n lt. object_before m n lt in
-    let same = old_text texts tuples h c.requires.constants c.sound_law.ensures made before v c.requires.leads raw in
+    let same = old_text texts tuples h c.items_law.ensures c.sound_law.ensures made before v c.requires.leads raw in
     let end = bytes_made len m in
     let count = ap (λ (walk : Walk (List ℕ)). length (or_nothing walk.answer)) same in
     omega (arith, end, count, c.requires.len)
@@ -108,7 +108,7 @@ fill_text-requires-clause-room g c =
     let t = c.in-Ok.t.cell in
     let m : Made h made t (TextObject (replicate len 0)) = c.in-Ok.ensures.made in
     let before : (n : ℕ) → n < used h → object made.objects n ≡ object h.objects n = λ n lt. object_before m n lt in
-    let same = old_text texts tuples h c.requires.constants c.sound_law.ensures made before v c.requires.leads raw in
+    let same = old_text texts tuples h c.items_law.ensures c.sound_law.ensures made before v c.requires.leads raw in
     let end = bytes_made len m in
     omega (arith, end, zeros_made len m)
 
@@ -126,7 +126,7 @@ returns-in-Ok g c =
     let t = c.in-Ok.t.cell in
     let m : Made h made t (TextObject (replicate len 0)) = c.in-Ok.ensures.made in
     let before : (n : ℕ) → n < used h → object made.objects n ≡ object h.objects n = λ n lt. object_before m n lt in
-    let same = old_text texts tuples h c.requires.constants c.sound_law.ensures made before v c.requires.leads raw in
+    let same = old_text texts tuples h c.items_law.ensures c.sound_law.ensures made before v c.requires.leads raw in
     let new = c.fill_text.new.arena in
     let some : 0 < length text = omega (arith, c.if-len-eq0.false, c.requires.len) in
     let filled = c.fill_text.ensures.filled ∙ ap (λ (walk : Walk (List ℕ)). with_text made t (or_nothing walk.answer)) same in

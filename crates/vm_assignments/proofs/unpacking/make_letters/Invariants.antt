@@ -1,8 +1,0 @@
-use Rattle.std.proofs.Common.{◌≡◌, ◌*◌, take}
-use Rattle.mpy_base.specs.Weights.{Fits}
-use Rattle.arena_objects.specs.Iterables.{spelled, with_texts}
-use Rattle.vm_assignments.proofs.unpacking.make_letters.Given as goal
-
-abbrev pub invariant-loop-k : goal.invariant-loop-k
-invariant-loop-k g l =
-    (l.arena ≡ with_texts l.initial.arena (take l.k (spelled (g.C.Constants.text_of l.consts) l.initial.arena l.fn.s))) × Fits l.initial.arena (2 * l.k) l.k
