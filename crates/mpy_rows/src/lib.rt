@@ -1,4 +1,4 @@
-//! Whole commands, by tables of what they print, say and answer.
+//! Whole commands, and calls across crates, by tables of values from outside.
 #![tactic(auto)]
 
 #[cfg(test)]
