@@ -101,11 +101,7 @@ pub fn make_byte(arena: &mut Arena, byte: u8) -> Result<TextNo, NoRoom>
 }
 
 /// Makes a text of each byte of a str, and nothing of another value. Where one doesn't fit, those in front of it stay.
-pub fn make_texts<C: Constants>(
-    arena: &mut Arena,
-    consts: &C,
-    from: Value,
-) -> Result<(), NoRoom>
+pub fn make_texts<C: Constants>(arena: &mut Arena, consts: &C, from: Value) -> Result<(), NoRoom>
     requires leads { Leads arena.old.objects from }
     requires told { IsTold (C.text_of consts.now) (C.items_of consts.now) from }
     requires fits { Fits arena.old 0 0 }
