@@ -56,6 +56,7 @@ fn unwind(bytes: &[u8]) -> Result<(Instr, usize), CodeFault>
 }
 
 /// The instruction whose first byte, of this form, stands before the bytes, and how many of these it takes.
+#[inline(always)]
 fn operand(form: Form, first: u8, bytes: &[u8]) -> Result<(Instr, usize), CodeFault>
     ensures { ReadsOperand form first bytes.now result }
 {
@@ -91,6 +92,7 @@ fn operand(form: Form, first: u8, bytes: &[u8]) -> Result<(Instr, usize), CodeFa
 }
 
 /// The instruction in front of the bytes, and how many of them it takes.
+#[inline(always)]
 fn decode_front(bytes: &[u8]) -> Result<(Instr, usize), CodeFault>
     ensures { Reads bytes.now result }
 {
@@ -104,6 +106,7 @@ fn decode_front(bytes: &[u8]) -> Result<(Instr, usize), CodeFault>
 }
 
 /// Reads the instruction at `at`, and gives the place behind it.
+#[inline(always)]
 pub fn decode_at(code: &[u8], at: usize) -> Result<(Instr, usize), CodeFault>
     requires { at ≤ length code.now }
 

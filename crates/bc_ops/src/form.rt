@@ -186,6 +186,7 @@ fn short_form(byte: u8) -> Form
 
 /// The form of the instructions that begin with the byte.
 #[tactic(auto, unfolding(crate::specs::Table::form_of))]
+#[inline(always)]
 pub(crate) fn form_at(byte: u8) -> Form
     ensures { result ≡ form_of byte }
 {
