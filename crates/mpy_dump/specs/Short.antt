@@ -1,10 +1,11 @@
 -- Texts of a few bytes, and what is listed by them.
-use Rattle.std.specs.Prelude.{◌≡◌, ℕ, ◌+◌, ◌<◌, List, [], ◌∷◌, take, length, decimal, slice_index_or, slice_set}
+use Rattle.std.specs.Prelude.{◌≡◌, ℕ, ◌+◌, ◌/◌, ◌%◌, ◌<◌, List, [], ◌∷◌, take, length, decimal, slice_index_or, slice_set}
 use Rattle.bc_ops.specs.declared.instr.Instr.{Instr}
 use Rattle.bc_ops.specs.Code.{Spells}
 use Rattle.mpy_tree.specs.Raw.{Module}
 use Rattle.mpy_dump.specs.declared.short.Short.{Short}
 use Rattle.mpy_dump.specs.declared.head.Head.{Head}
+use Rattle.mpy_dump.specs.declared.tails.Tails.{Tails}
 use Rattle.mpy_dump.specs.Instructions.{head_text, instr_tail}
 
 abbrev pub short_text : Short → List ℕ
@@ -19,10 +20,21 @@ pub record IsHead (start : ℕ) (head : Head) : Type 0 where
   pub text : begins head ≡ head_text start head.line
   pub last : head.last + 1 ≡ length (decimal start)
 
--- how the line of an instruction of this one byte ends, wherever it stands; an empty text says nothing
-abbrev pub IsTail : Module → ℕ → Short → Type 0
-IsTail m byte tail = 0 < tail.len → (instr : Instr) × Spells (byte ∷ []) instr × ((end : ℕ) → short_text tail ≡ instr_tail m end instr)
+-- how the line of the instruction with these bytes ends, wherever it stands; an empty text says nothing
+abbrev pub IsTail : Module → List ℕ → Short → Type 0
+IsTail m bytes tail = 0 < tail.len → (instr : Instr) × Spells bytes instr × ((end : ℕ) → short_text tail ≡ instr_tail m end instr)
 
 -- one for each byte
-abbrev pub AreTails : Module → List Short → Type 0
-AreTails m tails = (byte : ℕ) (other : Short) → byte < 256 → IsTail m byte (slice_index_or tails byte other)
+abbrev pub AreSingles : Module → List Short → Type 0
+AreSingles m tails = (byte : ℕ) (other : Short) → byte < 256 → IsTail m (byte ∷ []) (slice_index_or tails byte other)
+
+-- one for each pair of a first byte from 16 to 55 and a number of one byte, at their place among all pairs
+abbrev pub two_bytes : ℕ → List ℕ
+two_bytes place = (16 + place / 128) ∷ place % 128 ∷ []
+
+abbrev pub ArePairs : Module → List Short → Type 0
+ArePairs m tails = (place : ℕ) (other : Short) → place < 5120 → IsTail m (two_bytes place) (slice_index_or tails place other)
+
+pub record AreTails (m : Module) (tails : Tails) : Type 0 where
+  pub singles : AreSingles m tails.singles
+  pub pairs : ArePairs m tails.pairs

@@ -6,7 +6,7 @@ ghost use Rattle.bc_ops.specs.Listing.{Piece, IsPiece, joined};
 ghost use Rattle.bc_ops.specs.declared.instr.Instr.{Instr};
 ghost use Rattle.mpy_dump.specs.Instructions as specs;
 ghost use Rattle.mpy_dump.specs.Pen.{Gathers};
-ghost use Rattle.mpy_dump.specs.Reads.{Stands, IsRead};
+ghost use Rattle.mpy_dump.specs.Reads.{Stands, IsRead, GathersEnd};
 ghost use Rattle.mpy_dump.specs.Short.{IsHead, AreTails};
 ghost use Rattle.mpy_dump.specs.Puts.{Puts};
 
@@ -16,7 +16,7 @@ use crate::names::put_name_at;
 use crate::operations::{binary_name, binary_sign, operation_name, unary_sign};
 use crate::pen::{Pen, hand_over, make_room};
 use crate::put::{digits, put, put_all, put_number};
-use crate::tails::Tails;
+use crate::tails::{Tails, pair_at};
 use bc_ops::{Instr, decode_at};
 use itoa::Buffer;
 use mpy_base::limits::MAX_CODE_BYTES;
@@ -121,6 +121,55 @@ fn gather_tail<S: Sink>(
 }
 
 /// Gathers the end of the line of the instruction at `at`, which is moved behind it.
+#[inline(never)]
+fn gather_read<S: Sink>(
+    out: &mut S,
+    pen: &mut Pen,
+    module: &RawModule,
+    code: &[u8],
+    at: &mut usize,
+) -> Result<(), Failed>
+    requires decodes { Stands code.now at.old }
+    requires short { length code.now ≤ MAX_CODE_BYTES }
+    ensures { GathersEnd S.told S.count out.old out.new module.now code.now at.old at.new pen.old.text pen.new.text result }
+{
+    let Ok((instr, end)) = decode_at(code, *at) else {
+        unreachable!();
+    };
+    *at = end;
+    gather_tail(out, pen, module, end, instr)
+}
+
+/// The same by the ends that are there for two bytes.
+#[inline(always)]
+fn gather_pair<S: Sink>(
+    out: &mut S,
+    pen: &mut Pen,
+    module: &RawModule,
+    tails: &Tails,
+    code: &[u8],
+    at: &mut usize,
+) -> Result<(), Failed>
+    requires tails { AreTails module.now tails.now }
+    requires decodes { Stands code.now at.old }
+    requires room { length pen.old.text + 32 ≤ 4096 }
+    requires short { length code.now ≤ MAX_CODE_BYTES }
+    ensures { GathersEnd S.told S.count out.old out.new module.now code.now at.old at.new pen.old.text pen.new.text result }
+{
+    let (_, bytes) = code.split_at(*at);
+    let Some(place) = pair_at(bytes) else {
+        return gather_read(out, pen, module, code, at);
+    };
+    let tail = &tails.pairs[place];
+    if tail.len == 0 {
+        return gather_read(out, pen, module, code, at);
+    }
+    pen.add(tail);
+    *at += 2;
+    Ok(())
+}
+
+/// The same by the ends that are there.
 #[inline(always)]
 fn gather_end<S: Sink>(
     out: &mut S,
@@ -134,21 +183,15 @@ fn gather_end<S: Sink>(
     requires decodes { Stands code.now at.old }
     requires room { length pen.old.text + 32 ≤ 4096 }
     requires short { length code.now ≤ MAX_CODE_BYTES }
-    ensures { (end : ℕ) × (instr : Instr) × IsRead code.now at.old end instr × OnOk result (at.new ≡ end)
-        × Gathers S.told S.count out.old out.new pen.old.text (specs.instr_tail module.now end instr)
-        pen.new.text result }
+    ensures { GathersEnd S.told S.count out.old out.new module.now code.now at.old at.new pen.old.text pen.new.text result }
 {
-    let tail = &tails[usize::from(code[*at])];
-    if tail.len > 0 {
-        pen.add(tail);
-        *at += 1;
-        return Ok(());
+    let tail = &tails.singles[usize::from(code[*at])];
+    if tail.len == 0 {
+        return gather_pair(out, pen, module, tails, code, at);
     }
-    let Ok((instr, end)) = decode_at(code, *at) else {
-        unreachable!();
-    };
-    *at = end;
-    gather_tail(out, pen, module, end, instr)
+    pen.add(tail);
+    *at += 1;
+    Ok(())
 }
 
 /// Gathers the line of the instruction at `at`, which is moved behind it.

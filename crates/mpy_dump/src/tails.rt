@@ -1,8 +1,8 @@
-//! How the lines of instructions of one byte end, which is the same wherever they stand.
+//! How the lines of instructions of one byte and of two end, which is the same wherever they stand.
 
-ghost use Rattle.std.specs.Prelude.{◌≡◌, ℕ, ◌<◌};
+ghost use Rattle.std.specs.Prelude.{◌≡◌, ◌<◌, ◌++◌, ℕ, List, MatchOption};
 ghost use Rattle.mpy_dump.specs.Instructions.{instr_tail};
-ghost use Rattle.mpy_dump.specs.Short.{short_text, IsTail, AreTails};
+ghost use Rattle.mpy_dump.specs.Short.{short_text, two_bytes, IsTail, AreSingles, ArePairs, AreTails};
 
 use crate::instructions::put_tail;
 use crate::pen::Pen;
@@ -13,8 +13,32 @@ use mpy_tree::RawModule;
 /// How many bytes there are.
 const BYTES: usize = 256;
 
-/// One for each byte; an empty one where there is none.
-pub(crate) type Tails = [Short; BYTES];
+/// The first bytes of the instructions whose operand is a number: these on, so many.
+const FIRST: usize = 16;
+
+const FIRSTS: usize = 40;
+
+/// How many numbers have one byte.
+const NUMBERS: usize = 128;
+
+/// How many pairs there are of a first byte and a number.
+const PAIRS: usize = FIRSTS * NUMBERS;
+
+/// How many numbers are tried at least: locals and counts are mostly smaller.
+const FEW: usize = 16;
+
+type Singles = [Short; BYTES];
+
+type Pairs = [Short; PAIRS];
+
+/// The ends; an empty one where there is none.
+#[derive(Drop)]
+pub(crate) struct Tails {
+    /// By the byte.
+    pub singles: Singles,
+    /// By both bytes.
+    pub pairs: Pairs,
+}
 
 /// The end of the instruction's lines, where it is short and no jump.
 fn short_tail(pen: &mut Pen, module: &RawModule, instr: Instr) -> Short
@@ -31,22 +55,70 @@ fn short_tail(pen: &mut Pen, module: &RawModule, instr: Instr) -> Short
     tail
 }
 
-fn tail_of(pen: &mut Pen, module: &RawModule, byte: u8) -> Short
-    ensures { IsTail module.now byte result }
+/// That of the instruction with these bytes.
+fn tail_of(pen: &mut Pen, module: &RawModule, bytes: &[u8]) -> Short
+    ensures { IsTail module.now bytes.now result }
 {
-    match decode_at(&[byte], 0) {
-        Ok((instr, _)) => short_tail(pen, module, instr),
-        Err(_) => Short::new(),
+    match decode_at(bytes, 0) {
+        Ok((instr, end)) if end == bytes.len() => short_tail(pen, module, instr),
+        _ => Short::new(),
     }
 }
 
-/// Those of all bytes.
+fn singles_of(pen: &mut Pen, module: &RawModule) -> Singles
+    ensures { AreSingles module.now result }
+{
+    let mut singles = [Short::new(); BYTES];
+    for byte in 0..BYTES {
+        singles[byte] = tail_of(pen, module, &[byte as u8]);
+    }
+    singles
+}
+
+/// That of the pair at the place, where its number is below `tried`.
+fn pair_tail(pen: &mut Pen, module: &RawModule, place: usize, tried: usize) -> Short
+    requires { place < 5120 }
+    ensures { IsTail module.now (two_bytes place) result }
+{
+    let (first, number) = (FIRST + place / NUMBERS, place % NUMBERS);
+    if number < tried {
+        tail_of(pen, module, &[first as u8, number as u8])
+    } else {
+        Short::new()
+    }
+}
+
+fn pairs_of(pen: &mut Pen, module: &RawModule) -> Pairs
+    ensures { ArePairs module.now result }
+{
+    let tried = module.qstrs().len().max(FEW);
+    let mut pairs = [Short::new(); PAIRS];
+    for place in 0..PAIRS {
+        pairs[place] = pair_tail(pen, module, place, tried);
+    }
+    pairs
+}
+
+/// Those of all bytes, and of the pairs with the numbers of names.
 pub(crate) fn tails_of(pen: &mut Pen, module: &RawModule) -> Tails
     ensures { AreTails module.now result }
 {
-    let mut tails = [Short::new(); BYTES];
-    for byte in 0..BYTES {
-        tails[byte] = tail_of(pen, module, byte as u8);
+    let singles = singles_of(pen, module);
+    let pairs = pairs_of(pen, module);
+    Tails { singles, pairs }
+}
+
+/// Where the pair in front stands among all.
+#[inline(always)]
+pub(crate) fn pair_at(bytes: &[u8]) -> Option<usize>
+    ensures { MatchOption result (Unit {0}) (λ place. (place < 5120) × (behind : List ℕ) × (bytes.now ≡ two_bytes place ++ behind)) }
+{
+    let [first, number, ..] = bytes else {
+        return None;
+    };
+    let (first, number) = (usize::from(*first), usize::from(*number));
+    if first < FIRST || first >= FIRST + FIRSTS || number >= NUMBERS {
+        return None;
     }
-    tails
+    Some(NUMBERS * (first - FIRST) + number)
 }

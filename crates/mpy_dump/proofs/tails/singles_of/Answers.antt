@@ -1,6 +1,6 @@
 use Rattle.std.proofs.Common.{rules, arith, length-set, ◌∙◌}
-use Rattle.mpy_dump.proofs.Ends.{made_more}
-use Rattle.mpy_dump.proofs.tails.tails_of.Goals as goal
+use Rattle.mpy_dump.proofs.Ends.{one_byte, made_more}
+use Rattle.mpy_dump.proofs.tails.singles_of.Goals as goal
 
 pub loop-byte-init : goal.loop-byte-init
 loop-byte-init c = record { whole = search rules; made = λ byte other below. absurd (omega (arith, below)) }
@@ -9,8 +9,8 @@ pub loop-byte-preserved : goal.loop-byte-preserved
 loop-byte-preserved c =
     let i = c.loop-byte.invariant in
     record {
-      whole = length-set c.loop-byte.tails c.loop-byte.byte c.tail_of.result ∙ i.whole;
-      made = made_more c.args.module.now c.loop-byte.tails c.loop-byte.byte c.tail_of.result (omega (arith, i.whole, c.loop-byte-test.true)) i.made c.tail_of.ensures;
+      whole = length-set c.loop-byte.singles c.loop-byte.byte c.tail_of.result ∙ i.whole;
+      made = made_more c.args.module.now one_byte c.loop-byte.singles c.loop-byte.byte c.tail_of.result (omega (arith, i.whole, c.loop-byte-test.true)) i.made c.tail_of.ensures;
     }
 
 pub returns : goal.returns
