@@ -16,7 +16,7 @@ at_visit v P Q u e h = subst (λ w. OnVisit w P Q) e h
 pub at_fault : (v : Visit) (P : Rule → Type 0) (Q : Table → Type 0) (r : Rule) → v ≡ Bad r → OnVisit v P Q → P r
 at_fault v P Q r e h = subst (λ w. OnVisit w P Q) e h
 
-fine_grows : (code : Code) (a b : Assigned) (p : ℕ) (x : At) → Grows a b → Fine code a p x → Fine code b p x
+pub fine_grows : (code : Code) (a b : Assigned) (p : ℕ) (x : At) → Grows a b → Fine code a p x → Fine code b p x
 fine_grows code a b p x g f = record { action = f.action; is = f.is; handlers = f.handlers; height = f.height; state = f.state; falls = f.falls; along = each_on a b _ g f.along }
 
 -- what a run keeps

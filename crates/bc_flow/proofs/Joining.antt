@@ -267,7 +267,7 @@ or_assoc : (b c d : Bool) → ((b || c) || d) ≡ (b || (c || d))
 or_assoc true c d = refl
 or_assoc false c d = refl
 
-itself : (k : Kind) → join_kind k k ≡ Some k
+pub itself : (k : Kind) → join_kind k k ≡ Some k
 itself kinds.Value = refl
 itself kinds.Cause = refl
 itself kinds.Either = refl
@@ -285,7 +285,7 @@ run_none ks ls ms Left b p = subst (Partly ks ls Left ms) (or_false b) p
 pub run_more : (ks ls ms : List Kind) (Left : ℕ → Type 0) (b c d e : Bool) → e ≡ (c || d) → Partly ks ls Left ms ((b || c) || d) → Partly ks ls Left ms (b || e)
 run_more ks ls ms Left b c d e h p = subst (Partly ks ls Left ms) (or_assoc b c d ∙ ap (λ z. b || z) (sym h)) p
 
-le_decides : (n k : ℕ) → (n ≤ k) ⊎ (k < n)
+pub le_decides : (n k : ℕ) → (n ≤ k) ⊎ (k < n)
 le_decides zero k = inl (omega arith)
 le_decides (suc n) zero = inr (omega arith)
 le_decides (suc n) (suc k) = elim (le_decides n k) [ inl h ↦ inl (omega (arith, h)) | inr h ↦ inr (omega (arith, h)) ]

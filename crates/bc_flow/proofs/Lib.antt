@@ -14,6 +14,7 @@ pub mod Queues
 pub mod Rows
 pub mod Runs
 pub mod Sound
+pub mod Spans
 pub mod Tables
 pub mod Unique
 pub mod Visits

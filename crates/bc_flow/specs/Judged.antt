@@ -5,7 +5,8 @@ use Rattle.bc_flow.specs.Action.{Action}
 use Rattle.bc_flow.specs.Code.{Code}
 use Rattle.bc_flow.specs.Shape.{At}
 use Rattle.bc_flow.specs.Edges.{edges, holds, finds, room, stays}
-use Rattle.bc_flow.specs.Verified.{Table, agree}
+use Rattle.bc_flow.specs.Verified.{Table, agree, at}
+use Rattle.bc_flow.specs.Spans.{EachOutside}
 use Rattle.bc_flow.specs.Views.{edge_of_rust}
 
 -- what the rules say of a position, and its edges
@@ -18,3 +19,4 @@ pub record Judges (code : Code) (t : Table) (p : ℕ) (x : At) (j : Judged) : Ty
   pub state : j.state ≡ room code action x
   pub falls : j.falls ≡ stays code action p
   pub along : map edge_of_rust j.edges.items ≡ edges code action p x
+  pub outside : EachOutside j.among (at t) (edges code action p x)

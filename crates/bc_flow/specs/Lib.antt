@@ -8,5 +8,6 @@ pub mod Partly
 pub mod Queue
 pub mod Rules
 pub mod Shape
+pub mod Spans
 pub mod Verified
 pub mod Views

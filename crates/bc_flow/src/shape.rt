@@ -1,9 +1,11 @@
 //! Shapes, and where two meet.
 
-ghost use Rattle.std.specs.Prelude.{◌≡◌, ◌-◌, ◌<◌, ◌≤◌, ◌&&◌, ◌||◌, not, IfSome, IfNone, OnSome, None, Bool, List, ℕ, drop, length, map, slice_index_or};
+ghost use Rattle.std.specs.Prelude.{◌≡◌, ◌+◌, ◌-◌, ◌^◌, ◌<◌, ◌≤◌, suc, ◌&&◌, ◌||◌, not, IfSome, IfNone, OnSome, None, Bool, List, ℕ, drop, length, map, slice_index_or};
 ghost use Rattle.bc_flow.specs.Shape as specs;
 ghost use Rattle.bc_flow.specs.Joins.{JoinsAt, Joins};
 ghost use Rattle.bc_flow.specs.Partly.{Partly};
+ghost use Rattle.bc_flow.specs.Spans as spans;
+ghost use Rattle.bc_flow.specs.Spans.{In, Among, SameOutside, BelowOutside};
 ghost use Rattle.bc_flow.specs.declared.kinds.Kind.{Kind as SpecKind};
 ghost use Rattle.std.specs.Bool.{OnTrue};
 ghost use Rattle.bc_flow.specs.Views.{takes_of, gives_of, slots_of_rust};
@@ -106,6 +108,36 @@ fn give_of(slots: &[Kind], give: Give) -> Kind
         Give::Again(n) if n < slots.len() => slots[n],
         Give::Again(_) => Kind::Either,
     }
+}
+
+/// Is it a new slot, or one of so many from the top?
+fn keeps(give: Give, n: usize) -> bool
+    ensures { result ≡ spans.keeps n give }
+{
+    match give {
+        Give::New(_) => true,
+        Give::Again(m) => m < n,
+    }
+}
+
+#[tactic(auto, using(crate::proofs::Spans::keeps_step, crate::proofs::Loops::and_first))]
+fn keep(gives: &[Give], n: usize) -> bool
+    ensures { result ≡ spans.keeps_all n gives.now }
+{
+    for give in gives {
+        if !keeps(*give, n) {
+            return false;
+        }
+    }
+    true
+}
+
+/// Are all new slots, or some of so many from the top?
+#[tactic(auto, using(crate::proofs::Spans::keeps_values))]
+pub(crate) fn keeps_all(gives: Gives, n: usize) -> bool
+    ensures { result ≡ spans.keeps_all n (gives_of gives) }
+{
+    keep(gives.others, n)
 }
 
 /// All items but so many from the top.
@@ -249,8 +281,65 @@ fn either(a: bool, b: bool) -> bool
     a | b
 }
 
+/// Slots by their numbers from the bottom, from one up to another.
+#[derive(Clone, Copy, Debug)]
+pub(crate) struct Span {
+    pub from: usize,
+    pub to: usize,
+}
+
+/// A span that has the slots of both.
+pub(crate) fn union(a: Span, b: Span) -> Span
+    ensures one { (n : ℕ) → In a n → In result n }
+    ensures other { (n : ℕ) → In b n → In result n }
+{
+    if a.from >= a.to {
+        return b;
+    }
+    if b.from >= b.to {
+        return a;
+    }
+    Span {
+        from: a.from.min(b.from),
+        to: a.to.max(b.to),
+    }
+}
+
+/// Adds a slot to those that changed, if it did.
+fn note(span: &mut Span, n: usize, changed: bool)
+    requires { n + 1 < 2 ^ 64 }
+    ensures old { (m : ℕ) → In span.old m → In span.new m }
+    ensures new { OnTrue changed (In span.new n) }
+{
+    if changed {
+        *span = union(*span, Span { from: n, to: n + 1 });
+    }
+}
+
+/// The places of the slots from the top, where there are so many.
+fn places(among: Option<Span>, count: usize) -> Span
+    ensures from { result.from ≤ count }
+    ensures to { result.to ≤ count }
+    ensures before { (k : ℕ) → k < result.from → Among among (count - suc k) → ⊥ }
+    ensures after { (k : ℕ) → result.to ≤ k → k < count → Among among (count - suc k) → ⊥ }
+{
+    match among {
+        None => Span { from: 0, to: count },
+        Some(span) => Span {
+            from: count - span.to.min(count),
+            to: count - span.from.min(count),
+        },
+    }
+}
+
 /// Joins the slots from one place up to another with those that arrive, if they meet, and says whether any changed.
-fn join_run(slots: &mut Vec<Kind>, arriving: Slots, from: usize, to: usize) -> Option<bool>
+fn join_run(
+    slots: &mut Vec<Kind>,
+    arriving: Slots,
+    from: usize,
+    to: usize,
+    span: &mut Span,
+) -> Option<bool>
     requires from { from ≤ to }
     requires within { to ≤ length slots.now.items }
     requires long { length slots.now.items ≡ length (slots_of_rust arriving) }
@@ -259,10 +348,14 @@ fn join_run(slots: &mut Vec<Kind>, arriving: Slots, from: usize, to: usize) -> O
     ensures none { (ks : List SpecKind) (b : Bool) → Partly ks (slots_of_rust arriving.entry) (λ k. from ≤ k) slots.old.items b
         → IfNone result (specs.join ks (slots_of_rust arriving.entry) ≡ None) }
     ensures len { OnSome result (length slots.new.items ≡ length slots.old.items) }
+    ensures same { (ks : List SpecKind) → SameOutside span.old ks slots.old.items
+        → IfSome result (λ c. SameOutside span.new ks slots.new.items) }
 {
     let mut changed = false;
     for i in from..to {
+        let number = slots.len() - 1 - i;
         let closed = join_slot(slots, i, arriving.at(i))?;
+        note(span, number, closed);
         changed = either(changed, closed);
     }
     Some(changed)
@@ -281,7 +374,13 @@ fn same_kinds(ks: &[Kind], ls: &[Kind]) -> bool
 }
 
 /// Joins slots from one place up to another with those that arrive, all of which were found.
-fn join_each_found(slots: &mut Vec<Kind>, arriving: Slots, from: usize, to: usize) -> Option<bool>
+fn join_each_found(
+    slots: &mut Vec<Kind>,
+    arriving: Slots,
+    from: usize,
+    to: usize,
+    span: &mut Span,
+) -> Option<bool>
     requires found { length (gives_of arriving.gives) ≤ from }
     requires from { from ≤ to }
     requires within { to ≤ length slots.now.items }
@@ -291,17 +390,27 @@ fn join_each_found(slots: &mut Vec<Kind>, arriving: Slots, from: usize, to: usiz
     ensures none { (ks : List SpecKind) (b : Bool) → Partly ks (slots_of_rust arriving.entry) (λ k. from ≤ k) slots.old.items b
         → IfNone result (specs.join ks (slots_of_rust arriving.entry) ≡ None) }
     ensures len { OnSome result (length slots.new.items ≡ length slots.old.items) }
+    ensures same { (ks : List SpecKind) → SameOutside span.old ks slots.old.items
+        → IfSome result (λ c. SameOutside span.new ks slots.new.items) }
 {
     let mut changed = false;
     for i in from..to {
+        let number = slots.len() - 1 - i;
         let closed = join_slot(slots, i, arriving.found_at(i))?;
+        note(span, number, closed);
         changed = either(changed, closed);
     }
     Some(changed)
 }
 
 /// Joins slots that are found with those that arrive, where they aren't the same.
-fn join_found(slots: &mut Vec<Kind>, arriving: Slots, from: usize, to: usize) -> Option<bool>
+fn join_found(
+    slots: &mut Vec<Kind>,
+    arriving: Slots,
+    from: usize,
+    to: usize,
+    span: &mut Span,
+) -> Option<bool>
     requires found { length (gives_of arriving.gives) ≤ from }
     requires from { from ≤ to }
     requires within { to ≤ length slots.now.items }
@@ -311,33 +420,71 @@ fn join_found(slots: &mut Vec<Kind>, arriving: Slots, from: usize, to: usize) ->
     ensures none { (ks : List SpecKind) (b : Bool) → Partly ks (slots_of_rust arriving.entry) (λ k. from ≤ k) slots.old.items b
         → IfNone result (specs.join ks (slots_of_rust arriving.entry) ≡ None) }
     ensures len { OnSome result (length slots.new.items ≡ length slots.old.items) }
+    ensures same { (ks : List SpecKind) → SameOutside span.old ks slots.old.items
+        → IfSome result (λ c. SameOutside span.new ks slots.new.items) }
 {
     let given = arriving.gives.len();
     let found = below(arriving.found, arriving.taken);
     if same_kinds(&slots[from..to], &found[from - given..to - given]) {
         return Some(false);
     }
-    join_each_found(slots, arriving, from, to)
+    join_each_found(slots, arriving, from, to, span)
 }
 
-/// Joins slots with those that arrive, if they meet, and says whether any changed.
-pub(crate) fn join(slots: &mut Vec<Kind>, arriving: Slots) -> Option<bool>
+/// Joins slots that are found with those that arrive, one run after another.
+fn join_runs(
+    slots: &mut Vec<Kind>,
+    arriving: Slots,
+    from: usize,
+    to: usize,
+    span: &mut Span,
+) -> Option<bool>
+    requires found { length (gives_of arriving.gives) ≤ from }
+    requires from { from ≤ to }
+    requires within { to ≤ length slots.now.items }
+    requires long { length slots.now.items ≡ length (slots_of_rust arriving) }
+    ensures some { (ks : List SpecKind) (b : Bool) → Partly ks (slots_of_rust arriving.entry) (λ k. from ≤ k) slots.old.items b
+        → IfSome result (λ c. Partly ks (slots_of_rust arriving.entry) (λ k. to ≤ k) slots.new.items (b || c)) }
+    ensures none { (ks : List SpecKind) (b : Bool) → Partly ks (slots_of_rust arriving.entry) (λ k. from ≤ k) slots.old.items b
+        → IfNone result (specs.join ks (slots_of_rust arriving.entry) ≡ None) }
+    ensures len { OnSome result (length slots.new.items ≡ length slots.old.items) }
+    ensures same { (ks : List SpecKind) → SameOutside span.old ks slots.old.items
+        → IfSome result (λ c. SameOutside span.new ks slots.new.items) }
+{
+    let mut start = from;
+    let mut changed = false;
+    while start < to {
+        let end = to.min(start + RUN);
+        let closed = join_found(slots, arriving, start, end, span)?;
+        changed = either(changed, closed);
+        start = end;
+    }
+    Some(changed)
+}
+
+/// Joins slots with those that arrive, if they meet, and says whether any changed. Only these are looked at, by their numbers
+/// from the bottom; those that changed are added to `span`.
+pub(crate) fn join(
+    slots: &mut Vec<Kind>,
+    arriving: Slots,
+    among: Option<Span>,
+    span: &mut Span,
+) -> Option<bool>
+    requires { BelowOutside among (slots_of_rust arriving) slots.now.items }
     ensures some { IfSome result (Joins slots.old.items (slots_of_rust arriving.entry) slots.new.items) }
     ensures none { IfNone result (specs.join slots.old.items (slots_of_rust arriving.entry) ≡ None) }
+    ensures same { IfSome result (λ c. SameOutside span.new slots.old.items slots.new.items) }
 {
     let count = arriving.len();
     if slots.len() != count {
         return None;
     }
-    let mut from = arriving.gives.len();
-    let mut changed = join_run(slots, arriving, 0, from)?;
-    while from < count {
-        let to = count.min(from + RUN);
-        let closed = join_found(slots, arriving, from, to)?;
-        changed = either(changed, closed);
-        from = to;
-    }
-    Some(changed)
+    let given = arriving.gives.len();
+    let places = places(among, count);
+    let changed = join_run(slots, arriving, places.from.min(given), given, span)?;
+    let from = places.from.max(given);
+    let closed = join_runs(slots, arriving, from, places.to.max(from), span)?;
+    Some(either(changed, closed))
 }
 
 fn same_bool(a: bool, b: bool) -> bool

@@ -1,6 +1,6 @@
 //! The table of the positions, and the walk that works through the pending ones, the least first.
 
-ghost use Rattle.std.specs.Prelude.{◌≡◌, ◌+◌, ◌<◌, ◌≤◌, ◌↔◌, ◌&&◌, not, Bool, List, is_some, IfOk, OnOk, IfErr, IfSome, IfNone, ℕ, drop, length, map, option_map, slice_get, Some, None, true, MatchOption};
+ghost use Rattle.std.specs.Prelude.{◌≡◌, ◌+◌, ◌<◌, ◌≤◌, ◌↔◌, ◌&&◌, not, Bool, List, is_some, IfOk, OnOk, IfErr, IfSome, IfNone, ℕ, drop, length, map, option_map, slice_get, Some, None, [], true, MatchOption};
 ghost use Rattle.std.specs.BinaryHeap.{heap_items};
 ghost use Rattle.std.specs.Bool.{OnTrue, OnFalse};
 ghost use Rattle.bc_flow.specs.Shape.{At, same_entries};
@@ -9,16 +9,20 @@ ghost use Rattle.bc_flow.specs.Code.{Code as SpecCode, code_of};
 ghost use Rattle.bc_flow.specs.declared.code.Code.{Code as RustCode};
 ghost use Rattle.bc_flow.specs.Machine.{NeverStuck};
 ghost use Rattle.bc_flow.specs.Verified as specs;
-ghost use Rattle.bc_flow.specs.Verified.{Verified, Holds, FirstFault, IsLeast, IsLeastOf, IsPending, Decides, at, done_at};
+ghost use Rattle.bc_flow.specs.Verified.{Verified, Holds, FirstFault, IsLeast, IsLeastOf, IsPending, Decides, Assigned, Table, at, done_at, seen};
 ghost use Rattle.bc_flow.specs.Judged.{Judges};
 ghost use Rattle.bc_flow.specs.Queue.{Queued};
+ghost use Rattle.bc_flow.specs.Spans as spans;
+ghost use Rattle.bc_flow.specs.Spans.{EachOutside, Keeps, Outside, Remembers, Since, StillHolds, updated};
+ghost use Rattle.bc_flow.specs.declared.shape.Span.{Span as SpecSpan};
 ghost use Rattle.bc_flow.specs.Views.{action_of, at_of, edge_of_rust, cell_of, cell_if, table_of, visit_of, has_if};
 
 use crate::action::{Action, action_at};
 use crate::code::{Code, Fault, Rule, locals};
-use crate::edges::{Edge, edges};
+use crate::edges::{Edge, edges, gives, gives_there};
+use crate::kinds::Kind;
 use crate::rules::{base, finds, holds, room, stays};
-use crate::shape::{Entry, Shape, join, same_entry};
+use crate::shape::{Entry, Shape, Span, join, keeps_all, same_entry, union};
 use mpy_base::NoMemory;
 use std::alloc::Global;
 use std::cmp::Reverse;
@@ -132,21 +136,29 @@ fn reopen(state: &mut State)
 }
 
 /// Lets what an edge brings meet a state with the same entries, if it may.
-#[tactic(auto, using(crate::proofs::Tables::meet_unseen, crate::proofs::Tables::meet_pending, crate::proofs::Tables::meet_changed, crate::proofs::Tables::meet_kept, crate::proofs::Tables::refuse_pending, crate::proofs::Tables::refuse_done))]
-fn meet(alloc: Global, state: &mut State, edge: Edge) -> Result<bool, NoMemory>
-    requires { specs.agrees_cell (cell_of state.now) (edge_of_rust edge).at.entries ≡ true }
-    ensures { IfOk result (λ b. cell_if b state.new ≡ specs.meet (cell_of state.old) (edge_of_rust edge.entry).at) }
+#[tactic(auto, using(crate::proofs::Spans::below_lies, crate::proofs::Spans::keeps_none, crate::proofs::Spans::keeps_slots, crate::proofs::Tables::meet_unseen, crate::proofs::Tables::meet_pending, crate::proofs::Tables::meet_changed, crate::proofs::Tables::meet_kept, crate::proofs::Tables::refuse_pending, crate::proofs::Tables::refuse_done))]
+fn meet(
+    alloc: Global,
+    state: &mut State,
+    edge: Edge,
+    among: Option<Span>,
+    span: &mut Span,
+) -> Result<bool, NoMemory>
+    requires agrees { specs.agrees_cell (cell_of state.now) (edge_of_rust edge).at.entries ≡ true }
+    requires outside { Outside among (edge_of_rust edge).at (seen (cell_of state.now)) }
+    ensures meets { IfOk result (λ b. cell_if b state.new ≡ specs.meet (cell_of state.old) (edge_of_rust edge.entry).at) }
+    ensures keeps { IfOk result (λ b. OnTrue b (Keeps span.new (seen (cell_of state.old)) (seen (cell_of state.new)))) }
 {
     match state {
         State::Unseen => {
             *state = State::Pending(edge.shape(alloc)?);
             Ok(true)
         }
-        State::Pending(x) => match join(&mut x.slots, edge.slots) {
+        State::Pending(x) => match join(&mut x.slots, edge.slots, among, span) {
             Some(_) => Ok(true),
             None => Ok(false),
         },
-        State::Done(x) => match join(&mut x.slots, edge.slots) {
+        State::Done(x) => match join(&mut x.slots, edge.slots, among, span) {
             Some(true) => {
                 reopen(state);
                 Ok(true)
@@ -158,12 +170,42 @@ fn meet(alloc: Global, state: &mut State, edge: Edge) -> Result<bool, NoMemory>
 }
 
 /// Lets what the edge brings arrive, if it may.
-fn put(alloc: Global, states: &mut Vec<State>, edge: Edge) -> Result<bool, NoMemory>
-    requires { specs.agrees (table_of states.now.items) edge.to (edge_of_rust edge).at.entries ≡ true }
-    ensures { IfOk result (λ b. has_if b states.new.items
+fn put(
+    alloc: Global,
+    states: &mut Vec<State>,
+    edge: Edge,
+    among: Option<Span>,
+    span: &mut Span,
+) -> Result<bool, NoMemory>
+    requires agrees { specs.agrees (table_of states.now.items) edge.to (edge_of_rust edge).at.entries ≡ true }
+    requires outside { Outside among (edge_of_rust edge).at (at (table_of states.now.items) edge.to) }
+    ensures puts { IfOk result (λ b. has_if b states.new.items
         ≡ specs.put (table_of states.old.items) edge.entry.to (edge_of_rust edge.entry).at) }
+    ensures keeps { IfOk result (λ b. OnTrue b (Keeps span.new (at (table_of states.old.items) edge.entry.to)
+        (at (table_of states.new.items) edge.entry.to))) }
 {
-    meet(alloc, &mut states[edge.to], edge)
+    meet(alloc, &mut states[edge.to], edge, among, span)
+}
+
+/// The slots of a position that changed since it was visited, or none where it wasn't.
+#[tactic(auto, using(crate::proofs::Spans::past_none))]
+fn changed_at(changes: &[Option<Span>], p: usize) -> Option<Span>
+    ensures some { (s : SpecSpan) → result ≡ Some s → slice_get changes.now p ≡ Some (Some s) }
+    ensures all { (s : SpecSpan) → slice_get changes.now p ≡ Some (Some s) → result ≡ Some s }
+{
+    if p < changes.len() { changes[p] } else { None }
+}
+
+/// Adds slots to those of a position that changed since it was visited, if it was.
+fn widen(changes: &mut Vec<Option<Span>>, p: usize, span: Span)
+    ensures here { (s : SpecSpan) → slice_get changes.new.items p ≡ Some (Some s) → (r : SpecSpan)
+        × (slice_get changes.old.items p ≡ Some (Some r))
+        × ((n : ℕ) → spans.In r n → spans.In s n) × ((n : ℕ) → spans.In span n → spans.In s n) }
+    ensures others { (q : ℕ) → (q ≡ p → ⊥) → slice_get changes.new.items q ≡ slice_get changes.old.items q }
+{
+    if let Some(before) = changed_at(changes, p) {
+        changes[p] = Some(union(before, span));
+    }
 }
 
 fn is_pending(states: &[State], n: usize) -> bool
@@ -178,18 +220,25 @@ fn put_edge(
     alloc: Global,
     states: &mut Vec<State>,
     queue: &mut BinaryHeap<Reverse<usize>>,
+    changes: &mut Vec<Option<Span>>,
     edge: Edge,
+    among: Option<Span>,
 ) -> Result<bool, NoMemory>
-    requires { specs.agrees (table_of states.now.items) edge.to (edge_of_rust edge).at.entries ≡ true }
+    requires agrees { specs.agrees (table_of states.now.items) edge.to (edge_of_rust edge).at.entries ≡ true }
+    requires outside { Outside among (edge_of_rust edge).at (at (table_of states.now.items) edge.to) }
     ensures table { IfOk result (λ b. has_if b states.new.items
         ≡ specs.put (table_of states.old.items) edge.entry.to (edge_of_rust edge.entry).at) }
     ensures queued { Queued (table_of states.old.items) (heap_items queue.old)
         → IfOk result (λ b. OnTrue b (Queued (table_of states.new.items) (heap_items queue.new))) }
+    ensures since { (old : Assigned) → Since old (at (table_of states.old.items)) changes.old.items
+        → IfOk result (λ b. OnTrue b (Since old (at (table_of states.new.items)) changes.new.items)) }
 {
     let was_pending = is_pending(states, edge.to);
-    if !put(alloc, states, edge)? {
+    let mut span = Span { from: 0, to: 0 };
+    if !put(alloc, states, edge, among, &mut span)? {
         return Ok(false);
     }
+    widen(changes, edge.to, span);
     if !was_pending && is_pending(states, edge.to) {
         queue.push(Reverse(edge.to))?;
     }
@@ -201,16 +250,21 @@ fn put_all(
     alloc: Global,
     states: &mut Vec<State>,
     queue: &mut BinaryHeap<Reverse<usize>>,
+    changes: &mut Vec<Option<Span>>,
     edges: &[Edge],
+    among: Option<Span>,
 ) -> Result<bool, NoMemory>
-    requires { specs.agree (table_of states.now.items) (map edge_of_rust edges.now) ≡ true }
+    requires agree { specs.agree (table_of states.now.items) (map edge_of_rust edges.now) ≡ true }
+    requires outside { EachOutside among (at (table_of states.now.items)) (map edge_of_rust edges.now) }
     ensures table { IfOk result (λ b. has_if b states.new.items
         ≡ specs.put_next (map edge_of_rust edges.now) (Some (table_of states.old.items))) }
     ensures queued { Queued (table_of states.old.items) (heap_items queue.old)
         → IfOk result (λ b. OnTrue b (Queued (table_of states.new.items) (heap_items queue.new))) }
+    ensures since { (old : Assigned) → Since old (at (table_of states.old.items)) changes.old.items
+        → IfOk result (λ b. OnTrue b (Since old (at (table_of states.new.items)) changes.new.items)) }
 {
     for edge in edges {
-        if !put_edge(alloc, states, queue, *edge)? {
+        if !put_edge(alloc, states, queue, changes, *edge, among)? {
             return Ok(false);
         }
     }
@@ -237,31 +291,118 @@ struct Judged<'a> {
     state: bool,
     falls: bool,
     edges: Vec<Edge<'a>>,
+    /// The slots that are still to arrive along the edges, or none where all are.
+    among: Option<Span>,
 }
 
+/// Does all that it gives again lie above the slots?
+fn is_clear(action: &Action, base: &[Kind], span: Span) -> bool
+    ensures { OnTrue result (spans.IsClear (action_of action.now) (length base.now) span) }
+{
+    let above = base.len().saturating_sub(span.to);
+    keeps_all(gives(action), above) && keeps_all(gives_there(action), above)
+}
+
+/// The slots of a position that changed since it was visited, if its instruction keeps clear of them.
+fn clear_at(changes: &[Option<Span>], p: usize, action: &Action, base: &[Kind]) -> Option<Span>
+    ensures { IfSome result (λ s. (slice_get changes.now p ≡ Some (Some s))
+        × spans.IsClear (action_of action.now) (length base.now) s) }
+{
+    let span = changed_at(changes, p)?;
+    if is_clear(action, base, span) {
+        Some(span)
+    } else {
+        None
+    }
+}
+
+/// Judges a position anew.
+fn judge_all<'a>(
+    code: &Code,
+    locals: usize,
+    states: &[State],
+    action: &Action,
+    p: usize,
+    x: &'a Shape,
+    base: &'a [Kind],
+    edges: Vec<Edge<'a>>,
+) -> Judged<'a>
+    requires within { p < length code.now.items.items }
+    requires locals_are { locals ≡ (code_of code.now).locals }
+    requires action_is { slice_get (code_of code.now).actions p ≡ Some (action_of action.now) }
+    requires base_is { base.now ≡ edges_specs.base (action_of action.now) (at_of x.now) }
+    requires along { map edge_of_rust edges.items ≡ edges_specs.edges (code_of code.now) (action_of action.now) p (at_of x.now) }
+    ensures { Judges (code_of code.now) (table_of states.now) p (at_of x.now) result }
+{
+    Judged {
+        handlers: holds(code, action, x, &edges),
+        meets: agree(states, &edges),
+        height: finds(action, x, base),
+        state: room(code, locals, action, x, base),
+        falls: stays(code, action, p),
+        edges,
+        among: None,
+    }
+}
+
+/// Judges a position that keeps its rules but for the slots that it takes.
+fn judge_again<'a>(
+    action: &Action,
+    x: &'a Shape,
+    base: &'a [Kind],
+    edges: Vec<Edge<'a>>,
+    span: Span,
+) -> Judged<'a>
+    requires { base.now ≡ edges_specs.base (action_of action.now) (at_of x.now) }
+    ensures { (code : SpecCode) (t : Table) (p : ℕ) → slice_get code.actions p ≡ Some (action_of action.now)
+        → map edge_of_rust edges.entry.items ≡ edges_specs.edges code (action_of action.now) p (at_of x.now)
+        → StillHolds code t p (at_of x.now) (action_of action.now) span
+        → Judges code t p (at_of x.now) result }
+{
+    Judged {
+        handlers: true,
+        meets: true,
+        height: finds(action, x, base),
+        state: true,
+        falls: true,
+        edges,
+        among: Some(span),
+    }
+}
+
+/// Judges a position. One that was visited keeps its rules but for the slots that it takes, where none of those that changed is
+/// given again.
 fn judge<'a>(
     alloc: Global,
     code: &Code,
     locals: usize,
     states: &[State],
+    changes: &[Option<Span>],
     p: usize,
     x: &'a Shape,
 ) -> Result<Judged<'a>, NoMemory>
     requires within { p < length code.now.items.items }
     requires locals_are { locals ≡ (code_of code.now).locals }
+    requires is { at (table_of states.now) p ≡ Some (at_of x.now) }
+    requires remembers { (old : Assigned) × Remembers (code_of code.now) old (table_of states.now) changes.now }
     ensures { IfOk result (λ j. Judges (code_of code.now) (table_of states.now) p (at_of x.now) j) }
 {
     let action = action_at(code.items.len(), code.items[p]);
     let base = base(&action, x);
     let edges = edges(alloc, code, &action, p, x, base)?;
-    Ok(Judged {
-        handlers: holds(code, &action, x, &edges),
-        meets: agree(states, &edges),
-        height: finds(&action, x, base),
-        state: room(code, locals, &action, x, base),
-        falls: stays(code, &action, p),
-        edges,
-    })
+    if let Some(span) = clear_at(changes, p, &action, base) {
+        return Ok(judge_again(&action, x, base, edges, span));
+    }
+    Ok(judge_all(code, locals, states, &action, p, x, base, edges))
+}
+
+/// None of a position's slots have changed since its visit.
+fn forget(changes: &mut Vec<Option<Span>>, p: usize)
+    ensures { (q : ℕ) → (q ≡ p → ⊥) → slice_get changes.new.items q ≡ slice_get changes.old.items q }
+{
+    if p < changes.len() {
+        changes[p] = Some(Span { from: 0, to: 0 });
+    }
 }
 
 /// Marks the position as visited and lets its edges arrive, or answers the rule that is broken.
@@ -269,18 +410,23 @@ fn act(
     alloc: Global,
     states: &mut Vec<State>,
     queue: &mut BinaryHeap<Reverse<usize>>,
+    changes: &mut Vec<Option<Span>>,
     p: usize,
     judged: &Judged,
 ) -> Result<Result<(), Rule>, NoMemory>
     requires within { p < length states.now.items }
     requires pending { (x : At) × IsPending (table_of states.now.items) p x }
     requires meets { judged.now.meets ≡ specs.agree (table_of states.now.items) (map edge_of_rust judged.now.edges.items) }
+    requires outside { EachOutside judged.now.among (at (table_of states.now.items)) (map edge_of_rust judged.now.edges.items) }
     ensures table { (x : At) → IsPending (table_of states.old.items) p x → IfOk result (λ r. visit_of r states.new.items
         ≡ specs.after_holds (judged.now.handlers && judged.now.meets) judged.now.height judged.now.state judged.now.falls
         (specs.put_next (map edge_of_rust judged.now.edges.items) (Some (done_at (table_of states.old.items) p x)))) }
     ensures queued { (x : At) → IsPending (table_of states.old.items) p x
         → Queued (done_at (table_of states.old.items) p x) (heap_items queue.old)
         → IfOk result (λ r. OnOk r (Queued (table_of states.new.items) (heap_items queue.new))) }
+    ensures since { (x : At) → IsPending (table_of states.old.items) p x
+        → (old : Assigned) → Since old (at (table_of states.old.items)) changes.old.items
+        → IfOk result (λ r. OnOk r (Since (updated old p x) (at (table_of states.new.items)) changes.new.items)) }
 {
     if !judged.handlers {
         return Ok(Err(Rule::Handlers));
@@ -292,7 +438,8 @@ fn act(
         return Ok(Err(Rule::Height));
     }
     set_done(states, p);
-    if !put_all(alloc, states, queue, &judged.edges)? {
+    forget(changes, p);
+    if !put_all(alloc, states, queue, changes, &judged.edges, judged.among)? {
         return Ok(Err(Rule::Height));
     }
     if !judged.state {
@@ -335,6 +482,7 @@ fn visit(
     locals: usize,
     states: &mut Vec<State>,
     queue: &mut BinaryHeap<Reverse<usize>>,
+    changes: &mut Vec<Option<Span>>,
     x: &mut Shape,
     p: usize,
 ) -> Result<Result<(), Rule>, NoMemory>
@@ -342,15 +490,18 @@ fn visit(
     requires within { p < length code.now.items.items }
     requires pending { (x : At) × IsPending (table_of states.now.items) p x }
     requires locals_are { locals ≡ (code_of code.now).locals }
+    requires remembers { (old : Assigned) × Remembers (code_of code.now) old (table_of states.now.items) changes.now.items }
     ensures table { (x : At) → IsPending (table_of states.old.items) p x → IfOk result (λ r. visit_of r states.new.items
         ≡ specs.visit (code_of code.now) (table_of states.old.items) p x) }
     ensures queued { (x : At) → IsPending (table_of states.old.items) p x
         → Queued (done_at (table_of states.old.items) p x) (heap_items queue.old)
         → IfOk result (λ r. OnOk r (Queued (table_of states.new.items) (heap_items queue.new))) }
+    ensures remembers { IfOk result (λ r. OnOk r ((old : Assigned)
+        × Remembers (code_of code.now) old (table_of states.new.items) changes.new.items)) }
 {
     read(x, states, p)?;
-    let judged = judge(alloc, code, locals, states, p, x)?;
-    act(alloc, states, queue, p, &judged)
+    let judged = judge(alloc, code, locals, states, changes, p, x)?;
+    act(alloc, states, queue, changes, p, &judged)
 }
 
 /// Takes the least pending position out of the queue.
@@ -392,6 +543,39 @@ fn start(alloc: Global, size: usize) -> Result<Vec<State>, NoMemory>
     Ok(states)
 }
 
+/// No position was visited.
+fn unvisited(alloc: Global, size: usize) -> Result<Vec<Option<Span>>, NoMemory>
+    ensures { IfOk result (λ v. (p : ℕ) (s : SpecSpan) → slice_get v.items p ≡ Some (Some s) → ⊥) }
+{
+    let mut changes = Vec::with_capacity(alloc, size)?;
+    for _i in 0..size {
+        changes.push(None)?;
+    }
+    Ok(changes)
+}
+
+fn no_changes(alloc: Global) -> Vec<Option<Span>>
+    ensures { result.items ≡ [] }
+{
+    Vec::new(alloc)
+}
+
+/// Makes room for the slots that change, once so many visits were made that a position may be visited again.
+#[tactic(auto, using(crate::proofs::Spans::since_none))]
+fn keep_changes(
+    alloc: Global,
+    changes: &mut Vec<Option<Span>>,
+    visits: usize,
+    size: usize,
+) -> Result<(), NoMemory>
+    ensures { (old a : Assigned) → Since old a changes.old.items → OnOk result (Since old a changes.new.items) }
+{
+    if visits == size {
+        *changes = unvisited(alloc, size)?;
+    }
+    Ok(())
+}
+
 /// The slots and entries of each position that is reached, the least that there are, or the first fault.
 pub fn flow(alloc: Global, code: &Code) -> Result<Result<Vec<State>, Fault>, NoMemory>
     // What is found meets the rules along all edges, and lies below all else that does.
@@ -412,10 +596,23 @@ pub fn flow(alloc: Global, code: &Code) -> Result<Result<Vec<State>, Fault>, NoM
     let locals = locals(code);
     let mut states = start(alloc, size)?;
     let mut queue = BinaryHeap::new(alloc);
+    let mut changes = no_changes(alloc);
+    let mut visits: usize = 0;
     let mut x = nothing(alloc);
     queue.push(Reverse(0))?;
     while let Some(p) = least(&states, &mut queue) {
-        if let Err(rule) = visit(alloc, code, locals, &mut states, &mut queue, &mut x, p)? {
+        keep_changes(alloc, &mut changes, visits, size)?;
+        visits = visits.saturating_add(1);
+        if let Err(rule) = visit(
+            alloc,
+            code,
+            locals,
+            &mut states,
+            &mut queue,
+            &mut changes,
+            &mut x,
+            p,
+        )? {
             return Ok(Err(Fault { rule, position: p }));
         }
     }

@@ -1,8 +1,9 @@
-use Rattle.std.proofs.Common.{◌≡◌, ◌≤◌, ◌∙◌, sym, inr, length, None, false, arith, rules}
+use Rattle.std.proofs.Common.{◌≡◌, ◌∙◌, sym, subst, length, None, false, rules}
+use Rattle.bc_flow.specs.Joins.{Joins}
 use Rattle.bc_flow.specs.Shape.{join}
 use Rattle.bc_flow.specs.Views.{slots_of_rust}
-use Rattle.bc_flow.proofs.Joining.{partly_start, partly_end, join_short, if_none_from}
-use Rattle.bc_flow.proofs.Loops.{gives_size, slots_size}
+use Rattle.bc_flow.proofs.Joining.{partly_end, join_short, if_none_from}
+use Rattle.bc_flow.proofs.Spans.{begins, passes, ends, same_refl}
 use Rattle.bc_flow.proofs.shape.join.Goals as goal
 
 pub returns-then-len-count-clause-none : goal.returns-then-len-count-clause-none
@@ -14,25 +15,29 @@ pub returns-in_err-changed-clause-none : goal.returns-in_err-changed-clause-none
 returns-in_err-changed-clause-none c =
     let ks = c.args.slots.now.items in
     let ls = slots_of_rust c.args.arriving in
-    if_none_from c.from_residual.result (join ks ls ≡ None) (c.in_err-changed.ensures.none ks false (partly_start ks ls (λ k. 0 ≤ k) (λ k lt. inr (omega arith))))
+    let size : c.len-count.result ≡ length ks = search rules in
+    let start = begins c.args.among ks ls c.places-places.result.from c.len-given.result c.len-count.result c.min.result size c.requires c.places-places.ensures.before c.min.ensures in
+    if_none_from c.from_residual.result (join ks ls ≡ None) (c.in_err-changed.ensures.none ks false start)
 
-pub loop-from-init : goal.loop-from-init
-loop-from-init c =
+pub returns-in_err-closed-clause-none : goal.returns-in_err-closed-clause-none
+returns-in_err-closed-clause-none c =
     let ks = c.args.slots.now.items in
     let ls = slots_of_rust c.args.arriving in
-    let gives = c.args.arriving.gives in
-    let many = gives_size gives.values gives.others.now in
-    let all = slots_size gives.values gives.others.now c.args.arriving.taken c.args.arriving.found.now in
-    record {
-      partly = c.in_ok-changed.ensures.some ks false (partly_start ks ls (λ k. 0 ≤ k) (λ k lt. inr (omega arith)));
-      given = omega (arith, c.len-from.ensures);
-      most = omega (arith, c.len-from.ensures, c.len-count.ensures, many, all);
-    }
+    let size : c.len-count.result ≡ length ks = search rules in
+    let start = begins c.args.among ks ls c.places-places.result.from c.len-given.result c.len-count.result c.min.result size c.requires c.places-places.ensures.before c.min.ensures in
+    let middle = passes c.args.among ks ls c.join_run.new.slots.items c.places-places.result.from c.len-given.result c.len-count.result c.max-from.result c.in_ok-changed.changed size c.requires c.places-places.ensures.before c.max-from.ensures (c.in_ok-changed.ensures.some ks false start) in
+    if_none_from c.from_residual-in_err-closed.result (join ks ls ≡ None) (c.in_err-closed.ensures.none ks c.in_ok-changed.changed middle)
 
 pub returns-clause-some : goal.returns-clause-some
 returns-clause-some c =
     let ks = c.args.slots.now.items in
     let ls = slots_of_rust c.args.arriving in
-    let size : c.len.result ≡ length ks = search rules in
-    let long : length ks ≡ length ls = sym size ∙ c.if-len-count.false ∙ c.len-count.ensures in
-    partly_end ks ls c.loop-from.slots.items (λ k. c.loop-from.from ≤ k) c.loop-from.changed long (λ k lt le. omega (arith, lt, le, size, c.if-len-count.false, c.loop-from-test.false)) c.loop-from.invariant.partly
+    let size : c.len-count.result ≡ length ks = search rules in
+    let long : length ks ≡ length ls = sym size ∙ c.len-count.ensures in
+    let start = begins c.args.among ks ls c.places-places.result.from c.len-given.result c.len-count.result c.min.result size c.requires c.places-places.ensures.before c.min.ensures in
+    let middle = passes c.args.among ks ls c.join_run.new.slots.items c.places-places.result.from c.len-given.result c.len-count.result c.max-from.result c.in_ok-changed.changed size c.requires c.places-places.ensures.before c.max-from.ensures (c.in_ok-changed.ensures.some ks false start) in
+    let last = ends c.args.among ks ls c.join_runs.new.slots.items c.places-places.result.to c.max-from.result c.len-count.result c.max.result _ size c.requires c.places-places.ensures.after c.max.ensures (c.in_ok-closed.ensures.some ks c.in_ok-changed.changed middle) in
+    subst (Joins ks ls c.join_runs.new.slots.items) (sym c.either.ensures) (partly_end ks ls c.join_runs.new.slots.items (λ k. ⊥) _ long (λ k lt f. f) last)
+
+pub returns-clause-same : goal.returns-clause-same
+returns-clause-same c = c.in_ok-closed.ensures.same c.args.slots.now.items (c.in_ok-changed.ensures.same c.args.slots.now.items (same_refl c.args.span.now c.args.slots.now.items))

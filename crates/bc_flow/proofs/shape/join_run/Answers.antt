@@ -1,10 +1,11 @@
-use Rattle.std.proofs.Common.{◌≡◌, ◌+◌, ◌≤◌, ◌<◌, ◌∙◌, ap, sym, subst, length, None, arith}
+use Rattle.std.proofs.Common.{◌≡◌, ◌+◌, ◌≤◌, ◌<◌, ◌-◌, ◌∙◌, ap, sym, subst, length, None, arith, rules}
 use Rattle.std.specs.Prelude.{◌||◌}
 use Rattle.std.proofs.lemmas.List.{length-set}
 use Rattle.bc_flow.specs.Joins.{JoinsAt}
 use Rattle.bc_flow.specs.Shape.{join, join_kind}
 use Rattle.bc_flow.specs.Views.{slots_of_rust}
 use Rattle.bc_flow.proofs.Joining.{slot, run_more, partly_more, partly_none, le_cases, if_none_from}
+use Rattle.bc_flow.proofs.Spans.{same_step}
 use Rattle.bc_flow.proofs.shape.join_run.Goals as goal
 
 pub returns-in_err-closed-clause-none : goal.returns-in_err-closed-clause-none
@@ -28,4 +29,7 @@ loop-i-preserved c =
           run_more ks ls ns (λ k. i + 1 ≤ k) b c.loop-i.changed c.in_ok-closed.closed c.either-changed.result c.either-changed.ensures
           (partly_more ks ls ms ns (λ k. i ≤ k) (λ k. i + 1 ≤ k) i (b || c.loop-i.changed) c.in_ok-closed.closed (λ k le. le_cases i k le) lt (c.loop-i.invariant.each ks b p) at);
       long = ap length at.others ∙ length-set ms i (slot ns i) ∙ c.loop-i.invariant.long;
+      same = λ ks h. let lt : i < length ms = omega (arith, c.loop-i-test.true, c.requires.within, c.loop-i.invariant.long) in
+          let size : c.len.result ≡ length ms = search rules in
+          same_step c.loop-i.span c.note.new.span ks ms ns i (c.len.result - 1 - i) _ c.in_ok-closed.closed lt (ap (λ z. z - 1 - i) size) c.note.ensures.old c.note.ensures.new at (c.loop-i.invariant.same ks h);
     }

@@ -5,6 +5,8 @@ use Rattle.bc_flow.specs.Shape.{At}
 use Rattle.bc_flow.specs.Verified.{table_at, IsPending}
 use Rattle.bc_flow.specs.Views.{table_of}
 use Rattle.bc_flow.proofs.Queues.{start_queued}
+use Rattle.bc_flow.specs.Code.{code_of}
+use Rattle.bc_flow.proofs.Spans.{empty_none, remembers_anew, remembers_none}
 use Rattle.bc_flow.proofs.Walks as walks
 use Rattle.bc_flow.proofs.walk.flow.Goals as goal
 
@@ -19,6 +21,7 @@ loop-p-init c = record {
   comes = walks.comes_start c.args.code.now c.in_ok-states.states.items (c.in_ok-states.ensures ∙ ap table_at (search rules));
   queued = subst (λ t. Queued t (heap_items c.push.new.self)) (sym c.in_ok-states.ensures)
       (start_queued _ _ (heap_items c.new-queue.result) (heap_items c.push.new.self) refl (c.in_ok-push.ensures.heap_order c.new-queue.ensures.heap_order) c.in_ok-push.ensures.permutation);
+  remembers = remembers_none (code_of c.args.code.now) (table_of c.in_ok-states.states.items) c.no_changes-changes.result.items (empty_none c.no_changes-changes.result.items c.no_changes-changes.ensures);
 }
 
 pub visit-requires-clause-long : goal.visit-requires-clause-long
@@ -34,6 +37,11 @@ visit-requires-clause-pending c =
     let l = walks.taken_in c.deref.result.now c.loop-p.states.items c.in-Some.p (heap_items c.least.new.queue) c.deref.ensures.value c.in-Some.ensures.some in
     (l.0, l.1.pending)
 
+pub visit-requires-clause-remembers : goal.visit-requires-clause-remembers
+visit-requires-clause-remembers c =
+    let m = c.loop-p.invariant.remembers in
+    (m.0, remembers_anew _ _ _ _ _ m.1 (c.in_ok-keep_changes.ensures m.0 _ m.1.since))
+
 pub loop-p-smaller : goal.loop-p-smaller
 loop-p-smaller c =
     let l = walks.taken_in c.deref.result.now c.loop-p.states.items c.in-Some.p (heap_items c.least.new.queue) c.deref.ensures.value c.in-Some.ensures.some in
@@ -47,6 +55,7 @@ loop-p-preserved c =
       comes = walks.next_comes c.args.code.now (table_of c.loop-p.states.items) (table_of c.visit.new.states.items) c.in-Some.p c.loop-p.invariant.comes (l.0, l.1)
           (λ x w. walks.good_else c.in_ok-rule.field-0 c.visit.new.states.items _ c.in_default-2.not-Err (c.in_ok-rule.ensures.table x w));
       queued = walks.ok_else c.in_ok-rule.field-0 (Queued (table_of c.visit.new.states.items) (heap_items c.visit.new.queue)) c.in_default-2.not-Err (c.in_ok-rule.ensures.queued l.0 l.1.pending l.2);
+      remembers = walks.ok_else c.in_ok-rule.field-0 _ c.in_default-2.not-Err c.in_ok-rule.ensures.remembers;
     }
 
 pub returns-in-Err-clause-faults : goal.returns-in-Err-clause-faults

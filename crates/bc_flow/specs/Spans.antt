@@ -1,0 +1,98 @@
+-- Slots by their numbers from the bottom: those that changed since a visit, and what is the same but for them.
+use Rattle.std.specs.Prelude.{◌≡◌, ◌⊎◌, ℕ, suc, ◌-◌, ◌<◌, ◌≤◌, Bool, true, ◌&&◌, List, [], ◌∷◌, length, Option, Some, None, slice_get, slice_index_or, nat_lt, nat_eq, if◌then◌else◌}
+use Rattle.bc_flow.specs.declared.kinds.Kind.{Kind}
+use Rattle.bc_flow.specs.declared.kinds.Kind.TheVariants.{Either}
+use Rattle.bc_flow.specs.declared.kinds.Give.{Give}
+use Rattle.bc_flow.specs.declared.kinds.Give.TheVariants.{New, Again}
+use Rattle.bc_flow.specs.declared.shape.Span.{Span}
+use Rattle.bc_flow.specs.Action.{Action}
+use Rattle.bc_flow.specs.Code.{Code}
+use Rattle.bc_flow.specs.Shape.{At, Below}
+use Rattle.bc_flow.specs.Edges.{Edge, gives, gives_there, edges, holds, room, stays}
+use Rattle.bc_flow.specs.Verified.{Assigned, Table, Fine, at, agree}
+
+-- the slot of that number is one of these
+abbrev pub In : Span → ℕ → Type 0
+In s n = (s.from ≤ n) × (n < s.to)
+
+-- the same where all slots may be meant
+abbrev pub Among : Option Span → ℕ → Type 0
+Among None n = Unit {0}
+Among (Some s) n = In s n
+
+-- the slots are the same but for these
+pub record SameOutside (s : Span) (ks ls : List Kind) : Type 0 where
+  pub long : length ls ≡ length ks
+  pub each : (k : ℕ) → k < length ks → (slice_index_or ls k Either ≡ slice_index_or ks k Either) ⊎ In s (length ks - suc k)
+
+-- the slots lie below those that are there, but for these
+abbrev pub BelowOutside : Option Span → List Kind → List Kind → Type 0
+BelowOutside o ls ms = (k : ℕ) → k < length ms → Below (slice_index_or ls k Either) (slice_index_or ms k Either) ⊎ Among o (length ms - suc k)
+
+-- something is there, and it is the same but for these slots
+pub record Differs (s : Span) (x : At) (o : Option At) : Type 0 where
+  pub now : At
+  pub is : o ≡ Some now
+  pub slots : SameOutside s x.slots now.slots
+  pub entries : x.entries ≡ now.entries
+
+-- what was there is the same but for these slots
+abbrev pub Keeps : Span → Option At → Option At → Type 0
+Keeps s o p = (x : At) → o ≡ Some x → Differs s x p
+
+-- what arrives lies below what is there, but for these slots
+pub record Lies (s : Span) (x : At) (o : Option At) : Type 0 where
+  pub there : At
+  pub is : o ≡ Some there
+  pub long : length x.slots ≡ length there.slots
+  pub below : BelowOutside (Some s) x.slots there.slots
+
+abbrev pub Outside : Option Span → At → Option At → Type 0
+Outside None x o = Unit {0}
+Outside (Some s) x o = Lies s x o
+
+-- the same of all edges
+abbrev pub EachOutside : Option Span → Assigned → List Edge → Type 0
+EachOutside o a [] = Unit {0}
+EachOutside o a (e ∷ es) = Outside o e.at (a e.to) × EachOutside o a es
+
+-- a position has what it had at its last visit, but for these slots
+pub record Changed (old a : Assigned) (p : ℕ) (s : Span) : Type 0 where
+  pub before : At
+  pub was : old p ≡ Some before
+  pub now : Differs s before (a p)
+
+-- the same of all positions that were visited
+pub record Since (old a : Assigned) (changes : List (Option Span)) : Type 0 where
+  pub each : (p : ℕ) (s : Span) → slice_get changes p ≡ Some (Some s) → Changed old a p s
+
+-- what the positions had at their last visits, where the rules held and the edges arrived
+pub record Remembers (code : Code) (old : Assigned) (t : Table) (changes : List (Option Span)) : Type 0 where
+  pub since : Since old (at t) changes
+  pub fine : (p : ℕ) (x : At) → old p ≡ Some x → Fine code (at t) p x
+
+-- the position has that now
+abbrev pub updated : Assigned → ℕ → At → Assigned
+updated a p x q = if nat_eq q p then Some x else a q
+
+-- a slot that is given is a new one, or one of so many from the top
+abbrev pub keeps : ℕ → Give → Bool
+keeps n (New k) = true
+keeps n (Again m) = nat_lt m n
+
+abbrev pub keeps_all : ℕ → List Give → Bool
+keeps_all n [] = true
+keeps_all n (g ∷ gs) = keeps n g && keeps_all n gs
+
+-- all that it gives again lies above these slots, where it works on so many
+pub record IsClear (i : Action) (n : ℕ) (s : Span) : Type 0 where
+  pub next_above : keeps_all (n - s.to) (gives i) ≡ true
+  pub there_above : keeps_all (n - s.to) (gives_there i) ≡ true
+
+-- the rules of a position hold but for the slots that it takes, and its edges have arrived but for these slots
+pub record StillHolds (code : Code) (t : Table) (p : ℕ) (x : At) (i : Action) (s : Span) : Type 0 where
+  pub handlers : holds code i p (length x.slots) x.entries ≡ true
+  pub meets : agree t (edges code i p x) ≡ true
+  pub state : room code i x ≡ true
+  pub falls : stays code i p ≡ true
+  pub outside : EachOutside (Some s) (at t) (edges code i p x)
