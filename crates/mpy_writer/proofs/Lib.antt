@@ -6,10 +6,10 @@ pub mod Lists
 pub mod Numbers
 pub mod Objects
 pub mod Own
+pub mod Positions
 pub mod Raws
+pub mod Rounds
 pub mod Samples
-pub mod ShortJumps
-pub mod ShortOffsets
 pub mod Spelled
 pub mod Steps
 pub mod Texts

@@ -2,6 +2,6 @@ pub mod Codes
 pub mod Ends
 pub mod File
 pub mod Outcome
-pub mod ShortOffsets
+pub mod Positions
 pub mod Tables
 pub mod Writable

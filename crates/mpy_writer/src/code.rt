@@ -17,7 +17,7 @@ ghost use Rattle.mpy_writer.specs.Writable.{IsSoundCode};
 
 use crate::fault::WriteFault;
 use crate::labels::labelled;
-use crate::short::short_layout;
+use crate::layout::by_positions;
 use crate::tables::Tables;
 use bc_labels::{LayoutFault, layout};
 use bc_ops::decode_at;
@@ -27,6 +27,24 @@ use mpy_base::{NoMemory, Refused, write_vuint};
 use mpy_tree::Code;
 use std::alloc::Global;
 
+/// The most instructions whose starts take 32 bits.
+const MAX_PLACED: usize = 0x2000_0000;
+
+/// The instructions of a code, laid out by labels.
+fn by_labels(alloc: Global, tables: &Tables, code: &Code) -> Result<Vec<u8>, Refused<WriteFault>>
+    requires fit { TablesFit tables.now }
+    requires sound { IsSoundCode code.now }
+    ensures ok { IfOk result (λ bytes. IsLayout (specs.labelled tables.now code.now) bytes.items) }
+    ensures fault { IfFault result (λ fault. (fault ≡ WriteFault.TooFar) × IsTooFar (specs.labelled tables.now code.now)) }
+{
+    let items = labelled(alloc, tables, code)?;
+    match layout(alloc, &items) {
+        Ok(bytes) => Ok(bytes),
+        Err(Refused::Fault(LayoutFault::TooFar)) => Err(Refused::Fault(WriteFault::TooFar)),
+        Err(Refused::NoMemory) => Err(Refused::NoMemory),
+    }
+}
+
 /// The instructions of a code.
 fn instructions(alloc: Global, tables: &Tables, code: &Code) -> Result<Vec<u8>, Refused<WriteFault>>
     requires fit { TablesFit tables.now }
@@ -34,14 +52,11 @@ fn instructions(alloc: Global, tables: &Tables, code: &Code) -> Result<Vec<u8>, 
     ensures ok { IfOk result (λ bytes. IsLayout (specs.labelled tables.now code.now) bytes.items) }
     ensures fault { IfFault result (λ fault. (fault ≡ WriteFault.TooFar) × IsTooFar (specs.labelled tables.now code.now)) }
 {
-    if let Some(bytes) = short_layout(alloc, tables, code.instrs.as_slice())? {
-        return Ok(bytes);
-    }
-    let items = labelled(alloc, tables, code)?;
-    match layout(alloc, &items) {
-        Ok(bytes) => Ok(bytes),
-        Err(Refused::Fault(LayoutFault::TooFar)) => Err(Refused::Fault(WriteFault::TooFar)),
-        Err(Refused::NoMemory) => Err(Refused::NoMemory),
+    let items = code.instrs.as_slice();
+    if items.len() > MAX_PLACED {
+        by_labels(alloc, tables, code)
+    } else {
+        by_positions(alloc, tables, items)
     }
 }
 

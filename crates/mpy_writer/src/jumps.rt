@@ -1,144 +1,138 @@
-//! Instructions with jumps, whose offsets take one byte each.
+//! Items that name other items by their positions.
 
-ghost use Rattle.std.specs.Prelude.{◌≡◌, ◌↔◌, ◌+◌, ◌*◌, ◌<◌, ◌≤◌, ◌++◌, [], length, slice_index, flat_map, All, false, true, pos, ◌+ℤ◌, ◌-ℤ◌, ◌≤ℤ◌, ◌<ℤ◌, IsTrue, IfOk, IfSome, OnOk};
+ghost use Rattle.std.specs.Prelude.{◌≡◌, ◌↔◌, ◌+◌, ◌<◌, ◌++◌, length, slice_index, flat_map, All, false, true, pos, ◌+ℤ◌, ◌-ℤ◌, ◌≤ℤ◌, ◌<ℤ◌, IsTrue, OnOk};
 ghost use Rattle.bc_ops.specs.Code.{spelling, IsEncodable};
 ghost use Rattle.bc_ops.specs.Offset as offsets;
-ghost use Rattle.bc_labels.specs.Labels as labels;
-ghost use Rattle.bc_labels.specs.Places.{size_of, places_to};
-ghost use Rattle.bc_labels.specs.Choice.{instr_of};
-ghost use Rattle.mpy_writer.specs.ShortOffsets as specs;
-ghost use Rattle.mpy_writer.specs.ShortOffsets.{IsPlaced, IsShort};
+ghost use Rattle.bc_labels.specs.Places as places;
+ghost use Rattle.mpy_tree.specs.declared.module.Item.{Item};
+ghost use Rattle.mpy_writer.specs.Positions as specs;
+ghost use Rattle.mpy_writer.specs.Positions.{jump_in};
 
-use bc_labels::Labelled;
 use bc_ops::{Instr, encode, offset_fits};
 use mpy_base::NoMemory;
-use std::alloc::Global;
+use mpy_tree::Item;
 
-/// The bytes of the item, in `text` for a while.
-fn short_size(text: &mut Vec<u8>, item: Labelled, count: usize) -> Result<usize, NoMemory>
-    requires { IsPlaced count item }
-    ensures { IfOk result (λ size. size ≡ size_of item false) }
+/// Does the item name another?
+fn is_jump(item: &Item) -> bool
+    ensures { result ≡ specs.is_jump item.now }
 {
-    Ok(match item {
-        Labelled::At(_) => 0,
-        Labelled::Plain(Instr::Plain(_)) => 1,
-        Labelled::Plain(instr) => {
-            text.clear();
-            encode(text, &instr)?;
-            text.len()
+    matches!(item, Item::Jump(..) | Item::Unwind(..))
+}
+
+/// Does one of the items?
+pub(crate) fn has_jumps(items: &[Item]) -> bool
+    ensures { result ≡ false → All (λ item. specs.is_jump item ≡ false) items.now }
+{
+    for item in items {
+        if is_jump(item) {
+            return true;
         }
-        Labelled::Jump(..) => 2,
-        Labelled::Unwind(..) => 3,
-    })
-}
-
-/// The bytes in front of each item.
-pub(crate) fn short_places(alloc: Global, items: &[Labelled]) -> Result<Vec<usize>, NoMemory>
-    requires { All (IsPlaced (length items.now)) items.now }
-    ensures { IfOk result (λ places. places.items ≡ places_to items.now [] (length items.now)) }
-{
-    let mut text = Vec::new(alloc);
-    let mut places = Vec::with_capacity(alloc, items.len())?;
-    let mut place = 0;
-    for (i, item) in items.iter().enumerate() {
-        places.push(place)?;
-        place += short_size(&mut text, *item, items.len())?;
     }
-    Ok(places)
+    false
 }
 
-/// The position that a jump names, and 0 for an item that is no jump.
-fn position_of(item: Labelled) -> usize
-    ensures { result ≡ specs.position_of item }
+/// The position that the item names, and 0 for another item.
+pub(crate) fn position_of(item: &Item) -> usize
+    ensures { result ≡ specs.position_in item.now }
 {
     match item {
-        Labelled::Jump(_, position) => position as usize,
-        Labelled::Unwind(position, _) => position as usize,
+        Item::Jump(_, position) => *position as usize,
+        Item::Unwind(position, _) => *position as usize,
         _ => 0,
     }
 }
 
-/// The offset of one byte from the end of an item's own to another item.
-fn offset(places: &[usize], from: usize, to: usize) -> i64
-    requires from { from < length places.now }
-    requires to { to < length places.now }
-    requires places { All (λ place. place ≤ 6 * length places.now) places.now }
-    ensures { result ≡ pos (slice_index places.now to) -ℤ pos (slice_index places.now from + 1 + 1) }
-{
-    let end = places[from] + 1 + 1;
-    places[to] as i64 - end as i64
-}
-
-/// Does the offset of the item fit one byte? One of an item that is no jump always does.
-fn fits(item: Labelled, offset: i64) -> bool
-    ensures { IsTrue result ↔ (labels.is_jump item ≡ true → offsets.Fits (labels.signed_of item) false offset) }
+/// The bytes of an item that names another, where its offset takes one byte.
+pub(crate) fn short_size(item: &Item) -> usize
+    ensures { result ≡ specs.short_size item.now }
 {
     match item {
-        Labelled::Jump(op, _) => offset_fits(op.has_signed_offset(), false, offset),
-        Labelled::Unwind(..) => offset_fits(true, false, offset),
+        Item::Jump(..) => 2,
+        Item::Unwind(..) => 3,
+        _ => 0,
+    }
+}
+
+/// The bytes of an offset.
+fn offset_size(wide: bool) -> usize
+    ensures { result ≡ places.offset_size wide }
+{
+    if wide { 2 } else { 1 }
+}
+
+/// The offset from the end of an item's own to another item.
+pub(crate) fn offset(starts: &[u32], from: usize, to: usize, wide: bool) -> i64
+    requires from { from < length starts.now }
+    requires to { to < length starts.now }
+    ensures { result ≡ pos (slice_index starts.now to) -ℤ pos (slice_index starts.now from + 1 + places.offset_size wide) }
+{
+    let end = starts[from] as usize + 1 + offset_size(wide);
+    starts[to] as i64 - end as i64
+}
+
+/// Does the offset of the item fit? One of an item that names none always does.
+pub(crate) fn fits(item: &Item, wide: bool, offset: i64) -> bool
+    ensures { IsTrue result ↔ (specs.is_jump item.now ≡ true → offsets.Fits (specs.signed_in item.now) wide offset) }
+{
+    match item {
+        Item::Jump(op, _) => offset_fits(op.has_signed_offset(), wide, offset),
+        Item::Unwind(..) => offset_fits(true, wide, offset),
         _ => true,
     }
 }
 
 /// The offset in as many bits as an instruction has for it.
 fn narrow(offset: i64) -> i32
-    requires least { pos 0 ≤ℤ (offset +ℤ pos 0x40) }
-    requires below { offset <ℤ pos 0x80 }
+    requires least { pos 0 ≤ℤ (offset +ℤ pos 0x8000) }
+    requires below { offset <ℤ pos 0x8000 }
     ensures { result ≡ offset }
 {
     offset as i32
 }
 
-/// Adds the bytes of the item.
-fn write_item(out: &mut Vec<u8>, item: Labelled, offset: i64) -> Result<(), NoMemory>
-    requires { All IsEncodable (instr_of item offset false) }
-    ensures { OnOk result (out.new.items ≡ out.old.items ++ flat_map spelling (instr_of item offset false)) }
+/// Adds the bytes of an item that names another.
+fn write_jump(out: &mut Vec<u8>, item: &Item, offset: i64, wide: bool) -> Result<(), NoMemory>
+    requires { All IsEncodable (jump_in item.now offset wide) }
+    ensures { OnOk result (out.new.items ≡ out.old.items ++ flat_map spelling (jump_in item.now offset wide)) }
 {
     match item {
-        Labelled::At(_) => Ok(()),
-        Labelled::Plain(instr) => encode(out, &instr),
-        Labelled::Jump(op, _) => {
+        Item::Jump(op, _) => {
             let offset = narrow(offset);
             encode(
                 out,
                 &Instr::Jump {
-                    op,
+                    op: *op,
                     offset,
-                    wide: false,
+                    wide,
                 },
             )
         }
-        Labelled::Unwind(_, byte) => {
+        Item::Unwind(_, byte) => {
             let offset = narrow(offset);
             encode(
                 out,
                 &Instr::Unwind {
                     offset,
-                    wide: false,
-                    byte,
+                    wide,
+                    byte: *byte,
                 },
             )
         }
+        _ => Ok(()),
     }
 }
 
-/// The bytes of the items at these places, and nothing where an offset doesn't fit one byte.
-pub(crate) fn write_short(
-    alloc: Global,
-    items: &[Labelled],
-    places: &[usize],
-) -> Result<Option<Vec<u8>>, NoMemory>
-    requires placed { All (IsPlaced (length items.now)) items.now }
-    requires places { places.now ≡ places_to items.now [] (length items.now) }
-    ensures { IfOk result (λ found. IfSome found (λ bytes. IsShort items.now bytes.items)) }
+/// Adds what stands in front of an item that names another, and the item.
+pub(crate) fn add_jump(
+    out: &mut Vec<u8>,
+    front: &[u8],
+    item: &Item,
+    offset: i64,
+    wide: bool,
+) -> Result<(), NoMemory>
+    requires { All IsEncodable (jump_in item.now offset wide) }
+    ensures { OnOk result (out.new.items ≡ (out.old.items ++ front.now) ++ flat_map spelling (jump_in item.now offset wide)) }
 {
-    let mut out = Vec::with_capacity(alloc, items.len())?;
-    for (i, item) in items.iter().enumerate() {
-        let offset = offset(places, i, position_of(*item));
-        if !fits(*item, offset) {
-            return Ok(None);
-        }
-        write_item(&mut out, *item, offset)?;
-    }
-    Ok(Some(out))
+    out.extend_from_slice(front)?;
+    write_jump(out, item, offset, wide)
 }

@@ -1,6 +1,6 @@
 //! Instructions with numbers in place of texts and objects, and with labels.
 
-ghost use Rattle.std.specs.Prelude.{◌≡◌, length, map, All, IfOk};
+ghost use Rattle.std.specs.Prelude.{◌≡◌, IfOk};
 ghost use Rattle.mpy_writer.specs.File as specs;
 ghost use Rattle.mpy_writer.specs.File.{item_of};
 ghost use Rattle.mpy_writer.specs.Tables as numbers;
@@ -43,22 +43,6 @@ fn numbered(alloc: Global, tables: &Tables, item: &Item, count: usize) -> Result
         Item::Jump(op, position) => Labelled::Jump(*op, *position),
         Item::Unwind(position, byte) => Labelled::Unwind(*position, *byte),
     })
-}
-
-/// The items with numbers in place of texts and objects.
-pub(crate) fn numbered_items(
-    alloc: Global,
-    tables: &Tables,
-    items: &[Item],
-) -> Result<Vec<Labelled>, NoMemory>
-    requires { All (IsSoundItem (length items.now)) items.now }
-    ensures { IfOk result (λ all. all.items ≡ map (item_of tables.now) items.now) }
-{
-    let mut all = Vec::with_capacity(alloc, items.len())?;
-    for item in items {
-        all.push(numbered(alloc, tables, item, items.len())?)?;
-    }
-    Ok(all)
 }
 
 /// The items of a code, each behind the label of its position.

@@ -3,13 +3,15 @@
 
 mod code;
 mod codes;
+mod draft;
 mod fault;
 mod file;
 mod jumps;
 mod labels;
+mod layout;
 mod object;
-mod short;
 mod tables;
+mod widths;
 
 pub use fault::WriteFault;
 pub use file::{write, write_law};
