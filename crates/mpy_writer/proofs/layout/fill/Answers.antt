@@ -105,7 +105,7 @@ loop-i-preserved c =
           record {
             within = omega (arith, from_is, next, start, size);
             bytes = jumped tables items few ws i c.loop-i.from c.if-size-gt0.from item z (width_at ws i) c.loop-i.out.items c.if-size-gt0.out.items w.part-front.result.now lt is (size_is tables item some).0 z_is refl front inv.bytes
-            (ap (λ (v : Vec ℕ Global). v.items) w.out-is ∙ w.in_ok-add_jump.ensures) (omega (arith, from_is, next, start, size));
+                (ap (λ (v : Vec ℕ Global). v.items) w.out-is ∙ w.in_ok-add_jump.ensures) (omega (arith, from_is, next, start, size));
             fit = λ k h. elim (last_or_before k i h) [
               | inl before ↦ inv.fit k before
               | inr last ↦ subst (λ (n : ℕ). labels.is_jump (item_at all (suc (double n))) ≡ true → FitsAt all (spread ws) (suc (double n)) (width_at ws n)) (sym last)
@@ -124,7 +124,7 @@ loop-i-preserved c =
           record {
             within = omega (arith, from_is, so_far, longer);
             bytes = subst (λ (n : ℕ). c.if-size-gt0.out.items ++ drop n (drafted_to xs (i + 1)) ≡ laid_to tables items few ws (i + 1)) (sym from_is)
-            (subst (λ (bytes : List ℕ). bytes ++ drop c.loop-i.from (drafted_to xs (i + 1)) ≡ laid_to tables items few ws (i + 1)) (sym out_is) before);
+                (subst (λ (bytes : List ℕ). bytes ++ drop c.loop-i.from (drafted_to xs (i + 1)) ≡ laid_to tables items few ws (i + 1)) (sym out_is) before);
             fit = λ k h. elim (last_or_before k i h) [
               | inl earlier ↦ inv.fit k earlier
               | inr last ↦ subst (λ (n : ℕ). labels.is_jump (item_at all (suc (double n))) ≡ true → FitsAt all (spread ws) (suc (double n)) (width_at ws n)) (sym last) (λ jumps. absurd (none jumps))
