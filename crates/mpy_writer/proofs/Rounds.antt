@@ -15,7 +15,7 @@ use Rattle.bc_ops.specs.Table.{code_of, form_of}
 use Rattle.bc_ops.specs.Offset.{Fits}
 use Rattle.bc_ops.specs.Code.{is_signed, spelling, TakesOffset, IsEncodable}
 use Rattle.bc_labels.specs.declared.labelled.Labelled.{Labelled}
-use Rattle.bc_labels.specs.declared.labelled.Labelled.TheVariants.{At, Plain, Jump, Unwind}
+use Rattle.bc_labels.specs.declared.labelled.Labelled.TheVariants.{At}
 use Rattle.bc_labels.specs.Labels.{HasOffset, signed_of}
 use Rattle.bc_labels.specs.Labels as labels
 use Rattle.bc_labels.specs.Places.{item_at, width_at, size_of, place, offset}
@@ -26,9 +26,8 @@ use Rattle.mpy_tree.specs.declared.module.Item.TheVariants as items
 use Rattle.mpy_writer.specs.declared.tables.Tables.{Tables}
 use Rattle.mpy_writer.specs.File.{item_of, labelled_from}
 use Rattle.mpy_writer.specs.Positions.{is_jump, position_in, signed_in, jump_in, short_size, position_of, numbered, drafted_to, drafted, OnlyJumps, spread}
-use Rattle.mpy_writer.specs.Tables.{TablesFit}
 use Rattle.mpy_writer.specs.Writable.{IsSoundItem}
-use Rattle.mpy_writer.proofs.Positions.{double, double_is, halved, width_label, width_item, length-spread, spread-set, same_instr, length-drafted, all, whole, label_is, item_is, laid_more}
+use Rattle.mpy_writer.proofs.Positions.{double, double_is, halved, width_item, length-spread, spread-set, same_instr, length-drafted, whole, label_is, item_is, laid_more}
 
 -- an item is a jump as the same with numbers is
 pub jumps_same : (tables : Tables) (y : Item) → labels.is_jump (item_of tables y) ≡ is_jump y

@@ -1,4 +1,4 @@
-use Rattle.std.proofs.Common.{[], ◌∷◌, ◌++◌, List, All, take, false, sym, ap, subst, ◌≡◌, ◌∙◌}
+use Rattle.std.proofs.Common.{[], ◌∷◌, ◌++◌, All, take, false, sym, ap, subst, ◌≡◌, ◌∙◌}
 use Rattle.std.proofs.lemmas.List.{take_more, take_all}
 use Rattle.std.proofs.lemmas.List.Elements.{All-push}
 use Rattle.mpy_tree.specs.declared.module.Item.{Item}

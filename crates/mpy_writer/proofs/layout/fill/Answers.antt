@@ -1,11 +1,10 @@
-use Rattle.std.proofs.Common.{◌≡◌, ℕ, ◌+◌, ◌<◌, ◌≤◌, true, false, suc, List, [], ◌++◌, length, drop, All, Vec, Global, refl, sym, ap, subst, ◌∙◌, inl, inr, w64, to_z, of_z, arith}
+use Rattle.std.proofs.Common.{◌≡◌, ℕ, ◌+◌, ◌<◌, ◌≤◌, true, false, suc, List, [], ◌++◌, length, drop, Vec, Global, refl, sym, ap, subst, ◌∙◌, inl, inr, w64, to_z, of_z, arith}
 use Rattle.std.proofs.lemmas.List.Elements.{All-get_or}
 use Rattle.bc_labels.specs.Labels as labels
-use Rattle.bc_labels.specs.Places.{item_at, width_at, place}
+use Rattle.bc_labels.specs.Places.{item_at, width_at}
 use Rattle.bc_labels.specs.Choice.{FitsAt}
 use Rattle.bc_labels.proofs.Standing.{last_or_before}
 use Rattle.bc_labels.proofs.Widening.{passed}
-use Rattle.mpy_tree.specs.declared.module.Item.{Item}
 use Rattle.mpy_writer.specs.File.{labelled_from}
 use Rattle.mpy_writer.specs.Positions.{numbered, position_of, drafted_to, spread, short_size}
 use Rattle.mpy_writer.specs.Writable.{IsSoundItem}

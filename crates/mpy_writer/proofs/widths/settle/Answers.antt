@@ -1,4 +1,4 @@
-use Rattle.std.proofs.Common.{refl, ◌∙◌}
+use Rattle.std.proofs.Common.{◌∙◌}
 use Rattle.bc_labels.proofs.Fewest.{needed}
 use Rattle.mpy_writer.proofs.Rounds.{labelled, only_more, fewest_is}
 use Rattle.mpy_writer.proofs.widths.settle.Goals as goal

@@ -1,11 +1,11 @@
-use Rattle.std.proofs.Common.{◌≡◌, ℕ, ◌+◌, ◌<◌, Bool, true, false, List, length, get_or, pos, ◌-ℤ◌, ap, arith, ◌∙◌, sym, subst, refl, w64, to_z, of_z}
+use Rattle.std.proofs.Common.{◌≡◌, ℕ, ◌+◌, ◌<◌, Bool, true, false, List, length, ap, arith, ◌∙◌, sym, subst, refl, w64, to_z, of_z}
 use Rattle.std.proofs.lemmas.Bool.{both_ways}
 use Rattle.bc_labels.specs.Places.{item_at, width_at}
 use Rattle.bc_labels.proofs.Widening.{IsWidened, unwidened, passed}
-use Rattle.mpy_writer.specs.File.{labelled_from, item_of}
+use Rattle.mpy_writer.specs.File.{labelled_from}
 use Rattle.mpy_writer.specs.Positions.{numbered, position_of, spread}
 use Rattle.mpy_writer.proofs.Positions.{double, double_is, as_many, named, seen_item, offset_is, length-spread, spread-same, width_item, whole}
-use Rattle.mpy_writer.proofs.Rounds.{position_same, fits_here, unfit_here, kept_next, widened_next, width_now, all_fit}
+use Rattle.mpy_writer.proofs.Rounds.{position_same, fits_here, unfit_here, kept_next, widened_next, width_now}
 use Rattle.mpy_writer.proofs.widths.widen.Goals as goal
 use Rattle.mpy_writer.proofs.widths.widen.Goals.{then-not-widths-i+then-not-fits, else-not-widths-i, else-not-widths-i-via-then-not-widths-i+else-not-fits, else-not-widths-i-via-else-not-widths-i}
 
