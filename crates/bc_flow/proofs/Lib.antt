@@ -1,3 +1,4 @@
+pub mod Asked
 pub mod Decides
 pub mod Few
 pub mod Fronts

@@ -17,9 +17,9 @@ use Rattle.bc_flow.specs.Code.{Code}
 use Rattle.bc_flow.specs.Shape.{At, Below, same, value, cause, Belows, join_kind, give_of, after}
 use Rattle.bc_flow.specs.Joins.{JoinsAt}
 use Rattle.bc_flow.specs.Partly.{Partly}
-use Rattle.bc_flow.specs.Edges.{Edge, Way, How, Next, There, Run, edge_of, edges, ways, takes, gives, gives_there, change, left, base, pushed, slots_of, holds, room, has_room, stays}
+use Rattle.bc_flow.specs.Edges.{Edge, Way, How, Next, There, Run, edge_of, edges, ways, takes, gives, gives_there, change, left, base, pushed, slots_of, holds, finds, room, has_room, stays}
 use Rattle.bc_flow.specs.Verified.{Assigned, Leads, Each, none, also, Fine, Grows, Cell, Table, seen, at, put, meet, done_at, agree, others, agrees, IsPending, visit}
-use Rattle.bc_flow.specs.Spans.{In, Among, SameOutside, BelowOutside, Keeps, Lies, Outside, EachOutside, Changed, Since, Remembers, updated, keeps, keeps_all, IsClear, StillHolds}
+use Rattle.bc_flow.specs.Spans.{In, Among, SameOutside, BelowOutside, Keeps, Lies, Outside, EachOutside, Changed, Since, Remembers, updated, keeps, keeps_all, IsClear, FitsBut, StillHolds}
 use Rattle.bc_flow.specs.declared.code.Rule.{Rule}
 use Rattle.bc_flow.specs.declared.edges.Edge.{Edge as RustEdge}
 use Rattle.bc_flow.specs.Views.{cell_of, edge_of_rust, visit_of}
@@ -305,6 +305,10 @@ module _ (s : Span) (i : Action) (es : List Entry) (ks ls : List Kind) (h : Same
   unfolding base
   same_base = subst (λ n. SameOutside s (base i x) (drop (n - left (change i) es n) ls)) (sym h.long) (same_drop s (length ks - left (change i) es (length ks)) ks ls h)
 
+  asked_before : finds i x ≡ true → FitsBut s (takes i) (base i y)
+  unfolding finds
+  asked_before f = (base i x, same_base, (and_parts _ _ f).0)
+
   same_slots : IsClear i (length (base i y)) s → (how : How) → SameOutside s (slots_of i x how) (slots_of i y how)
   unfolding slots_of
   same_slots c Next = same_after s (gives i) (length (takes i)) (base i x) (base i y) same_base c.next_above
@@ -355,6 +359,7 @@ recalled_with code t p es ks ls i s f is h c =
     record {
       handlers = ap (λ n. holds code i p n es) h.long ∙ subst (λ z. holds code z p (length ks) es ≡ true) e f.handlers;
       meets = sym (same_agree s i es ks ls h t ws) ∙ agree_below (at t) (length t) (seen_in t) t refl (grows_refl (at t)) (map (edge_of i (with_slots es ks)) ws) each;
+      asked = asked_before s i es ks ls h (subst (λ z. finds z (with_slots es ks) ≡ true) e f.height);
       state = sym (same_room s i es ks ls h code c) ∙ subst (λ z. room code z (with_slots es ks) ≡ true) e f.state;
       falls = subst (λ z. stays code z p ≡ true) e f.falls;
       outside = each_lies s i es ks ls h (at t) ws c each;

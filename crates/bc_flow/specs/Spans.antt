@@ -4,11 +4,12 @@ use Rattle.bc_flow.specs.declared.kinds.Kind.{Kind}
 use Rattle.bc_flow.specs.declared.kinds.Kind.TheVariants.{Either}
 use Rattle.bc_flow.specs.declared.kinds.Give.{Give}
 use Rattle.bc_flow.specs.declared.kinds.Give.TheVariants.{New, Again}
+use Rattle.bc_flow.specs.declared.kinds.Want.{Want}
 use Rattle.bc_flow.specs.declared.shape.Span.{Span}
 use Rattle.bc_flow.specs.Action.{Action}
 use Rattle.bc_flow.specs.Code.{Code}
-use Rattle.bc_flow.specs.Shape.{At, Below}
-use Rattle.bc_flow.specs.Edges.{Edge, gives, gives_there, edges, holds, room, stays}
+use Rattle.bc_flow.specs.Shape.{At, Below, fits}
+use Rattle.bc_flow.specs.Edges.{Edge, base, takes, gives, gives_there, edges, holds, room, stays}
 use Rattle.bc_flow.specs.Verified.{Assigned, Table, Fine, at, agree}
 
 -- the slot of that number is one of these
@@ -89,10 +90,15 @@ pub record IsClear (i : Action) (n : ℕ) (s : Span) : Type 0 where
   pub next_above : keeps_all (n - s.to) (gives i) ≡ true
   pub there_above : keeps_all (n - s.to) (gives_there i) ≡ true
 
--- the rules of a position hold but for the slots that it takes, and its edges have arrived but for these slots
+-- slots that are the same but for these serve what is asked
+abbrev pub FitsBut : Span → List Want → List Kind → Type 0
+FitsBut s ws ks = (js : List Kind) × SameOutside s js ks × (fits ws js ≡ true)
+
+-- the rules of a position hold but for these of the slots that it takes, and its edges have arrived but for these slots
 pub record StillHolds (code : Code) (t : Table) (p : ℕ) (x : At) (i : Action) (s : Span) : Type 0 where
   pub handlers : holds code i p (length x.slots) x.entries ≡ true
   pub meets : agree t (edges code i p x) ≡ true
+  pub asked : FitsBut s (takes i) (base i x)
   pub state : room code i x ≡ true
   pub falls : stays code i p ≡ true
   pub outside : EachOutside (Some s) (at t) (edges code i p x)

@@ -3,13 +3,14 @@
 ghost use Rattle.std.specs.Prelude.{◌≡◌, ◌+◌, ◌-◌, ◌<◌, ◌≤◌, ℕ, drop, length, map, min, nat_le, nat_lt, if◌then◌else◌};
 ghost use Rattle.bc_flow.specs.Edges as specs;
 ghost use Rattle.bc_flow.specs.Code.{code_of, locals};
+ghost use Rattle.bc_flow.specs.Spans.{FitsBut};
 ghost use Rattle.bc_flow.specs.Views.{action_of, at_of, edge_of_rust};
 
 use crate::action::Action;
 use crate::code::Code;
 use crate::edges::{Change, Edge, change_of, entries_behind, falls, gives, gives_there, takes};
 use crate::kinds::Kind;
-use crate::shape::{Entry, Shape, fits};
+use crate::shape::{Entry, Shape, Span, fits, fits_again};
 
 /// Does it find the entries that it asks for?
 fn asks(change: Change, entries: &[Entry]) -> bool
@@ -165,6 +166,17 @@ pub(crate) fn finds(action: &Action, x: &Shape, base: &[Kind]) -> bool
 {
     let takes = takes(action);
     fits(takes, base) && deep(change_of(action), &x.entries, takes.len(), base.len())
+}
+
+/// The rule Height, but for the shapes that meet, where it held before slots of the span changed.
+#[tactic(auto, unfolding(crate::specs::Edges::finds))]
+pub(crate) fn finds_again(action: &Action, x: &Shape, base: &[Kind], span: Span) -> bool
+    requires base_is { base.now ≡ specs.base (action_of action.now) (at_of x.now) }
+    requires asked { FitsBut span (specs.takes (action_of action.now)) base.now }
+    ensures { result ≡ specs.finds (action_of action.now) (at_of x.now) }
+{
+    let takes = takes(action);
+    fits_again(takes, base, span) && deep(change_of(action), &x.entries, takes.len(), base.len())
 }
 
 /// Is there room for so many slots beside the locals?

@@ -5,7 +5,7 @@ ghost use Rattle.bc_flow.specs.Shape as specs;
 ghost use Rattle.bc_flow.specs.Joins.{JoinsAt, Joins};
 ghost use Rattle.bc_flow.specs.Partly.{Partly};
 ghost use Rattle.bc_flow.specs.Spans as spans;
-ghost use Rattle.bc_flow.specs.Spans.{In, Among, SameOutside, BelowOutside};
+ghost use Rattle.bc_flow.specs.Spans.{In, Among, SameOutside, BelowOutside, FitsBut};
 ghost use Rattle.bc_flow.specs.declared.kinds.Kind.{Kind as SpecKind};
 ghost use Rattle.std.specs.Bool.{OnTrue};
 ghost use Rattle.bc_flow.specs.Views.{takes_of, gives_of, slots_of_rust};
@@ -97,6 +97,18 @@ pub(crate) fn fits(takes: Takes, slots: &[Kind]) -> bool
         return false;
     }
     are_values(&slots[..values]) && fit(takes.others, &slots[values..])
+}
+
+/// Do the slots that are asked lie on top, where they did before those of the span changed? Only these are looked at.
+pub(crate) fn fits_again(takes: Takes, slots: &[Kind], span: Span) -> bool
+    requires { FitsBut span (takes_of takes) slots.now }
+    ensures { result ≡ specs.fits (takes_of takes) slots.now }
+{
+    let places = places(Some(span), slots.len());
+    let values = takes.values as usize;
+    let from = places.from.min(values);
+    let to = places.to.min(values).max(from);
+    are_values(&slots[from..to]) && fit(takes.others, below(slots, values))
 }
 
 /// The slot that is given, where these were found.

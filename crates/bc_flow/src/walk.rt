@@ -13,7 +13,7 @@ ghost use Rattle.bc_flow.specs.Verified.{Verified, Holds, FirstFault, IsLeast, I
 ghost use Rattle.bc_flow.specs.Judged.{Judges};
 ghost use Rattle.bc_flow.specs.Queue.{Queued};
 ghost use Rattle.bc_flow.specs.Spans as spans;
-ghost use Rattle.bc_flow.specs.Spans.{EachOutside, Keeps, Outside, Remembers, Since, StillHolds, updated};
+ghost use Rattle.bc_flow.specs.Spans.{EachOutside, FitsBut, Keeps, Outside, Remembers, Since, StillHolds, updated};
 ghost use Rattle.bc_flow.specs.declared.shape.Span.{Span as SpecSpan};
 ghost use Rattle.bc_flow.specs.Views.{action_of, at_of, edge_of_rust, cell_of, cell_if, table_of, visit_of, has_if};
 
@@ -21,7 +21,7 @@ use crate::action::{Action, action_at};
 use crate::code::{Code, Fault, Rule, locals};
 use crate::edges::{Edge, edges, gives, gives_there};
 use crate::kinds::Kind;
-use crate::rules::{base, finds, holds, room, stays};
+use crate::rules::{base, finds, finds_again, holds, room, stays};
 use crate::shape::{Entry, Shape, Span, join, keeps_all, same_entry, union};
 use mpy_base::NoMemory;
 use std::alloc::Global;
@@ -345,7 +345,7 @@ fn judge_all<'a>(
     }
 }
 
-/// Judges a position that keeps its rules but for the slots that it takes.
+/// Judges a position that keeps its rules but for those slots that it takes which changed.
 fn judge_again<'a>(
     action: &Action,
     x: &'a Shape,
@@ -353,7 +353,8 @@ fn judge_again<'a>(
     edges: Vec<Edge<'a>>,
     span: Span,
 ) -> Judged<'a>
-    requires { base.now ≡ edges_specs.base (action_of action.now) (at_of x.now) }
+    requires base_is { base.now ≡ edges_specs.base (action_of action.now) (at_of x.now) }
+    requires asked { FitsBut span (edges_specs.takes (action_of action.now)) base.now }
     ensures { (code : SpecCode) (t : Table) (p : ℕ) → slice_get code.actions p ≡ Some (action_of action.now)
         → map edge_of_rust edges.entry.items ≡ edges_specs.edges code (action_of action.now) p (at_of x.now)
         → StillHolds code t p (at_of x.now) (action_of action.now) span
@@ -362,7 +363,7 @@ fn judge_again<'a>(
     Judged {
         handlers: true,
         meets: true,
-        height: finds(action, x, base),
+        height: finds_again(action, x, base, span),
         state: true,
         falls: true,
         edges,
