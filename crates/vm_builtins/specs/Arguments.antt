@@ -1,5 +1,5 @@
 -- Arguments that are refused.
-use Rattle.std.specs.Prelude.{◌≡◌, ◌<◌, ◌≤◌, ℕ, List, map, Option}
+use Rattle.std.specs.Prelude.{◌≡◌, ◌≢◌, ◌⊎◌, ◌<◌, ◌≤◌, ℕ, List, [], map, Option}
 use Rattle.mpy_base.specs.declared.builtin.Builtin.{Builtin}
 use Rattle.mpy_base.specs.World.{Heap}
 use Rattle.arena_heap.specs.declared.value.Value.{Value}
@@ -27,3 +27,11 @@ abbrev pub IsMiscount : (least most given : ℕ) → Fault → Type 0
 IsMiscount least most given (faults.TooFew least' given') = (given < least) × (least' ≡ least) × (given' ≡ given)
 IsMiscount least most given (faults.TooMany most' given') = (least ≤ given) × (most < given) × (most' ≡ most) × (given' ≡ given)
 IsMiscount least most given _ = ⊥
+
+-- the fault of another count than that
+abbrev pub IsOtherCount : (takes given : ℕ) → Fault → Type 0
+IsOtherCount takes given fault = (given ≢ takes) × (fault ≡ faults.WrongCount takes given)
+
+-- keyword arguments are refused first, and then a count with that fault
+abbrev pub IsMisgiven : (Fault → Type 0) → List (Value × Value) → Fault → Type 0
+IsMisgiven Miscount keys fault = ((keys ≢ []) × (fault ≡ faults.NoKeywords)) ⊎ ((keys ≡ []) × Miscount fault)

@@ -3,7 +3,7 @@
 ghost use Rattle.std.specs.Prelude.{◌≡◌, ◌≢◌, ◌<◌, ◌≤◌, ◌^◌, [], ◌∷◌, length, IfOk, IfErr};
 ghost use Rattle.py_primitives.specs.Calls.{Exactly, Between};
 ghost use Rattle.vm_faults.specs.declared.fault.Fault.TheVariants as faults;
-ghost use Rattle.vm_builtins.specs.Arguments.{IsRefusal, IsMiscount};
+ghost use Rattle.vm_builtins.specs.Arguments.{IsRefusal, IsMiscount, IsMisgiven, IsOtherCount};
 
 use arena_heap::Value;
 use vm_faults::Fault;
@@ -57,6 +57,7 @@ pub fn only_so_many(takes: u32, args: &[Value], keys: &[(Value, Value)]) -> Resu
     requires few { length args.now < 2 ^ 32 }
     ensures as_many { IfOk result (λ _. length args.now ≡ takes) }
     ensures no_keywords { IfOk result (λ _. keys.now ≡ []) }
+    ensures cause { IfErr result (IsMisgiven (IsOtherCount takes (length args.now)) keys.now) }
     ensures refused { IfErr result (λ fault. IsRefusal (Exactly takes) args.now keys.now fault) }
 {
     match no_keywords(keys) {
@@ -88,6 +89,7 @@ pub fn only_between(
     requires few { length args.now < 2 ^ 32 }
     ensures as_many { IfOk result (λ _. (least ≤ length args.now) × (length args.now ≤ most)) }
     ensures no_keywords { IfOk result (λ _. keys.now ≡ []) }
+    ensures cause { IfErr result (IsMisgiven (IsMiscount least most (length args.now)) keys.now) }
     ensures refused { IfErr result (λ fault. IsRefusal (Between least most) args.now keys.now fault) }
 {
     match no_keywords(keys) {
