@@ -10,6 +10,3 @@ mod verified;
 pub use code::shapes;
 pub use fault::{Rule, VerifyFault};
 pub use verified::{Verified, codes_law, one_fault, order, verify};
-
-#[cfg(test)]
-mod tests;

@@ -17,6 +17,3 @@ mod texts;
 mod whole;
 
 pub use whole::{listing, listing_law};
-
-#[cfg(test)]
-mod tests;

@@ -11,6 +11,3 @@ mod qstr;
 
 pub use fault::FileFault;
 pub use file::{file_law, read};
-
-#[cfg(test)]
-mod tests;

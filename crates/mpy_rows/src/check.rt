@@ -1,7 +1,6 @@
 //! `check` of files.
 
-use mpy_io::{MemFolder, MemSink};
-use mpy_tool::mpy;
+use crate::command::{Answer, on_file};
 use std::alloc::{AllocError, Global};
 use std::test::Fail;
 
@@ -18,25 +17,8 @@ pub(crate) const LOOP: [u8; 58] = [
     0x81, 0xe5, 0x57, 0x82, 0xd7, 0x43, 0x32, 0x59, 0x51, 0x63,
 ];
 
-/// What the check of a file answers, prints and says.
-#[derive(Drop)]
-pub(crate) struct Answer {
-    pub(crate) status: u8,
-    pub(crate) out: MemSink,
-    pub(crate) say: MemSink,
-}
-
-pub(crate) fn checked(alloc: Global, file: Vec<u8>) -> Result<Answer, AllocError> {
-    let mut files = Vec::new(alloc);
-    files.push((String::from_str(alloc, "b.mpy")?, file))?;
-    let mut folder = MemFolder::new(alloc, files, Vec::new(alloc));
-    let mut out = MemSink::new(alloc, Vec::new(alloc));
-    let mut say = MemSink::new(alloc, Vec::new(alloc));
-    let mut words = Vec::new(alloc);
-    words.push(String::from_str(alloc, "check")?)?;
-    words.push(String::from_str(alloc, "b.mpy")?)?;
-    let status = mpy(alloc, &words, &mut folder, &mut out, &mut say);
-    Ok(Answer { status, out, say })
+pub(crate) fn checked(alloc: Global, file: &[u8]) -> Result<Answer, AllocError> {
+    on_file(alloc, "check", "b.mpy", file)
 }
 
 // What stands behind `HEAD`, and what is said of it.
@@ -81,27 +63,8 @@ fn faults_are_said(rt: HostRuntime) -> Result<(), Fail> {
     for (behind, said) in SAID {
         let mut file = Vec::from_slice(alloc, &HEAD)?;
         file.extend_from_slice(behind)?;
-        let answer = checked(alloc, file)?;
-        assert_eq!(rt; answer.status, 4, "{said}");
-        assert_eq!(rt; answer.out.bytes(), "".as_bytes());
-        assert_eq!(rt; answer.say.bytes(), said.as_bytes());
+        assert!(rt; checked(alloc, &file)?.is(4, "", said), "{said}");
     }
-    Ok(())
-}
-
-#[test]
-fn verified_codes_are_counted(rt: HostRuntime) -> Result<(), Fail> {
-    let alloc = rt.alloc();
-    let answer = checked(alloc, Vec::from_slice(alloc, &LOOP)?)?;
-    assert_eq!(rt; answer.status, 0);
-    assert_eq!(rt; answer.out.bytes(), "verified 1\n".as_bytes());
-    assert_eq!(rt; answer.say.bytes(), "".as_bytes());
-    // A module without codes is none, whatever its file begins with.
-    let answer = checked(alloc, Vec::from_slice(alloc, &LOOP[1..])?)?;
-    assert_eq!(rt;
-        answer.say.bytes(),
-        "mpy: b.mpy: file 1 BadHeader\n".as_bytes()
-    );
     Ok(())
 }
 
@@ -118,13 +81,9 @@ fn nested(alloc: Global, depth: usize) -> Result<Vec<u8>, AllocError> {
 #[test]
 fn codes_nest(rt: HostRuntime) -> Result<(), Fail> {
     let alloc = rt.alloc();
-    let answer = checked(alloc, nested(alloc, 32)?)?;
-    assert_eq!(rt; answer.status, 0);
-    assert_eq!(rt; answer.out.bytes(), "verified 32\n".as_bytes());
-    let answer = checked(alloc, nested(alloc, 33)?)?;
-    assert_eq!(rt;
-        answer.say.bytes(),
-        "mpy: b.mpy: file 9 TooBig\n".as_bytes()
-    );
+    let answer = checked(alloc, &nested(alloc, 32)?)?;
+    assert!(rt; answer.is(0, "verified 32\n", ""));
+    let answer = checked(alloc, &nested(alloc, 33)?)?;
+    assert!(rt; answer.is(4, "", "mpy: b.mpy: file 9 TooBig\n"));
     Ok(())
 }

@@ -1,13 +1,13 @@
 //! `go` for sources that only print texts.
 
-use mpy_io::{MemFolder, MemSink, OutSink};
+use crate::command::{Command, folder, ran, texts};
+use mpy_io::{MemSink, OutSink};
 use mpy_tool::mpy;
-use std::alloc::{AllocError, Global};
 use std::io;
 use std::io::Write;
 use std::test::Fail;
 
-/// A command, what the folder holds, which calls fail, and what comes of it.
+/// A command, and what comes of it.
 #[derive(Clone, Copy)]
 struct Row {
     words: &'static [&'static str],
@@ -18,6 +18,16 @@ struct Row {
     status: u8,
     out: &'static str,
     say: &'static str,
+}
+
+fn command_of(row: &Row) -> Command {
+    Command {
+        words: row.words,
+        name: row.name,
+        file: row.source.as_bytes(),
+        folder_fails: row.folder_fails,
+        out_fails: row.out_fails,
+    }
 }
 
 const HI: Row = Row {
@@ -176,33 +186,11 @@ const ROWS: [Row; 20] = [
     WRITE_FAULT,
 ];
 
-fn texts(alloc: Global, words: &[&str]) -> Result<Vec<String>, AllocError> {
-    let mut texts = Vec::new(alloc);
-    for word in words {
-        texts.push(String::from_str(alloc, word)?)?;
-    }
-    Ok(texts)
-}
-
-fn folder(alloc: Global, row: &Row) -> Result<MemFolder, AllocError> {
-    let mut files = Vec::new(alloc);
-    let bytes = Vec::from_slice(alloc, row.source.as_bytes())?;
-    files.push((String::from_str(alloc, row.name)?, bytes))?;
-    Ok(MemFolder::new(alloc, files, Vec::from_slice(alloc, row.folder_fails)?))
-}
-
 #[test]
 fn commands_end_as_they_should(rt: HostRuntime) -> Result<(), Fail> {
-    let alloc = rt.alloc();
     for row in &ROWS {
-        let words = texts(alloc, row.words)?;
-        let mut folder = folder(alloc, row)?;
-        let mut out = MemSink::new(alloc, Vec::from_slice(alloc, row.out_fails)?);
-        let mut say = MemSink::new(alloc, Vec::new(alloc));
-        let status = mpy(alloc, &words, &mut folder, &mut out, &mut say);
-        assert_eq!(rt; status, row.status, "{}", row.say);
-        assert_eq!(rt; out.bytes(), row.out.as_bytes());
-        assert_eq!(rt; say.bytes(), row.say.as_bytes());
+        let answer = ran(rt.alloc(), &command_of(row))?;
+        assert!(rt; answer.is(row.status, row.out, row.say), "{}", row.say);
     }
     Ok(())
 }
@@ -224,51 +212,13 @@ impl Write for Full {
 #[test]
 fn a_flush_that_fails(rt: HostRuntime) -> Result<(), Fail> {
     let alloc = rt.alloc();
-    let words = texts(alloc, HI.words)?;
-    let mut folder = folder(alloc, &HI)?;
+    let command = command_of(&HI);
+    let words = texts(alloc, command.words)?;
+    let mut folder = folder(alloc, &command)?;
     let mut out = OutSink::gathering(alloc, Full)?;
     let mut say = MemSink::new(alloc, Vec::new(alloc));
-    assert_eq!(rt;
-        mpy(alloc, &words, &mut folder, &mut out, &mut say),
-        WRITE_FAULT.status
-    );
+    let status = mpy(alloc, &words, &mut folder, &mut out, &mut say);
+    assert_eq!(rt; status, WRITE_FAULT.status);
     assert_eq!(rt; say.bytes(), WRITE_FAULT.say.as_bytes());
-    Ok(())
-}
-
-// So many lines that print one letter.
-fn lines(alloc: Global, count: usize) -> Result<Vec<u8>, AllocError> {
-    let mut source = Vec::new(alloc);
-    for _ in 0..count {
-        source.extend_from_slice(b"print(\"a\")\n")?;
-    }
-    Ok(source)
-}
-
-// How many lines the source has, its status, and what is said of it.
-const LENGTHS: [(usize, u8, &str); 4] = [
-    (1_230, 0, ""),
-    (1_231, 3, "mpy: a.py: source 12 TooLong line 1\n"),
-    (95_326, 3, "mpy: a.py: source 12 TooLong line 1\n"),
-    (1_525_202, 3, "mpy: a.py: source 12 TooLong line 1\n"),
-];
-
-#[test]
-fn long_sources(rt: HostRuntime) -> Result<(), Fail> {
-    let alloc = rt.alloc();
-    for (count, status, said) in LENGTHS {
-        let mut files = Vec::new(alloc);
-        files.push((String::from_str(alloc, "a.py")?, lines(alloc, count)?))?;
-        let mut folder = MemFolder::new(alloc, files, Vec::new(alloc));
-        let mut out = MemSink::new(alloc, Vec::new(alloc));
-        let mut say = MemSink::new(alloc, Vec::new(alloc));
-        let words = texts(alloc, &["go", "a.py"])?;
-        assert_eq!(rt;
-            mpy(alloc, &words, &mut folder, &mut out, &mut say),
-            status,
-            "{count}"
-        );
-        assert_eq!(rt; say.bytes(), said.as_bytes());
-    }
     Ok(())
 }

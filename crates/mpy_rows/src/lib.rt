@@ -6,7 +6,11 @@ mod check;
 #[cfg(test)]
 mod codes;
 #[cfg(test)]
+mod command;
+#[cfg(test)]
 mod dump;
+#[cfg(test)]
+mod files;
 #[cfg(test)]
 mod first_path;
 #[cfg(test)]
@@ -15,3 +19,7 @@ mod library;
 mod slots;
 #[cfg(test)]
 mod sources;
+#[cfg(test)]
+mod tokens;
+#[cfg(test)]
+mod written;

@@ -1,12 +1,18 @@
 //! `go` of sources that the language refuses, and of those that print.
 
-use mpy_io::{MemFolder, MemSink};
-use mpy_tool::mpy;
+use crate::command::{Answer, on_file};
 use std::alloc::{AllocError, Global};
 use std::test::Fail;
 
 // Sources, and what is said of each behind its name.
-const REFUSED: &str = r#"x = (1,
+const REFUSED: &str = r#"(a.b) += 1
+=> 6 Syntax line 1
+----
+x = (1,
+2); y
+=> 5 NotInProfile later line 1
+----
+x = (1,
 2
 y = 3
 => 6 Syntax line 1
@@ -236,39 +242,20 @@ b' ) # c
 ^Ab
 "#;
 
-/// What the run of a source answers, prints and says.
-#[derive(Drop)]
-struct Answer {
-    status: u8,
-    out: MemSink,
-    say: MemSink,
-}
-
 fn went(alloc: Global, source: &[u8]) -> Result<Answer, AllocError> {
-    let mut files = Vec::new(alloc);
-    files.push((
-        String::from_str(alloc, "a.py")?,
-        Vec::from_slice(alloc, source)?,
-    ))?;
-    let mut folder = MemFolder::new(alloc, files, Vec::new(alloc));
-    let mut out = MemSink::new(alloc, Vec::new(alloc));
-    let mut say = MemSink::new(alloc, Vec::new(alloc));
-    let mut words = Vec::new(alloc);
-    words.push(String::from_str(alloc, "go")?)?;
-    words.push(String::from_str(alloc, "a.py")?)?;
-    let status = mpy(alloc, &words, &mut folder, &mut out, &mut say);
-    Ok(Answer { status, out, say })
+    on_file(alloc, "go", "a.py", source)
 }
 
 #[test]
 fn sources_are_refused(rt: HostRuntime) -> Result<(), Fail> {
+    let alloc = rt.alloc();
     for row in REFUSED.split("----\n") {
         let (source, fault) = row.split_once("=> ").ok_or("a source and its fault")?;
-        let answer = went(rt.alloc(), source.as_bytes())?;
-        assert_eq!(rt; answer.status, 3, "{source}");
-        assert_eq!(rt; answer.out.bytes(), "".as_bytes());
-        let said = answer.say.bytes().strip_prefix(b"mpy: a.py: source ");
-        assert_eq!(rt; said.ok_or("a fault is said")?, fault.as_bytes());
+        let said = format!(in alloc; "mpy: a.py: source {fault}")?;
+        assert!(rt;
+            went(alloc, source.as_bytes())?.is(3, "", &said),
+            "{source}"
+        );
     }
     Ok(())
 }
@@ -278,49 +265,85 @@ fn sources_print(rt: HostRuntime) -> Result<(), Fail> {
     for row in PRINTED.split("----\n") {
         let (source, printed) = row.split_once("=> ").ok_or("a source and its output")?;
         let answer = went(rt.alloc(), source.as_bytes())?;
-        assert_eq!(rt; answer.status, 0, "{source}");
-        assert_eq!(rt; answer.out.bytes(), printed.as_bytes());
-        assert_eq!(rt; answer.say.bytes(), "".as_bytes());
+        assert!(rt; answer.is(0, printed, ""), "{source}");
     }
     Ok(())
 }
 
-// A text that is repeated in front, another that is repeated behind, how often, and what is said.
-const REPEATED: [(&str, &str, &str, usize, &str); 6] = [
+const LATER: &str = "mpy: a.py: source 5 NotInProfile later line 1\n";
+
+const TOO_LONG: &str = "mpy: a.py: source 12 TooLong line 1\n";
+
+const PRINTS: &str = "print(\"a\")\n";
+
+// A text in front, one that is repeated, one in the middle, another that is repeated behind, how often, and what is said.
+const REPEATED: [(&str, &str, &str, &str, usize, &str); 13] = [
+    ("", "(", "1", ")", 200, LATER),
     (
+        "",
         "(",
         "1",
         ")",
-        200,
-        "mpy: a.py: source 5 NotInProfile later line 1\n",
+        201,
+        "mpy: a.py: source 7 TooDeep line 1\n",
     ),
-    ("(", "1", ")", 201, "mpy: a.py: source 7 TooDeep line 1\n"),
+    ("", "(", "", "", 200, "mpy: a.py: source 6 Syntax line 1\n"),
+    ("", "-", "1", "", 200, LATER),
     (
+        "",
         "-",
         "1",
         "",
-        200,
-        "mpy: a.py: source 5 NotInProfile later line 1\n",
+        201,
+        "mpy: a.py: source 7 TooDeep line 1\n",
     ),
-    ("-", "1", "", 201, "mpy: a.py: source 7 TooDeep line 1\n"),
-    ("print(\"a\")\n", "", "", 1_230, ""),
     (
-        "print(\"a\")\n",
+        "x = 1\ny = ",
+        "-",
         "",
         "",
-        1_231,
-        "mpy: a.py: source 12 TooLong line 1\n",
+        201,
+        "mpy: a.py: source 7 TooDeep line 2\n",
     ),
+    (
+        "if 1:\n )",
+        "(",
+        "",
+        "",
+        199,
+        "mpy: a.py: source 6 Syntax line 2\n",
+    ),
+    (
+        "if 1:\n )",
+        "(",
+        "",
+        "",
+        200,
+        "mpy: a.py: source 7 TooDeep line 2\n",
+    ),
+    (
+        "[",
+        "().a",
+        "",
+        "",
+        100,
+        "mpy: a.py: source 7 TooDeep line 1\n",
+    ),
+    ("[", "(1),", "]", "", 200, LATER),
+    ("", PRINTS, "", "", 1_231, TOO_LONG),
+    ("", PRINTS, "", "", 95_326, TOO_LONG),
+    ("", PRINTS, "", "", 1_525_202, TOO_LONG),
 ];
 
 fn repeated(
     alloc: Global,
+    first: &str,
     front: &str,
     middle: &str,
     behind: &str,
     count: usize,
 ) -> Result<Vec<u8>, AllocError> {
-    let mut source = Vec::new(alloc);
+    let mut source = Vec::from_slice(alloc, first.as_bytes())?;
     for _turn in 0..count {
         source.extend_from_slice(front.as_bytes())?;
     }
@@ -334,11 +357,23 @@ fn repeated(
 
 #[test]
 fn limits_are_exact(rt: HostRuntime) -> Result<(), Fail> {
-    for (front, middle, behind, count, said) in REPEATED {
-        let source = repeated(rt.alloc(), front, middle, behind, count)?;
-        let answer = went(rt.alloc(), &source)?;
-        assert_eq!(rt; answer.say.bytes(), said.as_bytes());
+    let alloc = rt.alloc();
+    for (first, front, middle, behind, count, said) in REPEATED {
+        let source = repeated(alloc, first, front, middle, behind, count)?;
+        assert!(rt; went(alloc, &source)?.is(3, "", said), "{count} of {front}");
     }
+    Ok(())
+}
+
+#[test]
+fn a_source_may_print_so_often(rt: HostRuntime) -> Result<(), Fail> {
+    let alloc = rt.alloc();
+    let mut printed = String::new(alloc);
+    for _line in 0..1_230 {
+        printed.push_str("a\n")?;
+    }
+    let source = repeated(alloc, "", PRINTS, "", "", 1_230)?;
+    assert!(rt; went(alloc, &source)?.is(0, &printed, ""));
     Ok(())
 }
 
@@ -358,14 +393,8 @@ fn nested(alloc: Global, count: usize) -> Result<Vec<u8>, AllocError> {
 fn nested_statements_are_read(rt: HostRuntime) -> Result<(), Fail> {
     let alloc = rt.alloc();
     let answer = went(alloc, &nested(alloc, 200)?)?;
-    assert_eq!(rt;
-        answer.say.bytes(),
-        "mpy: a.py: source 5 NotInProfile later line 1\n".as_bytes()
-    );
+    assert!(rt; answer.is(3, "", LATER));
     let answer = went(alloc, &nested(alloc, 201)?)?;
-    assert_eq!(rt;
-        answer.say.bytes(),
-        "mpy: a.py: source 7 TooDeep line 201\n".as_bytes()
-    );
+    assert!(rt; answer.is(3, "", "mpy: a.py: source 7 TooDeep line 201\n"));
     Ok(())
 }

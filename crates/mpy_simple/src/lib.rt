@@ -9,6 +9,3 @@ mod source;
 pub use print::Print;
 pub use read::simple_read;
 pub use source::{one_source_law, simple_file};
-
-#[cfg(test)]
-mod tests;

@@ -6,6 +6,3 @@ mod levels;
 mod nest;
 
 pub use nest::{MAX_NEST, nest_fault, nest_law};
-
-#[cfg(test)]
-mod tests;

@@ -8,6 +8,3 @@ mod simple;
 mod small;
 
 pub use line::{lines_law, read_line};
-
-#[cfg(test)]
-mod tests;

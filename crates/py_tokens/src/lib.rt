@@ -22,6 +22,3 @@ pub use source::{tokens, tokens_law};
 pub use string::{StringFault, string_law, string_of};
 pub use token::{Tok, Token};
 pub use word::{Spelled, Word, read_word, word_law};
-
-#[cfg(test)]
-mod tests;

@@ -91,6 +91,3 @@ pub fn tokens_law()
     ensures ends { (opt : ℕ) (source : List ℕ) (list : List Token) → IsTokens opt source list
         → (front : List Token) × (place : Place) × (list ≡ front ++ empty_token toks.End place ∷ []) }
 {}
-
-#[cfg(test)]
-mod tests;

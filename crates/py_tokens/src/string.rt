@@ -138,6 +138,3 @@ pub fn string_law()
     ensures apart { (raw : Bool) (text rest value : List ℕ) (fault : StringFault)
         → IsLiteral raw text rest value → ¬ IsLiteralFault raw (text ++ rest) fault }
 {}
-
-#[cfg(test)]
-mod tests;
