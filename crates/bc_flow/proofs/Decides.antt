@@ -1,11 +1,11 @@
 -- A run in any order decides whether an assignment exists, and its last table is the least.
 use Rattle.std.proofs.Common.{◌≡◌, ℕ, zero, suc, ◌<◌, List, [], ◌∷◌, length, replicate, Some, refl, sym, ap, ◌∙◌, subst, arith}
 use Rattle.std.specs.Prelude.{slice_get}
+use Rattle.bc_shapes.specs.Shape.{At}
+use Rattle.bc_shapes.proofs.Joins.{under_refl}
 use Rattle.bc_flow.specs.Code.{Code}
 use Rattle.bc_flow.specs.declared.code.Rule.{Rule}
-use Rattle.bc_flow.specs.Shape.{At}
 use Rattle.bc_flow.specs.Verified.{Grows, Assigned, begin, Leads, Fine, Holds, Verified, Unseen, Pending, Done, Table, at, Visit, Bad, Good, visit, IsPending, here, later, table_at, Decides, Reached, starts, goes, Comes}
-use Rattle.bc_flow.proofs.Joins.{under_refl}
 use Rattle.bc_flow.proofs.Mono.{fine_under}
 use Rattle.bc_flow.proofs.Puts.{leads_on, each_on, IsDone, at_here, at_later, some_is}
 use Rattle.bc_flow.proofs.Visits.{OnVisit, Visited, visit_on, visit_has, done-long, done-at, done_cases, pending_is}

@@ -2,7 +2,7 @@
 use Rattle.std.proofs.Common.{◌≡◌, ℕ, zero, suc, ◌≤◌, Bool, true, false, List, [], ◌∷◌, length, drop, Option, Some, None, arith, if◌then◌else◌}
 use Rattle.std.proofs.lemmas.Bool.{and_parts, leb-true}
 use Rattle.std.proofs.lemmas.List.{length-map}
-use Rattle.bc_flow.specs.declared.shape.Entry.{Entry}
+use Rattle.bc_shapes.specs.declared.shape.Entry.{Entry}
 use Rattle.bc_flow.specs.Action.{Action, Straight, Branch, Jump, Setup, PopExcept, EndFinally, Unwind, Return, Raise}
 use Rattle.bc_flow.specs.Code.{Code}
 use Rattle.bc_flow.specs.Edges.{takes, gives, gives_there, falls, target, change, behind, holds, iterator_if}
@@ -58,7 +58,7 @@ pub act_few : (code : Code) (i : Action) (p n : ℕ) (es : List Entry) (st : Sta
 unfolding change
 act_few code (Setup t last) p n es st b h f = go_few code.n_exc (suc p) st (record { handler = t; is_finally = last; active = false; height = length st } ∷ es) (holds_few code (Setup t last) p n es h)
 act_few code Return p n es [] b h f = tt
-act_few code Return p n es (s ∷ st) b h f = few_if code.n_exc (is_wanted Rattle.bc_flow.specs.declared.kinds.Want.TheVariants.Value s) (leave es (s ∷ st)) Stuck (leave_few code.n_exc es (s ∷ st) f) tt
+act_few code Return p n es (s ∷ st) b h f = few_if code.n_exc (is_wanted Rattle.bc_shapes.specs.declared.kinds.Want.TheVariants.Value s) (leave es (s ∷ st)) Stuck (leave_few code.n_exc es (s ∷ st) f) tt
 act_few code (Unwind t d it) p n es st b h f = unwind_few code.n_exc t it d es st f
 act_few code EndFinally p n [] [] b h f = tt
 act_few code EndFinally p n [] (s ∷ st) b h f = tt

@@ -2,9 +2,9 @@
 use Rattle.std.proofs.Common.{◌≡◌, ◌⊎◌, ℕ, zero, suc, [], ◌∷◌, Option, Some, None, refl, ap, inl, inr}
 use Rattle.std.specs.Prelude.{option_map, Bool, true, false}
 use Rattle.std.specs.Bool.{OnFalse}
-use Rattle.bc_flow.specs.Shape.{At}
+use Rattle.bc_shapes.specs.Shape.{At}
+use Rattle.bc_shapes.proofs.Joins.{On}
 use Rattle.bc_flow.specs.Verified.{Cell, Table, put, done_at, meet, IsPending, here, later}
-use Rattle.bc_flow.proofs.Joins.{On}
 use Rattle.bc_flow.proofs.Puts.{on_map}
 
 pub done_before : (t : Table) (p : ℕ) (x : At) (q : ℕ) (y : At) → IsPending (done_at t p x) q y → IsPending t q y

@@ -2,21 +2,18 @@
 use Rattle.std.proofs.Common.{◌≡◌, ℕ, zero, suc, ◌-◌, ◌≤◌, Bool, true, false, not, ◌&&◌, ◌||◌, List, [], ◌∷◌, ◌++◌, length, map, get_or, drop, Option, Some, None, refl, sym, ap, ◌∙◌, subst, arith, if◌then◌else◌, length-drop, length-append}
 use Rattle.std.specs.Prelude.{nat_lt}
 use Rattle.std.proofs.lemmas.Bool.{and_parts, false≢true, leb-true}
-use Rattle.bc_flow.specs.declared.kinds.Kind.{Kind}
-use Rattle.bc_flow.specs.declared.kinds.Kind.TheVariants as kinds
-use Rattle.bc_flow.specs.declared.kinds.Want.{Want}
-use Rattle.bc_flow.specs.declared.kinds.Want.TheVariants as wants
-use Rattle.bc_flow.specs.declared.kinds.Give.{Give}
-use Rattle.bc_flow.specs.declared.kinds.Give.TheVariants.{New, Again}
-use Rattle.bc_flow.specs.declared.shape.Entry.{Entry}
+use Rattle.bc_shapes.specs.declared.kinds.Kind.{Kind}
+use Rattle.bc_shapes.specs.declared.kinds.Kind.TheVariants as kinds
+use Rattle.bc_shapes.specs.declared.kinds.Want.{Want}
+use Rattle.bc_shapes.specs.declared.kinds.Want.TheVariants as wants
+use Rattle.bc_shapes.specs.declared.kinds.Give.{Give}
+use Rattle.bc_shapes.specs.declared.kinds.Give.TheVariants.{New, Again}
+use Rattle.bc_shapes.specs.declared.shape.Entry.{Entry}
+use Rattle.bc_shapes.specs.Shape.{At, fits, after}
 use Rattle.bc_flow.specs.Code.{Code}
 use Rattle.bc_flow.specs.declared.edges.Change.TheVariants.{Keep}
-use Rattle.bc_flow.specs.Action.{Action}
-use Rattle.bc_flow.specs.Action.{Straight, Branch, Jump, Setup, PopExcept, EndFinally, Unwind, Return, Raise}
-use Rattle.bc_flow.specs.Edges.{How}
-use Rattle.bc_flow.specs.Edges.{Next, There}
-use Rattle.bc_flow.specs.Shape.{At, fits, after}
-use Rattle.bc_flow.specs.Edges.{takes, gives, gives_there, falls, target, change, runs, behind, asks, floor, left, deep, base, finds, holds, ways, stays, mark, is_marked, arrive, next_way, jump_way, raise_ways, run_ways, all_marked, slots_of, edge_of}
+use Rattle.bc_flow.specs.Action.{Action, Straight, Branch, Jump, Setup, PopExcept, EndFinally, Unwind, Return, Raise}
+use Rattle.bc_flow.specs.Edges.{How, Next, There, takes, gives, gives_there, falls, target, change, runs, behind, asks, floor, left, deep, base, finds, holds, ways, stays, mark, is_marked, arrive, next_way, jump_way, raise_ways, run_ways, all_marked, slots_of, edge_of}
 use Rattle.bc_flow.specs.Verified.{Assigned, Leads, Each, also}
 use Rattle.bc_flow.specs.Machine.{Slot, Value, NoneOrException, KeptReturn, KeptJump, Iter1, Iter2, Iter3, Iter4, Null, Method, Stack, St, Stuck, is_wanted, all_wanted, slot_of, give_slot, given, go, throw, goes, plain}
 use Rattle.bc_flow.proofs.Sound.{Stands, stands-length, stands_given, stands_wanted, cut_all, Fits, Sound, sound_push, is_kept}

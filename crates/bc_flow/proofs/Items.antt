@@ -6,8 +6,8 @@ use Rattle.bc_ops.specs.declared.listing.Item.TheVariants as items
 use Rattle.bc_ops.specs.declared.instr.Instr.TheVariants as instrs
 use Rattle.bc_ops.specs.declared.instr.Op.{Op}
 use Rattle.bc_ops.specs.declared.instr.Op.TheVariants as ops
+use Rattle.bc_shapes.proofs.Loops.{drop_uncons}
 use Rattle.bc_flow.specs.Code.{op_locals, item_locals, locals, op_named, named, LeavesCode}
-use Rattle.bc_flow.proofs.Loops.{drop_uncons}
 
 pub locals_step : (count : ℕ) (items : List Item) (i : ℕ) (item : Item) → i < length items → item ≡ get_or items i item → locals count (drop i items) ≡ max (item_locals item) (locals count (drop (i + 1) items))
 locals_step count items i item lt e = ap (locals count) (drop_uncons items i item lt e)

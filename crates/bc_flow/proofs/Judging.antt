@@ -1,16 +1,17 @@
 -- What is judged of one position.
 use Rattle.std.proofs.Common.{◌≡◌, ℕ, ◌+◌, ◌-◌, ◌&&◌, List, [], ◌∷◌, ◌++◌, length, map, refl, sym, ap, ◌∙◌}
 use Rattle.std.specs.Prelude.{nat_le}
-use Rattle.bc_flow.specs.declared.kinds.Kind.{Kind}
-use Rattle.bc_flow.specs.declared.kinds.Give.{Give}
-use Rattle.bc_flow.specs.declared.shape.Entry.{Entry}
+use Rattle.bc_shapes.specs.declared.kinds.Kind.{Kind}
+use Rattle.bc_shapes.specs.declared.kinds.Give.{Give}
+use Rattle.bc_shapes.specs.declared.shape.Entry.{Entry}
+use Rattle.bc_shapes.specs.Shape.{At, after}
+use Rattle.bc_shapes.proofs.Loops.{after_size}
 use Rattle.bc_flow.specs.declared.edges.Edge.{Edge as RustEdge}
 use Rattle.bc_flow.specs.Views.{edge_of_rust}
 use Rattle.bc_flow.specs.Action.{Action}
 use Rattle.bc_flow.specs.Code.{Code}
-use Rattle.bc_flow.specs.Shape.{At, after}
 use Rattle.bc_flow.specs.Edges.{Edge, edge_of, edges, ways, takes, gives, gives_there, change, behind, asks, holds, holds_over, base, room, has_room, slots_of, How, Next, There, mark, arrive}
-use Rattle.bc_flow.proofs.Loops.{marks_are, after_size}
+use Rattle.bc_flow.proofs.Loops.{marks_are}
 
 pub holds_is : (code : Code) (a : Action) (p : ℕ) (x : At) (es : List Edge) → es ≡ edges code a p x → holds_over code a x es ≡ holds code a p (length x.slots) x.entries
 unfolding holds

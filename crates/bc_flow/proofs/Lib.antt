@@ -1,11 +1,8 @@
-pub mod Asked
 pub mod Decides
 pub mod Few
 pub mod Fronts
 pub mod Going
 pub mod Items
-pub mod Joining
-pub mod Joins
 pub mod Judging
 pub mod Loops
 pub mod Mono

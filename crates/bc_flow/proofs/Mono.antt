@@ -1,14 +1,12 @@
 -- What holds of a shape holds of each below it.
 use Rattle.std.proofs.Common.{◌≡◌, ℕ, ◌-◌, true, false, List, [], ◌∷◌, length, map, drop, refl, sym, ap, ◌∙◌, subst}
 use Rattle.std.proofs.lemmas.Bool.{and_parts, and_from}
+use Rattle.bc_shapes.specs.Shape.{At, same, Belows, also, Under}
+use Rattle.bc_shapes.proofs.Joins.{belows-length, belows_drop, belows_after, fits_below, under_trans}
 use Rattle.bc_flow.specs.Action.{Action}
-use Rattle.bc_flow.specs.Edges.{How}
-use Rattle.bc_flow.specs.Edges.{Next, There, Run}
+use Rattle.bc_flow.specs.Edges.{How, Next, There, Run, takes, change, gives, gives_there, left, deep, Way, ways, holds, base, finds, slots_of, has_room, room, edge_of, edges}
 use Rattle.bc_flow.specs.Code.{Code}
-use Rattle.bc_flow.specs.Shape.{At, same, Belows, also, Under}
-use Rattle.bc_flow.specs.Edges.{takes, change, gives, gives_there, left, deep, Way, ways, holds, base, finds, slots_of, has_room, room, edge_of, edges}
 use Rattle.bc_flow.specs.Verified.{Assigned, Each, none as no_more, also as more, Fine}
-use Rattle.bc_flow.proofs.Joins.{belows-length, belows_drop, belows_after, fits_below, under_trans}
 
 pub holds_under : (code : Code) (i : Action) (p : ℕ) (x y : At) → Under x y → holds code i p (length y.slots) y.entries ≡ holds code i p (length x.slots) x.entries
 holds_under code i p x y u = ap (λ n. holds code i p n y.entries) (sym (belows-length x.slots y.slots u.slots)) ∙ ap (holds code i p (length x.slots)) (sym u.entries)

@@ -2,19 +2,17 @@
 use Rattle.std.proofs.Common.{◌≡◌, ℕ, zero, suc, ◌+◌, ◌-◌, ◌≤◌, Bool, true, false, not, ◌&&◌, List, [], ◌∷◌, length, map, drop, Some, refl, sym, ap, ◌∙◌, subst, arith, if◌then◌else◌}
 use Rattle.std.specs.Prelude.{min, nat_le, slice_get}
 use Rattle.std.proofs.lemmas.Bool.{and_parts, and_from, false≢true, leb-true, le-leb, eqb-true}
-use Rattle.bc_flow.specs.declared.kinds.Kind.{Kind}
-use Rattle.bc_flow.specs.declared.kinds.Want.TheVariants as wants
-use Rattle.bc_flow.specs.declared.shape.Entry.{Entry}
+use Rattle.bc_shapes.specs.declared.kinds.Kind.{Kind}
+use Rattle.bc_shapes.specs.declared.kinds.Want.TheVariants as wants
+use Rattle.bc_shapes.specs.declared.shape.Entry.{Entry}
+use Rattle.bc_shapes.specs.Shape.{At, fits, after}
 use Rattle.bc_flow.specs.Code.{Code, code_of}
 use Rattle.bc_flow.specs.declared.code.Code.{Code as RustCode}
 use Rattle.bc_flow.proofs.Few.{FewOut, throw_few, act_few}
 use Rattle.bc_flow.proofs.Rows.{code_fine}
 use Rattle.bc_flow.specs.declared.edges.Change.TheVariants.{Push}
-use Rattle.bc_flow.specs.Action.{Action}
-use Rattle.bc_flow.specs.Action.{Straight, Branch, Jump, Setup, PopExcept, EndFinally, Unwind, Return, Raise}
-use Rattle.bc_flow.specs.Edges.{Next, There}
-use Rattle.bc_flow.specs.Shape.{At, fits, after}
-use Rattle.bc_flow.specs.Edges.{takes, gives, gives_there, falls, target, change, runs, behind, floor, lowest, left, deep, base, holds, finds, room, stays, iterator_if, run_ways, all_marked, slots_of, edge_of, edges, mark, is_marked}
+use Rattle.bc_flow.specs.Action.{Action, Straight, Branch, Jump, Setup, PopExcept, EndFinally, Unwind, Return, Raise}
+use Rattle.bc_flow.specs.Edges.{Next, There, takes, gives, gives_there, falls, target, change, runs, behind, floor, lowest, left, deep, base, holds, finds, room, stays, iterator_if, run_ways, all_marked, slots_of, edge_of, edges, mark, is_marked}
 use Rattle.bc_flow.specs.Verified.{Assigned, Leads, Each, Fine, Holds, Verified}
 use Rattle.bc_flow.specs.Machine.{Slot, Value, NoneOrException, KeptReturn, KeptJump, Iter1, Iter2, Iter3, Iter4, Null, Method, Stack, St, Run, Ends, Stuck, Choice, is_wanted, all_wanted, cut, go, throw, leave, unwind, resume, act, fetched, within, step, steps, NeverStuck}
 use Rattle.bc_flow.proofs.Sound.{Stands, empty, stands_below, stands-length, stands_drop, stands_wanted, cut_all, cut-length, Fits, KeptOk, Sound, sound_setup, sound_pop}

@@ -2,10 +2,10 @@
 use Rattle.std.proofs.Common.{◌≡◌, ℕ, zero, suc, ◌+◌, ◌*◌, ◌<◌, ◌≤◌, Bool, true, false, List, [], ◌∷◌, length, Option, Some, None, refl, sym, ap, ◌∙◌, subst, arith, if◌then◌else◌}
 use Rattle.std.specs.Prelude.{nat_eq, option_map}
 use Rattle.std.proofs.lemmas.Bool.{eqb-true, eqb-false}
-use Rattle.bc_flow.specs.Shape.{At, Belows, Under, join, opens, same_entries}
+use Rattle.bc_shapes.specs.Shape.{At, Belows, Under, join, opens, same_entries}
+use Rattle.bc_shapes.proofs.Joins.{On, Has, join_on, join_has, same_entries_is, same_entries_from, under_refl, under_trans, opens_below, belows_same}
 use Rattle.bc_flow.specs.Edges.{Edge}
 use Rattle.bc_flow.specs.Verified.{Grows, Assigned, Leads, Each, none, also, Cell, Unseen, Pending, Done, Table, seen, at, meet_at, settle, meet, put}
-use Rattle.bc_flow.proofs.Joins.{On, Has, join_on, join_has, same_entries_is, same_entries_from, under_refl, under_trans, opens_below, belows_same}
 
 pub on_map : {A B : Type 0} → (o : Option A) (f : A → B) (P : A → Type 0) (Q : B → Type 0) → ((x : A) → P x → Q (f x)) → On o P → On (option_map f o) Q
 on_map None f P Q k h = tt

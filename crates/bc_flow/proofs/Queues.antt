@@ -8,10 +8,10 @@ use Rattle.std.specs.Ordering.{nat_cmp, is_lt}
 use Rattle.std.specs.declared.cmp.Reverse.{Reverse}
 use Rattle.std.proofs.lemmas.List.Elements.{All-contains, All-from_recursion}
 use Rattle.std.proofs.lemmas.List.Sorted.{Contains-permutation}
-use Rattle.bc_flow.specs.Shape.{At}
+use Rattle.bc_shapes.specs.Shape.{At}
+use Rattle.bc_shapes.proofs.Joins.{on_at}
 use Rattle.bc_flow.specs.Verified.{Cell, Unseen, Pending, Done, Table, put, done_at, table_at, IsPending, here, later, IsLeast}
 use Rattle.bc_flow.specs.Queue.{by_position, Has, Queued}
-use Rattle.bc_flow.proofs.Joins.{on_at}
 use Rattle.bc_flow.proofs.Tables.{pending_get}
 use Rattle.bc_flow.proofs.Fronts.{Adds, put_adds, done_before}
 

@@ -7,11 +7,12 @@ use Rattle.bc_ops.specs.declared.instr.Instr.{Instr}
 use Rattle.bc_ops.specs.declared.instr.Instr.TheVariants as instrs
 use Rattle.bc_ops.specs.declared.listing.Item.{Item}
 use Rattle.bc_ops.specs.declared.listing.Item.TheVariants as items
-use Rattle.bc_flow.specs.declared.kinds.Kind.TheVariants as kinds
-use Rattle.bc_flow.specs.declared.kinds.Want.{Want}
-use Rattle.bc_flow.specs.declared.kinds.Give.TheVariants.{New}
+use Rattle.bc_shapes.specs.declared.kinds.Kind.TheVariants as kinds
+use Rattle.bc_shapes.specs.declared.kinds.Want.{Want}
+use Rattle.bc_shapes.specs.declared.kinds.Give.TheVariants.{New}
+use Rattle.bc_shapes.specs.Shape.{takes}
 use Rattle.bc_flow.specs.declared.code.Code.{Code as RustCode}
-use Rattle.bc_flow.specs.Action.{Action, takes, op_action, jump_action, instr_action, action}
+use Rattle.bc_flow.specs.Action.{Action, op_action, jump_action, instr_action, action}
 use Rattle.bc_flow.specs.Code.{code_of}
 use Rattle.bc_flow.proofs.Going.{all_fine, gives_fine}
 

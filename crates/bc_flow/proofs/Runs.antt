@@ -2,14 +2,12 @@
 use Rattle.std.proofs.Common.{◌≡◌, ℕ, zero, suc, ◌-◌, ◌≤◌, Bool, true, false, List, [], ◌∷◌, ◌++◌, length, map, drop, Some, refl, sym, ◌∙◌, subst, arith, if◌then◌else◌, length-drop}
 use Rattle.std.specs.Prelude.{min}
 use Rattle.std.proofs.lemmas.Bool.{and_parts, and_from, false≢true}
-use Rattle.bc_flow.specs.declared.kinds.Kind.{Kind}
-use Rattle.bc_flow.specs.declared.kinds.Kind.TheVariants as kinds
-use Rattle.bc_flow.specs.declared.shape.Entry.{Entry}
+use Rattle.bc_shapes.specs.declared.kinds.Kind.{Kind}
+use Rattle.bc_shapes.specs.declared.kinds.Kind.TheVariants as kinds
+use Rattle.bc_shapes.specs.declared.shape.Entry.{Entry}
+use Rattle.bc_shapes.specs.Shape.{At, fits}
 use Rattle.bc_flow.specs.Action.{Action}
-use Rattle.bc_flow.specs.Edges.{How}
-use Rattle.bc_flow.specs.Edges.{Run as InRun}
-use Rattle.bc_flow.specs.Shape.{At, fits}
-use Rattle.bc_flow.specs.Edges.{mark, is_marked, iterator_if, floor, lowest, Way, arrive, way_in, raise_ways, one_run, run_ways, all_marked, pushed, slots_of, edge_of}
+use Rattle.bc_flow.specs.Edges.{How, Run as InRun, mark, is_marked, iterator_if, floor, lowest, Way, arrive, way_in, raise_ways, one_run, run_ways, all_marked, pushed, slots_of, edge_of}
 use Rattle.bc_flow.specs.Verified.{Assigned, Leads, Each, none, also}
 use Rattle.bc_flow.specs.Machine.{Slot, NoneOrException, KeptReturn, KeptJump, Stack, St, Run, Ends, Stuck, all_wanted, cut, go, enter, throw, is_run, leave, unwind}
 use Rattle.bc_flow.proofs.Sound.{Fit, none_c, none_b, ret, jump, Stands, more, stands_below, stands_drop, stands_cut, stands_wanted, cut_cut, cut-length, Fits, Reach, OnTrue, CanReturn, CanUnwind, KeptOk, Sound, marked, fits_mark, sound_mark, return_map, unwind_map, sound_up, sound_pop, sound_enter}

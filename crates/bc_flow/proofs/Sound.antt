@@ -3,14 +3,14 @@ use Rattle.std.proofs.Common.{◌≡◌, ℕ, zero, suc, ◌+◌, ◌-◌, ◌<�
 use Rattle.std.specs.Prelude.{nat_le, nat_lt, nat_eq}
 use Rattle.std.proofs.lemmas.List.{drop-drop}
 use Rattle.std.proofs.lemmas.Bool.{and_parts, and_from, true≢false, false≢true, ltb-true, lt-leb}
-use Rattle.bc_flow.specs.declared.kinds.Kind.{Kind}
-use Rattle.bc_flow.specs.declared.kinds.Kind.TheVariants as kinds
-use Rattle.bc_flow.specs.declared.kinds.Want.{Want}
-use Rattle.bc_flow.specs.declared.kinds.Want.TheVariants as wants
-use Rattle.bc_flow.specs.declared.kinds.Give.{Give}
-use Rattle.bc_flow.specs.declared.kinds.Give.TheVariants.{New, Again}
-use Rattle.bc_flow.specs.declared.shape.Entry.{Entry}
-use Rattle.bc_flow.specs.Shape.{At, Below, same, value, cause, Belows, none, also, stands, fits, give_of, after}
+use Rattle.bc_shapes.specs.declared.kinds.Kind.{Kind}
+use Rattle.bc_shapes.specs.declared.kinds.Kind.TheVariants as kinds
+use Rattle.bc_shapes.specs.declared.kinds.Want.{Want}
+use Rattle.bc_shapes.specs.declared.kinds.Want.TheVariants as wants
+use Rattle.bc_shapes.specs.declared.kinds.Give.{Give}
+use Rattle.bc_shapes.specs.declared.kinds.Give.TheVariants.{New, Again}
+use Rattle.bc_shapes.specs.declared.shape.Entry.{Entry}
+use Rattle.bc_shapes.specs.Shape.{At, Below, same, value, cause, Belows, none, also, stands, fits, give_of, after}
 use Rattle.bc_flow.specs.Edges.{mark, is_marked, iterator_if}
 use Rattle.bc_flow.specs.Verified.{Assigned}
 use Rattle.bc_flow.specs.Machine.{Slot, Value, NoneOrException, KeptReturn, KeptJump, Iter1, Iter2, Iter3, Iter4, Null, Method, Stack, is_wanted, all_wanted, slot_of, give_slot, given, cut, remark, is_run}

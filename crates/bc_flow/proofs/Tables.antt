@@ -3,19 +3,20 @@ use Rattle.std.proofs.Common.{◌≡◌, ℕ, zero, suc, ◌+◌, ◌<◌, ◌�
 use Rattle.std.specs.Prelude.{slice_get, option_map, nat_eq, ◌||◌}
 use Rattle.std.proofs.lemmas.Bool.{and_parts, and_from, eq-eqb, false≢true}
 use Rattle.std.proofs.lemmas.List.{drop_more}
-use Rattle.bc_flow.specs.declared.shape.Entry.{Entry}
+use Rattle.bc_shapes.specs.declared.shape.Entry.{Entry}
+use Rattle.bc_shapes.specs.declared.shape.Shape.{Shape}
+use Rattle.bc_shapes.specs.declared.kinds.Kind.{Kind}
+use Rattle.bc_shapes.specs.Shape.{At, join, opens, same_entries}
+use Rattle.bc_shapes.specs.Joins.{Joins}
+use Rattle.bc_shapes.proofs.Joins.{same_entries_is}
+use Rattle.bc_shapes.specs.Views.{at_of}
+use Rattle.bc_shapes.proofs.Loops.{drop_uncons}
 use Rattle.bc_flow.specs.declared.edges.Edge.{Edge as RustEdge}
-use Rattle.bc_flow.specs.declared.shape.Shape.{Shape}
 use Rattle.bc_flow.specs.declared.walk.State.{State}
 use Rattle.bc_flow.specs.declared.walk.State.TheVariants as Rust
-use Rattle.bc_flow.specs.declared.kinds.Kind.{Kind}
-use Rattle.bc_flow.specs.Shape.{At, join, opens, same_entries}
-use Rattle.bc_flow.specs.Joins.{Joins}
-use Rattle.bc_flow.proofs.Joins.{same_entries_is}
 use Rattle.bc_flow.specs.Edges.{Edge}
 use Rattle.bc_flow.specs.Verified.{Cell, Unseen, Pending, Done, Table, meet_at, settle, meet, put, put_next, agrees_cell, agrees, others, agree, done_at, IsPending, here, later, table_at, begin}
-use Rattle.bc_flow.specs.Views.{cell_of, cell_if, has_if, at_of, edge_of_rust}
-use Rattle.bc_flow.proofs.Loops.{drop_uncons}
+use Rattle.bc_flow.specs.Views.{cell_of, cell_if, has_if, edge_of_rust}
 use Rattle.bc_flow.proofs.Visits.{pending_in}
 
 pub agrees_in : (cells : List State) (n : ℕ) (es : List Entry) (s : State) → n < length cells → s ≡ get_or cells n s → agrees (map cell_of cells) n es ≡ agrees_cell (cell_of s) es

@@ -1,9 +1,9 @@
 -- The first fault is one.
 use Rattle.std.proofs.Common.{◌≡◌, ℕ, zero, suc, ◌<◌, [], length, refl, sym, ap, ◌∙◌, subst, arith, inl, inr}
 use Rattle.std.proofs.lemmas.Bool.{cases_order}
+use Rattle.bc_shapes.specs.Shape.{At}
 use Rattle.bc_flow.specs.Code.{Code}
 use Rattle.bc_flow.specs.declared.code.Rule.{Rule}
-use Rattle.bc_flow.specs.Shape.{At}
 use Rattle.bc_flow.specs.Verified.{Table, Unseen, Bad, Good, visit, IsLeast, Comes, FirstFault, table_at, at}
 use Rattle.bc_flow.proofs.Puts.{some_is}
 use Rattle.bc_flow.proofs.Visits.{Visited, visit_on, pending_is, pending_in, done-long}

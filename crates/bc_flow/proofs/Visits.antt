@@ -2,16 +2,14 @@
 use Rattle.std.proofs.Common.{◌≡◌, ℕ, zero, suc, ◌+◌, ◌-◌, ◌<◌, ◌≤◌, Bool, true, false, not, ◌&&◌, List, [], ◌∷◌, length, map, drop, Option, Some, None, refl, sym, ap, ◌∙◌, subst, arith}
 use Rattle.std.specs.Prelude.{nat_eq, ◌||◌, slice_get}
 use Rattle.std.proofs.lemmas.Bool.{and_parts, and_from, eqb-true, false≢true, or_right, leb-true}
-use Rattle.bc_flow.specs.declared.kinds.Kind.{Kind}
+use Rattle.bc_shapes.specs.declared.kinds.Kind.{Kind}
+use Rattle.bc_shapes.specs.Shape.{At, opens, same_entries}
+use Rattle.bc_shapes.proofs.Joins.{On, Has, on_at, same_entries_from, opens_most}
 use Rattle.bc_flow.specs.Action.{Action}
-use Rattle.bc_flow.specs.Edges.{How}
-use Rattle.bc_flow.specs.Edges.{Next, There, Run}
+use Rattle.bc_flow.specs.Edges.{How, Next, There, Run, Way, ways, holds, finds, slots_of, room, stays, Edge, edge_of, edges}
 use Rattle.bc_flow.specs.Code.{Code}
 use Rattle.bc_flow.specs.declared.code.Rule.{Rule}
-use Rattle.bc_flow.specs.Shape.{At, opens, same_entries}
-use Rattle.bc_flow.specs.Edges.{Way, ways, holds, finds, slots_of, room, stays, Edge, edge_of, edges}
 use Rattle.bc_flow.specs.Verified.{Grows, Assigned, Leads, Each, none, also, Fine, Unseen, Pending, Done, Table, at, put, put_next, agrees, others, agree, done_at, Visit, Bad, Good, after_holds, visit_action, visit, IsPending, here, later}
-use Rattle.bc_flow.proofs.Joins.{On, Has, on_at, same_entries_from, opens_most}
 use Rattle.bc_flow.proofs.Puts.{grows_refl, grows_on, leads_on, IsDone, at_here, at_later, weigh, Puts, put_on, put_has, some_is}
 
 -- each edge has at most so many slots

@@ -3,6 +3,7 @@ use Rattle.std.proofs.Common.{◌≡◌, ℕ, zero, suc, ◌<◌, Bool, ◌&&◌
 use Rattle.std.specs.Prelude.{slice_get, Result, Ok, Err, IfOk, OnOk}
 use Rattle.std.proofs.lemmas.List.{length-map}
 use Rattle.bc_ops.specs.declared.listing.Item.{Item}
+use Rattle.bc_shapes.specs.Shape.{At}
 use Rattle.bc_flow.specs.Action.{Action, action}
 use Rattle.bc_flow.specs.Code.{Code, code_of}
 use Rattle.bc_flow.specs.declared.code.Code.{Code as RustCode}
@@ -10,7 +11,6 @@ use Rattle.bc_flow.specs.declared.code.Rule.{Rule}
 use Rattle.bc_flow.specs.declared.code.Rule.TheVariants.{Falls}
 use Rattle.bc_flow.specs.declared.walk.Judged.{Judged}
 use Rattle.bc_flow.specs.declared.walk.State.{State}
-use Rattle.bc_flow.specs.Shape.{At}
 use Rattle.bc_flow.specs.Edges.{Edge, edges, holds, finds, room, stays}
 use Rattle.bc_flow.specs.Verified.{Table, Verified, Visit, Bad, Good, visit, visit_action, after_holds, agree, put_next, done_at, IsPending, IsLeast, Comes, FirstFault, table_at}
 use Rattle.bc_flow.specs.Judged.{Judges}

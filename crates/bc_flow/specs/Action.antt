@@ -1,5 +1,5 @@
 -- The table of the instructions: what each does with slots, handler entries and the flow. Slots are listed from the top.
-use Rattle.std.specs.Prelude.{ℕ, ◌+◌, ◌*◌, ◌/◌, ◌%◌, Bool, true, false, List, [], ◌∷◌, ◌++◌, replicate, nat_le}
+use Rattle.std.specs.Prelude.{ℕ, ◌+◌, ◌*◌, ◌/◌, ◌%◌, Bool, true, false, List, [], ◌∷◌, nat_le}
 use Rattle.bc_ops.specs.declared.instr.Op.{Op}
 use Rattle.bc_ops.specs.declared.instr.Op.TheVariants as ops
 use Rattle.bc_ops.specs.declared.instr.Instr.{Instr}
@@ -8,11 +8,12 @@ use Rattle.bc_ops.specs.declared.listing.Target.{Target}
 use Rattle.bc_ops.specs.declared.listing.Target.TheVariants.{Position, Offset}
 use Rattle.bc_ops.specs.declared.listing.Item.{Item}
 use Rattle.bc_ops.specs.declared.listing.Item.TheVariants as items
-use Rattle.bc_flow.specs.declared.kinds.Kind.TheVariants as kinds
-use Rattle.bc_flow.specs.declared.kinds.Want.{Want}
-use Rattle.bc_flow.specs.declared.kinds.Want.TheVariants as wants
-use Rattle.bc_flow.specs.declared.kinds.Give.{Give}
-use Rattle.bc_flow.specs.declared.kinds.Give.TheVariants.{New, Again}
+use Rattle.bc_shapes.specs.declared.kinds.Kind.TheVariants as kinds
+use Rattle.bc_shapes.specs.declared.kinds.Want.{Want}
+use Rattle.bc_shapes.specs.declared.kinds.Want.TheVariants as wants
+use Rattle.bc_shapes.specs.declared.kinds.Give.{Give}
+use Rattle.bc_shapes.specs.declared.kinds.Give.TheVariants.{New, Again}
+use Rattle.bc_shapes.specs.Shape.{takes, gives}
 
 pub data Action : Type 0 where
   -- takes and gives slots, and goes on
@@ -30,13 +31,6 @@ pub data Action : Type 0 where
   Return : Action
   -- takes so many values, and raises
   Raise : ℕ → Action
-
--- so many values on top of others
-abbrev pub takes : ℕ → List Want → List Want
-takes n others = replicate n wants.Value ++ others
-
-abbrev pub gives : ℕ → List Give → List Give
-gives n others = replicate n (New kinds.Value) ++ others
 
 abbrev pub straight : ℕ → List Want → ℕ → List Give → Action
 straight n wants m given = Straight (takes n wants) (gives m given)

@@ -1,16 +1,16 @@
 -- What one instruction asks of the slots and entries before it, and where it leads.
 use Rattle.std.specs.Prelude.{ℕ, zero, suc, ◌+◌, ◌-◌, min, Bool, true, false, not, ◌&&◌, ◌||◌, List, [], ◌∷◌, ◌++◌, length, map, drop, Option, Some, None, nat_eq, nat_le, nat_lt, if◌then◌else◌}
-use Rattle.bc_flow.specs.declared.kinds.Kind.{Kind}
-use Rattle.bc_flow.specs.declared.kinds.Kind.TheVariants as kinds
-use Rattle.bc_flow.specs.declared.kinds.Want.{Want}
-use Rattle.bc_flow.specs.declared.kinds.Want.TheVariants as wants
-use Rattle.bc_flow.specs.declared.kinds.Give.{Give}
-use Rattle.bc_flow.specs.declared.shape.Entry.{Entry}
+use Rattle.bc_shapes.specs.declared.kinds.Kind.{Kind}
+use Rattle.bc_shapes.specs.declared.kinds.Kind.TheVariants as kinds
+use Rattle.bc_shapes.specs.declared.kinds.Want.{Want}
+use Rattle.bc_shapes.specs.declared.kinds.Want.TheVariants as wants
+use Rattle.bc_shapes.specs.declared.kinds.Give.{Give}
+use Rattle.bc_shapes.specs.declared.shape.Entry.{Entry}
+use Rattle.bc_shapes.specs.Shape.{At, fits, after, takes as values_on}
 use Rattle.bc_flow.specs.declared.edges.Change.{Change}
 use Rattle.bc_flow.specs.declared.edges.Change.TheVariants.{Keep, Push, DropExcept, DropActive, Leave}
-use Rattle.bc_flow.specs.Action.{Action, Straight, Branch, Jump, Setup, PopExcept, EndFinally, Unwind, Return, Raise, iterator, takes as values_on}
+use Rattle.bc_flow.specs.Action.{Action, Straight, Branch, Jump, Setup, PopExcept, EndFinally, Unwind, Return, Raise, iterator}
 use Rattle.bc_flow.specs.Code.{Code}
-use Rattle.bc_flow.specs.Shape.{At, fits, after}
 
 -- the slots of an iterator, or none
 abbrev pub iterator_if : Bool → List Want

@@ -1,9 +1,9 @@
 -- What is found out of one position.
 use Rattle.std.specs.Prelude.{◌≡◌, ℕ, length, map, slice_get, Some}
+use Rattle.bc_shapes.specs.Shape.{At}
 use Rattle.bc_flow.specs.declared.walk.Judged.{Judged}
 use Rattle.bc_flow.specs.Action.{Action}
 use Rattle.bc_flow.specs.Code.{Code}
-use Rattle.bc_flow.specs.Shape.{At}
 use Rattle.bc_flow.specs.Edges.{edges, holds, finds, room, stays}
 use Rattle.bc_flow.specs.Verified.{Table, agree, at}
 use Rattle.bc_flow.specs.Spans.{EachOutside}

@@ -1,13 +1,10 @@
 pub mod Action
 pub mod Code
 pub mod Edges
-pub mod Joins
 pub mod Judged
 pub mod Machine
-pub mod Partly
 pub mod Queue
 pub mod Rules
-pub mod Shape
 pub mod Spans
 pub mod Verified
 pub mod Views

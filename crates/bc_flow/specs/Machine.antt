@@ -1,14 +1,13 @@
 -- A machine over slots, where a choice says whether an instruction raises and which way it goes.
 use Rattle.std.specs.Prelude.{◌≡◌, ℕ, zero, suc, ◌+◌, ◌-◌, Bool, true, false, not, ◌&&◌, List, [], ◌∷◌, ◌++◌, length, map, get_or, drop, Option, Some, None, nat_le, slice_get, if◌then◌else◌}
-use Rattle.bc_flow.specs.declared.kinds.Kind.{Kind}
-use Rattle.bc_flow.specs.declared.kinds.Kind.TheVariants as kinds
-use Rattle.bc_flow.specs.declared.kinds.Want.{Want}
-use Rattle.bc_flow.specs.declared.kinds.Want.TheVariants as wants
-use Rattle.bc_flow.specs.declared.kinds.Give.{Give}
-use Rattle.bc_flow.specs.declared.kinds.Give.TheVariants.{New, Again}
-use Rattle.bc_flow.specs.declared.shape.Entry.{Entry}
-use Rattle.bc_flow.specs.Action.{Action}
-use Rattle.bc_flow.specs.Action.{Setup, PopExcept, EndFinally, Unwind, Return}
+use Rattle.bc_shapes.specs.declared.kinds.Kind.{Kind}
+use Rattle.bc_shapes.specs.declared.kinds.Kind.TheVariants as kinds
+use Rattle.bc_shapes.specs.declared.kinds.Want.{Want}
+use Rattle.bc_shapes.specs.declared.kinds.Want.TheVariants as wants
+use Rattle.bc_shapes.specs.declared.kinds.Give.{Give}
+use Rattle.bc_shapes.specs.declared.kinds.Give.TheVariants.{New, Again}
+use Rattle.bc_shapes.specs.declared.shape.Entry.{Entry}
+use Rattle.bc_flow.specs.Action.{Action, Setup, PopExcept, EndFinally, Unwind, Return}
 use Rattle.bc_flow.specs.Code.{Code}
 use Rattle.bc_flow.specs.Edges.{takes, gives, gives_there, falls, target, iterator_if}
 

@@ -5,7 +5,7 @@ use Rattle.std.specs.List.{Contains}
 use Rattle.std.specs.Ordering.{nat_cmp}
 use Rattle.std.specs.declared.cmp.Ordering.{Ordering}
 use Rattle.std.specs.declared.cmp.Reverse.{Reverse}
-use Rattle.bc_flow.specs.Shape.{At}
+use Rattle.bc_shapes.specs.Shape.{At}
 use Rattle.bc_flow.specs.Verified.{Table, IsPending}
 
 abbrev pub by_position : Reverse ℕ → Reverse ℕ → Ordering

@@ -1,34 +1,12 @@
--- Slots by their numbers from the bottom: those that changed since a visit, and what is the same but for them.
-use Rattle.std.specs.Prelude.{◌≡◌, ◌⊎◌, ℕ, suc, ◌-◌, ◌<◌, ◌≤◌, Bool, true, ◌&&◌, List, [], ◌∷◌, length, Option, Some, None, slice_get, slice_index_or, nat_lt, nat_eq, if◌then◌else◌}
-use Rattle.bc_flow.specs.declared.kinds.Kind.{Kind}
-use Rattle.bc_flow.specs.declared.kinds.Kind.TheVariants.{Either}
-use Rattle.bc_flow.specs.declared.kinds.Give.{Give}
-use Rattle.bc_flow.specs.declared.kinds.Give.TheVariants.{New, Again}
-use Rattle.bc_flow.specs.declared.kinds.Want.{Want}
-use Rattle.bc_flow.specs.declared.shape.Span.{Span}
+-- The slots of positions that changed since a visit, and what still holds there.
+use Rattle.std.specs.Prelude.{◌≡◌, ℕ, ◌-◌, true, List, [], ◌∷◌, length, Option, Some, None, slice_get, nat_eq, if◌then◌else◌}
+use Rattle.bc_shapes.specs.declared.span.Span.{Span}
+use Rattle.bc_shapes.specs.Shape.{At}
+use Rattle.bc_shapes.specs.Spans.{SameOutside, BelowOutside, FitsBut, keeps_all}
 use Rattle.bc_flow.specs.Action.{Action}
 use Rattle.bc_flow.specs.Code.{Code}
-use Rattle.bc_flow.specs.Shape.{At, Below, fits}
 use Rattle.bc_flow.specs.Edges.{Edge, base, takes, gives, gives_there, edges, holds, room, stays}
 use Rattle.bc_flow.specs.Verified.{Assigned, Table, Fine, at, agree}
-
--- the slot of that number is one of these
-abbrev pub In : Span → ℕ → Type 0
-In s n = (s.from ≤ n) × (n < s.to)
-
--- the same where all slots may be meant
-abbrev pub Among : Option Span → ℕ → Type 0
-Among None n = Unit {0}
-Among (Some s) n = In s n
-
--- the slots are the same but for these
-pub record SameOutside (s : Span) (ks ls : List Kind) : Type 0 where
-  pub long : length ls ≡ length ks
-  pub each : (k : ℕ) → k < length ks → (slice_index_or ls k Either ≡ slice_index_or ks k Either) ⊎ In s (length ks - suc k)
-
--- the slots lie below those that are there, but for these
-abbrev pub BelowOutside : Option Span → List Kind → List Kind → Type 0
-BelowOutside o ls ms = (k : ℕ) → k < length ms → Below (slice_index_or ls k Either) (slice_index_or ms k Either) ⊎ Among o (length ms - suc k)
 
 -- something is there, and it is the same but for these slots
 pub record Differs (s : Span) (x : At) (o : Option At) : Type 0 where
@@ -76,23 +54,10 @@ pub record Remembers (code : Code) (old : Assigned) (t : Table) (changes : List 
 abbrev pub updated : Assigned → ℕ → At → Assigned
 updated a p x q = if nat_eq q p then Some x else a q
 
--- a slot that is given is a new one, or one of so many from the top
-abbrev pub keeps : ℕ → Give → Bool
-keeps n (New k) = true
-keeps n (Again m) = nat_lt m n
-
-abbrev pub keeps_all : ℕ → List Give → Bool
-keeps_all n [] = true
-keeps_all n (g ∷ gs) = keeps n g && keeps_all n gs
-
 -- all that it gives again lies above these slots, where it works on so many
 pub record IsClear (i : Action) (n : ℕ) (s : Span) : Type 0 where
   pub next_above : keeps_all (n - s.to) (gives i) ≡ true
   pub there_above : keeps_all (n - s.to) (gives_there i) ≡ true
-
--- slots that are the same but for these serve what is asked
-abbrev pub FitsBut : Span → List Want → List Kind → Type 0
-FitsBut s ws ks = (js : List Kind) × SameOutside s js ks × (fits ws js ≡ true)
 
 -- the rules of a position hold but for these of the slots that it takes, and its edges have arrived but for these slots
 pub record StillHolds (code : Code) (t : Table) (p : ℕ) (x : At) (i : Action) (s : Span) : Type 0 where

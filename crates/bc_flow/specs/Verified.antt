@@ -1,12 +1,12 @@
 -- Verified code: an assignment exists that meets the rules. And the first fault, by the walk that works through the pending
 -- positions.
 use Rattle.std.specs.Prelude.{◌≡◌, ℕ, zero, suc, ◌≤◌, Bool, true, false, not, ◌&&◌, ◌||◌, List, [], ◌∷◌, length, replicate, Option, Some, None, nat_eq, slice_get, option_map, if◌then◌else◌}
+use Rattle.bc_shapes.specs.declared.shape.Entry.{Entry}
+use Rattle.bc_shapes.specs.Shape.{At, Under, join, opens, same_entries}
 use Rattle.bc_flow.specs.Action.{Action}
-use Rattle.bc_flow.specs.declared.shape.Entry.{Entry}
 use Rattle.bc_flow.specs.Code.{Code}
 use Rattle.bc_flow.specs.declared.code.Rule.{Rule}
 use Rattle.bc_flow.specs.declared.code.Rule.TheVariants.{Handlers, Height, State, Falls}
-use Rattle.bc_flow.specs.Shape.{At, Under, join, opens, same_entries}
 use Rattle.bc_flow.specs.Edges.{Edge, edges, holds, finds, room, stays}
 
 -- an assignment: what holds of each reachable position

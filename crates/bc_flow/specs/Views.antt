@@ -1,30 +1,18 @@
 -- What the code's values are as the definitions'.
 use Rattle.std.specs.Prelude.{◌≡◌, Bool, true, false, List, [], ◌∷◌, ◌++◌, map, Option, Some, None, Result, Ok, Err}
-use Rattle.bc_flow.specs.declared.kinds.Kind.{Kind}
-use Rattle.bc_flow.specs.declared.kinds.Want.{Want}
-use Rattle.bc_flow.specs.declared.kinds.Give.{Give}
-use Rattle.bc_flow.specs.declared.action.Takes.{Takes}
-use Rattle.bc_flow.specs.declared.action.Gives.{Gives}
+use Rattle.bc_shapes.specs.declared.shape.Entry.{Entry}
+use Rattle.bc_shapes.specs.Shape.{At}
+use Rattle.bc_shapes.specs.Views.{takes_of, gives_of, at_of, slots_of_rust}
 use Rattle.bc_flow.specs.declared.action.Action.{Action as RustAction}
 use Rattle.bc_flow.specs.declared.action.Action.TheVariants as rust
 use Rattle.bc_flow.specs.declared.code.Rule.{Rule}
-use Rattle.bc_flow.specs.declared.shape.Entry.{Entry}
-use Rattle.bc_flow.specs.declared.shape.Shape.{Shape}
-use Rattle.bc_flow.specs.declared.shape.Slots.{Slots}
 use Rattle.bc_flow.specs.declared.edges.Behind.{Behind}
 use Rattle.bc_flow.specs.declared.edges.Edge.{Edge as RustEdge}
 use Rattle.bc_flow.specs.declared.walk.State.{State}
 use Rattle.bc_flow.specs.declared.walk.State.TheVariants as states
-use Rattle.bc_flow.specs.Action.{Action, Straight, Branch, Jump, Setup, PopExcept, EndFinally, Unwind, Return, Raise, takes, gives}
-use Rattle.bc_flow.specs.Shape.{At, after}
+use Rattle.bc_flow.specs.Action.{Action, Straight, Branch, Jump, Setup, PopExcept, EndFinally, Unwind, Return, Raise}
 use Rattle.bc_flow.specs.Edges.{Way, Edge, edge_of, edge_to}
 use Rattle.bc_flow.specs.Verified.{Cell, Unseen, Pending, Done, Table, Visit, Bad, Good}
-
-abbrev pub takes_of : Takes → List Want
-takes_of t = takes t.values t.others.now
-
-abbrev pub gives_of : Gives → List Give
-gives_of g = gives g.values g.others.now
 
 abbrev pub action_of : RustAction → Action
 action_of (rust.Straight t g) = Straight (takes_of t) (gives_of g)
@@ -37,18 +25,12 @@ action_of (rust.Unwind to count iterator) = Unwind to count iterator
 action_of rust.Return = Return
 action_of (rust.Raise count) = Raise count
 
-abbrev pub at_of : Shape → At
-at_of s = record { slots = s.slots.items; entries = s.entries.items }
-
 abbrev pub option_list : {A : Type 0} → Option A → List A
 option_list None = []
 option_list (Some x) = x ∷ []
 
 abbrev pub behind_of : Behind → List Entry
 behind_of b = option_list b.new ++ b.rest.now
-
-abbrev pub slots_of_rust : Slots → List Kind
-slots_of_rust s = after (gives_of s.gives) s.taken s.found.now
 
 abbrev pub edge_of_rust : RustEdge → Edge
 edge_of_rust e = edge_to e.to (slots_of_rust e.slots) (behind_of e.entries)

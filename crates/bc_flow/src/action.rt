@@ -1,47 +1,11 @@
 //! The table of the instructions: what each does with slots, handler entries and the flow.
 
-ghost use Rattle.std.specs.Prelude.{◌≡◌, ℕ, ◌+◌, ◌*◌, ◌/◌, ◌%◌, ◌^◌, ◌<◌, length};
+ghost use Rattle.std.specs.Prelude.{◌≡◌, ℕ, ◌+◌, ◌*◌, ◌/◌, ◌%◌, ◌^◌, ◌<◌};
 ghost use Rattle.bc_flow.specs.Action as specs;
 ghost use Rattle.bc_flow.specs.Views.{action_of};
 
-use crate::kinds::{Give, Kind, Want};
 use bc_ops::{Instr, Item, Op, Target};
-
-/// The slots that are taken from the top: so many values, and these below them.
-#[derive(Clone, Copy)]
-pub(crate) struct Takes {
-    pub values: u32,
-    pub others: &'static [Want],
-}
-
-/// The slots that are given, from the top: so many new values, and these below them.
-#[derive(Clone, Copy)]
-pub(crate) struct Gives {
-    pub values: u32,
-    pub others: &'static [Give],
-}
-
-impl Takes {
-    ghost use Rattle.std.specs.Prelude.{◌≡◌, length};
-    ghost use Rattle.bc_flow.specs.Views.{takes_of};
-
-    pub(crate) fn len(self) -> usize
-        ensures { result ≡ length (takes_of self) }
-    {
-        self.values as usize + self.others.len()
-    }
-}
-
-impl Gives {
-    ghost use Rattle.std.specs.Prelude.{◌≡◌, length};
-    ghost use Rattle.bc_flow.specs.Views.{gives_of};
-
-    pub(crate) fn len(self) -> usize
-        ensures { result ≡ length (gives_of self) }
-    {
-        self.values as usize + self.others.len()
-    }
-}
+use bc_shapes::{Give, Gives, Kind, Takes, Want};
 
 /// What an instruction does. Where it jumps is a position.
 #[derive(Clone, Copy)]

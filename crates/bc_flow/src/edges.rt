@@ -1,17 +1,17 @@
 //! Where the flow goes from an instruction, and the handler entries and slots that arrive there.
 
 ghost use Rattle.std.specs.Prelude.{◌≡◌, ◌+◌, ◌-◌, ◌^◌, ◌<◌, ◌≤◌, ◌++◌, ◌∷◌, [], IfOk, OnOk, ℕ, List, drop, length, map, min, Some, true, if◌then◌else◌};
+ghost use Rattle.bc_shapes.specs.Shape.{At};
+ghost use Rattle.bc_shapes.specs.declared.kinds.Give.TheVariants.{New};
+ghost use Rattle.bc_shapes.specs.Views.{at_of, takes_of, gives_of, slots_of_rust};
 ghost use Rattle.bc_flow.specs.Action.{Action as Does};
 ghost use Rattle.bc_flow.specs.Edges as specs;
 ghost use Rattle.bc_flow.specs.Code.{code_of};
-ghost use Rattle.bc_flow.specs.Shape.{At};
-ghost use Rattle.bc_flow.specs.declared.kinds.Give.TheVariants.{New};
-ghost use Rattle.bc_flow.specs.Views.{action_of, at_of, edge_of_rust, takes_of, gives_of, slots_of_rust, behind_of, AddsEdges};
+ghost use Rattle.bc_flow.specs.Views.{action_of, edge_of_rust, behind_of, AddsEdges};
 
-use crate::action::{Action, Gives, Takes};
+use crate::action::Action;
 use crate::code::Code;
-use crate::kinds::{Give, Kind, Want};
-use crate::shape::{Entry, Shape, Slots, below};
+use bc_shapes::{Entry, Give, Gives, Kind, Shape, Slots, Takes, Want, below};
 use mpy_base::NoMemory;
 use std::alloc::Global;
 
@@ -50,7 +50,7 @@ impl<'a> Behind<'a> {
     }
 
     /// The entry below so many others.
-    #[tactic(auto, using(crate::proofs::Loops::at_cons, crate::proofs::Loops::at_rest))]
+    #[tactic(auto, using(crate::proofs::Loops::at_cons, bc_shapes::proofs::Loops::at_rest))]
     pub(crate) fn at(self, i: usize) -> Entry
         requires { i < length (behind_of self) }
         ensures { (d : Entry) → result ≡ slice_index_or (behind_of self.entry) i d }
@@ -73,7 +73,8 @@ pub(crate) struct Edge<'a> {
 
 impl<'a> Edge<'a> {
     ghost use Rattle.std.specs.Prelude.{◌≡◌, ◌<◌, IfOk, length, slice_index_or};
-    ghost use Rattle.bc_flow.specs.Views.{at_of, edge_of_rust, behind_of};
+    ghost use Rattle.bc_shapes.specs.Views.{at_of};
+    ghost use Rattle.bc_flow.specs.Views.{edge_of_rust, behind_of};
     ghost use Rattle.bc_flow.specs.Edges as specs;
 
     /// The entry below so many others, as it arrives.

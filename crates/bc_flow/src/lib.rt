@@ -4,14 +4,11 @@
 mod action;
 mod code;
 mod edges;
-mod kinds;
 mod rules;
-mod shape;
 mod walk;
 
+pub use bc_shapes::{Entry, Kind, Shape};
 pub use code::{Code, Fault, Rule, fault_of};
-pub use kinds::Kind;
-pub use shape::{Entry, Shape};
 pub use walk::{State, flow, one_fault, order, progress};
 
 #[cfg(test)]

@@ -1,16 +1,16 @@
 //! The rules on one position.
 
 ghost use Rattle.std.specs.Prelude.{◌≡◌, ◌+◌, ◌-◌, ◌<◌, ◌≤◌, ℕ, drop, length, map, min, nat_le, nat_lt, if◌then◌else◌};
+ghost use Rattle.bc_shapes.specs.Spans.{FitsBut};
+ghost use Rattle.bc_shapes.specs.Views.{at_of};
 ghost use Rattle.bc_flow.specs.Edges as specs;
 ghost use Rattle.bc_flow.specs.Code.{code_of, locals};
-ghost use Rattle.bc_flow.specs.Spans.{FitsBut};
-ghost use Rattle.bc_flow.specs.Views.{action_of, at_of, edge_of_rust};
+ghost use Rattle.bc_flow.specs.Views.{action_of, edge_of_rust};
 
 use crate::action::Action;
 use crate::code::Code;
 use crate::edges::{Change, Edge, change_of, entries_behind, falls, gives, gives_there, takes};
-use crate::kinds::Kind;
-use crate::shape::{Entry, Shape, Span, fits, fits_again};
+use bc_shapes::{Entry, Kind, Shape, Span, fits, fits_again};
 
 /// Does it find the entries that it asks for?
 fn asks(change: Change, entries: &[Entry]) -> bool

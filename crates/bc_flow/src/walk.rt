@@ -3,7 +3,10 @@
 ghost use Rattle.std.specs.Prelude.{◌≡◌, ◌+◌, ◌<◌, ◌≤◌, ◌↔◌, ◌&&◌, not, Bool, List, is_some, IfOk, OnOk, IfErr, IfSome, IfNone, ℕ, drop, length, map, option_map, slice_get, Some, None, [], true, MatchOption};
 ghost use Rattle.std.specs.BinaryHeap.{heap_items};
 ghost use Rattle.std.specs.Bool.{OnTrue, OnFalse};
-ghost use Rattle.bc_flow.specs.Shape.{At, same_entries};
+ghost use Rattle.bc_shapes.specs.Shape.{At, same_entries};
+ghost use Rattle.bc_shapes.specs.Spans.{In, FitsBut};
+ghost use Rattle.bc_shapes.specs.declared.span.Span.{Span as SpecSpan};
+ghost use Rattle.bc_shapes.specs.Views.{at_of};
 ghost use Rattle.bc_flow.specs.Edges as edges_specs;
 ghost use Rattle.bc_flow.specs.Code.{Code as SpecCode, code_of};
 ghost use Rattle.bc_flow.specs.declared.code.Code.{Code as RustCode};
@@ -12,17 +15,14 @@ ghost use Rattle.bc_flow.specs.Verified as specs;
 ghost use Rattle.bc_flow.specs.Verified.{Verified, Holds, FirstFault, IsLeast, IsLeastOf, IsPending, Decides, Assigned, Table, at, done_at, seen};
 ghost use Rattle.bc_flow.specs.Judged.{Judges};
 ghost use Rattle.bc_flow.specs.Queue.{Queued};
-ghost use Rattle.bc_flow.specs.Spans as spans;
-ghost use Rattle.bc_flow.specs.Spans.{EachOutside, FitsBut, Keeps, Outside, Remembers, Since, StillHolds, updated};
-ghost use Rattle.bc_flow.specs.declared.shape.Span.{Span as SpecSpan};
-ghost use Rattle.bc_flow.specs.Views.{action_of, at_of, edge_of_rust, cell_of, cell_if, table_of, visit_of, has_if};
+ghost use Rattle.bc_flow.specs.Spans.{EachOutside, IsClear, Keeps, Outside, Remembers, Since, StillHolds, updated};
+ghost use Rattle.bc_flow.specs.Views.{action_of, edge_of_rust, cell_of, cell_if, table_of, visit_of, has_if};
 
 use crate::action::{Action, action_at};
 use crate::code::{Code, Fault, Rule, locals};
 use crate::edges::{Edge, edges, gives, gives_there};
-use crate::kinds::Kind;
 use crate::rules::{base, finds, finds_again, holds, room, stays};
-use crate::shape::{Entry, Shape, Span, join, keeps_all, same_entry, union};
+use bc_shapes::{Entry, Kind, Shape, Span, join, keeps_all, same_entry, union};
 use mpy_base::NoMemory;
 use std::alloc::Global;
 use std::cmp::Reverse;
@@ -96,7 +96,7 @@ fn agrees(states: &[State], edge: Edge) -> bool
 }
 
 /// Does none of the edges bring other entries to the same position?
-#[tactic(auto, using(crate::proofs::Tables::others_step, crate::proofs::Loops::and_first))]
+#[tactic(auto, using(crate::proofs::Tables::others_step, bc_shapes::proofs::Loops::and_first))]
 fn others(edge: Edge, edges: &[Edge]) -> bool
     ensures { result ≡ specs.others (edge_of_rust edge.entry) (map edge_of_rust edges.now) }
 {
@@ -110,7 +110,7 @@ fn others(edge: Edge, edges: &[Edge]) -> bool
 }
 
 /// Do all lists of entries that meet agree?
-#[tactic(auto, using(crate::proofs::Tables::agree_step, crate::proofs::Loops::and_first))]
+#[tactic(auto, using(crate::proofs::Tables::agree_step, bc_shapes::proofs::Loops::and_first))]
 fn agree(states: &[State], edges: &[Edge]) -> bool
     ensures { result ≡ specs.agree (table_of states.now) (map edge_of_rust edges.now) }
 {
@@ -200,7 +200,7 @@ fn changed_at(changes: &[Option<Span>], p: usize) -> Option<Span>
 fn widen(changes: &mut Vec<Option<Span>>, p: usize, span: Span)
     ensures here { (s : SpecSpan) → slice_get changes.new.items p ≡ Some (Some s) → (r : SpecSpan)
         × (slice_get changes.old.items p ≡ Some (Some r))
-        × ((n : ℕ) → spans.In r n → spans.In s n) × ((n : ℕ) → spans.In span n → spans.In s n) }
+        × ((n : ℕ) → In r n → In s n) × ((n : ℕ) → In span n → In s n) }
     ensures others { (q : ℕ) → (q ≡ p → ⊥) → slice_get changes.new.items q ≡ slice_get changes.old.items q }
 {
     if let Some(before) = changed_at(changes, p) {
@@ -297,7 +297,7 @@ struct Judged<'a> {
 
 /// Does all that it gives again lie above the slots?
 fn is_clear(action: &Action, base: &[Kind], span: Span) -> bool
-    ensures { OnTrue result (spans.IsClear (action_of action.now) (length base.now) span) }
+    ensures { OnTrue result (IsClear (action_of action.now) (length base.now) span) }
 {
     let above = base.len().saturating_sub(span.to);
     keeps_all(gives(action), above) && keeps_all(gives_there(action), above)
@@ -306,7 +306,7 @@ fn is_clear(action: &Action, base: &[Kind], span: Span) -> bool
 /// The slots of a position that changed since it was visited, if its instruction keeps clear of them.
 fn clear_at(changes: &[Option<Span>], p: usize, action: &Action, base: &[Kind]) -> Option<Span>
     ensures { IfSome result (λ s. (slice_get changes.now p ≡ Some (Some s))
-        × spans.IsClear (action_of action.now) (length base.now) s) }
+        × IsClear (action_of action.now) (length base.now) s) }
 {
     let span = changed_at(changes, p)?;
     if is_clear(action, base, span) {

@@ -1,7 +1,8 @@
 use Rattle.std.proofs.Common.{ap, refl, ◌∙◌, ◌++◌, length, map}
+use Rattle.bc_shapes.specs.Shape.{after}
+use Rattle.bc_shapes.specs.Views.{gives_of}
 use Rattle.bc_flow.specs.Edges.{There, edge_of, jump_way}
-use Rattle.bc_flow.specs.Shape.{after}
-use Rattle.bc_flow.specs.Views.{action_of, gives_of, behind_of, edge_of_rust}
+use Rattle.bc_flow.specs.Views.{action_of, behind_of, edge_of_rust}
 use Rattle.bc_flow.proofs.Judging.{there_slots, edge_is, pushed_edge}
 use Rattle.bc_flow.proofs.edges.push_jump.Goals as goal
 

@@ -1,7 +1,8 @@
 use Rattle.std.proofs.Common.{◌+◌, suc, ap, refl, ◌∙◌, arith, length}
+use Rattle.bc_shapes.specs.Shape.{after}
+use Rattle.bc_shapes.specs.Views.{gives_of}
 use Rattle.bc_flow.specs.Edges.{Next}
-use Rattle.bc_flow.specs.Shape.{after}
-use Rattle.bc_flow.specs.Views.{action_of, gives_of, behind_of}
+use Rattle.bc_flow.specs.Views.{action_of, behind_of}
 use Rattle.bc_flow.proofs.Judging.{next_slots, edge_is, pushed_edge}
 use Rattle.bc_flow.proofs.edges.push_next.Goals as goal
 

@@ -1,6 +1,7 @@
 use Rattle.std.proofs.Common.{◌∙◌, ◌++◌, ap, sym, arith, append-nil, map}
+use Rattle.bc_shapes.specs.Views.{at_of}
 use Rattle.bc_flow.specs.Edges.{edge_of}
-use Rattle.bc_flow.specs.Views.{at_of, edge_of_rust}
+use Rattle.bc_flow.specs.Views.{edge_of_rust}
 use Rattle.bc_flow.proofs.Loops.{run_edges_more, runs_end}
 use Rattle.bc_flow.proofs.edges.push_runs.Goals as goal
 

@@ -1,7 +1,8 @@
 use Rattle.std.proofs.Common.{◌≡◌, ◌-◌, ◌≤◌, ◌++◌, map, drop}
+use Rattle.bc_shapes.specs.Views.{at_of}
 use Rattle.bc_flow.specs.Action.{Action}
 use Rattle.bc_flow.specs.Edges.{run_ways, edge_of}
-use Rattle.bc_flow.specs.Views.{edge_of_rust, at_of}
+use Rattle.bc_flow.specs.Views.{edge_of_rust}
 use Rattle.bc_flow.proofs.edges.push_runs.Given as goal
 
 abbrev pub invariant-loop-i : goal.invariant-loop-i

@@ -1,7 +1,8 @@
 use Rattle.std.proofs.Common.{◌≡◌, ◌∙◌, ◌+◌, ◌-◌, ap, length, rules, arith}
+use Rattle.bc_shapes.specs.Views.{at_of}
 use Rattle.bc_flow.specs.Code.{code_of}
 use Rattle.bc_flow.specs.Edges.{gives, gives_there, takes, has_room}
-use Rattle.bc_flow.specs.Views.{action_of, at_of}
+use Rattle.bc_flow.specs.Views.{action_of}
 use Rattle.bc_flow.proofs.Judging.{room_is}
 use Rattle.bc_flow.proofs.rules.room.Goals as goal
 

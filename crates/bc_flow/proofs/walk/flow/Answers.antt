@@ -1,7 +1,7 @@
 use Rattle.std.proofs.Common.{ℕ, ◌∙◌, ap, sym, subst, refl, rules}
 use Rattle.std.specs.BinaryHeap.{heap_items}
+use Rattle.bc_shapes.specs.Shape.{At}
 use Rattle.bc_flow.specs.Queue.{Queued}
-use Rattle.bc_flow.specs.Shape.{At}
 use Rattle.bc_flow.specs.Verified.{table_at, IsPending}
 use Rattle.bc_flow.specs.Views.{table_of}
 use Rattle.bc_flow.proofs.Queues.{start_queued}

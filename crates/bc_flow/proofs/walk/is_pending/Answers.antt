@@ -1,5 +1,5 @@
 use Rattle.std.proofs.Common.{refl}
-use Rattle.bc_flow.specs.Views.{at_of}
+use Rattle.bc_shapes.specs.Views.{at_of}
 use Rattle.bc_flow.proofs.Tables.{pending_here, not_here, past_pending}
 use Rattle.bc_flow.proofs.Fronts.{on_false}
 use Rattle.bc_flow.proofs.walk.is_pending.Goals as goal

@@ -1,8 +1,10 @@
 use Rattle.std.proofs.Common.{◌≡◌, length, sym, subst, rules}
+use Rattle.bc_shapes.specs.Spans.{FitsBut}
+use Rattle.bc_shapes.specs.Views.{at_of}
 use Rattle.bc_flow.specs.Code.{code_of}
 use Rattle.bc_flow.specs.Edges.{takes}
-use Rattle.bc_flow.specs.Spans.{FitsBut, IsClear}
-use Rattle.bc_flow.specs.Views.{action_of, at_of, table_of}
+use Rattle.bc_flow.specs.Spans.{IsClear}
+use Rattle.bc_flow.specs.Views.{action_of, table_of}
 use Rattle.bc_flow.proofs.Spans.{still_holds}
 use Rattle.bc_flow.proofs.Walks.{action_there}
 use Rattle.bc_flow.proofs.walk.judge.Goals as goal

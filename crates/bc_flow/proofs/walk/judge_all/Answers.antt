@@ -1,8 +1,9 @@
 use Rattle.std.proofs.Common.{◌∙◌, ap, map}
+use Rattle.bc_shapes.specs.Views.{at_of}
 use Rattle.bc_flow.specs.Code.{code_of}
 use Rattle.bc_flow.specs.Edges.{holds_over}
 use Rattle.bc_flow.specs.Verified.{agree, at}
-use Rattle.bc_flow.specs.Views.{action_of, at_of, edge_of_rust, table_of}
+use Rattle.bc_flow.specs.Views.{action_of, edge_of_rust, table_of}
 use Rattle.bc_flow.proofs.Judging.{holds_is}
 use Rattle.bc_flow.proofs.Spans.{each_all}
 use Rattle.bc_flow.proofs.walk.judge_all.Goals as goal

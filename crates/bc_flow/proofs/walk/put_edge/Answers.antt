@@ -1,7 +1,7 @@
 use Rattle.std.proofs.Common.{◌≡◌, ◌∙◌, ap, sym, subst, refl, Some}
 use Rattle.std.specs.BinaryHeap.{heap_items}
+use Rattle.bc_shapes.specs.Shape.{At}
 use Rattle.bc_flow.specs.Verified.{put, IsPending}
-use Rattle.bc_flow.specs.Shape.{At}
 use Rattle.bc_flow.specs.Views.{edge_of_rust, table_of, has_if}
 use Rattle.bc_flow.proofs.Queues.{put_queued, put_was, put_never, on_true}
 use Rattle.bc_flow.proofs.Spans.{since_put}

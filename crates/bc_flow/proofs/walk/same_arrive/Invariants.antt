@@ -1,6 +1,6 @@
 use Rattle.std.proofs.Common.{◌≡◌, drop, map}
+use Rattle.bc_shapes.specs.Shape.{same_entries}
 use Rattle.bc_flow.specs.Edges.{mark}
-use Rattle.bc_flow.specs.Shape.{same_entries}
 use Rattle.bc_flow.specs.Views.{behind_of, edge_of_rust}
 use Rattle.bc_flow.proofs.walk.same_arrive.Given as goal
 

@@ -1,6 +1,6 @@
 use Rattle.std.proofs.Common.{◌≡◌, ℕ, Some}
 use Rattle.std.specs.Prelude.{slice_get}
-use Rattle.bc_flow.specs.declared.shape.Span.{Span}
+use Rattle.bc_shapes.specs.declared.span.Span.{Span}
 use Rattle.bc_flow.proofs.walk.unvisited.Given as goal
 
 abbrev pub invariant-loop-i : goal.invariant-loop-i

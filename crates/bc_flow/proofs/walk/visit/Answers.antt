@@ -1,12 +1,13 @@
 use Rattle.std.proofs.Common.{◌≡◌, ◌∙◌, ap, sym, subst, Some}
+use Rattle.bc_shapes.specs.Shape.{At}
+use Rattle.bc_shapes.specs.Views.{at_of}
 use Rattle.bc_flow.specs.Code.{code_of}
 use Rattle.bc_flow.specs.Judged.{Judges}
-use Rattle.bc_flow.specs.Shape.{At}
 use Rattle.bc_flow.specs.Spans.{EachOutside, Remembers}
 use Rattle.bc_flow.specs.Verified.{agree, at, IsPending}
 use Rattle.bc_flow.proofs.Spans.{if_ok_both, remembers_after}
 use Rattle.bc_flow.proofs.Visits.{pending_is}
-use Rattle.bc_flow.specs.Views.{at_of, table_of}
+use Rattle.bc_flow.specs.Views.{table_of}
 use Rattle.bc_flow.proofs.Walks.{if_ok_map, judged_visit}
 use Rattle.bc_flow.proofs.walk.visit.Goals as goal
 

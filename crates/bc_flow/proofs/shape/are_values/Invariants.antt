@@ -1,6 +1,0 @@
-use Rattle.std.proofs.Common.{◌≡◌, ◌&&◌, drop}
-use Rattle.bc_flow.specs.Shape.{are_values}
-use Rattle.bc_flow.proofs.shape.are_values.Given as goal
-
-abbrev pub invariant-loop-kind : goal.invariant-loop-kind
-invariant-loop-kind l = are_values l.slots ≡ (l.fine && are_values (drop l.kind-index l.slots))

@@ -1,0 +1,5 @@
+pub mod Asked
+pub mod InPlace
+pub mod Joins
+pub mod Loops
+pub mod Spans

@@ -1,0 +1,5 @@
+pub mod Joins
+pub mod Partly
+pub mod Shape
+pub mod Spans
+pub mod Views

@@ -1,0 +1,14 @@
+//! Shapes, what is asked of them, and where two meet.
+#![tactic(auto)]
+
+mod joining;
+mod kinds;
+mod shape;
+mod slots;
+mod span;
+
+pub use joining::join;
+pub use kinds::{Give, Gives, Kind, Takes, Want};
+pub use shape::{Entry, Shape, same_entry};
+pub use slots::{Slots, below, fits, fits_again, keeps_all};
+pub use span::{Span, union};
