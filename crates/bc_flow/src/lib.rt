@@ -10,6 +10,3 @@ mod walk;
 pub use bc_shapes::{Entry, Kind, Shape};
 pub use code::{Code, Fault, Rule, fault_of};
 pub use walk::{State, flow, one_fault, order, progress};
-
-#[cfg(test)]
-mod tests;

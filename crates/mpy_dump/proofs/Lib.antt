@@ -7,7 +7,6 @@ pub mod Paths
 pub mod Pens
 pub mod Pieces
 pub mod Putting
-pub mod Samples
 pub mod Ends
 pub mod Trees
 pub mod Tuples
