@@ -5,8 +5,9 @@ use crate::codes::bytes_of;
 use std::alloc::{AllocError, Global};
 use std::test::Fail;
 
-// Files in hexadecimal, and what is said of each: those of sources, some with headers and counts that are wrong, one with a byte
-// too many, and some with 32 and 33 tuples or codes one in another. A reference in Python answered all rows of this module.
+// Files in hexadecimal, and what is said of each: those of sources, one with a tuple and a loop, some with headers and counts
+// that are wrong, one with a byte too many, and some with 32 and 33 tuples or codes one in another. A reference in Python
+// answered all rows of this module.
 const FILES: &str = "\
 4d06001f040008612e7079000f81770468690060080201110210033401595163 verified 1
 4d06001f020008652e7079000f280002015163 verified 1
@@ -14,6 +15,8 @@ const FILES: &str = "\
 4d06001f070208632e7079000f02660081770261000262000267000511616e6f74686572206c6f6e67207465787400050e6c6f6e67207465787420\
 6865726500814c1006018808822a015333001602110311028334013401595163018204b2010e020405204323263200c2b04446b081f3c04237b123\
 0051522a046351630148000406402301635163 verified 3
+4d06001f030108682e7079000f81770a030502616200010701358170100201110223003401598042495711025a34015981e55782d74332595163 \
+verified 1
 4d06001f0000 file 4 BadQstr
 4d06001f00 file 3 Truncated
 4d06001f83ff7f file 3 Truncated
