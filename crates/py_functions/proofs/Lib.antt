@@ -1,0 +1,12 @@
+pub mod Weaves
+pub mod Acts
+pub mod Fits
+pub mod Parts
+pub mod Small
+pub mod Layers
+pub mod Whole
+pub mod Slots
+pub mod Words
+pub mod Numbering
+pub mod Starts
+pub mod Laws
