@@ -16,8 +16,9 @@ usage:
   mpy go SRC [-O N]  compile the source SRC and run it, at optimization level N
                      (0 to 3, 0 if left out), as in: mpy go examples/hello.py -O 1
   mpy check FILE     verify the file FILE, and print how many codes it has,
-                     as in: mpy check sensor.mpy
-  mpy dump FILE      list what the file FILE holds, as in: mpy dump sensor.mpy
+                     as in: mpy check examples/sensor.mpy
+  mpy dump FILE      list what the file FILE holds,
+                     as in: mpy dump examples/sensor.mpy
   mpy --help         print this text
   mpy --version      print the version
 
