@@ -1,5 +1,5 @@
 -- What expressions and targets tell of names.
-use Rattle.std.proofs.Common.{◌≡◌, ℕ, Bool, true, false, ◌&&◌, List, [], ◌∷◌, ◌++◌, map, Option, Some, None, refl, sym, ap, ap₂, subst, ◌∙◌}
+use Rattle.std.proofs.Common.{◌≡◌, Bool, true, false, ◌&&◌, List, [], ◌∷◌, ◌++◌, map, Option, Some, None, refl, sym, ap, ap₂, subst, ◌∙◌}
 use Rattle.std.specs.List.{filter_map, flat_map, list_all}
 use Rattle.std.proofs.lemmas.List.Elements.{filter_map-append}
 use Rattle.std.proofs.lemmas.List.{append-nil}
@@ -20,7 +20,7 @@ use Rattle.py_meaning.specs.Tree as tree
 use Rattle.py_meaning.specs.Tree.{Name}
 use Rattle.py_meaning.specs.Plain as plain
 use Rattle.py_functions.specs.Locals.{names_to, names_to_each}
-use Rattle.py_functions.proofs.Weaves.{Stays, AllStay}
+use Rattle.py_functions.proofs.Weaves.{AllStay}
 
 -- acts that begin and end no function, and the names that they bind and declare
 pub record Says (acts : List Act) (bound declared : List Name) : Type 0 where

@@ -1,5 +1,5 @@
 -- A formed tree by its events.
-use Rattle.std.proofs.Common.{◌≡◌, ℕ, zero, suc, ◌+◌, ◌≤◌, Bool, true, false, List, [], ◌∷◌, ◌++◌, length, map, refl, sym, ap, ap₂, subst, ◌∙◌, arith}
+use Rattle.std.proofs.Common.{◌≡◌, ℕ, ◌+◌, true, false, List, [], ◌∷◌, length, map, refl, sym, ap, subst, ◌∙◌}
 use Rattle.std.specs.List.{list_all}
 use Rattle.std.proofs.lemmas.List.{length-map}
 use Rattle.std.proofs.lemmas.List.Folds.{list_all-map}
@@ -11,15 +11,15 @@ use Rattle.py_scopes.specs.Names.{Table, firsts}
 use Rattle.py_scopes.specs.Events as events
 use Rattle.py_scopes.specs.Scopes.{Mark, locals_below, own, marks_of, slots_of, IsFaultless}
 use Rattle.py_scopes.specs.Scopes as scopes
-use Rattle.py_meaning.specs.Tree.{Name, Function, functions}
+use Rattle.py_meaning.specs.Tree.{Function, functions}
 use Rattle.py_meaning.specs.Plain.{block, plain_stmt, plain_tree}
 use Rattle.py_meaning.specs.Program.{Source, source_texts, module_text, function_texts}
 use Rattle.py_functions.specs.Locals.{bound_names, locals_of}
 use Rattle.py_functions.specs.Globals.{all, stmt_globals, globals_of}
-use Rattle.py_functions.specs.Numbers.{AllNumbered, numbers_in}
+use Rattle.py_functions.specs.Numbers.{AllNumbered}
 use Rattle.py_functions.specs.Params.{AllBeginWithParams, AllHaveSlots}
 use Rattle.py_functions.specs.Words.{WellPlaced}
-use Rattle.py_functions.proofs.Fits.{Fits, FitsBlock}
+use Rattle.py_functions.proofs.Fits.{FitsBlock}
 use Rattle.py_functions.proofs.Parts.{BlockFits, block_fits}
 use Rattle.py_functions.proofs.Whole.{stmt_fits}
 use Rattle.py_functions.proofs.Slots.{locals_from, below_is, rows_are, length_rows}

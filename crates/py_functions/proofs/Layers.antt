@@ -1,16 +1,13 @@
 -- Each statement of a formed tree fits its events.
-use Rattle.std.proofs.Common.{◌≡◌, ℕ, suc, ◌+◌, Bool, true, false, not, ◌&&◌, ◌||◌, List, [], ◌∷◌, ◌++◌, append_assoc, map, Option, Some, None, is_some, refl, sym, ap, ap₂, subst, ◌∙◌, arith}
-use Rattle.std.specs.List.{list_all, flat_map}
+use Rattle.std.proofs.Common.{◌≡◌, ℕ, suc, ◌+◌, Bool, true, false, not, ◌&&◌, ◌||◌, List, [], ◌∷◌, ◌++◌, append_assoc, map, Option, Some, None, is_some, refl, sym, ap, arith}
+use Rattle.std.specs.List.{list_all}
 use Rattle.std.proofs.lemmas.List.{append-nil}
 use Rattle.py_tree.specs.declared.expr.Expr.{Expr}
-use Rattle.py_tree.specs.declared.stmt.Param.{Param}
-use Rattle.py_tree.specs.declared.stmt.Target.{Target, out-Target}
-use Rattle.py_tree.specs.declared.stmt.Stmt.{Stmt, roll-Stmt, map-Stmt}
-use Rattle.py_tree.specs.declared.stmt.Branch.{Branch, roll-Branch, map-Branch}
-use Rattle.py_tree.specs.declared.stmt.Handler.{Handler, roll-Handler, map-Handler}
-use Rattle.py_tree.specs.declared.stmt.StmtKind.{StmtKind, roll-StmtKind, map-StmtKind}
+use Rattle.py_tree.specs.declared.stmt.Stmt.{Stmt, map-Stmt}
+use Rattle.py_tree.specs.declared.stmt.Branch.{Branch, map-Branch}
+use Rattle.py_tree.specs.declared.stmt.Handler.{Handler, map-Handler}
+use Rattle.py_tree.specs.declared.stmt.StmtKind.{StmtKind, map-StmtKind}
 use Rattle.py_tree.specs.declared.stmt.StmtKind.TheOpen.{StmtKind-F, Stmt-F, Branch-F, Handler-F}
-use Rattle.py_tree.specs.declared.stmt.StmtKind.TheFolds.{fold-roll-StmtKind, fold-roll-Branch, fold-roll-Handler, fold-roll-Stmt, ind-Stmt}
 use Rattle.py_tree.specs.Formed as formed
 use Rattle.py_scopes.specs.declared.event.Act.{Act}
 use Rattle.py_scopes.specs.declared.event.Event.{Event}
@@ -23,9 +20,10 @@ use Rattle.py_functions.specs.Numbers.{numbers_in, numbers_from}
 use Rattle.py_functions.specs.Words.{WellPlaced}
 use Rattle.py_functions.specs.Globals.{Globals, none, and_then, all}
 use Rattle.py_functions.specs.Globals as globals
-use Rattle.py_functions.proofs.Acts.{Says, nothing, said, bound_once, quiet, quiet_option, named, single, and_left, and_right}
-use Rattle.py_functions.proofs.Fits.{Fits, FitsStmt, FitsBlock, FitsBranches, FitsHandlers, Nothing, empty_fits, acts_fit, fits_on, recast, moved, def_fits}
-use Rattle.py_functions.proofs.Parts.{Events, KindFits, StmtFits, BranchFits, HandlerFits, BlockFits, BranchesFit, HandlersFit, plain_kind, plain_branch, plain_handler, kind_events, kind_globals, branch_globals, handler_globals, Kind, Of_branch, Of_handler, Of_stmt, none_behind, block_fits, branches_fit, handlers_fit}
+use Rattle.py_functions.proofs.Acts.{Says, nothing, said, bound_once, quiet, named, single, and_left, and_right}
+use Rattle.py_functions.proofs.Fits.{Fits, FitsStmt, FitsBlock, empty_fits, acts_fit, fits_on, recast, moved, def_fits}
+use Rattle.py_functions.proofs.Steps.{plain_kind, plain_branch, plain_handler, branch_globals, handler_globals, plain_of_kind, events_of_kind, globals_of_kind, formed_of_kind, plain_of_branch, events_of_branch, globals_of_branch, formed_of_branch, plain_of_handler, events_of_handler, globals_of_handler, formed_of_handler, plain_of_stmt, events_of_stmt, globals_of_stmt, formed_of_stmt}
+use Rattle.py_functions.proofs.Parts.{Events, KindFits, StmtFits, BranchFits, HandlerFits, BlockFits, BranchesFit, HandlersFit, Kind, Of_branch, Of_handler, Of_stmt, none_behind, block_fits, branches_fit, handlers_fit}
 use Rattle.py_functions.proofs.Small.{params_differ, quiet_fits, named_fits, behind, assign_fits, delete_fits, augmented_fits, jump_fits, return_fits, raise_fits, assert_fits, imports_say, declarations_say, defaults_quiet}
 
 -- ---- made of blocks
@@ -125,6 +123,18 @@ try_formed body handlers rest last e =
 -- ---- the layers
 
 module _ {K B H S : Type 0} (fk : K → StmtKind) (fb : B → Branch) (fh : H → Handler) (fs : S → Stmt) (hk : (k : K) → Kind (fk k)) (hb : (b : B) → Of_branch (fb b)) (hh : (h : H) → Of_handler (fh h)) (hs : (s : S) → Of_stmt (fs s)) where
+  abbrev pub kind_at : StmtKind-F K B H S → StmtKind-F StmtKind Branch Handler Stmt
+  kind_at = map-StmtKind K B H S StmtKind Branch Handler Stmt fk fb fh fs
+
+  abbrev pub branch_at : Branch-F K B H S → Branch-F StmtKind Branch Handler Stmt
+  branch_at = map-Branch K B H S StmtKind Branch Handler Stmt fk fb fh fs
+
+  abbrev pub handler_at : Handler-F K B H S → Handler-F StmtKind Branch Handler Stmt
+  handler_at = map-Handler K B H S StmtKind Branch Handler Stmt fk fb fh fs
+
+  abbrev pub stmt_at : Stmt-F K B H S → Stmt-F StmtKind Branch Handler Stmt
+  stmt_at = map-Stmt K B H S StmtKind Branch Handler Stmt fk fb fh fs
+
   abbrev block_of : List S → plain.Part tree.Block
   block_of ss = plain.block (map plain.plain_stmt (map fs ss))
 
@@ -188,7 +198,7 @@ module _ {K B H S : Type 0} (fk : K → StmtKind) (fb : B → Branch) (fh : H �
       (body_fits inner t.inner) (handlers_fit fh hh (c ∷ cs) t.tests t.each) (block_fits fs hs rest t.others) (block_of last) (told last looped) (declared last) n looped _ refl
       (body_fits last t.ends _ looped)
 
-  pub kind_layer : (y : StmtKind-F K B H S) → formed.kind_step (map-StmtKind StmtKind Branch Handler Stmt Bool Bool formed.Handled Bool formed.kind_formed formed.branch_formed formed.handled formed.stmt_formed (map-StmtKind K B H S StmtKind Branch Handler Stmt fk fb fh fs y)) ≡ true → KindFits (plain.kind_step (map-StmtKind StmtKind Branch Handler Stmt (plain.Part tree.Stmt) (plain.Part (tree.Branches → tree.Branches)) plain.Clause (plain.Part (tree.Block → tree.Block)) plain_kind plain_branch plain_handler plain.plain_stmt (map-StmtKind K B H S StmtKind Branch Handler Stmt fk fb fh fs y))) (events.kind_step (map-StmtKind StmtKind Branch Handler Stmt (ℕ → events.Part) events.Part events.Part events.Part kind_events events.branch_events events.handler_events events.stmt_events (map-StmtKind K B H S StmtKind Branch Handler Stmt fk fb fh fs y))) (globals.kind_step (map-StmtKind StmtKind Branch Handler Stmt Globals Globals Globals Globals kind_globals branch_globals handler_globals globals.stmt_globals (map-StmtKind K B H S StmtKind Branch Handler Stmt fk fb fh fs y)))
+  pub kind_layer : (y : StmtKind-F K B H S) → formed_of_kind (kind_at y) ≡ true → KindFits (plain_of_kind (kind_at y)) (events_of_kind (kind_at y)) (globals_of_kind (kind_at y))
   kind_layer (StmtKind-F.Expr value) e n line looped = quiet_fits n line _ (quiet value)
   kind_layer (StmtKind-F.Assign targets value) e n line looped = assign_fits targets value e n line looped
   kind_layer (StmtKind-F.Aug target how value) e n line looped =
@@ -221,7 +231,7 @@ module _ {K B H S : Type 0} (fk : K → StmtKind) (fb : B → Branch) (fh : H �
       def_fits n (n + suc body.defs) line name params (tree.count (plain.defaults_of params)) _ (defaults_quiet params) (params_differ params (and_left (formed.names_differ params) _ (and_right (list_all formed.param_formed params) _ (and_left (formed.params_formed params) _ (and_right (formed.is_ascii name) _ e))))) (body.make (suc n))
       (moved refl (let a : suc n + body.defs ≡ n + suc body.defs = omega arith in a) (body_fits inner (and_right _ _ (and_right _ _ e)) (suc n) false))
 
-  pub branch_layer : (y : Branch-F K B H S) → formed.branch_step (map-Branch StmtKind Branch Handler Stmt Bool Bool formed.Handled Bool formed.kind_formed formed.branch_formed formed.handled formed.stmt_formed (map-Branch K B H S StmtKind Branch Handler Stmt fk fb fh fs y)) ≡ true → BranchFits (plain.branch_step (map-Branch StmtKind Branch Handler Stmt (plain.Part tree.Stmt) (plain.Part (tree.Branches → tree.Branches)) plain.Clause (plain.Part (tree.Block → tree.Block)) plain_kind plain_branch plain_handler plain.plain_stmt (map-Branch K B H S StmtKind Branch Handler Stmt fk fb fh fs y))) (events.branch_step (map-Branch StmtKind Branch Handler Stmt (ℕ → events.Part) events.Part events.Part events.Part kind_events events.branch_events events.handler_events events.stmt_events (map-Branch K B H S StmtKind Branch Handler Stmt fk fb fh fs y))) (globals.branch_step (map-Branch StmtKind Branch Handler Stmt Globals Globals Globals Globals kind_globals branch_globals handler_globals globals.stmt_globals (map-Branch K B H S StmtKind Branch Handler Stmt fk fb fh fs y)))
+  pub branch_layer : (y : Branch-F K B H S) → formed_of_branch (branch_at y) ≡ true → BranchFits (plain_of_branch (branch_at y)) (events_of_branch (branch_at y)) (globals_of_branch (branch_at y))
   branch_layer y e n past looped rest behind_it more x =
       let body = block_of y.body in
       let inside = body_fits y.body (and_right (formed.expr_formed y.test) _ e) in
@@ -229,7 +239,7 @@ module _ {K B H S : Type 0} (fk : K → StmtKind) (fb : B → Branch) (fh : H �
       recast refl refl refl refl refl refl (λ around w. (w.0.1, w.1)) refl
       (fits_on front (moved (let a : n + (0 + body.defs) ≡ n + 0 + body.defs = omega arith in a) refl x))
 
-  pub stmt_layer : (y : Stmt-F K B H S) → formed.stmt_step (map-Stmt StmtKind Branch Handler Stmt Bool Bool formed.Handled Bool formed.kind_formed formed.branch_formed formed.handled formed.stmt_formed (map-Stmt K B H S StmtKind Branch Handler Stmt fk fb fh fs y)) ≡ true → StmtFits (plain.stmt_step (map-Stmt StmtKind Branch Handler Stmt (plain.Part tree.Stmt) (plain.Part (tree.Branches → tree.Branches)) plain.Clause (plain.Part (tree.Block → tree.Block)) plain_kind plain_branch plain_handler plain.plain_stmt (map-Stmt K B H S StmtKind Branch Handler Stmt fk fb fh fs y))) (events.stmt_step (map-Stmt StmtKind Branch Handler Stmt (ℕ → events.Part) events.Part events.Part events.Part kind_events events.branch_events events.handler_events events.stmt_events (map-Stmt K B H S StmtKind Branch Handler Stmt fk fb fh fs y))) (globals.stmt_step (map-Stmt StmtKind Branch Handler Stmt Globals Globals Globals Globals kind_globals branch_globals handler_globals globals.stmt_globals (map-Stmt K B H S StmtKind Branch Handler Stmt fk fb fh fs y)))
+  pub stmt_layer : (y : Stmt-F K B H S) → formed_of_stmt (stmt_at y) ≡ true → StmtFits (plain_of_stmt (stmt_at y)) (events_of_stmt (stmt_at y)) (globals_of_stmt (stmt_at y))
   stmt_layer y e n past looped rest behind_it more x =
       let kind = plain_kind (fk y.kind) in
       fits_on (moved (let a : n + 0 ≡ n = omega arith in a) refl (hk y.kind e (n + 0) y.line looped)) (moved (let a : n + (0 + kind.defs) ≡ n + 0 + kind.defs = omega arith in a) refl x)
@@ -258,5 +268,5 @@ module _ {K B H S : Type 0} (fk : K → StmtKind) (fb : B → Branch) (fh : H �
     alone = λ t. cc;
   }
 
-  pub handler_layer : (y : Handler-F K B H S) → (formed.handler_step (map-Handler StmtKind Branch Handler Stmt Bool Bool formed.Handled Bool formed.kind_formed formed.branch_formed formed.handled formed.stmt_formed (map-Handler K B H S StmtKind Branch Handler Stmt fk fb fh fs y))).1 ≡ true → HandlerFits (plain.handler_step (map-Handler StmtKind Branch Handler Stmt (plain.Part tree.Stmt) (plain.Part (tree.Branches → tree.Branches)) plain.Clause (plain.Part (tree.Block → tree.Block)) plain_kind plain_branch plain_handler plain.plain_stmt (map-Handler K B H S StmtKind Branch Handler Stmt fk fb fh fs y))) (events.handler_step (map-Handler StmtKind Branch Handler Stmt (ℕ → events.Part) events.Part events.Part events.Part kind_events events.branch_events events.handler_events events.stmt_events (map-Handler K B H S StmtKind Branch Handler Stmt fk fb fh fs y))) (globals.handler_step (map-Handler StmtKind Branch Handler Stmt Globals Globals Globals Globals kind_globals branch_globals handler_globals globals.stmt_globals (map-Handler K B H S StmtKind Branch Handler Stmt fk fb fh fs y))) (formed.handler_step (map-Handler StmtKind Branch Handler Stmt Bool Bool formed.Handled Bool formed.kind_formed formed.branch_formed formed.handled formed.stmt_formed (map-Handler K B H S StmtKind Branch Handler Stmt fk fb fh fs y))).0
+  pub handler_layer : (y : Handler-F K B H S) → (formed_of_handler (handler_at y)).1 ≡ true → HandlerFits (plain_of_handler (handler_at y)) (events_of_handler (handler_at y)) (globals_of_handler (handler_at y)) (formed_of_handler (handler_at y)).0
   handler_layer y e = handler_fits y.line y.test y.name y.body e

@@ -1,6 +1,8 @@
 pub mod Weaves
 pub mod Acts
+pub mod Marks
 pub mod Fits
+pub mod Steps
 pub mod Parts
 pub mod Small
 pub mod Layers
@@ -10,3 +12,5 @@ pub mod Words
 pub mod Numbering
 pub mod Starts
 pub mod Laws
+pub mod Dotted
+pub mod Examples

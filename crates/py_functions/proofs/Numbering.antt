@@ -1,10 +1,10 @@
 -- Numbers that rise stand once each.
-use Rattle.std.proofs.Common.{◌≡◌, ℕ, zero, suc, ◌+◌, ◌<◌, ◌≤◌, List, [], ◌∷◌, length, map, Option, Some, None, refl, sym, ap, subst, ◌∙◌, arith}
+use Rattle.std.proofs.Common.{◌≡◌, ℕ, zero, suc, ◌+◌, ◌≤◌, List, [], ◌∷◌, map, Some, refl, ap, arith}
 use Rattle.std.specs.Prelude.{slice_get}
 use Rattle.py_meaning.specs.Tree.{Name, Function}
-use Rattle.py_meaning.specs.Program.{Source, Text, module_text, function_text, function_texts, source_texts}
-use Rattle.py_functions.specs.Numbers.{Rises, NoneTwice, IsNumbered, AllNumbered, numbers_in}
-use Rattle.py_functions.proofs.Fits.{Rising, AllRise}
+use Rattle.py_meaning.specs.Program.{Source, module_text, function_texts}
+use Rattle.py_functions.specs.Numbers.{Rises, NoneTwice, AllNumbered, numbers_in}
+use Rattle.py_functions.proofs.Fits.{AllRise}
 
 -- behind the first one each is greater
 above : (least : ℕ) (ns : List ℕ) (past base i n : ℕ) → Rises least ns past → slice_get (map (λ m. base + m) ns) i ≡ Some n → base + least ≤ n

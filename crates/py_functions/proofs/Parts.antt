@@ -1,12 +1,11 @@
 -- Rows of parts: blocks, branches and handlers.
-use Rattle.std.proofs.Common.{◌≡◌, ℕ, ◌+◌, Bool, true, false, not, ◌&&◌, ◌||◌, List, [], ◌∷◌, ◌++◌, append_assoc, map, Option, Some, None, refl, sym, ap, ap₂, subst, ◌∙◌, ◌⊎◌, inl, inr, arith}
-use Rattle.std.specs.List.{list_all, flat_map}
+use Rattle.std.proofs.Common.{◌≡◌, ℕ, ◌+◌, Bool, true, false, ◌||◌, List, [], ◌∷◌, ◌++◌, append_assoc, map, refl, sym, ap₂, ◌⊎◌, inl, inr, arith}
+use Rattle.std.specs.List.{list_all}
 use Rattle.std.proofs.lemmas.List.{append-nil}
 use Rattle.py_tree.specs.declared.stmt.Stmt.{Stmt}
 use Rattle.py_tree.specs.declared.stmt.Branch.{Branch}
 use Rattle.py_tree.specs.declared.stmt.Handler.{Handler}
 use Rattle.py_tree.specs.declared.stmt.StmtKind.{StmtKind}
-use Rattle.py_tree.specs.declared.stmt.StmtKind.TheFolds.{fold-StmtKind, fold-Branch, fold-Handler}
 use Rattle.py_tree.specs.Formed as formed
 use Rattle.py_scopes.specs.declared.event.Event.{Event}
 use Rattle.py_scopes.specs.Events as events
@@ -15,8 +14,9 @@ use Rattle.py_meaning.specs.Tree.{Name, Function}
 use Rattle.py_meaning.specs.Plain as plain
 use Rattle.py_functions.specs.Globals.{Globals, none, and_then, all}
 use Rattle.py_functions.specs.Globals as globals
+use Rattle.py_functions.proofs.Steps.{plain_kind, plain_branch, plain_handler, kind_events, kind_globals, branch_globals, handler_globals}
 use Rattle.py_functions.proofs.Acts.{and_left, and_right}
-use Rattle.py_functions.proofs.Fits.{Fits, FitsStmt, FitsBlock, FitsBranches, FitsHandlers, Nothing, empty_fits, fits_on, recast, moved}
+use Rattle.py_functions.proofs.Fits.{FitsStmt, FitsBlock, FitsBranches, FitsHandlers, empty_fits, recast, moved}
 
 -- ---- what is said of a part
 
@@ -51,28 +51,7 @@ BranchesFit p es g = (n : ℕ) (looped : Bool) → FitsBranches n (n + p.defs) l
 abbrev pub HandlersFit : plain.Part tree.Handlers → Events → Globals → Type 0
 HandlersFit p es g = (n : ℕ) (looped : Bool) → FitsHandlers n (n + p.defs) looped (es looped) (p.make n) g
 
--- ---- the folds
-
-abbrev pub plain_kind : StmtKind → plain.Part tree.Stmt
-plain_kind = fold-StmtKind (plain.Part tree.Stmt) (plain.Part (tree.Branches → tree.Branches)) plain.Clause (plain.Part (tree.Block → tree.Block)) plain.kind_step plain.branch_step plain.handler_step plain.stmt_step
-
-abbrev pub plain_branch : Branch → plain.Part (tree.Branches → tree.Branches)
-plain_branch = fold-Branch (plain.Part tree.Stmt) (plain.Part (tree.Branches → tree.Branches)) plain.Clause (plain.Part (tree.Block → tree.Block)) plain.kind_step plain.branch_step plain.handler_step plain.stmt_step
-
-abbrev pub plain_handler : Handler → plain.Clause
-plain_handler = fold-Handler (plain.Part tree.Stmt) (plain.Part (tree.Branches → tree.Branches)) plain.Clause (plain.Part (tree.Block → tree.Block)) plain.kind_step plain.branch_step plain.handler_step plain.stmt_step
-
-abbrev pub kind_events : StmtKind → ℕ → Events
-kind_events = fold-StmtKind (ℕ → events.Part) events.Part events.Part events.Part events.kind_step events.branch_step events.handler_step events.stmt_step
-
-abbrev pub kind_globals : StmtKind → Globals
-kind_globals = fold-StmtKind Globals Globals Globals Globals globals.kind_step globals.branch_step globals.handler_step globals.stmt_step
-
-abbrev pub branch_globals : Branch → Globals
-branch_globals = fold-Branch Globals Globals Globals Globals globals.kind_step globals.branch_step globals.handler_step globals.stmt_step
-
-abbrev pub handler_globals : Handler → Globals
-handler_globals = fold-Handler Globals Globals Globals Globals globals.kind_step globals.branch_step globals.handler_step globals.stmt_step
+-- ---- what holds of each
 
 abbrev pub Kind : StmtKind → Type 0
 Kind k = formed.kind_formed k ≡ true → KindFits (plain_kind k) (kind_events k) (kind_globals k)

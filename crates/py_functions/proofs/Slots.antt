@@ -1,14 +1,13 @@
 -- The slots of each function by its number are its locals.
-use Rattle.std.proofs.Common.{◌≡◌, ℕ, zero, suc, ◌+◌, ◌<◌, ◌≤◌, Bool, true, false, not, cond, ◌&&◌, ◌||◌, nat_eq, List, [], ◌∷◌, ◌++◌, length, length-append, filter, map, inl, inr, refl, sym, ap, ap₂, subst, ◌∙◌, append_assoc, eq-eqb, arith}
+use Rattle.std.proofs.Common.{◌≡◌, ℕ, zero, suc, ◌+◌, ◌≤◌, Bool, true, false, not, cond, ◌&&◌, ◌||◌, List, [], ◌∷◌, ◌++◌, length, filter, map, inl, inr, refl, sym, ap, ap₂, ◌∙◌, eq-eqb, arith}
 use Rattle.std.specs.Str.{bytes_eq}
 use Rattle.std.proofs.lemmas.Bool.Decides.{eqb_tells}
-use Rattle.std.proofs.lemmas.List.{append-nil}
 use Rattle.std.proofs.lemmas.Slice.Eq.{bytes_eq-Decides}
 use Rattle.py_scopes.specs.Names.{has, firsts, Table}
 use Rattle.py_scopes.specs.Scopes.{locals, locals_below}
 use Rattle.py_scopes.proofs.Tables.{has-kept}
 use Rattle.py_meaning.specs.Tree.{Name, Function}
-use Rattle.py_functions.specs.Locals.{bound_names, own_locals, locals_of}
+use Rattle.py_functions.specs.Locals.{bound_names, locals_of}
 use Rattle.py_functions.proofs.Weaves.{names_at}
 
 -- ---- names, each once

@@ -1,5 +1,5 @@
 -- Statements of one line fit their events.
-use Rattle.std.proofs.Common.{◌≡◌, ℕ, suc, ◌+◌, Bool, true, false, not, ◌&&◌, ◌||◌, List, [], ◌∷◌, ◌++◌, append_assoc, map, Option, Some, None, is_some, refl, sym, ap, ap₂, subst, ◌∙◌, arith}
+use Rattle.std.proofs.Common.{◌≡◌, ℕ, ◌+◌, Bool, true, false, not, ◌&&◌, ◌||◌, List, [], ◌∷◌, ◌++◌, map, Option, Some, None, refl, sym, ap, subst, ◌∙◌, arith}
 use Rattle.std.specs.List.{list_all, list_any, filter, flat_map}
 use Rattle.std.specs.Str.{bytes_eq}
 use Rattle.std.proofs.lemmas.Slice.Eq.{bytes_eq-Decides}
@@ -10,29 +10,20 @@ use Rattle.py_tree.specs.declared.expr.Expr.{Expr}
 use Rattle.py_tree.specs.declared.stmt.Alias.{Alias}
 use Rattle.py_tree.specs.declared.stmt.Param.{Param}
 use Rattle.py_tree.specs.declared.stmt.Target.{Target, out-Target}
-use Rattle.py_tree.specs.declared.stmt.Stmt.{Stmt, roll-Stmt, map-Stmt}
-use Rattle.py_tree.specs.declared.stmt.Branch.{Branch, roll-Branch, map-Branch}
-use Rattle.py_tree.specs.declared.stmt.Handler.{Handler, roll-Handler, map-Handler}
-use Rattle.py_tree.specs.declared.stmt.StmtKind.{StmtKind, roll-StmtKind, map-StmtKind}
-use Rattle.py_tree.specs.declared.stmt.StmtKind.TheOpen.{StmtKind-F, Stmt-F, Branch-F, Handler-F}
-use Rattle.py_tree.specs.declared.stmt.StmtKind.TheFolds.{fold-roll-StmtKind, fold-roll-Branch, fold-roll-Handler, fold-roll-Stmt, ind-Stmt}
+use Rattle.py_tree.specs.declared.stmt.StmtKind.TheOpen.{StmtKind-F}
 use Rattle.py_tree.specs.Formed as formed
 use Rattle.py_tree.proofs.Formed.{both}
 use Rattle.py_scopes.specs.declared.event.Act.{Act}
-use Rattle.py_scopes.specs.declared.event.Act.TheVariants.{Bind, Declare, Jump, Return}
-use Rattle.py_scopes.specs.declared.event.Event.{Event}
+use Rattle.py_scopes.specs.declared.event.Act.TheVariants.{Declare, Jump, Return}
 use Rattle.py_scopes.specs.Events as events
-use Rattle.py_scopes.specs.Scopes.{marks_from}
 use Rattle.py_meaning.specs.Tree as tree
 use Rattle.py_meaning.specs.Tree.{Name, Function}
 use Rattle.py_meaning.specs.Plain as plain
-use Rattle.py_functions.specs.Locals.{bound_by_stmt, names_to}
-use Rattle.py_functions.specs.Globals.{Globals, none, and_then, all}
-use Rattle.py_functions.specs.Globals as globals
-use Rattle.py_functions.proofs.Weaves.{event}
-use Rattle.py_functions.proofs.Acts.{Says, Quiet, nothing, said, bound_once, declared_once, quiet, quiet_option, named, named_each, IsSingle, single, and_left, and_right}
-use Rattle.py_functions.proofs.Fits.{Fits, FitsStmt, FitsBlock, FitsBranches, FitsHandlers, Nothing, AllRight, empty_fits, acts_fit, fits_on, recast, moved, with_words, def_fits, param_names}
-use Rattle.py_functions.proofs.Parts.{Events, KindFits, StmtFits, BranchFits, HandlerFits, BlockFits, BranchesFit, HandlersFit, plain_kind, plain_branch, plain_handler, kind_events, kind_globals, branch_globals, handler_globals, Kind, Of_branch, Of_handler, Of_stmt, none_behind, block_fits, branches_fit, handlers_fit}
+use Rattle.py_functions.specs.Locals.{names_to}
+use Rattle.py_functions.specs.Globals.{none}
+use Rattle.py_functions.proofs.Acts.{Says, Quiet, nothing, said, bound_once, declared_once, quiet, quiet_option, named_each, IsSingle, and_left, and_right}
+use Rattle.py_functions.proofs.Fits.{Fits, FitsStmt, Nothing, acts_fit, with_words, param_names}
+use Rattle.py_functions.proofs.Parts.{KindFits}
 
 -- ---- small statements
 

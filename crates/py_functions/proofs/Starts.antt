@@ -1,13 +1,13 @@
 -- A function's locals begin with its parameters.
-use Rattle.std.proofs.Common.{◌≡◌, ℕ, ◌+◌, ◌≤◌, Bool, true, false, not, cond, ◌||◌, List, [], ◌∷◌, ◌++◌, length, length-append, filter, map, refl, sym, ap, subst, ◌∙◌, arith}
+use Rattle.std.proofs.Common.{◌≡◌, ℕ, Bool, true, false, not, ◌||◌, List, [], ◌∷◌, ◌++◌, length, length-append, filter, refl, ap, ◌∙◌, arith}
 use Rattle.std.specs.Str.{bytes_eq}
 use Rattle.std.proofs.lemmas.List.Elements.{filter-append}
 use Rattle.std.proofs.lemmas.Slice.Eq.{bytes_eq-Decides}
 use Rattle.py_scopes.specs.Names.{has, firsts}
 use Rattle.py_meaning.specs.Tree.{Name, Function}
-use Rattle.py_meaning.specs.Program.{Source, Text, function_text, function_texts, module_text}
-use Rattle.py_functions.specs.Locals.{bound_in, bound_names, own_locals, locals_of}
-use Rattle.py_functions.specs.Params.{BeginsWithParams, AllBeginWithParams, AllHaveSlots}
+use Rattle.py_meaning.specs.Program.{Source, Text, function_texts, module_text}
+use Rattle.py_functions.specs.Locals.{bound_in, own_locals, locals_of}
+use Rattle.py_functions.specs.Params.{AllBeginWithParams, AllHaveSlots}
 use Rattle.py_functions.proofs.Fits.{Kept, AllKept, AllDistinct}
 
 -- what a list of names with more behind it gives

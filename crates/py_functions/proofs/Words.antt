@@ -1,7 +1,6 @@
 -- Marks of a faultless text.
-use Rattle.std.proofs.Common.{◌≡◌, ℕ, zero, suc, Bool, true, false, cond, nat_eq, inl, inr, ap₂, List, [], ◌∷◌, ◌++◌, take, Option, Some, None, refl, sym, ap, subst, ◌∙◌, append_assoc}
+use Rattle.std.proofs.Common.{◌≡◌, ℕ, suc, Bool, true, false, cond, nat_eq, inl, inr, ap₂, List, [], ◌∷◌, ◌++◌, take, Option, Some, None, refl, sym, ap, subst, ◌∙◌, append_assoc}
 use Rattle.std.specs.Prelude.{slice_get, option_and_then}
-use Rattle.mpy_base.specs.declared.source.SourceFault.{SourceFault}
 use Rattle.py_scopes.specs.declared.event.Act.{Act}
 use Rattle.py_scopes.specs.declared.event.Act.TheVariants.{Use, Bind, Declare, Jump, Return, Enter, Leave}
 use Rattle.py_scopes.specs.declared.names.Tells.TheVariants.{Bound, Declared, Occurring}
@@ -12,8 +11,8 @@ use Rattle.std.specs.List.{filter_map}
 use Rattle.std.proofs.lemmas.List.{append-nil}
 use Rattle.std.proofs.lemmas.Bool.Decides.{eqb_tells}
 use Rattle.py_functions.proofs.Slots.{has_firsts}
-use Rattle.py_scopes.specs.Scopes.{Mark, wrong, fault, told, told_of, is_own, own, fault_at, AreFaultless}
-use Rattle.py_functions.proofs.Fits.{is_inside, Right, AllRight, Timely}
+use Rattle.py_scopes.specs.Scopes.{Mark, wrong, fault, told, told_of, is_own, own, AreFaultless}
+use Rattle.py_functions.proofs.Marks.{Right, AllRight, Timely}
 
 module _ (bound declared : Table) where
   -- an act in which nothing is wrong

@@ -1,5 +1,6 @@
 -- The modules that a text imports.
-use Rattle.std.specs.Prelude.{ℕ, List, [], ◌∷◌, ◌++◌, map, nat_eq, if◌then◌else◌}
+use Rattle.std.specs.Prelude.{ℕ, Bool, not, List, [], ◌∷◌, ◌++◌, map, nat_eq, if◌then◌else◌}
+use Rattle.std.specs.List.{list_all}
 use Rattle.py_tree.specs.declared.stmt.Alias.{Alias}
 use Rattle.py_meaning.specs.Tree.{Name, Stmt, Do, Assign, AugName, AugAttr, AugIndex, Delete, Pass, Break, Continue, ReturnNone, Return, Reraise, Raise, Assert, AssertWith, Import, From, If, While, For, Try, Finally, TryFinally, Def, Block, End, Next, Branches, Else, Case, Handlers, NoHandler, Any, On, OnAs}
 
@@ -54,3 +55,16 @@ begun byte (part ∷ parts) = (byte ∷ part) ∷ parts
 abbrev pub parts_of : Name → List Name
 parts_of [] = [] ∷ []
 parts_of (byte ∷ bytes) = if nat_eq byte 46 then [] ∷ parts_of bytes else begun byte (parts_of bytes)
+
+-- the name that parts spell, with a dot between them
+abbrev pub spelled_on : Name → List Name → Name
+spelled_on part [] = part
+spelled_on part (next ∷ parts) = part ++ 46 ∷ spelled_on next parts
+
+abbrev pub spelled : List Name → Name
+spelled [] = []
+spelled (part ∷ parts) = spelled_on part parts
+
+-- a part without a dot
+abbrev pub is_undotted : Name → Bool
+is_undotted part = list_all (λ byte. not (nat_eq byte 46)) part

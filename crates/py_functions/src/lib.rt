@@ -1,14 +1,17 @@
 //! The functions of a source in the words of its tree: their locals, their numbers, and the words that leave them.
 #![tactic(auto)]
 
-ghost use Rattle.std.specs.Prelude.{◌≡◌, ℕ, false, length};
+ghost use Rattle.std.specs.Prelude.{◌≡◌, ℕ, true, false, List, ◌∷◌, length};
+ghost use Rattle.std.specs.List.{list_all};
 ghost use Rattle.py_tree.specs.declared.stmt.Module.{Module};
 ghost use Rattle.py_tree.specs.Formed.{IsFormed};
 ghost use Rattle.py_scopes.specs.Scopes.{slots_of, IsFaultless};
-ghost use Rattle.py_meaning.specs.Tree.{functions};
+ghost use Rattle.py_scopes.specs.Events.{first_part};
+ghost use Rattle.py_meaning.specs.Tree.{Name, functions};
 ghost use Rattle.py_meaning.specs.Plain.{plain_tree};
 ghost use Rattle.py_meaning.specs.Program.{Source, source_texts};
 ghost use Rattle.py_functions.specs.Globals.{globals_of};
+ghost use Rattle.py_functions.specs.Imported.{parts_of, spelled, is_undotted};
 ghost use Rattle.py_functions.specs.Locals.{locals_of};
 ghost use Rattle.py_functions.specs.Numbers.{AllNumbered};
 ghost use Rattle.py_functions.specs.Params.{AllBeginWithParams, AllHaveSlots};
@@ -38,4 +41,11 @@ pub fn params_law()
         → AllBeginWithParams (source_texts source.file source base) }
     ensures slots { (tree : Module) → IsFormed tree → IsFaultless tree → (source : Source) (base : ℕ) → source.body ≡ plain_tree tree → source.locals ≡ slots_of tree
         → AllHaveSlots (source_texts source.file source base) }
+{}
+
+/// A dotted name is spelled by its parts, of which the first is the one that an import binds.
+pub fn parts_law()
+    ensures spelled { (name : Name) → spelled (parts_of name) ≡ name }
+    ensures undotted { (name : Name) → list_all is_undotted (parts_of name) ≡ true }
+    ensures first { (name : Name) → (others : List Name) × (parts_of name ≡ first_part name ∷ others) }
 {}
