@@ -1,0 +1,10 @@
+use Rattle.std.proofs.Common.{refl, sym, ◌∙◌}
+use Rattle.bc_translation.specs.Context.{load_by}
+use Rattle.emit_draft.proofs.Items.{by_slot, by_text}
+use Rattle.emit_draft.proofs.names.load_name.Goals as goal
+
+pub returns-in-Some : goal.returns-in-Some
+returns-in-Some c = by_slot load_by _ _ c.in-Some.slot _ _ (sym c.slot.ensures ∙ c.in-Some.is) c.short_or.ensures (λ k. refl)
+
+pub returns-in_ok-item-in-None : goal.returns-in_ok-item-in-None
+returns-in_ok-item-in-None c = by_text load_by _ _ _ _ _ (sym c.slot.ensures ∙ c.in-None.is) c.in_ok-item-in-None.ensures (λ k. refl)
