@@ -11,14 +11,14 @@ use Rattle.py_values.specs.Shown.{PlainHeap}
 use Rattle.py_values.specs.Equality.{equal}
 use Rattle.py_primitives.specs.Texts.{quoted, str_of, repr_of}
 use Rattle.py_primitives.specs.Order.{order}
-use Rattle.py_primitives.specs.Faults.{fault_text, Unsupported, Arithmetic, OutOfRange, NotAnIndex, NoCode, NoKey}
+use Rattle.py_primitives.specs.Faults.{fault_kind, fault_text, NoModule, RelativeImport, IncompatibleFile, BadDefaults, WrongCount, NoKeywords, Unsupported, Arithmetic, OutOfRange, NotAnIndex, NoCode, NoKey}
 use Rattle.py_primitives.specs.Outcome.{Raises, Full, gives, raises, making_fault}
 use Rattle.py_primitives.specs.Operators.{binary, in_place, op_contains, op_is, op_match, op_order, Add, FloorDivide, Multiply}
 use Rattle.py_primitives.specs.Order.{Below}
 use Rattle.py_primitives.specs.Uses.{get_item}
 use Rattle.py_primitives.specs.Calls.{call}
 use Rattle.py_primitives.specs.Methods.{call_method, pieces_between, words_of}
-use Rattle.py_primitives.specs.Output.{printed, call_port_get}
+use Rattle.py_primitives.specs.Output.{printed, call_port_get, call_port}
 
 abbrev heap_of : List (Option (Object Val (List ℕ))) → PlainHeap
 heap_of objects = record { objects = objects; bytes = 0; cell_size = 40; byte_size = 8 }
@@ -158,6 +158,33 @@ one_is_no_truth = refl
 kind_below : op_match (heap_of (Some (ExceptionObject kinds.KeyError Empty [] 0 []) ∷ [])) (At 0) (Built (builtins.Kind kinds.LookupError)) ≡ gives (Truth true) (heap_of (Some (ExceptionObject kinds.KeyError Empty [] 0 []) ∷ []))
 kind_below = refl
 
+-- faults of imports and functions
+-- ===============================
+
+no_module : fault_text (NoModule (codes "a.b")) ≡ codes "no module named 'a.b'"
+no_module = refl
+
+no_module_kind : fault_kind (NoModule (codes "a.b")) ≡ kinds.ImportError
+no_module_kind = refl
+
+relative_import : fault_text RelativeImport ≡ codes "relative import"
+relative_import = refl
+
+relative_import_kind : fault_kind RelativeImport ≡ kinds.ImportError
+relative_import_kind = refl
+
+incompatible_file : fault_text IncompatibleFile ≡ codes "incompatible .mpy file"
+incompatible_file = refl
+
+incompatible_file_kind : fault_kind IncompatibleFile ≡ kinds.ValueError
+incompatible_file_kind = refl
+
+bad_defaults : fault_text BadDefaults ≡ codes "bad defaults"
+bad_defaults = refl
+
+bad_defaults_kind : fault_kind BadDefaults ≡ kinds.TypeError
+bad_defaults_kind = refl
+
 -- indexes
 -- =======
 
@@ -221,3 +248,13 @@ with_sep = refl
 too_great : call_port_get no_objects (record { pending = pos 1073741824 ∷ pos 7 ∷ []; written = []; calls = 0; failing = [] } ∷ []) (Int (pos 0))
     ≡ record { answer = Err (Raises (Arithmetic Overflow)); ports = record { pending = pos 7 ∷ []; written = []; calls = 1; failing = [] } ∷ [] }
 too_great = refl
+
+-- a call of a port: how many there are, a count that isn't taken, and a keyword argument
+ports_counted : (call_port no_objects [] builtins.PortCount [] []).answer ≡ Ok (Int (pos 0))
+ports_counted = refl
+
+count_takes_none : (call_port no_objects [] builtins.PortCount (Nil ∷ []) []).answer ≡ Err (Raises (WrongCount 0 1))
+count_takes_none = refl
+
+get_takes_no_keywords : (call_port no_objects [] builtins.PortGet [] ((Nil, Nil) ∷ [])).answer ≡ Err (Raises NoKeywords)
+get_takes_no_keywords = refl

@@ -24,33 +24,47 @@ use Rattle.py_primitives.specs.Operators.{gives_number, unsupported, sign_method
 -- counts of arguments
 -- ===================
 
--- how many arguments a built-in takes. The object of a method isn't counted
+-- how many arguments a built-in takes. The object of a method isn't counted, and a module's call is refused whatever the count
 pub data Counts : Type 0 where
   Exactly : ℕ → Counts
   Between : (least most : ℕ) → Counts
   AtLeast : ℕ → Counts
 
 abbrev pub counts_of : Builtin → Counts
-counts_of builtins.Print = AtLeast 0
-counts_of builtins.Range = Between 1 3
-counts_of builtins.Min = AtLeast 1
-counts_of builtins.Max = AtLeast 1
+counts_of builtins.Bool = Exactly 1
+counts_of builtins.Int = Exactly 1
+counts_of builtins.Str = Exactly 1
 counts_of builtins.List = Between 0 1
 counts_of builtins.Tuple = Between 0 1
 counts_of builtins.Dict = Exactly 0
+counts_of builtins.Print = AtLeast 0
+counts_of builtins.Len = Exactly 1
+counts_of builtins.Abs = Exactly 1
+counts_of builtins.Range = Between 1 3
+counts_of builtins.Min = AtLeast 1
+counts_of builtins.Max = AtLeast 1
+counts_of builtins.Repr = Exactly 1
+counts_of builtins.Ord = Exactly 1
+counts_of builtins.Chr = Exactly 1
 counts_of builtins.IsInstance = Exactly 2
 counts_of (builtins.Kind kind) = AtLeast 0
+counts_of builtins.ListAppend = Exactly 1
 counts_of builtins.ListPop = Between 0 1
 counts_of builtins.ListInsert = Exactly 2
+counts_of builtins.ListExtend = Exactly 1
 counts_of builtins.DictGet = Between 1 2
 counts_of builtins.DictKeys = Exactly 0
 counts_of builtins.DictValues = Exactly 0
 counts_of builtins.DictItems = Exactly 0
 counts_of builtins.DictPop = Between 1 2
+counts_of builtins.StrJoin = Exactly 1
+counts_of builtins.StrFind = Exactly 1
+counts_of builtins.StrStartsWith = Exactly 1
 counts_of builtins.StrSplit = Between 0 1
+counts_of builtins.Port = AtLeast 0
 counts_of builtins.PortPut = Exactly 2
+counts_of builtins.PortGet = Exactly 1
 counts_of builtins.PortCount = Exactly 0
-counts_of _ = Exactly 1
 
 -- the fault of a count that isn't taken
 abbrev pub count_fault : Counts → ℕ → Option Fault
@@ -210,6 +224,10 @@ call_isinstance heap v types = instance_of heap v (all_of named_type (members ty
 -- all of them
 -- ===========
 
+-- what is never called here: print, methods, the ports' module and its functions, and too few arguments
+abbrev pub elsewhere : PlainHeap → Outcome Val
+elsewhere heap = gives Nil heap
+
 -- with as many arguments as it takes
 abbrev pub called : PlainHeap → Builtin → List Val → Outcome Val
 called heap builtins.Len (v ∷ _) = call_len heap v (items_in heap v)
@@ -228,7 +246,34 @@ called heap builtins.Tuple args = call_tuple heap args
 called heap builtins.Dict _ = call_dict heap
 called heap builtins.IsInstance (v ∷ types ∷ _) = call_isinstance heap v types
 called heap (builtins.Kind kind) args = making_exception heap kind args
-called heap _ _ = gives Nil heap
+called heap builtins.Len [] = elsewhere heap
+called heap builtins.Abs [] = elsewhere heap
+called heap builtins.Bool [] = elsewhere heap
+called heap builtins.Str [] = elsewhere heap
+called heap builtins.Repr [] = elsewhere heap
+called heap builtins.Int [] = elsewhere heap
+called heap builtins.Ord [] = elsewhere heap
+called heap builtins.Chr [] = elsewhere heap
+called heap builtins.IsInstance [] = elsewhere heap
+called heap builtins.IsInstance (v ∷ []) = elsewhere heap
+called heap builtins.Print args = elsewhere heap
+called heap builtins.ListAppend args = elsewhere heap
+called heap builtins.ListPop args = elsewhere heap
+called heap builtins.ListInsert args = elsewhere heap
+called heap builtins.ListExtend args = elsewhere heap
+called heap builtins.DictGet args = elsewhere heap
+called heap builtins.DictKeys args = elsewhere heap
+called heap builtins.DictValues args = elsewhere heap
+called heap builtins.DictItems args = elsewhere heap
+called heap builtins.DictPop args = elsewhere heap
+called heap builtins.StrJoin args = elsewhere heap
+called heap builtins.StrFind args = elsewhere heap
+called heap builtins.StrStartsWith args = elsewhere heap
+called heap builtins.StrSplit args = elsewhere heap
+called heap builtins.Port args = elsewhere heap
+called heap builtins.PortPut args = elsewhere heap
+called heap builtins.PortGet args = elsewhere heap
+called heap builtins.PortCount args = elsewhere heap
 
 -- a call of one that takes no keyword arguments: they are refused first, and then the count is judged
 abbrev pub call : PlainHeap → Builtin → List Val → List (Val × Val) → Outcome Val

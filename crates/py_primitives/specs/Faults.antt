@@ -40,6 +40,9 @@ pub data Fault : Type 0 where
   UnpacksFewer : (want : ℕ) → Fault
   NothingToRaise : Fault
   TooDeep : Fault
+  -- imports and functions
+  NoModule : (name : List ℕ) → Fault
+  RelativeImport IncompatibleFile BadDefaults : Fault
 
 abbrev pub number_kind : NumFault → Kind
 number_kind Overflow = kinds.OverflowError
@@ -54,15 +57,39 @@ number_text NegativeShift = codes "negative shift count"
 number_text NegativePower = codes "negative power with no float support"
 
 abbrev pub fault_kind : Fault → Kind
+fault_kind (Unsupported method left right) = kinds.TypeError
+fault_kind (UnsupportedOne method type) = kinds.TypeError
+fault_kind UnsupportedMatch = kinds.TypeError
+fault_kind NotAnException = kinds.TypeError
 fault_kind (Arithmetic fault) = number_kind fault
+fault_kind (NotCallable type) = kinds.TypeError
+fault_kind (NotIterable type) = kinds.TypeError
+fault_kind (NotSubscriptable type) = kinds.TypeError
+fault_kind (NotAssignable type) = kinds.TypeError
+fault_kind (NotDeletable type) = kinds.TypeError
+fault_kind (NoLength type) = kinds.TypeError
+fault_kind (NotANumber type) = kinds.TypeError
+fault_kind (NotAnIndex type index) = kinds.TypeError
 fault_kind (OutOfRange type) = kinds.IndexError
 fault_kind EmptyList = kinds.IndexError
 fault_kind (NoKey key) = kinds.KeyError
 fault_kind (NoAttribute type name) = kinds.AttributeError
+fault_kind (WrongCount takes given) = kinds.TypeError
+fault_kind (Missing count) = kinds.TypeError
+fault_kind (TooFew least given) = kinds.TypeError
+fault_kind (TooMany most given) = kinds.TypeError
+fault_kind NoKeywords = kinds.TypeError
+fault_kind KeywordNotAStr = kinds.TypeError
+fault_kind (UnknownKeyword name) = kinds.TypeError
+fault_kind (RepeatedKeyword name) = kinds.TypeError
+fault_kind (NotAStr name) = kinds.TypeError
 fault_kind ZeroStep = kinds.ValueError
 fault_kind NothingToCompare = kinds.ValueError
 fault_kind NoNumeral = kinds.ValueError
+fault_kind NoCharacter = kinds.TypeError
 fault_kind NoCode = kinds.ValueError
+fault_kind NotTypes = kinds.TypeError
+fault_kind JoinsNoStr = kinds.TypeError
 fault_kind EmptySeparator = kinds.ValueError
 fault_kind NoSuchPort = kinds.ValueError
 fault_kind PortFailed = kinds.OsError
@@ -73,7 +100,10 @@ fault_kind (UnpacksMore have) = kinds.ValueError
 fault_kind (UnpacksFewer want) = kinds.ValueError
 fault_kind NothingToRaise = kinds.RuntimeError
 fault_kind TooDeep = kinds.RuntimeError
-fault_kind _ = kinds.TypeError
+fault_kind (NoModule name) = kinds.ImportError
+fault_kind RelativeImport = kinds.ImportError
+fault_kind IncompatibleFile = kinds.ValueError
+fault_kind BadDefaults = kinds.TypeError
 
 abbrev pub between_quotes : List ℕ → List ℕ
 between_quotes text = codes "'" ++ text ++ codes "'"
@@ -136,3 +166,7 @@ fault_text (UnpacksMore have) = codes "need more than " ++ decimal have ++ codes
 fault_text (UnpacksFewer want) = codes "too many values to unpack (expected " ++ decimal want ++ codes ")"
 fault_text NothingToRaise = codes "no active exception to reraise"
 fault_text TooDeep = codes "maximum recursion depth exceeded"
+fault_text (NoModule name) = codes "no module named " ++ between_quotes name
+fault_text RelativeImport = codes "relative import"
+fault_text IncompatibleFile = codes "incompatible .mpy file"
+fault_text BadDefaults = codes "bad defaults"

@@ -1,6 +1,8 @@
 -- Calls that write to the output, and those of ports.
 use Rattle.std.specs.Prelude.{ℕ, ◌+◌, ◌-◌, ◌^◌, min, ℤ, pos, negsuc, List, [], ◌∷◌, ◌++◌, length, Bool, Option, Some, None, Result, Ok, Err, nat_eq, bytes_eq, slice_get, slice_set, unwrap_or, codes, if◌then◌else◌}
 use Rattle.std.specs.List.{list_any}
+use Rattle.mpy_base.specs.declared.builtin.Builtin.{Builtin}
+use Rattle.mpy_base.specs.declared.builtin.Builtin.TheVariants as builtins
 use Rattle.mpy_base.specs.World.{PortState}
 use Rattle.mpy_base.specs.Val.{Val, Nil, Int}
 use Rattle.py_values.specs.declared.small_int.NumFault.TheVariants.{Overflow}
@@ -9,7 +11,8 @@ use Rattle.py_values.specs.Shown.{PlainHeap, Shown, Number, Text, shown}
 use Rattle.py_values.specs.Names.{type_name}
 use Rattle.py_primitives.specs.Walks.{walk_all}
 use Rattle.py_primitives.specs.Texts.{str_of, joined}
-use Rattle.py_primitives.specs.Faults.{Fault, KeywordNotAStr, UnknownKeyword, RepeatedKeyword, NotAStr, NotANumber, NoSuchPort, PortFailed, Arithmetic}
+use Rattle.py_primitives.specs.Calls.{counts_of, count_fault}
+use Rattle.py_primitives.specs.Faults.{Fault, NoKeywords, KeywordNotAStr, UnknownKeyword, RepeatedKeyword, NotAStr, NotANumber, NoSuchPort, PortFailed, Arithmetic}
 use Rattle.py_primitives.specs.Outcome.{Outcome, Stop, Raises, gives, raises, after_walk}
 
 -- print
@@ -75,10 +78,14 @@ put_to ports at n (Some port) =
     else record { answer = Ok Nil; ports = slice_set ports at (record (with_call port) { written = port.written ++ n ∷ [] }) }
 put_to ports at n None = refused NoSuchPort ports
 
+-- a number, where it is a small integer
+abbrev pub number_answer : ℤ → Result Val Stop
+number_answer n = if is_small n then Ok (Int n) else Err (Raises (Arithmetic Overflow))
+
 -- what a get gives: None where no answer is pending
 abbrev pub taken : List ℤ → Result Val Stop
 taken [] = Ok Nil
-taken (n ∷ _) = if is_small n then Ok (Int n) else Err (Raises (Arithmetic Overflow))
+taken (n ∷ _) = number_answer n
 
 abbrev pub others : List ℤ → List ℤ
 others [] = []
@@ -112,4 +119,20 @@ abbrev pub call_port_get : PlainHeap → List PortState → Val → PortOutcome
 call_port_get heap ports i = get_shown heap ports i (shown heap i)
 
 abbrev pub call_port_count : List PortState → PortOutcome
-call_port_count ports = record { answer = Ok (Int (pos (length ports))); ports = ports }
+call_port_count ports = record { answer = number_answer (pos (length ports)); ports = ports }
+
+-- with as many arguments as it takes. Other built-ins call no port
+abbrev pub port_called : PlainHeap → List PortState → Builtin → List Val → PortOutcome
+port_called heap ports builtins.PortPut (i ∷ n ∷ _) = call_port_put heap ports i n
+port_called heap ports builtins.PortGet (i ∷ _) = call_port_get heap ports i
+port_called heap ports builtins.PortCount _ = call_port_count ports
+port_called heap ports _ _ = record { answer = Ok Nil; ports = ports }
+
+abbrev pub port_unless_fault : List PortState → Option Fault → PortOutcome → PortOutcome
+port_unless_fault ports None next = next
+port_unless_fault ports (Some fault) next = refused fault ports
+
+-- keyword arguments are refused first, and then the count is judged
+abbrev pub call_port : PlainHeap → List PortState → Builtin → List Val → List (Val × Val) → PortOutcome
+call_port heap ports b args [] = port_unless_fault ports (count_fault (counts_of b) (length args)) (port_called heap ports b args)
+call_port heap ports b args (_ ∷ _) = refused NoKeywords ports

@@ -1,5 +1,5 @@
 -- Faults of an arena as the meaning of programs has them.
-use Rattle.std.specs.Prelude.{◌≡◌, ℕ, List, [], Option, IsSome, codes}
+use Rattle.std.specs.Prelude.{◌≡◌, ◌≤◌, ℕ, List, [], length, take, Option, IsSome, codes}
 use Rattle.mpy_base.specs.declared.kind.Kind.{Kind}
 use Rattle.mpy_base.specs.World.{Heap, Objects}
 use Rattle.arena_heap.specs.declared.value.Value.{Value}
@@ -83,6 +83,10 @@ module _ (texts : StrNo → Option (List ℕ)) (tuples : ConstNo → Option (Lis
   plain_fault (faults.UnpacksFewer want) = plain.UnpacksFewer want
   plain_fault faults.NothingToRaise = plain.NothingToRaise
   plain_fault faults.TooDeep = plain.TooDeep
+  plain_fault (faults.NoModule name len) = plain.NoModule (take len (or_nothing (texts name)))
+  plain_fault faults.RelativeImport = plain.RelativeImport
+  plain_fault faults.IncompatibleFile = plain.IncompatibleFile
+  plain_fault faults.BadDefaults = plain.BadDefaults
 
   -- the name that a fault has. Others have no bytes
   abbrev pub name_in : Fault → List ℕ
@@ -92,7 +96,12 @@ module _ (texts : StrNo → Option (List ℕ)) (tuples : ConstNo → Option (Lis
   name_in (faults.NotAStr name) = spelled texts heap name
   name_in (faults.NoSuchName name) = or_nothing (texts name)
   name_in (faults.NotImported name) = or_nothing (texts name)
+  name_in (faults.NoModule name len) = take len (or_nothing (texts name))
   name_in _ = []
+
+-- a text has so many first bytes
+abbrev pub IsPrefix : (StrNo → Option (List ℕ)) → StrNo → ℕ → Type 0
+IsPrefix texts name len = IsSome (texts name) × (len ≤ length (or_nothing (texts name)))
 
 abbrev pub IsKindOf : Fault → Kind → Type 0
 IsKindOf fault kind =
@@ -118,4 +127,5 @@ module _ (texts : StrNo → Option (List ℕ)) (tuples : ConstNo → Option (Lis
   IsKnownFault (faults.NotAStr name) = IsKnownStr name
   IsKnownFault (faults.NoSuchName name) = IsSome (texts name)
   IsKnownFault (faults.NotImported name) = IsSome (texts name)
+  IsKnownFault (faults.NoModule name len) = IsPrefix texts name len
   IsKnownFault _ = Unit {0}

@@ -73,4 +73,12 @@ pub enum Fault {
     UnpacksFewer(u32),
     NothingToRaise,
     TooDeep,
+    /// No module has the name that is these first bytes of an imported one.
+    NoModule {
+        name: StrNo,
+        len: u32,
+    },
+    RelativeImport,
+    IncompatibleFile,
+    BadDefaults,
 }

@@ -34,11 +34,38 @@ pub fn fault_kind(fault: Fault) -> Kind
         | Fault::EmptySeparator
         | Fault::NoSuchPort
         | Fault::UnpacksMore(_)
-        | Fault::UnpacksFewer(_) => Kind::ValueError,
+        | Fault::UnpacksFewer(_)
+        | Fault::IncompatibleFile => Kind::ValueError,
         Fault::PortFailed => Kind::OsError,
         Fault::NoSuchName(_) | Fault::Unassigned => Kind::NameError,
-        Fault::NotImported(_) => Kind::ImportError,
+        Fault::NotImported(_) | Fault::NoModule { .. } | Fault::RelativeImport => {
+            Kind::ImportError
+        }
         Fault::NothingToRaise | Fault::TooDeep => Kind::RuntimeError,
-        _ => Kind::TypeError,
+        Fault::Unsupported { .. }
+        | Fault::UnsupportedOne { .. }
+        | Fault::UnsupportedMatch
+        | Fault::NotAnException
+        | Fault::NotCallable(_)
+        | Fault::NotIterable(_)
+        | Fault::NotSubscriptable(_)
+        | Fault::NotAssignable(_)
+        | Fault::NotDeletable(_)
+        | Fault::NoLength(_)
+        | Fault::NotANumber(_)
+        | Fault::NotAnIndex { .. }
+        | Fault::WrongCount { .. }
+        | Fault::Missing(_)
+        | Fault::TooFew { .. }
+        | Fault::TooMany { .. }
+        | Fault::NoKeywords
+        | Fault::KeywordNotAStr
+        | Fault::UnknownKeyword(_)
+        | Fault::RepeatedKeyword(_)
+        | Fault::NotAStr(_)
+        | Fault::NoCharacter
+        | Fault::NotTypes
+        | Fault::JoinsNoStr
+        | Fault::BadDefaults => Kind::TypeError,
     }
 }

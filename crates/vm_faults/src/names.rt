@@ -1,8 +1,8 @@
 //! The names that faults have.
 
-ghost use Rattle.std.specs.Prelude.{◌≡◌, IsSome};
+ghost use Rattle.std.specs.Prelude.{◌≡◌, IsSome, take};
 ghost use Rattle.arena_objects.specs.Iterables.{or_nothing, spelled};
-ghost use Rattle.vm_faults.specs.Faults.{IsKnownFault, IsKnownStr, name_in};
+ghost use Rattle.vm_faults.specs.Faults.{IsKnownFault, IsKnownStr, IsPrefix, name_in};
 
 use crate::fault::Fault;
 use arena_heap::{Arena, Constants, StrNo, Value};
@@ -22,6 +22,13 @@ fn made_name<'a, C: Constants>(arena: &'a Arena, consts: &'a C, name: Value) -> 
     text_bytes(arena, consts, name)
 }
 
+fn module_name<C: Constants>(consts: &C, name: StrNo, len: u32) -> &[u8]
+    requires { IsPrefix (C.text_of consts.now) name len }
+    ensures { result.now ≡ take len (or_nothing (C.text_of consts.now name)) }
+{
+    &constant_name(consts, name)[..len as usize]
+}
+
 /// The name that a fault has, and no bytes where it has none.
 pub(crate) fn fault_name<'a, C: Constants>(
     arena: &'a Arena,
@@ -38,6 +45,7 @@ pub(crate) fn fault_name<'a, C: Constants>(
         Fault::UnknownKeyword(name) | Fault::RepeatedKeyword(name) | Fault::NotAStr(name) => {
             made_name(arena, consts, name)
         }
+        Fault::NoModule { name, len } => module_name(consts, name, len),
         _ => &[],
     }
 }

@@ -312,5 +312,9 @@ pub(crate) fn wording(fault: Fault) -> [Piece; 7]
         Fault::UnpacksFewer(want) => counted("too many values to unpack (expected ", want, ")"),
         Fault::NothingToRaise => plain("no active exception to reraise"),
         Fault::TooDeep => plain("maximum recursion depth exceeded"),
+        Fault::NoModule { .. } => named("no module named "),
+        Fault::RelativeImport => plain("relative import"),
+        Fault::IncompatibleFile => plain("incompatible .mpy file"),
+        Fault::BadDefaults => plain("bad defaults"),
     }
 }

@@ -130,3 +130,15 @@ returns-in-NothingToRaise-clause-text c = by_fault _ _ c.plain-in-NothingToRaise
 
 pub returns-in-TooDeep-clause-text : goal.returns-in-TooDeep-clause-text
 returns-in-TooDeep-clause-text c = by_fault _ _ c.plain-in-TooDeep.result _ c.in-TooDeep.is c.plain-in-TooDeep.ensures.text (λ texts tuples heap. refl)
+
+pub returns-in-NoModule-clause-text : goal.returns-in-NoModule-clause-text
+returns-in-NoModule-clause-text c = by_fault _ _ c.named-in-NoModule.result _ c.in-NoModule.is c.named-in-NoModule.ensures.text (λ texts tuples heap. refl)
+
+pub returns-in-RelativeImport-clause-text : goal.returns-in-RelativeImport-clause-text
+returns-in-RelativeImport-clause-text c = by_fault _ _ c.plain-in-RelativeImport.result _ c.in-RelativeImport.is c.plain-in-RelativeImport.ensures.text (λ texts tuples heap. refl)
+
+pub returns-in-IncompatibleFile-clause-text : goal.returns-in-IncompatibleFile-clause-text
+returns-in-IncompatibleFile-clause-text c = by_fault _ _ c.plain-in-IncompatibleFile.result _ c.in-IncompatibleFile.is c.plain-in-IncompatibleFile.ensures.text (λ texts tuples heap. refl)
+
+pub returns-in-BadDefaults-clause-text : goal.returns-in-BadDefaults-clause-text
+returns-in-BadDefaults-clause-text c = by_fault _ _ c.plain-in-BadDefaults.result _ c.in-BadDefaults.is c.plain-in-BadDefaults.ensures.text (λ texts tuples heap. refl)
