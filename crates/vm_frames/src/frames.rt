@@ -69,7 +69,14 @@ impl Frames {
     }
 
     /// Begins a call of a code, with empty locals.
-    pub fn push_call(&mut self, module_number: u32, code: u32, names: DictNo, role: Role, locals: u32)
+    pub fn push_call(
+        &mut self,
+        module_number: u32,
+        code: u32,
+        names: DictNo,
+        role: Role,
+        locals: u32,
+    )
         requires shallow { length self.old.calls < LIMIT }
         requires room { locals ≤ self.old.slot_room }
         ensures { self.new ≡ record self.old { calls = (record { module_number = module_number; code = code; at = 0; names = names; role = role; locals = replicate locals None; slots = []; entries = [] }) ∷ self.old.calls } }
