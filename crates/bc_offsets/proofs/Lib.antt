@@ -1,3 +1,3 @@
-mod Arrival
-mod Order
-mod Pieces
+pub mod Arrival
+pub mod Order
+pub mod Pieces

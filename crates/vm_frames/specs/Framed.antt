@@ -1,0 +1,36 @@
+-- A frame as its fields have it.
+use Rattle.std.specs.Prelude.{ℕ, ◌^◌, ◌<◌, ◌≤◌, reverse, length, All}
+use Rattle.std.specs.Vec.{vec_capacity}
+use Rattle.vm_frames.specs.Held.{Held}
+use Rattle.vm_frames.specs.declared.slot.Entry.{Entry}
+use Rattle.vm_frames.specs.declared.frame.Frame.TheInside.{Inside}
+
+abbrev pub held_of : Inside → Held
+held_of f = record {
+  call = record {
+    module_number = f.module_number;
+    code = f.code;
+    at = f.at;
+    names = f.names;
+    role = f.role;
+    locals = f.locals.items;
+    slots = reverse f.slots.items;
+    entries = reverse f.entries.items;
+  };
+  slot_room = f.slot_room;
+  entry_room = f.entry_room;
+}
+
+-- a handler begins with room for a slot
+abbrev pub IsLow : ℕ → Entry → Type 0
+IsLow room e = e.height < room
+
+pub record IsFrame (f : Inside) : Type 0 where
+  pub locals_fit : length f.locals.items ≤ f.slot_room
+  pub slots_fit : length f.slots.items ≤ f.slot_room
+  pub entries_fit : length f.entries.items ≤ f.entry_room
+  pub locals_taken : f.slot_room ≤ vec_capacity f.locals
+  pub slots_taken : f.slot_room ≤ vec_capacity f.slots
+  pub entries_taken : f.entry_room ≤ vec_capacity f.entries
+  pub few : f.slot_room < 2 ^ 32
+  pub low : All (IsLow f.slot_room) f.entries.items

@@ -1,0 +1,245 @@
+//! One frame.
+
+ghost use Rattle.std.specs.Prelude.{◌≡◌, ℕ, ◌+◌, ◌-◌, ◌<◌, ◌≤◌, List, [], ◌∷◌, length, drop, Option, Some, None, IfOk, IfSome, option_and_then, slice_get, slice_set, slice_index_or, map, replicate, reverse};
+ghost use Rattle.arena_heap.specs.declared.value.Value.{Value as Item};
+ghost use Rattle.vm_frames.specs.Calls.{Call};
+ghost use Rattle.vm_frames.specs.Held.{Held, HasRoom};
+ghost use Rattle.vm_frames.specs.Moves.{cut, kept_in};
+
+use crate::slot::{Entry, Role, Slot};
+use arena_heap::{DictNo, ExcNo, Value};
+use mpy_base::NoMemory;
+use std::alloc::Global;
+use std::marker::Model;
+
+/// The memory of one call. It is taken once, and serves one call after another.
+#[derive(Drop)]
+pub struct Frame {
+    module_number: u32,
+    code: u32,
+    at: u32,
+    names: DictNo,
+    role: Role,
+    locals: Vec<Option<Value>>,
+    slots: Vec<Slot>,
+    entries: Vec<Entry>,
+    slot_room: u32,
+    entry_room: u32,
+}
+
+impl Model for Frame {
+    ghost use Rattle.std.specs.Prelude.{reverse, length, ◌≤◌};
+    ghost use Rattle.std.specs.Vec.{vec_capacity};
+    ghost use Rattle.vm_frames.specs.Held.{Held};
+
+    ghost Value = { Held };
+
+    ghost use Rattle.vm_frames.specs.Framed.{held_of, IsFrame};
+
+    ghost view = { held_of };
+
+    ghost invariant = { IsFrame };
+}
+
+/// What the last of the entries keeps that keeps something.
+fn last_kept(entries: &[Entry]) -> Option<ExcNo>
+    ensures { result ≡ slice_get (kept_in (reverse entries.now)) 0 }
+{
+    let mut i = entries.len();
+    while i > 0 {
+        i -= 1;
+        if let Some(x) = entries[i].kept {
+            return Some(x);
+        }
+    }
+    None
+}
+
+impl Frame {
+    /// A frame with room for so many locals, as many slots and so many entries.
+    pub fn new(alloc: Global, slots: u32, entries: u32) -> Result<Frame, NoMemory>
+        ensures { IfOk result (λ f. HasRoom slots entries f) }
+    {
+        let locals = Vec::with_capacity(alloc, slots as usize)?;
+        let slot_room = slots;
+        let entry_room = entries;
+        let slots = Vec::with_capacity(alloc, slot_room as usize)?;
+        let entries = Vec::with_capacity(alloc, entry_room as usize)?;
+        Ok(Frame {
+            module_number: 0,
+            code: 0,
+            at: 0,
+            names: DictNo { cell: 0 },
+            role: Role::Main,
+            locals,
+            slots,
+            entries,
+            slot_room,
+            entry_room,
+        })
+    }
+
+    pub fn code(&self) -> (u32, u32, DictNo)
+        ensures module_number { result.0 ≡ self.now.call.module_number }
+        ensures code { result.1 ≡ self.now.call.code }
+        ensures names { result.2 ≡ self.now.call.names }
+    {
+        (self.module_number, self.code, self.names)
+    }
+
+    pub fn role(&self) -> Role
+        ensures { result ≡ self.now.call.role }
+    {
+        self.role
+    }
+
+    pub fn at(&self) -> u32
+        ensures { result ≡ self.now.call.at }
+    {
+        self.at
+    }
+
+    /// It stands at this offset from now on.
+    pub fn go(&mut self, at: u32)
+        ensures { self.new ≡ record self.old { call = record self.old.call { at = at } } }
+    {
+        self.at = at;
+    }
+
+    /// It begins a code, with empty locals.
+    pub fn begin(&mut self, module_number: u32, code: u32, names: DictNo, role: Role, locals: u32)
+        requires { locals ≤ self.old.slot_room }
+        ensures { self.new ≡ record self.old { call = record { module_number = module_number; code = code; at = 0; names = names; role = role; locals = replicate locals None; slots = []; entries = [] } } }
+    {
+        self.module_number = module_number;
+        self.code = code;
+        self.at = 0;
+        self.names = names;
+        self.role = role;
+        self.locals.clear();
+        let _ = self.locals.resize(locals as usize, None);
+        self.slots.clear();
+        self.entries.clear();
+    }
+
+    /// A slot more, on top.
+    pub fn push(&mut self, slot: Slot)
+        requires { length self.old.call.slots < self.old.slot_room }
+        ensures { self.new ≡ record self.old { call = record self.old.call { slots = slot ∷ self.old.call.slots } } }
+    {
+        let _ = self.slots.push(slot);
+    }
+
+    /// The top slot, without which it goes on.
+    pub fn pop(&mut self) -> Slot
+        requires { 0 < length self.old.call.slots }
+        ensures { self.old ≡ record self.new { call = record self.new.call { slots = result ∷ self.new.call.slots } } }
+    {
+        let top = self.slots.len() - 1;
+        let slot = self.slots[top];
+        self.slots.truncate(top);
+        slot
+    }
+
+    /// The lowest so many slots stay.
+    pub fn cut(&mut self, height: u32)
+        ensures { self.new ≡ record self.old { call = record self.old.call { slots = cut height self.old.call.slots } } }
+    {
+        self.slots.truncate(height as usize);
+    }
+
+    /// So many slots are taken from the top, or all where there are fewer.
+    pub fn take_slots(&mut self, count: usize)
+        ensures { self.new ≡ record self.old { call = record self.old.call { slots = drop count self.old.call.slots } } }
+    {
+        let rest = self.slots.len().saturating_sub(count);
+        self.slots.truncate(rest);
+    }
+
+    /// How many slots it has.
+    pub fn height(&self) -> u32
+        ensures { result ≡ length self.now.call.slots }
+    {
+        self.slots.len() as u32
+    }
+
+    /// A slot, counted from the top.
+    pub fn slot(&self, i: u32) -> Slot
+        requires { i < length self.now.call.slots }
+        ensures { slice_get self.now.call.slots i ≡ Some result }
+    {
+        self.slots[self.slots.len() - 1 - i as usize]
+    }
+
+    /// A slot, counted from the top, is this one from now on.
+    pub fn set_slot(&mut self, i: u32, slot: Slot)
+        requires { i < length self.old.call.slots }
+        ensures { self.new ≡ record self.old { call = record self.old.call { slots = slice_set self.old.call.slots i slot } } }
+    {
+        let place = self.slots.len() - 1 - i as usize;
+        self.slots[place] = slot;
+    }
+
+    /// A local, or None where it is empty.
+    pub fn local(&self, i: u32) -> Option<Value>
+        requires { i < length self.now.call.locals }
+        ensures { slice_get self.now.call.locals i ≡ Some result }
+    {
+        self.locals[i as usize]
+    }
+
+    /// A local gets a value, or is emptied.
+    pub fn set_local(&mut self, i: u32, v: Option<Value>)
+        requires { i < length self.old.call.locals }
+        ensures { self.new ≡ record self.old { call = record self.old.call { locals = slice_set self.old.call.locals i v } } }
+    {
+        self.locals[i as usize] = v;
+    }
+
+    /// The innermost entry.
+    pub fn entry(&self) -> Option<Entry>
+        ensures is { result ≡ slice_get self.now.call.entries 0 }
+        ensures low { IfSome result (λ e. e.height < self.now.slot_room) }
+    {
+        self.entries.last().copied()
+    }
+
+    /// An entry more, innermost.
+    pub fn add_entry(&mut self, entry: Entry)
+        requires room { length self.old.call.entries < self.old.entry_room }
+        requires low { entry.height < self.old.slot_room }
+        ensures { self.new ≡ record self.old { call = record self.old.call { entries = entry ∷ self.old.call.entries } } }
+    {
+        let _ = self.entries.push(entry);
+    }
+
+    /// The exception that the innermost entry keeps which keeps one.
+    pub fn last_raised(&self) -> Option<ExcNo>
+        ensures { result ≡ slice_get (kept_in self.now.call.entries) 0 }
+    {
+        last_kept(&self.entries)
+    }
+
+    /// An entry more, over all its slots, which no exception has entered.
+    pub fn setup(&mut self, handler: u32, finally: bool)
+        requires slot { length self.old.call.slots < self.old.slot_room }
+        requires room { length self.old.call.entries < self.old.entry_room }
+        ensures { self.new ≡ record self.old { call = record self.old.call { entries = (record { handler = handler; is_finally = finally; height = length self.old.call.slots; kept = None }) ∷ self.old.call.entries } } }
+    {
+        let height = self.height();
+        self.add_entry(Entry {
+            handler,
+            is_finally: finally,
+            height,
+            kept: None,
+        });
+    }
+
+    /// Drops the innermost entry, if there is one.
+    pub fn drop_entry(&mut self)
+        ensures dropped { self.new ≡ record self.old { call = record self.old.call { entries = drop 1 self.old.call.entries } } }
+        ensures room { 0 < length self.old.call.entries → length self.new.call.entries < self.new.entry_room }
+    {
+        let _ = self.entries.pop();
+    }
+}
