@@ -1,0 +1,3 @@
+//! A run of a verified library is never stuck.
+#![tactic(auto)]
+
