@@ -1,17 +1,16 @@
 -- What a good state of a flow comes to at each kind of instruction.
-use Rattle.std.proofs.Common.{◌≡◌, ℕ, zero, suc, ◌+◌, ◌-◌, ◌≤◌, List, [], ◌∷◌, drop, length, Bool, true, false, ◌&&◌, Option, Some, refl, sym, ap, ◌∙◌, subst, arith, if◌then◌else◌, length-drop}
+use Rattle.std.proofs.Common.{◌≡◌, ℕ, suc, ◌+◌, ◌-◌, ◌≤◌, List, [], drop, length, Bool, true, false, ◌&&◌, Some, refl, sym, ◌∙◌, subst, arith, if◌then◌else◌, length-drop}
 use Rattle.std.specs.Prelude.{slice_get, nat_le}
 use Rattle.std.proofs.lemmas.Bool.{leb-true, and_parts}
 use Rattle.bc_shapes.specs.declared.kinds.Want.{Want}
-use Rattle.bc_shapes.specs.declared.kinds.Want.TheVariants as wants
 use Rattle.bc_shapes.specs.declared.kinds.Give.{Give}
 use Rattle.bc_shapes.specs.declared.shape.Entry.{Entry}
 use Rattle.bc_shapes.specs.Shape.{At, fits, takes as values_on}
-use Rattle.bc_flow.specs.Action.{Action, Straight, Branch, Jump, Setup, PopExcept, EndFinally, Unwind, Return, Raise}
+use Rattle.bc_flow.specs.Action.{Action, Straight, Branch, Jump, Return, Raise}
 use Rattle.bc_flow.specs.Code.{Code}
 use Rattle.bc_flow.specs.Edges.{takes, gives, falls, target, gives_there, floor, finds, change, base, left, deep}
 use Rattle.bc_flow.specs.Verified.{Assigned, Holds}
-use Rattle.bc_flow.specs.Machine.{Stack, St, Run, Stuck, Choice, is_wanted, all_wanted, given, go, throw, leave, unwind, act, fetched, within, step}
+use Rattle.bc_flow.specs.Machine.{Stack, St, Run, Stuck, Choice, all_wanted, given, go, throw, act, fetched, within}
 use Rattle.bc_flow.proofs.Never.{Good, GivesNoCause, step_good}
 use Rattle.bc_flow.proofs.Sound.{stands-length}
 
@@ -63,7 +62,7 @@ module _ (code : Code) (a : Assigned) (fine : GivesNoCause code) (holds : Holds 
   pub stands : (p : ℕ) (st : Stack) (es : List Entry) → Good code a (Run p st es) → (i : Action) × (slice_get code.actions p ≡ Some i)
   stands p st es g = let f = holds.closed p g.runs.at g.runs.is in (f.action, f.is)
 
-  found : (b : Bool) (s : St) → Good code a (if b then s else Stuck) → (b ≡ true) × Good code a s
+  pub found : (b : Bool) (s : St) → Good code a (if b then s else Stuck) → (b ≡ true) × Good code a s
   found true s g = (refl, g)
   found false s g = absurd g.runs
 

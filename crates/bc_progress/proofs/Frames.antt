@@ -1,29 +1,26 @@
 -- Raises and values that go through frames.
-use Rattle.std.proofs.Common.{◌≡◌, ℕ, zero, suc, ◌+◌, ◌-◌, ◌<◌, ◌≤◌, List, [], ◌∷◌, map, drop, length, Bool, true, false, Option, Some, None, refl, sym, ap, ◌∙◌, subst, arith, length-drop}
+use Rattle.std.proofs.Common.{◌≡◌, ℕ, suc, ◌+◌, ◌-◌, ◌≤◌, List, [], ◌∷◌, map, drop, length, Option, Some, None, refl, ap, ◌∙◌, subst, arith, length-drop}
 use Rattle.std.specs.Prelude.{slice_get}
 use Rattle.std.proofs.lemmas.List.{drop-drop}
 use Rattle.mpy_base.specs.Val.{Val, PlainWorld}
 use Rattle.bc_shapes.specs.declared.kinds.Kind.TheVariants as kinds
 use Rattle.bc_shapes.specs.declared.kinds.Give.TheVariants.{New}
-use Rattle.bc_flow.specs.Action.{Action, Straight}
-use Rattle.bc_flow.specs.Code as flows
-use Rattle.bc_flow.specs.Edges.{change, takes, floor}
-use Rattle.bc_flow.specs.Verified.{Assigned, Holds as Meets}
+use Rattle.bc_flow.specs.Action.{Straight}
+use Rattle.bc_flow.specs.Edges.{change, takes}
+use Rattle.bc_flow.specs.Verified.{Holds as Meets}
 use Rattle.bc_flow.specs.Machine as flow
 use Rattle.bc_flow.specs.Machine.{Stack}
-use Rattle.bc_flow.proofs.Never.{Good, GivesNoCause}
 use Rattle.bc_flow.proofs.Runs.{fits_floor}
 use Rattle.bc_flow.proofs.Sound.{Fits as Heights}
 use Rattle.py_effects.specs.Effect.{Given, Gives, Throws, Fills, Fails, Thrown, Filled, given}
 use Rattle.py_effects.specs.Modules.{store_module}
 use Rattle.bc_machine.specs.Library.{Name, Code, Module, Holds, Entry, Library, entry_in, module_in, code_in, code_at}
-use Rattle.bc_machine.specs.State as states
-use Rattle.bc_machine.specs.State.{Slot, Value, Role, Main, Called, Imported, Frame, State, Running, Halted, Stuck, go, cut, abandoned, throw_in, throw_out, throw, fail, on_given, give}
+use Rattle.bc_machine.specs.State.{Value, Role, Main, Called, Imported, Frame, State, Running, cut, abandoned, throw_in, throw_out, throw, fail, on_given, give}
 use Rattle.bc_progress.specs.Slots.{value, ShowsAll, more, flow_entry}
-use Rattle.bc_progress.specs.Plans.{Plan, flow_of, IsVerifiedCode, IsVerifiedModule, Plans, Follows}
-use Rattle.bc_progress.specs.Fits.{IsPlanned, Stands, Waits, Below, Fits}
+use Rattle.bc_progress.specs.Plans.{flow_of, IsVerifiedCode, Plans, Follows}
+use Rattle.bc_progress.specs.Fits.{Stands, Waits, Below, Fits}
 use Rattle.bc_progress.proofs.Flowing.{raises, straight_on, stands, low}
-use Rattle.bc_progress.proofs.Showing.{shows-length, shows_cut}
+use Rattle.bc_progress.proofs.Showing.{shows_cut}
 use Rattle.bc_progress.proofs.Moves.{Agree, agree_all, lands, caught}
 use Rattle.bc_progress.proofs.Items.{fine}
 
@@ -58,15 +55,14 @@ module _ (plans : Plans) (library : Library) (follows : Follows plans library) w
       let plan = plans frame.module_name frame.code in
       let es = map flow_entry frame.entries in
       let m = meets frame.module_name frame.code w.code w.code_is in
-      let l = low (flow_of plan w.code) plan.assigned (fine plan w.code) m (Straight w.wants (New kinds.Value ∷ [])) frame.position w.stack es refl w.planned w.call in
-      (
+      let l = low (flow_of plan w.code) plan.assigned (fine plan w.code) m (Straight w.wants (New kinds.Value ∷ [])) frame.position w.stack es refl w.planned w.call in (
         (λ h le.
-          let k = length w.stack - h in
-          let n : length w.wants ≤ length w.stack = l.0 in
-          let q = length-drop (length w.wants) w.stack in
-          let c : drop (length (drop (length w.wants) w.stack) - h) (drop (length w.wants) w.stack) ≡ drop k w.stack =
-          drop-drop (length (drop (length w.wants) w.stack) - h) (length w.wants) w.stack ∙ ap (λ z. drop z w.stack) (let e : length w.wants + (length (drop (length w.wants) w.stack) - h) ≡ k = omega (arith, q, n, le) in e) in
-          subst (ShowsAll (cut h frame.slots)) c (shows_cut h frame.slots (drop (length w.wants) w.stack) w.shows)),
+            let k = length w.stack - h in
+            let n : length w.wants ≤ length w.stack = l.0 in
+            let q = length-drop (length w.wants) w.stack in
+            let c : drop (length (drop (length w.wants) w.stack) - h) (drop (length w.wants) w.stack) ≡ drop k w.stack =
+            drop-drop (length (drop (length w.wants) w.stack) - h) (length w.wants) w.stack ∙ ap (λ z. drop z w.stack) (let e : length w.wants + (length (drop (length w.wants) w.stack) - h) ≡ k = omega (arith, q, n, le) in e) in
+            subst (ShowsAll (cut h frame.slots)) c (shows_cut h frame.slots (drop (length w.wants) w.stack) w.shows)),
         fits_floor es (length w.stack) (length w.stack - length w.wants) w.planned.runs.fits l.1,
       )
 
@@ -78,7 +74,7 @@ module _ (plans : Plans) (library : Library) (follows : Follows plans library) w
       caught plans library frame s.code s.code_is s.locals frames below x w out o frame.entries s.stack (length s.stack - length s.wants) a.0 a.1
       (raises (flow_of plan s.code) plan.assigned (fine plan s.code) m (Straight s.wants (New kinds.Value ∷ [])) frame.position s.stack (map flow_entry frame.entries) s.planned s.call)
 
-  out_fits : (x : ℕ) (role : Role) (frames : List Frame) → Below plans library role frames → (w : PlainWorld) → Fits plans library (throw_out x frames w)
+  pub out_fits : (x : ℕ) (role : Role) (frames : List Frame) → Below plans library role frames → (w : PlainWorld) → Fits plans library (throw_out x frames w)
   out_fits x role [] below w = tt
   out_fits x Main (frame ∷ frames) below w = absurd below
   out_fits x Called (frame ∷ frames) below w = waits_out x frame frames below.0 below.1 w _ (out_fits x frame.role frames below.1 (abandoned frame.role w))

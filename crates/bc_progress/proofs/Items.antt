@@ -1,5 +1,5 @@
 -- What the instructions of a code are to its flow.
-use Rattle.std.proofs.Common.{◌≡◌, ℕ, zero, suc, true, List, [], ◌∷◌, ◌++◌, length, map, replicate, Some, refl, subst}
+use Rattle.std.proofs.Common.{◌≡◌, ℕ, zero, suc, true, List, [], ◌∷◌, ◌++◌, map, replicate, Some, refl, subst}
 use Rattle.std.specs.Prelude.{slice_get}
 use Rattle.bc_ops.specs.declared.instr.Op.{Op}
 use Rattle.bc_ops.specs.declared.instr.Op.TheVariants as ops

@@ -1,23 +1,19 @@
 -- The machine's moves keep what fits: raises, returns, and jumps out of handlers.
-use Rattle.std.proofs.Common.{◌≡◌, ℕ, zero, suc, ◌+◌, ◌-◌, ◌≤◌, List, [], ◌∷◌, map, drop, length, Bool, true, false, not, ◌&&◌, Option, Some, None, cond, refl, sym, ap, ◌∙◌, subst, arith, if◌then◌else◌, length-drop}
-use Rattle.std.specs.Prelude.{slice_get, nat_le}
-use Rattle.std.proofs.lemmas.Bool.{false≢true}
-use Rattle.std.proofs.lemmas.List.{drop-drop}
-use Rattle.mpy_base.specs.Val.{Val, Nil, At, PlainWorld}
+use Rattle.std.proofs.Common.{◌≡◌, ℕ, zero, suc, ◌≤◌, List, [], ◌∷◌, map, drop, length, Bool, true, false, Some, refl, sym, ap, subst, arith, if◌then◌else◌}
+use Rattle.mpy_base.specs.Val.{Val, At, PlainWorld}
 use Rattle.bc_shapes.specs.declared.shape.Entry.{Entry as FlowEntry}
-use Rattle.bc_flow.specs.Action.{Straight, iterator}
+use Rattle.bc_flow.specs.Action.{iterator}
 use Rattle.bc_flow.specs.Code as flows
-use Rattle.bc_flow.specs.Verified.{Assigned, Holds}
+use Rattle.bc_flow.specs.Verified.{Assigned}
 use Rattle.bc_flow.specs.Machine as flow
 use Rattle.bc_flow.specs.Machine.{Stack}
-use Rattle.bc_flow.proofs.Never.{Good, GivesNoCause}
+use Rattle.bc_flow.proofs.Never.{Good}
 use Rattle.bc_flow.proofs.Sound.{Fits as Heights, cut_cut}
-use Rattle.py_effects.specs.Effect.{Given, Gives, Throws, Fills, Fails, Thrown, Filled}
 use Rattle.bc_machine.specs.Library.{Code, Library, code_at}
-use Rattle.bc_machine.specs.State.{Slot, Value, KeptReturn, KeptJump, Entry, Frame, State, Running, Halted, Stuck, remark, go, cut, enter, throw_in, give, is_run, leave, without_iter, unwind, resume, throw, throw_out}
-use Rattle.bc_progress.specs.Slots.{Shows, value, nothing, exception, null, kept_return, kept_jump, iterator1, iterator2, iterator3, iterator4, ShowsAll, none, more, bound, free, flow_entry}
-use Rattle.bc_progress.specs.Plans.{Plan, flow_of, Plans}
-use Rattle.bc_progress.specs.Fits.{IsPlanned, Stands, Waits, Below, Fits}
+use Rattle.bc_machine.specs.State.{Slot, Value, KeptReturn, KeptJump, Entry, Frame, State, remark, go, cut, enter, throw_in, give, is_run, leave, without_iter, unwind}
+use Rattle.bc_progress.specs.Slots.{Shows, exception, kept_return, kept_jump, ShowsAll, more, flow_entry}
+use Rattle.bc_progress.specs.Plans.{flow_of, Plans}
+use Rattle.bc_progress.specs.Fits.{Below, Fits}
 use Rattle.bc_progress.proofs.Showing.{shows_drop, shows_cut}
 
 pub flow_remarked : (q : ℕ) (es : List Entry) → map (flow.remark q) (map flow_entry es) ≡ map flow_entry (map (remark q) es)
@@ -79,7 +75,7 @@ module _ (plans : Plans) (library : Library) (frame : Frame) (code : Code) (code
       by false k g = enters (record e { kept = Some x }) entries (Value (At x)) flow.NoneOrException frame.slots stack w exception (a e.height f.0) g
 
   -- a return
-  returns : (v : Val) (w : PlainWorld) → Fits plans library (give v frame.role frames w) → (entries : List Entry) (stack : Stack) (n : ℕ) → Agree n frame.slots stack → Heights (map flow_entry entries) n
+  pub returns : (v : Val) (w : PlainWorld) → Fits plans library (give v frame.role frames w) → (entries : List Entry) (stack : Stack) (n : ℕ) → Agree n frame.slots stack → Heights (map flow_entry entries) n
       → Good F A (flow.leave (map flow_entry entries) stack) → Fits plans library (leave v entries frame frames w)
   returns v w o [] stack n a f g = o
   returns v w o (e ∷ entries) stack n a f g =

@@ -1,5 +1,5 @@
 -- Slots that lie on top, and what is below.
-use Rattle.std.proofs.Common.{◌≡◌, ℕ, zero, suc, ◌+◌, ◌-◌, ◌≤◌, List, [], ◌∷◌, ◌++◌, map, drop, length, replicate, Bool, true, false, ◌&&◌, Option, Some, None, refl, sym, ap, ◌∙◌, subst, arith}
+use Rattle.std.proofs.Common.{◌≡◌, ℕ, zero, suc, ◌+◌, ◌-◌, ◌≤◌, List, [], ◌∷◌, ◌++◌, map, drop, length, replicate, true, false, Some, None, refl, sym, ap, ◌∙◌, subst, arith}
 use Rattle.std.proofs.lemmas.Bool.{and_parts, false≢true}
 use Rattle.mpy_base.specs.declared.builtin.Builtin.{Builtin}
 use Rattle.mpy_base.specs.Val.{Val, Nil, Built, At}
@@ -8,9 +8,10 @@ use Rattle.bc_shapes.specs.declared.kinds.Want.{Want}
 use Rattle.bc_shapes.specs.declared.kinds.Want.TheVariants as wants
 use Rattle.bc_shapes.specs.declared.kinds.Give.TheVariants.{New}
 use Rattle.bc_shapes.specs.Shape.{takes}
+use Rattle.bc_flow.specs.Action.{iterator}
 use Rattle.bc_flow.specs.Machine as flow
 use Rattle.bc_flow.specs.Machine.{Stack, is_wanted, all_wanted, give_slot}
-use Rattle.bc_machine.specs.State.{Slot, Value, Null, Object, Iter, KeptReturn, KeptJump, cut}
+use Rattle.bc_machine.specs.State.{Slot, Value, Null, Object, Iter, cut}
 use Rattle.bc_progress.specs.Slots.{Shows, value, nothing, exception, null, kept_return, kept_jump, iterator1, iterator2, iterator3, iterator4, ShowsAll, none, more, bound, free}
 
 pub shows-length : (slots : List Slot) (stack : Stack) → ShowsAll slots stack → length slots ≡ length stack
@@ -101,3 +102,45 @@ wanted_more n stack e = wanted_drop n (wants.Value ∷ []) stack (subst (λ ws. 
 pub values_show : (vs : List Val) (old : Stack) (slots : List Slot) (stack : Stack) → ShowsAll slots stack → ShowsAll (map Value vs ++ slots) (map (give_slot old) (replicate (length vs) (New kinds.Value) ++ []) ++ stack)
 values_show [] old slots stack r = r
 values_show (v ∷ vs) old slots stack r = more value (values_show vs old slots stack r)
+
+-- a value, or the empty slot
+pub as_value_or_null : (P : Slot → Type 0) (s : Slot) (t : flow.Slot) → ((v : Val) → P (Value v)) → P Null → Shows s t → is_wanted wants.ValueOrNull t ≡ true → P s
+as_value_or_null P s t k n (value {v = v}) e = k v
+as_value_or_null P s t k n nothing e = k Nil
+as_value_or_null P s t k n (exception {x = x}) e = k (At x)
+as_value_or_null P s t k n null e = n
+as_value_or_null P s t k n _ e = absurd (false≢true e)
+
+pub as_null : (P : Slot → Type 0) (s : Slot) (t : flow.Slot) → P Null → Shows s t → is_wanted wants.Null t ≡ true → P s
+as_null P s t n null e = n
+as_null P s t n _ e = absurd (false≢true e)
+
+-- the slots of an iterator, of which the top one says where it is
+as_fourth : (P : Slot → flow.Slot → Type 0) (s : Slot) (t : flow.Slot) → ((over : Val) (at : ℕ) → P (Iter over at 3) flow.Iter4) → Shows s t → is_wanted wants.Iter4 t ≡ true → P s t
+as_fourth P s t k (iterator4 {over = over} {at = at}) e = k over at
+as_fourth P s t k _ e = absurd (false≢true e)
+
+as_third : (P : flow.Slot → Type 0) (s : Slot) (t : flow.Slot) → P flow.Iter3 → Shows s t → is_wanted wants.Iter3 t ≡ true → P t
+as_third P s t k iterator3 e = k
+as_third P s t k _ e = absurd (false≢true e)
+
+as_second : (P : flow.Slot → Type 0) (s : Slot) (t : flow.Slot) → P flow.Iter2 → Shows s t → is_wanted wants.Iter2 t ≡ true → P t
+as_second P s t k iterator2 e = k
+as_second P s t k _ e = absurd (false≢true e)
+
+as_first : (P : flow.Slot → Type 0) (s : Slot) (t : flow.Slot) → P flow.Iter1 → Shows s t → is_wanted wants.Iter1 t ≡ true → P t
+as_first P s t k iterator1 e = k
+as_first P s t k _ e = absurd (false≢true e)
+
+pub one_iterator : (P : List Slot → Stack → Type 0)
+    → ((over : Val) (at : ℕ) (c b a : Slot) (rest : List Slot) (below : Stack) → ShowsAll rest below → P (Iter over at 3 ∷ c ∷ b ∷ a ∷ rest) (flow.Iter4 ∷ flow.Iter3 ∷ flow.Iter2 ∷ flow.Iter1 ∷ below))
+    → (slots : List Slot) (stack : Stack) → ShowsAll slots stack → all_wanted iterator stack ≡ true → P slots stack
+one_iterator P k = top wants.Iter4 (wants.Iter3 ∷ wants.Iter2 ∷ wants.Iter1 ∷ []) P refl (λ s t st ss h e r w.
+    as_fourth (λ x y. P (x ∷ st) (y ∷ ss)) s t (λ over at.
+    top wants.Iter3 (wants.Iter2 ∷ wants.Iter1 ∷ []) (λ x y. P (Iter over at 3 ∷ x) (flow.Iter4 ∷ y)) refl (λ s3 t3 st3 ss3 h3 e3 r3 w3.
+    top wants.Iter2 (wants.Iter1 ∷ []) (λ x y. P (Iter over at 3 ∷ s3 ∷ x) (flow.Iter4 ∷ t3 ∷ y)) refl (λ s2 t2 st2 ss2 h2 e2 r2 w2.
+    top wants.Iter1 [] (λ x y. P (Iter over at 3 ∷ s3 ∷ s2 ∷ x) (flow.Iter4 ∷ t3 ∷ t2 ∷ y)) refl (λ s1 t1 rest below h1 e1 r1 w1.
+    as_third (λ y. P (Iter over at 3 ∷ s3 ∷ s2 ∷ s1 ∷ rest) (flow.Iter4 ∷ y ∷ t2 ∷ t1 ∷ below)) s3 t3
+    (as_second (λ y. P (Iter over at 3 ∷ s3 ∷ s2 ∷ s1 ∷ rest) (flow.Iter4 ∷ flow.Iter3 ∷ y ∷ t1 ∷ below)) s2 t2
+    (as_first (λ y. P (Iter over at 3 ∷ s3 ∷ s2 ∷ s1 ∷ rest) (flow.Iter4 ∷ flow.Iter3 ∷ flow.Iter2 ∷ y ∷ below)) s1 t1 (k over at s3 s2 s1 rest below r1) h1 e1) h2 e2) h3 e3)
+    st2 ss2 r2 w2) st3 ss3 r3 w3) st ss r w) h e)

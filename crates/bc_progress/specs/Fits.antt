@@ -1,11 +1,9 @@
 -- States of a verified library: each frame is as the plan of its code has it at its position.
-use Rattle.std.specs.Prelude.{◌≡◌, ℕ, List, [], ◌∷◌, length, map, drop, Some, slice_get}
+use Rattle.std.specs.Prelude.{◌≡◌, ◌+◌, ◌≤◌, List, [], ◌∷◌, length, map, drop, Some, slice_get}
 use Rattle.bc_shapes.specs.declared.kinds.Kind.TheVariants as kinds
 use Rattle.bc_shapes.specs.declared.kinds.Want.{Want}
 use Rattle.bc_shapes.specs.declared.kinds.Give.TheVariants.{New}
 use Rattle.bc_flow.specs.Action.{Straight}
-use Rattle.bc_flow.specs.Code as flow
-use Rattle.bc_flow.specs.Verified.{Assigned}
 use Rattle.bc_flow.specs.Machine.{Stack, Run}
 use Rattle.bc_flow.proofs.Never.{Good}
 use Rattle.bc_machine.specs.Library.{Code, Library, code_at}
@@ -36,6 +34,11 @@ pub record Waits (plans : Plans) (library : Library) (frame : Frame) : Type 0 wh
   pub call : slice_get (flow_of (plans frame.module_name frame.code) code).actions frame.position ≡ Some (Straight wants (New kinds.Value ∷ []))
   pub shows : ShowsAll frame.slots (drop (length wants) stack)
   pub planned : IsPlanned (plans frame.module_name frame.code) code frame stack
+
+-- the frame's slots and entries are no more than its code's rooms, where its locals have their room among the slots
+pub record IsWithin (plan : Plan) (code : Code) (frame : Frame) : Type 0 where
+  pub slots : code.locals + length frame.slots ≤ plan.n_state
+  pub entries : length frame.entries ≤ plan.n_exc
 
 -- the frames below one of this role: a caller waits at its call, an importing frame stands at its import, and the main
 -- module's frame is the lowest

@@ -1,5 +1,5 @@
 -- Verified libraries: each code has an assignment of slots and entries to its positions that meets the rules.
-use Rattle.std.specs.Prelude.{◌≡◌, ◌⊎◌, ℕ, ◌<◌, ◌≤◌, ◌%◌, nat_le, Bool, List, length, map, Some, slice_get}
+use Rattle.std.specs.Prelude.{◌≡◌, ℕ, ◌<◌, ◌≤◌, ◌%◌, nat_le, Bool, List, length, map, Some, slice_get}
 use Rattle.bc_ops.specs.declared.form.Form.TheVariants as forms
 use Rattle.bc_ops.specs.declared.instr.Op.TheVariants as ops
 use Rattle.bc_ops.specs.declared.instr.Instr.TheVariants as instrs
@@ -75,5 +75,9 @@ abbrev pub Follows : Plans → Library → Type 0
 Follows plans library = (name : Name) (m : Module) → entry_in library name ≡ Some (Holds m) → IsVerifiedModule (plans name) m
 
 -- each module that the library holds is verified
+abbrev pub AreVerified : Library → Type 0
+AreVerified library = (name : Name) (m : Module) → entry_in library name ≡ Some (Holds m) → (plans : ℕ → Plan) × IsVerifiedModule plans m
+
+-- so it is with one plan for all
 abbrev pub IsVerifiedLibrary : Library → Type 0
 IsVerifiedLibrary library = (plans : Plans) × Follows plans library

@@ -1,5 +1,5 @@
 -- What the slots and handler entries of a frame are in the flow of its code.
-use Rattle.std.specs.Prelude.{ℕ, Bool, List, [], ◌∷◌, Option, Some, None}
+use Rattle.std.specs.Prelude.{ℕ, Bool, List, [], ◌∷◌, Some, None}
 use Rattle.mpy_base.specs.declared.builtin.Builtin.{Builtin}
 use Rattle.mpy_base.specs.Val.{Val, Nil, Built, At}
 use Rattle.bc_shapes.specs.declared.shape.Entry.{Entry as FlowEntry}
