@@ -14,7 +14,7 @@ use Rattle.mpy_tree.specs.declared.module.Code.{out-Code, out-roll-Code}
 use Rattle.mpy_tree.specs.declared.raw.RawCode.{RawCode, out-RawCode, out-roll-RawCode}
 use Rattle.mpy_tree.specs.Raw.{Module}
 use Rattle.mpy_tree.specs.File.{IsCode, IsElement, IsModule}
-use Rattle.mpy_tree.specs.Resolved.{Tree, node, ResolvedModule, Resolves, ResolvesCode, IsBody, IsTreeOf, ReadsAs, resolved, resolved_item}
+use Rattle.mpy_tree.specs.Resolved.{instrs_of, Tree, node, ResolvedModule, Resolves, ResolvesCode, IsBody, IsTreeOf, ReadsAs, resolved, resolved_item}
 use Rattle.mpy_simple.specs.declared.print.Print.{Print}
 use Rattle.mpy_simple.specs.Compiled.{items_of, code_of, module_of, texts_of}
 use Rattle.mpy_simple.specs.Loaded.{loaded, all_loaded, body_of, texts_in}
@@ -65,7 +65,7 @@ prints_load : (prints : List Print) → all_loaded (map resolved_item (items_of 
 prints_load [] = refl
 prints_load (print ∷ prints) = ap (λ ts. print.text ∷ ts) (prints_load prints)
 
-tree_loads : (tree : Tree) (level : ℕ) (prints : List Print) (code : _) → out-Code code ≡ code_of level prints → IsTreeOf tree code → all_loaded (body_of tree).instrs ≡ texts_of prints
+tree_loads : (tree : Tree) (level : ℕ) (prints : List Print) (code : _) → out-Code code ≡ code_of level prints → IsTreeOf tree code → all_loaded (instrs_of (body_of tree)) ≡ texts_of prints
 tree_loads (node body children) level prints code e is =
     ap all_loaded (is.0.instrs ∙ ap (λ c. map resolved_item c.instrs) e) ∙ prints_load prints
 

@@ -2,7 +2,7 @@
 use Rattle.std.specs.Prelude.{ℕ, List, Option, Some, None}
 use Rattle.std.specs.List.{filter_map}
 use Rattle.bc_ops.specs.declared.instr.Op.TheVariants.{LoadConstString}
-use Rattle.mpy_tree.specs.Resolved.{Resolved, named, Body, Tree, node, ResolvedModule}
+use Rattle.mpy_tree.specs.Resolved.{Resolved, named, Body, instrs_of, Tree, node, ResolvedModule}
 
 -- the text that an instruction loads
 abbrev pub loaded : Resolved → Option (List ℕ)
@@ -17,4 +17,4 @@ abbrev pub body_of : Tree → Body
 body_of (node body children) = body
 
 abbrev pub texts_in : ResolvedModule → List (List ℕ)
-texts_in m = all_loaded (body_of m.code).instrs
+texts_in m = all_loaded (instrs_of (body_of m.code))

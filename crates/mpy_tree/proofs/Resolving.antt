@@ -17,7 +17,8 @@ use Rattle.bc_prelude.proofs.Indexes.{same_names, same_indexes}
 use Rattle.bc_prelude.proofs.Preludes.{same_prelude}
 use Rattle.mpy_tree.specs.declared.raw.RawCode.{RawCode, out-RawCode}
 use Rattle.mpy_tree.specs.Raw.{Module}
-use Rattle.mpy_tree.specs.Resolved.{Resolved, Body, Tree, node, Trees, no_more, more, ResolvedModule, name_at, resolved, IsBody, ResolvesCode, ResolveCodes, Resolves}
+use Rattle.mpy_tree.specs.Resolved.{ResolvedLine, Body, instrs_of, line_numbers, Tree, node, Trees, no_more, more, ResolvedModule, name_at, resolved, IsBody, ResolvesCode, ResolveCodes, Resolves}
+use Rattle.mpy_tree.proofs.Lines.{same_lines}
 
 -- a code's bytes part into instructions in one way
 abbrev piece_of : List ℕ → Instr → Piece
@@ -78,18 +79,17 @@ same_texts (x ∷ xs) (y ∷ ys) e =
     let tails : xs ≡ ys = same_texts xs ys cc in
     cc
 
-abbrev body_of : List ℕ → List (List ℕ) → ℕ → ℕ → ℕ → List Resolved → List ℕ → Body
-body_of name args defaults n_state n_exc instrs lines = record { name = name; args = args; defaults = defaults; n_state = n_state; n_exc = n_exc; instrs = instrs; lines = lines }
+abbrev body_of : List ℕ → List (List ℕ) → ℕ → ℕ → ℕ → List ResolvedLine → Body
+body_of name args defaults n_state n_exc lines = record { name = name; args = args; defaults = defaults; n_state = n_state; n_exc = n_exc; lines = lines }
 
-same_body : (a b : Body) → a.name ≡ b.name → a.args ≡ b.args → a.defaults ≡ b.defaults → a.n_state ≡ b.n_state → a.n_exc ≡ b.n_exc → a.instrs ≡ b.instrs → a.lines ≡ b.lines → a ≡ b
-same_body a b name args defaults n_state n_exc instrs lines =
-    ap (λ z. body_of z a.args a.defaults a.n_state a.n_exc a.instrs a.lines) name
-    ∙ ap (λ z. body_of b.name z a.defaults a.n_state a.n_exc a.instrs a.lines) args
-    ∙ ap (λ z. body_of b.name b.args z a.n_state a.n_exc a.instrs a.lines) defaults
-    ∙ ap (λ z. body_of b.name b.args b.defaults z a.n_exc a.instrs a.lines) n_state
-    ∙ ap (λ z. body_of b.name b.args b.defaults b.n_state z a.instrs a.lines) n_exc
-    ∙ ap (λ z. body_of b.name b.args b.defaults b.n_state b.n_exc z a.lines) instrs
-    ∙ ap (λ z. body_of b.name b.args b.defaults b.n_state b.n_exc b.instrs z) lines
+same_body : (a b : Body) → a.name ≡ b.name → a.args ≡ b.args → a.defaults ≡ b.defaults → a.n_state ≡ b.n_state → a.n_exc ≡ b.n_exc → a.lines ≡ b.lines → a ≡ b
+same_body a b name args defaults n_state n_exc lines =
+    ap (λ z. body_of z a.args a.defaults a.n_state a.n_exc a.lines) name
+    ∙ ap (λ z. body_of b.name z a.defaults a.n_state a.n_exc a.lines) args
+    ∙ ap (λ z. body_of b.name b.args z a.n_state a.n_exc a.lines) defaults
+    ∙ ap (λ z. body_of b.name b.args b.defaults z a.n_exc a.lines) n_state
+    ∙ ap (λ z. body_of b.name b.args b.defaults b.n_state z a.lines) n_exc
+    ∙ ap (λ z. body_of b.name b.args b.defaults b.n_state b.n_exc z) lines
 
 one_body : (m : Module) (code : List ℕ) (a b : Body) → IsBody m code a → IsBody m code b → a ≡ b
 one_body m code a b h k =
@@ -104,12 +104,12 @@ one_body m code a b h k =
     let n_exc : a.n_exc ≡ b.n_exc = h.n_exc ∙ (ap (λ (z : Prelude). z.n_exc) s.prelude ∙ sym k.n_exc) in
     let list : IsListOf k.begins.instructions h.items = subst (λ (z : List ℕ). IsListOf z h.items) s.instructions h.is_list in
     let items : h.items ≡ k.items = one_list k.begins.instructions h.items k.items list k.is_list in
-    let instrs : a.instrs ≡ b.instrs = h.instrs ∙ (ap (map (resolved m)) items ∙ sym k.instrs) in
+    let instrs : instrs_of a ≡ instrs_of b = h.instrs ∙ (ap (map (resolved m)) items ∙ sym k.instrs) in
     let joins : joined h.is_list.pieces ≡ joined k.is_list.pieces = sym h.is_list.bytes_are ∙ (s.instructions ∙ k.is_list.bytes_are) in
     let pieces : h.is_list.pieces ≡ k.is_list.pieces = one_parting _ _ (recursion_from_All IsPiece h.is_list.pieces h.is_list.spelled) (recursion_from_All IsPiece k.is_list.pieces k.is_list.spelled) joins in
-    let lines : a.lines ≡ b.lines =
+    let numbers : line_numbers a ≡ line_numbers b =
     h.lines ∙ (ap (λ (z : List ℕ). map (line_of z) (starts 0 h.is_list.pieces)) s.lines ∙ (ap (λ (z : List Piece). map (line_of k.begins.lines) (starts 0 z)) pieces ∙ sym k.lines)) in
-    same_body a b name args defaults n_state n_exc instrs lines
+    same_body a b name args defaults n_state n_exc (same_lines a.lines b.lines instrs numbers)
 
 mutual
   one_tree : (m : Module) (a b : Tree) (code : RawCode) → ResolvesCode m a code → ResolvesCode m b code → a ≡ b

@@ -1,26 +1,27 @@
 -- Tables in the order of first use.
 use Rattle.std.specs.Prelude.{◌≡◌, ◌⊎◌, ℕ, List, [], ◌∷◌, ◌++◌, map, Some, Contains}
 use Rattle.std.specs.List.{flat_map}
-use Rattle.mpy_tree.specs.declared.module.Constant.{Constant}
+use Rattle.mpy_base.specs.Val.{Val}
 use Rattle.mpy_tree.specs.Raw.{Module, text_of}
 use Rattle.mpy_tree.specs.File.{IsFile}
-use Rattle.mpy_tree.specs.Resolved.{Resolved, named, object, Body, Tree, node, Trees, no_more, more, ResolvedModule, Resolves}
+use Rattle.mpy_tree.specs.Resolved.{Resolved, named, object, Body, instrs_of, Tree, node, Trees, no_more, more, ResolvedModule, Resolves}
+use Rattle.mpy_tree.specs.Values.{value_of}
 
 -- the texts and objects that instructions name
 abbrev pub text_in : Resolved → List (List ℕ)
 text_in (named op text) = text ∷ []
 text_in instr = []
 
-abbrev pub object_in : Resolved → List Constant
-object_in (object constant) = constant ∷ []
+abbrev pub object_in : Resolved → List Val
+object_in (object value) = value ∷ []
 object_in instr = []
 
 -- those of a code without its children: its name, its arguments, and its instructions in their order
 abbrev pub body_texts : Body → List (List ℕ)
-body_texts body = body.name ∷ (body.args ++ flat_map text_in body.instrs)
+body_texts body = body.name ∷ (body.args ++ flat_map text_in (instrs_of body))
 
-abbrev pub body_objects : Body → List Constant
-body_objects body = flat_map object_in body.instrs
+abbrev pub body_objects : Body → List Val
+body_objects body = flat_map object_in (instrs_of body)
 
 -- those of a code and then of its children, one after another
 abbrev mutual
@@ -34,7 +35,7 @@ abbrev mutual
 abbrev pub texts_used : ResolvedModule → List (List ℕ)
 texts_used tree = tree.source ∷ in_tree body_texts tree.code
 
-abbrev pub objects_used : ResolvedModule → List Constant
+abbrev pub objects_used : ResolvedModule → List Val
 objects_used tree = in_tree body_objects tree.code
 
 -- the list has each of those that are used behind the ones before, once, in the order of their first use
@@ -53,4 +54,4 @@ pub record InFirstUse (bytes : List ℕ) : Type 0 where
   pub texts : List (List ℕ)
   pub texts_are : map text_of m.qstrs ≡ map Some texts
   pub texts_used_first : FirstUsed [] (texts_used tree) texts
-  pub objects_used_first : FirstUsed [] (objects_used tree) m.objects
+  pub objects_used_first : FirstUsed [] (objects_used tree) (map value_of m.objects)

@@ -3,3 +3,4 @@ pub mod File
 pub mod FirstUse
 pub mod Raw
 pub mod Resolved
+pub mod Values

@@ -1,6 +1,7 @@
 -- Modules with texts, objects and positions in place of numbers and offsets. A number that leads to no text or object
 -- stays, as does the offset of a jump to no instruction's start.
 use Rattle.std.specs.Prelude.{◌≡◌, ℕ, List, [], ◌∷◌, map, Option, Some, slice_get, option_map, option_and_then, unwrap_or}
+use Rattle.mpy_base.specs.Val.{Val}
 use Rattle.bc_ops.specs.declared.instr.Op.{Op}
 use Rattle.bc_ops.specs.declared.instr.Op.TheVariants.{LoadConstObj}
 use Rattle.bc_ops.specs.declared.instr.Instr.{Instr}
@@ -13,7 +14,6 @@ use Rattle.bc_ops.specs.Listing as listing
 use Rattle.bc_prelude.specs.declared.prelude.Prelude.{Prelude}
 use Rattle.bc_prelude.specs.Prelude.{Begins}
 use Rattle.bc_prelude.specs.Lines.{line_of}
-use Rattle.mpy_tree.specs.declared.module.Constant.{Constant}
 use Rattle.mpy_tree.specs.declared.module.Item.{Item}
 use Rattle.mpy_tree.specs.declared.module.Item.TheVariants as items
 use Rattle.mpy_tree.specs.declared.module.Code.{Code, out-Code}
@@ -21,14 +21,26 @@ use Rattle.mpy_tree.specs.declared.module.ModuleCode.{ModuleCode}
 use Rattle.mpy_tree.specs.declared.raw.RawCode.{RawCode, out-RawCode}
 use Rattle.mpy_tree.specs.Raw.{Module, text_of}
 use Rattle.mpy_tree.specs.File.{IsFile}
+use Rattle.mpy_tree.specs.Values.{value_of}
 
 -- an instruction
 pub data Resolved : Type 0 where
   plain : Instr → Resolved
   named : Op → List ℕ → Resolved
-  object : Constant → Resolved
+  object : Val → Resolved
   jump : Op → Target → Resolved
   unwind : Target → ℕ → Resolved
+
+-- an instruction with its line
+pub record ResolvedLine : Type 0 where
+  pub item : Resolved
+  pub line : ℕ
+
+-- instructions with their lines, one each
+abbrev pub lines_of : List Resolved → List ℕ → List ResolvedLine
+lines_of [] lines = []
+lines_of (item ∷ items) [] = []
+lines_of (item ∷ items) (line ∷ lines) = record { item = item; line = line } ∷ lines_of items lines
 
 -- a code without its children
 pub record Body : Type 0 where
@@ -37,8 +49,13 @@ pub record Body : Type 0 where
   pub defaults : ℕ
   pub n_state : ℕ
   pub n_exc : ℕ
-  pub instrs : List Resolved
-  pub lines : List ℕ
+  pub lines : List ResolvedLine
+
+abbrev pub instrs_of : Body → List Resolved
+instrs_of body = map (λ l. l.item) body.lines
+
+abbrev pub line_numbers : Body → List ℕ
+line_numbers body = map (λ l. l.line) body.lines
 
 mutual
   pub data Tree : Type 0 where
@@ -60,7 +77,8 @@ abbrev pub named_at : Module → Op → ℕ → Resolved
 named_at m op n = unwrap_or (option_map (named op) (name_at m n)) (plain (instrs.Name op n))
 
 abbrev pub object_at : Module → ℕ → Resolved
-object_at m n = unwrap_or (option_map object (slice_get m.objects n)) (plain (instrs.Num LoadConstObj n))
+object_at m n =
+    unwrap_or (option_map (λ constant. object (value_of constant)) (slice_get m.objects n)) (plain (instrs.Num LoadConstObj n))
 
 abbrev pub resolved_instr : Module → Instr → Resolved
 resolved_instr m (instrs.Name op n) = named_at m op n
@@ -82,8 +100,8 @@ pub record IsBody (m : Module) (code : List ℕ) (body : Body) : Type 0 where
   pub n_exc : body.n_exc ≡ prelude.n_exc
   pub items : List listings.Item
   pub is_list : listing.IsListOf begins.instructions items
-  pub instrs : body.instrs ≡ map (resolved m) items
-  pub lines : body.lines ≡ map (line_of begins.lines) (listing.starts 0 is_list.pieces)
+  pub instrs : instrs_of body ≡ map (resolved m) items
+  pub lines : line_numbers body ≡ map (line_of begins.lines) (listing.starts 0 is_list.pieces)
 
 abbrev mutual
   pub ResolvesCode : Module → Tree → RawCode → Type 0
@@ -109,7 +127,7 @@ Reads bytes tree = (m : Module) × IsFile bytes m × Resolves m tree
 abbrev pub resolved_item : Item → Resolved
 resolved_item (items.Plain instr) = plain instr
 resolved_item (items.Named op text) = named op text
-resolved_item (items.Object constant) = object constant
+resolved_item (items.Object constant) = object (value_of constant)
 resolved_item (items.Jump op position) = jump op (Position position)
 resolved_item (items.Unwind position byte) = unwind (Position position) byte
 
@@ -119,8 +137,8 @@ pub record IsBodyOf (code : Code) (body : Body) : Type 0 where
   pub defaults : body.defaults ≡ (out-Code code).defaults
   pub n_state : body.n_state ≡ (out-Code code).n_state
   pub n_exc : body.n_exc ≡ (out-Code code).n_exc
-  pub instrs : body.instrs ≡ map resolved_item (out-Code code).instrs
-  pub lines : body.lines ≡ (out-Code code).lines
+  pub instrs : instrs_of body ≡ map resolved_item (out-Code code).instrs
+  pub lines : line_numbers body ≡ (out-Code code).lines
 
 abbrev mutual
   pub IsTreeOf : Tree → Code → Type 0

@@ -31,7 +31,10 @@ use Rattle.mpy_tree.specs.declared.module.Code.{Code, out-Code}
 use Rattle.mpy_tree.specs.Raw.{Module, text_of}
 use Rattle.mpy_tree.specs.File.{IsOwnCode}
 use Rattle.mpy_tree.specs.Canonical.{changes, offsets, IsCanonicalCode}
-use Rattle.mpy_tree.specs.Resolved.{plain, named, object, Body, name_at, object_at, resolved_instr, resolved, resolved_item, IsBody}
+use Rattle.mpy_tree.specs.Resolved as trees
+use Rattle.mpy_tree.specs.Resolved.{plain, named, object, Body, line_numbers, name_at, object_at, resolved_instr, resolved, resolved_item, IsBody}
+use Rattle.mpy_tree.specs.Values.{value_of}
+use Rattle.mpy_tree.proofs.Lines.{items_in, numbers_in}
 use Rattle.mpy_writer.specs.declared.tables.Tables.{Tables}
 use Rattle.mpy_writer.specs.Codes.{text_in, object_in, texts_in, objects_in}
 use Rattle.mpy_writer.specs.Tables.{TablesFit, text_number, object_number, spelled}
@@ -154,9 +157,18 @@ body_of code = record {
   defaults = (out-Code code).defaults;
   n_state = (out-Code code).n_state;
   n_exc = (out-Code code).n_exc;
-  instrs = map resolved_item (out-Code code).instrs;
-  lines = (out-Code code).lines;
+  lines = trees.lines_of (map resolved_item (out-Code code).instrs) (out-Code code).lines;
 }
+
+module _ (code : Code) (sound : IsSoundCode code) where
+  a_line_each : length (out-Code code).lines ≡ length (map resolved_item (out-Code code).instrs)
+  a_line_each = sound.a_line_each ∙ sym (length-map (out-Code code).instrs resolved_item)
+
+  pub body_instrs : trees.instrs_of (body_of code) ≡ map resolved_item (out-Code code).instrs
+  body_instrs = items_in (map resolved_item (out-Code code).instrs) (out-Code code).lines a_line_each
+
+  pub body_lines : line_numbers (body_of code) ≡ (out-Code code).lines
+  body_lines = numbers_in (map resolved_item (out-Code code).instrs) (out-Code code).lines a_line_each
 
 module _ (tables : Tables) (code : Code) (own : List ℕ) (is : IsOwn tables code own) (fit : TablesFit tables) (sound : IsSoundCode code) where
   abbrev xs : List Item
@@ -248,16 +260,16 @@ module _ (tables : Tables) (code : Code) (own : List ℕ) (is : IsOwn tables cod
     fine_get (o ∷ os) zero p all e = let same : o ≡ p = cc in subst (IsFine MAX_DEPTH) same all.0
     fine_get (o ∷ os) (suc i) p all e = fine_get os i p all.1 e
 
-    object_there : (o : Constant) → IsFine MAX_DEPTH o → Contains m.objects o → object_at m (object_number tables o) ≡ object o
+    object_there : (o : Constant) → IsFine MAX_DEPTH o → Contains m.objects o → object_at m (object_number tables o) ≡ object (value_of o)
     object_there o one there =
         let seen = number_leads tables.objects (spelled o) fit.objects.first (subst (λ (ts : List (List ℕ)). Contains ts (spelled o)) objects_are (Contains-seen m.objects o there)) in
         let at = sym (slice_get-map spelled m.objects (object_number tables o)) ∙ (ap (λ ts. slice_get ts (object_number tables o)) objects_are ∙ seen) in
         by_object (slice_get m.objects (object_number tables o)) refl at where
-          by_object : (r : Option Constant) → slice_get m.objects (object_number tables o) ≡ r → option_map spelled r ≡ Some (spelled o) → unwrap_or (option_map object r) (plain (instrs.Num LoadConstObj (object_number tables o))) ≡ object o
+          by_object : (r : Option Constant) → slice_get m.objects (object_number tables o) ≡ r → option_map spelled r ≡ Some (spelled o) → unwrap_or (option_map (λ c. object (value_of c)) r) (plain (instrs.Num LoadConstObj (object_number tables o))) ≡ object (value_of o)
           by_object None e k = absurd cc
           by_object (Some p) e k =
               let same : spelled p ≡ spelled o = cc in
-              ap object (one_object MAX_DEPTH p o (fine_get m.objects (object_number tables o) p fine e) one same)
+              ap (λ c. object (value_of c)) (one_object MAX_DEPTH p o (fine_get m.objects (object_number tables o) p fine e) one same)
 
     plain_item : (instr : Instr) → IsPlain instr → resolved_instr m instr ≡ plain instr
     plain_item (instrs.Name op n) h = absurd h
@@ -311,8 +323,8 @@ module _ (tables : Tables) (code : Code) (own : List ℕ) (is : IsOwn tables cod
           n_exc = refl;
           items = map (list_item tables) xs;
           is_list = facts.list;
-          instrs = sym (items_there (length xs) xs (recursion_from_All (IsSoundItem (length xs)) xs sound.instrs) named.1 objects_there);
-          lines = sym (ap (map (line_of lines)) facts.starts_are
+          instrs = body_instrs code sound ∙ sym (items_there (length xs) xs (recursion_from_All (IsSoundItem (length xs)) xs sound.instrs) named.1 objects_there);
+          lines = body_lines code sound ∙ sym (ap (map (line_of lines)) facts.starts_are
               ∙ (same_map (line_of lines) (line_among 1 pairs) (λ o. lines_law pairs o rises) (offsets 0 made)
               ∙ lines_among 1 0 made (out-Code code).lines facts.some (sound.a_line_each ∙ sym facts.count)));
         }

@@ -79,6 +79,22 @@ module _ {A B : Type 0} (f : A → B) (Fine : A → Type 0) (same : (x y : A) �
       let rest = unseen (before ++ x ∷ []) xs h.1 (fine_push before x fine all.0) all.1 (subst (λ (z : List B). FirstUsed z (map f xs) h.1) next h.3) in
       (x ∷ rest.0, ap (λ (z : List B). f x ∷ z) rest.1 ∙ sym h.2, inr (λ there. h.0 (Contains-seen before x there), rest.0, refl, rest.2))
 
+-- tables of what is seen of values that are told apart by it
+pub first_seen : {A B : Type 0} (f : A → B) (one : (x y : A) → f x ≡ f y → x ≡ y) (before used table : List A) → FirstUsed before used table → FirstUsed (map f before) (map f used) (map f table)
+first_seen f one before [] table h = ap (map f) h
+first_seen {A} {B} f one before (x ∷ xs) table (inl h) = inl (Contains-seen f (λ (y : A). Unit {0}) (λ y z u v. one y z) before x h.0, first_seen f one before xs table h.1)
+first_seen {A} {B} f one before (x ∷ xs) table (inr h) =
+    let next : map f (before ++ x ∷ []) ≡ map f before ++ f x ∷ [] = map-append f before (x ∷ []) in
+    inr (
+      λ there. h.0 (Contains-unseen f (λ (y : A). Unit {0}) (λ y z u v. one y z) before x (all_units before) tt there),
+      map f h.1,
+      ap (map f) h.2,
+      subst (λ (z : List B). FirstUsed z (map f xs) (map f h.1)) next (first_seen f one (before ++ x ∷ []) xs h.1 h.3),
+    ) where
+      all_units : (ys : List A) → AllByRecursion (λ (y : A). Unit {0}) ys
+      all_units [] = tt
+      all_units (y ∷ ys) = (tt, all_units ys)
+
 -- each number below the count of a table leads to a text
 pub text_there : (table : Texts) (n : ℕ) → table.first ≡ 0 → n < length table.texts → text_of table n ≡ Some (get_or table.texts n [])
 text_there table n first lt =

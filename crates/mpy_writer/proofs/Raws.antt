@@ -7,9 +7,9 @@ use Rattle.std.proofs.lemmas.List.Concat.{flat_map-append}
 use Rattle.std.proofs.lemmas.List.Elements.{All-from_recursion, recursion_from_All}
 use Rattle.mpy_base.specs.Vuint.{vuint}
 use Rattle.mpy_base.specs.declared.limits.TheConstants.{MAX_CODE_BYTES, MAX_DEPTH}
+use Rattle.mpy_base.specs.Val.{Val}
 use Rattle.mpy_base.proofs.Groups.{vuint_spells}
 use Rattle.bc_prelude.specs.Lines.{Rises, table_of, line_of, line_among}
-use Rattle.mpy_tree.specs.declared.module.Constant.{Constant}
 use Rattle.mpy_tree.specs.declared.module.Item.{Item}
 use Rattle.mpy_tree.specs.declared.module.Item.TheVariants as items
 use Rattle.mpy_tree.specs.declared.module.Code.{Code, out-Code}
@@ -21,12 +21,13 @@ use Rattle.mpy_tree.specs.Canonical.{children_bytes, code_bytes, IsCanonicalCode
 use Rattle.mpy_tree.specs.FirstUse as uses
 use Rattle.mpy_tree.specs.FirstUse.{in_tree, in_trees}
 use Rattle.mpy_tree.specs.Resolved.{resolved_item, Body, Tree, node, Trees, no_more, more, ResolvesCode, ResolveCodes, IsBodyOf, IsTreeOf, AreTreesOf}
+use Rattle.mpy_tree.specs.Values.{value_of}
 use Rattle.mpy_writer.specs.declared.tables.Tables.{Tables}
 use Rattle.mpy_writer.specs.Codes.{codes_in, text_in, object_in, texts_in, objects_in}
 use Rattle.mpy_writer.specs.Tables.{TablesFit, spelled}
 use Rattle.mpy_writer.specs.Writable.{IsFine, IsSoundCode, IsShallow}
 use Rattle.mpy_writer.specs.File.{IsOwn, has_some, count_bytes, head_bytes, heads, qstr_of}
-use Rattle.mpy_writer.proofs.Bodies.{body_of, canonical, own_code, body}
+use Rattle.mpy_writer.proofs.Bodies.{body_of, body_instrs, body_lines, canonical, own_code, body}
 use Rattle.mpy_writer.proofs.Lists.{parted, parted_all, split_zip, zip_length, zip_all}
 use Rattle.mpy_writer.proofs.Spelled.{many_spelled}
 
@@ -132,30 +133,47 @@ are_trees : (levels : ℕ) (codes : List Code) → AllByRecursion (λ c. IsTreeO
 are_trees levels [] all = refl
 are_trees levels (c ∷ cs) all = (c, cs, refl, all.0, are_trees levels cs all.1)
 
-all_shallow : (levels : ℕ) (Q : Code → Type 0) → ((c : Code) → IsShallow levels c → Q c) → (codes : List Code) → AllByRecursion (IsShallow levels) codes → AllByRecursion Q codes
-all_shallow levels Q step [] all = tt
-all_shallow levels Q step (c ∷ cs) all = (step c all.0, all_shallow levels Q step cs all.1)
+-- a code that is shallow and sound, with those in it
+pub record IsGood (levels : ℕ) (code : Code) : Type 0 where
+  pub shallow : IsShallow levels code
+  pub sound : AllByRecursion IsSoundCode (codes_in levels code)
 
-pub is_tree : (levels : ℕ) (code : Code) → IsShallow levels code → IsTreeOf (tree_of levels code) code
-unfolding tree_of IsShallow
-is_tree zero code shallow = absurd shallow
-is_tree (suc levels) code shallow =
-    let own : IsBodyOf code (body_of code) = record { name = refl; args = refl; defaults = refl; n_state = refl; n_exc = refl; instrs = refl; lines = refl } in
-    (own, are_trees levels (children code) (all_shallow levels (λ c. IsTreeOf (tree_of levels c) c) (is_tree levels) (children code) (recursion_from_All (IsShallow levels) (children code) shallow)))
+inner_good : (levels : ℕ) (Q : Code → Type 0) → ((c : Code) → IsGood levels c → Q c) → (codes : List Code) → AllByRecursion (IsShallow levels) codes → AllByRecursion (λ c. AllByRecursion IsSoundCode (codes_in levels c)) codes → AllByRecursion Q codes
+inner_good levels Q step [] shallow sound = tt
+inner_good levels Q step (c ∷ cs) shallow sound = (step c (record { shallow = shallow.0; sound = sound.0 }), inner_good levels Q step cs shallow.1 sound.1)
+
+all_good : (levels : ℕ) (Q : Code → Type 0) → ((c : Code) → IsGood levels c → Q c) → (code : Code) → IsGood (suc levels) code → IsSoundCode code × AllByRecursion Q (children code)
+unfolding IsShallow codes_in
+all_good levels Q step code good = (
+  good.sound.0,
+  inner_good levels Q step (children code) (recursion_from_All (IsShallow levels) (children code) good.shallow) (parted_all IsSoundCode (codes_in levels) (children code) good.sound.1),
+)
+
+not_shallow : (code : Code) → IsGood zero code → ⊥
+unfolding IsShallow
+not_shallow code good = good.shallow
+
+pub is_tree : (levels : ℕ) (code : Code) → IsGood levels code → IsTreeOf (tree_of levels code) code
+unfolding tree_of
+is_tree zero code good = absurd (not_shallow code good)
+is_tree (suc levels) code good =
+    let all = all_good levels (λ c. IsTreeOf (tree_of levels c) c) (is_tree levels) code good in
+    let own : IsBodyOf code (body_of code) = record { name = refl; args = refl; defaults = refl; n_state = refl; n_exc = refl; instrs = body_instrs code all.0; lines = body_lines code all.0 } in
+    (own, are_trees levels (children code) all.1)
 
 -- what is used in it
-module _ {A : Type 0} (of_body : Body → List A) (of_code : Code → List A) (same : (code : Code) → of_body (body_of code) ≡ of_code code) where
+module _ {A : Type 0} (of_body : Body → List A) (of_code : Code → List A) (same : (code : Code) → IsSoundCode code → of_body (body_of code) ≡ of_code code) where
   in_all : (levels : ℕ) (codes : List Code) → AllByRecursion (λ c. in_tree of_body (tree_of levels c) ≡ flat_map of_code (codes_in levels c)) codes → in_trees of_body (trees_from (map (tree_of levels) codes)) ≡ flat_map of_code (flat_map (codes_in levels) codes)
   in_all levels [] all = refl
   in_all levels (c ∷ cs) all =
       ap₂ (λ (x y : List A). x ++ y) all.0 (in_all levels cs all.1) ∙ sym (flat_map-append of_code (codes_in levels c) (flat_map (codes_in levels) cs))
 
-  pub used_in : (levels : ℕ) (code : Code) → IsShallow levels code → in_tree of_body (tree_of levels code) ≡ flat_map of_code (codes_in levels code)
-  unfolding tree_of IsShallow codes_in
-  used_in zero code shallow = absurd shallow
-  used_in (suc levels) code shallow =
-      ap₂ (λ (x y : List A). x ++ y) (same code)
-      (in_all levels (children code) (all_shallow levels (λ c. in_tree of_body (tree_of levels c) ≡ flat_map of_code (codes_in levels c)) (used_in levels) (children code) (recursion_from_All (IsShallow levels) (children code) shallow)))
+  pub used_in : (levels : ℕ) (code : Code) → IsGood levels code → in_tree of_body (tree_of levels code) ≡ flat_map of_code (codes_in levels code)
+  unfolding tree_of codes_in
+  used_in zero code good = absurd (not_shallow code good)
+  used_in (suc levels) code good =
+      let all = all_good levels (λ c. in_tree of_body (tree_of levels c) ≡ flat_map of_code (codes_in levels c)) (used_in levels) code good in
+      ap₂ (λ (x y : List A). x ++ y) (same code all.0) (in_all levels (children code) all.1)
 
 texts_seen : (xs : List Item) → flat_map uses.text_in (map resolved_item xs) ≡ flat_map text_in xs
 texts_seen [] = refl
@@ -165,19 +183,20 @@ texts_seen (items.Object constant ∷ xs) = texts_seen xs
 texts_seen (items.Jump op position ∷ xs) = texts_seen xs
 texts_seen (items.Unwind position byte ∷ xs) = texts_seen xs
 
-objects_seen : (xs : List Item) → flat_map uses.object_in (map resolved_item xs) ≡ flat_map object_in xs
+objects_seen : (xs : List Item) → flat_map uses.object_in (map resolved_item xs) ≡ map value_of (flat_map object_in xs)
 objects_seen [] = refl
 objects_seen (items.Plain instr ∷ xs) = objects_seen xs
 objects_seen (items.Named op text ∷ xs) = objects_seen xs
-objects_seen (items.Object constant ∷ xs) = ap (λ (z : List Constant). constant ∷ z) (objects_seen xs)
+objects_seen (items.Object constant ∷ xs) = ap (λ (z : List Val). value_of constant ∷ z) (objects_seen xs)
 objects_seen (items.Jump op position ∷ xs) = objects_seen xs
 objects_seen (items.Unwind position byte ∷ xs) = objects_seen xs
 
-pub texts_of_body : (code : Code) → uses.body_texts (body_of code) ≡ texts_in code
-texts_of_body code = ap (λ (z : List (List ℕ)). (out-Code code).name ∷ ((out-Code code).args ++ z)) (texts_seen (out-Code code).instrs)
+pub texts_of_body : (code : Code) → IsSoundCode code → uses.body_texts (body_of code) ≡ texts_in code
+texts_of_body code sound =
+    ap (λ (z : List (List ℕ)). (out-Code code).name ∷ ((out-Code code).args ++ z)) (ap (flat_map uses.text_in) (body_instrs code sound) ∙ texts_seen (out-Code code).instrs)
 
-pub objects_of_body : (code : Code) → uses.body_objects (body_of code) ≡ objects_in code
-objects_of_body code = objects_seen (out-Code code).instrs
+pub objects_of_body : (code : Code) → IsSoundCode code → uses.body_objects (body_of code) ≡ map value_of (objects_in code)
+objects_of_body code sound = ap (flat_map uses.object_in) (body_instrs code sound) ∙ objects_seen (out-Code code).instrs
 
 -- what is read of it
 header_small : (len : ℕ) (b : Bool) → len ≤ MAX_CODE_BYTES → header_of len b < 2 ^ 31

@@ -2,10 +2,11 @@
 use Rattle.std.proofs.Common.{◌≡◌, ℕ, suc, ◌≤◌, List, [], ◌∷◌, ◌++◌, length, map, Option, Some, slice_get, refl, sym, ap, subst, ◌∙◌, inl, inr, append_assoc, arith}
 use Rattle.std.specs.Prelude.{Contains, option_and_then}
 use Rattle.std.specs.List.{concat, flat_map, AllByRecursion}
-use Rattle.std.proofs.lemmas.List.{length-map}
+use Rattle.std.proofs.lemmas.List.{length-map, map-append}
 use Rattle.std.proofs.lemmas.List.Elements.{All-from_recursion, recursion_from_All}
 use Rattle.mpy_base.specs.Vuint.{vuint}
 use Rattle.mpy_base.specs.declared.limits.TheConstants.{MAX_CODE_BYTES, MAX_DEPTH}
+use Rattle.mpy_base.specs.Val.{Val}
 use Rattle.mpy_base.proofs.Groups.{vuint_spells}
 use Rattle.bc_prelude.specs.Lines.{Rises, table_of, line_of, line_among}
 use Rattle.mpy_tree.specs.declared.module.Constant.{Constant}
@@ -18,14 +19,16 @@ use Rattle.mpy_tree.specs.File.{IsQstr, IsObject, IsFile}
 use Rattle.mpy_tree.specs.Canonical.{qstr_bytes, IsNamed, code_bytes, file_bytes, Canonical}
 use Rattle.mpy_tree.specs.FirstUse.{body_texts, body_objects, FirstUsed, InFirstUse}
 use Rattle.mpy_tree.specs.Resolved.{ResolvedModule, Resolves, ReadsAs}
+use Rattle.mpy_tree.specs.Values.{value_of}
+use Rattle.mpy_tree.proofs.Values as values
 use Rattle.mpy_writer.specs.Codes.{codes, text_in, object_in, texts_in, objects_in, texts_used, objects_used}
 use Rattle.mpy_writer.specs.Tables.{spelled}
 use Rattle.mpy_writer.specs.Writable.{IsText, IsFine, IsSoundItem, IsSoundCode, IsWritable}
 use Rattle.mpy_writer.specs.File.{qstr_of, front_bytes}
 use Rattle.mpy_writer.specs.Ends as ends
 use Rattle.mpy_writer.proofs.Lists.{all_of, all_flat, all_mapped, together, parted_all}
-use Rattle.mpy_writer.proofs.Numbers.{used_there, unseen}
-use Rattle.mpy_writer.proofs.Raws.{grown, Good, tree_of, is_tree, used_in, texts_of_body, objects_of_body, code_spelled, all_canonical, resolves}
+use Rattle.mpy_writer.proofs.Numbers.{used_there, unseen, first_seen}
+use Rattle.mpy_writer.proofs.Raws.{grown, Good, IsGood, tree_of, is_tree, used_in, texts_of_body, objects_of_body, code_spelled, all_canonical, resolves}
 use Rattle.mpy_writer.proofs.Spelled.{one_object, object_spelled, many_spelled}
 use Rattle.mpy_writer.proofs.Texts.{entry_is}
 
@@ -83,6 +86,11 @@ both_of : {A : Type 0} (P Q R : A → Type 0) (make : (x : A) → P x → Q x �
 both_of P Q R make [] h k = tt
 both_of P Q R make (x ∷ xs) h k = (make x h.0 k.0, both_of P Q R make xs h.1 k.1)
 
+-- the values of what codes use
+values_flat : {A B C : Type 0} (f : B → C) (of : A → List B) (xs : List A) → flat_map (λ x. map f (of x)) xs ≡ map f (flat_map of xs)
+values_flat f of [] = refl
+values_flat {A} {B} {C} f of (x ∷ xs) = ap (λ (z : List C). map f (of x) ++ z) (values_flat f of xs) ∙ sym (map-append f (of x) (flat_map of xs))
+
 concat_of : (objects : List Constant) → concat (map spelled objects) ≡ flat_map spelled objects
 concat_of [] = refl
 concat_of (o ∷ os) = ap (λ (z : List ℕ). spelled o ++ z) (concat_of os)
@@ -117,6 +125,8 @@ module _ (lines_law : (pairs : List (ℕ × ℕ)) (offset : ℕ) → Rises pairs
       (λ c s both. record { sound = s; texts = both.0; objects = both.1 }) (codes w) (all_sound w writable)
       (both_of (λ c. AllByRecursion (Contains texts) (texts_in c)) (λ c. AllByRecursion (Contains objects) (objects_in c)) (λ c. AllByRecursion (Contains texts) (texts_in c) × AllByRecursion (Contains objects) (objects_in c))
       (λ c t o. (t, o)) (codes w) good_texts good_objects) in
+      let shallow_sound : IsGood MAX_DEPTH w.code = record { shallow = writable.shallow; sound = all_sound w writable } in
+      let values_used = used_in body_objects (λ c. map value_of (objects_in c)) objects_of_body MAX_DEPTH w.code shallow_sound ∙ values_flat value_of objects_in (codes w) in
       let qstr_count : length (map qstr_of texts) ≡ length texts = length-map texts qstr_of in
       let object_count : length objects ≡ length spells = sym (length-map objects spelled) ∙ ap length found.1 in
       let few_texts = fit.texts.few in
@@ -175,8 +185,8 @@ module _ (lines_law : (pairs : List (ℕ × ℕ)) (offset : ℕ) → Rises pairs
           resolves = resolved;
           texts = texts;
           texts_are = all_texts texts fine_entries;
-          texts_used_first = subst (λ (us : List (List ℕ)). FirstUsed [] (w.source ∷ us) texts) (sym (used_in body_texts texts_in texts_of_body MAX_DEPTH w.code writable.shallow)) written.are_tables.texts.texts;
-          objects_used_first = subst (λ (us : List Constant). FirstUsed [] us objects) (sym (used_in body_objects objects_in objects_of_body MAX_DEPTH w.code writable.shallow)) found.2;
+          texts_used_first = subst (λ (us : List (List ℕ)). FirstUsed [] (w.source ∷ us) texts) (sym (used_in body_texts texts_in texts_of_body MAX_DEPTH w.code shallow_sound)) written.are_tables.texts.texts;
+          objects_used_first = subst (λ (us : List Val). FirstUsed [] us (map value_of objects)) (sym values_used) (first_seen value_of values.one_object [] (objects_used w) objects found.2);
         };
-        reads = record { tree = tree; reads = (m, is_file, resolved); source = refl; code = is_tree MAX_DEPTH w.code writable.shallow };
+        reads = record { tree = tree; reads = (m, is_file, resolved); source = refl; code = is_tree MAX_DEPTH w.code shallow_sound };
       }

@@ -1,5 +1,6 @@
 pub mod Fronts
 pub mod Named
+pub mod PortArguments
 pub mod PortNumbers
 pub mod PortRefusals
 pub mod PortsTold

@@ -15,14 +15,14 @@ use Rattle.py_primitives.specs.Outcome as primitives
 use Rattle.py_primitives.specs.Outcome.{Outcome, gives, raises}
 use Rattle.py_primitives.specs.Calls as calls
 use Rattle.py_primitives.specs.Calls.{Counts, Exactly, Between, AtLeast, counts_of, count_fault}
-use Rattle.py_primitives.specs.Output.{PortOutcome, refused}
+use Rattle.py_primitives.specs.Output.{PortOutcome, refused, port_called, port_unless_fault, call_port}
 use Rattle.vm_walks.specs.Plain.{plain as plain_value, plain_pair, plain_heap}
 use Rattle.vm_faults.specs.declared.fault.Fault.{Fault}
 use Rattle.vm_faults.specs.declared.fault.Fault.TheVariants as faults
 use Rattle.vm_faults.specs.declared.stop.Stop.TheVariants as stops
 use Rattle.vm_faults.specs.Faults.{plain_fault}
 use Rattle.vm_builtins.specs.Arguments.{IsRefusal}
-use Rattle.vm_outputs.specs.PortCalls.{IsPortOutcome, called, unless_fault, call}
+use Rattle.vm_outputs.specs.PortCalls.{IsPortOutcome}
 
 either_no_port : (b : Bool) (f : plain.Fault) → (f ≡ plain.PortFailed → ⊥) → cond b None (Some f) ≡ Some plain.PortFailed → ⊥
 either_no_port true f n e = absurd cc
@@ -48,7 +48,7 @@ module _ (heap : PlainHeap) (contents : List PortState) (f : plain.Fault) where
       let answers : Err (primitives.Raises g) ≡ Err (primitives.Raises f) = ap (λ (o : Outcome Val). o.answer) e in
       cc
 
-  unless_same : (o : Option plain.Fault) (next : PortOutcome) → calls.unless_fault heap o (gives Nil heap) ≡ raises f heap → unless_fault contents o next ≡ refused f contents
+  unless_same : (o : Option plain.Fault) (next : PortOutcome) → calls.unless_fault heap o (gives Nil heap) ≡ raises f heap → port_unless_fault contents o next ≡ refused f contents
   unless_same (Some g) next e = ap (λ (x : plain.Fault). refused x contents) (same_fault g e)
   unless_same None next e = absurd (let answers = ap (λ (o : Outcome Val). o.answer) e in cc)
 
@@ -58,8 +58,8 @@ module _ (heap : PlainHeap) (contents : List PortState) (f : plain.Fault) where
 
   module _ (b : Builtin) (args : List Val) (nothing : calls.called heap b args ≡ gives Nil heap) where
     -- what a built-in with this count refuses, a port's call refuses
-    pub port_refused : (keys : List (Val × Val)) → calls.call heap b args keys ≡ raises f heap → call heap contents b args keys ≡ refused f contents
-    port_refused [] e = unless_same (count_fault (counts_of b) (length args)) (called heap contents b args) (ap (calls.unless_fault heap (count_fault (counts_of b) (length args))) (sym nothing) ∙ e)
+    pub port_refused : (keys : List (Val × Val)) → calls.call heap b args keys ≡ raises f heap → call_port heap contents b args keys ≡ refused f contents
+    port_refused [] e = unless_same (count_fault (counts_of b) (length args)) (port_called heap contents b args) (ap (calls.unless_fault heap (count_fault (counts_of b) (length args))) (sym nothing) ∙ e)
     port_refused (key ∷ keys) e = ap (λ (x : plain.Fault). refused x contents) (same_fault plain.NoKeywords e)
 
     pub no_port_fault : (keys : List (Val × Val)) → calls.call heap b args keys ≡ raises f heap → f ≡ plain.PortFailed → ⊥
@@ -71,7 +71,7 @@ module _ (heap : PlainHeap) (contents : List PortState) (f : plain.Fault) where
 module _ (texts : StrNo → Option (List ℕ)) (tuples : ConstNo → Option (List Value)) (h : Heap Value ℕ) (args : List Value) (keys : List (Value × Value)) (b : Builtin) (counts : Counts) (fault : Fault)
     (is : IsRefusal counts args keys fault) (counted : counts_of b ≡ counts) (nothing : calls.called (plain_heap texts tuples h) b (map (plain_value texts tuples) args) ≡ gives Nil (plain_heap texts tuples h)) where
   pub refusal_told : (new : List PortView) (contents : List PortState) → Tell new contents
-      → IsPortOutcome texts tuples h new (Err (stops.Raises fault)) (call (plain_heap texts tuples h) contents b (map (plain_value texts tuples) args) (map (plain_pair texts tuples) keys))
+      → IsPortOutcome texts tuples h new (Err (stops.Raises fault)) (call_port (plain_heap texts tuples h) contents b (map (plain_value texts tuples) args) (map (plain_pair texts tuples) keys))
   refusal_told new contents tell =
       let e = port_refused (plain_heap texts tuples h) contents (plain_fault texts tuples h fault) b (map (plain_value texts tuples) args) nothing (map (plain_pair texts tuples) keys) (is.raised texts tuples h b counted) in
       record { answer = sym (ap (λ (o : PortOutcome). o.answer) e); ports = subst (λ (o : PortOutcome). Tell new o.ports) (sym e) tell }

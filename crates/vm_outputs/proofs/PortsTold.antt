@@ -1,5 +1,5 @@
 -- Ports that tell their contents, behind a call.
-use Rattle.std.proofs.Common.{◌≡◌, ◌<◌, ◌≤◌, ◌↔◌, ◌++◌, inl, inr, ◌+◌, ◌-◌, ◌^◌, ℕ, zero, suc, ℤ, List, [], ◌∷◌, length, Bool, true, false, cond, Option, Some, None, Result, Ok, Err, drop, refl, sym, ap, ap₂, ◌∙◌, subst, arith}
+use Rattle.std.proofs.Common.{◌≡◌, ◌<◌, ◌≤◌, ◌↔◌, ◌++◌, inl, inr, ◌+◌, ◌-◌, ◌^◌, ℕ, zero, suc, ℤ, pos, List, [], ◌∷◌, length, Bool, true, false, cond, Option, Some, None, Result, Ok, Err, drop, refl, sym, ap, ap₂, ◌∙◌, subst, arith}
 use Rattle.std.specs.Prelude.{Contains, IsTrue, IfSome, slice_get, slice_set, nat_eq, ◌||◌}
 use Rattle.std.specs.List.{list_any}
 use Rattle.std.specs.Option.{option_to_list}
@@ -45,12 +45,17 @@ within result no_port count at iff not = elim (cases_lt at count) [
   | inr past ↦ absurd (not (iff.1 past))
 ]
 
+-- there are as many ports as contents
+pub as_many : (old : List PortView) (contents : List PortState) → Tell old contents → length old ≡ length contents
+as_many old contents tell =
+    let told : PortView → Option PortState = λ view. view.told in
+    let some : PortState → Option PortState = λ port. Some port in
+    sym (length-map old told) ∙ (ap (λ (xs : List (Option PortState)). length xs) tell ∙ length-map contents some)
+
 -- no port has the number
 pub none_at : (old : List PortView) (contents : List PortState) (at : ℕ) → Tell old contents → length old ≤ at → slice_get contents at ≡ None
 none_at old contents at tell past =
-    let told : PortView → Option PortState = λ view. view.told in
-    let some : PortState → Option PortState = λ port. Some port in
-    let count : length old ≡ length contents = sym (length-map old told) ∙ (ap (λ (xs : List (Option PortState)). length xs) tell ∙ length-map contents some) in
+    let count = as_many old contents tell in
     slice_get_past contents at (omega (arith, count))
 
 module _ (contents : List PortState) (new : List PortView) (at : ℕ) (n : ℤ) where
@@ -148,11 +153,12 @@ module _ (contents : List PortState) (new : List PortView) (at : ℕ) where
       λ texts tuples heap. record { answer = sym (ap (λ (o : PortOutcome). o.answer) is); ports = subst (λ (o : PortOutcome). Tell new o.ports) (sym is) (subst (λ (vs : List PortView). Tell vs contents) (sym same) tell) }
 
 -- a call that failed
-pub failed_at : (old new : List PortView) (at : ℕ) (Call : PortView → PortView → Type 0) → ((before after : PortView) → Call before after → Rose before.count after.count) → at < length old → CallsOne old new at Call → Failed old new
+pub failed_at : (old new : List PortView) (at : ℕ) (Call : PortView → PortView → Type 0) → ((before after : PortView) → Call before after → Rose before.count after.count) → at < length old → CallsOne old new at Call → Failed (Some (pos at)) old new
 failed_at old new at Call rose lt c = record {
   number = at;
   before = c.before;
   after = c.after;
+  named = refl;
   was = c.here;
   is = ap (λ (vs : List PortView). slice_get vs at) c.others ∙ slice_get_set old at c.after lt;
   rose = rose c.before c.after c.call;

@@ -1,6 +1,6 @@
 //! Calls of ports.
 
-ghost use Rattle.std.specs.Prelude.{◌≡◌, ◌<◌, ◌<ℤ◌, ◌^◌, ℕ, pos, List, All, Err, MatchOption, length, map, slice_get};
+ghost use Rattle.std.specs.Prelude.{◌≡◌, ◌<◌, ◌<ℤ◌, ◌^◌, ℕ, pos, List, All, Some, Err, MatchOption, length, map, slice_get};
 ghost use Rattle.mpy_base.specs.declared.builtin.Builtin.TheVariants as builtins;
 ghost use Rattle.std.specs.Option.{option_to_list};
 ghost use Rattle.mpy_base.specs.World.{PortState};
@@ -8,13 +8,14 @@ ghost use Rattle.port_set.specs.Calls.{Tell};
 ghost use Rattle.arena_heap.specs.Values.{Leads};
 ghost use Rattle.py_primitives.specs.Faults as plain_faults;
 ghost use Rattle.py_primitives.specs.Outcome as outcomes;
-ghost use Rattle.py_primitives.specs.Output.{put_to, get_from, call_port_put as put_of, call_port_get as get_of};
+ghost use Rattle.py_primitives.specs.Output.{put_to, get_from, call_port, call_port_put as put_of, call_port_get as get_of};
 ghost use Rattle.vm_walks.specs.Plain.{plain, plain_heap, plain_pair};
 ghost use Rattle.vm_faults.specs.declared.fault.Fault.TheVariants as faults;
 ghost use Rattle.vm_faults.specs.declared.stop.Stop.TheVariants as stops;
 ghost use Rattle.vm_faults.specs.Faults.{IsKnown};
 ghost use Rattle.vm_faults.specs.Outcomes.{IsKnownAnswer};
-ghost use Rattle.vm_outputs.specs.PortCalls.{DoesPort, Failed, IsNoCall, IsPortAnswer, IsPortOutcome, IsTaken, call, get_at, put_at};
+ghost use Rattle.vm_operators.specs.Operands.{number_in};
+ghost use Rattle.vm_outputs.specs.PortCalls.{DoesPort, Failed, IsNoCall, IsNumberAnswer, IsPortAnswer, IsPortOutcome, IsTaken, called_number, get_at, put_at};
 
 use arena_heap::{Arena, Constants, Value};
 use mpy_io::Port;
@@ -33,7 +34,7 @@ fn place_of(z: i32) -> Option<usize>
 /// Writes a number to the port at a place.
 fn put_number<P: Port>(ports: &mut PortSet<P>, at: usize, n: i32) -> Result<Value, Stop>
     ensures told { (contents : List PortState) → Tell (map P.seen ports.old) contents → (result ≡ Err (stops.Raises faults.PortFailed) → (put_to contents at n (slice_get contents at)).answer ≡ Err (outcomes.Raises plain_faults.PortFailed)) → DoesPort (map P.seen ports.new) result (put_to contents at n (slice_get contents at)) }
-    ensures failed { result ≡ Err (stops.Raises faults.PortFailed) → Failed (map P.seen ports.old) (map P.seen ports.new) }
+    ensures failed { result ≡ Err (stops.Raises faults.PortFailed) → Failed (Some (pos at)) (map P.seen ports.old) (map P.seen ports.new) }
     ensures refused { IsNoCall result → ports.new ≡ ports.old }
     ensures number { IsPortAnswer result }
 {
@@ -47,7 +48,7 @@ fn put_number<P: Port>(ports: &mut PortSet<P>, at: usize, n: i32) -> Result<Valu
 /// Writes a number to the port that has a number.
 fn put_numbered<P: Port>(ports: &mut PortSet<P>, i: i32, n: i32) -> Result<Value, Stop>
     ensures told { (contents : List PortState) → Tell (map P.seen ports.old) contents → (result ≡ Err (stops.Raises faults.PortFailed) → (put_at contents i n).answer ≡ Err (outcomes.Raises plain_faults.PortFailed)) → DoesPort (map P.seen ports.new) result (put_at contents i n) }
-    ensures failed { result ≡ Err (stops.Raises faults.PortFailed) → Failed (map P.seen ports.old) (map P.seen ports.new) }
+    ensures failed { result ≡ Err (stops.Raises faults.PortFailed) → Failed (Some i) (map P.seen ports.old) (map P.seen ports.new) }
     ensures refused { IsNoCall result → ports.new ≡ ports.old }
     ensures number { IsPortAnswer result }
 {
@@ -69,7 +70,7 @@ fn put_value<C: Constants, P: Port>(
     requires n_leads { Leads arena.now.objects n }
     ensures told { (contents : List PortState) → Tell (map P.seen ports.old) contents → (result ≡ Err (stops.Raises faults.PortFailed) → (put_of (plain_heap (C.text_of _consts.now) (C.items_of _consts.now) arena.now) contents (plain (C.text_of _consts.now) (C.items_of _consts.now) i) (plain (C.text_of _consts.now) (C.items_of _consts.now) n)).answer ≡ Err (outcomes.Raises plain_faults.PortFailed)) → IsPortOutcome (C.text_of _consts.now) (C.items_of _consts.now) arena.now (map P.seen ports.new) result (put_of (plain_heap (C.text_of _consts.now) (C.items_of _consts.now) arena.now) contents (plain (C.text_of _consts.now) (C.items_of _consts.now) i) (plain (C.text_of _consts.now) (C.items_of _consts.now) n)) }
     ensures known { IsKnownAnswer (C.text_of _consts.now) (C.items_of _consts.now) arena.now.objects result }
-    ensures failed { result ≡ Err (stops.Raises faults.PortFailed) → Failed (map P.seen ports.old) (map P.seen ports.new) }
+    ensures failed { result ≡ Err (stops.Raises faults.PortFailed) → Failed (number_in i) (map P.seen ports.old) (map P.seen ports.new) }
     ensures refused { IsNoCall result → ports.new ≡ ports.old }
 {
     let number = match number_of(arena, i) {
@@ -92,9 +93,9 @@ pub fn call_port_put<C: Constants, P: Port>(
 ) -> Result<Value, Stop>
     requires few { length args.now < 2 ^ 32 }
     requires known { All (IsKnown (C.text_of consts.now) (C.items_of consts.now) arena.now.objects) args.now }
-    ensures told { (contents : List PortState) → Tell (map P.seen ports.old) contents → (result ≡ Err (stops.Raises faults.PortFailed) → (call (plain_heap (C.text_of consts.now) (C.items_of consts.now) arena.now) contents builtins.PortPut (map (plain (C.text_of consts.now) (C.items_of consts.now)) args.now) (map (plain_pair (C.text_of consts.now) (C.items_of consts.now)) keys.now)).answer ≡ Err (outcomes.Raises plain_faults.PortFailed)) → IsPortOutcome (C.text_of consts.now) (C.items_of consts.now) arena.now (map P.seen ports.new) result (call (plain_heap (C.text_of consts.now) (C.items_of consts.now) arena.now) contents builtins.PortPut (map (plain (C.text_of consts.now) (C.items_of consts.now)) args.now) (map (plain_pair (C.text_of consts.now) (C.items_of consts.now)) keys.now)) }
+    ensures told { (contents : List PortState) → Tell (map P.seen ports.old) contents → (result ≡ Err (stops.Raises faults.PortFailed) → (call_port (plain_heap (C.text_of consts.now) (C.items_of consts.now) arena.now) contents builtins.PortPut (map (plain (C.text_of consts.now) (C.items_of consts.now)) args.now) (map (plain_pair (C.text_of consts.now) (C.items_of consts.now)) keys.now)).answer ≡ Err (outcomes.Raises plain_faults.PortFailed)) → IsPortOutcome (C.text_of consts.now) (C.items_of consts.now) arena.now (map P.seen ports.new) result (call_port (plain_heap (C.text_of consts.now) (C.items_of consts.now) arena.now) contents builtins.PortPut (map (plain (C.text_of consts.now) (C.items_of consts.now)) args.now) (map (plain_pair (C.text_of consts.now) (C.items_of consts.now)) keys.now)) }
     ensures known { IsKnownAnswer (C.text_of consts.now) (C.items_of consts.now) arena.now.objects result }
-    ensures failed { result ≡ Err (stops.Raises faults.PortFailed) → Failed (map P.seen ports.old) (map P.seen ports.new) }
+    ensures failed { result ≡ Err (stops.Raises faults.PortFailed) → Failed (called_number args.now) (map P.seen ports.old) (map P.seen ports.new) }
     ensures refused { IsNoCall result → ports.new ≡ ports.old }
 {
     match only_so_many(2, args, keys) {
@@ -120,7 +121,7 @@ fn answer_value(answer: Option<i32>) -> Result<Value, Stop>
 /// Takes an answer of the port at a place.
 fn get_answer<P: Port>(ports: &mut PortSet<P>, at: usize) -> Result<Value, Stop>
     ensures told { (contents : List PortState) → Tell (map P.seen ports.old) contents → (result ≡ Err (stops.Raises faults.PortFailed) → (get_from contents at (slice_get contents at)).answer ≡ Err (outcomes.Raises plain_faults.PortFailed)) → DoesPort (map P.seen ports.new) result (get_from contents at (slice_get contents at)) }
-    ensures failed { result ≡ Err (stops.Raises faults.PortFailed) → Failed (map P.seen ports.old) (map P.seen ports.new) }
+    ensures failed { result ≡ Err (stops.Raises faults.PortFailed) → Failed (Some (pos at)) (map P.seen ports.old) (map P.seen ports.new) }
     ensures refused { IsNoCall result → ports.new ≡ ports.old }
     ensures number { IsPortAnswer result }
 {
@@ -134,7 +135,7 @@ fn get_answer<P: Port>(ports: &mut PortSet<P>, at: usize) -> Result<Value, Stop>
 /// Takes an answer of the port that has a number.
 fn get_numbered<P: Port>(ports: &mut PortSet<P>, i: i32) -> Result<Value, Stop>
     ensures told { (contents : List PortState) → Tell (map P.seen ports.old) contents → (result ≡ Err (stops.Raises faults.PortFailed) → (get_at contents i).answer ≡ Err (outcomes.Raises plain_faults.PortFailed)) → DoesPort (map P.seen ports.new) result (get_at contents i) }
-    ensures failed { result ≡ Err (stops.Raises faults.PortFailed) → Failed (map P.seen ports.old) (map P.seen ports.new) }
+    ensures failed { result ≡ Err (stops.Raises faults.PortFailed) → Failed (Some i) (map P.seen ports.old) (map P.seen ports.new) }
     ensures refused { IsNoCall result → ports.new ≡ ports.old }
     ensures number { IsPortAnswer result }
 {
@@ -154,7 +155,7 @@ fn get_value<C: Constants, P: Port>(
     requires leads { Leads arena.now.objects i }
     ensures told { (contents : List PortState) → Tell (map P.seen ports.old) contents → (result ≡ Err (stops.Raises faults.PortFailed) → (get_of (plain_heap (C.text_of _consts.now) (C.items_of _consts.now) arena.now) contents (plain (C.text_of _consts.now) (C.items_of _consts.now) i)).answer ≡ Err (outcomes.Raises plain_faults.PortFailed)) → IsPortOutcome (C.text_of _consts.now) (C.items_of _consts.now) arena.now (map P.seen ports.new) result (get_of (plain_heap (C.text_of _consts.now) (C.items_of _consts.now) arena.now) contents (plain (C.text_of _consts.now) (C.items_of _consts.now) i)) }
     ensures known { IsKnownAnswer (C.text_of _consts.now) (C.items_of _consts.now) arena.now.objects result }
-    ensures failed { result ≡ Err (stops.Raises faults.PortFailed) → Failed (map P.seen ports.old) (map P.seen ports.new) }
+    ensures failed { result ≡ Err (stops.Raises faults.PortFailed) → Failed (number_in i) (map P.seen ports.old) (map P.seen ports.new) }
     ensures refused { IsNoCall result → ports.new ≡ ports.old }
 {
     match number_of(arena, i) {
@@ -173,14 +174,26 @@ pub fn call_port_get<C: Constants, P: Port>(
 ) -> Result<Value, Stop>
     requires few { length args.now < 2 ^ 32 }
     requires known { All (IsKnown (C.text_of consts.now) (C.items_of consts.now) arena.now.objects) args.now }
-    ensures told { (contents : List PortState) → Tell (map P.seen ports.old) contents → (result ≡ Err (stops.Raises faults.PortFailed) → (call (plain_heap (C.text_of consts.now) (C.items_of consts.now) arena.now) contents builtins.PortGet (map (plain (C.text_of consts.now) (C.items_of consts.now)) args.now) (map (plain_pair (C.text_of consts.now) (C.items_of consts.now)) keys.now)).answer ≡ Err (outcomes.Raises plain_faults.PortFailed)) → IsPortOutcome (C.text_of consts.now) (C.items_of consts.now) arena.now (map P.seen ports.new) result (call (plain_heap (C.text_of consts.now) (C.items_of consts.now) arena.now) contents builtins.PortGet (map (plain (C.text_of consts.now) (C.items_of consts.now)) args.now) (map (plain_pair (C.text_of consts.now) (C.items_of consts.now)) keys.now)) }
+    ensures told { (contents : List PortState) → Tell (map P.seen ports.old) contents → (result ≡ Err (stops.Raises faults.PortFailed) → (call_port (plain_heap (C.text_of consts.now) (C.items_of consts.now) arena.now) contents builtins.PortGet (map (plain (C.text_of consts.now) (C.items_of consts.now)) args.now) (map (plain_pair (C.text_of consts.now) (C.items_of consts.now)) keys.now)).answer ≡ Err (outcomes.Raises plain_faults.PortFailed)) → IsPortOutcome (C.text_of consts.now) (C.items_of consts.now) arena.now (map P.seen ports.new) result (call_port (plain_heap (C.text_of consts.now) (C.items_of consts.now) arena.now) contents builtins.PortGet (map (plain (C.text_of consts.now) (C.items_of consts.now)) args.now) (map (plain_pair (C.text_of consts.now) (C.items_of consts.now)) keys.now)) }
     ensures known { IsKnownAnswer (C.text_of consts.now) (C.items_of consts.now) arena.now.objects result }
-    ensures failed { result ≡ Err (stops.Raises faults.PortFailed) → Failed (map P.seen ports.old) (map P.seen ports.new) }
+    ensures failed { result ≡ Err (stops.Raises faults.PortFailed) → Failed (called_number args.now) (map P.seen ports.old) (map P.seen ports.new) }
     ensures refused { IsNoCall result → ports.new ≡ ports.old }
 {
     match one_argument(args, keys) {
         Ok(i) => get_value(arena, consts, ports, i),
         Err(fault) => Err(Stop::Raises(fault)),
+    }
+}
+
+/// A count as a number: a fault where it is no small integer.
+fn count_value(count: usize) -> Result<Value, Stop>
+    ensures counted { IsNumberAnswer (pos count) result }
+    ensures number { IsPortAnswer result }
+{
+    if count <= 1_073_741_823 {
+        Ok(Value::Int(count as i32))
+    } else {
+        Err(Stop::Raises(Fault::Arithmetic(NumFault::Overflow)))
     }
 }
 
@@ -193,12 +206,11 @@ pub fn call_port_count<C: Constants, P: Port>(
     keys: &[(Value, Value)],
 ) -> Result<Value, Stop>
     requires few { length args.now < 2 ^ 32 }
-    requires few_ports { length ports.now < 2 ^ 30 }
-    ensures told { (contents : List PortState) → Tell (map P.seen ports.now) contents → IsPortOutcome (C.text_of consts.now) (C.items_of consts.now) arena.now (map P.seen ports.now) result (call (plain_heap (C.text_of consts.now) (C.items_of consts.now) arena.now) contents builtins.PortCount (map (plain (C.text_of consts.now) (C.items_of consts.now)) args.now) (map (plain_pair (C.text_of consts.now) (C.items_of consts.now)) keys.now)) }
+    ensures told { (contents : List PortState) → Tell (map P.seen ports.now) contents → IsPortOutcome (C.text_of consts.now) (C.items_of consts.now) arena.now (map P.seen ports.now) result (call_port (plain_heap (C.text_of consts.now) (C.items_of consts.now) arena.now) contents builtins.PortCount (map (plain (C.text_of consts.now) (C.items_of consts.now)) args.now) (map (plain_pair (C.text_of consts.now) (C.items_of consts.now)) keys.now)) }
     ensures known { IsKnownAnswer (C.text_of consts.now) (C.items_of consts.now) arena.now.objects result }
 {
     match only_so_many(0, args, keys) {
-        Ok(()) => Ok(Value::Int(ports.len() as i32)),
+        Ok(()) => count_value(ports.len()),
         Err(fault) => Err(Stop::Raises(fault)),
     }
 }

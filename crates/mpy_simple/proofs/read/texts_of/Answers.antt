@@ -3,7 +3,7 @@ use Rattle.std.specs.Prelude.{IfOk}
 use Rattle.bc_ops.specs.Listing.{IsListOf, Lists}
 use Rattle.bc_prelude.specs.declared.prelude.Prelude.{Prelude}
 use Rattle.mpy_tree.specs.declared.raw.RawCode.{RawCode, out-RawCode}
-use Rattle.mpy_tree.specs.Resolved.{resolved}
+use Rattle.mpy_tree.specs.Resolved.{instrs_of, resolved}
 use Rattle.mpy_simple.specs.Loaded.{all_loaded, body_of}
 use Rattle.mpy_simple.proofs.Bodies.{own_body, short_code, instructions_at, loads}
 use Rattle.mpy_simple.proofs.read.texts_of.Goals as goal
@@ -41,5 +41,5 @@ returns c tree resolves =
     let listed = c.in_ok-listed.listed in
     let lists = subst (λ z. Lists z listed.items.items listed.offsets.items) behind c.in_ok-listed.ensures in
     let all = loads c.args.raw.now c.bytes-bytes.result.now tree body listed.items.items listed.offsets.items lists in
-    let items : all_loaded (map (resolved c.args.raw.now) c.deref.result.now) ≡ all_loaded (body_of tree.code).instrs = ap (λ is. all_loaded (map (resolved c.args.raw.now) is)) c.deref.ensures.value ∙ all in
+    let items : all_loaded (map (resolved c.args.raw.now) c.deref.result.now) ≡ all_loaded (instrs_of (body_of tree.code)) = ap (λ is. all_loaded (map (resolved c.args.raw.now) is)) c.deref.ensures.value ∙ all in
     subst (λ ts. IfOk c.all_loaded.result (λ texts. texts.items ≡ ts)) items c.all_loaded.ensures

@@ -1,7 +1,9 @@
-use Rattle.std.proofs.Common.{◌≡◌, map, refl}
+use Rattle.std.proofs.Common.{◌≡◌, List, map, refl, sym, subst}
 use Rattle.mpy_base.specs.declared.builtin.Builtin.TheVariants as builtins
 use Rattle.py_primitives.specs.Calls.{Exactly}
 use Rattle.vm_faults.specs.declared.fault.Fault.TheVariants as faults
+use Rattle.arena_heap.specs.declared.value.Value.{Value}
+use Rattle.vm_outputs.specs.PortCalls.{Failed, called_number}
 use Rattle.vm_outputs.proofs.PortRefusals.{refusal_told, refusal_no_port}
 use Rattle.vm_builtins.proofs.Calls.{one_known}
 use Rattle.vm_outputs.proofs.ports.call_port_get.Goals as goal
@@ -27,3 +29,8 @@ returns-in-Err-clause-failed g c e =
     let tuples = g.C.Constants.items_of c.args.consts.now in
     let same : c.in-Err.fault ≡ faults.PortFailed = cc in
     absurd (refusal_no_port texts tuples c.args.arena.now c.args.args.now c.args.keys.now builtins.PortGet (Exactly 1) c.in-Err.fault c.in-Err.ensures.refused refl refl same)
+
+pub returns-in-Ok-clause-failed : goal.returns-in-Ok-clause-failed
+returns-in-Ok-clause-failed g c e =
+    let seen = g.P.Port.seen in
+    subst (λ (vs : List Value). Failed (called_number vs) (map seen c.args.ports.now) (map seen c.get_value.new.ports)) (sym c.in-Ok.ensures.given) (c.get_value.ensures.failed e)

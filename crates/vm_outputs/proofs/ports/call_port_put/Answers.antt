@@ -1,7 +1,10 @@
-use Rattle.std.proofs.Common.{◌≡◌, map, refl}
+use Rattle.std.proofs.Common.{◌≡◌, ◌<◌, ℤ, map, length, Option, refl, sym, subst, arith}
 use Rattle.mpy_base.specs.declared.builtin.Builtin.TheVariants as builtins
 use Rattle.py_primitives.specs.Calls.{Exactly}
 use Rattle.vm_faults.specs.declared.fault.Fault.TheVariants as faults
+use Rattle.arena_heap.specs.declared.value.Value.TheVariants as values
+use Rattle.vm_outputs.specs.PortCalls.{Failed}
+use Rattle.vm_outputs.proofs.PortArguments.{first_called}
 use Rattle.vm_outputs.proofs.PortRefusals.{refusal_told, refusal_no_port}
 use Rattle.vm_outputs.proofs.ports.call_port_put.Goals as goal
 
@@ -20,3 +23,10 @@ returns-in-Err-clause-failed g c e =
     let tuples = g.C.Constants.items_of c.args.consts.now in
     let same : c.in-Err.fault ≡ faults.PortFailed = cc in
     absurd (refusal_no_port texts tuples c.args.arena.now c.args.args.now c.args.keys.now builtins.PortPut (Exactly 2) c.in-Err.fault c.in-Err.ensures.refused refl refl same)
+
+pub returns-in-Ok-clause-failed : goal.returns-in-Ok-clause-failed
+returns-in-Ok-clause-failed g c e =
+    let seen = g.P.Port.seen in
+    let args = c.args.args.now in
+    let some : 0 < length args = omega (arith, c.in-Ok.ensures.as_many) in
+    subst (λ (z : Option ℤ). Failed z (map seen c.args.ports.now) (map seen c.put_value.new.ports)) (sym (first_called args values.None some)) (c.put_value.ensures.failed e)

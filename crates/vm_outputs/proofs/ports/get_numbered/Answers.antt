@@ -1,10 +1,10 @@
-use Rattle.std.proofs.Common.{◌∙◌, w32, ◌≡◌, ℤ, map, Err, sym, subst}
+use Rattle.std.proofs.Common.{◌∙◌, w32, ◌≡◌, ℤ, map, Some, Err, sym, subst}
 use Rattle.std.proofs.lemmas.Int.{to_z-of_z}
 use Rattle.py_primitives.specs.Outcome.{Raises}
 use Rattle.py_primitives.specs.Faults.{PortFailed}
 use Rattle.vm_faults.specs.declared.fault.Fault.TheVariants as faults
 use Rattle.vm_faults.specs.declared.stop.Stop.TheVariants as stops
-use Rattle.vm_outputs.specs.PortCalls.{DoesPort, get_at}
+use Rattle.vm_outputs.specs.PortCalls.{DoesPort, Failed, get_at}
 use Rattle.vm_outputs.proofs.ports.get_numbered.Goals as goal
 
 pub returns-in-Some-clause-told : goal.returns-in-Some-clause-told
@@ -15,3 +15,10 @@ returns-in-Some-clause-told g c contents tell =
     subst (λ (z : ℤ). (result ≡ Err (stops.Raises faults.PortFailed) → (get_at contents z).answer ≡ Err (Raises PortFailed)) → DoesPort new result (get_at contents z))
     (sym c.in-Some.ensures ∙ to_z-of_z w32 c.args.i c.ranges.i)
     (c.get_answer.ensures.told contents tell)
+
+pub returns-in-Some-clause-failed : goal.returns-in-Some-clause-failed
+returns-in-Some-clause-failed g c e =
+    let seen = g.P.Port.seen in
+    subst (λ (z : ℤ). Failed (Some z) (map seen c.args.ports.now) (map seen c.get_answer.new.ports))
+    (sym c.in-Some.ensures ∙ to_z-of_z w32 c.args.i c.ranges.i)
+    (c.get_answer.ensures.failed e)

@@ -1,7 +1,7 @@
-use Rattle.std.proofs.Common.{map, refl, sym, ap, ◌∙◌, subst}
+use Rattle.std.proofs.Common.{ℤ, Option, Some, map, refl, sym, ap, ◌∙◌, subst}
 use Rattle.py_primitives.specs.Output.{PortOutcome}
 use Rattle.arena_objects.proofs.RangeNumbers.{small_same}
-use Rattle.vm_outputs.specs.PortCalls.{IsPortOutcome, get_at}
+use Rattle.vm_outputs.specs.PortCalls.{Failed, IsPortOutcome, get_at}
 use Rattle.vm_outputs.proofs.PortNumbers.{no_port_fault, refused_told, get_no_place, get_place}
 use Rattle.vm_outputs.proofs.ports.get_value.Goals as goal
 
@@ -27,3 +27,10 @@ returns-in-Ok-clause-told g c contents tell fails =
     let is = ap (get_at contents) (small_same _ c.in-Ok.ensures.small) ∙ sym (get_place texts tuples h contents c.args.i _ c.in-Ok.ensures.number) in
     subst (λ (o : PortOutcome). IsPortOutcome texts tuples h new c.get_numbered.result o) is
     (c.get_numbered.ensures.told contents tell (λ e. ap (λ (o : PortOutcome). o.answer) is ∙ fails e) texts tuples h)
+
+pub returns-in-Ok-clause-failed : goal.returns-in-Ok-clause-failed
+returns-in-Ok-clause-failed g c e =
+    let seen = g.P.Port.seen in
+    subst (λ (z : Option ℤ). Failed z (map seen c.args.ports.now) (map seen c.get_numbered.new.ports))
+    (ap (λ (z : ℤ). Some z) (small_same _ c.in-Ok.ensures.small) ∙ sym c.in-Ok.ensures.number)
+    (c.get_numbered.ensures.failed e)

@@ -1,11 +1,11 @@
-use Rattle.std.proofs.Common.{◌∙◌, w32, slice_get, ◌≡◌, ℤ, map, Err, sym, subst}
+use Rattle.std.proofs.Common.{◌∙◌, w32, slice_get, ◌≡◌, ℤ, map, Some, Err, sym, subst}
 use Rattle.std.proofs.lemmas.Int.{to_z-of_z}
 use Rattle.py_primitives.specs.Output.{put_to}
 use Rattle.py_primitives.specs.Outcome.{Raises}
 use Rattle.py_primitives.specs.Faults.{PortFailed}
 use Rattle.vm_faults.specs.declared.fault.Fault.TheVariants as faults
 use Rattle.vm_faults.specs.declared.stop.Stop.TheVariants as stops
-use Rattle.vm_outputs.specs.PortCalls.{DoesPort, put_at}
+use Rattle.vm_outputs.specs.PortCalls.{DoesPort, Failed, put_at}
 use Rattle.vm_outputs.proofs.ports.put_numbered.Goals as goal
 
 pub returns-in-Some-clause-told : goal.returns-in-Some-clause-told
@@ -17,3 +17,10 @@ returns-in-Some-clause-told g c contents tell =
     (sym c.in-Some.ensures ∙ to_z-of_z w32 c.args.i c.ranges.i)
     (subst (λ (z : ℤ). (result ≡ Err (stops.Raises faults.PortFailed) → (put_to contents c.in-Some.at z (slice_get contents c.in-Some.at)).answer ≡ Err (Raises PortFailed)) → DoesPort new result (put_to contents c.in-Some.at z (slice_get contents c.in-Some.at)))
     (to_z-of_z w32 c.args.n c.ranges.n) (c.put_number.ensures.told contents tell))
+
+pub returns-in-Some-clause-failed : goal.returns-in-Some-clause-failed
+returns-in-Some-clause-failed g c e =
+    let seen = g.P.Port.seen in
+    subst (λ (z : ℤ). Failed (Some z) (map seen c.args.ports.now) (map seen c.put_number.new.ports))
+    (sym c.in-Some.ensures ∙ to_z-of_z w32 c.args.i c.ranges.i)
+    (c.put_number.ensures.failed e)

@@ -1,7 +1,7 @@
-use Rattle.std.proofs.Common.{ℤ, map, refl, sym, ap, ap₂, ◌∙◌, subst}
+use Rattle.std.proofs.Common.{ℤ, Option, Some, map, refl, sym, ap, ap₂, ◌∙◌, subst}
 use Rattle.py_primitives.specs.Output.{PortOutcome}
 use Rattle.arena_objects.proofs.RangeNumbers.{small_same}
-use Rattle.vm_outputs.specs.PortCalls.{IsPortOutcome, put_at}
+use Rattle.vm_outputs.specs.PortCalls.{Failed, IsPortOutcome, put_at}
 use Rattle.vm_outputs.proofs.PortNumbers.{no_port_fault, refused_told, put_no_place, put_no_number, put_numbers}
 use Rattle.vm_outputs.proofs.ports.put_value.Goals as goal
 
@@ -42,3 +42,10 @@ returns-in-Err-number_of-clause-known g c = (c.in-Err-number_of.ensures.fault (g
 
 pub returns-in-Err-number_of-clause-failed : goal.returns-in-Err-number_of-clause-failed
 returns-in-Err-number_of-clause-failed g c e = absurd (no_port_fault c.args.arena.now c.args.n c.in-Err-number_of.fault c.in-Err-number_of.ensures.fault _ refl e)
+
+pub returns-in-Ok-number_of-clause-failed : goal.returns-in-Ok-number_of-clause-failed
+returns-in-Ok-number_of-clause-failed g c e =
+    let seen = g.P.Port.seen in
+    subst (λ (z : Option ℤ). Failed z (map seen c.args.ports.now) (map seen c.put_numbered.new.ports))
+    (ap (λ (z : ℤ). Some z) (small_same _ c.in-Ok.ensures.small) ∙ sym c.in-Ok.ensures.number)
+    (c.put_numbered.ensures.failed e)

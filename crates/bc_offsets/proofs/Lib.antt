@@ -1,0 +1,3 @@
+mod Arrival
+mod Order
+mod Pieces

@@ -1,0 +1,29 @@
+-- Calls of ports by their arguments.
+use Rattle.std.proofs.Common.{◌≡◌, ◌<◌, ℕ, ℤ, pos, List, [], ◌∷◌, map, length, get_or, Option, Result, refl, sym, ap, ◌∙◌, subst, arith}
+use Rattle.arena_heap.specs.declared.value.Value.{Value}
+use Rattle.arena_heap.specs.declared.value.StrNo.{StrNo}
+use Rattle.arena_heap.specs.declared.value.ConstNo.{ConstNo}
+use Rattle.mpy_base.specs.declared.builtin.Builtin.TheVariants as builtins
+use Rattle.mpy_base.specs.World.{Heap, PortState}
+use Rattle.mpy_io.specs.Ports.{PortView}
+use Rattle.port_set.specs.Calls.{Tell}
+use Rattle.py_primitives.specs.Output.{number_answer, call_port}
+use Rattle.vm_walks.specs.Plain.{plain, plain_pair, plain_heap}
+use Rattle.vm_faults.specs.declared.stop.Stop.{Stop}
+use Rattle.vm_operators.specs.Operands.{number_in}
+use Rattle.vm_outputs.specs.PortCalls.{IsNumberAnswer, IsPortOutcome, called_number}
+use Rattle.vm_outputs.proofs.PortsTold.{as_many}
+
+-- the first of some arguments names the port
+pub first_called : (args : List Value) (v : Value) → 0 < length args → called_number args ≡ number_in (get_or args 0 v)
+first_called [] v lt = absurd (omega arith)
+first_called (a ∷ args) v lt = refl
+
+module _ (texts : StrNo → Option (List ℕ)) (tuples : ConstNo → Option (List Value)) (h : Heap Value ℕ) (new : List PortView) (contents : List PortState) (tell : Tell new contents) where
+  -- with no arguments, ports are counted
+  pub counted_told : (args : List Value) (keys : List (Value × Value)) (result : Result Value Stop) → length args ≡ 0 → keys ≡ [] → IsNumberAnswer (pos (length new)) result
+      → IsPortOutcome texts tuples h new result (call_port (plain_heap texts tuples h) contents builtins.PortCount (map (plain texts tuples) args) (map (plain_pair texts tuples) keys))
+  counted_told (a ∷ args) keys result e none is = absurd (omega arith)
+  counted_told [] keys result e none is =
+      subst (λ (ks : List (Value × Value)). IsPortOutcome texts tuples h new result (call_port (plain_heap texts tuples h) contents builtins.PortCount [] (map (plain_pair texts tuples) ks))) (sym none)
+      (record { answer = is texts tuples h ∙ ap (λ (k : ℕ). number_answer (pos k)) (as_many new contents tell); ports = tell })
