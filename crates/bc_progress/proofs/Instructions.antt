@@ -23,10 +23,10 @@ use Rattle.bc_flow.specs.Action.{Action, Straight, op_action, arguments}
 use Rattle.bc_flow.specs.Machine as flow
 use Rattle.bc_flow.specs.Machine.{Stack, give_slot}
 use Rattle.py_values.specs.Shown.{shown}
-use Rattle.py_primitives.specs.Faults.{TooDeep}
+use Rattle.py_primitives.specs.Faults.{TooDeep, NoModule, IncompatibleFile, RelativeImport, BadDefaults}
 use Rattle.py_primitives.specs.Outcome.{making, making_tuple, making_list}
 use Rattle.py_primitives.specs.Uses.{get_attr, set_attr, unpack}
-use Rattle.py_effects.specs.Effect.{on_heap, Place, Gives, given, fault_at, problem_at, NoModule, Incompatible, Relative, BadDefaults}
+use Rattle.py_effects.specs.Effect.{on_heap, Place, Gives, given, fault_at}
 use Rattle.py_effects.specs.Names.{Looked, Bound, Free, load_global, store_global, delete_global, load_local, with_local, without_local, load_method, import_from}
 use Rattle.py_effects.specs.Calling.{callee_of, call_method}
 use Rattle.py_effects.specs.Modules.{Made, make_function, has_items, make_module, prefixes, module_named}
@@ -92,8 +92,8 @@ module _ (plans : Plans) (library : Library) (follows : Follows plans library) (
       (new_stands plans library follows name 0 c.0 [] made.names (Imported name made.number) (code_is_there library name m 0 e ∙ c.1) (omega arith), (s, below))
 
   begin_fits : (name : Name) (o : Option Entry) (deep : Bool) → entry_in library name ≡ o → P (machine.begin library place paid frame frames w name o deep)
-  begin_fits name None deep e = fails plans library follows place paid frame frames w s below (problem_at place w (NoModule name))
-  begin_fits name (Some Refused) deep e = fails plans library follows place paid frame frames w s below (problem_at place w Incompatible)
+  begin_fits name None deep e = fails plans library follows place paid frame frames w s below (fault_at place w (NoModule name))
+  begin_fits name (Some Refused) deep e = fails plans library follows place paid frame frames w s below (fault_at place w IncompatibleFile)
   begin_fits name (Some (Holds m)) true e = does plans library follows place paid frame frames w s below (make_module w name) _ (λ made w1 q. begun_fits name m e made w1)
   begin_fits name (Some (Holds m)) false e = fails plans library follows place paid frame frames w s below (fault_at place w TooDeep)
 
@@ -125,7 +125,7 @@ module _ (plans : Plans) (library : Library) (follows : Follows plans library) (
       does plans library follows place paid frame frames w s below (load_method w o name) _ (λ looked w1 e. looked_fits looked rest stack w1 r c))
   name_fits ops.StoreAttr name k a = pop_two plans library follows place paid frame frames w s below [] (N ops.StoreAttr name) a (λ o v t1 t2 rest stack h1 h2 r c. puts plans library follows place paid frame frames w s below rest stack (on_heap w (set_attr w.heap o name v)) r c)
   name_fits ops.ImportName name k a = pop_two plans library follows place paid frame frames w s below (New kinds.Value ∷ []) (N ops.ImportName name) a (λ names level t1 t2 rest stack h1 h2 r c.
-      either plans library follows place paid frame frames w s below (is_zero (shown w.heap level)) _ _ (absent_fits names (prefixes name) rest stack (first_absent w (prefixes name)) r c) (fails plans library follows place paid frame frames w s below (problem_at place w Relative)))
+      either plans library follows place paid frame frames w s below (is_zero (shown w.heap level)) _ _ (absent_fits names (prefixes name) rest stack (first_absent w (prefixes name)) r c) (fails plans library follows place paid frame frames w s below (fault_at place w RelativeImport)))
   name_fits ops.ImportFrom name k a = pop plans library follows place paid frame frames w s below (New kinds.Value ∷ Again 0 ∷ []) (N ops.ImportFrom name) a (λ m t rest stack h r c. gives plans library follows place paid frame frames w s below (Value m ∷ rest) (t ∷ stack) (import_from w m name) (more h r) c)
   name_fits op name k a = absurd (false≢true (ap is_name k))
 
@@ -235,7 +235,7 @@ module _ (plans : Plans) (library : Library) (follows : Follows plans library) (
       (one_value [] (λ st2 ss2. C (suc frame.position) (flow.given (New kinds.Value ∷ []) 2 (t ∷ ss2)) → P (U ops.MakeFunctionDefargs n (Null ∷ st2)))
       (λ d t2 rest stack hd r2 x2 c. child_fits n (machine.make_with library place paid frame frames w rest d) m (λ number code e.
       either plans library follows place paid frame frames w s below (has_items (machine.given_by library place paid frame frames w (code_at library frame.module_name number)) (shown w.heap d)) _ _
-      (made_fits number rest stack d (code_at library frame.module_name number) code e r2 c) (fails plans library follows place paid frame frames w s below (problem_at place w BadDefaults)))) st ss r wr) h wt)
+      (made_fits number rest stack d (code_at library frame.module_name number) code e r2 c) (fails plans library follows place paid frame frames w s below (fault_at place w BadDefaults)))) st ss r wr) h wt)
       frame.slots s.stack s.shows g.0 g.1
   number_fits ops.CallFunction n k m a = function_fits n a
   number_fits ops.CallMethod n k m a = method_fits n a
