@@ -14,12 +14,14 @@ const HELP: &[u8] = b"mpy: a verified tool chain for MicroPython bytecode files
 
 usage:
   mpy go SRC [-O N]  compile the source SRC and run it, at optimization level N
-  mpy check FILE     verify the file FILE, and print how many codes it has
-  mpy dump FILE      list what the file FILE holds
+                     (0 to 3, 0 if left out), as in: mpy go examples/hello.py -O 1
+  mpy check FILE     verify the file FILE, and print how many codes it has,
+                     as in: mpy check sensor.mpy
+  mpy dump FILE      list what the file FILE holds, as in: mpy dump sensor.mpy
   mpy --help         print this text
   mpy --version      print the version
 
-exit status:
+exit status (docs/MESSAGES.md explains each line that is said):
   0   all of it was done
   2   the words are no command
   3   the source isn't accepted
@@ -58,6 +60,15 @@ fn refuse<E: Sink>(say: &mut E, fault: ErrorKind) -> u8 {
     2
 }
 
+/// Below which folder on disk the files lie that the words name: the working folder, or all of the disk where the first
+/// named word begins with `/`.
+fn root_of(words: &[String]) -> &'static str {
+    match words {
+        [_, name, ..] if name.as_bytes().first() == Some(&b'/') => "/",
+        _ => ".",
+    }
+}
+
 fn tell<S: Sink, E: Sink>(text: &[u8], out: &mut S, say: &mut E) -> u8 {
     if out.put(text).is_ok() && out.flush().is_ok() {
         return 0;
@@ -79,7 +90,7 @@ fn main(rt: HostRuntime) -> ExitCode {
     if let Some(text) = notice(&words) {
         return ExitCode::from(tell(text, &mut out, &mut say));
     }
-    let Ok(root) = String::from_str(alloc, ".") else {
+    let Ok(root) = String::from_str(alloc, root_of(&words)) else {
         return ExitCode::from(refuse(&mut say, ErrorKind::OutOfMemory));
     };
     let mut folder = DiskFolder::new(&rt, root);

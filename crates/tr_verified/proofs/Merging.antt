@@ -1,18 +1,16 @@
 -- The merge of verified modules is verified.
-use Rattle.std.proofs.Common.{◌≡◌, ℕ, zero, suc, ◌+◌, ◌≤◌, List, [], ◌∷◌, ◌++◌, length, map, drop, replicate, Some, refl, sym, ap, ◌∙◌, subst, arith, zero-le, slice_get, max, true}
+use Rattle.std.proofs.Common.{◌≡◌, ℕ, zero, suc, ◌+◌, ◌≤◌, List, [], ◌∷◌, ◌++◌, length, map, drop, replicate, refl, sym, ap, subst, arith, zero-le, true}
 use Rattle.std.proofs.lemmas.List.{length-map, length-replicate}
 use Rattle.bc_ops.specs.declared.instr.Op.TheVariants as ops
-use Rattle.bc_ops.specs.declared.instr.Instr.{Instr}
 use Rattle.bc_ops.specs.declared.instr.Instr.TheVariants as instrs
 use Rattle.bc_shapes.specs.declared.kinds.Kind.TheVariants as kinds
 use Rattle.bc_shapes.specs.declared.kinds.Give.TheVariants.{New}
-use Rattle.bc_shapes.specs.Shape.{At}
 use Rattle.bc_shapes.proofs.Joins.{belows_refl}
 use Rattle.bc_flow.specs.Action.{instr_action, op_action}
-use Rattle.mpy_tree.specs.Resolved.{Resolved, ResolvedLine, plain, Body, instrs_of, Trees, no_more, more, ResolvedModule}
+use Rattle.mpy_tree.specs.Resolved.{Resolved, ResolvedLine, plain, Body, ResolvedModule}
 use Rattle.bc_machine.specs.Library.{Line, Plain, item_of, line_of, locals_of}
 use Rattle.bc_translation.specs.Context.{Context}
-use Rattle.bc_translation.specs.Merge.{calls, outer_instrs, outer_body, on_line_1, trees_of, merge_of}
+use Rattle.bc_translation.specs.Merge.{calls, outer_body, on_line_1, trees_of, merge_of}
 use Rattle.bc_verified.specs.Operands.{Keeps}
 use Rattle.bc_verified.specs.Verified.{flow_of, IsVerifiedBody, count_of, AreVerifiedAll, IsVerifiedTree, AllVerifiedTrees}
 use Rattle.tr_verified.proofs.Base.{Setting, shape}
@@ -20,7 +18,6 @@ use Rattle.tr_verified.proofs.Parts.{Part, p_none, p_seq, drop_next, get_here}
 use Rattle.tr_verified.proofs.Steps.{p_straight}
 use Rattle.tr_verified.proofs.Whole.{Assignment, closed, verified, keeps_all}
 use Rattle.tr_verified.proofs.Trees.{lines_actions, lines_at}
-
 
 -- the calls of so many children, the first of this number
 abbrev call_lines : ℕ → ℕ → List Line

@@ -1,5 +1,5 @@
 -- Calls of ports by their arguments.
-use Rattle.std.proofs.Common.{◌≡◌, ◌<◌, ℕ, ℤ, pos, List, [], ◌∷◌, map, length, get_or, Option, Result, refl, sym, ap, ◌∙◌, subst, arith}
+use Rattle.std.proofs.Common.{◌≡◌, ◌<◌, ℕ, pos, List, [], ◌∷◌, map, length, get_or, Option, Result, refl, sym, ap, ◌∙◌, subst, arith}
 use Rattle.arena_heap.specs.declared.value.Value.{Value}
 use Rattle.arena_heap.specs.declared.value.StrNo.{StrNo}
 use Rattle.arena_heap.specs.declared.value.ConstNo.{ConstNo}

@@ -1,13 +1,12 @@
 -- Ports that tell their contents, behind a call.
-use Rattle.std.proofs.Common.{◌≡◌, ◌<◌, ◌≤◌, ◌↔◌, ◌++◌, inl, inr, ◌+◌, ◌-◌, ◌^◌, ℕ, zero, suc, ℤ, pos, List, [], ◌∷◌, length, Bool, true, false, cond, Option, Some, None, Result, Ok, Err, drop, refl, sym, ap, ap₂, ◌∙◌, subst, arith}
-use Rattle.std.specs.Prelude.{Contains, IsTrue, IfSome, slice_get, slice_set, nat_eq, ◌||◌}
+use Rattle.std.proofs.Common.{◌≡◌, ◌<◌, ◌≤◌, ◌↔◌, ◌++◌, inl, inr, ℕ, zero, suc, ℤ, pos, List, [], ◌∷◌, length, Bool, true, false, cond, Option, Some, None, Result, Ok, Err, drop, refl, sym, ap, ◌∙◌, subst, arith}
+use Rattle.std.specs.Prelude.{Contains, IsTrue, slice_get, slice_set, nat_eq, ◌||◌}
 use Rattle.std.specs.List.{list_any}
 use Rattle.std.specs.Option.{option_to_list}
 use Rattle.arena_heap.specs.declared.value.Value.{Value}
 use Rattle.vm_faults.specs.declared.stop.Stop.{Stop}
 use Rattle.mpy_base.specs.World.{PortState}
 use Rattle.mpy_base.specs.Val.{Val, Nil, Int}
-use Rattle.mpy_io.specs.Memory.{next}
 use Rattle.mpy_io.specs.Ports.{PortView, IsFailing, first_pending, after_put, after_get}
 use Rattle.port_set.specs.Calls.{Tell, CallsOne, CallsTold}
 use Rattle.py_primitives.specs.Outcome as primitives

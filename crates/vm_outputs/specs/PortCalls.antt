@@ -1,5 +1,5 @@
 -- What calls of ports do to ports that tell their contents.
-use Rattle.std.specs.Prelude.{◌≡◌, ◌<◌, ◌-◌, ◌^◌, ℕ, ℤ, pos, negsuc, IfSome, List, [], ◌∷◌, length, Option, Some, None, Ok, Err, Result, slice_get}
+use Rattle.std.specs.Prelude.{◌≡◌, ℕ, ℤ, pos, negsuc, List, [], ◌∷◌, Option, Some, None, Ok, Err, Result, slice_get}
 use Rattle.mpy_base.specs.World.{Heap, PortState}
 use Rattle.mpy_io.specs.Count.{Rose}
 use Rattle.mpy_io.specs.Ports.{PortView}

@@ -1,0 +1,3 @@
+print("start")
+for n in range(3):
+    print(n)
