@@ -1,14 +1,14 @@
 -- The codes of a verified tree are verified codes of the machine.
-use Rattle.std.proofs.Common.{◌≡◌, ◌⊎◌, inl, inr, ℕ, zero, suc, ◌+◌, ◌<◌, ◌≤◌, max, List, [], ◌∷◌, ◌++◌, length, map, Option, Some, None, refl, sym, ap, ◌∙◌, subst, slice_get, arith, length-append}
+use Rattle.std.proofs.Common.{◌≡◌, ◌⊎◌, inl, inr, ℕ, zero, suc, ◌+◌, ◌<◌, ◌≤◌, List, [], ◌∷◌, ◌++◌, length, map, Option, Some, None, refl, ap, subst, slice_get, arith, length-append}
 use Rattle.bc_ops.specs.declared.instr.Op.TheVariants as ops
 use Rattle.bc_ops.specs.declared.instr.Instr.TheVariants as instrs
 use Rattle.bc_flow.specs.Action.{Action}
 use Rattle.bc_flow.specs.Code as flow
 use Rattle.bc_flow.specs.Verified.{Holds as Meets}
 use Rattle.mpy_tree.specs.Resolved.{Resolved, ResolvedLine, Body, instrs_of, Tree, node, Trees, no_more, more, ResolvedModule}
-use Rattle.bc_machine.specs.Library.{Item, Plain, Line, Code, Module, item_of, line_of, locals_of, local_of, code_of, size_of, sizes_of, numbers_from, codes_from, codes_of, module_of}
-use Rattle.bc_progress.specs.Plans.{action_of, IsKnown, IsChild, MakesChild, Plan, flow_of, IsVerifiedCode, IsVerifiedModule}
-use Rattle.bc_verified.specs.Operands.{IsThere, Keeps}
+use Rattle.bc_machine.specs.Library.{Item, Plain, Line, Code, Module, item_of, line_of, locals_of, code_of, size_of, sizes_of, numbers_from, codes_from, codes_of, module_of}
+use Rattle.bc_progress.specs.Plans.{action_of, IsKnown, IsChild, MakesChild, Plan, IsVerifiedCode, IsVerifiedModule}
+use Rattle.bc_verified.specs.Operands.{IsThere}
 use Rattle.bc_verified.specs.Verified.{IsVerifiedBody, count_of, AreVerifiedIn, AreVerifiedAll, IsVerifiedTree}
 use Rattle.bc_verified.specs.Known.{IsKnownBody, AreKnownIn, AreKnownAll, IsKnownTree}
 
@@ -51,8 +51,7 @@ HasPlan count code = (plan : Plan) × IsVerifiedCode count plan code
 
 body_plan : (count number : ℕ) (body : Body) (trees : Trees) → number + sizes_of trees ≤ count → IsVerifiedBody (count_of trees) body → IsKnownBody body → HasPlan count (code_of body (numbers_from number trees))
 body_plan count number body trees le v k =
-    let size = length body.lines in
-    (
+    let size = length body.lines in (
       record { n_state = body.n_state; n_exc = body.n_exc; assigned = v.flow.0 },
       record {
         params = params_fit (length body.args) (instrs_of body);
@@ -80,7 +79,7 @@ mutual
   trees_plans count number no_more le v k n code e = absurd (cc e)
   trees_plans count number (more tree trees) le v k n code e =
       elim (get_in (codes_from number tree) (codes_of (number + size_of tree) trees) n code e) [
-        inl a ↦ tree_plans count number tree (omega (arith, le)) v.0 k.0 n code a
+        | inl a ↦ tree_plans count number tree (omega (arith, le)) v.0 k.0 n code a
         | inr b ↦ trees_plans count (number + size_of tree) trees (omega (arith, le)) v.1 k.1 (b.0) code (b.1)
       ]
 

@@ -1,8 +1,7 @@
 -- A file's tree has the instructions that files have.
-use Rattle.std.proofs.Common.{◌≡◌, ℕ, zero, suc, ◌+◌, ◌-◌, ◌<◌, ◌≤◌, Bool, List, [], ◌∷◌, length, map, Option, Some, None, refl, sym, ap, ◌∙◌, subst, All, slice_get, option_map, option_and_then, unwrap_or, arith}
-use Rattle.std.specs.Prelude.{nat_lt, if◌then◌else◌}
+use Rattle.std.proofs.Common.{◌≡◌, ℕ, zero, suc, ◌+◌, ◌-◌, ◌<◌, ◌≤◌, Bool, List, [], ◌∷◌, length, Option, Some, None, refl, sym, ap, ◌∙◌, subst, All, slice_get, option_map, option_and_then, unwrap_or, arith}
+use Rattle.std.specs.Prelude.{if◌then◌else◌}
 use Rattle.std.proofs.lemmas.Bool.{le-ltb}
-use Rattle.std.proofs.lemmas.List.{length-map}
 use Rattle.std.proofs.lemmas.Option.{slice_get-map}
 use Rattle.bc_ops.specs.declared.form.Form.{Form}
 use Rattle.bc_ops.specs.declared.form.Form.TheVariants as forms
@@ -10,7 +9,6 @@ use Rattle.bc_ops.specs.declared.instr.Op.{Op}
 use Rattle.bc_ops.specs.declared.instr.Op.TheVariants as ops
 use Rattle.bc_ops.specs.declared.instr.Instr.{Instr}
 use Rattle.bc_ops.specs.declared.instr.Instr.TheVariants as instrs
-use Rattle.bc_ops.specs.declared.listing.Target.{Target}
 use Rattle.bc_ops.specs.declared.listing.Item as listings
 use Rattle.bc_ops.specs.declared.listing.Item.TheVariants as listed
 use Rattle.bc_ops.specs.Table.{code_of, form_of}
@@ -28,7 +26,7 @@ use Rattle.mpy_tree.specs.Raw.{Module, text_of}
 use Rattle.mpy_tree.specs.Resolved as trees
 use Rattle.mpy_tree.specs.Resolved.{Resolved, Body, instrs_of, Tree, node, Trees, no_more, more, ResolvedModule, IsBody, name_at, resolved, ResolvesCode, ResolveCodes, Resolves}
 use Rattle.mpy_tree.specs.Values.{value_of}
-use Rattle.bc_machine.specs.Library.{item_of, position_of}
+use Rattle.bc_machine.specs.Library.{item_of}
 use Rattle.bc_progress.specs.Plans.{IsKnown}
 use Rattle.bc_progress.proofs.Steps.{get_there}
 use Rattle.bc_verified.specs.Operands.{IsThere}

@@ -1,5 +1,5 @@
 -- The tree of a verified module is.
-use Rattle.std.proofs.Common.{◌≡◌, ℕ, zero, suc, List, [], ◌∷◌, length, map, Some, refl, sym, ap, ◌∙◌, subst, slice_get, option_and_then, arith}
+use Rattle.std.proofs.Common.{◌≡◌, ℕ, zero, suc, List, [], ◌∷◌, Some, refl, ap, ◌∙◌, subst, slice_get, option_and_then}
 use Rattle.mpy_tree.specs.declared.raw.RawCode.{RawCode, out-RawCode}
 use Rattle.mpy_tree.specs.Raw.{Module}
 use Rattle.mpy_tree.specs.Resolved.{Body, Tree, node, Trees, no_more, more, ResolvedModule, IsBody, ResolvesCode, ResolveCodes, Resolves}
@@ -9,9 +9,9 @@ use Rattle.bc_verify.specs.Path.{code_at}
 use Rattle.bc_verify.specs.Rules.{KeepsAll}
 use Rattle.bc_verify.specs.Verified.{children_of, IsVerifiedCode, AreVerified, IsVerified}
 use Rattle.bc_verify.proofs.Bodies.{one_body}
-use Rattle.bc_verified.specs.Verified.{IsVerifiedBody, count_of, AreVerifiedIn, AreVerifiedAll, IsVerifiedTree}
+use Rattle.bc_verified.specs.Verified.{IsVerifiedBody, AreVerifiedIn, AreVerifiedAll, IsVerifiedTree}
 use Rattle.bc_verified.specs.Known.{HasTexts}
-use Rattle.bc_verified.proofs.InBytes.{Tells, tree_from_bytes}
+use Rattle.bc_verified.proofs.InBytes.{tree_from_bytes}
 use Rattle.bc_verified.proofs.Regular.{list_regular}
 use Rattle.bc_verified.proofs.Raw.{own_body, own_says, own_tells, codes_count}
 
