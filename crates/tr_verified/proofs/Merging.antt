@@ -11,8 +11,8 @@ use Rattle.mpy_tree.specs.Resolved.{Resolved, ResolvedLine, plain, Body, Resolve
 use Rattle.bc_machine.specs.Library.{Line, Plain, item_of, line_of, locals_of}
 use Rattle.bc_translation.specs.Context.{Context}
 use Rattle.bc_translation.specs.Merge.{calls, outer_body, on_line_1, trees_of, merge_of}
-use Rattle.tr_verified.specs.Operands.{Keeps}
-use Rattle.tr_verified.specs.Verified.{flow_of, IsVerifiedBody, count_of, AreVerifiedAll, IsVerifiedTree, AllVerifiedTrees}
+use Rattle.bc_verified.specs.Operands.{Keeps}
+use Rattle.bc_verified.specs.Verified.{flow_of, IsVerifiedBody, count_of, AreVerifiedAll, IsVerifiedTree, AllVerifiedTrees}
 use Rattle.tr_verified.proofs.Base.{Setting, shape}
 use Rattle.tr_verified.proofs.Parts.{Part, p_none, p_seq, drop_next, get_here}
 use Rattle.tr_verified.proofs.Steps.{p_straight}

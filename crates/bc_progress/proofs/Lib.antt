@@ -1,0 +1,11 @@
+pub mod Flowing
+pub mod Showing
+pub mod Moves
+pub mod Items
+pub mod Frames
+pub mod Binding
+pub mod Operators
+pub mod Steps
+pub mod Instructions
+pub mod Plains
+pub mod Whole

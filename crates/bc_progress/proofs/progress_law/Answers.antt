@@ -1,0 +1,8 @@
+use Rattle.bc_progress.proofs.Whole.{step_fits, steps_fit}
+use Rattle.bc_progress.proofs.progress_law.Goals as goal
+
+pub returns-clause-step : goal.returns-clause-step
+returns-clause-step c plans library s follows f = step_fits plans library follows s f
+
+pub returns-clause-steps : goal.returns-clause-steps
+returns-clause-steps c plans library n s follows f = steps_fit plans library follows n s f

@@ -1,0 +1,56 @@
+-- States of a verified library: each frame is as the plan of its code has it at its position.
+use Rattle.std.specs.Prelude.{◌≡◌, ◌+◌, ◌≤◌, List, [], ◌∷◌, length, map, drop, Some, slice_get}
+use Rattle.bc_shapes.specs.declared.kinds.Kind.TheVariants as kinds
+use Rattle.bc_shapes.specs.declared.kinds.Want.{Want}
+use Rattle.bc_shapes.specs.declared.kinds.Give.TheVariants.{New}
+use Rattle.bc_flow.specs.Action.{Straight}
+use Rattle.bc_flow.specs.Machine.{Stack, Run}
+use Rattle.bc_flow.proofs.Never.{Good}
+use Rattle.bc_machine.specs.Library.{Code, Library, code_at}
+use Rattle.bc_machine.specs.State.{Role, Main, Called, Imported, Frame, State, Running, Halted, Stuck}
+use Rattle.bc_progress.specs.Slots.{ShowsAll, flow_entry}
+use Rattle.bc_progress.specs.Plans.{Plan, flow_of, Plans}
+
+-- a state of a frame's flow that the plan has, within its rooms
+abbrev pub IsPlanned : Plan → Code → Frame → Stack → Type 0
+IsPlanned plan code frame stack = Good (flow_of plan code) plan.assigned (Run frame.position stack (map flow_entry frame.entries))
+
+-- a frame at an instruction: it has a code, a local for each that the code names, and slots and entries as planned
+pub record Stands (plans : Plans) (library : Library) (frame : Frame) : Type 0 where
+  pub code : Code
+  pub code_is : code_at library frame.module_name frame.code ≡ Some code
+  pub locals : length frame.locals ≡ code.locals
+  pub stack : Stack
+  pub shows : ShowsAll frame.slots stack
+  pub planned : IsPlanned (plans frame.module_name frame.code) code frame stack
+
+-- a frame that waits at a call: what the call takes is gone, and one value comes
+pub record Waits (plans : Plans) (library : Library) (frame : Frame) : Type 0 where
+  pub code : Code
+  pub code_is : code_at library frame.module_name frame.code ≡ Some code
+  pub locals : length frame.locals ≡ code.locals
+  pub stack : Stack
+  pub wants : List Want
+  pub call : slice_get (flow_of (plans frame.module_name frame.code) code).actions frame.position ≡ Some (Straight wants (New kinds.Value ∷ []))
+  pub shows : ShowsAll frame.slots (drop (length wants) stack)
+  pub planned : IsPlanned (plans frame.module_name frame.code) code frame stack
+
+-- the frame's slots and entries are no more than its code's rooms, where its locals have their room among the slots
+pub record IsWithin (plan : Plan) (code : Code) (frame : Frame) : Type 0 where
+  pub slots : code.locals + length frame.slots ≤ plan.n_state
+  pub entries : length frame.entries ≤ plan.n_exc
+
+-- the frames below one of this role: a caller waits at its call, an importing frame stands at its import, and the main
+-- module's frame is the lowest
+abbrev pub Below : Plans → Library → Role → List Frame → Type 0
+Below plans library Main [] = Unit {0}
+Below plans library Main (frame ∷ frames) = ⊥
+Below plans library Called [] = ⊥
+Below plans library Called (frame ∷ frames) = Waits plans library frame × Below plans library frame.role frames
+Below plans library (Imported name m) [] = ⊥
+Below plans library (Imported name m) (frame ∷ frames) = Stands plans library frame × Below plans library frame.role frames
+
+abbrev pub Fits : Plans → Library → State → Type 0
+Fits plans library (Running paid frame frames w) = Stands plans library frame × Below plans library frame.role frames
+Fits plans library (Halted end w) = Unit {0}
+Fits plans library (Stuck w) = ⊥

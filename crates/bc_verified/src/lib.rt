@@ -1,0 +1,37 @@
+//! The verifier's rules of a tree, of its bytes and of the machine's module.
+#![tactic(auto)]
+
+ghost use Rattle.std.specs.Prelude.{◌≡◌, ℕ};
+ghost use Rattle.mpy_tree.specs.File.{IsModule};
+ghost use Rattle.mpy_tree.specs.Raw.{Module};
+ghost use Rattle.mpy_tree.specs.Resolved.{ResolvedModule, Resolves};
+ghost use Rattle.bc_verify.specs.Verified.{IsVerified};
+ghost use Rattle.bc_machine.specs.Library.{module_of};
+ghost use Rattle.bc_progress.specs.Plans.{Plan, IsVerifiedModule};
+ghost use Rattle.bc_verified.specs.Verified.{IsVerifiedTree};
+ghost use Rattle.bc_verified.specs.Known.{IsKnownTree, HasTexts};
+
+/// A module whose tree is verified is.
+pub fn raw_law()
+    ensures { (m : Module) (tree : ResolvedModule) → Resolves m tree → IsVerifiedTree tree → IsVerified m }
+{}
+
+/// The tree of a verified module is verified.
+pub fn tree_law()
+    ensures { (m : Module) (tree : ResolvedModule) → HasTexts m → Resolves m tree → IsVerified m → IsVerifiedTree tree }
+{}
+
+/// What a file holds has a text for each number of one, and the instructions of its verified tree are known.
+pub fn file_law()
+    ensures texts { (m : Module) → IsModule m → HasTexts m }
+    ensures known { (m : Module) (tree : ResolvedModule) → Resolves m tree → IsVerifiedTree tree → IsKnownTree tree }
+{}
+
+/// A verified tree whose instructions are known is a verified module of the machine, and so is what a file holds, where the
+/// verifier accepts it.
+pub fn module_law()
+    ensures trees { (tree : ResolvedModule) → IsVerifiedTree tree → IsKnownTree tree
+        → (plans : ℕ → Plan) × IsVerifiedModule plans (module_of tree) }
+    ensures files { (m : Module) (tree : ResolvedModule) → IsModule m → Resolves m tree → IsVerified m
+        → (plans : ℕ → Plan) × IsVerifiedModule plans (module_of tree) }
+{}
