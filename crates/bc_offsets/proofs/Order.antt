@@ -1,9 +1,9 @@
 -- Offsets of starts are in the order of their positions.
-use Rattle.std.proofs.Common.{◌≡◌, ℕ, zero, suc, ◌+◌, ◌<◌, ◌≤◌, Bool, true, false, List, [], ◌∷◌, length, Some, refl, sym, ap, ◌∙◌, arith}
+use Rattle.std.proofs.Common.{◌≡◌, ℕ, zero, suc, ◌+◌, ◌<◌, ◌≤◌, Bool, true, false, List, [], ◌∷◌, length, Some, refl, sym, ap, ◌∙◌, subst, arith}
 use Rattle.std.proofs.lemmas.Bool.{leb-true, le-leb, ltb-true, ltb-false}
 use Rattle.std.specs.Prelude.{nat_le, nat_lt, slice_get}
 use Rattle.std.specs.List.{AllByRecursion}
-use Rattle.bc_ops.specs.Listing.{Piece, IsPiece, starts, items_at}
+use Rattle.bc_ops.specs.Listing.{Piece, IsPiece, joined, starts, items_at}
 use Rattle.bc_offsets.specs.Positions.{CodeList, Listed, position_in, Starts}
 use Rattle.bc_offsets.proofs.Pieces.{some_is, some_text, later, at_piece, all_spelled}
 
@@ -65,3 +65,12 @@ first_start (p ∷ ps) = refl
 
 pub first : (bytes : List ℕ) (l : CodeList) → Listed bytes l → position_in l.offsets 0 ≡ 0
 first bytes l ls = ap (λ (z : List ℕ). position_in z 0) ls.offsets_are ∙ first_start ls.is_list.pieces
+
+begins_at : (ps : List Piece) → 0 < length (joined ps) → Starts (starts 0 ps) 0
+begins_at [] h = absurd (omega arith)
+begins_at (p ∷ ps) h = refl
+
+pub begins : (bytes : List ℕ) (l : CodeList) → Listed bytes l → 0 < length bytes → Starts l.offsets 0
+begins bytes l ls h =
+    let n : 0 < length (joined ls.is_list.pieces) = omega (arith, h, ap length ls.is_list.bytes_are) in
+    subst (λ (z : List ℕ). Starts z 0) (sym ls.offsets_are) (begins_at ls.is_list.pieces n)

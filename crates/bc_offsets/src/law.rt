@@ -10,6 +10,7 @@ ghost use Rattle.bc_offsets.specs.Positions.{CodeList, Listed, position_in, Star
 pub fn offsets_law()
     ensures each { (bytes : List ℕ) (l : CodeList) → Listed bytes l → length l.offsets ≡ length l.items }
     ensures first { (bytes : List ℕ) (l : CodeList) → Listed bytes l → position_in l.offsets 0 ≡ 0 }
+    ensures begins { (bytes : List ℕ) (l : CodeList) → Listed bytes l → 0 < length bytes → Starts l.offsets 0 }
     ensures stands { (bytes : List ℕ) (l : CodeList) (position at : ℕ) → Listed bytes l
         → slice_get l.offsets position ≡ Some at → Stands bytes l position at }
     ensures one { (bytes : List ℕ) (l : CodeList) (position at : ℕ) → Listed bytes l

@@ -1,3 +1,4 @@
 mod Begins
 mod Lists
+mod Stays
 mod Walks

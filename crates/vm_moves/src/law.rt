@@ -1,6 +1,6 @@
 //! What a call of frames does is what the machine's rule says of the frame that it stands for.
 
-ghost use Rattle.std.specs.Prelude.{◌≡◌, ◌≤◌, ℕ, ◌-◌, ◌++◌, List, [], map, length, replicate, Bool, Option, None};
+ghost use Rattle.std.specs.Prelude.{◌≡◌, ◌<◌, ◌≤◌, ℕ, ◌-◌, ◌∷◌, ◌++◌, List, [], drop, map, length, replicate, Bool, Option, None};
 ghost use Rattle.mpy_base.specs.Val.{PlainWorld};
 ghost use Rattle.arena_heap.specs.declared.value.Value.{Value};
 ghost use Rattle.arena_heap.specs.declared.value.ExcNo.{ExcNo};
@@ -10,7 +10,7 @@ ghost use Rattle.vm_frames.specs.declared.slot.Entry.{Entry};
 ghost use Rattle.vm_frames.specs.declared.slot.Role.{Role};
 ghost use Rattle.vm_frames.specs.Calls.{Call};
 ghost use Rattle.vm_frames.specs.Moves.{raised, returned, jumped, kept_in};
-ghost use Rattle.bc_offsets.specs.Positions.{CodeList, Listed, position_in};
+ghost use Rattle.bc_offsets.specs.Positions.{CodeList, Listed, Starts, position_in};
 ghost use Rattle.bc_machine.specs.Library.{Code};
 ghost use Rattle.bc_machine.specs.State as states;
 ghost use Rattle.bc_machine.specs.State.{State, Running, go, give, throw_in, leave, unwind};
@@ -39,4 +39,20 @@ pub fn moves_law()
         → new_frame (view.module_name module_number) number code (locals_of view vs) names.cell (role_of view (view.module_name module_number) role)
         ≡ frame_of view (record { module_number = module_number; code = number; at = 0; names = names; role = role; locals = vs ++ replicate (code.locals - length vs) None; slots = []; entries = [] }) }
     ensures keeps { (starts : List ℕ) (position : ℕ) (es : List Entry) → kept_of (entries_of starts position es) ≡ map (λ (x : ExcNo). x.cell) (kept_in es) }
+{}
+
+/// A call that stands at an instruction, with handlers at some, stays so: where it goes on at one, sets up or drops an entry,
+/// raises, returns or jumps; and one that begins a code that has bytes is so.
+pub fn placed_law()
+    ensures goes { (view : View) (c : Call) (at : ℕ) (st : List Slot) → IsPlaced view c → Starts (starts_of view c) at
+        → IsPlaced view (record c { at = at; slots = st }) }
+    ensures sets_up { (view : View) (c : Call) (e : Entry) → IsPlaced view c → Starts (starts_of view c) e.handler
+        → IsPlaced view (record c { entries = e ∷ c.entries }) }
+    ensures drops { (view : View) (c : Call) → IsPlaced view c → IsPlaced view (record c { entries = drop 1 c.entries }) }
+    ensures raises { (view : View) (x : ExcNo) (c : Call) → IsPlaced view c → IsPlaced view (raised x c).call }
+    ensures returns { (view : View) (v : Value) (c : Call) → IsPlaced view c → IsPlaced view (returned v c).call }
+    ensures jumps { (view : View) (target count : ℕ) (it : Bool) (c : Call) → IsPlaced view c → Starts (starts_of view c) target
+        → IsPlaced view (jumped target count it c.entries c.slots c).call }
+    ensures begins { (view : View) (c : Call) (bytes : List ℕ) (l : CodeList) → Listed bytes l → 0 < length bytes
+        → starts_of view c ≡ l.offsets → c.at ≡ 0 → c.entries ≡ [] → IsPlaced view c }
 {}

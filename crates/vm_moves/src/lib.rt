@@ -3,4 +3,4 @@
 
 mod law;
 
-pub use law::moves_law;
+pub use law::{moves_law, placed_law};
