@@ -17,7 +17,7 @@ use Rattle.bc_offsets.specs.Positions.{position_in, Starts}
 use Rattle.bc_offsets.proofs.Order.{order}
 use Rattle.bc_machine.specs.State as states
 use Rattle.bc_machine.specs.State.{State, Running, go, enter, cut, give, throw_in, leave, unwind}
-use Rattle.vm_moves.specs.Views.{View, slot_of, slots_of, entry_of, entries_of, starts_of, position_of, frame_of, behind}
+use Rattle.vm_moves.specs.Views.{View, slots_of, entry_of, entries_of, starts_of, position_of, frame_of, behind}
 use Rattle.vm_moves.specs.Placed.{IsPlaced}
 use Rattle.vm_moves.proofs.Lists.{cut_is, without_is, goes, enters}
 
