@@ -1,5 +1,5 @@
 -- Each frame has a slot for each local of its code, and no step takes one away.
-use Rattle.std.proofs.Common.{◌≡◌, ℕ, zero, suc, ◌-◌, ◌≤◌, List, [], ◌∷◌, ◌++◌, length, map, drop, replicate, Bool, true, false, Option, Some, None, cond, refl, sym, ap, ◌∙◌, subst, arith}
+use Rattle.std.proofs.Common.{◌≡◌, ℕ, zero, suc, ◌-◌, ◌≤◌, List, [], ◌∷◌, ◌++◌, length, drop, replicate, Bool, true, false, Option, Some, None, cond, refl, sym, ap, subst, arith}
 use Rattle.std.proofs.lemmas.List.{length-append, length-replicate, length-set}
 use Rattle.std.specs.Prelude.{nat_lt, nat_le, slice_get, slice_set, ◌%◌}
 use Rattle.mpy_base.specs.Val.{Val, Nil, Built, At, PlainWorld}
@@ -22,32 +22,21 @@ use Rattle.bc_machine.specs.State.{Slot, Value, Null, Object, Iter, KeptReturn, 
 use Rattle.bc_machine.specs.Parts.{has_depth, is_zero, first_absent}
 use Rattle.bc_machine.specs.Operations.{TwoValued, operator_at, unary_at, Operands, operands, kept_of}
 use Rattle.bc_machine.specs.Step.{paying, does, gives, puts, entered, run_code, run_callee, call_function, call_looked, made_function, make, given_by, make_with, begun, begin, import_absent, import, name_step, child, number_step, end_finally, pop_except, plain_step, next_item, jump_step, one_step, two_step, instr_step, item_step, run_line, line_at, step}
+use Rattle.sim_expr.specs.Rooms.{HasRoom, AllRoom, StateRoom}
 use Rattle.bc_machine.specs.Machine as machines
 use Rattle.bc_machine.specs.Machine.{steps}
 
 module _ (library : Library) where
-  abbrev pub HasRoom : Name → ℕ → Locals → Type 0
-  HasRoom name number locals = (code : Code) → code_at library name number ≡ Some code → code.locals ≤ length locals
-
-  abbrev pub AllRoom : List Frame → Type 0
-  AllRoom [] = Unit {0}
-  AllRoom (f ∷ frames) = HasRoom f.module_name f.code f.locals × AllRoom frames
-
-  abbrev pub StateRoom : State → Type 0
-  StateRoom (Running paid f frames w) = AllRoom (f ∷ frames)
-  StateRoom (Halted end w) = Unit {0}
-  StateRoom (Stuck w) = Unit {0}
-
   pub record Roomy (s : State) : Type 0 where
-    pub all : StateRoom s
+    pub all : StateRoom library s
 
-  set_room : (name : Name) (number : ℕ) (locals : Locals) (slot : ℕ) (o : Option Val) → HasRoom name number locals → HasRoom name number (slice_set locals slot o)
+  set_room : (name : Name) (number : ℕ) (locals : Locals) (slot : ℕ) (o : Option Val) → HasRoom library name number locals → HasRoom library name number (slice_set locals slot o)
   set_room name number locals slot o h code e = subst (λ m. code.locals ≤ m) (sym (length-set locals slot o)) (h code e)
 
   same_code : (code code1 : Code) (o : Option Code) → o ≡ Some code → o ≡ Some code1 → code1 ≡ code
   same_code code code1 o e f = cc
 
-  begun_room : (name : Name) (number : ℕ) (code : Code) (slots : Locals) → code_at library name number ≡ Some code → HasRoom name number (slots ++ replicate (code.locals - length slots) None)
+  begun_room : (name : Name) (number : ℕ) (code : Code) (slots : Locals) → code_at library name number ≡ Some code → HasRoom library name number (slots ++ replicate (code.locals - length slots) None)
   begun_room name number code slots e code1 f =
       let same : code1.locals ≡ code.locals = ap (λ (c : Code). c.locals) (same_code code code1 (code_at library name number) e f) in
       let nothing : Option Val = None in
@@ -59,41 +48,41 @@ module _ (library : Library) where
   either true x y p q = p
   either false x y p q = q
 
-  throw_in_room : (x : ℕ) (entries : List states.Entry) (f : Frame) (frames : List Frame) (w : PlainWorld) (out : State) → AllRoom (f ∷ frames) → Roomy out → Roomy (throw_in x entries f frames w out)
+  throw_in_room : (x : ℕ) (entries : List states.Entry) (f : Frame) (frames : List Frame) (w : PlainWorld) (out : State) → AllRoom library (f ∷ frames) → Roomy out → Roomy (throw_in x entries f frames w out)
   throw_in_room x [] f frames w out r o = o
   throw_in_room x (e ∷ entries) f frames w out r o = either e.active _ _ (throw_in_room x entries f frames w out r o) (record { all = r })
 
-  throw_out_room : (x : ℕ) (frames : List Frame) (w : PlainWorld) → AllRoom frames → Roomy (throw_out x frames w)
+  throw_out_room : (x : ℕ) (frames : List Frame) (w : PlainWorld) → AllRoom library frames → Roomy (throw_out x frames w)
   throw_out_room x [] w r = record { all = tt }
   throw_out_room x (f ∷ frames) w r = throw_in_room x f.entries f frames w _ r (throw_out_room x frames (abandoned f.role w) r.1)
 
-  throw_room : (x : ℕ) (f : Frame) (frames : List Frame) (w : PlainWorld) → AllRoom (f ∷ frames) → Roomy (throw x f frames w)
+  throw_room : (x : ℕ) (f : Frame) (frames : List Frame) (w : PlainWorld) → AllRoom library (f ∷ frames) → Roomy (throw x f frames w)
   throw_room x f frames w r = throw_in_room x f.entries f frames w _ r (throw_out_room x frames (abandoned f.role w) r.1)
 
-  fail_room : (x : Fails) (f : Frame) (frames : List Frame) → AllRoom (f ∷ frames) → Roomy (fail x f frames)
+  fail_room : (x : Fails) (f : Frame) (frames : List Frame) → AllRoom library (f ∷ frames) → Roomy (fail x f frames)
   fail_room (Thrown x w) f frames r = throw_room x f frames w r
   fail_room (Filled e w) f frames r = record { all = tt }
 
-  given_room : {A : Type 0} (x : Given A) (f : Frame) (frames : List Frame) (nx : A → PlainWorld → State) → AllRoom (f ∷ frames) → ((a : A) (w : PlainWorld) → Roomy (nx a w)) → Roomy (on_given x f frames nx)
+  given_room : {A : Type 0} (x : Given A) (f : Frame) (frames : List Frame) (nx : A → PlainWorld → State) → AllRoom library (f ∷ frames) → ((a : A) (w : PlainWorld) → Roomy (nx a w)) → Roomy (on_given x f frames nx)
   given_room (Gives a w) f frames nx r h = h a w
   given_room (Throws x w) f frames nx r h = throw_room x f frames w r
   given_room (Fills e w) f frames nx r h = record { all = tt }
 
-  give_room : (v : Val) (role : Role) (frames : List Frame) (w : PlainWorld) → AllRoom frames → Roomy (give v role frames w)
+  give_room : (v : Val) (role : Role) (frames : List Frame) (w : PlainWorld) → AllRoom library frames → Roomy (give v role frames w)
   give_room v Called (f ∷ frames) w r = record { all = r }
   give_room v (Imported name m) (f ∷ frames) w r = given_room (given _ (store_module w name m)) f frames _ r (λ stored w1. record { all = r })
   give_room v _ _ w r = record { all = tt }
 
-  leave_room : (v : Val) (entries : List states.Entry) (f : Frame) (frames : List Frame) (w : PlainWorld) → AllRoom (f ∷ frames) → Roomy (leave v entries f frames w)
+  leave_room : (v : Val) (entries : List states.Entry) (f : Frame) (frames : List Frame) (w : PlainWorld) → AllRoom library (f ∷ frames) → Roomy (leave v entries f frames w)
   leave_room v [] f frames w r = give_room v f.role frames w r.1
   leave_room v (e ∷ entries) f frames w r = either (is_run e) _ _ (record { all = r }) (leave_room v entries f frames w r)
 
-  unwind_room : (target : ℕ) (it : Bool) (count : ℕ) (entries : List states.Entry) (slots : List Slot) (f : Frame) (frames : List Frame) (w : PlainWorld) → AllRoom (f ∷ frames) → Roomy (unwind target it count entries slots f frames w)
+  unwind_room : (target : ℕ) (it : Bool) (count : ℕ) (entries : List states.Entry) (slots : List Slot) (f : Frame) (frames : List Frame) (w : PlainWorld) → AllRoom library (f ∷ frames) → Roomy (unwind target it count entries slots f frames w)
   unwind_room target it zero entries slots f frames w r = record { all = r }
   unwind_room target it (suc count) [] slots f frames w r = record { all = tt }
   unwind_room target it (suc count) (e ∷ entries) slots f frames w r = either (is_run e) _ _ (record { all = r }) (unwind_room target it count entries (cut e.height slots) f frames w r)
 
-  resume_room : (cause : Slot) (slots : List Slot) (entries : List states.Entry) (f : Frame) (frames : List Frame) (w : PlainWorld) → AllRoom (f ∷ frames) → Roomy (resume cause slots entries f frames w)
+  resume_room : (cause : Slot) (slots : List Slot) (entries : List states.Entry) (f : Frame) (frames : List Frame) (w : PlainWorld) → AllRoom library (f ∷ frames) → Roomy (resume cause slots entries f frames w)
   resume_room (Value Nil) slots entries f frames w r = record { all = r }
   resume_room (Value (At x)) slots entries f frames w r = throw_room x (record f { slots = slots; entries = entries }) frames w r
   resume_room (KeptReturn v) slots entries f frames w r = leave_room v entries (record f { slots = slots }) frames w r
@@ -102,7 +91,7 @@ module _ (library : Library) where
 
   -- ---- a step, with its own words
 
-  module _ (place : Place) (paid : ℕ) (f : Frame) (frames : List Frame) (w : PlainWorld) (r : AllRoom (f ∷ frames)) where
+  module _ (place : Place) (paid : ℕ) (f : Frame) (frames : List Frame) (w : PlainWorld) (r : AllRoom library (f ∷ frames)) where
     r_pays : {A : Type 0} (b : Bool) (effect : Effect A) (behind : A → PlainWorld → State) → ((a : A) (w1 : PlainWorld) → Roomy (behind a w1)) → Roomy (paying library place paid f frames w b effect behind)
     r_pays true effect behind h = record { all = r }
     r_pays false effect behind h = given_room (given place effect) f frames behind r h
@@ -187,7 +176,7 @@ module _ (library : Library) where
     r_name ops.ImportFrom name (Value m ∷ st) = r_gives (Value m ∷ st) _
     r_name _ name st = record { all = tt }
 
-    r_set : (slot : ℕ) (o : Option Val) → AllRoom (record f { locals = slice_set f.locals slot o } ∷ frames)
+    r_set : (slot : ℕ) (o : Option Val) → AllRoom library (record f { locals = slice_set f.locals slot o } ∷ frames)
     r_set slot o = (set_room f.module_name f.code f.locals slot o r.0, r.1)
 
     r_number : (op : Op) (n : ℕ) (st : List Slot) → Roomy (number_step library place paid f frames w op n st)
@@ -274,28 +263,28 @@ module _ (library : Library) where
     r_item (Jumps op p) = r_jump op p f.slots
     r_item (Unwinds p byte) = unwind_room p (nat_le 128 byte) (byte % 128) f.entries f.slots f frames w r
 
-  r_line : (paid : ℕ) (f : Frame) (frames : List Frame) (w : PlainWorld) → AllRoom (f ∷ frames) → (m : Option Module) (c : Option Code) (l : Option Line) → Roomy (run_line library paid f frames w m c l)
+  r_line : (paid : ℕ) (f : Frame) (frames : List Frame) (w : PlainWorld) → AllRoom library (f ∷ frames) → (m : Option Module) (c : Option Code) (l : Option Line) → Roomy (run_line library paid f frames w m c l)
   r_line paid f frames w r (Some m) (Some code) (Some l) = r_item _ paid f frames w r l.item
   r_line paid f frames w r _ _ _ = record { all = tt }
 
-  pub step_room : (s : State) → StateRoom s → StateRoom (step library s)
+  pub step_room : (s : State) → StateRoom library s → StateRoom library (step library s)
   step_room (Running paid f frames w) r = Roomy.all (r_line paid f frames w r (module_in (entry_in library f.module_name)) (code_at library f.module_name f.code) (line_at (code_at library f.module_name f.code) f.position))
   step_room (Halted end w) r = tt
   step_room (Stuck w) r = tt
 
-  pub steps_room : (n : ℕ) (s : State) → StateRoom s → StateRoom (steps library n s)
+  pub steps_room : (n : ℕ) (s : State) → StateRoom library s → StateRoom library (steps library n s)
   steps_room zero s r = r
   steps_room (suc n) s r = steps_room n (step library s) (step_room s r)
 
-  begun_main : (name : Name) (o : Option Code) → code_at library name 0 ≡ o → (made : Made) (w : PlainWorld) → StateRoom (machines.begun name o made w)
+  begun_main : (name : Name) (o : Option Code) → code_at library name 0 ≡ o → (made : Made) (w : PlainWorld) → StateRoom library (machines.begun name o made w)
   begun_main name (Some code) e made w = (begun_room name 0 code [] e, tt)
   begun_main name None e made w = tt
 
-  opened_room : (name : Name) (g : Given Made) → StateRoom (machines.opened library name g)
+  opened_room : (name : Name) (g : Given Made) → StateRoom library (machines.opened library name g)
   opened_room name (Gives made w) = begun_main name (code_at library name 0) refl made w
   opened_room name (Throws x w) = tt
   opened_room name (Fills e w) = tt
 
   -- the first frame has its slots
-  pub start_room : (name : Name) (w : PlainWorld) → StateRoom (machines.start library name w)
+  pub start_room : (name : Name) (w : PlainWorld) → StateRoom library (machines.start library name w)
   start_room name w = opened_room name (given _ (make_module w _))
