@@ -141,6 +141,6 @@ behaves_alone program library cells bytes ports links sources nothing =
     let main : IsSource program.main = subst IsSource (sym sources.main) tt in
     let K = greatest program in
     let is : IsText library K program.main_name 0 (module_text sources.source.file sources.source 0) =
-        subst (λ u. IsCode library K program.main_name 0 (slice_get (texts (first_file u) u 0) 0)) sources.main
-        (by_unit library K program.main_name program.main main links.main.0 links.main.1 links.main.2 (omega arith) 0) in
+    subst (λ u. IsCode library K program.main_name 0 (slice_get (texts (first_file u) u 0) 0)) sources.main
+    (by_unit library K program.main_name program.main main links.main.0 links.main.1 links.main.2 (omega arith) 0) in
     behaves program library K (omega arith) (linked program library links main sources.entries) (others program library K (omega arith) nothing) sources.source sources.main is is.locals cells bytes ports

@@ -68,10 +68,10 @@ module _ (program : Program) (library : Library) (K : ℕ) (some : 1 ≤ K) (n :
     over d env t w =
         s_post program library K some in_clause k (deeper a) a (suc (suc (suc (suc (suc j))))) end slots slots _ t 1 0 (SDone d env t w)
         (λ env1 w1. stepped_behind library in_clause (suc (suc (suc (suc (suc j))))) (Jumps ops.PopExceptJump end) env1 slots w1 s1 hb
-            ∙ went_by k.f k.frames k.f.entries (running h false (length slots) (Some x) ∷ k.f.entries) (suc (suc (suc (suc (suc j))))) end env1 slots slots w1 (below.quiet end (omega arith) (omega arith)))
+        ∙ went_by k.f k.frames k.f.entries (running h false (length slots) (Some x) ∷ k.f.entries) (suc (suc (suc (suc (suc j))))) end env1 slots slots w1 (below.quiet end (omega arith) (omega arith)))
         (λ d1 env1 w1 early. out_handler k a (suc (suc (suc (suc (suc j))))) end h (Some x) slots d1 env1 w1 below.fits early)
         (leave_last program library K some n ihe iht ihs in_clause (deeper a) slots (x ∷ hs) (suc j) (suc (suc (suc (suc j)))) p d Normal env t w s1 ha (omega arith)
-            (within in_clause (deeper a) slots (x ∷ hs) p end p (suc (suc (suc (suc (suc j))))) (omega arith) (omega arith) below1))
+        (within in_clause (deeper a) slots (x ∷ hs) p end p (suc (suc (suc (suc (suc j))))) (omega arith) (omega arith) below1))
 
     -- the deletion, of a local and of a module's name
     gone_local : (d : Done) (slot : ℕ) (env : Locals) (t : ℕ) (w : PlainWorld) → local_at env slot ≡ Some Nil → Behind k.c (suc (suc (suc j))) (number ops.DeleteFast slot)
@@ -81,10 +81,10 @@ module _ (program : Program) (library : Library) (K : ℕ) (some : 1 ≤ K) (n :
         let f = at (in_last d).f (suc (suc (suc j))) env (kept d) in
         subst (λ o. GoesS library K 0 k a end slots (Running 0 f k.frames w) t 3 0 (s_after (s_use (e_does (place_at k.g own) (assigned w o) t w) env (λ v t1 w1. SDone Normal (without_local env slot) t1 w1)) (on_normal (SDone d)))) (sym found)
         (g_step library K _ _ _ t _ _ _ 2 0
-            (stepped_behind library (in_last d) (suc (suc (suc j))) (number ops.DeleteFast slot) env (kept d) w (s2 d) has
-            ∙ ap (λ o. steps.does library place 0 f k.frames w (assigned w o) (λ v. steps.with_locals library place 0 f k.frames w (without_local env slot) (kept d))) found
-            ∙ went (in_last d) (suc (suc (suc j))) (suc (suc (suc (suc j)))) (without_local env slot) (kept d) (kept d) w (quiet d (suc (suc (suc (suc j)))) (omega arith) (omega arith)))
-            (over d (without_local env slot) t w))
+        (stepped_behind library (in_last d) (suc (suc (suc j))) (number ops.DeleteFast slot) env (kept d) w (s2 d) has
+        ∙ ap (λ o. steps.does library place 0 f k.frames w (assigned w o) (λ v. steps.with_locals library place 0 f k.frames w (without_local env slot) (kept d))) found
+        ∙ went (in_last d) (suc (suc (suc j))) (suc (suc (suc (suc j)))) (without_local env slot) (kept d) (kept d) w (quiet d (suc (suc (suc (suc j)))) (omega arith) (omega arith)))
+        (over d (without_local env slot) t w))
 
     gone_global : (d : Done) (env : Locals) (t : ℕ) (w : PlainWorld) → named_in w k.g.names nm ≡ Some Nil → Behind k.c (suc (suc (suc j))) (delete_by k.c nm None)
         → GoesS library K 0 k a end slots (Running 0 (at (in_last d).f (suc (suc (suc j))) env (kept d)) k.frames w) t 3 0 (s_after (deleted k.g own nm None env t w) (on_normal (SDone d)))
@@ -93,21 +93,21 @@ module _ (program : Program) (library : Library) (K : ℕ) (some : 1 ≤ K) (n :
         let f = at (in_last d).f (suc (suc (suc j))) env (kept d) in
         subst (λ o. GoesS library K 0 k a end slots (Running 0 f k.frames w) t 3 0 (s_after (s_use (e_does (place_at k.g own) (deleted_global w k.g.names nm o) t w) env (λ done t1 w1. SDone Normal env t1 w1)) (on_normal (SDone d)))) (sym found)
         (g_step library K _ _ _ t _ _ _ 2 0
-            (stepped_behind library (in_last d) (suc (suc (suc j))) (delete_by k.c nm None) env (kept d) w (s2 d) has
-            ∙ delete_module library place 0 nm (kept d) f k.frames w k.c.is_module refl
-            ∙ ap (λ l. steps.puts library place 0 f k.frames w (kept d) (delete_global w l nm)) s.names
-            ∙ ap (λ o. steps.puts library place 0 f k.frames w (kept d) (deleted_global w k.g.names nm o)) found
-            ∙ went (in_last d) (suc (suc (suc j))) (suc (suc (suc (suc j)))) env (kept d) (kept d) _ (quiet d (suc (suc (suc (suc j)))) (omega arith) (omega arith)))
-            (over d env t _))
+        (stepped_behind library (in_last d) (suc (suc (suc j))) (delete_by k.c nm None) env (kept d) w (s2 d) has
+        ∙ delete_module library place 0 nm (kept d) f k.frames w k.c.is_module refl
+        ∙ ap (λ l. steps.puts library place 0 f k.frames w (kept d) (delete_global w l nm)) s.names
+        ∙ ap (λ o. steps.puts library place 0 f k.frames w (kept d) (deleted_global w k.g.names nm o)) found
+        ∙ went (in_last d) (suc (suc (suc j))) (suc (suc (suc (suc j)))) env (kept d) (kept d) _ (quiet d (suc (suc (suc (suc j)))) (omega arith) (omega arith)))
+        (over d env t _))
 
     -- None is stored to the name: it fits, or the run ends
     emptied_by : (d : Done) (b : Bool) (env : Locals) (t cells : ℕ) (w : PlainWorld) (pairs : List (Val × Val)) → named_in (record w { heap = with_pairs w.heap k.g.names pairs }) k.g.names nm ≡ Some Nil
         → Behind k.c (suc (suc (suc j))) (delete_by k.c nm None)
         → let f = at (in_last d).f (suc (suc j)) env (Value Nil ∷ kept d) in
-          step library (Running 0 f k.frames w) ≡ steps.puts library (place_behind (in_last d) (suc (suc j))) 0 f k.frames w (kept d) (on_heap w (cond b (gives Nil (with_pairs w.heap k.g.names pairs)) (is_full w.heap cells 0)))
+        step library (Running 0 f k.frames w) ≡ steps.puts library (place_behind (in_last d) (suc (suc j))) 0 f k.frames w (kept d) (on_heap w (cond b (gives Nil (with_pairs w.heap k.g.names pairs)) (is_full w.heap cells 0)))
         → GoesS library K 0 k a end slots (Running 0 f k.frames w) t 4 0
-          (s_after (s_use (e_does (place_at k.g own) (on_heap w (cond b (gives Nil (with_pairs w.heap k.g.names pairs)) (is_full w.heap cells 0))) t w) env (λ done t1 w1. SDone Normal env t1 w1))
-            (on_normal (λ env1 t1 w1. s_after (deleted k.g own nm None env1 t1 w1) (on_normal (SDone d)))))
+        (s_after (s_use (e_does (place_at k.g own) (on_heap w (cond b (gives Nil (with_pairs w.heap k.g.names pairs)) (is_full w.heap cells 0))) t w) env (λ done t1 w1. SDone Normal env t1 w1))
+        (on_normal (λ env1 t1 w1. s_after (deleted k.g own nm None env1 t1 w1) (on_normal (SDone d)))))
     emptied_by d true env t cells w pairs found has e =
         let w1 : PlainWorld = record w { heap = with_pairs w.heap k.g.names pairs } in
         g_step library K _ _ _ t _ _ _ 3 0
@@ -117,13 +117,13 @@ module _ (program : Program) (library : Library) (K : ℕ) (some : 1 ≤ K) (n :
 
     emptied : (d : Done) (o : Option ℕ) → position (bytes_eq nm) k.g.locals ≡ o → (env : Locals) (t : ℕ) (w : PlainWorld) → Behind k.c (suc (suc j)) (store_by k.c nm o) → Behind k.c (suc (suc (suc j))) (delete_by k.c nm o)
         → GoesS library K 0 k a end slots (Running 0 (at (in_last d).f (suc (suc j)) env (Value Nil ∷ kept d)) k.frames w) t 4 0
-          (s_after (stored k.g own nm Nil o env t w) (on_normal (λ env1 t1 w1. s_after (deleted k.g own nm o env1 t1 w1) (on_normal (SDone d)))))
+        (s_after (stored k.g own nm Nil o env t w) (on_normal (λ env1 t1 w1. s_after (deleted k.g own nm o env1 t1 w1) (on_normal (SDone d)))))
     emptied d (Some slot) found env t w has1 has2 = g_order library K _ _ t _ _ _ 4 0 (λ order.
         let low : slot < length env = omega (arith, slot_is_low nm k.g.locals slot found, s.rooms, ap (λ (l : List Name). length l) s.locals, order.rooms.0 k.code s.of_code) in
         g_step library K _ _ _ t _ _ _ 3 0
         (stepped_behind library (in_last d) (suc (suc j)) (store_by k.c nm (Some slot)) env (Value Nil ∷ kept d) w (s2 d) has1
-            ∙ store_short library (place_behind (in_last d) (suc (suc j))) slot Nil (kept d) (in_last d) (suc (suc j)) env w (nat_lt slot 16)
-            ∙ went (in_last d) (suc (suc j)) (suc (suc (suc j))) (with_local env slot Nil) (Value Nil ∷ kept d) (kept d) w (quiet d (suc (suc (suc j))) (omega arith) (omega arith)))
+        ∙ store_short library (place_behind (in_last d) (suc (suc j))) slot Nil (kept d) (in_last d) (suc (suc j)) env w (nat_lt slot 16)
+        ∙ went (in_last d) (suc (suc j)) (suc (suc (suc j))) (with_local env slot Nil) (Value Nil ∷ kept d) (kept d) w (quiet d (suc (suc (suc j))) (omega arith) (omega arith)))
         (gone_local d slot (with_local env slot Nil) t w (stored_local env slot Nil low) has2))
     emptied d None found env t w has1 has2 = g_order library K _ _ t _ _ _ 4 0 (λ order.
         let place = place_behind (in_last d) (suc (suc j)) in
@@ -133,8 +133,8 @@ module _ (program : Program) (library : Library) (K : ℕ) (some : 1 ≤ K) (n :
         let dict : IsA w.heap.objects ADict k.g.names = subst (λ l. IsA w.heap.objects ADict l) s.names order.names.0.dict in
         emptied_by d (does_fit w.heap cells 0) env t cells w pairs (stored_name w k.g.names nm Nil dict) has2
         (stepped_behind library (in_last d) (suc (suc j)) (store_by k.c nm None) env (Value Nil ∷ kept d) w (s2 d) has1
-            ∙ store_module library place 0 nm Nil (kept d) f k.frames w k.c.is_module refl
-            ∙ ap (λ l. steps.puts library place 0 f k.frames w (kept d) (store_global w l nm Nil)) s.names))
+        ∙ store_module library place 0 nm Nil (kept d) f k.frames w k.c.is_module refl
+        ∙ ap (λ l. steps.puts library place 0 f k.frames w (kept d) (store_global w l nm Nil)) s.names))
 
     -- however the block ended
     unnamed_sim : (d : Done) (env : Locals) (t : ℕ) (w : PlainWorld) → Behind k.c j (plain ops.LoadConstNone)
@@ -143,7 +143,7 @@ module _ (program : Program) (library : Library) (K : ℕ) (some : 1 ≤ K) (n :
         enter_last program library K some n ihe iht ihs _ in_clause (deeper a) slots j d env t _ _ _ 5 0 w s1 h6 (below1.quiet (suc j) (omega arith) (omega arith))
         (b_goes library K _ (in_last d) (suc j) (suc (suc j)) (plain ops.LoadConstNone) env (kept d) (Value Nil ∷ kept d) t _ _ _ 4 0 w (s2 d) h7 (quiet d (suc (suc j)) (omega arith) (omega arith)) refl
         (emptied d (position (bytes_eq nm) k.g.locals) refl env t w (subst (λ l. Behind k.c (suc (suc j)) (store_by k.c nm (position (bytes_eq nm) l))) s.locals h8)
-            (subst (λ l. Behind k.c (suc (suc (suc j))) (delete_by k.c nm (position (bytes_eq nm) l))) s.locals h9)))
+        (subst (λ l. Behind k.c (suc (suc (suc j))) (delete_by k.c nm (position (bytes_eq nm) l))) s.locals h9)))
 
   -- on in the clause, from where it is left like the site around it
   normal_in : (k : Site) (a : Around) (m end h x : ℕ) (slots : List Slot) (d : Done) (env : Locals) (t y size : ℕ) (w : PlainWorld) (nx : Locals → ℕ → PlainWorld → SOut) → Fits k.f.entries (length slots)
@@ -165,11 +165,11 @@ module _ (program : Program) (library : Library) (K : ℕ) (some : 1 ≤ K) (n :
       let y = b_le sb in
       s_bind library K k1 k (deeper a) a (suc (suc (suc m))) end slots slots _ t 1 9 10 0 (bsize b) (bsize b) _ _ (omega arith) (omega arith)
       (s_of_store library K 0 k1 (deeper a) (suc (suc (suc m))) slots _ t 1 0 _
-          (store_name_sim program library K some k1 own (suc (suc m)) nm (At x) env slots t w c1 h4 (b1.quiet (suc (suc (suc m))) (omega arith) (omega arith)) b1.fits))
+      (store_name_sim program library K some k1 own (suc (suc m)) nm (At x) env slots t w c1 h4 (b1.quiet (suc (suc (suc m))) (omega arith) (omega arith)) b1.fits))
       (λ d env1 t1 w1 l. normal_in k a (suc (suc (suc m))) end h x slots d env1 t1 9 (bsize b) w1 _ below.fits
-          (s_wide library K k a end slots _ t1 7 9 (bsize b) (bsize b) _ (omega arith) (omega arith)
-          (set_up program library K some _ k1 own (suc (suc (suc m))) (suc j) true (Jumps ops.SetupFinally (suc j)) env1 slots t1 _ _ _ 6 _ w1 c1 h5 (omega arith) (b1.quiet (suc (suc (suc (suc m)))) (omega arith) (omega arith)) refl
-          (s_bind library K k2 k (deeper (deeper a)) a j end slots slots _ t1 0 6 6 (bsize b) 0 (bsize b) _ _ (omega arith) (omega arith)
-          (b_sim program library K n ihs k2 slots (x ∷ hs) (deeper (deeper a)) (suc (suc (suc (suc m)))) b j env1 t1 w1 c2 sb
-              (below_body k1 (deeper a) true slots (x ∷ hs) (suc (suc (suc (suc m)))) j (suc j) end p (omega arith) (omega arith) (omega arith) b1) fit (omega arith))
-          (λ d2 env2 t2 w2 l4. unnamed_sim k a slots hs line h end p j own x nm s h7 h8 h9 ha hb (omega arith) l2 l3 below d2 env2 t2 w2 h6)))))
+      (s_wide library K k a end slots _ t1 7 9 (bsize b) (bsize b) _ (omega arith) (omega arith)
+      (set_up program library K some _ k1 own (suc (suc (suc m))) (suc j) true (Jumps ops.SetupFinally (suc j)) env1 slots t1 _ _ _ 6 _ w1 c1 h5 (omega arith) (b1.quiet (suc (suc (suc (suc m)))) (omega arith) (omega arith)) refl
+      (s_bind library K k2 k (deeper (deeper a)) a j end slots slots _ t1 0 6 6 (bsize b) 0 (bsize b) _ _ (omega arith) (omega arith)
+      (b_sim program library K n ihs k2 slots (x ∷ hs) (deeper (deeper a)) (suc (suc (suc (suc m)))) b j env1 t1 w1 c2 sb
+      (below_body k1 (deeper a) true slots (x ∷ hs) (suc (suc (suc (suc m)))) j (suc j) end p (omega arith) (omega arith) (omega arith) b1) fit (omega arith))
+      (λ d2 env2 t2 w2 l4. unnamed_sim k a slots hs line h end p j own x nm s h7 h8 h9 ha hb (omega arith) l2 l3 below d2 env2 t2 w2 h6)))))
