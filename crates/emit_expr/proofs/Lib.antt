@@ -1,0 +1,5 @@
+pub mod Plains
+pub mod Links
+pub mod Counts
+pub mod Forms
+pub mod Rows
