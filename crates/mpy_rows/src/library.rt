@@ -3,7 +3,7 @@
 ghost use Rattle.std.specs.Prelude.{◌<◌, ◌^◌, length, All};
 ghost use Rattle.std.specs.Bool.{OnTrue};
 
-use crate::check::LOOP;
+use crate::bytes::LOOP;
 use arena_heap::{ConstNo, Constants, StrNo, Value};
 use bc_library::{LibFault, Library, Member};
 use bc_verify::{Verified, verify};

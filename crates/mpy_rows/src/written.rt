@@ -1,6 +1,6 @@
 //! Files that are written of sources that print, and what is read of them.
 
-use crate::codes::bytes_of;
+use crate::bytes::bytes_of;
 use mpy_simple::{simple_file, simple_read};
 use std::test::Fail;
 

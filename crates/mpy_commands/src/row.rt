@@ -1,0 +1,136 @@
+//! One row.
+
+use mpy_io::{MemFolder, MemSink};
+use mpy_tool::mpy;
+use std::alloc::{AllocError, Global};
+
+/// A command, the file that its folder holds, which calls fail of the folder and of the output, and what comes of it.
+#[derive(Drop)]
+pub struct Row {
+    words: Vec<String>,
+    name: String,
+    file: Vec<u8>,
+    folder_fails: Vec<u64>,
+    out_fails: Vec<u64>,
+    status: u8,
+    out: Vec<u8>,
+    is_front: bool,
+    say: Vec<u8>,
+}
+
+/// A word, of which `''` is the empty one.
+fn word(alloc: Global, text: &str) -> Result<String, AllocError> {
+    String::from_str(alloc, if text == "''" { "" } else { text })
+}
+
+/// The words behind the first of a line.
+fn words(alloc: Global, line: &str) -> Result<Vec<String>, AllocError> {
+    let mut words = Vec::new(alloc);
+    for text in line.split(" ").skip(1) {
+        words.push(word(alloc, text)?)?;
+    }
+    Ok(words)
+}
+
+fn put_line(to: &mut Vec<u8>, line: &str) -> Result<(), AllocError> {
+    to.extend_from_slice(line.as_bytes())?;
+    to.push(b'\n')?;
+    Ok(())
+}
+
+/// A text as often as the number in front of it says, each with the end.
+fn put_often(to: &mut Vec<u8>, counted: &str, end: &str) -> Result<(), AllocError> {
+    let (count, text) = counted.split_once(" ").unwrap_or(("0", ""));
+    for _turn in 0..count.parse::<usize>().unwrap_or(0) {
+        to.extend_from_slice(text.as_bytes())?;
+        to.extend_from_slice(end.as_bytes())?;
+    }
+    Ok(())
+}
+
+fn digit_of(byte: u8) -> u8 {
+    if byte < b'a' {
+        byte.wrapping_sub(b'0')
+    } else {
+        byte.wrapping_sub(b'a').wrapping_add(10)
+    }
+}
+
+fn put_bytes(to: &mut Vec<u8>, digits: &str) -> Result<(), AllocError> {
+    for pair in digits.as_bytes().chunks_exact(2) {
+        if let [high, low] = pair {
+            to.push(
+                digit_of(*high)
+                    .wrapping_mul(16)
+                    .wrapping_add(digit_of(*low)),
+            )?;
+        }
+    }
+    Ok(())
+}
+
+impl Row {
+    /// The row that begins with this line.
+    pub fn new(alloc: Global, line: &str) -> Result<Row, AllocError> {
+        Ok(Row {
+            words: words(alloc, line)?,
+            name: String::new(alloc),
+            file: Vec::new(alloc),
+            folder_fails: Vec::new(alloc),
+            out_fails: Vec::new(alloc),
+            status: 0,
+            out: Vec::new(alloc),
+            is_front: false,
+            say: Vec::new(alloc),
+        })
+    }
+
+    /// A call that fails.
+    fn add_failing(&mut self, call: &str) -> Result<(), AllocError> {
+        let (of, number) = call.split_once(" ").unwrap_or(("", ""));
+        let number = number.parse::<u64>().unwrap_or(0);
+        if of == "out" {
+            self.out_fails.push(number)?;
+        } else {
+            self.folder_fails.push(number)?;
+        }
+        Ok(())
+    }
+
+    /// One more line.
+    pub fn add(&mut self, alloc: Global, line: &str) -> Result<(), AllocError> {
+        let (tag, rest) = line.split_once(" ").unwrap_or((line, ""));
+        match tag {
+            "@" => self.name = String::from_str(alloc, rest)?,
+            "|" => put_line(&mut self.file, rest)?,
+            "." => self.file.extend_from_slice(rest.as_bytes())?,
+            "*" => put_often(&mut self.file, rest, "\n")?,
+            "~" => put_often(&mut self.file, rest, "")?,
+            "x" => put_bytes(&mut self.file, rest)?,
+            "!" => self.add_failing(rest)?,
+            "=" => self.status = rest.parse::<u8>().unwrap_or(255),
+            ">" => put_line(&mut self.out, rest)?,
+            "+" => self.out.extend_from_slice(rest.as_bytes())?,
+            "<" => self.is_front = true,
+            "-" => put_line(&mut self.say, rest)?,
+            _ => {}
+        }
+        Ok(())
+    }
+
+    /// Does the command come to what the row says?
+    pub fn is_so(self, alloc: Global) -> Result<bool, AllocError> {
+        let mut files = Vec::new(alloc);
+        files.push((self.name, self.file))?;
+        let mut folder = MemFolder::new(alloc, files, self.folder_fails);
+        let mut out = MemSink::new(alloc, self.out_fails);
+        let mut say = MemSink::new(alloc, Vec::new(alloc));
+        let status = mpy(alloc, &self.words, &mut folder, &mut out, &mut say);
+        let printed = if self.is_front {
+            self.out.starts_with(out.bytes())
+        } else {
+            self.out.as_slice() == out.bytes()
+        };
+        Ok(status == self.status && printed && self.say.as_slice() == say.bytes())
+    }
+}

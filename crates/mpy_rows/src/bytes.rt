@@ -1,0 +1,34 @@
+//! Bytes that more than one table names.
+
+use std::alloc::{AllocError, Global};
+
+// The constants of a tuple, and a loop; no source gives it.
+pub(crate) const LOOP: [u8; 58] = [
+    0x4d, 0x06, 0x00, 0x1f, 0x03, 0x01, 0x08, 0x68, 0x2e, 0x70, 0x79, 0x00, 0x0f, 0x81, 0x77, 0x0a,
+    0x03, 0x05, 0x02, 0x61, 0x62, 0x00, 0x01, 0x07, 0x01, 0x35, 0x81, 0x70, 0x10, 0x02, 0x01, 0x11,
+    0x02, 0x23, 0x00, 0x34, 0x01, 0x59, 0x80, 0x42, 0x49, 0x57, 0x11, 0x02, 0x5a, 0x34, 0x01, 0x59,
+    0x81, 0xe5, 0x57, 0x82, 0xd7, 0x43, 0x32, 0x59, 0x51, 0x63,
+];
+
+fn digit_of(byte: u8) -> u8 {
+    if byte < b'a' {
+        byte.wrapping_sub(b'0')
+    } else {
+        byte.wrapping_sub(b'a').wrapping_add(10)
+    }
+}
+
+/// The bytes of a row.
+pub(crate) fn bytes_of(alloc: Global, row: &str) -> Result<Vec<u8>, AllocError> {
+    let mut bytes = Vec::new(alloc);
+    for pair in row.as_bytes().chunks_exact(2) {
+        if let [high, low] = pair {
+            bytes.push(
+                digit_of(*high)
+                    .wrapping_mul(16)
+                    .wrapping_add(digit_of(*low)),
+            )?;
+        }
+    }
+    Ok(bytes)
+}
