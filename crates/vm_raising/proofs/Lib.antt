@@ -1,0 +1,4 @@
+pub mod Arguments
+pub mod Effects
+pub mod Failures
+pub mod FaultTexts

@@ -1,0 +1,4 @@
+pub mod Makings
+pub mod Places
+pub mod Raised
+pub mod Worlds

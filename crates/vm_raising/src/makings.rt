@@ -1,0 +1,106 @@
+//! The three makings of a fault: its text, the tuple of its argument, and its exception.
+
+ghost use Rattle.std.specs.Prelude.{[], ◌∷◌};
+ghost use Rattle.mpy_base.specs.World.{ExceptionObject};
+ghost use Rattle.arena_heap.specs.declared.value.Value.TheVariants as values;
+ghost use Rattle.arena_heap.specs.Values.{Leads, IsTuple};
+ghost use Rattle.arena_heap.specs.Constants.{IsTold};
+ghost use Rattle.arena_objects.specs.Keys.{AllTold};
+ghost use Rattle.py_primitives.specs.Faults.{fault_value};
+ghost use Rattle.py_primitives.specs.Outcome.{making, making_tuple, making_exception, making_fault, fault_argument as argument_of_fault};
+ghost use Rattle.vm_walks.specs.Plain.{plain, plain_heap};
+ghost use Rattle.vm_faults.specs.Faults.{plain_fault, IsKnownFault};
+ghost use Rattle.vm_faults.specs.Outcomes.{IsOutcome};
+ghost use Rattle.vm_raising.specs.Makings.{as_value};
+
+use crate::texts::make_fault_text;
+use arena_heap::{Arena, Constants, ExcNo, TupleNo, Value, tuple_fill};
+use mpy_base::{Kind, NoRoom};
+use vm_faults::{Fault, fault_kind};
+
+/// The argument of a fault's exception: a value, or a text that is made.
+fn fault_argument<C: Constants>(
+    arena: &mut Arena,
+    consts: &C,
+    fault: Fault,
+) -> Result<Value, NoRoom>
+    requires known { IsKnownFault (C.text_of consts.now) (C.items_of consts.now) arena.old.objects fault }
+    requires all_told { AllTold (C.text_of consts.now) (C.items_of consts.now) arena.old.objects }
+    ensures { let plain = plain_fault (C.text_of consts.now) (C.items_of consts.now) arena.old fault in IsOutcome (C.text_of consts.now) (C.items_of consts.now) arena.old arena.new (as_value (λ v. v) result) (argument_of_fault (plain_heap (C.text_of consts.now) (C.items_of consts.now) arena.old) plain (fault_value plain)) }
+{
+    match fault {
+        Fault::NoKey(key) => Ok(key),
+        Fault::PortFailed => Ok(Value::Int(5)),
+        _ => make_fault_text(arena, consts, fault),
+    }
+}
+
+/// A tuple of one value.
+fn make_single<C: Constants>(arena: &mut Arena, _consts: &C, v: Value) -> Result<TupleNo, NoRoom>
+    requires leads { Leads arena.old.objects v }
+    requires told { IsTold (C.text_of _consts.now) (C.items_of _consts.now) v }
+    requires all_told { AllTold (C.text_of _consts.now) (C.items_of _consts.now) arena.old.objects }
+    ensures { IsOutcome (C.text_of _consts.now) (C.items_of _consts.now) arena.old arena.new (as_value values.Tuple result) (making_tuple (plain_heap (C.text_of _consts.now) (C.items_of _consts.now) arena.old) (plain (C.text_of _consts.now) (C.items_of _consts.now) v ∷ [])) }
+{
+    match arena.make_tuple(1) {
+        Ok(t) => {
+            tuple_fill(arena, t, 0, v);
+            Ok(t)
+        }
+        Err(room) => Err(room),
+    }
+}
+
+/// An exception that has this tuple of arguments, and was raised nowhere yet.
+pub(crate) fn make_exception<C: Constants>(
+    arena: &mut Arena,
+    consts: &C,
+    kind: Kind,
+    args: Value,
+) -> Result<ExcNo, NoRoom>
+    requires leads { Leads arena.old.objects args }
+    requires told { IsTold (C.text_of consts.now) (C.items_of consts.now) args }
+    requires tuple { IsTuple args }
+    requires all_told { AllTold (C.text_of consts.now) (C.items_of consts.now) arena.old.objects }
+    ensures { IsOutcome (C.text_of consts.now) (C.items_of consts.now) arena.old arena.new (as_value values.Exc result) (making (plain_heap (C.text_of consts.now) (C.items_of consts.now) arena.old) (ExceptionObject kind (plain (C.text_of consts.now) (C.items_of consts.now) args) [] 0 [])) }
+{
+    consts.empty_law();
+    match arena.make_exc(kind, args) {
+        Ok(x) => Ok(x),
+        Err(room) => Err(room),
+    }
+}
+
+/// An exception of this kind with one argument, whose tuple is made first.
+fn make_with_argument<C: Constants>(
+    arena: &mut Arena,
+    consts: &C,
+    kind: Kind,
+    v: Value,
+) -> Result<ExcNo, NoRoom>
+    requires leads { Leads arena.old.objects v }
+    requires told { IsTold (C.text_of consts.now) (C.items_of consts.now) v }
+    requires all_told { AllTold (C.text_of consts.now) (C.items_of consts.now) arena.old.objects }
+    ensures { IsOutcome (C.text_of consts.now) (C.items_of consts.now) arena.old arena.new (as_value values.Exc result) (making_exception (plain_heap (C.text_of consts.now) (C.items_of consts.now) arena.old) kind (plain (C.text_of consts.now) (C.items_of consts.now) v ∷ [])) }
+{
+    match make_single(arena, consts, v) {
+        Ok(t) => make_exception(arena, consts, kind, Value::Tuple(t)),
+        Err(room) => Err(room),
+    }
+}
+
+/// The exception of a fault. What was made in front of a making that doesn't fit stays made.
+pub(crate) fn make_fault<C: Constants>(
+    arena: &mut Arena,
+    consts: &C,
+    fault: Fault,
+) -> Result<ExcNo, NoRoom>
+    requires known { IsKnownFault (C.text_of consts.now) (C.items_of consts.now) arena.old.objects fault }
+    requires all_told { AllTold (C.text_of consts.now) (C.items_of consts.now) arena.old.objects }
+    ensures { IsOutcome (C.text_of consts.now) (C.items_of consts.now) arena.old arena.new (as_value values.Exc result) (making_fault (plain_heap (C.text_of consts.now) (C.items_of consts.now) arena.old) (plain_fault (C.text_of consts.now) (C.items_of consts.now) arena.old fault)) }
+{
+    match fault_argument(arena, consts, fault) {
+        Ok(v) => make_with_argument(arena, consts, fault_kind(fault), v),
+        Err(room) => Err(room),
+    }
+}

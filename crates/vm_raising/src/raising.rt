@@ -1,0 +1,132 @@
+//! What is raised.
+
+ghost use Rattle.std.specs.Prelude.{◌≡◌, ℕ, [], ◌∷◌};
+ghost use Rattle.mpy_base.specs.Val.{Empty};
+ghost use Rattle.mpy_base.specs.World.{ExceptionObject, Heap, AnException, IsA, Later, with_place};
+ghost use Rattle.arena_heap.specs.declared.value.Value.{Value as Item};
+ghost use Rattle.arena_heap.specs.Values.{Leads};
+ghost use Rattle.py_primitives.specs.Builtins.{kind_in as kind_that_is};
+ghost use Rattle.py_primitives.specs.Outcome.{making};
+ghost use Rattle.py_effects.specs.Effect.{raise_made, fault_at as fault_at_place};
+ghost use Rattle.py_effects.specs.Names.{raise_value as raise_value_at};
+ghost use Rattle.vm_faults.specs.Faults.{plain_fault, IsKnownFault};
+ghost use Rattle.vm_raising.specs.Places.{plain_place};
+ghost use Rattle.vm_raising.specs.Raised.{IsRaised};
+ghost use Rattle.vm_raising.specs.Worlds.{Stands, HasFailed};
+
+use crate::makings::{make_exception, make_fault};
+use crate::place::Place;
+use arena_heap::{Arena, Constants, ExcNo, Value, exc_place};
+use mpy_base::{Builtin, Kind, NoRoom};
+use vm_faults::Fault;
+
+/// What raising a value raises.
+#[derive(Clone, Copy)]
+enum Raised {
+    /// A new exception of a kind.
+    New(Kind),
+    /// The exception that the value is.
+    Same(ExcNo),
+    Nothing,
+}
+
+/// The kind that a built-in is, if it is one.
+fn kind_in(b: Builtin) -> Option<Kind>
+    ensures { result ≡ kind_that_is b }
+{
+    match b {
+        Builtin::Kind(kind) => Some(kind),
+        _ => None,
+    }
+}
+
+fn raised_by_builtin(b: Builtin) -> Raised
+    ensures { (heap : Heap Item ℕ) → IsRaised heap (Value.Built b) result }
+{
+    match kind_in(b) {
+        Some(kind) => Raised::New(kind),
+        None => Raised::Nothing,
+    }
+}
+
+/// What raising a value raises.
+fn raised_by(_arena: &Arena, v: Value) -> Raised
+    requires { Leads _arena.now.objects v }
+    ensures { IsRaised _arena.now v result }
+{
+    match v {
+        Value::Built(b) => raised_by_builtin(b),
+        Value::Exc(x) => Raised::Same(x),
+        Value::Fixed(_) => Raised::Nothing,
+        _ => Raised::Nothing,
+    }
+}
+
+/// Puts an exception's place.
+fn put_place(arena: &mut Arena, place: Place, x: ExcNo)
+    requires { IsA arena.old.objects AnException x.cell }
+    ensures placed { arena.new ≡ with_place arena.old x.cell place.file place.line place.name }
+    ensures later { Later arena.old.objects arena.new.objects }
+{
+    exc_place(arena, x, place.file, place.line, place.name);
+}
+
+/// Raises the exception of a fault at a place. Its argument, the tuple of it and the exception are made, in this order;
+/// where one doesn't fit, those in front of it stay made.
+pub fn fault_at<C: Constants>(
+    arena: &mut Arena,
+    consts: &C,
+    place: Place,
+    fault: Fault,
+) -> Result<ExcNo, NoRoom>
+    requires stands { Stands (C.text_of consts.now) (C.items_of consts.now) arena.old [] }
+    requires known { IsKnownFault (C.text_of consts.now) (C.items_of consts.now) arena.old.objects fault }
+    ensures { HasFailed (C.text_of consts.now) (C.items_of consts.now) arena.old arena.new result (λ w see. fault_at_place (plain_place see place) w (plain_fault (C.text_of consts.now) (C.items_of consts.now) arena.old fault)) }
+{
+    match make_fault(arena, consts, fault) {
+        Ok(x) => {
+            put_place(arena, place, x);
+            Ok(x)
+        }
+        Err(room) => Err(room),
+    }
+}
+
+/// Raises a new exception of a kind, without arguments.
+fn raise_kind<C: Constants>(
+    arena: &mut Arena,
+    consts: &C,
+    place: Place,
+    kind: Kind,
+) -> Result<ExcNo, NoRoom>
+    requires { Stands (C.text_of consts.now) (C.items_of consts.now) arena.old [] }
+    ensures { HasFailed (C.text_of consts.now) (C.items_of consts.now) arena.old arena.new result (λ w see. raise_made (plain_place see place) w (making w.heap (ExceptionObject kind Empty [] 0 []))) }
+{
+    match make_exception(arena, consts, kind, Value::Empty) {
+        Ok(x) => {
+            put_place(arena, place, x);
+            Ok(x)
+        }
+        Err(room) => Err(room),
+    }
+}
+
+/// `raise v` at a place: a kind is raised as a new exception, and an exception gets the place. Any other value is a fault.
+pub fn raise_value<C: Constants>(
+    arena: &mut Arena,
+    consts: &C,
+    place: Place,
+    v: Value,
+) -> Result<ExcNo, NoRoom>
+    requires { Stands (C.text_of consts.now) (C.items_of consts.now) arena.old (v ∷ []) }
+    ensures { HasFailed (C.text_of consts.now) (C.items_of consts.now) arena.old arena.new result (λ w see. raise_value_at (plain_place see place) w (see.value v)) }
+{
+    match raised_by(arena, v) {
+        Raised::New(kind) => raise_kind(arena, consts, place, kind),
+        Raised::Same(x) => {
+            put_place(arena, place, x);
+            Ok(x)
+        }
+        Raised::Nothing => fault_at(arena, consts, place, Fault::NotAnException),
+    }
+}
