@@ -1,2 +1,4 @@
 mod Runs
 mod Translations
+mod MoreRuns
+mod MoreTranslations
