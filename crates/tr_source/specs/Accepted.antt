@@ -1,0 +1,23 @@
+-- Accepted sources, but for the limits that are counted on their code.
+use Rattle.std.specs.Prelude.{ℕ, ◌<◌, []}
+use Rattle.mpy_base.specs.declared.limits.TheConstants.{MAX_DEPTH}
+use Rattle.py_tree.specs.declared.stmt.Module.{Module}
+use Rattle.py_tree.specs.Formed.{IsFormed}
+use Rattle.py_scopes.specs.Scopes.{slots_of, IsFaultless}
+use Rattle.py_meaning.specs.Tree.{Name}
+use Rattle.py_meaning.specs.Plain.{plain_tree}
+use Rattle.py_meaning.specs.Program.{Source, source_texts}
+use Rattle.tr_source.specs.Nested.{nested}
+use Rattle.tr_source.specs.Within.{AllWithin}
+
+-- the source of a parser's tree, by its stored name
+abbrev pub source_of : (file : Name) (level : ℕ) → Module → Source
+source_of file level tree = record { file = file; level = level; body = plain_tree tree; locals = slots_of tree }
+
+-- the limits don't depend on the name
+pub record IsAccepted (level : ℕ) (tree : Module) : Type 0 where
+  pub formed : IsFormed tree
+  pub faultless : IsFaultless tree
+  pub within : AllWithin (source_texts [] (source_of [] level tree) 0)
+  -- with the module's own code
+  pub nested : nested (plain_tree tree) < MAX_DEPTH

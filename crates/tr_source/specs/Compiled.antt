@@ -1,0 +1,14 @@
+-- What a source is compiled to.
+use Rattle.std.specs.Prelude.{ℕ}
+use Rattle.py_tree.specs.declared.stmt.Module.{Module}
+use Rattle.py_meaning.specs.Tree.{Name}
+use Rattle.mpy_tree.specs.Resolved.{ResolvedModule}
+use Rattle.bc_translation.specs.Translation.{Translates}
+use Rattle.tr_source.specs.Accepted.{source_of, IsAccepted}
+use Rattle.tr_source.specs.Short.{IsShort}
+
+-- its translation, where it is accepted and the translation is short
+pub record IsCompiled (file : Name) (level : ℕ) (tree : Module) (m : ResolvedModule) : Type 0 where
+  pub accepted : IsAccepted level tree
+  pub translates : Translates (source_of file level tree) m
+  pub short : IsShort m

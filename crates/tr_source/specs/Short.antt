@@ -1,0 +1,68 @@
+-- The limits that are counted on the code of a translation.
+use Rattle.std.specs.Prelude.{◌≡◌, ℕ, ◌≤◌, List, All, map, ℤ, pos, negsuc, true, nat_lt, if◌then◌else◌}
+use Rattle.std.specs.List.{sum}
+use Rattle.mpy_base.specs.declared.limits.TheConstants.{MAX_DEPTH, MAX_WIDE_LENGTH}
+use Rattle.bc_ops.specs.declared.form.Form.{Form}
+use Rattle.bc_ops.specs.declared.form.Form.TheVariants as forms
+use Rattle.bc_ops.specs.declared.instr.Instr.{Instr}
+use Rattle.bc_ops.specs.declared.instr.Instr.TheVariants as instrs
+use Rattle.bc_ops.specs.declared.listing.Item.{Item}
+use Rattle.bc_ops.specs.Table.{code_of, form_of}
+use Rattle.bc_ops.specs.Listing.{IsListOf}
+use Rattle.bc_prelude.specs.declared.prelude.Prelude.{Prelude}
+use Rattle.bc_prelude.specs.Prelude.{Begins}
+use Rattle.mpy_tree.specs.Raw.{Module}
+use Rattle.mpy_tree.specs.File.{IsFile}
+use Rattle.mpy_tree.specs.Resolved.{Resolved, plain, named, object, jump, unwind, Body, instrs_of, ResolvedModule, Resolves}
+use Rattle.mpy_tree.specs.Canonical.{AllCodes, Canonical}
+use Rattle.mpy_tree.specs.FirstUse.{InFirstUse}
+use Rattle.bc_translation.specs.Translation.{bodies}
+
+-- the wide length: a byte for each instruction, three for the number of an operand, five for an integer, two for an offset, and
+-- one for an unwinding byte. What stands inside the first byte takes no other
+abbrev pub number_length : Form → ℕ
+number_length (forms.Whole whole) = 1
+number_length form = 4
+
+abbrev pub int_length : ℤ → ℕ
+int_length (pos n) = if nat_lt n 48 then 1 else 6
+int_length (negsuc n) = if nat_lt n 16 then 1 else 6
+
+abbrev pub length_of : Resolved → ℕ
+length_of (plain (instrs.Num op n)) = number_length (form_of (code_of op))
+length_of (plain (instrs.Int n)) = int_length n
+length_of (plain instr) = 1
+length_of (named op text) = 4
+length_of (object value) = 4
+length_of (jump op target) = 3
+length_of (unwind target byte) = 4
+
+abbrev pub wide_length : Body → ℕ
+wide_length body = sum (map length_of (instrs_of body))
+
+-- a code's own bytes in which each jump has the longer form
+abbrev pub IsWide : Instr → Type 0
+IsWide (instrs.Jump op offset wide) = wide ≡ true
+IsWide (instrs.Unwind offset wide byte) = wide ≡ true
+IsWide instr = Unit {0}
+
+pub record HasWideJumps (code : List ℕ) : Type 0 where
+  pub prelude : Prelude
+  pub begins : Begins code prelude
+  pub items : List Item
+  pub is_list : IsListOf begins.instructions items
+  pub wide : All (λ piece. IsWide piece.instr) is_list.pieces
+
+-- the file of the module with such codes is no longer than files are, nor are its codes and its tables
+pub record HasWideFile (m : ResolvedModule) : Type 0 where
+  pub bytes : List ℕ
+  pub file : Module
+  pub is_file : IsFile bytes file
+  pub resolves : Resolves file m
+  pub wide : AllCodes HasWideJumps MAX_DEPTH file.code
+  pub canonical : Canonical bytes
+  pub in_first_use : InFirstUse bytes
+
+pub record IsShort (m : ResolvedModule) : Type 0 where
+  pub lengths : All (λ body. wide_length body ≤ MAX_WIDE_LENGTH) (bodies m.code)
+  pub file : HasWideFile m
