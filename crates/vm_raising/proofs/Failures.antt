@@ -19,7 +19,7 @@ use Rattle.py_values.specs.Shown.{PlainHeap}
 use Rattle.py_primitives.specs.Outcome as primitives
 use Rattle.py_primitives.specs.Outcome.{Outcome}
 use Rattle.py_effects.specs.Effect as effects
-use Rattle.py_effects.specs.Effect.{Fails, Thrown, raised_new, raise_made, fault_at}
+use Rattle.py_effects.specs.Effect.{Fails, Thrown, raised_new, raise_made, fault_at, failed, given_answer}
 use Rattle.py_effects.specs.Names.{raise_by, raise_value}
 use Rattle.py_primitives.specs.Faults.{NotAnException}
 use Rattle.py_primitives.specs.Operators.{raised_kind, exception_kind}
@@ -29,7 +29,7 @@ use Rattle.vm_faults.specs.Outcomes.{IsOutcome}
 use Rattle.vm_faults.proofs.Heaps.{object_of}
 use Rattle.vm_operators.proofs.ItemFills.{told_put}
 use Rattle.vm_raising.specs.declared.place.Place.{Place}
-use Rattle.vm_raising.specs.Places.{plain_place}
+use Rattle.vm_raising.specs.Places.{plain_place, stopped_at}
 use Rattle.vm_raising.specs.Worlds.{Sight, sight, world_over, HasFailed}
 
 module _ (texts : StrNo → Option (List ℕ)) (tuples : ConstNo → Option (List Value)) where
@@ -122,6 +122,11 @@ module _ (texts : StrNo → Option (List ℕ)) (tuples : ConstNo → Option (Lis
         all_told = subst (λ (h : Heap Value ℕ). AllTold texts tuples h.objects) (sym put)
             (with_placed old x.cell place.file place.line place.name (object old.objects x.cell) refl is all);
       }
+
+-- what an effect gives that stopped
+pub given_stop : {A : Type 0} (place : effects.Place) (w : PlainWorld) (stop : primitives.Stop) → given_answer {A = A} place w (Err stop) ≡ failed (stopped_at place w stop)
+given_stop place w (primitives.Raises fault) = refl
+given_stop place w (primitives.Full e) = refl
 
 -- a value that names no kind and is no exception
 pub nothing_raised : (place : effects.Place) (w : PlainWorld) (v : Val) → raise_by place w v None None ≡ fault_at place w NotAnException

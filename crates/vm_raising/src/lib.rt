@@ -7,4 +7,4 @@ mod raising;
 mod texts;
 
 pub use place::Place;
-pub use raising::{fault_at, raise_value};
+pub use raising::{fault_at, raise_value, stop_at};

@@ -10,7 +10,8 @@ ghost use Rattle.py_primitives.specs.Outcome.{making};
 ghost use Rattle.py_effects.specs.Effect.{raise_made, fault_at as fault_at_place};
 ghost use Rattle.py_effects.specs.Names.{raise_value as raise_value_at};
 ghost use Rattle.vm_faults.specs.Faults.{plain_fault, IsKnownFault};
-ghost use Rattle.vm_raising.specs.Places.{plain_place};
+ghost use Rattle.vm_faults.specs.Outcomes.{plain_stop, IsKnownAnswer};
+ghost use Rattle.vm_raising.specs.Places.{plain_place, stopped_at};
 ghost use Rattle.vm_raising.specs.Raised.{IsRaised};
 ghost use Rattle.vm_raising.specs.Worlds.{Stands, HasFailed};
 
@@ -18,7 +19,7 @@ use crate::makings::{make_exception, make_fault};
 use crate::place::Place;
 use arena_heap::{Arena, Constants, ExcNo, Value, exc_place};
 use mpy_base::{Builtin, Kind, NoRoom};
-use vm_faults::Fault;
+use vm_faults::{Fault, Stop};
 
 /// What raising a value raises.
 #[derive(Clone, Copy)]
@@ -89,6 +90,23 @@ pub fn fault_at<C: Constants>(
             Ok(x)
         }
         Err(room) => Err(room),
+    }
+}
+
+/// Raises what stopped a call: the exception of a fault at a place, or want of room.
+pub fn stop_at<C: Constants>(
+    arena: &mut Arena,
+    consts: &C,
+    place: Place,
+    stop: Stop,
+) -> Result<ExcNo, NoRoom>
+    requires stands { Stands (C.text_of consts.now) (C.items_of consts.now) arena.old [] }
+    requires known { IsKnownAnswer (C.text_of consts.now) (C.items_of consts.now) arena.old.objects (Err stop) }
+    ensures { HasFailed (C.text_of consts.now) (C.items_of consts.now) arena.old arena.new result (λ w see. stopped_at (plain_place see place) w (plain_stop (C.text_of consts.now) (C.items_of consts.now) arena.old stop)) }
+{
+    match stop {
+        Stop::Raises(fault) => fault_at(arena, consts, place, fault),
+        Stop::Full(room) => Err(room),
     }
 }
 
