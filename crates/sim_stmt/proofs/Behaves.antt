@@ -1,36 +1,39 @@
--- A program that is one source runs on the machine as it means: where it ends, and with what output while it is open.
+-- A program runs on the machine as it means: where it ends, and with what output while it is open.
 use Rattle.std.proofs.Common.{◌≡◌, ℕ, zero, suc, ◌+◌, ◌-◌, ◌*◌, ◌<◌, ◌≤◌, [], ◌++◌, append-nil, refl, sym, ap, ◌∙◌, subst, inl, inr, arith, mul-le-mul_left}
 use Rattle.std.proofs.lemmas.Bool.{cases_lt}
 use Rattle.mpy_base.specs.World.{PortState}
 use Rattle.mpy_base.specs.Val.{Val, PlainWorld}
-use Rattle.std.specs.Prelude.{List}
+use Rattle.std.specs.Prelude.{List, Some}
 use Rattle.py_effects.specs.Effect.{Place, Given, Gives, Throws, Fills, given}
 use Rattle.py_effects.specs.Growth.{Prints}
 use Rattle.py_effects.specs.Modules.{Made, make_module}
 use Rattle.py_effects.specs.Ends.{End, Open, Ended, Raised, Memory, new_world}
-use Rattle.py_meaning.specs.Program as programs
-use Rattle.py_meaning.specs.Program.{Program, Source, Single, module_text, first_file, registered_main}
+use Rattle.py_meaning.specs.Program.{Program, first_file, registered_main}
 use Rattle.py_meaning.specs.Outcomes.{Out, EVal, EExc, EOpen, EFull, e_then, e_given, e_turns, e_does}
 use Rattle.py_meaning.specs.Imports.{part_place, run_unit}
 use Rattle.py_meaning.specs.Meaning as meanings
 use Rattle.py_meaning.specs.Meaning.{sem, main_run, meaning}
-use Rattle.bc_machine.specs.Library.{Library}
-use Rattle.bc_machine.specs.State.{State, Running, Halted, Stuck}
+use Rattle.bc_machine.specs.Library.{Code, Library, code_at}
+use Rattle.bc_machine.specs.State.{Main, State, Running, Halted, Stuck}
 use Rattle.bc_machine.specs.Machine as machines
 use Rattle.bc_machine.specs.Machine.{steps, begun, opened, start, run}
 use Rattle.bc_machine.specs.Growth.{world_of}
 use Rattle.bc_machine.proofs.Laws as laws
-use Rattle.bc_machine.proofs.Laws.{steps_print, run_fits}
+use Rattle.bc_machine.proofs.Laws.{steps_print, run_fits, start_names}
 use Rattle.bc_translation.specs.Correct.{HasEnded, IsOpen, IsBehind, Behaves}
 use Rattle.sim_expr.proofs.Rooms.{start_room}
 use Rattle.sim_expr.proofs.Goes.{InOrder, Reaches}
 use Rattle.sim_expr.proofs.Lands.{IsGoing, left}
-use Rattle.sim_stmt.proofs.Blocks.{IsText, Coded}
-use Rattle.sim_stmt.proofs.Stmts.{Others}
-use Rattle.sim_stmt.proofs.Main.{EndsAs, main_sim}
+use Rattle.sim_stmt.proofs.Blocks.{IsUnit, Coded, Started}
+use Rattle.sim_stmt.proofs.Stmts.{sims}
+use Rattle.sim_stmt.proofs.Units.{LandsU, unit_sim}
 use Rattle.sim_stmt.proofs.Whole.{module_still}
 
 -- ---- states and ends
+
+-- how the run stands when the main module's code is done
+abbrev pub EndsAs : Out Val → State → Type 0
+EndsAs = LandsU Main []
 
 ended_is : Ended ≡ Open → ⊥
 ended_is e = cc e
@@ -143,19 +146,19 @@ module _ (library : Library) (K : ℕ) (s : State) where
       let a : Prints (machines.run_of (steps library n s)).world (meanings.run_of r).world = subst (λ u. Prints u (meanings.run_of r).world) (sym (run_world (steps library n s))) (out_by n r g) in
       record { rest = a.more.0; output = a.more.1 }
 
--- ---- a program that is one source
+-- ---- a program, by its main unit
 
-module _ (program : Program) (library : Library) (K : ℕ) (some : 1 ≤ K) (coded : Coded program library K) (others : Others program library K some) where
-  module _ (source : Source) (single : program.main ≡ Single source) (is : IsText library K program.main_name 0 (module_text source.file source 0)) (none : is.code.locals ≡ 0) where
+module _ (program : Program) (library : Library) (K : ℕ) (some : 1 ≤ K) (coded : Coded program library K) (started : Started program library K) where
+  module _ (code : Code) (of_code : code_at library program.main_name 0 ≡ Some code) (is : IsUnit library K (first_file program.main) program.main_name 0 program.main) where
     from_given : (t : ℕ) (g : Given Made) → InOrder library (opened library program.main_name g)
         → Followed library K (opened library program.main_name g) t (e_then (e_given g t) (λ made. main_run program made.names))
     from_given zero (Gives made w) order =
-        subst (λ c. Followed library K (begun program.main_name c made w) 0 (EOpen w)) (sym is.of_code) (record { by = 0; few = omega arith; many = omega arith; falls = omega arith; lands = refl })
+        subst (λ c. Followed library K (begun program.main_name c made w) 0 (EOpen w)) (sym of_code) (record { by = 0; few = omega arith; many = omega arith; falls = omega arith; lands = refl })
     from_given (suc t) (Gives made w) order =
-        let r : programs.Unit → Out Val = λ u. run_unit (sem program (suc t)).exec (first_file u) program.main_name made.names u 0 1 (suc t) w in
-        subst (λ c. Followed library K (begun program.main_name c made w) (suc t) (r program.main)) (sym is.of_code)
-        (subst (λ u. Followed library K (begun program.main_name (Rattle.std.specs.Prelude.Some is.code) made w) (suc t) (r u)) (sym single)
-        ((main_sim program library K some coded others source.file program.main_name made.names source is (suc t) w none).from (subst (λ c. InOrder library (begun program.main_name c made w)) is.of_code order)))
+        let r = run_unit (sem program (suc t)).exec (first_file program.main) program.main_name made.names program.main 0 1 (suc t) w in
+        subst (λ c. Followed library K (begun program.main_name c made w) (suc t) r) (sym of_code)
+        ((unit_sim program library K some coded (suc t) ((sims program library K some coded started (suc t)).s) (first_file program.main) program.main_name made.names 0 1 program.main is Main [] refl code of_code (suc t) w (omega arith)).from
+        (subst (λ c. InOrder library (begun program.main_name c made w)) of_code order))
     from_given t (Throws x w) order = record { by = 0; few = omega arith; many = omega arith; falls = omega arith; lands = refl }
     from_given t (Fills e w) order = record { by = 0; few = omega arith; many = omega arith; falls = omega arith; lands = refl }
 
@@ -175,7 +178,7 @@ module _ (program : Program) (library : Library) (K : ℕ) (some : 1 ≤ K) (cod
           let place = part_place (first_file program.main) in
           let nowhere : Place = record { file = []; line = 0; name = [] } in
           let still = module_still world registered_main in
-          let order : InOrder library from = record { names = run_fits library program.main_name cells bytes ports 0; rooms = start_room library program.main_name world } in
+          let order : InOrder library from = record { names = run_fits library program.main_name cells bytes ports 0; rooms = start_room library program.main_name world; registered = start_names library program.main_name world } in
           subst (λ v. Followed library K from t (e_then (e_turns v t world (e_given (given place effect))) (λ made. main_run program made.names))) (sym still.at_once)
           (subst (λ g. Followed library K (opened library program.main_name g) t (e_then (e_given (given place effect) t) (λ made. main_run program made.names))) (sym (still.anywhere nowhere place))
           (from_given t (given place effect) (subst (λ g. InOrder library (opened library program.main_name g)) (still.anywhere nowhere place) order)))

@@ -1,15 +1,15 @@
 -- A name that was just stored is found.
-use Rattle.std.proofs.Common.{◌≡◌, ℕ, zero, suc, ◌+◌, ◌<◌, ◌≤◌, List, [], ◌∷◌, ◌++◌, length, Option, Some, None, Bool, cond, set, replicate, refl, sym, ap, ◌∙◌, inl, inr, arith, length-append, length-set, get_or-set_same, get_or-set_other}
+use Rattle.std.proofs.Common.{◌≡◌, ℕ, zero, suc, ◌<◌, List, [], ◌∷◌, ◌++◌, length, Some, None, cond, set, replicate, refl, sym, ap, ◌∙◌, inl, inr, arith, length-append, get_or-set_same, get_or-set_other}
 use Rattle.std.specs.Prelude.{position, bytes_eq, slice_set}
 use Rattle.std.proofs.lemmas.List.{get_or_past, get_or_append_left, get_or-append_right}
 use Rattle.std.proofs.lemmas.List.Quantifiers.{position-Some}
 use Rattle.std.proofs.lemmas.Bool.{cases_eq, cases_lt}
-use Rattle.mpy_base.specs.World.{Object, ListObject, TupleObject, TextObject, DictObject, FunctionObject, ExceptionObject, MethodObject, RangeObject, ModuleObject, ADict, object, kind_of, IsA, pairs_of, pairs_at}
-use Rattle.mpy_base.specs.Weights.{dict_growth, grown_room, with_pairs, with_used}
+use Rattle.mpy_base.specs.World.{ListObject, TupleObject, TextObject, DictObject, FunctionObject, ExceptionObject, MethodObject, RangeObject, ModuleObject, ADict, object, kind_of, IsA, pairs_of, pairs_at}
+use Rattle.mpy_base.specs.Weights.{dict_growth, grown_room, with_pairs}
 use Rattle.mpy_base.specs.Val.{Val, Nil, Truth, Int, Str, Fixed, Empty, Built, At, PlainWorld}
 use Rattle.mpy_base.proofs.Worlds.{object_nones}
 use Rattle.py_values.specs.Shown.{PlainHeap, shown_object}
-use Rattle.py_values.specs.Keys.{PlainKey, shown_key, key_of, is_same_key, has_key, value_of_key, with_key}
+use Rattle.py_values.specs.Keys.{shown_key, key_of, is_same_key, has_key, value_of_key, with_key}
 use Rattle.py_values.proofs.KeyPairs.{set_is_found}
 use Rattle.py_effects.specs.Names.{Locals, local_at, named_in}
 use Rattle.py_effects.proofs.HeapSteps.{Obj}

@@ -1,5 +1,5 @@
 -- A library of a program's modules has the code of each text of the program.
-use Rattle.std.proofs.Common.{◌≡◌, ℕ, zero, suc, ◌+◌, ◌≤◌, List, [], ◌∷◌, length, Bool, true, false, Option, Some, None, refl, sym, ap, ◌∙◌, subst, arith}
+use Rattle.std.proofs.Common.{◌≡◌, ℕ, zero, suc, ◌+◌, ◌≤◌, List, [], ◌∷◌, Bool, true, false, Option, Some, None, refl, sym, ap, ◌∙◌, subst, arith}
 use Rattle.std.specs.Prelude.{slice_get, bytes_eq, codes, option_and_then, if◌then◌else◌}
 use Rattle.std.proofs.lemmas.Slice.Eq.{bytes_eq-Decides}
 use Rattle.mpy_base.specs.World.{PortState}
@@ -12,10 +12,9 @@ use Rattle.py_meaning.specs.Program.{Source, Unit, Single, Merge, Runs, Refused,
 use Rattle.bc_translation.specs.Translation.{StandsCode, StandAll, Translates}
 use Rattle.bc_translation.specs.Link.{IsModuleOf, translated, IsEntryOf, Links}
 use Rattle.bc_translation.specs.Correct.{Behaves}
-use Rattle.sim_stmt.specs.Sources.{IsSource, IsSourceEntry, OfSources, ImportsNothing}
+use Rattle.sim_stmt.specs.Sources.{IsSource, IsSourceEntry, OfSources}
 use Rattle.sim_stmt.proofs.Sizes.{bsize}
-use Rattle.sim_stmt.proofs.Blocks.{IsText, IsCode, Coded}
-use Rattle.sim_stmt.proofs.NoImports.{others}
+use Rattle.sim_stmt.proofs.Blocks.{IsText, IsCode, Coded, StartsUnit, IsStart, Started}
 use Rattle.sim_stmt.proofs.Behaves.{behaves}
 
 -- ---- texts and codes are in step
@@ -135,12 +134,29 @@ module _ (program : Program) (library : Library) (links : Links program library)
   pub linked : Coded program library (greatest program)
   linked name number = by_name name number (bytes_eq name program.main_name) refl
 
--- a program of sources, in a library of its modules that imports nothing, behaves as it means
-pub behaves_alone : (program : Program) (library : Library) (cells bytes : ℕ) (ports : List PortState) → Links program library → OfSources program → ImportsNothing library → Behaves program library cells bytes ports
-behaves_alone program library cells bytes ports links sources nothing =
+-- ---- entries
+
+module _ (library : Library) (K : ℕ) (name : Name) where
+  started_unit : (u : Unit) → IsSource u → (m : ResolvedModule) → IsModuleOf u m → libraries.entry_in library name ≡ Some (Holds (module_of m)) → unit_total u ≤ K → StartsUnit library K name u
+  started_unit (Single source) alone m is entry le =
+      let x : IsText library K name 0 (module_text source.file source 0) = by_unit library K name (Single source) alone m is entry le 0 in
+      record { m = module_of m; code = x.code; entry = entry; of_code = sym (ap (λ o. code_in (module_in o) 0) entry) ∙ x.of_code; unit = x }
+  started_unit (Merge units) alone m is entry le = absurd alone
+
+  started_entry : (o : Option programs.Entry) → IsEntryOf o (libraries.entry_in library name) → IsSourceEntry o → found_total o ≤ K → IsStart library K name o
+  started_entry None e alone le = e
+  started_entry (Some Refused) e alone le = e
+  started_entry (Some (Runs u)) e alone le = started_unit u alone e.0 e.1 e.2 le
+
+-- each entry of a program of sources is in a library of its modules
+started_all : (program : Program) (library : Library) → Links program library → ((name : Name) → IsSourceEntry (entry_in program.entries name)) → Started program library (greatest program)
+started_all program library links entries name other =
+    started_entry library (greatest program) name (entry_in program.entries name) (links.entries name (λ p q. other p)) (entries name) (omega (arith, in_entries program.entries name))
+
+-- a program of sources, in a library of its modules, behaves as it means
+pub behaves_linked : (program : Program) (library : Library) (cells bytes : ℕ) (ports : List PortState) → Links program library → OfSources program → Behaves program library cells bytes ports
+behaves_linked program library cells bytes ports links sources =
     let main : IsSource program.main = subst IsSource (sym sources.main) tt in
     let K = greatest program in
-    let is : IsText library K program.main_name 0 (module_text sources.source.file sources.source 0) =
-    subst (λ u. IsCode library K program.main_name 0 (slice_get (texts (first_file u) u 0) 0)) sources.main
-    (by_unit library K program.main_name program.main main links.main.0 links.main.1 links.main.2 (omega arith) 0) in
-    behaves program library K (omega arith) (linked program library links main sources.entries) (others program library K (omega arith) nothing) sources.source sources.main is is.locals cells bytes ports
+    let start : StartsUnit library K program.main_name program.main = started_unit library K program.main_name program.main main links.main.0 links.main.1 links.main.2 (omega arith) in
+    behaves program library K (omega arith) (linked program library links main sources.entries) (started_all program library links sources.entries) start.code (ap (λ o. code_in (module_in o) 0) start.entry ∙ start.of_code) start.unit cells bytes ports

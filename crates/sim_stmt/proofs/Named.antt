@@ -1,5 +1,5 @@
 -- The machine follows a clause with a name, which is deleted behind it.
-use Rattle.std.proofs.Common.{◌≡◌, ℕ, suc, ◌+◌, ◌≤◌, ◌<◌, Bool, true, false, List, [], ◌∷◌, length, map, Option, Some, None, cond, refl, sym, ap, ◌∙◌, subst, arith}
+use Rattle.std.proofs.Common.{◌≡◌, ℕ, suc, ◌≤◌, ◌<◌, Bool, true, false, List, ◌∷◌, length, map, Option, Some, None, cond, refl, sym, ap, ◌∙◌, subst, arith}
 use Rattle.std.specs.Prelude.{position, bytes_eq, nat_lt}
 use Rattle.mpy_base.specs.World.{ADict, IsA, pairs_at}
 use Rattle.mpy_base.specs.Weights.{does_fit, dict_growth, with_pairs}
@@ -9,7 +9,7 @@ use Rattle.py_values.specs.Keys.{with_key}
 use Rattle.py_primitives.specs.Outcome.{gives, is_full}
 use Rattle.py_effects.specs.Effect.{Place, on_heap}
 use Rattle.py_effects.specs.Names.{Locals, local_at, assigned, named_in, store_global, deleted_global, delete_global, with_local, without_local}
-use Rattle.py_meaning.specs.Tree.{Name, Block}
+use Rattle.py_meaning.specs.Tree.{Name}
 use Rattle.py_meaning.specs.Program.{Program}
 use Rattle.py_meaning.specs.Outcomes.{Done, Normal, Broke, Continued, Returned, Raised, SOut, SDone, s_use, s_after, on_normal, e_does}
 use Rattle.py_meaning.specs.Frames.{place_at, stored, deleted}
@@ -19,10 +19,10 @@ use Rattle.bc_machine.specs.Library.{Names, Jumps, Library}
 use Rattle.bc_machine.specs.State.{Slot, Value, Frame, Running, remark}
 use Rattle.bc_machine.specs.Step as steps
 use Rattle.bc_machine.specs.Step.{item_step, step}
-use Rattle.bc_translation.specs.Context.{Has, Behind, plain, number, store_by, stores, delete_by, deletes as deletion}
-use Rattle.bc_translation.specs.Statements.{Around, deeper, StandsB}
-use Rattle.sim_expr.proofs.Goes.{InOrder, g_here, g_wide, g_step, g_order}
-use Rattle.sim_expr.proofs.Base.{Site, at, Sited, sited_with, stepped_behind, place_behind, Quiet, quiet_in, quiet_active, Fits, went}
+use Rattle.bc_translation.specs.Context.{Behind, plain, number, store_by, stores, delete_by, deletes as deletion}
+use Rattle.bc_translation.specs.Statements.{Around, deeper}
+use Rattle.sim_expr.proofs.Goes.{g_here, g_wide, g_step, g_order}
+use Rattle.sim_expr.proofs.Base.{Site, at, Sited, sited_with, stepped_behind, place_behind, quiet_in, quiet_active, Fits, went}
 use Rattle.sim_expr.proofs.Exprs.{SimE}
 use Rattle.sim_stmt.proofs.Ends.{GoesS, state_of, s_wide, s_bind, s_of_store, b_goes}
 use Rattle.sim_stmt.proofs.Sizes.{bsize, b_le, Below, within}

@@ -1,5 +1,4 @@
 use Rattle.bc_machine.specs.Machine.{start}
-use Rattle.mpy_base.specs.Val.{PlainWorld}
 use Rattle.sim_expr.proofs.Rooms.{step_room, steps_room, start_room}
 use Rattle.sim_expr.proofs.rooms_law.Goals as goal
 
