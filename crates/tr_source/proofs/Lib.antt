@@ -1,2 +1,4 @@
 pub mod Widths
 pub mod Limits
+pub mod Units
+pub mod Examples

@@ -6,7 +6,8 @@ ghost use Rattle.mpy_tree.specs.Raw as raw;
 ghost use Rattle.mpy_tree.specs.Resolved.{ResolvedModule, Resolves};
 ghost use Rattle.py_tree.specs.declared.stmt.Module.{Module};
 ghost use Rattle.py_meaning.specs.Tree.{Name};
-ghost use Rattle.py_meaning.specs.Program.{source_texts};
+ghost use Rattle.py_meaning.specs.Program.{Unit, source_texts};
+ghost use Rattle.bc_translation.specs.Link.{IsModuleOf};
 ghost use Rattle.bc_translation.specs.Translation.{Translates};
 ghost use Rattle.bc_verify.specs.Verified.{IsVerified};
 ghost use Rattle.bc_machine.specs.Library.{module_of};
@@ -16,11 +17,12 @@ ghost use Rattle.tr_verified.specs.Limits.{SourceLimited};
 ghost use Rattle.tr_verified.specs.Numbered.{SourceNumbered};
 ghost use Rattle.tr_source.specs.Within.{AllWithin};
 ghost use Rattle.tr_source.specs.Accepted.{source_of, IsAccepted};
+ghost use Rattle.tr_source.specs.Units.{IsAcceptedUnit};
 ghost use Rattle.tr_source.specs.Compiled.{IsCompiled};
 
 use bc_verified::{module_law, raw_law};
 use py_functions::{numbers_law, params_law};
-use tr_verified::{unique_law, verified_law};
+use tr_verified::{merge_law, unique_law, verified_law};
 
 /// An accepted source keeps the limits under every name, and wherever its codes begin. Its functions have numbers of their own.
 pub fn limits_law()
@@ -45,6 +47,15 @@ pub fn accepted_law()
     limits_law();
     verified_law();
     unique_law();
+}
+
+/// The module of a unit of accepted sources, merged or not, is verified, and there is one at most.
+pub fn unit_law()
+    ensures verified { (unit : Unit) (m : ResolvedModule) → IsAcceptedUnit unit → IsModuleOf unit m → IsVerifiedTree m }
+    ensures one { (unit : Unit) (m n : ResolvedModule) → IsAcceptedUnit unit → IsModuleOf unit m → IsModuleOf unit n → m ≡ n }
+{
+    accepted_law();
+    merge_law();
 }
 
 /// What a file holds of a translation of an accepted source is verified, and so is the machine's module of what a source is
