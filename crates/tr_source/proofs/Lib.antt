@@ -1,3 +1,4 @@
-pub mod Own
 pub mod Widths
 pub mod Limits
+pub mod Units
+pub mod Examples

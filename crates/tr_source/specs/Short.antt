@@ -2,12 +2,11 @@
 use Rattle.std.specs.Prelude.{◌≡◌, ℕ, ◌≤◌, List, All, map, ℤ, pos, negsuc, true, nat_lt, if◌then◌else◌}
 use Rattle.std.specs.List.{sum}
 use Rattle.mpy_base.specs.declared.limits.TheConstants.{MAX_DEPTH, MAX_WIDE_LENGTH}
-use Rattle.bc_ops.specs.declared.form.Form.{Form}
-use Rattle.bc_ops.specs.declared.form.Form.TheVariants as forms
+use Rattle.bc_ops.specs.declared.instr.Op.{Op}
+use Rattle.bc_ops.specs.declared.instr.Op.TheVariants as ops
 use Rattle.bc_ops.specs.declared.instr.Instr.{Instr}
 use Rattle.bc_ops.specs.declared.instr.Instr.TheVariants as instrs
 use Rattle.bc_ops.specs.declared.listing.Item.{Item}
-use Rattle.bc_ops.specs.Table.{code_of, form_of}
 use Rattle.bc_ops.specs.Listing.{IsListOf}
 use Rattle.bc_prelude.specs.declared.prelude.Prelude.{Prelude}
 use Rattle.bc_prelude.specs.Prelude.{Begins}
@@ -20,16 +19,17 @@ use Rattle.bc_translation.specs.Translation.{bodies}
 
 -- the wide length: a byte for each instruction, three for the number of an operand, five for an integer, two for an offset, and
 -- one for an unwinding byte. What stands inside the first byte takes no other
-abbrev pub number_length : Form → ℕ
-number_length (forms.Whole whole) = 1
-number_length form = 4
+abbrev pub number_length : Op → ℕ
+number_length ops.LoadFast = 1
+number_length ops.StoreFast = 1
+number_length op = 4
 
 abbrev pub int_length : ℤ → ℕ
 int_length (pos n) = if nat_lt n 48 then 1 else 6
 int_length (negsuc n) = if nat_lt n 16 then 1 else 6
 
 abbrev pub length_of : Resolved → ℕ
-length_of (plain (instrs.Num op n)) = number_length (form_of (code_of op))
+length_of (plain (instrs.Num op n)) = number_length op
 length_of (plain (instrs.Int n)) = int_length n
 length_of (plain instr) = 1
 length_of (named op text) = 4

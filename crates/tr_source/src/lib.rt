@@ -5,11 +5,10 @@ ghost use Rattle.std.specs.Prelude.{◌≡◌, ℕ, []};
 ghost use Rattle.mpy_tree.specs.Raw as raw;
 ghost use Rattle.mpy_tree.specs.Resolved.{ResolvedModule, Resolves};
 ghost use Rattle.py_tree.specs.declared.stmt.Module.{Module};
-ghost use Rattle.py_tree.specs.Formed.{IsFormed};
-ghost use Rattle.py_meaning.specs.Tree.{Name, Block};
-ghost use Rattle.py_meaning.specs.Program.{source_texts};
-ghost use Rattle.py_functions.specs.Numbers.{numbers_in};
-ghost use Rattle.bc_translation.specs.Translation.{own, Translates};
+ghost use Rattle.py_meaning.specs.Tree.{Name};
+ghost use Rattle.py_meaning.specs.Program.{Unit, source_texts};
+ghost use Rattle.bc_translation.specs.Link.{IsModuleOf};
+ghost use Rattle.bc_translation.specs.Translation.{Translates};
 ghost use Rattle.bc_verify.specs.Verified.{IsVerified};
 ghost use Rattle.bc_machine.specs.Library.{module_of};
 ghost use Rattle.bc_progress.specs.Plans.{Plan, IsVerifiedModule};
@@ -18,28 +17,23 @@ ghost use Rattle.tr_verified.specs.Limits.{SourceLimited};
 ghost use Rattle.tr_verified.specs.Numbered.{SourceNumbered};
 ghost use Rattle.tr_source.specs.Within.{AllWithin};
 ghost use Rattle.tr_source.specs.Accepted.{source_of, IsAccepted};
+ghost use Rattle.tr_source.specs.Units.{IsAcceptedUnit};
 ghost use Rattle.tr_source.specs.Compiled.{IsCompiled};
 
 use bc_verified::{module_law, raw_law};
 use py_functions::{numbers_law, params_law};
-use tr_verified::{unique_law, verified_law};
+use tr_verified::{merge_law, unique_law, verified_law};
 
-/// A translation numbers the functions of a text as the source does, so that no number of a formed tree stands twice.
-pub fn own_law()
-    ensures same { (body : Block) → own body ≡ numbers_in body }
-    ensures numbered { (file : Name) (level : ℕ) (tree : Module) → IsFormed tree → SourceNumbered (source_of file level tree) }
-{
-    numbers_law();
-}
-
-/// An accepted source keeps the limits under every name, and wherever its codes begin.
+/// An accepted source keeps the limits under every name, and wherever its codes begin. Its functions have numbers of their own.
 pub fn limits_law()
     ensures within { (file : Name) (level base : ℕ) (tree : Module) → IsAccepted level tree
         → AllWithin (source_texts file (source_of file level tree) base) }
     ensures named { (file : Name) (level base : ℕ) (tree : Module) → AllWithin (source_texts file (source_of file level tree) base)
         → AllWithin (source_texts [] (source_of [] level tree) 0) }
     ensures limited { (file : Name) (level : ℕ) (tree : Module) → IsAccepted level tree → SourceLimited (source_of file level tree) }
+    ensures numbered { (file : Name) (level : ℕ) (tree : Module) → IsAccepted level tree → SourceNumbered (source_of file level tree) }
 {
+    numbers_law();
     params_law();
 }
 
@@ -50,10 +44,18 @@ pub fn accepted_law()
     ensures one { (file : Name) (level : ℕ) (tree : Module) (m n : ResolvedModule) → IsAccepted level tree
         → Translates (source_of file level tree) m → Translates (source_of file level tree) n → m ≡ n }
 {
-    own_law();
     limits_law();
     verified_law();
     unique_law();
+}
+
+/// The module of a unit of accepted sources, merged or not, is verified, and there is one at most.
+pub fn unit_law()
+    ensures verified { (unit : Unit) (m : ResolvedModule) → IsAcceptedUnit unit → IsModuleOf unit m → IsVerifiedTree m }
+    ensures one { (unit : Unit) (m n : ResolvedModule) → IsAcceptedUnit unit → IsModuleOf unit m → IsModuleOf unit n → m ≡ n }
+{
+    accepted_law();
+    merge_law();
 }
 
 /// What a file holds of a translation of an accepted source is verified, and so is the machine's module of what a source is

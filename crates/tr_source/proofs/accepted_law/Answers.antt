@@ -6,4 +6,4 @@ returns-clause-verified c file level tree m h t = c.verified_law.ensures (source
 
 pub returns-clause-one : goal.returns-clause-one
 returns-clause-one c file level tree m n h t u =
-    c.unique_law.ensures (source_of file level tree) m n t u (c.limits_law.ensures.limited file level tree h) (c.own_law.ensures.numbered file level tree h.formed)
+    c.unique_law.ensures (source_of file level tree) m n t u (c.limits_law.ensures.limited file level tree h) (c.limits_law.ensures.numbered file level tree h)

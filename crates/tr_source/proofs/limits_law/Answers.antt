@@ -14,3 +14,6 @@ pub returns-clause-limited : goal.returns-clause-limited
 returns-clause-limited c file level tree h =
     all_limited (source_texts file (source_of file level tree) 0) (under_name level tree [] file 0 0 h.within)
     (c.params_law.ensures.slots tree h.formed h.faultless (source_of file level tree) 0 refl refl)
+
+pub returns-clause-numbered : goal.returns-clause-numbered
+returns-clause-numbered c file level tree h = c.numbers_law.ensures tree h.formed (source_of file level tree) 0 refl

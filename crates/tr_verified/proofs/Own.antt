@@ -1,11 +1,9 @@
 -- The numbers of a text's functions, in the words of both sides.
-use Rattle.std.proofs.Common.{◌≡◌, ℕ, ◌+◌, List, [], ◌∷◌, ◌++◌, map, refl, sym, ap, ◌∙◌, subst}
+use Rattle.std.proofs.Common.{◌≡◌, ℕ, ◌+◌, List, ◌++◌, map, refl, sym, ap, ◌∙◌, subst}
 use Rattle.py_meaning.specs.Tree.{Stmt, Do, Assign, AugName, AugAttr, AugIndex, Delete, Pass, Break, Continue, ReturnNone, Return, Reraise, Raise, Assert, AssertWith, Import, From, If, While, For, Try, Finally, TryFinally, Def, Block, End, Next, Branches, Else, Case, Handlers, NoHandler, Any, On, OnAs}
 use Rattle.py_meaning.specs.Program.{Text}
-use Rattle.py_functions.specs.Numbers as functions
-use Rattle.py_functions.specs.Numbers.{numbers_in, numbers_by, numbers_of, numbers_from, NoneTwice}
+use Rattle.py_functions.specs.Numbers.{numbers_in, numbers_by, numbers_of, numbers_from, NoneTwice, IsNumbered}
 use Rattle.bc_translation.specs.Translation.{own, own_in, own_of, own_by}
-use Rattle.tr_verified.specs.Numbered.{AllNumbered}
 
 both : (xs ys us vs : List ℕ) → xs ≡ ys → us ≡ vs → xs ++ us ≡ ys ++ vs
 both xs ys us vs e f = ap (λ z. z ++ us) e ∙ ap (λ z. ys ++ z) f
@@ -57,6 +55,6 @@ mutual
   own_from (On line test body handlers) = both (own body) (numbers_in body) (own_by handlers) (numbers_from handlers) (own_is body) (own_from handlers)
   own_from (OnAs line test name body handlers) = both (own body) (numbers_in body) (own_by handlers) (numbers_from handlers) (own_is body) (own_from handlers)
 
-pub all_numbered : (texts : List Text) → functions.AllNumbered texts → AllNumbered texts
-all_numbered [] h = tt
-all_numbered (text ∷ texts) h = (subst (λ ns. NoneTwice (map (λ m. text.base + m) ns)) (sym (own_is text.body)) h.0, all_numbered texts h.1)
+-- so what is numbered once in the words of one is in those of the other
+pub own_once : (text : Text) → IsNumbered text → NoneTwice (map (λ m. text.base + m) (own text.body))
+own_once text h = subst (λ ns. NoneTwice (map (λ m. text.base + m) ns)) (sym (own_is text.body)) h
