@@ -1,0 +1,5 @@
+pub mod Bound
+pub mod Callable
+pub mod DefaultSteps
+pub mod KeywordSlots
+pub mod Values

@@ -1,0 +1,134 @@
+//! Keyword arguments.
+
+ghost use Rattle.std.specs.Prelude.{◌≡◌, ◌<◌, length, List, map, Ok, All, IfSome, option_copied, bytes_eq, position, slice_get, option_and_then};
+ghost use Rattle.arena_heap.specs.Values.{IsStr};
+ghost use Rattle.arena_objects.specs.Iterables.{spelled};
+ghost use Rattle.py_values.specs.Shown.{shown};
+ghost use Rattle.py_primitives.specs.Methods.{str_in};
+ghost use Rattle.py_effects.specs.Calling.{filled, one_key, with_keys};
+ghost use Rattle.vm_walks.specs.Plain.{plain, plain_heap, plain_pair};
+ghost use Rattle.vm_faults.specs.Faults.{IsKnown, IsKnownStr};
+ghost use Rattle.vm_calls.specs.Binding.{name_text, plain_slots, AreKnown, plain_bound, IsKnownBound};
+
+use crate::slots::slot_at;
+use arena_heap::{Arena, Constants, StrNo, Value};
+use arena_objects::text_bytes;
+use vm_faults::Fault;
+
+/// The bytes of a name, and none where there is no such text.
+fn name_bytes<C: Constants>(consts: &C, name: StrNo) -> &[u8]
+    ensures { result.now ≡ name_text (C.text_of consts.now) name }
+{
+    match consts.text(name) {
+        Some(text) => text,
+        None => &[],
+    }
+}
+
+/// Whether a parameter has this name.
+fn is_named<C: Constants>(consts: &C, param: StrNo, name: &[u8]) -> bool
+    ensures { result ≡ bytes_eq name.now (name_text (C.text_of consts.now) param) }
+{
+    name == name_bytes(consts, param)
+}
+
+/// The place of the parameter that has this name.
+fn place_of<C: Constants>(consts: &C, params: &[StrNo], name: &[u8]) -> Option<usize>
+    ensures place { result ≡ position (bytes_eq name.now) (map (name_text (C.text_of consts.now)) params.now) }
+    ensures within { IfSome result (λ at. at < length params.now) }
+{
+    for at in 0..params.len() {
+        if is_named(consts, params[at], name) {
+            return Some(at);
+        }
+    }
+    None
+}
+
+/// The bytes of a str. Other values have none.
+fn str_of<'a, C: Constants>(arena: &'a Arena, consts: &'a C, v: Value) -> Option<&'a [u8]>
+    requires { IsKnown (C.text_of consts.now) (C.items_of consts.now) arena.now.objects v }
+    ensures shown { option_copied result ≡ str_in (shown (plain_heap (C.text_of consts.now) (C.items_of consts.now) arena.now) (plain (C.text_of consts.now) (C.items_of consts.now) v)) }
+    ensures str { IfSome result (λ _. IsStr v) }
+    ensures spelled { IfSome result (λ bytes. bytes.now ≡ spelled (C.text_of consts.now) arena.now v) }
+{
+    match v {
+        Value::Str(_) | Value::Text(_) => Some(text_bytes(arena, consts, v)),
+        Value::Fixed(_) => None,
+        _ => None,
+    }
+}
+
+/// A value goes into a slot, unless it has one already.
+fn fill_slot<C: Constants>(
+    arena: &Arena,
+    _consts: &C,
+    slots: &mut [Option<Value>],
+    at: usize,
+    name: Value,
+    v: Value,
+) -> Result<(), Fault>
+    requires within { at < length slots.old }
+    requires known_slots { AreKnown (C.text_of _consts.now) (C.items_of _consts.now) arena.now.objects slots.old }
+    requires name { IsKnownStr (C.text_of _consts.now) (C.items_of _consts.now) arena.now.objects name }
+    requires value { IsKnown (C.text_of _consts.now) (C.items_of _consts.now) arena.now.objects v }
+    ensures filled { plain_bound (C.text_of _consts.now) (C.items_of _consts.now) arena.now slots.new result ≡ filled (plain_slots (C.text_of _consts.now) (C.items_of _consts.now) slots.old) at (spelled (C.text_of _consts.now) arena.now name) (plain (C.text_of _consts.now) (C.items_of _consts.now) v) (option_and_then (λ old. old) (slice_get (plain_slots (C.text_of _consts.now) (C.items_of _consts.now) slots.old) at)) }
+    ensures known { IsKnownBound (C.text_of _consts.now) (C.items_of _consts.now) arena.now.objects slots.new result }
+{
+    match slot_at(slots, at) {
+        Some(_) => Err(Fault::RepeatedKeyword(name)),
+        None => {
+            slots[at] = Some(v);
+            Ok(())
+        }
+    }
+}
+
+/// A keyword argument goes into the slot of its parameter.
+fn put_keyword<C: Constants>(
+    arena: &Arena,
+    consts: &C,
+    params: &[StrNo],
+    slots: &mut [Option<Value>],
+    name: Value,
+    v: Value,
+) -> Result<(), Fault>
+    requires slots { length slots.old ≡ length params.now }
+    requires known_slots { AreKnown (C.text_of consts.now) (C.items_of consts.now) arena.now.objects slots.old }
+    requires name { IsKnown (C.text_of consts.now) (C.items_of consts.now) arena.now.objects name }
+    requires value { IsKnown (C.text_of consts.now) (C.items_of consts.now) arena.now.objects v }
+    ensures put { plain_bound (C.text_of consts.now) (C.items_of consts.now) arena.now slots.new result ≡ one_key (map (name_text (C.text_of consts.now)) params.now) (plain_slots (C.text_of consts.now) (C.items_of consts.now) slots.old) (plain (C.text_of consts.now) (C.items_of consts.now) v) (shown (plain_heap (C.text_of consts.now) (C.items_of consts.now) arena.now) (plain (C.text_of consts.now) (C.items_of consts.now) name)) }
+    ensures known { IsKnownBound (C.text_of consts.now) (C.items_of consts.now) arena.now.objects slots.new result }
+{
+    let Some(text) = str_of(arena, consts, name) else {
+        return Err(Fault::KeywordNotAStr);
+    };
+    match place_of(consts, params, text) {
+        Some(at) => fill_slot(arena, consts, slots, at, name, v),
+        None => Err(Fault::UnknownKeyword(name)),
+    }
+}
+
+/// Keyword arguments go into the slots of their parameters, from left to right, up to the first that is refused.
+pub(crate) fn put_keywords<C: Constants>(
+    arena: &Arena,
+    consts: &C,
+    params: &[StrNo],
+    slots: &mut [Option<Value>],
+    keys: &[(Value, Value)],
+) -> Result<(), Fault>
+    requires slots { length slots.old ≡ length params.now }
+    requires known_slots { AreKnown (C.text_of consts.now) (C.items_of consts.now) arena.now.objects slots.old }
+    requires known { All (λ pair. IsKnown (C.text_of consts.now) (C.items_of consts.now) arena.now.objects pair.0 × IsKnown (C.text_of consts.now) (C.items_of consts.now) arena.now.objects pair.1) keys.now }
+    ensures put { plain_bound (C.text_of consts.now) (C.items_of consts.now) arena.now slots.new result ≡ with_keys (plain_heap (C.text_of consts.now) (C.items_of consts.now) arena.now) (map (name_text (C.text_of consts.now)) params.now) (Ok (plain_slots (C.text_of consts.now) (C.items_of consts.now) slots.old)) (map (plain_pair (C.text_of consts.now) (C.items_of consts.now)) keys.now) }
+    ensures known { IsKnownBound (C.text_of consts.now) (C.items_of consts.now) arena.now.objects slots.new result }
+{
+    for pair in keys {
+        let (name, v) = *pair;
+        match put_keyword(arena, consts, params, slots, name, v) {
+            Ok(()) => {}
+            Err(fault) => return Err(fault),
+        }
+    }
+    Ok(())
+}

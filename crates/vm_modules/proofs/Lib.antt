@@ -1,0 +1,4 @@
+pub mod Effecting
+pub mod Fronts
+pub mod Modular
+pub mod Titles

@@ -1,0 +1,23 @@
+-- The registered modules over an arena.
+use Rattle.std.specs.Prelude.{ℕ, List, [], ◌∷◌, ◌++◌, map, Option}
+use Rattle.arena_heap.specs.declared.value.Value.{Value}
+use Rattle.arena_heap.specs.declared.value.StrNo.{StrNo}
+use Rattle.arena_heap.specs.declared.value.ConstNo.{ConstNo}
+use Rattle.vm_walks.specs.Plain.{plain_name}
+use Rattle.vm_modules.specs.declared.entry.Entry.{Entry}
+
+-- the entries in the order of registering, and how many fit
+pub record Registry : Type 0 where
+  pub entries : List Entry
+  pub room : ℕ
+
+abbrev pub with_entry : Registry → Entry → Registry
+with_entry registry entry = record registry { entries = registry.entries ++ entry ∷ [] }
+
+module _ (texts : StrNo → Option (List ℕ)) (tuples : ConstNo → Option (List Value)) where
+  -- an entry as the meaning has it: the name of a module, and the number of its object
+  abbrev pub plain_entry : Entry → List ℕ × ℕ
+  plain_entry entry = (plain_name texts tuples entry.name, entry.object.cell)
+
+  abbrev pub plain_modules : Registry → List (List ℕ × ℕ)
+  plain_modules registry = map plain_entry registry.entries
