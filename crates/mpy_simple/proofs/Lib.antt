@@ -2,3 +2,4 @@ pub mod Written
 pub mod Prints
 pub mod Faults
 pub mod Bodies
+pub mod Outcomes

@@ -5,50 +5,11 @@ use Rattle.mpy_base.specs.declared.refused.Refused.{Refused}
 use Rattle.mpy_base.specs.declared.refused.Refused.TheVariants as refused
 use Rattle.mpy_base.specs.declared.source.SourceFault.{SourceFault}
 use Rattle.mpy_base.specs.Fault.{too_long}
-use Rattle.py_tokens.specs.declared.token.Token.{Token}
-use Rattle.py_tokens.specs.Tokens as tokens
-use Rattle.py_nest.specs.Nest.{Nests}
 use Rattle.py_tree.specs.declared.stmt.Module.{Module}
-use Rattle.py_parser.specs.Grammar.{IsTree}
-use Rattle.py_parser.specs.Parsed as parser
-use Rattle.py_scopes.specs.Scopes as names
+use Rattle.py_source.specs.Source.{IsSourceOf, IsFirstFault}
 use Rattle.mpy_simple.specs.declared.print.Print.{Print}
 use Rattle.mpy_simple.specs.Print.{ArePrints, FirstOther, later}
 use Rattle.mpy_simple.specs.Compiled.{IsWithinLimits, PassesLimits, IsFileOf, texts_of}
-
--- the source has these tokens, which give this tree, whose names are used as they may be
-pub record IsSourceOf (level : ℕ) (source : List ℕ) (tree : Module) : Type 0 where
-  pub list : List Token
-  pub are_tokens : tokens.IsTokens level source list
-  pub nests : Nests list
-  pub is_tree : IsTree list tree
-  pub faultless : names.IsFaultless tree
-
--- a source of tokens that are no tree's
-pub record IsParserFault (level : ℕ) (source : List ℕ) (fault : SourceFault) : Type 0 where
-  pub list : List Token
-  pub are_tokens : tokens.IsTokens level source list
-  pub is : parser.IsFault list fault
-
--- a tree that misuses a name or a word
-pub record IsNameFault (level : ℕ) (source : List ℕ) (fault : SourceFault) : Type 0 where
-  pub list : List Token
-  pub are_tokens : tokens.IsTokens level source list
-  pub nests : Nests list
-  pub tree : Module
-  pub is_tree : IsTree list tree
-  pub is : names.IsFirstFault tree fault
-
--- the first fault of a source that isn't the language's
-abbrev pub IsFrontFault : ℕ → List ℕ → SourceFault → Type 0
-IsFrontFault level source fault =
-    tokens.IsFirstFault level source fault ⊎ (IsParserFault level source fault ⊎ IsNameFault level source fault)
-
--- what reading a source gives: its tree, or its first fault; want of memory says nothing
-abbrev pub GivesTree : ℕ → List ℕ → Result Module (Refused SourceFault) → Type 0
-GivesTree level source (Ok tree) = IsSourceOf level source tree
-GivesTree level source (Err (refused.Fault fault)) = IsFrontFault level source fault
-GivesTree level source (Err refused.NoMemory) = Unit {0}
 
 -- the source under this name is accepted at the level, and these are its prints
 pub record IsCompiled (level : ℕ) (source name : List ℕ) (prints : List Print) : Type 0 where
@@ -83,7 +44,7 @@ pub record IsLongFault (level : ℕ) (source name : List ℕ) (fault : SourceFau
 -- the first fault of a source under a name
 abbrev pub IsFault : ℕ → List ℕ → List ℕ → SourceFault → Type 0
 IsFault level source name fault =
-    IsFrontFault level source fault ⊎ (IsLaterFault level source fault ⊎ IsLongFault level source name fault)
+    IsFirstFault level source fault ⊎ (IsLaterFault level source fault ⊎ IsLongFault level source name fault)
 
 -- what compiling a source under a name gives: its file, or its first fault; want of memory says nothing
 abbrev pub Compiles : ℕ → List ℕ → List ℕ → Result (Vec ℕ Global) (Refused SourceFault) → Type 0

@@ -3,32 +3,13 @@
 ghost use Rattle.std.specs.Prelude.{◌≡◌, ◌≤◌, ℕ, List};
 ghost use Rattle.mpy_base.specs.declared.source.SourceFault.{SourceFault};
 ghost use Rattle.mpy_tree.specs.File.{IsAscii};
-ghost use Rattle.mpy_simple.specs.Source.{Accepts, IsFault, GivesTree, Compiles};
+ghost use Rattle.mpy_simple.specs.Source.{Accepts, IsFault, Compiles};
 
 use crate::compiled::file_of;
 use crate::print::prints_of;
 use mpy_base::{Refused, SourceFault};
-use py_parser::parse;
-use py_scopes::scopes;
-use py_tokens::tokens;
-use py_tree::Module;
+use py_source::read_source;
 use std::alloc::Global;
-
-/// The tree of a source.
-fn tree_of(alloc: Global, source: &[u8], level: u8) -> Result<Module, Refused<SourceFault>>
-    requires { level ≤ 3 }
-    ensures { GivesTree level source.now result }
-{
-    let tokens = tokens(alloc, source, level)?;
-    let tree = match parse(alloc, &tokens) {
-        Ok(tree) => tree,
-        Err(refusal) => return Err(refusal),
-    };
-    match scopes(alloc, &tree) {
-        Ok(_) => Ok(tree),
-        Err(refusal) => Err(refusal),
-    }
-}
 
 /// The file of a source that only prints short texts, under the name that the file stores, at a level of optimization.
 pub fn simple_file(
@@ -41,8 +22,14 @@ pub fn simple_file(
     requires name_is { IsAscii name.now }
     ensures { Compiles level source.now name.now result }
 {
-    let tree = tree_of(alloc, source, level)?;
-    let prints = prints_of(alloc, &tree)?;
+    let accepted = match read_source(alloc, level, source) {
+        Ok(accepted) => accepted,
+        Err(refusal) => return Err(refusal),
+    };
+    let prints = match prints_of(alloc, &accepted.tree) {
+        Ok(prints) => prints,
+        Err(refusal) => return Err(refusal),
+    };
     file_of(alloc, level, name, &prints)
 }
 

@@ -1,0 +1,4 @@
+pub mod Once
+pub mod Owed
+pub mod Always
+pub mod Asked
