@@ -157,7 +157,7 @@ module _ (program : Program) (library : Library) (K : ℕ) (some : 1 ≤ K) (cod
     from_given (suc t) (Gives made w) order =
         let r = run_unit (sem program (suc t)).exec (first_file program.main) program.main_name made.names program.main 0 1 (suc t) w in
         subst (λ c. Followed library K (begun program.main_name c made w) (suc t) r) (sym of_code)
-        ((unit_sim program library K some coded (suc t) ((sims program library K some coded started (suc t)).s) (first_file program.main) program.main_name made.names 0 1 program.main is Main [] refl code of_code (suc t) w (omega arith)).from
+        ((unit_sim program library K some (suc t) ((sims program library K some coded started (suc t)).s) (first_file program.main) program.main_name made.names 0 1 program.main is Main [] refl code of_code (suc t) w (omega arith)).from
         (subst (λ c. InOrder library (begun program.main_name c made w)) of_code order))
     from_given t (Throws x w) order = record { by = 0; few = omega arith; many = omega arith; falls = omega arith; lands = refl }
     from_given t (Fills e w) order = record { by = 0; few = omega arith; many = omega arith; falls = omega arith; lands = refl }

@@ -46,7 +46,7 @@ use Rattle.sim_expr.proofs.Exprs.{fits_one}
 use Rattle.sim_stmt.proofs.Ends.{GoesS, GoesT, passed, Tells, tells_does, TellsAnswer, s_use_bind, t_use_bind, t_bind, s_store_bind, t_turned, s_goes}
 use Rattle.sim_stmt.proofs.Sizes.{isize, r_le, m_le, n_le, f_le}
 use Rattle.sim_stmt.proofs.Stores.{Any, tells_any, sinks_over, store_name_sim}
-use Rattle.sim_stmt.proofs.Blocks.{IsStart, StartsUnit, Coded, Started, SimS}
+use Rattle.sim_stmt.proofs.Blocks.{IsStart, StartsUnit, Started, SimS}
 use Rattle.sim_stmt.proofs.Facts.{IsStill, store_still}
 use Rattle.sim_stmt.proofs.Running.{absent_behind, Stay, stay_there, registered_there, both_there, Then, entry_keeps, entry_registers}
 use Rattle.sim_stmt.proofs.Units.{LandsU, unit_sim}
@@ -120,7 +120,7 @@ tells_turns P w nx zero t h = h t
 tells_turns P w nx (suc m) zero h = tt
 tells_turns P w nx (suc m) (suc t) h = tells_turns P w nx m t h
 
-module _ (program : Program) (library : Library) (K : ℕ) (some : 1 ≤ K) (coded : Coded program library K) (started : Started program library K) where
+module _ (program : Program) (library : Library) (K : ℕ) (some : 1 ≤ K) (started : Started program library K) where
   -- back at the importing instruction
   abbrev back : Site → ℕ → Locals → List Slot → Val → PlainWorld → State
   back k p env slots v w = Running 0 (at k.f p env slots) k.frames w
@@ -165,7 +165,7 @@ module _ (program : Program) (library : Library) (K : ℕ) (some : 1 ≤ K) (cod
           (o_does library K (λ made w1. Running 0 (new_frame nm 0 is.code [] made.names (Imported nm made.number)) (at k.f p env slots0 ∷ k.frames) w1) k line p item env slots0 slots t w (make_module w nm) some s h
           (λ paid. e paid ∙ ap (λ c. paying library place paid (at k.f p env slots0) k.frames w (nat_lt paid (make_module w nm).visits) (make_module w nm) (λ made w1. steps.begun library place paid (at k.f p env slots0) k.frames w nm c made w1)) is.of_code) same)
           (λ made t1 w1 l1. end_sim k p env slots0 slots place nm made _ t1 K _ same
-          (unit_sim program library K some coded n ihs (first_file u) nm made.names 0 (suc k.g.depth) u is.unit (Imported nm made.number) (at k.f p env slots0 ∷ k.frames) (ap suc s.depth) is.code
+          (unit_sim program library K some n ihs (first_file u) nm made.names 0 (suc k.g.depth) u is.unit (Imported nm made.number) (at k.f p env slots0 ∷ k.frames) (ap suc s.depth) is.code
           (ap (λ o. code_in (module_in o) 0) is.entry ∙ is.of_code) t1 w1 (omega (arith, l1, le))))
 
       entry_begins : (t : ℕ) (o : Option programs.Entry) → t ≤ n → IsStart library K nm o → Begins (entry_in library nm) (has_depth k.frames)

@@ -17,7 +17,8 @@ use Rattle.py_meaning.specs.Imports.{run_unit, end_module, begin_unit, begin_ent
 use Rattle.py_meaning.specs.Meaning.{sem}
 use Rattle.py_meaning.specs.Bounds.{world_e, GrowS}
 use Rattle.py_meaning.proofs.Grow.{grow_does}
-use Rattle.py_meaning.proofs.GrowStmts.{grow_unit, grow_entry}
+use Rattle.py_meaning.proofs.GrowUnits.{grow_unit}
+use Rattle.py_meaning.proofs.GrowStmts.{grow_entry}
 use Rattle.py_meaning.proofs.Growing.{growing}
 use Rattle.bc_machine.specs.Parts.{first_absent}
 
