@@ -48,6 +48,6 @@ pub record PutsCount (a b : Draft) (line : ℕ) (op : Op) (passes : Bool) (numbe
 abbrev pub passes_items : ℕ → Bool
 passes_items count = nat_lt 4096 count
 
--- more than 255 arguments
+-- more than 255 positional arguments, or keyword arguments
 abbrev pub passes_members : (args keys : ℕ) → Bool
-passes_members args keys = nat_lt 255 (args + keys)
+passes_members args keys = nat_lt 255 args || nat_lt 255 keys

@@ -100,11 +100,11 @@ impl Draft {
         self.put(line, DraftItem::Plain(Instr::Num(op, count as u32)))
     }
 
-    /// Puts a call of so many positional and keyword arguments. Past 255 arguments the draft is crowded.
+    /// Puts a call of `args` positional and `keys` keyword arguments. Past 255 of either the draft is crowded.
     pub fn put_call(&mut self, line: u32, op: Op, args: usize, keys: usize) -> Result<(), NoMemory>
         ensures { OnOk result (PutsCount self.old self.new line op (passes_members args keys) (args + 256 * keys)) }
     {
-        if args > MAX_ARGUMENTS || keys > MAX_ARGUMENTS - args {
+        if args > MAX_ARGUMENTS || keys > MAX_ARGUMENTS {
             self.crowded = true;
             return Ok(());
         }

@@ -21,6 +21,7 @@ use Rattle.emit_draft.specs.declared.draft.DraftItem.TheVariants as drafts
 use Rattle.emit_draft.specs.declared.scope.Scope.{Scope}
 use Rattle.emit_draft.specs.Draft.{Labels, Puts, Adds, Binds, PutsCount, passes_items, passes_members}
 use Rattle.emit_draft.specs.Emits.{item_at, IsPut, put, IsItem}
+use Rattle.emit_draft.proofs.Lists.{left_false}
 use Rattle.emit_draft.proofs.Steps.{adds_grown, free_added, free_on, free_put, free_later}
 use Rattle.emit_draft.proofs.Emits.{put_emits, count_emits, then_emits, put_after, count_after, label_after, bind_after, as_emits, size_emits}
 use Rattle.emit_expr.specs.Crowded.{crowded, crowded_all, crowded_keys}
@@ -185,7 +186,7 @@ dict_emits {a = a} {b = b} {s = s} {line = line} {pairs = pairs} is p ed =
 
 few_args : (args keys : ℕ) → passes_members args keys ≡ false → nat_lt args 256 ≡ true
 few_args args keys e =
-    let few : args + keys ≤ 255 = ltb-false 255 (args + keys) e in
+    let few : args ≤ 255 = ltb-false 255 args (left_false (nat_lt 255 args) (nat_lt 255 keys) e) in
     lt-ltb args 256 (omega arith)
 
 callee_row : {c : Context} {line p q : ℕ} {f : Expr} → IsCalled f → StandsE c line p f q → (args : Exprs) (keys : Keys) (m n : ℕ) → nat_lt (count args) 256 ≡ true → StandsEs c line q args m → StandsK c line m keys n → Has c line n (number ops.CallFunction (count args + 256 * key_count keys)) → StandsE c line p (call_of f args keys) (suc n)

@@ -33,7 +33,7 @@ impl Connective {
 }
 
 /// Puts the code of the expression at the end of the draft, which is crowded then where a call in it has more than 255
-/// arguments or a display more than 4,096 items.
+/// positional or keyword arguments, or a display more than 4,096 items.
 #[cycle(expressions)]
 pub fn emit_expr(
     alloc: Global,

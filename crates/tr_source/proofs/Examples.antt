@@ -58,7 +58,7 @@ whole =
 depth : nested whole ≡ 2
 depth = refl
 
-arguments : (most_arguments 0 whole ≡ 2) × (most_arguments 1 whole ≡ 1) × (most_arguments 0 inner ≡ 3)
+arguments : (most_arguments 0 whole ≡ 2) × (most_arguments 1 whole ≡ 1) × (most_arguments 0 inner ≡ 2)
 arguments = (refl, refl, refl)
 
 pairs : (most_pairs 0 whole ≡ 2) × (most_pairs 0 inner ≡ 0)

@@ -6,7 +6,7 @@ use Rattle.tr_verified.specs.Greatest.{greatest, greatest_of, greatest_links, gr
 use Rattle.tr_verified.specs.Widest.{widest, widest_of, widest_links, widest_pairs, widest_keys, widest_store, widest_stores, widest_stmt, widest_block, widest_branches, widest_handlers}
 
 abbrev arguments : Exprs → Keys → ℕ
-arguments args keys = count args + key_count keys
+arguments args keys = max (count args) (key_count keys)
 
 abbrev no_pairs : Pairs → ℕ
 no_pairs pairs = 0

@@ -6,9 +6,9 @@ use Rattle.py_meaning.specs.Program.{Text}
 use Rattle.bc_translation.specs.Heights.{held_in, tall_block}
 use Rattle.tr_verified.specs.Greatest.{greatest_block}
 
--- the most arguments of a call, those by keyword among them
+-- the most positional arguments of a call, or keyword arguments
 abbrev pub most_arguments : (level : ℕ) → Block → ℕ
-most_arguments = greatest_block (λ args keys. count args + key_count keys) (λ pairs. 0)
+most_arguments = greatest_block (λ args keys. max (count args) (key_count keys)) (λ pairs. 0)
 
 -- the most pairs of a dict display
 abbrev pub most_pairs : (level : ℕ) → Block → ℕ
