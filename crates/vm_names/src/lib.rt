@@ -1,12 +1,14 @@
-//! Names over an arena: globals and built-ins, locals, and pairs of dicts that are made.
+//! Names over an arena: globals and built-ins, locals, attributes of method calls and imports, displays and their pairs.
 #![tactic(auto)]
 
+mod attributes;
 mod builtins;
 mod displays;
 mod globals;
 mod locals;
 mod pairs;
 
+pub use attributes::{Looked, import_from, load_method};
 pub use displays::{make_dict, make_list};
 pub use globals::{delete_global, load_global, store_global};
 pub use locals::assigned;

@@ -19,9 +19,9 @@ use arena_objects::dict_get;
 use mpy_base::Builtin;
 use vm_faults::{Fault, Stop, type_of};
 
-/// What an attribute of a value is.
+/// What an attribute of a value is: a value, a method of the value's type, or nothing.
 #[derive(Clone, Copy)]
-enum Attribute {
+pub enum Attribute {
     Found(Value),
     Method(Builtin),
     Absent,
@@ -135,7 +135,8 @@ fn module_attribute<C: Constants>(arena: &Arena, consts: &C, m: ModuleNo, name: 
     }
 }
 
-fn attribute_of<C: Constants>(arena: &Arena, consts: &C, v: Value, name: StrNo) -> Attribute
+/// What an attribute of a value is. The namespace of a module has to be set.
+pub fn attribute_of<C: Constants>(arena: &Arena, consts: &C, v: Value, name: StrNo) -> Attribute
     requires leads { Leads arena.now.objects v }
     requires named { IsNamed arena.now v }
     requires name { IsSome (C.text_of consts.now name) }
@@ -162,7 +163,7 @@ fn attribute_of<C: Constants>(arena: &Arena, consts: &C, v: Value, name: StrNo) 
 }
 
 /// A method that is bound to its object.
-fn bind_method<C: Constants>(
+pub fn bind_method<C: Constants>(
     arena: &mut Arena,
     consts: &C,
     object: Value,

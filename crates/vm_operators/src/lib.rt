@@ -19,7 +19,7 @@ mod places;
 mod sources;
 mod two_operands;
 
-pub use attributes::get_attr;
+pub use attributes::{Attribute, attribute_of, bind_method, get_attr};
 pub use containers::{Container, container_of};
 pub use deletions::delete_item;
 pub use indexes::{get_item, place_of};

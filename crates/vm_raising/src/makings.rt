@@ -8,10 +8,9 @@ ghost use Rattle.arena_heap.specs.Constants.{IsTold};
 ghost use Rattle.arena_objects.specs.Keys.{AllTold};
 ghost use Rattle.py_primitives.specs.Faults.{fault_value};
 ghost use Rattle.py_primitives.specs.Outcome.{making, making_tuple, making_exception, making_fault, fault_argument as argument_of_fault};
-ghost use Rattle.vm_walks.specs.Plain.{plain, plain_heap};
 ghost use Rattle.vm_faults.specs.Faults.{plain_fault, IsKnownFault};
-ghost use Rattle.vm_faults.specs.Outcomes.{IsOutcome};
 ghost use Rattle.vm_raising.specs.Makings.{as_value};
+ghost use Rattle.vm_raising.specs.Worlds.{Does};
 
 use crate::texts::make_fault_text;
 use arena_heap::{Arena, Constants, ExcNo, TupleNo, Value, tuple_fill};
@@ -26,7 +25,7 @@ fn fault_argument<C: Constants>(
 ) -> Result<Value, NoRoom>
     requires known { IsKnownFault (C.text_of consts.now) (C.items_of consts.now) arena.old.objects fault }
     requires all_told { AllTold (C.text_of consts.now) (C.items_of consts.now) arena.old.objects }
-    ensures { let plain = plain_fault (C.text_of consts.now) (C.items_of consts.now) arena.old fault in IsOutcome (C.text_of consts.now) (C.items_of consts.now) arena.old arena.new (as_value (λ v. v) result) (argument_of_fault (plain_heap (C.text_of consts.now) (C.items_of consts.now) arena.old) plain (fault_value plain)) }
+    ensures { Does (C.text_of consts.now) (C.items_of consts.now) arena.old arena.new (as_value (λ v. v) result) (λ heap see. let plain = plain_fault (C.text_of consts.now) (C.items_of consts.now) arena.old fault in argument_of_fault heap plain (fault_value plain)) }
 {
     match fault {
         Fault::NoKey(key) => Ok(key),
@@ -40,7 +39,7 @@ fn make_single<C: Constants>(arena: &mut Arena, _consts: &C, v: Value) -> Result
     requires leads { Leads arena.old.objects v }
     requires told { IsTold (C.text_of _consts.now) (C.items_of _consts.now) v }
     requires all_told { AllTold (C.text_of _consts.now) (C.items_of _consts.now) arena.old.objects }
-    ensures { IsOutcome (C.text_of _consts.now) (C.items_of _consts.now) arena.old arena.new (as_value values.Tuple result) (making_tuple (plain_heap (C.text_of _consts.now) (C.items_of _consts.now) arena.old) (plain (C.text_of _consts.now) (C.items_of _consts.now) v ∷ [])) }
+    ensures { Does (C.text_of _consts.now) (C.items_of _consts.now) arena.old arena.new (as_value values.Tuple result) (λ heap see. making_tuple heap (see.value v ∷ [])) }
 {
     match arena.make_tuple(1) {
         Ok(t) => {
@@ -62,7 +61,7 @@ pub(crate) fn make_exception<C: Constants>(
     requires told { IsTold (C.text_of consts.now) (C.items_of consts.now) args }
     requires tuple { IsTuple args }
     requires all_told { AllTold (C.text_of consts.now) (C.items_of consts.now) arena.old.objects }
-    ensures { IsOutcome (C.text_of consts.now) (C.items_of consts.now) arena.old arena.new (as_value values.Exc result) (making (plain_heap (C.text_of consts.now) (C.items_of consts.now) arena.old) (ExceptionObject kind (plain (C.text_of consts.now) (C.items_of consts.now) args) [] 0 [])) }
+    ensures { Does (C.text_of consts.now) (C.items_of consts.now) arena.old arena.new (as_value values.Exc result) (λ heap see. making heap (ExceptionObject kind (see.value args) [] 0 [])) }
 {
     consts.empty_law();
     match arena.make_exc(kind, args) {
@@ -81,7 +80,7 @@ fn make_with_argument<C: Constants>(
     requires leads { Leads arena.old.objects v }
     requires told { IsTold (C.text_of consts.now) (C.items_of consts.now) v }
     requires all_told { AllTold (C.text_of consts.now) (C.items_of consts.now) arena.old.objects }
-    ensures { IsOutcome (C.text_of consts.now) (C.items_of consts.now) arena.old arena.new (as_value values.Exc result) (making_exception (plain_heap (C.text_of consts.now) (C.items_of consts.now) arena.old) kind (plain (C.text_of consts.now) (C.items_of consts.now) v ∷ [])) }
+    ensures { Does (C.text_of consts.now) (C.items_of consts.now) arena.old arena.new (as_value values.Exc result) (λ heap see. making_exception heap kind (see.value v ∷ [])) }
 {
     match make_single(arena, consts, v) {
         Ok(t) => make_exception(arena, consts, kind, Value::Tuple(t)),
@@ -97,7 +96,7 @@ pub(crate) fn make_fault<C: Constants>(
 ) -> Result<ExcNo, NoRoom>
     requires known { IsKnownFault (C.text_of consts.now) (C.items_of consts.now) arena.old.objects fault }
     requires all_told { AllTold (C.text_of consts.now) (C.items_of consts.now) arena.old.objects }
-    ensures { IsOutcome (C.text_of consts.now) (C.items_of consts.now) arena.old arena.new (as_value values.Exc result) (making_fault (plain_heap (C.text_of consts.now) (C.items_of consts.now) arena.old) (plain_fault (C.text_of consts.now) (C.items_of consts.now) arena.old fault)) }
+    ensures { Does (C.text_of consts.now) (C.items_of consts.now) arena.old arena.new (as_value values.Exc result) (λ heap see. making_fault heap (plain_fault (C.text_of consts.now) (C.items_of consts.now) arena.old fault)) }
 {
     match fault_argument(arena, consts, fault) {
         Ok(v) => make_with_argument(arena, consts, fault_kind(fault), v),

@@ -6,10 +6,9 @@ ghost use Rattle.arena_objects.specs.Keys.{AllTold};
 ghost use Rattle.arena_objects.specs.Iterables.{or_nothing, spelled};
 ghost use Rattle.py_primitives.specs.Faults.{fault_text};
 ghost use Rattle.py_primitives.specs.Outcome.{making_text};
-ghost use Rattle.vm_walks.specs.Plain.{plain_heap};
 ghost use Rattle.vm_faults.specs.Faults.{plain_fault, name_in, IsKnownFault, IsKnownStr};
-ghost use Rattle.vm_faults.specs.Outcomes.{IsOutcome};
 ghost use Rattle.vm_raising.specs.Makings.{as_value, IsApart, HasCounts};
+ghost use Rattle.vm_raising.specs.Worlds.{Does};
 
 use arena_heap::{Arena, Constants, StrNo, TextNo, Value, text_fill};
 use arena_objects::text_bytes;
@@ -106,7 +105,7 @@ pub(crate) fn make_fault_text<C: Constants>(
 ) -> Result<Value, NoRoom>
     requires known { IsKnownFault (C.text_of consts.now) (C.items_of consts.now) arena.old.objects fault }
     requires all_told { AllTold (C.text_of consts.now) (C.items_of consts.now) arena.old.objects }
-    ensures { IsOutcome (C.text_of consts.now) (C.items_of consts.now) arena.old arena.new (as_value (λ v. v) result) (making_text (plain_heap (C.text_of consts.now) (C.items_of consts.now) arena.old) (fault_text (plain_fault (C.text_of consts.now) (C.items_of consts.now) arena.old fault))) }
+    ensures { Does (C.text_of consts.now) (C.items_of consts.now) arena.old arena.new (as_value (λ v. v) result) (λ heap see. making_text heap (fault_text (plain_fault (C.text_of consts.now) (C.items_of consts.now) arena.old fault))) }
 {
     let len = fault_len(arena, consts, fault);
     if len == 0 {

@@ -40,8 +40,8 @@ fn fill_arguments<C: Constants>(arena: &mut Arena, _consts: &C, t: TupleNo, args
     }
 }
 
-/// A tuple of arguments. The empty one takes no room.
-fn make_arguments<C: Constants>(
+/// A tuple of these values. The empty one takes no room.
+pub fn make_tuple<C: Constants>(
     arena: &mut Arena,
     consts: &C,
     args: &[Value],
@@ -97,7 +97,7 @@ fn make_exception<C: Constants>(
     requires all_told { AllTold (C.text_of consts.now) (C.items_of consts.now) arena.old.objects }
     ensures { IsOutcome (C.text_of consts.now) (C.items_of consts.now) arena.old arena.new result (making_exception (plain_heap (C.text_of consts.now) (C.items_of consts.now) arena.old) kind (map (plain (C.text_of consts.now) (C.items_of consts.now)) args.now)) }
 {
-    match make_arguments(arena, consts, args) {
+    match make_tuple(arena, consts, args) {
         Ok(tuple) => make_raised(arena, consts, kind, tuple),
         Err(stop) => Err(stop),
     }

@@ -11,7 +11,7 @@ mod numerals;
 mod texts;
 
 pub use dicts::call_dict;
-pub use exceptions::call_kind;
+pub use exceptions::{call_kind, make_tuple};
 pub use instances::call_isinstance;
 pub use matches::op_match;
 pub use numerals::call_int;

@@ -13,7 +13,7 @@ returns-in-Ok g c =
     let tuples = g.C.Constants.items_of c.args.consts.now in
     let h = c.args.arena.now in
     let heap = plain_heap texts tuples h in
-    let mid = c.make_arguments.new.arena in
+    let mid = c.make_tuple.new.arena in
     let next : Val → PlainHeap → Outcome Val = λ args behind. making behind (ExceptionObject c.args.kind args [] 0 []) in
     followed texts tuples h mid (making_tuple heap (map (plain texts tuples) c.args.args.now)) next c.make_raised.new.arena c.in-Ok.tuple c.make_raised.result c.in-Ok.ensures.outcome c.make_raised.ensures
 
@@ -23,6 +23,6 @@ returns-in-Err g c =
     let tuples = g.C.Constants.items_of c.args.consts.now in
     let h = c.args.arena.now in
     let heap = plain_heap texts tuples h in
-    let mid = c.make_arguments.new.arena in
+    let mid = c.make_tuple.new.arena in
     let next : Val → PlainHeap → Outcome Val = λ args behind. making behind (ExceptionObject c.args.kind args [] 0 []) in
     stopped texts tuples h mid (making_tuple heap (map (plain texts tuples) c.args.args.now)) next c.in-Err.stop c.in-Err.ensures.outcome

@@ -12,7 +12,7 @@ use Rattle.vm_walks.specs.Plain.{plain, plain_heap}
 use Rattle.vm_faults.specs.Faults.{IsKnown}
 use Rattle.vm_faults.proofs.Outcomes.{made_outcome, refused_outcome}
 use Rattle.vm_operators.proofs.ItemFills.{told_nones, nones_made, tuple_made, tuple_making, held_told}
-use Rattle.vm_types.proofs.exceptions.make_arguments.Goals as goal
+use Rattle.vm_types.proofs.exceptions.make_tuple.Goals as goal
 
 pub fill_arguments-requires-clause-known : goal.fill_arguments-requires-clause-known
 fill_arguments-requires-clause-known g c =

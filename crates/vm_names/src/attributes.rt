@@ -1,0 +1,62 @@
+//! Attributes of method calls and of imports.
+
+ghost use Rattle.std.specs.Prelude.{[], ◌∷◌, IsSome};
+ghost use Rattle.py_effects.specs.Names.{load_method as loads_method, import_from as imports};
+ghost use Rattle.vm_operators.specs.Attributes.{IsNamed};
+ghost use Rattle.vm_raising.specs.Worlds.{Stands, HasEffect};
+ghost use Rattle.vm_names.specs.Looks.{Looks};
+
+use arena_heap::{Arena, Constants, StrNo, Value};
+use mpy_base::Builtin;
+use vm_faults::{Fault, Stop, type_of};
+use vm_operators::{Attribute, attribute_of, bind_method};
+
+/// What a method call begins with: a method and its object, or any value.
+#[derive(Clone, Copy, Debug, PartialEq, Eq)]
+pub enum Looked {
+    Bound { method: Builtin, object: Value },
+    Free(Value),
+}
+
+/// What the call of an attribute begins with. A method isn't bound, which takes no room. The namespace of a module has to
+/// be set.
+pub fn load_method<C: Constants>(
+    arena: &Arena,
+    consts: &C,
+    object: Value,
+    name: StrNo,
+) -> Result<Looked, Stop>
+    requires named { IsNamed arena.now object }
+    requires name { IsSome (C.text_of consts.now name) }
+    requires stands { Stands (C.text_of consts.now) (C.items_of consts.now) arena.now (object ∷ []) }
+    ensures { Looks (C.text_of consts.now) (C.items_of consts.now) arena.now result (λ w see. loads_method w (see.value object) (see.text name)) }
+{
+    match attribute_of(arena, consts, object, name) {
+        Attribute::Found(v) => Ok(Looked::Free(v)),
+        Attribute::Method(method) => Ok(Looked::Bound { method, object }),
+        Attribute::Absent => Err(Stop::Raises(Fault::NoAttribute {
+            object: type_of(arena, object),
+            name,
+        })),
+    }
+}
+
+/// An attribute that is imported, and a fault of its own where there is none. A method is bound to its object. The
+/// namespace of a module has to be set.
+pub fn import_from<C: Constants>(
+    arena: &mut Arena,
+    consts: &C,
+    object: Value,
+    name: StrNo,
+) -> Result<Value, Stop>
+    requires named { IsNamed arena.old object }
+    requires name { IsSome (C.text_of consts.now name) }
+    requires stands { Stands (C.text_of consts.now) (C.items_of consts.now) arena.old (object ∷ []) }
+    ensures { HasEffect (C.text_of consts.now) (C.items_of consts.now) arena.old arena.new result (λ w see. imports w (see.value object) (see.text name)) }
+{
+    match attribute_of(arena, consts, object, name) {
+        Attribute::Found(v) => Ok(v),
+        Attribute::Method(method) => bind_method(arena, consts, object, method),
+        Attribute::Absent => Err(Stop::Raises(Fault::NotImported(name))),
+    }
+}
