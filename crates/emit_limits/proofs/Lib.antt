@@ -1,0 +1,5 @@
+pub mod Numbers
+pub mod Rows
+pub mod Plains
+pub mod Stores
+pub mod Layers
