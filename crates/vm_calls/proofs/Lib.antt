@@ -1,5 +1,9 @@
 pub mod Bound
+pub mod BuiltinNames
+pub mod CallFamilies
 pub mod Callable
 pub mod DefaultSteps
+pub mod Judged
 pub mod KeywordSlots
+pub mod MethodNames
 pub mod Values

@@ -1,11 +1,18 @@
-//! Calls over an arena: what a callee is, and how arguments are bound to the slots of a function's parameters.
+//! Calls over an arena: what a callee is, how arguments are bound to the slots of a function's parameters, and the calls of
+//! all built-ins and all methods.
 #![tactic(auto)]
 
 mod binding;
+mod builtins;
 mod callees;
+mod calls;
 mod defaults;
 mod keywords;
+mod methods;
 mod slots;
 
 pub use binding::{Parameters, bind};
+pub use builtins::call_on_heap;
 pub use callees::{Callee, Function, callee_of};
+pub use calls::{CallStop, call_builtin};
+pub use methods::call_method;

@@ -1,0 +1,52 @@
+//! Calls of methods.
+
+ghost use Rattle.std.specs.Prelude.{◌<◌, ◌^◌, length, map, All};
+ghost use Rattle.arena_heap.specs.Values.{IsMethodOf};
+ghost use Rattle.arena_objects.specs.Keys.{AllTold};
+ghost use Rattle.py_primitives.specs.Methods.{call_method as call_method_in};
+ghost use Rattle.vm_walks.specs.Plain.{plain, plain_pair, plain_heap};
+ghost use Rattle.vm_faults.specs.Faults.{IsKnown};
+ghost use Rattle.vm_faults.specs.Outcomes.{IsOutcome};
+
+use arena_heap::{Arena, Constants, Value};
+use mpy_base::Builtin;
+use vm_faults::Stop;
+use vm_methods::{
+    call_dict_get, call_dict_items, call_dict_keys, call_dict_pop, call_dict_values,
+    call_list_append, call_list_extend, call_list_insert, call_list_pop,
+};
+use vm_str_methods::{call_str_find, call_str_join, call_str_split, call_str_startswith};
+
+/// A method of an object of its type, with these arguments.
+pub fn call_method<C: Constants>(
+    arena: &mut Arena,
+    consts: &C,
+    method: Builtin,
+    object: Value,
+    args: &[Value],
+    keys: &[(Value, Value)],
+) -> Result<Value, Stop>
+    requires method { IsMethodOf method object }
+    requires object { IsKnown (C.text_of consts.now) (C.items_of consts.now) arena.old.objects object }
+    requires few { length args.now < 2 ^ 32 }
+    requires known { All (IsKnown (C.text_of consts.now) (C.items_of consts.now) arena.old.objects) args.now }
+    requires all_told { AllTold (C.text_of consts.now) (C.items_of consts.now) arena.old.objects }
+    ensures { IsOutcome (C.text_of consts.now) (C.items_of consts.now) arena.old arena.new result (call_method_in (plain_heap (C.text_of consts.now) (C.items_of consts.now) arena.old) method (plain (C.text_of consts.now) (C.items_of consts.now) object) (map (plain (C.text_of consts.now) (C.items_of consts.now)) args.now) (map (plain_pair (C.text_of consts.now) (C.items_of consts.now)) keys.now)) }
+{
+    match method {
+        Builtin::ListAppend => call_list_append(arena, consts, object, args, keys),
+        Builtin::ListPop => call_list_pop(arena, consts, object, args, keys),
+        Builtin::ListInsert => call_list_insert(arena, consts, object, args, keys),
+        Builtin::ListExtend => call_list_extend(arena, consts, object, args, keys),
+        Builtin::DictGet => call_dict_get(arena, consts, object, args, keys),
+        Builtin::DictKeys => call_dict_keys(arena, consts, object, args, keys),
+        Builtin::DictValues => call_dict_values(arena, consts, object, args, keys),
+        Builtin::DictItems => call_dict_items(arena, consts, object, args, keys),
+        Builtin::DictPop => call_dict_pop(arena, consts, object, args, keys),
+        Builtin::StrJoin => call_str_join(arena, consts, object, args, keys),
+        Builtin::StrFind => call_str_find(arena, consts, object, args, keys),
+        Builtin::StrStartsWith => call_str_startswith(arena, consts, object, args, keys),
+        Builtin::StrSplit => call_str_split(arena, consts, object, args, keys),
+        _ => unreachable!(),
+    }
+}
