@@ -38,7 +38,7 @@ abbrev pub at_level : ℕ → Bool → Bool
 at_level zero crowds = crowds
 at_level (suc level) crowds = false
 
--- a statement of itself, without its bodies, where the loop around has so many held entries
+-- a statement of itself, without its bodies; entries are those held in the loop around
 abbrev pub crowded_simple : (level entries : ℕ) → Stmt → Bool
 crowded_simple level entries (Do e) = crowded e
 crowded_simple level entries (Assign ts e) = crowded e || crowded_targets ts

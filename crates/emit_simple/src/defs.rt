@@ -86,7 +86,8 @@ fn emit_making(
 }
 
 /// Puts the code of a `def` at the end of the draft: the making of the function that is the child of this index among
-/// the code's own ones, and the store to its name. The body's code is the child's.
+/// the code's own ones, and the store to its name. The body's code is the child's. The draft is crowded then where a default
+/// is or there are more than 4,096.
 pub fn emit_def(
     alloc: Global,
     draft: &mut Draft,

@@ -22,7 +22,7 @@ pub struct Loop {
     pub iterator: bool,
 }
 
-/// A jump names up to so many entries.
+/// The most entries that a jump out of a loop can name.
 const MAX_ENTRIES: usize = 127;
 
 /// A jump with no entry held. Of an iterator the four values are taken first.

@@ -18,7 +18,9 @@ use mpy_base::NoMemory;
 use py_tree::StmtKind;
 use std::alloc::Global;
 
-/// Puts the code of a statement without a body at the end of the draft.
+/// Puts the code of a statement without a body at the end of the draft; `around` is the loop around. The draft is crowded
+/// then where a part of it has more members than its instruction can name, where a jump would leave more than 127
+/// entries, and where anything but a name or an index is deleted.
 pub fn emit_simple(
     alloc: Global,
     draft: &mut Draft,

@@ -14,7 +14,8 @@ use mpy_base::NoMemory;
 use py_tree::Target;
 use std::alloc::Global;
 
-/// Puts the code that stores the topmost value to the target at the end of the draft.
+/// Puts the code that stores the topmost value to the target at the end of the draft, which is crowded then where a part
+/// of it is or an unpack has more than 4,096 targets.
 #[cycle(targets)]
 pub fn emit_target(
     alloc: Global,
