@@ -1,11 +1,11 @@
 -- Statements, by those of their parts.
 use Rattle.std.proofs.Common.{◌≡◌, ◌⊎◌, inl, inr, ℕ, zero, suc, ◌+◌, ◌≤◌, ◌<◌, List, [], ◌∷◌, length, map, Option, Some, None, refl, sym, ap, ◌∙◌, arith}
-use Rattle.std.specs.Prelude.{max, option_map, Bool, true, false, IsTrue, ◌↔◌}
+use Rattle.std.specs.Prelude.{max, Bool, true, false, IsTrue, ◌↔◌}
 use Rattle.py_tree.specs.declared.expr.BinaryOp.{BinaryOp}
 use Rattle.py_tree.specs.declared.expr.Expr as trees
 use Rattle.py_tree.specs.declared.stmt.Alias.{Alias}
-use Rattle.py_tree.specs.declared.stmt.Branch.{Branch, roll-Branch, out-Branch, roll-out-Branch}
-use Rattle.py_tree.specs.declared.stmt.Handler.{Handler, roll-Handler, out-Handler, roll-out-Handler}
+use Rattle.py_tree.specs.declared.stmt.Branch.{Branch, out-Branch, roll-out-Branch}
+use Rattle.py_tree.specs.declared.stmt.Handler.{Handler, out-Handler, roll-out-Handler}
 use Rattle.py_tree.specs.declared.stmt.Param.{Param}
 use Rattle.py_tree.specs.declared.stmt.Stmt as stmts
 use Rattle.py_tree.specs.declared.stmt.Stmt.{roll-Stmt, out-Stmt, roll-out-Stmt}
@@ -14,8 +14,8 @@ use Rattle.py_tree.specs.declared.stmt.StmtKind.TheVariants as s
 use Rattle.py_tree.specs.declared.stmt.StmtKind.TheOpen.{StmtKind-F}
 use Rattle.py_tree.specs.declared.stmt.StmtKind.TheFolds.{fold-roll-StmtKind, fold-roll-Branch, fold-roll-Handler, fold-roll-Stmt}
 use Rattle.py_tree.specs.declared.stmt.Target as aims
-use Rattle.py_meaning.specs.Tree.{Name, Target, ToName, ToAttr, ToIndex, ToEach, Targets, Expr, Exprs, NoExpr, More, count, Stmt, Do, Assign, Delete, Pass, Break, Continue, ReturnNone, Return, Reraise, Raise, Assert, AssertWith, Import, From, If, While, For, Try, Finally, TryFinally, Block, End, Next, Branches, Else, Case, Handlers, NoHandler, Any, On, OnAs}
-use Rattle.py_meaning.specs.Plain.{plain_expr, plain_target, targets, from_targets, augmented, on_option, Part, part, also, chain, block, defaults_of, numbered, Clause, try_of, handler_of, kind_step, branch_step, handler_step, stmt_step, plain_stmt}
+use Rattle.py_meaning.specs.Tree.{Name, Target, ToName, ToAttr, ToIndex, ToEach, Targets, Expr, Exprs, NoExpr, More, count, Stmt, Do, Assign, Delete, Pass, Break, Continue, ReturnNone, Return, Reraise, Raise, Assert, AssertWith, Import, From, If, While, For, Block, Next, Branches, Else, Case, Handlers, NoHandler}
+use Rattle.py_meaning.specs.Plain.{plain_expr, plain_target, targets, from_targets, augmented, on_option, Part, part, also, chain, block, defaults_of, numbered, Clause, handler_of, kind_step, branch_step, handler_step, stmt_step, plain_stmt}
 use Rattle.bc_translation.specs.Heights.{tall, tall_above, tall_defaults, tall_import, tall_stmt, tall_block, tall_branches, tall_handlers, held, held_in, held_by, held_of}
 use Rattle.emit_limits.specs.Limits.{saturated, plain_kind, plain_branch, plain_handler, plain_try, named}
 use Rattle.std.specs.Prelude.{get_or, drop, min}

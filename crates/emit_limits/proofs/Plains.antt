@@ -1,5 +1,5 @@
 -- The height of an expression, by those of its parts.
-use Rattle.std.proofs.Common.{◌≡◌, ℕ, ℤ, suc, ◌+◌, ◌≤◌, ◌<◌, List, [], ◌∷◌, length, map, true, false, refl, sym, ap, ◌∙◌, arith, ◌⊎◌, inl, inr}
+use Rattle.std.proofs.Common.{◌≡◌, ℕ, ℤ, suc, ◌+◌, ◌≤◌, List, [], ◌∷◌, length, map, true, false, refl, sym, ap, ◌∙◌, arith, ◌⊎◌, inl, inr}
 use Rattle.std.specs.Prelude.{max}
 use Rattle.mpy_base.specs.Val.{Nil, Truth, Int, Str}
 use Rattle.py_tree.specs.declared.expr.UnaryOp.{UnaryOp}
@@ -10,7 +10,7 @@ use Rattle.py_tree.specs.declared.expr.Expr.{roll-Expr, out-Expr, roll-out-Expr}
 use Rattle.py_tree.specs.declared.expr.Expr.TheOpen.{Expr-F}
 use Rattle.py_tree.specs.declared.expr.Expr.TheVariants as ex
 use Rattle.py_tree.specs.declared.expr.Expr.TheFolds.{fold-roll-Expr}
-use Rattle.py_meaning.specs.Tree.{Name, Expr, Constant, Named, Unary, Not, Binary, And, Or, Compare, Cond, TupleOf, ListOf, DictOf, Attr, Index, Call, Method, Exprs, NoExpr, More, Links, Last, Link, Pairs, Keys, count}
+use Rattle.py_meaning.specs.Tree.{Name, Expr, Constant, Named, Unary, Not, Binary, And, Or, Compare, Cond, TupleOf, ListOf, DictOf, Attr, Index, Call, Method, Exprs, Keys, count}
 use Rattle.py_meaning.specs.Plain.{expr_step, plain_expr, exprs, operands, links, compares, pairs_of, keys_of, call_of}
 use Rattle.bc_translation.specs.Heights.{tall, tallest, tall_above, tall_links, tall_pairs, tall_keys}
 use Rattle.emit_limits.specs.Limits.{plain_pairs, plain_keys, links_height, slots_of}

@@ -8,7 +8,7 @@ use Rattle.py_tree.specs.declared.stmt.Target.{roll-Target, out-Target, roll-out
 use Rattle.py_tree.specs.declared.stmt.Target.TheVariants as aim
 use Rattle.py_tree.specs.declared.stmt.Target.TheOpen.{Target-F}
 use Rattle.py_tree.specs.declared.stmt.Target.TheFolds.{fold-roll-Target}
-use Rattle.py_meaning.specs.Tree.{Expr, Target, ToName, ToAttr, ToIndex, ToEach, Targets, Only, Then, target_count, Stmt, Assign, AugName, AugAttr, AugIndex, Delete, Pass}
+use Rattle.py_meaning.specs.Tree.{Expr, Target, ToName, ToAttr, ToIndex, ToEach, target_count, Assign, Delete, Pass}
 use Rattle.py_meaning.specs.Plain.{plain_expr, target_step, plain_target, targets, from_targets, augmented}
 use Rattle.bc_translation.specs.Heights.{tall, tall_store, tall_stores, tall_assign, tall_delete, tall_deletes, tall_stmt}
 use Rattle.emit_limits.proofs.Rows.{IsRow, many}

@@ -1,11 +1,10 @@
-use Rattle.std.proofs.Common.{◌≡◌, ℕ, ◌+◌, ◌≤◌, List, [], length, map, sym, ap, refl, ◌∙◌, arith, rules, drop}
+use Rattle.std.proofs.Common.{◌≡◌, ℕ, ◌+◌, map, sym, ap, refl, ◌∙◌, arith, drop}
 use Rattle.std.specs.Prelude.{max, min}
 use Rattle.py_tree.specs.declared.stmt.Handler.{out-Handler}
 use Rattle.py_meaning.specs.Tree.{Else}
 use Rattle.py_meaning.specs.Plain.{plain_stmt, also, part, block}
-use Rattle.bc_translation.specs.Heights.{held_in}
 use Rattle.emit_limits.specs.Limits.{saturated, named}
-use Rattle.emit_limits.proofs.Numbers.{two, plus, sum, closed}
+use Rattle.emit_limits.proofs.Numbers.{two, plus, sum}
 use Rattle.emit_limits.proofs.Rows.{top, none_yet, one_more, one_here, whole, at_end, drop_item}
 use Rattle.emit_limits.proofs.Layers.{plain_If, plain_While, plain_For, plain_Try, block_held, held_row, branches_held, branches_held_row, handlers_held, tested_held, untested_held, named_few, held_try, held_others}
 use Rattle.emit_limits.proofs.entries.+entries.Goals as goal

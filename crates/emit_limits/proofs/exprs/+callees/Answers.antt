@@ -1,6 +1,4 @@
-use Rattle.std.proofs.Common.{◌≡◌, ◌∙◌, sym, ap, subst, refl, [], rules}
-use Rattle.py_meaning.specs.Plain.{plain_expr}
-use Rattle.emit_limits.specs.Limits.{slots_of}
+use Rattle.std.proofs.Common.{◌≡◌, sym, refl, [], rules}
 use Rattle.emit_limits.proofs.Plains.{slots_Attr, slots_alone, slots_Compare, slots_others}
 use Rattle.emit_limits.proofs.exprs.+callees.Goals as goal
 

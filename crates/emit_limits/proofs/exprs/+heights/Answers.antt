@@ -1,8 +1,8 @@
-use Rattle.std.proofs.Common.{◌≡◌, ℕ, ◌+◌, ◌-◌, ◌≤◌, map, length, sym, ap, refl, ◌∙◌, arith, rules, drop}
+use Rattle.std.proofs.Common.{◌≡◌, ◌+◌, ◌-◌, ◌≤◌, map, length, sym, ap, refl, ◌∙◌, arith, rules, drop}
 use Rattle.std.specs.Prelude.{max, min}
-use Rattle.py_meaning.specs.Plain.{plain_expr, exprs, keys_of}
-use Rattle.bc_translation.specs.Heights.{tall, tall_above, tall_keys}
-use Rattle.emit_limits.specs.Limits.{saturated, plain_keys, slots_of}
+use Rattle.py_meaning.specs.Plain.{plain_expr, exprs}
+use Rattle.bc_translation.specs.Heights.{tall, tall_above}
+use Rattle.emit_limits.specs.Limits.{saturated, slots_of}
 use Rattle.emit_limits.proofs.Numbers.{two, plus, told, at_least}
 use Rattle.emit_limits.proofs.Rows.{top, none_yet, one_more, whole, none_over, one_over, whole_over, left_behind, doubled, empty_slice, filled_slice}
 use Rattle.emit_limits.proofs.Plains.{tall_Unary, tall_Not, tall_Attr, tall_Binary, tall_Index, tall_And, tall_Or, tall_Compare, tall_Cond, tall_Tuple, tall_List, tall_Dict, tall_Call, few, leaf, no_operand, operands_tall, tallest_in, tallest_row, pairs_in, pairs_row, links_in, links_row, row_in, row_pile, keys_in, keys_pile}

@@ -1,13 +1,13 @@
-use Rattle.std.proofs.Common.{◌≡◌, ℕ, ◌+◌, ◌≤◌, List, [], length, map, sym, ap, refl, ◌∙◌, arith, rules, drop}
+use Rattle.std.proofs.Common.{◌≡◌, ℕ, ◌+◌, length, map, sym, ap, refl, ◌∙◌, arith, drop}
 use Rattle.std.specs.Prelude.{max}
 use Rattle.py_tree.specs.declared.stmt.Handler.{out-Handler}
 use Rattle.py_meaning.specs.Tree.{Else}
 use Rattle.py_meaning.specs.Plain.{plain_expr, plain_stmt, also, part, block}
 use Rattle.bc_translation.specs.Heights.{tall}
 use Rattle.emit_limits.specs.Limits.{saturated}
-use Rattle.emit_limits.proofs.Numbers.{two, plus, at_least, behind, closed}
+use Rattle.emit_limits.proofs.Numbers.{two, plus, at_least, behind}
 use Rattle.emit_limits.proofs.Rows.{top, none_yet, one_more, one_here, whole, at_end, drop_item}
-use Rattle.emit_limits.proofs.Layers.{plain_Expr, plain_Assign, plain_Aug, plain_Del, plain_Pass, plain_Break, plain_Continue, plain_Return, plain_Raise, plain_Global, plain_Import, plain_From, plain_Assert, plain_If, plain_While, plain_For, plain_Try, plain_Def, returned, raised, block_in, block_row, branches_in, branches_row, handlers_in, tested, untested, passed, try_last}
+use Rattle.emit_limits.proofs.Layers.{plain_Expr, plain_Assign, plain_Aug, plain_Del, plain_Return, plain_Raise, plain_Import, plain_From, plain_Assert, plain_If, plain_While, plain_For, plain_Try, plain_Def, returned, raised, block_in, block_row, branches_in, branches_row, handlers_in, tested, untested, passed, try_last}
 use Rattle.emit_limits.proofs.statements.+blocks.Goals as goal
 
 pub block_height-loop-stmt-init : goal.block_height-loop-stmt-init

@@ -1,4 +1,4 @@
-use Rattle.std.proofs.Common.{◌≡◌, sym, ap, refl, ◌∙◌}
+use Rattle.std.proofs.Common.{sym, ap, ◌∙◌}
 use Rattle.py_meaning.specs.Plain.{plain_expr}
 use Rattle.emit_limits.specs.Limits.{saturated}
 use Rattle.emit_limits.proofs.Numbers.{two, plus}

@@ -1,12 +1,10 @@
-use Rattle.std.proofs.Common.{◌≡◌, ◌+◌, ◌<◌, ℕ, [], sym, ap, refl, ◌∙◌, arith}
-use Rattle.std.specs.Prelude.{max}
+use Rattle.std.proofs.Common.{sym, ap, refl, ◌∙◌, arith}
 use Rattle.py_meaning.specs.Tree.{count}
 use Rattle.py_meaning.specs.Plain.{defaults_of}
-use Rattle.std.proofs.lemmas.List.{drop_all}
 use Rattle.emit_limits.specs.Limits.{saturated}
-use Rattle.emit_limits.proofs.Numbers.{begun, closed, behind}
+use Rattle.emit_limits.proofs.Numbers.{begun, behind}
 use Rattle.emit_limits.proofs.Rows.{top}
-use Rattle.emit_limits.proofs.Layers.{Given, one_given, defaults_in, no_default, some_default, all_counted, all_given}
+use Rattle.emit_limits.proofs.Layers.{one_given, defaults_in, no_default, some_default, all_counted, all_given}
 use Rattle.emit_limits.proofs.statements.defaults_height.Goals as goal
 
 pub loop-param-init : goal.loop-param-init

@@ -1,4 +1,4 @@
-use Rattle.std.proofs.Common.{◌≤◌, refl, rules}
+use Rattle.std.proofs.Common.{◌≤◌, rules}
 use Rattle.emit_limits.proofs.Numbers.{told}
 use Rattle.emit_limits.proofs.Rows.{top}
 use Rattle.emit_limits.proofs.statements.option_height.Goals as goal

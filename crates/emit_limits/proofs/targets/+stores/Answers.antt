@@ -1,5 +1,4 @@
 use Rattle.std.proofs.Common.{◌≡◌, ◌+◌, ◌-◌, ◌≤◌, length, sym, ap, refl, ◌∙◌, arith, rules, drop}
-use Rattle.std.specs.Prelude.{max}
 use Rattle.py_meaning.specs.Plain.{plain_target}
 use Rattle.bc_translation.specs.Heights.{tall_store}
 use Rattle.emit_limits.specs.Limits.{saturated}

@@ -1,5 +1,4 @@
-use Rattle.std.proofs.Common.{◌≡◌, ◌+◌, ◌-◌, ◌≤◌, length, sym, ap, refl, ◌∙◌, arith, rules, drop}
-use Rattle.std.specs.Prelude.{max}
+use Rattle.std.proofs.Common.{◌+◌, ◌-◌, length, refl, ◌∙◌, arith, drop}
 use Rattle.emit_limits.proofs.Numbers.{two, sum}
 use Rattle.emit_limits.proofs.Rows.{top, none_yet, one_more, whole, left_behind, doubled}
 use Rattle.emit_limits.proofs.Stores.{assigns_in, assigns_row}

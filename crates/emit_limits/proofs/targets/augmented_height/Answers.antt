@@ -1,8 +1,5 @@
-use Rattle.std.proofs.Common.{◌≡◌, ◌+◌, sym, ap, refl, ◌∙◌, arith}
-use Rattle.std.specs.Prelude.{max}
+use Rattle.std.proofs.Common.{refl, ◌∙◌, arith}
 use Rattle.py_meaning.specs.Plain.{plain_expr}
-use Rattle.bc_translation.specs.Heights.{tall}
-use Rattle.emit_limits.specs.Limits.{saturated}
 use Rattle.emit_limits.proofs.Numbers.{two, plus, at_least}
 use Rattle.emit_limits.proofs.Rows.{top, filled_items}
 use Rattle.emit_limits.proofs.Stores.{aug_Name, aug_Attr, aug_Index, aug_none, aug_Each}

@@ -1,4 +1,4 @@
-use Rattle.std.proofs.Common.{◌∙◌, sym, ap, refl, arith}
+use Rattle.std.proofs.Common.{◌∙◌, sym, ap, arith}
 use Rattle.emit_limits.specs.Limits.{saturated}
 use Rattle.emit_limits.proofs.Numbers.{behind}
 use Rattle.emit_limits.proofs.Rows.{top}
