@@ -1,0 +1,5 @@
+pub mod Making
+pub mod Lengths
+pub mod Counting
+pub mod Rolling
+pub mod Nesting
