@@ -1,0 +1,9 @@
+pub mod Children
+pub mod Keeps
+pub mod Loops
+pub mod Tries
+pub mod Rows
+pub mod Layers
+pub mod Walks
+pub mod Texts
+pub mod Own

@@ -1,0 +1,6 @@
+pub mod Parts
+pub mod Children
+pub mod Crowded
+pub mod Steps
+pub mod Emits
+pub mod Text
