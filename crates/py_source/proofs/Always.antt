@@ -1,4 +1,4 @@
--- Tokens have a tree or a fault, and a tree is faultless or has a first fault.
+-- Each source is accepted or has a first fault: tokens have a tree or a fault, and a tree is faultless or has one.
 use Rattle.std.proofs.Common.{◌≡◌, ◌⊎◌, ℕ, zero, suc, ◌+◌, ◌-◌, ◌<◌, ◌≤◌, List, [], ◌∷◌, length, drop, take, get_or, Option, Some, None, Ok, Err, below_more, inl, inr, refl, arith}
 use Rattle.std.proofs.lemmas.Bool.{cases_lt}
 use Rattle.std.proofs.lemmas.Option.{slice_get_past}
@@ -17,7 +17,11 @@ use Rattle.py_parser.specs.Reading.{file}
 use Rattle.py_parser.specs.Parsed.{fault_of, IsFault}
 use Rattle.py_parser.proofs.Whole.{read_tree}
 use Rattle.py_parser.proofs.Parses.{syntax_owed}
-use Rattle.py_scopes.specs.Scopes.{Mark, fault_at, IsFirst, AreFaultless, IsFirstFault, IsFaultless, marks_of}
+use Rattle.py_tokens.specs.Tokens.{IsTokens}
+use Rattle.py_source.specs.declared.source.Accepted.{Accepted}
+use Rattle.py_source.specs.Source as spec
+use Rattle.py_source.specs.Source.{IsAccepted}
+use Rattle.py_scopes.specs.Scopes.{slots_of, Mark, fault_at, IsFirst, AreFaultless, IsFirstFault, IsFaultless, marks_of}
 
 -- nesting
 -- =======
@@ -117,3 +121,29 @@ judged tree = elim (faultless_below (marks_of tree) (length (marks_of tree))) [
   | inl below ↦ inl (all_none (marks_of tree) below)
   | inr fault ↦ inr fault
 ]
+
+-- sources
+-- =======
+
+abbrev pub Read : ℕ → List ℕ → Type 0
+Read level source = ((accepted : Accepted) × IsAccepted level source accepted) ⊎ ((fault : SourceFault) × spec.IsFirstFault level source fault)
+
+named : (level : ℕ) (source : List ℕ) (list : List Token) (tree : Module) → IsTokens level source list → Nests list → IsTree list tree → Judged tree → Read level source
+named level source list tree are nests is_tree (inl faultless) =
+    inl (
+      record { tree = tree; slots = slots_of tree },
+      record {
+        is_source = record { list = list; are_tokens = are; nests = nests; is_tree = is_tree; faultless = faultless };
+        slots_are = refl;
+      },
+    )
+named level source list tree are nests is_tree (inr fault) =
+    inr (fault.0, inr (inr (record { list = list; are_tokens = are; nests = nests; tree = tree; is_tree = is_tree; is = fault.1 })))
+
+tokened : (level : ℕ) (source : List ℕ) (list : List Token) → IsTokens level source list → Parsed list → Read level source
+tokened level source list are (inl found) = named level source list found.0 are found.1 found.2 (judged found.0)
+tokened level source list are (inr fault) = inr (fault.0, inr (inl (record { list = list; are_tokens = are; is = fault.1 })))
+
+-- a source that has tokens is accepted or has a first fault
+pub read_from : (level : ℕ) (source : List ℕ) (list : List Token) → IsTokens level source list → Read level source
+read_from level source list are = tokened level source list are (parsed list)

@@ -4,6 +4,7 @@ ghost use Rattle.std.specs.Prelude.{◌≡◌, ◌≤◌, ◌⊎◌, ℕ, List, 
 ghost use Rattle.mpy_base.specs.declared.refused.Refused.TheVariants as refused;
 ghost use Rattle.mpy_base.specs.declared.source.SourceFault.{SourceFault as Fault};
 ghost use Rattle.py_tokens.specs.declared.token.Token.{Token};
+ghost use Rattle.py_tokens.specs.Tokens.{IsTokens};
 ghost use Rattle.py_tree.specs.declared.stmt.Module.{Module as Tree};
 ghost use Rattle.py_tree.specs.Formed.{IsFormed};
 ghost use Rattle.py_nest.specs.Nest.{Nests};
@@ -73,11 +74,13 @@ pub fn accepted_law()
         → IsAccepted level source accepted → IsFirstFault level source fault → ⊥ }
 {}
 
-/// Nothing is left out behind the tokens: each list of tokens has a tree or a fault, and each tree is faultless or has a
-/// first fault.
+/// Nothing is left out behind the tokens: each list of tokens has a tree or a fault, each tree is faultless or has a first
+/// fault, and so a source that has tokens is accepted or has a first fault.
 pub fn always_law()
     ensures tree { (list : List Token) → ((tree : Tree) × Nests list × IsTree list tree) ⊎ ((fault : Fault) × IsFault list fault) }
     ensures names { (tree : Tree) → IsFaultless tree ⊎ ((fault : Fault) × names.IsFirstFault tree fault) }
+    ensures source { (level : ℕ) (source : List ℕ) (list : List Token) → IsTokens level source list
+        → ((accepted : Found) × IsAccepted level source accepted) ⊎ ((fault : Fault) × IsFirstFault level source fault) }
 {}
 
 /// What a compiler may ask of an accepted source: its tree is formed, misuses no name and no word, and the slots are those
