@@ -3,6 +3,7 @@ pub mod BuiltinNames
 pub mod CallFamilies
 pub mod Callable
 pub mod DefaultSteps
+pub mod FamilyEffects
 pub mod FreeBuiltins
 pub mod FreeMethods
 pub mod FreeOutcomes
