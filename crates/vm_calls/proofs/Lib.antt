@@ -3,6 +3,10 @@ pub mod BuiltinNames
 pub mod CallFamilies
 pub mod Callable
 pub mod DefaultSteps
+pub mod FamilyEffects
+pub mod FreeBuiltins
+pub mod FreeMethods
+pub mod FreeOutcomes
 pub mod Judged
 pub mod KeywordSlots
 pub mod MethodNames

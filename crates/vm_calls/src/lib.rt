@@ -8,11 +8,15 @@ mod callees;
 mod calls;
 mod defaults;
 mod keywords;
+mod laws;
 mod methods;
 mod slots;
+mod visits;
 
 pub use binding::{Parameters, bind};
 pub use builtins::call_on_heap;
 pub use callees::{Callee, Function, callee_of};
 pub use calls::{CallStop, call_builtin};
+pub use laws::effects_law;
 pub use methods::call_method;
+pub use visits::{visits_call_builtin, visits_call_method};
