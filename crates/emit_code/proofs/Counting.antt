@@ -1,6 +1,5 @@
 -- The functions of each part have the numbers from its first one on, one behind another.
-use Rattle.std.proofs.Common.{◌≡◌, ℕ, suc, ◌+◌, Bool, true, false, ◌||◌, not, List, [], ◌∷◌, ◌++◌, append_assoc, length, length-append, map, Option, Some, None, is_some, refl, sym, ap, ap₂, subst, ◌∙◌, ◌⊎◌, inl, inr, arith}
-use Rattle.std.proofs.lemmas.List.{append-nil}
+use Rattle.std.proofs.Common.{◌≡◌, ℕ, suc, ◌+◌, Bool, true, false, List, [], ◌∷◌, ◌++◌, length, length-append, refl, sym, ap, ap₂, subst, ◌∙◌, arith}
 use Rattle.py_meaning.specs.Tree as tree
 use Rattle.py_meaning.specs.Tree.{Function, functions, functions_in, functions_of, functions_by}
 use Rattle.py_meaning.specs.Plain as plain

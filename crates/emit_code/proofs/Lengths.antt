@@ -1,5 +1,5 @@
 -- The wide length of a draft, line by line.
-use Rattle.std.proofs.Common.{◌≡◌, ◌≤◌, ◌<◌, ℕ, suc, ◌+◌, List, [], ◌∷◌, length, map, drop, get_or, sym, ap, ◌∙◌, arith, add-one}
+use Rattle.std.proofs.Common.{◌≡◌, ◌≤◌, ◌<◌, ℕ, suc, ◌+◌, List, ◌∷◌, length, map, drop, get_or, sym, ap, ◌∙◌, arith, add-one}
 use Rattle.std.specs.Prelude.{min}
 use Rattle.std.proofs.Math.Seq.{drop-cons}
 use Rattle.std.proofs.lemmas.List.{drop_all}

@@ -1,5 +1,5 @@
 -- Instructions of a draft, one behind another, and how they are read.
-use Rattle.std.proofs.Common.{◌≡◌, ◌<◌, ℕ, suc, ◌+◌, List, [], ◌∷◌, ◌++◌, length, map, take, get_or, Some, refl, sym, ap, ap₂, subst, ◌∙◌, arith}
+use Rattle.std.proofs.Common.{◌≡◌, ◌<◌, ℕ, suc, ◌+◌, List, [], ◌∷◌, ◌++◌, length, map, take, get_or, refl, sym, ap, ap₂, subst, ◌∙◌, arith}
 use Rattle.std.proofs.lemmas.List.{length-map, take_more}
 use Rattle.mpy_base.specs.Val.{Val, Str}
 use Rattle.mpy_tree.specs.declared.module.Item.{Item}
@@ -8,12 +8,12 @@ use Rattle.mpy_tree.specs.declared.module.Constant.TheOpen.{Constant-F}
 use Rattle.mpy_tree.specs.declared.module.Constant.TheFolds.{fold-roll-Constant}
 use Rattle.mpy_tree.specs.Values.{value_of, constant_step}
 use Rattle.mpy_tree.specs.Resolved.{Body, IsBodyOf, Resolved, ResolvedLine, instrs_of, line_numbers, resolved_item, lines_of}
-use Rattle.mpy_tree.specs.declared.module.Code.{Code, out-Code}
-use Rattle.bc_machine.specs.Library.{Line, item_of, line_of}
+use Rattle.mpy_tree.specs.declared.module.Code.{Code}
+use Rattle.bc_machine.specs.Library.{Line, line_of}
 use Rattle.emit_draft.specs.declared.draft.Draft.{Draft}
 use Rattle.emit_draft.specs.declared.draft.DraftLine.{DraftLine}
 use Rattle.emit_draft.specs.Draft.{Labels}
-use Rattle.emit_draft.specs.Emits.{item_at, line_at}
+use Rattle.emit_draft.specs.Emits.{line_at}
 use Rattle.emit_code.specs.declared.codes.CodeHead.{CodeHead}
 use Rattle.emit_code.specs.declared.codes.CodeLines.{CodeLines}
 use Rattle.emit_code.specs.Finished.{IsMade, AreMade, line_number, IsFinished, IsCodeOf, body_of}

@@ -1,5 +1,5 @@
 -- Each part of a formed tree counts its functions: by induction, from layer to layer.
-use Rattle.std.proofs.Common.{◌≡◌, ℕ, suc, ◌+◌, Bool, true, false, ◌||◌, not, List, [], ◌∷◌, ◌++◌, length, map, Option, Some, None, is_some, refl, sym, ap, ap₂, subst, ◌∙◌, ◌⊎◌, inl, inr, arith}
+use Rattle.std.proofs.Common.{◌≡◌, ℕ, suc, ◌+◌, Bool, true, false, ◌||◌, not, List, [], ◌∷◌, map, Option, Some, None, is_some, refl, sym, ap, subst, ◌∙◌, ◌⊎◌, inl, inr, arith}
 use Rattle.std.specs.Prelude.{◌&&◌, option_map}
 use Rattle.std.specs.List.{list_all}
 use Rattle.std.proofs.lemmas.List.Folds.{list_all-map}
@@ -19,7 +19,7 @@ use Rattle.py_meaning.specs.Tree.{Name, Function, functions, functions_in}
 use Rattle.py_meaning.specs.Plain as plain
 use Rattle.bc_translation.specs.Translation.{own, own_in}
 use Rattle.emit_code.specs.Children.{starts, sizes, sizes_in, AllCount}
-use Rattle.emit_code.proofs.Counting.{Counts, empty, joined, moved, recast, defined, BlockIs, StmtIs, BranchesAre, HandlersAre, BlockCounts, KindCounts, StmtCounts, BranchesCount, BranchCounts, HandlersCount, ClauseCounts, two_blocks, tried, tried_last}
+use Rattle.emit_code.proofs.Counting.{Counts, empty, joined, moved, recast, defined, StmtIs, BlockCounts, KindCounts, StmtCounts, BranchesCount, BranchCounts, HandlersCount, ClauseCounts, two_blocks, tried, tried_last}
 
 abbrev P : Type 0
 P = plain.Part tree.Stmt

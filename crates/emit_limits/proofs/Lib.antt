@@ -3,3 +3,4 @@ pub mod Rows
 pub mod Plains
 pub mod Stores
 pub mod Layers
+pub mod Limiting
