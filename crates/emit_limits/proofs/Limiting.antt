@@ -1,5 +1,5 @@
 -- A text without a fault keeps the limits.
-use Rattle.std.proofs.Common.{◌≡◌, ◌≤◌, ℕ, ◌+◌, Bool, true, false, length, Option, Some, None, refl, sym, ap, ◌∙◌, arith}
+use Rattle.std.proofs.Common.{◌≡◌, ◌≤◌, ℕ, ◌+◌, Bool, true, false, length, Some, None, refl, sym, arith}
 use Rattle.std.specs.Prelude.{max, min, ◌||◌, nat_lt, nat_le, if◌then◌else◌}
 use Rattle.std.proofs.lemmas.Bool.{ltb-false}
 use Rattle.mpy_base.specs.declared.source.SourceCode.{SourceCode}
@@ -7,7 +7,6 @@ use Rattle.mpy_base.specs.declared.source.SourceCode.TheVariants.{TooLong, State
 use Rattle.py_meaning.specs.Program.{Text}
 use Rattle.bc_translation.specs.Heights.{tall_block, held_in}
 use Rattle.emit_limits.specs.declared.faults.Measures.{Measures}
-use Rattle.emit_limits.specs.Limits.{saturated}
 use Rattle.emit_limits.specs.Faults.{is_big_state, fault_of, IsMeasured, IsWithin}
 use Rattle.emit_limits.proofs.Rows.{top}
 

@@ -1,5 +1,5 @@
 -- When the code of a text passes a limit.
-use Rattle.std.specs.Prelude.{◌≡◌, ◌≤◌, ℕ, ◌+◌, max, length, Bool, ◌||◌, nat_lt, nat_le, if◌then◌else◌, Option, Some, None}
+use Rattle.std.specs.Prelude.{◌≡◌, ◌≤◌, ◌+◌, max, length, Bool, ◌||◌, nat_lt, nat_le, if◌then◌else◌, Option, Some, None}
 use Rattle.mpy_base.specs.declared.source.SourceCode.{SourceCode}
 use Rattle.mpy_base.specs.declared.source.SourceCode.TheVariants.{TooLong, StateTooBig}
 use Rattle.py_meaning.specs.Program.{Text}

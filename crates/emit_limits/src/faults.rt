@@ -24,7 +24,7 @@ pub struct Measures {
     pub entries: usize,
     /// How many functions stand around it, itself among them: 0 for a module's own text.
     pub depth: usize,
-    /// A call in it has more than 255 arguments, or a display more than 4,096 items.
+    /// A call in it has more than 255 positional or keyword arguments, or a display more than 4,096 items.
     pub crowded: bool,
 }
 
