@@ -1,4 +1,4 @@
-use Rattle.std.proofs.Common.{◌≡◌, ℕ, length, sym, ap, ap₂, ◌∙◌}
+use Rattle.std.proofs.Common.{ℕ, length, sym, ap, ap₂, ◌∙◌}
 use Rattle.py_meaning.specs.Tree.{Block}
 use Rattle.bc_translation.specs.Heights.{tall_block, held_in}
 use Rattle.emit_limits.specs.Limits.{saturated}
