@@ -1,5 +1,5 @@
 -- Children of parts in a row.
-use Rattle.std.proofs.Common.{◌≡◌, ℕ, suc, ◌+◌, List, [], ◌∷◌, ◌++◌, length, refl, sym, ap, ◌∙◌, subst, arith}
+use Rattle.std.proofs.Common.{◌≡◌, ℕ, suc, ◌+◌, List, [], ◌∷◌, ◌++◌, length, subst, arith}
 use Rattle.bc_translation.specs.Context.{Context}
 use Rattle.emit_stmt.specs.Children.{Made, AreChildren, no_child, child}
 

@@ -1,5 +1,5 @@
 -- What each step of a statement's code keeps of a draft, and what stands in the code behind it.
-use Rattle.std.proofs.Common.{◌≡◌, ℕ, zero, suc, ◌+◌, ◌<◌, ◌≤◌, Bool, true, false, List, [], ◌∷◌, ◌++◌, length, map, Option, Some, None, refl, sym, ap, ◌∙◌, subst, arith, append_assoc, append-nil, length-append}
+use Rattle.std.proofs.Common.{◌≡◌, ℕ, suc, ◌≤◌, Bool, true, false, List, [], ◌∷◌, ◌++◌, length, map, Option, Some, None, refl, sym, ap, ◌∙◌, subst, arith, append_assoc, append-nil}
 use Rattle.std.specs.Prelude.{slice_get, ◌||◌}
 use Rattle.bc_machine.specs.Library.{Item, Line}
 use Rattle.bc_translation.specs.Context.{Context, Behind, line_in, line_before}
@@ -9,8 +9,8 @@ use Rattle.emit_draft.specs.declared.draft.DraftLine.{DraftLine}
 use Rattle.emit_draft.specs.declared.scope.Scope.{Scope}
 use Rattle.emit_draft.specs.Draft.{Labels, Adds, Binds}
 use Rattle.emit_draft.specs.Emits.{label_at, item_at, line_at, After, Grown, Emits, IsItem}
-use Rattle.emit_draft.proofs.Lists.{or_false, or_assoc, left_false, right_false, get_mapped, or_then}
-use Rattle.emit_draft.proofs.Steps.{grown_on, after_grown, one_longer, adds_grown, free_added, free_on}
+use Rattle.emit_draft.proofs.Lists.{or_false, left_false, right_false, get_mapped, or_then}
+use Rattle.emit_draft.proofs.Steps.{grown_on, after_grown, one_longer, free_added, free_on}
 use Rattle.emit_draft.proofs.Emits.{label_before, bind_after}
 use Rattle.emit_simple.specs.declared.jumps.Loop.{Loop}
 use Rattle.emit_simple.specs.Crowded.{passes_entries}

@@ -1,5 +1,5 @@
 -- The plain trees of statements with bodies, by those of their parts.
-use Rattle.std.proofs.Common.{◌≡◌, ℕ, suc, ◌+◌, ◌<◌, ◌≤◌, Bool, true, false, List, [], ◌∷◌, length, map, Option, Some, None, refl, sym, ap, ◌∙◌, subst, arith}
+use Rattle.std.proofs.Common.{◌≡◌, ℕ, ◌+◌, Bool, true, false, List, [], ◌∷◌, length, map, Option, Some, None, refl, sym, ap, ◌∙◌, subst, arith}
 use Rattle.std.specs.Prelude.{◌↔◌, IsTrue}
 use Rattle.py_tree.specs.declared.expr.Expr as trees
 use Rattle.py_tree.specs.declared.stmt.Branch.{Branch, out-Branch, roll-out-Branch}
@@ -13,7 +13,7 @@ use Rattle.py_tree.specs.declared.stmt.StmtKind.TheVariants as s
 use Rattle.py_tree.specs.declared.stmt.StmtKind.TheOpen.{StmtKind-F}
 use Rattle.py_tree.specs.declared.stmt.StmtKind.TheFolds.{fold-roll-Branch, fold-roll-Handler, fold-roll-Stmt}
 use Rattle.py_meaning.specs.Tree.{Name, Expr, Target, Targets, Stmt, If, Pass, ReturnNone, Return, Reraise, Raise, Assert, AssertWith, Finally, TryFinally, Block, End, Next, Branches, Else, Case, Handlers}
-use Rattle.py_meaning.specs.Plain.{Part, Clause, part, also, chain, block, plain_expr, plain_target, plain_stmt, targets, from_targets, augmented, on_option, defaults_of, numbered, handler_of, kind_step, branch_step, handler_step, stmt_step}
+use Rattle.py_meaning.specs.Plain.{Part, Clause, part, also, plain_expr, plain_target, plain_stmt, targets, from_targets, augmented, on_option, numbered, handler_of, kind_step, branch_step, handler_step, stmt_step}
 use Rattle.bc_translation.specs.Statements.{is_over}
 use Rattle.emit_simple.specs.Crowded.{crowded_simple}
 use Rattle.emit_simple.specs.Plain.{plain_kind, is_simple_layer, is_simple}

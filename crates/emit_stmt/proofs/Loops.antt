@@ -1,10 +1,10 @@
 -- The code of loops, from that of their parts.
-use Rattle.std.proofs.Common.{◌≡◌, ℕ, suc, ◌+◌, ◌<◌, ◌≤◌, Bool, true, false, ◌++◌, length, Some, None, refl, sym, ap, ◌∙◌, subst, arith, length-append}
-use Rattle.std.specs.Prelude.{slice_get, ◌||◌}
+use Rattle.std.proofs.Common.{◌≡◌, ℕ, suc, ◌+◌, ◌≤◌, Bool, true, false, ◌++◌, length, refl, sym, ap, ◌∙◌, subst, arith, length-append}
+use Rattle.std.specs.Prelude.{◌||◌}
 use Rattle.bc_ops.specs.declared.instr.Op.TheVariants as ops
 use Rattle.bc_ops.specs.declared.instr.Instr.TheVariants as instrs
 use Rattle.bc_machine.specs.Library.{Jumps}
-use Rattle.py_meaning.specs.Tree.{Expr, Target, Stmt, While, For, Block}
+use Rattle.py_meaning.specs.Tree.{Expr, Target, While, For, Block}
 use Rattle.py_meaning.specs.Plain.{Part, part, also}
 use Rattle.bc_translation.specs.Context.{Context, Has, Behind, plain}
 use Rattle.bc_translation.specs.Expressions.{StandsE}
@@ -13,7 +13,7 @@ use Rattle.bc_translation.specs.Statements.{Around, StandsT, StandsB, StandsS}
 use Rattle.emit_draft.specs.declared.draft.Draft.{Draft}
 use Rattle.emit_draft.specs.declared.draft.DraftItem.TheVariants as drafts
 use Rattle.emit_draft.specs.declared.scope.Scope.{Scope}
-use Rattle.emit_draft.specs.Draft.{Labels, Puts, Adds, Binds}
+use Rattle.emit_draft.specs.Draft.{Puts, Adds, Binds}
 use Rattle.emit_draft.specs.Emits.{label_at, Emits, IsPut, put}
 use Rattle.emit_draft.proofs.Steps.{free_added}
 use Rattle.emit_draft.proofs.Emits.{no_emits, put_emits, then_emits, put_after, label_after, bind_after, as_emits, size_emits}

@@ -1,5 +1,5 @@
 -- Statements, branches and clauses in a row: what stands so far, and what the rest will stand behind.
-use Rattle.std.proofs.Common.{◌≡◌, ℕ, suc, ◌+◌, ◌<◌, ◌≤◌, Bool, true, false, List, [], ◌∷◌, ◌++◌, length, Option, Some, None, refl, sym, ap, ◌∙◌, subst, arith, length-append}
+use Rattle.std.proofs.Common.{◌≡◌, ℕ, suc, ◌+◌, ◌≤◌, Bool, true, false, ◌++◌, length, Option, Some, None, refl, sym, ap, ◌∙◌, subst, arith, length-append}
 use Rattle.std.specs.Prelude.{◌||◌}
 use Rattle.bc_ops.specs.declared.instr.Op.TheVariants as ops
 use Rattle.bc_ops.specs.declared.instr.Instr.TheVariants as instrs
@@ -7,7 +7,7 @@ use Rattle.bc_machine.specs.Library.{Name, Jumps}
 use Rattle.py_tree.specs.declared.expr.Expr as trees
 use Rattle.py_meaning.specs.Tree.{Expr, Stmt, If, Block, End, Next, Branches, Else, Case, Handlers, NoHandler, Any}
 use Rattle.py_meaning.specs.Plain.{Part, part, also, plain_expr, handler_of}
-use Rattle.bc_translation.specs.Context.{Context, Has, Behind, plain}
+use Rattle.bc_translation.specs.Context.{Context, Has, plain}
 use Rattle.bc_translation.specs.Expressions.{StandsE}
 use Rattle.bc_translation.specs.Statements as stands
 use Rattle.bc_translation.specs.Statements.{Around, StandsS, StandsB, StandsI, StandsH, is_over}

@@ -1,6 +1,6 @@
 -- The code of a text, from that of its block.
-use Rattle.std.proofs.Common.{◌≡◌, ℕ, suc, ◌+◌, ◌<◌, ◌≤◌, Bool, true, false, List, [], ◌∷◌, ◌++◌, length, map, Some, None, refl, sym, ap, ◌∙◌, subst, arith, append-nil}
-use Rattle.std.specs.Prelude.{slice_get, ◌||◌}
+use Rattle.std.proofs.Common.{◌≡◌, ℕ, false, [], length, map, sym, ap, ◌∙◌, subst, append-nil}
+use Rattle.std.specs.Prelude.{◌||◌}
 use Rattle.std.proofs.lemmas.List.{length-map}
 use Rattle.bc_ops.specs.declared.instr.Op.TheVariants as ops
 use Rattle.bc_ops.specs.declared.instr.Instr.TheVariants as instrs
@@ -11,12 +11,10 @@ use Rattle.bc_translation.specs.Statements.{Around, StandsB}
 use Rattle.emit_draft.specs.declared.draft.Draft.{Draft}
 use Rattle.emit_draft.specs.declared.draft.DraftItem.TheVariants as drafts
 use Rattle.emit_draft.specs.declared.scope.Scope.{Scope}
-use Rattle.emit_draft.specs.Draft.{Labels, Adds, Binds}
-use Rattle.emit_draft.specs.Emits.{label_at, line_at, After, Emits}
+use Rattle.emit_draft.specs.Draft.{Adds, Binds}
+use Rattle.emit_draft.specs.Emits.{label_at, line_at, After}
 use Rattle.emit_draft.proofs.Lists.{or_false}
-use Rattle.emit_draft.proofs.Emits.{as_emits}
 use Rattle.emit_simple.specs.declared.jumps.Loop.{Loop}
-use Rattle.emit_simple.specs.Emits.{around_of}
 use Rattle.emit_stmt.specs.Children.{made, AreChildren}
 use Rattle.emit_stmt.specs.Crowded.{crowded_block}
 use Rattle.emit_stmt.specs.Steps.{PutsBehind, IsBehind, behind}

@@ -1,10 +1,10 @@
 -- The code of `try`, from that of its parts.
-use Rattle.std.proofs.Common.{◌≡◌, ℕ, suc, ◌+◌, ◌<◌, ◌≤◌, Bool, true, false, List, ◌++◌, length, Option, Some, None, refl, sym, ap, ◌∙◌, subst, arith, length-append}
+use Rattle.std.proofs.Common.{◌≡◌, ℕ, suc, ◌+◌, ◌≤◌, Bool, false, ◌++◌, length, Option, Some, None, sym, ap, ◌∙◌, subst, arith, length-append}
 use Rattle.std.specs.Prelude.{slice_get, ◌||◌}
 use Rattle.std.proofs.lemmas.Option.{slice_get_within}
 use Rattle.bc_ops.specs.declared.instr.Op.TheVariants as ops
 use Rattle.bc_ops.specs.declared.instr.Instr.TheVariants as instrs
-use Rattle.bc_machine.specs.Library.{Name, Item, Jumps}
+use Rattle.bc_machine.specs.Library.{Name, Jumps}
 use Rattle.py_tree.specs.declared.expr.Expr as trees
 use Rattle.py_meaning.specs.Tree.{Expr, Stmt, Try, Finally, TryFinally, Block, Handlers}
 use Rattle.py_meaning.specs.Plain.{Part, part, also, plain_expr, handler_of}

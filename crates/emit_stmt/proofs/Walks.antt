@@ -1,5 +1,5 @@
 -- One more statement, branch or clause of a list, and the last of them.
-use Rattle.std.proofs.Common.{◌≡◌, ℕ, suc, ◌+◌, ◌-◌, ◌<◌, ◌≤◌, Bool, true, false, List, [], ◌∷◌, length, drop, map, Option, Some, None, refl, sym, ap, ◌∙◌, subst, arith, length-drop}
+use Rattle.std.proofs.Common.{◌≡◌, ℕ, ◌+◌, ◌≤◌, Bool, true, List, [], ◌∷◌, length, drop, Option, Some, None, refl, sym, ap, ◌∙◌, subst, arith, length-drop}
 use Rattle.std.specs.Prelude.{◌↔◌, IsTrue, slice_get, Result, Ok, Err, IfOk}
 use Rattle.std.proofs.lemmas.List.{drop_all}
 use Rattle.bc_ops.specs.declared.instr.Op.TheVariants as ops
@@ -11,24 +11,24 @@ use Rattle.py_tree.specs.declared.stmt.Param.{Param}
 use Rattle.py_tree.specs.declared.stmt.Stmt as stmts
 use Rattle.py_tree.specs.declared.stmt.Stmt.{out-Stmt}
 use Rattle.py_tree.specs.declared.stmt.StmtKind.{StmtKind}
-use Rattle.py_meaning.specs.Tree.{Name, Exprs, count, Stmt, Def, Block, Next, Branches, Else, Case, Handlers}
-use Rattle.py_meaning.specs.Plain.{Part, Clause, part, also, plain_expr, plain_stmt, numbered, defaults_of, handler_of}
+use Rattle.py_meaning.specs.Tree.{Name, Exprs, count, Stmt, Block, Next, Branches, Else, Case, Handlers}
+use Rattle.py_meaning.specs.Plain.{Part, Clause, part, also, plain_expr, numbered, defaults_of, handler_of}
 use Rattle.bc_translation.specs.Context.{Context, IsChild}
 use Rattle.bc_translation.specs.Statements.{StandsS}
 use Rattle.emit_draft.specs.declared.draft.Draft.{Draft}
 use Rattle.emit_draft.specs.declared.draft.DraftItem.TheVariants as drafts
 use Rattle.emit_draft.specs.declared.scope.Scope.{Scope}
-use Rattle.emit_draft.specs.Draft.{Puts, Adds, Binds}
+use Rattle.emit_draft.specs.Draft.{Puts}
 use Rattle.emit_draft.proofs.Emits.{as_emits, size_emits}
 use Rattle.emit_simple.specs.declared.jumps.Loop.{Loop}
 use Rattle.emit_simple.specs.Plain.{plain_kind, is_simple}
 use Rattle.emit_simple.specs.Emits.{around_of, EmitsS, EmitsDef}
-use Rattle.emit_stmt.specs.Parts.{plain_block, plain_branch, plain_handler, plain_branches, plain_handlers, if_part}
-use Rattle.emit_stmt.specs.Children.{Made, made_in, AreChildren, child}
+use Rattle.emit_stmt.specs.Parts.{plain_block, plain_branches, plain_handlers}
+use Rattle.emit_stmt.specs.Children.{made_in, AreChildren, child}
 use Rattle.emit_stmt.specs.Steps.{PutsBehind, EmitsGone}
 use Rattle.emit_stmt.specs.Emits.{EmitsB, EmitsP, EmitsCase, EmitsH, EmitsClause, EmitsMatched}
 use Rattle.emit_stmt.proofs.Layers.{stmt_is, branch_is, handler_is, over_is, simple_plain}
-use Rattle.emit_stmt.proofs.Rows.{BuildsB, block_more, block_ended, BuildsI, branches_more, if_emits, BuildsH, handlers_more, handlers_ended, any_ended}
+use Rattle.emit_stmt.proofs.Rows.{BuildsB, block_more, block_ended, BuildsI, branches_more, BuildsH, handlers_more, handlers_ended, any_ended}
 
 -- ---- the same by another name
 

@@ -1,10 +1,9 @@
 -- Which code of statements stands between the ends of two drafts. A part of a source has its functions' numbers from any
 -- first one on, and the code's children from an index up to another are its own functions.
-use Rattle.std.specs.Prelude.{◌≡◌, ◌≤◌, ℕ, suc, ◌+◌, Bool, false, ◌||◌, List, length, Option, Some, None}
+use Rattle.std.specs.Prelude.{◌≡◌, ◌≤◌, ℕ, suc, ◌+◌, Bool, false, ◌||◌, length, Option, Some, None}
 use Rattle.py_tree.specs.declared.expr.Expr as trees
 use Rattle.py_meaning.specs.Tree.{Name, Expr, Stmt, Block, Branches, Case, Handlers}
 use Rattle.py_meaning.specs.Plain.{Part, plain_expr, handler_of}
-use Rattle.bc_translation.specs.Context.{Context}
 use Rattle.bc_translation.specs.Statements.{StandsS, StandsB, StandsI, StandsH, is_over}
 use Rattle.emit_draft.specs.declared.draft.Draft.{Draft}
 use Rattle.emit_draft.specs.declared.scope.Scope.{Scope}

@@ -1,5 +1,5 @@
 -- What stands behind a body, in clauses, and one entry more in a loop.
-use Rattle.std.specs.Prelude.{◌≡◌, ℕ, suc, Bool, false, ◌||◌, List, [], ◌∷◌, ◌++◌, Option, Some, None, length}
+use Rattle.std.specs.Prelude.{◌≡◌, ℕ, suc, false, ◌||◌, List, [], ◌∷◌, ◌++◌, Option, Some, None, length}
 use Rattle.bc_ops.specs.declared.instr.Op.TheVariants as ops
 use Rattle.bc_machine.specs.Library.{Name, Item, Jumps}
 use Rattle.py_meaning.specs.Tree.{Expr, Block}

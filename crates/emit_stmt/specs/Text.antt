@@ -1,5 +1,5 @@
 -- The whole code of a module or a function.
-use Rattle.std.specs.Prelude.{◌≡◌, ℕ, suc, ◌+◌, Bool, false, List, [], length, map, Some, slice_get}
+use Rattle.std.specs.Prelude.{◌≡◌, ℕ, suc, false, length, map}
 use Rattle.bc_ops.specs.declared.instr.Op.TheVariants as ops
 use Rattle.py_meaning.specs.Tree.{Block}
 use Rattle.py_meaning.specs.Plain.{Part}

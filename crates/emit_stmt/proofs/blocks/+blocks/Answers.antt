@@ -1,4 +1,4 @@
-use Rattle.std.proofs.Common.{◌+◌, ◌<◌, ◌≤◌, Some, None, refl, sym, ap, ◌∙◌, arith, rules}
+use Rattle.std.proofs.Common.{Some, refl, sym, ap, ◌∙◌, arith}
 use Rattle.py_tree.specs.declared.stmt.Branch.{out-Branch}
 use Rattle.py_tree.specs.declared.stmt.Handler.{out-Handler}
 use Rattle.py_tree.specs.declared.stmt.Stmt.{out-Stmt}
@@ -6,12 +6,12 @@ use Rattle.emit_expr.proofs.Rows.{drop_item, empty_slice, filled_slice}
 use Rattle.py_meaning.specs.Plain.{numbered}
 use Rattle.emit_simple.specs.Plain.{plain_kind}
 use Rattle.emit_simple.proofs.Plains.{simple_by}
-use Rattle.emit_stmt.specs.Parts.{plain_block, plain_handlers, if_part, while_part, for_part}
-use Rattle.emit_stmt.proofs.Layers.{if_is, while_is, for_is, try_is, finally_is, def_is, bare_is, handled_is}
+use Rattle.emit_stmt.specs.Parts.{plain_block, plain_handlers, if_part}
+use Rattle.emit_stmt.proofs.Layers.{if_is, def_is, bare_is, handled_is}
 use Rattle.emit_stmt.proofs.Loops.{while_top, while_emits, for_top, for_emits, loop_held}
-use Rattle.emit_stmt.proofs.Tries.{unnamed_emits, named_held, named_emits, clause_held, clause_emits, guard_held, guarded, try_held, try_emits, last_emits, last_free, finally_held, finally_emits, try_finally_emits}
+use Rattle.emit_stmt.proofs.Tries.{unnamed_emits, named_held, named_emits, clause_held, clause_emits, guard_held, guarded, try_held, try_emits, last_emits, finally_held, finally_emits, try_finally_emits}
 use Rattle.emit_stmt.proofs.Rows.{block_begun, branches_begun, branches_held, if_emits, case_held, case_emits, handlers_begun}
-use Rattle.emit_stmt.proofs.Walks.{on_if_ok, as_part, as_block, as_clause, as_matched, as_gone, none_of, same_defs, handlers_room, block_step, block_done, branches_step, branches_all, handlers_step, handlers_done, handlers_any, simple_emits, def_emits}
+use Rattle.emit_stmt.proofs.Walks.{on_if_ok, as_part, as_block, as_clause, as_matched, as_gone, none_of, same_defs, block_step, block_done, branches_step, branches_all, handlers_step, handlers_done, handlers_any, simple_emits, def_emits}
 use Rattle.emit_stmt.proofs.blocks.+blocks.Goals as goal
 
 -- ---- blocks

@@ -1,4 +1,3 @@
-use Rattle.std.proofs.Common.{refl, arith}
 use Rattle.emit_stmt.proofs.Texts.{text_held, text_emits}
 use Rattle.emit_stmt.proofs.text.emit_text.Goals as goal
 
