@@ -13,7 +13,7 @@ use emit_draft::{Draft, Scope};
 use emit_limits::{Measures, block_entries, block_height};
 use py_tree::Stmt;
 
-/// Counts a text, of which this is the draft, in so many functions around it.
+/// Counts a text, of which this is the draft, in `depth` functions around it.
 pub fn measure(
     level: u8,
     scope: &Scope,
