@@ -1,0 +1,4 @@
+pub mod Answered
+pub mod Apart
+mod Examples
+pub mod Slashes
