@@ -1,0 +1,24 @@
+use Rattle.std.proofs.Common.{◌≡◌, ℕ, suc, ◌<◌, Bool, true, false, not, length, drop, ap, ◌∙◌, if◌then◌else◌}
+use Rattle.bc_ops.specs.declared.instr.Op.TheVariants as ops
+use Rattle.bc_offsets.specs.Positions.{position_in}
+use Rattle.vm_frames.specs.Calls.{Call}
+use Rattle.vm_moves.specs.Views.{slots_of, starts_of, position_of, frame_of}
+use Rattle.bc_machine.specs.Library.{Jumps}
+use Rattle.vm_step.specs.Shown.{view_of, HasTruth}
+use Rattle.vm_step.specs.Stacks.{gone, set_up}
+use Rattle.vm_step.proofs.Stepping.{both, goes_to, goes_with, steps_by}
+use Rattle.vm_step.proofs.Changing.{setting_up, dropping_entry}
+use Rattle.vm_step.proofs.Testing as testing
+use Rattle.vm_step.proofs.handling.setup_finally.Goals as goal
+
+pub returns-clause-steps : goal.returns-clause-steps
+returns-clause-steps c tables w position at next =
+    let view = view_of tables in
+    let A : Call → Type 0 = λ (d : Call). position_in (starts_of view d) c.args.handler ≡ position in
+    let N : Call → Type 0 = λ (d : Call). position_in (starts_of view d) c.args.end ≡ suc (position_of view d) in
+    steps_by tables w (Jumps ops.SetupFinally position) (λ d. set_up c.args.handler true c.args.end d) (λ d. A d × N d)
+    (λ library place paid d frames h. testing.sets_up view d position c.args.handler c.args.end true frames w h.0 h.1)
+    c.args.frames.now c.set_offset.new.self (setting_up c.args.handler true c.args.end c.args.frames.now c.setup.new.self c.set_offset.new.self c.setup.ensures c.set_offset.ensures) (both A N c.args.frames.now.calls at next)
+
+pub returns-clause-moved : goal.returns-clause-moved
+returns-clause-moved c = setting_up c.args.handler true c.args.end c.args.frames.now c.setup.new.self c.set_offset.new.self c.setup.ensures c.set_offset.ensures

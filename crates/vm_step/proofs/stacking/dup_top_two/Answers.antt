@@ -1,0 +1,21 @@
+use Rattle.std.proofs.Common.{◌<◌, length, drop}
+use Rattle.bc_ops.specs.declared.instr.Op.TheVariants as ops
+use Rattle.bc_ops.specs.declared.instr.Instr.TheVariants as instrs
+use Rattle.bc_machine.specs.Library.{Plain}
+use Rattle.vm_moves.specs.Views.{starts_of, frame_of}
+use Rattle.vm_step.specs.Shown.{view_of}
+use Rattle.vm_step.specs.Stacks.{doubled, doubled_two, turned_two, turned_three}
+use Rattle.vm_step.proofs.Stepping.{turns}
+use Rattle.vm_step.proofs.Changing.{doubling, doubling_two, turning_two, turning_three}
+use Rattle.vm_step.proofs.Turning as turning
+use Rattle.vm_step.proofs.stacking.dup_top_two.Goals as goal
+
+pub returns-clause-moved : goal.returns-clause-moved
+returns-clause-moved c = doubling_two c.args.end c.slot-top.result c.slot-second.result c.args.frames.now c.push.new.self c.go_with.new.frames c.slot-top.ensures c.slot-second.ensures c.push.ensures c.go_with.ensures
+
+pub returns-clause-steps : goal.returns-clause-steps
+returns-clause-steps c tables w next =
+    let view = view_of tables in
+    turns tables w (Plain (instrs.Plain ops.DupTopTwo)) doubled_two (λ d. 1 < length d.slots) c.args.end
+    (λ library place paid d frames h. turning.dup_top_two view (starts_of view d) library place paid (frame_of view d) frames w d.slots h)
+    c.args.frames.now c.go_with.new.frames (doubling_two c.args.end c.slot-top.result c.slot-second.result c.args.frames.now c.push.new.self c.go_with.new.frames c.slot-top.ensures c.slot-second.ensures c.push.ensures c.go_with.ensures) c.requires.there next
