@@ -1,10 +1,9 @@
 -- Changes of the running call, one after the other.
-use Rattle.std.proofs.Common.{◌≡◌, ℕ, suc, ◌<◌, List, [], ◌∷◌, length, drop, Bool, None, Some, slice_get, slice_set, refl, sym, ap, ◌∙◌, subst, arith}
-use Rattle.std.proofs.lemmas.List.{length-set}
+use Rattle.std.proofs.Common.{◌≡◌, ℕ, ◌<◌, List, [], ◌∷◌, length, drop, Bool, None, Some, slice_get, slice_set, refl, sym, ap, ◌∙◌, subst, arith}
 use Rattle.vm_frames.specs.declared.slot.Slot.{Slot}
 use Rattle.vm_frames.specs.Calls.{Call, Calls, OfRunning, change_first, on_running}
 use Rattle.vm_step.specs.Stacks.{gone, set_up, doubled, doubled_two, turned_two, turned_three}
-use Rattle.vm_step.proofs.Stepping.{both, weaker}
+use Rattle.vm_step.proofs.Stepping.{both}
 use Rattle.vm_step.proofs.Turning.{doubled_is, doubled_two_is, turned_two_is, turned_three_is}
 
 twice : (f g : Call → Call) (cs : List Call) → change_first g (change_first f cs) ≡ change_first (λ c. g (f c)) cs

@@ -6,7 +6,7 @@ use Rattle.bc_ops.specs.declared.instr.Op.TheVariants as ops
 use Rattle.arena_heap.specs.declared.value.Value.{Value}
 use Rattle.vm_frames.specs.declared.slot.Slot.{Slot}
 use Rattle.vm_frames.specs.declared.slot.Slot.TheVariants as slots
-use Rattle.vm_frames.specs.Calls.{Call, Calls, OfRunning, on_running}
+use Rattle.vm_frames.specs.Calls.{Call, Calls, on_running}
 use Rattle.vm_moves.specs.Views.{View, slots_of}
 use Rattle.bc_machine.specs.Library.{Library}
 use Rattle.bc_machine.specs.State as states

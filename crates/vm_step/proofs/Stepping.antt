@@ -1,5 +1,5 @@
 -- A step of the machine on calls whose running one goes on.
-use Rattle.std.proofs.Common.{◌≡◌, ℕ, suc, ◌<◌, List, [], ◌∷◌, map, refl, sym, ap, ◌∙◌}
+use Rattle.std.proofs.Common.{◌≡◌, ℕ, suc, List, [], ◌∷◌, map, refl, sym, ap, ◌∙◌}
 use Rattle.mpy_base.specs.Val.{PlainWorld}
 use Rattle.py_effects.specs.Effect.{Place}
 use Rattle.vm_frames.specs.declared.slot.Slot.{Slot}
@@ -11,7 +11,7 @@ use Rattle.bc_machine.specs.Library.{Item, Library}
 use Rattle.bc_machine.specs.State as states
 use Rattle.bc_machine.specs.State.{Running, remark, go}
 use Rattle.bc_machine.specs.Step.{item_step}
-use Rattle.vm_step.specs.Shown.{Tables, view_of, running_of, step_of, Steps, IsAt, IsNext}
+use Rattle.vm_step.specs.Shown.{Tables, view_of, running_of, Steps, IsNext}
 use Rattle.vm_step.specs.Stacks.{gone}
 
 pub both : (P Q : Call → Type 0) (cs : List Call) → OfRunning P cs → OfRunning Q cs → OfRunning (λ c. P c × Q c) cs

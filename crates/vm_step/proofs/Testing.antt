@@ -17,7 +17,7 @@ use Rattle.vm_moves.specs.Views.{View, slots_of, locals_of, entries_of, starts_o
 use Rattle.bc_machine.specs.Library.{Library}
 use Rattle.bc_machine.specs.State as states
 use Rattle.bc_machine.specs.State.{State, Running, go}
-use Rattle.bc_machine.specs.Step.{jump_step, number_step, pop_except}
+use Rattle.bc_machine.specs.Step.{jump_step, pop_except}
 use Rattle.vm_step.specs.Stacks.{gone, entry_over}
 use Rattle.vm_step.proofs.Stepping.{goes_with, goes_to}
 

@@ -1,5 +1,5 @@
 -- Slots that move: what frames do, and what the machine does.
-use Rattle.std.proofs.Common.{◌≡◌, ℕ, zero, suc, ◌+◌, ◌<◌, List, [], ◌∷◌, length, drop, Option, Some, None, slice_get, slice_set, refl, sym, ap, ◌∙◌, arith}
+use Rattle.std.proofs.Common.{◌≡◌, ℕ, suc, ◌<◌, List, [], ◌∷◌, length, drop, Some, slice_get, slice_set, refl, sym, ap, ◌∙◌, arith}
 use Rattle.std.proofs.lemmas.Option.{none-some, same_Some}
 use Rattle.mpy_base.specs.Val.{PlainWorld}
 use Rattle.py_effects.specs.Effect.{Place}

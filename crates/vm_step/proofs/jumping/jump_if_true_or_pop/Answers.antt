@@ -1,12 +1,12 @@
-use Rattle.std.proofs.Common.{◌≡◌, ℕ, suc, ◌<◌, Bool, true, false, not, length, drop, ap, ◌∙◌, if◌then◌else◌}
+use Rattle.std.proofs.Common.{◌≡◌, suc, drop, ◌∙◌, if◌then◌else◌}
 use Rattle.bc_ops.specs.declared.instr.Op.TheVariants as ops
 use Rattle.bc_offsets.specs.Positions.{position_in}
 use Rattle.vm_frames.specs.Calls.{Call}
-use Rattle.vm_moves.specs.Views.{slots_of, starts_of, position_of, frame_of}
+use Rattle.vm_moves.specs.Views.{starts_of, position_of, frame_of}
 use Rattle.bc_machine.specs.Library.{Jumps}
 use Rattle.vm_step.specs.Shown.{view_of, HasTruth}
-use Rattle.vm_step.specs.Stacks.{gone, entry_over}
-use Rattle.vm_step.proofs.Stepping.{both, goes_to, goes_with, steps_by}
+use Rattle.vm_step.specs.Stacks.{gone}
+use Rattle.vm_step.proofs.Stepping.{both, steps_by}
 use Rattle.vm_step.proofs.Testing as testing
 use Rattle.vm_step.proofs.jumping.jump_if_true_or_pop.Goals as goal
 

@@ -1,4 +1,4 @@
-use Rattle.std.proofs.Common.{◌≡◌, ℤ, ◌∷◌, refl, ap, ◌∙◌}
+use Rattle.std.proofs.Common.{ℤ, ◌∷◌, refl, ap, ◌∙◌}
 use Rattle.std.proofs.lemmas.Int.{to_z-of_z}
 use Rattle.arena_heap.specs.declared.value.Value.TheVariants as values
 use Rattle.bc_ops.specs.declared.instr.Instr.TheVariants as instrs

@@ -2,10 +2,9 @@ use Rattle.std.proofs.Common.{refl}
 use Rattle.arena_heap.specs.declared.value.Value.TheVariants as values
 use Rattle.bc_ops.specs.declared.instr.Op.TheVariants as ops
 use Rattle.bc_ops.specs.declared.instr.Instr.TheVariants as instrs
-use Rattle.std.specs.Prelude.{true, false}
-use Rattle.bc_machine.specs.Library.{Plain, Names, Loads}
+use Rattle.std.specs.Prelude.{true}
+use Rattle.bc_machine.specs.Library.{Plain}
 use Rattle.vm_frames.specs.declared.slot.Slot.TheVariants as slots
-use Rattle.vm_step.specs.Shown.{text_of, value_of}
 use Rattle.vm_step.proofs.Stepping.{puts}
 use Rattle.vm_step.proofs.loading.load_true.Goals as goal
 

@@ -1,12 +1,12 @@
-use Rattle.std.proofs.Common.{◌<◌, length, drop}
+use Rattle.std.proofs.Common.{◌<◌, length}
 use Rattle.bc_ops.specs.declared.instr.Op.TheVariants as ops
 use Rattle.bc_ops.specs.declared.instr.Instr.TheVariants as instrs
 use Rattle.bc_machine.specs.Library.{Plain}
 use Rattle.vm_moves.specs.Views.{starts_of, frame_of}
 use Rattle.vm_step.specs.Shown.{view_of}
-use Rattle.vm_step.specs.Stacks.{doubled, doubled_two, turned_two, turned_three}
+use Rattle.vm_step.specs.Stacks.{turned_three}
 use Rattle.vm_step.proofs.Stepping.{turns}
-use Rattle.vm_step.proofs.Changing.{doubling, doubling_two, turning_two, turning_three}
+use Rattle.vm_step.proofs.Changing.{turning_three}
 use Rattle.vm_step.proofs.Turning as turning
 use Rattle.vm_step.proofs.stacking.rot_three.Goals as goal
 
