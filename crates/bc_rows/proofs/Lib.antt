@@ -1,0 +1,6 @@
+mod Indexes
+mod Locals
+mod Numbering
+mod Preludes
+mod Runs
+mod Tables

@@ -1,0 +1,4 @@
+pub mod Codes
+pub mod Made
+pub mod Rows
+pub mod Runs
