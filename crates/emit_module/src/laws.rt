@@ -1,0 +1,25 @@
+//! The code of a text is its translation.
+
+ghost use Rattle.std.specs.Prelude.{ℕ, List};
+ghost use Rattle.py_meaning.specs.Program.{Text};
+ghost use Rattle.bc_machine.specs.Library.{Code, code_of as machine_code};
+ghost use Rattle.bc_translation.specs.Translation.{StandsCode};
+ghost use Rattle.emit_draft.specs.declared.draft.Draft.{Draft};
+ghost use Rattle.emit_draft.specs.declared.scope.Scope.{Scope};
+ghost use Rattle.emit_code.specs.declared.codes.CodeHead.{CodeHead};
+ghost use Rattle.emit_code.specs.declared.codes.CodeLines.{CodeLines};
+ghost use Rattle.emit_code.specs.Finished.{body_of};
+ghost use Rattle.emit_module.specs.Own.{IsWritten, IsJoined};
+
+use emit_code::tree_law;
+use emit_stmt::children_law;
+
+/// The finished code of a text's draft stands for the text among all codes of its module, where its children are the
+/// codes of the text's own functions.
+pub fn stands_law()
+    ensures { (codes : List Code) (text : Text) (draft : Draft) (scope : Scope) (head : CodeHead) (lines : CodeLines) (children : List ℕ) → IsWritten text draft scope head lines
+        → IsJoined codes text (machine_code (body_of head lines) children) → StandsCode codes scope.is_module text (machine_code (body_of head lines) children) }
+{
+    children_law();
+    tree_law();
+}

@@ -1,0 +1,8 @@
+//! The codes of a source's texts.
+#![tactic(auto)]
+
+mod laws;
+mod own;
+
+pub use laws::stands_law;
+pub use own::{OwnCode, Place, own_code};

@@ -1,0 +1,98 @@
+//! What is counted of a text, and its own code or its fault.
+
+ghost use Rattle.std.specs.Prelude.{◌≡◌, ◌+◌, max, None, IfOk, IfErr};
+ghost use Rattle.py_meaning.specs.Program.{Text as TextOf};
+ghost use Rattle.emit_limits.specs.Faults.{fault_of};
+ghost use Rattle.emit_code.specs.Finished.{AreSmall, IsFinished};
+ghost use Rattle.emit_module.specs.Own.{IsTextOf, IsCounted, IsOwn, IsRefused};
+
+use emit_code::{CodeLines, finish, wide_length};
+use emit_draft::{Draft, Scope};
+use emit_limits::{Measures, block_entries, block_height, within_law};
+use mpy_base::{Refused, SourceFault, Text};
+use py_tree::Stmt;
+use std::alloc::Global;
+
+/// Where a text stands.
+#[derive(Drop)]
+pub struct Place {
+    /// The level of its source.
+    pub level: u8,
+    /// The line of its `def`; 1 for a module's own.
+    pub line: u32,
+    /// How many functions stand around it, itself among them: 0 for a module's own.
+    pub depth: usize,
+    /// How many parameters it has.
+    pub params: usize,
+}
+
+/// The instructions of a text with their lines, and what they need.
+#[derive(Drop)]
+pub struct OwnCode {
+    /// The slots for locals and the stack.
+    pub n_state: u32,
+    /// The handler entries.
+    pub n_exc: u32,
+    pub lines: CodeLines,
+}
+
+fn measures(place: &Place, scope: &Scope, body: &[Stmt], draft: &Draft) -> Measures
+    ensures { (text : TextOf) → IsTextOf place.now scope.now body.now text → IsCounted place.now draft.now text result }
+{
+    Measures {
+        length: wide_length(draft),
+        locals: scope.locals.len(),
+        params: place.params,
+        height: block_height(place.level, body),
+        entries: block_entries(body),
+        depth: place.depth,
+        crowded: draft.crowded,
+    }
+}
+
+/// The slots of a text without a fault.
+fn slots(measures: &Measures) -> u32
+    requires { fault_of measures.now ≡ None }
+    ensures { result ≡ measures.now.locals + max 1 measures.now.height }
+{
+    (measures.locals + measures.height.max(1)) as u32
+}
+
+/// Its handler entries.
+fn entries(measures: &Measures) -> u32
+    requires { fault_of measures.now ≡ None }
+    ensures { result ≡ measures.now.entries }
+{
+    measures.entries as u32
+}
+
+/// The own code of a text, by its draft. The text is refused where it passes a limit. It takes two walks over the
+/// statements, and one over the draft.
+pub fn own_code(
+    alloc: Global,
+    place: &Place,
+    scope: &Scope,
+    body: &[Stmt],
+    draft: &Draft,
+) -> Result<OwnCode, Refused<SourceFault>>
+    requires { AreSmall draft.now.labels.items }
+    ensures lines { IfOk result (λ code. IsFinished draft.now code.lines) }
+    ensures within { IfOk result (λ code. (text : TextOf) → IsTextOf place.now scope.now body.now text → IsOwn place.now draft.now text code) }
+    ensures refused { IfErr result (λ refused. (text : TextOf) → IsTextOf place.now scope.now body.now text → IsRefused place.now draft.now text refused) }
+{
+    within_law();
+    let measures = measures(place, scope, body, draft);
+    if let Some(code) = measures.fault() {
+        return Err(Refused::Fault(SourceFault {
+            code,
+            line: place.line,
+            word: Text::empty(alloc),
+        }));
+    }
+    let lines = finish(alloc, draft)?;
+    Ok(OwnCode {
+        n_state: slots(&measures),
+        n_exc: entries(&measures),
+        lines,
+    })
+}
