@@ -1,14 +1,18 @@
 //! The code of a text is its translation.
 
-ghost use Rattle.std.specs.Prelude.{ℕ, List};
+ghost use Rattle.std.specs.Prelude.{◌≡◌, ℕ, List, Some, slice_get};
+ghost use Rattle.py_meaning.specs.Tree.{Block, functions};
 ghost use Rattle.py_meaning.specs.Program.{Text};
 ghost use Rattle.bc_machine.specs.Library.{Code, code_of as machine_code};
-ghost use Rattle.bc_translation.specs.Translation.{StandsCode};
+ghost use Rattle.bc_translation.specs.Translation.{own, StandsCode};
 ghost use Rattle.emit_draft.specs.declared.draft.Draft.{Draft};
 ghost use Rattle.emit_draft.specs.declared.scope.Scope.{Scope};
 ghost use Rattle.emit_code.specs.declared.codes.CodeHead.{CodeHead};
 ghost use Rattle.emit_code.specs.declared.codes.CodeLines.{CodeLines};
 ghost use Rattle.emit_code.specs.Finished.{body_of};
+ghost use Rattle.emit_code.specs.Children.{starts, sizes};
+ghost use Rattle.emit_stmt.specs.Children.{Made, made};
+ghost use Rattle.emit_module.specs.Found.{IsDefined, AllBegin};
 ghost use Rattle.emit_module.specs.Own.{IsWritten, IsJoined};
 
 use emit_code::tree_law;
@@ -22,4 +26,13 @@ pub fn stands_law()
 {
     children_law();
     tree_law();
+}
+
+/// A function that a text defines itself stands by its number among all functions of the text, and behind each function
+/// stand first those in it.
+pub fn functions_law()
+    ensures own { (n : ℕ) (text : Block) → own text ≡ starts n (sizes text) → (i : ℕ) (function : Made) → slice_get (made text) i ≡ Some function → IsDefined (functions text) n function }
+    ensures inner { (text : Block) → AllBegin (functions text) }
+{
+    children_law();
 }

@@ -4,5 +4,5 @@
 mod laws;
 mod own;
 
-pub use laws::stands_law;
+pub use laws::{functions_law, stands_law};
 pub use own::{OwnCode, Place, own_code};
