@@ -29,6 +29,3 @@ pub use value::{
     ConstNo, DictNo, ExcNo, FunNo, ListNo, MethodNo, ModuleNo, RangeNo, StrNo, TextNo, TupleNo,
     Value,
 };
-
-#[cfg(test)]
-mod tests;

@@ -17,6 +17,3 @@ pub use dicts::{dict_delete, dict_get, dict_set};
 pub use extend::{item_at, item_count, list_extend, make_byte, make_texts};
 pub use ranges::{range_count, range_number};
 pub use strs::text_bytes;
-
-#[cfg(test)]
-mod tests;

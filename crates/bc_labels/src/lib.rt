@@ -9,6 +9,3 @@ mod widths;
 
 pub use bytes::{layout, layout_law};
 pub use labelled::{Labelled, LayoutFault};
-
-#[cfg(test)]
-mod tests;

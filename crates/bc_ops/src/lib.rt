@@ -16,6 +16,3 @@ pub use instr::{Instr, Op};
 pub use listing::{Item, Target, listing_law};
 pub use offset::offset_fits;
 pub use parting::{Listed, items_of};
-
-#[cfg(test)]
-mod tests;

@@ -15,6 +15,3 @@ pub use names::{names_law, read_name_at, read_names};
 pub use prelude::{Prelude, prelude_law, read_prelude, write_prelude};
 pub use signature::{Signature, read_signature, signature_law, write_signature};
 pub use size::{read_size, size_law, write_size};
-
-#[cfg(test)]
-mod tests;

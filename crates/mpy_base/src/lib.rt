@@ -22,6 +22,3 @@ pub use room::{NoRoom, Room, room_for, room_law};
 pub use source::{SourceCode, SourceFault};
 pub use text::Text;
 pub use vuint::{VuintFault, read_vuint, vuint_law, write_vuint};
-
-#[cfg(test)]
-mod tests;

@@ -26,6 +26,3 @@ pub use out_sink::OutSink;
 pub use port::Port;
 pub use script_port::ScriptPort;
 pub use sink::Sink;
-
-#[cfg(test)]
-mod tests;

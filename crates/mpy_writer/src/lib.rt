@@ -15,6 +15,3 @@ mod widths;
 
 pub use fault::WriteFault;
 pub use file::{write, write_law};
-
-#[cfg(test)]
-mod tests;

@@ -8,6 +8,3 @@ mod set;
 pub use fault::PortFault;
 pub use laws::{get_law, put_law};
 pub use set::PortSet;
-
-#[cfg(test)]
-mod tests;

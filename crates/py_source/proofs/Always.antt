@@ -18,6 +18,7 @@ use Rattle.py_parser.specs.Parsed.{fault_of, IsFault}
 use Rattle.py_parser.proofs.Whole.{read_tree}
 use Rattle.py_parser.proofs.Parses.{syntax_owed}
 use Rattle.py_tokens.specs.Tokens.{IsTokens}
+use Rattle.py_tokens.proofs.Always.{always}
 use Rattle.py_source.specs.declared.source.Accepted.{Accepted}
 use Rattle.py_source.specs.Source as spec
 use Rattle.py_source.specs.Source.{IsAccepted}
@@ -147,3 +148,10 @@ tokened level source list are (inr fault) = inr (fault.0, inr (inl (record { lis
 -- a source that has tokens is accepted or has a first fault
 pub read_from : (level : ℕ) (source : List ℕ) (list : List Token) → IsTokens level source list → Read level source
 read_from level source list are = tokened level source list are (parsed list)
+
+-- a source is accepted or has a first fault
+pub read : (level : ℕ) (source : List ℕ) → Read level source
+read level source = elim (always level source) [
+  | inl found ↦ read_from level source found.0 found.1
+  | inr fault ↦ inr (fault.0, inl fault.1)
+]

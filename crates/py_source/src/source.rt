@@ -72,6 +72,8 @@ pub fn accepted_law()
         → IsFirstFault level source second → first ≡ second }
     ensures not_both { (level : ℕ) (source : List ℕ) (accepted : Found) (fault : Fault)
         → IsAccepted level source accepted → IsFirstFault level source fault → ⊥ }
+    ensures always { (level : ℕ) (source : List ℕ)
+        → ((accepted : Found) × IsAccepted level source accepted) ⊎ ((fault : Fault) × IsFirstFault level source fault) }
 {}
 
 /// Nothing is left out behind the tokens: each list of tokens has a tree or a fault, each tree is faultless or has a first

@@ -17,3 +17,11 @@ pub mod Values
 pub mod Words
 pub mod Formed
 pub mod Fewer
+pub mod Decided
+pub mod Runs
+pub mod Numerals
+pub mod Recognized
+pub mod Escaped
+pub mod Quoted
+pub mod Answered
+pub mod Always

@@ -77,7 +77,7 @@ pub fn tokens(alloc: Global, source: &[u8], opt: u8) -> Result<Vec<Token>, Refus
     read(alloc, source, opt)
 }
 
-/// A source has one list of tokens at most, or one first fault, and never both.
+/// A source has one list of tokens or one first fault, and never both.
 pub fn tokens_law()
     ensures one_list { (opt : ℕ) (source : List ℕ) (first second : List Token)
         → IsTokens opt source first → IsTokens opt source second → first ≡ second }
@@ -85,6 +85,8 @@ pub fn tokens_law()
         → IsFirstFault opt source first → IsFirstFault opt source second → first ≡ second }
     ensures apart { (opt : ℕ) (source : List ℕ) (list : List Token) (fault : SourceFault)
         → IsTokens opt source list → ¬ IsFirstFault opt source fault }
+    ensures always { (opt : ℕ) (source : List ℕ)
+        → ((list : List Token) × IsTokens opt source list) ⊎ ((fault : SourceFault) × IsFirstFault opt source fault) }
 
     // The tokens of a source are formed, and an End is the last of them.
     ensures formed { (opt : ℕ) (source : List ℕ) (list : List Token) → IsTokens opt source list → AreFormed list }

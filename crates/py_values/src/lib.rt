@@ -13,6 +13,3 @@ pub use bits::bits_law;
 pub use division::division_law;
 pub use laws::{equality_law, keys_law};
 pub use small_int::{NumFault, SmallInt};
-
-#[cfg(test)]
-mod tests;

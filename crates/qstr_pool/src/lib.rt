@@ -6,6 +6,3 @@ mod table;
 
 pub use pool::{Full, Pool, pool_law};
 pub use table::{FIRST_OWN, STATIC_COUNT, static_law, static_number, static_text};
-
-#[cfg(test)]
-mod tests;

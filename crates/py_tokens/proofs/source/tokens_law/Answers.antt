@@ -1,4 +1,5 @@
 use Rattle.py_tokens.proofs.Readings.{one_list, one_fault, apart}
+use Rattle.py_tokens.proofs.Always.{always}
 use Rattle.py_tokens.proofs.Formed.{tokens_ended}
 use Rattle.py_tokens.proofs.Fewer.{sources_formed}
 use Rattle.py_tokens.proofs.source.tokens_law.Goals as goal
@@ -17,3 +18,6 @@ returns-clause-formed c = sources_formed
 
 pub returns-clause-ends : goal.returns-clause-ends
 returns-clause-ends c = tokens_ended
+
+pub returns-clause-always : goal.returns-clause-always
+returns-clause-always c = always

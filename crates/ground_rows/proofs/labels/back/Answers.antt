@@ -1,0 +1,26 @@
+use Rattle.std.proofs.Common.{◌≡◌, ℕ, List, [], ◌∷◌, ◌++◌, All, refl, eq-eqb}
+use Rattle.std.proofs.lemmas.List.Elements.{All-nil, All-cons}
+use Rattle.bc_ops.specs.declared.instr.Op.TheVariants as ops
+use Rattle.bc_ops.specs.Table.{form_of, jump_form}
+use Rattle.bc_labels.specs.declared.labelled.Labelled.{Labelled}
+use Rattle.bc_labels.specs.declared.labelled.Labelled.TheVariants.{At, Jump}
+use Rattle.bc_labels.specs.Labels.{IsSound, StandsOnce}
+use Rattle.mpy_rows.proofs.labels.back.Goals as goal
+
+abbrev whole : ℕ → List Labelled
+whole label = At label ∷ Jump ops.ForIter label ∷ []
+
+once : (label : ℕ) → StandsOnce (whole label) label
+once label = rw (eq-eqb label label refl) refl
+
+sound : (label : ℕ) → All (IsSound (whole label)) (whole label)
+unfolding form_of jump_form
+sound label =
+    let P = IsSound (whole label) in
+    All-cons P (At label) (Jump ops.ForIter label ∷ []) tt (All-cons P (Jump ops.ForIter label) [] (refl, once label) (All-nil P))
+
+pushed : (a b c : List Labelled) (label : ℕ) → a ≡ [] → b ≡ a ++ At label ∷ [] → c ≡ b ++ Jump ops.ForIter label ∷ [] → All (IsSound c) c
+pushed a b c label ea eb ec = rw (ec, eb, ea) (sound label)
+
+pub returns : goal.returns
+returns c = pushed _ _ _ c.args.label c.new-items.ensures.items c.in_ok-push.ensures.items c.in_ok-push-2.ensures.items
