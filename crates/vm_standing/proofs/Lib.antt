@@ -1,0 +1,5 @@
+mod Bounds
+mod Flow
+mod Items
+mod Onward
+mod Tops
