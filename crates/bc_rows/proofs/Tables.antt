@@ -1,5 +1,5 @@
 -- The tables of a library, module after module and text after text.
-use Rattle.std.proofs.Common.{◌≡◌, ℕ, zero, suc, ◌-◌, ◌≤◌, Bool, true, false, List, [], ◌∷◌, ◌++◌, length, Option, Some, None, refl, sym, ap, subst, ◌∙◌, arith, position, Bor, option_copied}
+use Rattle.std.proofs.Common.{◌≡◌, ℕ, zero, suc, ◌+◌, ◌-◌, ◌<◌, ◌≤◌, ◌^◌, Bool, true, false, List, [], ◌∷◌, ◌++◌, length, Option, Some, None, refl, sym, ap, subst, ◌∙◌, arith, position, Bor, option_copied}
 use Rattle.std.specs.Prelude.{IfSome, IfNone, slice_get, option_and_then, nat_lt, if◌then◌else◌}
 use Rattle.std.specs.List.{list_any}
 use Rattle.std.specs.Str.{bytes_eq}
@@ -9,6 +9,8 @@ use Rattle.qstr_pool.specs.Pool.{Texts, text_of}
 use Rattle.qstr_pool.specs.Static.{static_text_of}
 use Rattle.mpy_tree.specs.Raw.{Module}
 use Rattle.mpy_tree.specs.File.{IsModule}
+use Rattle.bc_library.specs.declared.fault.Member.{Member}
+use Rattle.bc_library.specs.declared.fault.Member.TheVariants as members
 use Rattle.bc_library.specs.Shelf.{Shelf, Named, names, module_at, member_by, member_of}
 use Rattle.bc_library.specs.Texts.{text_numbered}
 use Rattle.bc_rows.specs.declared.row.Row.{Row}
@@ -153,3 +155,15 @@ one_named shelf named more i entry are count is e k found at =
     by : Place named entry k found → found ≡ module_named shelf k
     by (old f) = are k found f
     by (new f g) = sym g ∙ (is ∙ ap (module_named shelf) (sym count ∙ sym f))
+
+-- each module of a library is one that a file holds
+pub is_module : (shelf : Shelf) (tables : List (List Row)) (named : List (Option ℕ)) (i : ℕ) (m : Module) → IsKept shelf tables named → module_at shelf i ≡ Some m → IsModule m
+is_module shelf tables named i m kept e = by (slice_get tables i) refl
+  where
+    by : (o : Option (List Row)) → slice_get tables i ≡ o → IsModule m
+    by None f = absurd (let none = kept.all i (past_tables tables i f) in let wrong : Some m ≡ None = sym e ∙ none in cc)
+    by (Some rows) f =
+        let t = kept.rows i rows f in
+        let both : Some t.0 ≡ Some m = sym t.1 ∙ e in
+        let same : t.0 ≡ m = cc in
+        subst IsModule same t.2
