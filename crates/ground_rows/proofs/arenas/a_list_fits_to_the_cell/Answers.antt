@@ -1,6 +1,6 @@
 use Rattle.std.proofs.Common.{rules}
 use Rattle.mpy_base.specs.World.{AList, IsA}
-use Rattle.mpy_rows.proofs.arenas.a_list_fits_to_the_cell.Goals as goal
+use Rattle.ground_rows.proofs.arenas.a_list_fits_to_the_cell.Goals as goal
 
 pub list_append-requires-4-clause-list : goal.list_append-requires-4-clause-list
 list_append-requires-4-clause-list g c =

@@ -5,7 +5,7 @@ use Rattle.bc_ops.specs.Table.{form_of, jump_form}
 use Rattle.bc_labels.specs.declared.labelled.Labelled.{Labelled}
 use Rattle.bc_labels.specs.declared.labelled.Labelled.TheVariants.{At, Jump, Unwind}
 use Rattle.bc_labels.specs.Labels.{IsSound, StandsOnce}
-use Rattle.mpy_rows.proofs.labels.ahead.Goals as goal
+use Rattle.ground_rows.proofs.labels.ahead.Goals as goal
 
 abbrev whole : ℕ → List Labelled
 whole label = Jump ops.ForIter label ∷ Unwind label 0x81 ∷ At label ∷ []

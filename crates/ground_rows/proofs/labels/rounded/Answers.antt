@@ -8,7 +8,7 @@ use Rattle.bc_ops.specs.Table.{form_of, jump_form, plain_form}
 use Rattle.bc_labels.specs.declared.labelled.Labelled.{Labelled}
 use Rattle.bc_labels.specs.declared.labelled.Labelled.TheVariants.{At, Plain, Jump}
 use Rattle.bc_labels.specs.Labels.{IsSound, StandsOnce, is_label}
-use Rattle.mpy_rows.proofs.labels.rounded.Goals as goal
+use Rattle.ground_rows.proofs.labels.rounded.Goals as goal
 
 abbrev plain : Labelled
 plain = Plain (instrs.Plain ops.DupTop)

@@ -1,6 +1,6 @@
 -- The list and the range are still what they were after each extension.
 use Rattle.mpy_base.specs.World.{AList, ARange}
-use Rattle.mpy_rows.proofs.objects.an_extension_asks_for_its_room_once.Goals as goal
+use Rattle.ground_rows.proofs.objects.an_extension_asks_for_its_room_once.Goals as goal
 
 pub list_extend-requires-in-loop-cells-2-clause-list : goal.list_extend-requires-in-loop-cells-2-clause-list
 list_extend-requires-in-loop-cells-2-clause-list g c =

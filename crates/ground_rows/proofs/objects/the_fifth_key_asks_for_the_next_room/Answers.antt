@@ -1,6 +1,6 @@
 -- The dict is still one after each call.
 use Rattle.mpy_base.specs.World.{ADict}
-use Rattle.mpy_rows.proofs.objects.the_fifth_key_asks_for_the_next_room.Goals as goal
+use Rattle.ground_rows.proofs.objects.the_fifth_key_asks_for_the_next_room.Goals as goal
 
 pub dict_set-requires-3-clause-dict : goal.dict_set-requires-3-clause-dict
 dict_set-requires-3-clause-dict g c = c.dict_set-2.ensures.later.keeps ADict c.in_ok-arena.d.cell (c.dict_set.ensures.later.keeps ADict c.in_ok-arena.d.cell c.in_ok-arena.ensures.dict)

@@ -4,7 +4,7 @@ use Rattle.mpy_tree.specs.declared.module.Constant.TheVariants as constants
 use Rattle.mpy_tree.specs.declared.module.Item.{Item}
 use Rattle.mpy_tree.specs.declared.module.Item.TheVariants as items
 use Rattle.mpy_writer.proofs.Samples.{one, truth, tuple_of_one, pushed, all_sound}
-use Rattle.mpy_rows.proofs.writes.constants.Goals as goal
+use Rattle.ground_rows.proofs.writes.constants.Goals as goal
 
 pub returns-clause-sound : goal.returns-clause-sound
 returns-clause-sound c =

@@ -4,7 +4,7 @@ use Rattle.bc_ops.specs.declared.instr.Instr.TheVariants as instrs
 use Rattle.mpy_tree.specs.declared.module.Item.TheVariants as items
 use Rattle.mpy_writer.specs.Writable.{IsText}
 use Rattle.mpy_writer.proofs.Samples.{text_by, plain, loads_none, returns_value, pops, loads_name, loads_string, calls, pushed, all_sound}
-use Rattle.mpy_rows.proofs.writes.hello.Goals as goal
+use Rattle.ground_rows.proofs.writes.hello.Goals as goal
 
 pub returns-clause-sound : goal.returns-clause-sound
 returns-clause-sound c =

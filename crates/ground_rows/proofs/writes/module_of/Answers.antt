@@ -3,7 +3,7 @@ use Rattle.mpy_tree.specs.declared.module.Item.{Item}
 use Rattle.mpy_tree.specs.declared.module.Code.{Code, Code-F, out-roll-Code}
 use Rattle.mpy_writer.specs.Writable.{IsText, IsSoundItem, NeverFall}
 use Rattle.mpy_writer.proofs.Samples.{text_by, lone}
-use Rattle.mpy_rows.proofs.writes.module_of.Goals as goal
+use Rattle.ground_rows.proofs.writes.module_of.Goals as goal
 
 pub returns : goal.returns
 returns c =

@@ -3,7 +3,7 @@ use Rattle.bc_ops.specs.declared.instr.Op.TheVariants as ops
 use Rattle.bc_ops.specs.declared.instr.Instr.TheVariants as instrs
 use Rattle.mpy_tree.specs.declared.module.Item.TheVariants as items
 use Rattle.mpy_writer.proofs.Samples.{plain, loads_none, returns_value, pushed, all_sound}
-use Rattle.mpy_rows.proofs.writes.nothing.Goals as goal
+use Rattle.ground_rows.proofs.writes.nothing.Goals as goal
 
 pub returns-clause-sound : goal.returns-clause-sound
 returns-clause-sound c =

@@ -2,7 +2,7 @@ use Rattle.std.proofs.Common.{◌≡◌, ℕ, zero, suc, pos, [], ◌∷◌, Som
 use Rattle.std.specs.Prelude.{slice_get}
 use Rattle.arena_heap.specs.declared.value.ConstNo.{ConstNo}
 use Rattle.arena_heap.specs.declared.value.Value.TheVariants.{Int, Fixed}
-use Rattle.mpy_rows.proofs.objects.WordsConstants.len.Goals as goal
+use Rattle.ground_rows.proofs.objects.WordsConstants.len.Goals as goal
 
 -- no item is a tuple
 no_tuple : (k : ℕ) (d : ConstNo) → slice_get (Int (pos 1) ∷ Int (pos 2) ∷ []) k ≡ Some (Fixed d) → ⊥
