@@ -1,6 +1,6 @@
 //! A draft as a code.
 
-ghost use Rattle.std.specs.Prelude.{◌≡◌, List, length, map, IfOk};
+ghost use Rattle.std.specs.Prelude.{◌≡◌, ◌<◌, ◌^◌, List, length, map, IfOk};
 ghost use Rattle.mpy_tree.specs.declared.module.Code.{Code as CodeTree};
 ghost use Rattle.mpy_tree.specs.Resolved.{Body, IsBodyOf};
 ghost use Rattle.bc_machine.specs.Library.{line_of};
@@ -90,7 +90,7 @@ fn line_numbers(alloc: Global, lines: &[DraftLine]) -> Result<Items<u32>, NoMemo
 
 /// The instructions of a draft, each jump with the position of its label.
 pub fn finish(alloc: Global, draft: &Draft) -> Result<CodeLines, NoMemory>
-    requires { AreSmall draft.now.labels.items }
+    requires { length draft.now.lines < 2 ^ 32 }
     ensures { IfOk result (λ made. IsFinished draft.now made) }
 {
     let lines = draft.lines.as_slice();

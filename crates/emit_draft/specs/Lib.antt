@@ -1,3 +1,4 @@
+pub mod Places
 pub mod Draft
 pub mod Emits
 pub mod Names

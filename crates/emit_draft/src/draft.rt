@@ -1,7 +1,7 @@
 //! A draft of one code.
 
-ghost use Rattle.std.specs.Prelude.{◌≡◌, ◌+◌, ◌*◌, [], false, OnOk, IfOk, Some, None, slice_get};
-ghost use Rattle.emit_draft.specs.Draft.{shown, Puts, Adds, Binds, PutsCount, passes_items, passes_members};
+ghost use Rattle.std.specs.Prelude.{◌≡◌, ◌+◌, ◌*◌, [], false, length, OnOk, IfOk, Some, None, slice_get};
+ghost use Rattle.emit_draft.specs.Places.{AreWithin};
 
 use bc_ops::{Instr, Op};
 use mpy_base::limits::{MAX_ARGUMENTS, MAX_ITEMS};
@@ -37,17 +37,20 @@ pub struct Draft {
     pub lines: Items<DraftLine>,
     /// The position of each label that has one.
     pub labels: Vec<Option<usize>>,
+    pub ghost within: { AreWithin labels.items (length lines) },
     /// Something in it has more members than its instruction can name. The code isn't whole then.
     pub crowded: bool,
 }
 
-fn shown_line(level: u8, line: u32) -> u32
-    ensures { result ≡ shown level line }
-{
-    if level == 3 { 1 } else { line }
-}
-
 impl Draft {
+    ghost use Rattle.emit_draft.specs.Draft.{shown, Puts, Adds, Binds, PutsCount, passes_items, passes_members};
+
+    fn shown_line(level: u8, line: u32) -> u32
+        ensures { result ≡ shown level line }
+    {
+        if level == 3 { 1 } else { line }
+    }
+
     /// The empty draft, which takes no memory.
     pub fn new(alloc: Global, level: u8) -> Draft
         ensures level { result.level ≡ level }
@@ -67,7 +70,7 @@ impl Draft {
     pub fn put(&mut self, line: u32, item: DraftItem) -> Result<(), NoMemory>
         ensures { OnOk result (Puts self.old self.new line item) }
     {
-        let line = shown_line(self.level, line);
+        let line = Draft::shown_line(self.level, line);
         self.lines.push(DraftLine { item, line })?;
         Ok(())
     }

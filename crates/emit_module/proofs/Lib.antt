@@ -1,3 +1,5 @@
 pub mod Finding
 pub mod Limiting
 pub mod Standing
+pub mod Few
+pub mod Joining

@@ -18,7 +18,7 @@ use Rattle.emit_stmt.specs.Children.{Made, number_of, made, AreChildren}
 use Rattle.emit_stmt.specs.Text.{StandsText}
 use Rattle.emit_module.specs.Own.{IsWritten, IsFound, IsJoined}
 
-behind : (base : ℕ) (ms : List Made) → map (λ n. base + n) (map number_of ms) ≡ map (λ (m : Made). base + m.number) ms
+pub behind : (base : ℕ) (ms : List Made) → map (λ n. base + n) (map number_of ms) ≡ map (λ (m : Made). base + m.number) ms
 behind base [] = refl
 behind base (m ∷ ms) = ap (λ (ns : List ℕ). (base + m.number) ∷ ns) (behind base ms)
 
@@ -34,10 +34,10 @@ abbrev pub LinesAre : Type 0
 LinesAre = (draft : Draft) (head : CodeHead) (made : CodeLines) (children : List ℕ) → codes.IsFinished draft made
     → (code_of (body_of head made) children).lines ≡ map (line_at draft.labels.items) draft.lines
 
-abbrev context : List Code → Bool → Text → Code → Context
+abbrev pub context : List Code → Bool → Text → Code → Context
 context all own text code = record { lines = code.lines; level = text.level; is_module = own; locals = text.locals; children = code.children; base = text.base; codes = all }
 
-a_child : (c : Context) (number : ℕ) (m : Made) → IsFound c.codes number m → IsChild c number m.name m.given
+pub a_child : (c : Context) (number : ℕ) (m : Made) → IsFound c.codes number m → IsChild c number m.name m.given
 a_child c number m f = record { child = f.code; found = f.found; named = f.name; with_given = f.given }
 
 as_code : (all : List Code) (own : Bool) (text : Text) (code : Code) → code.name ≡ text.name → code.params ≡ text.params → code.given ≡ text.given → IsJoined all text code

@@ -9,6 +9,7 @@ use Rattle.bc_machine.specs.Library.{Code}
 use Rattle.bc_translation.specs.Heights.{tall_block, held_in}
 use Rattle.bc_translation.specs.Translation.{own}
 use Rattle.emit_draft.specs.declared.draft.Draft.{Draft}
+use Rattle.emit_draft.specs.declared.draft.DraftLine.{DraftLine}
 use Rattle.emit_draft.specs.declared.scope.Scope.{Scope}
 use Rattle.emit_draft.specs.Draft.{Labels}
 use Rattle.emit_draft.specs.Emits.{line_at}
@@ -33,10 +34,14 @@ pub record IsTextOf (place : Place) (scope : Scope) (stmts : List Stmt) (text : 
   pub first : ℕ
   pub body : text.body ≡ (plain_block stmts).make first
 
+-- what is counted of a draft's lines, wherever their labels stand
+abbrev pub HasLength : List DraftLine → Measures → Type 0
+HasLength lines m = (labels : Labels) → m.length ≡ saturated (wide_length (map (line_at labels) lines))
+
 -- what is counted of a text and of its draft
 pub record IsCounted (place : Place) (draft : Draft) (text : Text) (m : Measures) : Type 0 where
   pub numbers : IsMeasured text m
-  pub length : (labels : Labels) → m.length ≡ saturated (wide_length (map (line_at labels) draft.lines))
+  pub length : HasLength draft.lines m
   pub depth : m.depth ≡ place.depth
   pub crowded : m.crowded ≡ draft.crowded
 

@@ -3,13 +3,13 @@
 ghost use Rattle.std.specs.Prelude.{◌≡◌, ◌+◌, max, None, IfOk, IfErr};
 ghost use Rattle.py_meaning.specs.Program.{Text as TextOf};
 ghost use Rattle.emit_limits.specs.Faults.{fault_of};
-ghost use Rattle.emit_code.specs.Finished.{AreSmall, IsFinished};
-ghost use Rattle.emit_module.specs.Own.{IsTextOf, IsCounted, IsOwn, IsRefused};
+ghost use Rattle.emit_code.specs.Finished.{IsFinished};
+ghost use Rattle.emit_module.specs.Own.{HasLength, IsTextOf, IsCounted, IsOwn, IsRefused};
 
 use emit_code::{CodeLines, finish, wide_length};
 use emit_draft::{Draft, Scope};
 use emit_limits::{Measures, block_entries, block_height, within_law};
-use mpy_base::{Refused, SourceFault, Text};
+use mpy_base::{NoMemory, Refused, SourceFault, Text};
 use py_tree::Stmt;
 use std::alloc::Global;
 
@@ -37,7 +37,8 @@ pub struct OwnCode {
 }
 
 fn measures(place: &Place, scope: &Scope, body: &[Stmt], draft: &Draft) -> Measures
-    ensures { (text : TextOf) → IsTextOf place.now scope.now body.now text → IsCounted place.now draft.now text result }
+    ensures counted { (text : TextOf) → IsTextOf place.now scope.now body.now text → IsCounted place.now draft.now text result }
+    ensures length { HasLength draft.now.lines result }
 {
     Measures {
         length: wide_length(draft),
@@ -66,6 +67,16 @@ fn entries(measures: &Measures) -> u32
     measures.entries as u32
 }
 
+/// The instructions of a text without a fault, of which each has a byte at least.
+#[tactic(auto, using(crate::proofs::Few::few_lines))]
+fn finished(alloc: Global, measures: &Measures, draft: &Draft) -> Result<CodeLines, NoMemory>
+    requires fault { fault_of measures.now ≡ None }
+    requires length { HasLength draft.now.lines measures.now }
+    ensures { IfOk result (λ lines. IsFinished draft.now lines) }
+{
+    finish(alloc, draft)
+}
+
 /// The own code of a text, by its draft. The text is refused where it passes a limit. It takes two walks over the
 /// statements, and one over the draft.
 pub fn own_code(
@@ -75,7 +86,6 @@ pub fn own_code(
     body: &[Stmt],
     draft: &Draft,
 ) -> Result<OwnCode, Refused<SourceFault>>
-    requires { AreSmall draft.now.labels.items }
     ensures lines { IfOk result (λ code. IsFinished draft.now code.lines) }
     ensures within { IfOk result (λ code. (text : TextOf) → IsTextOf place.now scope.now body.now text → IsOwn place.now draft.now text code) }
     ensures refused { IfErr result (λ refused. (text : TextOf) → IsTextOf place.now scope.now body.now text → IsRefused place.now draft.now text refused) }
@@ -89,7 +99,7 @@ pub fn own_code(
             word: Text::empty(alloc),
         }));
     }
-    let lines = finish(alloc, draft)?;
+    let lines = finished(alloc, &measures, draft)?;
     Ok(OwnCode {
         n_state: slots(&measures),
         n_exc: entries(&measures),

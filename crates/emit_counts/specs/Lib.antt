@@ -1,0 +1,4 @@
+pub mod Wide
+pub mod Lengths
+pub mod Named
+pub mod Stands
