@@ -1,0 +1,76 @@
+-- Locals that are read and emptied.
+use Rattle.std.proofs.Common.{◌≡◌, ℕ, zero, suc, List, [], ◌∷◌, map, Option, Some, None, Result, slice_get, slice_set, refl, ap, ◌∙◌}
+use Rattle.std.proofs.lemmas.Option.{none-some, same_Some}
+use Rattle.std.specs.Option.{option_map}
+use Rattle.std.specs.Prelude.{option_and_then}
+use Rattle.mpy_base.specs.World.{Heap}
+use Rattle.mpy_base.specs.Val.{Val, PlainWorld}
+use Rattle.arena_heap.specs.declared.value.Value.{Value}
+use Rattle.arena_heap.specs.declared.value.StrNo.{StrNo}
+use Rattle.arena_heap.specs.declared.value.ConstNo.{ConstNo}
+use Rattle.bc_ops.specs.declared.instr.Op.TheVariants as ops
+use Rattle.bc_ops.specs.declared.instr.Instr.TheVariants as instrs
+use Rattle.py_effects.specs.Effect.{Effect}
+use Rattle.py_effects.specs.Names.{assigned, load_local, without_local}
+use Rattle.vm_walks.specs.Plain.{plain}
+use Rattle.vm_faults.specs.declared.stop.Stop.{Stop}
+use Rattle.vm_raising.specs.Worlds.{world_over}
+use Rattle.vm_frames.specs.Calls.{Call, Calls, OfRunning}
+use Rattle.bc_offsets.specs.Positions.{position_in}
+use Rattle.vm_moves.specs.Views.{View, slots_of, locals_of, entries_of, starts_of, position_of, frame_of}
+use Rattle.bc_machine.specs.Library.{Plain}
+use Rattle.bc_machine.specs.State as states
+use Rattle.bc_machine.specs.State.{State, Running, go}
+use Rattle.bc_machine.specs.Step as step
+use Rattle.vm_step.specs.Shown.{view_of}
+use Rattle.vm_step.proofs.Stepping.{both, goes_to}
+use Rattle.vm_instructions.specs.Slots.{with_empty}
+use Rattle.vm_instructions.specs.Settled.{Settles}
+use Rattle.vm_instructions.specs.Effects.{Layout, tables_of, Steps}
+use Rattle.vm_instructions.proofs.Settling.{Answers, does}
+
+get-map : {A B : Type 0} (f : A → B) (xs : List A) (i : ℕ) (x : A) → slice_get xs i ≡ Some x → slice_get (map f xs) i ≡ Some (f x)
+get-map f [] i x e = absurd (none-some x e)
+get-map f (y ∷ xs) zero x e = ap (λ z. Some (f z)) (same_Some y x e)
+get-map f (y ∷ xs) (suc i) x e = get-map f xs i x e
+
+set-map : {A B : Type 0} (f : A → B) (xs : List A) (i : ℕ) (x : A) → slice_set (map f xs) i (f x) ≡ map f (slice_set xs i x)
+set-map f [] i x = refl
+set-map f (y ∷ xs) zero x = refl
+set-map f (y ∷ xs) (suc i) x = ap (λ z. f y ∷ z) (set-map f xs i x)
+
+-- the local as the machine loads it
+pub loaded : (view : View) (w : PlainWorld) (locals : List (Option Value)) (n : ℕ) (local : Option Value) → slice_get locals n ≡ Some local
+    → load_local w (locals_of view locals) n ≡ assigned w (option_map view.plain local)
+loaded view w locals n local e = ap (λ (o : Option (Option Val)). assigned w (option_and_then (λ v. v) o)) (get-map (option_map view.plain) locals n local e)
+
+-- on with an empty local
+emptied : (view : View) (c : Call) (n end : ℕ) (frames : List states.Frame) (w : PlainWorld) → position_in (starts_of view c) end ≡ suc (position_of view c)
+    → go (suc (position_of view c)) (slots_of view (starts_of view c) c.slots) (entries_of (starts_of view c) (position_of view c) c.entries)
+    (record (frame_of view c) { locals = without_local (locals_of view c.locals) n }) frames w
+    ≡ Running 0 (frame_of view (with_empty n end c)) frames w
+emptied view c n end frames w e =
+    let F = frame_of view c in
+    let starts = starts_of view c in
+    ap (λ (z : List (Option Val)). go (suc (position_of view c)) (slots_of view starts c.slots) (entries_of starts (position_of view c) c.entries) (record F { locals = z }) frames w)
+    (set-map (option_map view.plain) c.locals n None)
+    ∙ goes_to view (record c { locals = slice_set c.locals n None }) (suc (position_of view c)) end c.slots frames w e
+
+module _ (texts : StrNo → Option (List ℕ)) (tuples : ConstNo → Option (List Value)) (end n : ℕ) (heap : Heap Value ℕ) (old new : Calls) (result : Result (Unit {0}) Stop) (local : Option Value) (given : Result Value Stop)
+    (answers : Answers texts tuples heap heap given 0 (λ w. assigned w (option_map (plain texts tuples) local))) (settled : Settles (λ (v : Value). with_empty n end) given old new result) where
+  abbrev Has : Call → Type 0
+  Has c = slice_get c.locals n ≡ Some local
+
+  abbrev Next : Layout → Call → Type 0
+  Next layout c = let view = view_of (tables_of texts tuples layout) in position_in (starts_of view c) end ≡ suc (position_of view c)
+
+  abbrev behind : View → Call → List states.Frame → Val → PlainWorld → State
+  behind view c frames v w = go (suc (position_of view c)) (frame_of view c).slots (frame_of view c).entries (record (frame_of view c) { locals = without_local (locals_of view c.locals) n }) frames w
+
+  pub empties_steps : OfRunning Has old.calls → Steps texts tuples (Plain (instrs.Num ops.DeleteFast n)) 0 end heap heap old.calls new.calls result
+  empties_steps p layout next =
+      let view = view_of (tables_of texts tuples layout) in
+      does texts tuples (λ (v : Value). with_empty n end) old new result layout (Plain (instrs.Num ops.DeleteFast n)) 0 heap heap (λ c. Has c × Next layout c) (λ w. assigned w (option_map (plain texts tuples) local)) (behind view)
+      (λ library place paid c frames w h. ap (λ (e : Effect Val). step.does library place paid (frame_of view c) frames (world_over texts tuples w heap) e (behind view c frames)) (loaded view (world_over texts tuples w heap) c.locals n local h.0))
+      (λ v c frames w h. emptied view c n end frames w h.1)
+      given answers (both Has (Next layout) old.calls p next) settled

@@ -1,0 +1,7 @@
+pub mod Acting
+pub mod Calls
+pub mod Emptying
+pub mod Items
+pub mod Looking
+pub mod Settling
+pub mod Visits

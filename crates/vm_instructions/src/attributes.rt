@@ -1,0 +1,108 @@
+//! Attributes.
+
+ghost use Rattle.std.specs.Prelude.{◌≡◌, ◌<◌, length, IsSome};
+ghost use Rattle.bc_ops.specs.declared.instr.Op.TheVariants as ops;
+ghost use Rattle.arena_heap.specs.declared.value.Value.{Value as Item};
+ghost use Rattle.arena_objects.specs.Iterables.{or_nothing};
+ghost use Rattle.arena_objects.specs.Keys.{AllTold};
+ghost use Rattle.vm_operators.specs.Attributes.{IsNamed};
+ghost use Rattle.vm_frames.specs.Calls.{OfRunning};
+ghost use Rattle.bc_machine.specs.Library.{Names};
+ghost use Rattle.vm_instructions.specs.Effects.{Steps, Leaves};
+ghost use Rattle.vm_instructions.specs.Slots.{HasValue, HasKnown, Puts, PutsLooked, Changes, with_value, without};
+
+use crate::slots::{put, put_looked, take, value_at};
+use arena_heap::{Arena, Constants, StrNo};
+use vm_assignments::set_attr;
+use vm_faults::Stop;
+use vm_frames::Frames;
+use vm_names::{import_from as imported_from, load_method as method_of};
+use vm_operators::get_attr;
+
+/// LOAD_ATTR. The namespace of a module has to be set.
+pub fn load_attr<C: Constants>(
+    frames: &mut Frames,
+    arena: &mut Arena,
+    consts: &C,
+    name: StrNo,
+    end: u32,
+) -> Result<(), Stop>
+    requires name { IsSome (C.text_of consts.now name) }
+    requires object { HasKnown (C.text_of consts.now) (C.items_of consts.now) arena.old.objects 0 frames.old.calls }
+    requires named { (v : Item) → HasValue 0 v frames.old.calls → IsNamed arena.old v }
+    requires all_told { AllTold (C.text_of consts.now) (C.items_of consts.now) arena.old.objects }
+    ensures steps { Steps (C.text_of consts.now) (C.items_of consts.now) (Names ops.LoadAttr (or_nothing (C.text_of consts.now name))) 0 end arena.old arena.new frames.old.calls frames.new.calls result }
+    ensures moved { Puts (C.text_of consts.now) (C.items_of consts.now) arena.new.objects (with_value end 1) frames.old frames.new result }
+    ensures leaves { Leaves (C.text_of consts.now) (C.items_of consts.now) arena.old arena.new result }
+{
+    let object = value_at(frames, arena, consts, 0);
+    let given = get_attr(arena, consts, object, name);
+    put(frames, 1, given, end)
+}
+
+/// STORE_ATTR. The namespace of a module has to be set.
+pub fn store_attr<C: Constants>(
+    frames: &mut Frames,
+    arena: &mut Arena,
+    consts: &C,
+    name: StrNo,
+    end: u32,
+) -> Result<(), Stop>
+    requires name { IsSome (C.text_of consts.now name) }
+    requires object { HasKnown (C.text_of consts.now) (C.items_of consts.now) arena.old.objects 0 frames.old.calls }
+    requires value { HasKnown (C.text_of consts.now) (C.items_of consts.now) arena.old.objects 1 frames.old.calls }
+    requires named { (v : Item) → HasValue 0 v frames.old.calls → IsNamed arena.old v }
+    requires all_told { AllTold (C.text_of consts.now) (C.items_of consts.now) arena.old.objects }
+    ensures steps { Steps (C.text_of consts.now) (C.items_of consts.now) (Names ops.StoreAttr (or_nothing (C.text_of consts.now name))) 0 end arena.old arena.new frames.old.calls frames.new.calls result }
+    ensures moved { Changes (without end 2) frames.old frames.new result }
+    ensures leaves { Leaves (C.text_of consts.now) (C.items_of consts.now) arena.old arena.new result }
+{
+    let object = value_at(frames, arena, consts, 0);
+    let v = value_at(frames, arena, consts, 1);
+    let given = set_attr(arena, consts, object, name, v);
+    take(frames, 2, given, end)
+}
+
+/// IMPORT_FROM. The namespace of a module has to be set.
+pub fn import_from<C: Constants>(
+    frames: &mut Frames,
+    arena: &mut Arena,
+    consts: &C,
+    name: StrNo,
+    end: u32,
+) -> Result<(), Stop>
+    requires room { OfRunning (λ c. length c.slots < frames.old.slot_room) frames.old.calls }
+    requires name { IsSome (C.text_of consts.now name) }
+    requires object { HasKnown (C.text_of consts.now) (C.items_of consts.now) arena.old.objects 0 frames.old.calls }
+    requires named { (v : Item) → HasValue 0 v frames.old.calls → IsNamed arena.old v }
+    requires all_told { AllTold (C.text_of consts.now) (C.items_of consts.now) arena.old.objects }
+    ensures steps { Steps (C.text_of consts.now) (C.items_of consts.now) (Names ops.ImportFrom (or_nothing (C.text_of consts.now name))) 0 end arena.old arena.new frames.old.calls frames.new.calls result }
+    ensures moved { Puts (C.text_of consts.now) (C.items_of consts.now) arena.new.objects (with_value end 0) frames.old frames.new result }
+    ensures leaves { Leaves (C.text_of consts.now) (C.items_of consts.now) arena.old arena.new result }
+{
+    let object = value_at(frames, arena, consts, 0);
+    let given = imported_from(arena, consts, object, name);
+    put(frames, 0, given, end)
+}
+
+/// LOAD_METHOD. The namespace of a module has to be set.
+pub fn load_method<C: Constants>(
+    frames: &mut Frames,
+    arena: &Arena,
+    consts: &C,
+    name: StrNo,
+    end: u32,
+) -> Result<(), Stop>
+    requires room { OfRunning (λ c. length c.slots < frames.old.slot_room) frames.old.calls }
+    requires name { IsSome (C.text_of consts.now name) }
+    requires object { HasKnown (C.text_of consts.now) (C.items_of consts.now) arena.now.objects 0 frames.old.calls }
+    requires named { (v : Item) → HasValue 0 v frames.old.calls → IsNamed arena.now v }
+    requires all_told { AllTold (C.text_of consts.now) (C.items_of consts.now) arena.now.objects }
+    ensures steps { Steps (C.text_of consts.now) (C.items_of consts.now) (Names ops.LoadMethod (or_nothing (C.text_of consts.now name))) 0 end arena.now arena.now frames.old.calls frames.new.calls result }
+    ensures moved { PutsLooked (C.text_of consts.now) (C.items_of consts.now) arena.now.objects end frames.old frames.new result }
+    ensures leaves { Leaves (C.text_of consts.now) (C.items_of consts.now) arena.now arena.now result }
+{
+    let object = value_at(frames, arena, consts, 0);
+    let given = method_of(arena, consts, object, name);
+    put_looked(frames, given, end)
+}

@@ -1,0 +1,13 @@
+//! Instructions of the machine that may raise, on frames and over an arena.
+#![tactic(auto)]
+
+mod attributes;
+mod locals;
+mod names;
+mod slots;
+mod subscripts;
+
+pub use attributes::{import_from, load_attr, load_method, store_attr};
+pub use locals::{delete_fast, load_fast};
+pub use names::{delete_name, load_name, store_name};
+pub use subscripts::{delete_subscr, load_subscr, store_map, store_subscr};

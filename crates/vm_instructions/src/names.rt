@@ -1,0 +1,83 @@
+//! Names of modules.
+
+ghost use Rattle.std.specs.Prelude.{◌≡◌, ◌<◌, length, IsSome};
+ghost use Rattle.mpy_base.specs.World.{ADict, IsA};
+ghost use Rattle.bc_ops.specs.declared.instr.Op.TheVariants as ops;
+ghost use Rattle.arena_objects.specs.Iterables.{or_nothing};
+ghost use Rattle.arena_objects.specs.Keys.{AllTold};
+ghost use Rattle.vm_frames.specs.Calls.{OfRunning};
+ghost use Rattle.bc_machine.specs.Library.{Names};
+ghost use Rattle.vm_instructions.specs.Effects.{Steps, Leaves};
+ghost use Rattle.vm_instructions.specs.Slots.{HasKnown, Puts, Changes, with_value, without};
+
+use crate::slots::{put, take, value_at};
+use arena_heap::{Arena, Constants, StrNo};
+use vm_faults::Stop;
+use vm_frames::Frames;
+use vm_names::{delete_global, load_global, store_global};
+
+/// LOAD_NAME and LOAD_GLOBAL.
+pub fn load_name<C: Constants>(
+    frames: &mut Frames,
+    arena: &Arena,
+    consts: &C,
+    name: StrNo,
+    end: u32,
+) -> Result<(), Stop>
+    requires room { OfRunning (λ c. length c.slots < frames.old.slot_room) frames.old.calls }
+    requires names { OfRunning (λ c. IsA arena.now.objects ADict c.names.cell) frames.old.calls }
+    requires name { IsSome (C.text_of consts.now name) }
+    requires all_told { AllTold (C.text_of consts.now) (C.items_of consts.now) arena.now.objects }
+    ensures name { Steps (C.text_of consts.now) (C.items_of consts.now) (Names ops.LoadName (or_nothing (C.text_of consts.now name))) 0 end arena.now arena.now frames.old.calls frames.new.calls result }
+    ensures global { Steps (C.text_of consts.now) (C.items_of consts.now) (Names ops.LoadGlobal (or_nothing (C.text_of consts.now name))) 0 end arena.now arena.now frames.old.calls frames.new.calls result }
+    ensures moved { Puts (C.text_of consts.now) (C.items_of consts.now) arena.now.objects (with_value end 0) frames.old frames.new result }
+    ensures leaves { Leaves (C.text_of consts.now) (C.items_of consts.now) arena.now arena.now result }
+{
+    let (_, _, names) = frames.running();
+    let given = load_global(arena, consts, names, name);
+    put(frames, 0, given, end)
+}
+
+/// STORE_NAME and STORE_GLOBAL.
+pub fn store_name<C: Constants>(
+    frames: &mut Frames,
+    arena: &mut Arena,
+    consts: &C,
+    name: StrNo,
+    end: u32,
+) -> Result<(), Stop>
+    requires names { OfRunning (λ c. IsA arena.old.objects ADict c.names.cell) frames.old.calls }
+    requires name { IsSome (C.text_of consts.now name) }
+    requires value { HasKnown (C.text_of consts.now) (C.items_of consts.now) arena.old.objects 0 frames.old.calls }
+    requires all_told { AllTold (C.text_of consts.now) (C.items_of consts.now) arena.old.objects }
+    ensures name { Steps (C.text_of consts.now) (C.items_of consts.now) (Names ops.StoreName (or_nothing (C.text_of consts.now name))) 0 end arena.old arena.new frames.old.calls frames.new.calls result }
+    ensures global { Steps (C.text_of consts.now) (C.items_of consts.now) (Names ops.StoreGlobal (or_nothing (C.text_of consts.now name))) 0 end arena.old arena.new frames.old.calls frames.new.calls result }
+    ensures moved { Changes (without end 1) frames.old frames.new result }
+    ensures leaves { Leaves (C.text_of consts.now) (C.items_of consts.now) arena.old arena.new result }
+{
+    let (_, _, names) = frames.running();
+    let v = value_at(frames, arena, consts, 0);
+    let given = store_global(arena, consts, names, name, v);
+    take(frames, 1, given, end)
+}
+
+/// DELETE_NAME and DELETE_GLOBAL.
+pub fn delete_name<C: Constants>(
+    frames: &mut Frames,
+    arena: &mut Arena,
+    consts: &C,
+    name: StrNo,
+    end: u32,
+) -> Result<(), Stop>
+    requires names { OfRunning (λ c. IsA arena.old.objects ADict c.names.cell) frames.old.calls }
+    requires name { IsSome (C.text_of consts.now name) }
+    requires all_told { AllTold (C.text_of consts.now) (C.items_of consts.now) arena.old.objects }
+    ensures name { Steps (C.text_of consts.now) (C.items_of consts.now) (Names ops.DeleteName (or_nothing (C.text_of consts.now name))) 0 end arena.old arena.new frames.old.calls frames.new.calls result }
+    ensures global { Steps (C.text_of consts.now) (C.items_of consts.now) (Names ops.DeleteGlobal (or_nothing (C.text_of consts.now name))) 0 end arena.old arena.new frames.old.calls frames.new.calls result }
+    ensures moved { Changes (without end 0) frames.old frames.new result }
+    ensures leaves { Leaves (C.text_of consts.now) (C.items_of consts.now) arena.old arena.new result }
+{
+    let (_, _, names) = frames.running();
+    let given = delete_global(arena, consts, names, name);
+    take(frames, 0, given, end)
+}
