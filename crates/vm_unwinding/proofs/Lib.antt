@@ -1,0 +1,4 @@
+pub mod Fails
+pub mod Keeping
+pub mod Tabling
+pub mod Throws

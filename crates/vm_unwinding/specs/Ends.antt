@@ -1,0 +1,38 @@
+-- How runs end, and where a run is, as states of the machine.
+use Rattle.std.specs.Prelude.{◌≡◌, ℕ, List, Option, Some, None}
+use Rattle.mpy_base.specs.Val.{PlainWorld}
+use Rattle.py_effects.specs.Effect as effects
+use Rattle.py_effects.specs.Ends as plain
+use Rattle.bc_machine.specs.Library.{Item, Library}
+use Rattle.bc_machine.specs.State.{State, Halted}
+use Rattle.vm_raising.specs.declared.place.Place.{Place}
+use Rattle.vm_raising.specs.Places.{plain_place}
+use Rattle.vm_raising.specs.Worlds.{sight}
+use Rattle.vm_modules.specs.Registry.{Registry, plain_modules}
+use Rattle.vm_frames.specs.Calls.{Call}
+use Rattle.vm_step.specs.Shown.{Tables, running_of, step_of}
+use Rattle.vm_unwinding.specs.declared.ends.End.{End}
+use Rattle.vm_unwinding.specs.declared.ends.End.TheVariants as ends
+
+abbrev pub end_of : End → plain.End
+end_of ends.Ended = plain.Ended
+end_of (ends.Raised x) = plain.Raised x.cell
+end_of (ends.Memory room) = plain.Memory room
+
+module _ (tables : Tables) where
+  -- a place, by the texts of its names
+  abbrev pub place_of : Place → effects.Place
+  place_of place = plain_place (sight tables.texts tables.tuples) place
+
+  -- the world with these modules registered
+  abbrev pub with_modules : PlainWorld → Registry → PlainWorld
+  with_modules w registry = record w { modules = plain_modules tables.texts tables.tuples registry }
+
+  -- the calls run, or the run has ended
+  abbrev pub state_of : Option End → List Call → PlainWorld → State
+  state_of None calls w = running_of tables 0 calls w
+  state_of (Some end) calls w = Halted (end_of end) w
+
+  -- the machine's step of the instruction at the place comes from the calls to the state, in each library and whatever was paid
+  abbrev pub StepsTo : effects.Place → PlainWorld → Item → List Call → State → Type 0
+  StepsTo place w item calls state = (library : Library) (paid : ℕ) → step_of tables library place paid calls w item ≡ state

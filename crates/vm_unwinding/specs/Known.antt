@@ -1,0 +1,48 @@
+-- Calls whose values are known: they lead to objects of an arena, and their texts and constant tuples are told.
+use Rattle.std.specs.Prelude.{ℕ, ◌<◌, List, Option, IfSome, All}
+use Rattle.mpy_base.specs.World.{Objects, ADict, AnException, AModule, IsA, Later}
+use Rattle.arena_heap.specs.declared.value.Value.{Value}
+use Rattle.arena_heap.specs.declared.value.StrNo.{StrNo}
+use Rattle.arena_heap.specs.declared.value.ConstNo.{ConstNo}
+use Rattle.arena_objects.specs.Keys.{AllTold}
+use Rattle.vm_faults.specs.Faults.{IsKnown}
+use Rattle.vm_frames.specs.declared.slot.Slot.{Slot}
+use Rattle.vm_frames.specs.declared.slot.Slot.TheVariants as slots
+use Rattle.vm_frames.specs.declared.slot.Entry.{Entry}
+use Rattle.vm_frames.specs.declared.slot.Role.{Role}
+use Rattle.vm_frames.specs.declared.slot.Role.TheVariants as roles
+use Rattle.vm_frames.specs.Calls.{Call}
+
+-- what an entry keeps is an exception
+abbrev pub KeepsException : Objects Value ℕ → Entry → Type 0
+KeepsException objects e = IfSome e.kept (λ x. IsA objects AnException x.cell)
+
+-- what an import runs is a module
+abbrev pub HasModule : Objects Value ℕ → Role → Type 0
+HasModule objects roles.Main = Unit {0}
+HasModule objects roles.Call = Unit {0}
+HasModule objects (roles.Import m) = IsA objects AModule m.cell
+
+module _ (texts : StrNo → Option (List ℕ)) (tuples : ConstNo → Option (List Value)) where
+  abbrev pub IsKnownSlot : Objects Value ℕ → Slot → Type 0
+  IsKnownSlot objects (slots.Value v) = IsKnown texts tuples objects v
+  IsKnownSlot objects slots.Null = Unit {0}
+  IsKnownSlot objects (slots.Object o) = IfSome o (IsKnown texts tuples objects)
+  IsKnownSlot objects (slots.Iter over at part) = IsKnown texts tuples objects over
+  IsKnownSlot objects (slots.Return v) = IsKnown texts tuples objects v
+  IsKnownSlot objects (slots.Jump target count iterator) = Unit {0}
+
+  -- a call of one of the modules, which are counted
+  pub record IsKnownCall (modules : ℕ) (objects : Objects Value ℕ) (c : Call) : Type 0 where
+    pub of_module : c.module_number < modules
+    pub names : IsA objects ADict c.names.cell
+    pub role : HasModule objects c.role
+    pub locals : All (λ v. IfSome v (IsKnown texts tuples objects)) c.locals
+    pub slots : All (IsKnownSlot objects) c.slots
+    pub entries : All (KeepsException objects) c.entries
+
+  -- calls that are known stay so, and an object stays of its kind
+  pub record Keeps (modules : ℕ) (before behind : Objects Value ℕ) (old new : List Call) : Type 0 where
+    pub known : All (IsKnownCall modules before) old → All (IsKnownCall modules behind) new
+    pub later : Later before behind
+    pub all_told : AllTold texts tuples behind
