@@ -1,10 +1,11 @@
 -- The texts that indexes lead to, one after another.
-use Rattle.std.proofs.Common.{◌≡◌, ℕ, ◌+◌, ◌<◌, ◌≤◌, List, [], ◌∷◌, ◌++◌, length, take, drop, map, refl, sym, ap, ap₂, subst, ◌∙◌, append_assoc, length-append, arith}
+use Rattle.std.proofs.Common.{Result, Ok, Err, ◌≡◌, ℕ, ◌+◌, ◌<◌, ◌≤◌, List, [], ◌∷◌, ◌++◌, length, take, drop, map, refl, sym, ap, ap₂, subst, ◌∙◌, append_assoc, length-append, arith}
 use Rattle.std.specs.Prelude.{IsSome}
 use Rattle.std.specs.List.{AllByRecursion}
 use Rattle.std.proofs.lemmas.List.{append-nil, map-append, drop-drop, length_push, length-drop, length-take-le}
 use Rattle.std.proofs.Math.Seq.{drop-append_seam}
 use Rattle.mpy_base.specs.Vuint.{Spells}
+use Rattle.bc_prelude.specs.declared.fault.PreludeFault.{PreludeFault}
 use Rattle.bc_prelude.specs.Names.{AreNames}
 use Rattle.bc_library.specs.Shelf.{Shelf, entry_at, table_text}
 use Rattle.bc_library.specs.Texts.{text_numbered}
@@ -92,3 +93,18 @@ walked_all shelf i code end indexes passed place numbers w le =
     let none : w.left ≡ [] = none_left w.left (omega (arith, le, ap length w.indexes_are, length-append w.done w.left, w.count)) in
     let all : indexes ≡ w.done = w.indexes_are ∙ (ap (λ z. w.done ++ z) none ∙ append-nil w.done) in
     w.named ∙ ap (map (table_text shelf i)) (sym all)
+
+-- what is read of a place
+abbrev first_of : {E : Type 0} → ℕ → Result (ℕ × ℕ) E → ℕ
+first_of n (Ok p) = p.0
+first_of n (Err e) = n
+
+abbrev second_of : {E : Type 0} → ℕ → Result (ℕ × ℕ) E → ℕ
+second_of n (Ok p) = p.1
+second_of n (Err e) = n
+
+abbrev read_as : ℕ → ℕ → Result (ℕ × ℕ) PreludeFault
+read_as index behind = Ok (index, behind)
+
+pub both_read : (a b x y : ℕ) → read_as a x ≡ read_as b y → (a ≡ b) × (x ≡ y)
+both_read a b x y e = (ap (first_of a) e, ap (second_of x) e)

@@ -173,22 +173,34 @@ codes_open : (levels below number : ℕ) (code : RawCode) → levels ≡ suc bel
 unfolding codes_to
 codes_open levels below number code e = ap (λ l. codes_to l number code) e
 
+get_behind : (before behind : List Row) (x : Row) → slice_get (before ++ x ∷ behind) (length before) ≡ Some x
+get_behind [] behind x = refl
+get_behind (z ∷ before) behind x = get_behind before behind x
+
+pub row_at : (shelf : Shelf) (i below : ℕ) (before : List Row) (code : RawCode) (codes : List RawCode) (place : ℕ) (now : List Row) (numbers : List ℕ) (a : Added shelf i below before code codes now numbers) → place ≡ length before → slice_get now place ≡ Some a.row
+row_at shelf i below before code codes place now numbers a p = ap₂ (λ z n. slice_get z n) a.now_is p ∙ get_behind before a.added a.row
+
+pub place_in : (shelf : Shelf) (i below : ℕ) (before : List Row) (code : RawCode) (codes : List RawCode) (place : ℕ) (now : List Row) (numbers : List ℕ) → Added shelf i below before code codes now numbers → place ≡ length before → place < length now
+place_in shelf i below before code codes place now numbers a p = omega (arith, p, ap length a.now_is, length-append before (a.row ∷ a.added))
+
 -- all children are there, and their numbers are put into the code's row
-pub all_added : (shelf : Shelf) (i levels below : ℕ) (before : List Row) (code : RawCode) (k place : ℕ) (now : List Row) (numbers : List ℕ) (row : Row) → levels ≡ suc below → length (children code) ≤ k → place ≡ length before → Added shelf i below before code (take k (children code)) now numbers → slice_get now place ≡ Some row → Adds shelf i (codes_to levels (length before) code) before (slice_set now place (with_children row numbers))
-all_added shelf i levels below before code k place now numbers row some le p a at =
-    let all = take_all k (children code) le in
-    let w = subst (λ z. Added shelf i below before code z now numbers) all a in
-    let here : slice_get now place ≡ Some w.row = ap₂ (λ z n. slice_get z n) w.now_is p ∙ get_behind before w.added w.row in
-    let same : row ≡ w.row = (let both : Some row ≡ Some w.row = sym at ∙ here in cc) in
+pub all_added : (shelf : Shelf) (i levels below : ℕ) (before : List Row) (code : RawCode) (k place : ℕ) (now next : List Row) (numbers : List ℕ) → levels ≡ suc below → length (children code) ≤ k → place ≡ length before → (a : Added shelf i below before code (take k (children code)) now numbers) → next ≡ slice_set now place (with_children a.row numbers) → Adds shelf i (codes_to levels (length before) code) before next
+all_added shelf i levels below before code k place now next numbers some le p a e =
+    let all : take k (children code) ≡ children code = take_all k (children code) le in
     let inner = codes_to below in
     let start = suc (length before) in
     let given = numbers_by inner start (children code) in
-    let bytes = (out-RawCode code).bytes in (
-      with_children w.row given ∷ w.added,
-      ap₂ (λ r n. slice_set now place (with_children r n)) same w.numbers_are ∙ (ap₂ (λ z n. slice_set z n (with_children w.row given)) w.now_is p ∙ set_behind before w.added w.row (with_children w.row given)),
-      subst (λ z. AreRows shelf i z (with_children w.row given ∷ w.added)) (sym (codes_open levels below (length before) code some)) (row_with shelf i bytes given w.row w.is_row, w.are_rows),
+    let bytes = (out-RawCode code).bytes in
+    let are = subst (λ z. AreRows shelf i (codes_by inner start z) a.added) all a.are_rows in
+    let told : numbers ≡ given = a.numbers_are ∙ ap (numbers_by inner start) all in (
+      with_children a.row given ∷ a.added,
+      e ∙ (ap (λ n. slice_set now place (with_children a.row n)) told
+          ∙ (ap₂ (λ z n. slice_set z n (with_children a.row given)) a.now_is p ∙ set_behind before a.added a.row (with_children a.row given))),
+      subst (λ z. AreRows shelf i z (with_children a.row given ∷ a.added)) (sym (codes_open levels below (length before) code some)) (row_with shelf i bytes given a.row a.is_row, are),
     )
-  where
-    get_behind : (before behind : List Row) (x : Row) → slice_get (before ++ x ∷ behind) (length before) ≡ Some x
-    get_behind [] behind x = refl
-    get_behind (z ∷ before) behind x = get_behind before behind x
+
+pub front_is : (new behind : List Row) (len : ℕ) → len ≡ length new → take len (new ++ behind) ≡ new
+front_is [] behind zero e = refl
+front_is [] behind (suc len) e = absurd (omega (arith, e))
+front_is (x ∷ new) behind zero e = absurd (omega (arith, e))
+front_is (x ∷ new) behind (suc len) e = ap (λ z. x ∷ z) (front_is new behind len (omega (arith, e)))

@@ -153,3 +153,15 @@ one_named shelf named more i entry are count is e k found at =
     by : Place named entry k found → found ≡ module_named shelf k
     by (old f) = are k found f
     by (new f g) = sym g ∙ (is ∙ ap (module_named shelf) (sym count ∙ sym f))
+
+-- each module of a library is one that a file holds
+pub is_module : (shelf : Shelf) (tables : List (List Row)) (named : List (Option ℕ)) (i : ℕ) (m : Module) → IsKept shelf tables named → module_at shelf i ≡ Some m → IsModule m
+is_module shelf tables named i m kept e = by (slice_get tables i) refl
+  where
+    by : (o : Option (List Row)) → slice_get tables i ≡ o → IsModule m
+    by None f = absurd (let none = kept.all i (past_tables tables i f) in let wrong : Some m ≡ None = sym e ∙ none in cc)
+    by (Some rows) f =
+        let t = kept.rows i rows f in
+        let both : Some t.0 ≡ Some m = sym t.1 ∙ e in
+        let same : t.0 ≡ m = cc in
+        subst IsModule same t.2
