@@ -3,10 +3,9 @@ use Rattle.std.specs.Prelude.{slice_get, slice_set}
 use Rattle.std.proofs.Math.ListN.{length-set}
 use Rattle.bc_rows.specs.declared.row.Row.{Row}
 use Rattle.mpy_base.specs.declared.limits.TheConstants.{MAX_CODE_BYTES}
-use Rattle.mpy_tree.specs.declared.raw.RawCode.{RawCode, out-RawCode}
+use Rattle.mpy_tree.specs.declared.raw.RawCode.{RawCode}
 use Rattle.mpy_tree.specs.File.{IsOwnCode}
-use Rattle.bc_rows.specs.Made.{AreRows, Adds, IsCodeIn, with_children}
-use Rattle.bc_rows.specs.Codes.{codes_to}
+use Rattle.bc_rows.specs.Made.{with_children}
 use Rattle.bc_rows.specs.Rows.{IsRowOf}
 use Rattle.bc_rows.proofs.Numbering.{children, whole, get_at, child_of, own_of, Added, none_added, one_more, all_added, row_at, place_in, front_is}
 use Rattle.bc_rows.proofs.codes.+add_code.Goals as goal

@@ -1,11 +1,8 @@
-use Rattle.std.proofs.Common.{◌≡◌, ◌+◌, ◌<◌, ◌^◌, ◌∙◌, ◌∷◌, List, length, take, drop, map, sym, ap, ap₂, subst, arith}
-use Rattle.std.proofs.lemmas.List.{length-take-le}
+use Rattle.std.proofs.Common.{◌≡◌, ◌∙◌, ◌∷◌, length, take, drop, map, sym, ap, ap₂, subst, arith}
 use Rattle.bc_ops.specs.Listing.{IsListOf}
 use Rattle.bc_prelude.specs.declared.prelude.Prelude.{Prelude}
-use Rattle.bc_prelude.specs.Prelude.{Begins}
 use Rattle.bc_prelude.proofs.Preludes.{same_prelude}
 use Rattle.bc_verify.proofs.Bodies.{instructions_at}
-use Rattle.bc_library.specs.Shelf.{table_text}
 use Rattle.bc_library.specs.Texts.{text_numbered}
 use Rattle.bc_flow.specs.Code.{locals}
 use Rattle.bc_rows.proofs.Preludes.{parts_of, indexes_at, some_first, first_out}

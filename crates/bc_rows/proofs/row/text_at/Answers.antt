@@ -1,4 +1,4 @@
-use Rattle.std.proofs.Common.{◌≡◌, ◌+◌, Bool, true, false, length, sym, subst}
+use Rattle.std.proofs.Common.{◌≡◌, ◌+◌, true, false, length, sym, subst}
 use Rattle.std.specs.Prelude.{IsSome}
 use Rattle.bc_library.specs.Shelf.{entry_at, table_text}
 use Rattle.bc_library.specs.Texts.{text_numbered}

@@ -1,4 +1,4 @@
-use Rattle.std.proofs.Common.{◌≡◌, ◌+◌, length, arith}
+use Rattle.std.proofs.Common.{arith}
 use Rattle.bc_rows.proofs.Indexes.{walked_none, next_of, walked_more, walked_all}
 use Rattle.bc_rows.proofs.row.texts_at.Goals as goal
 

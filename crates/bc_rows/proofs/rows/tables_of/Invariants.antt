@@ -1,6 +1,4 @@
-use Rattle.std.proofs.Common.{◌≡◌, ℕ, length}
-use Rattle.bc_library.specs.Shelf.{Shelf}
-use Rattle.bc_rows.specs.declared.row.Row.{Row}
+use Rattle.std.proofs.Common.{◌≡◌, length}
 use Rattle.bc_rows.specs.Made.{AreTables}
 use Rattle.bc_rows.proofs.rows.tables_of.Given as goal
 

@@ -1,0 +1,7 @@
+mod Constants
+mod FewLines
+mod Kept
+mod Operating
+mod Reading
+mod Showing
+mod Texts

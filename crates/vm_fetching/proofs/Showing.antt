@@ -1,0 +1,198 @@
+-- What is fetched is what the machine has for the item.
+use Rattle.std.proofs.Common.{◌≡◌, ℕ, ℤ, pos, ◌+ℤ◌, ◌-◌, ◌<◌, ◌≤◌, Bool, List, length, Option, Some, refl, sym, ap, subst, ◌∙◌, arith}
+use Rattle.std.specs.Prelude.{IsSome, is_some, unwrap_or, option_map}
+use Rattle.bc_ops.specs.declared.form.Form.{Form}
+use Rattle.bc_ops.specs.declared.form.Form.TheVariants as forms
+use Rattle.bc_ops.specs.declared.instr.Op.{Op}
+use Rattle.bc_ops.specs.declared.instr.Op.TheVariants as ops
+use Rattle.bc_ops.specs.declared.instr.Instr.{Instr}
+use Rattle.bc_ops.specs.declared.instr.Instr.TheVariants as instrs
+use Rattle.bc_ops.specs.declared.listing.Target.{Target}
+use Rattle.bc_ops.specs.declared.listing.Target.TheVariants.{Position, Offset}
+use Rattle.bc_ops.specs.declared.listing.Item.TheVariants as items
+use Rattle.bc_ops.specs.Code.{TakesOffset}
+use Rattle.bc_ops.specs.Listing.{target}
+use Rattle.bc_ops.specs.Table.{code_of, form_of}
+use Rattle.bc_flow.specs.Code.{item_locals, IsOutside}
+use Rattle.arena_heap.specs.declared.value.Value.{Value}
+use Rattle.arena_heap.specs.declared.value.StrNo.{StrNo}
+use Rattle.arena_heap.specs.declared.value.ConstNo.{ConstNo}
+use Rattle.arena_objects.specs.Iterables.{or_nothing}
+use Rattle.mpy_tree.specs.Raw.{Module}
+use Rattle.mpy_tree.specs.File.{IsModule}
+use Rattle.mpy_tree.specs.Resolved.{plain, named, resolved_instr, name_at}
+use Rattle.mpy_tree.specs.Values.{value_of}
+use Rattle.bc_verify.specs.declared.fault.Rule.TheVariants as rules
+use Rattle.bc_library.specs.Constants.{object_value, text_at}
+use Rattle.bc_library.specs.Shelf.{Shelf, module_at, entry_at, table_text}
+use Rattle.bc_offsets.specs.Positions.{CodeList, Listed, Starts, Reads, position_in}
+use Rattle.bc_machine.specs.Library as machine
+use Rattle.bc_rows.specs.declared.row.Row.{Row}
+use Rattle.vm_walks.specs.Plain as plains
+use Rattle.vm_step.specs.Shown.{Tables, text_of}
+use Rattle.vm_step.specs.Shown as stepping
+use Rattle.vm_fetching.specs.declared.operations.PlainOp.{PlainOp}
+use Rattle.vm_fetching.specs.declared.operations.NumberOp.{NumberOp}
+use Rattle.vm_fetching.specs.declared.operations.NumberOp.TheVariants as numbers
+use Rattle.vm_fetching.specs.declared.operations.NameOp.{NameOp}
+use Rattle.vm_fetching.specs.declared.operations.JumpOp.{JumpOp}
+use Rattle.vm_fetching.specs.declared.instruction.Instruction.{Instruction}
+use Rattle.vm_fetching.specs.declared.instruction.Instruction.TheVariants as fetched
+use Rattle.vm_fetching.specs.Operations.{plain_op, number_op, name_op, jump_op}
+use Rattle.vm_fetching.specs.Numbered.{IsNumbered, number, object}
+use Rattle.vm_fetching.specs.Fetches.{AreOf, IsVerifiedRow}
+use Rattle.vm_fetching.specs.Shows.{NumberIsWithin, Shows}
+use Rattle.vm_fetching.proofs.Constants.{plain_object, object_there, at_index}
+use Rattle.vm_fetching.proofs.Kept.{Kept, kept, unbroken, unless}
+use Rattle.vm_fetching.proofs.Texts as texts
+
+-- an operation with a number is no other operation
+number_item : (m : Module) (o : NumberOp) (n : ℕ) → resolved_instr m (instrs.Num (number_op o) n) ≡ plain (instrs.Num (number_op o) n)
+number_item m numbers.LoadFast n = refl
+number_item m numbers.LoadFastN n = refl
+number_item m numbers.StoreFast n = refl
+number_item m numbers.StoreFastN n = refl
+number_item m numbers.DeleteFast n = refl
+number_item m numbers.BuildTuple n = refl
+number_item m numbers.BuildList n = refl
+number_item m numbers.BuildMap n = refl
+number_item m numbers.UnpackSequence n = refl
+number_item m numbers.MakeFunction n = refl
+number_item m numbers.MakeFunctionDefargs n = refl
+number_item m numbers.CallFunction n = refl
+number_item m numbers.CallMethod n = refl
+
+number_fits : (o : NumberOp) (n locals : ℕ) → item_locals (items.Plain (instrs.Num (number_op o) n)) ≤ locals → NumberIsWithin locals o n
+unfolding item_locals
+number_fits numbers.LoadFast n locals le = omega (arith, le)
+number_fits numbers.LoadFastN n locals le = omega (arith, le)
+number_fits numbers.StoreFast n locals le = omega (arith, le)
+number_fits numbers.StoreFastN n locals le = omega (arith, le)
+number_fits numbers.DeleteFast n locals le = omega (arith, le)
+number_fits numbers.BuildTuple n locals le = tt
+number_fits numbers.BuildList n locals le = tt
+number_fits numbers.BuildMap n locals le = tt
+number_fits numbers.UnpackSequence n locals le = tt
+number_fits numbers.MakeFunction n locals le = tt
+number_fits numbers.MakeFunctionDefargs n locals le = tt
+number_fits numbers.CallFunction n locals le = tt
+number_fits numbers.CallMethod n locals le = tt
+
+pub jump_form : (op : Op) (wide : Bool) (offset : ℤ) (form : Form) → form_of (code_of op) ≡ form → TakesOffset form op wide offset → (signed : Bool) × (form_of (code_of op) ≡ forms.Offset op signed)
+jump_form op wide offset (forms.Offset o signed) e t = (signed, e ∙ ap (λ z. forms.Offset z signed) t.0)
+jump_form op wide offset (forms.Whole whole) e t = absurd t
+jump_form op wide offset (forms.Name o) e t = absurd t
+jump_form op wide offset (forms.Number o) e t = absurd t
+jump_form op wide offset (forms.Call o) e t = absurd t
+jump_form op wide offset forms.Signed e t = absurd t
+jump_form op wide offset forms.Unwind e t = absurd t
+jump_form op wide offset forms.Outside e t = absurd t
+jump_form op wide offset forms.Unknown e t = absurd t
+
+-- a target that no offset is, is a position
+abbrev Places : Target → Type 0
+Places to = (q : ℕ) × (to ≡ Position q)
+
+place_of : (to : Target) → ((z : ℤ) → to ≡ Offset z → ⊥) → Places to
+place_of (Position q) h = (q, refl)
+place_of (Offset z) h = absurd (h z refl)
+
+module _ (shelf : Shelf) (i : ℕ) (row : Row) (v : IsVerifiedRow shelf i row) (m : Module) (there : module_at shelf i ≡ Some m) (l : CodeList) (listed : Listed row.instructions.now l) (at end : ℕ) where
+  its_kept : Kept m row l
+  its_kept = kept shelf i row m l v there listed
+
+  same_module : v.m ≡ m
+  same_module = let both : Some v.m ≡ Some m = sym v.there ∙ there in cc
+
+  is_module : IsModule m
+  is_module = subst IsModule same_module v.is_module
+
+  -- what a name, an object and a jump lead to is there
+  pub name_within : (op : Op) (n : ℕ) → Reads l at (instrs.Name op n) end → n < length m.qstrs
+  name_within op n r = unless n (length m.qstrs) (λ le. unbroken m row l its_kept (position_in l.offsets at) (items.Plain (instrs.Name op n)) rules.Names r.is le)
+
+  pub object_within : (n : ℕ) → Reads l at (instrs.Num ops.LoadConstObj n) end → n < length m.objects
+  object_within n r = unless n (length m.objects) (λ le. unbroken m row l its_kept (position_in l.offsets at) (items.Plain (instrs.Num ops.LoadConstObj n)) rules.Names r.is le)
+
+  pub jump_place : (op : Op) (offset : ℤ) (wide : Bool) → Reads l at (instrs.Jump op offset wide) end → Places (target l.offsets 0 (pos end +ℤ offset))
+  jump_place op offset wide r =
+      let to = target l.offsets 0 (pos end +ℤ offset) in
+      let k : Kept m row l = its_kept in
+      place_of to (λ z e. unbroken m row l k (position_in l.offsets at) (items.Jump op to) rules.Jump r.is (subst (IsOutside (length k.body.items)) (sym e) tt))
+
+  pub unwind_place : (offset : ℤ) (wide : Bool) (byte : ℕ) → Reads l at (instrs.Unwind offset wide byte) end → Places (target l.offsets 0 (pos (end - 1) +ℤ offset))
+  unwind_place offset wide byte r =
+      let to = target l.offsets 0 (pos (end - 1) +ℤ offset) in
+      let k : Kept m row l = its_kept in
+      place_of to (λ z e. unbroken m row l k (position_in l.offsets at) (items.Unwind to byte) rules.Jump r.is (subst (IsOutside (length k.body.items)) (sym e) tt))
+
+  pub name_entry : (op : Op) (n : ℕ) → Reads l at (instrs.Name op n) end → IsSome (entry_at shelf i n)
+  name_entry op n r = texts.entry_there shelf i m n there (name_within op n r)
+
+  pub object_entry : (op : Op) (n : ℕ) → Reads l at (instrs.Num op n) end → op ≡ ops.LoadConstObj → IsSome (object_value shelf i n)
+  object_entry op n r e = object_there shelf i m n there (object_within n (subst (λ z. Reads l at (instrs.Num z n) end) e r))
+
+  module _ (tables : Tables) (of : AreOf shelf tables) where
+    abbrev S : Instr → Instruction → Type 0
+    S instr shown = Shows shelf m tables row l end instr shown
+
+    pub shows_plain : (op : Op) (o : PlainOp) → plain_op o ≡ op → S (instrs.Plain op) (fetched.Plain o)
+    shows_plain op o e = record { item_is = ap (λ z. machine.Plain (instrs.Plain z)) (sym e); target = tt; local = tt; text = tt }
+
+    pub shows_int : (z : ℤ) → S (instrs.Int z) (fetched.Int z)
+    shows_int z = record { item_is = refl; target = tt; local = tt; text = tt }
+
+    pub shows_unary : (n : ℕ) → S (instrs.Unary n) (fetched.Unary n)
+    shows_unary n = record { item_is = refl; target = tt; local = tt; text = tt }
+
+    pub shows_binary : (n : ℕ) → S (instrs.Binary n) (fetched.Binary n)
+    shows_binary n = record { item_is = refl; target = tt; local = tt; text = tt }
+
+    pub shows_name : (op : Op) (o : NameOp) (n : ℕ) (s : StrNo) → name_op o ≡ op → text_at shelf s ≡ table_text shelf i n → Reads l at (instrs.Name op n) end → S (instrs.Name op n) (fetched.Name o s)
+    shows_name op o n s e same r =
+        let t = texts.text_there m n is_module (name_within op n r) in
+        let text : text_at shelf s ≡ Some t.0 = same ∙ (texts.same_text shelf i m n there ∙ t.1) in
+        let shown_text : text_of tables s ≡ t.0 = ap (λ (f : StrNo → Option (List ℕ)). or_nothing (f s)) of.texts ∙ ap or_nothing text in
+        record {
+          item_is = ap (λ x. machine.item_of (length l.items) (unwrap_or (option_map (named op) x) (plain (instrs.Name op n)))) t.1
+              ∙ (ap (λ z. machine.Names z t.0) (sym e) ∙ ap (machine.Names (name_op o)) (sym shown_text));
+          target = tt;
+          local = tt;
+          text = ap is_some text;
+        }
+
+    pub shows_number : (op : Op) (n : ℕ) (result : Instruction) → IsNumbered shelf i n op result → Reads l at (instrs.Num op n) end → S (instrs.Num op n) result
+    shows_number op n result (number o) r =
+        let k : Kept m row l = its_kept in
+        let le = k.locals_fit (position_in l.offsets at) (items.Plain (instrs.Num (number_op o) n)) r.is in
+        record { item_is = ap (machine.item_of (length l.items)) (number_item m o n); target = tt; local = number_fits o n row.locals le; text = tt }
+    shows_number op n result (object x e) r =
+        let c = at_index m.objects n (object_within n r) in
+        let value : stepping.value_of tables x ≡ value_of c.0 =
+        ap (λ (f : StrNo → Option (List ℕ)). plains.plain f tables.tuples x) of.texts
+        ∙ (ap (λ (g : ConstNo → Option (List Value)). plains.plain (text_at shelf) g x) of.tuples ∙ plain_object shelf i m there n c.0 x is_module c.1 e) in
+        record {
+          item_is = ap (λ z. machine.item_of (length l.items) (unwrap_or (option_map (λ constant. Rattle.mpy_tree.specs.Resolved.object (value_of constant)) z) (plain (instrs.Num ops.LoadConstObj n)))) c.1
+              ∙ ap machine.Loads (sym value);
+          target = tt;
+          local = tt;
+          text = tt;
+        }
+
+    pub shows_jump : (op : Op) (o : JumpOp) (offset : ℤ) (wide : Bool) (to q : ℕ) → jump_op o ≡ op → target l.offsets 0 (pos end +ℤ offset) ≡ Position q → Starts l.offsets to × (position_in l.offsets to ≡ q) → S (instrs.Jump op offset wide) (fetched.Jump o to)
+    shows_jump op o offset wide to q e place lands =
+        record {
+          item_is = ap (λ z. machine.Jumps op (machine.position_of (length l.items) z)) place ∙ (ap (λ z. machine.Jumps z q) (sym e) ∙ ap (machine.Jumps (jump_op o)) (sym lands.1));
+          target = lands.0;
+          local = tt;
+          text = tt;
+        }
+
+    pub shows_unwind : (offset : ℤ) (wide : Bool) (byte to q : ℕ) → target l.offsets 0 (pos (end - 1) +ℤ offset) ≡ Position q → Starts l.offsets to × (position_in l.offsets to ≡ q) → S (instrs.Unwind offset wide byte) (fetched.Unwind to byte)
+    shows_unwind offset wide byte to q place lands =
+        record {
+          item_is = ap (λ z. machine.Unwinds (machine.position_of (length l.items) z) byte) place ∙ ap (λ z. machine.Unwinds z byte) (sym lands.1);
+          target = lands.0;
+          local = tt;
+          text = tt;
+        }

@@ -1,0 +1,4 @@
+pub mod Fetches
+pub mod Numbered
+pub mod Operations
+pub mod Shows

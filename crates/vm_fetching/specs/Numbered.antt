@@ -1,0 +1,15 @@
+-- Instructions with a number: an object of the module's table, or the operation with its number.
+use Rattle.std.specs.Prelude.{◌≡◌, ℕ, Some}
+use Rattle.bc_ops.specs.declared.instr.Op.{Op}
+use Rattle.bc_ops.specs.declared.instr.Op.TheVariants as ops
+use Rattle.arena_heap.specs.declared.value.Value.{Value}
+use Rattle.bc_library.specs.Constants.{object_value}
+use Rattle.bc_library.specs.Shelf.{Shelf}
+use Rattle.vm_fetching.specs.declared.operations.NumberOp.{NumberOp}
+use Rattle.vm_fetching.specs.declared.instruction.Instruction.{Instruction}
+use Rattle.vm_fetching.specs.declared.instruction.Instruction.TheVariants as fetched
+use Rattle.vm_fetching.specs.Operations.{number_op}
+
+pub data IsNumbered (shelf : Shelf) (i n : ℕ) : Op → Instruction → Type 0 where
+  number : (o : NumberOp) → IsNumbered shelf i n (number_op o) (fetched.Number o n)
+  object : (v : Value) → object_value shelf i n ≡ Some v → IsNumbered shelf i n ops.LoadConstObj (fetched.Object v)

@@ -1,0 +1,90 @@
+-- What is fetched, as the machine's items.
+use Rattle.std.specs.Prelude.{◌≡◌, ℕ, ◌<◌, List, length, IsSome}
+use Rattle.bc_ops.specs.declared.instr.Instr.{Instr}
+use Rattle.bc_ops.specs.declared.instr.Instr.TheVariants as instrs
+use Rattle.bc_ops.specs.Listing.{item}
+use Rattle.bc_offsets.specs.Positions.{CodeList, Starts, position_in}
+use Rattle.mpy_tree.specs.Raw.{Module}
+use Rattle.mpy_tree.specs.Resolved.{resolved}
+use Rattle.bc_library.specs.Constants.{text_at}
+use Rattle.bc_library.specs.Shelf.{Shelf}
+use Rattle.bc_machine.specs.Library as machine
+use Rattle.bc_machine.specs.Library.{Item}
+use Rattle.bc_rows.specs.declared.row.Row.{Row}
+use Rattle.vm_step.specs.Shown.{Tables, text_of, value_of}
+use Rattle.vm_fetching.specs.declared.operations.NumberOp.{NumberOp}
+use Rattle.vm_fetching.specs.declared.operations.NumberOp.TheVariants as numbers
+use Rattle.vm_fetching.specs.declared.instruction.Instruction.{Instruction}
+use Rattle.vm_fetching.specs.declared.instruction.Instruction.TheVariants as fetched
+use Rattle.vm_fetching.specs.Operations.{plain_op, number_op, name_op, jump_op}
+
+-- the machine's item of what is fetched, where instructions start at these offsets
+module _ (tables : Tables) (starts : List ℕ) where
+  abbrev pub item_of_fetched : Instruction → Item
+  item_of_fetched (fetched.Plain op) = machine.Plain (instrs.Plain (plain_op op))
+  item_of_fetched (fetched.Number op n) = machine.Plain (instrs.Num (number_op op) n)
+  item_of_fetched (fetched.Int z) = machine.Plain (instrs.Int z)
+  item_of_fetched (fetched.Unary n) = machine.Plain (instrs.Unary n)
+  item_of_fetched (fetched.Binary n) = machine.Plain (instrs.Binary n)
+  item_of_fetched (fetched.Name op text) = machine.Names (name_op op) (text_of tables text)
+  item_of_fetched (fetched.Object v) = machine.Loads (value_of tables v)
+  item_of_fetched (fetched.Jump op target) = machine.Jumps (jump_op op) (position_in starts target)
+  item_of_fetched (fetched.Unwind target byte) = machine.Unwinds (position_in starts target) byte
+
+-- an instruction starts at the offset that it jumps to
+abbrev pub TargetStarts : List ℕ → Instruction → Type 0
+TargetStarts starts (fetched.Jump op target) = Starts starts target
+TargetStarts starts (fetched.Unwind target byte) = Starts starts target
+TargetStarts starts (fetched.Plain op) = Unit {0}
+TargetStarts starts (fetched.Number op n) = Unit {0}
+TargetStarts starts (fetched.Int z) = Unit {0}
+TargetStarts starts (fetched.Unary n) = Unit {0}
+TargetStarts starts (fetched.Binary n) = Unit {0}
+TargetStarts starts (fetched.Name op text) = Unit {0}
+TargetStarts starts (fetched.Object v) = Unit {0}
+
+-- the local with the number is one of so many, where the operation has the number of one
+abbrev pub NumberIsWithin : (locals : ℕ) → NumberOp → ℕ → Type 0
+NumberIsWithin locals numbers.LoadFast n = n < locals
+NumberIsWithin locals numbers.LoadFastN n = n < locals
+NumberIsWithin locals numbers.StoreFast n = n < locals
+NumberIsWithin locals numbers.StoreFastN n = n < locals
+NumberIsWithin locals numbers.DeleteFast n = n < locals
+NumberIsWithin locals numbers.BuildTuple n = Unit {0}
+NumberIsWithin locals numbers.BuildList n = Unit {0}
+NumberIsWithin locals numbers.BuildMap n = Unit {0}
+NumberIsWithin locals numbers.UnpackSequence n = Unit {0}
+NumberIsWithin locals numbers.MakeFunction n = Unit {0}
+NumberIsWithin locals numbers.MakeFunctionDefargs n = Unit {0}
+NumberIsWithin locals numbers.CallFunction n = Unit {0}
+NumberIsWithin locals numbers.CallMethod n = Unit {0}
+
+abbrev pub LocalIsWithin : (locals : ℕ) → Instruction → Type 0
+LocalIsWithin locals (fetched.Number op n) = NumberIsWithin locals op n
+LocalIsWithin locals (fetched.Plain op) = Unit {0}
+LocalIsWithin locals (fetched.Int z) = Unit {0}
+LocalIsWithin locals (fetched.Unary n) = Unit {0}
+LocalIsWithin locals (fetched.Binary n) = Unit {0}
+LocalIsWithin locals (fetched.Name op text) = Unit {0}
+LocalIsWithin locals (fetched.Object v) = Unit {0}
+LocalIsWithin locals (fetched.Jump op target) = Unit {0}
+LocalIsWithin locals (fetched.Unwind target byte) = Unit {0}
+
+-- the text that it names is one of the library's
+abbrev pub TextIsThere : Shelf → Instruction → Type 0
+TextIsThere shelf (fetched.Name op text) = IsSome (text_at shelf text)
+TextIsThere shelf (fetched.Plain op) = Unit {0}
+TextIsThere shelf (fetched.Number op n) = Unit {0}
+TextIsThere shelf (fetched.Int z) = Unit {0}
+TextIsThere shelf (fetched.Unary n) = Unit {0}
+TextIsThere shelf (fetched.Binary n) = Unit {0}
+TextIsThere shelf (fetched.Object v) = Unit {0}
+TextIsThere shelf (fetched.Jump op target) = Unit {0}
+TextIsThere shelf (fetched.Unwind target byte) = Unit {0}
+
+-- the instruction of a list that ends at the offset, with the numbers of the library
+pub record Shows (shelf : Shelf) (m : Module) (tables : Tables) (row : Row) (l : CodeList) (end : ℕ) (instr : Instr) (shown : Instruction) : Type 0 where
+  pub item_is : machine.item_of (length l.items) (resolved m (item l.offsets end instr)) ≡ item_of_fetched tables l.offsets shown
+  pub target : TargetStarts l.offsets shown
+  pub local : LocalIsWithin row.locals shown
+  pub text : TextIsThere shelf shown

@@ -1,0 +1,31 @@
+//! What is fetched.
+
+use crate::operations::{JumpOp, NameOp, NumberOp, PlainOp};
+use arena_heap::{StrNo, Value};
+
+/// An instruction with the numbers of its library: a text, an object and the offset that it jumps to.
+#[derive(Clone, Copy, Debug, PartialEq, Eq)]
+pub enum Instruction {
+    Plain(PlainOp),
+    Number(NumberOp, u32),
+    /// Loads a small integer.
+    Int(i32),
+    /// A unary operator, by its number.
+    Unary(u8),
+    /// A binary operator, by its number.
+    Binary(u8),
+    Name(NameOp, StrNo),
+    /// Loads an object.
+    Object(Value),
+    /// The offset that it jumps to, or that its handler starts at.
+    Jump(JumpOp, u32),
+    /// The byte counts the entries that are left, and its highest bit says that an iterator is taken.
+    Unwind { target: u32, byte: u8 },
+}
+
+/// An instruction, and the offset that it ends at.
+#[derive(Clone, Copy, Debug, PartialEq, Eq)]
+pub struct Fetched {
+    pub instruction: Instruction,
+    pub end: u32,
+}

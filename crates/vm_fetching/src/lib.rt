@@ -1,0 +1,13 @@
+//! The instruction at an offset of a row, decoded in place.
+#![tactic(auto)]
+
+mod fetching;
+mod instruction;
+mod lines;
+mod looking;
+mod operations;
+
+pub use fetching::fetch;
+pub use instruction::{Fetched, Instruction};
+pub use lines::line_of;
+pub use operations::{JumpOp, NameOp, NumberOp, PlainOp};

@@ -1,0 +1,32 @@
+//! Texts and objects of a library.
+
+ghost use Rattle.std.specs.Prelude.{◌≡◌, Some, IsSome};
+ghost use Rattle.bc_library.specs.Constants.{object_value, text_at};
+ghost use Rattle.bc_library.specs.Shelf.{entry_at, table_text};
+
+use arena_heap::{StrNo, Value};
+use bc_library::Library;
+
+/// The text of the module's table that has the number.
+#[inline(always)]
+pub(crate) fn text_of(library: &Library, module_number: u32, n: u32) -> StrNo
+    requires { IsSome (entry_at library.now module_number n) }
+    ensures { text_at library.now result ≡ table_text library.now module_number n }
+{
+    let Some(text) = library.text_number(module_number, n) else {
+        unreachable!();
+    };
+    StrNo::Pool(text)
+}
+
+/// The value of the object of the module's table that has the number.
+#[inline(always)]
+pub(crate) fn object_of(library: &Library, module_number: u32, n: u32) -> Value
+    requires { IsSome (object_value library.now module_number n) }
+    ensures { object_value library.now module_number n ≡ Some result }
+{
+    let Some(v) = library.object(module_number, n) else {
+        unreachable!();
+    };
+    v
+}
