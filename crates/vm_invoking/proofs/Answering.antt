@@ -1,12 +1,12 @@
 -- Calls that act at once.
-use Rattle.std.proofs.Common.{◌≡◌, ℕ, suc, ◌<◌, length, drop, List, [], ◌∷◌, map, Result, Err, refl, sym, ap, ◌∙◌, subst, arith}
+use Rattle.std.proofs.Common.{◌≡◌, ℕ, ◌<◌, length, drop, List, [], ◌∷◌, map, Result, Err, refl, sym, ap, arith}
 use Rattle.mpy_base.specs.World.{Heap}
 use Rattle.mpy_base.specs.Val.{Val, PlainWorld}
 use Rattle.arena_heap.specs.declared.value.Value.{Value}
 use Rattle.py_values.specs.Shown.{PlainHeap}
 use Rattle.py_primitives.specs.Faults as plain_faults
 use Rattle.py_primitives.specs.Outcome.{Outcome, Raises}
-use Rattle.py_effects.specs.Effect.{Effect, Place, on_heap, faults, fault_at}
+use Rattle.py_effects.specs.Effect.{Effect, on_heap, faults, fault_at}
 use Rattle.py_effects.specs.Calling as plain_calls
 use Rattle.bc_machine.specs.Library.{Item}
 use Rattle.bc_machine.specs.State as states
@@ -16,7 +16,6 @@ use Rattle.vm_frames.specs.Calls.{Call}
 use Rattle.vm_moves.specs.Views.{slots_of, starts_of, frame_of}
 use Rattle.vm_calls.specs.declared.callees.Callee.{Callee}
 use Rattle.vm_calls.specs.Callees.{plain_callee}
-use Rattle.vm_walks.specs.Plain.{plain_heap}
 use Rattle.vm_faults.specs.declared.stop.Stop.{Stop}
 use Rattle.vm_faults.specs.declared.stop.Stop.TheVariants as stops
 use Rattle.vm_faults.specs.declared.fault.Fault.{Fault}

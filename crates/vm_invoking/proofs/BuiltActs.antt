@@ -1,10 +1,9 @@
 -- Calls of built-ins as the machine's steps.
-use Rattle.std.proofs.Common.{◌≡◌, ℕ, suc, List, [], ◌∷◌, ◌++◌, map, drop, Option, Some, Result, Ok, Err, inl, inr, refl, sym, ap, ◌∙◌, subst, arith}
-use Rattle.std.specs.Prelude.{◌⊎◌}
+use Rattle.std.proofs.Common.{◌≡◌, ℕ, suc, List, [], ◌∷◌, ◌++◌, map, drop, Option, Result, Ok, Err, inl, inr, refl, sym, ap, ◌∙◌, subst}
 use Rattle.mpy_base.specs.declared.builtin.Builtin.{Builtin}
 use Rattle.mpy_base.specs.declared.builtin.Builtin.TheVariants as builtins
 use Rattle.mpy_base.specs.World.{Heap}
-use Rattle.mpy_base.specs.Val.{Val, Nil, Built, PlainWorld}
+use Rattle.mpy_base.specs.Val.{Val, Built, PlainWorld}
 use Rattle.arena_heap.specs.declared.value.StrNo.{StrNo}
 use Rattle.arena_heap.specs.declared.value.ConstNo.{ConstNo}
 use Rattle.port_set.specs.Calls.{Tell}
@@ -15,7 +14,7 @@ use Rattle.py_primitives.specs.Faults.{NotCallable}
 use Rattle.py_primitives.specs.Outcome as primitives
 use Rattle.py_primitives.specs.Outcome.{raises}
 use Rattle.py_primitives.specs.Calls.{call}
-use Rattle.py_effects.specs.Effect.{Effect, Place}
+use Rattle.py_effects.specs.Effect.{Effect}
 use Rattle.py_effects.specs.Calling.{call_builtin}
 use Rattle.bc_machine.specs.Library.{Item, Library}
 use Rattle.bc_machine.specs.State as states
@@ -24,10 +23,9 @@ use Rattle.vm_walks.specs.Plain.{plain_pair}
 use Rattle.vm_faults.specs.declared.fault.Fault.TheVariants as faults
 use Rattle.vm_faults.specs.declared.stop.Stop.{Stop}
 use Rattle.vm_faults.specs.declared.stop.Stop.TheVariants as stops
-use Rattle.vm_outputs.specs.declared.prints.PrintStop.{PrintStop}
 use Rattle.vm_calls.specs.declared.calls.CallStop.{CallStop}
 use Rattle.vm_calls.specs.declared.calls.CallStop.TheVariants as calls
-use Rattle.vm_calls.specs.Calls.{as_call, as_print, Seen, IsCall, CallsPort, CountsPorts, ActsOnHeap, IsKnownCall}
+use Rattle.vm_calls.specs.Calls.{Seen, IsCall, IsKnownCall}
 use Rattle.vm_calls.specs.Families.{IsOnHeap, IsOfPorts}
 use Rattle.vm_calls.proofs.FamilyEffects.{on_heap_effect}
 use Rattle.vm_frames.specs.declared.slot.Slot.TheVariants as slots
@@ -39,7 +37,7 @@ use Rattle.vm_step.specs.Outcomes.{world_of, outcome_of}
 use Rattle.vm_step.proofs.Stepping.{goes_to}
 use Rattle.vm_invoking.specs.Coming.{Comes}
 use Rattle.vm_invoking.specs.Putting.{with_value, put_in, done_of, Puts}
-use Rattle.vm_invoking.specs.Built.{Acts, Fails, FailsAlike, ActsBuilt, visits_of, IsKnownCallStop}
+use Rattle.vm_invoking.specs.Built.{Acts, ActsBuilt, IsKnownCallStop}
 use Rattle.vm_invoking.proofs.Coming.{GivesIn, put_calls, put_calls_are, comes, puts_list, ends, known_stop}
 use Rattle.vm_invoking.proofs.Builtins.{Effected, Half, Giving, family, heap_call, giving_call, giving_print, of_outcome, of_port, of_print}
 

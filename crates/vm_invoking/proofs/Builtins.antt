@@ -1,29 +1,26 @@
 -- The effects of built-ins, from what their calls do to the arena, the output and the ports.
-use Rattle.std.proofs.Common.{◌≡◌, ℕ, suc, List, [], ◌∷◌, ◌++◌, map, drop, Bool, true, false, Option, Some, None, Result, Ok, Err, inl, inr, refl, sym, ap, ◌∙◌, subst, arith}
+use Rattle.std.proofs.Common.{◌≡◌, ℕ, List, ◌++◌, map, true, Option, Some, None, Result, Ok, Err, inl, inr, refl, sym, ap, ◌∙◌, subst}
 use Rattle.std.specs.Prelude.{◌⊎◌}
 use Rattle.std.specs.Option.{option_map}
 use Rattle.std.specs.Io.KnownBytes.{Appends}
 use Rattle.mpy_base.specs.declared.builtin.Builtin.{Builtin}
 use Rattle.mpy_base.specs.declared.builtin.Builtin.TheVariants as builtins
-use Rattle.mpy_base.specs.World.{Heap, PortState}
-use Rattle.mpy_base.specs.Val.{Val, Nil, Built, PlainWorld}
+use Rattle.mpy_base.specs.World.{Heap}
+use Rattle.mpy_base.specs.Val.{Val, Nil, PlainWorld}
 use Rattle.mpy_io.specs.Ports.{PortView}
 use Rattle.port_set.specs.Calls.{Tell}
 use Rattle.arena_heap.specs.declared.value.Value.{Value}
-use Rattle.arena_heap.specs.declared.value.Value.TheVariants as values
 use Rattle.arena_heap.specs.declared.value.StrNo.{StrNo}
 use Rattle.arena_heap.specs.declared.value.ConstNo.{ConstNo}
 use Rattle.py_values.specs.Shown.{PlainHeap}
-use Rattle.py_values.specs.Names.{type_name}
 use Rattle.py_primitives.specs.Faults as plain
 use Rattle.py_primitives.specs.Outcome as primitives
 use Rattle.py_primitives.specs.Outcome.{Outcome, raises, after_answer}
 use Rattle.py_primitives.specs.Calls.{call}
-use Rattle.py_primitives.specs.Output.{PortOutcome, Ends, printed, printed_with, ends_from, call_port}
+use Rattle.py_primitives.specs.Output.{Ends, printed, printed_with, ends_from, call_port}
 use Rattle.py_effects.specs.Effect.{Effect, on_heap}
-use Rattle.py_effects.specs.Calling.{Keys, written, prints, on_ports, call_builtin}
+use Rattle.py_effects.specs.Calling.{Keys, written, call_builtin}
 use Rattle.vm_walks.specs.Plain.{plain as plain_value, plain_pair, plain_heap}
-use Rattle.vm_faults.specs.declared.fault.Fault.{Fault}
 use Rattle.vm_faults.specs.declared.fault.Fault.TheVariants as faults
 use Rattle.vm_faults.specs.declared.stop.Stop.{Stop}
 use Rattle.vm_faults.specs.declared.stop.Stop.TheVariants as stops
@@ -38,7 +35,7 @@ use Rattle.vm_calls.specs.declared.calls.CallStop.{CallStop}
 use Rattle.vm_calls.specs.declared.calls.CallStop.TheVariants as calls
 use Rattle.vm_calls.specs.Calls.{as_call, as_print, Seen, IsCall, heap_of, plain_args, plain_keys, ActsOnHeap}
 use Rattle.vm_calls.specs.Families.{IsOnHeap, IsOfPorts}
-use Rattle.vm_calls.proofs.FamilyEffects.{on_heap_effect, ports_effect}
+use Rattle.vm_calls.proofs.FamilyEffects.{ports_effect}
 
 -- print changes nothing of the heap
 walked_same : {A : Type 0} (heap : PlainHeap) (answer : Option A) (next : A → Outcome (List ℕ)) → ((a : A) → (next a).heap ≡ heap) → (after_answer answer heap next).heap ≡ heap

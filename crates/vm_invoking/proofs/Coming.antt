@@ -1,5 +1,5 @@
 -- An instruction of the machine that is an effect, from what its primitive answers.
-use Rattle.std.proofs.Common.{◌≡◌, ℕ, suc, ◌<◌, ◌≤◌, List, [], ◌∷◌, map, drop, Bool, true, false, Option, Result, Ok, Err, refl, sym, ap, ◌∙◌, subst, arith}
+use Rattle.std.proofs.Common.{◌≡◌, ℕ, suc, ◌<◌, ◌≤◌, List, [], ◌∷◌, map, drop, Bool, Option, Result, Ok, Err, refl, sym, ap, ◌∙◌, subst, arith}
 use Rattle.std.proofs.lemmas.Bool.{lt-ltb, le-ltb}
 use Rattle.mpy_base.specs.World.{Heap}
 use Rattle.mpy_base.specs.Val.{Val, PlainWorld}
@@ -11,10 +11,10 @@ use Rattle.py_primitives.specs.Outcome as primitives
 use Rattle.py_effects.specs.Effect.{Effect, Place, Fails, Thrown, Filled, failed, given_answer, fault_at}
 use Rattle.vm_faults.specs.declared.stop.Stop.{Stop}
 use Rattle.vm_faults.specs.declared.stop.Stop.TheVariants as stops
-use Rattle.vm_faults.specs.Outcomes.{plain_stop, plain_answer, IsKnownAnswer}
+use Rattle.vm_faults.specs.Outcomes.{plain_answer, IsKnownAnswer}
 use Rattle.vm_raising.specs.Places.{stopped_at}
 use Rattle.vm_frames.specs.declared.slot.Slot.TheVariants as slots
-use Rattle.vm_frames.specs.Calls.{Call, Calls, OfRunning, change_first, on_running}
+use Rattle.vm_frames.specs.Calls.{Call, Calls, OfRunning, change_first}
 use Rattle.bc_offsets.specs.Positions.{position_in}
 use Rattle.vm_moves.specs.Views.{slots_of, starts_of, position_of, frame_of}
 use Rattle.bc_machine.specs.Library.{Item, Library}
@@ -22,7 +22,7 @@ use Rattle.bc_machine.specs.State as states
 use Rattle.bc_machine.specs.State.{State, Running, fail, on_given, go}
 use Rattle.bc_machine.specs.Step as step
 use Rattle.bc_machine.specs.Step.{item_step}
-use Rattle.vm_step.specs.Shown.{Tables, view_of, running_of, step_of}
+use Rattle.vm_step.specs.Shown.{Tables, view_of}
 use Rattle.vm_step.specs.Outcomes.{world_of, outcome_of, Does}
 use Rattle.vm_step.proofs.Stepping.{goes_to}
 use Rattle.vm_invoking.specs.Coming.{Comes, ComesTo}

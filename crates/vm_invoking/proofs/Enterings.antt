@@ -2,9 +2,8 @@
 use Rattle.std.proofs.Common.{◌≡◌, ℕ, zero, suc, ◌+◌, ◌-◌, ◌<◌, ◌≤◌, List, [], ◌∷◌, ◌++◌, length, map, take, drop, replicate, Bool, true, false, Option, Some, None, Result, Ok, Err, inl, inr, slice_get, slice_set, refl, sym, ap, ◌∙◌, subst, arith}
 use Rattle.std.specs.Prelude.{nat_lt, ◌⊎◌}
 use Rattle.std.proofs.lemmas.Bool.Decides.{nat_tests}
-use Rattle.std.specs.Option.{option_map}
 use Rattle.std.proofs.lemmas.Option.{none-some, same_Some}
-use Rattle.std.proofs.lemmas.List.{take_all, length-append, length-drop, length-take-le, length-replicate, length-map}
+use Rattle.std.proofs.lemmas.List.{take_all, length-append, length-drop, length-take-le, length-replicate}
 use Rattle.mpy_base.specs.declared.limits.TheConstants.{MAX_CALLS}
 use Rattle.mpy_base.specs.World.{Heap}
 use Rattle.mpy_base.specs.Val.{Val}
@@ -15,14 +14,13 @@ use Rattle.py_effects.specs.Calling.{bind}
 use Rattle.vm_walks.specs.Plain.{plain, plain_pair}
 use Rattle.vm_faults.specs.declared.fault.Fault.{Fault}
 use Rattle.vm_calls.specs.Binding.{name_text, IsBound}
-use Rattle.vm_frames.specs.declared.slot.Slot.{Slot}
 use Rattle.vm_frames.specs.Calls.{Call, Calls, OfRunning, change_first, on_running}
 use Rattle.vm_calls.specs.declared.callees.Function.{Function}
 use Rattle.vm_faults.specs.declared.fault.Fault.TheVariants as faults
 use Rattle.vm_faults.specs.declared.stop.Stop.TheVariants as stops
 use Rattle.vm_invoking.specs.Operands.{running_slots}
 use Rattle.vm_invoking.specs.Entering.{begun, entered, IsEntered}
-use Rattle.vm_invoking.proofs.Changes.{then_is, same_on, still, some_call, dropped}
+use Rattle.vm_invoking.proofs.Changes.{then_is, same_on, still, dropped}
 
 -- locals that are filled
 -- ======================

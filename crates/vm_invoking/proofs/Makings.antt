@@ -1,9 +1,8 @@
 -- The machine's makings of functions, where the child of the running code is known.
-use Rattle.std.proofs.Common.{◌≡◌, ℕ, zero, suc, ◌<◌, ◌≤◌, length, List, [], ◌∷◌, map, drop, Bool, true, false, Option, Some, None, slice_get, refl, sym, ap, ◌∙◌, subst, arith}
+use Rattle.std.proofs.Common.{◌≡◌, ℕ, ◌≤◌, length, List, [], ◌∷◌, drop, Bool, true, false, Option, Some, slice_get, sym, ap, ◌∙◌, subst, arith}
 use Rattle.std.specs.Prelude.{if◌then◌else◌}
 use Rattle.std.proofs.lemmas.Option.{none-some, same_Some}
 use Rattle.mpy_base.specs.Val.{Val, PlainWorld}
-use Rattle.arena_heap.specs.declared.value.Value.{Value}
 use Rattle.arena_heap.specs.declared.value.DictNo.{DictNo}
 use Rattle.py_values.specs.Shown.{shown}
 use Rattle.py_primitives.specs.Faults.{BadDefaults}
@@ -11,15 +10,13 @@ use Rattle.py_effects.specs.Effect.{Effect, Place, faults, fault_at}
 use Rattle.py_effects.specs.Modules.{has_items, make_function}
 use Rattle.vm_walks.specs.Plain.{plain_name}
 use Rattle.vm_frames.specs.declared.slot.Slot.{Slot}
-use Rattle.vm_frames.specs.declared.slot.Slot.TheVariants as slots
 use Rattle.vm_frames.specs.Calls.{Call, OfRunning}
-use Rattle.vm_moves.specs.Views.{slots_of, starts_of, frame_of}
-use Rattle.bc_ops.specs.declared.instr.Op.TheVariants as ops
+use Rattle.vm_moves.specs.Views.{frame_of}
 use Rattle.bc_machine.specs.Library.{Code, Library}
 use Rattle.bc_machine.specs.State as states
 use Rattle.bc_machine.specs.State.{State, fail}
 use Rattle.bc_machine.specs.Step as step
-use Rattle.vm_step.specs.Shown.{Tables, view_of, value_of}
+use Rattle.vm_step.specs.Shown.{Tables, view_of}
 use Rattle.vm_invoking.specs.Children.{IsChild, judged}
 use Rattle.vm_invoking.specs.Operands.{running_slots}
 use Rattle.vm_invoking.specs.declared.making.Child.{Child}

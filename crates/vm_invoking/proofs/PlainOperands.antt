@@ -1,17 +1,12 @@
 -- The operands of a call as the machine's slots have them.
-use Rattle.std.proofs.Common.{◌≡◌, ℕ, zero, suc, ◌+◌, ◌*◌, ◌/◌, ◌%◌, ◌<◌, ◌≤◌, List, [], ◌∷◌, ◌++◌, length, map, take, drop, reverse, Option, Some, None, slice_get, refl, sym, ap, ◌∙◌, subst, arith}
-use Rattle.std.specs.Prelude.{All}
+use Rattle.std.proofs.Common.{◌≡◌, ℕ, zero, suc, ◌+◌, List, [], ◌∷◌, ◌++◌, map, take, drop, reverse, Some, slice_get, refl, sym, ap, ◌∙◌}
 use Rattle.std.proofs.lemmas.Option.{none-some, same_Some}
 use Rattle.std.proofs.lemmas.List.{drop-map, drop-drop, reverse-append, map-append}
-use Rattle.mpy_base.specs.World.{Objects}
-use Rattle.mpy_base.specs.Val.{Val, PlainWorld}
+use Rattle.mpy_base.specs.Val.{Val}
 use Rattle.arena_heap.specs.declared.value.Value.{Value}
-use Rattle.arena_heap.specs.declared.value.StrNo.{StrNo}
-use Rattle.arena_heap.specs.declared.value.ConstNo.{ConstNo}
 use Rattle.vm_walks.specs.Plain.{plain_pair}
 use Rattle.vm_frames.specs.declared.slot.Slot.{Slot}
 use Rattle.vm_frames.specs.declared.slot.Slot.TheVariants as slots
-use Rattle.vm_frames.specs.Calls.{Call}
 use Rattle.vm_moves.specs.Views.{slot_of, slots_of}
 use Rattle.bc_machine.specs.Operations as machine
 use Rattle.bc_machine.specs.State as states

@@ -1,5 +1,5 @@
 -- The machine's calls of functions, from how their arguments are bound.
-use Rattle.std.proofs.Common.{◌≡◌, ℕ, suc, ◌-◌, ◌<◌, ◌≤◌, List, [], ◌∷◌, ◌++◌, length, map, drop, replicate, Bool, true, false, Option, Some, None, Result, Ok, Err, refl, sym, ap, ◌∙◌, subst, arith}
+use Rattle.std.proofs.Common.{◌≡◌, ℕ, suc, ◌-◌, ◌<◌, List, [], ◌∷◌, ◌++◌, length, map, drop, replicate, Bool, true, false, Option, None, Result, Ok, Err, refl, sym, ap, ◌∙◌, subst, arith}
 use Rattle.std.specs.Prelude.{nat_lt, All, IfSome, IsOk}
 use Rattle.std.proofs.lemmas.Bool.{false≢true}
 use Rattle.std.proofs.lemmas.List.{length-map}
@@ -14,7 +14,6 @@ use Rattle.py_primitives.specs.Faults.{TooDeep}
 use Rattle.py_primitives.specs.Outcome as primitives
 use Rattle.py_effects.specs.Effect.{Effect, Place, fault_at}
 use Rattle.py_effects.specs.Names.{Locals}
-use Rattle.py_effects.specs.Calling as plain_calls
 use Rattle.py_effects.specs.Calling.{Keys, bind}
 use Rattle.vm_invoking.specs.declared.binding.FunctionCode.{FunctionCode}
 use Rattle.bc_machine.specs.Library.{Item, Library, Code}
@@ -23,7 +22,7 @@ use Rattle.bc_machine.specs.State.{State, Running, Called, fail}
 use Rattle.bc_machine.specs.Parts.{new_frame, has_depth}
 use Rattle.bc_machine.specs.Step as step
 use Rattle.bc_machine.specs.Step.{item_step}
-use Rattle.vm_walks.specs.Plain.{plain, plain_name, plain_pair}
+use Rattle.vm_walks.specs.Plain.{plain_name, plain_pair}
 use Rattle.vm_faults.specs.declared.fault.Fault.{Fault}
 use Rattle.vm_faults.specs.declared.fault.Fault.TheVariants as faults
 use Rattle.vm_faults.specs.declared.stop.Stop.{Stop}
@@ -32,7 +31,7 @@ use Rattle.vm_faults.specs.Faults.{IsKnown}
 use Rattle.vm_calls.specs.declared.callees.Callee.TheVariants as callees
 use Rattle.vm_calls.specs.declared.callees.Function.{Function}
 use Rattle.vm_calls.specs.Callees.{plain_function}
-use Rattle.vm_calls.specs.Binding.{name_text, bound_answer, plain_slots, plain_bound, IsBound, IsKnownBound}
+use Rattle.vm_calls.specs.Binding.{name_text, bound_answer, plain_slots, plain_bound, IsBound}
 use Rattle.vm_frames.specs.declared.slot.Role.TheVariants as roles
 use Rattle.vm_frames.specs.Calls.{Call, Calls, OfRunning, change_first}
 use Rattle.arena_heap.specs.declared.value.DictNo.{DictNo}
@@ -40,10 +39,10 @@ use Rattle.bc_offsets.specs.Positions.{CodeList, Listed}
 use Rattle.vm_frames.specs.declared.slot.Role.{Role}
 use Rattle.vm_moves.specs.Views.{View, role_of, locals_of, slots_of, starts_of, frame_of}
 use Rattle.vm_moves.specs.Placed.{IsPlaced}
-use Rattle.vm_step.specs.Shown.{Tables, view_of, value_of, text_of, running_of}
+use Rattle.vm_step.specs.Shown.{Tables, view_of, value_of}
 use Rattle.vm_step.specs.Outcomes.{world_of, outcome_of}
 use Rattle.vm_invoking.specs.Coming.{Comes, ComesTo}
-use Rattle.vm_invoking.specs.Entering.{IsCodeOf, begun, entered, IsEntered, Enters}
+use Rattle.vm_invoking.specs.Entering.{IsCodeOf, begun, IsEntered, Enters}
 use Rattle.vm_invoking.specs.Invoking.{Invokes}
 use Rattle.vm_invoking.specs.Putting.{IsKnownStop}
 use Rattle.vm_invoking.proofs.Changes.{dropped}

@@ -1,6 +1,5 @@
 -- Values that are shown as tuples, and functions whose defaults are judged.
-use Rattle.std.proofs.Common.{◌≡◌, ℕ, suc, List, [], ◌∷◌, drop, map, Bool, true, false, Option, Some, None, slice_get, refl, sym, ap, ◌∙◌, subst, arith}
-use Rattle.std.proofs.lemmas.Option.{none-some, same_Some}
+use Rattle.std.proofs.Common.{◌≡◌, ℕ, List, Bool, true, false, Option, Some, None, refl, sym, ap, ◌∙◌}
 use Rattle.std.specs.Prelude.{if◌then◌else◌, Result, Err}
 use Rattle.mpy_base.specs.World.{ListObject, TupleObject, TextObject, DictObject, FunctionObject, ExceptionObject, MethodObject, RangeObject, ModuleObject, Heap, ObjectKind, AList, ATuple, AText, ADict, AFunction, AnException, AMethod, ARange, AModule, object, kind_of}
 use Rattle.mpy_base.specs.Val.{Val, PlainWorld, At}
@@ -9,7 +8,7 @@ use Rattle.arena_heap.specs.declared.value.Value.TheVariants as values
 use Rattle.arena_heap.specs.declared.value.StrNo.{StrNo}
 use Rattle.arena_heap.specs.declared.value.ConstNo.{ConstNo}
 use Rattle.arena_heap.specs.Values.{ArenaObject, Leads, IsTuple}
-use Rattle.py_values.specs.Shown.{Shown, Tuple, shown, shown_object}
+use Rattle.py_values.specs.Shown.{Tuple, shown, shown_object}
 use Rattle.py_primitives.specs.Faults.{BadDefaults}
 use Rattle.py_effects.specs.Effect.{Effect, faults}
 use Rattle.py_effects.specs.Modules.{has_items, make_function}

@@ -3,7 +3,6 @@ use Rattle.std.specs.Prelude.{◌≡◌, ℕ, ◌++◌, List, map, true, Option,
 use Rattle.mpy_base.specs.declared.builtin.Builtin.{Builtin}
 use Rattle.mpy_base.specs.World.{Objects}
 use Rattle.mpy_base.specs.Val.{PlainWorld}
-use Rattle.mpy_io.specs.Ports.{PortView}
 use Rattle.port_set.specs.Calls.{Tell}
 use Rattle.arena_heap.specs.declared.value.Value.{Value}
 use Rattle.arena_heap.specs.declared.value.Value.TheVariants as values
@@ -11,10 +10,8 @@ use Rattle.arena_heap.specs.declared.value.StrNo.{StrNo}
 use Rattle.arena_heap.specs.declared.value.ConstNo.{ConstNo}
 use Rattle.py_primitives.specs.Faults as plain
 use Rattle.py_primitives.specs.Outcome.{Raises}
-use Rattle.py_effects.specs.Effect.{Place}
 use Rattle.py_effects.specs.Calling.{call_builtin}
 use Rattle.bc_machine.specs.Library.{Item, Library}
-use Rattle.bc_machine.specs.State.{State}
 use Rattle.vm_walks.specs.Plain.{plain_pair}
 use Rattle.vm_faults.specs.declared.fault.Fault.TheVariants as faults
 use Rattle.vm_faults.specs.declared.stop.Stop.{Stop}

@@ -1,8 +1,6 @@
-use Rattle.std.proofs.Common.{◌≡◌, List, map, refl, subst}
+use Rattle.std.proofs.Common.{List, map, refl, subst}
 use Rattle.arena_heap.specs.declared.value.Value.{Value}
-use Rattle.mpy_base.specs.Val.{PlainWorld}
 use Rattle.py_effects.specs.Calling.{call_builtin}
-use Rattle.vm_walks.specs.Plain.{plain, plain_pair}
 use Rattle.vm_calls.specs.Calls.{Seen, IsCall}
 use Rattle.vm_calls.specs.declared.callees.Callee.TheVariants as callees
 use Rattle.vm_invoking.specs.Layouts.{tables_of}

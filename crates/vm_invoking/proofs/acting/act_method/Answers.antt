@@ -1,14 +1,12 @@
-use Rattle.std.proofs.Common.{◌≡◌, ◌≤◌, List, length, map, refl, sym, ap, ◌∙◌, subst}
-use Rattle.mpy_base.specs.Val.{Val, PlainWorld}
+use Rattle.std.proofs.Common.{List, map, refl, subst}
+use Rattle.mpy_base.specs.Val.{Val}
 use Rattle.arena_heap.specs.declared.value.Value.{Value}
 use Rattle.py_primitives.specs.Methods as methods
 use Rattle.py_primitives.specs.Outcome.{Outcome}
-use Rattle.py_values.specs.Shown.{PlainHeap}
 use Rattle.py_effects.specs.Calling as plain_calls
 use Rattle.vm_walks.specs.Plain.{plain, plain_heap, plain_pair}
 use Rattle.vm_faults.specs.Outcomes.{IsOutcome}
 use Rattle.vm_calls.specs.declared.callees.Callee.TheVariants as callees
-use Rattle.vm_frames.specs.declared.slot.Slot.{Slot}
 use Rattle.vm_invoking.specs.Layouts.{tables_of}
 use Rattle.vm_invoking.proofs.Coming.{puts_come, does_all, put_moved, stop_known}
 use Rattle.vm_invoking.proofs.Answering.{of_outcome}

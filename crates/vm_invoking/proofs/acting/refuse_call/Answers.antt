@@ -1,13 +1,11 @@
-use Rattle.std.proofs.Common.{◌≡◌, List, [], ◌∷◌, map, Err, refl}
-use Rattle.mpy_base.specs.Val.{PlainWorld}
+use Rattle.std.proofs.Common.{refl}
 use Rattle.py_primitives.specs.Faults.{NotCallable}
-use Rattle.py_effects.specs.Effect.{faults}
 use Rattle.mpy_base.proofs.Worlds.{later_same}
 use Rattle.vm_faults.specs.declared.fault.Fault.TheVariants as fault_names
 use Rattle.vm_faults.specs.Types.{type_text}
 use Rattle.vm_calls.specs.declared.callees.Callee.TheVariants as callees
 use Rattle.vm_invoking.specs.Layouts.{tables_of}
-use Rattle.vm_invoking.proofs.Answering.{of_fault, refused_does}
+use Rattle.vm_invoking.proofs.Answering.{refused_does}
 use Rattle.vm_invoking.proofs.acting.refuse_call.Goals as goal
 
 pub returns-clause-steps : goal.returns-clause-steps

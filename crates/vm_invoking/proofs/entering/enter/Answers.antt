@@ -1,7 +1,7 @@
-use Rattle.std.proofs.Common.{◌≡◌, ◌-◌, ◌<◌, ◌≤◌, ◌∙◌, length, true, sym, arith, inl, inr}
+use Rattle.std.proofs.Common.{◌∙◌, length, sym, arith}
 use Rattle.std.specs.Prelude.{nat_lt}
 use Rattle.mpy_base.specs.declared.limits.TheConstants.{MAX_CALLS}
-use Rattle.vm_invoking.specs.Entering.{begun, IsEntered}
+use Rattle.vm_invoking.specs.Entering.{begun}
 use Rattle.vm_invoking.proofs.Changes.{dropped}
 use Rattle.vm_invoking.proofs.Enterings.{same_depth, same_room, room_there, entered_is, is_entered, not_entered, below_limit, room_fits, room_same}
 use Rattle.vm_invoking.proofs.Slots.{size_there}

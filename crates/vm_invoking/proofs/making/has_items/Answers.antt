@@ -1,9 +1,8 @@
-use Rattle.std.proofs.Common.{length, map, sym, ap, ◌∙◌}
-use Rattle.py_values.specs.Shown.{shown}
+use Rattle.std.proofs.Common.{map, sym, ap, ◌∙◌}
 use Rattle.arena_objects.specs.Iterables.{items_in}
 use Rattle.vm_walks.specs.Looks.{seen}
 use Rattle.vm_walks.specs.declared.look.Look.{Look}
-use Rattle.vm_walks.specs.Plain.{plain, plain_heap}
+use Rattle.vm_walks.specs.Plain.{plain}
 use Rattle.vm_invoking.proofs.Tuples.{tuple_of}
 use Rattle.vm_invoking.proofs.making.has_items.Goals as goal
 

@@ -1,4 +1,4 @@
-use Rattle.std.proofs.Common.{◌≡◌, ◌<◌, length, sym, ap, ◌∙◌}
+use Rattle.std.proofs.Common.{◌≡◌, sym, ap, ◌∙◌}
 use Rattle.mpy_base.specs.World.{ADict, IsA}
 use Rattle.mpy_base.specs.Val.{Val, Nil, PlainWorld}
 use Rattle.arena_heap.specs.declared.value.DictNo.{DictNo}

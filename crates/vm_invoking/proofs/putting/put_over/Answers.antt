@@ -1,4 +1,3 @@
-use Rattle.std.proofs.Common.{length}
 use Rattle.vm_frames.specs.declared.slot.Slot.TheVariants as slots
 use Rattle.vm_invoking.proofs.Changes.{less_there, last_there, put_is, runs_still, set_first}
 use Rattle.vm_invoking.proofs.putting.put_over.Goals as goal
