@@ -1,0 +1,13 @@
+pub mod Answering
+pub mod Builtins
+pub mod BuiltActs
+pub mod Changes
+pub mod Coming
+pub mod Enterings
+pub mod Invokings
+pub mod Knowns
+pub mod Makings
+pub mod PlainOperands
+pub mod Runs
+pub mod Slots
+pub mod Tuples

@@ -1,0 +1,17 @@
+-- The memory in which arguments are bound, as its fields have it.
+use Rattle.std.specs.Prelude.{ℕ, ◌≤◌, List, Option}
+use Rattle.std.specs.Vec.{vec_capacity}
+use Rattle.arena_heap.specs.declared.value.Value.{Value}
+use Rattle.vm_invoking.specs.declared.binding.Bindings.TheInside.{Inside}
+
+-- the values that were bound last, and how many fit
+pub record Bound : Type 0 where
+  pub values : List (Option Value)
+  pub room : ℕ
+
+abbrev pub bound_of : Inside → Bound
+bound_of b = record { values = b.values.items; room = b.room }
+
+pub record HasRoom (b : Inside) : Type 0 where
+  pub names : b.room ≤ vec_capacity b.names
+  pub values : b.room ≤ vec_capacity b.values

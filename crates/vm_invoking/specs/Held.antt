@@ -1,0 +1,12 @@
+-- The operands of a call as their fields have them.
+use Rattle.std.specs.Prelude.{◌≤◌}
+use Rattle.std.specs.Vec.{vec_capacity}
+use Rattle.vm_invoking.specs.Operands.{Given}
+use Rattle.vm_invoking.specs.declared.operands.Operands.TheInside.{Inside}
+
+abbrev pub given_of : Inside → Given
+given_of o = record { args = o.args.items; keys = o.keys.items; room = o.room }
+
+pub record HasRoom (o : Inside) : Type 0 where
+  pub args : o.room ≤ vec_capacity o.args
+  pub keys : o.room ≤ vec_capacity o.keys

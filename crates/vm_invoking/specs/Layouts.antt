@@ -1,0 +1,15 @@
+-- Where codes lie, beside the texts and tuples of constants.
+use Rattle.std.specs.Prelude.{ℕ, List, Option}
+use Rattle.arena_heap.specs.declared.value.Value.{Value}
+use Rattle.arena_heap.specs.declared.value.StrNo.{StrNo}
+use Rattle.arena_heap.specs.declared.value.ConstNo.{ConstNo}
+use Rattle.bc_machine.specs.Library.{Name}
+use Rattle.vm_step.specs.Shown.{Tables}
+
+-- the names of modules by their numbers, and the offsets that the instructions of a code of a module start at
+pub record Layout : Type 0 where
+  pub module_name : ℕ → Name
+  pub starts : ℕ → ℕ → List ℕ
+
+abbrev pub tables_of : (StrNo → Option (List ℕ)) → (ConstNo → Option (List Value)) → Layout → Tables
+tables_of texts tuples layout = record { texts = texts; tuples = tuples; module_name = layout.module_name; starts = layout.starts }

@@ -1,0 +1,11 @@
+pub mod Binding
+pub mod Built
+pub mod Children
+pub mod Coming
+pub mod Entering
+pub mod Held
+pub mod Invoking
+pub mod Known
+pub mod Layouts
+pub mod Operands
+pub mod Putting

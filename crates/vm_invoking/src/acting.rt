@@ -1,0 +1,133 @@
+//! Calls that act at once.
+
+ghost use Rattle.std.specs.Prelude.{◌≡◌, ◌<◌, ◌≤◌, ◌^◌, length, map, Err};
+ghost use Rattle.mpy_base.specs.World.{Later};
+ghost use Rattle.mpy_base.specs.Val.{PlainWorld};
+ghost use Rattle.port_set.specs.Calls.{Tell};
+ghost use Rattle.arena_heap.specs.Values.{IsMethodOf};
+ghost use Rattle.arena_objects.specs.Keys.{AllTold};
+ghost use Rattle.py_primitives.specs.Methods.{call_method as call_method_in};
+ghost use Rattle.bc_machine.specs.Library.{Library, Item as Instruction};
+ghost use Rattle.vm_walks.specs.Plain.{plain, plain_heap, plain_pair};
+ghost use Rattle.vm_faults.specs.Faults.{IsKnown};
+ghost use Rattle.vm_calls.specs.declared.callees.Callee.TheVariants as callees;
+ghost use Rattle.vm_calls.specs.Families.{IsOfPorts};
+ghost use Rattle.vm_frames.specs.Calls.{OfRunning};
+ghost use Rattle.vm_step.specs.Shown.{IsNext};
+ghost use Rattle.vm_step.specs.Outcomes.{Does};
+ghost use Rattle.vm_invoking.specs.Built.{ActsBuilt, IsCalled, IsKnownCallStop};
+ghost use Rattle.vm_invoking.specs.Invoking.{Invokes};
+ghost use Rattle.vm_invoking.specs.Known.{AreKnown};
+ghost use Rattle.vm_invoking.specs.Layouts.{Layout, tables_of};
+ghost use Rattle.vm_invoking.specs.Operands.{running_slots};
+ghost use Rattle.vm_invoking.specs.Putting.{Puts, Leaves, put_in, done_of};
+
+use crate::operands::Operands;
+use crate::putting::{put_given, put_over};
+use arena_heap::{Arena, Constants, Value};
+use mpy_base::Builtin;
+use mpy_io::{Port, Sink};
+use port_set::PortSet;
+use vm_calls::{CallStop, call_builtin, call_method};
+use vm_faults::{Fault, Stop, ValueType};
+use vm_frames::Frames;
+
+/// A method of an object is called. Its value goes in the place of the slots that the call takes.
+pub fn act_method<C: Constants>(
+    frames: &mut Frames,
+    arena: &mut Arena,
+    consts: &C,
+    operands: &Operands,
+    object: Value,
+    method: Builtin,
+    size: u32,
+    end: u32,
+) -> Result<(), Stop>
+    requires some { 0 < size }
+    requires there { size ≤ length (running_slots frames.old.calls) }
+    requires method { IsMethodOf method object }
+    requires object { IsKnown (C.text_of consts.now) (C.items_of consts.now) arena.old.objects object }
+    requires few { length operands.now.args < 2 ^ 32 }
+    requires known { AreKnown (C.text_of consts.now) (C.items_of consts.now) arena.old.objects operands.now }
+    requires all_told { AllTold (C.text_of consts.now) (C.items_of consts.now) arena.old.objects }
+    ensures steps { (layout : Layout) (item : Instruction) → Invokes (tables_of (C.text_of consts.now) (C.items_of consts.now) layout) item size arena.old frames.old.calls operands.now.args operands.now.keys (callees.Method object method)
+        → IsNext (tables_of (C.text_of consts.now) (C.items_of consts.now) layout) end frames.old.calls
+        → Does (tables_of (C.text_of consts.now) (C.items_of consts.now) layout) item (call_method_in (plain_heap (C.text_of consts.now) (C.items_of consts.now) arena.old) method (plain (C.text_of consts.now) (C.items_of consts.now) object) (map (plain (C.text_of consts.now) (C.items_of consts.now)) operands.now.args) (map (plain_pair (C.text_of consts.now) (C.items_of consts.now)) operands.now.keys)).visits arena.old arena.new frames.old.calls frames.new.calls result }
+    ensures moved { Puts (C.text_of consts.now) (C.items_of consts.now) arena.new.objects end size frames.old frames.new result }
+    ensures leaves { Leaves (C.text_of consts.now) (C.items_of consts.now) arena.old arena.new result }
+{
+    let args = operands.positional();
+    let keys = operands.keywords();
+    let given = call_method(arena, consts, method, object, args, keys);
+    put_given(frames, size, given, end)
+}
+
+/// A value of a type that isn't callable is called.
+pub fn refuse_call<C: Constants>(
+    frames: &Frames,
+    arena: &Arena,
+    _consts: &C,
+    operands: &Operands,
+    value_type: ValueType,
+    size: u32,
+) -> Stop
+    requires { 0 < length frames.now.calls }
+    ensures steps { (layout : Layout) (item : Instruction) → Invokes (tables_of (C.text_of _consts.now) (C.items_of _consts.now) layout) item size arena.now frames.now.calls operands.now.args operands.now.keys (callees.NotCallable value_type)
+        → Does (tables_of (C.text_of _consts.now) (C.items_of _consts.now) layout) item 0 arena.now arena.now frames.now.calls frames.now.calls (Err result) }
+    ensures leaves { AllTold (C.text_of _consts.now) (C.items_of _consts.now) arena.now.objects → Leaves (C.text_of _consts.now) (C.items_of _consts.now) arena.now arena.now (Err result) }
+{
+    Stop::Raises(Fault::NotCallable(value_type))
+}
+
+/// A value that a built-in gave goes in the place of the slots that the call takes. A stop leaves the calls.
+fn put_called(
+    frames: &mut Frames,
+    taken: u32,
+    given: Result<Value, CallStop>,
+    end: u32,
+) -> Result<(), CallStop>
+    requires some { 0 < taken }
+    requires there { OfRunning (λ c. taken ≤ length c.slots) frames.old.calls }
+    ensures calls { frames.new ≡ put_in end taken given frames.old }
+    ensures done { result ≡ done_of given }
+{
+    match given {
+        Ok(v) => {
+            put_over(frames, taken, v, end);
+            Ok(())
+        }
+        Err(stop) => Err(stop),
+    }
+}
+
+/// A built-in is called, with the output and the ports. Its value goes in the place of the slots that the call takes.
+pub fn act_builtin<C: Constants, S: Sink, P: Port>(
+    frames: &mut Frames,
+    arena: &mut Arena,
+    consts: &C,
+    out: &mut S,
+    ports: &mut PortSet<P>,
+    operands: &Operands,
+    b: Builtin,
+    size: u32,
+    end: u32,
+) -> Result<(), CallStop>
+    requires some { 0 < size }
+    requires there { size ≤ length (running_slots frames.old.calls) }
+    requires few { length operands.now.args < 2 ^ 32 }
+    requires known { AreKnown (C.text_of consts.now) (C.items_of consts.now) arena.old.objects operands.now }
+    requires all_told { AllTold (C.text_of consts.now) (C.items_of consts.now) arena.old.objects }
+    ensures acts { (layout : Layout) (library : Library) (item : Instruction) (w : PlainWorld) → Invokes (tables_of (C.text_of consts.now) (C.items_of consts.now) layout) item size arena.old frames.old.calls operands.now.args operands.now.keys (callees.Built b)
+        → IsNext (tables_of (C.text_of consts.now) (C.items_of consts.now) layout) end frames.old.calls → (IsOfPorts b → Tell (map P.seen ports.old) w.ports)
+        → ActsBuilt S.told S.count (tables_of (C.text_of consts.now) (C.items_of consts.now) layout) library item size end b operands.now.args operands.now.keys (record { heap = arena.old; out = out.old; ports = map P.seen ports.old }) (record { heap = arena.new; out = out.new; ports = map P.seen ports.new }) frames.old.calls frames.new.calls w result }
+    ensures called { IsCalled S.told S.count (C.text_of consts.now) (C.items_of consts.now) (record { heap = arena.old; out = out.old; ports = map P.seen ports.old }) (record { heap = arena.new; out = out.new; ports = map P.seen ports.new }) operands.now.args operands.now.keys b result }
+    ensures moved { Puts (C.text_of consts.now) (C.items_of consts.now) arena.new.objects end size frames.old frames.new result }
+    ensures known { IsKnownCallStop (C.text_of consts.now) (C.items_of consts.now) arena.new.objects result }
+    ensures later { Later arena.old.objects arena.new.objects }
+    ensures all_told { AllTold (C.text_of consts.now) (C.items_of consts.now) arena.new.objects }
+{
+    let args = operands.positional();
+    let keys = operands.keywords();
+    let given = call_builtin(arena, consts, out, ports, b, args, keys);
+    put_called(frames, size, given, end)
+}

@@ -1,0 +1,140 @@
+//! Functions of the program that are entered.
+
+ghost use Rattle.std.specs.Prelude.{◌≡◌, ◌<◌, ◌≤◌, ◌^◌, ◌++◌, ◌⊎◌, length, drop, nat_lt, Some, IsOk, slice_get};
+ghost use Rattle.mpy_base.specs.declared.limits.TheConstants.{MAX_CALLS as LIMIT};
+ghost use Rattle.arena_objects.specs.Keys.{AllTold};
+ghost use Rattle.bc_machine.specs.Library.{Library, Item as Instruction};
+ghost use Rattle.vm_calls.specs.declared.callees.Callee.TheVariants as callees;
+ghost use Rattle.vm_calls.specs.Callees.{IsKnownFunction};
+ghost use Rattle.vm_frames.specs.Calls.{OfRunning, on_running};
+ghost use Rattle.vm_moves.specs.Placed.{IsPlaced};
+ghost use Rattle.vm_step.specs.Shown.{view_of};
+ghost use Rattle.vm_invoking.specs.Coming.{ComesTo};
+ghost use Rattle.vm_invoking.specs.Entering.{IsCodeOf, IsEntered, Enters, begun};
+ghost use Rattle.vm_invoking.specs.Invoking.{Invokes};
+ghost use Rattle.vm_invoking.specs.Known.{AreKnown};
+ghost use Rattle.vm_invoking.specs.Layouts.{Layout, tables_of};
+ghost use Rattle.vm_invoking.specs.Operands.{running_slots};
+ghost use Rattle.vm_invoking.specs.Putting.{IsKnownStop};
+
+use crate::binding::{Bindings, FunctionCode};
+use crate::operands::Operands;
+use crate::putting::drop_slots;
+use arena_heap::{Arena, Constants, Value};
+use mpy_base::limits::MAX_CALLS;
+use vm_calls::Function;
+use vm_faults::{Fault, Stop};
+use vm_frames::{Frames, Role};
+use vm_moves::{moves_law, placed_law};
+
+/// Is there depth for one call more?
+fn has_depth(frames: &Frames) -> bool
+    ensures { result ≡ nat_lt (length frames.now.calls) LIMIT }
+{
+    (frames.depth() as usize) < MAX_CALLS
+}
+
+/// The value at a place.
+fn bound_at(values: &[Option<Value>], at: usize) -> Option<Value>
+    requires { at < length values.now }
+    ensures { slice_get values.now at ≡ Some result }
+{
+    values[at]
+}
+
+/// Values go into the first locals of the running call.
+fn fill_locals(frames: &mut Frames, values: &[Option<Value>])
+    requires few { length values.now < 2 ^ 32 }
+    requires there { OfRunning (λ c. length values.now ≤ length c.locals) frames.old.calls }
+    ensures { frames.new ≡ on_running (λ c. record c { locals = values.now ++ drop (length values.now) c.locals }) frames.old }
+{
+    for i in 0..values.len() {
+        frames.set_local(i as u32, bound_at(values, i));
+    }
+}
+
+/// How many locals a call has: no fewer than its parameters.
+fn locals_count(locals: usize, params: usize) -> usize
+    ensures least { params ≤ result }
+    ensures all { locals ≤ result }
+    ensures one { (result ≡ locals) ⊎ (result ≡ params) }
+{
+    if locals < params { params } else { locals }
+}
+
+/// A call of the function begins with these values in its first locals, or the calls nest too deep.
+fn enter(
+    frames: &mut Frames,
+    function: Function,
+    values: &[Option<Value>],
+    module_number: u32,
+    locals: usize,
+    size: u32,
+) -> Result<(), Stop>
+    requires some { 0 < size }
+    requires there { size ≤ length (running_slots frames.old.calls) }
+    requires locals { locals ≤ frames.old.slot_room }
+    requires params { length values.now ≤ frames.old.slot_room }
+    requires few { frames.old.slot_room < 2 ^ 32 }
+    ensures { IsEntered (nat_lt (length frames.old.calls) LIMIT) size (begun function module_number locals values.now) frames.old frames.new result }
+{
+    let deep = has_depth(frames);
+    if deep {
+        let room = locals_count(locals, values.len()) as u32;
+        drop_slots(frames, size);
+        frames.push_call(
+            module_number,
+            function.code,
+            function.names,
+            Role::Call,
+            room,
+        );
+        fill_locals(frames, values);
+        Ok(())
+    } else {
+        Err(Stop::Raises(Fault::TooDeep))
+    }
+}
+
+/// A function of the program is called, whose code is given, and whose module has the number: the operands are bound to
+/// its parameters, then the depth is judged, and then a new call begins. The one that called it waits at its instruction.
+pub fn run_function<C: Constants>(
+    frames: &mut Frames,
+    arena: &Arena,
+    consts: &C,
+    bindings: &mut Bindings,
+    operands: &Operands,
+    function: Function,
+    code: &FunctionCode<'_>,
+    module_number: u32,
+    size: u32,
+) -> Result<(), Stop>
+    requires some { 0 < size }
+    requires there { size ≤ length (running_slots frames.old.calls) }
+    requires locals { code.now.locals ≤ frames.old.slot_room }
+    requires params { length code.now.params.now ≤ frames.old.slot_room }
+    requires few { frames.old.slot_room < 2 ^ 32 }
+    requires fits { length code.now.params.now ≤ bindings.old.room }
+    requires few_args { length operands.now.args < 2 ^ 32 }
+    requires function { IsKnownFunction (C.text_of consts.now) (C.items_of consts.now) arena.now.objects function }
+    requires known { AreKnown (C.text_of consts.now) (C.items_of consts.now) arena.now.objects operands.now }
+    requires all_told { AllTold (C.text_of consts.now) (C.items_of consts.now) arena.now.objects }
+    ensures steps { (layout : Layout) (library : Library) (item : Instruction) → Invokes (tables_of (C.text_of consts.now) (C.items_of consts.now) layout) item size arena.now frames.old.calls operands.now.args operands.now.keys (callees.Runs function)
+        → IsCodeOf (tables_of (C.text_of consts.now) (C.items_of consts.now) layout) library function module_number code.now
+        → ComesTo (tables_of (C.text_of consts.now) (C.items_of consts.now) layout) library item 0 arena.now arena.now frames.old.calls frames.new.calls result }
+    ensures entered { Enters (C.text_of consts.now) (C.items_of consts.now) arena.now.objects function module_number code.now.locals size frames.old frames.new result }
+    ensures placed { (layout : Layout) (library : Library) → IsCodeOf (tables_of (C.text_of consts.now) (C.items_of consts.now) layout) library function module_number code.now → IsOk result
+        → OfRunning (IsPlaced (view_of (tables_of (C.text_of consts.now) (C.items_of consts.now) layout))) frames.new.calls }
+    ensures stop { IsKnownStop (C.text_of consts.now) (C.items_of consts.now) arena.now.objects result }
+    ensures room { bindings.new.room ≡ bindings.old.room }
+{
+    moves_law();
+    placed_law();
+    match bindings.bind(arena, consts, code, function.defaults, operands) {
+        Err(fault) => Err(Stop::Raises(fault)),
+        Ok(()) => {
+            let values = bindings.bound();
+            enter(frames, function, values, module_number, code.locals, size)
+        }
+    }
+}

@@ -1,0 +1,39 @@
+//! The visits of calls, which are paid before a call acts.
+
+ghost use Rattle.std.specs.Prelude.{◌≡◌, ◌<◌, ◌^◌, length, map, min};
+ghost use Rattle.mpy_base.specs.Val.{PlainWorld};
+ghost use Rattle.arena_objects.specs.Keys.{AllTold};
+ghost use Rattle.vm_walks.specs.Plain.{plain, plain_pair};
+ghost use Rattle.vm_calls.specs.Binding.{world_over};
+ghost use Rattle.vm_calls.specs.Callees.{plain_callee, IsKnownCallee};
+ghost use Rattle.vm_invoking.specs.Invoking.{visits_of};
+ghost use Rattle.vm_invoking.specs.Known.{AreKnown};
+
+use crate::operands::Operands;
+use arena_heap::{Arena, Constants};
+use vm_calls::{Callee, visits_call_builtin, visits_call_method};
+
+/// How many visits a call of this callee with these operands makes, up to `most`. It goes no further.
+pub fn visits_call<C: Constants>(
+    arena: &Arena,
+    consts: &C,
+    callee: Callee,
+    operands: &Operands,
+    most: u64,
+) -> u64
+    requires callee { IsKnownCallee (C.text_of consts.now) (C.items_of consts.now) arena.now.objects callee }
+    requires few { length operands.now.args < 2 ^ 32 }
+    requires known { AreKnown (C.text_of consts.now) (C.items_of consts.now) arena.now.objects operands.now }
+    requires all_told { AllTold (C.text_of consts.now) (C.items_of consts.now) arena.now.objects }
+    ensures { (w : PlainWorld) → result ≡ min (visits_of (plain_callee (C.text_of consts.now) (C.items_of consts.now) (world_over (C.text_of consts.now) (C.items_of consts.now) w arena.now) callee) (map (plain (C.text_of consts.now) (C.items_of consts.now)) operands.now.args) (map (plain_pair (C.text_of consts.now) (C.items_of consts.now)) operands.now.keys)) most }
+{
+    let args = operands.positional();
+    let keys = operands.keywords();
+    match callee {
+        Callee::Method { object, method } => {
+            visits_call_method(arena, consts, method, object, args, keys, most)
+        }
+        Callee::Built(b) => visits_call_builtin(arena, consts, b, args, keys, most),
+        Callee::Runs(_) | Callee::NotCallable(_) => 0,
+    }
+}
