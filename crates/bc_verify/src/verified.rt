@@ -92,6 +92,13 @@ pub fn verify(alloc: Global, raw: RawModule) -> Result<Verified, (Refused<Verify
     }
 }
 
+/// What holds of every module that is held as verified.
+pub fn verified_law(verified: &Verified)
+    ensures { IsVerified verified.now }
+{
+    let _ = &verified.module;
+}
+
 /// A module has one first fault at most, and none where it is verified.
 pub fn one_fault()
     ensures one { (m : Module) (f g : VerifyFault) → IsFirstFault m f → IsFirstFault m g → f ≡ g }

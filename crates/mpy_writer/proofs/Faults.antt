@@ -69,7 +69,7 @@ anything [] = tt
 anything (y ∷ ys) = (tt, anything ys)
 
 -- the tables of a module
-table_made : (used : List (List ℕ)) → IsTable used (all_interned no_texts used)
+pub table_made : (used : List (List ℕ)) → IsTable used (all_interned no_texts used)
 table_made used =
     let m = made no_texts used in
     let texts : (all_interned no_texts used).texts ≡ m.0 = ap (λ (t : Texts). t.texts) m.2 in

@@ -8,7 +8,6 @@ use Rattle.std.proofs.lemmas.List.Elements.{All-from_recursion, recursion_from_A
 use Rattle.bc_ops.specs.declared.form.Form.{Form}
 use Rattle.bc_ops.specs.declared.form.Form.TheVariants as forms
 use Rattle.bc_ops.specs.declared.instr.Op.TheVariants.{LoadConstObj}
-use Rattle.bc_ops.specs.declared.instr.Instr.{Instr}
 use Rattle.bc_ops.specs.declared.instr.Instr.TheVariants as instrs
 use Rattle.bc_ops.specs.declared.listing.Target.TheVariants.{Position, Offset}
 use Rattle.bc_ops.specs.declared.listing.Item as listings
@@ -19,7 +18,7 @@ use Rattle.bc_labels.specs.declared.labelled.LayoutFault.{LayoutFault}
 use Rattle.bc_labels.specs.declared.labelled.LayoutFault.TheVariants.{TooFar}
 use Rattle.bc_labels.specs.declared.labelled.Labelled.{Labelled}
 use Rattle.bc_labels.specs.declared.labelled.Labelled.TheVariants.{At}
-use Rattle.bc_labels.specs.Labels.{is_label, StandsOnce, HasNoOffset, IsSound}
+use Rattle.bc_labels.specs.Labels.{is_label, StandsOnce, IsSound}
 use Rattle.bc_labels.specs.Listed.{is_instr, label_target, listed_item, listed}
 use Rattle.mpy_tree.specs.declared.module.Item.{Item}
 use Rattle.mpy_tree.specs.declared.module.Item.TheVariants as items
@@ -27,7 +26,7 @@ use Rattle.mpy_tree.specs.declared.module.Code.{Code, out-Code}
 use Rattle.mpy_writer.specs.declared.tables.Tables.{Tables}
 use Rattle.mpy_writer.specs.Tables.{TablesFit, text_number, object_number, spelled}
 use Rattle.mpy_writer.specs.File.{item_of, label_at, labelled_from, labelled}
-use Rattle.mpy_writer.specs.Writable.{IsPlain, IsPosition, IsSoundItem, IsSoundCode}
+use Rattle.mpy_writer.specs.Writable.{IsPosition, IsNumberedItem, IsNumberedCode}
 use Rattle.mpy_writer.proofs.Lists.{together}
 use Rattle.mpy_writer.proofs.Numbers.{number_small}
 
@@ -156,14 +155,14 @@ module _ (tables : Tables) where
     by_test true = refl
 
   module _ (all : List Labelled) (count len : ℕ) (targets : (label : ℕ) → IsPosition count label → label_target all len label ≡ Position label) where
-    one_item : (x : Item) → IsSoundItem count x → listed_item all len (item_of tables x) ≡ list_item tables x ∷ []
+    one_item : (x : Item) → IsNumberedItem count x → listed_item all len (item_of tables x) ≡ list_item tables x ∷ []
     one_item (items.Plain instr) sound = refl
     one_item (items.Named op text) sound = refl
     one_item (items.Object object) sound = refl
     one_item (items.Jump op position) sound = ap (λ t. listing.Jump op t ∷ []) (targets position sound.1)
     one_item (items.Unwind position byte) sound = ap (λ t. listing.Unwind t byte ∷ []) (targets position sound)
 
-    listed_from : (at : ℕ) (xs : List Item) → AllByRecursion (IsSoundItem count) xs → flat_map (listed_item all len) (labelled_from tables at xs) ≡ map (list_item tables) xs
+    listed_from : (at : ℕ) (xs : List Item) → AllByRecursion (IsNumberedItem count) xs → flat_map (listed_item all len) (labelled_from tables at xs) ≡ map (list_item tables) xs
     listed_from at [] sound = refl
     listed_from at (x ∷ xs) sound =
         flat_map-append (listed_item all len) (label_at at) (item_of tables x ∷ labelled_from tables (at + 1) xs)
@@ -171,15 +170,10 @@ module _ (tables : Tables) where
         ∙ (ap (λ (ys : List listings.Item). ys ++ flat_map (listed_item all len) (labelled_from tables (at + 1) xs)) (one_item x sound.0)
         ∙ ap (λ (ys : List listings.Item). list_item tables x ∷ ys) (listed_from (at + 1) xs sound.1)))
 
-  pub listed_is : (xs : List Item) (len : ℕ) → AllByRecursion (IsSoundItem (length xs)) xs → listed (labelled_from tables 0 xs) len ≡ map (list_item tables) xs
+  pub listed_is : (xs : List Item) (len : ℕ) → AllByRecursion (IsNumberedItem (length xs)) xs → listed (labelled_from tables 0 xs) len ≡ map (list_item tables) xs
   listed_is xs len sound = listed_from (labelled_from tables 0 xs) (length xs) len (target xs len) 0 xs sound
 
   -- the items may be laid out
-  pub no_offset : (instr : Instr) → IsPlain instr → HasNoOffset instr
-  no_offset (instrs.Jump op offset wide) h = absurd h
-  no_offset (instrs.Unwind offset wide byte) h = absurd h
-  no_offset instr h = tt
-
   pub object_form : form_of (code_of LoadConstObj) ≡ forms.Number LoadConstObj
   unfolding form_of number_form
   object_form = refl
@@ -191,8 +185,8 @@ module _ (tables : Tables) where
       by_test false = tt
       by_test true = (tt, tt)
 
-    sound_item : (x : Item) → IsSoundItem count x → IsSound all (item_of tables x)
-    sound_item (items.Plain instr) h = (h.1, no_offset instr h.0)
+    sound_item : (x : Item) → IsNumberedItem count x → IsSound all (item_of tables x)
+    sound_item (items.Plain instr) h = (h.1, h.0)
     sound_item (items.Named op text) h = let small = number_small tables.texts text fit.texts in ((h.0, omega (arith, small)), tt)
     sound_item (items.Object object) h =
         let small = number_small tables.objects (spelled object) fit.objects in
@@ -201,16 +195,16 @@ module _ (tables : Tables) where
     sound_item (items.Jump op position) h = (h.0, stand position h.1)
     sound_item (items.Unwind position byte) h = stand position h
 
-    sound_from : (at : ℕ) (xs : List Item) → AllByRecursion (IsSoundItem count) xs → AllByRecursion (IsSound all) (labelled_from tables at xs)
+    sound_from : (at : ℕ) (xs : List Item) → AllByRecursion (IsNumberedItem count) xs → AllByRecursion (IsSound all) (labelled_from tables at xs)
     sound_from at [] h = tt
     sound_from at (x ∷ xs) h = together (IsSound all) (label_at at) _ (sound_label at) (sound_item x h.0, sound_from (at + 1) xs h.1)
 
-  pub sound_labels : (code : Code) → TablesFit tables → IsSoundCode code → All (IsSound (labelled tables code)) (labelled tables code)
+  pub sound_labels : (code : Code) → TablesFit tables → IsNumberedCode code → All (IsSound (labelled tables code)) (labelled tables code)
   sound_labels code fit sound =
       let xs = (out-Code code).instrs in
       let all = labelled tables code in
       let stand = λ (label : ℕ) (p : IsPosition (length xs) label). let within = p.within in once label 0 xs (omega arith) (omega (arith, within)) p.small in
-      All-from_recursion (IsSound all) all (sound_from fit all (length xs) stand 0 xs (recursion_from_All (IsSoundItem (length xs)) xs sound.instrs))
+      All-from_recursion (IsSound all) all (sound_from fit all (length xs) stand 0 xs (recursion_from_All (IsNumberedItem (length xs)) xs sound.instrs))
 
 -- there is one fault of a layout
 pub only_fault : (f : LayoutFault) → f ≡ TooFar

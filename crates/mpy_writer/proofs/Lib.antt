@@ -3,6 +3,7 @@ pub mod Faults
 pub mod Labelled
 pub mod LineTables
 pub mod Lists
+pub mod Numbered
 pub mod Numbers
 pub mod Objects
 pub mod Own

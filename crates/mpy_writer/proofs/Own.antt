@@ -19,7 +19,7 @@ use Rattle.mpy_tree.specs.declared.module.Code.{Code, out-Code}
 use Rattle.mpy_tree.specs.Canonical.{changes, offsets}
 use Rattle.mpy_writer.specs.declared.tables.Tables.{Tables}
 use Rattle.mpy_writer.specs.Tables.{TablesFit}
-use Rattle.mpy_writer.specs.Writable.{IsSoundCode}
+use Rattle.mpy_writer.specs.Writable.{IsNumberedCode}
 use Rattle.mpy_writer.specs.File.{labelled, signature_of, indexes_of, lines_of, own_bytes, IsOwn, IsBig}
 use Rattle.mpy_writer.proofs.Bodies.{instructions}
 use Rattle.mpy_writer.proofs.Labelled.{list_item}
@@ -37,15 +37,15 @@ module _ (tables : Tables) (code : Code) (bytes : List ℕ) (layout : IsLayout (
   abbrev pub made : List Instr
   made = instrs_of (labelled tables code) layout.widths
 
-  pub lists : TablesFit tables → IsSoundCode code → Lists bytes (map (list_item tables) (out-Code code).instrs) (offsets 0 made)
+  pub lists : TablesFit tables → IsNumberedCode code → Lists bytes (map (list_item tables) (out-Code code).instrs) (offsets 0 made)
   lists fit sound = let facts = instructions tables code bytes layout fit sound in record { is_list = facts.list; offsets_are = sym facts.starts_are }
 
-  pub has_lines : TablesFit tables → IsSoundCode code → HasLines bytes (length (out-Code code).lines)
+  pub has_lines : TablesFit tables → IsNumberedCode code → HasLines bytes (length (out-Code code).lines)
   has_lines fit sound =
       let facts = instructions tables code bytes layout fit sound in
       (_, offsets 0 made, lists fit sound, length-offsets 0 made ∙ (facts.count ∙ sym sound.a_line_each))
 
-  pub rises : IsSoundCode code → Rises (changes 1 (zip (offsets 0 made) (out-Code code).lines))
+  pub rises : IsNumberedCode code → Rises (changes 1 (zip (offsets 0 made) (out-Code code).lines))
   rises sound = rises_changes 0 1 (zip (offsets 0 made) (out-Code code).lines) (rises_from 0 0 1 made (out-Code code).lines (omega arith) sound.lines)
 
   pub is_own : (own : List ℕ) → own ≡ own_bytes (signature_of code) (names.spelling (indexes_of tables code)) (lines_of made (out-Code code).lines) bytes → IsOwn tables code own

@@ -23,8 +23,8 @@ use Rattle.mpy_writer.specs.declared.tables.Tables.{Tables}
 use Rattle.mpy_writer.specs.File.{item_of, labelled_from}
 use Rattle.mpy_writer.specs.Positions.{position_of, IsPlaced, numbered, drafted_to, starts_of, spread}
 use Rattle.mpy_writer.specs.Tables.{TablesFit, object_number, spelled}
-use Rattle.mpy_writer.specs.Writable.{IsSoundItem}
-use Rattle.mpy_writer.proofs.Labelled.{once, opened, no_offset, object_form}
+use Rattle.mpy_writer.specs.Writable.{IsNumberedItem}
+use Rattle.mpy_writer.proofs.Labelled.{once, opened, object_form}
 use Rattle.mpy_writer.proofs.Numbers.{number_small}
 
 -- an item stands behind the label of its position
@@ -89,8 +89,8 @@ same_instr (Jump op label) y z w v flat = absurd cc
 same_instr (Unwind label byte) y z w v flat = absurd cc
 
 -- an item that may be written may be so with numbers
-pub placed_item : (tables : Tables) → TablesFit tables → (count : ℕ) (x : Item) → IsSoundItem count x → IsPlaced count (item_of tables x)
-placed_item tables fit count (items.Plain instr) h = (h.1, no_offset tables instr h.0)
+pub placed_item : (tables : Tables) → TablesFit tables → (count : ℕ) (x : Item) → IsNumberedItem count x → IsPlaced count (item_of tables x)
+placed_item tables fit count (items.Plain instr) h = (h.1, h.0)
 placed_item tables fit count (items.Named op text) h = let small = number_small tables.texts text fit.texts in ((h.0, omega (arith, small)), tt)
 placed_item tables fit count (items.Object object) h =
     let small = number_small tables.objects (spelled object) fit.objects in
@@ -99,10 +99,10 @@ placed_item tables fit count (items.Object object) h =
 placed_item tables fit count (items.Jump op position) h = (h.0, h.1.within)
 placed_item tables fit count (items.Unwind position byte) h = h.within
 
-pub placed_at : (tables : Tables) → TablesFit tables → (ys : List Item) → All (IsSoundItem (length ys)) ys → (p : ℕ) → p < length ys → IsPlaced (length ys) (item_at (numbered tables ys) p)
+pub placed_at : (tables : Tables) → TablesFit tables → (ys : List Item) → All (IsNumberedItem (length ys)) ys → (p : ℕ) → p < length ys → IsPlaced (length ys) (item_at (numbered tables ys) p)
 placed_at tables fit ys sound p lt =
-    at p ys lt (recursion_from_All (IsSoundItem (length ys)) ys sound) where
-      at : (p : ℕ) (zs : List Item) → p < length zs → AllByRecursion (IsSoundItem (length ys)) zs → IsPlaced (length ys) (item_at (numbered tables zs) p)
+    at p ys lt (recursion_from_All (IsNumberedItem (length ys)) ys sound) where
+      at : (p : ℕ) (zs : List Item) → p < length zs → AllByRecursion (IsNumberedItem (length ys)) zs → IsPlaced (length ys) (item_at (numbered tables zs) p)
       at p [] lt h = absurd (omega (arith, lt))
       at zero (z ∷ zs) lt h = placed_item tables fit (length ys) z h.0
       at (suc p) (z ∷ zs) lt h = at p zs (omega (arith, lt)) h.1
@@ -223,7 +223,7 @@ module _ (tables : Tables) where
           ∙ (ap₂ (λ (a b : List Instr). flat_map spelling (a ++ b)) front here
           ∙ flat_map-append spelling (instrs_to all (spread ws) (double p)) (instr_of (item_at xs p) next (width_at ws p)))
 
-    module _ (fit : TablesFit tables) (sound : All (IsSoundItem (length ys)) ys) where
+    module _ (fit : TablesFit tables) (sound : All (IsNumberedItem (length ys)) ys) where
       -- where the items start
       pub near : (ws : List Bool) (i : ℕ) → i ≤ length ys → place xs ws i ≤ 6 * i
       near ws zero le = omega arith

@@ -28,6 +28,7 @@ use Rattle.mpy_writer.specs.Tables.{TablesFit, spelled}
 use Rattle.mpy_writer.specs.Writable.{IsFine, IsSoundCode, IsShallow}
 use Rattle.mpy_writer.specs.File.{IsOwn, has_some, count_bytes, head_bytes, heads, qstr_of}
 use Rattle.mpy_writer.proofs.Bodies.{body_of, body_instrs, body_lines, canonical, own_code, body}
+use Rattle.mpy_writer.proofs.Numbered.{numbered_code}
 use Rattle.mpy_writer.proofs.Lists.{parted, parted_all, split_zip, zip_length, zip_all}
 use Rattle.mpy_writer.proofs.Spelled.{many_spelled}
 
@@ -237,7 +238,7 @@ module _ (tables : Tables) (fit : TablesFit tables) (m : Module) (qstrs_are : m.
         text_is = refl;
         spells = vuint_spells _ (header_small (length (out-RawCode raw).bytes) (canon.has_some raws) is.1);
         short = is.1;
-        is_own = own_code tables code (out-RawCode raw).bytes is.0 fit good.0.sound m qstrs_are objects_are fine good.0.texts good.0.objects lines_law;
+        is_own = own_code tables code (out-RawCode raw).bytes is.0 fit (numbered_code code good.0.sound) m qstrs_are good.0.sound objects_are fine good.0.texts good.0.objects lines_law;
         are_children = are_children levels raws (omega (arith, few, size)) inside;
         code_is = sym (roll-out-RawCode raw);
       }
@@ -247,7 +248,7 @@ module _ (tables : Tables) (fit : TablesFit tables) (m : Module) (qstrs_are : m.
   all_canonical zero code raw is good = absurd is
   all_canonical (suc levels) code raw is good =
       let raws = (out-RawCode raw).children in (
-        canonical tables code (out-RawCode raw).bytes is.0 fit good.0.sound,
+        canonical tables code (out-RawCode raw).bytes is.0 fit (numbered_code code good.0.sound),
         All-from_recursion (AllCodes IsCanonicalCode levels) raws
             (zip_all (IsRaw tables levels) (AllGood levels) (AllCodes IsCanonicalCode levels) (all_canonical levels) (children code) raws is.2 (parted_all Good (codes_in levels) (children code) good.1)),
       )
@@ -263,6 +264,6 @@ module _ (tables : Tables) (fit : TablesFit tables) (m : Module) (qstrs_are : m.
   unfolding IsRaw tree_of codes_in
   resolves zero code raw is good = absurd is
   resolves (suc levels) code raw is good = (
-    body tables code (out-RawCode raw).bytes is.0 fit good.0.sound m qstrs_are objects_are fine good.0.texts good.0.objects lines_law,
+    body tables code (out-RawCode raw).bytes is.0 fit (numbered_code code good.0.sound) m qstrs_are good.0.sound objects_are fine good.0.texts good.0.objects lines_law,
     resolve_all levels (children code) (out-RawCode raw).children is.2 (parted_all Good (codes_in levels) (children code) good.1) (resolves levels),
   )

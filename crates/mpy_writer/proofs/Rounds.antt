@@ -26,7 +26,7 @@ use Rattle.mpy_tree.specs.declared.module.Item.TheVariants as items
 use Rattle.mpy_writer.specs.declared.tables.Tables.{Tables}
 use Rattle.mpy_writer.specs.File.{item_of, labelled_from}
 use Rattle.mpy_writer.specs.Positions.{is_jump, position_in, signed_in, jump_in, short_size, position_of, numbered, drafted_to, drafted, OnlyJumps, spread}
-use Rattle.mpy_writer.specs.Writable.{IsSoundItem}
+use Rattle.mpy_writer.specs.Writable.{IsNumberedItem}
 use Rattle.mpy_writer.proofs.Positions.{double, double_is, halved, width_item, length-spread, spread-set, same_instr, length-drafted, whole, label_is, item_is, laid_more}
 
 -- an item is a jump as the same with numbers is
@@ -90,7 +90,7 @@ drafted_unwind byte = zero_fits true
 single : (instr : Instr) → IsEncodable instr → All IsEncodable (instr ∷ [])
 single instr h = All-cons IsEncodable instr [] h (All-nil IsEncodable)
 
-pub encodable : (count : ℕ) (y : Item) (z : ℤ) (w : Bool) → IsSoundItem count y → (is_jump y ≡ true → Fits (signed_in y) w z) → All IsEncodable (jump_in y z w)
+pub encodable : (count : ℕ) (y : Item) (z : ℤ) (w : Bool) → IsNumberedItem count y → (is_jump y ≡ true → Fits (signed_in y) w z) → All IsEncodable (jump_in y z w)
 encodable count (items.Plain instr) z w sound fits = All-nil IsEncodable
 encodable count (items.Named op text) z w sound fits = All-nil IsEncodable
 encodable count (items.Object object) z w sound fits = All-nil IsEncodable

@@ -149,6 +149,12 @@ pub record HasFarJump (m : ModuleCode) : Type 0 where
 abbrev pub IsBig : Tables → Code → Type 0
 IsBig tables code = (own : List ℕ) × IsOwn tables code own × (MAX_CODE_BYTES < length own)
 
+-- why one code has no own bytes
+abbrev pub IsCodeFault : Tables → Code → WriteFault → Type 0
+IsCodeFault tables code TooManyNames = ⊥
+IsCodeFault tables code TooFar = IsTooFar (labelled tables code)
+IsCodeFault tables code TooBig = IsBig tables code
+
 abbrev pub SomeBig : Tables → List Code → Type 0
 SomeBig tables codes = (code : Code) × Contains codes code × IsBig tables code
 

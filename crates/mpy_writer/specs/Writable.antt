@@ -7,7 +7,7 @@ use Rattle.bc_ops.specs.declared.instr.Instr.{Instr}
 use Rattle.bc_ops.specs.declared.instr.Instr.TheVariants as instrs
 use Rattle.bc_ops.specs.Table.{code_of, form_of}
 use Rattle.bc_ops.specs.Code.{IsEncodable}
-use Rattle.bc_labels.specs.Labels.{HasOffset}
+use Rattle.bc_labels.specs.Labels.{HasNoOffset, HasOffset}
 use Rattle.mpy_tree.specs.declared.module.Constant.{Constant, out-Constant}
 use Rattle.mpy_tree.specs.declared.module.Constant.TheOpen.{Constant-F}
 use Rattle.mpy_tree.specs.declared.module.Item.{Item}
@@ -52,20 +52,30 @@ pub record IsPosition (count position : ℕ) : Type 0 where
   pub within : position < count
   pub small : position < 2 ^ 32
 
--- the operation is one of its kind, the operand keeps its bounds, and a jump names one of so many instructions
+-- the operation is one of its kind, the operand keeps its bounds, and a jump names one of so many instructions; such a
+-- fact holds of a plain instruction
+abbrev pub IsItemWith : (Instr → Type 0) → ℕ → Item → Type 0
+IsItemWith IsInstr count (items.Plain instr) = IsInstr instr × IsEncodable instr
+IsItemWith IsInstr count (items.Named op text) = (form_of (code_of op) ≡ forms.Name op) × IsText text
+IsItemWith IsInstr count (items.Object object) = IsFine MAX_DEPTH object
+IsItemWith IsInstr count (items.Jump op position) = HasOffset (form_of (code_of op)) op × IsPosition count position
+IsItemWith IsInstr count (items.Unwind position byte) = IsPosition count position
+
+-- plain instructions name no text, no object and no place
 abbrev pub IsSoundItem : ℕ → Item → Type 0
-IsSoundItem count (items.Plain instr) = IsPlain instr × IsEncodable instr
-IsSoundItem count (items.Named op text) = (form_of (code_of op) ≡ forms.Name op) × IsText text
-IsSoundItem count (items.Object object) = IsFine MAX_DEPTH object
-IsSoundItem count (items.Jump op position) = HasOffset (form_of (code_of op)) op × IsPosition count position
-IsSoundItem count (items.Unwind position byte) = IsPosition count position
+IsSoundItem count item = IsItemWith IsPlain count item
+
+-- plain instructions may have the number of a text or an object
+abbrev pub IsNumberedItem : ℕ → Item → Type 0
+IsNumberedItem count item = IsItemWith HasNoOffset count item
 
 -- the lines never fall, from such a line on
 abbrev pub NeverFall : ℕ → List ℕ → Type 0
 NeverFall line [] = Unit {0}
 NeverFall line (next ∷ lines) = (line ≤ next) × NeverFall next lines
 
-pub record IsSoundCode (code : Code) : Type 0 where
+-- a code keeps the limits, and such a fact holds of its instructions
+pub record IsCodeWith (IsItem : ℕ → Item → Type 0) (code : Code) : Type 0 where
   pub name : IsText (out-Code code).name
   pub args : All IsText (out-Code code).args
   pub few_args : length (out-Code code).args ≤ MAX_ARGUMENTS
@@ -73,10 +83,16 @@ pub record IsSoundCode (code : Code) : Type 0 where
   pub some_state : 1 ≤ (out-Code code).n_state
   pub few_state : (out-Code code).n_state ≤ MAX_STATE
   pub few_handlers : (out-Code code).n_exc ≤ MAX_HANDLERS
-  pub instrs : All (IsSoundItem (length (out-Code code).instrs)) (out-Code code).instrs
+  pub instrs : All (IsItem (length (out-Code code).instrs)) (out-Code code).instrs
   pub a_line_each : length (out-Code code).lines ≡ length (out-Code code).instrs
   pub lines : NeverFall 1 (out-Code code).lines
   pub few_children : length (out-Code code).children ≤ MAX_TABLE
+
+abbrev pub IsSoundCode : Code → Type 0
+IsSoundCode code = IsCodeWith IsSoundItem code
+
+abbrev pub IsNumberedCode : Code → Type 0
+IsNumberedCode code = IsCodeWith IsNumberedItem code
 
 -- the code has so many levels of codes at most, itself among them
 unfoldable pub IsShallow : ℕ → Code → Type 0

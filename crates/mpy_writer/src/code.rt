@@ -10,10 +10,10 @@ ghost use Rattle.bc_labels.specs.Choice.{IsLayout, IsTooFar};
 ghost use Rattle.bc_prelude.specs.Names.{spelling};
 ghost use Rattle.mpy_tree.specs.Canonical.{changes};
 ghost use Rattle.mpy_writer.specs.File as specs;
-ghost use Rattle.mpy_writer.specs.File.{IsOwn, IsBig, SomeFar, SomeBig, indexes_of, signature_of, head_bytes, heads};
+ghost use Rattle.mpy_writer.specs.File.{IsOwn, IsBig, IsCodeFault, SomeFar, SomeBig, indexes_of, signature_of, head_bytes, heads};
 ghost use Rattle.mpy_writer.specs.Outcome.{IfFault};
 ghost use Rattle.mpy_writer.specs.Tables.{TablesFit};
-ghost use Rattle.mpy_writer.specs.Writable.{IsSoundCode};
+ghost use Rattle.mpy_writer.specs.Writable.{IsNumberedCode};
 
 use crate::fault::WriteFault;
 use crate::labels::labelled;
@@ -33,7 +33,7 @@ const MAX_PLACED: usize = 0x2000_0000;
 /// The instructions of a code, laid out by labels.
 fn by_labels(alloc: Global, tables: &Tables, code: &Code) -> Result<Vec<u8>, Refused<WriteFault>>
     requires fit { TablesFit tables.now }
-    requires sound { IsSoundCode code.now }
+    requires sound { IsNumberedCode code.now }
     ensures ok { IfOk result (λ bytes. IsLayout (specs.labelled tables.now code.now) bytes.items) }
     ensures fault { IfFault result (λ fault. (fault ≡ WriteFault.TooFar) × IsTooFar (specs.labelled tables.now code.now)) }
 {
@@ -48,7 +48,7 @@ fn by_labels(alloc: Global, tables: &Tables, code: &Code) -> Result<Vec<u8>, Ref
 /// The instructions of a code.
 fn instructions(alloc: Global, tables: &Tables, code: &Code) -> Result<Vec<u8>, Refused<WriteFault>>
     requires fit { TablesFit tables.now }
-    requires sound { IsSoundCode code.now }
+    requires sound { IsNumberedCode code.now }
     ensures ok { IfOk result (λ bytes. IsLayout (specs.labelled tables.now code.now) bytes.items) }
     ensures fault { IfFault result (λ fault. (fault ≡ WriteFault.TooFar) × IsTooFar (specs.labelled tables.now code.now)) }
 {
@@ -67,7 +67,7 @@ pub(crate) fn layouts(
     codes: &[&Code],
 ) -> Result<Vec<Vec<u8>>, Refused<WriteFault>>
     requires fit { TablesFit tables.now }
-    requires sound { All IsSoundCode (map (λ c. c.now) codes.now) }
+    requires sound { All IsNumberedCode (map (λ c. c.now) codes.now) }
     ensures ok { IfOk result (λ all. AllZip (λ code bytes. IsLayout (specs.labelled tables.now code) bytes)
         (map (λ c. c.now) codes.now) (map (λ bytes. bytes.items) all.items)) }
     ensures fault { IfFault result (λ fault. (fault ≡ WriteFault.TooFar) × SomeFar tables.now (map (λ c. c.now) codes.now)) }
@@ -129,7 +129,7 @@ fn write_names(out: &mut Vec<u8>, tables: &Tables, code: &Code) -> Result<(), No
 }
 
 fn signature(code: &Code) -> Signature
-    requires { IsSoundCode code.now }
+    requires { IsNumberedCode code.now }
     ensures { result ≡ signature_of code.now }
 {
     Signature {
@@ -150,7 +150,7 @@ fn own_code(
     instructions: &[u8],
 ) -> Result<Vec<u8>, Refused<WriteFault>>
     requires fit { TablesFit tables.now }
-    requires sound { IsSoundCode code.now }
+    requires sound { IsNumberedCode code.now }
     requires layout { IsLayout (specs.labelled tables.now code.now) instructions.now }
     ensures ok { IfOk result (λ own. IsOwn tables.now code.now own.items × (length own.items ≤ MAX_CODE_BYTES)) }
     ensures fault { IfFault result (λ fault. (fault ≡ WriteFault.TooBig) × IsBig tables.now code.now) }
@@ -175,9 +175,24 @@ fn own_code(
     Ok(own)
 }
 
+/// The own bytes of a code whose plain instructions may have the numbers of texts and objects.
+pub fn write_code(
+    alloc: Global,
+    tables: &Tables,
+    code: &Code,
+) -> Result<Vec<u8>, Refused<WriteFault>>
+    requires fit { TablesFit tables.now }
+    requires numbered { IsNumberedCode code.now }
+    ensures ok { IfOk result (λ own. IsOwn tables.now code.now own.items × (length own.items ≤ MAX_CODE_BYTES)) }
+    ensures fault { IfFault result (IsCodeFault tables.now code.now) }
+{
+    let instructions = instructions(alloc, tables, code)?;
+    own_code(alloc, tables, code, &instructions)
+}
+
 /// Adds the header, the code's own bytes and the number of its children.
 fn write_head(out: &mut Vec<u8>, code: &Code, own: &[u8]) -> Result<(), NoMemory>
-    requires sound { IsSoundCode code.now }
+    requires sound { IsNumberedCode code.now }
     requires short { length own.now ≤ MAX_CODE_BYTES }
     ensures { OnOk result (out.new.items ≡ out.old.items ++ head_bytes code.now own.now) }
 {
@@ -201,7 +216,7 @@ pub(crate) fn write_codes(
     layouts: &[Vec<u8>],
 ) -> Result<(), Refused<WriteFault>>
     requires fit { TablesFit tables.now }
-    requires sound { All IsSoundCode (map (λ c. c.now) codes.now) }
+    requires sound { All IsNumberedCode (map (λ c. c.now) codes.now) }
     requires layouts { AllZip (λ code bytes. IsLayout (specs.labelled tables.now code) bytes)
         (map (λ c. c.now) codes.now) (map (λ bytes. bytes.items) layouts.now) }
     ensures ok { OnOk result ((owns : List (List ℕ)) × AllZip (IsOwn tables.now) (map (λ c. c.now) codes.now) owns

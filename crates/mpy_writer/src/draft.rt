@@ -6,7 +6,7 @@ ghost use Rattle.bc_labels.specs.Choice.{instr_of};
 ghost use Rattle.mpy_writer.specs.File.{item_of};
 ghost use Rattle.mpy_writer.specs.Positions.{drafted, starts_of};
 ghost use Rattle.mpy_writer.specs.Tables.{TablesFit};
-ghost use Rattle.mpy_writer.specs.Writable.{IsSoundItem};
+ghost use Rattle.mpy_writer.specs.Writable.{IsNumberedItem};
 
 use crate::labels::object_number;
 use crate::tables::Tables;
@@ -31,7 +31,7 @@ fn write_draft(
     count: usize,
 ) -> Result<(), NoMemory>
     requires fit { TablesFit tables.now }
-    requires sound { IsSoundItem count item.now }
+    requires sound { IsNumberedItem count item.now }
     ensures { OnOk result (out.new.items ≡ out.old.items ++ flat_map spelling (instr_of (item_of tables.now item.now) (pos 0) false)) }
 {
     match item {
@@ -63,7 +63,7 @@ fn write_draft(
 /// The draft of the items.
 pub(crate) fn make_draft(alloc: Global, tables: &Tables, items: &[Item]) -> Result<Draft, NoMemory>
     requires fit { TablesFit tables.now }
-    requires sound { All (IsSoundItem (length items.now)) items.now }
+    requires sound { All (IsNumberedItem (length items.now)) items.now }
     requires few { length items.now ≤ 2 ^ 29 }
     ensures text { IfOk result (λ draft. draft.text.items ≡ drafted tables.now items.now) }
     ensures starts { IfOk result (λ draft. draft.starts.items ≡ starts_of tables.now items.now []) }

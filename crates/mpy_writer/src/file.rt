@@ -2,12 +2,15 @@
 
 ghost use Rattle.std.specs.Prelude.{◌≡◌, ◌⊎◌, ◌++◌, List, ℕ, map, All, IfOk, OnOk, Err};
 ghost use Rattle.std.specs.List.{concat, flat_map};
+ghost use Rattle.bc_labels.specs.Choice.{IsTooFar};
+ghost use Rattle.mpy_tree.specs.declared.module.Code.{Code};
 ghost use Rattle.mpy_tree.specs.declared.module.ModuleCode.{ModuleCode};
 ghost use Rattle.mpy_tree.specs.Canonical.{Canonical, qstr_bytes};
 ghost use Rattle.mpy_tree.specs.FirstUse.{InFirstUse};
 ghost use Rattle.mpy_tree.specs.Resolved.{ReadsAs};
 ghost use Rattle.mpy_writer.specs.declared.fault.WriteFault.{WriteFault};
-ghost use Rattle.mpy_writer.specs.File.{IsWritten, FirstFault, front_bytes, qstr_of};
+ghost use Rattle.mpy_writer.specs.declared.tables.Tables.{Tables};
+ghost use Rattle.mpy_writer.specs.File.{IsOwn, labelled, IsWritten, FirstFault, front_bytes, qstr_of};
 ghost use Rattle.mpy_writer.specs.Ends.{Ends};
 ghost use Rattle.mpy_writer.specs.Tables.{Fits, TablesFit};
 ghost use Rattle.mpy_writer.specs.Writable.{IsText, IsWritable};
@@ -39,8 +42,8 @@ fn write_text(out: &mut Vec<u8>, text: &[u8]) -> Result<(), NoMemory>
     }
 }
 
-/// Adds the table of texts.
-fn write_texts(out: &mut Vec<u8>, texts: &Pool) -> Result<(), NoMemory>
+/// Adds a table of texts, each as a file has it.
+pub fn write_texts(out: &mut Vec<u8>, texts: &Pool) -> Result<(), NoMemory>
     requires fits { Fits texts.now }
     requires fine { All IsText texts.now.texts }
     ensures { OnOk result (out.new.items ≡ out.old.items ++ flat_map qstr_bytes (map qstr_of texts.now.texts)) }
@@ -116,4 +119,11 @@ pub fn write(alloc: Global, tree: &ModuleCode) -> Result<Vec<u8>, Refused<WriteF
 pub fn write_law()
     ensures one_file { (m : ModuleCode) (a b : List ℕ) → IsWritten m a → IsWritten m b → a ≡ b }
     ensures one_fault { (m : ModuleCode) (f g : WriteFault) → FirstFault m f → FirstFault m g → f ≡ g }
+{}
+
+/// A code has one list of own bytes at most, none where its jumps reach too far, and a longer one than a code may have
+/// where it is too big.
+pub fn code_law()
+    ensures one_own { (tables : Tables) (code : Code) (a b : List ℕ) → IsOwn tables code a → IsOwn tables code b → a ≡ b }
+    ensures none { (tables : Tables) (code : Code) (own : List ℕ) → IsOwn tables code own → IsTooFar (labelled tables code) → ⊥ }
 {}

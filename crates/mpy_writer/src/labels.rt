@@ -4,7 +4,7 @@ ghost use Rattle.std.specs.Prelude.{◌≡◌, IfOk};
 ghost use Rattle.mpy_writer.specs.File as specs;
 ghost use Rattle.mpy_writer.specs.File.{item_of};
 ghost use Rattle.mpy_writer.specs.Tables as numbers;
-ghost use Rattle.mpy_writer.specs.Writable.{IsFine, IsSoundCode, IsSoundItem};
+ghost use Rattle.mpy_writer.specs.Writable.{IsFine, IsNumberedCode, IsNumberedItem};
 
 use crate::object::object_text;
 use crate::tables::Tables;
@@ -30,7 +30,7 @@ pub(crate) fn object_number(
 
 /// The item with numbers in place of texts and objects.
 fn numbered(alloc: Global, tables: &Tables, item: &Item, count: usize) -> Result<Labelled, NoMemory>
-    requires { IsSoundItem count item.now }
+    requires { IsNumberedItem count item.now }
     ensures { IfOk result (λ found. found ≡ item_of tables.now item.now) }
 {
     Ok(match item {
@@ -51,7 +51,7 @@ pub(crate) fn labelled(
     tables: &Tables,
     code: &Code,
 ) -> Result<Vec<Labelled>, NoMemory>
-    requires { IsSoundCode code.now }
+    requires { IsNumberedCode code.now }
     ensures { IfOk result (λ items. items.items ≡ specs.labelled tables.now code.now) }
 {
     let mut items = Vec::new(alloc);

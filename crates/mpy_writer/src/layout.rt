@@ -7,7 +7,7 @@ ghost use Rattle.mpy_writer.specs.File.{labelled_from};
 ghost use Rattle.mpy_writer.specs.Outcome.{IfFault};
 ghost use Rattle.mpy_writer.specs.Positions.{drafted, starts_of, spread};
 ghost use Rattle.mpy_writer.specs.Tables.{TablesFit};
-ghost use Rattle.mpy_writer.specs.Writable.{IsSoundItem};
+ghost use Rattle.mpy_writer.specs.Writable.{IsNumberedItem};
 
 use crate::draft::{Draft, make_draft};
 use crate::fault::WriteFault;
@@ -45,7 +45,7 @@ fn fill(
     widths: &[bool],
 ) -> Result<Vec<u8>, Refused<WriteFault>>
     requires fit { TablesFit tables.now }
-    requires sound { All (IsSoundItem (length items.now)) items.now }
+    requires sound { All (IsNumberedItem (length items.now)) items.now }
     requires few { length items.now ≤ 2 ^ 29 }
     requires text { draft.now.text.items ≡ drafted tables.now items.now }
     requires short { draft.now.starts.items ≡ starts_of tables.now items.now [] }
@@ -84,7 +84,7 @@ fn with_jumps(
     draft: &Draft,
 ) -> Result<Vec<u8>, Refused<WriteFault>>
     requires fit { TablesFit tables.now }
-    requires sound { All (IsSoundItem (length items.now)) items.now }
+    requires sound { All (IsNumberedItem (length items.now)) items.now }
     requires few { length items.now ≤ 2 ^ 29 }
     requires text { draft.now.text.items ≡ drafted tables.now items.now }
     requires short { draft.now.starts.items ≡ starts_of tables.now items.now [] }
@@ -104,7 +104,7 @@ pub(crate) fn by_positions(
     items: &[Item],
 ) -> Result<Vec<u8>, Refused<WriteFault>>
     requires fit { TablesFit tables.now }
-    requires sound { All (IsSoundItem (length items.now)) items.now }
+    requires sound { All (IsNumberedItem (length items.now)) items.now }
     requires few { length items.now ≤ 2 ^ 29 }
     ensures ok { IfOk result (λ bytes. IsLayout (labelled_from tables.now 0 items.now) bytes.items) }
     ensures fault { IfFault result (λ fault. (fault ≡ WriteFault.TooFar) × IsTooFar (labelled_from tables.now 0 items.now)) }

@@ -13,5 +13,8 @@ mod object;
 mod tables;
 mod widths;
 
+pub use code::write_code;
 pub use fault::WriteFault;
-pub use file::{write, write_law};
+pub use file::{code_law, write, write_law, write_texts};
+pub use object::write_constants;
+pub use tables::{Tables, use_text};

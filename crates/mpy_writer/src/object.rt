@@ -93,6 +93,18 @@ fn write_object(
     Ok(())
 }
 
+/// Adds a table of objects, each as a file has it.
+pub fn write_constants(
+    alloc: Global,
+    out: &mut Vec<u8>,
+    objects: &[Constant],
+) -> Result<(), NoMemory>
+    requires { All (IsFine MAX_DEPTH) objects.now }
+    ensures { OnOk result (out.new.items ≡ out.old.items ++ flat_map spelled objects.now) }
+{
+    write_objects(alloc, out, objects, MAX_DEPTH)
+}
+
 /// What is written for an object.
 pub(crate) fn object_text(alloc: Global, object: &Constant) -> Result<Vec<u8>, NoMemory>
     requires { IsFine MAX_DEPTH object.now }

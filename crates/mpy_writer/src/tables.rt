@@ -5,7 +5,7 @@ ghost use Rattle.std.specs.List.{flat_map};
 ghost use Rattle.mpy_writer.specs.Codes.{text_in, object_in, texts_in, objects_in};
 ghost use Rattle.mpy_writer.specs.Outcome.{IfFault, all_interned, PassesTable, no_texts};
 ghost use Rattle.mpy_writer.specs.Tables.{spelled, TablesFit};
-ghost use Rattle.mpy_writer.specs.Writable.{IsSoundCode};
+ghost use Rattle.mpy_writer.specs.Writable.{IsNumberedCode};
 
 use crate::fault::WriteFault;
 use crate::object::object_text;
@@ -16,7 +16,7 @@ use std::alloc::Global;
 
 /// The texts of a file, and its objects as they are written, each with its number.
 #[derive(Drop)]
-pub(crate) struct Tables {
+pub struct Tables {
     pub texts: Pool,
     pub objects: Pool,
 }
@@ -33,8 +33,8 @@ impl Tables {
     }
 }
 
-/// Uses a text.
-fn use_text(alloc: Global, pool: &mut Pool, text: &[u8]) -> Result<(), Refused<WriteFault>>
+/// Uses a text: where it is new it goes last.
+pub fn use_text(alloc: Global, pool: &mut Pool, text: &[u8]) -> Result<(), Refused<WriteFault>>
     ensures ok { OnOk result (pool.new ≡ all_interned pool.old (text.now ∷ [])) }
     ensures fault { IfFault result (PassesTable pool.old (text.now ∷ [])) }
 {
@@ -81,7 +81,7 @@ fn use_texts_in(alloc: Global, pool: &mut Pool, code: &Code) -> Result<(), Refus
 
 /// Uses the objects that the code names.
 fn use_objects_in(alloc: Global, pool: &mut Pool, code: &Code) -> Result<(), Refused<WriteFault>>
-    requires { IsSoundCode code.now }
+    requires { IsNumberedCode code.now }
     ensures ok { OnOk result (pool.new ≡ all_interned pool.old (map spelled (objects_in code.now))) }
     ensures fault { IfFault result (PassesTable pool.old (map spelled (objects_in code.now))) }
 {
@@ -116,7 +116,7 @@ pub(crate) fn use_all_objects(
     pool: &mut Pool,
     codes: &[&Code],
 ) -> Result<(), Refused<WriteFault>>
-    requires { All IsSoundCode (map (λ c. c.now) codes.now) }
+    requires { All IsNumberedCode (map (λ c. c.now) codes.now) }
     ensures ok { OnOk result (pool.new ≡ all_interned pool.old (map spelled (flat_map objects_in (map (λ c. c.now) codes.now)))) }
     ensures fault { IfFault result (PassesTable pool.old (map spelled (flat_map objects_in (map (λ c. c.now) codes.now)))) }
 {
@@ -132,7 +132,7 @@ pub(crate) fn make_tables(
     source: &Text,
     codes: &[&Code],
 ) -> Result<Tables, Refused<WriteFault>>
-    requires { All IsSoundCode (map (λ c. c.now) codes.now) }
+    requires { All IsNumberedCode (map (λ c. c.now) codes.now) }
     ensures texts { IfOk result (λ t. t.texts ≡ all_interned no_texts (source.now ∷ flat_map texts_in (map (λ c. c.now) codes.now))) }
     ensures objects { IfOk result (λ t. t.objects ≡ all_interned no_texts (map spelled (flat_map objects_in (map (λ c. c.now) codes.now)))) }
     ensures fit { IfOk result TablesFit }

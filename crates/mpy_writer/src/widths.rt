@@ -6,7 +6,7 @@ ghost use Rattle.bc_labels.specs.Choice.{ShortFit, IsNeeded, IsFewest, IsRound, 
 ghost use Rattle.mpy_writer.specs.File.{labelled_from};
 ghost use Rattle.mpy_writer.specs.Positions.{numbered, starts_of, OnlyJumps, spread};
 ghost use Rattle.mpy_writer.specs.Tables.{TablesFit};
-ghost use Rattle.mpy_writer.specs.Writable.{IsSoundItem};
+ghost use Rattle.mpy_writer.specs.Writable.{IsNumberedItem};
 
 use crate::jumps::{fits, offset, position_of};
 use crate::tables::Tables;
@@ -29,7 +29,7 @@ fn measure(
     widths: &[bool],
 ) -> Result<(), NoMemory>
     requires fit { TablesFit tables.now }
-    requires sound { All (IsSoundItem (length items.now)) items.now }
+    requires sound { All (IsNumberedItem (length items.now)) items.now }
     requires few { length items.now ≤ 2 ^ 29 }
     requires short { short.now ≡ starts_of tables.now items.now [] }
     requires sized { length widths.now ≡ length items.now }
@@ -49,7 +49,7 @@ fn measure(
 /// Makes each offset wide that doesn't fit one byte where the items start there, and says whether there was one.
 fn widen(tables: &Tables, items: &[Item], starts: &[u32], widths: &mut [bool]) -> bool
     requires fit { TablesFit tables.now }
-    requires sound { All (IsSoundItem (length items.now)) items.now }
+    requires sound { All (IsNumberedItem (length items.now)) items.now }
     requires few { length items.now ≤ 2 ^ 29 }
     requires sized { length widths.old ≡ length items.now }
     requires starts { starts.now ≡ starts_of tables.now items.now widths.old }
@@ -78,7 +78,7 @@ pub(crate) fn settle(
     widths: &mut [bool],
 ) -> Result<(), NoMemory>
     requires fit { TablesFit tables.now }
-    requires sound { All (IsSoundItem (length items.now)) items.now }
+    requires sound { All (IsNumberedItem (length items.now)) items.now }
     requires few { length items.now ≤ 2 ^ 29 }
     requires short { short.now ≡ starts_of tables.now items.now [] }
     requires sized { length widths.old ≡ length items.now }

@@ -1,13 +1,13 @@
 use Rattle.std.proofs.Common.{[], ◌∷◌, ℕ, Vec, Global, map, ap, ◌∙◌}
 use Rattle.std.proofs.lemmas.List.{map-append}
 use Rattle.bc_labels.specs.Choice.{IsLayout}
-use Rattle.mpy_writer.specs.Writable.{IsSoundCode}
+use Rattle.mpy_writer.specs.Writable.{IsNumberedCode}
 use Rattle.mpy_writer.specs.File.{labelled}
 use Rattle.mpy_writer.proofs.Lists.{seen, zip_seen}
 use Rattle.mpy_writer.proofs.code.layouts.Goals as goal
 
 pub instructions-requires-clause-sound : goal.instructions-requires-clause-sound
-instructions-requires-clause-sound c = seen IsSoundCode (λ x. x.now) c.args.codes.now c.loop-code.code-index c.code-item.result c.requires.sound c.loop-code-test.true c.code-item.is
+instructions-requires-clause-sound c = seen IsNumberedCode (λ x. x.now) c.args.codes.now c.loop-code.code-index c.code-item.result c.requires.sound c.loop-code-test.true c.code-item.is
 
 pub loop-code-preserved : goal.loop-code-preserved
 loop-code-preserved c =

@@ -7,7 +7,7 @@ use Rattle.bc_labels.specs.Choice.{IsLayout}
 use Rattle.mpy_tree.specs.declared.module.Code.{Code}
 use Rattle.mpy_writer.specs.declared.fault.WriteFault.TheVariants.{TooBig}
 use Rattle.mpy_writer.specs.File.{labelled, IsOwn, IsBig, SomeBig, head_bytes, heads}
-use Rattle.mpy_writer.specs.Writable.{IsSoundCode}
+use Rattle.mpy_writer.specs.Writable.{IsNumberedCode}
 use Rattle.mpy_writer.proofs.Lists.{seen, seen_there, take_seen, zip_seen, zip_seen_at, as_long}
 use Rattle.mpy_writer.proofs.Raws.{heads_more}
 use Rattle.mpy_writer.proofs.Steps.{exit}
@@ -20,7 +20,7 @@ unwrap-instructions-requires c =
     c.get.ensures.lookup.2 (omega (arith, lt, same))
 
 pub own_code-requires-clause-sound : goal.own_code-requires-clause-sound
-own_code-requires-clause-sound c = seen IsSoundCode (λ x. x.now) c.args.codes.now c.loop-i.i c.index-codes-i.result c.requires.sound c.loop-i-test.true c.index-codes-i.is
+own_code-requires-clause-sound c = seen IsNumberedCode (λ x. x.now) c.args.codes.now c.loop-i.i c.index-codes-i.result c.requires.sound c.loop-i-test.true c.index-codes-i.is
 
 pub own_code-requires-clause-layout : goal.own_code-requires-clause-layout
 own_code-requires-clause-layout c =
@@ -38,7 +38,7 @@ returns-in_err-own-clause-fault c =
     (λ f h. (h.0, (code, seen_there (λ x. x.now) c.args.codes.now c.loop-i.i c.index-codes-i.result c.loop-i-test.true c.index-codes-i.is, h.1)))
 
 pub write_head-requires-clause-sound : goal.write_head-requires-clause-sound
-write_head-requires-clause-sound c = seen IsSoundCode (λ x. x.now) c.args.codes.now c.loop-i.i c.index-codes-i.result c.requires.sound c.loop-i-test.true c.index-codes-i.is
+write_head-requires-clause-sound c = seen IsNumberedCode (λ x. x.now) c.args.codes.now c.loop-i.i c.index-codes-i.result c.requires.sound c.loop-i-test.true c.index-codes-i.is
 
 pub loop-i-preserved : goal.loop-i-preserved
 loop-i-preserved c =

@@ -7,7 +7,7 @@ use Rattle.bc_labels.proofs.Standing.{last_or_before}
 use Rattle.bc_labels.proofs.Widening.{passed}
 use Rattle.mpy_writer.specs.File.{labelled_from}
 use Rattle.mpy_writer.specs.Positions.{numbered, position_of, drafted_to, spread, short_size}
-use Rattle.mpy_writer.specs.Writable.{IsSoundItem}
+use Rattle.mpy_writer.specs.Writable.{IsNumberedItem}
 use Rattle.mpy_writer.proofs.Positions.{double, as_many, named, seen_item, offset_is, start_is, length-drafted, item_is, drafted_grows}
 use Rattle.mpy_writer.proofs.Rounds.{jumps_same, position_same, no_size, size_is, encodable, fits_here, far_here, passed_over, jumped, front_is, size_next, start_within, filled, layout_is, laid_to}
 use Rattle.mpy_writer.proofs.layout.fill.Goals as goal
@@ -70,8 +70,8 @@ add_jump-requires c =
     let items = c.args.items.now in
     let i = c.loop-i.i in
     let item = c.index-items-i.result in
-    let sound : IsSoundItem (length items) item =
-    subst (IsSoundItem (length items)) (sym c.index-items-i.is) (All-get_or (IsSoundItem (length items)) items i item c.loop-i-test.true c.requires.sound) in
+    let sound : IsNumberedItem (length items) item =
+    subst (IsNumberedItem (length items)) (sym c.index-items-i.is) (All-get_or (IsNumberedItem (length items)) items i item c.loop-i-test.true c.requires.sound) in
     encodable (length items) item (to_z w64 (of_z w64 c.offset-offset.result)) (width_at c.args.widths.now i) sound (c.if-not-fits.ensures.0 refl)
 
 pub loop-i-preserved : goal.loop-i-preserved

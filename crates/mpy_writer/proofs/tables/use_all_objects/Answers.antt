@@ -3,13 +3,13 @@ use Rattle.std.specs.List.{flat_map}
 use Rattle.std.proofs.lemmas.Result.{err_from_is_err_and}
 use Rattle.mpy_writer.specs.Codes.{objects_in}
 use Rattle.mpy_writer.specs.Tables.{spelled}
-use Rattle.mpy_writer.specs.Writable.{IsSoundCode}
+use Rattle.mpy_writer.specs.Writable.{IsNumberedCode}
 use Rattle.mpy_writer.proofs.Lists.{next_seen, mapped, seen}
 use Rattle.mpy_writer.proofs.Uses.{goes_on, exit_passing}
 use Rattle.mpy_writer.proofs.tables.use_all_objects.Goals as goal
 
 pub use_objects_in-requires : goal.use_objects_in-requires
-use_objects_in-requires c = seen IsSoundCode (λ x. x.now) c.args.codes.now c.loop-code.code-index c.code-item.result c.requires c.loop-code-test.true c.code-item.is
+use_objects_in-requires c = seen IsNumberedCode (λ x. x.now) c.args.codes.now c.loop-code.code-index c.code-item.result c.requires c.loop-code-test.true c.code-item.is
 
 pub returns-in_err-use_objects_in-clause-fault : goal.returns-in_err-use_objects_in-clause-fault
 returns-in_err-use_objects_in-clause-fault c =
