@@ -5,10 +5,10 @@ use Rattle.std.proofs.lemmas.List.{append-nil, take_more, take_all}
 use Rattle.mpy_base.specs.declared.limits.TheConstants.{MAX_CODE_BYTES}
 use Rattle.mpy_tree.specs.declared.raw.RawCode.{RawCode, out-RawCode, out-roll-RawCode}
 use Rattle.mpy_tree.specs.File.{Many, AreChildren, IsCode, IsOwnCode}
-use Rattle.bc_library.specs.Shelf.{Shelf, module_at}
+use Rattle.bc_library.specs.Shelf.{Shelf}
 use Rattle.bc_rows.specs.declared.row.Row.{Row}
 use Rattle.bc_rows.specs.Codes.{Numbered, codes_by, numbers_by, codes_to}
-use Rattle.bc_rows.specs.Made.{IsCodeIn, IsOwnCodeIn, AreRows, Adds, with_children}
+use Rattle.bc_rows.specs.Made.{IsCodeIn, AreRows, Adds, with_children}
 use Rattle.bc_rows.specs.Rows.{IsRowOf}
 
 -- the parts of a code of a file
