@@ -3,3 +3,4 @@ pub mod Limiting
 pub mod Standing
 pub mod Few
 pub mod Joining
+pub mod Measuring
