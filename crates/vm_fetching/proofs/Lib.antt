@@ -4,4 +4,5 @@ mod Kept
 mod Operating
 mod Reading
 mod Showing
+mod Stepping
 mod Texts

@@ -3,11 +3,13 @@
 
 mod fetching;
 mod instruction;
+mod law;
 mod lines;
 mod looking;
 mod operations;
 
 pub use fetching::fetch;
 pub use instruction::{Fetched, Instruction};
+pub use law::step_law;
 pub use lines::line_of;
 pub use operations::{JumpOp, NameOp, NumberOp, PlainOp};
