@@ -4,10 +4,14 @@
 mod attributes;
 mod locals;
 mod names;
+mod operations;
+mod operators;
 mod slots;
 mod subscripts;
 
 pub use attributes::{import_from, load_attr, load_method, store_attr};
 pub use locals::{delete_fast, load_fast};
 pub use names::{delete_name, load_name, store_name};
+pub use operations::{OneOperand, TwoOperands};
+pub use operators::{binary_op, unary_op, visits_binary_op};
 pub use subscripts::{delete_subscr, load_subscr, store_map, store_subscr};

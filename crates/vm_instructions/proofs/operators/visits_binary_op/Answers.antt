@@ -1,0 +1,33 @@
+use Rattle.std.proofs.Common.{◌≡◌, ℕ, Some, slice_get, sym, ap, ap₂, ◌∙◌, refl, min, subst}
+use Rattle.bc_ops.specs.declared.instr.Instr.TheVariants as instrs
+use Rattle.arena_heap.specs.declared.value.Value.{Value}
+use Rattle.py_values.specs.Shown.{PlainHeap}
+use Rattle.mpy_base.specs.Val.{Val}
+use Rattle.vm_walks.specs.Plain.{plain, plain_heap}
+use Rattle.vm_raising.specs.Worlds.{world_over}
+use Rattle.vm_frames.specs.declared.slot.Slot.TheVariants as slots
+use Rattle.vm_frames.specs.Calls.{Call}
+use Rattle.vm_moves.specs.Views.{starts_of, frame_of}
+use Rattle.bc_machine.specs.Library.{Plain}
+use Rattle.bc_machine.specs.Operations.{operator_at, unary_at}
+use Rattle.vm_step.specs.Shown.{view_of}
+use Rattle.vm_step.proofs.Stepping.{both}
+use Rattle.vm_instructions.specs.Effects.{tables_of}
+use Rattle.vm_instructions.specs.Operations.{meaning_of_one, meaning_of_two, visits_of}
+use Rattle.vm_instructions.specs.Slots.{with_value}
+use Rattle.vm_instructions.proofs.Calls.{same_value}
+use Rattle.vm_instructions.proofs.Operating.{one_found, one_free, one_done, two_found, two_visits, two_done}
+use Rattle.vm_instructions.proofs.Settling.{of_outcome, puts_steps, moved, leaves}
+use Rattle.vm_instructions.proofs.operators.visits_binary_op.Goals as goal
+
+pub returns : goal.returns
+returns g c left right at_left at_right =
+    let texts = g.C.Constants.text_of c.args.consts.now in
+    let tuples = g.C.Constants.items_of c.args.consts.now in
+    let before = c.args.arena.now in
+    let calls = c.args.frames.now.calls in
+    let op = c.in-Some.op in
+    let heap = plain_heap texts tuples before in
+    let found = two_found c.args.number c.two_operands.result op c.two_operands.ensures c.in-Some.is in
+    let same = ap₂ (λ (x y : Value). visits_of (operator_at c.args.number) heap (plain texts tuples x) (plain texts tuples y)) (same_value 1 c.value_at-left.result left calls c.value_at-left.ensures.there at_left) (same_value 0 c.value_at-right.result right calls c.value_at-right.ensures.there at_right) in
+    c.visits_two.ensures ∙ ap (λ (n : ℕ). min n c.args.most) (two_visits c.args.number op found heap (plain texts tuples c.value_at-left.result) (plain texts tuples c.value_at-right.result) ∙ same)

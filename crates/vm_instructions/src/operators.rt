@@ -1,0 +1,211 @@
+//! Operators.
+
+ghost use Rattle.std.specs.Prelude.{◌≡◌, min, IsSome};
+ghost use Rattle.bc_ops.specs.declared.instr.Instr.TheVariants as instrs;
+ghost use Rattle.arena_heap.specs.declared.value.Value.{Value as Item};
+ghost use Rattle.arena_heap.specs.Values.{Leads};
+ghost use Rattle.arena_heap.specs.Constants.{IsTold};
+ghost use Rattle.arena_objects.specs.Keys.{AllTold};
+ghost use Rattle.py_primitives.specs.Operators.{in_place as in_place_of};
+ghost use Rattle.vm_walks.specs.Plain.{plain, plain_heap};
+ghost use Rattle.vm_faults.specs.Outcomes.{IsOutcome};
+ghost use Rattle.vm_operators.specs.Operators.{plain_operator};
+ghost use Rattle.bc_machine.specs.Library.{Plain};
+ghost use Rattle.bc_machine.specs.Operations.{unary_at, operator_at};
+ghost use Rattle.vm_instructions.specs.Effects.{Steps, Leaves};
+ghost use Rattle.vm_instructions.specs.Operations.{meaning_of_one, meaning_of_two, visits_of};
+ghost use Rattle.vm_instructions.specs.Slots.{HasValue, HasKnown, Puts, with_value};
+
+use crate::operations::{OneOperand, TwoOperands, one_operand, two_operands};
+use crate::slots::{put, value_at};
+use arena_heap::{Arena, Constants, Value};
+use vm_assignments::{inplace_add, visits_inplace_add};
+use vm_comparisons::{
+    op_contains, op_eq, op_is, op_ne, op_order, visits_op_contains, visits_op_eq, visits_op_ne,
+    visits_op_order,
+};
+use vm_faults::Stop;
+use vm_frames::Frames;
+use vm_operators::{Operator, binary, unary, unary_not};
+use vm_types::op_match;
+
+fn one_value<C: Constants>(
+    arena: &Arena,
+    consts: &C,
+    op: OneOperand,
+    v: Value,
+) -> Result<Value, Stop>
+    requires leads { Leads arena.now.objects v }
+    requires told { IsTold (C.text_of consts.now) (C.items_of consts.now) v }
+    requires all_told { AllTold (C.text_of consts.now) (C.items_of consts.now) arena.now.objects }
+    ensures { IsOutcome (C.text_of consts.now) (C.items_of consts.now) arena.now arena.now result (meaning_of_one op (plain_heap (C.text_of consts.now) (C.items_of consts.now) arena.now) (plain (C.text_of consts.now) (C.items_of consts.now) v)) }
+{
+    match op {
+        OneOperand::Arithmetic(op) => unary(arena, consts, op, v),
+        OneOperand::Not => unary_not(arena, consts, v),
+    }
+}
+
+/// Only `+` differs in place.
+fn in_place<C: Constants>(
+    arena: &mut Arena,
+    consts: &C,
+    op: Operator,
+    left: Value,
+    right: Value,
+) -> Result<Value, Stop>
+    requires left_leads { Leads arena.old.objects left }
+    requires right_leads { Leads arena.old.objects right }
+    requires left_told { IsTold (C.text_of consts.now) (C.items_of consts.now) left }
+    requires right_told { IsTold (C.text_of consts.now) (C.items_of consts.now) right }
+    requires all_told { AllTold (C.text_of consts.now) (C.items_of consts.now) arena.old.objects }
+    ensures { IsOutcome (C.text_of consts.now) (C.items_of consts.now) arena.old arena.new result (in_place_of (plain_heap (C.text_of consts.now) (C.items_of consts.now) arena.old) (plain_operator op) (plain (C.text_of consts.now) (C.items_of consts.now) left) (plain (C.text_of consts.now) (C.items_of consts.now) right)) }
+{
+    match op {
+        Operator::Add => inplace_add(arena, consts, left, right),
+        _ => binary(arena, consts, op, left, right),
+    }
+}
+
+fn visits_in_place<C: Constants>(
+    arena: &Arena,
+    consts: &C,
+    op: Operator,
+    left: Value,
+    right: Value,
+    most: u64,
+) -> u64
+    requires left_leads { Leads arena.now.objects left }
+    requires right_leads { Leads arena.now.objects right }
+    requires left_told { IsTold (C.text_of consts.now) (C.items_of consts.now) left }
+    requires right_told { IsTold (C.text_of consts.now) (C.items_of consts.now) right }
+    ensures { let outcome = in_place_of (plain_heap (C.text_of consts.now) (C.items_of consts.now) arena.now) (plain_operator op) (plain (C.text_of consts.now) (C.items_of consts.now) left) (plain (C.text_of consts.now) (C.items_of consts.now) right) in result ≡ min outcome.visits most }
+{
+    match op {
+        Operator::Add => visits_inplace_add(arena, consts, left, right, most),
+        _ => 0,
+    }
+}
+
+fn two_values<C: Constants>(
+    arena: &mut Arena,
+    consts: &C,
+    op: TwoOperands,
+    left: Value,
+    right: Value,
+) -> Result<Value, Stop>
+    requires left_leads { Leads arena.old.objects left }
+    requires right_leads { Leads arena.old.objects right }
+    requires left_told { IsTold (C.text_of consts.now) (C.items_of consts.now) left }
+    requires right_told { IsTold (C.text_of consts.now) (C.items_of consts.now) right }
+    requires all_told { AllTold (C.text_of consts.now) (C.items_of consts.now) arena.old.objects }
+    ensures { IsOutcome (C.text_of consts.now) (C.items_of consts.now) arena.old arena.new result (meaning_of_two op (plain_heap (C.text_of consts.now) (C.items_of consts.now) arena.old) (plain (C.text_of consts.now) (C.items_of consts.now) left) (plain (C.text_of consts.now) (C.items_of consts.now) right)) }
+{
+    match op {
+        TwoOperands::Order(sign) => op_order(arena, consts, sign, left, right),
+        TwoOperands::Equal => op_eq(arena, consts, left, right),
+        TwoOperands::NotEqual => op_ne(arena, consts, left, right),
+        TwoOperands::Contains => op_contains(arena, consts, left, right),
+        TwoOperands::Is => op_is(arena, consts, left, right),
+        TwoOperands::Match => op_match(arena, consts, left, right),
+        TwoOperands::InPlace(op) => in_place(arena, consts, op, left, right),
+        TwoOperands::Arithmetic(op) => binary(arena, consts, op, left, right),
+    }
+}
+
+fn visits_two<C: Constants>(
+    arena: &Arena,
+    consts: &C,
+    op: TwoOperands,
+    left: Value,
+    right: Value,
+    most: u64,
+) -> u64
+    requires left_leads { Leads arena.now.objects left }
+    requires right_leads { Leads arena.now.objects right }
+    requires left_told { IsTold (C.text_of consts.now) (C.items_of consts.now) left }
+    requires right_told { IsTold (C.text_of consts.now) (C.items_of consts.now) right }
+    requires all_told { AllTold (C.text_of consts.now) (C.items_of consts.now) arena.now.objects }
+    ensures { let outcome = meaning_of_two op (plain_heap (C.text_of consts.now) (C.items_of consts.now) arena.now) (plain (C.text_of consts.now) (C.items_of consts.now) left) (plain (C.text_of consts.now) (C.items_of consts.now) right) in result ≡ min outcome.visits most }
+{
+    match op {
+        TwoOperands::Order(sign) => visits_op_order(arena, consts, sign, left, right, most),
+        TwoOperands::Equal => visits_op_eq(arena, consts, left, right, most),
+        TwoOperands::NotEqual => visits_op_ne(arena, consts, left, right, most),
+        TwoOperands::Contains => visits_op_contains(arena, consts, left, right, most),
+        TwoOperands::Is => 0,
+        TwoOperands::Match => 0,
+        TwoOperands::InPlace(op) => visits_in_place(arena, consts, op, left, right, most),
+        TwoOperands::Arithmetic(_) => 0,
+    }
+}
+
+/// UNARY_OP.
+pub fn unary_op<C: Constants>(
+    frames: &mut Frames,
+    arena: &Arena,
+    consts: &C,
+    number: u8,
+    end: u32,
+) -> Result<(), Stop>
+    requires operator { IsSome (unary_at number) }
+    requires operand { HasKnown (C.text_of consts.now) (C.items_of consts.now) arena.now.objects 0 frames.old.calls }
+    requires all_told { AllTold (C.text_of consts.now) (C.items_of consts.now) arena.now.objects }
+    ensures steps { Steps (C.text_of consts.now) (C.items_of consts.now) (Plain (instrs.Unary number)) 0 end arena.now arena.now frames.old.calls frames.new.calls result }
+    ensures moved { Puts (C.text_of consts.now) (C.items_of consts.now) arena.now.objects (with_value end 1) frames.old frames.new result }
+    ensures leaves { Leaves (C.text_of consts.now) (C.items_of consts.now) arena.now arena.now result }
+{
+    let Some(op) = one_operand(number) else {
+        unreachable!();
+    };
+    let v = value_at(frames, arena, consts, 0);
+    let given = one_value(arena, consts, op, v);
+    put(frames, 1, given, end)
+}
+
+/// BINARY_OP. Its visits are those of the operator (`visits_binary_op`).
+pub fn binary_op<C: Constants>(
+    frames: &mut Frames,
+    arena: &mut Arena,
+    consts: &C,
+    number: u8,
+    end: u32,
+) -> Result<(), Stop>
+    requires operator { IsSome (operator_at number) }
+    requires right { HasKnown (C.text_of consts.now) (C.items_of consts.now) arena.old.objects 0 frames.old.calls }
+    requires left { HasKnown (C.text_of consts.now) (C.items_of consts.now) arena.old.objects 1 frames.old.calls }
+    requires all_told { AllTold (C.text_of consts.now) (C.items_of consts.now) arena.old.objects }
+    ensures steps { (left right : Item) → HasValue 1 left frames.old.calls → HasValue 0 right frames.old.calls → Steps (C.text_of consts.now) (C.items_of consts.now) (Plain (instrs.Binary number)) (visits_of (operator_at number) (plain_heap (C.text_of consts.now) (C.items_of consts.now) arena.old) (plain (C.text_of consts.now) (C.items_of consts.now) left) (plain (C.text_of consts.now) (C.items_of consts.now) right)) end arena.old arena.new frames.old.calls frames.new.calls result }
+    ensures moved { Puts (C.text_of consts.now) (C.items_of consts.now) arena.new.objects (with_value end 2) frames.old frames.new result }
+    ensures leaves { Leaves (C.text_of consts.now) (C.items_of consts.now) arena.old arena.new result }
+{
+    let Some(op) = two_operands(number) else {
+        unreachable!();
+    };
+    let right = value_at(frames, arena, consts, 0);
+    let left = value_at(frames, arena, consts, 1);
+    let given = two_values(arena, consts, op, left, right);
+    put(frames, 2, given, end)
+}
+
+/// How many visits BINARY_OP makes, up to so many. It goes no further.
+pub fn visits_binary_op<C: Constants>(
+    frames: &Frames,
+    arena: &Arena,
+    consts: &C,
+    number: u8,
+    most: u64,
+) -> u64
+    requires operator { IsSome (operator_at number) }
+    requires right { HasKnown (C.text_of consts.now) (C.items_of consts.now) arena.now.objects 0 frames.now.calls }
+    requires left { HasKnown (C.text_of consts.now) (C.items_of consts.now) arena.now.objects 1 frames.now.calls }
+    requires all_told { AllTold (C.text_of consts.now) (C.items_of consts.now) arena.now.objects }
+    ensures { (left right : Item) → HasValue 1 left frames.now.calls → HasValue 0 right frames.now.calls → result ≡ min (visits_of (operator_at number) (plain_heap (C.text_of consts.now) (C.items_of consts.now) arena.now) (plain (C.text_of consts.now) (C.items_of consts.now) left) (plain (C.text_of consts.now) (C.items_of consts.now) right)) most }
+{
+    let Some(op) = two_operands(number) else {
+        unreachable!();
+    };
+    let right = value_at(frames, arena, consts, 0);
+    let left = value_at(frames, arena, consts, 1);
+    visits_two(arena, consts, op, left, right, most)
+}
