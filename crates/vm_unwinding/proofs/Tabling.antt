@@ -9,14 +9,23 @@ use Rattle.vm_step.specs.Shown.{Tables}
 use Rattle.vm_unwinding.specs.declared.names.ModuleName.{ModuleName}
 use Rattle.vm_unwinding.specs.Names.{AreTablesOf}
 
--- what holds of tables of these texts and tuples holds of all that are of them
+-- what holds of tables that are put together of these texts and tuples holds of all tables of them
+pub by_parts : (texts : StrNo → Option (List ℕ)) (tuples : ConstNo → Option (List Value)) (P : Tables → Type 0)
+    → ((module_name : ℕ → Name) (starts : ℕ → ℕ → List ℕ) → P (record { texts = texts; tuples = tuples; module_name = module_name; starts = starts }))
+    → (tables : Tables) → tables.texts ≡ texts → tables.tuples ≡ tuples → P tables
+by_parts texts tuples P f tables texts_are tuples_are =
+    let one : P (record { texts = texts; tuples = tuples; module_name = tables.module_name; starts = tables.starts }) = f tables.module_name tables.starts in
+    let two : P (record { texts = tables.texts; tuples = tuples; module_name = tables.module_name; starts = tables.starts }) =
+    subst (λ (z : StrNo → Option (List ℕ)). P (record { texts = z; tuples = tuples; module_name = tables.module_name; starts = tables.starts })) (sym texts_are) one in
+    subst (λ (z : ConstNo → Option (List Value)). P (record { texts = tables.texts; tuples = z; module_name = tables.module_name; starts = tables.starts })) (sym tuples_are) two
+
+abbrev Named : (StrNo → Option (List ℕ)) → (ConstNo → Option (List Value)) → List ModuleName → (ℕ → Name) → Type 0
+Named texts tuples names module_name = (number : ℕ) (m : ModuleName) → slice_get names number ≡ Some m → module_name number ≡ plain_name texts tuples m.name
+
+-- the same with the modules' names
 pub by_tables : (texts : StrNo → Option (List ℕ)) (tuples : ConstNo → Option (List Value)) (names : List ModuleName) (P : Tables → Type 0)
-    → ((module_name : ℕ → Name) (starts : ℕ → ℕ → List ℕ)
-    → ((number : ℕ) (m : ModuleName) → slice_get names number ≡ Some m → module_name number ≡ plain_name texts tuples m.name)
+    → ((module_name : ℕ → Name) (starts : ℕ → ℕ → List ℕ) → Named texts tuples names module_name
     → P (record { texts = texts; tuples = tuples; module_name = module_name; starts = starts }))
     → (tables : Tables) → AreTablesOf texts tuples names tables → P tables
 by_tables texts tuples names P f tables are =
-    let one : P (record { texts = texts; tuples = tuples; module_name = tables.module_name; starts = tables.starts }) = f tables.module_name tables.starts are.names_are in
-    let two : P (record { texts = tables.texts; tuples = tuples; module_name = tables.module_name; starts = tables.starts }) =
-    subst (λ (z : StrNo → Option (List ℕ)). P (record { texts = z; tuples = tuples; module_name = tables.module_name; starts = tables.starts })) (sym are.texts_are) one in
-    subst (λ (z : ConstNo → Option (List Value)). P (record { texts = tables.texts; tuples = z; module_name = tables.module_name; starts = tables.starts })) (sym are.tuples_are) two
+    by_parts texts tuples (λ (t : Tables). Named texts tuples names t.module_name → P t) (λ module_name starts named. f module_name starts named) tables are.texts_are are.tuples_are are.names_are

@@ -1,4 +1,5 @@
 pub mod Ends
 pub mod Known
+pub mod Left
 pub mod Names
 pub mod Thrown

@@ -1,0 +1,183 @@
+//! Returns from calls.
+
+ghost use Rattle.std.specs.Prelude.{◌≡◌, ◌<◌, ◌∷◌, List, length, drop, map, All};
+ghost use Rattle.mpy_base.specs.World.{AModule, IsA, Later};
+ghost use Rattle.mpy_base.specs.Val.{PlainWorld};
+ghost use Rattle.bc_ops.specs.declared.instr.Op.TheVariants as ops;
+ghost use Rattle.bc_ops.specs.declared.instr.Instr.TheVariants as instrs;
+ghost use Rattle.arena_heap.specs.declared.value.Value.{Value as Item};
+ghost use Rattle.arena_objects.specs.Keys.{AllTold};
+ghost use Rattle.py_effects.specs.Effect.{Place, given};
+ghost use Rattle.py_effects.specs.Heaps.{Registered};
+ghost use Rattle.py_effects.specs.Modules.{store_module as stored_module};
+ghost use Rattle.bc_machine.specs.Library.{Plain};
+ghost use Rattle.bc_machine.specs.State as states;
+ghost use Rattle.bc_machine.specs.State.{Running, on_given, give as given_to};
+ghost use Rattle.vm_walks.specs.Plain.{plain_name, plain_heap};
+ghost use Rattle.vm_faults.specs.declared.fault.Fault.{Fault};
+ghost use Rattle.vm_faults.specs.declared.stop.Stop.TheVariants as stops;
+ghost use Rattle.vm_modules.specs.Registry.{plain_modules};
+ghost use Rattle.vm_modules.specs.Effects.{world_with};
+ghost use Rattle.vm_frames.specs.declared.slot.Slot.TheVariants as slots;
+ghost use Rattle.vm_frames.specs.Calls.{Call, OfRunning, change_first, on_running};
+ghost use Rattle.vm_moves.specs.Views.{View, role_of, frame_of};
+ghost use Rattle.vm_moves.specs.Placed.{IsPlaced};
+ghost use Rattle.vm_step.specs.Shown.{Tables, value_of, view_of, running_of, IsNext, IsTop};
+ghost use Rattle.vm_step.specs.Outcomes.{world_of};
+ghost use Rattle.vm_step.specs.Stacks.{gone};
+ghost use Rattle.vm_unwinding.specs.Names.{AreTablesOf};
+ghost use Rattle.vm_unwinding.specs.Ends.{with_modules, StepsTo};
+ghost use Rattle.vm_unwinding.specs.Known.{HasModule, Keeps};
+ghost use Rattle.vm_unwinding.specs.Left.{HasLast, left, leaving_of, receiving_of, after_of, stored_state};
+
+use crate::ends::{After, End};
+use crate::names::{ModuleName, name_of};
+use arena_heap::{Arena, Constants, ModuleNo, StrNo, Value};
+use mpy_base::NoRoom;
+use vm_faults::Stop;
+use vm_frames::{Frames, Role, Slot};
+use vm_modules::{Modules, store_module};
+use vm_moves::{moves_law, placed_law};
+
+/// The want of room that a stop is where nothing is raised.
+fn want_of(stop: Stop) -> NoRoom
+    requires { (fault : Fault) → stop ≡ stops.Raises fault → ⊥ }
+    ensures { stop ≡ stops.Full result }
+{
+    match stop {
+        Stop::Full(room) => room,
+        Stop::Raises(_) => unreachable!(),
+    }
+}
+
+/// Stores a module that ended in the namespace of the registered module before its name, if there is one.
+fn store<C: Constants>(
+    arena: &mut Arena,
+    consts: &C,
+    modules: &Modules,
+    name: ModuleName,
+    m: ModuleNo,
+) -> Result<(), NoRoom>
+    requires last { HasLast (C.text_of consts.now) (C.items_of consts.now) name }
+    requires is_module { IsA arena.old.objects AModule m.cell }
+    requires registered { Registered (plain_modules (C.text_of consts.now) (C.items_of consts.now) modules.now) (plain_heap (C.text_of consts.now) (C.items_of consts.now) arena.old) }
+    requires all_told { AllTold (C.text_of consts.now) (C.items_of consts.now) arena.old.objects }
+    ensures state { (place : Place) (w : PlainWorld) (frame : states.Frame) (frames : List states.Frame)
+        → on_given (given place (stored_module (world_with (C.text_of consts.now) (C.items_of consts.now) w arena.old modules.now) (plain_name (C.text_of consts.now) (C.items_of consts.now) name.name) m.cell)) frame frames (λ done. Running 0 frame frames)
+        ≡ stored_state result frame frames (world_with (C.text_of consts.now) (C.items_of consts.now) w arena.new modules.now) }
+    ensures later { Later arena.old.objects arena.new.objects }
+    ensures all_told { AllTold (C.text_of consts.now) (C.items_of consts.now) arena.new.objects }
+{
+    match store_module(arena, consts, modules, name.name, StrNo::Pool(name.last), m) {
+        Ok(_) => Ok(()),
+        Err(stop) => Err(want_of(stop)),
+    }
+}
+
+/// Gives the value of a call that was left, by its role, to the calls that wait.
+fn give<C: Constants>(
+    frames: &Frames,
+    arena: &mut Arena,
+    consts: &C,
+    modules: &Modules,
+    name: ModuleName,
+    role: Role,
+    v: Value,
+) -> After
+    requires last { HasLast (C.text_of consts.now) (C.items_of consts.now) name }
+    requires role { HasModule arena.old.objects role }
+    requires registered { Registered (plain_modules (C.text_of consts.now) (C.items_of consts.now) modules.now) (plain_heap (C.text_of consts.now) (C.items_of consts.now) arena.old) }
+    requires all_told { AllTold (C.text_of consts.now) (C.items_of consts.now) arena.old.objects }
+    ensures state { (tables : Tables) (w : PlainWorld) → tables.texts ≡ C.text_of consts.now → tables.tuples ≡ C.items_of consts.now
+        → given_to (value_of tables v) (role_of (view_of tables) (plain_name (C.text_of consts.now) (C.items_of consts.now) name.name) role) (map (frame_of (view_of tables)) frames.now.calls) (world_of tables (with_modules tables w modules.now) arena.old)
+        ≡ after_of tables result frames.now.calls (world_of tables (with_modules tables w modules.now) arena.new) }
+    ensures later { Later arena.old.objects arena.new.objects }
+    ensures all_told { AllTold (C.text_of consts.now) (C.items_of consts.now) arena.new.objects }
+{
+    let waiting = frames.depth();
+    if waiting == 0 {
+        return After::Ends(End::Ended);
+    }
+    match role {
+        Role::Main => After::Ends(End::Ended),
+        Role::Call => After::Gives(v),
+        Role::Import(m) => match store(arena, consts, modules, name, m) {
+            Ok(()) => After::Runs,
+            Err(room) => After::Ends(End::Memory(room)),
+        },
+    }
+}
+
+/// Returns a value from the running call: the innermost finally that is to run is entered, or else the call is left.
+pub(crate) fn leave<C: Constants>(
+    frames: &mut Frames,
+    arena: &mut Arena,
+    consts: &C,
+    modules: &Modules,
+    names: &[ModuleName],
+    v: Value,
+) -> After
+    requires named { OfRunning (λ c. c.module_number < length names.now) frames.old.calls }
+    requires role { OfRunning (λ c. HasModule arena.old.objects c.role) frames.old.calls }
+    requires last { All (HasLast (C.text_of consts.now) (C.items_of consts.now)) names.now }
+    requires registered { Registered (plain_modules (C.text_of consts.now) (C.items_of consts.now) modules.now) (plain_heap (C.text_of consts.now) (C.items_of consts.now) arena.old) }
+    requires all_told { AllTold (C.text_of consts.now) (C.items_of consts.now) arena.old.objects }
+    ensures state { (tables : Tables) (w : PlainWorld) → AreTablesOf (C.text_of consts.now) (C.items_of consts.now) names.now tables → OfRunning (IsPlaced (view_of tables)) frames.old.calls
+        → leaving_of tables v frames.old.calls (world_of tables (with_modules tables w modules.now) arena.old) ≡ after_of tables result frames.new.calls (world_of tables (with_modules tables w modules.now) arena.new) }
+    ensures calls { frames.new ≡ record frames.old { calls = left v frames.old.calls } }
+    ensures placed { (view : View) → All (IsPlaced view) frames.old.calls → All (IsPlaced view) frames.new.calls }
+    ensures later { Later arena.old.objects arena.new.objects }
+    ensures all_told { AllTold (C.text_of consts.now) (C.items_of consts.now) arena.new.objects }
+{
+    moves_law();
+    placed_law();
+    let (module_number, _, _) = frames.running();
+    let role = frames.role();
+    match frames.unwind(Slot::Return(v)) {
+        Some(_) => After::Runs,
+        None => {
+            let _ = frames.pop_call();
+            let name = name_of(names, module_number);
+            give(frames, arena, consts, modules, name, role, v)
+        }
+    }
+}
+
+/// RETURN_VALUE: the innermost finally that is to run is entered and keeps the value, or else the call is left. It answers
+/// where the run is: the calls run, the call that waited takes a value by `receive`, or the run has ended. An import's module
+/// is stored under the last part of its name, and the importing call goes on at its instruction.
+pub fn return_value<C: Constants>(
+    frames: &mut Frames,
+    arena: &mut Arena,
+    consts: &C,
+    modules: &Modules,
+    names: &[ModuleName],
+) -> After
+    requires value { (v : Item) × IsTop (slots.Value v) frames.old.calls }
+    requires named { OfRunning (λ c. c.module_number < length names.now) frames.old.calls }
+    requires role { OfRunning (λ c. HasModule arena.old.objects c.role) frames.old.calls }
+    requires last { All (HasLast (C.text_of consts.now) (C.items_of consts.now)) names.now }
+    requires registered { Registered (plain_modules (C.text_of consts.now) (C.items_of consts.now) modules.now) (plain_heap (C.text_of consts.now) (C.items_of consts.now) arena.old) }
+    requires all_told { AllTold (C.text_of consts.now) (C.items_of consts.now) arena.old.objects }
+    ensures steps { (tables : Tables) (place : Place) (w : PlainWorld) → AreTablesOf (C.text_of consts.now) (C.items_of consts.now) names.now tables → OfRunning (IsPlaced (view_of tables)) frames.old.calls
+        → StepsTo tables place (world_of tables (with_modules tables w modules.now) arena.old) (Plain (instrs.Plain ops.ReturnValue)) frames.old.calls
+        (after_of tables result frames.new.calls (world_of tables (with_modules tables w modules.now) arena.new)) }
+    ensures calls { (v : Item) → IsTop (slots.Value v) frames.old.calls → frames.new ≡ record frames.old { calls = left v (change_first (λ c. record c { slots = drop 1 c.slots }) frames.old.calls) } }
+    ensures placed { (view : View) → All (IsPlaced view) frames.old.calls → All (IsPlaced view) frames.new.calls }
+    ensures keeps { Keeps (C.text_of consts.now) (C.items_of consts.now) (length names.now) arena.old.objects arena.new.objects frames.old.calls frames.new.calls }
+{
+    let Slot::Value(v) = frames.pop() else {
+        unreachable!();
+    };
+    leave(frames, arena, consts, modules, names, v)
+}
+
+/// The call that waited takes the value of the one that it made, and goes on at `end`, behind its instruction.
+pub fn receive(frames: &mut Frames, v: Value, end: u32)
+    requires { OfRunning (λ c. length c.slots < frames.old.slot_room) frames.old.calls }
+    ensures state { (tables : Tables) (w : PlainWorld) → IsNext tables end frames.old.calls → receiving_of tables v frames.old.calls w ≡ running_of tables 0 frames.new.calls w }
+    ensures moved { frames.new ≡ on_running (λ c. gone end (slots.Value v ∷ c.slots) c) frames.old }
+{
+    frames.push(Slot::Value(v));
+    frames.set_offset(end);
+}
