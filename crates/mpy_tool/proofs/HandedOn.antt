@@ -7,6 +7,7 @@ use Rattle.mpy_io.specs.Files.{FileOf}
 use Rattle.mpy_io.specs.Told.{AppendsFront}
 use Rattle.mpy_tool.specs.declared.ending.Ending.TheVariants.{Done, WriteFault}
 use Rattle.mpy_tool.specs.Check.{Checks, verified_line}
+use Rattle.mpy_tool.specs.Cross.{Crosses}
 use Rattle.mpy_tool.specs.Dump.{Dumps}
 use Rattle.mpy_tool.specs.Go.{Went}
 use Rattle.bc_vm.specs.Printed.{printed}
@@ -24,3 +25,6 @@ checks_cut files name a b c q p = (p.0, p.1, all_is_front a b c (verified_line p
 
 pub dumps_cut : (files : Option FileOf) (name : List ℕ) (a b c : Option (List ℕ)) → Keeps b c → Dumps files name Done a b → Dumps files name WriteFault a c
 dumps_cut files name a b c q p = (p.0, p.1, all_is_front a b c p.0 q p.2)
+
+pub crosses_cut : (level : ℕ) (name stored written : List ℕ) (old new : Option FileOf) → Crosses level name stored written old new Done → Crosses level name stored written old new WriteFault
+crosses_cut level name stored written old new p = p

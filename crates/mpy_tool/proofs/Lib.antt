@@ -1,5 +1,6 @@
 pub mod Said
 pub mod Runs
 pub mod Checked
-pub mod Words
+pub mod Crossed
+pub mod Ended
 pub mod HandedOn

@@ -11,11 +11,13 @@ use Rattle.mpy_base.specs.declared.limits.TheConstants.{MAX_READ_BYTES, MAX_SOUR
 use Rattle.mpy_base.specs.Fault.{too_long}
 use Rattle.mpy_io.specs.Files.{FileOf, Reads}
 use Rattle.mpy_tree.specs.File.{IsAscii}
-use Rattle.mpy_simple.specs.Source.{IsFault}
+use Rattle.mpy_simple.specs.Compiled.{texts_of}
+use Rattle.mpy_simple.specs.Source.{Accepts, IsFault}
 use Rattle.mpy_simple.proofs.Faults.{same_fault, no_fault}
 use Rattle.mpy_tool.specs.declared.ending.Ending.{Ending}
-use Rattle.mpy_tool.specs.declared.ending.Ending.TheVariants.{Done, Unaccepted, Unread, Unverified, ReadFault, WriteFault, NoMemory, Absent}
+use Rattle.mpy_tool.specs.declared.ending.Ending.TheVariants.{Done, Unaccepted, Unread, Unverified, ReadFault, WriteFault, Unwritten, NoMemory, Absent}
 use Rattle.mpy_tool.specs.Ending.{IsSettled}
+use Rattle.mpy_tool.specs.Cross.{Crosses}
 use Rattle.mpy_tool.specs.Folder.{MayHold}
 use Rattle.mpy_tool.specs.Go.{ascii_of, stored, RanSource, RanFile, Went}
 
@@ -42,46 +44,117 @@ went_from level files name source (Unread fault) old new h r = absurd r
 went_from level files name source (Unverified fault) old new h r = absurd r
 went_from level files name source ReadFault old new h r = absurd r
 went_from level files name source WriteFault old new h r = (source, h, r)
+went_from level files name source Unwritten old new h r = absurd r
 went_from level files name source NoMemory old new h r = r
 went_from level files name source Absent old new h r = absurd r
+
+-- ---- one ending
 
 same_source : (file : FileOf) (name a b : List ℕ) → file name ≡ Some a → file name ≡ Some b → a ≡ b
 same_source file name a b p q = let same : Some a ≡ Some b = sym p ∙ q in cc
 
+-- an ending that the file under the name determines, by the sources that are accepted and the faults of the others
+abbrev Judged : (List ℕ → Type 0) → (List ℕ → SourceFault → Type 0) → FileOf → List ℕ → Ending → Type 0
+Judged Good Bad file name Done = (source : List ℕ) × (file name ≡ Some source) × Good source
+Judged Good Bad file name (Unaccepted fault) = (source : List ℕ) × (file name ≡ Some source) × Bad source fault
+Judged Good Bad file name (Unread fault) = ⊥
+Judged Good Bad file name (Unverified fault) = ⊥
+Judged Good Bad file name ReadFault = ⊥
+Judged Good Bad file name WriteFault = ⊥
+Judged Good Bad file name Unwritten = ⊥
+Judged Good Bad file name NoMemory = ⊥
+Judged Good Bad file name Absent = file name ≡ None
+
+one_judged : (Good : List ℕ → Type 0) (Bad : List ℕ → SourceFault → Type 0)
+    → ((source : List ℕ) (fault : SourceFault) → Good source → Bad source fault → ⊥)
+    → ((source : List ℕ) (f g : SourceFault) → Bad source f → Bad source g → f ≡ g)
+    → (file : FileOf) (name : List ℕ) (a b : Ending) → Judged Good Bad file name a → Judged Good Bad file name b → a ≡ b
+one_judged Good Bad apart one file name Done Done p q = refl
+one_judged Good Bad apart one file name Done (Unaccepted f) p q = absurd (apart q.0 f (subst Good (same_source file name p.0 q.0 p.1 q.1) p.2) q.2)
+one_judged Good Bad apart one file name Done Absent p q = absurd (let same = sym p.1 ∙ q in cc)
+one_judged Good Bad apart one file name (Unaccepted f) Done p q = absurd (apart p.0 f (subst Good (same_source file name q.0 p.0 q.1 p.1) q.2) p.2)
+one_judged Good Bad apart one file name (Unaccepted f) (Unaccepted g) p q =
+    ap Unaccepted (one q.0 f g (subst (λ (source : List ℕ). Bad source f) (same_source file name p.0 q.0 p.1 q.1) p.2) q.2)
+one_judged Good Bad apart one file name (Unaccepted f) Absent p q = absurd (let same = sym p.1 ∙ q in cc)
+one_judged Good Bad apart one file name Absent Done p q = absurd (let same = sym q.1 ∙ p in cc)
+one_judged Good Bad apart one file name Absent (Unaccepted g) p q = absurd (let same = sym q.1 ∙ p in cc)
+one_judged Good Bad apart one file name Absent Absent p q = refl
+one_judged Good Bad apart one file name (Unread f) b p q = absurd p
+one_judged Good Bad apart one file name (Unverified f) b p q = absurd p
+one_judged Good Bad apart one file name ReadFault b p q = absurd p
+one_judged Good Bad apart one file name WriteFault b p q = absurd p
+one_judged Good Bad apart one file name Unwritten b p q = absurd p
+one_judged Good Bad apart one file name NoMemory b p q = absurd p
+one_judged Good Bad apart one file name Done (Unread g) p q = absurd q
+one_judged Good Bad apart one file name Done (Unverified g) p q = absurd q
+one_judged Good Bad apart one file name Done ReadFault p q = absurd q
+one_judged Good Bad apart one file name Done WriteFault p q = absurd q
+one_judged Good Bad apart one file name Done Unwritten p q = absurd q
+one_judged Good Bad apart one file name Done NoMemory p q = absurd q
+one_judged Good Bad apart one file name (Unaccepted f) (Unread g) p q = absurd q
+one_judged Good Bad apart one file name (Unaccepted f) (Unverified g) p q = absurd q
+one_judged Good Bad apart one file name (Unaccepted f) ReadFault p q = absurd q
+one_judged Good Bad apart one file name (Unaccepted f) WriteFault p q = absurd q
+one_judged Good Bad apart one file name (Unaccepted f) Unwritten p q = absurd q
+one_judged Good Bad apart one file name (Unaccepted f) NoMemory p q = absurd q
+one_judged Good Bad apart one file name Absent (Unread g) p q = absurd q
+one_judged Good Bad apart one file name Absent (Unverified g) p q = absurd q
+one_judged Good Bad apart one file name Absent ReadFault p q = absurd q
+one_judged Good Bad apart one file name Absent WriteFault p q = absurd q
+one_judged Good Bad apart one file name Absent Unwritten p q = absurd q
+one_judged Good Bad apart one file name Absent NoMemory p q = absurd q
+
+-- the source prints some texts under the stored name
+abbrev Compiled : ℕ → List ℕ → List ℕ → Type 0
+Compiled level stored source = (texts : List (List ℕ)) × Accepts level source stored texts
+
+abbrev Faulty : ℕ → List ℕ → List ℕ → SourceFault → Type 0
+Faulty level stored source fault = IsFault level source stored fault
+
+went_judged : (level : ℕ) (file : FileOf) (name : List ℕ) (ending : Ending) (old new : Option (List ℕ)) → IsSettled ending → Went level (Some file) name ending old new
+    → Judged (Compiled level (stored name)) (Faulty level (stored name)) file name ending
+went_judged level file name Done old new s p = (p.0, p.1, (p.2.0, p.2.1))
+went_judged level file name (Unaccepted fault) old new s p = (p.0, p.1, p.2.0)
+went_judged level file name (Unread fault) old new s p = absurd p
+went_judged level file name (Unverified fault) old new s p = absurd p
+went_judged level file name ReadFault old new s p = absurd s
+went_judged level file name WriteFault old new s p = absurd s
+went_judged level file name Unwritten old new s p = absurd s
+went_judged level file name NoMemory old new s p = absurd s
+went_judged level file name Absent old new s p = p.0
+
+crosses_judged : (level : ℕ) (file : FileOf) (name kept written : List ℕ) (ending : Ending) (new : Option FileOf) → IsSettled ending → Crosses level name kept written (Some file) new ending
+    → Judged (Compiled level kept) (Faulty level kept) file name ending
+crosses_judged level file name kept written Done new s p = let held = p.1 in
+    let compiled = held.compiles in
+    (held.source, held.holds, (texts_of compiled.0, record { prints = compiled.0; compiled = compiled.1; texts_are = refl }))
+crosses_judged level file name kept written (Unaccepted fault) new s p = (p.0.source, p.0.holds, p.0.is)
+crosses_judged level file name kept written (Unread fault) new s p = absurd p
+crosses_judged level file name kept written (Unverified fault) new s p = absurd p
+crosses_judged level file name kept written ReadFault new s p = absurd s
+crosses_judged level file name kept written WriteFault new s p = absurd s
+crosses_judged level file name kept written Unwritten new s p = absurd s
+crosses_judged level file name kept written NoMemory new s p = absurd s
+crosses_judged level file name kept written Absent new s p = p.0
+
+apart : (level : ℕ) (kept source : List ℕ) (fault : SourceFault) → Compiled level kept source → Faulty level kept source fault → ⊥
+apart level kept source fault p q = no_fault level source kept p.0 fault p.1 q
+
+one_fault : (level : ℕ) (kept source : List ℕ) (f g : SourceFault) → Faulty level kept source f → Faulty level kept source g → f ≡ g
+one_fault level kept source f g p q = same_fault level source kept f g p q
+
 -- the source under a name ends in one way
 pub one_ending : (level : ℕ) (file : FileOf) (name : List ℕ) (a b : Ending) (old new_a new_b : Option (List ℕ)) → IsSettled a → IsSettled b → Went level (Some file) name a old new_a → Went level (Some file) name b old new_b → a ≡ b
-one_ending level file name Done Done old m n h k p q = refl
-one_ending level file name Done (Unaccepted f) old m n h k p q =
-    absurd (no_fault level p.0 (stored name) p.2.0 f p.2.1 (subst (λ (s : List ℕ). IsFault level s (stored name) f) (same_source file name q.0 p.0 q.1 p.1) q.2.0))
-one_ending level file name Done Absent old m n h k p q = absurd (let same = sym p.1 ∙ q.0 in cc)
-one_ending level file name (Unaccepted f) Done old m n h k p q =
-    absurd (no_fault level q.0 (stored name) q.2.0 f q.2.1 (subst (λ (s : List ℕ). IsFault level s (stored name) f) (same_source file name p.0 q.0 p.1 q.1) p.2.0))
-one_ending level file name (Unaccepted f) (Unaccepted g) old m n h k p q =
-    ap Unaccepted (same_fault level q.0 (stored name) f g (subst (λ (s : List ℕ). IsFault level s (stored name) f) (same_source file name p.0 q.0 p.1 q.1) p.2.0) q.2.0)
-one_ending level file name (Unaccepted f) Absent old m n h k p q = absurd (let same = sym p.1 ∙ q.0 in cc)
-one_ending level file name Absent Done old m n h k p q = absurd (let same = sym q.1 ∙ p.0 in cc)
-one_ending level file name Absent (Unaccepted g) old m n h k p q = absurd (let same = sym q.1 ∙ p.0 in cc)
-one_ending level file name Absent Absent old m n h k p q = refl
-one_ending level file name (Unread f) b old m n h k p q = absurd p
-one_ending level file name (Unverified f) b old m n h k p q = absurd p
-one_ending level file name ReadFault b old m n h k p q = absurd h
-one_ending level file name WriteFault b old m n h k p q = absurd h
-one_ending level file name NoMemory b old m n h k p q = absurd h
-one_ending level file name Done (Unread f) old m n h k p q = absurd q
-one_ending level file name Done (Unverified f) old m n h k p q = absurd q
-one_ending level file name Done ReadFault old m n h k p q = absurd k
-one_ending level file name Done WriteFault old m n h k p q = absurd k
-one_ending level file name Done NoMemory old m n h k p q = absurd k
-one_ending level file name (Unaccepted f) (Unread g) old m n h k p q = absurd q
-one_ending level file name (Unaccepted f) (Unverified g) old m n h k p q = absurd q
-one_ending level file name (Unaccepted f) ReadFault old m n h k p q = absurd k
-one_ending level file name (Unaccepted f) WriteFault old m n h k p q = absurd k
-one_ending level file name (Unaccepted f) NoMemory old m n h k p q = absurd k
-one_ending level file name Absent (Unread g) old m n h k p q = absurd q
-one_ending level file name Absent (Unverified g) old m n h k p q = absurd q
-one_ending level file name Absent ReadFault old m n h k p q = absurd k
-one_ending level file name Absent WriteFault old m n h k p q = absurd k
-one_ending level file name Absent NoMemory old m n h k p q = absurd k
+one_ending level file name a b old m n h k p q =
+    one_judged (Compiled level (stored name)) (Faulty level (stored name)) (apart level (stored name)) (one_fault level (stored name)) file name a b
+    (went_judged level file name a old m h p) (went_judged level file name b old n k q)
+
+-- and its file is written in one way
+pub one_crossing : (level : ℕ) (file : FileOf) (name kept written : List ℕ) (a b : Ending) (new_a new_b : Option FileOf) → IsSettled a → IsSettled b
+    → Crosses level name kept written (Some file) new_a a → Crosses level name kept written (Some file) new_b b → a ≡ b
+one_crossing level file name kept written a b m n h k p q =
+    one_judged (Compiled level kept) (Faulty level kept) (apart level kept) (one_fault level kept) file name a b
+    (crosses_judged level file name kept written a m h p) (crosses_judged level file name kept written b n k q)
 
 -- a stored name is ASCII
 one_or_other : (b : Bool) (byte : ℕ) → ltb byte 128 ≡ b → (if b then byte else 63) < 128

@@ -10,7 +10,7 @@ use Rattle.mpy_reader.specs.Reading.{FirstFault}
 use Rattle.bc_verify.specs.declared.fault.VerifyFault.{VerifyFault}
 use Rattle.bc_verify.specs.Verified.{IsVerified, IsFirstFault, codes_in}
 use Rattle.mpy_tool.specs.declared.ending.Ending.{Ending}
-use Rattle.mpy_tool.specs.declared.ending.Ending.TheVariants.{Done, Unaccepted, Unread, Unverified, ReadFault, WriteFault, NoMemory, Absent}
+use Rattle.mpy_tool.specs.declared.ending.Ending.TheVariants.{Done, Unaccepted, Unread, Unverified, ReadFault, WriteFault, Unwritten, NoMemory, Absent}
 use Rattle.mpy_tool.specs.Folder.{MayHold}
 
 -- how many codes a module has, where they are fewer than 2^64
@@ -55,5 +55,6 @@ Checks files name (Unread fault) old new = ((bytes : List ℕ) × MayHold files 
 Checks files name (Unverified fault) old new = ((bytes : List ℕ) × MayHold files name (Some bytes) × IsUnverifiedFile bytes fault) × Keeps old new
 Checks files name ReadFault old new = Keeps old new
 Checks files name WriteFault old new = (count : ℕ) × HoldsVerified files name count × AppendsFront old new (verified_line count)
+Checks files name Unwritten old new = ⊥
 Checks files name NoMemory old new = Keeps old new
 Checks files name Absent old new = MayHold files name None × Keeps old new

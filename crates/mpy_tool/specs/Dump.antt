@@ -8,7 +8,7 @@ use Rattle.mpy_tree.specs.File.{IsFile}
 use Rattle.mpy_reader.specs.Reading.{FirstFault}
 use Rattle.mpy_dump.specs.Listing.{IsListing}
 use Rattle.mpy_tool.specs.declared.ending.Ending.{Ending}
-use Rattle.mpy_tool.specs.declared.ending.Ending.TheVariants.{Done, Unaccepted, Unread, Unverified, ReadFault, WriteFault, NoMemory, Absent}
+use Rattle.mpy_tool.specs.declared.ending.Ending.TheVariants.{Done, Unaccepted, Unread, Unverified, ReadFault, WriteFault, Unwritten, NoMemory, Absent}
 use Rattle.mpy_tool.specs.Folder.{MayHold}
 
 -- the file under the name is one of a module with this listing
@@ -27,5 +27,6 @@ Dumps files name (Unread fault) old new = ((bytes : List ℕ) × MayHold files n
 Dumps files name (Unverified fault) old new = ⊥
 Dumps files name ReadFault old new = Keeps old new
 Dumps files name WriteFault old new = (text : List ℕ) × HoldsListed files name text × AppendsFront old new text
+Dumps files name Unwritten old new = ⊥
 Dumps files name NoMemory old new = Keeps old new
 Dumps files name Absent old new = MayHold files name None × Keeps old new

@@ -14,7 +14,7 @@ use Rattle.mpy_words.specs.declared.order.WordFault.{WordFault}
 use Rattle.mpy_words.specs.declared.order.WordFault.TheVariants.{NoCommand, Unknown, MissingName, MissingValue, BadNumber, Twice}
 use Rattle.mpy_words.specs.Command.{name_of as word_name, spelling_of}
 use Rattle.mpy_tool.specs.declared.ending.Ending.{Ending}
-use Rattle.mpy_tool.specs.declared.ending.Ending.TheVariants.{Done, Unaccepted, Unread, Unverified, ReadFault, WriteFault, NoMemory, Absent}
+use Rattle.mpy_tool.specs.declared.ending.Ending.TheVariants.{Done, Unaccepted, Unread, Unverified, ReadFault, WriteFault, Unwritten, NoMemory, Absent}
 
 -- a word that a fault names, left out where it is empty
 abbrev pub spaced : List ℕ → List ℕ
@@ -81,8 +81,21 @@ line_of name (Unread fault) = file_line name fault
 line_of name (Unverified fault) = verify_line name fault
 line_of name ReadFault = codes "mpy: read fault " ++ name ++ codes "\n"
 line_of name WriteFault = codes "mpy: write fault out\n"
+line_of name Unwritten = codes "mpy: write fault " ++ name ++ codes "\n"
 line_of name NoMemory = codes "mpy: memory\n"
 line_of name Absent = codes "mpy: absent " ++ name ++ codes "\n"
+
+-- the name that the line has: of the file that is written where that failed, else of the one that is read
+abbrev pub name_in : (read written : List ℕ) → Ending → List ℕ
+name_in read written Done = read
+name_in read written (Unaccepted fault) = read
+name_in read written (Unread fault) = read
+name_in read written (Unverified fault) = read
+name_in read written ReadFault = read
+name_in read written WriteFault = read
+name_in read written Unwritten = written
+name_in read written NoMemory = read
+name_in read written Absent = read
 
 -- a call puts the line, or fails behind a front of it, and then the count of faults rose
 abbrev pub Puts : Option (List ℕ) → Option (List ℕ) → ℕ → ℕ → List ℕ → Result (Unit {0}) Failed → Type 0

@@ -1,12 +1,16 @@
 -- What the outside tells before and after a command, and what the command did to it.
-use Rattle.std.specs.Prelude.{◌≡◌, ℕ, List, Option}
+use Rattle.std.specs.Prelude.{◌≡◌, ℕ, List, Option, Some, None, Ok, Err}
 use Rattle.std.specs.Io.KnownBytes.{Keeps}
 use Rattle.mpy_io.specs.Count.{Counts}
 use Rattle.mpy_io.specs.Files.{FileOf}
+use Rattle.mpy_words.specs.declared.order.Command.{Command}
+use Rattle.mpy_words.specs.declared.order.Command.TheVariants.{Go, Check, Dump, Cross}
 use Rattle.mpy_words.specs.declared.order.WordFault.{WordFault}
+use Rattle.mpy_words.specs.Words.{Outcome, second_name}
 use Rattle.mpy_tool.specs.declared.ending.Ending.{Ending}
-use Rattle.mpy_tool.specs.Ending.{is_read_fault, is_write_fault, status_of}
-use Rattle.mpy_tool.specs.Line.{Says, line_of, words_line}
+use Rattle.mpy_tool.specs.Ending.{is_folder_fault, is_out_fault, status_of}
+use Rattle.mpy_tool.specs.Cross.{ChangesOnly}
+use Rattle.mpy_tool.specs.Line.{Says, line_of, name_in, words_line}
 
 -- what a folder and two sinks tell, and their counts of faults
 pub record Outside : Type 0 where
@@ -35,6 +39,34 @@ pub record Ends (Relates : Option FileOf → List ℕ → Ending → Option (Lis
   pub ending : Ending
   pub status_is : status ≡ status_of ending
   pub went : Relates old.files name ending old.out new.out
-  pub reads : Counts old.folder_faults new.folder_faults (is_read_fault ending)
-  pub writes : Counts old.out_faults new.out_faults (is_write_fault ending)
+  pub folder_counts : Counts old.folder_faults new.folder_faults (is_folder_fault ending)
+  pub out_counts : Counts old.out_faults new.out_faults (is_out_fault ending)
   pub says : Says old.say new.say old.say_faults new.say_faults (line_of name ending)
+
+-- A command that reads a file and writes another ended so: why, with what in the folder, which count of faults rose, and
+-- what was said. Nothing was printed.
+pub record Writes (Relates : Option FileOf → Option FileOf → Ending → Type 0) (read written : List ℕ) (old new : Outside) (status : ℕ) : Type 0 where
+  pub ending : Ending
+  pub status_is : status ≡ status_of ending
+  pub went : Relates old.files new.files ending
+  pub prints : Keeps old.out new.out
+  pub folder_counts : Counts old.folder_faults new.folder_faults (is_folder_fault ending)
+  pub out_counts : Counts old.out_faults new.out_faults (is_out_fault ending)
+  pub says : Says old.say new.say old.say_faults new.say_faults (line_of (name_in read written ending) ending)
+
+-- the file that a command writes
+abbrev pub written_by : List (List ℕ) → Command → Option (List ℕ)
+written_by words Go = None
+written_by words Check = None
+written_by words Dump = None
+written_by words Cross = Some (second_name words)
+
+-- words of no order write none
+abbrev pub written_in : List (List ℕ) → Outcome → Option (List ℕ)
+written_in words (Err fault) = None
+written_in words (Ok order) = written_by words order.command
+
+-- no file changed but this one
+abbrev pub Changes : Option (List ℕ) → Option FileOf → Option FileOf → Type 0
+Changes None old new = new ≡ old
+Changes (Some name) old new = ChangesOnly old new name

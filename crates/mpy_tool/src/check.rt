@@ -2,7 +2,7 @@
 
 ghost use Rattle.std.specs.Prelude.{◌≡◌};
 ghost use Rattle.mpy_io.specs.Count.{Counts};
-ghost use Rattle.mpy_tool.specs.Ending.{is_read_fault, is_write_fault};
+ghost use Rattle.mpy_tool.specs.Ending.{is_folder_fault, is_out_fault};
 ghost use Rattle.mpy_tool.specs.Check.{Judges, Checks, verified_line};
 ghost use Rattle.mpy_tool.specs.Line.{Puts};
 
@@ -50,8 +50,8 @@ pub(crate) fn check<F: Folder, S: Sink>(
     out: &mut S,
 ) -> Ending
     ensures went { Checks (F.files folder.old) name.now result (S.told out.old) (S.told out.new) }
-    ensures reads { Counts (F.count folder.old) (F.count folder.new) (is_read_fault result) }
-    ensures writes { Counts (S.count out.old) (S.count out.new) (is_write_fault result) }
+    ensures folder_counts { Counts (F.count folder.old) (F.count folder.new) (is_folder_fault result) }
+    ensures out_counts { Counts (S.count out.old) (S.count out.new) (is_out_fault result) }
     ensures files { F.files folder.new ≡ F.files folder.old }
 {
     let bytes = match folder.read(alloc, name) {

@@ -18,10 +18,12 @@ pub enum Ending {
     Unread(FileFault),
     /// The file is read, and its module isn't verified.
     Unverified(VerifyFault),
-    /// The folder failed.
+    /// The folder failed to read the file.
     ReadFault,
     /// The sink failed.
     WriteFault,
+    /// The folder failed to write the file.
+    Unwritten,
     NoMemory,
     /// The folder has no such file.
     Absent,
@@ -37,7 +39,7 @@ impl Ending {
             Ending::Unaccepted(_) => 3,
             Ending::Unread(_) | Ending::Unverified(_) => 4,
             Ending::ReadFault => 7,
-            Ending::WriteFault => 8,
+            Ending::WriteFault | Ending::Unwritten => 8,
             Ending::NoMemory => 9,
             Ending::Absent => 10,
         }

@@ -2,7 +2,7 @@
 
 ghost use Rattle.std.specs.Prelude.{◌≡◌, ◌≤◌, IfOk};
 ghost use Rattle.mpy_io.specs.Count.{Counts};
-ghost use Rattle.mpy_tool.specs.Ending.{is_read_fault, is_write_fault};
+ghost use Rattle.mpy_tool.specs.Ending.{is_folder_fault, is_out_fault};
 ghost use Rattle.mpy_tree.specs.File.{IsAscii};
 ghost use Rattle.mpy_tool.specs.Go.{stored, ascii_of, GivesTexts, RanSource, Went};
 
@@ -20,7 +20,7 @@ fn stored_byte(byte: u8) -> u8
 }
 
 /// The name that a file stores of its source.
-fn stored_name(alloc: Global, name: &str) -> Result<Text, NoMemory>
+pub(crate) fn stored_name(alloc: Global, name: &str) -> Result<Text, NoMemory>
     ensures { IfOk result (λ text. text ≡ stored name.now) }
 {
     let bytes: Vec<u8> = name
@@ -51,7 +51,7 @@ fn run<S: Sink>(alloc: Global, source: &[u8], level: u8, name: &[u8], out: &mut 
     requires level_is { level ≤ 3 }
     requires name_is { IsAscii name.now }
     ensures ran { RanSource level source.now name.now result (S.told out.old) (S.told out.new) }
-    ensures cause { Counts (S.count out.old) (S.count out.new) (is_write_fault result) }
+    ensures cause { Counts (S.count out.old) (S.count out.new) (is_out_fault result) }
 {
     match texts_of(alloc, source, level, name) {
         Ok(texts) => match run_simple(&texts, out) {
@@ -73,8 +73,8 @@ pub(crate) fn go<F: Folder, S: Sink>(
 ) -> Ending
     requires { level ≤ 3 }
     ensures went { Went level (F.files folder.old) name.now result (S.told out.old) (S.told out.new) }
-    ensures reads { Counts (F.count folder.old) (F.count folder.new) (is_read_fault result) }
-    ensures writes { Counts (S.count out.old) (S.count out.new) (is_write_fault result) }
+    ensures folder_counts { Counts (F.count folder.old) (F.count folder.new) (is_folder_fault result) }
+    ensures out_counts { Counts (S.count out.old) (S.count out.new) (is_out_fault result) }
     ensures files { F.files folder.new ≡ F.files folder.old }
 {
     let source = match folder.read(alloc, name) {

@@ -2,11 +2,13 @@
 #![tactic(auto)]
 
 mod check;
+mod cross;
 mod dump;
 mod ending;
 mod go;
 mod line;
 mod top;
+mod words;
 
 pub use ending::Ending;
 pub use mpy_simple::{simple_file, simple_read};

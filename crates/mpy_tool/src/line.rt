@@ -1,12 +1,13 @@
 //! The line that is said at the end of a command.
 
-ghost use Rattle.std.specs.Prelude.{◌≡◌, ◌++◌, List, ℕ, [], map, string_bytes, slice_index_or, codes, decimal};
+ghost use Rattle.std.specs.Prelude.{◌≡◌, ◌++◌, List, ℕ, map, string_bytes, codes, decimal};
 ghost use Rattle.mpy_reader.specs.Fault as file;
 ghost use Rattle.bc_verify.specs.Rule as rules;
 ghost use Rattle.mpy_tool.specs.Line as spec;
 ghost use Rattle.mpy_tool.specs.Line.{Puts, spaced, words_line, source_line, file_line, tag_text, path_text, verify_line, line_of};
 
 use crate::ending::Ending;
+use crate::words::word_at;
 use bc_verify::{Rule, VerifyFault};
 use itoa::Buffer;
 use mpy_base::SourceFault;
@@ -51,16 +52,6 @@ fn gap(word: &[u8]) -> &'static [u8]
     if word.is_empty() { b"" } else { b" " }
 }
 
-/// The word at a place, and the empty one where there is none.
-fn word_at(words: &[String], at: usize) -> &[u8]
-    ensures { result.now ≡ slice_index_or (map string_bytes words.now) at [] }
-{
-    match words.get(at) {
-        Some(word) => word.as_bytes(),
-        None => b"",
-    }
-}
-
 /// What is said of a fault of the words.
 fn fault_text(fault: WordFault) -> &'static [u8]
     ensures { result.now ≡ spec.fault_text fault }
@@ -80,7 +71,7 @@ fn fault_word(words: &[String], fault: WordFault) -> &[u8]
 {
     match fault {
         WordFault::NoCommand => b"",
-        WordFault::Unknown(at) | WordFault::BadNumber(at) => word_at(words, at),
+        WordFault::Unknown(at) | WordFault::BadNumber(at) => word_at(words, at).as_bytes(),
         WordFault::MissingName(wanted) => wanted.name().as_bytes(),
         WordFault::MissingValue(setting) | WordFault::Twice(setting) => setting
             .spelling()
@@ -215,6 +206,17 @@ fn say_unverified<E: Sink>(say: &mut E, name: &str, fault: &VerifyFault) -> Resu
     put_offset(say, fault.offset)
 }
 
+/// The name of the file that the line is about.
+pub(crate) fn name_in<'a>(read: &'a str, written: &'a str, ending: &Ending) -> &'a str
+    ensures { result.now ≡ spec.name_in read.now written.now ending.now }
+{
+    match ending {
+        Ending::Unwritten => written,
+        Ending::Done | Ending::Unaccepted(_) | Ending::Unread(_) | Ending::Unverified(_) => read,
+        Ending::ReadFault | Ending::WriteFault | Ending::NoMemory | Ending::Absent => read,
+    }
+}
+
 /// Says how a command on the file of this name ended.
 pub(crate) fn say_ending<E: Sink>(say: &mut E, name: &str, ending: &Ending) -> Result<(), Failed>
     ensures { Puts (E.told say.old) (E.told say.new) (E.count say.old) (E.count say.new)
@@ -227,6 +229,7 @@ pub(crate) fn say_ending<E: Sink>(say: &mut E, name: &str, ending: &Ending) -> R
         Ending::Unverified(fault) => say_unverified(say, name, fault),
         Ending::ReadFault => put_three(say, b"mpy: read fault ", name.as_bytes(), b"\n"),
         Ending::WriteFault => put(say, b"mpy: write fault out\n"),
+        Ending::Unwritten => put_three(say, b"mpy: write fault ", name.as_bytes(), b"\n"),
         Ending::NoMemory => put(say, b"mpy: memory\n"),
         Ending::Absent => put_three(say, b"mpy: absent ", name.as_bytes(), b"\n"),
     }

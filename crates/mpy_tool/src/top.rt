@@ -4,20 +4,24 @@ ghost use Rattle.std.specs.Prelude.{◌≡◌, ◌≤◌, ℕ, List, [], Option,
 ghost use Rattle.mpy_io.specs.Count.{Counts};
 ghost use Rattle.mpy_io.specs.Files.{FileOf};
 ghost use Rattle.mpy_words.specs.declared.order.Command.TheVariants as commands;
-ghost use Rattle.mpy_words.specs.Words.{order_of, first_name};
+ghost use Rattle.mpy_words.specs.Words.{order_of, first_name, second_name, source_name};
 ghost use Rattle.mpy_tool.specs.declared.ending.Ending.{Ending};
 ghost use Rattle.mpy_tool.specs.declared.ending.Ending.TheVariants.{Done};
-ghost use Rattle.mpy_tool.specs.Ending.{IsSettled, is_read_fault, is_write_fault};
+ghost use Rattle.mpy_tool.specs.Ending.{IsSettled, is_folder_fault, is_out_fault};
 ghost use Rattle.mpy_tool.specs.Check.{Checks};
+ghost use Rattle.mpy_tool.specs.Cross.{Crosses};
 ghost use Rattle.mpy_tool.specs.Dump.{Dumps};
-ghost use Rattle.mpy_tool.specs.Go.{Went};
-ghost use Rattle.mpy_tool.specs.Outside.{seen, RefusesWords, Ends};
+ghost use Rattle.mpy_tool.specs.Go.{stored, Went};
+ghost use Rattle.mpy_tool.specs.Outside.{seen, RefusesWords, Ends, Writes, written_by, written_in, Changes};
+ghost use Rattle.std.specs.Io.KnownBytes.{Keeps};
 
 use crate::check::check;
+use crate::cross::cross;
 use crate::dump::dump;
 use crate::ending::Ending;
 use crate::go::go;
-use crate::line::{say_ending, say_words};
+use crate::line::{name_in, say_ending, say_words};
+use crate::words::{source_name as name_to_store, word_at};
 use mpy_io::{Failed, Folder, Sink};
 use mpy_words::{Command, Order, order_of};
 use std::alloc::Global;
@@ -25,47 +29,65 @@ use std::alloc::Global;
 /// The status of words that are of no order.
 const WORDS_STATUS: u8 = 2;
 
-/// Does what is ordered on the file of this name, and may leave some of what is printed in the sink.
+/// Does what the words order, and may leave some of what is printed in the sink.
 fn ran<F: Folder, S: Sink>(
     order: Order,
     alloc: Global,
-    name: &str,
+    words: &[String],
     folder: &mut F,
     out: &mut S,
 ) -> Ending
     requires { order.level ≤ 3 }
-    ensures go { order.command ≡ commands.Go → Went order.level (F.files folder.old) name.now result (S.told out.old) (S.told out.new) }
-    ensures check { order.command ≡ commands.Check → Checks (F.files folder.old) name.now result (S.told out.old) (S.told out.new) }
-    ensures dump { order.command ≡ commands.Dump → Dumps (F.files folder.old) name.now result (S.told out.old) (S.told out.new) }
-    ensures reads { Counts (F.count folder.old) (F.count folder.new) (is_read_fault result) }
-    ensures writes { Counts (S.count out.old) (S.count out.new) (is_write_fault result) }
-    ensures files { F.files folder.new ≡ F.files folder.old }
+    ensures go { order.command ≡ commands.Go → Went order.level (F.files folder.old) (first_name (map string_bytes words.now)) result (S.told out.old) (S.told out.new) }
+    ensures check { order.command ≡ commands.Check → Checks (F.files folder.old) (first_name (map string_bytes words.now)) result (S.told out.old) (S.told out.new) }
+    ensures dump { order.command ≡ commands.Dump → Dumps (F.files folder.old) (first_name (map string_bytes words.now)) result (S.told out.old) (S.told out.new) }
+    ensures cross { order.command ≡ commands.Cross → Crosses order.level (first_name (map string_bytes words.now)) (stored (source_name (map string_bytes words.now) order.stored_name))
+        (second_name (map string_bytes words.now)) (F.files folder.old) (F.files folder.new) result }
+    ensures prints { order.command ≡ commands.Cross → Keeps (S.told out.old) (S.told out.new) }
+    ensures folder_counts { Counts (F.count folder.old) (F.count folder.new) (is_folder_fault result) }
+    ensures out_counts { Counts (S.count out.old) (S.count out.new) (is_out_fault result) }
+    ensures files { Changes (written_by (map string_bytes words.now) order.command) (F.files folder.old) (F.files folder.new) }
 {
+    let name = word_at(words, 1);
     match order.command {
         Command::Go => go(alloc, order.level, name, folder, out),
         Command::Check => check(alloc, name, folder, out),
         Command::Dump => dump(alloc, name, folder, out),
+        Command::Cross => {
+            let source_name = name_to_store(words, order.stored_name);
+            cross(
+                alloc,
+                order.level,
+                name,
+                source_name,
+                word_at(words, 2),
+                folder,
+            )
+        }
     }
 }
 
-/// Does what is ordered on the file of this name, and hands on what is printed.
+/// Does what the words order, and hands on what is printed.
 fn done<F: Folder, S: Sink>(
     order: Order,
     alloc: Global,
-    name: &str,
+    words: &[String],
     folder: &mut F,
     out: &mut S,
 ) -> Ending
     requires { order.level ≤ 3 }
-    ensures go { order.command ≡ commands.Go → Went order.level (F.files folder.old) name.now result (S.told out.old) (S.told out.new) }
-    ensures check { order.command ≡ commands.Check → Checks (F.files folder.old) name.now result (S.told out.old) (S.told out.new) }
-    ensures dump { order.command ≡ commands.Dump → Dumps (F.files folder.old) name.now result (S.told out.old) (S.told out.new) }
+    ensures go { order.command ≡ commands.Go → Went order.level (F.files folder.old) (first_name (map string_bytes words.now)) result (S.told out.old) (S.told out.new) }
+    ensures check { order.command ≡ commands.Check → Checks (F.files folder.old) (first_name (map string_bytes words.now)) result (S.told out.old) (S.told out.new) }
+    ensures dump { order.command ≡ commands.Dump → Dumps (F.files folder.old) (first_name (map string_bytes words.now)) result (S.told out.old) (S.told out.new) }
+    ensures cross { order.command ≡ commands.Cross → Crosses order.level (first_name (map string_bytes words.now)) (stored (source_name (map string_bytes words.now) order.stored_name))
+        (second_name (map string_bytes words.now)) (F.files folder.old) (F.files folder.new) result }
+    ensures prints { order.command ≡ commands.Cross → Keeps (S.told out.old) (S.told out.new) }
     ensures flushed { result ≡ Done → S.held out.new ≡ [] }
-    ensures reads { Counts (F.count folder.old) (F.count folder.new) (is_read_fault result) }
-    ensures writes { Counts (S.count out.old) (S.count out.new) (is_write_fault result) }
-    ensures files { F.files folder.new ≡ F.files folder.old }
+    ensures folder_counts { Counts (F.count folder.old) (F.count folder.new) (is_folder_fault result) }
+    ensures out_counts { Counts (S.count out.old) (S.count out.new) (is_out_fault result) }
+    ensures files { Changes (written_by (map string_bytes words.now) order.command) (F.files folder.old) (F.files folder.new) }
 {
-    match ran(order, alloc, name, folder, out) {
+    match ran(order, alloc, words, folder, out) {
         Ending::Done => match out.flush() {
             Ok(()) => Ending::Done,
             Err(Failed) => Ending::WriteFault,
@@ -107,16 +129,23 @@ pub fn mpy<F: Folder, S: Sink, E: Sink>(
         (seen F.files F.count S.told S.count E.told E.count folder.old out.old say.old)
         (seen F.files F.count S.told S.count E.told E.count folder.new out.new say.new) result) }
 
+    // cross SRC FILE: FILE becomes the file of the source, and nothing is printed, or what kept it from that is said.
+    ensures cross { IfOk (order_of (map string_bytes words.now)) (λ order. order.command ≡ commands.Cross
+        → Writes (Crosses order.level (first_name (map string_bytes words.now)) (stored (source_name (map string_bytes words.now) order.stored_name)) (second_name (map string_bytes words.now)))
+        (first_name (map string_bytes words.now)) (second_name (map string_bytes words.now))
+        (seen F.files F.count S.told S.count E.told E.count folder.old out.old say.old)
+        (seen F.files F.count S.told S.count E.told E.count folder.new out.new say.new) result) }
+
     // With status 0 nothing of what is printed is held back.
     ensures flushed { result ≡ 0 → S.held out.new ≡ [] }
 
-    // No command that is built so far changes a file.
-    ensures files { F.files folder.new ≡ F.files folder.old }
+    // No command but cross changes a file, and cross none but FILE.
+    ensures files { Changes (written_in (map string_bytes words.now) (order_of (map string_bytes words.now))) (F.files folder.old) (F.files folder.new) }
 {
     match order_of(words) {
         Ok(order) => {
-            let name = words[1].as_str();
-            let ending = done(order, alloc, name, folder, out);
+            let ending = done(order, alloc, words, folder, out);
+            let name = name_in(word_at(words, 1), word_at(words, 2), &ending);
             // A failed put on `say` changes nothing else.
             let _ = say_ending(say, name, &ending);
             ending.status()
@@ -128,8 +157,12 @@ pub fn mpy<F: Folder, S: Sink, E: Sink>(
     }
 }
 
-/// Where a folder tells its files, a run that neither a failing call nor want of memory cut short ends in one way only.
+/// Where a folder tells its files, a run that neither a failing call nor want of memory cut short ends in one way only, and
+/// so does writing a source's file.
 pub fn one_ending_law()
-    ensures { (level : ℕ) (files : FileOf) (name : List ℕ) (a b : Ending) (old new_a new_b : Option (List ℕ)) → IsSettled a
+    ensures go { (level : ℕ) (files : FileOf) (name : List ℕ) (a b : Ending) (old new_a new_b : Option (List ℕ)) → IsSettled a
         → IsSettled b → Went level (Some files) name a old new_a → Went level (Some files) name b old new_b → a ≡ b }
+    ensures cross { (level : ℕ) (files : FileOf) (name stored_name written : List ℕ) (a b : Ending) (new_a new_b : Option FileOf)
+        → IsSettled a → IsSettled b → Crosses level name stored_name written (Some files) new_a a
+        → Crosses level name stored_name written (Some files) new_b b → a ≡ b }
 {}

@@ -1,26 +1,28 @@
 -- One more option.
-use Rattle.std.proofs.Common.{◌≡◌, ℕ, List, ◌∷◌, Option, Some, None, refl, ◌∙◌}
+use Rattle.std.proofs.Common.{◌≡◌, ℕ, List, ◌∷◌, false, Option, Some, refl, ◌∙◌}
 use Rattle.mpy_words.specs.declared.order.Command.{Command}
 use Rattle.mpy_words.specs.declared.order.Setting.{Setting}
-use Rattle.mpy_words.specs.Command.{setting_of, greatest_of}
-use Rattle.mpy_words.specs.Number.{number_of}
-use Rattle.mpy_words.specs.Words.{Outcome, known, once, valued, settings}
+use Rattle.mpy_words.specs.declared.given.Given.{Given}
+use Rattle.mpy_words.specs.Command.{setting_of}
+use Rattle.mpy_words.specs.Given.{is_given, with_option}
+use Rattle.mpy_words.specs.Words.{Outcome, place, known, once, valued, settings}
 
 known_is : (count : ℕ) (words : List (List ℕ)) (o : Option Setting) (s : Setting) (go : Setting → Outcome) → Some s ≡ o → known count words o go ≡ go s
 known_is count words o s go e = rw (← e) refl
 
-once_is : (s : Setting) (level : Option ℕ) (more : Outcome) → level ≡ None → once s level more ≡ more
-once_is s level more e = rw e refl
+once_is : (given : Given) (s : Setting) (more : Outcome) → is_given given s ≡ false → once given s more ≡ more
+once_is given s more e = rw e refl
 
-valued_is : (count : ℕ) (words : List (List ℕ)) (o : Option ℕ) (n : ℕ) (go : ℕ → Outcome) → Some n ≡ o → valued count words o go ≡ go n
-valued_is count words o n go e = rw (← e) refl
+valued_is : (count : ℕ) (words : List (List ℕ)) (o : Option Given) (more : Given) (go : Given → Outcome) → Some more ≡ o → valued count words o go ≡ go more
+valued_is count words o more go e = rw (← e) refl
 
-pub one_option : (count : ℕ) (c : Command) (level : Option ℕ) (word value : List ℕ) (words : List (List ℕ)) (s : Setting) (n : ℕ)
-    → level ≡ None → Some s ≡ setting_of c word → Some n ≡ number_of (greatest_of s) value
-    → settings count c level (word ∷ value ∷ words) ≡ settings count c (Some n) words
+pub one_option : (count : ℕ) (c : Command) (given more : Given) (word value : List ℕ) (words : List (List ℕ)) (s : Setting)
+    → is_given given s ≡ false → Some s ≡ setting_of c word → Some more ≡ with_option given s (place count (value ∷ words)) value
+    → settings count c given (word ∷ value ∷ words) ≡ settings count c more words
 unfolding settings
-one_option count c level word value words s n none set is =
-    let go = λ (n : ℕ). settings count c (Some n) words in
-    known_is count (word ∷ value ∷ words) (setting_of c word) s (λ s. once s level (valued count (value ∷ words) (number_of (greatest_of s) value) go)) set
-    ∙ (once_is s level (valued count (value ∷ words) (number_of (greatest_of s) value) go) none
-    ∙ valued_is count (value ∷ words) (number_of (greatest_of s) value) n go is)
+one_option count c given more word value words s none set is =
+    let go = λ (more : Given). settings count c more words in
+    let read = λ (s : Setting). valued count (value ∷ words) (with_option given s (place count (value ∷ words)) value) go in
+    known_is count (word ∷ value ∷ words) (setting_of c word) s (λ s. once given s (read s)) set
+    ∙ (once_is given s (read s) none
+    ∙ valued_is count (value ∷ words) (with_option given s (place count (value ∷ words)) value) more go is)

@@ -1,11 +1,11 @@
 -- The commands, the words that each names, and its options.
 use Rattle.std.specs.Prelude.{ℕ, List, [], ◌∷◌, Option, Some, None, codes, bytes_eq, if◌then◌else◌}
 use Rattle.mpy_words.specs.declared.order.Command.{Command}
-use Rattle.mpy_words.specs.declared.order.Command.TheVariants.{Go, Check, Dump}
+use Rattle.mpy_words.specs.declared.order.Command.TheVariants.{Go, Check, Dump, Cross}
 use Rattle.mpy_words.specs.declared.order.Named.{Named}
 use Rattle.mpy_words.specs.declared.order.Named.TheVariants.{Source, File}
 use Rattle.mpy_words.specs.declared.order.Setting.{Setting}
-use Rattle.mpy_words.specs.declared.order.Setting.TheVariants.{Level}
+use Rattle.mpy_words.specs.declared.order.Setting.TheVariants.{Level, StoredName}
 
 abbrev pub name_of : Named → List ℕ
 name_of Source = codes "SRC"
@@ -13,26 +13,28 @@ name_of File = codes "FILE"
 
 abbrev pub spelling_of : Setting → List ℕ
 spelling_of Level = codes "-O"
+spelling_of StoredName = codes "-s"
 
 -- the command of a first word
 abbrev pub command_of : List ℕ → Option Command
 command_of word =
     if bytes_eq word (codes "go") then Some Go
     else (if bytes_eq word (codes "check") then Some Check
-    else (if bytes_eq word (codes "dump") then Some Dump else None))
+    else (if bytes_eq word (codes "dump") then Some Dump
+    else (if bytes_eq word (codes "cross") then Some Cross else None)))
 
 -- the words that stand behind a command
 abbrev pub names_of : Command → List Named
 names_of Go = Source ∷ []
 names_of Check = File ∷ []
 names_of Dump = File ∷ []
+names_of Cross = Source ∷ File ∷ []
 
 -- the option that a word behind these is
 abbrev pub setting_of : Command → List ℕ → Option Setting
 setting_of Go word = if bytes_eq word (codes "-O") then Some Level else None
 setting_of Check word = None
 setting_of Dump word = None
-
--- the greatest value of an option
-abbrev pub greatest_of : Setting → ℕ
-greatest_of Level = 3
+setting_of Cross word =
+    if bytes_eq word (codes "-O") then Some Level
+    else (if bytes_eq word (codes "-s") then Some StoredName else None)

@@ -1,20 +1,29 @@
 -- The order of words, the program's own name left out.
-use Rattle.std.specs.Prelude.{ℕ, ◌-◌, Bool, false, List, [], ◌∷◌, length, Option, Some, None, ◌==◌, if◌then◌else◌, unwrap_or, slice_index_or, Result, Ok, Err}
+use Rattle.std.specs.Prelude.{ℕ, ◌-◌, Bool, false, List, [], ◌∷◌, length, Option, Some, None, ◌==◌, if◌then◌else◌, slice_index_or, Result, Ok, Err}
 use Rattle.mpy_words.specs.declared.order.Command.{Command}
 use Rattle.mpy_words.specs.declared.order.Named.{Named}
 use Rattle.mpy_words.specs.declared.order.Setting.{Setting}
 use Rattle.mpy_words.specs.declared.order.Order.{Order}
 use Rattle.mpy_words.specs.declared.order.WordFault.{WordFault}
 use Rattle.mpy_words.specs.declared.order.WordFault.TheVariants.{NoCommand, Unknown, MissingName, MissingValue, BadNumber, Twice}
-use Rattle.mpy_words.specs.Command.{command_of, names_of, setting_of, greatest_of}
-use Rattle.mpy_words.specs.Number.{number_of}
+use Rattle.mpy_words.specs.declared.given.Given.{Given}
+use Rattle.mpy_words.specs.Command.{command_of, names_of, setting_of}
+use Rattle.mpy_words.specs.Given.{none_given, is_given, with_option, order_with}
 
 abbrev pub Outcome : Type 0
 Outcome = Result Order WordFault
 
--- the first word behind the command
+-- the first and the second word behind the command
 abbrev pub first_name : List (List ℕ) → List ℕ
 first_name words = slice_index_or words 1 []
+
+abbrev pub second_name : List (List ℕ) → List ℕ
+second_name words = slice_index_or words 2 []
+
+-- the name that a file is to store of its source: the word that was given, else SRC
+abbrev pub source_name : List (List ℕ) → Option ℕ → List ℕ
+source_name words None = first_name words
+source_name words (Some at) = slice_index_or words at []
 
 -- a word that begins so names no file
 abbrev pub begins_with_dash : List ℕ → Bool
@@ -25,28 +34,27 @@ begins_with_dash (byte ∷ bytes) = byte == 45
 abbrev pub place : ℕ → List (List ℕ) → ℕ
 place count words = count - length words
 
--- ---- options, of which this level was given
+-- ---- options, behind those that were given already
 
-abbrev pub valued : ℕ → List (List ℕ) → Option ℕ → (ℕ → Outcome) → Outcome
+abbrev pub valued : ℕ → List (List ℕ) → Option Given → (Given → Outcome) → Outcome
 valued count words None go = Err (BadNumber (place count words))
-valued count words (Some n) go = go n
+valued count words (Some more) go = go more
 
-abbrev pub once : Setting → Option ℕ → Outcome → Outcome
-once s None more = more
-once s (Some n) more = Err (Twice s)
+abbrev pub once : Given → Setting → Outcome → Outcome
+once given s more = if is_given given s then Err (Twice s) else more
 
 abbrev pub known : ℕ → List (List ℕ) → Option Setting → (Setting → Outcome) → Outcome
 known count words None go = Err (Unknown (place count words))
 known count words (Some s) go = go s
 
-unfoldable pub settings : ℕ → Command → Option ℕ → List (List ℕ) → Outcome
-settings count c level [] = Ok (record { command = c; level = unwrap_or level 0 })
-settings count c level (word ∷ []) =
-    known count (word ∷ []) (setting_of c word) (λ s. once s level (Err (MissingValue s)))
-settings count c level (word ∷ value ∷ words) =
+unfoldable pub settings : ℕ → Command → Given → List (List ℕ) → Outcome
+settings count c given [] = Ok (order_with c given)
+settings count c given (word ∷ []) =
+    known count (word ∷ []) (setting_of c word) (λ s. once given s (Err (MissingValue s)))
+settings count c given (word ∷ value ∷ words) =
     known count (word ∷ value ∷ words) (setting_of c word) (λ s.
-    once s level (valued count (value ∷ words) (number_of (greatest_of s) value) (λ n.
-    settings count c (Some n) words)))
+    once given s (valued count (value ∷ words) (with_option given s (place count (value ∷ words)) value) (λ more.
+    settings count c more words)))
 
 -- ---- named words, and then options
 
@@ -56,7 +64,7 @@ lacking count c wanted word words =
     known count (word ∷ words) (setting_of c word) (λ s. Err (MissingName wanted))
 
 unfoldable pub named : ℕ → Command → List Named → List (List ℕ) → Outcome
-named count c [] words = settings count c None words
+named count c [] words = settings count c none_given words
 named count c (wanted ∷ more) [] = Err (MissingName wanted)
 named count c (wanted ∷ more) (word ∷ words) =
     if begins_with_dash word then lacking count c wanted word words else named count c more words

@@ -12,6 +12,8 @@ pub enum Command {
     Check,
     /// `dump FILE`
     Dump,
+    /// `cross SRC FILE`
+    Cross,
 }
 
 /// A word that a command names.
@@ -26,6 +28,8 @@ pub enum Named {
 pub enum Setting {
     /// `-O`, the level of optimization.
     Level,
+    /// `-s`, the name that a file stores of its source.
+    StoredName,
 }
 
 /// What words order. A named word stands at its place behind the command, so the first one at 1.
@@ -34,6 +38,8 @@ pub struct Order {
     pub command: Command,
     /// The level of optimization, 0 to 3.
     pub level: u8,
+    /// The place of the name that the file is to store of its source, where one was given.
+    pub stored_name: Option<usize>,
 }
 
 /// Why words are of no order: the first fault from left to right.
@@ -72,6 +78,7 @@ impl Setting {
     {
         match self {
             Setting::Level => "-O",
+            Setting::StoredName => "-s",
         }
     }
 }

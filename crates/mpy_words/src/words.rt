@@ -1,10 +1,11 @@
 //! The order of words.
 
-ghost use Rattle.std.specs.Prelude.{◌≡◌, ◌≤◌, ◌<◌, length, map, string_bytes, None, IfOk};
+ghost use Rattle.std.specs.Prelude.{◌≡◌, ◌≤◌, ◌<◌, length, map, string_bytes, IfOk, IfSome};
 ghost use Rattle.mpy_words.specs.Command as commands;
+ghost use Rattle.mpy_words.specs.Given.{none_given};
 ghost use Rattle.mpy_words.specs.Words as spec;
 
-use crate::number::number;
+use crate::given::Given;
 use crate::order::{Command, Named, Order, Setting, WordFault};
 
 fn command(word: &str) -> Option<Command>
@@ -14,6 +15,7 @@ fn command(word: &str) -> Option<Command>
         "go" => Some(Command::Go),
         "check" => Some(Command::Check),
         "dump" => Some(Command::Dump),
+        "cross" => Some(Command::Cross),
         _ => None,
     }
 }
@@ -23,6 +25,8 @@ fn setting(command: Command, word: &str) -> Option<Setting>
 {
     match command {
         Command::Go if word == "-O" => Some(Setting::Level),
+        Command::Cross if word == "-O" => Some(Setting::Level),
+        Command::Cross if word == "-s" => Some(Setting::StoredName),
         _ => None,
     }
 }
@@ -34,16 +38,7 @@ fn names(command: Command) -> &'static [Named]
     match command {
         Command::Go => &[Named::Source],
         Command::Check | Command::Dump => &[Named::File],
-    }
-}
-
-/// The greatest value of an option.
-fn greatest(setting: Setting) -> u64
-    ensures value { result ≡ commands.greatest_of setting }
-    ensures small { result ≤ 3 }
-{
-    match setting {
-        Setting::Level => 3,
+        Command::Cross => &[Named::Source, Named::File],
     }
 }
 
@@ -56,36 +51,35 @@ fn begins_with_dash(word: &str) -> bool
     }
 }
 
-/// Reads options, the last of so many words.
+/// Reads options, the last of all the words, of which there are `count`.
 #[tactic(auto, unfolding(crate::specs::Words::settings))]
 fn settings(count: usize, command: Command, words: &[String]) -> Result<Order, WordFault>
     requires { length words.now ≤ count }
-    ensures order { result ≡ spec.settings count command None (map string_bytes words.now) }
+    ensures order { result ≡ spec.settings count command none_given (map string_bytes words.now) }
     ensures same { IfOk result (λ order. order.command ≡ command) }
     ensures level { IfOk result (λ order. order.level ≤ 3) }
+    ensures stored_name { IfOk result (λ order. IfSome order.stored_name (λ at. at < count)) }
 {
-    let mut level = None;
+    let mut given = Given::none();
     let mut rest = words;
     'more: while let Some((word, behind)) = rest.split_first() {
         let Some(setting) = setting(command, word.as_str()) else {
             return Err(WordFault::Unknown(count - rest.len()));
         };
-        if level.is_some() {
+        if given.has(setting) {
             return Err(WordFault::Twice(setting));
         }
         let Some((value, more)) = behind.split_first() else {
             return Err(WordFault::MissingValue(setting));
         };
-        let Some(n) = number(greatest(setting), value.as_bytes()) else {
-            return Err(WordFault::BadNumber(count - behind.len()));
+        let at = count - behind.len();
+        let Some(with) = given.with(setting, at, value.as_bytes()) else {
+            return Err(WordFault::BadNumber(at));
         };
-        level = Some(n as u8);
+        given = with;
         rest = more;
     }
-    Ok(Order {
-        command,
-        level: level.unwrap_or(0),
-    })
+    Ok(given.order(command))
 }
 
 /// Reads the named words, and then options.
@@ -95,6 +89,7 @@ fn named(count: usize, command: Command, words: &[String]) -> Result<Order, Word
     ensures order { result ≡ spec.named count command (commands.names_of command) (map string_bytes words.now) }
     ensures named { IfOk result (λ order. length (commands.names_of order.command) ≤ length words.now) }
     ensures level { IfOk result (λ order. order.level ≤ 3) }
+    ensures stored_name { IfOk result (λ order. IfSome order.stored_name (λ at. at < count)) }
 {
     let mut rest = words;
     for wanted in names(command) {
@@ -121,6 +116,9 @@ pub fn order_of(words: &[String]) -> Result<Order, WordFault>
 
     // The level is one of the four.
     ensures level { IfOk result (λ order. order.level ≤ 3) }
+
+    // The name to store is one of the words.
+    ensures stored_name { IfOk result (λ order. IfSome order.stored_name (λ at. at < length words.now)) }
 {
     let Some((first, behind)) = words.split_first() else {
         return Err(WordFault::NoCommand);

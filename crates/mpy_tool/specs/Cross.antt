@@ -1,0 +1,44 @@
+-- What writing the file of a source does.
+use Rattle.std.specs.Prelude.{◌≡◌, ◌≢◌, ℕ, List, Option, Some, None, IfSome}
+use Rattle.mpy_base.specs.declared.source.SourceFault.{SourceFault}
+use Rattle.mpy_io.specs.Files.{FileOf, Becomes, BecomesFront}
+use Rattle.mpy_simple.specs.declared.print.Print.{Print}
+use Rattle.mpy_simple.specs.Compiled.{IsFileOf}
+use Rattle.mpy_simple.specs.Source.{IsCompiled, IsFault}
+use Rattle.mpy_tool.specs.declared.ending.Ending.{Ending}
+use Rattle.mpy_tool.specs.declared.ending.Ending.TheVariants.{Done, Unaccepted, Unread, Unverified, ReadFault, WriteFault, Unwritten, NoMemory, Absent}
+use Rattle.mpy_tool.specs.Folder.{MayHold}
+
+-- the source under this stored name is accepted at the level, and the bytes are a file of what it compiles to
+abbrev pub CompilesTo : (level : ℕ) (source stored bytes : List ℕ) → Type 0
+CompilesTo level source stored bytes = (prints : List Print) × IsCompiled level source stored prints × IsFileOf level stored prints bytes
+
+-- the source that the folder has under the name compiles to these bytes
+pub record HoldsCompiled (level : ℕ) (files : Option FileOf) (name stored bytes : List ℕ) : Type 0 where
+  pub source : List ℕ
+  pub holds : MayHold files name (Some source)
+  pub compiles : CompilesTo level source stored bytes
+
+-- the source that the folder has under the name has this first fault
+pub record HoldsFaulty (level : ℕ) (files : Option FileOf) (name stored : List ℕ) (fault : SourceFault) : Type 0 where
+  pub source : List ℕ
+  pub holds : MayHold files name (Some source)
+  pub is : IsFault level source stored fault
+
+-- How writing the file of the source of this name ended, at a level and under a stored name: what the written file became,
+-- or why all files are as they were.
+abbrev pub Crosses : (level : ℕ) (name stored written : List ℕ) → Option FileOf → Option FileOf → Ending → Type 0
+Crosses level name stored written old new Done = (bytes : List ℕ) × HoldsCompiled level old name stored bytes × Becomes old new written bytes
+Crosses level name stored written old new (Unaccepted fault) = HoldsFaulty level old name stored fault × (new ≡ old)
+Crosses level name stored written old new (Unread fault) = ⊥
+Crosses level name stored written old new (Unverified fault) = ⊥
+Crosses level name stored written old new ReadFault = new ≡ old
+-- nothing was printed, but what the sink held before wasn't handed on
+Crosses level name stored written old new WriteFault = (bytes : List ℕ) × HoldsCompiled level old name stored bytes × Becomes old new written bytes
+Crosses level name stored written old new Unwritten = (bytes : List ℕ) × HoldsCompiled level old name stored bytes × BecomesFront old new written bytes
+Crosses level name stored written old new NoMemory = new ≡ old
+Crosses level name stored written old new Absent = MayHold old name None × (new ≡ old)
+
+-- no file but the one of this name changed
+abbrev pub ChangesOnly : Option FileOf → Option FileOf → List ℕ → Type 0
+ChangesOnly old new name = IfSome old (λ file. (now : FileOf) × (new ≡ Some now) × ((other : List ℕ) → other ≢ name → now other ≡ file other))

@@ -1,0 +1,62 @@
+//! The command `cross`.
+
+ghost use Rattle.std.specs.Prelude.{◌≡◌, ◌≤◌, false};
+ghost use Rattle.mpy_io.specs.Count.{Counts};
+ghost use Rattle.mpy_simple.specs.Source.{Compiles};
+ghost use Rattle.mpy_tool.specs.Cross.{Crosses};
+ghost use Rattle.mpy_tool.specs.Ending.{is_folder_fault, is_out_fault};
+ghost use Rattle.mpy_tool.specs.Go.{stored};
+
+use crate::ending::Ending;
+use crate::go::stored_name;
+use mpy_base::{NoMemory, Refused, SourceFault};
+use mpy_io::{Failed, Folder, ReadFault};
+use mpy_simple::simple_file;
+use std::alloc::Global;
+
+/// The file of a source, which stores its name.
+fn compiled(
+    alloc: Global,
+    level: u8,
+    source: &[u8],
+    name: &str,
+) -> Result<Vec<u8>, Refused<SourceFault>>
+    requires { level ≤ 3 }
+    ensures { Compiles level source.now (stored name.now) result }
+{
+    match stored_name(alloc, name) {
+        Ok(stored) => simple_file(alloc, source, level, stored.bytes()),
+        Err(NoMemory) => Err(Refused::NoMemory),
+    }
+}
+
+/// Writes the file of the source of this name, at a level of optimization; it stores the name that is given of its source.
+pub(crate) fn cross<F: Folder>(
+    alloc: Global,
+    level: u8,
+    name: &str,
+    source_name: &str,
+    written: &str,
+    folder: &mut F,
+) -> Ending
+    requires { level ≤ 3 }
+    ensures went { Crosses level name.now (stored source_name.now) written.now (F.files folder.old) (F.files folder.new) result }
+    ensures folder_counts { Counts (F.count folder.old) (F.count folder.new) (is_folder_fault result) }
+    ensures prints_nothing { is_out_fault result ≡ false }
+{
+    let source = match folder.read(alloc, name) {
+        Ok(source) => source,
+        Err(ReadFault::Absent) => return Ending::Absent,
+        Err(ReadFault::TooLong) => return Ending::Unaccepted(SourceFault::too_long(alloc)),
+        Err(ReadFault::Failed) => return Ending::ReadFault,
+        Err(ReadFault::NoMemory) => return Ending::NoMemory,
+    };
+    match compiled(alloc, level, &source, source_name) {
+        Ok(bytes) => match folder.write(written, &bytes) {
+            Ok(()) => Ending::Done,
+            Err(Failed) => Ending::Unwritten,
+        },
+        Err(Refused::Fault(fault)) => Ending::Unaccepted(fault),
+        Err(Refused::NoMemory) => Ending::NoMemory,
+    }
+}
