@@ -1,12 +1,11 @@
 -- The machine's step of a call by its code's line.
-use Rattle.std.proofs.Common.{◌≡◌, ℕ, suc, List, [], ◌∷◌, map, Option, Some, refl, sym, ap, ◌∙◌}
+use Rattle.std.proofs.Common.{◌≡◌, ℕ, suc, List, ◌∷◌, map, Option, Some, sym, ap, ◌∙◌}
 use Rattle.std.specs.Prelude.{slice_get}
 use Rattle.mpy_base.specs.Val.{PlainWorld}
 use Rattle.bc_prelude.specs.Lines as lines
 use Rattle.bc_offsets.specs.Positions.{CodeList, position_in}
 use Rattle.bc_library.specs.Shelf.{Shelf}
 use Rattle.bc_machine.specs.Library.{Line, Code, Module, Library, entry_in, module_in, code_in}
-use Rattle.bc_machine.specs.State.{Frame, State}
 use Rattle.bc_machine.specs.Step.{run_line, line_at, step}
 use Rattle.bc_rows.specs.declared.row.Row.{Row}
 use Rattle.vm_frames.specs.Calls.{Call}
