@@ -1,8 +1,12 @@
 pub mod Acting
 pub mod Calls
+pub mod Displaying
 pub mod Emptying
+pub mod Gathering
 pub mod Items
+pub mod Iterating
 pub mod Looking
 pub mod Operating
+pub mod Pushing
 pub mod Settling
 pub mod Visits

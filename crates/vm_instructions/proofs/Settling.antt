@@ -11,7 +11,6 @@ use Rattle.py_primitives.specs.Outcome.{Outcome}
 use Rattle.py_effects.specs.Effect.{Effect, on_heap, Place}
 use Rattle.vm_walks.specs.Plain.{plain, plain_heap}
 use Rattle.vm_faults.specs.declared.stop.Stop.{Stop}
-use Rattle.vm_faults.specs.declared.stop.Stop.TheVariants as stops
 use Rattle.vm_faults.specs.Outcomes.{plain_answer, IsKnownAnswer, IsOutcome}
 use Rattle.vm_raising.specs.Worlds.{Sight, sight, world_over, HasEffect}
 use Rattle.vm_frames.specs.declared.slot.Slot.TheVariants as slots
@@ -51,14 +50,10 @@ module _ (texts : StrNo → Option (List ℕ)) (tuples : ConstNo → Option (Lis
   of_outcome before behind given visits primitive h e =
       record { answer = λ w. sym h.answer; world = λ w. ap (λ (z : PlainHeap). record w { heap = z }) h.heap; visits_are = λ w. e; known = h.known; later = h.later; all_told = h.all_told }
 
-  fault_known : (heap : Heap Value ℕ) (stop : Stop) → IsKnownAnswer texts tuples heap.objects (Err stop) → IsKnownStop texts tuples heap.objects (Err stop)
-  fault_known heap (stops.Raises fault) known = known
-  fault_known heap (stops.Full room) known = tt
-
   module _ (change : Value → Call → Call) (old new : Calls) (result : Result (Unit {0}) Stop) where
     stop_known : (heap : Heap Value ℕ) (given : Result Value Stop) → IsKnownAnswer texts tuples heap.objects given → Settles change given old new result → IsKnownStop texts tuples heap.objects result
     stop_known heap (Ok v) known settled = subst (IsKnownStop texts tuples heap.objects) (sym settled.0) tt
-    stop_known heap (Err stop) known settled = subst (IsKnownStop texts tuples heap.objects) (sym settled.0) (fault_known heap stop known)
+    stop_known heap (Err stop) known settled = subst (IsKnownStop texts tuples heap.objects) (sym settled.0) known
 
     value_put : (heap : Heap Value ℕ) (given : Result Value Stop) → IsKnownAnswer texts tuples heap.objects given → Settles change given old new result → Puts texts tuples heap.objects change old new result
     value_put heap (Ok v) known settled = subst (Puts texts tuples heap.objects change old new) (sym settled.0) (v, known, settled.1)

@@ -6,8 +6,7 @@ use Rattle.arena_heap.specs.declared.value.StrNo.{StrNo}
 use Rattle.arena_heap.specs.declared.value.ConstNo.{ConstNo}
 use Rattle.arena_objects.specs.Keys.{AllTold}
 use Rattle.vm_faults.specs.declared.stop.Stop.{Stop}
-use Rattle.vm_faults.specs.declared.stop.Stop.TheVariants as stops
-use Rattle.vm_faults.specs.Faults.{IsKnownFault}
+use Rattle.vm_faults.specs.Outcomes.{IsKnownAnswer}
 use Rattle.vm_frames.specs.Calls.{Call}
 use Rattle.bc_machine.specs.Library.{Name, Item}
 use Rattle.vm_step.specs.Shown.{Tables, IsAt, IsNext}
@@ -35,8 +34,7 @@ module _ (texts : StrNo → Option (List ℕ)) (tuples : ConstNo → Option (Lis
   -- what a stop tells is known
   abbrev pub IsKnownStop : Objects Value ℕ → Result (Unit {0}) Stop → Type 0
   IsKnownStop objects (Ok done) = Unit {0}
-  IsKnownStop objects (Err (stops.Raises fault)) = IsKnownFault texts tuples objects fault
-  IsKnownStop objects (Err (stops.Full room)) = Unit {0}
+  IsKnownStop objects (Err stop) = IsKnownAnswer texts tuples objects (Err stop)
 
   -- the objects stay of their kinds, what they hold is told, and what a stop tells is known
   pub record Leaves (before behind : Heap Value ℕ) (result : Result (Unit {0}) Stop) : Type 0 where

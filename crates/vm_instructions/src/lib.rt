@@ -2,14 +2,19 @@
 #![tactic(auto)]
 
 mod attributes;
+mod displays;
+mod iterators;
 mod locals;
 mod names;
 mod operations;
 mod operators;
 mod slots;
 mod subscripts;
+mod values;
 
 pub use attributes::{import_from, load_attr, load_method, store_attr};
+pub use displays::{build_list, build_map, build_tuple, unpack_sequence};
+pub use iterators::{for_iter, get_iter_stack, top_truth};
 pub use locals::{delete_fast, load_fast};
 pub use names::{delete_name, load_name, store_name};
 pub use operations::{OneOperand, TwoOperands};

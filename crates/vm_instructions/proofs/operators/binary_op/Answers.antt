@@ -1,22 +1,20 @@
-use Rattle.std.proofs.Common.{◌≡◌, ℕ, Some, slice_get, sym, ap, ap₂, ◌∙◌, refl, min, subst}
+use Rattle.std.proofs.Common.{◌≡◌, Some, slice_get, ap₂, ◌∙◌, refl}
 use Rattle.bc_ops.specs.declared.instr.Instr.TheVariants as instrs
 use Rattle.arena_heap.specs.declared.value.Value.{Value}
-use Rattle.py_values.specs.Shown.{PlainHeap}
-use Rattle.mpy_base.specs.Val.{Val}
 use Rattle.vm_walks.specs.Plain.{plain, plain_heap}
 use Rattle.vm_raising.specs.Worlds.{world_over}
 use Rattle.vm_frames.specs.declared.slot.Slot.TheVariants as slots
 use Rattle.vm_frames.specs.Calls.{Call}
 use Rattle.vm_moves.specs.Views.{starts_of, frame_of}
 use Rattle.bc_machine.specs.Library.{Plain}
-use Rattle.bc_machine.specs.Operations.{operator_at, unary_at}
+use Rattle.bc_machine.specs.Operations.{operator_at}
 use Rattle.vm_step.specs.Shown.{view_of}
 use Rattle.vm_step.proofs.Stepping.{both}
 use Rattle.vm_instructions.specs.Effects.{tables_of}
-use Rattle.vm_instructions.specs.Operations.{meaning_of_one, meaning_of_two, visits_of}
+use Rattle.vm_instructions.specs.Operations.{meaning_of_two, visits_of}
 use Rattle.vm_instructions.specs.Slots.{with_value}
 use Rattle.vm_instructions.proofs.Calls.{same_value}
-use Rattle.vm_instructions.proofs.Operating.{one_found, one_free, one_done, two_found, two_visits, two_done}
+use Rattle.vm_instructions.proofs.Operating.{two_found, two_visits, two_done}
 use Rattle.vm_instructions.proofs.Settling.{of_outcome, puts_steps, moved, leaves}
 use Rattle.vm_instructions.proofs.operators.binary_op.Goals as goal
 
