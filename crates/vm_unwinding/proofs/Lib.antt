@@ -1,4 +1,5 @@
 pub mod Fails
+pub mod Finishes
 pub mod Keeping
 pub mod Leaves
 pub mod Tabling
