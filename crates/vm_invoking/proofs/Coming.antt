@@ -6,7 +6,6 @@ use Rattle.mpy_base.specs.Val.{Val, PlainWorld}
 use Rattle.arena_heap.specs.declared.value.Value.{Value}
 use Rattle.arena_heap.specs.declared.value.StrNo.{StrNo}
 use Rattle.arena_heap.specs.declared.value.ConstNo.{ConstNo}
-use Rattle.py_primitives.specs.Faults as plain
 use Rattle.py_primitives.specs.Outcome as primitives
 use Rattle.py_effects.specs.Effect.{Effect, Place, Fails, Thrown, Filled, failed, given_answer, fault_at}
 use Rattle.vm_faults.specs.declared.stop.Stop.{Stop}
@@ -68,17 +67,6 @@ module _ (t : Tables) (library : Library) (item : Item) (visits : ℕ) (w : Plai
         pays = λ place paid less. is place paid ∙ unpaid library place paid frame frames w effect (next place) (omega (arith, less, v));
         steps = λ place paid enough. is place paid ∙ (paid_off library place paid frame frames w effect (next place) (omega (arith, enough, v)) ∙ e place);
       }
-
-  -- one that fails without visits
-  pub fails : (fault : plain.Fault)
-      → ((place : Place) (paid : ℕ) → item_step library place paid (frame_of (view_of t) c) (map (frame_of (view_of t)) cs) w item ≡ fail (fault_at place w fault) (frame_of (view_of t) c) (map (frame_of (view_of t)) cs))
-      → 0 ≡ visits
-      → ((place : Place) → fail (fault_at place w fault) (frame_of (view_of t) c) (map (frame_of (view_of t)) cs) ≡ outcome place)
-      → Comes t library item visits w (c ∷ cs) outcome
-  fails fault is v e = record {
-    pays = λ place paid less. absurd (omega (arith, less, v));
-    steps = λ place paid enough. is place paid ∙ e place;
-  }
 
 -- values that are put
 -- ===================

@@ -32,7 +32,7 @@ put_next (x ∷ vs) [] i v e fits = absurd (omega (arith, fits))
 put_next (x ∷ vs) (y ∷ ls) zero v e fits = ap (λ z. z ∷ ls) (sym (same_Some x v e))
 put_next (x ∷ vs) (y ∷ ls) (suc i) v e fits = ap (λ z. x ∷ z) (put_next vs ls i v e (omega (arith, fits)))
 
--- so many of the values are in the locals
+-- the first `i` values are in the locals
 abbrev pub partly : List (Option Value) → ℕ → Call → Call
 partly vs i c = record c { locals = take i vs ++ drop i c.locals }
 

@@ -9,5 +9,6 @@ pub mod Knowns
 pub mod Makings
 pub mod PlainOperands
 pub mod Runs
+pub mod Skips
 pub mod Slots
 pub mod Tuples

@@ -36,7 +36,7 @@ pub record IsFree (upper lower : Slot) : Type 0 where
   pub no_object : upper ≡ slots.Object None
   pub callee_is : lower ≡ slots.Value callee
 
--- what a look-up found lies below so many slots
+-- what a look-up found lies below the topmost `above` slots
 pub record HasLooked (above : ℕ) (st : List Slot) : Type 0 where
   pub upper : Slot
   pub lower : Slot
@@ -45,7 +45,7 @@ pub record HasLooked (above : ℕ) (st : List Slot) : Type 0 where
   pub looked : IsBound upper lower ⊎ IsFree upper lower
 
 module _ (tables : Tables) where
-  -- the machine's call of this callee with these arguments, where they take so many slots of the running call
+  -- the machine's call of this callee with these arguments, which takes `size` slots of the running call
   abbrev pub calling_of : Library → Place → (paid size : ℕ) → List Call → PlainWorld → plain.Callee → List Value → List (Value × Value) → State
   calling_of library place paid size [] w callee args keys = Stuck w
   calling_of library place paid size (c ∷ cs) w callee args keys =

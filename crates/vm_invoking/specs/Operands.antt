@@ -6,7 +6,7 @@ use Rattle.vm_frames.specs.declared.slot.Slot.{Slot}
 use Rattle.vm_frames.specs.declared.slot.Slot.TheVariants as slots
 use Rattle.vm_frames.specs.Calls.{Call}
 
--- positional and keyword arguments, and how many slots they fit that may take
+-- positional and keyword arguments, and how many slots may hold them
 pub record Given : Type 0 where
   pub args : List Value
   pub keys : List (Value × Value)
@@ -26,7 +26,7 @@ value_in (slots.Iter over at part) = values.None
 value_in (slots.Return v) = values.None
 value_in (slots.Jump target entries iterator) = values.None
 
--- the values of the first slots, of which there are so many, the lowest first
+-- the values of the first `count` slots, the lowest first
 abbrev pub values_in : (count : ℕ) → List Slot → List Value
 values_in count st = reverse (map value_in (take count st))
 

@@ -1,9 +1,12 @@
 //! Calls that act at once.
 
-ghost use Rattle.std.specs.Prelude.{◌≡◌, ◌<◌, ◌≤◌, ◌^◌, length, map, Err};
-ghost use Rattle.mpy_base.specs.World.{Later};
+ghost use Rattle.std.specs.Prelude.{◌<◌, ◌≤◌, ◌^◌, ◌≡◌, ℕ, List, Option, length, map, Err};
+ghost use Rattle.mpy_base.specs.World.{Heap, Objects, Later};
 ghost use Rattle.mpy_base.specs.Val.{PlainWorld};
 ghost use Rattle.port_set.specs.Calls.{Tell};
+ghost use Rattle.arena_heap.specs.declared.value.Value.{Value as Item};
+ghost use Rattle.arena_heap.specs.declared.value.StrNo.{StrNo as TextName};
+ghost use Rattle.arena_heap.specs.declared.value.ConstNo.{ConstNo as TupleName};
 ghost use Rattle.arena_heap.specs.Values.{IsMethodOf};
 ghost use Rattle.arena_objects.specs.Keys.{AllTold};
 ghost use Rattle.py_primitives.specs.Methods.{call_method as call_method_in};
@@ -12,7 +15,7 @@ ghost use Rattle.vm_walks.specs.Plain.{plain, plain_heap, plain_pair};
 ghost use Rattle.vm_faults.specs.Faults.{IsKnown};
 ghost use Rattle.vm_calls.specs.declared.callees.Callee.TheVariants as callees;
 ghost use Rattle.vm_calls.specs.Families.{IsOfPorts};
-ghost use Rattle.vm_frames.specs.Calls.{OfRunning};
+ghost use Rattle.vm_frames.specs.Calls.{Call, OfRunning};
 ghost use Rattle.vm_step.specs.Shown.{IsNext};
 ghost use Rattle.vm_step.specs.Outcomes.{Does};
 ghost use Rattle.vm_invoking.specs.Built.{ActsBuilt, IsCalled, IsKnownCallStop};
@@ -20,7 +23,7 @@ ghost use Rattle.vm_invoking.specs.Invoking.{Invokes};
 ghost use Rattle.vm_invoking.specs.Known.{AreKnown};
 ghost use Rattle.vm_invoking.specs.Layouts.{Layout, tables_of};
 ghost use Rattle.vm_invoking.specs.Operands.{running_slots};
-ghost use Rattle.vm_invoking.specs.Putting.{Puts, Leaves, put_in, done_of};
+ghost use Rattle.vm_invoking.specs.Putting.{IsKnownStop, Puts, Leaves, put_in, done_of};
 
 use crate::operands::Operands;
 use crate::putting::{put_given, put_over};
@@ -62,19 +65,12 @@ pub fn act_method<C: Constants>(
     put_given(frames, size, given, end)
 }
 
-/// A value of a type that isn't callable is called.
-pub fn refuse_call<C: Constants>(
-    frames: &Frames,
-    arena: &Arena,
-    _consts: &C,
-    operands: &Operands,
-    value_type: ValueType,
-    size: u32,
-) -> Stop
-    requires { 0 < length frames.now.calls }
-    ensures steps { (layout : Layout) (item : Instruction) → Invokes (tables_of (C.text_of _consts.now) (C.items_of _consts.now) layout) item size arena.now frames.now.calls operands.now.args operands.now.keys (callees.NotCallable value_type)
-        → Does (tables_of (C.text_of _consts.now) (C.items_of _consts.now) layout) item 0 arena.now arena.now frames.now.calls frames.now.calls (Err result) }
-    ensures leaves { AllTold (C.text_of _consts.now) (C.items_of _consts.now) arena.now.objects → Leaves (C.text_of _consts.now) (C.items_of _consts.now) arena.now arena.now (Err result) }
+/// A value of a type that isn't callable is called: whatever the calls, the heap and the operands are.
+pub fn refuse_call(value_type: ValueType) -> Stop
+    ensures steps { (texts : TextName → Option (List ℕ)) (tuples : TupleName → Option (List Item)) (layout : Layout) (item : Instruction) (size : ℕ) (heap : Heap Item ℕ) (calls : List Call) (args : List Item) (keys : List (Item × Item))
+        → 0 < length calls → Invokes (tables_of texts tuples layout) item size heap calls args keys (callees.NotCallable value_type)
+        → Does (tables_of texts tuples layout) item 0 heap heap calls calls (Err result) }
+    ensures known { (texts : TextName → Option (List ℕ)) (tuples : TupleName → Option (List Item)) (objects : Objects Item ℕ) → IsKnownStop texts tuples objects (Err result) }
 {
     Stop::Raises(Fault::NotCallable(value_type))
 }

@@ -57,7 +57,7 @@ fn fill_names(numbers: &[u32], names: &mut Vec<StrNo>)
     }
 }
 
-/// So many empty values.
+/// `count` empty values.
 fn fill_empty(count: usize, values: &mut Vec<Option<Value>>)
     requires { count ≤ vec_capacity values.old }
     ensures values { values.new.items ≡ replicate count None }
@@ -68,7 +68,7 @@ fn fill_empty(count: usize, values: &mut Vec<Option<Value>>)
 }
 
 impl Bindings {
-    /// Nothing is bound yet. So many parameters fit. It takes all its memory here.
+    /// Nothing is bound yet. `room` parameters fit. It takes all its memory here.
     pub fn new(alloc: Global, room: u32) -> Result<Bindings, NoMemory>
         ensures { IfOk result (λ b. b ≡ record { values = []; room = room }) }
     {

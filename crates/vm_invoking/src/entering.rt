@@ -1,25 +1,32 @@
 //! Functions of the program that are entered.
 
-ghost use Rattle.std.specs.Prelude.{◌≡◌, ◌<◌, ◌≤◌, ◌^◌, ◌++◌, ◌⊎◌, length, drop, nat_lt, Some, IsOk, slice_get};
+ghost use Rattle.std.specs.Prelude.{◌≡◌, ◌<◌, ◌≤◌, ◌^◌, ◌++◌, ◌⊎◌, ℕ, List, length, drop, nat_lt, Option, Some, None, Ok, IsOk, slice_get};
 ghost use Rattle.mpy_base.specs.declared.limits.TheConstants.{MAX_CALLS as LIMIT};
+ghost use Rattle.mpy_base.specs.World.{Heap};
+ghost use Rattle.arena_heap.specs.declared.value.Value.{Value as Item};
+ghost use Rattle.arena_heap.specs.declared.value.Value.TheVariants as values;
+ghost use Rattle.arena_heap.specs.declared.value.StrNo.{StrNo as TextName};
+ghost use Rattle.arena_heap.specs.declared.value.ConstNo.{ConstNo as TupleName};
 ghost use Rattle.arena_objects.specs.Keys.{AllTold};
-ghost use Rattle.bc_machine.specs.Library.{Library, Item as Instruction};
+ghost use Rattle.bc_machine.specs.Library.{Library, Item as Instruction, code_at};
+ghost use Rattle.vm_walks.specs.Plain.{plain_name};
 ghost use Rattle.vm_calls.specs.declared.callees.Callee.TheVariants as callees;
+ghost use Rattle.vm_calls.specs.declared.callees.Function.{Function as Callable};
 ghost use Rattle.vm_calls.specs.Callees.{IsKnownFunction};
 ghost use Rattle.vm_frames.specs.Calls.{OfRunning, on_running};
 ghost use Rattle.vm_moves.specs.Placed.{IsPlaced};
-ghost use Rattle.vm_step.specs.Shown.{view_of};
+ghost use Rattle.vm_step.specs.Shown.{IsNext, view_of};
 ghost use Rattle.vm_invoking.specs.Coming.{ComesTo};
 ghost use Rattle.vm_invoking.specs.Entering.{IsCodeOf, IsEntered, Enters, begun};
 ghost use Rattle.vm_invoking.specs.Invoking.{Invokes};
 ghost use Rattle.vm_invoking.specs.Known.{AreKnown};
 ghost use Rattle.vm_invoking.specs.Layouts.{Layout, tables_of};
 ghost use Rattle.vm_invoking.specs.Operands.{running_slots};
-ghost use Rattle.vm_invoking.specs.Putting.{IsKnownStop};
+ghost use Rattle.vm_invoking.specs.Putting.{IsKnownStop, with_value};
 
 use crate::binding::{Bindings, FunctionCode};
 use crate::operands::Operands;
-use crate::putting::drop_slots;
+use crate::putting::{drop_slots, put_over};
 use arena_heap::{Arena, Constants, Value};
 use mpy_base::limits::MAX_CALLS;
 use vm_calls::Function;
@@ -137,4 +144,17 @@ pub fn run_function<C: Constants>(
             enter(frames, function, values, module_number, code.locals, size)
         }
     }
+}
+
+/// A function is called whose code isn't in the library: the call gives None, whatever the heap and the operands are.
+pub fn skip_function(frames: &mut Frames, size: u32, end: u32)
+    requires some { 0 < size }
+    requires there { size ≤ length (running_slots frames.old.calls) }
+    ensures steps { (texts : TextName → Option (List ℕ)) (tuples : TupleName → Option (List Item)) (layout : Layout) (library : Library) (item : Instruction) (heap : Heap Item ℕ) (args : List Item) (keys : List (Item × Item)) (f : Callable)
+        → Invokes (tables_of texts tuples layout) item size heap frames.old.calls args keys (callees.Runs f) → code_at library (plain_name texts tuples f.module_name) f.code ≡ None
+        → IsNext (tables_of texts tuples layout) end frames.old.calls
+        → ComesTo (tables_of texts tuples layout) library item 0 heap heap frames.old.calls frames.new.calls (Ok tt) }
+    ensures moved { frames.new ≡ on_running (with_value end size values.None) frames.old }
+{
+    put_over(frames, size, Value::None, end);
 }

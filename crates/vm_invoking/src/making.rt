@@ -48,7 +48,7 @@ fn names_of(frames: &Frames) -> DictNo
     names
 }
 
-/// Is the value a tuple of so many items?
+/// Is the value a tuple of `count` items?
 fn has_items<C: Constants>(arena: &Arena, consts: &C, v: Value, count: u32) -> bool
     requires known { IsKnown (C.text_of consts.now) (C.items_of consts.now) arena.now.objects v }
     ensures tuple { IsTrue result → IsTuple v }

@@ -76,7 +76,7 @@ pub(crate) fn add<T: Drop>(items: &mut Vec<T>, item: T)
     let _ = items.push(item);
 }
 
-/// The values of slots, the lowest first, from those that have so many above them.
+/// The values of `count` slots below the topmost `above`, the lowest first.
 fn fill_args(frames: &Frames, above: u32, count: u32, args: &mut Vec<Value>)
     requires there { above + count ≤ length (running_slots frames.now.calls) }
     requires few { above + count < 2 ^ 32 }
@@ -111,7 +111,7 @@ fn fill_keys(frames: &Frames, pairs: u32, keys: &mut Vec<(Value, Value)>)
 }
 
 impl Operands {
-    /// No operands, with room for those that lie in so many slots. It takes all its memory here.
+    /// No operands, with room for those that lie in `slots` slots. It takes all its memory here.
     pub fn new(alloc: Global, slots: u32) -> Result<Operands, NoMemory>
         ensures { IfOk result (λ o. o ≡ record { args = []; keys = []; room = slots }) }
     {
