@@ -2,7 +2,8 @@
 //!
 //! A row's first line is `$` with the words. Of the others, `@` has the file's name; `|` a line of it, `.` a text, `*` a line so
 //! often, `~` a text so often, and `x` bytes in hexadecimal; `!` a call that fails of the folder or of the output; `=` the status;
-//! `>` a line that is printed, `+` a text, and `<` says that only a front of it is; `-` is a line that is said.
+//! `>` a line that is printed, `+` a text, and `<` says that only a front of it is; `-` is a line that is said. `^` names a file
+//! that is there at the end with the bytes in `o`, in hexadecimal, or isn't there where these are none.
 #![tactic(auto)]
 
 mod row;
@@ -12,7 +13,9 @@ use std::alloc::{AllocError, Global};
 use std::process::ExitCode;
 use std::{fs, io};
 
-const FILES: [&str; 6] = ["codes", "files", "limits", "listings", "sources", "words"];
+const FILES: [&str; 7] = [
+    "codes", "files", "limits", "listings", "sources", "words", "written",
+];
 
 /// How many rows were tried, and the number of the first one that came to something else.
 #[derive(Clone, Copy)]

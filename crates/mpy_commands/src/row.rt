@@ -16,6 +16,10 @@ pub struct Row {
     out: Vec<u8>,
     is_front: bool,
     say: Vec<u8>,
+    /// The file that is to be written, if any.
+    written: Option<String>,
+    /// What it is to hold; with no byte, it isn't to be there.
+    bytes: Vec<u8>,
 }
 
 /// A word, of which `''` is the empty one.
@@ -69,6 +73,14 @@ fn put_bytes(to: &mut Vec<u8>, digits: &str) -> Result<(), AllocError> {
     Ok(())
 }
 
+/// Whether the folder has these bytes under the name, or nothing where there are none.
+fn holds(folder: &MemFolder, name: &str, bytes: &[u8]) -> bool {
+    match folder.get(name) {
+        Some(file) => file == bytes,
+        None => bytes.is_empty(),
+    }
+}
+
 impl Row {
     /// The row that begins with this line.
     pub fn new(alloc: Global, line: &str) -> Result<Row, AllocError> {
@@ -82,6 +94,8 @@ impl Row {
             out: Vec::new(alloc),
             is_front: false,
             say: Vec::new(alloc),
+            written: None,
+            bytes: Vec::new(alloc),
         })
     }
 
@@ -113,6 +127,8 @@ impl Row {
             "+" => self.out.extend_from_slice(rest.as_bytes())?,
             "<" => self.is_front = true,
             "-" => put_line(&mut self.say, rest)?,
+            "^" => self.written = Some(String::from_str(alloc, rest)?),
+            "o" => put_bytes(&mut self.bytes, rest)?,
             _ => {}
         }
         Ok(())
@@ -131,6 +147,10 @@ impl Row {
         } else {
             self.out.as_slice() == out.bytes()
         };
-        Ok(status == self.status && printed && self.say.as_slice() == say.bytes())
+        let written = match &self.written {
+            Some(name) => holds(&folder, name, &self.bytes),
+            None => true,
+        };
+        Ok(status == self.status && printed && written && self.say.as_slice() == say.bytes())
     }
 }
