@@ -15,6 +15,10 @@ const HELP: &[u8] = b"mpy: a verified tool chain for MicroPython bytecode files
 usage:
   mpy go SRC [-O N]  compile the source SRC and run it, at optimization level N
                      (0 to 3, 0 if left out), as in: mpy go examples/hello.py -O 1
+  mpy cross SRC FILE [-O N] [-s NAME]
+                     compile the source SRC and write its file as FILE, which
+                     stores SRC as the name of its source, or NAME,
+                     as in: mpy cross examples/hello.py hello.mpy
   mpy check FILE     verify the file FILE, and print how many codes it has,
                      as in: mpy check examples/sensor.mpy
   mpy dump FILE      list what the file FILE holds,
