@@ -19,7 +19,7 @@ use Rattle.vm_assignments.specs.Slots.{FillsSlots, AreKnown}
 use Rattle.vm_raising.specs.Worlds.{world_over}
 use Rattle.vm_frames.specs.declared.slot.Slot.{Slot}
 use Rattle.vm_frames.specs.declared.slot.Slot.TheVariants as slots
-use Rattle.vm_frames.specs.Calls.{Call, Calls, OfRunning, on_running}
+use Rattle.vm_frames.specs.Calls.{Call, Calls, OfRunning}
 use Rattle.bc_offsets.specs.Positions.{position_in}
 use Rattle.vm_moves.specs.Views.{View, slot_of, slots_of, starts_of, position_of, frame_of}
 use Rattle.bc_machine.specs.Library.{Item, Plain, Library}

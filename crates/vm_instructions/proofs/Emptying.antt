@@ -1,6 +1,5 @@
 -- Locals that are read and emptied.
 use Rattle.std.proofs.Common.{◌≡◌, ℕ, zero, suc, List, [], ◌∷◌, map, Option, Some, None, Result, slice_get, slice_set, refl, ap, ◌∙◌}
-use Rattle.std.proofs.lemmas.Option.{none-some, same_Some}
 use Rattle.std.specs.Option.{option_map}
 use Rattle.std.specs.Prelude.{option_and_then}
 use Rattle.mpy_base.specs.World.{Heap}
@@ -27,12 +26,8 @@ use Rattle.vm_step.proofs.Stepping.{both, goes_to}
 use Rattle.vm_instructions.specs.Slots.{with_empty}
 use Rattle.vm_instructions.specs.Settled.{Settles}
 use Rattle.vm_instructions.specs.Effects.{Layout, tables_of, Steps}
+use Rattle.vm_instructions.proofs.Items.{get_map}
 use Rattle.vm_instructions.proofs.Settling.{Answers, does}
-
-get-map : {A B : Type 0} (f : A → B) (xs : List A) (i : ℕ) (x : A) → slice_get xs i ≡ Some x → slice_get (map f xs) i ≡ Some (f x)
-get-map f [] i x e = absurd (none-some x e)
-get-map f (y ∷ xs) zero x e = ap (λ z. Some (f z)) (same_Some y x e)
-get-map f (y ∷ xs) (suc i) x e = get-map f xs i x e
 
 set-map : {A B : Type 0} (f : A → B) (xs : List A) (i : ℕ) (x : A) → slice_set (map f xs) i (f x) ≡ map f (slice_set xs i x)
 set-map f [] i x = refl
@@ -42,7 +37,7 @@ set-map f (y ∷ xs) (suc i) x = ap (λ z. f y ∷ z) (set-map f xs i x)
 -- the local as the machine loads it
 pub loaded : (view : View) (w : PlainWorld) (locals : List (Option Value)) (n : ℕ) (local : Option Value) → slice_get locals n ≡ Some local
     → load_local w (locals_of view locals) n ≡ assigned w (option_map view.plain local)
-loaded view w locals n local e = ap (λ (o : Option (Option Val)). assigned w (option_and_then (λ v. v) o)) (get-map (option_map view.plain) locals n local e)
+loaded view w locals n local e = ap (λ (o : Option (Option Val)). assigned w (option_and_then (λ v. v) o)) (get_map (option_map view.plain) locals n local e)
 
 -- on with an empty local
 emptied : (view : View) (c : Call) (n end : ℕ) (frames : List states.Frame) (w : PlainWorld) → position_in (starts_of view c) end ≡ suc (position_of view c)

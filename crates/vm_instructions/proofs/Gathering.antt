@@ -1,10 +1,10 @@
 -- Values that are gathered from slots.
-use Rattle.std.proofs.Common.{◌≡◌, ℕ, zero, suc, ◌+◌, ◌-◌, ◌<◌, ◌≤◌, List, [], ◌∷◌, length, map, take, reverse, get_or, set, Option, Some, slice_get, refl, sym, ap, ◌∙◌, subst, ◌⊎◌, inl, inr, arith, get_or-set_same, get_or-set_other}
+use Rattle.std.proofs.Common.{◌≡◌, ℕ, zero, suc, ◌+◌, ◌-◌, ◌<◌, ◌≤◌, List, length, map, take, reverse, get_or, set, Option, Some, slice_get, refl, sym, ap, ◌∙◌, subst, ◌⊎◌, inl, inr, arith, get_or-set_same, get_or-set_other}
 use Rattle.std.specs.List.{All}
 use Rattle.std.proofs.lemmas.Option.{slice_get-get_or, slice_get_within, same_Some}
 use Rattle.std.proofs.lemmas.List.{get_or-reverse, get_or-take, get_or-map, length-reverse, length-take-le, length-map, length-set, ext_get_or}
 use Rattle.mpy_base.specs.World.{Objects}
-use Rattle.mpy_base.specs.Val.{Val, Nil}
+use Rattle.mpy_base.specs.Val.{Nil}
 use Rattle.arena_heap.specs.declared.value.Value.{Value}
 use Rattle.arena_heap.specs.declared.value.Value.TheVariants as values
 use Rattle.arena_heap.specs.declared.value.StrNo.{StrNo}
@@ -13,7 +13,7 @@ use Rattle.vm_faults.specs.Faults.{IsKnown}
 use Rattle.vm_operators.proofs.ItemFills.{read_value}
 use Rattle.vm_frames.specs.declared.slot.Slot.{Slot}
 use Rattle.vm_frames.specs.declared.slot.Slot.TheVariants as slots
-use Rattle.vm_frames.specs.Calls.{Call, OfRunning}
+use Rattle.vm_frames.specs.Calls.{Call}
 use Rattle.vm_moves.specs.Views.{View, slots_of, slot_of}
 use Rattle.bc_machine.specs.State as states
 use Rattle.bc_machine.specs.Operations as machine

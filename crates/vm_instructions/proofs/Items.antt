@@ -1,5 +1,5 @@
 -- What the machine's instructions do, by the slots that they take.
-use Rattle.std.proofs.Common.{◌≡◌, ℕ, List, [], ◌∷◌, drop, Some, slice_get, refl, sym, subst}
+use Rattle.std.proofs.Common.{◌≡◌, ℕ, List, [], ◌∷◌, drop, Some, slice_get, refl, sym, subst, zero, suc, map, ap}
 use Rattle.std.proofs.lemmas.Option.{none-some, same_Some}
 use Rattle.mpy_base.specs.Val.{Val, PlainWorld}
 use Rattle.arena_heap.specs.declared.value.Value.{Value}
@@ -15,6 +15,11 @@ use Rattle.bc_machine.specs.Library.{Name, Library}
 use Rattle.bc_machine.specs.State as states
 use Rattle.bc_machine.specs.State.{State}
 use Rattle.bc_machine.specs.Step as step
+
+pub get_map : {A B : Type 0} (f : A → B) (xs : List A) (i : ℕ) (x : A) → slice_get xs i ≡ Some x → slice_get (map f xs) i ≡ Some (f x)
+get_map f [] i x e = absurd (none-some x e)
+get_map f (y ∷ xs) zero x e = ap (λ z. Some (f z)) (same_Some y x e)
+get_map f (y ∷ xs) (suc i) x e = get_map f xs i x e
 
 pub on_one : (P : List Slot → Type 0) (st : List Slot) (a : Slot) → slice_get st 0 ≡ Some a → P (a ∷ drop 1 st) → P st
 on_one P [] a e h = absurd (none-some a e)

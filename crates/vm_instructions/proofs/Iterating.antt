@@ -1,5 +1,5 @@
 -- Iterators that begin and go on.
-use Rattle.std.proofs.Common.{◌≡◌, ℕ, suc, ◌<◌, ◌≤◌, List, [], ◌∷◌, length, drop, Bool, true, false, Option, Some, Result, Ok, Err, slice_get, refl, sym, ap, ◌∙◌, subst, arith}
+use Rattle.std.proofs.Common.{◌≡◌, ℕ, suc, ◌<◌, ◌≤◌, List, [], ◌∷◌, length, drop, Bool, true, false, Option, Some, Result, Ok, slice_get, refl, sym, ap, ◌∙◌, subst, arith}
 use Rattle.std.specs.Prelude.{nat_lt, IsSome}
 use Rattle.std.proofs.lemmas.Bool.{lt-ltb, le-ltb}
 use Rattle.std.proofs.lemmas.Option.{same_Some}
@@ -19,7 +19,7 @@ use Rattle.vm_faults.specs.declared.stop.Stop.{Stop}
 use Rattle.vm_raising.specs.Worlds.{world_over}
 use Rattle.vm_frames.specs.declared.slot.Slot.{Slot}
 use Rattle.vm_frames.specs.declared.slot.Slot.TheVariants as slots
-use Rattle.vm_frames.specs.Calls.{Call, Calls, OfRunning, change_first, on_running}
+use Rattle.vm_frames.specs.Calls.{Call, Calls, OfRunning, on_running}
 use Rattle.bc_offsets.specs.Positions.{position_in}
 use Rattle.vm_moves.specs.Views.{View, slots_of, starts_of, position_of, frame_of}
 use Rattle.bc_machine.specs.Library.{Plain, Jumps, Library}
@@ -28,8 +28,7 @@ use Rattle.bc_machine.specs.State.{State, Running, go}
 use Rattle.bc_machine.specs.Parts.{iter_on}
 use Rattle.bc_machine.specs.Step as step
 use Rattle.bc_machine.specs.Step.{item_step}
-use Rattle.vm_step.specs.Shown.{Tables, view_of, running_of, step_of, IsAt, IsNext, Tests}
-use Rattle.vm_step.specs.Outcomes.{Does}
+use Rattle.vm_step.specs.Shown.{view_of, Tests}
 use Rattle.vm_step.proofs.Stepping.{both, goes_to, steps_by}
 use Rattle.vm_instructions.specs.Slots.{HasValue, IsIterator, iterator_over, with_iterator, with_item, without}
 use Rattle.vm_instructions.specs.Settled.{Settles}

@@ -2,7 +2,7 @@
 use Rattle.std.proofs.Common.{◌≡◌, ℕ, zero, suc, ◌+◌, ◌-◌, ◌≤◌, List, [], ◌∷◌, ◌++◌, length, map, drop, Option, Some, None, slice_get, refl, sym, ap, ◌∙◌, subst, arith, min}
 use Rattle.std.specs.Prelude.{option_and_then}
 use Rattle.std.specs.Option.{option_map}
-use Rattle.std.proofs.lemmas.Option.{none-some, same_Some}
+use Rattle.std.proofs.lemmas.Option.{none-some}
 use Rattle.mpy_base.specs.Val.{Val, PlainWorld}
 use Rattle.arena_heap.specs.declared.value.Value.{Value}
 use Rattle.py_values.specs.Shown.{PlainHeap}
@@ -24,18 +24,13 @@ use Rattle.vm_instructions.specs.declared.operations.TwoOperands.TheVariants as 
 use Rattle.vm_instructions.specs.declared.operations.OneOperand.{OneOperand}
 use Rattle.vm_instructions.specs.declared.operations.OneOperand.TheVariants as ones
 use Rattle.vm_instructions.specs.Operations.{meaning_of_one, meaning_of_two, visits_of}
-use Rattle.vm_instructions.proofs.Items.{on_one, on_two, Gave}
+use Rattle.vm_instructions.proofs.Items.{get_map, on_one, on_two, Gave}
 use Rattle.vm_instructions.proofs.Visits.{binary_free, unary_free}
 
 get_left : {A : Type 0} (xs ys : List A) (i : ℕ) (x : A) → slice_get xs i ≡ Some x → slice_get (xs ++ ys) i ≡ Some x
 get_left [] ys i x e = absurd (none-some x e)
 get_left (y ∷ xs) ys zero x e = e
 get_left (y ∷ xs) ys (suc i) x e = get_left xs ys i x e
-
-get_map : {A B : Type 0} (f : A → B) (xs : List A) (i : ℕ) (x : A) → slice_get xs i ≡ Some x → slice_get (map f xs) i ≡ Some (f x)
-get_map f [] i x e = absurd (none-some x e)
-get_map f (y ∷ xs) zero x e = ap (λ z. Some (f z)) (same_Some y x e)
-get_map f (y ∷ xs) (suc i) x e = get_map f xs i x e
 
 get_beyond : {A : Type 0} (xs : List A) (i : ℕ) → length xs ≤ i → slice_get xs i ≡ None
 get_beyond [] i less = refl

@@ -17,6 +17,5 @@ pub use displays::{build_list, build_map, build_tuple, unpack_sequence};
 pub use iterators::{for_iter, get_iter_stack, top_truth};
 pub use locals::{delete_fast, load_fast};
 pub use names::{delete_name, load_name, store_name};
-pub use operations::{OneOperand, TwoOperands};
 pub use operators::{binary_op, unary_op, visits_binary_op};
 pub use subscripts::{delete_subscr, load_subscr, store_map, store_subscr};

@@ -10,15 +10,15 @@ use vm_comparisons::Sign;
 use vm_operators::{Operator, UnaryOperator};
 
 /// An operator with one operand.
-#[derive(Clone, Copy, Debug, PartialEq, Eq)]
-pub enum OneOperand {
+#[derive(Clone, Copy)]
+pub(crate) enum OneOperand {
     Arithmetic(UnaryOperator),
     Not,
 }
 
 /// An operator with two operands.
-#[derive(Clone, Copy, Debug, PartialEq, Eq)]
-pub enum TwoOperands {
+#[derive(Clone, Copy)]
+pub(crate) enum TwoOperands {
     Order(Sign),
     Equal,
     NotEqual,

@@ -1,21 +1,14 @@
-use Rattle.std.proofs.Common.{◌≡◌, ℕ, ◌-◌, ◌<◌, ◌≤◌, suc, List, length, map, drop, Option, Some, slice_get, refl, sym, ap, ◌∙◌, subst}
-use Rattle.mpy_base.specs.Val.{Val}
-use Rattle.arena_heap.specs.declared.value.Value.{Value}
+use Rattle.std.proofs.Common.{ℕ, ◌-◌, ◌<◌, ◌≤◌, suc, length, map, sym, subst}
 use Rattle.bc_ops.specs.declared.instr.Op.TheVariants as ops
 use Rattle.bc_ops.specs.declared.instr.Instr.TheVariants as instrs
 use Rattle.py_primitives.specs.Outcome.{making_list}
-use Rattle.py_effects.specs.Effect.{on_heap}
 use Rattle.vm_walks.specs.Plain.{plain, plain_heap}
 use Rattle.vm_raising.specs.Worlds.{world_over}
 use Rattle.vm_frames.specs.Calls.{Call, OfRunning}
-use Rattle.vm_moves.specs.Views.{starts_of, frame_of}
 use Rattle.bc_machine.specs.Library.{Plain}
 use Rattle.vm_step.specs.Shown.{view_of}
 use Rattle.vm_instructions.specs.Effects.{tables_of, Steps}
 use Rattle.vm_instructions.specs.Slots.{HasValue}
-use Rattle.vm_instructions.specs.Slots.{with_value}
-use Rattle.vm_instructions.specs.Settled.{Settles}
-use Rattle.vm_instructions.proofs.Items.{Gave}
 use Rattle.vm_instructions.proofs.Visits.{list_free}
 use Rattle.vm_instructions.proofs.Displaying.{lie, built, Lies, enough_slots}
 use Rattle.vm_instructions.proofs.Settling.{of_outcome, puts_steps}

@@ -1,4 +1,4 @@
-use Rattle.std.proofs.Common.{List, [], refl}
+use Rattle.std.proofs.Common.{[], refl}
 use Rattle.mpy_base.specs.World.{DictObject}
 use Rattle.mpy_base.specs.Weights.{room_for}
 use Rattle.bc_ops.specs.declared.instr.Op.TheVariants as ops

@@ -1,4 +1,4 @@
-use Rattle.std.proofs.Common.{◌≡◌, ℕ, suc, ◌<◌, ◌≤◌, length, Some, Ok, slice_get, refl, sym, ap₂, subst, arith}
+use Rattle.std.proofs.Common.{◌≡◌, ℕ, ◌≤◌, length, Some, Ok, slice_get, subst, arith}
 use Rattle.arena_heap.specs.declared.value.Value.{Value}
 use Rattle.py_primitives.specs.Iterables.{length_of as length_in, item_of as item_in}
 use Rattle.vm_walks.specs.Plain.{plain, plain_heap}
