@@ -1,3 +1,11 @@
+pub mod Coding
+pub mod Fewer
 pub mod Finding
+pub mod Forests
 pub mod Limiting
+pub mod Moduling
+pub mod Plants
+pub mod Sizes
 pub mod Standing
+pub mod Trees
+pub mod Walking
