@@ -1,6 +1,14 @@
-pub mod Finding
-pub mod Limiting
-pub mod Standing
+pub mod Coding
 pub mod Few
+pub mod Fewer
+pub mod Finding
+pub mod Forests
 pub mod Joining
+pub mod Limiting
 pub mod Measuring
+pub mod Moduling
+pub mod Plants
+pub mod Sizes
+pub mod Standing
+pub mod Trees
+pub mod Walking

@@ -1,5 +1,5 @@
 -- The numbers of a text without a fault.
-use Rattle.std.proofs.Common.{◌≡◌, ◌≤◌, ℕ, ◌+◌, Bool, true, false, length, Some, None, refl, arith}
+use Rattle.std.proofs.Common.{◌≡◌, ◌≤◌, ◌<◌, ℕ, ◌+◌, Bool, true, false, length, Some, None, refl, arith}
 use Rattle.std.specs.Prelude.{max, min, ◌||◌, nat_lt, nat_le, if◌then◌else◌}
 use Rattle.std.proofs.lemmas.Bool.{ltb-false}
 use Rattle.mpy_base.specs.declared.source.SourceCode.{SourceCode}
@@ -38,6 +38,18 @@ few_entries m e =
 
 pub not_crowded : (m : Measures) → fault_of m ≡ None → m.crowded ≡ false
 not_crowded m e = left_false m.crowded (nat_le 32 m.depth) (left_false (m.crowded || nat_le 32 m.depth) ((nat_lt 255 m.params || nat_lt 100 m.entries) || nat_lt 4096 (m.locals + max 1 m.height)) (not_big m e))
+
+pub shallow : (m : Measures) → fault_of m ≡ None → m.depth < 32
+shallow m e =
+    let deep = right_false m.crowded (nat_le 32 m.depth) (left_false (m.crowded || nat_le 32 m.depth) ((nat_lt 255 m.params || nat_lt 100 m.entries) || nat_lt 4096 (m.locals + max 1 m.height)) (not_big m e)) in
+    let few : m.depth ≤ 31 = ltb-false 31 m.depth deep in
+    omega (arith, few)
+
+pub few_params : (m : Measures) → fault_of m ≡ None → m.params ≤ 255
+few_params m e =
+    let behind = right_false (m.crowded || nat_le 32 m.depth) ((nat_lt 255 m.params || nat_lt 100 m.entries) || nat_lt 4096 (m.locals + max 1 m.height)) (not_big m e) in
+    let counts = left_false (nat_lt 255 m.params || nat_lt 100 m.entries) (nat_lt 4096 (m.locals + max 1 m.height)) behind in
+    ltb-false 255 m.params (left_false (nat_lt 255 m.params) (nat_lt 100 m.entries) counts)
 
 slots : (top locals most height tall : ℕ) → height ≡ min tall top → 4097 ≤ top → locals + max 1 height ≤ 4096 → locals ≡ most → locals + max 1 height ≡ most + max 1 tall
 slots top locals most height tall e h l f = omega arith

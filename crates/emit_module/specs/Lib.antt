@@ -1,3 +1,6 @@
+pub mod First
 pub mod Found
-pub mod Own
 pub mod Joined
+pub mod Module
+pub mod Own
+pub mod Walk

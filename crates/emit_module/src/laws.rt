@@ -1,6 +1,8 @@
 //! The code of a text is its translation.
 
 ghost use Rattle.std.specs.Prelude.{◌≡◌, ℕ, List, Some, slice_get};
+ghost use Rattle.mpy_tree.specs.declared.module.ModuleCode.{ModuleCode};
+ghost use Rattle.mpy_tree.specs.Resolved.{ResolvedModule};
 ghost use Rattle.py_meaning.specs.Tree.{Block, functions};
 ghost use Rattle.py_meaning.specs.Program.{Text};
 ghost use Rattle.bc_machine.specs.Library.{Code, code_of as machine_code};
@@ -13,6 +15,7 @@ ghost use Rattle.emit_code.specs.Finished.{body_of};
 ghost use Rattle.emit_code.specs.Children.{starts, sizes};
 ghost use Rattle.emit_stmt.specs.Children.{Made, made};
 ghost use Rattle.emit_module.specs.Found.{IsDefined, AllBegin};
+ghost use Rattle.emit_module.specs.Module.{IsResolved};
 ghost use Rattle.emit_module.specs.Own.{IsWritten, IsJoined};
 
 use emit_code::tree_law;
@@ -36,3 +39,8 @@ pub fn functions_law()
 {
     children_law();
 }
+
+/// A module resolves to one tree.
+pub fn resolved_law()
+    ensures { (whole : ModuleCode) (m n : ResolvedModule) → IsResolved whole m → IsResolved whole n → m ≡ n }
+{}

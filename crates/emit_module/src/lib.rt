@@ -1,12 +1,16 @@
-//! The codes of a source's texts.
+//! The module of a source, by the codes of its texts.
 #![tactic(auto)]
 
 mod joined;
 mod laws;
 mod lengths;
+mod module;
 mod own;
+mod text;
+mod walk;
 
 pub use joined::joined_law;
-pub use laws::{functions_law, stands_law};
+pub use laws::{functions_law, resolved_law, stands_law};
 pub use lengths::draft_length_law;
+pub use module::emit;
 pub use own::{OwnCode, Place, own_code};

@@ -1,0 +1,10 @@
+use Rattle.std.proofs.Common.{refl, ap}
+use Rattle.emit_module.specs.declared.walk.Children.{Children}
+use Rattle.emit_module.proofs.Moduling.{top_ok, top_err}
+use Rattle.emit_module.proofs.module.functions.Goals as goal
+
+pub returns-in-Ok : goal.returns-in-Ok
+returns-in-Ok c = top_ok c.args.level _ (ap (λ z. record { level = c.args.level; depth = 0; next = 0; codes = z }) c.new.ensures) c.in-Ok.ensures.walked
+
+pub returns-in-Err : goal.returns-in-Err
+returns-in-Err c = top_err c.args.level c.in-Err.refusal (ap (λ z. record { level = c.args.level; depth = 0; next = 0; codes = z }) c.new.ensures) c.in-Err.ensures.walked

@@ -1,0 +1,111 @@
+//! The module of a source.
+
+ghost use Rattle.std.specs.Prelude.{◌≡◌, [], ◌<◌, ◌^◌, ℕ, List, Err, IfOk};
+ghost use Rattle.mpy_base.specs.declared.refused.Refused.TheVariants as refused;
+ghost use Rattle.mpy_base.specs.declared.source.SourceFault.{SourceFault as Fault};
+ghost use Rattle.py_meaning.specs.Program.{source_texts};
+ghost use Rattle.py_source.specs.Source.{IsAccepted};
+ghost use Rattle.emit_stmt.specs.Parts.{plain_block};
+ghost use Rattle.emit_module.specs.First.{AreWithin, IsFirstFault};
+ghost use Rattle.emit_module.specs.Module.{source_of, IsTranslated, FewLocals, AllNamed};
+ghost use Rattle.emit_module.specs.Walk.{WalksTop, IsModuleOf};
+
+use crate::laws::{functions_law, stands_law};
+use crate::own::{OwnCode, Place};
+use crate::text::text_code;
+use crate::walk::{Children, emit_defs};
+use emit_code::{CodeHead, code_of, module_scope, numbers_law, tree_law};
+use mpy_base::{Items, NoMemory, Refused, SourceFault, Text};
+use mpy_tree::ModuleCode;
+use py_scopes::NameSlots;
+use py_source::{Accepted, asked_law};
+use py_tree::Stmt;
+use std::alloc::Global;
+
+/// The codes of the functions of a source.
+fn functions(
+    alloc: Global,
+    level: u8,
+    slots: &NameSlots,
+    body: &[Stmt],
+) -> Result<Children, Refused<SourceFault>>
+    requires numbers { (plain_block body.now).defs < 2 ^ 32 }
+    requires few { FewLocals slots.now }
+    ensures { WalksTop level slots.now (plain_block body.now) result }
+{
+    let mut children = Children {
+        level,
+        depth: 0,
+        next: 0,
+        codes: Items::new(alloc),
+    };
+    match emit_defs(alloc, slots, &mut children, body) {
+        Ok(()) => Ok(children),
+        Err(refusal) => Err(refusal),
+    }
+}
+
+/// The module of its parts.
+fn module_of(
+    alloc: Global,
+    file: &[u8],
+    own: OwnCode,
+    children: Children,
+) -> Result<ModuleCode, NoMemory>
+    ensures { IfOk result (λ whole. IsModuleOf file.now own children whole) }
+{
+    let source = Text::new(alloc, file)?;
+    let head = CodeHead {
+        name: Text::new(alloc, b"<module>")?,
+        args: Items::new(alloc),
+        defaults: 0,
+        n_state: own.n_state,
+        n_exc: own.n_exc,
+    };
+    let code = code_of(head, own.lines, children.codes);
+    Ok(ModuleCode { source, code })
+}
+
+/// The module of an accepted source at a level, under its stored name, or the first fault of its code. The tree of the
+/// source and the drafts of its code are walked a few times, and the recursion is as deep as the tree nests.
+pub fn emit(
+    alloc: Global,
+    level: u8,
+    file: &[u8],
+    accepted: &Accepted,
+) -> Result<ModuleCode, Refused<SourceFault>>
+    requires accepted { (source : List ℕ) × IsAccepted level source accepted.now }
+    requires few { FewLocals accepted.now.slots }
+    requires named { AllNamed (source_texts file.now (source_of file.now level accepted.now.tree) 0) }
+
+    // The module translates the source, of which no text passes a limit.
+    ensures translates { IfOk result (λ whole. IsTranslated (source_of file.now level accepted.now.tree) whole) }
+    ensures within { IfOk result (λ whole. AreWithin (source_of file.now level accepted.now.tree)) }
+
+    // The fault is that of the first text that passes one.
+    ensures fault { (fault : Fault) → result ≡ Err (refused.Fault fault) → IsFirstFault (source_of file.now level accepted.now.tree) fault }
+{
+    asked_law();
+    numbers_law();
+    tree_law();
+    stands_law();
+    functions_law();
+    let body = accepted.tree.body.as_slice();
+    let place = Place {
+        level,
+        line: 1,
+        depth: 0,
+        params: 0,
+    };
+    let own = match text_code(alloc, &place, module_scope(alloc), body) {
+        Ok(own) => own,
+        Err(refusal) => return Err(refusal),
+    };
+    match functions(alloc, level, &accepted.slots, body) {
+        Ok(children) => match module_of(alloc, file, own, children) {
+            Ok(built) => Ok(built),
+            Err(NoMemory) => Err(Refused::NoMemory),
+        },
+        Err(refusal) => Err(refusal),
+    }
+}

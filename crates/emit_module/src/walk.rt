@@ -1,0 +1,278 @@
+//! The codes of the functions in a text.
+
+ghost use Rattle.std.specs.Prelude.{◌≡◌, ◌+◌, ◌^◌, ◌<◌, ◌≤◌, length, OnOk, IfOk};
+ghost use Rattle.py_tree.specs.declared.stmt.Stmt.{out-Stmt};
+ghost use Rattle.py_meaning.specs.Plain.{numbered};
+ghost use Rattle.emit_simple.specs.Plain.{plain_kind};
+ghost use Rattle.emit_stmt.specs.Parts.{plain_block, plain_handlers};
+ghost use Rattle.emit_module.specs.Module.{FewLocals};
+ghost use Rattle.emit_module.specs.Walk.{planted, planted_in, planted_by, front_defs, WalksAll, WalksFront, WalksBody, CodesFunction, IsPut};
+
+use crate::own::{OwnCode, Place};
+use crate::text::{head_of, text_code};
+use emit_code::{code_of, function_scope};
+use mpy_base::{Items, NoMemory, Refused, SourceCode, SourceFault, Text};
+use mpy_tree::Code;
+use py_scopes::NameSlots;
+use py_tree::{Branch, Handler, Param, Stmt, StmtKind};
+use std::alloc::Global;
+
+/// The codes of functions in one text, in text order.
+#[derive(Drop)]
+pub(crate) struct Children {
+    /// The level of the source.
+    pub(crate) level: u8,
+    /// How many functions stand around them.
+    pub(crate) depth: usize,
+    /// The number of the next function of their source, from 0 on.
+    pub(crate) next: u32,
+    pub(crate) codes: Items<Code>,
+}
+
+/// Adds the codes of the functions that the block defines itself, each with those in it.
+#[cycle(functions)]
+pub(crate) fn emit_defs(
+    alloc: Global,
+    slots: &NameSlots,
+    children: &mut Children,
+    block: &[Stmt],
+) -> Result<(), Refused<SourceFault>>
+    requires numbers { children.old.next + (plain_block block.now).defs < 2 ^ 32 }
+    requires shallow { children.old.depth < 32 }
+    requires few { FewLocals slots.now }
+    ensures numbers { OnOk result (children.new.next ≤ children.old.next + (plain_block block.now).defs) }
+    ensures walked { WalksAll slots.now (λ n. planted ((plain_block block.now).make n)) children.old children.new result }
+{
+    for stmt in block {
+        match emit_in(alloc, slots, children, stmt) {
+            Ok(()) => {}
+            Err(refusal) => return Err(refusal),
+        }
+    }
+    Ok(())
+}
+
+#[cycle(functions)]
+fn emit_in(
+    alloc: Global,
+    slots: &NameSlots,
+    children: &mut Children,
+    stmt: &Stmt,
+) -> Result<(), Refused<SourceFault>>
+    requires numbers { children.old.next + (plain_kind (out-Stmt stmt.now).kind).defs < 2 ^ 32 }
+    requires shallow { children.old.depth < 32 }
+    requires few { FewLocals slots.now }
+    ensures numbers { OnOk result (children.new.next ≤ children.old.next + (plain_kind (out-Stmt stmt.now).kind).defs) }
+    ensures walked { WalksAll slots.now (λ n. planted_in (out-Stmt stmt.now).line ((plain_kind (out-Stmt stmt.now).kind).make n)) children.old children.new result }
+{
+    match &stmt.kind {
+        StmtKind::If { branches, rest } => {
+            match emit_branches(alloc, slots, children, branches.as_slice()) {
+                Ok(()) => emit_defs(alloc, slots, children, rest.as_slice()),
+                Err(refusal) => Err(refusal),
+            }
+        }
+        StmtKind::While { body, rest, .. } => {
+            match emit_defs(alloc, slots, children, body.as_slice()) {
+                Ok(()) => emit_defs(alloc, slots, children, rest.as_slice()),
+                Err(refusal) => Err(refusal),
+            }
+        }
+        StmtKind::For { body, rest, .. } => {
+            match emit_defs(alloc, slots, children, body.as_slice()) {
+                Ok(()) => emit_defs(alloc, slots, children, rest.as_slice()),
+                Err(refusal) => Err(refusal),
+            }
+        }
+        StmtKind::Try {
+            body,
+            handlers,
+            rest,
+            last,
+        } => {
+            match emit_defs(alloc, slots, children, body.as_slice()) {
+                Ok(()) => {}
+                Err(refusal) => return Err(refusal),
+            }
+            match emit_handlers(alloc, slots, children, handlers.as_slice()) {
+                Ok(()) => {}
+                Err(refusal) => return Err(refusal),
+            }
+            let Some(last) = last else {
+                return emit_defs(alloc, slots, children, rest.as_slice());
+            };
+            if handlers.is_empty() {
+                return emit_defs(alloc, slots, children, last.as_slice());
+            }
+            match emit_defs(alloc, slots, children, rest.as_slice()) {
+                Ok(()) => emit_defs(alloc, slots, children, last.as_slice()),
+                Err(refusal) => Err(refusal),
+            }
+        }
+        StmtKind::Def { name, params, body } => emit_function(
+            alloc,
+            slots,
+            children,
+            stmt.line,
+            name.bytes(),
+            params.as_slice(),
+            body.as_slice(),
+        ),
+        _ => Ok(()),
+    }
+}
+
+/// The bodies of branches in front of an `else`.
+#[cycle(functions)]
+fn emit_branches(
+    alloc: Global,
+    slots: &NameSlots,
+    children: &mut Children,
+    branches: &[Branch],
+) -> Result<(), Refused<SourceFault>>
+    requires numbers { children.old.next + front_defs branches.now < 2 ^ 32 }
+    requires shallow { children.old.depth < 32 }
+    requires few { FewLocals slots.now }
+    ensures numbers { OnOk result (children.new.next ≤ children.old.next + front_defs branches.now) }
+    ensures walked { WalksFront slots.now branches.now children.old children.new result }
+{
+    for branch in branches {
+        match emit_defs(alloc, slots, children, branch.body.as_slice()) {
+            Ok(()) => {}
+            Err(refusal) => return Err(refusal),
+        }
+    }
+    Ok(())
+}
+
+/// The bodies of clauses. None stands behind one without a test.
+#[cycle(functions)]
+fn emit_handlers(
+    alloc: Global,
+    slots: &NameSlots,
+    children: &mut Children,
+    handlers: &[Handler],
+) -> Result<(), Refused<SourceFault>>
+    requires numbers { children.old.next + (plain_handlers handlers.now).defs < 2 ^ 32 }
+    requires shallow { children.old.depth < 32 }
+    requires few { FewLocals slots.now }
+    ensures numbers { OnOk result (children.new.next ≤ children.old.next + (plain_handlers handlers.now).defs) }
+    ensures walked { WalksAll slots.now (λ n. planted_by ((plain_handlers handlers.now).make n)) children.old children.new result }
+{
+    for handler in handlers {
+        match emit_defs(alloc, slots, children, handler.body.as_slice()) {
+            Ok(()) => {}
+            Err(refusal) => return Err(refusal),
+        }
+        if handler.test.is_none() {
+            return Ok(());
+        }
+    }
+    Ok(())
+}
+
+/// Adds the code of a function.
+#[cycle(functions)]
+fn emit_function(
+    alloc: Global,
+    slots: &NameSlots,
+    children: &mut Children,
+    line: u32,
+    name: &[u8],
+    params: &[Param],
+    body: &[Stmt],
+) -> Result<(), Refused<SourceFault>>
+    requires numbers { children.old.next + (numbered name.now params.now (plain_block body.now)).defs < 2 ^ 32 }
+    requires shallow { children.old.depth < 32 }
+    requires few { FewLocals slots.now }
+    ensures numbers { OnOk result (children.new.next ≤ children.old.next + (numbered name.now params.now (plain_block body.now)).defs) }
+    ensures walked { WalksAll slots.now (λ n. planted_in line ((numbered name.now params.now (plain_block body.now)).make n)) children.old children.new result }
+{
+    let own = match function_code(alloc, slots, children, line, params, body) {
+        Ok(own) => own,
+        Err(refusal) => return Err(refusal),
+    };
+    match emit_body(alloc, slots, children, body) {
+        Ok(inner) => match put_code(alloc, children, name, params, own, inner) {
+            Ok(()) => Ok(()),
+            Err(NoMemory) => Err(Refused::NoMemory),
+        },
+        Err(refusal) => Err(refusal),
+    }
+}
+
+/// The codes of the functions in the next one.
+#[cycle(functions)]
+fn emit_body(
+    alloc: Global,
+    slots: &NameSlots,
+    around: &Children,
+    body: &[Stmt],
+) -> Result<Children, Refused<SourceFault>>
+    requires numbers { around.now.next + 1 + (plain_block body.now).defs < 2 ^ 32 }
+    requires shallow { around.now.depth + 1 < 32 }
+    requires few { FewLocals slots.now }
+    ensures numbers { IfOk result (λ inner. inner.next ≤ around.now.next + 1 + (plain_block body.now).defs) }
+    ensures walked { WalksBody slots.now (plain_block body.now) around.now result }
+{
+    let mut inner = Children {
+        level: around.level,
+        depth: around.depth + 1,
+        next: around.next + 1,
+        codes: Items::new(alloc),
+    };
+    match emit_defs(alloc, slots, &mut inner, body) {
+        Ok(()) => Ok(inner),
+        Err(refusal) => Err(refusal),
+    }
+}
+
+/// The code of the next function's own statements.
+fn function_code(
+    alloc: Global,
+    slots: &NameSlots,
+    around: &Children,
+    line: u32,
+    params: &[Param],
+    body: &[Stmt],
+) -> Result<OwnCode, Refused<SourceFault>>
+    requires numbers { (plain_block body.now).defs < 2 ^ 32 }
+    requires shallow { around.now.depth < 32 }
+    requires few { FewLocals slots.now }
+    ensures shallow { OnOk result (around.now.depth + 1 < 32) }
+    ensures params { OnOk result (length params.now ≤ 255) }
+    ensures code { CodesFunction slots.now around.now line params.now body.now result }
+{
+    let place = Place {
+        level: around.level,
+        line,
+        depth: around.depth + 1,
+        params: params.len(),
+    };
+    let Some(scope) = function_scope(alloc, slots, around.next)? else {
+        return Err(Refused::Fault(SourceFault {
+            code: SourceCode::StateTooBig,
+            line,
+            word: Text::empty(alloc),
+        }));
+    };
+    text_code(alloc, &place, scope, body)
+}
+
+/// Adds the code of the next function, with the codes of those in it.
+fn put_code(
+    alloc: Global,
+    children: &mut Children,
+    name: &[u8],
+    params: &[Param],
+    own: OwnCode,
+    inner: Children,
+) -> Result<(), NoMemory>
+    requires { length params.now ≤ 255 }
+    ensures { OnOk result (IsPut children.old children.new name.now params.now own inner) }
+{
+    let head = head_of(alloc, name, params, own.n_state, own.n_exc)?;
+    children.next = inner.next;
+    children.codes.push(code_of(head, own.lines, inner.codes))?;
+    Ok(())
+}
