@@ -198,7 +198,7 @@ module _ (texts : StrNo → Option (List ℕ)) (tuples : ConstNo → Option (Lis
   top_slot s [] e h = absurd (none-some s e)
   top_slot s (a ∷ st) e h = subst (IsKnownSlot texts tuples objects) (same_Some a s e) (All-head (IsKnownSlot texts tuples objects) a st h)
 
-  slot_known : (s : Slot) (cs : List Call) → IsTop s cs → All Knows cs → IsKnownSlot texts tuples objects s
+  pub slot_known : (s : Slot) (cs : List Call) → IsTop s cs → All Knows cs → IsKnownSlot texts tuples objects s
   slot_known s [] e h = absurd e
   slot_known s (c ∷ cs) e h = let k = All-head Knows c cs h in top_slot s c.slots e k.slots
 

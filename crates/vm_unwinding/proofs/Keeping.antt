@@ -68,7 +68,7 @@ module _ (texts : StrNo → Option (List ℕ)) (tuples : ConstNo → Option (Lis
   option_later later None k = tt
   option_later later (Some v) k = value_later later v k
 
-  slot_later : {old new : Objects Value ℕ} → Later old new → (s : Slot) → IsKnownSlot texts tuples old s → IsKnownSlot texts tuples new s
+  pub slot_later : {old new : Objects Value ℕ} → Later old new → (s : Slot) → IsKnownSlot texts tuples old s → IsKnownSlot texts tuples new s
   slot_later later (slots.Value v) k = value_later later v k
   slot_later later slots.Null k = tt
   slot_later later (slots.Object o) k = option_later later o k

@@ -1,6 +1,7 @@
 -- Throws through calls, as the machine's through its frames.
 use Rattle.std.proofs.Common.{◌≡◌, ℕ, ◌<◌, ◌≤◌, List, [], ◌∷◌, map, drop, length, Option, Some, None, Result, Ok, Err, All, refl, sym, ap, ◌∙◌, subst, arith}
 use Rattle.std.proofs.lemmas.List.Elements.{All-head, All-drop}
+use Rattle.std.proofs.lemmas.Option.{none-some, same_Some}
 use Rattle.mpy_base.specs.declared.room.NoRoom.{NoRoom}
 use Rattle.mpy_base.specs.Val.{PlainWorld}
 use Rattle.arena_heap.specs.declared.value.Value.{Value}
@@ -20,6 +21,7 @@ use Rattle.vm_moves.specs.Placed.{IsPlaced}
 use Rattle.vm_step.specs.Shown.{Tables, view_of, running_of}
 use Rattle.vm_step.specs.Outcomes.{failing_of}
 use Rattle.vm_unwinding.specs.declared.names.ModuleName.{ModuleName}
+use Rattle.vm_unwinding.specs.declared.ends.End.{End}
 use Rattle.vm_unwinding.specs.declared.ends.End.TheVariants as ends
 use Rattle.vm_unwinding.specs.Names.{AreTablesOf, Forgets}
 use Rattle.vm_unwinding.specs.Ends.{with_modules, state_of}
@@ -166,3 +168,8 @@ pub failing_filled : (t : Tables) (room : NoRoom) (w : PlainWorld) (r : Result E
     → failing_of t cs (failure w r) ≡ state_of t (Some (ends.Memory room)) cs w
 failing_filled t room w r [] some is = absurd (omega (arith, some))
 failing_filled t room w r (c ∷ cs) some is = ap (λ (z : Result ExcNo NoRoom). failing_of t (c ∷ cs) (failure w z)) is
+
+-- the run ends with the exception alone
+pub ends_with : (x : ExcNo) (end : End) (cs : List Call) → Some end ≡ thrown_out x cs → end ≡ ends.Raised x
+ends_with x end [] is = same_Some end (ends.Raised x) is
+ends_with x end (c ∷ cs) is = absurd (none-some end (sym is))

@@ -12,6 +12,9 @@ use Rattle.vm_frames.specs.declared.slot.Entry.{Entry}
 use Rattle.vm_frames.specs.declared.slot.Role.{Role}
 use Rattle.vm_frames.specs.declared.slot.Role.TheVariants as roles
 use Rattle.vm_frames.specs.Calls.{Call}
+use Rattle.vm_unwinding.specs.declared.ends.After.{After}
+use Rattle.vm_unwinding.specs.declared.ends.After.TheVariants as afters
+use Rattle.vm_unwinding.specs.declared.ends.End.TheVariants as ends
 
 -- what an entry keeps is an exception
 abbrev pub KeepsException : Objects Value ℕ → Entry → Type 0
@@ -46,3 +49,11 @@ module _ (texts : StrNo → Option (List ℕ)) (tuples : ConstNo → Option (Lis
     pub known : All (IsKnownCall modules before) old → All (IsKnownCall modules behind) new
     pub later : Later before behind
     pub all_told : AllTold texts tuples behind
+
+  -- the value that a call is to take is known, and an exception that ends the run is one
+  abbrev pub IsKnownAfter : Objects Value ℕ → After → Type 0
+  IsKnownAfter objects afters.Runs = Unit {0}
+  IsKnownAfter objects (afters.Gives v) = IsKnown texts tuples objects v
+  IsKnownAfter objects (afters.Ends ends.Ended) = Unit {0}
+  IsKnownAfter objects (afters.Ends (ends.Raised x)) = IsA objects AnException x.cell
+  IsKnownAfter objects (afters.Ends (ends.Memory room)) = Unit {0}

@@ -1,10 +1,11 @@
 //! The ends of finallys.
 
-ghost use Rattle.std.specs.Prelude.{◌≡◌, ◌<◌, length, All};
-ghost use Rattle.mpy_base.specs.World.{Later};
+ghost use Rattle.std.specs.Prelude.{◌≡◌, ℕ, ◌<◌, length, All};
+ghost use Rattle.mpy_base.specs.World.{Objects, AnException, IsA, Later};
 ghost use Rattle.mpy_base.specs.Val.{PlainWorld};
 ghost use Rattle.bc_ops.specs.declared.instr.Op.TheVariants as ops;
 ghost use Rattle.bc_ops.specs.declared.instr.Instr.TheVariants as instrs;
+ghost use Rattle.arena_heap.specs.declared.value.Value.{Value as Item};
 ghost use Rattle.arena_objects.specs.Keys.{AllTold};
 ghost use Rattle.py_effects.specs.Effect.{Place};
 ghost use Rattle.py_effects.specs.Heaps.{Registered};
@@ -19,7 +20,7 @@ ghost use Rattle.vm_step.specs.Outcomes.{world_of};
 ghost use Rattle.vm_unwinding.specs.declared.causes.Cause.{Cause as Kept};
 ghost use Rattle.vm_unwinding.specs.Names.{AreTablesOf, Forgets};
 ghost use Rattle.vm_unwinding.specs.Ends.{with_modules, StepsTo};
-ghost use Rattle.vm_unwinding.specs.Known.{HasModule, Keeps};
+ghost use Rattle.vm_unwinding.specs.Known.{HasModule, IsKnownSlot, IsKnownCall, IsKnownAfter, Keeps};
 ghost use Rattle.vm_unwinding.specs.Left.{HasLast, after_of};
 ghost use Rattle.vm_unwinding.specs.Thrown.{throwing_of, thrown};
 ghost use Rattle.vm_unwinding.specs.Causes.{cause_slot, FitsEntries, GoesOn, unkept, resumed, resuming_of};
@@ -48,6 +49,7 @@ fn throw_on<C: Constants>(
         → throwing_of tables x frames.old.calls (with_modules tables w modules.old) ≡ after_of tables result frames.new.calls (with_modules tables w modules.new) }
     ensures calls { frames.new ≡ record frames.old { calls = thrown x frames.old.calls } }
     ensures placed { (view : View) → All (IsPlaced view) frames.old.calls → All (IsPlaced view) frames.new.calls }
+    ensures after { (objects : Objects Item ℕ) → IsA objects AnException x.cell → IsKnownAfter (C.text_of consts.now) (C.items_of consts.now) objects result }
     ensures forgets { Forgets modules.old modules.new }
 {
     match fail(frames, consts, modules, names, Ok(x)) {
@@ -76,6 +78,7 @@ fn resume<C: Constants>(
         → resuming_of tables cause frames.old.calls (world_of tables (with_modules tables w modules.old) arena.old) ≡ after_of tables result frames.new.calls (world_of tables (with_modules tables w modules.new) arena.new) }
     ensures calls { frames.new ≡ record frames.old { calls = resumed cause end frames.old.calls } }
     ensures placed { (view : View) → OfRunning (GoesOn view end cause) frames.old.calls → All (IsPlaced view) frames.old.calls → All (IsPlaced view) frames.new.calls }
+    ensures after { (objects : Objects Item ℕ) → IsKnownSlot (C.text_of consts.now) (C.items_of consts.now) objects (cause_slot cause) → IsKnownAfter (C.text_of consts.now) (C.items_of consts.now) objects result }
     ensures later { Later arena.old.objects arena.new.objects }
     ensures all_told { AllTold (C.text_of consts.now) (C.items_of consts.now) arena.new.objects }
     ensures forgets { Forgets modules.old modules.new }
@@ -126,6 +129,7 @@ pub fn end_finally<C: Constants>(
         (after_of tables result frames.new.calls (world_of tables (with_modules tables w modules.new) arena.new)) }
     ensures calls { (cause : Kept) → IsTop (cause_slot cause) frames.old.calls → frames.new ≡ record frames.old { calls = resumed cause end (change_first unkept frames.old.calls) } }
     ensures placed { (view : View) (cause : Kept) → IsTop (cause_slot cause) frames.old.calls → OfRunning (GoesOn view end cause) frames.old.calls → All (IsPlaced view) frames.old.calls → All (IsPlaced view) frames.new.calls }
+    ensures after { All (IsKnownCall (C.text_of consts.now) (C.items_of consts.now) (length names.now) arena.old.objects) frames.old.calls → IsKnownAfter (C.text_of consts.now) (C.items_of consts.now) arena.new.objects result }
     ensures keeps { Keeps (C.text_of consts.now) (C.items_of consts.now) (length names.now) arena.old.objects arena.new.objects frames.old.calls frames.new.calls }
     ensures forgets { Forgets modules.old modules.new }
 {

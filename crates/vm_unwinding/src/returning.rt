@@ -1,11 +1,14 @@
 //! Returns from calls.
 
-ghost use Rattle.std.specs.Prelude.{◌≡◌, ◌<◌, ◌∷◌, List, length, drop, map, All};
-ghost use Rattle.mpy_base.specs.World.{AModule, IsA, Later};
+ghost use Rattle.std.specs.Prelude.{◌≡◌, ℕ, Option, ◌<◌, ◌∷◌, List, length, drop, map, All};
+ghost use Rattle.mpy_base.specs.World.{Objects, AModule, IsA, Later};
 ghost use Rattle.mpy_base.specs.Val.{PlainWorld};
 ghost use Rattle.bc_ops.specs.declared.instr.Op.TheVariants as ops;
 ghost use Rattle.bc_ops.specs.declared.instr.Instr.TheVariants as instrs;
 ghost use Rattle.arena_heap.specs.declared.value.Value.{Value as Item};
+ghost use Rattle.arena_heap.specs.declared.value.StrNo.{StrNo as TextName};
+ghost use Rattle.arena_heap.specs.declared.value.ConstNo.{ConstNo as TupleName};
+ghost use Rattle.bc_offsets.specs.Positions.{Starts};
 ghost use Rattle.arena_objects.specs.Keys.{AllTold};
 ghost use Rattle.py_effects.specs.Effect.{Place, given};
 ghost use Rattle.py_effects.specs.Heaps.{Registered};
@@ -14,20 +17,21 @@ ghost use Rattle.bc_machine.specs.Library.{Plain};
 ghost use Rattle.bc_machine.specs.State as states;
 ghost use Rattle.bc_machine.specs.State.{Running, on_given, give as given_to};
 ghost use Rattle.vm_walks.specs.Plain.{plain_name, plain_heap};
+ghost use Rattle.vm_faults.specs.Faults.{IsKnown};
 ghost use Rattle.vm_faults.specs.declared.fault.Fault.{Fault};
 ghost use Rattle.vm_faults.specs.declared.stop.Stop.TheVariants as stops;
 ghost use Rattle.vm_modules.specs.Registry.{plain_modules};
 ghost use Rattle.vm_modules.specs.Effects.{world_with};
 ghost use Rattle.vm_frames.specs.declared.slot.Slot.TheVariants as slots;
 ghost use Rattle.vm_frames.specs.Calls.{Call, OfRunning, change_first, on_running};
-ghost use Rattle.vm_moves.specs.Views.{View, role_of, frame_of};
+ghost use Rattle.vm_moves.specs.Views.{View, starts_of, role_of, frame_of};
 ghost use Rattle.vm_moves.specs.Placed.{IsPlaced};
 ghost use Rattle.vm_step.specs.Shown.{Tables, value_of, view_of, running_of, IsNext, IsTop};
 ghost use Rattle.vm_step.specs.Outcomes.{world_of};
 ghost use Rattle.vm_step.specs.Stacks.{gone};
 ghost use Rattle.vm_unwinding.specs.Names.{AreTablesOf};
 ghost use Rattle.vm_unwinding.specs.Ends.{with_modules, StepsTo};
-ghost use Rattle.vm_unwinding.specs.Known.{HasModule, Keeps};
+ghost use Rattle.vm_unwinding.specs.Known.{HasModule, IsKnownCall, IsKnownAfter, Keeps};
 ghost use Rattle.vm_unwinding.specs.Left.{HasLast, left, leaving_of, receiving_of, after_of, stored_state};
 
 use crate::ends::{After, End};
@@ -91,6 +95,7 @@ fn give<C: Constants>(
     ensures state { (tables : Tables) (w : PlainWorld) → tables.texts ≡ C.text_of consts.now → tables.tuples ≡ C.items_of consts.now
         → given_to (value_of tables v) (role_of (view_of tables) (plain_name (C.text_of consts.now) (C.items_of consts.now) name.name) role) (map (frame_of (view_of tables)) frames.now.calls) (world_of tables (with_modules tables w modules.now) arena.old)
         ≡ after_of tables result frames.now.calls (world_of tables (with_modules tables w modules.now) arena.new) }
+    ensures after { (objects : Objects Item ℕ) → IsKnown (C.text_of consts.now) (C.items_of consts.now) objects v → IsKnownAfter (C.text_of consts.now) (C.items_of consts.now) objects result }
     ensures later { Later arena.old.objects arena.new.objects }
     ensures all_told { AllTold (C.text_of consts.now) (C.items_of consts.now) arena.new.objects }
 {
@@ -126,6 +131,7 @@ pub(crate) fn leave<C: Constants>(
         → leaving_of tables v frames.old.calls (world_of tables (with_modules tables w modules.now) arena.old) ≡ after_of tables result frames.new.calls (world_of tables (with_modules tables w modules.now) arena.new) }
     ensures calls { frames.new ≡ record frames.old { calls = left v frames.old.calls } }
     ensures placed { (view : View) → All (IsPlaced view) frames.old.calls → All (IsPlaced view) frames.new.calls }
+    ensures after { (objects : Objects Item ℕ) → IsKnown (C.text_of consts.now) (C.items_of consts.now) objects v → IsKnownAfter (C.text_of consts.now) (C.items_of consts.now) objects result }
     ensures later { Later arena.old.objects arena.new.objects }
     ensures all_told { AllTold (C.text_of consts.now) (C.items_of consts.now) arena.new.objects }
 {
@@ -164,6 +170,7 @@ pub fn return_value<C: Constants>(
         (after_of tables result frames.new.calls (world_of tables (with_modules tables w modules.now) arena.new)) }
     ensures calls { (v : Item) → IsTop (slots.Value v) frames.old.calls → frames.new ≡ record frames.old { calls = left v (change_first (λ c. record c { slots = drop 1 c.slots }) frames.old.calls) } }
     ensures placed { (view : View) → All (IsPlaced view) frames.old.calls → All (IsPlaced view) frames.new.calls }
+    ensures after { All (IsKnownCall (C.text_of consts.now) (C.items_of consts.now) (length names.now) arena.old.objects) frames.old.calls → IsKnownAfter (C.text_of consts.now) (C.items_of consts.now) arena.new.objects result }
     ensures keeps { Keeps (C.text_of consts.now) (C.items_of consts.now) (length names.now) arena.old.objects arena.new.objects frames.old.calls frames.new.calls }
 {
     let Slot::Value(v) = frames.pop() else {
@@ -177,7 +184,11 @@ pub fn receive(frames: &mut Frames, v: Value, end: u32)
     requires { OfRunning (λ c. length c.slots < frames.old.slot_room) frames.old.calls }
     ensures state { (tables : Tables) (w : PlainWorld) → IsNext tables end frames.old.calls → receiving_of tables v frames.old.calls w ≡ running_of tables 0 frames.new.calls w }
     ensures moved { frames.new ≡ on_running (λ c. gone end (slots.Value v ∷ c.slots) c) frames.old }
+    ensures placed { (view : View) → OfRunning (λ c. Starts (starts_of view c) end) frames.old.calls → All (IsPlaced view) frames.old.calls → All (IsPlaced view) frames.new.calls }
+    ensures known { (texts : TextName → Option (List ℕ)) (tuples : TupleName → Option (List Item)) (modules : ℕ) (objects : Objects Item ℕ) → IsKnown texts tuples objects v
+        → All (IsKnownCall texts tuples modules objects) frames.old.calls → All (IsKnownCall texts tuples modules objects) frames.new.calls }
 {
+    placed_law();
     frames.push(Slot::Value(v));
     frames.set_offset(end);
 }

@@ -9,8 +9,8 @@ use Rattle.vm_unwinding.specs.declared.causes.Cause.{Cause}
 use Rattle.vm_unwinding.specs.Causes.{KeepsCause, cause_slot, FitsEntries, GoesOn, unkept, resumed, resuming_of}
 use Rattle.vm_unwinding.specs.Ends.{with_modules}
 use Rattle.vm_unwinding.specs.Known.{HasModule, IsKnownCall}
-use Rattle.vm_unwinding.proofs.Finishes.{keeps_cause, some_cause, one_cause, end_resumes, end_known, unkept_is, goes_unkept, next_unkept}
-use Rattle.vm_unwinding.proofs.Keeping.{call_later}
+use Rattle.vm_unwinding.proofs.Finishes.{slot_known, keeps_cause, some_cause, one_cause, end_resumes, end_known, unkept_is, goes_unkept, next_unkept}
+use Rattle.vm_unwinding.proofs.Keeping.{slot_later, call_later}
 use Rattle.vm_unwinding.proofs.Leaves.{popped, popped_placed, changed_all, of_changed}
 use Rattle.vm_unwinding.proofs.finishing.end_finally.Goals as goal
 
@@ -102,3 +102,15 @@ returns-clause-keeps g c =
       later = c.resume.ensures.later;
       all_told = c.resume.ensures.all_told;
     }
+
+pub returns-clause-after : goal.returns-clause-after
+returns-clause-after g c h =
+    let texts = g.C.Constants.text_of c.args.consts.now in
+    let tuples = g.C.Constants.items_of c.args.consts.now in
+    let old = c.args.frames.now.calls in
+    let count = length c.args.names.now in
+    let before = c.args.arena.now.objects in
+    let behind = c.resume.new.arena.objects in
+    let cause = c.cause_of-cause.result in
+    let top : IsTop (cause_slot cause) old = subst (λ (z : Slot). IsTop z old) c.cause_of-cause.ensures c.pop.ensures.top in
+    c.resume.ensures.after behind (slot_later texts tuples c.resume.ensures.later (cause_slot cause) (slot_known texts tuples count before (cause_slot cause) old top h))

@@ -8,7 +8,8 @@ use Rattle.vm_step.specs.Shown.{view_of, running_of}
 use Rattle.vm_step.specs.Outcomes.{world_of}
 use Rattle.vm_raising.specs.Worlds.{world_over}
 use Rattle.vm_unwinding.specs.declared.causes.Cause.{Cause}
-use Rattle.vm_unwinding.specs.Causes.{FitsEntries, GoesOn, resumed, resuming_of}
+use Rattle.vm_unwinding.specs.Known.{IsKnownSlot}
+use Rattle.vm_unwinding.specs.Causes.{cause_slot, FitsEntries, GoesOn, resumed, resuming_of}
 use Rattle.vm_unwinding.specs.Ends.{with_modules}
 use Rattle.vm_unwinding.proofs.Finishes.{resumes_next, resumes_throw, resumes_leave, resumes_jump, running_all}
 use Rattle.vm_unwinding.proofs.Throws.{of_running, some_run}
@@ -104,3 +105,16 @@ returns-in-Jump-clause-placed g c view on h =
     let q : OfRunning Q old.calls = subst (λ (z : Cause). OfRunning (GoesOn view c.args.end z) old.calls) c.in-Jump.is on in
     subst (All P) (sym (ap (λ (z : Calls). z.calls) c.unwind.ensures.moved))
     (running_all P Q (λ d. (jumped c.in-Jump.target c.in-Jump.entries c.in-Jump.iterator d.entries d.slots d).call) (λ d s p. c.placed_law.ensures.jumps view c.in-Jump.target c.in-Jump.entries c.in-Jump.iterator d p s) old.calls q h)
+
+pub returns-in-Exception-clause-after : goal.returns-in-Exception-clause-after
+returns-in-Exception-clause-after g c objects known =
+    let texts = g.C.Constants.text_of c.args.consts.now in
+    let tuples = g.C.Constants.items_of c.args.consts.now in
+    let slot = subst (λ (z : Cause). IsKnownSlot texts tuples objects (cause_slot z)) c.in-Exception.is known in
+    c.throw_on.ensures.after objects slot.leads.meets
+
+pub returns-in-Return-clause-after : goal.returns-in-Return-clause-after
+returns-in-Return-clause-after g c objects known =
+    let texts = g.C.Constants.text_of c.args.consts.now in
+    let tuples = g.C.Constants.items_of c.args.consts.now in
+    c.leave.ensures.after objects (subst (λ (z : Cause). IsKnownSlot texts tuples objects (cause_slot z)) c.in-Return.is known)

@@ -8,7 +8,8 @@ use Rattle.vm_unwinding.specs.Ends.{with_modules}
 use Rattle.vm_unwinding.specs.Known.{HasModule, IsKnownCall}
 use Rattle.vm_unwinding.specs.Left.{left, leaving_of}
 use Rattle.vm_unwinding.proofs.Fails.{top_value, same_value}
-use Rattle.vm_unwinding.proofs.Leaves.{popped, popped_placed, return_leaves, changed_all, of_changed, return_known}
+use Rattle.vm_unwinding.proofs.Keeping.{value_later}
+use Rattle.vm_unwinding.proofs.Leaves.{value_known, popped, popped_placed, return_leaves, changed_all, of_changed, return_known}
 use Rattle.vm_unwinding.proofs.returning.return_value.Goals as goal
 
 -- the calls without the value
@@ -62,3 +63,15 @@ returns-clause-keeps g c =
       later = c.leave.ensures.later;
       all_told = c.leave.ensures.all_told;
     }
+
+pub returns-clause-after : goal.returns-clause-after
+returns-clause-after g c h =
+    let texts = g.C.Constants.text_of c.args.consts.now in
+    let tuples = g.C.Constants.items_of c.args.consts.now in
+    let count = length c.args.names.now in
+    let old = c.args.frames.now.calls in
+    let before = c.args.arena.now.objects in
+    let behind = c.leave.new.arena.objects in
+    let u = c.in-Value.v in
+    let top = top_value old c.requires.value.0 u c.pop.result c.requires.value.1 c.pop.ensures.top c.in-Value.is in
+    c.leave.ensures.after behind (value_later texts tuples c.leave.ensures.later u (value_known texts tuples count before u old top h))
