@@ -1,11 +1,10 @@
 //! The code of one text: what the walk over functions puts together.
 
-ghost use Rattle.std.specs.Prelude.{◌≡◌, ℕ, ◌^◌, ◌<◌, ◌≤◌, true, length, map, Some, IfOk};
+ghost use Rattle.std.specs.Prelude.{◌≡◌, ◌^◌, ◌<◌, ◌≤◌, length, map, IfOk};
 ghost use Rattle.py_tree.specs.declared.stmt.Param.{Param as ParamOf};
 ghost use Rattle.py_meaning.specs.Tree.{count};
 ghost use Rattle.py_meaning.specs.Plain.{defaults_of};
 ghost use Rattle.py_meaning.specs.Program.{Text as TextOf};
-ghost use Rattle.emit_code.specs.Finished.{AreSmall};
 ghost use Rattle.emit_stmt.specs.Parts.{plain_block};
 ghost use Rattle.emit_module.specs.Own.{IsTextOf};
 ghost use Rattle.emit_module.specs.Walk.{CodesText, IsHeadOf};
@@ -18,30 +17,6 @@ use mpy_base::{Items, NoMemory, Refused, SourceFault, Text};
 use py_tree::{Param, Stmt};
 use std::alloc::Global;
 
-/// The greatest position of an instruction.
-const MAX_POSITION: usize = 4_294_967_295;
-
-fn is_small(label: &Option<usize>) -> bool
-    ensures { result ≡ true → (position : ℕ) → label.now ≡ Some position → position < 2 ^ 32 }
-{
-    match label {
-        Some(position) => *position <= MAX_POSITION,
-        None => true,
-    }
-}
-
-/// Whether each label stands at such a position. No draft for which memory is found has another one.
-fn are_small(labels: &[Option<usize>]) -> bool
-    ensures { result ≡ true → AreSmall labels.now }
-{
-    for label in labels {
-        if !is_small(label) {
-            return false;
-        }
-    }
-    true
-}
-
 /// The code of a text's own statements.
 pub(crate) fn text_code(
     alloc: Global,
@@ -53,9 +28,6 @@ pub(crate) fn text_code(
     ensures { (text : TextOf) → IsTextOf place.now scope body.now text → CodesText place.now scope.is_module body.now text result }
 {
     let draft = emit_text(alloc, place.level, &scope, body)?;
-    if !are_small(&draft.labels) {
-        return Err(Refused::NoMemory);
-    }
     own_code(alloc, place, &scope, body, &draft)
 }
 

@@ -1,12 +1,5 @@
-use Rattle.std.proofs.Common.{◌≡◌, true, subst, rules}
-use Rattle.emit_code.specs.Finished.{AreSmall}
 use Rattle.emit_module.proofs.Coding.{codes_text}
 use Rattle.emit_module.proofs.text.text_code.Goals as goal
-
-pub own_code-requires : goal.own_code-requires
-own_code-requires c =
-    let small : c.are_small.result ≡ true = search rules in
-    subst AreSmall c.deref.ensures.value (c.are_small.ensures small)
 
 pub returns : goal.returns
 returns c =
