@@ -1,11 +1,10 @@
 -- The code of a text, and of a function.
-use Rattle.std.proofs.Common.{◌≡◌, ◌≤◌, ◌<◌, ℕ, zero, suc, ◌+◌, Bool, true, false, List, [], ◌∷◌, ◌++◌, length, map, Option, Some, None, refl, sym, ap, ◌∙◌, subst, arith, add-one}
-use Rattle.std.specs.Prelude.{Result, Ok, Err, IfOk, IfErr, OnOk, IfNone, IfSome, slice_get, max, ◌||◌, nat_lt, nat_le, if◌then◌else◌}
-use Rattle.std.proofs.lemmas.Bool.{ltb-false}
+use Rattle.std.proofs.Common.{◌≡◌, ◌≤◌, ◌<◌, ℕ, zero, suc, ◌+◌, Bool, false, List, [], ◌∷◌, length, map, Option, Some, None, refl, sym, ap, ◌∙◌, subst, arith, add-one}
+use Rattle.std.specs.Prelude.{Result, Ok, Err, IfOk, IfErr, OnOk, IfNone, IfSome, slice_get}
 use Rattle.mpy_base.specs.declared.source.SourceFault.{SourceFault}
 use Rattle.mpy_base.specs.declared.refused.Refused.{Refused}
 use Rattle.mpy_base.specs.declared.refused.Refused.TheVariants.{Fault, NoMemory}
-use Rattle.mpy_tree.specs.declared.module.Code.{Code, out-Code}
+use Rattle.mpy_tree.specs.declared.module.Code.{out-Code}
 use Rattle.py_tree.specs.declared.stmt.Param.{Param}
 use Rattle.py_tree.specs.declared.stmt.Stmt as stmts
 use Rattle.py_meaning.specs.Tree.{Name, count, Function, Block, End}
@@ -14,17 +13,16 @@ use Rattle.py_meaning.specs.Program.{Source, Text, or_none}
 use Rattle.emit_draft.specs.declared.draft.Draft.{Draft}
 use Rattle.emit_draft.specs.declared.scope.Scope.{Scope}
 use Rattle.emit_limits.specs.declared.faults.Measures.{Measures}
-use Rattle.emit_limits.specs.Faults.{fault_of}
-use Rattle.emit_code.specs.Finished.{Names, IsFinished, IsCodeOf}
+use Rattle.emit_code.specs.Finished.{Names, IsFinished}
 use Rattle.emit_stmt.specs.Parts.{plain_block}
 use Rattle.emit_stmt.specs.Text.{EmitsText}
 use Rattle.emit_module.specs.declared.own.Place.{Place}
 use Rattle.emit_module.specs.declared.own.OwnCode.{OwnCode}
 use Rattle.emit_module.specs.declared.walk.Children.{Children}
-use Rattle.emit_module.specs.First.{Site, AreCounts, IsWithin, HasFault}
+use Rattle.emit_module.specs.First.{AreCounts, IsWithin, HasFault}
 use Rattle.emit_module.specs.Module.{FewLocals}
 use Rattle.emit_module.specs.Own.{IsTextOf, IsCounted, IsOwn, IsRefused, IsWritten}
-use Rattle.emit_module.specs.Walk.{Forest, bare, grow, size, planted, planted_in, text_at, IsTextCode, IsTextRefused, IsMadeCode, Grows, no_code, with_code, Breaks, here, inside, IsWalked, Walks, WalksAll, begun, BodyWalks, WalksBody, place_of, IsFunctionOf, CodesText, CodesFunction, IsPut}
+use Rattle.emit_module.specs.Walk.{Forest, size, planted, planted_in, text_at, IsTextCode, IsTextRefused, IsMadeCode, Grows, no_code, with_code, Breaks, here, inside, IsWalked, Walks, WalksAll, begun, BodyWalks, WalksBody, place_of, CodesText, CodesFunction, IsPut}
 use Rattle.emit_module.proofs.Limiting.{shallow, few_params}
 
 -- ---- a text

@@ -1,8 +1,7 @@
 -- A plain tree has no more functions than its parser's tree: by induction, from layer to layer.
-use Rattle.std.proofs.Common.{◌≡◌, ◌≤◌, ◌<◌, ◌^◌, ℕ, suc, ◌+◌, List, [], ◌∷◌, map, Option, Some, None, refl, sym, ap, subst, ◌∙◌, arith}
+use Rattle.std.proofs.Common.{◌≡◌, ◌≤◌, ◌<◌, ◌^◌, ℕ, ◌+◌, List, [], ◌∷◌, map, Option, Some, None, refl, ap, subst, arith}
 use Rattle.std.specs.Prelude.{option_map}
 use Rattle.std.specs.List.{sum}
-use Rattle.py_tree.specs.declared.expr.Expr.{Expr}
 use Rattle.py_tree.specs.declared.stmt.Module.{Module}
 use Rattle.py_tree.specs.declared.stmt.Stmt.{Stmt, map-Stmt, roll-Stmt}
 use Rattle.py_tree.specs.declared.stmt.Branch.{Branch, map-Branch, roll-Branch}

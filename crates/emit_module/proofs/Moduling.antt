@@ -1,6 +1,6 @@
 -- The module of a source, by the codes of its texts.
-use Rattle.std.proofs.Common.{◌≡◌, ◌<◌, ◌^◌, ℕ, zero, suc, ◌+◌, Bool, true, false, List, [], ◌∷◌, ◌++◌, drop, map, Some, refl, sym, ap, ap₂, ◌∙◌, subst, arith}
-use Rattle.std.specs.Prelude.{slice_get, Result, Ok, Err}
+use Rattle.std.proofs.Common.{◌≡◌, ◌<◌, ◌^◌, ℕ, suc, ◌+◌, Bool, true, false, List, [], ◌∷◌, ◌++◌, drop, map, Some, refl, sym, ap, ap₂, ◌∙◌, subst, arith}
+use Rattle.std.specs.Prelude.{slice_get, Ok, Err}
 use Rattle.mpy_base.specs.declared.source.SourceFault.{SourceFault}
 use Rattle.mpy_base.specs.declared.refused.Refused.{Refused}
 use Rattle.mpy_base.specs.declared.refused.Refused.TheVariants.{Fault, NoMemory}
@@ -14,10 +14,10 @@ use Rattle.py_meaning.specs.Tree.{Name, Block, Function, functions}
 use Rattle.py_scopes.specs.Scopes.{slots_of}
 use Rattle.py_meaning.specs.Plain.{Part, plain_tree}
 use Rattle.py_meaning.specs.Program.{Source, Text, module_text, function_texts, source_texts}
-use Rattle.bc_machine.specs.Library.{Code, code_of, numbers_from, codes_from, codes_of}
-use Rattle.bc_translation.specs.Translation.{own, StandAll, HaveStates, bodies, bodies_of, Translates}
+use Rattle.bc_machine.specs.Library.{Code, code_of, numbers_from, codes_of}
+use Rattle.bc_translation.specs.Translation.{own, StandAll, HaveStates, bodies_of}
 use Rattle.emit_draft.specs.declared.scope.Scope.{Scope}
-use Rattle.emit_code.specs.Finished.{Names, IsCodeOf, body_of}
+use Rattle.emit_code.specs.Finished.{Names, body_of}
 use Rattle.emit_code.specs.Children.{starts, sizes, AllCount}
 use Rattle.emit_stmt.specs.Parts.{plain_block}
 use Rattle.emit_module.specs.declared.own.Place.{Place}
@@ -27,7 +27,7 @@ use Rattle.emit_module.specs.First.{Site, sites, source_sites, AllWithin, one_wi
 use Rattle.emit_module.specs.First as first
 use Rattle.emit_module.specs.Module.{source_of, IsResolved, IsTranslated, AllNamed}
 use Rattle.emit_module.specs.Own.{IsTextOf, IsWritten}
-use Rattle.emit_module.specs.Walk.{Forest, planted, IsTextCode, IsTextRefused, CodesText, IsWalked, Walks, WalksAll, Breaks, IsModuleOf, top, TopWalks, WalksTop, Grows}
+use Rattle.emit_module.specs.Walk.{Forest, planted, IsTextCode, IsTextRefused, CodesText, IsWalked, Walks, WalksAll, Breaks, IsModuleOf, top, TopWalks, WalksTop}
 use Rattle.emit_module.proofs.Forests.{fine_of}
 use Rattle.emit_module.proofs.Plants.{flat, sites_at, texts_at, lists, Lists, texts_are, all_within, first_fault}
 use Rattle.emit_module.proofs.Trees.{Laws, IsAt, trees_of, are_trees, tree_tops, named_of, looked, stands_at, stand_all, have_states}

@@ -1,5 +1,5 @@
 -- How deep the parts of statements are.
-use Rattle.std.proofs.Common.{◌≡◌, ◌<◌, ◌≤◌, ℕ, List, Option, Some, None, ap, arith, rules}
+use Rattle.std.proofs.Common.{◌≡◌, ◌<◌, ℕ, List, Option, Some, ap, arith, rules}
 use denote.Param.Weighed.{most}
 use Rattle.py_tree.specs.declared.expr.Expr as trees
 use Rattle.py_tree.specs.declared.stmt.Target as aims

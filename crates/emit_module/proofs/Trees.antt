@@ -1,13 +1,13 @@
 -- The trees of codes, and that they stand for their texts.
-use Rattle.std.proofs.Common.{◌≡◌, ℕ, zero, suc, ◌+◌, Bool, true, false, List, [], ◌∷◌, ◌++◌, length, map, Some, refl, sym, ap, ◌∙◌, subst, arith}
+use Rattle.std.proofs.Common.{◌≡◌, ℕ, zero, suc, ◌+◌, Bool, false, List, [], ◌∷◌, ◌++◌, length, map, Some, refl, sym, ap, ◌∙◌, subst, arith}
 use Rattle.std.specs.Prelude.{slice_get}
 use Rattle.mpy_tree.specs.declared.module.Code as codes
 use Rattle.mpy_tree.specs.declared.module.Code.{out-Code}
-use Rattle.mpy_tree.specs.Resolved.{Tree, Trees, node, no_more, more, IsTreeOf, AreTreesOf}
+use Rattle.mpy_tree.specs.Resolved.{Trees, node, no_more, more, IsTreeOf, AreTreesOf}
 use Rattle.py_meaning.specs.Tree.{Block, Function, functions}
 use Rattle.py_meaning.specs.Program.{Source, Text}
 use Rattle.bc_machine.specs.Library.{Code, code_of, size_of, sizes_of, numbers_from, codes_of}
-use Rattle.bc_translation.specs.Translation.{own, StandsCode, StandAll, bodies_of, HasState, HaveStates}
+use Rattle.bc_translation.specs.Translation.{own, StandsCode, StandAll, bodies_of, HaveStates}
 use Rattle.emit_draft.specs.declared.draft.Draft.{Draft}
 use Rattle.emit_draft.specs.declared.scope.Scope.{Scope}
 use Rattle.emit_code.specs.declared.codes.CodeHead.{CodeHead}
@@ -16,9 +16,9 @@ use Rattle.emit_code.specs.Finished.{IsFinished, IsCodeOf, body_of}
 use Rattle.emit_code.specs.Children.{starts, sizes, AllCount, tree_sizes}
 use Rattle.emit_stmt.specs.Children.{Made, made}
 use Rattle.emit_module.specs.Found.{IsDefined}
-use Rattle.emit_module.specs.Own.{IsWritten, IsFound, IsJoined}
+use Rattle.emit_module.specs.Own.{IsWritten, IsJoined}
 use Rattle.emit_module.specs.Module.{NamesLocals, AllNamed}
-use Rattle.emit_module.specs.Walk.{Forest, bare, grow, size, planted, text_at, IsMadeCode, Grows, no_code, with_code}
+use Rattle.emit_module.specs.Walk.{Forest, size, text_at, Grows, no_code, with_code}
 use Rattle.emit_module.proofs.Plants.{flat, tops, texts_at, length_flat, lists}
 
 -- ---- what the laws of the crates below say

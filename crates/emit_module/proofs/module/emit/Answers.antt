@@ -1,4 +1,4 @@
-use Rattle.std.proofs.Common.{◌≡◌, ap, sym, refl}
+use Rattle.std.proofs.Common.{◌≡◌, refl}
 use Rattle.mpy_base.specs.declared.refused.Refused.TheVariants.{Fault}
 use Rattle.py_meaning.specs.Program.{module_text}
 use Rattle.emit_module.specs.declared.own.Place.{Place}

@@ -1,5 +1,4 @@
-use Rattle.std.proofs.Common.{refl, ap}
-use Rattle.emit_module.specs.declared.walk.Children.{Children}
+use Rattle.std.proofs.Common.{ap}
 use Rattle.emit_module.proofs.Moduling.{top_ok, top_err}
 use Rattle.emit_module.proofs.module.functions.Goals as goal
 

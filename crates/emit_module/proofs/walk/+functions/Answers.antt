@@ -1,4 +1,4 @@
-use Rattle.std.proofs.Common.{◌≡◌, ◌+◌, Some, None, refl, sym, ap, ◌∙◌, arith, drop}
+use Rattle.std.proofs.Common.{◌+◌, refl, ap, ◌∙◌, arith, drop}
 use denote.Param.Weighed.{most, at_most}
 use Rattle.mpy_base.specs.declared.refused.Refused.TheVariants.{NoMemory}
 use Rattle.py_tree.proofs.stmt.Stmt.TheLaws.{the_size}
@@ -10,7 +10,6 @@ use Rattle.py_tree.specs.declared.stmt.StmtKind.TheVariants as s
 use Rattle.std.specs.Prelude.{Ok, Err}
 use Rattle.emit_expr.proofs.Rows.{filled_items}
 use Rattle.emit_simple.proofs.Plains.{simple_by}
-use Rattle.emit_module.specs.declared.walk.Children.{Children}
 use Rattle.py_tree.specs.declared.stmt.Branch.{out-Branch}
 use Rattle.py_tree.specs.declared.stmt.Handler.{out-Handler}
 use Rattle.py_meaning.specs.Tree.{Else, End}

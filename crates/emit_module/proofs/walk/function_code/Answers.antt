@@ -1,4 +1,4 @@
-use Rattle.std.proofs.Common.{◌≡◌, false, length, refl}
+use Rattle.std.proofs.Common.{false, length, refl}
 use Rattle.std.specs.Prelude.{slice_get}
 use Rattle.py_meaning.specs.Program.{or_none}
 use Rattle.emit_code.specs.Finished.{Names}
