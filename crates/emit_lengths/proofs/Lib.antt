@@ -1,0 +1,6 @@
+pub mod Sums
+pub mod Plains
+pub mod Stores
+pub mod Layers
+pub mod Names
+pub mod Faulty

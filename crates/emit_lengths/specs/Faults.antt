@@ -1,0 +1,9 @@
+-- The length of a text among what is counted of it.
+use Rattle.std.specs.Prelude.{◌≡◌}
+use Rattle.py_meaning.specs.Program.{Text}
+use Rattle.emit_limits.specs.declared.faults.Measures.{Measures}
+use Rattle.emit_limits.specs.Limits.{saturated}
+use Rattle.emit_counts.specs.Lengths.{text_length}
+
+abbrev pub HasTextLength : Text → Measures → Type 0
+HasTextLength text m = m.length ≡ saturated (text_length text.locals text.level text.body)
