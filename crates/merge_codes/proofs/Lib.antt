@@ -1,0 +1,7 @@
+pub mod Cursors
+pub mod Made
+pub mod Places
+pub mod Reading
+pub mod Sound
+pub mod Texts
+pub mod Trees

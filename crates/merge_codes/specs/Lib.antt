@@ -1,0 +1,6 @@
+pub mod Cursor
+pub mod Far
+pub mod Heads
+pub mod Joined
+pub mod Kept
+pub mod Moved
