@@ -1,5 +1,5 @@
 -- How a code with its numbers moved is made.
-use Rattle.std.proofs.Common.{◌≡◌, ℕ, ◌+◌, ◌<◌, ◌≤◌, List, [], ◌∷◌, length, map, drop, All, Result, Ok, Err, Vec, Global, refl, sym, ap, ap₂, subst, ◌∙◌, inl, inr, arith}
+use Rattle.std.proofs.Common.{◌≡◌, ℕ, ◌≤◌, List, [], ◌∷◌, length, map, drop, Result, Ok, Err, Vec, Global, refl, sym, ap, subst, ◌∙◌, inl, inr, arith}
 use Rattle.std.specs.Prelude.{IfOk}
 use Rattle.std.specs.List.{AllZip}
 use Rattle.mpy_base.specs.declared.refused.Refused.{Refused}
@@ -10,7 +10,6 @@ use Rattle.bc_ops.specs.Listing.{starts, IsListOf, Lists}
 use Rattle.bc_ops.proofs.Lists.{one_listing}
 use Rattle.bc_prelude.specs.declared.prelude.Prelude.{Prelude}
 use Rattle.bc_prelude.specs.Prelude.{Begins}
-use Rattle.bc_prelude.specs.Names.{AreNames}
 use Rattle.bc_prelude.specs.Lines.{line_of}
 use Rattle.bc_prelude.proofs.Preludes.{same_prelude}
 use Rattle.mpy_tree.specs.declared.module.Code.{Code, Code-F, out-Code}
@@ -21,8 +20,8 @@ use Rattle.mpy_writer.specs.declared.fault.WriteFault.TheVariants.{TooManyNames,
 use Rattle.mpy_writer.specs.Outcome.{IfFault}
 use Rattle.mpy_writer.specs.File.{IsOwn, IsCodeFault}
 use Rattle.merge_codes.specs.Far.{IsFarOwn}
-use Rattle.merge_codes.specs.Kept.{IsKept, IsKeptCode}
-use Rattle.merge_codes.specs.Moved.{text_at, IsMovedItem, IsMovedCode, IsMovedOwn, HasParts}
+use Rattle.merge_codes.specs.Kept.{IsKeptCode}
+use Rattle.merge_codes.specs.Moved.{text_at, IsMovedItem, IsMovedCode, IsMovedOwn}
 use Rattle.merge_codes.proofs.Places.{instructions_at, parts_short}
 use Rattle.merge_codes.proofs.Sound.{short_list}
 

@@ -1,6 +1,6 @@
 -- What is written for a code with its numbers moved is read as the same tree.
 use Rattle.std.proofs.Common.{◌≡◌, ℕ, zero, suc, ◌+◌, ◌<◌, ◌≤◌, ◌^◌, List, [], ◌∷◌, ◌++◌, length, map, take, drop, Option, Some, None, option_map, slice_get, refl, sym, ap, ap₂, subst, ◌∙◌, arith}
-use Rattle.std.specs.Prelude.{Contains, option_and_then, unwrap_or}
+use Rattle.std.specs.Prelude.{Contains, unwrap_or}
 use Rattle.std.specs.List.{AllZip, AllByRecursion}
 use Rattle.std.proofs.lemmas.List.{length-map}
 use Rattle.std.proofs.lemmas.List.Elements.{All-from_recursion, recursion_from_All}
@@ -10,10 +10,9 @@ use Rattle.bc_ops.specs.declared.instr.Op.TheVariants as ops
 use Rattle.bc_ops.specs.declared.instr.Instr.{Instr}
 use Rattle.bc_ops.specs.declared.instr.Instr.TheVariants as instrs
 use Rattle.bc_ops.specs.declared.listing.Target.{Target}
-use Rattle.bc_ops.specs.declared.listing.Target.TheVariants.{Position}
 use Rattle.bc_ops.specs.declared.listing.Item as listings
 use Rattle.bc_ops.specs.declared.listing.Item.TheVariants as listed
-use Rattle.bc_ops.specs.Listing.{starts, IsListOf, Lists}
+use Rattle.bc_ops.specs.Listing.{starts, Lists}
 use Rattle.bc_ops.proofs.Lists.{one_listing}
 use Rattle.bc_prelude.specs.declared.prelude.Prelude.{Prelude}
 use Rattle.bc_prelude.specs.Prelude.{Begins}
@@ -37,19 +36,19 @@ use Rattle.mpy_tree.specs.Values.{value_of}
 use Rattle.mpy_writer.specs.declared.tables.Tables.{Tables}
 use Rattle.mpy_writer.specs.Tables.{TablesFit, text_number}
 use Rattle.mpy_writer.specs.Writable.{IsText, IsNumberedCode}
-use Rattle.mpy_writer.specs.File.{labelled, signature_of, indexes_of, lines_of, qstr_of}
+use Rattle.mpy_writer.specs.File.{labelled, signature_of, indexes_of, lines_of}
 use Rattle.mpy_writer.proofs.Numbers.{number_small}
 use Rattle.mpy_writer.proofs.Labelled.{list_item}
 use Rattle.mpy_writer.proofs.Bodies.{instructions, prelude_of, writable, name_there, names_there, lines_read}
 use Rattle.bc_verify.specs.Verified.{AreVerified}
 use Rattle.merge_codes.specs.Joined.{IsJoined}
 use Rattle.merge_codes.specs.Kept.{NamesThere, IsKept, IsKeptCode}
-use Rattle.merge_codes.specs.Moved.{text_at, moved_instr, IsMovedItem, IsMovedCode, IsMovedOwn, IsMovedTree}
+use Rattle.merge_codes.specs.Moved.{text_at, moved_instr, IsMovedItem, IsMovedOwn, IsMovedTree}
 use Rattle.merge_codes.proofs.Places.{instructions_at, lines_at, names_at}
 use Rattle.merge_codes.proofs.Made.{items_kept}
 use Rattle.merge_codes.proofs.Sound.{numbered}
 use Rattle.merge_codes.proofs.Texts.{text_fine, text_known}
-use Rattle.merge_codes.proofs.Trees.{Nests, children, whole, kept_code, get_at, verified_child}
+use Rattle.merge_codes.proofs.Trees.{Nests, children, whole, kept_code, verified_child}
 
 -- what a code's bytes say, twice
 record Same (bytes : List ℕ) (p q : Prelude) (a : Begins bytes p) (b : Begins bytes q) : Type 0 where

@@ -1,5 +1,5 @@
 -- A code with its numbers moved may be written by its numbers.
-use Rattle.std.proofs.Common.{◌≡◌, ℕ, suc, ◌+◌, ◌-◌, ◌<◌, ◌≤◌, ◌^◌, Bool, true, false, cond, ltb, List, [], ◌∷◌, ◌++◌, length, map, drop, All, refl, sym, ap, subst, ◌∙◌, arith, length-append}
+use Rattle.std.proofs.Common.{◌≡◌, ℕ, suc, ◌+◌, ◌-◌, ◌<◌, ◌≤◌, Bool, true, false, cond, ltb, List, [], ◌∷◌, ◌++◌, length, map, drop, All, refl, sym, ap, subst, ◌∙◌, arith, length-append}
 use Rattle.std.specs.List.{AllZip, AllByRecursion}
 use Rattle.std.specs.List.Sorted.{IsStrictlyIncreasing}
 use Rattle.std.proofs.lemmas.Bool.Decides.{nat_tests}
@@ -16,7 +16,7 @@ use Rattle.bc_ops.specs.declared.listing.Target.{Target}
 use Rattle.bc_ops.specs.declared.listing.Target.TheVariants.{Position}
 use Rattle.bc_ops.specs.declared.listing.Item as listings
 use Rattle.bc_ops.specs.declared.listing.Item.TheVariants as listed
-use Rattle.bc_ops.specs.Table.{code_of, form_of, number_form}
+use Rattle.bc_ops.specs.Table.{code_of, form_of}
 use Rattle.bc_ops.specs.Code.{IsEncodable, TakesNumber, TakesOffset}
 use Rattle.bc_ops.specs.Listing.{Piece, IsPiece, joined, starts, item, items_at, IsListOf, Lists}
 use Rattle.bc_ops.proofs.Law.{encodable}
@@ -28,12 +28,11 @@ use Rattle.bc_prelude.specs.declared.prelude.Prelude.{Prelude}
 use Rattle.bc_prelude.proofs.Preludes.{same_prelude}
 use Rattle.bc_prelude.specs.Lines.{Entry, entries_of, lines_passed, line_of}
 use Rattle.mpy_tree.specs.declared.module.Item.{Item}
-use Rattle.mpy_tree.specs.declared.module.Item.TheVariants as items
 use Rattle.mpy_tree.specs.declared.module.Code.{Code, out-Code}
 use Rattle.mpy_tree.specs.File.{IsModule}
 use Rattle.mpy_tree.specs.Raw.{Module}
 use Rattle.mpy_writer.specs.declared.tables.Tables.{Tables}
-use Rattle.mpy_writer.specs.Tables.{TablesFit, text_number}
+use Rattle.mpy_writer.specs.Tables.{TablesFit}
 use Rattle.mpy_writer.specs.Writable.{IsText, IsPosition, IsNumberedItem, NeverFall, IsNumberedCode}
 use Rattle.mpy_writer.proofs.Labelled.{object_form}
 use Rattle.mpy_writer.proofs.Numbers.{number_small}

@@ -1,5 +1,5 @@
 -- The codes of a module, as a walk through them meets them.
-use Rattle.std.proofs.Common.{◌≡◌, ◌⊎◌, ℕ, zero, suc, ◌+◌, ◌-◌, ◌<◌, ◌≤◌, Bool, true, false, ltb, List, [], ◌∷◌, ◌++◌, length, get_or, take, map, All, Option, Some, None, inl, inr, refl, sym, ap, subst, ◌∙◌, append_assoc, arith}
+use Rattle.std.proofs.Common.{◌≡◌, ℕ, zero, suc, ◌+◌, ◌-◌, ◌<◌, ◌≤◌, Bool, true, false, ltb, List, [], ◌∷◌, ◌++◌, length, get_or, take, Some, refl, sym, ap, subst, ◌∙◌, append_assoc, arith}
 use Rattle.std.specs.Prelude.{slice_get, option_and_then}
 use Rattle.std.specs.List.{flat_map, AllZip, AllByRecursion}
 use Rattle.std.proofs.lemmas.Bool.Decides.{nat_tests}
@@ -25,7 +25,7 @@ use Rattle.bc_verify.specs.declared.fault.Rule.{Rule}
 use Rattle.bc_verify.specs.declared.fault.Rule.TheVariants as rules
 use Rattle.bc_verify.specs.Body.{Body, Says}
 use Rattle.bc_verify.specs.Path.{code_at}
-use Rattle.bc_verify.specs.Rules.{Breaks, KeepsAll}
+use Rattle.bc_verify.specs.Rules.{Breaks}
 use Rattle.bc_verify.specs.Verified.{IsVerifiedCode, AreVerified}
 use Rattle.bc_verify.proofs.Bodies.{one_body}
 use Rattle.mpy_writer.specs.declared.tables.Tables.{Tables}

@@ -5,7 +5,6 @@ use Rattle.mpy_base.specs.declared.limits.TheConstants.{MAX_CODE_BYTES}
 use Rattle.bc_ops.specs.declared.instr.Op.TheVariants.{LoadConstObj}
 use Rattle.bc_ops.specs.declared.instr.Instr.{Instr}
 use Rattle.bc_ops.specs.declared.instr.Instr.TheVariants as instrs
-use Rattle.bc_ops.specs.declared.listing.Target.{Target}
 use Rattle.bc_ops.specs.declared.listing.Target.TheVariants.{Position}
 use Rattle.bc_ops.specs.declared.listing.Item as listings
 use Rattle.bc_ops.specs.declared.listing.Item.TheVariants as listed

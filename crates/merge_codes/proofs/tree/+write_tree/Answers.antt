@@ -8,7 +8,7 @@ use Rattle.merge_codes.specs.Far.{IsFarOwn, HasFarCode}
 use Rattle.merge_codes.specs.Heads.{head_of}
 use Rattle.merge_codes.specs.Kept.{IsKeptCode}
 use Rattle.merge_codes.specs.Moved.{IsMovedOwn}
-use Rattle.merge_codes.proofs.Trees.{Nests, Reached, children, whole, kept_code, get_at, verified_child, far_child, far_here, reached_none, reached_more, all_written}
+use Rattle.merge_codes.proofs.Trees.{Nests, children, whole, kept_code, get_at, verified_child, far_child, far_here, reached_none, reached_more, all_written}
 use Rattle.merge_codes.proofs.tree.+write_tree.Goals as goal
 
 pub moved_own-requires-clause-kept : goal.moved_own-requires-clause-kept
