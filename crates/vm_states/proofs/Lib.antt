@@ -1,0 +1,2 @@
+mod Readying
+mod Onwards
