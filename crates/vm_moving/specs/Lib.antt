@@ -1,0 +1,3 @@
+pub mod Moving
+pub mod Needs
+pub mod Storing

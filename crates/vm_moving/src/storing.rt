@@ -1,0 +1,29 @@
+//! A local gets a value.
+
+ghost use Rattle.std.specs.Prelude.{◌≡◌, Some, drop, slice_set};
+ghost use Rattle.arena_heap.specs.declared.value.Value.{Value as Item};
+ghost use Rattle.vm_frames.specs.declared.slot.Slot.TheVariants as slots;
+ghost use Rattle.vm_frames.specs.Calls.{on_running};
+ghost use Rattle.vm_step.specs.Shown.{IsTop};
+ghost use Rattle.vm_fetching.specs.declared.instruction.Instruction.TheVariants as fetched;
+ghost use Rattle.vm_moving.specs.Moving.{Runs, GoesBehind};
+ghost use Rattle.vm_moving.specs.Storing.{StoresLocal};
+
+use vm_fetching::NumberOp;
+use vm_frames::Frames;
+use vm_states::keeps_law;
+use vm_step::store_fast;
+use vm_tops::tops_law;
+
+/// STORE_FAST, in one byte or in more, where it was fetched for the running call.
+pub fn store_local(frames: &mut Frames, op: NumberOp, n: u32, end: u32)
+    requires stores { StoresLocal op }
+    requires runs { Runs frames.old (record { instruction = fetched.Number op n; end = end }) }
+    ensures goes { GoesBehind (record { instruction = fetched.Number op n; end = end }) frames.old frames.new }
+    ensures moved { (v : Item) → IsTop (slots.Value v) frames.old.calls → frames.new ≡ on_running (λ c. record c { at = end; slots = drop 1 c.slots; locals = slice_set c.locals n (Some v) }) frames.old }
+{
+    keeps_law();
+    tops_law();
+    let _ = op;
+    store_fast(frames, n, end);
+}
