@@ -1,4 +1,4 @@
--- Names that are one word, among a source's tokens and among what its tree takes from modules.
+-- Names without a dot, among tokens and among what a tree takes from modules.
 use Rattle.std.specs.Prelude.{◌≡◌, ℕ, Bool, true, not, ◌&&◌, List, Option, Some, None, nat_eq}
 use Rattle.std.specs.List.{list_all}
 use Rattle.py_tokens.specs.declared.token.Tok.{Tok}

@@ -1,4 +1,4 @@
-//! The names of a source that are one word.
+//! The names that a source takes from modules.
 #![tactic(auto)]
 
 ghost use Rattle.std.specs.Prelude.{◌≡◌, ℕ, List, true};
@@ -8,7 +8,7 @@ ghost use Rattle.py_tree.specs.declared.stmt.Module.{Module as Tree};
 ghost use Rattle.py_parser.specs.Grammar.{IsTree};
 ghost use Rattle.py_names.specs.Names.{tokens_undotted, TakesUndotted};
 
-/// No name among the tokens of a source has a dot, and so none has that the source takes from a module by `from`.
+/// Where no name among formed tokens has a dot, none has that their tree takes from a module by `from`.
 pub fn undotted_law()
     ensures { (list : List Token) (tree : Tree) → AreFormed list → tokens_undotted list ≡ true → IsTree list tree → TakesUndotted tree }
 {}
