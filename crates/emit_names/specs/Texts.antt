@@ -1,0 +1,8 @@
+-- Texts that take no name with a dot.
+use Rattle.std.specs.Prelude.{List, [], ◌∷◌}
+use Rattle.py_meaning.specs.Program.{Text}
+use Rattle.emit_counts.specs.Named.{TakesUndotted}
+
+abbrev pub AllTakeUndotted : List Text → Type 0
+AllTakeUndotted [] = Unit {0}
+AllTakeUndotted (text ∷ texts) = TakesUndotted text.body × AllTakeUndotted texts

@@ -1,0 +1,4 @@
+pub mod Tokens
+pub mod Layers
+pub mod Statements
+pub mod Sources

@@ -1,0 +1,29 @@
+-- A source takes no name with a dot.
+use Rattle.std.proofs.Common.{◌≡◌, true, List, [], ◌∷◌, sym, ap, subst, ◌∙◌}
+use Rattle.std.specs.List.{list_all}
+use Rattle.py_tokens.specs.declared.token.Tok.TheVariants as tok
+use Rattle.py_tokens.specs.declared.token.Token.{Token}
+use Rattle.py_tokens.specs.Formed.{FormedFrom}
+use Rattle.py_tree.specs.declared.stmt.Module.{Module}
+use Rattle.py_expressions.specs.Input.{at}
+use Rattle.py_expressions.proofs.Formed.{first_is}
+use Rattle.py_parser.specs.Grammar.{IsTree}
+use Rattle.py_parser.proofs.Formed.{next_from, here_from}
+use Rattle.py_names.specs.Names.{token_undotted, tokens_undotted, stmt_undotted, TakesUndotted}
+use Rattle.py_names.proofs.Tokens.{second_is}
+use Rattle.py_names.proofs.Statements.{statements_undotted}
+
+abbrev Known : List Token → Type 0
+Known list = FormedFrom 1 list × (tokens_undotted list ≡ true)
+
+next : (t : Token) (ts : List Token) → Known (t ∷ ts) → Known ts
+next t ts k = (next_from 1 t ts k.0, second_is (token_undotted t.kind) (tokens_undotted ts) k.1)
+
+here : (t : Token) (ts : List Token) → Known (t ∷ ts) → token_undotted t.kind ≡ true
+here t ts k = first_is (token_undotted t.kind) (tokens_undotted ts) k.1
+
+-- the tree of tokens whose names have no dot
+pub grammar_undotted : (list : List Token) (tree : Module) → Known list → IsTree list tree → TakesUndotted tree
+grammar_undotted list tree k is =
+    let end = at is.last tok.End ∷ [] in
+    ap (list_all stmt_undotted) (sym is.is) ∙ (statements_undotted Known next (λ t ts known. here_from 1 t ts known.0) here is.reading end (subst Known is.spelled k)).0
