@@ -1,0 +1,31 @@
+-- Calls that run a program over an arena.
+use Rattle.std.specs.Prelude.{ℕ, length, Option, IfSome, All}
+use Rattle.mpy_base.specs.World.{Objects}
+use Rattle.arena_heap.specs.declared.value.Value.{Value}
+use Rattle.arena_objects.specs.Keys.{AllTold}
+use Rattle.vm_faults.specs.Faults.{IsKnown}
+use Rattle.vm_frames.specs.declared.slot.Slot.{Slot}
+use Rattle.vm_frames.specs.Calls.{Call, Calls}
+use Rattle.vm_unwinding.specs.Known as known
+use Rattle.vm_states.specs.Means.{Program}
+use Rattle.vm_states.specs.Running.{IsRunning}
+
+module _ (p : Program) (objects : Objects Value ℕ) where
+  -- a value, a slot and a call of the program are known: they lead to these objects, and their texts and tuples are told
+  abbrev pub IsKnownValue : Value → Type 0
+  IsKnownValue v = IsKnown p.tables.texts p.tables.tuples objects v
+
+  abbrev pub IsKnownSlot : Slot → Type 0
+  IsKnownSlot slot = known.IsKnownSlot p.tables.texts p.tables.tuples objects slot
+
+  abbrev pub IsKnownLocal : Option Value → Type 0
+  IsKnownLocal local = IfSome local (IsKnown p.tables.texts p.tables.tuples objects)
+
+  abbrev pub IsKnownCall : Call → Type 0
+  IsKnownCall c = known.IsKnownCall p.tables.texts p.tables.tuples (length p.shelf.modules) objects c
+
+  -- the calls run the program, all that lies in them is known, and what the objects hold is told
+  pub record IsState (s : Calls) : Type 0 where
+    pub running : IsRunning p s
+    pub known : All IsKnownCall s.calls
+    pub all_told : AllTold p.tables.texts p.tables.tuples objects
