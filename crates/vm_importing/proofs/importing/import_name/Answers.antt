@@ -1,0 +1,26 @@
+use Rattle.std.proofs.Common.{ℕ, List, length, sym, ap, ◌∙◌}
+use Rattle.std.specs.Prelude.{nat_lt}
+use Rattle.mpy_base.specs.declared.limits.TheConstants.{MAX_CALLS}
+use Rattle.mpy_base.specs.Val.{PlainWorld}
+use Rattle.py_effects.specs.Modules.{prefixes, module_named}
+use Rattle.bc_machine.specs.Parts.{first_absent}
+use Rattle.vm_walks.specs.Plain.{plain, plain_name}
+use Rattle.vm_modules.specs.Registry.{plain_modules}
+use Rattle.vm_importing.specs.declared.importing.Import.TheVariants as imports
+use Rattle.vm_importing.specs.Importing.{given_name}
+use Rattle.vm_importing.proofs.Coming.{of_operands}
+use Rattle.vm_importing.proofs.importing.import_name.Goals as goal
+
+pub returns-in-None : goal.returns-in-None
+returns-in-None g c from level w has =
+    let texts = g.C.Constants.text_of c.args.consts.now in
+    let tuples = g.C.Constants.items_of c.args.consts.now in
+    let world : PlainWorld = record w { modules = plain_modules texts tuples c.args.modules.now } in
+    let bytes = c.text_of-text.ensures.bytes in
+    of_operands texts tuples c.args.library.now world (nat_lt (length c.args.frames.now.calls) MAX_CALLS) (plain_name texts tuples c.args.name) from level
+    c.value_at-from.result c.value_at-level.result c.args.frames.now.calls (imports.Put c.wanted.result) has c.value_at-from.ensures c.value_at-level.ensures
+    (record {
+      absolute = sym (c.if-not-is_zero.ensures texts tuples w.heap);
+      none_absent = ap (λ (t : List ℕ). first_absent world (prefixes t)) (sym bytes) ∙ sym (c.in-None.ensures.first w);
+      value_is = c.wanted.ensures w ∙ ap (λ (t : List ℕ). module_named world (given_name (plain texts tuples c.value_at-from.result) t)) bytes;
+    })

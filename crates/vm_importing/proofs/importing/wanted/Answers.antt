@@ -1,0 +1,24 @@
+use Rattle.std.proofs.Common.{ℕ, List, sym, ap, ◌∙◌}
+use Rattle.mpy_base.specs.Val.{PlainWorld}
+use Rattle.arena_heap.specs.declared.value.Value.{Value}
+use Rattle.py_effects.specs.Modules.{module_named}
+use Rattle.vm_walks.specs.Plain.{plain}
+use Rattle.vm_modules.specs.Registry.{plain_modules}
+use Rattle.vm_importing.specs.Importing.{given_name}
+use Rattle.vm_importing.proofs.Plains.{names_given}
+use Rattle.vm_importing.proofs.importing.wanted.Goals as goal
+
+pub returns-in-None : goal.returns-in-None
+returns-in-None g c w =
+    let texts = g.C.Constants.text_of c.args.consts.now in
+    let tuples = g.C.Constants.items_of c.args.consts.now in
+    let world : PlainWorld = record w { modules = plain_modules texts tuples c.args.modules.now } in
+    c.module_named.ensures w
+    ∙ ap (λ (n : List ℕ). module_named world n) (c.first_len.ensures.first ∙ sym (ap (λ (v : Value). given_name (plain texts tuples v) c.args.text.now) c.in-None.is))
+
+pub returns-in_default : goal.returns-in_default
+returns-in_default g c w =
+    let texts = g.C.Constants.text_of c.args.consts.now in
+    let tuples = g.C.Constants.items_of c.args.consts.now in
+    let world : PlainWorld = record w { modules = plain_modules texts tuples c.args.modules.now } in
+    c.module_named-in_default.ensures w ∙ ap (λ (n : List ℕ). module_named world n) (names_given texts tuples c.args.text.now c.args.from c.in_default.not-None)

@@ -1,0 +1,36 @@
+//! The operands of an import.
+
+ghost use Rattle.std.specs.Prelude.{◌≡◌, ℕ, List, Option, Some, slice_get};
+ghost use Rattle.arena_heap.specs.declared.value.StrNo.{StrNo as TextName};
+ghost use Rattle.arena_heap.specs.declared.value.ConstNo.{ConstNo as TupleName};
+ghost use Rattle.arena_heap.specs.declared.value.Value.{Value as Item};
+ghost use Rattle.vm_frames.specs.declared.slot.Slot.TheVariants as slots;
+ghost use Rattle.vm_frames.specs.Calls.{OfRunning};
+ghost use Rattle.py_values.specs.Shown.{PlainHeap, shown};
+ghost use Rattle.bc_machine.specs.Parts.{is_zero as is_zero_in};
+ghost use Rattle.vm_walks.specs.Plain.{plain};
+
+use arena_heap::Value;
+use vm_frames::{Frames, Slot};
+
+/// The value in a slot that holds one, counted from the top.
+pub(crate) fn value_at(frames: &Frames, i: u32) -> Value
+    requires { (v : Item) × OfRunning (λ c. slice_get c.slots i ≡ Some (slots.Value v)) frames.now.calls }
+    ensures { OfRunning (λ c. slice_get c.slots i ≡ Some (slots.Value result)) frames.now.calls }
+{
+    let Slot::Value(v) = frames.slot(i) else {
+        unreachable!();
+    };
+    v
+}
+
+/// Whether a value is the number 0, as which False counts.
+pub(crate) fn is_zero(v: Value) -> bool
+    ensures { (texts : TextName → Option (List ℕ)) (tuples : TupleName → Option (List Item)) (heap : PlainHeap) → result ≡ is_zero_in (shown heap (plain texts tuples v)) }
+{
+    match v {
+        Value::Bool(b) => !b,
+        Value::Int(z) => z == 0,
+        _ => false,
+    }
+}
