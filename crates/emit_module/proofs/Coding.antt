@@ -1,5 +1,5 @@
 -- The code of a text, and of a function.
-use Rattle.std.proofs.Common.{◌≡◌, ◌≤◌, ◌<◌, ℕ, zero, suc, ◌+◌, Bool, false, List, [], ◌∷◌, length, map, Option, Some, None, refl, sym, ap, ◌∙◌, subst, arith, add-one}
+use Rattle.std.proofs.Common.{◌≡◌, ◌≤◌, ◌<◌, ℕ, suc, ◌+◌, Bool, true, false, List, [], ◌∷◌, length, map, Option, Some, None, refl, sym, ap, ◌∙◌, subst, arith, add-one}
 use Rattle.std.specs.Prelude.{Result, Ok, Err, IfOk, IfErr, OnOk, IfNone, IfSome, slice_get}
 use Rattle.mpy_base.specs.declared.source.SourceFault.{SourceFault}
 use Rattle.mpy_base.specs.declared.refused.Refused.{Refused}
@@ -12,43 +12,52 @@ use Rattle.py_meaning.specs.Plain.{Part, defaults_of, numbered}
 use Rattle.py_meaning.specs.Program.{Source, Text, or_none}
 use Rattle.emit_draft.specs.declared.draft.Draft.{Draft}
 use Rattle.emit_draft.specs.declared.scope.Scope.{Scope}
+use Rattle.emit_counts.specs.Lengths.{text_length}
+use Rattle.emit_lengths.specs.Faults.{HasTextLength}
 use Rattle.emit_limits.specs.declared.faults.Measures.{Measures}
+use Rattle.emit_limits.specs.Limits.{saturated}
+use Rattle.emit_limits.specs.Faults.{fault_of, IsMeasured}
+use Rattle.bc_translation.specs.Heights.{tall_block, held_in}
 use Rattle.emit_code.specs.Finished.{Names, IsFinished}
 use Rattle.emit_stmt.specs.Parts.{plain_block}
 use Rattle.emit_stmt.specs.Text.{EmitsText}
 use Rattle.emit_module.specs.declared.own.Place.{Place}
 use Rattle.emit_module.specs.declared.own.OwnCode.{OwnCode}
 use Rattle.emit_module.specs.declared.walk.Children.{Children}
-use Rattle.emit_module.specs.First.{AreCounts, IsWithin, HasFault}
-use Rattle.emit_module.specs.Module.{FewLocals}
+use Rattle.emit_module.specs.Counted.{HasLength, on_draft, on_tree, AreCounted, IsFine, IsBroken}
 use Rattle.emit_module.specs.Own.{IsTextOf, IsCounted, IsOwn, IsRefused, IsWritten}
 use Rattle.emit_module.specs.Walk.{Forest, size, planted, planted_in, text_at, IsTextCode, IsTextRefused, IsMadeCode, Grows, no_code, with_code, Breaks, here, inside, IsWalked, Walks, WalksAll, begun, BodyWalks, WalksBody, place_of, CodesText, CodesFunction, IsPut}
 use Rattle.emit_module.proofs.Limiting.{shallow, few_params}
 
 -- ---- a text
 
+length_of : {place : Place} {draft : Draft} {scope : Scope} {body : List stmts.Stmt} {text : Text} (m : Measures) (crowded : Bool) → crowded ≡ draft.crowded → EmitsText draft text.level scope (plain_block body)
+    → IsTextOf place scope body text → IsCounted place draft text m → HasLength text m.length
+length_of m true e emitted is counted = on_tree (counted.full (sym e))
+length_of {draft = draft} {scope = scope} {body = body} m false e emitted is counted = on_draft (record {
+  draft = draft;
+  scope = scope;
+  locals = sym is.locals;
+  part = plain_block body;
+  first = is.first;
+  body = is.body;
+  emitted = emitted;
+  roomy = sym e;
+  is = counted.roomy (sym e);
+})
+
 counts_are : {place : Place} {draft : Draft} {scope : Scope} {body : List stmts.Stmt} {text : Text} {m : Measures} → EmitsText draft place.level scope (plain_block body) → IsTextOf place scope body text → IsCounted place draft text m
-    → AreCounts scope.is_module (record { line = place.line; depth = place.depth }) text m
+    → AreCounted (record { line = place.line; depth = place.depth }) text m
 counts_are {place = place} {draft = draft} {scope = scope} {body = body} {text = text} {m = m} emitted is counted = record {
   numbers = counted.numbers;
-  length = record {
-    draft = draft;
-    scope = scope;
-    is_module = refl;
-    locals = sym is.locals;
-    part = plain_block body;
-    first = is.first;
-    body = is.body;
-    emitted = subst (λ z. EmitsText draft z scope (plain_block body)) (sym is.level) emitted;
-    is = counted.length;
-  };
+  length = length_of m draft.crowded refl (subst (λ z. EmitsText draft z scope (plain_block body)) (sym is.level) emitted) is counted;
   depth = counted.depth;
   crowded = counted.crowded ∙ emitted.crowded is.first ∙ ap (λ z. Rattle.emit_stmt.specs.Crowded.crowded_block z 0 ((plain_block body).make is.first)) (sym is.level)
       ∙ ap (λ z. Rattle.emit_stmt.specs.Crowded.crowded_block text.level 0 z) (sym is.body);
 }
 
 refused_text : (place : Place) (draft : Draft) (scope : Scope) (body : List stmts.Stmt) (text : Text) (refusal : Refused SourceFault) → EmitsText draft place.level scope (plain_block body) → IsTextOf place scope body text
-    → IsRefused place draft text refusal → IsTextRefused scope.is_module (record { line = place.line; depth = place.depth }) text refusal
+    → IsRefused place draft text refusal → IsTextRefused (record { line = place.line; depth = place.depth }) text refusal
 refused_text place draft scope body text (Fault fault) emitted is r = record { counts = r.counts; are_counts = counts_are emitted is r.counted; code = r.code; line = r.line; word = r.word }
 refused_text place draft scope body text NoMemory emitted is r = tt
 
@@ -123,19 +132,38 @@ function_params {params = params} (Ok own) codes =
     omega (arith, h, d, e)
 function_params (Err refusal) codes = tt
 
-few_at : (tables : List (List Name)) (k : ℕ) → FewLocals tables → length (or_none (slice_get tables k)) ≤ 4096
-few_at [] zero h = omega arith
-few_at [] (suc k) h = omega arith
-few_at (t ∷ ts) zero h = h.0
-few_at (t ∷ ts) (suc k) h = few_at ts k h.1
+-- the fault of a function with many locals
+abbrev IsManyFault : (level : ℕ) → List Name → List stmts.Stmt → SourceFault → Type 0
+IsManyFault level locals body fault = (text : Text) (n : ℕ) → text.level ≡ level → text.locals ≡ locals → text.body ≡ (plain_block body).make n
+    → (measures : Measures) → IsMeasured text measures → HasTextLength text measures → fault_of measures ≡ Some fault.code
 
-pub never_many : {P : Type 0} (tables : List (List Name)) (k : ℕ) → FewLocals tables → 4096 < length (or_none (slice_get tables k)) → P
-never_many tables k h m = let few = few_at tables k h in absurd (omega (arith, few, m))
+pub many_fault : {slots : List (List Name)} (around : Children) (line : ℕ) (params : List Param) (body : List stmts.Stmt) (fault : SourceFault)
+    → IsManyFault around.level (or_none (slice_get slots around.next)) body fault → fault.line ≡ line → fault.word ≡ [] → CodesFunction slots around line params body (Err (Fault fault))
+many_fault around line params body fault code line_is word = record {
+  by = λ source l s f is.
+      let text : Text = text_at source around.next f in
+      let m : Measures = record {
+        length = saturated (text_length text.locals text.level text.body);
+        locals = length text.locals;
+        params = length text.params;
+        height = saturated (tall_block text.level text.body);
+        entries = saturated (held_in text.body);
+        depth = around.depth + 1;
+        crowded = Rattle.emit_stmt.specs.Crowded.crowded_block text.level 0 text.body;
+      } in
+      record {
+        counts = m;
+        are_counts = record { numbers = record { locals = refl; params = refl; height = refl; entries = refl }; length = on_tree refl; depth = refl; crowded = refl };
+        code = code text is.number l (ap (λ z. or_none (slice_get z around.next)) s) is.made m (record { locals = refl; params = refl; height = refl; entries = refl }) refl;
+        line = line_is;
+        word = word;
+      };
+}
 
 -- ---- a function with those in it
 
-at_site : {own : Bool} {text : Text} (line depth : ℕ) → IsWithin own (record { line = line; depth = depth + 1 }) text → IsWithin own (record { line = line; depth = suc depth }) text
-at_site {own = own} {text = text} line depth h = subst (λ z. IsWithin own (record { line = line; depth = z }) text) (add-one depth) h
+at_site : {text : Text} (line depth : ℕ) → IsFine (record { line = line; depth = depth + 1 }) text → IsFine (record { line = line; depth = suc depth }) text
+at_site {text = text} line depth h = subst (λ z. IsFine (record { line = line; depth = z }) text) (add-one depth) h
 
 one_function : {slots : List (List Name)} (a b inner : Children) (line : ℕ) (name : Name) (params : List Param) (body : List stmts.Stmt) (own : OwnCode)
     → CodesFunction slots a line params body (Ok own) → WalksBody slots (plain_block body) a (Ok inner) → IsPut a b name params own inner
@@ -193,8 +221,8 @@ no_code_of : (A : Type 0) {slots : List (List Name)} (a b : Children) (line : �
     → (source : Source) → source.level ≡ a.level → source.locals ≡ slots → (n : ℕ) → Walks {A = A} source (planted_in line ((numbered name params (plain_block body)).make n)) a b (Err e)
 no_code_of A a b line name params body (Fault fault) codes source l s n =
     let f : Function = record { name = name; params = map (λ (param : Param). param.name) params; given = count (defaults_of params); body = (plain_block body).make (suc n) } in
-    let h : HasFault false (record { line = line; depth = a.depth + 1 }) (text_at source a.next f) fault = codes.by source l s f (record { names = refl; number = suc n; made = refl }) in
-    here (subst (λ z. HasFault false (record { line = line; depth = z }) (text_at source a.next f) fault) (add-one a.depth) h)
+    let h : IsBroken (record { line = line; depth = a.depth + 1 }) (text_at source a.next f) fault = codes.by source l s f (record { names = refl; number = suc n; made = refl }) in
+    here (subst (λ z. IsBroken (record { line = line; depth = z }) (text_at source a.next f) fault) (add-one a.depth) h)
 no_code_of A a b line name params body NoMemory codes source l s n = tt
 
 pub function_fails : {A : Type 0} {slots : List (List Name)} {a b : Children} {line : ℕ} (name : Name) (params : List Param) (body : List stmts.Stmt) (e : Refused SourceFault) → CodesFunction slots a line params body (Err e)

@@ -1,5 +1,5 @@
 -- A text without a fault has few instructions.
-use Rattle.std.proofs.Common.{◌≡◌, ◌≤◌, ◌<◌, ◌^◌, ℕ, Bool, true, false, List, [], ◌∷◌, length, map, Some, None, refl, arith, ℤ, pos, negsuc}
+use Rattle.std.proofs.Common.{◌≡◌, ◌≤◌, ◌<◌, ◌^◌, ℕ, Bool, true, false, List, [], ◌∷◌, length, map, Some, None, refl, sym, ◌∙◌, arith, ℤ, pos, negsuc}
 use Rattle.std.specs.Prelude.{min, nat_lt, if◌then◌else◌}
 use Rattle.std.proofs.lemmas.Bool.{ltb-false}
 use Rattle.mpy_base.specs.declared.source.SourceCode.{SourceCode}
@@ -16,6 +16,7 @@ use Rattle.emit_draft.specs.Emits.{item_at, line_at}
 use Rattle.emit_limits.specs.declared.faults.Measures.{Measures}
 use Rattle.emit_limits.specs.Faults.{is_big_state, fault_of}
 use Rattle.emit_module.specs.Own.{HasLength}
+use Rattle.emit_module.proofs.Limiting.{not_crowded}
 
 some_number : (op : Op) → 1 ≤ wide_number op
 some_number ops.LoadFast = omega arith
@@ -59,9 +60,12 @@ not_long false b x y e = refl
 below : (top wide count told : ℕ) → told ≡ min wide top → told ≤ 16000 → 16001 ≤ top → count ≤ wide → count ≤ 16000
 below top wide count told e l h k = omega arith
 
--- a text without a fault has at most as many instructions as bytes
-pub few_lines : (m : Measures) (lines : List DraftLine) → fault_of m ≡ None → HasLength lines m → length lines < 2 ^ 32
-few_lines m lines e h =
+short_lines : (m : Measures) (lines : List DraftLine) → fault_of m ≡ None → HasLength lines m → length lines < 2 ^ 32
+short_lines m lines e h =
     let short = ltb-false 16000 m.length (not_long (nat_lt 16000 m.length) (is_big_state m) TooLong StateTooBig e) in
     let count = below 18446744073709551615 (wide_length (map (line_at []) lines)) (length lines) m.length (h []) short (omega arith) (no_more [] lines) in
     omega (arith, count)
+
+-- a text without a fault has at most as many instructions as bytes
+pub few_lines : (m : Measures) (lines : List DraftLine) (crowded : Bool) → fault_of m ≡ None → m.crowded ≡ crowded → (crowded ≡ false → HasLength lines m) → length lines < 2 ^ 32
+few_lines m lines crowded e c h = short_lines m lines e (h (sym c ∙ not_crowded m e))

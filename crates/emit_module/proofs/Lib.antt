@@ -4,6 +4,7 @@ pub mod Fewer
 pub mod Finding
 pub mod Forests
 pub mod Joining
+pub mod Judging
 pub mod Limiting
 pub mod Measuring
 pub mod Moduling

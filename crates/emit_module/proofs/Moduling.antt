@@ -25,12 +25,14 @@ use Rattle.emit_module.specs.declared.own.OwnCode.{OwnCode}
 use Rattle.emit_module.specs.declared.walk.Children.{Children}
 use Rattle.emit_module.specs.First.{Site, sites, source_sites, AllWithin, one_within, FirstFault, AreWithin, IsFirstFault}
 use Rattle.emit_module.specs.First as first
-use Rattle.emit_module.specs.Module.{source_of, IsResolved, IsTranslated, AllNamed}
+use Rattle.emit_module.specs.Counted.{IsFine, IsBroken}
+use Rattle.emit_module.specs.Module.{source_of, IsResolved, IsTranslated}
 use Rattle.emit_module.specs.Own.{IsTextOf, IsWritten}
 use Rattle.emit_module.specs.Walk.{Forest, planted, IsTextCode, IsTextRefused, CodesText, IsWalked, Walks, WalksAll, Breaks, IsModuleOf, top, TopWalks, WalksTop}
 use Rattle.emit_module.proofs.Forests.{fine_of}
-use Rattle.emit_module.proofs.Plants.{flat, sites_at, texts_at, lists, Lists, texts_are, all_within, first_fault}
-use Rattle.emit_module.proofs.Trees.{Laws, IsAt, trees_of, are_trees, tree_tops, named_of, looked, stands_at, stand_all, have_states}
+use Rattle.emit_module.proofs.Plants.{flat, sites_at, texts_at, lists, Lists, texts_are}
+use Rattle.emit_module.proofs.Judging.{LengthLaw, within_is, fault_is, all_within, first_fault}
+use Rattle.emit_module.proofs.Trees.{Laws, AllNamed, IsAt, trees_of, are_trees, tree_tops, named_of, looked, stands_at, stand_all, have_states}
 
 -- ---- texts
 
@@ -54,24 +56,33 @@ pub record Parts (source : Source) (place : Place) (body : List stmts.Stmt) (own
   pub depth : place.depth ≡ 0
   pub walked : IsWalked source (planted source.body) (top source.level) children
 
-own_within : (source : Source) {place : Place} {body : List stmts.Stmt} {code : OwnCode} → place.line ≡ 1 → place.depth ≡ 0 → IsTextCode place true body (module_text source.file source 0) code
-    → first.IsWithin true (record { line = 1; depth = 0 }) (module_text source.file source 0)
-own_within source {place = place} l d c =
-    subst (λ z. first.IsWithin true (record { line = z; depth = 0 }) (module_text source.file source 0)) l
-    (subst (λ z. first.IsWithin true (record { line = place.line; depth = z }) (module_text source.file source 0)) d c.within)
+-- how the functions of a source are numbered
+pub record IsNumbered (source : Source) : Type 0 where
+  pub outer : own source.body ≡ starts 1 (sizes source.body)
+  pub functions : AllCount 1 (functions source.body)
 
-pub are_within : {source : Source} {place : Place} {body : List stmts.Stmt} {code : OwnCode} {children : Children} → Parts source place body code children → AreWithin source
-are_within {source = source} p =
-    one_within (own_within source p.line p.depth p.code)
-    (subst (λ z. AllWithin false (sites 0 source.body) z) (sym (texts_of source))
-    (subst (λ z. AllWithin false z (texts_at source 0 (planted source.body))) (sites_of source) (all_within source 0 0 (planted source.body) (fine_of p.walked.grows))))
+flat_counts : {source : Source} → IsNumbered source → AllCount 1 (flat (planted source.body))
+flat_counts {source = source} h = subst (AllCount 1) (sym (lists source.body).functions) h.functions
 
-pub later_fault : {source : Source} {place : Place} {body : List stmts.Stmt} {code : OwnCode} {fault : SourceFault} → place.line ≡ 1 → place.depth ≡ 0 → IsTextCode place true body (module_text source.file source 0) code
-    → Breaks source 0 0 (planted source.body) fault → IsFirstFault source fault
-later_fault {source = source} {fault = fault} l d c b =
-    first.later (own_within source l d c)
-    (subst (λ z. FirstFault false (sites 0 source.body) z fault) (sym (texts_of source))
-    (subst (λ z. FirstFault false z (texts_at source 0 (planted source.body)) fault) (sites_of source) (first_fault b)))
+own_within : LengthLaw → (source : Source) {place : Place} {body : List stmts.Stmt} {code : OwnCode} → IsNumbered source → place.line ≡ 1 → place.depth ≡ 0
+    → IsTextCode place true body (module_text source.file source 0) code → first.IsWithin (record { line = 1; depth = 0 }) (module_text source.file source 0)
+own_within law source {place = place} numbered l d c =
+    within_is law 1 numbered.outer
+    (subst (λ z. IsFine (record { line = z; depth = 0 }) (module_text source.file source 0)) l
+    (subst (λ z. IsFine (record { line = place.line; depth = z }) (module_text source.file source 0)) d c.within))
+
+pub are_within : LengthLaw → {source : Source} {place : Place} {body : List stmts.Stmt} {code : OwnCode} {children : Children} → IsNumbered source → Parts source place body code children → AreWithin source
+are_within law {source = source} numbered p =
+    one_within (own_within law source numbered p.line p.depth p.code)
+    (subst (λ z. AllWithin (sites 0 source.body) z) (sym (texts_of source))
+    (subst (λ z. AllWithin z (texts_at source 0 (planted source.body))) (sites_of source) (all_within law source 0 0 (planted source.body) (flat_counts numbered) (fine_of p.walked.grows))))
+
+pub later_fault : LengthLaw → {source : Source} {place : Place} {body : List stmts.Stmt} {code : OwnCode} {fault : SourceFault} → IsNumbered source → place.line ≡ 1 → place.depth ≡ 0
+    → IsTextCode place true body (module_text source.file source 0) code → Breaks source 0 0 (planted source.body) fault → IsFirstFault source fault
+later_fault law {source = source} {fault = fault} numbered l d c b =
+    first.later (own_within law source numbered l d c)
+    (subst (λ z. FirstFault (sites 0 source.body) z fault) (sym (texts_of source))
+    (subst (λ z. FirstFault z (texts_at source 0 (planted source.body)) fault) (sites_of source) (first_fault law (flat_counts numbered) b)))
 
 -- ---- the translation
 
@@ -187,26 +198,26 @@ module_is_text {body = body} file level tree l p names b = record {
   body = ap (λ z. (plain_block z).make 1) (sym b);
 }
 
-own_refused : (own : Bool) (site : Site) (text : Text) (refusal : Refused SourceFault) (fault : SourceFault) → refusal ≡ Fault fault → IsTextRefused own site text refusal → first.HasFault own site text fault
-own_refused own site text (Fault f) fault e h = let same : f ≡ fault = cc in subst (first.HasFault own site text) same h
-own_refused own site text NoMemory fault e h = cc
+own_refused : (site : Site) (text : Text) (refusal : Refused SourceFault) (fault : SourceFault) → refusal ≡ Fault fault → IsTextRefused site text refusal → IsBroken site text fault
+own_refused site text (Fault f) fault e h = let same : f ≡ fault = cc in subst (IsBroken site text) same h
+own_refused site text NoMemory fault e h = cc
 
-pub own_fault : (place : Place) (scope : Scope) (body : List stmts.Stmt) (source : Source) (refusal : Refused SourceFault) (fault : SourceFault) → refusal ≡ Fault fault → scope.is_module ≡ true → place.line ≡ 1 → place.depth ≡ 0
-    → CodesText place scope.is_module body (module_text source.file source 0) (Err refusal) → IsFirstFault source fault
-own_fault place scope body source refusal fault e m l d h =
+pub own_fault : LengthLaw → (place : Place) (own : Bool) (body : List stmts.Stmt) (source : Source) (refusal : Refused SourceFault) (fault : SourceFault) → IsNumbered source → refusal ≡ Fault fault → place.line ≡ 1 → place.depth ≡ 0
+    → CodesText place own body (module_text source.file source 0) (Err refusal) → IsFirstFault source fault
+own_fault law place own body source refusal fault numbered e l d h =
     let text = module_text source.file source 0 in
-    let f : first.HasFault scope.is_module (record { line = place.line; depth = place.depth }) text fault = own_refused scope.is_module (record { line = place.line; depth = place.depth }) text refusal fault e h in
-    first.here
-    (subst (λ z. first.HasFault true (record { line = z; depth = 0 }) text fault) l
-    (subst (λ z. first.HasFault true (record { line = place.line; depth = z }) text fault) d (subst (λ z. first.HasFault z (record { line = place.line; depth = place.depth }) text fault) m f)))
+    let f : IsBroken (record { line = place.line; depth = place.depth }) text fault = own_refused (record { line = place.line; depth = place.depth }) text refusal fault e h in
+    first.here (fault_is law 1 numbered.outer
+    (subst (λ z. IsBroken (record { line = z; depth = 0 }) text fault) l
+    (subst (λ z. IsBroken (record { line = place.line; depth = z }) text fault) d f)))
 
 walk_refused : (level : ℕ) (source : Source) (forest : Forest) (refusal : Refused SourceFault) (fault : SourceFault) → refusal ≡ Fault fault → TopWalks level source forest (Err refusal) → Breaks source 0 0 forest fault
 walk_refused level source forest (Fault f) fault e h = let same : f ≡ fault = cc in subst (Breaks source 0 0 forest) same h
 walk_refused level source forest NoMemory fault e h = cc
 
-pub walk_fault : {place : Place} {body : List stmts.Stmt} {code : OwnCode} (source : Source) (refusal : Refused SourceFault) (fault : SourceFault) → refusal ≡ Fault fault → place.line ≡ 1 → place.depth ≡ 0
+pub walk_fault : LengthLaw → {place : Place} {body : List stmts.Stmt} {code : OwnCode} (source : Source) (refusal : Refused SourceFault) (fault : SourceFault) → IsNumbered source → refusal ≡ Fault fault → place.line ≡ 1 → place.depth ≡ 0
     → IsTextCode place true body (module_text source.file source 0) code → TopWalks source.level source (planted source.body) (Err refusal) → IsFirstFault source fault
-walk_fault source refusal fault e l d c h = later_fault l d c (walk_refused source.level source (planted source.body) refusal fault e h)
+walk_fault law source refusal fault numbered e l d c h = later_fault law numbered l d c (walk_refused source.level source (planted source.body) refusal fault e h)
 
 -- ---- the walk over all functions
 

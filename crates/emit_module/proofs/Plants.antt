@@ -1,13 +1,11 @@
 -- The functions of a text as a forest and as lists.
-use Rattle.std.proofs.Common.{◌≡◌, ℕ, zero, suc, ◌+◌, false, List, [], ◌∷◌, ◌++◌, length, drop, refl, sym, ap, ap₂, ◌∙◌, arith, append_assoc, append-nil, length-append}
+use Rattle.std.proofs.Common.{◌≡◌, ℕ, zero, suc, ◌+◌, List, [], ◌∷◌, ◌++◌, length, drop, refl, sym, ap, ap₂, ◌∙◌, arith, append_assoc, append-nil, length-append}
 use Rattle.std.specs.Prelude.{slice_get}
-use Rattle.mpy_base.specs.declared.source.SourceFault.{SourceFault}
 use Rattle.py_meaning.specs.Tree.{Name, count, Stmt, If, While, For, Try, Finally, TryFinally, Def, Block, End, Next, Branches, Else, Case, Handlers, NoHandler, Any, On, OnAs, Function, functions, functions_in, functions_of, functions_by}
 use Rattle.py_meaning.specs.Program.{Source, Text, or_none, function_text, function_texts}
 use Rattle.emit_code.specs.Children.{sizes, sizes_in, sizes_of, sizes_by}
-use Rattle.emit_module.specs.First.{Site, sites, sites_in, sites_of, sites_by, IsWithin, AllWithin, no_text, one_within, FirstFault, later}
-use Rattle.emit_module.specs.First as first
-use Rattle.emit_module.specs.Walk.{Forest, bare, grow, beside, size, planted, planted_in, planted_of, planted_by, text_at, AreFine, Breaks, here, inside, behind}
+use Rattle.emit_module.specs.First.{Site, sites, sites_in, sites_of, sites_by}
+use Rattle.emit_module.specs.Walk.{Forest, bare, grow, beside, size, planted, planted_in, planted_of, planted_by, text_at}
 
 abbrev pub flat : Forest → List Function
 flat bare = []
@@ -120,29 +118,3 @@ texts_are source n (grow line f inner others) =
     first_text source f (flat inner ++ flat others) source.locals n
     ∙ ap (λ z. text_at source n f ∷ z) (texts_on source (flat inner) (flat others) (suc n)
     ∙ ap₂ (λ x y. x ++ y) (texts_are source (suc n) inner) (ap (λ k. function_texts source.file source 0 (flat others) (drop k source.locals)) e ∙ texts_are source (suc (n + size inner)) others))
-
--- ---- the first fault
-
-within_on : {xs ys : List Site} {ts us : List Text} → AllWithin false xs ts → AllWithin false ys us → AllWithin false (xs ++ ys) (ts ++ us)
-within_on no_text k = k
-within_on (one_within h a) k = one_within h (within_on a k)
-
-first_left : {xs : List Site} {ts : List Text} {fault : SourceFault} (ys : List Site) (us : List Text) → FirstFault false xs ts fault → FirstFault false (xs ++ ys) (ts ++ us) fault
-first_left ys us (first.here h) = first.here h
-first_left ys us (later h a) = later h (first_left ys us a)
-
-first_right : {xs ys : List Site} {ts us : List Text} {fault : SourceFault} → AllWithin false xs ts → FirstFault false ys us fault → FirstFault false (xs ++ ys) (ts ++ us) fault
-first_right no_text k = k
-first_right (one_within h a) k = later h (first_right a k)
-
-pub all_within : (source : Source) (depth n : ℕ) (f : Forest) → AreFine source depth n f → AllWithin false (sites_at depth f) (texts_at source n f)
-all_within source depth n bare h = no_text
-all_within source depth n (grow line f inner others) h =
-    one_within h.0 (within_on (all_within source (suc depth) (suc n) inner h.1) (all_within source depth (suc (n + size inner)) others h.2))
-
-pub first_fault : {source : Source} {depth n : ℕ} {f : Forest} {fault : SourceFault} → Breaks source depth n f fault → FirstFault false (sites_at depth f) (texts_at source n f) fault
-first_fault (here h) = first.here h
-first_fault {source = source} {depth = depth} {n = n} (inside {inner = inner} {others = others} h b) =
-    later h (first_left (sites_at depth others) (texts_at source (suc (n + size inner)) others) (first_fault b))
-first_fault {source = source} {depth = depth} {n = n} (behind {inner = inner} h a b) =
-    later h (first_right (all_within source (suc depth) (suc n) inner a) (first_fault b))

@@ -8,6 +8,7 @@ use Rattle.py_meaning.specs.Tree.{Block, Function, functions}
 use Rattle.py_meaning.specs.Program.{Source, Text}
 use Rattle.bc_machine.specs.Library.{Code, code_of, size_of, sizes_of, numbers_from, codes_of}
 use Rattle.bc_translation.specs.Translation.{own, StandsCode, StandAll, bodies_of, HaveStates}
+use Rattle.emit_counts.specs.Named.{HasOwnLocals, AllHaveOwnLocals, TakesUndotted}
 use Rattle.emit_draft.specs.declared.draft.Draft.{Draft}
 use Rattle.emit_draft.specs.declared.scope.Scope.{Scope}
 use Rattle.emit_code.specs.declared.codes.CodeHead.{CodeHead}
@@ -17,7 +18,8 @@ use Rattle.emit_code.specs.Children.{starts, sizes, AllCount, tree_sizes}
 use Rattle.emit_stmt.specs.Children.{Made, made}
 use Rattle.emit_module.specs.Found.{IsDefined}
 use Rattle.emit_module.specs.Own.{IsWritten, IsJoined}
-use Rattle.emit_module.specs.Module.{NamesLocals, AllNamed}
+use Rattle.emit_module.specs.Joined.{HasChildren}
+use Rattle.emit_module.specs.Module.{AllTakeUndotted}
 use Rattle.emit_module.specs.Walk.{Forest, size, text_at, Grows, no_code, with_code}
 use Rattle.emit_module.proofs.Plants.{flat, tops, texts_at, length_flat, lists}
 
@@ -37,11 +39,28 @@ StandsLaw = (all : List Code) (text : Text) (draft : Draft) (scope : Scope) (hea
 abbrev pub DefinedLaw : Type 0
 DefinedLaw = (n : ℕ) (text : Block) → own text ≡ starts n (sizes text) → (i : ℕ) (function : Made) → slice_get (made text) i ≡ Some function → IsDefined (functions text) n function
 
+abbrev pub JoinedLaw : Type 0
+JoinedLaw = (all : List Code) (text : Text) (draft : Draft) (scope : Scope) (head : CodeHead) (lines : CodeLines) (children : List ℕ) → IsWritten text draft scope head lines
+    → HasOwnLocals text → TakesUndotted text.body → HasChildren all text (code_of (body_of head lines) children) → IsJoined all text (code_of (body_of head lines) children)
+
 pub record Laws : Type 0 where
   pub tree : TreeLaw
   pub numbers : NumbersLaw
   pub stands : StandsLaw
   pub defined : DefinedLaw
+  pub joined : JoinedLaw
+
+-- the instructions of a text name all of its locals
+abbrev pub NamesLocals : Text → Type 0
+NamesLocals text = HasOwnLocals text × TakesUndotted text.body
+
+abbrev pub AllNamed : List Text → Type 0
+AllNamed [] = Unit {0}
+AllNamed (text ∷ texts) = NamesLocals text × AllNamed texts
+
+pub all_named : (texts : List Text) → AllHaveOwnLocals texts → AllTakeUndotted texts → AllNamed texts
+all_named [] a b = tt
+all_named (text ∷ texts) a b = ((a.0, b.0), all_named texts a.1 b.1)
 
 -- ---- trees
 
@@ -105,15 +124,16 @@ pub joined : Laws → (all : List Code) (text : Text) (draft : Draft) (scope : S
     → IsWritten text draft scope head lines → own text.body ≡ starts (suc number) (sizes text.body) → tree_sizes trees ≡ sizes text.body
     → ((p : ℕ) (f : Function) → slice_get (functions text.body) p ≡ Some f → IsAt all (suc number + p) f)
     → IsJoined all text (code_of (body_of head lines) (numbers_from (suc number) trees))
-joined laws all text draft scope head lines trees number base named written starts_are sizes_are at = record {
-  locals = named draft scope head lines (numbers_from (suc number) trees) written;
-  children = laws.numbers number text.body trees starts_are sizes_are ∙ ap (λ z. map (λ n. z + n) (own text.body)) (sym base);
-  functions = λ i m is.
-      let d = laws.defined (suc number) text.body starts_are i m is in
-      let a = at d.place d.function d.found in
-      let e : text.base + m.number ≡ suc number + d.place = let k = d.number in omega (arith, base, k) in
-      record { code = a.code; found = ap (slice_get all) e ∙ a.found; name = a.name ∙ d.name; given = a.given ∙ d.given };
-}
+joined laws all text draft scope head lines trees number base named written starts_are sizes_are at =
+    let children_are : HasChildren all text (code_of (body_of head lines) (numbers_from (suc number) trees)) = record {
+      children = laws.numbers number text.body trees starts_are sizes_are ∙ ap (λ z. map (λ n. z + n) (own text.body)) (sym base);
+      functions = λ i m is.
+          let d = laws.defined (suc number) text.body starts_are i m is in
+          let a = at d.place d.function d.found in
+          let e : text.base + m.number ≡ suc number + d.place = let k = d.number in omega (arith, base, k) in
+          record { code = a.code; found = ap (slice_get all) e ∙ a.found; name = a.name ∙ d.name; given = a.given ∙ d.given };
+    } in
+    laws.joined all text draft scope head lines (numbers_from (suc number) trees) written named.0 named.1 children_are
 
 pub stands_at : Laws → (all : List Code) (text : Text) (draft : Draft) (scope : Scope) (head : CodeHead) (lines : CodeLines) (trees : Trees) (number : ℕ) (is_module : Bool) → scope.is_module ≡ is_module → text.base ≡ 0 → NamesLocals text
     → IsWritten text draft scope head lines → own text.body ≡ starts (suc number) (sizes text.body) → tree_sizes trees ≡ sizes text.body
@@ -137,11 +157,11 @@ named_right : (ts us : List Text) → AllNamed (ts ++ us) → AllNamed us
 named_right [] us h = h
 named_right (t ∷ ts) us h = named_right ts us h.1
 
-count_left : (n : ℕ) (fs gs : List Function) → AllCount n (fs ++ gs) → AllCount n fs
+pub count_left : (n : ℕ) (fs gs : List Function) → AllCount n (fs ++ gs) → AllCount n fs
 count_left n [] gs h = tt
 count_left n (f ∷ fs) gs h = (h.0, count_left (suc n) fs gs h.1)
 
-count_right : (n : ℕ) (fs gs : List Function) → AllCount n (fs ++ gs) → AllCount (n + length fs) gs
+pub count_right : (n : ℕ) (fs gs : List Function) → AllCount n (fs ++ gs) → AllCount (n + length fs) gs
 count_right n [] gs h = let e : n ≡ n + 0 = omega arith in subst (λ z. AllCount z gs) e h
 count_right n (f ∷ fs) gs h = let e : suc n + length fs ≡ n + suc (length fs) = omega arith in subst (λ z. AllCount z gs) e (count_right (suc n) fs gs h.1)
 

@@ -1,19 +1,13 @@
 -- The first text of a source whose code passes a limit.
-use Rattle.std.specs.Prelude.{◌≡◌, ℕ, suc, Bool, true, false, List, [], ◌∷◌, ◌++◌, map, Some, None}
+use Rattle.std.specs.Prelude.{◌≡◌, ℕ, suc, List, [], ◌∷◌, ◌++◌, Some, None}
 use Rattle.mpy_base.specs.declared.source.SourceFault.{SourceFault}
 use Rattle.py_meaning.specs.Tree.{Stmt, If, While, For, Try, Finally, TryFinally, Def, Block, End, Next, Branches, Else, Case, Handlers, NoHandler, Any, On, OnAs}
-use Rattle.py_meaning.specs.Plain.{Part}
 use Rattle.py_meaning.specs.Program.{Source, Text, source_texts}
-use Rattle.emit_draft.specs.declared.draft.Draft.{Draft}
-use Rattle.emit_draft.specs.declared.scope.Scope.{Scope}
-use Rattle.emit_draft.specs.Draft.{Labels}
-use Rattle.emit_draft.specs.Emits.{line_at}
+use Rattle.emit_counts.specs.Lengths.{text_length}
 use Rattle.emit_limits.specs.declared.faults.Measures.{Measures}
 use Rattle.emit_limits.specs.Limits.{saturated}
 use Rattle.emit_limits.specs.Faults.{fault_of, IsMeasured}
-use Rattle.emit_code.specs.Wide.{wide_length}
 use Rattle.emit_stmt.specs.Crowded.{crowded_block}
-use Rattle.emit_stmt.specs.Text.{EmitsText}
 
 -- where a text stands: the line of its `def`, and how many functions stand around it, itself among them
 pub record Site : Type 0 where
@@ -52,55 +46,43 @@ source_sites source = record { line = 1; depth = 0 } ∷ sites 0 source.body
 
 -- ---- one text
 
--- the wide length of a text is that of its draft
-pub record HasLength (own : Bool) (text : Text) (length : ℕ) : Type 0 where
-  pub draft : Draft
-  pub scope : Scope
-  pub is_module : scope.is_module ≡ own
-  pub locals : scope.locals ≡ text.locals
-  pub part : Part Block
-  pub first : ℕ
-  pub body : text.body ≡ part.make first
-  pub emitted : EmitsText draft text.level scope part
-  pub is : (labels : Labels) → length ≡ saturated (wide_length (map (line_at labels) draft.lines))
-
 -- what is counted of a text
-pub record AreCounts (own : Bool) (site : Site) (text : Text) (m : Measures) : Type 0 where
+pub record AreCounts (site : Site) (text : Text) (m : Measures) : Type 0 where
   pub numbers : IsMeasured text m
-  pub length : HasLength own text m.length
+  pub length : m.length ≡ saturated (text_length text.locals text.level text.body)
   pub depth : m.depth ≡ site.depth
   pub crowded : m.crowded ≡ crowded_block text.level 0 text.body
 
 -- the text passes no limit
-pub record IsWithin (own : Bool) (site : Site) (text : Text) : Type 0 where
+pub record IsWithin (site : Site) (text : Text) : Type 0 where
   pub counts : Measures
-  pub are_counts : AreCounts own site text counts
+  pub are_counts : AreCounts site text counts
   pub none : fault_of counts ≡ None
 
 -- the text passes a limit, in the line of its site
-pub record HasFault (own : Bool) (site : Site) (text : Text) (fault : SourceFault) : Type 0 where
+pub record HasFault (site : Site) (text : Text) (fault : SourceFault) : Type 0 where
   pub counts : Measures
-  pub are_counts : AreCounts own site text counts
+  pub are_counts : AreCounts site text counts
   pub code : fault_of counts ≡ Some fault.code
   pub line : fault.line ≡ site.line
   pub word : fault.word ≡ []
 
--- ---- texts in preorder, of which the first one is the module's own or not
+-- ---- texts in preorder
 
-pub data AllWithin : (own : Bool) → List Site → List Text → Type 0 where
-  no_text : {own : Bool} → AllWithin own [] []
-  one_within : {own : Bool} {site : Site} {sites : List Site} {text : Text} {texts : List Text}
-      → IsWithin own site text → AllWithin false sites texts → AllWithin own (site ∷ sites) (text ∷ texts)
+pub data AllWithin : List Site → List Text → Type 0 where
+  no_text : AllWithin [] []
+  one_within : {site : Site} {sites : List Site} {text : Text} {texts : List Text}
+      → IsWithin site text → AllWithin sites texts → AllWithin (site ∷ sites) (text ∷ texts)
 
 -- the first fault of texts: no text in front of the faulty one passes a limit
-pub data FirstFault : (own : Bool) → List Site → List Text → SourceFault → Type 0 where
-  here : {own : Bool} {site : Site} {sites : List Site} {text : Text} {texts : List Text} {fault : SourceFault}
-      → HasFault own site text fault → FirstFault own (site ∷ sites) (text ∷ texts) fault
-  later : {own : Bool} {site : Site} {sites : List Site} {text : Text} {texts : List Text} {fault : SourceFault}
-      → IsWithin own site text → FirstFault false sites texts fault → FirstFault own (site ∷ sites) (text ∷ texts) fault
+pub data FirstFault : List Site → List Text → SourceFault → Type 0 where
+  here : {site : Site} {sites : List Site} {text : Text} {texts : List Text} {fault : SourceFault}
+      → HasFault site text fault → FirstFault (site ∷ sites) (text ∷ texts) fault
+  later : {site : Site} {sites : List Site} {text : Text} {texts : List Text} {fault : SourceFault}
+      → IsWithin site text → FirstFault sites texts fault → FirstFault (site ∷ sites) (text ∷ texts) fault
 
 abbrev pub AreWithin : Source → Type 0
-AreWithin source = AllWithin true (source_sites source) (source_texts source.file source 0)
+AreWithin source = AllWithin (source_sites source) (source_texts source.file source 0)
 
 abbrev pub IsFirstFault : Source → SourceFault → Type 0
-IsFirstFault source fault = FirstFault true (source_sites source) (source_texts source.file source 0) fault
+IsFirstFault source fault = FirstFault (source_sites source) (source_texts source.file source 0) fault

@@ -1,3 +1,4 @@
+pub mod Counted
 pub mod First
 pub mod Found
 pub mod Joined

@@ -1,5 +1,5 @@
 -- The own code of one text, and when it has none.
-use Rattle.std.specs.Prelude.{◌≡◌, ℕ, ◌+◌, max, false, List, [], map, length, Some, None, slice_get}
+use Rattle.std.specs.Prelude.{◌≡◌, ℕ, ◌+◌, max, true, false, List, [], map, length, Some, None, slice_get}
 use Rattle.mpy_base.specs.declared.source.SourceFault.{SourceFault}
 use Rattle.mpy_base.specs.declared.refused.Refused.{Refused}
 use Rattle.mpy_base.specs.declared.refused.Refused.TheVariants.{Fault, NoMemory}
@@ -8,6 +8,7 @@ use Rattle.py_meaning.specs.Program.{Text}
 use Rattle.bc_machine.specs.Library.{Code}
 use Rattle.bc_translation.specs.Heights.{tall_block, held_in}
 use Rattle.bc_translation.specs.Translation.{own}
+use Rattle.emit_counts.specs.Lengths.{text_length}
 use Rattle.emit_draft.specs.declared.draft.Draft.{Draft}
 use Rattle.emit_draft.specs.declared.draft.DraftLine.{DraftLine}
 use Rattle.emit_draft.specs.declared.scope.Scope.{Scope}
@@ -38,10 +39,11 @@ pub record IsTextOf (place : Place) (scope : Scope) (stmts : List Stmt) (text : 
 abbrev pub HasLength : List DraftLine → Measures → Type 0
 HasLength lines m = (labels : Labels) → m.length ≡ saturated (wide_length (map (line_at labels) lines))
 
--- what is counted of a text and of its draft
+-- what is counted of a text and of its draft: the length is that of the draft, or where this is crowded that of the tree
 pub record IsCounted (place : Place) (draft : Draft) (text : Text) (m : Measures) : Type 0 where
   pub numbers : IsMeasured text m
-  pub length : HasLength draft.lines m
+  pub roomy : draft.crowded ≡ false → HasLength draft.lines m
+  pub full : draft.crowded ≡ true → m.length ≡ saturated (text_length text.locals text.level text.body)
   pub depth : m.depth ≡ place.depth
   pub crowded : m.crowded ≡ draft.crowded
 

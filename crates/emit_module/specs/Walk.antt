@@ -23,7 +23,8 @@ use Rattle.emit_module.specs.declared.own.Place.{Place}
 use Rattle.emit_module.specs.declared.own.OwnCode.{OwnCode}
 use Rattle.emit_module.specs.declared.walk.Children.{Children}
 use Rattle.emit_module.specs.Own.{IsTextOf, IsWritten}
-use Rattle.emit_module.specs.First.{Site, IsWithin, HasFault}
+use Rattle.emit_module.specs.Counted.{IsFine, IsBroken}
+use Rattle.emit_module.specs.First.{Site}
 
 -- ---- functions
 
@@ -79,12 +80,12 @@ pub record IsTextCode (place : Place) (own : Bool) (body : List stmts.Stmt) (tex
   pub finished : IsFinished draft code.lines
   pub n_state : code.n_state ≡ length text.locals + max 1 (tall_block text.level text.body)
   pub n_exc : code.n_exc ≡ held_in text.body
-  pub within : IsWithin own (record { line = place.line; depth = place.depth }) text
+  pub within : IsFine (record { line = place.line; depth = place.depth }) text
 
 -- the text's fault, or want of memory
-abbrev pub IsTextRefused : (own : Bool) → Site → Text → Refused SourceFault → Type 0
-IsTextRefused own site text (Fault fault) = HasFault own site text fault
-IsTextRefused own site text NoMemory = Unit {0}
+abbrev pub IsTextRefused : Site → Text → Refused SourceFault → Type 0
+IsTextRefused site text (Fault fault) = IsBroken site text fault
+IsTextRefused site text NoMemory = Unit {0}
 
 -- a code is that of the text, with any children
 pub record IsMadeCode (own : Bool) (site : Site) (text : Text) (code : Code) : Type 0 where
@@ -97,7 +98,7 @@ pub record IsMadeCode (own : Bool) (site : Site) (text : Text) (code : Code) : T
   pub code_is : IsCodeOf head lines (out-Code code).children code
   pub n_state : head.n_state ≡ length text.locals + max 1 (tall_block text.level text.body)
   pub n_exc : head.n_exc ≡ held_in text.body
-  pub within : IsWithin own site text
+  pub within : IsFine site text
 
 -- ---- the functions in a text, of which the first one is the source's function of this number, from 0 on
 
@@ -116,18 +117,18 @@ pub data Grows (source : Source) : (depth number : ℕ) → Forest → List Code
 abbrev pub AreFine : Source → (depth number : ℕ) → Forest → Type 0
 AreFine source depth number bare = Unit {0}
 AreFine source depth number (grow line f inner others) =
-    IsWithin false (record { line = line; depth = suc depth }) (text_at source number f) × AreFine source (suc depth) (suc number) inner
+    IsFine (record { line = line; depth = suc depth }) (text_at source number f) × AreFine source (suc depth) (suc number) inner
     × AreFine source depth (suc (number + size inner)) others
 
 -- the fault of the first of them that passes one
 pub data Breaks (source : Source) : (depth number : ℕ) → Forest → SourceFault → Type 0 where
   here : {depth number line : ℕ} {f : Function} {inner others : Forest} {fault : SourceFault}
-      → HasFault false (record { line = line; depth = suc depth }) (text_at source number f) fault → Breaks source depth number (grow line f inner others) fault
+      → IsBroken (record { line = line; depth = suc depth }) (text_at source number f) fault → Breaks source depth number (grow line f inner others) fault
   inside : {depth number line : ℕ} {f : Function} {inner others : Forest} {fault : SourceFault}
-      → IsWithin false (record { line = line; depth = suc depth }) (text_at source number f) → Breaks source (suc depth) (suc number) inner fault
+      → IsFine (record { line = line; depth = suc depth }) (text_at source number f) → Breaks source (suc depth) (suc number) inner fault
       → Breaks source depth number (grow line f inner others) fault
   behind : {depth number line : ℕ} {f : Function} {inner others : Forest} {fault : SourceFault}
-      → IsWithin false (record { line = line; depth = suc depth }) (text_at source number f) → AreFine source (suc depth) (suc number) inner
+      → IsFine (record { line = line; depth = suc depth }) (text_at source number f) → AreFine source (suc depth) (suc number) inner
       → Breaks source depth (suc (number + size inner)) others fault → Breaks source depth number (grow line f inner others) fault
 
 -- ---- a walk over the functions in a text
@@ -192,7 +193,7 @@ pub record IsFunctionOf (params : List Param) (body : List stmts.Stmt) (f : Func
 
 abbrev pub CodesText : (place : Place) (own : Bool) → List stmts.Stmt → Text → Result OwnCode (Refused SourceFault) → Type 0
 CodesText place own body text (Ok code) = IsTextCode place own body text code
-CodesText place own body text (Err refusal) = IsTextRefused own (record { line = place.line; depth = place.depth }) text refusal
+CodesText place own body text (Err refusal) = IsTextRefused (record { line = place.line; depth = place.depth }) text refusal
 
 -- what the next function of a source is made of its own statements
 pub record CodesFunction (slots : List (List Name)) (around : Children) (line : ℕ) (params : List Param) (body : List stmts.Stmt) (r : Result OwnCode (Refused SourceFault)) : Type 0 where

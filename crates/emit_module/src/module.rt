@@ -1,20 +1,23 @@
 //! The module of a source.
 
-ghost use Rattle.std.specs.Prelude.{◌≡◌, [], ◌<◌, ◌^◌, ℕ, List, Err, IfOk};
+ghost use Rattle.std.specs.Prelude.{◌≡◌, [], ◌<◌, ◌^◌, ℕ, List, Err, IfOk, IfErr, ◌⊎◌};
 ghost use Rattle.mpy_base.specs.declared.refused.Refused.TheVariants as refused;
 ghost use Rattle.mpy_base.specs.declared.source.SourceFault.{SourceFault as Fault};
 ghost use Rattle.py_meaning.specs.Program.{source_texts};
 ghost use Rattle.py_source.specs.Source.{IsAccepted};
 ghost use Rattle.emit_stmt.specs.Parts.{plain_block};
 ghost use Rattle.emit_module.specs.First.{AreWithin, IsFirstFault};
-ghost use Rattle.emit_module.specs.Module.{source_of, IsTranslated, FewLocals, AllNamed};
+ghost use Rattle.emit_module.specs.Module.{source_of, IsTranslated, AllTakeUndotted};
 ghost use Rattle.emit_module.specs.Walk.{WalksTop, IsModuleOf};
 
+use crate::joined::joined_law;
 use crate::laws::{functions_law, stands_law};
+use crate::lengths::draft_length_law;
 use crate::own::{OwnCode, Place};
 use crate::text::text_code;
 use crate::walk::{Children, emit_defs};
 use emit_code::{CodeHead, code_of, module_scope, numbers_law, tree_law};
+use emit_counts::own_locals_law;
 use mpy_base::{Items, NoMemory, Refused, SourceFault, Text};
 use mpy_tree::ModuleCode;
 use py_scopes::NameSlots;
@@ -30,7 +33,6 @@ fn functions(
     body: &[Stmt],
 ) -> Result<Children, Refused<SourceFault>>
     requires numbers { (plain_block body.now).defs < 2 ^ 32 }
-    requires few { FewLocals slots.now }
     ensures { WalksTop level slots.now (plain_block body.now) result }
 {
     let mut children = Children {
@@ -75,17 +77,22 @@ pub fn emit(
     accepted: &Accepted,
 ) -> Result<ModuleCode, Refused<SourceFault>>
     requires accepted { (source : List ℕ) × IsAccepted level source accepted.now }
-    requires few { FewLocals accepted.now.slots }
-    requires named { AllNamed (source_texts file.now (source_of file.now level accepted.now.tree) 0) }
+    requires undotted { AllTakeUndotted (source_texts file.now (source_of file.now level accepted.now.tree) 0) }
 
     // The module translates the source, of which no text passes a limit.
     ensures translates { IfOk result (λ whole. IsTranslated (source_of file.now level accepted.now.tree) whole) }
     ensures within { IfOk result (λ whole. AreWithin (source_of file.now level accepted.now.tree)) }
+    ensures only { AreWithin (source_of file.now level accepted.now.tree) → IfErr result (λ refusal. refusal ≡ refused.NoMemory) }
 
-    // The fault is that of the first text that passes one.
+    // The fault is that of the first text that passes one, and where one does there is no module.
     ensures fault { (fault : Fault) → result ≡ Err (refused.Fault fault) → IsFirstFault (source_of file.now level accepted.now.tree) fault }
+    ensures fault_only { (fault : Fault) → IsFirstFault (source_of file.now level accepted.now.tree) fault
+        → (result ≡ Err (refused.Fault fault)) ⊎ (result ≡ Err refused.NoMemory) }
 {
     asked_law();
+    own_locals_law();
+    joined_law();
+    draft_length_law();
     numbers_law();
     tree_law();
     stands_law();

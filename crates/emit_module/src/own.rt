@@ -1,13 +1,20 @@
 //! What is counted of a text, and its own code or its fault.
 
-ghost use Rattle.std.specs.Prelude.{◌≡◌, ◌+◌, max, None, IfOk, IfErr};
+ghost use Rattle.std.specs.Prelude.{◌≡◌, ◌+◌, ℕ, max, map, true, false, None, IfOk, IfErr};
 ghost use Rattle.py_meaning.specs.Program.{Text as TextOf};
+ghost use Rattle.emit_counts.specs.Lengths.{text_length as length_of_text};
+ghost use Rattle.emit_draft.specs.Draft.{Labels};
+ghost use Rattle.emit_draft.specs.Emits.{line_at};
+ghost use Rattle.emit_limits.specs.Limits.{saturated};
 ghost use Rattle.emit_limits.specs.Faults.{fault_of};
+ghost use Rattle.emit_code.specs.Wide.{wide_length as wide_of};
+ghost use Rattle.emit_stmt.specs.Parts.{plain_block};
 ghost use Rattle.emit_code.specs.Finished.{IsFinished};
 ghost use Rattle.emit_module.specs.Own.{HasLength, IsTextOf, IsCounted, IsOwn, IsRefused};
 
 use emit_code::{CodeLines, finish, wide_length};
 use emit_draft::{Draft, Scope};
+use emit_lengths::text_length;
 use emit_limits::{Measures, block_entries, block_height, within_law};
 use mpy_base::{NoMemory, Refused, SourceFault, Text};
 use py_tree::Stmt;
@@ -36,12 +43,24 @@ pub struct OwnCode {
     pub lines: CodeLines,
 }
 
+/// The wide length of a draft, and where it is crowded that of its text's tree.
+fn length_of(place: &Place, scope: &Scope, body: &[Stmt], draft: &Draft) -> usize
+    ensures roomy { draft.now.crowded ≡ false → (labels : Labels) → result ≡ saturated (wide_of (map (line_at labels) draft.now.lines)) }
+    ensures full { draft.now.crowded ≡ true → (n : ℕ) → result ≡ saturated (length_of_text scope.now.locals place.now.level ((plain_block body.now).make n)) }
+{
+    if draft.crowded {
+        return text_length(place.level, scope.locals.as_slice(), body);
+    }
+    wide_length(draft)
+}
+
 fn measures(place: &Place, scope: &Scope, body: &[Stmt], draft: &Draft) -> Measures
     ensures counted { (text : TextOf) → IsTextOf place.now scope.now body.now text → IsCounted place.now draft.now text result }
-    ensures length { HasLength draft.now.lines result }
+    ensures crowded { result.crowded ≡ draft.now.crowded }
+    ensures length { draft.now.crowded ≡ false → HasLength draft.now.lines result }
 {
     Measures {
-        length: wide_length(draft),
+        length: length_of(place, scope, body, draft),
         locals: scope.locals.len(),
         params: place.params,
         height: block_height(place.level, body),
@@ -71,7 +90,8 @@ fn entries(measures: &Measures) -> u32
 #[tactic(auto, using(crate::proofs::Few::few_lines))]
 fn finished(alloc: Global, measures: &Measures, draft: &Draft) -> Result<CodeLines, NoMemory>
     requires fault { fault_of measures.now ≡ None }
-    requires length { HasLength draft.now.lines measures.now }
+    requires crowded { measures.now.crowded ≡ draft.now.crowded }
+    requires length { draft.now.crowded ≡ false → HasLength draft.now.lines measures.now }
     ensures { IfOk result (λ lines. IsFinished draft.now lines) }
 {
     finish(alloc, draft)

@@ -1,17 +1,21 @@
 //! The codes of the functions in a text.
 
-ghost use Rattle.std.specs.Prelude.{◌≡◌, ◌+◌, ◌^◌, ◌<◌, ◌≤◌, length, OnOk, IfOk};
+ghost use Rattle.std.specs.Prelude.{◌≡◌, ◌+◌, ◌^◌, ◌<◌, ◌≤◌, ℕ, [], length, Some, slice_get, OnOk, IfOk};
 ghost use Rattle.py_tree.specs.declared.stmt.Stmt.{out-Stmt};
 ghost use Rattle.py_meaning.specs.Plain.{numbered};
+ghost use Rattle.py_meaning.specs.Program.{Text as TextOf, or_none};
+ghost use Rattle.emit_lengths.specs.Faults.{HasTextLength};
+ghost use Rattle.emit_limits.specs.declared.faults.Measures.{Measures};
+ghost use Rattle.emit_limits.specs.Faults.{fault_of, IsMeasured};
 ghost use Rattle.emit_simple.specs.Plain.{plain_kind};
 ghost use Rattle.emit_stmt.specs.Parts.{plain_block, plain_handlers};
-ghost use Rattle.emit_module.specs.Module.{FewLocals};
 ghost use Rattle.emit_module.specs.Walk.{planted, planted_in, planted_by, front_defs, WalksAll, WalksFront, WalksBody, CodesFunction, IsPut};
 
 use crate::own::{OwnCode, Place};
 use crate::text::{head_of, text_code};
 use emit_code::{code_of, function_scope};
-use mpy_base::{Items, NoMemory, Refused, SourceCode, SourceFault, Text};
+use emit_lengths::many_locals_fault;
+use mpy_base::{Items, NoMemory, Refused, SourceFault, Text};
 use mpy_tree::Code;
 use py_scopes::NameSlots;
 use py_tree::{Branch, Handler, Param, Stmt, StmtKind};
@@ -39,7 +43,6 @@ pub(crate) fn emit_defs(
 ) -> Result<(), Refused<SourceFault>>
     requires numbers { children.old.next + (plain_block block.now).defs < 2 ^ 32 }
     requires shallow { children.old.depth < 32 }
-    requires few { FewLocals slots.now }
     ensures numbers { OnOk result (children.new.next ≤ children.old.next + (plain_block block.now).defs) }
     ensures walked { WalksAll slots.now (λ n. planted ((plain_block block.now).make n)) children.old children.new result }
 {
@@ -61,7 +64,6 @@ fn emit_in(
 ) -> Result<(), Refused<SourceFault>>
     requires numbers { children.old.next + (plain_kind (out-Stmt stmt.now).kind).defs < 2 ^ 32 }
     requires shallow { children.old.depth < 32 }
-    requires few { FewLocals slots.now }
     ensures numbers { OnOk result (children.new.next ≤ children.old.next + (plain_kind (out-Stmt stmt.now).kind).defs) }
     ensures walked { WalksAll slots.now (λ n. planted_in (out-Stmt stmt.now).line ((plain_kind (out-Stmt stmt.now).kind).make n)) children.old children.new result }
 {
@@ -132,7 +134,6 @@ fn emit_branches(
 ) -> Result<(), Refused<SourceFault>>
     requires numbers { children.old.next + front_defs branches.now < 2 ^ 32 }
     requires shallow { children.old.depth < 32 }
-    requires few { FewLocals slots.now }
     ensures numbers { OnOk result (children.new.next ≤ children.old.next + front_defs branches.now) }
     ensures walked { WalksFront slots.now branches.now children.old children.new result }
 {
@@ -155,7 +156,6 @@ fn emit_handlers(
 ) -> Result<(), Refused<SourceFault>>
     requires numbers { children.old.next + (plain_handlers handlers.now).defs < 2 ^ 32 }
     requires shallow { children.old.depth < 32 }
-    requires few { FewLocals slots.now }
     ensures numbers { OnOk result (children.new.next ≤ children.old.next + (plain_handlers handlers.now).defs) }
     ensures walked { WalksAll slots.now (λ n. planted_by ((plain_handlers handlers.now).make n)) children.old children.new result }
 {
@@ -184,7 +184,6 @@ fn emit_function(
 ) -> Result<(), Refused<SourceFault>>
     requires numbers { children.old.next + (numbered name.now params.now (plain_block body.now)).defs < 2 ^ 32 }
     requires shallow { children.old.depth < 32 }
-    requires few { FewLocals slots.now }
     ensures numbers { OnOk result (children.new.next ≤ children.old.next + (numbered name.now params.now (plain_block body.now)).defs) }
     ensures walked { WalksAll slots.now (λ n. planted_in line ((numbered name.now params.now (plain_block body.now)).make n)) children.old children.new result }
 {
@@ -211,7 +210,6 @@ fn emit_body(
 ) -> Result<Children, Refused<SourceFault>>
     requires numbers { around.now.next + 1 + (plain_block body.now).defs < 2 ^ 32 }
     requires shallow { around.now.depth + 1 < 32 }
-    requires few { FewLocals slots.now }
     ensures numbers { IfOk result (λ inner. inner.next ≤ around.now.next + 1 + (plain_block body.now).defs) }
     ensures walked { WalksBody slots.now (plain_block body.now) around.now result }
 {
@@ -227,6 +225,28 @@ fn emit_body(
     }
 }
 
+/// The fault of the next function, which has more than 4,096 locals.
+fn many_locals(
+    alloc: Global,
+    slots: &NameSlots,
+    around: &Children,
+    line: u32,
+    body: &[Stmt],
+) -> SourceFault
+    requires { 4096 < length (or_none (slice_get slots.now around.now.next)) }
+    ensures code { (text : TextOf) (n : ℕ) → text.level ≡ around.now.level → text.locals ≡ or_none (slice_get slots.now around.now.next) → text.body ≡ (plain_block body.now).make n
+        → (measures : Measures) → IsMeasured text measures → HasTextLength text measures → fault_of measures ≡ Some result.code }
+    ensures line { result.line ≡ line }
+    ensures word { result.word ≡ [] }
+{
+    let locals: &[Text] = slots.locals(around.next).unwrap_or(&[]);
+    SourceFault {
+        code: many_locals_fault(around.level, locals, body),
+        line,
+        word: Text::empty(alloc),
+    }
+}
+
 /// The code of the next function's own statements.
 fn function_code(
     alloc: Global,
@@ -238,7 +258,6 @@ fn function_code(
 ) -> Result<OwnCode, Refused<SourceFault>>
     requires numbers { (plain_block body.now).defs < 2 ^ 32 }
     requires shallow { around.now.depth < 32 }
-    requires few { FewLocals slots.now }
     ensures shallow { OnOk result (around.now.depth + 1 < 32) }
     ensures params { OnOk result (length params.now ≤ 255) }
     ensures code { CodesFunction slots.now around.now line params.now body.now result }
@@ -250,11 +269,7 @@ fn function_code(
         params: params.len(),
     };
     let Some(scope) = function_scope(alloc, slots, around.next)? else {
-        return Err(Refused::Fault(SourceFault {
-            code: SourceCode::StateTooBig,
-            line,
-            word: Text::empty(alloc),
-        }));
+        return Err(Refused::Fault(many_locals(alloc, slots, around, line, body)));
     };
     text_code(alloc, &place, scope, body)
 }

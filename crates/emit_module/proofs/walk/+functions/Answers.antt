@@ -29,7 +29,7 @@ emit_defs-emit_in-requires t c =
     let room = block_room c.args.block.now c.loop-stmt.stmt-index c.stmt-item.result _ _ c.loop-stmt.invariant.few (omega arith) c.stmt-item.is in
     let most_of = at_most the_size c.args.block.now c.loop-stmt.stmt-index c.stmt-item.result (omega arith) in
     let same = ap the_size c.stmt-item.is in
-    (omega (arith, most_of, same), (omega (arith, c.requires.numbers, room), (omega (arith, c.requires.shallow, depth_so_far c.loop-stmt.invariant.so), c.requires.few)))
+    (omega (arith, most_of, same), (omega (arith, c.requires.numbers, room), omega (arith, c.requires.shallow, depth_so_far c.loop-stmt.invariant.so)))
 
 pub emit_defs-returns-in-Err-clause-walked : goal.emit_defs-returns-in-Err-clause-walked
 emit_defs-returns-in-Err-clause-walked t c =
@@ -64,7 +64,7 @@ emit_branches-emit_defs-requires t c =
     let own = ap branch_size c.branch-item.is in
     let less = branch_less c.branch-item.result in
     let deep = ap (most the_size) c.as_slice.ensures in
-    (omega (arith, most_of, own, less, deep), (omega (arith, c.requires.numbers, room, same), (omega (arith, c.requires.shallow, depth_so_far (c.loop-branch.invariant.so (part (Else End)))), c.requires.few)))
+    (omega (arith, most_of, own, less, deep), (omega (arith, c.requires.numbers, room, same), omega (arith, c.requires.shallow, depth_so_far (c.loop-branch.invariant.so (part (Else End))))))
 
 pub emit_branches-returns-in-Err-clause-walked : goal.emit_branches-returns-in-Err-clause-walked
 emit_branches-returns-in-Err-clause-walked t c =
@@ -101,7 +101,7 @@ emit_handlers-emit_defs-requires t c =
     let own = ap handler_size c.handler-item.is in
     let less = handler_less c.handler-item.result in
     let deep = ap (most the_size) c.as_slice.ensures in
-    (omega (arith, most_of, own, less, deep), (omega (arith, c.requires.numbers, room, same), (omega (arith, c.requires.shallow, depth_so_far c.loop-handler.invariant.so), c.requires.few)))
+    (omega (arith, most_of, own, less, deep), (omega (arith, c.requires.numbers, room, same), omega (arith, c.requires.shallow, depth_so_far c.loop-handler.invariant.so)))
 
 pub emit_handlers-returns-in-Err-clause-walked : goal.emit_handlers-returns-in-Err-clause-walked
 emit_handlers-returns-in-Err-clause-walked t c =
@@ -142,7 +142,7 @@ emit_handlers-returns-clause-walked t c = all_taken c.args.handlers.now c.loop-h
 
 pub emit_function-emit_body-requires : goal.emit_function-emit_body-requires
 emit_function-emit_body-requires t c =
-    (omega arith, (omega (arith, c.requires.numbers), (c.in-Ok.ensures.shallow, c.requires.few)))
+    (omega arith, (omega (arith, c.requires.numbers), c.in-Ok.ensures.shallow))
 
 pub emit_function-returns-in-Err-clause-walked : goal.emit_function-returns-in-Err-clause-walked
 emit_function-returns-in-Err-clause-walked t c = function_fails c.args.name.now c.args.params.now c.args.body.now c.in-Err.refusal c.in-Err.ensures.code
@@ -162,7 +162,7 @@ emit_function-returns-in-Err-emit_body-clause-walked t c =
     body_fails c.args.name.now c.args.params.now c.args.body.now c.in-Ok.own c.in-Err-emit_body.refusal c.in-Ok.ensures.code c.in-Err-emit_body.ensures.walked
 
 pub emit_body-emit_defs-requires : goal.emit_body-emit_defs-requires
-emit_body-emit_defs-requires t c = (omega arith, (omega (arith, c.requires.numbers), (omega (arith, c.requires.shallow), c.requires.few)))
+emit_body-emit_defs-requires t c = (omega arith, (omega (arith, c.requires.numbers), omega (arith, c.requires.shallow)))
 
 pub emit_body-returns-in-Ok-clause-numbers : goal.emit_body-returns-in-Ok-clause-numbers
 emit_body-returns-in-Ok-clause-numbers t c = omega (arith, c.in-Ok.ensures.numbers)
@@ -181,7 +181,7 @@ emit_in-emit_branches-requires t c =
     let same = same_front c.as_slice.result.now c.in-If.branches c.as_slice.ensures in
     let less = (if_below c.args.stmt.now c.in-If.branches c.in-If.rest c.in-If.is).0 in
     let deep = ap (most branch_size) c.as_slice.ensures in
-    (omega (arith, less, deep), (omega (arith, c.requires.numbers, whole, same), (c.requires.shallow, c.requires.few)))
+    (omega (arith, less, deep), (omega (arith, c.requires.numbers, whole, same), c.requires.shallow))
 
 pub emit_in-emit_defs-requires : goal.emit_in-emit_defs-requires
 emit_in-emit_defs-requires t c =
@@ -191,7 +191,7 @@ emit_in-emit_defs-requires t c =
     let kept = depth_front _ c.in-Ok.ensures.walked in
     let less = (if_below c.args.stmt.now c.in-If.branches c.in-If.rest c.in-If.is).1 in
     let deep = ap (most the_size) c.as_slice-in-Ok.ensures in
-    (omega (arith, less, deep), (omega (arith, c.requires.numbers, whole, same, rest, c.in-Ok.ensures.numbers), (omega (arith, c.requires.shallow, kept), c.requires.few)))
+    (omega (arith, less, deep), (omega (arith, c.requires.numbers, whole, same, rest, c.in-Ok.ensures.numbers), omega (arith, c.requires.shallow, kept)))
 
 pub emit_in-returns-in-Ok-clause-numbers : goal.emit_in-returns-in-Ok-clause-numbers
 emit_in-returns-in-Ok-clause-numbers t c =
@@ -219,7 +219,7 @@ emit_in-emit_defs-requires-in-While t c =
     let same = same_defs c.as_slice-in-While.result.now c.in-While.body c.as_slice-in-While.ensures in
     let less = (while_below c.args.stmt.now c.in-While.test c.in-While.body c.in-While.rest c.in-While.is).0 in
     let deep = ap (most the_size) c.as_slice-in-While.ensures in
-    (omega (arith, less, deep), (omega (arith, c.requires.numbers, whole, same), (c.requires.shallow, c.requires.few)))
+    (omega (arith, less, deep), (omega (arith, c.requires.numbers, whole, same), c.requires.shallow))
 
 pub emit_in-emit_defs-requires-in-Ok-emit_defs : goal.emit_in-emit_defs-requires-in-Ok-emit_defs
 emit_in-emit_defs-requires-in-Ok-emit_defs t c =
@@ -229,7 +229,7 @@ emit_in-emit_defs-requires-in-Ok-emit_defs t c =
     let kept = depth_kept _ c.in-Ok-emit_defs.ensures.walked in
     let less = (while_below c.args.stmt.now c.in-While.test c.in-While.body c.in-While.rest c.in-While.is).1 in
     let deep = ap (most the_size) c.as_slice-in-Ok-emit_defs.ensures in
-    (omega (arith, less, deep), (omega (arith, c.requires.numbers, whole, same, rest, c.in-Ok-emit_defs.ensures.numbers), (omega (arith, c.requires.shallow, kept), c.requires.few)))
+    (omega (arith, less, deep), (omega (arith, c.requires.numbers, whole, same, rest, c.in-Ok-emit_defs.ensures.numbers), omega (arith, c.requires.shallow, kept)))
 
 pub emit_in-returns-in-Ok-emit_defs-clause-numbers : goal.emit_in-returns-in-Ok-emit_defs-clause-numbers
 emit_in-returns-in-Ok-emit_defs-clause-numbers t c =
@@ -257,7 +257,7 @@ emit_in-emit_defs-requires-in-For t c =
     let same = same_defs c.as_slice-in-For.result.now c.in-For.body c.as_slice-in-For.ensures in
     let less = (for_below c.args.stmt.now c.in-For.target c.in-For.over c.in-For.body c.in-For.rest c.in-For.is).0 in
     let deep = ap (most the_size) c.as_slice-in-For.ensures in
-    (omega (arith, less, deep), (omega (arith, c.requires.numbers, whole, same), (c.requires.shallow, c.requires.few)))
+    (omega (arith, less, deep), (omega (arith, c.requires.numbers, whole, same), c.requires.shallow))
 
 pub emit_in-emit_defs-requires-in-Ok-emit_defs-2 : goal.emit_in-emit_defs-requires-in-Ok-emit_defs-2
 emit_in-emit_defs-requires-in-Ok-emit_defs-2 t c =
@@ -267,7 +267,7 @@ emit_in-emit_defs-requires-in-Ok-emit_defs-2 t c =
     let kept = depth_kept _ c.in-Ok-emit_defs-2.ensures.walked in
     let less = (for_below c.args.stmt.now c.in-For.target c.in-For.over c.in-For.body c.in-For.rest c.in-For.is).1 in
     let deep = ap (most the_size) c.as_slice-in-Ok-emit_defs-2.ensures in
-    (omega (arith, less, deep), (omega (arith, c.requires.numbers, whole, same, rest, c.in-Ok-emit_defs-2.ensures.numbers), (omega (arith, c.requires.shallow, kept), c.requires.few)))
+    (omega (arith, less, deep), (omega (arith, c.requires.numbers, whole, same, rest, c.in-Ok-emit_defs-2.ensures.numbers), omega (arith, c.requires.shallow, kept)))
 
 pub emit_in-returns-in-Ok-emit_defs-2-clause-numbers : goal.emit_in-returns-in-Ok-emit_defs-2-clause-numbers
 emit_in-returns-in-Ok-emit_defs-2-clause-numbers t c =
@@ -295,7 +295,7 @@ emit_in-emit_defs-requires-in-Try t c =
     let body = same_defs c.as_slice-in-Try.result.now c.in-Try.body c.as_slice-in-Try.ensures in
     let less = (try_below c.args.stmt.now c.in-Try.body c.in-Try.handlers c.in-Try.rest c.in-Try.last c.in-Try.is).0 in
     let deep = ap (most the_size) c.as_slice-in-Try.ensures in
-    (omega (arith, less, deep), (omega (arith, c.requires.numbers, whole, body), (c.requires.shallow, c.requires.few)))
+    (omega (arith, less, deep), (omega (arith, c.requires.numbers, whole, body), c.requires.shallow))
 
 pub emit_in-returns-in-Err-emit_defs-3-clause-walked : goal.emit_in-returns-in-Err-emit_defs-3-clause-walked
 emit_in-returns-in-Err-emit_defs-3-clause-walked t c =
@@ -310,7 +310,7 @@ emit_in-emit_handlers-requires t c =
     let kept = depth_kept _ c.in-Ok-emit_defs-3.ensures.walked in
     let less = (try_below c.args.stmt.now c.in-Try.body c.in-Try.handlers c.in-Try.rest c.in-Try.last c.in-Try.is).1.0 in
     let deep = ap (most handler_size) c.as_slice-in-Try-2.ensures in
-    (omega (arith, less, deep), (omega (arith, c.requires.numbers, whole, body, clauses, c.in-Ok-emit_defs-3.ensures.numbers), (omega (arith, c.requires.shallow, kept), c.requires.few)))
+    (omega (arith, less, deep), (omega (arith, c.requires.numbers, whole, body, clauses, c.in-Ok-emit_defs-3.ensures.numbers), omega (arith, c.requires.shallow, kept)))
 
 pub emit_in-returns-in-Err-emit_handlers-clause-walked : goal.emit_in-returns-in-Err-emit_handlers-clause-walked
 emit_in-returns-in-Err-emit_handlers-clause-walked t c =
@@ -328,7 +328,7 @@ emit_in-emit_defs-requires-in_default-last t c =
     let again = depth_kept _ c.in-Ok-emit_handlers.ensures.walked in
     let less = (try_below c.args.stmt.now c.in-Try.body c.in-Try.handlers c.in-Try.rest c.in-Try.last c.in-Try.is).1.1 in
     let deep = ap (most the_size) c.as_slice-in_default-last.ensures in
-    (omega (arith, less, deep), (omega (arith, c.requires.numbers, whole, body, clauses, rest, c.in-Ok-emit_defs-3.ensures.numbers, c.in-Ok-emit_handlers.ensures.numbers), (omega (arith, c.requires.shallow, kept, again), c.requires.few)))
+    (omega (arith, less, deep), (omega (arith, c.requires.numbers, whole, body, clauses, rest, c.in-Ok-emit_defs-3.ensures.numbers, c.in-Ok-emit_handlers.ensures.numbers), omega (arith, c.requires.shallow, kept, again)))
 
 pub emit_in-returns-in_default-last-clause-numbers : goal.emit_in-returns-in_default-last-clause-numbers
 emit_in-returns-in_default-last-clause-numbers t c =
@@ -353,7 +353,7 @@ emit_in-emit_defs-requires-then-is_empty t c =
     let again = depth_kept _ c.in-Ok-emit_handlers.ensures.walked in
     let less = last_below c.args.stmt.now c.in-Try.body c.in-Try.handlers c.in-Try.rest c.in-Some.last (c.in-Try.is ∙ ap (s.Try c.in-Try.body c.in-Try.handlers c.in-Try.rest) c.in-Some.is) in
     let deep = ap (most the_size) c.as_slice-then-is_empty.ensures in
-    (omega (arith, less, deep), (omega (arith, c.requires.numbers, whole, body, clauses, last, c.in-Ok-emit_defs-3.ensures.numbers, c.in-Ok-emit_handlers.ensures.numbers), (omega (arith, c.requires.shallow, kept, again), c.requires.few)))
+    (omega (arith, less, deep), (omega (arith, c.requires.numbers, whole, body, clauses, last, c.in-Ok-emit_defs-3.ensures.numbers, c.in-Ok-emit_handlers.ensures.numbers), omega (arith, c.requires.shallow, kept, again)))
 
 pub emit_in-returns-then-is_empty-clause-numbers : goal.emit_in-returns-then-is_empty-clause-numbers
 emit_in-returns-then-is_empty-clause-numbers t c =
@@ -378,7 +378,7 @@ emit_in-emit_defs-requires-in-Try-2 t c =
     let again = depth_kept _ c.in-Ok-emit_handlers.ensures.walked in
     let less = (try_below c.args.stmt.now c.in-Try.body c.in-Try.handlers c.in-Try.rest c.in-Try.last c.in-Try.is).1.1 in
     let deep = ap (most the_size) c.as_slice-in-Try-3.ensures in
-    (omega (arith, less, deep), (omega (arith, c.requires.numbers, whole, body, clauses, rest, c.in-Ok-emit_defs-3.ensures.numbers, c.in-Ok-emit_handlers.ensures.numbers), (omega (arith, c.requires.shallow, kept, again), c.requires.few)))
+    (omega (arith, less, deep), (omega (arith, c.requires.numbers, whole, body, clauses, rest, c.in-Ok-emit_defs-3.ensures.numbers, c.in-Ok-emit_handlers.ensures.numbers), omega (arith, c.requires.shallow, kept, again)))
 
 pub emit_in-returns-in-Err-emit_defs-4-clause-walked : goal.emit_in-returns-in-Err-emit_defs-4-clause-walked
 emit_in-returns-in-Err-emit_defs-4-clause-walked t c =
@@ -398,7 +398,7 @@ emit_in-emit_defs-requires-in-Ok-emit_defs-4 t c =
     let more = depth_kept _ c.in-Ok-emit_defs-4.ensures.walked in
     let less = last_below c.args.stmt.now c.in-Try.body c.in-Try.handlers c.in-Try.rest c.in-Some.last (c.in-Try.is ∙ ap (s.Try c.in-Try.body c.in-Try.handlers c.in-Try.rest) c.in-Some.is) in
     let deep = ap (most the_size) c.as_slice-in-Ok-emit_defs-4.ensures in
-    (omega (arith, less, deep), (omega (arith, c.requires.numbers, whole, body, clauses, rest, last, c.in-Ok-emit_defs-3.ensures.numbers, c.in-Ok-emit_handlers.ensures.numbers, c.in-Ok-emit_defs-4.ensures.numbers), (omega (arith, c.requires.shallow, kept, again, more), c.requires.few)))
+    (omega (arith, less, deep), (omega (arith, c.requires.numbers, whole, body, clauses, rest, last, c.in-Ok-emit_defs-3.ensures.numbers, c.in-Ok-emit_handlers.ensures.numbers, c.in-Ok-emit_defs-4.ensures.numbers), omega (arith, c.requires.shallow, kept, again, more)))
 
 pub emit_in-returns-in-Ok-emit_defs-4-clause-numbers : goal.emit_in-returns-in-Ok-emit_defs-4-clause-numbers
 emit_in-returns-in-Ok-emit_defs-4-clause-numbers t c =
@@ -424,7 +424,7 @@ emit_in-emit_function-requires t c =
     let whole = def_defs (out-Stmt c.args.stmt.now).kind c.in-Def.name c.in-Def.params c.in-Def.body c.as_slice-in-Def-2.result.now c.in-Def.is c.as_slice-in-Def-2.ensures in
     let less = def_below c.args.stmt.now c.in-Def.name c.in-Def.params c.in-Def.body c.in-Def.is in
     let deep = ap (most the_size) c.as_slice-in-Def-2.ensures in
-    (omega (arith, less, deep), (omega (arith, c.requires.numbers, whole), (c.requires.shallow, c.requires.few)))
+    (omega (arith, less, deep), (omega (arith, c.requires.numbers, whole), c.requires.shallow))
 
 pub emit_in-returns-in-Def-clause-numbers : goal.emit_in-returns-in-Def-clause-numbers
 emit_in-returns-in-Def-clause-numbers t c =

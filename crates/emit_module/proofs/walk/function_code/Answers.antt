@@ -2,12 +2,15 @@ use Rattle.std.proofs.Common.{false, length, refl}
 use Rattle.std.specs.Prelude.{slice_get}
 use Rattle.py_meaning.specs.Program.{or_none}
 use Rattle.emit_code.specs.Finished.{Names}
-use Rattle.emit_module.proofs.Coding.{function_codes, function_shallow, function_params, never_many, if_none, if_some}
+use Rattle.emit_module.proofs.Coding.{function_codes, function_shallow, function_params, many_fault, if_none, if_some}
 use Rattle.emit_module.proofs.walk.function_code.Goals as goal
 
 pub returns-in_default-clause-code : goal.returns-in_default-clause-code
 returns-in_default-clause-code c =
-    never_many c.args.slots.now c.args.around.now.next c.requires.few (if_none c.in_ok-scope.field-0 c.in_ok-scope.ensures.many c.in_default.is)
+    many_fault c.args.around.now c.args.line c.args.params.now c.args.body.now c.many_locals.result c.many_locals.ensures.code c.many_locals.ensures.line c.many_locals.ensures.word
+
+pub many_locals-requires : goal.many_locals-requires
+many_locals-requires c = if_none c.in_ok-scope.field-0 c.in_ok-scope.ensures.many c.in_default.is
 
 pub returns-clause-shallow : goal.returns-clause-shallow
 returns-clause-shallow c =
