@@ -33,7 +33,7 @@ fn put_children(rows: &mut [Row<'_>], place: usize, children: Items<u32>)
     rows[place].children = children;
 }
 
-/// Adds the row of a code, and behind it those of the codes in it, of which there are so many levels at most.
+/// Adds the row of a code, and behind it those of the codes in it, which have at most `levels` levels.
 fn add_code<'a>(
     alloc: Global,
     library: &Library,

@@ -58,7 +58,7 @@ fn text_at(library: &Library, number: u32, code: &[u8], at: usize, end: usize) -
     (text, behind)
 }
 
-/// The numbers of the texts that so many indexes lead to.
+/// The numbers of the texts that `count` indexes, from `at` on, lead to.
 fn texts_at(
     alloc: Global,
     library: &Library,

@@ -14,7 +14,7 @@ use mpy_base::{NoMemory, Text};
 use py_tree::CompareOp;
 use std::alloc::Global;
 
-/// A str of up to so many bytes is named, and a longer one is an object.
+/// A str of up to 10 bytes is named, and a longer one is an object.
 const MAX_NAMED: usize = 10;
 
 /// An instruction that names the text.

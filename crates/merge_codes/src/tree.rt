@@ -55,7 +55,7 @@ fn moved_own(
     write_code(alloc, tables, &code)
 }
 
-/// Adds a code of the module and those in it, of so many levels at most, with their numbers moved.
+/// Adds a code of the module and those in it, of at most `levels` levels, with their numbers moved.
 pub fn write_tree(
     alloc: Global,
     out: &mut Vec<u8>,

@@ -1,16 +1,21 @@
 -- A source takes no name with a dot.
-use Rattle.std.proofs.Common.{◌≡◌, true, List, [], ◌∷◌, sym, ap, subst, ◌∙◌}
+use Rattle.std.proofs.Common.{◌≡◌, ℕ, true, List, [], ◌∷◌, sym, ap, subst, ◌∙◌}
 use Rattle.std.specs.List.{list_all}
 use Rattle.py_tokens.specs.declared.token.Tok.TheVariants as tok
 use Rattle.py_tokens.specs.declared.token.Token.{Token}
 use Rattle.py_tokens.specs.Formed.{FormedFrom}
+use Rattle.py_tokens.specs.Tokens.{IsTokens}
+use Rattle.py_tokens.proofs.Fewer.{sources_formed}
+use Rattle.py_tokens.proofs.Named.{tokens_named}
 use Rattle.py_tree.specs.declared.stmt.Module.{Module}
 use Rattle.py_expressions.specs.Input.{at}
 use Rattle.py_expressions.proofs.Formed.{first_is}
 use Rattle.py_parser.specs.Grammar.{IsTree}
 use Rattle.py_parser.proofs.Formed.{next_from, here_from}
+use Rattle.py_source.specs.declared.source.Accepted.{Accepted}
+use Rattle.py_source.specs.Source.{IsAccepted}
 use Rattle.py_names.specs.Names.{token_undotted, tokens_undotted, stmt_undotted, TakesUndotted}
-use Rattle.py_names.proofs.Tokens.{second_is}
+use Rattle.py_names.proofs.Tokens.{second_is, named_undotted}
 use Rattle.py_names.proofs.Statements.{statements_undotted}
 
 abbrev Known : List Token → Type 0
@@ -27,3 +32,11 @@ pub grammar_undotted : (list : List Token) (tree : Module) → Known list → Is
 grammar_undotted list tree k is =
     let end = at is.last tok.End ∷ [] in
     ap (list_all stmt_undotted) (sym is.is) ∙ (statements_undotted Known next (λ t ts known. here_from 1 t ts known.0) here is.reading end (subst Known is.spelled k)).0
+
+pub list_undotted : (level : ℕ) (source : List ℕ) (list : List Token) → IsTokens level source list → tokens_undotted list ≡ true
+list_undotted level source list is = named_undotted list (tokens_named level source list is)
+
+pub source_undotted : (level : ℕ) (source : List ℕ) (accepted : Accepted) → IsAccepted level source accepted → TakesUndotted accepted.tree
+source_undotted level source accepted is =
+    let s = is.is_source in
+    grammar_undotted s.list accepted.tree ((sources_formed level source s.list s.are_tokens).each, list_undotted level source s.list s.are_tokens) s.is_tree

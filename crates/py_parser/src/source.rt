@@ -74,7 +74,7 @@ fn fault_of(alloc: Global, code: SourceCode, line: u32) -> SourceFault
     }
 }
 
-/// The line of the token with so many from it on.
+/// The line of the first of the last `left` tokens.
 fn line_with(tokens: &[Token], left: usize) -> u32
     ensures { result ≡ line_at (drop (length tokens.now - left) tokens.now) }
 {

@@ -25,3 +25,4 @@ pub mod Escaped
 pub mod Quoted
 pub mod Answered
 pub mod Always
+pub mod Named

@@ -53,7 +53,7 @@ fn or_default<C: Constants>(
     }
 }
 
-/// The empty ones of the last slots get their defaults, behind so many first slots.
+/// The empty ones of the last slots get their defaults; the first `before` slots stay as they are.
 pub(crate) fn put_defaults<C: Constants>(
     arena: &Arena,
     consts: &C,

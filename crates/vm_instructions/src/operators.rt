@@ -188,7 +188,7 @@ pub fn binary_op<C: Constants>(
     put(frames, 2, given, end)
 }
 
-/// How many visits BINARY_OP makes, up to so many. It goes no further.
+/// How many visits BINARY_OP makes, up to `most`. It goes no further.
 pub fn visits_binary_op<C: Constants>(
     frames: &Frames,
     arena: &Arena,

@@ -1,5 +1,11 @@
-use Rattle.py_names.proofs.Sources.{grammar_undotted}
+use Rattle.py_names.proofs.Sources.{list_undotted, grammar_undotted, source_undotted}
 use Rattle.py_names.proofs.undotted_law.Goals as goal
 
-pub returns : goal.returns
-returns c = λ list tree formed named is. grammar_undotted list tree (formed.each, named) is
+pub returns-clause-tokens : goal.returns-clause-tokens
+returns-clause-tokens c = list_undotted
+
+pub returns-clause-tree : goal.returns-clause-tree
+returns-clause-tree c = λ list tree formed named is. grammar_undotted list tree (formed.each, named) is
+
+pub returns-clause-source : goal.returns-clause-source
+returns-clause-source c = source_undotted
