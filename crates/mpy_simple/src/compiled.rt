@@ -34,7 +34,7 @@ fn items_of(alloc: Global, prints: &[Print]) -> Result<Items<Item>, NoMemory>
     Ok(items)
 }
 
-/// Adds the line of `count` instructions.
+/// Adds the line of two instructions.
 fn add_lines(lines: &mut Items<u32>, line: u32) -> Result<(), NoMemory>
     ensures { OnOk result (lines.new ≡ lines.old ++ (line ∷ line ∷ [])) }
 {
