@@ -1,0 +1,157 @@
+//! Reports of exceptions that nothing caught.
+
+ghost use Rattle.std.specs.Prelude.{◌≡◌, ◌<◌, All, is_err, length, map};
+ghost use Rattle.mpy_base.specs.Kind.{kind_name};
+ghost use Rattle.mpy_base.specs.World.{AnException, IsA};
+ghost use Rattle.arena_heap.specs.Values.{IsTuple, Leads};
+ghost use Rattle.arena_heap.specs.Constants.{IsTold};
+ghost use Rattle.arena_objects.specs.Iterables.{items_in};
+ghost use Rattle.arena_objects.specs.Keys.{AllTold};
+ghost use Rattle.py_values.specs.Shown.{shown};
+ghost use Rattle.py_primitives.specs.Texts.{items_of_tuple, truth_text};
+ghost use Rattle.py_effects.specs.Ends.{Raised, arguments_text, end_report, sole_text};
+ghost use Rattle.vm_walks.specs.Pens.{Wrote};
+ghost use Rattle.vm_walks.specs.Plain.{plain, plain_heap, plain_name};
+ghost use Rattle.vm_outputs.specs.Prints.{Puts, PutsOn};
+ghost use Rattle.vm_reports.specs.Reports.{first_lines};
+
+use crate::pieces::{write, write_number, write_small};
+use crate::printer::Printer;
+use arena_heap::{Arena, Constants, ExcNo, StrNo, Value};
+use arena_objects::{exc_parts, item_at, text_bytes};
+use mpy_base::Kind;
+use mpy_io::{Failed, Sink};
+use vm_walks::{Look, Pen, look_at};
+
+/// The bytes of a name.
+fn name_bytes<C: Constants>(consts: &C, name: u32) -> &[u8]
+    ensures bytes { result.now ≡ plain_name (C.text_of consts.now) (C.items_of consts.now) name }
+    ensures ascii { All (λ b. b < 128) result.now }
+{
+    match consts.text(StrNo::Pool(name)) {
+        Some(bytes) => bytes,
+        None => &[],
+    }
+}
+
+/// Writes the first two lines of a report, by the place where its exception was raised.
+fn write_place<P: Pen, C: Constants>(consts: &C, file: u32, line: u32, name: u32, pen: &mut P)
+    ensures { Wrote P.Takes pen.old (first_lines (plain_name (C.text_of consts.now) (C.items_of consts.now) file) line (plain_name (C.text_of consts.now) (C.items_of consts.now) name)) pen.new }
+{
+    write(pen, b"Traceback (most recent call last):\n  File \"");
+    write(pen, name_bytes(consts, file));
+    write(pen, b"\", line ");
+    write_number(pen, u64::from(line));
+    write(pen, b", in ");
+    write(pen, name_bytes(consts, name));
+    write(pen, b"\n")
+}
+
+/// How a truth is written.
+fn truth_bytes(b: bool) -> &'static [u8]
+    ensures text { result.now ≡ truth_text b }
+    ensures ascii { All (λ b. b < 128) result.now }
+{
+    if b { b"True" } else { b"False" }
+}
+
+/// Writes the text of a sole argument.
+fn write_sole<P: Pen, C: Constants>(arena: &Arena, consts: &C, v: Value, pen: &mut P)
+    requires leads { Leads arena.now.objects v }
+    requires told { IsTold (C.text_of consts.now) (C.items_of consts.now) v }
+    ensures { Wrote P.Takes pen.old (sole_text (plain_heap (C.text_of consts.now) (C.items_of consts.now) arena.now) (plain (C.text_of consts.now) (C.items_of consts.now) v)) pen.new }
+{
+    match v {
+        Value::None => write(pen, b"None"),
+        Value::Bool(b) => write(pen, truth_bytes(b)),
+        Value::Int(n) => write_small(pen, n),
+        Value::Str(_) | Value::Text(_) => write(pen, text_bytes(arena, consts, v)),
+        _ => write(pen, b"..."),
+    }
+}
+
+/// How many arguments an exception has.
+fn argument_count<C: Constants>(arena: &Arena, consts: &C, args: Value) -> u32
+    requires tuple { IsTuple args }
+    requires leads { Leads arena.now.objects args }
+    requires told { IsTold (C.text_of consts.now) (C.items_of consts.now) args }
+    ensures count { result ≡ length (items_in (C.items_of consts.now) arena.now args) }
+    ensures items { items_of_tuple (shown (plain_heap (C.text_of consts.now) (C.items_of consts.now) arena.now) (plain (C.text_of consts.now) (C.items_of consts.now) args)) ≡ map (plain (C.text_of consts.now) (C.items_of consts.now)) (items_in (C.items_of consts.now) arena.now args) }
+{
+    match look_at(arena, consts, args) {
+        Look::Tuple(count) => count,
+        _ => 0,
+    }
+}
+
+/// Writes the text of an exception's arguments.
+fn write_arguments<P: Pen, C: Constants>(arena: &Arena, consts: &C, args: Value, pen: &mut P)
+    requires tuple { IsTuple args }
+    requires leads { Leads arena.now.objects args }
+    requires told { IsTold (C.text_of consts.now) (C.items_of consts.now) args }
+    requires all_told { AllTold (C.text_of consts.now) (C.items_of consts.now) arena.now.objects }
+    ensures { Wrote P.Takes pen.old (arguments_text (plain_heap (C.text_of consts.now) (C.items_of consts.now) arena.now) (items_of_tuple (shown (plain_heap (C.text_of consts.now) (C.items_of consts.now) arena.now) (plain (C.text_of consts.now) (C.items_of consts.now) args)))) pen.new }
+{
+    let count = argument_count(arena, consts, args);
+    if count == 0 {
+        return;
+    }
+    if count == 1 {
+        let only = item_at(arena, consts, args, 0);
+        return write_sole(arena, consts, only, pen);
+    }
+    write(pen, b"...")
+}
+
+/// Writes the name of a kind.
+#[tactic(auto, using(vm_walks::proofs::AsciiNames::kind_ascii))]
+fn write_kind<P: Pen>(pen: &mut P, kind: Kind)
+    ensures { Wrote P.Takes pen.old (kind_name kind) pen.new }
+{
+    write(pen, kind.name().as_bytes())
+}
+
+/// Writes the report of an exception.
+fn write_report<P: Pen, C: Constants>(arena: &Arena, consts: &C, x: ExcNo, pen: &mut P)
+    requires exception { IsA arena.now.objects AnException x.cell }
+    requires all_told { AllTold (C.text_of consts.now) (C.items_of consts.now) arena.now.objects }
+    ensures { Wrote P.Takes pen.old (end_report (plain_heap (C.text_of consts.now) (C.items_of consts.now) arena.now) (Raised x.cell)) pen.new }
+{
+    let (kind, args, file, line, name) = exc_parts(arena, x);
+    write_place(consts, file, line, name, pen);
+    write_kind(pen, kind);
+    write(pen, b": ");
+    write_arguments(arena, consts, args, pen);
+    write(pen, b"\n")
+}
+
+/// Writes the report of an exception to a sink.
+fn print_report<S: Sink, C: Constants>(
+    arena: &Arena,
+    consts: &C,
+    x: ExcNo,
+    printer: &mut Printer<S>,
+)
+    requires exception { IsA arena.now.objects AnException x.cell }
+    requires all_told { AllTold (C.text_of consts.now) (C.items_of consts.now) arena.now.objects }
+    ensures same_reference { printer.new.out.ghost_name ≡ printer.old.out.ghost_name }
+    ensures puts { PutsOn S.told S.count printer.old.failed printer.old.out.now printer.new.out.now printer.new.failed (end_report (plain_heap (C.text_of consts.now) (C.items_of consts.now) arena.now) (Raised x.cell)) }
+{
+    write_report(arena, consts, x, printer)
+}
+
+/// Puts the report of an exception that nothing caught.
+pub fn put_report<S: Sink, C: Constants>(
+    arena: &Arena,
+    consts: &C,
+    x: ExcNo,
+    out: &mut S,
+) -> Result<(), Failed>
+    requires exception { IsA arena.now.objects AnException x.cell }
+    requires all_told { AllTold (C.text_of consts.now) (C.items_of consts.now) arena.now.objects }
+    ensures { Puts S.told S.count out.old out.new (is_err result) (end_report (plain_heap (C.text_of consts.now) (C.items_of consts.now) arena.now) (Raised x.cell)) }
+{
+    let mut printer = Printer::new(out);
+    print_report(arena, consts, x, &mut printer);
+    if printer.failed { Err(Failed) } else { Ok(()) }
+}
