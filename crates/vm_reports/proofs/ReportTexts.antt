@@ -13,7 +13,6 @@ use Rattle.arena_heap.specs.declared.value.ConstNo.{ConstNo}
 use Rattle.arena_heap.specs.declared.value.TextNo.{TextNo}
 use Rattle.arena_heap.specs.Values.{ArenaObject, IsTuple, Leads}
 use Rattle.arena_objects.specs.Iterables.{or_nothing, items_in}
-use Rattle.arena_objects.specs.Keys.{bytes_of}
 use Rattle.py_values.specs.Shown.{PlainHeap, shown, shown_object}
 use Rattle.py_primitives.specs.Texts.{items_of_tuple}
 use Rattle.py_effects.specs.Ends.{Raised, shown_text, sole_text, arguments_text, report_of, end_report}
@@ -21,7 +20,7 @@ use Rattle.vm_walks.specs.declared.look.Look.{Look}
 use Rattle.vm_walks.specs.declared.look.Look.TheVariants as looks
 use Rattle.vm_walks.specs.Looks.{seen}
 use Rattle.vm_walks.specs.Plain.{plain_by, fixed_of, fixed_within, plain, plain_name, plain_object, plain_heap}
-use Rattle.vm_walks.proofs.PlainValues.{object_plain, within_step, text_shown}
+use Rattle.vm_walks.proofs.PlainValues.{object_plain, within_step}
 use Rattle.vm_walks.proofs.LeafTexts.{items_looked}
 use Rattle.vm_reports.specs.Reports.{first_lines}
 
@@ -41,15 +40,7 @@ module _ (texts : StrNo → Option (List ℕ)) (tuples : ConstNo → Option (Lis
   at_object : (n : ℕ) → (IsA heap.objects AText n → ⊥) → sole_text own (At n) ≡ codes "..."
   at_object n ne = ap (λ o. shown_text (shown_object o)) (object_plain texts tuples heap.objects n) ∙ of_object (object heap.objects n) ne
 
-  -- the text of a str
-  pub str_text : (v : Value) (bytes : List ℕ) → Leads heap.objects v → bytes_of texts heap v ≡ Some bytes → sole_text own (plain texts tuples v) ≡ bytes
-  str_text (values.Str s) bytes leads is = ap or_nothing is
-  str_text (values.Text t) bytes leads is =
-      let same : or_nothing (bytes_of texts heap (values.Text t)) ≡ bytes = ap or_nothing is in
-      ap shown_text (text_shown texts tuples heap t.cell leads.meets) ∙ same
-  str_text _ bytes leads is = absurd cc
-
-  -- that of a value that is no None, bool, number or str
+  -- the text of a value that is no None, bool, number or str
   pub other_text : (v : Value) → (v ≡ values.None → ⊥) → ((b : Bool) → v ≡ values.Bool b → ⊥) → ((z : ℤ) → v ≡ values.Int z → ⊥) → ((s : StrNo) → v ≡ values.Str s → ⊥) → ((t : TextNo) → v ≡ values.Text t → ⊥)
       → Leads heap.objects v → sole_text own (plain texts tuples v) ≡ codes "..."
   other_text values.None none bool int str text leads = absurd (none refl)

@@ -140,7 +140,7 @@ fn print_report<S: Sink, C: Constants>(
     write_report(arena, consts, x, printer)
 }
 
-/// Puts the report of an exception that nothing caught.
+/// Puts the report of an exception that nothing caught, piece by piece. It takes no memory.
 pub fn put_report<S: Sink, C: Constants>(
     arena: &Arena,
     consts: &C,

@@ -40,7 +40,7 @@ fn print_no_room<S: Sink>(room: NoRoom, printer: &mut Printer<S>)
     write_no_room(room, printer)
 }
 
-/// Puts the line of a run that ended because a making doesn't fit.
+/// Puts the line of a run that ended because a making doesn't fit, piece by piece. It takes no memory.
 pub fn put_no_room<S: Sink>(room: NoRoom, out: &mut S) -> Result<(), Failed>
     ensures { Puts S.told S.count out.old out.new (is_err result) (spec.room_line room) }
 {
