@@ -42,7 +42,7 @@ some_instr (instrs.Unary op) = omega arith
 some_instr (instrs.Binary op) = omega arith
 
 -- an instruction has a byte
-some_item : (item : Item) → 1 ≤ wide_item item
+pub some_item : (item : Item) → 1 ≤ wide_item item
 some_item (Plain instr) = some_instr instr
 some_item (Names op text) = omega arith
 some_item (Loads value) = omega arith
@@ -53,7 +53,7 @@ no_more : (labels : Labels) (lines : List DraftLine) → length lines ≤ wide_l
 no_more labels [] = omega arith
 no_more labels (line ∷ lines) = let h = no_more labels lines in let k = some_item (item_at labels line.item) in omega (arith, h, k)
 
-not_long : (a b : Bool) (x y : SourceCode) → (if a then Some x else (if b then Some y else None)) ≡ None → a ≡ false
+pub not_long : (a b : Bool) (x y : SourceCode) → (if a then Some x else (if b then Some y else None)) ≡ None → a ≡ false
 not_long true b x y e = cc
 not_long false b x y e = refl
 

@@ -105,12 +105,12 @@ one_fault f g x y =
     let code : f.code ≡ g.code = cc in
     ap₂ (λ a b. record { code = a; line = b; word = f.word }) code (x.line ∙ sym y.line) ∙ ap (λ a. record { code = g.code; line = g.line; word = a }) (x.word ∙ sym y.word)
 
-none_first : {P : Type 0} {sites : List Site} {texts : List Text} {fault : SourceFault} → AllWithin sites texts → FirstFault sites texts fault → P
+pub none_first : {P : Type 0} {sites : List Site} {texts : List Text} {fault : SourceFault} → AllWithin sites texts → FirstFault sites texts fault → P
 none_first no_text k = elim k [ ]
 none_first (one_within h a) (first.here k) = not_both h k
 none_first (one_within h a) (later k b) = none_first a b
 
-one_first : {sites : List Site} {texts : List Text} (f g : SourceFault) → FirstFault sites texts f → FirstFault sites texts g → f ≡ g
+pub one_first : {sites : List Site} {texts : List Text} (f g : SourceFault) → FirstFault sites texts f → FirstFault sites texts g → f ≡ g
 one_first f g (first.here h) (first.here k) = one_fault f g h k
 one_first f g (first.here h) (later k b) = not_both k h
 one_first f g (later h a) (first.here k) = not_both h k

@@ -13,3 +13,4 @@ pub mod Sizes
 pub mod Standing
 pub mod Trees
 pub mod Walking
+pub mod Shallow

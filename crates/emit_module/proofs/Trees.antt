@@ -19,7 +19,7 @@ use Rattle.emit_stmt.specs.Children.{Made, made}
 use Rattle.emit_module.specs.Found.{IsDefined}
 use Rattle.emit_module.specs.Own.{IsWritten, IsJoined}
 use Rattle.emit_module.specs.Joined.{HasChildren}
-use Rattle.emit_module.specs.Module.{AllTakeUndotted}
+use Rattle.emit_names.specs.Texts.{AllTakeUndotted}
 use Rattle.emit_module.specs.Walk.{Forest, size, text_at, Grows, no_code, with_code}
 use Rattle.emit_module.proofs.Plants.{flat, tops, texts_at, length_flat, lists}
 

@@ -1,14 +1,13 @@
 -- The module of a source.
-use Rattle.std.specs.Prelude.{◌≡◌, ℕ, List, [], ◌∷◌}
+use Rattle.std.specs.Prelude.{◌≡◌, ℕ}
 use Rattle.mpy_tree.specs.declared.module.ModuleCode.{ModuleCode}
 use Rattle.mpy_tree.specs.Resolved.{ResolvedModule, IsTreeOf}
 use Rattle.py_tree.specs.declared.stmt.Module.{Module}
 use Rattle.py_scopes.specs.Scopes.{slots_of}
 use Rattle.py_meaning.specs.Tree.{Name}
 use Rattle.py_meaning.specs.Plain.{plain_tree}
-use Rattle.py_meaning.specs.Program.{Source, Text}
+use Rattle.py_meaning.specs.Program.{Source}
 use Rattle.bc_translation.specs.Translation.{Translates}
-use Rattle.emit_counts.specs.Named.{TakesUndotted}
 
 -- the source of a parser's tree, by its stored name
 abbrev pub source_of : (file : Name) (level : ℕ) → Module → Source
@@ -24,10 +23,3 @@ pub record IsTranslated (source : Source) (whole : ModuleCode) : Type 0 where
   pub resolved : ResolvedModule
   pub is : IsResolved whole resolved
   pub translates : Translates source resolved
-
--- ---- what is asked of a source for now
-
--- no text takes a name with a dot from a module
-abbrev pub AllTakeUndotted : List Text → Type 0
-AllTakeUndotted [] = Unit {0}
-AllTakeUndotted (text ∷ texts) = TakesUndotted text.body × AllTakeUndotted texts

@@ -1,10 +1,11 @@
 //! The code of a text is its translation.
 
 ghost use Rattle.std.specs.Prelude.{◌≡◌, ℕ, List, Some, slice_get};
+ghost use Rattle.mpy_base.specs.declared.source.SourceFault.{SourceFault};
 ghost use Rattle.mpy_tree.specs.declared.module.ModuleCode.{ModuleCode};
 ghost use Rattle.mpy_tree.specs.Resolved.{ResolvedModule};
 ghost use Rattle.py_meaning.specs.Tree.{Block, functions};
-ghost use Rattle.py_meaning.specs.Program.{Text};
+ghost use Rattle.py_meaning.specs.Program.{Source, Text};
 ghost use Rattle.bc_machine.specs.Library.{Code, code_of as machine_code};
 ghost use Rattle.bc_translation.specs.Translation.{own, StandsCode};
 ghost use Rattle.emit_draft.specs.declared.draft.Draft.{Draft};
@@ -14,6 +15,7 @@ ghost use Rattle.emit_code.specs.declared.codes.CodeLines.{CodeLines};
 ghost use Rattle.emit_code.specs.Finished.{body_of};
 ghost use Rattle.emit_code.specs.Children.{starts, sizes};
 ghost use Rattle.emit_stmt.specs.Children.{Made, made};
+ghost use Rattle.emit_module.specs.First.{AreWithin, IsFirstFault};
 ghost use Rattle.emit_module.specs.Found.{IsDefined, AllBegin};
 ghost use Rattle.emit_module.specs.Module.{IsResolved};
 ghost use Rattle.emit_module.specs.Own.{IsWritten, IsJoined};
@@ -43,4 +45,10 @@ pub fn functions_law()
 /// A module resolves to one tree.
 pub fn resolved_law()
     ensures { (whole : ModuleCode) (m n : ResolvedModule) → IsResolved whole m → IsResolved whole n → m ≡ n }
+{}
+
+/// A source has one first fault at most, and none where no text of it passes a limit.
+pub fn faults_law()
+    ensures one { (source : Source) (f g : SourceFault) → IsFirstFault source f → IsFirstFault source g → f ≡ g }
+    ensures not_both { (source : Source) (fault : SourceFault) → AreWithin source → IsFirstFault source fault → ⊥ }
 {}

@@ -10,7 +10,7 @@ mod text;
 mod walk;
 
 pub use joined::joined_law;
-pub use laws::{functions_law, resolved_law, stands_law};
+pub use laws::{faults_law, functions_law, resolved_law, stands_law};
 pub use lengths::draft_length_law;
 pub use module::emit;
 pub use own::{OwnCode, Place, own_code};

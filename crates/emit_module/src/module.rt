@@ -2,12 +2,13 @@
 
 ghost use Rattle.std.specs.Prelude.{◌≡◌, [], ◌<◌, ◌^◌, ℕ, List, Err, IfOk, IfErr, ◌⊎◌};
 ghost use Rattle.mpy_base.specs.declared.refused.Refused.TheVariants as refused;
+ghost use Rattle.mpy_base.specs.declared.limits.TheConstants.{MAX_DEPTH};
 ghost use Rattle.mpy_base.specs.declared.source.SourceFault.{SourceFault as Fault};
-ghost use Rattle.py_meaning.specs.Program.{source_texts};
+ghost use Rattle.mpy_writer.specs.Writable.{IsShallow};
 ghost use Rattle.py_source.specs.Source.{IsAccepted};
 ghost use Rattle.emit_stmt.specs.Parts.{plain_block};
 ghost use Rattle.emit_module.specs.First.{AreWithin, IsFirstFault};
-ghost use Rattle.emit_module.specs.Module.{source_of, IsTranslated, AllTakeUndotted};
+ghost use Rattle.emit_module.specs.Module.{source_of, IsTranslated};
 ghost use Rattle.emit_module.specs.Walk.{WalksTop, IsModuleOf};
 
 use crate::joined::joined_law;
@@ -18,8 +19,10 @@ use crate::text::text_code;
 use crate::walk::{Children, emit_defs};
 use emit_code::{CodeHead, code_of, module_scope, numbers_law, tree_law};
 use emit_counts::own_locals_law;
+use emit_names::texts_law;
 use mpy_base::{Items, NoMemory, Refused, SourceFault, Text};
 use mpy_tree::ModuleCode;
+use py_names::undotted_law;
 use py_scopes::NameSlots;
 use py_source::{Accepted, asked_law};
 use py_tree::Stmt;
@@ -76,12 +79,12 @@ pub fn emit(
     file: &[u8],
     accepted: &Accepted,
 ) -> Result<ModuleCode, Refused<SourceFault>>
-    requires accepted { (source : List ℕ) × IsAccepted level source accepted.now }
-    requires undotted { AllTakeUndotted (source_texts file.now (source_of file.now level accepted.now.tree) 0) }
+    requires { (source : List ℕ) × IsAccepted level source accepted.now }
 
-    // The module translates the source, of which no text passes a limit.
+    // The module translates the source, of which no text passes a limit, and its codes nest no deeper than a file's do.
     ensures translates { IfOk result (λ whole. IsTranslated (source_of file.now level accepted.now.tree) whole) }
     ensures within { IfOk result (λ whole. AreWithin (source_of file.now level accepted.now.tree)) }
+    ensures shallow { IfOk result (λ whole. IsShallow MAX_DEPTH whole.code) }
     ensures only { AreWithin (source_of file.now level accepted.now.tree) → IfErr result (λ refusal. refusal ≡ refused.NoMemory) }
 
     // The fault is that of the first text that passes one, and where one does there is no module.
@@ -91,6 +94,8 @@ pub fn emit(
 {
     asked_law();
     own_locals_law();
+    undotted_law();
+    texts_law();
     joined_law();
     draft_length_law();
     numbers_law();
