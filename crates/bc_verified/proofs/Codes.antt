@@ -1,16 +1,22 @@
 -- The codes of a verified tree are verified codes of the machine.
-use Rattle.std.proofs.Common.{◌≡◌, ◌⊎◌, inl, inr, ℕ, zero, suc, ◌+◌, ◌<◌, ◌≤◌, List, [], ◌∷◌, ◌++◌, length, map, Option, Some, None, refl, ap, subst, slice_get, arith, length-append}
+use Rattle.std.proofs.Common.{◌≡◌, ◌⊎◌, inl, inr, ℕ, zero, suc, ◌+◌, ◌<◌, ◌≤◌, List, [], ◌∷◌, ◌++◌, length, map, Option, Some, None, refl, ap, subst, ◌∙◌, slice_get, option_and_then, arith, length-append}
 use Rattle.bc_ops.specs.declared.instr.Op.TheVariants as ops
 use Rattle.bc_ops.specs.declared.instr.Instr.TheVariants as instrs
 use Rattle.bc_flow.specs.Action.{Action}
 use Rattle.bc_flow.specs.Code as flow
 use Rattle.bc_flow.specs.Verified.{Holds as Meets}
-use Rattle.mpy_tree.specs.Resolved.{Resolved, ResolvedLine, Body, instrs_of, Tree, node, Trees, no_more, more, ResolvedModule}
+use Rattle.bc_prelude.specs.declared.prelude.Prelude.{Prelude}
+use Rattle.bc_prelude.specs.Prelude.{Begins}
+use Rattle.mpy_tree.specs.declared.raw.RawCode.{RawCode, out-RawCode}
+use Rattle.mpy_tree.specs.Raw as raw
+use Rattle.mpy_tree.specs.Resolved.{Resolved, ResolvedLine, Body, instrs_of, Tree, node, Trees, no_more, more, ResolvedModule, ResolvesCode, ResolveCodes, Resolves}
+use Rattle.bc_verify.specs.Path.{code_at}
 use Rattle.bc_machine.specs.Library.{Item, Plain, Line, Code, Module, item_of, line_of, locals_of, code_of, size_of, sizes_of, numbers_from, codes_from, codes_of, module_of}
 use Rattle.bc_progress.specs.Plans.{action_of, IsKnown, IsChild, MakesChild, Plan, IsVerifiedCode, IsVerifiedModule}
 use Rattle.bc_verified.specs.Operands.{IsThere}
 use Rattle.bc_verified.specs.Verified.{IsVerifiedBody, count_of, AreVerifiedIn, AreVerifiedAll, IsVerifiedTree}
 use Rattle.bc_verified.specs.Known.{IsKnownBody, AreKnownIn, AreKnownAll, IsKnownTree}
+use Rattle.bc_verified.specs.Rooms.{TakesAtMost, PlanAtMost}
 
 some_is : {A : Type 0} (x y : A) → Some x ≡ Some y → x ≡ y
 some_is x y e = cc
@@ -46,10 +52,32 @@ makes_child count number trees le (Plain (instrs.Num ops.MakeFunction n)) h = ch
 makes_child count number trees le (Plain (instrs.Num ops.MakeFunctionDefargs n)) h = child_in count number trees le n h
 makes_child count number trees le _ h = tt
 
-abbrev HasPlan : ℕ → Code → Type 0
-HasPlan count code = (plan : Plan) × IsVerifiedCode count plan code
+-- a body, the bodies of trees, and plans that take no more slots and entries than these
+abbrev Rooms : Type 1
+Rooms = (n_state n_exc : ℕ) → Type 0
 
-body_plan : (count number : ℕ) (body : Body) (trees : Trees) → number + sizes_of trees ≤ count → IsVerifiedBody (count_of trees) body → IsKnownBody body → HasPlan count (code_of body (numbers_from number trees))
+abbrev of_body : Body → (n_state n_exc : ℕ) → Type 0
+of_body body n_state n_exc = (body.n_state ≤ n_state) × (body.n_exc ≤ n_exc)
+
+abbrev mutual
+  pub of_tree : Tree → (n_state n_exc : ℕ) → Type 0
+  of_tree (node body trees) n_state n_exc = of_body body n_state n_exc × of_trees trees n_state n_exc
+
+  pub of_trees : Trees → (n_state n_exc : ℕ) → Type 0
+  of_trees no_more n_state n_exc = Unit {0}
+  of_trees (more tree trees) n_state n_exc = of_tree tree n_state n_exc × of_trees trees n_state n_exc
+
+abbrev Bounds : Rooms → Plan → Type 0
+Bounds rooms plan = (n_state n_exc : ℕ) → rooms n_state n_exc → (plan.n_state ≤ n_state) × (plan.n_exc ≤ n_exc)
+
+abbrev HasPlan : Rooms → ℕ → Code → Type 0
+HasPlan rooms count code = (plan : Plan) × IsVerifiedCode count plan code × Bounds rooms plan
+
+-- more take no less
+wider : (a b : Rooms) (count : ℕ) (code : Code) → ((n_state n_exc : ℕ) → b n_state n_exc → a n_state n_exc) → HasPlan a count code → HasPlan b count code
+wider a b count code to p = (p.0, p.1, λ n_state n_exc h. p.2 n_state n_exc (to n_state n_exc h))
+
+body_plan : (count number : ℕ) (body : Body) (trees : Trees) → number + sizes_of trees ≤ count → IsVerifiedBody (count_of trees) body → IsKnownBody body → HasPlan (of_body body) count (code_of body (numbers_from number trees))
 body_plan count number body trees le v k =
     let size = length body.lines in (
       record { n_state = body.n_state; n_exc = body.n_exc; assigned = v.flow.0 },
@@ -59,6 +87,7 @@ body_plan count number body trees le v k =
         children = λ p l e. (let r = item_in size body.lines p l e in makes_child count number trees le l.item (subst (IsThere (count_of trees)) r.2 (v.instructions p r.0 r.1).there));
         meets = subst (λ (z : List Action). (let code : flow.Code = record { actions = z; n_state = body.n_state; n_exc = body.n_exc; locals = locals_of (length body.args) (instrs_of body) } in Meets code v.flow.0)) (actions_same size body.lines) v.flow.1;
       },
+      λ n_state n_exc h. h,
     )
 
 -- all codes
@@ -70,17 +99,19 @@ get_in (y ∷ xs) ys zero x e = inl e
 get_in (y ∷ xs) ys (suc n) x e = get_in xs ys n x e
 
 mutual
-  tree_plans : (count number : ℕ) (tree : Tree) → number + size_of tree ≤ count → AreVerifiedIn tree → AreKnownIn tree → (n : ℕ) (code : Code) → slice_get (codes_from number tree) n ≡ Some code → HasPlan count code
+  tree_plans : (count number : ℕ) (tree : Tree) → number + size_of tree ≤ count → AreVerifiedIn tree → AreKnownIn tree → (n : ℕ) (code : Code) → slice_get (codes_from number tree) n ≡ Some code → HasPlan (of_tree tree) count code
   tree_plans count number (node body trees) le v k zero code e =
-      subst (HasPlan count) (some_is (code_of body (numbers_from (suc number) trees)) code e) (body_plan count (suc number) body trees (omega (arith, le)) v.0 k.0)
-  tree_plans count number (node body trees) le v k (suc n) code e = trees_plans count (suc number) trees (omega (arith, le)) v.1 k.1 n code e
+      wider (of_body body) (of_tree (node body trees)) count code (λ n_state n_exc h. h.0)
+      (subst (HasPlan (of_body body) count) (some_is (code_of body (numbers_from (suc number) trees)) code e) (body_plan count (suc number) body trees (omega (arith, le)) v.0 k.0))
+  tree_plans count number (node body trees) le v k (suc n) code e =
+      wider (of_trees trees) (of_tree (node body trees)) count code (λ n_state n_exc h. h.1) (trees_plans count (suc number) trees (omega (arith, le)) v.1 k.1 n code e)
 
-  trees_plans : (count number : ℕ) (trees : Trees) → number + sizes_of trees ≤ count → AreVerifiedAll trees → AreKnownAll trees → (n : ℕ) (code : Code) → slice_get (codes_of number trees) n ≡ Some code → HasPlan count code
+  trees_plans : (count number : ℕ) (trees : Trees) → number + sizes_of trees ≤ count → AreVerifiedAll trees → AreKnownAll trees → (n : ℕ) (code : Code) → slice_get (codes_of number trees) n ≡ Some code → HasPlan (of_trees trees) count code
   trees_plans count number no_more le v k n code e = absurd (cc e)
   trees_plans count number (more tree trees) le v k n code e =
       elim (get_in (codes_from number tree) (codes_of (number + size_of tree) trees) n code e) [
-        | inl a ↦ tree_plans count number tree (omega (arith, le)) v.0 k.0 n code a
-        | inr b ↦ trees_plans count (number + size_of tree) trees (omega (arith, le)) v.1 k.1 (b.0) code (b.1)
+        | inl a ↦ wider (of_tree tree) (of_trees (more tree trees)) count code (λ n_state n_exc h. h.0) (tree_plans count number tree (omega (arith, le)) v.0 k.0 n code a)
+        | inr b ↦ wider (of_trees trees) (of_trees (more tree trees)) count code (λ n_state n_exc h. h.1) (trees_plans count (number + size_of tree) trees (omega (arith, le)) v.1 k.1 (b.0) code (b.1))
       ]
 
 mutual
@@ -96,7 +127,10 @@ mutual
       omega (arith, a, b, c)
 
 -- a plan for each code gives one for the module
-module _ (m : Module) (each : (n : ℕ) (code : Code) → slice_get m.codes n ≡ Some code → HasPlan (length m.codes) code) where
+abbrev pub Planned : Rooms → Module → Type 0
+Planned rooms m = (plans : ℕ → Plan) × IsVerifiedModule plans m × ((n_state n_exc : ℕ) → rooms n_state n_exc → PlanAtMost n_state n_exc plans)
+
+module _ (rooms : Rooms) (m : Module) (each : (n : ℕ) (code : Code) → slice_get m.codes n ≡ Some code → HasPlan rooms (length m.codes) code) where
   plan_in : (n : ℕ) (o : Option Code) → slice_get m.codes n ≡ o → Plan
   plan_in n None e = record { n_state = 0; n_exc = 0; assigned = λ p. None }
   plan_in n (Some code) e = (each n code e).0
@@ -106,11 +140,45 @@ module _ (m : Module) (each : (n : ℕ) (code : Code) → slice_get m.codes n �
   code_in n None e code q = cc
   code_in n (Some own) e code q = subst (IsVerifiedCode (length m.codes) (each n own e).0) (some_is own code q) (each n own e).1
 
-  planned : 0 < length m.codes → (plans : ℕ → Plan) × IsVerifiedModule plans m
-  planned lt = ((λ n. plan_in n (slice_get m.codes n) refl), record { begins = lt; codes = λ n code e. code_in n (slice_get m.codes n) refl code e })
+  room_in : (n : ℕ) (o : Option Code) (e : slice_get m.codes n ≡ o) → Bounds rooms (plan_in n o e)
+  unfolding plan_in
+  room_in n None e n_state n_exc h = (omega arith, omega arith)
+  room_in n (Some own) e n_state n_exc h = (each n own e).2 n_state n_exc h
 
-pub module_planned : (tree : ResolvedModule) → IsVerifiedTree tree → IsKnownTree tree → (plans : ℕ → Plan) × IsVerifiedModule plans (module_of tree)
+  planned : 0 < length m.codes → Planned rooms m
+  planned lt = (
+    (λ n. plan_in n (slice_get m.codes n) refl),
+    record { begins = lt; codes = λ n code e. code_in n (slice_get m.codes n) refl code e },
+    (λ n_state n_exc h n. room_in n (slice_get m.codes n) refl n_state n_exc h),
+  )
+
+pub module_planned : (tree : ResolvedModule) → IsVerifiedTree tree → IsKnownTree tree → Planned (of_tree tree.code) (module_of tree)
 module_planned tree v k =
     let codes = codes_from 0 tree.code in
     let long : length codes ≡ size_of tree.code = tree-length 0 tree.code in
-    planned (module_of tree) (λ n code e. tree_plans (length codes) 0 tree.code (omega (arith, long)) v k n code e) (let s = some_size tree.code in omega (arith, s, long))
+    planned (of_tree tree.code) (module_of tree) (λ n code e. tree_plans (length codes) 0 tree.code (omega (arith, long)) v k n code e) (let s = some_size tree.code in omega (arith, s, long))
+
+-- the trees of a module take what its codes do
+-- =============================================
+
+module _ (m : raw.Module) (n_state n_exc : ℕ) where
+  abbrev Within : RawCode → Type 0
+  Within code = (path : List ℕ) (other : RawCode) (p : Prelude) → code_at path code ≡ Some other → Begins (out-RawCode other).bytes p → (p.n_state ≤ n_state) × (p.n_exc ≤ n_exc)
+
+  mutual
+    tree_takes : (tree : Tree) (code : RawCode) → ResolvesCode m tree code → Within code → of_tree tree n_state n_exc
+    tree_takes (node body trees) code r w =
+        let own = w [] code r.0.prelude refl r.0.begins in
+        ((omega (arith, own.0, r.0.n_state), omega (arith, own.1, r.0.n_exc)), trees_take trees (out-RawCode code).children r.1 (λ n path other p e b. w (n ∷ path) other p e b))
+
+    trees_take : (trees : Trees) (codes : List RawCode) → ResolveCodes m trees codes
+        → ((n : ℕ) (path : List ℕ) (other : RawCode) (p : Prelude) → option_and_then (code_at path) (slice_get codes n) ≡ Some other → Begins (out-RawCode other).bytes p → (p.n_state ≤ n_state) × (p.n_exc ≤ n_exc))
+        → of_trees trees n_state n_exc
+    trees_take no_more codes r w = tt
+    trees_take (more tree trees) codes r w = (
+      tree_takes tree r.0 r.3 (λ path other p e b. w zero path other p (ap (λ z. option_and_then (code_at path) (slice_get z 0)) r.2 ∙ e) b),
+      trees_take trees r.1 r.4 (λ n path other p e b. w (suc n) path other p (ap (λ z. option_and_then (code_at path) (slice_get z (suc n))) r.2 ∙ e) b),
+    )
+
+pub takes : (m : raw.Module) (tree : ResolvedModule) → Resolves m tree → (n_state n_exc : ℕ) → TakesAtMost n_state n_exc m → of_tree tree.code n_state n_exc
+takes m tree r n_state n_exc w = tree_takes m n_state n_exc tree.code m.code r.code w

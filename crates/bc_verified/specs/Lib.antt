@@ -1,3 +1,4 @@
 pub mod Operands
 pub mod Verified
 pub mod Known
+pub mod Rooms

@@ -10,6 +10,7 @@ ghost use Rattle.bc_machine.specs.Library.{module_of};
 ghost use Rattle.bc_progress.specs.Plans.{Plan, IsVerifiedModule};
 ghost use Rattle.bc_verified.specs.Verified.{IsVerifiedTree};
 ghost use Rattle.bc_verified.specs.Known.{IsKnownTree, HasTexts};
+ghost use Rattle.bc_verified.specs.Rooms.{TakesAtMost, PlanAtMost};
 
 /// A module whose tree is verified is.
 pub fn raw_law()
@@ -28,10 +29,13 @@ pub fn file_law()
 {}
 
 /// A verified tree whose instructions are known is a verified module of the machine, and so is what a file holds, where the
-/// verifier accepts it.
+/// verifier accepts it; its plans have no more room than its codes take.
 pub fn module_law()
     ensures trees { (tree : ResolvedModule) → IsVerifiedTree tree → IsKnownTree tree
         → (plans : ℕ → Plan) × IsVerifiedModule plans (module_of tree) }
     ensures files { (m : Module) (tree : ResolvedModule) → IsModule m → Resolves m tree → IsVerified m
         → (plans : ℕ → Plan) × IsVerifiedModule plans (module_of tree) }
+    ensures rooms { (m : Module) (tree : ResolvedModule) → IsModule m → Resolves m tree → IsVerified m
+        → (plans : ℕ → Plan) × IsVerifiedModule plans (module_of tree)
+        × ((n_state n_exc : ℕ) → TakesAtMost n_state n_exc m → PlanAtMost n_state n_exc plans) }
 {}
