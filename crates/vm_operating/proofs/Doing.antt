@@ -1,6 +1,5 @@
 -- What an instruction acts as, from what it does in each program.
-use Rattle.std.proofs.Common.{◌≡◌, ℕ, ◌<◌, ◌≤◌, List, [], ◌∷◌, length, Option, All, Result, Ok, Err, refl, sym, ap, subst, ◌∙◌, arith}
-use Rattle.std.specs.Prelude.{IfSome}
+use Rattle.std.proofs.Common.{◌≡◌, ℕ, List, [], ◌∷◌, length, Option, All, Result, Ok, Err, refl, sym, ap, subst, ◌∙◌, arith}
 use Rattle.std.proofs.lemmas.List.Elements.{All-cons, All-head, All-tail}
 use Rattle.mpy_base.specs.World.{Heap, Objects, Later}
 use Rattle.mpy_base.specs.Val.{PlainWorld}
@@ -13,22 +12,20 @@ use Rattle.bc_offsets.specs.Positions.{Starts, position_in}
 use Rattle.bc_machine.specs.Library.{Item}
 use Rattle.bc_rows.specs.declared.row.Row.{Row}
 use Rattle.vm_faults.specs.declared.stop.Stop.{Stop}
-use Rattle.vm_faults.specs.Faults.{IsKnown}
 use Rattle.vm_frames.specs.declared.slot.Slot.{Slot}
-use Rattle.vm_frames.specs.Calls.{Call, Calls, OfRunning, change_first, on_running}
+use Rattle.vm_frames.specs.Calls.{Call, Calls, change_first, on_running}
 use Rattle.vm_moves.specs.Views.{starts_of}
 use Rattle.vm_step.specs.Shown.{view_of, running_of, step_of, IsAt}
 use Rattle.vm_step.specs.Outcomes.{world_of, Does}
-use Rattle.vm_instructions.specs.Effects.{Layout, tables_of, Steps, JumpSteps, Leaves}
-use Rattle.vm_unwinding.specs.Known.{IsKnownSlot, IsKnownCall}
+use Rattle.vm_instructions.specs.Effects.{Layout, Steps, JumpSteps, Leaves}
 use Rattle.vm_fetching.specs.declared.instruction.Fetched.{Fetched}
 use Rattle.vm_states.specs.Means.{Program, Means}
 use Rattle.vm_states.specs.Ready.{IsReady, item_at}
 use Rattle.vm_states.specs.Running.{IsRunning}
-use Rattle.vm_moving.specs.Moving.{Goes, GoesBehind}
+use Rattle.vm_moving.specs.Moving.{GoesBehind}
 use Rattle.vm_known.specs.State.{IsState}
 use Rattle.vm_known.specs.State as state
-use Rattle.vm_known.specs.Acting.{Tells, Acts, ActsBehind}
+use Rattle.vm_known.specs.Acting.{Tells, ActsBehind}
 use Rattle.vm_operating.specs.Onward.{StartsBehind, DoesBehind, Onward, GoesOnward, Changed}
 
 -- what is of these texts and tuples is of those of the program, and back

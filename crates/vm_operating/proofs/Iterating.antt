@@ -1,5 +1,5 @@
 -- An iterator goes on to its next item, or ends.
-use Rattle.std.proofs.Common.{◌≡◌, ◌⊎◌, inl, inr, ℕ, zero, suc, ◌<◌, ◌≤◌, List, ◌∷◌, length, drop, Option, Some, Result, Ok, All, refl, sym, ap, subst, arith}
+use Rattle.std.proofs.Common.{◌≡◌, ◌⊎◌, inl, inr, ℕ, zero, suc, ◌<◌, ◌≤◌, List, length, drop, Option, Some, Result, Ok, refl, sym, ap, subst, arith}
 use Rattle.std.specs.Prelude.{slice_get}
 use Rattle.std.proofs.lemmas.List.Elements.{All-drop}
 use Rattle.mpy_base.specs.World.{Heap}
@@ -12,12 +12,12 @@ use Rattle.vm_faults.specs.declared.stop.Stop.{Stop}
 use Rattle.vm_faults.specs.Faults.{IsKnown}
 use Rattle.vm_frames.specs.declared.slot.Slot.{Slot}
 use Rattle.vm_frames.specs.declared.slot.Slot.TheVariants as slots
-use Rattle.vm_frames.specs.Calls.{Call, Calls, OfRunning, on_running}
+use Rattle.vm_frames.specs.Calls.{Calls, OfRunning, on_running}
 use Rattle.vm_moves.specs.Views.{View, slots_of}
 use Rattle.vm_standing.specs.OnTop as machine
 use Rattle.vm_tops.specs.Tops as tops
 use Rattle.vm_instructions.specs.Effects.{JumpSteps, Leaves}
-use Rattle.vm_instructions.specs.Slots.{HasIterator, IsIterator, Puts, with_item, without}
+use Rattle.vm_instructions.specs.Slots.{HasIterator, Puts, with_item, without}
 use Rattle.vm_unwinding.specs.Known.{IsKnownSlot}
 use Rattle.vm_unwinding.proofs.Keeping.{value_later}
 use Rattle.vm_fetching.specs.declared.operations.JumpOp.TheVariants as jump_ops
@@ -25,7 +25,7 @@ use Rattle.vm_fetching.specs.declared.instruction.Fetched.{Fetched}
 use Rattle.vm_fetching.specs.declared.instruction.Instruction.TheVariants as fetched
 use Rattle.vm_known.specs.State.{IsKnownSlot as IsKnownSlotOf}
 use Rattle.vm_known.specs.Acting.{RunsOver, ActsBehind}
-use Rattle.vm_operating.specs.Onward.{Onward, GoesOnward}
+use Rattle.vm_operating.specs.Onward.{GoesOnward}
 use Rattle.vm_operating.proofs.Doing.{does_jumps}
 use Rattle.vm_operating.proofs.Ending.{ActsLaw}
 use Rattle.vm_operating.proofs.Finding.{all_at, of_running, first_known, value_known, machine_slots, view, starts, st}

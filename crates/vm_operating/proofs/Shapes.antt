@@ -1,7 +1,7 @@
 -- Shapes in which calls go on.
-use Rattle.std.proofs.Common.{◌≡◌, ℕ, List, [], ◌∷◌, ◌++◌, map, drop, Option, Some, None, All, Result, Ok, Err, ap}
+use Rattle.std.proofs.Common.{◌≡◌, ℕ, List, ◌∷◌, ◌++◌, map, drop, Option, Some, None, All, Result, Ok, Err}
 use Rattle.std.specs.Prelude.{IfSome, slice_set}
-use Rattle.std.proofs.lemmas.List.Elements.{All-cons, All-head, All-tail, All-drop, All-set, All-append, All-map}
+use Rattle.std.proofs.lemmas.List.Elements.{All-cons, All-drop, All-set, All-append, All-map}
 use Rattle.mpy_base.specs.World.{Objects}
 use Rattle.arena_heap.specs.declared.value.Value.{Value}
 use Rattle.arena_heap.specs.declared.value.Value.TheVariants as values
@@ -15,7 +15,7 @@ use Rattle.vm_names.specs.Looks.{IsKnownLook}
 use Rattle.vm_frames.specs.declared.slot.Slot.{Slot}
 use Rattle.vm_frames.specs.declared.slot.Slot.TheVariants as slots
 use Rattle.vm_frames.specs.Calls.{Call, Calls, on_running}
-use Rattle.vm_instructions.specs.Slots.{with_value, without, with_empty, looked_over, with_looked, iterator_over, with_iterator, with_item, with_values, Changes, Puts, PutsLooked, PutsValues}
+use Rattle.vm_instructions.specs.Slots.{with_value, without, with_empty, looked_over, iterator_over, with_iterator, with_item, Changes, Puts, PutsLooked, PutsValues}
 use Rattle.vm_unwinding.specs.Known.{IsKnownSlot}
 use Rattle.vm_operating.specs.Onward.{Onward, GoesOnward}
 

@@ -1,5 +1,5 @@
 -- The running call stays known where frames alone move.
-use Rattle.std.proofs.Common.{◌≡◌, ℕ, List, [], ◌∷◌, drop, Bool, true, false, Option, Some, None, All}
+use Rattle.std.proofs.Common.{◌≡◌, ℕ, List, [], ◌∷◌, drop, Bool, true, false, Option, Some, All}
 use Rattle.std.specs.Prelude.{IfSome, slice_set}
 use Rattle.std.proofs.lemmas.List.Elements.{All-cons, All-head, All-tail, All-drop, All-set}
 use Rattle.mpy_base.specs.World.{Objects}
@@ -10,11 +10,10 @@ use Rattle.arena_heap.specs.declared.value.ConstNo.{ConstNo}
 use Rattle.vm_faults.specs.Faults.{IsKnown}
 use Rattle.vm_frames.specs.declared.slot.Slot.{Slot}
 use Rattle.vm_frames.specs.declared.slot.Slot.TheVariants as slots
-use Rattle.vm_frames.specs.declared.slot.Entry.{Entry}
 use Rattle.vm_frames.specs.Calls.{Call, Calls, on_running}
 use Rattle.vm_frames.specs.Moves.{jumped as jumped_by}
 use Rattle.vm_step.specs.Stacks.{gone, doubled, doubled_two, turned_two, turned_three, entry_over, set_up}
-use Rattle.vm_unwinding.specs.Known.{IsKnownSlot, IsKnownCall, KeepsException}
+use Rattle.vm_unwinding.specs.Known.{IsKnownSlot, KeepsException}
 use Rattle.vm_unwinding.proofs.Finishes.{jumped_known}
 use Rattle.vm_fetching.specs.declared.operations.PlainOp.{PlainOp}
 use Rattle.vm_fetching.specs.declared.operations.PlainOp.TheVariants as plain_ops

@@ -1,5 +1,5 @@
 -- Jumps that test the top value find one, and go on at one of two offsets.
-use Rattle.std.proofs.Common.{◌≡◌, ℕ, ◌<◌, ◌≤◌, List, [], ◌∷◌, length, drop, Bool, true, false, not, Option, Ok, All, refl, sym, subst, ◌∙◌, arith, if◌then◌else◌}
+use Rattle.std.proofs.Common.{◌≡◌, ℕ, List, drop, Bool, true, false, Option, Ok, arith}
 use Rattle.std.proofs.lemmas.List.Elements.{All-drop}
 use Rattle.mpy_base.specs.World.{Heap, Objects}
 use Rattle.mpy_base.specs.Val.{PlainWorld}
@@ -11,7 +11,7 @@ use Rattle.bc_machine.specs.Library.{Code, Library, Jumps}
 use Rattle.bc_machine.specs.State.{Frame}
 use Rattle.bc_progress.specs.Plans.{Plan}
 use Rattle.vm_frames.specs.declared.slot.Slot.{Slot}
-use Rattle.vm_frames.specs.Calls.{Call, Calls, OfRunning, on_running}
+use Rattle.vm_frames.specs.Calls.{Calls, on_running}
 use Rattle.vm_moves.specs.Views.{starts_of}
 use Rattle.vm_step.specs.Shown.{Tables, view_of, IsAt, IsNext, Tests}
 use Rattle.vm_step.specs.Shown as step
@@ -25,8 +25,6 @@ use Rattle.vm_fetching.specs.declared.operations.JumpOp.{JumpOp}
 use Rattle.vm_fetching.specs.declared.operations.JumpOp.TheVariants as jump_ops
 use Rattle.vm_fetching.specs.declared.instruction.Fetched.{Fetched}
 use Rattle.vm_fetching.specs.declared.instruction.Instruction.TheVariants as fetched
-use Rattle.vm_states.specs.Means.{Program}
-use Rattle.vm_states.specs.Ready.{IsReady}
 use Rattle.vm_operating.specs.Onward.{StartsBehind, DoesBehind, Onward}
 use Rattle.vm_operating.specs.Tests.{IsTest, tested}
 use Rattle.vm_operating.proofs.Doing.{of_program, layout_of, at_first}
