@@ -1,0 +1,11 @@
+mod Collecting
+mod Doing
+mod Ending
+mod Finding
+mod Iterating
+mod Lacking
+mod Naming
+mod Shapes
+mod Shifting
+mod Testing
+mod Visiting

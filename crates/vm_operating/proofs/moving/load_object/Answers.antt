@@ -1,0 +1,20 @@
+use Rattle.vm_fetching.specs.declared.instruction.Instruction.TheVariants as fetched
+use Rattle.vm_frames.specs.declared.slot.Slot.TheVariants as slots
+use Rattle.vm_operating.proofs.Finding as finding
+use Rattle.vm_operating.proofs.Shifting as shifting
+use Rattle.vm_operating.proofs.moving.load_object.Goals as goal
+
+pub load_constant-requires : goal.load_constant-requires
+load_constant-requires g c = record { runs = finding.runs c.requires.runs }
+
+pub returns : goal.returns
+returns g c =
+    let texts = g.C.Constants.text_of c.args._consts.now in
+    let tuples = g.C.Constants.items_of c.args._consts.now in
+    let heap = c.args._arena.now in
+    let old = c.args.frames.now in
+    let new = c.load_constant.new.frames in
+    record {
+      acts = c.acting_law.ensures.moves texts tuples (record { instruction = fetched.Object c.args.v; end = c.args.end }) heap old new c.load_constant.ensures.goes
+          (shifting.pushed texts tuples heap.objects old new c.args.end (slots.Value c.args.v) c.requires.known c.load_constant.ensures.moved);
+    }

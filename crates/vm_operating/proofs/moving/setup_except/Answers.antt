@@ -1,0 +1,21 @@
+use Rattle.std.proofs.Common.{false}
+use Rattle.vm_fetching.specs.declared.instruction.Instruction.TheVariants as fetched
+use Rattle.vm_fetching.specs.declared.operations.JumpOp.TheVariants as jump_ops
+use Rattle.vm_operating.proofs.Finding as finding
+use Rattle.vm_operating.proofs.Shifting as shifting
+use Rattle.vm_operating.proofs.moving.setup_except.Goals as goal
+
+pub begin_except-requires : goal.begin_except-requires
+begin_except-requires g c = record { runs = finding.runs c.requires.runs }
+
+pub returns : goal.returns
+returns g c =
+    let texts = g.C.Constants.text_of c.args._consts.now in
+    let tuples = g.C.Constants.items_of c.args._consts.now in
+    let heap = c.args._arena.now in
+    let old = c.args.frames.now in
+    let new = c.begin_except.new.frames in
+    record {
+      acts = c.acting_law.ensures.moves texts tuples (record { instruction = fetched.Jump jump_ops.SetupExcept c.args.handler; end = c.args.end }) heap old new c.begin_except.ensures.goes
+          (shifting.set_up_on texts tuples heap.objects old new c.args.end c.args.handler false c.begin_except.ensures.moved);
+    }

@@ -1,0 +1,6 @@
+pub mod Named
+pub mod Onward
+pub mod Operands
+pub mod Operations
+pub mod Operators
+pub mod Tests

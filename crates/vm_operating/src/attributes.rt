@@ -1,0 +1,80 @@
+//! Attributes. Each module of the heap has its namespace.
+
+ghost use Rattle.vm_fetching.specs.declared.instruction.Instruction.TheVariants as fetched;
+ghost use Rattle.vm_fetching.specs.declared.operations.NameOp.TheVariants as name_ops;
+ghost use Rattle.vm_known.specs.Acting.{RunsOver, ActsBehind};
+ghost use Rattle.vm_operating.specs.Named.{AllNamed};
+
+use crate::law::acting_law;
+use arena_heap::{Arena, Constants, StrNo};
+use vm_faults::Stop;
+use vm_frames::Frames;
+use vm_tops::tops_law;
+
+/// LOAD_ATTR.
+pub(crate) fn load_attr<C: Constants>(
+    frames: &mut Frames,
+    arena: &mut Arena,
+    consts: &C,
+    name: StrNo,
+    end: u32,
+) -> Result<(), Stop>
+    requires runs { RunsOver (C.text_of consts.now) (C.items_of consts.now) arena.old frames.old (record { instruction = fetched.Name name_ops.LoadAttr name; end = end }) }
+    requires named { AllNamed arena.old.objects }
+    ensures acts { ActsBehind (C.text_of consts.now) (C.items_of consts.now) (record { instruction = fetched.Name name_ops.LoadAttr name; end = end }) 0 arena.old arena.new frames.old frames.new result }
+{
+    acting_law();
+    tops_law();
+    vm_instructions::load_attr(frames, arena, consts, name, end)
+}
+
+/// LOAD_METHOD.
+pub(crate) fn load_method<C: Constants>(
+    frames: &mut Frames,
+    arena: &Arena,
+    consts: &C,
+    name: StrNo,
+    end: u32,
+) -> Result<(), Stop>
+    requires runs { RunsOver (C.text_of consts.now) (C.items_of consts.now) arena.now frames.old (record { instruction = fetched.Name name_ops.LoadMethod name; end = end }) }
+    requires named { AllNamed arena.now.objects }
+    ensures acts { ActsBehind (C.text_of consts.now) (C.items_of consts.now) (record { instruction = fetched.Name name_ops.LoadMethod name; end = end }) 0 arena.now arena.now frames.old frames.new result }
+{
+    acting_law();
+    tops_law();
+    vm_instructions::load_method(frames, arena, consts, name, end)
+}
+
+/// STORE_ATTR.
+pub(crate) fn store_attr<C: Constants>(
+    frames: &mut Frames,
+    arena: &mut Arena,
+    consts: &C,
+    name: StrNo,
+    end: u32,
+) -> Result<(), Stop>
+    requires runs { RunsOver (C.text_of consts.now) (C.items_of consts.now) arena.old frames.old (record { instruction = fetched.Name name_ops.StoreAttr name; end = end }) }
+    requires named { AllNamed arena.old.objects }
+    ensures acts { ActsBehind (C.text_of consts.now) (C.items_of consts.now) (record { instruction = fetched.Name name_ops.StoreAttr name; end = end }) 0 arena.old arena.new frames.old frames.new result }
+{
+    acting_law();
+    tops_law();
+    vm_instructions::store_attr(frames, arena, consts, name, end)
+}
+
+/// IMPORT_FROM.
+pub(crate) fn import_from<C: Constants>(
+    frames: &mut Frames,
+    arena: &mut Arena,
+    consts: &C,
+    name: StrNo,
+    end: u32,
+) -> Result<(), Stop>
+    requires runs { RunsOver (C.text_of consts.now) (C.items_of consts.now) arena.old frames.old (record { instruction = fetched.Name name_ops.ImportFrom name; end = end }) }
+    requires named { AllNamed arena.old.objects }
+    ensures acts { ActsBehind (C.text_of consts.now) (C.items_of consts.now) (record { instruction = fetched.Name name_ops.ImportFrom name; end = end }) 0 arena.old arena.new frames.old frames.new result }
+{
+    acting_law();
+    tops_law();
+    vm_instructions::import_from(frames, arena, consts, name, end)
+}

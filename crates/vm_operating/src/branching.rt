@@ -1,0 +1,60 @@
+//! Jumps that test the top value.
+
+ghost use Rattle.std.specs.Prelude.{◌≡◌, ◌<◌, ℕ, length};
+ghost use Rattle.mpy_base.specs.Val.{PlainWorld};
+ghost use Rattle.bc_machine.specs.Library.{Jumps};
+ghost use Rattle.vm_frames.specs.Calls.{OfRunning, on_running};
+ghost use Rattle.vm_step.specs.Shown.{Tables, Steps, IsNext, IsAt, Tests};
+ghost use Rattle.vm_fetching.specs.Operations.{jump_op};
+ghost use Rattle.vm_fetching.specs.declared.instruction.Instruction.TheVariants as fetched;
+ghost use Rattle.vm_known.specs.Acting.{RunsOver, ActsBehind};
+ghost use Rattle.vm_operating.specs.Tests.{IsTest, tested};
+
+use crate::law::acting_law;
+use arena_heap::{Arena, Constants};
+use vm_faults::Stop;
+use vm_fetching::JumpOp;
+use vm_frames::Frames;
+use vm_instructions::top_truth;
+use vm_step::{jump_if_false_or_pop, jump_if_true_or_pop, pop_jump_if_false, pop_jump_if_true};
+use vm_tops::tops_law;
+
+/// The jump, where the truth of the top value is given.
+fn jump_by(frames: &mut Frames, op: JumpOp, truth: bool, target: u32, end: u32)
+    requires test { IsTest op }
+    requires there { OfRunning (λ c. 0 < length c.slots) frames.old.calls }
+    ensures steps { (tables : Tables) (w : PlainWorld) (position : ℕ) → IsAt tables target position frames.old.calls → IsNext tables end frames.old.calls → Tests tables w truth frames.old.calls → Steps tables w (Jumps (jump_op op) position) frames.old.calls frames.new.calls }
+    ensures moved { frames.new ≡ on_running (tested op truth target end) frames.old }
+{
+    match op {
+        JumpOp::PopJumpIfTrue => pop_jump_if_true(frames, truth, target, end),
+        JumpOp::PopJumpIfFalse => pop_jump_if_false(frames, truth, target, end),
+        JumpOp::JumpIfTrueOrPop => jump_if_true_or_pop(frames, truth, target, end),
+        JumpOp::JumpIfFalseOrPop => jump_if_false_or_pop(frames, truth, target, end),
+        JumpOp::Jump
+        | JumpOp::SetupExcept
+        | JumpOp::SetupFinally
+        | JumpOp::PopExceptJump
+        | JumpOp::ForIter => unreachable!(),
+    }
+}
+
+/// POP_JUMP_IF_TRUE, POP_JUMP_IF_FALSE, JUMP_IF_TRUE_OR_POP and JUMP_IF_FALSE_OR_POP.
+pub(crate) fn test_jump<C: Constants>(
+    frames: &mut Frames,
+    arena: &Arena,
+    consts: &C,
+    op: JumpOp,
+    target: u32,
+    end: u32,
+) -> Result<(), Stop>
+    requires test { IsTest op }
+    requires runs { RunsOver (C.text_of consts.now) (C.items_of consts.now) arena.now frames.old (record { instruction = fetched.Jump op target; end = end }) }
+    ensures acts { ActsBehind (C.text_of consts.now) (C.items_of consts.now) (record { instruction = fetched.Jump op target; end = end }) 0 arena.now arena.now frames.old frames.new result }
+{
+    acting_law();
+    tops_law();
+    let truth = top_truth(frames, arena, consts);
+    jump_by(frames, op, truth, target, end);
+    Ok(())
+}

@@ -1,0 +1,84 @@
+//! Displays, and sequences that are unpacked. Values are on their way in memory that the caller lends, a place for each.
+
+ghost use Rattle.std.specs.Prelude.{◌≡◌, length};
+ghost use Rattle.vm_fetching.specs.declared.instruction.Instruction.TheVariants as fetched;
+ghost use Rattle.vm_fetching.specs.declared.operations.NumberOp.TheVariants as number_ops;
+ghost use Rattle.vm_known.specs.Acting.{RunsOver, ActsBehind};
+
+use crate::law::acting_law;
+use arena_heap::{Arena, Constants, Value};
+use vm_faults::Stop;
+use vm_frames::Frames;
+use vm_tops::tops_law;
+
+/// BUILD_TUPLE, where a place is lent for each item.
+pub(crate) fn build_tuple<C: Constants>(
+    frames: &mut Frames,
+    arena: &mut Arena,
+    consts: &C,
+    items: &mut [Value],
+    n: u32,
+    end: u32,
+) -> Result<(), Stop>
+    requires places { length items.old ≡ n }
+    requires runs { RunsOver (C.text_of consts.now) (C.items_of consts.now) arena.old frames.old (record { instruction = fetched.Number number_ops.BuildTuple n; end = end }) }
+    ensures acts { ActsBehind (C.text_of consts.now) (C.items_of consts.now) (record { instruction = fetched.Number number_ops.BuildTuple n; end = end }) 0 arena.old arena.new frames.old frames.new result }
+{
+    acting_law();
+    tops_law();
+    let _ = n;
+    vm_instructions::build_tuple(frames, arena, consts, items, end)
+}
+
+/// BUILD_LIST, where a place is lent for each item.
+pub(crate) fn build_list<C: Constants>(
+    frames: &mut Frames,
+    arena: &mut Arena,
+    consts: &C,
+    items: &mut [Value],
+    n: u32,
+    end: u32,
+) -> Result<(), Stop>
+    requires places { length items.old ≡ n }
+    requires runs { RunsOver (C.text_of consts.now) (C.items_of consts.now) arena.old frames.old (record { instruction = fetched.Number number_ops.BuildList n; end = end }) }
+    ensures acts { ActsBehind (C.text_of consts.now) (C.items_of consts.now) (record { instruction = fetched.Number number_ops.BuildList n; end = end }) 0 arena.old arena.new frames.old frames.new result }
+{
+    acting_law();
+    tops_law();
+    let _ = n;
+    vm_instructions::build_list(frames, arena, consts, items, end)
+}
+
+/// BUILD_MAP, with room for a number of pairs.
+pub(crate) fn build_map<C: Constants>(
+    frames: &mut Frames,
+    arena: &mut Arena,
+    consts: &C,
+    pairs: u32,
+    end: u32,
+) -> Result<(), Stop>
+    requires runs { RunsOver (C.text_of consts.now) (C.items_of consts.now) arena.old frames.old (record { instruction = fetched.Number number_ops.BuildMap pairs; end = end }) }
+    ensures acts { ActsBehind (C.text_of consts.now) (C.items_of consts.now) (record { instruction = fetched.Number number_ops.BuildMap pairs; end = end }) 0 arena.old arena.new frames.old frames.new result }
+{
+    acting_law();
+    vm_instructions::build_map(frames, arena, consts, pairs, end)
+}
+
+/// UNPACK_SEQUENCE, where a place is lent for each item.
+pub(crate) fn unpack_sequence<C: Constants>(
+    frames: &mut Frames,
+    arena: &mut Arena,
+    consts: &C,
+    items: &mut [Value],
+    n: u32,
+    end: u32,
+) -> Result<(), Stop>
+    requires places { length items.old ≡ n }
+    requires runs { RunsOver (C.text_of consts.now) (C.items_of consts.now) arena.old frames.old (record { instruction = fetched.Number number_ops.UnpackSequence n; end = end }) }
+    ensures acts { ActsBehind (C.text_of consts.now) (C.items_of consts.now) (record { instruction = fetched.Number number_ops.UnpackSequence n; end = end }) 0 arena.old arena.new frames.old frames.new result }
+{
+    acting_law();
+    tops_law();
+    let _ = n;
+    vm_instructions::unpack_sequence(frames, arena, consts, items, end)
+}

@@ -1,0 +1,44 @@
+//! Iterators.
+
+ghost use Rattle.vm_fetching.specs.declared.instruction.Instruction.TheVariants as fetched;
+ghost use Rattle.vm_fetching.specs.declared.operations.JumpOp.TheVariants as jump_ops;
+ghost use Rattle.vm_fetching.specs.declared.operations.PlainOp.TheVariants as plain_ops;
+ghost use Rattle.vm_moving.specs.Moving.{fetched_plain};
+ghost use Rattle.vm_known.specs.Acting.{RunsOver, ActsBehind};
+
+use crate::law::acting_law;
+use arena_heap::{Arena, Constants};
+use vm_faults::Stop;
+use vm_frames::Frames;
+use vm_tops::tops_law;
+
+/// GET_ITER_STACK.
+pub(crate) fn get_iter_stack<C: Constants>(
+    frames: &mut Frames,
+    arena: &Arena,
+    consts: &C,
+    end: u32,
+) -> Result<(), Stop>
+    requires runs { RunsOver (C.text_of consts.now) (C.items_of consts.now) arena.now frames.old (fetched_plain plain_ops.GetIterStack end) }
+    ensures acts { ActsBehind (C.text_of consts.now) (C.items_of consts.now) (fetched_plain plain_ops.GetIterStack end) 0 arena.now arena.now frames.old frames.new result }
+{
+    acting_law();
+    tops_law();
+    vm_instructions::get_iter_stack(frames, arena, consts, end)
+}
+
+/// FOR_ITER.
+pub(crate) fn for_iter<C: Constants>(
+    frames: &mut Frames,
+    arena: &mut Arena,
+    consts: &C,
+    target: u32,
+    end: u32,
+) -> Result<(), Stop>
+    requires runs { RunsOver (C.text_of consts.now) (C.items_of consts.now) arena.old frames.old (record { instruction = fetched.Jump jump_ops.ForIter target; end = end }) }
+    ensures acts { ActsBehind (C.text_of consts.now) (C.items_of consts.now) (record { instruction = fetched.Jump jump_ops.ForIter target; end = end }) 0 arena.old arena.new frames.old frames.new result }
+{
+    acting_law();
+    tops_law();
+    vm_instructions::for_iter(frames, arena, consts, target, end)
+}

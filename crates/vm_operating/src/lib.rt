@@ -1,0 +1,18 @@
+//! Instructions of a program that runs over an arena, from what was fetched to the calls and the heap behind.
+#![tactic(auto)]
+
+mod attributes;
+mod branching;
+mod displays;
+mod iterators;
+mod law;
+mod locals;
+mod moving;
+mod names;
+mod operating;
+mod operators;
+mod subscripts;
+
+pub use moving::{load_int, load_object, unwind_jump};
+pub use operating::{attribute_on, jump_to, name_on, number_on, plain_on};
+pub use operators::{binary_op, unary_op, visits_binary_op};

@@ -1,0 +1,55 @@
+//! Locals.
+
+ghost use Rattle.vm_fetching.specs.declared.instruction.Instruction.TheVariants as fetched;
+ghost use Rattle.vm_fetching.specs.declared.operations.NumberOp.TheVariants as number_ops;
+ghost use Rattle.vm_known.specs.Acting.{RunsOver, ActsBehind};
+
+use crate::law::acting_law;
+use arena_heap::{Arena, Constants};
+use vm_faults::Stop;
+use vm_frames::Frames;
+
+/// LOAD_FAST in one byte.
+pub(crate) fn load_fast<C: Constants>(
+    frames: &mut Frames,
+    arena: &Arena,
+    consts: &C,
+    n: u32,
+    end: u32,
+) -> Result<(), Stop>
+    requires runs { RunsOver (C.text_of consts.now) (C.items_of consts.now) arena.now frames.old (record { instruction = fetched.Number number_ops.LoadFast n; end = end }) }
+    ensures acts { ActsBehind (C.text_of consts.now) (C.items_of consts.now) (record { instruction = fetched.Number number_ops.LoadFast n; end = end }) 0 arena.now arena.now frames.old frames.new result }
+{
+    acting_law();
+    vm_instructions::load_fast(frames, arena, consts, n, end)
+}
+
+/// LOAD_FAST in more bytes.
+pub(crate) fn load_fast_n<C: Constants>(
+    frames: &mut Frames,
+    arena: &Arena,
+    consts: &C,
+    n: u32,
+    end: u32,
+) -> Result<(), Stop>
+    requires runs { RunsOver (C.text_of consts.now) (C.items_of consts.now) arena.now frames.old (record { instruction = fetched.Number number_ops.LoadFastN n; end = end }) }
+    ensures acts { ActsBehind (C.text_of consts.now) (C.items_of consts.now) (record { instruction = fetched.Number number_ops.LoadFastN n; end = end }) 0 arena.now arena.now frames.old frames.new result }
+{
+    acting_law();
+    vm_instructions::load_fast(frames, arena, consts, n, end)
+}
+
+/// DELETE_FAST.
+pub(crate) fn delete_fast<C: Constants>(
+    frames: &mut Frames,
+    arena: &Arena,
+    consts: &C,
+    n: u32,
+    end: u32,
+) -> Result<(), Stop>
+    requires runs { RunsOver (C.text_of consts.now) (C.items_of consts.now) arena.now frames.old (record { instruction = fetched.Number number_ops.DeleteFast n; end = end }) }
+    ensures acts { ActsBehind (C.text_of consts.now) (C.items_of consts.now) (record { instruction = fetched.Number number_ops.DeleteFast n; end = end }) 0 arena.now arena.now frames.old frames.new result }
+{
+    acting_law();
+    vm_instructions::delete_fast(frames, arena, consts, n, end)
+}

@@ -1,0 +1,203 @@
+//! Instructions that move frames alone, over an arena that stays.
+
+ghost use Rattle.arena_heap.specs.declared.value.Value.TheVariants as values;
+ghost use Rattle.vm_faults.specs.Faults.{IsKnown};
+ghost use Rattle.vm_fetching.specs.declared.instruction.Instruction.TheVariants as fetched;
+ghost use Rattle.vm_fetching.specs.declared.operations.JumpOp.TheVariants as jump_ops;
+ghost use Rattle.vm_fetching.specs.declared.operations.NameOp.TheVariants as name_ops;
+ghost use Rattle.vm_fetching.specs.declared.operations.NumberOp.TheVariants as number_ops;
+ghost use Rattle.vm_moving.specs.Moving.{MovesSlots, fetched_plain};
+ghost use Rattle.vm_known.specs.Acting.{RunsOver, ActsBehind};
+
+use crate::law::acting_law;
+use arena_heap::{Arena, Constants, StrNo, Value};
+use vm_faults::Stop;
+use vm_fetching::{NumberOp, PlainOp};
+use vm_frames::Frames;
+use vm_moving::{
+    begin_except, begin_finally, end_except, jump_on, jump_out, load_constant, load_small,
+    load_str, move_slots, store_local,
+};
+use vm_tops::tops_law;
+
+/// An operation that moves slots alone.
+pub(crate) fn move_on<C: Constants>(
+    frames: &mut Frames,
+    _arena: &Arena,
+    _consts: &C,
+    op: PlainOp,
+    end: u32,
+) -> Result<(), Stop>
+    requires moves { MovesSlots op }
+    requires runs { RunsOver (C.text_of _consts.now) (C.items_of _consts.now) _arena.now frames.old (fetched_plain op end) }
+    ensures acts { ActsBehind (C.text_of _consts.now) (C.items_of _consts.now) (fetched_plain op end) 0 _arena.now _arena.now frames.old frames.new result }
+{
+    acting_law();
+    move_slots(frames, op, end);
+    Ok(())
+}
+
+/// STORE_FAST in one byte.
+pub(crate) fn store_fast<C: Constants>(
+    frames: &mut Frames,
+    _arena: &Arena,
+    _consts: &C,
+    n: u32,
+    end: u32,
+) -> Result<(), Stop>
+    requires runs { RunsOver (C.text_of _consts.now) (C.items_of _consts.now) _arena.now frames.old (record { instruction = fetched.Number number_ops.StoreFast n; end = end }) }
+    ensures acts { ActsBehind (C.text_of _consts.now) (C.items_of _consts.now) (record { instruction = fetched.Number number_ops.StoreFast n; end = end }) 0 _arena.now _arena.now frames.old frames.new result }
+{
+    acting_law();
+    tops_law();
+    store_local(frames, NumberOp::StoreFast, n, end);
+    Ok(())
+}
+
+/// STORE_FAST in more bytes.
+pub(crate) fn store_fast_n<C: Constants>(
+    frames: &mut Frames,
+    _arena: &Arena,
+    _consts: &C,
+    n: u32,
+    end: u32,
+) -> Result<(), Stop>
+    requires runs { RunsOver (C.text_of _consts.now) (C.items_of _consts.now) _arena.now frames.old (record { instruction = fetched.Number number_ops.StoreFastN n; end = end }) }
+    ensures acts { ActsBehind (C.text_of _consts.now) (C.items_of _consts.now) (record { instruction = fetched.Number number_ops.StoreFastN n; end = end }) 0 _arena.now _arena.now frames.old frames.new result }
+{
+    acting_law();
+    tops_law();
+    store_local(frames, NumberOp::StoreFastN, n, end);
+    Ok(())
+}
+
+/// A small integer, which is known.
+pub fn load_int<C: Constants>(
+    frames: &mut Frames,
+    _arena: &Arena,
+    _consts: &C,
+    n: i32,
+    end: u32,
+) -> Result<(), Stop>
+    requires known { IsKnown (C.text_of _consts.now) (C.items_of _consts.now) _arena.now.objects (values.Int n) }
+    requires runs { RunsOver (C.text_of _consts.now) (C.items_of _consts.now) _arena.now frames.old (record { instruction = fetched.Int n; end = end }) }
+    ensures acts { ActsBehind (C.text_of _consts.now) (C.items_of _consts.now) (record { instruction = fetched.Int n; end = end }) 0 _arena.now _arena.now frames.old frames.new result }
+{
+    acting_law();
+    load_small(frames, n, end);
+    Ok(())
+}
+
+/// A constant text.
+pub(crate) fn load_text<C: Constants>(
+    frames: &mut Frames,
+    _arena: &Arena,
+    _consts: &C,
+    text: StrNo,
+    end: u32,
+) -> Result<(), Stop>
+    requires runs { RunsOver (C.text_of _consts.now) (C.items_of _consts.now) _arena.now frames.old (record { instruction = fetched.Name name_ops.LoadConstString text; end = end }) }
+    ensures acts { ActsBehind (C.text_of _consts.now) (C.items_of _consts.now) (record { instruction = fetched.Name name_ops.LoadConstString text; end = end }) 0 _arena.now _arena.now frames.old frames.new result }
+{
+    acting_law();
+    load_str(frames, text, end);
+    Ok(())
+}
+
+/// A constant of the module, which is known.
+pub fn load_object<C: Constants>(
+    frames: &mut Frames,
+    _arena: &Arena,
+    _consts: &C,
+    v: Value,
+    end: u32,
+) -> Result<(), Stop>
+    requires known { IsKnown (C.text_of _consts.now) (C.items_of _consts.now) _arena.now.objects v }
+    requires runs { RunsOver (C.text_of _consts.now) (C.items_of _consts.now) _arena.now frames.old (record { instruction = fetched.Object v; end = end }) }
+    ensures acts { ActsBehind (C.text_of _consts.now) (C.items_of _consts.now) (record { instruction = fetched.Object v; end = end }) 0 _arena.now _arena.now frames.old frames.new result }
+{
+    acting_law();
+    load_constant(frames, v, end);
+    Ok(())
+}
+
+/// JUMP.
+pub(crate) fn jump<C: Constants>(
+    frames: &mut Frames,
+    _arena: &Arena,
+    _consts: &C,
+    target: u32,
+    end: u32,
+) -> Result<(), Stop>
+    requires runs { RunsOver (C.text_of _consts.now) (C.items_of _consts.now) _arena.now frames.old (record { instruction = fetched.Jump jump_ops.Jump target; end = end }) }
+    ensures acts { ActsBehind (C.text_of _consts.now) (C.items_of _consts.now) (record { instruction = fetched.Jump jump_ops.Jump target; end = end }) 0 _arena.now _arena.now frames.old frames.new result }
+{
+    acting_law();
+    jump_on(frames, target, end);
+    Ok(())
+}
+
+/// SETUP_EXCEPT.
+pub(crate) fn setup_except<C: Constants>(
+    frames: &mut Frames,
+    _arena: &Arena,
+    _consts: &C,
+    handler: u32,
+    end: u32,
+) -> Result<(), Stop>
+    requires runs { RunsOver (C.text_of _consts.now) (C.items_of _consts.now) _arena.now frames.old (record { instruction = fetched.Jump jump_ops.SetupExcept handler; end = end }) }
+    ensures acts { ActsBehind (C.text_of _consts.now) (C.items_of _consts.now) (record { instruction = fetched.Jump jump_ops.SetupExcept handler; end = end }) 0 _arena.now _arena.now frames.old frames.new result }
+{
+    acting_law();
+    begin_except(frames, handler, end);
+    Ok(())
+}
+
+/// SETUP_FINALLY.
+pub(crate) fn setup_finally<C: Constants>(
+    frames: &mut Frames,
+    _arena: &Arena,
+    _consts: &C,
+    handler: u32,
+    end: u32,
+) -> Result<(), Stop>
+    requires runs { RunsOver (C.text_of _consts.now) (C.items_of _consts.now) _arena.now frames.old (record { instruction = fetched.Jump jump_ops.SetupFinally handler; end = end }) }
+    ensures acts { ActsBehind (C.text_of _consts.now) (C.items_of _consts.now) (record { instruction = fetched.Jump jump_ops.SetupFinally handler; end = end }) 0 _arena.now _arena.now frames.old frames.new result }
+{
+    acting_law();
+    begin_finally(frames, handler, end);
+    Ok(())
+}
+
+/// POP_EXCEPT_JUMP.
+pub(crate) fn pop_except_jump<C: Constants>(
+    frames: &mut Frames,
+    _arena: &Arena,
+    _consts: &C,
+    target: u32,
+    end: u32,
+) -> Result<(), Stop>
+    requires runs { RunsOver (C.text_of _consts.now) (C.items_of _consts.now) _arena.now frames.old (record { instruction = fetched.Jump jump_ops.PopExceptJump target; end = end }) }
+    ensures acts { ActsBehind (C.text_of _consts.now) (C.items_of _consts.now) (record { instruction = fetched.Jump jump_ops.PopExceptJump target; end = end }) 0 _arena.now _arena.now frames.old frames.new result }
+{
+    acting_law();
+    end_except(frames, target, end);
+    Ok(())
+}
+
+/// UNWIND_JUMP.
+pub fn unwind_jump<C: Constants>(
+    frames: &mut Frames,
+    _arena: &Arena,
+    _consts: &C,
+    target: u32,
+    byte: u8,
+    end: u32,
+) -> Result<(), Stop>
+    requires runs { RunsOver (C.text_of _consts.now) (C.items_of _consts.now) _arena.now frames.old (record { instruction = fetched.Unwind target byte; end = end }) }
+    ensures acts { ActsBehind (C.text_of _consts.now) (C.items_of _consts.now) (record { instruction = fetched.Unwind target byte; end = end }) 0 _arena.now _arena.now frames.old frames.new result }
+{
+    acting_law();
+    jump_out(frames, target, byte, end);
+    Ok(())
+}

@@ -1,0 +1,103 @@
+//! Names of modules.
+
+ghost use Rattle.vm_fetching.specs.declared.instruction.Instruction.TheVariants as fetched;
+ghost use Rattle.vm_fetching.specs.declared.operations.NameOp.TheVariants as name_ops;
+ghost use Rattle.vm_known.specs.Acting.{RunsOver, ActsBehind};
+
+use crate::law::acting_law;
+use arena_heap::{Arena, Constants, StrNo};
+use vm_faults::Stop;
+use vm_frames::Frames;
+use vm_tops::tops_law;
+
+/// LOAD_NAME.
+pub(crate) fn load_name<C: Constants>(
+    frames: &mut Frames,
+    arena: &Arena,
+    consts: &C,
+    name: StrNo,
+    end: u32,
+) -> Result<(), Stop>
+    requires runs { RunsOver (C.text_of consts.now) (C.items_of consts.now) arena.now frames.old (record { instruction = fetched.Name name_ops.LoadName name; end = end }) }
+    ensures acts { ActsBehind (C.text_of consts.now) (C.items_of consts.now) (record { instruction = fetched.Name name_ops.LoadName name; end = end }) 0 arena.now arena.now frames.old frames.new result }
+{
+    acting_law();
+    vm_instructions::load_name(frames, arena, consts, name, end)
+}
+
+/// LOAD_GLOBAL.
+pub(crate) fn load_global<C: Constants>(
+    frames: &mut Frames,
+    arena: &Arena,
+    consts: &C,
+    name: StrNo,
+    end: u32,
+) -> Result<(), Stop>
+    requires runs { RunsOver (C.text_of consts.now) (C.items_of consts.now) arena.now frames.old (record { instruction = fetched.Name name_ops.LoadGlobal name; end = end }) }
+    ensures acts { ActsBehind (C.text_of consts.now) (C.items_of consts.now) (record { instruction = fetched.Name name_ops.LoadGlobal name; end = end }) 0 arena.now arena.now frames.old frames.new result }
+{
+    acting_law();
+    vm_instructions::load_name(frames, arena, consts, name, end)
+}
+
+/// STORE_NAME.
+pub(crate) fn store_name<C: Constants>(
+    frames: &mut Frames,
+    arena: &mut Arena,
+    consts: &C,
+    name: StrNo,
+    end: u32,
+) -> Result<(), Stop>
+    requires runs { RunsOver (C.text_of consts.now) (C.items_of consts.now) arena.old frames.old (record { instruction = fetched.Name name_ops.StoreName name; end = end }) }
+    ensures acts { ActsBehind (C.text_of consts.now) (C.items_of consts.now) (record { instruction = fetched.Name name_ops.StoreName name; end = end }) 0 arena.old arena.new frames.old frames.new result }
+{
+    acting_law();
+    tops_law();
+    vm_instructions::store_name(frames, arena, consts, name, end)
+}
+
+/// STORE_GLOBAL.
+pub(crate) fn store_global<C: Constants>(
+    frames: &mut Frames,
+    arena: &mut Arena,
+    consts: &C,
+    name: StrNo,
+    end: u32,
+) -> Result<(), Stop>
+    requires runs { RunsOver (C.text_of consts.now) (C.items_of consts.now) arena.old frames.old (record { instruction = fetched.Name name_ops.StoreGlobal name; end = end }) }
+    ensures acts { ActsBehind (C.text_of consts.now) (C.items_of consts.now) (record { instruction = fetched.Name name_ops.StoreGlobal name; end = end }) 0 arena.old arena.new frames.old frames.new result }
+{
+    acting_law();
+    tops_law();
+    vm_instructions::store_name(frames, arena, consts, name, end)
+}
+
+/// DELETE_NAME.
+pub(crate) fn delete_name<C: Constants>(
+    frames: &mut Frames,
+    arena: &mut Arena,
+    consts: &C,
+    name: StrNo,
+    end: u32,
+) -> Result<(), Stop>
+    requires runs { RunsOver (C.text_of consts.now) (C.items_of consts.now) arena.old frames.old (record { instruction = fetched.Name name_ops.DeleteName name; end = end }) }
+    ensures acts { ActsBehind (C.text_of consts.now) (C.items_of consts.now) (record { instruction = fetched.Name name_ops.DeleteName name; end = end }) 0 arena.old arena.new frames.old frames.new result }
+{
+    acting_law();
+    vm_instructions::delete_name(frames, arena, consts, name, end)
+}
+
+/// DELETE_GLOBAL.
+pub(crate) fn delete_global<C: Constants>(
+    frames: &mut Frames,
+    arena: &mut Arena,
+    consts: &C,
+    name: StrNo,
+    end: u32,
+) -> Result<(), Stop>
+    requires runs { RunsOver (C.text_of consts.now) (C.items_of consts.now) arena.old frames.old (record { instruction = fetched.Name name_ops.DeleteGlobal name; end = end }) }
+    ensures acts { ActsBehind (C.text_of consts.now) (C.items_of consts.now) (record { instruction = fetched.Name name_ops.DeleteGlobal name; end = end }) 0 arena.old arena.new frames.old frames.new result }
+{
+    acting_law();
+    vm_instructions::delete_name(frames, arena, consts, name, end)
+}

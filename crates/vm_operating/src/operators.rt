@@ -1,0 +1,61 @@
+//! Operators.
+
+ghost use Rattle.std.specs.Prelude.{◌≡◌, min};
+ghost use Rattle.vm_fetching.specs.declared.instruction.Instruction.TheVariants as fetched;
+ghost use Rattle.vm_known.specs.Acting.{RunsOver, ActsBehind};
+ghost use Rattle.vm_operating.specs.Operators.{visits_binary};
+
+use crate::law::acting_law;
+use arena_heap::{Arena, Constants};
+use vm_faults::Stop;
+use vm_frames::Frames;
+use vm_tops::tops_law;
+
+/// UNARY_OP.
+pub fn unary_op<C: Constants>(
+    frames: &mut Frames,
+    arena: &Arena,
+    consts: &C,
+    number: u8,
+    end: u32,
+) -> Result<(), Stop>
+    requires runs { RunsOver (C.text_of consts.now) (C.items_of consts.now) arena.now frames.old (record { instruction = fetched.Unary number; end = end }) }
+    ensures acts { ActsBehind (C.text_of consts.now) (C.items_of consts.now) (record { instruction = fetched.Unary number; end = end }) 0 arena.now arena.now frames.old frames.new result }
+{
+    acting_law();
+    tops_law();
+    vm_instructions::unary_op(frames, arena, consts, number, end)
+}
+
+/// BINARY_OP. Its visits are those of the operator (`visits_binary_op`).
+pub fn binary_op<C: Constants>(
+    frames: &mut Frames,
+    arena: &mut Arena,
+    consts: &C,
+    number: u8,
+    end: u32,
+) -> Result<(), Stop>
+    requires runs { RunsOver (C.text_of consts.now) (C.items_of consts.now) arena.old frames.old (record { instruction = fetched.Binary number; end = end }) }
+    ensures acts { ActsBehind (C.text_of consts.now) (C.items_of consts.now) (record { instruction = fetched.Binary number; end = end }) (visits_binary (C.text_of consts.now) (C.items_of consts.now) arena.old frames.old.calls number) arena.old arena.new frames.old frames.new result }
+{
+    acting_law();
+    tops_law();
+    vm_instructions::binary_op(frames, arena, consts, number, end)
+}
+
+/// How many visits BINARY_OP makes, up to `most`. It goes no further.
+pub fn visits_binary_op<C: Constants>(
+    frames: &Frames,
+    arena: &Arena,
+    consts: &C,
+    number: u8,
+    end: u32,
+    most: u64,
+) -> u64
+    requires runs { RunsOver (C.text_of consts.now) (C.items_of consts.now) arena.now frames.now (record { instruction = fetched.Binary number; end = end }) }
+    ensures visits { result ≡ min (visits_binary (C.text_of consts.now) (C.items_of consts.now) arena.now frames.now.calls number) most }
+{
+    tops_law();
+    let _ = end;
+    vm_instructions::visits_binary_op(frames, arena, consts, number, most)
+}
