@@ -1,0 +1,112 @@
+-- Calls of methods, of built-ins, and of what isn't callable.
+use Rattle.std.proofs.Common.{◌≡◌, ℕ, ◌<◌, ◌≤◌, List, [], ◌∷◌, length, map, Option, Some, Result, Err, sym, ap, subst, ◌∙◌, arith}
+use Rattle.mpy_base.specs.declared.builtin.Builtin.{Builtin}
+use Rattle.mpy_base.specs.World.{Heap}
+use Rattle.mpy_base.specs.Val.{PlainWorld}
+use Rattle.port_set.specs.Calls.{Tell}
+use Rattle.arena_heap.specs.declared.value.Value.{Value}
+use Rattle.py_primitives.specs.Methods.{call_method}
+use Rattle.py_effects.specs.Ends.{new_world}
+use Rattle.bc_library.specs.Constants.{items_at, text_at}
+use Rattle.bc_library.specs.Shelf.{Shelf}
+use Rattle.bc_ops.specs.declared.instr.Instr.TheVariants as instrs
+use Rattle.bc_machine.specs.Library.{Item, Library, Plain}
+use Rattle.bc_rows.specs.declared.row.Row.{Row}
+use Rattle.vm_walks.specs.Plain.{plain, plain_heap, plain_pair}
+use Rattle.vm_faults.specs.declared.types.ValueType.{ValueType}
+use Rattle.vm_faults.specs.declared.stop.Stop.{Stop}
+use Rattle.vm_calls.specs.Calls.{Seen}
+use Rattle.vm_calls.specs.Families.{IsOfPorts}
+use Rattle.vm_calls.specs.declared.callees.Callee.TheVariants as callees
+use Rattle.vm_calls.specs.declared.calls.CallStop.{CallStop}
+use Rattle.vm_frames.specs.Calls.{Call, Calls, OfRunning}
+use Rattle.vm_step.specs.Shown.{Tables, IsNext}
+use Rattle.vm_step.specs.Outcomes.{world_of, outcome_of, Does}
+use Rattle.vm_fetching.specs.declared.operations.NumberOp.{NumberOp}
+use Rattle.vm_fetching.specs.declared.instruction.Fetched.{Fetched}
+use Rattle.vm_fetching.specs.declared.instruction.Instruction.TheVariants as fetched
+use Rattle.vm_fetching.specs.Operations.{number_op}
+use Rattle.vm_invoking.specs.declared.calling.Invocation.{Invocation}
+use Rattle.vm_invoking.specs.Built.{ActsBuilt}
+use Rattle.vm_invoking.specs.Invoking.{Invokes}
+use Rattle.vm_invoking.specs.Layouts.{Layout, tables_of}
+use Rattle.vm_invoking.specs.Operands.{Given, running_slots}
+use Rattle.vm_states.specs.Means.{Program, Means}
+use Rattle.vm_states.specs.Ready.{IsReady}
+use Rattle.vm_known.specs.State.{IsState}
+use Rattle.vm_calling.specs.Called.{Comes, CallComes}
+use Rattle.vm_calling.specs.Runs.{IsFetchedAt}
+use Rattle.vm_calling.specs.Taken.{CallsValue, IsTaken}
+use Rattle.vm_calling.proofs.Comings.{with_tables, by_does, built}
+use Rattle.vm_calling.proofs.Fitting.{value_runs}
+use Rattle.vm_calling.proofs.Functions.{invokes_in}
+use Rattle.vm_calling.proofs.Looking.{first_of}
+use Rattle.vm_calling.proofs.Places as places
+use Rattle.vm_calling.proofs.Puttings as puttings
+
+pub some_calls : (calls : List Call) (n : ℕ) → 0 < n → n ≤ length (running_slots calls) → 0 < length calls
+some_calls [] n some there = absurd (omega (arith, some, there))
+some_calls (c ∷ cs) n some there = omega arith
+
+module _ (p : Program) (row : Row) (means : Means p) (shelf : Shelf) (shelf_is : p.shelf ≡ shelf) (op : NumberOp) (number end : ℕ) (before behind : Heap Value ℕ) (s new : Calls)
+    (state : IsState p before.objects s) (r : IsReady p s row (record { instruction = fetched.Number op number; end = end })) (given : Given) (call : Invocation) (taken : IsTaken shelf op number before s given call) where
+  abbrev It : Item
+  It = Plain (instrs.Num (number_op op) number)
+
+  abbrev Read : Fetched
+  Read = record { instruction = fetched.Number op number; end = end }
+
+  -- a method
+  module _ (object : Value) (method : Builtin) (is : call.callee ≡ callees.Method object method) (result : Result (Unit {0}) Stop) where
+    abbrev VisitsIn : Tables → ℕ
+    VisitsIn t = (call_method (plain_heap t.texts t.tuples before) method (plain t.texts t.tuples object) (map (plain t.texts t.tuples) given.args) (map (plain_pair t.texts t.tuples) given.keys)).visits
+
+    pub method_does : ((layout : Layout) (item : Item) → Invokes (tables_of (text_at shelf) (items_at shelf) layout) item call.size before s.calls given.args given.keys (callees.Method object method)
+        → IsNext (tables_of (text_at shelf) (items_at shelf) layout) end s.calls
+        → Does (tables_of (text_at shelf) (items_at shelf) layout) item (VisitsIn (tables_of (text_at shelf) (items_at shelf) layout)) before behind s.calls new.calls result)
+        → Does p.tables It (VisitsIn p.tables) before behind s.calls new.calls result
+    method_does steps =
+        with_tables p means shelf shelf_is
+        (λ (t : Tables). Invokes t It call.size before s.calls given.args given.keys (callees.Method object method) → IsNext t end s.calls → Does t It (VisitsIn t) before behind s.calls new.calls result)
+        (λ layout. steps layout It) (invokes_in p means shelf shelf_is op number before s given call taken (callees.Method object method) is) r.next
+
+    pub method_comes : Does p.tables It (VisitsIn p.tables) before behind s.calls new.calls result → (w : PlainWorld)
+        → Comes p (callees.Method object method) given before w s (outcome_of p.tables r.place w behind s.calls new.calls result)
+    method_comes does w = by_does p row s Read r (callees.Method object method) given before w behind new result does
+
+    pub method_again : puttings.Laws → puttings.Put (text_at shelf) (items_at shelf) before behind end call.size s new result → Does p.tables It (VisitsIn p.tables) before behind s.calls new.calls result → IsState p behind.objects new
+    method_again laws put does =
+        let none : PlainWorld = new_world 0 0 [] in
+        puttings.put_state laws p row means before behind s new Read state r call.size result (places.over p means shelf shelf_is (λ t u. puttings.Put t u before behind end call.size s new result) put)
+        (λ v ok moved. puttings.step_runs laws p row means before behind s new Read state r tt call.size (VisitsIn p.tables) (world_of p.tables none before) (world_of p.tables none behind) v
+        (does.steps p.library r.place (VisitsIn p.tables) none (omega arith) ∙ ap (outcome_of p.tables r.place none behind s.calls new.calls) ok) moved)
+
+  -- a value that isn't callable
+  pub refused_comes : (value_type : ValueType) (is : call.callee ≡ callees.NotCallable value_type) (stop : Stop) → 0 < length s.calls
+      → (Invokes p.tables It call.size before s.calls given.args given.keys (callees.NotCallable value_type) → Does p.tables It 0 before before s.calls s.calls (Err stop)) → (w : PlainWorld)
+      → Comes p (callees.NotCallable value_type) given before w s (outcome_of p.tables r.place w before s.calls s.calls (Err stop))
+  refused_comes value_type is stop some steps w =
+      by_does p row s Read r (callees.NotCallable value_type) given before w before s (Err stop) (steps (invokes_in p means shelf shelf_is op number before s given call taken (callees.NotCallable value_type) is))
+
+  -- a built-in gives a value, or stops
+  pub built_again : (rows : places.Laws) → puttings.Laws → CallsValue op → OfRunning (IsFetchedAt shelf Read) s.calls → (result : Result (Unit {0}) CallStop)
+      → puttings.Put (text_at shelf) (items_at shelf) before behind end call.size s new result → IsState p behind.objects new
+  built_again rows laws calls read result put =
+      let own : IsFetchedAt p.shelf Read r.first = subst (λ (z : Shelf). IsFetchedAt z Read r.first) (sym shelf_is) (first_of (IsFetchedAt shelf Read) s.calls r.first r.others r.are read) in
+      puttings.put_state laws p row means before behind s new Read state r call.size result (places.over p means shelf shelf_is (λ t u. puttings.Put t u before behind end call.size s new result) put)
+      (λ v ok moved. value_runs p means s r.first r.others r.are state.running rows op number end calls own call.size taken.size (first_of _ s.calls r.first r.others r.are r.next) v new moved (r.begins tt))
+
+-- and comes to that, with the output and the ports
+pub built_comes : {S : Type 0} (told : S → Option (List ℕ)) (count : S → ℕ) (p : Program) (row : Row) (means : Means p) (shelf : Shelf) (shelf_is : p.shelf ≡ shelf) (op : NumberOp) (number end : ℕ) (before behind : Seen S) (s new : Calls)
+    (r : IsReady p s row (record { instruction = fetched.Number op number; end = end })) (given : Given) (call : Invocation) (taken : IsTaken shelf op number before.heap s given call)
+    (b : Builtin) (is : call.callee ≡ callees.Built b) (result : Result (Unit {0}) CallStop)
+    → ((layout : Layout) (library : Library) (item : Item) (w : PlainWorld) → Invokes (tables_of (text_at shelf) (items_at shelf) layout) item call.size before.heap s.calls given.args given.keys (callees.Built b)
+    → IsNext (tables_of (text_at shelf) (items_at shelf) layout) end s.calls → (IsOfPorts b → Tell before.ports w.ports)
+    → ActsBuilt told count (tables_of (text_at shelf) (items_at shelf) layout) library item call.size end b given.args given.keys before behind s.calls new.calls w result)
+    → (w : PlainWorld) → told before.out ≡ Some w.output → Tell before.ports w.ports → CallComes told count p r.place (callees.Built b) given before behind s new w result
+built_comes told count p row means shelf shelf_is op number end before behind s new r given call taken b is result acts w told_is tell =
+    let item : Item = Plain (instrs.Num (number_op op) number) in
+    built told count p row s new (record { instruction = fetched.Number op number; end = end }) r given before behind b call.size w told_is tell result
+    (with_tables p means shelf shelf_is
+    (λ (t : Tables). Invokes t item call.size before.heap s.calls given.args given.keys (callees.Built b) → IsNext t end s.calls → ActsBuilt told count t p.library item call.size end b given.args given.keys before behind s.calls new.calls w result)
+    (λ layout i n. acts layout p.library item w i n (λ of_ports. tell)) (invokes_in p means shelf shelf_is op number before.heap s given call taken (callees.Built b) is) r.next)

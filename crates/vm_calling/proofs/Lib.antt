@@ -1,0 +1,10 @@
+mod Acted
+mod Arriving
+mod Bases
+mod Comings
+mod Fitting
+mod Functions
+mod Looking
+mod Places
+mod Puttings
+mod Takings

@@ -1,0 +1,110 @@
+-- What a call comes to that an instruction makes, over an arena, with the output and the ports.
+use Rattle.std.specs.Prelude.{◌≡◌, ℕ, suc, ◌<◌, ◌≤◌, List, ◌++◌, map, true, Option, Some, Result, Ok, Err}
+use Rattle.mpy_base.specs.World.{Heap}
+use Rattle.mpy_base.specs.Val.{Val, PlainWorld}
+use Rattle.port_set.specs.Calls.{Tell}
+use Rattle.arena_heap.specs.declared.value.Value.{Value}
+use Rattle.py_primitives.specs.Faults as plain_faults
+use Rattle.py_primitives.specs.Outcome.{Raises}
+use Rattle.py_effects.specs.Calling as plain
+use Rattle.py_effects.specs.Calling.{Keys}
+use Rattle.py_effects.specs.Effect.{Place}
+use Rattle.bc_library.specs.Shelf.{Shelf}
+use Rattle.bc_machine.specs.State.{State}
+use Rattle.bc_rows.specs.declared.row.Row.{Row}
+use Rattle.vm_walks.specs.Plain.{plain_pair}
+use Rattle.vm_faults.specs.declared.fault.Fault.TheVariants as faults
+use Rattle.vm_faults.specs.declared.stop.Stop.{Stop}
+use Rattle.vm_faults.specs.declared.stop.Stop.TheVariants as stops
+use Rattle.vm_outputs.specs.Prints.{Puts}
+use Rattle.vm_calls.specs.Calls.{Seen}
+use Rattle.vm_calls.specs.Callees.{plain_callee}
+use Rattle.vm_calls.specs.declared.callees.Callee.{Callee}
+use Rattle.vm_calls.specs.declared.calls.CallStop.{CallStop}
+use Rattle.vm_calls.specs.declared.calls.CallStop.TheVariants as calls
+use Rattle.vm_frames.specs.Calls.{Call, Calls}
+use Rattle.vm_step.specs.Shown.{value_of, running_of}
+use Rattle.vm_step.specs.Outcomes.{world_of, outcome_of}
+use Rattle.vm_fetching.specs.declared.instruction.Fetched.{Fetched}
+use Rattle.vm_invoking.specs.Invoking.{visits_of}
+use Rattle.vm_invoking.specs.Operands.{Given}
+use Rattle.vm_states.specs.Means.{Program, Means}
+use Rattle.vm_states.specs.Ready.{IsReady}
+use Rattle.vm_known.specs.Acting.{stepped}
+use Rattle.vm_known.specs.State.{IsState}
+
+-- a stop as that of a call
+abbrev pub of_stop : Result (Unit {0}) Stop → Result (Unit {0}) CallStop
+of_stop (Ok done) = Ok tt
+of_stop (Err stop) = Err (calls.Stops stop)
+
+-- a call of this fails at a port
+abbrev pub FailsAtPort : plain.Callee → List Val → Keys → Type 0
+FailsAtPort (plain.Acts act) args keys = (act args keys).answer ≡ Err (Raises plain_faults.PortFailed)
+FailsAtPort (plain.Runs f) args keys = ⊥
+
+module _ (p : Program) (callee : Callee) (given : Given) (before : Heap Value ℕ) (w : PlainWorld) where
+  -- the world that the call begins in, what is called there, and the operands
+  abbrev pub begins_in : PlainWorld
+  begins_in = world_of p.tables w before
+
+  abbrev pub called : plain.Callee
+  called = plain_callee p.tables.texts p.tables.tuples begins_in callee
+
+  abbrev pub plain_args : List Val
+  plain_args = map (value_of p.tables) given.args
+
+  abbrev pub plain_keys : Keys
+  plain_keys = map (plain_pair p.tables.texts p.tables.tuples) given.keys
+
+  -- how many visits it makes
+  abbrev pub visits : ℕ
+  visits = visits_of called plain_args plain_keys
+
+  -- the machine pays a step for each visit of the call, and then comes to this
+  pub record Comes (old : Calls) (outcome : State) : Type 0 where
+    pub pays : (paid : ℕ) → paid < visits → stepped p paid old w before ≡ running_of p.tables (suc paid) old.calls begins_in
+    pub steps : (paid : ℕ) → visits ≤ paid → stepped p paid old w before ≡ outcome
+
+module _ {S : Type 0} (told : S → Option (List ℕ)) (count : S → ℕ) (p : Program) (place : Place) (callee : Callee) (given : Given) (before behind : Seen S) (old new : Calls) (w : PlainWorld) where
+  -- the new calls go on, or the old ones stop, in a world with the same modules, whose output the sink tells, and whose ports
+  -- are told
+  pub record Goes (result : Result (Unit {0}) Stop) : Type 0 where
+    pub after : PlainWorld
+    pub modules : after.modules ≡ w.modules
+    pub output : told behind.out ≡ Some after.output
+    pub ports : Tell behind.ports after.ports
+    pub comes : Comes p callee given before.heap w old (outcome_of p.tables place after behind.heap old.calls new.calls result)
+
+  -- the sink failed: the machine puts a text and goes on, and a front of the text was put
+  pub record SinkFails : Type 0 where
+    pub text : List ℕ
+    pub puts : Puts told count before.out behind.out true text
+    pub onwards : List Call
+    pub comes : Comes p callee given before.heap w old (running_of p.tables 0 onwards (record (begins_in p callee given before.heap w) { output = w.output ++ text }))
+
+  -- a port fails only where that of the world does
+  abbrev pub FailsAlike : Stop → Type 0
+  FailsAlike stop =
+      stop ≡ stops.Raises faults.PortFailed
+      → FailsAtPort (called p callee given before.heap w) (plain_args p callee given before.heap w) (plain_keys p callee given before.heap w)
+
+  -- what it comes to, by what it answers
+  abbrev pub CallComes : Result (Unit {0}) CallStop → Type 0
+  CallComes (Ok done) = Goes (Ok done)
+  CallComes (Err (calls.Stops stop)) = FailsAlike stop → Goes (Err stop)
+  CallComes (Err (calls.Out failed)) = SinkFails
+
+-- so it is in each program of the library that the old calls run, where this was fetched for the first of them, and in each
+-- world whose output the sink told and whose ports were told
+abbrev pub CallsIn : {S : Type 0} → (told : S → Option (List ℕ)) → (count : S → ℕ) → Shelf → Fetched → Callee → Given → (before behind : Seen S) → (old new : Calls) → Result (Unit {0}) CallStop → Type 0
+CallsIn told count shelf fetched callee given before behind old new result =
+    (p : Program) (row : Row) → Means p → p.shelf ≡ shelf → IsState p before.heap.objects old → (ready : IsReady p old row fetched)
+    → (w : PlainWorld) → told before.out ≡ Some w.output → Tell before.ports w.ports
+    → CallComes told count p ready.place callee given before behind old new w result
+
+-- the same of a call that puts nothing and calls no port, in each world
+abbrev pub ComesIn : Shelf → Fetched → Callee → Given → (before behind : Heap Value ℕ) → (old new : Calls) → Result (Unit {0}) Stop → Type 0
+ComesIn shelf fetched callee given before behind old new result =
+    (p : Program) (row : Row) → Means p → p.shelf ≡ shelf → IsState p before.objects old → (ready : IsReady p old row fetched)
+    → (w : PlainWorld) → Comes p callee given before w old (outcome_of p.tables ready.place w behind old.calls new.calls result)

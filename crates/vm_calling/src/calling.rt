@@ -1,0 +1,81 @@
+//! Calls.
+
+ghost use Rattle.std.specs.Prelude.{◌≡◌, ◌<◌, ◌^◌, map, OnErr};
+ghost use Rattle.mpy_base.specs.World.{Later};
+ghost use Rattle.bc_library.specs.Constants.{items_at, text_at};
+ghost use Rattle.vm_frames.specs.Calls.{OfRunning};
+ghost use Rattle.vm_fetching.specs.declared.instruction.Instruction.TheVariants as fetched;
+ghost use Rattle.vm_invoking.specs.Built.{IsKnownCallStop};
+ghost use Rattle.vm_calling.specs.Called.{CallsIn, of_stop};
+ghost use Rattle.vm_calling.specs.Runs.{IsFetchedAt, RunsWithin, RunsAgain};
+ghost use Rattle.vm_calling.specs.Taken.{CallsValue, IsTaken};
+
+use crate::entering::call_code;
+use arena_heap::Arena;
+use bc_library::Library;
+use bc_rows::{Rows, rows_law};
+use mpy_io::{Port, Sink};
+use port_set::PortSet;
+use vm_calls::{CallStop, Callee};
+use vm_faults::Stop;
+use vm_fetching::NumberOp;
+use vm_frames::Frames;
+use vm_invoking::{Bindings, Invocation, Operands, act_builtin, act_method, refuse_call};
+use vm_known::known_law;
+use vm_states::keeps_law;
+
+/// A stop as that of a call.
+fn stopped(acted: Result<(), Stop>) -> Result<(), CallStop>
+    ensures { result ≡ of_stop acted }
+{
+    match acted {
+        Ok(()) => Ok(()),
+        Err(stop) => Err(CallStop::Stops(stop)),
+    }
+}
+
+/// The call that was taken, where its visits are paid: a method, a built-in or a function of the program is called, or it raises
+/// that the value isn't callable. Where it stops, the calls stay. It takes no memory.
+pub fn call_on<S: Sink, P: Port>(
+    frames: &mut Frames,
+    arena: &mut Arena,
+    library: &Library,
+    rows: &Rows<'_>,
+    operands: &Operands,
+    bindings: &mut Bindings,
+    out: &mut S,
+    ports: &mut PortSet<P>,
+    call: Invocation,
+    op: NumberOp,
+    number: u32,
+    end: u32,
+) -> Result<(), CallStop>
+    requires calls { CallsValue op }
+    requires runs { RunsWithin bindings.old.room library.now arena.old frames.old (record { instruction = fetched.Number op number; end = end }) }
+    requires read { OfRunning (IsFetchedAt library.now (record { instruction = fetched.Number op number; end = end })) frames.old.calls }
+    requires few { frames.old.slot_room < 2 ^ 32 }
+    requires rows { rows.now ≡ library.now }
+    requires taken { IsTaken library.now op number arena.old frames.old operands.now call }
+    ensures called { CallsIn S.told S.count library.now (record { instruction = fetched.Number op number; end = end }) call.callee operands.now (record { heap = arena.old; out = out.old; ports = map P.seen ports.old }) (record { heap = arena.new; out = out.new; ports = map P.seen ports.new }) frames.old frames.new result }
+    ensures again { RunsAgain library.now (record { instruction = fetched.Number op number; end = end }) arena.old arena.new frames.old frames.new }
+    ensures later { Later arena.old.objects arena.new.objects }
+    ensures stop { IsKnownCallStop (text_at library.now) (items_at library.now) arena.new.objects result }
+    ensures stays { OnErr result (frames.new ≡ frames.old) }
+    ensures room { bindings.new.room ≡ bindings.old.room }
+{
+    rows_law();
+    known_law();
+    keeps_law();
+    match call.callee {
+        Callee::Method { object, method } => stopped(act_method(
+            frames, arena, library, operands, object, method, call.size, end,
+        )),
+        Callee::Built(b) => act_builtin(
+            frames, arena, library, out, ports, operands, b, call.size, end,
+        ),
+        Callee::NotCallable(value_type) => Err(CallStop::Stops(refuse_call(value_type))),
+        Callee::Runs(function) => stopped(call_code(
+            frames, arena, library, rows, bindings, operands, function, call, op, number, end,
+        )),
+    }
+}

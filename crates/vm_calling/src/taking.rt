@@ -1,0 +1,77 @@
+//! What an instruction calls, its operands, and the visits of the call.
+
+ghost use Rattle.std.specs.Prelude.{◌≡◌, ◌<◌, length, min};
+ghost use Rattle.mpy_base.specs.Val.{PlainWorld};
+ghost use Rattle.arena_objects.specs.Keys.{AllTold};
+ghost use Rattle.bc_library.specs.Constants.{items_at, text_at};
+ghost use Rattle.vm_calls.specs.Callees.{IsKnownCallee};
+ghost use Rattle.vm_frames.specs.Calls.{OfRunning};
+ghost use Rattle.vm_fetching.specs.declared.instruction.Instruction.TheVariants as fetched;
+ghost use Rattle.vm_invoking.specs.Known.{AreKnown};
+ghost use Rattle.vm_states.specs.Means.{Program, Means};
+ghost use Rattle.vm_calling.specs.Called.{visits};
+ghost use Rattle.vm_calling.specs.Runs.{RunsWithin};
+ghost use Rattle.vm_calling.specs.Taken.{CallsValue, HasMethods, IsTaken};
+
+use arena_heap::Arena;
+use bc_library::Library;
+use bc_progress::room_law;
+use vm_fetching::NumberOp;
+use vm_frames::Frames;
+use vm_invoking::{Invocation, Operands, call_function, call_method, visits_call};
+use vm_tops::tops_law;
+
+/// CALL_FUNCTION or CALL_METHOD, where it was fetched for the running call: what it calls. Its operands are copied. It changes
+/// nothing else, and takes no memory.
+pub fn take_call(
+    frames: &Frames,
+    arena: &Arena,
+    library: &Library,
+    operands: &mut Operands,
+    op: NumberOp,
+    number: u32,
+    end: u32,
+) -> Invocation
+    requires calls { CallsValue op }
+    requires runs { RunsWithin operands.old.room library.now arena.now frames.now (record { instruction = fetched.Number op number; end = end }) }
+    requires methods { OfRunning (λ c. HasMethods c.slots) frames.now.calls }
+    ensures taken { IsTaken library.now op number arena.now frames.now operands.new result }
+    ensures room { operands.new.room ≡ operands.old.room }
+{
+    room_law();
+    tops_law();
+    let _ = end;
+    operands.take(frames, number);
+    match op {
+        NumberOp::CallFunction => call_function(frames, arena, library, number),
+        NumberOp::CallMethod => call_method(frames, arena, library, number),
+        NumberOp::LoadFast
+        | NumberOp::LoadFastN
+        | NumberOp::StoreFast
+        | NumberOp::StoreFastN
+        | NumberOp::DeleteFast
+        | NumberOp::BuildTuple
+        | NumberOp::BuildList
+        | NumberOp::BuildMap
+        | NumberOp::UnpackSequence
+        | NumberOp::MakeFunction
+        | NumberOp::MakeFunctionDefargs => unreachable!(),
+    }
+}
+
+/// How many visits the call makes that was taken, up to `most`. It goes no further.
+pub fn visits_call_on(
+    arena: &Arena,
+    library: &Library,
+    operands: &Operands,
+    call: Invocation,
+    most: u64,
+) -> u64
+    requires callee { IsKnownCallee (text_at library.now) (items_at library.now) arena.now.objects call.callee }
+    requires few { length operands.now.args < 256 }
+    requires known { AreKnown (text_at library.now) (items_at library.now) arena.now.objects operands.now }
+    requires all_told { AllTold (text_at library.now) (items_at library.now) arena.now.objects }
+    ensures { (p : Program) (w : PlainWorld) → Means p → p.shelf ≡ library.now → result ≡ min (visits p call.callee operands.now arena.now w) most }
+{
+    visits_call(arena, library, call.callee, operands, most)
+}
