@@ -1,8 +1,7 @@
 -- Modules that imports begin.
-use Rattle.std.proofs.Common.{◌≡◌, ℕ, zero, suc, ◌-◌, ◌<◌, ◌≤◌, List, [], ◌∷◌, ◌++◌, length, map, take, replicate, Bool, true, false, cond, Option, Some, None, Result, Ok, Err, All, slice_get, refl, sym, ap, ◌∙◌, subst, arith}
-use Rattle.std.specs.Prelude.{nat_lt, codes, IfOk, IfSome}
+use Rattle.std.proofs.Common.{◌≡◌, ℕ, zero, suc, ◌-◌, ◌<◌, List, [], ◌∷◌, ◌++◌, length, map, take, replicate, Bool, true, false, cond, Option, Some, None, Result, Ok, Err, All, slice_get, refl, sym, ap, ◌∙◌, subst, arith}
+use Rattle.std.specs.Prelude.{nat_lt, codes, IfSome}
 use Rattle.std.proofs.lemmas.Bool.{le-ltb, lt-ltb}
-use Rattle.std.proofs.lemmas.Option.{same_Some}
 use Rattle.std.proofs.lemmas.List.Elements.{All-nil, All-cons, All-weaker}
 use Rattle.mpy_base.specs.declared.limits.TheConstants.{MAX_CALLS}
 use Rattle.mpy_base.specs.World.{Heap, Object, ModuleObject, DictObject, Objects, Later, with_names, pairs_at}
@@ -13,7 +12,6 @@ use Rattle.arena_heap.specs.declared.value.Value.{Value}
 use Rattle.arena_heap.specs.declared.value.StrNo.{StrNo}
 use Rattle.arena_heap.specs.declared.value.ConstNo.{ConstNo}
 use Rattle.arena_heap.specs.declared.value.DictNo.{DictNo}
-use Rattle.arena_objects.specs.Keys.{AllTold}
 use Rattle.bc_offsets.specs.Positions.{CodeList, Listed}
 use Rattle.py_values.specs.Shown.{PlainHeap}
 use Rattle.py_values.specs.Keys.{with_key}
@@ -39,21 +37,21 @@ use Rattle.vm_faults.specs.declared.stop.Stop.TheVariants as stops
 use Rattle.vm_faults.specs.Outcomes.{IsKnownAnswer}
 use Rattle.vm_frames.specs.declared.slot.Role.{Role}
 use Rattle.vm_frames.specs.declared.slot.Role.TheVariants as roles
-use Rattle.vm_frames.specs.Calls.{Call, Calls, OfRunning}
+use Rattle.vm_frames.specs.Calls.{Call}
 use Rattle.vm_modules.specs.declared.makings.Made.{Made}
 use Rattle.vm_modules.specs.Registry.{Registry}
 use Rattle.vm_modules.specs.Effects.{IsMaking, AreMade, world_with, made_answer}
 use Rattle.vm_moves.specs.Views.{View, role_of, locals_of, starts_of, frame_of}
 use Rattle.vm_moves.specs.Placed.{IsPlaced}
-use Rattle.vm_step.specs.Shown.{Tables, view_of, running_of, step_of}
+use Rattle.vm_step.specs.Shown.{Tables, view_of, step_of}
 use Rattle.vm_step.specs.Outcomes.{world_of, outcome_of}
 use Rattle.vm_unwinding.specs.declared.names.ModuleName.{ModuleName}
 use Rattle.vm_unwinding.specs.Names.{AreTablesOf}
 use Rattle.vm_unwinding.specs.Ends.{with_modules}
-use Rattle.vm_unwinding.specs.Known.{IsKnownCall, IsKnownSlot, KeepsException, Keeps}
+use Rattle.vm_unwinding.specs.Known.{IsKnownCall, IsKnownSlot, KeepsException}
 use Rattle.vm_unwinding.proofs.Keeping.{call_later}
 use Rattle.vm_importing.specs.declared.importing.Import.TheVariants as imports
-use Rattle.vm_importing.specs.Importing.{HasOperands, AreOperands, IsImport, StandsFor}
+use Rattle.vm_importing.specs.Importing.{AreOperands, IsImport, StandsFor}
 use Rattle.vm_importing.specs.Beginning.{IsOutermost, begun}
 use Rattle.vm_importing.proofs.Machine.{begins, depth_is}
 

@@ -1,6 +1,5 @@
 -- What an import comes to, from its operands and its prefixes.
-use Rattle.std.proofs.Common.{◌≡◌, ℕ, zero, suc, ◌<◌, ◌≤◌, List, [], ◌∷◌, length, take, Bool, true, false, Option, Some, None, slice_get, refl, sym, ap, ◌∙◌, subst, arith}
-use Rattle.std.specs.Option.{option_map}
+use Rattle.std.proofs.Common.{◌≡◌, ℕ, zero, suc, ◌<◌, List, [], ◌∷◌, length, take, Bool, Option, Some, slice_get, sym, ◌∙◌, subst, arith}
 use Rattle.std.proofs.lemmas.Option.{none-some, same_Some}
 use Rattle.std.proofs.lemmas.List.{length-take-le}
 use Rattle.mpy_base.specs.Val.{PlainWorld}
@@ -15,7 +14,7 @@ use Rattle.vm_frames.specs.Calls.{Call, OfRunning}
 use Rattle.vm_importing.specs.declared.importing.Import.{Import}
 use Rattle.vm_importing.specs.declared.importing.Import.TheVariants as imports
 use Rattle.vm_importing.specs.declared.importing.Refusal.TheVariants as refusals
-use Rattle.vm_importing.specs.Importing.{HasOperands, AreOperands, IsBeginning, IsAbsent, IsImport}
+use Rattle.vm_importing.specs.Importing.{AreOperands, IsModule, IsBeginning, IsAbsent, IsImport}
 
 abbrev pub IsSlot : ℕ → Slot → List Call → Type 0
 IsSlot i s cs = OfRunning (λ c. slice_get c.slots i ≡ Some s) cs
@@ -63,3 +62,7 @@ module _ (texts : StrNo → Option (List ℕ)) (tuples : ConstNo → Option (Lis
 
     pub begins_so : (import : Import) → IsBeginning shelf deep (length (take len name)) (take len name) import → IsImport texts tuples shelf w deep name from level import
     begins_so import is = begins_by import (subst (λ (k : ℕ). IsBeginning shelf deep k (take len name) import) (length-take-le len name absent.within) is)
+
+-- a module that is to begin isn't given yet
+pub begun_module : (shelf : Shelf) (deep : Bool) (len : ℕ) (prefix : Name) (import : Import) (v : Value) → IsBeginning shelf deep len prefix import → import ≡ imports.Put v → IsModule v
+begun_module shelf deep len prefix import v is e = absurd (subst (IsBeginning shelf deep len prefix) e is)

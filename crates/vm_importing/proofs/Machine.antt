@@ -1,5 +1,5 @@
 -- The machine's imports.
-use Rattle.std.proofs.Common.{◌≡◌, ℕ, suc, ◌≤◌, List, [], ◌∷◌, length, map, take, drop, reverse, Bool, true, false, Option, Some, None, Result, Ok, Err, slice_get, refl, sym, ap, ◌∙◌, subst, if◌then◌else◌}
+use Rattle.std.proofs.Common.{◌≡◌, ℕ, suc, ◌≤◌, List, [], ◌∷◌, length, map, take, drop, Bool, true, false, Option, Some, None, Err, slice_get, refl, sym, ap, ◌∙◌, subst, if◌then◌else◌}
 use Rattle.std.specs.Prelude.{nat_lt, IsSome}
 use Rattle.std.proofs.lemmas.Option.{none-some, same_Some}
 use Rattle.std.proofs.lemmas.List.{length-map}
@@ -12,9 +12,9 @@ use Rattle.arena_heap.specs.declared.value.StrNo.{StrNo}
 use Rattle.arena_heap.specs.declared.value.StrNo.TheVariants as strs
 use Rattle.arena_heap.specs.declared.value.ConstNo.{ConstNo}
 use Rattle.py_values.specs.Shown.{shown}
-use Rattle.py_primitives.specs.Faults.{NoModule, RelativeImport, IncompatibleFile, TooDeep}
+use Rattle.py_primitives.specs.Faults.{NoModule, RelativeImport}
 use Rattle.py_effects.specs.Effect.{Place, fault_at}
-use Rattle.py_effects.specs.Modules.{prefixes, first_of, module_named}
+use Rattle.py_effects.specs.Modules.{prefixes, module_named}
 use Rattle.bc_library.specs.Shelf.{Shelf}
 use Rattle.bc_machine.specs.Library as machine
 use Rattle.bc_machine.specs.Library.{Name, Names, Library, Entry, Holds, entry_in}
@@ -22,14 +22,13 @@ use Rattle.bc_machine.specs.State as states
 use Rattle.bc_machine.specs.State.{State, fail, go}
 use Rattle.bc_machine.specs.Parts.{is_zero, first_absent, has_depth}
 use Rattle.bc_machine.specs.Step as step
-use Rattle.vm_walks.specs.Plain.{plain, plain_name}
-use Rattle.vm_faults.specs.declared.fault.Fault.TheVariants as faults
+use Rattle.vm_walks.specs.Plain.{plain_name}
 use Rattle.vm_faults.specs.declared.stop.Stop.{Stop}
 use Rattle.vm_faults.specs.declared.stop.Stop.TheVariants as stops
 use Rattle.vm_faults.specs.Outcomes.{IsKnownAnswer}
 use Rattle.vm_frames.specs.declared.slot.Slot.{Slot}
 use Rattle.vm_frames.specs.declared.slot.Slot.TheVariants as slots
-use Rattle.vm_frames.specs.Calls.{Call, Calls, OfRunning, on_running}
+use Rattle.vm_frames.specs.Calls.{Call, Calls, on_running}
 use Rattle.bc_offsets.specs.Positions.{position_in}
 use Rattle.vm_moves.specs.Views.{slots_of, starts_of, position_of, frame_of}
 use Rattle.vm_step.specs.Shown.{Tables, value_of, view_of, step_of, Steps, IsNext}
@@ -39,7 +38,7 @@ use Rattle.vm_step.proofs.Stepping.{both, goes_to, steps_by}
 use Rattle.vm_importing.specs.declared.importing.Import.TheVariants as imports
 use Rattle.vm_importing.specs.declared.importing.Refusal.{Refusal}
 use Rattle.vm_importing.specs.declared.importing.Refusal.TheVariants as refusals
-use Rattle.vm_importing.specs.Importing.{HasOperands, AreOperands, given_name, IsBeginning, IsAbsent, IsGiven, Begins, IsImport, StandsFor, refusal_fault}
+use Rattle.vm_importing.specs.Importing.{HasOperands, AreOperands, given_name, IsAbsent, IsGiven, Begins, IsImport, StandsFor, refusal_fault}
 use Rattle.vm_importing.proofs.Fronts.{last_prefix}
 
 -- the two slots on top

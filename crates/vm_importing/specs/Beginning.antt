@@ -1,7 +1,5 @@
 -- The call of a module's code that an import begins.
-use Rattle.std.specs.Prelude.{◌≡◌, ℕ, ◌<◌, List, [], ◌∷◌, length, replicate, Option, Some, None, Result, Ok, Err}
-use Rattle.arena_heap.specs.declared.value.DictNo.{DictNo}
-use Rattle.arena_heap.specs.declared.value.ModuleNo.{ModuleNo}
+use Rattle.std.specs.Prelude.{◌≡◌, ℕ, ◌<◌, List, [], ◌∷◌, length, replicate, Some, None, Result, Ok, Err}
 use Rattle.bc_offsets.specs.Positions.{CodeList, Listed}
 use Rattle.bc_machine.specs.Library.{Code, Library, code_at}
 use Rattle.vm_faults.specs.declared.stop.Stop.{Stop}

@@ -1,7 +1,10 @@
 -- What an import comes to, by its operands, the registered modules, the library and the depth.
 use Rattle.std.specs.Prelude.{◌≡◌, ◌≤◌, ℕ, List, length, take, Bool, true, false, Option, Some, None, slice_get}
+use Rattle.mpy_base.specs.declared.builtin.Builtin.TheVariants as builtins
 use Rattle.mpy_base.specs.Val.{Val, Nil, PlainWorld}
 use Rattle.arena_heap.specs.declared.value.Value.{Value}
+use Rattle.arena_heap.specs.declared.value.Value.TheVariants as values
+use Rattle.arena_heap.specs.declared.value.ModuleNo.{ModuleNo}
 use Rattle.arena_heap.specs.declared.value.StrNo.{StrNo}
 use Rattle.arena_heap.specs.declared.value.StrNo.TheVariants as strs
 use Rattle.arena_heap.specs.declared.value.ConstNo.{ConstNo}
@@ -30,6 +33,11 @@ pub record HasOperands (from level : Value) (c : Call) : Type 0 where
 
 abbrev pub AreOperands : (from level : Value) → List Call → Type 0
 AreOperands from level calls = OfRunning (HasOperands from level) calls
+
+-- a module, or `port`
+pub data IsModule : Value → Type 0 where
+  registered : (m : ModuleNo) → IsModule (values.Module m)
+  port : IsModule (values.Built builtins.Port)
 
 -- the module that an import gives: that of the first prefix where no names are imported from it, and else the named one
 abbrev pub given_name : Val → Name → Name

@@ -8,12 +8,14 @@ ghost use Rattle.arena_heap.specs.declared.value.Value.{Value as Item};
 ghost use Rattle.vm_walks.specs.Plain.{plain, plain_name};
 ghost use Rattle.vm_modules.specs.Registry.{plain_modules};
 ghost use Rattle.py_effects.specs.Modules.{module_named};
-ghost use Rattle.vm_importing.specs.Importing.{AreOperands, IsImport, IsBeginning, given_name};
+ghost use Rattle.vm_importing.specs.declared.importing.Import.TheVariants as imports;
+ghost use Rattle.vm_importing.specs.Importing.{AreOperands, IsImport, IsBeginning, IsModule, given_name};
 
 use crate::operands::{is_zero, value_at};
 use crate::prefixes::{first_absent, first_len};
 use arena_heap::{Constants, StrNo, Value};
 use bc_library::{Library, Member};
+use mpy_base::Builtin;
 use mpy_base::limits::MAX_CALLS;
 use vm_frames::Frames;
 use vm_modules::Modules;
@@ -52,13 +54,25 @@ fn text_of<C: Constants>(consts: &C, name: u32) -> &[u8]
     }
 }
 
+/// The registered module of this name, and else `port`.
+fn module_of<C: Constants>(consts: &C, modules: &Modules, name: &[u8]) -> Value
+    ensures named { (w : PlainWorld) → plain (C.text_of consts.now) (C.items_of consts.now) result ≡ module_named (record w { modules = plain_modules (C.text_of consts.now) (C.items_of consts.now) modules.now }) name.now }
+    ensures is { IsModule result }
+{
+    match modules.registered_as(consts, name) {
+        Some(m) => Value::Module(m),
+        None => Value::Built(Builtin::Port),
+    }
+}
+
 /// The module that is wanted, all prefixes of whose name are there.
 fn wanted<C: Constants>(consts: &C, modules: &Modules, from: Value, text: &[u8]) -> Value
-    ensures { (w : PlainWorld) → plain (C.text_of consts.now) (C.items_of consts.now) result ≡ module_named (record w { modules = plain_modules (C.text_of consts.now) (C.items_of consts.now) modules.now }) (given_name (plain (C.text_of consts.now) (C.items_of consts.now) from) text.now) }
+    ensures named { (w : PlainWorld) → plain (C.text_of consts.now) (C.items_of consts.now) result ≡ module_named (record w { modules = plain_modules (C.text_of consts.now) (C.items_of consts.now) modules.now }) (given_name (plain (C.text_of consts.now) (C.items_of consts.now) from) text.now) }
+    ensures is { IsModule result }
 {
     match from {
-        Value::None => modules.module_named(consts, &text[..first_len(text)]),
-        _ => modules.module_named(consts, text),
+        Value::None => module_of(consts, modules, &text[..first_len(text)]),
+        _ => module_of(consts, modules, text),
     }
 }
 
@@ -94,8 +108,9 @@ pub fn import_name<C: Constants>(
 ) -> Import
     requires operands { (from : Item) × (level : Item) × AreOperands from level frames.now.calls }
     requires name { IsSome (C.text_of consts.now (strs.Pool name)) }
-    ensures { (from level : Item) (w : PlainWorld) → AreOperands from level frames.now.calls
+    ensures comes { (from level : Item) (w : PlainWorld) → AreOperands from level frames.now.calls
         → IsImport (C.text_of consts.now) (C.items_of consts.now) library.now (record w { modules = plain_modules (C.text_of consts.now) (C.items_of consts.now) modules.now }) (nat_lt (length frames.now.calls) LIMIT) (plain_name (C.text_of consts.now) (C.items_of consts.now) name) from level result }
+    ensures given { (v : Item) → result ≡ imports.Put v → IsModule v }
 {
     let from = value_at(frames, 0);
     let level = value_at(frames, 1);

@@ -1,28 +1,17 @@
-use Rattle.std.proofs.Common.{◌≡◌, ◌<◌, List, All, Option, Ok, Err, length, slice_get, refl, sym, ap, ◌∙◌, subst}
+use Rattle.std.proofs.Common.{All, Ok, Err, length, refl, sym, ap, ◌∙◌, subst}
 use Rattle.std.proofs.lemmas.Option.{same_Some}
-use Rattle.std.specs.Prelude.{nat_lt, IsSome}
-use Rattle.mpy_base.specs.declared.limits.TheConstants.{MAX_CALLS}
-use Rattle.mpy_base.specs.Val.{PlainWorld}
-use Rattle.bc_ops.specs.declared.instr.Op.TheVariants as ops
-use Rattle.arena_heap.specs.declared.value.Value.{Value}
+use Rattle.std.specs.Prelude.{IsSome}
 use Rattle.arena_heap.specs.declared.value.StrNo.TheVariants as strs
-use Rattle.bc_library.specs.Shelf.{Shelf}
-use Rattle.bc_machine.specs.Library.{Library, Name, Names}
-use Rattle.py_effects.specs.Effect.{Place}
-use Rattle.vm_frames.specs.Calls.{Call, Calls}
+use Rattle.vm_frames.specs.Calls.{Calls}
 use Rattle.vm_moves.specs.Placed.{IsPlaced}
-use Rattle.vm_step.specs.Shown.{Tables, view_of, step_of}
-use Rattle.vm_step.specs.Outcomes.{world_of, outcome_of}
+use Rattle.vm_step.specs.Shown.{view_of}
+use Rattle.vm_step.specs.Outcomes.{outcome_of}
 use Rattle.vm_unwinding.specs.declared.names.ModuleName.{ModuleName}
 use Rattle.vm_unwinding.specs.Ends.{with_modules}
 use Rattle.vm_unwinding.specs.Known.{IsKnownCall}
-use Rattle.vm_unwinding.specs.Names.{AreTablesOf}
 use Rattle.vm_unwinding.proofs.Leaves.{at_get}
-use Rattle.vm_unwinding.proofs.Tabling.{by_tables}
-use Rattle.vm_importing.specs.declared.importing.Import.TheVariants as imports
-use Rattle.vm_importing.specs.Importing.{AreOperands, IsImport, StandsFor}
-use Rattle.vm_importing.specs.Beginning.{IsOutermost, begun, HasBegun, HasImported}
-use Rattle.vm_importing.proofs.Begins.{begins_steps, begins_list, shallow_is, stop_known, begun_placed, begun_known, calls_later}
+use Rattle.vm_importing.specs.Beginning.{HasImported}
+use Rattle.vm_importing.proofs.Begins.{begins_list, shallow_is, stop_known, begun_placed, begun_known, calls_later}
 use Rattle.vm_importing.proofs.beginning.begin_import.Goals as goal
 
 pub make_module-requires-clause-name : goal.make_module-requires-clause-name

@@ -1,4 +1,4 @@
-use Rattle.std.proofs.Common.{ℕ, List, length, sym, ap, ◌∙◌}
+use Rattle.std.proofs.Common.{◌≡◌, ℕ, List, length, take, sym, ap, ◌∙◌, subst}
 use Rattle.std.specs.Prelude.{nat_lt}
 use Rattle.mpy_base.specs.declared.limits.TheConstants.{MAX_CALLS}
 use Rattle.mpy_base.specs.Val.{PlainWorld}
@@ -7,12 +7,12 @@ use Rattle.bc_machine.specs.Parts.{first_absent}
 use Rattle.vm_walks.specs.Plain.{plain, plain_name}
 use Rattle.vm_modules.specs.Registry.{plain_modules}
 use Rattle.vm_importing.specs.declared.importing.Import.TheVariants as imports
-use Rattle.vm_importing.specs.Importing.{given_name}
-use Rattle.vm_importing.proofs.Coming.{of_operands}
+use Rattle.vm_importing.specs.Importing.{IsModule, given_name}
+use Rattle.vm_importing.proofs.Coming.{of_operands, begun_module}
 use Rattle.vm_importing.proofs.importing.import_name.Goals as goal
 
-pub returns-in-None : goal.returns-in-None
-returns-in-None g c from level w has =
+pub returns-in-None-clause-comes : goal.returns-in-None-clause-comes
+returns-in-None-clause-comes g c from level w has =
     let texts = g.C.Constants.text_of c.args.consts.now in
     let tuples = g.C.Constants.items_of c.args.consts.now in
     let world : PlainWorld = record w { modules = plain_modules texts tuples c.args.modules.now } in
@@ -22,5 +22,12 @@ returns-in-None g c from level w has =
     (record {
       absolute = sym (c.if-not-is_zero.ensures texts tuples w.heap);
       none_absent = ap (λ (t : List ℕ). first_absent world (prefixes t)) (sym bytes) ∙ sym (c.in-None.ensures.first w);
-      value_is = c.wanted.ensures w ∙ ap (λ (t : List ℕ). module_named world (given_name (plain texts tuples c.value_at-from.result) t)) bytes;
+      value_is = c.wanted.ensures.named w ∙ ap (λ (t : List ℕ). module_named world (given_name (plain texts tuples c.value_at-from.result) t)) bytes;
     })
+
+pub returns-in-None-clause-given : goal.returns-in-None-clause-given
+returns-in-None-clause-given g c v e = let same : c.wanted.result ≡ v = cc in subst IsModule same c.wanted.ensures.is
+
+pub returns-in-Some-clause-given : goal.returns-in-Some-clause-given
+returns-in-Some-clause-given g c v e =
+    begun_module c.args.library.now (nat_lt (length c.args.frames.now.calls) MAX_CALLS) (length (take c.in-Some.len c.text_of-text.result.now)) (take c.in-Some.len c.text_of-text.result.now) c.beginning.result v c.beginning.ensures e

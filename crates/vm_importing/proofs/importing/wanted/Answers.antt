@@ -8,17 +8,17 @@ use Rattle.vm_importing.specs.Importing.{given_name}
 use Rattle.vm_importing.proofs.Plains.{names_given}
 use Rattle.vm_importing.proofs.importing.wanted.Goals as goal
 
-pub returns-in-None : goal.returns-in-None
-returns-in-None g c w =
+pub returns-in-None-clause-named : goal.returns-in-None-clause-named
+returns-in-None-clause-named g c w =
     let texts = g.C.Constants.text_of c.args.consts.now in
     let tuples = g.C.Constants.items_of c.args.consts.now in
     let world : PlainWorld = record w { modules = plain_modules texts tuples c.args.modules.now } in
-    c.module_named.ensures w
+    c.module_of.ensures.named w
     ∙ ap (λ (n : List ℕ). module_named world n) (c.first_len.ensures.first ∙ sym (ap (λ (v : Value). given_name (plain texts tuples v) c.args.text.now) c.in-None.is))
 
-pub returns-in_default : goal.returns-in_default
-returns-in_default g c w =
+pub returns-in_default-clause-named : goal.returns-in_default-clause-named
+returns-in_default-clause-named g c w =
     let texts = g.C.Constants.text_of c.args.consts.now in
     let tuples = g.C.Constants.items_of c.args.consts.now in
     let world : PlainWorld = record w { modules = plain_modules texts tuples c.args.modules.now } in
-    c.module_named-in_default.ensures w ∙ ap (λ (n : List ℕ). module_named world n) (names_given texts tuples c.args.text.now c.args.from c.in_default.not-None)
+    c.module_of-in_default.ensures.named w ∙ ap (λ (n : List ℕ). module_named world n) (names_given texts tuples c.args.text.now c.args.from c.in_default.not-None)

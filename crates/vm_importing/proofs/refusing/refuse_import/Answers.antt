@@ -1,4 +1,4 @@
-use Rattle.std.proofs.Common.{◌≡◌, Err, sym, ap, ◌∙◌, subst, length}
+use Rattle.std.proofs.Common.{Err, sym, ap, ◌∙◌, subst, length}
 use Rattle.std.specs.Prelude.{nat_lt}
 use Rattle.mpy_base.specs.declared.limits.TheConstants.{MAX_CALLS}
 use Rattle.vm_faults.specs.declared.fault.Fault.{Fault}

@@ -1,0 +1,11 @@
+mod Registered
+mod Worlds
+mod Sounds
+mod Tellings
+mod Places
+mod Ends
+mod Raises
+mod Found
+mod Taking
+mod Takes
+mod Returns

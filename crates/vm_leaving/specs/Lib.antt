@@ -1,0 +1,4 @@
+pub mod Modules
+pub mod Own
+pub mod Running
+pub mod Waiting
