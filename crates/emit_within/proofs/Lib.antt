@@ -1,0 +1,4 @@
+pub mod Crowded
+pub mod Nested
+pub mod Accepted
+pub mod Modules

@@ -1,0 +1,11 @@
+pub mod Wells
+pub mod Names
+pub mod Regions
+pub mod Exprs
+pub mod Targets
+pub mod Stmts
+pub mod Items
+pub mod Lengths
+pub mod Codes
+pub mod Facts
+pub mod Whole
