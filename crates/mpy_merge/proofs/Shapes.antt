@@ -16,7 +16,7 @@ use Rattle.mpy_writer.proofs.Objects.{none_is, false_is, true_is, str_is, int_is
 abbrev pub IsObjectOf : ℕ → Constant → Type 0
 IsObjectOf levels object = (text : List ℕ) × IsObject levels text object
 
--- what an object of so many levels of tuples keeps
+-- what an object keeps that has at most `levels` levels of tuples
 abbrev pub Shape : ℕ → Constant-F Constant → Type 0
 Shape levels Constant-F.None = Unit {0}
 Shape levels Constant-F.False = Unit {0}

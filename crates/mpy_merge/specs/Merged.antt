@@ -41,7 +41,7 @@ pub record AreTables (modules : List Module) (tables : Tables) : Type 0 where
 -- codes
 -- =====
 
--- calls of so many children, the first of which has this position
+-- the calls of `n` children, of which the first is at `at`
 abbrev pub calls : ℕ → ℕ → List Item
 calls at zero = []
 calls at (suc n) =
@@ -50,7 +50,7 @@ calls at (suc n) =
 abbrev pub outer_items : ℕ → List Item
 outer_items n = calls 0 n ++ Plain (instrs.Plain ops.LoadConstNone) ∷ Plain (instrs.Plain ops.ReturnValue) ∷ []
 
--- the outermost code of so many modules, without those in it
+-- the outermost code of `n` modules, without those in it
 abbrev pub outer_code : ℕ → Code
 outer_code n = roll-Code (record {
   name = codes "<module>";
@@ -63,14 +63,14 @@ outer_code n = roll-Code (record {
   children = [];
 })
 
--- the codes of the modules with their numbers moved, where so many objects come in front
+-- the codes of the modules with their numbers moved, where `base` objects come in front
 abbrev pub AreMoved : ℕ → Tables → ℕ → List Module → List RawCode → Type 0
 AreMoved levels tables base [] parts = parts ≡ []
 AreMoved levels tables base (m ∷ ms) parts =
     (part : RawCode) × (rest : List RawCode) × (parts ≡ part ∷ rest) × IsMovedTree levels tables base m m.code part
     × AreMoved levels tables (base + length m.objects) ms rest
 
--- a code has so many levels of codes at most, itself among them
+-- a code has at most `levels` levels of codes, itself among them
 unfoldable pub NestsWithin : ℕ → RawCode → Type 0
 NestsWithin zero code = ⊥
 NestsWithin (suc levels) code = All (NestsWithin levels) (out-RawCode code).children

@@ -88,7 +88,7 @@ pub(crate) fn codes(
     Ok(out)
 }
 
-/// Tells whether there are so many levels of codes at most.
+/// Tells whether there are at most `levels` levels of codes, the code itself among them.
 fn nests_within(code: &RawCode, levels: usize) -> bool
     ensures { IsTrue result ↔ NestsWithin levels code.now }
 {

@@ -15,7 +15,7 @@ use mpy_tree::{Constant, module_law};
 use mpy_writer::write_constants;
 use std::alloc::Global;
 
-/// Tells whether no text in an object of at most so many levels of tuples is longer than a file may be.
+/// Tells whether no text in an object, of at most `levels` levels of tuples, is longer than a file may be.
 fn is_short(object: &Constant, levels: usize) -> bool
     requires { (text : List ℕ) × IsObject levels text object.now }
     ensures fine { IsTrue result → IsFine levels object.now }

@@ -14,7 +14,7 @@ use mpy_tree::{Code, Item};
 use mpy_writer::{Tables, write_code};
 use std::alloc::Global;
 
-/// The instructions that call so many modules' codes in order.
+/// The instructions that call the codes of `modules` modules in order.
 fn items(alloc: Global, modules: usize) -> Result<Vec<Item>, NoMemory>
     requires { modules ≤ MAX_PARTS }
     ensures { IfOk result (λ items. items.items ≡ outer_items modules) }
@@ -30,7 +30,7 @@ fn items(alloc: Global, modules: usize) -> Result<Vec<Item>, NoMemory>
     Ok(items)
 }
 
-/// The code of so many modules, without those in it.
+/// The outermost code of `modules` modules, without those in it.
 fn outer_code(alloc: Global, modules: usize) -> Result<Code, NoMemory>
     requires { modules ≤ MAX_PARTS }
     ensures { IfOk result (λ code. code ≡ specs.outer_code modules) }
@@ -49,7 +49,7 @@ fn outer_code(alloc: Global, modules: usize) -> Result<Code, NoMemory>
     })
 }
 
-/// The own bytes of the code of so many modules.
+/// Its own bytes.
 pub(crate) fn outer_own(alloc: Global, tables: &Tables, modules: usize) -> Result<Vec<u8>, NoMemory>
     requires few { modules ≤ MAX_PARTS }
     requires fit { TablesFit tables.now }
