@@ -1,0 +1,12 @@
+pub mod Ended
+pub mod Filed
+pub mod Held
+pub mod Laws
+pub mod Nests
+pub mod Once
+pub mod Outermost
+pub mod Parts
+pub mod Right
+pub mod Shapes
+pub mod Tabled
+pub mod Uses
