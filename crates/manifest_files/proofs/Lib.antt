@@ -1,0 +1,5 @@
+pub mod Said
+pub mod Goes
+pub mod Names
+pub mod Tells
+mod Examples

@@ -1,0 +1,59 @@
+use Rattle.std.proofs.Common.{◌≡◌, ℕ, List, Err, Ok, arith, rules, subst, ◌∙◌}
+use Rattle.mpy_base.specs.declared.refused.Refused.TheVariants as refused
+use Rattle.mpy_io.specs.Files.{FileOf}
+use Rattle.manifest_files.specs.declared.fault.ManifestFault.TheVariants.{Deep}
+use Rattle.manifest_files.specs.Answers.{Follows, LinesOf, Tells}
+use Rattle.manifest_files.specs.Entries.{Says, LineSays, line_saying}
+use Rattle.manifest_files.proofs.Tells.{if_some, if_some_both, refuses, too_deep, unread, line_gave_up, line_went_on, lines_told, whole_told}
+use Rattle.manifest_files.proofs.collecting.+manifest.Goals as goal
+
+pub all_lines-returns-in-Err-clause-told : goal.all_lines-returns-in-Err-clause-told
+all_lines-returns-in-Err-clause-told g t c =
+    line_gave_up (g.F.Folder.files c.args.folder.now) (g.F.Folder.files c.loop-line.folder) c.args.left c.args.opened.now.items c.loop-line.opened.items c.args.name.now c.args.lines.now c.loop-line.line-index c.line-item.result
+    c.args.entries.now.items c.loop-line.entries.items c.one_line.new.entries.items c.one_line.new.entries.items c.in-Err.refused
+    c.loop-line.invariant.same c.loop-line.invariant.opened c.loop-line-test.true c.line-item.is c.loop-line.invariant.told c.in-Err.ensures.told
+
+pub all_lines-loop-line-preserved : goal.all_lines-loop-line-preserved
+all_lines-loop-line-preserved g t c = record {
+  told = line_went_on (g.F.Folder.files c.args.folder.now) (g.F.Folder.files c.loop-line.folder) c.args.left c.args.opened.now.items c.loop-line.opened.items c.args.name.now c.args.lines.now c.loop-line.line-index c.line-item.result
+      c.args.entries.now.items c.loop-line.entries.items c.one_line.new.entries.items
+      c.loop-line.invariant.same c.loop-line.invariant.opened c.loop-line-test.true c.line-item.is c.loop-line.invariant.told c.in-Ok.ensures.told;
+  opened = c.in-Ok.ensures.opened ∙ c.loop-line.invariant.opened;
+  same = c.in-Ok.ensures.same ∙ c.loop-line.invariant.same;
+  cause = c.in-Ok.ensures.cause ∙ c.loop-line.invariant.cause;
+}
+
+pub all_lines-returns-clause-told : goal.all_lines-returns-clause-told
+all_lines-returns-clause-told g t c =
+    lines_told (g.F.Folder.files c.args.folder.now) c.args.left c.args.opened.now.items c.args.name.now c.args.lines.now c.loop-line.line-index c.args.entries.now.items c.loop-line.entries.items
+    c.loop-line-test.false c.loop-line.invariant.told
+
+pub manifest-returns-then-left-eq0-clause-told : goal.manifest-returns-then-left-eq0-clause-told
+manifest-returns-then-left-eq0-clause-told g t c =
+    if_some (λ (files : FileOf). Tells (Says files c.args.left c.args.opened.now.items c.args.name.now) c.args.entries.now.items (Err (refused.Fault (Deep c.in_ok-this.this))) c.args.entries.now.items) (g.F.Folder.files c.args.folder.now)
+    (λ files. too_deep files c.args.left c.args.opened.now.items c.args.name.now c.in_ok-this.this c.args.entries.now.items c.args.entries.now.items c.if-left-eq0.true (c.in_ok-this.ensures ∙ c.as_bytes.ensures.value))
+
+pub manifest-returns-in-Err-clause-told : goal.manifest-returns-in-Err-clause-told
+manifest-returns-in-Err-clause-told g t c =
+    if_some_both (λ (files : FileOf). LinesOf (files c.args.name.now) c.args.name.now (Err c.in-Err.refused))
+    (λ (files : FileOf). Tells (Says files c.args.left c.args.opened.now.items c.args.name.now) c.args.entries.now.items (Err c.in-Err.refused) c.args.entries.now.items) (g.F.Folder.files c.args.folder.now) c.in-Err.ensures.lines
+    (λ files r. unread files c.args.left c.args.opened.now.items c.args.name.now c.args.entries.now.items c.args.entries.now.items c.in-Err.refused (omega arith) r)
+
+pub manifest-returns-in-Err-all_lines-clause-told : goal.manifest-returns-in-Err-all_lines-clause-told
+manifest-returns-in-Err-all_lines-clause-told g t c =
+    let those : c.deref.result.now ≡ c.in-Ok.lines.items = first_of (cc, search rules) in
+    whole_told (g.F.Folder.files c.args.folder.now) (g.F.Folder.files c.read_lines.new.folder) c.args.left c.args.opened.now.items c.push.new.self.items c.args.name.now c.in_ok-this.this c.in-Ok.lines c.deref.result.now
+    c.args.entries.now.items c.all_lines.new.entries.items (Err c.in-Err-all_lines.refused) (omega arith) c.read_lines.ensures.same c.in_ok-push.ensures.items (c.in_ok-this.ensures ∙ c.as_bytes.ensures.value) those c.in-Ok.ensures.lines c.in-Err-all_lines.ensures.told
+
+pub manifest-returns-clause-told : goal.manifest-returns-clause-told
+manifest-returns-clause-told g t c =
+    let those : c.deref.result.now ≡ c.in-Ok.lines.items = first_of (cc, search rules) in
+    whole_told (g.F.Folder.files c.args.folder.now) (g.F.Folder.files c.read_lines.new.folder) c.args.left c.args.opened.now.items c.push.new.self.items c.args.name.now c.in_ok-this.this c.in-Ok.lines c.deref.result.now
+    c.args.entries.now.items c.all_lines.new.entries.items (Ok tt) (omega arith) c.read_lines.ensures.same c.in_ok-push.ensures.items (c.in_ok-this.ensures ∙ c.as_bytes.ensures.value) those c.in-Ok.ensures.lines c.in-Ok-all_lines.ensures.told
+
+pub one_line-returns-in-Err-clause-told : goal.one_line-returns-in-Err-clause-told
+one_line-returns-in-Err-clause-told g t c =
+    let these : c.deref.result.now ≡ c.args.opened.now.items = first_of (cc, search rules) in
+    if_some (λ (files : FileOf). Tells (LineSays files c.args.left c.args.opened.now.items c.args.name.now c.args.line.now) c.args.entries.now.items (Err c.in-Err.refused) c.follow.new.entries.items) (g.F.Folder.files c.args.folder.now)
+    (λ files. refuses (Says files c.args.left c.args.opened.now.items) (line_saying c.args.opened.now.items c.args.name.now c.args.line.now) c.args.entries.now.items c.follow.new.entries.items c.follow.new.entries.items c.in-Err.refused
+    (subst (λ (z : List (List ℕ)). Follows c.args.entries.now.items (line_saying z c.args.name.now c.args.line.now) (Err c.in-Err.refused) c.follow.new.entries.items) these c.in-Err.ensures.said))

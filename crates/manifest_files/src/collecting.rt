@@ -1,0 +1,143 @@
+//! The entries of a manifest.
+
+ghost use Rattle.std.specs.Prelude.{◌≡◌, ℕ, ◌<◌, ◌≤◌, List, Ok, Err, OnOk, IfOk, IfSome, IsUtf8, true, false};
+ghost use Rattle.mpy_base.specs.declared.refused.Refused.TheVariants as refused;
+ghost use Rattle.mpy_io.specs.Count.{Counts};
+ghost use Rattle.mpy_io.specs.Files.{FileOf};
+ghost use Rattle.manifest_files.specs.declared.fault.ManifestFault.{ManifestFault as Fault};
+ghost use Rattle.manifest_files.specs.Answers.{Tells, is_failed, is_read_fault};
+ghost use Rattle.manifest_files.specs.Entries.{Answer, Says, LineSays, AreSaid, AreEntries, IsAnswer, IsFault};
+
+use crate::fault::ManifestFault;
+use crate::following::follow;
+use crate::reading::read_lines;
+use manifest_lines::{Entry, Line};
+use mpy_base::{Refused, Text};
+use mpy_io::Folder;
+use std::alloc::Global;
+use std::str::from_utf8;
+
+/// How many manifests may be open, one within another.
+pub const MAX_OPEN: usize = 16;
+
+/// The text, as a name.
+fn text_of(name: &Text) -> &str
+    requires { IsUtf8 name.now }
+    ensures { result.now ≡ name.now }
+{
+    let Ok(text) = from_utf8(name.bytes()) else {
+        unreachable!();
+    };
+    text
+}
+
+/// Does what a line orders, within the opened manifests, of which the last has that name; `left` more may be opened.
+#[cycle(manifest)]
+fn one_line<F: Folder>(
+    alloc: Global,
+    folder: &mut F,
+    left: usize,
+    opened: &mut Vec<Text>,
+    name: &str,
+    line: &Line,
+    entries: &mut Vec<Entry>,
+) -> Result<(), Refused<ManifestFault>>
+    requires { left < MAX_OPEN }
+    ensures told { IfSome (F.files folder.old) (λ files. Tells (LineSays files left opened.old.items name.now line.now) entries.old.items result entries.new.items) }
+    ensures opened { OnOk result (opened.new.items ≡ opened.old.items) }
+    ensures same { F.files folder.new ≡ F.files folder.old }
+    ensures cause { Counts (F.count folder.old) (F.count folder.new) (is_failed result) }
+{
+    match follow(alloc, opened, name, line, entries) {
+        Ok(None) => Ok(()),
+        Ok(Some(inner)) => manifest(alloc, folder, left, opened, text_of(&inner), entries),
+        Err(refused) => Err(refused),
+    }
+}
+
+/// Does what lines order, one behind another.
+#[cycle(manifest)]
+fn all_lines<F: Folder>(
+    alloc: Global,
+    folder: &mut F,
+    left: usize,
+    opened: &mut Vec<Text>,
+    name: &str,
+    lines: &[Line],
+    entries: &mut Vec<Entry>,
+) -> Result<(), Refused<ManifestFault>>
+    requires { left < MAX_OPEN }
+    ensures told { IfSome (F.files folder.old) (λ files. Tells (AreSaid (LineSays files left opened.old.items name.now) lines.now) entries.old.items result entries.new.items) }
+    ensures opened { OnOk result (opened.new.items ≡ opened.old.items) }
+    ensures same { F.files folder.new ≡ F.files folder.old }
+    ensures cause { Counts (F.count folder.old) (F.count folder.new) (is_failed result) }
+{
+    for line in lines {
+        match one_line(alloc, folder, left, opened, name, line, entries) {
+            Ok(()) => {}
+            Err(refused) => return Err(refused),
+        }
+    }
+    Ok(())
+}
+
+/// Adds the entries of the manifest of this name, within the opened ones, where `left` more may be opened.
+#[cycle(manifest)]
+fn manifest<F: Folder>(
+    alloc: Global,
+    folder: &mut F,
+    left: usize,
+    opened: &mut Vec<Text>,
+    name: &str,
+    entries: &mut Vec<Entry>,
+) -> Result<(), Refused<ManifestFault>>
+    requires { left ≤ MAX_OPEN }
+    ensures told { IfSome (F.files folder.old) (λ files. Tells (Says files left opened.old.items name.now) entries.old.items result entries.new.items) }
+    ensures opened { OnOk result (opened.new.items ≡ opened.old.items) }
+    ensures same { F.files folder.new ≡ F.files folder.old }
+    ensures cause { Counts (F.count folder.old) (F.count folder.new) (is_failed result) }
+{
+    let this = Text::new(alloc, name.as_bytes())?;
+    if left == 0 {
+        return Err(Refused::Fault(ManifestFault::Deep(this)));
+    }
+    let lines = match read_lines(alloc, folder, name) {
+        Ok(lines) => lines,
+        Err(refused) => return Err(refused),
+    };
+    opened.push(this)?;
+    match all_lines(alloc, folder, left - 1, opened, name, &lines, entries) {
+        Ok(()) => {}
+        Err(refused) => return Err(refused),
+    }
+    opened.pop();
+    Ok(())
+}
+
+/// The entries of the manifest of this name, or its first fault in the order of reading: a manifest's tokens are read
+/// whole before its first line, and a line is judged whole before it adds an entry. Reads each manifest once for each
+/// include of it.
+pub fn collect<F: Folder>(
+    alloc: Global,
+    folder: &mut F,
+    name: &str,
+) -> Result<Vec<Entry>, Refused<ManifestFault>>
+    ensures found { IfSome (F.files folder.old) (λ files. IfOk result (λ entries. AreEntries files name.now entries.items)) }
+    ensures fault { IfSome (F.files folder.old) (λ files. (fault : Fault) → result ≡ Err (refused.Fault fault)
+        → is_read_fault fault ≡ false → IsFault files name.now fault) }
+    ensures same { F.files folder.new ≡ F.files folder.old }
+    ensures cause { Counts (F.count folder.old) (F.count folder.new) (is_failed result) }
+{
+    let mut opened = Vec::new(alloc);
+    let mut entries = Vec::new(alloc);
+    match manifest(alloc, folder, MAX_OPEN, &mut opened, name, &mut entries) {
+        Ok(()) => Ok(entries),
+        Err(refused) => Err(refused),
+    }
+}
+
+/// A manifest has one answer: its entries, or its first fault.
+pub fn entries_law()
+    ensures one { (files : FileOf) (name : List ℕ) (first second : Answer) → IsAnswer files name first → IsAnswer files name second → first ≡ second }
+    ensures always { (files : FileOf) (name : List ℕ) → (answer : Answer) × IsAnswer files name answer }
+{}

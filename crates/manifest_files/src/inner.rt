@@ -1,0 +1,41 @@
+//! The names of included manifests.
+
+ghost use Rattle.std.specs.Prelude.{◌≡◌, ◌⊎◌, ◌<◌, ◌≤◌, ◌-◌, get_or, length, IsUtf8};
+ghost use Rattle.manifest_files.specs.Entries as spec;
+
+use mpy_base::Text;
+
+/// How many bytes stand up to and with the last `/`.
+fn folder_length(name: &[u8]) -> usize
+    ensures length { result ≡ spec.folder_length name.now }
+    ensures within { result ≤ length name.now }
+    ensures slash { (result ≡ 0) ⊎ ((0 < result) × (get_or name.now (result - 1) 0 ≡ 47)) }
+{
+    let mut found = 0;
+    for (at, byte) in name.iter().enumerate() {
+        if *byte == b'/' {
+            found = at + 1;
+        }
+    }
+    found
+}
+
+/// The folder in which a file of this name lies, with its `/`.
+pub(crate) fn folder_of(name: &[u8]) -> &[u8]
+    ensures folder { result.now ≡ spec.folder_of name.now }
+    ensures utf8 { IsUtf8 name.now → IsUtf8 result.now }
+{
+    &name[..folder_length(name)]
+}
+
+pub(crate) fn is_ascii(text: &[u8]) -> bool
+    ensures { result ≡ spec.is_ascii text.now }
+{
+    text.iter().all(|byte| *byte < 128)
+}
+
+pub(crate) fn is_open(names: &[Text], name: &[u8]) -> bool
+    ensures { result ≡ spec.is_open names.now name.now }
+{
+    names.iter().any(|other| other.bytes() == name)
+}
