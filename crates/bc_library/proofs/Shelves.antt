@@ -1,15 +1,18 @@
 -- A library as it is kept, and as it is seen.
-use Rattle.std.proofs.Common.{◌≡◌, ℕ, zero, suc, ◌+◌, ◌<◌, ◌≤◌, Bool, false, List, [], ◌∷◌, ◌++◌, length, map, Option, Some, None, option_map, position, refl, sym, ap, ap₂, subst, ◌∙◌, arith, length-append}
+use Rattle.std.proofs.Common.{◌≡◌, ℕ, zero, suc, ◌+◌, ◌<◌, ◌≤◌, Bool, true, false, get_or, List, [], ◌∷◌, ◌++◌, length, map, Option, Some, None, option_map, position, refl, sym, ap, ap₂, subst, ◌∙◌, arith, length-append}
 use Rattle.std.specs.Prelude.{slice_get, option_and_then, IfSome, IsSome, is_some}
 use Rattle.std.specs.List.{list_any}
 use Rattle.std.specs.Str.{bytes_eq}
 use Rattle.std.proofs.lemmas.List.{map-append, length-map}
-use Rattle.std.proofs.lemmas.Option.{slice_get-map}
+use Rattle.std.proofs.lemmas.List.Folds.{list_any_at}
+use Rattle.std.proofs.lemmas.Option.{slice_get-map, slice_get_within, get_or_from_slice_get}
+use Rattle.std.proofs.lemmas.Slice.Eq.{bytes_eq-Decides}
 use Rattle.mpy_base.specs.declared.limits.TheConstants.{MAX_MODULES}
 use Rattle.mpy_base.specs.declared.refused.Refused.{Refused}
 use Rattle.mpy_base.specs.declared.refused.Refused.TheVariants as refusals
 use Rattle.qstr_pool.specs.Pool.{Texts}
-use Rattle.qstr_pool.proofs.Places.{position-map}
+use Rattle.qstr_pool.proofs.Places.{position-map, absent}
+use Rattle.bc_verify.specs.Verified.{IsVerified}
 use Rattle.mpy_tree.specs.declared.raw.Qstr.{Qstr}
 use Rattle.mpy_tree.specs.Raw as raw
 use Rattle.mpy_tree.specs.Raw.{Module}
@@ -18,11 +21,12 @@ use Rattle.bc_library.specs.declared.fault.LibFault.TheVariants as faults
 use Rattle.bc_library.specs.declared.fault.Member.{Member}
 use Rattle.bc_library.specs.declared.library.Loaded.{Loaded}
 use Rattle.bc_library.specs.declared.library.Brought.{Brought}
+use Rattle.bc_library.specs.declared.texts.Title.{Title}
 use Rattle.bc_library.specs.Added.{IsBrought}
 use Rattle.bc_library.specs.Kept.{IsLoaded, IsLibrary, named, shelf_of}
 use Rattle.bc_library.specs.Shelf.{Shelf, Named, IsFull, fault_in, member_by, member_of, module_at, entry_at, table_text, with_module}
-use Rattle.bc_library.specs.Texts.{AreNumbers, text_numbered, texts_of}
-use Rattle.bc_library.proofs.Pools.{are_kept}
+use Rattle.bc_library.specs.Texts.{AreNumbers, IsTitle, last_of, text_numbered, with_texts, texts_of}
+use Rattle.bc_library.proofs.Pools.{kept, are_kept}
 
 map-map : {A B C : Type 0} (f : B → C) (g : A → B) (xs : List A) → map f (map g xs) ≡ map (λ x. f (g x)) xs
 map-map f g [] = refl
@@ -97,13 +101,44 @@ pushed (z ∷ xs) y (suc i) x e =
     elim (pushed xs y i x e) [ before f ↦ before f | last f g ↦ last (ap suc f) g ]
 
 abbrev pub loaded_of : Brought → Module → Loaded
-loaded_of k m = record { name = k.name; «module» = m; numbers = k.numbers; values = k.values; parts = k.parts }
+loaded_of k m = record { name = k.name; title = k.title; «module» = m; numbers = k.numbers; values = k.values; parts = k.parts }
 
 pub brought_as : (pool : Texts) (n i : ℕ) (name : List ℕ) (raw m : Module) (k : Brought) → n ≡ i → raw ≡ m → IsBrought pool n name raw k → IsBrought pool i name m k
 brought_as pool n i name raw m k e f b = subst (λ z. IsBrought pool z name m k) e (subst (λ z. IsBrought pool n name z k) f b)
 
-pub with_further : (modules : List Loaded) (refused : List (List ℕ)) (pool : Texts) (name : List ℕ) (m : Module) (k : Brought) → IsLibrary modules refused pool → IsBrought pool (length modules) name m k → length modules + length refused < MAX_MODULES → IsLibrary (modules ++ loaded_of k m ∷ []) refused k.pool
-with_further modules refused pool name m k lib b room = record {
+-- no module has the name
+abbrev pub IsNew : List Loaded → List ℕ → Type 0
+IsNew modules name = (i : ℕ) (l : Loaded) → slice_get modules i ≡ Some l → l.name ≡ name → ⊥
+
+no_place : (place : Option ℕ) (b : Bool) → member_by place b ≡ None → place ≡ None
+no_place (Some i) b e = absurd cc
+no_place None b e = refl
+
+pub is_new : (modules : List Loaded) (refused : List (List ℕ)) (pool : Texts) (shelf : Shelf) (name : List ℕ) → shelf_of modules refused pool ≡ shelf → member_of shelf name ≡ None → IsNew modules name
+is_new modules refused pool shelf name is none i l e same =
+    let texts : List (List ℕ) = map (λ (n : Named). n.name) (map named modules) in
+    let missing = no_place (position (bytes_eq name) texts) (list_any (bytes_eq name) refused) (ap (λ (s : Shelf). member_of s name) is ∙ none) in
+    let there : slice_get texts i ≡ Some l.name =
+    slice_get-map (λ (n : Named). n.name) (map named modules) i ∙ ap (option_map (λ (n : Named). n.name)) (slice_get-map named modules i ∙ ap (option_map named) e) in
+    let hit : bytes_eq name (get_or texts i []) ≡ true = (bytes_eq-Decides name (get_or texts i [])).1 (sym same ∙ sym (get_or_from_slice_get texts i l.name [] there)) in
+    let found = list_any_at (bytes_eq name) texts i [] (slice_get_within texts i l.name there) hit in
+    let other : list_any (bytes_eq name) texts ≡ false = absent texts name missing in
+    cc
+
+apart : (modules : List Loaded) (new : Loaded) (i k : ℕ) (a b : Loaded) → ((i k : ℕ) (a b : Loaded) → slice_get modules i ≡ Some a → slice_get modules k ≡ Some b → a.name ≡ b.name → i ≡ k)
+    → IsNew modules new.name → Pushed modules new i a → Pushed modules new k b → a.name ≡ b.name → i ≡ k
+apart modules new i k a b was fresh (before e) (before f) same = was i k a b e f same
+apart modules new i k a b was fresh (before e) (last f g) same = absurd (fresh i a e (same ∙ sym (ap (λ (l : Loaded). l.name) g)))
+apart modules new i k a b was fresh (last e g) (before f) same = absurd (fresh k b f (sym same ∙ sym (ap (λ (l : Loaded). l.name) g)))
+apart modules new i k a b was fresh (last e g) (last f h) same = e ∙ sym f
+
+pub title_kept : (pool : Texts) (texts : List (List ℕ)) (longer : Texts) (name : List ℕ) (title : Title) → longer ≡ with_texts pool texts → IsTitle pool name title → IsTitle longer name title
+title_kept pool texts longer name title e is =
+    subst (λ (p : Texts). IsTitle p name title) (sym e)
+    (record { name_is = kept pool texts title.name name is.name_is; last_is = kept pool texts title.last (last_of name) is.last_is })
+
+pub with_further : (modules : List Loaded) (refused : List (List ℕ)) (pool : Texts) (name : List ℕ) (m : Module) (k : Brought) → IsLibrary modules refused pool → IsBrought pool (length modules) name m k → length modules + length refused < MAX_MODULES → IsVerified m → IsNew modules name → IsLibrary (modules ++ loaded_of k m ∷ []) refused k.pool
+with_further modules refused pool name m k lib b room verified fresh = record {
   own = b.own;
   loaded = λ i l e.
       elim (pushed modules (loaded_of k m) i l e) [
@@ -113,12 +148,16 @@ with_further modules refused pool name m k lib b room = record {
               numbers = subst (λ (p : Texts). AreNumbers p l.numbers.items l.«module».qstrs) (sym b.pool_is) (are_kept pool (texts_of name m) l.numbers.items l.«module».qstrs was.numbers);
               values = was.values;
               parts = was.parts;
+              title = title_kept pool (texts_of name m) k.pool l.name l.title b.pool_is was.title;
               fine = was.fine;
+              verified = was.verified;
             }
         | last f g ↦
-            let here : IsLoaded k.pool (length modules) (loaded_of k m) = record { numbers = b.numbers; values = b.values; parts = b.parts; fine = b.fine } in
+            let here : IsLoaded k.pool (length modules) (loaded_of k m) = record { title = subst (λ (t : List ℕ). IsTitle k.pool t k.title) (sym b.name_is) b.title; numbers = b.numbers; values = b.values; parts = b.parts; fine = b.fine; verified = verified } in
             subst (λ n. IsLoaded k.pool n l) (sym f) (subst (IsLoaded k.pool (length modules)) g here)
       ];
+  distinct = λ i j x y e f same.
+      apart modules (loaded_of k m) i j x y lib.distinct (λ n l g h. fresh n l g (h ∙ b.name_is)) (pushed modules (loaded_of k m) i x e) (pushed modules (loaded_of k m) j y f) same;
   few = omega (arith, room, length-append modules (loaded_of k m ∷ []));
 }
 
@@ -126,6 +165,7 @@ pub with_refusal : (modules : List Loaded) (refused : List (List ℕ)) (pool : T
 with_refusal modules refused pool name lib room = record {
   own = lib.own;
   loaded = lib.loaded;
+  distinct = lib.distinct;
   few = omega (arith, room, length-append refused (name ∷ []));
 }
 
@@ -173,3 +213,58 @@ only_names r N told = record {
 
 pub not_there : (o : Option Member) → o ≡ None → IsSome o → ⊥
 not_there o e s = let none : is_some o ≡ false = ap is_some e in cc
+
+-- what is seen of the modules
+-- ===========================
+
+-- a module that is seen is kept
+record IsKept (modules : List Loaded) (i : ℕ) (n : Named) : Type 0 where
+  loaded : Loaded
+  there : slice_get modules i ≡ Some loaded
+  is : named loaded ≡ n
+
+kept_by : (modules : List Loaded) (i : ℕ) (n : Named) → slice_get (map named modules) i ≡ Some n → IsKept modules i n
+kept_by modules i n e = by (slice_get modules i) refl (sym (slice_get-map named modules i) ∙ e)
+  where
+    by : (o : Option Loaded) → slice_get modules i ≡ o → option_map named o ≡ Some n → IsKept modules i n
+    by None f g = absurd cc
+    by (Some l) f g = record { loaded = l; there = f; is = cc }
+
+pub seen_distinct : (modules : List Loaded) (refused : List (List ℕ)) (pool : Texts) (shelf : Shelf) → shelf_of modules refused pool ≡ shelf → IsLibrary modules refused pool
+    → (i k : ℕ) (a b : Named) → slice_get shelf.modules i ≡ Some a → slice_get shelf.modules k ≡ Some b → a.name ≡ b.name → i ≡ k
+seen_distinct modules refused pool shelf is lib i k a b e f same =
+    let all : shelf.modules ≡ map named modules = ap (λ (s : Shelf). s.modules) (sym is) in
+    let x = kept_by modules i a (ap (λ (ns : List Named). slice_get ns i) (sym all) ∙ e) in
+    let y = kept_by modules k b (ap (λ (ns : List Named). slice_get ns k) (sym all) ∙ f) in
+    lib.distinct i k x.loaded y.loaded x.there y.there (ap (λ (n : Named). n.name) x.is ∙ (same ∙ sym (ap (λ (n : Named). n.name) y.is)))
+
+pub seen_verified : (modules : List Loaded) (refused : List (List ℕ)) (pool : Texts) (shelf : Shelf) → shelf_of modules refused pool ≡ shelf → IsLibrary modules refused pool
+    → (i : ℕ) (m : Module) → module_at shelf i ≡ Some m → IsVerified m
+seen_verified modules refused pool shelf is lib i m e = by (slice_get (map named modules) i) refl (ap (λ (s : Shelf). module_at s i) is ∙ e)
+  where
+    by : (o : Option Named) → slice_get (map named modules) i ≡ o → option_and_then (λ (n : Named). Some n.held) o ≡ Some m → IsVerified m
+    by None f g = absurd cc
+    by (Some n) f g =
+        let x = kept_by modules i n f in
+        let same : x.loaded.«module» ≡ m = ap (λ (n : Named). n.held) x.is ∙ cc in
+        subst IsVerified same (lib.loaded i x.loaded x.there).verified
+
+-- titles
+-- ======
+
+pub title_told : (modules : List Loaded) (refused : List (List ℕ)) (pool : Texts) (shelf : Shelf) (i : ℕ) (l : Loaded) → shelf_of modules refused pool ≡ shelf → IsLibrary modules refused pool → slice_get modules i ≡ Some l
+    → (n : Named) → slice_get shelf.modules i ≡ Some n → IsTitle shelf.pool n.name l.title
+title_told modules refused pool shelf i l is lib e n f =
+    let there : slice_get shelf.modules i ≡ Some (named l) = ap (λ (s : Shelf). slice_get s.modules i) (sym is) ∙ (slice_get-map named modules i ∙ ap (option_map named) e) in
+    let both : Some (named l) ≡ Some n = sym there ∙ f in
+    let same : named l ≡ n = cc in
+    subst (λ (p : Texts). IsTitle p n.name l.title) (ap (λ (s : Shelf). s.pool) is)
+    (subst (λ (z : Named). IsTitle pool z.name l.title) same (lib.loaded i l e).title)
+
+pub there_told : (modules : List Loaded) (refused : List (List ℕ)) (pool : Texts) (shelf : Shelf) (i : ℕ) → shelf_of modules refused pool ≡ shelf → is_some (slice_get modules i) ≡ is_some (slice_get shelf.modules i)
+there_told modules refused pool shelf i is =
+    some_map (slice_get modules i) ∙ (ap is_some (sym (slice_get-map named modules i)) ∙ ap (λ (s : Shelf). is_some (slice_get s.modules i)) is)
+  where
+    some_map : (o : Option Loaded) → is_some o ≡ is_some (option_map named o)
+    some_map None = refl
+    some_map (Some l) = refl

@@ -6,22 +6,26 @@ use Rattle.bc_library.specs.declared.library.Loaded.{Loaded}
 use Rattle.bc_library.specs.Constants.{constants_of, values_from}
 use Rattle.bc_library.specs.Fine.{Each, Fine}
 use Rattle.bc_prelude.specs.declared.prelude.Prelude.{Prelude}
+use Rattle.bc_verify.specs.Verified.{IsVerified}
 use Rattle.bc_library.specs.Greatest.{HasPrelude}
 use Rattle.bc_library.specs.Own.{IsOwnPool}
 use Rattle.bc_library.specs.Parts.{parts_from}
 use Rattle.bc_library.specs.Shelf.{Shelf, Named}
-use Rattle.bc_library.specs.Texts.{AreNumbers}
+use Rattle.bc_library.specs.Texts.{AreNumbers, IsTitle}
 
 -- what is kept of the module i
 pub record IsLoaded (pool : Texts) (i : ℕ) (l : Loaded) : Type 0 where
+  pub title : IsTitle pool l.name l.title
   pub numbers : AreNumbers pool l.numbers.items l.«module».qstrs
   pub values : l.values ≡ values_from i 0 l.«module».objects
   pub parts : l.parts.items ≡ parts_from i 0 (constants_of l.«module»)
   pub fine : Each (Fine MAX_DEPTH) l.«module».objects
+  pub verified : IsVerified l.«module»
 
 pub record IsLibrary (modules : List Loaded) (refused : List (List ℕ)) (pool : Texts) : Type 0 where
   pub own : IsOwnPool pool
   pub loaded : (i : ℕ) (l : Loaded) → slice_get modules i ≡ Some l → IsLoaded pool i l
+  pub distinct : (i k : ℕ) (a b : Loaded) → slice_get modules i ≡ Some a → slice_get modules k ≡ Some b → a.name ≡ b.name → i ≡ k
   pub few : length modules + length refused ≤ MAX_MODULES
 
 abbrev pub named : Loaded → Named

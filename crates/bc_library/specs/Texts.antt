@@ -1,5 +1,5 @@
 -- The texts of a library: what a module brings, and their numbers.
-use Rattle.std.specs.Prelude.{◌≡◌, ℕ, ◌^◌, ◌<◌, List, [], ◌∷◌, ◌++◌, length, map, All, Option, Some, None, is_some, nat_lt, ◌==◌, if◌then◌else◌}
+use Rattle.std.specs.Prelude.{◌≡◌, ℕ, ◌^◌, ◌<◌, List, [], ◌∷◌, ◌++◌, length, map, All, Option, Some, None, is_some, unwrap_or, nat_lt, ◌==◌, if◌then◌else◌}
 use Rattle.std.specs.Option.{option_or, option_to_list}
 use Rattle.std.specs.List.{filter_map}
 use Rattle.qstr_pool.specs.declared.table.TheConstants.{FIRST_OWN}
@@ -8,6 +8,7 @@ use Rattle.qstr_pool.specs.Static.{static_text_of, static_number_of}
 use Rattle.mpy_tree.specs.declared.raw.Qstr.{Qstr}
 use Rattle.mpy_tree.specs.Raw as raw
 use Rattle.mpy_tree.specs.Raw.{Module}
+use Rattle.bc_library.specs.declared.texts.Title.{Title}
 
 -- the text of a number: one that every file may name, or one of the pool
 unfoldable pub text_numbered : Texts → ℕ → Option (List ℕ)
@@ -27,6 +28,10 @@ abbrev pub last_part : List ℕ → Option (List ℕ)
 last_part [] = None
 last_part (byte ∷ name) = option_or (last_part name) (if byte == 46 then Some name else None)
 
+-- the same, or the whole name where it has no dot
+abbrev pub last_of : List ℕ → List ℕ
+last_of name = unwrap_or (last_part name) name
+
 -- what a module brings: its name, the last part of a name with a dot, and the texts of its table
 abbrev pub texts_of : List ℕ → Module → List (List ℕ)
 texts_of name m = name ∷ (option_to_list (last_part name) ++ filter_map raw.text_of m.qstrs)
@@ -36,6 +41,11 @@ pub record AreNumbers (pool : Texts) (numbers : List ℕ) (qstrs : List Qstr) : 
   pub texts : List (List ℕ)
   pub texts_are : map raw.text_of qstrs ≡ map (λ text. Some text) texts
   pub numbers_are : map (text_numbered pool) numbers ≡ map (λ text. Some text) texts
+
+-- the numbers are those of the name and of its last part
+pub record IsTitle (pool : Texts) (name : List ℕ) (title : Title) : Type 0 where
+  pub name_is : text_numbered pool title.name ≡ Some name
+  pub last_is : text_numbered pool title.last ≡ Some (last_of name)
 
 -- each byte is below 0x80, and there are fewer than 2^31
 pub record IsPlain (text : List ℕ) : Type 0 where

@@ -10,5 +10,6 @@ mod parts;
 mod texts;
 
 pub use fault::{LibFault, Member};
-pub use laws::library_law;
+pub use laws::{library_law, modules_law};
 pub use library::Library;
+pub use texts::Title;

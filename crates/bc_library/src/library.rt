@@ -10,15 +10,15 @@ ghost use Rattle.bc_library.specs.Constants.{object_value};
 ghost use Rattle.bc_library.specs.Greatest.{IsGreatestIn, ShelfHas};
 ghost use Rattle.bc_library.specs.Kept.{OneHas};
 ghost use Rattle.bc_library.specs.Own.{IsOwnPool};
-ghost use Rattle.bc_library.specs.Shelf.{IsFull, fault_of, member_of, entry_at, module_at, no_entries, table_text, with_module, with_refused};
-ghost use Rattle.bc_library.specs.Texts.{AreNumbers, IsPlain, texts_of, text_numbered, with_texts};
+ghost use Rattle.bc_library.specs.Shelf.{IsFull, Named, fault_of, member_of, entry_at, module_at, no_entries, table_text, with_module, with_refused};
+ghost use Rattle.bc_library.specs.Texts.{AreNumbers, IsPlain, IsTitle, texts_of, text_numbered, with_texts};
 
 use crate::fault::{LibFault, Member};
 use crate::greatest::greatest_in;
 use crate::parts::{Part, add_objects};
-use crate::texts::{copy_of, take_name, take_table};
+use crate::texts::{Title, copy_of, take_name, take_table};
 use arena_heap::Value;
-use bc_verify::Verified;
+use bc_verify::{Verified, verified_law};
 use mpy_base::limits::{MAX_DEPTH, MAX_MODULES, MAX_TABLE};
 use mpy_base::{Items, NoMemory, Refused, Text};
 use mpy_tree::{RawModule, module_law};
@@ -30,6 +30,7 @@ use std::marker::Model;
 #[derive(Drop)]
 pub(crate) struct Loaded {
     pub name: Text,
+    pub title: Title,
     pub module: Verified,
     /// The numbers of the texts of its table.
     pub numbers: Vec<u32>,
@@ -69,6 +70,7 @@ impl Model for Library {
 struct Brought {
     pool: Pool,
     name: Text,
+    title: Title,
     numbers: Vec<u32>,
     values: Items<Value>,
     parts: Vec<Part>,
@@ -101,26 +103,27 @@ fn number_at(numbers: &[u32], qstr: u32) -> Option<u32>
     numbers.get(qstr as usize).copied()
 }
 
-/// The pool with the texts of a module behind those that are there, and the numbers of its table.
+/// The pool with the texts of a module behind those that are there, and the numbers of its name and of its table.
 fn numbered(
     alloc: Global,
     pool: &Pool,
     name: &[u8],
     raw: &RawModule,
-) -> Result<(Pool, Vec<u32>), Refused<Full>>
+) -> Result<(Pool, Title, Vec<u32>), Refused<Full>>
     requires { pool.now.first ≡ FIRST_OWN }
     ensures pool { IfOk result (λ r. r.0 ≡ with_texts pool.now (texts_of name.now raw.now)) }
-    ensures numbers { IfOk result (λ r. AreNumbers r.0 r.1.items raw.now.qstrs) }
+    ensures title { IfOk result (λ r. IsTitle r.0 name.now r.1) }
+    ensures numbers { IfOk result (λ r. AreNumbers r.0 r.2.items raw.now.qstrs) }
     ensures fits { IfOk result (λ r. length r.0.texts ≤ MAX_TABLE) }
     ensures full { result ≡ Err (refused.Fault pool_full)
         → MAX_TABLE < length (with_texts pool.now (texts_of name.now raw.now)).texts }
 {
     module_law(raw);
     let mut longer = copy_of(alloc, pool)?;
-    take_name(alloc, &mut longer, name)?;
+    let title = take_name(alloc, &mut longer, name)?;
     let numbers = take_table(alloc, &mut longer, raw.qstrs())?;
     pool_law(&longer);
-    Ok((longer, numbers))
+    Ok((longer, title, numbers))
 }
 
 /// What a library keeps beside the module, which gets the number, and the pool with its texts.
@@ -140,7 +143,7 @@ fn brought_by(
 {
     module_law(raw);
     static_law();
-    let (pool, numbers) = match numbered(alloc, pool, name, raw) {
+    let (pool, title, numbers) = match numbered(alloc, pool, name, raw) {
         Ok(numbered) => numbered,
         Err(Refused::Fault(Full)) => return Err(Refused::Fault(LibFault::Names)),
         Err(Refused::NoMemory) => return Err(Refused::NoMemory),
@@ -151,6 +154,7 @@ fn brought_by(
     Ok(Brought {
         pool,
         name,
+        title,
         numbers,
         values,
         parts,
@@ -169,6 +173,7 @@ fn put(modules: &mut Vec<Loaded>, loaded: Loaded) -> Result<(), Verified>
             let AllocFailed { value } = failed;
             let Loaded {
                 name: _,
+                title: _,
                 module,
                 numbers: _,
                 values: _,
@@ -270,6 +275,7 @@ impl Library {
         if let Some(fault) = self.refusal(name) {
             return Err((Refused::Fault(fault), verified));
         }
+        verified_law(&verified);
         let number = self.modules.len() as u32;
         match brought_by(alloc, &self.pool, number, name, verified.module()) {
             Err(refused) => Err((refused, verified)),
@@ -277,12 +283,14 @@ impl Library {
                 let Brought {
                     pool,
                     name,
+                    title,
                     numbers,
                     values,
                     parts,
                 } = brought;
                 let loaded = Loaded {
                     name,
+                    title,
                     module: verified,
                     numbers,
                     values,
@@ -324,6 +332,15 @@ impl Library {
     {
         let loaded = self.modules.get(i as usize)?;
         Some(&loaded.module)
+    }
+
+    /// The numbers of the texts of a module's name and of its last part.
+    pub fn title(&self, module_number: u32) -> Option<Title>
+        ensures is { IfSome result (λ title. (n : Named) → slice_get self.now.modules module_number ≡ Some n → IsTitle self.now.pool n.name title) }
+        ensures some { IsSome result ↔ IsSome (slice_get self.now.modules module_number) }
+    {
+        let loaded = loaded_at(&self.modules, module_number)?;
+        Some(loaded.title)
     }
 
     /// The number of a text of the module's table, static or of the pool.

@@ -8,13 +8,20 @@ ghost use Rattle.qstr_pool.specs.Full.{pool_full};
 ghost use Rattle.qstr_pool.specs.Pool.{text_of};
 ghost use Rattle.mpy_tree.specs.Raw as raw;
 ghost use Rattle.bc_library.specs.Fine.{Each, FineQstr};
-ghost use Rattle.bc_library.specs.Texts.{AreNumbers, last_part, text_numbered, with_text, with_texts};
+ghost use Rattle.bc_library.specs.Texts.{AreNumbers, IsTitle, last_part, text_numbered, with_text, with_texts};
 
 use mpy_base::limits::MAX_TABLE;
 use mpy_base::{NoMemory, Refused};
 use mpy_tree::Qstr;
 use qstr_pool::{FIRST_OWN, Full, Pool, pool_law, static_law, static_number, static_text};
 use std::alloc::Global;
+
+/// The numbers of the texts of a module's name and of its last part, which is the whole name where it has no dot.
+#[derive(Clone, Copy, Debug, PartialEq, Eq)]
+pub struct Title {
+    pub name: u32,
+    pub last: u32,
+}
 
 /// The text behind the last dot of a name.
 pub(crate) fn last_part(name: &[u8]) -> Option<&[u8]>
@@ -57,19 +64,23 @@ pub(crate) fn take_text(alloc: Global, pool: &mut Pool, text: &[u8]) -> Result<u
 }
 
 /// A name, and behind it its last part where it has a dot, go into the pool.
-pub(crate) fn take_name(alloc: Global, pool: &mut Pool, name: &[u8]) -> Result<(), Refused<Full>>
+pub(crate) fn take_name(alloc: Global, pool: &mut Pool, name: &[u8]) -> Result<Title, Refused<Full>>
     requires { pool.old.first ≡ FIRST_OWN }
+    ensures title { IfOk result (IsTitle pool.new name.now) }
     ensures pool { OnOk result (pool.new ≡ with_texts pool.old (name.now ∷ option_to_list (last_part name.now))) }
     ensures full { result ≡ Err (refused.Fault pool_full)
         → MAX_TABLE < length (with_texts pool.old (name.now ∷ option_to_list (last_part name.now))).texts }
 {
-    take_text(alloc, pool, name)?;
+    let number = take_text(alloc, pool, name)?;
     match last_part(name) {
         Some(part) => {
-            take_text(alloc, pool, part)?;
-            Ok(())
+            let last = take_text(alloc, pool, part)?;
+            Ok(Title { name: number, last })
         }
-        None => Ok(()),
+        None => Ok(Title {
+            name: number,
+            last: number,
+        }),
     }
 }
 

@@ -46,6 +46,7 @@ returns-clause-brought c =
       pool_is = c.in-Ok.ensures.pool;
       own = subst IsOwnPool (sym c.in-Ok.ensures.pool) (own_texts c.args.pool.now c.args.name.now c.args.raw.now c.static_law.ensures.one_to_one c.requires.own c.requires.plain (fine_qstrs c.args.raw.now c.module_law.ensures));
       name_is = c.in_ok-name.ensures;
+      title = c.in-Ok.ensures.title;
       numbers = c.in-Ok.ensures.numbers;
       values = subst (λ (os : List Constant). c.in_ok-values.values ≡ values_from c.args.number 0 os) objects
           (subst (λ bs. c.in_ok-values.values ≡ values_from c.args.number (length bs) c.objects.result.now) none c.in_ok-values.ensures.values);

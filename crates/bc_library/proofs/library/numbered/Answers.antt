@@ -12,6 +12,7 @@ use Rattle.bc_library.specs.Fine.{Each, FineQstr}
 use Rattle.bc_library.specs.Texts.{AreNumbers, last_part, with_texts}
 use Rattle.bc_library.proofs.Files.{fine_qstrs}
 use Rattle.bc_library.proofs.Pools.{same_first, both_taken, name_overflows, rest_overflows}
+use Rattle.bc_library.proofs.Shelves.{title_kept}
 use Rattle.bc_library.proofs.library.numbered.Goals as goal
 
 pub copy_of-requires : goal.copy_of-requires
@@ -25,16 +26,16 @@ returns-in_err-longer-clause-full c e =
 pub take_name-requires : goal.take_name-requires
 take_name-requires c = ap (λ (p : Texts). p.first) c.in_ok-longer.ensures ∙ c.requires
 
-pub returns-in_err-take_name-clause-full : goal.returns-in_err-take_name-clause-full
-returns-in_err-take_name-clause-full c e =
-    let p = err_from_is_err_and c.from_residual-in_err-take_name.result c.from_residual-in_err-take_name.ensures.1 in
-    let fault : c.in_err-take_name.field-0.0 ≡ refused.Fault pool_full = cc (p.1, p.2) in
-    let over = c.in_err-take_name.ensures.full (ap (λ z. Err z) fault) in
+pub returns-in_err-title-clause-full : goal.returns-in_err-title-clause-full
+returns-in_err-title-clause-full c e =
+    let p = err_from_is_err_and c.from_residual-in_err-title.result c.from_residual-in_err-title.ensures.1 in
+    let fault : c.in_err-title.field-0.0 ≡ refused.Fault pool_full = cc (p.1, p.2) in
+    let over = c.in_err-title.ensures.full (ap (λ z. Err z) fault) in
     name_overflows c.args.pool.now c.in_ok-longer.longer (c.args.name.now ∷ option_to_list (last_part c.args.name.now)) (filter_map raw.text_of c.args.raw.now.qstrs) c.in_ok-longer.ensures over
 
 pub take_table-requires-clause-own : goal.take_table-requires-clause-own
 take_table-requires-clause-own c =
-    ap (λ (p : Texts). p.first) c.in_ok-take_name.ensures.pool
+    ap (λ (p : Texts). p.first) c.in_ok-title.ensures.pool
     ∙ (same_first c.in_ok-longer.longer (c.args.name.now ∷ option_to_list (last_part c.args.name.now)) ∙ (ap (λ (p : Texts). p.first) c.in_ok-longer.ensures ∙ c.requires))
 
 pub take_table-requires-clause-fine : goal.take_table-requires-clause-fine
@@ -46,16 +47,20 @@ returns-in_err-numbers-clause-full c e =
     let fault : c.in_err-numbers.field-0.0 ≡ refused.Fault pool_full = cc (p.1, p.2) in
     let over = c.in_err-numbers.ensures.full (ap (λ z. Err z) fault) in
     let at = subst (λ (qs : List Qstr). MAX_TABLE < length (with_texts c.take_name.new.pool (filter_map raw.text_of qs)).texts) c.qstrs.ensures over in
-    rest_overflows c.args.pool.now c.in_ok-longer.longer c.take_name.new.pool (c.args.name.now ∷ option_to_list (last_part c.args.name.now)) (filter_map raw.text_of c.args.raw.now.qstrs) c.in_ok-longer.ensures c.in_ok-take_name.ensures.pool at
+    rest_overflows c.args.pool.now c.in_ok-longer.longer c.take_name.new.pool (c.args.name.now ∷ option_to_list (last_part c.args.name.now)) (filter_map raw.text_of c.args.raw.now.qstrs) c.in_ok-longer.ensures c.in_ok-title.ensures.pool at
 
 pub returns-clause-pool : goal.returns-clause-pool
 returns-clause-pool c =
     let table = c.in_ok-numbers.ensures.pool ∙ ap (λ (qs : List Qstr). with_texts c.take_name.new.pool (filter_map raw.text_of qs)) c.qstrs.ensures in
-    both_taken c.args.pool.now c.in_ok-longer.longer c.take_name.new.pool c.take_table.new.pool (c.args.name.now ∷ option_to_list (last_part c.args.name.now)) (filter_map raw.text_of c.args.raw.now.qstrs) c.in_ok-longer.ensures c.in_ok-take_name.ensures.pool table
+    both_taken c.args.pool.now c.in_ok-longer.longer c.take_name.new.pool c.take_table.new.pool (c.args.name.now ∷ option_to_list (last_part c.args.name.now)) (filter_map raw.text_of c.args.raw.now.qstrs) c.in_ok-longer.ensures c.in_ok-title.ensures.pool table
 
 pub returns-clause-numbers : goal.returns-clause-numbers
 returns-clause-numbers c =
     subst (λ (qs : List Qstr). AreNumbers c.take_table.new.pool c.in_ok-numbers.numbers.items qs) c.qstrs.ensures c.in_ok-numbers.ensures.numbers
+
+pub returns-clause-title : goal.returns-clause-title
+returns-clause-title c =
+    title_kept c.take_name.new.pool (filter_map raw.text_of c.qstrs.result.now) c.take_table.new.pool c.args.name.now c.in_ok-title.title c.in_ok-numbers.ensures.pool c.in_ok-title.ensures.title
 
 pub returns-clause-fits : goal.returns-clause-fits
 returns-clause-fits c = c.pool_law.ensures.is_pool.few

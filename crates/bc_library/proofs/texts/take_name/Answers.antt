@@ -1,20 +1,29 @@
-use Rattle.std.proofs.Common.{◌≡◌, [], ◌∷◌, Err, ap, ◌∙◌, arith}
+use Rattle.std.proofs.Common.{◌≡◌, List, ℕ, [], ◌∷◌, Err, Option, Some, sym, ap, subst, ◌∙◌, arith}
 use Rattle.std.specs.Option.{option_to_list}
 use Rattle.std.proofs.lemmas.Result.{err_from_is_err_and}
 use Rattle.mpy_base.specs.declared.refused.Refused.TheVariants as refused
 use Rattle.qstr_pool.specs.Full.{pool_full}
+use Rattle.std.specs.Prelude.{unwrap_or}
 use Rattle.qstr_pool.specs.Pool.{Texts}
-use Rattle.bc_library.specs.Texts.{last_part, with_text}
-use Rattle.bc_library.proofs.Pools.{longer, same_first}
+use Rattle.bc_library.specs.Texts.{last_part, text_numbered, with_text}
+use Rattle.bc_library.proofs.Pools.{kept, longer, same_first}
 use Rattle.bc_library.proofs.texts.take_name.Goals as goal
 
-pub returns-in_err-take_text-clause-full : goal.returns-in_err-take_text-clause-full
-returns-in_err-take_text-clause-full c e =
+pub returns-in_err-number-clause-full : goal.returns-in_err-number-clause-full
+returns-in_err-number-clause-full c e =
     let p = err_from_is_err_and c.from_residual.result c.from_residual.ensures.1 in
-    let fault : c.in_err-take_text.field-0.0 ≡ refused.Fault pool_full = cc (p.1, p.2) in
-    let over = c.in_err-take_text.ensures.full (ap (λ z. Err z) fault) in
+    let fault : c.in_err-number.field-0.0 ≡ refused.Fault pool_full = cc (p.1, p.2) in
+    let over = c.in_err-number.ensures.full (ap (λ z. Err z) fault) in
     omega (arith, over, longer (with_text c.args.pool.now c.args.name.now) (option_to_list (last_part c.args.name.now)))
 
 pub take_text-requires-in-Some : goal.take_text-requires-in-Some
 take_text-requires-in-Some c =
-    ap (λ (pool : Texts). pool.first) c.in_ok-take_text.ensures.pool ∙ (same_first c.args.pool.now (c.args.name.now ∷ []) ∙ c.requires)
+    ap (λ (pool : Texts). pool.first) c.in_ok-number.ensures.pool ∙ (same_first c.args.pool.now (c.args.name.now ∷ []) ∙ c.requires)
+
+pub returns-in_ok-last-in-Some-clause-title : goal.returns-in_ok-last-in-Some-clause-title
+returns-in_ok-last-in-Some-clause-title c =
+    let first = kept c.take_text.new.pool (c.in-Some.part.now ∷ []) c.in_ok-number.number c.args.name.now c.in_ok-number.ensures.number in
+    record {
+      name_is = subst (λ (p : Texts). text_numbered p c.in_ok-number.number ≡ Some c.args.name.now) (sym c.in_ok-last-in-Some.ensures.pool) first;
+      last_is = c.in_ok-last-in-Some.ensures.number ∙ ap (λ (o : Option (List ℕ)). Some (unwrap_or o c.args.name.now)) c.in-Some.ensures;
+    }

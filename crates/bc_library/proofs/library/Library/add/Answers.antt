@@ -6,7 +6,7 @@ use Rattle.bc_library.specs.declared.library.Loaded.{Loaded}
 use Rattle.bc_library.specs.Kept.{IsLibrary, shelf_of}
 use Rattle.bc_library.specs.Shelf.{Shelf}
 use Rattle.bc_library.specs.Texts.{with_texts, texts_of}
-use Rattle.bc_library.proofs.Shelves.{OnlyNames, has_room, only_names, not_there, brought_as, with_further, seen_further}
+use Rattle.bc_library.proofs.Shelves.{OnlyNames, has_room, only_names, not_there, brought_as, is_new, with_further, seen_further}
 use Rattle.bc_library.proofs.library.Library.add.Goals as goal
 
 pub returns-in-Some-clause-twice : goal.returns-in-Some-clause-twice
@@ -33,7 +33,8 @@ invariant_of-self c =
     let brought = brought_as c.self.inside.pool c.len-number.result (length c.self.inside.modules.items) c.args.name.now c.module.result.now c.args.verified c.in-Ok.brought number c.module.ensures c.in-Ok.ensures.brought in
     let room = has_room c.self.inside.modules.items c.self.inside.refused c.self.inside.pool c.args.self.now c.self.view_is c.in_default.ensures.none.1 in
     subst (λ (ls : List Loaded). IsLibrary ls c.self.inside.refused c.in-Ok.brought.pool) (sym c.in-Ok-put.ensures.ok)
-    (with_further c.self.inside.modules.items c.self.inside.refused c.self.inside.pool c.args.name.now c.args.verified c.in-Ok.brought c.self.invariant brought room)
+    (with_further c.self.inside.modules.items c.self.inside.refused c.self.inside.pool c.args.name.now c.args.verified c.in-Ok.brought c.self.invariant brought room c.verified_law.ensures
+    (is_new c.self.inside.modules.items c.self.inside.refused c.self.inside.pool c.args.self.now c.args.name.now c.self.view_is c.in_default.ensures.none.0))
 
 pub invariant_of-self-in-Err-put : goal.invariant_of-self-in-Err-put
 invariant_of-self-in-Err-put c =
