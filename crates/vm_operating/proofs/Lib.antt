@@ -1,4 +1,5 @@
 mod Collecting
+mod Constancy
 mod Doing
 mod Ending
 mod Finding

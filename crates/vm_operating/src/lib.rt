@@ -3,6 +3,7 @@
 
 mod attributes;
 mod branching;
+mod constants;
 mod displays;
 mod iterators;
 mod law;
@@ -13,6 +14,7 @@ mod operating;
 mod operators;
 mod subscripts;
 
+pub use constants::constants_law;
 pub use moving::{load_int, load_object, unwind_jump};
 pub use operating::{attribute_on, jump_to, name_on, number_on, plain_on};
 pub use operators::{binary_op, unary_op, visits_binary_op};
