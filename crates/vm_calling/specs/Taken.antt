@@ -1,5 +1,5 @@
 -- What an instruction calls, with its operands.
-use Rattle.std.specs.Prelude.{◌≡◌, ℕ, suc, ◌+◌, ◌<◌, ◌≤◌, List, length, Some, slice_get}
+use Rattle.std.specs.Prelude.{◌≡◌, ℕ, suc, ◌+◌, ◌<◌, ◌≤◌, List, length, Some, All, slice_get}
 use Rattle.mpy_base.specs.declared.builtin.Builtin.{Builtin}
 use Rattle.mpy_base.specs.World.{Heap}
 use Rattle.bc_ops.specs.declared.instr.Instr.TheVariants as instrs
@@ -12,7 +12,7 @@ use Rattle.bc_machine.specs.Library.{Plain}
 use Rattle.vm_calls.specs.Callees.{IsKnownCallee}
 use Rattle.vm_frames.specs.declared.slot.Slot.{Slot}
 use Rattle.vm_frames.specs.declared.slot.Slot.TheVariants as slots
-use Rattle.vm_frames.specs.Calls.{Calls}
+use Rattle.vm_frames.specs.Calls.{Call, Calls}
 use Rattle.vm_fetching.specs.declared.operations.NumberOp.{NumberOp}
 use Rattle.vm_fetching.specs.declared.operations.NumberOp.TheVariants as number_ops
 use Rattle.vm_fetching.specs.Operations.{number_op}
@@ -59,6 +59,11 @@ abbrev pub HasMethods : List Slot → Type 0
 HasMethods st =
     (i : ℕ) (object : Value) (method : Builtin) → slice_get st i ≡ Some (slots.Object (Some object)) → slice_get st (suc i) ≡ Some (slots.Value (values.Built method))
     → IsMethodOf method object
+
+-- the rooms of the calls stay, and their look-ups lie on methods where the old ones did
+pub record Keeps (old new : Calls) : Type 0 where
+  pub rooms : new ≡ record old { calls = new.calls }
+  pub methods : All (λ (c : Call). HasMethods c.slots) old.calls → All (λ (c : Call). HasMethods c.slots) new.calls
 
 -- this is what the instruction calls over the arena, and these are its operands. They are known
 pub record IsTaken (shelf : Shelf) (op : NumberOp) (number : ℕ) (heap : Heap Value ℕ) (s : Calls) (given : Given) (call : Invocation) : Type 0 where

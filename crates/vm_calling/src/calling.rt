@@ -8,7 +8,7 @@ ghost use Rattle.vm_fetching.specs.declared.instruction.Instruction.TheVariants 
 ghost use Rattle.vm_invoking.specs.Built.{IsKnownCallStop};
 ghost use Rattle.vm_calling.specs.Called.{CallsIn, of_stop};
 ghost use Rattle.vm_calling.specs.Runs.{IsFetchedAt, RunsWithin, RunsAgain};
-ghost use Rattle.vm_calling.specs.Taken.{CallsValue, IsTaken};
+ghost use Rattle.vm_calling.specs.Taken.{CallsValue, Keeps, IsTaken};
 
 use crate::entering::call_code;
 use arena_heap::Arena;
@@ -61,6 +61,7 @@ pub fn call_on<S: Sink, P: Port>(
     ensures later { Later arena.old.objects arena.new.objects }
     ensures stop { IsKnownCallStop (text_at library.now) (items_at library.now) arena.new.objects result }
     ensures stays { OnErr result (frames.new ≡ frames.old) }
+    ensures keeps { Keeps frames.old frames.new }
     ensures room { bindings.new.room ≡ bindings.old.room }
 {
     rows_law();

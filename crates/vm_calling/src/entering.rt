@@ -7,7 +7,7 @@ ghost use Rattle.vm_fetching.specs.declared.instruction.Instruction.TheVariants 
 ghost use Rattle.vm_invoking.specs.Putting.{IsKnownStop};
 ghost use Rattle.vm_calling.specs.Called.{ComesIn};
 ghost use Rattle.vm_calling.specs.Runs.{RunsWithin, RunsAgain};
-ghost use Rattle.vm_calling.specs.Taken.{CallsValue, IsTaken};
+ghost use Rattle.vm_calling.specs.Taken.{CallsValue, Keeps, IsTaken};
 
 use crate::finding::code_of;
 use arena_heap::Arena;
@@ -46,6 +46,7 @@ pub(crate) fn call_code(
     ensures again { RunsAgain library.now (record { instruction = fetched.Number op number; end = end }) arena.now arena.now frames.old frames.new }
     ensures stop { IsKnownStop (text_at library.now) (items_at library.now) arena.now.objects result }
     ensures stays { OnErr result (frames.new ≡ frames.old) }
+    ensures keeps { Keeps frames.old frames.new }
     ensures room { bindings.new.room ≡ bindings.old.room }
 {
     rows_law();

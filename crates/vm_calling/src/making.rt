@@ -5,6 +5,7 @@ ghost use Rattle.vm_fetching.specs.declared.instruction.Instruction.TheVariants 
 ghost use Rattle.vm_fetching.specs.declared.operations.NumberOp.TheVariants as number_ops;
 ghost use Rattle.vm_calling.specs.Names.{AreNames};
 ghost use Rattle.vm_calling.specs.Runs.{RunsIn, ActsIn};
+ghost use Rattle.vm_calling.specs.Taken.{Keeps};
 
 use crate::finding::child_in;
 use arena_heap::Arena;
@@ -33,6 +34,7 @@ pub fn make_function(
     requires names { AreNames library.now names.now }
     ensures acts { ActsIn library.now (record { instruction = fetched.Number number_ops.MakeFunction number; end = end }) 0 arena.old arena.new frames.old frames.new result }
     ensures stays { OnErr result (frames.new ≡ frames.old) }
+    ensures keeps { Keeps frames.old frames.new }
 {
     rows_law();
     known_law();
@@ -58,6 +60,7 @@ pub fn make_function_with(
     requires names { AreNames library.now names.now }
     ensures acts { ActsIn library.now (record { instruction = fetched.Number number_ops.MakeFunctionDefargs number; end = end }) 0 arena.old arena.new frames.old frames.new result }
     ensures stays { OnErr result (frames.new ≡ frames.old) }
+    ensures keeps { Keeps frames.old frames.new }
 {
     rows_law();
     known_law();

@@ -17,6 +17,7 @@ use Rattle.vm_calling.proofs.Acted as acted
 use Rattle.vm_calling.proofs.Comings as comings
 use Rattle.vm_calling.proofs.Puttings as puttings
 use Rattle.vm_calling.proofs.Takings as takings
+use Rattle.vm_calling.proofs.Keepings as keepings
 use Rattle.vm_calling.proofs.calling.call_on.Goals as goal
 
 pub act_method-requires-clause-some : goal.act_method-requires-clause-some
@@ -206,3 +207,14 @@ pub returns-in-Runs-clause-stays : goal.returns-in-Runs-clause-stays
 returns-in-Runs-clause-stays g c =
     subst (λ z. OnErr z (c.call_code.new.frames ≡ c.args.frames.now)) (sym c.stopped-in-Runs.ensures)
     (puttings.call_stays c.args.frames.now c.call_code.new.frames c.call_code.result c.call_code.ensures.stays)
+
+pub returns-in-Method-clause-keeps : goal.returns-in-Method-clause-keeps
+returns-in-Method-clause-keeps g c =
+    keepings.put_keeps (text_at c.args.library.now) (items_at c.args.library.now) c.act_method.new.arena.objects c.args.end c.args.call.size c.args.frames.now c.act_method.new.frames c.act_method.result c.act_method.ensures.moved
+
+pub returns-in-Built-clause-keeps : goal.returns-in-Built-clause-keeps
+returns-in-Built-clause-keeps g c =
+    keepings.put_keeps (text_at c.args.library.now) (items_at c.args.library.now) c.act_builtin.new.arena.objects c.args.end c.args.call.size c.args.frames.now c.act_builtin.new.frames c.act_builtin.result c.act_builtin.ensures.moved
+
+pub returns-in-NotCallable-clause-keeps : goal.returns-in-NotCallable-clause-keeps
+returns-in-NotCallable-clause-keeps g c = keepings.same_keeps c.args.frames.now c.args.frames.now refl

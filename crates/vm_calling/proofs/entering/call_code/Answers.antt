@@ -9,6 +9,8 @@ use Rattle.vm_calling.proofs.Arriving.{enters_stays}
 use Rattle.vm_calling.proofs.Functions as functions
 use Rattle.vm_calling.proofs.Places as places
 use Rattle.vm_calling.proofs.Takings as takings
+use Rattle.vm_calling.proofs.Keepings as keepings
+use Rattle.arena_heap.specs.declared.value.Value.TheVariants as values
 use Rattle.vm_calling.proofs.entering.call_code.Goals as goal
 
 pub skip_function-requires-clause-some : goal.skip_function-requires-clause-some
@@ -119,3 +121,10 @@ returns-in-Some-clause-again c p row means shelf_is state r =
 pub returns-in-Some-clause-stays : goal.returns-in-Some-clause-stays
 returns-in-Some-clause-stays c =
     enters_stays (text_at c.args.library.now) (items_at c.args.library.now) c.args.arena.now.objects c.args.function c.in-Some.module_number c.in-Some.row.now.locals c.args.call.size c.args.frames.now c.run_function.new.frames c.run_function.result c.run_function.ensures.entered
+
+pub returns-in-None-clause-keeps : goal.returns-in-None-clause-keeps
+returns-in-None-clause-keeps c = keepings.value_keeps c.args.end c.args.call.size values.None c.args.frames.now c.skip_function.new.frames c.skip_function.ensures.moved
+
+pub returns-in-Some-clause-keeps : goal.returns-in-Some-clause-keeps
+returns-in-Some-clause-keeps c =
+    keepings.enters_keeps (text_at c.args.library.now) (items_at c.args.library.now) c.args.arena.now.objects c.args.function c.in-Some.module_number c.in-Some.row.now.locals c.args.call.size c.args.frames.now c.run_function.new.frames c.run_function.result c.run_function.ensures.entered

@@ -20,6 +20,7 @@ use Rattle.vm_calling.proofs.Bases as bases
 use Rattle.vm_calling.proofs.Comings as comings
 use Rattle.vm_calling.proofs.Puttings as puttings
 use Rattle.vm_calling.proofs.Looking.{first_of}
+use Rattle.vm_calling.proofs.Keepings as keepings
 use Rattle.vm_calling.proofs.making.make_function.Goals as goal
 
 pub running-module_number-requires : goal.running-module_number-requires
@@ -74,3 +75,7 @@ returns-clause-acts c p row means shelf_is state r =
 pub returns-clause-stays : goal.returns-clause-stays
 returns-clause-stays c =
     puttings.stays_put (text_at c.args.library.now) (items_at c.args.library.now) c.make_function.new.arena.objects c.args.end 0 c.args.frames.now c.make_function.new.frames c.make_function.result c.make_function.ensures.moved
+
+pub returns-clause-keeps : goal.returns-clause-keeps
+returns-clause-keeps c =
+    keepings.put_keeps (text_at c.args.library.now) (items_at c.args.library.now) c.make_function.new.arena.objects c.args.end 0 c.args.frames.now c.make_function.new.frames c.make_function.result c.make_function.ensures.moved
