@@ -1,7 +1,7 @@
 -- What small manifests say.
 use Rattle.std.proofs.Common.{◌≡◌, ℕ, List, [], ◌∷◌, Some, None, Ok, Err, codes, refl}
 use Rattle.manifest_lines.specs.declared.entry.Entry.{Entry}
-use Rattle.manifest_lines.specs.declared.order.Order.TheVariants.{Include, Freeze, Nothing, Require}
+use Rattle.manifest_lines.specs.declared.order.Order.TheVariants.{Include, Freeze, Require}
 use Rattle.manifest_files.specs.declared.fault.ManifestFault.TheVariants.{BadCall, Loop, Twice, Required}
 use Rattle.manifest_files.specs.Entries.{folder_of, Itself, Another, order_saying, entries_after}
 

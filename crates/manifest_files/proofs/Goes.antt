@@ -1,11 +1,11 @@
 -- What was collected so far, over the lines that are left.
-use Rattle.std.proofs.Common.{◌≡◌, ℕ, zero, suc, ◌+◌, ◌-◌, ◌<◌, List, [], ◌∷◌, ◌++◌, Option, Some, None, Result, Ok, Err, refl, ap, sym, ◌∙◌, subst, arith}
+use Rattle.std.proofs.Common.{◌≡◌, ℕ, zero, suc, ◌-◌, ◌<◌, List, [], ◌∷◌, ◌++◌, Option, Some, Ok, Err, refl, ap, sym, ◌∙◌, subst, arith}
 use Rattle.mpy_io.specs.Files.{FileOf}
 use Rattle.manifest_lines.specs.declared.entry.Entry.{Entry}
 use Rattle.manifest_lines.specs.declared.manifest.Line.{Line}
 use Rattle.manifest_files.specs.declared.fault.ManifestFault.{ManifestFault}
 use Rattle.manifest_files.specs.Entries.{AreLines, Said, AreSaid, FileSays, Says, LineSays, Answer, one_more, and_then, entries_after}
-use Rattle.manifest_files.proofs.Said.{any_line, any_all}
+use Rattle.manifest_files.proofs.Said.{any_all}
 
 -- ---- what is said behind
 

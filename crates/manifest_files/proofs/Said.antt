@@ -1,15 +1,11 @@
 -- What manifests say: each says something, and one thing alone.
-use Rattle.std.proofs.Common.{◌≡◌, ◌⊎◌, ℕ, zero, suc, List, [], ◌∷◌, ◌++◌, Option, Some, None, Result, Ok, Err, inl, inr, refl, ap, ap₂, sym, ◌∙◌, subst}
+use Rattle.std.proofs.Common.{◌≡◌, ℕ, zero, suc, List, [], ◌∷◌, ◌++◌, Option, Some, None, Err, inl, inr, refl, ap, ap₂, sym, ◌∙◌, subst}
 use Rattle.mpy_base.specs.declared.source.SourceFault.{SourceFault}
 use Rattle.mpy_io.specs.Files.{FileOf}
-use Rattle.py_tokens.specs.declared.token.Token.{Token}
-use Rattle.py_tokens.specs.Tokens.{IsTokens, IsFirstFault}
 use Rattle.py_tokens.proofs.Always.{always}
 use Rattle.py_tokens.proofs.Readings.{one_list, one_fault, apart}
-use Rattle.manifest_lines.specs.declared.entry.Entry.{Entry}
 use Rattle.manifest_lines.specs.declared.manifest.Line.{Line}
 use Rattle.manifest_lines.specs.Lines.{lines_of}
-use Rattle.manifest_files.specs.declared.fault.ManifestFault.{ManifestFault}
 use Rattle.manifest_files.specs.declared.fault.ManifestFault.TheVariants.{Absent, Deep}
 use Rattle.manifest_files.specs.declared.collecting.TheConstants.{MAX_OPEN}
 use Rattle.manifest_files.specs.Entries.{bad_line, AreLines, Said, Saying, Itself, Another, line_saying, IsSaid, AreSaid, FileSays, Says, LineSays, Answer, entries_after, IsAnswer}

@@ -1,9 +1,8 @@
 -- What the parts of a collection answer, together.
-use Rattle.std.proofs.Common.{◌≡◌, ℕ, zero, suc, ◌+◌, ◌-◌, ◌<◌, ◌≤◌, List, [], ◌∷◌, ◌++◌, length, drop, get_or, Option, Some, None, IfSome, IfOk, inl, inr, Bool, true, false, true≢false, Result, Ok, Err, Vec, refl, ap, sym, ◌∙◌, subst, arith}
+use Rattle.std.proofs.Common.{◌≡◌, ℕ, zero, suc, ◌+◌, ◌-◌, ◌<◌, ◌≤◌, List, [], ◌∷◌, ◌++◌, length, drop, get_or, Option, Some, None, IfSome, IfOk, inl, inr, false, true≢false, Result, Ok, Err, Vec, refl, ap, sym, ◌∙◌, subst, arith}
 use Rattle.std.specs.declared.alloc.Global.{Global}
 use Rattle.mpy_base.specs.declared.refused.Refused.{Refused}
 use Rattle.mpy_base.specs.declared.refused.Refused.TheVariants as refused
-use Rattle.mpy_base.specs.declared.limits.TheConstants.{MAX_READ_BYTES, MAX_SOURCE_BYTES}
 use Rattle.mpy_base.specs.Fault.{too_long}
 use Rattle.mpy_io.specs.Files.{FileOf, Reads}
 use Rattle.mpy_io.specs.declared.fault.ReadFault.TheVariants.{TooLong}
@@ -11,11 +10,11 @@ use Rattle.manifest_lines.specs.declared.entry.Entry.{Entry}
 use Rattle.manifest_lines.specs.declared.manifest.Line.{Line}
 use Rattle.manifest_files.specs.declared.fault.ManifestFault.{ManifestFault}
 use Rattle.manifest_files.specs.declared.fault.ManifestFault.TheVariants.{BadCall, Loop, Twice, Absent, Required, Deep, TooMany, ReadFault}
-use Rattle.manifest_files.specs.Entries.{bad_line, AreLines, AreEntries, IsFault, Said, Saying, Itself, Another, line_saying, IsSaid, AreSaid, FileSays, Says, LineSays, entries_after}
+use Rattle.manifest_files.specs.Entries.{bad_line, AreLines, AreEntries, IsFault, Said, Saying, Itself, Another, IsSaid, AreSaid, FileSays, Says, LineSays, entries_after}
 use Rattle.manifest_files.specs.Answers.{Follows, LinesOf, Tells, is_read_fault}
 use Rattle.manifest_files.proofs.Said.{any_line}
 use Rattle.manifest_files.specs.declared.collecting.TheConstants.{MAX_OPEN}
-use Rattle.manifest_files.proofs.Goes.{Goes, Ends, goes_further, stops, ends, whole}
+use Rattle.manifest_files.proofs.Goes.{Goes, goes_further, stops, ends, whole}
 
 pub if_some : {A : Type 0} (P : A → Type 0) (o : Option A) → ((a : A) → P a) → IfSome o P
 if_some P None each = tt

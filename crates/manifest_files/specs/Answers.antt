@@ -1,14 +1,13 @@
 -- What the parts of a collection answer.
-use Rattle.std.specs.Prelude.{◌≡◌, ℕ, Bool, true, false, List, [], ◌∷◌, Option, Some, None, Result, Ok, Err, Vec}
+use Rattle.std.specs.Prelude.{◌≡◌, ℕ, Bool, true, false, List, Option, Some, None, Result, Ok, Err, Vec}
 use Rattle.std.specs.declared.alloc.Global.{Global}
 use Rattle.mpy_base.specs.declared.refused.Refused.{Refused}
 use Rattle.mpy_base.specs.declared.refused.Refused.TheVariants as refused
-use Rattle.mpy_io.specs.Files.{FileOf}
 use Rattle.manifest_lines.specs.declared.entry.Entry.{Entry}
 use Rattle.manifest_lines.specs.declared.manifest.Line.{Line}
 use Rattle.manifest_files.specs.declared.fault.ManifestFault.{ManifestFault}
 use Rattle.manifest_files.specs.declared.fault.ManifestFault.TheVariants.{BadCall, Loop, Twice, Absent, Required, Deep, TooMany, ReadFault}
-use Rattle.manifest_files.specs.Entries.{Said, Saying, Itself, Another, AreLines, Says, entries_after}
+use Rattle.manifest_files.specs.Entries.{Said, Saying, Itself, Another, AreLines, entries_after}
 
 abbrev pub is_read_fault : ManifestFault → Bool
 is_read_fault (BadCall name line) = false

@@ -42,14 +42,16 @@ manifest-returns-in-Err-clause-told g t c =
 pub manifest-returns-in-Err-all_lines-clause-told : goal.manifest-returns-in-Err-all_lines-clause-told
 manifest-returns-in-Err-all_lines-clause-told g t c =
     let those : c.deref.result.now ≡ c.in-Ok.lines.items = first_of (cc, search rules) in
+    let is : c.in_ok-this.this ≡ c.args.name.now = c.in_ok-this.ensures ∙ c.as_bytes.ensures.value in
     whole_told (g.F.Folder.files c.args.folder.now) (g.F.Folder.files c.read_lines.new.folder) c.args.left c.args.opened.now.items c.push.new.self.items c.args.name.now c.in_ok-this.this c.in-Ok.lines c.deref.result.now
-    c.args.entries.now.items c.all_lines.new.entries.items (Err c.in-Err-all_lines.refused) (omega arith) c.read_lines.ensures.same c.in_ok-push.ensures.items (c.in_ok-this.ensures ∙ c.as_bytes.ensures.value) those c.in-Ok.ensures.lines c.in-Err-all_lines.ensures.told
+    c.args.entries.now.items c.all_lines.new.entries.items (Err c.in-Err-all_lines.refused) (omega arith) c.read_lines.ensures.same c.in_ok-push.ensures.items is those c.in-Ok.ensures.lines c.in-Err-all_lines.ensures.told
 
 pub manifest-returns-clause-told : goal.manifest-returns-clause-told
 manifest-returns-clause-told g t c =
     let those : c.deref.result.now ≡ c.in-Ok.lines.items = first_of (cc, search rules) in
+    let is : c.in_ok-this.this ≡ c.args.name.now = c.in_ok-this.ensures ∙ c.as_bytes.ensures.value in
     whole_told (g.F.Folder.files c.args.folder.now) (g.F.Folder.files c.read_lines.new.folder) c.args.left c.args.opened.now.items c.push.new.self.items c.args.name.now c.in_ok-this.this c.in-Ok.lines c.deref.result.now
-    c.args.entries.now.items c.all_lines.new.entries.items (Ok tt) (omega arith) c.read_lines.ensures.same c.in_ok-push.ensures.items (c.in_ok-this.ensures ∙ c.as_bytes.ensures.value) those c.in-Ok.ensures.lines c.in-Ok-all_lines.ensures.told
+    c.args.entries.now.items c.all_lines.new.entries.items (Ok tt) (omega arith) c.read_lines.ensures.same c.in_ok-push.ensures.items is those c.in-Ok.ensures.lines c.in-Ok-all_lines.ensures.told
 
 pub one_line-returns-in-Err-clause-told : goal.one_line-returns-in-Err-clause-told
 one_line-returns-in-Err-clause-told g t c =

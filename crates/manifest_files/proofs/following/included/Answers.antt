@@ -1,4 +1,4 @@
-use Rattle.std.proofs.Common.{IsUtf8, sym, subst, ◌∙◌}
+use Rattle.std.proofs.Common.{sym, ◌∙◌}
 use Rattle.manifest_files.proofs.Names.{inner_utf8}
 use Rattle.manifest_files.proofs.following.included.Goals as goal
 
