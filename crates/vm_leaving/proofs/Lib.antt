@@ -9,3 +9,7 @@ mod Found
 mod Taking
 mod Takes
 mod Returns
+mod Shelves
+mod Outermost
+mod Imports
+mod Stays

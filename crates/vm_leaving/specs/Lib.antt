@@ -1,3 +1,4 @@
+pub mod Importing
 pub mod Modules
 pub mod Own
 pub mod Running

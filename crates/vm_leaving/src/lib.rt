@@ -1,8 +1,12 @@
-//! Instructions that leave a call, and stops, on calls that run a program with its registered modules.
+//! Instructions that leave a call, imports, and stops, on calls that run a program with its registered modules.
 #![tactic(auto)]
 
+mod importing;
+mod law;
 mod raising;
 mod returning;
 
+pub use importing::import_on;
+pub use law::registered_law;
 pub use raising::{raise_again_on, raise_on, stop_on};
 pub use returning::return_on;

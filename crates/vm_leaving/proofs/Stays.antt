@@ -1,0 +1,23 @@
+-- Registered modules behind a step that registers and forgets none.
+use Rattle.std.proofs.Common.{◌≡◌, ℕ, subst}
+use Rattle.mpy_base.specs.World.{Heap}
+use Rattle.mpy_base.specs.Val.{PlainWorld}
+use Rattle.arena_heap.specs.declared.value.Value.{Value}
+use Rattle.py_effects.specs.Heaps.{Sound}
+use Rattle.vm_modules.specs.Registry.{Registry}
+use Rattle.vm_frames.specs.Calls.{Calls}
+use Rattle.vm_step.specs.Shown.{running_of}
+use Rattle.vm_step.specs.Outcomes.{world_of}
+use Rattle.vm_unwinding.specs.Ends.{with_modules}
+use Rattle.vm_states.specs.Means.{Program}
+use Rattle.vm_known.specs.State.{IsState}
+use Rattle.vm_leaving.specs.Modules.{AreRegistered}
+use Rattle.vm_leaving.specs.Running.{stepped_with}
+use Rattle.vm_leaving.proofs.Sounds.{SoundLaw, running_world, sound_behind}
+
+pub registered_stay : SoundLaw → (p : Program) (s new : Calls) (paid again : ℕ) (before behind : Heap Value ℕ) (modules : Registry) (w v : PlainWorld) → IsState p before.objects s → AreRegistered p before modules
+    → stepped_with p paid s w before modules ≡ running_of p.tables again new.calls (world_of p.tables (with_modules p.tables v modules) behind) → AreRegistered p behind modules
+registered_stay law p s new paid again before behind modules w v state reg e =
+    let V : PlainWorld = world_of p.tables (with_modules p.tables v modules) behind in
+    let sound : Sound V = subst Sound (running_world p.tables again new.calls V) (sound_behind p before modules w law s paid state reg (running_of p.tables again new.calls V) e) in
+    record { formed = sound.formed; registered = sound.registered; own = reg.own; room = reg.room }

@@ -1,0 +1,114 @@
+//! Imports, and the modules that they begin.
+
+ghost use Rattle.std.specs.Prelude.{◌≡◌, ◌<◌, ◌^◌, ℕ, Some, IsSome, codes, length, nat_lt, true};
+ghost use Rattle.mpy_base.specs.declared.limits.TheConstants.{MAX_CALLS as LIMIT};
+ghost use Rattle.mpy_base.specs.Val.{PlainWorld};
+ghost use Rattle.arena_heap.specs.declared.value.Value.{Value as Item};
+ghost use Rattle.bc_library.specs.Shelf.{Shelf};
+ghost use Rattle.bc_rows.specs.declared.row.Row.{Row as CodeRow};
+ghost use Rattle.bc_rows.specs.Codes.{code_at};
+ghost use Rattle.bc_rows.specs.Rows.{IsRow};
+ghost use Rattle.vm_walks.specs.Plain.{plain_name};
+ghost use Rattle.vm_modules.specs.Registry.{plain_modules};
+ghost use Rattle.vm_importing.specs.declared.importing.Import.TheVariants as imports;
+ghost use Rattle.vm_importing.specs.Importing.{AreOperands, IsImport};
+ghost use Rattle.vm_states.specs.Means.{Program};
+ghost use Rattle.vm_leaving.specs.Running.{RunsWith};
+ghost use Rattle.vm_leaving.specs.Importing.{fetched_import, ImportsBehind};
+
+use arena_heap::{Arena, Constants, StrNo};
+use bc_library::Library;
+use bc_machine::sound_law;
+use bc_progress::room_law;
+use bc_rows::{Rows, rows_law};
+use vm_faults::Stop;
+use vm_frames::Frames;
+use vm_importing::{Import, begin_import, import_name, put_import, refuse_import};
+use vm_known::known_law;
+use vm_modules::Modules;
+use vm_standing::standing_law;
+use vm_states::keeps_law;
+use vm_tops::tops_law;
+use vm_unwinding::ModuleName;
+
+/// The locals of the outermost code of a module, which are fewer than 2^32.
+fn outermost_locals(rows: &Rows<'_>, number: u32) -> u32
+    requires there { IsSome (code_at rows.now number 0) }
+    requires short { (row : CodeRow) → IsRow rows.now number 0 row → row.locals < 2 ^ 32 }
+    ensures { (row : CodeRow) × IsRow rows.now number 0 row × (result ≡ row.locals) }
+{
+    let Some(row) = rows.row(number, 0) else {
+        unreachable!();
+    };
+    row.locals as u32
+}
+
+/// The import that was fetched for the running call begins the module of the number.
+fn begin<C: Constants>(
+    frames: &mut Frames,
+    arena: &mut Arena,
+    consts: &C,
+    rows: &Rows<'_>,
+    modules: &mut Modules,
+    names: &[ModuleName],
+    key: StrNo,
+    name: u32,
+    number: u32,
+) -> Result<(), Stop>
+    requires runs { (row : CodeRow) × (end : ℕ) × RunsWith (C.text_of consts.now) (C.items_of consts.now) names.now rows.now arena.old modules.old frames.old row (fetched_import name end) }
+    requires key { C.text_of consts.now key ≡ Some (codes "__name__") }
+    requires short { frames.old.slot_room < 2 ^ 32 }
+    requires import { (from level : Item) (w : PlainWorld) → AreOperands from level frames.old.calls
+        → IsImport (C.text_of consts.now) (C.items_of consts.now) rows.now (record w { modules = plain_modules (C.text_of consts.now) (C.items_of consts.now) modules.old }) (nat_lt (length frames.old.calls) LIMIT) (plain_name (C.text_of consts.now) (C.items_of consts.now) name) from level (imports.Begin number) }
+    ensures { (p : Program) (row : CodeRow) (end : ℕ) → p.shelf ≡ rows.now
+        → ImportsBehind p (C.text_of consts.now) (C.items_of consts.now) names.now row name end arena.old arena.new modules.old modules.new frames.old frames.new result }
+{
+    keeps_law();
+    room_law();
+    rows_law();
+    sound_law();
+    standing_law();
+    tops_law();
+    let locals = outermost_locals(rows, number);
+    begin_import(frames, arena, consts, modules, names, key, number, locals)
+}
+
+/// IMPORT_NAME of the text with the number, where it was fetched for the running call: the module goes in the place of the
+/// operands and the call goes on at `end`; or a module begins over the call, which stays; or the import fails. `key` is the text
+/// `__name__`.
+pub fn import_on<C: Constants>(
+    frames: &mut Frames,
+    arena: &mut Arena,
+    consts: &C,
+    library: &Library,
+    rows: &Rows<'_>,
+    modules: &mut Modules,
+    names: &[ModuleName],
+    key: StrNo,
+    name: u32,
+    end: u32,
+) -> Result<(), Stop>
+    requires runs { (row : CodeRow) × RunsWith (C.text_of consts.now) (C.items_of consts.now) names.now rows.now arena.old modules.old frames.old row (fetched_import name end) }
+    requires rows { rows.now ≡ library.now }
+    requires key { C.text_of consts.now key ≡ Some (codes "__name__") }
+    requires short { frames.old.slot_room < 2 ^ 32 }
+    ensures { (p : Program) (row : CodeRow) → p.shelf ≡ rows.now
+        → ImportsBehind p (C.text_of consts.now) (C.items_of consts.now) names.now row name end arena.old arena.new modules.old modules.new frames.old frames.new result }
+{
+    keeps_law();
+    known_law();
+    sound_law();
+    tops_law();
+    match import_name(frames, consts, modules, library, name) {
+        Import::Put(v) => {
+            put_import(frames, v, end);
+            Ok(())
+        }
+        Import::Begin(number) => {
+            begin(
+                frames, arena, consts, rows, modules, names, key, name, number,
+            )
+        }
+        Import::Stops(refusal) => Err(refuse_import(name, refusal)),
+    }
+}
