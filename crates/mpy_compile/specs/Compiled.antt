@@ -1,0 +1,79 @@
+-- What a source compiles to, and the first fault of one that compiles to nothing.
+use Rattle.std.specs.Prelude.{◌≡◌, ◌⊎◌, ℕ, false, List, Result, Ok, Err, Vec}
+use Rattle.std.specs.declared.alloc.Global.{Global}
+use Rattle.mpy_base.specs.declared.refused.Refused.{Refused}
+use Rattle.mpy_base.specs.declared.refused.Refused.TheVariants as refused
+use Rattle.mpy_base.specs.declared.source.SourceFault.{SourceFault}
+use Rattle.mpy_base.specs.Fault.{too_long}
+use Rattle.mpy_tree.specs.declared.module.ModuleCode.{ModuleCode}
+use Rattle.mpy_tree.specs.Canonical.{Canonical}
+use Rattle.mpy_tree.specs.FirstUse.{InFirstUse}
+use Rattle.mpy_tree.specs.Resolved.{ReadsAs}
+use Rattle.mpy_writer.specs.declared.fault.WriteFault.{WriteFault}
+use Rattle.mpy_writer.specs.File.{FirstFault}
+use Rattle.mpy_fits.specs.Texts.{module_fits, TextsFit}
+use Rattle.py_source.specs.declared.source.Accepted.{Accepted}
+use Rattle.py_source.specs.Source as sources
+use Rattle.emit_module.specs.First.{AreWithin}
+use Rattle.emit_module.specs.First as texts
+use Rattle.emit_module.specs.Module.{source_of, IsTranslated}
+
+-- ---- the file of a module
+
+-- the bytes are the file of the module, of which no text is longer than a file and which passes no limit of files
+pub record IsFileOf (whole : ModuleCode) (bytes : List ℕ) : Type 0 where
+  pub reads : ReadsAs bytes whole
+  pub canonical : Canonical bytes
+  pub first_use : InFirstUse bytes
+  pub fits : TextsFit whole
+  pub within : (fault : WriteFault) → FirstFault whole fault → ⊥
+
+-- a text of the module is longer than a file, or its file passes a limit of files
+pub record IsFileFault (whole : ModuleCode) (fault : SourceFault) : Type 0 where
+  pub past : (module_fits whole ≡ false) ⊎ ((refused : WriteFault) × FirstFault whole refused)
+  pub is : fault ≡ too_long
+
+-- what is made of a module; want of memory says nothing
+abbrev pub Files : ModuleCode → Result (Vec ℕ Global) (Refused SourceFault) → Type 0
+Files whole (Ok file) = IsFileOf whole file.items
+Files whole (Err (refused.Fault fault)) = IsFileFault whole fault
+Files whole (Err refused.NoMemory) = Unit {0}
+
+-- ---- sources
+
+-- the source is accepted at the level, no text of it passes a limit, and under the stored name the module translates it
+pub record IsCompiled (level : ℕ) (source stored : List ℕ) (whole : ModuleCode) : Type 0 where
+  pub accepted : Accepted
+  pub is : sources.IsAccepted level source accepted
+  pub within : AreWithin (source_of stored level accepted.tree)
+  pub translated : IsTranslated (source_of stored level accepted.tree) whole
+
+-- the bytes are the file of the source's module
+pub record CompilesTo (level : ℕ) (source stored bytes : List ℕ) : Type 0 where
+  pub whole : ModuleCode
+  pub compiled : IsCompiled level source stored whole
+  pub file : IsFileOf whole bytes
+
+-- ---- faults
+
+-- the code of a text passes a limit, in an accepted source
+pub record HasCodeFault (level : ℕ) (source stored : List ℕ) (fault : SourceFault) : Type 0 where
+  pub accepted : Accepted
+  pub is : sources.IsAccepted level source accepted
+  pub first : texts.IsFirstFault (source_of stored level accepted.tree) fault
+
+-- the file of the source's module passes a limit
+pub record HasFileFault (level : ℕ) (source stored : List ℕ) (fault : SourceFault) : Type 0 where
+  pub whole : ModuleCode
+  pub compiled : IsCompiled level source stored whole
+  pub file : IsFileFault whole fault
+
+-- the source is judged before its code, and the code of its texts before the file as a whole
+abbrev pub IsFault : (level : ℕ) (source stored : List ℕ) → SourceFault → Type 0
+IsFault level source stored fault = sources.IsFirstFault level source fault ⊎ (HasCodeFault level source stored fault ⊎ HasFileFault level source stored fault)
+
+-- what compiling a source under a stored name gives: its file, or its first fault; want of memory says nothing
+abbrev pub Compiles : (level : ℕ) (source stored : List ℕ) → Result (Vec ℕ Global) (Refused SourceFault) → Type 0
+Compiles level source stored (Ok file) = CompilesTo level source stored file.items
+Compiles level source stored (Err (refused.Fault fault)) = IsFault level source stored fault
+Compiles level source stored (Err refused.NoMemory) = Unit {0}
