@@ -13,3 +13,4 @@ mod Shelves
 mod Outermost
 mod Imports
 mod Stays
+mod Finallys

@@ -16,7 +16,6 @@ use Rattle.bc_progress.specs.Fits.{Fits}
 use Rattle.bc_rows.specs.declared.row.Row.{Row}
 use Rattle.vm_modules.specs.Registry.{Registry, plain_modules}
 use Rattle.vm_frames.specs.Calls.{Call, Calls}
-use Rattle.vm_moves.specs.Views.{View}
 use Rattle.vm_moves.specs.Placed.{IsPlaced}
 use Rattle.vm_step.specs.Shown.{view_of, running_of, step_of}
 use Rattle.vm_step.specs.Outcomes.{world_of}
@@ -71,7 +70,7 @@ module _ (went : Went) (sounds : SoundLaw) (progress : Progress) (texts : StrNo 
     (state : IsState p before.objects old) (registered : AreRegistered p before earlier) (row : Row) (fetched : Fetched) (r : IsReady p old row fetched)
     (lower : (paid : ℕ) (w : PlainWorld) → step_of p.tables p.library r.place paid old.calls (world_of p.tables (with_modules p.tables w earlier) before) (item_at p r.first fetched)
     ≡ after_of p.tables after mid.calls (world_of p.tables (with_modules p.tables w later) behind))
-    (placed : (view : View) → All (IsPlaced view) old.calls → All (IsPlaced view) mid.calls)
+    (placed : All (IsPlaced (view_of p.tables)) old.calls → All (IsPlaced (view_of p.tables)) mid.calls)
     (keeps : Keeps texts tuples (length names) before.objects behind.objects old.calls mid.calls) (same : mid ≡ record old { calls = mid.calls }) where
   abbrev None0 : PlainWorld
   None0 = new_world 0 0 []
@@ -96,7 +95,7 @@ module _ (went : Went) (sounds : SoundLaw) (progress : Progress) (texts : StrNo 
   waits_by (afters.Gives v) h = record {
     world = V None0;
     fits = h;
-    placed = placed (view_of p.tables) state.running.placed;
+    placed = placed state.running.placed;
     of_modules = All-weaker (IsKnownCall p.tables.texts p.tables.tuples (length p.shelf.modules) behind.objects) (IsOfModule p) (λ c k. k.of_module) mid.calls (here.known state.known);
     rooms = same_rooms p old mid same state.running.rooms;
   }
@@ -118,7 +117,7 @@ module _ (went : Went) (sounds : SoundLaw) (progress : Progress) (texts : StrNo 
         steps = steps;
         run = is_run went sounds p means before behind earlier later old new end state registered 0 None0 None0 (steps 0 None0)
             (known p.tables.texts p.tables.tuples (length p.shelf.modules) behind.objects after_here (here.known state.known)) here.all_told
-            (settles.placed (placed (view_of p.tables) state.running.placed)) (moved ∙ ap (λ (z : Calls). record z { calls = new.calls }) same)
+            (settles.placed (placed state.running.placed)) (moved ∙ ap (λ (z : Calls). record z { calls = new.calls }) same)
             (registered_behind went sounds p means before behind earlier later old new end state registered 0 None0 None0 (steps 0 None0) own room)
             (ended_by p.tables.texts p.tables.tuples behind.objects after end ended after_here);
         objects = here.later;

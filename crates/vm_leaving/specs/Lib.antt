@@ -1,4 +1,5 @@
 pub mod Importing
+pub mod Keeping
 pub mod Modules
 pub mod Own
 pub mod Running

@@ -51,7 +51,12 @@ fn take(frames: &mut Frames, library: &Library, rows: &Rows<'_>, v: Value)
 }
 
 /// The run goes on from where an instruction came to that may have left calls. It answers how the run ends, if it does.
-fn settle(frames: &mut Frames, library: &Library, rows: &Rows<'_>, after: After) -> Option<End>
+pub(crate) fn settle(
+    frames: &mut Frames,
+    library: &Library,
+    rows: &Rows<'_>,
+    after: After,
+) -> Option<End>
     requires rows { rows.now ≡ library.now }
     requires waits { (p : Program) × Means p × (p.shelf ≡ library.now) × IsSettling p after frames.old }
     ensures settles { (p : Program) → Means p → p.shelf ≡ library.now → IsSettling p after frames.old → Settles p after frames.old frames.new result }

@@ -72,7 +72,7 @@ settle-requires-clause-waits g c =
       waits_so c.keeps_law.ensures.went c.sound_law.ensures.steps c.progress_law.ensures.step texts tuples c.args.names.now p h.runs.means h.runs.tells h.runs.named
           c.args.arena.now c.return_value-after.new.arena c.args.modules.now c.args.modules.now old c.return_value-after.new.frames c.return_value-after.result h.runs.state h.registered row f r
           (λ paid w. u.steps p.tables r.place w (tables_are texts tuples p h.runs.tells c.args.names.now h.runs.named) (on_first p old row f r P (all_first p old row f r P h.runs.state.running.placed)) p.library paid)
-          u.placed u.keeps (same_calls old c.return_value-after.new.frames _ (u.calls t.top top)),
+          (u.placed (view_of p.tables)) u.keeps (same_calls old c.return_value-after.new.frames _ (u.calls t.top top)),
     )
 
 pub returns : goal.returns
@@ -88,9 +88,9 @@ returns g c p end row same means tells named state registered r =
     let P : Call → Type 0 = λ d. IsPlaced (view_of p.tables) d in
     let moved = same_calls old mid _ (u.calls t.top top) in
     settled_so c.keeps_law.ensures.went c.sound_law.ensures.steps c.progress_law.ensures.step texts tuples c.args.names.now p means tells named
-    c.args.arena.now c.return_value-after.new.arena c.args.modules.now c.args.modules.now old mid c.return_value-after.result state registered row f r (λ paid w. u.steps p.tables r.place w (tables_are texts tuples p tells c.args.names.now named) (on_first p old row f r P (all_first p old row f r P state.running.placed)) p.library paid) u.placed u.keeps moved
+    c.args.arena.now c.return_value-after.new.arena c.args.modules.now c.args.modules.now old mid c.return_value-after.result state registered row f r (λ paid w. u.steps p.tables r.place w (tables_are texts tuples p tells c.args.names.now named) (on_first p old row f r P (all_first p old row f r P state.running.placed)) p.library paid) (u.placed (view_of p.tables)) u.keeps moved
     c.settle.new.frames c.settle.result
     (c.settle.ensures.settles p means same (waits_so c.keeps_law.ensures.went c.sound_law.ensures.steps c.progress_law.ensures.step texts tuples c.args.names.now p means tells named
-    c.args.arena.now c.return_value-after.new.arena c.args.modules.now c.args.modules.now old mid c.return_value-after.result state registered row f r (λ paid w. u.steps p.tables r.place w (tables_are texts tuples p tells c.args.names.now named) (on_first p old row f r P (all_first p old row f r P state.running.placed)) p.library paid) u.placed u.keeps moved))
+    c.args.arena.now c.return_value-after.new.arena c.args.modules.now c.args.modules.now old mid c.return_value-after.result state registered row f r (λ paid w. u.steps p.tables r.place w (tables_are texts tuples p tells c.args.names.now named) (on_first p old row f r P (all_first p old row f r P state.running.placed)) p.library paid) (u.placed (view_of p.tables)) u.keeps moved))
     c.settle.ensures.same (λ x y modules objects. c.settle.ensures.known x y modules objects) c.settle.ensures.ended
     (u.after (known_out texts tuples p tells c.args.names.now named c.args.arena.now.objects old.calls state.known)) registered.own refl

@@ -1,0 +1,45 @@
+//! The ends of finallys.
+
+ghost use Rattle.std.specs.Prelude.{◌≡◌};
+ghost use Rattle.bc_rows.specs.declared.row.Row.{Row as CodeRow};
+ghost use Rattle.vm_fetching.specs.declared.operations.PlainOp.TheVariants as plain_ops;
+ghost use Rattle.vm_states.specs.Means.{Program};
+ghost use Rattle.vm_leaving.specs.Keeping.{KeepsCause};
+ghost use Rattle.vm_leaving.specs.Running.{fetched_plain, RunsWith, RunsOnBehind};
+
+use crate::returning::settle;
+use arena_heap::{Arena, Constants};
+use bc_library::Library;
+use bc_machine::sound_law;
+use bc_progress::progress_law;
+use bc_rows::Rows;
+use vm_frames::Frames;
+use vm_modules::Modules;
+use vm_states::keeps_law;
+use vm_tops::tops_law;
+use vm_unwinding::{End, ModuleName, end_finally};
+
+/// END_FINALLY, where it was fetched for the running call, which goes on with what the finally kept: at `end`, behind the
+/// instruction, with an exception, with a return, or with a jump. It answers how the run ends, if it does.
+pub fn end_finally_on<C: Constants>(
+    frames: &mut Frames,
+    arena: &mut Arena,
+    consts: &C,
+    library: &Library,
+    rows: &Rows<'_>,
+    modules: &mut Modules,
+    names: &[ModuleName],
+    end: u32,
+) -> Option<End>
+    requires runs { (row : CodeRow) × (h : RunsWith (C.text_of consts.now) (C.items_of consts.now) names.now library.now arena.old modules.old frames.old row (fetched_plain plain_ops.EndFinally end)) × KeepsCause h.runs.program frames.old }
+    requires rows { rows.now ≡ library.now }
+    ensures { (p : Program) (row : CodeRow) → p.shelf ≡ library.now → KeepsCause p frames.old
+        → RunsOnBehind p (C.text_of consts.now) (C.items_of consts.now) names.now row (fetched_plain plain_ops.EndFinally end) arena.old arena.new modules.old modules.new frames.old frames.new result }
+{
+    keeps_law();
+    sound_law();
+    progress_law();
+    tops_law();
+    let after = end_finally(frames, arena, consts, modules, names, end);
+    settle(frames, library, rows, after)
+}
