@@ -95,6 +95,8 @@ module _ {S : Type 0} (told : S → Option (List ℕ)) (count : S → ℕ) (p : 
   built told_is tell (Err (calls.Out failed)) h = record {
     text = h.text;
     puts = h.puts;
+    heap = h.heap;
+    ports = h.ports;
     onwards = change_first (with_value fetched.end size values.None) s.calls;
     comes = by_step p row s fetched r (callees.Built b) given before.heap w (λ place. running_of p.tables 0 (change_first (with_value fetched.end size values.None) s.calls) (record (begins_in p (callees.Built b) given before.heap w) { output = w.output ++ h.text })) h.comes;
   }

@@ -76,10 +76,12 @@ module _ {S : Type 0} (told : S → Option (List ℕ)) (count : S → ℕ) (p : 
     pub ports : Tell behind.ports after.ports
     pub comes : Comes p callee given before.heap w old (outcome_of p.tables place after behind.heap old.calls new.calls result)
 
-  -- the sink failed: the machine puts a text and goes on, and a front of the text was put
+  -- the sink failed: the machine puts a text and goes on, and a front of the text was put, and nothing else was done
   pub record SinkFails : Type 0 where
     pub text : List ℕ
     pub puts : Puts told count before.out behind.out true text
+    pub heap : behind.heap ≡ before.heap
+    pub ports : behind.ports ≡ before.ports
     pub onwards : List Call
     pub comes : Comes p callee given before.heap w old (running_of p.tables 0 onwards (record (begins_in p callee given before.heap w) { output = w.output ++ text }))
 

@@ -1,7 +1,8 @@
-use Rattle.std.proofs.Common.{◌≡◌, map, Err, refl, sym, subst, arith}
+use Rattle.std.proofs.Common.{◌≡◌, map, Err, refl, sym, subst, arith, ◌∙◌}
 use Rattle.std.specs.Prelude.{OnErr}
 use Rattle.std.specs.Prelude.{OnErr}
 use Rattle.std.specs.Prelude.{OnErr}
+use Rattle.mpy_base.specs.declared.builtin.Builtin.{Builtin}
 use Rattle.bc_library.specs.Constants.{items_at, text_at}
 use Rattle.vm_calls.specs.Calls.{Seen}
 use Rattle.vm_calls.specs.Callees.{IsKnownCallee}
@@ -9,9 +10,9 @@ use Rattle.vm_calls.specs.declared.calls.CallStop.TheVariants as calls
 use Rattle.vm_calls.specs.declared.callees.Callee.{Callee}
 use Rattle.vm_calls.specs.declared.callees.Callee.TheVariants as callees
 use Rattle.vm_fetching.specs.declared.instruction.Instruction.TheVariants as fetched
-use Rattle.vm_invoking.specs.Built.{IsKnownCallStop}
-use Rattle.vm_invoking.specs.Built.{IsKnownCallStop}
-use Rattle.vm_invoking.specs.Built.{IsKnownCallStop}
+use Rattle.vm_invoking.specs.Built.{IsCalled, IsKnownCallStop}
+use Rattle.vm_invoking.specs.Built.{IsCalled, IsKnownCallStop}
+use Rattle.vm_invoking.specs.Built.{IsCalled, IsKnownCallStop}
 use Rattle.vm_calling.specs.Called.{CallComes}
 use Rattle.vm_calling.proofs.Acted as acted
 use Rattle.vm_calling.proofs.Comings as comings
@@ -218,3 +219,20 @@ returns-in-Built-clause-keeps g c =
 
 pub returns-in-NotCallable-clause-keeps : goal.returns-in-NotCallable-clause-keeps
 returns-in-NotCallable-clause-keeps g c = keepings.same_keeps c.args.frames.now c.args.frames.now refl
+
+pub returns-in-Method-clause-built : goal.returns-in-Method-clause-built
+returns-in-Method-clause-built g c b e = absurd (let wrong : callees.Method c.in-Method.object c.in-Method.method ≡ callees.Built b = sym c.in-Method.is ∙ e in cc)
+
+pub returns-in-NotCallable-clause-built : goal.returns-in-NotCallable-clause-built
+returns-in-NotCallable-clause-built g c b e = absurd (let wrong : callees.NotCallable c.in-NotCallable.value_type ≡ callees.Built b = sym c.in-NotCallable.is ∙ e in cc)
+
+pub returns-in-Runs-clause-built : goal.returns-in-Runs-clause-built
+returns-in-Runs-clause-built g c b e = absurd (let wrong : callees.Runs c.in-Runs.function ≡ callees.Built b = sym c.in-Runs.is ∙ e in cc)
+
+pub returns-in-Built-clause-built : goal.returns-in-Built-clause-built
+returns-in-Built-clause-built g c b e =
+    let is : callees.Built c.in-Built.b ≡ callees.Built b = sym c.in-Built.is ∙ e in
+    let same : c.in-Built.b ≡ b = cc in
+    let old_seen : Seen _ = record { heap = c.args.arena.now; out = c.args.out.now; ports = map g.P.Port.seen c.args.ports.now } in
+    let new_seen : Seen _ = record { heap = c.act_builtin.new.arena; out = c.act_builtin.new.out; ports = map g.P.Port.seen c.act_builtin.new.ports } in
+    subst (λ (z : Builtin). IsCalled g.S.Sink.told g.S.Sink.count (text_at c.args.library.now) (items_at c.args.library.now) old_seen new_seen c.args.operands.now.args c.args.operands.now.keys z c.act_builtin.result) same c.act_builtin.ensures.called
