@@ -12,6 +12,7 @@ use Rattle.bc_ops.specs.declared.listing.Target.TheVariants.{Position, Offset}
 use Rattle.bc_ops.specs.declared.listing.Item.TheVariants as items
 use Rattle.bc_ops.specs.Code.{TakesOffset}
 use Rattle.bc_ops.specs.Listing.{target}
+use Rattle.bc_ops.specs.Signed.{IsSmall}
 use Rattle.bc_ops.specs.Table.{code_of, form_of}
 use Rattle.bc_flow.specs.Code.{item_locals, IsOutside}
 use Rattle.arena_heap.specs.declared.value.Value.{Value}
@@ -137,16 +138,16 @@ module _ (shelf : Shelf) (i : ℕ) (row : Row) (v : IsVerifiedRow shelf i row) (
     S instr shown = Shows shelf m tables row l end instr shown
 
     pub shows_plain : (op : Op) (o : PlainOp) → plain_op o ≡ op → S (instrs.Plain op) (fetched.Plain o)
-    shows_plain op o e = record { item_is = ap (λ z. machine.Plain (instrs.Plain z)) (sym e); target = tt; local = tt; text = tt }
+    shows_plain op o e = record { item_is = ap (λ z. machine.Plain (instrs.Plain z)) (sym e); target = tt; local = tt; text = tt; constant = tt }
 
-    pub shows_int : (z : ℤ) → S (instrs.Int z) (fetched.Int z)
-    shows_int z = record { item_is = refl; target = tt; local = tt; text = tt }
+    pub shows_int : (z : ℤ) → IsSmall z → S (instrs.Int z) (fetched.Int z)
+    shows_int z small = record { item_is = refl; target = tt; local = tt; text = tt; constant = small }
 
     pub shows_unary : (n : ℕ) → S (instrs.Unary n) (fetched.Unary n)
-    shows_unary n = record { item_is = refl; target = tt; local = tt; text = tt }
+    shows_unary n = record { item_is = refl; target = tt; local = tt; text = tt; constant = tt }
 
     pub shows_binary : (n : ℕ) → S (instrs.Binary n) (fetched.Binary n)
-    shows_binary n = record { item_is = refl; target = tt; local = tt; text = tt }
+    shows_binary n = record { item_is = refl; target = tt; local = tt; text = tt; constant = tt }
 
     pub shows_name : (op : Op) (o : NameOp) (n : ℕ) (s : StrNo) → name_op o ≡ op → text_at shelf s ≡ table_text shelf i n → Reads l at (instrs.Name op n) end → S (instrs.Name op n) (fetched.Name o s)
     shows_name op o n s e same r =
@@ -159,13 +160,14 @@ module _ (shelf : Shelf) (i : ℕ) (row : Row) (v : IsVerifiedRow shelf i row) (
           target = tt;
           local = tt;
           text = ap is_some text;
+          constant = tt;
         }
 
     pub shows_number : (op : Op) (n : ℕ) (result : Instruction) → IsNumbered shelf i n op result → Reads l at (instrs.Num op n) end → S (instrs.Num op n) result
     shows_number op n result (number o) r =
         let k : Kept m row l = its_kept in
         let le = k.locals_fit (position_in l.offsets at) (items.Plain (instrs.Num (number_op o) n)) r.is in
-        record { item_is = ap (machine.item_of (length l.items)) (number_item m o n); target = tt; local = number_fits o n row.locals le; text = tt }
+        record { item_is = ap (machine.item_of (length l.items)) (number_item m o n); target = tt; local = number_fits o n row.locals le; text = tt; constant = tt }
     shows_number op n result (object x e) r =
         let c = at_index m.objects n (object_within n r) in
         let value : stepping.value_of tables x ≡ value_of c.0 =
@@ -177,6 +179,7 @@ module _ (shelf : Shelf) (i : ℕ) (row : Row) (v : IsVerifiedRow shelf i row) (
           target = tt;
           local = tt;
           text = tt;
+          constant = (i, n, e);
         }
 
     pub shows_jump : (op : Op) (o : JumpOp) (offset : ℤ) (wide : Bool) (to q : ℕ) → jump_op o ≡ op → target l.offsets 0 (pos end +ℤ offset) ≡ Position q → Starts l.offsets to × (position_in l.offsets to ≡ q) → S (instrs.Jump op offset wide) (fetched.Jump o to)
@@ -186,6 +189,7 @@ module _ (shelf : Shelf) (i : ℕ) (row : Row) (v : IsVerifiedRow shelf i row) (
           target = lands.0;
           local = tt;
           text = tt;
+          constant = tt;
         }
 
     pub shows_unwind : (offset : ℤ) (wide : Bool) (byte to q : ℕ) → target l.offsets 0 (pos (end - 1) +ℤ offset) ≡ Position q → Starts l.offsets to × (position_in l.offsets to ≡ q) → S (instrs.Unwind offset wide byte) (fetched.Unwind to byte)
@@ -195,4 +199,5 @@ module _ (shelf : Shelf) (i : ℕ) (row : Row) (v : IsVerifiedRow shelf i row) (
           target = lands.0;
           local = tt;
           text = tt;
+          constant = tt;
         }

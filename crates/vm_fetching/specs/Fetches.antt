@@ -12,7 +12,7 @@ use Rattle.bc_rows.specs.declared.row.Row.{Row}
 use Rattle.bc_rows.specs.Rows.{IsRow}
 use Rattle.vm_step.specs.Shown.{Tables}
 use Rattle.vm_fetching.specs.declared.instruction.Fetched.{Fetched}
-use Rattle.vm_fetching.specs.Shows.{item_of_fetched, TargetStarts, LocalIsWithin, TextIsThere}
+use Rattle.vm_fetching.specs.Shows.{item_of_fetched, TargetStarts, LocalIsWithin, TextIsThere, ConstantIsThere}
 
 -- strs and constant tuples are those of the library
 pub record AreOf (shelf : Shelf) (tables : Tables) : Type 0 where
@@ -38,3 +38,4 @@ pub record Fetches (shelf : Shelf) (names : Tables) (row : Row) (l : CodeList) (
   pub target : TargetStarts l.offsets fetched.instruction
   pub local : LocalIsWithin row.locals fetched.instruction
   pub text : TextIsThere shelf fetched.instruction
+  pub constant : ConstantIsThere shelf fetched.instruction

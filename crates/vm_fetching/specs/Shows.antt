@@ -1,12 +1,13 @@
 -- What is fetched, as the machine's items.
-use Rattle.std.specs.Prelude.{◌≡◌, ℕ, ◌<◌, List, length, IsSome}
+use Rattle.std.specs.Prelude.{◌≡◌, ℕ, ◌<◌, List, length, Some, IsSome}
 use Rattle.bc_ops.specs.declared.instr.Instr.{Instr}
 use Rattle.bc_ops.specs.declared.instr.Instr.TheVariants as instrs
 use Rattle.bc_ops.specs.Listing.{item}
+use Rattle.bc_ops.specs.Signed.{IsSmall}
 use Rattle.bc_offsets.specs.Positions.{CodeList, Starts, position_in}
 use Rattle.mpy_tree.specs.Raw.{Module}
 use Rattle.mpy_tree.specs.Resolved.{resolved}
-use Rattle.bc_library.specs.Constants.{text_at}
+use Rattle.bc_library.specs.Constants.{object_value, text_at}
 use Rattle.bc_library.specs.Shelf.{Shelf}
 use Rattle.bc_machine.specs.Library as machine
 use Rattle.bc_machine.specs.Library.{Item}
@@ -82,9 +83,22 @@ TextIsThere shelf (fetched.Object v) = Unit {0}
 TextIsThere shelf (fetched.Jump op target) = Unit {0}
 TextIsThere shelf (fetched.Unwind target byte) = Unit {0}
 
+-- the object that it loads is one of a module of the library, and the integer is small
+abbrev pub ConstantIsThere : Shelf → Instruction → Type 0
+ConstantIsThere shelf (fetched.Object v) = (i : ℕ) × (n : ℕ) × (object_value shelf i n ≡ Some v)
+ConstantIsThere shelf (fetched.Int z) = IsSmall z
+ConstantIsThere shelf (fetched.Plain op) = Unit {0}
+ConstantIsThere shelf (fetched.Number op n) = Unit {0}
+ConstantIsThere shelf (fetched.Unary n) = Unit {0}
+ConstantIsThere shelf (fetched.Binary n) = Unit {0}
+ConstantIsThere shelf (fetched.Name op text) = Unit {0}
+ConstantIsThere shelf (fetched.Jump op target) = Unit {0}
+ConstantIsThere shelf (fetched.Unwind target byte) = Unit {0}
+
 -- the instruction of a list that ends at the offset, with the numbers of the library
 pub record Shows (shelf : Shelf) (m : Module) (tables : Tables) (row : Row) (l : CodeList) (end : ℕ) (instr : Instr) (shown : Instruction) : Type 0 where
   pub item_is : machine.item_of (length l.items) (resolved m (item l.offsets end instr)) ≡ item_of_fetched tables l.offsets shown
   pub target : TargetStarts l.offsets shown
   pub local : LocalIsWithin row.locals shown
   pub text : TextIsThere shelf shown
+  pub constant : ConstantIsThere shelf shown

@@ -1,7 +1,5 @@
 //! Instructions that move frames alone, over an arena that stays.
 
-ghost use Rattle.arena_heap.specs.declared.value.Value.TheVariants as values;
-ghost use Rattle.vm_faults.specs.Faults.{IsKnown};
 ghost use Rattle.vm_fetching.specs.declared.instruction.Instruction.TheVariants as fetched;
 ghost use Rattle.vm_fetching.specs.declared.operations.JumpOp.TheVariants as jump_ops;
 ghost use Rattle.vm_fetching.specs.declared.operations.NameOp.TheVariants as name_ops;
@@ -71,7 +69,7 @@ pub(crate) fn store_fast_n<C: Constants>(
     Ok(())
 }
 
-/// A small integer, which is known.
+/// A small integer.
 pub fn load_int<C: Constants>(
     frames: &mut Frames,
     _arena: &Arena,
@@ -79,7 +77,6 @@ pub fn load_int<C: Constants>(
     n: i32,
     end: u32,
 ) -> Result<(), Stop>
-    requires known { IsKnown (C.text_of _consts.now) (C.items_of _consts.now) _arena.now.objects (values.Int n) }
     requires runs { RunsOver (C.text_of _consts.now) (C.items_of _consts.now) _arena.now frames.old (record { instruction = fetched.Int n; end = end }) }
     ensures acts { ActsBehind (C.text_of _consts.now) (C.items_of _consts.now) (record { instruction = fetched.Int n; end = end }) 0 _arena.now _arena.now frames.old frames.new result }
 {
@@ -104,7 +101,7 @@ pub(crate) fn load_text<C: Constants>(
     Ok(())
 }
 
-/// A constant of the module, which is known.
+/// A constant of the module.
 pub fn load_object<C: Constants>(
     frames: &mut Frames,
     _arena: &Arena,
@@ -112,7 +109,6 @@ pub fn load_object<C: Constants>(
     v: Value,
     end: u32,
 ) -> Result<(), Stop>
-    requires known { IsKnown (C.text_of _consts.now) (C.items_of _consts.now) _arena.now.objects v }
     requires runs { RunsOver (C.text_of _consts.now) (C.items_of _consts.now) _arena.now frames.old (record { instruction = fetched.Object v; end = end }) }
     ensures acts { ActsBehind (C.text_of _consts.now) (C.items_of _consts.now) (record { instruction = fetched.Object v; end = end }) 0 _arena.now _arena.now frames.old frames.new result }
 {

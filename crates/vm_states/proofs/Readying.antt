@@ -194,6 +194,7 @@ ready laws p s c cs means run are row is fetched fetches =
       finds = laws.finds p.plans p.library (frame_of (view_of p.tables) c) the_line means.follows there line;
       local = subst (λ (n : ℕ). LocalIsWithin n fetched.instruction) locals_are fs.local;
       text = fs.text;
+      constant = fs.constant;
       slots = omega (arith, within_slots, slots_are, room);
       entries = omega (arith, within_entries, entries_are, entry_room);
     }

@@ -17,7 +17,7 @@ use Rattle.vm_step.specs.Shown.{Tables, IsNext, view_of, running_of, step_of}
 use Rattle.vm_standing.specs.Finds.{Finds, GoesOn}
 use Rattle.vm_fetching.specs.declared.instruction.Fetched.{Fetched}
 use Rattle.vm_fetching.specs.Fetches.{AreOf, Fetches}
-use Rattle.vm_fetching.specs.Shows.{item_of_fetched, TargetStarts, LocalIsWithin, TextIsThere}
+use Rattle.vm_fetching.specs.Shows.{item_of_fetched, TargetStarts, LocalIsWithin, TextIsThere, ConstantIsThere}
 use Rattle.vm_states.specs.Means.{Program}
 
 -- this is fetched at the offset of the row
@@ -55,5 +55,6 @@ module _ (p : Program) where
     pub finds : Finds (p.plans (p.tables.module_name first.module_number) first.code) p.library code (frame_of (view_of p.tables) first) (item_at first fetched)
     pub local : LocalIsWithin (length first.locals) fetched.instruction
     pub text : TextIsThere p.shelf fetched.instruction
+    pub constant : ConstantIsThere p.shelf fetched.instruction
     pub slots : length first.slots < s.slot_room
     pub entries : length first.entries ≤ s.entry_room

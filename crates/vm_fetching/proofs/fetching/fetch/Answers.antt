@@ -22,4 +22,5 @@ returns c names m code l of there runs listed st =
       target = s.target;
       local = s.local;
       text = s.text;
+      constant = s.constant;
     }

@@ -78,7 +78,8 @@ returns-in-Int c tables m l of there listed st r =
     let fits : SFits w32 c.in-Int.n = search rules in
     subst (λ (n : ℤ). Shows shelf m tables c.args.row.now l c.args.end c.args.instr (fetched.Int n)) (sym (to_z-of_z w32 c.in-Int.n fits))
     (subst (λ (z : Instr). Shows shelf m tables c.args.row.now l c.args.end z (fetched.Int c.in-Int.n)) (sym c.in-Int.is)
-    (showing.shows_int shelf c.args.module_number c.args.row.now c.requires.row m there l listed c.args.at c.args.end tables of c.in-Int.n))
+    (showing.shows_int shelf c.args.module_number c.args.row.now c.requires.row m there l listed c.args.at c.args.end tables of c.in-Int.n
+    (subst (λ z. Reads l c.args.at z c.args.end) c.in-Int.is r).encodable))
 
 pub returns-in-Jump : goal.returns-in-Jump
 returns-in-Jump c tables m l of there listed st r =

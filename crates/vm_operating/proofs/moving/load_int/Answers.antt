@@ -6,6 +6,7 @@ use Rattle.vm_frames.specs.Calls.{on_running}
 use Rattle.vm_step.specs.Stacks.{gone}
 use Rattle.vm_fetching.specs.declared.instruction.Instruction.TheVariants as fetched
 use Rattle.vm_moving.specs.Moving.{Runs, GoesBehind}
+use Rattle.vm_operating.proofs.Constancy as constancy
 use Rattle.vm_operating.proofs.Finding as finding
 use Rattle.vm_operating.proofs.Shifting as shifting
 use Rattle.vm_operating.proofs.moving.load_int.Goals as goal
@@ -28,6 +29,6 @@ returns g c =
     record {
       acts = c.acting_law.ensures.moves texts tuples (record { instruction = fetched.Int c.args.n; end = c.args.end }) heap old new
           (subst (λ (z : ℤ). GoesBehind (record { instruction = fetched.Int z; end = c.args.end }) old new) same c.load_small.ensures.goes)
-          (shifting.pushed texts tuples heap.objects old new c.args.end (slots.Value (values.Int c.args.n)) c.requires.known
+          (shifting.pushed texts tuples heap.objects old new c.args.end (slots.Value (values.Int c.args.n)) (constancy.int_known texts tuples heap.objects c.args.n c.requires.runs.ready.constant)
           (subst (λ (z : ℤ). new ≡ on_running (λ d. gone c.args.end (slots.Value (values.Int z) ∷ d.slots) d) old) same c.load_small.ensures.moved));
     }

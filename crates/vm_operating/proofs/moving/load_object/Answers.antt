@@ -1,5 +1,6 @@
 use Rattle.vm_fetching.specs.declared.instruction.Instruction.TheVariants as fetched
 use Rattle.vm_frames.specs.declared.slot.Slot.TheVariants as slots
+use Rattle.vm_operating.proofs.Constancy as constancy
 use Rattle.vm_operating.proofs.Finding as finding
 use Rattle.vm_operating.proofs.Shifting as shifting
 use Rattle.vm_operating.proofs.moving.load_object.Goals as goal
@@ -14,7 +15,9 @@ returns g c =
     let heap = c.args._arena.now in
     let old = c.args.frames.now in
     let new = c.load_constant.new.frames in
+    let h = c.requires.runs in
+    let k = h.ready.constant in
     record {
       acts = c.acting_law.ensures.moves texts tuples (record { instruction = fetched.Object c.args.v; end = c.args.end }) heap old new c.load_constant.ensures.goes
-          (shifting.pushed texts tuples heap.objects old new c.args.end (slots.Value c.args.v) c.requires.known c.load_constant.ensures.moved);
+          (shifting.pushed texts tuples heap.objects old new c.args.end (slots.Value c.args.v) (finding.value_known h c.args.v (constancy.object_known h.program heap.objects k.0 k.1 c.args.v h.means k.2)) c.load_constant.ensures.moved);
     }
