@@ -8,8 +8,12 @@ use Rattle.mpy_io.specs.declared.fault.ReadFault.TheVariants.{TooLong}
 use Rattle.mpy_io.specs.Files.{FileOf, Reads}
 use Rattle.mpy_reader.specs.declared.fault.FileFault.TheVariants.{TooBig}
 use Rattle.mpy_reader.specs.Reading.{FirstFault, file, stops}
+use Rattle.mpy_tool.specs.declared.ending.Ending.{Ending}
+use Rattle.mpy_tool.specs.declared.ending.Ending.TheVariants.{Done, Unaccepted, Unread, Unverified, Unmerged, ReadFault, WriteFault, Unwritten, NoMemory, Absent}
+use Rattle.mpy_tool.specs.Check.{Judges}
 use Rattle.mpy_tool.specs.Folder.{MayHold}
 use Rattle.mpy_tool.specs.Line.{path_text}
+use Rattle.mpy_tool.specs.Merge.{Opens}
 use Rattle.mpy_tool.proofs.Runs.{some_long}
 
 -- a file past its limit has that fault before all others
@@ -25,6 +29,19 @@ pub too_long_read : (files : Option FileOf) (name : List ℕ) (told : Option (Li
     → ((bytes : List ℕ) × MayHold files name (Some bytes) × FirstFault bytes TooBig) × Keeps told told
 too_long_read files name told fault e h =
     (long_file files name (subst (λ (x : FolderFault). IfSome files (λ file. Reads (file name) (Err x))) e h), Keeps-refl told)
+
+-- what keeps a module from being verified keeps its codes from being counted
+pub judged_from : (bytes : List ℕ) (ending : Ending) → Opens bytes (Err ending) → Judges bytes (Err ending)
+judged_from bytes Done h = absurd h
+judged_from bytes (Unaccepted fault) h = absurd h
+judged_from bytes (Unread fault) h = h
+judged_from bytes (Unverified fault) h = h
+judged_from bytes (Unmerged fault) h = absurd h
+judged_from bytes ReadFault h = absurd h
+judged_from bytes WriteFault h = absurd h
+judged_from bytes Unwritten h = absurd h
+judged_from bytes NoMemory h = tt
+judged_from bytes Absent h = absurd h
 
 -- a place with others behind it
 pub path_more : (path behind : List ℕ) (place : ℕ) (alone : Bool) → path ≡ place ∷ behind → alone ≡ (length behind == 0) → alone ≡ false → path_text path ≡ (decimal place ++ codes ".") ++ path_text behind

@@ -7,21 +7,21 @@ use Rattle.mpy_io.specs.declared.fault.ReadFault.{ReadFault as FolderFault}
 use Rattle.mpy_io.specs.declared.fault.ReadFault.TheVariants.{TooLong}
 use Rattle.mpy_io.specs.Files.{FileOf, Reads, Becomes, BecomesFront}
 use Rattle.mpy_tool.specs.declared.ending.Ending.{Ending}
-use Rattle.mpy_tool.specs.declared.ending.Ending.TheVariants.{Done, Unaccepted, Unread, Unverified, ReadFault, WriteFault, Unwritten, NoMemory, Absent}
+use Rattle.mpy_tool.specs.declared.ending.Ending.TheVariants.{Done, Unaccepted, Unread, Unverified, Unmerged, ReadFault, WriteFault, Unwritten, NoMemory, Absent}
 use Rattle.mpy_tool.specs.Cross.{HoldsFaulty, Crosses, ChangesOnly}
 use Rattle.mpy_tool.proofs.Runs.{some_long}
 
 -- ---- other files
 
-same_only : (old new : Option FileOf) (written : List ℕ) → new ≡ old → ChangesOnly old new written
+pub same_only : (old new : Option FileOf) (written : List ℕ) → new ≡ old → ChangesOnly old new written
 same_only None new written e = tt
 same_only (Some file) new written e = (file, e, λ other apart. refl)
 
-became_only : (old new : Option FileOf) (written bytes : List ℕ) → Becomes old new written bytes → ChangesOnly old new written
+pub became_only : (old new : Option FileOf) (written bytes : List ℕ) → Becomes old new written bytes → ChangesOnly old new written
 became_only None new written bytes h = tt
 became_only (Some file) new written bytes h = (h.0, h.1, h.2.others)
 
-front_only : (old new : Option FileOf) (written bytes : List ℕ) → BecomesFront old new written bytes → ChangesOnly old new written
+pub front_only : (old new : Option FileOf) (written bytes : List ℕ) → BecomesFront old new written bytes → ChangesOnly old new written
 front_only old new written bytes (inl e) = same_only old new written e
 front_only old new written bytes (inr h) = became_only old new written h.0 h.3
 
@@ -30,6 +30,7 @@ crosses_only level name stored written old new Done h = became_only old new writ
 crosses_only level name stored written old new (Unaccepted fault) h = same_only old new written h.1
 crosses_only level name stored written old new (Unread fault) h = absurd h
 crosses_only level name stored written old new (Unverified fault) h = absurd h
+crosses_only level name stored written old new (Unmerged fault) h = absurd h
 crosses_only level name stored written old new ReadFault h = same_only old new written h
 crosses_only level name stored written old new WriteFault h = became_only old new written h.0 h.2
 crosses_only level name stored written old new Unwritten h = front_only old new written h.0 h.2

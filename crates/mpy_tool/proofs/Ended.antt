@@ -1,12 +1,13 @@
 -- How a whole command ended, from its parts.
-use Rattle.std.proofs.Common.{◌≡◌, ℕ, List, Option, Result, ap, subst, ◌∙◌, refl}
+use Rattle.std.proofs.Common.{◌≡◌, ℕ, List, [], Option, Result, get_or, ap, subst, ◌∙◌, refl}
 use Rattle.mpy_io.specs.Count.{Counts}
 use Rattle.mpy_io.specs.Files.{FileOf}
 use Rattle.mpy_io.specs.declared.fault.Failed.{Failed}
+use Rattle.mpy_words.specs.Words.{first_name, second_name}
 use Rattle.mpy_tool.specs.declared.ending.Ending.{Ending}
-use Rattle.mpy_tool.specs.declared.ending.Ending.TheVariants.{Done, Unaccepted, Unread, Unverified, ReadFault, WriteFault, Unwritten, NoMemory, Absent}
+use Rattle.mpy_tool.specs.declared.ending.Ending.TheVariants.{Done, Unaccepted, Unread, Unverified, Unmerged, ReadFault, WriteFault, Unwritten, NoMemory, Absent}
 use Rattle.mpy_tool.specs.Ending.{status_of, is_folder_fault, is_out_fault}
-use Rattle.mpy_tool.specs.Line.{Puts, Says, line_of, name_in}
+use Rattle.mpy_tool.specs.Line.{Puts, Says, line_of, name_in, place_in}
 use Rattle.mpy_tool.specs.Outside.{Outside, Ends}
 use Rattle.mpy_tool.proofs.Said.{says_from}
 
@@ -19,18 +20,37 @@ name_read read written Done h = refl
 name_read read written (Unaccepted fault) h = refl
 name_read read written (Unread fault) h = refl
 name_read read written (Unverified fault) h = refl
+name_read read written (Unmerged fault) h = refl
 name_read read written ReadFault h = refl
 name_read read written WriteFault h = refl
 name_read read written Unwritten h = absurd (h refl)
 name_read read written NoMemory h = refl
 name_read read written Absent h = refl
 
--- what was said, by the names that were given for it
-pub said_in : (old new : Option (List ℕ)) (count_old count_new : ℕ) (said first second read written : List ℕ) (ending : Ending) (r : Result (Unit {0}) Failed)
-    → said ≡ name_in first second ending → first ≡ read → second ≡ written → Puts old new count_old count_new (line_of said ending) r
-    → Says old new count_old count_new (line_of (name_in read written ending) ending)
-said_in old new count_old count_new said first second read written ending r e f g p =
-    let named = e ∙ (ap (λ (n : List ℕ). name_in n second ending) f ∙ ap (λ (n : List ℕ). name_in read n ending) g) in
+-- the word at the place of the ending names that file
+word_named : (words : List (List ℕ)) (ending : Ending) → get_or words (place_in ending) [] ≡ name_in (first_name words) (second_name words) ending
+word_named words Done = refl
+word_named words (Unaccepted fault) = refl
+word_named words (Unread fault) = refl
+word_named words (Unverified fault) = refl
+word_named words (Unmerged fault) = refl
+word_named words ReadFault = refl
+word_named words WriteFault = refl
+word_named words Unwritten = refl
+word_named words NoMemory = refl
+word_named words Absent = refl
+
+-- what was said, by the word at a place
+pub said_at : (old new : Option (List ℕ)) (count_old count_new : ℕ) (words : List (List ℕ)) (said : List ℕ) (place : ℕ) (ending : Ending) (r : Result (Unit {0}) Failed)
+    → said ≡ get_or words place [] → Puts old new count_old count_new (line_of said ending) r → Says old new count_old count_new (line_of (get_or words place []) ending)
+said_at old new count_old count_new words said place ending r e p =
+    subst (λ (n : List ℕ). Says old new count_old count_new (line_of n ending)) e (says_from old new count_old count_new (line_of said ending) r p)
+
+pub said_in : (old new : Option (List ℕ)) (count_old count_new : ℕ) (words : List (List ℕ)) (said : List ℕ) (place : ℕ) (ending : Ending) (r : Result (Unit {0}) Failed)
+    → said ≡ get_or words place [] → place ≡ place_in ending → Puts old new count_old count_new (line_of said ending) r
+    → Says old new count_old count_new (line_of (name_in (first_name words) (second_name words) ending) ending)
+said_in old new count_old count_new words said place ending r e at p =
+    let named = e ∙ (ap (λ (n : ℕ). get_or words n []) at ∙ word_named words ending) in
     subst (λ (n : List ℕ). Says old new count_old count_new (line_of n ending)) named (says_from old new count_old count_new (line_of said ending) r p)
 
 pub ends : (Relates : Relation) (read written : List ℕ) (old new : Outside) (status : ℕ) (ending : Ending)

@@ -4,3 +4,4 @@ pub mod Checked
 pub mod Crossed
 pub mod Ended
 pub mod HandedOn
+pub mod Merging

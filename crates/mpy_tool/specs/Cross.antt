@@ -6,7 +6,7 @@ use Rattle.mpy_simple.specs.declared.print.Print.{Print}
 use Rattle.mpy_simple.specs.Compiled.{IsFileOf}
 use Rattle.mpy_simple.specs.Source.{IsCompiled, IsFault}
 use Rattle.mpy_tool.specs.declared.ending.Ending.{Ending}
-use Rattle.mpy_tool.specs.declared.ending.Ending.TheVariants.{Done, Unaccepted, Unread, Unverified, ReadFault, WriteFault, Unwritten, NoMemory, Absent}
+use Rattle.mpy_tool.specs.declared.ending.Ending.TheVariants.{Done, Unaccepted, Unread, Unverified, Unmerged, ReadFault, WriteFault, Unwritten, NoMemory, Absent}
 use Rattle.mpy_tool.specs.Folder.{MayHold}
 
 -- the source under this stored name is accepted at the level, and the bytes are a file of what it compiles to
@@ -32,6 +32,7 @@ Crosses level name stored written old new Done = (bytes : List ℕ) × HoldsComp
 Crosses level name stored written old new (Unaccepted fault) = HoldsFaulty level old name stored fault × (new ≡ old)
 Crosses level name stored written old new (Unread fault) = ⊥
 Crosses level name stored written old new (Unverified fault) = ⊥
+Crosses level name stored written old new (Unmerged fault) = ⊥
 Crosses level name stored written old new ReadFault = new ≡ old
 -- nothing was printed, but what the sink held before wasn't handed on
 Crosses level name stored written old new WriteFault = (bytes : List ℕ) × HoldsCompiled level old name stored bytes × Becomes old new written bytes

@@ -1,7 +1,7 @@
 -- How a command ended: its status, which count of faults rose, and whether the ending is determined.
 use Rattle.std.specs.Prelude.{ℕ, Bool, true, false}
 use Rattle.mpy_tool.specs.declared.ending.Ending.{Ending}
-use Rattle.mpy_tool.specs.declared.ending.Ending.TheVariants.{Done, Unaccepted, Unread, Unverified, ReadFault, WriteFault, Unwritten, NoMemory, Absent}
+use Rattle.mpy_tool.specs.declared.ending.Ending.TheVariants.{Done, Unaccepted, Unread, Unverified, Unmerged, ReadFault, WriteFault, Unwritten, NoMemory, Absent}
 
 abbrev pub status_of : Ending → ℕ
 status_of Done = 0
@@ -13,6 +13,7 @@ status_of WriteFault = 8
 status_of Unwritten = 8
 status_of NoMemory = 9
 status_of Absent = 10
+status_of (Unmerged fault) = 11
 
 -- whether the folder's count of faults rose
 abbrev pub is_folder_fault : Ending → Bool
@@ -20,6 +21,7 @@ is_folder_fault Done = false
 is_folder_fault (Unaccepted fault) = false
 is_folder_fault (Unread fault) = false
 is_folder_fault (Unverified fault) = false
+is_folder_fault (Unmerged fault) = false
 is_folder_fault ReadFault = true
 is_folder_fault WriteFault = false
 is_folder_fault Unwritten = true
@@ -32,6 +34,7 @@ is_out_fault Done = false
 is_out_fault (Unaccepted fault) = false
 is_out_fault (Unread fault) = false
 is_out_fault (Unverified fault) = false
+is_out_fault (Unmerged fault) = false
 is_out_fault ReadFault = false
 is_out_fault WriteFault = true
 is_out_fault Unwritten = false
@@ -44,6 +47,7 @@ IsSettled Done = Unit {0}
 IsSettled (Unaccepted fault) = Unit {0}
 IsSettled (Unread fault) = Unit {0}
 IsSettled (Unverified fault) = Unit {0}
+IsSettled (Unmerged fault) = Unit {0}
 IsSettled ReadFault = ⊥
 IsSettled WriteFault = ⊥
 IsSettled Unwritten = ⊥

@@ -4,5 +4,6 @@ pub mod Go
 pub mod Check
 pub mod Dump
 pub mod Cross
+pub mod Merge
 pub mod Line
 pub mod Outside

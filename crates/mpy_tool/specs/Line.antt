@@ -10,11 +10,13 @@ use Rattle.mpy_reader.specs.declared.fault.FileFault.{FileFault}
 use Rattle.mpy_reader.specs.Fault as file
 use Rattle.bc_verify.specs.declared.fault.VerifyFault.{VerifyFault}
 use Rattle.bc_verify.specs.Rule as rule
+use Rattle.mpy_merge.specs.declared.fault.MergeFault.{MergeFault}
+use Rattle.mpy_merge.specs.Numbers as merge
 use Rattle.mpy_words.specs.declared.order.WordFault.{WordFault}
 use Rattle.mpy_words.specs.declared.order.WordFault.TheVariants.{NoCommand, Unknown, MissingName, MissingValue, BadNumber, Twice}
 use Rattle.mpy_words.specs.Command.{name_of as word_name, spelling_of}
 use Rattle.mpy_tool.specs.declared.ending.Ending.{Ending}
-use Rattle.mpy_tool.specs.declared.ending.Ending.TheVariants.{Done, Unaccepted, Unread, Unverified, ReadFault, WriteFault, Unwritten, NoMemory, Absent}
+use Rattle.mpy_tool.specs.declared.ending.Ending.TheVariants.{Done, Unaccepted, Unread, Unverified, Unmerged, ReadFault, WriteFault, Unwritten, NoMemory, Absent}
 
 -- a word that a fault names, left out where it is empty
 abbrev pub spaced : List ℕ → List ℕ
@@ -48,7 +50,7 @@ source_line name fault =
     ++ (spaced fault.word ++ codes " line ")
     ++ (decimal fault.line ++ codes "\n")
 
--- the tag that a fault of an object names
+-- the tag of an object or the place of a module that a fault names
 abbrev pub tag_text : Option ℕ → List ℕ
 tag_text None = []
 tag_text (Some tag) = codes " " ++ decimal tag
@@ -73,12 +75,21 @@ verify_line name fault =
     ++ (codes " code " ++ path_text fault.path)
     ++ (codes " offset " ++ decimal fault.offset ++ codes "\n")
 
+-- what keeps modules from being merged: no file of its own
+abbrev pub merge_line : MergeFault → List ℕ
+merge_line fault =
+    codes "mpy: merge "
+    ++ (decimal (merge.number_of fault) ++ codes " " ++ merge.name_of fault)
+    ++ tag_text (merge.place_of fault)
+    ++ codes "\n"
+
 -- what is said of a command on the file of this name
 abbrev pub line_of : List ℕ → Ending → List ℕ
 line_of name Done = []
 line_of name (Unaccepted fault) = source_line name fault
 line_of name (Unread fault) = file_line name fault
 line_of name (Unverified fault) = verify_line name fault
+line_of name (Unmerged fault) = merge_line fault
 line_of name ReadFault = codes "mpy: read fault " ++ name ++ codes "\n"
 line_of name WriteFault = codes "mpy: write fault out\n"
 line_of name Unwritten = codes "mpy: write fault " ++ name ++ codes "\n"
@@ -91,11 +102,25 @@ name_in read written Done = read
 name_in read written (Unaccepted fault) = read
 name_in read written (Unread fault) = read
 name_in read written (Unverified fault) = read
+name_in read written (Unmerged fault) = read
 name_in read written ReadFault = read
 name_in read written WriteFault = read
 name_in read written Unwritten = written
 name_in read written NoMemory = read
 name_in read written Absent = read
+
+-- the place of that name among the words
+abbrev pub place_in : Ending → ℕ
+place_in Done = 1
+place_in (Unaccepted fault) = 1
+place_in (Unread fault) = 1
+place_in (Unverified fault) = 1
+place_in (Unmerged fault) = 1
+place_in ReadFault = 1
+place_in WriteFault = 1
+place_in Unwritten = 2
+place_in NoMemory = 1
+place_in Absent = 1
 
 -- a call puts the line, or fails behind a front of it, and then the count of faults rose
 abbrev pub Puts : Option (List ℕ) → Option (List ℕ) → ℕ → ℕ → List ℕ → Result (Unit {0}) Failed → Type 0

@@ -1,12 +1,12 @@
 -- What the outside tells before and after a command, and what the command did to it.
-use Rattle.std.specs.Prelude.{◌≡◌, ℕ, List, Option, Some, None, Ok, Err}
+use Rattle.std.specs.Prelude.{◌≡◌, ℕ, List, Option, Some, None, [], slice_index_or, Ok, Err}
 use Rattle.std.specs.Io.KnownBytes.{Keeps}
 use Rattle.mpy_io.specs.Count.{Counts}
 use Rattle.mpy_io.specs.Files.{FileOf}
 use Rattle.mpy_words.specs.declared.order.Command.{Command}
-use Rattle.mpy_words.specs.declared.order.Command.TheVariants.{Go, Check, Dump, Cross}
+use Rattle.mpy_words.specs.declared.order.Command.TheVariants.{Go, Check, Dump, Cross, Merge}
 use Rattle.mpy_words.specs.declared.order.WordFault.{WordFault}
-use Rattle.mpy_words.specs.Words.{Outcome, second_name}
+use Rattle.mpy_words.specs.Words.{Outcome, first_name, second_name}
 use Rattle.mpy_tool.specs.declared.ending.Ending.{Ending}
 use Rattle.mpy_tool.specs.Ending.{is_folder_fault, is_out_fault, status_of}
 use Rattle.mpy_tool.specs.Cross.{ChangesOnly}
@@ -54,12 +54,24 @@ pub record Writes (Relates : Option FileOf → Option FileOf → Ending → Type
   pub out_counts : Counts old.out_faults new.out_faults (is_out_fault ending)
   pub says : Says old.say new.say old.say_faults new.say_faults (line_of (name_in read written ending) ending)
 
+-- The same of a command that reads several files: the line names the word at a place, which the relation speaks of.
+pub record WritesOf (Relates : Option FileOf → Option FileOf → ℕ → Ending → Type 0) (words : List (List ℕ)) (old new : Outside) (status : ℕ) : Type 0 where
+  pub ending : Ending
+  pub place : ℕ
+  pub status_is : status ≡ status_of ending
+  pub went : Relates old.files new.files place ending
+  pub prints : Keeps old.out new.out
+  pub folder_counts : Counts old.folder_faults new.folder_faults (is_folder_fault ending)
+  pub out_counts : Counts old.out_faults new.out_faults (is_out_fault ending)
+  pub says : Says old.say new.say old.say_faults new.say_faults (line_of (slice_index_or words place []) ending)
+
 -- the file that a command writes
 abbrev pub written_by : List (List ℕ) → Command → Option (List ℕ)
 written_by words Go = None
 written_by words Check = None
 written_by words Dump = None
 written_by words Cross = Some (second_name words)
+written_by words Merge = Some (first_name words)
 
 -- words of no order write none
 abbrev pub written_in : List (List ℕ) → Outcome → Option (List ℕ)

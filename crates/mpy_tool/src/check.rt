@@ -5,19 +5,20 @@ ghost use Rattle.mpy_io.specs.Count.{Counts};
 ghost use Rattle.mpy_tool.specs.Ending.{is_folder_fault, is_out_fault};
 ghost use Rattle.mpy_tool.specs.Check.{Judges, Checks, verified_line};
 ghost use Rattle.mpy_tool.specs.Line.{Puts};
+ghost use Rattle.mpy_tool.specs.Merge.{Opens};
 
 use crate::ending::Ending;
 use crate::line::put_three;
-use bc_verify::verify;
+use bc_verify::{Verified, verify};
 use itoa::Buffer;
 use mpy_base::Refused;
 use mpy_io::{Failed, Folder, ReadFault, Sink};
 use mpy_reader::{FileFault, read};
 use std::alloc::Global;
 
-/// How many codes the module of a file's bytes has, or what keeps it from being verified.
-fn judged(alloc: Global, bytes: &[u8]) -> Result<u64, Ending>
-    ensures { Judges bytes.now result }
+/// The verified module of a file's bytes, or what keeps it from being one.
+pub(crate) fn verified(alloc: Global, bytes: &[u8]) -> Result<Verified, Ending>
+    ensures { Opens bytes.now result }
 {
     let raw = match read(alloc, bytes) {
         Ok(raw) => raw,
@@ -25,11 +26,21 @@ fn judged(alloc: Global, bytes: &[u8]) -> Result<u64, Ending>
         Err(Refused::NoMemory) => return Err(Ending::NoMemory),
     };
     match verify(alloc, raw) {
-        Ok(verified) => Ok(verified.codes()),
+        Ok(verified) => Ok(verified),
         Err((refusal, _raw)) => match refusal {
             Refused::Fault(fault) => Err(Ending::Unverified(fault)),
             Refused::NoMemory => Err(Ending::NoMemory),
         },
+    }
+}
+
+/// How many codes the module of a file's bytes has, or what keeps it from being verified.
+fn judged(alloc: Global, bytes: &[u8]) -> Result<u64, Ending>
+    ensures { Judges bytes.now result }
+{
+    match verified(alloc, bytes) {
+        Ok(verified) => Ok(verified.codes()),
+        Err(ending) => Err(ending),
     }
 }
 

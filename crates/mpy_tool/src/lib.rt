@@ -7,6 +7,7 @@ mod dump;
 mod ending;
 mod go;
 mod line;
+mod merge;
 mod top;
 mod words;
 

@@ -3,8 +3,9 @@
 ghost use Rattle.std.specs.Prelude.{◌≡◌, ◌++◌, List, ℕ, map, string_bytes, codes, decimal};
 ghost use Rattle.mpy_reader.specs.Fault as file;
 ghost use Rattle.bc_verify.specs.Rule as rules;
+ghost use Rattle.mpy_merge.specs.Numbers as merges;
 ghost use Rattle.mpy_tool.specs.Line as spec;
-ghost use Rattle.mpy_tool.specs.Line.{Puts, spaced, words_line, source_line, file_line, tag_text, path_text, verify_line, line_of};
+ghost use Rattle.mpy_tool.specs.Line.{Puts, spaced, words_line, source_line, file_line, tag_text, path_text, verify_line, merge_line, line_of};
 
 use crate::ending::Ending;
 use crate::words::word_at;
@@ -12,6 +13,7 @@ use bc_verify::{Rule, VerifyFault};
 use itoa::Buffer;
 use mpy_base::SourceFault;
 use mpy_io::{Failed, Sink};
+use mpy_merge::MergeFault;
 use mpy_reader::FileFault;
 use mpy_words::WordFault;
 
@@ -206,15 +208,37 @@ fn say_unverified<E: Sink>(say: &mut E, name: &str, fault: &VerifyFault) -> Resu
     put_offset(say, fault.offset)
 }
 
-/// The name of the file that the line is about.
-pub(crate) fn name_in<'a>(read: &'a str, written: &'a str, ending: &Ending) -> &'a str
-    ensures { result.now ≡ spec.name_in read.now written.now ending.now }
+/// Puts the number and the name of a fault of a merge.
+fn put_merge_fault<E: Sink>(say: &mut E, fault: MergeFault) -> Result<(), Failed>
+    ensures { Puts (E.told say.old) (E.told say.new) (E.count say.old) (E.count say.new)
+        (decimal (merges.number_of fault) ++ codes " " ++ merges.name_of fault) result }
 {
-    match ending {
-        Ending::Unwritten => written,
-        Ending::Done | Ending::Unaccepted(_) | Ending::Unread(_) | Ending::Unverified(_) => read,
-        Ending::ReadFault | Ending::WriteFault | Ending::NoMemory | Ending::Absent => read,
+    let mut digits = Buffer::new();
+    let digits = digits.format(fault.number()).as_bytes();
+    put_three(say, digits, b" ", fault.name().as_bytes())
+}
+
+/// Puts the place of the module that a fault names.
+fn put_place<E: Sink>(say: &mut E, place: Option<usize>) -> Result<(), Failed>
+    ensures { Puts (E.told say.old) (E.told say.new) (E.count say.old) (E.count say.new) (tag_text place) result }
+{
+    match place {
+        None => put(say, b""),
+        Some(place) => {
+            let mut digits = Buffer::new();
+            put_two(say, b" ", digits.format(place).as_bytes())
+        }
     }
+}
+
+/// Says why the modules can't be merged.
+fn say_unmerged<E: Sink>(say: &mut E, fault: MergeFault) -> Result<(), Failed>
+    ensures { Puts (E.told say.old) (E.told say.new) (E.count say.old) (E.count say.new) (merge_line fault) result }
+{
+    put(say, b"mpy: merge ")?;
+    put_merge_fault(say, fault)?;
+    put_place(say, fault.place())?;
+    put(say, b"\n")
 }
 
 /// Says how a command on the file of this name ended.
@@ -227,6 +251,7 @@ pub(crate) fn say_ending<E: Sink>(say: &mut E, name: &str, ending: &Ending) -> R
         Ending::Unaccepted(fault) => say_fault(say, name, fault),
         Ending::Unread(fault) => say_unread(say, name, *fault),
         Ending::Unverified(fault) => say_unverified(say, name, fault),
+        Ending::Unmerged(fault) => say_unmerged(say, *fault),
         Ending::ReadFault => put_three(say, b"mpy: read fault ", name.as_bytes(), b"\n"),
         Ending::WriteFault => put(say, b"mpy: write fault out\n"),
         Ending::Unwritten => put_three(say, b"mpy: write fault ", name.as_bytes(), b"\n"),

@@ -1,10 +1,11 @@
 //! The top call.
 
-ghost use Rattle.std.specs.Prelude.{◌≡◌, ◌≤◌, ℕ, List, [], Option, Some, map, string_bytes, IfOk, IfErr};
+ghost use Rattle.std.specs.Prelude.{◌≡◌, ◌≤◌, ℕ, List, [], Option, Some, false, map, string_bytes, IfOk, IfErr};
 ghost use Rattle.mpy_io.specs.Count.{Counts};
 ghost use Rattle.mpy_io.specs.Files.{FileOf};
 ghost use Rattle.mpy_words.specs.declared.order.Command.TheVariants as commands;
-ghost use Rattle.mpy_words.specs.Words.{order_of, first_name, second_name, source_name};
+ghost use Rattle.mpy_words.specs.Command.{takes_files};
+ghost use Rattle.mpy_words.specs.Words.{order_of, first_name, second_name, source_name, file_names};
 ghost use Rattle.mpy_tool.specs.declared.ending.Ending.{Ending};
 ghost use Rattle.mpy_tool.specs.declared.ending.Ending.TheVariants.{Done};
 ghost use Rattle.mpy_tool.specs.Ending.{IsSettled, is_folder_fault, is_out_fault};
@@ -12,16 +13,19 @@ ghost use Rattle.mpy_tool.specs.Check.{Checks};
 ghost use Rattle.mpy_tool.specs.Cross.{Crosses};
 ghost use Rattle.mpy_tool.specs.Dump.{Dumps};
 ghost use Rattle.mpy_tool.specs.Go.{stored, Went};
-ghost use Rattle.mpy_tool.specs.Outside.{seen, RefusesWords, Ends, Writes, written_by, written_in, Changes};
+ghost use Rattle.mpy_tool.specs.Line.{place_in};
+ghost use Rattle.mpy_tool.specs.Merge.{Merges};
+ghost use Rattle.mpy_tool.specs.Outside.{seen, RefusesWords, Ends, Writes, WritesOf, written_by, written_in, Changes};
 ghost use Rattle.std.specs.Io.KnownBytes.{Keeps};
 
 use crate::check::check;
 use crate::cross::cross;
 use crate::dump::dump;
-use crate::ending::Ending;
+use crate::ending::{Ended, Ending};
 use crate::go::go;
-use crate::line::{name_in, say_ending, say_words};
-use crate::words::{source_name as name_to_store, word_at};
+use crate::line::{say_ending, say_words};
+use crate::merge::merge_files;
+use crate::words::{file_names as files_in, source_name as name_to_store, word_at};
 use mpy_io::{Failed, Folder, Sink};
 use mpy_words::{Command, Order, order_of};
 use std::alloc::Global;
@@ -36,34 +40,38 @@ fn ran<F: Folder, S: Sink>(
     words: &[String],
     folder: &mut F,
     out: &mut S,
-) -> Ending
+) -> Ended
     requires { order.level ≤ 3 }
-    ensures go { order.command ≡ commands.Go → Went order.level (F.files folder.old) (first_name (map string_bytes words.now)) result (S.told out.old) (S.told out.new) }
-    ensures check { order.command ≡ commands.Check → Checks (F.files folder.old) (first_name (map string_bytes words.now)) result (S.told out.old) (S.told out.new) }
-    ensures dump { order.command ≡ commands.Dump → Dumps (F.files folder.old) (first_name (map string_bytes words.now)) result (S.told out.old) (S.told out.new) }
+    ensures go { order.command ≡ commands.Go → Went order.level (F.files folder.old) (first_name (map string_bytes words.now)) result.ending (S.told out.old) (S.told out.new) }
+    ensures check { order.command ≡ commands.Check → Checks (F.files folder.old) (first_name (map string_bytes words.now)) result.ending (S.told out.old) (S.told out.new) }
+    ensures dump { order.command ≡ commands.Dump → Dumps (F.files folder.old) (first_name (map string_bytes words.now)) result.ending (S.told out.old) (S.told out.new) }
     ensures cross { order.command ≡ commands.Cross → Crosses order.level (first_name (map string_bytes words.now)) (stored (source_name (map string_bytes words.now) order.stored_name))
-        (second_name (map string_bytes words.now)) (F.files folder.old) (F.files folder.new) result }
-    ensures prints { order.command ≡ commands.Cross → Keeps (S.told out.old) (S.told out.new) }
-    ensures folder_counts { Counts (F.count folder.old) (F.count folder.new) (is_folder_fault result) }
-    ensures out_counts { Counts (S.count out.old) (S.count out.new) (is_out_fault result) }
+        (second_name (map string_bytes words.now)) (F.files folder.old) (F.files folder.new) result.ending }
+    ensures merge { order.command ≡ commands.Merge → Merges (file_names (map string_bytes words.now)) (first_name (map string_bytes words.now)) (F.files folder.old) (F.files folder.new) result.place result.ending }
+    ensures cross_prints { order.command ≡ commands.Cross → Keeps (S.told out.old) (S.told out.new) }
+    ensures merge_prints { order.command ≡ commands.Merge → Keeps (S.told out.old) (S.told out.new) }
+    ensures place { takes_files order.command ≡ false → result.place ≡ place_in result.ending }
+    ensures folder_counts { Counts (F.count folder.old) (F.count folder.new) (is_folder_fault result.ending) }
+    ensures out_counts { Counts (S.count out.old) (S.count out.new) (is_out_fault result.ending) }
     ensures files { Changes (written_by (map string_bytes words.now) order.command) (F.files folder.old) (F.files folder.new) }
 {
     let name = word_at(words, 1);
     match order.command {
-        Command::Go => go(alloc, order.level, name, folder, out),
-        Command::Check => check(alloc, name, folder, out),
-        Command::Dump => dump(alloc, name, folder, out),
+        Command::Go => Ended::of_two(go(alloc, order.level, name, folder, out)),
+        Command::Check => Ended::of_two(check(alloc, name, folder, out)),
+        Command::Dump => Ended::of_two(dump(alloc, name, folder, out)),
         Command::Cross => {
             let source_name = name_to_store(words, order.stored_name);
-            cross(
+            Ended::of_two(cross(
                 alloc,
                 order.level,
                 name,
                 source_name,
                 word_at(words, 2),
                 folder,
-            )
+            ))
         }
+        Command::Merge => merge_files(alloc, files_in(words), name, folder),
     }
 }
 
@@ -74,25 +82,35 @@ fn done<F: Folder, S: Sink>(
     words: &[String],
     folder: &mut F,
     out: &mut S,
-) -> Ending
+) -> Ended
     requires { order.level ≤ 3 }
-    ensures go { order.command ≡ commands.Go → Went order.level (F.files folder.old) (first_name (map string_bytes words.now)) result (S.told out.old) (S.told out.new) }
-    ensures check { order.command ≡ commands.Check → Checks (F.files folder.old) (first_name (map string_bytes words.now)) result (S.told out.old) (S.told out.new) }
-    ensures dump { order.command ≡ commands.Dump → Dumps (F.files folder.old) (first_name (map string_bytes words.now)) result (S.told out.old) (S.told out.new) }
+    ensures go { order.command ≡ commands.Go → Went order.level (F.files folder.old) (first_name (map string_bytes words.now)) result.ending (S.told out.old) (S.told out.new) }
+    ensures check { order.command ≡ commands.Check → Checks (F.files folder.old) (first_name (map string_bytes words.now)) result.ending (S.told out.old) (S.told out.new) }
+    ensures dump { order.command ≡ commands.Dump → Dumps (F.files folder.old) (first_name (map string_bytes words.now)) result.ending (S.told out.old) (S.told out.new) }
     ensures cross { order.command ≡ commands.Cross → Crosses order.level (first_name (map string_bytes words.now)) (stored (source_name (map string_bytes words.now) order.stored_name))
-        (second_name (map string_bytes words.now)) (F.files folder.old) (F.files folder.new) result }
-    ensures prints { order.command ≡ commands.Cross → Keeps (S.told out.old) (S.told out.new) }
-    ensures flushed { result ≡ Done → S.held out.new ≡ [] }
-    ensures folder_counts { Counts (F.count folder.old) (F.count folder.new) (is_folder_fault result) }
-    ensures out_counts { Counts (S.count out.old) (S.count out.new) (is_out_fault result) }
+        (second_name (map string_bytes words.now)) (F.files folder.old) (F.files folder.new) result.ending }
+    ensures merge { order.command ≡ commands.Merge → Merges (file_names (map string_bytes words.now)) (first_name (map string_bytes words.now)) (F.files folder.old) (F.files folder.new) result.place result.ending }
+    ensures cross_prints { order.command ≡ commands.Cross → Keeps (S.told out.old) (S.told out.new) }
+    ensures merge_prints { order.command ≡ commands.Merge → Keeps (S.told out.old) (S.told out.new) }
+    ensures place { takes_files order.command ≡ false → result.place ≡ place_in result.ending }
+    ensures flushed { result.ending ≡ Done → S.held out.new ≡ [] }
+    ensures folder_counts { Counts (F.count folder.old) (F.count folder.new) (is_folder_fault result.ending) }
+    ensures out_counts { Counts (S.count out.old) (S.count out.new) (is_out_fault result.ending) }
     ensures files { Changes (written_by (map string_bytes words.now) order.command) (F.files folder.old) (F.files folder.new) }
 {
-    match ran(order, alloc, words, folder, out) {
+    let Ended { ending, place } = ran(order, alloc, words, folder, out);
+    match ending {
         Ending::Done => match out.flush() {
-            Ok(()) => Ending::Done,
-            Err(Failed) => Ending::WriteFault,
+            Ok(()) => Ended {
+                ending: Ending::Done,
+                place,
+            },
+            Err(Failed) => Ended {
+                ending: Ending::WriteFault,
+                place,
+            },
         },
-        ending => ending,
+        ending => Ended { ending, place },
     }
 }
 
@@ -136,19 +154,25 @@ pub fn mpy<F: Folder, S: Sink, E: Sink>(
         (seen F.files F.count S.told S.count E.told E.count folder.old out.old say.old)
         (seen F.files F.count S.told S.count E.told E.count folder.new out.new say.new) result) }
 
+    // merge OUT FILE..: OUT becomes the merged file of the others, and nothing is printed, or what kept it from that is said.
+    ensures merge { IfOk (order_of (map string_bytes words.now)) (λ order. order.command ≡ commands.Merge
+        → WritesOf (Merges (file_names (map string_bytes words.now)) (first_name (map string_bytes words.now))) (map string_bytes words.now)
+        (seen F.files F.count S.told S.count E.told E.count folder.old out.old say.old)
+        (seen F.files F.count S.told S.count E.told E.count folder.new out.new say.new) result) }
+
     // With status 0 nothing of what is printed is held back.
     ensures flushed { result ≡ 0 → S.held out.new ≡ [] }
 
-    // No command but cross changes a file, and cross none but FILE.
+    // No command but cross and merge changes a file, and these none but FILE and OUT.
     ensures files { Changes (written_in (map string_bytes words.now) (order_of (map string_bytes words.now))) (F.files folder.old) (F.files folder.new) }
 {
     match order_of(words) {
         Ok(order) => {
-            let ending = done(order, alloc, words, folder, out);
-            let name = name_in(word_at(words, 1), word_at(words, 2), &ending);
+            let ended = done(order, alloc, words, folder, out);
+            let name = word_at(words, ended.place);
             // A failed put on `say` changes nothing else.
-            let _ = say_ending(say, name, &ending);
-            ending.status()
+            let _ = say_ending(say, name, &ended.ending);
+            ended.ending.status()
         }
         Err(fault) => {
             let _ = say_words(say, words, fault);

@@ -13,6 +13,13 @@ pub(crate) fn word_at(words: &[String], at: usize) -> &str
     }
 }
 
+/// The words that name files behind OUT.
+pub(crate) fn file_names(words: &[String]) -> &[String]
+    ensures { map string_bytes result.now ≡ spec.file_names (map string_bytes words.now) }
+{
+    if words.len() < 2 { &[] } else { &words[2..] }
+}
+
 /// The name that a file is to store of its source: the word at the given place, else the first name.
 pub(crate) fn source_name(words: &[String], given: Option<usize>) -> &str
     ensures { result.now ≡ spec.source_name (map string_bytes words.now) given }

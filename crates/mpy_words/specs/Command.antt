@@ -1,15 +1,16 @@
 -- The commands, the words that each names, and its options.
-use Rattle.std.specs.Prelude.{ℕ, List, [], ◌∷◌, Option, Some, None, codes, bytes_eq, if◌then◌else◌}
+use Rattle.std.specs.Prelude.{ℕ, Bool, true, false, List, [], ◌∷◌, Option, Some, None, codes, bytes_eq, if◌then◌else◌}
 use Rattle.mpy_words.specs.declared.order.Command.{Command}
-use Rattle.mpy_words.specs.declared.order.Command.TheVariants.{Go, Check, Dump, Cross}
+use Rattle.mpy_words.specs.declared.order.Command.TheVariants.{Go, Check, Dump, Cross, Merge}
 use Rattle.mpy_words.specs.declared.order.Named.{Named}
-use Rattle.mpy_words.specs.declared.order.Named.TheVariants.{Source, File}
+use Rattle.mpy_words.specs.declared.order.Named.TheVariants.{Source, File, Output}
 use Rattle.mpy_words.specs.declared.order.Setting.{Setting}
 use Rattle.mpy_words.specs.declared.order.Setting.TheVariants.{Level, StoredName}
 
 abbrev pub name_of : Named → List ℕ
 name_of Source = codes "SRC"
 name_of File = codes "FILE"
+name_of Output = codes "OUT"
 
 abbrev pub spelling_of : Setting → List ℕ
 spelling_of Level = codes "-O"
@@ -21,7 +22,8 @@ command_of word =
     if bytes_eq word (codes "go") then Some Go
     else (if bytes_eq word (codes "check") then Some Check
     else (if bytes_eq word (codes "dump") then Some Dump
-    else (if bytes_eq word (codes "cross") then Some Cross else None)))
+    else (if bytes_eq word (codes "cross") then Some Cross
+    else (if bytes_eq word (codes "merge") then Some Merge else None))))
 
 -- the words that stand behind a command
 abbrev pub names_of : Command → List Named
@@ -29,12 +31,22 @@ names_of Go = Source ∷ []
 names_of Check = File ∷ []
 names_of Dump = File ∷ []
 names_of Cross = Source ∷ File ∷ []
+names_of Merge = Output ∷ []
+
+-- does the command take files behind these, as many as there are?
+abbrev pub takes_files : Command → Bool
+takes_files Go = false
+takes_files Check = false
+takes_files Dump = false
+takes_files Cross = false
+takes_files Merge = true
 
 -- the option that a word behind these is
 abbrev pub setting_of : Command → List ℕ → Option Setting
 setting_of Go word = if bytes_eq word (codes "-O") then Some Level else None
 setting_of Check word = None
 setting_of Dump word = None
+setting_of Merge word = None
 setting_of Cross word =
     if bytes_eq word (codes "-O") then Some Level
     else (if bytes_eq word (codes "-s") then Some StoredName else None)

@@ -1,5 +1,5 @@
 -- The order of words, the program's own name left out.
-use Rattle.std.specs.Prelude.{ℕ, ◌-◌, Bool, false, List, [], ◌∷◌, length, Option, Some, None, ◌==◌, if◌then◌else◌, slice_index_or, Result, Ok, Err}
+use Rattle.std.specs.Prelude.{ℕ, ◌-◌, Bool, false, List, [], ◌∷◌, length, drop, Option, Some, None, ◌==◌, if◌then◌else◌, slice_index_or, Result, Ok, Err}
 use Rattle.mpy_words.specs.declared.order.Command.{Command}
 use Rattle.mpy_words.specs.declared.order.Named.{Named}
 use Rattle.mpy_words.specs.declared.order.Setting.{Setting}
@@ -7,7 +7,7 @@ use Rattle.mpy_words.specs.declared.order.Order.{Order}
 use Rattle.mpy_words.specs.declared.order.WordFault.{WordFault}
 use Rattle.mpy_words.specs.declared.order.WordFault.TheVariants.{NoCommand, Unknown, MissingName, MissingValue, BadNumber, Twice}
 use Rattle.mpy_words.specs.declared.given.Given.{Given}
-use Rattle.mpy_words.specs.Command.{command_of, names_of, setting_of}
+use Rattle.mpy_words.specs.Command.{command_of, names_of, takes_files, setting_of}
 use Rattle.mpy_words.specs.Given.{none_given, is_given, with_option, order_with}
 
 abbrev pub Outcome : Type 0
@@ -19,6 +19,10 @@ first_name words = slice_index_or words 1 []
 
 abbrev pub second_name : List (List ℕ) → List ℕ
 second_name words = slice_index_or words 2 []
+
+-- the words that name files behind OUT
+abbrev pub file_names : List (List ℕ) → List (List ℕ)
+file_names words = drop 2 words
 
 -- the name that a file is to store of its source: the word that was given, else SRC
 abbrev pub source_name : List (List ℕ) → Option ℕ → List ℕ
@@ -56,7 +60,15 @@ settings count c given (word ∷ value ∷ words) =
     once given s (valued count (value ∷ words) (with_option given s (place count (value ∷ words)) value) (λ more.
     settings count c more words)))
 
--- ---- named words, and then options
+-- ---- named words, files where the command takes them, and then options
+
+-- the words from the first on that names no file
+unfoldable pub past_files : List (List ℕ) → List (List ℕ)
+past_files [] = []
+past_files (word ∷ words) = if begins_with_dash word then word ∷ words else past_files words
+
+abbrev pub behind_files : Command → List (List ℕ) → List (List ℕ)
+behind_files c words = if takes_files c then past_files words else words
 
 -- a word that is no option is unknown before a named word is missed
 abbrev pub lacking : ℕ → Command → Named → List ℕ → List (List ℕ) → Outcome
@@ -64,7 +76,7 @@ lacking count c wanted word words =
     known count (word ∷ words) (setting_of c word) (λ s. Err (MissingName wanted))
 
 unfoldable pub named : ℕ → Command → List Named → List (List ℕ) → Outcome
-named count c [] words = settings count c none_given words
+named count c [] words = settings count c none_given (behind_files c words)
 named count c (wanted ∷ more) [] = Err (MissingName wanted)
 named count c (wanted ∷ more) (word ∷ words) =
     if begins_with_dash word then lacking count c wanted word words else named count c more words

@@ -14,6 +14,8 @@ pub enum Command {
     Dump,
     /// `cross SRC FILE`
     Cross,
+    /// `merge OUT FILE..`
+    Merge,
 }
 
 /// A word that a command names.
@@ -21,6 +23,8 @@ pub enum Command {
 pub enum Named {
     Source,
     File,
+    /// The file that is written.
+    Output,
 }
 
 /// An option, which stands behind the named words with its value.
@@ -67,6 +71,7 @@ impl Named {
         match self {
             Named::Source => "SRC",
             Named::File => "FILE",
+            Named::Output => "OUT",
         }
     }
 }

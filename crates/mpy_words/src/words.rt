@@ -16,6 +16,7 @@ fn command(word: &str) -> Option<Command>
         "check" => Some(Command::Check),
         "dump" => Some(Command::Dump),
         "cross" => Some(Command::Cross),
+        "merge" => Some(Command::Merge),
         _ => None,
     }
 }
@@ -39,6 +40,7 @@ fn names(command: Command) -> &'static [Named]
         Command::Go => &[Named::Source],
         Command::Check | Command::Dump => &[Named::File],
         Command::Cross => &[Named::Source, Named::File],
+        Command::Merge => &[Named::Output],
     }
 }
 
@@ -49,6 +51,34 @@ fn begins_with_dash(word: &str) -> bool
         [byte, ..] => *byte == b'-',
         [] => false,
     }
+}
+
+/// Does the command take files behind its named words, as many as there are?
+fn takes_files(command: Command) -> bool
+    ensures { result ≡ commands.takes_files command }
+{
+    match command {
+        Command::Go | Command::Check | Command::Dump | Command::Cross => false,
+        Command::Merge => true,
+    }
+}
+
+/// The words behind those that name the command's files.
+#[tactic(auto, unfolding(crate::specs::Words::past_files))]
+fn behind_files(command: Command, words: &[String]) -> &[String]
+    ensures words { map string_bytes result.now ≡ spec.behind_files command (map string_bytes words.now) }
+    ensures fewer { length result.now ≤ length words.now }
+{
+    let mut rest = words;
+    if takes_files(command) {
+        'more: while let Some((word, behind)) = rest.split_first() {
+            if begins_with_dash(word.as_str()) {
+                return rest;
+            }
+            rest = behind;
+        }
+    }
+    rest
 }
 
 /// Reads options, the last of all the words, of which there are `count`.
@@ -82,7 +112,7 @@ fn settings(count: usize, command: Command, words: &[String]) -> Result<Order, W
     Ok(given.order(command))
 }
 
-/// Reads the named words, and then options.
+/// Reads the named words, passes files, and reads options.
 #[tactic(auto, unfolding(crate::specs::Words::named))]
 fn named(count: usize, command: Command, words: &[String]) -> Result<Order, WordFault>
     requires { length words.now ≤ count }
@@ -104,7 +134,7 @@ fn named(count: usize, command: Command, words: &[String]) -> Result<Order, Word
         }
         rest = behind;
     }
-    settings(count, command, rest)
+    settings(count, command, behind_files(command, rest))
 }
 
 /// The order that words give, the program's own name left out.

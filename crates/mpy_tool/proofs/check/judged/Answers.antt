@@ -1,18 +1,8 @@
-use Rattle.std.proofs.Common.{ap, ◌∙◌}
-use Rattle.mpy_tool.specs.Check.{count_of}
+use Rattle.mpy_tool.proofs.Checked.{judged_from}
 use Rattle.mpy_tool.proofs.check.judged.Goals as goal
 
-pub returns-in-Ok-verify : goal.returns-in-Ok-verify
-returns-in-Ok-verify c = record {
-  read = c.in-Ok.raw;
-  file = c.in-Ok.ensures.found;
-  verified = c.in-Ok-verify.ensures.verified;
-  count_is = c.codes.ensures ∙ ap count_of c.in-Ok-verify.ensures.same;
-}
+pub returns-in-Ok : goal.returns-in-Ok
+returns-in-Ok c = record { read = c.in-Ok.verified; file = c.in-Ok.ensures.0; verified = c.in-Ok.ensures.1; count_is = c.codes.ensures }
 
-pub returns-in-Fault : goal.returns-in-Fault
-returns-in-Fault c = record {
-  read = c.in-Ok.raw;
-  file = c.in-Ok.ensures.found;
-  first = c.in-Err.ensures.fault c.in-Fault.fault c.in-Fault.is;
-}
+pub returns-in-Err : goal.returns-in-Err
+returns-in-Err c = judged_from c.args.bytes.now c.in-Err.ending c.in-Err.ensures

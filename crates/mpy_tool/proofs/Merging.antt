@@ -1,0 +1,105 @@
+-- Files that are read as verified modules, and what a merge of them does.
+use Rattle.std.proofs.Common.{◌≡◌, ◌+◌, ◌<◌, false, List, ℕ, Option, Some, Result, Ok, Err, String, length, map, take, get_or, string_bytes, refl, subst, arith}
+use Rattle.std.specs.declared.alloc.Global.{Global}
+use Rattle.std.proofs.lemmas.List.{length-map}
+use Rattle.std.specs.Prelude.{IfOk, IfErr}
+use Rattle.mpy_io.specs.Files.{FileOf}
+use Rattle.mpy_tree.specs.Raw.{Module}
+use Rattle.mpy_tool.specs.declared.ending.Ending.{Ending}
+use Rattle.mpy_tool.specs.declared.ending.Ending.TheVariants.{Done, Unaccepted, Unread, Unverified, Unmerged, ReadFault, WriteFault, Unwritten, NoMemory, Absent}
+use Rattle.mpy_tool.specs.Cross.{ChangesOnly}
+use Rattle.mpy_tool.specs.Ending.{is_folder_fault, is_out_fault}
+use Rattle.mpy_tool.specs.Folder.{MayHold}
+use Rattle.mpy_tool.specs.Merge.{Opens, HoldsModule, HoldModules, Refuses, failed_in, IsFirstRefused, Merges}
+use Rattle.mpy_tool.proofs.Crossed.{same_only, became_only, front_only}
+use Rattle.mpy_tool.proofs.Said.{word_at}
+
+-- a file that was read
+pub opened_ok : (files : Option FileOf) (name bytes : List ℕ) (r : Result Module Ending) → MayHold files name (Some bytes) → Opens bytes r → IfOk r (HoldsModule files name)
+opened_ok files name bytes (Ok m) holds h = record { bytes = bytes; holds = holds; file = h.0; verified = h.1 }
+opened_ok files name bytes (Err ending) holds h = tt
+
+refused_by : (files : Option FileOf) (name bytes : List ℕ) (ending : Ending) → MayHold files name (Some bytes) → Opens bytes (Err ending) → Refuses files name ending
+refused_by files name bytes Done holds h = absurd h
+refused_by files name bytes (Unaccepted fault) holds h = absurd h
+refused_by files name bytes (Unread fault) holds h = (bytes, holds, h)
+refused_by files name bytes (Unverified fault) holds h = (bytes, holds, h)
+refused_by files name bytes (Unmerged fault) holds h = absurd h
+refused_by files name bytes ReadFault holds h = absurd h
+refused_by files name bytes WriteFault holds h = absurd h
+refused_by files name bytes Unwritten holds h = absurd h
+refused_by files name bytes NoMemory holds h = tt
+refused_by files name bytes Absent holds h = absurd h
+
+pub opened_err : (files : Option FileOf) (name bytes : List ℕ) (r : Result Module Ending) → MayHold files name (Some bytes) → Opens bytes r → IfErr r (Refuses files name)
+opened_err files name bytes (Ok m) holds h = tt
+opened_err files name bytes (Err ending) holds h = refused_by files name bytes ending holds h
+
+still : (bytes : List ℕ) (ending : Ending) → Opens bytes (Err ending) → is_folder_fault ending ≡ false
+still bytes Done h = refl
+still bytes (Unaccepted fault) h = refl
+still bytes (Unread fault) h = refl
+still bytes (Unverified fault) h = refl
+still bytes (Unmerged fault) h = refl
+still bytes ReadFault h = absurd h
+still bytes WriteFault h = refl
+still bytes Unwritten h = absurd h
+still bytes NoMemory h = refl
+still bytes Absent h = refl
+
+pub opened_still : (bytes : List ℕ) (r : Result Module Ending) → Opens bytes r → failed_in r ≡ false
+opened_still bytes (Ok m) h = refl
+opened_still bytes (Err ending) h = still bytes ending h
+
+-- a refusal of one of the files ends the merge, and changes none
+refusal : (files : Option FileOf) (name : List ℕ) (ending : Ending) → Refuses files name ending → is_out_fault ending ≡ false
+refusal files name Done h = refl
+refusal files name (Unaccepted fault) h = refl
+refusal files name (Unread fault) h = refl
+refusal files name (Unverified fault) h = refl
+refusal files name (Unmerged fault) h = refl
+refusal files name ReadFault h = refl
+refusal files name WriteFault h = absurd h
+refusal files name Unwritten h = refl
+refusal files name NoMemory h = refl
+refusal files name Absent h = refl
+
+pub refused_prints : (files : Option FileOf) (names : List (List ℕ)) (place : ℕ) (ending : Ending) → IsFirstRefused files names place ending → is_out_fault ending ≡ false
+refused_prints files names place ending r = refusal files _ ending r.refused
+
+pub refused_merges : (names : List (List ℕ)) (written : List ℕ) (old new : Option FileOf) (place : ℕ) (ending : Ending) → IsFirstRefused old names place ending → new ≡ old → Merges names written old new place ending
+refused_merges names written old new place Done r same = absurd r.refused
+refused_merges names written old new place (Unaccepted fault) r same = absurd r.refused
+refused_merges names written old new place (Unread fault) r same = (r, same)
+refused_merges names written old new place (Unverified fault) r same = (r, same)
+refused_merges names written old new place (Unmerged fault) r same = absurd r.refused
+refused_merges names written old new place ReadFault r same = (r, same)
+refused_merges names written old new place WriteFault r same = absurd r.refused
+refused_merges names written old new place Unwritten r same = absurd r.refused
+refused_merges names written old new place NoMemory r same = same
+refused_merges names written old new place Absent r same = (r, same)
+
+-- no file but the merged one changes
+pub merges_only : (names : List (List ℕ)) (written : List ℕ) (old new : Option FileOf) (place : ℕ) (ending : Ending) → Merges names written old new place ending → ChangesOnly old new written
+merges_only names written old new place Done h = became_only old new written h.0 h.2
+merges_only names written old new place (Unaccepted fault) h = absurd h
+merges_only names written old new place (Unread fault) h = same_only old new written h.1
+merges_only names written old new place (Unverified fault) h = same_only old new written h.1
+merges_only names written old new place (Unmerged fault) h = same_only old new written h.1
+merges_only names written old new place ReadFault h = same_only old new written h.1
+merges_only names written old new place WriteFault h = became_only old new written h.0 h.2
+merges_only names written old new place Unwritten h = front_only old new written h.0 h.2
+merges_only names written old new place NoMemory h = same_only old new written h
+merges_only names written old new place Absent h = same_only old new written h.1
+
+-- the first of several files that is refused
+pub first_refused : (files : Option FileOf) (words : List (String Global)) (at : ℕ) (word : String Global) (modules : List Module) (ending : Ending) → at < length words → word ≡ get_or words at word → HoldModules files (take at (map (string_bytes {Z = Global}) words)) modules → Refuses files (string_bytes word) ending
+    → IsFirstRefused files (map (string_bytes {Z = Global}) words) (at + 2) ending
+first_refused files words at word modules ending lt is before h = record {
+  at = at;
+  within = omega (arith, lt, length-map words (string_bytes {Z = Global}));
+  place_is = refl;
+  modules = modules;
+  before = before;
+  refused = subst (λ (n : List ℕ). Refuses files n ending) (word_at words at word lt is) h;
+}
