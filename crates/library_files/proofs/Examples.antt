@@ -1,9 +1,18 @@
--- What small modules import.
+-- What small modules import, what is asked for, and how small folders load.
 use Rattle.std.proofs.Common.{◌≡◌, ℕ, List, [], ◌∷◌, codes, map, refl, pos}
+use Rattle.std.specs.Prelude.{◌++◌, Some, None, if◌then◌else◌}
+use Rattle.std.specs.Str.{bytes_eq}
 use Rattle.bc_ops.specs.declared.instr.Op.TheVariants as ops
 use Rattle.bc_ops.specs.declared.instr.Instr.TheVariants as instrs
 use Rattle.mpy_tree.specs.Resolved.{Resolved, plain, named, Body, node, no_more, more}
+use Rattle.mpy_io.specs.Files.{FileOf}
+use Rattle.mpy_tree.specs.Raw.{Module}
+use Rattle.bc_library.specs.Shelf.{no_entries, with_refused}
+use Rattle.library_files.specs.declared.entry.Entry.TheVariants as entries
+use Rattle.library_files.specs.Asked.{asked_for}
+use Rattle.library_files.specs.Comes.{IsVerifiedFile}
 use Rattle.library_files.specs.Imports.{imports_of}
+use Rattle.library_files.specs.Loads.{Loaded, Loads, ends, next, taken}
 
 abbrev body_of : List Resolved → Body
 body_of instructions = record {
@@ -33,3 +42,52 @@ preorder : imports_of (node (body_of (importing (codes "a"))) (
     more (node (body_of (importing (codes "a"))) no_more) no_more)))
     ≡ codes "a" ∷ codes "b" ∷ codes "p.q" ∷ codes "a" ∷ []
 preorder = refl
+
+-- what is asked for where a name is imported
+-- ==========================================
+
+asked_plain : asked_for (codes "a") ≡ codes "a" ∷ []
+asked_plain = refl
+
+asked_dotted : asked_for (codes "p.q.r") ≡ codes "p" ∷ codes "p.q" ∷ codes "p.q.r" ∷ []
+asked_dotted = refl
+
+-- nothing below the built-in module, nor for a name that isn't plain
+asked_port : asked_for (codes "port.x") ≡ []
+asked_port = refl
+
+asked_unplain : asked_for (codes "a-b") ≡ []
+asked_unplain = refl
+
+asked_empty : asked_for (codes "p..q") ≡ []
+asked_empty = refl
+
+-- small folders
+-- =============
+
+no_files : FileOf
+no_files name = None
+
+-- a name that the folder doesn't have isn't in the library
+absent : Loads no_files [] no_entries 0 [] (codes "a" ∷ []) [] (Loaded no_entries)
+unfolding no_files
+absent =
+    next no_entries 0 (codes "a" ∷ []) [] (codes "a") [] (Loaded no_entries) refl
+    (taken no_entries 0 (codes "a") [] [] [] entries.Absent [] (Loaded no_entries) refl refl refl refl (ends no_entries 0))
+
+one_byte : FileOf
+one_byte name = if bytes_eq name (codes "a.mpy") then Some (0x4d ∷ []) else None
+
+no_module : (m : Module) → IsVerifiedFile (0x4d ∷ []) m → ⊥
+no_module m is =
+    let s = is.file.spelling in
+    let wrong : 0x4d ∷ [] ≡ 0x4d ∷ 6 ∷ 0 ∷ m.bits ∷ (s.qstr_count ++ (s.object_count ++ (s.qstrs ++ (s.objects ++ s.code)))) = s.text_is in
+    cc
+
+-- a file of no module is a refused entry
+refused : Loads one_byte [] no_entries 0 [] (codes "a" ∷ []) [] (Loaded (with_refused no_entries (codes "a")))
+unfolding one_byte
+refused =
+    next no_entries 0 (codes "a" ∷ []) [] (codes "a") [] (Loaded (with_refused no_entries (codes "a"))) refl
+    (taken no_entries 0 (codes "a") [] [] [] entries.Refused [] (Loaded (with_refused no_entries (codes "a"))) refl no_module refl refl
+    (ends (with_refused no_entries (codes "a")) 0))

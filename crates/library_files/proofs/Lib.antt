@@ -1,2 +1,4 @@
 pub mod Walks
+pub mod Read
+pub mod Once
 mod Examples

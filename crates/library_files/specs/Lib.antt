@@ -1,1 +1,4 @@
 pub mod Imports
+pub mod Comes
+pub mod Asked
+pub mod Loads

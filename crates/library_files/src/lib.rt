@@ -1,6 +1,12 @@
 //! The library of a main file: the modules that it imports, from the files of a folder.
 #![tactic(auto)]
 
+mod entry;
 mod imports;
+mod laws;
+mod limit;
 
+pub use entry::{Entry, entry_of};
 pub use imports::{imported_names, imports_law};
+pub use laws::loads_law;
+pub use limit::{Limit, MAX_LIBRARY_BYTES};

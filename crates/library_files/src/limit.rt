@@ -1,0 +1,13 @@
+//! The limits of a library of files.
+
+/// The most bytes that the files of a library's modules have together, the main file's among them.
+pub const MAX_LIBRARY_BYTES: usize = 16_777_216;
+
+/// A limit that a library passes.
+#[derive(Clone, Copy, Debug, PartialEq, Eq)]
+pub enum Limit {
+    /// It has more entries than a library may have, or its modules' files have more bytes.
+    TooMany,
+    /// Its pool has no room for a module's texts.
+    Names,
+}
