@@ -1,3 +1,6 @@
 mod Begun
+mod Lasts
 mod Never
+mod Openings
 mod Texts
+mod Titles

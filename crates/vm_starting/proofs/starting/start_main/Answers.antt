@@ -1,6 +1,7 @@
 use Rattle.std.proofs.Common.{◌≡◌, List, [], ◌∷◌, Ok, Err, sym, ap, ◌∙◌}
 use Rattle.std.specs.Prelude.{is_some}
 use Rattle.vm_frames.specs.Calls.{Call, Calls}
+use Rattle.vm_modules.specs.Registry.{Registry}
 use Rattle.vm_step.specs.Shown.{running_of}
 use Rattle.vm_step.specs.Outcomes.{world_of}
 use Rattle.vm_unwinding.specs.Ends.{with_modules}
@@ -48,6 +49,15 @@ returns-in-Ok-clause-state c p name shelf_is means main rooms =
     (begun.begins p begun.no_world old new c.args.modules.now c.make_module.new.modules c.moves_law.ensures.begins c.args.number c.args.locals name main code_is c.in-Ok.made made)
     (begun.counted p.shelf c.args.number code_is.m code_is.held) c.in-Ok.ensures.made (begun.same_rooms p c.args.frames.now c.push_call.new.self (returns-in-Ok-clause-rooms c) rooms)
     (begun.told_in p c.args.library.now new.objects shelf_is means c.in-Ok.ensures.all_told)
+
+pub returns-in-Ok-clause-registered : goal.returns-in-Ok-clause-registered
+returns-in-Ok-clause-registered c = (c.in-Ok.made.number, c.in-Ok.ensures.registered, c.in-Ok.ensures.made.number)
+
+pub returns-in-Ok-clause-kept : goal.returns-in-Ok-clause-kept
+returns-in-Ok-clause-kept c = ap (λ (r : Registry). r.room) c.in-Ok.ensures.registered
+
+pub returns-in-Err-Full-clause-kept : goal.returns-in-Err-Full-clause-kept
+returns-in-Err-Full-clause-kept c = ap (λ (r : Registry). r.room) c.in-Err-Full.ensures.registered
 
 pub returns-in-Err-Full-clause-starts : goal.returns-in-Err-Full-clause-starts
 returns-in-Err-Full-clause-starts c p name w shelf_is means main =

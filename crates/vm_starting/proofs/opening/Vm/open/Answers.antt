@@ -1,0 +1,57 @@
+use Rattle.std.proofs.Common.{Option, refl, sym, ap, ◌∙◌}
+use Rattle.mpy_base.specs.Val.{PlainWorld}
+use Rattle.bc_machine.specs.Library.{Name}
+use Rattle.bc_machine.specs.Machine.{start}
+use Rattle.py_effects.specs.Ends.{new_world}
+use Rattle.vm_frames.specs.Calls.{Calls}
+use Rattle.vm_step.specs.Outcomes.{world_of}
+use Rattle.vm_unwinding.specs.declared.ends.End.{End}
+use Rattle.vm_unwinding.specs.Ends.{with_modules, state_of}
+use Rattle.vm_starting.proofs.Openings.{rooms, main_in, fresh_world}
+use Rattle.vm_starting.proofs.opening.Vm.open.Goals as goal
+
+pub returns-in-Ok-clause-starts : goal.returns-in-Ok-clause-starts
+returns-in-Ok-clause-starts c p name ports of name_is =
+    let r = c.main_locals-locals.ensures.row in
+    let main = main_in p c.args.library.now c.args.rows.now c.args.number c.main_locals-locals.result name of c.requires.rows name_is r.0 r.1 r.2 in
+    let fresh = c.in_ok-vm.ensures.fresh in
+    let w : PlainWorld = new_world c.args.room.cells c.args.room.bytes ports in
+    let w1 : PlainWorld = world_of p.tables (with_modules p.tables w c.start_main.new.modules) c.start_main.new.arena in
+    ap (λ (z : PlainWorld). start p.library name z) (sym (fresh_world p c.args.room.cells c.args.room.bytes ports c.in_ok-vm.vm.modules c.in_ok-vm.vm.arena fresh.modules fresh.arena))
+    ∙ (c.in-Ok.ensures.starts p name w of.shelf_is of.means main
+    ∙ ap (λ (o : Option End). state_of p.tables o c.start_main.new.frames.calls w1) (sym fresh.end))
+
+pub returns-in-Ok-clause-state : goal.returns-in-Ok-clause-state
+returns-in-Ok-clause-state c end p of =
+    let name : Name = p.tables.module_name c.args.number in
+    let r = c.main_locals-locals.ensures.row in
+    let main = main_in p c.args.library.now c.args.rows.now c.args.number c.main_locals-locals.result name of c.requires.rows refl r.0 r.1 r.2 in
+    let memory = c.in_ok-vm.ensures.memory in
+    c.in-Ok.ensures.state p name of.shelf_is of.means main
+    (rooms p c.args.library.now of c.greatest_of-slots.result.0 c.greatest_of-slots.result.1 memory.greatest c.in_ok-vm.vm.frames memory.slot_room memory.entry_room)
+
+pub returns-in-Err-clause-starts : goal.returns-in-Err-clause-starts
+returns-in-Err-clause-starts c p name ports of name_is =
+    let r = c.main_locals-locals.ensures.row in
+    let main = main_in p c.args.library.now c.args.rows.now c.args.number c.main_locals-locals.result name of c.requires.rows name_is r.0 r.1 r.2 in
+    let fresh = c.in_ok-vm.ensures.fresh in
+    let w : PlainWorld = new_world c.args.room.cells c.args.room.bytes ports in
+    ap (λ (z : PlainWorld). start p.library name z) (sym (fresh_world p c.args.room.cells c.args.room.bytes ports c.in_ok-vm.vm.modules c.in_ok-vm.vm.arena fresh.modules fresh.arena))
+    ∙ c.in-Err.ensures.starts p name w of.shelf_is of.means main
+
+pub returns-in-Err-clause-memory : goal.returns-in-Err-clause-memory
+returns-in-Err-clause-memory c =
+    let m = c.in_ok-vm.ensures.memory in (
+      c.greatest_of-slots.result.0,
+      c.greatest_of-slots.result.1,
+      record {
+        greatest = m.greatest;
+        slot_room = ap (λ (s : Calls). s.slot_room) c.in-Err.ensures.rooms ∙ m.slot_room;
+        entry_room = ap (λ (s : Calls). s.entry_room) c.in-Err.ensures.rooms ∙ m.entry_room;
+        registry = c.in-Err.ensures.kept ∙ m.registry;
+        names = m.names;
+        operands = m.operands;
+        bindings = m.bindings;
+        items = m.items;
+      },
+    )
