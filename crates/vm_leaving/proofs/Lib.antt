@@ -14,3 +14,4 @@ mod Outermost
 mod Imports
 mod Stays
 mod Finallys
+mod Opens

@@ -1,10 +1,15 @@
 //! How registered modules stay those of a program.
 
-ghost use Rattle.std.specs.Prelude.{◌≡◌, ◌<◌, ℕ, [], length, codes};
+ghost use Rattle.std.specs.Prelude.{◌≡◌, ◌<◌, ℕ, [], Ok, length, codes};
 ghost use Rattle.mpy_base.specs.World.{Heap};
 ghost use Rattle.mpy_base.specs.Val.{PlainWorld};
 ghost use Rattle.arena_heap.specs.declared.value.Value.{Value};
-ghost use Rattle.vm_modules.specs.Registry.{Registry};
+ghost use Rattle.py_effects.specs.Heaps.{Formed};
+ghost use Rattle.py_effects.specs.Modules.{make_module};
+ghost use Rattle.vm_walks.specs.Plain.{plain_name, plain_heap};
+ghost use Rattle.vm_modules.specs.declared.makings.Made.{Made};
+ghost use Rattle.vm_modules.specs.Effects.{IsMaking};
+ghost use Rattle.vm_modules.specs.Registry.{Registry, with_entry};
 ghost use Rattle.vm_frames.specs.Calls.{Calls};
 ghost use Rattle.vm_step.specs.Shown.{running_of};
 ghost use Rattle.vm_step.specs.Outcomes.{world_of};
@@ -17,10 +22,14 @@ ghost use Rattle.vm_leaving.specs.Running.{stepped_with};
 use bc_machine::sound_law;
 
 /// The registered modules are a program's again behind a step of its calls that registers and forgets none, whatever it does to
-/// the heap.
+/// the heap; and so the main module is the only one where it was made and registered first.
 pub fn registered_law()
-    ensures { (p : Program) (s new : Calls) (paid again : ℕ) (before behind : Heap Value ℕ) (modules : Registry) (w v : PlainWorld) → IsState p before.objects s → AreRegistered p before modules
+    ensures stays { (p : Program) (s new : Calls) (paid again : ℕ) (before behind : Heap Value ℕ) (modules : Registry) (w v : PlainWorld) → IsState p before.objects s → AreRegistered p before modules
         → stepped_with p paid s w before modules ≡ running_of p.tables again new.calls (world_of p.tables (with_modules p.tables v modules) behind) → AreRegistered p behind modules }
+    ensures begins { (p : Program) (old new : Heap Value ℕ) (before after : Registry) (made : Made) (name : ℕ) → Formed (plain_heap p.tables.texts p.tables.tuples old) → before.entries ≡ [] → length p.shelf.modules < before.room
+        → plain_name p.tables.texts p.tables.tuples name ≡ codes "__main__"
+        → IsMaking p.tables.texts p.tables.tuples old new before after (Ok made) (λ w. make_module w (plain_name p.tables.texts p.tables.tuples name))
+        → after ≡ with_entry before (record { name = name; object = made.number }) → AreRegistered p new after }
 {
     sound_law();
 }
