@@ -22,6 +22,7 @@ use crate::ending::Ending;
 use crate::go::go;
 use crate::line::{name_in, say_ending, say_words};
 use crate::words::{source_name as name_to_store, word_at};
+use mpy_compile::compile_law;
 use mpy_io::{Failed, Folder, Sink};
 use mpy_words::{Command, Order, order_of};
 use std::alloc::Global;
@@ -165,4 +166,6 @@ pub fn one_ending_law()
     ensures cross { (level : ℕ) (files : FileOf) (name stored_name written : List ℕ) (a b : Ending) (new_a new_b : Option FileOf)
         → IsSettled a → IsSettled b → Crosses level name stored_name written (Some files) new_a a
         → Crosses level name stored_name written (Some files) new_b b → a ≡ b }
-{}
+{
+    compile_law();
+}
