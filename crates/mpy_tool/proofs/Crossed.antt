@@ -8,7 +8,9 @@ use Rattle.mpy_io.specs.declared.fault.ReadFault.TheVariants.{TooLong}
 use Rattle.mpy_io.specs.Files.{FileOf, Reads, Becomes, BecomesFront}
 use Rattle.mpy_tool.specs.declared.ending.Ending.{Ending}
 use Rattle.mpy_tool.specs.declared.ending.Ending.TheVariants.{Done, Unaccepted, Unread, Unverified, Unmerged, ReadFault, WriteFault, Unwritten, NoMemory, Absent}
-use Rattle.mpy_tool.specs.Cross.{HoldsFaulty, Crosses, ChangesOnly}
+use Rattle.mpy_tool.specs.Cross.{HoldsCompiled, HoldsFaulty, Crosses, ChangesOnly}
+use Rattle.mpy_tool.specs.Folder.{MayHold}
+use Rattle.mpy_compile.specs.Compiled.{CompilesTo}
 use Rattle.mpy_tool.proofs.Runs.{some_long}
 
 -- ---- other files
@@ -50,3 +52,13 @@ pub long_source : (level : ℕ) (files new : Option FileOf) (name stored : List 
 long_source level files new name stored fault said e f h same =
     let read = subst (λ (x : FolderFault). IfSome files (λ file. Reads (file name) (Err x))) e h in
     (subst (HoldsFaulty level files name stored) (sym f) (long_faulty level files name stored read), same)
+
+-- ---- a write that failed
+
+pub crossed_front : (level : ℕ) (old same new : Option FileOf) (name kept written source read bytes put : List ℕ) → read ≡ source → put ≡ bytes → same ≡ old → MayHold old name (Some source) → CompilesTo level read kept bytes
+    → BecomesFront same new written put → (x : List ℕ) × HoldsCompiled level old name kept x × BecomesFront old new written x
+crossed_front level old same new name kept written source read bytes put e f h holds compiles front = (
+  bytes,
+  record { source = source; holds = holds; compiles = subst (λ (z : List ℕ). CompilesTo level z kept bytes) e compiles },
+  subst (λ (z : Option FileOf). BecomesFront z new written bytes) h (subst (λ (z : List ℕ). BecomesFront same new written z) f front),
+)

@@ -11,7 +11,8 @@ use Rattle.mpy_base.specs.declared.limits.TheConstants.{MAX_READ_BYTES, MAX_SOUR
 use Rattle.mpy_base.specs.Fault.{too_long}
 use Rattle.mpy_io.specs.Files.{FileOf, Reads}
 use Rattle.mpy_tree.specs.File.{IsAscii}
-use Rattle.mpy_simple.specs.Compiled.{texts_of}
+use Rattle.mpy_compile.specs.Compiled.{CompilesTo}
+use Rattle.mpy_compile.specs.Compiled as made
 use Rattle.mpy_simple.specs.Source.{Accepts, IsFault}
 use Rattle.mpy_simple.proofs.Faults.{same_fault, no_fault}
 use Rattle.mpy_tool.specs.declared.ending.Ending.{Ending}
@@ -130,11 +131,16 @@ went_judged level file name Unwritten old new s p = absurd s
 went_judged level file name NoMemory old new s p = absurd s
 went_judged level file name Absent old new s p = p.0
 
+-- the source compiles to some file under the stored name
+abbrev pub Made : ℕ → List ℕ → List ℕ → Type 0
+Made level kept source = (bytes : List ℕ) × CompilesTo level source kept bytes
+
+abbrev pub Unmade : ℕ → List ℕ → List ℕ → SourceFault → Type 0
+Unmade level kept source fault = made.IsFault level source kept fault
+
 crosses_judged : (level : ℕ) (file : FileOf) (name kept written : List ℕ) (ending : Ending) (new : Option FileOf) → IsSettled ending → Crosses level name kept written (Some file) new ending
-    → Judged (Compiled level kept) (Faulty level kept) file name ending
-crosses_judged level file name kept written Done new s p = let held = p.1 in
-    let compiled = held.compiles in
-    (held.source, held.holds, (texts_of compiled.0, record { prints = compiled.0; compiled = compiled.1; texts_are = refl }))
+    → Judged (Made level kept) (Unmade level kept) file name ending
+crosses_judged level file name kept written Done new s p = (p.1.source, p.1.holds, (p.0, p.1.compiles))
 crosses_judged level file name kept written (Unaccepted fault) new s p = (p.0.source, p.0.holds, p.0.is)
 crosses_judged level file name kept written (Unread fault) new s p = absurd p
 crosses_judged level file name kept written (Unverified fault) new s p = absurd p
@@ -158,10 +164,12 @@ one_ending level file name a b old m n h k p q =
     (went_judged level file name a old m h p) (went_judged level file name b old n k q)
 
 -- and its file is written in one way
-pub one_crossing : (level : ℕ) (file : FileOf) (name kept written : List ℕ) (a b : Ending) (new_a new_b : Option FileOf) → IsSettled a → IsSettled b
+pub one_crossing : ((level : ℕ) (source kept bytes : List ℕ) (fault : SourceFault) → CompilesTo level source kept bytes → made.IsFault level source kept fault → ⊥)
+    → ((level : ℕ) (source kept : List ℕ) (f g : SourceFault) → made.IsFault level source kept f → made.IsFault level source kept g → f ≡ g)
+    → (level : ℕ) (file : FileOf) (name kept written : List ℕ) (a b : Ending) (new_a new_b : Option FileOf) → IsSettled a → IsSettled b
     → Crosses level name kept written (Some file) new_a a → Crosses level name kept written (Some file) new_b b → a ≡ b
-one_crossing level file name kept written a b m n h k p q =
-    one_judged (Compiled level kept) (Faulty level kept) (apart level kept) (one_fault level kept) file name a b
+one_crossing not_both one level file name kept written a b m n h k p q =
+    one_judged (Made level kept) (Unmade level kept) (λ source fault good bad. not_both level source kept good.0 fault good.1 bad) (λ source f g x y. one level source kept f g x y) file name a b
     (crosses_judged level file name kept written a m h p) (crosses_judged level file name kept written b n k q)
 
 -- a stored name is ASCII

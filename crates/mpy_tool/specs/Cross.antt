@@ -2,16 +2,10 @@
 use Rattle.std.specs.Prelude.{◌≡◌, ◌≢◌, ℕ, List, Option, Some, None, IfSome}
 use Rattle.mpy_base.specs.declared.source.SourceFault.{SourceFault}
 use Rattle.mpy_io.specs.Files.{FileOf, Becomes, BecomesFront}
-use Rattle.mpy_simple.specs.declared.print.Print.{Print}
-use Rattle.mpy_simple.specs.Compiled.{IsFileOf}
-use Rattle.mpy_simple.specs.Source.{IsCompiled, IsFault}
+use Rattle.mpy_compile.specs.Compiled.{CompilesTo, IsFault}
 use Rattle.mpy_tool.specs.declared.ending.Ending.{Ending}
 use Rattle.mpy_tool.specs.declared.ending.Ending.TheVariants.{Done, Unaccepted, Unread, Unverified, Unmerged, ReadFault, WriteFault, Unwritten, NoMemory, Absent}
 use Rattle.mpy_tool.specs.Folder.{MayHold}
-
--- the source under this stored name is accepted at the level, and the bytes are a file of what it compiles to
-abbrev pub CompilesTo : (level : ℕ) (source stored bytes : List ℕ) → Type 0
-CompilesTo level source stored bytes = (prints : List Print) × IsCompiled level source stored prints × IsFileOf level stored prints bytes
 
 -- the source that the folder has under the name compiles to these bytes
 pub record HoldsCompiled (level : ℕ) (files : Option FileOf) (name stored bytes : List ℕ) : Type 0 where

@@ -2,7 +2,7 @@
 
 ghost use Rattle.std.specs.Prelude.{◌≡◌, ◌≤◌, false};
 ghost use Rattle.mpy_io.specs.Count.{Counts};
-ghost use Rattle.mpy_simple.specs.Source.{Compiles};
+ghost use Rattle.mpy_compile.specs.Compiled.{Compiles};
 ghost use Rattle.mpy_tool.specs.Cross.{Crosses};
 ghost use Rattle.mpy_tool.specs.Ending.{is_folder_fault, is_out_fault};
 ghost use Rattle.mpy_tool.specs.Go.{stored};
@@ -10,8 +10,8 @@ ghost use Rattle.mpy_tool.specs.Go.{stored};
 use crate::ending::Ending;
 use crate::go::stored_name;
 use mpy_base::{NoMemory, Refused, SourceFault};
+use mpy_compile::compile;
 use mpy_io::{Failed, Folder, ReadFault};
-use mpy_simple::simple_file;
 use std::alloc::Global;
 
 /// The file of a source, which stores its name.
@@ -25,7 +25,7 @@ fn compiled(
     ensures { Compiles level source.now (stored name.now) result }
 {
     match stored_name(alloc, name) {
-        Ok(stored) => simple_file(alloc, source, level, stored.bytes()),
+        Ok(stored) => compile(alloc, source, level, stored.bytes()),
         Err(NoMemory) => Err(Refused::NoMemory),
     }
 }

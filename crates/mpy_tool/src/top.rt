@@ -26,6 +26,7 @@ use crate::go::go;
 use crate::line::{say_ending, say_words};
 use crate::merge::merge_files;
 use crate::words::{file_names as files_in, source_name as name_to_store, word_at};
+use mpy_compile::compile_law;
 use mpy_io::{Failed, Folder, Sink};
 use mpy_words::{Command, Order, order_of};
 use std::alloc::Global;
@@ -189,4 +190,6 @@ pub fn one_ending_law()
     ensures cross { (level : ℕ) (files : FileOf) (name stored_name written : List ℕ) (a b : Ending) (new_a new_b : Option FileOf)
         → IsSettled a → IsSettled b → Crosses level name stored_name written (Some files) new_a a
         → Crosses level name stored_name written (Some files) new_b b → a ≡ b }
-{}
+{
+    compile_law();
+}

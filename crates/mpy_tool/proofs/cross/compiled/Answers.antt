@@ -3,5 +3,5 @@ use Rattle.mpy_tree.specs.File.{IsAscii}
 use Rattle.mpy_tool.proofs.Runs.{stored_is_ascii}
 use Rattle.mpy_tool.proofs.cross.compiled.Goals as goal
 
-pub simple_file-requires-clause-name_is : goal.simple_file-requires-clause-name_is
-simple_file-requires-clause-name_is c = subst IsAscii (sym (c.bytes.ensures ∙ c.in-Ok.ensures)) (stored_is_ascii c.args.name.now)
+pub compile-requires-clause-name_is : goal.compile-requires-clause-name_is
+compile-requires-clause-name_is c = subst IsAscii (sym (c.bytes.ensures ∙ c.in-Ok.ensures)) (stored_is_ascii c.args.name.now)

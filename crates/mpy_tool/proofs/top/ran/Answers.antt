@@ -5,10 +5,12 @@ use Rattle.mpy_words.specs.Words.{first_name}
 use Rattle.mpy_tool.specs.declared.ending.Ending.{Ending}
 use Rattle.mpy_tool.specs.Check.{Checks}
 use Rattle.mpy_tool.specs.Dump.{Dumps}
+use Rattle.mpy_tool.specs.Cross.{ChangesOnly}
 use Rattle.mpy_tool.specs.Ending.{is_folder_fault, is_out_fault}
-use Rattle.mpy_tool.specs.Go.{Went}
+use Rattle.mpy_tool.specs.Go.{stored, Went}
 use Rattle.mpy_tool.specs.Line.{place_in}
 use Rattle.mpy_tool.specs.Outside.{written_by, Changes}
+use Rattle.mpy_tool.proofs.Crossed.{crosses_only}
 use Rattle.mpy_tool.proofs.top.ran.Goals as goal
 
 pub returns-in-Go-clause-go : goal.returns-in-Go-clause-go
@@ -70,3 +72,10 @@ returns-in-Dump-clause-out_counts g c =
 pub returns-in-Dump-clause-files : goal.returns-in-Dump-clause-files
 returns-in-Dump-clause-files g c =
     subst (λ (command : Command). Changes (written_by (map string_bytes c.args.words.now) command) (g.F.Folder.files c.args.folder.now) (g.F.Folder.files c.dump.new.folder)) (sym c.in-Dump.is) c.dump.ensures.files
+
+pub returns-in-Cross-clause-files : goal.returns-in-Cross-clause-files
+returns-in-Cross-clause-files g c =
+    let old = g.F.Folder.files c.args.folder.now in
+    let new = g.F.Folder.files c.cross.new.folder in
+    let only = crosses_only c.args.order.level c.word_at-name.result.now (stored c.source_name-source_name.result.now) c.word_at.result.now old new c.cross.result c.cross.ensures.went in
+    subst (λ (command : Command). Changes (written_by (map string_bytes c.args.words.now) command) old new) (sym c.in-Cross.is) (subst (λ (n : List ℕ). ChangesOnly old new n) c.word_at.ensures only)
