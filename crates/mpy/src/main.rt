@@ -23,6 +23,9 @@ usage:
                      as in: mpy check examples/sensor.mpy
   mpy dump FILE      list what the file FILE holds,
                      as in: mpy dump examples/sensor.mpy
+  mpy merge OUT FILE..
+                     verify the files FILE.. and write one file as OUT that runs them
+                     in order, as in: mpy merge both.mpy one.mpy two.mpy
   mpy --help         print this text
   mpy --version      print the version
 
@@ -35,6 +38,7 @@ exit status (docs/MESSAGES.md explains each line that is said):
   8   a write failed
   9   out of memory
   10  a file is absent
+  11  the files can't be merged
 ";
 
 /// The words after the program's own name.
