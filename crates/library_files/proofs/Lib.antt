@@ -1,4 +1,5 @@
 pub mod Walks
+pub mod Fronts
 pub mod Read
 pub mod Once
 mod Examples

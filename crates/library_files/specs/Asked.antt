@@ -1,5 +1,5 @@
 -- The names that are asked for where a name is imported. 46 is the dot.
-use Rattle.std.specs.Prelude.{◌==◌, ℕ, Bool, false, List, [], ◌∷◌, map, codes, if◌then◌else◌}
+use Rattle.std.specs.Prelude.{◌==◌, ℕ, Bool, false, List, [], ◌∷◌, map, take, codes, if◌then◌else◌}
 use Rattle.std.specs.Str.{bytes_eq}
 use Rattle.pkg_paths.specs.Plain.{is_plain}
 
@@ -9,6 +9,10 @@ prefixes [] = [] ∷ []
 prefixes (byte ∷ name) =
     let longer = map (λ front. byte ∷ front) (prefixes name) in
     if byte == 46 then [] ∷ longer else longer
+
+-- what a byte of a name adds to the fronts in front of its place
+abbrev pub front_before : (name : List ℕ) → (place byte : ℕ) → List (List ℕ)
+front_before name place byte = if byte == 46 then take place name ∷ [] else []
 
 -- the first is the name of the built-in module
 abbrev pub is_of_port : List (List ℕ) → Bool

@@ -1,11 +1,13 @@
 //! The library of a main file: the modules that it imports, from the files of a folder.
 #![tactic(auto)]
 
+mod asked;
 mod entry;
 mod imports;
 mod laws;
 mod limit;
 
+pub use asked::asked_names;
 pub use entry::{Entry, entry_of};
 pub use imports::{imported_names, imports_law};
 pub use laws::loads_law;
