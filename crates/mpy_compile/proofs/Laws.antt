@@ -1,8 +1,7 @@
 -- A source compiles to one module, or has one first fault.
-use Rattle.std.proofs.Common.{◌≡◌, inl, inr, ℕ, true, false, List, sym, ap, subst, ◌∙◌}
+use Rattle.std.proofs.Common.{◌≡◌, inl, inr, ℕ, true, false, List, sym, subst, ◌∙◌}
 use Rattle.mpy_base.specs.declared.source.SourceFault.{SourceFault}
 use Rattle.mpy_tree.specs.declared.module.ModuleCode.{ModuleCode}
-use Rattle.mpy_writer.specs.File.{FirstFault}
 use Rattle.mpy_fits.specs.Texts.{module_fits}
 use Rattle.py_tree.specs.declared.stmt.Module.{Module}
 use Rattle.py_tree.specs.Formed.{IsFormed}
@@ -13,7 +12,7 @@ use Rattle.py_meaning.specs.Program.{Source}
 use Rattle.tr_source.specs.Accepted.{IsAccepted}
 use Rattle.emit_module.specs.First.{AreWithin, IsFirstFault}
 use Rattle.emit_module.specs.Module.{source_of, IsTranslated}
-use Rattle.mpy_compile.specs.Compiled.{IsFileOf, IsFileFault, IsCompiled, CompilesTo, HasCodeFault, HasFileFault, IsFault}
+use Rattle.mpy_compile.specs.Compiled.{IsFileOf, IsFileFault, IsCompiled, CompilesTo, HasCodeFault, IsFault}
 
 -- what the crates below say
 pub record Below : Type 0 where

@@ -1,4 +1,4 @@
-use Rattle.std.proofs.Common.{◌≡◌, Err, ap}
+use Rattle.std.proofs.Common.{Err, ap}
 use Rattle.mpy_compile.proofs.Outcomes.{source_refused, filed}
 use Rattle.mpy_compile.proofs.compile.Goals as goal
 
