@@ -26,6 +26,7 @@ use Rattle.vm_moving.specs.Moving.{GoesBehind}
 use Rattle.vm_known.specs.State.{IsState}
 use Rattle.vm_known.specs.State as state
 use Rattle.vm_known.specs.Acting.{Tells, ActsBehind}
+use Rattle.vm_operating.specs.Keeping.{ActsKeeping}
 use Rattle.vm_operating.specs.Onward.{StartsBehind, DoesBehind, Onward, GoesOnward, Changed}
 
 -- what is of these texts and tuples is of those of the program, and back
@@ -90,10 +91,14 @@ module _ (p : Program) (objects : Objects Value ℕ) (s new : Calls) (change : C
       let to : new.calls ≡ change_first change s.calls = ap (λ (z : Calls). z.calls) moved in
       record { running = run; known = subst (All (state.IsKnownCall p objects)) (sym to) (changed_known s.calls here.known); all_told = here.all_told }
 
+-- the running call alone changes
+rooms_moved : (change : Call → Call) (old new : Calls) → new ≡ on_running change old → new ≡ record old { calls = new.calls }
+rooms_moved change old new moved = subst (λ (s : Calls). s ≡ record old { calls = s.calls }) (sym moved) refl
+
 module _ (keeps : KeepsGoing) (stays : Stays) (texts : StrNo → Option (List ℕ)) (tuples : ConstNo → Option (List Value)) (fetched : Fetched) (visits offset : ℕ) (before behind : Heap Value ℕ) (old new : Calls) (starts : StartsBehind fetched offset) where
-  pub acts : (result : Result (Unit {0}) Stop) → DoesBehind texts tuples fetched visits before behind old new result → GoesOnward texts tuples behind.objects offset old new result
+  acts_so : (result : Result (Unit {0}) Stop) → DoesBehind texts tuples fetched visits before behind old new result → GoesOnward texts tuples behind.objects offset old new result
       → Leaves texts tuples before behind result → ActsBehind texts tuples fetched visits before behind old new result
-  acts (Ok done) does onward leaves p row means tells s r =
+  acts_so (Ok done) does onward leaves p row means tells s r =
       let none : PlainWorld = new_world 0 0 [] in
       let d = does p row tells r in
       let on : Onward p.tables.texts p.tables.tuples behind.objects offset old new = of_program texts tuples p tells (λ t u. Onward t u behind.objects offset old new) onward in
@@ -108,7 +113,7 @@ module _ (keeps : KeepsGoing) (stays : Stays) (texts : StrNo → Option (List �
         later = left.later;
         stop = left.stop;
       }
-  acts (Err stop) does stay leaves p row means tells s r =
+  acts_so (Err stop) does stay leaves p row means tells s r =
       let d = does p row tells r in
       let left : Leaves p.tables.texts p.tables.tuples before behind (Err stop) = of_program texts tuples p tells (λ t u. Leaves t u before behind (Err stop)) leaves in
       record {
@@ -119,9 +124,16 @@ module _ (keeps : KeepsGoing) (stays : Stays) (texts : StrNo → Option (List �
         stop = left.stop;
       }
 
-pub moves : (texts : StrNo → Option (List ℕ)) (tuples : ConstNo → Option (List Value)) (fetched : Fetched) (heap : Heap Value ℕ) (old new : Calls)
+  pub acts : (result : Result (Unit {0}) Stop) → DoesBehind texts tuples fetched visits before behind old new result → GoesOnward texts tuples behind.objects offset old new result
+      → Leaves texts tuples before behind result → ActsKeeping texts tuples fetched visits before behind old new result
+  acts (Ok done) does onward leaves =
+      record { acts = acts_so (Ok done) does onward leaves; rooms = rooms_moved (λ c. record c { at = offset; slots = onward.slots_of c; locals = onward.locals_of c }) old new onward.moved; stays = tt }
+  acts (Err stop) does stay leaves =
+      record { acts = acts_so (Err stop) does stay leaves; rooms = subst (λ (s : Calls). s ≡ record old { calls = s.calls }) (sym stay) refl; stays = stay }
+
+moves_so : (texts : StrNo → Option (List ℕ)) (tuples : ConstNo → Option (List Value)) (fetched : Fetched) (heap : Heap Value ℕ) (old new : Calls)
     → GoesBehind fetched old new → Changed texts tuples heap.objects old new → ActsBehind texts tuples fetched 0 heap heap old new (Ok tt)
-moves texts tuples fetched heap old new goes changed p row means tells s r =
+moves_so texts tuples fetched heap old new goes changed p row means tells s r =
     let g = goes p row means s.running r in
     let to : Changed p.tables.texts p.tables.tuples heap.objects old new = of_program texts tuples p tells (λ t u. Changed t u heap.objects old new) changed in
     record {
@@ -131,3 +143,8 @@ moves texts tuples fetched heap old new goes changed p row means tells s r =
       later = record { keeps = λ kind n h. h };
       stop = tt;
     }
+
+pub moves : (texts : StrNo → Option (List ℕ)) (tuples : ConstNo → Option (List Value)) (fetched : Fetched) (heap : Heap Value ℕ) (old new : Calls)
+    → GoesBehind fetched old new → Changed texts tuples heap.objects old new → ActsKeeping texts tuples fetched 0 heap heap old new (Ok tt)
+moves texts tuples fetched heap old new goes changed =
+    record { acts = moves_so texts tuples fetched heap old new goes changed; rooms = rooms_moved changed.change old new changed.moved; stays = tt }

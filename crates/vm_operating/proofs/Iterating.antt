@@ -24,7 +24,8 @@ use Rattle.vm_fetching.specs.declared.operations.JumpOp.TheVariants as jump_ops
 use Rattle.vm_fetching.specs.declared.instruction.Fetched.{Fetched}
 use Rattle.vm_fetching.specs.declared.instruction.Instruction.TheVariants as fetched
 use Rattle.vm_known.specs.State.{IsKnownSlot as IsKnownSlotOf}
-use Rattle.vm_known.specs.Acting.{RunsOver, ActsBehind}
+use Rattle.vm_known.specs.Acting.{RunsOver}
+use Rattle.vm_operating.specs.Keeping.{ActsKeeping}
 use Rattle.vm_operating.specs.Onward.{GoesOnward}
 use Rattle.vm_operating.proofs.Doing.{does_jumps}
 use Rattle.vm_operating.proofs.Ending.{ActsLaw}
@@ -63,13 +64,13 @@ module _ (acts : ActsLaw) (target end : ℕ) (old new : Calls) {texts : StrNo �
   abbrev Known : Slot → Type 0
   Known k = IsKnownSlot texts tuples behind.objects k
 
-  advanced : (over : Value) (at : ℕ) → IsKnown texts tuples before.objects over → Puts texts tuples behind.objects (with_item end over (suc at)) old new result → ActsBehind texts tuples (for_at target end) 0 before behind old new result
+  advanced : (over : Value) (at : ℕ) → IsKnown texts tuples before.objects over → Puts texts tuples behind.objects (with_item end over (suc at)) old new result → ActsKeeping texts tuples (for_at target end) 0 before behind old new result
   advanced over at known moved =
       acts texts tuples (for_at target end) 0 end before behind old new result (λ p s row r. r.begins tt)
       (does_jumps texts tuples (for_at target end) before behind old new result (Jumps ops.ForIter) target (λ p c. refl) steps)
       (shapes.item texts tuples behind.objects old new end over (suc at) result (value_later texts tuples leaves.later over known) moved) leaves
 
-  ended : (result ≡ Ok tt) × (new ≡ on_running (without target 4) old) → ActsBehind texts tuples (for_at target end) 0 before behind old new result
+  ended : (result ≡ Ok tt) × (new ≡ on_running (without target 4) old) → ActsKeeping texts tuples (for_at target end) 0 before behind old new result
   ended moved =
       acts texts tuples (for_at target end) 0 target before behind old new result (λ p s row r. r.target)
       (does_jumps texts tuples (for_at target end) before behind old new result (Jumps ops.ForIter) target (λ p c. refl) steps)
@@ -78,6 +79,6 @@ module _ (acts : ActsLaw) (target end : ℕ) (old new : Calls) {texts : StrNo �
 
   pub iterates : (over : Value) (at many : ℕ) → IsKnown texts tuples before.objects over
       → (at < many → Puts texts tuples behind.objects (with_item end over (suc at)) old new result)
-      → (many ≤ at → (result ≡ Ok tt) × (new ≡ on_running (without target 4) old)) → ActsBehind texts tuples (for_at target end) 0 before behind old new result
+      → (many ≤ at → (result ≡ Ok tt) × (new ≡ on_running (without target 4) old)) → ActsKeeping texts tuples (for_at target end) 0 before behind old new result
   iterates over at many known item past =
       elim (below_or_past at many) [ inl less ↦ advanced over at known (item less) | inr over_it ↦ ended (past over_it) ]

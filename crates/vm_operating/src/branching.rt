@@ -7,7 +7,8 @@ ghost use Rattle.vm_frames.specs.Calls.{OfRunning, on_running};
 ghost use Rattle.vm_step.specs.Shown.{Tables, Steps, IsNext, IsAt, Tests};
 ghost use Rattle.vm_fetching.specs.Operations.{jump_op};
 ghost use Rattle.vm_fetching.specs.declared.instruction.Instruction.TheVariants as fetched;
-ghost use Rattle.vm_known.specs.Acting.{RunsOver, ActsBehind};
+ghost use Rattle.vm_known.specs.Acting.{RunsOver};
+ghost use Rattle.vm_operating.specs.Keeping.{ActsKeeping};
 ghost use Rattle.vm_operating.specs.Tests.{IsTest, tested};
 
 use crate::law::acting_law;
@@ -50,7 +51,7 @@ pub(crate) fn test_jump<C: Constants>(
 ) -> Result<(), Stop>
     requires test { IsTest op }
     requires runs { RunsOver (C.text_of consts.now) (C.items_of consts.now) arena.now frames.old (record { instruction = fetched.Jump op target; end = end }) }
-    ensures acts { ActsBehind (C.text_of consts.now) (C.items_of consts.now) (record { instruction = fetched.Jump op target; end = end }) 0 arena.now arena.now frames.old frames.new result }
+    ensures acts { ActsKeeping (C.text_of consts.now) (C.items_of consts.now) (record { instruction = fetched.Jump op target; end = end }) 0 arena.now arena.now frames.old frames.new result }
 {
     acting_law();
     tops_law();

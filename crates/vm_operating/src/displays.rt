@@ -3,7 +3,8 @@
 ghost use Rattle.std.specs.Prelude.{◌≡◌, length};
 ghost use Rattle.vm_fetching.specs.declared.instruction.Instruction.TheVariants as fetched;
 ghost use Rattle.vm_fetching.specs.declared.operations.NumberOp.TheVariants as number_ops;
-ghost use Rattle.vm_known.specs.Acting.{RunsOver, ActsBehind};
+ghost use Rattle.vm_known.specs.Acting.{RunsOver};
+ghost use Rattle.vm_operating.specs.Keeping.{ActsKeeping};
 
 use crate::law::acting_law;
 use arena_heap::{Arena, Constants, Value};
@@ -22,7 +23,7 @@ pub(crate) fn build_tuple<C: Constants>(
 ) -> Result<(), Stop>
     requires places { length items.old ≡ n }
     requires runs { RunsOver (C.text_of consts.now) (C.items_of consts.now) arena.old frames.old (record { instruction = fetched.Number number_ops.BuildTuple n; end = end }) }
-    ensures acts { ActsBehind (C.text_of consts.now) (C.items_of consts.now) (record { instruction = fetched.Number number_ops.BuildTuple n; end = end }) 0 arena.old arena.new frames.old frames.new result }
+    ensures acts { ActsKeeping (C.text_of consts.now) (C.items_of consts.now) (record { instruction = fetched.Number number_ops.BuildTuple n; end = end }) 0 arena.old arena.new frames.old frames.new result }
 {
     acting_law();
     tops_law();
@@ -41,7 +42,7 @@ pub(crate) fn build_list<C: Constants>(
 ) -> Result<(), Stop>
     requires places { length items.old ≡ n }
     requires runs { RunsOver (C.text_of consts.now) (C.items_of consts.now) arena.old frames.old (record { instruction = fetched.Number number_ops.BuildList n; end = end }) }
-    ensures acts { ActsBehind (C.text_of consts.now) (C.items_of consts.now) (record { instruction = fetched.Number number_ops.BuildList n; end = end }) 0 arena.old arena.new frames.old frames.new result }
+    ensures acts { ActsKeeping (C.text_of consts.now) (C.items_of consts.now) (record { instruction = fetched.Number number_ops.BuildList n; end = end }) 0 arena.old arena.new frames.old frames.new result }
 {
     acting_law();
     tops_law();
@@ -58,7 +59,7 @@ pub(crate) fn build_map<C: Constants>(
     end: u32,
 ) -> Result<(), Stop>
     requires runs { RunsOver (C.text_of consts.now) (C.items_of consts.now) arena.old frames.old (record { instruction = fetched.Number number_ops.BuildMap pairs; end = end }) }
-    ensures acts { ActsBehind (C.text_of consts.now) (C.items_of consts.now) (record { instruction = fetched.Number number_ops.BuildMap pairs; end = end }) 0 arena.old arena.new frames.old frames.new result }
+    ensures acts { ActsKeeping (C.text_of consts.now) (C.items_of consts.now) (record { instruction = fetched.Number number_ops.BuildMap pairs; end = end }) 0 arena.old arena.new frames.old frames.new result }
 {
     acting_law();
     vm_instructions::build_map(frames, arena, consts, pairs, end)
@@ -75,7 +76,7 @@ pub(crate) fn unpack_sequence<C: Constants>(
 ) -> Result<(), Stop>
     requires places { length items.old ≡ n }
     requires runs { RunsOver (C.text_of consts.now) (C.items_of consts.now) arena.old frames.old (record { instruction = fetched.Number number_ops.UnpackSequence n; end = end }) }
-    ensures acts { ActsBehind (C.text_of consts.now) (C.items_of consts.now) (record { instruction = fetched.Number number_ops.UnpackSequence n; end = end }) 0 arena.old arena.new frames.old frames.new result }
+    ensures acts { ActsKeeping (C.text_of consts.now) (C.items_of consts.now) (record { instruction = fetched.Number number_ops.UnpackSequence n; end = end }) 0 arena.old arena.new frames.old frames.new result }
 {
     acting_law();
     tops_law();

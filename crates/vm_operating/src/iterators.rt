@@ -4,7 +4,8 @@ ghost use Rattle.vm_fetching.specs.declared.instruction.Instruction.TheVariants 
 ghost use Rattle.vm_fetching.specs.declared.operations.JumpOp.TheVariants as jump_ops;
 ghost use Rattle.vm_fetching.specs.declared.operations.PlainOp.TheVariants as plain_ops;
 ghost use Rattle.vm_moving.specs.Moving.{fetched_plain};
-ghost use Rattle.vm_known.specs.Acting.{RunsOver, ActsBehind};
+ghost use Rattle.vm_known.specs.Acting.{RunsOver};
+ghost use Rattle.vm_operating.specs.Keeping.{ActsKeeping};
 
 use crate::law::acting_law;
 use arena_heap::{Arena, Constants};
@@ -20,7 +21,7 @@ pub(crate) fn get_iter_stack<C: Constants>(
     end: u32,
 ) -> Result<(), Stop>
     requires runs { RunsOver (C.text_of consts.now) (C.items_of consts.now) arena.now frames.old (fetched_plain plain_ops.GetIterStack end) }
-    ensures acts { ActsBehind (C.text_of consts.now) (C.items_of consts.now) (fetched_plain plain_ops.GetIterStack end) 0 arena.now arena.now frames.old frames.new result }
+    ensures acts { ActsKeeping (C.text_of consts.now) (C.items_of consts.now) (fetched_plain plain_ops.GetIterStack end) 0 arena.now arena.now frames.old frames.new result }
 {
     acting_law();
     tops_law();
@@ -36,7 +37,7 @@ pub(crate) fn for_iter<C: Constants>(
     end: u32,
 ) -> Result<(), Stop>
     requires runs { RunsOver (C.text_of consts.now) (C.items_of consts.now) arena.old frames.old (record { instruction = fetched.Jump jump_ops.ForIter target; end = end }) }
-    ensures acts { ActsBehind (C.text_of consts.now) (C.items_of consts.now) (record { instruction = fetched.Jump jump_ops.ForIter target; end = end }) 0 arena.old arena.new frames.old frames.new result }
+    ensures acts { ActsKeeping (C.text_of consts.now) (C.items_of consts.now) (record { instruction = fetched.Jump jump_ops.ForIter target; end = end }) 0 arena.old arena.new frames.old frames.new result }
 {
     acting_law();
     tops_law();

@@ -10,7 +10,7 @@ ghost use Rattle.vm_frames.specs.Calls.{Calls};
 ghost use Rattle.vm_instructions.specs.Effects.{Leaves};
 ghost use Rattle.vm_fetching.specs.declared.instruction.Fetched.{Fetched};
 ghost use Rattle.vm_moving.specs.Moving.{GoesBehind};
-ghost use Rattle.vm_known.specs.Acting.{ActsBehind};
+ghost use Rattle.vm_operating.specs.Keeping.{ActsKeeping};
 ghost use Rattle.vm_operating.specs.Onward.{StartsBehind, DoesBehind, GoesOnward, Changed};
 
 use vm_known::known_law;
@@ -21,9 +21,9 @@ use vm_states::keeps_law;
 pub(crate) fn acting_law()
     ensures acts { (texts : StrNo → Option (List ℕ)) (tuples : ConstNo → Option (List Value)) (fetched : Fetched) (visits offset : ℕ) (before behind : Heap Value ℕ) (old new : Calls) (result : Result (Unit {0}) Stop)
         → StartsBehind fetched offset → DoesBehind texts tuples fetched visits before behind old new result → GoesOnward texts tuples behind.objects offset old new result
-        → Leaves texts tuples before behind result → ActsBehind texts tuples fetched visits before behind old new result }
+        → Leaves texts tuples before behind result → ActsKeeping texts tuples fetched visits before behind old new result }
     ensures moves { (texts : StrNo → Option (List ℕ)) (tuples : ConstNo → Option (List Value)) (fetched : Fetched) (heap : Heap Value ℕ) (old new : Calls)
-        → GoesBehind fetched old new → Changed texts tuples heap.objects old new → ActsBehind texts tuples fetched 0 heap heap old new (Ok tt) }
+        → GoesBehind fetched old new → Changed texts tuples heap.objects old new → ActsKeeping texts tuples fetched 0 heap heap old new (Ok tt) }
 {
     keeps_law();
     known_law();

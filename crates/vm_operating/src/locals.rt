@@ -2,7 +2,8 @@
 
 ghost use Rattle.vm_fetching.specs.declared.instruction.Instruction.TheVariants as fetched;
 ghost use Rattle.vm_fetching.specs.declared.operations.NumberOp.TheVariants as number_ops;
-ghost use Rattle.vm_known.specs.Acting.{RunsOver, ActsBehind};
+ghost use Rattle.vm_known.specs.Acting.{RunsOver};
+ghost use Rattle.vm_operating.specs.Keeping.{ActsKeeping};
 
 use crate::law::acting_law;
 use arena_heap::{Arena, Constants};
@@ -18,7 +19,7 @@ pub(crate) fn load_fast<C: Constants>(
     end: u32,
 ) -> Result<(), Stop>
     requires runs { RunsOver (C.text_of consts.now) (C.items_of consts.now) arena.now frames.old (record { instruction = fetched.Number number_ops.LoadFast n; end = end }) }
-    ensures acts { ActsBehind (C.text_of consts.now) (C.items_of consts.now) (record { instruction = fetched.Number number_ops.LoadFast n; end = end }) 0 arena.now arena.now frames.old frames.new result }
+    ensures acts { ActsKeeping (C.text_of consts.now) (C.items_of consts.now) (record { instruction = fetched.Number number_ops.LoadFast n; end = end }) 0 arena.now arena.now frames.old frames.new result }
 {
     acting_law();
     vm_instructions::load_fast(frames, arena, consts, n, end)
@@ -33,7 +34,7 @@ pub(crate) fn load_fast_n<C: Constants>(
     end: u32,
 ) -> Result<(), Stop>
     requires runs { RunsOver (C.text_of consts.now) (C.items_of consts.now) arena.now frames.old (record { instruction = fetched.Number number_ops.LoadFastN n; end = end }) }
-    ensures acts { ActsBehind (C.text_of consts.now) (C.items_of consts.now) (record { instruction = fetched.Number number_ops.LoadFastN n; end = end }) 0 arena.now arena.now frames.old frames.new result }
+    ensures acts { ActsKeeping (C.text_of consts.now) (C.items_of consts.now) (record { instruction = fetched.Number number_ops.LoadFastN n; end = end }) 0 arena.now arena.now frames.old frames.new result }
 {
     acting_law();
     vm_instructions::load_fast(frames, arena, consts, n, end)
@@ -48,7 +49,7 @@ pub(crate) fn delete_fast<C: Constants>(
     end: u32,
 ) -> Result<(), Stop>
     requires runs { RunsOver (C.text_of consts.now) (C.items_of consts.now) arena.now frames.old (record { instruction = fetched.Number number_ops.DeleteFast n; end = end }) }
-    ensures acts { ActsBehind (C.text_of consts.now) (C.items_of consts.now) (record { instruction = fetched.Number number_ops.DeleteFast n; end = end }) 0 arena.now arena.now frames.old frames.new result }
+    ensures acts { ActsKeeping (C.text_of consts.now) (C.items_of consts.now) (record { instruction = fetched.Number number_ops.DeleteFast n; end = end }) 0 arena.now arena.now frames.old frames.new result }
 {
     acting_law();
     vm_instructions::delete_fast(frames, arena, consts, n, end)

@@ -5,7 +5,8 @@ ghost use Rattle.vm_fetching.specs.declared.operations.JumpOp.TheVariants as jum
 ghost use Rattle.vm_fetching.specs.declared.operations.NameOp.TheVariants as name_ops;
 ghost use Rattle.vm_fetching.specs.declared.operations.NumberOp.TheVariants as number_ops;
 ghost use Rattle.vm_moving.specs.Moving.{MovesSlots, fetched_plain};
-ghost use Rattle.vm_known.specs.Acting.{RunsOver, ActsBehind};
+ghost use Rattle.vm_known.specs.Acting.{RunsOver};
+ghost use Rattle.vm_operating.specs.Keeping.{ActsKeeping};
 
 use crate::law::acting_law;
 use arena_heap::{Arena, Constants, StrNo, Value};
@@ -28,7 +29,7 @@ pub(crate) fn move_on<C: Constants>(
 ) -> Result<(), Stop>
     requires moves { MovesSlots op }
     requires runs { RunsOver (C.text_of _consts.now) (C.items_of _consts.now) _arena.now frames.old (fetched_plain op end) }
-    ensures acts { ActsBehind (C.text_of _consts.now) (C.items_of _consts.now) (fetched_plain op end) 0 _arena.now _arena.now frames.old frames.new result }
+    ensures acts { ActsKeeping (C.text_of _consts.now) (C.items_of _consts.now) (fetched_plain op end) 0 _arena.now _arena.now frames.old frames.new result }
 {
     acting_law();
     move_slots(frames, op, end);
@@ -44,7 +45,7 @@ pub(crate) fn store_fast<C: Constants>(
     end: u32,
 ) -> Result<(), Stop>
     requires runs { RunsOver (C.text_of _consts.now) (C.items_of _consts.now) _arena.now frames.old (record { instruction = fetched.Number number_ops.StoreFast n; end = end }) }
-    ensures acts { ActsBehind (C.text_of _consts.now) (C.items_of _consts.now) (record { instruction = fetched.Number number_ops.StoreFast n; end = end }) 0 _arena.now _arena.now frames.old frames.new result }
+    ensures acts { ActsKeeping (C.text_of _consts.now) (C.items_of _consts.now) (record { instruction = fetched.Number number_ops.StoreFast n; end = end }) 0 _arena.now _arena.now frames.old frames.new result }
 {
     acting_law();
     tops_law();
@@ -61,7 +62,7 @@ pub(crate) fn store_fast_n<C: Constants>(
     end: u32,
 ) -> Result<(), Stop>
     requires runs { RunsOver (C.text_of _consts.now) (C.items_of _consts.now) _arena.now frames.old (record { instruction = fetched.Number number_ops.StoreFastN n; end = end }) }
-    ensures acts { ActsBehind (C.text_of _consts.now) (C.items_of _consts.now) (record { instruction = fetched.Number number_ops.StoreFastN n; end = end }) 0 _arena.now _arena.now frames.old frames.new result }
+    ensures acts { ActsKeeping (C.text_of _consts.now) (C.items_of _consts.now) (record { instruction = fetched.Number number_ops.StoreFastN n; end = end }) 0 _arena.now _arena.now frames.old frames.new result }
 {
     acting_law();
     tops_law();
@@ -78,7 +79,7 @@ pub fn load_int<C: Constants>(
     end: u32,
 ) -> Result<(), Stop>
     requires runs { RunsOver (C.text_of _consts.now) (C.items_of _consts.now) _arena.now frames.old (record { instruction = fetched.Int n; end = end }) }
-    ensures acts { ActsBehind (C.text_of _consts.now) (C.items_of _consts.now) (record { instruction = fetched.Int n; end = end }) 0 _arena.now _arena.now frames.old frames.new result }
+    ensures acts { ActsKeeping (C.text_of _consts.now) (C.items_of _consts.now) (record { instruction = fetched.Int n; end = end }) 0 _arena.now _arena.now frames.old frames.new result }
 {
     acting_law();
     load_small(frames, n, end);
@@ -94,7 +95,7 @@ pub(crate) fn load_text<C: Constants>(
     end: u32,
 ) -> Result<(), Stop>
     requires runs { RunsOver (C.text_of _consts.now) (C.items_of _consts.now) _arena.now frames.old (record { instruction = fetched.Name name_ops.LoadConstString text; end = end }) }
-    ensures acts { ActsBehind (C.text_of _consts.now) (C.items_of _consts.now) (record { instruction = fetched.Name name_ops.LoadConstString text; end = end }) 0 _arena.now _arena.now frames.old frames.new result }
+    ensures acts { ActsKeeping (C.text_of _consts.now) (C.items_of _consts.now) (record { instruction = fetched.Name name_ops.LoadConstString text; end = end }) 0 _arena.now _arena.now frames.old frames.new result }
 {
     acting_law();
     load_str(frames, text, end);
@@ -110,7 +111,7 @@ pub fn load_object<C: Constants>(
     end: u32,
 ) -> Result<(), Stop>
     requires runs { RunsOver (C.text_of _consts.now) (C.items_of _consts.now) _arena.now frames.old (record { instruction = fetched.Object v; end = end }) }
-    ensures acts { ActsBehind (C.text_of _consts.now) (C.items_of _consts.now) (record { instruction = fetched.Object v; end = end }) 0 _arena.now _arena.now frames.old frames.new result }
+    ensures acts { ActsKeeping (C.text_of _consts.now) (C.items_of _consts.now) (record { instruction = fetched.Object v; end = end }) 0 _arena.now _arena.now frames.old frames.new result }
 {
     acting_law();
     load_constant(frames, v, end);
@@ -126,7 +127,7 @@ pub(crate) fn jump<C: Constants>(
     end: u32,
 ) -> Result<(), Stop>
     requires runs { RunsOver (C.text_of _consts.now) (C.items_of _consts.now) _arena.now frames.old (record { instruction = fetched.Jump jump_ops.Jump target; end = end }) }
-    ensures acts { ActsBehind (C.text_of _consts.now) (C.items_of _consts.now) (record { instruction = fetched.Jump jump_ops.Jump target; end = end }) 0 _arena.now _arena.now frames.old frames.new result }
+    ensures acts { ActsKeeping (C.text_of _consts.now) (C.items_of _consts.now) (record { instruction = fetched.Jump jump_ops.Jump target; end = end }) 0 _arena.now _arena.now frames.old frames.new result }
 {
     acting_law();
     jump_on(frames, target, end);
@@ -142,7 +143,7 @@ pub(crate) fn setup_except<C: Constants>(
     end: u32,
 ) -> Result<(), Stop>
     requires runs { RunsOver (C.text_of _consts.now) (C.items_of _consts.now) _arena.now frames.old (record { instruction = fetched.Jump jump_ops.SetupExcept handler; end = end }) }
-    ensures acts { ActsBehind (C.text_of _consts.now) (C.items_of _consts.now) (record { instruction = fetched.Jump jump_ops.SetupExcept handler; end = end }) 0 _arena.now _arena.now frames.old frames.new result }
+    ensures acts { ActsKeeping (C.text_of _consts.now) (C.items_of _consts.now) (record { instruction = fetched.Jump jump_ops.SetupExcept handler; end = end }) 0 _arena.now _arena.now frames.old frames.new result }
 {
     acting_law();
     begin_except(frames, handler, end);
@@ -158,7 +159,7 @@ pub(crate) fn setup_finally<C: Constants>(
     end: u32,
 ) -> Result<(), Stop>
     requires runs { RunsOver (C.text_of _consts.now) (C.items_of _consts.now) _arena.now frames.old (record { instruction = fetched.Jump jump_ops.SetupFinally handler; end = end }) }
-    ensures acts { ActsBehind (C.text_of _consts.now) (C.items_of _consts.now) (record { instruction = fetched.Jump jump_ops.SetupFinally handler; end = end }) 0 _arena.now _arena.now frames.old frames.new result }
+    ensures acts { ActsKeeping (C.text_of _consts.now) (C.items_of _consts.now) (record { instruction = fetched.Jump jump_ops.SetupFinally handler; end = end }) 0 _arena.now _arena.now frames.old frames.new result }
 {
     acting_law();
     begin_finally(frames, handler, end);
@@ -174,7 +175,7 @@ pub(crate) fn pop_except_jump<C: Constants>(
     end: u32,
 ) -> Result<(), Stop>
     requires runs { RunsOver (C.text_of _consts.now) (C.items_of _consts.now) _arena.now frames.old (record { instruction = fetched.Jump jump_ops.PopExceptJump target; end = end }) }
-    ensures acts { ActsBehind (C.text_of _consts.now) (C.items_of _consts.now) (record { instruction = fetched.Jump jump_ops.PopExceptJump target; end = end }) 0 _arena.now _arena.now frames.old frames.new result }
+    ensures acts { ActsKeeping (C.text_of _consts.now) (C.items_of _consts.now) (record { instruction = fetched.Jump jump_ops.PopExceptJump target; end = end }) 0 _arena.now _arena.now frames.old frames.new result }
 {
     acting_law();
     end_except(frames, target, end);
@@ -191,7 +192,7 @@ pub fn unwind_jump<C: Constants>(
     end: u32,
 ) -> Result<(), Stop>
     requires runs { RunsOver (C.text_of _consts.now) (C.items_of _consts.now) _arena.now frames.old (record { instruction = fetched.Unwind target byte; end = end }) }
-    ensures acts { ActsBehind (C.text_of _consts.now) (C.items_of _consts.now) (record { instruction = fetched.Unwind target byte; end = end }) 0 _arena.now _arena.now frames.old frames.new result }
+    ensures acts { ActsKeeping (C.text_of _consts.now) (C.items_of _consts.now) (record { instruction = fetched.Unwind target byte; end = end }) 0 _arena.now _arena.now frames.old frames.new result }
 {
     acting_law();
     jump_out(frames, target, byte, end);

@@ -2,7 +2,8 @@
 
 ghost use Rattle.vm_fetching.specs.declared.instruction.Instruction.TheVariants as fetched;
 ghost use Rattle.vm_fetching.specs.declared.operations.NameOp.TheVariants as name_ops;
-ghost use Rattle.vm_known.specs.Acting.{RunsOver, ActsBehind};
+ghost use Rattle.vm_known.specs.Acting.{RunsOver};
+ghost use Rattle.vm_operating.specs.Keeping.{ActsKeeping};
 
 use crate::law::acting_law;
 use arena_heap::{Arena, Constants, StrNo};
@@ -19,7 +20,7 @@ pub(crate) fn load_name<C: Constants>(
     end: u32,
 ) -> Result<(), Stop>
     requires runs { RunsOver (C.text_of consts.now) (C.items_of consts.now) arena.now frames.old (record { instruction = fetched.Name name_ops.LoadName name; end = end }) }
-    ensures acts { ActsBehind (C.text_of consts.now) (C.items_of consts.now) (record { instruction = fetched.Name name_ops.LoadName name; end = end }) 0 arena.now arena.now frames.old frames.new result }
+    ensures acts { ActsKeeping (C.text_of consts.now) (C.items_of consts.now) (record { instruction = fetched.Name name_ops.LoadName name; end = end }) 0 arena.now arena.now frames.old frames.new result }
 {
     acting_law();
     vm_instructions::load_name(frames, arena, consts, name, end)
@@ -34,7 +35,7 @@ pub(crate) fn load_global<C: Constants>(
     end: u32,
 ) -> Result<(), Stop>
     requires runs { RunsOver (C.text_of consts.now) (C.items_of consts.now) arena.now frames.old (record { instruction = fetched.Name name_ops.LoadGlobal name; end = end }) }
-    ensures acts { ActsBehind (C.text_of consts.now) (C.items_of consts.now) (record { instruction = fetched.Name name_ops.LoadGlobal name; end = end }) 0 arena.now arena.now frames.old frames.new result }
+    ensures acts { ActsKeeping (C.text_of consts.now) (C.items_of consts.now) (record { instruction = fetched.Name name_ops.LoadGlobal name; end = end }) 0 arena.now arena.now frames.old frames.new result }
 {
     acting_law();
     vm_instructions::load_name(frames, arena, consts, name, end)
@@ -49,7 +50,7 @@ pub(crate) fn store_name<C: Constants>(
     end: u32,
 ) -> Result<(), Stop>
     requires runs { RunsOver (C.text_of consts.now) (C.items_of consts.now) arena.old frames.old (record { instruction = fetched.Name name_ops.StoreName name; end = end }) }
-    ensures acts { ActsBehind (C.text_of consts.now) (C.items_of consts.now) (record { instruction = fetched.Name name_ops.StoreName name; end = end }) 0 arena.old arena.new frames.old frames.new result }
+    ensures acts { ActsKeeping (C.text_of consts.now) (C.items_of consts.now) (record { instruction = fetched.Name name_ops.StoreName name; end = end }) 0 arena.old arena.new frames.old frames.new result }
 {
     acting_law();
     tops_law();
@@ -65,7 +66,7 @@ pub(crate) fn store_global<C: Constants>(
     end: u32,
 ) -> Result<(), Stop>
     requires runs { RunsOver (C.text_of consts.now) (C.items_of consts.now) arena.old frames.old (record { instruction = fetched.Name name_ops.StoreGlobal name; end = end }) }
-    ensures acts { ActsBehind (C.text_of consts.now) (C.items_of consts.now) (record { instruction = fetched.Name name_ops.StoreGlobal name; end = end }) 0 arena.old arena.new frames.old frames.new result }
+    ensures acts { ActsKeeping (C.text_of consts.now) (C.items_of consts.now) (record { instruction = fetched.Name name_ops.StoreGlobal name; end = end }) 0 arena.old arena.new frames.old frames.new result }
 {
     acting_law();
     tops_law();
@@ -81,7 +82,7 @@ pub(crate) fn delete_name<C: Constants>(
     end: u32,
 ) -> Result<(), Stop>
     requires runs { RunsOver (C.text_of consts.now) (C.items_of consts.now) arena.old frames.old (record { instruction = fetched.Name name_ops.DeleteName name; end = end }) }
-    ensures acts { ActsBehind (C.text_of consts.now) (C.items_of consts.now) (record { instruction = fetched.Name name_ops.DeleteName name; end = end }) 0 arena.old arena.new frames.old frames.new result }
+    ensures acts { ActsKeeping (C.text_of consts.now) (C.items_of consts.now) (record { instruction = fetched.Name name_ops.DeleteName name; end = end }) 0 arena.old arena.new frames.old frames.new result }
 {
     acting_law();
     vm_instructions::delete_name(frames, arena, consts, name, end)
@@ -96,7 +97,7 @@ pub(crate) fn delete_global<C: Constants>(
     end: u32,
 ) -> Result<(), Stop>
     requires runs { RunsOver (C.text_of consts.now) (C.items_of consts.now) arena.old frames.old (record { instruction = fetched.Name name_ops.DeleteGlobal name; end = end }) }
-    ensures acts { ActsBehind (C.text_of consts.now) (C.items_of consts.now) (record { instruction = fetched.Name name_ops.DeleteGlobal name; end = end }) 0 arena.old arena.new frames.old frames.new result }
+    ensures acts { ActsKeeping (C.text_of consts.now) (C.items_of consts.now) (record { instruction = fetched.Name name_ops.DeleteGlobal name; end = end }) 0 arena.old arena.new frames.old frames.new result }
 {
     acting_law();
     vm_instructions::delete_name(frames, arena, consts, name, end)

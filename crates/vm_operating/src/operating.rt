@@ -3,7 +3,8 @@
 ghost use Rattle.std.specs.Prelude.{◌≤◌, length};
 ghost use Rattle.vm_fetching.specs.declared.instruction.Instruction.TheVariants as fetched;
 ghost use Rattle.vm_moving.specs.Moving.{fetched_plain};
-ghost use Rattle.vm_known.specs.Acting.{RunsOver, ActsBehind};
+ghost use Rattle.vm_known.specs.Acting.{RunsOver};
+ghost use Rattle.vm_operating.specs.Keeping.{ActsKeeping};
 ghost use Rattle.vm_operating.specs.Named.{AllNamed};
 ghost use Rattle.vm_operating.specs.Operations.{IsPlainOperation, IsNumberOperation, IsNameOperation, IsAttributeOperation};
 
@@ -34,7 +35,7 @@ pub fn plain_on<C: Constants>(
 ) -> Result<(), Stop>
     requires operation { IsPlainOperation op }
     requires runs { RunsOver (C.text_of consts.now) (C.items_of consts.now) arena.old frames.old (fetched_plain op end) }
-    ensures acts { ActsBehind (C.text_of consts.now) (C.items_of consts.now) (fetched_plain op end) 0 arena.old arena.new frames.old frames.new result }
+    ensures acts { ActsKeeping (C.text_of consts.now) (C.items_of consts.now) (fetched_plain op end) 0 arena.old arena.new frames.old frames.new result }
 {
     match op {
         PlainOp::LoadSubscr => load_subscr(frames, arena, consts, end),
@@ -70,7 +71,7 @@ pub fn number_on<C: Constants>(
     requires operation { IsNumberOperation op }
     requires places { frames.old.slot_room ≤ length items.old }
     requires runs { RunsOver (C.text_of consts.now) (C.items_of consts.now) arena.old frames.old (record { instruction = fetched.Number op n; end = end }) }
-    ensures acts { ActsBehind (C.text_of consts.now) (C.items_of consts.now) (record { instruction = fetched.Number op n; end = end }) 0 arena.old arena.new frames.old frames.new result }
+    ensures acts { ActsKeeping (C.text_of consts.now) (C.items_of consts.now) (record { instruction = fetched.Number op n; end = end }) 0 arena.old arena.new frames.old frames.new result }
 {
     tops_law();
     match op {
@@ -105,7 +106,7 @@ pub fn name_on<C: Constants>(
 ) -> Result<(), Stop>
     requires operation { IsNameOperation op }
     requires runs { RunsOver (C.text_of consts.now) (C.items_of consts.now) arena.old frames.old (record { instruction = fetched.Name op name; end = end }) }
-    ensures acts { ActsBehind (C.text_of consts.now) (C.items_of consts.now) (record { instruction = fetched.Name op name; end = end }) 0 arena.old arena.new frames.old frames.new result }
+    ensures acts { ActsKeeping (C.text_of consts.now) (C.items_of consts.now) (record { instruction = fetched.Name op name; end = end }) 0 arena.old arena.new frames.old frames.new result }
 {
     match op {
         NameOp::LoadConstString => load_text(frames, arena, consts, name, end),
@@ -135,7 +136,7 @@ pub fn attribute_on<C: Constants>(
     requires operation { IsAttributeOperation op }
     requires named { AllNamed arena.old.objects }
     requires runs { RunsOver (C.text_of consts.now) (C.items_of consts.now) arena.old frames.old (record { instruction = fetched.Name op name; end = end }) }
-    ensures acts { ActsBehind (C.text_of consts.now) (C.items_of consts.now) (record { instruction = fetched.Name op name; end = end }) 0 arena.old arena.new frames.old frames.new result }
+    ensures acts { ActsKeeping (C.text_of consts.now) (C.items_of consts.now) (record { instruction = fetched.Name op name; end = end }) 0 arena.old arena.new frames.old frames.new result }
 {
     match op {
         NameOp::LoadAttr => load_attr(frames, arena, consts, name, end),
@@ -163,7 +164,7 @@ pub fn jump_to<C: Constants>(
     end: u32,
 ) -> Result<(), Stop>
     requires runs { RunsOver (C.text_of consts.now) (C.items_of consts.now) arena.old frames.old (record { instruction = fetched.Jump op target; end = end }) }
-    ensures acts { ActsBehind (C.text_of consts.now) (C.items_of consts.now) (record { instruction = fetched.Jump op target; end = end }) 0 arena.old arena.new frames.old frames.new result }
+    ensures acts { ActsKeeping (C.text_of consts.now) (C.items_of consts.now) (record { instruction = fetched.Jump op target; end = end }) 0 arena.old arena.new frames.old frames.new result }
 {
     match op {
         JumpOp::Jump => jump(frames, arena, consts, target, end),

@@ -5,7 +5,8 @@ ghost use Rattle.arena_heap.specs.declared.value.Value.{Value as Item};
 ghost use Rattle.vm_instructions.specs.Slots.{HasValue, HasNull};
 ghost use Rattle.vm_fetching.specs.declared.operations.PlainOp.TheVariants as plain_ops;
 ghost use Rattle.vm_moving.specs.Moving.{fetched_plain};
-ghost use Rattle.vm_known.specs.Acting.{RunsOver, ActsBehind};
+ghost use Rattle.vm_known.specs.Acting.{RunsOver};
+ghost use Rattle.vm_operating.specs.Keeping.{ActsKeeping};
 ghost use Rattle.vm_operating.specs.Operands.{HasOperand, is_null as is_null_slot};
 
 use crate::law::acting_law;
@@ -22,7 +23,7 @@ pub(crate) fn load_subscr<C: Constants>(
     end: u32,
 ) -> Result<(), Stop>
     requires runs { RunsOver (C.text_of consts.now) (C.items_of consts.now) arena.old frames.old (fetched_plain plain_ops.LoadSubscr end) }
-    ensures acts { ActsBehind (C.text_of consts.now) (C.items_of consts.now) (fetched_plain plain_ops.LoadSubscr end) 0 arena.old arena.new frames.old frames.new result }
+    ensures acts { ActsKeeping (C.text_of consts.now) (C.items_of consts.now) (fetched_plain plain_ops.LoadSubscr end) 0 arena.old arena.new frames.old frames.new result }
 {
     acting_law();
     tops_law();
@@ -61,7 +62,7 @@ fn set_subscr<C: Constants>(
 ) -> Result<(), Stop>
     requires runs { RunsOver (C.text_of consts.now) (C.items_of consts.now) arena.old frames.old (fetched_plain plain_ops.StoreSubscr end) }
     requires value { (v : Item) × HasValue 2 v frames.old.calls }
-    ensures acts { ActsBehind (C.text_of consts.now) (C.items_of consts.now) (fetched_plain plain_ops.StoreSubscr end) 0 arena.old arena.new frames.old frames.new result }
+    ensures acts { ActsKeeping (C.text_of consts.now) (C.items_of consts.now) (fetched_plain plain_ops.StoreSubscr end) 0 arena.old arena.new frames.old frames.new result }
 {
     acting_law();
     tops_law();
@@ -77,7 +78,7 @@ fn delete_subscr<C: Constants>(
 ) -> Result<(), Stop>
     requires runs { RunsOver (C.text_of consts.now) (C.items_of consts.now) arena.old frames.old (fetched_plain plain_ops.StoreSubscr end) }
     requires no_value { HasNull 2 frames.old.calls }
-    ensures acts { ActsBehind (C.text_of consts.now) (C.items_of consts.now) (fetched_plain plain_ops.StoreSubscr end) 0 arena.old arena.new frames.old frames.new result }
+    ensures acts { ActsKeeping (C.text_of consts.now) (C.items_of consts.now) (fetched_plain plain_ops.StoreSubscr end) 0 arena.old arena.new frames.old frames.new result }
 {
     acting_law();
     tops_law();
@@ -92,7 +93,7 @@ pub(crate) fn store_subscr<C: Constants>(
     end: u32,
 ) -> Result<(), Stop>
     requires runs { RunsOver (C.text_of consts.now) (C.items_of consts.now) arena.old frames.old (fetched_plain plain_ops.StoreSubscr end) }
-    ensures acts { ActsBehind (C.text_of consts.now) (C.items_of consts.now) (fetched_plain plain_ops.StoreSubscr end) 0 arena.old arena.new frames.old frames.new result }
+    ensures acts { ActsKeeping (C.text_of consts.now) (C.items_of consts.now) (fetched_plain plain_ops.StoreSubscr end) 0 arena.old arena.new frames.old frames.new result }
 {
     tops_law();
     if lacks_third(frames) {
@@ -110,7 +111,7 @@ pub(crate) fn store_map<C: Constants>(
     end: u32,
 ) -> Result<(), Stop>
     requires runs { RunsOver (C.text_of consts.now) (C.items_of consts.now) arena.old frames.old (fetched_plain plain_ops.StoreMap end) }
-    ensures acts { ActsBehind (C.text_of consts.now) (C.items_of consts.now) (fetched_plain plain_ops.StoreMap end) 0 arena.old arena.new frames.old frames.new result }
+    ensures acts { ActsKeeping (C.text_of consts.now) (C.items_of consts.now) (fetched_plain plain_ops.StoreMap end) 0 arena.old arena.new frames.old frames.new result }
 {
     acting_law();
     tops_law();

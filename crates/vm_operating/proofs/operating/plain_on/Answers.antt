@@ -1,7 +1,7 @@
 use Rattle.std.proofs.Common.{subst, sym}
 use Rattle.vm_fetching.specs.declared.operations.PlainOp.{PlainOp}
 use Rattle.vm_moving.specs.Moving.{fetched_plain}
-use Rattle.vm_known.specs.Acting.{ActsBehind}
+use Rattle.vm_operating.specs.Keeping.{ActsKeeping}
 use Rattle.vm_operating.proofs.operating.plain_on.Goals as goal
 
 pub returns-in-LoadSubscr : goal.returns-in-LoadSubscr
@@ -9,7 +9,7 @@ returns-in-LoadSubscr g c =
     let texts = g.C.Constants.text_of c.args.consts.now in
     let tuples = g.C.Constants.items_of c.args.consts.now in
     record {
-      acts = subst (λ (o : PlainOp). ActsBehind texts tuples (fetched_plain o c.args.end) 0 c.args.arena.now c.load_subscr.new.arena c.args.frames.now c.load_subscr.new.frames c.load_subscr.result) (sym c.in-LoadSubscr.is) c.load_subscr.ensures.acts;
+      acts = subst (λ (o : PlainOp). ActsKeeping texts tuples (fetched_plain o c.args.end) 0 c.args.arena.now c.load_subscr.new.arena c.args.frames.now c.load_subscr.new.frames c.load_subscr.result) (sym c.in-LoadSubscr.is) c.load_subscr.ensures.acts;
     }
 
 pub returns-in-StoreSubscr : goal.returns-in-StoreSubscr
@@ -17,7 +17,7 @@ returns-in-StoreSubscr g c =
     let texts = g.C.Constants.text_of c.args.consts.now in
     let tuples = g.C.Constants.items_of c.args.consts.now in
     record {
-      acts = subst (λ (o : PlainOp). ActsBehind texts tuples (fetched_plain o c.args.end) 0 c.args.arena.now c.store_subscr.new.arena c.args.frames.now c.store_subscr.new.frames c.store_subscr.result) (sym c.in-StoreSubscr.is) c.store_subscr.ensures.acts;
+      acts = subst (λ (o : PlainOp). ActsKeeping texts tuples (fetched_plain o c.args.end) 0 c.args.arena.now c.store_subscr.new.arena c.args.frames.now c.store_subscr.new.frames c.store_subscr.result) (sym c.in-StoreSubscr.is) c.store_subscr.ensures.acts;
     }
 
 pub returns-in-GetIterStack : goal.returns-in-GetIterStack
@@ -25,7 +25,7 @@ returns-in-GetIterStack g c =
     let texts = g.C.Constants.text_of c.args.consts.now in
     let tuples = g.C.Constants.items_of c.args.consts.now in
     record {
-      acts = subst (λ (o : PlainOp). ActsBehind texts tuples (fetched_plain o c.args.end) 0 c.args.arena.now c.args.arena.now c.args.frames.now c.get_iter_stack.new.frames c.get_iter_stack.result) (sym c.in-GetIterStack.is) c.get_iter_stack.ensures.acts;
+      acts = subst (λ (o : PlainOp). ActsKeeping texts tuples (fetched_plain o c.args.end) 0 c.args.arena.now c.args.arena.now c.args.frames.now c.get_iter_stack.new.frames c.get_iter_stack.result) (sym c.in-GetIterStack.is) c.get_iter_stack.ensures.acts;
     }
 
 pub returns-in-StoreMap : goal.returns-in-StoreMap
@@ -33,5 +33,5 @@ returns-in-StoreMap g c =
     let texts = g.C.Constants.text_of c.args.consts.now in
     let tuples = g.C.Constants.items_of c.args.consts.now in
     record {
-      acts = subst (λ (o : PlainOp). ActsBehind texts tuples (fetched_plain o c.args.end) 0 c.args.arena.now c.store_map.new.arena c.args.frames.now c.store_map.new.frames c.store_map.result) (sym c.in-StoreMap.is) c.store_map.ensures.acts;
+      acts = subst (λ (o : PlainOp). ActsKeeping texts tuples (fetched_plain o c.args.end) 0 c.args.arena.now c.store_map.new.arena c.args.frames.now c.store_map.new.frames c.store_map.result) (sym c.in-StoreMap.is) c.store_map.ensures.acts;
     }

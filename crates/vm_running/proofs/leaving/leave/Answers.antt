@@ -1,0 +1,28 @@
+use Rattle.std.proofs.Common.{sym, subst}
+use Rattle.vm_fetching.specs.declared.operations.PlainOp.{PlainOp}
+use Rattle.vm_leaving.specs.Running.{fetched_plain, RunsWith, RunsOnBehind}
+use Rattle.vm_running.proofs.leaving.leave.Goals as goal
+
+pub return_on-requires-clause-runs : goal.return_on-requires-clause-runs
+return_on-requires-clause-runs g c = (c.requires.runs.0, c.args.row.now, subst (λ (o : PlainOp). RunsWith (g.C.Constants.text_of c.args.consts.now) (g.C.Constants.items_of c.args.consts.now) c.args.names.now c.args.library.now c.args.arena.now c.args.modules.now c.args.frames.now c.args.row.now (fetched_plain o c.requires.runs.0)) c.in-ReturnValue.is c.requires.runs.1)
+
+pub return_on-requires-clause-rows : goal.return_on-requires-clause-rows
+return_on-requires-clause-rows g c = c.requires.rows
+
+pub raise_again_on-requires : goal.raise_again_on-requires
+raise_again_on-requires g c = record { runs = (c.requires.runs.0, (subst (λ (o : PlainOp). RunsWith (g.C.Constants.text_of c.args.consts.now) (g.C.Constants.items_of c.args.consts.now) c.args.names.now c.args.library.now c.args.arena.now c.args.modules.now c.args.frames.now c.args.row.now (fetched_plain o c.requires.runs.0)) c.in-RaiseLast.is c.requires.runs.1).runs) }
+
+pub raise_on-requires : goal.raise_on-requires
+raise_on-requires g c = record { runs = (c.requires.runs.0, (subst (λ (o : PlainOp). RunsWith (g.C.Constants.text_of c.args.consts.now) (g.C.Constants.items_of c.args.consts.now) c.args.names.now c.args.library.now c.args.arena.now c.args.modules.now c.args.frames.now c.args.row.now (fetched_plain o c.requires.runs.0)) c.in-RaiseObj.is c.requires.runs.1).runs) }
+
+pub returns-in-ReturnValue : goal.returns-in-ReturnValue
+returns-in-ReturnValue g c p end same =
+    subst (λ (o : PlainOp). RunsOnBehind p (g.C.Constants.text_of c.args.consts.now) (g.C.Constants.items_of c.args.consts.now) c.args.names.now c.args.row.now (fetched_plain o end) c.args.arena.now c.return_on.new.arena c.args.modules.now c.args.modules.now c.args.frames.now c.return_on.new.frames c.return_on.result) (sym c.in-ReturnValue.is) (c.return_on.ensures p end c.args.row.now same)
+
+pub returns-in-RaiseLast : goal.returns-in-RaiseLast
+returns-in-RaiseLast g c p end same =
+    subst (λ (o : PlainOp). RunsOnBehind p (g.C.Constants.text_of c.args.consts.now) (g.C.Constants.items_of c.args.consts.now) c.args.names.now c.args.row.now (fetched_plain o end) c.args.arena.now c.raise_again_on.new.arena c.args.modules.now c.raise_again_on.new.modules c.args.frames.now c.raise_again_on.new.frames c.raise_again_on.result) (sym c.in-RaiseLast.is) (c.raise_again_on.ensures p end)
+
+pub returns-in-RaiseObj : goal.returns-in-RaiseObj
+returns-in-RaiseObj g c p end same =
+    subst (λ (o : PlainOp). RunsOnBehind p (g.C.Constants.text_of c.args.consts.now) (g.C.Constants.items_of c.args.consts.now) c.args.names.now c.args.row.now (fetched_plain o end) c.args.arena.now c.raise_on.new.arena c.args.modules.now c.raise_on.new.modules c.args.frames.now c.raise_on.new.frames c.raise_on.result) (sym c.in-RaiseObj.is) (c.raise_on.ensures p end)

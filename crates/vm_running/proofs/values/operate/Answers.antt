@@ -1,0 +1,38 @@
+use Rattle.std.proofs.Common.{Result, subst}
+use Rattle.vm_faults.specs.declared.stop.Stop.{Stop}
+use Rattle.vm_operating.specs.Keeping.{ActsKeeping}
+use Rattle.vm_running.specs.Values.{value_visits}
+use Rattle.vm_running.proofs.Landing.{over, lands, stopped, known, comes}
+use Rattle.vm_running.proofs.values.operate.Goals as goal
+
+pub act_on-requires-clause-values : goal.act_on-requires-clause-values
+act_on-requires-clause-values g c = c.requires.values
+
+pub act_on-requires-clause-places : goal.act_on-requires-clause-places
+act_on-requires-clause-places g c = c.requires.places
+
+pub act_on-requires-clause-named : goal.act_on-requires-clause-named
+act_on-requires-clause-named g c = c.requires.named
+
+pub act_on-requires-clause-known : goal.act_on-requires-clause-known
+act_on-requires-clause-known g c = c.requires.known
+
+pub act_on-requires-clause-runs : goal.act_on-requires-clause-runs
+act_on-requires-clause-runs g c = over (g.C.Constants.text_of c.args.consts.now) (g.C.Constants.items_of c.args.consts.now) c.args.names.now c.args.row.now c.args.fetched 0 c.args.arena.now c.args.arena.now c.args.frames.now c.requires.runs.1.runs
+
+pub stop_on-requires-clause-runs : goal.stop_on-requires-clause-runs
+stop_on-requires-clause-runs g c =
+    (c.args.fetched, stopped (g.C.Constants.text_of c.args.consts.now) (g.C.Constants.items_of c.args.consts.now) c.args.names.now c.args.row.now c.args.fetched (value_visits (g.C.Constants.text_of c.args.consts.now) (g.C.Constants.items_of c.args.consts.now) c.args.arena.now c.args.frames.now.calls c.args.fetched.instruction) c.args.arena.now c.act_on.new.arena c.args.frames.now c.in-Err.stop c.act_on.new.frames (subst (λ (r : Result (Unit {0}) Stop). ActsKeeping (g.C.Constants.text_of c.args.consts.now) (g.C.Constants.items_of c.args.consts.now) c.args.fetched (value_visits (g.C.Constants.text_of c.args.consts.now) (g.C.Constants.items_of c.args.consts.now) c.args.arena.now c.args.frames.now.calls c.args.fetched.instruction) c.args.arena.now c.act_on.new.arena c.args.frames.now c.act_on.new.frames r) c.in-Err.is c.act_on.ensures.acts) c.requires.runs.1.runs)
+
+pub stop_on-requires-clause-stop : goal.stop_on-requires-clause-stop
+stop_on-requires-clause-stop g c =
+    known (g.C.Constants.text_of c.args.consts.now) (g.C.Constants.items_of c.args.consts.now) c.args.names.now c.args.row.now c.args.fetched (value_visits (g.C.Constants.text_of c.args.consts.now) (g.C.Constants.items_of c.args.consts.now) c.args.arena.now c.args.frames.now.calls c.args.fetched.instruction) c.args.arena.now c.act_on.new.arena c.args.frames.now c.in-Err.stop c.act_on.new.frames (subst (λ (r : Result (Unit {0}) Stop). ActsKeeping (g.C.Constants.text_of c.args.consts.now) (g.C.Constants.items_of c.args.consts.now) c.args.fetched (value_visits (g.C.Constants.text_of c.args.consts.now) (g.C.Constants.items_of c.args.consts.now) c.args.arena.now c.args.frames.now.calls c.args.fetched.instruction) c.args.arena.now c.act_on.new.arena c.args.frames.now c.act_on.new.frames r) c.in-Err.is c.act_on.ensures.acts) c.requires.runs.1.runs
+
+pub returns-in-Ok : goal.returns-in-Ok
+returns-in-Ok g c p means tells named state registered r =
+    let a = (subst (λ (r : Result (Unit {0}) Stop). ActsKeeping (g.C.Constants.text_of c.args.consts.now) (g.C.Constants.items_of c.args.consts.now) c.args.fetched (value_visits (g.C.Constants.text_of c.args.consts.now) (g.C.Constants.items_of c.args.consts.now) c.args.arena.now c.args.frames.now.calls c.args.fetched.instruction) c.args.arena.now c.act_on.new.arena c.args.frames.now c.act_on.new.frames r) c.in-Ok.is c.act_on.ensures.acts).acts p c.args.row.now means tells state r in
+    lands p c.args.row.now c.args.fetched (value_visits (g.C.Constants.text_of c.args.consts.now) (g.C.Constants.items_of c.args.consts.now) c.args.arena.now c.args.frames.now.calls c.args.fetched.instruction) c.args.arena.now c.act_on.new.arena c.args.modules.now c.args.frames.now state registered r c.registered_law.ensures c.act_on.new.frames a
+
+pub returns-in-Err : goal.returns-in-Err
+returns-in-Err g c =
+    comes (g.C.Constants.text_of c.args.consts.now) (g.C.Constants.items_of c.args.consts.now) c.args.names.now c.args.row.now c.args.fetched (value_visits (g.C.Constants.text_of c.args.consts.now) (g.C.Constants.items_of c.args.consts.now) c.args.arena.now c.args.frames.now.calls c.args.fetched.instruction) c.args.arena.now c.act_on.new.arena c.args.frames.now c.in-Err.stop c.act_on.new.frames c.stop_on.new.arena c.args.modules.now c.stop_on.new.modules c.stop_on.new.frames c.stop_on.result (subst (λ (r : Result (Unit {0}) Stop). ActsKeeping (g.C.Constants.text_of c.args.consts.now) (g.C.Constants.items_of c.args.consts.now) c.args.fetched (value_visits (g.C.Constants.text_of c.args.consts.now) (g.C.Constants.items_of c.args.consts.now) c.args.arena.now c.args.frames.now.calls c.args.fetched.instruction) c.args.arena.now c.act_on.new.arena c.args.frames.now c.act_on.new.frames r) c.in-Err.is c.act_on.ensures.acts) c.stop_on.ensures

@@ -1,0 +1,66 @@
+-- Instructions that act on values and frames, and leave the running call running. The others make functions, call, raise, return,
+-- end a finally or import a module.
+use Rattle.std.specs.Prelude.{ℕ, List, Option}
+use Rattle.mpy_base.specs.World.{Heap, Objects}
+use Rattle.arena_heap.specs.declared.value.Value.{Value}
+use Rattle.arena_heap.specs.declared.value.Value.TheVariants as values
+use Rattle.arena_heap.specs.declared.value.StrNo.{StrNo}
+use Rattle.arena_heap.specs.declared.value.ConstNo.{ConstNo}
+use Rattle.vm_faults.specs.Faults.{IsKnown}
+use Rattle.vm_frames.specs.Calls.{Call}
+use Rattle.vm_fetching.specs.declared.instruction.Instruction.{Instruction}
+use Rattle.vm_fetching.specs.declared.instruction.Instruction.TheVariants as fetched
+use Rattle.vm_fetching.specs.declared.operations.NameOp.{NameOp}
+use Rattle.vm_fetching.specs.declared.operations.NameOp.TheVariants as name_ops
+use Rattle.vm_operating.specs.Operations.{IsPlainOperation, IsNumberOperation}
+use Rattle.vm_operating.specs.Operators.{visits_binary}
+
+-- the operation loads a text, or finds or changes what has the name
+abbrev pub UsesName : NameOp → Type 0
+UsesName name_ops.LoadConstString = Unit {0}
+UsesName name_ops.LoadName = Unit {0}
+UsesName name_ops.LoadGlobal = Unit {0}
+UsesName name_ops.StoreName = Unit {0}
+UsesName name_ops.StoreGlobal = Unit {0}
+UsesName name_ops.DeleteName = Unit {0}
+UsesName name_ops.DeleteGlobal = Unit {0}
+UsesName name_ops.LoadAttr = Unit {0}
+UsesName name_ops.LoadMethod = Unit {0}
+UsesName name_ops.StoreAttr = Unit {0}
+UsesName name_ops.ImportFrom = Unit {0}
+UsesName name_ops.ImportName = ⊥
+
+abbrev pub ActsOnValues : Instruction → Type 0
+ActsOnValues (fetched.Plain op) = IsPlainOperation op
+ActsOnValues (fetched.Number op n) = IsNumberOperation op
+ActsOnValues (fetched.Int z) = Unit {0}
+ActsOnValues (fetched.Unary number) = Unit {0}
+ActsOnValues (fetched.Binary number) = Unit {0}
+ActsOnValues (fetched.Name op text) = UsesName op
+ActsOnValues (fetched.Object v) = Unit {0}
+ActsOnValues (fetched.Jump op target) = Unit {0}
+ActsOnValues (fetched.Unwind target byte) = Unit {0}
+
+-- the constant that it loads, if it loads one, is known over the objects
+abbrev pub LoadsKnown : (StrNo → Option (List ℕ)) → (ConstNo → Option (List Value)) → Objects Value ℕ → Instruction → Type 0
+LoadsKnown texts tuples objects (fetched.Int z) = IsKnown texts tuples objects (values.Int z)
+LoadsKnown texts tuples objects (fetched.Object v) = IsKnown texts tuples objects v
+LoadsKnown texts tuples objects (fetched.Plain op) = Unit {0}
+LoadsKnown texts tuples objects (fetched.Number op n) = Unit {0}
+LoadsKnown texts tuples objects (fetched.Unary number) = Unit {0}
+LoadsKnown texts tuples objects (fetched.Binary number) = Unit {0}
+LoadsKnown texts tuples objects (fetched.Name op text) = Unit {0}
+LoadsKnown texts tuples objects (fetched.Jump op target) = Unit {0}
+LoadsKnown texts tuples objects (fetched.Unwind target byte) = Unit {0}
+
+-- its visits over the heap: those of an operator with two operands, and no others
+abbrev pub value_visits : (StrNo → Option (List ℕ)) → (ConstNo → Option (List Value)) → Heap Value ℕ → List Call → Instruction → ℕ
+value_visits texts tuples heap calls (fetched.Binary number) = visits_binary texts tuples heap calls number
+value_visits texts tuples heap calls (fetched.Plain op) = 0
+value_visits texts tuples heap calls (fetched.Number op n) = 0
+value_visits texts tuples heap calls (fetched.Int z) = 0
+value_visits texts tuples heap calls (fetched.Unary number) = 0
+value_visits texts tuples heap calls (fetched.Name op text) = 0
+value_visits texts tuples heap calls (fetched.Object v) = 0
+value_visits texts tuples heap calls (fetched.Jump op target) = 0
+value_visits texts tuples heap calls (fetched.Unwind target byte) = 0

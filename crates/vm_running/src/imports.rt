@@ -1,0 +1,46 @@
+//! Imports, and what their stops come to.
+
+ghost use Rattle.std.specs.Prelude.{◌≡◌, ◌<◌, ◌^◌, Some, codes};
+ghost use Rattle.vm_states.specs.Means.{Program};
+ghost use Rattle.vm_leaving.specs.Importing.{fetched_import};
+ghost use Rattle.vm_leaving.specs.Running.{RunsWith};
+ghost use Rattle.vm_running.specs.Comes.{ComesOnBehind};
+
+use arena_heap::{Arena, Constants, StrNo};
+use bc_library::Library;
+use bc_rows::{Row, Rows};
+use vm_frames::Frames;
+use vm_leaving::{import_on, stop_on};
+use vm_modules::Modules;
+use vm_unwinding::{End, ModuleName};
+
+/// IMPORT_NAME of the text with the number, that was fetched for the running call, of this row; where it stops, the stop is raised
+/// at its place. It answers how the run ends, if it does. `key` is the text `__name__`.
+#[tactic(none)]
+pub fn import<C: Constants>(
+    frames: &mut Frames,
+    arena: &mut Arena,
+    consts: &C,
+    library: &Library,
+    rows: &Rows<'_>,
+    modules: &mut Modules,
+    names: &[ModuleName],
+    row: &Row<'_>,
+    key: StrNo,
+    name: u32,
+    end: u32,
+) -> Option<End>
+    requires runs { RunsWith (C.text_of consts.now) (C.items_of consts.now) names.now rows.now arena.old modules.old frames.old row.now (fetched_import name end) }
+    requires rows { rows.now ≡ library.now }
+    requires key { C.text_of consts.now key ≡ Some (codes "__name__") }
+    requires short { frames.old.slot_room < 2 ^ 32 }
+    ensures { (p : Program) → p.shelf ≡ rows.now
+        → ComesOnBehind p (C.text_of consts.now) (C.items_of consts.now) names.now row.now (fetched_import name end) 0 arena.old arena.new modules.old modules.new frames.old frames.new result }
+{
+    match import_on(
+        frames, arena, consts, library, rows, modules, names, key, name, end,
+    ) {
+        Ok(()) => None,
+        Err(stop) => stop_on(frames, arena, consts, modules, names, row, stop),
+    }
+}

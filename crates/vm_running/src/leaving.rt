@@ -1,0 +1,56 @@
+//! Returns and raises.
+
+ghost use Rattle.std.specs.Prelude.{◌≡◌, ℕ};
+ghost use Rattle.vm_fetching.specs.declared.operations.PlainOp.TheVariants as plain_ops;
+ghost use Rattle.vm_states.specs.Means.{Program};
+ghost use Rattle.vm_leaving.specs.Running.{fetched_plain, RunsWith, RunsOnBehind};
+ghost use Rattle.vm_running.specs.Leaves.{LeavesCall};
+
+use arena_heap::{Arena, Constants};
+use bc_library::Library;
+use bc_rows::{Row, Rows};
+use vm_fetching::PlainOp;
+use vm_frames::Frames;
+use vm_leaving::{raise_again_on, raise_on, return_on};
+use vm_modules::Modules;
+use vm_unwinding::{End, ModuleName};
+
+/// A return or a raise that was fetched for the running call, of this row. It answers how the run ends, if it does. It makes no
+/// visits.
+pub fn leave<C: Constants>(
+    frames: &mut Frames,
+    arena: &mut Arena,
+    consts: &C,
+    library: &Library,
+    rows: &Rows<'_>,
+    modules: &mut Modules,
+    names: &[ModuleName],
+    row: &Row<'_>,
+    op: PlainOp,
+) -> Option<End>
+    requires leaves { LeavesCall op }
+    requires runs { (end : ℕ) × RunsWith (C.text_of consts.now) (C.items_of consts.now) names.now library.now arena.old modules.old frames.old row.now (fetched_plain op end) }
+    requires rows { rows.now ≡ library.now }
+    ensures { (p : Program) (end : ℕ) → p.shelf ≡ library.now
+        → RunsOnBehind p (C.text_of consts.now) (C.items_of consts.now) names.now row.now (fetched_plain op end) arena.old arena.new modules.old modules.new frames.old frames.new result }
+{
+    match op {
+        PlainOp::ReturnValue => return_on(frames, arena, consts, library, rows, modules, names),
+        PlainOp::RaiseLast => raise_again_on(frames, arena, consts, modules, names, row),
+        PlainOp::RaiseObj => raise_on(frames, arena, consts, modules, names, row),
+        PlainOp::LoadConstFalse
+        | PlainOp::LoadConstNone
+        | PlainOp::LoadConstTrue
+        | PlainOp::LoadNull
+        | PlainOp::LoadSubscr
+        | PlainOp::StoreSubscr
+        | PlainOp::DupTop
+        | PlainOp::DupTopTwo
+        | PlainOp::PopTop
+        | PlainOp::RotTwo
+        | PlainOp::RotThree
+        | PlainOp::EndFinally
+        | PlainOp::GetIterStack
+        | PlainOp::StoreMap => unreachable!(),
+    }
+}

@@ -1,0 +1,10 @@
+//! The machine's instructions with what their stops come to, on calls that run a program with its registered modules.
+#![tactic(auto)]
+
+mod imports;
+mod leaving;
+mod values;
+
+pub use imports::import;
+pub use leaving::leave;
+pub use values::operate;

@@ -1,0 +1,117 @@
+//! Instructions on values, and what their stops come to.
+
+ghost use Rattle.std.specs.Prelude.{◌≡◌, ◌≤◌, length};
+ghost use Rattle.bc_library.specs.Shelf.{Shelf};
+ghost use Rattle.vm_fetching.specs.declared.instruction.Instruction.TheVariants as fetched_as;
+ghost use Rattle.vm_states.specs.Means.{Program};
+ghost use Rattle.vm_known.specs.Acting.{RunsOver};
+ghost use Rattle.vm_leaving.specs.Running.{RunsWith};
+ghost use Rattle.vm_operating.specs.Keeping.{ActsKeeping};
+ghost use Rattle.vm_operating.specs.Named.{AllNamed};
+ghost use Rattle.vm_running.specs.Comes.{ComesOnBehind};
+ghost use Rattle.vm_running.specs.Values.{UsesName, ActsOnValues, LoadsKnown, value_visits};
+
+use arena_heap::{Arena, Constants, StrNo, Value};
+use bc_rows::Row;
+use vm_faults::Stop;
+use vm_fetching::{Fetched, Instruction, NameOp};
+use vm_frames::Frames;
+use vm_leaving::{registered_law, stop_on};
+use vm_modules::Modules;
+use vm_operating::{
+    attribute_on, binary_op, jump_to, load_int, load_object, name_on, number_on, plain_on,
+    unary_op, unwind_jump,
+};
+use vm_unwinding::{End, ModuleName};
+
+/// A text, a name of the running call's module, or an attribute of a value. It makes no visits.
+#[tactic(none)]
+fn name_or_attribute<C: Constants>(
+    frames: &mut Frames,
+    arena: &mut Arena,
+    consts: &C,
+    op: NameOp,
+    name: StrNo,
+    end: u32,
+) -> Result<(), Stop>
+    requires operation { UsesName op }
+    requires named { AllNamed arena.old.objects }
+    requires runs { RunsOver (C.text_of consts.now) (C.items_of consts.now) arena.old frames.old (record { instruction = fetched_as.Name op name; end = end }) }
+    ensures acts { ActsKeeping (C.text_of consts.now) (C.items_of consts.now) (record { instruction = fetched_as.Name op name; end = end }) 0 arena.old arena.new frames.old frames.new result }
+{
+    match op {
+        NameOp::LoadConstString => name_on(frames, arena, consts, op, name, end),
+        NameOp::LoadName => name_on(frames, arena, consts, op, name, end),
+        NameOp::LoadGlobal => name_on(frames, arena, consts, op, name, end),
+        NameOp::StoreName => name_on(frames, arena, consts, op, name, end),
+        NameOp::StoreGlobal => name_on(frames, arena, consts, op, name, end),
+        NameOp::DeleteName => name_on(frames, arena, consts, op, name, end),
+        NameOp::DeleteGlobal => name_on(frames, arena, consts, op, name, end),
+        NameOp::LoadAttr => attribute_on(frames, arena, consts, op, name, end),
+        NameOp::LoadMethod => attribute_on(frames, arena, consts, op, name, end),
+        NameOp::StoreAttr => attribute_on(frames, arena, consts, op, name, end),
+        NameOp::ImportFrom => attribute_on(frames, arena, consts, op, name, end),
+        NameOp::ImportName => unreachable!(),
+    }
+}
+
+/// An instruction on values, by its form.
+#[tactic(none)]
+fn act_on<C: Constants>(
+    frames: &mut Frames,
+    arena: &mut Arena,
+    consts: &C,
+    items: &mut [Value],
+    fetched: Fetched,
+) -> Result<(), Stop>
+    requires values { ActsOnValues fetched.instruction }
+    requires places { frames.old.slot_room ≤ length items.old }
+    requires named { AllNamed arena.old.objects }
+    requires known { LoadsKnown (C.text_of consts.now) (C.items_of consts.now) arena.old.objects fetched.instruction }
+    requires runs { RunsOver (C.text_of consts.now) (C.items_of consts.now) arena.old frames.old fetched }
+    ensures acts { ActsKeeping (C.text_of consts.now) (C.items_of consts.now) fetched (value_visits (C.text_of consts.now) (C.items_of consts.now) arena.old frames.old.calls fetched.instruction) arena.old arena.new frames.old frames.new result }
+{
+    let end = fetched.end;
+    match fetched.instruction {
+        Instruction::Plain(op) => plain_on(frames, arena, consts, op, end),
+        Instruction::Number(op, n) => number_on(frames, arena, consts, items, op, n, end),
+        Instruction::Int(n) => load_int(frames, arena, consts, n, end),
+        Instruction::Unary(number) => unary_op(frames, arena, consts, number, end),
+        Instruction::Binary(number) => binary_op(frames, arena, consts, number, end),
+        Instruction::Name(op, name) => name_or_attribute(frames, arena, consts, op, name, end),
+        Instruction::Object(v) => load_object(frames, arena, consts, v, end),
+        Instruction::Jump(op, target) => jump_to(frames, arena, consts, op, target, end),
+        Instruction::Unwind { target, byte } => {
+            unwind_jump(frames, arena, consts, target, byte, end)
+        }
+    }
+}
+
+/// An instruction on values that was fetched for the running call, of this row; where it stops, the stop is raised at its place.
+/// It answers how the run ends, if it does. Places are lent for as many items as a call has slots. The visits of an operator are
+/// those of `vm_operating::visits_binary_op`; no other instruction makes any.
+#[tactic(none)]
+pub fn operate<C: Constants>(
+    frames: &mut Frames,
+    arena: &mut Arena,
+    consts: &C,
+    modules: &mut Modules,
+    names: &[ModuleName],
+    items: &mut [Value],
+    row: &Row<'_>,
+    fetched: Fetched,
+) -> Option<End>
+    requires values { ActsOnValues fetched.instruction }
+    requires places { frames.old.slot_room ≤ length items.old }
+    requires named { AllNamed arena.old.objects }
+    requires known { LoadsKnown (C.text_of consts.now) (C.items_of consts.now) arena.old.objects fetched.instruction }
+    requires runs { (shelf : Shelf) × RunsWith (C.text_of consts.now) (C.items_of consts.now) names.now shelf arena.old modules.old frames.old row.now fetched }
+    ensures { (p : Program)
+        → ComesOnBehind p (C.text_of consts.now) (C.items_of consts.now) names.now row.now fetched (value_visits (C.text_of consts.now) (C.items_of consts.now) arena.old frames.old.calls fetched.instruction) arena.old arena.new modules.old modules.new frames.old frames.new result }
+{
+    registered_law();
+    match act_on(frames, arena, consts, items, fetched) {
+        Ok(()) => None,
+        Err(stop) => stop_on(frames, arena, consts, modules, names, row, stop),
+    }
+}
