@@ -1,5 +1,5 @@
 -- Where an instruction comes to that makes a function, and its stop.
-use Rattle.std.proofs.Common.{◌≡◌, ℕ, List, Option, None, Ok, Err, sym, subst}
+use Rattle.std.proofs.Common.{◌≡◌, ℕ, List, Option, None, Ok, Err, sym, subst, ap, ◌∙◌}
 use Rattle.mpy_base.specs.World.{Heap}
 use Rattle.arena_heap.specs.declared.value.Value.{Value}
 use Rattle.arena_heap.specs.declared.value.StrNo.{StrNo}
@@ -7,6 +7,7 @@ use Rattle.arena_heap.specs.declared.value.ConstNo.{ConstNo}
 use Rattle.bc_library.specs.Constants.{items_at, text_at}
 use Rattle.bc_library.specs.Shelf.{Shelf}
 use Rattle.bc_rows.specs.declared.row.Row.{Row}
+use Rattle.vm_walks.specs.Plain.{plain_name}
 use Rattle.vm_faults.specs.declared.stop.Stop.{Stop}
 use Rattle.vm_faults.specs.Outcomes.{IsKnownAnswer}
 use Rattle.vm_modules.specs.Registry.{Registry}
@@ -20,6 +21,7 @@ use Rattle.vm_known.specs.State.{IsState}
 use Rattle.vm_known.specs.Acting.{Tells, Acts}
 use Rattle.vm_leaving.specs.Modules.{AreNames, AreRegistered}
 use Rattle.vm_leaving.specs.Running.{RunsAt, RunsWith, StopsOn}
+use Rattle.vm_calling.specs.Names as numbers
 use Rattle.vm_calling.specs.Runs.{RunsIn, ActsIn}
 use Rattle.vm_running.specs.Comes.{ComesOn}
 use Rattle.vm_running.proofs.Landing.{RegisteredLaw, lands, stops}
@@ -30,6 +32,19 @@ module _ (shelf : Shelf) (names : List ModuleName) (row : Row) (fetched : Fetche
 
   pub within : Runs → RunsIn shelf before old fetched
   within h = record { program = h.runs.program; row = row; means = h.runs.means; shelf_is = h.shelf_is; state = h.runs.state; ready = h.runs.ready }
+
+  -- the names have the numbers of their texts
+  pub numbered : Runs → numbers.AreNames shelf names
+  numbered h =
+      let p = h.runs.program in
+      let constants = h.runs.means.constants in
+      let same : (n : ℕ) → plain_name p.tables.texts p.tables.tuples n ≡ plain_name (text_at p.shelf) (items_at p.shelf) n =
+      λ n. ap (λ (t : StrNo → Option (List ℕ)). plain_name t p.tables.tuples n) constants.texts ∙ ap (λ (u : ConstNo → Option (List Value)). plain_name (text_at p.shelf) u n) constants.tuples in
+      subst (λ (z : Shelf). numbers.AreNames z names) h.shelf_is
+      (record {
+        many = h.runs.named.as_many;
+        named = λ i number n is held. sym (same number.name) ∙ (sym (h.runs.named.names_are i number is) ∙ (h.runs.means.modules i n held).name_is);
+      })
 
   pub made : RegisteredLaw → ActsIn shelf fetched 0 before between old mid (Ok tt)
       → (p : Program) → p.shelf ≡ shelf → Means p → Tells (text_at shelf) (items_at shelf) p → AreNames p names → IsState p before.objects old → AreRegistered p before earlier → IsReady p old row fetched

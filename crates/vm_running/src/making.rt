@@ -6,7 +6,6 @@ ghost use Rattle.vm_fetching.specs.declared.instruction.Instruction.TheVariants 
 ghost use Rattle.vm_fetching.specs.declared.operations.NumberOp.TheVariants as number_ops;
 ghost use Rattle.vm_states.specs.Means.{Program};
 ghost use Rattle.vm_leaving.specs.Running.{RunsWith};
-ghost use Rattle.vm_calling.specs.Names.{AreNames};
 ghost use Rattle.vm_running.specs.Comes.{ComesOnBehind};
 
 use arena_heap::Arena;
@@ -34,7 +33,6 @@ pub fn make(
 ) -> Option<End>
     requires runs { RunsWith (text_at library.now) (items_at library.now) names.now library.now arena.old modules.old frames.old row.now (record { instruction = fetched_as.Number number_ops.MakeFunction number; end = end }) }
     requires rows { rows.now ≡ library.now }
-    requires names { AreNames library.now names.now }
     ensures { (p : Program) → p.shelf ≡ library.now
         → ComesOnBehind p (text_at library.now) (items_at library.now) names.now row.now (record { instruction = fetched_as.Number number_ops.MakeFunction number; end = end }) 0 arena.old arena.new modules.old modules.new frames.old frames.new result }
 {
@@ -62,7 +60,6 @@ pub fn make_with(
 ) -> Option<End>
     requires runs { RunsWith (text_at library.now) (items_at library.now) names.now library.now arena.old modules.old frames.old row.now (record { instruction = fetched_as.Number number_ops.MakeFunctionDefargs number; end = end }) }
     requires rows { rows.now ≡ library.now }
-    requires names { AreNames library.now names.now }
     ensures { (p : Program) → p.shelf ≡ library.now
         → ComesOnBehind p (text_at library.now) (items_at library.now) names.now row.now (record { instruction = fetched_as.Number number_ops.MakeFunctionDefargs number; end = end }) 0 arena.old arena.new modules.old modules.new frames.old frames.new result }
 {
