@@ -1,3 +1,4 @@
 mod Forms
 mod Landing
 mod Imported
+mod Made

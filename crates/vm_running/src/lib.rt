@@ -3,8 +3,10 @@
 
 mod imports;
 mod leaving;
+mod making;
 mod values;
 
 pub use imports::import;
 pub use leaving::leave;
+pub use making::{make, make_with};
 pub use values::operate;

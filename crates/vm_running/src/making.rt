@@ -1,0 +1,71 @@
+//! Functions that are made, and what their stops come to.
+
+ghost use Rattle.std.specs.Prelude.{◌≡◌, ℕ};
+ghost use Rattle.bc_library.specs.Constants.{items_at, text_at};
+ghost use Rattle.vm_fetching.specs.declared.instruction.Instruction.TheVariants as fetched_as;
+ghost use Rattle.vm_fetching.specs.declared.operations.NumberOp.TheVariants as number_ops;
+ghost use Rattle.vm_states.specs.Means.{Program};
+ghost use Rattle.vm_leaving.specs.Running.{RunsWith};
+ghost use Rattle.vm_running.specs.Comes.{ComesOnBehind};
+
+use arena_heap::Arena;
+use bc_library::Library;
+use bc_rows::{Row, Rows};
+use vm_calling::{make_function, make_function_with};
+use vm_frames::Frames;
+use vm_leaving::{registered_law, stop_on};
+use vm_modules::Modules;
+use vm_unwinding::{End, ModuleName};
+
+/// MAKE_FUNCTION of the child with the number, that was fetched for the running call, of this row: a function without defaults.
+/// Where it stops, the stop is raised at its place. It answers how the run ends, if it does. It makes no visits.
+#[tactic(none)]
+pub fn make(
+    frames: &mut Frames,
+    arena: &mut Arena,
+    library: &Library,
+    rows: &Rows<'_>,
+    modules: &mut Modules,
+    names: &[ModuleName],
+    row: &Row<'_>,
+    number: u32,
+    end: u32,
+) -> Option<End>
+    requires runs { RunsWith (text_at library.now) (items_at library.now) names.now library.now arena.old modules.old frames.old row.now (record { instruction = fetched_as.Number number_ops.MakeFunction number; end = end }) }
+    requires rows { rows.now ≡ library.now }
+    ensures { (p : Program) → p.shelf ≡ library.now
+        → ComesOnBehind p (text_at library.now) (items_at library.now) names.now row.now (record { instruction = fetched_as.Number number_ops.MakeFunction number; end = end }) 0 arena.old arena.new modules.old modules.new frames.old frames.new result }
+{
+    registered_law();
+    match make_function(frames, arena, library, rows, names, number, end) {
+        Ok(()) => None,
+        Err(stop) => stop_on(frames, arena, library, modules, names, row, stop),
+    }
+}
+
+/// MAKE_FUNCTION_DEFARGS of the child with the number, that was fetched for the running call, of this row: a function with the
+/// defaults that lie on top. Where it stops, the stop is raised at its place. It answers how the run ends, if it does. It makes no
+/// visits.
+#[tactic(none)]
+pub fn make_with(
+    frames: &mut Frames,
+    arena: &mut Arena,
+    library: &Library,
+    rows: &Rows<'_>,
+    modules: &mut Modules,
+    names: &[ModuleName],
+    row: &Row<'_>,
+    number: u32,
+    end: u32,
+) -> Option<End>
+    requires runs { RunsWith (text_at library.now) (items_at library.now) names.now library.now arena.old modules.old frames.old row.now (record { instruction = fetched_as.Number number_ops.MakeFunctionDefargs number; end = end }) }
+    requires rows { rows.now ≡ library.now }
+    ensures { (p : Program) → p.shelf ≡ library.now
+        → ComesOnBehind p (text_at library.now) (items_at library.now) names.now row.now (record { instruction = fetched_as.Number number_ops.MakeFunctionDefargs number; end = end }) 0 arena.old arena.new modules.old modules.new frames.old frames.new result }
+{
+    registered_law();
+    match make_function_with(frames, arena, library, rows, names, number, end) {
+        Ok(()) => None,
+        Err(stop) => stop_on(frames, arena, library, modules, names, row, stop),
+    }
+}
