@@ -1,12 +1,10 @@
 -- Instructions that act on values and frames, and leave the running call running. The others make functions, call, raise, return,
 -- end a finally or import a module.
 use Rattle.std.specs.Prelude.{ℕ, List, Option}
-use Rattle.mpy_base.specs.World.{Heap, Objects}
+use Rattle.mpy_base.specs.World.{Heap}
 use Rattle.arena_heap.specs.declared.value.Value.{Value}
-use Rattle.arena_heap.specs.declared.value.Value.TheVariants as values
 use Rattle.arena_heap.specs.declared.value.StrNo.{StrNo}
 use Rattle.arena_heap.specs.declared.value.ConstNo.{ConstNo}
-use Rattle.vm_faults.specs.Faults.{IsKnown}
 use Rattle.vm_frames.specs.Calls.{Call}
 use Rattle.vm_fetching.specs.declared.instruction.Instruction.{Instruction}
 use Rattle.vm_fetching.specs.declared.instruction.Instruction.TheVariants as fetched
@@ -40,18 +38,6 @@ ActsOnValues (fetched.Name op text) = UsesName op
 ActsOnValues (fetched.Object v) = Unit {0}
 ActsOnValues (fetched.Jump op target) = Unit {0}
 ActsOnValues (fetched.Unwind target byte) = Unit {0}
-
--- the constant that it loads, if it loads one, is known over the objects
-abbrev pub LoadsKnown : (StrNo → Option (List ℕ)) → (ConstNo → Option (List Value)) → Objects Value ℕ → Instruction → Type 0
-LoadsKnown texts tuples objects (fetched.Int z) = IsKnown texts tuples objects (values.Int z)
-LoadsKnown texts tuples objects (fetched.Object v) = IsKnown texts tuples objects v
-LoadsKnown texts tuples objects (fetched.Plain op) = Unit {0}
-LoadsKnown texts tuples objects (fetched.Number op n) = Unit {0}
-LoadsKnown texts tuples objects (fetched.Unary number) = Unit {0}
-LoadsKnown texts tuples objects (fetched.Binary number) = Unit {0}
-LoadsKnown texts tuples objects (fetched.Name op text) = Unit {0}
-LoadsKnown texts tuples objects (fetched.Jump op target) = Unit {0}
-LoadsKnown texts tuples objects (fetched.Unwind target byte) = Unit {0}
 
 -- its visits over the heap: those of an operator with two operands, and no others
 abbrev pub value_visits : (StrNo → Option (List ℕ)) → (ConstNo → Option (List Value)) → Heap Value ℕ → List Call → Instruction → ℕ

@@ -9,7 +9,7 @@ ghost use Rattle.vm_leaving.specs.Running.{RunsWith};
 ghost use Rattle.vm_operating.specs.Keeping.{ActsKeeping};
 ghost use Rattle.vm_operating.specs.Named.{AllNamed};
 ghost use Rattle.vm_running.specs.Comes.{ComesOnBehind};
-ghost use Rattle.vm_running.specs.Values.{UsesName, ActsOnValues, LoadsKnown, value_visits};
+ghost use Rattle.vm_running.specs.Values.{UsesName, ActsOnValues, value_visits};
 
 use arena_heap::{Arena, Constants, StrNo, Value};
 use bc_rows::Row;
@@ -67,7 +67,6 @@ fn act_on<C: Constants>(
     requires values { ActsOnValues fetched.instruction }
     requires places { frames.old.slot_room ≤ length items.old }
     requires named { AllNamed arena.old.objects }
-    requires known { LoadsKnown (C.text_of consts.now) (C.items_of consts.now) arena.old.objects fetched.instruction }
     requires runs { RunsOver (C.text_of consts.now) (C.items_of consts.now) arena.old frames.old fetched }
     ensures acts { ActsKeeping (C.text_of consts.now) (C.items_of consts.now) fetched (value_visits (C.text_of consts.now) (C.items_of consts.now) arena.old frames.old.calls fetched.instruction) arena.old arena.new frames.old frames.new result }
 {
@@ -104,7 +103,6 @@ pub fn operate<C: Constants>(
     requires values { ActsOnValues fetched.instruction }
     requires places { frames.old.slot_room ≤ length items.old }
     requires named { AllNamed arena.old.objects }
-    requires known { LoadsKnown (C.text_of consts.now) (C.items_of consts.now) arena.old.objects fetched.instruction }
     requires runs { (shelf : Shelf) × RunsWith (C.text_of consts.now) (C.items_of consts.now) names.now shelf arena.old modules.old frames.old row.now fetched }
     ensures { (p : Program)
         → ComesOnBehind p (C.text_of consts.now) (C.items_of consts.now) names.now row.now fetched (value_visits (C.text_of consts.now) (C.items_of consts.now) arena.old frames.old.calls fetched.instruction) arena.old arena.new modules.old modules.new frames.old frames.new result }

@@ -23,7 +23,7 @@ pub stop_on-requires-clause-stop : goal.stop_on-requires-clause-stop
 stop_on-requires-clause-stop c = make_known c.args.library.now c.args.names.now c.args.row.now (record { instruction = fetched.Number number_ops.MakeFunctionDefargs c.args.number; end = c.args.end }) c.args.arena.now c.make_function_with.new.arena c.args.modules.now c.args.frames.now c.make_function_with.new.frames c.in-Err.stop (subst (λ (r : Result (Unit {0}) Stop). ActsIn c.args.library.now (record { instruction = fetched.Number number_ops.MakeFunctionDefargs c.args.number; end = c.args.end }) 0 c.args.arena.now c.make_function_with.new.arena c.args.frames.now c.make_function_with.new.frames r) c.in-Err.is c.make_function_with.ensures.acts) (subst (λ (r : Result (Unit {0}) Stop). OnErr r (c.make_function_with.new.frames ≡ c.args.frames.now)) c.in-Err.is c.make_function_with.ensures.stays) c.requires.runs
 
 pub returns-in-Ok : goal.returns-in-Ok
-returns-in-Ok c = made c.args.library.now c.args.names.now c.args.row.now (record { instruction = fetched.Number number_ops.MakeFunctionDefargs c.args.number; end = c.args.end }) c.args.arena.now c.make_function_with.new.arena c.args.modules.now c.args.frames.now c.make_function_with.new.frames c.registered_law.ensures (subst (λ (r : Result (Unit {0}) Stop). ActsIn c.args.library.now (record { instruction = fetched.Number number_ops.MakeFunctionDefargs c.args.number; end = c.args.end }) 0 c.args.arena.now c.make_function_with.new.arena c.args.frames.now c.make_function_with.new.frames r) c.in-Ok.is c.make_function_with.ensures.acts)
+returns-in-Ok c = made c.args.library.now c.args.names.now c.args.row.now (record { instruction = fetched.Number number_ops.MakeFunctionDefargs c.args.number; end = c.args.end }) c.args.arena.now c.make_function_with.new.arena c.args.modules.now c.args.frames.now c.make_function_with.new.frames c.registered_law.ensures.stays (subst (λ (r : Result (Unit {0}) Stop). ActsIn c.args.library.now (record { instruction = fetched.Number number_ops.MakeFunctionDefargs c.args.number; end = c.args.end }) 0 c.args.arena.now c.make_function_with.new.arena c.args.frames.now c.make_function_with.new.frames r) c.in-Ok.is c.make_function_with.ensures.acts)
 
 pub returns-in-Err : goal.returns-in-Err
 returns-in-Err c = make_comes c.args.library.now c.args.names.now c.args.row.now (record { instruction = fetched.Number number_ops.MakeFunctionDefargs c.args.number; end = c.args.end }) c.args.arena.now c.make_function_with.new.arena c.args.modules.now c.args.frames.now c.make_function_with.new.frames c.in-Err.stop (subst (λ (r : Result (Unit {0}) Stop). ActsIn c.args.library.now (record { instruction = fetched.Number number_ops.MakeFunctionDefargs c.args.number; end = c.args.end }) 0 c.args.arena.now c.make_function_with.new.arena c.args.frames.now c.make_function_with.new.frames r) c.in-Err.is c.make_function_with.ensures.acts) (subst (λ (r : Result (Unit {0}) Stop). OnErr r (c.make_function_with.new.frames ≡ c.args.frames.now)) c.in-Err.is c.make_function_with.ensures.stays) c.stop_on.new.arena c.stop_on.new.modules c.stop_on.new.frames c.stop_on.result c.stop_on.ensures

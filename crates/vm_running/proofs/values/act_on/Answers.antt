@@ -1,11 +1,9 @@
 use Rattle.std.proofs.Common.{ℤ, sym, subst, rules, SFits, w32}
 use Rattle.std.proofs.lemmas.Int.{to_z-of_z}
-use Rattle.arena_heap.specs.declared.value.Value.TheVariants as values
-use Rattle.vm_faults.specs.Faults.{IsKnown}
 use Rattle.vm_fetching.specs.declared.instruction.Instruction.TheVariants as fetched
 use Rattle.vm_known.specs.Acting.{RunsOver}
 use Rattle.vm_operating.specs.Keeping.{ActsKeeping}
-use Rattle.vm_running.specs.Values.{ActsOnValues, LoadsKnown}
+use Rattle.vm_running.specs.Values.{ActsOnValues}
 use Rattle.vm_running.proofs.Forms.{runs_at, acts_at}
 use Rattle.vm_running.proofs.values.act_on.Goals as goal
 
@@ -32,17 +30,13 @@ pub returns-in-Number : goal.returns-in-Number
 returns-in-Number g c =
     record { acts = acts_at (g.C.Constants.text_of c.args.consts.now) (g.C.Constants.items_of c.args.consts.now) c.args.fetched (fetched.Number c.in-Number.op c.in-Number.n) c.in-Number.is c.args.arena.now c.number_on.new.arena c.args.frames.now c.number_on.new.frames c.number_on.result c.number_on.ensures.acts }
 
-pub load_int-requires-clause-known : goal.load_int-requires-clause-known
-load_int-requires-clause-known g c =
+pub load_int-requires : goal.load_int-requires
+load_int-requires g c =
     let fits : SFits w32 c.in-Int.n = search rules in
-    subst (λ (z : ℤ). IsKnown (g.C.Constants.text_of c.args.consts.now) (g.C.Constants.items_of c.args.consts.now) c.args.arena.now.objects (values.Int z)) (sym (to_z-of_z w32 c.in-Int.n fits))
-    (subst (LoadsKnown (g.C.Constants.text_of c.args.consts.now) (g.C.Constants.items_of c.args.consts.now) c.args.arena.now.objects) c.in-Int.is c.requires.known)
-
-pub load_int-requires-clause-runs : goal.load_int-requires-clause-runs
-load_int-requires-clause-runs g c =
-    let fits : SFits w32 c.in-Int.n = search rules in
-    subst (λ (z : ℤ). RunsOver (g.C.Constants.text_of c.args.consts.now) (g.C.Constants.items_of c.args.consts.now) c.args.arena.now c.args.frames.now (record { instruction = fetched.Int z; end = c.args.fetched.end })) (sym (to_z-of_z w32 c.in-Int.n fits))
-    (runs_at (g.C.Constants.text_of c.args.consts.now) (g.C.Constants.items_of c.args.consts.now) c.args.fetched (fetched.Int c.in-Int.n) c.in-Int.is c.args.arena.now c.args.frames.now c.requires.runs)
+    record {
+      runs = subst (λ (z : ℤ). RunsOver (g.C.Constants.text_of c.args.consts.now) (g.C.Constants.items_of c.args.consts.now) c.args.arena.now c.args.frames.now (record { instruction = fetched.Int z; end = c.args.fetched.end })) (sym (to_z-of_z w32 c.in-Int.n fits))
+          (runs_at (g.C.Constants.text_of c.args.consts.now) (g.C.Constants.items_of c.args.consts.now) c.args.fetched (fetched.Int c.in-Int.n) c.in-Int.is c.args.arena.now c.args.frames.now c.requires.runs);
+    }
 
 pub returns-in-Int : goal.returns-in-Int
 returns-in-Int g c =
@@ -80,11 +74,8 @@ pub returns-in-Name : goal.returns-in-Name
 returns-in-Name g c =
     record { acts = acts_at (g.C.Constants.text_of c.args.consts.now) (g.C.Constants.items_of c.args.consts.now) c.args.fetched (fetched.Name c.in-Name.op c.in-Name.name) c.in-Name.is c.args.arena.now c.name_or_attribute.new.arena c.args.frames.now c.name_or_attribute.new.frames c.name_or_attribute.result c.name_or_attribute.ensures.acts }
 
-pub load_object-requires-clause-known : goal.load_object-requires-clause-known
-load_object-requires-clause-known g c = subst (LoadsKnown (g.C.Constants.text_of c.args.consts.now) (g.C.Constants.items_of c.args.consts.now) c.args.arena.now.objects) c.in-Object.is c.requires.known
-
-pub load_object-requires-clause-runs : goal.load_object-requires-clause-runs
-load_object-requires-clause-runs g c = runs_at (g.C.Constants.text_of c.args.consts.now) (g.C.Constants.items_of c.args.consts.now) c.args.fetched (fetched.Object c.in-Object.v) c.in-Object.is c.args.arena.now c.args.frames.now c.requires.runs
+pub load_object-requires : goal.load_object-requires
+load_object-requires g c = record { runs = runs_at (g.C.Constants.text_of c.args.consts.now) (g.C.Constants.items_of c.args.consts.now) c.args.fetched (fetched.Object c.in-Object.v) c.in-Object.is c.args.arena.now c.args.frames.now c.requires.runs }
 
 pub returns-in-Object : goal.returns-in-Object
 returns-in-Object g c =

@@ -14,9 +14,6 @@ act_on-requires-clause-places g c = c.requires.places
 pub act_on-requires-clause-named : goal.act_on-requires-clause-named
 act_on-requires-clause-named g c = c.requires.named
 
-pub act_on-requires-clause-known : goal.act_on-requires-clause-known
-act_on-requires-clause-known g c = c.requires.known
-
 pub act_on-requires-clause-runs : goal.act_on-requires-clause-runs
 act_on-requires-clause-runs g c = over (g.C.Constants.text_of c.args.consts.now) (g.C.Constants.items_of c.args.consts.now) c.args.names.now c.args.row.now c.args.fetched 0 c.args.arena.now c.args.arena.now c.args.frames.now c.requires.runs.1.runs
 
@@ -31,7 +28,7 @@ stop_on-requires-clause-stop g c =
 pub returns-in-Ok : goal.returns-in-Ok
 returns-in-Ok g c p means tells named state registered r =
     let a = (subst (λ (r : Result (Unit {0}) Stop). ActsKeeping (g.C.Constants.text_of c.args.consts.now) (g.C.Constants.items_of c.args.consts.now) c.args.fetched (value_visits (g.C.Constants.text_of c.args.consts.now) (g.C.Constants.items_of c.args.consts.now) c.args.arena.now c.args.frames.now.calls c.args.fetched.instruction) c.args.arena.now c.act_on.new.arena c.args.frames.now c.act_on.new.frames r) c.in-Ok.is c.act_on.ensures.acts).acts p c.args.row.now means tells state r in
-    lands p c.args.row.now c.args.fetched (value_visits (g.C.Constants.text_of c.args.consts.now) (g.C.Constants.items_of c.args.consts.now) c.args.arena.now c.args.frames.now.calls c.args.fetched.instruction) c.args.arena.now c.act_on.new.arena c.args.modules.now c.args.frames.now state registered r c.registered_law.ensures c.act_on.new.frames a
+    lands p c.args.row.now c.args.fetched (value_visits (g.C.Constants.text_of c.args.consts.now) (g.C.Constants.items_of c.args.consts.now) c.args.arena.now c.args.frames.now.calls c.args.fetched.instruction) c.args.arena.now c.act_on.new.arena c.args.modules.now c.args.frames.now state registered r c.registered_law.ensures.stays c.act_on.new.frames a
 
 pub returns-in-Err : goal.returns-in-Err
 returns-in-Err g c =
