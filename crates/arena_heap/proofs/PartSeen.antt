@@ -1,8 +1,8 @@
 -- From the heads of functions, exceptions, bound methods, ranges and modules to what contracts see of them.
-use Rattle.std.proofs.Common.{ℕ, suc, ◌+◌, ◌<◌, ◌≤◌, ◌≡◌, List, [], ◌∷◌, length, Option, Some, get_or, set, refl, sym, ◌∙◌, ap, subst, arith, le_refl, get_or-set_same, get_or-set_other}
+use Rattle.std.proofs.Common.{ℕ, suc, ◌+◌, ◌<◌, ◌≤◌, ◌≡◌, List, [], ◌∷◌, length, Option, Some, None, get_or, set, refl, sym, ◌∙◌, ap, subst, arith, le_refl, get_or-set_same, get_or-set_other}
 use Rattle.std.proofs.Math.Path.{ap₂}
 use Rattle.std.specs.List.{All}
-use Rattle.std.specs.Option.{IsSome}
+use Rattle.std.specs.Option.{IfSome, option_map}
 use Rattle.std.specs.Vec.{vec_capacity}
 use Rattle.std.proofs.lemmas.List.{get_or_default}
 use Rattle.mpy_base.specs.declared.kind.Kind.{Kind}
@@ -13,7 +13,7 @@ use Rattle.arena_heap.specs.declared.value.Value.TheVariants as values
 use Rattle.arena_heap.specs.declared.value.DictNo.{DictNo}
 use Rattle.arena_heap.specs.declared.cells.Cell.{Cell}
 use Rattle.arena_heap.specs.declared.cells.Cell.TheVariants as variants
-use Rattle.mpy_base.specs.World.{Heap, FunctionObject, ExceptionObject, MethodObject, ModuleObject, ADict, AnException, AModule, IsA, object, kind_of, names_of, placed, named, with_place, with_names}
+use Rattle.mpy_base.specs.World.{Heap, FunctionObject, ExceptionObject, MethodObject, ModuleObject, ADict, AnException, AModule, IsA, object, placed, named, with_place, with_names}
 use Rattle.arena_heap.specs.Values.{ArenaObject, Leads, held, IsFormed}
 use Rattle.arena_heap.specs.Cells.{blank, value_of, dict_number, dict_in, place_in, kind_at, heads, first, size, part, decode, read, heap_of, In, Holds, IsArena}
 use Rattle.arena_heap.proofs.Regions.{length-part, get_or-part}
@@ -51,21 +51,11 @@ module_cell _ q = absurd cc
 pub module_head : (a : Inside) {h : Heap Value ℕ} → seen a ≡ h → (n : ℕ) → IsA h.objects AModule n → (name : ℕ) × (heads a.cells.items n ≡ variants.ModuleHead name)
 module_head a e n is = module_cell (heads a.cells.items n) (seen_head a e AModule n is)
 
--- a module has the names that it has
-pub titled : (o : Option ArenaObject) (name : ℕ) (names : Option ℕ) → o ≡ Some (ModuleObject name names) → o ≡ Some (ModuleObject name (names_of o))
-titled o name names e = e ∙ ap (λ (k : Option ℕ). Some (ModuleObject name k)) (sym (ap names_of e))
-
--- what has names is a module
-pub named_module : (h : Heap Value ℕ) (n : ℕ) → IsSome (names_of (object h.objects n)) → IsA h.objects AModule n
-named_module h n some = of_some (object h.objects n) some
-  where
-    of_some : (o : Option ArenaObject) → IsSome (names_of o) → kind_of o ≡ Some AModule
-    of_some (Some (ModuleObject name names)) q = refl
-    of_some _ q = absurd cc
-
-pub dict_number_in : (c : Cell) → IsSome (dict_in c) → dict_in c ≡ Some (dict_number c)
-dict_number_in (variants.Dict d) q = refl
-dict_number_in _ q = absurd cc
+-- the namespace of a module, where it has one, is a dict
+pub namespace : (a : Inside) {h : Heap Value ℕ} → Invariant a → seen a ≡ h → (n name : ℕ) (names : Option DictNo)
+    → object h.objects n ≡ Some (ModuleObject name (option_map (λ (d : DictNo). d.cell) names)) → IfSome names (λ d. IsA h.objects ADict d.cell)
+namespace a i e n name None is = tt
+namespace a i e n name (Some d) is = ((sound_parts a i e n (ModuleObject name (Some d.cell)) is).0 0 values.None (omega arith)).meets
 
 module _ (a : Inside) {h : Heap Value ℕ} (i : Invariant a) (e : seen a ≡ h) (n : ℕ) where
   pub placed_exception : (is : IsA h.objects AnException n) (file line name : ℕ)
@@ -161,11 +151,9 @@ module _ (a : Inside) {h : Heap Value ℕ} (i : Invariant a) (e : seen a ≡ h) 
       let at_x = read_part a.cells.items n 0 1 (n + 1) x (omega arith) (omega arith) (omega arith) ex in
       seen_object a e n head ∙ (ap (λ (p : Cell). Some (MethodObject (value_of p) method)) at_x ∙ ap (λ (w : Value). Some (MethodObject w method)) (sym e0))
 
-  pub seen_module : {name : ℕ} (x : Cell) (names : ℕ) → heads a.cells.items n ≡ variants.ModuleHead name
-      → x ≡ get_or a.cells.items (n + 1) x → names ≡ dict_number x → IsSome (names_of (object h.objects n)) → object h.objects n ≡ Some (ModuleObject name (Some names))
-  seen_module {name} x names head ex e0 some =
+  pub seen_module : {name : ℕ} (x : Cell) (names : Option ℕ) → heads a.cells.items n ≡ variants.ModuleHead name
+      → x ≡ get_or a.cells.items (n + 1) x → names ≡ dict_in x → object h.objects n ≡ Some (ModuleObject name names)
+  seen_module {name} x names head ex e0 =
       let inside = behind a i n (variants.ModuleHead name) head in
       let at_x = read_part a.cells.items n 0 1 (n + 1) x (omega arith) (omega arith) (omega arith) ex in
-      let whole : object h.objects n ≡ Some (ModuleObject name (dict_in x)) = seen_object a e n head ∙ ap (λ (p : Cell). Some (ModuleObject name (dict_in p))) at_x in
-      let there : IsSome (dict_in x) = subst (λ (o : Option ArenaObject). IsSome (names_of o)) whole some in
-      whole ∙ (ap (λ (o : Option ℕ). Some (ModuleObject name o)) (dict_number_in x there) ∙ ap (λ (k : ℕ). Some (ModuleObject name (Some k))) (sym e0))
+      seen_object a e n head ∙ (ap (λ (p : Cell). Some (ModuleObject name (dict_in p))) at_x ∙ ap (λ (k : Option ℕ). Some (ModuleObject name k)) (sym e0))

@@ -1,5 +1,5 @@
 -- The rooms of an arena's lists and dicts, and what is left of the arena.
-use Rattle.std.proofs.Common.{ℕ, ◌^◌, ◌<◌, ◌≡◌, List, length, map, take, sym, subst, arith}
+use Rattle.std.proofs.Common.{ℕ, ◌^◌, ◌<◌, ◌≡◌, List, take, sym, subst, arith}
 use Rattle.std.proofs.lemmas.List.FromFn.{length-map-range_with_len}
 use Rattle.std.proofs.lemmas.List.{length-map, length-take}
 use Rattle.arena_heap.specs.declared.arena.Arena.TheInside.{Inside}

@@ -1,7 +1,7 @@
 //! What a cell of an arena holds.
 
-ghost use Rattle.std.specs.Prelude.{◌≡◌};
-ghost use Rattle.arena_heap.specs.Cells.{cell_of, value_of, dict_number, place_in};
+ghost use Rattle.std.specs.Prelude.{◌≡◌, option_map};
+ghost use Rattle.arena_heap.specs.Cells.{cell_of, value_of, dict_number, dict_in, place_in};
 
 use crate::value::{
     ConstNo, DictNo, ExcNo, FunNo, ListNo, MethodNo, ModuleNo, RangeNo, StrNo, TextNo, TupleNo,
@@ -119,6 +119,16 @@ impl Cell {
         match self {
             Cell::Dict(d) => d,
             _ => DictNo { cell: 0 },
+        }
+    }
+
+    /// The dict that the cell leads to, if it does.
+    pub(crate) fn names(self) -> Option<DictNo>
+        ensures { option_map (λ names. names.cell) result ≡ dict_in self }
+    {
+        match self {
+            Cell::Dict(d) => Some(d),
+            _ => None,
         }
     }
 

@@ -20,8 +20,7 @@ pub use lists::{
     list_append, list_at, list_insert, list_len, list_pop, list_set, put_in_list, reserve_list,
 };
 pub use parts::{
-    exc_parts, exc_place, fun_parts, method_parts, module_names, module_parts, module_title,
-    range_parts,
+    exc_parts, exc_place, fun_parts, method_parts, module_names, module_parts, range_parts,
 };
 pub use texts::{made_text, text_fill};
 pub use tuples::{tuple_at, tuple_fill, tuple_len};

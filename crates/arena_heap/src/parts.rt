@@ -1,7 +1,7 @@
 //! The parts of functions, exceptions, bound methods, ranges and modules.
 
-ghost use Rattle.std.specs.Prelude.{◌≡◌, ◌≢◌, pos, Some, IsSome};
-ghost use Rattle.mpy_base.specs.World.{FunctionObject, ExceptionObject, MethodObject, RangeObject, ModuleObject, ADict, AFunction, AnException, AMethod, ARange, AModule, IsA, Later, object, names_of, with_place, with_names};
+ghost use Rattle.std.specs.Prelude.{◌≡◌, ◌≢◌, pos, Some, IfSome, option_map};
+ghost use Rattle.mpy_base.specs.World.{FunctionObject, ExceptionObject, MethodObject, RangeObject, ModuleObject, ADict, AFunction, AnException, AMethod, ARange, AModule, IsA, Later, object, with_place, with_names};
 ghost use Rattle.arena_heap.specs.Values.{Leads, IsSmall, IsTuple, IsDefaults, IsMethodOf};
 
 use crate::arena::Arena;
@@ -61,23 +61,15 @@ pub fn range_parts(arena: &Arena, r: RangeNo) -> (i32, i32, i32)
     range_head(&arena.cells, r.cell)
 }
 
-/// The name of a module and its namespace, which has to be set.
-pub fn module_parts(arena: &Arena, m: ModuleNo) -> (u32, DictNo)
-    requires { IsSome (names_of (object arena.now.objects m.cell)) }
-    ensures parts { object arena.now.objects m.cell ≡ Some (ModuleObject result.0 (Some result.1.cell)) }
-    ensures names { IsA arena.now.objects ADict result.1.cell }
+/// The name of a module, and its namespace where one is set.
+pub fn module_parts(arena: &Arena, m: ModuleNo) -> (u32, Option<DictNo>)
+    requires { IsA arena.now.objects AModule m.cell }
+    ensures parts { object arena.now.objects m.cell ≡ Some (ModuleObject result.0 (option_map (λ names. names.cell) result.1)) }
+    ensures names { IfSome result.1 (λ names. IsA arena.now.objects ADict names.cell) }
 {
     let name = module_name(&arena.cells, m.cell);
-    let names = arena.cells[m.cell as usize + 1].dict();
+    let names = arena.cells[m.cell as usize + 1].names();
     (name, names)
-}
-
-/// The name of a module, whether its namespace is set or not.
-pub fn module_title(arena: &Arena, m: ModuleNo) -> u32
-    requires { IsA arena.now.objects AModule m.cell }
-    ensures { object arena.now.objects m.cell ≡ Some (ModuleObject result (names_of (object arena.now.objects m.cell))) }
-{
-    module_name(&arena.cells, m.cell)
 }
 
 /// Sets the place of an exception: where it was raised last.

@@ -81,6 +81,13 @@ module _ (texts : StrNo → Option (List ℕ)) (tuples : ConstNo → Option (Lis
       ap (λ (o : Option (world.Object Val (List ℕ))). set_in heap (At n) name v o) (object_plain texts tuples h.objects n)
       ∙ ap (λ (o : Option ArenaObject). set_in heap (At n) name v (plain_object texts tuples o)) parts
 
+  -- where none is set
+  pub set_nameless : (n own_name : ℕ) → object h.objects n ≡ Some (ModuleObject own_name None) → set_attr (plain_heap texts tuples h) (At n) name v ≡ no_attribute (plain_heap texts tuples h) (At n) name
+  set_nameless n own_name parts =
+      let heap = plain_heap texts tuples h in
+      ap (λ (o : Option (world.Object Val (List ℕ))). set_in heap (At n) name v o) (object_plain texts tuples h.objects n)
+      ∙ ap (λ (o : Option ArenaObject). set_in heap (At n) name v (plain_object texts tuples o)) parts
+
   other_object : (n : ℕ) (o : Option ArenaObject) → (kind_of o ≡ Some AModule → ⊥) → set_in (plain_heap texts tuples h) (At n) name v (plain_object texts tuples o) ≡ no_attribute (plain_heap texts tuples h) (At n) name
   other_object n None unlike = refl
   other_object n (Some (ListObject items room)) unlike = refl

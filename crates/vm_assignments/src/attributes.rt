@@ -1,7 +1,7 @@
 //! Attributes that are set.
 
 ghost use Rattle.std.specs.Prelude.{IsSome};
-ghost use Rattle.mpy_base.specs.World.{names_of, object};
+ghost use Rattle.mpy_base.specs.World.{AModule, IsA};
 ghost use Rattle.mpy_base.specs.Val.{At};
 ghost use Rattle.arena_heap.specs.Values.{Leads};
 ghost use Rattle.arena_heap.specs.Constants.{IsTold};
@@ -10,13 +10,12 @@ ghost use Rattle.arena_objects.specs.Iterables.{or_nothing};
 ghost use Rattle.py_primitives.specs.Uses.{set_attr as set_attr_of};
 ghost use Rattle.vm_walks.specs.Plain.{plain, plain_heap};
 ghost use Rattle.vm_faults.specs.Outcomes.{IsOutcome};
-ghost use Rattle.vm_operators.specs.Attributes.{IsNamed};
 
 use crate::pairs::put_pair;
 use arena_heap::{Arena, Constants, ModuleNo, StrNo, Value, module_parts};
 use vm_faults::{Fault, Stop, type_of};
 
-/// Sets a name of a module's namespace.
+/// Sets a name of a module's namespace, where one is set.
 fn set_name<C: Constants>(
     arena: &mut Arena,
     consts: &C,
@@ -24,18 +23,24 @@ fn set_name<C: Constants>(
     name: StrNo,
     v: Value,
 ) -> Result<Value, Stop>
-    requires named { IsSome (names_of (object arena.old.objects m.cell)) }
+    requires is_module { IsA arena.old.objects AModule m.cell }
     requires name { IsSome (C.text_of consts.now name) }
     requires leads { Leads arena.old.objects v }
     requires told { IsTold (C.text_of consts.now) (C.items_of consts.now) v }
     requires all_told { AllTold (C.text_of consts.now) (C.items_of consts.now) arena.old.objects }
     ensures { IsOutcome (C.text_of consts.now) (C.items_of consts.now) arena.old arena.new result (set_attr_of (plain_heap (C.text_of consts.now) (C.items_of consts.now) arena.old) (At m.cell) (or_nothing (C.text_of consts.now name)) (plain (C.text_of consts.now) (C.items_of consts.now) v)) }
 {
-    let (_, names) = module_parts(arena, m);
-    put_pair(arena, consts, names, Value::Str(name), v)
+    let (_, namespace) = module_parts(arena, m);
+    match namespace {
+        Some(names) => put_pair(arena, consts, names, Value::Str(name), v),
+        None => Err(Stop::Raises(Fault::NoAttribute {
+            object: type_of(arena, Value::Module(m)),
+            name,
+        })),
+    }
 }
 
-/// Sets an attribute. Only modules take any, whose namespace has to be set.
+/// Sets an attribute. Only modules take any, where their namespace is set.
 pub fn set_attr<C: Constants>(
     arena: &mut Arena,
     consts: &C,
@@ -45,7 +50,6 @@ pub fn set_attr<C: Constants>(
 ) -> Result<Value, Stop>
     requires object_leads { Leads arena.old.objects object }
     requires object_told { IsTold (C.text_of consts.now) (C.items_of consts.now) object }
-    requires named { IsNamed arena.old object }
     requires name { IsSome (C.text_of consts.now name) }
     requires leads { Leads arena.old.objects v }
     requires told { IsTold (C.text_of consts.now) (C.items_of consts.now) v }

@@ -17,6 +17,7 @@ use Rattle.bc_ops.specs.Table.{code_of, form_of}
 use Rattle.bc_flow.specs.Code.{item_locals, IsOutside}
 use Rattle.arena_heap.specs.declared.value.Value.{Value}
 use Rattle.arena_heap.specs.declared.value.StrNo.{StrNo}
+use Rattle.arena_heap.specs.declared.value.StrNo.TheVariants as strs
 use Rattle.arena_heap.specs.declared.value.ConstNo.{ConstNo}
 use Rattle.arena_objects.specs.Iterables.{or_nothing}
 use Rattle.mpy_tree.specs.Raw.{Module}
@@ -149,8 +150,8 @@ module _ (shelf : Shelf) (i : ℕ) (row : Row) (v : IsVerifiedRow shelf i row) (
     pub shows_binary : (n : ℕ) → S (instrs.Binary n) (fetched.Binary n)
     shows_binary n = record { item_is = refl; target = tt; local = tt; text = tt; constant = tt }
 
-    pub shows_name : (op : Op) (o : NameOp) (n : ℕ) (s : StrNo) → name_op o ≡ op → text_at shelf s ≡ table_text shelf i n → Reads l at (instrs.Name op n) end → S (instrs.Name op n) (fetched.Name o s)
-    shows_name op o n s e same r =
+    pub shows_name : (op : Op) (o : NameOp) (n : ℕ) (s : StrNo) → name_op o ≡ op → text_at shelf s ≡ table_text shelf i n → ((number : ℕ) × (s ≡ strs.Pool number)) → Reads l at (instrs.Name op n) end → S (instrs.Name op n) (fetched.Name o s)
+    shows_name op o n s e same pooled r =
         let t = texts.text_there m n is_module (name_within op n r) in
         let text : text_at shelf s ≡ Some t.0 = same ∙ (texts.same_text shelf i m n there ∙ t.1) in
         let shown_text : text_of tables s ≡ t.0 = ap (λ (f : StrNo → Option (List ℕ)). or_nothing (f s)) of.texts ∙ ap or_nothing text in
@@ -159,7 +160,7 @@ module _ (shelf : Shelf) (i : ℕ) (row : Row) (v : IsVerifiedRow shelf i row) (
               ∙ (ap (λ z. machine.Names z t.0) (sym e) ∙ ap (machine.Names (name_op o)) (sym shown_text));
           target = tt;
           local = tt;
-          text = ap is_some text;
+          text = (pooled.0, pooled.1, ap is_some text);
           constant = tt;
         }
 

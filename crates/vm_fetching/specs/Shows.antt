@@ -7,6 +7,7 @@ use Rattle.bc_ops.specs.Signed.{IsSmall}
 use Rattle.bc_offsets.specs.Positions.{CodeList, Starts, position_in}
 use Rattle.mpy_tree.specs.Raw.{Module}
 use Rattle.mpy_tree.specs.Resolved.{resolved}
+use Rattle.arena_heap.specs.declared.value.StrNo.TheVariants as strs
 use Rattle.bc_library.specs.Constants.{object_value, text_at}
 use Rattle.bc_library.specs.Shelf.{Shelf}
 use Rattle.bc_machine.specs.Library as machine
@@ -71,9 +72,9 @@ LocalIsWithin locals (fetched.Object v) = Unit {0}
 LocalIsWithin locals (fetched.Jump op target) = Unit {0}
 LocalIsWithin locals (fetched.Unwind target byte) = Unit {0}
 
--- the text that it names is one of the library's
+-- the text that it names is one of the library's pool
 abbrev pub TextIsThere : Shelf → Instruction → Type 0
-TextIsThere shelf (fetched.Name op text) = IsSome (text_at shelf text)
+TextIsThere shelf (fetched.Name op text) = (n : ℕ) × (text ≡ strs.Pool n) × IsSome (text_at shelf text)
 TextIsThere shelf (fetched.Plain op) = Unit {0}
 TextIsThere shelf (fetched.Number op n) = Unit {0}
 TextIsThere shelf (fetched.Int z) = Unit {0}

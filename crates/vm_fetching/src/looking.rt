@@ -1,6 +1,7 @@
 //! Texts and objects of a library.
 
-ghost use Rattle.std.specs.Prelude.{◌≡◌, Some, IsSome};
+ghost use Rattle.std.specs.Prelude.{◌≡◌, ℕ, Some, IsSome};
+ghost use Rattle.arena_heap.specs.declared.value.StrNo.TheVariants as strs;
 ghost use Rattle.bc_library.specs.Constants.{object_value, text_at};
 ghost use Rattle.bc_library.specs.Shelf.{entry_at, table_text};
 
@@ -11,7 +12,8 @@ use bc_library::Library;
 #[inline(always)]
 pub(crate) fn text_of(library: &Library, module_number: u32, n: u32) -> StrNo
     requires { IsSome (entry_at library.now module_number n) }
-    ensures { text_at library.now result ≡ table_text library.now module_number n }
+    ensures text { text_at library.now result ≡ table_text library.now module_number n }
+    ensures pooled { (number : ℕ) × (result ≡ strs.Pool number) }
 {
     let Some(text) = library.text_number(module_number, n) else {
         unreachable!();

@@ -1,6 +1,6 @@
 //! The stack of frames.
 
-ghost use Rattle.std.specs.Prelude.{◌≡◌, ℕ, ◌<◌, ◌≤◌, List, [], ◌∷◌, length, drop, Option, Some, None, false, IfOk, All, slice_get, slice_set, replicate};
+ghost use Rattle.std.specs.Prelude.{◌≡◌, ℕ, ◌^◌, ◌<◌, ◌≤◌, List, [], ◌∷◌, length, drop, Option, Some, None, false, IfOk, All, slice_get, slice_set, replicate};
 ghost use Rattle.mpy_base.specs.declared.limits.TheConstants.{MAX_CALLS as LIMIT};
 ghost use Rattle.vm_frames.specs.Calls.{Call, Calls, OfRunning, on_running};
 ghost use Rattle.vm_frames.specs.Held.{HasRoom};
@@ -59,6 +59,13 @@ impl Frames {
             slot_room: slots,
             entry_room: entries,
         })
+    }
+
+    /// Fewer than 2^32 locals, and as many slots, fit into a call.
+    pub fn room_law(&self)
+        ensures { self.now.slot_room < 2 ^ 32 }
+    {
+        let _room = self.slot_room;
     }
 
     /// How many calls run or wait.

@@ -2,14 +2,12 @@
 
 ghost use Rattle.std.specs.Prelude.{◌≡◌, ◌<◌, length, IsSome};
 ghost use Rattle.bc_ops.specs.declared.instr.Op.TheVariants as ops;
-ghost use Rattle.arena_heap.specs.declared.value.Value.{Value as Item};
 ghost use Rattle.arena_objects.specs.Iterables.{or_nothing};
 ghost use Rattle.arena_objects.specs.Keys.{AllTold};
-ghost use Rattle.vm_operators.specs.Attributes.{IsNamed};
 ghost use Rattle.vm_frames.specs.Calls.{OfRunning};
 ghost use Rattle.bc_machine.specs.Library.{Names};
 ghost use Rattle.vm_instructions.specs.Effects.{Steps, Leaves};
-ghost use Rattle.vm_instructions.specs.Slots.{HasValue, HasKnown, Puts, PutsLooked, Changes, with_value, without};
+ghost use Rattle.vm_instructions.specs.Slots.{HasKnown, Puts, PutsLooked, Changes, with_value, without};
 
 use crate::slots::{put, put_looked, take, value_at};
 use arena_heap::{Arena, Constants, StrNo};
@@ -19,7 +17,7 @@ use vm_frames::Frames;
 use vm_names::{import_from as imported_from, load_method as method_of};
 use vm_operators::get_attr;
 
-/// LOAD_ATTR. The namespace of a module has to be set.
+/// LOAD_ATTR.
 pub fn load_attr<C: Constants>(
     frames: &mut Frames,
     arena: &mut Arena,
@@ -29,7 +27,6 @@ pub fn load_attr<C: Constants>(
 ) -> Result<(), Stop>
     requires name { IsSome (C.text_of consts.now name) }
     requires object { HasKnown (C.text_of consts.now) (C.items_of consts.now) arena.old.objects 0 frames.old.calls }
-    requires named { (v : Item) → HasValue 0 v frames.old.calls → IsNamed arena.old v }
     requires all_told { AllTold (C.text_of consts.now) (C.items_of consts.now) arena.old.objects }
     ensures steps { Steps (C.text_of consts.now) (C.items_of consts.now) (Names ops.LoadAttr (or_nothing (C.text_of consts.now name))) 0 end arena.old arena.new frames.old.calls frames.new.calls result }
     ensures moved { Puts (C.text_of consts.now) (C.items_of consts.now) arena.new.objects (with_value end 1) frames.old frames.new result }
@@ -40,7 +37,7 @@ pub fn load_attr<C: Constants>(
     put(frames, 1, given, end)
 }
 
-/// STORE_ATTR. The namespace of a module has to be set.
+/// STORE_ATTR.
 pub fn store_attr<C: Constants>(
     frames: &mut Frames,
     arena: &mut Arena,
@@ -51,7 +48,6 @@ pub fn store_attr<C: Constants>(
     requires name { IsSome (C.text_of consts.now name) }
     requires object { HasKnown (C.text_of consts.now) (C.items_of consts.now) arena.old.objects 0 frames.old.calls }
     requires value { HasKnown (C.text_of consts.now) (C.items_of consts.now) arena.old.objects 1 frames.old.calls }
-    requires named { (v : Item) → HasValue 0 v frames.old.calls → IsNamed arena.old v }
     requires all_told { AllTold (C.text_of consts.now) (C.items_of consts.now) arena.old.objects }
     ensures steps { Steps (C.text_of consts.now) (C.items_of consts.now) (Names ops.StoreAttr (or_nothing (C.text_of consts.now name))) 0 end arena.old arena.new frames.old.calls frames.new.calls result }
     ensures moved { Changes (without end 2) frames.old frames.new result }
@@ -63,7 +59,7 @@ pub fn store_attr<C: Constants>(
     take(frames, 2, given, end)
 }
 
-/// IMPORT_FROM. The namespace of a module has to be set.
+/// IMPORT_FROM.
 pub fn import_from<C: Constants>(
     frames: &mut Frames,
     arena: &mut Arena,
@@ -74,7 +70,6 @@ pub fn import_from<C: Constants>(
     requires room { OfRunning (λ c. length c.slots < frames.old.slot_room) frames.old.calls }
     requires name { IsSome (C.text_of consts.now name) }
     requires object { HasKnown (C.text_of consts.now) (C.items_of consts.now) arena.old.objects 0 frames.old.calls }
-    requires named { (v : Item) → HasValue 0 v frames.old.calls → IsNamed arena.old v }
     requires all_told { AllTold (C.text_of consts.now) (C.items_of consts.now) arena.old.objects }
     ensures steps { Steps (C.text_of consts.now) (C.items_of consts.now) (Names ops.ImportFrom (or_nothing (C.text_of consts.now name))) 0 end arena.old arena.new frames.old.calls frames.new.calls result }
     ensures moved { Puts (C.text_of consts.now) (C.items_of consts.now) arena.new.objects (with_value end 0) frames.old frames.new result }
@@ -85,7 +80,7 @@ pub fn import_from<C: Constants>(
     put(frames, 0, given, end)
 }
 
-/// LOAD_METHOD. The namespace of a module has to be set.
+/// LOAD_METHOD.
 pub fn load_method<C: Constants>(
     frames: &mut Frames,
     arena: &Arena,
@@ -96,7 +91,6 @@ pub fn load_method<C: Constants>(
     requires room { OfRunning (λ c. length c.slots < frames.old.slot_room) frames.old.calls }
     requires name { IsSome (C.text_of consts.now name) }
     requires object { HasKnown (C.text_of consts.now) (C.items_of consts.now) arena.now.objects 0 frames.old.calls }
-    requires named { (v : Item) → HasValue 0 v frames.old.calls → IsNamed arena.now v }
     requires all_told { AllTold (C.text_of consts.now) (C.items_of consts.now) arena.now.objects }
     ensures steps { Steps (C.text_of consts.now) (C.items_of consts.now) (Names ops.LoadMethod (or_nothing (C.text_of consts.now name))) 0 end arena.now arena.now frames.old.calls frames.new.calls result }
     ensures moved { PutsLooked (C.text_of consts.now) (C.items_of consts.now) arena.now.objects end frames.old frames.new result }

@@ -2,7 +2,6 @@
 
 ghost use Rattle.std.specs.Prelude.{[], ◌∷◌, IsSome};
 ghost use Rattle.py_effects.specs.Names.{load_method as loads_method, import_from as imports};
-ghost use Rattle.vm_operators.specs.Attributes.{IsNamed};
 ghost use Rattle.vm_raising.specs.Worlds.{Stands, HasEffect};
 ghost use Rattle.vm_names.specs.Looks.{Looks};
 
@@ -18,15 +17,13 @@ pub enum Looked {
     Free(Value),
 }
 
-/// What the call of an attribute begins with. A method isn't bound, which takes no room. The namespace of a module has to
-/// be set.
+/// What the call of an attribute begins with. A method isn't bound, which takes no room.
 pub fn load_method<C: Constants>(
     arena: &Arena,
     consts: &C,
     object: Value,
     name: StrNo,
 ) -> Result<Looked, Stop>
-    requires named { IsNamed arena.now object }
     requires name { IsSome (C.text_of consts.now name) }
     requires stands { Stands (C.text_of consts.now) (C.items_of consts.now) arena.now (object ∷ []) }
     ensures { Looks (C.text_of consts.now) (C.items_of consts.now) arena.now result (λ w see. loads_method w (see.value object) (see.text name)) }
@@ -41,15 +38,13 @@ pub fn load_method<C: Constants>(
     }
 }
 
-/// An attribute that is imported, and a fault of its own where there is none. A method is bound to its object. The
-/// namespace of a module has to be set.
+/// An attribute that is imported, and a fault of its own where there is none. A method is bound to its object.
 pub fn import_from<C: Constants>(
     arena: &mut Arena,
     consts: &C,
     object: Value,
     name: StrNo,
 ) -> Result<Value, Stop>
-    requires named { IsNamed arena.old object }
     requires name { IsSome (C.text_of consts.now name) }
     requires stands { Stands (C.text_of consts.now) (C.items_of consts.now) arena.old (object ∷ []) }
     ensures { HasEffect (C.text_of consts.now) (C.items_of consts.now) arena.old arena.new result (λ w see. imports w (see.value object) (see.text name)) }

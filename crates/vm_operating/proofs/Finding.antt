@@ -6,6 +6,7 @@ use Rattle.std.proofs.lemmas.Option.{slice_get_within, slice_get-get_or, get_or_
 use Rattle.mpy_base.specs.World.{Heap, ADict, IsA}
 use Rattle.arena_heap.specs.declared.value.Value.{Value}
 use Rattle.arena_heap.specs.declared.value.StrNo.{StrNo}
+use Rattle.arena_heap.specs.declared.value.StrNo.TheVariants as strs
 use Rattle.arena_heap.specs.declared.value.ConstNo.{ConstNo}
 use Rattle.arena_objects.specs.Keys.{AllTold}
 use Rattle.bc_library.specs.Constants.{text_at}
@@ -84,8 +85,8 @@ module _ {texts : StrNo → Option (List ℕ)} {tuples : ConstNo → Option (Lis
   pub has_names : OfRunning (λ c. IsA heap.objects ADict c.names.cell) s.calls
   has_names = of_running (λ c. IsA heap.objects ADict c.names.cell) first_known.names
 
-  pub text_told : (text : StrNo) → IsSome (text_at h.program.shelf text) → IsSome (texts text)
-  text_told text k = subst (λ (t : StrNo → Option (List ℕ)). IsSome (t text)) (sym h.means.constants.texts ∙ h.tells.texts_are) k
+  pub text_told : (text : StrNo) → ((n : ℕ) × (text ≡ strs.Pool n) × IsSome (text_at h.program.shelf text)) → IsSome (texts text)
+  text_told text k = subst (λ (t : StrNo → Option (List ℕ)). IsSome (t text)) (sym h.means.constants.texts ∙ h.tells.texts_are) k.2
 
   pub planned : (h.program.plans (h.program.tables.module_name h.ready.first.module_number) h.ready.first.code).n_state < s.slot_room
   planned = h.state.running.rooms.slots (h.program.tables.module_name h.ready.first.module_number) h.ready.first.code h.ready.code h.ready.code_is

@@ -5,7 +5,6 @@ mod Ending
 mod Finding
 mod Iterating
 mod Lacking
-mod Naming
 mod Shapes
 mod Shifting
 mod Testing

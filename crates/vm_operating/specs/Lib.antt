@@ -1,5 +1,4 @@
 pub mod Keeping
-pub mod Named
 pub mod Onward
 pub mod Operands
 pub mod Operations

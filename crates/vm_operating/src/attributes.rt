@@ -1,10 +1,9 @@
-//! Attributes. Each module of the heap has its namespace.
+//! Attributes.
 
 ghost use Rattle.vm_fetching.specs.declared.instruction.Instruction.TheVariants as fetched;
 ghost use Rattle.vm_fetching.specs.declared.operations.NameOp.TheVariants as name_ops;
 ghost use Rattle.vm_known.specs.Acting.{RunsOver};
 ghost use Rattle.vm_operating.specs.Keeping.{ActsKeeping};
-ghost use Rattle.vm_operating.specs.Named.{AllNamed};
 
 use crate::law::acting_law;
 use arena_heap::{Arena, Constants, StrNo};
@@ -21,7 +20,6 @@ pub(crate) fn load_attr<C: Constants>(
     end: u32,
 ) -> Result<(), Stop>
     requires runs { RunsOver (C.text_of consts.now) (C.items_of consts.now) arena.old frames.old (record { instruction = fetched.Name name_ops.LoadAttr name; end = end }) }
-    requires named { AllNamed arena.old.objects }
     ensures acts { ActsKeeping (C.text_of consts.now) (C.items_of consts.now) (record { instruction = fetched.Name name_ops.LoadAttr name; end = end }) 0 arena.old arena.new frames.old frames.new result }
 {
     acting_law();
@@ -38,7 +36,6 @@ pub(crate) fn load_method<C: Constants>(
     end: u32,
 ) -> Result<(), Stop>
     requires runs { RunsOver (C.text_of consts.now) (C.items_of consts.now) arena.now frames.old (record { instruction = fetched.Name name_ops.LoadMethod name; end = end }) }
-    requires named { AllNamed arena.now.objects }
     ensures acts { ActsKeeping (C.text_of consts.now) (C.items_of consts.now) (record { instruction = fetched.Name name_ops.LoadMethod name; end = end }) 0 arena.now arena.now frames.old frames.new result }
 {
     acting_law();
@@ -55,7 +52,6 @@ pub(crate) fn store_attr<C: Constants>(
     end: u32,
 ) -> Result<(), Stop>
     requires runs { RunsOver (C.text_of consts.now) (C.items_of consts.now) arena.old frames.old (record { instruction = fetched.Name name_ops.StoreAttr name; end = end }) }
-    requires named { AllNamed arena.old.objects }
     ensures acts { ActsKeeping (C.text_of consts.now) (C.items_of consts.now) (record { instruction = fetched.Name name_ops.StoreAttr name; end = end }) 0 arena.old arena.new frames.old frames.new result }
 {
     acting_law();
@@ -72,7 +68,6 @@ pub(crate) fn import_from<C: Constants>(
     end: u32,
 ) -> Result<(), Stop>
     requires runs { RunsOver (C.text_of consts.now) (C.items_of consts.now) arena.old frames.old (record { instruction = fetched.Name name_ops.ImportFrom name; end = end }) }
-    requires named { AllNamed arena.old.objects }
     ensures acts { ActsKeeping (C.text_of consts.now) (C.items_of consts.now) (record { instruction = fetched.Name name_ops.ImportFrom name; end = end }) 0 arena.old arena.new frames.old frames.new result }
 {
     acting_law();

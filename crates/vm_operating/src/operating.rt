@@ -5,7 +5,6 @@ ghost use Rattle.vm_fetching.specs.declared.instruction.Instruction.TheVariants 
 ghost use Rattle.vm_moving.specs.Moving.{fetched_plain};
 ghost use Rattle.vm_known.specs.Acting.{RunsOver};
 ghost use Rattle.vm_operating.specs.Keeping.{ActsKeeping};
-ghost use Rattle.vm_operating.specs.Named.{AllNamed};
 ghost use Rattle.vm_operating.specs.Operations.{IsPlainOperation, IsNumberOperation, IsNameOperation, IsAttributeOperation};
 
 use crate::attributes::{import_from, load_attr, load_method, store_attr};
@@ -134,7 +133,6 @@ pub fn attribute_on<C: Constants>(
     end: u32,
 ) -> Result<(), Stop>
     requires operation { IsAttributeOperation op }
-    requires named { AllNamed arena.old.objects }
     requires runs { RunsOver (C.text_of consts.now) (C.items_of consts.now) arena.old frames.old (record { instruction = fetched.Name op name; end = end }) }
     ensures acts { ActsKeeping (C.text_of consts.now) (C.items_of consts.now) (record { instruction = fetched.Name op name; end = end }) 0 arena.old arena.new frames.old frames.new result }
 {

@@ -1,5 +1,5 @@
 -- Attributes of an arena's values, as the meaning has them.
-use Rattle.std.proofs.Common.{◌≡◌, ℕ, List, [], ◌∷◌, map, Option, Some, refl, sym, ap, ◌∙◌, subst}
+use Rattle.std.proofs.Common.{◌≡◌, ℕ, List, [], ◌∷◌, map, Option, Some, None, refl, sym, ap, ◌∙◌, subst}
 use Rattle.std.specs.Prelude.{bytes_eq, codes, if◌then◌else◌}
 use Rattle.arena_heap.specs.declared.value.Value.{Value}
 use Rattle.arena_heap.specs.declared.value.Value.TheVariants as values
@@ -80,6 +80,9 @@ module _ (texts : StrNo → Option (List ℕ)) (tuples : ConstNo → Option (Lis
   has_names n own_name names parts =
       here n ∙ (ap (λ (o : Option ArenaObject). object_attribute (plain_heap texts tuples h) name (plain_object texts tuples o)) parts
       ∙ ap (λ (pairs : List (Val × Val)). found_value (value_of_key (plain_heap texts tuples h) pairs (Str name))) (pairs_of_plain texts tuples h names))
+
+  pub has_no_names : (n own_name : ℕ) → object h.objects n ≡ Some (ModuleObject own_name None) → attribute (plain_heap texts tuples h) (At n) name ≡ Absent
+  has_no_names n own_name parts = here n ∙ ap (λ (o : Option ArenaObject). object_attribute (plain_heap texts tuples h) name (plain_object texts tuples o)) parts
 
   pub has_none : (v : Value) (c : ConstNo) → v ≡ values.Fixed c → attribute (plain_heap texts tuples h) (plain texts tuples v) name ≡ Absent
   has_none v c is =

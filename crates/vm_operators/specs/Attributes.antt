@@ -1,7 +1,7 @@
 -- Attributes of an arena's values.
-use Rattle.std.specs.Prelude.{◌≡◌, ℕ, List, Option, IsSome, bytes_eq, codes, if◌then◌else◌}
+use Rattle.std.specs.Prelude.{◌≡◌, ℕ, List, Option, bytes_eq, codes, if◌then◌else◌}
 use Rattle.mpy_base.specs.declared.builtin.Builtin.{Builtin}
-use Rattle.mpy_base.specs.World.{Heap, Objects, names_of, object}
+use Rattle.mpy_base.specs.World.{Objects}
 use Rattle.arena_heap.specs.declared.value.Value.{Value}
 use Rattle.arena_heap.specs.declared.value.Value.TheVariants as values
 use Rattle.arena_heap.specs.declared.value.StrNo.{StrNo}
@@ -44,8 +44,3 @@ abbrev pub IsBuiltAttribute : Builtin → List ℕ → Attribute → Type 0
 IsBuiltAttribute b name attribute =
     (texts : StrNo → Option (List ℕ)) (tuples : ConstNo → Option (List Value)) (objects : Objects Value ℕ) (v : Value) (heap : PlainHeap)
     → (plain_attribute texts tuples attribute ≡ uses.attribute heap (Built b) name) × IsKnownAttribute texts tuples objects v attribute
-
--- a module's namespace is set
-abbrev pub IsNamed : Heap Value ℕ → Value → Type 0
-IsNamed heap (values.Module m) = IsSome (names_of (object heap.objects m.cell))
-IsNamed heap _ = Unit {0}

@@ -1,7 +1,7 @@
 //! Attributes.
 
 ghost use Rattle.std.specs.Prelude.{◌≡◌, IsSome};
-ghost use Rattle.mpy_base.specs.World.{MethodObject, names_of, object};
+ghost use Rattle.mpy_base.specs.World.{MethodObject, AModule, IsA};
 ghost use Rattle.mpy_base.specs.Val.{At};
 ghost use Rattle.arena_heap.specs.Values.{Leads, IsStr, IsList, IsDict, IsMethodOf};
 ghost use Rattle.arena_heap.specs.Constants.{IsTold};
@@ -12,7 +12,7 @@ ghost use Rattle.py_primitives.specs.Outcome.{making};
 ghost use Rattle.py_primitives.specs.Uses.{attribute as attribute_in, get_attr as get_attr_of};
 ghost use Rattle.vm_walks.specs.Plain.{plain, plain_heap};
 ghost use Rattle.vm_faults.specs.Outcomes.{IsOutcome};
-ghost use Rattle.vm_operators.specs.Attributes.{plain_attribute, IsKnownAttribute, IsMethodsAttribute, IsArgsAttribute, IsBuiltAttribute, IsNamed};
+ghost use Rattle.vm_operators.specs.Attributes.{plain_attribute, IsKnownAttribute, IsMethodsAttribute, IsArgsAttribute, IsBuiltAttribute};
 
 use arena_heap::{Arena, Constants, ModuleNo, StrNo, Value, exc_parts, module_parts};
 use arena_objects::dict_get;
@@ -119,26 +119,28 @@ fn built_attribute(b: Builtin, name: &[u8]) -> Attribute
     }
 }
 
-/// A name of a module's namespace.
+/// A name of a module's namespace, where one is set.
 fn module_attribute<C: Constants>(arena: &Arena, consts: &C, m: ModuleNo, name: StrNo) -> Attribute
-    requires named { IsSome (names_of (object arena.now.objects m.cell)) }
+    requires is_module { IsA arena.now.objects AModule m.cell }
     requires name { IsSome (C.text_of consts.now name) }
     requires all_told { AllTold (C.text_of consts.now) (C.items_of consts.now) arena.now.objects }
     ensures plain { plain_attribute (C.text_of consts.now) (C.items_of consts.now) result ≡ attribute_in (plain_heap (C.text_of consts.now) (C.items_of consts.now) arena.now) (At m.cell) (or_nothing (C.text_of consts.now name)) }
     ensures known { IsKnownAttribute (C.text_of consts.now) (C.items_of consts.now) arena.now.objects (Value.Module m) result }
 {
     arena.sound_law();
-    let (_, names) = module_parts(arena, m);
-    match dict_get(arena, consts, names, Value::Str(name)) {
-        Some(v) => Attribute::Found(v),
+    let (_, namespace) = module_parts(arena, m);
+    match namespace {
+        Some(names) => match dict_get(arena, consts, names, Value::Str(name)) {
+            Some(v) => Attribute::Found(v),
+            None => Attribute::Absent,
+        },
         None => Attribute::Absent,
     }
 }
 
-/// What an attribute of a value is. The namespace of a module has to be set.
+/// What an attribute of a value is. A module whose namespace isn't set has none.
 pub fn attribute_of<C: Constants>(arena: &Arena, consts: &C, v: Value, name: StrNo) -> Attribute
     requires leads { Leads arena.now.objects v }
-    requires named { IsNamed arena.now v }
     requires name { IsSome (C.text_of consts.now name) }
     requires all_told { AllTold (C.text_of consts.now) (C.items_of consts.now) arena.now.objects }
     ensures plain { plain_attribute (C.text_of consts.now) (C.items_of consts.now) result ≡ attribute_in (plain_heap (C.text_of consts.now) (C.items_of consts.now) arena.now) (plain (C.text_of consts.now) (C.items_of consts.now) v) (or_nothing (C.text_of consts.now name)) }
@@ -181,7 +183,7 @@ pub fn bind_method<C: Constants>(
     }
 }
 
-/// An attribute of a value. A method is bound to its object. The namespace of a module has to be set.
+/// An attribute of a value. A method is bound to its object.
 pub fn get_attr<C: Constants>(
     arena: &mut Arena,
     consts: &C,
@@ -190,7 +192,6 @@ pub fn get_attr<C: Constants>(
 ) -> Result<Value, Stop>
     requires leads { Leads arena.old.objects object }
     requires told { IsTold (C.text_of consts.now) (C.items_of consts.now) object }
-    requires named { IsNamed arena.old object }
     requires name { IsSome (C.text_of consts.now name) }
     requires all_told { AllTold (C.text_of consts.now) (C.items_of consts.now) arena.old.objects }
     ensures { IsOutcome (C.text_of consts.now) (C.items_of consts.now) arena.old arena.new result (get_attr_of (plain_heap (C.text_of consts.now) (C.items_of consts.now) arena.old) (plain (C.text_of consts.now) (C.items_of consts.now) object) (or_nothing (C.text_of consts.now name))) }

@@ -7,7 +7,6 @@ ghost use Rattle.vm_states.specs.Means.{Program};
 ghost use Rattle.vm_known.specs.Acting.{RunsOver};
 ghost use Rattle.vm_leaving.specs.Running.{RunsWith};
 ghost use Rattle.vm_operating.specs.Keeping.{ActsKeeping};
-ghost use Rattle.vm_operating.specs.Named.{AllNamed};
 ghost use Rattle.vm_running.specs.Comes.{ComesOnBehind};
 ghost use Rattle.vm_running.specs.Values.{UsesName, ActsOnValues, value_visits};
 
@@ -35,7 +34,6 @@ fn name_or_attribute<C: Constants>(
     end: u32,
 ) -> Result<(), Stop>
     requires operation { UsesName op }
-    requires named { AllNamed arena.old.objects }
     requires runs { RunsOver (C.text_of consts.now) (C.items_of consts.now) arena.old frames.old (record { instruction = fetched_as.Name op name; end = end }) }
     ensures acts { ActsKeeping (C.text_of consts.now) (C.items_of consts.now) (record { instruction = fetched_as.Name op name; end = end }) 0 arena.old arena.new frames.old frames.new result }
 {
@@ -66,7 +64,6 @@ fn act_on<C: Constants>(
 ) -> Result<(), Stop>
     requires values { ActsOnValues fetched.instruction }
     requires places { frames.old.slot_room ≤ length items.old }
-    requires named { AllNamed arena.old.objects }
     requires runs { RunsOver (C.text_of consts.now) (C.items_of consts.now) arena.old frames.old fetched }
     ensures acts { ActsKeeping (C.text_of consts.now) (C.items_of consts.now) fetched (value_visits (C.text_of consts.now) (C.items_of consts.now) arena.old frames.old.calls fetched.instruction) arena.old arena.new frames.old frames.new result }
 {
@@ -102,7 +99,6 @@ pub fn operate<C: Constants>(
 ) -> Option<End>
     requires values { ActsOnValues fetched.instruction }
     requires places { frames.old.slot_room ≤ length items.old }
-    requires named { AllNamed arena.old.objects }
     requires runs { (shelf : Shelf) × RunsWith (C.text_of consts.now) (C.items_of consts.now) names.now shelf arena.old modules.old frames.old row.now fetched }
     ensures { (p : Program)
         → ComesOnBehind p (C.text_of consts.now) (C.items_of consts.now) names.now row.now fetched (value_visits (C.text_of consts.now) (C.items_of consts.now) arena.old frames.old.calls fetched.instruction) arena.old arena.new modules.old modules.new frames.old frames.new result }

@@ -15,8 +15,8 @@ use crate::names::builtin_name;
 use crate::pen::Pen;
 use crate::pieces::{put, put_number, put_str, put_three};
 use crate::ranges::is_one_number;
-use arena_heap::{Arena, Constants, FunNo, ModuleNo, RangeNo, StrNo, Value, module_title};
-use arena_objects::{fun_parts, range_parts, text_bytes};
+use arena_heap::{Arena, Constants, FunNo, ModuleNo, RangeNo, StrNo, Value};
+use arena_objects::{fun_parts, module_parts, range_parts, text_bytes};
 use mpy_base::{Builtin, Kind};
 
 fn is_type(b: Builtin) -> bool
@@ -102,7 +102,7 @@ fn put_module<P: Pen, C: Constants>(arena: &Arena, consts: &C, m: ModuleNo, pen:
     requires { IsA arena.now.objects AModule m.cell }
     ensures { Wrote P.Takes pen.old (part_text (C.text_of consts.now) (object arena.now.objects m.cell)) pen.new }
 {
-    let name = module_title(arena, m);
+    let (name, _) = module_parts(arena, m);
     put_three(pen, b"<module '", name_bytes(consts, name), b"'>")
 }
 

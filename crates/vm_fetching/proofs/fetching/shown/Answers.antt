@@ -62,7 +62,7 @@ pub returns-in-Name : goal.returns-in-Name
 returns-in-Name c tables m l of there listed st r =
     let shelf = c.args.library.now in
     subst (λ (z : Instr). Shows shelf m tables c.args.row.now l c.args.end z (fetched.Name c.name_op.result c.text_of.result)) (sym c.in-Name.is)
-    (showing.shows_name shelf c.args.module_number c.args.row.now c.requires.row m there l listed c.args.at c.args.end tables of c.in-Name.op c.name_op.result c.in-Name.n c.text_of.result c.name_op.ensures c.text_of.ensures
+    (showing.shows_name shelf c.args.module_number c.args.row.now c.requires.row m there l listed c.args.at c.args.end tables of c.in-Name.op c.name_op.result c.in-Name.n c.text_of.result c.name_op.ensures c.text_of.ensures.text c.text_of.ensures.pooled
     (subst (λ z. Reads l c.args.at z c.args.end) c.in-Name.is r))
 
 pub returns-in-Num : goal.returns-in-Num

@@ -1,9 +1,8 @@
 use Rattle.std.proofs.Common.{◌≡◌, ℕ, List, Option, Some, refl, sym, ap, ◌∙◌, subst}
 use Rattle.std.specs.Prelude.{IsSome, codes}
-use Rattle.mpy_base.specs.World.{ModuleObject, Heap, AModule, names_of, object}
+use Rattle.mpy_base.specs.World.{ModuleObject, Heap, AModule, object}
 use Rattle.mpy_base.specs.Val.{Val, Str}
 use Rattle.arena_heap.specs.declared.value.Value.{Value}
-use Rattle.arena_heap.specs.Values.{ArenaObject}
 use Rattle.arena_objects.specs.Iterables.{or_nothing}
 use Rattle.arena_objects.specs.Keys.{AllTold}
 use Rattle.py_values.specs.Shown.{PlainHeap}
@@ -20,12 +19,10 @@ set_attr-requires g c =
     let h = c.args.arena.now in
     let m = c.args.made.number.cell in
     let d = c.args.made.names.cell in
-    let here = named_here h m d c.requires.made.number in
     let set = c.module_names.ensures.named in
     record {
       object_leads = record { meets = c.module_names.ensures.later.keeps AModule m c.requires.made.number; small = tt };
       object_told = tt;
-      named = subst (λ (hp : Heap Value ℕ). IsSome (names_of (object hp.objects m))) (sym set) (subst (λ (o : Option ArenaObject). IsSome (names_of o)) (sym here.1) refl);
       name = subst (λ (t : Option (List ℕ)). IsSome t) (sym c.requires.key) refl;
       leads = record { meets = tt; small = tt };
       told = c.requires.name;

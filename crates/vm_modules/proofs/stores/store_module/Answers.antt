@@ -30,7 +30,6 @@ set_attr-requires g c =
     record {
       object_leads = record { meets = ap (λ (o : Option ArenaObject). kind_of o) own.1; small = tt };
       object_told = tt;
-      named = subst (λ (o : Option ArenaObject). IsSome (names_of o)) (sym own.1) refl;
       name = subst (λ (t : Option (List ℕ)). IsSome t) (sym c.requires.last) refl;
       leads = record { meets = c.requires.is_module; small = tt };
       told = tt;

@@ -7,7 +7,6 @@ use Rattle.vm_fetching.specs.declared.instruction.Instruction.TheVariants as fet
 use Rattle.vm_fetching.specs.declared.operations.NameOp.TheVariants as name_ops
 use Rattle.vm_operating.proofs.Ending as ending
 use Rattle.vm_operating.proofs.Finding as finding
-use Rattle.vm_operating.proofs.Naming as naming
 use Rattle.vm_operating.proofs.attributes.import_from.Goals as goal
 
 pub import_from-requires-clause-room : goal.import_from-requires-clause-room
@@ -18,9 +17,6 @@ import_from-requires-clause-name g c = finding.text_told c.requires.runs c.args.
 
 pub import_from-requires-clause-object : goal.import_from-requires-clause-object
 import_from-requires-clause-object g c = finding.one c.requires.runs c.tops_law.ensures.one c.requires.runs.ready.finds.0
-
-pub import_from-requires-clause-named : goal.import_from-requires-clause-named
-import_from-requires-clause-named g c = naming.top_named c.requires.runs c.requires.named
 
 pub import_from-requires-clause-all_told : goal.import_from-requires-clause-all_told
 import_from-requires-clause-all_told g c = finding.all_told c.requires.runs

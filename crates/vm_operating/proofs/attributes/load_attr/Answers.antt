@@ -7,7 +7,6 @@ use Rattle.vm_fetching.specs.declared.instruction.Instruction.TheVariants as fet
 use Rattle.vm_fetching.specs.declared.operations.NameOp.TheVariants as name_ops
 use Rattle.vm_operating.proofs.Ending as ending
 use Rattle.vm_operating.proofs.Finding as finding
-use Rattle.vm_operating.proofs.Naming as naming
 use Rattle.vm_operating.proofs.attributes.load_attr.Goals as goal
 
 pub load_attr-requires-clause-name : goal.load_attr-requires-clause-name
@@ -15,9 +14,6 @@ load_attr-requires-clause-name g c = finding.text_told c.requires.runs c.args.na
 
 pub load_attr-requires-clause-object : goal.load_attr-requires-clause-object
 load_attr-requires-clause-object g c = finding.one c.requires.runs c.tops_law.ensures.one c.requires.runs.ready.finds
-
-pub load_attr-requires-clause-named : goal.load_attr-requires-clause-named
-load_attr-requires-clause-named g c = naming.top_named c.requires.runs c.requires.named
 
 pub load_attr-requires-clause-all_told : goal.load_attr-requires-clause-all_told
 load_attr-requires-clause-all_told g c = finding.all_told c.requires.runs

@@ -7,7 +7,6 @@ use Rattle.vm_fetching.specs.declared.instruction.Instruction.TheVariants as fet
 use Rattle.vm_fetching.specs.declared.operations.NameOp.TheVariants as name_ops
 use Rattle.vm_operating.proofs.Ending as ending
 use Rattle.vm_operating.proofs.Finding as finding
-use Rattle.vm_operating.proofs.Naming as naming
 use Rattle.vm_operating.proofs.attributes.load_method.Goals as goal
 
 pub load_method-requires-clause-room : goal.load_method-requires-clause-room
@@ -18,9 +17,6 @@ load_method-requires-clause-name g c = finding.text_told c.requires.runs c.args.
 
 pub load_method-requires-clause-object : goal.load_method-requires-clause-object
 load_method-requires-clause-object g c = finding.one c.requires.runs c.tops_law.ensures.one c.requires.runs.ready.finds.0
-
-pub load_method-requires-clause-named : goal.load_method-requires-clause-named
-load_method-requires-clause-named g c = naming.top_named c.requires.runs c.requires.named
 
 pub load_method-requires-clause-all_told : goal.load_method-requires-clause-all_told
 load_method-requires-clause-all_told g c = finding.all_told c.requires.runs

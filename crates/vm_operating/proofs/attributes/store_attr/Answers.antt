@@ -7,7 +7,6 @@ use Rattle.vm_fetching.specs.declared.instruction.Instruction.TheVariants as fet
 use Rattle.vm_fetching.specs.declared.operations.NameOp.TheVariants as name_ops
 use Rattle.vm_operating.proofs.Ending as ending
 use Rattle.vm_operating.proofs.Finding as finding
-use Rattle.vm_operating.proofs.Naming as naming
 use Rattle.vm_operating.proofs.attributes.store_attr.Goals as goal
 
 pub store_attr-requires-clause-name : goal.store_attr-requires-clause-name
@@ -18,9 +17,6 @@ store_attr-requires-clause-object g c = (finding.two c.requires.runs c.tops_law.
 
 pub store_attr-requires-clause-value : goal.store_attr-requires-clause-value
 store_attr-requires-clause-value g c = (finding.two c.requires.runs c.tops_law.ensures.two c.requires.runs.ready.finds).1
-
-pub store_attr-requires-clause-named : goal.store_attr-requires-clause-named
-store_attr-requires-clause-named g c = naming.top_named c.requires.runs c.requires.named
 
 pub store_attr-requires-clause-all_told : goal.store_attr-requires-clause-all_told
 store_attr-requires-clause-all_told g c = finding.all_told c.requires.runs

@@ -64,9 +64,6 @@ returns-in-Binary g c =
 pub name_or_attribute-requires-clause-operation : goal.name_or_attribute-requires-clause-operation
 name_or_attribute-requires-clause-operation g c = subst ActsOnValues c.in-Name.is c.requires.values
 
-pub name_or_attribute-requires-clause-named : goal.name_or_attribute-requires-clause-named
-name_or_attribute-requires-clause-named g c = c.requires.named
-
 pub name_or_attribute-requires-clause-runs : goal.name_or_attribute-requires-clause-runs
 name_or_attribute-requires-clause-runs g c = runs_at (g.C.Constants.text_of c.args.consts.now) (g.C.Constants.items_of c.args.consts.now) c.args.fetched (fetched.Name c.in-Name.op c.in-Name.name) c.in-Name.is c.args.arena.now c.args.frames.now c.requires.runs
 

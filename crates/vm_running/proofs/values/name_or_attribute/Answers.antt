@@ -69,9 +69,6 @@ returns-in-DeleteGlobal g c = record { acts = c.name_on-in-DeleteGlobal.ensures.
 pub attribute_on-requires-clause-operation : goal.attribute_on-requires-clause-operation
 attribute_on-requires-clause-operation g c = subst IsAttributeOperation (sym c.in-LoadAttr.is) tt
 
-pub attribute_on-requires-clause-named : goal.attribute_on-requires-clause-named
-attribute_on-requires-clause-named g c = c.requires.named
-
 pub attribute_on-requires-clause-runs : goal.attribute_on-requires-clause-runs
 attribute_on-requires-clause-runs g c = c.requires.runs
 
@@ -80,9 +77,6 @@ returns-in-LoadAttr g c = record { acts = c.attribute_on.ensures.acts }
 
 pub attribute_on-requires-in-LoadMethod-clause-operation : goal.attribute_on-requires-in-LoadMethod-clause-operation
 attribute_on-requires-in-LoadMethod-clause-operation g c = subst IsAttributeOperation (sym c.in-LoadMethod.is) tt
-
-pub attribute_on-requires-in-LoadMethod-clause-named : goal.attribute_on-requires-in-LoadMethod-clause-named
-attribute_on-requires-in-LoadMethod-clause-named g c = c.requires.named
 
 pub attribute_on-requires-in-LoadMethod-clause-runs : goal.attribute_on-requires-in-LoadMethod-clause-runs
 attribute_on-requires-in-LoadMethod-clause-runs g c = c.requires.runs
@@ -93,9 +87,6 @@ returns-in-LoadMethod g c = record { acts = c.attribute_on-in-LoadMethod.ensures
 pub attribute_on-requires-in-StoreAttr-clause-operation : goal.attribute_on-requires-in-StoreAttr-clause-operation
 attribute_on-requires-in-StoreAttr-clause-operation g c = subst IsAttributeOperation (sym c.in-StoreAttr.is) tt
 
-pub attribute_on-requires-in-StoreAttr-clause-named : goal.attribute_on-requires-in-StoreAttr-clause-named
-attribute_on-requires-in-StoreAttr-clause-named g c = c.requires.named
-
 pub attribute_on-requires-in-StoreAttr-clause-runs : goal.attribute_on-requires-in-StoreAttr-clause-runs
 attribute_on-requires-in-StoreAttr-clause-runs g c = c.requires.runs
 
@@ -104,9 +95,6 @@ returns-in-StoreAttr g c = record { acts = c.attribute_on-in-StoreAttr.ensures.a
 
 pub attribute_on-requires-in-ImportFrom-clause-operation : goal.attribute_on-requires-in-ImportFrom-clause-operation
 attribute_on-requires-in-ImportFrom-clause-operation g c = subst IsAttributeOperation (sym c.in-ImportFrom.is) tt
-
-pub attribute_on-requires-in-ImportFrom-clause-named : goal.attribute_on-requires-in-ImportFrom-clause-named
-attribute_on-requires-in-ImportFrom-clause-named g c = c.requires.named
 
 pub attribute_on-requires-in-ImportFrom-clause-runs : goal.attribute_on-requires-in-ImportFrom-clause-runs
 attribute_on-requires-in-ImportFrom-clause-runs g c = c.requires.runs

@@ -11,9 +11,6 @@ act_on-requires-clause-values g c = c.requires.values
 pub act_on-requires-clause-places : goal.act_on-requires-clause-places
 act_on-requires-clause-places g c = c.requires.places
 
-pub act_on-requires-clause-named : goal.act_on-requires-clause-named
-act_on-requires-clause-named g c = c.requires.named
-
 pub act_on-requires-clause-runs : goal.act_on-requires-clause-runs
 act_on-requires-clause-runs g c = over (g.C.Constants.text_of c.args.consts.now) (g.C.Constants.items_of c.args.consts.now) c.args.names.now c.args.row.now c.args.fetched 0 c.args.arena.now c.args.arena.now c.args.frames.now c.requires.runs.1.runs
 
