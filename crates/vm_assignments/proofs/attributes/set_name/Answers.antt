@@ -10,6 +10,9 @@ use Rattle.vm_operators.proofs.AttributeUses.{by_namespace}
 use Rattle.vm_assignments.proofs.ItemUses.{set_named, set_nameless}
 use Rattle.vm_assignments.proofs.attributes.set_name.Goals as goal
 
+pub type_of-requires : goal.type_of-requires
+type_of-requires g c = record { meets = c.requires.is_module; small = tt }
+
 pub returns-in-Some : goal.returns-in-Some
 returns-in-Some g c =
     let texts = g.C.Constants.text_of c.args.consts.now in
