@@ -3,6 +3,7 @@ use Rattle.std.specs.Prelude.{◌≡◌, ℕ, List, Option, bytes_eq, codes, if�
 use Rattle.mpy_base.specs.declared.builtin.Builtin.{Builtin}
 use Rattle.mpy_base.specs.World.{Objects}
 use Rattle.arena_heap.specs.declared.value.Value.{Value}
+use Rattle.arena_heap.specs.declared.value.Value.TheVariants as values
 use Rattle.arena_heap.specs.declared.value.StrNo.{StrNo}
 use Rattle.arena_heap.specs.declared.value.ConstNo.{ConstNo}
 use Rattle.arena_heap.specs.Values.{IsMethodOf}
