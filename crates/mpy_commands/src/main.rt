@@ -13,8 +13,17 @@ use std::alloc::{AllocError, Global};
 use std::process::ExitCode;
 use std::{fs, io};
 
-const FILES: [&str; 8] = [
-    "codes", "files", "limits", "listings", "merged", "sources", "words", "written",
+const FILES: [&str; 10] = [
+    "codes",
+    "files",
+    "library",
+    "limits",
+    "listings",
+    "merged",
+    "sources",
+    "translated",
+    "words",
+    "written",
 ];
 
 /// How many rows were tried, and the number of the first one that came to something else.
