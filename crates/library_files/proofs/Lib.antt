@@ -2,4 +2,9 @@ pub mod Walks
 pub mod Fronts
 pub mod Read
 pub mod Once
+pub mod Short
+pub mod Plain
+pub mod Taken
+pub mod Asks
+pub mod Whole
 mod Examples

@@ -1,8 +1,7 @@
 -- What the file of a name comes to.
-use Rattle.std.specs.Prelude.{◌≡◌, ℕ, Bool, true, false, List, length, codes, Option, Some, None, Result, Ok, Err}
+use Rattle.std.specs.Prelude.{◌≡◌, ℕ, Bool, true, false, List, length, Contains, codes, Option, Some, None, Result, Ok, Err, ⊤}
 use Rattle.mpy_base.specs.declared.refused.Refused.{Refused}
 use Rattle.mpy_base.specs.declared.refused.Refused.TheVariants.{Fault, NoMemory}
-use Rattle.mpy_io.specs.declared.fault.Failed.{Failed}
 use Rattle.mpy_io.specs.Files.{FileOf}
 use Rattle.mpy_tree.specs.Raw.{Module}
 use Rattle.mpy_tree.specs.File.{IsFile}
@@ -13,6 +12,7 @@ use Rattle.pkg_paths.specs.Paths.{candidates}
 use Rattle.pkg_paths.specs.Finds.{NamedFile, first_there}
 use Rattle.library_files.specs.declared.entry.Entry.{Entry}
 use Rattle.library_files.specs.declared.entry.Entry.TheVariants as entries
+use Rattle.library_files.specs.declared.limit.FailedRead.{FailedRead}
 
 -- the bytes are a file of the module, which is verified
 pub record IsVerifiedFile (bytes : List ℕ) (m : Module) : Type 0 where
@@ -43,16 +43,22 @@ ModuleComesTo m size (entries.Held held count) = (held ≡ m) × IsVerified m ×
 ModuleComesTo m size entries.Refused = IsVerified m → ⊥
 ModuleComesTo m size entries.Absent = ⊥
 
--- what a search that gave no answer comes to: a file that is too long is refused
-abbrev pub FaultComesTo : FindFault → Result Entry (Refused Failed) → Type 0
-FaultComesTo (faults.TooLong path) result = result ≡ Ok entries.Refused
-FaultComesTo faults.Failed result = (failed : Failed) × (result ≡ Err (Fault failed))
+-- the file whose read failed is one of these
+abbrev pub FailsAtOneOf : {A : Type 0} → List (List ℕ) → Result A (Refused FailedRead) → Type 0
+FailsAtOneOf names (Ok done) = ⊤
+FailsAtOneOf names (Err (Fault failed)) = Contains names failed.path
+FailsAtOneOf names (Err NoMemory) = ⊤
 
-abbrev pub RefusedComesTo : Refused FindFault → Result Entry (Refused Failed) → Type 0
+-- what a search that gave no answer comes to: a file that is too long is refused
+abbrev pub FaultComesTo : FindFault → Result Entry (Refused FailedRead) → Type 0
+FaultComesTo (faults.TooLong path) result = result ≡ Ok entries.Refused
+FaultComesTo (faults.Failed path) result = result ≡ Err (Fault (record { path = path }))
+
+abbrev pub RefusedComesTo : Refused FindFault → Result Entry (Refused FailedRead) → Type 0
 RefusedComesTo (Fault fault) result = FaultComesTo fault result
 RefusedComesTo NoMemory result = result ≡ Err NoMemory
 
-abbrev pub is_failed : {A : Type 0} → Result A (Refused Failed) → Bool
+abbrev pub is_failed : {A : Type 0} → Result A (Refused FailedRead) → Bool
 is_failed (Ok entry) = false
 is_failed (Err (Fault failed)) = true
 is_failed (Err NoMemory) = false

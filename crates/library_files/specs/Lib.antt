@@ -2,3 +2,5 @@ pub mod Imports
 pub mod Comes
 pub mod Asked
 pub mod Loads
+pub mod Ends
+pub mod Steps

@@ -1,15 +1,17 @@
 //! What the file of a name comes to.
 
-ghost use Rattle.std.specs.Prelude.{◌≡◌, false, Option, IfOk, IfSome, IsUtf8};
+ghost use Rattle.std.specs.Prelude.{◌≡◌, ℕ, List, false, Option, IfOk, IfSome, IsUtf8};
 ghost use Rattle.mpy_io.specs.Count.{Counts};
 ghost use Rattle.pkg_paths.specs.Plain.{IsPlain};
 ghost use Rattle.pkg_paths.specs.Finds as finds;
-ghost use Rattle.pkg_paths.specs.Finds.{NamedFile, Finds};
-ghost use Rattle.library_files.specs.Comes.{BytesComeTo, ComesTo, FaultComesTo, FileComesTo, ModuleComesTo, RefusedComesTo, is_failed};
+ghost use Rattle.pkg_paths.specs.Finds.{NamedFile, Finds, NamesOneOf};
+ghost use Rattle.pkg_paths.specs.Paths.{candidates};
+ghost use Rattle.library_files.specs.Comes.{BytesComeTo, ComesTo, FailsAtOneOf, FaultComesTo, FileComesTo, ModuleComesTo, RefusedComesTo, ending, is_failed};
 
+use crate::limit::FailedRead;
 use bc_verify::{Verified, verify};
 use mpy_base::Refused;
-use mpy_io::{Failed, Folder};
+use mpy_io::Folder;
 use mpy_reader::read;
 use mpy_tree::RawModule;
 use pkg_paths::{FindFault, Found, find};
@@ -27,7 +29,7 @@ pub enum Entry {
 }
 
 /// What the module of a file of this size comes to.
-fn module_entry(alloc: Global, raw: RawModule, size: usize) -> Result<Entry, Refused<Failed>>
+fn module_entry(alloc: Global, raw: RawModule, size: usize) -> Result<Entry, Refused<FailedRead>>
     ensures entry { IfOk result (ModuleComesTo raw size) }
     ensures unfailed { is_failed result ≡ false }
 {
@@ -39,7 +41,7 @@ fn module_entry(alloc: Global, raw: RawModule, size: usize) -> Result<Entry, Ref
 }
 
 /// What a file's bytes come to.
-fn bytes_entry(alloc: Global, bytes: &[u8]) -> Result<Entry, Refused<Failed>>
+fn bytes_entry(alloc: Global, bytes: &[u8]) -> Result<Entry, Refused<FailedRead>>
     ensures entry { IfOk result (BytesComeTo bytes.now) }
     ensures unfailed { is_failed result ≡ false }
 {
@@ -51,17 +53,17 @@ fn bytes_entry(alloc: Global, bytes: &[u8]) -> Result<Entry, Refused<Failed>>
 }
 
 /// What a file that isn't read comes to.
-fn fault_entry(fault: FindFault) -> Result<Entry, Refused<Failed>>
+fn fault_entry(fault: FindFault) -> Result<Entry, Refused<FailedRead>>
     ensures { FaultComesTo fault result }
 {
     match fault {
         FindFault::TooLong(_) => Ok(Entry::Refused),
-        FindFault::Failed => Err(Refused::Fault(Failed)),
+        FindFault::Failed(path) => Err(Refused::Fault(FailedRead { path })),
     }
 }
 
 /// What a search that gave no answer comes to.
-fn refused_entry(refused: Refused<FindFault>) -> Result<Entry, Refused<Failed>>
+fn refused_entry(refused: Refused<FindFault>) -> Result<Entry, Refused<FailedRead>>
     ensures { RefusedComesTo refused result }
 {
     match refused {
@@ -74,9 +76,10 @@ fn refused_entry(refused: Refused<FindFault>) -> Result<Entry, Refused<Failed>>
 fn search_entry(
     alloc: Global,
     outcome: Result<Option<Found>, Refused<FindFault>>,
-) -> Result<Entry, Refused<Failed>>
+) -> Result<Entry, Refused<FailedRead>>
     ensures entry { (file : Option NamedFile) → Finds file outcome → IfOk result (FileComesTo file) }
     ensures failed { is_failed result ≡ finds.is_failed outcome }
+    ensures at { (names : List (List ℕ)) → NamesOneOf names outcome → FailsAtOneOf names result }
 {
     match outcome {
         Ok(None) => Ok(Entry::Absent),
@@ -92,11 +95,12 @@ pub fn entry_of<F: Folder>(
     folder: &mut F,
     base: &[u8],
     name: &[u8],
-) -> Result<Entry, Refused<Failed>>
+) -> Result<Entry, Refused<FailedRead>>
     requires base_is { IsUtf8 base.now }
     requires name_is { IsPlain name.now }
     ensures entry { IfSome (F.files folder.old) (λ files. IfOk result (ComesTo files base.now name.now)) }
     ensures same { F.files folder.new ≡ F.files folder.old }
+    ensures at { FailsAtOneOf (candidates base.now name.now ending) result }
     ensures cause { Counts (F.count folder.old) (F.count folder.new) (is_failed result) }
 {
     search_entry(alloc, find(alloc, folder, base, name, b".mpy"))

@@ -105,15 +105,26 @@ fn add_imports(
     Ok(())
 }
 
+/// Puts the names that a module imports behind those that are there.
+pub(crate) fn add_names(
+    alloc: Global,
+    module: &RawModule,
+    names: &mut Vec<Text>,
+) -> Result<(), NoMemory>
+    ensures { OnOk result ((imports : List (List ℕ)) × Imports module.now imports × (names.new.items ≡ names.old.items ++ imports)) }
+{
+    module_law(module);
+    resolves_law();
+    add_imports(alloc, module, module.code(), names)
+}
+
 /// The names that a module imports: those of its codes in preorder, and in a code those of its instructions in their
 /// order. A name stands there as often as it is imported.
 pub fn imported_names(alloc: Global, module: &RawModule) -> Result<Vec<Text>, NoMemory>
     ensures { IfOk result (λ names. Imports module.now names.items) }
 {
-    module_law(module);
-    resolves_law();
     let mut names = Vec::new(alloc);
-    add_imports(alloc, module, module.code(), &mut names)?;
+    add_names(alloc, module, &mut names)?;
     Ok(names)
 }
 

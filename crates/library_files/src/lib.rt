@@ -6,9 +6,11 @@ mod entry;
 mod imports;
 mod laws;
 mod limit;
+mod loading;
 
 pub use asked::asked_names;
 pub use entry::{Entry, entry_of};
 pub use imports::{imported_names, imports_law};
 pub use laws::loads_law;
-pub use limit::{Limit, MAX_LIBRARY_BYTES};
+pub use limit::{FailedRead, Limit, LoadFault, MAX_LIBRARY_BYTES};
+pub use loading::load;

@@ -1,4 +1,6 @@
-//! The limits of a library of files.
+//! The limits of a library of files, and why none is loaded.
+
+use mpy_base::Text;
 
 /// The most bytes that the files of a library's modules have together, the main file's among them.
 pub const MAX_LIBRARY_BYTES: usize = 16_777_216;
@@ -10,4 +12,19 @@ pub enum Limit {
     TooMany,
     /// Its pool has no room for a module's texts.
     Names,
+}
+
+/// The read of the file of this path failed outside.
+#[derive(Debug, Drop)]
+pub struct FailedRead {
+    pub path: Text,
+}
+
+/// Why no library is loaded.
+#[derive(Debug, Drop)]
+pub enum LoadFault {
+    /// It passes a limit.
+    Past(Limit),
+    /// The read of a file failed outside.
+    Failed(FailedRead),
 }

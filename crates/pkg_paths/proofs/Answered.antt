@@ -18,5 +18,5 @@ pub names_second : (first second text : List ℕ) (result : Result (Option Found
 names_second first second text (Ok (Some found)) is h = second_of first second text found.name is h
 names_second first second text (Ok None) is h = h
 names_second first second text (Err (Fault (TooLong name))) is h = second_of first second text name is h
-names_second first second text (Err (Fault Failed)) is h = h
+names_second first second text (Err (Fault (Failed name))) is h = second_of first second text name is h
 names_second first second text (Err NoMemory) is h = h

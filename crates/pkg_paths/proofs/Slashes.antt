@@ -1,9 +1,10 @@
 -- Names with `/` for each dot, and back.
 use Rattle.std.proofs.Common.{◌≡◌, ◌⊎◌, ◌<◌, ◌≤◌, ◌||◌, ◌&&◌, ◌+◌, ℕ, Bool, true, false, cond, List, [], ◌∷◌, ◌++◌, map, length, nat_eq, nat_le, if◌then◌else◌, IsUtf8, IsAscii, codes, zero, suc, inl, inr, refl, sym, ap, ap₂, ◌∙◌, arith, subst, true≢false}
-use Rattle.std.specs.List.{onto_first, join_with_byte, list_all, count_by}
+use Rattle.std.specs.List.{All, AllByRecursion, onto_first, join_with_byte, list_all, count_by}
 use Rattle.std.specs.Char.{is_ascii_alphanumeric}
 use Rattle.std.specs.Int.{is_in_range}
 use Rattle.std.proofs.lemmas.Bool.{eqb-true, leb-true}
+use Rattle.std.proofs.lemmas.List.Elements.{All-from_recursion}
 use Rattle.std.proofs.lemmas.List.Splits.{length-slice_split}
 use Rattle.std.proofs.lemmas.Str.{IsUtf8-append, IsUtf8-from_ascii}
 use Rattle.pkg_paths.specs.Plain.{parts_of, is_word_byte, is_part, IsPlain}
@@ -121,6 +122,23 @@ slashed_ascii : (name : List ℕ) → IsSlashless name → IsAscii (map slashed 
 slashed_ascii [] e i = omega arith
 slashed_ascii (byte ∷ name) e zero = name_byte byte (both (is_name_byte byte) (list_all is_name_byte name) e).0
 slashed_ascii (byte ∷ name) e (suc i) = slashed_ascii name (both (is_name_byte byte) (list_all is_name_byte name) e).1 i
+
+-- ---- a plain name is ASCII
+
+below_128 : (byte : ℕ) → is_name_byte byte ≡ true → byte < 128
+below_128 byte e = by_test (nat_eq 46 byte) refl where
+  by_test : (b : Bool) → nat_eq 46 byte ≡ b → byte < 128
+  by_test true is = omega (arith, eqb-true 46 byte is)
+  by_test false is = word_byte byte (ap (λ (z : Bool). z || is_word_byte byte) (sym is) ∙ e)
+
+name_ascii : (name : List ℕ) → IsSlashless name → AllByRecursion (λ byte. byte < 128) name
+name_ascii [] e = tt
+name_ascii (byte ∷ name) e =
+    let p = both (is_name_byte byte) (list_all is_name_byte name) e in
+    (below_128 byte p.0, name_ascii name p.1)
+
+pub plain_ascii : (name : List ℕ) → IsPlain name → All (λ byte. byte < 128) name
+plain_ascii name plain = All-from_recursion (λ byte. byte < 128) name (name_ascii name (plain_slashless name plain))
 
 -- ---- the candidates of a plain name are UTF-8
 

@@ -22,7 +22,7 @@ abbrev pub Finds : Option NamedFile → Result (Option Found) (Refused FindFault
 Finds file (Ok (Some found)) = file ≡ Some (found.name, found.bytes.items)
 Finds file (Ok None) = file ≡ None
 Finds file (Err (Fault (TooLong name))) = (bytes : List ℕ) × (file ≡ Some (name, bytes)) × (MAX_READ_BYTES < length bytes)
-Finds file (Err (Fault Failed)) = ⊤
+Finds file (Err (Fault (Failed name))) = ⊤
 Finds file (Err NoMemory) = ⊤
 
 -- the file that an answer names is one of these
@@ -30,11 +30,11 @@ abbrev pub NamesOneOf : List (List ℕ) → Result (Option Found) (Refused FindF
 NamesOneOf names (Ok (Some found)) = Contains names found.name
 NamesOneOf names (Ok None) = ⊤
 NamesOneOf names (Err (Fault (TooLong name))) = Contains names name
-NamesOneOf names (Err (Fault Failed)) = ⊤
+NamesOneOf names (Err (Fault (Failed name))) = Contains names name
 NamesOneOf names (Err NoMemory) = ⊤
 
 abbrev pub is_failed : Result (Option Found) (Refused FindFault) → Bool
 is_failed (Ok found) = false
-is_failed (Err (Fault Failed)) = true
+is_failed (Err (Fault (Failed name))) = true
 is_failed (Err (Fault (TooLong name))) = false
 is_failed (Err NoMemory) = false

@@ -23,8 +23,8 @@ pub struct Found {
 /// Why the file of a name isn't read.
 #[derive(Debug, Drop)]
 pub enum FindFault {
-    /// A read failed outside.
-    Failed,
+    /// The read of the file of this name failed outside.
+    Failed(Text),
     /// The file of this name is longer than any file that is read.
     TooLong(Text),
 }
@@ -49,7 +49,7 @@ fn read_one<F: Folder>(
         Ok(bytes) => Ok(Some(Found { name, bytes })),
         Err(ReadFault::Absent) => Ok(None),
         Err(ReadFault::TooLong) => Err(Refused::Fault(FindFault::TooLong(name))),
-        Err(ReadFault::Failed) => Err(Refused::Fault(FindFault::Failed)),
+        Err(ReadFault::Failed) => Err(Refused::Fault(FindFault::Failed(name))),
         Err(ReadFault::NoMemory) => Err(Refused::NoMemory),
     }
 }

@@ -1,0 +1,45 @@
+-- What loading answers.
+use Rattle.std.specs.Prelude.{◌≡◌, ℕ, Bool, true, false, List, Contains, Some, Result, Ok, Err, slice_get, ⊤}
+use Rattle.mpy_base.specs.declared.refused.Refused.{Refused}
+use Rattle.mpy_base.specs.declared.refused.Refused.TheVariants.{Fault, NoMemory}
+use Rattle.mpy_tree.specs.File.{IsModule}
+use Rattle.mpy_tree.specs.Raw.{Module}
+use Rattle.bc_verify.specs.Verified.{IsVerified}
+use Rattle.pkg_paths.specs.Plain.{IsPlain}
+use Rattle.pkg_paths.specs.Paths.{candidates}
+use Rattle.bc_library.specs.Shelf.{Named, Shelf, module_at}
+use Rattle.library_files.specs.declared.limit.LoadFault.{LoadFault}
+use Rattle.library_files.specs.declared.limit.LoadFault.TheVariants as faults
+use Rattle.library_files.specs.Comes.{ending}
+use Rattle.library_files.specs.Loads.{Loading, Loaded, Past, main_name}
+
+-- loading ends as the answer says: a read that failed, and want of memory, say nothing
+abbrev pub EndsIn : (Ends : Loading → Type 0) → Result Shelf (Refused LoadFault) → Type 0
+EndsIn Ends (Ok library) = Ends (Loaded library)
+EndsIn Ends (Err (Fault (faults.Past limit))) = Ends (Past limit)
+EndsIn Ends (Err (Fault (faults.Failed failed))) = ⊤
+EndsIn Ends (Err NoMemory) = ⊤
+
+-- a read failed outside
+abbrev pub is_failed : {A : Type 0} → Result A (Refused LoadFault) → Bool
+is_failed (Ok done) = false
+is_failed (Err (Fault (faults.Past limit))) = false
+is_failed (Err (Fault (faults.Failed failed))) = true
+is_failed (Err NoMemory) = false
+
+-- and then it was that of a file which a plain name may have in the base folder
+abbrev pub FailsInBase : {A : Type 0} → (base : List ℕ) → Result A (Refused LoadFault) → Type 0
+FailsInBase base (Ok done) = ⊤
+FailsInBase base (Err (Fault (faults.Past limit))) = ⊤
+FailsInBase base (Err (Fault (faults.Failed failed))) = (name : List ℕ) × IsPlain name × Contains (candidates base name ending) failed.path
+FailsInBase base (Err NoMemory) = ⊤
+
+-- the first module is the main one
+abbrev pub BeginsWith : Module → Shelf → Type 0
+BeginsWith main shelf = slice_get shelf.modules 0 ≡ Some (record { name = main_name; held = main })
+
+-- no two modules have one name, and each is one that a file may hold, and verified
+pub record HoldsModules (shelf : Shelf) : Type 0 where
+  pub distinct : (i k : ℕ) (a b : Named) → slice_get shelf.modules i ≡ Some a → slice_get shelf.modules k ≡ Some b → a.name ≡ b.name → i ≡ k
+  pub are_modules : (i : ℕ) (m : Module) → module_at shelf i ≡ Some m → IsModule m
+  pub are_verified : (i : ℕ) (m : Module) → module_at shelf i ≡ Some m → IsVerified m
