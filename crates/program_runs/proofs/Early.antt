@@ -1,5 +1,5 @@
 -- A run that hasn't taken a step is the meaning without turns.
-use Rattle.std.proofs.Common.{◌≡◌, ℕ, ◌≤◌, List, [], Option, Some, None, Bool, true, refl, sym, ap, ◌∙◌, subst, inl, inr, zero-le}
+use Rattle.std.proofs.Common.{◌≡◌, ℕ, ◌≤◌, List, [], Option, Some, None, true, refl, sym, ap, ◌∙◌, subst, inl, inr, zero-le}
 use Rattle.std.specs.Prelude.{◌⊎◌}
 use Rattle.mpy_base.specs.World.{PortState}
 use Rattle.mpy_base.specs.Val.{PlainWorld}
