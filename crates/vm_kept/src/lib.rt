@@ -1,0 +1,86 @@
+//! What the calls of a program keep while it runs over an arena: exceptions that handlers find, and methods of the objects that
+//! look-ups leave.
+#![tactic(auto)]
+
+ghost use Rattle.std.specs.Prelude.{◌≡◌, ℕ, ◌+◌, [], ◌∷◌, Some};
+ghost use Rattle.mpy_base.specs.World.{Objects, Heap, Later};
+ghost use Rattle.mpy_base.specs.Val.{PlainWorld};
+ghost use Rattle.arena_heap.specs.declared.value.Value.{Value};
+ghost use Rattle.py_effects.specs.Effect.{Place};
+ghost use Rattle.vm_faults.specs.declared.stop.Stop.{Stop};
+ghost use Rattle.bc_machine.specs.Library.{Name, Module, Holds, entry_in};
+ghost use Rattle.bc_machine.specs.Machine.{start};
+ghost use Rattle.bc_rows.specs.declared.row.Row.{Row};
+ghost use Rattle.vm_modules.specs.Registry.{Registry};
+ghost use Rattle.vm_frames.specs.Calls.{Call, Calls, OfRunning, on_running};
+ghost use Rattle.vm_step.specs.Shown.{running_of};
+ghost use Rattle.vm_step.specs.Outcomes.{world_of, stopping_of};
+ghost use Rattle.vm_unwinding.specs.Ends.{with_modules};
+ghost use Rattle.vm_fetching.specs.declared.operations.NumberOp.{NumberOp};
+ghost use Rattle.vm_fetching.specs.declared.operations.PlainOp.TheVariants as plain_ops;
+ghost use Rattle.vm_fetching.specs.declared.instruction.Instruction.TheVariants as fetched;
+ghost use Rattle.vm_invoking.specs.Operands.{operands_count};
+ghost use Rattle.vm_invoking.specs.Putting.{with_value};
+ghost use Rattle.vm_states.specs.Means.{Program, Means};
+ghost use Rattle.vm_states.specs.Running.{IsRunning};
+ghost use Rattle.vm_states.specs.Ready.{IsReady};
+ghost use Rattle.vm_known.specs.State.{IsState};
+ghost use Rattle.vm_leaving.specs.Keeping.{KeepsCause};
+ghost use Rattle.vm_leaving.specs.Running.{fetched_plain, stepped_with};
+ghost use Rattle.vm_calling.specs.Taken.{HasMethods, CallsValue, callee_slots};
+ghost use Rattle.vm_kept.specs.Kept.{HoldsKept};
+
+use bc_progress::known_law;
+
+/// Calls that have begun keep nothing yet: where the machine's start of a module comes to them, and where there is one call,
+/// without slots and entries.
+pub fn begins_law()
+    ensures start { (p : Program) (name : Name) (m : Module) (before w : PlainWorld) (heap : Heap Value ℕ) (s : Calls) → Means p
+        → entry_in p.library name ≡ Some (Holds m)
+        → start p.library name before ≡ running_of p.tables 0 s.calls (world_of p.tables w heap) → HoldsKept p heap.objects s }
+    ensures one { (p : Program) (objects : Objects Value ℕ) (s : Calls) (c : Call) → IsRunning p s → s.calls ≡ c ∷ [] → c.slots ≡ []
+        → c.entries ≡ [] → HoldsKept p objects s }
+{
+    known_law();
+}
+
+/// Behind a step of the machine that leaves them running, the calls keep exceptions and methods of the objects that there are
+/// then, where objects stay of their kinds.
+pub fn step_law()
+    ensures { (p : Program) (before behind : Heap Value ℕ) (earlier later : Registry) (paid again : ℕ) (w v : PlainWorld) (old new : Calls) → Means p
+        → HoldsKept p before.objects old → Later before.objects behind.objects
+        → stepped_with p paid old w before earlier ≡ running_of p.tables again new.calls (world_of p.tables (with_modules p.tables v later) behind)
+        → HoldsKept p behind.objects new }
+{
+    known_law();
+}
+
+/// Behind a stop that is thrown through them and leaves them running, the calls keep exceptions and methods of the objects that
+/// there are then.
+pub fn raises_law()
+    ensures { (p : Program) (place : Place) (between behind : Heap Value ℕ) (earlier later : Registry) (again : ℕ) (w v : PlainWorld) (old new : Calls) (stop : Stop) → Means p
+        → HoldsKept p between.objects old → Later between.objects behind.objects
+        → stopping_of p.tables place (with_modules p.tables w earlier) between old.calls stop
+        ≡ running_of p.tables again new.calls (world_of p.tables (with_modules p.tables v later) behind)
+        → HoldsKept p behind.objects new }
+{}
+
+/// With any value in the place of what a call takes, and at the next instruction, the calls keep what they kept.
+pub fn gives_law()
+    ensures { (p : Program) (s new : Calls) (row : Row) (op : NumberOp) (number end size : ℕ) (v : Value) (before behind : Objects Value ℕ) → Means p
+        → CallsValue op → IsReady p s row (record { instruction = fetched.Number op number; end = end })
+        → size ≡ operands_count number + callee_slots op → HoldsKept p before s → Later before behind
+        → new ≡ on_running (with_value end size v) s → HoldsKept p behind new }
+{}
+
+/// At the end of a finally a cause lies on top of the running call: None, an exception, a return, or a jump to an instruction.
+pub fn cause_law()
+    ensures { (p : Program) (objects : Objects Value ℕ) (s : Calls) (row : Row) (end : ℕ) → Means p → IsState p objects s
+        → IsReady p s row (fetched_plain plain_ops.EndFinally end) → HoldsKept p objects s → KeepsCause p s }
+{}
+
+/// An object that a look-up left on the running call lies on a method of its type.
+pub fn methods_law()
+    ensures { (p : Program) (objects : Objects Value ℕ) (s : Calls) → IsState p objects s → HoldsKept p objects s
+        → OfRunning (λ c. HasMethods c.slots) s.calls }
+{}
