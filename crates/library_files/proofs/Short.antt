@@ -1,6 +1,6 @@
 -- The names that a module imports are short.
 use Rattle.std.proofs.Common.{◌≡◌, ℕ, ◌^◌, ◌<◌, List, [], ◌∷◌, ◌++◌, length, map, Option, Some, None, refl, sym, ap, subst, ◌∙◌, arith, slice_get, option_map, option_and_then, unwrap_or}
-use Rattle.std.specs.List.{AllByRecursion, filter_map, cons_option}
+use Rattle.std.specs.List.{filter_map, cons_option}
 use Rattle.bc_ops.specs.declared.instr.Op.{Op}
 use Rattle.bc_ops.specs.declared.instr.Op.TheVariants as ops
 use Rattle.bc_ops.specs.declared.instr.Instr.{Instr}
@@ -14,7 +14,7 @@ use Rattle.mpy_tree.specs.declared.raw.RawCode.{RawCode, out-RawCode}
 use Rattle.mpy_tree.specs.File.{IsModule}
 use Rattle.mpy_tree.specs.Raw.{Module, text_of}
 use Rattle.mpy_tree.specs.Values.{value_of}
-use Rattle.mpy_tree.specs.Resolved.{Resolved, plain, named, object, resolved, resolved_instr, name_at, Body, instrs_of, Tree, node, Trees, no_more, more, IsBody, ResolvesCode, ResolveCodes, ResolvedModule, Resolves}
+use Rattle.mpy_tree.specs.Resolved.{plain, named, object, resolved, resolved_instr, name_at, Body, Tree, node, Trees, no_more, more, IsBody, ResolvesCode, ResolveCodes}
 use Rattle.qstr_pool.specs.declared.table.TheConstants.{FIRST_OWN}
 use Rattle.qstr_pool.specs.Pool.{Texts}
 use Rattle.bc_library.specs.Fine.{Each, FineQstr}

@@ -1,30 +1,26 @@
 -- What taking an entry comes to.
-use Rattle.std.proofs.Common.{◌≡◌, ◌≢◌, ◌⊎◌, ◌↔◌, ℕ, ◌+◌, ◌-◌, ◌<◌, ◌≤◌, Bool, true, false, List, [], ◌∷◌, ◌++◌, length, nat_lt, if◌then◌else◌, Option, Some, None, Result, Ok, Err, inl, inr, refl, sym, ap, subst, ◌∙◌, arith, length-append, append_assoc}
-use Rattle.std.specs.Prelude.{IsSome, OnOk}
+use Rattle.std.proofs.Common.{◌≡◌, ◌⊎◌, ℕ, ◌+◌, ◌<◌, ◌≤◌, Bool, true, false, List, [], ◌∷◌, ◌++◌, length, if◌then◌else◌, Option, Some, None, Result, Ok, Err, inl, inr, refl, sym, ap, subst, ◌∙◌, arith, length-append, append_assoc}
+use Rattle.std.specs.Prelude.{OnOk}
 use Rattle.std.specs.List.{AllByRecursion}
 use Rattle.std.proofs.lemmas.Bool.{ltb-true}
 use Rattle.std.proofs.lemmas.List.{append-nil}
-use Rattle.mpy_base.specs.declared.limits.TheConstants.{MAX_MODULES, MAX_TABLE}
+use Rattle.mpy_base.specs.declared.limits.TheConstants.{MAX_MODULES}
 use Rattle.mpy_base.specs.declared.refused.Refused.{Refused}
 use Rattle.mpy_base.specs.declared.refused.Refused.TheVariants as refused
 use Rattle.mpy_tree.specs.File.{IsModule}
 use Rattle.mpy_tree.specs.Raw.{Module}
-use Rattle.bc_library.specs.declared.fault.LibFault.{LibFault}
-use Rattle.bc_library.specs.declared.fault.LibFault.TheVariants as lib
-use Rattle.bc_library.specs.declared.fault.Member.{Member}
-use Rattle.bc_library.specs.Shelf.{Named, Shelf, IsFull, with_module, with_refused, member_of}
+use Rattle.bc_library.specs.Shelf.{Named, Shelf, with_module, with_refused}
 use Rattle.library_files.specs.declared.entry.Entry.{Entry}
 use Rattle.library_files.specs.declared.entry.Entry.TheVariants as entries
 use Rattle.library_files.specs.declared.limit.Limit.{Limit}
-use Rattle.library_files.specs.declared.limit.Limit.TheVariants.{TooMany, Names}
-use Rattle.library_files.specs.declared.limit.TheConstants.{MAX_LIBRARY_BYTES}
+use Rattle.library_files.specs.declared.limit.Limit.TheVariants.{TooMany}
 use Rattle.library_files.specs.declared.limit.LoadFault.{LoadFault}
 use Rattle.library_files.specs.declared.limit.LoadFault.TheVariants.{Past, Failed}
 use Rattle.library_files.specs.declared.loading.Begun.{Begun}
 use Rattle.library_files.specs.Imports.{Imports}
 use Rattle.library_files.specs.Ends.{is_failed, FailsInBase}
-use Rattle.library_files.specs.Loads.{has_place, limit_within, limit_of, with_entry, size_with, EntryImports}
-use Rattle.library_files.specs.Steps.{AddsImports, AddsModules, AreModules, AreShort, LimitComesTo, Step, Takes, places_left}
+use Rattle.library_files.specs.Loads.{has_place, limit_within, limit_of}
+use Rattle.library_files.specs.Steps.{AddsImports, AddsModules, AreShort, Step, Takes, places_left}
 use Rattle.library_files.proofs.Short.{short_both, imports_short}
 
 -- what holds of a step that took an entry

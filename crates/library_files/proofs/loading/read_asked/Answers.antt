@@ -1,4 +1,4 @@
-use Rattle.std.proofs.Common.{Bool, sym, subst, ◌∙◌}
+use Rattle.std.proofs.Common.{Bool, sym, subst}
 use Rattle.mpy_io.specs.Count.{Counts}
 use Rattle.library_files.proofs.Asks.{entry_asked, unread_asked, unread_at, unread_failed}
 use Rattle.library_files.proofs.Taken.{takes_at, takes_unfailed}
