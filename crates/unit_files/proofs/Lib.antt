@@ -1,0 +1,2 @@
+mod Crossed
+mod Merged
