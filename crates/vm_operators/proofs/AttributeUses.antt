@@ -1,10 +1,12 @@
 -- Attributes of an arena's values, as the meaning has them.
 use Rattle.std.proofs.Common.{◌≡◌, ℕ, List, [], ◌∷◌, map, Option, Some, None, refl, sym, ap, ◌∙◌, subst}
 use Rattle.std.specs.Prelude.{bytes_eq, codes, if◌then◌else◌}
+use Rattle.std.specs.Option.{option_map}
 use Rattle.arena_heap.specs.declared.value.Value.{Value}
 use Rattle.arena_heap.specs.declared.value.Value.TheVariants as values
 use Rattle.arena_heap.specs.declared.value.StrNo.{StrNo}
 use Rattle.arena_heap.specs.declared.value.ConstNo.{ConstNo}
+use Rattle.arena_heap.specs.declared.value.DictNo.{DictNo}
 use Rattle.mpy_base.specs.declared.kind.Kind.{Kind}
 use Rattle.mpy_base.specs.World.{ListObject, TupleObject, DictObject, TextObject, FunctionObject, ExceptionObject, MethodObject, RangeObject, ModuleObject, Heap, ObjectKind, AList, ATuple, ADict, AText, AFunction, AMethod, ARange, IsA, object, kind_of, pairs_at}
 use Rattle.mpy_base.specs.Val.{Val, Str, At}
@@ -21,6 +23,11 @@ use Rattle.vm_faults.proofs.Heaps.{pairs_of_plain}
 fixed_absent : (heap : PlainHeap) (name : List ℕ) (items : List Val) → attribute heap (fixed_of items) name ≡ Absent
 fixed_absent heap name [] = refl
 fixed_absent heap name (v ∷ vs) = refl
+
+-- a module by its namespace, or by having none
+pub by_namespace : (h : Heap Value ℕ) (n own_name : ℕ) (read known : Option DictNo) → object h.objects n ≡ Some (ModuleObject own_name (option_map (λ (d : DictNo). d.cell) read)) → read ≡ known
+    → object h.objects n ≡ Some (ModuleObject own_name (option_map (λ (d : DictNo). d.cell) known))
+by_namespace h n own_name read known parts is = parts ∙ ap (λ (o : Option DictNo). Some (ModuleObject own_name (option_map (λ (d : DictNo). d.cell) o))) is
 
 abbrev HasNone : Option ObjectKind → Type 0
 HasNone (Some ATuple) = Unit {0}
