@@ -12,15 +12,16 @@ use Rattle.bc_flow.specs.Machine as flow
 use Rattle.bc_flow.specs.Machine.{Stack}
 use Rattle.bc_flow.proofs.Runs.{fits_floor}
 use Rattle.bc_flow.proofs.Sound.{Fits as Heights}
-use Rattle.py_effects.specs.Effect.{Given, Gives, Throws, Fills, Fails, Thrown, Filled, given}
+use Rattle.py_effects.specs.Effect.{Place, Given, Gives, Throws, Fills, Fails, Thrown, Filled, given}
 use Rattle.py_effects.specs.Modules.{store_module}
 use Rattle.bc_machine.specs.Library.{Name, Code, Module, Holds, Entry, Library, entry_in, module_in, code_in, code_at}
 use Rattle.bc_machine.specs.State.{Value, Role, Main, Called, Imported, Frame, State, Running, cut, abandoned, throw_in, throw_out, throw, fail, on_given, give}
-use Rattle.bc_progress.specs.Slots.{value, ShowsAll, more, flow_entry}
+use Rattle.bc_progress.specs.Slots.{Facts, value, ShowsAllIn, more, flow_entry}
 use Rattle.bc_progress.specs.Plans.{flow_of, IsVerifiedCode, Plans, Follows}
-use Rattle.bc_progress.specs.Fits.{Stands, Waits, Below, Fits}
+use Rattle.bc_progress.specs.Fits.{StandsIn, WaitsIn, BelowIn, FitsIn}
 use Rattle.bc_progress.proofs.Flowing.{raises, straight_on, stands, low}
 use Rattle.bc_progress.proofs.Showing.{shows_cut}
+use Rattle.bc_progress.proofs.Knowing.{FitsBehind, Covers, ThrowsKnown, GivesKnown, given_known, throw_heap}
 use Rattle.bc_progress.proofs.Moves.{Agree, agree_all, lands, caught}
 use Rattle.bc_progress.proofs.Items.{fine}
 
@@ -38,23 +39,24 @@ module _ (plans : Plans) (library : Library) (follows : Follows plans library) w
   pub meets : (name : Name) (number : ℕ) (code : Code) → code_at library name number ≡ Some code → Meets (flow_of (plans name number) code) (plans name number).assigned
   meets name number code e = (verified name number code e).3.meets
 
-  -- a raise in a frame that stands at an instruction
-  stands_out : (x : ℕ) (frame : Frame) (frames : List Frame) (s : Stands plans library frame) → Below plans library frame.role frames → (w : PlainWorld) (out : State) → Fits plans library out → Fits plans library (throw_in x frame.entries frame frames w out)
-  stands_out x frame frames s below w out o =
+module _ (facts : Facts) (plans : Plans) (library : Library) (follows : Follows plans library) where
+  -- a raise of an exception that is known, in a frame that stands at an instruction
+  stands_out : (x : ℕ) → facts.exception x → (frame : Frame) (frames : List Frame) (s : StandsIn facts plans library frame) → BelowIn facts plans library frame.role frames → (w : PlainWorld) (out : State) → FitsIn facts plans library out → FitsIn facts plans library (throw_in x frame.entries frame frames w out)
+  stands_out x is frame frames s below w out o =
       let plan = plans frame.module_name frame.code in
       let es = map flow_entry frame.entries in
-      let m = meets frame.module_name frame.code s.code s.code_is in
+      let m = meets plans library follows frame.module_name frame.code s.code s.code_is in
       let i = stands (flow_of plan s.code) plan.assigned (fine plan s.code) m frame.position s.stack es s.planned in
-      caught plans library frame s.code s.code_is s.locals frames below x w out o frame.entries s.stack (length s.stack) (agree_all (length s.stack) frame.slots s.stack s.shows) s.planned.runs.fits
+      caught facts plans library frame s.code s.code_is s.locals frames below x is w out o frame.entries s.stack (length s.stack) s.kept (agree_all facts (length s.stack) frame.slots s.stack s.shows) s.planned.runs.fits
       (raises (flow_of plan s.code) plan.assigned (fine plan s.code) m i.0 frame.position s.stack es s.planned i.1)
 
   -- and in one that waits
-  waits_agree : (frame : Frame) (w : Waits plans library frame) → Agree (length w.stack - length w.wants) frame.slots w.stack × Heights (map flow_entry frame.entries) (length w.stack - length w.wants)
+  waits_agree : (frame : Frame) (w : WaitsIn facts plans library frame) → Agree facts (length w.stack - length w.wants) frame.slots w.stack × Heights (map flow_entry frame.entries) (length w.stack - length w.wants)
   unfolding change takes
   waits_agree frame w =
       let plan = plans frame.module_name frame.code in
       let es = map flow_entry frame.entries in
-      let m = meets frame.module_name frame.code w.code w.code_is in
+      let m = meets plans library follows frame.module_name frame.code w.code w.code_is in
       let l = low (flow_of plan w.code) plan.assigned (fine plan w.code) m (Straight w.wants (New kinds.Value ∷ [])) frame.position w.stack es refl w.planned w.call in (
         (λ h le.
             let k = length w.stack - h in
@@ -62,49 +64,52 @@ module _ (plans : Plans) (library : Library) (follows : Follows plans library) w
             let q = length-drop (length w.wants) w.stack in
             let c : drop (length (drop (length w.wants) w.stack) - h) (drop (length w.wants) w.stack) ≡ drop k w.stack =
             drop-drop (length (drop (length w.wants) w.stack) - h) (length w.wants) w.stack ∙ ap (λ z. drop z w.stack) (let e : length w.wants + (length (drop (length w.wants) w.stack) - h) ≡ k = omega (arith, q, n, le) in e) in
-            subst (ShowsAll (cut h frame.slots)) c (shows_cut h frame.slots (drop (length w.wants) w.stack) w.shows)),
+            subst (ShowsAllIn facts (cut h frame.slots)) c (shows_cut h frame.slots (drop (length w.wants) w.stack) w.shows)),
         fits_floor es (length w.stack) (length w.stack - length w.wants) w.planned.runs.fits l.1,
       )
 
-  waits_out : (x : ℕ) (frame : Frame) (frames : List Frame) (s : Waits plans library frame) → Below plans library frame.role frames → (w : PlainWorld) (out : State) → Fits plans library out → Fits plans library (throw_in x frame.entries frame frames w out)
-  waits_out x frame frames s below w out o =
+  waits_out : (x : ℕ) → facts.exception x → (frame : Frame) (frames : List Frame) (s : WaitsIn facts plans library frame) → BelowIn facts plans library frame.role frames → (w : PlainWorld) (out : State) → FitsIn facts plans library out → FitsIn facts plans library (throw_in x frame.entries frame frames w out)
+  waits_out x is frame frames s below w out o =
       let plan = plans frame.module_name frame.code in
-      let m = meets frame.module_name frame.code s.code s.code_is in
+      let m = meets plans library follows frame.module_name frame.code s.code s.code_is in
       let a = waits_agree frame s in
-      caught plans library frame s.code s.code_is s.locals frames below x w out o frame.entries s.stack (length s.stack - length s.wants) a.0 a.1
+      caught facts plans library frame s.code s.code_is s.locals frames below x is w out o frame.entries s.stack (length s.stack - length s.wants) s.kept a.0 a.1
       (raises (flow_of plan s.code) plan.assigned (fine plan s.code) m (Straight s.wants (New kinds.Value ∷ [])) frame.position s.stack (map flow_entry frame.entries) s.planned s.call)
 
-  pub out_fits : (x : ℕ) (role : Role) (frames : List Frame) → Below plans library role frames → (w : PlainWorld) → Fits plans library (throw_out x frames w)
-  out_fits x role [] below w = tt
-  out_fits x Main (frame ∷ frames) below w = absurd below
-  out_fits x Called (frame ∷ frames) below w = waits_out x frame frames below.0 below.1 w _ (out_fits x frame.role frames below.1 (abandoned frame.role w))
-  out_fits x (Imported name m) (frame ∷ frames) below w = stands_out x frame frames below.0 below.1 w _ (out_fits x frame.role frames below.1 (abandoned frame.role w))
+  pub out_fits : (x : ℕ) → facts.exception x → (role : Role) (frames : List Frame) → BelowIn facts plans library role frames → (w : PlainWorld) → FitsIn facts plans library (throw_out x frames w)
+  out_fits x is role [] below w = tt
+  out_fits x is Main (frame ∷ frames) below w = absurd below
+  out_fits x is Called (frame ∷ frames) below w = waits_out x is frame frames below.0 below.1 w _ (out_fits x is frame.role frames below.1 (abandoned frame.role w))
+  out_fits x is (Imported name m) (frame ∷ frames) below w = stands_out x is frame frames below.0 below.1 w _ (out_fits x is frame.role frames below.1 (abandoned frame.role w))
 
-  pub throws : (x : ℕ) (frame : Frame) (frames : List Frame) → Stands plans library frame → Below plans library frame.role frames → (w : PlainWorld) → Fits plans library (throw x frame frames w)
-  throws x frame frames s below w = stands_out x frame frames s below w _ (out_fits x frame.role frames below (abandoned frame.role w))
+  throws : (x : ℕ) (frame : Frame) (frames : List Frame) → StandsIn facts plans library frame → BelowIn facts plans library frame.role frames → (w : PlainWorld) → (Covers facts w.heap.objects → facts.exception x) → FitsBehind facts plans library (throw x frame frames w)
+  throws x frame frames s below w known = λ covers.
+      let is = known (subst (Covers facts) (throw_heap x frame frames w) covers) in
+      stands_out x is frame frames s below w _ (out_fits x is frame.role frames below (abandoned frame.role w))
 
-  pub fails_fit : (f : Fails) (frame : Frame) (frames : List Frame) → Stands plans library frame → Below plans library frame.role frames → Fits plans library (fail f frame frames)
-  fails_fit (Thrown x w) frame frames s below = throws x frame frames s below w
-  fails_fit (Filled e w) frame frames s below = tt
+  pub fails_fit : (f : Fails) → ThrowsKnown facts f → (frame : Frame) (frames : List Frame) → StandsIn facts plans library frame → BelowIn facts plans library frame.role frames → FitsBehind facts plans library (fail f frame frames)
+  fails_fit (Thrown x w) known frame frames s below = throws x frame frames s below w known
+  fails_fit (Filled e w) known frame frames s below = λ covers. tt
 
-  pub given_fits : {A : Type 0} (g : Given A) (frame : Frame) (frames : List Frame) (next : A → PlainWorld → State) → Stands plans library frame → Below plans library frame.role frames
-      → ((a : A) (w : PlainWorld) → g ≡ Gives a w → Fits plans library (next a w)) → Fits plans library (on_given g frame frames next)
-  given_fits (Gives a w) frame frames next s below k = k a w refl
-  given_fits (Throws x w) frame frames next s below k = throws x frame frames s below w
-  given_fits (Fills e w) frame frames next s below k = tt
+  pub given_fits : {A : Type 0} (g : Given A) → GivesKnown facts g → (frame : Frame) (frames : List Frame) (next : A → PlainWorld → State) → StandsIn facts plans library frame → BelowIn facts plans library frame.role frames
+      → ((a : A) (w : PlainWorld) → g ≡ Gives a w → FitsBehind facts plans library (next a w)) → FitsBehind facts plans library (on_given g frame frames next)
+  given_fits (Gives a w) known frame frames next s below k = k a w refl
+  given_fits (Throws x w) known frame frames next s below k = throws x frame frames s below w known
+  given_fits (Fills e w) known frame frames next s below k = λ covers. tt
 
   -- a value that goes to the frame below
-  pub gives_fit : (v : Val) (role : Role) (frames : List Frame) → Below plans library role frames → (w : PlainWorld) → Fits plans library (give v role frames w)
-  gives_fit v Main [] below w = tt
+  pub gives_fit : (v : Val) (role : Role) (frames : List Frame) → BelowIn facts plans library role frames → (w : PlainWorld) → FitsBehind facts plans library (give v role frames w)
+  gives_fit v Main [] below w = λ covers. tt
   gives_fit v Main (frame ∷ frames) below w = absurd below
   gives_fit v Called [] below w = absurd below
   gives_fit v (Imported name m) [] below w = absurd below
   gives_fit v (Imported name m) (frame ∷ frames) below w =
-      given_fits (given (record { file = []; line = 0; name = [] }) (store_module w name m)) frame frames (λ stored. Running 0 frame frames) below.0 below.1 (λ a w1 e. below)
+      let place : Place = record { file = []; line = 0; name = [] } in
+      given_fits (given place (store_module w name m)) (given_known facts place (store_module w name m)) frame frames (λ stored. Running 0 frame frames) below.0 below.1 (λ a w1 e. λ covers. below)
   gives_fit v Called (frame ∷ frames) below w =
       let s = below.0 in
       let plan = plans frame.module_name frame.code in
-      let m = meets frame.module_name frame.code s.code s.code_is in
+      let m = meets plans library follows frame.module_name frame.code s.code s.code_is in
       let es = map flow_entry frame.entries in
       let g = (straight_on (flow_of plan s.code) plan.assigned (fine plan s.code) m s.wants (New kinds.Value ∷ []) frame.position s.stack es s.planned s.call).1 in
-      lands plans library frame s.code s.code_is s.locals frames below.1 (suc frame.position) (Value v ∷ frame.slots) frame.entries (flow.Value ∷ drop (length s.wants) s.stack) w (more value s.shows) g
+      λ covers. lands facts plans library frame s.code s.code_is s.locals frames below.1 (suc frame.position) (Value v ∷ frame.slots) frame.entries (flow.Value ∷ drop (length s.wants) s.stack) w (more value s.shows) s.kept g

@@ -1,5 +1,6 @@
 pub mod Flowing
 pub mod Showing
+pub mod Knowing
 pub mod Moves
 pub mod Items
 pub mod Frames
@@ -9,3 +10,4 @@ pub mod Steps
 pub mod Instructions
 pub mod Plains
 pub mod Whole
+pub mod Others

@@ -2,6 +2,7 @@
 use Rattle.std.proofs.Common.{◌≡◌, ℕ, zero, suc, ◌-◌, ◌<◌, ◌≤◌, List, [], ◌∷◌, map, length, replicate, Bool, true, false, Option, Some, None, refl, ap, ◌∙◌, arith, if◌then◌else◌, length-append}
 use Rattle.std.specs.Prelude.{slice_get, nat_lt}
 use Rattle.std.proofs.lemmas.List.{length-replicate}
+use Rattle.std.proofs.lemmas.List.Elements.{All-nil}
 use Rattle.mpy_base.specs.Val.{Val, Nil, PlainWorld}
 use Rattle.bc_shapes.specs.declared.kinds.Kind.TheVariants as kinds
 use Rattle.bc_shapes.specs.declared.kinds.Want.{Want}
@@ -15,7 +16,7 @@ use Rattle.bc_flow.specs.Verified.{Assigned, Holds as Meets}
 use Rattle.bc_flow.specs.Machine as flow
 use Rattle.bc_flow.specs.Machine.{Stack, all_wanted, given}
 use Rattle.bc_flow.proofs.Never.{Good, start_good}
-use Rattle.py_primitives.specs.Faults.{TooDeep}
+use Rattle.py_primitives.specs.Faults.{Fault, TooDeep}
 use Rattle.py_effects.specs.Effect as effects
 use Rattle.py_effects.specs.Effect.{Effect, Place, Given, Gives, Fails, fault_at}
 use Rattle.py_effects.specs.Names.{Locals}
@@ -24,11 +25,12 @@ use Rattle.bc_machine.specs.Library.{Name, Code, Module, Holds, Entry, Library, 
 use Rattle.bc_machine.specs.State.{Slot, Value, Role, Called, Frame, State, go, fail}
 use Rattle.bc_machine.specs.Parts.{new_frame, has_depth}
 use Rattle.bc_machine.specs.Step as machine
-use Rattle.bc_progress.specs.Slots.{Shows, value, ShowsAll, none, more, flow_entry}
+use Rattle.bc_progress.specs.Slots.{Facts, ShowsIn, value, ShowsAllIn, none, more, flow_entry}
 use Rattle.bc_progress.specs.Plans.{flow_of, Plans, Follows}
-use Rattle.bc_progress.specs.Fits.{Stands, Waits, Below, Fits}
+use Rattle.bc_progress.specs.Fits.{StandsIn, WaitsIn, BelowIn}
 use Rattle.bc_progress.proofs.Flowing.{acts, straight_on, branch_on}
 use Rattle.bc_progress.proofs.Showing.{one_value, two_values}
+use Rattle.bc_progress.proofs.Knowing.{K, FitsBehind, ThrowsKnown, fault_known, given_known}
 use Rattle.bc_progress.proofs.Moves.{lands}
 use Rattle.bc_progress.proofs.Items.{fine}
 use Rattle.bc_progress.proofs.Frames.{verified, meets, fails_fit, given_fits}
@@ -42,9 +44,9 @@ get_there (x ∷ xs) (suc n) lt = get_there xs n (omega (arith, lt))
 pub code_is_there : (library : Library) (name : Name) (m : Module) (number : ℕ) → entry_in library name ≡ Some (Holds m) → code_at library name number ≡ slice_get m.codes number
 code_is_there library name m number e = ap (λ (o : Option Entry). code_in (module_in o) number) e
 
-module _ (plans : Plans) (library : Library) (follows : Follows plans library) where
+module _ (facts : Facts) (plans : Plans) (library : Library) (follows : Follows plans library) where
   -- a new frame stands at the first instruction of its code
-  pub new_stands : (name : Name) (number : ℕ) (code : Code) (slots : Locals) (names : ℕ) (role : Role) → code_at library name number ≡ Some code → length slots ≤ code.locals → Stands plans library (new_frame name number code slots names role)
+  pub new_stands : (name : Name) (number : ℕ) (code : Code) (slots : Locals) (names : ℕ) (role : Role) → code_at library name number ≡ Some code → length slots ≤ code.locals → StandsIn facts plans library (new_frame name number code slots names role)
   new_stands name number code slots names role e le = record {
     code = code;
     code_is = e;
@@ -54,10 +56,11 @@ module _ (plans : Plans) (library : Library) (follows : Follows plans library) w
         omega (arith, a, b, le);
     stack = [];
     shows = none;
+    kept = All-nil (K facts);
     planned = start_good (flow_of (plans name number) code) (plans name number).assigned (meets plans library follows name number code e);
   }
 
-  module _ (place : Place) (paid : ℕ) (frame : Frame) (frames : List Frame) (w : PlainWorld) (s : Stands plans library frame) (below : Below plans library frame.role frames) where
+  module _ (place : Place) (paid : ℕ) (frame : Frame) (frames : List Frame) (w : PlainWorld) (s : StandsIn facts plans library frame) (below : BelowIn facts plans library frame.role frames) where
     abbrev pub F : flows.Code
     F = flow_of (plans frame.module_name frame.code) s.code
 
@@ -74,7 +77,7 @@ module _ (plans : Plans) (library : Library) (follows : Follows plans library) w
     Comes q stack = Good F A (flow.go q stack es)
 
     abbrev pub Ok : State → Type 0
-    Ok state = Fits plans library state
+    Ok state = FitsBehind facts plans library state
 
     pub its_meets : Meets F A
     its_meets = meets plans library follows frame.module_name frame.code s.code s.code_is
@@ -82,30 +85,33 @@ module _ (plans : Plans) (library : Library) (follows : Follows plans library) w
     pub act : (i : Action) (b : Bool) → Does i → Good F A (flow.act i b frame.position s.stack es)
     act i b a = acts F A (fine (plans frame.module_name frame.code) s.code) its_meets i b frame.position s.stack es s.planned a
 
-    pub goes : (q : ℕ) (slots : List Slot) (stack : Stack) (w1 : PlainWorld) → ShowsAll slots stack → Comes q stack → Ok (go q slots frame.entries frame frames w1)
-    goes q slots stack w1 r g = lands plans library frame s.code s.code_is s.locals frames below q slots frame.entries stack w1 r g
+    pub goes : (q : ℕ) (slots : List Slot) (stack : Stack) (w1 : PlainWorld) → ShowsAllIn facts slots stack → Comes q stack → Ok (go q slots frame.entries frame frames w1)
+    goes q slots stack w1 r g = λ covers. lands facts plans library frame s.code s.code_is s.locals frames below q slots frame.entries stack w1 r s.kept g
 
     -- other locals, as many
-    pub stores : (locals : Locals) (slots : List Slot) (stack : Stack) (w1 : PlainWorld) → length locals ≡ length frame.locals → ShowsAll slots stack → Comes (suc frame.position) stack → Ok (machine.with_locals library place paid frame frames w locals slots w1)
-    stores locals slots stack w1 e r g = lands plans library (record frame { locals = locals }) s.code s.code_is (e ∙ s.locals) frames below (suc frame.position) slots frame.entries stack w1 r g
+    pub stores : (locals : Locals) (slots : List Slot) (stack : Stack) (w1 : PlainWorld) → length locals ≡ length frame.locals → ShowsAllIn facts slots stack → Comes (suc frame.position) stack → Ok (machine.with_locals library place paid frame frames w locals slots w1)
+    stores locals slots stack w1 e r g = λ covers. lands facts plans library (record frame { locals = locals }) s.code s.code_is (e ∙ s.locals) frames below (suc frame.position) slots frame.entries stack w1 r s.kept g
 
-    pub nexts : (slots : List Slot) (stack : Stack) (w1 : PlainWorld) → ShowsAll slots stack → Comes (suc frame.position) stack → Ok (machine.next library place paid frame frames w slots w1)
+    pub nexts : (slots : List Slot) (stack : Stack) (w1 : PlainWorld) → ShowsAllIn facts slots stack → Comes (suc frame.position) stack → Ok (machine.next library place paid frame frames w slots w1)
     nexts slots stack w1 r g = goes (suc frame.position) slots stack w1 r g
 
-    pub fails : (f : Fails) → Ok (fail f frame frames)
-    fails f = fails_fit plans library follows f frame frames s below
+    pub fails : (f : Fails) → ThrowsKnown facts f → Ok (fail f frame frames)
+    fails f known = fails_fit facts plans library follows f known frame frames s below
+
+    pub faults : (w1 : PlainWorld) (fault : Fault) → Ok (fail (fault_at place w1 fault) frame frames)
+    faults w1 fault = fails (fault_at place w1 fault) (fault_known facts place w1 fault)
 
     paying : {A : Type 0} (b : Bool) (effect : Effect A) (behind : A → PlainWorld → State) → ((a : A) (w1 : PlainWorld) → effects.given place effect ≡ Gives a w1 → Ok (behind a w1)) → Ok (machine.paying library place paid frame frames w b effect behind)
-    paying true effect behind k = (s, below)
-    paying false effect behind k = given_fits plans library follows (effects.given place effect) frame frames behind s below k
+    paying true effect behind k = λ covers. (s, below)
+    paying false effect behind k = given_fits facts plans library follows (effects.given place effect) (given_known facts place effect) frame frames behind s below k
 
     pub does : {A : Type 0} (effect : Effect A) (behind : A → PlainWorld → State) → ((a : A) (w1 : PlainWorld) → effects.given place effect ≡ Gives a w1 → Ok (behind a w1)) → Ok (machine.does library place paid frame frames w effect behind)
     does effect behind k = paying (nat_lt paid effect.visits) effect behind k
 
-    pub gives : (slots : List Slot) (stack : Stack) (effect : Effect Val) → ShowsAll slots stack → Comes (suc frame.position) (flow.Value ∷ stack) → Ok (machine.gives library place paid frame frames w slots effect)
+    pub gives : (slots : List Slot) (stack : Stack) (effect : Effect Val) → ShowsAllIn facts slots stack → Comes (suc frame.position) (flow.Value ∷ stack) → Ok (machine.gives library place paid frame frames w slots effect)
     gives slots stack effect r g = does effect _ (λ v w1 e. nexts (Value v ∷ slots) (flow.Value ∷ stack) w1 (more value r) g)
 
-    pub puts : (slots : List Slot) (stack : Stack) (effect : Effect Val) → ShowsAll slots stack → Comes (suc frame.position) stack → Ok (machine.puts library place paid frame frames w slots effect)
+    pub puts : (slots : List Slot) (stack : Stack) (effect : Effect Val) → ShowsAllIn facts slots stack → Comes (suc frame.position) stack → Ok (machine.puts library place paid frame frames w slots effect)
     puts slots stack effect r g = does effect _ (λ v w1 e. nexts slots stack w1 r g)
 
     pub either : (b : Bool) (x y : State) → Ok x → Ok y → Ok (if b then x else y)
@@ -129,34 +135,34 @@ module _ (plans : Plans) (library : Library) (follows : Follows plans library) w
 
     -- values that are taken
     pub pop : (gs : List Give) (Q : List Slot → State) → Does (Straight (wants.Value ∷ []) gs)
-        → ((v : Val) (t : flow.Slot) (rest : List Slot) (stack : Stack) → Shows (Value v) t → ShowsAll rest stack → Comes (suc frame.position) (given gs 1 (t ∷ stack)) → Ok (Q (Value v ∷ rest))) → Ok (Q frame.slots)
+        → ((v : Val) (t : flow.Slot) (rest : List Slot) (stack : Stack) → ShowsIn facts (Value v) t → ShowsAllIn facts rest stack → Comes (suc frame.position) (given gs 1 (t ∷ stack)) → Ok (Q (Value v ∷ rest))) → Ok (Q frame.slots)
     pop gs Q a k =
         let g = straight (wants.Value ∷ []) gs a in
         one_value [] (λ st ss. Comes (suc frame.position) (given gs 1 ss) → Ok (Q st)) (λ v t rest stack h r x c. k v t rest stack h r c) frame.slots s.stack s.shows g.0 g.1
 
     pub pop_two : (gs : List Give) (Q : List Slot → State) → Does (Straight (wants.Value ∷ wants.Value ∷ []) gs)
-        → ((u v : Val) (t1 t2 : flow.Slot) (rest : List Slot) (stack : Stack) → Shows (Value u) t1 → Shows (Value v) t2 → ShowsAll rest stack → Comes (suc frame.position) (given gs 2 (t1 ∷ t2 ∷ stack)) → Ok (Q (Value u ∷ Value v ∷ rest)))
+        → ((u v : Val) (t1 t2 : flow.Slot) (rest : List Slot) (stack : Stack) → ShowsIn facts (Value u) t1 → ShowsIn facts (Value v) t2 → ShowsAllIn facts rest stack → Comes (suc frame.position) (given gs 2 (t1 ∷ t2 ∷ stack)) → Ok (Q (Value u ∷ Value v ∷ rest)))
         → Ok (Q frame.slots)
     pop_two gs Q a k =
         let g = straight (wants.Value ∷ wants.Value ∷ []) gs a in
         two_values [] (λ st ss. Comes (suc frame.position) (given gs 2 ss) → Ok (Q st)) (λ u v t1 t2 rest stack h1 h2 r x c. k u v t1 t2 rest stack h1 h2 r c) frame.slots s.stack s.shows g.0 g.1
 
     pub pop_branch : (gs there : List Give) (to : ℕ) (Q : List Slot → State) → Does (Branch (wants.Value ∷ []) gs there to)
-        → ((v : Val) (t : flow.Slot) (rest : List Slot) (stack : Stack) → Shows (Value v) t → ShowsAll rest stack → Comes (suc frame.position) (given gs 1 (t ∷ stack)) → Comes to (given there 1 (t ∷ stack)) → Ok (Q (Value v ∷ rest))) → Ok (Q frame.slots)
+        → ((v : Val) (t : flow.Slot) (rest : List Slot) (stack : Stack) → ShowsIn facts (Value v) t → ShowsAllIn facts rest stack → Comes (suc frame.position) (given gs 1 (t ∷ stack)) → Comes to (given there 1 (t ∷ stack)) → Ok (Q (Value v ∷ rest))) → Ok (Q frame.slots)
     pop_branch gs there to Q a k =
         let g = branch (wants.Value ∷ []) gs there to a in
         one_value [] (λ st ss. Comes (suc frame.position) (given gs 1 ss) → Comes to (given there 1 ss) → Ok (Q st)) (λ v t rest stack h r x c d. k v t rest stack h r c d) frame.slots s.stack s.shows g.0 g.1 g.2
 
     -- calls: the slots below what a call takes
     pub record Calls (rest : List Slot) (stack : Stack) : Type 0 where
-      pub shows : ShowsAll rest stack
+      pub shows : ShowsAllIn facts rest stack
       pub comes : Comes (suc frame.position) (flow.Value ∷ stack)
-      pub waits : Waits plans library (record frame { slots = rest })
+      pub waits : WaitsIn facts plans library (record frame { slots = rest })
 
     enters : (rest : List Slot) (stack : Stack) (f : Function) (code : Code) (slots : Locals) (b : Bool) (w1 : PlainWorld) → Calls rest stack → code_at library f.module_name f.code ≡ Some code → length slots ≤ code.locals
         → Ok (machine.entered library place paid frame frames w rest f code slots b w1)
-    enters rest stack f code slots true w1 c e le = (new_stands f.module_name f.code code slots f.names Called e le, (c.waits, below))
-    enters rest stack f code slots false w1 c e le = fails (fault_at place w1 TooDeep)
+    enters rest stack f code slots true w1 c e le = λ covers. (new_stands f.module_name f.code code slots f.names Called e le, (c.waits, below))
+    enters rest stack f code slots false w1 c e le = faults w1 TooDeep
 
     runs_code : (rest : List Slot) (stack : Stack) (f : Function) (o : Option Code) (args : List Val) (keys : Keys) → Calls rest stack → code_at library f.module_name f.code ≡ o → Ok (machine.run_code library place paid frame frames w rest f o args keys)
     runs_code rest stack f None args keys c e = nexts (Value Nil ∷ rest) (flow.Value ∷ stack) w (more value c.shows) c.comes

@@ -17,11 +17,13 @@ use Rattle.bc_machine.specs.Step as machine
 use Rattle.bc_machine.specs.Step.{run_line, line_at, run_frame, step}
 use Rattle.bc_machine.specs.Machine.{steps, opened, start, begun}
 use Rattle.std.proofs.lemmas.List.{length-map}
-use Rattle.bc_progress.specs.Slots.{flow_entry}
+use Rattle.bc_progress.specs.Slots.{Facts, anything, flow_entry}
 use Rattle.bc_progress.specs.Plans.{Plan, action_of, flow_of, IsKnown, MakesChild, IsVerifiedModule, Plans, Follows, AreVerified, IsVerifiedLibrary}
-use Rattle.bc_progress.specs.Fits.{Stands, Waits, IsWithin, Below, Fits}
+use Rattle.bc_progress.specs.Fits.{StandsIn, WaitsIn, IsWithin, BelowIn, FitsIn, Fits}
 use Rattle.bc_progress.proofs.Flowing.{stands, roomy}
+use Rattle.bc_progress.specs.Known.{objects_of}
 use Rattle.bc_progress.proofs.Showing.{shows-length}
+use Rattle.bc_progress.proofs.Knowing.{FitsBehind, all_covered}
 use Rattle.bc_progress.proofs.Items.{fine, line_of}
 use Rattle.bc_progress.proofs.Operators.{unary_is, operator_is}
 use Rattle.bc_progress.proofs.Frames.{verified, meets}
@@ -29,34 +31,34 @@ use Rattle.bc_progress.proofs.Steps.{Does, get_there, code_is_there, new_stands,
 use Rattle.bc_progress.proofs.Instructions.{M, name_fits, number_fits}
 use Rattle.bc_progress.proofs.Plains.{plain_fits, jump_fits, unwind_fits}
 
-module _ (plans : Plans) (library : Library) (follows : Follows plans library) (place : Place) (paid : ℕ) (frame : Frame) (frames : List Frame) (w : PlainWorld) (s : Stands plans library frame) (below : Below plans library frame.role frames) where
+module _ (facts : Facts) (plans : Plans) (library : Library) (follows : Follows plans library) (place : Place) (paid : ℕ) (frame : Frame) (frames : List Frame) (w : PlainWorld) (s : StandsIn facts plans library frame) (below : BelowIn facts plans library frame.role frames) where
   abbrev D : Action → Type 0
-  D i = Does plans library follows place paid frame frames w s below i
+  D i = Does facts plans library follows place paid frame frames w s below i
 
   abbrev P : State → Type 0
-  P state = Fits plans library state
+  P state = FitsBehind facts plans library state
 
   unary_fits : (n : ℕ) → n < 4 → D (instr_action (instrs.Unary n)) → P (machine.one_step library place paid frame frames w frame.slots (unary_at n))
   unfolding instr_action
   unary_fits n lt a =
       let o = unary_is n lt in
       subst (λ z. P (machine.one_step library place paid frame frames w frame.slots z)) (sym o.1)
-      (pop plans library follows place paid frame frames w s below (New kinds.Value ∷ []) (λ st. machine.one_step library place paid frame frames w st (Some o.0)) a
-      (λ v t rest stack h r c. gives plans library follows place paid frame frames w s below rest stack (on_heap w (o.0 w.heap v)) r c))
+      (pop facts plans library follows place paid frame frames w s below (New kinds.Value ∷ []) (λ st. machine.one_step library place paid frame frames w st (Some o.0)) a
+      (λ v t rest stack h r c. gives facts plans library follows place paid frame frames w s below rest stack (on_heap w (o.0 w.heap v)) r c))
 
   binary_fits : (n : ℕ) → IsKnown (Plain (instrs.Binary n)) → D (instr_action (instrs.Binary n)) → P (machine.two_step library place paid frame frames w frame.slots (operator_at n))
   unfolding instr_action
   binary_fits n k a =
       let o = operator_is n k.0 k.1 in
       subst (λ z. P (machine.two_step library place paid frame frames w frame.slots z)) (sym o.1)
-      (pop_two plans library follows place paid frame frames w s below (New kinds.Value ∷ []) (λ st. machine.two_step library place paid frame frames w st (Some o.0)) a
-      (λ v u t1 t2 rest stack h1 h2 r c. gives plans library follows place paid frame frames w s below rest stack (on_heap w (o.0 w.heap u v)) r c))
+      (pop_two facts plans library follows place paid frame frames w s below (New kinds.Value ∷ []) (λ st. machine.two_step library place paid frame frames w st (Some o.0)) a
+      (λ v u t1 t2 rest stack h1 h2 r c. gives facts plans library follows place paid frame frames w s below rest stack (on_heap w (o.0 w.heap u v)) r c))
 
-  instr_fits : (instr : Instr) → IsKnown (Plain instr) → MakesChild (M plans library follows place paid frame frames w s below) s.code.children (Plain instr) → D (instr_action instr) → P (machine.instr_step library place paid frame frames w instr frame.slots)
+  instr_fits : (instr : Instr) → IsKnown (Plain instr) → MakesChild (M facts plans library follows place paid frame frames w s below) s.code.children (Plain instr) → D (instr_action instr) → P (machine.instr_step library place paid frame frames w instr frame.slots)
   unfolding instr_action
-  instr_fits (instrs.Plain op) k m a = plain_fits plans library follows place paid frame frames w s below op k a
-  instr_fits (instrs.Num op n) k m a = number_fits plans library follows place paid frame frames w s below op n k m a
-  instr_fits (instrs.Int z) k m a = push plans library follows place paid frame frames w s below (Int z) a
+  instr_fits (instrs.Plain op) k m a = plain_fits facts plans library follows place paid frame frames w s below op k a
+  instr_fits (instrs.Num op n) k m a = number_fits facts plans library follows place paid frame frames w s below op n k m a
+  instr_fits (instrs.Int z) k m a = push facts plans library follows place paid frame frames w s below (Int z) a
   instr_fits (instrs.Unary n) k m a = unary_fits n k a
   instr_fits (instrs.Binary n) k m a = binary_fits n k a
   instr_fits (instrs.Name op n) k m a = absurd k
@@ -65,50 +67,46 @@ module _ (plans : Plans) (library : Library) (follows : Follows plans library) (
 
   loads_fits : (v : Val) → D (op_action ops.LoadConstObj 0) → P (machine.next library place paid frame frames w (Value v ∷ frame.slots) w)
   unfolding op_action
-  loads_fits v a = push plans library follows place paid frame frames w s below v a
+  loads_fits v a = push facts plans library follows place paid frame frames w s below v a
 
-  pub item_fits : (item : Item) → IsKnown item → MakesChild (M plans library follows place paid frame frames w s below) s.code.children item → D (action_of item) → P (machine.item_step library place paid frame frames w item)
+  pub item_fits : (item : Item) → IsKnown item → MakesChild (M facts plans library follows place paid frame frames w s below) s.code.children item → D (action_of item) → P (machine.item_step library place paid frame frames w item)
   item_fits (Plain instr) k m a = instr_fits instr k m a
-  item_fits (Names op name) k m a = name_fits plans library follows place paid frame frames w s below op name k a
+  item_fits (Names op name) k m a = name_fits facts plans library follows place paid frame frames w s below op name k a
   item_fits (Loads v) k m a = loads_fits v a
-  item_fits (Jumps op to) k m a = jump_fits plans library follows place paid frame frames w s below op to k.0 k.1 a
-  item_fits (Unwinds to byte) k m a = unwind_fits plans library follows place paid frame frames w s below to byte a
+  item_fits (Jumps op to) k m a = jump_fits facts plans library follows place paid frame frames w s below op to k.0 k.1 a
+  item_fits (Unwinds to byte) k m a = unwind_fits facts plans library follows place paid frame frames w s below to byte a
 
-module _ (plans : Plans) (library : Library) (follows : Follows plans library) where
-  frame_fits : (paid : ℕ) (frame : Frame) (frames : List Frame) (w : PlainWorld) → Stands plans library frame → Below plans library frame.role frames → Fits plans library (run_frame library paid frame frames w)
+module _ (facts : Facts) (plans : Plans) (library : Library) (follows : Follows plans library) where
+  frame_fits : (paid : ℕ) (frame : Frame) (frames : List Frame) (w : PlainWorld) → StandsIn facts plans library frame → BelowIn facts plans library frame.role frames → FitsBehind facts plans library (run_frame library paid frame frames w)
   frame_fits paid frame frames w s below =
       let plan = plans frame.module_name frame.code in
       let v = verified plans library follows frame.module_name frame.code s.code s.code_is in
       let i = stands (flow_of plan s.code) plan.assigned (fine plan s.code) (meets plans library follows frame.module_name frame.code s.code s.code_is) frame.position s.stack _ s.planned in
       let l = line_of s.code.lines frame.position i.0 i.1 in
       let place : Place = record { file = v.0.file; line = l.0.line; name = s.code.name } in
-      let done = item_fits plans library follows place paid frame frames w s below l.0.item (v.3.known frame.position l.0 l.1) (v.3.children frame.position l.0 l.1) (i.1 ∙ ap Some (sym l.2)) in
-      subst (λ (o : Option Entry). Fits plans library (run_line library paid frame frames w (module_in o) (code_at library frame.module_name frame.code) (line_at (code_at library frame.module_name frame.code) frame.position))) (sym v.1)
-      (subst (λ (o : Option Code). Fits plans library (run_line library paid frame frames w (Some v.0) o (line_at o frame.position))) (sym s.code_is)
-      (subst (λ (o : Option Line). Fits plans library (run_line library paid frame frames w (Some v.0) (Some s.code) o)) (sym l.1) done))
+      let done = item_fits facts plans library follows place paid frame frames w s below l.0.item (v.3.known frame.position l.0 l.1) (v.3.children frame.position l.0 l.1) (i.1 ∙ ap Some (sym l.2)) in
+      subst (λ (o : Option Entry). FitsBehind facts plans library (run_line library paid frame frames w (module_in o) (code_at library frame.module_name frame.code) (line_at (code_at library frame.module_name frame.code) frame.position))) (sym v.1)
+      (subst (λ (o : Option Code). FitsBehind facts plans library (run_line library paid frame frames w (Some v.0) o (line_at o frame.position))) (sym s.code_is)
+      (subst (λ (o : Option Line). FitsBehind facts plans library (run_line library paid frame frames w (Some v.0) (Some s.code) o)) (sym l.1) done))
 
-  pub step_fits : (state : State) → Fits plans library state → Fits plans library (step library state)
+  pub step_fits : (state : State) → FitsIn facts plans library state → FitsBehind facts plans library (step library state)
   step_fits (Running paid frame frames w) f = frame_fits paid frame frames w f.0 f.1
-  step_fits (Halted end w) f = tt
+  step_fits (Halted end w) f = λ covers. tt
   step_fits (Stuck w) f = absurd f
 
-  pub steps_fit : (n : ℕ) (state : State) → Fits plans library state → Fits plans library (steps library n state)
-  steps_fit zero state f = f
-  steps_fit (suc n) state f = steps_fit n (step library state) (step_fits state f)
-
-  pub start_fits : (name : Name) (m : Module) (w : PlainWorld) → entry_in library name ≡ Some (Holds m) → Fits plans library (start library name w)
+  pub start_fits : (name : Name) (m : Module) (w : PlainWorld) → entry_in library name ≡ Some (Holds m) → FitsIn facts plans library (start library name w)
   start_fits name m w e = by (given (record { file = []; line = 0; name = [] }) (make_module w (codes "__main__")))
     where
-      by : (g : Given Made) → Fits plans library (opened library name g)
+      by : (g : Given Made) → FitsIn facts plans library (opened library name g)
       by (Throws x w1) = tt
       by (Fills x w1) = tt
       by (Gives made w1) =
           let c = get_there m.codes 0 (follows name m e).begins in
           let is = code_is_there library name m 0 e ∙ c.1 in
-          subst (λ (o : Option Code). Fits plans library (begun name o made w1)) (sym is) (new_stands plans library follows name 0 c.0 [] made.names Main is (omega arith), tt)
+          subst (λ (o : Option Code). FitsIn facts plans library (begun name o made w1)) (sym is) (new_stands facts plans library follows name 0 c.0 [] made.names Main is (omega arith), tt)
 
   -- slots and entries are within their rooms
-  pub stands_room : (frame : Frame) (s : Stands plans library frame) → IsWithin (plans frame.module_name frame.code) s.code frame
+  pub stands_room : (frame : Frame) (s : StandsIn facts plans library frame) → IsWithin (plans frame.module_name frame.code) s.code frame
   stands_room frame s =
       let plan = plans frame.module_name frame.code in
       let r = roomy (flow_of plan s.code) plan.assigned (fine plan s.code) (meets plans library follows frame.module_name frame.code s.code s.code_is) frame.position s.stack (map flow_entry frame.entries) s.planned in
@@ -116,7 +114,7 @@ module _ (plans : Plans) (library : Library) (follows : Follows plans library) w
       let m = length-map frame.entries flow_entry in
       record { slots = omega (arith, r.0, n); entries = omega (arith, r.1, m) }
 
-  pub waits_room : (frame : Frame) (s : Waits plans library frame) → IsWithin (plans frame.module_name frame.code) s.code frame
+  pub waits_room : (frame : Frame) (s : WaitsIn facts plans library frame) → IsWithin (plans frame.module_name frame.code) s.code frame
   waits_room frame s =
       let plan = plans frame.module_name frame.code in
       let r = roomy (flow_of plan s.code) plan.assigned (fine plan s.code) (meets plans library follows frame.module_name frame.code s.code s.code_is) frame.position s.stack (map flow_entry frame.entries) s.planned in
@@ -124,6 +122,11 @@ module _ (plans : Plans) (library : Library) (follows : Follows plans library) w
       let d = length-drop (length s.wants) s.stack in
       let m = length-map frame.entries flow_entry in
       record { slots = omega (arith, r.0, n, d); entries = omega (arith, r.1, m) }
+
+-- whatever exceptions and methods there are
+pub steps_fit : (plans : Plans) (library : Library) (follows : Follows plans library) (n : ℕ) (state : State) → Fits plans library state → Fits plans library (steps library n state)
+steps_fit plans library follows zero state f = f
+steps_fit plans library follows (suc n) state f = steps_fit plans library follows n (step library state) (step_fits anything plans library follows state f (all_covered (objects_of (step library state))))
 
 -- a plan for each module that is verified gives one for the library
 module _ (library : Library) (each : AreVerified library) where

@@ -1,3 +1,4 @@
 pub mod Slots
 pub mod Plans
 pub mod Fits
+pub mod Known

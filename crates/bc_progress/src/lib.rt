@@ -1,14 +1,16 @@
 //! A run of a verified library is never stuck.
 #![tactic(auto)]
 
-ghost use Rattle.std.specs.Prelude.{◌≡◌, ℕ, Some};
-ghost use Rattle.mpy_base.specs.Val.{PlainWorld};
+ghost use Rattle.std.specs.Prelude.{◌≡◌, ℕ, List, Some};
+ghost use Rattle.mpy_base.specs.World.{Objects, Later};
+ghost use Rattle.mpy_base.specs.Val.{Val, PlainWorld};
 ghost use Rattle.bc_machine.specs.Library.{Name, Module, Holds, Library, entry_in};
 ghost use Rattle.bc_machine.specs.State.{Frame, State, Stuck};
 ghost use Rattle.bc_machine.specs.Step.{step};
 ghost use Rattle.bc_machine.specs.Machine.{steps, start};
 ghost use Rattle.bc_progress.specs.Plans.{Plans, Follows, AreVerified, IsVerifiedLibrary};
-ghost use Rattle.bc_progress.specs.Fits.{Stands, Waits, IsWithin, Fits};
+ghost use Rattle.bc_progress.specs.Fits.{Stands, Waits, IsWithin, FitsIn, Fits};
+ghost use Rattle.bc_progress.specs.Known.{facts_of, objects_of, FitsKnown};
 
 /// A step of a verified library from a state that fits comes to one that does.
 pub fn progress_law()
@@ -22,6 +24,19 @@ pub fn progress_law()
 pub fn start_law()
     ensures { (plans : Plans) (library : Library) (name : Name) (m : Module) (w : PlainWorld) → Follows plans library
         → entry_in library name ≡ Some (Holds m) → Fits plans library (start library name w) }
+{}
+
+/// A state keeps exceptions and methods that its heap has: a step throws nothing but an exception, which is new, or kept, or
+/// raised by the program, and a look-up finds a method of its object's type. So it is with the objects behind a step where it
+/// was with them before, as it is where objects keep their kinds.
+pub fn known_law()
+    ensures step { (plans : Plans) (library : Library) (s : State) → Follows plans library
+        → FitsIn (facts_of (objects_of (step library s))) plans library s → FitsKnown plans library (step library s) }
+    ensures start { (plans : Plans) (library : Library) (name : Name) (m : Module) (w : PlainWorld) → Follows plans library
+        → entry_in library name ≡ Some (Holds m) → FitsKnown plans library (start library name w) }
+    ensures later { (plans : Plans) (library : Library) (s : State) (before behind : Objects Val (List ℕ)) → Later before behind
+        → FitsIn (facts_of before) plans library s → FitsIn (facts_of behind) plans library s }
+    ensures fits { (plans : Plans) (library : Library) (s : State) → FitsKnown plans library s → Fits plans library s }
 {}
 
 /// No run of a verified library is stuck.

@@ -15,8 +15,9 @@ use Rattle.bc_machine.specs.State.{Frame, Called}
 use Rattle.bc_machine.specs.Step.{step}
 use Rattle.bc_flow.proofs.Never.{start_good}
 use Rattle.bc_progress.specs.Plans.{Plans, Follows, flow_of}
-use Rattle.bc_progress.specs.Slots.{none}
+use Rattle.bc_progress.specs.Slots.{anything, none}
 use Rattle.bc_progress.specs.Fits.{Stands, IsWithin}
+use Rattle.bc_progress.proofs.Knowing.{K as Keeps}
 use Rattle.bc_progress.proofs.Frames.{verified, meets}
 use Rattle.bc_rows.specs.declared.row.Row.{Row}
 use Rattle.vm_faults.specs.declared.stop.Stop.{Stop}
@@ -55,6 +56,7 @@ locals_within within p means name number code is =
       locals = length-replicate {A = Option Val} code.locals None;
       stack = [];
       shows = none;
+      kept = All-nil (Keeps anything);
       planned = start_good (flow_of plan code) plan.assigned (meets p.plans p.library means.follows name number code is);
     } in
     let most : code.locals + 0 ≤ plan.n_state = (within p.plans p.library frame means.follows stands).slots in

@@ -23,8 +23,9 @@ use Rattle.bc_machine.specs.State as states
 use Rattle.bc_machine.specs.State.{State, Frame, Running, go}
 use Rattle.bc_progress.specs.Fits.{Fits}
 use Rattle.bc_progress.specs.Plans.{action_of, flow_of}
-use Rattle.bc_progress.specs.Slots.{value, ShowsAll, more}
+use Rattle.bc_progress.specs.Slots.{anything, value, ShowsAll, more}
 use Rattle.bc_progress.proofs.Showing.{shows_drop, takes-length}
+use Rattle.bc_progress.proofs.Knowing.{all_covered}
 use Rattle.bc_progress.proofs.Steps.{straight, nexts}
 use Rattle.vm_frames.specs.declared.slot.Slot.TheVariants as slots
 use Rattle.vm_frames.specs.Calls.{Call, Calls, change_first, on_running}
@@ -52,11 +53,11 @@ get_map f (y ∷ xs) zero x e = ap (λ z. Some (f z)) (same_Some y x e)
 get_map f (y ∷ xs) (suc i) x e = get_map f xs i x e
 
 -- what a call takes
-abbrev wants_of : NumberOp → ℕ → List Want
+abbrev pub wants_of : NumberOp → ℕ → List Want
 wants_of number_ops.CallMethod n = takes (arguments n) (wants.Method ∷ wants.Value ∷ [])
 wants_of op n = takes (arguments n + 1) []
 
-call_action : (op : NumberOp) (n : ℕ) → CallsValue op → instr_action (instrs.Num (number_op op) n) ≡ Straight (wants_of op n) (New kinds.Value ∷ [])
+pub call_action : (op : NumberOp) (n : ℕ) → CallsValue op → instr_action (instrs.Num (number_op op) n) ≡ Straight (wants_of op n) (New kinds.Value ∷ [])
 unfolding instr_action op_action
 call_action number_ops.CallFunction n h = refl
 call_action number_ops.CallMethod n h = refl
@@ -72,7 +73,7 @@ call_action number_ops.UnpackSequence n h = absurd h
 call_action number_ops.MakeFunction n h = absurd h
 call_action number_ops.MakeFunctionDefargs n h = absurd h
 
-wants_count : (op : NumberOp) (n : ℕ) → CallsValue op → length (wants_of op n) ≡ operands_count n + callee_slots op
+pub wants_count : (op : NumberOp) (n : ℕ) → CallsValue op → length (wants_of op n) ≡ operands_count n + callee_slots op
 wants_count number_ops.CallFunction n h = let e = takes-length (arguments n + 1) [] in omega (arith, e)
 wants_count number_ops.CallMethod n h = let e = takes-length (arguments n) (wants.Method ∷ wants.Value ∷ []) in omega (arith, e)
 wants_count number_ops.LoadFast n h = absurd h
@@ -143,14 +144,14 @@ module _ (p : Program) (means : Means p) (s : Calls) (c : Call) (cs : List Call)
           let line = line_is read in
           let action : slice_get (flow_of (p.plans frame.module_name frame.code) stands.code).actions frame.position ≡ Some (Straight ws (New kinds.Value ∷ [])) =
           get_map (λ (l : Line). action_of l.item) stands.code.lines frame.position line.0 line.1 ∙ (ap (λ z. Some (action_of z)) line.2 ∙ ap Some (call_action op number calls)) in
-          let goes = straight p.plans p.library means.follows place 0 frame frames none stands below ws (New kinds.Value ∷ []) action in
+          let goes = straight anything p.plans p.library means.follows place 0 frame frames none stands below ws (New kinds.Value ∷ []) action in
           let many : length ws ≡ size = wants_count op number calls ∙ sym size_is in
           let starts = starts_of (view_of p.tables) c in
           let shows : ShowsAll (slots_of (view_of p.tables) starts (drop size c.slots)) (drop (length ws) stands.stack) =
           subst (λ z. ShowsAll z (drop (length ws) stands.stack)) (drop-map (slot_of (view_of p.tables) starts) (length ws) c.slots ∙ ap (λ k. slots_of (view_of p.tables) starts (drop k c.slots)) many)
           (shows_drop (length ws) frame.slots stands.stack stands.shows) in
           let comes : Fits p.plans p.library (go (suc frame.position) (slots_of (view_of p.tables) starts (slots.Value v ∷ drop size c.slots)) frame.entries frame frames none) =
-          nexts p.plans p.library means.follows place 0 frame frames none stands below (states.Value (value_of p.tables v) ∷ slots_of (view_of p.tables) starts (drop size c.slots)) (flow.Value ∷ drop (length ws) stands.stack) none (more value shows) goes.1 in
+          nexts anything p.plans p.library means.follows place 0 frame frames none stands below (states.Value (value_of p.tables v) ∷ slots_of (view_of p.tables) starts (drop size c.slots)) (flow.Value ∷ drop (length ws) stands.stack) none (more value shows) goes.1 (all_covered none.heap.objects) in
           subst (Fits p.plans p.library) (goes_to (view_of p.tables) c (suc frame.position) end (slots.Value v ∷ drop size c.slots) frames none next) comes
 
       -- with the value in the place of what the call takes, and at the next instruction, the calls run

@@ -16,6 +16,7 @@ use Rattle.bc_machine.specs.Library as machine
 use Rattle.bc_machine.specs.Library.{Name, Code, Line, Module, Holds, Library, entry_in, module_in, code_in, code_at, module_of}
 use Rattle.bc_machine.specs.State.{Frame, Main}
 use Rattle.bc_machine.specs.Parts.{new_frame}
+use Rattle.bc_progress.specs.Slots.{anything}
 use Rattle.bc_progress.specs.Plans.{Plans, Follows}
 use Rattle.bc_progress.specs.Fits.{Stands, IsWithin}
 use Rattle.bc_progress.proofs.Steps.{new_stands}
@@ -101,7 +102,7 @@ module _ (p : Program) (means : Means p) (name : Name) (number : ℕ) (is : memb
   F = new_frame (p.tables.module_name number) 0 first.code [] 0 Main
 
   stands : Stands p.plans p.library F
-  stands = new_stands p.plans p.library means.follows (p.tables.module_name number) 0 first.code [] 0 Main first.code_is (omega arith)
+  stands = new_stands anything p.plans p.library means.follows (p.tables.module_name number) 0 first.code [] 0 Main first.code_is (omega arith)
 
   code_same : stands.code ≡ first.code
   code_same = same_Some stands.code first.code (sym stands.code_is ∙ first.code_is)

@@ -144,7 +144,7 @@ module _ (plans : Plans) (library : Library) (follows : Follows plans library) (
   cause_is : (x : Slot) (t : flow.Slot) (stack : Stack) (e : states.Entry) (others : List states.Entry) → Shows x t → t ∷ stack ≡ s.stack → e ∷ others ≡ frame.entries → D EndFinally
       → Good (flow.resume t true frame.position (map flow_entry others) stack) → IsCause (length others) x
   cause_is x t stack e others nothing p q a g = tops.nothing
-  cause_is x t stack e others (exception {x = n}) p q a g = tops.exception n
+  cause_is x t stack e others (exception {x = n} is) p q a g = tops.exception n
   cause_is x t stack e others (kept_return {v = v}) p q a g = tops.returned v
   cause_is x t stack e others (kept_jump {target = to} {count = count} {iterator = it}) p q a g =
       let few = few_left to count it stack (flow_entry e) (map flow_entry others) (sym p) (ap (map flow_entry) (sym q)) a in
@@ -173,8 +173,8 @@ module _ (plans : Plans) (library : Library) (follows : Follows plans library) (
         active = f.0;
         is = cause_is x t ss e entries sh p q a f.1;
       }
-  ending_by slots stack [] (bound r) p q a g = absurd g.runs
-  ending_by slots stack (x ∷ entries) (bound r) p q a g = absurd (if_found x.active flow.Stuck g).1.runs
+  ending_by slots stack [] (bound is r) p q a g = absurd g.runs
+  ending_by slots stack (x ∷ entries) (bound is r) p q a g = absurd (if_found x.active flow.Stuck g).1.runs
   ending_by slots stack [] (free r) p q a g = absurd g.runs
   ending_by slots stack (x ∷ entries) (free r) p q a g = absurd (if_found x.active flow.Stuck g).1.runs
 
@@ -189,7 +189,7 @@ module _ (plans : Plans) (library : Library) (follows : Follows plans library) (
   returning_by slots stack (more {t = t} {stack = ss} sh r) g =
       let f = if_found (is_wanted wants.Value t) (flow.leave (es plans library follows frame s) (t ∷ ss)) g in
       Rattle.std.proofs.lemmas.Bool.and_from (is_wanted wants.Value t) true f.0 refl
-  returning_by slots stack (bound r) g = absurd g.runs
+  returning_by slots stack (bound is r) g = absurd g.runs
   returning_by slots stack (free r) g = absurd g.runs
 
   returning : D Return → OneValue frame.slots

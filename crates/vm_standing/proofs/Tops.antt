@@ -75,7 +75,7 @@ iterating = one_iterator (λ st ss. Iterator st) (λ over at c b a rest below r.
 is_dropped : (s : Slot) (t : flow.Slot) → Shows s t → is_wanted wants.Top t ≡ true → IsDropped s
 is_dropped s t (value {v = v}) e = tops.value v
 is_dropped s t nothing e = tops.value Nil
-is_dropped s t (exception {x = x}) e = tops.value (At x)
+is_dropped s t (exception {x = x} is) e = tops.value (At x)
 is_dropped s t null e = absurd (false≢true e)
 is_dropped s t kept_return e = absurd (false≢true e)
 is_dropped s t kept_jump e = absurd (false≢true e)

@@ -8,6 +8,7 @@ use Rattle.mpy_tree.specs.Raw as raw
 use Rattle.mpy_tree.specs.Resolved.{ResolvedModule, Resolves}
 use Rattle.bc_prelude.specs.Lines as lines
 use Rattle.bc_offsets.specs.Positions.{CodeList, Listed, Starts, position_in}
+use Rattle.bc_offsets.proofs.Order.{each}
 use Rattle.bc_library.specs.Shelf.{Shelf, Named, module_at}
 use Rattle.bc_library.specs.Texts.{text_numbered}
 use Rattle.py_effects.specs.Effect.{Place}
@@ -191,6 +192,10 @@ ready laws p s c cs means run are row is fetched fetches =
       target = subst (λ (o : List ℕ). TargetStarts o fetched.instruction) (sym starts) fs.target;
       code = there.code;
       code_is = there.code_is;
+      line = the_line;
+      line_is = line;
+      item_is = refl;
+      as_many = runs_as.as_many is.is_row.list is.is_row.listed ∙ (sym (each row.instructions.now is.is_row.list is.is_row.listed) ∙ ap length (sym starts));
       finds = laws.finds p.plans p.library (frame_of (view_of p.tables) c) the_line means.follows there line;
       local = subst (λ (n : ℕ). LocalIsWithin n fetched.instruction) locals_are fs.local;
       text = fs.text;

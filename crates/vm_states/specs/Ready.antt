@@ -1,5 +1,5 @@
 -- What a fetched instruction finds on the running call.
-use Rattle.std.specs.Prelude.{◌≡◌, ℕ, ◌<◌, ◌≤◌, List, ◌∷◌, length, Some}
+use Rattle.std.specs.Prelude.{◌≡◌, ℕ, ◌<◌, ◌≤◌, List, ◌∷◌, length, Some, slice_get}
 use Rattle.mpy_base.specs.Val.{PlainWorld}
 use Rattle.bc_offsets.specs.Positions.{CodeList, Listed, Starts}
 use Rattle.bc_prelude.specs.Lines as lines
@@ -7,12 +7,12 @@ use Rattle.mpy_tree.specs.Raw as raw
 use Rattle.bc_library.specs.Shelf.{Shelf, module_at}
 use Rattle.bc_library.specs.Texts.{text_numbered}
 use Rattle.py_effects.specs.Effect.{Place}
-use Rattle.bc_machine.specs.Library.{Code, Item, code_at}
+use Rattle.bc_machine.specs.Library.{Code, Item, Line, code_at}
 use Rattle.bc_machine.specs.Step.{step}
 use Rattle.bc_rows.specs.declared.row.Row.{Row}
 use Rattle.bc_rows.specs.Runs.{RunsAs}
 use Rattle.vm_frames.specs.Calls.{Call, Calls}
-use Rattle.vm_moves.specs.Views.{starts_of, frame_of}
+use Rattle.vm_moves.specs.Views.{starts_of, position_of, frame_of}
 use Rattle.vm_step.specs.Shown.{Tables, IsNext, view_of, running_of, step_of}
 use Rattle.vm_standing.specs.Finds.{Finds, GoesOn}
 use Rattle.vm_fetching.specs.declared.instruction.Fetched.{Fetched}
@@ -38,7 +38,8 @@ module _ (p : Program) where
   item_at c fetched = item_of_fetched p.tables (starts_of (view_of p.tables) c) fetched.instruction
 
   -- The first of the calls stands at the instruction that was fetched: the machine's step is that of it, at this place. It finds
-  -- on the call what it takes, and room; an instruction starts where it ends, if it goes on, and at its target
+  -- on the call what it takes, and room; an instruction starts where it ends, if it goes on, and at its target.
+  -- It is in the line of the code at the call's position; a line has one start
   pub record IsReady (s : Calls) (row : Row) (fetched : Fetched) : Type 0 where
     pub first : Call
     pub others : List Call
@@ -52,6 +53,10 @@ module _ (p : Program) where
     pub target : TargetStarts (starts_of (view_of p.tables) first) fetched.instruction
     pub code : Code
     pub code_is : code_at p.library (p.tables.module_name first.module_number) first.code ≡ Some code
+    pub line : Line
+    pub line_is : slice_get code.lines (position_of (view_of p.tables) first) ≡ Some line
+    pub item_is : line.item ≡ item_at first fetched
+    pub as_many : length code.lines ≡ length (starts_of (view_of p.tables) first)
     pub finds : Finds (p.plans (p.tables.module_name first.module_number) first.code) p.library code (frame_of (view_of p.tables) first) (item_at first fetched)
     pub local : LocalIsWithin (length first.locals) fetched.instruction
     pub text : TextIsThere p.shelf fetched.instruction
