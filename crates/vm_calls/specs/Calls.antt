@@ -92,9 +92,9 @@ module _ {S : Type 0} (told : S → Option (List ℕ)) (count : S → ℕ) (text
     pub heap : new.heap ≡ old.heap
     pub out : new.out ≡ old.out
 
-  -- it counts the ports, and does nothing else
+  -- it counts the ports, and does nothing else. No port fails
   pub record CountsPorts : Type 0 where
-    pub does : Answers as_call result (DoesAsPort builtins.PortCount)
+    pub does : Answers as_call result (λ r. (contents : List PortState) → Tell old.ports contents → IsPortOutcome texts tuples old.heap new.ports r (call_port heap_of contents builtins.PortCount plain_args plain_keys))
     pub heap : new.heap ≡ old.heap
     pub out : new.out ≡ old.out
     pub ports : new.ports ≡ old.ports

@@ -83,7 +83,7 @@ module _ {S : Type 0} (told : S → Option (List ℕ)) (count : S → ℕ) (t : 
   ports_gift builtins.PortCount is tell acts =
       subst (λ (r : Result Value CallStop). Giving told count t.texts t.tuples old new args keys w builtins.PortCount r) (sym acts.does.is)
       (giving_call told count t.texts t.tuples old new args keys w builtins.PortCount acts.does.answer
-      (λ alike. of_port told count t.texts t.tuples old new args keys w builtins.PortCount acts.does.answer tt tell (acts.does.holds w.ports tell alike) acts.heap acts.out))
+      (λ alike. of_port told count t.texts t.tuples old new args keys w builtins.PortCount acts.does.answer tt tell (acts.does.holds w.ports tell) acts.heap acts.out))
   ports_gift _ is tell acts = absurd is
 
   -- what a call of a built-in gives in a world

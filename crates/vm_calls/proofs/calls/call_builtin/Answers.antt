@@ -87,7 +87,7 @@ returns-in-PortCount g c =
     let result = c.stopped-in-PortCount.result in
     record {
       call = subst (λ (b : Builtin). IsCall told count texts tuples old new c.args.args.now c.args.keys.now result b) (sym c.in-PortCount.is)
-          (record { does = record { answer = c.call_port_count.result; is = c.stopped-in-PortCount.ensures; holds = λ contents tell fails. c.call_port_count.ensures.told contents tell }; heap = refl; out = refl; ports = refl });
+          (record { does = record { answer = c.call_port_count.result; is = c.stopped-in-PortCount.ensures; holds = c.call_port_count.ensures.told }; heap = refl; out = refl; ports = refl });
       known = known_call texts tuples h.objects c.call_port_count.result result c.stopped-in-PortCount.ensures c.call_port_count.ensures.known;
       later = later_same h.objects;
       all_told = c.requires.all_told;
