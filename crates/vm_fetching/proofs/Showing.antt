@@ -43,10 +43,15 @@ use Rattle.vm_fetching.specs.declared.instruction.Instruction.TheVariants as fet
 use Rattle.vm_fetching.specs.Operations.{plain_op, number_op, name_op, jump_op}
 use Rattle.vm_fetching.specs.Numbered.{IsNumbered, number, object}
 use Rattle.vm_fetching.specs.Fetches.{AreOf, IsVerifiedRow}
-use Rattle.vm_fetching.specs.Shows.{NumberIsWithin, Shows}
+use Rattle.vm_fetching.specs.Shows.{NumberIsWithin, IsPooled, Shows}
 use Rattle.vm_fetching.proofs.Constants.{plain_object, object_there, at_index}
 use Rattle.vm_fetching.proofs.Kept.{Kept, kept, unbroken, unless}
 use Rattle.vm_fetching.proofs.Texts as texts
+
+-- a number of the pool is one
+pooled_number : (s : StrNo) → IsPooled s → (n : ℕ) × (s ≡ strs.Pool n)
+pooled_number (strs.Pool n) h = (n, refl)
+pooled_number (strs.Object c) h = absurd h
 
 -- an operation with a number is no other operation
 number_item : (m : Module) (o : NumberOp) (n : ℕ) → resolved_instr m (instrs.Num (number_op o) n) ≡ plain (instrs.Num (number_op o) n)
@@ -150,7 +155,7 @@ module _ (shelf : Shelf) (i : ℕ) (row : Row) (v : IsVerifiedRow shelf i row) (
     pub shows_binary : (n : ℕ) → S (instrs.Binary n) (fetched.Binary n)
     shows_binary n = record { item_is = refl; target = tt; local = tt; text = tt; constant = tt }
 
-    pub shows_name : (op : Op) (o : NameOp) (n : ℕ) (s : StrNo) → name_op o ≡ op → text_at shelf s ≡ table_text shelf i n → ((number : ℕ) × (s ≡ strs.Pool number)) → Reads l at (instrs.Name op n) end → S (instrs.Name op n) (fetched.Name o s)
+    pub shows_name : (op : Op) (o : NameOp) (n : ℕ) (s : StrNo) → name_op o ≡ op → text_at shelf s ≡ table_text shelf i n → IsPooled s → Reads l at (instrs.Name op n) end → S (instrs.Name op n) (fetched.Name o s)
     shows_name op o n s e same pooled r =
         let t = texts.text_there m n is_module (name_within op n r) in
         let text : text_at shelf s ≡ Some t.0 = same ∙ (texts.same_text shelf i m n there ∙ t.1) in
@@ -160,7 +165,7 @@ module _ (shelf : Shelf) (i : ℕ) (row : Row) (v : IsVerifiedRow shelf i row) (
               ∙ (ap (λ z. machine.Names z t.0) (sym e) ∙ ap (machine.Names (name_op o)) (sym shown_text));
           target = tt;
           local = tt;
-          text = (pooled.0, pooled.1, ap is_some text);
+          text = let p = pooled_number s pooled in (p.0, p.1, ap is_some text);
           constant = tt;
         }
 

@@ -7,6 +7,7 @@ use Rattle.bc_ops.specs.Signed.{IsSmall}
 use Rattle.bc_offsets.specs.Positions.{CodeList, Starts, position_in}
 use Rattle.mpy_tree.specs.Raw.{Module}
 use Rattle.mpy_tree.specs.Resolved.{resolved}
+use Rattle.arena_heap.specs.declared.value.StrNo.{StrNo}
 use Rattle.arena_heap.specs.declared.value.StrNo.TheVariants as strs
 use Rattle.bc_library.specs.Constants.{object_value, text_at}
 use Rattle.bc_library.specs.Shelf.{Shelf}
@@ -71,6 +72,11 @@ LocalIsWithin locals (fetched.Name op text) = Unit {0}
 LocalIsWithin locals (fetched.Object v) = Unit {0}
 LocalIsWithin locals (fetched.Jump op target) = Unit {0}
 LocalIsWithin locals (fetched.Unwind target byte) = Unit {0}
+
+-- a number of the library's pool
+abbrev pub IsPooled : StrNo → Type 0
+IsPooled (strs.Pool n) = Unit {0}
+IsPooled (strs.Object c) = ⊥
 
 -- the text that it names is one of the library's pool
 abbrev pub TextIsThere : Shelf → Instruction → Type 0

@@ -1,9 +1,9 @@
 //! Texts and objects of a library.
 
-ghost use Rattle.std.specs.Prelude.{◌≡◌, ℕ, Some, IsSome};
-ghost use Rattle.arena_heap.specs.declared.value.StrNo.TheVariants as strs;
+ghost use Rattle.std.specs.Prelude.{◌≡◌, Some, IsSome};
 ghost use Rattle.bc_library.specs.Constants.{object_value, text_at};
 ghost use Rattle.bc_library.specs.Shelf.{entry_at, table_text};
+ghost use Rattle.vm_fetching.specs.Shows.{IsPooled};
 
 use arena_heap::{StrNo, Value};
 use bc_library::Library;
@@ -13,7 +13,7 @@ use bc_library::Library;
 pub(crate) fn text_of(library: &Library, module_number: u32, n: u32) -> StrNo
     requires { IsSome (entry_at library.now module_number n) }
     ensures text { text_at library.now result ≡ table_text library.now module_number n }
-    ensures pooled { (number : ℕ) × (result ≡ strs.Pool number) }
+    ensures pooled { IsPooled result }
 {
     let Some(text) = library.text_number(module_number, n) else {
         unreachable!();
