@@ -1,0 +1,29 @@
+-- The machine's library of a program's files has the program's modules.
+use Rattle.std.proofs.Common.{◌≡◌, Option, Some, None, codes, sym, subst}
+use Rattle.mpy_tree.specs.Raw as raw
+use Rattle.mpy_tree.specs.Resolved.{ResolvedModule, Resolves}
+use Rattle.bc_library.specs.Shelf.{Shelf}
+use Rattle.bc_machine.specs.Library as libraries
+use Rattle.bc_machine.specs.Library.{Library}
+use Rattle.py_meaning.specs.Tree.{Name}
+use Rattle.py_meaning.specs.Program.{Unit, Entry, Runs, Refused, Program, entry_in}
+use Rattle.bc_translation.specs.Link.{IsModuleOf, IsEntryOf, Links}
+use Rattle.vm_programs.specs.Programs.{FindsAll}
+use Rattle.program_runs.specs.Units.{HasUnit, HasEntry, AreUnits}
+
+module _ (one : (m : raw.Module) (a b : ResolvedModule) → Resolves m a → Resolves m b → a ≡ b) (shelf : Shelf) (library : Library) (finds : FindsAll shelf library) where
+  unit_found : (name : Name) (unit : Unit) → HasUnit shelf name unit → IsEntryOf (Some (Runs unit)) (libraries.entry_in library name)
+  unit_found name unit h =
+      let found = finds.modules name h.place h.file h.found h.held in
+      (found.0, subst (IsModuleOf unit) (one h.file h.is_file.tree found.0 h.is_file.resolves found.1) h.is_file.is_module, found.2)
+
+  entry_found : (name : Name) (entry : Option Entry) → HasEntry shelf name entry → IsEntryOf entry (libraries.entry_in library name)
+  entry_found name (Some (Runs unit)) h = unit_found name unit h
+  entry_found name (Some Refused) h = finds.refused name h
+  entry_found name None h = finds.others name h
+
+  pub links : (program : Program) → AreUnits program shelf → Links program library
+  links program units = record {
+    main = subst (λ (name : Name). IsEntryOf (Some (Runs program.main)) (libraries.entry_in library name)) (sym units.main_name_is) (unit_found (codes "__main__") program.main units.main);
+    entries = λ name other. entry_found name (entry_in program.entries name) (units.entries name (λ e. other e units.main_name_is));
+  }
