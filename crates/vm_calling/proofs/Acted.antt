@@ -1,11 +1,12 @@
 -- Calls of methods, of built-ins, and of what isn't callable.
-use Rattle.std.proofs.Common.{◌≡◌, ℕ, ◌<◌, ◌≤◌, List, [], ◌∷◌, length, map, Option, Some, Result, Err, sym, ap, subst, ◌∙◌, arith}
+use Rattle.std.proofs.Common.{◌≡◌, ℕ, ◌<◌, ◌≤◌, List, [], ◌∷◌, length, map, Option, Some, Result, Ok, Err, inr, refl, sym, ap, subst, ◌∙◌, arith}
 use Rattle.mpy_base.specs.declared.builtin.Builtin.{Builtin}
 use Rattle.mpy_base.specs.World.{Heap}
 use Rattle.mpy_base.specs.Val.{PlainWorld}
 use Rattle.port_set.specs.Calls.{Tell}
 use Rattle.arena_heap.specs.declared.value.Value.{Value}
 use Rattle.py_primitives.specs.Methods.{call_method}
+use Rattle.py_effects.specs.Effect.{Place}
 use Rattle.py_effects.specs.Ends.{new_world}
 use Rattle.bc_library.specs.Constants.{items_at, text_at}
 use Rattle.bc_library.specs.Shelf.{Shelf}
@@ -17,6 +18,7 @@ use Rattle.vm_faults.specs.declared.types.ValueType.{ValueType}
 use Rattle.vm_faults.specs.declared.stop.Stop.{Stop}
 use Rattle.vm_calls.specs.Calls.{Seen}
 use Rattle.vm_calls.specs.Families.{IsOfPorts}
+use Rattle.vm_calls.specs.declared.callees.Callee.{Callee}
 use Rattle.vm_calls.specs.declared.callees.Callee.TheVariants as callees
 use Rattle.vm_calls.specs.declared.calls.CallStop.{CallStop}
 use Rattle.vm_frames.specs.Calls.{Call, Calls, OfRunning}
@@ -27,19 +29,21 @@ use Rattle.vm_fetching.specs.declared.instruction.Fetched.{Fetched}
 use Rattle.vm_fetching.specs.declared.instruction.Instruction.TheVariants as fetched
 use Rattle.vm_fetching.specs.Operations.{number_op}
 use Rattle.vm_invoking.specs.declared.calling.Invocation.{Invocation}
-use Rattle.vm_invoking.specs.Built.{ActsBuilt}
+use Rattle.vm_invoking.specs.Built.{ActsBuilt, IsCalled}
 use Rattle.vm_invoking.specs.Invoking.{Invokes}
 use Rattle.vm_invoking.specs.Layouts.{Layout, tables_of}
 use Rattle.vm_invoking.specs.Operands.{Given, running_slots}
+use Rattle.vm_invoking.specs.Putting.{Puts}
 use Rattle.vm_states.specs.Means.{Program, Means}
 use Rattle.vm_states.specs.Ready.{IsReady}
 use Rattle.vm_known.specs.State.{IsState}
-use Rattle.vm_calling.specs.Called.{Comes, CallComes}
+use Rattle.vm_calling.specs.Called.{of_stop, visits, Comes, CallComes, HeapComes}
 use Rattle.vm_calling.specs.Runs.{IsFetchedAt}
 use Rattle.vm_calling.specs.Taken.{CallsValue, IsTaken}
 use Rattle.vm_calling.proofs.Comings.{with_tables, by_does, built}
 use Rattle.vm_calling.proofs.Fitting.{value_runs}
 use Rattle.vm_calling.proofs.Functions.{invokes_in}
+use Rattle.vm_calling.proofs.Heaps.{heap_built, decided}
 use Rattle.vm_calling.proofs.Looking.{first_of}
 use Rattle.vm_calling.proofs.Places as places
 use Rattle.vm_calling.proofs.Puttings as puttings
@@ -96,6 +100,14 @@ module _ (p : Program) (row : Row) (means : Means p) (shelf : Shelf) (shelf_is :
       puttings.put_state laws p row means before behind s new Read state r call.size result (places.over p means shelf shelf_is (λ t u. puttings.Put t u before behind end call.size s new result) put)
       (λ v ok moved. value_runs p means s r.first r.others r.are state.running rows op number end calls own call.size taken.size (first_of _ s.calls r.first r.others r.are r.next) v new moved (r.begins tt))
 
+-- a call that puts nothing and calls no port
+pub quiet_heap : (p : Program) (place : Place) (next size : ℕ) (callee : Callee) (given : Given) (before behind : Heap Value ℕ) (s new : Calls) (result : Result (Unit {0}) Stop)
+    → ((w : PlainWorld) → Comes p callee given before w s (outcome_of p.tables place w behind s.calls new.calls result)) → HeapComes p place next size before behind s new (of_stop result)
+quiet_heap p place next size callee given before behind s new (Ok done) comes =
+    inr (λ w. record { paid = visits p callee given before w; after = w; modules = refl; steps = (comes w).steps (visits p callee given before w) (omega arith) })
+quiet_heap p place next size callee given before behind s new (Err stop) comes =
+    inr (λ w. record { paid = visits p callee given before w; after = w; modules = refl; steps = (comes w).steps (visits p callee given before w) (omega arith) })
+
 -- and comes to that, with the output and the ports
 pub built_comes : {S : Type 0} (told : S → Option (List ℕ)) (count : S → ℕ) (p : Program) (row : Row) (means : Means p) (shelf : Shelf) (shelf_is : p.shelf ≡ shelf) (op : NumberOp) (number end : ℕ) (before behind : Seen S) (s new : Calls)
     (r : IsReady p s row (record { instruction = fetched.Number op number; end = end })) (given : Given) (call : Invocation) (taken : IsTaken shelf op number before.heap s given call)
@@ -103,10 +115,31 @@ pub built_comes : {S : Type 0} (told : S → Option (List ℕ)) (count : S → �
     → ((layout : Layout) (library : Library) (item : Item) (w : PlainWorld) → Invokes (tables_of (text_at shelf) (items_at shelf) layout) item call.size before.heap s.calls given.args given.keys (callees.Built b)
     → IsNext (tables_of (text_at shelf) (items_at shelf) layout) end s.calls → (IsOfPorts b → Tell before.ports w.ports)
     → ActsBuilt told count (tables_of (text_at shelf) (items_at shelf) layout) library item call.size end b given.args given.keys before behind s.calls new.calls w result)
+    → IsCalled told count (text_at shelf) (items_at shelf) before behind given.args given.keys b result
     → (w : PlainWorld) → told before.out ≡ Some w.output → Tell before.ports w.ports → CallComes told count p r.place (callees.Built b) given before behind s new w result
-built_comes told count p row means shelf shelf_is op number end before behind s new r given call taken b is result acts w told_is tell =
+built_comes told count p row means shelf shelf_is op number end before behind s new r given call taken b is result acts is_called w told_is tell =
     let item : Item = Plain (instrs.Num (number_op op) number) in
     built told count p row s new (record { instruction = fetched.Number op number; end = end }) r given before behind b call.size w told_is tell result
     (with_tables p means shelf shelf_is
     (λ (t : Tables). Invokes t item call.size before.heap s.calls given.args given.keys (callees.Built b) → IsNext t end s.calls → ActsBuilt told count t p.library item call.size end b given.args given.keys before behind s.calls new.calls w result)
     (λ layout i n. acts layout p.library item w i n (λ of_ports. tell)) (invokes_in p means shelf shelf_is op number before.heap s given call taken (callees.Built b) is) r.next)
+    (decided told count p row s new (record { instruction = fetched.Number op number; end = end }) r given before behind b call.size shelf w tell result
+    (places.over p means shelf shelf_is (λ t u. IsCalled told count t u before behind given.args given.keys b result) is_called))
+
+-- and so does the heap, whatever these tell
+pub built_heap : {S : Type 0} (told : S → Option (List ℕ)) (count : S → ℕ) (p : Program) (row : Row) (means : Means p) (shelf : Shelf) (shelf_is : p.shelf ≡ shelf) (op : NumberOp) (number end : ℕ) (before behind : Seen S) (s new : Calls)
+    (r : IsReady p s row (record { instruction = fetched.Number op number; end = end })) (given : Given) (call : Invocation) (taken : IsTaken shelf op number before.heap s given call)
+    (b : Builtin) (is : call.callee ≡ callees.Built b) (result : Result (Unit {0}) CallStop)
+    → ((layout : Layout) (library : Library) (item : Item) (w : PlainWorld) → Invokes (tables_of (text_at shelf) (items_at shelf) layout) item call.size before.heap s.calls given.args given.keys (callees.Built b)
+    → IsNext (tables_of (text_at shelf) (items_at shelf) layout) end s.calls → (IsOfPorts b → Tell before.ports w.ports)
+    → ActsBuilt told count (tables_of (text_at shelf) (items_at shelf) layout) library item call.size end b given.args given.keys before behind s.calls new.calls w result)
+    → IsCalled told count (text_at shelf) (items_at shelf) before behind given.args given.keys b result → Puts (text_at shelf) (items_at shelf) behind.heap.objects end call.size s new result
+    → HeapComes p r.place end call.size before.heap behind.heap s new result
+built_heap told count p row means shelf shelf_is op number end before behind s new r given call taken b is result acts is_called moved =
+    let item : Item = Plain (instrs.Num (number_op op) number) in
+    heap_built told count p row s new (record { instruction = fetched.Number op number; end = end }) r given before behind b call.size shelf result
+    (λ w tell.
+    with_tables p means shelf shelf_is
+    (λ (t : Tables). Invokes t item call.size before.heap s.calls given.args given.keys (callees.Built b) → IsNext t end s.calls → ActsBuilt told count t p.library item call.size end b given.args given.keys before behind s.calls new.calls w result)
+    (λ layout i n. acts layout p.library item w i n tell) (invokes_in p means shelf shelf_is op number before.heap s given call taken (callees.Built b) is) r.next)
+    (places.over p means shelf shelf_is (λ t u. IsCalled told count t u before behind given.args given.keys b result) is_called) moved

@@ -1,24 +1,31 @@
 -- What a call comes to, from what was done.
-use Rattle.std.proofs.Common.{◌≡◌, ℕ, List, ◌++◌, Option, Some, Result, Ok, Err, refl, sym, ap, subst, ◌∙◌}
+use Rattle.std.proofs.Common.{◌≡◌, ℕ, List, ◌++◌, map, Option, Some, Result, Ok, Err, inl, inr, refl, sym, ap, subst, ◌∙◌}
+use Rattle.std.specs.Prelude.{◌⊎◌}
 use Rattle.mpy_base.specs.declared.builtin.Builtin.{Builtin}
 use Rattle.mpy_base.specs.World.{Heap}
 use Rattle.mpy_base.specs.Val.{PlainWorld}
 use Rattle.port_set.specs.Calls.{Tell}
 use Rattle.arena_heap.specs.declared.value.Value.{Value}
 use Rattle.arena_heap.specs.declared.value.Value.TheVariants as values
+use Rattle.py_primitives.specs.Faults as plain_faults
+use Rattle.py_primitives.specs.Outcome as primitives
+use Rattle.py_effects.specs.Calling.{call_builtin}
 use Rattle.py_effects.specs.Effect.{Place}
 use Rattle.bc_library.specs.Constants.{items_at, text_at}
 use Rattle.bc_library.specs.Shelf.{Shelf}
 use Rattle.bc_machine.specs.State.{State}
 use Rattle.bc_rows.specs.declared.row.Row.{Row}
+use Rattle.vm_walks.specs.Plain.{plain_pair}
+use Rattle.vm_faults.specs.declared.fault.Fault.TheVariants as faults
 use Rattle.vm_faults.specs.declared.stop.Stop.{Stop}
+use Rattle.vm_faults.specs.declared.stop.Stop.TheVariants as stops
 use Rattle.vm_calls.specs.Calls.{Seen}
 use Rattle.vm_calls.specs.declared.callees.Callee.{Callee}
 use Rattle.vm_calls.specs.declared.callees.Callee.TheVariants as callees
 use Rattle.vm_calls.specs.declared.calls.CallStop.{CallStop}
 use Rattle.vm_calls.specs.declared.calls.CallStop.TheVariants as calls
 use Rattle.vm_frames.specs.Calls.{Calls, change_first}
-use Rattle.vm_step.specs.Shown.{Tables, running_of}
+use Rattle.vm_step.specs.Shown.{Tables, value_of, running_of}
 use Rattle.vm_step.specs.Outcomes.{outcome_of, Does}
 use Rattle.vm_fetching.specs.declared.instruction.Fetched.{Fetched}
 use Rattle.vm_invoking.specs.Coming as invoking
@@ -30,7 +37,7 @@ use Rattle.vm_invoking.specs.Putting.{with_value}
 use Rattle.vm_states.specs.Means.{Program, Means}
 use Rattle.vm_states.specs.Ready.{item_at, IsReady}
 use Rattle.vm_unwinding.proofs.Tabling.{by_parts}
-use Rattle.vm_calling.specs.Called.{of_stop, begins_in, visits, Comes, CallComes}
+use Rattle.vm_calling.specs.Called.{of_stop, begins_in, visits, Comes, Strays, CallComes}
 use Rattle.vm_calling.proofs.Places.{texts_are, tuples_are}
 
 -- what holds of all tables of a library's texts and constant tuples holds of the program's
@@ -63,36 +70,45 @@ alone told count p place callee given before behind old new w out ports told_is 
   ports = subst (λ z. Tell z w.ports) (sym ports) tell;
   comes = comes;
 }
-alone told count p place callee given before behind old new w out ports told_is tell (Err stop) comes = λ alike. record {
+alone told count p place callee given before behind old new w out ports told_is tell (Err stop) comes = inl (record {
   after = w;
   modules = refl;
   output = ap told out ∙ told_is;
   ports = subst (λ z. Tell z w.ports) (sym ports) tell;
   comes = comes;
-}
+})
 
 -- a call of a built-in
 module _ {S : Type 0} (told : S → Option (List ℕ)) (count : S → ℕ) (p : Program) (row : Row) (s new : Calls) (fetched : Fetched) (r : IsReady p s row fetched) (given : Given) (before behind : Seen S) (b : Builtin) (size : ℕ) (w : PlainWorld) where
+  -- a port fails only where that of the world does, or it strays
+  abbrev pub Decided : Result (Unit {0}) CallStop → Type 0
+  Decided (Ok done) = Unit {0}
+  Decided (Err (calls.Stops stop)) =
+      (stop ≡ stops.Raises faults.PortFailed → (call_builtin (begins_in p (callees.Built b) given before.heap w) b (map (value_of p.tables) given.args) (map (plain_pair p.tables.texts p.tables.tuples) given.keys)).answer ≡ Err (primitives.Raises plain_faults.PortFailed))
+      ⊎ Strays p (callees.Built b) given before.heap w before.ports behind.ports
+  Decided (Err (calls.Out failed)) = Unit {0}
+
   pub built : told before.out ≡ Some w.output → Tell before.ports w.ports → (result : Result (Unit {0}) CallStop)
       → ActsBuilt told count p.tables p.library (item_at p r.first fetched) size fetched.end b given.args given.keys before behind s.calls new.calls w result
-      → CallComes told count p r.place (callees.Built b) given before behind s new w result
-  built told_is tell (Ok done) h = record {
+      → Decided result → CallComes told count p r.place (callees.Built b) given before behind s new w result
+  built told_is tell (Ok done) h decided = record {
     after = h.after;
     modules = h.modules;
     output = h.output told_is;
     ports = h.ports tell;
     comes = by_step p row s fetched r (callees.Built b) given before.heap w (λ place. outcome_of p.tables place h.after behind.heap s.calls new.calls (Ok done)) h.comes;
   }
-  built told_is tell (Err (calls.Stops stop)) h = λ alike.
+  built told_is tell (Err (calls.Stops stop)) h (inl alike) =
       let acts = h alike in
-      record {
+      inl (record {
         after = acts.after;
         modules = acts.modules;
         output = acts.output told_is;
         ports = acts.ports tell;
         comes = by_step p row s fetched r (callees.Built b) given before.heap w (λ place. outcome_of p.tables place acts.after behind.heap s.calls new.calls (Err stop)) acts.comes;
-      }
-  built told_is tell (Err (calls.Out failed)) h = record {
+      })
+  built told_is tell (Err (calls.Stops stop)) h (inr strays) = inr strays
+  built told_is tell (Err (calls.Out failed)) h decided = record {
     text = h.text;
     puts = h.puts;
     heap = h.heap;

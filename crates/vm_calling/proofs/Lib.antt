@@ -4,6 +4,7 @@ mod Bases
 mod Comings
 mod Fitting
 mod Functions
+mod Heaps
 mod Keepings
 mod Looking
 mod Places

@@ -1,7 +1,8 @@
 -- What a call comes to that an instruction makes, over an arena, with the output and the ports.
-use Rattle.std.specs.Prelude.{◌≡◌, ℕ, suc, ◌<◌, ◌≤◌, List, ◌++◌, map, true, Option, Some, Result, Ok, Err}
+use Rattle.std.specs.Prelude.{◌≡◌, ◌⊎◌, ℕ, suc, ◌<◌, ◌≤◌, List, ◌++◌, map, Bool, true, false, Option, Some, Result, Ok, Err}
 use Rattle.mpy_base.specs.World.{Heap}
 use Rattle.mpy_base.specs.Val.{Val, PlainWorld}
+use Rattle.mpy_io.specs.Ports.{PortView}
 use Rattle.port_set.specs.Calls.{Tell}
 use Rattle.arena_heap.specs.declared.value.Value.{Value}
 use Rattle.py_primitives.specs.Faults as plain_faults
@@ -13,21 +14,21 @@ use Rattle.bc_library.specs.Shelf.{Shelf}
 use Rattle.bc_machine.specs.State.{State}
 use Rattle.bc_rows.specs.declared.row.Row.{Row}
 use Rattle.vm_walks.specs.Plain.{plain_pair}
-use Rattle.vm_faults.specs.declared.fault.Fault.TheVariants as faults
 use Rattle.vm_faults.specs.declared.stop.Stop.{Stop}
-use Rattle.vm_faults.specs.declared.stop.Stop.TheVariants as stops
 use Rattle.vm_outputs.specs.Prints.{Puts}
+use Rattle.vm_outputs.specs.PortCalls.{Failed, called_number}
 use Rattle.vm_calls.specs.Calls.{Seen}
 use Rattle.vm_calls.specs.Callees.{plain_callee}
 use Rattle.vm_calls.specs.declared.callees.Callee.{Callee}
 use Rattle.vm_calls.specs.declared.calls.CallStop.{CallStop}
 use Rattle.vm_calls.specs.declared.calls.CallStop.TheVariants as calls
-use Rattle.vm_frames.specs.Calls.{Call, Calls}
+use Rattle.vm_frames.specs.Calls.{Call, Calls, on_running}
 use Rattle.vm_step.specs.Shown.{value_of, running_of}
 use Rattle.vm_step.specs.Outcomes.{world_of, outcome_of}
 use Rattle.vm_fetching.specs.declared.instruction.Fetched.{Fetched}
 use Rattle.vm_invoking.specs.Invoking.{visits_of}
 use Rattle.vm_invoking.specs.Operands.{Given}
+use Rattle.vm_invoking.specs.Putting.{with_value}
 use Rattle.vm_states.specs.Means.{Program, Means}
 use Rattle.vm_states.specs.Ready.{IsReady}
 use Rattle.vm_known.specs.Acting.{stepped}
@@ -37,6 +38,12 @@ use Rattle.vm_known.specs.State.{IsState}
 abbrev pub of_stop : Result (Unit {0}) Stop → Result (Unit {0}) CallStop
 of_stop (Ok done) = Ok tt
 of_stop (Err stop) = Err (calls.Stops stop)
+
+-- the sink failed
+abbrev pub is_out : Result (Unit {0}) CallStop → Bool
+is_out (Ok done) = false
+is_out (Err (calls.Stops stop)) = false
+is_out (Err (calls.Out failed)) = true
 
 -- a call of this fails at a port
 abbrev pub FailsAtPort : plain.Callee → List Val → Keys → Type 0
@@ -66,6 +73,11 @@ module _ (p : Program) (callee : Callee) (given : Given) (before : Heap Value �
     pub pays : (paid : ℕ) → paid < visits → stepped p paid old w before ≡ running_of p.tables (suc paid) old.calls begins_in
     pub steps : (paid : ℕ) → visits ≤ paid → stepped p paid old w before ≡ outcome
 
+  -- a call of a port failed, and its count of faults rose, where the call in this world doesn't fail
+  pub record Strays (earlier later : List PortView) : Type 0 where
+    pub failed : Failed (called_number given.args) earlier later
+    pub untold : FailsAtPort called plain_args plain_keys → ⊥
+
 module _ {S : Type 0} (told : S → Option (List ℕ)) (count : S → ℕ) (p : Program) (place : Place) (callee : Callee) (given : Given) (before behind : Seen S) (old new : Calls) (w : PlainWorld) where
   -- the new calls go on, or the old ones stop, in a world with the same modules, whose output the sink tells, and whose ports
   -- are told
@@ -85,16 +97,10 @@ module _ {S : Type 0} (told : S → Option (List ℕ)) (count : S → ℕ) (p : 
     pub onwards : List Call
     pub comes : Comes p callee given before.heap w old (running_of p.tables 0 onwards (record (begins_in p callee given before.heap w) { output = w.output ++ text }))
 
-  -- a port fails only where that of the world does
-  abbrev pub FailsAlike : Stop → Type 0
-  FailsAlike stop =
-      stop ≡ stops.Raises faults.PortFailed
-      → FailsAtPort (called p callee given before.heap w) (plain_args p callee given before.heap w) (plain_keys p callee given before.heap w)
-
   -- what it comes to, by what it answers
   abbrev pub CallComes : Result (Unit {0}) CallStop → Type 0
   CallComes (Ok done) = Goes (Ok done)
-  CallComes (Err (calls.Stops stop)) = FailsAlike stop → Goes (Err stop)
+  CallComes (Err (calls.Stops stop)) = Goes (Err stop) ⊎ Strays p callee given before.heap w before.ports behind.ports
   CallComes (Err (calls.Out failed)) = SinkFails
 
 -- so it is in each program of the library that the old calls run, where this was fetched for the first of them, and in each
@@ -110,3 +116,31 @@ abbrev pub ComesIn : Shelf → Fetched → Callee → Given → (before behind :
 ComesIn shelf fetched callee given before behind old new result =
     (p : Program) (row : Row) → Means p → p.shelf ≡ shelf → IsState p before.objects old → (ready : IsReady p old row fetched)
     → (w : PlainWorld) → Comes p callee given before w old (outcome_of p.tables ready.place w behind old.calls new.calls result)
+
+-- whatever the output and the ports do
+-- ====================================
+
+module _ (p : Program) (place : Place) (next size : ℕ) (before behind : Heap Value ℕ) (old new : Calls) where
+  -- where enough is paid the machine's step comes to the new heap, in a world with the same modules
+  pub record Reaches (result : Result (Unit {0}) Stop) (w : PlainWorld) : Type 0 where
+    pub paid : ℕ
+    pub after : PlainWorld
+    pub modules : after.modules ≡ w.modules
+    pub steps : stepped p paid old w before ≡ outcome_of p.tables place after behind old.calls new.calls result
+
+  -- the heap stays, and a value lies in the place of what the call took
+  pub record Gives : Type 0 where
+    pub heap : behind ≡ before
+    pub value : Value
+    pub calls : new ≡ on_running (with_value next size value) old
+
+  -- the machine comes to it in each world; or the heap stays, and the call gave a value or stopped. Where the sink failed it stays
+  abbrev pub HeapComes : Result (Unit {0}) CallStop → Type 0
+  HeapComes (Ok done) = Gives ⊎ ((w : PlainWorld) → Reaches (Ok done) w)
+  HeapComes (Err (calls.Stops stop)) = (behind ≡ before) ⊎ ((w : PlainWorld) → Reaches (Err stop) w)
+  HeapComes (Err (calls.Out failed)) = behind ≡ before
+
+-- so it is in each program of the library that the old calls run, where this was fetched for the first of them
+abbrev pub HeapComesIn : Shelf → Fetched → (size : ℕ) → (before behind : Heap Value ℕ) → (old new : Calls) → Result (Unit {0}) CallStop → Type 0
+HeapComesIn shelf fetched size before behind old new result =
+    (p : Program) (row : Row) → Means p → p.shelf ≡ shelf → IsState p before.objects old → (ready : IsReady p old row fetched) → HeapComes p ready.place fetched.end size before behind old new result

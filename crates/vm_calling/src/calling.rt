@@ -1,14 +1,15 @@
 //! Calls.
 
-ghost use Rattle.std.specs.Prelude.{◌≡◌, ◌<◌, ◌^◌, map, OnErr};
+ghost use Rattle.std.specs.Prelude.{◌≡◌, ◌<◌, ◌^◌, map, true, OnErr};
 ghost use Rattle.mpy_base.specs.declared.builtin.Builtin.{Builtin as BuiltIn};
 ghost use Rattle.mpy_base.specs.World.{Later};
+ghost use Rattle.mpy_io.specs.Count.{Counts};
 ghost use Rattle.bc_library.specs.Constants.{items_at, text_at};
 ghost use Rattle.vm_calls.specs.declared.callees.Callee.TheVariants as callees;
 ghost use Rattle.vm_frames.specs.Calls.{OfRunning};
 ghost use Rattle.vm_fetching.specs.declared.instruction.Instruction.TheVariants as fetched;
 ghost use Rattle.vm_invoking.specs.Built.{IsCalled, IsKnownCallStop};
-ghost use Rattle.vm_calling.specs.Called.{CallsIn, of_stop};
+ghost use Rattle.vm_calling.specs.Called.{CallsIn, HeapComesIn, is_out, of_stop};
 ghost use Rattle.vm_calling.specs.Runs.{IsFetchedAt, RunsWithin, RunsAgain};
 ghost use Rattle.vm_calling.specs.Taken.{CallsValue, Keeps, IsTaken};
 
@@ -59,6 +60,9 @@ pub fn call_on<S: Sink, P: Port>(
     requires rows { rows.now ≡ library.now }
     requires taken { IsTaken library.now op number arena.old frames.old operands.now call }
     ensures called { CallsIn S.told S.count library.now (record { instruction = fetched.Number op number; end = end }) call.callee operands.now (record { heap = arena.old; out = out.old; ports = map P.seen ports.old }) (record { heap = arena.new; out = out.new; ports = map P.seen ports.new }) frames.old frames.new result }
+    ensures heap { HeapComesIn library.now (record { instruction = fetched.Number op number; end = end }) call.size arena.old arena.new frames.old frames.new result }
+    ensures counts { Counts (S.count out.old) (S.count out.new) (is_out result) }
+    ensures ports { is_out result ≡ true → map P.seen ports.new ≡ map P.seen ports.old }
     ensures again { RunsAgain library.now (record { instruction = fetched.Number op number; end = end }) arena.old arena.new frames.old frames.new }
     ensures built { (b : BuiltIn) → call.callee ≡ callees.Built b → IsCalled S.told S.count (text_at library.now) (items_at library.now) (record { heap = arena.old; out = out.old; ports = map P.seen ports.old }) (record { heap = arena.new; out = out.new; ports = map P.seen ports.new }) operands.now.args operands.now.keys b result }
     ensures later { Later arena.old.objects arena.new.objects }

@@ -1,9 +1,10 @@
-use Rattle.std.proofs.Common.{◌≡◌, map, Err, refl, sym, subst, arith, ◌∙◌}
+use Rattle.std.proofs.Common.{◌≡◌, map, Err, inl, refl, sym, subst, arith, ◌∙◌}
 use Rattle.std.specs.Prelude.{OnErr}
 use Rattle.std.specs.Prelude.{OnErr}
 use Rattle.std.specs.Prelude.{OnErr}
 use Rattle.mpy_base.specs.declared.builtin.Builtin.{Builtin}
 use Rattle.bc_library.specs.Constants.{items_at, text_at}
+use Rattle.mpy_io.specs.Count.{Counts}
 use Rattle.vm_calls.specs.Calls.{Seen}
 use Rattle.vm_calls.specs.Callees.{IsKnownCallee}
 use Rattle.vm_calls.specs.declared.calls.CallStop.TheVariants as calls
@@ -13,7 +14,8 @@ use Rattle.vm_fetching.specs.declared.instruction.Instruction.TheVariants as fet
 use Rattle.vm_invoking.specs.Built.{IsCalled, IsKnownCallStop}
 use Rattle.vm_invoking.specs.Built.{IsCalled, IsKnownCallStop}
 use Rattle.vm_invoking.specs.Built.{IsCalled, IsKnownCallStop}
-use Rattle.vm_calling.specs.Called.{CallComes}
+use Rattle.vm_calling.specs.Called.{is_out, CallComes, HeapComes}
+use Rattle.vm_calling.proofs.Heaps as heaps
 use Rattle.vm_calling.proofs.Acted as acted
 use Rattle.vm_calling.proofs.Comings as comings
 use Rattle.vm_calling.proofs.Puttings as puttings
@@ -127,7 +129,7 @@ returns-in-Built-clause-called g c p row means shelf_is state r w told tell =
     let new_seen : Seen _ = record { heap = behind; out = c.act_builtin.new.out; ports = map g.P.Port.seen c.act_builtin.new.ports } in
     subst (λ (k : Callee). CallComes g.S.Sink.told g.S.Sink.count p r.place k given old_seen new_seen s new w c.act_builtin.result) (sym c.in-Built.is)
     (acted.built_comes g.S.Sink.told g.S.Sink.count p row means shelf shelf_is c.args.op c.args.number c.args.end old_seen new_seen s new r given c.args.call c.requires.taken c.in-Built.b c.in-Built.is c.act_builtin.result
-    c.act_builtin.ensures.acts w told tell)
+    c.act_builtin.ensures.acts c.act_builtin.ensures.called w told tell)
 
 pub returns-in-Built-clause-again : goal.returns-in-Built-clause-again
 returns-in-Built-clause-again g c p row means shelf_is state r =
@@ -236,3 +238,64 @@ returns-in-Built-clause-built g c b e =
     let old_seen : Seen _ = record { heap = c.args.arena.now; out = c.args.out.now; ports = map g.P.Port.seen c.args.ports.now } in
     let new_seen : Seen _ = record { heap = c.act_builtin.new.arena; out = c.act_builtin.new.out; ports = map g.P.Port.seen c.act_builtin.new.ports } in
     subst (λ (z : Builtin). IsCalled g.S.Sink.told g.S.Sink.count (text_at c.args.library.now) (items_at c.args.library.now) old_seen new_seen c.args.operands.now.args c.args.operands.now.keys z c.act_builtin.result) same c.act_builtin.ensures.called
+
+pub returns-in-Method-clause-heap : goal.returns-in-Method-clause-heap
+returns-in-Method-clause-heap g c p row means shelf_is state r =
+    let shelf = c.args.library.now in
+    let before = c.args.arena.now in
+    let behind = c.act_method.new.arena in
+    let s = c.args.frames.now in
+    let new = c.act_method.new.frames in
+    let given = c.args.operands.now in
+    let does = acted.method_does p row means shelf shelf_is c.args.op c.args.number c.args.end before behind s new state r given c.args.call c.requires.taken c.in-Method.object c.in-Method.method c.in-Method.is c.act_method.result c.act_method.ensures.steps in
+    subst (HeapComes p r.place c.args.end c.args.call.size before behind s new) (sym c.stopped.ensures)
+    (acted.quiet_heap p r.place c.args.end c.args.call.size (callees.Method c.in-Method.object c.in-Method.method) given before behind s new c.act_method.result
+    (λ w. acted.method_comes p row means shelf shelf_is c.args.op c.args.number c.args.end before behind s new state r given c.args.call c.requires.taken c.in-Method.object c.in-Method.method c.in-Method.is c.act_method.result does w))
+
+pub returns-in-Built-clause-heap : goal.returns-in-Built-clause-heap
+returns-in-Built-clause-heap g c p row means shelf_is state r =
+    let old_seen : Seen _ = record { heap = c.args.arena.now; out = c.args.out.now; ports = map g.P.Port.seen c.args.ports.now } in
+    let new_seen : Seen _ = record { heap = c.act_builtin.new.arena; out = c.act_builtin.new.out; ports = map g.P.Port.seen c.act_builtin.new.ports } in
+    acted.built_heap g.S.Sink.told g.S.Sink.count p row means c.args.library.now shelf_is c.args.op c.args.number c.args.end old_seen new_seen c.args.frames.now c.act_builtin.new.frames r c.args.operands.now c.args.call c.requires.taken c.in-Built.b c.in-Built.is c.act_builtin.result
+    c.act_builtin.ensures.acts c.act_builtin.ensures.called c.act_builtin.ensures.moved
+
+pub returns-in-NotCallable-clause-heap : goal.returns-in-NotCallable-clause-heap
+returns-in-NotCallable-clause-heap g c p row means shelf_is state r = inl refl
+
+pub returns-in-Runs-clause-heap : goal.returns-in-Runs-clause-heap
+returns-in-Runs-clause-heap g c p row means shelf_is state r =
+    subst (HeapComes p r.place c.args.end c.args.call.size c.args.arena.now c.args.arena.now c.args.frames.now c.call_code.new.frames) (sym c.stopped-in-Runs.ensures)
+    (acted.quiet_heap p r.place c.args.end c.args.call.size (callees.Runs c.in-Runs.function) c.args.operands.now c.args.arena.now c.args.arena.now c.args.frames.now c.call_code.new.frames c.call_code.result
+    (λ w. c.call_code.ensures.comes p row means shelf_is state r w))
+
+pub returns-in-Method-clause-counts : goal.returns-in-Method-clause-counts
+returns-in-Method-clause-counts g c =
+    subst (λ z. Counts (g.S.Sink.count c.args.out.now) (g.S.Sink.count c.args.out.now) (is_out z)) (sym c.stopped.ensures) (heaps.quiet_counts c.act_method.result (g.S.Sink.count c.args.out.now))
+
+pub returns-in-Runs-clause-counts : goal.returns-in-Runs-clause-counts
+returns-in-Runs-clause-counts g c =
+    subst (λ z. Counts (g.S.Sink.count c.args.out.now) (g.S.Sink.count c.args.out.now) (is_out z)) (sym c.stopped-in-Runs.ensures) (heaps.quiet_counts c.call_code.result (g.S.Sink.count c.args.out.now))
+
+pub returns-in-NotCallable-clause-counts : goal.returns-in-NotCallable-clause-counts
+returns-in-NotCallable-clause-counts g c = refl
+
+pub returns-in-Built-clause-counts : goal.returns-in-Built-clause-counts
+returns-in-Built-clause-counts g c =
+    let old_seen : Seen _ = record { heap = c.args.arena.now; out = c.args.out.now; ports = map g.P.Port.seen c.args.ports.now } in
+    let new_seen : Seen _ = record { heap = c.act_builtin.new.arena; out = c.act_builtin.new.out; ports = map g.P.Port.seen c.act_builtin.new.ports } in
+    heaps.built_counts g.S.Sink.told g.S.Sink.count (text_at c.args.library.now) (items_at c.args.library.now) old_seen new_seen c.args.operands.now.args c.args.operands.now.keys c.in-Built.b c.act_builtin.result c.act_builtin.ensures.called
+
+pub returns-in-Method-clause-ports : goal.returns-in-Method-clause-ports
+returns-in-Method-clause-ports g c e = refl
+
+pub returns-in-NotCallable-clause-ports : goal.returns-in-NotCallable-clause-ports
+returns-in-NotCallable-clause-ports g c e = refl
+
+pub returns-in-Runs-clause-ports : goal.returns-in-Runs-clause-ports
+returns-in-Runs-clause-ports g c e = refl
+
+pub returns-in-Built-clause-ports : goal.returns-in-Built-clause-ports
+returns-in-Built-clause-ports g c =
+    let old_seen : Seen _ = record { heap = c.args.arena.now; out = c.args.out.now; ports = map g.P.Port.seen c.args.ports.now } in
+    let new_seen : Seen _ = record { heap = c.act_builtin.new.arena; out = c.act_builtin.new.out; ports = map g.P.Port.seen c.act_builtin.new.ports } in
+    heaps.built_ports g.S.Sink.told g.S.Sink.count (text_at c.args.library.now) (items_at c.args.library.now) old_seen new_seen c.args.operands.now.args c.args.operands.now.keys c.in-Built.b c.act_builtin.result c.act_builtin.ensures.called
