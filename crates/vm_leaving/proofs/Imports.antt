@@ -203,3 +203,14 @@ module _ (went : Went) (sounds : SoundLaw) (texts : StrNo → Option (List ℕ))
       objects = here.later;
       stop = stop;
     }
+
+-- the rooms stay
+-- ==============
+
+pub imported_rooms : (number locals name : ℕ) (old new : Calls) (before behind : Registry) (result : Result (Unit {0}) Stop) → HasImported number locals name old new before behind result → new ≡ record old { calls = new.calls }
+imported_rooms number locals name old new before behind (Ok done) (made, is) = same_calls old new (begun number locals made ∷ old.calls) is.calls
+imported_rooms number locals name old new before behind (Err stop) is = same_calls old new old.calls is.calls
+
+pub imported_registry : (number locals name : ℕ) (old new : Calls) (before behind : Registry) (result : Result (Unit {0}) Stop) → HasImported number locals name old new before behind result → behind.room ≡ before.room
+imported_registry number locals name old new before behind (Ok done) (made, is) = ap (λ (z : Registry). z.room) is.registered
+imported_registry number locals name old new before behind (Err stop) is = ap (λ (z : Registry). z.room) is.registered

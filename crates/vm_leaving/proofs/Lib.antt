@@ -4,6 +4,7 @@ mod Sounds
 mod Tellings
 mod Places
 mod Ends
+mod Behind
 mod Raises
 mod Found
 mod Taking

@@ -32,6 +32,7 @@ use Rattle.vm_leaving.specs.Modules.{registered_names, AreNames, AreRegistered}
 use Rattle.vm_leaving.specs.Running.{stepped_with, IsRun, RunsOn, StopsOn}
 use Rattle.vm_leaving.proofs.Registered.{own_fewer}
 use Rattle.vm_leaving.proofs.Sounds.{SoundLaw, stopping_in}
+use Rattle.vm_leaving.proofs.Behind.{run_behind}
 use Rattle.vm_leaving.proofs.Ends.{Went, end_known, thrown_same, registered_behind, is_run, own_in, keeps_here}
 
 module _ (went : Went) (sounds : SoundLaw) (texts : StrNo → Option (List ℕ)) (tuples : ConstNo → Option (List Value)) (names : List ModuleName)
@@ -65,6 +66,9 @@ module _ (went : Went) (sounds : SoundLaw) (texts : StrNo → Option (List ℕ))
         raised_run before state registered paid w v (e ∙ steps v)
         (own_in p end new.calls (V v) (stopping_of p.tables place (with_modules p.tables v earlier) between old.calls stop) (steps v)
         (stopping_in (registered_names p) p.tables (own_fewer (registered_names p)) place (with_modules p.tables v earlier) between old.calls stop registered.own));
+    again = run_behind p means place stop between behind earlier later old new end steps
+        (keeps_here texts tuples p tells names named between.objects behind.objects old.calls new.calls keeps) (placed (view_of p.tables)) (thrown_same behind.objects old new end thrown) forgets.room
+        (end_known p.tables.texts p.tables.tuples behind.objects old new end thrown);
     objects = keeps.later;
   }
 

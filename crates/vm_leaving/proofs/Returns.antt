@@ -55,6 +55,9 @@ same_rooms p s new e h =
 pub same_calls : (old new : Calls) (calls : List Call) → new ≡ record old { calls = calls } → new ≡ record old { calls = new.calls }
 same_calls old new calls e = e ∙ ap (λ (z : List Call). record old { calls = z }) (sym (ap (λ (z : Calls). z.calls) e))
 
+pub same_through : (old mid new : Calls) → mid ≡ record old { calls = mid.calls } → new ≡ record mid { calls = new.calls } → new ≡ record old { calls = new.calls }
+same_through old mid new e moved = moved ∙ ap (λ (z : Calls). record z { calls = new.calls }) e
+
 shown_fits : (p : Program) (calls : List Call) (paid : ℕ) (w : PlainWorld) → FitCalls p calls → Fits p.plans p.library (running_of p.tables paid calls w)
 shown_fits p [] paid w h = absurd h
 shown_fits p (c ∷ cs) paid w h = h

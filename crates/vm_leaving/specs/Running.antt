@@ -83,9 +83,11 @@ module _ (p : Program) where
       → RunsOn before behind earlier later old new end
 
   -- The calls stopped at the place in the heap between. The stop comes to the new calls, or to the end, in each world; and
-  -- behind it the run goes on or has ended, if the stop is where the machine's step from the program's state came to
+  -- behind it the run goes on or has ended, if the stop is where the machine's step from the program's state came to, or if the
+  -- calls are a state of the program in the heap between
   pub record StopsOn (place : effects.Place) (between behind : Heap Value ℕ) (earlier later : Registry) (old new : Calls) (stop : Stop) (end : Option End) : Type 0 where
     pub steps : (w : PlainWorld) → stopping_of p.tables place (with_modules p.tables w earlier) between old.calls stop ≡ state_of p.tables end new.calls (world_of p.tables (with_modules p.tables w later) behind)
     pub run : (before : Heap Value ℕ) (paid : ℕ) (w v : PlainWorld) → IsState p before.objects old → AreRegistered p before earlier
         → stepped_with paid old w before earlier ≡ stopping_of p.tables place (with_modules p.tables v earlier) between old.calls stop → IsRun behind later new end
+    pub again : IsState p between.objects old → AreRegistered p between earlier → IsRun behind later new end
     pub objects : Later between.objects behind.objects

@@ -33,8 +33,10 @@ pub fn end_finally_on<C: Constants>(
 ) -> Option<End>
     requires runs { (row : CodeRow) × (h : RunsWith (C.text_of consts.now) (C.items_of consts.now) names.now library.now arena.old modules.old frames.old row (fetched_plain plain_ops.EndFinally end)) × KeepsCause h.runs.program frames.old }
     requires rows { rows.now ≡ library.now }
-    ensures { (p : Program) (row : CodeRow) → p.shelf ≡ library.now → KeepsCause p frames.old
+    ensures comes { (p : Program) (row : CodeRow) → p.shelf ≡ library.now → KeepsCause p frames.old
         → RunsOnBehind p (C.text_of consts.now) (C.items_of consts.now) names.now row (fetched_plain plain_ops.EndFinally end) arena.old arena.new modules.old modules.new frames.old frames.new result }
+    ensures rooms { frames.new ≡ record frames.old { calls = frames.new.calls } }
+    ensures registry { modules.new.room ≡ modules.old.room }
 {
     keeps_law();
     sound_law();

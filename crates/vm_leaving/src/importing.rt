@@ -60,8 +60,10 @@ fn begin<C: Constants>(
     requires short { frames.old.slot_room < 2 ^ 32 }
     requires import { (from level : Item) (w : PlainWorld) → AreOperands from level frames.old.calls
         → IsImport (C.text_of consts.now) (C.items_of consts.now) rows.now (record w { modules = plain_modules (C.text_of consts.now) (C.items_of consts.now) modules.old }) (nat_lt (length frames.old.calls) LIMIT) (plain_name (C.text_of consts.now) (C.items_of consts.now) name) from level (imports.Begin number) }
-    ensures { (p : Program) (row : CodeRow) (end : ℕ) → p.shelf ≡ rows.now
+    ensures comes { (p : Program) (row : CodeRow) (end : ℕ) → p.shelf ≡ rows.now
         → ImportsBehind p (C.text_of consts.now) (C.items_of consts.now) names.now row name end arena.old arena.new modules.old modules.new frames.old frames.new result }
+    ensures rooms { frames.new ≡ record frames.old { calls = frames.new.calls } }
+    ensures registry { modules.new.room ≡ modules.old.room }
 {
     keeps_law();
     room_law();
@@ -92,8 +94,10 @@ pub fn import_on<C: Constants>(
     requires rows { rows.now ≡ library.now }
     requires key { C.text_of consts.now key ≡ Some (codes "__name__") }
     requires short { frames.old.slot_room < 2 ^ 32 }
-    ensures { (p : Program) (row : CodeRow) → p.shelf ≡ rows.now
+    ensures comes { (p : Program) (row : CodeRow) → p.shelf ≡ rows.now
         → ImportsBehind p (C.text_of consts.now) (C.items_of consts.now) names.now row name end arena.old arena.new modules.old modules.new frames.old frames.new result }
+    ensures rooms { frames.new ≡ record frames.old { calls = frames.new.calls } }
+    ensures registry { modules.new.room ≡ modules.old.room }
 {
     keeps_law();
     known_law();

@@ -54,8 +54,10 @@ pub fn stop_on<C: Constants>(
 ) -> Option<End>
     requires runs { (fetched : FetchedHere) × RunsAt (C.text_of consts.now) (C.items_of consts.now) names.now arena.old.objects frames.old row.now fetched }
     requires stop { IsKnownAnswer (C.text_of consts.now) (C.items_of consts.now) arena.old.objects (Err stop) }
-    ensures { (p : Program) (fetched : FetchedHere) → Means p → Tells (C.text_of consts.now) (C.items_of consts.now) p → AreNames p names.now → IsState p arena.old.objects frames.old
+    ensures comes { (p : Program) (fetched : FetchedHere) → Means p → Tells (C.text_of consts.now) (C.items_of consts.now) p → AreNames p names.now → IsState p arena.old.objects frames.old
         → (ready : IsReady p frames.old row.now fetched) → StopsOn p ready.place arena.old arena.new modules.old modules.new frames.old frames.new stop result }
+    ensures rooms { frames.new ≡ record frames.old { calls = frames.new.calls } }
+    ensures registry { modules.new.room ≡ modules.old.room }
 {
     keeps_law();
     sound_law();
@@ -73,8 +75,10 @@ pub fn raise_on<C: Constants>(
     row: &Row<'_>,
 ) -> Option<End>
     requires runs { (end : ℕ) × RunsAt (C.text_of consts.now) (C.items_of consts.now) names.now arena.old.objects frames.old row.now (fetched_plain plain_ops.RaiseObj end) }
-    ensures { (p : Program) (end : ℕ)
+    ensures comes { (p : Program) (end : ℕ)
         → RunsOnBehind p (C.text_of consts.now) (C.items_of consts.now) names.now row.now (fetched_plain plain_ops.RaiseObj end) arena.old arena.new modules.old modules.new frames.old frames.new result }
+    ensures rooms { frames.new ≡ record frames.old { calls = frames.new.calls } }
+    ensures registry { modules.new.room ≡ modules.old.room }
 {
     keeps_law();
     sound_law();
@@ -93,8 +97,10 @@ pub fn raise_again_on<C: Constants>(
     row: &Row<'_>,
 ) -> Option<End>
     requires runs { (end : ℕ) × RunsAt (C.text_of consts.now) (C.items_of consts.now) names.now arena.old.objects frames.old row.now (fetched_plain plain_ops.RaiseLast end) }
-    ensures { (p : Program) (end : ℕ)
+    ensures comes { (p : Program) (end : ℕ)
         → RunsOnBehind p (C.text_of consts.now) (C.items_of consts.now) names.now row.now (fetched_plain plain_ops.RaiseLast end) arena.old arena.new modules.old modules.new frames.old frames.new result }
+    ensures rooms { frames.new ≡ record frames.old { calls = frames.new.calls } }
+    ensures registry { modules.new.room ≡ modules.old.room }
 {
     keeps_law();
     sound_law();

@@ -88,8 +88,9 @@ pub fn return_on<C: Constants>(
 ) -> Option<End>
     requires runs { (end : ℕ) × (row : CodeRow) × RunsWith (C.text_of consts.now) (C.items_of consts.now) names.now library.now arena.old modules.now frames.old row (fetched_plain plain_ops.ReturnValue end) }
     requires rows { rows.now ≡ library.now }
-    ensures { (p : Program) (end : ℕ) (row : CodeRow) → p.shelf ≡ library.now
+    ensures comes { (p : Program) (end : ℕ) (row : CodeRow) → p.shelf ≡ library.now
         → RunsOnBehind p (C.text_of consts.now) (C.items_of consts.now) names.now row (fetched_plain plain_ops.ReturnValue end) arena.old arena.new modules.now modules.now frames.old frames.new result }
+    ensures rooms { frames.new ≡ record frames.old { calls = frames.new.calls } }
 {
     keeps_law();
     sound_law();

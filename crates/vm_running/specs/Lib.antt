@@ -1,3 +1,4 @@
+pub mod Calling
 pub mod Comes
 pub mod Leaves
 pub mod Values

@@ -34,8 +34,10 @@ pub fn import<C: Constants>(
     requires rows { rows.now ≡ library.now }
     requires key { C.text_of consts.now key ≡ Some (codes "__name__") }
     requires short { frames.old.slot_room < 2 ^ 32 }
-    ensures { (p : Program) → p.shelf ≡ rows.now
+    ensures comes { (p : Program) → p.shelf ≡ rows.now
         → ComesOnBehind p (C.text_of consts.now) (C.items_of consts.now) names.now row.now (fetched_import name end) 0 arena.old arena.new modules.old modules.new frames.old frames.new result }
+    ensures rooms { frames.new ≡ record frames.old { calls = frames.new.calls } }
+    ensures registry { modules.new.room ≡ modules.old.room }
 {
     match import_on(
         frames, arena, consts, library, rows, modules, names, key, name, end,

@@ -31,8 +31,10 @@ pub fn leave<C: Constants>(
     requires leaves { LeavesCall op }
     requires runs { (end : ℕ) × RunsWith (C.text_of consts.now) (C.items_of consts.now) names.now library.now arena.old modules.old frames.old row.now (fetched_plain op end) }
     requires rows { rows.now ≡ library.now }
-    ensures { (p : Program) (end : ℕ) → p.shelf ≡ library.now
+    ensures comes { (p : Program) (end : ℕ) → p.shelf ≡ library.now
         → RunsOnBehind p (C.text_of consts.now) (C.items_of consts.now) names.now row.now (fetched_plain op end) arena.old arena.new modules.old modules.new frames.old frames.new result }
+    ensures rooms { frames.new ≡ record frames.old { calls = frames.new.calls } }
+    ensures registry { modules.new.room ≡ modules.old.room }
 {
     match op {
         PlainOp::ReturnValue => return_on(frames, arena, consts, library, rows, modules, names),

@@ -33,8 +33,10 @@ pub fn make(
 ) -> Option<End>
     requires runs { RunsWith (text_at library.now) (items_at library.now) names.now library.now arena.old modules.old frames.old row.now (record { instruction = fetched_as.Number number_ops.MakeFunction number; end = end }) }
     requires rows { rows.now ≡ library.now }
-    ensures { (p : Program) → p.shelf ≡ library.now
+    ensures comes { (p : Program) → p.shelf ≡ library.now
         → ComesOnBehind p (text_at library.now) (items_at library.now) names.now row.now (record { instruction = fetched_as.Number number_ops.MakeFunction number; end = end }) 0 arena.old arena.new modules.old modules.new frames.old frames.new result }
+    ensures rooms { frames.new ≡ record frames.old { calls = frames.new.calls } }
+    ensures registry { modules.new.room ≡ modules.old.room }
 {
     registered_law();
     match make_function(frames, arena, library, rows, names, number, end) {
@@ -60,8 +62,10 @@ pub fn make_with(
 ) -> Option<End>
     requires runs { RunsWith (text_at library.now) (items_at library.now) names.now library.now arena.old modules.old frames.old row.now (record { instruction = fetched_as.Number number_ops.MakeFunctionDefargs number; end = end }) }
     requires rows { rows.now ≡ library.now }
-    ensures { (p : Program) → p.shelf ≡ library.now
+    ensures comes { (p : Program) → p.shelf ≡ library.now
         → ComesOnBehind p (text_at library.now) (items_at library.now) names.now row.now (record { instruction = fetched_as.Number number_ops.MakeFunctionDefargs number; end = end }) 0 arena.old arena.new modules.old modules.new frames.old frames.new result }
+    ensures rooms { frames.new ≡ record frames.old { calls = frames.new.calls } }
+    ensures registry { modules.new.room ≡ modules.old.room }
 {
     registered_law();
     match make_function_with(frames, arena, library, rows, names, number, end) {

@@ -100,8 +100,10 @@ pub fn operate<C: Constants>(
     requires values { ActsOnValues fetched.instruction }
     requires places { frames.old.slot_room ≤ length items.old }
     requires runs { (shelf : Shelf) × RunsWith (C.text_of consts.now) (C.items_of consts.now) names.now shelf arena.old modules.old frames.old row.now fetched }
-    ensures { (p : Program)
+    ensures comes { (p : Program)
         → ComesOnBehind p (C.text_of consts.now) (C.items_of consts.now) names.now row.now fetched (value_visits (C.text_of consts.now) (C.items_of consts.now) arena.old frames.old.calls fetched.instruction) arena.old arena.new modules.old modules.new frames.old frames.new result }
+    ensures rooms { frames.new ≡ record frames.old { calls = frames.new.calls } }
+    ensures registry { modules.new.room ≡ modules.old.room }
 {
     registered_law();
     match act_on(frames, arena, consts, items, fetched) {

@@ -21,7 +21,7 @@ use Rattle.vm_leaving.proofs.Sounds.{ending_in}
 use Rattle.vm_leaving.proofs.Tellings.{out, tables_are, counted, known_out, last_out, registered_out}
 use Rattle.vm_leaving.proofs.Places.{on_first, of_first}
 use Rattle.vm_leaving.proofs.Found.{first_known}
-use Rattle.vm_leaving.proofs.Returns.{same_calls, waits_so, settled_so}
+use Rattle.vm_leaving.proofs.Returns.{same_calls, same_through, waits_so, settled_so}
 use Rattle.vm_leaving.proofs.Finallys.{own_after, fits_here, some_entry, goes_on_here}
 use Rattle.vm_leaving.proofs.finishing.end_finally_on.Goals as goal
 
@@ -162,8 +162,8 @@ settle-requires-clause-waits g c =
           (u.placed view k.cause k.top (on_first p s row f r (GoesOn view c.args.end k.cause) (goes_on_here view c.args.end k.cause r.first (r.begins tt) (of_first p s row f r (TargetStarts view k.cause) k.target)))) u.keeps (same_calls s c.end_finally-after.new.frames _ (u.calls k.cause k.top)),
     )
 
-pub returns : goal.returns
-returns g c p row same k means tells named state registered r =
+pub returns-clause-comes : goal.returns-clause-comes
+returns-clause-comes g c p row same k means tells named state registered r =
     let s = c.args.frames.now in
     let mid = c.end_finally-after.new.frames in
     let m0 = c.args.modules.now in
@@ -192,3 +192,13 @@ returns g c p row same k means tells named state registered r =
     (u.steps p.tables r.place w0 (tables_are texts tuples p tells c.args.names.now named) r.next state.running.placed p.library 0)
     (ending_in (registered_names p) p.tables (own_fewer (registered_names p)) p.library r.place 0 before registered.own s.calls))
     u.forgets.room
+
+pub returns-clause-rooms : goal.returns-clause-rooms
+returns-clause-rooms g c =
+    let k = c.requires.runs.2 in
+    let old = c.args.frames.now in
+    let mid = c.end_finally-after.new.frames in
+    same_through old mid c.settle.new.frames (same_calls old mid _ (c.end_finally-after.ensures.calls k.cause k.top)) c.settle.ensures.same
+
+pub returns-clause-registry : goal.returns-clause-registry
+returns-clause-registry g c = c.end_finally-after.ensures.forgets.room

@@ -17,7 +17,7 @@ use Rattle.vm_importing.specs.Importing.{IsImport}
 use Rattle.vm_importing.specs.Beginning.{IsOutermost}
 use Rattle.vm_leaving.proofs.Tellings.{out, into, tables_are}
 use Rattle.vm_leaving.proofs.Outermost.{stands_for, at_least, title_is, outermost_there, locals_fit, is_outermost}
-use Rattle.vm_leaving.proofs.Imports.{room_for, operands_here, import_here, stop_here, begins_here, number_within, has_title, is_shallow, imports_so}
+use Rattle.vm_leaving.proofs.Imports.{imported_rooms, imported_registry, room_for, operands_here, import_here, stop_here, begins_here, number_within, has_title, is_shallow, imports_so}
 use Rattle.mpy_base.specs.Val.{PlainWorld}
 use Rattle.vm_modules.specs.Registry.{plain_modules}
 use Rattle.py_effects.specs.Ends.{new_world}
@@ -135,8 +135,8 @@ begin_import-requires-clause-all_told g c =
     let tuples = g.C.Constants.items_of c.args.consts.now in
     out texts tuples h.runs.program h.runs.tells (λ x y. AllTold x y c.args.arena.now.objects) h.runs.state.all_told
 
-pub returns : goal.returns
-returns g c p row end same means tells named state reg r =
+pub returns-clause-comes : goal.returns-clause-comes
+returns-clause-comes g c p row end same means tells named state reg r =
     let s = c.args.frames.now in
     let new = c.begin_import.new.frames in
     let a0 = c.args.arena.now in
@@ -168,3 +168,37 @@ returns g c p row end same means tells named state reg r =
     (subst (λ (d : Bool). IsImport p.tables.texts p.tables.tuples p.shelf (world_of p.tables (with_modules p.tables w m0) a0) d name t.top t.second (imports.Begin n)) b.shallow (is (world_of p.tables w a0)))
     (stands_for p means) outermost r.place paid)
     (u.begun m.0 m.1) (into texts tuples p tells (λ x y. IsKnownStop x y a1.objects c.begin_import.result) (stop_here texts tuples a1.objects c.begin_import.result u.stop))
+
+pub returns-clause-rooms : goal.returns-clause-rooms
+returns-clause-rooms g c =
+    let h = c.requires.runs.2 in
+    let p = h.runs.program in
+    let s = c.args.frames.now in
+    let texts = g.C.Constants.text_of c.args.consts.now in
+    let tuples = g.C.Constants.items_of c.args.consts.now in
+    let t = c.tops_law.ensures.two (view_of p.tables) (starts_of (view_of p.tables) h.runs.ready.first) h.runs.ready.first.slots h.runs.ready.finds in
+    let w = new_world 0 0 [] in
+    let has = operands_here p s c.requires.runs.0 c.args.name c.requires.runs.1 h.runs.ready t in
+    let is = import_here texts tuples p h.runs.tells c.args.rows.now h.shelf_is w c.args.modules.now (nat_lt (length s.calls) MAX_CALLS) c.args.name t.top t.second (imports.Begin c.args.number) (c.requires.import t.top t.second w has) in
+    let b = begins_here p c.args.modules.now w (length s.calls) c.args.number (plain_name p.tables.texts p.tables.tuples c.args.name) t.top t.second is in
+    let few = number_within p c.args.modules.now (length s.calls) c.args.number b in
+    let counted = h.runs.named.as_many in
+    let m = at_least c.args.names.now c.args.number (omega (arith, few, counted)) in
+    imported_rooms c.args.number c.outermost_locals-locals.result (m.0).name s c.begin_import.new.frames c.args.modules.now c.begin_import.new.modules c.begin_import.result (c.begin_import.ensures.begun m.0 m.1)
+
+pub returns-clause-registry : goal.returns-clause-registry
+returns-clause-registry g c =
+    let h = c.requires.runs.2 in
+    let p = h.runs.program in
+    let s = c.args.frames.now in
+    let texts = g.C.Constants.text_of c.args.consts.now in
+    let tuples = g.C.Constants.items_of c.args.consts.now in
+    let t = c.tops_law.ensures.two (view_of p.tables) (starts_of (view_of p.tables) h.runs.ready.first) h.runs.ready.first.slots h.runs.ready.finds in
+    let w = new_world 0 0 [] in
+    let has = operands_here p s c.requires.runs.0 c.args.name c.requires.runs.1 h.runs.ready t in
+    let is = import_here texts tuples p h.runs.tells c.args.rows.now h.shelf_is w c.args.modules.now (nat_lt (length s.calls) MAX_CALLS) c.args.name t.top t.second (imports.Begin c.args.number) (c.requires.import t.top t.second w has) in
+    let b = begins_here p c.args.modules.now w (length s.calls) c.args.number (plain_name p.tables.texts p.tables.tuples c.args.name) t.top t.second is in
+    let few = number_within p c.args.modules.now (length s.calls) c.args.number b in
+    let counted = h.runs.named.as_many in
+    let m = at_least c.args.names.now c.args.number (omega (arith, few, counted)) in
+    imported_registry c.args.number c.outermost_locals-locals.result (m.0).name s c.begin_import.new.frames c.args.modules.now c.begin_import.new.modules c.begin_import.result (c.begin_import.ensures.begun m.0 m.1)

@@ -20,6 +20,7 @@ use Rattle.vm_importing.specs.Importing.{IsImport, given_name}
 use Rattle.vm_leaving.specs.Importing.{fetched_import}
 use Rattle.vm_leaving.proofs.Tellings.{out}
 use Rattle.vm_leaving.proofs.Outermost.{stands_for}
+use Rattle.vm_leaving.proofs.Returns.{same_calls}
 use Rattle.vm_leaving.proofs.Imports.{given_known, operands_here, two_there, text_there, import_here}
 use Rattle.vm_leaving.proofs.importing.import_on.Goals as goal
 
@@ -44,8 +45,8 @@ put_import-requires g c =
     let r = h.runs.ready in
     two_there p c.args.frames.now c.requires.runs.0 c.args.name c.args.end r (c.tops_law.ensures.two (view_of p.tables) (starts_of (view_of p.tables) r.first) r.first.slots r.finds)
 
-pub returns-in-Put : goal.returns-in-Put
-returns-in-Put g c p row same means tells named state reg r =
+pub returns-in-Put-clause-comes : goal.returns-in-Put-clause-comes
+returns-in-Put-clause-comes g c p row same means tells named state reg r =
     let s = c.args.frames.now in
     let new = c.put_import.new.frames in
     let a0 = c.args.arena.now in
@@ -86,11 +87,11 @@ begin-requires-clause-import g c from level w has =
     subst (λ (z : Shelf). IsImport texts tuples z world deep name from level (imports.Begin c.in-Begin.number)) (sym c.requires.rows)
     (subst (λ (z : Import). IsImport texts tuples c.args.library.now world deep name from level z) c.in-Begin.is (c.import_name.ensures.comes from level w has))
 
-pub returns-in-Begin : goal.returns-in-Begin
-returns-in-Begin g c p row same = c.begin.ensures p row c.args.end same
+pub returns-in-Begin-clause-comes : goal.returns-in-Begin-clause-comes
+returns-in-Begin-clause-comes g c p row same = c.begin.ensures.comes p row c.args.end same
 
-pub returns-in-Stops : goal.returns-in-Stops
-returns-in-Stops g c p row same means tells named state reg r =
+pub returns-in-Stops-clause-comes : goal.returns-in-Stops-clause-comes
+returns-in-Stops-clause-comes g c p row same means tells named state reg r =
     let s = c.args.frames.now in
     let a0 = c.args.arena.now in
     let m0 = c.args.modules.now in
@@ -115,3 +116,21 @@ returns-in-Stops g c p row same means tells named state reg r =
       stop = c.refuse_import.ensures.known p.tables.texts p.tables.tuples p.shelf (record w0 { modules = plain_modules p.tables.texts p.tables.tuples m0 }) a0 s.calls t.top t.second (is w0)
           (text_there p means s row c.args.name c.args.end r);
     }
+
+pub returns-in-Put-clause-rooms : goal.returns-in-Put-clause-rooms
+returns-in-Put-clause-rooms g c = same_calls c.args.frames.now c.put_import.new.frames _ c.put_import.ensures.moved
+
+pub returns-in-Put-clause-registry : goal.returns-in-Put-clause-registry
+returns-in-Put-clause-registry g c = refl
+
+pub returns-in-Begin-clause-rooms : goal.returns-in-Begin-clause-rooms
+returns-in-Begin-clause-rooms g c = c.begin.ensures.rooms
+
+pub returns-in-Begin-clause-registry : goal.returns-in-Begin-clause-registry
+returns-in-Begin-clause-registry g c = c.begin.ensures.registry
+
+pub returns-in-Stops-clause-rooms : goal.returns-in-Stops-clause-rooms
+returns-in-Stops-clause-rooms g c = refl
+
+pub returns-in-Stops-clause-registry : goal.returns-in-Stops-clause-registry
+returns-in-Stops-clause-registry g c = refl

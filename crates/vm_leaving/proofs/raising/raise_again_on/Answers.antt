@@ -16,6 +16,7 @@ use Rattle.vm_leaving.proofs.Sounds.{again_in}
 use Rattle.vm_leaving.proofs.Tellings.{out, tables_are, counted}
 use Rattle.vm_leaving.proofs.Places.{some_run, on_first, place_here}
 use Rattle.vm_leaving.proofs.Found.{first_known}
+use Rattle.vm_leaving.proofs.Ends.{thrown_same}
 use Rattle.vm_leaving.proofs.Raises.{raises_on}
 use Rattle.vm_leaving.proofs.raising.raise_again_on.Goals as goal
 
@@ -44,8 +45,8 @@ raise_last-requires-clause-all_told g c =
     let h = c.requires.runs.1 in
     out (g.C.Constants.text_of c.args.consts.now) (g.C.Constants.items_of c.args.consts.now) h.program h.tells (λ x y. AllTold x y c.args.arena.now.objects) h.state.all_told
 
-pub returns : goal.returns
-returns g c p end means tells named state registered r =
+pub returns-clause-comes : goal.returns-clause-comes
+returns-clause-comes g c p end means tells named state registered r =
     let texts = g.C.Constants.text_of c.args.consts.now in
     let tuples = g.C.Constants.items_of c.args.consts.now in
     let old = c.args.frames.now in
@@ -62,3 +63,9 @@ returns g c p end means tells named state registered r =
     (λ paid w. subst (λ (z : Place). step_of p.tables p.library z paid old.calls (world_of p.tables (with_modules p.tables w m0) a0) item ≡ state_of p.tables c.raise_last.result new.calls (world_of p.tables (with_modules p.tables w m1) a1))
     (place_here p old c.args.row.now f r means c.place_in-place.result c.place_in-place.ensures)
     (c.raise_last.ensures.steps p.tables w (tables_are texts tuples p tells c.args.names.now named) state.running.placed p.library paid))
+
+pub returns-clause-rooms : goal.returns-clause-rooms
+returns-clause-rooms g c = thrown_same c.raise_last.new.arena.objects c.args.frames.now c.raise_last.new.frames c.raise_last.result c.raise_last.ensures.thrown
+
+pub returns-clause-registry : goal.returns-clause-registry
+returns-clause-registry g c = c.raise_last.ensures.forgets.room

@@ -19,6 +19,7 @@ use Rattle.vm_leaving.proofs.Sounds.{raising_in}
 use Rattle.vm_leaving.proofs.Tellings.{out, tables_are, counted}
 use Rattle.vm_leaving.proofs.Places.{some_run, on_first, place_here}
 use Rattle.vm_leaving.proofs.Found.{top_known, first_known}
+use Rattle.vm_leaving.proofs.Ends.{thrown_same}
 use Rattle.vm_leaving.proofs.Raises.{raises_on}
 use Rattle.vm_leaving.proofs.raising.raise_on.Goals as goal
 
@@ -54,8 +55,8 @@ raise_obj-requires-clause-all_told g c =
     let h = c.requires.runs.1 in
     out (g.C.Constants.text_of c.args.consts.now) (g.C.Constants.items_of c.args.consts.now) h.program h.tells (λ x y. AllTold x y c.args.arena.now.objects) h.state.all_told
 
-pub returns : goal.returns
-returns g c p end means tells named state registered r =
+pub returns-clause-comes : goal.returns-clause-comes
+returns-clause-comes g c p end means tells named state registered r =
     let texts = g.C.Constants.text_of c.args.consts.now in
     let tuples = g.C.Constants.items_of c.args.consts.now in
     let old = c.args.frames.now in
@@ -72,3 +73,9 @@ returns g c p end means tells named state registered r =
     (λ paid w. subst (λ (z : Place). step_of p.tables p.library z paid old.calls (world_of p.tables (with_modules p.tables w m0) a0) item ≡ state_of p.tables c.raise_obj.result new.calls (world_of p.tables (with_modules p.tables w m1) a1))
     (place_here p old c.args.row.now f r means c.place_in-place.result c.place_in-place.ensures)
     (c.raise_obj.ensures.steps p.tables w (tables_are texts tuples p tells c.args.names.now named) state.running.placed p.library paid))
+
+pub returns-clause-rooms : goal.returns-clause-rooms
+returns-clause-rooms g c = thrown_same c.raise_obj.new.arena.objects c.args.frames.now c.raise_obj.new.frames c.raise_obj.result c.raise_obj.ensures.thrown
+
+pub returns-clause-registry : goal.returns-clause-registry
+returns-clause-registry g c = c.raise_obj.ensures.forgets.room

@@ -5,6 +5,7 @@ use Rattle.vm_step.specs.Outcomes.{world_of, stopping_of}
 use Rattle.vm_unwinding.specs.Ends.{with_modules, state_of}
 use Rattle.vm_leaving.proofs.Tellings.{out, tables_are, counted}
 use Rattle.vm_leaving.proofs.Places.{some_run, place_here}
+use Rattle.vm_leaving.proofs.Ends.{thrown_same}
 use Rattle.vm_leaving.proofs.Raises.{stops_on}
 use Rattle.vm_leaving.proofs.raising.stop_on.Goals as goal
 
@@ -27,8 +28,8 @@ raise-requires-clause-all_told g c =
     let h = c.requires.runs.1 in
     out (g.C.Constants.text_of c.args.consts.now) (g.C.Constants.items_of c.args.consts.now) h.program h.tells (λ x y. AllTold x y c.args.arena.now.objects) h.state.all_told
 
-pub returns : goal.returns
-returns g c p fetched means tells named state r =
+pub returns-clause-comes : goal.returns-clause-comes
+returns-clause-comes g c p fetched means tells named state r =
     let texts = g.C.Constants.text_of c.args.consts.now in
     let tuples = g.C.Constants.items_of c.args.consts.now in
     let old = c.args.frames.now in
@@ -42,3 +43,9 @@ returns g c p fetched means tells named state r =
     (λ w. subst (λ (z : Place). stopping_of p.tables z (with_modules p.tables w m0) a0 old.calls c.args.stop ≡ state_of p.tables c.raise.result new.calls (world_of p.tables (with_modules p.tables w m1) a1))
     (place_here p old c.args.row.now fetched r means c.place_in-place.result c.place_in-place.ensures)
     (c.raise.ensures.state p.tables w (tables_are texts tuples p tells c.args.names.now named) state.running.placed))
+
+pub returns-clause-rooms : goal.returns-clause-rooms
+returns-clause-rooms g c = thrown_same c.raise.new.arena.objects c.args.frames.now c.raise.new.frames c.raise.result c.raise.ensures.thrown
+
+pub returns-clause-registry : goal.returns-clause-registry
+returns-clause-registry g c = c.raise.ensures.forgets.room

@@ -12,7 +12,7 @@ use Rattle.vm_leaving.specs.Running.{fetched_plain}
 use Rattle.vm_leaving.proofs.Tellings.{out, tables_are, counted, known_out, last_out, registered_out}
 use Rattle.vm_leaving.proofs.Places.{on_first, all_first}
 use Rattle.vm_leaving.proofs.Found.{first_known}
-use Rattle.vm_leaving.proofs.Returns.{same_calls, waits_so, settled_so}
+use Rattle.vm_leaving.proofs.Returns.{same_calls, same_through, waits_so, settled_so}
 use Rattle.vm_leaving.proofs.returning.return_on.Goals as goal
 
 pub return_value-after-requires-clause-value : goal.return_value-after-requires-clause-value
@@ -75,8 +75,8 @@ settle-requires-clause-waits g c =
           (u.placed (view_of p.tables)) u.keeps (same_calls old c.return_value-after.new.frames _ (u.calls t.top top)),
     )
 
-pub returns : goal.returns
-returns g c p end row same means tells named state registered r =
+pub returns-clause-comes : goal.returns-clause-comes
+returns-clause-comes g c p end row same means tells named state registered r =
     let texts = g.C.Constants.text_of c.args.consts.now in
     let tuples = g.C.Constants.items_of c.args.consts.now in
     let old = c.args.frames.now in
@@ -94,3 +94,13 @@ returns g c p end row same means tells named state registered r =
     c.args.arena.now c.return_value-after.new.arena c.args.modules.now c.args.modules.now old mid c.return_value-after.result state registered row f r (λ paid w. u.steps p.tables r.place w (tables_are texts tuples p tells c.args.names.now named) (on_first p old row f r P (all_first p old row f r P state.running.placed)) p.library paid) (u.placed (view_of p.tables)) u.keeps moved))
     c.settle.ensures.same (λ x y modules objects. c.settle.ensures.known x y modules objects) c.settle.ensures.ended
     (u.after (known_out texts tuples p tells c.args.names.now named c.args.arena.now.objects old.calls state.known)) registered.own refl
+
+pub returns-clause-rooms : goal.returns-clause-rooms
+returns-clause-rooms g c =
+    let h = c.requires.runs.2.runs in
+    let r = h.ready in
+    let old = c.args.frames.now in
+    let mid = c.return_value-after.new.frames in
+    let t = c.tops_law.ensures.one (view_of h.program.tables) (starts_of (view_of h.program.tables) r.first) r.first.slots r.finds in
+    let top = on_first h.program old c.requires.runs.1 (fetched_plain plain_ops.ReturnValue c.requires.runs.0) r (λ d. slice_get d.slots 0 ≡ Some (slots.Value t.top)) (ap (λ (z : List Slot). slice_get z 0) t.are) in
+    same_through old mid c.settle.new.frames (same_calls old mid _ (c.return_value-after.ensures.calls t.top top)) c.settle.ensures.same

@@ -1,0 +1,40 @@
+//! The ends of finallys.
+
+ghost use Rattle.std.specs.Prelude.{◌≡◌};
+ghost use Rattle.bc_rows.specs.declared.row.Row.{Row as CodeRow};
+ghost use Rattle.vm_fetching.specs.declared.operations.PlainOp.TheVariants as plain_ops;
+ghost use Rattle.vm_states.specs.Means.{Program};
+ghost use Rattle.vm_leaving.specs.Keeping.{KeepsCause};
+ghost use Rattle.vm_leaving.specs.Running.{fetched_plain, RunsWith};
+ghost use Rattle.vm_running.specs.Comes.{ComesOnBehind};
+
+use arena_heap::{Arena, Constants};
+use bc_library::Library;
+use bc_rows::Rows;
+use vm_frames::Frames;
+use vm_leaving::end_finally_on;
+use vm_modules::Modules;
+use vm_unwinding::{End, ModuleName};
+
+/// END_FINALLY, that was fetched for the running call: it goes on with what the finally kept. It answers how the run ends, if it
+/// does. It makes no visits.
+#[tactic(none)]
+pub fn finish<C: Constants>(
+    frames: &mut Frames,
+    arena: &mut Arena,
+    consts: &C,
+    library: &Library,
+    rows: &Rows<'_>,
+    modules: &mut Modules,
+    names: &[ModuleName],
+    end: u32,
+) -> Option<End>
+    requires runs { (row : CodeRow) × (h : RunsWith (C.text_of consts.now) (C.items_of consts.now) names.now library.now arena.old modules.old frames.old row (fetched_plain plain_ops.EndFinally end)) × KeepsCause h.runs.program frames.old }
+    requires rows { rows.now ≡ library.now }
+    ensures comes { (p : Program) (row : CodeRow) → p.shelf ≡ library.now → KeepsCause p frames.old
+        → ComesOnBehind p (C.text_of consts.now) (C.items_of consts.now) names.now row (fetched_plain plain_ops.EndFinally end) 0 arena.old arena.new modules.old modules.new frames.old frames.new result }
+    ensures rooms { frames.new ≡ record frames.old { calls = frames.new.calls } }
+    ensures registry { modules.new.room ≡ modules.old.room }
+{
+    end_finally_on(frames, arena, consts, library, rows, modules, names, end)
+}
