@@ -1,16 +1,18 @@
 -- What a run of a library keeps.
 use Rattle.std.specs.Prelude.{◌≡◌, ℕ, ◌+◌, [], length, None}
-use Rattle.mpy_base.specs.declared.limits.TheConstants.{MAX_ITEMS, MAX_MODULES}
+use Rattle.mpy_base.specs.declared.limits.TheConstants.{MAX_MODULES}
 use Rattle.mpy_base.specs.declared.room.Room.{Room}
 use Rattle.mpy_base.specs.Val.{PlainWorld}
 use Rattle.mpy_base.specs.Weights.{empty}
 use Rattle.bc_library.specs.Greatest.{IsGreatestIn, ShelfHas}
 use Rattle.bc_library.specs.Shelf.{Shelf}
 use Rattle.bc_machine.specs.State.{State}
+use Rattle.vm_modules.specs.Registry.{Registry}
 use Rattle.vm_step.specs.Outcomes.{world_of}
 use Rattle.vm_unwinding.specs.Ends.{with_modules, state_of}
 use Rattle.vm_states.specs.Means.{Program}
 use Rattle.vm_starting.specs.declared.opening.Vm.{Vm}
+use Rattle.vm_starting.specs.Starting.{Begins}
 use Rattle.vm_starting.specs.Titles.{AreTitles}
 
 -- memory beside the frames: for the operands and parameters of each call, where no code of the library takes more slots and
@@ -23,7 +25,14 @@ pub record HasMemory (shelf : Shelf) (n_state n_exc : ℕ) (vm : Vm) : Type 0 wh
   pub names : AreTitles shelf vm.names.items
   pub operands : vm.operands.room ≡ n_state + 1
   pub bindings : vm.bindings.room ≡ n_state + 1
-  pub items : length vm.items.items ≡ MAX_ITEMS
+  pub items : length vm.items.items ≡ n_state + 1
+
+-- the main module has begun in an empty arena, where no module was registered
+pub record IsBegun (shelf : Shelf) (number : ℕ) (room : Room) (vm : Vm) : Type 0 where
+  pub locals : ℕ
+  pub before : Registry
+  pub none : before.entries ≡ []
+  pub begins : Begins shelf number locals (empty room.cells room.bytes) vm.arena before vm.modules vm.frames.calls
 
 -- nothing has begun
 pub record IsFresh (room : Room) (vm : Vm) : Type 0 where

@@ -1,17 +1,26 @@
 -- The start of a run.
-use Rattle.std.specs.Prelude.{◌≡◌, ℕ, List, [], replicate, None, Result, Ok, Err}
+use Rattle.std.specs.Prelude.{◌≡◌, ℕ, List, [], ◌∷◌, replicate, None, Result, Ok, Err}
 use Rattle.mpy_base.specs.declared.room.NoRoom.{NoRoom}
 use Rattle.mpy_base.specs.Val.{PlainWorld}
+use Rattle.mpy_base.specs.World.{Heap}
+use Rattle.arena_heap.specs.declared.value.Value.{Value}
+use Rattle.bc_library.specs.Constants.{items_at, text_at}
+use Rattle.bc_library.specs.Shelf.{Shelf}
 use Rattle.bc_machine.specs.Library.{Name}
 use Rattle.bc_machine.specs.State.{State, Halted}
 use Rattle.py_effects.specs.Ends.{Memory}
+use Rattle.py_effects.specs.Modules.{make_module}
 use Rattle.bc_rows.specs.declared.row.Row.{Row}
 use Rattle.bc_rows.specs.Rows.{IsRow}
 use Rattle.vm_frames.specs.declared.slot.Role.TheVariants as roles
 use Rattle.vm_frames.specs.Calls.{Call}
+use Rattle.vm_walks.specs.Plain.{plain_name}
 use Rattle.vm_modules.specs.declared.makings.Made.{Made}
+use Rattle.vm_modules.specs.Effects.{IsMaking}
+use Rattle.vm_modules.specs.Registry.{Registry, with_entry}
 use Rattle.vm_step.specs.Shown.{running_of}
 use Rattle.vm_states.specs.Means.{Program}
+use Rattle.vm_starting.specs.declared.starting.TheConstants.{MAIN}
 
 -- the module with this name has this number, and its code 0 these locals
 pub record IsMain (p : Program) (number locals : ℕ) (name : Name) : Type 0 where
@@ -32,6 +41,13 @@ main_call number locals made = record {
   slots = [];
   entries = [];
 }
+
+-- the main module was made and registered, and the call of its code 0 is the only one
+pub record Begins (shelf : Shelf) (number locals : ℕ) (old new : Heap Value ℕ) (before after : Registry) (calls : List Call) : Type 0 where
+  pub made : Made
+  pub making : IsMaking (text_at shelf) (items_at shelf) old new before after (Ok made) (λ w. make_module w (plain_name (text_at shelf) (items_at shelf) MAIN))
+  pub registered : after ≡ with_entry before (record { name = MAIN; object = made.number })
+  pub calls_are : calls ≡ main_call number locals made ∷ []
 
 -- the calls run, or the main module didn't fit
 abbrev pub started_of : Program → Result (Unit {0}) NoRoom → List Call → PlainWorld → State

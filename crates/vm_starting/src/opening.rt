@@ -1,7 +1,10 @@
 //! Runs that are opened.
 
-ghost use Rattle.std.specs.Prelude.{◌≡◌, ◌<◌, ◌≤◌, ℕ, List, IfOk, None, length};
+ghost use Rattle.std.specs.Prelude.{◌≡◌, ◌<◌, ◌≤◌, ℕ, List, IfOk, IfSome, None, length};
+ghost use Rattle.mpy_base.specs.declared.room.NoRoom.{NoRoom};
 ghost use Rattle.mpy_base.specs.World.{PortState};
+ghost use Rattle.arena_objects.specs.Keys.{AllTold};
+ghost use Rattle.bc_library.specs.Constants.{items_at, text_at};
 ghost use Rattle.bc_library.specs.Greatest.{IsGreatestIn, ShelfHas};
 ghost use Rattle.bc_machine.specs.Library.{Name};
 ghost use Rattle.bc_machine.specs.Machine.{start};
@@ -11,14 +14,15 @@ ghost use Rattle.py_effects.specs.Ends.{new_world};
 ghost use Rattle.vm_states.specs.Means.{Program};
 ghost use Rattle.vm_known.specs.State.{IsState};
 ghost use Rattle.vm_programs.specs.Programs.{IsProgramOf, IsRunnable};
-ghost use Rattle.vm_starting.specs.Opened.{HasMemory, IsFresh, state_in};
+ghost use Rattle.vm_unwinding.specs.declared.ends.End.TheVariants as ends;
+ghost use Rattle.vm_starting.specs.Opened.{HasMemory, IsBegun, IsFresh, state_in};
 ghost use Rattle.vm_starting.specs.Titles.{AreTitles};
 
 use crate::starting::start_main;
 use arena_heap::{Arena, Value};
 use bc_library::Library;
 use bc_rows::Rows;
-use mpy_base::limits::{MAX_ITEMS, MAX_MODULES};
+use mpy_base::limits::MAX_MODULES;
 use mpy_base::{NoMemory, Room};
 use std::alloc::Global;
 use vm_frames::Frames;
@@ -76,7 +80,7 @@ fn take_memory(
     let modules = Modules::new(alloc, MAX_MODULES as u32 + 1)?;
     let operands = Operands::new(alloc, slot_room)?;
     let bindings = Bindings::new(alloc, slot_room)?;
-    let items = vec![in alloc; Value::None; MAX_ITEMS]?;
+    let items = vec![in alloc; Value::None; slot_room as usize]?;
     Ok(Vm {
         frames,
         arena,
@@ -124,6 +128,9 @@ impl Vm {
             → start p.library name (new_world room.cells room.bytes ports) ≡ state_in p vm (new_world room.cells room.bytes ports)) }
         ensures state { IfOk result (λ vm. vm.end ≡ None → (p : Program) → IsProgramOf library.now p → IsState p vm.arena.objects vm.frames) }
         ensures memory { IfOk result (λ vm. (n_state : ℕ) × (n_exc : ℕ) × HasMemory library.now n_state n_exc vm) }
+        ensures begun { IfOk result (λ vm. vm.end ≡ None → IsBegun library.now number room vm) }
+        ensures ended { IfOk result (λ vm. IfSome vm.end (λ end. (no_room : NoRoom) × (end ≡ ends.Memory no_room))) }
+        ensures all_told { IfOk result (λ vm. AllTold (text_at library.now) (items_at library.now) vm.arena.objects) }
         ensures paid { IfOk result (λ vm. vm.paid ≡ 0) }
     {
         program_law();

@@ -2,20 +2,16 @@
 
 ghost use Rattle.std.specs.Prelude.{◌≡◌, ◌<◌, ◌≤◌, [], length, OnOk, IfOk};
 ghost use Rattle.mpy_base.specs.Val.{PlainWorld};
-ghost use Rattle.mpy_base.specs.World.{AModule, IsA};
-ghost use Rattle.arena_heap.specs.declared.value.ModuleNo.{ModuleNo as Number};
 ghost use Rattle.arena_objects.specs.Keys.{AllTold};
 ghost use Rattle.bc_library.specs.Constants.{items_at, text_at};
 ghost use Rattle.bc_machine.specs.Library.{Name};
 ghost use Rattle.bc_machine.specs.Machine.{start};
-ghost use Rattle.vm_modules.specs.Registry.{with_entry};
 ghost use Rattle.vm_step.specs.Outcomes.{world_of};
 ghost use Rattle.vm_unwinding.specs.Ends.{with_modules};
 ghost use Rattle.vm_states.specs.Means.{Program, Means};
 ghost use Rattle.vm_states.specs.Running.{HasRooms};
 ghost use Rattle.vm_known.specs.State.{IsState};
-ghost use Rattle.vm_starting.specs.declared.starting.TheConstants.{MAIN as TITLE};
-ghost use Rattle.vm_starting.specs.Starting.{IsMain, started_of};
+ghost use Rattle.vm_starting.specs.Starting.{Begins, IsMain, started_of};
 
 use arena_heap::{Arena, StrNo};
 use bc_library::Library;
@@ -52,7 +48,7 @@ pub fn start_main(
         ≡ started_of p result frames.new.calls (world_of p.tables (with_modules p.tables w modules.new) arena.new) }
     ensures state { OnOk result ((p : Program) (name : Name) → p.shelf ≡ library.now → Means p → IsMain p number locals name → HasRooms p frames.old
         → IsState p arena.new.objects frames.new) }
-    ensures registered { OnOk result ((m : Number) × (modules.new ≡ with_entry modules.old (record { name = TITLE; object = m })) × IsA arena.new.objects AModule m.cell) }
+    ensures begins { OnOk result (Begins library.now number locals arena.old arena.new modules.old modules.new frames.new.calls) }
     ensures all_told { AllTold (text_at library.now) (items_at library.now) arena.new.objects }
     ensures kept { modules.new.room ≡ modules.old.room }
     ensures rooms { frames.new ≡ record frames.old { calls = frames.new.calls } }

@@ -50,8 +50,13 @@ returns-in-Ok-clause-state c p name shelf_is means main rooms =
     (begun.counted p.shelf c.args.number code_is.m code_is.held) c.in-Ok.ensures.made (begun.same_rooms p c.args.frames.now c.push_call.new.self (returns-in-Ok-clause-rooms c) rooms)
     (begun.told_in p c.args.library.now new.objects shelf_is means c.in-Ok.ensures.all_told)
 
-pub returns-in-Ok-clause-registered : goal.returns-in-Ok-clause-registered
-returns-in-Ok-clause-registered c = (c.in-Ok.made.number, c.in-Ok.ensures.registered, c.in-Ok.ensures.made.number)
+pub returns-in-Ok-clause-begins : goal.returns-in-Ok-clause-begins
+returns-in-Ok-clause-begins c = record {
+  made = c.in-Ok.made;
+  making = c.in-Ok.ensures.effect;
+  registered = c.in-Ok.ensures.registered;
+  calls_are = calls_are c;
+}
 
 pub returns-in-Ok-clause-kept : goal.returns-in-Ok-clause-kept
 returns-in-Ok-clause-kept c = ap (λ (r : Registry). r.room) c.in-Ok.ensures.registered

@@ -1,12 +1,18 @@
-use Rattle.std.proofs.Common.{Option, refl, sym, ap, ◌∙◌}
+use Rattle.std.proofs.Common.{◌≡◌, ℕ, Option, refl, sym, ap, subst, ◌∙◌}
+use Rattle.std.specs.Prelude.{IfSome}
+use Rattle.mpy_base.specs.declared.room.NoRoom.{NoRoom}
 use Rattle.mpy_base.specs.Val.{PlainWorld}
+use Rattle.mpy_base.specs.World.{Heap}
+use Rattle.arena_heap.specs.declared.value.Value.{Value}
 use Rattle.bc_machine.specs.Library.{Name}
 use Rattle.bc_machine.specs.Machine.{start}
 use Rattle.py_effects.specs.Ends.{new_world}
 use Rattle.vm_frames.specs.Calls.{Calls}
 use Rattle.vm_step.specs.Outcomes.{world_of}
 use Rattle.vm_unwinding.specs.declared.ends.End.{End}
+use Rattle.vm_unwinding.specs.declared.ends.End.TheVariants as ends
 use Rattle.vm_unwinding.specs.Ends.{with_modules, state_of}
+use Rattle.vm_starting.specs.Starting.{Begins}
 use Rattle.vm_starting.proofs.Openings.{rooms, main_in, fresh_world}
 use Rattle.vm_starting.proofs.opening.Vm.open.Goals as goal
 
@@ -55,3 +61,19 @@ returns-in-Err-clause-memory c =
         items = m.items;
       },
     )
+
+pub returns-in-Ok-clause-begun : goal.returns-in-Ok-clause-begun
+returns-in-Ok-clause-begun c end =
+    let fresh = c.in_ok-vm.ensures.fresh in
+    record {
+      locals = c.main_locals-locals.result;
+      before = c.in_ok-vm.vm.modules;
+      none = fresh.modules;
+      begins = subst (λ (h : Heap Value ℕ). Begins c.args.library.now c.args.number c.main_locals-locals.result h c.start_main.new.arena c.in_ok-vm.vm.modules c.start_main.new.modules c.start_main.new.frames.calls) fresh.arena c.in-Ok.ensures.begins;
+    }
+
+pub returns-in-Ok-clause-ended : goal.returns-in-Ok-clause-ended
+returns-in-Ok-clause-ended c = subst (λ (o : Option End). IfSome o (λ end. (no_room : NoRoom) × (end ≡ ends.Memory no_room))) (sym c.in_ok-vm.ensures.fresh.end) tt
+
+pub returns-in-Err-clause-ended : goal.returns-in-Err-clause-ended
+returns-in-Err-clause-ended c = (c.in-Err.room, refl)
