@@ -1,0 +1,126 @@
+-- What the machine's instruction finds that was fetched.
+use Rattle.std.proofs.Common.{◌≡◌, ℕ, List, Option, ap, sym, subst, ◌∙◌, arith}
+use Rattle.std.specs.Prelude.{◌<◌, ◌^◌, min}
+use Rattle.arena_heap.specs.declared.value.StrNo.{StrNo}
+use Rattle.arena_heap.specs.declared.value.ConstNo.{ConstNo}
+use Rattle.mpy_base.specs.World.{Heap}
+use Rattle.arena_heap.specs.declared.value.Value.{Value}
+use Rattle.bc_library.specs.Constants.{items_at, text_at}
+use Rattle.bc_library.specs.Shelf.{Shelf}
+use Rattle.bc_rows.specs.declared.row.Row.{Row}
+use Rattle.vm_modules.specs.Registry.{Registry}
+use Rattle.vm_frames.specs.Calls.{Call, Calls}
+use Rattle.vm_unwinding.specs.declared.ends.End.{End}
+use Rattle.vm_unwinding.specs.declared.names.ModuleName.{ModuleName}
+use Rattle.vm_fetching.specs.declared.instruction.Fetched.{Fetched}
+use Rattle.vm_fetching.specs.declared.instruction.Instruction.{Instruction}
+use Rattle.vm_fetching.specs.Fetches.{IsVerifiedRow}
+use Rattle.vm_invoking.specs.Operands.{Given}
+use Rattle.vm_states.specs.Means.{Program, Means}
+use Rattle.vm_states.specs.Ready.{IsReady}
+use Rattle.vm_known.specs.Acting.{Tells, RunsOver}
+use Rattle.vm_known.specs.State.{IsState}
+use Rattle.vm_leaving.specs.Modules.{AreNames, AreRegistered}
+use Rattle.vm_leaving.specs.Running.{RunsWith, RunsOn}
+use Rattle.vm_calling.specs.Runs.{RunsWithin}
+use Rattle.vm_programs.specs.Programs.{IsProgramOf}
+use Rattle.vm_running.specs.Comes.{ComesOn}
+use Rattle.vm_starting.specs.declared.opening.Vm.{Vm}
+use Rattle.vm_machine.proofs.Texts.{few_slots}
+use Rattle.vm_running.specs.Values.{value_visits}
+use Rattle.vm_machine.specs.Acting.{HasFetched, Acted}
+use Rattle.vm_machine.specs.Machine.{IsVm}
+use Rattle.vm_machine.proofs.Machines.{tells, vm_holding}
+
+-- the slots of each call are few
+pub few : (shelf : Shelf) (vm : Vm) → IsVm shelf vm → vm.frames.slot_room < 2 ^ 32
+few shelf vm h = let n = few_slots shelf h.n_state h.n_exc h.memory.greatest in let m = h.memory.slot_room in omega (arith, n, m)
+
+module _ (shelf : Shelf) (vm : Vm) (row : Row) (f : Fetched) (h : HasFetched shelf vm row f) where
+  -- of a program
+  module _ (p : Program) (of : IsProgramOf shelf p) where
+    pub state_in : IsState p vm.arena.objects vm.frames
+    state_in = (h.is_vm.runs h.goes_on p of).state
+
+    -- what is promised of calls that run it
+    pub in_program : (names : List ModuleName) → names ≡ vm.names.items → {T : Type 0}
+        → (Means p → Tells (text_at shelf) (items_at shelf) p → AreNames p names → IsState p vm.arena.objects vm.frames → AreRegistered p vm.arena vm.modules → IsReady p vm.frames row f → T) → T
+    in_program names e g = let r = h.is_vm.runs h.goes_on p of in g of.means (tells shelf p of) (subst (AreNames p) (sym e) (h.named p of)) r.state r.registered (h.ready p of)
+
+    pub in_ready : (names : List ModuleName) → names ≡ vm.names.items → (T : IsReady p vm.frames row f → Type 0)
+        → (Means p → Tells (text_at shelf) (items_at shelf) p → AreNames p names → IsState p vm.arena.objects vm.frames → AreRegistered p vm.arena vm.modules → (r : IsReady p vm.frames row f) → T r) → T (h.ready p of)
+    in_ready names e T g = let r = h.is_vm.runs h.goes_on p of in g of.means (tells shelf p of) (subst (AreNames p) (sym e) (h.named p of)) r.state r.registered (h.ready p of)
+
+  abbrev pub runs_with : (names : List ModuleName) → names ≡ vm.names.items → RunsWith (text_at shelf) (items_at shelf) names shelf vm.arena vm.modules vm.frames row f
+  runs_with names e =
+      let p = h.program in
+      let of = h.is_program in
+      let r = h.is_vm.runs h.goes_on p of in
+      record {
+        runs = record {
+          program = p;
+          means = of.means;
+          tells = tells shelf p of;
+          named = subst (AreNames p) (sym e) (h.named p of);
+          state = r.state;
+          ready = h.ready p of;
+          number = h.number;
+          verified = subst (λ (z : Shelf). IsVerifiedRow z h.number row) (sym of.shelf_is) h.verified;
+        };
+        shelf_is = of.shelf_is;
+        registered = r.registered;
+      }
+
+  pub runs_over : RunsOver (text_at shelf) (items_at shelf) vm.arena vm.frames f
+  runs_over =
+      let p = h.program in
+      let of = h.is_program in
+      record { program = p; row = row; means = of.means; tells = tells shelf p of; state = state_in p of; ready = h.ready p of }
+
+  pub runs_within : (room : ℕ) → room ≡ vm.frames.slot_room → RunsWithin room shelf vm.arena vm.frames f
+  runs_within room same =
+      let p = h.program in
+      let of = h.is_program in
+      let state = state_in p of in
+      record {
+        runs = record { program = p; row = row; means = of.means; shelf_is = of.shelf_is; state = state; ready = h.ready p of };
+        roomy = λ name number code is. (let r = state.running.rooms.slots name number code is in omega (arith, r, same));
+      }
+
+  -- by the form of its instruction
+  pub at_form : (i : Instruction) → f.instruction ≡ i → HasFetched shelf vm row (record { instruction = i; end = f.end })
+  at_form i is = subst (λ (j : Instruction). HasFetched shelf vm row (record { instruction = j; end = f.end })) is h
+
+  -- other operands are held
+  pub fetched_holding : (given : Given) → given.room ≡ vm.operands.room → HasFetched shelf (record vm { operands = given }) row f
+  fetched_holding given room = record {
+    is_vm = vm_holding shelf vm given room h.is_vm;
+    goes_on = h.goes_on;
+    program = h.program;
+    is_program = h.is_program;
+    named = h.named;
+    ready = h.ready;
+    read = h.read;
+    number = h.number;
+    verified = h.verified;
+  }
+
+-- a step without visits
+pub without_visits : (p : Program) (before behind : Heap Value ℕ) (earlier later : Registry) (old new : Calls) (end : Option End) → RunsOn p before behind earlier later old new end → ComesOn p 0 before behind earlier later old new end
+without_visits p before behind earlier later old new end r = record {
+  pays = λ paid w less. absurd (omega (arith, less));
+  steps = λ paid w enough. r.steps paid w;
+  run = r.run;
+  objects = r.objects;
+}
+
+pub without_any : (shelf : Shelf) (old new : Vm) (f : Fetched) (i : Instruction) → f.instruction ≡ i → value_visits (text_at shelf) (items_at shelf) old.arena old.frames.calls i ≡ 0 → Acted shelf 0 old new
+    → Acted shelf (value_visits (text_at shelf) (items_at shelf) old.arena old.frames.calls f.instruction) old new
+without_any shelf old new f i is none a =
+    subst (λ (n : ℕ). Acted shelf n old new) (sym (ap (λ (j : Instruction). value_visits (text_at shelf) (items_at shelf) old.arena old.frames.calls j) is ∙ none)) a
+
+pub no_visits : (texts : StrNo → Option (List ℕ)) (tuples : ConstNo → Option (List Value)) (heap : Heap Value ℕ) (calls : List Call) (i j : Instruction) (most : ℕ) → i ≡ j → value_visits texts tuples heap calls j ≡ 0
+    → 0 ≡ min (value_visits texts tuples heap calls i) most
+no_visits texts tuples heap calls i j most is none =
+    let e : value_visits texts tuples heap calls i ≡ 0 = ap (value_visits texts tuples heap calls) is ∙ none in
+    omega (arith, e)

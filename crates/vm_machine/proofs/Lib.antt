@@ -1,0 +1,12 @@
+mod Texts
+mod Steps
+mod Pays
+mod Machines
+mod Fetched
+mod Standing
+mod Stepped
+mod Moves
+mod Called
+mod Runs
+mod Titling
+mod Opened

@@ -1,0 +1,33 @@
+-- Instructions by what carries them out.
+use Rattle.std.specs.Prelude.{◌≡◌}
+use Rattle.arena_heap.specs.declared.value.StrNo.TheVariants as strs
+use Rattle.vm_fetching.specs.declared.instruction.Instruction.{Instruction}
+use Rattle.vm_fetching.specs.declared.instruction.Instruction.TheVariants as fetched
+use Rattle.vm_fetching.specs.declared.operations.PlainOp.TheVariants as plain_ops
+use Rattle.vm_fetching.specs.declared.operations.NumberOp.TheVariants as number_ops
+use Rattle.vm_fetching.specs.declared.operations.NameOp.TheVariants as name_ops
+use Rattle.vm_calling.specs.Taken.{CallsValue}
+use Rattle.vm_running.specs.Leaves.{LeavesCall}
+use Rattle.vm_running.specs.Values.{ActsOnValues}
+use Rattle.vm_machine.specs.declared.forms.Form.{Form}
+use Rattle.vm_machine.specs.declared.forms.Form.TheVariants as forms
+
+-- the instruction has the form
+abbrev pub HasForm : Instruction → Form → Type 0
+HasForm i forms.Operates = ActsOnValues i
+HasForm i (forms.Leaves op) = (i ≡ fetched.Plain op) × LeavesCall op
+HasForm i forms.Finishes = i ≡ fetched.Plain plain_ops.EndFinally
+HasForm i (forms.Makes number) = i ≡ fetched.Number number_ops.MakeFunction number
+HasForm i (forms.MakesWith number) = i ≡ fetched.Number number_ops.MakeFunctionDefargs number
+HasForm i (forms.Imports name) = i ≡ fetched.Name name_ops.ImportName (strs.Pool name)
+HasForm i (forms.Calls op number) = (i ≡ fetched.Number op number) × CallsValue op
+
+-- it is no call
+abbrev pub IsNoCall : Form → Type 0
+IsNoCall forms.Operates = Unit {0}
+IsNoCall (forms.Leaves op) = Unit {0}
+IsNoCall forms.Finishes = Unit {0}
+IsNoCall (forms.Makes number) = Unit {0}
+IsNoCall (forms.MakesWith number) = Unit {0}
+IsNoCall (forms.Imports name) = Unit {0}
+IsNoCall (forms.Calls op number) = ⊥

@@ -1,0 +1,4 @@
+pub mod Acting
+pub mod Forms
+pub mod Machine
+pub mod Running

@@ -1,0 +1,89 @@
+-- What a run of the machine does, with a sink for the output and ports.
+use Rattle.std.specs.Prelude.{◌≡◌, ◌⊎◌, ◌<◌, ℕ, List, ◌++◌, Option, Some, true}
+use Rattle.mpy_base.specs.Val.{PlainWorld}
+use Rattle.mpy_io.specs.Ports.{PortView}
+use Rattle.port_set.specs.Calls.{Tell}
+use Rattle.bc_library.specs.Shelf.{Shelf}
+use Rattle.bc_machine.specs.Machine.{steps}
+use Rattle.bc_machine.specs.Step.{step}
+use Rattle.bc_rows.specs.declared.row.Row.{Row}
+use Rattle.vm_outputs.specs.Prints.{Puts}
+use Rattle.vm_frames.specs.Calls.{Call}
+use Rattle.vm_step.specs.Shown.{running_of}
+use Rattle.vm_unwinding.specs.Ends.{with_modules}
+use Rattle.vm_fetching.specs.declared.operations.NumberOp.{NumberOp}
+use Rattle.vm_fetching.specs.declared.instruction.Instruction.TheVariants as fetched
+use Rattle.vm_invoking.specs.declared.calling.Invocation.{Invocation}
+use Rattle.vm_invoking.specs.Operands.{Given}
+use Rattle.vm_states.specs.Means.{Program}
+use Rattle.vm_states.specs.Ready.{IsReady}
+use Rattle.vm_calling.specs.Called as called
+use Rattle.vm_calling.specs.Taken.{IsTaken}
+use Rattle.vm_programs.specs.Programs.{IsProgramOf}
+use Rattle.vm_starting.specs.declared.opening.Vm.{Vm}
+use Rattle.vm_machine.specs.Machine.{machine_of, world_in}
+
+-- the sink of the output, and the ports
+pub record Outside (S : Type 0) : Type 0 where
+  pub out : S
+  pub ports : List PortView
+
+-- the calls stand at an instruction that calls this with these operands
+pub record StandsAtCall (p : Program) (vm : Vm) (given : Given) (call : Invocation) : Type 0 where
+  pub row : Row
+  pub op : NumberOp
+  pub number : ℕ
+  pub end : ℕ
+  pub ready : IsReady p vm.frames row (record { instruction = fetched.Number op number; end = end })
+  pub taken : IsTaken p.shelf op number vm.arena vm.frames given call
+
+module _ {S : Type 0} (told : S → Option (List ℕ)) where
+  -- the sink and the ports tell the output and the ports of the world
+  pub record Agree (seen : Outside S) (w : PlainWorld) : Type 0 where
+    pub output : told seen.out ≡ Some w.output
+    pub ports : Tell seen.ports w.ports
+
+  module _ (p : Program) (old : Vm) (w : PlainWorld) where
+    -- in these steps the machine comes from the old state to the new one, and to a world that the sink and the ports tell
+    pub record RunsFor (taken : ℕ) (new : Vm) (behind : Outside S) : Type 0 where
+      pub after : PlainWorld
+      pub agree : Agree behind after
+      pub steps : steps p.library taken (machine_of p old w) ≡ machine_of p new after
+
+    -- A port failed, though the machine's call of it doesn't fail, and its count of faults rose. Up to that call, which comes within
+    -- these steps, the run is the machine's
+    pub record Strays (most : ℕ) : Type 0 where
+      pub taken : ℕ
+      pub within : taken < most
+      pub there : Vm
+      pub between : Outside S
+      pub runs : RunsFor taken there between
+      pub given : Given
+      pub call : Invocation
+      pub stands : StandsAtCall p there given call
+      pub after_call : List PortView
+      pub strays : called.Strays p call.callee given there.arena (with_modules p.tables runs.after there.modules) between.ports after_call
+
+    -- The sink failed in a put. Up to it, within these steps, the run is the machine's, whose next step puts a text; a front of
+    -- that text was put
+    pub record SinkFails (count : S → ℕ) (most : ℕ) (behind : Outside S) : Type 0 where
+      pub taken : ℕ
+      pub within : taken < most
+      pub there : Vm
+      pub between : Outside S
+      pub runs : RunsFor taken there between
+      pub text : List ℕ
+      pub puts : Puts told count between.out behind.out true text
+      pub onwards : List Call
+      pub next : step p.library (machine_of p there runs.after) ≡ running_of p.tables 0 onwards (record (world_in p there runs.after) { output = runs.after.output ++ text })
+      pub ports : behind.ports ≡ between.ports
+
+  module _ (shelf : Shelf) (old : Vm) (before behind : Outside S) (most : ℕ) where
+    -- the machine's run is made for these steps, in each program of the library, where no port fails that the machine's doesn't.
+    -- A run that has ended stays as it is
+    abbrev pub Runs : (new : Vm) → Type 0
+    Runs new = (p : Program) → IsProgramOf shelf p → (w : PlainWorld) → Agree before w → RunsFor p old w most new behind ⊎ Strays p old w most
+
+    -- the same up to a put in which the sink failed
+    abbrev pub RunsToFailure : (count : S → ℕ) → Type 0
+    RunsToFailure count = (p : Program) → IsProgramOf shelf p → (w : PlainWorld) → Agree before w → SinkFails p old w count most behind ⊎ Strays p old w most

@@ -1,0 +1,14 @@
+//! The machine: a run of a library of files over an arena, with its output and its ports.
+#![tactic(auto)]
+
+mod acting;
+mod fetching;
+mod forms;
+mod names;
+mod opening;
+mod paying;
+mod running;
+mod stepping;
+
+pub use opening::{open, used};
+pub use running::run;

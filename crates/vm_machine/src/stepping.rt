@@ -1,0 +1,242 @@
+//! Steps of the machine.
+
+ghost use Rattle.std.specs.Prelude.{◌≡◌, ◌+◌, ◌<◌, ◌≤◌, ◌^◌, map, IfOk, OnErr, None, is_err};
+ghost use Rattle.mpy_io.specs.Count.{Counts};
+ghost use Rattle.vm_fetching.specs.declared.instruction.Instruction.TheVariants as fetched_as;
+ghost use Rattle.vm_states.specs.Means.{Program};
+ghost use Rattle.vm_calling.specs.Taken.{CallsValue, IsTaken};
+ghost use Rattle.vm_kept.specs.Kept.{HoldsKept};
+ghost use Rattle.vm_programs.specs.Programs.{IsProgramOf};
+ghost use Rattle.vm_machine.specs.Acting.{Called, HasFetched, Stepped};
+ghost use Rattle.vm_machine.specs.Forms.{HasForm, IsNoCall};
+ghost use Rattle.vm_machine.specs.Machine.{IsVm};
+ghost use Rattle.vm_machine.specs.Running.{Runs, RunsToFailure};
+
+use crate::acting::act;
+use crate::fetching::fetch_at;
+use crate::forms::{Form, call_in, form_of};
+use crate::paying::{steps_before, visits_of};
+use bc_library::Library;
+use bc_rows::{Row, Rows};
+use mpy_io::{Failed, Port, Sink};
+use port_set::PortSet;
+use vm_calling::{take_call, visits_call_on};
+use vm_fetching::{Fetched, NumberOp};
+use vm_invoking::Invocation;
+use vm_kept::{gives_law, methods_law, raises_law, step_law};
+use vm_running::call;
+use vm_starting::Vm;
+
+/// Steps of an instruction of this form, which is no call.
+#[tactic(none)]
+fn step_act(
+    vm: &mut Vm,
+    library: &Library,
+    rows: &Rows<'_>,
+    row: &Row<'_>,
+    fetched: Fetched,
+    form: Form,
+    most: u64,
+) -> u64
+    requires form { HasForm fetched.instruction form }
+    requires no_call { IsNoCall form }
+    requires fetched { HasFetched library.now vm.old row.now fetched }
+    requires rows { rows.now ≡ library.now }
+    requires some { 0 < most }
+    requires countable { vm.old.paid + most < 2 ^ 64 }
+    ensures stepped { Stepped library.now result vm.old vm.new }
+    ensures some { 0 < result }
+    ensures few { result ≤ most }
+{
+    step_law();
+    let paid = vm.paid;
+    let bound = paid + most;
+    let due = visits_of(vm, library, row, fetched, bound);
+    match steps_before(paid, due, most) {
+        None => {
+            vm.paid = bound;
+            most
+        }
+        Some(before) => {
+            act(vm, library, rows, row, fetched, form);
+            vm.paid = 0;
+            let taken = before + 1;
+            taken
+        }
+    }
+}
+
+/// The call that was taken, where its visits are paid.
+#[tactic(none)]
+fn make_call<S: Sink, P: Port>(
+    vm: &mut Vm,
+    library: &Library,
+    rows: &Rows<'_>,
+    out: &mut S,
+    ports: &mut PortSet<P>,
+    row: &Row<'_>,
+    op: NumberOp,
+    number: u32,
+    end: u32,
+    invocation: Invocation,
+) -> Result<(), Failed>
+    requires calls { CallsValue op }
+    requires fetched { HasFetched library.now vm.old row.now (record { instruction = fetched_as.Number op number; end = end }) }
+    requires rows { rows.now ≡ library.now }
+    requires taken { IsTaken library.now op number vm.old.arena vm.old.frames vm.old.operands invocation }
+    ensures kept { vm.new.end ≡ None → (p : Program) → IsProgramOf library.now p → HoldsKept p vm.new.arena.objects vm.new.frames }
+    ensures called { Called S.told S.count library.now invocation.callee vm.old vm.new (record { out = out.old; ports = map P.seen ports.old }) (record { out = out.new; ports = map P.seen ports.new }) result }
+    ensures counts { Counts (S.count out.old) (S.count out.new) (is_err result) }
+{
+    step_law();
+    raises_law();
+    gives_law();
+    match call(
+        &mut vm.frames,
+        &mut vm.arena,
+        library,
+        rows,
+        &mut vm.modules,
+        &vm.names,
+        out,
+        ports,
+        &vm.operands,
+        &mut vm.bindings,
+        row,
+        op,
+        number,
+        end,
+        invocation,
+    ) {
+        Ok(ended) => {
+            vm.end = ended;
+            Ok(())
+        }
+        Err(failed) => Err(failed),
+    }
+}
+
+/// Steps of a call.
+#[tactic(none)]
+fn step_call<S: Sink, P: Port>(
+    vm: &mut Vm,
+    library: &Library,
+    rows: &Rows<'_>,
+    out: &mut S,
+    ports: &mut PortSet<P>,
+    row: &Row<'_>,
+    op: NumberOp,
+    number: u32,
+    end: u32,
+    most: u64,
+) -> Result<u64, Failed>
+    requires calls { CallsValue op }
+    requires fetched { HasFetched library.now vm.old row.now (record { instruction = fetched_as.Number op number; end = end }) }
+    requires rows { rows.now ≡ library.now }
+    requires some { 0 < most }
+    requires countable { vm.old.paid + most < 2 ^ 64 }
+    ensures vm { IsVm library.now vm.new }
+    ensures runs { IfOk result (λ taken. Runs S.told library.now vm.old (record { out = out.old; ports = map P.seen ports.old }) (record { out = out.new; ports = map P.seen ports.new }) taken vm.new) }
+    ensures failed { OnErr result (RunsToFailure S.told library.now vm.old (record { out = out.old; ports = map P.seen ports.old }) (record { out = out.new; ports = map P.seen ports.new }) most S.count) }
+    ensures taken { IfOk result (λ taken. (0 < taken) × (taken ≤ most) × (vm.new.paid ≤ vm.old.paid + taken)) }
+    ensures paid { OnErr result (vm.new.paid ≡ vm.old.paid) }
+    ensures counts { Counts (S.count out.old) (S.count out.new) (is_err result) }
+{
+    methods_law();
+    let invocation = take_call(
+        &vm.frames,
+        &vm.arena,
+        library,
+        &mut vm.operands,
+        op,
+        number,
+        end,
+    );
+    let paid = vm.paid;
+    let bound = paid + most;
+    let due = visits_call_on(&vm.arena, library, &vm.operands, invocation, bound);
+    match steps_before(paid, due, most) {
+        None => {
+            vm.paid = bound;
+            Ok(most)
+        }
+        Some(before) => match make_call(
+            vm, library, rows, out, ports, row, op, number, end, invocation,
+        ) {
+            Ok(()) => {
+                vm.paid = 0;
+                let taken = before + 1;
+                Ok(taken)
+            }
+            Err(failed) => Err(failed),
+        },
+    }
+}
+
+/// One instruction, or the rest of the steps that it costs, or `most` of them. How many steps were taken.
+#[tactic(none)]
+pub(crate) fn step<S: Sink, P: Port>(
+    vm: &mut Vm,
+    library: &Library,
+    rows: &Rows<'_>,
+    out: &mut S,
+    ports: &mut PortSet<P>,
+    most: u64,
+) -> Result<u64, Failed>
+    requires vm { IsVm library.now vm.old }
+    requires rows { rows.now ≡ library.now }
+    requires goes_on { vm.old.end ≡ None }
+    requires some { 0 < most }
+    requires countable { vm.old.paid + most < 2 ^ 64 }
+    ensures vm { IsVm library.now vm.new }
+    ensures runs { IfOk result (λ taken. Runs S.told library.now vm.old (record { out = out.old; ports = map P.seen ports.old }) (record { out = out.new; ports = map P.seen ports.new }) taken vm.new) }
+    ensures failed { OnErr result (RunsToFailure S.told library.now vm.old (record { out = out.old; ports = map P.seen ports.old }) (record { out = out.new; ports = map P.seen ports.new }) most S.count) }
+    ensures taken { IfOk result (λ taken. (0 < taken) × (taken ≤ most) × (vm.new.paid ≤ vm.old.paid + taken)) }
+    ensures paid { OnErr result (vm.new.paid ≡ vm.old.paid) }
+    ensures counts { Counts (S.count out.old) (S.count out.new) (is_err result) }
+{
+    let (row, fetched) = fetch_at(vm, library, rows);
+    let form = form_of(fetched.instruction);
+    match call_in(form) {
+        Some((op, number)) => step_call(
+            vm,
+            library,
+            rows,
+            out,
+            ports,
+            row,
+            op,
+            number,
+            fetched.end,
+            most,
+        ),
+        None => Ok(step_act(vm, library, rows, row, fetched, form, most)),
+    }
+}
+
+/// The same, and where the run has ended all of the steps, which do nothing.
+#[tactic(none)]
+pub(crate) fn advance<S: Sink, P: Port>(
+    vm: &mut Vm,
+    library: &Library,
+    rows: &Rows<'_>,
+    out: &mut S,
+    ports: &mut PortSet<P>,
+    most: u64,
+) -> Result<u64, Failed>
+    requires vm { IsVm library.now vm.old }
+    requires rows { rows.now ≡ library.now }
+    requires some { 0 < most }
+    requires countable { vm.old.paid + most < 2 ^ 64 }
+    ensures vm { IsVm library.now vm.new }
+    ensures runs { IfOk result (λ taken. Runs S.told library.now vm.old (record { out = out.old; ports = map P.seen ports.old }) (record { out = out.new; ports = map P.seen ports.new }) taken vm.new) }
+    ensures failed { OnErr result (RunsToFailure S.told library.now vm.old (record { out = out.old; ports = map P.seen ports.old }) (record { out = out.new; ports = map P.seen ports.new }) most S.count) }
+    ensures taken { IfOk result (λ taken. (0 < taken) × (taken ≤ most) × (vm.new.paid ≤ vm.old.paid + taken)) }
+    ensures paid { OnErr result (vm.new.paid ≡ vm.old.paid) }
+    ensures counts { Counts (S.count out.old) (S.count out.new) (is_err result) }
+{
+    match vm.end {
+        Some(_end) => Ok(most),
+        None => step(vm, library, rows, out, ports, most),
+    }
+}
