@@ -1,0 +1,26 @@
+-- What a machine that has stopped says.
+use Rattle.std.specs.Prelude.{ℕ, List, [], Option, Some, None}
+use Rattle.py_effects.specs.Ends.{Raised, end_report}
+use Rattle.bc_library.specs.Constants.{items_at, text_at}
+use Rattle.bc_library.specs.Shelf.{Shelf}
+use Rattle.vm_walks.specs.Plain.{plain_heap}
+use Rattle.vm_unwinding.specs.declared.ends.End.{End}
+use Rattle.vm_unwinding.specs.declared.ends.End.TheVariants as stops
+use Rattle.vm_reports.specs.Rooms.{room_line}
+use Rattle.vm_starting.specs.declared.opening.Vm.{Vm}
+use Rattle.library_runs.specs.declared.ending.RunEnd.{RunEnd}
+use Rattle.library_runs.specs.declared.ending.RunEnd.TheVariants as ends
+
+-- how a run that goes no further ended
+abbrev pub answer_of : Option End → RunEnd
+answer_of None = ends.Limit
+answer_of (Some stops.Ended) = ends.Ended
+answer_of (Some (stops.Raised x)) = ends.Raised
+answer_of (Some (stops.Memory room)) = ends.Memory
+
+-- and what it says over its arena
+abbrev pub said_by : Shelf → Vm → Option End → List ℕ
+said_by shelf vm None = []
+said_by shelf vm (Some stops.Ended) = []
+said_by shelf vm (Some (stops.Raised x)) = end_report (plain_heap (text_at shelf) (items_at shelf) vm.arena) (Raised x.cell)
+said_by shelf vm (Some (stops.Memory room)) = room_line room

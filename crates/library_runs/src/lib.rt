@@ -1,0 +1,9 @@
+//! Runs of a library of files: the machine, with what it says at the end.
+#![tactic(auto)]
+
+mod ending;
+mod reporting;
+mod running;
+
+pub use ending::RunEnd;
+pub use running::run_library;

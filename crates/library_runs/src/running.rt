@@ -1,0 +1,63 @@
+//! The run of a library.
+
+ghost use Rattle.std.specs.Prelude.{◌≡◌, ◌<◌, [], List, ℕ, false, length, Some, slice_get};
+ghost use Rattle.mpy_io.specs.Count.{Counts};
+ghost use Rattle.bc_library.specs.Shelf.{Named};
+ghost use Rattle.vm_programs.specs.Programs.{IsRunnable};
+ghost use Rattle.library_runs.specs.declared.ending.RunEnd.{RunEnd as End};
+ghost use Rattle.library_runs.specs.Runs.{RunsAs, Says, IsOver, is_write_fault, sight, speaks};
+
+use crate::ending::RunEnd;
+use crate::reporting::say_end;
+use bc_library::Library;
+use bc_outputs::{output_law, put_law};
+use bc_rows::Rows;
+use mpy_base::{NoMemory, Room};
+use mpy_io::{Failed, Port, Sink};
+use port_set::PortSet;
+use std::alloc::Global;
+use vm_machine::{open, run};
+use vm_programs::program_law;
+
+/// Runs the library's module of this number as the main one, in an arena of this room, for these steps at most. What was printed
+/// is handed on before anything is said.
+pub fn run_library<S: Sink, P: Port, E: Sink>(
+    alloc: Global,
+    library: &Library,
+    main: u32,
+    room: Room,
+    steps: u64,
+    out: &mut S,
+    ports: &mut PortSet<P>,
+    say: &mut E,
+) -> RunEnd
+    requires runnable { IsRunnable library.now }
+    requires there { main < length library.now.modules }
+    ensures runs { (n : Named) → slice_get library.now.modules main ≡ Some n → (said : List ℕ)
+        × RunsAs library.now n.name room steps (sight S.told P.seen out.old ports.old) (sight S.told P.seen out.new ports.new) result said
+        × Says (E.told say.old) (E.told say.new) (E.count say.old) (E.count say.new) said }
+    ensures silent { speaks result ≡ false → say.new ≡ say.old }
+    ensures flushed { IsOver result → S.held out.new ≡ [] }
+    ensures none { result ≡ End.NoMemory → (out.new ≡ out.old) × (ports.new ≡ ports.old) }
+    ensures counts { Counts (S.count out.old) (S.count out.new) (is_write_fault result) }
+{
+    program_law();
+    output_law();
+    put_law();
+    let rows = match Rows::new(alloc, library) {
+        Ok(rows) => rows,
+        Err(NoMemory) => return RunEnd::NoMemory,
+    };
+    let mut vm = match open(alloc, library, &rows, main, room) {
+        Ok(vm) => vm,
+        Err(NoMemory) => return RunEnd::NoMemory,
+    };
+    match run(&mut vm, library, &rows, out, ports, steps) {
+        Ok(()) => {}
+        Err(Failed) => return RunEnd::WriteFault,
+    }
+    match out.flush() {
+        Ok(()) => say_end(&vm, library, say),
+        Err(Failed) => RunEnd::WriteFault,
+    }
+}
