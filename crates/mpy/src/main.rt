@@ -1,8 +1,9 @@
 //! The program: the tool's top call over the working folder and the standard streams.
 #![tactic(auto)]
 
-use mpy_io::{DiskFolder, OutSink, Sink};
+use mpy_io::{DiskFolder, InputPort, OutSink, Sink};
 use mpy_tool::mpy;
+use port_set::PortSet;
 use std::alloc::Global;
 use std::io::ErrorKind;
 use std::process::ExitCode;
@@ -26,19 +27,27 @@ usage:
   mpy merge OUT FILE..
                      verify the files FILE.. and write one file as OUT that runs them
                      in order, as in: mpy merge both.mpy one.mpy two.mpy
+  mpy run FILE [--cells N] [--bytes N] [--steps N]
+                     run the file FILE with the files of the modules that it imports, in
+                     an arena of N cells (65,536 if left out) with N bytes of texts
+                     (262,144), for N steps at most (10,000,000),
+                     as in: mpy run examples/sensor.mpy --cells 4000
   mpy --help         print this text
   mpy --version      print the version
 
 exit status (docs/MESSAGES.md explains each line that is said):
   0   all of it was done
+  1   an exception that nothing caught ended the run
   2   the words are no command
   3   the source isn't accepted
   4   the file isn't read, or isn't verified
+  5   the run took all its steps
+  6   the run's arena was too small
   7   a read failed
   8   a write failed
   9   out of memory
   10  a file is absent
-  11  the files can't be merged
+  11  the files can't be merged, or are too many for a library
 ";
 
 /// The words after the program's own name.
@@ -103,5 +112,18 @@ fn main(rt: HostRuntime) -> ExitCode {
         return ExitCode::from(refuse(&mut say, ErrorKind::OutOfMemory));
     };
     let mut folder = DiskFolder::new(&rt, root);
-    ExitCode::from(mpy(alloc, &words, &mut folder, &mut out, &mut say))
+    let mut ports = Vec::new(alloc);
+    if ports.push(InputPort::new(rt.stdin(), rt.stderr())).is_err() {
+        return ExitCode::from(refuse(&mut say, ErrorKind::OutOfMemory));
+    }
+    let mut ports = PortSet::new(ports);
+    let status = mpy(
+        alloc,
+        &words,
+        &mut folder,
+        &mut out,
+        &mut say,
+        &mut ports,
+    );
+    ExitCode::from(status)
 }

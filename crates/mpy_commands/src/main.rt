@@ -1,7 +1,8 @@
-//! Whole commands: each row of the files in data/ has a command's words, the file that its folder holds, and what comes of it.
+//! Whole commands: each row of the files in data/ has a command's words, the files that its folder holds, and what comes of it.
 //!
-//! A row's first line is `$` with the words. Of the others, `@` has the file's name; `|` a line of it, `.` a text, `*` a line so
-//! often, `~` a text so often, and `x` bytes in hexadecimal; `!` a call that fails of the folder or of the output; `=` the status;
+//! A row's first line is `$` with the words. Of the others, `@` has a file's name; `|` a line of it, `.` a text, `*` a line so
+//! often, `~` a text so often, and `x` bytes in hexadecimal; `?` the answers of a port; `!` a call that fails of the folder, of the
+//! output or of the port; `=` the status; `w` the numbers that the port has written;
 //! `>` a line that is printed, `+` a text, and `<` says that only a front of it is; `-` is a line that is said. `^` names a file
 //! that is there at the end with the bytes in `o`, in hexadecimal, or isn't there where these are none.
 #![tactic(auto)]
@@ -13,13 +14,14 @@ use std::alloc::{AllocError, Global};
 use std::process::ExitCode;
 use std::{fs, io};
 
-const FILES: [&str; 10] = [
+const FILES: [&str; 11] = [
     "codes",
     "files",
     "library",
     "limits",
     "listings",
     "merged",
+    "runs",
     "sources",
     "translated",
     "words",

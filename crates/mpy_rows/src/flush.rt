@@ -1,7 +1,8 @@
 //! A command whose output takes nothing.
 
-use mpy_io::{MemFolder, MemSink, OutSink};
+use mpy_io::{MemFolder, MemSink, OutSink, ScriptPort};
 use mpy_tool::mpy;
+use port_set::PortSet;
 use std::io;
 use std::io::Write;
 use std::test::Fail;
@@ -33,7 +34,15 @@ fn a_flush_that_fails(rt: HostRuntime) -> Result<(), Fail> {
     let mut folder = MemFolder::new(alloc, files, Vec::new(alloc));
     let mut out = OutSink::gathering(alloc, Full)?;
     let mut say = MemSink::new(alloc, Vec::new(alloc));
-    let status = mpy(alloc, &words, &mut folder, &mut out, &mut say);
+    let mut ports: PortSet<ScriptPort> = PortSet::new(Vec::new(alloc));
+    let status = mpy(
+        alloc,
+        &words,
+        &mut folder,
+        &mut out,
+        &mut say,
+        &mut ports,
+    );
     assert_eq!(rt; status, 8);
     assert_eq!(rt; say.bytes(), b"mpy: write fault out\n".as_slice());
     Ok(())

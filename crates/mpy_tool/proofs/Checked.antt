@@ -9,7 +9,7 @@ use Rattle.mpy_io.specs.Files.{FileOf, Reads}
 use Rattle.mpy_reader.specs.declared.fault.FileFault.TheVariants.{TooBig}
 use Rattle.mpy_reader.specs.Reading.{FirstFault, file, stops}
 use Rattle.mpy_tool.specs.declared.ending.Ending.{Ending}
-use Rattle.mpy_tool.specs.declared.ending.Ending.TheVariants.{Done, Unaccepted, Unread, Unverified, Unmerged, ReadFault, WriteFault, Unwritten, NoMemory, Absent}
+use Rattle.mpy_tool.specs.declared.ending.Ending.TheVariants.{Done, Unaccepted, Unread, Unverified, Unmerged, Stopped, ReadFault, WriteFault, Unwritten, NoMemory, Absent}
 use Rattle.mpy_tool.specs.Check.{Judges}
 use Rattle.mpy_tool.specs.Folder.{MayHold}
 use Rattle.mpy_tool.specs.Line.{path_text}
@@ -37,6 +37,7 @@ judged_from bytes (Unaccepted fault) h = absurd h
 judged_from bytes (Unread fault) h = h
 judged_from bytes (Unverified fault) h = h
 judged_from bytes (Unmerged fault) h = absurd h
+judged_from bytes (Stopped stop) h = absurd h
 judged_from bytes ReadFault h = absurd h
 judged_from bytes WriteFault h = absurd h
 judged_from bytes Unwritten h = absurd h

@@ -7,7 +7,7 @@ use Rattle.mpy_io.specs.declared.fault.ReadFault.{ReadFault as FolderFault}
 use Rattle.mpy_io.specs.declared.fault.ReadFault.TheVariants.{TooLong}
 use Rattle.mpy_io.specs.Files.{FileOf, Reads, Becomes, BecomesFront}
 use Rattle.mpy_tool.specs.declared.ending.Ending.{Ending}
-use Rattle.mpy_tool.specs.declared.ending.Ending.TheVariants.{Done, Unaccepted, Unread, Unverified, Unmerged, ReadFault, WriteFault, Unwritten, NoMemory, Absent}
+use Rattle.mpy_tool.specs.declared.ending.Ending.TheVariants.{Done, Unaccepted, Unread, Unverified, Unmerged, Stopped, ReadFault, WriteFault, Unwritten, NoMemory, Absent}
 use Rattle.mpy_tool.specs.Cross.{HoldsCompiled, HoldsFaulty, Crosses, ChangesOnly}
 use Rattle.mpy_tool.specs.Folder.{MayHold}
 use Rattle.mpy_compile.specs.Compiled.{CompilesTo}
@@ -33,6 +33,7 @@ crosses_only level name stored written old new (Unaccepted fault) h = same_only 
 crosses_only level name stored written old new (Unread fault) h = absurd h
 crosses_only level name stored written old new (Unverified fault) h = absurd h
 crosses_only level name stored written old new (Unmerged fault) h = absurd h
+crosses_only level name stored written old new (Stopped stop) h = absurd h
 crosses_only level name stored written old new ReadFault h = same_only old new written h
 crosses_only level name stored written old new WriteFault h = became_only old new written h.0 h.2
 crosses_only level name stored written old new Unwritten h = front_only old new written h.0 h.2

@@ -5,7 +5,7 @@ use Rattle.mpy_io.specs.Files.{FileOf}
 use Rattle.mpy_io.specs.declared.fault.Failed.{Failed}
 use Rattle.mpy_words.specs.Words.{first_name, second_name}
 use Rattle.mpy_tool.specs.declared.ending.Ending.{Ending}
-use Rattle.mpy_tool.specs.declared.ending.Ending.TheVariants.{Done, Unaccepted, Unread, Unverified, Unmerged, ReadFault, WriteFault, Unwritten, NoMemory, Absent}
+use Rattle.mpy_tool.specs.declared.ending.Ending.TheVariants.{Done, Unaccepted, Unread, Unverified, Unmerged, Stopped, ReadFault, WriteFault, Unwritten, NoMemory, Absent}
 use Rattle.mpy_tool.specs.Ending.{status_of, is_folder_fault, is_out_fault}
 use Rattle.mpy_tool.specs.Line.{Puts, Says, line_of, name_in, place_in}
 use Rattle.mpy_tool.specs.Outside.{Outside, Ends}
@@ -21,6 +21,7 @@ name_read read written (Unaccepted fault) h = refl
 name_read read written (Unread fault) h = refl
 name_read read written (Unverified fault) h = refl
 name_read read written (Unmerged fault) h = refl
+name_read read written (Stopped stop) h = refl
 name_read read written ReadFault h = refl
 name_read read written WriteFault h = refl
 name_read read written Unwritten h = absurd (h refl)
@@ -34,6 +35,7 @@ word_named words (Unaccepted fault) = refl
 word_named words (Unread fault) = refl
 word_named words (Unverified fault) = refl
 word_named words (Unmerged fault) = refl
+word_named words (Stopped stop) = refl
 word_named words ReadFault = refl
 word_named words WriteFault = refl
 word_named words Unwritten = refl

@@ -5,3 +5,5 @@ pub mod Crossed
 pub mod Ended
 pub mod HandedOn
 pub mod Merging
+pub mod Bases
+pub mod Running

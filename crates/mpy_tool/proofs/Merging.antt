@@ -6,7 +6,7 @@ use Rattle.std.specs.Prelude.{IfOk, IfErr}
 use Rattle.mpy_io.specs.Files.{FileOf}
 use Rattle.mpy_tree.specs.Raw.{Module}
 use Rattle.mpy_tool.specs.declared.ending.Ending.{Ending}
-use Rattle.mpy_tool.specs.declared.ending.Ending.TheVariants.{Done, Unaccepted, Unread, Unverified, Unmerged, ReadFault, WriteFault, Unwritten, NoMemory, Absent}
+use Rattle.mpy_tool.specs.declared.ending.Ending.TheVariants.{Done, Unaccepted, Unread, Unverified, Unmerged, Stopped, ReadFault, WriteFault, Unwritten, NoMemory, Absent}
 use Rattle.mpy_tool.specs.Cross.{ChangesOnly}
 use Rattle.mpy_tool.specs.Ending.{is_folder_fault, is_out_fault}
 use Rattle.mpy_tool.specs.Folder.{MayHold}
@@ -25,6 +25,7 @@ refused_by files name bytes (Unaccepted fault) holds h = absurd h
 refused_by files name bytes (Unread fault) holds h = (bytes, holds, h)
 refused_by files name bytes (Unverified fault) holds h = (bytes, holds, h)
 refused_by files name bytes (Unmerged fault) holds h = absurd h
+refused_by files name bytes (Stopped stop) holds h = absurd h
 refused_by files name bytes ReadFault holds h = absurd h
 refused_by files name bytes WriteFault holds h = absurd h
 refused_by files name bytes Unwritten holds h = absurd h
@@ -41,6 +42,7 @@ still bytes (Unaccepted fault) h = refl
 still bytes (Unread fault) h = refl
 still bytes (Unverified fault) h = refl
 still bytes (Unmerged fault) h = refl
+still bytes (Stopped stop) h = absurd h
 still bytes ReadFault h = absurd h
 still bytes WriteFault h = refl
 still bytes Unwritten h = absurd h
@@ -58,6 +60,7 @@ refusal files name (Unaccepted fault) h = refl
 refusal files name (Unread fault) h = refl
 refusal files name (Unverified fault) h = refl
 refusal files name (Unmerged fault) h = refl
+refusal files name (Stopped stop) h = refl
 refusal files name ReadFault h = refl
 refusal files name WriteFault h = absurd h
 refusal files name Unwritten h = refl
@@ -73,6 +76,7 @@ refused_merges names written old new place (Unaccepted fault) r same = absurd r.
 refused_merges names written old new place (Unread fault) r same = (r, same)
 refused_merges names written old new place (Unverified fault) r same = (r, same)
 refused_merges names written old new place (Unmerged fault) r same = absurd r.refused
+refused_merges names written old new place (Stopped stop) r same = absurd r.refused
 refused_merges names written old new place ReadFault r same = (r, same)
 refused_merges names written old new place WriteFault r same = absurd r.refused
 refused_merges names written old new place Unwritten r same = absurd r.refused
@@ -86,6 +90,7 @@ merges_only names written old new place (Unaccepted fault) h = absurd h
 merges_only names written old new place (Unread fault) h = same_only old new written h.1
 merges_only names written old new place (Unverified fault) h = same_only old new written h.1
 merges_only names written old new place (Unmerged fault) h = same_only old new written h.1
+merges_only names written old new place (Stopped stop) h = absurd h
 merges_only names written old new place ReadFault h = same_only old new written h.1
 merges_only names written old new place WriteFault h = became_only old new written h.0 h.2
 merges_only names written old new place Unwritten h = front_only old new written h.0 h.2

@@ -16,7 +16,7 @@ use Rattle.mpy_compile.specs.Compiled as made
 use Rattle.mpy_simple.specs.Source.{Accepts, IsFault}
 use Rattle.mpy_simple.proofs.Faults.{same_fault, no_fault}
 use Rattle.mpy_tool.specs.declared.ending.Ending.{Ending}
-use Rattle.mpy_tool.specs.declared.ending.Ending.TheVariants.{Done, Unaccepted, Unread, Unverified, Unmerged, ReadFault, WriteFault, Unwritten, NoMemory, Absent}
+use Rattle.mpy_tool.specs.declared.ending.Ending.TheVariants.{Done, Unaccepted, Unread, Unverified, Unmerged, Stopped, ReadFault, WriteFault, Unwritten, NoMemory, Absent}
 use Rattle.mpy_tool.specs.Ending.{IsSettled}
 use Rattle.mpy_tool.specs.Cross.{Crosses}
 use Rattle.mpy_tool.specs.Folder.{MayHold}
@@ -44,6 +44,7 @@ went_from level files name source (Unaccepted fault) old new h r = (source, h, r
 went_from level files name source (Unread fault) old new h r = absurd r
 went_from level files name source (Unverified fault) old new h r = absurd r
 went_from level files name source (Unmerged fault) old new h r = absurd r
+went_from level files name source (Stopped stop) old new h r = absurd r
 went_from level files name source ReadFault old new h r = absurd r
 went_from level files name source WriteFault old new h r = (source, h, r)
 went_from level files name source Unwritten old new h r = absurd r
@@ -62,6 +63,7 @@ Judged Good Bad file name (Unaccepted fault) = (source : List ℕ) × (file name
 Judged Good Bad file name (Unread fault) = ⊥
 Judged Good Bad file name (Unverified fault) = ⊥
 Judged Good Bad file name (Unmerged fault) = ⊥
+Judged Good Bad file name (Stopped stop) = ⊥
 Judged Good Bad file name ReadFault = ⊥
 Judged Good Bad file name WriteFault = ⊥
 Judged Good Bad file name Unwritten = ⊥
@@ -85,6 +87,7 @@ one_judged Good Bad apart one file name Absent Absent p q = refl
 one_judged Good Bad apart one file name (Unread f) b p q = absurd p
 one_judged Good Bad apart one file name (Unverified f) b p q = absurd p
 one_judged Good Bad apart one file name (Unmerged f) b p q = absurd p
+one_judged Good Bad apart one file name (Stopped s) b p q = absurd p
 one_judged Good Bad apart one file name ReadFault b p q = absurd p
 one_judged Good Bad apart one file name WriteFault b p q = absurd p
 one_judged Good Bad apart one file name Unwritten b p q = absurd p
@@ -92,6 +95,7 @@ one_judged Good Bad apart one file name NoMemory b p q = absurd p
 one_judged Good Bad apart one file name Done (Unread g) p q = absurd q
 one_judged Good Bad apart one file name Done (Unverified g) p q = absurd q
 one_judged Good Bad apart one file name Done (Unmerged g) p q = absurd q
+one_judged Good Bad apart one file name Done (Stopped t) p q = absurd q
 one_judged Good Bad apart one file name Done ReadFault p q = absurd q
 one_judged Good Bad apart one file name Done WriteFault p q = absurd q
 one_judged Good Bad apart one file name Done Unwritten p q = absurd q
@@ -99,6 +103,7 @@ one_judged Good Bad apart one file name Done NoMemory p q = absurd q
 one_judged Good Bad apart one file name (Unaccepted f) (Unread g) p q = absurd q
 one_judged Good Bad apart one file name (Unaccepted f) (Unverified g) p q = absurd q
 one_judged Good Bad apart one file name (Unaccepted f) (Unmerged g) p q = absurd q
+one_judged Good Bad apart one file name (Unaccepted f) (Stopped t) p q = absurd q
 one_judged Good Bad apart one file name (Unaccepted f) ReadFault p q = absurd q
 one_judged Good Bad apart one file name (Unaccepted f) WriteFault p q = absurd q
 one_judged Good Bad apart one file name (Unaccepted f) Unwritten p q = absurd q
@@ -106,6 +111,7 @@ one_judged Good Bad apart one file name (Unaccepted f) NoMemory p q = absurd q
 one_judged Good Bad apart one file name Absent (Unread g) p q = absurd q
 one_judged Good Bad apart one file name Absent (Unverified g) p q = absurd q
 one_judged Good Bad apart one file name Absent (Unmerged g) p q = absurd q
+one_judged Good Bad apart one file name Absent (Stopped t) p q = absurd q
 one_judged Good Bad apart one file name Absent ReadFault p q = absurd q
 one_judged Good Bad apart one file name Absent WriteFault p q = absurd q
 one_judged Good Bad apart one file name Absent Unwritten p q = absurd q
@@ -125,6 +131,7 @@ went_judged level file name (Unaccepted fault) old new s p = (p.0, p.1, p.2.0)
 went_judged level file name (Unread fault) old new s p = absurd p
 went_judged level file name (Unverified fault) old new s p = absurd p
 went_judged level file name (Unmerged fault) old new s p = absurd p
+went_judged level file name (Stopped stop) old new s p = absurd p
 went_judged level file name ReadFault old new s p = absurd s
 went_judged level file name WriteFault old new s p = absurd s
 went_judged level file name Unwritten old new s p = absurd s
@@ -145,6 +152,7 @@ crosses_judged level file name kept written (Unaccepted fault) new s p = (p.0.so
 crosses_judged level file name kept written (Unread fault) new s p = absurd p
 crosses_judged level file name kept written (Unverified fault) new s p = absurd p
 crosses_judged level file name kept written (Unmerged fault) new s p = absurd p
+crosses_judged level file name kept written (Stopped stop) new s p = absurd p
 crosses_judged level file name kept written ReadFault new s p = absurd s
 crosses_judged level file name kept written WriteFault new s p = absurd s
 crosses_judged level file name kept written Unwritten new s p = absurd s

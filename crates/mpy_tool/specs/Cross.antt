@@ -4,7 +4,7 @@ use Rattle.mpy_base.specs.declared.source.SourceFault.{SourceFault}
 use Rattle.mpy_io.specs.Files.{FileOf, Becomes, BecomesFront}
 use Rattle.mpy_compile.specs.Compiled.{CompilesTo, IsFault}
 use Rattle.mpy_tool.specs.declared.ending.Ending.{Ending}
-use Rattle.mpy_tool.specs.declared.ending.Ending.TheVariants.{Done, Unaccepted, Unread, Unverified, Unmerged, ReadFault, WriteFault, Unwritten, NoMemory, Absent}
+use Rattle.mpy_tool.specs.declared.ending.Ending.TheVariants.{Done, Unaccepted, Unread, Unverified, Unmerged, Stopped, ReadFault, WriteFault, Unwritten, NoMemory, Absent}
 use Rattle.mpy_tool.specs.Folder.{MayHold}
 
 -- the source that the folder has under the name compiles to these bytes
@@ -27,6 +27,7 @@ Crosses level name stored written old new (Unaccepted fault) = HoldsFaulty level
 Crosses level name stored written old new (Unread fault) = ⊥
 Crosses level name stored written old new (Unverified fault) = ⊥
 Crosses level name stored written old new (Unmerged fault) = ⊥
+Crosses level name stored written old new (Stopped stop) = ⊥
 Crosses level name stored written old new ReadFault = new ≡ old
 -- nothing was printed, but what the sink held before wasn't handed on
 Crosses level name stored written old new WriteFault = (bytes : List ℕ) × HoldsCompiled level old name stored bytes × Becomes old new written bytes

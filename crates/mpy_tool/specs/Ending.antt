@@ -1,7 +1,17 @@
 -- How a command ended: its status, which count of faults rose, and whether the ending is determined.
 use Rattle.std.specs.Prelude.{ℕ, Bool, true, false}
 use Rattle.mpy_tool.specs.declared.ending.Ending.{Ending}
-use Rattle.mpy_tool.specs.declared.ending.Ending.TheVariants.{Done, Unaccepted, Unread, Unverified, Unmerged, ReadFault, WriteFault, Unwritten, NoMemory, Absent}
+use Rattle.mpy_tool.specs.declared.ending.Ending.TheVariants.{Done, Unaccepted, Unread, Unverified, Unmerged, Stopped, ReadFault, WriteFault, Unwritten, NoMemory, Absent}
+use Rattle.mpy_tool.specs.declared.ending.Stop.{Stop}
+use Rattle.mpy_tool.specs.declared.ending.Stop.TheVariants.{Past, LibraryFault, Raised, Memory, Steps}
+
+-- of a run that wasn't done
+abbrev pub stop_status : Stop → ℕ
+stop_status Raised = 1
+stop_status (Steps count) = 5
+stop_status Memory = 6
+stop_status (LibraryFault path) = 7
+stop_status (Past limit) = 11
 
 abbrev pub status_of : Ending → ℕ
 status_of Done = 0
@@ -14,14 +24,23 @@ status_of Unwritten = 8
 status_of NoMemory = 9
 status_of Absent = 10
 status_of (Unmerged fault) = 11
+status_of (Stopped stop) = stop_status stop
 
 -- whether the folder's count of faults rose
+abbrev pub is_read_stop : Stop → Bool
+is_read_stop (Past limit) = false
+is_read_stop (LibraryFault path) = true
+is_read_stop Raised = false
+is_read_stop Memory = false
+is_read_stop (Steps count) = false
+
 abbrev pub is_folder_fault : Ending → Bool
 is_folder_fault Done = false
 is_folder_fault (Unaccepted fault) = false
 is_folder_fault (Unread fault) = false
 is_folder_fault (Unverified fault) = false
 is_folder_fault (Unmerged fault) = false
+is_folder_fault (Stopped stop) = is_read_stop stop
 is_folder_fault ReadFault = true
 is_folder_fault WriteFault = false
 is_folder_fault Unwritten = true
@@ -35,19 +54,49 @@ is_out_fault (Unaccepted fault) = false
 is_out_fault (Unread fault) = false
 is_out_fault (Unverified fault) = false
 is_out_fault (Unmerged fault) = false
+is_out_fault (Stopped stop) = false
 is_out_fault ReadFault = false
 is_out_fault WriteFault = true
 is_out_fault Unwritten = false
 is_out_fault NoMemory = false
 is_out_fault Absent = false
 
+-- whether it was said in the run how it ended
+abbrev pub is_stop_said : Stop → Bool
+is_stop_said (Past limit) = false
+is_stop_said (LibraryFault path) = false
+is_stop_said Raised = true
+is_stop_said Memory = true
+is_stop_said (Steps count) = false
+
+abbrev pub is_said : Ending → Bool
+is_said Done = false
+is_said (Unaccepted fault) = false
+is_said (Unread fault) = false
+is_said (Unverified fault) = false
+is_said (Unmerged fault) = false
+is_said (Stopped stop) = is_stop_said stop
+is_said ReadFault = false
+is_said WriteFault = false
+is_said Unwritten = false
+is_said NoMemory = false
+is_said Absent = false
+
 -- neither a call that failed outside nor want of memory cut the command short
+abbrev pub IsSettledStop : Stop → Type 0
+IsSettledStop (Past limit) = Unit {0}
+IsSettledStop (LibraryFault path) = ⊥
+IsSettledStop Raised = Unit {0}
+IsSettledStop Memory = Unit {0}
+IsSettledStop (Steps count) = Unit {0}
+
 abbrev pub IsSettled : Ending → Type 0
 IsSettled Done = Unit {0}
 IsSettled (Unaccepted fault) = Unit {0}
 IsSettled (Unread fault) = Unit {0}
 IsSettled (Unverified fault) = Unit {0}
 IsSettled (Unmerged fault) = Unit {0}
+IsSettled (Stopped stop) = IsSettledStop stop
 IsSettled ReadFault = ⊥
 IsSettled WriteFault = ⊥
 IsSettled Unwritten = ⊥

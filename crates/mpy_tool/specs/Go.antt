@@ -10,7 +10,7 @@ use Rattle.mpy_io.specs.Told.{AppendsFront}
 use Rattle.mpy_simple.specs.Source.{Accepts, IsFault}
 use Rattle.bc_vm.specs.Printed.{printed}
 use Rattle.mpy_tool.specs.declared.ending.Ending.{Ending}
-use Rattle.mpy_tool.specs.declared.ending.Ending.TheVariants.{Done, Unaccepted, Unread, Unverified, Unmerged, ReadFault, WriteFault, Unwritten, NoMemory, Absent}
+use Rattle.mpy_tool.specs.declared.ending.Ending.TheVariants.{Done, Unaccepted, Unread, Unverified, Unmerged, Stopped, ReadFault, WriteFault, Unwritten, NoMemory, Absent}
 use Rattle.mpy_tool.specs.Folder.{MayHold}
 
 -- a question mark for a byte that isn't ASCII
@@ -35,6 +35,7 @@ RanSource level source name (Unaccepted fault) old new = IsFault level source na
 RanSource level source name (Unread fault) old new = ⊥
 RanSource level source name (Unverified fault) old new = ⊥
 RanSource level source name (Unmerged fault) old new = ⊥
+RanSource level source name (Stopped stop) old new = ⊥
 RanSource level source name ReadFault old new = ⊥
 RanSource level source name WriteFault old new = (texts : List (List ℕ)) × Accepts level source name texts × AppendsFront old new (printed texts)
 RanSource level source name Unwritten old new = ⊥
@@ -52,6 +53,7 @@ Went level files name (Unaccepted fault) old new = RanFile level files name (Una
 Went level files name (Unread fault) old new = ⊥
 Went level files name (Unverified fault) old new = ⊥
 Went level files name (Unmerged fault) old new = ⊥
+Went level files name (Stopped stop) old new = ⊥
 Went level files name WriteFault old new = RanFile level files name WriteFault old new
 Went level files name Unwritten old new = ⊥
 Went level files name ReadFault old new = Keeps old new

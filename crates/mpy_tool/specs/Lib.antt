@@ -7,3 +7,5 @@ pub mod Cross
 pub mod Merge
 pub mod Line
 pub mod Outside
+pub mod Base
+pub mod Run

@@ -16,7 +16,10 @@ use Rattle.mpy_words.specs.declared.order.WordFault.{WordFault}
 use Rattle.mpy_words.specs.declared.order.WordFault.TheVariants.{NoCommand, Unknown, MissingName, MissingValue, BadNumber, Twice}
 use Rattle.mpy_words.specs.Command.{name_of as word_name, spelling_of}
 use Rattle.mpy_tool.specs.declared.ending.Ending.{Ending}
-use Rattle.mpy_tool.specs.declared.ending.Ending.TheVariants.{Done, Unaccepted, Unread, Unverified, Unmerged, ReadFault, WriteFault, Unwritten, NoMemory, Absent}
+use Rattle.mpy_tool.specs.declared.ending.Ending.TheVariants.{Done, Unaccepted, Unread, Unverified, Unmerged, Stopped, ReadFault, WriteFault, Unwritten, NoMemory, Absent}
+use Rattle.mpy_tool.specs.declared.ending.Stop.{Stop}
+use Rattle.mpy_tool.specs.declared.ending.Stop.TheVariants.{Past, LibraryFault, Raised, Memory, Steps}
+use Rattle.library_files.specs.declared.limit.Limit.TheVariants as limits
 
 -- a word that a fault names, left out where it is empty
 abbrev pub spaced : List ℕ → List ℕ
@@ -83,6 +86,15 @@ merge_line fault =
     ++ tag_text (merge.place_of fault)
     ++ codes "\n"
 
+-- what kept a file from being run to its end: nothing of what was said in the run
+abbrev pub stop_line : Stop → List ℕ
+stop_line (Past limits.TooMany) = codes "mpy: library TooMany\n"
+stop_line (Past limits.Names) = codes "mpy: library Names\n"
+stop_line (LibraryFault path) = codes "mpy: read fault " ++ path ++ codes "\n"
+stop_line Raised = []
+stop_line Memory = []
+stop_line (Steps count) = codes "mpy: step limit " ++ decimal count ++ codes "\n"
+
 -- what is said of a command on the file of this name
 abbrev pub line_of : List ℕ → Ending → List ℕ
 line_of name Done = []
@@ -90,6 +102,7 @@ line_of name (Unaccepted fault) = source_line name fault
 line_of name (Unread fault) = file_line name fault
 line_of name (Unverified fault) = verify_line name fault
 line_of name (Unmerged fault) = merge_line fault
+line_of name (Stopped stop) = stop_line stop
 line_of name ReadFault = codes "mpy: read fault " ++ name ++ codes "\n"
 line_of name WriteFault = codes "mpy: write fault out\n"
 line_of name Unwritten = codes "mpy: write fault " ++ name ++ codes "\n"
@@ -103,6 +116,7 @@ name_in read written (Unaccepted fault) = read
 name_in read written (Unread fault) = read
 name_in read written (Unverified fault) = read
 name_in read written (Unmerged fault) = read
+name_in read written (Stopped stop) = read
 name_in read written ReadFault = read
 name_in read written WriteFault = read
 name_in read written Unwritten = written
@@ -116,6 +130,7 @@ place_in (Unaccepted fault) = 1
 place_in (Unread fault) = 1
 place_in (Unverified fault) = 1
 place_in (Unmerged fault) = 1
+place_in (Stopped stop) = 1
 place_in ReadFault = 1
 place_in WriteFault = 1
 place_in Unwritten = 2

@@ -1,10 +1,10 @@
 -- What the outside tells before and after a command, and what the command did to it.
-use Rattle.std.specs.Prelude.{◌≡◌, ℕ, List, Option, Some, None, [], slice_index_or, Ok, Err}
+use Rattle.std.specs.Prelude.{◌≡◌, ℕ, List, Bool, true, false, Option, Some, None, [], slice_index_or, Ok, Err}
 use Rattle.std.specs.Io.KnownBytes.{Keeps}
 use Rattle.mpy_io.specs.Count.{Counts}
 use Rattle.mpy_io.specs.Files.{FileOf}
 use Rattle.mpy_words.specs.declared.order.Command.{Command}
-use Rattle.mpy_words.specs.declared.order.Command.TheVariants.{Go, Check, Dump, Cross, Merge}
+use Rattle.mpy_words.specs.declared.order.Command.TheVariants.{Go, Check, Dump, Cross, Merge, Run}
 use Rattle.mpy_words.specs.declared.order.WordFault.{WordFault}
 use Rattle.mpy_words.specs.Words.{Outcome, first_name, second_name}
 use Rattle.mpy_tool.specs.declared.ending.Ending.{Ending}
@@ -72,11 +72,25 @@ written_by words Check = None
 written_by words Dump = None
 written_by words Cross = Some (second_name words)
 written_by words Merge = Some (first_name words)
+written_by words Run = None
 
 -- words of no order write none
 abbrev pub written_in : List (List ℕ) → Outcome → Option (List ℕ)
 written_in words (Err fault) = None
 written_in words (Ok order) = written_by words order.command
+
+-- whether a command may call ports; words of no order call none
+abbrev pub calls_ports : Command → Bool
+calls_ports Go = false
+calls_ports Check = false
+calls_ports Dump = false
+calls_ports Cross = false
+calls_ports Merge = false
+calls_ports Run = true
+
+abbrev pub calls_ports_in : Outcome → Bool
+calls_ports_in (Err fault) = false
+calls_ports_in (Ok order) = calls_ports order.command
 
 -- no file changed but this one
 abbrev pub Changes : Option (List ℕ) → Option FileOf → Option FileOf → Type 0

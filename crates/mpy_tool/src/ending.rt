@@ -1,13 +1,43 @@
 //! How a command ended.
 
 ghost use Rattle.std.specs.Prelude.{◌≡◌};
-ghost use Rattle.mpy_tool.specs.Ending.{status_of};
+ghost use Rattle.mpy_tool.specs.Ending.{status_of, stop_status};
 ghost use Rattle.mpy_tool.specs.Line.{place_in};
 
 use bc_verify::VerifyFault;
-use mpy_base::SourceFault;
+use library_files::Limit;
+use mpy_base::{SourceFault, Text};
 use mpy_merge::MergeFault;
 use mpy_reader::FileFault;
+
+/// What keeps a file from being run to its end.
+#[derive(Debug, Drop)]
+pub enum Stop {
+    /// The file's library passes a limit.
+    Past(Limit),
+    /// The folder failed to read the file of this name, which may be one of the library.
+    LibraryFault(Text),
+    /// An exception that nothing caught ended the run; its report was said.
+    Raised,
+    /// A making didn't fit the arena; its line was said.
+    Memory,
+    /// The run took all its steps, whose number this is, and didn't end.
+    Steps(u64),
+}
+
+impl Stop {
+    fn status(&self) -> u8
+        ensures { result ≡ stop_status self.now }
+    {
+        match self {
+            Stop::Raised => 1,
+            Stop::Steps(_) => 5,
+            Stop::Memory => 6,
+            Stop::LibraryFault(_) => 7,
+            Stop::Past(_) => 11,
+        }
+    }
+}
 
 /// How a command ended.
 #[derive(Debug, Drop)]
@@ -22,6 +52,8 @@ pub enum Ending {
     Unverified(VerifyFault),
     /// The modules can't be merged.
     Unmerged(MergeFault),
+    /// The file is verified, and wasn't run to its end.
+    Stopped(Stop),
     /// The folder failed to read the file.
     ReadFault,
     /// The sink failed.
@@ -41,8 +73,8 @@ impl Ending {
         match self {
             Ending::Unwritten => 2,
             Ending::Done | Ending::Unaccepted(_) | Ending::Unread(_) | Ending::Unverified(_) => 1,
-            Ending::Unmerged(_) | Ending::ReadFault | Ending::WriteFault => 1,
-            Ending::NoMemory | Ending::Absent => 1,
+            Ending::Unmerged(_) | Ending::Stopped(_) | Ending::ReadFault => 1,
+            Ending::WriteFault | Ending::NoMemory | Ending::Absent => 1,
         }
     }
 
@@ -59,6 +91,7 @@ impl Ending {
             Ending::NoMemory => 9,
             Ending::Absent => 10,
             Ending::Unmerged(_) => 11,
+            Ending::Stopped(stop) => stop.status(),
         }
     }
 }

@@ -1,6 +1,7 @@
 //! The tool's commands: the top call, and what it says at the end.
 #![tactic(auto)]
 
+mod base;
 mod check;
 mod cross;
 mod dump;
@@ -8,9 +9,10 @@ mod ending;
 mod go;
 mod line;
 mod merge;
+mod run;
 mod top;
 mod words;
 
-pub use ending::Ending;
+pub use ending::{Ending, Stop};
 pub use mpy_simple::{simple_file, simple_read};
 pub use top::{mpy, one_ending_law};

@@ -1,16 +1,18 @@
 //! The line that is said at the end of a command.
 
-ghost use Rattle.std.specs.Prelude.{◌≡◌, ◌++◌, List, ℕ, map, string_bytes, codes, decimal};
+ghost use Rattle.std.specs.Prelude.{◌≡◌, ◌++◌, List, ℕ, true, map, string_bytes, codes, decimal};
 ghost use Rattle.mpy_reader.specs.Fault as file;
 ghost use Rattle.bc_verify.specs.Rule as rules;
 ghost use Rattle.mpy_merge.specs.Numbers as merges;
+ghost use Rattle.mpy_tool.specs.Ending.{is_stop_said, is_said};
 ghost use Rattle.mpy_tool.specs.Line as spec;
-ghost use Rattle.mpy_tool.specs.Line.{Puts, spaced, words_line, source_line, file_line, tag_text, path_text, verify_line, merge_line, line_of};
+ghost use Rattle.mpy_tool.specs.Line.{Puts, spaced, words_line, source_line, file_line, tag_text, path_text, verify_line, merge_line, stop_line, line_of};
 
-use crate::ending::Ending;
+use crate::ending::{Ending, Stop};
 use crate::words::word_at;
 use bc_verify::{Rule, VerifyFault};
 use itoa::Buffer;
+use library_files::Limit;
 use mpy_base::SourceFault;
 use mpy_io::{Failed, Sink};
 use mpy_merge::MergeFault;
@@ -241,10 +243,39 @@ fn say_unmerged<E: Sink>(say: &mut E, fault: MergeFault) -> Result<(), Failed>
     put(say, b"\n")
 }
 
+/// Says how many steps a run took that didn't end.
+fn say_steps<E: Sink>(say: &mut E, count: u64) -> Result<(), Failed>
+    ensures { Puts (E.told say.old) (E.told say.new) (E.count say.old) (E.count say.new)
+        (codes "mpy: step limit " ++ decimal count ++ codes "\n") result }
+{
+    let mut digits = Buffer::new();
+    put_three(
+        say,
+        b"mpy: step limit ",
+        digits.format(count).as_bytes(),
+        b"\n",
+    )
+}
+
+/// Says what kept a file from being run to its end, if that wasn't said in the run.
+fn say_stop<E: Sink>(say: &mut E, stop: &Stop) -> Result<(), Failed>
+    ensures line { Puts (E.told say.old) (E.told say.new) (E.count say.old) (E.count say.new) (stop_line stop.now) result }
+    ensures said { is_stop_said stop.now ≡ true → say.new ≡ say.old }
+{
+    match stop {
+        Stop::Past(Limit::TooMany) => put(say, b"mpy: library TooMany\n"),
+        Stop::Past(Limit::Names) => put(say, b"mpy: library Names\n"),
+        Stop::LibraryFault(path) => put_three(say, b"mpy: read fault ", path.bytes(), b"\n"),
+        Stop::Raised | Stop::Memory => Ok(()),
+        Stop::Steps(count) => say_steps(say, *count),
+    }
+}
+
 /// Says how a command on the file of this name ended.
 pub(crate) fn say_ending<E: Sink>(say: &mut E, name: &str, ending: &Ending) -> Result<(), Failed>
-    ensures { Puts (E.told say.old) (E.told say.new) (E.count say.old) (E.count say.new)
+    ensures line { Puts (E.told say.old) (E.told say.new) (E.count say.old) (E.count say.new)
         (line_of name.now ending.now) result }
+    ensures said { is_said ending.now ≡ true → say.new ≡ say.old }
 {
     match ending {
         Ending::Done => Ok(()),
@@ -252,6 +283,7 @@ pub(crate) fn say_ending<E: Sink>(say: &mut E, name: &str, ending: &Ending) -> R
         Ending::Unread(fault) => say_unread(say, name, *fault),
         Ending::Unverified(fault) => say_unverified(say, name, fault),
         Ending::Unmerged(fault) => say_unmerged(say, *fault),
+        Ending::Stopped(stop) => say_stop(say, stop),
         Ending::ReadFault => put_three(say, b"mpy: read fault ", name.as_bytes(), b"\n"),
         Ending::WriteFault => put(say, b"mpy: write fault out\n"),
         Ending::Unwritten => put_three(say, b"mpy: write fault ", name.as_bytes(), b"\n"),

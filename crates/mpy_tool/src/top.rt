@@ -1,6 +1,6 @@
 //! The top call.
 
-ghost use Rattle.std.specs.Prelude.{◌≡◌, ◌≤◌, ℕ, List, [], Option, Some, false, map, string_bytes, IfOk, IfErr};
+ghost use Rattle.std.specs.Prelude.{◌≡◌, ◌≢◌, ◌≤◌, ℕ, List, [], Option, Some, false, map, string_bytes, IfOk, IfErr, MatchBool};
 ghost use Rattle.mpy_io.specs.Count.{Counts};
 ghost use Rattle.mpy_io.specs.Files.{FileOf};
 ghost use Rattle.mpy_words.specs.declared.order.Command.TheVariants as commands;
@@ -15,7 +15,8 @@ ghost use Rattle.mpy_tool.specs.Dump.{Dumps};
 ghost use Rattle.mpy_tool.specs.Go.{stored, Went};
 ghost use Rattle.mpy_tool.specs.Line.{place_in};
 ghost use Rattle.mpy_tool.specs.Merge.{Merges};
-ghost use Rattle.mpy_tool.specs.Outside.{seen, RefusesWords, Ends, Writes, WritesOf, written_by, written_in, Changes};
+ghost use Rattle.mpy_tool.specs.Outside.{seen, RefusesWords, Ends, Writes, WritesOf, written_by, written_in, calls_ports_in, Changes};
+ghost use Rattle.mpy_tool.specs.Run.{EndsRun, room_of};
 ghost use Rattle.std.specs.Io.KnownBytes.{Keeps};
 
 use crate::check::check;
@@ -25,10 +26,13 @@ use crate::ending::{Ended, Ending};
 use crate::go::go;
 use crate::line::{say_ending, say_words};
 use crate::merge::merge_files;
+use crate::run::run_file;
 use crate::words::{file_names as files_in, source_name as name_to_store, word_at};
+use mpy_base::Room;
 use mpy_compile::compile_law;
-use mpy_io::{Failed, Folder, Sink};
+use mpy_io::{Failed, Folder, Port, Sink};
 use mpy_words::{Command, Order, order_of};
+use port_set::PortSet;
 use std::alloc::Global;
 
 /// The status of words that are of no order.
@@ -42,7 +46,8 @@ fn ran<F: Folder, S: Sink>(
     folder: &mut F,
     out: &mut S,
 ) -> Ended
-    requires { order.level ≤ 3 }
+    requires level { order.level ≤ 3 }
+    requires no_run { order.command ≢ commands.Run }
     ensures go { order.command ≡ commands.Go → Went order.level (F.files folder.old) (first_name (map string_bytes words.now)) result.ending (S.told out.old) (S.told out.new) }
     ensures check { order.command ≡ commands.Check → Checks (F.files folder.old) (first_name (map string_bytes words.now)) result.ending (S.told out.old) (S.told out.new) }
     ensures dump { order.command ≡ commands.Dump → Dumps (F.files folder.old) (first_name (map string_bytes words.now)) result.ending (S.told out.old) (S.told out.new) }
@@ -73,6 +78,7 @@ fn ran<F: Folder, S: Sink>(
             ))
         }
         Command::Merge => merge_files(alloc, files_in(words), name, folder),
+        Command::Run => unreachable!(),
     }
 }
 
@@ -84,7 +90,8 @@ fn done<F: Folder, S: Sink>(
     folder: &mut F,
     out: &mut S,
 ) -> Ended
-    requires { order.level ≤ 3 }
+    requires level { order.level ≤ 3 }
+    requires no_run { order.command ≢ commands.Run }
     ensures go { order.command ≡ commands.Go → Went order.level (F.files folder.old) (first_name (map string_bytes words.now)) result.ending (S.told out.old) (S.told out.new) }
     ensures check { order.command ≡ commands.Check → Checks (F.files folder.old) (first_name (map string_bytes words.now)) result.ending (S.told out.old) (S.told out.new) }
     ensures dump { order.command ≡ commands.Dump → Dumps (F.files folder.old) (first_name (map string_bytes words.now)) result.ending (S.told out.old) (S.told out.new) }
@@ -115,14 +122,89 @@ fn done<F: Folder, S: Sink>(
     }
 }
 
-/// Does what the words order, the program's own name left out, and answers the exit status. The line on `say` isn't
-/// flushed: give it a sink that holds nothing back, or flush it after the call.
-pub fn mpy<F: Folder, S: Sink, E: Sink>(
+/// Runs the file that the words name, and answers the exit status.
+fn run_order<F: Folder, S: Sink, P: Port, E: Sink>(
+    order: Order,
+    alloc: Global,
+    words: &[String],
+    folder: &mut F,
+    out: &mut S,
+    ports: &mut PortSet<P>,
+    say: &mut E,
+) -> u8
+    ensures run { EndsRun (room_of order) order.steps (first_name (map string_bytes words.now))
+        (seen F.files F.count S.told S.count E.told E.count folder.old out.old say.old)
+        (seen F.files F.count S.told S.count E.told E.count folder.new out.new say.new)
+        (map P.seen ports.old) (map P.seen ports.new) result }
+    ensures flushed { result ≡ 0 → S.held out.new ≡ [] }
+    ensures files { F.files folder.new ≡ F.files folder.old }
+{
+    let name = word_at(words, 1);
+    let room = Room {
+        cells: order.cells,
+        bytes: order.bytes,
+    };
+    let ending = run_file(alloc, name, room, order.steps, folder, out, ports, say);
+    let _ = say_ending(say, name, &ending);
+    ending.status()
+}
+
+/// Does what the words order, which isn't to run a file, and answers the exit status.
+fn do_order<F: Folder, S: Sink, E: Sink>(
+    order: Order,
     alloc: Global,
     words: &[String],
     folder: &mut F,
     out: &mut S,
     say: &mut E,
+) -> u8
+    requires level { order.level ≤ 3 }
+    requires no_run { order.command ≢ commands.Run }
+    ensures go { order.command ≡ commands.Go
+        → Ends (Went order.level) (first_name (map string_bytes words.now))
+        (seen F.files F.count S.told S.count E.told E.count folder.old out.old say.old)
+        (seen F.files F.count S.told S.count E.told E.count folder.new out.new say.new) result }
+    ensures check { order.command ≡ commands.Check
+        → Ends Checks (first_name (map string_bytes words.now))
+        (seen F.files F.count S.told S.count E.told E.count folder.old out.old say.old)
+        (seen F.files F.count S.told S.count E.told E.count folder.new out.new say.new) result }
+    ensures dump { order.command ≡ commands.Dump
+        → Ends Dumps (first_name (map string_bytes words.now))
+        (seen F.files F.count S.told S.count E.told E.count folder.old out.old say.old)
+        (seen F.files F.count S.told S.count E.told E.count folder.new out.new say.new) result }
+    ensures cross { order.command ≡ commands.Cross
+        → Writes (Crosses order.level (first_name (map string_bytes words.now)) (stored (source_name (map string_bytes words.now) order.stored_name)) (second_name (map string_bytes words.now)))
+        (first_name (map string_bytes words.now)) (second_name (map string_bytes words.now))
+        (seen F.files F.count S.told S.count E.told E.count folder.old out.old say.old)
+        (seen F.files F.count S.told S.count E.told E.count folder.new out.new say.new) result }
+    ensures merge { order.command ≡ commands.Merge
+        → WritesOf (Merges (file_names (map string_bytes words.now)) (first_name (map string_bytes words.now))) (map string_bytes words.now)
+        (seen F.files F.count S.told S.count E.told E.count folder.old out.old say.old)
+        (seen F.files F.count S.told S.count E.told E.count folder.new out.new say.new) result }
+    ensures flushed { result ≡ 0 → S.held out.new ≡ [] }
+    ensures files { Changes (written_by (map string_bytes words.now) order.command) (F.files folder.old) (F.files folder.new) }
+{
+    let ended = done(order, alloc, words, folder, out);
+    let name = word_at(words, ended.place);
+    let _ = say_ending(say, name, &ended.ending);
+    ended.ending.status()
+}
+
+fn is_run(command: Command) -> bool
+    ensures { MatchBool result (command ≡ commands.Run) (command ≢ commands.Run) }
+{
+    matches!(command, Command::Run)
+}
+
+/// Does what the words order, the program's own name left out, and answers the exit status. The line on `say` isn't
+/// flushed: give it a sink that holds nothing back, or flush it after the call.
+pub fn mpy<F: Folder, S: Sink, P: Port, E: Sink>(
+    alloc: Global,
+    words: &[String],
+    folder: &mut F,
+    out: &mut S,
+    say: &mut E,
+    ports: &mut PortSet<P>,
 ) -> u8
     // No order: the first fault of the words is said.
     ensures words { IfErr (order_of (map string_bytes words.now)) (λ fault.
@@ -161,6 +243,17 @@ pub fn mpy<F: Folder, S: Sink, E: Sink>(
         (seen F.files F.count S.told S.count E.told E.count folder.old out.old say.old)
         (seen F.files F.count S.told S.count E.told E.count folder.new out.new say.new) result) }
 
+    // run FILE: the library of FILE is run, in the room and for the steps that are ordered, and its output is printed; or what kept
+    // it from that is said.
+    ensures run { IfOk (order_of (map string_bytes words.now)) (λ order. order.command ≡ commands.Run
+        → EndsRun (room_of order) order.steps (first_name (map string_bytes words.now))
+        (seen F.files F.count S.told S.count E.told E.count folder.old out.old say.old)
+        (seen F.files F.count S.told S.count E.told E.count folder.new out.new say.new)
+        (map P.seen ports.old) (map P.seen ports.new) result) }
+
+    // Only a run calls ports.
+    ensures ports { calls_ports_in (order_of (map string_bytes words.now)) ≡ false → ports.new ≡ ports.old }
+
     // With status 0 nothing of what is printed is held back.
     ensures flushed { result ≡ 0 → S.held out.new ≡ [] }
 
@@ -169,13 +262,13 @@ pub fn mpy<F: Folder, S: Sink, E: Sink>(
 {
     match order_of(words) {
         Ok(order) => {
-            let ended = done(order, alloc, words, folder, out);
-            let name = word_at(words, ended.place);
-            // A failed put on `say` changes nothing else.
-            let _ = say_ending(say, name, &ended.ending);
-            ended.ending.status()
+            if is_run(order.command) {
+                return run_order(order, alloc, words, folder, out, ports, say);
+            }
+            do_order(order, alloc, words, folder, out, say)
         }
         Err(fault) => {
+            // A failed put on `say` changes nothing else.
             let _ = say_words(say, words, fault);
             WORDS_STATUS
         }

@@ -1,15 +1,20 @@
 -- The orders and the first faults of small words.
 use Rattle.std.proofs.Common.{◌≡◌, ℕ, [], ◌∷◌, Option, Some, None, Ok, Err, codes, refl}
 use Rattle.mpy_words.specs.declared.order.Command.{Command}
-use Rattle.mpy_words.specs.declared.order.Command.TheVariants.{Go, Cross, Merge}
+use Rattle.mpy_words.specs.declared.order.Command.TheVariants.{Go, Cross, Merge, Run}
 use Rattle.mpy_words.specs.declared.order.Named.TheVariants.{Source, File, Output}
-use Rattle.mpy_words.specs.declared.order.Setting.TheVariants.{Level, StoredName}
+use Rattle.mpy_words.specs.declared.order.Setting.TheVariants.{Level, StoredName, Cells, Steps}
 use Rattle.mpy_words.specs.declared.order.WordFault.TheVariants.{NoCommand, Unknown, MissingName, MissingValue, BadNumber, Twice}
 use Rattle.mpy_words.specs.Number.{value_of}
 use Rattle.mpy_words.specs.Words.{Outcome, settings, past_files, named, order_of, source_name}
 
 abbrev ordered : Command → ℕ → Option ℕ → Outcome
-ordered command level stored_name = Ok (record { command = command; level = level; stored_name = stored_name })
+ordered command level stored_name =
+    Ok (record { command = command; level = level; stored_name = stored_name; cells = 65536; bytes = 262144; steps = 10000000 })
+
+abbrev runs : (cells bytes steps : ℕ) → Outcome
+runs cells bytes steps =
+    Ok (record { command = Run; level = 0; stored_name = None; cells = cells; bytes = bytes; steps = steps })
 
 no_word : order_of [] ≡ Err NoCommand
 unfolding settings named past_files value_of
@@ -98,6 +103,62 @@ merge_two_files = refl
 merge_option : order_of (codes "merge" ∷ codes "o" ∷ codes "a" ∷ codes "-O" ∷ codes "b" ∷ []) ≡ Err (Unknown 3)
 unfolding settings named past_files value_of
 merge_option = refl
+
+run_alone : order_of (codes "run" ∷ []) ≡ Err (MissingName File)
+unfolding settings named past_files value_of
+run_alone = refl
+
+run_file : order_of (codes "run" ∷ codes "a.mpy" ∷ []) ≡ ordered Run 0 None
+unfolding settings named past_files value_of
+run_file = refl
+
+run_in_room : order_of (codes "run" ∷ codes "a.mpy" ∷ codes "--cells" ∷ codes "26" ∷ codes "--bytes" ∷ codes "0" ∷ []) ≡ runs 26 0 10000000
+unfolding settings named past_files value_of
+run_in_room = refl
+
+greatest_room : order_of (codes "run" ∷ codes "a.mpy" ∷ codes "--bytes" ∷ codes "16777216" ∷ codes "--steps" ∷ codes "1000000000000" ∷ codes "--cells" ∷ codes "4194304" ∷ []) ≡ runs 4194304 16777216 1000000000000
+unfolding settings named past_files value_of
+greatest_room = refl
+
+no_cells : order_of (codes "run" ∷ codes "a.mpy" ∷ codes "--cells" ∷ []) ≡ Err (MissingValue Cells)
+unfolding settings named past_files value_of
+no_cells = refl
+
+cells_no_number : order_of (codes "run" ∷ codes "a.mpy" ∷ codes "--cells" ∷ codes "x" ∷ []) ≡ Err (BadNumber 3)
+unfolding settings named past_files value_of
+cells_no_number = refl
+
+too_many_cells : order_of (codes "run" ∷ codes "a.mpy" ∷ codes "--cells" ∷ codes "4194305" ∷ []) ≡ Err (BadNumber 3)
+unfolding settings named past_files value_of
+too_many_cells = refl
+
+too_many_bytes : order_of (codes "run" ∷ codes "a.mpy" ∷ codes "--bytes" ∷ codes "16777217" ∷ []) ≡ Err (BadNumber 3)
+unfolding settings named past_files value_of
+too_many_bytes = refl
+
+too_many_steps : order_of (codes "run" ∷ codes "a.mpy" ∷ codes "--steps" ∷ codes "1000000000001" ∷ []) ≡ Err (BadNumber 3)
+unfolding settings named past_files value_of
+too_many_steps = refl
+
+twice_steps : order_of (codes "run" ∷ codes "a.mpy" ∷ codes "--steps" ∷ codes "1" ∷ codes "--bytes" ∷ codes "0" ∷ codes "--steps" ∷ codes "1" ∷ []) ≡ Err (Twice Steps)
+unfolding settings named past_files value_of
+twice_steps = refl
+
+room_for_file : order_of (codes "run" ∷ codes "--cells" ∷ codes "1" ∷ []) ≡ Err (MissingName File)
+unfolding settings named past_files value_of
+room_for_file = refl
+
+no_level_of_run : order_of (codes "run" ∷ codes "a.mpy" ∷ codes "-O" ∷ codes "1" ∷ []) ≡ Err (Unknown 2)
+unfolding settings named past_files value_of
+no_level_of_run = refl
+
+no_room_of_go : order_of (codes "go" ∷ codes "a.py" ∷ codes "--cells" ∷ codes "1" ∷ []) ≡ Err (Unknown 2)
+unfolding settings named past_files value_of
+no_room_of_go = refl
+
+no_room_of_cross : order_of (codes "cross" ∷ codes "a" ∷ codes "b" ∷ codes "--cells" ∷ codes "1" ∷ []) ≡ Err (Unknown 3)
+unfolding settings named past_files value_of
+no_room_of_cross = refl
 
 given_name : source_name (codes "cross" ∷ codes "a" ∷ codes "b" ∷ codes "-s" ∷ codes "-x" ∷ []) (Some 4) ≡ codes "-x"
 given_name = refl

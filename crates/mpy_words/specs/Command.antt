@@ -1,11 +1,11 @@
 -- The commands, the words that each names, and its options.
 use Rattle.std.specs.Prelude.{ℕ, Bool, true, false, List, [], ◌∷◌, Option, Some, None, codes, bytes_eq, if◌then◌else◌}
 use Rattle.mpy_words.specs.declared.order.Command.{Command}
-use Rattle.mpy_words.specs.declared.order.Command.TheVariants.{Go, Check, Dump, Cross, Merge}
+use Rattle.mpy_words.specs.declared.order.Command.TheVariants.{Go, Check, Dump, Cross, Merge, Run}
 use Rattle.mpy_words.specs.declared.order.Named.{Named}
 use Rattle.mpy_words.specs.declared.order.Named.TheVariants.{Source, File, Output}
 use Rattle.mpy_words.specs.declared.order.Setting.{Setting}
-use Rattle.mpy_words.specs.declared.order.Setting.TheVariants.{Level, StoredName}
+use Rattle.mpy_words.specs.declared.order.Setting.TheVariants.{Level, StoredName, Cells, Bytes, Steps}
 
 abbrev pub name_of : Named → List ℕ
 name_of Source = codes "SRC"
@@ -15,6 +15,9 @@ name_of Output = codes "OUT"
 abbrev pub spelling_of : Setting → List ℕ
 spelling_of Level = codes "-O"
 spelling_of StoredName = codes "-s"
+spelling_of Cells = codes "--cells"
+spelling_of Bytes = codes "--bytes"
+spelling_of Steps = codes "--steps"
 
 -- the command of a first word
 abbrev pub command_of : List ℕ → Option Command
@@ -23,7 +26,8 @@ command_of word =
     else (if bytes_eq word (codes "check") then Some Check
     else (if bytes_eq word (codes "dump") then Some Dump
     else (if bytes_eq word (codes "cross") then Some Cross
-    else (if bytes_eq word (codes "merge") then Some Merge else None))))
+    else (if bytes_eq word (codes "merge") then Some Merge
+    else (if bytes_eq word (codes "run") then Some Run else None)))))
 
 -- the words that stand behind a command
 abbrev pub names_of : Command → List Named
@@ -32,6 +36,7 @@ names_of Check = File ∷ []
 names_of Dump = File ∷ []
 names_of Cross = Source ∷ File ∷ []
 names_of Merge = Output ∷ []
+names_of Run = File ∷ []
 
 -- does the command take files behind these, as many as there are?
 abbrev pub takes_files : Command → Bool
@@ -40,6 +45,14 @@ takes_files Check = false
 takes_files Dump = false
 takes_files Cross = false
 takes_files Merge = true
+takes_files Run = false
+
+-- the option of a run that a word is
+abbrev pub run_setting_of : List ℕ → Option Setting
+run_setting_of word =
+    if bytes_eq word (codes "--cells") then Some Cells
+    else (if bytes_eq word (codes "--bytes") then Some Bytes
+    else (if bytes_eq word (codes "--steps") then Some Steps else None))
 
 -- the option that a word behind these is
 abbrev pub setting_of : Command → List ℕ → Option Setting
@@ -47,6 +60,7 @@ setting_of Go word = if bytes_eq word (codes "-O") then Some Level else None
 setting_of Check word = None
 setting_of Dump word = None
 setting_of Merge word = None
+setting_of Run word = run_setting_of word
 setting_of Cross word =
     if bytes_eq word (codes "-O") then Some Level
     else (if bytes_eq word (codes "-s") then Some StoredName else None)

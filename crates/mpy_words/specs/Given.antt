@@ -2,29 +2,61 @@
 use Rattle.std.specs.Prelude.{ℕ, ◌≤◌, ◌<◌, Bool, List, Option, Some, None, IfSome, is_some, option_map, unwrap_or}
 use Rattle.mpy_words.specs.declared.order.Command.{Command}
 use Rattle.mpy_words.specs.declared.order.Setting.{Setting}
-use Rattle.mpy_words.specs.declared.order.Setting.TheVariants.{Level, StoredName}
+use Rattle.mpy_words.specs.declared.order.Setting.TheVariants.{Level, StoredName, Cells, Bytes, Steps}
 use Rattle.mpy_words.specs.declared.order.Order.{Order}
 use Rattle.mpy_words.specs.declared.given.Given.{Given}
 use Rattle.mpy_words.specs.Number.{number_of}
 
 abbrev pub none_given : Given
-none_given = record { level = None; stored_name = None }
+none_given = record { level = None; stored_name = None; cells = None; bytes = None; steps = None }
 
 abbrev pub is_given : Given → Setting → Bool
 is_given given Level = is_some given.level
 is_given given StoredName = is_some given.stored_name
+is_given given Cells = is_some given.cells
+is_given given Bytes = is_some given.bytes
+is_given given Steps = is_some given.steps
+
+-- the greatest room and the greatest count of steps
+abbrev pub most_cells : ℕ
+most_cells = 4194304
+
+abbrev pub most_bytes : ℕ
+most_bytes = 16777216
+
+abbrev pub most_steps : ℕ
+most_steps = 1000000000000
 
 -- The options with one more, whose value is the word at this place: a number up to the option's greatest one, or any word,
 -- which is kept by its place.
 abbrev pub with_option : Given → Setting → ℕ → List ℕ → Option Given
 with_option given Level at word = option_map (λ level. record given { level = Some level }) (number_of 3 word)
 with_option given StoredName at word = Some (record given { stored_name = Some at })
+with_option given Cells at word = option_map (λ cells. record given { cells = Some cells }) (number_of most_cells word)
+with_option given Bytes at word = option_map (λ bytes. record given { bytes = Some bytes }) (number_of most_bytes word)
+with_option given Steps at word = option_map (λ steps. record given { steps = Some steps }) (number_of most_steps word)
 
 -- what is ordered, with each option that wasn't given at its default
 abbrev pub order_with : Command → Given → Order
-order_with command given = record { command = command; level = unwrap_or given.level 0; stored_name = given.stored_name }
+order_with command given = record {
+  command = command;
+  level = unwrap_or given.level 0;
+  stored_name = given.stored_name;
+  cells = unwrap_or given.cells 65536;
+  bytes = unwrap_or given.bytes 262144;
+  steps = unwrap_or given.steps 10000000;
+}
 
 -- each number within its option's bounds, each place below the count of words
 pub record IsBounded (count : ℕ) (given : Given) : Type 0 where
   pub level : IfSome given.level (λ level. level ≤ 3)
   pub stored_name : IfSome given.stored_name (λ at. at < count)
+  pub cells : IfSome given.cells (λ cells. cells ≤ most_cells)
+  pub bytes : IfSome given.bytes (λ bytes. bytes ≤ most_bytes)
+  pub steps : IfSome given.steps (λ steps. steps ≤ most_steps)
+
+-- the room and the steps of an order are within their bounds
+pub record RunsWithin (order : Order) : Type 0 where
+  pub cells : order.cells ≤ most_cells
+  pub bytes : order.bytes ≤ most_bytes
+  pub steps : order.steps ≤ most_steps

@@ -10,11 +10,28 @@ use crate::order::{Command, Order, Setting};
 /// The greatest level of optimization.
 const MAX_LEVEL: u64 = 3;
 
+/// The greatest room of an arena, and the room of a run that gives none.
+const MAX_CELLS: u64 = 4_194_304;
+
+const MAX_BYTES: u64 = 16_777_216;
+
+const DEFAULT_CELLS: u32 = 65_536;
+
+const DEFAULT_BYTES: u32 = 262_144;
+
+/// The greatest count of steps, and that of a run that gives none.
+const MAX_STEPS: u64 = 1_000_000_000_000;
+
+const DEFAULT_STEPS: u64 = 10_000_000;
+
 /// The values of the options that were given: numbers, and the places of words.
 #[derive(Clone, Copy, Debug, PartialEq, Eq)]
 pub struct Given {
     pub level: Option<u8>,
     pub stored_name: Option<usize>,
+    pub cells: Option<u32>,
+    pub bytes: Option<u32>,
+    pub steps: Option<u64>,
 }
 
 impl Given {
@@ -25,6 +42,9 @@ impl Given {
         Given {
             level: None,
             stored_name: None,
+            cells: None,
+            bytes: None,
+            steps: None,
         }
     }
 
@@ -35,6 +55,9 @@ impl Given {
         match setting {
             Setting::Level => self.level.is_some(),
             Setting::StoredName => self.stored_name.is_some(),
+            Setting::Cells => self.cells.is_some(),
+            Setting::Bytes => self.bytes.is_some(),
+            Setting::Steps => self.steps.is_some(),
         }
     }
 
@@ -47,14 +70,35 @@ impl Given {
             Setting::Level => match number(MAX_LEVEL, word) {
                 Some(level) => Some(Given {
                     level: Some(level as u8),
-                    stored_name: self.stored_name,
+                    ..self
                 }),
                 None => None,
             },
             Setting::StoredName => Some(Given {
-                level: self.level,
                 stored_name: Some(at),
+                ..self
             }),
+            Setting::Cells => match number(MAX_CELLS, word) {
+                Some(cells) => Some(Given {
+                    cells: Some(cells as u32),
+                    ..self
+                }),
+                None => None,
+            },
+            Setting::Bytes => match number(MAX_BYTES, word) {
+                Some(bytes) => Some(Given {
+                    bytes: Some(bytes as u32),
+                    ..self
+                }),
+                None => None,
+            },
+            Setting::Steps => match number(MAX_STEPS, word) {
+                Some(steps) => Some(Given {
+                    steps: Some(steps),
+                    ..self
+                }),
+                None => None,
+            },
         }
     }
 
@@ -66,6 +110,9 @@ impl Given {
             command,
             level: self.level.unwrap_or(0),
             stored_name: self.stored_name,
+            cells: self.cells.unwrap_or(DEFAULT_CELLS),
+            bytes: self.bytes.unwrap_or(DEFAULT_BYTES),
+            steps: self.steps.unwrap_or(DEFAULT_STEPS),
         }
     }
 }

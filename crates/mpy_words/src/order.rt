@@ -16,6 +16,8 @@ pub enum Command {
     Cross,
     /// `merge OUT FILE..`
     Merge,
+    /// `run FILE`
+    Run,
 }
 
 /// A word that a command names.
@@ -34,6 +36,12 @@ pub enum Setting {
     Level,
     /// `-s`, the name that a file stores of its source.
     StoredName,
+    /// `--cells`, the cells of the arena of a run.
+    Cells,
+    /// `--bytes`, the bytes of the texts of its arena.
+    Bytes,
+    /// `--steps`, the steps that a run may take.
+    Steps,
 }
 
 /// What words order. A named word stands at its place behind the command, so the first one at 1.
@@ -44,6 +52,12 @@ pub struct Order {
     pub level: u8,
     /// The place of the name that the file is to store of its source, where one was given.
     pub stored_name: Option<usize>,
+    /// The cells of the arena of a run, 4,194,304 at most.
+    pub cells: u32,
+    /// The bytes of the texts of its arena, 16,777,216 at most.
+    pub bytes: u32,
+    /// The steps that a run may take, 1,000,000,000,000 at most.
+    pub steps: u64,
 }
 
 /// Why words are of no order: the first fault from left to right.
@@ -84,6 +98,9 @@ impl Setting {
         match self {
             Setting::Level => "-O",
             Setting::StoredName => "-s",
+            Setting::Cells => "--cells",
+            Setting::Bytes => "--bytes",
+            Setting::Steps => "--steps",
         }
     }
 }

@@ -2,7 +2,7 @@
 
 ghost use Rattle.std.specs.Prelude.{◌≡◌, ◌≤◌, ◌<◌, length, map, string_bytes, IfOk, IfSome};
 ghost use Rattle.mpy_words.specs.Command as commands;
-ghost use Rattle.mpy_words.specs.Given.{none_given};
+ghost use Rattle.mpy_words.specs.Given.{none_given, RunsWithin};
 ghost use Rattle.mpy_words.specs.Words as spec;
 
 use crate::given::Given;
@@ -17,6 +17,19 @@ fn command(word: &str) -> Option<Command>
         "dump" => Some(Command::Dump),
         "cross" => Some(Command::Cross),
         "merge" => Some(Command::Merge),
+        "run" => Some(Command::Run),
+        _ => None,
+    }
+}
+
+/// An option of a command that runs a file.
+fn run_setting(word: &str) -> Option<Setting>
+    ensures { result ≡ commands.run_setting_of word.now }
+{
+    match word {
+        "--cells" => Some(Setting::Cells),
+        "--bytes" => Some(Setting::Bytes),
+        "--steps" => Some(Setting::Steps),
         _ => None,
     }
 }
@@ -28,6 +41,7 @@ fn setting(command: Command, word: &str) -> Option<Setting>
         Command::Go if word == "-O" => Some(Setting::Level),
         Command::Cross if word == "-O" => Some(Setting::Level),
         Command::Cross if word == "-s" => Some(Setting::StoredName),
+        Command::Run => run_setting(word),
         _ => None,
     }
 }
@@ -38,7 +52,7 @@ fn names(command: Command) -> &'static [Named]
 {
     match command {
         Command::Go => &[Named::Source],
-        Command::Check | Command::Dump => &[Named::File],
+        Command::Check | Command::Dump | Command::Run => &[Named::File],
         Command::Cross => &[Named::Source, Named::File],
         Command::Merge => &[Named::Output],
     }
@@ -58,7 +72,7 @@ fn takes_files(command: Command) -> bool
     ensures { result ≡ commands.takes_files command }
 {
     match command {
-        Command::Go | Command::Check | Command::Dump | Command::Cross => false,
+        Command::Go | Command::Check | Command::Dump | Command::Cross | Command::Run => false,
         Command::Merge => true,
     }
 }
@@ -89,6 +103,7 @@ fn settings(count: usize, command: Command, words: &[String]) -> Result<Order, W
     ensures same { IfOk result (λ order. order.command ≡ command) }
     ensures level { IfOk result (λ order. order.level ≤ 3) }
     ensures stored_name { IfOk result (λ order. IfSome order.stored_name (λ at. at < count)) }
+    ensures run { IfOk result RunsWithin }
 {
     let mut given = Given::none();
     let mut rest = words;
@@ -120,6 +135,7 @@ fn named(count: usize, command: Command, words: &[String]) -> Result<Order, Word
     ensures named { IfOk result (λ order. length (commands.names_of order.command) ≤ length words.now) }
     ensures level { IfOk result (λ order. order.level ≤ 3) }
     ensures stored_name { IfOk result (λ order. IfSome order.stored_name (λ at. at < count)) }
+    ensures run { IfOk result RunsWithin }
 {
     let mut rest = words;
     for wanted in names(command) {
@@ -149,6 +165,9 @@ pub fn order_of(words: &[String]) -> Result<Order, WordFault>
 
     // The name to store is one of the words.
     ensures stored_name { IfOk result (λ order. IfSome order.stored_name (λ at. at < length words.now)) }
+
+    // The room and the steps are within their bounds.
+    ensures run { IfOk result RunsWithin }
 {
     let Some((first, behind)) = words.split_first() else {
         return Err(WordFault::NoCommand);

@@ -1,0 +1,125 @@
+//! The command `run`.
+
+ghost use Rattle.library_runs.specs.Runs.{sight};
+ghost use Rattle.std.specs.Prelude.{◌≡◌, List, ℕ, [], false, IfOk, IfErr};
+ghost use Rattle.mpy_io.specs.Count.{Counts};
+ghost use Rattle.library_files.specs.Ends.{BeginsWith, HoldsModules};
+ghost use Rattle.library_files.specs.Loads.{Loaded};
+ghost use Rattle.mpy_tree.specs.Raw.{Module};
+ghost use Rattle.mpy_tool.specs.Line.{Says};
+ghost use Rattle.mpy_tool.specs.declared.ending.Ending.TheVariants.{Done};
+ghost use Rattle.mpy_tool.specs.Ending.{is_folder_fault, is_out_fault, is_said};
+ghost use Rattle.mpy_tool.specs.Merge.{Refuses, failed_in};
+ghost use Rattle.mpy_tool.specs.Run as spec;
+ghost use Rattle.mpy_tool.specs.Run.{HoldsMain, LoadsOf, RefusesLibrary, Runs};
+
+use crate::base::base_of;
+use crate::check::verified;
+use crate::ending::{Ending, Stop};
+use bc_library::Library;
+use bc_verify::Verified;
+use library_files::{LoadFault, load};
+use library_runs::{RunEnd, run_library};
+use mpy_base::{Refused, Room};
+use mpy_io::{Folder, Port, ReadFault, Sink};
+use mpy_reader::FileFault;
+use port_set::PortSet;
+use std::alloc::Global;
+
+/// The verified module of the file of this name and how many bytes the file has, or what keeps it from being one.
+fn main_of<F: Folder>(
+    alloc: Global,
+    name: &str,
+    folder: &mut F,
+) -> Result<(Verified, usize), Ending>
+    ensures main { IfOk result (λ main. HoldsMain (F.files folder.old) name.now main.0 main.1) }
+    ensures refused { IfErr result (Refuses (F.files folder.old) name.now) }
+    ensures counts { Counts (F.count folder.old) (F.count folder.new) (failed_in result) }
+    ensures files { F.files folder.new ≡ F.files folder.old }
+{
+    let bytes = match folder.read(alloc, name) {
+        Ok(bytes) => bytes,
+        Err(ReadFault::Absent) => return Err(Ending::Absent),
+        Err(ReadFault::TooLong) => return Err(Ending::Unread(FileFault::TooBig)),
+        Err(ReadFault::Failed) => return Err(Ending::ReadFault),
+        Err(ReadFault::NoMemory) => return Err(Ending::NoMemory),
+    };
+    match verified(alloc, &bytes) {
+        Ok(main) => Ok((main, bytes.len())),
+        Err(ending) => Err(ending),
+    }
+}
+
+/// Why a library isn't loaded.
+fn load_ending(refused: Refused<LoadFault>) -> Ending
+    ensures { result ≡ spec.load_end refused }
+{
+    match refused {
+        Refused::Fault(LoadFault::Past(limit)) => Ending::Stopped(Stop::Past(limit)),
+        Refused::Fault(LoadFault::Failed(read)) => Ending::Stopped(Stop::LibraryFault(read.path)),
+        Refused::NoMemory => Ending::NoMemory,
+    }
+}
+
+/// The library of the file of this name, or what keeps it from being loaded.
+fn library_of<F: Folder>(alloc: Global, name: &str, folder: &mut F) -> Result<Library, Ending>
+    ensures loaded { IfOk result (λ library. LoadsOf (F.files folder.old) name.now (Loaded library)) }
+    ensures begins { IfOk result (λ library. (m : Module) × BeginsWith m library) }
+    ensures holds { IfOk result HoldsModules }
+    ensures refused { IfErr result (RefusesLibrary (F.files folder.old) name.now) }
+    ensures counts { Counts (F.count folder.old) (F.count folder.new) (failed_in result) }
+    ensures files { F.files folder.new ≡ F.files folder.old }
+{
+    let (main, size) = match main_of(alloc, name, folder) {
+        Ok(main) => main,
+        Err(ending) => return Err(ending),
+    };
+    match load(alloc, folder, base_of(name.as_bytes()), main, size) {
+        Ok(library) => Ok(library),
+        Err(refused) => Err(load_ending(refused)),
+    }
+}
+
+/// How a run of a file ended whose library's run ended so.
+fn ending_of(end: RunEnd, steps: u64) -> Ending
+    ensures { result ≡ spec.ending_of end steps }
+{
+    match end {
+        RunEnd::Ended => Ending::Done,
+        RunEnd::Raised => Ending::Stopped(Stop::Raised),
+        RunEnd::Memory => Ending::Stopped(Stop::Memory),
+        RunEnd::Limit => Ending::Stopped(Stop::Steps(steps)),
+        RunEnd::WriteFault => Ending::WriteFault,
+        RunEnd::NoMemory => Ending::NoMemory,
+    }
+}
+
+/// Runs the file of this name, in an arena of this room, for these steps at most. What is printed is handed on before anything is
+/// said of the run's end.
+pub(crate) fn run_file<F: Folder, S: Sink, P: Port, E: Sink>(
+    alloc: Global,
+    name: &str,
+    room: Room,
+    steps: u64,
+    folder: &mut F,
+    out: &mut S,
+    ports: &mut PortSet<P>,
+    say: &mut E,
+) -> Ending
+    ensures went { (said : List ℕ)
+        × Runs (F.files folder.old) name.now room steps (sight S.told P.seen out.old ports.old) (sight S.told P.seen out.new ports.new) said result
+        × Says (E.told say.old) (E.told say.new) (E.count say.old) (E.count say.new) said }
+    ensures flushed { result ≡ Done → S.held out.new ≡ [] }
+    ensures silent { is_said result ≡ false → say.new ≡ say.old }
+    ensures folder_counts { Counts (F.count folder.old) (F.count folder.new) (is_folder_fault result) }
+    ensures out_counts { Counts (S.count out.old) (S.count out.new) (is_out_fault result) }
+    ensures files { F.files folder.new ≡ F.files folder.old }
+{
+    match library_of(alloc, name, folder) {
+        Ok(library) => {
+            let end = run_library(alloc, &library, 0, room, steps, out, ports, say);
+            ending_of(end, steps)
+        }
+        Err(ending) => ending,
+    }
+}
