@@ -117,13 +117,6 @@ fn main(rt: HostRuntime) -> ExitCode {
         return ExitCode::from(refuse(&mut say, ErrorKind::OutOfMemory));
     }
     let mut ports = PortSet::new(ports);
-    let status = mpy(
-        alloc,
-        &words,
-        &mut folder,
-        &mut out,
-        &mut say,
-        &mut ports,
-    );
+    let status = mpy(alloc, &words, &mut folder, &mut out, &mut say, &mut ports);
     ExitCode::from(status)
 }

@@ -35,14 +35,7 @@ fn a_flush_that_fails(rt: HostRuntime) -> Result<(), Fail> {
     let mut out = OutSink::gathering(alloc, Full)?;
     let mut say = MemSink::new(alloc, Vec::new(alloc));
     let mut ports: PortSet<ScriptPort> = PortSet::new(Vec::new(alloc));
-    let status = mpy(
-        alloc,
-        &words,
-        &mut folder,
-        &mut out,
-        &mut say,
-        &mut ports,
-    );
+    let status = mpy(alloc, &words, &mut folder, &mut out, &mut say, &mut ports);
     assert_eq!(rt; status, 8);
     assert_eq!(rt; say.bytes(), b"mpy: write fault out\n".as_slice());
     Ok(())
