@@ -50,7 +50,7 @@ abbrev pub IsFront : Base → List ℕ → Type 0
 IsFront below front =
     ((front ≡ 0x4d ∷ 0x49 ∷ 1 ∷ 0x1f ∷ []) × (below.texts ≡ []) × (below.names ≡ []))
     ⊎ ((texts names : List ℕ) × (front ≡ 0x4d ∷ 0x49 ∷ 2 ∷ 0x1f ∷ (texts ++ names))
-      × Spells texts (length below.texts) × Spells names (length below.names))
+    × Spells texts (length below.texts) × Spells names (length below.names))
 
 -- no two are one
 abbrev pub Differ : List (List ℕ) → List (List ℕ) → Type 0

@@ -52,7 +52,10 @@ pub fn use_of(pool: &Pool, used: u64, n: u32) -> Result<(&[u8], u64), Refused<Im
     ensures { Gives (λ found. (found.0.now, found.1)) result (opening.use_of pool.now used n) }
 {
     let text = text_in_turn(pool, used, n)?;
-    Ok((text, used.max((u64::from(n) + 1).saturating_sub(u64::from(FIRST_OWN)))))
+    Ok((
+        text,
+        used.max((u64::from(n) + 1).saturating_sub(u64::from(FIRST_OWN))),
+    ))
 }
 
 /// The text behind the last dot of a name.
@@ -140,13 +143,7 @@ fn qstr<'a>(
 }
 
 /// `count` entries.
-fn qstrs<'a>(
-    alloc: Global,
-    pool: &Pool,
-    count: u32,
-    used: u64,
-    bytes: &'a [u8],
-) -> Field<'a, Table>
+fn qstrs<'a>(alloc: Global, pool: &Pool, count: u32, used: u64, bytes: &'a [u8]) -> Field<'a, Table>
     ensures { Gives (λ found. (found.0, found.1.now)) result
         (times count (opening.qstr pool.now) (record { qstrs = []; used = used }) bytes.now) }
 {
@@ -163,12 +160,7 @@ fn qstrs<'a>(
 
 /// A module's table of texts: its number of entries, and these.
 #[tactic(auto, unfolding(crate::specs::Opening::qstr_table))]
-pub fn qstr_table<'a>(
-    alloc: Global,
-    pool: &Pool,
-    used: u64,
-    bytes: &'a [u8],
-) -> Field<'a, Table>
+pub fn qstr_table<'a>(alloc: Global, pool: &Pool, used: u64, bytes: &'a [u8]) -> Field<'a, Table>
     ensures { Gives (λ found. (found.0, found.1.now)) result (opening.qstr_table pool.now used bytes.now) }
 {
     let (n, rest) = count(bytes, MAX_TABLE)?;
