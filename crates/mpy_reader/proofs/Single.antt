@@ -245,11 +245,11 @@ pub header_single : (bytes : List ℕ) → IsSingle (header bytes)
 header_single bytes = record { same = header_same bytes }
 
 -- steps
-count_single : (bytes : List ℕ) → IsSingle (count bytes)
+pub count_single : (bytes : List ℕ) → IsSingle (count bytes)
 unfolding count
 count_single bytes = bind_single _ _ (number_single bytes) (λ n. bind_single _ _ (judge_single _ _) (λ _. pure_single n))
 
-many_single : {A : Type 0} (field : List ℕ → Field A) → ((bytes : List ℕ) → IsSingle (field bytes)) → (n : ℕ) (bytes : List ℕ) → IsSingle (many n field bytes)
+pub many_single : {A : Type 0} (field : List ℕ → Field A) → ((bytes : List ℕ) → IsSingle (field bytes)) → (n : ℕ) (bytes : List ℕ) → IsSingle (many n field bytes)
 unfolding many
 many_single field one zero bytes = pure_single ([], bytes)
 many_single field one (suc n) bytes =
@@ -283,7 +283,7 @@ tag_single inner one tag rest =
     choose_single (eqb tag 1) _ _ (pure_single _) (choose_single (eqb tag 2) _ _ (pure_single _) (choose_single (eqb tag 3) _ _ (pure_single _)
     (choose_single (eqb tag 5) _ _ (str_single rest) (choose_single (eqb tag 7) _ _ (int_single rest) (choose_single (eqb tag 10) _ _ (one rest) (refuse_single _))))))
 
-object_single : (levels : ℕ) (bytes : List ℕ) → IsSingle (object levels bytes)
+pub object_single : (levels : ℕ) (bytes : List ℕ) → IsSingle (object levels bytes)
 unfolding object
 object_single zero bytes = bind_single _ _ (byte_single bytes) (λ tag. tag_single (λ _. refuse TooBig) (λ _. refuse_single TooBig) tag.0 tag.1)
 object_single (suc levels) bytes = bind_single _ _ (byte_single bytes) (λ tag. tag_single (tuple (object levels)) (tuple_single (object levels) (object_single levels)) tag.0 tag.1)
@@ -309,7 +309,7 @@ unfolding children
 children_single inner one true bytes = bind_single _ _ (count_single bytes) (λ n. many_single inner one n.0 n.1)
 children_single inner one false bytes = pure_single _
 
-code_single : (levels texts : ℕ) (bytes : List ℕ) → IsSingle (code levels texts bytes)
+pub code_single : (levels texts : ℕ) (bytes : List ℕ) → IsSingle (code levels texts bytes)
 unfolding code element
 code_single zero texts bytes = refuse_single TooBig
 code_single (suc levels) texts bytes =

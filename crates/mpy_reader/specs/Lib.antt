@@ -1,2 +1,3 @@
+pub mod Body
 pub mod Fault
 pub mod Reading

@@ -1,6 +1,7 @@
 //! Modules read from the bytes of files.
 #![tactic(auto)]
 
+mod body;
 mod code;
 mod fault;
 mod field;
@@ -9,5 +10,6 @@ mod object;
 mod own;
 mod qstr;
 
+pub use body::{ModuleBody, body_law, read_body};
 pub use fault::FileFault;
 pub use file::{file_law, read};

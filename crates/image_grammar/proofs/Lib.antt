@@ -1,0 +1,4 @@
+pub mod Fine
+pub mod Inversion
+pub mod Steps
+pub mod Times
