@@ -1,13 +1,13 @@
 -- Counts of faults, before and behind calls of ports.
-use Rattle.std.proofs.Common.{◌≡◌, ℕ, ℤ, zero, suc, ◌+◌, ◌<◌, ◌≤◌, true, false, Bool, List, [], ◌∷◌, map, Option, Some, None, Result, is_err, inl, inr, refl, sym, ap, subst, ◌∙◌, arith}
-use Rattle.std.specs.Prelude.{IsTrue, IfSome, slice_get, slice_set}
+use Rattle.std.proofs.Common.{◌≡◌, ℕ, ℤ, zero, suc, ◌+◌, ◌-◌, ◌^◌, ◌<◌, ◌≤◌, true, false, Bool, List, [], ◌∷◌, length, map, Option, Some, None, Result, Ok, Err, is_err, inl, inr, refl, sym, ap, subst, ◌∙◌, arith}
+use Rattle.std.specs.Prelude.{◌⊎◌, IsTrue, IfSome, slice_get, slice_set, min}
 use Rattle.std.proofs.Common.{option_map}
 use Rattle.std.proofs.lemmas.Option.{slice_get-map}
 use Rattle.mpy_base.specs.World.{PortState}
 use Rattle.mpy_io.specs.Count.{Counts, Rose}
 use Rattle.mpy_io.specs.Ports.{PortView, IsFailing, Puts, Gets, called, after_put, after_get}
 use Rattle.port_set.specs.Calls.{CallsOne}
-use Rattle.port_set.specs.Counts.{told_faults, RisesWithTold, Rises, CountsKeep, RoseBeyond, RisesAsTold, IsAccounted, AreAccounted, Unfailed}
+use Rattle.port_set.specs.Counts.{told_faults, IsFull, RisesWithTold, IsGreater, Rises, CountsKeep, RoseBeyond, RisesAsTold, IsAccounted, AreAccounted, Unfailed}
 use Rattle.port_set.proofs.Listed.{next_most, next_fine}
 
 -- one port
