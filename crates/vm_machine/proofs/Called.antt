@@ -3,6 +3,7 @@ use Rattle.std.proofs.Common.{◌≡◌, ℕ, ◌+◌, ◌-◌, ◌<◌, ◌≤�
 use Rattle.std.specs.Prelude.{min}
 use Rattle.mpy_base.specs.Val.{PlainWorld}
 use Rattle.mpy_io.specs.declared.fault.Failed.{Failed as SinkFault}
+use Rattle.port_set.proofs.Counting.{counts_same}
 use Rattle.bc_library.specs.Shelf.{Shelf}
 use Rattle.bc_machine.specs.Machine.{steps}
 use Rattle.bc_machine.specs.State.{State}
@@ -88,7 +89,7 @@ module _ {S : Type 0} (told : S → Option (List ℕ)) (count : S → ℕ) (shel
 
         strayed : (p : Program) (of : IsProgramOf shelf p) (w : PlainWorld) → Agree told before w
             → called.Strays p call.callee old.operands old.arena (with_modules p.tables w old.modules) before.ports behind.ports
-            → Strays told p old w (n + 1)
+            → Strays told p old w (n + 1) before.ports behind.ports
         unfolding runs_to
         strayed p of w agree s = record {
           taken = n;
@@ -96,6 +97,7 @@ module _ {S : Type 0} (told : S → Option (List ℕ)) (count : S → ℕ) (shel
           there = record old { paid = old.paid + n };
           between = before;
           runs = runs_to p of w agree;
+          goes_on = h.goes_on;
           given = old.operands;
           call = call;
           stands = record {
@@ -108,6 +110,8 @@ module _ {S : Type 0} (told : S → Option (List ℕ)) (count : S → ℕ) (shel
           };
           after_call = behind.ports;
           strays = s;
+          earlier = counts_same before.ports;
+          later = counts_same behind.ports;
         }
 
         pub call_made : Runs told shelf old before behind (n + 1) (record mid { paid = 0 })
@@ -131,6 +135,7 @@ module _ {S : Type 0} (told : S → Option (List ℕ)) (count : S → ℕ) (shel
           there = record old { paid = old.paid + n };
           between = before;
           runs = runs_to p of w agree;
+          goes_on = h.goes_on;
           text = f.text;
           puts = f.puts;
           onwards = f.onwards;

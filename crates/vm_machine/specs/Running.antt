@@ -1,8 +1,9 @@
 -- What a run of the machine does, with a sink for the output and ports.
-use Rattle.std.specs.Prelude.{◌≡◌, ◌⊎◌, ◌<◌, ℕ, List, ◌++◌, Option, Some, true}
+use Rattle.std.specs.Prelude.{◌≡◌, ◌⊎◌, ◌<◌, ℕ, List, ◌++◌, Option, Some, None, true}
 use Rattle.mpy_base.specs.Val.{PlainWorld}
 use Rattle.mpy_io.specs.Ports.{PortView}
 use Rattle.port_set.specs.Calls.{Tell}
+use Rattle.port_set.specs.Counts.{CountsKeep}
 use Rattle.bc_library.specs.Shelf.{Shelf}
 use Rattle.bc_machine.specs.Machine.{steps}
 use Rattle.bc_machine.specs.Step.{step}
@@ -50,19 +51,23 @@ module _ {S : Type 0} (told : S → Option (List ℕ)) where
       pub agree : Agree behind after
       pub steps : steps p.library taken (machine_of p old w) ≡ machine_of p new after
 
-    -- A port failed, though the machine's call of it doesn't fail, and its count of faults rose. Up to that call, which comes within
-    -- these steps, the run is the machine's
-    pub record Strays (most : ℕ) : Type 0 where
+    -- A port failed, though the machine's call of it doesn't fail, and its count of faults rose beyond the faults that it tells. Up to
+    -- that call, which comes within these steps, the run is the machine's. No port's count fell from the ports before the run to those
+    -- before the call, and from those behind the call to those behind the run
+    pub record Strays (most : ℕ) (before behind : List PortView) : Type 0 where
       pub taken : ℕ
       pub within : taken < most
       pub there : Vm
       pub between : Outside S
       pub runs : RunsFor taken there between
+      pub goes_on : there.end ≡ None
       pub given : Given
       pub call : Invocation
       pub stands : StandsAtCall p there given call
       pub after_call : List PortView
       pub strays : called.Strays p call.callee given there.arena (with_modules p.tables runs.after there.modules) between.ports after_call
+      pub earlier : CountsKeep before between.ports
+      pub later : CountsKeep after_call behind
 
     -- The sink failed in a put. Up to it, within these steps, the run is the machine's, whose next step puts a text; a front of
     -- that text was put
@@ -72,6 +77,7 @@ module _ {S : Type 0} (told : S → Option (List ℕ)) where
       pub there : Vm
       pub between : Outside S
       pub runs : RunsFor taken there between
+      pub goes_on : there.end ≡ None
       pub text : List ℕ
       pub puts : Puts told count between.out behind.out true text
       pub onwards : List Call
@@ -82,8 +88,8 @@ module _ {S : Type 0} (told : S → Option (List ℕ)) where
     -- the machine's run is made for these steps, in each program of the library, where no port fails that the machine's doesn't.
     -- A run that has ended stays as it is
     abbrev pub Runs : (new : Vm) → Type 0
-    Runs new = (p : Program) → IsProgramOf shelf p → (w : PlainWorld) → Agree before w → RunsFor p old w most new behind ⊎ Strays p old w most
+    Runs new = (p : Program) → IsProgramOf shelf p → (w : PlainWorld) → Agree before w → RunsFor p old w most new behind ⊎ Strays p old w most before.ports behind.ports
 
     -- the same up to a put in which the sink failed
     abbrev pub RunsToFailure : (count : S → ℕ) → Type 0
-    RunsToFailure count = (p : Program) → IsProgramOf shelf p → (w : PlainWorld) → Agree before w → SinkFails p old w count most behind ⊎ Strays p old w most
+    RunsToFailure count = (p : Program) → IsProgramOf shelf p → (w : PlainWorld) → Agree before w → SinkFails p old w count most behind ⊎ Strays p old w most before.ports behind.ports

@@ -2,6 +2,7 @@
 
 ghost use Rattle.std.specs.Prelude.{◌≡◌, ◌+◌, ◌<◌, ◌≤◌, ◌^◌, map, IfOk, OnErr, is_err};
 ghost use Rattle.mpy_io.specs.Count.{Counts};
+ghost use Rattle.port_set.specs.Counts.{CountsKeep};
 ghost use Rattle.vm_machine.specs.Machine.{IsVm};
 ghost use Rattle.vm_machine.specs.Running.{Runs, RunsToFailure};
 
@@ -29,6 +30,7 @@ pub fn run<S: Sink, P: Port>(
     ensures runs { IfOk result (λ done. Runs S.told library.now vm.old (record { out = out.old; ports = map P.seen ports.old }) (record { out = out.new; ports = map P.seen ports.new }) steps vm.new) }
     ensures failed { OnErr result (RunsToFailure S.told library.now vm.old (record { out = out.old; ports = map P.seen ports.old }) (record { out = out.new; ports = map P.seen ports.new }) steps S.count) }
     ensures counts { Counts (S.count out.old) (S.count out.new) (is_err result) }
+    ensures faults { CountsKeep (map P.seen ports.old) (map P.seen ports.new) }
     ensures paid { vm.new.paid ≤ vm.old.paid + steps }
 {
     let mut left = steps;

@@ -2,6 +2,7 @@
 
 ghost use Rattle.std.specs.Prelude.{◌≡◌, ◌+◌, ◌<◌, ◌≤◌, ◌^◌, map, IfOk, OnErr, None, is_err};
 ghost use Rattle.mpy_io.specs.Count.{Counts};
+ghost use Rattle.port_set.specs.Counts.{CountsKeep};
 ghost use Rattle.vm_fetching.specs.declared.instruction.Instruction.TheVariants as fetched_as;
 ghost use Rattle.vm_states.specs.Means.{Program};
 ghost use Rattle.vm_calling.specs.Taken.{CallsValue, IsTaken};
@@ -87,6 +88,7 @@ fn make_call<S: Sink, P: Port>(
     ensures kept { vm.new.end ≡ None → (p : Program) → IsProgramOf library.now p → HoldsKept p vm.new.arena.objects vm.new.frames }
     ensures called { Called S.told S.count library.now invocation.callee vm.old vm.new (record { out = out.old; ports = map P.seen ports.old }) (record { out = out.new; ports = map P.seen ports.new }) result }
     ensures counts { Counts (S.count out.old) (S.count out.new) (is_err result) }
+    ensures faults { CountsKeep (map P.seen ports.old) (map P.seen ports.new) }
 {
     step_law();
     raises_law();
@@ -141,6 +143,7 @@ fn step_call<S: Sink, P: Port>(
     ensures taken { IfOk result (λ taken. (0 < taken) × (taken ≤ most) × (vm.new.paid ≤ vm.old.paid + taken)) }
     ensures paid { OnErr result (vm.new.paid ≡ vm.old.paid) }
     ensures counts { Counts (S.count out.old) (S.count out.new) (is_err result) }
+    ensures faults { CountsKeep (map P.seen ports.old) (map P.seen ports.new) }
 {
     methods_law();
     let invocation = take_call(
@@ -194,6 +197,7 @@ pub(crate) fn step<S: Sink, P: Port>(
     ensures taken { IfOk result (λ taken. (0 < taken) × (taken ≤ most) × (vm.new.paid ≤ vm.old.paid + taken)) }
     ensures paid { OnErr result (vm.new.paid ≡ vm.old.paid) }
     ensures counts { Counts (S.count out.old) (S.count out.new) (is_err result) }
+    ensures faults { CountsKeep (map P.seen ports.old) (map P.seen ports.new) }
 {
     let (row, fetched) = fetch_at(vm, library, rows);
     let form = form_of(fetched.instruction);
@@ -234,6 +238,7 @@ pub(crate) fn advance<S: Sink, P: Port>(
     ensures taken { IfOk result (λ taken. (0 < taken) × (taken ≤ most) × (vm.new.paid ≤ vm.old.paid + taken)) }
     ensures paid { OnErr result (vm.new.paid ≡ vm.old.paid) }
     ensures counts { Counts (S.count out.old) (S.count out.new) (is_err result) }
+    ensures faults { CountsKeep (map P.seen ports.old) (map P.seen ports.new) }
 {
     match vm.end {
         Some(_end) => Ok(most),

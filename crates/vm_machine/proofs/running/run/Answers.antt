@@ -1,6 +1,7 @@
 use Rattle.std.proofs.Common.{ℕ, ◌-◌, refl, subst, arith}
 use Rattle.std.specs.Prelude.{map}
 use Rattle.mpy_io.specs.Count.{Rose}
+use Rattle.port_set.proofs.Counting.{counts_on}
 use Rattle.vm_machine.proofs.Runs as runs
 use Rattle.vm_machine.proofs.running.run.Goals as goal
 
@@ -25,7 +26,7 @@ overflow_sub-left g c = let a = c.in-Ok.ensures.taken in omega (arith, a.1)
 pub steps-preserved : goal.steps-preserved
 steps-preserved g c =
     let a = c.in-Ok.ensures.taken in
-    runs.goes_on g.S.Sink.told g.S.Sink.count c.args.library.now c.args.vm.now c.steps.vm (record { out = c.args.out.now; ports = map g.P.Port.seen c.args.ports.now }) (record { out = c.steps.out; ports = map g.P.Port.seen c.steps.ports }) c.args.steps c.steps.left c.steps.invariant c.in-Ok.taken (c.steps.left - c.in-Ok.taken) c.advance.new.vm (record { out = c.advance.new.out; ports = map g.P.Port.seen c.advance.new.ports }) refl a.1 c.advance.ensures.vm c.in-Ok.ensures.runs c.in-Ok.ensures.counts a.2
+    runs.goes_on g.S.Sink.told g.S.Sink.count c.args.library.now c.args.vm.now c.steps.vm (record { out = c.args.out.now; ports = map g.P.Port.seen c.args.ports.now }) (record { out = c.steps.out; ports = map g.P.Port.seen c.steps.ports }) c.args.steps c.steps.left c.steps.invariant c.in-Ok.taken (c.steps.left - c.in-Ok.taken) c.advance.new.vm (record { out = c.advance.new.out; ports = map g.P.Port.seen c.advance.new.ports }) refl a.1 c.advance.ensures.vm c.in-Ok.ensures.runs c.in-Ok.ensures.counts c.advance.ensures.faults a.2
 
 pub steps-smaller : goal.steps-smaller
 steps-smaller g c = let a = c.in-Ok.ensures.taken in omega (arith, a.0, a.1)
@@ -34,7 +35,7 @@ pub returns-in-Err-clause-vm : goal.returns-in-Err-clause-vm
 returns-in-Err-clause-vm g c = c.advance.ensures.vm
 
 pub returns-in-Err-clause-failed : goal.returns-in-Err-clause-failed
-returns-in-Err-clause-failed g c = runs.has_failed g.S.Sink.told g.S.Sink.count c.args.library.now c.args.vm.now c.steps.vm (record { out = c.args.out.now; ports = map g.P.Port.seen c.args.ports.now }) (record { out = c.steps.out; ports = map g.P.Port.seen c.steps.ports }) c.args.steps c.steps.left c.steps.invariant (record { out = c.advance.new.out; ports = map g.P.Port.seen c.advance.new.ports }) c.in-Err.ensures.failed
+returns-in-Err-clause-failed g c = runs.has_failed g.S.Sink.told g.S.Sink.count c.args.library.now c.args.vm.now c.steps.vm (record { out = c.args.out.now; ports = map g.P.Port.seen c.args.ports.now }) (record { out = c.steps.out; ports = map g.P.Port.seen c.steps.ports }) c.args.steps c.steps.left c.steps.invariant (record { out = c.advance.new.out; ports = map g.P.Port.seen c.advance.new.ports }) c.advance.ensures.faults c.in-Err.ensures.failed
 
 pub returns-in-Err-clause-counts : goal.returns-in-Err-clause-counts
 returns-in-Err-clause-counts g c = subst (λ (n : ℕ). Rose n (g.S.Sink.count c.advance.new.out)) c.steps.invariant.counts c.in-Err.ensures.counts
@@ -53,3 +54,9 @@ returns-clause-counts g c = c.steps.invariant.counts
 
 pub returns-clause-paid : goal.returns-clause-paid
 returns-clause-paid g c = let a = c.steps.invariant.paid in omega (arith, a)
+
+pub returns-in-Err-clause-faults : goal.returns-in-Err-clause-faults
+returns-in-Err-clause-faults g c = counts_on (map g.P.Port.seen c.args.ports.now) (map g.P.Port.seen c.steps.ports) (map g.P.Port.seen c.advance.new.ports) c.steps.invariant.faults c.advance.ensures.faults
+
+pub returns-clause-faults : goal.returns-clause-faults
+returns-clause-faults g c = c.steps.invariant.faults

@@ -1,5 +1,6 @@
 use Rattle.std.proofs.Common.{refl, ap, arith}
 use Rattle.std.specs.Prelude.{is_some, map}
+use Rattle.port_set.proofs.Counting.{counts_same}
 use Rattle.vm_machine.proofs.Runs.{ended_runs}
 use Rattle.vm_machine.proofs.stepping.advance.Goals as goal
 
@@ -53,3 +54,9 @@ returns-in-None-clause-paid g c = c.step.ensures.paid
 
 pub returns-in-None-clause-counts : goal.returns-in-None-clause-counts
 returns-in-None-clause-counts g c = c.step.ensures.counts
+
+pub returns-in-Some-clause-faults : goal.returns-in-Some-clause-faults
+returns-in-Some-clause-faults g c = counts_same (map g.P.Port.seen c.args.ports.now)
+
+pub returns-in-None-clause-faults : goal.returns-in-None-clause-faults
+returns-in-None-clause-faults g c = c.step.ensures.faults

@@ -1,5 +1,6 @@
 use Rattle.std.proofs.Common.{refl, subst}
 use Rattle.std.specs.Prelude.{map}
+use Rattle.port_set.proofs.Counting.{counts_same}
 use Rattle.vm_fetching.specs.declared.instruction.Instruction.TheVariants as fetched
 use Rattle.vm_machine.specs.Forms.{HasForm}
 use Rattle.vm_machine.proofs.Fetched.{at_form}
@@ -90,3 +91,9 @@ step_act-requires-clause-some g c = c.requires.some
 
 pub step_act-requires-clause-countable : goal.step_act-requires-clause-countable
 step_act-requires-clause-countable g c = c.requires.countable
+
+pub returns-in-Some-clause-faults : goal.returns-in-Some-clause-faults
+returns-in-Some-clause-faults g c = c.step_call.ensures.faults
+
+pub returns-in-None-clause-faults : goal.returns-in-None-clause-faults
+returns-in-None-clause-faults g c = counts_same (map g.P.Port.seen c.args.ports.now)

@@ -1,5 +1,6 @@
 use Rattle.std.proofs.Common.{◌≡◌, ◌+◌, [], refl, arith}
 use Rattle.std.specs.Prelude.{map}
+use Rattle.port_set.proofs.Counting.{counts_same}
 use Rattle.py_effects.specs.Ends.{new_world}
 use Rattle.vm_unwinding.specs.Ends.{with_modules}
 use Rattle.vm_machine.proofs.Called.{at_call, call_paid, call_made, vm_called, call_failed, vm_failed}
@@ -120,3 +121,12 @@ overflow_add-bound g c = omega (arith, c.requires.countable)
 
 pub overflow_add-taken : goal.overflow_add-taken
 overflow_add-taken g c = omega (arith, c.in-Some.ensures.before.1, c.ranges.most)
+
+pub returns-in-None-clause-faults : goal.returns-in-None-clause-faults
+returns-in-None-clause-faults g c = counts_same (map g.P.Port.seen c.args.ports.now)
+
+pub returns-in-Ok-clause-faults : goal.returns-in-Ok-clause-faults
+returns-in-Ok-clause-faults g c = c.make_call.ensures.faults
+
+pub returns-in-Err-clause-faults : goal.returns-in-Err-clause-faults
+returns-in-Err-clause-faults g c = c.make_call.ensures.faults
