@@ -8,6 +8,8 @@ use Rattle.mpy_base.specs.World.{PortState}
 use Rattle.mpy_io.specs.Ports.{PortView}
 use Rattle.mpy_io.specs.Told.{AppendsFront}
 use Rattle.port_set.specs.Calls.{Tell}
+use Rattle.port_set.specs.Counts.{AreAccounted}
+use Rattle.port_set.proofs.Counting.{beyond_within, none_beyond}
 use Rattle.py_effects.specs.Ends as plain
 use Rattle.py_effects.specs.Ends.{Run, new_world, end_report}
 use Rattle.py_effects.specs.Growth.{Starts}
@@ -34,7 +36,7 @@ use Rattle.std.specs.Prelude.{slice_get}
 use Rattle.library_runs.specs.declared.ending.RunEnd.{RunEnd}
 use Rattle.library_runs.specs.declared.ending.RunEnd.TheVariants as ends
 use Rattle.library_runs.specs.Reports.{answer_of, said_by}
-use Rattle.library_runs.specs.Runs.{Sight, IsSaid, IsOver, Ran, CutShort, Strayed, EndsSo, Says, end_of, said_of, begins_in}
+use Rattle.library_runs.specs.Runs.{Sight, IsSaid, IsOver, Ran, CutShort, Strayed, EndsSo, RunsAs, RunsSo, Says, end_of, said_of, begins_in}
 
 -- ends
 -- ====
@@ -205,8 +207,8 @@ module _ (starts_behind : StartsBehind) (runs_behind : RunsBehind) (put_stands :
       }
 
   -- a port strayed
-  pub strayed : (most : ℕ) → Strays told p vm here most → Strayed p name room most ports printed
-  strayed most s = record {
+  pub strayed : (most : ℕ) (old now : Sight) → Strays told p vm here most old.ports now.ports → Strayed p name room most ports printed old now
+  strayed most old now s = record {
     vm = vm;
     starts = begins;
     strays = record {
@@ -215,12 +217,16 @@ module _ (starts_behind : StartsBehind) (runs_behind : RunsBehind) (put_stands :
       there = s.there;
       between = record { out = told s.between.out; ports = s.between.ports };
       runs = record { after = s.runs.after; agree = record { output = s.runs.agree.output; ports = s.runs.agree.ports }; steps = s.runs.steps };
+      goes_on = s.goes_on;
       given = s.given;
       call = s.call;
       stands = s.stands;
       after_call = s.after_call;
       strays = s.strays;
+      earlier = s.earlier;
+      later = s.later;
     };
+    rose = beyond_within s.strays.failed.number old.ports s.between.ports s.after_call now.ports s.earlier s.strays.rose s.later;
   }
 
 -- the answers of a run that is over
@@ -250,12 +256,12 @@ module _ (starts_behind : StartsBehind) (runs_behind : RunsBehind) (put_stands :
   -- the sink failed in the run
   pub cut_in_all : (count : S → ℕ) (said : List ℕ) → RunsToFailure told shelf vm before behind steps count
       → (p : Program) → IsProgramOf shelf p → (ports : List PortState) (printed : List ℕ) → told before.out ≡ Some printed → Tell before.ports ports
-      → EndsSo p n.name room steps ports old (record { out = told behind.out; ports = behind.ports }) ends.WriteFault said ⊎ Strayed p n.name room steps ports printed
+      → EndsSo p n.name room steps ports old (record { out = told behind.out; ports = behind.ports }) ends.WriteFault said ⊎ Strayed p n.name room steps ports printed old (record { out = told behind.out; ports = behind.ports })
   cut_in_all count said failed p is ports printed e t =
       let opens = opened p n.name ports is (main_named shelf p is main n at) in
       elim (failed p is (begins_in p n.name room 0 ports printed) (agrees starts_behind runs_behind put_stands told shelf p is n.name room ports printed vm opens before e t)) [
         | inl f ↦ inl (cut starts_behind runs_behind put_stands told shelf p is n.name room ports printed vm opens count steps old behind e f)
-        | inr s ↦ inr (strayed starts_behind runs_behind put_stands told shelf p is n.name room ports printed vm opens steps s)
+        | inr s ↦ inr (strayed starts_behind runs_behind put_stands told shelf p is n.name room ports printed vm opens steps old (record { out = told behind.out; ports = behind.ports }) s)
       ]
 
   module _ (new : Vm) (runs : MachineRuns told shelf vm before behind steps new) (flushed : Option (List ℕ)) (kept : Keeps (told behind.out) flushed) where
@@ -264,20 +270,32 @@ module _ (starts_behind : StartsBehind) (runs_behind : RunsBehind) (put_stands :
 
     -- the run was made, and what it printed was handed on
     pub over_in_all : (p : Program) → IsProgramOf shelf p → (ports : List PortState) (printed : List ℕ) → told before.out ≡ Some printed → Tell before.ports ports
-        → EndsSo p n.name room steps ports old now (answer_of new.end) (said_by shelf new new.end) ⊎ Strayed p n.name room steps ports printed
+        → EndsSo p n.name room steps ports old now (answer_of new.end) (said_by shelf new new.end) ⊎ Strayed p n.name room steps ports printed old now
     over_in_all p is ports printed e t =
         let opens = opened p n.name ports is (main_named shelf p is main n at) in
         elim (runs p is (begins_in p n.name room 0 ports printed) (agrees starts_behind runs_behind put_stands told shelf p is n.name room ports printed vm opens before e t)) [
           | inl x ↦ inl (over p n.name room steps ports old now new.end (said_by shelf new new.end) (ran starts_behind runs_behind put_stands told shelf p is n.name room ports printed vm opens steps new old now behind e x kept refl))
-          | inr s ↦ inr (strayed starts_behind runs_behind put_stands told shelf p is n.name room ports printed vm opens steps s)
+          | inr s ↦ inr (strayed starts_behind runs_behind put_stands told shelf p is n.name room ports printed vm opens steps old now s)
         ]
 
     -- it was made, and what it printed couldn't be handed on
     pub unflushed_in_all : (said : List ℕ) → (p : Program) → IsProgramOf shelf p → (ports : List PortState) (printed : List ℕ) → told before.out ≡ Some printed → Tell before.ports ports
-        → EndsSo p n.name room steps ports old now ends.WriteFault said ⊎ Strayed p n.name room steps ports printed
+        → EndsSo p n.name room steps ports old now ends.WriteFault said ⊎ Strayed p n.name room steps ports printed old now
     unflushed_in_all said p is ports printed e t =
         let opens = opened p n.name ports is (main_named shelf p is main n at) in
         elim (runs p is (begins_in p n.name room 0 ports printed) (agrees starts_behind runs_behind put_stands told shelf p is n.name room ports printed vm opens before e t)) [
           | inl x ↦ inl (ran_unflushed starts_behind runs_behind put_stands told shelf p is n.name room ports printed vm opens steps new old now behind e x kept refl)
-          | inr s ↦ inr (strayed starts_behind runs_behind put_stands told shelf p is n.name room ports printed vm opens steps s)
+          | inr s ↦ inr (strayed starts_behind runs_behind put_stands told shelf p is n.name room ports printed vm opens steps old now s)
         ]
+
+-- where each port's count of faults is accounted for
+-- ==================================================
+
+pub none_strayed : (p : Program) (name : Name) (room : Room) (steps : ℕ) (ports : List PortState) (printed : List ℕ) (old now : Sight) → AreAccounted old.ports now.ports → Strayed p name room steps ports printed old now → ⊥
+none_strayed p name room steps ports printed old now all s = none_beyond old.ports now.ports all s.strays.strays.failed.number s.rose
+
+pub runs_so : (shelf : Shelf) (name : Name) (room : Room) (steps : ℕ) (old now : Sight) (end : RunEnd) (said : List ℕ) → AreAccounted old.ports now.ports → RunsAs shelf name room steps old now end said → RunsSo shelf name room steps old now end said
+runs_so shelf name room steps old now end said all runs p is ports printed e t = elim (runs.runs p is ports printed e t) [
+  | inl so ↦ so
+  | inr s ↦ absurd (none_strayed p name room steps ports printed old now all s)
+]

@@ -8,6 +8,7 @@ use Rattle.mpy_io.specs.Count.{Rose}
 use Rattle.mpy_io.specs.Ports.{PortView}
 use Rattle.mpy_io.specs.Told.{AppendsFront}
 use Rattle.port_set.specs.Calls.{Tell}
+use Rattle.port_set.specs.Counts.{RoseBeyond}
 use Rattle.bc_library.specs.Shelf.{Shelf}
 use Rattle.py_effects.specs.Ends as plain
 use Rattle.py_effects.specs.Ends.{End, Run, end_report, new_world}
@@ -107,11 +108,13 @@ module _ (p : Program) (name : Name) (room : Room) (steps : ℕ) (ports : List P
   abbrev pub begins_in : List ℕ → PlainWorld
   begins_in printed = behind printed (new_world room.cells room.bytes ports)
 
-  -- a port failed, though the machine's call of it doesn't fail. Up to that call the run is the machine's
-  pub record Strayed (printed : List ℕ) : Type 0 where
+  -- A port failed, though the machine's call of it doesn't fail. Up to that call the run is the machine's. In this run the port's count
+  -- of faults rose beyond the faults that the port tells
+  pub record Strayed (printed : List ℕ) (old new : Sight) : Type 0 where
     pub vm : Vm
     pub starts : start p.library name (begins_in printed) ≡ machine_of p vm (begins_in printed)
-    pub strays : Strays (λ (told : Option (List ℕ)). told) p vm (begins_in printed) steps
+    pub strays : Strays (λ (told : Option (List ℕ)). told) p vm (begins_in printed) steps old.ports new.ports
+    pub rose : RoseBeyond strays.strays.failed.number old.ports new.ports
 
   abbrev pub EndsSo : (old new : Sight) → RunEnd → List ℕ → Type 0
   EndsSo old new ends.Ended said = Ran old new ends.Ended said
@@ -127,7 +130,13 @@ pub record RunsAs (shelf : Shelf) (name : Name) (room : Room) (steps : ℕ) (old
   pub program : (p : Program) × IsProgramOf shelf p
   pub is_said : IsSaid end said
   pub runs : (p : Program) → IsProgramOf shelf p → (ports : List PortState) (printed : List ℕ) → old.out ≡ Some printed → Tell old.ports ports
-      → EndsSo p name room steps ports old new end said ⊎ Strayed p name room steps ports printed
+      → EndsSo p name room steps ports old new end said ⊎ Strayed p name room steps ports printed old new
+
+-- the same of a run in which no port strayed
+abbrev pub RunsSo : Shelf → Name → Room → (steps : ℕ) → (old new : Sight) → RunEnd → (said : List ℕ) → Type 0
+RunsSo shelf name room steps old new end said =
+    (p : Program) → IsProgramOf shelf p → (ports : List PortState) (printed : List ℕ) → old.out ≡ Some printed → Tell old.ports ports
+    → EndsSo p name room steps ports old new end said
 
 -- a text was put, or a put failed behind a front of it, and then the count of faults rose
 abbrev pub Says : (old new : Option (List ℕ)) (count_old count_new : ℕ) → List ℕ → Type 0

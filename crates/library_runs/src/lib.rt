@@ -2,8 +2,10 @@
 #![tactic(auto)]
 
 mod ending;
+mod laws;
 mod reporting;
 mod running;
 
 pub use ending::RunEnd;
+pub use laws::accounted_law;
 pub use running::run_library;

@@ -1,7 +1,8 @@
 //! The run of a library.
 
-ghost use Rattle.std.specs.Prelude.{◌≡◌, ◌<◌, [], List, ℕ, false, length, Some, slice_get};
+ghost use Rattle.std.specs.Prelude.{◌≡◌, ◌<◌, [], List, ℕ, false, length, map, Some, slice_get};
 ghost use Rattle.mpy_io.specs.Count.{Counts};
+ghost use Rattle.port_set.specs.Counts.{CountsKeep};
 ghost use Rattle.bc_library.specs.Shelf.{Named};
 ghost use Rattle.vm_programs.specs.Programs.{IsRunnable};
 ghost use Rattle.library_runs.specs.declared.ending.RunEnd.{RunEnd as End};
@@ -40,6 +41,7 @@ pub fn run_library<S: Sink, P: Port, E: Sink>(
     ensures flushed { IsOver result → S.held out.new ≡ [] }
     ensures none { result ≡ End.NoMemory → (out.new ≡ out.old) × (ports.new ≡ ports.old) }
     ensures counts { Counts (S.count out.old) (S.count out.new) (is_write_fault result) }
+    ensures faults { CountsKeep (map P.seen ports.old) (map P.seen ports.new) }
 {
     program_law();
     output_law();

@@ -1,5 +1,6 @@
 use Rattle.std.proofs.Common.{◌≡◌, List, ℕ, [], map, refl, sym, subst, inl}
 use Rattle.std.proofs.KnownBytes.{Appends-nil}
+use Rattle.port_set.proofs.Counting.{counts_same}
 use Rattle.library_runs.specs.declared.ending.RunEnd.{RunEnd}
 use Rattle.library_runs.specs.Reports.{said_by}
 use Rattle.library_runs.specs.Runs.{RunsAs, sight}
@@ -45,3 +46,18 @@ returns-clause-runs g c = λ n at. (
   },
   inl (Appends-nil (g.E.Sink.told c.args.say.now), refl),
 )
+
+pub returns-in-Err-run-clause-faults : goal.returns-in-Err-run-clause-faults
+returns-in-Err-run-clause-faults g c = c.run.ensures.faults
+
+pub returns-in-Ok-flush-clause-faults : goal.returns-in-Ok-flush-clause-faults
+returns-in-Ok-flush-clause-faults g c = c.run.ensures.faults
+
+pub returns-clause-faults : goal.returns-clause-faults
+returns-clause-faults g c = c.run.ensures.faults
+
+pub returns-in-Err-open-clause-faults : goal.returns-in-Err-open-clause-faults
+returns-in-Err-open-clause-faults g c = counts_same (map g.P.Port.seen c.args.ports.now)
+
+pub returns-in-Err-clause-faults : goal.returns-in-Err-clause-faults
+returns-in-Err-clause-faults g c = counts_same (map g.P.Port.seen c.args.ports.now)

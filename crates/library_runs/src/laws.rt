@@ -1,0 +1,19 @@
+//! What the ports' counts of faults tell of a run.
+
+ghost use Rattle.std.specs.Prelude.{ℕ, List};
+ghost use Rattle.mpy_base.specs.declared.room.Room.{Room};
+ghost use Rattle.mpy_base.specs.World.{PortState};
+ghost use Rattle.port_set.specs.Counts.{AreAccounted};
+ghost use Rattle.bc_library.specs.Shelf.{Shelf};
+ghost use Rattle.bc_machine.specs.Library.{Name};
+ghost use Rattle.vm_states.specs.Means.{Program};
+ghost use Rattle.library_runs.specs.declared.ending.RunEnd.{RunEnd};
+ghost use Rattle.library_runs.specs.Runs.{RunsAs, RunsSo, Sight, Strayed};
+
+/// Where each port's count of faults is accounted for behind a run, no port strayed in it: it is the machine's run.
+pub fn accounted_law()
+    ensures none { (p : Program) (name : Name) (room : Room) (steps : ℕ) (ports : List PortState) (printed : List ℕ) (old new : Sight)
+        → AreAccounted old.ports new.ports → Strayed p name room steps ports printed old new → ⊥ }
+    ensures runs { (shelf : Shelf) (name : Name) (room : Room) (steps : ℕ) (old new : Sight) (end : RunEnd) (said : List ℕ)
+        → AreAccounted old.ports new.ports → RunsAs shelf name room steps old new end said → RunsSo shelf name room steps old new end said }
+{}
