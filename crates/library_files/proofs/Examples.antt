@@ -10,7 +10,7 @@ use Rattle.mpy_tree.specs.Raw.{Module}
 use Rattle.bc_library.specs.Shelf.{no_entries, with_refused}
 use Rattle.library_files.specs.declared.entry.Entry.TheVariants as entries
 use Rattle.library_files.specs.Asked.{asked_for}
-use Rattle.library_files.specs.Comes.{IsVerifiedFile}
+use Rattle.library_files.specs.Comes.{ComesTo, IsVerifiedFile}
 use Rattle.library_files.specs.Imports.{imports_of}
 use Rattle.library_files.specs.Loads.{Loaded, Loads, ends, next, taken}
 
@@ -69,7 +69,7 @@ no_files : FileOf
 no_files name = None
 
 -- a name that the folder doesn't have isn't in the library
-absent : Loads no_files [] no_entries 0 [] (codes "a" ∷ []) [] (Loaded no_entries)
+absent : Loads (ComesTo no_files []) no_entries 0 [] (codes "a" ∷ []) [] (Loaded no_entries)
 unfolding no_files
 absent =
     next no_entries 0 (codes "a" ∷ []) [] (codes "a") [] (Loaded no_entries) refl
@@ -85,7 +85,7 @@ no_module m is =
     cc
 
 -- a file of no module is a refused entry
-refused : Loads one_byte [] no_entries 0 [] (codes "a" ∷ []) [] (Loaded (with_refused no_entries (codes "a")))
+refused : Loads (ComesTo one_byte []) no_entries 0 [] (codes "a" ∷ []) [] (Loaded (with_refused no_entries (codes "a")))
 unfolding one_byte
 refused =
     next no_entries 0 (codes "a" ∷ []) [] (codes "a") [] (Loaded (with_refused no_entries (codes "a"))) refl

@@ -1,6 +1,7 @@
 pub mod Walks
 pub mod Fronts
 pub mod Read
+pub mod Found
 pub mod Once
 pub mod Short
 pub mod Plain

@@ -15,10 +15,11 @@ use Rattle.library_files.specs.declared.entry.Entry.TheVariants as entries
 use Rattle.library_files.specs.declared.limit.Limit.{Limit}
 use Rattle.library_files.specs.declared.limit.Limit.TheVariants.{TooMany}
 use Rattle.library_files.specs.declared.limit.LoadFault.{LoadFault}
-use Rattle.library_files.specs.declared.limit.LoadFault.TheVariants.{Past, Failed}
+use Rattle.library_files.specs.declared.limit.LoadFault.TheVariants.{Past, Failed, Unaccepted}
 use Rattle.library_files.specs.declared.loading.Begun.{Begun}
 use Rattle.library_files.specs.Imports.{Imports}
-use Rattle.library_files.specs.Ends.{is_failed, FailsInBase}
+use Rattle.library_files.specs.Comes.{OfFiles}
+use Rattle.library_files.specs.Ends.{is_failed, FailsAmong}
 use Rattle.library_files.specs.Loads.{has_place, limit_within, limit_of}
 use Rattle.library_files.specs.Steps.{AddsImports, AddsModules, AreShort, Step, Takes, places_left}
 use Rattle.library_files.proofs.Short.{short_both, imports_short}
@@ -156,10 +157,13 @@ pub takes_unfailed : (old new : Begun) (name : List ℕ) (entry : Entry) (result
 takes_unfailed old new name entry (Ok done) takes = refl
 takes_unfailed old new name entry (Err (refused.Fault (Past limit))) takes = refl
 takes_unfailed old new name entry (Err (refused.Fault (Failed failed))) takes = absurd takes
+takes_unfailed old new name entry (Err (refused.Fault (Unaccepted source))) takes = absurd takes
 takes_unfailed old new name entry (Err refused.NoMemory) takes = refl
 
-pub takes_at : (base : List ℕ) (old new : Begun) (name : List ℕ) (entry : Entry) (result : Result (Unit {0}) (Refused LoadFault)) → Takes old new name entry result → FailsInBase base result
-takes_at base old new name entry (Ok done) takes = tt
-takes_at base old new name entry (Err (refused.Fault (Past limit))) takes = tt
-takes_at base old new name entry (Err (refused.Fault (Failed failed))) takes = absurd takes
-takes_at base old new name entry (Err refused.NoMemory) takes = tt
+pub takes_at : (ending : List ℕ) (Comes : OfFiles) (base : List ℕ) (old new : Begun) (name : List ℕ) (entry : Entry) (result : Result (Unit {0}) (Refused LoadFault)) → Takes old new name entry result
+    → FailsAmong ending Comes base result
+takes_at ending Comes base old new name entry (Ok done) takes = tt
+takes_at ending Comes base old new name entry (Err (refused.Fault (Past limit))) takes = tt
+takes_at ending Comes base old new name entry (Err (refused.Fault (Failed failed))) takes = absurd takes
+takes_at ending Comes base old new name entry (Err (refused.Fault (Unaccepted source))) takes = absurd takes
+takes_at ending Comes base old new name entry (Err refused.NoMemory) takes = tt

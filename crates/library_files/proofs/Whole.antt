@@ -13,9 +13,10 @@ use Rattle.library_files.specs.declared.limit.Limit.{Limit}
 use Rattle.library_files.specs.declared.limit.LoadFault.{LoadFault}
 use Rattle.library_files.specs.declared.limit.LoadFault.TheVariants as faults
 use Rattle.library_files.specs.declared.loading.Begun.{Begun}
+use Rattle.library_files.specs.Comes.{OfNames}
 use Rattle.library_files.specs.Imports.{Imports}
 use Rattle.library_files.specs.Ends.{BeginsWith, EndsIn}
-use Rattle.library_files.specs.Loads.{Loading, Loaded, Past, Loads, LoadsBy, LoadsFrom, limit_of, main_name}
+use Rattle.library_files.specs.Loads.{Loading, Loaded, Past, Unaccepted, Loads, LoadsBy, LoadsWith, limit_of, main_name}
 use Rattle.library_files.specs.Steps.{AddsImports, AddsModules, AreModules, AreShort, BeginsBy, IsBegun, LoadsLeft, Takes}
 use Rattle.library_files.proofs.Taken.{all_both}
 use Rattle.library_files.proofs.Asks.{reverse_short}
@@ -45,61 +46,65 @@ module _ (main : Module) (size : ℕ) (first begun : Begun) (name : List ℕ) (e
   pub not_begun : (e : Refused LoadFault) → Takes first begun name (entries.Held main size) (Err e) → BeginsBy main size (Err e)
   not_begun (refused.Fault (faults.Past limit)) takes = from_empty (Some limit) takes
   not_begun (refused.Fault (faults.Failed failed)) takes = absurd takes
+  not_begun (refused.Fault (faults.Unaccepted source)) takes = absurd takes
   not_begun refused.NoMemory takes = tt
 
 -- what is left
 -- ============
 
-pub all_left : (told : Option FileOf) (base : List ℕ) (old new : Begun) (left : List (List ℕ)) (library : Shelf) → library ≡ new.library → IfSome told (λ files. LoadsLeft files base old new left (Ok tt))
-    → IfSome told (λ files. EndsIn (Loads files base old.library old.size [] left []) (Ok library))
-all_left None base old new left library is loads = tt
-all_left (Some files) base old new left library is loads = loads (Loaded library) (ap Loaded is)
+pub all_left : (Of : FileOf → OfNames) (told : Option FileOf) (old new : Begun) (left : List (List ℕ)) (library : Shelf) → library ≡ new.library → IfSome told (λ files. LoadsLeft (Of files) old new left (Ok tt))
+    → IfSome told (λ files. EndsIn (Loads (Of files) old.library old.size [] left []) (Ok library))
+all_left Of None old new left library is loads = tt
+all_left Of (Some files) old new left library is loads = loads (Loaded library) (ap Loaded is)
 
-ended_by : (files : FileOf) (base : List ℕ) (old new : Begun) (left : List (List ℕ)) (e : Refused LoadFault) → LoadsLeft files base old new left (Err e)
-    → EndsIn (Loads files base old.library old.size [] left []) (Err e)
-ended_by files base old new left (refused.Fault (faults.Past limit)) loads = loads
-ended_by files base old new left (refused.Fault (faults.Failed failed)) loads = tt
-ended_by files base old new left refused.NoMemory loads = tt
+ended_by : (Comes : OfNames) (old new : Begun) (left : List (List ℕ)) (e : Refused LoadFault) → LoadsLeft Comes old new left (Err e)
+    → EndsIn (Loads Comes old.library old.size [] left []) (Err e)
+ended_by Comes old new left (refused.Fault (faults.Past limit)) loads = loads
+ended_by Comes old new left (refused.Fault (faults.Failed failed)) loads = tt
+ended_by Comes old new left (refused.Fault (faults.Unaccepted source)) loads = loads
+ended_by Comes old new left refused.NoMemory loads = tt
 
-pub ended_left : (told : Option FileOf) (base : List ℕ) (old new : Begun) (left : List (List ℕ)) (e : Refused LoadFault) → IfSome told (λ files. LoadsLeft files base old new left (Err e))
-    → IfSome told (λ files. EndsIn (Loads files base old.library old.size [] left []) (Err e))
-ended_left None base old new left e loads = tt
-ended_left (Some files) base old new left e loads = ended_by files base old new left e loads
+pub ended_left : (Of : FileOf → OfNames) (told : Option FileOf) (old new : Begun) (left : List (List ℕ)) (e : Refused LoadFault) → IfSome told (λ files. LoadsLeft (Of files) old new left (Err e))
+    → IfSome told (λ files. EndsIn (Loads (Of files) old.library old.size [] left []) (Err e))
+ended_left Of None old new left e loads = tt
+ended_left Of (Some files) old new left e loads = ended_by (Of files) old new left e loads
 
 -- from the main module
 -- ====================
 
 module _ (main : Module) (size : ℕ) where
-  past_main : (files : FileOf) (base : List ℕ) (e : Refused LoadFault) → BeginsBy main size (Err e) → EndsIn (LoadsFrom files base main size) (Err e)
-  past_main files base (refused.Fault (faults.Past limit)) begins = subst (λ (o : Option Limit). LoadsBy o files base main size (Past limit)) (sym begins) refl
-  past_main files base (refused.Fault (faults.Failed failed)) begins = tt
-  past_main files base refused.NoMemory begins = tt
+  past_main : (Comes : OfNames) (e : Refused LoadFault) → BeginsBy main size (Err e) → EndsIn (LoadsWith Comes main size) (Err e)
+  past_main Comes (refused.Fault (faults.Past limit)) begins = subst (λ (o : Option Limit). LoadsBy o Comes main size (Past limit)) (sym begins) refl
+  past_main Comes (refused.Fault (faults.Failed failed)) begins = tt
+  past_main Comes (refused.Fault (faults.Unaccepted source)) begins = absurd begins
+  past_main Comes refused.NoMemory begins = tt
 
-  pub main_past : (told : Option FileOf) (base : List ℕ) (e : Refused LoadFault) → BeginsBy main size (Err e) → IfSome told (λ files. EndsIn (LoadsFrom files base main size) (Err e))
-  main_past None base e begins = tt
-  main_past (Some files) base e begins = past_main files base e begins
+  pub main_past : (Of : FileOf → OfNames) (told : Option FileOf) (e : Refused LoadFault) → BeginsBy main size (Err e) → IfSome told (λ files. EndsIn (LoadsWith (Of files) main size) (Err e))
+  main_past Of None e begins = tt
+  main_past Of (Some files) e begins = past_main (Of files) e begins
 
   module _ (begun : Begun) (left : List (List ℕ)) (is : IsBegun main size begun left) where
-    from_main : (files : FileOf) (base : List ℕ) (end : Loading) → Loads files base begun.library begun.size [] (reverse left) [] end → LoadsFrom files base main size end
-    from_main files base end h =
-        subst (λ (o : Option Limit). LoadsBy o files base main size end) (sym is.within) (
+    from_main : (Comes : OfNames) (end : Loading) → Loads Comes begun.library begun.size [] (reverse left) [] end → LoadsWith Comes main size end
+    from_main Comes end h =
+        subst (λ (o : Option Limit). LoadsBy o Comes main size end) (sym is.within) (
           reverse left,
           is.imports,
-          subst (λ (s : Shelf). Loads files base s size [] (reverse left) [] end) is.library_is
-              (subst (λ (n : ℕ). Loads files base begun.library n [] (reverse left) [] end) is.size_is h),
+          subst (λ (s : Shelf). Loads Comes s size [] (reverse left) [] end) is.library_is
+              (subst (λ (n : ℕ). Loads Comes begun.library n [] (reverse left) [] end) is.size_is h),
         )
 
-    main_by : (files : FileOf) (base : List ℕ) (result : Result Shelf (Refused LoadFault)) → EndsIn (Loads files base begun.library begun.size [] (reverse left) []) result
-        → EndsIn (LoadsFrom files base main size) result
-    main_by files base (Ok library) loads = from_main files base (Loaded library) loads
-    main_by files base (Err (refused.Fault (faults.Past limit))) loads = from_main files base (Past limit) loads
-    main_by files base (Err (refused.Fault (faults.Failed failed))) loads = tt
-    main_by files base (Err refused.NoMemory) loads = tt
+    main_by : (Comes : OfNames) (result : Result Shelf (Refused LoadFault)) → EndsIn (Loads Comes begun.library begun.size [] (reverse left) []) result
+        → EndsIn (LoadsWith Comes main size) result
+    main_by Comes (Ok library) loads = from_main Comes (Loaded library) loads
+    main_by Comes (Err (refused.Fault (faults.Past limit))) loads = from_main Comes (Past limit) loads
+    main_by Comes (Err (refused.Fault (faults.Failed failed))) loads = tt
+    main_by Comes (Err (refused.Fault (faults.Unaccepted source))) loads = from_main Comes (Unaccepted source) loads
+    main_by Comes (Err refused.NoMemory) loads = tt
 
-    pub main_loaded : (told : Option FileOf) (base : List ℕ) (result : Result Shelf (Refused LoadFault)) → IfSome told (λ files. EndsIn (Loads files base begun.library begun.size [] (reverse left) []) result)
-        → IfSome told (λ files. EndsIn (LoadsFrom files base main size) result)
-    main_loaded None base result loads = tt
-    main_loaded (Some files) base result loads = main_by files base result loads
+    pub main_loaded : (Of : FileOf → OfNames) (told : Option FileOf) (result : Result Shelf (Refused LoadFault)) → IfSome told (λ files. EndsIn (Loads (Of files) begun.library begun.size [] (reverse left) []) result)
+        → IfSome told (λ files. EndsIn (LoadsWith (Of files) main size) result)
+    main_loaded Of None result loads = tt
+    main_loaded Of (Some files) result loads = main_by (Of files) result loads
 
     pub main_held : AreModules begun.library.modules
     main_held = subst (λ (s : Shelf). AreModules s.modules) (sym is.library_is) (is.held, tt)

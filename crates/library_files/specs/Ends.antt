@@ -10,14 +10,15 @@ use Rattle.pkg_paths.specs.Paths.{candidates}
 use Rattle.bc_library.specs.Shelf.{Named, Shelf, module_at}
 use Rattle.library_files.specs.declared.limit.LoadFault.{LoadFault}
 use Rattle.library_files.specs.declared.limit.LoadFault.TheVariants as faults
-use Rattle.library_files.specs.Comes.{ending}
-use Rattle.library_files.specs.Loads.{Loading, Loaded, Past, main_name}
+use Rattle.library_files.specs.Comes.{OfFiles, ModuleFiles, ending}
+use Rattle.library_files.specs.Loads.{Loading, Loaded, Past, Unaccepted, main_name}
 
 -- loading ends as the answer says: a read that failed, and want of memory, say nothing
 abbrev pub EndsIn : (Ends : Loading → Type 0) → Result Shelf (Refused LoadFault) → Type 0
 EndsIn Ends (Ok library) = Ends (Loaded library)
 EndsIn Ends (Err (Fault (faults.Past limit))) = Ends (Past limit)
 EndsIn Ends (Err (Fault (faults.Failed failed))) = ⊤
+EndsIn Ends (Err (Fault (faults.Unaccepted source))) = Ends (Unaccepted source)
 EndsIn Ends (Err NoMemory) = ⊤
 
 -- a read failed outside
@@ -25,14 +26,22 @@ abbrev pub is_failed : {A : Type 0} → Result A (Refused LoadFault) → Bool
 is_failed (Ok done) = false
 is_failed (Err (Fault (faults.Past limit))) = false
 is_failed (Err (Fault (faults.Failed failed))) = true
+is_failed (Err (Fault (faults.Unaccepted source))) = false
 is_failed (Err NoMemory) = false
 
--- and then it was that of a file which a plain name may have in the base folder
+-- the file whose read failed is one that a plain name may have in the base folder; and so is one that isn't accepted, whatever
+-- the folder tells
+abbrev pub FailsAmong : {A : Type 0} → (suffix : List ℕ) → OfFiles → (base : List ℕ) → Result A (Refused LoadFault) → Type 0
+FailsAmong suffix Comes base (Ok done) = ⊤
+FailsAmong suffix Comes base (Err (Fault (faults.Past limit))) = ⊤
+FailsAmong suffix Comes base (Err (Fault (faults.Failed failed))) = (name : List ℕ) × IsPlain name × Contains (candidates base name suffix) failed.path
+FailsAmong suffix Comes base (Err (Fault (faults.Unaccepted source))) =
+    (name : List ℕ) × IsPlain name × Contains (candidates base name suffix) source.path × (bytes : List ℕ) × Comes source.path bytes (Err source.fault)
+FailsAmong suffix Comes base (Err NoMemory) = ⊤
+
+-- the same of files of modules, all of which are accepted
 abbrev pub FailsInBase : {A : Type 0} → (base : List ℕ) → Result A (Refused LoadFault) → Type 0
-FailsInBase base (Ok done) = ⊤
-FailsInBase base (Err (Fault (faults.Past limit))) = ⊤
-FailsInBase base (Err (Fault (faults.Failed failed))) = (name : List ℕ) × IsPlain name × Contains (candidates base name ending) failed.path
-FailsInBase base (Err NoMemory) = ⊤
+FailsInBase base result = FailsAmong ending ModuleFiles base result
 
 -- the first module is the main one
 abbrev pub BeginsWith : Module → Shelf → Type 0

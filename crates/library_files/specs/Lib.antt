@@ -1,5 +1,6 @@
 pub mod Imports
 pub mod Comes
+pub mod Search
 pub mod Asked
 pub mod Loads
 pub mod Ends

@@ -1,5 +1,5 @@
 -- The library of a main file: the modules that it imports, and those that these import, depth first.
-use Rattle.std.specs.Prelude.{◌≡◌, ℕ, ◌+◌, Bool, List, [], ◌∷◌, ◌++◌, length, codes, Option, Some, None, IsSome, nat_lt, if◌then◌else◌}
+use Rattle.std.specs.Prelude.{◌≡◌, ℕ, ◌+◌, Bool, List, [], ◌∷◌, ◌++◌, length, codes, Option, Some, None, IsSome, Ok, Err, nat_lt, if◌then◌else◌}
 use Rattle.mpy_base.specs.declared.limits.TheConstants.{MAX_MODULES, MAX_TABLE}
 use Rattle.mpy_io.specs.Files.{FileOf}
 use Rattle.mpy_tree.specs.Raw.{Module}
@@ -9,14 +9,16 @@ use Rattle.library_files.specs.declared.entry.Entry.TheVariants as entries
 use Rattle.library_files.specs.declared.limit.Limit.{Limit}
 use Rattle.library_files.specs.declared.limit.Limit.TheVariants.{TooMany, Names}
 use Rattle.library_files.specs.declared.limit.TheConstants.{MAX_LIBRARY_BYTES}
+use Rattle.library_files.specs.declared.limit.UnacceptedSource.{UnacceptedSource}
 use Rattle.library_files.specs.Imports.{Imports}
-use Rattle.library_files.specs.Comes.{ComesTo}
+use Rattle.library_files.specs.Comes.{OfNames, ComesTo}
 use Rattle.library_files.specs.Asked.{asked_for}
 
--- how loading ends: with the library, or at the file that passes a limit
+-- how loading ends: with the library, at the file that passes a limit, or at the source that isn't accepted
 pub data Loading : Type 0 where
   Loaded : Shelf → Loading
   Past : Limit → Loading
+  Unaccepted : UnacceptedSource → Loading
 
 -- an entry of a library
 -- =====================
@@ -56,47 +58,54 @@ EntryImports (entries.Held m size) names = Imports m names
 -- loading
 -- =======
 
--- From a library whose modules' files have that many bytes, with the names that are asked for together by one import,
--- the imports of the modules that were found under these, and the imports behind them.
-pub data Loads (files : FileOf) (base : List ℕ)
-    : (shelf : Shelf) → (size : ℕ) → (together found behind : List (List ℕ)) → Loading → Type 0 where
+-- Where names come to these: from a library whose modules' files have that many bytes, with the names that are asked for together
+-- by one import, the imports of the modules that were found under these, and the imports behind them.
+pub data Loads (Comes : OfNames) : (shelf : Shelf) → (size : ℕ) → (together found behind : List (List ℕ)) → Loading → Type 0 where
   -- no name is left
-  ends : (shelf : Shelf) (size : ℕ) → Loads files base shelf size [] [] [] (Loaded shelf)
+  ends : (shelf : Shelf) (size : ℕ) → Loads Comes shelf size [] [] [] (Loaded shelf)
   -- the next import is the first of the modules found last, or of those behind
   next : (shelf : Shelf) (size : ℕ) (found behind : List (List ℕ)) (name : List ℕ) (names : List (List ℕ)) (end : Loading)
       → found ++ behind ≡ name ∷ names
-      → Loads files base shelf size (asked_for name) [] names end
-      → Loads files base shelf size [] found behind end
+      → Loads Comes shelf size (asked_for name) [] names end
+      → Loads Comes shelf size [] found behind end
   -- the name is there
   known : (shelf : Shelf) (size : ℕ) (name : List ℕ) (together found behind : List (List ℕ)) (end : Loading)
       → IsSome (member_of shelf name)
-      → Loads files base shelf size together found behind end
-      → Loads files base shelf size (name ∷ together) found behind end
+      → Loads Comes shelf size together found behind end
+      → Loads Comes shelf size (name ∷ together) found behind end
+  -- its source isn't accepted
+  unaccepted : (shelf : Shelf) (size : ℕ) (name : List ℕ) (together found behind : List (List ℕ)) (source : UnacceptedSource)
+      → member_of shelf name ≡ None
+      → Comes name (Err source)
+      → Loads Comes shelf size (name ∷ together) found behind (Unaccepted source)
   -- its file passes a limit
   past : (shelf : Shelf) (size : ℕ) (name : List ℕ) (together found behind : List (List ℕ)) (entry : Entry) (limit : Limit)
       → member_of shelf name ≡ None
-      → ComesTo files base name entry
+      → Comes name (Ok entry)
       → limit_of shelf size name entry ≡ Some limit
-      → Loads files base shelf size (name ∷ together) found behind (Past limit)
+      → Loads Comes shelf size (name ∷ together) found behind (Past limit)
   -- its file is taken, or absent
   taken : (shelf : Shelf) (size : ℕ) (name : List ℕ) (together found behind : List (List ℕ)) (entry : Entry) (imports : List (List ℕ)) (end : Loading)
       → member_of shelf name ≡ None
-      → ComesTo files base name entry
+      → Comes name (Ok entry)
       → limit_of shelf size name entry ≡ None
       → EntryImports entry imports
-      → Loads files base (with_entry shelf name entry) (size_with size entry) together (found ++ imports) behind end
-      → Loads files base shelf size (name ∷ together) found behind end
+      → Loads Comes (with_entry shelf name entry) (size_with size entry) together (found ++ imports) behind end
+      → Loads Comes shelf size (name ∷ together) found behind end
 
 -- the name of the main module
 abbrev pub main_name : List ℕ
 main_name = codes "__main__"
 
-abbrev pub LoadsBy : Option Limit → FileOf → (base : List ℕ) → (main : Module) → (size : ℕ) → Loading → Type 0
-LoadsBy (Some limit) files base main size end = end ≡ Past limit
-LoadsBy None files base main size end =
-    (imports : List (List ℕ)) × Imports main imports × Loads files base (with_module no_entries main_name main) size [] imports [] end
+abbrev pub LoadsBy : Option Limit → OfNames → (main : Module) → (size : ℕ) → Loading → Type 0
+LoadsBy (Some limit) Comes main size end = end ≡ Past limit
+LoadsBy None Comes main size end =
+    (imports : List (List ℕ)) × Imports main imports × Loads Comes (with_module no_entries main_name main) size [] imports [] end
 
 -- from a main module, whose file has that many bytes
+abbrev pub LoadsWith : OfNames → (main : Module) → (size : ℕ) → Loading → Type 0
+LoadsWith Comes main size end = LoadsBy (limit_of no_entries 0 main_name (entries.Held main size)) Comes main size end
+
+-- the same from the files of modules in a base folder
 abbrev pub LoadsFrom : FileOf → (base : List ℕ) → (main : Module) → (size : ℕ) → Loading → Type 0
-LoadsFrom files base main size end =
-    LoadsBy (limit_of no_entries 0 main_name (entries.Held main size)) files base main size end
+LoadsFrom files base main size end = LoadsWith (ComesTo files base) main size end

@@ -5,7 +5,6 @@ use Rattle.std.specs.declared.alloc.Global.{Global}
 use Rattle.mpy_base.specs.declared.limits.TheConstants.{MAX_MODULES}
 use Rattle.mpy_base.specs.declared.refused.Refused.{Refused}
 use Rattle.mpy_base.specs.declared.refused.Refused.TheVariants.{Fault, NoMemory}
-use Rattle.mpy_io.specs.Files.{FileOf}
 use Rattle.mpy_tree.specs.File.{IsModule}
 use Rattle.mpy_tree.specs.Raw.{Module}
 use Rattle.pkg_paths.specs.Plain.{IsPlain}
@@ -15,10 +14,10 @@ use Rattle.bc_library.specs.Shelf.{Named, Shelf, no_entries, with_module}
 use Rattle.library_files.specs.declared.entry.Entry.{Entry}
 use Rattle.library_files.specs.declared.entry.Entry.TheVariants as entries
 use Rattle.library_files.specs.declared.limit.Limit.TheVariants as limits
-use Rattle.library_files.specs.declared.limit.FailedRead.{FailedRead}
 use Rattle.library_files.specs.declared.limit.LoadFault.{LoadFault}
-use Rattle.library_files.specs.declared.limit.LoadFault.TheVariants.{Past, Failed}
+use Rattle.library_files.specs.declared.limit.LoadFault.TheVariants.{Past, Failed, Unaccepted}
 use Rattle.library_files.specs.declared.loading.Begun.{Begun}
+use Rattle.library_files.specs.Comes.{OfNames}
 use Rattle.library_files.specs.Imports.{Imports}
 use Rattle.library_files.specs.Loads as loads
 use Rattle.library_files.specs.Loads.{Loading, Loads, limit_of, with_entry, size_with, EntryImports, main_name}
@@ -33,6 +32,7 @@ Takes old new name entry (Ok done) =
     (limit_of old.library old.size name entry ≡ None) × (new.library ≡ with_entry old.library name entry) × (new.size ≡ size_with old.size entry)
 Takes old new name entry (Err (Fault (Past limit))) = limit_of old.library old.size name entry ≡ Some limit
 Takes old new name entry (Err (Fault (Failed failed))) = ⊥
+Takes old new name entry (Err (Fault (Unaccepted source))) = ⊥
 Takes old new name entry (Err NoMemory) = ⊤
 
 -- what a library's fault of a name that wasn't there comes to
@@ -42,23 +42,19 @@ LimitComesTo (Fault lib.TooMany) refused = refused ≡ Fault (Past limits.TooMan
 LimitComesTo (Fault lib.Names) refused = refused ≡ Fault (Past limits.Names)
 LimitComesTo NoMemory refused = refused ≡ NoMemory
 
--- what a read that gave no file comes to
-abbrev pub ReadComesTo : Refused FailedRead → Refused LoadFault → Type 0
-ReadComesTo (Fault failed) refused = refused ≡ Fault (Failed failed)
-ReadComesTo NoMemory refused = refused ≡ NoMemory
-
--- loading from somewhere ends as from there on, or past the limit, where a step says so
+-- loading from somewhere ends as from there on, or past the limit or at the source that isn't accepted, where a step says so
 abbrev pub GoesOn : {A : Type 0} → (Ends : Loading → Type 0) → (EndsThen : A → Loading → Type 0) → Result A (Refused LoadFault) → Type 0
 GoesOn Ends EndsThen (Ok done) = (end : Loading) → EndsThen done end → Ends end
 GoesOn Ends EndsThen (Err (Fault (Past limit))) = Ends (loads.Past limit)
 GoesOn Ends EndsThen (Err (Fault (Failed failed))) = ⊤
+GoesOn Ends EndsThen (Err (Fault (Unaccepted source))) = Ends (loads.Unaccepted source)
 GoesOn Ends EndsThen (Err NoMemory) = ⊤
 
 -- where a name is asked for
-abbrev pub Asks : FileOf → (base : List ℕ) → (old new : Begun) → (name : List ℕ) → (before after : List (List ℕ)) → Result (Unit {0}) (Refused LoadFault) → Type 0
-Asks files base old new name before after result =
-    (together behind : List (List ℕ)) → GoesOn (Loads files base old.library old.size (name ∷ together) before behind)
-    (λ done. Loads files base new.library new.size together after behind) result
+abbrev pub Asks : OfNames → (old new : Begun) → (name : List ℕ) → (before after : List (List ℕ)) → Result (Unit {0}) (Refused LoadFault) → Type 0
+Asks Comes old new name before after result =
+    (together behind : List (List ℕ)) → GoesOn (Loads Comes old.library old.size (name ∷ together) before behind)
+    (λ done. Loads Comes new.library new.size together after behind) result
 
 -- a name that is asked for
 pub record IsAsked (name : List ℕ) : Type 0 where
@@ -69,21 +65,21 @@ abbrev pub AreAsked : List (List ℕ) → Type 0
 AreAsked names = AllByRecursion IsAsked names
 
 -- where names are asked for one after another
-abbrev pub AsksAll : FileOf → (base : List ℕ) → (old new : Begun) → (names before after : List (List ℕ)) → Result (Unit {0}) (Refused LoadFault) → Type 0
-AsksAll files base old new names before after result =
-    (behind : List (List ℕ)) → GoesOn (Loads files base old.library old.size names before behind)
-    (λ done. Loads files base new.library new.size [] after behind) result
+abbrev pub AsksAll : OfNames → (old new : Begun) → (names before after : List (List ℕ)) → Result (Unit {0}) (Refused LoadFault) → Type 0
+AsksAll Comes old new names before after result =
+    (behind : List (List ℕ)) → GoesOn (Loads Comes old.library old.size names before behind)
+    (λ done. Loads Comes new.library new.size [] after behind) result
 
 -- the same where none was found before
-abbrev pub AsksFound : FileOf → (base : List ℕ) → (old new : Begun) → (names : List (List ℕ)) → Result (Vec (List ℕ) Global) (Refused LoadFault) → Type 0
-AsksFound files base old new names result =
-    (behind : List (List ℕ)) → GoesOn (Loads files base old.library old.size names [] behind)
-    (λ found. Loads files base new.library new.size [] found.items behind) result
+abbrev pub AsksFound : OfNames → (old new : Begun) → (names : List (List ℕ)) → Result (Vec (List ℕ) Global) (Refused LoadFault) → Type 0
+AsksFound Comes old new names result =
+    (behind : List (List ℕ)) → GoesOn (Loads Comes old.library old.size names [] behind)
+    (λ found. Loads Comes new.library new.size [] found.items behind) result
 
 -- and for all the imports that are left
-abbrev pub LoadsLeft : FileOf → (base : List ℕ) → (old new : Begun) → (left : List (List ℕ)) → Result (Unit {0}) (Refused LoadFault) → Type 0
-LoadsLeft files base old new left result =
-    GoesOn (Loads files base old.library old.size [] left []) (λ done end. end ≡ loads.Loaded new.library) result
+abbrev pub LoadsLeft : OfNames → (old new : Begun) → (left : List (List ℕ)) → Result (Unit {0}) (Refused LoadFault) → Type 0
+LoadsLeft Comes old new left result =
+    GoesOn (Loads Comes old.library old.size [] left []) (λ done end. end ≡ loads.Loaded new.library) result
 
 -- what a step keeps
 -- =================
@@ -126,4 +122,5 @@ abbrev pub BeginsBy : Module → (size : ℕ) → Result (Begun × Vec (List ℕ
 BeginsBy main size (Ok begun) = IsBegun main size begun.0 begun.1.items
 BeginsBy main size (Err (Fault (Past limit))) = limit_of no_entries 0 main_name (entries.Held main size) ≡ Some limit
 BeginsBy main size (Err (Fault (Failed failed))) = ⊥
+BeginsBy main size (Err (Fault (Unaccepted source))) = ⊥
 BeginsBy main size (Err NoMemory) = ⊤

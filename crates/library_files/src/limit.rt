@@ -1,6 +1,6 @@
-//! The limits of a library of files, and why none is loaded.
+//! The limits of a library, and why none is loaded.
 
-use mpy_base::Text;
+use mpy_base::{SourceFault, Text};
 
 /// The most bytes that the files of a library's modules have together, the main file's among them.
 pub const MAX_LIBRARY_BYTES: usize = 16_777_216;
@@ -20,6 +20,13 @@ pub struct FailedRead {
     pub path: Text,
 }
 
+/// The source of this path isn't accepted, with its first fault.
+#[derive(Debug, Drop)]
+pub struct UnacceptedSource {
+    pub path: Text,
+    pub fault: SourceFault,
+}
+
 /// Why no library is loaded.
 #[derive(Debug, Drop)]
 pub enum LoadFault {
@@ -27,4 +34,6 @@ pub enum LoadFault {
     Past(Limit),
     /// The read of a file failed outside.
     Failed(FailedRead),
+    /// A source isn't accepted.
+    Unaccepted(UnacceptedSource),
 }

@@ -7,14 +7,18 @@ ghost use Rattle.pkg_paths.specs.Plain.{IsPlain};
 ghost use Rattle.bc_library.specs.Shelf.{member_of, no_entries};
 ghost use Rattle.library_files.specs.declared.entry.Entry.TheVariants as entries;
 ghost use Rattle.library_files.specs.Asked.{asked_for};
-ghost use Rattle.library_files.specs.Ends.{BeginsWith, EndsIn, FailsInBase, HoldsModules, is_failed};
-ghost use Rattle.library_files.specs.Loads.{Loads, LoadsFrom};
-ghost use Rattle.library_files.specs.Steps.{AddsImports, AddsModules, AreAsked, AreModules, AreShort, Asks, AsksAll, AsksFound, BeginsBy, LimitComesTo, LoadsLeft, ReadComesTo, Step, Takes};
+ghost use Rattle.library_files.specs.Comes.{NameComesTo};
+ghost use Rattle.library_files.specs.Ends.{BeginsWith, EndsIn, FailsAmong, FailsInBase, HoldsModules, is_failed};
+ghost use Rattle.library_files.specs.Loads.{Loads, LoadsFrom, LoadsWith};
+ghost use Rattle.library_files.specs.Steps.{AddsImports, AddsModules, AreAsked, AreModules, AreShort, Asks, AsksAll, AsksFound, BeginsBy, LimitComesTo, LoadsLeft, Step, Takes};
 
 use crate::asked::asked_names;
-use crate::entry::{Entry, entry_of};
+use crate::entry::Entry;
 use crate::imports::add_names;
-use crate::limit::{FailedRead, Limit, LoadFault, MAX_LIBRARY_BYTES};
+use crate::limit::{Limit, LoadFault, MAX_LIBRARY_BYTES};
+use crate::module_files::ModuleFiles;
+use crate::reader::Reader;
+use crate::search::entry_of;
 use bc_library::{LibFault, Library, modules_law};
 use bc_verify::Verified;
 use mpy_base::{NoMemory, Refused, Text};
@@ -38,16 +42,6 @@ fn limit_fault(refused: Refused<LibFault>) -> Refused<LoadFault>
         Refused::Fault(LibFault::Twice) => unreachable!(),
         Refused::Fault(LibFault::TooMany) => Refused::Fault(LoadFault::Past(Limit::TooMany)),
         Refused::Fault(LibFault::Names) => Refused::Fault(LoadFault::Past(Limit::Names)),
-        Refused::NoMemory => Refused::NoMemory,
-    }
-}
-
-/// Why nothing is loaded where a read gave no file.
-fn read_fault(refused: Refused<FailedRead>) -> Refused<LoadFault>
-    ensures { ReadComesTo refused result }
-{
-    match refused {
-        Refused::Fault(failed) => Refused::Fault(LoadFault::Failed(failed)),
         Refused::NoMemory => Refused::NoMemory,
     }
 }
@@ -138,8 +132,9 @@ fn take_entry(
 }
 
 /// Reads the file of a name that the library doesn't have.
-fn read_asked<F: Folder>(
+fn read_asked<R: Reader, F: Folder>(
     alloc: Global,
+    reader: &R,
     folder: &mut F,
     base: &[u8],
     name: &[u8],
@@ -151,21 +146,22 @@ fn read_asked<F: Folder>(
     requires short { length name.now < 2 ^ 31 }
     requires fresh { member_of begun.old.library name.now ≡ None }
     ensures loads { IfSome (F.files folder.old)
-        (λ files. Asks files base.now begun.old begun.new name.now found.old.items found.new.items result) }
+        (λ files. Asks (NameComesTo (R.ending reader.now) (R.comes reader.now) base.now files) begun.old begun.new name.now found.old.items found.new.items result) }
     ensures step { OnOk result (Step begun.old.library begun.new.library found.old.items found.new.items) }
     ensures same { F.files folder.new ≡ F.files folder.old }
-    ensures at { FailsInBase base.now result }
+    ensures at { FailsAmong (R.ending reader.now) (R.comes reader.now) base.now result }
     ensures cause { Counts (F.count folder.old) (F.count folder.new) (is_failed result) }
 {
-    match entry_of(alloc, folder, base, name) {
+    match entry_of(alloc, reader, folder, base, name) {
         Ok(entry) => take_entry(alloc, begun, name, entry, found),
-        Err(refused) => Err(read_fault(refused)),
+        Err(refused) => Err(refused),
     }
 }
 
 /// Asks for a name: its file is read unless the library has it.
-fn ask<F: Folder>(
+fn ask<R: Reader, F: Folder>(
     alloc: Global,
+    reader: &R,
     folder: &mut F,
     base: &[u8],
     name: &[u8],
@@ -176,21 +172,22 @@ fn ask<F: Folder>(
     requires name_is { IsPlain name.now }
     requires short { length name.now < 2 ^ 31 }
     ensures loads { IfSome (F.files folder.old)
-        (λ files. Asks files base.now begun.old begun.new name.now found.old.items found.new.items result) }
+        (λ files. Asks (NameComesTo (R.ending reader.now) (R.comes reader.now) base.now files) begun.old begun.new name.now found.old.items found.new.items result) }
     ensures step { OnOk result (Step begun.old.library begun.new.library found.old.items found.new.items) }
     ensures same { F.files folder.new ≡ F.files folder.old }
-    ensures at { FailsInBase base.now result }
+    ensures at { FailsAmong (R.ending reader.now) (R.comes reader.now) base.now result }
     ensures cause { Counts (F.count folder.old) (F.count folder.new) (is_failed result) }
 {
     match begun.library.find(name) {
         Some(_) => Ok(()),
-        None => read_asked(alloc, folder, base, name, begun, found),
+        None => read_asked(alloc, reader, folder, base, name, begun, found),
     }
 }
 
 /// Asks for names one after another.
-fn ask_all<F: Folder>(
+fn ask_all<R: Reader, F: Folder>(
     alloc: Global,
+    reader: &R,
     folder: &mut F,
     base: &[u8],
     names: &[Text],
@@ -200,14 +197,14 @@ fn ask_all<F: Folder>(
     requires base_is { IsUtf8 base.now }
     requires names_are { AreAsked names.now }
     ensures loads { IfSome (F.files folder.old)
-        (λ files. AsksAll files base.now begun.old begun.new names.now found.old.items found.new.items result) }
+        (λ files. AsksAll (NameComesTo (R.ending reader.now) (R.comes reader.now) base.now files) begun.old begun.new names.now found.old.items found.new.items result) }
     ensures step { OnOk result (Step begun.old.library begun.new.library found.old.items found.new.items) }
     ensures same { F.files folder.new ≡ F.files folder.old }
-    ensures at { FailsInBase base.now result }
+    ensures at { FailsAmong (R.ending reader.now) (R.comes reader.now) base.now result }
     ensures cause { Counts (F.count folder.old) (F.count folder.new) (is_failed result) }
 {
     for asked in names {
-        match ask(alloc, folder, base, asked.bytes(), begun, found) {
+        match ask(alloc, reader, folder, base, asked.bytes(), begun, found) {
             Ok(()) => {}
             Err(refused) => return Err(refused),
         }
@@ -216,8 +213,9 @@ fn ask_all<F: Folder>(
 }
 
 /// Asks for names one after another, and gives the names that the modules found there import.
-fn ask_found<F: Folder>(
+fn ask_found<R: Reader, F: Folder>(
     alloc: Global,
+    reader: &R,
     folder: &mut F,
     base: &[u8],
     names: &[Text],
@@ -225,22 +223,23 @@ fn ask_found<F: Folder>(
 ) -> Result<Vec<Text>, Refused<LoadFault>>
     requires base_is { IsUtf8 base.now }
     requires names_are { AreAsked names.now }
-    ensures loads { IfSome (F.files folder.old) (λ files. AsksFound files base.now begun.old begun.new names.now result) }
+    ensures loads { IfSome (F.files folder.old) (λ files. AsksFound (NameComesTo (R.ending reader.now) (R.comes reader.now) base.now files) begun.old begun.new names.now result) }
     ensures step { IfOk result (λ found. Step begun.old.library begun.new.library [] found.items) }
     ensures same { F.files folder.new ≡ F.files folder.old }
-    ensures at { FailsInBase base.now result }
+    ensures at { FailsAmong (R.ending reader.now) (R.comes reader.now) base.now result }
     ensures cause { Counts (F.count folder.old) (F.count folder.new) (is_failed result) }
 {
     let mut found = Vec::new(alloc);
-    match ask_all(alloc, folder, base, names, begun, &mut found) {
+    match ask_all(alloc, reader, folder, base, names, begun, &mut found) {
         Ok(()) => Ok(found),
         Err(refused) => Err(refused),
     }
 }
 
 /// Asks for the names that an import asks for, and gives the names that the modules found there import.
-fn import<F: Folder>(
+fn import<R: Reader, F: Folder>(
     alloc: Global,
+    reader: &R,
     folder: &mut F,
     base: &[u8],
     name: &[u8],
@@ -249,14 +248,14 @@ fn import<F: Folder>(
     requires base_is { IsUtf8 base.now }
     requires short { length name.now < 2 ^ 31 }
     ensures loads { IfSome (F.files folder.old)
-        (λ files. AsksFound files base.now begun.old begun.new (asked_for name.now) result) }
+        (λ files. AsksFound (NameComesTo (R.ending reader.now) (R.comes reader.now) base.now files) begun.old begun.new (asked_for name.now) result) }
     ensures step { IfOk result (λ found. Step begun.old.library begun.new.library [] found.items) }
     ensures same { F.files folder.new ≡ F.files folder.old }
-    ensures at { FailsInBase base.now result }
+    ensures at { FailsAmong (R.ending reader.now) (R.comes reader.now) base.now result }
     ensures cause { Counts (F.count folder.old) (F.count folder.new) (is_failed result) }
 {
     match asked_names(alloc, name) {
-        Ok(names) => ask_found(alloc, folder, base, &names, begun),
+        Ok(names) => ask_found(alloc, reader, folder, base, &names, begun),
         Err(NoMemory) => Err(Refused::NoMemory),
     }
 }
@@ -271,8 +270,9 @@ fn put_in_front(mut names: Vec<Text>, left: &mut Vec<Text>) -> Result<(), NoMemo
 }
 
 /// Loads what the imports that are left ask for. They stand from the last to the first.
-fn load_left<F: Folder>(
+fn load_left<R: Reader, F: Folder>(
     alloc: Global,
+    reader: &R,
     folder: &mut F,
     base: &[u8],
     mut left: Vec<Text>,
@@ -280,14 +280,14 @@ fn load_left<F: Folder>(
 ) -> Result<(), Refused<LoadFault>>
     requires base_is { IsUtf8 base.now }
     requires short { AreShort left.items }
-    ensures loads { IfSome (F.files folder.old) (λ files. LoadsLeft files base.now begun.old begun.new (reverse left.items) result) }
+    ensures loads { IfSome (F.files folder.old) (λ files. LoadsLeft (NameComesTo (R.ending reader.now) (R.comes reader.now) base.now files) begun.old begun.new (reverse left.items) result) }
     ensures adds { OnOk result (AddsModules begun.old.library begun.new.library) }
     ensures same { F.files folder.new ≡ F.files folder.old }
-    ensures at { FailsInBase base.now result }
+    ensures at { FailsAmong (R.ending reader.now) (R.comes reader.now) base.now result }
     ensures cause { Counts (F.count folder.old) (F.count folder.new) (is_failed result) }
 {
     while let Some(name) = left.pop() {
-        match import(alloc, folder, base, name.bytes(), begun) {
+        match import(alloc, reader, folder, base, name.bytes(), begun) {
             Err(refused) => return Err(refused),
             Ok(found) => match put_in_front(found, &mut left) {
                 Err(NoMemory) => return Err(Refused::NoMemory),
@@ -340,8 +340,9 @@ fn begin(
 }
 
 /// Loads what the imports that are left ask for, and gives the library. They stand from the last to the first.
-fn load_all<F: Folder>(
+fn load_all<R: Reader, F: Folder>(
     alloc: Global,
+    reader: &R,
     folder: &mut F,
     base: &[u8],
     mut begun: Begun,
@@ -351,14 +352,14 @@ fn load_all<F: Folder>(
     requires short { AreShort left.items }
     requires held { AreModules begun.library.modules }
     ensures loaded { IfSome (F.files folder.old)
-        (λ files. EndsIn (Loads files base.now begun.library begun.size [] (reverse left.items) []) result) }
+        (λ files. EndsIn (Loads (NameComesTo (R.ending reader.now) (R.comes reader.now) base.now files) begun.library begun.size [] (reverse left.items) []) result) }
     ensures adds { IfOk result (AddsModules begun.library) }
     ensures holds { IfOk result HoldsModules }
     ensures same { F.files folder.new ≡ F.files folder.old }
-    ensures at { FailsInBase base.now result }
+    ensures at { FailsAmong (R.ending reader.now) (R.comes reader.now) base.now result }
     ensures cause { Counts (F.count folder.old) (F.count folder.new) (is_failed result) }
 {
-    match load_left(alloc, folder, base, left, &mut begun) {
+    match load_left(alloc, reader, folder, base, left, &mut begun) {
         Ok(()) => {
             let Begun { library, size: _ } = begun;
             modules_law(&library);
@@ -368,8 +369,33 @@ fn load_all<F: Folder>(
     }
 }
 
-/// Loads the library of a main module, whose file has that many bytes, from the files of a folder. The base folder stands
-/// in front of their names as it is: with its `/`, or empty. Each name that is asked for takes two reads at most.
+/// Loads the library of a main module, whose file has that many bytes, from the files of a folder as the reader reads them.
+/// The base folder stands in front of their names as it is: with its `/`, or empty. Each name that is asked for takes two
+/// reads at most.
+pub fn load_by<R: Reader, F: Folder>(
+    alloc: Global,
+    reader: &R,
+    folder: &mut F,
+    base: &[u8],
+    main: Verified,
+    size: usize,
+) -> Result<Library, Refused<LoadFault>>
+    requires base_is { IsUtf8 base.now }
+    ensures loaded { IfSome (F.files folder.old)
+        (λ files. EndsIn (LoadsWith (NameComesTo (R.ending reader.now) (R.comes reader.now) base.now files) main size) result) }
+    ensures main_first { IfOk result (BeginsWith main) }
+    ensures holds { IfOk result HoldsModules }
+    ensures same { F.files folder.new ≡ F.files folder.old }
+    ensures at { FailsAmong (R.ending reader.now) (R.comes reader.now) base.now result }
+    ensures cause { Counts (F.count folder.old) (F.count folder.new) (is_failed result) }
+{
+    match begin(alloc, main, size) {
+        Ok((begun, imports)) => load_all(alloc, reader, folder, base, begun, imports),
+        Err(refused) => Err(refused),
+    }
+}
+
+/// The same from the files of modules.
 pub fn load<F: Folder>(
     alloc: Global,
     folder: &mut F,
@@ -385,8 +411,5 @@ pub fn load<F: Folder>(
     ensures at { FailsInBase base.now result }
     ensures cause { Counts (F.count folder.old) (F.count folder.new) (is_failed result) }
 {
-    match begin(alloc, main, size) {
-        Ok((begun, imports)) => load_all(alloc, folder, base, begun, imports),
-        Err(refused) => Err(refused),
-    }
+    load_by(alloc, &ModuleFiles, folder, base, main, size)
 }

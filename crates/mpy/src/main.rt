@@ -14,8 +14,10 @@ const VERSION: &[u8] = b"mpy 0.1.0\n";
 const HELP: &[u8] = b"mpy: a verified tool chain for MicroPython bytecode files
 
 usage:
-  mpy go SRC [-O N]  compile the source SRC and run it, at optimization level N
-                     (0 to 3, 0 if left out), as in: mpy go examples/hello.py -O 1
+  mpy go SRC [-O N] [--cells N] [--bytes N] [--steps N]
+                     compile the source SRC and those of the modules that it imports, at
+                     optimization level N (0 to 3, 0 if left out), and run SRC as run does,
+                     as in: mpy go examples/loop.py -O 1 --steps 1000
   mpy cross SRC FILE [-O N] [-s NAME]
                      compile the source SRC and write its file as FILE, which
                      stores SRC as the name of its source, or NAME,
@@ -39,7 +41,7 @@ exit status (docs/MESSAGES.md explains each line that is said):
   0   all of it was done
   1   an exception that nothing caught ended the run
   2   the words are no command
-  3   the source isn't accepted
+  3   a source isn't accepted
   4   the file isn't read, or isn't verified
   5   the run took all its steps
   6   the run's arena was too small

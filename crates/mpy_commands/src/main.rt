@@ -14,9 +14,10 @@ use std::alloc::{AllocError, Global};
 use std::process::ExitCode;
 use std::{fs, io};
 
-const FILES: [&str; 11] = [
+const FILES: [&str; 12] = [
     "codes",
     "files",
+    "goes",
     "library",
     "limits",
     "listings",

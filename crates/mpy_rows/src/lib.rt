@@ -2,8 +2,6 @@
 #![tactic(auto)]
 
 #[cfg(test)]
-mod bytes;
-#[cfg(test)]
 mod flush;
 #[cfg(test)]
 mod library;
@@ -11,5 +9,3 @@ mod library;
 mod slots;
 #[cfg(test)]
 mod tokens;
-#[cfg(test)]
-mod written;

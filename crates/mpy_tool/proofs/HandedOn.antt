@@ -9,16 +9,9 @@ use Rattle.mpy_tool.specs.declared.ending.Ending.TheVariants.{Done, WriteFault}
 use Rattle.mpy_tool.specs.Check.{Checks, verified_line}
 use Rattle.mpy_tool.specs.Cross.{Crosses}
 use Rattle.mpy_tool.specs.Dump.{Dumps}
-use Rattle.mpy_tool.specs.Go.{Went}
-use Rattle.bc_vm.specs.Printed.{printed}
 
 all_is_front : (a b c : Option (List ℕ)) (text : List ℕ) → Keeps b c → Appends a b text → AppendsFront a c text
 all_is_front a b c text q p = record { front = text; rest = []; parts = sym (append-nil text); added = Appends-kept a b c text p q }
-
-pub went_cut : (level : ℕ) (files : Option FileOf) (name : List ℕ) (a b c : Option (List ℕ)) → Keeps b c → Went level files name Done a b → Went level files name WriteFault a c
-went_cut level files name a b c q p =
-    let ran = p.2 in
-    (p.0, p.1, (ran.0, ran.1, all_is_front a b c (printed ran.0) q ran.2))
 
 pub checks_cut : (files : Option FileOf) (name : List ℕ) (a b c : Option (List ℕ)) → Keeps b c → Checks files name Done a b → Checks files name WriteFault a c
 checks_cut files name a b c q p = (p.0, p.1, all_is_front a b c (verified_line p.0) q p.2)

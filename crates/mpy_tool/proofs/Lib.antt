@@ -7,3 +7,7 @@ pub mod HandedOn
 pub mod Merging
 pub mod Bases
 pub mod Running
+pub mod Going
+mod Meaning
+mod Making
+mod GoMeaning

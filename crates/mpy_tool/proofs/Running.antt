@@ -1,10 +1,11 @@
--- What running a file comes to, from its parts.
+-- What running a library comes to, from its parts.
 use Rattle.std.proofs.Common.{◌≡◌, ℕ, ◌++◌, Bool, true, false, List, [], length, Option, Some, IfSome, Result, Ok, Err, refl, sym, ap, subst, ◌∙◌, inl, append-nil}
 use Rattle.std.specs.Io.KnownBytes.{Keeps}
 use Rattle.std.proofs.KnownBytes.{Appends-nil, Keeps-refl}
 use Rattle.mpy_base.specs.declared.room.Room.{Room}
 use Rattle.mpy_base.specs.declared.refused.Refused.{Refused}
 use Rattle.mpy_base.specs.declared.refused.Refused.TheVariants as refused
+use Rattle.mpy_io.specs.Count.{Counts}
 use Rattle.mpy_io.specs.declared.fault.Failed.{Failed}
 use Rattle.mpy_io.specs.Files.{FileOf}
 use Rattle.mpy_io.specs.Ports.{PortView}
@@ -19,13 +20,14 @@ use Rattle.library_runs.specs.declared.ending.RunEnd.TheVariants as ends
 use Rattle.library_runs.specs.Runs.{Sight, IsOver, RunsAs, is_write_fault, sight, speaks}
 use Rattle.mpy_tool.specs.declared.ending.Ending.{Ending}
 use Rattle.mpy_tool.specs.declared.ending.Ending.TheVariants.{Done, Unaccepted, Unread, Unverified, Unmerged, Stopped, ReadFault, WriteFault, Unwritten, NoMemory, Absent}
-use Rattle.mpy_tool.specs.declared.ending.Stop.TheVariants.{Past, LibraryFault, Raised, Memory, Steps}
+use Rattle.mpy_tool.specs.declared.ending.Stop.TheVariants.{Past, LibraryFault, LibraryUnaccepted, Raised, Memory, Steps}
 use Rattle.mpy_tool.specs.Base.{base_of}
 use Rattle.mpy_tool.specs.Ending.{is_folder_fault, is_out_fault, is_said, status_of}
 use Rattle.mpy_tool.specs.Folder.{MayHold}
 use Rattle.mpy_tool.specs.Line.{Puts, Says, line_of}
-use Rattle.mpy_tool.specs.Merge.{Opens, Refuses}
-use Rattle.mpy_tool.specs.Run.{HoldsMain, LoadsOf, RefusesLibrary, Untouched, Runs, load_end, ending_of}
+use Rattle.mpy_tool.specs.Merge.{Opens, Refuses, failed_in}
+use Rattle.mpy_tool.specs.Outside.{Outside}
+use Rattle.mpy_tool.specs.Run.{HoldsMain, LoadsOf, RefusesLibrary, IsUnloaded, Untouched, Runs, EndsRun, sight_in, load_end, ending_of}
 use Rattle.mpy_tool.proofs.Said.{says_from}
 
 -- the main file
@@ -65,67 +67,111 @@ pub load_refuses : (files now : Option FileOf) (name base : List ℕ) (main : Mo
     → IfSome now (λ file. EndsIn (LoadsFrom file base main size) (Err r)) → FailsInBase {A = Shelf} base (Err r) → RefusesLibrary files name (load_end r)
 load_refuses files now name base main size (refused.Fault (faults.Past limit)) e b holds h at = loads_of files now name base main size (Rattle.library_files.specs.Loads.Past limit) e b holds h
 load_refuses files now name base main size (refused.Fault (faults.Failed read)) e b holds h at = subst (λ (bs : List ℕ). FailsInBase {A = Shelf} bs (Err (refused.Fault (faults.Failed read)))) b at
+load_refuses files now name base main size (refused.Fault (faults.Unaccepted source)) e b holds h at = absurd at.4
 load_refuses files now name base main size refused.NoMemory e b holds h at = tt
+
+pub refused_unloaded : (files : Option FileOf) (name : List ℕ) (ending : Ending) → RefusesLibrary files name ending → IsUnloaded ending
+refused_unloaded files name Done h = absurd h
+refused_unloaded files name (Unaccepted fault) h = absurd h
+refused_unloaded files name (Unread fault) h = tt
+refused_unloaded files name (Unverified fault) h = tt
+refused_unloaded files name (Unmerged fault) h = absurd h
+refused_unloaded files name (Stopped (Past limit)) h = tt
+refused_unloaded files name (Stopped (LibraryFault path)) h = tt
+refused_unloaded files name (Stopped (LibraryUnaccepted source)) h = absurd h
+refused_unloaded files name (Stopped Raised) h = absurd h
+refused_unloaded files name (Stopped Memory) h = absurd h
+refused_unloaded files name (Stopped (Steps count)) h = absurd h
+refused_unloaded files name ReadFault h = tt
+refused_unloaded files name WriteFault h = absurd h
+refused_unloaded files name Unwritten h = absurd h
+refused_unloaded files name NoMemory h = tt
+refused_unloaded files name Absent h = tt
 
 pub load_failed : (r : Refused LoadFault) → is_failed {A = Shelf} (Err r) ≡ is_folder_fault (load_end r)
 load_failed (refused.Fault (faults.Past limit)) = refl
 load_failed (refused.Fault (faults.Failed read)) = refl
+load_failed (refused.Fault (faults.Unaccepted source)) = refl
 load_failed refused.NoMemory = refl
 
 -- its run
 -- =======
 
-module _ (files : Option FileOf) (name : List ℕ) (room : Room) (steps : ℕ) (old new : Sight) (said : List ℕ) where
-  untouched : new ≡ old → said ≡ [] → Untouched files name room steps old new said
+module _ (Comes : Result Shelf Ending → Type 0) (room : Room) (steps : ℕ) (old new : Sight) (said : List ℕ) where
+  abbrev Went : Ending → Type 0
+  Went ending = Runs Comes room steps old new said ending
+
+  untouched : new ≡ old → said ≡ [] → Untouched old new said
   untouched e s = record {
     prints = subst (λ (sight : Sight). Keeps old.out sight.out) (sym e) (Keeps-refl old.out);
     ports = ap (λ (sight : Sight). sight.ports) e;
     says = s;
   }
 
-  pub ran_file : (shelf : Shelf) (end : RunEnd) → LoadsOf files name (Loaded shelf) → (end ≡ ends.NoMemory → new ≡ old) → RunsAs shelf main_name room steps old new end said
-      → Runs files name room steps old new said (ending_of end steps)
-  ran_file shelf ends.Ended loads none r = (shelf, loads, r)
-  ran_file shelf ends.Raised loads none r = (shelf, loads, r)
-  ran_file shelf ends.Memory loads none r = (shelf, loads, r)
-  ran_file shelf ends.Limit loads none r = ((shelf, loads, r), refl)
-  ran_file shelf ends.WriteFault loads none r = (shelf, loads, r)
-  ran_file shelf ends.NoMemory loads none r = untouched (none refl) r.is_said
+  pub ran_library : (shelf : Shelf) (end : RunEnd) → Comes (Ok shelf) → (end ≡ ends.NoMemory → new ≡ old) → RunsAs shelf main_name room steps old new end said → Went (ending_of end steps)
+  ran_library shelf ends.Ended loads none r = (shelf, loads, r)
+  ran_library shelf ends.Raised loads none r = (shelf, loads, r)
+  ran_library shelf ends.Memory loads none r = (shelf, loads, r)
+  ran_library shelf ends.Limit loads none r = ((shelf, loads, r), refl)
+  ran_library shelf ends.WriteFault loads none r = (shelf, loads, r)
+  ran_library shelf ends.NoMemory loads none r = untouched (none refl) r.is_said
 
-  pub refused_run : (ending : Ending) → RefusesLibrary files name ending → new ≡ old → said ≡ [] → Runs files name room steps old new said ending
-  refused_run Done h e s = absurd h
-  refused_run (Unaccepted fault) h e s = absurd h
-  refused_run (Unread fault) h e s = (h, untouched e s)
-  refused_run (Unverified fault) h e s = (h, untouched e s)
-  refused_run (Unmerged fault) h e s = absurd h
-  refused_run (Stopped (Past limit)) h e s = (h, untouched e s)
-  refused_run (Stopped (LibraryFault path)) h e s = (h, untouched e s)
-  refused_run (Stopped Raised) h e s = absurd h
-  refused_run (Stopped Memory) h e s = absurd h
-  refused_run (Stopped (Steps count)) h e s = absurd h
-  refused_run ReadFault h e s = untouched e s
-  refused_run WriteFault h e s = absurd h
-  refused_run Unwritten h e s = absurd h
-  refused_run NoMemory h e s = untouched e s
-  refused_run Absent h e s = (h, untouched e s)
+  pub not_loaded : (ending : Ending) → IsUnloaded ending → Comes (Err ending) → new ≡ old → said ≡ [] → Went ending
+  not_loaded Done u h e s = absurd u
+  not_loaded (Unaccepted fault) u h e s = (h, untouched e s)
+  not_loaded (Unread fault) u h e s = (h, untouched e s)
+  not_loaded (Unverified fault) u h e s = (h, untouched e s)
+  not_loaded (Unmerged fault) u h e s = absurd u
+  not_loaded (Stopped (Past limit)) u h e s = (h, untouched e s)
+  not_loaded (Stopped (LibraryFault path)) u h e s = (h, untouched e s)
+  not_loaded (Stopped (LibraryUnaccepted source)) u h e s = (h, untouched e s)
+  not_loaded (Stopped Raised) u h e s = absurd u
+  not_loaded (Stopped Memory) u h e s = absurd u
+  not_loaded (Stopped (Steps count)) u h e s = absurd u
+  not_loaded ReadFault u h e s = (h, untouched e s)
+  not_loaded WriteFault u h e s = absurd u
+  not_loaded Unwritten u h e s = absurd u
+  not_loaded NoMemory u h e s = untouched e s
+  not_loaded Absent u h e s = (h, untouched e s)
 
   -- what is said of the run is said in it
-  pub unsaid : (ending : Ending) → Runs files name room steps old new said ending → is_said ending ≡ false → said ≡ []
+  pub unsaid : (ending : Ending) → Went ending → is_said ending ≡ false → said ≡ []
   unsaid Done r e = r.2.is_said
-  unsaid (Unaccepted fault) r e = absurd r
+  unsaid (Unaccepted fault) r e = r.1.says
   unsaid (Unread fault) r e = r.1.says
   unsaid (Unverified fault) r e = r.1.says
   unsaid (Unmerged fault) r e = absurd r
   unsaid (Stopped (Past limit)) r e = r.1.says
   unsaid (Stopped (LibraryFault path)) r e = r.1.says
+  unsaid (Stopped (LibraryUnaccepted source)) r e = r.1.says
   unsaid (Stopped Raised) r e = absurd cc
   unsaid (Stopped Memory) r e = absurd cc
   unsaid (Stopped (Steps count)) r e = r.0.2.is_said
-  unsaid ReadFault r e = r.says
+  unsaid ReadFault r e = r.1.says
   unsaid WriteFault r e = r.2.is_said
   unsaid Unwritten r e = absurd r
   unsaid NoMemory r e = r.says
   unsaid Absent r e = r.1.says
+
+  -- what is known of each result that loading comes to is known of the run
+  module _ (Known : Result Shelf Ending → Type 0) (known : (r : Result Shelf Ending) → Comes r → Known r) where
+    pub runs_known : (ending : Ending) → Went ending → Runs Known room steps old new said ending
+    runs_known Done r = (r.0, known (Ok r.0) r.1, r.2)
+    runs_known (Unaccepted fault) r = (known (Err (Unaccepted fault)) r.0, r.1)
+    runs_known (Unread fault) r = (known (Err (Unread fault)) r.0, r.1)
+    runs_known (Unverified fault) r = (known (Err (Unverified fault)) r.0, r.1)
+    runs_known (Unmerged fault) r = absurd r
+    runs_known (Stopped (Past limit)) r = (known (Err (Stopped (Past limit))) r.0, r.1)
+    runs_known (Stopped (LibraryFault path)) r = (known (Err (Stopped (LibraryFault path))) r.0, r.1)
+    runs_known (Stopped (LibraryUnaccepted source)) r = (known (Err (Stopped (LibraryUnaccepted source))) r.0, r.1)
+    runs_known (Stopped Raised) r = (r.0, known (Ok r.0) r.1, r.2)
+    runs_known (Stopped Memory) r = (r.0, known (Ok r.0) r.1, r.2)
+    runs_known (Stopped (Steps count)) r = ((r.0.0, known (Ok r.0.0) r.0.1, r.0.2), r.1)
+    runs_known ReadFault r = (known (Err ReadFault) r.0, r.1)
+    runs_known WriteFault r = (r.0, known (Ok r.0) r.1, r.2)
+    runs_known Unwritten r = absurd r
+    runs_known NoMemory r = r
+    runs_known Absent r = (known (Err Absent) r.0, r.1)
 
 pub out_counted : (end : RunEnd) (steps : ℕ) → is_write_fault end ≡ is_out_fault (ending_of end steps)
 out_counted ends.Ended steps = refl
@@ -159,21 +205,21 @@ done_is_over ends.Limit steps e = tt
 done_is_over ends.WriteFault steps e = absurd cc
 done_is_over ends.NoMemory steps e = absurd cc
 
-pub refused_quiet : (files : Option FileOf) (name : List ℕ) (ending : Ending) → RefusesLibrary files name ending → is_out_fault ending ≡ false
-refused_quiet files name Done h = refl
-refused_quiet files name (Unaccepted fault) h = refl
-refused_quiet files name (Unread fault) h = refl
-refused_quiet files name (Unverified fault) h = refl
-refused_quiet files name (Unmerged fault) h = refl
-refused_quiet files name (Stopped stop) h = refl
-refused_quiet files name ReadFault h = refl
-refused_quiet files name WriteFault h = absurd h
-refused_quiet files name Unwritten h = refl
-refused_quiet files name NoMemory h = refl
-refused_quiet files name Absent h = refl
+pub unloaded_quiet : (ending : Ending) → IsUnloaded ending → is_out_fault ending ≡ false
+unloaded_quiet Done h = refl
+unloaded_quiet (Unaccepted fault) h = refl
+unloaded_quiet (Unread fault) h = refl
+unloaded_quiet (Unverified fault) h = refl
+unloaded_quiet (Unmerged fault) h = refl
+unloaded_quiet (Stopped stop) h = refl
+unloaded_quiet ReadFault h = refl
+unloaded_quiet WriteFault h = absurd h
+unloaded_quiet Unwritten h = refl
+unloaded_quiet NoMemory h = refl
+unloaded_quiet Absent h = refl
 
-pub refused_undone : (files : Option FileOf) (name : List ℕ) (ending : Ending) → RefusesLibrary files name ending → ending ≡ Done → ⊥
-refused_undone files name ending h e = subst (RefusesLibrary files name) e h
+pub unloaded_undone : (ending : Ending) → IsUnloaded ending → ending ≡ Done → ⊥
+unloaded_undone ending h e = subst IsUnloaded e h
 
 -- what is said
 -- ============
@@ -202,6 +248,7 @@ said_line name (Unverified fault) e = absurd cc
 said_line name (Unmerged fault) e = absurd cc
 said_line name (Stopped (Past limit)) e = absurd cc
 said_line name (Stopped (LibraryFault path)) e = absurd cc
+said_line name (Stopped (LibraryUnaccepted source)) e = absurd cc
 said_line name (Stopped Raised) e = refl
 said_line name (Stopped Memory) e = refl
 said_line name (Stopped (Steps count)) e = absurd cc
@@ -227,6 +274,7 @@ status_zero (Unverified fault) e = absurd cc
 status_zero (Unmerged fault) e = absurd cc
 status_zero (Stopped (Past limit)) e = absurd cc
 status_zero (Stopped (LibraryFault path)) e = absurd cc
+status_zero (Stopped (LibraryUnaccepted source)) e = absurd cc
 status_zero (Stopped Raised) e = absurd cc
 status_zero (Stopped Memory) e = absurd cc
 status_zero (Stopped (Steps count)) e = absurd cc
@@ -239,3 +287,32 @@ status_zero Absent e = absurd cc
 -- where neither the sink nor the ports changed, they tell the same
 pub same_sight : {S P : Type 0} (told : S → Option (List ℕ)) (seen : P → PortView) (a b : S) (ps qs : List P) → b ≡ a → qs ≡ ps → sight told seen b qs ≡ sight told seen a ps
 same_sight {S = S} {P = P} told seen a b ps qs e f = ap (λ (s : S). sight told seen s qs) e ∙ ap (λ (xs : List P). sight told seen a xs) f
+
+-- the whole of a run
+-- ==================
+
+module _ (room : Room) (steps : ℕ) (old new : Outside) (ports_old ports_new : List PortView) (loaded : Result Shelf Ending) (ending : Ending) (said : List ℕ)
+    (ran : Runs (λ (r : Result Shelf Ending). r ≡ loaded) room steps (sight_in old ports_old) (sight_in new ports_new) said ending) where
+  -- what was said in it, and the line behind it
+  pub says_run : (between : Option (List ℕ)) (count : ℕ) (name : List ℕ) (r : Result (Unit {0}) Failed) → (is_said ending ≡ false → (between ≡ old.say) × (count ≡ old.say_faults)) → (is_said ending ≡ true → (new.say ≡ between) × (new.say_faults ≡ count))
+      → Says old.say between old.say_faults count said → Puts between new.say count new.say_faults (line_of name ending) r → Says old.say new.say old.say_faults new.say_faults (said ++ line_of name ending)
+  says_run between count name r silent same s p =
+      said_all old.say between new.say old.say_faults count new.say_faults name said ending r
+      (λ e. ((silent e).0, (silent e).1, unsaid (λ (r : Result Shelf Ending). r ≡ loaded) room steps (sight_in old ports_old) (sight_in new ports_new) said ending ran e)) same s p
+
+  -- of what was loaded, whatever is known of that
+  pub ends_run : (Comes : Option FileOf → (name : List ℕ) → Result Shelf Ending → Type 0) (name word : List ℕ) (status : ℕ) → status ≡ status_of ending → word ≡ name → Comes old.files word loaded
+      → Counts old.folder_faults new.folder_faults (failed_in loaded) → failed_in loaded ≡ is_folder_fault ending → Counts old.out_faults new.out_faults (is_out_fault ending)
+      → Says old.say new.say old.say_faults new.say_faults (said ++ line_of word ending) → EndsRun Comes room steps name old new ports_old ports_new status
+  ends_run Comes name word status status_is e comes counts reads out says =
+      let went = runs_known (λ (r : Result Shelf Ending). r ≡ loaded) room steps (sight_in old ports_old) (sight_in new ports_new) said (Comes old.files word) (λ r same. subst (Comes old.files word) (sym same) comes) ending ran in
+      subst (λ (n : List ℕ). EndsRun Comes room steps n old new ports_old ports_new status) e
+      (record {
+        ending = ending;
+        said = said;
+        status_is = status_is;
+        went = went;
+        folder_counts = subst (Counts old.folder_faults new.folder_faults) reads counts;
+        out_counts = out;
+        says = says;
+      })

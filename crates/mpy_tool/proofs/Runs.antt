@@ -1,55 +1,21 @@
--- How a run ends: by what the folder has, and in one way.
+-- How writing the file of a source ends: in one way.
 use Rattle.std.proofs.Common.{◌≡◌, ◌+◌, ◌<◌, ℕ, Bool, true, false, if◌then◌else◌, ltb, get_or, List, length, replicate, Option, Some, None, IfSome, Err, refl, ap, sym, subst, ◌∙◌, inl, arith}
-use Rattle.std.proofs.KnownBytes.{Keeps-refl}
 use Rattle.std.proofs.lemmas.Bool.{ltb-true}
 use Rattle.std.proofs.lemmas.List.{length-replicate}
 use Rattle.std.proofs.lemmas.List.Elements.{All-map}
-use Rattle.mpy_io.specs.declared.fault.ReadFault.{ReadFault as FolderFault}
-use Rattle.mpy_io.specs.declared.fault.ReadFault.TheVariants.{TooLong}
 use Rattle.mpy_base.specs.declared.source.SourceFault.{SourceFault}
-use Rattle.mpy_base.specs.declared.limits.TheConstants.{MAX_READ_BYTES, MAX_SOURCE_BYTES}
-use Rattle.mpy_base.specs.Fault.{too_long}
-use Rattle.mpy_io.specs.Files.{FileOf, Reads}
+use Rattle.mpy_io.specs.Files.{FileOf}
 use Rattle.mpy_tree.specs.File.{IsAscii}
 use Rattle.mpy_compile.specs.Compiled.{CompilesTo}
 use Rattle.mpy_compile.specs.Compiled as made
-use Rattle.mpy_simple.specs.Source.{Accepts, IsFault}
-use Rattle.mpy_simple.proofs.Faults.{same_fault, no_fault}
 use Rattle.mpy_tool.specs.declared.ending.Ending.{Ending}
 use Rattle.mpy_tool.specs.declared.ending.Ending.TheVariants.{Done, Unaccepted, Unread, Unverified, Unmerged, Stopped, ReadFault, WriteFault, Unwritten, NoMemory, Absent}
 use Rattle.mpy_tool.specs.Ending.{IsSettled}
 use Rattle.mpy_tool.specs.Cross.{Crosses}
-use Rattle.mpy_tool.specs.Folder.{MayHold}
-use Rattle.mpy_tool.specs.Go.{ascii_of, stored, RanSource, RanFile, Went}
+use Rattle.source_files.specs.Sources.{ascii_of, stored}
 
 pub some_long : (n : ℕ) → (source : List ℕ) × (n < length source)
 some_long n = (replicate (n + 1) 0, omega (arith, length-replicate {A = ℕ} (n + 1) 0))
-
--- a file that is too long to be read is a source that is too long
-pub too_long_file : (level : ℕ) (files : Option FileOf) (name : List ℕ) (told : Option (List ℕ)) → IfSome files (λ file. (bytes : List ℕ) × (file name ≡ Some bytes) × (MAX_READ_BYTES < length bytes)) → RanFile level files name (Unaccepted too_long) told told
-too_long_file level None name told h =
-    let long = some_long MAX_SOURCE_BYTES in
-    (long.0, tt, (inl (inl (inl (long.1, refl))), Keeps-refl told))
-too_long_file level (Some file) name told h = (h.0, h.1, (inl (inl (inl (omega (arith, h.2), refl))), Keeps-refl told))
-
-pub too_long_read : (level : ℕ) (files : Option FileOf) (name : List ℕ) (told : Option (List ℕ)) (fault : FolderFault) (said : SourceFault) → fault ≡ TooLong → said ≡ too_long → IfSome files (λ file. Reads (file name) (Err fault)) → RanFile level files name (Unaccepted said) told told
-too_long_read level files name told fault said e f h =
-    let read = subst (λ (x : FolderFault). IfSome files (λ file. Reads (file name) (Err x))) e h in
-    subst (λ (x : SourceFault). RanFile level files name (Unaccepted x) told told) (sym f) (too_long_file level files name told read)
-
--- a run of the source that the folder has under the name
-pub went_from : (level : ℕ) (files : Option FileOf) (name source : List ℕ) (ending : Ending) (old new : Option (List ℕ)) → MayHold files name (Some source) → RanSource level source (stored name) ending old new → Went level files name ending old new
-went_from level files name source Done old new h r = (source, h, r)
-went_from level files name source (Unaccepted fault) old new h r = (source, h, r)
-went_from level files name source (Unread fault) old new h r = absurd r
-went_from level files name source (Unverified fault) old new h r = absurd r
-went_from level files name source (Unmerged fault) old new h r = absurd r
-went_from level files name source (Stopped stop) old new h r = absurd r
-went_from level files name source ReadFault old new h r = absurd r
-went_from level files name source WriteFault old new h r = (source, h, r)
-went_from level files name source Unwritten old new h r = absurd r
-went_from level files name source NoMemory old new h r = r
-went_from level files name source Absent old new h r = absurd r
 
 -- ---- one ending
 
@@ -117,27 +83,6 @@ one_judged Good Bad apart one file name Absent WriteFault p q = absurd q
 one_judged Good Bad apart one file name Absent Unwritten p q = absurd q
 one_judged Good Bad apart one file name Absent NoMemory p q = absurd q
 
--- the source prints some texts under the stored name
-abbrev Compiled : ℕ → List ℕ → List ℕ → Type 0
-Compiled level stored source = (texts : List (List ℕ)) × Accepts level source stored texts
-
-abbrev Faulty : ℕ → List ℕ → List ℕ → SourceFault → Type 0
-Faulty level stored source fault = IsFault level source stored fault
-
-went_judged : (level : ℕ) (file : FileOf) (name : List ℕ) (ending : Ending) (old new : Option (List ℕ)) → IsSettled ending → Went level (Some file) name ending old new
-    → Judged (Compiled level (stored name)) (Faulty level (stored name)) file name ending
-went_judged level file name Done old new s p = (p.0, p.1, (p.2.0, p.2.1))
-went_judged level file name (Unaccepted fault) old new s p = (p.0, p.1, p.2.0)
-went_judged level file name (Unread fault) old new s p = absurd p
-went_judged level file name (Unverified fault) old new s p = absurd p
-went_judged level file name (Unmerged fault) old new s p = absurd p
-went_judged level file name (Stopped stop) old new s p = absurd p
-went_judged level file name ReadFault old new s p = absurd s
-went_judged level file name WriteFault old new s p = absurd s
-went_judged level file name Unwritten old new s p = absurd s
-went_judged level file name NoMemory old new s p = absurd s
-went_judged level file name Absent old new s p = p.0
-
 -- the source compiles to some file under the stored name
 abbrev pub Made : ℕ → List ℕ → List ℕ → Type 0
 Made level kept source = (bytes : List ℕ) × CompilesTo level source kept bytes
@@ -159,19 +104,7 @@ crosses_judged level file name kept written Unwritten new s p = absurd s
 crosses_judged level file name kept written NoMemory new s p = absurd s
 crosses_judged level file name kept written Absent new s p = p.0
 
-apart : (level : ℕ) (kept source : List ℕ) (fault : SourceFault) → Compiled level kept source → Faulty level kept source fault → ⊥
-apart level kept source fault p q = no_fault level source kept p.0 fault p.1 q
-
-one_fault : (level : ℕ) (kept source : List ℕ) (f g : SourceFault) → Faulty level kept source f → Faulty level kept source g → f ≡ g
-one_fault level kept source f g p q = same_fault level source kept f g p q
-
--- the source under a name ends in one way
-pub one_ending : (level : ℕ) (file : FileOf) (name : List ℕ) (a b : Ending) (old new_a new_b : Option (List ℕ)) → IsSettled a → IsSettled b → Went level (Some file) name a old new_a → Went level (Some file) name b old new_b → a ≡ b
-one_ending level file name a b old m n h k p q =
-    one_judged (Compiled level (stored name)) (Faulty level (stored name)) (apart level (stored name)) (one_fault level (stored name)) file name a b
-    (went_judged level file name a old m h p) (went_judged level file name b old n k q)
-
--- and its file is written in one way
+-- the file of the source under a name is written in one way
 pub one_crossing : ((level : ℕ) (source kept bytes : List ℕ) (fault : SourceFault) → CompilesTo level source kept bytes → made.IsFault level source kept fault → ⊥)
     → ((level : ℕ) (source kept : List ℕ) (f g : SourceFault) → made.IsFault level source kept f → made.IsFault level source kept g → f ≡ g)
     → (level : ℕ) (file : FileOf) (name kept written : List ℕ) (a b : Ending) (new_a new_b : Option FileOf) → IsSettled a → IsSettled b

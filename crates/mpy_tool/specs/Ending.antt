@@ -3,11 +3,12 @@ use Rattle.std.specs.Prelude.{ℕ, Bool, true, false}
 use Rattle.mpy_tool.specs.declared.ending.Ending.{Ending}
 use Rattle.mpy_tool.specs.declared.ending.Ending.TheVariants.{Done, Unaccepted, Unread, Unverified, Unmerged, Stopped, ReadFault, WriteFault, Unwritten, NoMemory, Absent}
 use Rattle.mpy_tool.specs.declared.ending.Stop.{Stop}
-use Rattle.mpy_tool.specs.declared.ending.Stop.TheVariants.{Past, LibraryFault, Raised, Memory, Steps}
+use Rattle.mpy_tool.specs.declared.ending.Stop.TheVariants.{Past, LibraryFault, LibraryUnaccepted, Raised, Memory, Steps}
 
 -- of a run that wasn't done
 abbrev pub stop_status : Stop → ℕ
 stop_status Raised = 1
+stop_status (LibraryUnaccepted source) = 3
 stop_status (Steps count) = 5
 stop_status Memory = 6
 stop_status (LibraryFault path) = 7
@@ -30,6 +31,7 @@ status_of (Stopped stop) = stop_status stop
 abbrev pub is_read_stop : Stop → Bool
 is_read_stop (Past limit) = false
 is_read_stop (LibraryFault path) = true
+is_read_stop (LibraryUnaccepted source) = false
 is_read_stop Raised = false
 is_read_stop Memory = false
 is_read_stop (Steps count) = false
@@ -65,6 +67,7 @@ is_out_fault Absent = false
 abbrev pub is_stop_said : Stop → Bool
 is_stop_said (Past limit) = false
 is_stop_said (LibraryFault path) = false
+is_stop_said (LibraryUnaccepted source) = false
 is_stop_said Raised = true
 is_stop_said Memory = true
 is_stop_said (Steps count) = false
@@ -86,6 +89,7 @@ is_said Absent = false
 abbrev pub IsSettledStop : Stop → Type 0
 IsSettledStop (Past limit) = Unit {0}
 IsSettledStop (LibraryFault path) = ⊥
+IsSettledStop (LibraryUnaccepted source) = Unit {0}
 IsSettledStop Raised = Unit {0}
 IsSettledStop Memory = Unit {0}
 IsSettledStop (Steps count) = Unit {0}

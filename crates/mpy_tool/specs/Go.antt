@@ -1,61 +1,65 @@
--- What running a source by its name does.
-use Rattle.std.specs.Prelude.{ℕ, List, Option, Some, None, map, nat_lt, if◌then◌else◌, Result, Ok, Err, Vec}
-use Rattle.std.specs.declared.alloc.Global.{Global}
-use Rattle.mpy_base.specs.declared.source.SourceFault.{SourceFault}
-use Rattle.mpy_base.specs.declared.refused.Refused.{Refused}
-use Rattle.mpy_base.specs.declared.refused.Refused.TheVariants as refused
-use Rattle.std.specs.Io.KnownBytes.{Appends, Keeps}
+-- Which library a source has.
+use Rattle.std.specs.Prelude.{ℕ, List, Contains, Option, Some, None, IfSome, Result, Ok, Err}
 use Rattle.mpy_io.specs.Files.{FileOf}
-use Rattle.mpy_io.specs.Told.{AppendsFront}
-use Rattle.mpy_simple.specs.Source.{Accepts, IsFault}
-use Rattle.bc_vm.specs.Printed.{printed}
+use Rattle.mpy_tree.specs.Raw.{Module}
+use Rattle.bc_library.specs.Shelf.{Shelf}
+use Rattle.pkg_paths.specs.Plain.{IsPlain}
+use Rattle.pkg_paths.specs.Paths.{candidates}
+use Rattle.mpy_compile.specs.Compiled.{IsFault}
+use Rattle.library_files.specs.declared.limit.UnacceptedSource.{UnacceptedSource}
+use Rattle.library_files.specs.Loads as loads
+use Rattle.library_files.specs.Loads.{Loading, Loaded}
+use Rattle.source_files.specs.Sources.{stored, source_ending, IsModuleOf, LoadsFromSources}
 use Rattle.mpy_tool.specs.declared.ending.Ending.{Ending}
 use Rattle.mpy_tool.specs.declared.ending.Ending.TheVariants.{Done, Unaccepted, Unread, Unverified, Unmerged, Stopped, ReadFault, WriteFault, Unwritten, NoMemory, Absent}
+use Rattle.mpy_tool.specs.declared.ending.Stop.TheVariants.{Past, LibraryFault, LibraryUnaccepted, Raised, Memory, Steps}
+use Rattle.mpy_tool.specs.Base.{base_of}
+use Rattle.mpy_tool.specs.Cross.{HoldsFaulty}
 use Rattle.mpy_tool.specs.Folder.{MayHold}
 
--- a question mark for a byte that isn't ASCII
-abbrev pub ascii_of : ℕ → ℕ
-ascii_of byte = if nat_lt byte 128 then byte else 63
+-- the source under the name compiles at the level to a file of this verified module, which has that many bytes
+pub record HoldsSource (level : ℕ) (files : Option FileOf) (name : List ℕ) (m : Module) (size : ℕ) : Type 0 where
+  pub source : List ℕ
+  pub holds : MayHold files name (Some source)
+  pub is : IsModuleOf level name source m size
 
--- the name that a file stores of its source
-abbrev pub stored : List ℕ → List ℕ
-stored name = map ascii_of name
+-- loading the library of the source under the name, from the sources of its folder, ends so
+pub record SourceLoadsOf (level : ℕ) (files : Option FileOf) (name : List ℕ) (end : Loading) : Type 0 where
+  pub main : Module
+  pub size : ℕ
+  pub holds : HoldsSource level files name main size
+  pub loads : IfSome files (λ file. LoadsFromSources level file (base_of name) main size end)
 
--- the texts that a source prints, or its first fault; want of memory says nothing
-abbrev pub GivesTexts : ℕ → List ℕ → List ℕ → Result (Vec (List ℕ) Global) (Refused SourceFault) → Type 0
-GivesTexts level source name (Ok texts) = Accepts level source name texts.items
-GivesTexts level source name (Err (refused.Fault fault)) = IsFault level source name fault
-GivesTexts level source name (Err refused.NoMemory) = Unit {0}
+-- the path is one that a plain name may have in the folder of the source of this name
+abbrev pub IsOfSources : (name path : List ℕ) → Type 0
+IsOfSources name path = (module_name : List ℕ) × IsPlain module_name × Contains (candidates (base_of name) module_name source_ending) path
 
--- How a source that was read ended at a level of optimization, why, and what it printed: the texts of an accepted source,
--- all of them or a front.
-abbrev pub RanSource : ℕ → List ℕ → List ℕ → Ending → Option (List ℕ) → Option (List ℕ) → Type 0
-RanSource level source name Done old new = (texts : List (List ℕ)) × Accepts level source name texts × Appends old new (printed texts)
-RanSource level source name (Unaccepted fault) old new = IsFault level source name fault × Keeps old new
-RanSource level source name (Unread fault) old new = ⊥
-RanSource level source name (Unverified fault) old new = ⊥
-RanSource level source name (Unmerged fault) old new = ⊥
-RanSource level source name (Stopped stop) old new = ⊥
-RanSource level source name ReadFault old new = ⊥
-RanSource level source name WriteFault old new = (texts : List (List ℕ)) × Accepts level source name texts × AppendsFront old new (printed texts)
-RanSource level source name Unwritten old new = ⊥
-RanSource level source name NoMemory old new = Keeps old new
-RanSource level source name Absent old new = ⊥
+-- such a source has this first fault
+pub record IsFaultyOf (level : ℕ) (name : List ℕ) (unaccepted : UnacceptedSource) : Type 0 where
+  pub is_of : IsOfSources name unaccepted.path
+  pub source : List ℕ
+  pub is : IsFault level source (stored unaccepted.path) unaccepted.fault
 
--- the same of the source that the folder has under the name
-abbrev pub RanFile : ℕ → Option FileOf → List ℕ → Ending → Option (List ℕ) → Option (List ℕ) → Type 0
-RanFile level files name ending old new = (source : List ℕ) × MayHold files name (Some source) × RanSource level source (stored name) ending old new
+-- why the library of the source under the name isn't loaded
+abbrev pub RefusesSources : (level : ℕ) → Option FileOf → (name : List ℕ) → Ending → Type 0
+RefusesSources level files name Done = ⊥
+RefusesSources level files name (Unaccepted fault) = HoldsFaulty level files name (stored name) fault
+RefusesSources level files name (Unread fault) = ⊥
+RefusesSources level files name (Unverified fault) = ⊥
+RefusesSources level files name (Unmerged fault) = ⊥
+RefusesSources level files name (Stopped (Past limit)) = SourceLoadsOf level files name (loads.Past limit)
+RefusesSources level files name (Stopped (LibraryFault path)) = IsOfSources name path
+RefusesSources level files name (Stopped (LibraryUnaccepted source)) = SourceLoadsOf level files name (loads.Unaccepted source) × IsFaultyOf level name source
+RefusesSources level files name (Stopped Raised) = ⊥
+RefusesSources level files name (Stopped Memory) = ⊥
+RefusesSources level files name (Stopped (Steps count)) = ⊥
+RefusesSources level files name ReadFault = Unit {0}
+RefusesSources level files name WriteFault = ⊥
+RefusesSources level files name Unwritten = ⊥
+RefusesSources level files name NoMemory = Unit {0}
+RefusesSources level files name Absent = MayHold files name None
 
--- how a run of the source of this name ended
-abbrev pub Went : ℕ → Option FileOf → List ℕ → Ending → Option (List ℕ) → Option (List ℕ) → Type 0
-Went level files name Done old new = RanFile level files name Done old new
-Went level files name (Unaccepted fault) old new = RanFile level files name (Unaccepted fault) old new
-Went level files name (Unread fault) old new = ⊥
-Went level files name (Unverified fault) old new = ⊥
-Went level files name (Unmerged fault) old new = ⊥
-Went level files name (Stopped stop) old new = ⊥
-Went level files name WriteFault old new = RanFile level files name WriteFault old new
-Went level files name Unwritten old new = ⊥
-Went level files name ReadFault old new = Keeps old new
-Went level files name NoMemory old new = Keeps old new
-Went level files name Absent old new = MayHold files name None × Keeps old new
+-- what loading the library of the source under the name comes to: the library, or why it isn't loaded
+abbrev pub SourceLibrary : (level : ℕ) → Option FileOf → (name : List ℕ) → Result Shelf Ending → Type 0
+SourceLibrary level files name (Ok shelf) = SourceLoadsOf level files name (Loaded shelf)
+SourceLibrary level files name (Err ending) = RefusesSources level files name ending

@@ -9,3 +9,6 @@ pub mod Line
 pub mod Outside
 pub mod Base
 pub mod Run
+pub mod Meant
+pub mod Made
+pub mod GoMeant

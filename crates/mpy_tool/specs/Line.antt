@@ -18,7 +18,7 @@ use Rattle.mpy_words.specs.Command.{name_of as word_name, spelling_of}
 use Rattle.mpy_tool.specs.declared.ending.Ending.{Ending}
 use Rattle.mpy_tool.specs.declared.ending.Ending.TheVariants.{Done, Unaccepted, Unread, Unverified, Unmerged, Stopped, ReadFault, WriteFault, Unwritten, NoMemory, Absent}
 use Rattle.mpy_tool.specs.declared.ending.Stop.{Stop}
-use Rattle.mpy_tool.specs.declared.ending.Stop.TheVariants.{Past, LibraryFault, Raised, Memory, Steps}
+use Rattle.mpy_tool.specs.declared.ending.Stop.TheVariants.{Past, LibraryFault, LibraryUnaccepted, Raised, Memory, Steps}
 use Rattle.library_files.specs.declared.limit.Limit.TheVariants as limits
 
 -- a word that a fault names, left out where it is empty
@@ -86,11 +86,12 @@ merge_line fault =
     ++ tag_text (merge.place_of fault)
     ++ codes "\n"
 
--- what kept a file from being run to its end: nothing of what was said in the run
+-- what kept a file or a source from being run to its end: nothing of what was said in the run
 abbrev pub stop_line : Stop → List ℕ
 stop_line (Past limits.TooMany) = codes "mpy: library TooMany\n"
 stop_line (Past limits.Names) = codes "mpy: library Names\n"
 stop_line (LibraryFault path) = codes "mpy: read fault " ++ path ++ codes "\n"
+stop_line (LibraryUnaccepted source) = source_line source.path source.fault
 stop_line Raised = []
 stop_line Memory = []
 stop_line (Steps count) = codes "mpy: step limit " ++ decimal count ++ codes "\n"

@@ -8,6 +8,7 @@ use Rattle.mpy_reader.specs.Reading.{FirstFault}
 use Rattle.bc_verify.specs.Verified.{IsVerified}
 use Rattle.mpy_merge.specs.declared.fault.MergeFault.{MergeFault}
 use Rattle.mpy_merge.specs.Faults as merges
+use Rattle.mpy_merge.specs.AsMerge.{ReadsAsMerge}
 use Rattle.mpy_merge.specs.Merged.{IsMerged}
 use Rattle.mpy_tool.specs.declared.ending.Ending.{Ending}
 use Rattle.mpy_tool.specs.declared.ending.Ending.TheVariants.{Done, Unaccepted, Unread, Unverified, Unmerged, Stopped, ReadFault, WriteFault, Unwritten, NoMemory, Absent}
@@ -69,11 +70,12 @@ pub record IsFirstRefused (files : Option FileOf) (names : List (List ℕ)) (pla
   pub before : HoldModules files (take at names) modules
   pub refused : Refuses files (slice_index_or names at []) ending
 
--- the bytes are the merged file of the modules of the files
+-- the bytes are the merged file of the modules of the files, which is read as the merge of their trees
 pub record HoldMerged (files : Option FileOf) (names : List (List ℕ)) (bytes : List ℕ) : Type 0 where
   pub modules : List Module
   pub hold : HoldModules files names modules
   pub merged : IsMerged modules bytes
+  pub reads : ReadsAsMerge modules bytes
 
 -- the modules of the files have this first fault
 pub record HoldUnmerged (files : Option FileOf) (names : List (List ℕ)) (fault : MergeFault) : Type 0 where

@@ -81,7 +81,7 @@ written_in words (Ok order) = written_by words order.command
 
 -- whether a command may call ports; words of no order call none
 abbrev pub calls_ports : Command → Bool
-calls_ports Go = false
+calls_ports Go = true
 calls_ports Check = false
 calls_ports Dump = false
 calls_ports Cross = false

@@ -1,5 +1,5 @@
--- What running a file does.
-use Rattle.std.specs.Prelude.{◌≡◌, ◌++◌, ℕ, List, [], length, Contains, Option, Some, IfSome}
+-- What running a library does, and which library a file has.
+use Rattle.std.specs.Prelude.{◌≡◌, ◌++◌, ℕ, List, [], length, Contains, Option, Some, IfSome, Result, Ok, Err}
 use Rattle.std.specs.Io.KnownBytes.{Keeps}
 use Rattle.mpy_base.specs.declared.room.Room.{Room}
 use Rattle.mpy_io.specs.Count.{Counts}
@@ -24,13 +24,16 @@ use Rattle.library_runs.specs.Runs.{Sight, RunsAs}
 use Rattle.mpy_words.specs.declared.order.Order.{Order}
 use Rattle.mpy_tool.specs.declared.ending.Ending.{Ending}
 use Rattle.mpy_tool.specs.declared.ending.Ending.TheVariants.{Done, Unaccepted, Unread, Unverified, Unmerged, Stopped, ReadFault, WriteFault, Unwritten, NoMemory, Absent}
-use Rattle.mpy_tool.specs.declared.ending.Stop.TheVariants.{Past, LibraryFault, Raised, Memory, Steps}
+use Rattle.mpy_tool.specs.declared.ending.Stop.TheVariants.{Past, LibraryFault, LibraryUnaccepted, Raised, Memory, Steps}
 use Rattle.mpy_tool.specs.Base.{base_of}
 use Rattle.mpy_tool.specs.Ending.{is_folder_fault, is_out_fault, status_of}
 use Rattle.mpy_tool.specs.Folder.{MayHold}
 use Rattle.mpy_tool.specs.Line.{Says, line_of}
 use Rattle.mpy_tool.specs.Merge.{Refuses}
 use Rattle.mpy_tool.specs.Outside.{Outside}
+
+-- the library of a file
+-- =====================
 
 -- the file under the name is one of this verified module, and has that many bytes
 pub record HoldsMain (files : Option FileOf) (name : List ℕ) (m : Module) (size : ℕ) : Type 0 where
@@ -60,6 +63,7 @@ RefusesLibrary files name (Unverified fault) = Refuses files name (Unverified fa
 RefusesLibrary files name (Unmerged fault) = ⊥
 RefusesLibrary files name (Stopped (Past limit)) = LoadsOf files name (loads.Past limit)
 RefusesLibrary files name (Stopped (LibraryFault path)) = IsOfLibrary name path
+RefusesLibrary files name (Stopped (LibraryUnaccepted source)) = ⊥
 RefusesLibrary files name (Stopped Raised) = ⊥
 RefusesLibrary files name (Stopped Memory) = ⊥
 RefusesLibrary files name (Stopped (Steps count)) = ⊥
@@ -73,9 +77,18 @@ RefusesLibrary files name Absent = Refuses files name Absent
 abbrev pub load_end : Refused LoadFault → Ending
 load_end (refused.Fault (faults.Past limit)) = Stopped (Past limit)
 load_end (refused.Fault (faults.Failed read)) = Stopped (LibraryFault read.path)
+load_end (refused.Fault (faults.Unaccepted source)) = Stopped (LibraryUnaccepted source)
 load_end refused.NoMemory = NoMemory
 
--- how a run of a file ends whose library's run ends so
+-- what loading the library of the file under the name comes to: the library, or why it isn't loaded
+abbrev pub FileLibrary : Option FileOf → (name : List ℕ) → Result Shelf Ending → Type 0
+FileLibrary files name (Ok shelf) = LoadsOf files name (Loaded shelf)
+FileLibrary files name (Err ending) = RefusesLibrary files name ending
+
+-- the run of a library
+-- ====================
+
+-- how a run ends whose library's run ends so
 abbrev pub ending_of : RunEnd → (steps : ℕ) → Ending
 ending_of ends.Ended steps = Done
 ending_of ends.Raised steps = Stopped Raised
@@ -84,34 +97,59 @@ ending_of ends.Limit steps = Stopped (Steps steps)
 ending_of ends.WriteFault steps = WriteFault
 ending_of ends.NoMemory steps = NoMemory
 
-module _ (files : Option FileOf) (name : List ℕ) (room : Room) (steps : ℕ) (old new : Sight) (said : List ℕ) where
-  -- the library of the file under the name was run, and the run ended so
-  abbrev pub RanFile : RunEnd → Type 0
-  RanFile end = (shelf : Shelf) × LoadsOf files name (Loaded shelf) × RunsAs shelf main_name room steps old new end said
+-- the endings where the library isn't loaded
+abbrev pub IsUnloaded : Ending → Type 0
+IsUnloaded Done = ⊥
+IsUnloaded (Unaccepted fault) = Unit {0}
+IsUnloaded (Unread fault) = Unit {0}
+IsUnloaded (Unverified fault) = Unit {0}
+IsUnloaded (Unmerged fault) = ⊥
+IsUnloaded (Stopped (Past limit)) = Unit {0}
+IsUnloaded (Stopped (LibraryFault path)) = Unit {0}
+IsUnloaded (Stopped (LibraryUnaccepted source)) = Unit {0}
+IsUnloaded (Stopped Raised) = ⊥
+IsUnloaded (Stopped Memory) = ⊥
+IsUnloaded (Stopped (Steps count)) = ⊥
+IsUnloaded ReadFault = Unit {0}
+IsUnloaded WriteFault = ⊥
+IsUnloaded Unwritten = ⊥
+IsUnloaded NoMemory = Unit {0}
+IsUnloaded Absent = Unit {0}
 
-  -- no run began: nothing was printed or said, and no port was called
-  pub record Untouched : Type 0 where
-    pub prints : Keeps old.out new.out
-    pub ports : new.ports ≡ old.ports
-    pub says : said ≡ []
+-- no run began: nothing was printed or said, and no port was called
+pub record Untouched (old new : Sight) (said : List ℕ) : Type 0 where
+  pub prints : Keeps old.out new.out
+  pub ports : new.ports ≡ old.ports
+  pub says : said ≡ []
 
-  -- How a run of the file of this name ended, in this room and with this bound on its steps, and what was said in it.
+-- where the relation tells what loading the library comes to
+module _ (Comes : Result Shelf Ending → Type 0) (room : Room) (steps : ℕ) (old new : Sight) (said : List ℕ) where
+  -- the library was run, and its run ended so
+  abbrev pub RanLibrary : RunEnd → Type 0
+  RanLibrary end = (shelf : Shelf) × Comes (Ok shelf) × RunsAs shelf main_name room steps old new end said
+
+  -- it wasn't loaded
+  abbrev pub NotLoaded : Ending → Type 0
+  NotLoaded ending = Comes (Err ending) × Untouched old new said
+
+  -- How the run ended, in this room and with this bound on its steps, and what was said in it.
   abbrev pub Runs : Ending → Type 0
-  Runs Done = RanFile ends.Ended
-  Runs (Unaccepted fault) = ⊥
-  Runs (Unread fault) = Refuses files name (Unread fault) × Untouched
-  Runs (Unverified fault) = Refuses files name (Unverified fault) × Untouched
+  Runs Done = RanLibrary ends.Ended
+  Runs (Unaccepted fault) = NotLoaded (Unaccepted fault)
+  Runs (Unread fault) = NotLoaded (Unread fault)
+  Runs (Unverified fault) = NotLoaded (Unverified fault)
   Runs (Unmerged fault) = ⊥
-  Runs (Stopped (Past limit)) = LoadsOf files name (loads.Past limit) × Untouched
-  Runs (Stopped (LibraryFault path)) = IsOfLibrary name path × Untouched
-  Runs (Stopped Raised) = RanFile ends.Raised
-  Runs (Stopped Memory) = RanFile ends.Memory
-  Runs (Stopped (Steps count)) = RanFile ends.Limit × (count ≡ steps)
-  Runs ReadFault = Untouched
-  Runs WriteFault = RanFile ends.WriteFault
+  Runs (Stopped (Past limit)) = NotLoaded (Stopped (Past limit))
+  Runs (Stopped (LibraryFault path)) = NotLoaded (Stopped (LibraryFault path))
+  Runs (Stopped (LibraryUnaccepted source)) = NotLoaded (Stopped (LibraryUnaccepted source))
+  Runs (Stopped Raised) = RanLibrary ends.Raised
+  Runs (Stopped Memory) = RanLibrary ends.Memory
+  Runs (Stopped (Steps count)) = RanLibrary ends.Limit × (count ≡ steps)
+  Runs ReadFault = NotLoaded ReadFault
+  Runs WriteFault = RanLibrary ends.WriteFault
   Runs Unwritten = ⊥
-  Runs NoMemory = Untouched
-  Runs Absent = Refuses files name Absent × Untouched
+  Runs NoMemory = Untouched old new said
+  Runs Absent = NotLoaded Absent
 
 -- the room of an order
 abbrev pub room_of : Order → Room
@@ -121,13 +159,13 @@ room_of order = record { cells = order.cells; bytes = order.bytes }
 abbrev pub sight_in : Outside → List PortView → Sight
 sight_in outside ports = record { out = outside.out; ports = ports }
 
--- A run of the file of this name ended so: why, with what printed and what the ports tell, which count of faults rose, and what
--- was said, in the run and behind it.
-pub record EndsRun (room : Room) (steps : ℕ) (name : List ℕ) (old new : Outside) (ports_old ports_new : List PortView) (status : ℕ) : Type 0 where
+-- A run of the library that comes so of the folder's files and of this name ended so: why, with what printed and what the ports tell,
+-- which count of faults rose, and what was said, in the run and behind it.
+pub record EndsRun (Comes : Option FileOf → (name : List ℕ) → Result Shelf Ending → Type 0) (room : Room) (steps : ℕ) (name : List ℕ) (old new : Outside) (ports_old ports_new : List PortView) (status : ℕ) : Type 0 where
   pub ending : Ending
   pub said : List ℕ
   pub status_is : status ≡ status_of ending
-  pub went : Runs old.files name room steps (sight_in old ports_old) (sight_in new ports_new) said ending
+  pub went : Runs (Comes old.files name) room steps (sight_in old ports_old) (sight_in new ports_new) said ending
   pub folder_counts : Counts old.folder_faults new.folder_faults (is_folder_fault ending)
   pub out_counts : Counts old.out_faults new.out_faults (is_out_fault ending)
   pub says : Says old.say new.say old.say_faults new.say_faults (said ++ line_of name ending)

@@ -3,15 +3,15 @@
 ghost use Rattle.std.specs.Prelude.{◌≡◌, ◌≤◌, false};
 ghost use Rattle.mpy_io.specs.Count.{Counts};
 ghost use Rattle.mpy_compile.specs.Compiled.{Compiles};
+ghost use Rattle.source_files.specs.Sources.{stored};
 ghost use Rattle.mpy_tool.specs.Cross.{Crosses};
 ghost use Rattle.mpy_tool.specs.Ending.{is_folder_fault, is_out_fault};
-ghost use Rattle.mpy_tool.specs.Go.{stored};
 
 use crate::ending::Ending;
-use crate::go::stored_name;
 use mpy_base::{NoMemory, Refused, SourceFault};
 use mpy_compile::compile;
 use mpy_io::{Failed, Folder, ReadFault};
+use source_files::stored_name;
 use std::alloc::Global;
 
 /// The file of a source, which stores its name.
@@ -24,7 +24,7 @@ fn compiled(
     requires { level ≤ 3 }
     ensures { Compiles level source.now (stored name.now) result }
 {
-    match stored_name(alloc, name) {
+    match stored_name(alloc, name.as_bytes()) {
         Ok(stored) => compile(alloc, source, level, stored.bytes()),
         Err(NoMemory) => Err(Refused::NoMemory),
     }

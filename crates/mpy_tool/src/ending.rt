@@ -5,18 +5,20 @@ ghost use Rattle.mpy_tool.specs.Ending.{status_of, stop_status};
 ghost use Rattle.mpy_tool.specs.Line.{place_in};
 
 use bc_verify::VerifyFault;
-use library_files::Limit;
+use library_files::{Limit, UnacceptedSource};
 use mpy_base::{SourceFault, Text};
 use mpy_merge::MergeFault;
 use mpy_reader::FileFault;
 
-/// What keeps a file from being run to its end.
+/// What keeps a file or a source from being run to its end.
 #[derive(Debug, Drop)]
 pub enum Stop {
-    /// The file's library passes a limit.
+    /// Its library passes a limit.
     Past(Limit),
     /// The folder failed to read the file of this name, which may be one of the library.
     LibraryFault(Text),
+    /// A source of the library isn't accepted.
+    LibraryUnaccepted(UnacceptedSource),
     /// An exception that nothing caught ended the run; its report was said.
     Raised,
     /// A making didn't fit the arena; its line was said.
@@ -31,6 +33,7 @@ impl Stop {
     {
         match self {
             Stop::Raised => 1,
+            Stop::LibraryUnaccepted(_) => 3,
             Stop::Steps(_) => 5,
             Stop::Memory => 6,
             Stop::LibraryFault(_) => 7,
@@ -52,7 +55,7 @@ pub enum Ending {
     Unverified(VerifyFault),
     /// The modules can't be merged.
     Unmerged(MergeFault),
-    /// The file is verified, and wasn't run to its end.
+    /// The file is verified, or the source accepted, and wasn't run to its end.
     Stopped(Stop),
     /// The folder failed to read the file.
     ReadFault,

@@ -8,11 +8,12 @@ mod dump;
 mod ending;
 mod go;
 mod line;
+mod meant;
 mod merge;
 mod run;
 mod top;
 mod words;
 
 pub use ending::{Ending, Stop};
-pub use mpy_simple::{simple_file, simple_read};
+pub use meant::{crossed_holds_law, holds_law, makes_law};
 pub use top::{mpy, one_ending_law};

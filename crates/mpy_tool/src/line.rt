@@ -98,7 +98,7 @@ pub(crate) fn say_words<E: Sink>(
 }
 
 /// Says why the source of this name isn't accepted.
-fn say_fault<E: Sink>(say: &mut E, name: &str, fault: &SourceFault) -> Result<(), Failed>
+fn say_fault<E: Sink>(say: &mut E, name: &[u8], fault: &SourceFault) -> Result<(), Failed>
     ensures { Puts (E.told say.old) (E.told say.new) (E.count say.old) (E.count say.new)
         (source_line name.now fault.now) result }
 {
@@ -107,7 +107,7 @@ fn say_fault<E: Sink>(say: &mut E, name: &str, fault: &SourceFault) -> Result<()
     let number = number.format(fault.code.number()).as_bytes();
     let line = line.format(fault.line).as_bytes();
     let word = fault.word.bytes();
-    put_three(say, b"mpy: ", name.as_bytes(), b": source ")?;
+    put_three(say, b"mpy: ", name, b": source ")?;
     put_three(say, number, b" ", fault.code.name().as_bytes())?;
     put_three(say, gap(word), word, b" line ")?;
     put_two(say, line, b"\n")
@@ -257,7 +257,7 @@ fn say_steps<E: Sink>(say: &mut E, count: u64) -> Result<(), Failed>
     )
 }
 
-/// Says what kept a file from being run to its end, if that wasn't said in the run.
+/// Says what kept a file or a source from being run to its end, if that wasn't said in the run.
 fn say_stop<E: Sink>(say: &mut E, stop: &Stop) -> Result<(), Failed>
     ensures line { Puts (E.told say.old) (E.told say.new) (E.count say.old) (E.count say.new) (stop_line stop.now) result }
     ensures said { is_stop_said stop.now ≡ true → say.new ≡ say.old }
@@ -266,6 +266,7 @@ fn say_stop<E: Sink>(say: &mut E, stop: &Stop) -> Result<(), Failed>
         Stop::Past(Limit::TooMany) => put(say, b"mpy: library TooMany\n"),
         Stop::Past(Limit::Names) => put(say, b"mpy: library Names\n"),
         Stop::LibraryFault(path) => put_three(say, b"mpy: read fault ", path.bytes(), b"\n"),
+        Stop::LibraryUnaccepted(source) => say_fault(say, source.path.bytes(), &source.fault),
         Stop::Raised | Stop::Memory => Ok(()),
         Stop::Steps(count) => say_steps(say, *count),
     }
@@ -279,7 +280,7 @@ pub(crate) fn say_ending<E: Sink>(say: &mut E, name: &str, ending: &Ending) -> R
 {
     match ending {
         Ending::Done => Ok(()),
-        Ending::Unaccepted(fault) => say_fault(say, name, fault),
+        Ending::Unaccepted(fault) => say_fault(say, name.as_bytes(), fault),
         Ending::Unread(fault) => say_unread(say, name, *fault),
         Ending::Unverified(fault) => say_unverified(say, name, fault),
         Ending::Unmerged(fault) => say_unmerged(say, *fault),

@@ -1,17 +1,16 @@
-//! The command `run`.
+//! The library of a file, and the run of a library.
 
 ghost use Rattle.library_runs.specs.Runs.{sight};
 ghost use Rattle.std.specs.Prelude.{◌≡◌, List, ℕ, [], false, IfOk, IfErr};
 ghost use Rattle.mpy_io.specs.Count.{Counts};
 ghost use Rattle.library_files.specs.Ends.{BeginsWith, HoldsModules};
-ghost use Rattle.library_files.specs.Loads.{Loaded};
 ghost use Rattle.mpy_tree.specs.Raw.{Module};
 ghost use Rattle.mpy_tool.specs.Line.{Says};
 ghost use Rattle.mpy_tool.specs.declared.ending.Ending.TheVariants.{Done};
 ghost use Rattle.mpy_tool.specs.Ending.{is_folder_fault, is_out_fault, is_said};
 ghost use Rattle.mpy_tool.specs.Merge.{Refuses, failed_in};
 ghost use Rattle.mpy_tool.specs.Run as spec;
-ghost use Rattle.mpy_tool.specs.Run.{HoldsMain, LoadsOf, RefusesLibrary, Runs};
+ghost use Rattle.mpy_tool.specs.Run.{HoldsMain, FileLibrary, IsUnloaded, Runs};
 
 use crate::base::base_of;
 use crate::check::verified;
@@ -51,22 +50,29 @@ fn main_of<F: Folder>(
 }
 
 /// Why a library isn't loaded.
-fn load_ending(refused: Refused<LoadFault>) -> Ending
+pub(crate) fn load_ending(refused: Refused<LoadFault>) -> Ending
     ensures { result ≡ spec.load_end refused }
 {
     match refused {
         Refused::Fault(LoadFault::Past(limit)) => Ending::Stopped(Stop::Past(limit)),
         Refused::Fault(LoadFault::Failed(read)) => Ending::Stopped(Stop::LibraryFault(read.path)),
+        Refused::Fault(LoadFault::Unaccepted(source)) => {
+            Ending::Stopped(Stop::LibraryUnaccepted(source))
+        }
         Refused::NoMemory => Ending::NoMemory,
     }
 }
 
 /// The library of the file of this name, or what keeps it from being loaded.
-fn library_of<F: Folder>(alloc: Global, name: &str, folder: &mut F) -> Result<Library, Ending>
-    ensures loaded { IfOk result (λ library. LoadsOf (F.files folder.old) name.now (Loaded library)) }
+pub(crate) fn file_library<F: Folder>(
+    alloc: Global,
+    name: &str,
+    folder: &mut F,
+) -> Result<Library, Ending>
+    ensures comes { FileLibrary (F.files folder.old) name.now result }
     ensures begins { IfOk result (λ library. (m : Module) × BeginsWith m library) }
     ensures holds { IfOk result HoldsModules }
-    ensures refused { IfErr result (RefusesLibrary (F.files folder.old) name.now) }
+    ensures unloaded { IfErr result IsUnloaded }
     ensures counts { Counts (F.count folder.old) (F.count folder.new) (failed_in result) }
     ensures files { F.files folder.new ≡ F.files folder.old }
 {
@@ -80,7 +86,7 @@ fn library_of<F: Folder>(alloc: Global, name: &str, folder: &mut F) -> Result<Li
     }
 }
 
-/// How a run of a file ended whose library's run ended so.
+/// How a run ended whose library's run ended so.
 fn ending_of(end: RunEnd, steps: u64) -> Ending
     ensures { result ≡ spec.ending_of end steps }
 {
@@ -94,28 +100,29 @@ fn ending_of(end: RunEnd, steps: u64) -> Ending
     }
 }
 
-/// Runs the file of this name, in an arena of this room, for these steps at most. What is printed is handed on before anything is
-/// said of the run's end.
-pub(crate) fn run_file<F: Folder, S: Sink, P: Port, E: Sink>(
+/// Runs what was loaded, in an arena of this room, for these steps at most. What is printed is handed on before anything is said of
+/// the run's end.
+pub(crate) fn run_loaded<S: Sink, P: Port, E: Sink>(
     alloc: Global,
-    name: &str,
+    loaded: Result<Library, Ending>,
     room: Room,
     steps: u64,
-    folder: &mut F,
     out: &mut S,
     ports: &mut PortSet<P>,
     say: &mut E,
 ) -> Ending
+    requires begins { IfOk loaded (λ library. (m : Module) × BeginsWith m library) }
+    requires holds { IfOk loaded HoldsModules }
+    requires unloaded { IfErr loaded IsUnloaded }
     ensures went { (said : List ℕ)
-        × Runs (F.files folder.old) name.now room steps (sight S.told P.seen out.old ports.old) (sight S.told P.seen out.new ports.new) said result
+        × Runs (λ library. library ≡ loaded) room steps (sight S.told P.seen out.old ports.old) (sight S.told P.seen out.new ports.new) said result
         × Says (E.told say.old) (E.told say.new) (E.count say.old) (E.count say.new) said }
     ensures flushed { result ≡ Done → S.held out.new ≡ [] }
     ensures silent { is_said result ≡ false → say.new ≡ say.old }
-    ensures folder_counts { Counts (F.count folder.old) (F.count folder.new) (is_folder_fault result) }
+    ensures reads { failed_in loaded ≡ is_folder_fault result }
     ensures out_counts { Counts (S.count out.old) (S.count out.new) (is_out_fault result) }
-    ensures files { F.files folder.new ≡ F.files folder.old }
 {
-    match library_of(alloc, name, folder) {
+    match loaded {
         Ok(library) => {
             let end = run_library(alloc, &library, 0, room, steps, out, ports, say);
             ending_of(end, steps)

@@ -1,8 +1,10 @@
 //! The top call.
 
-ghost use Rattle.std.specs.Prelude.{◌≡◌, ◌≢◌, ◌≤◌, ℕ, List, [], Option, Some, false, map, string_bytes, IfOk, IfErr, MatchBool};
+ghost use Rattle.std.specs.Prelude.{◌≡◌, ◌≤◌, ℕ, List, [], Option, Some, true, false, map, string_bytes, IfOk, IfErr};
 ghost use Rattle.mpy_io.specs.Count.{Counts};
 ghost use Rattle.mpy_io.specs.Files.{FileOf};
+ghost use Rattle.mpy_tree.specs.Raw.{Module};
+ghost use Rattle.library_files.specs.Ends.{BeginsWith, HoldsModules};
 ghost use Rattle.mpy_words.specs.declared.order.Command.TheVariants as commands;
 ghost use Rattle.mpy_words.specs.Command.{takes_files};
 ghost use Rattle.mpy_words.specs.Words.{order_of, first_name, second_name, source_name, file_names};
@@ -12,22 +14,27 @@ ghost use Rattle.mpy_tool.specs.Ending.{IsSettled, is_folder_fault, is_out_fault
 ghost use Rattle.mpy_tool.specs.Check.{Checks};
 ghost use Rattle.mpy_tool.specs.Cross.{Crosses};
 ghost use Rattle.mpy_tool.specs.Dump.{Dumps};
-ghost use Rattle.mpy_tool.specs.Go.{stored, Went};
+ghost use Rattle.mpy_tool.specs.Go.{SourceLibrary};
+ghost use Rattle.mpy_tool.specs.GoMeant.{GoMeans};
 ghost use Rattle.mpy_tool.specs.Line.{place_in};
-ghost use Rattle.mpy_tool.specs.Merge.{Merges};
-ghost use Rattle.mpy_tool.specs.Outside.{seen, RefusesWords, Ends, Writes, WritesOf, written_by, written_in, calls_ports_in, Changes};
-ghost use Rattle.mpy_tool.specs.Run.{EndsRun, room_of};
+ghost use Rattle.mpy_tool.specs.Meant.{RunMeans};
+ghost use Rattle.mpy_tool.specs.Merge.{Merges, failed_in};
+ghost use Rattle.mpy_tool.specs.Outside.{seen, RefusesWords, Ends, Writes, WritesOf, written_by, written_in, calls_ports, calls_ports_in, Changes};
+ghost use Rattle.mpy_tool.specs.Run.{EndsRun, FileLibrary, IsUnloaded, room_of};
+ghost use Rattle.source_files.specs.Sources.{stored};
 ghost use Rattle.std.specs.Io.KnownBytes.{Keeps};
 
 use crate::check::check;
 use crate::cross::cross;
 use crate::dump::dump;
 use crate::ending::{Ended, Ending};
-use crate::go::go;
+use crate::go::source_library;
 use crate::line::{say_ending, say_words};
+use crate::meant::{go_means_law, run_means_law};
 use crate::merge::merge_files;
-use crate::run::run_file;
+use crate::run::{file_library, run_loaded};
 use crate::words::{file_names as files_in, source_name as name_to_store, word_at};
+use bc_library::Library;
 use mpy_base::Room;
 use mpy_compile::compile_law;
 use mpy_io::{Failed, Folder, Port, Sink};
@@ -47,8 +54,7 @@ fn ran<F: Folder, S: Sink>(
     out: &mut S,
 ) -> Ended
     requires level { order.level ≤ 3 }
-    requires no_run { order.command ≢ commands.Run }
-    ensures go { order.command ≡ commands.Go → Went order.level (F.files folder.old) (first_name (map string_bytes words.now)) result.ending (S.told out.old) (S.told out.new) }
+    requires no_run { calls_ports order.command ≡ false }
     ensures check { order.command ≡ commands.Check → Checks (F.files folder.old) (first_name (map string_bytes words.now)) result.ending (S.told out.old) (S.told out.new) }
     ensures dump { order.command ≡ commands.Dump → Dumps (F.files folder.old) (first_name (map string_bytes words.now)) result.ending (S.told out.old) (S.told out.new) }
     ensures cross { order.command ≡ commands.Cross → Crosses order.level (first_name (map string_bytes words.now)) (stored (source_name (map string_bytes words.now) order.stored_name))
@@ -63,7 +69,6 @@ fn ran<F: Folder, S: Sink>(
 {
     let name = word_at(words, 1);
     match order.command {
-        Command::Go => Ended::of_two(go(alloc, order.level, name, folder, out)),
         Command::Check => Ended::of_two(check(alloc, name, folder, out)),
         Command::Dump => Ended::of_two(dump(alloc, name, folder, out)),
         Command::Cross => {
@@ -78,7 +83,7 @@ fn ran<F: Folder, S: Sink>(
             ))
         }
         Command::Merge => merge_files(alloc, files_in(words), name, folder),
-        Command::Run => unreachable!(),
+        Command::Go | Command::Run => unreachable!(),
     }
 }
 
@@ -91,8 +96,7 @@ fn done<F: Folder, S: Sink>(
     out: &mut S,
 ) -> Ended
     requires level { order.level ≤ 3 }
-    requires no_run { order.command ≢ commands.Run }
-    ensures go { order.command ≡ commands.Go → Went order.level (F.files folder.old) (first_name (map string_bytes words.now)) result.ending (S.told out.old) (S.told out.new) }
+    requires no_run { calls_ports order.command ≡ false }
     ensures check { order.command ≡ commands.Check → Checks (F.files folder.old) (first_name (map string_bytes words.now)) result.ending (S.told out.old) (S.told out.new) }
     ensures dump { order.command ≡ commands.Dump → Dumps (F.files folder.old) (first_name (map string_bytes words.now)) result.ending (S.told out.old) (S.told out.new) }
     ensures cross { order.command ≡ commands.Cross → Crosses order.level (first_name (map string_bytes words.now)) (stored (source_name (map string_bytes words.now) order.stored_name))
@@ -122,7 +126,41 @@ fn done<F: Folder, S: Sink>(
     }
 }
 
-/// Runs the file that the words name, and answers the exit status.
+/// Does a command run a library?
+fn runs(command: Command) -> bool
+    ensures { result ≡ calls_ports command }
+{
+    match command {
+        Command::Go | Command::Run => true,
+        Command::Check | Command::Dump | Command::Cross | Command::Merge => false,
+    }
+}
+
+/// The library of the file or the source of this name, whichever is ordered, or what keeps it from being loaded.
+fn library_of<F: Folder>(
+    order: Order,
+    alloc: Global,
+    name: &str,
+    folder: &mut F,
+) -> Result<Library, Ending>
+    requires level { order.level ≤ 3 }
+    requires runs { calls_ports order.command ≡ true }
+    ensures go { order.command ≡ commands.Go → SourceLibrary order.level (F.files folder.old) name.now result }
+    ensures run { order.command ≡ commands.Run → FileLibrary (F.files folder.old) name.now result }
+    ensures begins { IfOk result (λ library. (m : Module) × BeginsWith m library) }
+    ensures holds { IfOk result HoldsModules }
+    ensures unloaded { IfErr result IsUnloaded }
+    ensures counts { Counts (F.count folder.old) (F.count folder.new) (failed_in result) }
+    ensures files { F.files folder.new ≡ F.files folder.old }
+{
+    match order.command {
+        Command::Go => source_library(alloc, order.level, name, folder),
+        Command::Run => file_library(alloc, name, folder),
+        Command::Check | Command::Dump | Command::Cross | Command::Merge => unreachable!(),
+    }
+}
+
+/// Runs the library of the file or the source that the words name, whichever is ordered, and answers the exit status.
 fn run_order<F: Folder, S: Sink, P: Port, E: Sink>(
     order: Order,
     alloc: Global,
@@ -132,24 +170,45 @@ fn run_order<F: Folder, S: Sink, P: Port, E: Sink>(
     ports: &mut PortSet<P>,
     say: &mut E,
 ) -> u8
-    ensures run { EndsRun (room_of order) order.steps (first_name (map string_bytes words.now))
+    requires level { order.level ≤ 3 }
+    requires runs { calls_ports order.command ≡ true }
+    ensures go { order.command ≡ commands.Go
+        → EndsRun (SourceLibrary order.level) (room_of order) order.steps (first_name (map string_bytes words.now))
+        (seen F.files F.count S.told S.count E.told E.count folder.old out.old say.old)
+        (seen F.files F.count S.told S.count E.told E.count folder.new out.new say.new)
+        (map P.seen ports.old) (map P.seen ports.new) result }
+    ensures run { order.command ≡ commands.Run
+        → EndsRun FileLibrary (room_of order) order.steps (first_name (map string_bytes words.now))
+        (seen F.files F.count S.told S.count E.told E.count folder.old out.old say.old)
+        (seen F.files F.count S.told S.count E.told E.count folder.new out.new say.new)
+        (map P.seen ports.old) (map P.seen ports.new) result }
+    ensures go_means { order.command ≡ commands.Go
+        → GoMeans order.level (room_of order) order.steps (first_name (map string_bytes words.now))
+        (seen F.files F.count S.told S.count E.told E.count folder.old out.old say.old)
+        (seen F.files F.count S.told S.count E.told E.count folder.new out.new say.new)
+        (map P.seen ports.old) (map P.seen ports.new) result }
+    ensures run_means { order.command ≡ commands.Run
+        → RunMeans FileLibrary (room_of order) order.steps (first_name (map string_bytes words.now))
         (seen F.files F.count S.told S.count E.told E.count folder.old out.old say.old)
         (seen F.files F.count S.told S.count E.told E.count folder.new out.new say.new)
         (map P.seen ports.old) (map P.seen ports.new) result }
     ensures flushed { result ≡ 0 → S.held out.new ≡ [] }
     ensures files { F.files folder.new ≡ F.files folder.old }
 {
+    go_means_law();
+    run_means_law();
     let name = word_at(words, 1);
     let room = Room {
         cells: order.cells,
         bytes: order.bytes,
     };
-    let ending = run_file(alloc, name, room, order.steps, folder, out, ports, say);
+    let loaded = library_of(order, alloc, name, folder);
+    let ending = run_loaded(alloc, loaded, room, order.steps, out, ports, say);
     let _ = say_ending(say, name, &ending);
     ending.status()
 }
 
-/// Does what the words order, which isn't to run a file, and answers the exit status.
+/// Does what the words order, which isn't to run a library, and answers the exit status.
 fn do_order<F: Folder, S: Sink, E: Sink>(
     order: Order,
     alloc: Global,
@@ -159,11 +218,7 @@ fn do_order<F: Folder, S: Sink, E: Sink>(
     say: &mut E,
 ) -> u8
     requires level { order.level ≤ 3 }
-    requires no_run { order.command ≢ commands.Run }
-    ensures go { order.command ≡ commands.Go
-        → Ends (Went order.level) (first_name (map string_bytes words.now))
-        (seen F.files F.count S.told S.count E.told E.count folder.old out.old say.old)
-        (seen F.files F.count S.told S.count E.told E.count folder.new out.new say.new) result }
+    requires no_run { calls_ports order.command ≡ false }
     ensures check { order.command ≡ commands.Check
         → Ends Checks (first_name (map string_bytes words.now))
         (seen F.files F.count S.told S.count E.told E.count folder.old out.old say.old)
@@ -190,12 +245,6 @@ fn do_order<F: Folder, S: Sink, E: Sink>(
     ended.ending.status()
 }
 
-fn is_run(command: Command) -> bool
-    ensures { MatchBool result (command ≡ commands.Run) (command ≢ commands.Run) }
-{
-    matches!(command, Command::Run)
-}
-
 /// Does what the words order, the program's own name left out, and answers the exit status. The line on `say` isn't
 /// flushed: give it a sink that holds nothing back, or flush it after the call.
 pub fn mpy<F: Folder, S: Sink, P: Port, E: Sink>(
@@ -212,11 +261,13 @@ pub fn mpy<F: Folder, S: Sink, P: Port, E: Sink>(
         (seen F.files F.count S.told S.count E.told E.count folder.old out.old say.old)
         (seen F.files F.count S.told S.count E.told E.count folder.new out.new say.new) result) }
 
-    // go SRC: the source's texts are printed, or what kept them from it is said.
+    // go SRC: the library of SRC, which the sources that it imports are compiled to, is run, in the room and for the steps that are
+    // ordered, and its output is printed; or what kept it from that is said.
     ensures go { IfOk (order_of (map string_bytes words.now)) (λ order. order.command ≡ commands.Go
-        → Ends (Went order.level) (first_name (map string_bytes words.now))
+        → EndsRun (SourceLibrary order.level) (room_of order) order.steps (first_name (map string_bytes words.now))
         (seen F.files F.count S.told S.count E.told E.count folder.old out.old say.old)
-        (seen F.files F.count S.told S.count E.told E.count folder.new out.new say.new) result) }
+        (seen F.files F.count S.told S.count E.told E.count folder.new out.new say.new)
+        (map P.seen ports.old) (map P.seen ports.new) result) }
 
     // check FILE: how many codes are verified is printed, or what keeps the file from it is said.
     ensures check { IfOk (order_of (map string_bytes words.now)) (λ order. order.command ≡ commands.Check
@@ -246,12 +297,25 @@ pub fn mpy<F: Folder, S: Sink, P: Port, E: Sink>(
     // run FILE: the library of FILE is run, in the room and for the steps that are ordered, and its output is printed; or what kept
     // it from that is said.
     ensures run { IfOk (order_of (map string_bytes words.now)) (λ order. order.command ≡ commands.Run
-        → EndsRun (room_of order) order.steps (first_name (map string_bytes words.now))
+        → EndsRun FileLibrary (room_of order) order.steps (first_name (map string_bytes words.now))
         (seen F.files F.count S.told S.count E.told E.count folder.old out.old say.old)
         (seen F.files F.count S.told S.count E.told E.count folder.new out.new say.new)
         (map P.seen ports.old) (map P.seen ports.new) result) }
 
-    // Only a run calls ports.
+    // Both print and end as their program means, and stop earlier only at their last step: `go` as that of the sources, and `run` as each
+    // whose units the library has.
+    ensures go_means { IfOk (order_of (map string_bytes words.now)) (λ order. order.command ≡ commands.Go
+        → GoMeans order.level (room_of order) order.steps (first_name (map string_bytes words.now))
+        (seen F.files F.count S.told S.count E.told E.count folder.old out.old say.old)
+        (seen F.files F.count S.told S.count E.told E.count folder.new out.new say.new)
+        (map P.seen ports.old) (map P.seen ports.new) result) }
+    ensures run_means { IfOk (order_of (map string_bytes words.now)) (λ order. order.command ≡ commands.Run
+        → RunMeans FileLibrary (room_of order) order.steps (first_name (map string_bytes words.now))
+        (seen F.files F.count S.told S.count E.told E.count folder.old out.old say.old)
+        (seen F.files F.count S.told S.count E.told E.count folder.new out.new say.new)
+        (map P.seen ports.old) (map P.seen ports.new) result) }
+
+    // Only go and run call ports.
     ensures ports { calls_ports_in (order_of (map string_bytes words.now)) ≡ false → ports.new ≡ ports.old }
 
     // With status 0 nothing of what is printed is held back.
@@ -262,7 +326,7 @@ pub fn mpy<F: Folder, S: Sink, P: Port, E: Sink>(
 {
     match order_of(words) {
         Ok(order) => {
-            if is_run(order.command) {
+            if runs(order.command) {
                 return run_order(order, alloc, words, folder, out, ports, say);
             }
             do_order(order, alloc, words, folder, out, say)
@@ -275,12 +339,9 @@ pub fn mpy<F: Folder, S: Sink, P: Port, E: Sink>(
     }
 }
 
-/// Where a folder tells its files, a run that neither a failing call nor want of memory cut short ends in one way only, and
-/// so does writing a source's file.
+/// Where a folder tells its files, writing a source's file ends in one way only, but for a failing call and want of memory.
 pub fn one_ending_law()
-    ensures go { (level : ℕ) (files : FileOf) (name : List ℕ) (a b : Ending) (old new_a new_b : Option (List ℕ)) → IsSettled a
-        → IsSettled b → Went level (Some files) name a old new_a → Went level (Some files) name b old new_b → a ≡ b }
-    ensures cross { (level : ℕ) (files : FileOf) (name stored_name written : List ℕ) (a b : Ending) (new_a new_b : Option FileOf)
+    ensures { (level : ℕ) (files : FileOf) (name stored_name written : List ℕ) (a b : Ending) (new_a new_b : Option FileOf)
         → IsSettled a → IsSettled b → Crosses level name stored_name written (Some files) new_a a
         → Crosses level name stored_name written (Some files) new_b b → a ≡ b }
 {

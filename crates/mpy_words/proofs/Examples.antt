@@ -16,6 +16,10 @@ abbrev runs : (cells bytes steps : ℕ) → Outcome
 runs cells bytes steps =
     Ok (record { command = Run; level = 0; stored_name = None; cells = cells; bytes = bytes; steps = steps })
 
+abbrev goes : (level cells bytes steps : ℕ) → Outcome
+goes level cells bytes steps =
+    Ok (record { command = Go; level = level; stored_name = None; cells = cells; bytes = bytes; steps = steps })
+
 no_word : order_of [] ≡ Err NoCommand
 unfolding settings named past_files value_of
 no_word = refl
@@ -152,9 +156,9 @@ no_level_of_run : order_of (codes "run" ∷ codes "a.mpy" ∷ codes "-O" ∷ cod
 unfolding settings named past_files value_of
 no_level_of_run = refl
 
-no_room_of_go : order_of (codes "go" ∷ codes "a.py" ∷ codes "--cells" ∷ codes "1" ∷ []) ≡ Err (Unknown 2)
+go_in_room : order_of (codes "go" ∷ codes "a.py" ∷ codes "--cells" ∷ codes "26" ∷ codes "-O" ∷ codes "1" ∷ codes "--bytes" ∷ codes "0" ∷ codes "--steps" ∷ codes "7" ∷ []) ≡ goes 1 26 0 7
 unfolding settings named past_files value_of
-no_room_of_go = refl
+go_in_room = refl
 
 no_room_of_cross : order_of (codes "cross" ∷ codes "a" ∷ codes "b" ∷ codes "--cells" ∷ codes "1" ∷ []) ≡ Err (Unknown 3)
 unfolding settings named past_files value_of

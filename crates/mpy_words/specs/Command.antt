@@ -56,7 +56,7 @@ run_setting_of word =
 
 -- the option that a word behind these is
 abbrev pub setting_of : Command → List ℕ → Option Setting
-setting_of Go word = if bytes_eq word (codes "-O") then Some Level else None
+setting_of Go word = if bytes_eq word (codes "-O") then Some Level else run_setting_of word
 setting_of Check word = None
 setting_of Dump word = None
 setting_of Merge word = None

@@ -22,7 +22,7 @@ fn command(word: &str) -> Option<Command>
     }
 }
 
-/// An option of a command that runs a file.
+/// An option of a command that runs a library.
 fn run_setting(word: &str) -> Option<Setting>
     ensures { result ≡ commands.run_setting_of word.now }
 {
@@ -41,7 +41,7 @@ fn setting(command: Command, word: &str) -> Option<Setting>
         Command::Go if word == "-O" => Some(Setting::Level),
         Command::Cross if word == "-O" => Some(Setting::Level),
         Command::Cross if word == "-s" => Some(Setting::StoredName),
-        Command::Run => run_setting(word),
+        Command::Go | Command::Run => run_setting(word),
         _ => None,
     }
 }

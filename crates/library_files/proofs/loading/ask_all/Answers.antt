@@ -1,6 +1,7 @@
 use Rattle.std.proofs.Common.{ℕ, Err, drop, ◌+◌, refl, subst, ◌∙◌}
 use Rattle.std.proofs.lemmas.List.{drop_all}
 use Rattle.mpy_io.specs.Count.{Counts}
+use Rattle.library_files.specs.Comes.{NameComesTo}
 use Rattle.library_files.specs.Ends.{is_failed}
 use Rattle.library_files.proofs.Plain.{asked_at}
 use Rattle.library_files.proofs.Asks.{asking_begun, asking_ended, asking_on, asking_done, first_left}
@@ -8,7 +9,7 @@ use Rattle.library_files.proofs.loading.ask_all.Goals as goal
 
 pub loop-asked-init : goal.loop-asked-init
 loop-asked-init g c = record {
-  asking = asking_begun (g.F.Folder.files c.args.folder.now) c.args.base.now c.args.begun.now c.args.names.now c.args.found.now.items;
+  asking = asking_begun (NameComesTo (g.R.Reader.ending c.args.reader.now) (g.R.Reader.comes c.args.reader.now) c.args.base.now) (g.F.Folder.files c.args.folder.now) c.args.begun.now c.args.names.now c.args.found.now.items;
   same = refl;
   still = refl;
 }
@@ -24,7 +25,7 @@ ask-requires-clause-short g c =
 pub returns-in-Err-clause-loads : goal.returns-in-Err-clause-loads
 returns-in-Err-clause-loads g c =
     let l = c.loop-asked in
-    asking_ended (g.F.Folder.files c.args.folder.now) c.args.base.now c.args.begun.now l.begun c.args.names.now c.args.found.now.items
+    asking_ended (NameComesTo (g.R.Reader.ending c.args.reader.now) (g.R.Reader.comes c.args.reader.now) c.args.base.now) (g.F.Folder.files c.args.folder.now) c.args.begun.now l.begun c.args.names.now c.args.found.now.items
     (g.F.Folder.files l.folder) c.ask.new.begun c.bytes.result.now (drop l.asked-index c.args.names.now) (drop (l.asked-index + 1) c.args.names.now) l.found.items c.ask.new.found.items c.ask.new.found.items c.in-Err.refused
     l.invariant.same (first_left c.args.names.now l.asked-index c.asked-item.result c.bytes.result.now c.loop-asked-test.true c.asked-item.is c.bytes.ensures) l.invariant.asking c.in-Err.ensures.loads
 
@@ -39,7 +40,7 @@ pub loop-asked-preserved : goal.loop-asked-preserved
 loop-asked-preserved g c =
     let l = c.loop-asked in
     record {
-      asking = asking_on (g.F.Folder.files c.args.folder.now) c.args.base.now c.args.begun.now l.begun c.args.names.now c.args.found.now.items
+      asking = asking_on (NameComesTo (g.R.Reader.ending c.args.reader.now) (g.R.Reader.comes c.args.reader.now) c.args.base.now) (g.F.Folder.files c.args.folder.now) c.args.begun.now l.begun c.args.names.now c.args.found.now.items
           (g.F.Folder.files l.folder) c.ask.new.begun c.bytes.result.now (drop l.asked-index c.args.names.now) (drop (l.asked-index + 1) c.args.names.now) l.found.items c.ask.new.found.items
           l.invariant.same (first_left c.args.names.now l.asked-index c.asked-item.result c.bytes.result.now c.loop-asked-test.true c.asked-item.is c.bytes.ensures) l.invariant.asking c.in-Ok.ensures.loads c.in-Ok.ensures.step;
       same = c.in-Ok.ensures.same ∙ l.invariant.same;
@@ -49,7 +50,7 @@ loop-asked-preserved g c =
 pub returns-clause-loads : goal.returns-clause-loads
 returns-clause-loads g c =
     let l = c.loop-asked in
-    asking_done (g.F.Folder.files c.args.folder.now) c.args.base.now c.args.begun.now l.begun c.args.names.now c.args.found.now.items
+    asking_done (NameComesTo (g.R.Reader.ending c.args.reader.now) (g.R.Reader.comes c.args.reader.now) c.args.base.now) (g.F.Folder.files c.args.folder.now) c.args.begun.now l.begun c.args.names.now c.args.found.now.items
     (drop l.asked-index c.args.names.now) l.found.items (drop_all l.asked-index c.args.names.now c.loop-asked-test.false) l.invariant.asking
 
 pub returns-clause-step : goal.returns-clause-step

@@ -1,4 +1,5 @@
 use Rattle.std.proofs.Common.{sym, subst, ◌∙◌}
+use Rattle.library_files.specs.Comes.{NameComesTo}
 use Rattle.library_files.specs.Asked.{asked_for}
 use Rattle.library_files.specs.Steps.{AreAsked}
 use Rattle.library_files.proofs.Plain.{all_asked}
@@ -10,8 +11,8 @@ ask_found-requires-clause-names_are g c = subst AreAsked (sym (c.deref.ensures.v
 
 pub returns-in-Ok-clause-loads : goal.returns-in-Ok-clause-loads
 returns-in-Ok-clause-loads g c =
-    import_asks (g.F.Folder.files c.args.folder.now) c.args.base.now c.args.begun.now c.ask_found.new.begun c.deref.result.now (asked_for c.args.name.now) c.ask_found.result
+    import_asks (NameComesTo (g.R.Reader.ending c.args.reader.now) (g.R.Reader.comes c.args.reader.now) c.args.base.now) (g.F.Folder.files c.args.folder.now) c.args.begun.now c.ask_found.new.begun c.deref.result.now (asked_for c.args.name.now) c.ask_found.result
     (c.deref.ensures.value ∙ c.in-Ok.ensures) c.ask_found.ensures.loads
 
 pub returns-in-Err-clause-loads : goal.returns-in-Err-clause-loads
-returns-in-Err-clause-loads g c = no_import (g.F.Folder.files c.args.folder.now) c.args.base.now c.args.begun.now c.args.begun.now c.args.name.now
+returns-in-Err-clause-loads g c = no_import (NameComesTo (g.R.Reader.ending c.args.reader.now) (g.R.Reader.comes c.args.reader.now) c.args.base.now) (g.F.Folder.files c.args.folder.now) c.args.begun.now c.args.begun.now c.args.name.now

@@ -1,6 +1,7 @@
 use Rattle.std.proofs.Common.{ℕ, ◌^◌, ◌<◌, List, length, reverse, Ok, Err, refl, sym, subst, ◌∙◌, arith}
 use Rattle.std.specs.Prelude.{IfSome}
 use Rattle.mpy_io.specs.Count.{Counts}
+use Rattle.library_files.specs.Comes.{NameComesTo}
 use Rattle.library_files.specs.Asked.{asked_for}
 use Rattle.library_files.specs.Ends.{is_failed}
 use Rattle.library_files.specs.Steps.{AsksFound}
@@ -10,7 +11,7 @@ use Rattle.library_files.proofs.loading.load_left.Goals as goal
 
 pub loop-name-init : goal.loop-name-init
 loop-name-init g c = record {
-  leaving = leaving_begun (g.F.Folder.files c.args.folder.now) c.args.base.now c.args.begun.now c.args.left.items (adds_none c.args.begun.now.library) c.requires.short;
+  leaving = leaving_begun (NameComesTo (g.R.Reader.ending c.args.reader.now) (g.R.Reader.comes c.args.reader.now) c.args.base.now) (g.F.Folder.files c.args.folder.now) c.args.begun.now c.args.left.items (adds_none c.args.begun.now.library) c.requires.short;
   same = refl;
   still = refl;
 }
@@ -23,9 +24,9 @@ import-requires-clause-short g c =
 pub returns-in-Err-clause-loads : goal.returns-in-Err-clause-loads
 returns-in-Err-clause-loads g c =
     let l = c.loop-name in
-    leaving_ended (g.F.Folder.files c.args.folder.now) c.args.base.now c.args.begun.now l.begun c.args.left.items (g.F.Folder.files l.folder) c.import.new.begun c.pop.new.self.items l.left.items c.in-Some.name c.in-Err.refused
+    leaving_ended (NameComesTo (g.R.Reader.ending c.args.reader.now) (g.R.Reader.comes c.args.reader.now) c.args.base.now) (g.F.Folder.files c.args.folder.now) c.args.begun.now l.begun c.args.left.items (g.F.Folder.files l.folder) c.import.new.begun c.pop.new.self.items l.left.items c.in-Some.name c.in-Err.refused
     l.invariant.same c.in-Some.ensures.items l.invariant.leaving
-    (subst (λ (z : List ℕ). IfSome (g.F.Folder.files l.folder) (λ files. AsksFound files c.args.base.now l.begun c.import.new.begun (asked_for z) (Err c.in-Err.refused))) c.bytes.ensures c.in-Err.ensures.loads)
+    (subst (λ (z : List ℕ). IfSome (g.F.Folder.files l.folder) (λ files. AsksFound ((NameComesTo (g.R.Reader.ending c.args.reader.now) (g.R.Reader.comes c.args.reader.now) c.args.base.now) files) l.begun c.import.new.begun (asked_for z) (Err c.in-Err.refused))) c.bytes.ensures c.in-Err.ensures.loads)
 
 pub returns-in-Err-clause-same : goal.returns-in-Err-clause-same
 returns-in-Err-clause-same g c = c.in-Err.ensures.same ∙ c.loop-name.invariant.same
@@ -35,7 +36,7 @@ returns-in-Err-clause-cause g c =
     subst (λ (n : ℕ). Counts n (g.F.Folder.count c.import.new.folder) (is_failed {A = Unit {0}} (Err c.in-Err.refused))) c.loop-name.invariant.still c.in-Err.ensures.cause
 
 pub returns-in-Err-put_in_front-clause-loads : goal.returns-in-Err-put_in_front-clause-loads
-returns-in-Err-put_in_front-clause-loads g c = none_loaded (g.F.Folder.files c.args.folder.now) c.args.base.now c.args.begun.now c.import.new.begun (reverse c.args.left.items)
+returns-in-Err-put_in_front-clause-loads g c = none_loaded (NameComesTo (g.R.Reader.ending c.args.reader.now) (g.R.Reader.comes c.args.reader.now) c.args.base.now) (g.F.Folder.files c.args.folder.now) c.args.begun.now c.import.new.begun (reverse c.args.left.items)
 
 pub returns-in-Err-put_in_front-clause-same : goal.returns-in-Err-put_in_front-clause-same
 returns-in-Err-put_in_front-clause-same g c = c.in-Ok.ensures.same ∙ c.loop-name.invariant.same
@@ -47,9 +48,9 @@ pub loop-name-preserved : goal.loop-name-preserved
 loop-name-preserved g c =
     let l = c.loop-name in
     record {
-      leaving = leaving_on (g.F.Folder.files c.args.folder.now) c.args.base.now c.args.begun.now l.begun c.args.left.items (g.F.Folder.files l.folder) c.import.new.begun c.pop.new.self.items l.left.items
+      leaving = leaving_on (NameComesTo (g.R.Reader.ending c.args.reader.now) (g.R.Reader.comes c.args.reader.now) c.args.base.now) (g.F.Folder.files c.args.folder.now) c.args.begun.now l.begun c.args.left.items (g.F.Folder.files l.folder) c.import.new.begun c.pop.new.self.items l.left.items
           c.put_in_front.new.left.items c.in-Some.name c.in-Ok.found l.invariant.same c.in-Some.ensures.items c.in-Ok-put_in_front.ensures l.invariant.leaving
-          (subst (λ (z : List ℕ). IfSome (g.F.Folder.files l.folder) (λ files. AsksFound files c.args.base.now l.begun c.import.new.begun (asked_for z) (Ok c.in-Ok.found))) c.bytes.ensures c.in-Ok.ensures.loads)
+          (subst (λ (z : List ℕ). IfSome (g.F.Folder.files l.folder) (λ files. AsksFound ((NameComesTo (g.R.Reader.ending c.args.reader.now) (g.R.Reader.comes c.args.reader.now) c.args.base.now) files) l.begun c.import.new.begun (asked_for z) (Ok c.in-Ok.found))) c.bytes.ensures c.in-Ok.ensures.loads)
           c.in-Ok.ensures.step;
       same = c.in-Ok.ensures.same ∙ l.invariant.same;
       still = c.in-Ok.ensures.cause ∙ l.invariant.still;
@@ -63,7 +64,7 @@ loop-name-smaller g c =
 pub returns-clause-loads : goal.returns-clause-loads
 returns-clause-loads g c =
     let l = c.loop-name in
-    leaving_done (g.F.Folder.files c.args.folder.now) c.args.base.now c.args.begun.now l.begun c.args.left.items l.left.items
+    leaving_done (NameComesTo (g.R.Reader.ending c.args.reader.now) (g.R.Reader.comes c.args.reader.now) c.args.base.now) (g.F.Folder.files c.args.folder.now) c.args.begun.now l.begun c.args.left.items l.left.items
     (none_left l.left.items l.left.len c.pop.result l.left.ok.0 c.pop.ensures.variant c.in_default.not-Some) l.invariant.leaving
 
 pub returns-clause-adds : goal.returns-clause-adds

@@ -1,11 +1,12 @@
 use Rattle.std.proofs.Common.{◌≡◌, ◌+◌, ◌*◌, ◌^◌, length}
+use Rattle.library_files.specs.Comes.{NameComesTo}
 use Rattle.library_files.specs.Steps.{places_left}
 use Rattle.library_files.proofs.Asks.{Leaving}
 use Rattle.library_files.proofs.loading.load_left.Given as goal
 
 abbrev pub invariant-loop-name : goal.invariant-loop-name
 invariant-loop-name g l = record {
-  leaving : Leaving (g.F.Folder.files l.fn.folder) l.base l.fn.begun l.begun l.fn.left.items l.left.items;
+  leaving : Leaving (NameComesTo (g.R.Reader.ending l.reader) (g.R.Reader.comes l.reader) l.base) (g.F.Folder.files l.fn.folder) l.fn.begun l.begun l.fn.left.items l.left.items;
   same : g.F.Folder.files l.folder ≡ g.F.Folder.files l.fn.folder;
   still : g.F.Folder.count l.folder ≡ g.F.Folder.count l.fn.folder;
 }

@@ -1,11 +1,16 @@
 use Rattle.std.proofs.Common.{ℕ, List, ◌++◌, codes, ap, sym, subst, ◌∙◌}
 use Rattle.mpy_tool.specs.declared.ending.Ending.{Ending}
-use Rattle.mpy_tool.specs.Line.{Puts, line_of}
+use Rattle.mpy_tool.specs.Line.{Puts, source_line, line_of}
 use Rattle.mpy_tool.proofs.line.say_ending.Goals as goal
+
+pub returns-in-Unaccepted-clause-line : goal.returns-in-Unaccepted-clause-line
+returns-in-Unaccepted-clause-line g c =
+    let line = ap (λ (name : List ℕ). source_line name c.in-Unaccepted.fault.now) c.as_bytes.ensures.value ∙ sym (ap (line_of c.args.name.now) c.in-Unaccepted.is) in
+    subst (λ (bs : List ℕ). Puts (g.E.Sink.told c.args.say.now) (g.E.Sink.told c.say_fault.new.say) (g.E.Sink.count c.args.say.now) (g.E.Sink.count c.say_fault.new.say) bs c.say_fault.result) line c.say_fault.ensures
 
 pub returns-in-ReadFault-clause-line : goal.returns-in-ReadFault-clause-line
 returns-in-ReadFault-clause-line g c =
-    let line = ap (λ (name : List ℕ). codes "mpy: read fault " ++ name ++ codes "\n") c.as_bytes.ensures.value ∙ sym (ap (line_of c.args.name.now) c.in-ReadFault.is) in
+    let line = ap (λ (name : List ℕ). codes "mpy: read fault " ++ name ++ codes "\n") c.as_bytes-in-ReadFault.ensures.value ∙ sym (ap (line_of c.args.name.now) c.in-ReadFault.is) in
     subst (λ (bs : List ℕ). Puts (g.E.Sink.told c.args.say.now) (g.E.Sink.told c.put_three.new.say) (g.E.Sink.count c.args.say.now) (g.E.Sink.count c.put_three.new.say) bs c.put_three.result) line c.put_three.ensures
 
 pub returns-in-WriteFault-clause-line : goal.returns-in-WriteFault-clause-line

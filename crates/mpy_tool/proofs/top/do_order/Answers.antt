@@ -1,22 +1,12 @@
 use Rattle.std.proofs.Common.{◌≡◌, map, string_bytes, ap}
-use Rattle.mpy_words.specs.declared.order.Command.TheVariants.{Go, Check, Dump, Cross}
+use Rattle.mpy_words.specs.declared.order.Command.TheVariants.{Check, Dump, Cross}
 use Rattle.mpy_words.specs.Command.{takes_files}
 use Rattle.mpy_words.specs.Words.{first_name, second_name}
 use Rattle.mpy_tool.specs.Check.{Checks}
 use Rattle.mpy_tool.specs.Dump.{Dumps}
-use Rattle.mpy_tool.specs.Go.{Went}
 use Rattle.mpy_tool.specs.Outside.{seen}
 use Rattle.mpy_tool.proofs.Ended.{said_in, said_at, ends}
 use Rattle.mpy_tool.proofs.top.do_order.Goals as goal
-
-pub returns-clause-go : goal.returns-clause-go
-returns-clause-go g c =
-    let words = map string_bytes c.args.words.now in
-    let old = seen g.F.Folder.files g.F.Folder.count g.S.Sink.told g.S.Sink.count g.E.Sink.told g.E.Sink.count c.args.folder.now c.args.out.now c.args.say.now in
-    let new = seen g.F.Folder.files g.F.Folder.count g.S.Sink.told g.S.Sink.count g.E.Sink.told g.E.Sink.count c.done-ended.new.folder c.done-ended.new.out c.say_ending.new.say in
-    let says = λ (e : c.args.order.command ≡ Go). said_in old.say new.say old.say_faults new.say_faults words c.word_at-name.result.now c.done-ended.result.place c.done-ended.result.ending c.say_ending.result
-    c.word_at-name.ensures (c.done-ended.ensures.place (ap takes_files e)) c.say_ending.ensures.line in
-    λ e. ends (Went c.args.order.level) (first_name words) (second_name words) old new c.status.result c.done-ended.result.ending (λ h. h) c.status.ensures (c.done-ended.ensures.go e) c.done-ended.ensures.folder_counts c.done-ended.ensures.out_counts (says e)
 
 pub returns-clause-check : goal.returns-clause-check
 returns-clause-check g c =

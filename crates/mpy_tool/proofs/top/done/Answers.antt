@@ -3,15 +3,8 @@ use Rattle.mpy_words.specs.Words.{first_name}
 use Rattle.mpy_tool.specs.declared.ending.Ending.{Ending}
 use Rattle.mpy_tool.specs.Check.{Checks}
 use Rattle.mpy_tool.specs.Dump.{Dumps}
-use Rattle.mpy_tool.specs.Go.{Went}
-use Rattle.mpy_tool.proofs.HandedOn.{went_cut, checks_cut, dumps_cut}
+use Rattle.mpy_tool.proofs.HandedOn.{checks_cut, dumps_cut}
 use Rattle.mpy_tool.proofs.top.done.Goals as goal
-
-pub returns-in-Err-clause-go : goal.returns-in-Err-clause-go
-returns-in-Err-clause-go g c =
-    let name = first_name (map string_bytes c.args.words.now) in
-    λ e. went_cut c.args.order.level (g.F.Folder.files c.args.folder.now) name (g.S.Sink.told c.args.out.now) (g.S.Sink.told c.ran-ending.new.out) (g.S.Sink.told c.flush.new.self) c.flush.ensures.same
-    (subst (λ (x : Ending). Went c.args.order.level (g.F.Folder.files c.args.folder.now) name x (g.S.Sink.told c.args.out.now) (g.S.Sink.told c.ran-ending.new.out)) c.in-Done.is (c.ran-ending.ensures.go e))
 
 pub returns-in-Err-clause-check : goal.returns-in-Err-clause-check
 returns-in-Err-clause-check g c =

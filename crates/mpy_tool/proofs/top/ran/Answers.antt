@@ -7,47 +7,27 @@ use Rattle.mpy_tool.specs.Check.{Checks}
 use Rattle.mpy_tool.specs.Dump.{Dumps}
 use Rattle.mpy_tool.specs.Cross.{ChangesOnly}
 use Rattle.mpy_tool.specs.Ending.{is_folder_fault, is_out_fault}
-use Rattle.mpy_tool.specs.Go.{stored, Went}
+use Rattle.source_files.specs.Sources.{stored}
 use Rattle.mpy_tool.specs.Line.{place_in}
 use Rattle.mpy_tool.specs.Outside.{written_by, Changes}
 use Rattle.mpy_tool.proofs.Crossed.{crosses_only}
 use Rattle.mpy_tool.proofs.top.ran.Goals as goal
 
-pub returns-in-Go-clause-go : goal.returns-in-Go-clause-go
-returns-in-Go-clause-go g c =
-    λ e. subst (λ (x : Ending). Went c.args.order.level (g.F.Folder.files c.args.folder.now) (first_name (map string_bytes c.args.words.now)) x (g.S.Sink.told c.args.out.now) (g.S.Sink.told c.go.new.out)) (sym c.of_two.ensures.ending)
-    (subst (λ (n : List ℕ). Went c.args.order.level (g.F.Folder.files c.args.folder.now) n c.go.result (g.S.Sink.told c.args.out.now) (g.S.Sink.told c.go.new.out)) c.word_at-name.ensures c.go.ensures.went)
-
-pub returns-in-Go-clause-place : goal.returns-in-Go-clause-place
-returns-in-Go-clause-place g c = λ e. c.of_two.ensures.place ∙ ap place_in (sym c.of_two.ensures.ending)
-
-pub returns-in-Go-clause-folder_counts : goal.returns-in-Go-clause-folder_counts
-returns-in-Go-clause-folder_counts g c =
-    subst (λ (x : Ending). Counts (g.F.Folder.count c.args.folder.now) (g.F.Folder.count c.go.new.folder) (is_folder_fault x)) (sym c.of_two.ensures.ending) c.go.ensures.folder_counts
-
-pub returns-in-Go-clause-out_counts : goal.returns-in-Go-clause-out_counts
-returns-in-Go-clause-out_counts g c =
-    subst (λ (x : Ending). Counts (g.S.Sink.count c.args.out.now) (g.S.Sink.count c.go.new.out) (is_out_fault x)) (sym c.of_two.ensures.ending) c.go.ensures.out_counts
-
-pub returns-in-Go-clause-files : goal.returns-in-Go-clause-files
-returns-in-Go-clause-files g c =
-    subst (λ (command : Command). Changes (written_by (map string_bytes c.args.words.now) command) (g.F.Folder.files c.args.folder.now) (g.F.Folder.files c.go.new.folder)) (sym c.in-Go.is) c.go.ensures.files
-
 pub returns-in-Check-clause-check : goal.returns-in-Check-clause-check
 returns-in-Check-clause-check g c =
-    λ e. subst (λ (x : Ending). Checks (g.F.Folder.files c.args.folder.now) (first_name (map string_bytes c.args.words.now)) x (g.S.Sink.told c.args.out.now) (g.S.Sink.told c.check.new.out)) (sym c.of_two-in-Check.ensures.ending)
+    λ e. subst (λ (x : Ending). Checks (g.F.Folder.files c.args.folder.now) (first_name (map string_bytes c.args.words.now)) x (g.S.Sink.told c.args.out.now) (g.S.Sink.told c.check.new.out)) (sym c.of_two.ensures.ending)
     (subst (λ (n : List ℕ). Checks (g.F.Folder.files c.args.folder.now) n c.check.result (g.S.Sink.told c.args.out.now) (g.S.Sink.told c.check.new.out)) c.word_at-name.ensures c.check.ensures.went)
 
 pub returns-in-Check-clause-place : goal.returns-in-Check-clause-place
-returns-in-Check-clause-place g c = λ e. c.of_two-in-Check.ensures.place ∙ ap place_in (sym c.of_two-in-Check.ensures.ending)
+returns-in-Check-clause-place g c = λ e. c.of_two.ensures.place ∙ ap place_in (sym c.of_two.ensures.ending)
 
 pub returns-in-Check-clause-folder_counts : goal.returns-in-Check-clause-folder_counts
 returns-in-Check-clause-folder_counts g c =
-    subst (λ (x : Ending). Counts (g.F.Folder.count c.args.folder.now) (g.F.Folder.count c.check.new.folder) (is_folder_fault x)) (sym c.of_two-in-Check.ensures.ending) c.check.ensures.folder_counts
+    subst (λ (x : Ending). Counts (g.F.Folder.count c.args.folder.now) (g.F.Folder.count c.check.new.folder) (is_folder_fault x)) (sym c.of_two.ensures.ending) c.check.ensures.folder_counts
 
 pub returns-in-Check-clause-out_counts : goal.returns-in-Check-clause-out_counts
 returns-in-Check-clause-out_counts g c =
-    subst (λ (x : Ending). Counts (g.S.Sink.count c.args.out.now) (g.S.Sink.count c.check.new.out) (is_out_fault x)) (sym c.of_two-in-Check.ensures.ending) c.check.ensures.out_counts
+    subst (λ (x : Ending). Counts (g.S.Sink.count c.args.out.now) (g.S.Sink.count c.check.new.out) (is_out_fault x)) (sym c.of_two.ensures.ending) c.check.ensures.out_counts
 
 pub returns-in-Check-clause-files : goal.returns-in-Check-clause-files
 returns-in-Check-clause-files g c =

@@ -1,34 +1,56 @@
-use Rattle.std.proofs.Common.{◌≡◌, ◌++◌, ℕ, List, map, string_bytes, ap, subst}
-use Rattle.library_runs.specs.Runs.{sight}
-use Rattle.mpy_tool.specs.Line.{Says, line_of}
-use Rattle.mpy_tool.specs.Run.{Runs, room_of}
-use Rattle.mpy_tool.proofs.Running.{said_all, unsaid, status_zero}
+use Rattle.std.proofs.Common.{◌≡◌, ℕ, map, string_bytes, ap, subst}
+use Rattle.mpy_words.specs.Words.{first_name}
+use Rattle.mpy_tool.specs.Go.{SourceLibrary}
+use Rattle.mpy_tool.specs.Outside.{seen}
+use Rattle.mpy_tool.specs.Run.{FileLibrary, room_of}
+use Rattle.mpy_tool.proofs.Running.{says_run, ends_run, status_zero}
 use Rattle.mpy_tool.proofs.top.run_order.Goals as goal
+
+pub returns-clause-go : goal.returns-clause-go
+returns-clause-go g c =
+    let old = seen g.F.Folder.files g.F.Folder.count g.S.Sink.told g.S.Sink.count g.E.Sink.told g.E.Sink.count c.args.folder.now c.args.out.now c.args.say.now in
+    let new = seen g.F.Folder.files g.F.Folder.count g.S.Sink.told g.S.Sink.count g.E.Sink.told g.E.Sink.count c.library_of-loaded.new.folder c.run_loaded-ending.new.out c.say_ending.new.say in
+    let before = map g.P.Port.seen c.args.ports.now in
+    let after = map g.P.Port.seen c.run_loaded-ending.new.ports in
+    let room = room_of c.args.order in
+    let ending = c.run_loaded-ending.result in
+    let ran = c.run_loaded-ending.ensures.went in
+    let says = says_run room c.args.order.steps old new before after c.library_of-loaded.result ending ran.0 ran.1 (g.E.Sink.told c.run_loaded-ending.new.say) (g.E.Sink.count c.run_loaded-ending.new.say) c.word_at-name.result.now c.say_ending.result
+    (λ e. (ap g.E.Sink.told (c.run_loaded-ending.ensures.silent e), ap g.E.Sink.count (c.run_loaded-ending.ensures.silent e)))
+    (λ e. (ap g.E.Sink.told (c.say_ending.ensures.said e), ap g.E.Sink.count (c.say_ending.ensures.said e)))
+    ran.2 c.say_ending.ensures.line in
+    λ e. ends_run room c.args.order.steps old new before after c.library_of-loaded.result ending ran.0 ran.1 (SourceLibrary c.args.order.level) (first_name (map string_bytes c.args.words.now)) c.word_at-name.result.now c.status.result
+    c.status.ensures c.word_at-name.ensures (c.library_of-loaded.ensures.go e) c.library_of-loaded.ensures.counts c.run_loaded-ending.ensures.reads c.run_loaded-ending.ensures.out_counts says
 
 pub returns-clause-run : goal.returns-clause-run
 returns-clause-run g c =
-    let words = map string_bytes c.args.words.now in
-    let files = g.F.Folder.files c.args.folder.now in
-    let old = sight g.S.Sink.told g.P.Port.seen c.args.out.now c.args.ports.now in
-    let new = sight g.S.Sink.told g.P.Port.seen c.run_file-ending.new.out c.run_file-ending.new.ports in
-    let name = c.word_at-name.result.now in
+    let old = seen g.F.Folder.files g.F.Folder.count g.S.Sink.told g.S.Sink.count g.E.Sink.told g.E.Sink.count c.args.folder.now c.args.out.now c.args.say.now in
+    let new = seen g.F.Folder.files g.F.Folder.count g.S.Sink.told g.S.Sink.count g.E.Sink.told g.E.Sink.count c.library_of-loaded.new.folder c.run_loaded-ending.new.out c.say_ending.new.say in
+    let before = map g.P.Port.seen c.args.ports.now in
+    let after = map g.P.Port.seen c.run_loaded-ending.new.ports in
     let room = room_of c.args.order in
-    let ending = c.run_file-ending.result in
-    let ran = c.run_file-ending.ensures.went in
-    let says = said_all (g.E.Sink.told c.args.say.now) (g.E.Sink.told c.run_file-ending.new.say) (g.E.Sink.told c.say_ending.new.say) (g.E.Sink.count c.args.say.now) (g.E.Sink.count c.run_file-ending.new.say) (g.E.Sink.count c.say_ending.new.say)
-    name ran.0 ending c.say_ending.result
-    (λ e. (ap g.E.Sink.told (c.run_file-ending.ensures.silent e), ap g.E.Sink.count (c.run_file-ending.ensures.silent e), unsaid files name room c.args.order.steps old new ran.0 ending ran.1 e))
+    let ending = c.run_loaded-ending.result in
+    let ran = c.run_loaded-ending.ensures.went in
+    let says = says_run room c.args.order.steps old new before after c.library_of-loaded.result ending ran.0 ran.1 (g.E.Sink.told c.run_loaded-ending.new.say) (g.E.Sink.count c.run_loaded-ending.new.say) c.word_at-name.result.now c.say_ending.result
+    (λ e. (ap g.E.Sink.told (c.run_loaded-ending.ensures.silent e), ap g.E.Sink.count (c.run_loaded-ending.ensures.silent e)))
     (λ e. (ap g.E.Sink.told (c.say_ending.ensures.said e), ap g.E.Sink.count (c.say_ending.ensures.said e)))
     ran.2 c.say_ending.ensures.line in
-    record {
-      ending = ending;
-      said = ran.0;
-      status_is = c.status.ensures;
-      went = subst (λ (n : List ℕ). Runs files n room c.args.order.steps old new ran.0 ending) c.word_at-name.ensures ran.1;
-      folder_counts = c.run_file-ending.ensures.folder_counts;
-      out_counts = c.run_file-ending.ensures.out_counts;
-      says = subst (λ (n : List ℕ). Says (g.E.Sink.told c.args.say.now) (g.E.Sink.told c.say_ending.new.say) (g.E.Sink.count c.args.say.now) (g.E.Sink.count c.say_ending.new.say) (ran.0 ++ line_of n ending)) c.word_at-name.ensures says;
-    }
+    λ e. ends_run room c.args.order.steps old new before after c.library_of-loaded.result ending ran.0 ran.1 FileLibrary (first_name (map string_bytes c.args.words.now)) c.word_at-name.result.now c.status.result
+    c.status.ensures c.word_at-name.ensures (c.library_of-loaded.ensures.run e) c.library_of-loaded.ensures.counts c.run_loaded-ending.ensures.reads c.run_loaded-ending.ensures.out_counts says
+
+pub returns-clause-go_means : goal.returns-clause-go_means
+returns-clause-go_means g c =
+    let old = seen g.F.Folder.files g.F.Folder.count g.S.Sink.told g.S.Sink.count g.E.Sink.told g.E.Sink.count c.args.folder.now c.args.out.now c.args.say.now in
+    let new = seen g.F.Folder.files g.F.Folder.count g.S.Sink.told g.S.Sink.count g.E.Sink.told g.E.Sink.count c.library_of-loaded.new.folder c.run_loaded-ending.new.out c.say_ending.new.say in
+    λ e. c.go_means_law.ensures c.args.order.level (room_of c.args.order) c.args.order.steps (first_name (map string_bytes c.args.words.now)) old new
+    (map g.P.Port.seen c.args.ports.now) (map g.P.Port.seen c.run_loaded-ending.new.ports) c.status.result (returns-clause-go g c e)
+
+pub returns-clause-run_means : goal.returns-clause-run_means
+returns-clause-run_means g c =
+    let old = seen g.F.Folder.files g.F.Folder.count g.S.Sink.told g.S.Sink.count g.E.Sink.told g.E.Sink.count c.args.folder.now c.args.out.now c.args.say.now in
+    let new = seen g.F.Folder.files g.F.Folder.count g.S.Sink.told g.S.Sink.count g.E.Sink.told g.E.Sink.count c.library_of-loaded.new.folder c.run_loaded-ending.new.out c.say_ending.new.say in
+    λ e. c.run_means_law.ensures.file (room_of c.args.order) c.args.order.steps (first_name (map string_bytes c.args.words.now)) old new
+    (map g.P.Port.seen c.args.ports.now) (map g.P.Port.seen c.run_loaded-ending.new.ports) c.status.result (returns-clause-run g c e)
 
 pub returns-clause-flushed : goal.returns-clause-flushed
-returns-clause-flushed g c = λ e. c.run_file-ending.ensures.flushed (status_zero c.run_file-ending.result (subst (λ (n : ℕ). n ≡ 0) c.status.ensures e))
+returns-clause-flushed g c = λ e. c.run_loaded-ending.ensures.flushed (status_zero c.run_loaded-ending.result (subst (λ (n : ℕ). n ≡ 0) c.status.ensures e))

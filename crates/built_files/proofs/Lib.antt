@@ -1,0 +1,3 @@
+mod Made
+mod Came
+mod Holds

@@ -1,4 +1,0 @@
-pub mod Print
-pub mod Compiled
-pub mod Loaded
-pub mod Source

@@ -1,0 +1,69 @@
+//! What a run says of its program.
+
+ghost use Rattle.std.specs.Prelude.{ℕ, List, Option, Some};
+ghost use Rattle.mpy_base.specs.declared.room.Room.{Room};
+ghost use Rattle.mpy_io.specs.Files.{FileOf};
+ghost use Rattle.mpy_io.specs.Ports.{PortView};
+ghost use Rattle.py_meaning.specs.Program.{Program, Units};
+ghost use Rattle.mpy_tool.specs.Cross.{Crosses};
+ghost use Rattle.mpy_tool.specs.declared.ending.Ending.TheVariants.{Done};
+ghost use Rattle.program_sources.specs.Sources.{IsProgramOfSources};
+ghost use Rattle.mpy_tool.specs.Base.{base_of};
+ghost use Rattle.mpy_tool.specs.Go.{SourceLibrary};
+ghost use Rattle.mpy_tool.specs.GoMeant.{GoMeans, HoldsCrossed};
+ghost use Rattle.mpy_tool.specs.Made.{HoldMade, MakesOfSource, MakesOfUnits};
+ghost use Rattle.mpy_tool.specs.Meant.{HoldsBuilt, HoldsProgram, RunMeans};
+ghost use Rattle.mpy_tool.specs.Merge.{Merges};
+ghost use Rattle.mpy_tool.specs.Outside.{Outside};
+ghost use Rattle.mpy_tool.specs.Run.{EndsRun, FileLibrary};
+
+use mpy_headline::meant_law;
+use program_sources::{files_law, sources_law};
+use unit_files::crossed_law;
+
+/// A run of a file, and of a source, does as each program means whose units its library has.
+pub(crate) fn run_means_law()
+    ensures file { (room : Room) (steps : ℕ) (name : List ℕ) (old new : Outside) (ports_old ports_new : List PortView) (status : ℕ)
+        → EndsRun FileLibrary room steps name old new ports_old ports_new status → RunMeans FileLibrary room steps name old new ports_old ports_new status }
+    ensures source { (level : ℕ) (room : Room) (steps : ℕ) (name : List ℕ) (old new : Outside) (ports_old ports_new : List PortView) (status : ℕ)
+        → EndsRun (SourceLibrary level) room steps name old new ports_old ports_new status
+        → RunMeans (SourceLibrary level) room steps name old new ports_old ports_new status }
+{
+    meant_law();
+}
+
+/// A run of a source does as the program of the sources means.
+pub(crate) fn go_means_law()
+    ensures { (level : ℕ) (room : Room) (steps : ℕ) (name : List ℕ) (old new : Outside) (ports_old ports_new : List PortView) (status : ℕ)
+        → EndsRun (SourceLibrary level) room steps name old new ports_old ports_new status
+        → GoMeans level room steps name old new ports_old ports_new status }
+{
+    run_means_law();
+    sources_law();
+}
+
+/// The files that a source and those that it asks for compile to hold the program of the sources, so that `run` of the main one does
+/// as `go` of the source.
+pub fn crossed_holds_law()
+    ensures { (sources files : FileOf) (path name : List ℕ) (level : ℕ) (program : Program) → HoldsCrossed sources files path name level
+        → IsProgramOfSources sources (base_of name) path level program → HoldsProgram FileLibrary (Some files) name program }
+{
+    files_law();
+}
+
+/// Files that `cross` and `merge` made hold the program of the sources that they were made of.
+pub fn holds_law()
+    ensures { (files : FileOf) (name : List ℕ) (program : Program) → HoldsBuilt files name program → HoldsProgram FileLibrary (Some files) name program }
+{
+    built_files::built_law();
+}
+
+/// What `cross` writes is made of the source that it compiles, and what `merge` writes of the units that its files are made of.
+pub fn makes_law()
+    ensures cross { (level : ℕ) (files : FileOf) (name stored written : List ℕ) (new : Option FileOf)
+        → Crosses level name stored written (Some files) new Done → MakesOfSource level files name stored written new }
+    ensures merge { (files : FileOf) (names : List (List ℕ)) (written : List ℕ) (new : Option FileOf) (place : ℕ) (units : Units)
+        → HoldMade files names units → Merges names written (Some files) new place Done → MakesOfUnits units written new }
+{
+    crossed_law();
+}

@@ -1,0 +1,3 @@
+pub mod Imported
+pub mod Sources
+pub mod Libraries

@@ -1,0 +1,4 @@
+pub mod Names
+pub mod Compiled
+pub mod Given
+mod Examples

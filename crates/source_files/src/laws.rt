@@ -1,0 +1,21 @@
+//! What sources compile to.
+
+ghost use Rattle.std.specs.Prelude.{ℕ, List};
+ghost use Rattle.mpy_tree.specs.Raw.{Module};
+ghost use Rattle.mpy_compile.specs.Compiled.{CompilesTo};
+ghost use Rattle.library_files.specs.Comes.{IsVerifiedFile};
+
+use emit_module::resolved_law;
+use emit_within::within_law;
+use py_source::asked_law;
+use tr_source;
+
+/// What a source compiles to is a file of a verified module.
+pub fn compiled_law()
+    ensures { (level : ℕ) (source stored bytes : List ℕ) → CompilesTo level source stored bytes → (m : Module) × IsVerifiedFile bytes m }
+{
+    asked_law();
+    resolved_law();
+    within_law();
+    tr_source::compiled_law();
+}
