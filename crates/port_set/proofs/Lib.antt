@@ -1,2 +1,4 @@
+pub mod Counting
+pub mod Listed
 pub mod OneCall
 pub mod ToldCall

@@ -4,6 +4,8 @@ use Rattle.std.proofs.lemmas.List.{map-set}
 use Rattle.std.proofs.lemmas.Option.{slice_get-map, slice_get-get_or}
 use Rattle.mpy_io.specs.Ports.{PortView, Puts, Gets}
 use Rattle.port_set.specs.Calls.{CallsOne}
+use Rattle.port_set.specs.Counts.{CountsKeep, Rises}
+use Rattle.port_set.proofs.Counting.{counts_same, rises_same}
 
 pub called_one : {P : Type 0} (seen : P → PortView) (ports old : List P) (i : ℕ) (p q : P) (Call : PortView → PortView → Type 0) → ports ≡ old → i < length old → p ≡ get_or ports i p → Call (seen p) (seen q) → CallsOne (map seen old) (map seen (set ports i q)) i Call
 called_one {P} seen ports old i p q Call same within here call =
@@ -26,6 +28,16 @@ slice_get-set_other (p ∷ ports) (suc i) (suc k) q apart = slice_get-set_other 
 pub kept_others : {P : Type 0} (ports old : List P) (i k : ℕ) (q : P) → ports ≡ old → k ≢ i → slice_get (set ports i q) k ≡ slice_get old k
 kept_others {P} ports old i k q same apart =
     slice_get-set_other ports i k q apart ∙ ap (λ (xs : List P). slice_get xs k) same
+
+counts_put : {P : Type 0} (seen : P → PortView) (ports : List P) (i : ℕ) (p q : P) → p ≡ get_or ports i p → Rises 0 (seen p) (seen q) → CountsKeep (map seen ports) (map seen (set ports i q))
+counts_put seen [] i p q here rises = tt
+counts_put {P} seen (port ∷ ports) zero p q here rises = (subst (λ (z : P). Rises 0 (seen z) (seen q)) here rises, counts_same (map seen ports))
+counts_put seen (port ∷ ports) (suc i) p q here rises = (rises_same (seen port), counts_put seen ports i p q here rises)
+
+-- no count falls
+pub called_counts : {P : Type 0} (seen : P → PortView) (ports old : List P) (i : ℕ) (p q : P) → ports ≡ old → p ≡ get_or ports i p → Rises 0 (seen p) (seen q) → CountsKeep (map seen old) (map seen (set ports i q))
+called_counts {P} seen ports old i p q same here rises =
+    subst (λ (xs : List P). CountsKeep (map seen xs) (map seen (set ports i q))) same (counts_put seen ports i p q here rises)
 
 -- the number that a call was given is the one that it writes
 pub put_here : (old new : PortView) (n : ℤ) (failed : Bool) → SFits w32 n → Puts old new (to_z w32 (of_z w32 n)) failed → Puts old new n failed

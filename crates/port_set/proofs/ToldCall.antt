@@ -13,16 +13,16 @@ abbrev some_of : PortState → Option PortState
 some_of port = Some port
 
 -- what a port tells, and the contents at its place
-record AtPlace (view : PortView) (found : Option PortState) : Type 0 where
-  port : PortState
-  here : found ≡ Some port
-  told : view.told ≡ Some port
+pub record AtPlace (view : PortView) (found : Option PortState) : Type 0 where
+  pub port : PortState
+  pub here : found ≡ Some port
+  pub told : view.told ≡ Some port
 
 at_place : (view : PortView) (found : Option PortState) → Some view.told ≡ option_map some_of found → AtPlace view found
 at_place view None e = cc
 at_place view (Some port) e = record { port = port; here = refl; told = cc }
 
-told_at : (old : List PortView) (ports : List PortState) (i : ℕ) (view : PortView) → Tell old ports → slice_get old i ≡ Some view → AtPlace view (slice_get ports i)
+pub told_at : (old : List PortView) (ports : List PortState) (i : ℕ) (view : PortView) → Tell old ports → slice_get old i ≡ Some view → AtPlace view (slice_get ports i)
 told_at old ports i view tell here =
     at_place view (slice_get ports i)
     (sym (ap (option_map told_of) here) ∙ (sym (slice_get-map told_of old i) ∙ (ap (λ (all : List (Option PortState)). slice_get all i) tell ∙ slice_get-map some_of ports i)))
@@ -31,7 +31,7 @@ tell_set : (old : List PortView) (ports : List PortState) (i : ℕ) (view : Port
 tell_set old ports i view port tell told =
     map-set told_of old i view ∙ (ap (set (map told_of old) i) told ∙ (ap (λ (all : List (Option PortState)). set all i (Some port)) tell ∙ sym (map-set some_of ports i port)))
 
-at_some : {A : Type 0} (o : Option A) (x : A) (P : A → Type 0) → o ≡ Some x → IfSome o P → P x
+pub at_some : {A : Type 0} (o : Option A) (x : A) (P : A → Type 0) → o ≡ Some x → IfSome o P → P x
 at_some {A} o x P e p = subst (λ (found : Option A). IfSome found P) e p
 
 pub call_told : (old new : List PortView) (ports : List PortState) (i : ℕ) (Call : PortView → PortView → Type 0) (Told : PortState → PortState → Type 0) → ((before after : PortView) (port : PortState) → before.told ≡ Some port → Call before after → (later : PortState) × (after.told ≡ Some later) × Told port later) → Tell old ports → CallsOne old new i Call → CallsTold ports new i Told

@@ -6,5 +6,5 @@ mod laws;
 mod set;
 
 pub use fault::PortFault;
-pub use laws::{get_law, put_law};
+pub use laws::{counts_law, get_law, put_law};
 pub use set::PortSet;

@@ -3,6 +3,7 @@
 ghost use Rattle.std.specs.Prelude.{◌≡◌, ◌≢◌, ◌↔◌, ℕ, ◌<◌, ◌≤◌, map, length, slice_get, option_map, is_err};
 ghost use Rattle.mpy_io.specs.Ports.{Puts, Gets};
 ghost use Rattle.port_set.specs.Calls.{CallsOne};
+ghost use Rattle.port_set.specs.Counts.{CountsKeep};
 
 use crate::PortFault;
 use mpy_io::Port;
@@ -42,6 +43,7 @@ impl<P: Port> PortSet<P> {
         ensures call { i < length self.old
             → CallsOne (map P.seen self.old) (map P.seen self.new) i (λ old new. Puts old new n (is_err result)) }
         ensures others { (k : ℕ) → k ≢ i → slice_get self.new k ≡ slice_get self.old k }
+        ensures faults { CountsKeep (map P.seen self.old) (map P.seen self.new) }
     {
         let port = self.ports.get_mut(i).ok_or(PortFault::NoPort)?;
         Ok(port.put(n)?)
@@ -54,6 +56,7 @@ impl<P: Port> PortSet<P> {
         ensures call { i < length self.old
             → CallsOne (map P.seen self.old) (map P.seen self.new) i (λ old new. Gets old new result) }
         ensures others { (k : ℕ) → k ≢ i → slice_get self.new k ≡ slice_get self.old k }
+        ensures faults { CountsKeep (map P.seen self.old) (map P.seen self.new) }
     {
         let port = self.ports.get_mut(i).ok_or(PortFault::NoPort)?;
         Ok(port.get()?)

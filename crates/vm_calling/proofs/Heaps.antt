@@ -6,6 +6,8 @@ use Rattle.mpy_base.specs.declared.builtin.Builtin.TheVariants as builtins
 use Rattle.mpy_base.specs.Val.{Val, Built, PlainWorld}
 use Rattle.mpy_io.specs.Count.{Counts}
 use Rattle.port_set.specs.Calls.{Tell}
+use Rattle.port_set.specs.Counts.{CountsKeep}
+use Rattle.port_set.proofs.Counting.{counts_are}
 use Rattle.arena_heap.specs.declared.value.Value.{Value}
 use Rattle.arena_heap.specs.declared.value.StrNo.{StrNo}
 use Rattle.arena_heap.specs.declared.value.ConstNo.{ConstNo}
@@ -30,7 +32,8 @@ use Rattle.vm_faults.specs.Outcomes.{plain_answer, IsOutcome}
 use Rattle.vm_outputs.specs.declared.prints.PrintStop.{PrintStop}
 use Rattle.vm_outputs.specs.declared.prints.PrintStop.TheVariants as print_stops
 use Rattle.vm_outputs.specs.Prints.{IsPrint}
-use Rattle.vm_outputs.specs.PortCalls.{Failed, called_number}
+use Rattle.vm_outputs.specs.PortCalls.{Failed, IsListed, called_number}
+use Rattle.vm_outputs.proofs.PortsTold.{failed_beyond}
 use Rattle.py_primitives.specs.Output.{printed}
 use Rattle.vm_calls.specs.declared.calls.CallStop.{CallStop}
 use Rattle.vm_calls.specs.declared.calls.CallStop.TheVariants as calls
@@ -95,13 +98,15 @@ module _ {S : Type 0} (told : S → Option (List ℕ)) (count : S → ℕ) (text
   record Shows : Type 0 where
     counts : Counts (count old.out) (count new.out) (is_out (done_of given))
     ports : is_out (done_of given) ≡ true → new.ports ≡ old.ports
+    faults : CountsKeep old.ports new.ports
 
-  still : (r : Result Value Stop) → given ≡ as_call r → new.out ≡ old.out → Shows
-  still r is out =
+  still : (r : Result Value Stop) → given ≡ as_call r → new.out ≡ old.out → CountsKeep old.ports new.ports → Shows
+  still r is out faults =
       let quietly : is_out (done_of given) ≡ false = ap (λ (z : Result Value CallStop). is_out (done_of z)) is ∙ call_quiet r in
       record {
         counts = subst (Counts (count old.out) (count new.out)) (sym quietly) (ap count out);
         ports = λ h. absurd (let wrong : true ≡ false = sym h ∙ quietly in cc);
+        faults = faults;
       }
 
   print_counts : (r : Result Value PrintStop) (outcome : Outcome (List ℕ)) → IsPrint told count texts tuples old.heap old.out new.out r outcome → Counts (count old.out) (count new.out) (is_out (done_of (as_print r)))
@@ -113,19 +118,20 @@ module _ {S : Type 0} (told : S → Option (List ℕ)) (count : S → ℕ) (text
   shows_print acts = record {
     counts = subst (λ (z : Result Value CallStop). Counts (count old.out) (count new.out) (is_out (done_of z))) (sym acts.does.is) (print_counts acts.does.answer _ acts.does.holds);
     ports = λ h. acts.ports;
+    faults = counts_are old.ports new.ports acts.ports;
   }
 
   shows_heap : (b : Builtin) → IsOnHeap b → Done b → Shows
-  shows_heap b is h = let acts = heap_call told count texts tuples old new args keys given b is h in still acts.does.answer acts.does.is acts.out
+  shows_heap b is h = let acts = heap_call told count texts tuples old new args keys given b is h in still acts.does.answer acts.does.is acts.out (counts_are old.ports new.ports acts.ports)
 
   shows_ports : (b : Builtin) → IsOfPorts b → Done b → Shows
-  shows_ports builtins.PortPut is acts = still acts.does.answer acts.does.is acts.out
-  shows_ports builtins.PortGet is acts = still acts.does.answer acts.does.is acts.out
-  shows_ports builtins.PortCount is acts = still acts.does.answer acts.does.is acts.out
+  shows_ports builtins.PortPut is acts = still acts.does.answer acts.does.is acts.out acts.faults
+  shows_ports builtins.PortGet is acts = still acts.does.answer acts.does.is acts.out acts.faults
+  shows_ports builtins.PortCount is acts = still acts.does.answer acts.does.is acts.out (counts_are old.ports new.ports acts.ports)
   shows_ports _ is acts = absurd is
 
   shows_port : Done builtins.Port → Shows
-  shows_port acts = still acts.does.answer acts.does.is acts.out
+  shows_port acts = still acts.does.answer acts.does.is acts.out (counts_are old.ports new.ports acts.ports)
 
   shows : (b : Builtin) → Done b → Shows
   shows b h = elim (family b) [
@@ -151,6 +157,9 @@ module _ {S : Type 0} (told : S → Option (List ℕ)) (count : S → ℕ) (text
 
   pub built_ports : is_out result ≡ true → new.ports ≡ old.ports
   built_ports e = (shows told count texts tuples old new args keys h.given b h.call).ports (sym (ap is_out h.done) ∙ e)
+
+  pub built_faults : CountsKeep old.ports new.ports
+  built_faults = (shows told count texts tuples old new args keys h.given b h.call).faults
 
 -- the heap
 -- ========
@@ -252,11 +261,14 @@ module _ {S : Type 0} (told : S → Option (List ℕ)) (count : S → ℕ) (p : 
     Choice = Alike ⊎ Strays p (callees.Built b) given before.heap w before.ports behind.ports
 
     -- by whether the call failed at the port, and whether that of the world does
-    chosen : (given_is ≡ Err (calls.Stops (stops.Raises faults.PortFailed)) → Failed (called_number given.args) before.ports behind.ports) → Choice
-    chosen failed = elim (at_port stop) [
+    chosen : (given_is ≡ Err (calls.Stops (stops.Raises faults.PortFailed)) → Failed (called_number given.args) before.ports behind.ports)
+        → (given_is ≡ Err (calls.Stops (stops.Raises faults.PortFailed)) → IsListed (called_number given.args) w.ports → (effect w).answer ≡ Err (primitives.Raises plain.PortFailed)) → Choice
+    chosen failed listed = elim (at_port stop) [
       | inl at_one ↦ elim (fails_at_port (effect w).answer) [
         | inl so ↦ inl (λ e. so)
-        | inr other ↦ inr (record { failed = failed (at ∙ ap (λ (z : Stop). Err (calls.Stops z)) at_one); untold = other })
+        | inr other ↦
+            let is = at ∙ ap (λ (z : Stop). Err (calls.Stops z)) at_one in
+            inr (record { failed = failed is; untold = other; rose = failed_beyond (called_number given.args) before.ports behind.ports w.ports tell (failed is) (λ l. other (listed is l)) })
       ]
       | inr elsewhere ↦ inl (λ e. absurd (elsewhere e))
     ]
@@ -268,9 +280,13 @@ module _ {S : Type 0} (told : S → Option (List ℕ)) (count : S → ℕ) (p : 
     print_alike e acts = inl (λ failed. ap (λ (z : Builtin). (call_builtin (W w) z (map (value_of p.tables) given.args) (map (plain_pair p.tables.texts p.tables.tuples) given.keys)).answer) e
         ∙ print_answer w acts.does.answer (sym acts.does.is ∙ (at ∙ ap (λ (z : Stop). Err (calls.Stops z)) failed)) acts.does.holds)
 
+    -- the answer of the world's call
+    answer_of : {z : Builtin} → b ≡ z → (effect w).answer ≡ (call_builtin (W w) z (map (value_of p.tables) given.args) (map (plain_pair p.tables.texts p.tables.tuples) given.keys)).answer
+    answer_of e = ap (λ (z : Builtin). (call_builtin (W w) z (map (value_of p.tables) given.args) (map (plain_pair p.tables.texts p.tables.tuples) given.keys)).answer) e
+
     ports_alike : (z : Builtin) → b ≡ z → IsOfPorts z → Called given_is z → Choice
-    ports_alike builtins.PortPut e of acts = chosen acts.failed
-    ports_alike builtins.PortGet e of acts = chosen acts.failed
+    ports_alike builtins.PortPut e of acts = chosen acts.failed (λ is l. answer_of e ∙ acts.listed is w.ports l)
+    ports_alike builtins.PortGet e of acts = chosen acts.failed (λ is l. answer_of e ∙ acts.listed is w.ports l)
     ports_alike builtins.PortCount e of acts =
         let answer : acts.does.answer ≡ Err stop = stop_in acts.does.answer stop (sym acts.does.is ∙ at) in
         inl (λ failed. ap (λ (z : Builtin). (call_builtin (W w) z (map (value_of p.tables) given.args) (map (plain_pair p.tables.texts p.tables.tuples) given.keys)).answer) e

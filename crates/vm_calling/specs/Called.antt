@@ -4,6 +4,7 @@ use Rattle.mpy_base.specs.World.{Heap}
 use Rattle.mpy_base.specs.Val.{Val, PlainWorld}
 use Rattle.mpy_io.specs.Ports.{PortView}
 use Rattle.port_set.specs.Calls.{Tell}
+use Rattle.port_set.specs.Counts.{RoseBeyond}
 use Rattle.arena_heap.specs.declared.value.Value.{Value}
 use Rattle.py_primitives.specs.Faults as plain_faults
 use Rattle.py_primitives.specs.Outcome.{Raises}
@@ -73,10 +74,12 @@ module _ (p : Program) (callee : Callee) (given : Given) (before : Heap Value �
     pub pays : (paid : ℕ) → paid < visits → stepped p paid old w before ≡ running_of p.tables (suc paid) old.calls begins_in
     pub steps : (paid : ℕ) → visits ≤ paid → stepped p paid old w before ≡ outcome
 
-  -- a call of a port failed, and its count of faults rose, where the call in this world doesn't fail
+  -- a call of a port failed, and its count of faults rose, where the call in this world doesn't fail: it rose beyond the faults
+  -- that the port tells
   pub record Strays (earlier later : List PortView) : Type 0 where
     pub failed : Failed (called_number given.args) earlier later
     pub untold : FailsAtPort called plain_args plain_keys → ⊥
+    pub rose : RoseBeyond failed.number earlier later
 
 module _ {S : Type 0} (told : S → Option (List ℕ)) (count : S → ℕ) (p : Program) (place : Place) (callee : Callee) (given : Given) (before behind : Seen S) (old new : Calls) (w : PlainWorld) where
   -- the new calls go on, or the old ones stop, in a world with the same modules, whose output the sink tells, and whose ports

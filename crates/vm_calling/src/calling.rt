@@ -4,6 +4,7 @@ ghost use Rattle.std.specs.Prelude.{◌≡◌, ◌<◌, ◌^◌, map, true, OnEr
 ghost use Rattle.mpy_base.specs.declared.builtin.Builtin.{Builtin as BuiltIn};
 ghost use Rattle.mpy_base.specs.World.{Later};
 ghost use Rattle.mpy_io.specs.Count.{Counts};
+ghost use Rattle.port_set.specs.Counts.{CountsKeep};
 ghost use Rattle.bc_library.specs.Constants.{items_at, text_at};
 ghost use Rattle.vm_calls.specs.declared.callees.Callee.TheVariants as callees;
 ghost use Rattle.vm_frames.specs.Calls.{OfRunning};
@@ -63,6 +64,7 @@ pub fn call_on<S: Sink, P: Port>(
     ensures heap { HeapComesIn library.now (record { instruction = fetched.Number op number; end = end }) call.size arena.old arena.new frames.old frames.new result }
     ensures counts { Counts (S.count out.old) (S.count out.new) (is_out result) }
     ensures ports { is_out result ≡ true → map P.seen ports.new ≡ map P.seen ports.old }
+    ensures faults { CountsKeep (map P.seen ports.old) (map P.seen ports.new) }
     ensures again { RunsAgain library.now (record { instruction = fetched.Number op number; end = end }) arena.old arena.new frames.old frames.new }
     ensures built { (b : BuiltIn) → call.callee ≡ callees.Built b → IsCalled S.told S.count (text_at library.now) (items_at library.now) (record { heap = arena.old; out = out.old; ports = map P.seen ports.old }) (record { heap = arena.new; out = out.new; ports = map P.seen ports.new }) operands.now.args operands.now.keys b result }
     ensures later { Later arena.old.objects arena.new.objects }

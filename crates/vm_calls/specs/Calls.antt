@@ -6,6 +6,7 @@ use Rattle.mpy_base.specs.World.{Heap, Objects, PortState}
 use Rattle.mpy_base.specs.Val.{Val, Built}
 use Rattle.mpy_io.specs.Ports.{PortView}
 use Rattle.port_set.specs.Calls.{Tell}
+use Rattle.port_set.specs.Counts.{CountsKeep}
 use Rattle.arena_heap.specs.declared.value.Value.{Value}
 use Rattle.arena_heap.specs.declared.value.StrNo.{StrNo}
 use Rattle.arena_heap.specs.declared.value.ConstNo.{ConstNo}
@@ -24,7 +25,7 @@ use Rattle.vm_faults.specs.Outcomes.{IsKnownAnswer, IsOutcome}
 use Rattle.vm_outputs.specs.declared.prints.PrintStop.{PrintStop}
 use Rattle.vm_outputs.specs.declared.prints.PrintStop.TheVariants as prints
 use Rattle.vm_outputs.specs.Prints.{IsPrint}
-use Rattle.vm_outputs.specs.PortCalls.{IsPortOutcome, Failed, called_number}
+use Rattle.vm_outputs.specs.PortCalls.{IsPortOutcome, Failed, IsListed, called_number}
 use Rattle.vm_calls.specs.declared.calls.CallStop.{CallStop}
 use Rattle.vm_calls.specs.declared.calls.CallStop.TheVariants as calls
 
@@ -79,7 +80,8 @@ module _ {S : Type 0} (told : S → Option (List ℕ)) (count : S → ℕ) (text
     pub ports : new.ports ≡ old.ports
 
   -- it calls a port that tells its contents as the primitive does, if it fails only where that does, and does nothing else. One
-  -- that failed is of the port that the first argument names
+  -- that failed is of the port that the first argument names, whose call fails as the primitive where it is listed to. No port's
+  -- count of faults falls
   abbrev pub DoesAsPort : Builtin → Result Value Stop → Type 0
   DoesAsPort b r =
       (contents : List PortState) → Tell old.ports contents
@@ -89,6 +91,9 @@ module _ {S : Type 0} (told : S → Option (List ℕ)) (count : S → ℕ) (text
   pub record CallsPort (b : Builtin) : Type 0 where
     pub does : Answers as_call result (DoesAsPort b)
     pub failed : result ≡ Err (calls.Stops (stops.Raises faults.PortFailed)) → Failed (called_number args) old.ports new.ports
+    pub listed : result ≡ Err (calls.Stops (stops.Raises faults.PortFailed)) → (contents : List PortState) → IsListed (called_number args) contents
+        → (call_port heap_of contents b plain_args plain_keys).answer ≡ Err (primitives.Raises plain.PortFailed)
+    pub faults : CountsKeep old.ports new.ports
     pub heap : new.heap ≡ old.heap
     pub out : new.out ≡ old.out
 

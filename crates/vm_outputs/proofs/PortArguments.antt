@@ -7,7 +7,7 @@ use Rattle.mpy_base.specs.declared.builtin.Builtin.TheVariants as builtins
 use Rattle.mpy_base.specs.World.{Heap, PortState}
 use Rattle.mpy_io.specs.Ports.{PortView}
 use Rattle.port_set.specs.Calls.{Tell}
-use Rattle.py_primitives.specs.Output.{number_answer, call_port}
+use Rattle.py_primitives.specs.Output.{number_answer, call_port, call_port_put, call_port_get}
 use Rattle.vm_walks.specs.Plain.{plain, plain_pair, plain_heap}
 use Rattle.vm_faults.specs.declared.stop.Stop.{Stop}
 use Rattle.vm_operators.specs.Operands.{number_in}
@@ -27,3 +27,22 @@ module _ (texts : StrNo → Option (List ℕ)) (tuples : ConstNo → Option (Lis
   counted_told [] keys result e none is =
       subst (λ (ks : List (Value × Value)). IsPortOutcome texts tuples h new result (call_port (plain_heap texts tuples h) contents builtins.PortCount [] (map (plain_pair texts tuples) ks))) (sym none)
       (record { answer = is texts tuples h ∙ ap (λ (k : ℕ). number_answer (pos k)) (as_many new contents tell); ports = tell })
+
+module _ (texts : StrNo → Option (List ℕ)) (tuples : ConstNo → Option (List Value)) (h : Heap Value ℕ) (contents : List PortState) where
+  -- a put has two arguments
+  pub put_called : (args : List Value) (keys : List (Value × Value)) (v : Value) → length args ≡ 2 → keys ≡ []
+      → call_port (plain_heap texts tuples h) contents builtins.PortPut (map (plain texts tuples) args) (map (plain_pair texts tuples) keys)
+      ≡ call_port_put (plain_heap texts tuples h) contents (plain texts tuples (get_or args 0 v)) (plain texts tuples (get_or args 1 v))
+  put_called [] keys v two none = absurd (omega arith)
+  put_called (a ∷ []) keys v two none = absurd (omega arith)
+  put_called (a ∷ b ∷ []) keys v two none =
+      ap (λ (ks : List (Value × Value)). call_port (plain_heap texts tuples h) contents builtins.PortPut (plain texts tuples a ∷ plain texts tuples b ∷ []) (map (plain_pair texts tuples) ks)) none
+  put_called (a ∷ b ∷ d ∷ args) keys v two none = absurd (omega arith)
+
+  -- and a get has one
+  pub get_called : (args : List Value) (keys : List (Value × Value)) (i : Value) → args ≡ i ∷ [] → keys ≡ []
+      → call_port (plain_heap texts tuples h) contents builtins.PortGet (map (plain texts tuples) args) (map (plain_pair texts tuples) keys)
+      ≡ call_port_get (plain_heap texts tuples h) contents (plain texts tuples i)
+  get_called args keys i one none =
+      ap (λ (vs : List Value). call_port (plain_heap texts tuples h) contents builtins.PortGet (map (plain texts tuples) vs) (map (plain_pair texts tuples) keys)) one
+      ∙ ap (λ (ks : List (Value × Value)). call_port (plain_heap texts tuples h) contents builtins.PortGet (plain texts tuples i ∷ []) (map (plain_pair texts tuples) ks)) none

@@ -1,14 +1,17 @@
 -- Ports that tell their contents, behind a call.
 use Rattle.std.proofs.Common.{◌≡◌, ◌<◌, ◌≤◌, ◌↔◌, ◌++◌, inl, inr, ℕ, zero, suc, ℤ, pos, List, [], ◌∷◌, length, Bool, true, false, cond, Option, Some, None, Result, Ok, Err, drop, refl, sym, ap, ◌∙◌, subst, arith}
-use Rattle.std.specs.Prelude.{Contains, IsTrue, slice_get, slice_set, nat_eq, ◌||◌}
-use Rattle.std.specs.List.{list_any}
+use Rattle.std.specs.Prelude.{IfSome, IsTrue, slice_get, slice_set}
 use Rattle.std.specs.Option.{option_to_list}
 use Rattle.arena_heap.specs.declared.value.Value.{Value}
 use Rattle.vm_faults.specs.declared.stop.Stop.{Stop}
 use Rattle.mpy_base.specs.World.{PortState}
 use Rattle.mpy_base.specs.Val.{Val, Nil, Int}
-use Rattle.mpy_io.specs.Ports.{PortView, IsFailing, first_pending, after_put, after_get}
+use Rattle.mpy_io.specs.Ports.{PortView, IsFailing, first_pending, called, after_put, after_get}
 use Rattle.port_set.specs.Calls.{Tell, CallsOne, CallsTold}
+use Rattle.port_set.specs.Counts.{RoseBeyond}
+use Rattle.port_set.proofs.Counting.{unlisted_rises}
+use Rattle.port_set.proofs.Listed.{any_contains, contains_any}
+use Rattle.port_set.proofs.ToldCall.{told_at}
 use Rattle.py_primitives.specs.Outcome as primitives
 use Rattle.py_primitives.specs.Faults.{Arithmetic, NoSuchPort, PortFailed}
 use Rattle.py_values.specs.declared.small_int.NumFault.TheVariants.{Overflow}
@@ -18,19 +21,10 @@ use Rattle.mpy_io.specs.Count.{Rose}
 use Rattle.arena_heap.specs.declared.value.Value.TheVariants as values
 use Rattle.vm_faults.specs.declared.fault.Fault.TheVariants as faults
 use Rattle.vm_faults.specs.declared.stop.Stop.TheVariants as stops
-use Rattle.vm_outputs.specs.PortCalls.{DoesPort, Failed, IsTaken}
+use Rattle.vm_outputs.specs.PortCalls.{DoesPort, Failed, IsListed, IsTaken}
 use Rattle.std.proofs.lemmas.Bool.{cases_lt}
 use Rattle.std.proofs.lemmas.List.{length-map}
 use Rattle.std.proofs.lemmas.Option.{slice_get_past}
-
-any_step : (b : Bool) (x y : ℕ) (ys : List ℕ) → nat_eq x y ≡ b → (Contains ys x → Contains (y ∷ ys) x) → (list_any (nat_eq x) ys ≡ true → Contains ys x) → (b || list_any (nat_eq x) ys) ≡ true → Contains (y ∷ ys) x
-any_step true x y ys e more others any = let same : y ≡ x = grind arith in (zero, omega arith, same)
-any_step false x y ys e more others any = more (others any)
-
-any_contains : (xs : List ℕ) (x : ℕ) → list_any (nat_eq x) xs ≡ true → Contains xs x
-any_contains [] x e = absurd cc
-any_contains (y ∷ ys) x e =
-    any_step (nat_eq x y) x y ys refl (λ c. (suc c.0, (let lt = c.1 in omega arith), c.2)) (any_contains ys x) e
 
 -- a call of a port that didn't fail isn't one that is to fail
 fine : (port : PortState) (b : Bool) → call_fails port ≡ b → (IsFailing port → IsTrue false) → b ≡ false
@@ -152,8 +146,8 @@ module _ (contents : List PortState) (new : List PortView) (at : ℕ) where
       λ texts tuples heap. record { answer = sym (ap (λ (o : PortOutcome). o.answer) is); ports = subst (λ (o : PortOutcome). Tell new o.ports) (sym is) (subst (λ (vs : List PortView). Tell vs contents) (sym same) tell) }
 
 -- a call that failed
-pub failed_at : (old new : List PortView) (at : ℕ) (Call : PortView → PortView → Type 0) → ((before after : PortView) → Call before after → Rose before.count after.count) → at < length old → CallsOne old new at Call → Failed (Some (pos at)) old new
-failed_at old new at Call rose lt c = record {
+pub failed_at : (old new : List PortView) (at : ℕ) (Call : PortView → PortView → Type 0) → ((before after : PortView) → Call before after → Rose before.count after.count) → ((before after : PortView) → Call before after → IfSome before.told (λ port. after.told ≡ Some (called port))) → at < length old → CallsOne old new at Call → Failed (Some (pos at)) old new
+failed_at old new at Call rose told lt c = record {
   number = at;
   before = c.before;
   after = c.after;
@@ -161,4 +155,54 @@ failed_at old new at Call rose lt c = record {
   was = c.here;
   is = ap (λ (vs : List PortView). slice_get vs at) c.others ∙ slice_get_set old at c.after lt;
   rose = rose c.before c.after c.call;
+  told = told c.before c.after c.call;
 }
+
+-- calls that are listed to fail
+-- =============================
+
+-- the port that is called
+record Listed (contents : List PortState) (at : ℕ) : Type 0 where
+  port : PortState
+  here : slice_get contents at ≡ Some port
+  fails : call_fails port ≡ true
+
+listed_here : (contents : List PortState) (at : ℕ) → IsListed (Some (pos at)) contents → Listed contents at
+listed_here contents at h =
+    let named : Some (pos at) ≡ Some (pos h.number) = h.named in
+    let same : h.number ≡ at = cc in
+    record {
+      port = h.port;
+      here = subst (λ (n : ℕ). slice_get contents n ≡ Some h.port) same h.here;
+      fails = contains_any h.port.failing h.port.calls h.failing;
+    }
+
+pub put_listed : (contents : List PortState) (at : ℕ) (n : ℤ) → IsListed (Some (pos at)) contents → (put_to contents at n (slice_get contents at)).answer ≡ Err (primitives.Raises PortFailed)
+put_listed contents at n h =
+    let l = listed_here contents at h in
+    let here : slice_get contents at ≡ Some l.port = l.here in
+    let fails : call_fails l.port ≡ true = l.fails in
+    rw (here, fails) refl
+
+pub get_listed : (contents : List PortState) (at : ℕ) → IsListed (Some (pos at)) contents → (get_from contents at (slice_get contents at)).answer ≡ Err (primitives.Raises PortFailed)
+get_listed contents at h =
+    let l = listed_here contents at h in
+    let here : slice_get contents at ≡ Some l.port = l.here in
+    let fails : call_fails l.port ≡ true = l.fails in
+    rw (here, fails) refl
+
+none_listed : (told : Option PortState) (port : PortState) → told ≡ Some port → (IsFailing port → ⊥) → IfSome told (λ found. IsFailing found → ⊥)
+none_listed told port is not = subst (λ (found : Option PortState). IfSome found (λ one. IsFailing one → ⊥)) (sym is) not
+
+-- a call that failed, and wasn't listed to
+pub failed_beyond : (called_is : Option ℤ) (old new : List PortView) (contents : List PortState) → Tell old contents → (f : Failed called_is old new) → (IsListed called_is contents → ⊥) → RoseBeyond f.number old new
+failed_beyond called_is old new contents tell f not =
+    let at = told_at old contents f.number f.before tell f.was in
+    record {
+      before = f.before;
+      after = f.after;
+      was = f.was;
+      is = f.is;
+      rose = unlisted_rises f.before f.after f.rose f.told
+          (none_listed f.before.told at.port at.told (λ failing. not (record { number = f.number; port = at.port; named = f.named; here = at.here; failing = failing })));
+    }

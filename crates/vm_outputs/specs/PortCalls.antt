@@ -1,8 +1,8 @@
 -- What calls of ports do to ports that tell their contents.
-use Rattle.std.specs.Prelude.{◌≡◌, ℕ, ℤ, pos, negsuc, List, [], ◌∷◌, Option, Some, None, Ok, Err, Result, slice_get}
+use Rattle.std.specs.Prelude.{◌≡◌, ℕ, ℤ, pos, negsuc, List, [], ◌∷◌, Option, Some, None, IfSome, Ok, Err, Result, slice_get}
 use Rattle.mpy_base.specs.World.{Heap, PortState}
 use Rattle.mpy_io.specs.Count.{Rose}
-use Rattle.mpy_io.specs.Ports.{PortView}
+use Rattle.mpy_io.specs.Ports.{PortView, IsFailing, called as called_once}
 use Rattle.port_set.specs.Calls.{Tell}
 use Rattle.arena_heap.specs.declared.value.Value.{Value}
 use Rattle.arena_heap.specs.declared.value.Value.TheVariants as values
@@ -52,7 +52,8 @@ abbrev pub called_number : List Value → Option ℤ
 called_number [] = None
 called_number (i ∷ _) = number_in i
 
--- a call that failed is one of the port of this number, whose count of faults rose
+-- a call that failed is one of the port of this number, whose count of faults rose. Where it tells its contents, it was called
+-- once more, and nothing else changed
 pub record Failed (called : Option ℤ) (old new : List PortView) : Type 0 where
   pub number : ℕ
   pub before : PortView
@@ -61,6 +62,15 @@ pub record Failed (called : Option ℤ) (old new : List PortView) : Type 0 where
   pub was : slice_get old number ≡ Some before
   pub is : slice_get new number ≡ Some after
   pub rose : Rose before.count after.count
+  pub told : IfSome before.told (λ port. after.told ≡ Some (called_once port))
+
+-- the next call of the port of this number is one of those that fail
+pub record IsListed (called : Option ℤ) (contents : List PortState) : Type 0 where
+  pub number : ℕ
+  pub port : PortState
+  pub named : called ≡ Some (pos number)
+  pub here : slice_get contents number ≡ Some port
+  pub failing : IsFailing port
 
 -- the same whatever the constants and the heap are
 abbrev pub DoesPort : List PortView → Result Value Stop → PortOutcome → Type 0

@@ -5,6 +5,7 @@ ghost use Rattle.mpy_base.specs.declared.builtin.Builtin.TheVariants as builtins
 ghost use Rattle.std.specs.Option.{option_to_list};
 ghost use Rattle.mpy_base.specs.World.{PortState};
 ghost use Rattle.port_set.specs.Calls.{Tell};
+ghost use Rattle.port_set.specs.Counts.{CountsKeep};
 ghost use Rattle.arena_heap.specs.Values.{Leads};
 ghost use Rattle.py_primitives.specs.Faults as plain_faults;
 ghost use Rattle.py_primitives.specs.Outcome as outcomes;
@@ -15,7 +16,7 @@ ghost use Rattle.vm_faults.specs.declared.stop.Stop.TheVariants as stops;
 ghost use Rattle.vm_faults.specs.Faults.{IsKnown};
 ghost use Rattle.vm_faults.specs.Outcomes.{IsKnownAnswer};
 ghost use Rattle.vm_operators.specs.Operands.{number_in};
-ghost use Rattle.vm_outputs.specs.PortCalls.{DoesPort, Failed, IsNoCall, IsNumberAnswer, IsPortAnswer, IsPortOutcome, IsTaken, called_number, get_at, put_at};
+ghost use Rattle.vm_outputs.specs.PortCalls.{DoesPort, Failed, IsListed, IsNoCall, IsNumberAnswer, IsPortAnswer, IsPortOutcome, IsTaken, called_number, get_at, put_at};
 
 use arena_heap::{Arena, Constants, Value};
 use mpy_io::Port;
@@ -36,6 +37,8 @@ fn put_number<P: Port>(ports: &mut PortSet<P>, at: usize, n: i32) -> Result<Valu
     ensures told { (contents : List PortState) → Tell (map P.seen ports.old) contents → (result ≡ Err (stops.Raises faults.PortFailed) → (put_to contents at n (slice_get contents at)).answer ≡ Err (outcomes.Raises plain_faults.PortFailed)) → DoesPort (map P.seen ports.new) result (put_to contents at n (slice_get contents at)) }
     ensures failed { result ≡ Err (stops.Raises faults.PortFailed) → Failed (Some (pos at)) (map P.seen ports.old) (map P.seen ports.new) }
     ensures refused { IsNoCall result → ports.new ≡ ports.old }
+    ensures listed { result ≡ Err (stops.Raises faults.PortFailed) → (contents : List PortState) → IsListed (Some (pos at)) contents → (put_to contents at n (slice_get contents at)).answer ≡ Err (outcomes.Raises plain_faults.PortFailed) }
+    ensures faults { CountsKeep (map P.seen ports.old) (map P.seen ports.new) }
     ensures number { IsPortAnswer result }
 {
     match ports.put(at, n) {
@@ -50,6 +53,8 @@ fn put_numbered<P: Port>(ports: &mut PortSet<P>, i: i32, n: i32) -> Result<Value
     ensures told { (contents : List PortState) → Tell (map P.seen ports.old) contents → (result ≡ Err (stops.Raises faults.PortFailed) → (put_at contents i n).answer ≡ Err (outcomes.Raises plain_faults.PortFailed)) → DoesPort (map P.seen ports.new) result (put_at contents i n) }
     ensures failed { result ≡ Err (stops.Raises faults.PortFailed) → Failed (Some i) (map P.seen ports.old) (map P.seen ports.new) }
     ensures refused { IsNoCall result → ports.new ≡ ports.old }
+    ensures listed { result ≡ Err (stops.Raises faults.PortFailed) → (contents : List PortState) → IsListed (Some i) contents → (put_at contents i n).answer ≡ Err (outcomes.Raises plain_faults.PortFailed) }
+    ensures faults { CountsKeep (map P.seen ports.old) (map P.seen ports.new) }
     ensures number { IsPortAnswer result }
 {
     match place_of(i) {
@@ -72,6 +77,8 @@ fn put_value<C: Constants, P: Port>(
     ensures known { IsKnownAnswer (C.text_of _consts.now) (C.items_of _consts.now) arena.now.objects result }
     ensures failed { result ≡ Err (stops.Raises faults.PortFailed) → Failed (number_in i) (map P.seen ports.old) (map P.seen ports.new) }
     ensures refused { IsNoCall result → ports.new ≡ ports.old }
+    ensures listed { result ≡ Err (stops.Raises faults.PortFailed) → (contents : List PortState) → IsListed (number_in i) contents → (put_of (plain_heap (C.text_of _consts.now) (C.items_of _consts.now) arena.now) contents (plain (C.text_of _consts.now) (C.items_of _consts.now) i) (plain (C.text_of _consts.now) (C.items_of _consts.now) n)).answer ≡ Err (outcomes.Raises plain_faults.PortFailed) }
+    ensures faults { CountsKeep (map P.seen ports.old) (map P.seen ports.new) }
 {
     let number = match number_of(arena, i) {
         Ok(z) => z,
@@ -97,6 +104,8 @@ pub fn call_port_put<C: Constants, P: Port>(
     ensures known { IsKnownAnswer (C.text_of consts.now) (C.items_of consts.now) arena.now.objects result }
     ensures failed { result ≡ Err (stops.Raises faults.PortFailed) → Failed (called_number args.now) (map P.seen ports.old) (map P.seen ports.new) }
     ensures refused { IsNoCall result → ports.new ≡ ports.old }
+    ensures listed { result ≡ Err (stops.Raises faults.PortFailed) → (contents : List PortState) → IsListed (called_number args.now) contents → (call_port (plain_heap (C.text_of consts.now) (C.items_of consts.now) arena.now) contents builtins.PortPut (map (plain (C.text_of consts.now) (C.items_of consts.now)) args.now) (map (plain_pair (C.text_of consts.now) (C.items_of consts.now)) keys.now)).answer ≡ Err (outcomes.Raises plain_faults.PortFailed) }
+    ensures faults { CountsKeep (map P.seen ports.old) (map P.seen ports.new) }
 {
     match only_so_many(2, args, keys) {
         Ok(()) => put_value(arena, consts, ports, args[0], args[1]),
@@ -123,6 +132,8 @@ fn get_answer<P: Port>(ports: &mut PortSet<P>, at: usize) -> Result<Value, Stop>
     ensures told { (contents : List PortState) → Tell (map P.seen ports.old) contents → (result ≡ Err (stops.Raises faults.PortFailed) → (get_from contents at (slice_get contents at)).answer ≡ Err (outcomes.Raises plain_faults.PortFailed)) → DoesPort (map P.seen ports.new) result (get_from contents at (slice_get contents at)) }
     ensures failed { result ≡ Err (stops.Raises faults.PortFailed) → Failed (Some (pos at)) (map P.seen ports.old) (map P.seen ports.new) }
     ensures refused { IsNoCall result → ports.new ≡ ports.old }
+    ensures listed { result ≡ Err (stops.Raises faults.PortFailed) → (contents : List PortState) → IsListed (Some (pos at)) contents → (get_from contents at (slice_get contents at)).answer ≡ Err (outcomes.Raises plain_faults.PortFailed) }
+    ensures faults { CountsKeep (map P.seen ports.old) (map P.seen ports.new) }
     ensures number { IsPortAnswer result }
 {
     match ports.get(at) {
@@ -137,6 +148,8 @@ fn get_numbered<P: Port>(ports: &mut PortSet<P>, i: i32) -> Result<Value, Stop>
     ensures told { (contents : List PortState) → Tell (map P.seen ports.old) contents → (result ≡ Err (stops.Raises faults.PortFailed) → (get_at contents i).answer ≡ Err (outcomes.Raises plain_faults.PortFailed)) → DoesPort (map P.seen ports.new) result (get_at contents i) }
     ensures failed { result ≡ Err (stops.Raises faults.PortFailed) → Failed (Some i) (map P.seen ports.old) (map P.seen ports.new) }
     ensures refused { IsNoCall result → ports.new ≡ ports.old }
+    ensures listed { result ≡ Err (stops.Raises faults.PortFailed) → (contents : List PortState) → IsListed (Some i) contents → (get_at contents i).answer ≡ Err (outcomes.Raises plain_faults.PortFailed) }
+    ensures faults { CountsKeep (map P.seen ports.old) (map P.seen ports.new) }
     ensures number { IsPortAnswer result }
 {
     match place_of(i) {
@@ -157,6 +170,8 @@ fn get_value<C: Constants, P: Port>(
     ensures known { IsKnownAnswer (C.text_of _consts.now) (C.items_of _consts.now) arena.now.objects result }
     ensures failed { result ≡ Err (stops.Raises faults.PortFailed) → Failed (number_in i) (map P.seen ports.old) (map P.seen ports.new) }
     ensures refused { IsNoCall result → ports.new ≡ ports.old }
+    ensures listed { result ≡ Err (stops.Raises faults.PortFailed) → (contents : List PortState) → IsListed (number_in i) contents → (get_of (plain_heap (C.text_of _consts.now) (C.items_of _consts.now) arena.now) contents (plain (C.text_of _consts.now) (C.items_of _consts.now) i)).answer ≡ Err (outcomes.Raises plain_faults.PortFailed) }
+    ensures faults { CountsKeep (map P.seen ports.old) (map P.seen ports.new) }
 {
     match number_of(arena, i) {
         Ok(z) => get_numbered(ports, z),
@@ -178,6 +193,8 @@ pub fn call_port_get<C: Constants, P: Port>(
     ensures known { IsKnownAnswer (C.text_of consts.now) (C.items_of consts.now) arena.now.objects result }
     ensures failed { result ≡ Err (stops.Raises faults.PortFailed) → Failed (called_number args.now) (map P.seen ports.old) (map P.seen ports.new) }
     ensures refused { IsNoCall result → ports.new ≡ ports.old }
+    ensures listed { result ≡ Err (stops.Raises faults.PortFailed) → (contents : List PortState) → IsListed (called_number args.now) contents → (call_port (plain_heap (C.text_of consts.now) (C.items_of consts.now) arena.now) contents builtins.PortGet (map (plain (C.text_of consts.now) (C.items_of consts.now)) args.now) (map (plain_pair (C.text_of consts.now) (C.items_of consts.now)) keys.now)).answer ≡ Err (outcomes.Raises plain_faults.PortFailed) }
+    ensures faults { CountsKeep (map P.seen ports.old) (map P.seen ports.new) }
 {
     match one_argument(args, keys) {
         Ok(i) => get_value(arena, consts, ports, i),

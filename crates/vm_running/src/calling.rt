@@ -2,6 +2,7 @@
 
 ghost use Rattle.std.specs.Prelude.{◌≡◌, ◌<◌, ◌≤◌, ◌^◌, map, is_err};
 ghost use Rattle.mpy_io.specs.Count.{Counts};
+ghost use Rattle.port_set.specs.Counts.{CountsKeep};
 ghost use Rattle.bc_library.specs.Constants.{items_at, text_at};
 ghost use Rattle.vm_frames.specs.Calls.{OfRunning};
 ghost use Rattle.vm_fetching.specs.declared.instruction.Instruction.TheVariants as fetched_as;
@@ -58,6 +59,7 @@ pub fn call<S: Sink, P: Port>(
     ensures went { (p : Program) → p.shelf ≡ library.now
         → WentBehind p (text_at library.now) (items_at library.now) names.now row.now (record { instruction = fetched_as.Number op number; end = end }) call.size arena.old arena.new modules.old modules.new frames.old frames.new (end_in result) }
     ensures counts { Counts (S.count out.old) (S.count out.new) (is_err result) }
+    ensures faults { CountsKeep (map P.seen ports.old) (map P.seen ports.new) }
     ensures rooms { frames.new ≡ record frames.old { calls = frames.new.calls } }
     ensures registry { modules.new.room ≡ modules.old.room }
     ensures room { bindings.new.room ≡ bindings.old.room }

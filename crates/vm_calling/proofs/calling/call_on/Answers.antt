@@ -1,18 +1,15 @@
 use Rattle.std.proofs.Common.{◌≡◌, map, Err, inl, refl, sym, subst, arith, ◌∙◌}
 use Rattle.std.specs.Prelude.{OnErr}
-use Rattle.std.specs.Prelude.{OnErr}
-use Rattle.std.specs.Prelude.{OnErr}
 use Rattle.mpy_base.specs.declared.builtin.Builtin.{Builtin}
 use Rattle.bc_library.specs.Constants.{items_at, text_at}
 use Rattle.mpy_io.specs.Count.{Counts}
+use Rattle.port_set.proofs.Counting.{counts_same}
 use Rattle.vm_calls.specs.Calls.{Seen}
 use Rattle.vm_calls.specs.Callees.{IsKnownCallee}
 use Rattle.vm_calls.specs.declared.calls.CallStop.TheVariants as calls
 use Rattle.vm_calls.specs.declared.callees.Callee.{Callee}
 use Rattle.vm_calls.specs.declared.callees.Callee.TheVariants as callees
 use Rattle.vm_fetching.specs.declared.instruction.Instruction.TheVariants as fetched
-use Rattle.vm_invoking.specs.Built.{IsCalled, IsKnownCallStop}
-use Rattle.vm_invoking.specs.Built.{IsCalled, IsKnownCallStop}
 use Rattle.vm_invoking.specs.Built.{IsCalled, IsKnownCallStop}
 use Rattle.vm_calling.specs.Called.{is_out, CallComes, HeapComes}
 use Rattle.vm_calling.proofs.Heaps as heaps
@@ -299,3 +296,18 @@ returns-in-Built-clause-ports g c =
     let old_seen : Seen _ = record { heap = c.args.arena.now; out = c.args.out.now; ports = map g.P.Port.seen c.args.ports.now } in
     let new_seen : Seen _ = record { heap = c.act_builtin.new.arena; out = c.act_builtin.new.out; ports = map g.P.Port.seen c.act_builtin.new.ports } in
     heaps.built_ports g.S.Sink.told g.S.Sink.count (text_at c.args.library.now) (items_at c.args.library.now) old_seen new_seen c.args.operands.now.args c.args.operands.now.keys c.in-Built.b c.act_builtin.result c.act_builtin.ensures.called
+
+pub returns-in-Method-clause-faults : goal.returns-in-Method-clause-faults
+returns-in-Method-clause-faults g c = counts_same (map g.P.Port.seen c.args.ports.now)
+
+pub returns-in-NotCallable-clause-faults : goal.returns-in-NotCallable-clause-faults
+returns-in-NotCallable-clause-faults g c = counts_same (map g.P.Port.seen c.args.ports.now)
+
+pub returns-in-Runs-clause-faults : goal.returns-in-Runs-clause-faults
+returns-in-Runs-clause-faults g c = counts_same (map g.P.Port.seen c.args.ports.now)
+
+pub returns-in-Built-clause-faults : goal.returns-in-Built-clause-faults
+returns-in-Built-clause-faults g c =
+    let old_seen : Seen _ = record { heap = c.args.arena.now; out = c.args.out.now; ports = map g.P.Port.seen c.args.ports.now } in
+    let new_seen : Seen _ = record { heap = c.act_builtin.new.arena; out = c.act_builtin.new.out; ports = map g.P.Port.seen c.act_builtin.new.ports } in
+    heaps.built_faults g.S.Sink.told g.S.Sink.count (text_at c.args.library.now) (items_at c.args.library.now) old_seen new_seen c.args.operands.now.args c.args.operands.now.keys c.in-Built.b c.act_builtin.result c.act_builtin.ensures.called

@@ -49,7 +49,7 @@ returns-in-PortPut g c =
     let result = c.stopped.result in
     record {
       call = subst (λ (b : Builtin). IsCall told count texts tuples old new c.args.args.now c.args.keys.now result b) (sym c.in-PortPut.is)
-          (record { does = record { answer = c.call_port_put.result; is = c.stopped.ensures; holds = c.call_port_put.ensures.told }; failed = λ e. c.call_port_put.ensures.failed (failed_answer c.call_port_put.result (sym c.stopped.ensures ∙ e)); heap = refl; out = refl });
+          (record { does = record { answer = c.call_port_put.result; is = c.stopped.ensures; holds = c.call_port_put.ensures.told }; failed = λ e. c.call_port_put.ensures.failed (failed_answer c.call_port_put.result (sym c.stopped.ensures ∙ e)); listed = λ e. c.call_port_put.ensures.listed (failed_answer c.call_port_put.result (sym c.stopped.ensures ∙ e)); faults = c.call_port_put.ensures.faults; heap = refl; out = refl });
       known = known_call texts tuples h.objects c.call_port_put.result result c.stopped.ensures c.call_port_put.ensures.known;
       later = later_same h.objects;
       all_told = c.requires.all_told;
@@ -68,7 +68,7 @@ returns-in-PortGet g c =
     let result = c.stopped-in-PortGet.result in
     record {
       call = subst (λ (b : Builtin). IsCall told count texts tuples old new c.args.args.now c.args.keys.now result b) (sym c.in-PortGet.is)
-          (record { does = record { answer = c.call_port_get.result; is = c.stopped-in-PortGet.ensures; holds = c.call_port_get.ensures.told }; failed = λ e. c.call_port_get.ensures.failed (failed_answer c.call_port_get.result (sym c.stopped-in-PortGet.ensures ∙ e)); heap = refl; out = refl });
+          (record { does = record { answer = c.call_port_get.result; is = c.stopped-in-PortGet.ensures; holds = c.call_port_get.ensures.told }; failed = λ e. c.call_port_get.ensures.failed (failed_answer c.call_port_get.result (sym c.stopped-in-PortGet.ensures ∙ e)); listed = λ e. c.call_port_get.ensures.listed (failed_answer c.call_port_get.result (sym c.stopped-in-PortGet.ensures ∙ e)); faults = c.call_port_get.ensures.faults; heap = refl; out = refl });
       known = known_call texts tuples h.objects c.call_port_get.result result c.stopped-in-PortGet.ensures c.call_port_get.ensures.known;
       later = later_same h.objects;
       all_told = c.requires.all_told;

@@ -1,9 +1,12 @@
-use Rattle.std.proofs.Common.{◌≡◌, List, map, refl, sym, subst}
+use Rattle.std.proofs.Common.{◌≡◌, List, map, refl, sym, ap, ◌∙◌, subst}
 use Rattle.mpy_base.specs.declared.builtin.Builtin.TheVariants as builtins
+use Rattle.port_set.proofs.Counting.{counts_same}
 use Rattle.py_primitives.specs.Calls.{Exactly}
+use Rattle.py_primitives.specs.Output.{PortOutcome}
 use Rattle.vm_faults.specs.declared.fault.Fault.TheVariants as faults
 use Rattle.arena_heap.specs.declared.value.Value.{Value}
-use Rattle.vm_outputs.specs.PortCalls.{Failed, called_number}
+use Rattle.vm_outputs.specs.PortCalls.{Failed, IsListed, called_number}
+use Rattle.vm_outputs.proofs.PortArguments.{get_called}
 use Rattle.vm_outputs.proofs.PortRefusals.{refusal_told, refusal_no_port}
 use Rattle.vm_builtins.proofs.Calls.{one_known}
 use Rattle.vm_outputs.proofs.ports.call_port_get.Goals as goal
@@ -34,3 +37,20 @@ pub returns-in-Ok-clause-failed : goal.returns-in-Ok-clause-failed
 returns-in-Ok-clause-failed g c e =
     let seen = g.P.Port.seen in
     subst (λ (vs : List Value). Failed (called_number vs) (map seen c.args.ports.now) (map seen c.get_value.new.ports)) (sym c.in-Ok.ensures.given) (c.get_value.ensures.failed e)
+
+pub returns-in-Err-clause-listed : goal.returns-in-Err-clause-listed
+returns-in-Err-clause-listed g c e =
+    let texts = g.C.Constants.text_of c.args.consts.now in
+    let tuples = g.C.Constants.items_of c.args.consts.now in
+    let same : c.in-Err.fault ≡ faults.PortFailed = cc in
+    absurd (refusal_no_port texts tuples c.args.arena.now c.args.args.now c.args.keys.now builtins.PortGet (Exactly 1) c.in-Err.fault c.in-Err.ensures.refused refl refl same)
+
+pub returns-in-Ok-clause-listed : goal.returns-in-Ok-clause-listed
+returns-in-Ok-clause-listed g c e contents listed =
+    let texts = g.C.Constants.text_of c.args.consts.now in
+    let tuples = g.C.Constants.items_of c.args.consts.now in
+    ap (λ (o : PortOutcome). o.answer) (get_called texts tuples c.args.arena.now contents c.args.args.now c.args.keys.now c.in-Ok.i c.in-Ok.ensures.given c.in-Ok.ensures.no_keywords)
+    ∙ c.get_value.ensures.listed e contents (subst (λ (vs : List Value). IsListed (called_number vs) contents) c.in-Ok.ensures.given listed)
+
+pub returns-in-Err-clause-faults : goal.returns-in-Err-clause-faults
+returns-in-Err-clause-faults g c = counts_same (map g.P.Port.seen c.args.ports.now)

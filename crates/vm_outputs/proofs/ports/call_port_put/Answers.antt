@@ -1,10 +1,12 @@
-use Rattle.std.proofs.Common.{◌≡◌, ◌<◌, ℤ, map, length, Option, refl, sym, subst, arith}
+use Rattle.std.proofs.Common.{◌≡◌, ◌<◌, ℤ, map, length, Option, refl, sym, ap, ◌∙◌, subst, arith}
 use Rattle.mpy_base.specs.declared.builtin.Builtin.TheVariants as builtins
+use Rattle.port_set.proofs.Counting.{counts_same}
 use Rattle.py_primitives.specs.Calls.{Exactly}
+use Rattle.py_primitives.specs.Output.{PortOutcome}
 use Rattle.vm_faults.specs.declared.fault.Fault.TheVariants as faults
 use Rattle.arena_heap.specs.declared.value.Value.TheVariants as values
-use Rattle.vm_outputs.specs.PortCalls.{Failed}
-use Rattle.vm_outputs.proofs.PortArguments.{first_called}
+use Rattle.vm_outputs.specs.PortCalls.{Failed, IsListed}
+use Rattle.vm_outputs.proofs.PortArguments.{first_called, put_called}
 use Rattle.vm_outputs.proofs.PortRefusals.{refusal_told, refusal_no_port}
 use Rattle.vm_outputs.proofs.ports.call_port_put.Goals as goal
 
@@ -30,3 +32,22 @@ returns-in-Ok-clause-failed g c e =
     let args = c.args.args.now in
     let some : 0 < length args = omega (arith, c.in-Ok.ensures.as_many) in
     subst (λ (z : Option ℤ). Failed z (map seen c.args.ports.now) (map seen c.put_value.new.ports)) (sym (first_called args values.None some)) (c.put_value.ensures.failed e)
+
+pub returns-in-Err-clause-listed : goal.returns-in-Err-clause-listed
+returns-in-Err-clause-listed g c e =
+    let texts = g.C.Constants.text_of c.args.consts.now in
+    let tuples = g.C.Constants.items_of c.args.consts.now in
+    let same : c.in-Err.fault ≡ faults.PortFailed = cc in
+    absurd (refusal_no_port texts tuples c.args.arena.now c.args.args.now c.args.keys.now builtins.PortPut (Exactly 2) c.in-Err.fault c.in-Err.ensures.refused refl refl same)
+
+pub returns-in-Ok-clause-listed : goal.returns-in-Ok-clause-listed
+returns-in-Ok-clause-listed g c e contents listed =
+    let texts = g.C.Constants.text_of c.args.consts.now in
+    let tuples = g.C.Constants.items_of c.args.consts.now in
+    let args = c.args.args.now in
+    let some : 0 < length args = omega (arith, c.in-Ok.ensures.as_many) in
+    ap (λ (o : PortOutcome). o.answer) (put_called texts tuples c.args.arena.now contents args c.args.keys.now values.None c.in-Ok.ensures.as_many c.in-Ok.ensures.no_keywords)
+    ∙ c.put_value.ensures.listed e contents (subst (λ (z : Option ℤ). IsListed z contents) (first_called args values.None some) listed)
+
+pub returns-in-Err-clause-faults : goal.returns-in-Err-clause-faults
+returns-in-Err-clause-faults g c = counts_same (map g.P.Port.seen c.args.ports.now)

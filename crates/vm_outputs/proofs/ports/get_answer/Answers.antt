@@ -5,7 +5,7 @@ use Rattle.port_set.specs.Calls.{CallsOne}
 use Rattle.port_set.specs.declared.fault.PortFault.{PortFault}
 use Rattle.port_set.specs.declared.fault.PortFault.TheVariants.{NoPort, Failed}
 use Rattle.port_set.proofs.ToldCall.{get_told}
-use Rattle.vm_outputs.proofs.PortsTold.{within, get_fine, get_failed, get_nowhere, failed_at}
+use Rattle.vm_outputs.proofs.PortsTold.{within, get_fine, get_failed, get_nowhere, failed_at, get_listed}
 use Rattle.vm_outputs.proofs.ports.get_answer.Goals as goal
 
 pub returns-in-Ok-clause-told : goal.returns-in-Ok-clause-told
@@ -42,4 +42,7 @@ returns-in-Err-Failed-clause-failed g c e =
     let lt = within c.get.result (Err NoPort) (length c.args.ports.now) c.args.at c.get.ensures.no_port (λ e. let q : Err c.in-Err-Failed.field-0 ≡ Err NoPort = sym c.in-Err-Failed.is ∙ e in let f = c.in-Err-Failed.field-0-is in cc) in
     let is : c.get.result ≡ Err Failed = c.in-Err-Failed.is ∙ ap (λ (f : PortFault). Err f) c.in-Err-Failed.field-0-is in
     let call = subst (λ (r : Result (Option ℤ) PortFault). CallsOne old new c.args.at (λ before after. Gets before after r)) is (c.get.ensures.call lt) in
-    failed_at old new c.args.at (λ before after. Gets {E = PortFault} before after (Err Failed)) (λ before after p. p.cause) (subst (λ (k : ℕ). c.args.at < k) (sym (length-map c.args.ports.now seen)) lt) call
+    failed_at old new c.args.at (λ before after. Gets {E = PortFault} before after (Err Failed)) (λ before after p. p.cause) (λ before after p. p.after) (subst (λ (k : ℕ). c.args.at < k) (sym (length-map c.args.ports.now seen)) lt) call
+
+pub returns-in-Err-Failed-clause-listed : goal.returns-in-Err-Failed-clause-listed
+returns-in-Err-Failed-clause-listed g c e contents listed = get_listed contents c.args.at listed

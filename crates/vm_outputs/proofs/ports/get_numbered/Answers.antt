@@ -1,10 +1,11 @@
 use Rattle.std.proofs.Common.{◌∙◌, w32, ◌≡◌, ℤ, map, Some, Err, sym, subst}
 use Rattle.std.proofs.lemmas.Int.{to_z-of_z}
+use Rattle.port_set.proofs.Counting.{counts_same}
 use Rattle.py_primitives.specs.Outcome.{Raises}
 use Rattle.py_primitives.specs.Faults.{PortFailed}
 use Rattle.vm_faults.specs.declared.fault.Fault.TheVariants as faults
 use Rattle.vm_faults.specs.declared.stop.Stop.TheVariants as stops
-use Rattle.vm_outputs.specs.PortCalls.{DoesPort, Failed, get_at}
+use Rattle.vm_outputs.specs.PortCalls.{DoesPort, Failed, IsListed, get_at}
 use Rattle.vm_outputs.proofs.ports.get_numbered.Goals as goal
 
 pub returns-in-Some-clause-told : goal.returns-in-Some-clause-told
@@ -22,3 +23,12 @@ returns-in-Some-clause-failed g c e =
     subst (λ (z : ℤ). Failed (Some z) (map seen c.args.ports.now) (map seen c.get_answer.new.ports))
     (sym c.in-Some.ensures ∙ to_z-of_z w32 c.args.i c.ranges.i)
     (c.get_answer.ensures.failed e)
+
+pub returns-in-Some-clause-listed : goal.returns-in-Some-clause-listed
+returns-in-Some-clause-listed g c e contents =
+    subst (λ (z : ℤ). IsListed (Some z) contents → (get_at contents z).answer ≡ Err (Raises PortFailed))
+    (sym c.in-Some.ensures ∙ to_z-of_z w32 c.args.i c.ranges.i)
+    (c.get_answer.ensures.listed e contents)
+
+pub returns-in-None-clause-faults : goal.returns-in-None-clause-faults
+returns-in-None-clause-faults g c = counts_same (map g.P.Port.seen c.args.ports.now)

@@ -1,7 +1,8 @@
 use Rattle.std.proofs.Common.{ℤ, Option, Some, map, refl, sym, ap, ◌∙◌, subst}
+use Rattle.port_set.proofs.Counting.{counts_same}
 use Rattle.py_primitives.specs.Output.{PortOutcome}
 use Rattle.arena_objects.proofs.RangeNumbers.{small_same}
-use Rattle.vm_outputs.specs.PortCalls.{Failed, IsPortOutcome, get_at}
+use Rattle.vm_outputs.specs.PortCalls.{Failed, IsListed, IsPortOutcome, get_at}
 use Rattle.vm_outputs.proofs.PortNumbers.{no_port_fault, refused_told, get_no_place, get_place}
 use Rattle.vm_outputs.proofs.ports.get_value.Goals as goal
 
@@ -34,3 +35,18 @@ returns-in-Ok-clause-failed g c e =
     subst (λ (z : Option ℤ). Failed z (map seen c.args.ports.now) (map seen c.get_numbered.new.ports))
     (ap (λ (z : ℤ). Some z) (small_same _ c.in-Ok.ensures.small) ∙ sym c.in-Ok.ensures.number)
     (c.get_numbered.ensures.failed e)
+
+pub returns-in-Err-clause-listed : goal.returns-in-Err-clause-listed
+returns-in-Err-clause-listed g c e = absurd (no_port_fault c.args.arena.now c.args.i c.in-Err.fault c.in-Err.ensures.fault _ refl e)
+
+pub returns-in-Ok-clause-listed : goal.returns-in-Ok-clause-listed
+returns-in-Ok-clause-listed g c e contents listed =
+    let texts = g.C.Constants.text_of c.args._consts.now in
+    let tuples = g.C.Constants.items_of c.args._consts.now in
+    let is = ap (get_at contents) (small_same _ c.in-Ok.ensures.small) ∙ sym (get_place texts tuples c.args.arena.now contents c.args.i _ c.in-Ok.ensures.number) in
+    ap (λ (o : PortOutcome). o.answer) (sym is)
+    ∙ c.get_numbered.ensures.listed e contents
+    (subst (λ (z : Option ℤ). IsListed z contents) (c.in-Ok.ensures.number ∙ ap (λ (z : ℤ). Some z) (sym (small_same _ c.in-Ok.ensures.small))) listed)
+
+pub returns-in-Err-clause-faults : goal.returns-in-Err-clause-faults
+returns-in-Err-clause-faults g c = counts_same (map g.P.Port.seen c.args.ports.now)

@@ -6,7 +6,7 @@ use Rattle.port_set.specs.Calls.{CallsOne}
 use Rattle.port_set.specs.declared.fault.PortFault.{PortFault}
 use Rattle.port_set.specs.declared.fault.PortFault.TheVariants.{NoPort, Failed}
 use Rattle.port_set.proofs.ToldCall.{put_told}
-use Rattle.vm_outputs.proofs.PortsTold.{within, put_fine, put_failed, put_nowhere, failed_at}
+use Rattle.vm_outputs.proofs.PortsTold.{within, put_fine, put_failed, put_nowhere, failed_at, put_listed}
 use Rattle.vm_outputs.proofs.ports.put_number.Goals as goal
 
 pub returns-in-Ok-clause-told : goal.returns-in-Ok-clause-told
@@ -46,4 +46,7 @@ returns-in-Err-Failed-clause-failed g c e =
     let is : c.put.result ≡ Err Failed = c.in-Err-Failed.is ∙ ap (λ (f : PortFault). Err f) c.in-Err-Failed.field-0-is in
     let call = subst (λ (r : Result (Unit {0}) PortFault). CallsOne old new c.args.at (λ before after. Puts before after (to_z w32 (of_z w32 c.args.n)) (is_err r))) is (c.put.ensures.call lt) in
     let same = subst (λ (z : ℤ). CallsOne old new c.args.at (λ before after. Puts before after z true)) (to_z-of_z w32 c.args.n c.ranges.n) call in
-    failed_at old new c.args.at (λ before after. Puts before after c.args.n true) (λ before after p. p.cause) (subst (λ (k : ℕ). c.args.at < k) (sym (length-map c.args.ports.now seen)) lt) same
+    failed_at old new c.args.at (λ before after. Puts before after c.args.n true) (λ before after p. p.cause) (λ before after p. p.after) (subst (λ (k : ℕ). c.args.at < k) (sym (length-map c.args.ports.now seen)) lt) same
+
+pub returns-in-Err-Failed-clause-listed : goal.returns-in-Err-Failed-clause-listed
+returns-in-Err-Failed-clause-listed g c e contents listed = put_listed contents c.args.at c.args.n listed

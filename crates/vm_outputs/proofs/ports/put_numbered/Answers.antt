@@ -1,11 +1,12 @@
-use Rattle.std.proofs.Common.{◌∙◌, w32, slice_get, ◌≡◌, ℤ, map, Some, Err, sym, subst}
+use Rattle.std.proofs.Common.{◌∙◌, w32, slice_get, ◌≡◌, ℤ, pos, map, Some, Err, sym, subst}
 use Rattle.std.proofs.lemmas.Int.{to_z-of_z}
+use Rattle.port_set.proofs.Counting.{counts_same}
 use Rattle.py_primitives.specs.Output.{put_to}
 use Rattle.py_primitives.specs.Outcome.{Raises}
 use Rattle.py_primitives.specs.Faults.{PortFailed}
 use Rattle.vm_faults.specs.declared.fault.Fault.TheVariants as faults
 use Rattle.vm_faults.specs.declared.stop.Stop.TheVariants as stops
-use Rattle.vm_outputs.specs.PortCalls.{DoesPort, Failed, put_at}
+use Rattle.vm_outputs.specs.PortCalls.{DoesPort, Failed, IsListed, put_at}
 use Rattle.vm_outputs.proofs.ports.put_numbered.Goals as goal
 
 pub returns-in-Some-clause-told : goal.returns-in-Some-clause-told
@@ -24,3 +25,13 @@ returns-in-Some-clause-failed g c e =
     subst (λ (z : ℤ). Failed (Some z) (map seen c.args.ports.now) (map seen c.put_number.new.ports))
     (sym c.in-Some.ensures ∙ to_z-of_z w32 c.args.i c.ranges.i)
     (c.put_number.ensures.failed e)
+
+pub returns-in-Some-clause-listed : goal.returns-in-Some-clause-listed
+returns-in-Some-clause-listed g c e contents =
+    subst (λ (z : ℤ). IsListed (Some z) contents → (put_at contents z c.args.n).answer ≡ Err (Raises PortFailed))
+    (sym c.in-Some.ensures ∙ to_z-of_z w32 c.args.i c.ranges.i)
+    (subst (λ (z : ℤ). IsListed (Some (pos c.in-Some.at)) contents → (put_to contents c.in-Some.at z (slice_get contents c.in-Some.at)).answer ≡ Err (Raises PortFailed))
+    (to_z-of_z w32 c.args.n c.ranges.n) (c.put_number.ensures.listed e contents))
+
+pub returns-in-None-clause-faults : goal.returns-in-None-clause-faults
+returns-in-None-clause-faults g c = counts_same (map g.P.Port.seen c.args.ports.now)

@@ -1,7 +1,8 @@
 use Rattle.std.proofs.Common.{ℤ, Option, Some, map, refl, sym, ap, ap₂, ◌∙◌, subst}
+use Rattle.port_set.proofs.Counting.{counts_same}
 use Rattle.py_primitives.specs.Output.{PortOutcome}
 use Rattle.arena_objects.proofs.RangeNumbers.{small_same}
-use Rattle.vm_outputs.specs.PortCalls.{Failed, IsPortOutcome, put_at}
+use Rattle.vm_outputs.specs.PortCalls.{Failed, IsListed, IsPortOutcome, put_at}
 use Rattle.vm_outputs.proofs.PortNumbers.{no_port_fault, refused_told, put_no_place, put_no_number, put_numbers}
 use Rattle.vm_outputs.proofs.ports.put_value.Goals as goal
 
@@ -49,3 +50,25 @@ returns-in-Ok-number_of-clause-failed g c e =
     subst (λ (z : Option ℤ). Failed z (map seen c.args.ports.now) (map seen c.put_numbered.new.ports))
     (ap (λ (z : ℤ). Some z) (small_same _ c.in-Ok.ensures.small) ∙ sym c.in-Ok.ensures.number)
     (c.put_numbered.ensures.failed e)
+
+pub returns-in-Err-clause-listed : goal.returns-in-Err-clause-listed
+returns-in-Err-clause-listed g c e = absurd (no_port_fault c.args.arena.now c.args.i c.in-Err.fault c.in-Err.ensures.fault _ refl e)
+
+pub returns-in-Err-number_of-clause-listed : goal.returns-in-Err-number_of-clause-listed
+returns-in-Err-number_of-clause-listed g c e = absurd (no_port_fault c.args.arena.now c.args.n c.in-Err-number_of.fault c.in-Err-number_of.ensures.fault _ refl e)
+
+pub returns-in-Ok-number_of-clause-listed : goal.returns-in-Ok-number_of-clause-listed
+returns-in-Ok-number_of-clause-listed g c e contents listed =
+    let texts = g.C.Constants.text_of c.args._consts.now in
+    let tuples = g.C.Constants.items_of c.args._consts.now in
+    let is = put_numbers texts tuples c.args.arena.now contents c.args.i c.args.n _ _ c.in-Ok.ensures.number c.in-Ok-number_of.ensures.number in
+    let kept = ap₂ (λ (y z : ℤ). put_at contents y z) (small_same _ c.in-Ok.ensures.small) (small_same _ c.in-Ok-number_of.ensures.small) in
+    ap (λ (o : PortOutcome). o.answer) (is ∙ sym kept)
+    ∙ c.put_numbered.ensures.listed e contents
+    (subst (λ (z : Option ℤ). IsListed z contents) (c.in-Ok.ensures.number ∙ ap (λ (z : ℤ). Some z) (sym (small_same _ c.in-Ok.ensures.small))) listed)
+
+pub returns-in-Err-clause-faults : goal.returns-in-Err-clause-faults
+returns-in-Err-clause-faults g c = counts_same (map g.P.Port.seen c.args.ports.now)
+
+pub returns-in-Err-number_of-clause-faults : goal.returns-in-Err-number_of-clause-faults
+returns-in-Err-number_of-clause-faults g c = counts_same (map g.P.Port.seen c.args.ports.now)

@@ -54,6 +54,9 @@ pub returns-in-Ok-clause-counts : goal.returns-in-Ok-clause-counts
 returns-in-Ok-clause-counts g c =
     subst (λ (r : Result (Unit {0}) CallStop). Counts (g.S.Sink.count c.args.out.now) (g.S.Sink.count c.call_on.new.out) (is_out r)) c.in-Ok.is c.call_on.ensures.counts
 
+pub returns-in-Ok-clause-faults : goal.returns-in-Ok-clause-faults
+returns-in-Ok-clause-faults g c = c.call_on.ensures.faults
+
 pub returns-in-Ok-clause-rooms : goal.returns-in-Ok-clause-rooms
 returns-in-Ok-clause-rooms g c = c.call_on.ensures.keeps.rooms
 
@@ -76,6 +79,9 @@ pub returns-in-Err-Stops-clause-counts : goal.returns-in-Err-Stops-clause-counts
 returns-in-Err-Stops-clause-counts g c =
     subst (λ (r : Result (Unit {0}) CallStop). Counts (g.S.Sink.count c.args.out.now) (g.S.Sink.count c.call_on.new.out) (is_out r)) (c.in-Err-Stops.is ∙ ap (λ (z : CallStop). Err z) c.in-Err-Stops.field-0-is) c.call_on.ensures.counts
 
+pub returns-in-Err-Stops-clause-faults : goal.returns-in-Err-Stops-clause-faults
+returns-in-Err-Stops-clause-faults g c = c.call_on.ensures.faults
+
 pub returns-in-Err-Stops-clause-rooms : goal.returns-in-Err-Stops-clause-rooms
 returns-in-Err-Stops-clause-rooms g c = rooms_through c.args.frames.now c.call_on.new.frames c.stop_on.new.frames c.call_on.ensures.keeps.rooms c.stop_on.ensures.rooms
 
@@ -97,6 +103,9 @@ returns-in-Err-Out-clause-comes g c p same means tells named state registered r 
 pub returns-in-Err-Out-clause-counts : goal.returns-in-Err-Out-clause-counts
 returns-in-Err-Out-clause-counts g c =
     subst (λ (r : Result (Unit {0}) CallStop). Counts (g.S.Sink.count c.args.out.now) (g.S.Sink.count c.call_on.new.out) (is_out r)) (c.in-Err-Out.is ∙ ap (λ (z : CallStop). Err z) c.in-Err-Out.field-0-is) c.call_on.ensures.counts
+
+pub returns-in-Err-Out-clause-faults : goal.returns-in-Err-Out-clause-faults
+returns-in-Err-Out-clause-faults g c = c.call_on.ensures.faults
 
 pub returns-in-Err-Out-clause-rooms : goal.returns-in-Err-Out-clause-rooms
 returns-in-Err-Out-clause-rooms g c = c.call_on.ensures.keeps.rooms
