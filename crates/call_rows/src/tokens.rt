@@ -38,7 +38,7 @@ fn number(alloc: Global, text: &[u8]) -> Result<String, AllocError> {
     if len == 0 {
         return String::from_str(alloc, "no number");
     }
-    match number_of(text) {
+    match number_of(&text[..len]) {
         Ok(n) => format!(in alloc; "{len} {n}"),
         Err(NumberFault::BadToken) => format!(in alloc; "{len} BadToken"),
         Err(NumberFault::TooBig) => format!(in alloc; "{len} TooBig"),
