@@ -1,0 +1,110 @@
+//! Numbers, instructions and preludes as their bytes spell them, and texts by numbers.
+
+use crate::spelling::{from_hex, from_text, to_hex, to_text};
+use bc_ops::{CodeFault, Instr, decode_at};
+use bc_prelude::{Prelude, PreludeFault, read_prelude, write_size};
+use mpy_base::{NoMemory, VuintFault, read_vuint, write_vuint};
+use qstr_pool::{static_number, static_text};
+use std::alloc::{AllocError, Global};
+
+fn vuint(alloc: Global, read: Result<(u32, usize), VuintFault>) -> Result<String, AllocError> {
+    match read {
+        Ok((n, end)) => format!(in alloc; "{n} end {end}"),
+        Err(fault) => format!(in alloc; "{fault:?}"),
+    }
+}
+
+/// What was written.
+fn written(alloc: Global, bytes: &[u8], done: Result<(), NoMemory>) -> Result<String, AllocError> {
+    match done {
+        Ok(()) => to_hex(alloc, bytes),
+        Err(NoMemory) => String::from_str(alloc, "memory"),
+    }
+}
+
+fn vuint_of(alloc: Global, word: &str) -> Result<String, AllocError> {
+    let mut bytes = Vec::new(alloc);
+    let n = word.parse::<u32>().unwrap_or(0);
+    if n >= 1 << 31 {
+        return String::from_str(alloc, "no number");
+    }
+    let done = write_vuint(&mut bytes, n);
+    written(alloc, &bytes, done)
+}
+
+fn instr(alloc: Global, instr: Instr) -> Result<String, AllocError> {
+    match instr {
+        Instr::Plain(op) => format!(in alloc; "plain {:02x}", op.code()),
+        Instr::Name(op, n) => format!(in alloc; "name {:02x} {n}", op.code()),
+        Instr::Num(op, n) => format!(in alloc; "number {:02x} {n}", op.code()),
+        Instr::Int(n) => format!(in alloc; "integer {n}"),
+        Instr::Jump { op, offset, wide } => {
+            format!(in alloc; "jump {:02x} {offset} wide {wide}", op.code())
+        }
+        Instr::Unwind { offset, wide, byte } => {
+            format!(in alloc; "unwind {offset} wide {wide} byte {byte}")
+        }
+        Instr::Unary(n) => format!(in alloc; "unary {n}"),
+        Instr::Binary(n) => format!(in alloc; "binary {n}"),
+    }
+}
+
+fn decoded(alloc: Global, read: Result<(Instr, usize), CodeFault>) -> Result<String, AllocError> {
+    match read {
+        Ok((found, end)) => {
+            let text = instr(alloc, found)?;
+            format!(in alloc; "{text} end {end}")
+        }
+        Err(fault) => format!(in alloc; "{fault:?}"),
+    }
+}
+
+fn prelude(alloc: Global, read: Result<Prelude, PreludeFault>) -> Result<String, AllocError> {
+    match read {
+        Ok(found) => format!(in alloc;
+            "slots {} handlers {} arguments {} defaulted {} at {} {} {}",
+            found.n_state,
+            found.n_exc,
+            found.args,
+            found.defaults,
+            found.info_at,
+            found.lines_at,
+            found.code_at
+        ),
+        Err(fault) => format!(in alloc; "{fault:?}"),
+    }
+}
+
+fn size_of(alloc: Global, word: &str) -> Result<String, AllocError> {
+    let mut bytes = Vec::new(alloc);
+    let done = write_size(&mut bytes, word.parse::<usize>().unwrap_or(0));
+    written(alloc, &bytes, done)
+}
+
+fn text_of_number(alloc: Global, word: &str) -> Result<String, AllocError> {
+    match static_text(word.parse::<u16>().unwrap_or(0)) {
+        Some(text) => to_text(alloc, text),
+        None => String::from_str(alloc, "none"),
+    }
+}
+
+fn number_of_text(alloc: Global, text: &[u8]) -> Result<String, AllocError> {
+    match static_number(text) {
+        Some(n) => format!(in alloc; "{n}"),
+        None => String::from_str(alloc, "none"),
+    }
+}
+
+pub(crate) fn answer(alloc: Global, call: &str, given: &str) -> Result<Option<String>, AllocError> {
+    let answer = match call {
+        "vuint" => vuint(alloc, read_vuint(&from_hex(alloc, given)?, 0))?,
+        "vuint_of" => vuint_of(alloc, given)?,
+        "decode" => decoded(alloc, decode_at(&from_hex(alloc, given)?, 0))?,
+        "prelude" => prelude(alloc, read_prelude(&from_hex(alloc, given)?))?,
+        "size_of" => size_of(alloc, given)?,
+        "text" => text_of_number(alloc, given)?,
+        "number" => number_of_text(alloc, &from_text(alloc, given)?)?,
+        _ => return Ok(None),
+    };
+    Ok(Some(answer))
+}
