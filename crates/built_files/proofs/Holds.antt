@@ -1,5 +1,5 @@
 -- The library that files of a program load to has the program's units.
-use Rattle.std.proofs.Common.{◌≡◌, ℕ, List, [], length, Option, Some, None, Ok, refl, sym, ap, subst, ◌∙◌}
+use Rattle.std.proofs.Common.{◌≡◌, ℕ, List, length, Option, Some, None, Ok, refl, sym, subst}
 use Rattle.std.specs.Prelude.{IsSome}
 use Rattle.mpy_io.specs.Files.{FileOf}
 use Rattle.mpy_tree.specs.File.{IsFile}
@@ -9,13 +9,13 @@ use Rattle.pkg_paths.specs.Finds.{NamedFile, first_there}
 use Rattle.pkg_paths.specs.Paths.{candidates}
 use Rattle.bc_library.specs.declared.fault.Member.{Member}
 use Rattle.bc_library.specs.declared.fault.Member.TheVariants as members
-use Rattle.bc_library.specs.Shelf.{Shelf, no_entries, with_module, member_of, module_at}
+use Rattle.bc_library.specs.Shelf.{Shelf, no_entries, member_of, module_at}
 use Rattle.py_meaning.specs.Program.{Unit, Entry, Runs, Refused, Program, entry_in}
 use Rattle.library_files.specs.declared.entry.Entry.TheVariants as entries
 use Rattle.library_files.specs.declared.limit.Limit.{Limit}
 use Rattle.library_files.specs.Comes.{ComesTo, FileComesTo, ModuleFiles, ending}
 use Rattle.library_files.specs.Loads.{Loaded, LoadsBy, LoadsFrom, limit_of, main_name}
-use Rattle.program_runs.specs.Units.{IsUnitFile, HasUnit, HasEntry, AreUnits}
+use Rattle.program_runs.specs.Units.{IsUnitFile, HasEntry, AreUnits}
 use Rattle.built_files.specs.Built.{IsBuilt, IsBuiltEntry, IsBuiltProgram}
 use Rattle.built_files.proofs.Came.{Came, CameAs, came}
 

@@ -1,5 +1,5 @@
 -- Files that are made of units.
-use Rattle.std.proofs.Common.{◌≡◌, ℕ, List, [], ◌∷◌, refl, sym, subst}
+use Rattle.std.proofs.Common.{◌≡◌, ℕ, List, [], ◌∷◌, refl, subst}
 use Rattle.std.specs.List.{AllZip, AllByRecursion}
 use Rattle.mpy_tree.specs.File.{IsModule, IsFile}
 use Rattle.mpy_tree.specs.Raw.{Module}

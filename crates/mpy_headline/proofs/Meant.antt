@@ -11,7 +11,6 @@ use Rattle.py_meaning.specs.Meaning.{meaning}
 use Rattle.bc_machine.specs.Machine.{run}
 use Rattle.vm_states.specs.Means as machine
 use Rattle.vm_programs.specs.Programs.{IsProgramOf}
-use Rattle.program_runs.specs.Units.{AreUnits}
 use Rattle.program_runs.specs.Runs.{MeansRun}
 use Rattle.library_runs.specs.declared.ending.RunEnd.{RunEnd}
 use Rattle.library_runs.specs.declared.ending.RunEnd.TheVariants as ends

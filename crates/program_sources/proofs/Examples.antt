@@ -1,6 +1,6 @@
 -- What small sources import, and the programs of small folders.
 use Rattle.std.proofs.Common.{◌≡◌, ℕ, List, [], ◌∷◌, codes, refl}
-use Rattle.std.specs.Prelude.{Option, Some, None, if◌then◌else◌}
+use Rattle.std.specs.Prelude.{Some, None, if◌then◌else◌}
 use Rattle.std.specs.Str.{bytes_eq}
 use Rattle.mpy_io.specs.Files.{FileOf}
 use Rattle.py_meaning.specs.Tree.{Name, Import, From, If, Def, NoExpr, Block, End, Next, Case, Else, Constant}

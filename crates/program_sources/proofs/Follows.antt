@@ -16,15 +16,14 @@ use Rattle.mpy_compile.specs.Compiled.{CompilesTo}
 use Rattle.library_files.specs.declared.entry.Entry as loading
 use Rattle.library_files.specs.declared.entry.Entry.TheVariants as entries
 use Rattle.library_files.specs.Asked.{asked_for}
-use Rattle.library_files.specs.Comes.{OfFiles, FileComesTo, ModuleFiles, ComesTo, ending}
-use Rattle.library_files.specs.Loads.{Loaded, LoadsWith}
+use Rattle.library_files.specs.Comes.{FileComesTo, ModuleFiles, ComesTo, ending}
 use Rattle.source_files.specs.Sources.{stored, IsModuleOf, SourceComesTo}
 use Rattle.source_files.specs.Sources as compiled
 use Rattle.unit_files.specs.Readings.{IsReading}
 use Rattle.program_runs.specs.Units.{IsUnitFile, AreUnits}
 use Rattle.program_sources.specs.Imported.{source_imports}
 use Rattle.program_sources.specs.Sources.{source_file, HoldsSource, IsProgramOfSources}
-use Rattle.program_sources.specs.Libraries.{HoldsMain, IsOfSources, IsCrossed, IsAsked, by_main, by_found, AreCrossed, IsOfFiles}
+use Rattle.program_sources.specs.Libraries.{IsOfSources, IsCrossed, IsAsked, by_main, by_found, AreCrossed, IsOfFiles}
 use Rattle.program_sources.proofs.Loaded.{Below, SameEntry, Asks, Follows, has_units}
 
 -- what is known of the file that a source compiles to

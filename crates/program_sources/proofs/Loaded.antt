@@ -1,5 +1,5 @@
 -- The library that is loaded where each name comes to the file of its source has the units of the program of the sources.
-use Rattle.std.proofs.Common.{◌≡◌, ℕ, ◌+◌, List, [], ◌∷◌, ◌++◌, length, Option, Some, None, codes, refl, sym, ap, ◌∙◌, subst}
+use Rattle.std.proofs.Common.{◌≡◌, ℕ, ◌+◌, List, [], ◌∷◌, ◌++◌, Option, Some, None, codes, refl, sym, ap, ◌∙◌, subst}
 use Rattle.std.specs.Prelude.{⊤, IsSome, Ok}
 use Rattle.std.specs.List.{AllByRecursion}
 use Rattle.mpy_io.specs.Files.{FileOf}

@@ -12,7 +12,7 @@ use Rattle.library_files.specs.Asked.{asked_for}
 use Rattle.unit_files.specs.Readings.{IsReading}
 use Rattle.program_sources.specs.Imported.{source_imports}
 use Rattle.source_files.specs.Sources.{stored}
-use Rattle.program_sources.specs.Sources.{source_file, HoldsSource, imports_with, with_source, LoadsSources, ends, next, known, taken, IsProgramOfSources}
+use Rattle.program_sources.specs.Sources.{HoldsSource, imports_with, with_source, LoadsSources, ends, next, known, taken, IsProgramOfSources}
 
 some_is : {A : Type 0} (a b : A) → Some a ≡ Some b → a ≡ b
 some_is a b e = cc

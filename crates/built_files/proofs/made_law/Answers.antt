@@ -1,4 +1,4 @@
-use Rattle.built_files.proofs.Made.{Laws, is_file, is_verified, is_unit}
+use Rattle.built_files.proofs.Made.{is_file, is_verified, is_unit}
 use Rattle.built_files.proofs.made_law.Goals as goal
 
 pub returns-clause-file : goal.returns-clause-file

@@ -1,4 +1,4 @@
-use Rattle.mpy_tool.specs.Go.{stored}
+use Rattle.source_files.specs.Sources.{stored}
 use Rattle.mpy_tool.proofs.Crossed.{long_source, crossed_front}
 use Rattle.mpy_tool.proofs.cross.cross.Goals as goal
 

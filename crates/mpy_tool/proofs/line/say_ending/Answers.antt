@@ -5,7 +5,7 @@ use Rattle.mpy_tool.proofs.line.say_ending.Goals as goal
 
 pub returns-in-Unaccepted-clause-line : goal.returns-in-Unaccepted-clause-line
 returns-in-Unaccepted-clause-line g c =
-    let line = ap (λ (name : List ℕ). source_line name c.in-Unaccepted.fault.now) c.as_bytes.ensures.value ∙ sym (ap (line_of c.args.name.now) c.in-Unaccepted.is) in
+    let line = ap (λ (name : List ℕ). source_line name c.in-Unaccepted.fault) c.as_bytes.ensures.value ∙ sym (ap (line_of c.args.name.now) c.in-Unaccepted.is) in
     subst (λ (bs : List ℕ). Puts (g.E.Sink.told c.args.say.now) (g.E.Sink.told c.say_fault.new.say) (g.E.Sink.count c.args.say.now) (g.E.Sink.count c.say_fault.new.say) bs c.say_fault.result) line c.say_fault.ensures
 
 pub returns-in-ReadFault-clause-line : goal.returns-in-ReadFault-clause-line

@@ -10,7 +10,7 @@ returns-in-LibraryFault-clause-line g c =
 
 pub returns-in-LibraryUnaccepted-clause-line : goal.returns-in-LibraryUnaccepted-clause-line
 returns-in-LibraryUnaccepted-clause-line g c =
-    let line = ap (λ (path : List ℕ). source_line path c.in-LibraryUnaccepted.source.now.fault) c.bytes-in-LibraryUnaccepted.ensures ∙ sym (ap stop_line c.in-LibraryUnaccepted.is) in
+    let line = ap (λ (path : List ℕ). source_line path c.in-LibraryUnaccepted.source.fault) c.bytes-in-LibraryUnaccepted.ensures ∙ sym (ap stop_line c.in-LibraryUnaccepted.is) in
     subst (λ (bs : List ℕ). Puts (g.E.Sink.told c.args.say.now) (g.E.Sink.told c.say_fault.new.say) (g.E.Sink.count c.args.say.now) (g.E.Sink.count c.say_fault.new.say) bs c.say_fault.result) line c.say_fault.ensures
 
 pub returns-in-Steps-clause-line : goal.returns-in-Steps-clause-line

@@ -11,6 +11,7 @@ use Rattle.source_files.specs.Sources.{stored}
 use Rattle.mpy_tool.specs.Line.{place_in}
 use Rattle.mpy_tool.specs.Outside.{written_by, Changes}
 use Rattle.mpy_tool.proofs.Crossed.{crosses_only}
+use Rattle.mpy_tool.proofs.Merging.{merges_only}
 use Rattle.mpy_tool.proofs.top.ran.Goals as goal
 
 pub returns-in-Check-clause-check : goal.returns-in-Check-clause-check
@@ -59,3 +60,10 @@ returns-in-Cross-clause-files g c =
     let new = g.F.Folder.files c.cross.new.folder in
     let only = crosses_only c.args.order.level c.word_at-name.result.now (stored c.source_name-source_name.result.now) c.word_at.result.now old new c.cross.result c.cross.ensures.went in
     subst (λ (command : Command). Changes (written_by (map string_bytes c.args.words.now) command) old new) (sym c.in-Cross.is) (subst (λ (n : List ℕ). ChangesOnly old new n) c.word_at.ensures only)
+
+pub returns-in-Merge-clause-files : goal.returns-in-Merge-clause-files
+returns-in-Merge-clause-files g c =
+    let old = g.F.Folder.files c.args.folder.now in
+    let new = g.F.Folder.files c.merge_files.new.folder in
+    let only = merges_only (map string_bytes c.file_names.result.now) c.word_at-name.result.now old new c.merge_files.result.place c.merge_files.result.ending c.merge_files.ensures.went in
+    subst (λ (command : Command). Changes (written_by (map string_bytes c.args.words.now) command) old new) (sym c.in-Merge.is) (subst (λ (n : List ℕ). ChangesOnly old new n) c.word_at-name.ensures only)

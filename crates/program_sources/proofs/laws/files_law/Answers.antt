@@ -2,7 +2,7 @@ use Rattle.std.proofs.Common.{subst}
 use Rattle.py_meaning.specs.Program.{Program}
 use Rattle.program_runs.specs.Units.{AreUnits}
 use Rattle.program_sources.proofs.Loaded.{Below}
-use Rattle.program_sources.proofs.Follows.{Crosses, HasProgram, of_files_units}
+use Rattle.program_sources.proofs.Follows.{Crosses, of_files_units}
 use Rattle.program_sources.proofs.laws.files_law.Goals as goal
 
 pub returns-clause-program : goal.returns-clause-program
