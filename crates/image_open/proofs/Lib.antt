@@ -1,0 +1,13 @@
+pub mod Found
+pub mod Opened
+pub mod Pools
+pub mod Put
+pub mod Results
+pub mod Shelves
+pub mod Single
+pub mod Taken
+pub mod Told
+pub mod Turns
+pub mod Uses
+pub mod Whole
+pub mod Written

@@ -1,0 +1,163 @@
+//! The modules of an image.
+
+ghost use Rattle.std.specs.Prelude.{◌≡◌, ◌⊎◌, ◌<◌, ◌≤◌, length, IfOk};
+ghost use Rattle.std.specs.List.{list_any};
+ghost use Rattle.std.specs.Str.{bytes_eq};
+ghost use Rattle.mpy_base.specs.declared.limits.TheConstants.{MAX_MODULES};
+ghost use Rattle.mpy_base.specs.declared.refused.Refused.TheVariants as refused;
+ghost use Rattle.bc_verify.specs.Verified.{IsVerified};
+ghost use Rattle.image_grammar.specs.Opening as opening;
+ghost use Rattle.image_grammar.specs.Opening.{nothing_below};
+ghost use Rattle.image_grammar.specs.Fine.{IsFinePool};
+ghost use Rattle.image_grammar.specs.Steps.{Gives, judge, times};
+ghost use Rattle.image_grammar.specs.declared.fault.ImageFault.TheVariants as faults;
+
+use bc_verify::{Verified, verify};
+use image_grammar::{
+    Entry, Field, ImageFault, Opened, Table, count, number, qstr_table, use_of, use_part,
+};
+use mpy_base::limits::MAX_MODULES;
+use mpy_base::{Items, Refused, Text};
+use mpy_reader::{FileFault, ModuleBody, read_body};
+use mpy_tree::RawModule;
+use qstr_pool::Pool;
+use std::alloc::Global;
+
+/// Whether a module has the name.
+fn is_named(entries: &[Entry], name: &[u8]) -> bool
+    ensures { result ≡ list_any (λ entry. bytes_eq name.now entry.name) entries.now }
+{
+    entries.iter().any(|entry| name == entry.name.bytes())
+}
+
+/// The fault of a second module of the name.
+fn twice(alloc: Global, name: &[u8]) -> Refused<ImageFault>
+    ensures { (result ≡ refused.Fault (faults.Twice name.now)) ⊎ (result ≡ refused.NoMemory) }
+{
+    match Text::new(alloc, name) {
+        Ok(name) => Refused::Fault(ImageFault::Twice(name)),
+        Err(_) => Refused::NoMemory,
+    }
+}
+
+/// The name of a module, and how many texts are used behind it.
+#[tactic(auto, unfolding(image_grammar::specs::Opening::name))]
+fn title<'a>(alloc: Global, pool: &Pool, opened: &Opened, bytes: &'a [u8]) -> Field<'a, (Text, u64)>
+    ensures { Gives (λ found. (found.0, found.1.now)) result (opening.name nothing_below pool.now opened.now bytes.now) }
+{
+    let (n, rest) = number(bytes)?;
+    let (name, used) = use_of(pool, opened.used, n)?;
+    if is_named(opened.entries.as_slice(), name) {
+        return Err(twice(alloc, name));
+    }
+    let used = use_part(pool, used, name)?;
+    Ok(((Text::new(alloc, name)?, used), rest))
+}
+
+/// The objects and the code of the module at the place.
+fn body(alloc: Global, index: u32, texts: u32, bytes: &[u8]) -> Field<'_, ModuleBody>
+    ensures { Gives (λ found. ((found.0.objects, found.0.code), found.1.now)) result (opening.body index texts bytes.now) }
+{
+    match read_body(alloc, bytes, texts) {
+        Ok(found) => Ok(found),
+        Err(Refused::NoMemory) => Err(Refused::NoMemory),
+        Err(Refused::Fault(FileFault::Truncated)) => Err(Refused::Fault(ImageFault::Truncated)),
+        Err(Refused::Fault(_)) => Err(Refused::Fault(ImageFault::BadModule(index))),
+    }
+}
+
+/// The module at the place where it is verified.
+fn verified(alloc: Global, index: u32, raw: RawModule) -> Result<Verified, Refused<ImageFault>>
+    ensures same { IfOk result (λ v. v ≡ raw) }
+    ensures verified { Gives (λ _. tt) result (judge (IsVerified raw) (faults.BadModule index)) }
+{
+    match verify(alloc, raw) {
+        Ok(verified) => Ok(verified),
+        Err((Refused::NoMemory, _)) => Err(Refused::NoMemory),
+        Err((Refused::Fault(_), _)) => Err(Refused::Fault(ImageFault::BadModule(index))),
+    }
+}
+
+/// The module at the place behind its name, and how many texts are used behind it.
+#[tactic(auto, unfolding(image_grammar::specs::Opening::raw))]
+fn raw<'a>(
+    alloc: Global,
+    pool: &Pool,
+    index: u32,
+    used: u64,
+    bytes: &'a [u8],
+) -> Field<'a, (RawModule, u64)>
+    requires { IsFinePool pool.now }
+    ensures { Gives (λ found. (found.0, found.1.now)) result (opening.raw pool.now index used bytes.now) }
+{
+    let (table, rest) = qstr_table(alloc, pool, used, bytes)?;
+    let Table { qstrs, used } = table;
+    let texts = qstrs.len() as u32;
+    let (found, rest) = body(alloc, index, texts, rest)?;
+    let ModuleBody { objects, code } = found;
+    Ok(((RawModule::new(31, qstrs, objects, code), used), rest))
+}
+
+/// The same where the module is verified.
+#[tactic(auto, unfolding(image_grammar::specs::Opening::held))]
+fn held<'a>(
+    alloc: Global,
+    pool: &Pool,
+    index: u32,
+    used: u64,
+    bytes: &'a [u8],
+) -> Field<'a, (Verified, u64)>
+    requires { IsFinePool pool.now }
+    ensures { Gives (λ found. (found.0, found.1.now)) result (opening.held pool.now index used bytes.now) }
+{
+    let ((raw, used), rest) = raw(alloc, pool, index, used, bytes)?;
+    Ok(((verified(alloc, index, raw)?, used), rest))
+}
+
+/// Adds the module in front to those that were read, and gives the bytes behind it.
+#[tactic(auto, unfolding(image_grammar::specs::Opening::entry))]
+fn add_entry<'a>(
+    alloc: Global,
+    pool: &Pool,
+    opened: &mut Opened,
+    bytes: &'a [u8],
+) -> Result<&'a [u8], Refused<ImageFault>>
+    requires fine { IsFinePool pool.now }
+    requires few { length opened.old.entries < MAX_MODULES }
+    ensures { Gives (λ rest. (opened.new, rest.now)) result (opening.entry nothing_below pool.now opened.old bytes.now) }
+{
+    let index = opened.entries.len() as u32;
+    let ((name, used), rest) = title(alloc, pool, opened, bytes)?;
+    let ((held, used), rest) = held(alloc, pool, index, used, rest)?;
+    opened.entries.push(Entry { name, held })?;
+    opened.used = used;
+    Ok(rest)
+}
+
+/// `count` modules.
+fn entries<'a>(alloc: Global, pool: &Pool, count: u32, bytes: &'a [u8]) -> Field<'a, Opened>
+    requires fine { IsFinePool pool.now }
+    requires few { count ≤ MAX_MODULES }
+    ensures { Gives (λ found. (found.0, found.1.now)) result
+        (times count (opening.entry nothing_below pool.now) (opening.none_opened nothing_below) bytes.now) }
+{
+    let mut opened = Opened {
+        entries: Items::new(alloc),
+        used: 0,
+    };
+    let mut rest = bytes;
+    for _ in 0..count {
+        rest = add_entry(alloc, pool, &mut opened, rest)?;
+    }
+    Ok((opened, rest))
+}
+
+/// The modules of an image that lies over nothing: their number, and these.
+#[tactic(auto, unfolding(image_grammar::specs::Opening::modules))]
+pub(crate) fn modules<'a>(alloc: Global, pool: &Pool, bytes: &'a [u8]) -> Field<'a, Opened>
+    requires { IsFinePool pool.now }
+    ensures { Gives (λ found. (found.0, found.1.now)) result (opening.modules nothing_below pool.now bytes.now) }
+{
+    let (n, rest) = count(bytes, MAX_MODULES)?;
+    entries(alloc, pool, n, rest)
+}

@@ -1,0 +1,11 @@
+//! Images opened as libraries.
+#![tactic(auto)]
+
+mod entry;
+mod image;
+mod laws;
+mod opening;
+mod shelving;
+
+pub use laws::image_law;
+pub use opening::open_image;
