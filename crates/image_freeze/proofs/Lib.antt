@@ -1,0 +1,11 @@
+pub mod Exits
+pub mod Loops
+pub mod Parts
+pub mod Pools
+pub mod Shapes
+pub mod Twice
+pub mod Trees
+pub mod Uses
+pub mod Whole
+pub mod Ended
+pub mod Alike

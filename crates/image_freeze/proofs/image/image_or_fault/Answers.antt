@@ -1,0 +1,5 @@
+use Rattle.image_freeze.proofs.Ended.{twice_ends}
+use Rattle.image_freeze.proofs.image.image_or_fault.Goals as goal
+
+pub returns-in-Some-clause-ends : goal.returns-in-Some-clause-ends
+returns-in-Some-clause-ends c = twice_ends c.args.modules.now c.in-Some.name.now c.twice.result c.in-Some.ensures.twice c.twice.ensures

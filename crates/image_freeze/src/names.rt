@@ -1,0 +1,44 @@
+//! Names that stand twice.
+
+ghost use Rattle.std.specs.Prelude.{◌≡◌, ◌⊎◌, [], map, IfNone, IfSome};
+ghost use Rattle.std.specs.List.{list_any};
+ghost use Rattle.std.specs.Str.{bytes_eq};
+ghost use Rattle.mpy_base.specs.declared.refused.Refused.TheVariants as refused;
+ghost use Rattle.image_grammar.specs.declared.fault.ImageFault.TheVariants as faults;
+ghost use Rattle.image_grammar.specs.Image.{Differ};
+ghost use Rattle.image_freeze.specs.Frozen.{IsTwice};
+
+use crate::named::Named;
+use image_grammar::ImageFault;
+use mpy_base::{Refused, Text};
+use std::alloc::Global;
+
+/// Whether a module has the name.
+fn is_named(modules: &[Named], name: &[u8]) -> bool
+    ensures { result ≡ list_any (λ m. bytes_eq name.now m.name) modules.now }
+{
+    modules.iter().any(|module| name == module.name.bytes())
+}
+
+/// The first name that is that of an earlier module too.
+pub(crate) fn first_twice(modules: &[Named]) -> Option<&[u8]>
+    ensures twice { IfSome result (λ name. IsTwice [] (map (λ m. m.name) modules.now) name.now) }
+    ensures differ { IfNone result (Differ [] (map (λ m. m.name) modules.now)) }
+{
+    for (place, module) in modules.iter().enumerate() {
+        if is_named(&modules[..place], module.name.bytes()) {
+            return Some(module.name.bytes());
+        }
+    }
+    None
+}
+
+/// The fault of a second module of the name.
+pub(crate) fn twice(alloc: Global, name: &[u8]) -> Refused<ImageFault>
+    ensures { (result ≡ refused.Fault (faults.Twice name.now)) ⊎ (result ≡ refused.NoMemory) }
+{
+    match Text::new(alloc, name) {
+        Ok(name) => Refused::Fault(ImageFault::Twice(name)),
+        Err(_) => Refused::NoMemory,
+    }
+}
