@@ -1,16 +1,60 @@
 //! Equality and identity.
 
 ghost use Rattle.std.specs.Prelude.{◌≡◌, min};
+ghost use Rattle.std.specs.Ordering.{int_eq};
 ghost use Rattle.arena_heap.specs.Values.{Leads};
 ghost use Rattle.arena_heap.specs.Constants.{IsTold};
 ghost use Rattle.arena_objects.specs.Keys.{AllTold};
 ghost use Rattle.py_primitives.specs.Operators.{op_eq as eq_of, op_ne as ne_of, op_is as is_of};
+ghost use Rattle.py_values.specs.Equality.{equal as walk_of};
 ghost use Rattle.vm_walks.specs.Plain.{plain, plain_heap};
 ghost use Rattle.vm_faults.specs.Outcomes.{IsOutcome};
 
 use arena_heap::{Arena, Constants, Value};
 use vm_faults::{Fault, Stop};
 use vm_walks::{equal, is_one, visits_equal};
+
+fn is_same_number(m: i32, n: i32) -> bool
+    ensures { result ≡ int_eq m n }
+{
+    m == n
+}
+
+/// Whether two values are equal, as `vm_walks::equal` gives it. Two numbers take no walk.
+fn same<C: Constants>(arena: &Arena, consts: &C, a: Value, b: Value) -> Option<bool>
+    requires a_leads { Leads arena.now.objects a }
+    requires b_leads { Leads arena.now.objects b }
+    requires a_told { IsTold (C.text_of consts.now) (C.items_of consts.now) a }
+    requires b_told { IsTold (C.text_of consts.now) (C.items_of consts.now) b }
+    requires all_told { AllTold (C.text_of consts.now) (C.items_of consts.now) arena.now.objects }
+    ensures answer { result ≡ (walk_of (plain_heap (C.text_of consts.now) (C.items_of consts.now) arena.now) (plain (C.text_of consts.now) (C.items_of consts.now) a) (plain (C.text_of consts.now) (C.items_of consts.now) b)).answer }
+{
+    match a {
+        Value::Int(m) => match b {
+            Value::Int(n) => Some(is_same_number(m, n)),
+            _ => equal(arena, consts, a, b),
+        },
+        _ => equal(arena, consts, a, b),
+    }
+}
+
+/// How many visits that comparison makes, up to `most`, as `vm_walks::visits_equal` counts them.
+fn visits_same<C: Constants>(arena: &Arena, consts: &C, a: Value, b: Value, most: u64) -> u64
+    requires a_leads { Leads arena.now.objects a }
+    requires b_leads { Leads arena.now.objects b }
+    requires a_told { IsTold (C.text_of consts.now) (C.items_of consts.now) a }
+    requires b_told { IsTold (C.text_of consts.now) (C.items_of consts.now) b }
+    requires all_told { AllTold (C.text_of consts.now) (C.items_of consts.now) arena.now.objects }
+    ensures visits { result ≡ min (walk_of (plain_heap (C.text_of consts.now) (C.items_of consts.now) arena.now) (plain (C.text_of consts.now) (C.items_of consts.now) a) (plain (C.text_of consts.now) (C.items_of consts.now) b)).visits most }
+{
+    match a {
+        Value::Int(_m) => match b {
+            Value::Int(_n) => most.min(1),
+            _ => visits_equal(arena, consts, a, b, most),
+        },
+        _ => visits_equal(arena, consts, a, b, most),
+    }
+}
 
 /// `==` of two values.
 pub fn op_eq<C: Constants>(arena: &Arena, consts: &C, a: Value, b: Value) -> Result<Value, Stop>
@@ -21,7 +65,7 @@ pub fn op_eq<C: Constants>(arena: &Arena, consts: &C, a: Value, b: Value) -> Res
     requires all_told { AllTold (C.text_of consts.now) (C.items_of consts.now) arena.now.objects }
     ensures { IsOutcome (C.text_of consts.now) (C.items_of consts.now) arena.now arena.now result (eq_of (plain_heap (C.text_of consts.now) (C.items_of consts.now) arena.now) (plain (C.text_of consts.now) (C.items_of consts.now) a) (plain (C.text_of consts.now) (C.items_of consts.now) b)) }
 {
-    match equal(arena, consts, a, b) {
+    match same(arena, consts, a, b) {
         Some(same) => Ok(Value::Bool(same)),
         None => Err(Stop::Raises(Fault::TooDeep)),
     }
@@ -36,7 +80,7 @@ pub fn visits_op_eq<C: Constants>(arena: &Arena, consts: &C, a: Value, b: Value,
     requires all_told { AllTold (C.text_of consts.now) (C.items_of consts.now) arena.now.objects }
     ensures { result ≡ min (eq_of (plain_heap (C.text_of consts.now) (C.items_of consts.now) arena.now) (plain (C.text_of consts.now) (C.items_of consts.now) a) (plain (C.text_of consts.now) (C.items_of consts.now) b)).visits most }
 {
-    visits_equal(arena, consts, a, b, most)
+    visits_same(arena, consts, a, b, most)
 }
 
 /// `!=` of two values.
@@ -48,7 +92,7 @@ pub fn op_ne<C: Constants>(arena: &Arena, consts: &C, a: Value, b: Value) -> Res
     requires all_told { AllTold (C.text_of consts.now) (C.items_of consts.now) arena.now.objects }
     ensures { IsOutcome (C.text_of consts.now) (C.items_of consts.now) arena.now arena.now result (ne_of (plain_heap (C.text_of consts.now) (C.items_of consts.now) arena.now) (plain (C.text_of consts.now) (C.items_of consts.now) a) (plain (C.text_of consts.now) (C.items_of consts.now) b)) }
 {
-    match equal(arena, consts, a, b) {
+    match same(arena, consts, a, b) {
         Some(same) => Ok(Value::Bool(!same)),
         None => Err(Stop::Raises(Fault::TooDeep)),
     }
@@ -63,7 +107,7 @@ pub fn visits_op_ne<C: Constants>(arena: &Arena, consts: &C, a: Value, b: Value,
     requires all_told { AllTold (C.text_of consts.now) (C.items_of consts.now) arena.now.objects }
     ensures { result ≡ min (ne_of (plain_heap (C.text_of consts.now) (C.items_of consts.now) arena.now) (plain (C.text_of consts.now) (C.items_of consts.now) a) (plain (C.text_of consts.now) (C.items_of consts.now) b)).visits most }
 {
-    visits_equal(arena, consts, a, b, most)
+    visits_same(arena, consts, a, b, most)
 }
 
 /// `is` of two values.

@@ -1,10 +1,12 @@
 //! Order.
 
-ghost use Rattle.std.specs.Prelude.{◌≡◌, min};
+ghost use Rattle.std.specs.Prelude.{◌≡◌, min, option_map, IfSome, IfErr};
 ghost use Rattle.arena_heap.specs.Values.{Leads};
 ghost use Rattle.arena_heap.specs.Constants.{IsTold};
 ghost use Rattle.arena_objects.specs.Keys.{AllTold};
 ghost use Rattle.py_primitives.specs.Operators.{op_order as order_of};
+ghost use Rattle.py_primitives.specs.Order.{order as walk_of};
+ghost use Rattle.vm_walks.specs.Orders.{plain_order, BothLead};
 ghost use Rattle.vm_walks.specs.Plain.{plain, plain_heap};
 ghost use Rattle.vm_faults.specs.Outcomes.{IsOutcome};
 ghost use Rattle.vm_comparisons.specs.Signs.{plain_sign};
@@ -12,8 +14,51 @@ ghost use Rattle.vm_comparisons.specs.Signs.{plain_sign};
 use crate::faults::unsupported;
 use crate::signs::Sign;
 use arena_heap::{Arena, Constants, Value};
+use std::cmp::Ordering;
 use vm_faults::{Fault, Stop};
-use vm_walks::{order, visits_order};
+use vm_walks::{Unordered, order, visits_order};
+
+/// The order of two values, as `vm_walks::order` gives it. Two numbers take no walk.
+fn ordered<C: Constants>(
+    arena: &Arena,
+    consts: &C,
+    a: Value,
+    b: Value,
+) -> Option<Result<Ordering, Unordered>>
+    requires a_leads { Leads arena.now.objects a }
+    requires b_leads { Leads arena.now.objects b }
+    requires a_told { IsTold (C.text_of consts.now) (C.items_of consts.now) a }
+    requires b_told { IsTold (C.text_of consts.now) (C.items_of consts.now) b }
+    requires all_told { AllTold (C.text_of consts.now) (C.items_of consts.now) arena.now.objects }
+    ensures answer { option_map (plain_order (C.text_of consts.now) (C.items_of consts.now)) result ≡ (walk_of (plain_heap (C.text_of consts.now) (C.items_of consts.now) arena.now) (plain (C.text_of consts.now) (C.items_of consts.now) a) (plain (C.text_of consts.now) (C.items_of consts.now) b)).answer }
+    ensures lead { IfSome result (λ found. IfErr found (BothLead arena.now.objects)) }
+{
+    match a {
+        Value::Int(m) => match b {
+            Value::Int(n) => Some(Ok(m.cmp(&n))),
+            _ => order(arena, consts, a, b),
+        },
+        _ => order(arena, consts, a, b),
+    }
+}
+
+/// How many visits that order takes, up to `most`, as `vm_walks::visits_order` counts them.
+fn visits_ordered<C: Constants>(arena: &Arena, consts: &C, a: Value, b: Value, most: u64) -> u64
+    requires a_leads { Leads arena.now.objects a }
+    requires b_leads { Leads arena.now.objects b }
+    requires a_told { IsTold (C.text_of consts.now) (C.items_of consts.now) a }
+    requires b_told { IsTold (C.text_of consts.now) (C.items_of consts.now) b }
+    requires all_told { AllTold (C.text_of consts.now) (C.items_of consts.now) arena.now.objects }
+    ensures visits { result ≡ min (walk_of (plain_heap (C.text_of consts.now) (C.items_of consts.now) arena.now) (plain (C.text_of consts.now) (C.items_of consts.now) a) (plain (C.text_of consts.now) (C.items_of consts.now) b)).visits most }
+{
+    match a {
+        Value::Int(_m) => match b {
+            Value::Int(_n) => most.min(1),
+            _ => visits_order(arena, consts, a, b, most),
+        },
+        _ => visits_order(arena, consts, a, b, most),
+    }
+}
 
 /// Whether two values stand in the order of a sign.
 pub fn op_order<C: Constants>(
@@ -30,7 +75,7 @@ pub fn op_order<C: Constants>(
     requires all_told { AllTold (C.text_of consts.now) (C.items_of consts.now) arena.now.objects }
     ensures { IsOutcome (C.text_of consts.now) (C.items_of consts.now) arena.now arena.now result (order_of (plain_heap (C.text_of consts.now) (C.items_of consts.now) arena.now) (plain_sign sign) (plain (C.text_of consts.now) (C.items_of consts.now) a) (plain (C.text_of consts.now) (C.items_of consts.now) b)) }
 {
-    match order(arena, consts, a, b) {
+    match ordered(arena, consts, a, b) {
         Some(Ok(found)) => Ok(Value::Bool(sign.holds(found))),
         Some(Err(e)) => Err(Stop::Raises(unsupported(arena, sign.method(), e.left, e.right))),
         None => Err(Stop::Raises(Fault::TooDeep)),
@@ -53,5 +98,5 @@ pub fn visits_op_order<C: Constants>(
     requires all_told { AllTold (C.text_of consts.now) (C.items_of consts.now) arena.now.objects }
     ensures { result ≡ min (order_of (plain_heap (C.text_of consts.now) (C.items_of consts.now) arena.now) (plain_sign _sign) (plain (C.text_of consts.now) (C.items_of consts.now) a) (plain (C.text_of consts.now) (C.items_of consts.now) b)).visits most }
 {
-    visits_order(arena, consts, a, b, most)
+    visits_ordered(arena, consts, a, b, most)
 }

@@ -1,3 +1,4 @@
 mod Cuts
+mod Heights
 mod Passing
 mod Stack

@@ -1,5 +1,5 @@
 -- A frame as its fields have it.
-use Rattle.std.specs.Prelude.{ℕ, ◌^◌, ◌<◌, ◌≤◌, reverse, length, All}
+use Rattle.std.specs.Prelude.{ℕ, ◌^◌, ◌<◌, ◌≤◌, take, reverse, length, All}
 use Rattle.std.specs.Vec.{vec_capacity}
 use Rattle.vm_frames.specs.Held.{Held}
 use Rattle.vm_frames.specs.declared.slot.Entry.{Entry}
@@ -14,7 +14,7 @@ held_of f = record {
     names = f.names;
     role = f.role;
     locals = f.locals.items;
-    slots = reverse f.slots.items;
+    slots = reverse (take f.height f.slots.items);
     entries = reverse f.entries.items;
   };
   slot_room = f.slot_room;
@@ -28,6 +28,7 @@ IsLow room e = e.height < room
 pub record IsFrame (f : Inside) : Type 0 where
   pub locals_fit : length f.locals.items ≤ f.slot_room
   pub slots_fit : length f.slots.items ≤ f.slot_room
+  pub slots_there : f.height ≤ length f.slots.items
   pub entries_fit : length f.entries.items ≤ f.entry_room
   pub locals_taken : f.slot_room ≤ vec_capacity f.locals
   pub slots_taken : f.slot_room ≤ vec_capacity f.slots

@@ -1,6 +1,7 @@
 //! One frame.
 
-ghost use Rattle.std.specs.Prelude.{◌≡◌, ℕ, ◌+◌, ◌-◌, ◌<◌, ◌≤◌, List, [], ◌∷◌, length, drop, Option, Some, None, IfOk, IfSome, option_and_then, slice_get, slice_set, slice_index_or, map, replicate, reverse};
+ghost use Rattle.std.specs.Prelude.{◌≡◌, ℕ, ◌+◌, ◌-◌, ◌<◌, ◌≤◌, List, [], ◌∷◌, length, drop, Option, Some, None, IfOk, IfSome, option_and_then, slice_get, slice_set, slice_index_or, map, replicate, reverse, take};
+ghost use Rattle.std.specs.Vec.{vec_capacity};
 ghost use Rattle.arena_heap.specs.declared.value.Value.{Value as Item};
 ghost use Rattle.vm_frames.specs.Calls.{Call};
 ghost use Rattle.vm_frames.specs.Held.{Held, HasRoom};
@@ -21,7 +22,9 @@ pub struct Frame {
     names: DictNo,
     role: Role,
     locals: Vec<Option<Value>>,
+    /// The slots, of which the lowest `height` are in use.
     slots: Vec<Slot>,
+    height: u32,
     entries: Vec<Entry>,
     slot_room: u32,
     entry_room: u32,
@@ -55,6 +58,22 @@ fn last_kept(entries: &[Entry]) -> Option<ExcNo>
     None
 }
 
+/// A slot goes to this place, or behind all others.
+fn put_at(slots: &mut Vec<Slot>, at: usize, slot: Slot)
+    requires there { at ≤ length slots.old.items }
+    requires room { at < vec_capacity slots.old }
+    ensures seen { reverse (take (at + 1) slots.new.items) ≡ slot ∷ reverse (take at slots.old.items) }
+    ensures there { at < length slots.new.items }
+    ensures few { (room : ℕ) → at < room → length slots.old.items ≤ room → length slots.new.items ≤ room }
+    ensures capacity { vec_capacity slots.old ≤ vec_capacity slots.new }
+{
+    if at < slots.len() {
+        slots[at] = slot;
+    } else {
+        let _ = slots.push(slot);
+    }
+}
+
 impl Frame {
     /// A frame with room for so many locals, as many slots and so many entries.
     pub fn new(alloc: Global, slots: u32, entries: u32) -> Result<Frame, NoMemory>
@@ -73,6 +92,7 @@ impl Frame {
             role: Role::Main,
             locals,
             slots,
+            height: 0,
             entries,
             slot_room,
             entry_room,
@@ -118,7 +138,7 @@ impl Frame {
         self.role = role;
         self.locals.clear();
         let _ = self.locals.resize(locals as usize, None);
-        self.slots.clear();
+        self.height = 0;
         self.entries.clear();
     }
 
@@ -127,7 +147,8 @@ impl Frame {
         requires { length self.old.call.slots < self.old.slot_room }
         ensures { self.new ≡ record self.old { call = record self.old.call { slots = slot ∷ self.old.call.slots } } }
     {
-        let _ = self.slots.push(slot);
+        put_at(&mut self.slots, self.height as usize, slot);
+        self.height += 1;
     }
 
     /// The top slot, without which it goes on.
@@ -135,32 +156,30 @@ impl Frame {
         requires { 0 < length self.old.call.slots }
         ensures { self.old ≡ record self.new { call = record self.new.call { slots = result ∷ self.new.call.slots } } }
     {
-        let top = self.slots.len() - 1;
-        let slot = self.slots[top];
-        self.slots.truncate(top);
-        slot
+        self.height -= 1;
+        self.slots[self.height as usize]
     }
 
     /// The lowest so many slots stay.
     pub fn cut(&mut self, height: u32)
         ensures { self.new ≡ record self.old { call = record self.old.call { slots = cut height self.old.call.slots } } }
     {
-        self.slots.truncate(height as usize);
+        self.height = self.height.min(height);
     }
 
     /// So many slots are taken from the top, or all where there are fewer.
     pub fn take_slots(&mut self, count: usize)
         ensures { self.new ≡ record self.old { call = record self.old.call { slots = drop count self.old.call.slots } } }
     {
-        let rest = self.slots.len().saturating_sub(count);
-        self.slots.truncate(rest);
+        let rest = (self.height as usize).saturating_sub(count);
+        self.height = rest as u32;
     }
 
     /// How many slots it has.
     pub fn height(&self) -> u32
         ensures { result ≡ length self.now.call.slots }
     {
-        self.slots.len() as u32
+        self.height
     }
 
     /// A slot, counted from the top.
@@ -168,7 +187,7 @@ impl Frame {
         requires { i < length self.now.call.slots }
         ensures { slice_get self.now.call.slots i ≡ Some result }
     {
-        self.slots[self.slots.len() - 1 - i as usize]
+        self.slots[(self.height - 1 - i) as usize]
     }
 
     /// A slot, counted from the top, is this one from now on.
@@ -176,7 +195,7 @@ impl Frame {
         requires { i < length self.old.call.slots }
         ensures { self.new ≡ record self.old { call = record self.old.call { slots = slice_set self.old.call.slots i slot } } }
     {
-        let place = self.slots.len() - 1 - i as usize;
+        let place = (self.height - 1 - i) as usize;
         self.slots[place] = slot;
     }
 

@@ -15,4 +15,4 @@ returns g c =
     let a = plain texts tuples c.args.a in
     let b = plain texts tuples c.args.b in
     let next : Bool → Outcome Val = λ same. gives (Truth same) heap in
-    c.visits_equal.ensures.visits ∙ ap (λ (n : ℕ). min n c.args.most) (sym (visits_walked heap next (λ same. refl) (equal heap a b)))
+    c.visits_same.ensures.visits ∙ ap (λ (n : ℕ). min n c.args.most) (sym (visits_walked heap next (λ same. refl) (equal heap a b)))

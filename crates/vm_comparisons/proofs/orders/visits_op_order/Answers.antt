@@ -21,4 +21,4 @@ returns g c =
     let a = plain texts tuples c.args.a in
     let b = plain texts tuples c.args.b in
     let sign = plain_sign c.args._sign in
-    c.visits_order.ensures.visits ∙ ap (λ (n : ℕ). min n c.args.most) (sym (visits_walked heap (gives_order heap sign) (free heap sign) (order heap a b)))
+    c.visits_ordered.ensures.visits ∙ ap (λ (n : ℕ). min n c.args.most) (sym (visits_walked heap (gives_order heap sign) (free heap sign) (order heap a b)))
