@@ -1,5 +1,5 @@
 -- The steps of a plan can be counted.
-use Rattle.std.proofs.Common.{◌≡◌, ℕ, ◌+◌, ◌-◌, ◌*◌, ◌≤◌, ◌==◌, Bool, true, false, nat_le, if◌then◌else◌, List, [], ◌∷◌, ◌++◌, map, length, Option, Some, None, option_map, codes, refl, sym, ap, ◌∙◌, leb-true, arith}
+use Rattle.std.proofs.Common.{◌≡◌, ℕ, ◌+◌, ◌-◌, ◌*◌, ◌≤◌, ◌==◌, Bool, true, false, nat_le, if◌then◌else◌, List, [], ◌∷◌, ◌++◌, map, length, Option, Some, None, option_map, codes, refl, ap, ◌∙◌, leb-true, arith}
 use Rattle.std.specs.Str.{bytes_eq}
 use Rattle.std.specs.Char.{is_ascii_digit}
 use Rattle.mpy_words.specs.Given.{most_steps}
@@ -10,7 +10,7 @@ use Rattle.board_plan.specs.declared.plan.Plan.{Plan}
 use Rattle.board_plan.specs.declared.plan.Task.{Task}
 use Rattle.board_plan.specs.declared.plan.Turn.{Turn}
 use Rattle.board_plan.specs.Lines.{onto_first, lines_of, words_of, task_by, turn_with, turn_by, line_by, line_of}
-use Rattle.board_plan.specs.Plans.{said_by, IsPlan, all_steps}
+use Rattle.board_plan.specs.Plans.{IsPlan, all_steps}
 
 -- numbers within their bounds
 fits : (b : Bool) (n most v : ℕ) → nat_le n most ≡ b → (if b then Some n else None) ≡ Some v → v ≤ most

@@ -1,5 +1,5 @@
 -- Lines are one plan, or have one fault.
-use Rattle.std.proofs.Common.{◌≡◌, ◌≢◌, ◌⊎◌, inl, inr, ℕ, zero, suc, ◌+◌, ◌<◌, ◌≤◌, List, [], ◌∷◌, ◌++◌, map, length, All, Option, Some, None, refl, sym, ap, subst, ◌∙◌, append_assoc, append-nil, length-append, arith}
+use Rattle.std.proofs.Common.{◌≡◌, ◌≢◌, inl, inr, ℕ, suc, ◌+◌, ◌<◌, ◌≤◌, List, [], ◌∷◌, ◌++◌, map, length, All, Option, Some, None, refl, sym, ap, subst, ◌∙◌, append_assoc, append-nil, length-append, arith}
 use Rattle.std.specs.List.{AllByRecursion as ByRecursion}
 use Rattle.std.proofs.lemmas.List.{map-append}
 use Rattle.std.proofs.lemmas.List.Elements.{recursion_from_All}
@@ -8,7 +8,6 @@ use Rattle.board_plan.specs.declared.line.Line.{Line}
 use Rattle.board_plan.specs.declared.line.Line.TheVariants as lines
 use Rattle.board_plan.specs.declared.plan.Plan.{Plan}
 use Rattle.board_plan.specs.declared.plan.PlanFault.{PlanFault}
-use Rattle.board_plan.specs.declared.plan.PlanFault.TheVariants.{BadLine, NoTask, TooMany}
 use Rattle.board_plan.specs.declared.plan.Task.{Task}
 use Rattle.board_plan.specs.declared.plan.Turn.{Turn}
 use Rattle.board_plan.specs.Lines.{line_of}
