@@ -1,5 +1,5 @@
 -- The first part of a text, and what is behind it.
-use Rattle.std.proofs.Common.{◌≡◌, ℕ, suc, ◌==◌, Bool, true, false, if◌then◌else◌, List, [], ◌∷◌, length, take, drop, Option, None, refl, ap, sym, ◌<◌, ◌∙◌, arith}
+use Rattle.std.proofs.Common.{◌≡◌, ℕ, suc, ◌==◌, Bool, true, false, if◌then◌else◌, List, [], ◌∷◌, length, take, drop, None, refl, ap, sym, ◌<◌, ◌∙◌, arith}
 use Rattle.board_plan.specs.Lines.{front_length, onto_first, lines_of, words_of, are_two, task_by, turn_by}
 
 -- a space is in front, or further on

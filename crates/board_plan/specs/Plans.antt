@@ -1,9 +1,10 @@
 -- Which lines are a plan, and which line keeps others from being one.
-use Rattle.std.specs.Prelude.{◌≡◌, ◌⊎◌, ◌≢◌, ℕ, suc, ◌<◌, ◌≤◌, List, [], ◌∷◌, ◌++◌, map, length, All, Option, Some, None}
+use Rattle.std.specs.Prelude.{◌≡◌, ◌⊎◌, ◌≢◌, ℕ, suc, ◌+◌, ◌<◌, ◌≤◌, List, [], ◌∷◌, ◌++◌, map, length, All, Option, Some, None}
 use Rattle.mpy_base.specs.declared.limits.TheConstants.{MAX_TASKS}
 use Rattle.board_plan.specs.declared.line.Line.{Line}
 use Rattle.board_plan.specs.declared.line.Line.TheVariants as lines
 use Rattle.board_plan.specs.declared.plan.Plan.{Plan}
+use Rattle.board_plan.specs.declared.plan.Turn.{Turn}
 use Rattle.board_plan.specs.declared.plan.PlanFault.{PlanFault}
 use Rattle.board_plan.specs.declared.plan.PlanFault.TheVariants.{BadLine, NoTask, TooMany}
 use Rattle.board_plan.specs.Lines.{line_of}
@@ -34,3 +35,8 @@ pub record HasFault (text : List (List ℕ)) (fault : PlanFault) : Type 0 where
   pub plan : Plan
   pub is_plan : IsPlan before plan
   pub breaks : Breaks plan (suc (length before)) (line_of line) fault
+
+-- all steps of these turns
+abbrev pub all_steps : List Turn → ℕ
+all_steps [] = 0
+all_steps (turn ∷ turns) = turn.steps + all_steps turns

@@ -1,4 +1,4 @@
-use Rattle.std.proofs.Common.{◌≡◌, ◌+◌, Err, ap}
+use Rattle.std.proofs.Common.{◌≡◌, Err, ap}
 use Rattle.std.proofs.lemmas.Result.{err_from_is_err_and}
 use Rattle.mpy_base.specs.declared.refused.Refused.TheVariants as refused
 use Rattle.board_plan.specs.Lines.{lines_of}

@@ -1,6 +1,5 @@
-use Rattle.std.proofs.Common.{◌≡◌, ℕ, ◌+◌, ◌≤◌, List, ◌++◌, length}
+use Rattle.std.proofs.Common.{◌+◌, ◌≤◌, length}
 use Rattle.board_plan.specs.Lines.{lines_of}
-use Rattle.board_plan.specs.Plans.{IsPlan}
 use Rattle.board_plan.proofs.Read.{Reads}
 use Rattle.board_plan.proofs.reading.read_plan.Given as goal
 
