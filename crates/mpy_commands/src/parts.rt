@@ -2,11 +2,18 @@
 
 use std::alloc::{AllocError, Global};
 
-/// The words of a line, of which `''` is the empty one.
+/// A word, of which `''` is the empty one.
+fn word(alloc: Global, text: &str) -> Result<String, AllocError> {
+    String::from_str(alloc, if text == "''" { "" } else { text })
+}
+
+/// The words of a line, none of an empty one.
 pub fn words(alloc: Global, line: &str) -> Result<Vec<String>, AllocError> {
     let mut words = Vec::new(alloc);
     for text in line.split(" ") {
-        words.push(String::from_str(alloc, if text == "''" { "" } else { text })?)?;
+        if !text.is_empty() {
+            words.push(word(alloc, text)?)?;
+        }
     }
     Ok(words)
 }

@@ -19,13 +19,13 @@ pub struct Command {
     front: usize,
     /// What is printed behind them.
     out: Vec<u8>,
+    /// Whether only a front of that is printed.
+    is_front: bool,
     say: Vec<u8>,
     /// What the port is to have written.
     numbers: Vec<i32>,
-    /// The file that is to be there, if any.
-    written: Option<String>,
-    /// What it is to hold; with no byte, it isn't to be there.
-    bytes: Vec<u8>,
+    /// The files that are to be there, with what they are to hold; one with no byte isn't to be there.
+    written: Vec<(String, Vec<u8>)>,
 }
 
 /// A list of the same numbers.
@@ -77,12 +77,14 @@ fn holds(folder: &MemFolder, name: &str, bytes: &[u8]) -> bool {
     }
 }
 
-/// Whether what is printed is so much of the text, and the rest behind it.
-fn is_printed(printed: &[u8], text: &[u8], front: usize, rest: &[u8]) -> bool {
-    match printed.split_at_checked(front) {
-        Some((begin, end)) => text.starts_with(begin) && end == rest,
-        None => false,
+/// Whether the folder has these files, and none of those with no byte.
+fn holds_all(folder: &MemFolder, files: &[(String, Vec<u8>)]) -> bool {
+    for (name, bytes) in files {
+        if !holds(folder, name, bytes) {
+            return false;
+        }
     }
+    true
 }
 
 impl Command {
@@ -95,19 +97,11 @@ impl Command {
             status: 0,
             front: 0,
             out: Vec::new(alloc),
+            is_front: false,
             say: Vec::new(alloc),
             numbers: Vec::new(alloc),
-            written: None,
-            bytes: Vec::new(alloc),
+            written: Vec::new(alloc),
         })
-    }
-
-    /// Whether its first word is a line of these.
-    pub fn is_one_of(&self, called: &str) -> bool {
-        match self.words.first() {
-            Some(first) => called.split("\n").any(|line| first.as_str() == line),
-            None => false,
-        }
     }
 
     /// A call that fails.
@@ -121,6 +115,21 @@ impl Command {
         Ok(())
     }
 
+    /// A file that is to be there.
+    fn add_written(&mut self, alloc: Global, name: &str) -> Result<(), AllocError> {
+        let name = String::from_str(alloc, name)?;
+        self.written.push((name, Vec::new(alloc)))?;
+        Ok(())
+    }
+
+    /// More of the last of these files.
+    fn add_to_written(&mut self, tag: &str, rest: &str) -> Result<(), AllocError> {
+        match self.written.last_mut() {
+            Some((_, bytes)) => put(bytes, tag, rest),
+            None => Ok(()),
+        }
+    }
+
     /// One more line.
     pub fn add(&mut self, alloc: Global, tag: &str, rest: &str) -> Result<(), AllocError> {
         match tag {
@@ -131,11 +140,23 @@ impl Command {
             "w" => self.numbers = numbers(alloc, rest)?,
             ">" | "+" => put(&mut self.out, tag, rest)?,
             "-" => put(&mut self.say, tag, rest)?,
-            "^" => self.written = Some(String::from_str(alloc, rest)?),
-            "o" => put(&mut self.bytes, tag, rest)?,
+            "<" => self.is_front = true,
+            "^" => self.add_written(alloc, rest)?,
+            "o" => self.add_to_written(tag, rest)?,
             _ => {}
         }
         Ok(())
+    }
+
+    /// Is this printed, in a case of this text?
+    fn prints(&self, printed: &[u8], text: &[u8]) -> bool {
+        match printed.split_at_checked(self.front) {
+            Some((begin, end)) if self.is_front => {
+                text.starts_with(begin) && self.out.starts_with(end)
+            }
+            Some((begin, end)) => text.starts_with(begin) && self.out.as_slice() == end,
+            None => false,
+        }
     }
 
     /// Does it come to what is to come of it, in a case of this text?
@@ -149,11 +170,8 @@ impl Command {
         let mut out = MemSink::new(alloc, copied(alloc, &self.out_fails)?);
         let mut say = MemSink::new(alloc, Vec::new(alloc));
         let status = mpy(alloc, &self.words, folder, &mut out, &mut say, &mut ports);
-        let printed = is_printed(out.bytes(), text, self.front, &self.out);
-        let written = match &self.written {
-            Some(name) => holds(folder, name, &self.bytes),
-            None => true,
-        };
+        let printed = self.prints(out.bytes(), text);
+        let written = holds_all(folder, &self.written);
         let said = self.say.as_slice() == say.bytes();
         let put = have_written(ports, &self.numbers);
         Ok(status == self.status && printed && written && said && put)

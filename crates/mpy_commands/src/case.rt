@@ -42,36 +42,55 @@ impl Case {
         }
     }
 
+    fn add_file(&mut self, alloc: Global, name: &str) -> Result<(), AllocError> {
+        let name = String::from_str(alloc, name)?;
+        self.files.push((name, Vec::new(alloc)))?;
+        Ok(())
+    }
+
+    fn add_command(&mut self, alloc: Global, words: &str) -> Result<(), AllocError> {
+        let command = Command::new(alloc, words)?;
+        self.commands.push(command)?;
+        Ok(())
+    }
+
+    /// A line of the last command, or of what the programs print in front of the commands.
+    fn add_to_command(&mut self, alloc: Global, tag: &str, rest: &str) -> Result<(), AllocError> {
+        match self.commands.last_mut() {
+            Some(command) => command.add(alloc, tag, rest),
+            None => put(&mut self.text, tag, rest),
+        }
+    }
+
+    /// A call that fails, of the folder or of what the last command has.
+    fn add_failing(&mut self, alloc: Global, call: &str) -> Result<(), AllocError> {
+        match call.strip_prefix("folder ") {
+            Some(number) => {
+                self.fails.push(number.parse::<u64>().unwrap_or(0))?;
+                Ok(())
+            }
+            None => self.add_to_command(alloc, "!", call),
+        }
+    }
+
     /// One more line.
     pub fn add(&mut self, alloc: Global, line: &str) -> Result<(), AllocError> {
         let (tag, rest) = line.split_once(" ").unwrap_or((line, ""));
-        if tag == "$" {
-            self.commands.push(Command::new(alloc, rest)?)?;
-            return Ok(());
-        }
-        if let Some(command) = self.commands.last_mut() {
-            return command.add(alloc, tag, rest);
-        }
         match tag {
-            "@" => self
-                .files
-                .push((String::from_str(alloc, rest)?, Vec::new(alloc)))?,
-            "|" | "." | "*" | "~" | "x" | "y" => self.add_to_file(tag, rest)?,
-            "!" => self.fails.push(rest.parse::<u64>().unwrap_or(0))?,
-            ">" | "+" => put(&mut self.text, tag, rest)?,
-            _ => {}
+            "$" => self.add_command(alloc, rest),
+            "@" => self.add_file(alloc, rest),
+            "|" | "." | "*" | "~" | "x" | "y" => self.add_to_file(tag, rest),
+            "!" => self.add_failing(alloc, rest),
+            _ => self.add_to_command(alloc, tag, rest),
         }
-        Ok(())
     }
 }
 
-/// How many commands were called, how many were left out, and which came to something else: the number of the case and of its
-/// command, from 1.
+/// How many commands were called, and which came to something else: the number of the case and of its command, from 1.
 #[derive(Drop)]
 pub struct Count {
     cases: usize,
     pub commands: usize,
-    pub left_out: usize,
     pub wrong: Vec<(usize, usize)>,
 }
 
@@ -80,53 +99,33 @@ impl Count {
         Count {
             cases: 0,
             commands: 0,
-            left_out: 0,
             wrong: Vec::new(alloc),
         }
     }
 
-    /// Calls a command of the case, which has this place among its commands, if its first word is a line of these.
-    fn call(
-        &mut self,
-        alloc: Global,
-        place: usize,
-        command: &Command,
-        text: &[u8],
-        folder: &mut MemFolder,
-        called: &str,
-    ) -> Result<(), AllocError> {
-        if !command.is_one_of(called) {
-            self.left_out = self.left_out.saturating_add(1);
-            return Ok(());
-        }
-        self.commands = self.commands.saturating_add(1);
-        if !command.is_so(alloc, folder, text)? {
-            self.wrong.push((self.cases, place.saturating_add(1)))?;
-        }
-        Ok(())
-    }
-
-    /// Calls the case's commands whose first words are lines of these.
+    /// Calls the case's commands.
     fn call_all(
         &mut self,
         alloc: Global,
         case: &Case,
         folder: &mut MemFolder,
-        called: &str,
     ) -> Result<(), AllocError> {
         for (place, command) in case.commands.iter().enumerate() {
-            self.call(alloc, place, command, &case.text, folder, called)?;
+            self.commands = self.commands.saturating_add(1);
+            if !command.is_so(alloc, folder, &case.text)? {
+                self.wrong.push((self.cases, place.saturating_add(1)))?;
+            }
         }
         Ok(())
     }
 
-    /// Tries a case by its commands whose first words are lines of these. One without commands isn't one.
-    pub fn add(&mut self, alloc: Global, mut case: Case, called: &str) -> Result<(), AllocError> {
+    /// Tries a case. One without commands isn't one.
+    pub fn add(&mut self, alloc: Global, mut case: Case) -> Result<(), AllocError> {
         if case.commands.is_empty() {
             return Ok(());
         }
         self.cases = self.cases.saturating_add(1);
         let mut folder = case.folder(alloc);
-        self.call_all(alloc, &case, &mut folder, called)
+        self.call_all(alloc, &case, &mut folder)
     }
 }
