@@ -11,16 +11,17 @@ use crate::order::{Command, Order, Setting};
 const MAX_LEVEL: u64 = 3;
 
 /// The greatest room of an arena, and the room of a run that gives none.
-const MAX_CELLS: u64 = 4_194_304;
+pub const MAX_CELLS: u64 = 4_194_304;
 
-const MAX_BYTES: u64 = 16_777_216;
+/// The greatest bytes of its texts.
+pub const MAX_BYTES: u64 = 16_777_216;
 
 const DEFAULT_CELLS: u32 = 65_536;
 
 const DEFAULT_BYTES: u32 = 262_144;
 
 /// The greatest count of steps, and that of a run that gives none.
-const MAX_STEPS: u64 = 1_000_000_000_000;
+pub const MAX_STEPS: u64 = 1_000_000_000_000;
 
 const DEFAULT_STEPS: u64 = 10_000_000;
 
