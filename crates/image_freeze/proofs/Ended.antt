@@ -1,5 +1,5 @@
 -- Modules have one image at most, or one fault.
-use Rattle.std.proofs.Common.{◌≡◌, ◌⊎◌, ℕ, ◌+◌, ◌<◌, ◌≤◌, List, [], ◌∷◌, ◌++◌, length, length-append, map, All, Result, Ok, Err, refl, sym, ap, subst, ◌∙◌, inl, inr, arith}
+use Rattle.std.proofs.Common.{◌≡◌, ◌⊎◌, ℕ, ◌+◌, ◌<◌, ◌≤◌, List, [], ◌∷◌, ◌++◌, length, length-append, drop, map, Result, Ok, Err, refl, sym, ap, subst, ◌∙◌, inl, inr, arith}
 use Rattle.std.specs.List.{flat_map}
 use Rattle.std.proofs.lemmas.List.{length-map}
 use Rattle.mpy_base.specs.Vuint.{vuint}
@@ -8,14 +8,15 @@ use Rattle.mpy_base.specs.declared.refused.Refused.TheVariants as refusals
 use Rattle.mpy_base.specs.declared.limits.TheConstants.{MAX_DEPTH, MAX_IMAGE_BYTES, MAX_MODULES, MAX_TABLE}
 use Rattle.qstr_pool.specs.Pool.{Texts}
 use Rattle.mpy_tree.specs.Canonical.{code_bytes, object_bytes}
+use Rattle.bc_library.proofs.Pools.{longer}
 use Rattle.image_grammar.specs.declared.entry.Entry.{Entry}
 use Rattle.image_grammar.specs.declared.fault.ImageFault.{ImageFault}
 use Rattle.image_grammar.specs.declared.fault.ImageFault.TheVariants.{BadHeader, Truncated, BadNumber, BadModule, Twice, Trailing, TooBig, BadBase}
 use Rattle.image_grammar.specs.Image.{Differ, texts_used}
-use Rattle.image_grammar.specs.Opening.{Base, entry_of, names_of, nothing_below, pool_below}
+use Rattle.image_grammar.specs.Opening.{Base, entry_of, names_of, pool_below}
 use Rattle.image_freeze.specs.declared.named.Named.{Named}
 use Rattle.image_freeze.specs.Ends.{Ends, IsFrozen}
-use Rattle.image_freeze.specs.Frozen.{FreezeFault, IsTooBig, IsTwice, entries_of, entry_bytes, first_front, frozen, image_bytes, number_bytes, own_bytes, parts_of, pool_of, text_number}
+use Rattle.image_freeze.specs.Frozen.{FreezeFault, IsTooBig, IsTwice, entries_of, entry_bytes, frozen, image_bytes, number_bytes, own_bytes, parts_of, pool_of, text_number}
 use Rattle.image_freeze.specs.Uses.{FaultIs, PassesTable}
 use Rattle.image_freeze.proofs.Exits.{failed}
 use Rattle.image_freeze.proofs.Twice.{not_twice, one_twice, source_names}
@@ -59,7 +60,7 @@ module _ (front : List ℕ) (below : Base) (entries : List Entry) where
         | inr (inr past) ↦ omega (arith, past, short, ap length is.bytes_are)
       ]
 
-  never : (bytes : List ℕ) (f : ImageFault) → IsFrozen front below entries bytes → FreezeFault front below entries f → ⊥
+  pub never : (bytes : List ℕ) (f : ImageFault) → IsFrozen front below entries bytes → FreezeFault front below entries f → ⊥
   never bytes (Twice a) is h = not_twice below.names (names_of entries) a is.differ h
   never bytes TooBig is h = not_big bytes is h
   never bytes BadHeader is h = h
@@ -94,15 +95,15 @@ names_are : (modules : List Named) → source_names modules ≡ names_of (entrie
 names_are [] = refl
 names_are (m ∷ ms) = ap (λ (z : List (List ℕ)). m.name ∷ z) (names_are ms)
 
-pub entries_differ : (modules : List Named) → Differ [] (source_names modules) → Differ [] (names_of (entries_of modules))
-entries_differ modules d = subst (Differ []) (names_are modules) d
+pub entries_differ : (before : List (List ℕ)) (modules : List Named) → Differ before (source_names modules) → Differ before (names_of (entries_of modules))
+entries_differ before modules d = subst (Differ before) (names_are modules) d
 
 -- the fault of a name that stands twice
-pub twice_ends : (modules : List Named) (name : List ℕ) (e : Refused ImageFault) → IsTwice [] (source_names modules) name → (e ≡ refusals.Fault (Twice name)) ⊎ (e ≡ refusals.NoMemory) → FaultIs e (FreezeFault first_front nothing_below (entries_of modules))
-twice_ends modules name e again (inl is) =
-    subst (λ (z : Refused ImageFault). FaultIs z (FreezeFault first_front nothing_below (entries_of modules))) (sym is) (subst (λ (z : List (List ℕ)). IsTwice [] z name) (names_are modules) again)
-twice_ends modules name e again (inr is) =
-    subst (λ (z : Refused ImageFault). FaultIs z (FreezeFault first_front nothing_below (entries_of modules))) (sym is) tt
+pub twice_ends : (front : List ℕ) (below : Base) (modules : List Named) (name : List ℕ) (e : Refused ImageFault) → IsTwice below.names (source_names modules) name → (e ≡ refusals.Fault (Twice name)) ⊎ (e ≡ refusals.NoMemory) → FaultIs e (FreezeFault front below (entries_of modules))
+twice_ends front below modules name e again (inl is) =
+    subst (λ (z : Refused ImageFault). FaultIs z (FreezeFault front below (entries_of modules))) (sym is) (subst (λ (z : List (List ℕ)). IsTwice below.names z name) (names_are modules) again)
+twice_ends front below modules name e again (inr is) =
+    subst (λ (z : Refused ImageFault). FaultIs z (FreezeFault front below (entries_of modules))) (sym is) tt
 
 -- sizes
 -- =====
@@ -110,34 +111,17 @@ twice_ends modules name e again (inr is) =
 count_entries : (modules : List Named) → length (entries_of modules) ≡ length modules
 count_entries modules = length-map modules (λ (m : Named). entry_of m.name (frozen m.held))
 
-pub many_modules : (modules : List Named) → Differ [] (source_names modules) → MAX_MODULES < length modules → IsTooBig first_front nothing_below (entries_of modules)
-many_modules modules d past = record { differ = entries_differ modules d; big = inl (omega (arith, past, count_entries modules)) }
+-- the bytes of modules with this pool
+abbrev written : List ℕ → Base → Texts → List Entry → List ℕ
+written front below pool entries = front ++ parts_of pool (drop (length below.texts) pool.texts) entries
 
-pub many_texts : (modules : List Named) → Differ [] (source_names modules) → (f : ImageFault) → PassesTable (pool_below nothing_below) (texts_used (entries_of modules)) f → FreezeFault first_front nothing_below (entries_of modules) f
-many_texts modules d f h =
-    subst (FreezeFault first_front nothing_below (entries_of modules)) (sym h.0) (record { differ = entries_differ modules d; big = inr (inl h.1) })
-
--- the image of a pool
-pub bytes_are : (pool : Texts) (entries : List Entry) → pool ≡ pool_of nothing_below entries → first_front ++ parts_of pool pool.texts entries ≡ image_bytes first_front nothing_below entries
-bytes_are pool entries e = ap (λ (z : Texts). first_front ++ parts_of z z.texts entries) e
-
-pub long_bytes : (modules : List Named) (pool : Texts) (bytes : List ℕ) → Differ [] (source_names modules) → pool ≡ pool_of nothing_below (entries_of modules) → bytes ≡ first_front ++ parts_of pool pool.texts (entries_of modules) → MAX_IMAGE_BYTES < length bytes
-    → IsTooBig first_front nothing_below (entries_of modules)
-long_bytes modules pool bytes d e is past =
-    record { differ = entries_differ modules d; big = inr (inr (omega (arith, past, ap length (is ∙ bytes_are pool (entries_of modules) e)))) }
-
-parts_long : (pool : Texts) (own : List (List ℕ)) (entries : List Entry) → length (flat_map own_bytes own) + length (flat_map (entry_bytes pool) entries) ≤ length (first_front ++ parts_of pool own entries)
-parts_long pool own entries =
+parts_long : (front : List ℕ) (pool : Texts) (own : List (List ℕ)) (entries : List Entry) → length (flat_map own_bytes own) + length (flat_map (entry_bytes pool) entries) ≤ length (front ++ parts_of pool own entries)
+parts_long front pool own entries =
     let count = vuint (length own) in
     let texts = flat_map own_bytes own in
     let modules = vuint (length entries) in
     let named = flat_map (entry_bytes pool) entries in
-    omega (arith, length-append first_front (count ++ (texts ++ (modules ++ named))), length-append count (texts ++ (modules ++ named)), length-append texts (modules ++ named), length-append modules named)
-
-pub long_texts : (modules : List Named) (pool : Texts) → Differ [] (source_names modules) → pool ≡ pool_of nothing_below (entries_of modules) → MAX_IMAGE_BYTES < length (flat_map own_bytes pool.texts) → IsTooBig first_front nothing_below (entries_of modules)
-long_texts modules pool d e past =
-    let all = parts_long pool pool.texts (entries_of modules) in
-    long_bytes modules pool (first_front ++ parts_of pool pool.texts (entries_of modules)) d e refl (omega (arith, past, all))
+    omega (arith, length-append front (count ++ (texts ++ (modules ++ named))), length-append count (texts ++ (modules ++ named)), length-append texts (modules ++ named), length-append modules named)
 
 abbrev pub objects_of : Named → List ℕ
 objects_of m = flat_map (object_bytes MAX_DEPTH) m.held.objects
@@ -159,19 +143,46 @@ modules_long pool (m ∷ ms) =
     let others = modules_long pool ms in
     omega (arith, here, others, length-append (objects_of m) (flat_map objects_of ms), length-append (entry_bytes pool (entry_of m.name (frozen m.held))) (flat_map (entry_bytes pool) (entries_of ms)))
 
-pub long_objects : (modules : List Named) (pool : Texts) → Differ [] (source_names modules) → pool ≡ pool_of nothing_below (entries_of modules) → MAX_IMAGE_BYTES < length (flat_map objects_of modules) → IsTooBig first_front nothing_below (entries_of modules)
-long_objects modules pool d e past =
-    let all = parts_long pool pool.texts (entries_of modules) in
-    let inside = modules_long pool modules in
-    long_bytes modules pool (first_front ++ parts_of pool pool.texts (entries_of modules)) d e refl (omega (arith, past, all, inside))
+module _ (front : List ℕ) (below : Base) (modules : List Named) (d : Differ below.names (source_names modules)) where
+  pub many_modules : MAX_MODULES < length below.names + length modules → IsTooBig front below (entries_of modules)
+  many_modules past = record { differ = entries_differ below.names modules d; big = inl (omega (arith, past, count_entries modules)) }
 
--- the image
-pub is_frozen : (modules : List Named) (pool : Texts) (bytes : List ℕ) → Differ [] (source_names modules) → length modules ≤ MAX_MODULES → pool ≡ pool_of nothing_below (entries_of modules) → length pool.texts ≤ MAX_TABLE → bytes ≡ first_front ++ parts_of pool pool.texts (entries_of modules) → length bytes ≤ MAX_IMAGE_BYTES
-    → IsFrozen first_front nothing_below (entries_of modules) bytes
-is_frozen modules pool bytes d few e few_texts is short = record {
-  bytes_are = is ∙ bytes_are pool (entries_of modules) e;
-  differ = entries_differ modules d;
-  few_modules = omega (arith, few, count_entries modules);
-  few_texts = omega (arith, few_texts, ap (λ (z : Texts). length z.texts) e);
-  short = short;
-}
+  pub many_texts : (f : ImageFault) → PassesTable (pool_below below) (texts_used (entries_of modules)) f → FreezeFault front below (entries_of modules) f
+  many_texts f h =
+      subst (FreezeFault front below (entries_of modules)) (sym h.0) (record { differ = entries_differ below.names modules d; big = inr (inl h.1) })
+
+  -- the texts below pass the table alone
+  pub many_below : (f : ImageFault) → (f ≡ TooBig) × (MAX_TABLE < length below.texts) → FreezeFault front below (entries_of modules) f
+  many_below f h =
+      let more = longer (pool_below below) (texts_used (entries_of modules)) in
+      let past = h.1 in
+      many_texts f (h.0, omega (arith, past, more))
+
+  -- the image of a pool
+  bytes_are : (pool : Texts) → pool ≡ pool_of below (entries_of modules) → written front below pool (entries_of modules) ≡ image_bytes front below (entries_of modules)
+  bytes_are pool e = ap (λ (z : Texts). written front below z (entries_of modules)) e
+
+  pub long_bytes : (pool : Texts) (bytes : List ℕ) → pool ≡ pool_of below (entries_of modules) → bytes ≡ written front below pool (entries_of modules) → MAX_IMAGE_BYTES < length bytes → IsTooBig front below (entries_of modules)
+  long_bytes pool bytes e is past =
+      record { differ = entries_differ below.names modules d; big = inr (inr (omega (arith, past, ap length (is ∙ bytes_are pool e)))) }
+
+  pub long_texts : (pool : Texts) → pool ≡ pool_of below (entries_of modules) → MAX_IMAGE_BYTES < length (flat_map own_bytes (drop (length below.texts) pool.texts)) → IsTooBig front below (entries_of modules)
+  long_texts pool e past =
+      let all = parts_long front pool (drop (length below.texts) pool.texts) (entries_of modules) in
+      long_bytes pool (written front below pool (entries_of modules)) e refl (omega (arith, past, all))
+
+  pub long_objects : (pool : Texts) → pool ≡ pool_of below (entries_of modules) → MAX_IMAGE_BYTES < length (flat_map objects_of modules) → IsTooBig front below (entries_of modules)
+  long_objects pool e past =
+      let all = parts_long front pool (drop (length below.texts) pool.texts) (entries_of modules) in
+      let inside = modules_long pool modules in
+      long_bytes pool (written front below pool (entries_of modules)) e refl (omega (arith, past, all, inside))
+
+  pub is_frozen : (pool : Texts) (bytes : List ℕ) → length below.names + length modules ≤ MAX_MODULES → pool ≡ pool_of below (entries_of modules) → length pool.texts ≤ MAX_TABLE → bytes ≡ written front below pool (entries_of modules) → length bytes ≤ MAX_IMAGE_BYTES
+      → IsFrozen front below (entries_of modules) bytes
+  is_frozen pool bytes few e few_texts is short = record {
+    bytes_are = is ∙ bytes_are pool e;
+    differ = entries_differ below.names modules d;
+    few_modules = omega (arith, few, count_entries modules);
+    few_texts = omega (arith, few_texts, ap (λ (z : Texts). length z.texts) e);
+    short = short;
+  }

@@ -1,4 +1,5 @@
 pub mod Exits
+pub mod Fronts
 pub mod Loops
 pub mod Parts
 pub mod Pools

@@ -17,7 +17,7 @@ use Rattle.mpy_tree.specs.Canonical.{code_bytes, object_bytes}
 use Rattle.mpy_writer.specs.File.{entry_of as qstr_by}
 use Rattle.image_grammar.specs.Opening.{entry_of}
 use Rattle.image_freeze.specs.declared.named.Named.{Named}
-use Rattle.image_freeze.specs.Frozen.{entries_of, entry_bytes, body_bytes, first_front, frozen, frozen_qstr, number_bytes, own_bytes, parts_of, qstr_number, text_number}
+use Rattle.image_freeze.specs.Frozen.{entries_of, entry_bytes, body_bytes, frozen, frozen_qstr, number_bytes, own_bytes, parts_of, qstr_number, text_number}
 
 -- parts behind others
 -- ===================
@@ -74,14 +74,14 @@ pub all_named : (pool : Texts) (modules : List Named) → flat_map (named_bytes 
 all_named pool [] = refl
 all_named pool (m ∷ ms) = ap (λ (z : List ℕ). named_bytes pool m ++ z) (all_named pool ms)
 
--- an image
--- ========
+-- what stands behind the front of an image
+-- ========================================
 
-pub image_written : (pool : Texts) (modules : List Named) (out o1 o2 o3 o4 : List ℕ) (texts count : ℕ) → out ≡ first_front → texts ≡ length pool.texts → count ≡ length modules
-    → o1 ≡ out ++ vuint texts → o2 ≡ o1 ++ flat_map own_bytes pool.texts → o3 ≡ o2 ++ vuint count → o4 ≡ o3 ++ flat_map (entry_bytes pool) (entries_of modules) → o4 ≡ first_front ++ parts_of pool pool.texts (entries_of modules)
-image_written pool modules out o1 o2 o3 o4 texts count e f g h1 h2 h3 h4 =
+pub parts_written : (pool : Texts) (own : List (List ℕ)) (modules : List Named) (out o1 o2 o3 o4 : List ℕ) (texts count : ℕ) → texts ≡ length own → count ≡ length modules
+    → o1 ≡ out ++ vuint texts → o2 ≡ o1 ++ flat_map own_bytes own → o3 ≡ o2 ++ vuint count → o4 ≡ o3 ++ flat_map (entry_bytes pool) (entries_of modules) → o4 ≡ out ++ parts_of pool own (entries_of modules)
+parts_written pool own modules out o1 o2 o3 o4 texts count f g h1 h2 h3 h4 =
     let entries = entries_of modules in
     let counts : count ≡ length entries = g ∙ sym (length-map modules (λ (m : Named). entry_of m.name (frozen m.held))) in
-    let i1 : o1 ≡ first_front ++ vuint (length pool.texts) = h1 ∙ (ap (λ (z : List ℕ). z ++ vuint texts) e ∙ ap (λ (n : ℕ). first_front ++ vuint n) f) in
+    let i1 : o1 ≡ out ++ vuint (length own) = h1 ∙ ap (λ (n : ℕ). out ++ vuint n) f in
     let i3 : o3 ≡ o2 ++ vuint (length entries) = h3 ∙ ap (λ (n : ℕ). o2 ++ vuint n) counts in
-    four first_front (vuint (length pool.texts)) (flat_map own_bytes pool.texts) (vuint (length entries)) (flat_map (entry_bytes pool) entries) o1 o2 o3 o4 i1 h2 i3 h4
+    four out (vuint (length own)) (flat_map own_bytes own) (vuint (length entries)) (flat_map (entry_bytes pool) entries) o1 o2 o3 o4 i1 h2 i3 h4

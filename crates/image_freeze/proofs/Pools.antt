@@ -1,10 +1,11 @@
 -- The pool of modules that are to be in an image.
-use Rattle.std.proofs.Common.{◌≡◌, ◌⊎◌, ℕ, zero, suc, ◌+◌, ◌-◌, ◌<◌, ◌≤◌, ◌^◌, Bool, true, false, cond, eqb, nat_lt, List, [], ◌∷◌, ◌++◌, length, length-append, get_or, map, All, Option, Some, None, refl, sym, ap, ap₂, subst, ◌∙◌, inl, inr, arith}
+use Rattle.std.proofs.Common.{◌≡◌, ◌⊎◌, ℕ, zero, suc, ◌+◌, ◌-◌, ◌<◌, ◌≤◌, ◌^◌, Bool, true, false, cond, eqb, nat_lt, List, [], ◌∷◌, ◌++◌, length, length-append, drop, get_or, map, All, Option, Some, None, refl, sym, ap, ap₂, subst, ◌∙◌, inl, inr, arith}
 use Rattle.std.specs.Prelude.{slice_get, unwrap_or}
 use Rattle.std.specs.List.{AllByRecursion, cons_option, filter_map, flat_map, list_any}
 use Rattle.std.specs.Option.{option_or, option_to_list}
 use Rattle.std.specs.Str.{bytes_eq}
 use Rattle.std.proofs.lemmas.Bool.Decides.{nat_tests}
+use Rattle.std.proofs.lemmas.List.{drop_at}
 use Rattle.std.proofs.lemmas.List.Elements.{All-from_recursion, recursion_from_All}
 use Rattle.std.proofs.lemmas.Option.{slice_get_within, slice_get-get_or}
 use Rattle.mpy_base.specs.declared.limits.TheConstants.{MAX_IMAGE_BYTES, MAX_TABLE}
@@ -23,13 +24,13 @@ use Rattle.mpy_writer.specs.File.{entry_of, qstr_of}
 use Rattle.mpy_writer.proofs.Lists.{together}
 use Rattle.bc_library.specs.Fine.{FineQstr}
 use Rattle.bc_library.specs.Own.{IsOwnPool}
-use Rattle.bc_library.specs.Texts.{last_part, text_numbered, texts_of, with_text, with_texts}
+use Rattle.bc_library.specs.Texts.{IsPlain, last_part, text_numbered, texts_of, with_text, with_texts}
 use Rattle.bc_library.proofs.Files.{fine_qstrs}
 use Rattle.bc_library.proofs.Pools.{same_first, text_there, with_append, with_own, with_static}
 use Rattle.image_grammar.specs.Image.{IsOwnText, texts_used}
-use Rattle.image_grammar.specs.Opening.{number_in, nothing_below, pool_below}
-use Rattle.image_open.proofs.Found.{static_from_one}
-use Rattle.image_open.proofs.Found.{numbered_is, static_few}
+use Rattle.image_grammar.specs.Opening.{Base, number_in, pool_below}
+use Rattle.image_open.proofs.Found.{numbered_is}
+use Rattle.image_open.proofs.Turns.{begins}
 use Rattle.image_open.proofs.Uses.{IsProper, place_of}
 use Rattle.image_open.proofs.Written.{AreOnce, once_texts}
 use Rattle.image_freeze.specs.declared.named.Named.{Named}
@@ -134,43 +135,62 @@ modules_usable (m ∷ ms) all = together IsUsable (texts_of m.name m.held) (raw_
 -- its texts are spelled so, and give numbers
 -- ===========================================
 
--- the pool of the modules, whose texts are few and short
-pub record IsPoolOf (modules : List Named) (pool : Texts) : Type 0 where
-  pub pool_is : pool ≡ with_texts (pool_below nothing_below) (raw_texts modules)
+-- the pool below with the texts of the modules, which are few and short
+pub record IsPoolOf (below : Base) (modules : List Named) (pool : Texts) : Type 0 where
+  pub below_proper : IsProper (pool_below below)
+  pub pool_is : pool ≡ with_texts (pool_below below) (raw_texts modules)
   pub few : length pool.texts ≤ MAX_TABLE
-  pub short : All (λ text. length text ≤ MAX_IMAGE_BYTES) pool.texts
+  pub short : All (λ text. length text ≤ MAX_IMAGE_BYTES) (drop (length below.texts) pool.texts)
 
-pub pool_ascii : (modules : List Named) (pool : Texts) → IsPoolOf modules pool → AllByRecursion IsSource modules → AllByRecursion AsciiBytes pool.texts
-pool_ascii modules pool p all =
-    subst (λ (z : Texts). AllByRecursion AsciiBytes z.texts) (sym p.pool_is) (texts_ascii (pool_below nothing_below) (raw_texts modules) tt (modules_usable modules all))
+-- the texts of its own stand behind those below
+pub own_behind : (below : Base) (modules : List Named) (pool : Texts) → pool ≡ with_texts (pool_below below) (raw_texts modules) → pool.texts ≡ below.texts ++ drop (length below.texts) pool.texts
+own_behind below modules pool e =
+    let b = begins (pool_below below) (raw_texts modules) in
+    let texts : pool.texts ≡ below.texts ++ b.0 = ap (λ (z : Texts). z.texts) (e ∙ b.1) in
+    let own : drop (length below.texts) pool.texts ≡ b.0 = ap (drop (length below.texts)) texts ∙ drop_at below.texts b.0 (length below.texts) refl in
+    texts ∙ ap (λ (z : List (List ℕ)). below.texts ++ z) (sym own)
 
-no_text : (k : ℕ) (text : List ℕ) → slice_get [] k ≡ Some text → ⊥
-no_text k text e = cc
+behind : {A : Type 0} (P : A → Type 0) (xs ys : List A) → AllByRecursion P (xs ++ ys) → AllByRecursion P ys
+behind P [] ys all = all
+behind P (x ∷ xs) ys all = behind P xs ys all.1
 
-pub pool_once : (modules : List Named) (pool : Texts) → IsPoolOf modules pool → AreOnce pool.texts
-pool_once modules pool p =
-    let none : AreOnce [] = record { own = λ k text e. absurd (no_text k text e); differ = refl } in
-    subst (λ (z : Texts). AreOnce z.texts) (sym p.pool_is) (once_texts (pool_below nothing_below) (raw_texts modules) none)
+below_plain : (below : Base) → IsProper (pool_below below) → AllByRecursion IsPlain below.texts
+below_plain below proper = each_of IsPlain below.texts (λ k text e. (proper.own.each k text e).plain)
+
+below_ascii : (below : Base) → IsProper (pool_below below) → AllByRecursion AsciiBytes below.texts
+below_ascii below proper = each_of AsciiBytes below.texts (λ k text e. recursion_from_All (λ byte. byte < 128) text (proper.own.each k text e).plain.ascii)
+
+pub own_ascii : (below : Base) (modules : List Named) (pool : Texts) → IsPoolOf below modules pool → AllByRecursion IsSource modules → AllByRecursion AsciiBytes (drop (length below.texts) pool.texts)
+own_ascii below modules pool p all =
+    let whole : AllByRecursion AsciiBytes pool.texts = subst (λ (z : Texts). AllByRecursion AsciiBytes z.texts) (sym p.pool_is) (texts_ascii (pool_below below) (raw_texts modules) (below_ascii below p.below_proper) (modules_usable modules all)) in
+    behind AsciiBytes below.texts (drop (length below.texts) pool.texts) (subst (AllByRecursion AsciiBytes) (own_behind below modules pool p.pool_is) whole)
+
+pub pool_once : (below : Base) (modules : List Named) (pool : Texts) → IsPoolOf below modules pool → AreOnce pool.texts
+pool_once below modules pool p =
+    let once : AreOnce below.texts = record { own = λ k text e. (p.below_proper.own.each k text e).own; differ = p.below_proper.differ } in
+    subst (λ (z : Texts). AreOnce z.texts) (sym p.pool_is) (once_texts (pool_below below) (raw_texts modules) once)
 
 nth : (P : List ℕ → Type 0) (xs : List (List ℕ)) (k : ℕ) (x : List ℕ) → AllByRecursion P xs → slice_get xs k ≡ Some x → P x
 nth P [] k x all e = absurd cc
 nth P (y ∷ ys) zero x all e = let same : y ≡ x = cc in subst P same all.0
 nth P (y ∷ ys) (suc k) x all e = nth P ys k x all.1 e
 
-pub pool_proper : (modules : List Named) (pool : Texts) → IsPoolOf modules pool → AllByRecursion IsSource modules → IsProper pool
-pool_proper modules pool p all =
-    let once = pool_once modules pool p in
-    let ascii = pool_ascii modules pool p all in
-    let short = recursion_from_All (λ (text : List ℕ). length text ≤ MAX_IMAGE_BYTES) pool.texts p.short in
+owns_plain : (texts : List (List ℕ)) → AllByRecursion AsciiBytes texts → AllByRecursion (λ text. length text ≤ MAX_IMAGE_BYTES) texts → AllByRecursion IsPlain texts
+owns_plain [] ascii short = tt
+owns_plain (text ∷ texts) ascii short =
+    let len = short.0 in
+    (record { ascii = All-from_recursion (λ byte. byte < 128) text ascii.0; short = omega (arith, len) }, owns_plain texts ascii.1 short.1)
+
+pub pool_proper : (below : Base) (modules : List Named) (pool : Texts) → IsPoolOf below modules pool → AllByRecursion IsSource modules → IsProper pool
+pool_proper below modules pool p all =
+    let own = drop (length below.texts) pool.texts in
+    let once = pool_once below modules pool p in
+    let plain = owns_plain own (own_ascii below modules pool p all) (recursion_from_All (λ (text : List ℕ). length text ≤ MAX_IMAGE_BYTES) own p.short) in
+    let plains : AllByRecursion IsPlain pool.texts = subst (AllByRecursion IsPlain) (sym (own_behind below modules pool p.pool_is)) (together IsPlain below.texts own (below_plain below p.below_proper) plain) in
     record {
       own = record {
-        first = ap (λ (z : Texts). z.first) p.pool_is ∙ same_first (pool_below nothing_below) (raw_texts modules);
-        each = λ k text e.
-            let len = nth (λ (t : List ℕ). length t ≤ MAX_IMAGE_BYTES) pool.texts k text short e in
-            record {
-              plain = record { ascii = All-from_recursion (λ byte. byte < 128) text (nth AsciiBytes pool.texts k text ascii e); short = omega (arith, len) };
-              own = once.own k text e;
-            };
+        first = ap (λ (z : Texts). z.first) p.pool_is ∙ same_first (pool_below below) (raw_texts modules);
+        each = λ k text e. record { plain = nth IsPlain pool.texts k text plains e; own = once.own k text e };
       };
       differ = once.differ;
     }
@@ -182,8 +202,10 @@ owns_spelled : (texts : List (List ℕ)) → AllByRecursion AsciiBytes texts →
 owns_spelled [] ascii short = tt
 owns_spelled (text ∷ texts) ascii short = (own_spelled text ascii.0 short.0, owns_spelled texts ascii.1 short.1)
 
-pub texts_spelled : (modules : List Named) (pool : Texts) → IsPoolOf modules pool → AllByRecursion IsSource modules → AllByRecursion (λ text. IsOwnText (own_bytes text) text) pool.texts
-texts_spelled modules pool p all = owns_spelled pool.texts (pool_ascii modules pool p all) (recursion_from_All (λ (text : List ℕ). length text ≤ MAX_IMAGE_BYTES) pool.texts p.short)
+pub texts_spelled : (below : Base) (modules : List Named) (pool : Texts) → IsPoolOf below modules pool → AllByRecursion IsSource modules → AllByRecursion (λ text. IsOwnText (own_bytes text) text) (drop (length below.texts) pool.texts)
+texts_spelled below modules pool p all =
+    let own = drop (length below.texts) pool.texts in
+    owns_spelled own (own_ascii below modules pool p all) (recursion_from_All (λ (text : List ℕ). length text ≤ MAX_IMAGE_BYTES) own p.short)
 
 -- a number that a text has
 pub numbered_small : (pool : Texts) (text : List ℕ) (n : ℕ) → IsProper pool → length pool.texts ≤ MAX_TABLE → text_numbered pool n ≡ Some text → n < 2 ^ 31
@@ -199,9 +221,15 @@ numbered_small pool text n proper few e = by (nat_lt n FIRST_OWN) refl
 pub number_is : (pool : Texts) (text : List ℕ) (n : ℕ) → number_in pool text ≡ Some n → text_number pool text ≡ n
 number_is pool text n e = ap (λ (o : Option ℕ). unwrap_or o 0) e
 
--- the text at a place of the pool
-pub text_at : (pool : Texts) (place n : ℕ) → pool.first ≡ FIRST_OWN → n ≡ FIRST_OWN + place → place < length pool.texts → text_of pool n ≡ Some (get_or pool.texts place [])
-text_at pool place n first is lt = text_there pool place n first is ∙ slice_get-get_or pool.texts place [] lt
+-- the text at a place behind the first ones of the pool
+behind_at : (texts : List (List ℕ)) (from place : ℕ) → slice_get (drop from texts) place ≡ slice_get texts (from + place)
+behind_at texts zero place = let n : place ≡ 0 + place = omega arith in ap (slice_get texts) n
+behind_at [] (suc from) place = refl
+behind_at (text ∷ texts) (suc from) place = let n : suc (from + place) ≡ suc from + place = omega arith in behind_at texts from place ∙ ap (slice_get (text ∷ texts)) n
+
+pub text_at : (pool : Texts) (from place n : ℕ) → pool.first ≡ FIRST_OWN → n ≡ FIRST_OWN + (from + place) → place < length (drop from pool.texts) → text_of pool n ≡ Some (get_or (drop from pool.texts) place [])
+text_at pool from place n first is lt =
+    text_there pool (from + place) n first is ∙ (sym (behind_at pool.texts from place) ∙ slice_get-get_or (drop from pool.texts) place [] lt)
 
 pub own_longer : (text : List ℕ) → length text ≤ length (own_bytes text)
 own_longer text = omega (arith, length-append (vuint (length text)) (text ++ 0 ∷ []), length-append text (0 ∷ []))

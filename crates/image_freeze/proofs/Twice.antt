@@ -1,13 +1,16 @@
 -- Names that stand twice.
-use Rattle.std.proofs.Common.{◌≡◌, ◌⊎◌, ℕ, zero, suc, ◌+◌, ◌<◌, ◌≤◌, Bool, true, false, ◌||◌, List, [], ◌∷◌, ◌++◌, length, take, drop, get_or, map, refl, sym, ap, ap₂, subst, ◌∙◌, inl, inr, arith}
-use Rattle.std.specs.Prelude.{Contains}
+use Rattle.std.proofs.Common.{◌≡◌, ◌⊎◌, ℕ, zero, suc, ◌+◌, ◌<◌, ◌≤◌, Bool, true, false, ◌||◌, List, [], ◌∷◌, ◌++◌, length, take, drop, get_or, map, refl, sym, ap, ap₂, subst, ◌∙◌, append_assoc, inl, inr, arith}
+use Rattle.std.specs.Prelude.{◌↔◌, Contains, IsTrue}
 use Rattle.std.specs.List.{list_any}
 use Rattle.std.specs.Str.{bytes_eq}
 use Rattle.std.proofs.lemmas.Map.Views.{Contains-from_any}
-use Rattle.std.proofs.lemmas.List.{at_drop_more, take_more}
+use Rattle.std.proofs.lemmas.List.{append-nil, at_drop_more, take_more}
+use Rattle.std.proofs.lemmas.List.Elements.{Contains-append_left, Contains-append_right, Contains-append_cases}
 use Rattle.std.proofs.lemmas.List.Folds.{list_any_at}
 use Rattle.std.proofs.lemmas.Slice.Eq.{bytes_eq-Decides}
+use Rattle.bc_library.specs.Shelf.{Shelf, names}
 use Rattle.image_grammar.specs.Image.{Differ}
+use Rattle.image_grammar.proofs.Steps.{not_true}
 use Rattle.image_freeze.specs.declared.named.Named.{Named}
 use Rattle.image_freeze.specs.Frozen.{IsTwice}
 
@@ -31,28 +34,31 @@ not_twice before (name ∷ names) a d (inr h) = not_twice (before ++ name ∷ []
 -- =====================
 
 -- none of the names in front stands twice
-pub record Walked (names : List (List ℕ)) (i : ℕ) : Type 0 where
-  pub twice : (a : List ℕ) → IsTwice (take i names) (drop i names) a → IsTwice [] names a
-  pub differ : Differ (take i names) (drop i names) → Differ [] names
+pub record Walked (before names : List (List ℕ)) (i : ℕ) : Type 0 where
+  pub twice : (a : List ℕ) → IsTwice (before ++ take i names) (drop i names) a → IsTwice before names a
+  pub differ : Differ (before ++ take i names) (drop i names) → Differ before names
 
-pub none_walked : (names : List (List ℕ)) → Walked names 0
-none_walked names = record { twice = λ a h. h; differ = λ d. d }
+pub none_walked : (before names : List (List ℕ)) → Walked before names 0
+none_walked before names =
+    let same : before ++ [] ≡ before = append-nil before in
+    record { twice = λ a h. subst (λ (z : List (List ℕ)). IsTwice z names a) same h; differ = λ d. subst (λ (z : List (List ℕ)). Differ z names) same d }
 
-pub walked_more : (names : List (List ℕ)) (i : ℕ) (name : List ℕ) → i < length names → name ≡ get_or names i name → (Contains (take i names) name → ⊥) → Walked names i → Walked names (i + 1)
-walked_more names i name lt is new w =
+pub walked_more : (before names : List (List ℕ)) (i : ℕ) (name : List ℕ) → i < length names → name ≡ get_or names i name → (Contains (before ++ take i names) name → ⊥) → Walked before names i → Walked before names (i + 1)
+walked_more before names i name lt is new w =
     let rest = drop (i + 1) names in
-    let front : take (i + 1) names ≡ take i names ++ name ∷ [] = take_more names i name lt ∙ ap (λ (z : List ℕ). take i names ++ z ∷ []) (sym is) in
+    let taken : take (i + 1) names ≡ take i names ++ name ∷ [] = take_more names i name lt ∙ ap (λ (z : List ℕ). take i names ++ z ∷ []) (sym is) in
+    let front : before ++ take (i + 1) names ≡ (before ++ take i names) ++ name ∷ [] = ap (λ (z : List (List ℕ)). before ++ z) taken ∙ sym (append_assoc before (take i names) (name ∷ [])) in
     let behind : drop i names ≡ name ∷ rest = at_drop_more (λ (z : List (List ℕ)). z) names i name lt ∙ ap (λ (z : List ℕ). z ∷ rest) (sym is) in
     record {
-      twice = λ a h. w.twice a (subst (λ (z : List (List ℕ)). IsTwice (take i names) z a) (sym behind) (inr (new, subst (λ (z : List (List ℕ)). IsTwice z rest a) front h)));
-      differ = λ d. w.differ (subst (λ (z : List (List ℕ)). Differ (take i names) z) (sym behind) (new, subst (λ (z : List (List ℕ)). Differ z rest) front d));
+      twice = λ a h. w.twice a (subst (λ (z : List (List ℕ)). IsTwice (before ++ take i names) z a) (sym behind) (inr (new, subst (λ (z : List (List ℕ)). IsTwice z rest a) front h)));
+      differ = λ d. w.differ (subst (λ (z : List (List ℕ)). Differ (before ++ take i names) z) (sym behind) (new, subst (λ (z : List (List ℕ)). Differ z rest) front d));
     }
 
-pub twice_here : (names : List (List ℕ)) (i : ℕ) (name : List ℕ) → i < length names → name ≡ get_or names i name → Contains (take i names) name → Walked names i → IsTwice [] names name
-twice_here names i name lt is again w =
+pub twice_here : (before names : List (List ℕ)) (i : ℕ) (name : List ℕ) → i < length names → name ≡ get_or names i name → Contains (before ++ take i names) name → Walked before names i → IsTwice before names name
+twice_here before names i name lt is again w =
     let rest = drop (i + 1) names in
     let behind : drop i names ≡ name ∷ rest = at_drop_more (λ (z : List (List ℕ)). z) names i name lt ∙ ap (λ (z : List ℕ). z ∷ rest) (sym is) in
-    w.twice name (subst (λ (z : List (List ℕ)). IsTwice (take i names) z name) (sym behind) (inl (again, refl)))
+    w.twice name (subst (λ (z : List (List ℕ)). IsTwice (before ++ take i names) z name) (sym behind) (inl (again, refl)))
 
 drop_all : (xs : List (List ℕ)) (i : ℕ) → length xs ≤ i → drop i xs ≡ []
 drop_all [] zero le = refl
@@ -60,8 +66,8 @@ drop_all [] (suc i) le = refl
 drop_all (x ∷ xs) zero le = absurd (omega (arith, le))
 drop_all (x ∷ xs) (suc i) le = drop_all xs i (omega (arith, le))
 
-pub all_walked : (names : List (List ℕ)) (i : ℕ) → length names ≤ i → Walked names i → Differ [] names
-all_walked names i le w = w.differ (subst (λ (z : List (List ℕ)). Differ (take i names) z) (sym (drop_all names i le)) tt)
+pub all_walked : (before names : List (List ℕ)) (i : ℕ) → length names ≤ i → Walked before names i → Differ before names
+all_walked before names i le w = w.differ (subst (λ (z : List (List ℕ)). Differ (before ++ take i names) z) (sym (drop_all names i le)) tt)
 
 -- among modules
 -- =============
@@ -93,3 +99,25 @@ not_among modules name e (k, lt, is) =
     let there : list_any (bytes_eq name) (source_names modules) ≡ true = list_any_at (bytes_eq name) (source_names modules) k name lt ((bytes_eq-Decides name _).1 (sym is)) in
     let none : list_any (bytes_eq name) (source_names modules) ≡ false = sym (any_name (bytes_eq name) modules) ∙ e in
     absurd cc
+
+-- a module below or one of these has the name
+-- ===========================================
+
+abbrev pub IsTaken : Shelf → List Named → List ℕ → Type 0
+IsTaken below modules name = Contains (names below ++ source_names modules) name
+
+pub taken_below : (below : Shelf) (modules : List Named) (name : List ℕ) → Contains (names below) name → IsTrue true ↔ IsTaken below modules name
+taken_below below modules name has = (λ _. Contains-append_left (names below) (source_names modules) name has, λ _. refl)
+
+among : (b : Bool) (modules : List Named) (name : List ℕ) → b ≡ list_any (λ (m : Named). bytes_eq name m.name) modules → Contains (source_names modules) name → b ≡ true
+among true modules name e has = refl
+among false modules name e has = absurd (not_among modules name (sym e) has)
+
+pub taken_here : (below : Shelf) (modules : List Named) (name : List ℕ) (b c : Bool) → (Contains (names below) name → b ≡ true) → b ≡ false → c ≡ list_any (λ (m : Named). bytes_eq name m.name) modules → IsTrue c ↔ IsTaken below modules name
+taken_here below modules name b c has none e = (
+  λ is. Contains-append_right (names below) (source_names modules) name (is_among modules name (sym e ∙ is)),
+  λ there. elim (Contains-append_cases (names below) (source_names modules) name there) [
+    | inl front ↦ absurd (not_true b (has front) none)
+    | inr behind ↦ among c modules name e behind
+  ],
+)

@@ -28,15 +28,15 @@ use Rattle.bc_library.specs.Fine.{FineQstr}
 use Rattle.bc_library.specs.Texts.{last_part, text_numbered, texts_of, with_text, with_texts}
 use Rattle.bc_library.proofs.Pools.{with_append}
 use Rattle.image_grammar.specs.declared.entry.Entry.{Entry}
-use Rattle.image_grammar.specs.Image.{Differ, IsEntry, IsImage, IsNamed, IsOwnText, texts_used}
-use Rattle.image_grammar.specs.Opening.{entry_of, names_of, number_in, nothing_below, pool_below}
-use Rattle.image_open.proofs.Found.{static_from_one}
-use Rattle.image_open.proofs.Found.{numbered_is, static_few}
+use Rattle.image_grammar.specs.Image.{Differ, IsEntry, IsFront, IsImage, IsNamed, IsOwnText, texts_used}
+use Rattle.image_grammar.specs.Opening.{Base, entry_of, names_of, number_in, pool_below}
+use Rattle.image_base.proofs.Texts.{static_few}
+use Rattle.image_open.proofs.Found.{numbered_is, static_from_one}
 use Rattle.image_open.proofs.Turns.{has_number}
 use Rattle.image_open.proofs.Uses.{IsProper}
 use Rattle.image_freeze.specs.declared.named.Named.{Named}
-use Rattle.image_freeze.specs.Frozen.{entries_of, entry_bytes, first_front, frozen, frozen_qstr, number_bytes, own_bytes, parts_of, pool_of, qstr_number, text_number}
-use Rattle.image_freeze.proofs.Pools.{IsPoolOf, IsSource, fine_table, number_is, numbered_small, pool_proper, raw_texts, same_texts, static_text, texts_spelled, used_is}
+use Rattle.image_freeze.specs.Frozen.{entries_of, entry_bytes, frozen, frozen_qstr, number_bytes, own_bytes, parts_of, pool_of, qstr_number, text_number}
+use Rattle.image_freeze.proofs.Pools.{IsPoolOf, IsSource, fine_table, number_is, numbered_small, own_behind, pool_proper, raw_texts, same_texts, static_text, texts_spelled, used_is}
 use Rattle.image_freeze.proofs.Trees.{tree_spelled}
 
 -- what is known of the pool
@@ -160,31 +160,34 @@ modules_spelled pool now (m ∷ ms) p e all =
 sources : (modules : List Named) → AllByRecursion IsReady modules → AllByRecursion IsSource modules
 sources modules all = all_of IsReady IsSource (λ m r. r.source) modules all
 
-pub is_image : (modules : List Named) (pool : Texts) (bytes : List ℕ) → IsPoolOf modules pool → AllByRecursion IsReady modules → Differ [] (names_of (entries_of modules)) → length modules ≤ MAX_MODULES → length bytes ≤ MAX_IMAGE_BYTES
-    → bytes ≡ first_front ++ parts_of pool pool.texts (entries_of modules) → IsImage nothing_below (entries_of modules) bytes
-is_image modules pool bytes p all differ few short is =
+pub is_image : (below : Base) (modules : List Named) (pool : Texts) (front bytes : List ℕ) → IsFront below front → IsPoolOf below modules pool → AllByRecursion IsReady modules → Differ below.names (names_of (entries_of modules)) → length below.names + length modules ≤ MAX_MODULES → length bytes ≤ MAX_IMAGE_BYTES
+    → bytes ≡ front ++ parts_of pool (drop (length below.texts) pool.texts) (entries_of modules) → IsImage below (entries_of modules) bytes
+is_image below modules pool front bytes is_front p all differ few short is =
     let entries = entries_of modules in
-    let proper = pool_proper modules pool p (sources modules all) in
+    let own = drop (length below.texts) pool.texts in
+    let proper = pool_proper below modules pool p (sources modules all) in
     let numbers : Numbers pool = record { proper = proper; few = p.few } in
     let count : length entries ≡ length modules = length-map modules (λ (m : Named). entry_of m.name (frozen m.held)) in
     let few_texts = p.few in
+    let parts = own_behind below modules pool p.pool_is in
+    let lengths : length pool.texts ≡ length below.texts + length own = ap length parts ∙ length-append below.texts own in
     record {
-      front = first_front;
-      text_count = vuint (length pool.texts);
-      texts = flat_map own_bytes pool.texts;
+      front = front;
+      text_count = vuint (length own);
+      texts = flat_map own_bytes own;
       module_count = vuint (length entries);
       named = flat_map (entry_bytes pool) entries;
       bytes_are = is;
-      is_front = inl (refl, refl, refl);
-      own = pool.texts;
-      counts_texts = vuint_spells (length pool.texts) (omega (arith, few_texts));
-      are_texts = many_spelled IsOwnText own_bytes pool.texts (texts_spelled modules pool p (sources modules all));
+      is_front = is_front;
+      own = own;
+      counts_texts = vuint_spells (length own) (omega (arith, few_texts, lengths));
+      are_texts = many_spelled IsOwnText own_bytes own (texts_spelled below modules pool p (sources modules all));
       pool = pool;
-      pool_is = refl;
-      first_use = p.pool_is ∙ ap (with_texts (pool_below nothing_below)) (sym (used_is modules));
+      pool_is = parts;
+      first_use = p.pool_is ∙ ap (with_texts (pool_below below)) (sym (used_is modules));
       few_texts = p.few;
       counts_modules = vuint_spells (length entries) (omega (arith, few, count));
-      are_named = many_spelled (IsNamed pool) (entry_bytes pool) entries (modules_spelled pool (pool_below nothing_below) modules numbers p.pool_is all);
+      are_named = many_spelled (IsNamed pool) (entry_bytes pool) entries (modules_spelled pool (pool_below below) modules numbers p.pool_is all);
       few_modules = omega (arith, few, count);
       differ = differ;
       short = short;

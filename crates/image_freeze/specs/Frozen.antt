@@ -70,6 +70,10 @@ parts_of pool own entries =
 abbrev pub first_front : List ℕ
 first_front = 0x4d ∷ 0x49 ∷ 1 ∷ 0x1f ∷ []
 
+-- that of version 2, and the numbers of texts and modules below
+abbrev pub second_front : Base → List ℕ
+second_front below = 0x4d ∷ 0x49 ∷ 2 ∷ 0x1f ∷ (vuint (length below.texts) ++ vuint (length below.names))
+
 abbrev pub image_bytes : List ℕ → Base → List Entry → List ℕ
 image_bytes front below entries =
     front ++ parts_of (pool_of below entries) (drop (length below.texts) (pool_of below entries).texts) entries

@@ -1,3 +1,4 @@
 pub mod Ends
+pub mod Fronts
 pub mod Frozen
 pub mod Uses

@@ -1,14 +1,17 @@
 //! Names that stand twice.
 
-ghost use Rattle.std.specs.Prelude.{◌≡◌, ◌⊎◌, [], map, IfNone, IfSome};
+ghost use Rattle.std.specs.Prelude.{◌≡◌, ◌↔◌, ◌⊎◌, [], ◌++◌, map, Contains, IsTrue, IfNone, IfSome};
 ghost use Rattle.std.specs.List.{list_any};
 ghost use Rattle.std.specs.Str.{bytes_eq};
 ghost use Rattle.mpy_base.specs.declared.refused.Refused.TheVariants as refused;
 ghost use Rattle.image_grammar.specs.declared.fault.ImageFault.TheVariants as faults;
+ghost use Rattle.bc_library.specs.Shelf.{names};
 ghost use Rattle.image_grammar.specs.Image.{Differ};
 ghost use Rattle.image_freeze.specs.Frozen.{IsTwice};
 
 use crate::named::Named;
+use bc_library::Library;
+use image_base::has_name;
 use image_grammar::ImageFault;
 use mpy_base::{Refused, Text};
 use std::alloc::Global;
@@ -20,13 +23,25 @@ fn is_named(modules: &[Named], name: &[u8]) -> bool
     modules.iter().any(|module| name == module.name.bytes())
 }
 
-/// The first name that is that of an earlier module too.
-pub(crate) fn first_twice(modules: &[Named]) -> Option<&[u8]>
-    ensures twice { IfSome result (λ name. IsTwice [] (map (λ m. m.name) modules.now) name.now) }
-    ensures differ { IfNone result (Differ [] (map (λ m. m.name) modules.now)) }
+/// Whether a module below or one of these has the name.
+fn is_taken(below: &Library, modules: &[Named], name: &[u8]) -> bool
+    requires { below.now.refused ≡ [] }
+    ensures { IsTrue result ↔ Contains (names below.now ++ map (λ m. m.name) modules.now) name.now }
+{
+    if has_name(below, name) {
+        return true;
+    }
+    is_named(modules, name)
+}
+
+/// The first name that is that of a module below or of an earlier one too.
+pub(crate) fn first_twice<'a>(below: &Library, modules: &'a [Named]) -> Option<&'a [u8]>
+    requires { below.now.refused ≡ [] }
+    ensures twice { IfSome result (λ name. IsTwice (names below.now) (map (λ m. m.name) modules.now) name.now) }
+    ensures differ { IfNone result (Differ (names below.now) (map (λ m. m.name) modules.now)) }
 {
     for (place, module) in modules.iter().enumerate() {
-        if is_named(&modules[..place], module.name.bytes()) {
+        if is_taken(below, &modules[..place], module.name.bytes()) {
             return Some(module.name.bytes());
         }
     }

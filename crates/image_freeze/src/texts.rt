@@ -1,18 +1,24 @@
 //! The texts of modules, in the order of their first use.
 
-ghost use Rattle.std.specs.Prelude.{◌≡◌, ◌<◌, ◌≤◌, ◌++◌, [], ◌∷◌, length, All, None, false, IsTrue, IfOk, OnOk, option_copied};
+ghost use Rattle.std.specs.Prelude.{◌≡◌, ◌<◌, ◌≤◌, ◌++◌, [], ◌∷◌, length, drop, All, None, false, IsTrue, IfOk, OnOk, option_copied};
 ghost use Rattle.std.specs.List.{filter_map, flat_map};
 ghost use Rattle.std.specs.Option.{option_to_list};
+ghost use Rattle.mpy_base.specs.declared.limits.TheConstants.{MAX_TABLE};
 ghost use Rattle.qstr_pool.specs.Static.{static_number_of};
 ghost use Rattle.mpy_tree.specs.Raw as raw;
 ghost use Rattle.bc_library.specs.Texts as library;
 ghost use Rattle.bc_library.specs.Texts.{texts_of, with_text, with_texts};
 ghost use Rattle.image_grammar.specs.Image.{texts_used};
-ghost use Rattle.image_grammar.specs.Opening.{nothing_below, pool_below};
-ghost use Rattle.image_freeze.specs.Frozen.{entries_of, own_bytes, pool_of};
+ghost use Rattle.image_grammar.specs.declared.fault.ImageFault.TheVariants.{TooBig};
+ghost use Rattle.image_grammar.specs.Opening.{pool_below};
+ghost use Rattle.bc_library.specs.Own.{IsOwnPool};
+ghost use Rattle.image_base.specs.Base.{base_of};
+ghost use Rattle.image_freeze.specs.Frozen.{entries_of, own_bytes};
 ghost use Rattle.image_freeze.specs.Uses.{IfFault, PassesTable};
 
 use crate::named::Named;
+use bc_library::Library;
+use image_base::copy_texts;
 use image_grammar::ImageFault;
 use mpy_base::limits::MAX_IMAGE_BYTES;
 use mpy_base::{NoMemory, Refused, write_vuint};
@@ -111,32 +117,44 @@ fn use_modules(alloc: Global, pool: &mut Pool, modules: &[Named]) -> Result<(), 
     Ok(())
 }
 
-/// The pool of no texts.
-fn no_texts(alloc: Global) -> Result<Pool, NoMemory>
-    ensures { IfOk result (λ pool. pool ≡ pool_below nothing_below) }
+/// A pool of the texts of the library.
+pub(crate) fn texts_below(alloc: Global, below: &Library) -> Result<Pool, Refused<ImageFault>>
+    ensures ok { IfOk result (λ pool. pool ≡ pool_below (base_of below.now)) }
+    ensures own { IfOk result IsOwnPool }
+    ensures fault { IfFault result (λ fault. (fault ≡ TooBig) × (MAX_TABLE < length below.now.pool.texts)) }
 {
-    Pool::new(alloc, FIRST_OWN)
+    match copy_texts(alloc, below) {
+        Ok(pool) => Ok(pool),
+        Err(Refused::Fault(_)) => Err(Refused::Fault(ImageFault::TooBig)),
+        Err(Refused::NoMemory) => Err(Refused::NoMemory),
+    }
 }
 
-/// The pool of the modules' texts.
-pub(crate) fn make_pool(alloc: Global, modules: &[Named]) -> Result<Pool, Refused<ImageFault>>
-    ensures ok { IfOk result (λ pool. pool ≡ pool_of nothing_below (entries_of modules.now)) }
-    ensures fault { IfFault result (PassesTable (pool_below nothing_below) (texts_used (entries_of modules.now))) }
+/// The pool with the texts that the modules use.
+pub(crate) fn make_pool(
+    alloc: Global,
+    below: Pool,
+    modules: &[Named],
+) -> Result<Pool, Refused<ImageFault>>
+    ensures ok { IfOk result (λ pool. pool ≡ with_texts below (texts_used (entries_of modules.now))) }
+    ensures fault { IfFault result (PassesTable below (texts_used (entries_of modules.now))) }
 {
-    let mut pool = no_texts(alloc)?;
+    let mut pool = below;
     use_modules(alloc, &mut pool, modules)?;
     Ok(pool)
 }
 
-/// Whether no text is longer than an image may be.
-pub(crate) fn texts_are_short(pool: &Pool) -> bool
-    requires { pool.now.first ≡ FIRST_OWN }
-    ensures short { IsTrue result → All (λ text. length text ≤ MAX_IMAGE_BYTES) pool.now.texts }
-    ensures long { result ≡ false → MAX_IMAGE_BYTES < length (flat_map own_bytes pool.now.texts) }
+/// Whether no text of the pool behind those below is longer than an image may be.
+pub(crate) fn texts_are_short(pool: &Pool, texts_below: usize) -> bool
+    requires first { pool.now.first ≡ FIRST_OWN }
+    requires within { texts_below ≤ length pool.now.texts }
+    ensures short { IsTrue result → All (λ text. length text ≤ MAX_IMAGE_BYTES) (drop texts_below pool.now.texts) }
+    ensures long { result ≡ false → MAX_IMAGE_BYTES < length (flat_map own_bytes (drop texts_below pool.now.texts)) }
 {
     pool_law(pool);
-    for place in 0..pool.len() {
-        if pool.text(FIRST_OWN + place as u32).unwrap().len() > MAX_IMAGE_BYTES {
+    for place in 0..pool.len() - texts_below {
+        let number = FIRST_OWN + (texts_below + place) as u32;
+        if pool.text(number).unwrap().len() > MAX_IMAGE_BYTES {
             return false;
         }
     }
@@ -154,15 +172,21 @@ fn write_text(out: &mut Vec<u8>, text: &[u8]) -> Result<(), NoMemory>
     Ok(())
 }
 
-/// Adds the texts of the pool.
-pub(crate) fn write_texts(out: &mut Vec<u8>, pool: &Pool) -> Result<(), NoMemory>
+/// Adds the texts of the pool behind those below.
+pub(crate) fn write_texts(
+    out: &mut Vec<u8>,
+    pool: &Pool,
+    texts_below: usize,
+) -> Result<(), NoMemory>
     requires first { pool.now.first ≡ FIRST_OWN }
-    requires short { All (λ text. length text ≤ MAX_IMAGE_BYTES) pool.now.texts }
-    ensures { OnOk result (out.new.items ≡ out.old.items ++ flat_map own_bytes pool.now.texts) }
+    requires within { texts_below ≤ length pool.now.texts }
+    requires short { All (λ text. length text ≤ MAX_IMAGE_BYTES) (drop texts_below pool.now.texts) }
+    ensures { OnOk result (out.new.items ≡ out.old.items ++ flat_map own_bytes (drop texts_below pool.now.texts)) }
 {
     pool_law(pool);
-    for place in 0..pool.len() {
-        write_text(out, pool.text(FIRST_OWN + place as u32).unwrap())?;
+    for place in 0..pool.len() - texts_below {
+        let number = FIRST_OWN + (texts_below + place) as u32;
+        write_text(out, pool.text(number).unwrap())?;
     }
     Ok(())
 }

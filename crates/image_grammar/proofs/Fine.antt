@@ -29,7 +29,7 @@ use Rattle.image_grammar.specs.declared.entry.Opened.{Opened}
 use Rattle.image_grammar.specs.declared.names.Table.{Table}
 use Rattle.image_grammar.specs.Fine.{IsFineText, IsFinePool}
 use Rattle.image_grammar.specs.Image.{IsOwnText}
-use Rattle.image_grammar.specs.Opening.{number, count, IsNew, with_last, own_text, table, nothing_below, pool_below, use_of, IsUse, used_with, qstr_of, qstr, qstr_table, module_of, Base, entry, entry_of, IsHeader, counts_below, nothing_is_below, base, names_of, body}
+use Rattle.image_grammar.specs.Opening.{number, count, IsNew, with_last, own_text, table, use_of, IsUse, used_with, qstr_of, qstr, qstr_table, module_of, Base, entry, entry_of, IsHeader, counts_below, nothing_is_below, base, names_of, body}
 use Rattle.image_grammar.proofs.Inversion.{bind_ok, judge_ok, ok_is, ok_parts, chosen, Keeps, times_keeps, Many-push}
 
 -- what is read of a text
@@ -102,12 +102,12 @@ count_left most n bytes rest h =
     let both = ok_parts n a.0.0 rest a.0.1 b.1 in
     subst (λ (z : List ℕ). length z ≤ length bytes) (sym both.1) (number_left bytes a.0.1 a.0.0 a.1)
 
-pub table_fine : (pool : Texts) (bytes rest : List ℕ) → length bytes ≤ MAX_IMAGE_BYTES → table nothing_below bytes (Ok (pool, rest)) → IsFinePool pool
+pub table_fine : (start pool : Texts) (bytes rest : List ℕ) → IsFinePool start → length bytes ≤ MAX_IMAGE_BYTES → table start bytes (Ok (pool, rest)) → IsFinePool pool
 unfolding table
-table_fine pool bytes rest short h =
+table_fine start pool bytes rest fine short h =
     let a = bind_ok _ _ _ h in
     let left = count_left _ _ _ _ a.1 in
-    let f = times_keeps own_text FinePool fine_step a.0.0 0 (pool_below nothing_below) pool a.0.1 rest (record { first = refl; fine = All-nil IsFineText; left = omega (arith, short, left) }) a.2 in
+    let f = times_keeps own_text FinePool fine_step a.0.0 0 start pool a.0.1 rest (record { first = fine.first; fine = fine.fine; left = omega (arith, short, left) }) a.2 in
     record { first = f.first; fine = f.fine }
 
 -- tables

@@ -82,11 +82,11 @@ own_text pool bytes = do
 abbrev pub pool_below : Base → Texts
 pool_below below = record { first = FIRST_OWN; texts = below.texts }
 
--- the pool of the texts below and of the image's own
-unfoldable pub table : Base → List ℕ → Field Texts
-table below bytes = do
-  n ← count (MAX_TABLE - length below.texts) bytes
-  times n.0 own_text (pool_below below) n.1
+-- the pool of the texts below, and behind them the image's own
+unfoldable pub table : Texts → List ℕ → Field Texts
+table pool bytes = do
+  n ← count (MAX_TABLE - length pool.texts) bytes
+  times n.0 own_text pool n.1
 
 -- the numbers of texts
 -- ====================
@@ -229,7 +229,7 @@ base below version bytes = choose (version == 1) (nothing_is_below below bytes) 
 -- what stands behind the header
 unfoldable pub parts : Base → List ℕ → Reading (List Entry)
 parts below bytes = do
-  pool ← table below bytes
+  pool ← table (pool_below below) bytes
   opened ← modules below pool.0 pool.1
   judge (opened.0.used ≡ length pool.0.texts) BadNumber
   judge (opened.1 ≡ []) Trailing

@@ -1,16 +1,16 @@
 //! The texts of an image's own.
 
-ghost use Rattle.std.specs.Prelude.{◌≡◌, ◌<◌, ◌≤◌, length, IsTrue, ◌↔◌, IfOk, OnOk};
+ghost use Rattle.std.specs.Prelude.{◌≡◌, ◌+◌, ◌<◌, ◌≤◌, length, IsTrue, ◌↔◌, OnOk};
 ghost use Rattle.mpy_base.specs.declared.limits.TheConstants.{MAX_TABLE};
 ghost use Rattle.image_grammar.specs.Opening as opening;
-ghost use Rattle.image_grammar.specs.Opening.{IsNew, nothing_below, with_last};
+ghost use Rattle.image_grammar.specs.Opening.{IsNew, with_last};
 ghost use Rattle.image_grammar.specs.Steps.{Gives, times};
 
 use crate::fault::ImageFault;
 use crate::field::{Field, count, number, own_of, taken};
 use mpy_base::limits::MAX_TABLE;
 use mpy_base::{NoMemory, Refused};
-use qstr_pool::{FIRST_OWN, Pool, static_number};
+use qstr_pool::{Pool, pool_law, static_number};
 use std::alloc::Global;
 
 /// Whether the text has no number yet, neither a static one nor in the pool.
@@ -52,20 +52,12 @@ fn own_text<'a>(
     Ok(rest)
 }
 
-/// The pool of no texts.
-fn no_texts(alloc: Global) -> Result<Pool, NoMemory>
-    ensures { IfOk result (λ pool. pool ≡ opening.pool_below nothing_below) }
+/// The pool with `count` texts in front behind its own.
+fn own_texts(alloc: Global, pool: Pool, count: u32, bytes: &[u8]) -> Field<'_, Pool>
+    requires { length pool.texts + count ≤ MAX_TABLE }
+    ensures { Gives (λ found. (found.0, found.1.now)) result (times count opening.own_text pool bytes.now) }
 {
-    Pool::new(alloc, FIRST_OWN)
-}
-
-/// The pool of `count` texts in front.
-fn own_texts(alloc: Global, count: u32, bytes: &[u8]) -> Field<'_, Pool>
-    requires { count ≤ MAX_TABLE }
-    ensures { Gives (λ found. (found.0, found.1.now)) result
-        (times count opening.own_text (opening.pool_below nothing_below) bytes.now) }
-{
-    let mut pool = no_texts(alloc)?;
+    let mut pool = pool;
     let mut rest = bytes;
     for _ in 0..count {
         rest = own_text(alloc, &mut pool, rest)?;
@@ -73,11 +65,12 @@ fn own_texts(alloc: Global, count: u32, bytes: &[u8]) -> Field<'_, Pool>
     Ok((pool, rest))
 }
 
-/// The pool of an image that lies over nothing: its number of texts, and these.
+/// The pool of an image over the texts of the pool: its number of texts, and these, which go behind them.
 #[tactic(auto, unfolding(crate::specs::Opening::table))]
-pub fn table(alloc: Global, bytes: &[u8]) -> Field<'_, Pool>
-    ensures { Gives (λ found. (found.0, found.1.now)) result (opening.table nothing_below bytes.now) }
+pub fn table(alloc: Global, pool: Pool, bytes: &[u8]) -> Field<'_, Pool>
+    ensures { Gives (λ found. (found.0, found.1.now)) result (opening.table pool bytes.now) }
 {
-    let (n, rest) = count(bytes, MAX_TABLE)?;
-    own_texts(alloc, n, rest)
+    pool_law(&pool);
+    let (n, rest) = count(bytes, MAX_TABLE - pool.len())?;
+    own_texts(alloc, pool, n, rest)
 }

@@ -19,8 +19,7 @@ use Rattle.mpy_reader.proofs.Bodies.{body_found}
 use Rattle.bc_verify.specs.Verified.{IsVerified}
 use Rattle.qstr_pool.specs.declared.table.TheConstants.{FIRST_OWN, STATIC_COUNT}
 use Rattle.qstr_pool.specs.Pool.{Texts, number_of}
-use Rattle.std.proofs.lemmas.Option.{slice_get_within}
-use Rattle.qstr_pool.specs.Static.{static_texts, static_pool, static_text_of, static_number_of}
+use Rattle.qstr_pool.specs.Static.{static_pool, static_text_of, static_number_of}
 use Rattle.qstr_pool.proofs.Pools.{one_to_one}
 use Rattle.bc_library.proofs.Own.{plain_numbered}
 use Rattle.bc_library.specs.Texts.{IsPlain, text_numbered, last_part, with_text, with_texts, texts_of}
@@ -32,6 +31,7 @@ use Rattle.image_grammar.specs.Image.{IsEntry, IsNamed, Differ, texts_used}
 use Rattle.image_grammar.specs.Opening.{Base, count, own_text, pool_below, table, IsUse, used_with, use_at, number_in, use_part, names_of, name, qstr_of, qstr, qstr_table, module_of, entry_of, raw, held, entry, none_opened, modules}
 use Rattle.image_grammar.proofs.Inversion.{bind_ok, judge_ok, ok_is, ok_parts, Keeps, times_keeps, Many-push}
 use Rattle.image_grammar.proofs.Fine.{use_found}
+use Rattle.image_base.proofs.Texts.{static_few}
 use Rattle.image_open.proofs.Pools.{TextsRead, none_read, text_step}
 use Rattle.image_open.proofs.Uses.{IsProper, Used, used_further}
 
@@ -51,7 +51,7 @@ count_found most n bytes rest h =
     subst (λ (z : ℕ). CountRead most bytes z rest) (sym both.0) (subst (λ (z : List ℕ). CountRead most bytes a.0.0 z) (sym both.1)
     (record { text = a.1.0; spells = a.1.1; bytes_are = a.1.2; few = b.0 }))
 
-pub table_found : (below : Base) (pool : Texts) (bytes rest : List ℕ) → IsProper (pool_below below) → table below bytes (Ok (pool, rest))
+pub table_found : (below : Base) (pool : Texts) (bytes rest : List ℕ) → IsProper (pool_below below) → table (pool_below below) bytes (Ok (pool, rest))
     → (n : ℕ) × (behind : List ℕ) × CountRead (MAX_TABLE - length below.texts) bytes n behind × TextsRead below behind n pool rest
 unfolding table
 table_found below pool bytes rest proper h =
@@ -73,16 +73,6 @@ static_from_one n text e = by (nat_lt n 1) n refl e
     by false n k h = grind (arith, nat_tests)
 
 -- names
-pub some_in : (b : Bool) (n : ℕ) (text : List ℕ) (texts : List (List ℕ)) → b ≡ nat_lt n 1 → cond b None (slice_get texts (n - 1)) ≡ Some text → n ≤ length texts
-some_in true n text texts e h = absurd cc
-some_in false n text texts e h = let within = slice_get_within texts (n - 1) text h in let some : 1 ≤ n = grind (arith, nat_tests) in omega (arith, within, some)
-
-pub static_few : (text : List ℕ) (n : ℕ) → static_number_of text ≡ Some n → n ≤ STATIC_COUNT
-static_few text n e =
-    let count : length static_texts ≡ STATIC_COUNT = refl in
-    let at = some_in (nat_lt n 1) n text static_texts refl (((one_to_one static_pool refl).inverse text n).0 e) in
-    omega (arith, at, count)
-
 pub counted : (first n : ℕ) (r : Option ℕ) → option_map (λ place. first + place) r ≡ Some n → first ≤ n
 counted first n None e = absurd cc
 counted first n (Some i) e = let is : first + i ≡ n = cc in omega (arith, is)

@@ -1,4 +1,6 @@
+pub mod Below
 pub mod Found
+pub mod Named
 pub mod Opened
 pub mod Pools
 pub mod Put

@@ -11,7 +11,7 @@ use Rattle.image_grammar.specs.Steps.{Fails}
 use Rattle.image_grammar.proofs.Inversion.{done, ok_is}
 use Rattle.image_open.specs.Opens.{Opens, Ended, opened, faulty, starved, shelf_of}
 use Rattle.image_open.proofs.Single.{image_single}
-use Rattle.image_open.proofs.Whole.{opened_found}
+use Rattle.image_open.proofs.Whole.{nothing_proper, opened_found}
 use Rattle.image_open.proofs.Written.{image_read}
 
 abbrev Answer : Type 0
@@ -42,10 +42,10 @@ end_opens bytes (Err e) ended = tt
 
 pub end_only : (bytes : List ℕ) (shelf : Shelf) (r : Answer) → Ended bytes r → Opens bytes shelf → (r ≡ Ok shelf) ⊎ (r ≡ Err refusals.NoMemory)
 end_only bytes shelf r (opened entries h e) o =
-    let same : entries ≡ o.entries = ok_is entries o.entries ((image_single nothing_below bytes).same (Ok entries) (Ok o.entries) h (image_read bytes o.entries o.is_image o.verified)) in
+    let same : entries ≡ o.entries = ok_is entries o.entries ((image_single nothing_below bytes).same (Ok entries) (Ok o.entries) h (image_read nothing_below bytes o.entries nothing_proper o.is_image o.verified)) in
     inl (e ∙ ap (λ (z : Shelf). Ok z) (ap shelf_of same ∙ sym o.shelf_is))
 end_only bytes shelf r (faulty fault h e) o =
-    absurd (let f : done o.entries ≡ failed fault = (image_single nothing_below bytes).same (Ok o.entries) (Err fault) (image_read bytes o.entries o.is_image o.verified) h in cc)
+    absurd (let f : done o.entries ≡ failed fault = (image_single nothing_below bytes).same (Ok o.entries) (Err fault) (image_read nothing_below bytes o.entries nothing_proper o.is_image o.verified) h in cc)
 end_only bytes shelf r (starved e) o = inr e
 
 pub end_first : (bytes : List ℕ) (fault : ImageFault) (r : Answer) → Ended bytes r → r ≡ Err (refusals.Fault fault) → image nothing_below bytes (Err fault)

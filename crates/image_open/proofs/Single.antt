@@ -14,7 +14,7 @@ use Rattle.qstr_pool.specs.Pool.{Texts}
 use Rattle.image_grammar.specs.declared.entry.Opened.{Opened}
 use Rattle.image_grammar.specs.declared.fault.ImageFault.{ImageFault}
 use Rattle.image_grammar.specs.declared.fault.ImageFault.TheVariants.{Truncated, BadNumber, BadModule, TooBig}
-use Rattle.image_grammar.specs.Opening.{Base, number, count, IsTaken, own_text, table, use_of, use_at, use_part, number_in, name, qstr, qstr_table, body, raw, held, entry, modules, IsHeader, counts_below, nothing_is_below, base, parts, image}
+use Rattle.image_grammar.specs.Opening.{Base, number, count, IsTaken, own_text, pool_below, table, use_of, use_at, use_part, number_in, name, qstr, qstr_table, body, raw, held, entry, modules, IsHeader, counts_below, nothing_is_below, base, parts, image}
 use Rattle.image_grammar.specs.Steps.{Reading, Field, Bind, goes_on, stops, refuse, pure, judge, sought, choose, times}
 use Rattle.image_grammar.proofs.Inversion.{done, read, ok_is}
 
@@ -121,9 +121,9 @@ own_text_single pool bytes =
     bind_single _ _ (number_single bytes) (λ len. bind_single _ _ (sought_single _ _ (one_taken (len.0 + 1) len.1)) (λ whole.
     bind_single _ _ (sought_single _ _ (one_own whole.0)) (λ own. bind_single _ _ (judge_single _ _) (λ _. pure_single _))))
 
-table_single : (below : Base) (bytes : List ℕ) → IsSingle (table below bytes)
+table_single : (pool : Texts) (bytes : List ℕ) → IsSingle (table pool bytes)
 unfolding table
-table_single below bytes = bind_single _ _ (count_single _ bytes) (λ n. times_single own_text own_text_single n.0 _ n.1)
+table_single pool bytes = bind_single _ _ (count_single _ bytes) (λ n. times_single own_text own_text_single n.0 _ n.1)
 
 some_same : (a b : List ℕ) (r : Option (List ℕ)) → r ≡ Some a → r ≡ Some b → a ≡ b
 some_same a b r e k = cc
@@ -230,7 +230,7 @@ base_single below version bytes =
 parts_single : (below : Base) (bytes : List ℕ) → IsSingle (parts below bytes)
 unfolding parts
 parts_single below bytes =
-    bind_single _ _ (table_single below bytes) (λ pool. bind_single _ _ (modules_single below pool.0 pool.1) (λ opened.
+    bind_single _ _ (table_single (pool_below below) bytes) (λ pool. bind_single _ _ (modules_single below pool.0 pool.1) (λ opened.
     bind_single _ _ (judge_single _ _) (λ _. bind_single _ _ (judge_single _ _) (λ _. pure_single _))))
 
 pub image_single : (below : Base) (bytes : List ℕ) → IsSingle (image below bytes)

@@ -1,5 +1,5 @@
 -- An image that is spelled whole is read.
-use Rattle.std.proofs.Common.{◌≡◌, ℕ, zero, suc, ◌+◌, Bool, true, false, not, cond, ◌&&◌, ◌||◌, List, [], ◌∷◌, ◌++◌, length, Option, Some, None, Ok, refl, sym, ap, ap₂, subst, ◌∙◌, append_assoc, arith}
+use Rattle.std.proofs.Common.{◌≡◌, ℕ, zero, suc, ◌+◌, ◌≤◌, Bool, true, false, not, cond, ◌&&◌, ◌||◌, List, [], ◌∷◌, ◌++◌, length, length-append, Option, Some, None, Result, Ok, Err, refl, sym, ap, ap₂, subst, ◌∙◌, append_assoc, arith}
 use Rattle.std.specs.Prelude.{All, slice_get, position, option_map}
 use Rattle.std.specs.List.{list_any}
 use Rattle.std.specs.Str.{bytes_eq}
@@ -7,6 +7,7 @@ use Rattle.std.proofs.lemmas.List.{append-nil}
 use Rattle.std.proofs.lemmas.List.Elements.{recursion_from_All}
 use Rattle.std.proofs.lemmas.List.Folds.{list_any-append}
 use Rattle.std.proofs.lemmas.Slice.Eq.{bytes_eq-Decides}
+use Rattle.mpy_base.specs.declared.limits.TheConstants.{MAX_IMAGE_BYTES}
 use Rattle.mpy_tree.specs.File.{Many}
 use Rattle.qstr_pool.specs.declared.table.TheConstants.{FIRST_OWN}
 use Rattle.qstr_pool.specs.Pool.{Texts, all_differ}
@@ -16,10 +17,12 @@ use Rattle.bc_verify.specs.Verified.{IsVerified}
 use Rattle.bc_library.specs.Texts.{IsPlain, with_text, with_texts}
 use Rattle.bc_library.proofs.Pools.{with_static, with_own, same_first}
 use Rattle.image_grammar.specs.declared.entry.Entry.{Entry}
-use Rattle.image_grammar.specs.Image.{IsOwnText, IsImage, texts_used}
-use Rattle.image_grammar.specs.Opening.{nothing_below, with_last, own_text, pool_below, table, modules, parts, image}
-use Rattle.image_grammar.specs.Steps.{goes_on, times}
-use Rattle.image_grammar.proofs.Steps.{judged}
+use Rattle.image_grammar.specs.declared.fault.ImageFault.{ImageFault}
+use Rattle.image_grammar.specs.declared.fault.ImageFault.TheVariants.{Trailing}
+use Rattle.image_grammar.specs.Image.{IsOwnText, IsImage, Differ, texts_used}
+use Rattle.image_grammar.specs.Opening.{Base, with_last, own_text, pool_below, names_of, table, modules, parts, image}
+use Rattle.image_grammar.specs.Steps.{Reading, Bind, goes_on, judge, pure, times}
+use Rattle.image_grammar.proofs.Steps.{judged, unjudged}
 use Rattle.image_open.proofs.Pools.{differ_push}
 use Rattle.image_open.proofs.Taken.{AreNew, with_all, count_read, texts_read, entries_read, base_read}
 use Rattle.image_open.proofs.Uses.{IsProper}
@@ -98,36 +101,78 @@ plain_at text [] k x m e = absurd cc
 plain_at text (y ∷ ys) zero x m e = let same : y ≡ x = cc in subst IsPlain same (record { ascii = m.2.ascii; short = m.2.spells.small })
 plain_at text (y ∷ ys) (suc k) x m e = plain_at m.1 ys k x m.4 e
 
--- an image over nothing
--- =====================
+pub plain_both : (below own : List (List ℕ)) (text : List ℕ) (k : ℕ) (x : List ℕ) → ((i : ℕ) (t : List ℕ) → slice_get below i ≡ Some t → IsPlain t) → Many IsOwnText text own → slice_get (below ++ own) k ≡ Some x → IsPlain x
+plain_both [] own text k x each m e = plain_at text own k x m e
+plain_both (y ∷ ys) own text zero x each m e = each zero x e
+plain_both (y ∷ ys) own text (suc k) x each m e = plain_both ys own text k x (λ i t h. each (suc i) t h) m e
 
-pub image_read : (bytes : List ℕ) (entries : List Entry) → IsImage nothing_below entries bytes → All (λ e. IsVerified e.held) entries → image nothing_below bytes (Ok entries)
-unfolding image parts table modules
-image_read bytes entries s verified =
+-- an image, and what stands behind it
+-- ===================================
+
+regrouped : (front a b c d tail : List ℕ) → (front ++ (a ++ (b ++ (c ++ d)))) ++ tail ≡ front ++ (a ++ (b ++ (c ++ (d ++ tail))))
+regrouped front a b c d tail = simp append_assoc
+
+-- how the reading of an image ends where such bytes are left
+abbrev pub ends_with : List Entry → List ℕ → Reading (List Entry)
+ends_with entries left = Bind (judge (left ≡ []) Trailing) (λ _. pure entries)
+
+-- the pool of an image
+pub image_proper : (below : Base) (bytes : List ℕ) (entries : List Entry) → IsProper (pool_below below) → (s : IsImage below entries bytes) → IsProper s.pool
+image_proper below bytes entries below_proper s =
     let pool = s.pool in
-    let start = pool_below nothing_below in
-    let none : AreOnce [] = record { own = λ k text e. absurd (let f : slice_get [] k ≡ Some text = e in cc); differ = refl } in
-    let once : AreOnce pool.texts = subst (λ (z : Texts). AreOnce z.texts) (sym s.first_use) (once_texts start (texts_used entries) none) in
-    let news : AreNew start s.own = are_new start s.own (subst AreOnce s.pool_is once) in
-    let first : pool.first ≡ FIRST_OWN = ap (λ (z : Texts). z.first) s.first_use ∙ same_first start (texts_used entries) in
-    let made : with_all start s.own ≡ pool = ap₂ (λ (n : ℕ) (ts : List (List ℕ)). record { first = n; texts = ts }) (sym first) (sym s.pool_is) in
-    let proper : IsProper pool = record {
-      own = record { first = first; each = λ k text e. record { plain = plain_at s.texts s.own k text s.are_texts (sym (ap (λ (z : List (List ℕ)). slice_get z k) s.pool_is) ∙ e); own = once.own k text e } };
+    let start = pool_below below in
+    let once_below : AreOnce below.texts = record { own = λ k text e. (below_proper.own.each k text e).own; differ = below_proper.differ } in
+    let once : AreOnce pool.texts = subst (λ (z : Texts). AreOnce z.texts) (sym s.first_use) (once_texts start (texts_used entries) once_below) in
+    record {
+      own = record {
+        first = ap (λ (z : Texts). z.first) s.first_use ∙ same_first start (texts_used entries);
+        each = λ k text e. record {
+          plain = plain_both below.texts s.own s.texts k text (λ i t h. (below_proper.own.each i t h).plain) s.are_texts (sym (ap (λ (z : List (List ℕ)). slice_get z k) s.pool_is) ∙ e);
+          own = once.own k text e;
+        };
+      };
       differ = once.differ;
-    } in
-    let f = base_read nothing_below bytes s.front (s.text_count ++ (s.texts ++ (s.module_count ++ s.named))) s.is_front s.bytes_are in
+    }
+
+pub image_goes : (below : Base) (bytes tail : List ℕ) (entries : List Entry) (outcome : Result (List Entry) ImageFault) → IsProper (pool_below below) → IsImage below entries bytes → All (λ e. IsVerified e.held) entries → length (bytes ++ tail) ≤ MAX_IMAGE_BYTES
+    → ends_with entries tail outcome → image below (bytes ++ tail) outcome
+unfolding image parts table modules
+image_goes below bytes tail entries outcome below_proper s verified short last =
+    let pool = s.pool in
+    let start = pool_below below in
+    let proper = image_proper below bytes entries below_proper s in
+    let once : AreOnce pool.texts = record { own = λ k text e. (proper.own.each k text e).own; differ = proper.differ } in
+    let news : AreNew start s.own = are_new start s.own (subst AreOnce s.pool_is once) in
+    let first = proper.own.first in
+    let made : with_all start s.own ≡ pool = ap₂ (λ (n : ℕ) (ts : List (List ℕ)). record { first = n; texts = ts }) (sym first) (sym s.pool_is) in
+    let behind : List ℕ = s.text_count ++ (s.texts ++ (s.module_count ++ (s.named ++ tail))) in
+    let whole : bytes ++ tail ≡ s.front ++ behind = ap (λ (z : List ℕ). z ++ tail) s.bytes_are ∙ regrouped s.front s.text_count s.texts s.module_count s.named tail in
+    let f = base_read below (bytes ++ tail) s.front behind s.is_front whole in
     let few_texts = s.few_texts in
     let few_modules = s.few_modules in
-    let lengths : length pool.texts ≡ length s.own = ap length s.pool_is in
-    let texts = texts_read start s.own (s.texts ++ (s.module_count ++ s.named)) s.texts (s.module_count ++ s.named) s.are_texts news refl in
-    let read = entries_read nothing_below pool start [] entries s.named s.named [] proper s.first_use s.are_named s.differ (recursion_from_All (λ e. IsVerified e.held) entries verified) (sym (append-nil s.named)) in
+    let lengths : length pool.texts ≡ length below.texts + length s.own = ap length s.pool_is ∙ length-append below.texts s.own in
+    let names : below.names ++ names_of [] ≡ below.names = append-nil below.names in
+    let differ : Differ (below.names ++ names_of []) (names_of entries) = subst (λ (z : List (List ℕ)). Differ z (names_of entries)) (sym names) s.differ in
+    let texts = texts_read start s.own (s.texts ++ (s.module_count ++ (s.named ++ tail))) s.texts (s.module_count ++ (s.named ++ tail)) s.are_texts news refl in
+    let read = entries_read below pool start [] entries (s.named ++ tail) s.named tail proper s.first_use s.are_named differ (recursion_from_All (λ e. IsVerified e.held) entries verified) refl in
     let used : length (with_texts start (texts_used entries)).texts ≡ length pool.texts = ap (λ (z : Texts). length z.texts) (sym s.first_use) in
-    judged s.short
+    judged short
     (goes_on (f.0, f.1) f.2
-    (goes_on (s.text_count ++ (s.texts ++ (s.module_count ++ s.named))) f.3
-    (goes_on (pool, s.module_count ++ s.named)
-    (goes_on (length s.own, s.texts ++ (s.module_count ++ s.named)) (count_read _ (length s.own) _ s.text_count _ s.counts_texts (omega (arith, few_texts, lengths)) refl)
-    (subst (λ (z : Texts). times (length s.own) own_text start (s.texts ++ (s.module_count ++ s.named)) (Ok (z, s.module_count ++ s.named))) made texts))
-    (goes_on (record { entries = entries; used = length (with_texts start (texts_used entries)).texts }, [])
-    (goes_on (length entries, s.named) (count_read _ (length entries) _ s.module_count _ s.counts_modules (omega (arith, few_modules)) refl) read)
-    (judged used (judged refl refl))))))
+    (goes_on behind f.3
+    (goes_on (pool, s.module_count ++ (s.named ++ tail))
+    (goes_on (length s.own, s.texts ++ (s.module_count ++ (s.named ++ tail))) (count_read _ (length s.own) _ s.text_count _ s.counts_texts (omega (arith, few_texts, lengths)) refl)
+    (subst (λ (z : Texts). times (length s.own) own_text start (s.texts ++ (s.module_count ++ (s.named ++ tail))) (Ok (z, s.module_count ++ (s.named ++ tail)))) made texts))
+    (goes_on (record { entries = entries; used = length (with_texts start (texts_used entries)).texts }, tail)
+    (goes_on (length entries, s.named ++ tail) (count_read _ (length entries) _ s.module_count _ s.counts_modules (omega (arith, few_modules)) refl) read)
+    (judged used last)))))
+
+pub image_read : (below : Base) (bytes : List ℕ) (entries : List Entry) → IsProper (pool_below below) → IsImage below entries bytes → All (λ e. IsVerified e.held) entries → image below bytes (Ok entries)
+image_read below bytes entries proper s verified =
+    let same = append-nil bytes in
+    let short = s.short in
+    subst (λ (z : List ℕ). image below z (Ok entries)) same
+    (image_goes below bytes [] entries (Ok entries) proper s verified (omega (arith, short, ap length same)) (judged refl refl))
+
+-- bytes behind an image are the first fault
+pub image_trailing : (below : Base) (bytes tail : List ℕ) (entries : List Entry) → IsProper (pool_below below) → IsImage below entries bytes → All (λ e. IsVerified e.held) entries → (tail ≡ [] → ⊥) → length (bytes ++ tail) ≤ MAX_IMAGE_BYTES → image below (bytes ++ tail) (Err Trailing)
+image_trailing below bytes tail entries proper s verified some short = image_goes below bytes tail entries (Err Trailing) proper s verified short (unjudged some)

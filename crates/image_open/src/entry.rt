@@ -1,18 +1,22 @@
 //! The modules of an image.
 
-ghost use Rattle.std.specs.Prelude.{◌≡◌, ◌⊎◌, ◌<◌, ◌≤◌, length, IfOk};
+ghost use Rattle.std.specs.Prelude.{◌≡◌, ◌↔◌, ◌⊎◌, ◌<◌, ◌≤◌, [], ◌++◌, length, Contains, IsTrue, IfOk};
 ghost use Rattle.std.specs.List.{list_any};
 ghost use Rattle.std.specs.Str.{bytes_eq};
 ghost use Rattle.mpy_base.specs.declared.limits.TheConstants.{MAX_MODULES};
 ghost use Rattle.mpy_base.specs.declared.refused.Refused.TheVariants as refused;
+ghost use Rattle.bc_library.specs.Shelf.{names};
 ghost use Rattle.bc_verify.specs.Verified.{IsVerified};
+ghost use Rattle.image_base.specs.Base.{base_of};
 ghost use Rattle.image_grammar.specs.Opening as opening;
-ghost use Rattle.image_grammar.specs.Opening.{nothing_below};
+ghost use Rattle.image_grammar.specs.Opening.{names_of};
 ghost use Rattle.image_grammar.specs.Fine.{IsFinePool};
 ghost use Rattle.image_grammar.specs.Steps.{Gives, judge, times};
 ghost use Rattle.image_grammar.specs.declared.fault.ImageFault.TheVariants as faults;
 
+use bc_library::{Library, library_law};
 use bc_verify::{Verified, verify};
+use image_base::{count_modules, has_name};
 use image_grammar::{
     Entry, Field, ImageFault, Opened, Table, count, number, qstr_table, use_of, use_part,
 };
@@ -23,11 +27,22 @@ use mpy_tree::RawModule;
 use qstr_pool::Pool;
 use std::alloc::Global;
 
-/// Whether a module has the name.
-fn is_named(entries: &[Entry], name: &[u8]) -> bool
+/// Whether one of the modules has the name.
+fn is_among(entries: &[Entry], name: &[u8]) -> bool
     ensures { result ≡ list_any (λ entry. bytes_eq name.now entry.name) entries.now }
 {
     entries.iter().any(|entry| name == entry.name.bytes())
+}
+
+/// Whether a module below or one of these has the name.
+fn is_named(below: &Library, entries: &[Entry], name: &[u8]) -> bool
+    requires { below.now.refused ≡ [] }
+    ensures { IsTrue result ↔ Contains (names below.now ++ names_of entries.now) name.now }
+{
+    if has_name(below, name) {
+        return true;
+    }
+    is_among(entries, name)
 }
 
 /// The fault of a second module of the name.
@@ -42,12 +57,20 @@ fn twice(alloc: Global, name: &[u8]) -> Refused<ImageFault>
 
 /// The name of a module, and how many texts are used behind it.
 #[tactic(auto, unfolding(image_grammar::specs::Opening::name))]
-fn title<'a>(alloc: Global, pool: &Pool, opened: &Opened, bytes: &'a [u8]) -> Field<'a, (Text, u64)>
-    ensures { Gives (λ found. (found.0, found.1.now)) result (opening.name nothing_below pool.now opened.now bytes.now) }
+fn title<'a>(
+    alloc: Global,
+    below: &Library,
+    pool: &Pool,
+    opened: &Opened,
+    bytes: &'a [u8],
+) -> Field<'a, (Text, u64)>
+    requires { below.now.refused ≡ [] }
+    ensures { Gives (λ found. (found.0, found.1.now)) result
+        (opening.name (base_of below.now) pool.now opened.now bytes.now) }
 {
     let (n, rest) = number(bytes)?;
     let (name, used) = use_of(pool, opened.used, n)?;
-    if is_named(opened.entries.as_slice(), name) {
+    if is_named(below, opened.entries.as_slice(), name) {
         return Err(twice(alloc, name));
     }
     let used = use_part(pool, used, name)?;
@@ -118,46 +141,67 @@ fn held<'a>(
 #[tactic(auto, unfolding(image_grammar::specs::Opening::entry))]
 fn add_entry<'a>(
     alloc: Global,
+    below: &Library,
     pool: &Pool,
     opened: &mut Opened,
     bytes: &'a [u8],
 ) -> Result<&'a [u8], Refused<ImageFault>>
+    requires alone { below.now.refused ≡ [] }
     requires fine { IsFinePool pool.now }
     requires few { length opened.old.entries < MAX_MODULES }
-    ensures { Gives (λ rest. (opened.new, rest.now)) result (opening.entry nothing_below pool.now opened.old bytes.now) }
+    ensures { Gives (λ rest. (opened.new, rest.now)) result
+        (opening.entry (base_of below.now) pool.now opened.old bytes.now) }
 {
     let index = opened.entries.len() as u32;
-    let ((name, used), rest) = title(alloc, pool, opened, bytes)?;
+    let ((name, used), rest) = title(alloc, below, pool, opened, bytes)?;
     let ((held, used), rest) = held(alloc, pool, index, used, rest)?;
     opened.entries.push(Entry { name, held })?;
     opened.used = used;
     Ok(rest)
 }
 
-/// `count` modules.
-fn entries<'a>(alloc: Global, pool: &Pool, count: u32, bytes: &'a [u8]) -> Field<'a, Opened>
+/// `count` modules, of which the first stands where `used` texts are used.
+fn entries<'a>(
+    alloc: Global,
+    below: &Library,
+    pool: &Pool,
+    used: u64,
+    count: u32,
+    bytes: &'a [u8],
+) -> Field<'a, Opened>
+    requires alone { below.now.refused ≡ [] }
+    requires used { used ≡ length below.now.pool.texts }
     requires fine { IsFinePool pool.now }
     requires few { count ≤ MAX_MODULES }
     ensures { Gives (λ found. (found.0, found.1.now)) result
-        (times count (opening.entry nothing_below pool.now) (opening.none_opened nothing_below) bytes.now) }
+        (times count (opening.entry (base_of below.now) pool.now) (opening.none_opened (base_of below.now)) bytes.now) }
 {
     let mut opened = Opened {
         entries: Items::new(alloc),
-        used: 0,
+        used,
     };
     let mut rest = bytes;
     for _ in 0..count {
-        rest = add_entry(alloc, pool, &mut opened, rest)?;
+        rest = add_entry(alloc, below, pool, &mut opened, rest)?;
     }
     Ok((opened, rest))
 }
 
-/// The modules of an image that lies over nothing: their number, and these.
+/// The modules of an image over the library, whose pool has `used` texts: their number, and these.
 #[tactic(auto, unfolding(image_grammar::specs::Opening::modules))]
-pub(crate) fn modules<'a>(alloc: Global, pool: &Pool, bytes: &'a [u8]) -> Field<'a, Opened>
-    requires { IsFinePool pool.now }
-    ensures { Gives (λ found. (found.0, found.1.now)) result (opening.modules nothing_below pool.now bytes.now) }
+pub(crate) fn modules<'a>(
+    alloc: Global,
+    below: &Library,
+    pool: &Pool,
+    used: u64,
+    bytes: &'a [u8],
+) -> Field<'a, Opened>
+    requires alone { below.now.refused ≡ [] }
+    requires used { used ≡ length below.now.pool.texts }
+    requires fine { IsFinePool pool.now }
+    ensures { Gives (λ found. (found.0, found.1.now)) result (opening.modules (base_of below.now) pool.now bytes.now) }
 {
-    let (n, rest) = count(bytes, MAX_MODULES)?;
-    entries(alloc, pool, n, rest)
+    library_law(below);
+    let (n, rest) = count(bytes, MAX_MODULES - count_modules(below))?;
+    entries(alloc, below, pool, used, n, rest)
 }

@@ -17,7 +17,8 @@ use std::alloc::Global;
 fn opened(alloc: Global, bytes: &[u8]) -> Result<Library, Refused<ImageFault>>
     ensures { Ended bytes.now result }
 {
-    let entries = read_image(alloc, bytes)?;
+    let nothing = Library::new(alloc)?;
+    let entries = read_image(alloc, &nothing, bytes)?;
     Ok(shelve(alloc, entries)?)
 }
 

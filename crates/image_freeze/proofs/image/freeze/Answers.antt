@@ -18,16 +18,16 @@ written entries (Ok v) ends = ends.bytes_are
 written entries (Err e) ends = tt
 
 pub returns-clause-written : goal.returns-clause-written
-returns-clause-written c = written (entries_of c.args.modules.now) c.image_or_fault.result c.image_or_fault.ensures.ends
+returns-clause-written c = written (entries_of c.args.modules.now) c.first_image.result c.first_image.ensures.ends
 
 pub returns-clause-opens : goal.returns-clause-opens
 returns-clause-opens c = λ verified.
     let entries = entries_of c.args.modules.now in
-    if_ok_more (λ (v : Vec ℕ Global). IsImage nothing_below entries v.items) (λ (v : Vec ℕ Global). Opens v.items (shelf_of entries)) c.image_or_fault.result c.image_or_fault.ensures.image
+    if_ok_more (λ (v : Vec ℕ Global). IsImage nothing_below entries v.items) (λ (v : Vec ℕ Global). Opens v.items (shelf_of entries)) c.first_image.result c.first_image.ensures.image
     (λ v is. record { entries = entries; is_image = is; verified = entries_verified c.args.modules.now verified; shelf_is = refl })
 
 pub returns-clause-first : goal.returns-clause-first
-returns-clause-first c f is = told first_front nothing_below (entries_of c.args.modules.now) (λ v. v.items) c.image_or_fault.result c.image_or_fault.ensures.ends f is
+returns-clause-first c f is = told first_front nothing_below (entries_of c.args.modules.now) (λ v. v.items) c.first_image.result c.first_image.ensures.ends f is
 
 pub returns-clause-fault : goal.returns-clause-fault
-returns-clause-fault c f h = answered first_front nothing_below (entries_of c.args.modules.now) (λ v. v.items) c.image_or_fault.result c.image_or_fault.ensures.ends f h
+returns-clause-fault c f h = answered first_front nothing_below (entries_of c.args.modules.now) (λ v. v.items) c.first_image.result c.first_image.ensures.ends f h

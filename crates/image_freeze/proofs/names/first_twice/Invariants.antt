@@ -1,5 +1,6 @@
+use Rattle.bc_library.specs.Shelf.{names}
 use Rattle.image_freeze.proofs.Twice.{Walked, source_names}
 use Rattle.image_freeze.proofs.names.first_twice.Given as goal
 
 abbrev pub invariant-loop-place : goal.invariant-loop-place
-invariant-loop-place l = Walked (source_names l.modules) l.place
+invariant-loop-place l = Walked (names l.below) (source_names l.modules) l.place

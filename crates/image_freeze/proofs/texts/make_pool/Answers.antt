@@ -1,9 +1,7 @@
 use Rattle.std.proofs.Common.{◌≡◌, List, ℕ, sym, ap, subst, ◌∙◌}
 use Rattle.std.proofs.lemmas.Result.{err_from_is_err_and}
-use Rattle.qstr_pool.specs.Pool.{Texts}
 use Rattle.bc_library.specs.Texts.{with_texts}
 use Rattle.image_grammar.specs.Image.{texts_used}
-use Rattle.image_grammar.specs.Opening.{nothing_below, pool_below}
 use Rattle.image_freeze.specs.Frozen.{entries_of}
 use Rattle.image_freeze.specs.Uses.{PassesTable}
 use Rattle.image_freeze.proofs.Exits.{exit}
@@ -12,12 +10,10 @@ use Rattle.image_freeze.proofs.texts.make_pool.Goals as goal
 
 pub returns-in_err-use_modules-clause-fault : goal.returns-in_err-use_modules-clause-fault
 returns-in_err-use_modules-clause-fault c =
-    let p = err_from_is_err_and c.from_residual-in_err-use_modules.result c.from_residual-in_err-use_modules.ensures.1 in
+    let p = err_from_is_err_and c.from_residual.result c.from_residual.ensures.1 in
     let modules = c.args.modules.now in
-    exit (PassesTable c.in_ok-pool.pool (raw_texts modules)) (PassesTable (pool_below nothing_below) (texts_used (entries_of modules))) _ _ _ p.1 p.2 c.in_err-use_modules.ensures.fault
-    (λ f h. subst (λ (z : Texts). PassesTable z (texts_used (entries_of modules)) f) c.in_ok-pool.ensures (subst (λ (z : List (List ℕ)). PassesTable c.in_ok-pool.pool z f) (sym (used_is modules)) h))
+    exit (PassesTable c.args.below (raw_texts modules)) (PassesTable c.args.below (texts_used (entries_of modules))) _ _ _ p.1 p.2 c.in_err-use_modules.ensures.fault
+    (λ f h. subst (λ (z : List (List ℕ)). PassesTable c.args.below z f) (sym (used_is modules)) h)
 
 pub returns-clause-ok : goal.returns-clause-ok
-returns-clause-ok c =
-    let modules = c.args.modules.now in
-    c.in_ok-use_modules.ensures.ok ∙ (ap (λ (z : Texts). with_texts z (raw_texts modules)) c.in_ok-pool.ensures ∙ ap (with_texts (pool_below nothing_below)) (sym (used_is modules)))
+returns-clause-ok c = c.in_ok-use_modules.ensures.ok ∙ ap (with_texts c.args.below) (sym (used_is c.args.modules.now))

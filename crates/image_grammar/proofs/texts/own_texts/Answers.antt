@@ -1,22 +1,17 @@
-use Rattle.std.proofs.Common.{◌-◌, length, sym, ap, subst, arith}
+use Rattle.std.proofs.Common.{arith}
 use Rattle.std.proofs.lemmas.Result.{err_from_is_err_and}
-use Rattle.qstr_pool.specs.Pool.{Texts}
-use Rattle.image_grammar.specs.Opening.{own_text, pool_below, nothing_below}
+use Rattle.image_grammar.specs.Opening.{own_text}
 use Rattle.image_grammar.proofs.Fine.{text_grows}
-use Rattle.image_grammar.proofs.Times.{Reaches, starts, goes_further, ended, exit_further}
+use Rattle.image_grammar.proofs.Times.{starts, goes_further, ended, exit_further}
 use Rattle.image_grammar.proofs.texts.own_texts.Goals as goal
 
 pub returns-in_err-rest : goal.returns-in_err-rest
 returns-in_err-rest c =
-    let p = err_from_is_err_and c.from_residual-in_err-rest.result c.from_residual-in_err-rest.ensures.1 in
+    let p = err_from_is_err_and c.from_residual.result c.from_residual.ensures.1 in
     exit_further own_text _ _ _ _ _ _ _ _ _ _ p.1 p.2 c.loop-test.true c.in_err-rest.ensures c.loop.invariant.0
 
 pub loop-init : goal.loop-init
-loop-init c =
-    let e = c.in_ok-pool.ensures in
-    let start = pool_below nothing_below in
-    let reaches : Texts → Type 0 = λ z. Reaches own_text c.args.count start c.args.bytes.now (c.args.count - 0) z c.args.bytes.now in
-    (subst reaches (sym e) (starts own_text _ _ start c.args.bytes.now (omega arith)), ap (λ (z : Texts). length z.texts) e)
+loop-init c = (starts own_text _ _ c.args.pool c.args.bytes.now (omega arith), omega arith)
 
 pub loop-preserved : goal.loop-preserved
 loop-preserved c =

@@ -1,14 +1,12 @@
-use Rattle.std.proofs.Common.{◌≡◌, ℕ, true, false, List, sym, ap, subst, ◌∙◌}
-use Rattle.std.specs.List.{list_any}
-use Rattle.std.specs.Str.{bytes_eq}
+use Rattle.std.proofs.Common.{ℕ, List, ap, subst}
 use Rattle.std.proofs.lemmas.Result.{err_from_is_err_and}
 use Rattle.image_grammar.specs.declared.entry.Entry.{Entry}
 use Rattle.image_grammar.specs.declared.fault.ImageFault.TheVariants.{Twice}
 use Rattle.image_grammar.specs.Opening.{name}
 use Rattle.image_grammar.specs.Steps.{goes_on}
-use Rattle.image_grammar.proofs.Fine.{named_there, not_named}
 use Rattle.image_grammar.proofs.Inversion.{read}
 use Rattle.image_grammar.proofs.Steps.{exit, onward, onward_judged, judged, unjudged}
+use Rattle.image_open.proofs.Named.{IsNamed, other_name}
 use Rattle.image_open.proofs.Told.{told}
 use Rattle.image_open.proofs.entry.title.Goals as goal
 
@@ -28,9 +26,7 @@ pub returns-then-is_named : goal.returns-then-is_named
 unfolding name
 returns-then-is_named c =
     let given = c.in_ok-name.name.now in
-    let here = sym c.is_named.ensures ∙ c.if-is_named.true in
-    let any = subst (λ (z : List Entry). list_any (λ (e : Entry). bytes_eq given e.name) z ≡ true) c.as_slice.ensures here in
-    let there = named_there c.args.opened.now.entries given any in
+    let there = subst (λ (z : List Entry). IsNamed c.args.below.now z given) c.as_slice.ensures (c.is_named.ensures.0 c.if-is_named.true) in
     told _ _ (Twice given) c.twice.ensures
     (goes_on (c.in_ok-n.n, c.in_ok-n.rest.now) c.in_ok-n.ensures (goes_on (given, c.in_ok-name.used) c.in_ok-name.ensures (unjudged (λ never. never there))))
 
@@ -39,16 +35,14 @@ unfolding name
 returns-in_err-used c =
     let p = err_from_is_err_and c.from_residual-in_err-used.result c.from_residual-in_err-used.ensures.1 in
     let given = c.in_ok-name.name.now in
-    let here = sym c.is_named.ensures ∙ c.if-is_named.false in
-    let none = subst (λ (z : List Entry). list_any (λ (e : Entry). bytes_eq given e.name) z ≡ false) c.as_slice.ensures here in
+    let never = other_name c.args.below.now _ c.args.opened.now.entries given c.is_named.result c.as_slice.ensures c.is_named.ensures c.if-is_named.false in
     onward _ _ _ _ (c.in_ok-n.n, c.in_ok-n.rest.now) c.in_ok-n.ensures (onward _ _ _ _ (given, c.in_ok-name.used) c.in_ok-name.ensures
-    (onward_judged _ _ _ _ _ (not_named c.args.opened.now.entries given none) (exit _ _ _ _ _ _ p.1 p.2 c.in_err-used.ensures)))
+    (onward_judged _ _ _ _ _ never (exit _ _ _ _ _ _ p.1 p.2 c.in_err-used.ensures)))
 
 pub returns : goal.returns
 unfolding name
 returns c =
     let given = c.in_ok-name.name.now in
-    let here = sym c.is_named.ensures ∙ c.if-is_named.false in
-    let none = subst (λ (z : List Entry). list_any (λ (e : Entry). bytes_eq given e.name) z ≡ false) c.as_slice.ensures here in
+    let never = other_name c.args.below.now _ c.args.opened.now.entries given c.is_named.result c.as_slice.ensures c.is_named.ensures c.if-is_named.false in
     goes_on (c.in_ok-n.n, c.in_ok-n.rest.now) c.in_ok-n.ensures (goes_on (given, c.in_ok-name.used) c.in_ok-name.ensures
-    (judged (not_named c.args.opened.now.entries given none) (goes_on c.in_ok-used.used c.in_ok-used.ensures (ap (λ (t : List ℕ). read (t, c.in_ok-used.used) c.in_ok-n.rest.now) c.in_ok-new.ensures))))
+    (judged never (goes_on c.in_ok-used.used c.in_ok-used.ensures (ap (λ (t : List ℕ). read (t, c.in_ok-used.used) c.in_ok-n.rest.now) c.in_ok-new.ensures))))

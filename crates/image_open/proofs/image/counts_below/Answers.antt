@@ -2,7 +2,7 @@ use Rattle.std.proofs.Common.{refl}
 use Rattle.std.proofs.lemmas.Result.{err_from_is_err_and}
 use Rattle.image_grammar.specs.Opening.{counts_below}
 use Rattle.image_grammar.specs.Steps.{goes_on}
-use Rattle.image_grammar.proofs.Steps.{exit, onward, judged, unjudged}
+use Rattle.image_grammar.proofs.Steps.{exit, onward, judged, unjudged, not_true}
 use Rattle.image_open.proofs.image.counts_below.Goals as goal
 
 pub returns-in_err-texts : goal.returns-in_err-texts
@@ -17,20 +17,14 @@ returns-in_err-names c =
     let p = err_from_is_err_and c.from_residual-in_err-names.result c.from_residual-in_err-names.ensures.1 in
     onward _ _ _ _ (c.in_ok-texts.texts, c.in_ok-texts.rest.now) c.in_ok-texts.ensures (exit _ _ _ _ _ _ p.1 p.2 c.in_err-names.ensures)
 
-pub returns-then-texts-ne0 : goal.returns-then-texts-ne0
+pub returns-then-not-are_counts : goal.returns-then-not-are_counts
 unfolding counts_below
-returns-then-texts-ne0 c =
+returns-then-not-are_counts c =
     goes_on (c.in_ok-texts.texts, c.in_ok-texts.rest.now) c.in_ok-texts.ensures
-    (goes_on (c.in_ok-names.names, c.in_ok-names.rest.now) c.in_ok-names.ensures (unjudged (λ h. c.if-texts-ne0.true h.0)))
-
-pub returns-then-names-ne0 : goal.returns-then-names-ne0
-unfolding counts_below
-returns-then-names-ne0 c =
-    goes_on (c.in_ok-texts.texts, c.in_ok-texts.rest.now) c.in_ok-texts.ensures
-    (goes_on (c.in_ok-names.names, c.in_ok-names.rest.now) c.in_ok-names.ensures (unjudged (λ h. c.if-names-ne0.true h.1)))
+    (goes_on (c.in_ok-names.names, c.in_ok-names.rest.now) c.in_ok-names.ensures (unjudged (λ h. not_true _ (c.are_counts.ensures.1 h) c.if-not-are_counts.true)))
 
 pub returns : goal.returns
 unfolding counts_below
 returns c =
     goes_on (c.in_ok-texts.texts, c.in_ok-texts.rest.now) c.in_ok-texts.ensures
-    (goes_on (c.in_ok-names.names, c.in_ok-names.rest.now) c.in_ok-names.ensures (judged (c.if-texts-ne0.false, c.if-names-ne0.false) refl))
+    (goes_on (c.in_ok-names.names, c.in_ok-names.rest.now) c.in_ok-names.ensures (judged (c.are_counts.ensures.0 c.if-not-are_counts.false) refl))

@@ -1,34 +1,27 @@
-use Rattle.std.proofs.Common.{arith}
+use Rattle.std.proofs.Common.{◌≡◌, ◌∙◌, ℕ, List, Err, ap, sym, subst, inl, inr}
+use Rattle.std.specs.Prelude.{IsTrue}
 use Rattle.std.proofs.lemmas.Result.{err_from_is_err_and}
-use Rattle.image_grammar.specs.Opening.{image}
-use Rattle.image_grammar.proofs.Fine.{header_left, base_left}
-use Rattle.image_grammar.proofs.Steps.{exit, onward, onward_judged, unjudged}
+use Rattle.qstr_pool.specs.Pool.{Texts, all_differ}
+use Rattle.bc_library.specs.Own.{IsOwnPool}
+use Rattle.image_grammar.proofs.Steps.{no_memory}
 use Rattle.image_open.proofs.image.read_image.Goals as goal
 
-pub returns-in_err-version : goal.returns-in_err-version
-unfolding image
-returns-in_err-version c =
+pub image-requires-clause-alone : goal.image-requires-clause-alone
+image-requires-clause-alone c = c.requires.alone
+
+pub returns-in_err-pool-clause-read : goal.returns-in_err-pool-clause-read
+returns-in_err-pool-clause-read c =
     let p = err_from_is_err_and c.from_residual.result c.from_residual.ensures.1 in
-    onward_judged _ _ _ _ _ (omega arith) (exit _ _ _ _ _ _ p.1 p.2 c.in_err-version.ensures)
+    no_memory _ _ _ _ p.1 p.2
 
-pub returns-in_err-rest : goal.returns-in_err-rest
-unfolding image
-returns-in_err-rest c =
-    let p = err_from_is_err_and c.from_residual-in_err-rest.result c.from_residual-in_err-rest.ensures.1 in
-    onward_judged _ _ _ _ _ (omega arith) (onward _ _ _ _ (c.in_ok-version.version, c.in_ok-version.rest.now) c.in_ok-version.ensures (exit _ _ _ _ _ _ p.1 p.2 c.in_err-rest.ensures))
+pub returns-in_err-pool-clause-proper : goal.returns-in_err-pool-clause-proper
+returns-in_err-pool-clause-proper c =
+    let p = err_from_is_err_and c.from_residual.result c.from_residual.ensures.1 in
+    inr (p.1 ∙ ap (λ z. Err z) p.2)
 
-pub returns-then-bytes-gt-MAX_IMAGE_BYTES : goal.returns-then-bytes-gt-MAX_IMAGE_BYTES
-unfolding image
-returns-then-bytes-gt-MAX_IMAGE_BYTES c = unjudged (λ short. omega arith)
-
-pub parts-requires : goal.parts-requires
-parts-requires c =
-    let first = header_left _ _ _ c.in_ok-version.ensures in
-    let second = base_left _ _ _ _ c.in_ok-rest.ensures in
-    omega (arith, first, second)
-
-pub returns : goal.returns
-unfolding image
-returns c =
-    onward_judged _ _ _ _ _ (omega arith) (onward _ _ _ _ (c.in_ok-version.version, c.in_ok-version.rest.now) c.in_ok-version.ensures
-    (onward _ _ _ _ c.in_ok-rest.rest.now c.in_ok-rest.ensures c.parts.ensures))
+pub returns-clause-proper : goal.returns-clause-proper
+returns-clause-proper c =
+    inl (
+      subst IsOwnPool c.in_ok-pool.ensures.pool c.in_ok-pool.ensures.proper.0,
+      subst (λ (z : Texts). IsTrue (all_differ z.texts)) c.in_ok-pool.ensures.pool c.in_ok-pool.ensures.proper.1,
+    )

@@ -1,8 +1,9 @@
 use Rattle.std.proofs.Common.{◌≡◌, Ok, Err}
+use Rattle.image_grammar.specs.Opening.{nothing_below}
 use Rattle.image_grammar.proofs.Inversion.{done, ok_is}
 use Rattle.image_open.proofs.Results.{failed}
 use Rattle.image_open.proofs.Single.{image_single}
-use Rattle.image_open.proofs.Whole.{opened_found}
+use Rattle.image_open.proofs.Whole.{nothing_proper, opened_found}
 use Rattle.image_open.proofs.Written.{image_read}
 use Rattle.image_open.proofs.laws.image_law.Goals as goal
 
@@ -19,4 +20,4 @@ pub returns-clause-found : goal.returns-clause-found
 returns-clause-found c = λ bytes entries h. let s = opened_found bytes entries h in (s.0, s.1)
 
 pub returns-clause-read : goal.returns-clause-read
-returns-clause-read c = λ bytes entries is verified. image_read bytes entries is verified
+returns-clause-read c = λ bytes entries is verified. image_read nothing_below bytes entries nothing_proper is verified

@@ -1,0 +1,4 @@
+pub mod Base
+pub mod Behind
+pub mod Opened
+pub mod Results

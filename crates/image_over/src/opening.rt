@@ -1,0 +1,63 @@
+//! Images opened over a library.
+
+ghost use Rattle.std.specs.Prelude.{◌≡◌, ◌⊎◌, IfErr, IfOk, IsTrue, Ok, Err};
+ghost use Rattle.qstr_pool.specs.Pool.{all_differ};
+ghost use Rattle.bc_library.specs.Own.{IsOwnPool};
+ghost use Rattle.bc_library.specs.Shelf.{Shelf};
+ghost use Rattle.image_grammar.specs.declared.fault.ImageFault.{ImageFault};
+ghost use Rattle.image_grammar.specs.Opening.{FirstFault, pool_below};
+ghost use Rattle.image_base.specs.Base.{IsOpened, base_of};
+ghost use Rattle.image_open.specs.OpensOn.{OpensOn};
+ghost use Rattle.image_over.specs.Ended.{Ended};
+
+use crate::copies::together;
+use bc_library::{Library, library_law};
+use image_grammar::ImageFault;
+use image_open::read_image;
+use mpy_base::Refused;
+use std::alloc::Global;
+
+/// A library of copies of the modules below and of an image's behind them.
+fn opened(alloc: Global, below: &Library, bytes: &[u8]) -> Result<Library, Refused<ImageFault>>
+    requires { IsOpened below.now }
+    ensures ends { Ended below.now bytes.now result }
+    ensures proper { (IsOwnPool (pool_below (base_of below.now)) × IsTrue (all_differ below.now.pool.texts))
+        ⊎ (result ≡ Err Refused.NoMemory) }
+{
+    library_law(below);
+    let entries = read_image(alloc, below, bytes)?;
+    Ok(together(alloc, below, entries)?)
+}
+
+/// Opens an image of version 1 or 2 over the library below, to a library of the modules below and behind them the image's,
+/// in their order. The texts of its pool have the same numbers there. The modules below are copied and verified once more,
+/// so that a refusal hands back the library as it was.
+pub fn open_on(
+    alloc: Global,
+    below: Library,
+    bytes: &[u8],
+) -> Result<Library, (Refused<ImageFault>, Library)>
+    requires { IsOpened below }
+
+    // What is opened is an image over the library below of the further modules, which are verified, and what is such an
+    // image is opened, unless memory runs out.
+    ensures opens { IfOk result (OpensOn below bytes.now) }
+    ensures only { (shelf : Shelf) → OpensOn below bytes.now shelf
+        → (result ≡ Ok shelf) ⊎ (result ≡ Err (Refused.NoMemory, below)) }
+
+    // A fault is the first one in the order of the bytes.
+    ensures first { (fault : ImageFault) → result ≡ Err (Refused.Fault fault, below)
+        → FirstFault (base_of below) bytes.now fault }
+    ensures fault { (fault : ImageFault) → FirstFault (base_of below) bytes.now fault
+        → (result ≡ Err (Refused.Fault fault, below)) ⊎ (result ≡ Err (Refused.NoMemory, below)) }
+
+    // A refusal hands the library below back as it was. What is opened may lie below a further image.
+    ensures back { IfErr result (λ refusal. refusal.1 ≡ below) }
+    ensures opened { IfOk result IsOpened }
+{
+    library_law(&below);
+    match opened(alloc, &below, bytes) {
+        Ok(library) => Ok(library),
+        Err(refused) => Err((refused, below)),
+    }
+}
