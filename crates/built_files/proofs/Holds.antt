@@ -15,7 +15,7 @@ use Rattle.library_files.specs.declared.entry.Entry.TheVariants as entries
 use Rattle.library_files.specs.declared.limit.Limit.{Limit}
 use Rattle.library_files.specs.Comes.{ComesTo, FileComesTo, ModuleFiles, ending}
 use Rattle.library_files.specs.Loads.{Loaded, LoadsBy, LoadsFrom, limit_of, main_name}
-use Rattle.program_runs.specs.Units.{IsUnitFile, HasEntry, AreUnits}
+use Rattle.program_runs.specs.Units.{IsUnitFile, HasUnit, HasEntry, AreUnits}
 use Rattle.built_files.specs.Built.{IsBuilt, IsBuiltEntry, IsBuiltProgram}
 use Rattle.built_files.proofs.Came.{Came, CameAs, came}
 
@@ -56,9 +56,11 @@ module _ (a_file : (unit : Unit) (bytes : List ℕ) → IsBuilt unit bytes → (
 
     by_came : Came (ComesTo files base) main shelf → AreUnits program shelf
     by_came came = record {
-      main_name_is = built.main_name_is;
-      main = record { place = came.place; found = came.main_found; file = main; held = came.main_held; is_file = is_unit program.main bytes main built.main is_main };
-      entries = λ name other. one_entry name other (member_of shelf name) refl (came.others name other);
+      main = subst (λ (name : List ℕ). HasUnit shelf name program.main) (sym built.main_name_is)
+          (record { place = came.place; found = came.main_found; file = main; held = came.main_held; is_file = is_unit program.main bytes main built.main is_main });
+      entries = λ name other.
+          let apart : name ≡ main_name → ⊥ = λ e. other e built.main_name_is in
+          one_entry name apart (member_of shelf name) refl (came.others name apart);
     }
 
     by_limit : (limit : Option Limit) (size : ℕ) → LoadsBy limit (ComesTo files base) main size (Loaded shelf) → AreUnits program shelf

@@ -1,10 +1,10 @@
 //! Numbers, instructions and preludes as their bytes spell them, and texts by numbers.
 
-use crate::spelling::{from_hex, from_text, to_hex, to_text};
+use crate::spelling::{to_hex, to_text};
 use bc_ops::{CodeFault, Instr, decode_at};
 use bc_prelude::{Prelude, PreludeFault, read_prelude, write_size};
 use mpy_base::{NoMemory, VuintFault, read_vuint, write_vuint};
-use qstr_pool::{static_number, static_text};
+use qstr_pool::static_text;
 use std::alloc::{AllocError, Global};
 
 fn vuint(alloc: Global, read: Result<(u32, usize), VuintFault>) -> Result<String, AllocError> {
@@ -88,22 +88,31 @@ fn text_of_number(alloc: Global, word: &str) -> Result<String, AllocError> {
     }
 }
 
-fn number_of_text(alloc: Global, text: &[u8]) -> Result<String, AllocError> {
-    match static_number(text) {
-        Some(n) => format!(in alloc; "{n}"),
-        None => String::from_str(alloc, "none"),
-    }
+/// What a call that is given bytes answers, if there is one.
+pub(crate) fn of_bytes(
+    alloc: Global,
+    call: &str,
+    bytes: &[u8],
+) -> Result<Option<String>, AllocError> {
+    let answer = match call {
+        "vuint" => vuint(alloc, read_vuint(bytes, 0))?,
+        "decode" => decoded(alloc, decode_at(bytes, 0))?,
+        "prelude" => prelude(alloc, read_prelude(bytes))?,
+        _ => return Ok(None),
+    };
+    Ok(Some(answer))
 }
 
-pub(crate) fn answer(alloc: Global, call: &str, given: &str) -> Result<Option<String>, AllocError> {
+/// What a call that is given a number answers, if there is one.
+pub(crate) fn of_number(
+    alloc: Global,
+    call: &str,
+    word: &str,
+) -> Result<Option<String>, AllocError> {
     let answer = match call {
-        "vuint" => vuint(alloc, read_vuint(&from_hex(alloc, given)?, 0))?,
-        "vuint_of" => vuint_of(alloc, given)?,
-        "decode" => decoded(alloc, decode_at(&from_hex(alloc, given)?, 0))?,
-        "prelude" => prelude(alloc, read_prelude(&from_hex(alloc, given)?))?,
-        "size_of" => size_of(alloc, given)?,
-        "text" => text_of_number(alloc, given)?,
-        "number" => number_of_text(alloc, &from_text(alloc, given)?)?,
+        "vuint_of" => vuint_of(alloc, word)?,
+        "size_of" => size_of(alloc, word)?,
+        "text" => text_of_number(alloc, word)?,
         _ => return Ok(None),
     };
     Ok(Some(answer))

@@ -3,23 +3,42 @@
 #![tactic(auto)]
 
 mod codes;
+mod exprs;
 mod numbers;
 mod spelling;
+mod stmts;
 mod streams;
 mod tokens;
+mod trees;
 
+use crate::spelling::{from_hex, from_text};
 use std::alloc::{AllocError, Global};
 use std::{fs, io};
 
+/// What a call that is given bytes or a text answers, if there is one.
+fn spelled(alloc: Global, call: &str, given: &str) -> Result<Option<String>, AllocError> {
+    let bytes = from_hex(alloc, given)?;
+    if let Some(answer) = codes::of_bytes(alloc, call, &bytes)? {
+        return Ok(Some(answer));
+    }
+    let text = from_text(alloc, given)?;
+    tokens::of_text(alloc, call, &text)
+}
+
+/// What a call that is given numbers answers, if there is one.
+fn counted(alloc: Global, call: &str, given: &str) -> Result<Option<String>, AllocError> {
+    match numbers::answer(alloc, call, given)? {
+        Some(answer) => Ok(Some(answer)),
+        None => codes::of_number(alloc, call, given),
+    }
+}
+
 /// What is answered to a call with these words.
 fn answer(alloc: Global, call: &str, given: &str) -> Result<String, AllocError> {
-    if let Some(answer) = numbers::answer(alloc, call, given)? {
+    if let Some(answer) = counted(alloc, call, given)? {
         return Ok(answer);
     }
-    if let Some(answer) = codes::answer(alloc, call, given)? {
-        return Ok(answer);
-    }
-    match tokens::answer(alloc, call, given)? {
+    match spelled(alloc, call, given)? {
         Some(answer) => Ok(answer),
         None => String::from_str(alloc, "no such call"),
     }

@@ -17,9 +17,14 @@ fn byte_of(high: u8, low: u8) -> u8 {
 /// The bytes of a row in hexadecimal.
 pub(crate) fn from_hex(alloc: Global, digits: &str) -> Result<Vec<u8>, AllocError> {
     let mut bytes = Vec::new(alloc);
-    for pair in digits.as_bytes().chunks_exact(2) {
-        if let [high, low] = pair {
-            bytes.push(byte_of(*high, *low))?;
+    let mut first = None;
+    for digit in digits.as_bytes() {
+        match first {
+            Some(high) => {
+                bytes.push(byte_of(high, *digit))?;
+                first = None;
+            }
+            None => first = Some(*digit),
         }
     }
     Ok(bytes)

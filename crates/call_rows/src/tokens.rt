@@ -1,6 +1,7 @@
 //! Tokens of sources, what these begin with, and the locals of functions.
 
-use crate::spelling::{from_text, to_text};
+use crate::spelling::to_text;
+use crate::trees::trees;
 use mpy_base::{Refused, SourceFault, Text};
 use py_parser::parse;
 use py_scopes::{NameSlots, scopes};
@@ -8,6 +9,7 @@ use py_tokens::{
     NumberFault, Operator, Spelled, Tok, Token, name_len, number_len, number_of, operator_at,
     read_word, tokens,
 };
+use qstr_pool::static_number;
 use std::alloc::{AllocError, Global};
 
 fn word(alloc: Global, text: &[u8]) -> Result<String, AllocError> {
@@ -131,18 +133,32 @@ fn locals(alloc: Global, source: &[u8]) -> Result<String, AllocError> {
     Ok(text)
 }
 
-pub(crate) fn answer(alloc: Global, call: &str, given: &str) -> Result<Option<String>, AllocError> {
-    let bytes = from_text(alloc, given)?;
+fn length(alloc: Global, length: usize) -> Result<String, AllocError> {
+    format!(in alloc; "{length}")
+}
+
+fn number_of_text(alloc: Global, text: &[u8]) -> Result<String, AllocError> {
+    match static_number(text) {
+        Some(n) => format!(in alloc; "{n}"),
+        None => String::from_str(alloc, "none"),
+    }
+}
+
+/// What a call that is given a text answers, if there is one.
+pub(crate) fn of_text(
+    alloc: Global,
+    call: &str,
+    text: &[u8],
+) -> Result<Option<String>, AllocError> {
     let answer = match call {
-        "word" => word(alloc, &bytes)?,
-        "name" => {
-            let len = name_len(&bytes);
-            format!(in alloc; "{len}")?
-        }
-        "operator" => operator(alloc, &bytes)?,
-        "int" => number(alloc, &bytes)?,
-        "tokens" => all_tokens(alloc, &bytes)?,
-        "locals" => locals(alloc, &bytes)?,
+        "word" => word(alloc, text)?,
+        "name" => length(alloc, name_len(text))?,
+        "number" => number_of_text(alloc, text)?,
+        "operator" => operator(alloc, text)?,
+        "int" => number(alloc, text)?,
+        "tokens" => all_tokens(alloc, text)?,
+        "locals" => locals(alloc, text)?,
+        "trees" => trees(alloc, text)?,
         _ => return Ok(None),
     };
     Ok(Some(answer))

@@ -17,7 +17,8 @@ use mpy_base::{NoMemory, Room};
 use mpy_io::{Failed, Port, Sink};
 use port_set::PortSet;
 use std::alloc::Global;
-use vm_machine::{open, run};
+use vm_cache::Cache;
+use vm_machine::{open, run_kept};
 use vm_programs::program_law;
 
 /// Runs the library's module of this number as the main one, in an arena of this room, for these steps at most. What was printed
@@ -54,7 +55,11 @@ pub fn run_library<S: Sink, P: Port, E: Sink>(
         Ok(vm) => vm,
         Err(NoMemory) => return RunEnd::NoMemory,
     };
-    match run(&mut vm, library, &rows, out, ports, steps) {
+    let mut cache = match Cache::new(alloc, library, &rows) {
+        Ok(cache) => cache,
+        Err(NoMemory) => return RunEnd::NoMemory,
+    };
+    match run_kept(&mut vm, library, &rows, &mut cache, out, ports, steps) {
         Ok(()) => {}
         Err(Failed) => return RunEnd::WriteFault,
     }

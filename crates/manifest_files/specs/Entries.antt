@@ -1,5 +1,5 @@
 -- The entries of a manifest.
-use Rattle.std.specs.Prelude.{◌≡◌, ◌⊎◌, ℕ, zero, suc, ◌+◌, ◌==◌, nat_lt, Bool, if◌then◌else◌, List, [], ◌∷◌, ◌++◌, length, take, map, Option, Some, None, Result, Ok, Err}
+use Rattle.std.specs.Prelude.{◌≡◌, ◌⊎◌, ℕ, zero, suc, ◌+◌, ◌==◌, nat_lt, nat_le, Bool, ◌&&◌, if◌then◌else◌, List, [], ◌∷◌, ◌++◌, length, take, map, Option, Some, None, Result, Ok, Err}
 use Rattle.std.specs.Str.{bytes_eq}
 use Rattle.std.specs.List.{list_all, list_any}
 use Rattle.mpy_base.specs.declared.limits.TheConstants.{MAX_MODULES}
@@ -74,10 +74,19 @@ include_saying opened name line path =
     if is_ascii path then (if is_open opened (folder_of name ++ path) then faulty (Loop (folder_of name ++ path)) else Another (folder_of name ++ path))
     else faulty (BadCall name line)
 
+-- its names and its path are ASCII, as each literal is, and its level is one of the four
+abbrev pub is_plain : Entry → Bool
+is_plain entry = is_ascii entry.«module» && (is_ascii entry.path && (is_ascii entry.source && nat_le entry.opt 3))
+
+-- entries in the folder of a manifest of that name
+abbrev pub freeze_saying : (name : List ℕ) → (line : ℕ) → List Entry → Saying
+freeze_saying name line entries =
+    if list_all is_plain entries then Itself (map (said_entry (folder_of name)) entries) else faulty (BadCall name line)
+
 abbrev pub order_saying : List (List ℕ) → (name : List ℕ) → (line : ℕ) → Option Order → Saying
 order_saying opened name line None = faulty (BadCall name line)
 order_saying opened name line (Some (Include path)) = include_saying opened name line path
-order_saying opened name line (Some (Freeze entries)) = Itself (map (said_entry (folder_of name)) entries)
+order_saying opened name line (Some (Freeze entries)) = freeze_saying name line entries
 order_saying opened name line (Some Nothing) = Itself []
 order_saying opened name line (Some (Require wanted)) = faulty (Required wanted)
 

@@ -1,11 +1,12 @@
 //! The entries of a manifest.
 
-ghost use Rattle.std.specs.Prelude.{◌≡◌, ℕ, ◌<◌, ◌≤◌, List, Ok, Err, OnOk, IfOk, IfSome, IsUtf8, true, false};
+ghost use Rattle.std.specs.Prelude.{◌≡◌, ℕ, All, ◌<◌, ◌≤◌, List, Ok, Err, OnOk, IfOk, IfSome, IsUtf8, true, false};
 ghost use Rattle.mpy_base.specs.declared.refused.Refused.TheVariants as refused;
 ghost use Rattle.mpy_io.specs.Count.{Counts};
 ghost use Rattle.mpy_io.specs.Files.{FileOf};
 ghost use Rattle.manifest_files.specs.declared.fault.ManifestFault.{ManifestFault as Fault};
 ghost use Rattle.manifest_files.specs.Answers.{Tells, is_failed, is_read_fault};
+ghost use Rattle.manifest_files.specs.Plain.{IsPlain};
 ghost use Rattle.manifest_files.specs.Entries.{Answer, Says, LineSays, AreSaid, AreEntries, IsAnswer, IsFault};
 
 use crate::fault::ManifestFault;
@@ -47,6 +48,7 @@ fn one_line<F: Folder>(
     ensures opened { OnOk result (opened.new.items ≡ opened.old.items) }
     ensures same { F.files folder.new ≡ F.files folder.old }
     ensures cause { Counts (F.count folder.old) (F.count folder.new) (is_failed result) }
+    ensures plain { All IsPlain entries.old.items → OnOk result (All IsPlain entries.new.items) }
 {
     match follow(alloc, opened, name, line, entries) {
         Ok(None) => Ok(()),
@@ -71,6 +73,7 @@ fn all_lines<F: Folder>(
     ensures opened { OnOk result (opened.new.items ≡ opened.old.items) }
     ensures same { F.files folder.new ≡ F.files folder.old }
     ensures cause { Counts (F.count folder.old) (F.count folder.new) (is_failed result) }
+    ensures plain { All IsPlain entries.old.items → OnOk result (All IsPlain entries.new.items) }
 {
     for line in lines {
         match one_line(alloc, folder, left, opened, name, line, entries) {
@@ -96,6 +99,7 @@ fn manifest<F: Folder>(
     ensures opened { OnOk result (opened.new.items ≡ opened.old.items) }
     ensures same { F.files folder.new ≡ F.files folder.old }
     ensures cause { Counts (F.count folder.old) (F.count folder.new) (is_failed result) }
+    ensures plain { All IsPlain entries.old.items → OnOk result (All IsPlain entries.new.items) }
 {
     let this = Text::new(alloc, name.as_bytes())?;
     if left == 0 {
@@ -127,6 +131,9 @@ pub fn collect<F: Folder>(
         → is_read_fault fault ≡ false → IsFault files name.now fault) }
     ensures same { F.files folder.new ≡ F.files folder.old }
     ensures cause { Counts (F.count folder.old) (F.count folder.new) (is_failed result) }
+
+    // The names of an entry are ASCII, its path is a text, and its level is one of the four.
+    ensures plain { IfOk result (λ entries. All IsPlain entries.items) }
 {
     let mut opened = Vec::new(alloc);
     let mut entries = Vec::new(alloc);

@@ -1,8 +1,10 @@
 //! The names of included manifests.
 
 ghost use Rattle.std.specs.Prelude.{◌≡◌, ◌⊎◌, ◌<◌, ◌≤◌, ◌-◌, get_or, length, IsUtf8};
+ghost use Rattle.std.specs.List.{list_all};
 ghost use Rattle.manifest_files.specs.Entries as spec;
 
+use manifest_lines::Entry;
 use mpy_base::Text;
 
 /// How many bytes stand up to and with the last `/`.
@@ -32,6 +34,21 @@ pub(crate) fn is_ascii(text: &[u8]) -> bool
     ensures { result ≡ spec.is_ascii text.now }
 {
     text.iter().all(|byte| *byte < 128)
+}
+
+fn is_plain(entry: &Entry) -> bool
+    ensures { result ≡ spec.is_plain entry.now }
+{
+    is_ascii(entry.module.bytes())
+        && is_ascii(entry.path.bytes())
+        && is_ascii(entry.source.bytes())
+        && entry.opt <= 3
+}
+
+pub(crate) fn are_plain(entries: &[Entry]) -> bool
+    ensures { result ≡ list_all spec.is_plain entries.now }
+{
+    entries.iter().all(|entry| is_plain(entry))
 }
 
 pub(crate) fn is_open(names: &[Text], name: &[u8]) -> bool

@@ -1,87 +1,64 @@
-//! Whole commands: each row of the files in data/ has a command's words, the files that its folder holds, and what comes of it.
+//! Whole commands, by tables of data: a folder, and commands that are called in it one after another, through the top call with the forms
+//! in memory. It tells each command that comes to something else.
 //!
-//! A row's first line is `$` with the words. Of the others, `@` has a file's name; `|` a line of it, `.` a text, `*` a line so
-//! often, `~` a text so often, and `x` bytes in hexadecimal; `?` the answers of a port; `!` a call that fails of the folder, of the
-//! output or of the port; `=` the status; `w` the numbers that the port has written;
-//! `>` a line that is printed, `+` a text, and `<` says that only a front of it is; `-` is a line that is said. `^` names a file
-//! that is there at the end with the bytes in `o`, in hexadecimal, or isn't there where these are none.
+//! The file `tables` has the names of the files with cases.
+//!
+//! A case begins with `#` and its title, and has its commands behind its folder; in a file whose first line has no `#` each command is
+//! one, and its folder stands behind it. `@` has a file's name; `|` a line of it, `.` a text, `x` bytes in hexadecimal, and `*`, `~` and
+//! `y` one of these so often. In front of the commands `>` is a line that the case's programs print, and `+` a text.
+//!
+//! `$` has a command's words. `=` is its status; `%` says how many bytes of the case's lines it prints, and `>` and `+` what else; `<`
+//! says that only a front of that is printed. `-` is a line that it says. `?` has the answers of a port, and `w` the numbers that the port
+//! has written. `!` is a call that fails: of the folder, counted over all commands, of the output or of the port. `^` names a file that is
+//! there behind the command with the bytes in `o`, in hexadecimal, or isn't there where these are none.
 #![tactic(auto)]
 
-mod row;
+mod case;
+mod command;
+mod parts;
 
-use crate::row::Row;
+use crate::case::{Case, Count};
 use std::alloc::{AllocError, Global};
 use std::process::ExitCode;
 use std::{fs, io};
 
-const FILES: [&str; 12] = [
-    "codes",
-    "files",
-    "goes",
-    "library",
-    "limits",
-    "listings",
-    "merged",
-    "runs",
-    "sources",
-    "translated",
-    "words",
-    "written",
-];
-
-/// How many rows were tried, and the number of the first one that came to something else.
-#[derive(Clone, Copy)]
-struct Count {
-    rows: usize,
-    wrong: Option<usize>,
-}
-
-impl Count {
-    /// Tries a row, if there is one.
-    fn add(&mut self, alloc: Global, row: Option<Row>) -> Result<(), AllocError> {
-        let Some(row) = row else {
-            return Ok(());
-        };
-        self.rows = self.rows.saturating_add(1);
-        if !row.is_so(alloc)? && self.wrong.is_none() {
-            self.wrong = Some(self.rows);
-        }
-        Ok(())
-    }
-}
-
-/// Tries the rows of a file.
+/// Tries the cases of a table.
 fn tried(alloc: Global, text: &str) -> Result<Count, AllocError> {
-    let mut count = Count {
-        rows: 0,
-        wrong: None,
-    };
-    let mut row = None;
+    let first = if text.starts_with("#") { "#" } else { "$" };
+    let mut count = Count::new(alloc);
+    let mut case = Case::new(alloc);
     for line in text.split("\n") {
-        if line.starts_with("$") {
-            count.add(alloc, row)?;
-            row = Some(Row::new(alloc, line)?);
-        } else if let Some(row) = &mut row {
-            row.add(alloc, line)?;
+        if line.starts_with(first) {
+            count.add(alloc, case)?;
+            case = Case::new(alloc);
+        }
+        if !line.starts_with("#") {
+            case.add(alloc, line)?;
         }
     }
-    count.add(alloc, row)?;
+    count.add(alloc, case)?;
     Ok(count)
 }
 
-fn main(rt: HostRuntime) -> io::Result<ExitCode> {
+/// Tells what a table's commands come to, and gives the status of the program.
+fn tell(rt: &HostRuntime, name: &str, count: &Count) -> io::Result<u8> {
+    let commands = count.commands;
+    println!(rt; "{name}: {commands} commands")?;
     let mut status = 0;
-    for name in FILES {
+    for (case, command) in count.wrong.iter() {
+        println!(rt; "{name}: case {case}: command {command} comes to something else")?;
+        status = 1;
+    }
+    Ok(status)
+}
+
+fn main(rt: HostRuntime) -> io::Result<ExitCode> {
+    let tables = fs::read_to_string(&rt, "tables")?;
+    let mut status = 0;
+    for name in tables.trim_end().split("\n") {
         let text = fs::read_to_string(&rt, name)?;
         let count = tried(rt.alloc(), &text)?;
-        let rows = count.rows;
-        match count.wrong {
-            None => println!(rt; "{name}: {rows} rows")?,
-            Some(row) => {
-                println!(rt; "{name}: row {row} of {rows} comes to something else")?;
-                status = 1;
-            }
-        }
+        status |= tell(&rt, name, &count)?;
     }
     Ok(ExitCode::from(status))
 }

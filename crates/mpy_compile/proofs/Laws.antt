@@ -2,6 +2,7 @@
 use Rattle.std.proofs.Common.{◌≡◌, inl, inr, ℕ, true, false, List, sym, subst, ◌∙◌}
 use Rattle.mpy_base.specs.declared.source.SourceFault.{SourceFault}
 use Rattle.mpy_tree.specs.declared.module.ModuleCode.{ModuleCode}
+use Rattle.mpy_writer.specs.File.{IsWritten}
 use Rattle.mpy_fits.specs.Texts.{module_fits}
 use Rattle.py_tree.specs.declared.stmt.Module.{Module}
 use Rattle.py_tree.specs.Formed.{IsFormed}
@@ -25,6 +26,7 @@ pub record Below : Type 0 where
   pub one_module : (file : List ℕ) (level : ℕ) (tree : Module) (m n : ModuleCode) → IsAccepted level tree → IsTranslated (source_of file level tree) m → IsTranslated (source_of file level tree) n → m ≡ n
   pub one_first : (source : Source) (f g : SourceFault) → IsFirstFault source f → IsFirstFault source g → f ≡ g
   pub none_first : (source : Source) (fault : SourceFault) → AreWithin source → IsFirstFault source fault → ⊥
+  pub one_file : (m : ModuleCode) (a b : List ℕ) → IsWritten m a → IsWritten m b → a ≡ b
 
 module _ (b : Below) (level : ℕ) (source stored : List ℕ) where
   abbrev of : Accepted → Source
@@ -36,6 +38,11 @@ module _ (b : Below) (level : ℕ) (source stored : List ℕ) where
       let tree = p.accepted.tree in
       let accepted = b.accepted stored level tree (b.formed level source p.accepted p.is) (b.faultless level source p.accepted p.is) p.within in
       b.one_module stored level tree m n accepted p.translated (subst (λ (a : Accepted). IsTranslated (of a) n) same q.translated)
+
+  pub one_file : (x y : List ℕ) → CompilesTo level source stored x → CompilesTo level source stored y → x ≡ y
+  one_file x y p q =
+      let same = one p.whole q.whole p.compiled q.compiled in
+      b.one_file q.whole x y (subst (λ (m : ModuleCode). IsWritten m x) same p.file.written) q.file.written
 
   no_code_fault : {P : Type 0} (m : ModuleCode) (fault : SourceFault) → IsCompiled level source stored m → HasCodeFault level source stored fault → P
   no_code_fault m fault p q =

@@ -10,7 +10,7 @@ use Rattle.mpy_tree.specs.Canonical.{Canonical}
 use Rattle.mpy_tree.specs.FirstUse.{InFirstUse}
 use Rattle.mpy_tree.specs.Resolved.{ReadsAs}
 use Rattle.mpy_writer.specs.declared.fault.WriteFault.{WriteFault}
-use Rattle.mpy_writer.specs.File.{FirstFault}
+use Rattle.mpy_writer.specs.File.{IsWritten, FirstFault}
 use Rattle.mpy_fits.specs.Texts.{module_fits, TextsFit}
 use Rattle.py_source.specs.declared.source.Accepted.{Accepted}
 use Rattle.py_source.specs.Source as sources
@@ -25,6 +25,7 @@ pub record IsFileOf (whole : ModuleCode) (bytes : List ℕ) : Type 0 where
   pub reads : ReadsAs bytes whole
   pub canonical : Canonical bytes
   pub first_use : InFirstUse bytes
+  pub written : IsWritten whole bytes
   pub fits : TextsFit whole
   pub within : (fault : WriteFault) → FirstFault whole fault → ⊥
 

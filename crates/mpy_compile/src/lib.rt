@@ -16,7 +16,7 @@ use emit_written::written_law;
 use mpy_base::{Refused, SourceFault};
 use mpy_fits::texts_fit;
 use mpy_tree::ModuleCode;
-use mpy_writer::write;
+use mpy_writer::{write, write_law};
 use py_source::{accepted_law, asked_law, read_source};
 use std::alloc::Global;
 
@@ -60,9 +60,10 @@ pub fn compile(
     }
 }
 
-/// A source compiles to one module at most, or has one first fault, and never both.
+/// A source compiles to one module and one file at most, or has one first fault, and never both.
 pub fn compile_law()
     ensures one { (level : ℕ) (source stored : List ℕ) (m n : Whole) → IsCompiled level source stored m → IsCompiled level source stored n → m ≡ n }
+    ensures one_file { (level : ℕ) (source stored a b : List ℕ) → CompilesTo level source stored a → CompilesTo level source stored b → a ≡ b }
     ensures one_fault { (level : ℕ) (source stored : List ℕ) (f g : Fault) → IsFault level source stored f → IsFault level source stored g → f ≡ g }
     ensures not_both { (level : ℕ) (source stored bytes : List ℕ) (fault : Fault) → CompilesTo level source stored bytes → IsFault level source stored fault → ⊥ }
 {
@@ -71,4 +72,5 @@ pub fn compile_law()
     within_law();
     module_law();
     faults_law();
+    write_law();
 }

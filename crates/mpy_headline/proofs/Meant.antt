@@ -1,5 +1,5 @@
 -- What a run that was made says of its program.
-use Rattle.std.proofs.Common.{◌≡◌, ◌⊎◌, inl, inr, ℕ, List, ◌++◌, Option, Some, codes, refl, sym, ap, subst, ◌∙◌, append_assoc, arith}
+use Rattle.std.proofs.Common.{◌≡◌, ◌⊎◌, inl, inr, ℕ, List, ◌++◌, Option, Some, refl, sym, ap, subst, ◌∙◌, append_assoc, arith}
 use Rattle.mpy_base.specs.declared.room.Room.{Room}
 use Rattle.mpy_base.specs.World.{PortState}
 use Rattle.mpy_io.specs.Told.{AppendsFront}
@@ -52,13 +52,13 @@ front_meant program cells bytes ports n r means old new h = elim (open_or_over r
 -- what is known of the runs of a library's programs
 abbrev pub AllMean : Program → Shelf → Room → Type 0
 AllMean program shelf room = (p : machine.Program) → IsProgramOf shelf p → (ports : List PortState) (n : ℕ)
-    → MeansRun program room.cells room.bytes ports n (run p.library (codes "__main__") room.cells room.bytes ports n)
+    → MeansRun program room.cells room.bytes ports n (run p.library program.main_name room.cells room.bytes ports n)
 
 module _ (program : Program) (shelf : Shelf) (room : Room) (steps : ℕ) (all_mean : AllMean program shelf room)
     (old new : Sight) (said : List ℕ) (ports : List PortState) (p : machine.Program) (is : IsProgramOf shelf p) where
-  ran : (end : RunEnd) → Ran p (codes "__main__") room steps ports old new end said → RanAsMeant program room steps ports old new end said
+  ran : (end : RunEnd) → Ran p program.main_name room steps ports old new end said → RanAsMeant program room steps ports old new end said
   ran end h = record {
-    run = run p.library (codes "__main__") room.cells room.bytes ports steps;
+    run = run p.library program.main_name room.cells room.bytes ports steps;
     means = all_mean p is ports steps;
     end_is = h.end_is;
     said_is = h.said_is;
@@ -66,9 +66,9 @@ module _ (program : Program) (shelf : Shelf) (room : Room) (steps : ℕ) (all_me
     told = h.told;
   }
 
-  cut : CutShort p (codes "__main__") room steps ports old new → CutShortAsMeant program room steps ports old new
+  cut : CutShort p program.main_name room steps ports old new → CutShortAsMeant program room steps ports old new
   cut h =
-      let whole = run p.library (codes "__main__") room.cells room.bytes ports steps in
+      let whole = run p.library program.main_name room.cells room.bytes ports steps in
       let means = all_mean p is ports steps in
       let front = front_meant program room.cells room.bytes ports steps whole means old.out new.out h.output in
       record {
@@ -79,12 +79,12 @@ module _ (program : Program) (shelf : Shelf) (room : Room) (steps : ℕ) (all_me
         prints_meant = front.1;
         taken = h.taken;
         within = h.within;
-        earlier = run p.library (codes "__main__") room.cells room.bytes ports h.taken;
+        earlier = run p.library program.main_name room.cells room.bytes ports h.taken;
         earlier_means = all_mean p is ports h.taken;
         told = h.told;
       }
 
-  ends_as : (end : RunEnd) → EndsSo p (codes "__main__") room steps ports old new end said → EndsAsMeant program room steps ports old new end said
+  ends_as : (end : RunEnd) → EndsSo p program.main_name room steps ports old new end said → EndsAsMeant program room steps ports old new end said
   ends_as ends.Ended h = ran ends.Ended h
   ends_as ends.Raised h = ran ends.Raised h
   ends_as ends.Memory h = ran ends.Memory h
@@ -93,7 +93,7 @@ module _ (program : Program) (shelf : Shelf) (room : Room) (steps : ℕ) (all_me
   ends_as ends.NoMemory h = h
 
 pub meant : (program : Program) (shelf : Shelf) (room : Room) (steps : ℕ) (old new : Sight) (end : RunEnd) (said : List ℕ) → AllMean program shelf room
-    → (p : machine.Program) → IsProgramOf shelf p → RunsSo shelf (codes "__main__") room steps old new end said → (ports : List PortState) (printed : List ℕ) → old.out ≡ Some printed → Tell old.ports ports
+    → (p : machine.Program) → IsProgramOf shelf p → RunsSo shelf program.main_name room steps old new end said → (ports : List PortState) (printed : List ℕ) → old.out ≡ Some printed → Tell old.ports ports
     → EndsAsMeant program room steps ports old new end said
 meant program shelf room steps old new end said all_mean p is runs ports printed out_told ports_told =
     ends_as program shelf room steps all_mean old new said ports p is end (runs p is ports printed out_told ports_told)

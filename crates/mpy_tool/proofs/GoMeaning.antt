@@ -91,8 +91,11 @@ module _ (o : OfSources) (level : ℕ) (room : Room) (steps : ℕ) (name : List 
         has_program = program_by files ended.said ended.ending ended.status_is
             (subst (λ (f : Option FileOf). Runs (SourceLibrary level f name) room steps (sight_in old ports_old) (sight_in new ports_new) ended.said ended.ending) e ended.went);
         means = λ program is.
-            run_means program (λ shelf loads. o.units files (base_of name) name level shelf
-            (of_loads level name files shelf (subst (λ (f : Option FileOf). SourceLoadsOf level f name (Loaded shelf)) e loads)) program is);
+            run_means program (λ shelf loads. (
+              is.main_name_is,
+              o.units files (base_of name) name level shelf
+                  (of_loads level name files shelf (subst (λ (f : Option FileOf). SourceLoadsOf level f name (Loaded shelf)) e loads)) program is,
+            ));
       }
 
 -- files that sources compile to
@@ -116,7 +119,7 @@ holds_crossed law sources files path name level program h is shelf loads =
       crossed = h.crossed;
       loads = loads.loads;
     } in
-    law sources files (base_of name) path level shelf of_files program is
+    (is.main_name_is, law sources files (base_of name) path level shelf of_files program is)
   where
     by_some : {a b : List ℕ} → Some a ≡ Some b → a ≡ b
     by_some e = cc

@@ -58,7 +58,7 @@ not_run n a b c d (inr (inr (inr e))) = d e
 -- what the law below says of each library's run
 abbrev pub MeantLaw : Type 0
 MeantLaw = (program : Program) (shelf : Shelf) (room : Room) (steps : ℕ) (old new : Sight) (end : RunEnd) (said : List ℕ)
-    → AreUnits program shelf → RunsAs shelf main_name room steps old new end said → AreAccounted old.ports new.ports
+    → AreUnits program shelf → RunsAs shelf program.main_name room steps old new end said → AreAccounted old.ports new.ports
     → (ports : List PortState) (printed : List ℕ) → old.out ≡ Some printed → Tell old.ports ports
     → EndsAsMeant program room steps ports old new end said
 
@@ -112,7 +112,10 @@ module _ (law : MeantLaw) (Comes : Libraries) (program : Program) (room : Room) 
   }
 
   ran : (end : RunEnd) → (EndsAsMeant program room steps ports before after end said → Does) → RanSo end → Does
-  ran end step r = step (law program r.0 room steps before after end said (holds r.0 r.1) r.2 accounted ports printed out_told ports_told)
+  ran end step r =
+      let held = holds r.0 r.1 in
+      let runs = subst (λ (main : List ℕ). RunsAs r.0 main room steps before after end said) (sym held.0) r.2 in
+      step (law program r.0 room steps before after end said held.1 runs accounted ports printed out_told ports_told)
 
   -- no run was made
   none : (n : ℕ) → (n ≡ 0 → ⊥) → (n ≡ 1 → ⊥) → (n ≡ 5 → ⊥) → (n ≡ 6 → ⊥) → (n ≡ 8 → ⊥) → status ≡ n → Does
@@ -164,7 +167,7 @@ holds_built law files name program built shelf loads =
     let same : loads.holds.bytes ≡ built.bytes = by_some (sym loads.holds.holds ∙ built.there) in
     let is_main : IsFile built.bytes loads.main = subst (λ (bytes : List ℕ). IsFile bytes loads.main) same loads.holds.file in
     let size_is : loads.size ≡ length built.bytes = loads.holds.size_is ∙ ap length same in
-    law files (base_of name) built.bytes loads.main shelf program is_main (subst (λ (size : ℕ). LoadsFrom files (base_of name) loads.main size (Loaded shelf)) size_is loads.loads) (built.built shelf loads)
+    ((built.built shelf loads).main_name_is, law files (base_of name) built.bytes loads.main shelf program is_main (subst (λ (size : ℕ). LoadsFrom files (base_of name) loads.main size (Loaded shelf)) size_is loads.loads) (built.built shelf loads))
   where
     by_some : {a b : List ℕ} → Some a ≡ Some b → a ≡ b
     by_some e = cc

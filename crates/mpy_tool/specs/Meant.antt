@@ -16,7 +16,7 @@ use Rattle.py_meaning.specs.Meaning.{meaning}
 use Rattle.vm_reports.specs.Rooms.{room_line}
 use Rattle.program_runs.specs.Units.{AreUnits}
 use Rattle.program_runs.specs.Runs.{MeansRun}
-use Rattle.library_files.specs.Loads.{Loaded}
+use Rattle.library_files.specs.Loads.{Loaded, main_name}
 use Rattle.built_files.specs.Built.{IsBuiltProgram}
 use Rattle.mpy_tool.specs.declared.ending.Ending.{Ending}
 use Rattle.mpy_tool.specs.Base.{base_of}
@@ -28,10 +28,10 @@ use Rattle.mpy_tool.specs.Run.{LoadsOf}
 abbrev pub Libraries : Type 1
 Libraries = Option FileOf → (name : List ℕ) → Result Shelf Ending → Type 0
 
--- Each library that is loaded of the file under the name has the program's units: each of its files is the translation of its unit's
--- source, or the merge of its parts', and the names that it refuses are those that the program refuses.
+-- Each library that is loaded of the file under the name has the program's units, the main one as `__main__`: each of its files is the
+-- translation of its unit's source, or the merge of its parts', and the names that it refuses are those that the program refuses.
 abbrev pub HoldsProgram : Libraries → Option FileOf → (name : List ℕ) → Program → Type 0
-HoldsProgram Comes files name program = (shelf : Shelf) → Comes files name (Ok shelf) → AreUnits program shelf
+HoldsProgram Comes files name program = (shelf : Shelf) → Comes files name (Ok shelf) → (program.main_name ≡ main_name) × AreUnits program shelf
 
 -- The file under the name is made of the program's main unit, by compiling and merging, and so is each file that its library has of the
 -- unit that the program has under that name.

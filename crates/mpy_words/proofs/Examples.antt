@@ -1,24 +1,24 @@
 -- The orders and the first faults of small words.
 use Rattle.std.proofs.Common.{◌≡◌, ℕ, [], ◌∷◌, Option, Some, None, Ok, Err, codes, refl}
 use Rattle.mpy_words.specs.declared.order.Command.{Command}
-use Rattle.mpy_words.specs.declared.order.Command.TheVariants.{Go, Cross, Merge, Run}
-use Rattle.mpy_words.specs.declared.order.Named.TheVariants.{Source, File, Output}
-use Rattle.mpy_words.specs.declared.order.Setting.TheVariants.{Level, StoredName, Cells, Steps}
+use Rattle.mpy_words.specs.declared.order.Command.TheVariants.{Go, Cross, Merge, Freeze, Run}
+use Rattle.mpy_words.specs.declared.order.Named.TheVariants.{Source, File, Output, Manifest}
+use Rattle.mpy_words.specs.declared.order.Setting.TheVariants.{Level, StoredName, MainName, Cells, Steps}
 use Rattle.mpy_words.specs.declared.order.WordFault.TheVariants.{NoCommand, Unknown, MissingName, MissingValue, BadNumber, Twice}
 use Rattle.mpy_words.specs.Number.{value_of}
-use Rattle.mpy_words.specs.Words.{Outcome, settings, past_files, named, order_of, source_name}
+use Rattle.mpy_words.specs.Words.{Outcome, settings, past_files, named, order_of, source_name, main_name}
 
 abbrev ordered : Command → ℕ → Option ℕ → Outcome
 ordered command level stored_name =
-    Ok (record { command = command; level = level; stored_name = stored_name; cells = 65536; bytes = 262144; steps = 10000000 })
+    Ok (record { command = command; level = level; stored_name = stored_name; main_name = None; cells = 65536; bytes = 262144; steps = 10000000 })
 
 abbrev runs : (cells bytes steps : ℕ) → Outcome
 runs cells bytes steps =
-    Ok (record { command = Run; level = 0; stored_name = None; cells = cells; bytes = bytes; steps = steps })
+    Ok (record { command = Run; level = 0; stored_name = None; main_name = None; cells = cells; bytes = bytes; steps = steps })
 
 abbrev goes : (level cells bytes steps : ℕ) → Outcome
 goes level cells bytes steps =
-    Ok (record { command = Go; level = level; stored_name = None; cells = cells; bytes = bytes; steps = steps })
+    Ok (record { command = Go; level = level; stored_name = None; main_name = None; cells = cells; bytes = bytes; steps = steps })
 
 no_word : order_of [] ≡ Err NoCommand
 unfolding settings named past_files value_of
@@ -169,3 +169,42 @@ given_name = refl
 
 own_name : source_name (codes "cross" ∷ codes "a" ∷ codes "b" ∷ []) None ≡ codes "a"
 own_name = refl
+
+freeze_alone : order_of (codes "freeze" ∷ []) ≡ Err (MissingName Manifest)
+unfolding settings named past_files value_of
+freeze_alone = refl
+
+freeze_one_name : order_of (codes "freeze" ∷ codes "m.py" ∷ []) ≡ Err (MissingName Output)
+unfolding settings named past_files value_of
+freeze_one_name = refl
+
+freeze_manifest : order_of (codes "freeze" ∷ codes "m.py" ∷ codes "i.img" ∷ []) ≡ ordered Freeze 0 None
+unfolding settings named past_files value_of
+freeze_manifest = refl
+
+freeze_option : order_of (codes "freeze" ∷ codes "m.py" ∷ codes "i.img" ∷ codes "-m" ∷ codes "a" ∷ []) ≡ Err (Unknown 3)
+unfolding settings named past_files value_of
+freeze_option = refl
+
+run_image : order_of (codes "run" ∷ codes "i.img" ∷ codes "-m" ∷ codes "-a" ∷ [])
+    ≡ Ok (record { command = Run; level = 0; stored_name = None; main_name = Some 3; cells = 65536; bytes = 262144; steps = 10000000 })
+unfolding settings named past_files value_of
+run_image = refl
+
+no_main : order_of (codes "run" ∷ codes "i.img" ∷ codes "-m" ∷ []) ≡ Err (MissingValue MainName)
+unfolding settings named past_files value_of
+no_main = refl
+
+main_twice : order_of (codes "run" ∷ codes "i.img" ∷ codes "-m" ∷ codes "a" ∷ codes "-m" ∷ []) ≡ Err (Twice MainName)
+unfolding settings named past_files value_of
+main_twice = refl
+
+no_main_of_go : order_of (codes "go" ∷ codes "a.py" ∷ codes "-m" ∷ codes "a" ∷ []) ≡ Err (Unknown 2)
+unfolding settings named past_files value_of
+no_main_of_go = refl
+
+given_main : main_name (codes "run" ∷ codes "i" ∷ codes "-m" ∷ codes "a" ∷ []) (Some 3) ≡ codes "a"
+given_main = refl
+
+own_main : main_name (codes "run" ∷ codes "i" ∷ []) None ≡ codes "main"
+own_main = refl

@@ -1,20 +1,22 @@
 -- The commands, the words that each names, and its options.
 use Rattle.std.specs.Prelude.{ℕ, Bool, true, false, List, [], ◌∷◌, Option, Some, None, codes, bytes_eq, if◌then◌else◌}
 use Rattle.mpy_words.specs.declared.order.Command.{Command}
-use Rattle.mpy_words.specs.declared.order.Command.TheVariants.{Go, Check, Dump, Cross, Merge, Run}
+use Rattle.mpy_words.specs.declared.order.Command.TheVariants.{Go, Check, Dump, Cross, Merge, Freeze, Run}
 use Rattle.mpy_words.specs.declared.order.Named.{Named}
-use Rattle.mpy_words.specs.declared.order.Named.TheVariants.{Source, File, Output}
+use Rattle.mpy_words.specs.declared.order.Named.TheVariants.{Source, File, Output, Manifest}
 use Rattle.mpy_words.specs.declared.order.Setting.{Setting}
-use Rattle.mpy_words.specs.declared.order.Setting.TheVariants.{Level, StoredName, Cells, Bytes, Steps}
+use Rattle.mpy_words.specs.declared.order.Setting.TheVariants.{Level, StoredName, MainName, Cells, Bytes, Steps}
 
 abbrev pub name_of : Named → List ℕ
 name_of Source = codes "SRC"
 name_of File = codes "FILE"
 name_of Output = codes "OUT"
+name_of Manifest = codes "MANIFEST"
 
 abbrev pub spelling_of : Setting → List ℕ
 spelling_of Level = codes "-O"
 spelling_of StoredName = codes "-s"
+spelling_of MainName = codes "-m"
 spelling_of Cells = codes "--cells"
 spelling_of Bytes = codes "--bytes"
 spelling_of Steps = codes "--steps"
@@ -27,7 +29,8 @@ command_of word =
     else (if bytes_eq word (codes "dump") then Some Dump
     else (if bytes_eq word (codes "cross") then Some Cross
     else (if bytes_eq word (codes "merge") then Some Merge
-    else (if bytes_eq word (codes "run") then Some Run else None)))))
+    else (if bytes_eq word (codes "freeze") then Some Freeze
+    else (if bytes_eq word (codes "run") then Some Run else None))))))
 
 -- the words that stand behind a command
 abbrev pub names_of : Command → List Named
@@ -36,6 +39,7 @@ names_of Check = File ∷ []
 names_of Dump = File ∷ []
 names_of Cross = Source ∷ File ∷ []
 names_of Merge = Output ∷ []
+names_of Freeze = Manifest ∷ Output ∷ []
 names_of Run = File ∷ []
 
 -- does the command take files behind these, as many as there are?
@@ -45,6 +49,7 @@ takes_files Check = false
 takes_files Dump = false
 takes_files Cross = false
 takes_files Merge = true
+takes_files Freeze = false
 takes_files Run = false
 
 -- the option of a run that a word is
@@ -60,7 +65,8 @@ setting_of Go word = if bytes_eq word (codes "-O") then Some Level else run_sett
 setting_of Check word = None
 setting_of Dump word = None
 setting_of Merge word = None
-setting_of Run word = run_setting_of word
+setting_of Freeze word = None
+setting_of Run word = if bytes_eq word (codes "-m") then Some MainName else run_setting_of word
 setting_of Cross word =
     if bytes_eq word (codes "-O") then Some Level
     else (if bytes_eq word (codes "-s") then Some StoredName else None)

@@ -1,5 +1,5 @@
 -- The order of words, the program's own name left out.
-use Rattle.std.specs.Prelude.{ℕ, ◌-◌, Bool, false, List, [], ◌∷◌, length, drop, Option, Some, None, ◌==◌, if◌then◌else◌, slice_index_or, Result, Ok, Err}
+use Rattle.std.specs.Prelude.{ℕ, ◌-◌, Bool, false, List, [], ◌∷◌, length, drop, Option, Some, None, codes, ◌==◌, if◌then◌else◌, slice_index_or, Result, Ok, Err}
 use Rattle.mpy_words.specs.declared.order.Command.{Command}
 use Rattle.mpy_words.specs.declared.order.Named.{Named}
 use Rattle.mpy_words.specs.declared.order.Setting.{Setting}
@@ -28,6 +28,11 @@ file_names words = drop 2 words
 abbrev pub source_name : List (List ℕ) → Option ℕ → List ℕ
 source_name words None = first_name words
 source_name words (Some at) = slice_index_or words at []
+
+-- the name of the main module of an image: the word that was given, else `main`
+abbrev pub main_name : List (List ℕ) → Option ℕ → List ℕ
+main_name words None = codes "main"
+main_name words (Some at) = slice_index_or words at []
 
 -- a word that begins so names no file
 abbrev pub begins_with_dash : List ℕ → Bool

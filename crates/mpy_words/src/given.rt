@@ -11,16 +11,17 @@ use crate::order::{Command, Order, Setting};
 const MAX_LEVEL: u64 = 3;
 
 /// The greatest room of an arena, and the room of a run that gives none.
-const MAX_CELLS: u64 = 4_194_304;
+pub const MAX_CELLS: u64 = 4_194_304;
 
-const MAX_BYTES: u64 = 16_777_216;
+/// The greatest bytes of its texts.
+pub const MAX_BYTES: u64 = 16_777_216;
 
 const DEFAULT_CELLS: u32 = 65_536;
 
 const DEFAULT_BYTES: u32 = 262_144;
 
 /// The greatest count of steps, and that of a run that gives none.
-const MAX_STEPS: u64 = 1_000_000_000_000;
+pub const MAX_STEPS: u64 = 1_000_000_000_000;
 
 const DEFAULT_STEPS: u64 = 10_000_000;
 
@@ -29,6 +30,7 @@ const DEFAULT_STEPS: u64 = 10_000_000;
 pub struct Given {
     pub level: Option<u8>,
     pub stored_name: Option<usize>,
+    pub main_name: Option<usize>,
     pub cells: Option<u32>,
     pub bytes: Option<u32>,
     pub steps: Option<u64>,
@@ -42,6 +44,7 @@ impl Given {
         Given {
             level: None,
             stored_name: None,
+            main_name: None,
             cells: None,
             bytes: None,
             steps: None,
@@ -55,6 +58,7 @@ impl Given {
         match setting {
             Setting::Level => self.level.is_some(),
             Setting::StoredName => self.stored_name.is_some(),
+            Setting::MainName => self.main_name.is_some(),
             Setting::Cells => self.cells.is_some(),
             Setting::Bytes => self.bytes.is_some(),
             Setting::Steps => self.steps.is_some(),
@@ -76,6 +80,10 @@ impl Given {
             },
             Setting::StoredName => Some(Given {
                 stored_name: Some(at),
+                ..self
+            }),
+            Setting::MainName => Some(Given {
+                main_name: Some(at),
                 ..self
             }),
             Setting::Cells => match number(MAX_CELLS, word) {
@@ -110,6 +118,7 @@ impl Given {
             command,
             level: self.level.unwrap_or(0),
             stored_name: self.stored_name,
+            main_name: self.main_name,
             cells: self.cells.unwrap_or(DEFAULT_CELLS),
             bytes: self.bytes.unwrap_or(DEFAULT_BYTES),
             steps: self.steps.unwrap_or(DEFAULT_STEPS),

@@ -15,7 +15,7 @@ fn bounded(most: u64, n: u64) -> u64
 
 /// The number that a word is, where it is at most so great.
 #[tactic(auto, unfolding(crate::specs::Number::value_of))]
-pub(crate) fn number(most: u64, word: &[u8]) -> Option<u64>
+pub fn number(most: u64, word: &[u8]) -> Option<u64>
     requires { most < 2 ^ 60 }
     ensures value { result ≡ spec.number_of most word.now }
     ensures within { IfSome result (λ n. n ≤ most) }

@@ -16,6 +16,8 @@ pub enum Command {
     Cross,
     /// `merge OUT FILE..`
     Merge,
+    /// `freeze MANIFEST OUT`
+    Freeze,
     /// `run FILE`
     Run,
 }
@@ -27,6 +29,7 @@ pub enum Named {
     File,
     /// The file that is written.
     Output,
+    Manifest,
 }
 
 /// An option, which stands behind the named words with its value.
@@ -36,6 +39,8 @@ pub enum Setting {
     Level,
     /// `-s`, the name that a file stores of its source.
     StoredName,
+    /// `-m`, the name of the main module of an image.
+    MainName,
     /// `--cells`, the cells of the arena of a run.
     Cells,
     /// `--bytes`, the bytes of the texts of its arena.
@@ -52,6 +57,8 @@ pub struct Order {
     pub level: u8,
     /// The place of the name that the file is to store of its source, where one was given.
     pub stored_name: Option<usize>,
+    /// The place of the name of an image's main module, where one was given.
+    pub main_name: Option<usize>,
     /// The cells of the arena of a run, 4,194,304 at most.
     pub cells: u32,
     /// The bytes of the texts of its arena, 16,777,216 at most.
@@ -86,6 +93,7 @@ impl Named {
             Named::Source => "SRC",
             Named::File => "FILE",
             Named::Output => "OUT",
+            Named::Manifest => "MANIFEST",
         }
     }
 }
@@ -98,6 +106,7 @@ impl Setting {
         match self {
             Setting::Level => "-O",
             Setting::StoredName => "-s",
+            Setting::MainName => "-m",
             Setting::Cells => "--cells",
             Setting::Bytes => "--bytes",
             Setting::Steps => "--steps",

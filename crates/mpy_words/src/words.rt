@@ -17,6 +17,7 @@ fn command(word: &str) -> Option<Command>
         "dump" => Some(Command::Dump),
         "cross" => Some(Command::Cross),
         "merge" => Some(Command::Merge),
+        "freeze" => Some(Command::Freeze),
         "run" => Some(Command::Run),
         _ => None,
     }
@@ -41,6 +42,7 @@ fn setting(command: Command, word: &str) -> Option<Setting>
         Command::Go if word == "-O" => Some(Setting::Level),
         Command::Cross if word == "-O" => Some(Setting::Level),
         Command::Cross if word == "-s" => Some(Setting::StoredName),
+        Command::Run if word == "-m" => Some(Setting::MainName),
         Command::Go | Command::Run => run_setting(word),
         _ => None,
     }
@@ -55,6 +57,7 @@ fn names(command: Command) -> &'static [Named]
         Command::Check | Command::Dump | Command::Run => &[Named::File],
         Command::Cross => &[Named::Source, Named::File],
         Command::Merge => &[Named::Output],
+        Command::Freeze => &[Named::Manifest, Named::Output],
     }
 }
 
@@ -72,8 +75,9 @@ fn takes_files(command: Command) -> bool
     ensures { result ≡ commands.takes_files command }
 {
     match command {
-        Command::Go | Command::Check | Command::Dump | Command::Cross | Command::Run => false,
+        Command::Go | Command::Check | Command::Dump | Command::Cross => false,
         Command::Merge => true,
+        Command::Freeze | Command::Run => false,
     }
 }
 
@@ -103,6 +107,7 @@ fn settings(count: usize, command: Command, words: &[String]) -> Result<Order, W
     ensures same { IfOk result (λ order. order.command ≡ command) }
     ensures level { IfOk result (λ order. order.level ≤ 3) }
     ensures stored_name { IfOk result (λ order. IfSome order.stored_name (λ at. at < count)) }
+    ensures main_name { IfOk result (λ order. IfSome order.main_name (λ at. at < count)) }
     ensures run { IfOk result RunsWithin }
 {
     let mut given = Given::none();
@@ -135,6 +140,7 @@ fn named(count: usize, command: Command, words: &[String]) -> Result<Order, Word
     ensures named { IfOk result (λ order. length (commands.names_of order.command) ≤ length words.now) }
     ensures level { IfOk result (λ order. order.level ≤ 3) }
     ensures stored_name { IfOk result (λ order. IfSome order.stored_name (λ at. at < count)) }
+    ensures main_name { IfOk result (λ order. IfSome order.main_name (λ at. at < count)) }
     ensures run { IfOk result RunsWithin }
 {
     let mut rest = words;
@@ -165,6 +171,9 @@ pub fn order_of(words: &[String]) -> Result<Order, WordFault>
 
     // The name to store is one of the words.
     ensures stored_name { IfOk result (λ order. IfSome order.stored_name (λ at. at < length words.now)) }
+
+    // The name of the main module is one of the words.
+    ensures main_name { IfOk result (λ order. IfSome order.main_name (λ at. at < length words.now)) }
 
     // The room and the steps are within their bounds.
     ensures run { IfOk result RunsWithin }

@@ -1,5 +1,5 @@
 -- The machine's library of a program's files has the program's modules.
-use Rattle.std.proofs.Common.{◌≡◌, Option, Some, None, codes, sym, subst}
+use Rattle.std.proofs.Common.{◌≡◌, Option, Some, None, subst}
 use Rattle.mpy_tree.specs.Raw as raw
 use Rattle.mpy_tree.specs.Resolved.{ResolvedModule, Resolves}
 use Rattle.bc_library.specs.Shelf.{Shelf}
@@ -24,6 +24,6 @@ module _ (one : (m : raw.Module) (a b : ResolvedModule) → Resolves m a → Res
 
   pub links : (program : Program) → AreUnits program shelf → Links program library
   links program units = record {
-    main = subst (λ (name : Name). IsEntryOf (Some (Runs program.main)) (libraries.entry_in library name)) (sym units.main_name_is) (unit_found (codes "__main__") program.main units.main);
-    entries = λ name other. entry_found name (entry_in program.entries name) (units.entries name (λ e. other e units.main_name_is));
+    main = unit_found program.main_name program.main units.main;
+    entries = λ name other. entry_found name (entry_in program.entries name) (units.entries name other);
   }

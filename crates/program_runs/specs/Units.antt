@@ -1,5 +1,5 @@
 -- Files of a program's units, and libraries that hold them.
-use Rattle.std.specs.Prelude.{◌≡◌, ◌≢◌, ℕ, List, [], ◌∷◌, Option, Some, None, codes}
+use Rattle.std.specs.Prelude.{◌≡◌, ℕ, List, [], ◌∷◌, Option, Some, None, codes}
 use Rattle.mpy_tree.specs.Raw.{Module}
 use Rattle.mpy_tree.specs.Resolved.{ResolvedModule, Resolves}
 use Rattle.bc_library.specs.declared.fault.Member.TheVariants as members
@@ -34,8 +34,8 @@ HasEntry shelf name (Some (Runs unit)) = HasUnit shelf name unit
 HasEntry shelf name (Some Refused) = member_of shelf name ≡ Some members.Refused
 HasEntry shelf name None = member_of shelf name ≡ None
 
--- the library has the program's units: the main unit as `__main__`, and its entries under every other name
+-- The library has the program's units: the main unit under the main module's name, and its entries under every name. Where the main
+-- module is `__main__`, that name's entry doesn't matter, since it is never looked for
 pub record AreUnits (program : Program) (shelf : Shelf) : Type 0 where
-  pub main_name_is : program.main_name ≡ codes "__main__"
-  pub main : HasUnit shelf (codes "__main__") program.main
-  pub entries : (name : Name) → name ≢ codes "__main__" → HasEntry shelf name (entry_in program.entries name)
+  pub main : HasUnit shelf program.main_name program.main
+  pub entries : (name : Name) → (name ≡ codes "__main__" → program.main_name ≡ codes "__main__" → ⊥) → HasEntry shelf name (entry_in program.entries name)

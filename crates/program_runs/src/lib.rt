@@ -1,7 +1,7 @@
 //! What the run of a library means, whose files are those of a program's units.
 #![tactic(auto)]
 
-ghost use Rattle.std.specs.Prelude.{◌≡◌, ℕ, List, codes};
+ghost use Rattle.std.specs.Prelude.{◌≡◌, ℕ, List};
 ghost use Rattle.mpy_base.specs.World.{PortState};
 ghost use Rattle.bc_library.specs.Shelf.{Shelf};
 ghost use Rattle.bc_machine.specs.Library.{Name, Library};
@@ -43,14 +43,14 @@ fn early_law()
     machine_prefix_law();
 }
 
-/// The run of a library of a program's files, with any room and ports, prints and ends as the program means, and stops earlier
-/// only at its last step, behind a front of what the program prints.
+/// The run of the main module of a library of a program's files, with any room and ports, prints and ends as the program means, and
+/// stops earlier only at its last step, behind a front of what the program prints.
 pub fn runs_law()
     ensures behaves { (shelf : Shelf) (p : machine.Program) (program : Program) → IsProgramOf shelf p → AreUnits program shelf
         → (cells bytes : ℕ) (ports : List PortState) → Behaves program p.library cells bytes ports }
     ensures means { (shelf : Shelf) (p : machine.Program) (program : Program) → IsProgramOf shelf p → AreUnits program shelf
         → (cells bytes : ℕ) (ports : List PortState) (n : ℕ)
-        → MeansRun program cells bytes ports n (run p.library (codes "__main__") cells bytes ports n) }
+        → MeansRun program cells bytes ports n (run p.library program.main_name cells bytes ports n) }
 {
     links_law();
     behaves_law();

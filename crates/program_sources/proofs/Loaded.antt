@@ -146,7 +146,6 @@ module _ (of_sources : FileOf) (base : List ℕ) (level : ℕ) where
               loads = whole.loads;
             },
             record {
-              main_name_is = refl;
               main = subst (HasEntry shelf (codes "__main__")) (whole.stays (codes "__main__") (Runs (Single origin)) refl) (whole.agree (codes "__main__"));
               entries = λ name other. whole.agree name;
             },

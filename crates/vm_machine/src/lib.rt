@@ -2,6 +2,7 @@
 #![tactic(auto)]
 
 mod acting;
+mod at_once;
 mod fetching;
 mod forms;
 mod names;
@@ -11,4 +12,4 @@ mod running;
 mod stepping;
 
 pub use opening::{open, used};
-pub use running::run;
+pub use running::{run, run_kept};

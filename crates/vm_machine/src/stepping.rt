@@ -8,12 +8,14 @@ ghost use Rattle.vm_states.specs.Means.{Program};
 ghost use Rattle.vm_calling.specs.Taken.{CallsValue, IsTaken};
 ghost use Rattle.vm_kept.specs.Kept.{HoldsKept};
 ghost use Rattle.vm_programs.specs.Programs.{IsProgramOf};
+ghost use Rattle.vm_cache.specs.Kept.{AreFetched};
 ghost use Rattle.vm_machine.specs.Acting.{Called, HasFetched, Stepped};
 ghost use Rattle.vm_machine.specs.Forms.{HasForm, IsNoCall};
 ghost use Rattle.vm_machine.specs.Machine.{IsVm};
 ghost use Rattle.vm_machine.specs.Running.{Runs, RunsToFailure};
 
 use crate::acting::act;
+use crate::at_once::run_at_once;
 use crate::fetching::fetch_at;
 use crate::forms::{Form, call_in, form_of};
 use crate::paying::{steps_before, visits_of};
@@ -21,6 +23,7 @@ use bc_library::Library;
 use bc_rows::{Row, Rows};
 use mpy_io::{Failed, Port, Sink};
 use port_set::PortSet;
+use vm_cache::Cache;
 use vm_calling::{take_call, visits_call_on};
 use vm_fetching::{Fetched, NumberOp};
 use vm_invoking::Invocation;
@@ -178,7 +181,7 @@ fn step_call<S: Sink, P: Port>(
 
 /// One instruction, or the rest of the steps that it costs, or `most` of them. How many steps were taken.
 #[tactic(none)]
-pub(crate) fn step<S: Sink, P: Port>(
+fn step<S: Sink, P: Port>(
     vm: &mut Vm,
     library: &Library,
     rows: &Rows<'_>,
@@ -243,5 +246,70 @@ pub(crate) fn advance<S: Sink, P: Port>(
     match vm.end {
         Some(_end) => Ok(most),
         None => step(vm, library, rows, out, ports, most),
+    }
+}
+
+/// Instructions that are carried out at once, or where there is none, one that takes its steps. How many steps were taken.
+#[tactic(none)]
+fn go<S: Sink, P: Port>(
+    vm: &mut Vm,
+    library: &Library,
+    rows: &Rows<'_>,
+    cache: &mut Cache,
+    out: &mut S,
+    ports: &mut PortSet<P>,
+    most: u64,
+) -> Result<u64, Failed>
+    requires vm { IsVm library.now vm.old }
+    requires rows { rows.now ≡ library.now }
+    requires goes_on { vm.old.end ≡ None }
+    requires some { 0 < most }
+    requires countable { vm.old.paid + most < 2 ^ 64 }
+    requires kept { AreFetched library.now cache.old }
+    ensures vm { IsVm library.now vm.new }
+    ensures runs { IfOk result (λ taken. Runs S.told library.now vm.old (record { out = out.old; ports = map P.seen ports.old }) (record { out = out.new; ports = map P.seen ports.new }) taken vm.new) }
+    ensures failed { OnErr result (RunsToFailure S.told library.now vm.old (record { out = out.old; ports = map P.seen ports.old }) (record { out = out.new; ports = map P.seen ports.new }) most S.count) }
+    ensures taken { IfOk result (λ taken. (0 < taken) × (taken ≤ most) × (vm.new.paid ≤ vm.old.paid + taken)) }
+    ensures paid { OnErr result (vm.new.paid ≡ vm.old.paid) }
+    ensures counts { Counts (S.count out.old) (S.count out.new) (is_err result) }
+    ensures faults { CountsKeep (map P.seen ports.old) (map P.seen ports.new) }
+    ensures kept { AreFetched library.now cache.new }
+{
+    let taken = run_at_once(vm, library, rows, cache, most);
+    if taken == 0 {
+        step(vm, library, rows, out, ports, most)
+    } else {
+        Ok(taken)
+    }
+}
+
+/// The same, and where the run has ended all of the steps, which do nothing.
+#[tactic(none)]
+pub(crate) fn advance_kept<S: Sink, P: Port>(
+    vm: &mut Vm,
+    library: &Library,
+    rows: &Rows<'_>,
+    cache: &mut Cache,
+    out: &mut S,
+    ports: &mut PortSet<P>,
+    most: u64,
+) -> Result<u64, Failed>
+    requires vm { IsVm library.now vm.old }
+    requires rows { rows.now ≡ library.now }
+    requires some { 0 < most }
+    requires countable { vm.old.paid + most < 2 ^ 64 }
+    requires kept { AreFetched library.now cache.old }
+    ensures vm { IsVm library.now vm.new }
+    ensures runs { IfOk result (λ taken. Runs S.told library.now vm.old (record { out = out.old; ports = map P.seen ports.old }) (record { out = out.new; ports = map P.seen ports.new }) taken vm.new) }
+    ensures failed { OnErr result (RunsToFailure S.told library.now vm.old (record { out = out.old; ports = map P.seen ports.old }) (record { out = out.new; ports = map P.seen ports.new }) most S.count) }
+    ensures taken { IfOk result (λ taken. (0 < taken) × (taken ≤ most) × (vm.new.paid ≤ vm.old.paid + taken)) }
+    ensures paid { OnErr result (vm.new.paid ≡ vm.old.paid) }
+    ensures counts { Counts (S.count out.old) (S.count out.new) (is_err result) }
+    ensures faults { CountsKeep (map P.seen ports.old) (map P.seen ports.new) }
+    ensures kept { AreFetched library.now cache.new }
+{
+    match vm.end {
+        Some(_end) => Ok(most),
+        None => go(vm, library, rows, cache, out, ports, most),
     }
 }

@@ -21,7 +21,7 @@ use vm_step::{jump_if_false_or_pop, jump_if_true_or_pop, pop_jump_if_false, pop_
 use vm_tops::tops_law;
 
 /// The jump, where the truth of the top value is given.
-fn jump_by(frames: &mut Frames, op: JumpOp, truth: bool, target: u32, end: u32)
+pub fn jump_by(frames: &mut Frames, op: JumpOp, truth: bool, target: u32, end: u32)
     requires test { IsTest op }
     requires there { OfRunning (λ c. 0 < length c.slots) frames.old.calls }
     ensures steps { (tables : Tables) (w : PlainWorld) (position : ℕ) → IsAt tables target position frames.old.calls → IsNext tables end frames.old.calls → Tests tables w truth frames.old.calls → Steps tables w (Jumps (jump_op op) position) frames.old.calls frames.new.calls }

@@ -14,7 +14,11 @@ mod operating;
 mod operators;
 mod subscripts;
 
+pub use branching::jump_by;
 pub use constants::constants_law;
-pub use moving::{load_int, load_object, unwind_jump};
+pub use law::acting_law;
+pub use moving::{
+    jump, load_int, load_object, load_text, move_on, store_fast, store_fast_n, unwind_jump,
+};
 pub use operating::{attribute_on, jump_to, name_on, number_on, plain_on};
 pub use operators::{binary_op, unary_op, visits_binary_op};

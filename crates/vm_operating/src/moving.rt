@@ -20,7 +20,7 @@ use vm_moving::{
 use vm_tops::tops_law;
 
 /// An operation that moves slots alone.
-pub(crate) fn move_on<C: Constants>(
+pub fn move_on<C: Constants>(
     frames: &mut Frames,
     _arena: &Arena,
     _consts: &C,
@@ -37,7 +37,7 @@ pub(crate) fn move_on<C: Constants>(
 }
 
 /// STORE_FAST in one byte.
-pub(crate) fn store_fast<C: Constants>(
+pub fn store_fast<C: Constants>(
     frames: &mut Frames,
     _arena: &Arena,
     _consts: &C,
@@ -54,7 +54,7 @@ pub(crate) fn store_fast<C: Constants>(
 }
 
 /// STORE_FAST in more bytes.
-pub(crate) fn store_fast_n<C: Constants>(
+pub fn store_fast_n<C: Constants>(
     frames: &mut Frames,
     _arena: &Arena,
     _consts: &C,
@@ -87,7 +87,7 @@ pub fn load_int<C: Constants>(
 }
 
 /// A constant text.
-pub(crate) fn load_text<C: Constants>(
+pub fn load_text<C: Constants>(
     frames: &mut Frames,
     _arena: &Arena,
     _consts: &C,
@@ -119,7 +119,7 @@ pub fn load_object<C: Constants>(
 }
 
 /// JUMP.
-pub(crate) fn jump<C: Constants>(
+pub fn jump<C: Constants>(
     frames: &mut Frames,
     _arena: &Arena,
     _consts: &C,

@@ -12,6 +12,7 @@ returns-in-Ok c = record {
   reads = c.in-Ok.ensures.reads;
   canonical = c.in-Ok.ensures.canonical;
   first_use = c.in-Ok.ensures.first_use;
+  written = c.in-Ok.ensures.written;
   fits = sym c.texts_fit.ensures ∙ c.if-not-texts_fit.false;
   within = λ fault first. elim (c.in-Ok.ensures.fault fault first) [ inl e ↦ cc | inr e ↦ cc ];
 }

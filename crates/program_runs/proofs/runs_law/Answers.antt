@@ -1,7 +1,3 @@
-use Rattle.std.proofs.Common.{subst}
-use Rattle.bc_machine.specs.Library.{Name}
-use Rattle.bc_machine.specs.Machine.{run}
-use Rattle.program_runs.specs.Runs.{MeansRun}
 use Rattle.program_runs.proofs.Means.{means}
 use Rattle.program_runs.proofs.runs_law.Goals as goal
 
@@ -11,6 +7,5 @@ returns-clause-behaves c shelf p program is units cells bytes ports = c.behaves_
 pub returns-clause-means : goal.returns-clause-means
 returns-clause-means c shelf p program is units cells bytes ports n =
     let behaves = c.behaves_law.ensures program p.library cells bytes ports (c.links_law.ensures shelf p program is units) in
-    subst (λ (name : Name). MeansRun program cells bytes ports n (run p.library name cells bytes ports n)) units.main_name_is
-    (means program p.library cells bytes ports behaves (c.ended_law.ensures.runs program cells bytes ports) (c.prefix_law.ensures.runs program cells bytes ports)
-    (c.early_law.ensures.early program p.library program.main_name cells bytes ports) n)
+    means program p.library cells bytes ports behaves (c.ended_law.ensures.runs program cells bytes ports) (c.prefix_law.ensures.runs program cells bytes ports)
+    (c.early_law.ensures.early program p.library program.main_name cells bytes ports) n

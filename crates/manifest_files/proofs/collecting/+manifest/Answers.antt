@@ -21,12 +21,16 @@ all_lines-loop-line-preserved g t c = record {
   opened = c.in-Ok.ensures.opened ∙ c.loop-line.invariant.opened;
   same = c.in-Ok.ensures.same ∙ c.loop-line.invariant.same;
   cause = c.in-Ok.ensures.cause ∙ c.loop-line.invariant.cause;
+  plain = λ h. c.in-Ok.ensures.plain (c.loop-line.invariant.plain h);
 }
 
 pub all_lines-returns-clause-told : goal.all_lines-returns-clause-told
 all_lines-returns-clause-told g t c =
     lines_told (g.F.Folder.files c.args.folder.now) c.args.left c.args.opened.now.items c.args.name.now c.args.lines.now c.loop-line.line-index c.args.entries.now.items c.loop-line.entries.items
     c.loop-line-test.false c.loop-line.invariant.told
+
+pub all_lines-returns-clause-plain : goal.all_lines-returns-clause-plain
+all_lines-returns-clause-plain g t c = λ h. c.loop-line.invariant.plain h
 
 pub manifest-returns-then-left-eq0-clause-told : goal.manifest-returns-then-left-eq0-clause-told
 manifest-returns-then-left-eq0-clause-told g t c =

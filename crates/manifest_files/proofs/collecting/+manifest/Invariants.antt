@@ -1,5 +1,7 @@
 use Rattle.std.proofs.Common.{◌≡◌, ◌+◌, ◌*◌, drop, IfSome}
+use Rattle.std.specs.Prelude.{All}
 use Rattle.manifest_files.specs.Entries.{LineSays}
+use Rattle.manifest_files.specs.Plain.{IsPlain}
 use Rattle.manifest_files.proofs.Goes.{Goes}
 use Rattle.manifest_files.proofs.collecting.+manifest.Given as goal
 
@@ -19,4 +21,5 @@ invariant-all_lines-loop-line g l = record {
   opened : l.opened.items ≡ l.fn.opened.items;
   same : g.F.Folder.files l.folder ≡ g.F.Folder.files l.fn.folder;
   cause : g.F.Folder.count l.folder ≡ g.F.Folder.count l.fn.folder;
+  plain : All IsPlain l.fn.entries.items → All IsPlain l.entries.items;
 }

@@ -1,0 +1,12 @@
+//! Certificates of verified code.
+#![tactic(auto)]
+
+ghost use Rattle.bc_flow.specs.Code.{Code};
+ghost use Rattle.bc_flow.specs.Verified.{Holds, Verified};
+ghost use Rattle.bc_certificates.specs.Rows.{Rows, carried, Certifies};
+
+/// Code with a certificate is verified: what its rows carry meets the rules along every edge.
+pub fn certificate_law()
+    ensures holds { (code : Code) (rows : Rows) → Certifies code rows → Holds code (carried code rows) }
+    ensures verified { (code : Code) (rows : Rows) → Certifies code rows → Verified code }
+{}

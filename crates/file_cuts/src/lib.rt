@@ -1,0 +1,24 @@
+//! What is said of a file that is cut off, or that has bytes behind it.
+#![tactic(auto)]
+
+ghost use Rattle.std.specs.Prelude.{◌≢◌, ◌++◌, ◌<◌, ◌≤◌, List, [], ℕ, length};
+ghost use Rattle.mpy_tree.specs.Raw.{Module};
+ghost use Rattle.mpy_tree.specs.File.{IsFile};
+ghost use Rattle.mpy_reader.specs.declared.fault.FileFault.TheVariants.{BadHeader, Truncated, Trailing, TooBig};
+ghost use Rattle.mpy_reader.specs.Reading.{FirstFault};
+
+/// A file that is cut off is no file: below four bytes its header is wrong, and else it is truncated, wherever it was cut.
+pub fn cut_law()
+    ensures header { (front behind : List ℕ) (m : Module) → IsFile (front ++ behind) m → behind ≢ [] → length front < 4
+        → FirstFault front BadHeader }
+    ensures truncated { (front behind : List ℕ) (m : Module) → IsFile (front ++ behind) m → behind ≢ [] → 4 ≤ length front
+        → FirstFault front Truncated }
+{}
+
+/// A file with bytes behind it is no file either: it has too many bytes, or some that are no part of it.
+pub fn suffix_law()
+    ensures trailing { (bytes suffix : List ℕ) (m : Module) → IsFile bytes m → suffix ≢ [] → length (bytes ++ suffix) ≤ 4194304
+        → FirstFault (bytes ++ suffix) Trailing }
+    ensures too_big { (bytes suffix : List ℕ) (m : Module) → IsFile bytes m → 4194304 < length (bytes ++ suffix)
+        → FirstFault (bytes ++ suffix) TooBig }
+{}

@@ -1,0 +1,17 @@
+use Rattle.std.proofs.Common.{subst}
+use Rattle.bc_verify.specs.Verified.{IsVerified}
+use Rattle.library_files.proofs.Read.{same_read, not_read}
+use Rattle.frozen_files.proofs.source.read_module.Goals as goal
+
+pub returns-in-Ok : goal.returns-in-Ok
+returns-in-Ok c =
+    let m = c.requires.0 in
+    record {
+      file = c.in-Ok.ensures.found;
+      verified = subst IsVerified (same_read c.read.result c.in-Ok.raw m c.in-Ok.is (c.read.ensures.only m c.requires.1.file)) c.requires.1.verified;
+    }
+
+pub unreachable-requires : goal.unreachable-requires
+unreachable-requires c =
+    let m = c.requires.0 in
+    not_read c.read.result c.in-Err-Fault.field-0 c.in-Err-Fault.field-0-0 m c.in-Err-Fault.is c.in-Err-Fault.field-0-is (c.read.ensures.only m c.requires.1.file)

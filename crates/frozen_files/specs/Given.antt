@@ -1,0 +1,14 @@
+-- What compiling an entry's text answers.
+use Rattle.std.specs.Prelude.{ℕ, List, Result, Ok, Err}
+use Rattle.mpy_base.specs.declared.refused.Refused.{Refused}
+use Rattle.mpy_base.specs.declared.source.SourceFault.{SourceFault}
+use Rattle.mpy_tree.specs.Raw.{Module}
+use Rattle.mpy_compile.specs.Compiled.{IsFault}
+use Rattle.manifest_lines.specs.declared.entry.Entry.{Entry}
+use Rattle.frozen_files.specs.Faults.{FaultIs}
+use Rattle.frozen_files.specs.Sources.{IsModuleOf}
+
+-- the module of its file, or its first fault
+abbrev pub GivesModule : Entry → (text : List ℕ) → Result Module (Refused SourceFault) → Type 0
+GivesModule entry text (Ok m) = IsModuleOf entry text m
+GivesModule entry text (Err refusal) = FaultIs (IsFault entry.opt text entry.source) refusal

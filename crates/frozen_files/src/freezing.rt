@@ -1,0 +1,35 @@
+//! Freezing.
+
+ghost use Rattle.std.specs.Prelude.{◌≡◌};
+ghost use Rattle.mpy_io.specs.Count.{Counts};
+ghost use Rattle.frozen_files.specs.Faults.{failed_by, is_read_failure};
+ghost use Rattle.frozen_files.specs.Frozen.{Freezes};
+
+use crate::fault::FrozenFault;
+use crate::sources::read_sources;
+use image_freeze::freeze;
+use mpy_base::Refused;
+use mpy_io::Folder;
+use std::alloc::Global;
+
+/// The image of the sources of the manifest of this name, or why there is none. Nothing is written.
+pub fn freeze_files<F: Folder>(
+    alloc: Global,
+    manifest: &str,
+    folder: &mut F,
+) -> Result<Vec<u8>, Refused<FrozenFault>>
+    ensures frozen { Freezes (F.files folder.old) manifest.now result }
+    ensures counts { Counts (F.count folder.old) (F.count folder.new) (failed_by is_read_failure result) }
+    ensures files { F.files folder.new ≡ F.files folder.old }
+{
+    let modules = match read_sources(alloc, manifest, folder) {
+        Ok(modules) => modules,
+        Err(Refused::Fault(fault)) => return Err(Refused::Fault(FrozenFault::Sources(fault))),
+        Err(Refused::NoMemory) => return Err(Refused::NoMemory),
+    };
+    match freeze(alloc, &modules) {
+        Ok(bytes) => Ok(bytes),
+        Err(Refused::Fault(fault)) => Err(Refused::Fault(FrozenFault::Image(fault))),
+        Err(Refused::NoMemory) => Err(Refused::NoMemory),
+    }
+}

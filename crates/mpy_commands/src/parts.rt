@@ -1,0 +1,88 @@
+//! Parts of lines.
+
+use std::alloc::{AllocError, Global};
+
+/// A word, of which `''` is the empty one.
+fn word(alloc: Global, text: &str) -> Result<String, AllocError> {
+    String::from_str(alloc, if text == "''" { "" } else { text })
+}
+
+/// The words of a line, none of an empty one.
+pub fn words(alloc: Global, line: &str) -> Result<Vec<String>, AllocError> {
+    let mut words = Vec::new(alloc);
+    for text in line.split(" ") {
+        if !text.is_empty() {
+            words.push(word(alloc, text)?)?;
+        }
+    }
+    Ok(words)
+}
+
+/// The numbers with spaces between.
+pub fn numbers(alloc: Global, text: &str) -> Result<Vec<i32>, AllocError> {
+    let mut numbers = Vec::new(alloc);
+    for word in text.split(" ") {
+        if let Ok(number) = word.parse::<i32>() {
+            numbers.push(number)?;
+        }
+    }
+    Ok(numbers)
+}
+
+fn put_line(to: &mut Vec<u8>, line: &str) -> Result<(), AllocError> {
+    to.extend_from_slice(line.as_bytes())?;
+    to.push(b'\n')?;
+    Ok(())
+}
+
+/// A text as often as the number in front of it says, each with the end.
+fn put_often(to: &mut Vec<u8>, counted: &str, end: &str) -> Result<(), AllocError> {
+    let (count, text) = counted.split_once(" ").unwrap_or(("0", ""));
+    for _turn in 0..count.parse::<usize>().unwrap_or(0) {
+        to.extend_from_slice(text.as_bytes())?;
+        to.extend_from_slice(end.as_bytes())?;
+    }
+    Ok(())
+}
+
+fn digit_of(byte: u8) -> u8 {
+    if byte < b'a' {
+        byte.wrapping_sub(b'0')
+    } else {
+        byte.wrapping_sub(b'a').wrapping_add(10)
+    }
+}
+
+fn put_bytes(to: &mut Vec<u8>, digits: &str) -> Result<(), AllocError> {
+    for pair in digits.as_bytes().chunks_exact(2) {
+        if let [high, low] = pair {
+            to.push(
+                digit_of(*high)
+                    .wrapping_mul(16)
+                    .wrapping_add(digit_of(*low)),
+            )?;
+        }
+    }
+    Ok(())
+}
+
+/// Bytes as often as the number in front of them says.
+fn put_bytes_often(to: &mut Vec<u8>, counted: &str) -> Result<(), AllocError> {
+    let (count, digits) = counted.split_once(" ").unwrap_or(("0", ""));
+    for _turn in 0..count.parse::<usize>().unwrap_or(0) {
+        put_bytes(to, digits)?;
+    }
+    Ok(())
+}
+
+/// Puts what a line with this tag has: a line, a text, bytes in hexadecimal, or one of these so often.
+pub fn put(to: &mut Vec<u8>, tag: &str, rest: &str) -> Result<(), AllocError> {
+    match tag {
+        "|" | ">" | "-" => put_line(to, rest),
+        "." | "+" => to.extend_from_slice(rest.as_bytes()),
+        "*" => put_often(to, rest, "\n"),
+        "~" => put_often(to, rest, ""),
+        "y" => put_bytes_often(to, rest),
+        _ => put_bytes(to, rest),
+    }
+}

@@ -1,0 +1,12 @@
+//! What is kept stays what was fetched.
+
+ghost use Rattle.std.specs.Prelude.{ℕ};
+ghost use Rattle.bc_library.specs.Shelf.{Shelf};
+ghost use Rattle.vm_fetching.specs.declared.instruction.Fetched.{Fetched};
+ghost use Rattle.vm_cache.specs.Kept.{Kept, IsFetchedOf, AreFetched, with_kept};
+
+/// Where what was fetched of a code is kept at its place, all that is kept was fetched.
+pub fn cache_law()
+    ensures { (shelf : Shelf) (kept : Kept) (i k at : ℕ) (fetched : Fetched) → AreFetched shelf kept → IsFetchedOf shelf i k at fetched
+        → AreFetched shelf (with_kept kept i k at fetched) }
+{}

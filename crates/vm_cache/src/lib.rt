@@ -1,0 +1,10 @@
+//! What was fetched of a library's codes, kept by the offsets of their instructions.
+#![tactic(auto)]
+
+mod cache;
+mod codes;
+mod law;
+mod places;
+
+pub use cache::Cache;
+pub use law::cache_law;

@@ -1,0 +1,48 @@
+-- What an instruction acts as that puts a value.
+use Rattle.std.proofs.Common.{◌≡◌, ℕ, List, ◌∷◌, drop, Option, All, Result, Ok, Err}
+use Rattle.std.proofs.lemmas.List.Elements.{All-cons, All-drop}
+use Rattle.mpy_base.specs.World.{Heap, Objects}
+use Rattle.arena_heap.specs.declared.value.Value.{Value}
+use Rattle.arena_heap.specs.declared.value.StrNo.{StrNo}
+use Rattle.arena_heap.specs.declared.value.ConstNo.{ConstNo}
+use Rattle.bc_machine.specs.Library.{Item}
+use Rattle.vm_faults.specs.declared.stop.Stop.{Stop}
+use Rattle.vm_frames.specs.declared.slot.Slot.{Slot}
+use Rattle.vm_frames.specs.declared.slot.Slot.TheVariants as slots
+use Rattle.vm_frames.specs.Calls.{Call, Calls, on_running}
+use Rattle.vm_instructions.specs.Effects.{Steps, Leaves}
+use Rattle.vm_instructions.specs.Slots.{with_value, Puts}
+use Rattle.vm_unwinding.specs.Known.{IsKnownSlot}
+use Rattle.vm_fetching.specs.declared.instruction.Fetched.{Fetched}
+use Rattle.vm_states.specs.Means.{Program}
+use Rattle.vm_states.specs.Ready.{item_at}
+use Rattle.vm_known.specs.Acting.{Tells}
+use Rattle.vm_operating.specs.Keeping.{ActsKeeping}
+use Rattle.vm_operating.specs.Onward.{StartsBehind, DoesBehind, Onward, GoesOnward}
+use Rattle.vm_hot.proofs.Telling.{does_steps}
+
+module _ (texts : StrNo → Option (List ℕ)) (tuples : ConstNo → Option (List Value)) (objects : Objects Value ℕ) (old new : Calls) (end : ℕ) where
+  abbrev Known : Slot → Type 0
+  Known s = IsKnownSlot texts tuples objects s
+
+  -- the slots alone change
+  pub slots_onward : (st : Call → List Slot) → ((c : Call) → All Known c.slots → All Known (st c)) → new ≡ on_running (λ c. record c { at = end; slots = st c }) old → Onward texts tuples objects end old new
+  slots_onward st known moved = record { slots_of = st; locals_of = λ c. c.locals; moved = moved; slots_known = known; locals_known = λ c k. k }
+
+  put : (taken : ℕ) (result : Result (Unit {0}) Stop) → Puts texts tuples objects (with_value end taken) old new result → GoesOnward texts tuples objects end old new result
+  put taken (Ok done) h = slots_onward (λ c. slots.Value h.0 ∷ drop taken c.slots) (λ c k. All-cons Known (slots.Value h.0) (drop taken c.slots) h.1 (All-drop Known taken c.slots k)) h.2
+  put taken (Err stop) h = h
+
+abbrev pub ActsLaw : Type 0
+ActsLaw = (texts : StrNo → Option (List ℕ)) (tuples : ConstNo → Option (List Value)) (fetched : Fetched) (visits offset : ℕ) (before behind : Heap Value ℕ) (old new : Calls) (result : Result (Unit {0}) Stop)
+    → StartsBehind fetched offset → DoesBehind texts tuples fetched visits before behind old new result → GoesOnward texts tuples behind.objects offset old new result
+    → Leaves texts tuples before behind result → ActsKeeping texts tuples fetched visits before behind old new result
+
+module _ (law : ActsLaw) (fetched : Fetched) (starts : StartsBehind fetched fetched.end) (visits : ℕ) (item : Item) (old new : Calls)
+    {texts : StrNo → Option (List ℕ)} {tuples : ConstNo → Option (List Value)} {before behind : Heap Value ℕ} {result : Result (Unit {0}) Stop} (leaves : Leaves texts tuples before behind result)
+    (is : (p : Program) (c : Call) → Tells texts tuples p → item_at p c fetched ≡ item)
+    (steps : Steps texts tuples item visits fetched.end before behind old.calls new.calls result) where
+  pub puts : (taken : ℕ) → Puts texts tuples behind.objects (with_value fetched.end taken) old new result → ActsKeeping texts tuples fetched visits before behind old new result
+  puts taken moved =
+      law texts tuples fetched visits fetched.end before behind old new result starts (does_steps texts tuples fetched before behind old new result visits item is steps)
+      (put texts tuples behind.objects old new fetched.end taken result moved) leaves

@@ -1,0 +1,18 @@
+-- What was fetched, by the form of its instruction.
+use Rattle.std.proofs.Common.{◌≡◌, ℕ, List, Option, sym, subst}
+use Rattle.mpy_base.specs.World.{Heap}
+use Rattle.arena_heap.specs.declared.value.Value.{Value}
+use Rattle.arena_heap.specs.declared.value.StrNo.{StrNo}
+use Rattle.arena_heap.specs.declared.value.ConstNo.{ConstNo}
+use Rattle.vm_frames.specs.Calls.{Calls}
+use Rattle.vm_fetching.specs.declared.instruction.Fetched.{Fetched}
+use Rattle.vm_fetching.specs.declared.instruction.Instruction.{Instruction}
+use Rattle.vm_known.specs.Acting.{RunsOver}
+use Rattle.vm_hot.specs.AtOnce.{ActsAtOnce}
+
+module _ (texts : StrNo → Option (List ℕ)) (tuples : ConstNo → Option (List Value)) (f : Fetched) (i : Instruction) (is : f.instruction ≡ i) where
+  pub runs_at : (heap : Heap Value ℕ) (s : Calls) → RunsOver texts tuples heap s f → RunsOver texts tuples heap s (record { instruction = i; end = f.end })
+  runs_at heap s h = subst (λ (j : Instruction). RunsOver texts tuples heap s (record { instruction = j; end = f.end })) is h
+
+  pub acts_at : (heap : Heap Value ℕ) (old new : Calls) (visits : Option ℕ) → ActsAtOnce texts tuples (record { instruction = i; end = f.end }) heap old new visits → ActsAtOnce texts tuples f heap old new visits
+  acts_at heap old new visits h = subst (λ (j : Instruction). ActsAtOnce texts tuples (record { instruction = j; end = f.end }) heap old new visits) (sym is) h

@@ -1,0 +1,11 @@
+mod Answering
+mod Comparing
+mod Done
+mod Ending
+mod Finding
+mod Forms
+mod Loading
+mod Operating
+mod Telling
+mod Testing
+mod Truths

@@ -1,0 +1,12 @@
+use Rattle.std.proofs.Common.{subst, sym}
+use Rattle.vm_fetching.specs.declared.operations.JumpOp.{JumpOp}
+use Rattle.vm_fetching.specs.declared.operations.JumpOp.TheVariants as jump_ops
+use Rattle.vm_fetching.specs.declared.instruction.Instruction.TheVariants as fetched
+use Rattle.vm_hot.specs.AtOnce.{ActsAtOnce}
+use Rattle.vm_hot.proofs.Done.{at_once}
+use Rattle.vm_hot.proofs.jumps.jump_at_once.Goals as goal
+
+pub returns-in-Jump : goal.returns-in-Jump
+returns-in-Jump g c =
+    subst (λ (o : JumpOp). ActsAtOnce (g.C.Constants.text_of c.args.consts.now) (g.C.Constants.items_of c.args.consts.now) (record { instruction = fetched.Jump o c.args.target; end = c.args.end }) c.args.arena.now c.args.frames.now c.jump.new.frames c.done.result) (sym c.in-Jump.is)
+    (at_once (g.C.Constants.text_of c.args.consts.now) (g.C.Constants.items_of c.args.consts.now) (record { instruction = fetched.Jump jump_ops.Jump c.args.target; end = c.args.end }) c.args.arena.now c.args.frames.now c.jump.new.frames c.jump.result c.done.result c.done.ensures c.jump.ensures.acts)

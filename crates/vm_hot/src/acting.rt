@@ -1,0 +1,80 @@
+//! Instructions by their forms.
+
+ghost use Rattle.std.specs.Prelude.{◌≡◌};
+ghost use Rattle.vm_fetching.specs.declared.instruction.Instruction.TheVariants as fetched;
+ghost use Rattle.vm_moving.specs.Moving.{fetched_plain};
+ghost use Rattle.vm_known.specs.Acting.{RunsOver};
+ghost use Rattle.vm_hot.specs.AtOnce.{ActsAtOnce};
+
+use crate::doing::done;
+use crate::jumps::jump_at_once;
+use crate::locals::local_at_once;
+use crate::names::name_at_once;
+use crate::operators::binary_at_once;
+use arena_heap::{Arena, Constants};
+use vm_fetching::{Fetched, Instruction, PlainOp};
+use vm_frames::Frames;
+use vm_operating::{load_int, load_object, move_on, unary_op};
+
+/// An operation without an operand: those that move slots alone are carried out.
+#[inline(always)]
+fn plain_at_once<C: Constants>(
+    frames: &mut Frames,
+    arena: &Arena,
+    consts: &C,
+    op: PlainOp,
+    end: u32,
+) -> Option<u64>
+    requires runs { RunsOver (C.text_of consts.now) (C.items_of consts.now) arena.now frames.old (fetched_plain op end) }
+    ensures { ActsAtOnce (C.text_of consts.now) (C.items_of consts.now) (fetched_plain op end) arena.now frames.old frames.new result }
+{
+    match op {
+        PlainOp::LoadConstFalse => done(move_on(frames, arena, consts, op, end)),
+        PlainOp::LoadConstNone => done(move_on(frames, arena, consts, op, end)),
+        PlainOp::LoadConstTrue => done(move_on(frames, arena, consts, op, end)),
+        PlainOp::LoadNull => done(move_on(frames, arena, consts, op, end)),
+        PlainOp::DupTop => done(move_on(frames, arena, consts, op, end)),
+        PlainOp::DupTopTwo => done(move_on(frames, arena, consts, op, end)),
+        PlainOp::PopTop => done(move_on(frames, arena, consts, op, end)),
+        PlainOp::RotTwo => done(move_on(frames, arena, consts, op, end)),
+        PlainOp::RotThree => done(move_on(frames, arena, consts, op, end)),
+        PlainOp::LoadSubscr
+        | PlainOp::StoreSubscr
+        | PlainOp::EndFinally
+        | PlainOp::GetIterStack
+        | PlainOp::StoreMap
+        | PlainOp::ReturnValue
+        | PlainOp::RaiseLast
+        | PlainOp::RaiseObj => None,
+    }
+}
+
+/// Carries out what was fetched for the running call, if it changes that call alone and comes to no stop: constants, locals,
+/// names that are looked up, moves of slots, jumps, operators over one value, and over two small integers. It answers the visits
+/// that it makes; None where it is left.
+#[inline(always)]
+pub fn act_at_once<C: Constants>(
+    frames: &mut Frames,
+    arena: &Arena,
+    consts: &C,
+    fetched: Fetched,
+) -> Option<u64>
+    requires runs { RunsOver (C.text_of consts.now) (C.items_of consts.now) arena.now frames.old fetched }
+    ensures acts { ActsAtOnce (C.text_of consts.now) (C.items_of consts.now) fetched arena.now frames.old frames.new result }
+{
+    let end = fetched.end;
+    match fetched.instruction {
+        Instruction::Plain(op) => plain_at_once(frames, arena, consts, op, end),
+        Instruction::Number(op, n) => local_at_once(frames, arena, consts, op, n, end),
+        Instruction::Int(n) => done(load_int(frames, arena, consts, n, end)),
+        Instruction::Unary(number) => done(unary_op(frames, arena, consts, number, end)),
+        Instruction::Binary(number) => binary_at_once(frames, arena, consts, number, end),
+        Instruction::Name(op, text) => name_at_once(frames, arena, consts, op, text, end),
+        Instruction::Object(v) => done(load_object(frames, arena, consts, v, end)),
+        Instruction::Jump(op, target) => jump_at_once(frames, arena, consts, op, target, end),
+        Instruction::Unwind {
+            target: _target,
+            byte: _byte,
+        } => None,
+    }
+}

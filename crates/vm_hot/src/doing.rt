@@ -1,0 +1,30 @@
+//! What was done, and a slot that is put.
+
+ghost use Rattle.std.specs.Prelude.{◌≡◌, ◌<◌, ◌∷◌, length};
+ghost use Rattle.vm_frames.specs.Calls.{OfRunning, on_running};
+ghost use Rattle.vm_step.specs.Stacks.{gone};
+ghost use Rattle.vm_hot.specs.AtOnce.{visits_done};
+
+use vm_faults::Stop;
+use vm_frames::{Frames, Slot};
+
+/// No visits, where it came to no stop.
+#[inline(always)]
+pub(crate) fn done(acted: Result<(), Stop>) -> Option<u64>
+    ensures { result ≡ visits_done acted }
+{
+    match acted {
+        Ok(()) => Some(0),
+        Err(_stop) => None,
+    }
+}
+
+/// With a slot more on top, the running call goes on at the offset.
+#[inline(always)]
+pub(crate) fn go_with(frames: &mut Frames, slot: Slot, offset: u32)
+    requires { OfRunning (λ c. length c.slots < frames.old.slot_room) frames.old.calls }
+    ensures { frames.new ≡ on_running (λ c. gone offset (slot ∷ c.slots) c) frames.old }
+{
+    frames.push(slot);
+    frames.set_offset(offset);
+}

@@ -1,0 +1,68 @@
+//! Jumps.
+
+ghost use Rattle.std.specs.Prelude.{◌≡◌, ◌<◌, length, Some, None};
+ghost use Rattle.vm_frames.specs.Calls.{OfRunning};
+ghost use Rattle.vm_fetching.specs.declared.instruction.Instruction.TheVariants as fetched;
+ghost use Rattle.vm_known.specs.Acting.{RunsOver};
+ghost use Rattle.vm_operating.specs.Tests.{IsTest};
+ghost use Rattle.vm_hot.specs.AtOnce.{ActsAtOnce};
+
+use crate::doing::done;
+use arena_heap::{Arena, Constants, Value};
+use vm_fetching::JumpOp;
+use vm_frames::{Frames, Slot};
+use vm_operating::{acting_law, jump, jump_by};
+use vm_tops::tops_law;
+
+/// A jump that tests the top value, where that is a bool.
+#[inline(always)]
+fn test_at_once<C: Constants>(
+    frames: &mut Frames,
+    _arena: &Arena,
+    _consts: &C,
+    op: JumpOp,
+    target: u32,
+    end: u32,
+) -> Option<u64>
+    requires test { IsTest op }
+    requires runs { RunsOver (C.text_of _consts.now) (C.items_of _consts.now) _arena.now frames.old (record { instruction = fetched.Jump op target; end = end }) }
+    ensures { ActsAtOnce (C.text_of _consts.now) (C.items_of _consts.now) (record { instruction = fetched.Jump op target; end = end }) _arena.now frames.old frames.new result }
+{
+    acting_law();
+    tops_law();
+    match frames.slot(0) {
+        Slot::Value(v) => match v {
+            Value::Bool(truth) => {
+                jump_by(frames, op, truth, target, end);
+                Some(0)
+            }
+            _ => None,
+        },
+        _ => None,
+    }
+}
+
+/// A jump, or one that tests a bool.
+#[inline(always)]
+pub(crate) fn jump_at_once<C: Constants>(
+    frames: &mut Frames,
+    arena: &Arena,
+    consts: &C,
+    op: JumpOp,
+    target: u32,
+    end: u32,
+) -> Option<u64>
+    requires runs { RunsOver (C.text_of consts.now) (C.items_of consts.now) arena.now frames.old (record { instruction = fetched.Jump op target; end = end }) }
+    ensures { ActsAtOnce (C.text_of consts.now) (C.items_of consts.now) (record { instruction = fetched.Jump op target; end = end }) arena.now frames.old frames.new result }
+{
+    match op {
+        JumpOp::Jump => done(jump(frames, arena, consts, target, end)),
+        JumpOp::PopJumpIfTrue => test_at_once(frames, arena, consts, op, target, end),
+        JumpOp::PopJumpIfFalse => test_at_once(frames, arena, consts, op, target, end),
+        JumpOp::JumpIfTrueOrPop => test_at_once(frames, arena, consts, op, target, end),
+        JumpOp::JumpIfFalseOrPop => test_at_once(frames, arena, consts, op, target, end),
+        JumpOp::SetupExcept | JumpOp::SetupFinally | JumpOp::PopExceptJump | JumpOp::ForIter => {
+            None
+        }
+    }
+}

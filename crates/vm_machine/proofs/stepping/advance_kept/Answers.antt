@@ -1,0 +1,71 @@
+use Rattle.std.proofs.Common.{refl, ap, arith}
+use Rattle.std.specs.Prelude.{is_some, map}
+use Rattle.port_set.proofs.Counting.{counts_same}
+use Rattle.vm_machine.proofs.Runs.{ended_runs}
+use Rattle.vm_machine.proofs.stepping.advance_kept.Goals as goal
+
+pub go-requires-clause-vm : goal.go-requires-clause-vm
+go-requires-clause-vm g c = c.requires.vm
+
+pub go-requires-clause-rows : goal.go-requires-clause-rows
+go-requires-clause-rows g c = c.requires.rows
+
+pub go-requires-clause-goes_on : goal.go-requires-clause-goes_on
+go-requires-clause-goes_on g c = c.in-None.is
+
+pub go-requires-clause-some : goal.go-requires-clause-some
+go-requires-clause-some g c = c.requires.some
+
+pub go-requires-clause-countable : goal.go-requires-clause-countable
+go-requires-clause-countable g c = c.requires.countable
+
+pub returns-in-Some-clause-vm : goal.returns-in-Some-clause-vm
+returns-in-Some-clause-vm g c = c.requires.vm
+
+pub returns-in-Some-clause-runs : goal.returns-in-Some-clause-runs
+returns-in-Some-clause-runs g c = ended_runs g.S.Sink.told c.args.library.now c.args.vm.now (record { out = c.args.out.now; ports = map g.P.Port.seen c.args.ports.now }) c.args.most (ap is_some c.in-Some.is)
+
+pub returns-in-Some-clause-failed : goal.returns-in-Some-clause-failed
+returns-in-Some-clause-failed g c = tt
+
+pub returns-in-Some-clause-taken : goal.returns-in-Some-clause-taken
+returns-in-Some-clause-taken g c = (c.requires.some, omega arith, omega arith)
+
+pub returns-in-Some-clause-paid : goal.returns-in-Some-clause-paid
+returns-in-Some-clause-paid g c = tt
+
+pub returns-in-Some-clause-counts : goal.returns-in-Some-clause-counts
+returns-in-Some-clause-counts g c = refl
+
+pub returns-in-None-clause-vm : goal.returns-in-None-clause-vm
+returns-in-None-clause-vm g c = c.go.ensures.vm
+
+pub returns-in-None-clause-runs : goal.returns-in-None-clause-runs
+returns-in-None-clause-runs g c = c.go.ensures.runs
+
+pub returns-in-None-clause-failed : goal.returns-in-None-clause-failed
+returns-in-None-clause-failed g c = c.go.ensures.failed
+
+pub returns-in-None-clause-taken : goal.returns-in-None-clause-taken
+returns-in-None-clause-taken g c = c.go.ensures.taken
+
+pub returns-in-None-clause-paid : goal.returns-in-None-clause-paid
+returns-in-None-clause-paid g c = c.go.ensures.paid
+
+pub returns-in-None-clause-counts : goal.returns-in-None-clause-counts
+returns-in-None-clause-counts g c = c.go.ensures.counts
+
+pub returns-in-Some-clause-faults : goal.returns-in-Some-clause-faults
+returns-in-Some-clause-faults g c = counts_same (map g.P.Port.seen c.args.ports.now)
+
+pub returns-in-None-clause-faults : goal.returns-in-None-clause-faults
+returns-in-None-clause-faults g c = c.go.ensures.faults
+
+pub go-requires-clause-kept : goal.go-requires-clause-kept
+go-requires-clause-kept g c = c.requires.kept
+
+pub returns-in-Some-clause-kept : goal.returns-in-Some-clause-kept
+returns-in-Some-clause-kept g c = c.requires.kept
+
+pub returns-in-None-clause-kept : goal.returns-in-None-clause-kept
+returns-in-None-clause-kept g c = c.go.ensures.kept
