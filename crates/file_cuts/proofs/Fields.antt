@@ -75,7 +75,7 @@ taken_cut n = record {
   };
 }
 
-count_cut : Cuts count
+pub count_cut : Cuts count
 unfolding count
 count_cut = let c = bind_cut number (λ n bytes. Bind (judge (n ≤ MAX_TABLE) TooBig) (λ _. pure (n, bytes))) number_cut
     (λ n. value_cut (judge (n ≤ MAX_TABLE) TooBig) (λ _ bytes. pure (n, bytes)) (λ _. pure_cut n)) in record { cut = c.cut }
@@ -164,7 +164,7 @@ element_cut inner each texts =
     (children_cut inner each front.1) (λ codes. pure_cut _)) in
     record { cut = c.cut }
 
-code_cut : (levels texts : ℕ) → Cuts (code levels texts)
+pub code_cut : (levels texts : ℕ) → Cuts (code levels texts)
 unfolding code
 code_cut zero texts = let c = refuse_cut {A = RawCode} TooBig in record { cut = c.cut }
 code_cut (suc levels) texts = let c = element_cut (code levels texts) (code_cut levels texts) texts in record { cut = c.cut }
