@@ -1,0 +1,5 @@
+pub mod Names
+pub mod Others
+pub mod Holding
+pub mod Told
+pub mod Loops

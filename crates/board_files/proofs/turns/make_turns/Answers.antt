@@ -1,0 +1,27 @@
+use Rattle.std.proofs.Common.{rules, ◌≡◌, ◌∷◌, length, refl, ◌∙◌}
+use Rattle.board_files.proofs.Loops.{no_turns, more_turns, next_countable, next_there, all_turns}
+use Rattle.board_files.proofs.turns.make_turns.Goals as goal
+
+pub more-init : goal.more-init
+more-init g c = (no_turns c.args.library.now c.args.turns.now c.args.board.now (g.F.Folder.files c.args.folder.now) c.requires.runs c.requires.unpaid c.requires.countable c.requires.there, refl)
+
+pub make_turn-requires-clause-there : goal.make_turn-requires-clause-there
+make_turn-requires-clause-there g c =
+    next_there c.args.library.now c.args.turns.now c.in-Some.turn.now c.in-Some.behind.now c.more.rest.now c.args.board.now c.more.board (g.F.Folder.files c.args.folder.now) (g.F.Folder.files c.more.folder) c.in-Some.ensures.cases.0 c.more.invariant.0
+
+pub make_turn-requires-clause-paid : goal.make_turn-requires-clause-paid
+make_turn-requires-clause-paid g c =
+    next_countable c.args.library.now c.args.turns.now c.in-Some.turn.now c.in-Some.behind.now c.more.rest.now c.args.board.now c.more.board (g.F.Folder.files c.args.folder.now) (g.F.Folder.files c.more.folder) c.in-Some.ensures.cases.0 c.more.invariant.0
+
+pub more-preserved : goal.more-preserved
+more-preserved g c = (
+  more_turns c.args.library.now c.args.turns.now c.in-Some.turn.now c.in-Some.behind.now c.more.rest.now c.args.board.now c.more.board c.make_turn.new.board
+      (g.F.Folder.files c.args.folder.now) (g.F.Folder.files c.more.folder) (g.F.Folder.files c.make_turn.new.folder) c.in-Some.ensures.cases.0 c.more.invariant.0
+      c.make_turn.ensures.runs c.make_turn.ensures.as_many c.make_turn.ensures.paid c.in_ok-make_turn.ensures.goes c.make_turn.ensures.others,
+  c.in_ok-make_turn.ensures.counts ∙ c.more.invariant.1,
+)
+
+pub returns-clause-goes : goal.returns-clause-goes
+returns-clause-goes g c =
+    let none : length c.more.rest.now ≡ 0 = search rules in
+    all_turns c.args.library.now c.args.turns.now c.more.rest.now c.args.board.now c.more.board (g.F.Folder.files c.args.folder.now) (g.F.Folder.files c.more.folder) none c.more.invariant.0

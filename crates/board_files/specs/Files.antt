@@ -1,0 +1,56 @@
+-- The files of the tasks' output.
+use Rattle.std.specs.Prelude.{◌≡◌, ◌≢◌, ◌⊎◌, ℕ, ◌<◌, Bool, true, false, List, [], ◌++◌, Option, Some, None, IfSome, Result, Ok, Err, codes, decimal}
+use Rattle.mpy_io.specs.Files.{FileOf, AppendsFile, Becomes}
+use Rattle.board_files.specs.declared.stop.BoardStop.{BoardStop}
+use Rattle.board_files.specs.declared.stop.BoardStop.TheVariants as stops
+use Rattle.board_files.specs.declared.stop.OutputStop.{OutputStop}
+use Rattle.board_files.specs.declared.stop.OutputStop.TheVariants as outputs
+use Rattle.board_files.specs.declared.stop.SummaryStop.{SummaryStop}
+use Rattle.board_files.specs.declared.stop.SummaryStop.TheVariants as summaries
+
+-- the name of the file that takes the output of the task of this number
+unfoldable pub out_name : ℕ → List ℕ
+out_name task = decimal task ++ codes ".out"
+
+-- the name is none of those of so many tasks
+abbrev pub IsNoOutput : (count : ℕ) → (name : List ℕ) → Type 0
+IsNoOutput count name = (task : ℕ) → task < count → name ≢ out_name task
+
+-- each other file is what it was
+abbrev pub KeepsOthers : (count : ℕ) → (old new : Option FileOf) → Type 0
+KeepsOthers count old new = IfSome old (λ file. (now : FileOf) × (new ≡ Some now) × ((name : List ℕ) → IsNoOutput count name → now name ≡ file name))
+
+-- the file of each of so many tasks is empty, and each other file is what it was
+abbrev pub AreEmpty : (count : ℕ) → (old new : Option FileOf) → Type 0
+AreEmpty count old new = IfSome old (λ file. (now : FileOf) × (new ≡ Some now) × ((task : ℕ) → task < count → now (out_name task) ≡ Some []))
+
+-- these bytes were added to the file, or there were none
+abbrev pub Adds : (old new : Option FileOf) → (name bytes : List ℕ) → Type 0
+Adds old new name bytes = AppendsFile old new name bytes ⊎ ((bytes ≡ []) × (new ≡ old))
+
+-- whether the folder failed
+abbrev pub is_unwritten : Result (Unit {0}) OutputStop → Bool
+is_unwritten (Ok done) = false
+is_unwritten (Err (outputs.Unwritten task)) = true
+is_unwritten (Err outputs.NoMemory) = false
+
+-- whether the sink failed
+abbrev pub is_unput : Result (Unit {0}) SummaryStop → Bool
+is_unput (Ok done) = false
+is_unput (Err summaries.WriteFault) = true
+is_unput (Err summaries.NoMemory) = false
+
+-- the same of the run of a plan
+abbrev pub is_folder_fault : Result (Unit {0}) BoardStop → Bool
+is_folder_fault (Ok done) = false
+is_folder_fault (Err (stops.NoModule name)) = false
+is_folder_fault (Err (stops.Unwritten task)) = true
+is_folder_fault (Err stops.WriteFault) = false
+is_folder_fault (Err stops.NoMemory) = false
+
+abbrev pub is_out_fault : Result (Unit {0}) BoardStop → Bool
+is_out_fault (Ok done) = false
+is_out_fault (Err (stops.NoModule name)) = false
+is_out_fault (Err (stops.Unwritten task)) = false
+is_out_fault (Err stops.WriteFault) = true
+is_out_fault (Err stops.NoMemory) = false

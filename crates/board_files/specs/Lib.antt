@@ -1,0 +1,5 @@
+pub mod Files
+pub mod Runs
+pub mod Summaries
+pub mod Lines
+pub mod Written

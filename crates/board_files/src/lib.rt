@@ -1,0 +1,11 @@
+//! Runs of a plan's tasks by turns, with a file for the output of each.
+#![tactic(auto)]
+
+mod files;
+mod running;
+mod stop;
+mod summary;
+mod turns;
+
+pub use running::run_board;
+pub use stop::BoardStop;

@@ -1,0 +1,13 @@
+//! How commands end: the statuses, and the line that is said at the end.
+#![tactic(auto)]
+
+mod ending;
+mod freezing;
+mod line;
+mod put;
+mod words;
+
+pub use ending::{Ended, Ending, Stop};
+pub use line::{say_ending, say_words};
+pub use put::put_three;
+pub use words::{file_names, main_name, source_name, word_at};
