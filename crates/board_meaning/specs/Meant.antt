@@ -1,0 +1,20 @@
+-- What the run of a task says of the program of its module.
+use Rattle.std.specs.Prelude.{◌≡◌, ℕ, List, [], Some}
+use Rattle.mpy_io.specs.Files.{FileOf}
+use Rattle.py_effects.specs.Ends.{Run}
+use Rattle.py_meaning.specs.Program.{Program}
+use Rattle.program_runs.specs.Runs.{MeansRun}
+use Rattle.board_plan.specs.declared.plan.Plan.{Plan}
+use Rattle.board_plan.specs.declared.plan.Task.{Task}
+use Rattle.board_tasks.specs.Schedules.{total}
+use Rattle.board_files.specs.Files.{out_name}
+use Rattle.board_files.specs.Summaries.{SaysRun}
+
+-- A run, without ports and for the total of the task's own steps, ends as the program means, or is stopped by its steps on the way.
+-- The task's file has its output, and a line of the summary says how it ended and which room its objects use
+pub record RanAsMeant (program : Program) (plan : Plan) (number : ℕ) (task : Task) (files : FileOf) : Type 0 where
+  pub run : Run
+  pub means : MeansRun program task.room.cells task.room.bytes [] (total plan.turns number) run
+  pub output : files (out_name number) ≡ Some run.world.output
+  pub line : List ℕ
+  pub says : SaysRun number run line

@@ -1,0 +1,25 @@
+//! What the runs of tasks mean.
+
+ghost use Rattle.std.specs.Prelude.{◌≡◌, ℕ, List, Option, Some, slice_get};
+ghost use Rattle.mpy_io.specs.Files.{FileOf};
+ghost use Rattle.bc_library.specs.Shelf.{Shelf};
+ghost use Rattle.py_meaning.specs.Program.{Program};
+ghost use Rattle.vm_states.specs.Means as machine;
+ghost use Rattle.vm_programs.specs.Programs.{IsProgramOf};
+ghost use Rattle.program_runs.specs.Units.{AreUnits};
+ghost use Rattle.board_plan.specs.declared.plan.Plan.{Plan};
+ghost use Rattle.board_plan.specs.declared.plan.Task.{Task};
+ghost use Rattle.board_files.specs.Summaries.{HasRun};
+ghost use Rattle.board_meaning.specs.Meant.{RanAsMeant};
+
+use program_runs::runs_law;
+
+/// Where the library has the units of a program whose main module is a task's, that task prints and ends as the program means, without
+/// ports, in the task's room and with the total of its own steps: whatever the other tasks do.
+pub fn tasks_law()
+    ensures { (shelf : Shelf) (p : machine.Program) (plan : Plan) (old new : FileOf) (before behind : Option (List ℕ)) (number : ℕ) (task : Task) (program : Program)
+        → IsProgramOf shelf p → HasRun p plan old new before behind → slice_get plan.tasks number ≡ Some task → AreUnits program shelf → program.main_name ≡ task.«module»
+        → RanAsMeant program plan number task new }
+{
+    runs_law();
+}

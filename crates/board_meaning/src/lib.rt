@@ -1,0 +1,6 @@
+//! The tasks of a board run as the programs of their modules mean.
+#![tactic(auto)]
+
+mod laws;
+
+pub use laws::tasks_law;
