@@ -14,10 +14,11 @@ use std::alloc::{AllocError, Global};
 use std::process::ExitCode;
 use std::{fs, io};
 
-const FILES: [&str; 12] = [
+const FILES: [&str; 13] = [
     "codes",
     "files",
     "goes",
+    "images",
     "library",
     "limits",
     "listings",
