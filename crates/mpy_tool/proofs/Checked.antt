@@ -1,5 +1,5 @@
 -- A file that is too long to be read, and the text of a path.
-use Rattle.std.proofs.Common.{◌≡◌, ◌<◌, ◌≤◌, ◌++◌, ◌∷◌, [], ℕ, Bool, true, false, List, length, ◌==◌, sym, ◌∙◌, codes, decimal, Option, Some, None, IfSome, Err, refl, subst, inr, arith}
+use Rattle.std.proofs.Common.{◌≡◌, ◌<◌, ◌≤◌, ℕ, List, length, Option, Some, None, IfSome, Err, refl, subst, inr, arith}
 use Rattle.std.specs.Io.KnownBytes.{Keeps}
 use Rattle.std.proofs.KnownBytes.{Keeps-refl}
 use Rattle.mpy_base.specs.declared.limits.TheConstants.{MAX_READ_BYTES, MAX_FILE_BYTES}
@@ -8,11 +8,10 @@ use Rattle.mpy_io.specs.declared.fault.ReadFault.TheVariants.{TooLong}
 use Rattle.mpy_io.specs.Files.{FileOf, Reads}
 use Rattle.mpy_reader.specs.declared.fault.FileFault.TheVariants.{TooBig}
 use Rattle.mpy_reader.specs.Reading.{FirstFault, file, stops}
-use Rattle.mpy_tool.specs.declared.ending.Ending.{Ending}
-use Rattle.mpy_tool.specs.declared.ending.Ending.TheVariants.{Done, Unaccepted, Unread, Unverified, Unmerged, Stopped, ReadFault, WriteFault, Unwritten, NoMemory, Absent}
+use Rattle.mpy_endings.specs.declared.ending.Ending.{Ending}
+use Rattle.mpy_endings.specs.declared.ending.Ending.TheVariants.{Done, Unaccepted, Unread, Unverified, Unmerged, Unopened, Unfrozen, Stopped, ReadFault, WriteFault, Unwritten, NoMemory, Absent}
 use Rattle.mpy_tool.specs.Check.{Judges}
 use Rattle.mpy_tool.specs.Folder.{MayHold}
-use Rattle.mpy_tool.specs.Line.{path_text}
 use Rattle.mpy_tool.specs.Merge.{Opens}
 use Rattle.mpy_tool.proofs.Runs.{some_long}
 
@@ -37,14 +36,11 @@ judged_from bytes (Unaccepted fault) h = absurd h
 judged_from bytes (Unread fault) h = h
 judged_from bytes (Unverified fault) h = h
 judged_from bytes (Unmerged fault) h = absurd h
+judged_from bytes (Unopened fault) h = absurd h
+judged_from bytes (Unfrozen fault) h = absurd h
 judged_from bytes (Stopped stop) h = absurd h
 judged_from bytes ReadFault h = absurd h
 judged_from bytes WriteFault h = absurd h
 judged_from bytes Unwritten h = absurd h
 judged_from bytes NoMemory h = tt
 judged_from bytes Absent h = absurd h
-
--- a place with others behind it
-pub path_more : (path behind : List ℕ) (place : ℕ) (alone : Bool) → path ≡ place ∷ behind → alone ≡ (length behind == 0) → alone ≡ false → path_text path ≡ (decimal place ++ codes ".") ++ path_text behind
-path_more path [] place alone e h n = absurd (let clash : true ≡ false = sym h ∙ n in cc)
-path_more path (next ∷ places) place alone e h n = rw e refl

@@ -6,8 +6,8 @@ use Rattle.mpy_base.specs.Fault.{too_long}
 use Rattle.mpy_io.specs.declared.fault.ReadFault.{ReadFault as FolderFault}
 use Rattle.mpy_io.specs.declared.fault.ReadFault.TheVariants.{TooLong}
 use Rattle.mpy_io.specs.Files.{FileOf, Reads, Becomes, BecomesFront}
-use Rattle.mpy_tool.specs.declared.ending.Ending.{Ending}
-use Rattle.mpy_tool.specs.declared.ending.Ending.TheVariants.{Done, Unaccepted, Unread, Unverified, Unmerged, Stopped, ReadFault, WriteFault, Unwritten, NoMemory, Absent}
+use Rattle.mpy_endings.specs.declared.ending.Ending.{Ending}
+use Rattle.mpy_endings.specs.declared.ending.Ending.TheVariants.{Done, Unaccepted, Unread, Unverified, Unmerged, Unopened, Unfrozen, Stopped, ReadFault, WriteFault, Unwritten, NoMemory, Absent}
 use Rattle.mpy_tool.specs.Cross.{HoldsCompiled, HoldsFaulty, Crosses, ChangesOnly}
 use Rattle.mpy_tool.specs.Folder.{MayHold}
 use Rattle.mpy_compile.specs.Compiled.{CompilesTo}
@@ -33,6 +33,8 @@ crosses_only level name stored written old new (Unaccepted fault) h = same_only 
 crosses_only level name stored written old new (Unread fault) h = absurd h
 crosses_only level name stored written old new (Unverified fault) h = absurd h
 crosses_only level name stored written old new (Unmerged fault) h = absurd h
+crosses_only level name stored written old new (Unopened fault) h = absurd h
+crosses_only level name stored written old new (Unfrozen fault) h = absurd h
 crosses_only level name stored written old new (Stopped stop) h = absurd h
 crosses_only level name stored written old new ReadFault h = same_only old new written h
 crosses_only level name stored written old new WriteFault h = became_only old new written h.0 h.2
@@ -53,6 +55,16 @@ pub long_source : (level : ℕ) (files new : Option FileOf) (name stored : List 
 long_source level files new name stored fault said e f h same =
     let read = subst (λ (x : FolderFault). IfSome files (λ file. Reads (file name) (Err x))) e h in
     (subst (HoldsFaulty level files name stored) (sym f) (long_faulty level files name stored read), same)
+
+-- ---- a write
+
+pub crossed_done : (level : ℕ) (old same new : Option FileOf) (name kept written source read bytes put : List ℕ) → read ≡ source → put ≡ bytes → same ≡ old → MayHold old name (Some source) → CompilesTo level read kept bytes
+    → Becomes same new written put → (x : List ℕ) × HoldsCompiled level old name kept x × Becomes old new written x
+crossed_done level old same new name kept written source read bytes put e f h holds compiles became = (
+  bytes,
+  record { source = source; holds = holds; compiles = subst (λ (z : List ℕ). CompilesTo level z kept bytes) e compiles },
+  subst (λ (z : Option FileOf). Becomes z new written bytes) h (subst (λ (z : List ℕ). Becomes same new written z) f became),
+)
 
 -- ---- a write that failed
 

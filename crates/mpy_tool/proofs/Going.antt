@@ -15,9 +15,9 @@ use Rattle.library_files.specs.Ends.{EndsIn, FailsAmong}
 use Rattle.library_files.specs.Loads as loads
 use Rattle.library_files.specs.Loads.{Loading}
 use Rattle.source_files.specs.Sources.{stored, source_ending, IsModuleOf, SourceComesTo, LoadsFromSources}
-use Rattle.mpy_tool.specs.declared.ending.Ending.{Ending}
-use Rattle.mpy_tool.specs.declared.ending.Ending.TheVariants.{Done, Unaccepted, Unread, Unverified, Unmerged, Stopped, ReadFault, WriteFault, Unwritten, NoMemory, Absent}
-use Rattle.mpy_tool.specs.declared.ending.Stop.TheVariants.{Past, LibraryFault, LibraryUnaccepted, Raised, Memory, Steps}
+use Rattle.mpy_endings.specs.declared.ending.Ending.{Ending}
+use Rattle.mpy_endings.specs.declared.ending.Ending.TheVariants.{Done, Unaccepted, Unread, Unverified, Unmerged, Unopened, Unfrozen, Stopped, ReadFault, WriteFault, Unwritten, NoMemory, Absent}
+use Rattle.mpy_endings.specs.declared.ending.Stop.TheVariants.{Past, LibraryFault, LibraryUnaccepted, Raised, Memory, Steps}
 use Rattle.mpy_tool.specs.Base.{base_of}
 use Rattle.mpy_tool.specs.Cross.{HoldsFaulty}
 use Rattle.mpy_tool.specs.Folder.{MayHold}
@@ -73,6 +73,8 @@ sources_unloaded level files name (Unaccepted fault) h = tt
 sources_unloaded level files name (Unread fault) h = tt
 sources_unloaded level files name (Unverified fault) h = tt
 sources_unloaded level files name (Unmerged fault) h = absurd h
+sources_unloaded level files name (Unopened fault) h = absurd h
+sources_unloaded level files name (Unfrozen fault) h = absurd h
 sources_unloaded level files name (Stopped (Past limit)) h = tt
 sources_unloaded level files name (Stopped (LibraryFault path)) h = tt
 sources_unloaded level files name (Stopped (LibraryUnaccepted source)) h = tt

@@ -1,4 +1,3 @@
-pub mod Said
 pub mod Runs
 pub mod Checked
 pub mod Crossed
@@ -8,6 +7,9 @@ pub mod Merging
 pub mod Bases
 pub mod Running
 pub mod Going
+mod Starting
 mod Meaning
 mod Making
 mod GoMeaning
+mod ImageMeaning
+mod Freezing

@@ -8,7 +8,7 @@ use Rattle.py_meaning.specs.Program.{Source, Unit, Merge, Units, Part, Parts}
 use Rattle.mpy_compile.specs.Compiled.{CompilesTo}
 use Rattle.unit_files.specs.Readings.{IsReading}
 use Rattle.built_files.specs.Built.{IsBuilt, crossed, merged, AreBuilt, last, next}
-use Rattle.mpy_tool.specs.declared.ending.Ending.TheVariants.{Done}
+use Rattle.mpy_endings.specs.declared.ending.Ending.TheVariants.{Done}
 use Rattle.mpy_tool.specs.Cross.{Crosses}
 use Rattle.mpy_tool.specs.Merge.{HoldsModule, HoldModules, Merges}
 use Rattle.mpy_tool.specs.Made.{HoldsMade, HoldMade, MakesOfSource, MakesOfUnits}

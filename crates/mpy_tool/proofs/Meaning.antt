@@ -1,5 +1,5 @@
 -- What a run that has ended says of its program.
-use Rattle.std.proofs.Common.{◌≡◌, ◌⊎◌, inl, inr, ℕ, List, [], ◌++◌, Option, Some, refl, sym, ap, subst, ◌∙◌, append-nil, length}
+use Rattle.std.proofs.Common.{◌≡◌, ◌⊎◌, inl, inr, ℕ, true, List, [], ◌∷◌, ◌++◌, Ok, Option, Some, refl, sym, ap, subst, ◌∙◌, append-nil, length}
 use Rattle.mpy_base.specs.declared.room.Room.{Room}
 use Rattle.mpy_base.specs.World.{PortState}
 use Rattle.mpy_io.specs.Files.{FileOf}
@@ -11,7 +11,7 @@ use Rattle.port_set.specs.Counts.{AreAccounted}
 use Rattle.bc_library.specs.Shelf.{Shelf}
 use Rattle.py_values.specs.Shown.{PlainHeap}
 use Rattle.py_effects.specs.Ends.{End, Open, Ended, Raised, Memory, end_report}
-use Rattle.py_meaning.specs.Program.{Program}
+use Rattle.py_meaning.specs.Program.{Unit, Program}
 use Rattle.vm_reports.specs.Rooms.{room_line}
 use Rattle.program_runs.specs.Units.{AreUnits}
 use Rattle.library_files.specs.Loads.{Loaded, LoadsFrom, main_name}
@@ -19,14 +19,16 @@ use Rattle.library_runs.specs.declared.ending.RunEnd.{RunEnd}
 use Rattle.library_runs.specs.declared.ending.RunEnd.TheVariants as ends
 use Rattle.library_runs.specs.Runs.{Sight, RunsAs, end_of, said_of}
 use Rattle.mpy_headline.specs.Meant.{RanAsMeant, CutShortAsMeant, EndsAsMeant}
-use Rattle.built_files.specs.Built.{IsBuiltProgram}
-use Rattle.mpy_tool.specs.declared.ending.Ending.{Ending}
-use Rattle.mpy_tool.specs.declared.ending.Ending.TheVariants.{Done, Unaccepted, Unread, Unverified, Unmerged, Stopped, ReadFault, WriteFault, Unwritten, NoMemory, Absent}
-use Rattle.mpy_tool.specs.declared.ending.Stop.TheVariants as stops
+use Rattle.built_files.specs.Built.{IsBuilt, IsBuiltProgram}
+use Rattle.mpy_endings.specs.declared.ending.Ending.{Ending}
+use Rattle.mpy_endings.specs.declared.ending.Ending.TheVariants.{Done, Unaccepted, Unread, Unverified, Unmerged, Unopened, Unfrozen, Stopped, ReadFault, WriteFault, Unwritten, NoMemory, Absent}
+use Rattle.image_runs.specs.declared.fault.MainFault.TheVariants as mains
+use Rattle.mpy_endings.specs.declared.ending.Stop.TheVariants as stops
 use Rattle.mpy_tool.specs.Base.{base_of}
-use Rattle.mpy_tool.specs.Ending.{status_of}
-use Rattle.mpy_tool.specs.Line.{Says, line_of}
+use Rattle.mpy_endings.specs.Ending.{status_of}
+use Rattle.mpy_endings.specs.Line.{Says, line_of}
 use Rattle.mpy_tool.specs.Outside.{Outside}
+use Rattle.mpy_tool.specs.Ready.{RunLibrary, not_read, of_file, of_image, begins_image}
 use Rattle.mpy_tool.specs.Run.{FileLibrary, RanLibrary, Runs, EndsRun, ending_of, sight_in}
 use Rattle.mpy_tool.specs.Meant.{HoldsBuilt, HoldsProgram, IsRunStatus, PrintsAndEnds, PrintsFront, DoesAsMeant, Libraries, RunMeans, end_status, end_text}
 
@@ -114,8 +116,8 @@ module _ (law : MeantLaw) (Comes : Libraries) (program : Program) (room : Room) 
   ran : (end : RunEnd) → (EndsAsMeant program room steps ports before after end said → Does) → RanSo end → Does
   ran end step r =
       let held = holds r.0 r.1 in
-      let runs = subst (λ (main : List ℕ). RunsAs r.0 main room steps before after end said) (sym held.0) r.2 in
-      step (law program r.0 room steps before after end said held.1 runs accounted ports printed out_told ports_told)
+      let runs = subst (λ (main : List ℕ). RunsAs r.0.library main room steps before after end said) (sym held.0) r.2 in
+      step (law program r.0.library room steps before after end said held.1 runs accounted ports printed out_told ports_told)
 
   -- no run was made
   none : (n : ℕ) → (n ≡ 0 → ⊥) → (n ≡ 1 → ⊥) → (n ≡ 5 → ⊥) → (n ≡ 6 → ⊥) → (n ≡ 8 → ⊥) → status ≡ n → Does
@@ -146,6 +148,9 @@ module _ (law : MeantLaw) (Comes : Libraries) (program : Program) (room : Room) 
   meant_by (Unread fault) is says h = none 4 (λ e. absurd cc) (λ e. absurd cc) (λ e. absurd cc) (λ e. absurd cc) (λ e. absurd cc) is
   meant_by (Unverified fault) is says h = none 4 (λ e. absurd cc) (λ e. absurd cc) (λ e. absurd cc) (λ e. absurd cc) (λ e. absurd cc) is
   meant_by (Unmerged fault) is says h = absurd h
+  meant_by (Unopened (mains.Image fault)) is says h = none 4 (λ e. absurd cc) (λ e. absurd cc) (λ e. absurd cc) (λ e. absurd cc) (λ e. absurd cc) is
+  meant_by (Unopened (mains.NoMain main)) is says h = none 10 (λ e. absurd cc) (λ e. absurd cc) (λ e. absurd cc) (λ e. absurd cc) (λ e. absurd cc) is
+  meant_by (Unfrozen fault) is says h = absurd h
   meant_by ReadFault is says h = none 7 (λ e. absurd cc) (λ e. absurd cc) (λ e. absurd cc) (λ e. absurd cc) (λ e. absurd cc) is
   meant_by WriteFault is says h = ran ends.WriteFault (cut is) h
   meant_by Unwritten is says h = absurd h
@@ -157,17 +162,42 @@ pub run_means : MeantLaw → (Comes : Libraries) (room : Room) (steps : ℕ) (na
 run_means law Comes room steps name old new ports_old ports_new status ended program holds ports printed ports_told accounted out_told =
     meant_by law Comes program room steps name old new ports_old ports_new ports printed holds ports_told accounted out_told status ended.said ended.ending ended.status_is ended.says ended.went
 
+-- the library of a file
+-- =====================
+
+by_some : {a b : List ℕ} → Some a ≡ Some b → a ≡ b
+by_some e = cc
+
+-- a file begins otherwise than an image
+begins_other : (bytes rest : List ℕ) → bytes ≡ 0x4d ∷ 6 ∷ rest → begins_image bytes ≡ true → ⊥
+begins_other bytes rest e h = let same : begins_image (0x4d ∷ 6 ∷ rest) ≡ true = subst (λ (z : List ℕ). begins_image z ≡ true) e h in cc
+
+-- where the file under the name is one of a module, the run of its library is that of a file
+pub file_holds : (files : FileOf) (name main : List ℕ) (program : Program)
+    → ((shelf : Shelf) → FileLibrary (Some files) name (Ok shelf) → (program.main_name ≡ main_name) × AreUnits program shelf)
+    → ((bytes : List ℕ) → files name ≡ Some bytes → (m : Module) × IsFile bytes m)
+    → HoldsProgram (RunLibrary main) (Some files) name program
+file_holds files name main program known is_file ready (not_read ending h e) = absurd cc
+file_holds files name main program known is_file ready (of_file bytes there other h) = let k = known ready.library h.0 in (k.0 ∙ sym h.1.main_is, k.1)
+file_holds files name main program known is_file ready (of_image bytes there begins h) =
+    let file = is_file bytes there in
+    absurd (begins_other bytes _ file.1.spelling.text_is begins)
+
 -- files that were built
 -- =====================
 
-pub holds_built : ((files : FileOf) (base bytes : List ℕ) (main : Module) (shelf : Shelf) (program : Program) → IsFile bytes main → LoadsFrom files base main (length bytes) (Loaded shelf)
-    → IsBuiltProgram files base bytes shelf program → AreUnits program shelf)
-    → (files : FileOf) (name : List ℕ) (program : Program) → HoldsBuilt files name program → HoldsProgram FileLibrary (Some files) name program
-holds_built law files name program built shelf loads =
-    let same : loads.holds.bytes ≡ built.bytes = by_some (sym loads.holds.holds ∙ built.there) in
-    let is_main : IsFile built.bytes loads.main = subst (λ (bytes : List ℕ). IsFile bytes loads.main) same loads.holds.file in
-    let size_is : loads.size ≡ length built.bytes = loads.holds.size_is ∙ ap length same in
-    ((built.built shelf loads).main_name_is, law files (base_of name) built.bytes loads.main shelf program is_main (subst (λ (size : ℕ). LoadsFrom files (base_of name) loads.main size (Loaded shelf)) size_is loads.loads) (built.built shelf loads))
-  where
-    by_some : {a b : List ℕ} → Some a ≡ Some b → a ≡ b
-    by_some e = cc
+module _ (is_file : (unit : Unit) (bytes : List ℕ) → IsBuilt unit bytes → (m : Module) × IsFile bytes m)
+    (law : (files : FileOf) (base bytes : List ℕ) (main : Module) (shelf : Shelf) (program : Program) → IsFile bytes main → LoadsFrom files base main (length bytes) (Loaded shelf)
+    → IsBuiltProgram files base bytes shelf program → AreUnits program shelf) where
+  built_library : (files : FileOf) (name : List ℕ) (program : Program) → HoldsBuilt files name program → (shelf : Shelf) → FileLibrary (Some files) name (Ok shelf) → (program.main_name ≡ main_name) × AreUnits program shelf
+  built_library files name program built shelf loads =
+      let same : loads.holds.bytes ≡ built.bytes = by_some (sym loads.holds.holds ∙ built.there) in
+      let is_main : IsFile built.bytes loads.main = subst (λ (bytes : List ℕ). IsFile bytes loads.main) same loads.holds.file in
+      let size_is : loads.size ≡ length built.bytes = loads.holds.size_is ∙ ap length same in
+      let from = subst (λ (size : ℕ). LoadsFrom files (base_of name) loads.main size (Loaded shelf)) size_is loads.loads in
+      ((built.built shelf loads).main_name_is, law files (base_of name) built.bytes loads.main shelf program is_main from (built.built shelf loads))
+
+  pub holds_built : (files : FileOf) (name main : List ℕ) (program : Program) → HoldsBuilt files name program → HoldsProgram (RunLibrary main) (Some files) name program
+  holds_built files name main program built =
+      file_holds files name main program (built_library files name program built)
+      (λ bytes there. let same : built.bytes ≡ bytes = by_some (sym built.there ∙ there) in subst (λ (b : List ℕ). (m : Module) × IsFile b m) same (is_file program.main built.bytes built.main))

@@ -5,14 +5,14 @@ use Rattle.std.proofs.lemmas.List.{length-map}
 use Rattle.std.specs.Prelude.{IfOk, IfErr}
 use Rattle.mpy_io.specs.Files.{FileOf}
 use Rattle.mpy_tree.specs.Raw.{Module}
-use Rattle.mpy_tool.specs.declared.ending.Ending.{Ending}
-use Rattle.mpy_tool.specs.declared.ending.Ending.TheVariants.{Done, Unaccepted, Unread, Unverified, Unmerged, Stopped, ReadFault, WriteFault, Unwritten, NoMemory, Absent}
+use Rattle.mpy_endings.specs.declared.ending.Ending.{Ending}
+use Rattle.mpy_endings.specs.declared.ending.Ending.TheVariants.{Done, Unaccepted, Unread, Unverified, Unmerged, Unopened, Unfrozen, Stopped, ReadFault, WriteFault, Unwritten, NoMemory, Absent}
 use Rattle.mpy_tool.specs.Cross.{ChangesOnly}
-use Rattle.mpy_tool.specs.Ending.{is_folder_fault, is_out_fault}
+use Rattle.mpy_endings.specs.Ending.{is_folder_fault, is_out_fault}
 use Rattle.mpy_tool.specs.Folder.{MayHold}
 use Rattle.mpy_tool.specs.Merge.{Opens, HoldsModule, HoldModules, Refuses, failed_in, IsFirstRefused, Merges}
 use Rattle.mpy_tool.proofs.Crossed.{same_only, became_only, front_only}
-use Rattle.mpy_tool.proofs.Said.{word_at}
+use Rattle.mpy_endings.proofs.Said.{word_at}
 
 -- a file that was read
 pub opened_ok : (files : Option FileOf) (name bytes : List ℕ) (r : Result Module Ending) → MayHold files name (Some bytes) → Opens bytes r → IfOk r (HoldsModule files name)
@@ -25,6 +25,8 @@ refused_by files name bytes (Unaccepted fault) holds h = absurd h
 refused_by files name bytes (Unread fault) holds h = (bytes, holds, h)
 refused_by files name bytes (Unverified fault) holds h = (bytes, holds, h)
 refused_by files name bytes (Unmerged fault) holds h = absurd h
+refused_by files name bytes (Unopened fault) holds h = absurd h
+refused_by files name bytes (Unfrozen fault) holds h = absurd h
 refused_by files name bytes (Stopped stop) holds h = absurd h
 refused_by files name bytes ReadFault holds h = absurd h
 refused_by files name bytes WriteFault holds h = absurd h
@@ -42,6 +44,8 @@ still bytes (Unaccepted fault) h = refl
 still bytes (Unread fault) h = refl
 still bytes (Unverified fault) h = refl
 still bytes (Unmerged fault) h = refl
+still bytes (Unopened fault) h = refl
+still bytes (Unfrozen fault) h = refl
 still bytes (Stopped stop) h = absurd h
 still bytes ReadFault h = absurd h
 still bytes WriteFault h = refl
@@ -60,6 +64,8 @@ refusal files name (Unaccepted fault) h = refl
 refusal files name (Unread fault) h = refl
 refusal files name (Unverified fault) h = refl
 refusal files name (Unmerged fault) h = refl
+refusal files name (Unopened fault) h = refl
+refusal files name (Unfrozen fault) h = refl
 refusal files name (Stopped stop) h = refl
 refusal files name ReadFault h = refl
 refusal files name WriteFault h = absurd h
@@ -76,6 +82,8 @@ refused_merges names written old new place (Unaccepted fault) r same = absurd r.
 refused_merges names written old new place (Unread fault) r same = (r, same)
 refused_merges names written old new place (Unverified fault) r same = (r, same)
 refused_merges names written old new place (Unmerged fault) r same = absurd r.refused
+refused_merges names written old new place (Unopened fault) r same = absurd r.refused
+refused_merges names written old new place (Unfrozen fault) r same = absurd r.refused
 refused_merges names written old new place (Stopped stop) r same = absurd r.refused
 refused_merges names written old new place ReadFault r same = (r, same)
 refused_merges names written old new place WriteFault r same = absurd r.refused
@@ -90,6 +98,8 @@ merges_only names written old new place (Unaccepted fault) h = absurd h
 merges_only names written old new place (Unread fault) h = same_only old new written h.1
 merges_only names written old new place (Unverified fault) h = same_only old new written h.1
 merges_only names written old new place (Unmerged fault) h = same_only old new written h.1
+merges_only names written old new place (Unopened fault) h = absurd h
+merges_only names written old new place (Unfrozen fault) h = absurd h
 merges_only names written old new place (Stopped stop) h = absurd h
 merges_only names written old new place ReadFault h = same_only old new written h.1
 merges_only names written old new place WriteFault h = became_only old new written h.0 h.2

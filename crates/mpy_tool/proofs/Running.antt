@@ -14,29 +14,34 @@ use Rattle.bc_library.specs.Shelf.{Shelf}
 use Rattle.library_files.specs.declared.limit.LoadFault.{LoadFault}
 use Rattle.library_files.specs.declared.limit.LoadFault.TheVariants as faults
 use Rattle.library_files.specs.Ends.{EndsIn, FailsInBase, is_failed}
-use Rattle.library_files.specs.Loads.{Loading, Loaded, LoadsFrom, main_name}
+use Rattle.library_files.specs.Loads.{Loading, Loaded, LoadsFrom}
 use Rattle.library_runs.specs.declared.ending.RunEnd.{RunEnd}
 use Rattle.library_runs.specs.declared.ending.RunEnd.TheVariants as ends
 use Rattle.library_runs.specs.Runs.{Sight, IsOver, RunsAs, is_write_fault, sight, speaks}
-use Rattle.mpy_tool.specs.declared.ending.Ending.{Ending}
-use Rattle.mpy_tool.specs.declared.ending.Ending.TheVariants.{Done, Unaccepted, Unread, Unverified, Unmerged, Stopped, ReadFault, WriteFault, Unwritten, NoMemory, Absent}
-use Rattle.mpy_tool.specs.declared.ending.Stop.TheVariants.{Past, LibraryFault, LibraryUnaccepted, Raised, Memory, Steps}
+use Rattle.mpy_endings.specs.declared.ending.Ending.{Ending}
+use Rattle.mpy_endings.specs.declared.ending.Ending.TheVariants.{Done, Unaccepted, Unread, Unverified, Unmerged, Unopened, Unfrozen, Stopped, ReadFault, WriteFault, Unwritten, NoMemory, Absent}
+use Rattle.mpy_endings.specs.declared.ending.Stop.TheVariants.{Past, LibraryFault, LibraryUnaccepted, Raised, Memory, Steps}
 use Rattle.mpy_tool.specs.Base.{base_of}
-use Rattle.mpy_tool.specs.Ending.{is_folder_fault, is_out_fault, is_said, status_of}
+use Rattle.mpy_endings.specs.Ending.{is_folder_fault, is_out_fault, is_said, status_of}
 use Rattle.mpy_tool.specs.Folder.{MayHold}
-use Rattle.mpy_tool.specs.Line.{Puts, Says, line_of}
+use Rattle.mpy_endings.specs.Line.{Puts, Says, line_of}
 use Rattle.mpy_tool.specs.Merge.{Opens, Refuses, failed_in}
+use Rattle.mpy_tool.specs.declared.ready.Ready.{Ready}
 use Rattle.mpy_tool.specs.Outside.{Outside}
+use Rattle.mpy_tool.specs.Ready.{OpensMain}
 use Rattle.mpy_tool.specs.Run.{HoldsMain, LoadsOf, RefusesLibrary, IsUnloaded, Untouched, Runs, EndsRun, sight_in, load_end, ending_of}
-use Rattle.mpy_tool.proofs.Said.{says_from}
+use Rattle.mpy_endings.proofs.Said.{says_from}
+use Rattle.mpy_tool.proofs.Merging.{opened_err}
 
 -- the main file
 -- =============
 
-pub main_from : (files : Option FileOf) (name bytes read : List ℕ) (m : Module) (size : ℕ) → read ≡ bytes → size ≡ length bytes → MayHold files name (Some bytes) → Opens read (Ok m) → HoldsMain files name m size
-main_from files name bytes read m size e s holds h =
-    let here = subst (λ (bs : List ℕ). Opens bs (Ok m)) e h in
-    record { bytes = bytes; holds = holds; file = here.0; verified = here.1; size_is = s }
+-- what is opened of the bytes of the main file
+pub opens_main : (bytes : List ℕ) (m : Module) (size : ℕ) → size ≡ length bytes → Opens bytes (Ok m) → OpensMain bytes (Ok (m, size))
+opens_main bytes m size s h = (h.0, h.1, s)
+
+pub main_from : (files : Option FileOf) (name bytes : List ℕ) (main : Module × ℕ) → MayHold files name (Some bytes) → OpensMain bytes (Ok main) → HoldsMain files name main.0 main.1
+main_from files name bytes main holds h = record { bytes = bytes; holds = holds; file = h.0; verified = h.1; size_is = h.2 }
 
 pub refuses_library : (files : Option FileOf) (name : List ℕ) (ending : Ending) → Refuses files name ending → RefusesLibrary files name ending
 refuses_library files name Done h = absurd h
@@ -44,12 +49,18 @@ refuses_library files name (Unaccepted fault) h = absurd h
 refuses_library files name (Unread fault) h = h
 refuses_library files name (Unverified fault) h = h
 refuses_library files name (Unmerged fault) h = absurd h
+refuses_library files name (Unopened fault) h = absurd h
+refuses_library files name (Unfrozen fault) h = absurd h
 refuses_library files name (Stopped stop) h = absurd h
 refuses_library files name ReadFault h = tt
 refuses_library files name WriteFault h = absurd h
 refuses_library files name Unwritten h = absurd h
 refuses_library files name NoMemory h = tt
 refuses_library files name Absent h = h
+
+-- what keeps the bytes from being opened keeps their library from being loaded
+pub bytes_refuse : (files : Option FileOf) (name bytes : List ℕ) (ending : Ending) → MayHold files name (Some bytes) → Opens bytes (Err ending) → RefusesLibrary files name ending
+bytes_refuse files name bytes ending holds h = refuses_library files name ending (opened_err files name bytes (Err ending) holds h)
 
 -- its library
 -- ===========
@@ -76,6 +87,8 @@ refused_unloaded files name (Unaccepted fault) h = absurd h
 refused_unloaded files name (Unread fault) h = tt
 refused_unloaded files name (Unverified fault) h = tt
 refused_unloaded files name (Unmerged fault) h = absurd h
+refused_unloaded files name (Unopened fault) h = absurd h
+refused_unloaded files name (Unfrozen fault) h = absurd h
 refused_unloaded files name (Stopped (Past limit)) h = tt
 refused_unloaded files name (Stopped (LibraryFault path)) h = tt
 refused_unloaded files name (Stopped (LibraryUnaccepted source)) h = absurd h
@@ -97,7 +110,7 @@ load_failed refused.NoMemory = refl
 -- its run
 -- =======
 
-module _ (Comes : Result Shelf Ending → Type 0) (room : Room) (steps : ℕ) (old new : Sight) (said : List ℕ) where
+module _ (Comes : Result Ready Ending → Type 0) (room : Room) (steps : ℕ) (old new : Sight) (said : List ℕ) where
   abbrev Went : Ending → Type 0
   Went ending = Runs Comes room steps old new said ending
 
@@ -108,13 +121,13 @@ module _ (Comes : Result Shelf Ending → Type 0) (room : Room) (steps : ℕ) (o
     says = s;
   }
 
-  pub ran_library : (shelf : Shelf) (end : RunEnd) → Comes (Ok shelf) → (end ≡ ends.NoMemory → new ≡ old) → RunsAs shelf main_name room steps old new end said → Went (ending_of end steps)
-  ran_library shelf ends.Ended loads none r = (shelf, loads, r)
-  ran_library shelf ends.Raised loads none r = (shelf, loads, r)
-  ran_library shelf ends.Memory loads none r = (shelf, loads, r)
-  ran_library shelf ends.Limit loads none r = ((shelf, loads, r), refl)
-  ran_library shelf ends.WriteFault loads none r = (shelf, loads, r)
-  ran_library shelf ends.NoMemory loads none r = untouched (none refl) r.is_said
+  pub ran_library : (ready : Ready) (end : RunEnd) → Comes (Ok ready) → (end ≡ ends.NoMemory → new ≡ old) → RunsAs ready.library ready.main room steps old new end said → Went (ending_of end steps)
+  ran_library ready ends.Ended loads none r = (ready, loads, r)
+  ran_library ready ends.Raised loads none r = (ready, loads, r)
+  ran_library ready ends.Memory loads none r = (ready, loads, r)
+  ran_library ready ends.Limit loads none r = ((ready, loads, r), refl)
+  ran_library ready ends.WriteFault loads none r = (ready, loads, r)
+  ran_library ready ends.NoMemory loads none r = untouched (none refl) r.is_said
 
   pub not_loaded : (ending : Ending) → IsUnloaded ending → Comes (Err ending) → new ≡ old → said ≡ [] → Went ending
   not_loaded Done u h e s = absurd u
@@ -122,6 +135,8 @@ module _ (Comes : Result Shelf Ending → Type 0) (room : Room) (steps : ℕ) (o
   not_loaded (Unread fault) u h e s = (h, untouched e s)
   not_loaded (Unverified fault) u h e s = (h, untouched e s)
   not_loaded (Unmerged fault) u h e s = absurd u
+  not_loaded (Unopened fault) u h e s = (h, untouched e s)
+  not_loaded (Unfrozen fault) u h e s = absurd u
   not_loaded (Stopped (Past limit)) u h e s = (h, untouched e s)
   not_loaded (Stopped (LibraryFault path)) u h e s = (h, untouched e s)
   not_loaded (Stopped (LibraryUnaccepted source)) u h e s = (h, untouched e s)
@@ -141,6 +156,8 @@ module _ (Comes : Result Shelf Ending → Type 0) (room : Room) (steps : ℕ) (o
   unsaid (Unread fault) r e = r.1.says
   unsaid (Unverified fault) r e = r.1.says
   unsaid (Unmerged fault) r e = absurd r
+  unsaid (Unopened fault) r e = r.1.says
+  unsaid (Unfrozen fault) r e = absurd r
   unsaid (Stopped (Past limit)) r e = r.1.says
   unsaid (Stopped (LibraryFault path)) r e = r.1.says
   unsaid (Stopped (LibraryUnaccepted source)) r e = r.1.says
@@ -154,13 +171,15 @@ module _ (Comes : Result Shelf Ending → Type 0) (room : Room) (steps : ℕ) (o
   unsaid Absent r e = r.1.says
 
   -- what is known of each result that loading comes to is known of the run
-  module _ (Known : Result Shelf Ending → Type 0) (known : (r : Result Shelf Ending) → Comes r → Known r) where
+  module _ (Known : Result Ready Ending → Type 0) (known : (r : Result Ready Ending) → Comes r → Known r) where
     pub runs_known : (ending : Ending) → Went ending → Runs Known room steps old new said ending
     runs_known Done r = (r.0, known (Ok r.0) r.1, r.2)
     runs_known (Unaccepted fault) r = (known (Err (Unaccepted fault)) r.0, r.1)
     runs_known (Unread fault) r = (known (Err (Unread fault)) r.0, r.1)
     runs_known (Unverified fault) r = (known (Err (Unverified fault)) r.0, r.1)
     runs_known (Unmerged fault) r = absurd r
+    runs_known (Unopened fault) r = (known (Err (Unopened fault)) r.0, r.1)
+    runs_known (Unfrozen fault) r = absurd r
     runs_known (Stopped (Past limit)) r = (known (Err (Stopped (Past limit))) r.0, r.1)
     runs_known (Stopped (LibraryFault path)) r = (known (Err (Stopped (LibraryFault path))) r.0, r.1)
     runs_known (Stopped (LibraryUnaccepted source)) r = (known (Err (Stopped (LibraryUnaccepted source))) r.0, r.1)
@@ -211,6 +230,8 @@ unloaded_quiet (Unaccepted fault) h = refl
 unloaded_quiet (Unread fault) h = refl
 unloaded_quiet (Unverified fault) h = refl
 unloaded_quiet (Unmerged fault) h = refl
+unloaded_quiet (Unopened fault) h = refl
+unloaded_quiet (Unfrozen fault) h = refl
 unloaded_quiet (Stopped stop) h = refl
 unloaded_quiet ReadFault h = refl
 unloaded_quiet WriteFault h = absurd h
@@ -246,6 +267,8 @@ said_line name (Unaccepted fault) e = absurd cc
 said_line name (Unread fault) e = absurd cc
 said_line name (Unverified fault) e = absurd cc
 said_line name (Unmerged fault) e = absurd cc
+said_line name (Unopened fault) e = absurd cc
+said_line name (Unfrozen fault) e = absurd cc
 said_line name (Stopped (Past limit)) e = absurd cc
 said_line name (Stopped (LibraryFault path)) e = absurd cc
 said_line name (Stopped (LibraryUnaccepted source)) e = absurd cc
@@ -272,6 +295,8 @@ status_zero (Unaccepted fault) e = absurd cc
 status_zero (Unread fault) e = absurd cc
 status_zero (Unverified fault) e = absurd cc
 status_zero (Unmerged fault) e = absurd cc
+status_zero (Unopened fault) e = absurd cc
+status_zero (Unfrozen fault) e = absurd cc
 status_zero (Stopped (Past limit)) e = absurd cc
 status_zero (Stopped (LibraryFault path)) e = absurd cc
 status_zero (Stopped (LibraryUnaccepted source)) e = absurd cc
@@ -291,21 +316,21 @@ same_sight {S = S} {P = P} told seen a b ps qs e f = ap (λ (s : S). sight told 
 -- the whole of a run
 -- ==================
 
-module _ (room : Room) (steps : ℕ) (old new : Outside) (ports_old ports_new : List PortView) (loaded : Result Shelf Ending) (ending : Ending) (said : List ℕ)
-    (ran : Runs (λ (r : Result Shelf Ending). r ≡ loaded) room steps (sight_in old ports_old) (sight_in new ports_new) said ending) where
+module _ (room : Room) (steps : ℕ) (old new : Outside) (ports_old ports_new : List PortView) (loaded : Result Ready Ending) (ending : Ending) (said : List ℕ)
+    (ran : Runs (λ (r : Result Ready Ending). r ≡ loaded) room steps (sight_in old ports_old) (sight_in new ports_new) said ending) where
   -- what was said in it, and the line behind it
   pub says_run : (between : Option (List ℕ)) (count : ℕ) (name : List ℕ) (r : Result (Unit {0}) Failed) → (is_said ending ≡ false → (between ≡ old.say) × (count ≡ old.say_faults)) → (is_said ending ≡ true → (new.say ≡ between) × (new.say_faults ≡ count))
       → Says old.say between old.say_faults count said → Puts between new.say count new.say_faults (line_of name ending) r → Says old.say new.say old.say_faults new.say_faults (said ++ line_of name ending)
   says_run between count name r silent same s p =
       said_all old.say between new.say old.say_faults count new.say_faults name said ending r
-      (λ e. ((silent e).0, (silent e).1, unsaid (λ (r : Result Shelf Ending). r ≡ loaded) room steps (sight_in old ports_old) (sight_in new ports_new) said ending ran e)) same s p
+      (λ e. ((silent e).0, (silent e).1, unsaid (λ (r : Result Ready Ending). r ≡ loaded) room steps (sight_in old ports_old) (sight_in new ports_new) said ending ran e)) same s p
 
   -- of what was loaded, whatever is known of that
-  pub ends_run : (Comes : Option FileOf → (name : List ℕ) → Result Shelf Ending → Type 0) (name word : List ℕ) (status : ℕ) → status ≡ status_of ending → word ≡ name → Comes old.files word loaded
+  pub ends_run : (Comes : Option FileOf → (name : List ℕ) → Result Ready Ending → Type 0) (name word : List ℕ) (status : ℕ) → status ≡ status_of ending → word ≡ name → Comes old.files word loaded
       → Counts old.folder_faults new.folder_faults (failed_in loaded) → failed_in loaded ≡ is_folder_fault ending → Counts old.out_faults new.out_faults (is_out_fault ending)
       → Says old.say new.say old.say_faults new.say_faults (said ++ line_of word ending) → EndsRun Comes room steps name old new ports_old ports_new status
   ends_run Comes name word status status_is e comes counts reads out says =
-      let went = runs_known (λ (r : Result Shelf Ending). r ≡ loaded) room steps (sight_in old ports_old) (sight_in new ports_new) said (Comes old.files word) (λ r same. subst (Comes old.files word) (sym same) comes) ending ran in
+      let went = runs_known (λ (r : Result Ready Ending). r ≡ loaded) room steps (sight_in old ports_old) (sight_in new ports_new) said (Comes old.files word) (λ r same. subst (Comes old.files word) (sym same) comes) ending ran in
       subst (λ (n : List ℕ). EndsRun Comes room steps n old new ports_old ports_new status) e
       (record {
         ending = ending;

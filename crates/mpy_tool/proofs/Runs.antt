@@ -8,9 +8,9 @@ use Rattle.mpy_io.specs.Files.{FileOf}
 use Rattle.mpy_tree.specs.File.{IsAscii}
 use Rattle.mpy_compile.specs.Compiled.{CompilesTo}
 use Rattle.mpy_compile.specs.Compiled as made
-use Rattle.mpy_tool.specs.declared.ending.Ending.{Ending}
-use Rattle.mpy_tool.specs.declared.ending.Ending.TheVariants.{Done, Unaccepted, Unread, Unverified, Unmerged, Stopped, ReadFault, WriteFault, Unwritten, NoMemory, Absent}
-use Rattle.mpy_tool.specs.Ending.{IsSettled}
+use Rattle.mpy_endings.specs.declared.ending.Ending.{Ending}
+use Rattle.mpy_endings.specs.declared.ending.Ending.TheVariants.{Done, Unaccepted, Unread, Unverified, Unmerged, Unopened, Unfrozen, Stopped, ReadFault, WriteFault, Unwritten, NoMemory, Absent}
+use Rattle.mpy_endings.specs.Ending.{IsSettled}
 use Rattle.mpy_tool.specs.Cross.{Crosses}
 use Rattle.source_files.specs.Sources.{ascii_of, stored}
 
@@ -29,6 +29,8 @@ Judged Good Bad file name (Unaccepted fault) = (source : List ℕ) × (file name
 Judged Good Bad file name (Unread fault) = ⊥
 Judged Good Bad file name (Unverified fault) = ⊥
 Judged Good Bad file name (Unmerged fault) = ⊥
+Judged Good Bad file name (Unopened fault) = ⊥
+Judged Good Bad file name (Unfrozen fault) = ⊥
 Judged Good Bad file name (Stopped stop) = ⊥
 Judged Good Bad file name ReadFault = ⊥
 Judged Good Bad file name WriteFault = ⊥
@@ -53,6 +55,8 @@ one_judged Good Bad apart one file name Absent Absent p q = refl
 one_judged Good Bad apart one file name (Unread f) b p q = absurd p
 one_judged Good Bad apart one file name (Unverified f) b p q = absurd p
 one_judged Good Bad apart one file name (Unmerged f) b p q = absurd p
+one_judged Good Bad apart one file name (Unopened f) b p q = absurd p
+one_judged Good Bad apart one file name (Unfrozen f) b p q = absurd p
 one_judged Good Bad apart one file name (Stopped s) b p q = absurd p
 one_judged Good Bad apart one file name ReadFault b p q = absurd p
 one_judged Good Bad apart one file name WriteFault b p q = absurd p
@@ -61,6 +65,8 @@ one_judged Good Bad apart one file name NoMemory b p q = absurd p
 one_judged Good Bad apart one file name Done (Unread g) p q = absurd q
 one_judged Good Bad apart one file name Done (Unverified g) p q = absurd q
 one_judged Good Bad apart one file name Done (Unmerged g) p q = absurd q
+one_judged Good Bad apart one file name Done (Unopened g) p q = absurd q
+one_judged Good Bad apart one file name Done (Unfrozen g) p q = absurd q
 one_judged Good Bad apart one file name Done (Stopped t) p q = absurd q
 one_judged Good Bad apart one file name Done ReadFault p q = absurd q
 one_judged Good Bad apart one file name Done WriteFault p q = absurd q
@@ -69,6 +75,8 @@ one_judged Good Bad apart one file name Done NoMemory p q = absurd q
 one_judged Good Bad apart one file name (Unaccepted f) (Unread g) p q = absurd q
 one_judged Good Bad apart one file name (Unaccepted f) (Unverified g) p q = absurd q
 one_judged Good Bad apart one file name (Unaccepted f) (Unmerged g) p q = absurd q
+one_judged Good Bad apart one file name (Unaccepted f) (Unopened g) p q = absurd q
+one_judged Good Bad apart one file name (Unaccepted f) (Unfrozen g) p q = absurd q
 one_judged Good Bad apart one file name (Unaccepted f) (Stopped t) p q = absurd q
 one_judged Good Bad apart one file name (Unaccepted f) ReadFault p q = absurd q
 one_judged Good Bad apart one file name (Unaccepted f) WriteFault p q = absurd q
@@ -77,6 +85,8 @@ one_judged Good Bad apart one file name (Unaccepted f) NoMemory p q = absurd q
 one_judged Good Bad apart one file name Absent (Unread g) p q = absurd q
 one_judged Good Bad apart one file name Absent (Unverified g) p q = absurd q
 one_judged Good Bad apart one file name Absent (Unmerged g) p q = absurd q
+one_judged Good Bad apart one file name Absent (Unopened g) p q = absurd q
+one_judged Good Bad apart one file name Absent (Unfrozen g) p q = absurd q
 one_judged Good Bad apart one file name Absent (Stopped t) p q = absurd q
 one_judged Good Bad apart one file name Absent ReadFault p q = absurd q
 one_judged Good Bad apart one file name Absent WriteFault p q = absurd q
@@ -97,6 +107,8 @@ crosses_judged level file name kept written (Unaccepted fault) new s p = (p.0.so
 crosses_judged level file name kept written (Unread fault) new s p = absurd p
 crosses_judged level file name kept written (Unverified fault) new s p = absurd p
 crosses_judged level file name kept written (Unmerged fault) new s p = absurd p
+crosses_judged level file name kept written (Unopened fault) new s p = absurd p
+crosses_judged level file name kept written (Unfrozen fault) new s p = absurd p
 crosses_judged level file name kept written (Stopped stop) new s p = absurd p
 crosses_judged level file name kept written ReadFault new s p = absurd s
 crosses_judged level file name kept written WriteFault new s p = absurd s

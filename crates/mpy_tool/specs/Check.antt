@@ -9,8 +9,8 @@ use Rattle.mpy_tree.specs.File.{IsFile}
 use Rattle.mpy_reader.specs.Reading.{FirstFault}
 use Rattle.bc_verify.specs.declared.fault.VerifyFault.{VerifyFault}
 use Rattle.bc_verify.specs.Verified.{IsVerified, IsFirstFault, codes_in}
-use Rattle.mpy_tool.specs.declared.ending.Ending.{Ending}
-use Rattle.mpy_tool.specs.declared.ending.Ending.TheVariants.{Done, Unaccepted, Unread, Unverified, Unmerged, Stopped, ReadFault, WriteFault, Unwritten, NoMemory, Absent}
+use Rattle.mpy_endings.specs.declared.ending.Ending.{Ending}
+use Rattle.mpy_endings.specs.declared.ending.Ending.TheVariants.{Done, Unaccepted, Unread, Unverified, Unmerged, Unopened, Unfrozen, Stopped, ReadFault, WriteFault, Unwritten, NoMemory, Absent}
 use Rattle.mpy_tool.specs.Folder.{MayHold}
 
 -- how many codes a module has, where they are fewer than 2^64
@@ -54,6 +54,8 @@ Checks files name (Unaccepted fault) old new = ⊥
 Checks files name (Unread fault) old new = ((bytes : List ℕ) × MayHold files name (Some bytes) × FirstFault bytes fault) × Keeps old new
 Checks files name (Unverified fault) old new = ((bytes : List ℕ) × MayHold files name (Some bytes) × IsUnverifiedFile bytes fault) × Keeps old new
 Checks files name (Unmerged fault) old new = ⊥
+Checks files name (Unopened fault) old new = ⊥
+Checks files name (Unfrozen fault) old new = ⊥
 Checks files name (Stopped stop) old new = ⊥
 Checks files name ReadFault old new = Keeps old new
 Checks files name WriteFault old new = (count : ℕ) × HoldsVerified files name count × AppendsFront old new (verified_line count)

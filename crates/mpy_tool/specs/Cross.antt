@@ -3,8 +3,8 @@ use Rattle.std.specs.Prelude.{◌≡◌, ◌≢◌, ℕ, List, Option, Some, Non
 use Rattle.mpy_base.specs.declared.source.SourceFault.{SourceFault}
 use Rattle.mpy_io.specs.Files.{FileOf, Becomes, BecomesFront}
 use Rattle.mpy_compile.specs.Compiled.{CompilesTo, IsFault}
-use Rattle.mpy_tool.specs.declared.ending.Ending.{Ending}
-use Rattle.mpy_tool.specs.declared.ending.Ending.TheVariants.{Done, Unaccepted, Unread, Unverified, Unmerged, Stopped, ReadFault, WriteFault, Unwritten, NoMemory, Absent}
+use Rattle.mpy_endings.specs.declared.ending.Ending.{Ending}
+use Rattle.mpy_endings.specs.declared.ending.Ending.TheVariants.{Done, Unaccepted, Unread, Unverified, Unmerged, Unopened, Unfrozen, Stopped, ReadFault, WriteFault, Unwritten, NoMemory, Absent}
 use Rattle.mpy_tool.specs.Folder.{MayHold}
 
 -- the source that the folder has under the name compiles to these bytes
@@ -27,6 +27,8 @@ Crosses level name stored written old new (Unaccepted fault) = HoldsFaulty level
 Crosses level name stored written old new (Unread fault) = ⊥
 Crosses level name stored written old new (Unverified fault) = ⊥
 Crosses level name stored written old new (Unmerged fault) = ⊥
+Crosses level name stored written old new (Unopened fault) = ⊥
+Crosses level name stored written old new (Unfrozen fault) = ⊥
 Crosses level name stored written old new (Stopped stop) = ⊥
 Crosses level name stored written old new ReadFault = new ≡ old
 -- nothing was printed, but what the sink held before wasn't handed on

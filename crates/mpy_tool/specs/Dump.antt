@@ -7,8 +7,8 @@ use Rattle.mpy_tree.specs.Raw.{Module}
 use Rattle.mpy_tree.specs.File.{IsFile}
 use Rattle.mpy_reader.specs.Reading.{FirstFault}
 use Rattle.mpy_dump.specs.Listing.{IsListing}
-use Rattle.mpy_tool.specs.declared.ending.Ending.{Ending}
-use Rattle.mpy_tool.specs.declared.ending.Ending.TheVariants.{Done, Unaccepted, Unread, Unverified, Unmerged, Stopped, ReadFault, WriteFault, Unwritten, NoMemory, Absent}
+use Rattle.mpy_endings.specs.declared.ending.Ending.{Ending}
+use Rattle.mpy_endings.specs.declared.ending.Ending.TheVariants.{Done, Unaccepted, Unread, Unverified, Unmerged, Unopened, Unfrozen, Stopped, ReadFault, WriteFault, Unwritten, NoMemory, Absent}
 use Rattle.mpy_tool.specs.Folder.{MayHold}
 
 -- the file under the name is one of a module with this listing
@@ -26,6 +26,8 @@ Dumps files name (Unaccepted fault) old new = ⊥
 Dumps files name (Unread fault) old new = ((bytes : List ℕ) × MayHold files name (Some bytes) × FirstFault bytes fault) × Keeps old new
 Dumps files name (Unverified fault) old new = ⊥
 Dumps files name (Unmerged fault) old new = ⊥
+Dumps files name (Unopened fault) old new = ⊥
+Dumps files name (Unfrozen fault) old new = ⊥
 Dumps files name (Stopped stop) old new = ⊥
 Dumps files name ReadFault old new = Keeps old new
 Dumps files name WriteFault old new = (text : List ℕ) × HoldsListed files name text × AppendsFront old new text

@@ -10,9 +10,9 @@ use Rattle.library_files.specs.declared.limit.UnacceptedSource.{UnacceptedSource
 use Rattle.library_files.specs.Loads as loads
 use Rattle.library_files.specs.Loads.{Loading, Loaded}
 use Rattle.source_files.specs.Sources.{stored, source_ending, IsModuleOf, LoadsFromSources}
-use Rattle.mpy_tool.specs.declared.ending.Ending.{Ending}
-use Rattle.mpy_tool.specs.declared.ending.Ending.TheVariants.{Done, Unaccepted, Unread, Unverified, Unmerged, Stopped, ReadFault, WriteFault, Unwritten, NoMemory, Absent}
-use Rattle.mpy_tool.specs.declared.ending.Stop.TheVariants.{Past, LibraryFault, LibraryUnaccepted, Raised, Memory, Steps}
+use Rattle.mpy_endings.specs.declared.ending.Ending.{Ending}
+use Rattle.mpy_endings.specs.declared.ending.Ending.TheVariants.{Done, Unaccepted, Unread, Unverified, Unmerged, Unopened, Unfrozen, Stopped, ReadFault, WriteFault, Unwritten, NoMemory, Absent}
+use Rattle.mpy_endings.specs.declared.ending.Stop.TheVariants.{Past, LibraryFault, LibraryUnaccepted, Raised, Memory, Steps}
 use Rattle.mpy_tool.specs.Base.{base_of}
 use Rattle.mpy_tool.specs.Cross.{HoldsFaulty}
 use Rattle.mpy_tool.specs.Folder.{MayHold}
@@ -47,6 +47,8 @@ RefusesSources level files name (Unaccepted fault) = HoldsFaulty level files nam
 RefusesSources level files name (Unread fault) = ⊥
 RefusesSources level files name (Unverified fault) = ⊥
 RefusesSources level files name (Unmerged fault) = ⊥
+RefusesSources level files name (Unopened fault) = ⊥
+RefusesSources level files name (Unfrozen fault) = ⊥
 RefusesSources level files name (Stopped (Past limit)) = SourceLoadsOf level files name (loads.Past limit)
 RefusesSources level files name (Stopped (LibraryFault path)) = IsOfSources name path
 RefusesSources level files name (Stopped (LibraryUnaccepted source)) = SourceLoadsOf level files name (loads.Unaccepted source) × IsFaultyOf level name source

@@ -1,14 +1,14 @@
-pub mod Ending
 pub mod Folder
 pub mod Go
 pub mod Check
 pub mod Dump
 pub mod Cross
+pub mod Freeze
 pub mod Merge
-pub mod Line
 pub mod Outside
 pub mod Base
 pub mod Run
+pub mod Ready
 pub mod Meant
 pub mod Made
 pub mod GoMeant

@@ -16,29 +16,38 @@ use Rattle.py_meaning.specs.Meaning.{meaning}
 use Rattle.vm_reports.specs.Rooms.{room_line}
 use Rattle.program_runs.specs.Units.{AreUnits}
 use Rattle.program_runs.specs.Runs.{MeansRun}
-use Rattle.library_files.specs.Loads.{Loaded, main_name}
-use Rattle.built_files.specs.Built.{IsBuiltProgram}
-use Rattle.mpy_tool.specs.declared.ending.Ending.{Ending}
+use Rattle.frozen_files.specs.Frozen.{HoldsFrozen}
+use Rattle.library_files.specs.Loads.{Loaded}
+use Rattle.built_files.specs.Built.{IsBuilt, IsBuiltProgram}
+use Rattle.mpy_endings.specs.declared.ending.Ending.{Ending}
+use Rattle.mpy_tool.specs.declared.ready.Ready.{Ready}
 use Rattle.mpy_tool.specs.Base.{base_of}
-use Rattle.mpy_tool.specs.Line.{Says}
+use Rattle.mpy_endings.specs.Line.{Says}
 use Rattle.mpy_tool.specs.Outside.{Outside}
 use Rattle.mpy_tool.specs.Run.{LoadsOf}
 
--- what the files of a folder come to as a library, of the file under a name: the library, or why it isn't loaded
+-- what the files of a folder come to as a library with a main module, of the file under a name: these, or why it isn't loaded
 abbrev pub Libraries : Type 1
-Libraries = Option FileOf → (name : List ℕ) → Result Shelf Ending → Type 0
+Libraries = Option FileOf → (name : List ℕ) → Result Ready Ending → Type 0
 
--- Each library that is loaded of the file under the name has the program's units, the main one as `__main__`: each of its files is the
+-- Each library that is loaded of the file under the name has the program's units, and the same main module: each of its files is the
 -- translation of its unit's source, or the merge of its parts', and the names that it refuses are those that the program refuses.
 abbrev pub HoldsProgram : Libraries → Option FileOf → (name : List ℕ) → Program → Type 0
-HoldsProgram Comes files name program = (shelf : Shelf) → Comes files name (Ok shelf) → (program.main_name ≡ main_name) × AreUnits program shelf
+HoldsProgram Comes files name program = (ready : Ready) → Comes files name (Ok ready) → (program.main_name ≡ ready.main) × AreUnits program ready.library
 
 -- The file under the name is made of the program's main unit, by compiling and merging, and so is each file that its library has of the
 -- unit that the program has under that name.
 pub record HoldsBuilt (files : FileOf) (name : List ℕ) (program : Program) : Type 0 where
   pub bytes : List ℕ
   pub there : files name ≡ Some bytes
+  pub main : IsBuilt program.main bytes
   pub built : (shelf : Shelf) → LoadsOf (Some files) name (Loaded shelf) → IsBuiltProgram files (base_of name) bytes shelf program
+
+-- The file of the name `image` is the image of the sources of a manifest, which may lie in another folder.
+pub record HoldsImage (sources files : FileOf) (manifest image : List ℕ) : Type 0 where
+  pub bytes : List ℕ
+  pub frozen : HoldsFrozen (Some sources) manifest bytes
+  pub written : files image ≡ Some bytes
 
 -- the statuses of a run that was made up to its end, or for all its steps
 abbrev pub IsRunStatus : ℕ → Type 0

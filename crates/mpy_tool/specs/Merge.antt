@@ -10,10 +10,10 @@ use Rattle.mpy_merge.specs.declared.fault.MergeFault.{MergeFault}
 use Rattle.mpy_merge.specs.Faults as merges
 use Rattle.mpy_merge.specs.AsMerge.{ReadsAsMerge}
 use Rattle.mpy_merge.specs.Merged.{IsMerged}
-use Rattle.mpy_tool.specs.declared.ending.Ending.{Ending}
-use Rattle.mpy_tool.specs.declared.ending.Ending.TheVariants.{Done, Unaccepted, Unread, Unverified, Unmerged, Stopped, ReadFault, WriteFault, Unwritten, NoMemory, Absent}
+use Rattle.mpy_endings.specs.declared.ending.Ending.{Ending}
+use Rattle.mpy_endings.specs.declared.ending.Ending.TheVariants.{Done, Unaccepted, Unread, Unverified, Unmerged, Unopened, Unfrozen, Stopped, ReadFault, WriteFault, Unwritten, NoMemory, Absent}
 use Rattle.mpy_tool.specs.Check.{IsUnverifiedFile}
-use Rattle.mpy_tool.specs.Ending.{is_folder_fault}
+use Rattle.mpy_endings.specs.Ending.{is_folder_fault}
 use Rattle.mpy_tool.specs.Folder.{MayHold}
 
 -- a file
@@ -41,6 +41,8 @@ Refuses files name (Unaccepted fault) = ⊥
 Refuses files name (Unread fault) = (bytes : List ℕ) × MayHold files name (Some bytes) × FirstFault bytes fault
 Refuses files name (Unverified fault) = (bytes : List ℕ) × MayHold files name (Some bytes) × IsUnverifiedFile bytes fault
 Refuses files name (Unmerged fault) = ⊥
+Refuses files name (Unopened fault) = ⊥
+Refuses files name (Unfrozen fault) = ⊥
 Refuses files name (Stopped stop) = ⊥
 Refuses files name ReadFault = Unit {0}
 Refuses files name WriteFault = ⊥
@@ -91,6 +93,8 @@ Merges names written old new place (Unaccepted fault) = ⊥
 Merges names written old new place (Unread fault) = IsFirstRefused old names place (Unread fault) × (new ≡ old)
 Merges names written old new place (Unverified fault) = IsFirstRefused old names place (Unverified fault) × (new ≡ old)
 Merges names written old new place (Unmerged fault) = HoldUnmerged old names fault × (new ≡ old)
+Merges names written old new place (Unopened fault) = ⊥
+Merges names written old new place (Unfrozen fault) = ⊥
 Merges names written old new place (Stopped stop) = ⊥
 Merges names written old new place ReadFault = IsFirstRefused old names place ReadFault × (new ≡ old)
 -- nothing was printed, but what the sink held before wasn't handed on

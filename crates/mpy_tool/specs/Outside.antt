@@ -4,13 +4,13 @@ use Rattle.std.specs.Io.KnownBytes.{Keeps}
 use Rattle.mpy_io.specs.Count.{Counts}
 use Rattle.mpy_io.specs.Files.{FileOf}
 use Rattle.mpy_words.specs.declared.order.Command.{Command}
-use Rattle.mpy_words.specs.declared.order.Command.TheVariants.{Go, Check, Dump, Cross, Merge, Run}
+use Rattle.mpy_words.specs.declared.order.Command.TheVariants.{Go, Check, Dump, Cross, Merge, Freeze, Run}
 use Rattle.mpy_words.specs.declared.order.WordFault.{WordFault}
 use Rattle.mpy_words.specs.Words.{Outcome, first_name, second_name}
-use Rattle.mpy_tool.specs.declared.ending.Ending.{Ending}
-use Rattle.mpy_tool.specs.Ending.{is_folder_fault, is_out_fault, status_of}
+use Rattle.mpy_endings.specs.declared.ending.Ending.{Ending}
+use Rattle.mpy_endings.specs.Ending.{is_folder_fault, is_out_fault, status_of}
 use Rattle.mpy_tool.specs.Cross.{ChangesOnly}
-use Rattle.mpy_tool.specs.Line.{Says, line_of, name_in, words_line}
+use Rattle.mpy_endings.specs.Line.{Says, line_of, name_in, words_line}
 
 -- what a folder and two sinks tell, and their counts of faults
 pub record Outside : Type 0 where
@@ -72,6 +72,7 @@ written_by words Check = None
 written_by words Dump = None
 written_by words Cross = Some (second_name words)
 written_by words Merge = Some (first_name words)
+written_by words Freeze = Some (second_name words)
 written_by words Run = None
 
 -- words of no order write none
@@ -86,6 +87,7 @@ calls_ports Check = false
 calls_ports Dump = false
 calls_ports Cross = false
 calls_ports Merge = false
+calls_ports Freeze = false
 calls_ports Run = true
 
 abbrev pub calls_ports_in : Outcome → Bool

@@ -17,18 +17,19 @@ use Rattle.pkg_paths.specs.Plain.{IsPlain}
 use Rattle.pkg_paths.specs.Paths.{candidates}
 use Rattle.library_files.specs.Comes.{ending as file_ending}
 use Rattle.library_files.specs.Loads as loads
-use Rattle.library_files.specs.Loads.{Loading, Loaded, LoadsFrom, main_name}
+use Rattle.library_files.specs.Loads.{Loading, Loaded, LoadsFrom}
 use Rattle.library_runs.specs.declared.ending.RunEnd.{RunEnd}
 use Rattle.library_runs.specs.declared.ending.RunEnd.TheVariants as ends
 use Rattle.library_runs.specs.Runs.{Sight, RunsAs}
 use Rattle.mpy_words.specs.declared.order.Order.{Order}
-use Rattle.mpy_tool.specs.declared.ending.Ending.{Ending}
-use Rattle.mpy_tool.specs.declared.ending.Ending.TheVariants.{Done, Unaccepted, Unread, Unverified, Unmerged, Stopped, ReadFault, WriteFault, Unwritten, NoMemory, Absent}
-use Rattle.mpy_tool.specs.declared.ending.Stop.TheVariants.{Past, LibraryFault, LibraryUnaccepted, Raised, Memory, Steps}
+use Rattle.mpy_endings.specs.declared.ending.Ending.{Ending}
+use Rattle.mpy_endings.specs.declared.ending.Ending.TheVariants.{Done, Unaccepted, Unread, Unverified, Unmerged, Unopened, Unfrozen, Stopped, ReadFault, WriteFault, Unwritten, NoMemory, Absent}
+use Rattle.mpy_endings.specs.declared.ending.Stop.TheVariants.{Past, LibraryFault, LibraryUnaccepted, Raised, Memory, Steps}
+use Rattle.mpy_tool.specs.declared.ready.Ready.{Ready}
 use Rattle.mpy_tool.specs.Base.{base_of}
-use Rattle.mpy_tool.specs.Ending.{is_folder_fault, is_out_fault, status_of}
+use Rattle.mpy_endings.specs.Ending.{is_folder_fault, is_out_fault, status_of}
 use Rattle.mpy_tool.specs.Folder.{MayHold}
-use Rattle.mpy_tool.specs.Line.{Says, line_of}
+use Rattle.mpy_endings.specs.Line.{Says, line_of}
 use Rattle.mpy_tool.specs.Merge.{Refuses}
 use Rattle.mpy_tool.specs.Outside.{Outside}
 
@@ -61,6 +62,8 @@ RefusesLibrary files name (Unaccepted fault) = ⊥
 RefusesLibrary files name (Unread fault) = Refuses files name (Unread fault)
 RefusesLibrary files name (Unverified fault) = Refuses files name (Unverified fault)
 RefusesLibrary files name (Unmerged fault) = ⊥
+RefusesLibrary files name (Unopened fault) = ⊥
+RefusesLibrary files name (Unfrozen fault) = ⊥
 RefusesLibrary files name (Stopped (Past limit)) = LoadsOf files name (loads.Past limit)
 RefusesLibrary files name (Stopped (LibraryFault path)) = IsOfLibrary name path
 RefusesLibrary files name (Stopped (LibraryUnaccepted source)) = ⊥
@@ -104,6 +107,8 @@ IsUnloaded (Unaccepted fault) = Unit {0}
 IsUnloaded (Unread fault) = Unit {0}
 IsUnloaded (Unverified fault) = Unit {0}
 IsUnloaded (Unmerged fault) = ⊥
+IsUnloaded (Unopened fault) = Unit {0}
+IsUnloaded (Unfrozen fault) = ⊥
 IsUnloaded (Stopped (Past limit)) = Unit {0}
 IsUnloaded (Stopped (LibraryFault path)) = Unit {0}
 IsUnloaded (Stopped (LibraryUnaccepted source)) = Unit {0}
@@ -123,10 +128,10 @@ pub record Untouched (old new : Sight) (said : List ℕ) : Type 0 where
   pub says : said ≡ []
 
 -- where the relation tells what loading the library comes to
-module _ (Comes : Result Shelf Ending → Type 0) (room : Room) (steps : ℕ) (old new : Sight) (said : List ℕ) where
+module _ (Comes : Result Ready Ending → Type 0) (room : Room) (steps : ℕ) (old new : Sight) (said : List ℕ) where
   -- the library was run, and its run ended so
   abbrev pub RanLibrary : RunEnd → Type 0
-  RanLibrary end = (shelf : Shelf) × Comes (Ok shelf) × RunsAs shelf main_name room steps old new end said
+  RanLibrary end = (ready : Ready) × Comes (Ok ready) × RunsAs ready.library ready.main room steps old new end said
 
   -- it wasn't loaded
   abbrev pub NotLoaded : Ending → Type 0
@@ -139,6 +144,8 @@ module _ (Comes : Result Shelf Ending → Type 0) (room : Room) (steps : ℕ) (o
   Runs (Unread fault) = NotLoaded (Unread fault)
   Runs (Unverified fault) = NotLoaded (Unverified fault)
   Runs (Unmerged fault) = ⊥
+  Runs (Unopened fault) = NotLoaded (Unopened fault)
+  Runs (Unfrozen fault) = ⊥
   Runs (Stopped (Past limit)) = NotLoaded (Stopped (Past limit))
   Runs (Stopped (LibraryFault path)) = NotLoaded (Stopped (LibraryFault path))
   Runs (Stopped (LibraryUnaccepted source)) = NotLoaded (Stopped (LibraryUnaccepted source))
@@ -161,7 +168,7 @@ sight_in outside ports = record { out = outside.out; ports = ports }
 
 -- A run of the library that comes so of the folder's files and of this name ended so: why, with what printed and what the ports tell,
 -- which count of faults rose, and what was said, in the run and behind it.
-pub record EndsRun (Comes : Option FileOf → (name : List ℕ) → Result Shelf Ending → Type 0) (room : Room) (steps : ℕ) (name : List ℕ) (old new : Outside) (ports_old ports_new : List PortView) (status : ℕ) : Type 0 where
+pub record EndsRun (Comes : Option FileOf → (name : List ℕ) → Result Ready Ending → Type 0) (room : Room) (steps : ℕ) (name : List ℕ) (old new : Outside) (ports_old ports_new : List PortView) (status : ℕ) : Type 0 where
   pub ending : Ending
   pub said : List ℕ
   pub status_is : status ≡ status_of ending

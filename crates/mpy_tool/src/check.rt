@@ -2,16 +2,15 @@
 
 ghost use Rattle.std.specs.Prelude.{◌≡◌};
 ghost use Rattle.mpy_io.specs.Count.{Counts};
-ghost use Rattle.mpy_tool.specs.Ending.{is_folder_fault, is_out_fault};
+ghost use Rattle.mpy_endings.specs.Ending.{is_folder_fault, is_out_fault};
 ghost use Rattle.mpy_tool.specs.Check.{Judges, Checks, verified_line};
-ghost use Rattle.mpy_tool.specs.Line.{Puts};
+ghost use Rattle.mpy_endings.specs.Line.{Puts};
 ghost use Rattle.mpy_tool.specs.Merge.{Opens};
 
-use crate::ending::Ending;
-use crate::line::put_three;
 use bc_verify::{Verified, verify};
 use itoa::Buffer;
 use mpy_base::Refused;
+use mpy_endings::{Ending, put_three};
 use mpy_io::{Failed, Folder, ReadFault, Sink};
 use mpy_reader::{FileFault, read};
 use std::alloc::Global;

@@ -5,11 +5,11 @@ ghost use Rattle.mpy_io.specs.Count.{Counts};
 ghost use Rattle.mpy_compile.specs.Compiled.{Compiles};
 ghost use Rattle.source_files.specs.Sources.{stored};
 ghost use Rattle.mpy_tool.specs.Cross.{Crosses};
-ghost use Rattle.mpy_tool.specs.Ending.{is_folder_fault, is_out_fault};
+ghost use Rattle.mpy_endings.specs.Ending.{is_folder_fault, is_out_fault};
 
-use crate::ending::Ending;
 use mpy_base::{NoMemory, Refused, SourceFault};
 use mpy_compile::compile;
+use mpy_endings::Ending;
 use mpy_io::{Failed, Folder, ReadFault};
 use source_files::stored_name;
 use std::alloc::Global;

@@ -3,11 +3,11 @@
 ghost use Rattle.std.specs.Prelude.{◌≡◌};
 ghost use Rattle.mpy_io.specs.Count.{Counts};
 ghost use Rattle.mpy_tool.specs.Dump.{Dumps};
-ghost use Rattle.mpy_tool.specs.Ending.{is_folder_fault, is_out_fault};
+ghost use Rattle.mpy_endings.specs.Ending.{is_folder_fault, is_out_fault};
 
-use crate::ending::Ending;
 use mpy_base::Refused;
 use mpy_dump::listing;
+use mpy_endings::Ending;
 use mpy_io::{Failed, Folder, ReadFault, Sink};
 use mpy_reader::{FileFault, read};
 use std::alloc::Global;

@@ -6,14 +6,17 @@ ghost use Rattle.mpy_tree.specs.Raw.{Module};
 ghost use Rattle.library_files.specs.Ends.{BeginsWith, HoldsModules};
 ghost use Rattle.mpy_tool.specs.Go.{HoldsSource, RefusesSources, SourceLibrary};
 ghost use Rattle.mpy_tool.specs.Merge.{failed_in};
+ghost use Rattle.image_runs.specs.Main.{IsMainAt};
+ghost use Rattle.mpy_tool.specs.Ready.{GoLibrary};
 ghost use Rattle.mpy_tool.specs.Run.{IsUnloaded};
 
 use crate::base::base_of;
-use crate::ending::Ending;
+use crate::ready::{Ready, first_ready, main_text};
 use crate::run::load_ending;
 use bc_library::Library;
 use bc_verify::Verified;
 use mpy_base::{Refused, SourceFault};
+use mpy_endings::Ending;
 use mpy_io::{Folder, ReadFault};
 use source_files::{load_sources, source_module};
 use std::alloc::Global;
@@ -48,7 +51,7 @@ fn main_of<F: Folder>(
 }
 
 /// The library of the source of this name at a level, or what keeps it from being loaded.
-pub(crate) fn source_library<F: Folder>(
+fn source_library<F: Folder>(
     alloc: Global,
     level: u8,
     name: &str,
@@ -70,4 +73,27 @@ pub(crate) fn source_library<F: Folder>(
         Ok(library) => Ok(library),
         Err(refused) => Err(load_ending(refused)),
     }
+}
+
+/// The same with its main module, the first one.
+pub(crate) fn source_ready<F: Folder>(
+    alloc: Global,
+    level: u8,
+    name: &str,
+    folder: &mut F,
+) -> Result<Ready, Ending>
+    requires { level ≤ 3 }
+    ensures comes { GoLibrary level (F.files folder.old) name.now result }
+    ensures there { IfOk result (λ ready. (m : Module) × IsMainAt ready.main ready.place m ready.library) }
+    ensures holds { IfOk result (λ ready. HoldsModules ready.library) }
+    ensures unloaded { IfErr result IsUnloaded }
+    ensures counts { Counts (F.count folder.old) (F.count folder.new) (failed_in result) }
+    ensures files { F.files folder.new ≡ F.files folder.old }
+{
+    let main = match main_text(alloc) {
+        Ok(main) => main,
+        Err(ending) => return Err(ending),
+    };
+    let loaded = source_library(alloc, level, name, folder);
+    first_ready(loaded, main)
 }

@@ -2,13 +2,13 @@
 
 ghost use Rattle.std.specs.Prelude.{◌≡◌, map, string_bytes, false, IfOk, IfErr};
 ghost use Rattle.mpy_io.specs.Count.{Counts};
-ghost use Rattle.mpy_tool.specs.Ending.{is_folder_fault, is_out_fault};
+ghost use Rattle.mpy_endings.specs.Ending.{is_folder_fault, is_out_fault};
 ghost use Rattle.mpy_tool.specs.Merge.{HoldsModule, Refuses, failed_in, HoldModules, IsFirstRefused, Merges};
 
 use crate::check::verified;
-use crate::ending::{Ended, Ending};
 use bc_verify::Verified;
 use mpy_base::Refused;
+use mpy_endings::{Ended, Ending};
 use mpy_io::{Failed, Folder, ReadFault};
 use mpy_merge::merge;
 use mpy_reader::FileFault;

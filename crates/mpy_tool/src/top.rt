@@ -4,39 +4,43 @@ ghost use Rattle.std.specs.Prelude.{◌≡◌, ◌≤◌, ℕ, List, [], Option,
 ghost use Rattle.mpy_io.specs.Count.{Counts};
 ghost use Rattle.mpy_io.specs.Files.{FileOf};
 ghost use Rattle.mpy_tree.specs.Raw.{Module};
-ghost use Rattle.library_files.specs.Ends.{BeginsWith, HoldsModules};
+ghost use Rattle.library_files.specs.Ends.{HoldsModules};
+ghost use Rattle.image_runs.specs.Main.{IsMainAt};
 ghost use Rattle.mpy_words.specs.declared.order.Command.TheVariants as commands;
 ghost use Rattle.mpy_words.specs.Command.{takes_files};
-ghost use Rattle.mpy_words.specs.Words.{order_of, first_name, second_name, source_name, file_names};
-ghost use Rattle.mpy_tool.specs.declared.ending.Ending.{Ending};
-ghost use Rattle.mpy_tool.specs.declared.ending.Ending.TheVariants.{Done};
-ghost use Rattle.mpy_tool.specs.Ending.{IsSettled, is_folder_fault, is_out_fault};
+ghost use Rattle.mpy_words.specs.Words.{order_of, first_name, second_name, source_name, main_name, file_names};
+ghost use Rattle.mpy_endings.specs.declared.ending.Ending.{Ending};
+ghost use Rattle.mpy_endings.specs.declared.ending.Ending.TheVariants.{Done};
+ghost use Rattle.mpy_endings.specs.Ending.{IsSettled, is_folder_fault, is_out_fault};
 ghost use Rattle.mpy_tool.specs.Check.{Checks};
 ghost use Rattle.mpy_tool.specs.Cross.{Crosses};
 ghost use Rattle.mpy_tool.specs.Dump.{Dumps};
-ghost use Rattle.mpy_tool.specs.Go.{SourceLibrary};
+ghost use Rattle.mpy_tool.specs.Freeze.{Freezes};
 ghost use Rattle.mpy_tool.specs.GoMeant.{GoMeans};
-ghost use Rattle.mpy_tool.specs.Line.{place_in};
+ghost use Rattle.mpy_endings.specs.Line.{place_in};
 ghost use Rattle.mpy_tool.specs.Meant.{RunMeans};
 ghost use Rattle.mpy_tool.specs.Merge.{Merges, failed_in};
 ghost use Rattle.mpy_tool.specs.Outside.{seen, RefusesWords, Ends, Writes, WritesOf, written_by, written_in, calls_ports, calls_ports_in, Changes};
-ghost use Rattle.mpy_tool.specs.Run.{EndsRun, FileLibrary, IsUnloaded, room_of};
+ghost use Rattle.mpy_tool.specs.Ready.{GoLibrary, RunLibrary};
+ghost use Rattle.mpy_tool.specs.Run.{EndsRun, IsUnloaded, room_of};
 ghost use Rattle.source_files.specs.Sources.{stored};
 ghost use Rattle.std.specs.Io.KnownBytes.{Keeps};
 
 use crate::check::check;
 use crate::cross::cross;
 use crate::dump::dump;
-use crate::ending::{Ended, Ending};
-use crate::go::source_library;
-use crate::line::{say_ending, say_words};
+use crate::freeze::freeze;
+use crate::go::source_ready;
 use crate::meant::{go_means_law, run_means_law};
 use crate::merge::merge_files;
-use crate::run::{file_library, run_loaded};
-use crate::words::{file_names as files_in, source_name as name_to_store, word_at};
-use bc_library::Library;
+use crate::ready::Ready;
+use crate::run::{run_loaded, run_ready};
 use mpy_base::Room;
 use mpy_compile::compile_law;
+use mpy_endings::{
+    Ended, Ending, file_names as files_in, main_name as main_in, say_ending, say_words,
+    source_name as name_to_store, word_at,
+};
 use mpy_io::{Failed, Folder, Port, Sink};
 use mpy_words::{Command, Order, order_of};
 use port_set::PortSet;
@@ -60,8 +64,10 @@ fn ran<F: Folder, S: Sink>(
     ensures cross { order.command ≡ commands.Cross → Crosses order.level (first_name (map string_bytes words.now)) (stored (source_name (map string_bytes words.now) order.stored_name))
         (second_name (map string_bytes words.now)) (F.files folder.old) (F.files folder.new) result.ending }
     ensures merge { order.command ≡ commands.Merge → Merges (file_names (map string_bytes words.now)) (first_name (map string_bytes words.now)) (F.files folder.old) (F.files folder.new) result.place result.ending }
+    ensures freeze { order.command ≡ commands.Freeze → Freezes (first_name (map string_bytes words.now)) (second_name (map string_bytes words.now)) (F.files folder.old) (F.files folder.new) result.ending }
     ensures cross_prints { order.command ≡ commands.Cross → Keeps (S.told out.old) (S.told out.new) }
     ensures merge_prints { order.command ≡ commands.Merge → Keeps (S.told out.old) (S.told out.new) }
+    ensures freeze_prints { order.command ≡ commands.Freeze → Keeps (S.told out.old) (S.told out.new) }
     ensures place { takes_files order.command ≡ false → result.place ≡ place_in result.ending }
     ensures folder_counts { Counts (F.count folder.old) (F.count folder.new) (is_folder_fault result.ending) }
     ensures out_counts { Counts (S.count out.old) (S.count out.new) (is_out_fault result.ending) }
@@ -83,6 +89,7 @@ fn ran<F: Folder, S: Sink>(
             ))
         }
         Command::Merge => merge_files(alloc, files_in(words), name, folder),
+        Command::Freeze => Ended::of_two(freeze(alloc, name, word_at(words, 2), folder)),
         Command::Go | Command::Run => unreachable!(),
     }
 }
@@ -102,8 +109,10 @@ fn done<F: Folder, S: Sink>(
     ensures cross { order.command ≡ commands.Cross → Crosses order.level (first_name (map string_bytes words.now)) (stored (source_name (map string_bytes words.now) order.stored_name))
         (second_name (map string_bytes words.now)) (F.files folder.old) (F.files folder.new) result.ending }
     ensures merge { order.command ≡ commands.Merge → Merges (file_names (map string_bytes words.now)) (first_name (map string_bytes words.now)) (F.files folder.old) (F.files folder.new) result.place result.ending }
+    ensures freeze { order.command ≡ commands.Freeze → Freezes (first_name (map string_bytes words.now)) (second_name (map string_bytes words.now)) (F.files folder.old) (F.files folder.new) result.ending }
     ensures cross_prints { order.command ≡ commands.Cross → Keeps (S.told out.old) (S.told out.new) }
     ensures merge_prints { order.command ≡ commands.Merge → Keeps (S.told out.old) (S.told out.new) }
+    ensures freeze_prints { order.command ≡ commands.Freeze → Keeps (S.told out.old) (S.told out.new) }
     ensures place { takes_files order.command ≡ false → result.place ≡ place_in result.ending }
     ensures flushed { result.ending ≡ Done → S.held out.new ≡ [] }
     ensures folder_counts { Counts (F.count folder.old) (F.count folder.new) (is_folder_fault result.ending) }
@@ -132,35 +141,39 @@ fn runs(command: Command) -> bool
 {
     match command {
         Command::Go | Command::Run => true,
-        Command::Check | Command::Dump | Command::Cross | Command::Merge => false,
+        Command::Check | Command::Dump | Command::Cross => false,
+        Command::Merge | Command::Freeze => false,
     }
 }
 
-/// The library of the file or the source of this name, whichever is ordered, or what keeps it from being loaded.
+/// The library of the source, the file or the image that the words name, whichever is ordered, or what keeps it from being run.
 fn library_of<F: Folder>(
     order: Order,
     alloc: Global,
-    name: &str,
+    words: &[String],
     folder: &mut F,
-) -> Result<Library, Ending>
+) -> Result<Ready, Ending>
     requires level { order.level ≤ 3 }
     requires runs { calls_ports order.command ≡ true }
-    ensures go { order.command ≡ commands.Go → SourceLibrary order.level (F.files folder.old) name.now result }
-    ensures run { order.command ≡ commands.Run → FileLibrary (F.files folder.old) name.now result }
-    ensures begins { IfOk result (λ library. (m : Module) × BeginsWith m library) }
-    ensures holds { IfOk result HoldsModules }
+    ensures go { order.command ≡ commands.Go → GoLibrary order.level (F.files folder.old) (first_name (map string_bytes words.now)) result }
+    ensures run { order.command ≡ commands.Run
+        → RunLibrary (main_name (map string_bytes words.now) order.main_name) (F.files folder.old) (first_name (map string_bytes words.now)) result }
+    ensures there { IfOk result (λ ready. (m : Module) × IsMainAt ready.main ready.place m ready.library) }
+    ensures holds { IfOk result (λ ready. HoldsModules ready.library) }
     ensures unloaded { IfErr result IsUnloaded }
     ensures counts { Counts (F.count folder.old) (F.count folder.new) (failed_in result) }
     ensures files { F.files folder.new ≡ F.files folder.old }
 {
+    let name = word_at(words, 1);
     match order.command {
-        Command::Go => source_library(alloc, order.level, name, folder),
-        Command::Run => file_library(alloc, name, folder),
-        Command::Check | Command::Dump | Command::Cross | Command::Merge => unreachable!(),
+        Command::Go => source_ready(alloc, order.level, name, folder),
+        Command::Run => run_ready(alloc, name, main_in(words, order.main_name), folder),
+        Command::Check | Command::Dump | Command::Cross => unreachable!(),
+        Command::Merge | Command::Freeze => unreachable!(),
     }
 }
 
-/// Runs the library of the file or the source that the words name, whichever is ordered, and answers the exit status.
+/// Runs the library of the source, the file or the image that the words name, whichever is ordered, and answers the exit status.
 fn run_order<F: Folder, S: Sink, P: Port, E: Sink>(
     order: Order,
     alloc: Global,
@@ -173,12 +186,12 @@ fn run_order<F: Folder, S: Sink, P: Port, E: Sink>(
     requires level { order.level ≤ 3 }
     requires runs { calls_ports order.command ≡ true }
     ensures go { order.command ≡ commands.Go
-        → EndsRun (SourceLibrary order.level) (room_of order) order.steps (first_name (map string_bytes words.now))
+        → EndsRun (GoLibrary order.level) (room_of order) order.steps (first_name (map string_bytes words.now))
         (seen F.files F.count S.told S.count E.told E.count folder.old out.old say.old)
         (seen F.files F.count S.told S.count E.told E.count folder.new out.new say.new)
         (map P.seen ports.old) (map P.seen ports.new) result }
     ensures run { order.command ≡ commands.Run
-        → EndsRun FileLibrary (room_of order) order.steps (first_name (map string_bytes words.now))
+        → EndsRun (RunLibrary (main_name (map string_bytes words.now) order.main_name)) (room_of order) order.steps (first_name (map string_bytes words.now))
         (seen F.files F.count S.told S.count E.told E.count folder.old out.old say.old)
         (seen F.files F.count S.told S.count E.told E.count folder.new out.new say.new)
         (map P.seen ports.old) (map P.seen ports.new) result }
@@ -188,7 +201,7 @@ fn run_order<F: Folder, S: Sink, P: Port, E: Sink>(
         (seen F.files F.count S.told S.count E.told E.count folder.new out.new say.new)
         (map P.seen ports.old) (map P.seen ports.new) result }
     ensures run_means { order.command ≡ commands.Run
-        → RunMeans FileLibrary (room_of order) order.steps (first_name (map string_bytes words.now))
+        → RunMeans (RunLibrary (main_name (map string_bytes words.now) order.main_name)) (room_of order) order.steps (first_name (map string_bytes words.now))
         (seen F.files F.count S.told S.count E.told E.count folder.old out.old say.old)
         (seen F.files F.count S.told S.count E.told E.count folder.new out.new say.new)
         (map P.seen ports.old) (map P.seen ports.new) result }
@@ -202,7 +215,7 @@ fn run_order<F: Folder, S: Sink, P: Port, E: Sink>(
         cells: order.cells,
         bytes: order.bytes,
     };
-    let loaded = library_of(order, alloc, name, folder);
+    let loaded = library_of(order, alloc, words, folder);
     let ending = run_loaded(alloc, loaded, room, order.steps, out, ports, say);
     let _ = say_ending(say, name, &ending);
     ending.status()
@@ -236,6 +249,11 @@ fn do_order<F: Folder, S: Sink, E: Sink>(
         → WritesOf (Merges (file_names (map string_bytes words.now)) (first_name (map string_bytes words.now))) (map string_bytes words.now)
         (seen F.files F.count S.told S.count E.told E.count folder.old out.old say.old)
         (seen F.files F.count S.told S.count E.told E.count folder.new out.new say.new) result }
+    ensures freeze { order.command ≡ commands.Freeze
+        → Writes (Freezes (first_name (map string_bytes words.now)) (second_name (map string_bytes words.now)))
+        (first_name (map string_bytes words.now)) (second_name (map string_bytes words.now))
+        (seen F.files F.count S.told S.count E.told E.count folder.old out.old say.old)
+        (seen F.files F.count S.told S.count E.told E.count folder.new out.new say.new) result }
     ensures flushed { result ≡ 0 → S.held out.new ≡ [] }
     ensures files { Changes (written_by (map string_bytes words.now) order.command) (F.files folder.old) (F.files folder.new) }
 {
@@ -264,7 +282,7 @@ pub fn mpy<F: Folder, S: Sink, P: Port, E: Sink>(
     // go SRC: the library of SRC, which the sources that it imports are compiled to, is run, in the room and for the steps that are
     // ordered, and its output is printed; or what kept it from that is said.
     ensures go { IfOk (order_of (map string_bytes words.now)) (λ order. order.command ≡ commands.Go
-        → EndsRun (SourceLibrary order.level) (room_of order) order.steps (first_name (map string_bytes words.now))
+        → EndsRun (GoLibrary order.level) (room_of order) order.steps (first_name (map string_bytes words.now))
         (seen F.files F.count S.told S.count E.told E.count folder.old out.old say.old)
         (seen F.files F.count S.told S.count E.told E.count folder.new out.new say.new)
         (map P.seen ports.old) (map P.seen ports.new) result) }
@@ -294,10 +312,17 @@ pub fn mpy<F: Folder, S: Sink, P: Port, E: Sink>(
         (seen F.files F.count S.told S.count E.told E.count folder.old out.old say.old)
         (seen F.files F.count S.told S.count E.told E.count folder.new out.new say.new) result) }
 
+    // freeze MANIFEST OUT: OUT becomes the image of the manifest's sources, and nothing is printed, or what kept it from that is said.
+    ensures freeze { IfOk (order_of (map string_bytes words.now)) (λ order. order.command ≡ commands.Freeze
+        → Writes (Freezes (first_name (map string_bytes words.now)) (second_name (map string_bytes words.now)))
+        (first_name (map string_bytes words.now)) (second_name (map string_bytes words.now))
+        (seen F.files F.count S.told S.count E.told E.count folder.old out.old say.old)
+        (seen F.files F.count S.told S.count E.told E.count folder.new out.new say.new) result) }
+
     // run FILE: the library of FILE is run, in the room and for the steps that are ordered, and its output is printed; or what kept
-    // it from that is said.
+    // it from that is said. A file that begins as an image is one, and the module that is ordered its main one.
     ensures run { IfOk (order_of (map string_bytes words.now)) (λ order. order.command ≡ commands.Run
-        → EndsRun FileLibrary (room_of order) order.steps (first_name (map string_bytes words.now))
+        → EndsRun (RunLibrary (main_name (map string_bytes words.now) order.main_name)) (room_of order) order.steps (first_name (map string_bytes words.now))
         (seen F.files F.count S.told S.count E.told E.count folder.old out.old say.old)
         (seen F.files F.count S.told S.count E.told E.count folder.new out.new say.new)
         (map P.seen ports.old) (map P.seen ports.new) result) }
@@ -310,7 +335,7 @@ pub fn mpy<F: Folder, S: Sink, P: Port, E: Sink>(
         (seen F.files F.count S.told S.count E.told E.count folder.new out.new say.new)
         (map P.seen ports.old) (map P.seen ports.new) result) }
     ensures run_means { IfOk (order_of (map string_bytes words.now)) (λ order. order.command ≡ commands.Run
-        → RunMeans FileLibrary (room_of order) order.steps (first_name (map string_bytes words.now))
+        → RunMeans (RunLibrary (main_name (map string_bytes words.now) order.main_name)) (room_of order) order.steps (first_name (map string_bytes words.now))
         (seen F.files F.count S.told S.count E.told E.count folder.old out.old say.old)
         (seen F.files F.count S.told S.count E.told E.count folder.new out.new say.new)
         (map P.seen ports.old) (map P.seen ports.new) result) }
@@ -321,7 +346,7 @@ pub fn mpy<F: Folder, S: Sink, P: Port, E: Sink>(
     // With status 0 nothing of what is printed is held back.
     ensures flushed { result ≡ 0 → S.held out.new ≡ [] }
 
-    // No command but cross and merge changes a file, and these none but FILE and OUT.
+    // No command but cross, merge and freeze changes a file, and these none but FILE and OUT.
     ensures files { Changes (written_in (map string_bytes words.now) (order_of (map string_bytes words.now))) (F.files folder.old) (F.files folder.new) }
 {
     match order_of(words) {

@@ -1,5 +1,5 @@
 use Rattle.source_files.specs.Sources.{stored}
-use Rattle.mpy_tool.proofs.Crossed.{long_source, crossed_front}
+use Rattle.mpy_tool.proofs.Crossed.{long_source, crossed_front, crossed_done}
 use Rattle.mpy_tool.proofs.cross.cross.Goals as goal
 
 pub returns-in-Err-TooLong-clause-went : goal.returns-in-Err-TooLong-clause-went
@@ -11,3 +11,8 @@ pub returns-in-Ok-compiled-clause-went : goal.returns-in-Ok-compiled-clause-went
 returns-in-Ok-compiled-clause-went g c =
     crossed_front c.args.level (g.F.Folder.files c.args.folder.now) (g.F.Folder.files c.read.new.self) (g.F.Folder.files c.write.new.self) c.args.name.now (stored c.args.source_name.now) c.args.written.now
     c.in-Ok.source.items c.deref.result.now c.in-Ok-compiled.bytes.items c.deref-in-Ok-compiled.result.now c.deref.ensures.value c.deref-in-Ok-compiled.ensures.value c.in-Ok.ensures.same c.in-Ok.ensures.content c.in-Ok-compiled.ensures c.in-Err.ensures.err
+
+pub returns-in-Ok-write-clause-went : goal.returns-in-Ok-write-clause-went
+returns-in-Ok-write-clause-went g c =
+    crossed_done c.args.level (g.F.Folder.files c.args.folder.now) (g.F.Folder.files c.read.new.self) (g.F.Folder.files c.write.new.self) c.args.name.now (stored c.args.source_name.now) c.args.written.now
+    c.in-Ok.source.items c.deref.result.now c.in-Ok-compiled.bytes.items c.deref-in-Ok-compiled.result.now c.deref.ensures.value c.deref-in-Ok-compiled.ensures.value c.in-Ok.ensures.same c.in-Ok.ensures.content c.in-Ok-compiled.ensures c.in-Ok-write.ensures.ok

@@ -1,6 +1,6 @@
 use Rattle.std.proofs.Common.{ap, subst, sym, ◌∙◌}
 use Rattle.library_files.specs.Loads.{Loaded}
-use Rattle.mpy_tool.specs.declared.ending.Ending.{Ending}
+use Rattle.mpy_endings.specs.declared.ending.Ending.{Ending}
 use Rattle.mpy_tool.specs.Base.{base_of}
 use Rattle.mpy_tool.specs.Go.{RefusesSources}
 use Rattle.mpy_tool.proofs.Going.{source_loads_of, sources_refused, sources_unloaded}

@@ -1,4 +1,5 @@
 use Rattle.mpy_tool.proofs.Making.{of_source, of_units}
+use Rattle.mpy_tool.proofs.ImageMeaning.{made_image}
 use Rattle.mpy_tool.proofs.meant.makes_law.Goals as goal
 
 pub returns-clause-cross : goal.returns-clause-cross
@@ -6,3 +7,6 @@ returns-clause-cross c = of_source c.crossed_law.ensures.reading
 
 pub returns-clause-merge : goal.returns-clause-merge
 returns-clause-merge c = of_units
+
+pub returns-clause-freeze : goal.returns-clause-freeze
+returns-clause-freeze c = made_image

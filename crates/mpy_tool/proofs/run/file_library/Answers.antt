@@ -1,23 +1,29 @@
-use Rattle.std.proofs.Common.{ap, subst, sym, ◌∙◌}
+use Rattle.std.proofs.Common.{ap, refl, subst, sym, ◌∙◌}
 use Rattle.library_files.specs.Loads.{Loaded}
-use Rattle.mpy_tool.specs.declared.ending.Ending.{Ending}
+use Rattle.mpy_endings.specs.declared.ending.Ending.{Ending}
 use Rattle.mpy_tool.specs.Base.{base_of}
 use Rattle.mpy_tool.specs.Run.{RefusesLibrary, IsUnloaded}
-use Rattle.mpy_tool.proofs.Running.{loads_of, load_refuses, refuses_library, refused_unloaded}
+use Rattle.mpy_tool.proofs.Running.{main_from, loads_of, load_refuses, bytes_refuse, refused_unloaded}
 use Rattle.mpy_tool.proofs.run.file_library.Goals as goal
 
 pub returns-in-Ok-load-clause-comes : goal.returns-in-Ok-load-clause-comes
 returns-in-Ok-load-clause-comes g c =
     let main = c.in-Ok.main in
-    loads_of (g.F.Folder.files c.args.folder.now) (g.F.Folder.files c.main_of.new.folder) c.args.name.now c.base_of.result.now main.0 main.1 (Loaded c.in-Ok-load.library)
-    c.in-Ok.ensures.files (c.base_of.ensures.base ∙ ap base_of c.as_bytes.ensures.value) c.in-Ok.ensures.main c.in-Ok-load.ensures.loaded
+    let files = g.F.Folder.files c.args.folder.now in
+    loads_of files files c.args.name.now c.base_of.result.now main.0 main.1 (Loaded c.in-Ok-load.library)
+    refl (c.base_of.ensures.base ∙ ap base_of c.as_bytes.ensures.value) (main_from files c.args.name.now c.args.bytes.now main c.requires c.in-Ok.ensures) c.in-Ok-load.ensures.loaded
 
 pub returns-in-Err-load-clause-comes : goal.returns-in-Err-load-clause-comes
 returns-in-Err-load-clause-comes g c =
     let main = c.in-Ok.main in
-    subst (λ (x : Ending). RefusesLibrary (g.F.Folder.files c.args.folder.now) c.args.name.now x) (sym c.load_ending.ensures)
-    (load_refuses (g.F.Folder.files c.args.folder.now) (g.F.Folder.files c.main_of.new.folder) c.args.name.now c.base_of.result.now main.0 main.1 c.in-Err-load.refused
-    c.in-Ok.ensures.files (c.base_of.ensures.base ∙ ap base_of c.as_bytes.ensures.value) c.in-Ok.ensures.main c.in-Err-load.ensures.loaded c.in-Err-load.ensures.at)
+    let files = g.F.Folder.files c.args.folder.now in
+    subst (λ (x : Ending). RefusesLibrary files c.args.name.now x) (sym c.load_ending.ensures)
+    (load_refuses files files c.args.name.now c.base_of.result.now main.0 main.1 c.in-Err-load.refused
+    refl (c.base_of.ensures.base ∙ ap base_of c.as_bytes.ensures.value) (main_from files c.args.name.now c.args.bytes.now main c.requires c.in-Ok.ensures) c.in-Err-load.ensures.loaded c.in-Err-load.ensures.at)
 
 pub returns-in-Err-clause-comes : goal.returns-in-Err-clause-comes
-returns-in-Err-clause-comes g c = refuses_library (g.F.Folder.files c.args.folder.now) c.args.name.now c.in-Err.ending c.in-Err.ensures.refused
+returns-in-Err-clause-comes g c = bytes_refuse (g.F.Folder.files c.args.folder.now) c.args.name.now c.args.bytes.now c.in-Err.ending c.requires c.in-Err.ensures
+
+pub returns-in-Err-clause-unloaded : goal.returns-in-Err-clause-unloaded
+returns-in-Err-clause-unloaded g c =
+    refused_unloaded (g.F.Folder.files c.args.folder.now) c.args.name.now c.in-Err.ending (bytes_refuse (g.F.Folder.files c.args.folder.now) c.args.name.now c.args.bytes.now c.in-Err.ending c.requires c.in-Err.ensures)

@@ -1,5 +1,5 @@
 use Rattle.std.proofs.Common.{◌≡◌, map, string_bytes, ap}
-use Rattle.mpy_words.specs.declared.order.Command.TheVariants.{Check, Dump, Cross}
+use Rattle.mpy_words.specs.declared.order.Command.TheVariants.{Check, Dump, Cross, Freeze}
 use Rattle.mpy_words.specs.Command.{takes_files}
 use Rattle.mpy_words.specs.Words.{first_name, second_name}
 use Rattle.mpy_tool.specs.Check.{Checks}
@@ -58,4 +58,21 @@ returns-clause-merge g c =
       folder_counts = c.done-ended.ensures.folder_counts;
       out_counts = c.done-ended.ensures.out_counts;
       says = says;
+    }
+
+pub returns-clause-freeze : goal.returns-clause-freeze
+returns-clause-freeze g c =
+    let words = map string_bytes c.args.words.now in
+    let old = seen g.F.Folder.files g.F.Folder.count g.S.Sink.told g.S.Sink.count g.E.Sink.told g.E.Sink.count c.args.folder.now c.args.out.now c.args.say.now in
+    let new = seen g.F.Folder.files g.F.Folder.count g.S.Sink.told g.S.Sink.count g.E.Sink.told g.E.Sink.count c.done-ended.new.folder c.done-ended.new.out c.say_ending.new.say in
+    let says = λ (e : c.args.order.command ≡ Freeze). said_in old.say new.say old.say_faults new.say_faults words c.word_at-name.result.now c.done-ended.result.place c.done-ended.result.ending c.say_ending.result
+    c.word_at-name.ensures (c.done-ended.ensures.place (ap takes_files e)) c.say_ending.ensures.line in
+    λ e. record {
+      ending = c.done-ended.result.ending;
+      status_is = c.status.ensures;
+      went = c.done-ended.ensures.freeze e;
+      prints = c.done-ended.ensures.freeze_prints e;
+      folder_counts = c.done-ended.ensures.folder_counts;
+      out_counts = c.done-ended.ensures.out_counts;
+      says = says e;
     }

@@ -1,6 +1,6 @@
 use Rattle.std.proofs.Common.{map, string_bytes, subst}
 use Rattle.mpy_words.specs.Words.{first_name}
-use Rattle.mpy_tool.specs.declared.ending.Ending.{Ending}
+use Rattle.mpy_endings.specs.declared.ending.Ending.{Ending}
 use Rattle.mpy_tool.specs.Check.{Checks}
 use Rattle.mpy_tool.specs.Dump.{Dumps}
 use Rattle.mpy_tool.proofs.HandedOn.{checks_cut, dumps_cut}

@@ -2,15 +2,16 @@ use Rattle.std.proofs.Common.{ℕ, List, map, string_bytes, sym, ap, subst, ◌�
 use Rattle.mpy_io.specs.Count.{Counts}
 use Rattle.mpy_words.specs.declared.order.Command.{Command}
 use Rattle.mpy_words.specs.Words.{first_name}
-use Rattle.mpy_tool.specs.declared.ending.Ending.{Ending}
+use Rattle.mpy_endings.specs.declared.ending.Ending.{Ending}
 use Rattle.mpy_tool.specs.Check.{Checks}
 use Rattle.mpy_tool.specs.Dump.{Dumps}
 use Rattle.mpy_tool.specs.Cross.{ChangesOnly}
-use Rattle.mpy_tool.specs.Ending.{is_folder_fault, is_out_fault}
+use Rattle.mpy_endings.specs.Ending.{is_folder_fault, is_out_fault}
 use Rattle.source_files.specs.Sources.{stored}
-use Rattle.mpy_tool.specs.Line.{place_in}
+use Rattle.mpy_endings.specs.Line.{place_in}
 use Rattle.mpy_tool.specs.Outside.{written_by, Changes}
 use Rattle.mpy_tool.proofs.Crossed.{crosses_only}
+use Rattle.mpy_tool.proofs.Freezing.{freezes_only}
 use Rattle.mpy_tool.proofs.Merging.{merges_only}
 use Rattle.mpy_tool.proofs.top.ran.Goals as goal
 
@@ -67,3 +68,10 @@ returns-in-Merge-clause-files g c =
     let new = g.F.Folder.files c.merge_files.new.folder in
     let only = merges_only (map string_bytes c.file_names.result.now) c.word_at-name.result.now old new c.merge_files.result.place c.merge_files.result.ending c.merge_files.ensures.went in
     subst (λ (command : Command). Changes (written_by (map string_bytes c.args.words.now) command) old new) (sym c.in-Merge.is) (subst (λ (n : List ℕ). ChangesOnly old new n) c.word_at-name.ensures only)
+
+pub returns-in-Freeze-clause-files : goal.returns-in-Freeze-clause-files
+returns-in-Freeze-clause-files g c =
+    let old = g.F.Folder.files c.args.folder.now in
+    let new = g.F.Folder.files c.freeze.new.folder in
+    let only = freezes_only c.word_at-name.result.now c.word_at-in-Freeze.result.now old new c.freeze.result c.freeze.ensures.went in
+    subst (λ (command : Command). Changes (written_by (map string_bytes c.args.words.now) command) old new) (sym c.in-Freeze.is) (subst (λ (n : List ℕ). ChangesOnly old new n) c.word_at-in-Freeze.ensures only)

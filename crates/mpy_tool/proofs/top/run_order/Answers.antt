@@ -1,8 +1,8 @@
-use Rattle.std.proofs.Common.{◌≡◌, ℕ, map, string_bytes, ap, subst}
-use Rattle.mpy_words.specs.Words.{first_name}
-use Rattle.mpy_tool.specs.Go.{SourceLibrary}
+use Rattle.std.proofs.Common.{◌≡◌, ℕ, List, map, string_bytes, ap, sym, subst}
+use Rattle.mpy_words.specs.Words.{first_name, main_name}
+use Rattle.mpy_tool.specs.Ready.{GoLibrary, RunLibrary}
 use Rattle.mpy_tool.specs.Outside.{seen}
-use Rattle.mpy_tool.specs.Run.{FileLibrary, room_of}
+use Rattle.mpy_tool.specs.Run.{room_of}
 use Rattle.mpy_tool.proofs.Running.{says_run, ends_run, status_zero}
 use Rattle.mpy_tool.proofs.top.run_order.Goals as goal
 
@@ -19,8 +19,8 @@ returns-clause-go g c =
     (λ e. (ap g.E.Sink.told (c.run_loaded-ending.ensures.silent e), ap g.E.Sink.count (c.run_loaded-ending.ensures.silent e)))
     (λ e. (ap g.E.Sink.told (c.say_ending.ensures.said e), ap g.E.Sink.count (c.say_ending.ensures.said e)))
     ran.2 c.say_ending.ensures.line in
-    λ e. ends_run room c.args.order.steps old new before after c.library_of-loaded.result ending ran.0 ran.1 (SourceLibrary c.args.order.level) (first_name (map string_bytes c.args.words.now)) c.word_at-name.result.now c.status.result
-    c.status.ensures c.word_at-name.ensures (c.library_of-loaded.ensures.go e) c.library_of-loaded.ensures.counts c.run_loaded-ending.ensures.reads c.run_loaded-ending.ensures.out_counts says
+    λ e. ends_run room c.args.order.steps old new before after c.library_of-loaded.result ending ran.0 ran.1 (GoLibrary c.args.order.level) (first_name (map string_bytes c.args.words.now)) c.word_at-name.result.now c.status.result
+    c.status.ensures c.word_at-name.ensures (subst (λ (n : List ℕ). GoLibrary c.args.order.level (g.F.Folder.files c.args.folder.now) n c.library_of-loaded.result) (sym c.word_at-name.ensures) (c.library_of-loaded.ensures.go e)) c.library_of-loaded.ensures.counts c.run_loaded-ending.ensures.reads c.run_loaded-ending.ensures.out_counts says
 
 pub returns-clause-run : goal.returns-clause-run
 returns-clause-run g c =
@@ -35,8 +35,8 @@ returns-clause-run g c =
     (λ e. (ap g.E.Sink.told (c.run_loaded-ending.ensures.silent e), ap g.E.Sink.count (c.run_loaded-ending.ensures.silent e)))
     (λ e. (ap g.E.Sink.told (c.say_ending.ensures.said e), ap g.E.Sink.count (c.say_ending.ensures.said e)))
     ran.2 c.say_ending.ensures.line in
-    λ e. ends_run room c.args.order.steps old new before after c.library_of-loaded.result ending ran.0 ran.1 FileLibrary (first_name (map string_bytes c.args.words.now)) c.word_at-name.result.now c.status.result
-    c.status.ensures c.word_at-name.ensures (c.library_of-loaded.ensures.run e) c.library_of-loaded.ensures.counts c.run_loaded-ending.ensures.reads c.run_loaded-ending.ensures.out_counts says
+    λ e. ends_run room c.args.order.steps old new before after c.library_of-loaded.result ending ran.0 ran.1 (RunLibrary (main_name (map string_bytes c.args.words.now) c.args.order.main_name)) (first_name (map string_bytes c.args.words.now)) c.word_at-name.result.now c.status.result
+    c.status.ensures c.word_at-name.ensures (subst (λ (n : List ℕ). RunLibrary (main_name (map string_bytes c.args.words.now) c.args.order.main_name) (g.F.Folder.files c.args.folder.now) n c.library_of-loaded.result) (sym c.word_at-name.ensures) (c.library_of-loaded.ensures.run e)) c.library_of-loaded.ensures.counts c.run_loaded-ending.ensures.reads c.run_loaded-ending.ensures.out_counts says
 
 pub returns-clause-go_means : goal.returns-clause-go_means
 returns-clause-go_means g c =
@@ -49,7 +49,7 @@ pub returns-clause-run_means : goal.returns-clause-run_means
 returns-clause-run_means g c =
     let old = seen g.F.Folder.files g.F.Folder.count g.S.Sink.told g.S.Sink.count g.E.Sink.told g.E.Sink.count c.args.folder.now c.args.out.now c.args.say.now in
     let new = seen g.F.Folder.files g.F.Folder.count g.S.Sink.told g.S.Sink.count g.E.Sink.told g.E.Sink.count c.library_of-loaded.new.folder c.run_loaded-ending.new.out c.say_ending.new.say in
-    λ e. c.run_means_law.ensures.file (room_of c.args.order) c.args.order.steps (first_name (map string_bytes c.args.words.now)) old new
+    λ e. c.run_means_law.ensures.run (main_name (map string_bytes c.args.words.now) c.args.order.main_name) (room_of c.args.order) c.args.order.steps (first_name (map string_bytes c.args.words.now)) old new
     (map g.P.Port.seen c.args.ports.now) (map g.P.Port.seen c.run_loaded-ending.new.ports) c.status.result (returns-clause-run g c e)
 
 pub returns-clause-flushed : goal.returns-clause-flushed

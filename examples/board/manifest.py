@@ -1,0 +1,3 @@
+# The modules of a board: a main module and what it imports.
+module("main.py")
+module("blink.py", opt=1)
