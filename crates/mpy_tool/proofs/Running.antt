@@ -15,6 +15,9 @@ use Rattle.library_files.specs.declared.limit.LoadFault.{LoadFault}
 use Rattle.library_files.specs.declared.limit.LoadFault.TheVariants as faults
 use Rattle.library_files.specs.Ends.{EndsIn, FailsInBase, is_failed}
 use Rattle.library_files.specs.Loads.{Loading, Loaded, LoadsFrom}
+use Rattle.image_runs.specs.declared.fault.MainFault.TheVariants as mains
+use Rattle.frozen_files.specs.declared.fault.SourcesFault.TheVariants as sources
+use Rattle.frozen_files.specs.declared.fault.FrozenFault.TheVariants as frozen
 use Rattle.library_runs.specs.declared.ending.RunEnd.{RunEnd}
 use Rattle.library_runs.specs.declared.ending.RunEnd.TheVariants as ends
 use Rattle.library_runs.specs.Runs.{Sight, IsOver, RunsAs, is_write_fault, sight, speaks}
@@ -295,8 +298,13 @@ status_zero (Unaccepted fault) e = absurd cc
 status_zero (Unread fault) e = absurd cc
 status_zero (Unverified fault) e = absurd cc
 status_zero (Unmerged fault) e = absurd cc
-status_zero (Unopened fault) e = absurd cc
-status_zero (Unfrozen fault) e = absurd cc
+status_zero (Unopened (mains.Image fault)) e = absurd cc
+status_zero (Unopened (mains.NoMain name)) e = absurd cc
+status_zero (Unfrozen (frozen.Sources (sources.Manifest fault))) e = absurd cc
+status_zero (Unfrozen (frozen.Sources (sources.Absent name))) e = absurd cc
+status_zero (Unfrozen (frozen.Sources (sources.Unaccepted name fault))) e = absurd cc
+status_zero (Unfrozen (frozen.Sources (sources.Unread name))) e = absurd cc
+status_zero (Unfrozen (frozen.Image fault)) e = absurd cc
 status_zero (Stopped (Past limit)) e = absurd cc
 status_zero (Stopped (LibraryFault path)) e = absurd cc
 status_zero (Stopped (LibraryUnaccepted source)) e = absurd cc

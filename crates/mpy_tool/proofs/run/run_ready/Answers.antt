@@ -1,8 +1,9 @@
-use Rattle.std.proofs.Common.{Bool, Err, refl, sym, subst, ◌∙◌}
+use Rattle.std.proofs.Common.{Bool, Option, Err, ap, sym, subst, ◌∙◌}
+use Rattle.mpy_io.specs.Files.{FileOf}
 use Rattle.mpy_io.specs.Count.{Counts}
 use Rattle.mpy_endings.specs.declared.ending.Ending.{Ending}
 use Rattle.mpy_endings.specs.Ending.{is_folder_fault}
-use Rattle.mpy_tool.specs.Ready.{RunLibrary}
+use Rattle.mpy_tool.specs.Ready.{RunLibrary, begins_image}
 use Rattle.mpy_tool.specs.Run.{FileLibrary, IsUnloaded}
 use Rattle.mpy_tool.proofs.Starting.{absent, too_long, failed, starved, first_of, first_failed, first_unloaded, image_unloaded, image_counted, image_run, file_run}
 use Rattle.mpy_tool.proofs.run.run_ready.Goals as goal
@@ -27,7 +28,7 @@ returns-in-Err-NoMemory-clause-comes g c = starved c.args.main.now (g.F.Folder.f
 pub returns-then-begins_image-clause-comes : goal.returns-then-begins_image-clause-comes
 returns-then-begins_image-clause-comes g c =
     image_run c.args.main.now c.as_bytes.result.now (g.F.Folder.files c.args.folder.now) c.args.name.now c.in-Ok.bytes.items c.deref-then-begins_image.result.now c.begins_image.result c.image_ready.result
-    c.deref-then-begins_image.ensures.value c.as_bytes.ensures.value c.in-Ok.ensures.content (c.begins_image.ensures) c.if-begins_image.true c.image_ready.ensures.start
+    c.deref-then-begins_image.ensures.value c.as_bytes.ensures.value c.in-Ok.ensures.content (c.begins_image.ensures ∙ ap begins_image (c.deref.ensures.value ∙ sym c.deref-then-begins_image.ensures.value)) c.if-begins_image.true c.image_ready.ensures.start
 
 pub returns-then-begins_image-clause-unloaded : goal.returns-then-begins_image-clause-unloaded
 returns-then-begins_image-clause-unloaded g c = image_unloaded c.as_bytes.result.now c.deref-then-begins_image.result.now c.image_ready.result c.image_ready.ensures.start
@@ -50,3 +51,11 @@ returns-in-Err-clause-unloaded g c = subst IsUnloaded (sym c.in-Err.ensures.star
 
 pub returns-clause-unloaded : goal.returns-clause-unloaded
 returns-clause-unloaded g c = first_unloaded c.file_library-loaded.result c.first_ready.result c.file_library-loaded.ensures.unloaded c.first_ready.ensures.refused
+
+pub returns-clause-comes : goal.returns-clause-comes
+returns-clause-comes g c =
+    let files = g.F.Folder.files c.args.folder.now in
+    let comes = subst (λ (f : Option FileOf). FileLibrary f c.args.name.now c.file_library-loaded.result) c.read.ensures.same c.file_library-loaded.ensures.comes in
+    file_run c.args.main.now files c.args.name.now c.in-Ok.bytes.items c.deref.result.now c.begins_image.result c.first_ready.result
+    c.deref.ensures.value c.in-Ok.ensures.content c.begins_image.ensures c.if-begins_image.false
+    (first_of (FileLibrary files c.args.name.now) c.file_library-loaded.result c.first_ready.result comes c.first_ready.ensures.ready c.first_ready.ensures.refused)
