@@ -1,24 +1,24 @@
 -- The orders and the first faults of small words.
 use Rattle.std.proofs.Common.{◌≡◌, ℕ, [], ◌∷◌, Option, Some, None, Ok, Err, codes, refl}
 use Rattle.mpy_words.specs.declared.order.Command.{Command}
-use Rattle.mpy_words.specs.declared.order.Command.TheVariants.{Go, Cross, Merge, Freeze, Run}
-use Rattle.mpy_words.specs.declared.order.Named.TheVariants.{Source, File, Output, Manifest}
-use Rattle.mpy_words.specs.declared.order.Setting.TheVariants.{Level, StoredName, MainName, Cells, Steps}
+use Rattle.mpy_words.specs.declared.order.Command.TheVariants.{Go, Cross, Merge, Freeze, Migrate, Run, Board}
+use Rattle.mpy_words.specs.declared.order.Named.TheVariants.{Source, File, Output, Manifest, Image, Plan}
+use Rattle.mpy_words.specs.declared.order.Setting.TheVariants.{Level, StoredName, MainName, Base, Cells, Steps}
 use Rattle.mpy_words.specs.declared.order.WordFault.TheVariants.{NoCommand, Unknown, MissingName, MissingValue, BadNumber, Twice}
 use Rattle.mpy_words.specs.Number.{value_of}
 use Rattle.mpy_words.specs.Words.{Outcome, settings, past_files, named, order_of, source_name, main_name}
 
 abbrev ordered : Command → ℕ → Option ℕ → Outcome
 ordered command level stored_name =
-    Ok (record { command = command; level = level; stored_name = stored_name; main_name = None; cells = 65536; bytes = 262144; steps = 10000000 })
+    Ok (record { command = command; level = level; stored_name = stored_name; main_name = None; base = None; cells = 65536; bytes = 262144; steps = 10000000 })
 
 abbrev runs : (cells bytes steps : ℕ) → Outcome
 runs cells bytes steps =
-    Ok (record { command = Run; level = 0; stored_name = None; main_name = None; cells = cells; bytes = bytes; steps = steps })
+    Ok (record { command = Run; level = 0; stored_name = None; main_name = None; base = None; cells = cells; bytes = bytes; steps = steps })
 
 abbrev goes : (level cells bytes steps : ℕ) → Outcome
 goes level cells bytes steps =
-    Ok (record { command = Go; level = level; stored_name = None; main_name = None; cells = cells; bytes = bytes; steps = steps })
+    Ok (record { command = Go; level = level; stored_name = None; main_name = None; base = None; cells = cells; bytes = bytes; steps = steps })
 
 no_word : order_of [] ≡ Err NoCommand
 unfolding settings named past_files value_of
@@ -187,7 +187,7 @@ unfolding settings named past_files value_of
 freeze_option = refl
 
 run_image : order_of (codes "run" ∷ codes "i.img" ∷ codes "-m" ∷ codes "-a" ∷ [])
-    ≡ Ok (record { command = Run; level = 0; stored_name = None; main_name = Some 3; cells = 65536; bytes = 262144; steps = 10000000 })
+    ≡ Ok (record { command = Run; level = 0; stored_name = None; main_name = Some 3; base = None; cells = 65536; bytes = 262144; steps = 10000000 })
 unfolding settings named past_files value_of
 run_image = refl
 
@@ -208,3 +208,40 @@ given_main = refl
 
 own_main : main_name (codes "run" ∷ codes "i" ∷ []) None ≡ codes "main"
 own_main = refl
+
+migrate_alone : order_of (codes "migrate" ∷ []) ≡ Err (MissingName Image)
+unfolding settings named past_files value_of
+migrate_alone = refl
+
+migrate_one_name : order_of (codes "migrate" ∷ codes "a.img" ∷ []) ≡ Err (MissingName Output)
+unfolding settings named past_files value_of
+migrate_one_name = refl
+
+migrate_image : order_of (codes "migrate" ∷ codes "a.img" ∷ codes "b.img" ∷ []) ≡ ordered Migrate 0 None
+unfolding settings named past_files value_of
+migrate_image = refl
+
+no_base_of_migrate : order_of (codes "migrate" ∷ codes "a.img" ∷ codes "b.img" ∷ codes "--base" ∷ codes "c.img" ∷ []) ≡ Err (Unknown 3)
+unfolding settings named past_files value_of
+no_base_of_migrate = refl
+
+board_no_plan : order_of (codes "board" ∷ codes "i.img" ∷ []) ≡ Err (MissingName Plan)
+unfolding settings named past_files value_of
+board_no_plan = refl
+
+board_plan : order_of (codes "board" ∷ codes "i.img" ∷ codes "p" ∷ []) ≡ ordered Board 0 None
+unfolding settings named past_files value_of
+board_plan = refl
+
+run_over : order_of (codes "run" ∷ codes "i.img" ∷ codes "--base" ∷ codes "b.img" ∷ codes "-m" ∷ codes "a" ∷ [])
+    ≡ Ok (record { command = Run; level = 0; stored_name = None; main_name = Some 5; base = Some 3; cells = 65536; bytes = 262144; steps = 10000000 })
+unfolding settings named past_files value_of
+run_over = refl
+
+base_no_file : order_of (codes "freeze" ∷ codes "m.py" ∷ codes "i.img" ∷ codes "--base" ∷ codes "-x" ∷ []) ≡ Err (MissingValue Base)
+unfolding settings named past_files value_of
+base_no_file = refl
+
+base_twice : order_of (codes "board" ∷ codes "i.img" ∷ codes "p" ∷ codes "--base" ∷ codes "b" ∷ codes "--base" ∷ codes "-x" ∷ []) ≡ Err (Twice Base)
+unfolding settings named past_files value_of
+base_twice = refl

@@ -1,11 +1,12 @@
 -- One more option.
-use Rattle.std.proofs.Common.{◌≡◌, ℕ, List, ◌∷◌, false, Option, Some, refl, ◌∙◌}
+use Rattle.std.proofs.Common.{◌≡◌, ℕ, List, ◌∷◌, false, Option, Some, Err, if◌then◌else◌, refl, ◌∙◌}
 use Rattle.mpy_words.specs.declared.order.Command.{Command}
 use Rattle.mpy_words.specs.declared.order.Setting.{Setting}
 use Rattle.mpy_words.specs.declared.given.Given.{Given}
+use Rattle.mpy_words.specs.declared.order.WordFault.TheVariants.{MissingValue}
 use Rattle.mpy_words.specs.Command.{setting_of}
 use Rattle.mpy_words.specs.Given.{is_given, with_option}
-use Rattle.mpy_words.specs.Words.{Outcome, place, known, once, valued, settings}
+use Rattle.mpy_words.specs.Words.{Outcome, place, known, once, valued, names_none, settings}
 
 known_is : (count : ℕ) (words : List (List ℕ)) (o : Option Setting) (s : Setting) (go : Setting → Outcome) → Some s ≡ o → known count words o go ≡ go s
 known_is count words o s go e = rw (← e) refl
@@ -16,13 +17,18 @@ once_is given s more e = rw e refl
 valued_is : (count : ℕ) (words : List (List ℕ)) (o : Option Given) (more : Given) (go : Given → Outcome) → Some more ≡ o → valued count words o go ≡ go more
 valued_is count words o more go e = rw (← e) refl
 
+named_is : (s : Setting) (value : List ℕ) (more : Outcome) → names_none s value ≡ false → (if names_none s value then Err (MissingValue s) else more) ≡ more
+named_is s value more e = rw e refl
+
 pub one_option : (count : ℕ) (c : Command) (given more : Given) (word value : List ℕ) (words : List (List ℕ)) (s : Setting)
-    → is_given given s ≡ false → Some s ≡ setting_of c word → Some more ≡ with_option given s (place count (value ∷ words)) value
+    → is_given given s ≡ false → names_none s value ≡ false → Some s ≡ setting_of c word → Some more ≡ with_option given s (place count (value ∷ words)) value
     → settings count c given (word ∷ value ∷ words) ≡ settings count c more words
 unfolding settings
-one_option count c given more word value words s none set is =
+one_option count c given more word value words s none file set is =
     let go = λ (more : Given). settings count c more words in
-    let read = λ (s : Setting). valued count (value ∷ words) (with_option given s (place count (value ∷ words)) value) go in
+    let with = λ (s : Setting). valued count (value ∷ words) (with_option given s (place count (value ∷ words)) value) go in
+    let read = λ (s : Setting). if names_none s value then Err (MissingValue s) else with s in
     known_is count (word ∷ value ∷ words) (setting_of c word) s (λ s. once given s (read s)) set
     ∙ (once_is given s (read s) none
-    ∙ valued_is count (value ∷ words) (with_option given s (place count (value ∷ words)) value) more go is)
+    ∙ (named_is s value (with s) file
+    ∙ valued_is count (value ∷ words) (with_option given s (place count (value ∷ words)) value) more go is))

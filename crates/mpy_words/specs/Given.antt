@@ -2,18 +2,19 @@
 use Rattle.std.specs.Prelude.{ℕ, ◌≤◌, ◌<◌, Bool, List, Option, Some, None, IfSome, is_some, option_map, unwrap_or}
 use Rattle.mpy_words.specs.declared.order.Command.{Command}
 use Rattle.mpy_words.specs.declared.order.Setting.{Setting}
-use Rattle.mpy_words.specs.declared.order.Setting.TheVariants.{Level, StoredName, MainName, Cells, Bytes, Steps}
+use Rattle.mpy_words.specs.declared.order.Setting.TheVariants.{Level, StoredName, MainName, Base, Cells, Bytes, Steps}
 use Rattle.mpy_words.specs.declared.order.Order.{Order}
 use Rattle.mpy_words.specs.declared.given.Given.{Given}
 use Rattle.mpy_words.specs.Number.{number_of}
 
 abbrev pub none_given : Given
-none_given = record { level = None; stored_name = None; main_name = None; cells = None; bytes = None; steps = None }
+none_given = record { level = None; stored_name = None; main_name = None; base = None; cells = None; bytes = None; steps = None }
 
 abbrev pub is_given : Given → Setting → Bool
 is_given given Level = is_some given.level
 is_given given StoredName = is_some given.stored_name
 is_given given MainName = is_some given.main_name
+is_given given Base = is_some given.base
 is_given given Cells = is_some given.cells
 is_given given Bytes = is_some given.bytes
 is_given given Steps = is_some given.steps
@@ -34,6 +35,7 @@ abbrev pub with_option : Given → Setting → ℕ → List ℕ → Option Given
 with_option given Level at word = option_map (λ level. record given { level = Some level }) (number_of 3 word)
 with_option given StoredName at word = Some (record given { stored_name = Some at })
 with_option given MainName at word = Some (record given { main_name = Some at })
+with_option given Base at word = Some (record given { base = Some at })
 with_option given Cells at word = option_map (λ cells. record given { cells = Some cells }) (number_of most_cells word)
 with_option given Bytes at word = option_map (λ bytes. record given { bytes = Some bytes }) (number_of most_bytes word)
 with_option given Steps at word = option_map (λ steps. record given { steps = Some steps }) (number_of most_steps word)
@@ -45,6 +47,7 @@ order_with command given = record {
   level = unwrap_or given.level 0;
   stored_name = given.stored_name;
   main_name = given.main_name;
+  base = given.base;
   cells = unwrap_or given.cells 65536;
   bytes = unwrap_or given.bytes 262144;
   steps = unwrap_or given.steps 10000000;
@@ -55,6 +58,7 @@ pub record IsBounded (count : ℕ) (given : Given) : Type 0 where
   pub level : IfSome given.level (λ level. level ≤ 3)
   pub stored_name : IfSome given.stored_name (λ at. at < count)
   pub main_name : IfSome given.main_name (λ at. at < count)
+  pub base : IfSome given.base (λ at. at < count)
   pub cells : IfSome given.cells (λ cells. cells ≤ most_cells)
   pub bytes : IfSome given.bytes (λ bytes. bytes ≤ most_bytes)
   pub steps : IfSome given.steps (λ steps. steps ≤ most_steps)

@@ -1,5 +1,5 @@
 -- The order of words, the program's own name left out.
-use Rattle.std.specs.Prelude.{ℕ, ◌-◌, Bool, false, List, [], ◌∷◌, length, drop, Option, Some, None, codes, ◌==◌, if◌then◌else◌, slice_index_or, Result, Ok, Err}
+use Rattle.std.specs.Prelude.{ℕ, ◌-◌, Bool, false, ◌&&◌, List, [], ◌∷◌, length, drop, Option, Some, None, codes, ◌==◌, if◌then◌else◌, slice_index_or, Result, Ok, Err}
 use Rattle.mpy_words.specs.declared.order.Command.{Command}
 use Rattle.mpy_words.specs.declared.order.Named.{Named}
 use Rattle.mpy_words.specs.declared.order.Setting.{Setting}
@@ -7,7 +7,7 @@ use Rattle.mpy_words.specs.declared.order.Order.{Order}
 use Rattle.mpy_words.specs.declared.order.WordFault.{WordFault}
 use Rattle.mpy_words.specs.declared.order.WordFault.TheVariants.{NoCommand, Unknown, MissingName, MissingValue, BadNumber, Twice}
 use Rattle.mpy_words.specs.declared.given.Given.{Given}
-use Rattle.mpy_words.specs.Command.{command_of, names_of, takes_files, setting_of}
+use Rattle.mpy_words.specs.Command.{command_of, names_of, takes_files, names_file, setting_of}
 use Rattle.mpy_words.specs.Given.{none_given, is_given, with_option, order_with}
 
 abbrev pub Outcome : Type 0
@@ -52,6 +52,10 @@ valued count words (Some more) go = go more
 abbrev pub once : Given → Setting → Outcome → Outcome
 once given s more = if is_given given s then Err (Twice s) else more
 
+-- a word that the option can't have as its value: it names a file, and the word none
+abbrev pub names_none : Setting → List ℕ → Bool
+names_none s value = names_file s && begins_with_dash value
+
 abbrev pub known : ℕ → List (List ℕ) → Option Setting → (Setting → Outcome) → Outcome
 known count words None go = Err (Unknown (place count words))
 known count words (Some s) go = go s
@@ -62,7 +66,8 @@ settings count c given (word ∷ []) =
     known count (word ∷ []) (setting_of c word) (λ s. once given s (Err (MissingValue s)))
 settings count c given (word ∷ value ∷ words) =
     known count (word ∷ value ∷ words) (setting_of c word) (λ s.
-    once given s (valued count (value ∷ words) (with_option given s (place count (value ∷ words)) value) (λ more.
+    once given s (if names_none s value then Err (MissingValue s)
+    else valued count (value ∷ words) (with_option given s (place count (value ∷ words)) value) (λ more.
     settings count c more words)))
 
 -- ---- named words, files where the command takes them, and then options

@@ -31,6 +31,7 @@ pub struct Given {
     pub level: Option<u8>,
     pub stored_name: Option<usize>,
     pub main_name: Option<usize>,
+    pub base: Option<usize>,
     pub cells: Option<u32>,
     pub bytes: Option<u32>,
     pub steps: Option<u64>,
@@ -45,6 +46,7 @@ impl Given {
             level: None,
             stored_name: None,
             main_name: None,
+            base: None,
             cells: None,
             bytes: None,
             steps: None,
@@ -59,6 +61,7 @@ impl Given {
             Setting::Level => self.level.is_some(),
             Setting::StoredName => self.stored_name.is_some(),
             Setting::MainName => self.main_name.is_some(),
+            Setting::Base => self.base.is_some(),
             Setting::Cells => self.cells.is_some(),
             Setting::Bytes => self.bytes.is_some(),
             Setting::Steps => self.steps.is_some(),
@@ -84,6 +87,10 @@ impl Given {
             }),
             Setting::MainName => Some(Given {
                 main_name: Some(at),
+                ..self
+            }),
+            Setting::Base => Some(Given {
+                base: Some(at),
                 ..self
             }),
             Setting::Cells => match number(MAX_CELLS, word) {
@@ -119,6 +126,7 @@ impl Given {
             level: self.level.unwrap_or(0),
             stored_name: self.stored_name,
             main_name: self.main_name,
+            base: self.base,
             cells: self.cells.unwrap_or(DEFAULT_CELLS),
             bytes: self.bytes.unwrap_or(DEFAULT_BYTES),
             steps: self.steps.unwrap_or(DEFAULT_STEPS),

@@ -18,8 +18,12 @@ pub enum Command {
     Merge,
     /// `freeze MANIFEST OUT`
     Freeze,
+    /// `migrate IN OUT`
+    Migrate,
     /// `run FILE`
     Run,
+    /// `board IMAGE PLAN`
+    Board,
 }
 
 /// A word that a command names.
@@ -30,6 +34,9 @@ pub enum Named {
     /// The file that is written.
     Output,
     Manifest,
+    Image,
+    /// The plan of a board.
+    Plan,
 }
 
 /// An option, which stands behind the named words with its value.
@@ -41,6 +48,8 @@ pub enum Setting {
     StoredName,
     /// `-m`, the name of the main module of an image.
     MainName,
+    /// `--base`, the image on which another one stands.
+    Base,
     /// `--cells`, the cells of the arena of a run.
     Cells,
     /// `--bytes`, the bytes of the texts of its arena.
@@ -59,6 +68,8 @@ pub struct Order {
     pub stored_name: Option<usize>,
     /// The place of the name of an image's main module, where one was given.
     pub main_name: Option<usize>,
+    /// The place of the name of the image that is the base, where one was given.
+    pub base: Option<usize>,
     /// The cells of the arena of a run, 4,194,304 at most.
     pub cells: u32,
     /// The bytes of the texts of its arena, 16,777,216 at most.
@@ -94,6 +105,8 @@ impl Named {
             Named::File => "FILE",
             Named::Output => "OUT",
             Named::Manifest => "MANIFEST",
+            Named::Image => "IMAGE",
+            Named::Plan => "PLAN",
         }
     }
 }
@@ -107,6 +120,7 @@ impl Setting {
             Setting::Level => "-O",
             Setting::StoredName => "-s",
             Setting::MainName => "-m",
+            Setting::Base => "--base",
             Setting::Cells => "--cells",
             Setting::Bytes => "--bytes",
             Setting::Steps => "--steps",

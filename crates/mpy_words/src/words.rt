@@ -18,7 +18,9 @@ fn command(word: &str) -> Option<Command>
         "cross" => Some(Command::Cross),
         "merge" => Some(Command::Merge),
         "freeze" => Some(Command::Freeze),
+        "migrate" => Some(Command::Migrate),
         "run" => Some(Command::Run),
+        "board" => Some(Command::Board),
         _ => None,
     }
 }
@@ -35,6 +37,16 @@ fn run_setting(word: &str) -> Option<Setting>
     }
 }
 
+/// The option of a command over a base.
+fn base_setting(word: &str) -> Option<Setting>
+    ensures { result ≡ commands.base_setting_of word.now }
+{
+    match word {
+        "--base" => Some(Setting::Base),
+        _ => None,
+    }
+}
+
 fn setting(command: Command, word: &str) -> Option<Setting>
     ensures { result ≡ commands.setting_of command word.now }
 {
@@ -43,7 +55,9 @@ fn setting(command: Command, word: &str) -> Option<Setting>
         Command::Cross if word == "-O" => Some(Setting::Level),
         Command::Cross if word == "-s" => Some(Setting::StoredName),
         Command::Run if word == "-m" => Some(Setting::MainName),
+        Command::Run if word == "--base" => Some(Setting::Base),
         Command::Go | Command::Run => run_setting(word),
+        Command::Freeze | Command::Board => base_setting(word),
         _ => None,
     }
 }
@@ -58,6 +72,8 @@ fn names(command: Command) -> &'static [Named]
         Command::Cross => &[Named::Source, Named::File],
         Command::Merge => &[Named::Output],
         Command::Freeze => &[Named::Manifest, Named::Output],
+        Command::Migrate => &[Named::Image, Named::Output],
+        Command::Board => &[Named::Image, Named::Plan],
     }
 }
 
@@ -77,7 +93,18 @@ fn takes_files(command: Command) -> bool
     match command {
         Command::Go | Command::Check | Command::Dump | Command::Cross => false,
         Command::Merge => true,
-        Command::Freeze | Command::Run => false,
+        Command::Freeze | Command::Migrate | Command::Run | Command::Board => false,
+    }
+}
+
+/// Does the option name a file, and the word none?
+fn names_none(setting: Setting, value: &str) -> bool
+    ensures { result ≡ spec.names_none setting value.now }
+{
+    match setting {
+        Setting::Base => begins_with_dash(value),
+        Setting::Level | Setting::StoredName | Setting::MainName => false,
+        Setting::Cells | Setting::Bytes | Setting::Steps => false,
     }
 }
 
@@ -108,6 +135,7 @@ fn settings(count: usize, command: Command, words: &[String]) -> Result<Order, W
     ensures level { IfOk result (λ order. order.level ≤ 3) }
     ensures stored_name { IfOk result (λ order. IfSome order.stored_name (λ at. at < count)) }
     ensures main_name { IfOk result (λ order. IfSome order.main_name (λ at. at < count)) }
+    ensures base { IfOk result (λ order. IfSome order.base (λ at. at < count)) }
     ensures run { IfOk result RunsWithin }
 {
     let mut given = Given::none();
@@ -122,6 +150,9 @@ fn settings(count: usize, command: Command, words: &[String]) -> Result<Order, W
         let Some((value, more)) = behind.split_first() else {
             return Err(WordFault::MissingValue(setting));
         };
+        if names_none(setting, value.as_str()) {
+            return Err(WordFault::MissingValue(setting));
+        }
         let at = count - behind.len();
         let Some(with) = given.with(setting, at, value.as_bytes()) else {
             return Err(WordFault::BadNumber(at));
@@ -141,6 +172,7 @@ fn named(count: usize, command: Command, words: &[String]) -> Result<Order, Word
     ensures level { IfOk result (λ order. order.level ≤ 3) }
     ensures stored_name { IfOk result (λ order. IfSome order.stored_name (λ at. at < count)) }
     ensures main_name { IfOk result (λ order. IfSome order.main_name (λ at. at < count)) }
+    ensures base { IfOk result (λ order. IfSome order.base (λ at. at < count)) }
     ensures run { IfOk result RunsWithin }
 {
     let mut rest = words;
@@ -174,6 +206,9 @@ pub fn order_of(words: &[String]) -> Result<Order, WordFault>
 
     // The name of the main module is one of the words.
     ensures main_name { IfOk result (λ order. IfSome order.main_name (λ at. at < length words.now)) }
+
+    // So is the base's.
+    ensures base { IfOk result (λ order. IfSome order.base (λ at. at < length words.now)) }
 
     // The room and the steps are within their bounds.
     ensures run { IfOk result RunsWithin }
