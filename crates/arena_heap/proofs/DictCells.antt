@@ -1,7 +1,7 @@
 -- What the calls on dicts do to the cells.
-use Rattle.std.proofs.Common.{ℕ, ◌+◌, ◌-◌, ◌*◌, ◌≤◌, ◌<◌, ◌≡◌, ◌≢◌, List, [], ◌∷◌, ◌++◌, length, Option, Some, None, get_or, set, take, replicate, refl, sym, ◌∙◌, ap, subst, inl, inr, arith, length-append, length-set, get_or-set_same, get_or-set_other}
+use Rattle.std.proofs.Common.{ℕ, ◌+◌, ◌-◌, ◌*◌, ◌≤◌, ◌<◌, ◌≡◌, ◌≢◌, List, [], ◌∷◌, ◌++◌, length, Option, Some, None, get_or, set, take, drop, replicate, refl, sym, ◌∙◌, ap, subst, inl, inr, arith, length-append, length-set, length-drop, get_or-set_same, get_or-set_other}
 use Rattle.std.proofs.Math.Path.{fun_ext, ap₂}
-use Rattle.std.proofs.lemmas.List.{set-set, same_lists, get_or_append_left, get_or-append_right, drop_at, take_all, length-replicate}
+use Rattle.std.proofs.lemmas.List.{set-set, same_lists, get_or_append_left, get_or-append_right, length-replicate, length-take-le, get_or-take, get_or-drop, take-append-drop}
 use Rattle.std.proofs.lemmas.List.Edits.{length-remove, get_or-remove_below, get_or-remove_above}
 use Rattle.std.proofs.lemmas.List.FromFn.{length-map-range_with_len, get_or-map-range_with_len, map-range_with_len_more}
 use Rattle.std.proofs.lemmas.Bool.{cases_eq, cases_lt}
@@ -14,13 +14,14 @@ use Rattle.mpy_base.specs.World.{DictObject}
 use Rattle.mpy_base.specs.Weights.{IsRoom}
 use Rattle.arena_heap.specs.Values.{ArenaObject}
 use Rattle.arena_heap.specs.Dicts.{with_value}
-use Rattle.arena_heap.specs.Cells.{blank, cell_of, value_of, head_of, heads, first, size, Full, part, pair_in, pairs_in, read, In, Kept, Holds}
+use Rattle.arena_heap.specs.Cells.{blank, cell_of, value_of, head_of, heads, first, size, Full, part, pair_in, pairs_in, read, In, Kept, AreLinked, Links, Relinked, Holds}
 use Rattle.arena_heap.proofs.Regions.{length-part, get_or-part}
-use Rattle.arena_heap.proofs.Frame.{holds_head, holds_item, holds_written, heads_set_other}
+use Rattle.arena_heap.proofs.Frame.{Bare, bare, bare_head, bare_written, holds_item, heads_past, heads_set_same, heads_set_other, heads_set_plain, links_same, links_kept}
+use Rattle.arena_heap.proofs.LinkCells.{linked_stored, linked_keyed}
 use Rattle.arena_heap.proofs.ListCells.{part-set}
 use Rattle.arena_heap.proofs.Moves.{holds_moved}
 use Rattle.arena_heap.proofs.NewObjects.{blanks}
-use Rattle.arena_heap.proofs.CellValues.{value_of-cell_of}
+use Rattle.arena_heap.proofs.CellValues.{value_of-cell_of, head_of-cell_of}
 
 -- the pairs of the dict with this header
 abbrev pub region_pairs : List Cell → Region → List (Value × Value)
@@ -44,12 +45,17 @@ get_or-pairs ps n i d h = get_or-map-range_with_len (pair_in ps) 0 n i i d h (om
 pub pairs_are : (ps : List Cell) (n : ℕ) (xs : List (Value × Value)) → length xs ≡ n → ((i : ℕ) (d : Value × Value) → i < n → pair_in ps i ≡ get_or xs i d) → pairs_in ps n ≡ xs
 pairs_are ps n xs l each = let lp = length-pairs ps n in same_lists _ _ (lp ∙ sym l) (λ k d h. get_or-pairs ps n k d (omega arith) ∙ each k d (omega arith))
 
+not_item : (n : ℕ) (r : Region) (cells : List Cell) (c : ℕ) (a b : ℕ) → Kept (heads cells) a b → heads cells n ≡ DictHead r → In r.start (3 * r.room) c → n ≢ c
+not_item n r cells c a b k e i q =
+    let p : heads cells c ≡ blank = k.plain n c (in_dict cells n r e c i) in
+    let p2 : DictHead r ≡ blank = sym e ∙ (ap (heads cells) q ∙ p) in cc
+
 -- a header is written anew, of the same region
-pub dict_again : {cells : List Cell} {bytes : List ℕ} {obs : List (Option ArenaObject)} → Holds cells bytes obs → (n len : ℕ) (r : Region) → n < length cells
+bare_again : {cells : List Cell} {bytes : List ℕ} {obs : List (Option ArenaObject)} → Bare cells bytes obs → (n len : ℕ) (r : Region) → n < length cells
     → heads cells n ≡ DictHead r → len ≤ r.room
-    → Holds (set cells n (DictHead (record r { len = len }))) bytes (set obs n (Some (DictObject (region_pairs cells (record r { len = len })) r.room)))
-dict_again {cells} {bytes} {obs} h n len r low e full =
-    holds_head h n (DictHead (record r { len = len })) low (record {
+    → Bare (set cells n (DictHead (record r { len = len }))) bytes (set obs n (Some (DictObject (region_pairs cells (record r { len = len })) r.room)))
+bare_again {cells} {bytes} {obs} h n len r low e full =
+    bare_head h n (DictHead (record r { len = len })) low (record {
       head = refl;
       inside = inside_dict cells h.kept n r e;
       byte_inside = omega arith;
@@ -60,6 +66,52 @@ dict_again {cells} {bytes} {obs} h n len r low e full =
       plain = λ x i. h.kept.plain n x (in_dict cells n r e x i);
       full = (full, (subst Full e (h.kept.full n)).1);
     })
+
+abbrev region_in : Region → Cell → Region
+region_in r (DictHead of_dict) = of_dict
+region_in r _ = r
+
+-- the cells of a dict and its head are written
+pub dict_written : {cells : List Cell} {bytes : List ℕ} {obs : List (Option ArenaObject)} → Holds cells bytes obs → (n len : ℕ) (r : Region) (cells1 : List Cell) (pairs : List (Value × Value)) → n < length cells
+    → heads cells n ≡ DictHead r → length cells1 ≡ length cells → heads cells1 ≡ heads cells
+    → ((c : ℕ) (d : Cell) → (In r.start (3 * r.room) c → ⊥) → get_or cells1 c d ≡ get_or cells c d)
+    → len ≤ r.room → region_pairs cells1 (record r { len = len }) ≡ pairs → AreLinked (part cells1 r.start (3 * r.room)) r.room len
+    → Holds (set cells1 n (DictHead (record r { len = len }))) bytes (set obs n (Some (DictObject pairs r.room)))
+dict_written {cells} {bytes} {obs} h n len r cells1 pairs low e l same out full is linked =
+    let r1 : Region = record r { len = len } in
+    let head : Cell = DictHead r1 in
+    let cells2 : List Cell = set cells1 n head in
+    let l2 : length cells2 ≡ length cells1 = length-set cells1 n head in
+    let ins = inside_dict cells h.kept n r e in
+    let o1 : Option ArenaObject = read n (heads cells n) cells1 bytes in
+    let b1 : Bare cells1 bytes (set obs n o1) = bare_written (bare h) n cells1 low l same (λ c d no. out c d (λ i. no (in_dict cells n r e c i))) in
+    let e1 : heads cells1 n ≡ DictHead r = ap (λ (f : ℕ → Cell). f n) same ∙ e in
+    let b2 : Bare cells2 bytes (set obs n (Some (DictObject pairs r.room))) =
+    subst (λ (x : List (Option ArenaObject)). Bare cells2 bytes x)
+    (ap (λ xs. set (set obs n o1) n (Some (DictObject xs r.room))) is ∙ set-set obs n o1 (Some (DictObject pairs r.room)))
+    (bare_again b1 n len r (omega arith) e1 full) in
+    let here : heads cells2 n ≡ head = heads_set_same cells1 n head (omega arith) refl in
+    record {
+      kept = b2.kept;
+      linked = λ m. elim (cases_eq m n) [
+        | inl q ↦ subst (λ (y : ℕ). Links (heads cells2 y) cells2) (sym q) (λ r2 q2.
+            subst (λ (x : Region). AreLinked (part cells2 x.start (3 * x.room)) x.room x.len) (ap (region_in r1) (sym here ∙ q2))
+            (links_same cells1 cells2 r.start r.room len (omega arith) (omega arith)
+            (λ c d i. get_or-set_other cells1 n c head d (λ y. not_item n r cells c (length cells) (length bytes) h.kept e i (sym y))) linked))
+        | inr ne ↦ links_kept cells cells2 m h.kept refl (omega arith) (heads_set_other cells1 n m head ne ∙ ap (λ (f : ℕ → Cell). f m) same)
+            (λ c d i. get_or-set_other cells1 n c head d (λ y.
+            let p : heads cells n ≡ blank = h.kept.plain m n (subst (λ (z : ℕ). In (first m (heads cells m)) (size (heads cells m)) z) y i) in
+            let p2 : DictHead r ≡ blank = sym e ∙ p in cc)
+            ∙ out c d (λ j. ne (h.kept.cells_apart.apart m n c i (in_dict cells n r e c j)))) (h.linked m)
+      ];
+      objects = b2.objects;
+    }
+
+-- pairs whose cells were written at links alone
+relinked_pairs : (cells cells1 : List Cell) (r : Region) → Relinked r.start r.room cells cells1 → r.len ≤ r.room → region_pairs cells1 r ≡ region_pairs cells r
+relinked_pairs cells cells1 r relinked full =
+    pairs_are (part cells1 r.start (3 * r.room)) r.len (region_pairs cells r) (length-pairs (part cells r.start (3 * r.room)) r.len)
+    (λ i d lt. relinked.pairs i (omega arith) ∙ sym (get_or-pairs (part cells r.start (3 * r.room)) r.len i d lt))
 
 -- a value is put in a pair that is there
 pub dict_stored : {cells : List Cell} {bytes : List ℕ} {obs : List (Option ArenaObject)} → Holds cells bytes obs → (n i : ℕ) (r : Region) (v : Value) → n < length cells
@@ -88,134 +140,223 @@ dict_stored {cells} {bytes} {obs} h n i r v low e lt =
     ∙ pairs_are (set ps c (cell_of v)) r.len (set old i pair) (length-set old i pair ∙ length-pairs ps r.len) each in
     subst (λ (o : Option ArenaObject). Holds cells1 bytes (set obs n o))
     (ap (λ (x : Cell). read n x cells1 bytes) e ∙ ap (λ xs. Some (DictObject xs r.room)) pairs)
-    (holds_item h n (r.start + c) v low (in_dict cells n r e (r.start + c) (record { low = omega arith; high = omega arith })))
+    (holds_item h n (r.start + c) v low (in_dict cells n r e (r.start + c) (record { low = omega arith; high = omega arith }))
+    (λ r2 q. subst (λ (x : Region). AreLinked (part cells1 x.start (3 * x.room)) x.room x.len) (ap (region_in r) (sym e ∙ q))
+    (subst (λ (qs : List Cell). AreLinked qs r.room r.len) (sym (part-set cells r.start (3 * r.room) c (cell_of v) (omega arith))) (linked_stored ps r.room r.len i (cell_of v) (h.linked n r e)))))
 
 -- a pair is taken out, and those behind it close up
-pub dict_removed : {cells : List Cell} {bytes : List ℕ} {obs : List (Option ArenaObject)} → Holds cells bytes obs → (n i : ℕ) (r : Region) (cells1 : List Cell) → n < length cells
-    → heads cells n ≡ DictHead r → i < r.len → length cells1 ≡ length cells
-    → ((k : ℕ) (d : Cell) → r.start + 3 * i ≤ k → k + 3 < r.start + 3 * r.len → get_or cells1 k d ≡ get_or cells (k + 3) d)
-    → ((k : ℕ) (d : Cell) → k < r.start + 3 * i → get_or cells1 k d ≡ get_or cells k d)
-    → ((k : ℕ) (d : Cell) → r.start + 3 * r.len ≤ k + 3 → get_or cells1 k d ≡ get_or cells k d)
-    → Holds (set cells1 n (DictHead (record r { len = r.len - 1 }))) bytes (set obs n (Some (DictObject (remove (region_pairs cells r) i) r.room)))
-dict_removed {cells} {bytes} {obs} h n i r cells1 low e lt l moved before behind =
-    let full = full_dict cells h.kept n r e in
-    let ins = inside_dict cells h.kept n r e in
-    let plain : (c : ℕ) → r.start ≤ c → c < r.start + 3 * r.room → heads cells c ≡ blank = λ c a b. h.kept.plain n c (in_dict cells n r e c (record { low = a; high = b })) in
-    let same : heads cells1 ≡ heads cells = fun_ext (λ k. elim (cases_lt k (r.start + 3 * i)) [
-      | inl a ↦ ap head_of (before k blank a)
-      | inr a ↦ elim (cases_lt (k + 3) (r.start + 3 * r.len)) [
-        | inl b ↦ ap head_of (moved k blank a b) ∙ (plain (k + 3) (omega arith) (omega arith) ∙ sym (plain k (omega arith) (omega arith)))
-        | inr b ↦ ap head_of (behind k blank b)
-      ]
-    ]) in
-    let out : (c : ℕ) (d : Cell) → (In (first n (heads cells n)) (size (heads cells n)) c → ⊥) → get_or cells1 c d ≡ get_or cells c d = λ c d no. elim (cases_lt c (r.start + 3 * i)) [
-      | inl a ↦ before c d a
-      | inr a ↦ elim (cases_lt (c + 3) (r.start + 3 * r.len)) [
-        | inl b ↦ absurd (no (in_dict cells n r e c (record { low = omega arith; high = omega arith })))
-        | inr b ↦ behind c d b
-      ]
-    ] in
-    let o1 : Option ArenaObject = read n (heads cells n) cells1 bytes in
-    let h1 : Holds cells1 bytes (set obs n o1) = holds_written h n cells1 low l same out in
-    let e1 : heads cells1 n ≡ DictHead r = ap (λ (f : ℕ → Cell). f n) same ∙ e in
-    let r1 : Region = record r { len = r.len - 1 } in
-    let ps : List Cell = part cells r.start (3 * r.room) in
-    let ps1 : List Cell = part cells1 r.start (3 * r.room) in
-    let lq = length-pairs ps r.len in
-    let at1 : (k : ℕ) → k < 3 * r.room → get_or ps1 k blank ≡ get_or cells1 (r.start + k) blank = λ k hk. get_or-part cells1 r.start (3 * r.room) k blank hk in
-    let at0 : (k : ℕ) → k < 3 * r.room → get_or cells (r.start + k) blank ≡ get_or ps k blank = λ k hk. sym (get_or-part cells r.start (3 * r.room) k blank hk) in
-    let low_same : (k : ℕ) → k < 3 * i → get_or ps1 k blank ≡ get_or ps k blank = λ k hk. at1 k (omega arith) ∙ (before (r.start + k) blank (omega arith) ∙ at0 k (omega arith)) in
-    let high_same : (k j : ℕ) → j ≡ k + 3 → 3 * i ≤ k → j < 3 * r.len → get_or ps1 k blank ≡ get_or ps j blank =
-    λ k j q lo hi. at1 k (omega arith) ∙ (moved (r.start + k) blank (omega arith) (omega arith) ∙ (ap (λ y. get_or cells y blank) (omega arith) ∙ at0 j (omega arith))) in
-    let pairs : region_pairs cells1 r1 ≡ remove (region_pairs cells r) i =
-    pairs_are ps1 (r.len - 1) (remove (pairs_in ps r.len) i) (omega (arith, length-remove (pairs_in ps r.len) i (omega arith)))
-    (λ k d b. elim (cases_lt k i) [
-      | inl a ↦ ap₂ (λ (x y : Cell). (value_of x, value_of y)) (low_same (3 * k) (omega arith)) (low_same (3 * k + 1) (omega arith))
-          ∙ (sym (get_or-pairs ps r.len k d (omega arith)) ∙ sym (get_or-remove_below (pairs_in ps r.len) i d k a (omega arith)))
-      | inr a ↦ ap₂ (λ (x y : Cell). (value_of x, value_of y)) (high_same (3 * k) (3 * (k + 1)) (omega arith) (omega arith) (omega arith)) (high_same (3 * k + 1) (3 * (k + 1) + 1) (omega arith) (omega arith) (omega arith))
-          ∙ (sym (get_or-pairs ps r.len (k + 1) d (omega arith)) ∙ sym (get_or-remove_above (pairs_in ps r.len) i d k a (omega arith)))
-    ]) in
-    subst (λ (x : List (Option ArenaObject)). Holds (set cells1 n (DictHead r1)) bytes x)
-    (ap (λ xs. set (set obs n o1) n (Some (DictObject xs r.room))) pairs ∙ set-set obs n o1 (Some (DictObject (remove (region_pairs cells r) i) r.room)))
-    (dict_again h1 n (r.len - 1) r (omega arith) e1 (omega arith))
+module _ {cells : List Cell} {bytes : List ℕ} {obs : List (Option ArenaObject)} (h : Holds cells bytes obs) (n i : ℕ) (r : Region) (cells1 : List Cell) (low : n < length cells)
+    (e : heads cells n ≡ DictHead r) (lt : i < r.len) (l : length cells1 ≡ length cells)
+    (moved : (k : ℕ) (d : Cell) → r.start + 3 * i ≤ k → k + 3 < r.start + 3 * r.len → get_or cells1 k d ≡ get_or cells (k + 3) d)
+    (before : (k : ℕ) (d : Cell) → k < r.start + 3 * i → get_or cells1 k d ≡ get_or cells k d)
+    (behind : (k : ℕ) (d : Cell) → r.start + 3 * r.len ≤ k + 3 → get_or cells1 k d ≡ get_or cells k d)
+  where
+    plain : (c : ℕ) → r.start ≤ c → c < r.start + 3 * r.room → heads cells c ≡ blank
+    plain c a b = h.kept.plain n c (in_dict cells n r e c (record { low = a; high = b }))
 
-not_item : (n : ℕ) (r : Region) (cells : List Cell) (c : ℕ) (a b : ℕ) → Kept (heads cells) a b → heads cells n ≡ DictHead r → In r.start (3 * r.room) c → n ≢ c
-not_item n r cells c a b k e i q =
-    let p : heads cells c ≡ blank = k.plain n c (in_dict cells n r e c i) in
-    let p2 : DictHead r ≡ blank = sym e ∙ (ap (heads cells) q ∙ p) in cc
+    removed_heads : (k : ℕ) → heads cells1 k ≡ heads cells k
+    removed_heads k =
+        let full = full_dict cells h.kept n r e in
+        elim (cases_lt k (r.start + 3 * i)) [
+          | inl a ↦ ap head_of (before k blank a)
+          | inr a ↦ elim (cases_lt (k + 3) (r.start + 3 * r.len)) [
+            | inl b ↦ ap head_of (moved k blank a b) ∙ (plain (k + 3) (omega arith) (omega arith) ∙ sym (plain k (omega arith) (omega arith)))
+            | inr b ↦ ap head_of (behind k blank b)
+          ]
+        ]
+
+    pub removed_plain : (c : ℕ) → In r.start (3 * r.room) c → heads cells1 c ≡ blank
+    removed_plain c p = removed_heads c ∙ plain c p.low p.high
+
+    removed_out : (c : ℕ) (d : Cell) → (In r.start (3 * r.room) c → ⊥) → get_or cells1 c d ≡ get_or cells c d
+    removed_out c d away =
+        let full = full_dict cells h.kept n r e in
+        elim (cases_lt c (r.start + 3 * i)) [
+          | inl a ↦ before c d a
+          | inr a ↦ elim (cases_lt (c + 3) (r.start + 3 * r.len)) [
+            | inl b ↦ absurd (away (record { low = omega arith; high = omega arith }))
+            | inr b ↦ behind c d b
+          ]
+        ]
+
+    removed_pairs : region_pairs cells1 (record r { len = r.len - 1 }) ≡ remove (region_pairs cells r) i
+    removed_pairs =
+        let full = full_dict cells h.kept n r e in
+        let ins = inside_dict cells h.kept n r e in
+        let ps : List Cell = part cells r.start (3 * r.room) in
+        let ps1 : List Cell = part cells1 r.start (3 * r.room) in
+        let lq = length-pairs ps r.len in
+        let at1 : (k : ℕ) → k < 3 * r.room → get_or ps1 k blank ≡ get_or cells1 (r.start + k) blank = λ k hk. get_or-part cells1 r.start (3 * r.room) k blank hk in
+        let at0 : (k : ℕ) → k < 3 * r.room → get_or cells (r.start + k) blank ≡ get_or ps k blank = λ k hk. sym (get_or-part cells r.start (3 * r.room) k blank hk) in
+        let low_same : (k : ℕ) → k < 3 * i → get_or ps1 k blank ≡ get_or ps k blank = λ k hk. at1 k (omega arith) ∙ (before (r.start + k) blank (omega arith) ∙ at0 k (omega arith)) in
+        let high_same : (k j : ℕ) → j ≡ k + 3 → 3 * i ≤ k → j < 3 * r.len → get_or ps1 k blank ≡ get_or ps j blank =
+        λ k j q lo hi. at1 k (omega arith) ∙ (moved (r.start + k) blank (omega arith) (omega arith) ∙ (ap (λ y. get_or cells y blank) (omega arith) ∙ at0 j (omega arith))) in
+        pairs_are ps1 (r.len - 1) (remove (pairs_in ps r.len) i) (omega (arith, length-remove (pairs_in ps r.len) i (omega arith)))
+        (λ k d b. elim (cases_lt k i) [
+          | inl a ↦ ap₂ (λ (x y : Cell). (value_of x, value_of y)) (low_same (3 * k) (omega arith)) (low_same (3 * k + 1) (omega arith))
+              ∙ (sym (get_or-pairs ps r.len k d (omega arith)) ∙ sym (get_or-remove_below (pairs_in ps r.len) i d k a (omega arith)))
+          | inr a ↦ ap₂ (λ (x y : Cell). (value_of x, value_of y)) (high_same (3 * k) (3 * (k + 1)) (omega arith) (omega arith) (omega arith)) (high_same (3 * k + 1) (3 * (k + 1) + 1) (omega arith) (omega arith) (omega arith))
+              ∙ (sym (get_or-pairs ps r.len (k + 1) d (omega arith)) ∙ sym (get_or-remove_above (pairs_in ps r.len) i d k a (omega arith)))
+        ])
+
+    pub dict_removed : (cells2 : List Cell) → Relinked r.start r.room cells1 cells2 → AreLinked (part cells2 r.start (3 * r.room)) r.room (r.len - 1)
+        → Holds (set cells2 n (DictHead (record r { len = r.len - 1 }))) bytes (set obs n (Some (DictObject (remove (region_pairs cells r) i) r.room)))
+    dict_removed cells2 relinked linked =
+        let full = full_dict cells h.kept n r e in
+        dict_written h n (r.len - 1) r cells2 (remove (region_pairs cells r) i) low e (relinked.same_length ∙ l)
+        (fun_ext (λ c. relinked.same_heads c ∙ removed_heads c)) (λ c d no. relinked.outside c d no ∙ removed_out c d no) (omega arith)
+        (relinked_pairs cells1 cells2 (record r { len = r.len - 1 }) relinked (omega arith) ∙ removed_pairs) linked
 
 -- a pair more, where there is room
-pub dict_pushed : {cells : List Cell} {bytes : List ℕ} {obs : List (Option ArenaObject)} → Holds cells bytes obs → (n : ℕ) (r : Region) (k v : Value) → n < length cells
-    → heads cells n ≡ DictHead r → r.len < r.room
-    → Holds (set (set (set cells (r.start + 3 * r.len) (cell_of k)) (r.start + (3 * r.len + 1)) (cell_of v)) n (DictHead (record r { len = r.len + 1 }))) bytes
-    (set obs n (Some (DictObject (region_pairs cells r ++ (k, v) ∷ []) r.room)))
-dict_pushed {cells} {bytes} {obs} h n r k v low e lt =
-    let c : ℕ = 3 * r.len in
-    let i : In r.start (3 * r.room) (r.start + c) = record { low = omega arith; high = omega arith } in
-    let j : In r.start (3 * r.room) (r.start + (c + 1)) = record { low = omega arith; high = omega arith } in
-    let cells1 : List Cell = set cells (r.start + c) (cell_of k) in
-    let o1 : Option ArenaObject = read n (heads cells n) cells1 bytes in
-    let h1 : Holds cells1 bytes (set obs n o1) = holds_item h n (r.start + c) k low (in_dict cells n r e (r.start + c) i) in
-    let e1 : heads cells1 n ≡ DictHead r = heads_set_other cells (r.start + c) n (cell_of k) (not_item n r cells (r.start + c) (length cells) (length bytes) h.kept e i) ∙ e in
-    let cells2 : List Cell = set cells1 (r.start + (c + 1)) (cell_of v) in
-    let l1 : length cells1 ≡ length cells = length-set cells (r.start + c) (cell_of k) in
-    let l2 : length cells2 ≡ length cells1 = length-set cells1 (r.start + (c + 1)) (cell_of v) in
-    let o2 : Option ArenaObject = read n (heads cells1 n) cells2 bytes in
-    let h2 : Holds cells2 bytes (set (set obs n o1) n o2) = holds_item h1 n (r.start + (c + 1)) v (omega arith) (in_dict cells1 n r e1 (r.start + (c + 1)) j) in
-    let e2 : heads cells2 n ≡ DictHead r = heads_set_other cells1 (r.start + (c + 1)) n (cell_of v) (not_item n r cells1 (r.start + (c + 1)) (length cells1) (length bytes) h1.kept e1 j) ∙ e1 in
-    let ps : List Cell = part cells r.start (3 * r.room) in
-    let lp : length ps ≡ 3 * r.room = length-part cells r.start (3 * r.room) (inside_dict cells h.kept n r e) in
-    let ps2 : List Cell = set (set ps c (cell_of k)) (c + 1) (cell_of v) in
-    let ls : length (set ps c (cell_of k)) ≡ length ps = length-set ps c (cell_of k) in
-    let parts : part cells2 r.start (3 * r.room) ≡ ps2 =
-    part-set cells1 r.start (3 * r.room) (c + 1) (cell_of v) (omega arith) ∙ ap (λ (x : List Cell). set x (c + 1) (cell_of v)) (part-set cells r.start (3 * r.room) c (cell_of k) (omega arith)) in
-    let old : pairs_in ps2 r.len ≡ pairs_in ps r.len = pairs_are ps2 r.len (pairs_in ps r.len) (length-pairs ps r.len)
-    (λ x d hx. ap₂ (λ (a b : Cell). (value_of a, value_of b))
-    (get_or-set_other (set ps c (cell_of k)) (c + 1) (3 * x) (cell_of v) blank (omega arith) ∙ get_or-set_other ps c (3 * x) (cell_of k) blank (omega arith))
-    (get_or-set_other (set ps c (cell_of k)) (c + 1) (3 * x + 1) (cell_of v) blank (omega arith) ∙ get_or-set_other ps c (3 * x + 1) (cell_of k) blank (omega arith))
-    ∙ sym (get_or-pairs ps r.len x d hx)) in
-    let new : pair_in ps2 r.len ≡ (k, v) = ap₂ (λ (a b : Cell). (value_of a, value_of b))
-    (get_or-set_other (set ps c (cell_of k)) (c + 1) c (cell_of v) blank (omega arith) ∙ get_or-set_same ps c (cell_of k) blank (omega arith))
-    (get_or-set_same (set ps c (cell_of k)) (c + 1) (cell_of v) blank (omega arith))
-    ∙ ap₂ (λ (x y : Value). (x, y)) (value_of-cell_of k) (value_of-cell_of v) in
-    let pairs : region_pairs cells2 (record r { len = r.len + 1 }) ≡ region_pairs cells r ++ (k, v) ∷ [] =
-    ap (λ (x : List Cell). pairs_in x (r.len + 1)) parts
-    ∙ (map-range_with_len_more (pair_in ps2) 0 r.len r.len (omega arith)
-    ∙ ap₂ (λ (xs : List (Value × Value)) (x : Value × Value). xs ++ x ∷ []) old new) in
-    subst (λ (x : List (Option ArenaObject)). Holds (set cells2 n (DictHead (record r { len = r.len + 1 }))) bytes x)
-    (ap (λ xs. set (set (set obs n o1) n o2) n (Some (DictObject xs r.room))) pairs
-    ∙ (set-set (set obs n o1) n o2 (Some (DictObject (region_pairs cells r ++ (k, v) ∷ []) r.room)) ∙ set-set obs n o1 (Some (DictObject (region_pairs cells r ++ (k, v) ∷ []) r.room))))
-    (dict_again h2 n (r.len + 1) r (omega arith) e2 (omega arith))
+module _ {cells : List Cell} {bytes : List ℕ} {obs : List (Option ArenaObject)} (h : Holds cells bytes obs) (n : ℕ) (r : Region) (k v : Value) (x y : Cell) (low : n < length cells)
+    (e : heads cells n ≡ DictHead r) (lt : r.len < r.room) (ex : x ≡ cell_of k) (ey : y ≡ cell_of v)
+  where
+    abbrev pub with_pair : List Cell
+    with_pair = set (set cells (r.start + 3 * r.len) x) (r.start + 3 * r.len + 1) y
+
+    abbrev ps : List Cell
+    ps = part cells r.start (3 * r.room)
+
+    pushed_part : part with_pair r.start (3 * r.room) ≡ set (set ps (3 * r.len) x) (3 * r.len + 1) y
+    pushed_part =
+        let place : r.start + 3 * r.len + 1 ≡ r.start + (3 * r.len + 1) = omega arith in
+        ap (λ j. part (set (set cells (r.start + 3 * r.len) x) j y) r.start (3 * r.room)) place
+        ∙ (part-set (set cells (r.start + 3 * r.len) x) r.start (3 * r.room) (3 * r.len + 1) y (omega arith)
+        ∙ ap (λ (qs : List Cell). set qs (3 * r.len + 1) y) (part-set cells r.start (3 * r.room) (3 * r.len) x (omega arith)))
+
+    pushed_heads : heads with_pair ≡ heads cells
+    pushed_heads =
+        let cells1 : List Cell = set cells (r.start + 3 * r.len) x in
+        let plain : (c : ℕ) → In r.start (3 * r.room) c → heads cells c ≡ blank = λ c i. h.kept.plain n c (in_dict cells n r e c i) in
+        let one : heads cells1 ≡ heads cells = heads_set_plain cells (r.start + 3 * r.len) x (ap head_of ex ∙ head_of-cell_of k) (plain _ (record { low = omega arith; high = omega arith })) in
+        heads_set_plain cells1 (r.start + 3 * r.len + 1) y (ap head_of ey ∙ head_of-cell_of v)
+        (ap (λ (f : ℕ → Cell). f (r.start + 3 * r.len + 1)) one ∙ plain _ (record { low = omega arith; high = omega arith })) ∙ one
+
+    pub pushed_plain : (c : ℕ) → In r.start (3 * r.room) c → heads with_pair c ≡ blank
+    pushed_plain c i = ap (λ (f : ℕ → Cell). f c) pushed_heads ∙ h.kept.plain n c (in_dict cells n r e c i)
+
+    pub pushed_linked : AreLinked (part with_pair r.start (3 * r.room)) r.room r.len
+    pushed_linked =
+        subst (λ (qs : List Cell). AreLinked qs r.room r.len) (sym pushed_part)
+        (linked_stored (set ps (3 * r.len) x) r.room r.len r.len y (linked_keyed ps r.room r.len x (h.linked n r e)))
+
+    pushed_length : length with_pair ≡ length cells
+    pushed_length = length-set (set cells (r.start + 3 * r.len) x) (r.start + 3 * r.len + 1) y ∙ length-set cells (r.start + 3 * r.len) x
+
+    pushed_out : (c : ℕ) (d : Cell) → (In r.start (3 * r.room) c → ⊥) → get_or with_pair c d ≡ get_or cells c d
+    pushed_out c d away =
+        get_or-set_other (set cells (r.start + 3 * r.len) x) (r.start + 3 * r.len + 1) c y d (λ q. away (record { low = omega arith; high = omega arith }))
+        ∙ get_or-set_other cells (r.start + 3 * r.len) c x d (λ q. away (record { low = omega arith; high = omega arith }))
+
+    pushed_cells : region_pairs with_pair (record r { len = r.len + 1 }) ≡ region_pairs cells r ++ (k, v) ∷ []
+    pushed_cells =
+        let c : ℕ = 3 * r.len in
+        let lp : length ps ≡ 3 * r.room = length-part cells r.start (3 * r.room) (inside_dict cells h.kept n r e) in
+        let ps1 : List Cell = set ps c x in
+        let ps2 : List Cell = set ps1 (c + 1) y in
+        let ls : length ps1 ≡ length ps = length-set ps c x in
+        let old : pairs_in ps2 r.len ≡ pairs_in ps r.len = pairs_are ps2 r.len (pairs_in ps r.len) (length-pairs ps r.len)
+        (λ i d hx. ap₂ (λ (a b : Cell). (value_of a, value_of b))
+        (get_or-set_other ps1 (c + 1) (3 * i) y blank (omega arith) ∙ get_or-set_other ps c (3 * i) x blank (omega arith))
+        (get_or-set_other ps1 (c + 1) (3 * i + 1) y blank (omega arith) ∙ get_or-set_other ps c (3 * i + 1) x blank (omega arith))
+        ∙ sym (get_or-pairs ps r.len i d hx)) in
+        let new : pair_in ps2 r.len ≡ (k, v) = ap₂ (λ (a b : Cell). (value_of a, value_of b))
+        (get_or-set_other ps1 (c + 1) c y blank (omega arith) ∙ (get_or-set_same ps c x blank (omega arith) ∙ ex))
+        (get_or-set_same ps1 (c + 1) y blank (omega arith) ∙ ey)
+        ∙ ap₂ (λ (a b : Value). (a, b)) (value_of-cell_of k) (value_of-cell_of v) in
+        ap (λ (qs : List Cell). pairs_in qs (r.len + 1)) pushed_part
+        ∙ (map-range_with_len_more (pair_in ps2) 0 r.len r.len (omega arith)
+        ∙ ap₂ (λ (xs : List (Value × Value)) (p : Value × Value). xs ++ p ∷ []) old new)
+
+    pub dict_pushed : (cells2 : List Cell) → Relinked r.start r.room with_pair cells2 → AreLinked (part cells2 r.start (3 * r.room)) r.room (r.len + 1)
+        → Holds (set cells2 n (DictHead (record r { len = r.len + 1 }))) bytes (set obs n (Some (DictObject (region_pairs cells r ++ (k, v) ∷ []) r.room)))
+    dict_pushed cells2 relinked linked =
+        dict_written h n (r.len + 1) r cells2 (region_pairs cells r ++ (k, v) ∷ []) low e (relinked.same_length ∙ pushed_length)
+        (fun_ext (λ c. relinked.same_heads c) ∙ pushed_heads) (λ c d no. relinked.outside c d no ∙ pushed_out c d no) (omega arith)
+        (relinked_pairs with_pair cells2 (record r { len = r.len + 1 }) relinked (omega arith) ∙ pushed_cells) linked
 
 -- a dict moves behind all cells, and has its pairs there
-pub dict_moved : {cells : List Cell} {bytes : List ℕ} {obs : List (Option ArenaObject)} → Holds cells bytes obs → (n start rest room : ℕ) (r : Region) (cells1 : List Cell) → n < length cells
-    → heads cells n ≡ DictHead r → IsRoom room → 3 * r.len + rest ≡ 3 * room → start ≡ length cells → cells1 ≡ cells ++ (part cells r.start (3 * r.len) ++ replicate rest blank)
-    → Holds (set cells1 n (DictHead (record { start = start; len = r.len; room = room }))) bytes
-    (set (obs ++ replicate (3 * room) None) n (Some (DictObject (region_pairs cells r) room)))
-dict_moved {cells} {bytes} {obs} h n start rest room r cells1 low e is_room sum es ec =
-    let full = full_dict cells h.kept n r e in
-    let ins = inside_dict cells h.kept n r e in
-    let ps : List Cell = part cells r.start (3 * r.len) in
-    let lp : length ps ≡ 3 * r.len = length-part cells r.start (3 * r.len) (omega arith) in
-    let qs : List Cell = ps ++ replicate rest blank in
-    let lq : length qs ≡ 3 * room = length-append ps (replicate rest blank) ∙ omega (arith, lp, length-replicate rest blank) in
-    let plain : (k : ℕ) → heads qs k ≡ blank = λ k. elim (cases_lt k (3 * r.len)) [
-      | inl lt ↦ ap head_of (get_or_append_left ps (replicate rest blank) blank k (omega arith) ∙ get_or-part cells r.start (3 * r.len) k blank lt)
-          ∙ h.kept.plain n (r.start + k) (in_dict cells n r e (r.start + k) (record { low = omega arith; high = omega arith }))
-      | inr ge ↦ ap head_of (get_or-append_right ps (replicate rest blank) (3 * r.len) k blank lp ge) ∙ blanks rest (k - 3 * r.len)
-    ] in
-    let whole : List Cell = part cells r.start (3 * r.room) in
-    let below : (i : ℕ) → i < 3 * r.len → get_or qs i blank ≡ get_or whole i blank = λ i lt.
-    get_or_append_left ps (replicate rest blank) blank i (omega arith) ∙ (get_or-part cells r.start (3 * r.len) i blank lt ∙ sym (get_or-part cells r.start (3 * r.room) i blank (omega arith))) in
-    let pairs : region_pairs (cells ++ qs) (record { start = length cells; len = r.len; room = room }) ≡ region_pairs cells r =
-    ap (λ (x : List Cell). pairs_in (take (3 * room) x) r.len) (drop_at cells qs (length cells) refl)
-    ∙ (ap (λ (x : List Cell). pairs_in x r.len) (take_all (3 * room) qs (omega arith))
-    ∙ pairs_are qs r.len (pairs_in whole r.len) (length-pairs whole r.len)
-    (λ x d hx. ap₂ (λ (a b : Cell). (value_of a, value_of b)) (below (3 * x) (omega arith)) (below (3 * x + 1) (omega arith)) ∙ sym (get_or-pairs whole r.len x d hx))) in
-    let head : ℕ → Cell = λ from. DictHead (record { start = from; len = r.len; room = room }) in
-    let moved = holds_moved h n (head (length cells)) qs low
-    (λ q. let q2 : DictHead r ≡ blank = sym e ∙ q in cc) plain refl (omega arith, is_room) (omega arith) refl (sym lq) in
-    subst (λ (x : List Cell). Holds (set x n (head start)) bytes (set (obs ++ replicate (3 * room) None) n (Some (DictObject (region_pairs cells r) room)))) (sym ec)
-    (subst (λ (j : ℕ). Holds (set (cells ++ qs) n (head j)) bytes (set (obs ++ replicate (3 * room) None) n (Some (DictObject (region_pairs cells r) room)))) (sym es)
-    (subst (λ xs. Holds (set (cells ++ qs) n (head (length cells))) bytes (set (obs ++ replicate (3 * room) None) n (Some (DictObject xs room)))) pairs
-    (subst (λ (m : ℕ). Holds (set (cells ++ qs) n (head (length cells))) bytes (set (obs ++ replicate m None) n (Some (DictObject (region_pairs (cells ++ qs) (record { start = length cells; len = r.len; room = room })) room)))) lq moved)))
+module _ {cells : List Cell} {bytes : List ℕ} {obs : List (Option ArenaObject)} (h : Holds cells bytes obs) (n start rest room : ℕ) (r : Region) (cells1 : List Cell) (low : n < length cells)
+    (e : heads cells n ≡ DictHead r) (is_room : IsRoom room) (sum : 3 * r.len + rest ≡ 3 * room) (es : start ≡ length cells)
+    (ec : cells1 ≡ cells ++ (part cells r.start (3 * r.len) ++ replicate rest blank))
+  where
+    abbrev moved_from : List Cell
+    moved_from = part cells r.start (3 * r.len)
+
+    moved_length : length cells1 ≡ length cells + 3 * room
+    moved_length =
+        let full = full_dict cells h.kept n r e in
+        let ins = inside_dict cells h.kept n r e in
+        let lp : length moved_from ≡ 3 * r.len = length-part cells r.start (3 * r.len) (omega arith) in
+        let lq : length (moved_from ++ replicate rest blank) ≡ 3 * room = length-append moved_from (replicate rest blank) ∙ omega (arith, lp, length-replicate rest blank) in
+        ap length ec ∙ (length-append cells (moved_from ++ replicate rest blank) ∙ ap (λ j. length cells + j) lq)
+
+    pub moved_inside : start + 3 * room ≤ length cells1
+    moved_inside = omega (arith, moved_length)
+
+    moved_at : (j : ℕ) → get_or cells1 (start + j) blank ≡ get_or (moved_from ++ replicate rest blank) j blank
+    moved_at j =
+        let qs : List Cell = moved_from ++ replicate rest blank in
+        let back : start + j - length cells ≡ j = omega arith in
+        ap (λ (xs : List Cell). get_or xs (start + j) blank) ec
+        ∙ (get_or-append_right cells qs (length cells) (start + j) blank refl (omega arith) ∙ ap (λ i. get_or qs i blank) back)
+
+    moved_below : (j : ℕ) → j < 3 * r.len → get_or cells1 (start + j) blank ≡ get_or cells (r.start + j) blank
+    moved_below j lt =
+        let full = full_dict cells h.kept n r e in
+        let ins = inside_dict cells h.kept n r e in
+        let lp : length moved_from ≡ 3 * r.len = length-part cells r.start (3 * r.len) (omega arith) in
+        moved_at j ∙ (get_or_append_left moved_from (replicate rest blank) blank j (omega arith) ∙ get_or-part cells r.start (3 * r.len) j blank lt)
+
+    pub moved_plain : (c : ℕ) → In start (3 * room) c → heads cells1 c ≡ blank
+    moved_plain c i =
+        let full = full_dict cells h.kept n r e in
+        let ins = inside_dict cells h.kept n r e in
+        let lp : length moved_from ≡ 3 * r.len = length-part cells r.start (3 * r.len) (omega arith) in
+        let back : start + (c - start) ≡ c = omega (arith, i.low) in
+        ap (heads cells1) (sym back)
+        ∙ elim (cases_lt (c - start) (3 * r.len)) [
+          | inl lt ↦ ap head_of (moved_below (c - start) lt) ∙ h.kept.plain n (r.start + (c - start)) (in_dict cells n r e (r.start + (c - start)) (record { low = omega arith; high = omega arith }))
+          | inr ge ↦ ap head_of (moved_at (c - start) ∙ get_or-append_right moved_from (replicate rest blank) (3 * r.len) (c - start) blank lp ge) ∙ blanks rest (c - start - 3 * r.len)
+        ]
+
+    moved_pairs : (i : ℕ) → i < r.len → pair_in (part cells1 start (3 * room)) i ≡ pair_in (part cells r.start (3 * r.room)) i
+    moved_pairs i lt =
+        let full = full_dict cells h.kept n r e in
+        let one : (j : ℕ) → j < 3 * r.len → get_or (part cells1 start (3 * room)) j blank ≡ get_or (part cells r.start (3 * r.room)) j blank =
+        λ j hj. get_or-part cells1 start (3 * room) j blank (omega arith) ∙ (moved_below j hj ∙ sym (get_or-part cells r.start (3 * r.room) j blank (omega arith))) in
+        ap₂ (λ (a b : Cell). (value_of a, value_of b)) (one (3 * i) (omega arith)) (one (3 * i + 1) (omega arith))
+
+    pub dict_moved : (cells2 : List Cell) → Relinked start room cells1 cells2 → AreLinked (part cells2 start (3 * room)) room r.len
+        → Holds (set cells2 n (DictHead (record { start = start; len = r.len; room = room }))) bytes (set (obs ++ replicate (3 * room) None) n (Some (DictObject (region_pairs cells r) room)))
+    dict_moved cells2 relinked linked =
+        let full = full_dict cells h.kept n r e in
+        let head : Cell = DictHead (record { start = start; len = r.len; room = room }) in
+        let whole : List Cell = part cells r.start (3 * r.room) in
+        let l2 : length cells2 ≡ length cells + 3 * room = relinked.same_length ∙ moved_length in
+        let qs : List Cell = drop (length cells) cells2 in
+        let lq : length qs ≡ 3 * room = length-drop (length cells) cells2 ∙ omega arith in
+        let front : take (length cells) cells2 ≡ cells =
+        same_lists _ _ (length-take-le (length cells) cells2 (omega arith))
+        (λ j d hj.
+        let jl : j < length cells = omega (arith, length-take-le (length cells) cells2 (omega arith)) in
+        get_or-take (length cells) cells2 j d jl
+        ∙ (relinked.outside j d (λ i. omega (arith, i.low))
+        ∙ (ap (λ (xs : List Cell). get_or xs j d) ec ∙ get_or_append_left cells (moved_from ++ replicate rest blank) d j jl))) in
+        let split : cells ++ qs ≡ cells2 = ap (λ (xs : List Cell). xs ++ qs) (sym front) ∙ take-append-drop (length cells) cells2 in
+        let plain : (k : ℕ) → heads qs k ≡ blank = λ k. elim (cases_lt k (3 * room)) [
+          | inl lt ↦ ap head_of (get_or-drop (length cells) cells2 k blank)
+              ∙ (ap (λ j. heads cells2 (j + k)) (sym es)
+              ∙ (relinked.same_heads (start + k) ∙ moved_plain (start + k) (record { low = omega arith; high = omega arith })))
+          | inr ge ↦ heads_past qs k (omega arith)
+        ] in
+        let pairs : region_pairs cells2 (record { start = start; len = r.len; room = room }) ≡ region_pairs cells r =
+        pairs_are (part cells2 start (3 * room)) r.len (pairs_in whole r.len) (length-pairs whole r.len)
+        (λ i d lt. relinked.pairs i (omega arith) ∙ (moved_pairs i lt ∙ sym (get_or-pairs whole r.len i d lt))) in
+        let moved = holds_moved h n head qs low
+        (λ q. let q2 : DictHead r ≡ blank = sym e ∙ q in cc) plain refl (omega arith, is_room) refl es (sym lq)
+        (λ r2 q. subst (λ (x : Region). AreLinked (part (cells ++ qs) x.start (3 * x.room)) x.room x.len) (ap (region_in r) q)
+        (subst (λ (xs : List Cell). AreLinked (part xs start (3 * room)) room r.len) (sym split) linked)) in
+        subst (λ xs. Holds (set cells2 n head) bytes (set (obs ++ replicate (3 * room) None) n (Some (DictObject xs room)))) pairs
+        (subst (λ (xs : List Cell). Holds (set xs n head) bytes (set (obs ++ replicate (3 * room) None) n (Some (DictObject (region_pairs xs (record { start = start; len = r.len; room = room })) room)))) split
+        (subst (λ (m : ℕ). Holds (set (cells ++ qs) n head) bytes (set (obs ++ replicate m None) n (Some (DictObject (region_pairs (cells ++ qs) (record { start = start; len = r.len; room = room })) room)))) lq moved))

@@ -1,27 +1,30 @@
 -- From the head of a dict to what contracts see of it.
-use Rattle.std.proofs.Common.{ℕ, suc, ◌+◌, ◌*◌, ◌<◌, ◌≤◌, ◌≡◌, List, [], ◌∷◌, ◌++◌, length, Option, Some, None, get_or, set, map, take, drop, nat_le, replicate, inl, inr, refl, le_refl, sym, ◌∙◌, ap, subst, arith, ◌^◌}
+use Rattle.std.proofs.Common.{ℕ, suc, ◌+◌, ◌-◌, ◌*◌, ◌<◌, ◌≤◌, ◌≡◌, List, [], ◌∷◌, ◌++◌, length, Option, Some, None, get_or, set, map, take, drop, nat_le, replicate, inl, inr, refl, le_refl, sym, ◌∙◌, ap, subst, arith, ◌^◌}
 use Rattle.std.proofs.Math.Path.{ap₂}
 use Rattle.std.specs.List.{All, remove}
 use Rattle.std.specs.Vec.{vec_capacity}
 use Rattle.std.proofs.lemmas.List.{get_or_default, append-nil, set-get_or, take_at, drop_at, length-map, get_or-map, set-set, length_push}
-use Rattle.std.proofs.lemmas.List.Elements.{All-append, All-take, All-drop, All-map, All-set}
+use Rattle.std.proofs.lemmas.List.Elements.{All-append, All-take, All-drop, All-map, All-set, All-push}
 use Rattle.std.proofs.lemmas.Bool.{cond-true, cond-false, le-leb, lt-leb, cases_lt}
 use Rattle.arena_heap.specs.declared.arena.Arena.TheInside.{Inside}
 use Rattle.arena_heap.specs.declared.value.Value.{Value}
+use Rattle.arena_heap.specs.declared.value.Value.TheVariants as values
 use Rattle.arena_heap.specs.declared.cells.Cell.{Cell}
 use Rattle.arena_heap.specs.declared.cells.Cell.TheVariants.{DictHead}
 use Rattle.arena_heap.specs.declared.cells.Region.{Region}
 use Rattle.mpy_base.specs.World.{Heap, DictObject, ADict, IsA, object, kind_of, pairs_of, room_of, pairs_at, room_at, with_object, with_dict, Later}
 use Rattle.mpy_base.specs.Weights.{Fits, with_used, dict_growth, grown_room, room_for, with_dict_room, with_pairs}
 use Rattle.mpy_base.proofs.Worlds.{is_within, object_grown, later_grown}
-use Rattle.mpy_base.proofs.Rooms.{room_is}
+use Rattle.mpy_base.proofs.Rooms.{room_is, room_positive}
 use Rattle.arena_heap.specs.Values.{ArenaObject, Leads, IsKey, held, IsFormed}
 use Rattle.arena_heap.specs.Dicts.{with_value}
-use Rattle.arena_heap.specs.Cells.{blank, value_of, heads, part, Holds, IsArena}
+use Rattle.arena_heap.specs.Links.{IsLast, bucket_of, buckets_at}
+use Rattle.arena_heap.specs.Cells.{blank, cell_of, value_of, heads, part, first_link, next_link, bucket_in, AreLinked, Relinked, heap_of, Full, Holds, IsArena}
+use Rattle.arena_heap.proofs.Chains.{last_same, last_moved}
 use Rattle.arena_heap.proofs.Views.{fits_is}
 use Rattle.arena_heap.proofs.Regions.{get_or-part}
-use Rattle.arena_heap.proofs.DictCells.{region_pairs, full_dict, inside_dict, length-pairs, get_or-pairs}
-use Rattle.arena_heap.proofs.Seen.{seen, objects, Invariant, seen_object, seen_sound, replaced_again}
+use Rattle.arena_heap.proofs.DictCells.{region_pairs, full_dict, inside_dict, length-pairs, get_or-pairs, dict_pushed, dict_removed}
+use Rattle.arena_heap.proofs.Seen.{seen, objects, Invariant, holds_now, seen_object, seen_sound, seen_within, replaced_again, replaced_seen}
 
 -- a pair that a dict may hold
 pub record IsPair (objects : List (Option ArenaObject)) (p : Value × Value) : Type 0 where
@@ -173,3 +176,68 @@ module _ (h : Heap Value ℕ) (n : ℕ) (is : IsA h.objects ADict n) where
       ap (λ (o : Option ArenaObject). with_object (with_dict_room h n k) n (DictObject (pairs_of o ++ pair ∷ []) (room_of o))) (reserved_object k)
       ∙ (ap (λ (os : List (Option ArenaObject)). record h { objects = os }) (set-set (h.objects ++ replicate (dict_growth h n k) None) n was now)
       ∙ ap (λ (j : ℕ). with_object (with_used h (dict_growth h n j)) n (DictObject new (grown_room h n j))) (sym (length_push old pair)))
+
+-- the links of a dict that were read
+module _ (a : Inside) {h : Heap Value ℕ} (i : Invariant a) (e : seen a ≡ h) (n : ℕ) {r : Region} (head : heads a.cells.items n ≡ DictHead r) where
+  pub some_buckets : 0 < r.room
+  some_buckets = omega (arith, room_positive r.room (subst Full head (i.kept.full n)).1)
+
+  buckets_are : (at : ℕ) → at < r.len → buckets_at h n at ≡ bucket_in (part a.cells.items r.start (3 * r.room)) r.room at
+  buckets_are at lt =
+      let none : Value × Value = (values.None, values.None) in
+      ap₂ (λ (room : ℕ) (p : Value × Value). bucket_of room p.0) (sym (seen_dict_room a e n head))
+      (ap (λ (xs : List (Value × Value)). get_or xs at none) (sym (seen_pairs a e n head)) ∙ get_or-pairs (part a.cells.items r.start (3 * r.room)) r.len at none lt)
+
+  read_link : (at j : ℕ) (x : Cell) → at < r.room → j ≡ r.start + 3 * at + 2 → x ≡ get_or a.cells.items j x → x ≡ get_or (part a.cells.items r.start (3 * r.room)) (3 * at + 2) blank
+  read_link at j x lt ej ex =
+      let inside = inside_dict a.cells.items i.kept n r head in
+      let place : j ≡ r.start + (3 * at + 2) = omega arith in
+      ex ∙ (get_or_default a.cells.items j x blank (omega arith)
+      ∙ (ap (λ m. get_or a.cells.items m blank) place ∙ sym (get_or-part a.cells.items r.start (3 * r.room) (3 * at + 2) blank (omega arith))))
+
+  pub seen_first : (bucket j found : ℕ) (x : Cell) → bucket < r.room → j ≡ r.start + 3 * bucket + 2 → x ≡ get_or a.cells.items j x → found ≡ first_link x
+      → IsLast (buckets_at h n) bucket (length (pairs_at h n)) found
+  seen_first bucket j found x lt ej ex ef =
+      let linked = i.linked n r head in
+      subst (λ limit. IsLast (buckets_at h n) bucket limit found) (seen_dict_len a e n head)
+      (last_moved (last_same (linked.firsts_lead bucket lt) buckets_are) refl (sym (ef ∙ ap first_link (read_link bucket j x lt ej ex))))
+
+  pub seen_next : (at j found : ℕ) (x : Cell) → at < r.len → j ≡ r.start + 3 * at + 2 → x ≡ get_or a.cells.items j x → found ≡ next_link x
+      → IsLast (buckets_at h n) (buckets_at h n at) at found
+  seen_next at j found x lt ej ex ef =
+      let full = full_dict a.cells.items i.kept n r head in
+      let linked = i.linked n r head in
+      last_moved (last_same (linked.nexts_lead at lt) (λ k hk. buckets_are k (omega arith))) (sym (buckets_are at lt)) (sym (ef ∙ ap next_link (read_link at j x (omega arith) ej ex)))
+
+module _ (a : Inside) {h : Heap Value ℕ} (i : Invariant a) (e : seen a ≡ h) (n : ℕ) {r : Region} (head : heads a.cells.items n ≡ DictHead r) (is : IsA h.objects ADict n) where
+  -- after a pair was put behind the others, and linked
+  pub pushed_seen : (k v : Value) (x y : Cell) (cells : List Cell) (capacity : ℕ) → length (pairs_at h n) < room_at h n → x ≡ cell_of k → y ≡ cell_of v
+      → Relinked r.start r.room (set (set a.cells.items (r.start + 3 * r.len) x) (r.start + 3 * r.len + 1) y) cells → AreLinked (part cells r.start (3 * r.room)) r.room (r.len + 1)
+      → vec_capacity a.cells ≤ capacity → IsKey k → Leads h.objects k → Leads h.objects v
+      → IsArena (set cells n (DictHead (record r { len = r.len + 1 }))) a.bytes.items a.room.cells a.room.bytes capacity (vec_capacity a.bytes)
+      × (heap_of (set cells n (DictHead (record r { len = r.len + 1 }))) a.bytes.items a.room.cells a.room.bytes ≡ with_dict h n (pairs_at h n ++ (k, v) ∷ []))
+  pushed_seen k v x y cells capacity lt ex ey relinked linked cc key key_leads leads =
+      let len = seen_dict_len a e n head in
+      let room = seen_dict_room a e n head in
+      let held1 = dict_holds a e n head (λ (ps : List (Value × Value)). ps ++ (k, v) ∷ []) _
+      (dict_pushed (holds_now a i) n r k v x y (seen_within a e ADict n is) head (omega arith) ex ey cells relinked linked) in (
+        dict_again_seen a i e n is (pairs_at h n ++ (k, v) ∷ []) _ capacity held1 cc
+            (All-push (IsPair h.objects) (pairs_at h n) (k, v) (dict_pairs a i e n is) (record { key = key; key_leads = key_leads; leads = leads })),
+        replaced_seen a e n _ _ a.bytes.items held1 refl,
+      )
+
+  -- after a pair was taken out, the others closed up, and all were linked anew
+  pub removed_seen : (at : ℕ) (cells1 cells : List Cell) (capacity : ℕ) → at < length (pairs_at h n) → length cells1 ≡ length a.cells.items
+      → ((k : ℕ) (d : Cell) → r.start + 3 * at ≤ k → k + 3 < r.start + 3 * r.len → get_or cells1 k d ≡ get_or a.cells.items (k + 3) d)
+      → ((k : ℕ) (d : Cell) → k < r.start + 3 * at → get_or cells1 k d ≡ get_or a.cells.items k d)
+      → ((k : ℕ) (d : Cell) → r.start + 3 * r.len ≤ k + 3 → get_or cells1 k d ≡ get_or a.cells.items k d)
+      → Relinked r.start r.room cells1 cells → AreLinked (part cells r.start (3 * r.room)) r.room (r.len - 1) → vec_capacity a.cells ≤ capacity
+      → IsArena (set cells n (DictHead (record r { len = r.len - 1 }))) a.bytes.items a.room.cells a.room.bytes capacity (vec_capacity a.bytes)
+      × (heap_of (set cells n (DictHead (record r { len = r.len - 1 }))) a.bytes.items a.room.cells a.room.bytes ≡ with_dict h n (remove (pairs_at h n) at))
+  removed_seen at cells1 cells capacity lt l moved before behind relinked linked cc =
+      let len = seen_dict_len a e n head in
+      let held1 = dict_holds a e n head (λ (ps : List (Value × Value)). remove ps at) _
+      (dict_removed (holds_now a i) n at r cells1 (seen_within a e ADict n is) head (omega arith) l moved before behind cells relinked linked) in (
+        dict_again_seen a i e n is (remove (pairs_at h n) at) _ capacity held1 cc (removed_pairs h.objects (pairs_at h n) at (dict_pairs a i e n is)),
+        replaced_seen a e n _ _ a.bytes.items held1 refl,
+      )

@@ -1,5 +1,5 @@
 -- The three changes that every call is made of: cells are taken, a head is written, a region is written.
-use Rattle.std.proofs.Common.{ℕ, ◌+◌, ◌-◌, ◌≤◌, ◌<◌, ◌≡◌, ◌≢◌, List, [], ◌++◌, length, Option, None, get_or, set, replicate, refl, sym, ◌∙◌, ap, subst, inl, inr, arith, length-append, length-set, get_or-set_same, get_or-set_other}
+use Rattle.std.proofs.Common.{ℕ, ◌+◌, ◌-◌, ◌*◌, ◌≤◌, ◌<◌, ◌≡◌, ◌≢◌, List, [], ◌++◌, length, Option, None, get_or, set, replicate, refl, sym, ◌∙◌, ap, subst, inl, inr, arith, length-append, length-set, get_or-set_same, get_or-set_other}
 use Rattle.std.proofs.Math.Path.{fun_ext, ap₂}
 use Rattle.std.proofs.lemmas.List.{ext_get_or, get_or_past, get_or_append_left, get_or-append_right, length-replicate, set_past}
 use Rattle.std.proofs.lemmas.List.FromFn.{length-map-range_with_len, get_or-map-range_with_len}
@@ -8,7 +8,8 @@ use Rattle.arena_heap.specs.declared.value.Value.{Value}
 use Rattle.arena_heap.specs.declared.cells.Cell.{Cell}
 use Rattle.mpy_base.specs.World.{object}
 use Rattle.arena_heap.specs.Values.{ArenaObject}
-use Rattle.arena_heap.specs.Cells.{blank, cell_of, head_of, heads, first, size, byte_first, byte_size, Full, part, decode, read, object_at, objects_of, In, Apart, Kept, Holds}
+use Rattle.arena_heap.specs.declared.cells.Cell.TheVariants.{DictHead}
+use Rattle.arena_heap.specs.Cells.{blank, cell_of, head_of, heads, first, size, byte_first, byte_size, Full, part, decode, read, object_at, objects_of, In, Apart, Kept, AreLinked, Links, Holds}
 use Rattle.mpy_base.proofs.Worlds.{object_nones}
 use Rattle.arena_heap.proofs.CellValues.{head_of-cell_of}
 use Rattle.arena_heap.proofs.Regions.{part_same, apart_set, apart_more, in_same}
@@ -30,11 +31,19 @@ object_is cells bytes n =
       | inr h ↦ get_or_past (objects_of cells bytes) n None (omega (arith, length-objects cells bytes)) ∙ sym (object_past cells bytes n h)
     ]
 
-pub object_held : {cells : List Cell} {bytes : List ℕ} {obs : List (Option ArenaObject)} → Holds cells bytes obs → (n : ℕ) → object obs n ≡ object_at cells bytes n
-object_held {cells} {bytes} {obs} h n = ap (λ os. object os n) (sym h.objects) ∙ object_is cells bytes n
+-- the same as Holds, of dicts whose links may lead anywhere
+pub record Bare (cells : List Cell) (bytes : List ℕ) (obs : List (Option ArenaObject)) : Type 0 where
+  pub kept : Kept (heads cells) (length cells) (length bytes)
+  pub objects : objects_of cells bytes ≡ obs
 
-pub length_held : {cells : List Cell} {bytes : List ℕ} {obs : List (Option ArenaObject)} → Holds cells bytes obs → length obs ≡ length cells
-length_held {cells} {bytes} h = ap length (sym h.objects) ∙ length-objects cells bytes
+pub bare : {cells : List Cell} {bytes : List ℕ} {obs : List (Option ArenaObject)} → Holds cells bytes obs → Bare cells bytes obs
+bare h = record { kept = h.kept; objects = h.objects }
+
+pub object_bare : {cells : List Cell} {bytes : List ℕ} {obs : List (Option ArenaObject)} → Bare cells bytes obs → (n : ℕ) → object obs n ≡ object_at cells bytes n
+object_bare {cells} {bytes} {obs} h n = ap (λ os. object os n) (sym h.objects) ∙ object_is cells bytes n
+
+pub length_bare : {cells : List Cell} {bytes : List ℕ} {obs : List (Option ArenaObject)} → Bare cells bytes obs → length obs ≡ length cells
+length_bare {cells} {bytes} h = ap length (sym h.objects) ∙ length-objects cells bytes
 
 -- the objects are these where each is
 pub objects_are : (cells : List Cell) (bytes : List ℕ) (obs : List (Option ArenaObject)) → length obs ≡ length cells
@@ -67,22 +76,22 @@ pub kept_more : {h : ℕ → Cell} {m n m' n' : ℕ} → Kept h m n → m ≤ m'
 kept_more k a b = record { cells_apart = apart_more _ _ _ _ k.cells_apart a; bytes_apart = apart_more _ _ _ _ k.bytes_apart b; plain = k.plain; full = k.full }
 
 -- 1. Cells are taken. They hold values, and belong to nobody yet
-pub holds_used : {cells : List Cell} {bytes : List ℕ} {obs : List (Option ArenaObject)} → Holds cells bytes obs → (ps : List Cell)
-    → ((k : ℕ) → heads ps k ≡ blank) → Holds (cells ++ ps) bytes (obs ++ replicate (length ps) None)
-holds_used {cells} {bytes} {obs} h ps plain =
+pub bare_used : {cells : List Cell} {bytes : List ℕ} {obs : List (Option ArenaObject)} → Bare cells bytes obs → (ps : List Cell)
+    → ((k : ℕ) → heads ps k ≡ blank) → Bare (cells ++ ps) bytes (obs ++ replicate (length ps) None)
+bare_used {cells} {bytes} {obs} h ps plain =
     let l : length (cells ++ ps) ≡ length cells + length ps = length-append cells ps in
     let same : heads (cells ++ ps) ≡ heads cells = heads_used cells ps plain in
     let k : Kept (heads cells) (length (cells ++ ps)) (length bytes) = kept_more h.kept (omega arith) (omega arith) in
     record {
       kept = subst (λ (x : ℕ → Cell). Kept x (length (cells ++ ps)) (length bytes)) (sym same) k;
       objects = objects_are (cells ++ ps) bytes (obs ++ replicate (length ps) None)
-          (length-append obs (replicate (length ps) None) ∙ ap₂ (λ (a b : ℕ). a + b) (length_held h) (length-replicate (length ps) None) ∙ sym l)
+          (length-append obs (replicate (length ps) None) ∙ ap₂ (λ (a b : ℕ). a + b) (length_bare h) (length-replicate (length ps) None) ∙ sym l)
           (λ n _. elim (cases_lt n (length cells)) [
             | inl low ↦ object_same cells (cells ++ ps) bytes bytes n h.kept (omega arith) (omega arith) (ap (λ (x : ℕ → Cell). x n) same)
                 (λ c d i. get_or_append_left cells ps d c (omega (arith, h.kept.cells_apart.inside n, i.high))) (λ c d i. refl)
-                ∙ (sym (object_held h n) ∙ sym (get_or_append_left obs (replicate (length ps) None) None n (omega (arith, length_held h))))
+                ∙ (sym (object_bare h n) ∙ sym (get_or_append_left obs (replicate (length ps) None) None n (omega (arith, length_bare h))))
             | inr high ↦ ap (λ (x : Cell). read n x (cells ++ ps) bytes) (ap (λ (x : ℕ → Cell). x n) same ∙ heads_past cells n high)
-                ∙ sym (get_or-append_right obs (replicate (length ps) None) (length cells) n None (length_held h) high ∙ object_nones (length ps) (n - length cells))
+                ∙ sym (get_or-append_right obs (replicate (length ps) None) (length cells) n None (length_bare h) high ∙ object_nones (length ps) (n - length cells))
           ]);
     }
 
@@ -125,47 +134,47 @@ heads_set_same cells n c h e = ap head_of (get_or-set_same cells n c blank h) �
 pub heads_set_other : (cells : List Cell) (n k : ℕ) (c : Cell) → k ≢ n → heads (set cells n c) k ≡ heads cells k
 heads_set_other cells n k c ne = ap head_of (get_or-set_other cells n k c blank ne)
 
-pub holds_head : {cells : List Cell} {bytes : List ℕ} {obs : List (Option ArenaObject)} → Holds cells bytes obs → (n : ℕ) (c : Cell) → n < length cells
-    → Placed (heads cells) (length cells) (length bytes) n c → Holds (set cells n c) bytes (set obs n (read n c cells bytes))
-holds_head {cells} {bytes} {obs} h n c low p =
+pub bare_head : {cells : List Cell} {bytes : List ℕ} {obs : List (Option ArenaObject)} → Bare cells bytes obs → (n : ℕ) (c : Cell) → n < length cells
+    → Placed (heads cells) (length cells) (length bytes) n c → Bare (set cells n c) bytes (set obs n (read n c cells bytes))
+bare_head {cells} {bytes} {obs} h n c low p =
     let l : length (set cells n c) ≡ length cells = length-set cells n c in
     let here : heads (set cells n c) n ≡ c = heads_set_same cells n c low p.head in
     let k : Kept (heads (set cells n c)) (length cells) (length bytes) = kept_head h.kept p here (λ k ne. heads_set_other cells n k c ne) in
     record {
       kept = kept_more k (omega arith) (omega arith);
-      objects = objects_are (set cells n c) bytes (set obs n (read n c cells bytes)) (length-set obs n (read n c cells bytes) ∙ (length_held h ∙ sym l))
+      objects = objects_are (set cells n c) bytes (set obs n (read n c cells bytes)) (length-set obs n (read n c cells bytes) ∙ (length_bare h ∙ sym l))
           (λ m _. elim (cases_eq m n) [
             | inl e ↦ subst (λ (y : ℕ). object_at (set cells n c) bytes y ≡ object (set obs n (read n c cells bytes)) y) (sym e)
                 (ap (λ (x : Cell). read n x (set cells n c) bytes) here
                 ∙ (ap (λ (ps : List Cell). decode c ps (part bytes (byte_first n c) (byte_size c)))
                 (part_same cells (set cells n c) (first n c) (size c) p.inside (omega (arith, p.inside, l))
                 (λ x d i. get_or-set_other cells n x c d (λ q. p.outside (subst (λ (y : ℕ). In (first n c) (size c) y) q i))))
-                ∙ sym (get_or-set_same obs n (read n c cells bytes) None (omega (arith, length_held h)))))
+                ∙ sym (get_or-set_same obs n (read n c cells bytes) None (omega (arith, length_bare h)))))
             | inr ne ↦ object_same cells (set cells n c) bytes bytes m h.kept (omega arith) (omega arith) (heads_set_other cells n m c ne)
                 (λ x d i. get_or-set_other cells n x c d (λ q. p.mine m (subst (λ (y : ℕ). In (first m (heads cells m)) (size (heads cells m)) y) q i))) (λ x d i. refl)
-                ∙ (sym (object_held h m) ∙ sym (get_or-set_other obs n m (read n c cells bytes) None ne))
+                ∙ (sym (object_bare h m) ∙ sym (get_or-set_other obs n m (read n c cells bytes) None ne))
           ]);
     }
 
 -- 3. A region of cells is written, with values
-pub holds_written : {cells : List Cell} {bytes : List ℕ} {obs : List (Option ArenaObject)} → Holds cells bytes obs → (n : ℕ) (cells' : List Cell) → n < length cells → length cells' ≡ length cells
+pub bare_written : {cells : List Cell} {bytes : List ℕ} {obs : List (Option ArenaObject)} → Bare cells bytes obs → (n : ℕ) (cells' : List Cell) → n < length cells → length cells' ≡ length cells
     → heads cells' ≡ heads cells → ((c : ℕ) (d : Cell) → (In (first n (heads cells n)) (size (heads cells n)) c → ⊥) → get_or cells' c d ≡ get_or cells c d)
-    → Holds cells' bytes (set obs n (read n (heads cells n) cells' bytes))
-holds_written {cells} {bytes} {obs} h n cells' low l same out =
+    → Bare cells' bytes (set obs n (read n (heads cells n) cells' bytes))
+bare_written {cells} {bytes} {obs} h n cells' low l same out =
     let o : Option ArenaObject = read n (heads cells n) cells' bytes in
     record {
       kept = subst (λ (x : ℕ → Cell). Kept x (length cells') (length bytes)) (sym same) (kept_more h.kept (omega arith) (omega arith));
-      objects = objects_are cells' bytes (set obs n o) (length-set obs n o ∙ (length_held h ∙ sym l))
+      objects = objects_are cells' bytes (set obs n o) (length-set obs n o ∙ (length_bare h ∙ sym l))
           (λ m _. elim (cases_eq m n) [
             | inl e ↦ subst (λ (y : ℕ). object_at cells' bytes y ≡ object (set obs n o) y) (sym e)
-                (ap (λ (x : ℕ → Cell). read n (x n) cells' bytes) same ∙ sym (get_or-set_same obs n o None (omega (arith, length_held h))))
+                (ap (λ (x : ℕ → Cell). read n (x n) cells' bytes) same ∙ sym (get_or-set_same obs n o None (omega (arith, length_bare h))))
             | inr ne ↦ object_same cells cells' bytes bytes m h.kept (omega arith) (omega arith) (ap (λ (x : ℕ → Cell). x m) same)
                 (λ x d i. out x d (λ j. ne (h.kept.cells_apart.apart m n x i j))) (λ x d i. refl)
-                ∙ (sym (object_held h m) ∙ sym (get_or-set_other obs n m o None ne))
+                ∙ (sym (object_bare h m) ∙ sym (get_or-set_other obs n m o None ne))
           ]);
     }
 
-heads_set_plain : (cells : List Cell) (c : ℕ) (x : Cell) → head_of x ≡ blank → heads cells c ≡ blank → heads (set cells c x) ≡ heads cells
+pub heads_set_plain : (cells : List Cell) (c : ℕ) (x : Cell) → head_of x ≡ blank → heads cells c ≡ blank → heads (set cells c x) ≡ heads cells
 heads_set_plain cells c x plain e = fun_ext (λ k. elim (cases_eq k c) [
   | inl q ↦ subst (λ (y : ℕ). heads (set cells c x) y ≡ heads cells y) (sym q)
       (elim (cases_lt c (length cells)) [
@@ -175,42 +184,117 @@ heads_set_plain cells c x plain e = fun_ext (λ k. elim (cases_eq k c) [
   | inr ne ↦ heads_set_other cells c k x ne
 ])
 
-pub holds_plain : {cells : List Cell} {bytes : List ℕ} {obs : List (Option ArenaObject)} → Holds cells bytes obs → (n c : ℕ) (x : Cell) → head_of x ≡ blank → n < length cells
-    → In (first n (heads cells n)) (size (heads cells n)) c → Holds (set cells c x) bytes (set obs n (read n (heads cells n) (set cells c x) bytes))
-holds_plain {cells} h n c x plain low i =
-    holds_written h n (set cells c x) low (length-set cells c x) (heads_set_plain cells c x plain (h.kept.plain n c i))
-    (λ y d ni. get_or-set_other cells c y x d (λ q. ni (subst (λ (z : ℕ). In (first n (heads cells n)) (size (heads cells n)) z) (sym q) i)))
-
-pub holds_item : {cells : List Cell} {bytes : List ℕ} {obs : List (Option ArenaObject)} → Holds cells bytes obs → (n c : ℕ) (v : Value) → n < length cells
-    → In (first n (heads cells n)) (size (heads cells n)) c → Holds (set cells c (cell_of v)) bytes (set obs n (read n (heads cells n) (set cells c (cell_of v)) bytes))
-holds_item h n c v low i = holds_plain h n c (cell_of v) (head_of-cell_of v) low i
-
 -- 4. Bytes are taken; a byte of a region is written
-pub holds_more_bytes : {cells : List Cell} {bytes : List ℕ} {obs : List (Option ArenaObject)} → Holds cells bytes obs → (bs : List ℕ) → Holds cells (bytes ++ bs) obs
-holds_more_bytes {cells} {bytes} {obs} h bs =
+pub bare_more_bytes : {cells : List Cell} {bytes : List ℕ} {obs : List (Option ArenaObject)} → Bare cells bytes obs → (bs : List ℕ) → Bare cells (bytes ++ bs) obs
+bare_more_bytes {cells} {bytes} {obs} h bs =
     let l : length (bytes ++ bs) ≡ length bytes + length bs = length-append bytes bs in
     record {
       kept = kept_more h.kept (omega arith) (omega arith);
-      objects = objects_are cells (bytes ++ bs) obs (length_held h)
+      objects = objects_are cells (bytes ++ bs) obs (length_bare h)
           (λ n _. object_same cells cells bytes (bytes ++ bs) n h.kept (omega arith) (omega arith) refl (λ c d i. refl)
-          (λ c d i. get_or_append_left bytes bs d c (omega (arith, h.kept.bytes_apart.inside n, i.high))) ∙ sym (object_held h n));
+          (λ c d i. get_or_append_left bytes bs d c (omega (arith, h.kept.bytes_apart.inside n, i.high))) ∙ sym (object_bare h n));
     }
 
-pub holds_byte : {cells : List Cell} {bytes : List ℕ} {obs : List (Option ArenaObject)} → Holds cells bytes obs → (n c b : ℕ) → n < length cells
-    → In (byte_first n (heads cells n)) (byte_size (heads cells n)) c → Holds cells (set bytes c b) (set obs n (read n (heads cells n) cells (set bytes c b)))
-holds_byte {cells} {bytes} {obs} h n c b low i =
+pub bare_byte : {cells : List Cell} {bytes : List ℕ} {obs : List (Option ArenaObject)} → Bare cells bytes obs → (n c b : ℕ) → n < length cells
+    → In (byte_first n (heads cells n)) (byte_size (heads cells n)) c → Bare cells (set bytes c b) (set obs n (read n (heads cells n) cells (set bytes c b)))
+bare_byte {cells} {bytes} {obs} h n c b low i =
     let l : length (set bytes c b) ≡ length bytes = length-set bytes c b in
     let o : Option ArenaObject = read n (heads cells n) cells (set bytes c b) in
     record {
       kept = kept_more h.kept (omega arith) (omega arith);
-      objects = objects_are cells (set bytes c b) (set obs n o) (length-set obs n o ∙ length_held h)
+      objects = objects_are cells (set bytes c b) (set obs n o) (length-set obs n o ∙ length_bare h)
           (λ m _. elim (cases_eq m n) [
-            | inl e ↦ subst (λ (y : ℕ). object_at cells (set bytes c b) y ≡ object (set obs n o) y) (sym e) (sym (get_or-set_same obs n o None (omega (arith, length_held h))))
+            | inl e ↦ subst (λ (y : ℕ). object_at cells (set bytes c b) y ≡ object (set obs n o) y) (sym e) (sym (get_or-set_same obs n o None (omega (arith, length_bare h))))
             | inr ne ↦ object_same cells cells bytes (set bytes c b) m h.kept (omega arith) (omega arith) refl (λ x d j. refl)
                 (λ x d j. get_or-set_other bytes c x b d (λ q. ne (h.kept.bytes_apart.apart m n c (subst (λ (y : ℕ). In (byte_first m (heads cells m)) (byte_size (heads cells m)) y) q j) i)))
-                ∙ (sym (object_held h m) ∙ sym (get_or-set_other obs n m o None ne))
+                ∙ (sym (object_bare h m) ∙ sym (get_or-set_other obs n m o None ne))
           ]);
     }
+
+pub length_held : {cells : List Cell} {bytes : List ℕ} {obs : List (Option ArenaObject)} → Holds cells bytes obs → length obs ≡ length cells
+length_held h = length_bare (bare h)
+
+-- the links of a region that reads the same
+pub links_same : (cells cells' : List Cell) (start room len : ℕ) → start + 3 * room ≤ length cells → length cells ≤ length cells'
+    → ((c : ℕ) (d : Cell) → In start (3 * room) c → get_or cells' c d ≡ get_or cells c d)
+    → AreLinked (part cells start (3 * room)) room len → AreLinked (part cells' start (3 * room)) room len
+links_same cells cells' start room len inside longer same linked =
+    subst (λ (ps : List Cell). AreLinked ps room len) (sym (part_same cells cells' start (3 * room) inside (omega arith) same)) linked
+
+-- an object whose head and region nobody wrote
+pub links_kept : (cells cells' : List Cell) {limit bytes : ℕ} (n : ℕ) → Kept (heads cells) limit bytes → limit ≡ length cells → length cells ≤ length cells' → heads cells' n ≡ heads cells n
+    → ((c : ℕ) (d : Cell) → In (first n (heads cells n)) (size (heads cells n)) c → get_or cells' c d ≡ get_or cells c d)
+    → Links (heads cells n) cells → Links (heads cells' n) cells'
+links_kept cells cells' {limit} n k el longer e same linked r is =
+    let head : heads cells n ≡ DictHead r = sym e ∙ is in
+    links_same cells cells' r.start r.room r.len (omega (arith, subst (λ (h : Cell). first n h + size h ≤ limit) head (k.cells_apart.inside n))) longer
+    (λ c d i. same c d (subst (λ (h : Cell). In (first n h) (size h) c) (sym head) i)) (linked r head)
+
+-- the same four changes, where dicts are linked
+pub holds_used : {cells : List Cell} {bytes : List ℕ} {obs : List (Option ArenaObject)} → Holds cells bytes obs → (ps : List Cell)
+    → ((k : ℕ) → heads ps k ≡ blank) → Holds (cells ++ ps) bytes (obs ++ replicate (length ps) None)
+holds_used {cells} {bytes} {obs} h ps plain =
+    let l : length (cells ++ ps) ≡ length cells + length ps = length-append cells ps in
+    let same : heads (cells ++ ps) ≡ heads cells = heads_used cells ps plain in
+    let b = bare_used (bare h) ps plain in
+    record {
+      kept = b.kept;
+      linked = λ n. links_kept cells (cells ++ ps) n h.kept refl (omega arith) (ap (λ (x : ℕ → Cell). x n) same)
+          (λ c d i. get_or_append_left cells ps d c (omega (arith, h.kept.cells_apart.inside n, i.high))) (h.linked n);
+      objects = b.objects;
+    }
+
+pub holds_head : {cells : List Cell} {bytes : List ℕ} {obs : List (Option ArenaObject)} → Holds cells bytes obs → (n : ℕ) (c : Cell) → n < length cells
+    → Placed (heads cells) (length cells) (length bytes) n c → Links c cells → Holds (set cells n c) bytes (set obs n (read n c cells bytes))
+holds_head {cells} {bytes} {obs} h n c low p links =
+    let l : length (set cells n c) ≡ length cells = length-set cells n c in
+    let here : heads (set cells n c) n ≡ c = heads_set_same cells n c low p.head in
+    let b = bare_head (bare h) n c low p in
+    record {
+      kept = b.kept;
+      linked = λ m. elim (cases_eq m n) [
+        | inl e ↦ subst (λ (y : ℕ). Links (heads (set cells n c) y) (set cells n c)) (sym e) (λ r is.
+            let head : c ≡ DictHead r = sym here ∙ is in
+            links_same cells (set cells n c) r.start r.room r.len (subst (λ (x : Cell). first n x + size x ≤ length cells) head p.inside) (omega arith)
+            (λ x d i. get_or-set_other cells n x c d (λ q. p.outside (subst (λ (y : ℕ). In (first n c) (size c) y) q (subst (λ (y : Cell). In (first n y) (size y) x) (sym head) i))))
+            (links r head))
+        | inr ne ↦ links_kept cells (set cells n c) m h.kept refl (omega arith) (heads_set_other cells n m c ne)
+            (λ x d i. get_or-set_other cells n x c d (λ q. p.mine m (subst (λ (y : ℕ). In (first m (heads cells m)) (size (heads cells m)) y) q i))) (h.linked m)
+      ];
+      objects = b.objects;
+    }
+
+pub holds_written : {cells : List Cell} {bytes : List ℕ} {obs : List (Option ArenaObject)} → Holds cells bytes obs → (n : ℕ) (cells' : List Cell) → n < length cells → length cells' ≡ length cells
+    → heads cells' ≡ heads cells → ((c : ℕ) (d : Cell) → (In (first n (heads cells n)) (size (heads cells n)) c → ⊥) → get_or cells' c d ≡ get_or cells c d)
+    → Links (heads cells n) cells' → Holds cells' bytes (set obs n (read n (heads cells n) cells' bytes))
+holds_written {cells} {bytes} {obs} h n cells' low l same out links =
+    let b = bare_written (bare h) n cells' low l same out in
+    record {
+      kept = b.kept;
+      linked = λ m. elim (cases_eq m n) [
+        | inl e ↦ subst (λ (y : ℕ). Links (heads cells' y) cells') (sym e) (subst (λ (c : Cell). Links c cells') (sym (ap (λ (x : ℕ → Cell). x n) same)) links)
+        | inr ne ↦ links_kept cells cells' m h.kept refl (omega arith) (ap (λ (x : ℕ → Cell). x m) same)
+            (λ x d i. out x d (λ j. ne (h.kept.cells_apart.apart m n x i j))) (h.linked m)
+      ];
+      objects = b.objects;
+    }
+
+pub holds_plain : {cells : List Cell} {bytes : List ℕ} {obs : List (Option ArenaObject)} → Holds cells bytes obs → (n c : ℕ) (x : Cell) → head_of x ≡ blank → n < length cells
+    → In (first n (heads cells n)) (size (heads cells n)) c → Links (heads cells n) (set cells c x) → Holds (set cells c x) bytes (set obs n (read n (heads cells n) (set cells c x) bytes))
+holds_plain {cells} h n c x plain low i links =
+    holds_written h n (set cells c x) low (length-set cells c x) (heads_set_plain cells c x plain (h.kept.plain n c i))
+    (λ y d ni. get_or-set_other cells c y x d (λ q. ni (subst (λ (z : ℕ). In (first n (heads cells n)) (size (heads cells n)) z) (sym q) i))) links
+
+pub holds_item : {cells : List Cell} {bytes : List ℕ} {obs : List (Option ArenaObject)} → Holds cells bytes obs → (n c : ℕ) (v : Value) → n < length cells
+    → In (first n (heads cells n)) (size (heads cells n)) c → Links (heads cells n) (set cells c (cell_of v)) → Holds (set cells c (cell_of v)) bytes (set obs n (read n (heads cells n) (set cells c (cell_of v)) bytes))
+holds_item h n c v low i links = holds_plain h n c (cell_of v) (head_of-cell_of v) low i links
+
+pub holds_more_bytes : {cells : List Cell} {bytes : List ℕ} {obs : List (Option ArenaObject)} → Holds cells bytes obs → (bs : List ℕ) → Holds cells (bytes ++ bs) obs
+holds_more_bytes h bs = let b = bare_more_bytes (bare h) bs in record { kept = b.kept; linked = h.linked; objects = b.objects }
+
+pub holds_byte : {cells : List Cell} {bytes : List ℕ} {obs : List (Option ArenaObject)} → Holds cells bytes obs → (n c b : ℕ) → n < length cells
+    → In (byte_first n (heads cells n)) (byte_size (heads cells n)) c → Holds cells (set bytes c b) (set obs n (read n (heads cells n) cells (set bytes c b)))
+holds_byte h n c b low i = let bare_now = bare_byte (bare h) n c b low i in record { kept = bare_now.kept; linked = h.linked; objects = bare_now.objects }
 
 -- nothing yet
 pub holds_nothing : Holds [] [] []
@@ -223,5 +307,6 @@ holds_nothing =
         plain = λ n c i. refl;
         full = λ n. tt;
       };
+      linked = λ n r is. absurd cc;
       objects = refl;
     }

@@ -1,9 +1,11 @@
 pub mod Asking
 pub mod CellValues
+pub mod Chains
 pub mod DictCells
 pub mod DictSeen
 pub mod Frame
 pub mod Growths
+pub mod LinkCells
 pub mod ListCells
 pub mod ListSeen
 pub mod Moves

@@ -9,7 +9,7 @@ use Rattle.std.specs.List.{insert, remove}
 use Rattle.arena_heap.specs.declared.value.Value.{Value}
 use Rattle.arena_heap.specs.declared.cells.Cell.{Cell}
 use Rattle.arena_heap.specs.declared.cells.Region.{Region}
-use Rattle.arena_heap.specs.declared.cells.Cell.TheVariants.{ListHead}
+use Rattle.arena_heap.specs.declared.cells.Cell.TheVariants.{ListHead, DictHead}
 use Rattle.mpy_base.specs.World.{ListObject}
 use Rattle.mpy_base.specs.Weights.{IsRoom}
 use Rattle.arena_heap.specs.Values.{ArenaObject}
@@ -63,7 +63,8 @@ list_stored {cells} {bytes} {obs} h n i r v low e lt =
     ∙ (ap (map value_of) (take-set-lt r.len (part cells r.start r.room) i (cell_of v) lt) ∙ (map-set value_of (take r.len (part cells r.start r.room)) i (cell_of v) ∙ ap (set (items_in cells r) i) (value_of-cell_of v))) in
     subst (λ (o : Option ArenaObject). Holds cells1 bytes (set obs n o))
     (ap (λ (c : Cell). read n c cells1 bytes) e ∙ ap (λ vs. Some (ListObject vs r.room)) items)
-    (holds_item h n (r.start + i) v low (in_list cells n r e (r.start + i) (record { low = omega arith; high = omega arith })))
+    (holds_item h n (r.start + i) v low (in_list cells n r e (r.start + i) (record { low = omega arith; high = omega arith }))
+    (λ r2 q. let q2 : ListHead r ≡ DictHead r2 = sym e ∙ q in absurd cc))
 
 -- a header is written anew, of the same region
 pub list_again : {cells : List Cell} {bytes : List ℕ} {obs : List (Option ArenaObject)} → Holds cells bytes obs → (n len : ℕ) (r : Region) → n < length cells
@@ -80,7 +81,7 @@ list_again {cells} {bytes} {obs} h n len r low e full =
       outside = λ i. let q : heads cells n ≡ blank = h.kept.plain n n (in_list cells n r e n i) in let q2 : ListHead r ≡ blank = sym e ∙ q in cc;
       plain = λ x i. h.kept.plain n x (in_list cells n r e x i);
       full = (full, some_room cells h.kept n r e);
-    })
+    }) (λ r2 q. absurd cc)
 
 -- an item is taken out, and those behind it close up
 pub list_removed : {cells : List Cell} {bytes : List ℕ} {obs : List (Option ArenaObject)} → Holds cells bytes obs → (n i : ℕ) (r : Region) (cells1 : List Cell) → n < length cells
@@ -108,7 +109,7 @@ list_removed {cells} {bytes} {obs} h n i r cells1 low e lt l moved before behind
       ]
     ] in
     let o1 : Option ArenaObject = read n (heads cells n) cells1 bytes in
-    let h1 : Holds cells1 bytes (set obs n o1) = holds_written h n cells1 low l same out in
+    let h1 : Holds cells1 bytes (set obs n o1) = holds_written h n cells1 low l same out (λ r2 q. let q2 : ListHead r ≡ DictHead r2 = sym e ∙ q in absurd cc) in
     let e1 : heads cells1 n ≡ ListHead r = ap (λ (f : ℕ → Cell). f n) same ∙ e in
     let r1 : Region = record r { len = r.len - 1 } in
     let li = length-items cells r full ins in
@@ -150,7 +151,7 @@ list_moved {cells} {bytes} {obs} h n start rest r cells1 low e is_room es ec =
     ∙ (ap (map value_of) (take_at ps (replicate rest blank) r.len lp)
     ∙ ap (map value_of) (sym (take-take r.len r.room (drop r.start cells) full)))) in
     let moved = holds_moved h n (ListHead (record { start = length cells; len = r.len; room = length qs })) qs low
-    (λ q. let q2 : ListHead r ≡ blank = sym e ∙ q in cc) plain refl (omega arith, subst IsRoom (sym lq) is_room) (omega arith) refl refl in
+    (λ q. let q2 : ListHead r ≡ blank = sym e ∙ q in cc) plain refl (omega arith, subst IsRoom (sym lq) is_room) (omega arith) refl refl (λ r2 q. absurd cc) in
     subst (λ (x : List Cell). Holds (set x n (ListHead (record { start = start; len = r.len; room = r.len + rest }))) bytes (set (obs ++ replicate (r.len + rest) None) n (Some (ListObject (items_in cells r) (r.len + rest))))) (sym ec)
     (subst (λ (j : ℕ). Holds (set (cells ++ qs) n (ListHead (record { start = j; len = r.len; room = r.len + rest }))) bytes (set (obs ++ replicate (r.len + rest) None) n (Some (ListObject (items_in cells r) (r.len + rest))))) (sym es)
     (subst (λ vs. Holds (set (cells ++ qs) n (ListHead r1)) bytes (set (obs ++ replicate (r.len + rest) None) n (Some (ListObject vs (r.len + rest))))) items
@@ -187,7 +188,7 @@ list_inserted {cells} {bytes} {obs} h n i r v cells1 low e le lt l moved here be
       ]
     ] in
     let o1 : Option ArenaObject = read n (heads cells n) cells1 bytes in
-    let h1 : Holds cells1 bytes (set obs n o1) = holds_written h n cells1 low l same out in
+    let h1 : Holds cells1 bytes (set obs n o1) = holds_written h n cells1 low l same out (λ r2 q. let q2 : ListHead r ≡ DictHead r2 = sym e ∙ q in absurd cc) in
     let e1 : heads cells1 n ≡ ListHead r = ap (λ (f : ℕ → Cell). f n) same ∙ e in
     let r1 : Region = record r { len = r.len + 1 } in
     let vs : List Value = items_in cells r in

@@ -4,14 +4,14 @@ use Rattle.std.proofs.lemmas.List.{get_or_append_left, get_or-append_right}
 use Rattle.std.proofs.lemmas.Bool.{cases_lt}
 use Rattle.arena_heap.specs.declared.cells.Cell.{Cell}
 use Rattle.arena_heap.specs.Values.{ArenaObject}
-use Rattle.arena_heap.specs.Cells.{blank, head_of, heads, first, size, byte_size, byte_first, Full, read, In, Holds}
+use Rattle.arena_heap.specs.Cells.{blank, head_of, heads, first, size, byte_size, byte_first, Full, read, In, Links, Holds}
 use Rattle.arena_heap.proofs.Frame.{holds_used, holds_head, heads_past}
 
 pub holds_moved : {cells : List Cell} {bytes : List ℕ} {obs : List (Option ArenaObject)} → Holds cells bytes obs → (n : ℕ) (c : Cell) (qs : List Cell) → n < length cells
     → (heads cells n ≡ blank → ⊥) → ((k : ℕ) → heads qs k ≡ blank) → head_of c ≡ c → Full c → byte_first n c + byte_size c ≡ 0
-    → first n c ≡ length cells → size c ≡ length qs
+    → first n c ≡ length cells → size c ≡ length qs → Links c (cells ++ qs)
     → Holds (set (cells ++ qs) n c) bytes (set (obs ++ replicate (length qs) None) n (read n c (cells ++ qs) bytes))
-holds_moved {cells} {bytes} {obs} h n c qs low live plain head full nobytes start sz =
+holds_moved {cells} {bytes} {obs} h n c qs low live plain head full nobytes start sz links =
     let cells1 : List Cell = cells ++ qs in
     let l1 : length cells1 ≡ length cells + length qs = length-append cells qs in
     let h1 : Holds cells1 bytes (obs ++ replicate (length qs) None) = holds_used h qs plain in
@@ -31,4 +31,4 @@ holds_moved {cells} {bytes} {obs} h n c qs low live plain head full nobytes star
       outside = λ i. omega (arith, i.low);
       plain = λ x i. same x ∙ heads_past cells x (omega (arith, i.low));
       full = full;
-    })
+    }) links

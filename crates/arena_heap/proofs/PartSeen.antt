@@ -83,7 +83,8 @@ module _ (a : Inside) {h : Heap Value ℕ} (i : Invariant a) (e : seen a ≡ h) 
       let held1 : Holds cells1 a.bytes.items (set (objects a) n (Some o)) =
       subst (λ (y : Option ArenaObject). Holds cells1 a.bytes.items (set (objects a) n y)) reads
       (holds_plain (holds_now a i) n (n + 2) x refl (seen_within a e AnException n is)
-      (subst (λ (c : Cell). In (first n c) (size c) (n + 2)) (sym head.1) (record { low = omega arith; high = omega arith }))) in
+      (subst (λ (c : Cell). In (first n c) (size c) (n + 2)) (sym head.1) (record { low = omega arith; high = omega arith }))
+      (λ r2 q. let q2 : variants.ExcHead head.0 ≡ variants.DictHead r2 = sym head.1 ∙ q in absurd cc)) in
       let sound = sound_parts a i e n (ExceptionObject head.0 args was.file was.line was.name) old in (
         replaced_again a i e AnException n is o refl cells1 a.bytes.items (vec_capacity a.cells) (vec_capacity a.bytes) held1 refl (le_refl _) (le_refl _) sound.0 sound.1,
         replaced_seen a e n (Some o) cells1 a.bytes.items held1 refl
@@ -112,7 +113,8 @@ module _ (a : Inside) {h : Heap Value ℕ} (i : Invariant a) (e : seen a ≡ h) 
       let held1 : Holds cells1 a.bytes.items (set (objects a) n (Some o)) =
       subst (λ (y : Option ArenaObject). Holds cells1 a.bytes.items (set (objects a) n y)) reads
       (holds_plain (holds_now a i) n (n + 1) x refl (seen_within a e AModule n is)
-      (subst (λ (c : Cell). In (first n c) (size c) (n + 1)) (sym head.1) (record { low = omega arith; high = omega arith }))) in (
+      (subst (λ (c : Cell). In (first n c) (size c) (n + 1)) (sym head.1) (record { low = omega arith; high = omega arith }))
+      (λ r2 q. let q2 : variants.ModuleHead head.0 ≡ variants.DictHead r2 = sym head.1 ∙ q in absurd cc)) in (
         replaced_again a i e AModule n is o refl cells1 a.bytes.items (vec_capacity a.cells) (vec_capacity a.bytes) held1 refl (le_refl _) (le_refl _)
             (all_one (Leads h.objects) (values.Dict (record { cell = names.cell })) (record { meets = leads; small = tt })) tt,
         replaced_seen a e n (Some o) cells1 a.bytes.items held1 refl

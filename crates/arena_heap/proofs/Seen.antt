@@ -26,7 +26,7 @@ abbrev pub Invariant : Inside → Type 0
 Invariant a = IsArena a.cells.items a.bytes.items a.room.cells a.room.bytes (vec_capacity a.cells) (vec_capacity a.bytes)
 
 pub holds_now : (a : Inside) → Invariant a → Holds a.cells.items a.bytes.items (objects a)
-holds_now a i = record { kept = i.kept; objects = refl }
+holds_now a i = record { kept = i.kept; linked = i.linked; objects = refl }
 
 pub seen_is : (a : Inside) {h : Heap Value ℕ} → seen a ≡ h → (kind : ObjectKind) (n : ℕ) → IsA h.objects kind n → IsA (objects a) kind n
 seen_is a e kind n i = subst (λ (h : Heap Value ℕ). IsA h.objects kind n) (sym e) i
@@ -62,6 +62,7 @@ pub arena_again : (a : Inside) (cells : List Cell) (bytes : List ℕ) (obs : Lis
 arena_again a cells bytes obs cell_capacity byte_capacity i h s lc lb cc cb =
     record {
       kept = h.kept;
+      linked = h.linked;
       sound = subst Sound (sym h.objects) s;
       cells_fit = lc;
       bytes_fit = lb;

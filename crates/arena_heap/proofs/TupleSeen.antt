@@ -9,7 +9,7 @@ use Rattle.arena_heap.specs.declared.value.Value.{Value}
 use Rattle.arena_heap.specs.declared.value.Value.TheVariants as values
 use Rattle.arena_heap.specs.declared.cells.Cell.{Cell}
 use Rattle.arena_heap.specs.declared.cells.Span.{Span}
-use Rattle.arena_heap.specs.declared.cells.Cell.TheVariants.{TupleHead, TextHead}
+use Rattle.arena_heap.specs.declared.cells.Cell.TheVariants.{TupleHead, TextHead, DictHead}
 use Rattle.mpy_base.specs.World.{Heap, TupleObject, TextObject, ATuple, AText, IsA, object, items_of, text_of, items_at, text_at, with_tuple, with_text}
 use Rattle.arena_heap.specs.Values.{ArenaObject, Leads, held, IsFormed}
 use Rattle.arena_heap.specs.Cells.{blank, cell_of, value_of, kind_at, heads, first, size, byte_first, byte_size, part, read, heap_of, In, Kept, Holds, IsArena}
@@ -42,7 +42,8 @@ tuple_stored {cells} {bytes} {obs} h n i k v low e lt =
     (ap (λ (c : Cell). read n c cells1 bytes) e
     ∙ ap (λ vs. Some (TupleObject vs)) (ap (map value_of) (part-set cells (suc n) k i (cell_of v) lt)
     ∙ (map-set value_of (part cells (suc n) k) i (cell_of v) ∙ ap (set (map value_of (part cells (suc n) k)) i) (value_of-cell_of v))))
-    (holds_item h n (suc n + i) v low (subst (λ (c : Cell). In (first n c) (size c) (suc n + i)) (sym e) (record { low = omega arith; high = omega arith })))
+    (holds_item h n (suc n + i) v low (subst (λ (c : Cell). In (first n c) (size c) (suc n + i)) (sym e) (record { low = omega arith; high = omega arith }))
+    (λ r2 q. let q2 : TupleHead k ≡ DictHead r2 = sym e ∙ q in absurd cc))
 
 pub text_stored : {cells : List Cell} {bytes : List ℕ} {obs : List (Option ArenaObject)} → Holds cells bytes obs → (n i b : ℕ) (t : Span) → n < length cells
     → heads cells n ≡ TextHead t → i < t.len → Holds cells (set bytes (t.start + i) b) (set obs n (Some (TextObject (set (part bytes t.start t.len) i b))))

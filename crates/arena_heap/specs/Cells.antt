@@ -8,7 +8,9 @@ use Rattle.arena_heap.specs.declared.cells.Cell.{Cell}
 use Rattle.arena_heap.specs.declared.cells.Cell.TheVariants as cells
 use Rattle.mpy_base.specs.World.{ListObject, TupleObject, TextObject, DictObject, FunctionObject, ExceptionObject, MethodObject, RangeObject, ModuleObject, Heap, ObjectKind, AList, ATuple, AText, ADict, AFunction, AnException, AMethod, ARange, AModule}
 use Rattle.mpy_base.specs.Weights.{IsRoom}
+use Rattle.arena_heap.specs.declared.cells.Region.{Region}
 use Rattle.arena_heap.specs.Values.{ArenaObject, Sound}
+use Rattle.arena_heap.specs.Links.{bucket_of, AreChained}
 
 abbrev pub blank : Cell
 blank = cells.None
@@ -122,12 +124,38 @@ Full _ = Unit {0}
 abbrev pub part : {X : Type 0} → List X → ℕ → ℕ → List X
 part xs from size = take size (drop from xs)
 
--- three cells for each pair: its key, its value, and one more
+-- three cells for each place of a dict: the key and the value of its pair, and two links
 abbrev pub pair_in : List Cell → ℕ → Value × Value
 pair_in ps i = (value_of (slice_index_or ps (3 * i) blank), value_of (slice_index_or ps (3 * i + 1) blank))
 
 abbrev pub pairs_in : List Cell → ℕ → List (Value × Value)
 pairs_in ps n = map (pair_in ps) (range_with_len 0 n)
+
+-- the two links in a cell: 0, or one more than the place of a pair
+abbrev pub first_link : Cell → ℕ
+first_link (cells.Links first next) = first
+first_link _ = 0
+
+abbrev pub next_link : Cell → ℕ
+next_link (cells.Links first next) = next
+next_link _ = 0
+
+abbrev pub bucket_in : List Cell → ℕ → ℕ → ℕ
+bucket_in ps room at = bucket_of room (value_of (slice_index_or ps (3 * at) blank))
+
+abbrev pub first_in : List Cell → ℕ → ℕ
+first_in ps bucket = first_link (slice_index_or ps (3 * bucket + 2) blank)
+
+abbrev pub next_in : List Cell → ℕ → ℕ
+next_in ps at = next_link (slice_index_or ps (3 * at + 2) blank)
+
+-- the links of a dict's cells lead through its pairs
+abbrev pub AreLinked : List Cell → ℕ → ℕ → Type 0
+AreLinked ps room len = AreChained (bucket_in ps room) (first_in ps) (next_in ps) room len
+
+-- where the head is that of a dict, its links lead through its pairs
+abbrev pub Links : Cell → List Cell → Type 0
+Links head whole = (r : Region) → head ≡ cells.DictHead r → AreLinked (part whole r.start (3 * r.room)) r.room r.len
 
 -- the dict that a cell leads to, if it does
 abbrev pub dict_in : Cell → Option ℕ
@@ -199,6 +227,7 @@ heap_of cells bytes cell_size byte_size =
 -- what is kept of an arena of these sizes, whose vectors have this capacity
 pub record IsArena (cells : List Cell) (bytes : List ℕ) (cell_size byte_size cell_capacity byte_capacity : ℕ) : Type 0 where
   pub kept : Kept (heads cells) (length cells) (length bytes)
+  pub linked : (n : ℕ) → Links (heads cells n) cells
   pub sound : Sound (objects_of cells bytes)
   pub cells_fit : length cells ≤ cell_size
   pub bytes_fit : length bytes ≤ byte_size
@@ -207,7 +236,15 @@ pub record IsArena (cells : List Cell) (bytes : List ℕ) (cell_size byte_size c
   pub cells_taken : cell_size ≤ cell_capacity
   pub bytes_taken : byte_size ≤ byte_capacity
 
--- the cells and bytes are kept, and hold these objects
+-- the cells and bytes are kept, dicts are linked, and these objects are held
 pub record Holds (cells : List Cell) (bytes : List ℕ) (obs : List (Option ArenaObject)) : Type 0 where
   pub kept : Kept (heads cells) (length cells) (length bytes)
+  pub linked : (n : ℕ) → Links (heads cells n) cells
   pub objects : objects_of cells bytes ≡ obs
+
+-- a dict's cells were written at its links alone
+pub record Relinked (start room : ℕ) (old new : List Cell) : Type 0 where
+  pub same_length : length new ≡ length old
+  pub same_heads : (c : ℕ) → heads new c ≡ heads old c
+  pub outside : (c : ℕ) (d : Cell) → (In start (3 * room) c → ⊥) → slice_index_or new c d ≡ slice_index_or old c d
+  pub pairs : (at : ℕ) → at < room → pair_in (part new start (3 * room)) at ≡ pair_in (part old start (3 * room)) at

@@ -1,7 +1,7 @@
 //! What a cell of an arena holds.
 
 ghost use Rattle.std.specs.Prelude.{◌≡◌, option_map};
-ghost use Rattle.arena_heap.specs.Cells.{cell_of, value_of, dict_number, dict_in, place_in};
+ghost use Rattle.arena_heap.specs.Cells.{cell_of, value_of, dict_number, dict_in, place_in, first_link, next_link};
 
 use crate::value::{
     ConstNo, DictNo, ExcNo, FunNo, ListNo, MethodNo, ModuleNo, RangeNo, StrNo, TextNo, TupleNo,
@@ -60,6 +60,9 @@ pub(crate) enum Cell {
     /// Its name. Its namespace follows, or None.
     ModuleHead(u32),
     Place { file: u32, line: u32, name: u32 },
+    /// What stands behind a pair of a dict, each 0 or one more than a place: `first` leads to the last pair of the bucket
+    /// with this place's number, `next` to the pair in front of this place's own in its bucket.
+    Links { first: u32, next: u32 },
 }
 
 impl Cell {
@@ -141,6 +144,26 @@ impl Cell {
         match self {
             Cell::Place { file, line, name } => (file, line, name),
             _ => (1, 0, 1),
+        }
+    }
+
+    /// The link to the last pair of a bucket, and 0 where the cell holds no links.
+    pub(crate) fn first(self) -> u32
+        ensures { result ≡ first_link self }
+    {
+        match self {
+            Cell::Links { first, .. } => first,
+            _ => 0,
+        }
+    }
+
+    /// The link to the pair in front, and 0 where the cell holds no links.
+    pub(crate) fn next(self) -> u32
+        ensures { result ≡ next_link self }
+    {
+        match self {
+            Cell::Links { next, .. } => next,
+            _ => 0,
         }
     }
 }

@@ -27,6 +27,10 @@ pub trait Constants {
     fn empty_law(&self)
         ensures { text_of self.now (StrNo.Pool 1) ≡ Some [] };
 
+    /// No two numbers have one text.
+    fn one_number_law(&self)
+        ensures { (text : List ℕ) (m n : ℕ) → text_of self.now (StrNo.Pool m) ≡ Some text → text_of self.now (StrNo.Pool n) ≡ Some text → m ≡ n };
+
     /// No constant tuple holds an object of an arena.
     fn items_law(&self)
         ensures { HoldNoObjects (items_of self.now) };

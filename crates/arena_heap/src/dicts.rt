@@ -6,10 +6,12 @@ ghost use Rattle.mpy_base.specs.World.{ADict, IsA, Later, pairs_at, room_at, wit
 ghost use Rattle.mpy_base.specs.Weights.{Fits, Refused, dict_growth, with_dict_room, with_pairs};
 ghost use Rattle.arena_heap.specs.Values.{Leads, IsKey};
 ghost use Rattle.arena_heap.specs.Dicts.{with_value};
+ghost use Rattle.arena_heap.specs.Links.{IsLast, bucket_of, buckets_at};
 
 use crate::arena::Arena;
 use crate::cells::{Cell, Region};
 use crate::heads::dict_region;
+use crate::links::{bucket_of, link, link_all};
 use crate::lists::move_cells;
 use crate::value::{DictNo, Value};
 use mpy_base::NoRoom;
@@ -39,6 +41,26 @@ pub fn dict_at(arena: &Arena, d: DictNo, at: u32) -> Option<(Value, Value)>
     } else {
         None
     }
+}
+
+/// One more than the place of the last pair in a key's bucket, or 0 where there is none. Equal keys have one bucket.
+pub fn dict_last(arena: &Arena, d: DictNo, key: Value) -> u32
+    requires { IsA arena.now.objects ADict d.cell }
+    ensures { IsLast (buckets_at arena.now d.cell) (bucket_of (room_at arena.now d.cell) key) (length (pairs_at arena.now d.cell)) result }
+{
+    let region = dict_region(&arena.cells, d.cell);
+    let bucket = bucket_of(region.room, key);
+    arena.cells[(region.start + 3 * bucket + 2) as usize].first()
+}
+
+/// One more than the place of the last pair in front of a pair in its bucket, or 0 where there is none.
+pub fn dict_before(arena: &Arena, d: DictNo, at: u32) -> u32
+    requires dict { IsA arena.now.objects ADict d.cell }
+    requires within { at < length (pairs_at arena.now d.cell) }
+    ensures { IsLast (buckets_at arena.now d.cell) (buckets_at arena.now d.cell at) at result }
+{
+    let region = dict_region(&arena.cells, d.cell);
+    arena.cells[(region.start + 3 * at + 2) as usize].next()
 }
 
 /// Puts a value in the place of a pair's value. Its key stays.
@@ -74,6 +96,7 @@ pub(crate) fn reserve_dict(arena: &mut Arena, d: DictNo, pairs: u64) -> Result<(
         len: region.len,
         room,
     };
+    link_all(&mut arena.cells, moved);
     arena.cells[d.cell as usize] = Cell::DictHead(moved);
     Ok(())
 }
@@ -91,6 +114,7 @@ pub(crate) fn put_in_dict(arena: &mut Arena, d: DictNo, key: Value, v: Value)
     let place = (region.start + 3 * region.len) as usize;
     arena.cells[place] = Cell::of(key);
     arena.cells[place + 1] = Cell::of(v);
+    link(&mut arena.cells, region, region.len);
     let longer = Region {
         start: region.start,
         len: region.len + 1,
@@ -136,6 +160,7 @@ pub fn dict_remove_at(arena: &mut Arena, d: DictNo, at: u32) -> (Value, Value)
         len: region.len - 1,
         room: region.room,
     };
+    link_all(&mut arena.cells, shorter);
     arena.cells[d.cell as usize] = Cell::DictHead(shorter);
     (key, v)
 }

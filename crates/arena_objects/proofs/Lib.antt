@@ -6,3 +6,6 @@ pub mod RangeNumbers
 pub mod Gifts
 pub mod MadeTexts
 pub mod Extension
+pub mod KeyCodes
+pub mod Following
+pub mod Standing

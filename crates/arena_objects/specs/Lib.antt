@@ -1,3 +1,4 @@
+pub mod Found
 pub mod Iterables
 pub mod Keys
 pub mod PlainKeys

@@ -9,38 +9,11 @@ ghost use Rattle.arena_heap.specs.Constants.{IsTold};
 ghost use Rattle.arena_heap.specs.Dicts.{with_value};
 ghost use Rattle.arena_objects.specs.Keys.{StandsAt, Lacks, IsValueOf, KeepsOthers, IsDistinct, AllTold};
 
-use crate::keys::Key;
+use crate::finding::place_of;
 use arena_heap::{
-    Arena, Constants, DictNo, Value, dict_at, dict_len, dict_push, dict_remove_at, dict_set_at,
+    Arena, Constants, DictNo, Value, dict_at, dict_push, dict_remove_at, dict_set_at,
 };
 use mpy_base::NoRoom;
-
-/// The place of the first pair whose key is equal.
-pub(crate) fn place_of<C: Constants>(
-    arena: &Arena,
-    consts: &C,
-    d: DictNo,
-    key: Value,
-) -> Option<u32>
-    requires dict { IsA arena.now.objects ADict d.cell }
-    requires key { IsKey key }
-    requires leads { Leads arena.now.objects key }
-    requires told { IsTold (C.text_of consts.now) (C.items_of consts.now) key }
-    requires all_told { AllTold (C.text_of consts.now) (C.items_of consts.now) arena.now.objects }
-    ensures found { IfSome result (StandsAt (C.text_of consts.now) arena.now d.cell key) }
-    ensures none { IfNone result (Lacks (C.text_of consts.now) arena.now d.cell key) }
-{
-    let sought = Key::of(arena, consts, key);
-    for at in 0..dict_len(arena, d) {
-        let Some((other, _)) = dict_at(arena, d, at) else {
-            unreachable!()
-        };
-        if Key::of(arena, consts, other).is(sought) {
-            return Some(at);
-        }
-    }
-    None
-}
 
 /// The value of a key.
 pub fn dict_get<C: Constants>(arena: &Arena, consts: &C, d: DictNo, key: Value) -> Option<Value>

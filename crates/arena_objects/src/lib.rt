@@ -4,6 +4,7 @@
 
 mod dicts;
 mod extend;
+mod finding;
 mod keys;
 mod ranges;
 mod strs;

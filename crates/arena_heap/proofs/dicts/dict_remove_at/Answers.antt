@@ -1,15 +1,14 @@
-use Rattle.std.proofs.Common.{ℕ, ◌+◌, ◌-◌, ◌*◌, ◌≡◌, List, Some, sym, ◌∙◌, ap, subst, set, get_or, refl, arith}
+use Rattle.std.proofs.Common.{ℕ, ◌+◌, ◌*◌, ◌≡◌, Some, sym, ◌∙◌, ap, subst, get_or, refl, le_refl, arith}
 use Rattle.std.proofs.lemmas.Option.{slice_get-get_or}
 use Rattle.std.specs.List.{remove}
+use Rattle.std.specs.Vec.{vec_capacity}
 use Rattle.arena_heap.specs.declared.value.Value.{Value}
-use Rattle.arena_heap.specs.declared.cells.Cell.TheVariants.{DictHead}
-use Rattle.mpy_base.specs.World.{Heap, ADict, DictObject, Later, pairs_at, room_at}
+use Rattle.mpy_base.specs.World.{Heap, ADict, Later, pairs_at}
 use Rattle.mpy_base.proofs.Worlds.{later_dict}
 use Rattle.arena_heap.specs.Values.{Leads}
-use Rattle.arena_heap.specs.Cells.{Holds}
-use Rattle.arena_heap.proofs.DictCells.{dict_removed}
-use Rattle.arena_heap.proofs.DictSeen.{seen_dict_len, seen_pair, dict_pairs, dict_lies, removed_pairs, dict_holds, dict_again_seen}
-use Rattle.arena_heap.proofs.Seen.{objects, seen_within, seen_head, holds_now, replaced_seen}
+use Rattle.arena_heap.proofs.DictCells.{removed_plain}
+use Rattle.arena_heap.proofs.DictSeen.{seen_dict_len, seen_pair, dict_pairs, dict_lies, removed_seen}
+use Rattle.arena_heap.proofs.Seen.{seen_within, seen_head, holds_now}
 use Rattle.arena_heap.proofs.dicts.dict_remove_at.Goals as goal
 
 pub dict_region-region-requires-clause-within : goal.dict_region-region-requires-clause-within
@@ -67,29 +66,33 @@ pair c d =
     seen_pair c.arena.inside c.arena.view_is c.args.d.cell c.dict_region-region.ensures c.arena.invariant c.args.at (r.start + 3 * c.args.at) (r.start + 3 * c.args.at + 1) (omega arith) refl (omega arith)
     c.index.result.now c.index-2.result.now _ _ c.index.ensures c.value-key.ensures c.index-2.ensures c.value-v.ensures d
 
-new : (c : goal.After-arena-1) → Holds (set c.copy_within.new.self.items c.args.d.cell (DictHead (record c.dict_region-region.result { len = c.dict_region-region.result.len - 1 }))) c.arena.inside.bytes.items
-    (set (objects c.arena.inside) c.args.d.cell (Some (DictObject (remove (pairs_at c.args.arena.now c.args.d.cell) c.args.at) (room_at c.args.arena.now c.args.d.cell))))
-new c =
+pub link_all-requires-clause-plain : goal.link_all-requires-clause-plain
+link_all-requires-clause-plain c =
     let a = c.arena.inside in
     let n = c.args.d.cell in
     let r = c.dict_region-region.result in
     let b = c.copy_within.ensures.by_index in
     let lies = dict_lies a c.arena.invariant n c.dict_region-region.ensures in
     let len = seen_dict_len a c.arena.view_is n c.dict_region-region.ensures in
-    dict_holds a c.arena.view_is n c.dict_region-region.ensures (λ (ps : List (Value × Value)). remove ps c.args.at) _
-    (dict_removed (holds_now a c.arena.invariant) n c.args.at r c.copy_within.new.self.items
+    removed_plain (holds_now a c.arena.invariant) n c.args.at r c.copy_within.new.self.items
     (seen_within a c.arena.view_is ADict n c.requires.dict) c.dict_region-region.ensures (omega arith) (omega arith)
     (λ k d lo hi. b.0 k d lo (omega arith) ∙ ap (λ j. get_or a.cells.items j d) (omega arith))
     (λ k d hi. b.1 k d hi)
-    (λ k d lo. b.2 k d (omega arith)))
+    (λ k d lo. b.2 k d (omega arith))
 
 pub invariant_of-arena : goal.invariant_of-arena
 invariant_of-arena c =
     let a = c.arena.inside in
     let n = c.args.d.cell in
-    let h = c.args.arena.now in
-    dict_again_seen a c.arena.invariant c.arena.view_is n c.requires.dict (remove (pairs_at h n) c.args.at) _ _ (new c) (omega (arith, c.copy_within.ensures.capacity))
-    (removed_pairs h.objects (pairs_at h n) c.args.at (dict_pairs a c.arena.invariant c.arena.view_is n c.requires.dict))
+    let r = c.dict_region-region.result in
+    let b = c.copy_within.ensures.by_index in
+    let lies = dict_lies a c.arena.invariant n c.dict_region-region.ensures in
+    let len = seen_dict_len a c.arena.view_is n c.dict_region-region.ensures in
+    (removed_seen a c.arena.invariant c.arena.view_is n c.dict_region-region.ensures c.requires.dict c.args.at c.copy_within.new.self.items c.link_all.new.cells.items _ c.requires.within (omega arith)
+    (λ k d lo hi. b.0 k d lo (omega arith) ∙ ap (λ j. get_or a.cells.items j d) (omega arith))
+    (λ k d hi. b.1 k d hi)
+    (λ k d lo. b.2 k d (omega arith))
+    c.link_all.ensures.relinked c.link_all.ensures.linked (omega (arith, c.copy_within.ensures.capacity, c.link_all.ensures.capacity))).0
 
 pub returns-clause-pair : goal.returns-clause-pair
 returns-clause-pair c =
@@ -97,7 +100,18 @@ returns-clause-pair c =
     slice_get-get_or (pairs_at c.args.arena.now c.args.d.cell) c.args.at d c.requires.within ∙ ap (λ (p : Value × Value). Some p) (sym (pair c d))
 
 pub returns-clause-removed : goal.returns-clause-removed
-returns-clause-removed c = replaced_seen c.arena.inside c.arena.view_is c.args.d.cell _ _ c.arena.inside.bytes.items (new c) refl
+returns-clause-removed c =
+    let a = c.arena.inside in
+    let n = c.args.d.cell in
+    let r = c.dict_region-region.result in
+    let b = c.copy_within.ensures.by_index in
+    let lies = dict_lies a c.arena.invariant n c.dict_region-region.ensures in
+    let len = seen_dict_len a c.arena.view_is n c.dict_region-region.ensures in
+    (removed_seen a c.arena.invariant c.arena.view_is n c.dict_region-region.ensures c.requires.dict c.args.at c.copy_within.new.self.items c.link_all.new.cells.items (vec_capacity a.cells) c.requires.within (omega arith)
+    (λ k d lo hi. b.0 k d lo (omega arith) ∙ ap (λ j. get_or a.cells.items j d) (omega arith))
+    (λ k d hi. b.1 k d hi)
+    (λ k d lo. b.2 k d (omega arith))
+    c.link_all.ensures.relinked c.link_all.ensures.linked (le_refl _)).1
 
 pub returns-clause-leads : goal.returns-clause-leads
 returns-clause-leads c =

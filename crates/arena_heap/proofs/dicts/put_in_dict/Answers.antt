@@ -1,14 +1,8 @@
-use Rattle.std.proofs.Common.{ℕ, ◌+◌, ◌*◌, ◌≡◌, List, [], ◌∷◌, ◌++◌, Some, sym, ◌∙◌, ap, subst, set, refl, le_refl, arith}
-use Rattle.std.proofs.Math.Path.{ap₂}
-use Rattle.std.proofs.lemmas.List.Elements.{All-push}
-use Rattle.arena_heap.specs.declared.value.Value.{Value}
-use Rattle.arena_heap.specs.declared.cells.Cell.{Cell}
-use Rattle.arena_heap.specs.declared.cells.Cell.TheVariants.{DictHead}
-use Rattle.mpy_base.specs.World.{ADict, DictObject, pairs_at, room_at}
-use Rattle.arena_heap.specs.Cells.{Holds}
-use Rattle.arena_heap.proofs.DictCells.{region_pairs, dict_pushed}
-use Rattle.arena_heap.proofs.DictSeen.{IsPair, seen_dict_room, seen_dict_len, dict_pairs, dict_lies, dict_holds, dict_again_seen}
-use Rattle.arena_heap.proofs.Seen.{objects, seen_within, seen_head, holds_now, replaced_seen}
+use Rattle.std.proofs.Common.{arith}
+use Rattle.mpy_base.specs.World.{ADict}
+use Rattle.arena_heap.proofs.DictCells.{pushed_plain, pushed_linked}
+use Rattle.arena_heap.proofs.DictSeen.{seen_dict_room, seen_dict_len, dict_lies, pushed_seen}
+use Rattle.arena_heap.proofs.Seen.{seen_within, seen_head, holds_now}
 use Rattle.arena_heap.proofs.dicts.put_in_dict.Goals as goal
 
 pub dict_region-region-requires-clause-within : goal.dict_region-region-requires-clause-within
@@ -31,31 +25,34 @@ index_mut-requires-2 c =
     let room = seen_dict_room c.arena.inside c.arena.view_is c.args.d.cell c.dict_region-region.ensures in
     omega arith
 
-new : (c : goal.After-arena-3-1) → Holds (set (set (set c.arena.inside.cells.items (c.dict_region-region.result.start + 3 * c.dict_region-region.result.len) c.of.result) (c.dict_region-region.result.start + 3 * c.dict_region-region.result.len + 1) c.of-2.result)
-    c.args.d.cell (DictHead (record c.dict_region-region.result { len = c.dict_region-region.result.len + 1 }))) c.arena.inside.bytes.items
-    (set (objects c.arena.inside) c.args.d.cell (Some (DictObject (pairs_at c.args.arena.now c.args.d.cell ++ (c.args.key, c.args.v) ∷ []) (room_at c.args.arena.now c.args.d.cell))))
-new c =
+pub link-requires-clause-within : goal.link-requires-clause-within
+link-requires-clause-within c =
+    let len = seen_dict_len c.arena.inside c.arena.view_is c.args.d.cell c.dict_region-region.ensures in
+    let room = seen_dict_room c.arena.inside c.arena.view_is c.args.d.cell c.dict_region-region.ensures in
+    omega (arith, c.requires.room)
+
+pub link-requires-clause-plain : goal.link-requires-clause-plain
+link-requires-clause-plain c =
     let a = c.arena.inside in
-    let n = c.args.d.cell in
-    let r = c.dict_region-region.result in
-    let head : Cell = DictHead (record r { len = r.len + 1 }) in
-    let len = seen_dict_len a c.arena.view_is n c.dict_region-region.ensures in
-    let room = seen_dict_room a c.arena.view_is n c.dict_region-region.ensures in
-    let place : r.start + (3 * r.len + 1) ≡ r.start + 3 * r.len + 1 = omega arith in
-    dict_holds a c.arena.view_is n c.dict_region-region.ensures (λ (ps : List (Value × Value)). ps ++ (c.args.key, c.args.v) ∷ []) _
-    (subst (λ (x : List Cell). Holds x a.bytes.items (set (objects a) n (Some (DictObject (region_pairs a.cells.items r ++ (c.args.key, c.args.v) ∷ []) r.room))))
-    (ap₂ (λ (x y : Cell). set (set (set a.cells.items (r.start + 3 * r.len) x) (r.start + (3 * r.len + 1)) y) n head) (sym c.of.ensures) (sym c.of-2.ensures)
-    ∙ ap (λ (j : ℕ). set (set (set a.cells.items (r.start + 3 * r.len) c.of.result) j c.of-2.result) n head) place)
-    (dict_pushed (holds_now a c.arena.invariant) n r c.args.key c.args.v (seen_within a c.arena.view_is ADict n c.requires.dict) c.dict_region-region.ensures (omega arith)))
+    let len = seen_dict_len a c.arena.view_is c.args.d.cell c.dict_region-region.ensures in
+    let room = seen_dict_room a c.arena.view_is c.args.d.cell c.dict_region-region.ensures in
+    pushed_plain (holds_now a c.arena.invariant) c.args.d.cell c.dict_region-region.result c.args.key c.args.v c.of.result c.of-2.result
+    (seen_within a c.arena.view_is ADict c.args.d.cell c.requires.dict) c.dict_region-region.ensures (omega (arith, c.requires.room)) c.of.ensures c.of-2.ensures
+
+pub link-requires-clause-linked : goal.link-requires-clause-linked
+link-requires-clause-linked c =
+    let a = c.arena.inside in
+    let len = seen_dict_len a c.arena.view_is c.args.d.cell c.dict_region-region.ensures in
+    let room = seen_dict_room a c.arena.view_is c.args.d.cell c.dict_region-region.ensures in
+    pushed_linked (holds_now a c.arena.invariant) c.args.d.cell c.dict_region-region.result c.args.key c.args.v c.of.result c.of-2.result
+    (seen_within a c.arena.view_is ADict c.args.d.cell c.requires.dict) c.dict_region-region.ensures (omega (arith, c.requires.room)) c.of.ensures c.of-2.ensures
 
 pub invariant_of-arena : goal.invariant_of-arena
 invariant_of-arena c =
-    let a = c.arena.inside in
-    let n = c.args.d.cell in
-    let h = c.args.arena.now in
-    dict_again_seen a c.arena.invariant c.arena.view_is n c.requires.dict (pairs_at h n ++ (c.args.key, c.args.v) ∷ []) _ _ (new c) (le_refl _)
-    (All-push (IsPair h.objects) (pairs_at h n) (c.args.key, c.args.v) (dict_pairs a c.arena.invariant c.arena.view_is n c.requires.dict)
-    (record { key = c.requires.key; key_leads = c.requires.key_leads; leads = c.requires.leads }))
+    (pushed_seen c.arena.inside c.arena.invariant c.arena.view_is c.args.d.cell c.dict_region-region.ensures c.requires.dict c.args.key c.args.v c.of.result c.of-2.result
+    c.link.new.cells.items _ c.requires.room c.of.ensures c.of-2.ensures c.link.ensures.relinked c.link.ensures.linked c.link.ensures.capacity c.requires.key c.requires.key_leads c.requires.leads).0
 
 pub returns : goal.returns
-returns c = replaced_seen c.arena.inside c.arena.view_is c.args.d.cell _ _ c.arena.inside.bytes.items (new c) refl
+returns c =
+    (pushed_seen c.arena.inside c.arena.invariant c.arena.view_is c.args.d.cell c.dict_region-region.ensures c.requires.dict c.args.key c.args.v c.of.result c.of-2.result
+    c.link.new.cells.items _ c.requires.room c.of.ensures c.of-2.ensures c.link.ensures.relinked c.link.ensures.linked c.link.ensures.capacity c.requires.key c.requires.key_leads c.requires.leads).1

@@ -1,0 +1,26 @@
+-- The first place of a dict's pairs where something holds.
+use Rattle.std.specs.Prelude.{◌≡◌, ℕ, ◌<◌, ◌≤◌, min, List, Option, Some, None}
+use Rattle.mpy_base.specs.World.{Heap, pairs_at}
+use Rattle.arena_heap.specs.declared.value.Value.{Value}
+use Rattle.arena_heap.specs.declared.value.StrNo.{StrNo}
+use Rattle.arena_heap.specs.Links.{buckets_at}
+use Rattle.py_values.specs.Keys.{PlainKey}
+use Rattle.arena_objects.specs.Keys.{key_of, key_in}
+
+-- the first place from `from` on and below `len` where it holds, or that there is none
+abbrev pub FirstFrom : (Holds : ℕ → Type 0) → (len from : ℕ) → Option ℕ → Type 0
+FirstFrom Holds len from None = (k : ℕ) → from ≤ k → k < len → Holds k → ⊥
+FirstFrom Holds len from (Some at) = (from ≤ at) × (at < len) × Holds at × ((k : ℕ) → from ≤ k → k < at → Holds k → ⊥)
+
+abbrev pub least : Option ℕ → Option ℕ → Option ℕ
+least None second = second
+least (Some at) None = Some at
+least (Some at) (Some other) = Some (min at other)
+
+-- the pair at a place has this key
+abbrev pub HasKey : (StrNo → Option (List ℕ)) → Heap Value ℕ → ℕ → PlainKey → ℕ → Type 0
+HasKey texts heap d key at = key_of texts heap (key_in (pairs_at heap d) at) ≡ Some key
+
+-- and stands in this bucket
+abbrev pub HasKeyIn : (StrNo → Option (List ℕ)) → Heap Value ℕ → ℕ → PlainKey → ℕ → ℕ → Type 0
+HasKeyIn texts heap d key bucket at = HasKey texts heap d key at × (buckets_at heap d at ≡ bucket)
