@@ -6,6 +6,7 @@ ghost use Rattle.bc_library.specs.Parts.{bytes_of, items_of};
 ghost use Rattle.bc_library.specs.Texts.{IsPlain, text_numbered};
 ghost use Rattle.bc_library.specs.Told.{IsTold};
 
+use crate::laws::library_law;
 use crate::library::{Library, Loaded, loaded_at};
 use crate::parts::Part;
 use arena_heap::{ConstNo, Constants, StrNo, Value};
@@ -104,6 +105,10 @@ impl Constants for Library {
 
     fn empty_law(&self) {
         let _ = &self.pool;
+    }
+
+    fn one_number_law(&self) {
+        library_law(self);
     }
 
     fn items_law(&self) {
