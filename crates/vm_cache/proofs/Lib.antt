@@ -1,2 +1,3 @@
 mod Empty
 mod Keeping
+mod OneRow

@@ -1,9 +1,10 @@
 //! The codes of a library.
 
-ghost use Rattle.std.specs.Prelude.{◌≡◌, IfOk};
-ghost use Rattle.vm_cache.specs.Kept.{AreFetched, kept_at, with_kept};
+ghost use Rattle.std.specs.Prelude.{◌≡◌, ℕ, IfOk, IfSome};
+ghost use Rattle.vm_cache.specs.Kept.{AreFetched, kept_at, place_in, with_kept};
 
 use crate::codes::Codes;
+use crate::places::Places;
 use bc_library::Library;
 use bc_rows::Rows;
 use mpy_base::NoMemory;
@@ -41,6 +42,16 @@ impl Cache {
             modules.push(Codes::new(alloc, rows, number)?)?;
         }
         Ok(Cache { modules })
+    }
+
+    /// The places of the code, if there is one.
+    pub fn places(&self, module_number: u32, code: u32) -> Option<&Places>
+        ensures { IfSome result (λ places. (offset : ℕ) → place_in places.now offset ≡ kept_at self.now module_number code offset) }
+    {
+        match self.modules.get(module_number as usize) {
+            Some(codes) => codes.places(code),
+            None => None,
+        }
     }
 
     /// What was fetched at the offset of the code.

@@ -1,7 +1,7 @@
 //! The codes of a module.
 
-ghost use Rattle.std.specs.Prelude.{◌≡◌, Some, IfOk, All, slice_set};
-ghost use Rattle.vm_cache.specs.Kept.{code_in, is_empty, update_at};
+ghost use Rattle.std.specs.Prelude.{◌≡◌, ℕ, Some, IfOk, IfSome, All, slice_set};
+ghost use Rattle.vm_cache.specs.Kept.{code_in, is_empty, place_in, update_at};
 
 use crate::places::Places;
 use bc_rows::Rows;
@@ -39,6 +39,12 @@ impl Codes {
             codes.push(Places::new(alloc, row.instructions.len())?)?;
         }
         Ok(Codes { codes })
+    }
+
+    pub(crate) fn places(&self, code: u32) -> Option<&Places>
+        ensures { IfSome result (λ places. (offset : ℕ) → place_in places.now offset ≡ code_in self.now code offset) }
+    {
+        self.codes.get(code as usize)
     }
 
     pub(crate) fn look(&self, code: u32, offset: u32) -> Option<Fetched>

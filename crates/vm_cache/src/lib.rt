@@ -7,4 +7,5 @@ mod law;
 mod places;
 
 pub use cache::Cache;
-pub use law::cache_law;
+pub use law::{cache_law, row_law};
+pub use places::Places;

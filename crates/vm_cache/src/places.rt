@@ -10,7 +10,7 @@ use vm_fetching::Fetched;
 
 /// What was fetched at the offsets of a code. An offset at which nothing was fetched yet holds nothing.
 #[derive(Drop)]
-pub(crate) struct Places {
+pub struct Places {
     places: Vec<Option<Fetched>>,
 }
 
@@ -33,7 +33,8 @@ impl Places {
         Ok(Places { places })
     }
 
-    pub(crate) fn look(&self, offset: u32) -> Option<Fetched>
+    /// What was fetched at the offset.
+    pub fn look(&self, offset: u32) -> Option<Fetched>
         ensures { result ≡ place_in self.now offset }
     {
         *self.places.get(offset as usize)?

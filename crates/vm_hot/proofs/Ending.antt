@@ -1,5 +1,5 @@
--- What an instruction acts as that puts a value.
-use Rattle.std.proofs.Common.{◌≡◌, ℕ, List, ◌∷◌, drop, Option, All, Result, Ok, Err}
+-- What an instruction acts as that puts a value, or takes slots.
+use Rattle.std.proofs.Common.{◌≡◌, ℕ, List, ◌∷◌, drop, Option, All, Result, Ok, Err, sym, subst}
 use Rattle.std.proofs.lemmas.List.Elements.{All-cons, All-drop}
 use Rattle.mpy_base.specs.World.{Heap, Objects}
 use Rattle.arena_heap.specs.declared.value.Value.{Value}
@@ -11,7 +11,7 @@ use Rattle.vm_frames.specs.declared.slot.Slot.{Slot}
 use Rattle.vm_frames.specs.declared.slot.Slot.TheVariants as slots
 use Rattle.vm_frames.specs.Calls.{Call, Calls, on_running}
 use Rattle.vm_instructions.specs.Effects.{Steps, Leaves}
-use Rattle.vm_instructions.specs.Slots.{with_value, Puts}
+use Rattle.vm_instructions.specs.Slots.{with_value, without, Puts}
 use Rattle.vm_unwinding.specs.Known.{IsKnownSlot}
 use Rattle.vm_fetching.specs.declared.instruction.Fetched.{Fetched}
 use Rattle.vm_states.specs.Means.{Program}
@@ -46,3 +46,9 @@ module _ (law : ActsLaw) (fetched : Fetched) (starts : StartsBehind fetched fetc
   puts taken moved =
       law texts tuples fetched visits fetched.end before behind old new result starts (does_steps texts tuples fetched before behind old new result visits item is steps)
       (put texts tuples behind.objects old new fetched.end taken result moved) leaves
+
+  pub takes : (count : ℕ) → result ≡ Ok tt → new ≡ on_running (without fetched.end count) old → ActsKeeping texts tuples fetched visits before behind old new result
+  takes count done moved =
+      law texts tuples fetched visits fetched.end before behind old new result starts (does_steps texts tuples fetched before behind old new result visits item is steps)
+      (subst (GoesOnward texts tuples behind.objects fetched.end old new) (sym done)
+      (slots_onward texts tuples behind.objects old new fetched.end (λ c. drop count c.slots) (λ c k. All-drop (IsKnownSlot texts tuples behind.objects) count c.slots k) moved)) leaves

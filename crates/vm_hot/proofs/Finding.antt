@@ -1,5 +1,5 @@
 -- What an instruction finds that was fetched for the first of the calls of a program.
-use Rattle.std.proofs.Common.{◌≡◌, ℕ, ◌<◌, List, length, Option, Some, None, Ok, All, sym, ap, subst, ◌∙◌}
+use Rattle.std.proofs.Common.{◌≡◌, ℕ, ◌<◌, ◌≤◌, List, length, Option, Some, None, Ok, All, sym, ap, subst, ◌∙◌, arith}
 use Rattle.std.specs.Prelude.{IfSome, IsSome, slice_get, get_or}
 use Rattle.std.proofs.lemmas.List.Elements.{All-head, All-get_or}
 use Rattle.std.proofs.lemmas.Option.{slice_get_within, slice_get-get_or, get_or_from_slice_get}
@@ -35,6 +35,9 @@ One = (view : View) (starts : List ℕ) (st : List Slot) → machine.OneValue (s
 
 abbrev Two : Type 0
 Two = (view : View) (starts : List ℕ) (st : List Slot) → machine.TwoValues (slots_of view starts st) → tops.TwoValues st
+
+abbrev Stored : Type 0
+Stored = (view : View) (starts : List ℕ) (st : List Slot) → machine.Stored (slots_of view starts st) → tops.Stored st
 
 module _ {texts : StrNo → Option (List ℕ)} {tuples : ConstNo → Option (List Value)} {heap : Heap Value ℕ} {s : Calls} {fetched : Fetched} (h : RunsOver texts tuples heap s fetched) where
   -- the slots of the first of the calls, as the machine has them
@@ -93,6 +96,9 @@ module _ {texts : StrNo → Option (List ℕ)} {tuples : ConstNo → Option (Lis
   two law found =
       let t = law view starts st found in
       (has_known 0 t.top (ap (λ (z : List Slot). slice_get z 0) t.are), has_known 1 t.second (ap (λ (z : List Slot). slice_get z 1) t.are))
+
+  pub stored_slots : Stored → machine.Stored machine_slots → OfRunning (λ c. 3 ≤ length c.slots) s.calls
+  stored_slots law found = let t = law view starts st found in of_running (λ c. 3 ≤ length c.slots) (let n = ap length t.are in omega (arith, n))
 
   -- a value that lies in a slot is known
   pub lies_known : (slot : ℕ) (v : Value) → HasValue slot v s.calls → IsKnown texts tuples heap.objects v

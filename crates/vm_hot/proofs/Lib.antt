@@ -4,6 +4,8 @@ mod Done
 mod Ending
 mod Finding
 mod Forms
+mod Indexing
+mod Iterating
 mod Loading
 mod Operating
 mod Telling

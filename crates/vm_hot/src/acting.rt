@@ -1,12 +1,14 @@
 //! Instructions by their forms.
 
-ghost use Rattle.std.specs.Prelude.{◌≡◌};
+ghost use Rattle.std.specs.Prelude.{◌≡◌, Ok, true, false};
 ghost use Rattle.vm_fetching.specs.declared.instruction.Instruction.TheVariants as fetched;
 ghost use Rattle.vm_moving.specs.Moving.{fetched_plain};
 ghost use Rattle.vm_known.specs.Acting.{RunsOver};
+ghost use Rattle.vm_operating.specs.Keeping.{ActsKeeping};
 ghost use Rattle.vm_hot.specs.AtOnce.{ActsAtOnce};
 
 use crate::doing::done;
+use crate::items::{load_item, store_item};
 use crate::jumps::jump_at_once;
 use crate::locals::local_at_once;
 use crate::names::name_at_once;
@@ -38,8 +40,8 @@ fn plain_at_once<C: Constants>(
         PlainOp::PopTop => done(move_on(frames, arena, consts, op, end)),
         PlainOp::RotTwo => done(move_on(frames, arena, consts, op, end)),
         PlainOp::RotThree => done(move_on(frames, arena, consts, op, end)),
-        PlainOp::LoadSubscr
-        | PlainOp::StoreSubscr
+        PlainOp::LoadSubscr => load_item(frames, arena, consts, end),
+        PlainOp::StoreSubscr
         | PlainOp::EndFinally
         | PlainOp::GetIterStack
         | PlainOp::StoreMap
@@ -50,7 +52,8 @@ fn plain_at_once<C: Constants>(
 }
 
 /// Carries out what was fetched for the running call, if it changes that call alone and comes to no stop: constants, locals,
-/// names that are looked up, moves of slots, jumps, operators over one value, and over two small integers. It answers the visits
+/// names that are looked up, moves of slots, items of lists, jumps, iterators over lists and ranges, operators over one value, and over
+/// two small integers. It answers the visits
 /// that it makes; None where it is left.
 #[inline(always)]
 pub fn act_at_once<C: Constants>(
@@ -76,5 +79,43 @@ pub fn act_at_once<C: Constants>(
             target: _target,
             byte: _byte,
         } => None,
+    }
+}
+
+/// An operation without an operand: one that sets an item is carried out.
+#[inline(always)]
+fn store_plain<C: Constants>(
+    frames: &mut Frames,
+    arena: &mut Arena,
+    consts: &C,
+    op: PlainOp,
+    end: u32,
+) -> bool
+    requires runs { RunsOver (C.text_of consts.now) (C.items_of consts.now) arena.old frames.old (fetched_plain op end) }
+    ensures done { result ≡ true → ActsKeeping (C.text_of consts.now) (C.items_of consts.now) (fetched_plain op end) 0 arena.old arena.new frames.old frames.new (Ok tt) }
+    ensures left { result ≡ false → (frames.new ≡ frames.old) × (arena.new ≡ arena.old) }
+{
+    match op {
+        PlainOp::StoreSubscr => store_item(frames, arena, consts, end),
+        _ => false,
+    }
+}
+
+/// Carries out what was fetched for the running call, if it sets an item of a list at a small integer that counts from its front.
+/// Whether it was done.
+#[inline(always)]
+pub fn store_at_once<C: Constants>(
+    frames: &mut Frames,
+    arena: &mut Arena,
+    consts: &C,
+    fetched: Fetched,
+) -> bool
+    requires runs { RunsOver (C.text_of consts.now) (C.items_of consts.now) arena.old frames.old fetched }
+    ensures done { result ≡ true → ActsKeeping (C.text_of consts.now) (C.items_of consts.now) fetched 0 arena.old arena.new frames.old frames.new (Ok tt) }
+    ensures left { result ≡ false → (frames.new ≡ frames.old) × (arena.new ≡ arena.old) }
+{
+    match fetched.instruction {
+        Instruction::Plain(op) => store_plain(frames, arena, consts, op, fetched.end),
+        _ => false,
     }
 }

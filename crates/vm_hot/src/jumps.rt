@@ -8,6 +8,7 @@ ghost use Rattle.vm_operating.specs.Tests.{IsTest};
 ghost use Rattle.vm_hot.specs.AtOnce.{ActsAtOnce};
 
 use crate::doing::done;
+use crate::iterators::iterate;
 use arena_heap::{Arena, Constants, Value};
 use vm_fetching::JumpOp;
 use vm_frames::{Frames, Slot};
@@ -42,7 +43,7 @@ fn test_at_once<C: Constants>(
     }
 }
 
-/// A jump, or one that tests a bool.
+/// A jump, one that tests a bool, or an iterator over a list or a range that goes on.
 #[inline(always)]
 pub(crate) fn jump_at_once<C: Constants>(
     frames: &mut Frames,
@@ -61,8 +62,7 @@ pub(crate) fn jump_at_once<C: Constants>(
         JumpOp::PopJumpIfFalse => test_at_once(frames, arena, consts, op, target, end),
         JumpOp::JumpIfTrueOrPop => test_at_once(frames, arena, consts, op, target, end),
         JumpOp::JumpIfFalseOrPop => test_at_once(frames, arena, consts, op, target, end),
-        JumpOp::SetupExcept | JumpOp::SetupFinally | JumpOp::PopExceptJump | JumpOp::ForIter => {
-            None
-        }
+        JumpOp::ForIter => iterate(frames, arena, consts, target, end),
+        JumpOp::SetupExcept | JumpOp::SetupFinally | JumpOp::PopExceptJump => None,
     }
 }

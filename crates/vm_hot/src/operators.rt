@@ -64,7 +64,7 @@ fn put_slot(frames: &mut Frames, slot: Slot)
 
 /// The running call goes on at the end with a value in the place of the two topmost slots.
 #[inline(always)]
-fn put(frames: &mut Frames, v: Value, end: u32)
+pub(crate) fn put(frames: &mut Frames, v: Value, end: u32)
     requires { OfRunning (λ c. 2 ≤ length c.slots) frames.old.calls }
     ensures { frames.new ≡ on_running (with_value end 2 v) frames.old }
 {

@@ -155,19 +155,17 @@ module _ {S : Type 0} (told : S → Option (List ℕ)) where
         | inr s ↦ inr (longer p old w a b before.ports between.ports behind.ports later s)
       ]
 
-  -- where no step was made before
-  pub after_none : (shelf : Shelf) (old mid new : Vm) (before behind : Outside S) (none n : ℕ) → none ≡ 0 → Stepped shelf none old mid → CountsKeep before.ports behind.ports → Runs told shelf mid before behind n new → Runs told shelf old before behind n new
-  after_none shelf old mid new before behind none n is stepped keep runs =
-      let e : none + n ≡ n = omega (arith, is) in
-      subst (λ (k : ℕ). Runs told shelf old before behind k new) e
-      (joins shelf old mid new before before behind none n (counts_same before.ports) keep (stepped_runs shelf old mid before none stepped) runs)
+  -- behind steps that concern no output
+  pub after_steps : (shelf : Shelf) (old mid new : Vm) (before behind : Outside S) (taken n : ℕ) → Stepped shelf taken old mid → CountsKeep before.ports behind.ports → Runs told shelf mid before behind n new → Runs told shelf old before behind (taken + n) new
+  after_steps shelf old mid new before behind taken n stepped keep runs =
+      joins shelf old mid new before before behind taken n (counts_same before.ports) keep (stepped_runs shelf old mid before taken stepped) runs
 
-  pub failed_after_none : (count : S → ℕ) (shelf : Shelf) (old mid : Vm) (before behind : Outside S) (none most : ℕ) → none ≡ 0 → Stepped shelf none old mid → CountsKeep before.ports behind.ports → RunsToFailure told shelf mid before behind most count
-      → RunsToFailure told shelf old before behind most count
-  failed_after_none count shelf old mid before behind none most is stepped keep failed =
-      let e : none + most ≡ most = omega (arith, is) in
+  pub failed_after_steps : (count : S → ℕ) (shelf : Shelf) (old mid : Vm) (before behind : Outside S) (taken most : ℕ) → taken ≤ most → Stepped shelf taken old mid → CountsKeep before.ports behind.ports
+      → RunsToFailure told shelf mid before behind (most - taken) count → RunsToFailure told shelf old before behind most count
+  failed_after_steps count shelf old mid before behind taken most few stepped keep failed =
+      let e : taken + (most - taken) ≡ most = omega (arith, few) in
       subst (λ (k : ℕ). RunsToFailure told shelf old before behind k count) e
-      (joins_failed count shelf old mid before before behind none most (counts_same before.ports) keep (stepped_runs shelf old mid before none stepped) failed)
+      (joins_failed count shelf old mid before before behind taken (most - taken) (counts_same before.ports) keep (stepped_runs shelf old mid before taken stepped) failed)
 
   -- a run that has ended stays
   stays : (p : Program) (vm : Vm) (w : PlainWorld) (n : ℕ) → IsSome vm.end → steps p.library n (machine_of p vm w) ≡ machine_of p vm w

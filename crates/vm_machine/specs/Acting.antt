@@ -1,5 +1,5 @@
 -- An instruction that the machine has fetched and carries out.
-use Rattle.std.specs.Prelude.{◌≡◌, ◌+◌, ◌≤◌, ℕ, List, length, Option, None, Result, Ok, Err, OnErr}
+use Rattle.std.specs.Prelude.{◌≡◌, ◌+◌, ◌≤◌, ℕ, List, length, Option, Some, None, Result, Ok, Err, OnErr}
 use Rattle.mpy_base.specs.Val.{PlainWorld}
 use Rattle.mpy_io.specs.declared.fault.Failed.{Failed as SinkFault}
 use Rattle.bc_library.specs.Shelf.{Shelf}
@@ -11,6 +11,7 @@ use Rattle.vm_frames.specs.Calls.{OfRunning}
 use Rattle.vm_unwinding.specs.declared.ends.End.{End}
 use Rattle.vm_fetching.specs.declared.instruction.Fetched.{Fetched}
 use Rattle.vm_fetching.specs.Fetches.{IsVerifiedRow}
+use Rattle.vm_cache.specs.Kept.{IsFetchedOf, place_in}
 use Rattle.vm_states.specs.Means.{Program}
 use Rattle.vm_states.specs.Ready.{IsReady}
 use Rattle.vm_leaving.specs.Modules.{AreNames}
@@ -34,6 +35,11 @@ pub record HasFetched (shelf : Shelf) (vm : Vm) (row : Row) (fetched : Fetched) 
   pub read : OfRunning (IsFetchedAt shelf fetched) vm.frames.calls
   pub number : ℕ
   pub verified : IsVerifiedRow shelf number row
+
+-- all that the places of a code keep is what is fetched there
+abbrev pub AreFetchedIn : Shelf → (module_number code : ℕ) → List (Option Fetched) → Type 0
+AreFetchedIn shelf module_number code places =
+    (offset : ℕ) (fetched : Fetched) → place_in places offset ≡ Some fetched → IsFetchedOf shelf module_number code offset fetched
 
 -- the memory stays
 pub record SameMemory (old new : Vm) : Type 0 where

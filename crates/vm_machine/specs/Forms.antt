@@ -1,14 +1,19 @@
 -- Instructions by what carries them out.
-use Rattle.std.specs.Prelude.{◌≡◌}
+use Rattle.std.specs.Prelude.{◌≡◌, ℕ, List, Option}
+use Rattle.mpy_base.specs.World.{Heap}
+use Rattle.arena_heap.specs.declared.value.Value.{Value}
+use Rattle.arena_heap.specs.declared.value.StrNo.{StrNo}
+use Rattle.arena_heap.specs.declared.value.ConstNo.{ConstNo}
 use Rattle.arena_heap.specs.declared.value.StrNo.TheVariants as strs
 use Rattle.vm_fetching.specs.declared.instruction.Instruction.{Instruction}
 use Rattle.vm_fetching.specs.declared.instruction.Instruction.TheVariants as fetched
 use Rattle.vm_fetching.specs.declared.operations.PlainOp.TheVariants as plain_ops
 use Rattle.vm_fetching.specs.declared.operations.NumberOp.TheVariants as number_ops
 use Rattle.vm_fetching.specs.declared.operations.NameOp.TheVariants as name_ops
+use Rattle.vm_frames.specs.Calls.{Call}
 use Rattle.vm_calling.specs.Taken.{CallsValue}
 use Rattle.vm_running.specs.Leaves.{LeavesCall}
-use Rattle.vm_running.specs.Values.{ActsOnValues}
+use Rattle.vm_running.specs.Values.{ActsOnValues, value_visits}
 use Rattle.vm_machine.specs.declared.forms.Form.{Form}
 use Rattle.vm_machine.specs.declared.forms.Form.TheVariants as forms
 
@@ -31,3 +36,7 @@ IsNoCall (forms.Makes number) = Unit {0}
 IsNoCall (forms.MakesWith number) = Unit {0}
 IsNoCall (forms.Imports name) = Unit {0}
 IsNoCall (forms.Calls op number) = ⊥
+
+-- if it is no call, it makes no visits, whatever it runs over
+abbrev pub MakesNoVisits : Instruction → Type 0
+MakesNoVisits i = (texts : StrNo → Option (List ℕ)) (tuples : ConstNo → Option (List Value)) (heap : Heap Value ℕ) (calls : List Call) → value_visits texts tuples heap calls i ≡ 0

@@ -1,74 +1,177 @@
 //! Instructions that are carried out at once, one after another.
 
-ghost use Rattle.std.specs.Prelude.{◌≡◌, ◌≤◌, None};
+ghost use Rattle.std.specs.Prelude.{◌≡◌, ◌<◌, ◌≤◌, None, true};
 ghost use Rattle.bc_rows.specs.declared.row.Row.{Row as CodeRow};
 ghost use Rattle.vm_cache.specs.Kept.{AreFetched};
-ghost use Rattle.vm_machine.specs.Acting.{HasFetched, Stepped};
+ghost use Rattle.vm_machine.specs.Acting.{AreFetchedIn, HasFetched, Stepped};
 ghost use Rattle.vm_machine.specs.Machine.{IsVm};
 
-use crate::fetching::fetch_at;
+use crate::acting::act;
+use crate::fetching::{fetch_in, fetch_kept, row_of};
+use crate::forms::unpaid_form;
 use bc_library::Library;
 use bc_rows::Rows;
-use vm_cache::{Cache, cache_law};
+use vm_cache::{Cache, Places};
 use vm_fetching::Fetched;
-use vm_hot::act_at_once;
+use vm_hot::{act_at_once, store_at_once};
 use vm_kept::step_law;
 use vm_leaving::registered_law;
 use vm_programs::program_law;
-use vm_starting::{Vm, names_law};
-use vm_states::ready_law;
+use vm_starting::Vm;
 
-/// What is fetched for the running call, which is kept from then on. It takes no memory.
-#[inline(always)]
-fn fetch_kept(vm: &Vm, library: &Library, rows: &Rows<'_>, cache: &mut Cache) -> Fetched
-    requires vm { IsVm library.now vm.now }
+/// The instruction that was fetched, if it is no call and makes no visits. It answers how many steps were taken: none where it is
+/// left.
+fn act_unpaid(vm: &mut Vm, library: &Library, rows: &Rows<'_>, fetched: Fetched) -> u64
+    requires fetched { (row : CodeRow) × HasFetched library.now vm.old row fetched }
     requires rows { rows.now ≡ library.now }
-    requires goes_on { vm.now.end ≡ None }
-    requires kept { AreFetched library.now cache.old }
-    ensures fetched { (row : CodeRow) × HasFetched library.now vm.now row result }
-    ensures kept { AreFetched library.now cache.new }
+    requires unpaid { vm.old.paid ≡ 0 }
+    ensures stepped { Stepped library.now result vm.old vm.new }
+    ensures unpaid { vm.new.paid ≡ 0 }
+    ensures few { result ≤ 1 }
 {
-    program_law();
-    names_law();
-    ready_law();
-    cache_law();
-    let (module_number, code, _) = vm.frames.running();
-    let at = vm.frames.offset();
-    match cache.look(module_number, code, at) {
-        Some(fetched) => fetched,
-        None => {
-            let (_row, fetched) = fetch_at(vm, library, rows);
-            cache.keep(module_number, code, at, fetched);
-            fetched
+    step_law();
+    match unpaid_form(fetched.instruction) {
+        Some(form) => {
+            let row = row_of(vm, library, rows, fetched);
+            act(vm, library, rows, row, fetched, form);
+            vm.paid = 0;
+            1
         }
+        None => 0,
     }
 }
 
-/// The instruction that the machine stands at, if it is carried out at once. It answers how many steps were taken: none where it
-/// is left.
+/// The same, where an item of a list that is set is carried out at once.
 #[inline(always)]
-fn step_at_once(vm: &mut Vm, library: &Library, rows: &Rows<'_>, cache: &mut Cache) -> u64
+fn store_or_act(vm: &mut Vm, library: &Library, rows: &Rows<'_>, fetched: Fetched) -> u64
+    requires fetched { (row : CodeRow) × HasFetched library.now vm.old row fetched }
+    requires rows { rows.now ≡ library.now }
+    requires unpaid { vm.old.paid ≡ 0 }
+    ensures stepped { Stepped library.now result vm.old vm.new }
+    ensures unpaid { vm.new.paid ≡ 0 }
+    ensures few { result ≤ 1 }
+{
+    step_law();
+    registered_law();
+    if store_at_once(&mut vm.frames, &mut vm.arena, library, fetched) {
+        1
+    } else {
+        act_unpaid(vm, library, rows, fetched)
+    }
+}
+
+/// Instructions of one code that are carried out at once, one after another: up to `most` steps, where nothing is paid. How many steps
+/// were taken.
+#[tactic(auto, using(crate::proofs::AtOnce::none_yet))]
+fn run_in(
+    vm: &mut Vm,
+    library: &Library,
+    places: &Places,
+    module_number: u32,
+    code: u32,
+    most: u64,
+) -> u64
+    requires vm { IsVm library.now vm.old }
+    requires goes_on { vm.old.end ≡ None }
+    requires unpaid { vm.old.paid ≡ 0 }
+    requires kept { AreFetchedIn library.now module_number code places.now }
+    ensures stepped { Stepped library.now result vm.old vm.new }
+    ensures goes_on { vm.new.end ≡ None }
+    ensures unpaid { vm.new.paid ≡ 0 }
+    ensures few { result ≤ most }
+{
+    step_law();
+    registered_law();
+    let mut taken = 0u64;
+    'steps: while most - taken > 1 {
+        match fetch_in(vm, library, places, module_number, code) {
+            Some(fetched) => match act_at_once(&mut vm.frames, &vm.arena, library, fetched) {
+                Some(visits) => {
+                    taken += visits + 1;
+                }
+                None => return taken,
+            },
+            None => return taken,
+        }
+    }
+    taken
+}
+
+/// The same of the running call's code.
+fn run_here(vm: &mut Vm, library: &Library, cache: &Cache, most: u64) -> u64
+    requires vm { IsVm library.now vm.old }
+    requires goes_on { vm.old.end ≡ None }
+    requires unpaid { vm.old.paid ≡ 0 }
+    requires kept { AreFetched library.now cache.now }
+    ensures stepped { Stepped library.now result vm.old vm.new }
+    ensures goes_on { vm.new.end ≡ None }
+    ensures unpaid { vm.new.paid ≡ 0 }
+    ensures few { result ≤ most }
+{
+    program_law();
+    let (module_number, code, _) = vm.frames.running();
+    match cache.places(module_number, code) {
+        Some(places) => run_in(vm, library, places, module_number, code, most),
+        None => 0,
+    }
+}
+
+/// The instruction that the machine stands at, if it is no call and makes no visits. It answers how many steps were taken: none where
+/// it is left.
+#[inline(always)]
+fn step_unpaid(vm: &mut Vm, library: &Library, rows: &Rows<'_>, cache: &mut Cache) -> u64
     requires vm { IsVm library.now vm.old }
     requires rows { rows.now ≡ library.now }
     requires goes_on { vm.old.end ≡ None }
     requires unpaid { vm.old.paid ≡ 0 }
     requires kept { AreFetched library.now cache.old }
     ensures stepped { Stepped library.now result vm.old vm.new }
-    ensures goes_on { vm.new.end ≡ None }
     ensures unpaid { vm.new.paid ≡ 0 }
-    ensures few { result ≤ 2 }
+    ensures few { result ≤ 1 }
     ensures kept { AreFetched library.now cache.new }
 {
-    step_law();
-    registered_law();
     let fetched = fetch_kept(vm, library, rows, cache);
-    match act_at_once(&mut vm.frames, &vm.arena, library, fetched) {
-        Some(visits) => visits + 1,
-        None => 0,
+    store_or_act(vm, library, rows, fetched)
+}
+
+/// Instructions of the running call's code that are carried out at once, and then one that is no call and makes no visits: up to `most`
+/// steps, where nothing is paid. How many steps were taken, and whether that last one was.
+fn run_through(
+    vm: &mut Vm,
+    library: &Library,
+    rows: &Rows<'_>,
+    cache: &mut Cache,
+    most: u64,
+) -> (u64, bool)
+    requires vm { IsVm library.now vm.old }
+    requires rows { rows.now ≡ library.now }
+    requires unpaid { vm.old.paid ≡ 0 }
+    requires kept { AreFetched library.now cache.old }
+    ensures stepped { Stepped library.now result.0 vm.old vm.new }
+    ensures unpaid { vm.new.paid ≡ 0 }
+    ensures few { result.0 ≤ most }
+    ensures some { result.1 ≡ true → 0 < result.0 }
+    ensures kept { AreFetched library.now cache.new }
+{
+    match vm.end {
+        Some(_end) => (0, false),
+        None => {
+            let ran = run_here(vm, library, cache, most);
+            let left = most - ran;
+            if left == 0 {
+                return (ran, false);
+            }
+            let more = step_unpaid(vm, library, rows, cache);
+            if more == 0 {
+                return (ran, false);
+            }
+            (ran + more, true)
+        }
     }
 }
 
-/// Instructions that are carried out at once, up to `most` steps, where nothing is paid. How many steps were taken.
+/// Instructions one after another, as far as they are no calls, and make no visits or are carried out at once: up to `most` steps,
+/// where nothing is paid. How many steps were taken.
 #[tactic(auto, using(crate::proofs::AtOnce::none_yet))]
 pub(crate) fn run_at_once(
     vm: &mut Vm,
@@ -79,10 +182,8 @@ pub(crate) fn run_at_once(
 ) -> u64
     requires vm { IsVm library.now vm.old }
     requires rows { rows.now ≡ library.now }
-    requires goes_on { vm.old.end ≡ None }
     requires kept { AreFetched library.now cache.old }
     ensures stepped { Stepped library.now result vm.old vm.new }
-    ensures goes_on { vm.new.end ≡ None }
     ensures paid { vm.new.paid ≡ vm.old.paid }
     ensures few { result ≤ most }
     ensures kept { AreFetched library.now cache.new }
@@ -91,12 +192,12 @@ pub(crate) fn run_at_once(
         return 0;
     }
     let mut taken = 0u64;
-    'steps: while most - taken > 1 {
-        let more = step_at_once(vm, library, rows, cache);
-        if more == 0 {
+    'steps: while most - taken > 0 {
+        let (more, goes_on) = run_through(vm, library, rows, cache, most - taken);
+        taken += more;
+        if !goes_on {
             return taken;
         }
-        taken += more;
     }
     taken
 }

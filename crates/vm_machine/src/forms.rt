@@ -1,11 +1,11 @@
 //! Instructions by what carries them out.
 
-ghost use Rattle.std.specs.Prelude.{◌≡◌, ℕ, IfSome, IfNone};
+ghost use Rattle.std.specs.Prelude.{◌≡◌, ℕ, false, IfSome, IfNone};
 ghost use Rattle.arena_heap.specs.declared.value.StrNo.TheVariants as strs;
 ghost use Rattle.bc_library.specs.Shelf.{Shelf};
 ghost use Rattle.vm_fetching.specs.declared.instruction.Instruction.TheVariants as fetched;
 ghost use Rattle.vm_fetching.specs.Shows.{TextIsThere};
-ghost use Rattle.vm_machine.specs.Forms.{HasForm, IsNoCall};
+ghost use Rattle.vm_machine.specs.Forms.{HasForm, IsNoCall, MakesNoVisits};
 
 use arena_heap::StrNo;
 use vm_fetching::{Instruction, NameOp, NumberOp, PlainOp};
@@ -133,5 +133,41 @@ pub(crate) fn call_in(form: Form) -> Option<(NumberOp, u32)>
         | Form::Makes(_)
         | Form::MakesWith(_)
         | Form::Imports(_) => None,
+    }
+}
+
+/// Whether it is an operator over two operands, which may make visits.
+#[inline(always)]
+fn is_binary(instruction: Instruction) -> bool
+    ensures { result ≡ false → MakesNoVisits instruction }
+{
+    match instruction {
+        Instruction::Binary(_) => true,
+        Instruction::Plain(_)
+        | Instruction::Number(_, _)
+        | Instruction::Int(_)
+        | Instruction::Unary(_)
+        | Instruction::Name(_, _)
+        | Instruction::Object(_)
+        | Instruction::Jump(_, _)
+        | Instruction::Unwind { .. } => false,
+    }
+}
+
+/// The form of an instruction that is no call and makes no visits, whose text is one of the pool.
+#[inline(always)]
+pub(crate) fn unpaid_form(instruction: Instruction) -> Option<Form>
+    requires { (shelf : Shelf) × TextIsThere shelf instruction }
+    ensures form { IfSome result (HasForm instruction) }
+    ensures no_call { IfSome result IsNoCall }
+    ensures no_visits { IfSome result (λ form. MakesNoVisits instruction) }
+{
+    if is_binary(instruction) {
+        return None;
+    }
+    let form = form_of(instruction);
+    match call_in(form) {
+        Some(_call) => None,
+        None => Some(form),
     }
 }

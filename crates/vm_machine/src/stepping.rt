@@ -16,7 +16,7 @@ ghost use Rattle.vm_machine.specs.Running.{Runs, RunsToFailure};
 
 use crate::acting::act;
 use crate::at_once::run_at_once;
-use crate::fetching::fetch_at;
+use crate::fetching::{fetch_at, fetch_kept, row_of};
 use crate::forms::{Form, call_in, form_of};
 use crate::paying::{steps_before, visits_of};
 use bc_library::Library;
@@ -179,6 +179,48 @@ fn step_call<S: Sink, P: Port>(
     }
 }
 
+/// The instruction that was fetched, or the rest of the steps that it costs, or `most` of them. How many steps were taken.
+#[tactic(none)]
+fn step_on<S: Sink, P: Port>(
+    vm: &mut Vm,
+    library: &Library,
+    rows: &Rows<'_>,
+    out: &mut S,
+    ports: &mut PortSet<P>,
+    row: &Row<'_>,
+    fetched: Fetched,
+    most: u64,
+) -> Result<u64, Failed>
+    requires fetched { HasFetched library.now vm.old row.now fetched }
+    requires rows { rows.now ≡ library.now }
+    requires some { 0 < most }
+    requires countable { vm.old.paid + most < 2 ^ 64 }
+    ensures vm { IsVm library.now vm.new }
+    ensures runs { IfOk result (λ taken. Runs S.told library.now vm.old (record { out = out.old; ports = map P.seen ports.old }) (record { out = out.new; ports = map P.seen ports.new }) taken vm.new) }
+    ensures failed { OnErr result (RunsToFailure S.told library.now vm.old (record { out = out.old; ports = map P.seen ports.old }) (record { out = out.new; ports = map P.seen ports.new }) most S.count) }
+    ensures taken { IfOk result (λ taken. (0 < taken) × (taken ≤ most) × (vm.new.paid ≤ vm.old.paid + taken)) }
+    ensures paid { OnErr result (vm.new.paid ≡ vm.old.paid) }
+    ensures counts { Counts (S.count out.old) (S.count out.new) (is_err result) }
+    ensures faults { CountsKeep (map P.seen ports.old) (map P.seen ports.new) }
+{
+    let form = form_of(fetched.instruction);
+    match call_in(form) {
+        Some((op, number)) => step_call(
+            vm,
+            library,
+            rows,
+            out,
+            ports,
+            row,
+            op,
+            number,
+            fetched.end,
+            most,
+        ),
+        None => Ok(step_act(vm, library, rows, row, fetched, form, most)),
+    }
+}
+
 /// One instruction, or the rest of the steps that it costs, or `most` of them. How many steps were taken.
 #[tactic(none)]
 fn step<S: Sink, P: Port>(
@@ -203,22 +245,7 @@ fn step<S: Sink, P: Port>(
     ensures faults { CountsKeep (map P.seen ports.old) (map P.seen ports.new) }
 {
     let (row, fetched) = fetch_at(vm, library, rows);
-    let form = form_of(fetched.instruction);
-    match call_in(form) {
-        Some((op, number)) => step_call(
-            vm,
-            library,
-            rows,
-            out,
-            ports,
-            row,
-            op,
-            number,
-            fetched.end,
-            most,
-        ),
-        None => Ok(step_act(vm, library, rows, row, fetched, form, most)),
-    }
+    step_on(vm, library, rows, out, ports, row, fetched, most)
 }
 
 /// The same, and where the run has ended all of the steps, which do nothing.
@@ -249,9 +276,9 @@ pub(crate) fn advance<S: Sink, P: Port>(
     }
 }
 
-/// Instructions that are carried out at once, or where there is none, one that takes its steps. How many steps were taken.
+/// The same, where what was fetched is kept.
 #[tactic(none)]
-fn go<S: Sink, P: Port>(
+fn step_kept<S: Sink, P: Port>(
     vm: &mut Vm,
     library: &Library,
     rows: &Rows<'_>,
@@ -275,17 +302,14 @@ fn go<S: Sink, P: Port>(
     ensures faults { CountsKeep (map P.seen ports.old) (map P.seen ports.new) }
     ensures kept { AreFetched library.now cache.new }
 {
-    let taken = run_at_once(vm, library, rows, cache, most);
-    if taken == 0 {
-        step(vm, library, rows, out, ports, most)
-    } else {
-        Ok(taken)
-    }
+    let fetched = fetch_kept(vm, library, rows, cache);
+    let row = row_of(vm, library, rows, fetched);
+    step_on(vm, library, rows, out, ports, row, fetched, most)
 }
 
 /// The same, and where the run has ended all of the steps, which do nothing.
 #[tactic(none)]
-pub(crate) fn advance_kept<S: Sink, P: Port>(
+fn go<S: Sink, P: Port>(
     vm: &mut Vm,
     library: &Library,
     rows: &Rows<'_>,
@@ -310,6 +334,43 @@ pub(crate) fn advance_kept<S: Sink, P: Port>(
 {
     match vm.end {
         Some(_end) => Ok(most),
-        None => go(vm, library, rows, cache, out, ports, most),
+        None => step_kept(vm, library, rows, cache, out, ports, most),
+    }
+}
+
+/// Instructions without visits one after another, and then one that takes its steps; and where the run has ended all of the steps, which
+/// do nothing. How many steps were taken.
+#[tactic(none)]
+pub(crate) fn advance_kept<S: Sink, P: Port>(
+    vm: &mut Vm,
+    library: &Library,
+    rows: &Rows<'_>,
+    cache: &mut Cache,
+    out: &mut S,
+    ports: &mut PortSet<P>,
+    most: u64,
+) -> Result<u64, Failed>
+    requires vm { IsVm library.now vm.old }
+    requires rows { rows.now ≡ library.now }
+    requires some { 0 < most }
+    requires countable { vm.old.paid + most < 2 ^ 64 }
+    requires kept { AreFetched library.now cache.old }
+    ensures vm { IsVm library.now vm.new }
+    ensures runs { IfOk result (λ taken. Runs S.told library.now vm.old (record { out = out.old; ports = map P.seen ports.old }) (record { out = out.new; ports = map P.seen ports.new }) taken vm.new) }
+    ensures failed { OnErr result (RunsToFailure S.told library.now vm.old (record { out = out.old; ports = map P.seen ports.old }) (record { out = out.new; ports = map P.seen ports.new }) most S.count) }
+    ensures taken { IfOk result (λ taken. (0 < taken) × (taken ≤ most) × (vm.new.paid ≤ vm.old.paid + taken)) }
+    ensures paid { OnErr result (vm.new.paid ≡ vm.old.paid) }
+    ensures counts { Counts (S.count out.old) (S.count out.new) (is_err result) }
+    ensures faults { CountsKeep (map P.seen ports.old) (map P.seen ports.new) }
+    ensures kept { AreFetched library.now cache.new }
+{
+    let taken = run_at_once(vm, library, rows, cache, most);
+    let left = most - taken;
+    if left == 0 {
+        return Ok(taken);
+    }
+    match go(vm, library, rows, cache, out, ports, left) {
+        Ok(more) => Ok(taken + more),
+        Err(failed) => Err(failed),
     }
 }

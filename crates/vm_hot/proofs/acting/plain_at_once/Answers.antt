@@ -1,4 +1,7 @@
+use Rattle.std.proofs.Common.{sym, subst}
+use Rattle.vm_fetching.specs.declared.operations.PlainOp.{PlainOp}
 use Rattle.vm_moving.specs.Moving.{fetched_plain}
+use Rattle.vm_hot.specs.AtOnce.{ActsAtOnce}
 use Rattle.vm_hot.proofs.Done.{at_once}
 use Rattle.vm_hot.proofs.acting.plain_at_once.Goals as goal
 
@@ -28,3 +31,7 @@ returns-in-RotTwo g c = at_once (g.C.Constants.text_of c.args.consts.now) (g.C.C
 
 pub returns-in-RotThree : goal.returns-in-RotThree
 returns-in-RotThree g c = at_once (g.C.Constants.text_of c.args.consts.now) (g.C.Constants.items_of c.args.consts.now) (fetched_plain c.args.op c.args.end) c.args.arena.now c.args.frames.now c.move_on-in-RotThree.new.frames c.move_on-in-RotThree.result c.done-in-RotThree.result c.done-in-RotThree.ensures c.move_on-in-RotThree.ensures.acts
+
+pub returns-in-LoadSubscr : goal.returns-in-LoadSubscr
+returns-in-LoadSubscr g c =
+    subst (λ (o : PlainOp). ActsAtOnce (g.C.Constants.text_of c.args.consts.now) (g.C.Constants.items_of c.args.consts.now) (fetched_plain o c.args.end) c.args.arena.now c.args.frames.now c.load_item.new.frames c.load_item.result) (sym c.in-LoadSubscr.is) c.load_item.ensures

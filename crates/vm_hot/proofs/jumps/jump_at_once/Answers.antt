@@ -10,3 +10,7 @@ pub returns-in-Jump : goal.returns-in-Jump
 returns-in-Jump g c =
     subst (λ (o : JumpOp). ActsAtOnce (g.C.Constants.text_of c.args.consts.now) (g.C.Constants.items_of c.args.consts.now) (record { instruction = fetched.Jump o c.args.target; end = c.args.end }) c.args.arena.now c.args.frames.now c.jump.new.frames c.done.result) (sym c.in-Jump.is)
     (at_once (g.C.Constants.text_of c.args.consts.now) (g.C.Constants.items_of c.args.consts.now) (record { instruction = fetched.Jump jump_ops.Jump c.args.target; end = c.args.end }) c.args.arena.now c.args.frames.now c.jump.new.frames c.jump.result c.done.result c.done.ensures c.jump.ensures.acts)
+
+pub returns-in-ForIter : goal.returns-in-ForIter
+returns-in-ForIter g c =
+    subst (λ (o : JumpOp). ActsAtOnce (g.C.Constants.text_of c.args.consts.now) (g.C.Constants.items_of c.args.consts.now) (record { instruction = fetched.Jump o c.args.target; end = c.args.end }) c.args.arena.now c.args.frames.now c.iterate.new.frames c.iterate.result) (sym c.in-ForIter.is) c.iterate.ensures

@@ -1,10 +1,3 @@
-use Rattle.std.proofs.Common.{refl, subst}
-use Rattle.std.specs.Prelude.{map}
-use Rattle.port_set.proofs.Counting.{counts_same}
-use Rattle.vm_fetching.specs.declared.instruction.Instruction.TheVariants as fetched
-use Rattle.vm_machine.specs.Forms.{HasForm}
-use Rattle.vm_machine.proofs.Fetched.{at_form}
-use Rattle.vm_machine.proofs.Runs.{stepped_runs}
 use Rattle.vm_machine.proofs.stepping.step.Goals as goal
 
 pub fetch_at-requires-clause-vm : goal.fetch_at-requires-clause-vm
@@ -16,84 +9,35 @@ fetch_at-requires-clause-rows g c = c.requires.rows
 pub fetch_at-requires-clause-goes_on : goal.fetch_at-requires-clause-goes_on
 fetch_at-requires-clause-goes_on g c = c.requires.goes_on
 
-pub form_of-form-requires : goal.form_of-form-requires
-form_of-form-requires g c =
-    let h = c.fetch_at.ensures in (h.program.shelf, (h.ready h.program h.is_program).text)
+pub step_on-requires-clause-fetched : goal.step_on-requires-clause-fetched
+step_on-requires-clause-fetched g c = c.fetch_at.ensures
 
-pub returns-in-Some-clause-vm : goal.returns-in-Some-clause-vm
-returns-in-Some-clause-vm g c = c.step_call.ensures.vm
+pub step_on-requires-clause-rows : goal.step_on-requires-clause-rows
+step_on-requires-clause-rows g c = c.requires.rows
 
-pub returns-in-Some-clause-runs : goal.returns-in-Some-clause-runs
-returns-in-Some-clause-runs g c = c.step_call.ensures.runs
+pub step_on-requires-clause-some : goal.step_on-requires-clause-some
+step_on-requires-clause-some g c = c.requires.some
 
-pub returns-in-Some-clause-failed : goal.returns-in-Some-clause-failed
-returns-in-Some-clause-failed g c = c.step_call.ensures.failed
+pub step_on-requires-clause-countable : goal.step_on-requires-clause-countable
+step_on-requires-clause-countable g c = c.requires.countable
 
-pub returns-in-Some-clause-taken : goal.returns-in-Some-clause-taken
-returns-in-Some-clause-taken g c = c.step_call.ensures.taken
+pub returns-clause-vm : goal.returns-clause-vm
+returns-clause-vm g c = c.step_on.ensures.vm
 
-pub returns-in-Some-clause-paid : goal.returns-in-Some-clause-paid
-returns-in-Some-clause-paid g c = c.step_call.ensures.paid
+pub returns-clause-runs : goal.returns-clause-runs
+returns-clause-runs g c = c.step_on.ensures.runs
 
-pub returns-in-Some-clause-counts : goal.returns-in-Some-clause-counts
-returns-in-Some-clause-counts g c = c.step_call.ensures.counts
+pub returns-clause-failed : goal.returns-clause-failed
+returns-clause-failed g c = c.step_on.ensures.failed
 
-pub returns-in-None-clause-vm : goal.returns-in-None-clause-vm
-returns-in-None-clause-vm g c = c.step_act.ensures.stepped.vm
+pub returns-clause-taken : goal.returns-clause-taken
+returns-clause-taken g c = c.step_on.ensures.taken
 
-pub returns-in-None-clause-runs : goal.returns-in-None-clause-runs
-returns-in-None-clause-runs g c =
-    stepped_runs g.S.Sink.told c.args.library.now c.args.vm.now c.step_act.new.vm (record { out = c.args.out.now; ports = map g.P.Port.seen c.args.ports.now }) c.step_act.result c.step_act.ensures.stepped
+pub returns-clause-paid : goal.returns-clause-paid
+returns-clause-paid g c = c.step_on.ensures.paid
 
-pub returns-in-None-clause-failed : goal.returns-in-None-clause-failed
-returns-in-None-clause-failed g c = tt
+pub returns-clause-counts : goal.returns-clause-counts
+returns-clause-counts g c = c.step_on.ensures.counts
 
-pub returns-in-None-clause-taken : goal.returns-in-None-clause-taken
-returns-in-None-clause-taken g c = (c.step_act.ensures.some, c.step_act.ensures.few, c.step_act.ensures.stepped.paid)
-
-pub returns-in-None-clause-paid : goal.returns-in-None-clause-paid
-returns-in-None-clause-paid g c = tt
-
-pub returns-in-None-clause-counts : goal.returns-in-None-clause-counts
-returns-in-None-clause-counts g c = refl
-
-pub step_call-requires-clause-calls : goal.step_call-requires-clause-calls
-step_call-requires-clause-calls g c = (subst (HasForm c.fetch_at.result.1.instruction) c.in-Some.ensures.some c.form_of-form.ensures).1
-
-pub step_call-requires-clause-fetched : goal.step_call-requires-clause-fetched
-step_call-requires-clause-fetched g c =
-    at_form c.args.library.now c.args.vm.now c.fetch_at.result.0.now c.fetch_at.result.1 c.fetch_at.ensures (fetched.Number c.in-Some.op c.in-Some.number)
-    (subst (HasForm c.fetch_at.result.1.instruction) c.in-Some.ensures.some c.form_of-form.ensures).0
-
-pub step_call-requires-clause-rows : goal.step_call-requires-clause-rows
-step_call-requires-clause-rows g c = c.requires.rows
-
-pub step_call-requires-clause-some : goal.step_call-requires-clause-some
-step_call-requires-clause-some g c = c.requires.some
-
-pub step_call-requires-clause-countable : goal.step_call-requires-clause-countable
-step_call-requires-clause-countable g c = c.requires.countable
-
-pub step_act-requires-clause-form : goal.step_act-requires-clause-form
-step_act-requires-clause-form g c = c.form_of-form.ensures
-
-pub step_act-requires-clause-no_call : goal.step_act-requires-clause-no_call
-step_act-requires-clause-no_call g c = c.in-None.ensures.none
-
-pub step_act-requires-clause-fetched : goal.step_act-requires-clause-fetched
-step_act-requires-clause-fetched g c = c.fetch_at.ensures
-
-pub step_act-requires-clause-rows : goal.step_act-requires-clause-rows
-step_act-requires-clause-rows g c = c.requires.rows
-
-pub step_act-requires-clause-some : goal.step_act-requires-clause-some
-step_act-requires-clause-some g c = c.requires.some
-
-pub step_act-requires-clause-countable : goal.step_act-requires-clause-countable
-step_act-requires-clause-countable g c = c.requires.countable
-
-pub returns-in-Some-clause-faults : goal.returns-in-Some-clause-faults
-returns-in-Some-clause-faults g c = c.step_call.ensures.faults
-
-pub returns-in-None-clause-faults : goal.returns-in-None-clause-faults
-returns-in-None-clause-faults g c = counts_same (map g.P.Port.seen c.args.ports.now)
+pub returns-clause-faults : goal.returns-clause-faults
+returns-clause-faults g c = c.step_on.ensures.faults

@@ -2,7 +2,7 @@ use Rattle.std.proofs.Common.{sym, subst, ◌∙◌}
 use Rattle.vm_cache.specs.Kept.{AreFetched}
 use Rattle.vm_machine.proofs.AtOnce.{read_of}
 use Rattle.vm_machine.proofs.Standing as fetching
-use Rattle.vm_machine.proofs.at_once.fetch_kept.Goals as goal
+use Rattle.vm_machine.proofs.fetching.fetch_kept.Goals as goal
 
 pub running-module_number-requires : goal.running-module_number-requires
 running-module_number-requires c =

@@ -1,0 +1,10 @@
+use Rattle.std.proofs.Common.{Ok, sym, subst}
+use Rattle.vm_fetching.specs.declared.operations.PlainOp.{PlainOp}
+use Rattle.vm_moving.specs.Moving.{fetched_plain}
+use Rattle.vm_operating.specs.Keeping.{ActsKeeping}
+use Rattle.vm_hot.proofs.acting.store_plain.Goals as goal
+
+pub returns-in-StoreSubscr-clause-done : goal.returns-in-StoreSubscr-clause-done
+returns-in-StoreSubscr-clause-done g c done =
+    subst (λ (o : PlainOp). ActsKeeping (g.C.Constants.text_of c.args.consts.now) (g.C.Constants.items_of c.args.consts.now) (fetched_plain o c.args.end) 0 c.args.arena.now c.store_item.new.arena c.args.frames.now c.store_item.new.frames (Ok tt)) (sym c.in-StoreSubscr.is)
+    (c.store_item.ensures.done done)

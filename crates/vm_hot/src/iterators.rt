@@ -1,0 +1,134 @@
+//! Iterators over lists and ranges.
+
+ghost use Rattle.std.specs.Prelude.{◌≡◌, ◌<◌, ◌≤◌, length, drop, suc, Ok, IfSome, slice_set};
+ghost use Rattle.arena_heap.specs.Constants.{IsTold};
+ghost use Rattle.arena_heap.specs.Values.{Leads};
+ghost use Rattle.arena_objects.specs.Keys.{AllTold};
+ghost use Rattle.py_primitives.specs.Iterables.{item_of as item_in, length_of as length_in};
+ghost use Rattle.vm_walks.specs.Plain.{plain, plain_heap};
+ghost use Rattle.vm_faults.specs.Outcomes.{IsOutcome};
+ghost use Rattle.vm_frames.specs.declared.slot.Slot.TheVariants as slots;
+ghost use Rattle.vm_frames.specs.Calls.{OfRunning, on_running};
+ghost use Rattle.vm_operators.specs.Operands.{HasItems, IsNested};
+ghost use Rattle.vm_instructions.specs.Slots.{IsIterator, iterator_over, with_item};
+ghost use Rattle.vm_fetching.specs.declared.instruction.Instruction.TheVariants as fetched;
+ghost use Rattle.vm_fetching.specs.declared.operations.JumpOp.TheVariants as jump_ops;
+ghost use Rattle.vm_known.specs.Acting.{RunsOver};
+ghost use Rattle.vm_hot.specs.AtOnce.{ActsAtOnce};
+
+use crate::doing::go_with;
+use arena_heap::{Arena, Constants, Value};
+use arena_objects::{item_at, item_count};
+use vm_frames::{Frames, Slot};
+use vm_operating::acting_law;
+use vm_tops::tops_law;
+
+/// What the iterator on top goes over, and its place.
+#[inline(always)]
+fn iterator_on_top(frames: &Frames) -> Option<(Value, u32)>
+    requires { OfRunning (λ c. 0 < length c.slots) frames.now.calls }
+    ensures { IfSome result (λ it. IsIterator it.0 it.1 frames.now.calls) }
+{
+    match frames.slot(0) {
+        Slot::Iter { over, at, .. } => Some((over, at)),
+        _ => None,
+    }
+}
+
+/// The item at a place, if there is one, and the place behind it.
+#[inline(always)]
+fn item_from<C: Constants>(arena: &Arena, consts: &C, over: Value, at: u32) -> Option<(Value, u32)>
+    requires items { HasItems over }
+    requires nested { IsNested (C.items_of consts.now) over }
+    requires leads { Leads arena.now.objects over }
+    requires told { IsTold (C.text_of consts.now) (C.items_of consts.now) over }
+    requires all_told { AllTold (C.text_of consts.now) (C.items_of consts.now) arena.now.objects }
+    ensures within { IfSome result (λ next. at < length_in (plain_heap (C.text_of consts.now) (C.items_of consts.now) arena.now) (plain (C.text_of consts.now) (C.items_of consts.now) over)) }
+    ensures item { IfSome result (λ next. IsOutcome (C.text_of consts.now) (C.items_of consts.now) arena.now arena.now (Ok next.0) (item_in (plain_heap (C.text_of consts.now) (C.items_of consts.now) arena.now) (plain (C.text_of consts.now) (C.items_of consts.now) over) at)) }
+    ensures place { IfSome result (λ next. next.1 ≡ suc at) }
+{
+    if at < item_count(arena, consts, over) {
+        let v = item_at(arena, consts, over, at);
+        Some((v, at + 1))
+    } else {
+        None
+    }
+}
+
+/// The same of a list or a range.
+#[inline(always)]
+fn next_from<C: Constants>(arena: &Arena, consts: &C, over: Value, at: u32) -> Option<(Value, u32)>
+    requires leads { Leads arena.now.objects over }
+    requires told { IsTold (C.text_of consts.now) (C.items_of consts.now) over }
+    requires all_told { AllTold (C.text_of consts.now) (C.items_of consts.now) arena.now.objects }
+    ensures within { IfSome result (λ next. at < length_in (plain_heap (C.text_of consts.now) (C.items_of consts.now) arena.now) (plain (C.text_of consts.now) (C.items_of consts.now) over)) }
+    ensures item { IfSome result (λ next. IsOutcome (C.text_of consts.now) (C.items_of consts.now) arena.now arena.now (Ok next.0) (item_in (plain_heap (C.text_of consts.now) (C.items_of consts.now) arena.now) (plain (C.text_of consts.now) (C.items_of consts.now) over) at)) }
+    ensures place { IfSome result (λ next. next.1 ≡ suc at) }
+{
+    match over {
+        Value::List(_l) => item_from(arena, consts, over, at),
+        Value::Range(_r) => item_from(arena, consts, over, at),
+        _ => None,
+    }
+}
+
+/// A part of the iterator on top is at the place.
+#[inline(always)]
+fn set_part(frames: &mut Frames, i: u32, over: Value, at: u32, part: u8)
+    requires there { OfRunning (λ c. 4 ≤ length c.slots) frames.old.calls }
+    requires within { i < 4 }
+    ensures set { frames.new ≡ on_running (λ c. record c { slots = slice_set c.slots i (slots.Iter over at part) }) frames.old }
+    ensures there { OfRunning (λ c. 4 ≤ length c.slots) frames.new.calls }
+{
+    frames.set_slot(i, Slot::Iter { over, at, part });
+}
+
+/// The iterator on top, with this place in the place of its own.
+#[inline(always)]
+fn set_iterator(frames: &mut Frames, over: Value, at: u32)
+    requires { OfRunning (λ c. 4 ≤ length c.slots) frames.old.calls }
+    ensures { frames.new ≡ on_running (λ c. record c { slots = iterator_over over at (drop 4 c.slots) }) frames.old }
+{
+    set_part(frames, 3, over, at, 0);
+    set_part(frames, 2, over, at, 1);
+    set_part(frames, 1, over, at, 2);
+    set_part(frames, 0, over, at, 3);
+}
+
+/// The running call goes on at the end with the iterator at the place, and a value on top.
+#[inline(always)]
+fn go_on(frames: &mut Frames, over: Value, at: u32, v: Value, end: u32)
+    requires there { OfRunning (λ c. 4 ≤ length c.slots) frames.old.calls }
+    requires room { OfRunning (λ c. length c.slots < frames.old.slot_room) frames.old.calls }
+    ensures { frames.new ≡ on_running (with_item end over at v) frames.old }
+{
+    set_iterator(frames, over, at);
+    go_with(frames, Slot::Value(v), end);
+}
+
+/// FOR_ITER over a list or a range that has an item more.
+#[inline(always)]
+pub(crate) fn iterate<C: Constants>(
+    frames: &mut Frames,
+    arena: &Arena,
+    consts: &C,
+    target: u32,
+    end: u32,
+) -> Option<u64>
+    requires runs { RunsOver (C.text_of consts.now) (C.items_of consts.now) arena.now frames.old (record { instruction = fetched.Jump jump_ops.ForIter target; end = end }) }
+    ensures { ActsAtOnce (C.text_of consts.now) (C.items_of consts.now) (record { instruction = fetched.Jump jump_ops.ForIter target; end = end }) arena.now frames.old frames.new result }
+{
+    acting_law();
+    tops_law();
+    let _ = target;
+    match iterator_on_top(frames) {
+        Some((over, at)) => match next_from(arena, consts, over, at) {
+            Some((v, next)) => {
+                go_on(frames, over, next, v, end);
+                Some(0)
+            }
+            None => None,
+        },
+        None => None,
+    }
+}
