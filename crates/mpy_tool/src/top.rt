@@ -12,31 +12,26 @@ ghost use Rattle.mpy_words.specs.Words.{order_of, first_name, second_name, sourc
 ghost use Rattle.mpy_endings.specs.declared.ending.Ending.{Ending};
 ghost use Rattle.mpy_endings.specs.declared.ending.Ending.TheVariants.{Done};
 ghost use Rattle.mpy_endings.specs.Ending.{IsSettled, is_folder_fault, is_out_fault};
-ghost use Rattle.mpy_tool.specs.Check.{Checks};
-ghost use Rattle.mpy_tool.specs.Cross.{Crosses};
-ghost use Rattle.mpy_tool.specs.Dump.{Dumps};
-ghost use Rattle.mpy_tool.specs.Freeze.{Freezes};
-ghost use Rattle.mpy_tool.specs.GoMeant.{GoMeans};
+ghost use Rattle.file_commands.specs.Check.{Checks};
+ghost use Rattle.file_commands.specs.Cross.{Crosses};
+ghost use Rattle.file_commands.specs.Dump.{Dumps};
+ghost use Rattle.image_commands.specs.Freeze.{Freezes};
+ghost use Rattle.run_meaning.specs.GoMeant.{GoMeans};
 ghost use Rattle.mpy_endings.specs.Line.{place_in};
-ghost use Rattle.mpy_tool.specs.Meant.{RunMeans};
-ghost use Rattle.mpy_tool.specs.Merge.{Merges, failed_in};
-ghost use Rattle.mpy_tool.specs.Outside.{seen, RefusesWords, Ends, Writes, WritesOf, written_by, written_in, calls_ports, calls_ports_in, Changes};
-ghost use Rattle.mpy_tool.specs.Ready.{GoLibrary, RunLibrary};
-ghost use Rattle.mpy_tool.specs.Run.{EndsRun, IsUnloaded, room_of};
+ghost use Rattle.run_meaning.specs.Meant.{RunMeans};
+ghost use Rattle.file_commands.specs.Merge.{Merges};
+ghost use Rattle.command_files.specs.Opened.{failed_in};
+ghost use Rattle.command_files.specs.Outside.{seen, Ends, Writes, WritesOf};
+ghost use Rattle.mpy_tool.specs.Order.{RefusesWords, written_by, written_in, calls_ports, calls_ports_in};
+ghost use Rattle.command_files.specs.Folder.{Changes};
+ghost use Rattle.run_commands.specs.Ready.{GoLibrary, RunLibrary};
+ghost use Rattle.run_commands.specs.Run.{EndsRun, IsUnloaded, room_of};
 ghost use Rattle.source_files.specs.Sources.{stored};
 ghost use Rattle.std.specs.Io.KnownBytes.{Keeps};
 
-use crate::check::check;
-use crate::cross::cross;
-use crate::dump::dump;
-use crate::freeze::freeze;
-use crate::go::source_ready;
-use crate::meant::{go_means_law, run_means_law};
-use crate::merge::merge_files;
-use crate::ready::Ready;
-use crate::run::{run_loaded, run_ready};
+use file_commands::{check, cross, dump, merge_files};
+use image_commands::freeze;
 use mpy_base::Room;
-use mpy_compile::compile_law;
 use mpy_endings::{
     Ended, Ending, file_names as files_in, main_name as main_in, say_ending, say_words,
     source_name as name_to_store, word_at,
@@ -44,6 +39,8 @@ use mpy_endings::{
 use mpy_io::{Failed, Folder, Port, Sink};
 use mpy_words::{Command, Order, order_of};
 use port_set::PortSet;
+use run_commands::{Ready, run_loaded, run_ready, source_ready};
+use run_meaning::{go_means_law, run_means_law};
 use std::alloc::Global;
 
 /// The status of words that are of no order.
@@ -362,13 +359,4 @@ pub fn mpy<F: Folder, S: Sink, P: Port, E: Sink>(
             WORDS_STATUS
         }
     }
-}
-
-/// Where a folder tells its files, writing a source's file ends in one way only, but for a failing call and want of memory.
-pub fn one_ending_law()
-    ensures { (level : ℕ) (files : FileOf) (name stored_name written : List ℕ) (a b : Ending) (new_a new_b : Option FileOf)
-        → IsSettled a → IsSettled b → Crosses level name stored_name written (Some files) new_a a
-        → Crosses level name stored_name written (Some files) new_b b → a ≡ b }
-{
-    compile_law();
 }

@@ -1,0 +1,4 @@
+mod Meaning
+mod Making
+mod GoMeaning
+mod ImageMeaning
