@@ -1,35 +1,35 @@
 -- What keeps the file that is to be run from being read, and what its bytes come to.
 use Rattle.std.proofs.Common.{◌≡◌, ℕ, Bool, true, false, List, Option, Some, IfSome, Result, Ok, Err, refl, sym, ap, subst, ◌∙◌}
 use Rattle.std.specs.Prelude.{IfOk, IfErr}
-use Rattle.mpy_io.specs.declared.fault.ReadFault.{ReadFault as FolderFault}
-use Rattle.mpy_io.specs.declared.fault.ReadFault.TheVariants as reads
-use Rattle.mpy_io.specs.Files.{FileOf, Reads}
-use Rattle.mpy_reader.specs.declared.fault.FileFault.TheVariants.{TooBig}
+use Rattle.mpy_io.specs.Files.{FileOf}
 use Rattle.bc_library.specs.Shelf.{Shelf}
 use Rattle.mpy_endings.specs.declared.ending.Ending.{Ending}
 use Rattle.mpy_endings.specs.declared.ending.Ending.TheVariants.{Done, Unaccepted, Unread, Unverified, Unmerged, Unopened, Unfrozen, Unboarded, Stopped, ReadFault, WriteFault, Unwritten, NoMemory, Absent}
 use Rattle.mpy_endings.specs.Ending.{is_folder_fault}
 use Rattle.run_commands.specs.declared.ready.Ready.{Ready}
-use Rattle.command_files.specs.Folder.{MayHold}
+use Rattle.command_files.specs.Folder.{MayHold, IsNotRead}
 use Rattle.command_files.specs.Opened.{failed_in}
-use Rattle.run_commands.specs.Ready.{FirstOf, IsFirst, ImageStart, RunLibrary, not_read, of_file, of_image, begins_image}
+use Rattle.run_commands.specs.Ready.{FirstOf, IsFirst, ImageStart, RunLibrary, of_file, of_image, begins_image}
 use Rattle.run_commands.specs.Run.{FileLibrary, IsUnloaded}
 
 -- a file that wasn't read
 -- =======================
 
-module _ (main : List ℕ) (files : Option FileOf) (name : List ℕ) where
-  pub absent : (fault : FolderFault) → fault ≡ reads.Absent → IfSome files (λ file. Reads (file name) (Err fault)) → RunLibrary main files name (Err Absent)
-  absent fault e h = not_read Absent (subst (λ (x : FolderFault). IfSome files (λ file. Reads (file name) (Err x))) e h) refl
-
-  pub too_long : (fault : FolderFault) → fault ≡ reads.TooLong → IfSome files (λ file. Reads (file name) (Err fault)) → RunLibrary main files name (Err (Unread TooBig))
-  too_long fault e h = not_read (Unread TooBig) (refl, subst (λ (x : FolderFault). IfSome files (λ file. Reads (file name) (Err x))) e h) refl
-
-  pub failed : RunLibrary main files name (Err ReadFault)
-  failed = not_read ReadFault tt refl
-
-  pub starved : RunLibrary main files name (Err NoMemory)
-  starved = not_read NoMemory tt refl
+pub unread_unloaded : (files : Option FileOf) (name : List ℕ) (ending : Ending) → IsNotRead files name ending → IsUnloaded ending
+unread_unloaded files name Done h = absurd h
+unread_unloaded files name (Unaccepted fault) h = absurd h
+unread_unloaded files name (Unread fault) h = tt
+unread_unloaded files name (Unverified fault) h = absurd h
+unread_unloaded files name (Unmerged fault) h = absurd h
+unread_unloaded files name (Unopened fault) h = absurd h
+unread_unloaded files name (Unfrozen fault) h = absurd h
+unread_unloaded files name (Unboarded fault) h = absurd h
+unread_unloaded files name (Stopped stop) h = absurd h
+unread_unloaded files name ReadFault h = tt
+unread_unloaded files name WriteFault h = absurd h
+unread_unloaded files name Unwritten h = absurd h
+unread_unloaded files name NoMemory h = tt
+unread_unloaded files name Absent h = tt
 
 -- the first module as the main one
 -- ================================

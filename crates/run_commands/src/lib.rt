@@ -9,4 +9,4 @@ mod run;
 pub use base::base_of;
 pub use go::source_ready;
 pub use ready::Ready;
-pub use run::{run_loaded, run_ready};
+pub use run::{begins_image, file_ready, run_loaded, run_ready};

@@ -12,7 +12,7 @@ ghost use Rattle.image_runs.specs.Main.{IsMainAt};
 ghost use Rattle.command_files.specs.Folder.{MayHold};
 ghost use Rattle.command_files.specs.Opened.{failed_in};
 ghost use Rattle.run_commands.specs.Ready as starts;
-ghost use Rattle.run_commands.specs.Ready.{OpensMain, RunLibrary};
+ghost use Rattle.run_commands.specs.Ready.{FirstOf, OpensMain, RunLibrary};
 ghost use Rattle.run_commands.specs.Run as spec;
 ghost use Rattle.run_commands.specs.Run.{FileLibrary, IsUnloaded, Runs};
 
@@ -30,7 +30,7 @@ use port_set::PortSet;
 use std::alloc::Global;
 
 /// Whether bytes begin as those of an image.
-fn begins_image(bytes: &[u8]) -> bool
+pub fn begins_image(bytes: &[u8]) -> bool
     ensures { result ≡ starts.begins_image bytes.now }
 {
     match bytes {
@@ -88,6 +88,29 @@ fn file_library<F: Folder>(
     }
 }
 
+/// The library of the file of this name, which has these bytes, with its first module as the main one, or what keeps it from being run.
+pub fn file_ready<F: Folder>(
+    alloc: Global,
+    name: &str,
+    bytes: &[u8],
+    folder: &mut F,
+) -> Result<Ready, Ending>
+    requires { MayHold (F.files folder.old) name.now (Some bytes.now) }
+    ensures comes { FirstOf (FileLibrary (F.files folder.old) name.now) result }
+    ensures there { IfOk result (λ ready. (m : Module) × IsMainAt ready.main ready.place m ready.library) }
+    ensures holds { IfOk result (λ ready. HoldsModules ready.library) }
+    ensures unloaded { IfErr result IsUnloaded }
+    ensures counts { Counts (F.count folder.old) (F.count folder.new) (failed_in result) }
+    ensures files { F.files folder.new ≡ F.files folder.old }
+{
+    let first = match main_text(alloc) {
+        Ok(first) => first,
+        Err(ending) => return Err(ending),
+    };
+    let loaded = file_library(alloc, name, bytes, folder);
+    first_ready(loaded, first)
+}
+
 /// The library of the file of this name, as an image whose module of the name `main` is run, where its bytes begin as one. Or what
 /// keeps it from being run.
 pub fn run_ready<F: Folder>(
@@ -110,12 +133,7 @@ pub fn run_ready<F: Folder>(
     if begins_image(&bytes) {
         return image_ready(alloc, &bytes, main.as_bytes());
     }
-    let first = match main_text(alloc) {
-        Ok(first) => first,
-        Err(ending) => return Err(ending),
-    };
-    let loaded = file_library(alloc, name, &bytes, folder);
-    first_ready(loaded, first)
+    file_ready(alloc, name, &bytes, folder)
 }
 
 /// How a run ended whose library's run ended so.

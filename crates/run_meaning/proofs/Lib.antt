@@ -1,4 +1,4 @@
-mod Meaning
-mod Making
-mod GoMeaning
-mod ImageMeaning
+pub mod Meaning
+pub mod Making
+pub mod GoMeaning
+pub mod ImageMeaning
