@@ -14,11 +14,6 @@ MayHold files name content = IfSome files (λ file. file name ≡ content)
 abbrev pub ChangesOnly : Option FileOf → Option FileOf → List ℕ → Type 0
 ChangesOnly old new name = IfSome old (λ file. (now : FileOf) × (new ≡ Some now) × ((other : List ℕ) → other ≢ name → now other ≡ file other))
 
--- no file changed but this one
-abbrev pub Changes : Option (List ℕ) → Option FileOf → Option FileOf → Type 0
-Changes None old new = new ≡ old
-Changes (Some name) old new = ChangesOnly old new name
-
 -- why the file under the name wasn't read at all
 abbrev pub IsNotRead : Option FileOf → (name : List ℕ) → Ending → Type 0
 IsNotRead files name Absent = MayHold files name None

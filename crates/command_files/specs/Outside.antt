@@ -51,3 +51,13 @@ pub record WritesOf (Relates : Option FileOf → Option FileOf → ℕ → Endin
   pub folder_counts : Counts old.folder_faults new.folder_faults (is_folder_fault ending)
   pub out_counts : Counts old.out_faults new.out_faults (is_out_fault ending)
   pub says : Says old.say new.say old.say_faults new.say_faults (line_of (slice_index_or words place []) ending)
+
+-- The same of a command that may print and write: the relation speaks of both.
+pub record EndsAt (Relates : (old new : Option FileOf) → (before behind : Option (List ℕ)) → (place : ℕ) → Ending → Type 0) (words : List (List ℕ)) (old new : Outside) (status : ℕ) : Type 0 where
+  pub ending : Ending
+  pub place : ℕ
+  pub status_is : status ≡ status_of ending
+  pub went : Relates old.files new.files old.out new.out place ending
+  pub folder_counts : Counts old.folder_faults new.folder_faults (is_folder_fault ending)
+  pub out_counts : Counts old.out_faults new.out_faults (is_out_fault ending)
+  pub says : Says old.say new.say old.say_faults new.say_faults (line_of (slice_index_or words place []) ending)

@@ -1,9 +1,13 @@
 //! The tool: the top call, which does what words order.
 #![tactic(auto)]
 
+mod doing;
+mod releasing;
+mod running;
 mod top;
 
+pub use board_command::board_means_law;
 pub use file_commands::one_ending_law;
-pub use mpy_endings::{Ending, Stop};
+pub use mpy_endings::{BoardFault, Ending, Stop};
 pub use run_meaning::{crossed_holds_law, holds_law, image_holds_law, makes_law};
 pub use top::mpy;
