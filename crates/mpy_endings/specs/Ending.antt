@@ -8,7 +8,9 @@ use Rattle.frozen_files.specs.declared.fault.FrozenFault.{FrozenFault}
 use Rattle.frozen_files.specs.declared.fault.FrozenFault.TheVariants as frozen
 use Rattle.frozen_files.specs.Faults.{is_read_failure}
 use Rattle.mpy_endings.specs.declared.ending.Ending.{Ending}
-use Rattle.mpy_endings.specs.declared.ending.Ending.TheVariants.{Done, Unaccepted, Unread, Unverified, Unmerged, Unopened, Unfrozen, Stopped, ReadFault, WriteFault, Unwritten, NoMemory, Absent}
+use Rattle.mpy_endings.specs.declared.ending.Ending.TheVariants.{Done, Unaccepted, Unread, Unverified, Unmerged, Unopened, Unfrozen, Unboarded, Stopped, ReadFault, WriteFault, Unwritten, NoMemory, Absent}
+use Rattle.mpy_endings.specs.declared.ending.BoardFault.{BoardFault}
+use Rattle.mpy_endings.specs.declared.ending.BoardFault.TheVariants as boards
 use Rattle.mpy_endings.specs.declared.ending.Stop.{Stop}
 use Rattle.mpy_endings.specs.declared.ending.Stop.TheVariants.{Past, LibraryFault, LibraryUnaccepted, Raised, Memory, Steps}
 
@@ -38,6 +40,12 @@ abbrev pub frozen_status : FrozenFault → ℕ
 frozen_status (frozen.Sources fault) = sources_status fault
 frozen_status (frozen.Image fault) = 11
 
+-- of a board that didn't run its plan
+abbrev pub board_status : BoardFault → ℕ
+board_status (boards.Plan fault) = 11
+board_status (boards.NoModule name) = 11
+board_status (boards.Unwritten task) = 8
+
 abbrev pub status_of : Ending → ℕ
 status_of Done = 0
 status_of (Unaccepted fault) = 3
@@ -51,6 +59,7 @@ status_of Absent = 10
 status_of (Unmerged fault) = 11
 status_of (Unopened fault) = main_status fault
 status_of (Unfrozen fault) = frozen_status fault
+status_of (Unboarded fault) = board_status fault
 status_of (Stopped stop) = stop_status stop
 
 -- whether the folder's count of faults rose
@@ -62,6 +71,11 @@ is_read_stop Raised = false
 is_read_stop Memory = false
 is_read_stop (Steps count) = false
 
+abbrev pub is_output_fault : BoardFault → Bool
+is_output_fault (boards.Plan fault) = false
+is_output_fault (boards.NoModule name) = false
+is_output_fault (boards.Unwritten task) = true
+
 abbrev pub is_folder_fault : Ending → Bool
 is_folder_fault Done = false
 is_folder_fault (Unaccepted fault) = false
@@ -70,6 +84,7 @@ is_folder_fault (Unverified fault) = false
 is_folder_fault (Unmerged fault) = false
 is_folder_fault (Unopened fault) = false
 is_folder_fault (Unfrozen fault) = is_read_failure fault
+is_folder_fault (Unboarded fault) = is_output_fault fault
 is_folder_fault (Stopped stop) = is_read_stop stop
 is_folder_fault ReadFault = true
 is_folder_fault WriteFault = false
@@ -86,6 +101,7 @@ is_out_fault (Unverified fault) = false
 is_out_fault (Unmerged fault) = false
 is_out_fault (Unopened fault) = false
 is_out_fault (Unfrozen fault) = false
+is_out_fault (Unboarded fault) = false
 is_out_fault (Stopped stop) = false
 is_out_fault ReadFault = false
 is_out_fault WriteFault = true
@@ -110,6 +126,7 @@ is_said (Unverified fault) = false
 is_said (Unmerged fault) = false
 is_said (Unopened fault) = false
 is_said (Unfrozen fault) = false
+is_said (Unboarded fault) = false
 is_said (Stopped stop) = is_stop_said stop
 is_said ReadFault = false
 is_said WriteFault = false
@@ -134,6 +151,7 @@ IsSettled (Unverified fault) = Unit {0}
 IsSettled (Unmerged fault) = Unit {0}
 IsSettled (Unopened fault) = Unit {0}
 IsSettled (Unfrozen fault) = is_read_failure fault ≡ false
+IsSettled (Unboarded fault) = is_output_fault fault ≡ false
 IsSettled (Stopped stop) = IsSettledStop stop
 IsSettled ReadFault = ⊥
 IsSettled WriteFault = ⊥

@@ -23,11 +23,15 @@ use Rattle.frozen_files.specs.declared.fault.SourcesFault.{SourcesFault}
 use Rattle.frozen_files.specs.declared.fault.SourcesFault.TheVariants as sources
 use Rattle.frozen_files.specs.declared.fault.FrozenFault.{FrozenFault}
 use Rattle.frozen_files.specs.declared.fault.FrozenFault.TheVariants as frozen
+use Rattle.board_plan.specs.declared.plan.PlanFault.{PlanFault}
+use Rattle.board_plan.specs.declared.plan.PlanFault.TheVariants as plans
 use Rattle.mpy_words.specs.declared.order.WordFault.{WordFault}
 use Rattle.mpy_words.specs.declared.order.WordFault.TheVariants.{NoCommand, Unknown, MissingName, MissingValue, BadNumber, Twice}
 use Rattle.mpy_words.specs.Command.{name_of as word_name, spelling_of}
 use Rattle.mpy_endings.specs.declared.ending.Ending.{Ending}
-use Rattle.mpy_endings.specs.declared.ending.Ending.TheVariants.{Done, Unaccepted, Unread, Unverified, Unmerged, Unopened, Unfrozen, Stopped, ReadFault, WriteFault, Unwritten, NoMemory, Absent}
+use Rattle.mpy_endings.specs.declared.ending.Ending.TheVariants.{Done, Unaccepted, Unread, Unverified, Unmerged, Unopened, Unfrozen, Unboarded, Stopped, ReadFault, WriteFault, Unwritten, NoMemory, Absent}
+use Rattle.mpy_endings.specs.declared.ending.BoardFault.{BoardFault}
+use Rattle.mpy_endings.specs.declared.ending.BoardFault.TheVariants as boards
 use Rattle.mpy_endings.specs.declared.ending.Stop.{Stop}
 use Rattle.mpy_endings.specs.declared.ending.Stop.TheVariants.{Past, LibraryFault, LibraryUnaccepted, Raised, Memory, Steps}
 use Rattle.library_files.specs.declared.limit.Limit.TheVariants as limits
@@ -163,6 +167,31 @@ abbrev pub frozen_line : List ℕ → FrozenFault → List ℕ
 frozen_line name (frozen.Sources fault) = sources_line name fault
 frozen_line name (frozen.Image fault) = modules_line fault
 
+-- what is said of the fault of a plan, and the number of the line that it tells
+abbrev pub plan_text : PlanFault → List ℕ
+plan_text (plans.BadLine line) = codes "1 BadLine"
+plan_text (plans.NoTask line) = codes "2 NoTask"
+plan_text plans.TooMany = codes "3 TooMany"
+
+abbrev pub plan_number : PlanFault → Option ℕ
+plan_number (plans.BadLine line) = Some line
+plan_number (plans.NoTask line) = Some line
+plan_number plans.TooMany = None
+
+-- why the text of this name is no plan
+abbrev pub plan_line : List ℕ → PlanFault → List ℕ
+plan_line name fault =
+    (codes "mpy: " ++ name ++ codes ": board ")
+    ++ plan_text fault
+    ++ tag_text (plan_number fault)
+    ++ codes "\n"
+
+-- why the plan of this name wasn't run: a line of it, a module that isn't there, or the file of a task's output
+abbrev pub board_line : List ℕ → BoardFault → List ℕ
+board_line name (boards.Plan fault) = plan_line name fault
+board_line name (boards.NoModule missing) = (codes "mpy: " ++ name ++ codes ": board 4 NoModule ") ++ (missing ++ codes "\n")
+board_line name (boards.Unwritten task) = codes "mpy: write fault " ++ decimal task ++ codes ".out\n"
+
 -- what kept a file or a source from being run to its end: nothing of what was said in the run
 abbrev pub stop_line : Stop → List ℕ
 stop_line (Past limits.TooMany) = codes "mpy: library TooMany\n"
@@ -182,6 +211,7 @@ line_of name (Unverified fault) = verify_line name fault
 line_of name (Unmerged fault) = merge_line fault
 line_of name (Unopened fault) = main_line name fault
 line_of name (Unfrozen fault) = frozen_line name fault
+line_of name (Unboarded fault) = board_line name fault
 line_of name (Stopped stop) = stop_line stop
 line_of name ReadFault = codes "mpy: read fault " ++ name ++ codes "\n"
 line_of name WriteFault = codes "mpy: write fault out\n"
@@ -198,6 +228,7 @@ name_in read written (Unverified fault) = read
 name_in read written (Unmerged fault) = read
 name_in read written (Unopened fault) = read
 name_in read written (Unfrozen fault) = read
+name_in read written (Unboarded fault) = read
 name_in read written (Stopped stop) = read
 name_in read written ReadFault = read
 name_in read written WriteFault = read
@@ -214,6 +245,7 @@ place_in (Unverified fault) = 1
 place_in (Unmerged fault) = 1
 place_in (Unopened fault) = 1
 place_in (Unfrozen fault) = 1
+place_in (Unboarded fault) = 1
 place_in (Stopped stop) = 1
 place_in ReadFault = 1
 place_in WriteFault = 1

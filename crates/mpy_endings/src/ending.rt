@@ -6,6 +6,7 @@ ghost use Rattle.mpy_endings.specs.Ending.{status_of, stop_status};
 ghost use Rattle.mpy_endings.specs.Line.{place_in};
 
 use bc_verify::VerifyFault;
+use board_plan::PlanFault;
 use frozen_files::{FrozenFault, SourcesFault};
 use image_runs::MainFault;
 use library_files::{Limit, UnacceptedSource};
@@ -74,6 +75,26 @@ fn frozen_status(fault: &FrozenFault) -> u8
     }
 }
 
+/// What keeps a board from running its plan.
+#[derive(Debug, Drop)]
+pub enum BoardFault {
+    /// The text is no plan.
+    Plan(PlanFault),
+    /// The image has no module of this name to run, which a task names.
+    NoModule(Text),
+    /// The folder failed to write the output of the task of this number.
+    Unwritten(u32),
+}
+
+fn board_status(fault: &BoardFault) -> u8
+    ensures { result ≡ spec.board_status fault.now }
+{
+    match fault {
+        BoardFault::Plan(_) | BoardFault::NoModule(_) => 11,
+        BoardFault::Unwritten(_) => 8,
+    }
+}
+
 /// How a command ended.
 #[derive(Debug, Drop)]
 pub enum Ending {
@@ -91,6 +112,8 @@ pub enum Ending {
     Unopened(MainFault),
     /// There is no image of the manifest's sources.
     Unfrozen(FrozenFault),
+    /// The board didn't run its plan.
+    Unboarded(BoardFault),
     /// The file is verified, or the source accepted, and wasn't run to its end.
     Stopped(Stop),
     /// The folder failed to read the file.
@@ -113,7 +136,7 @@ impl Ending {
             Ending::Unwritten => 2,
             Ending::Done | Ending::Unaccepted(_) | Ending::Unread(_) | Ending::Unverified(_) => 1,
             Ending::Unmerged(_) | Ending::Stopped(_) | Ending::ReadFault => 1,
-            Ending::Unopened(_) | Ending::Unfrozen(_) => 1,
+            Ending::Unopened(_) | Ending::Unfrozen(_) | Ending::Unboarded(_) => 1,
             Ending::WriteFault | Ending::NoMemory | Ending::Absent => 1,
         }
     }
@@ -133,6 +156,7 @@ impl Ending {
             Ending::Unmerged(_) => 11,
             Ending::Unopened(fault) => main_status(fault),
             Ending::Unfrozen(fault) => frozen_status(fault),
+            Ending::Unboarded(fault) => board_status(fault),
             Ending::Stopped(stop) => stop.status(),
         }
     }

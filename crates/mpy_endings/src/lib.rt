@@ -1,13 +1,14 @@
 //! How commands end: the statuses, and the line that is said at the end.
 #![tactic(auto)]
 
+mod boards;
 mod ending;
 mod freezing;
 mod line;
 mod put;
 mod words;
 
-pub use ending::{Ended, Ending, Stop};
+pub use ending::{BoardFault, Ended, Ending, Stop};
 pub use line::{say_ending, say_words};
 pub use put::put_three;
 pub use words::{file_names, main_name, source_name, word_at};

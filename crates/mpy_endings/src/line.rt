@@ -8,6 +8,7 @@ ghost use Rattle.mpy_endings.specs.Ending.{is_stop_said, is_said};
 ghost use Rattle.mpy_endings.specs.Line as spec;
 ghost use Rattle.mpy_endings.specs.Line.{Puts, spaced, words_line, source_line, file_line, tag_text, path_text, verify_line, merge_line, stop_line, line_of};
 
+use crate::boards::say_board;
 use crate::ending::{Ending, Stop};
 use crate::freezing::{say_frozen, say_main};
 use crate::put::{gap, put, put_head, put_three, put_two};
@@ -177,8 +178,8 @@ fn put_merge_fault<E: Sink>(say: &mut E, fault: MergeFault) -> Result<(), Failed
     put_three(say, digits, b" ", fault.name().as_bytes())
 }
 
-/// Puts the place of the module that a fault names.
-fn put_place<E: Sink>(say: &mut E, place: Option<usize>) -> Result<(), Failed>
+/// Puts the place of the module or the number of the line that a fault names.
+pub(crate) fn put_place<E: Sink>(say: &mut E, place: Option<usize>) -> Result<(), Failed>
     ensures { Puts (E.told say.old) (E.told say.new) (E.count say.old) (E.count say.new) (tag_text place) result }
 {
     match place {
@@ -243,6 +244,7 @@ pub fn say_ending<E: Sink>(say: &mut E, name: &str, ending: &Ending) -> Result<(
         Ending::Unmerged(fault) => say_unmerged(say, *fault),
         Ending::Unopened(fault) => say_main(say, name, fault),
         Ending::Unfrozen(fault) => say_frozen(say, name, fault),
+        Ending::Unboarded(fault) => say_board(say, name, fault),
         Ending::Stopped(stop) => say_stop(say, stop),
         Ending::ReadFault => put_three(say, b"mpy: read fault ", name.as_bytes(), b"\n"),
         Ending::WriteFault => put(say, b"mpy: write fault out\n"),

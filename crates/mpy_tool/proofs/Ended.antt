@@ -5,10 +5,10 @@ use Rattle.mpy_io.specs.Files.{FileOf}
 use Rattle.mpy_io.specs.declared.fault.Failed.{Failed}
 use Rattle.mpy_words.specs.Words.{first_name, second_name}
 use Rattle.mpy_endings.specs.declared.ending.Ending.{Ending}
-use Rattle.mpy_endings.specs.declared.ending.Ending.TheVariants.{Done, Unaccepted, Unread, Unverified, Unmerged, Unopened, Unfrozen, Stopped, ReadFault, WriteFault, Unwritten, NoMemory, Absent}
+use Rattle.mpy_endings.specs.declared.ending.Ending.TheVariants.{Done, Unaccepted, Unread, Unverified, Unmerged, Unopened, Unfrozen, Unboarded, Stopped, ReadFault, WriteFault, Unwritten, NoMemory, Absent}
 use Rattle.mpy_endings.specs.Ending.{status_of, is_folder_fault, is_out_fault}
 use Rattle.mpy_endings.specs.Line.{Puts, Says, line_of, name_in, place_in}
-use Rattle.mpy_tool.specs.Outside.{Outside, Ends}
+use Rattle.command_files.specs.Outside.{Outside, Ends}
 use Rattle.mpy_endings.proofs.Said.{says_from}
 
 abbrev pub Relation : Type 1
@@ -23,6 +23,7 @@ name_read read written (Unverified fault) h = refl
 name_read read written (Unmerged fault) h = refl
 name_read read written (Unopened fault) h = refl
 name_read read written (Unfrozen fault) h = refl
+name_read read written (Unboarded fault) h = refl
 name_read read written (Stopped stop) h = refl
 name_read read written ReadFault h = refl
 name_read read written WriteFault h = refl
@@ -39,6 +40,7 @@ word_named words (Unverified fault) = refl
 word_named words (Unmerged fault) = refl
 word_named words (Unopened fault) = refl
 word_named words (Unfrozen fault) = refl
+word_named words (Unboarded fault) = refl
 word_named words (Stopped stop) = refl
 word_named words ReadFault = refl
 word_named words WriteFault = refl

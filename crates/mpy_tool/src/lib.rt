@@ -1,18 +1,13 @@
-//! The tool's commands: the top call, and what it says at the end.
+//! The tool: the top call, which does what words order.
 #![tactic(auto)]
 
-mod base;
-mod check;
-mod cross;
-mod dump;
-mod freeze;
-mod go;
-mod meant;
-mod merge;
-mod ready;
-mod run;
+mod doing;
+mod releasing;
+mod running;
 mod top;
 
-pub use meant::{crossed_holds_law, holds_law, image_holds_law, makes_law};
-pub use mpy_endings::{Ending, Stop};
-pub use top::{mpy, one_ending_law};
+pub use board_command::board_means_law;
+pub use file_commands::one_ending_law;
+pub use mpy_endings::{BoardFault, Ending, Stop};
+pub use run_meaning::{crossed_holds_law, holds_law, image_holds_law, makes_law};
+pub use top::mpy;

@@ -1,139 +1,39 @@
 //! The top call.
 
-ghost use Rattle.std.specs.Prelude.{◌≡◌, ◌≤◌, ℕ, List, [], Option, Some, true, false, map, string_bytes, IfOk, IfErr};
-ghost use Rattle.mpy_io.specs.Count.{Counts};
-ghost use Rattle.mpy_io.specs.Files.{FileOf};
-ghost use Rattle.mpy_tree.specs.Raw.{Module};
-ghost use Rattle.library_files.specs.Ends.{HoldsModules};
-ghost use Rattle.image_runs.specs.Main.{IsMainAt};
+ghost use Rattle.std.specs.Prelude.{◌≡◌, ◌≤◌, [], true, false, map, string_bytes, IfOk, IfErr, ForSome};
+ghost use Rattle.image_base.specs.Base.{IsOpened};
 ghost use Rattle.mpy_words.specs.declared.order.Command.TheVariants as commands;
-ghost use Rattle.mpy_words.specs.Command.{takes_files};
 ghost use Rattle.mpy_words.specs.Words.{order_of, first_name, second_name, source_name, main_name, file_names};
-ghost use Rattle.mpy_endings.specs.declared.ending.Ending.{Ending};
-ghost use Rattle.mpy_endings.specs.declared.ending.Ending.TheVariants.{Done};
-ghost use Rattle.mpy_endings.specs.Ending.{IsSettled, is_folder_fault, is_out_fault};
-ghost use Rattle.mpy_tool.specs.Check.{Checks};
-ghost use Rattle.mpy_tool.specs.Cross.{Crosses};
-ghost use Rattle.mpy_tool.specs.Dump.{Dumps};
-ghost use Rattle.mpy_tool.specs.Freeze.{Freezes};
-ghost use Rattle.mpy_tool.specs.GoMeant.{GoMeans};
-ghost use Rattle.mpy_endings.specs.Line.{place_in};
-ghost use Rattle.mpy_tool.specs.Meant.{RunMeans};
-ghost use Rattle.mpy_tool.specs.Merge.{Merges, failed_in};
-ghost use Rattle.mpy_tool.specs.Outside.{seen, RefusesWords, Ends, Writes, WritesOf, written_by, written_in, calls_ports, calls_ports_in, Changes};
-ghost use Rattle.mpy_tool.specs.Ready.{GoLibrary, RunLibrary};
-ghost use Rattle.mpy_tool.specs.Run.{EndsRun, IsUnloaded, room_of};
 ghost use Rattle.source_files.specs.Sources.{stored};
-ghost use Rattle.std.specs.Io.KnownBytes.{Keeps};
+ghost use Rattle.command_files.specs.Outside.{seen, Ends, EndsAt, Writes, WritesOf};
+ghost use Rattle.file_commands.specs.Check.{Checks};
+ghost use Rattle.file_commands.specs.Cross.{Crosses};
+ghost use Rattle.file_commands.specs.Dump.{Dumps};
+ghost use Rattle.file_commands.specs.Merge.{Merges};
+ghost use Rattle.run_commands.specs.Ready.{GoLibrary};
+ghost use Rattle.run_commands.specs.Run.{EndsRun, room_of};
+ghost use Rattle.run_meaning.specs.GoMeant.{GoMeans};
+ghost use Rattle.run_meaning.specs.Meant.{RunMeans};
+ghost use Rattle.image_commands.specs.Migrate.{Migrates};
+ghost use Rattle.board_command.specs.Images.{library_below};
+ghost use Rattle.board_command.specs.Boards.{Boards};
+ghost use Rattle.mpy_tool.specs.Below.{Based, FreezesBelow, RunLibraryBelow};
+ghost use Rattle.mpy_tool.specs.Doing.{ActsBy, ObeysBy};
+ghost use Rattle.mpy_tool.specs.Order.{RefusesWords, base_by, calls_ports, calls_ports_in, ChangesBy, ChangesIn};
 
-use crate::check::check;
-use crate::cross::cross;
-use crate::dump::dump;
-use crate::freeze::freeze;
-use crate::go::source_ready;
-use crate::meant::{go_means_law, run_means_law};
-use crate::merge::merge_files;
-use crate::ready::Ready;
-use crate::run::{run_loaded, run_ready};
-use mpy_base::Room;
-use mpy_compile::compile_law;
-use mpy_endings::{
-    Ended, Ending, file_names as files_in, main_name as main_in, say_ending, say_words,
-    source_name as name_to_store, word_at,
-};
-use mpy_io::{Failed, Folder, Port, Sink};
+use crate::doing::do_order;
+use crate::running::run_order;
+use base_library::base_library;
+use bc_library::Library;
+use mpy_endings::{say_ending, say_words, word_at};
+use mpy_io::{Folder, Port, Sink};
 use mpy_words::{Command, Order, order_of};
 use port_set::PortSet;
+use run_meaning::{go_means_law, run_means_law};
 use std::alloc::Global;
 
 /// The status of words that are of no order.
 const WORDS_STATUS: u8 = 2;
-
-/// Does what the words order, and may leave some of what is printed in the sink.
-fn ran<F: Folder, S: Sink>(
-    order: Order,
-    alloc: Global,
-    words: &[String],
-    folder: &mut F,
-    out: &mut S,
-) -> Ended
-    requires level { order.level ≤ 3 }
-    requires no_run { calls_ports order.command ≡ false }
-    ensures check { order.command ≡ commands.Check → Checks (F.files folder.old) (first_name (map string_bytes words.now)) result.ending (S.told out.old) (S.told out.new) }
-    ensures dump { order.command ≡ commands.Dump → Dumps (F.files folder.old) (first_name (map string_bytes words.now)) result.ending (S.told out.old) (S.told out.new) }
-    ensures cross { order.command ≡ commands.Cross → Crosses order.level (first_name (map string_bytes words.now)) (stored (source_name (map string_bytes words.now) order.stored_name))
-        (second_name (map string_bytes words.now)) (F.files folder.old) (F.files folder.new) result.ending }
-    ensures merge { order.command ≡ commands.Merge → Merges (file_names (map string_bytes words.now)) (first_name (map string_bytes words.now)) (F.files folder.old) (F.files folder.new) result.place result.ending }
-    ensures freeze { order.command ≡ commands.Freeze → Freezes (first_name (map string_bytes words.now)) (second_name (map string_bytes words.now)) (F.files folder.old) (F.files folder.new) result.ending }
-    ensures cross_prints { order.command ≡ commands.Cross → Keeps (S.told out.old) (S.told out.new) }
-    ensures merge_prints { order.command ≡ commands.Merge → Keeps (S.told out.old) (S.told out.new) }
-    ensures freeze_prints { order.command ≡ commands.Freeze → Keeps (S.told out.old) (S.told out.new) }
-    ensures place { takes_files order.command ≡ false → result.place ≡ place_in result.ending }
-    ensures folder_counts { Counts (F.count folder.old) (F.count folder.new) (is_folder_fault result.ending) }
-    ensures out_counts { Counts (S.count out.old) (S.count out.new) (is_out_fault result.ending) }
-    ensures files { Changes (written_by (map string_bytes words.now) order.command) (F.files folder.old) (F.files folder.new) }
-{
-    let name = word_at(words, 1);
-    match order.command {
-        Command::Check => Ended::of_two(check(alloc, name, folder, out)),
-        Command::Dump => Ended::of_two(dump(alloc, name, folder, out)),
-        Command::Cross => {
-            let source_name = name_to_store(words, order.stored_name);
-            Ended::of_two(cross(
-                alloc,
-                order.level,
-                name,
-                source_name,
-                word_at(words, 2),
-                folder,
-            ))
-        }
-        Command::Merge => merge_files(alloc, files_in(words), name, folder),
-        Command::Freeze => Ended::of_two(freeze(alloc, name, word_at(words, 2), folder)),
-        Command::Go | Command::Run => unreachable!(),
-    }
-}
-
-/// Does what the words order, and hands on what is printed.
-fn done<F: Folder, S: Sink>(
-    order: Order,
-    alloc: Global,
-    words: &[String],
-    folder: &mut F,
-    out: &mut S,
-) -> Ended
-    requires level { order.level ≤ 3 }
-    requires no_run { calls_ports order.command ≡ false }
-    ensures check { order.command ≡ commands.Check → Checks (F.files folder.old) (first_name (map string_bytes words.now)) result.ending (S.told out.old) (S.told out.new) }
-    ensures dump { order.command ≡ commands.Dump → Dumps (F.files folder.old) (first_name (map string_bytes words.now)) result.ending (S.told out.old) (S.told out.new) }
-    ensures cross { order.command ≡ commands.Cross → Crosses order.level (first_name (map string_bytes words.now)) (stored (source_name (map string_bytes words.now) order.stored_name))
-        (second_name (map string_bytes words.now)) (F.files folder.old) (F.files folder.new) result.ending }
-    ensures merge { order.command ≡ commands.Merge → Merges (file_names (map string_bytes words.now)) (first_name (map string_bytes words.now)) (F.files folder.old) (F.files folder.new) result.place result.ending }
-    ensures freeze { order.command ≡ commands.Freeze → Freezes (first_name (map string_bytes words.now)) (second_name (map string_bytes words.now)) (F.files folder.old) (F.files folder.new) result.ending }
-    ensures cross_prints { order.command ≡ commands.Cross → Keeps (S.told out.old) (S.told out.new) }
-    ensures merge_prints { order.command ≡ commands.Merge → Keeps (S.told out.old) (S.told out.new) }
-    ensures freeze_prints { order.command ≡ commands.Freeze → Keeps (S.told out.old) (S.told out.new) }
-    ensures place { takes_files order.command ≡ false → result.place ≡ place_in result.ending }
-    ensures flushed { result.ending ≡ Done → S.held out.new ≡ [] }
-    ensures folder_counts { Counts (F.count folder.old) (F.count folder.new) (is_folder_fault result.ending) }
-    ensures out_counts { Counts (S.count out.old) (S.count out.new) (is_out_fault result.ending) }
-    ensures files { Changes (written_by (map string_bytes words.now) order.command) (F.files folder.old) (F.files folder.new) }
-{
-    let Ended { ending, place } = ran(order, alloc, words, folder, out);
-    match ending {
-        Ending::Done => match out.flush() {
-            Ok(()) => Ended {
-                ending: Ending::Done,
-                place,
-            },
-            Err(Failed) => Ended {
-                ending: Ending::WriteFault,
-                place,
-            },
-        },
-        ending => Ended { ending, place },
-    }
-}
 
 /// Does a command run a library?
 fn runs(command: Command) -> bool
@@ -141,126 +41,79 @@ fn runs(command: Command) -> bool
 {
     match command {
         Command::Go | Command::Run => true,
-        Command::Check | Command::Dump | Command::Cross => false,
-        Command::Merge | Command::Freeze => false,
+        Command::Check | Command::Dump | Command::Cross | Command::Merge => false,
+        Command::Freeze | Command::Migrate | Command::Board => false,
     }
 }
 
-/// The library of the source, the file or the image that the words name, whichever is ordered, or what keeps it from being run.
-fn library_of<F: Folder>(
-    order: Order,
-    alloc: Global,
-    words: &[String],
-    folder: &mut F,
-) -> Result<Ready, Ending>
-    requires level { order.level ≤ 3 }
-    requires runs { calls_ports order.command ≡ true }
-    ensures go { order.command ≡ commands.Go → GoLibrary order.level (F.files folder.old) (first_name (map string_bytes words.now)) result }
-    ensures run { order.command ≡ commands.Run
-        → RunLibrary (main_name (map string_bytes words.now) order.main_name) (F.files folder.old) (first_name (map string_bytes words.now)) result }
-    ensures there { IfOk result (λ ready. (m : Module) × IsMainAt ready.main ready.place m ready.library) }
-    ensures holds { IfOk result (λ ready. HoldsModules ready.library) }
-    ensures unloaded { IfErr result IsUnloaded }
-    ensures counts { Counts (F.count folder.old) (F.count folder.new) (failed_in result) }
-    ensures files { F.files folder.new ≡ F.files folder.old }
+/// The place of the base's name, of a command that may stand on a base.
+fn base_place(order: Order) -> Option<usize>
+    ensures { result ≡ base_by order.command order.base }
 {
-    let name = word_at(words, 1);
     match order.command {
-        Command::Go => source_ready(alloc, order.level, name, folder),
-        Command::Run => run_ready(alloc, name, main_in(words, order.main_name), folder),
-        Command::Check | Command::Dump | Command::Cross => unreachable!(),
-        Command::Merge | Command::Freeze => unreachable!(),
+        Command::Freeze | Command::Run | Command::Board => order.base,
+        Command::Go | Command::Check | Command::Dump | Command::Cross => None,
+        Command::Merge | Command::Migrate => None,
     }
 }
 
-/// Runs the library of the source, the file or the image that the words name, whichever is ordered, and answers the exit status.
-fn run_order<F: Folder, S: Sink, P: Port, E: Sink>(
+/// Does what is ordered, over the library below, and answers the exit status.
+fn act<F: Folder, S: Sink, P: Port, E: Sink>(
     order: Order,
     alloc: Global,
     words: &[String],
+    below: Option<Library>,
     folder: &mut F,
     out: &mut S,
-    ports: &mut PortSet<P>,
     say: &mut E,
+    ports: &mut PortSet<P>,
 ) -> u8
     requires level { order.level ≤ 3 }
-    requires runs { calls_ports order.command ≡ true }
-    ensures go { order.command ≡ commands.Go
-        → EndsRun (GoLibrary order.level) (room_of order) order.steps (first_name (map string_bytes words.now))
+    requires below { ForSome below IsOpened }
+    ensures ended { ActsBy order (map string_bytes words.now) below
         (seen F.files F.count S.told S.count E.told E.count folder.old out.old say.old)
         (seen F.files F.count S.told S.count E.told E.count folder.new out.new say.new)
-        (map P.seen ports.old) (map P.seen ports.new) result }
-    ensures run { order.command ≡ commands.Run
-        → EndsRun (RunLibrary (main_name (map string_bytes words.now) order.main_name)) (room_of order) order.steps (first_name (map string_bytes words.now))
-        (seen F.files F.count S.told S.count E.told E.count folder.old out.old say.old)
-        (seen F.files F.count S.told S.count E.told E.count folder.new out.new say.new)
-        (map P.seen ports.old) (map P.seen ports.new) result }
-    ensures go_means { order.command ≡ commands.Go
-        → GoMeans order.level (room_of order) order.steps (first_name (map string_bytes words.now))
-        (seen F.files F.count S.told S.count E.told E.count folder.old out.old say.old)
-        (seen F.files F.count S.told S.count E.told E.count folder.new out.new say.new)
-        (map P.seen ports.old) (map P.seen ports.new) result }
-    ensures run_means { order.command ≡ commands.Run
-        → RunMeans (RunLibrary (main_name (map string_bytes words.now) order.main_name)) (room_of order) order.steps (first_name (map string_bytes words.now))
-        (seen F.files F.count S.told S.count E.told E.count folder.old out.old say.old)
-        (seen F.files F.count S.told S.count E.told E.count folder.new out.new say.new)
-        (map P.seen ports.old) (map P.seen ports.new) result }
+        (map P.seen ports.old) (map P.seen ports.new) result order.command }
+    ensures ports { calls_ports order.command ≡ false → ports.new ≡ ports.old }
     ensures flushed { result ≡ 0 → S.held out.new ≡ [] }
-    ensures files { F.files folder.new ≡ F.files folder.old }
+    ensures files { ChangesBy (map string_bytes words.now) order.command (F.files folder.old) (F.files folder.new) }
 {
-    go_means_law();
-    run_means_law();
-    let name = word_at(words, 1);
-    let room = Room {
-        cells: order.cells,
-        bytes: order.bytes,
-    };
-    let loaded = library_of(order, alloc, words, folder);
-    let ending = run_loaded(alloc, loaded, room, order.steps, out, ports, say);
-    let _ = say_ending(say, name, &ending);
-    ending.status()
+    if runs(order.command) {
+        return run_order(order, alloc, words, below, folder, out, ports, say);
+    }
+    do_order(order, alloc, words, below, folder, out, say)
 }
 
-/// Does what the words order, which isn't to run a library, and answers the exit status.
-fn do_order<F: Folder, S: Sink, E: Sink>(
+/// Does what is ordered, over the base that is ordered, if one is, and answers the exit status.
+fn obey<F: Folder, S: Sink, P: Port, E: Sink>(
     order: Order,
     alloc: Global,
     words: &[String],
     folder: &mut F,
     out: &mut S,
     say: &mut E,
+    ports: &mut PortSet<P>,
 ) -> u8
     requires level { order.level ≤ 3 }
-    requires no_run { calls_ports order.command ≡ false }
-    ensures check { order.command ≡ commands.Check
-        → Ends Checks (first_name (map string_bytes words.now))
+    ensures ended { ObeysBy order.command order (map string_bytes words.now)
         (seen F.files F.count S.told S.count E.told E.count folder.old out.old say.old)
-        (seen F.files F.count S.told S.count E.told E.count folder.new out.new say.new) result }
-    ensures dump { order.command ≡ commands.Dump
-        → Ends Dumps (first_name (map string_bytes words.now))
-        (seen F.files F.count S.told S.count E.told E.count folder.old out.old say.old)
-        (seen F.files F.count S.told S.count E.told E.count folder.new out.new say.new) result }
-    ensures cross { order.command ≡ commands.Cross
-        → Writes (Crosses order.level (first_name (map string_bytes words.now)) (stored (source_name (map string_bytes words.now) order.stored_name)) (second_name (map string_bytes words.now)))
-        (first_name (map string_bytes words.now)) (second_name (map string_bytes words.now))
-        (seen F.files F.count S.told S.count E.told E.count folder.old out.old say.old)
-        (seen F.files F.count S.told S.count E.told E.count folder.new out.new say.new) result }
-    ensures merge { order.command ≡ commands.Merge
-        → WritesOf (Merges (file_names (map string_bytes words.now)) (first_name (map string_bytes words.now))) (map string_bytes words.now)
-        (seen F.files F.count S.told S.count E.told E.count folder.old out.old say.old)
-        (seen F.files F.count S.told S.count E.told E.count folder.new out.new say.new) result }
-    ensures freeze { order.command ≡ commands.Freeze
-        → Writes (Freezes (first_name (map string_bytes words.now)) (second_name (map string_bytes words.now)))
-        (first_name (map string_bytes words.now)) (second_name (map string_bytes words.now))
-        (seen F.files F.count S.told S.count E.told E.count folder.old out.old say.old)
-        (seen F.files F.count S.told S.count E.told E.count folder.new out.new say.new) result }
+        (seen F.files F.count S.told S.count E.told E.count folder.new out.new say.new)
+        (map P.seen ports.old) (map P.seen ports.new) result }
+    ensures ports { calls_ports order.command ≡ false → ports.new ≡ ports.old }
     ensures flushed { result ≡ 0 → S.held out.new ≡ [] }
-    ensures files { Changes (written_by (map string_bytes words.now) order.command) (F.files folder.old) (F.files folder.new) }
+    ensures files { ChangesBy (map string_bytes words.now) order.command (F.files folder.old) (F.files folder.new) }
 {
-    let ended = done(order, alloc, words, folder, out);
-    let name = word_at(words, ended.place);
-    let _ = say_ending(say, name, &ended.ending);
-    ended.ending.status()
+    let Some(at) = base_place(order) else {
+        return act(order, alloc, words, None, folder, out, say, ports);
+    };
+    let base = word_at(words, at);
+    match base_library(alloc, base, folder) {
+        Ok(below) => act(order, alloc, words, Some(below), folder, out, say, ports),
+        Err(ending) => {
+            let _ = say_ending(say, base, &ending);
+            ending.status()
+        }
+    }
 }
 
 /// Does what the words order, the program's own name left out, and answers the exit status. The line on `say` isn't
@@ -312,33 +165,65 @@ pub fn mpy<F: Folder, S: Sink, P: Port, E: Sink>(
         (seen F.files F.count S.told S.count E.told E.count folder.old out.old say.old)
         (seen F.files F.count S.told S.count E.told E.count folder.new out.new say.new) result) }
 
-    // freeze MANIFEST OUT: OUT becomes the image of the manifest's sources, and nothing is printed, or what kept it from that is said.
+    // freeze MANIFEST OUT: OUT becomes the image of the manifest's sources, over the base that is ordered, if one is, and nothing is printed,
+    // or what kept it from that is said.
     ensures freeze { IfOk (order_of (map string_bytes words.now)) (λ order. order.command ≡ commands.Freeze
-        → Writes (Freezes (first_name (map string_bytes words.now)) (second_name (map string_bytes words.now)))
+        → Based (map string_bytes words.now)
+        (seen F.files F.count S.told S.count E.told E.count folder.old out.old say.old)
+        (seen F.files F.count S.told S.count E.told E.count folder.new out.new say.new)
+        (map P.seen ports.old) (map P.seen ports.new) result order.base (λ below.
+        Writes (FreezesBelow below (first_name (map string_bytes words.now)) (second_name (map string_bytes words.now)))
+        (first_name (map string_bytes words.now)) (second_name (map string_bytes words.now))
+        (seen F.files F.count S.told S.count E.told E.count folder.old out.old say.old)
+        (seen F.files F.count S.told S.count E.told E.count folder.new out.new say.new) result)) }
+
+    // migrate IMAGE OUT: OUT becomes the image in version 2, and nothing is printed, or what kept it from that is said.
+    ensures migrate { IfOk (order_of (map string_bytes words.now)) (λ order. order.command ≡ commands.Migrate
+        → Writes (Migrates (first_name (map string_bytes words.now)) (second_name (map string_bytes words.now)))
         (first_name (map string_bytes words.now)) (second_name (map string_bytes words.now))
         (seen F.files F.count S.told S.count E.told E.count folder.old out.old say.old)
         (seen F.files F.count S.told S.count E.told E.count folder.new out.new say.new) result) }
 
     // run FILE: the library of FILE is run, in the room and for the steps that are ordered, and its output is printed; or what kept
-    // it from that is said. A file that begins as an image is one, and the module that is ordered its main one.
+    // it from that is said. A file that begins as an image is one, over the base that is ordered, if one is, and the module that is ordered
+    // its main one.
     ensures run { IfOk (order_of (map string_bytes words.now)) (λ order. order.command ≡ commands.Run
-        → EndsRun (RunLibrary (main_name (map string_bytes words.now) order.main_name)) (room_of order) order.steps (first_name (map string_bytes words.now))
+        → Based (map string_bytes words.now)
         (seen F.files F.count S.told S.count E.told E.count folder.old out.old say.old)
         (seen F.files F.count S.told S.count E.told E.count folder.new out.new say.new)
-        (map P.seen ports.old) (map P.seen ports.new) result) }
+        (map P.seen ports.old) (map P.seen ports.new) result order.base (λ below.
+        EndsRun (RunLibraryBelow below (main_name (map string_bytes words.now) order.main_name)) (room_of order) order.steps (first_name (map string_bytes words.now))
+        (seen F.files F.count S.told S.count E.told E.count folder.old out.old say.old)
+        (seen F.files F.count S.told S.count E.told E.count folder.new out.new say.new)
+        (map P.seen ports.old) (map P.seen ports.new) result)) }
 
-    // Both print and end as their program means, and stop earlier only at their last step: `go` as that of the sources, and `run` as each
-    // whose units the library has.
+    // board IMAGE PLAN: the tasks of the plan are run by turns on the image, over the base that is ordered, if one is; the output of each
+    // goes to its file, and a line for each is printed; or what kept them from that is said.
+    ensures board { IfOk (order_of (map string_bytes words.now)) (λ order. order.command ≡ commands.Board
+        → Based (map string_bytes words.now)
+        (seen F.files F.count S.told S.count E.told E.count folder.old out.old say.old)
+        (seen F.files F.count S.told S.count E.told E.count folder.new out.new say.new)
+        (map P.seen ports.old) (map P.seen ports.new) result order.base (λ below.
+        EndsAt (Boards (library_below below) (first_name (map string_bytes words.now)) (second_name (map string_bytes words.now))) (map string_bytes words.now)
+        (seen F.files F.count S.told S.count E.told E.count folder.old out.old say.old)
+        (seen F.files F.count S.told S.count E.told E.count folder.new out.new say.new) result)) }
+
+    // `go` and `run` print and end as their program means, and stop earlier only at their last step: `go` as that of the sources, and `run` as
+    // each whose units the library has.
     ensures go_means { IfOk (order_of (map string_bytes words.now)) (λ order. order.command ≡ commands.Go
         → GoMeans order.level (room_of order) order.steps (first_name (map string_bytes words.now))
         (seen F.files F.count S.told S.count E.told E.count folder.old out.old say.old)
         (seen F.files F.count S.told S.count E.told E.count folder.new out.new say.new)
         (map P.seen ports.old) (map P.seen ports.new) result) }
     ensures run_means { IfOk (order_of (map string_bytes words.now)) (λ order. order.command ≡ commands.Run
-        → RunMeans (RunLibrary (main_name (map string_bytes words.now) order.main_name)) (room_of order) order.steps (first_name (map string_bytes words.now))
+        → Based (map string_bytes words.now)
         (seen F.files F.count S.told S.count E.told E.count folder.old out.old say.old)
         (seen F.files F.count S.told S.count E.told E.count folder.new out.new say.new)
-        (map P.seen ports.old) (map P.seen ports.new) result) }
+        (map P.seen ports.old) (map P.seen ports.new) result order.base (λ below.
+        RunMeans (RunLibraryBelow below (main_name (map string_bytes words.now) order.main_name)) (room_of order) order.steps (first_name (map string_bytes words.now))
+        (seen F.files F.count S.told S.count E.told E.count folder.old out.old say.old)
+        (seen F.files F.count S.told S.count E.told E.count folder.new out.new say.new)
+        (map P.seen ports.old) (map P.seen ports.new) result)) }
 
     // Only go and run call ports.
     ensures ports { calls_ports_in (order_of (map string_bytes words.now)) ≡ false → ports.new ≡ ports.old }
@@ -346,29 +231,17 @@ pub fn mpy<F: Folder, S: Sink, P: Port, E: Sink>(
     // With status 0 nothing of what is printed is held back.
     ensures flushed { result ≡ 0 → S.held out.new ≡ [] }
 
-    // No command but cross, merge and freeze changes a file, and these none but FILE and OUT.
-    ensures files { Changes (written_in (map string_bytes words.now) (order_of (map string_bytes words.now))) (F.files folder.old) (F.files folder.new) }
+    // No command but cross, merge, freeze, migrate and board changes a file, and these none but FILE, OUT and the files of the tasks.
+    ensures files { ChangesIn (map string_bytes words.now) (order_of (map string_bytes words.now)) (F.files folder.old) (F.files folder.new) }
 {
+    go_means_law();
+    run_means_law();
     match order_of(words) {
-        Ok(order) => {
-            if runs(order.command) {
-                return run_order(order, alloc, words, folder, out, ports, say);
-            }
-            do_order(order, alloc, words, folder, out, say)
-        }
+        Ok(order) => obey(order, alloc, words, folder, out, say, ports),
         Err(fault) => {
             // A failed put on `say` changes nothing else.
             let _ = say_words(say, words, fault);
             WORDS_STATUS
         }
     }
-}
-
-/// Where a folder tells its files, writing a source's file ends in one way only, but for a failing call and want of memory.
-pub fn one_ending_law()
-    ensures { (level : ℕ) (files : FileOf) (name stored_name written : List ℕ) (a b : Ending) (new_a new_b : Option FileOf)
-        → IsSettled a → IsSettled b → Crosses level name stored_name written (Some files) new_a a
-        → Crosses level name stored_name written (Some files) new_b b → a ≡ b }
-{
-    compile_law();
 }

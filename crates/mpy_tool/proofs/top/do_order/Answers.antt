@@ -2,9 +2,9 @@ use Rattle.std.proofs.Common.{◌≡◌, map, string_bytes, ap}
 use Rattle.mpy_words.specs.declared.order.Command.TheVariants.{Check, Dump, Cross, Freeze}
 use Rattle.mpy_words.specs.Command.{takes_files}
 use Rattle.mpy_words.specs.Words.{first_name, second_name}
-use Rattle.mpy_tool.specs.Check.{Checks}
-use Rattle.mpy_tool.specs.Dump.{Dumps}
-use Rattle.mpy_tool.specs.Outside.{seen}
+use Rattle.file_commands.specs.Check.{Checks}
+use Rattle.file_commands.specs.Dump.{Dumps}
+use Rattle.command_files.specs.Outside.{seen}
 use Rattle.mpy_tool.proofs.Ended.{said_in, said_at, ends}
 use Rattle.mpy_tool.proofs.top.do_order.Goals as goal
 

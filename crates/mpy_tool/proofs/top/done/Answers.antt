@@ -2,9 +2,9 @@ use Rattle.std.proofs.Common.{map, string_bytes, subst}
 use Rattle.std.proofs.KnownBytes.{Keeps-trans}
 use Rattle.mpy_words.specs.Words.{first_name}
 use Rattle.mpy_endings.specs.declared.ending.Ending.{Ending}
-use Rattle.mpy_tool.specs.Check.{Checks}
-use Rattle.mpy_tool.specs.Dump.{Dumps}
-use Rattle.mpy_tool.proofs.HandedOn.{checks_cut, dumps_cut}
+use Rattle.file_commands.specs.Check.{Checks}
+use Rattle.file_commands.specs.Dump.{Dumps}
+use Rattle.file_commands.proofs.HandedOn.{checks_cut, dumps_cut}
 use Rattle.mpy_tool.proofs.top.done.Goals as goal
 
 pub returns-in-Err-clause-check : goal.returns-in-Err-clause-check

@@ -1,6 +1,6 @@
 use Rattle.std.proofs.Common.{List, ℕ, map, string_bytes, subst}
-use Rattle.mpy_words.specs.Words.{first_name, main_name}
-use Rattle.mpy_tool.specs.Ready.{GoLibrary, RunLibrary}
+use Rattle.mpy_words.specs.Words.{main_name}
+use Rattle.run_commands.specs.Ready.{GoLibrary, RunLibrary}
 use Rattle.mpy_tool.proofs.top.library_of.Goals as goal
 
 pub returns-in-Go-clause-go : goal.returns-in-Go-clause-go

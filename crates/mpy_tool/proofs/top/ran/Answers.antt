@@ -3,16 +3,16 @@ use Rattle.mpy_io.specs.Count.{Counts}
 use Rattle.mpy_words.specs.declared.order.Command.{Command}
 use Rattle.mpy_words.specs.Words.{first_name}
 use Rattle.mpy_endings.specs.declared.ending.Ending.{Ending}
-use Rattle.mpy_tool.specs.Check.{Checks}
-use Rattle.mpy_tool.specs.Dump.{Dumps}
-use Rattle.mpy_tool.specs.Cross.{ChangesOnly}
+use Rattle.file_commands.specs.Check.{Checks}
+use Rattle.file_commands.specs.Dump.{Dumps}
+use Rattle.command_files.specs.Folder.{ChangesOnly, Changes}
 use Rattle.mpy_endings.specs.Ending.{is_folder_fault, is_out_fault}
 use Rattle.source_files.specs.Sources.{stored}
 use Rattle.mpy_endings.specs.Line.{place_in}
-use Rattle.mpy_tool.specs.Outside.{written_by, Changes}
-use Rattle.mpy_tool.proofs.Crossed.{crosses_only}
-use Rattle.mpy_tool.proofs.Freezing.{freezes_only}
-use Rattle.mpy_tool.proofs.Merging.{merges_only}
+use Rattle.mpy_tool.specs.Order.{written_by}
+use Rattle.file_commands.proofs.Crossed.{crosses_only}
+use Rattle.image_commands.proofs.Freezing.{freezes_only}
+use Rattle.file_commands.proofs.Merging.{merges_only}
 use Rattle.mpy_tool.proofs.top.ran.Goals as goal
 
 pub returns-in-Check-clause-check : goal.returns-in-Check-clause-check

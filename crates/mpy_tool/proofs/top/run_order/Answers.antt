@@ -1,9 +1,9 @@
 use Rattle.std.proofs.Common.{◌≡◌, ℕ, List, map, string_bytes, ap, sym, subst}
 use Rattle.mpy_words.specs.Words.{first_name, main_name}
-use Rattle.mpy_tool.specs.Ready.{GoLibrary, RunLibrary}
-use Rattle.mpy_tool.specs.Outside.{seen}
-use Rattle.mpy_tool.specs.Run.{room_of}
-use Rattle.mpy_tool.proofs.Running.{says_run, ends_run, status_zero}
+use Rattle.run_commands.specs.Ready.{GoLibrary, RunLibrary}
+use Rattle.command_files.specs.Outside.{seen}
+use Rattle.run_commands.specs.Run.{room_of}
+use Rattle.run_commands.proofs.Running.{says_run, ends_run, status_zero}
 use Rattle.mpy_tool.proofs.top.run_order.Goals as goal
 
 pub returns-clause-go : goal.returns-clause-go

@@ -1,0 +1,4 @@
+pub mod Folder
+pub mod Opened
+pub mod Source
+pub mod Outside

@@ -1,0 +1,59 @@
+-- What checking a file by its name does.
+use Rattle.std.specs.Prelude.{◌≡◌, ℕ, ◌++◌, ◌^◌, ◌-◌, min, List, Option, Some, None, codes, decimal, Result, Ok, Err}
+use Rattle.std.specs.Io.KnownBytes.{Appends, Keeps}
+use Rattle.mpy_base.specs.declared.limits.TheConstants.{MAX_DEPTH}
+use Rattle.mpy_io.specs.Files.{FileOf}
+use Rattle.mpy_io.specs.Told.{AppendsFront}
+use Rattle.mpy_tree.specs.Raw.{Module}
+use Rattle.mpy_tree.specs.File.{IsFile}
+use Rattle.mpy_reader.specs.Reading.{FirstFault}
+use Rattle.bc_verify.specs.Verified.{IsVerified, codes_in}
+use Rattle.mpy_endings.specs.declared.ending.Ending.{Ending}
+use Rattle.mpy_endings.specs.declared.ending.Ending.TheVariants.{Done, Unaccepted, Unread, Unverified, Unmerged, Unopened, Unfrozen, Unboarded, Stopped, ReadFault, WriteFault, Unwritten, NoMemory, Absent}
+use Rattle.command_files.specs.Folder.{MayHold}
+use Rattle.command_files.specs.Opened.{IsUnverifiedFile}
+
+-- how many codes a module has, where they are fewer than 2^64
+abbrev pub count_of : Module → ℕ
+count_of m = min (codes_in MAX_DEPTH m.code) (2 ^ 64 - 1)
+
+-- the bytes are a file of a verified module with so many codes
+pub record IsVerifiedFile (bytes : List ℕ) (count : ℕ) : Type 0 where
+  pub read : Module
+  pub file : IsFile bytes read
+  pub verified : IsVerified read
+  pub count_is : count ≡ count_of read
+
+-- What reading and verifying bytes gives: how many codes there are, or what keeps them from being verified.
+abbrev pub Judges : List ℕ → Result ℕ Ending → Type 0
+Judges bytes (Ok count) = IsVerifiedFile bytes count
+Judges bytes (Err (Unread fault)) = FirstFault bytes fault
+Judges bytes (Err (Unverified fault)) = IsUnverifiedFile bytes fault
+Judges bytes (Err NoMemory) = Unit {0}
+Judges bytes (Err _) = ⊥
+
+abbrev pub verified_line : ℕ → List ℕ
+verified_line count = codes "verified " ++ decimal count ++ codes "\n"
+
+-- the file under the name is one of a verified module with so many codes
+pub record HoldsVerified (files : Option FileOf) (name : List ℕ) (count : ℕ) : Type 0 where
+  pub bytes : List ℕ
+  pub holds : MayHold files name (Some bytes)
+  pub is : IsVerifiedFile bytes count
+
+-- how a check of the file of this name ended, and what it printed
+abbrev pub Checks : Option FileOf → List ℕ → Ending → Option (List ℕ) → Option (List ℕ) → Type 0
+Checks files name Done old new = (count : ℕ) × HoldsVerified files name count × Appends old new (verified_line count)
+Checks files name (Unaccepted fault) old new = ⊥
+Checks files name (Unread fault) old new = ((bytes : List ℕ) × MayHold files name (Some bytes) × FirstFault bytes fault) × Keeps old new
+Checks files name (Unverified fault) old new = ((bytes : List ℕ) × MayHold files name (Some bytes) × IsUnverifiedFile bytes fault) × Keeps old new
+Checks files name (Unmerged fault) old new = ⊥
+Checks files name (Unopened fault) old new = ⊥
+Checks files name (Unfrozen fault) old new = ⊥
+Checks files name (Unboarded fault) old new = ⊥
+Checks files name (Stopped stop) old new = ⊥
+Checks files name ReadFault old new = Keeps old new
+Checks files name WriteFault old new = (count : ℕ) × HoldsVerified files name count × AppendsFront old new (verified_line count)
+Checks files name Unwritten old new = ⊥
+Checks files name NoMemory old new = Keeps old new
+Checks files name Absent old new = MayHold files name None × Keeps old new

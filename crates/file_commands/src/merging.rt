@@ -1,0 +1,85 @@
+//! The command `merge`.
+
+ghost use Rattle.std.specs.Prelude.{◌≡◌, map, string_bytes, false, IfOk, IfErr};
+ghost use Rattle.mpy_io.specs.Count.{Counts};
+ghost use Rattle.mpy_endings.specs.Ending.{is_folder_fault, is_out_fault};
+ghost use Rattle.command_files.specs.Opened.{HoldsModule, Refuses, failed_in};
+ghost use Rattle.file_commands.specs.Merge.{HoldModules, IsFirstRefused, Merges};
+
+use bc_verify::Verified;
+use command_files::opened;
+use mpy_base::Refused;
+use mpy_endings::{Ended, Ending};
+use mpy_io::{Failed, Folder};
+use mpy_merge::merge;
+use std::alloc::Global;
+
+/// The verified modules of the files of these names, or the first that isn't one of such.
+fn all_opened<F: Folder>(
+    alloc: Global,
+    names: &[String],
+    folder: &mut F,
+) -> Result<Vec<Verified>, Ended>
+    ensures opened { IfOk result (λ modules. HoldModules (F.files folder.old) (map string_bytes names.now) modules.items) }
+    ensures refused { IfErr result (λ ended. IsFirstRefused (F.files folder.old) (map string_bytes names.now) ended.place ended.ending) }
+    ensures ok_counts { IfOk result (λ modules. F.count folder.new ≡ F.count folder.old) }
+    ensures err_counts { IfErr result (λ ended. Counts (F.count folder.old) (F.count folder.new) (is_folder_fault ended.ending)) }
+    ensures files { F.files folder.new ≡ F.files folder.old }
+{
+    let mut modules = Vec::new(alloc);
+    for (at, name) in names.iter().enumerate() {
+        let module = match opened(alloc, name.as_str(), folder) {
+            Ok(module) => module,
+            Err(ending) => {
+                return Err(Ended {
+                    ending,
+                    place: at + 2,
+                });
+            }
+        };
+        if modules.push(module).is_err() {
+            return Err(Ended {
+                ending: Ending::NoMemory,
+                place: at + 2,
+            });
+        }
+    }
+    Ok(modules)
+}
+
+/// Writes the merged file of the files of these names.
+pub fn merge_files<F: Folder>(
+    alloc: Global,
+    names: &[String],
+    written: &str,
+    folder: &mut F,
+) -> Ended
+    ensures went { Merges (map string_bytes names.now) written.now (F.files folder.old) (F.files folder.new) result.place result.ending }
+    ensures folder_counts { Counts (F.count folder.old) (F.count folder.new) (is_folder_fault result.ending) }
+    ensures prints_nothing { is_out_fault result.ending ≡ false }
+{
+    let modules = match all_opened(alloc, names, folder) {
+        Ok(modules) => modules,
+        Err(ended) => return ended,
+    };
+    match merge(alloc, &modules) {
+        Ok(bytes) => match folder.write(written, &bytes) {
+            Ok(()) => Ended {
+                ending: Ending::Done,
+                place: 1,
+            },
+            Err(Failed) => Ended {
+                ending: Ending::Unwritten,
+                place: 1,
+            },
+        },
+        Err(Refused::Fault(fault)) => Ended {
+            ending: Ending::Unmerged(fault),
+            place: 1,
+        },
+        Err(Refused::NoMemory) => Ended {
+            ending: Ending::NoMemory,
+            place: 1,
+        },
+    }
+}

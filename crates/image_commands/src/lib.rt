@@ -1,0 +1,6 @@
+//! The command `freeze`.
+#![tactic(auto)]
+
+mod freezing;
+
+pub use freezing::freeze;

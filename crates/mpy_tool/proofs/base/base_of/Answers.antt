@@ -1,5 +1,0 @@
-use Rattle.mpy_tool.proofs.Bases.{base_utf8}
-use Rattle.mpy_tool.proofs.base.base_of.Goals as goal
-
-pub returns-clause-utf8 : goal.returns-clause-utf8
-returns-clause-utf8 c u = base_utf8 c.args.name.now c.base_length.result c.base_length.ensures.within c.base_length.ensures.slash u

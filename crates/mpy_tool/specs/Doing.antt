@@ -1,0 +1,80 @@
+-- What each order does, by its command.
+use Rattle.std.specs.Prelude.{◌≡◌, ℕ, List, [], Option, slice_index_or}
+use Rattle.std.specs.Io.KnownBytes.{Keeps}
+use Rattle.mpy_io.specs.Count.{Counts}
+use Rattle.mpy_io.specs.Files.{FileOf}
+use Rattle.mpy_io.specs.Ports.{PortView}
+use Rattle.bc_library.specs.Shelf.{Shelf}
+use Rattle.mpy_words.specs.declared.order.Command.{Command}
+use Rattle.mpy_words.specs.declared.order.Command.TheVariants.{Go, Check, Dump, Cross, Merge, Freeze, Migrate, Run, Board}
+use Rattle.mpy_words.specs.declared.order.Order.{Order}
+use Rattle.mpy_words.specs.Words.{first_name, second_name, source_name, main_name, file_names}
+use Rattle.source_files.specs.Sources.{stored}
+use Rattle.mpy_endings.specs.declared.ending.Ending.{Ending}
+use Rattle.mpy_endings.specs.Ending.{is_folder_fault, is_out_fault, status_of}
+use Rattle.mpy_endings.specs.Line.{Says, line_of, place_in}
+use Rattle.command_files.specs.Outside.{Outside, EndsAt}
+use Rattle.file_commands.specs.Check.{Checks}
+use Rattle.file_commands.specs.Cross.{Crosses}
+use Rattle.file_commands.specs.Dump.{Dumps}
+use Rattle.file_commands.specs.Merge.{Merges}
+use Rattle.run_commands.specs.Ready.{GoLibrary}
+use Rattle.run_commands.specs.Run.{EndsRun, room_of}
+use Rattle.run_meaning.specs.Meant.{Libraries}
+use Rattle.image_commands.specs.Migrate.{Migrates}
+use Rattle.board_command.specs.Images.{library_below}
+use Rattle.board_command.specs.Boards.{Boards}
+use Rattle.mpy_tool.specs.Below.{FreezesBelow, RunLibraryBelow, Based}
+use Rattle.mpy_tool.specs.Order.{base_by}
+
+module _ (order : Order) (words : List (List ℕ)) (below : Option Shelf) where
+  -- What a command that runs no library did, with what in the folder and on the output before and behind it, and how it ended, with the
+  -- place of the word that its line names.
+  abbrev pub DoesBy : Command → (old new : Option FileOf) → (before behind : Option (List ℕ)) → (place : ℕ) → Ending → Type 0
+  DoesBy Go old new before behind place ending = ⊥
+  DoesBy Check old new before behind place ending = Checks old (first_name words) ending before behind × (place ≡ place_in ending)
+  DoesBy Dump old new before behind place ending = Dumps old (first_name words) ending before behind × (place ≡ place_in ending)
+  DoesBy Cross old new before behind place ending =
+      Crosses order.level (first_name words) (stored (source_name words order.stored_name)) (second_name words) old new ending × Keeps before behind × (place ≡ place_in ending)
+  DoesBy Merge old new before behind place ending = Merges (file_names words) (first_name words) old new place ending × Keeps before behind
+  DoesBy Freeze old new before behind place ending =
+      FreezesBelow below (first_name words) (second_name words) old new ending × Keeps before behind × (place ≡ place_in ending)
+  DoesBy Migrate old new before behind place ending = Migrates (first_name words) (second_name words) old new ending × Keeps before behind × (place ≡ place_in ending)
+  DoesBy Run old new before behind place ending = ⊥
+  DoesBy Board old new before behind place ending = Boards (library_below below) (first_name words) (second_name words) old new before behind place ending
+
+  -- which library a command runs
+  abbrev pub LibraryBy : Command → Libraries
+  LibraryBy Go files name answer = GoLibrary order.level files name answer
+  LibraryBy Check files name answer = ⊥
+  LibraryBy Dump files name answer = ⊥
+  LibraryBy Cross files name answer = ⊥
+  LibraryBy Merge files name answer = ⊥
+  LibraryBy Freeze files name answer = ⊥
+  LibraryBy Migrate files name answer = ⊥
+  LibraryBy Run files name answer = RunLibraryBelow below (main_name words order.main_name) files name answer
+  LibraryBy Board files name answer = ⊥
+
+  module _ (old new : Outside) (ports_old ports_new : List PortView) (status : ℕ) where
+    abbrev pub Finishes : Command → Type 0
+    Finishes command = EndsAt (DoesBy command) words old new status
+
+    abbrev pub RunsBy : Command → Type 0
+    RunsBy command = EndsRun (LibraryBy command) (room_of order) order.steps (first_name words) old new ports_old ports_new status
+
+    -- how the command ended over the library below
+    abbrev pub ActsBy : Command → Type 0
+    ActsBy Go = RunsBy Go
+    ActsBy Check = Finishes Check
+    ActsBy Dump = Finishes Dump
+    ActsBy Cross = Finishes Cross
+    ActsBy Merge = Finishes Merge
+    ActsBy Freeze = Finishes Freeze
+    ActsBy Migrate = Finishes Migrate
+    ActsBy Run = RunsBy Run
+    ActsBy Board = Finishes Board
+
+-- how an order ended, over its base if it has one
+abbrev pub ObeysBy : Command → Order → List (List ℕ) → (old new : Outside) → (ports_old ports_new : List PortView) → (status : ℕ) → Type 0
+ObeysBy command order words old new ports_old ports_new status =
+    Based words old new ports_old ports_new status (base_by command order.base) (λ below. ActsBy order words below old new ports_old ports_new status command)

@@ -1,0 +1,78 @@
+-- What orders write and call, and which of them stand on a base.
+use Rattle.std.specs.Prelude.{◌≡◌, ℕ, List, Bool, true, false, Option, None, Ok, Err}
+use Rattle.std.specs.Io.KnownBytes.{Keeps}
+use Rattle.mpy_base.specs.declared.limits.TheConstants.{MAX_TASKS}
+use Rattle.mpy_io.specs.Files.{FileOf}
+use Rattle.mpy_words.specs.declared.order.Command.{Command}
+use Rattle.mpy_words.specs.declared.order.Command.TheVariants.{Go, Check, Dump, Cross, Merge, Freeze, Migrate, Run, Board}
+use Rattle.mpy_words.specs.declared.order.WordFault.{WordFault}
+use Rattle.mpy_words.specs.Words.{Outcome, first_name, second_name}
+use Rattle.mpy_endings.specs.Line.{Says, words_line}
+use Rattle.board_files.specs.Files.{KeepsOthers}
+use Rattle.command_files.specs.Folder.{ChangesOnly}
+use Rattle.command_files.specs.Outside.{Outside}
+
+-- words of no order end with status 2, and nothing is done but to say so
+pub record RefusesWords (words : List (List ℕ)) (fault : WordFault) (old new : Outside) (status : ℕ) : Type 0 where
+  pub status_is : status ≡ 2
+  pub prints : Keeps old.out new.out
+  pub reads : new.folder_faults ≡ old.folder_faults
+  pub writes : new.out_faults ≡ old.out_faults
+  pub says : Says old.say new.say old.say_faults new.say_faults (words_line words fault)
+
+-- no file changed but those that the command writes: OUT, or the files of a board's tasks
+abbrev pub ChangesBy : List (List ℕ) → Command → (old new : Option FileOf) → Type 0
+ChangesBy words Go old new = new ≡ old
+ChangesBy words Check old new = new ≡ old
+ChangesBy words Dump old new = new ≡ old
+ChangesBy words Cross old new = ChangesOnly old new (second_name words)
+ChangesBy words Merge old new = ChangesOnly old new (first_name words)
+ChangesBy words Freeze old new = ChangesOnly old new (second_name words)
+ChangesBy words Migrate old new = ChangesOnly old new (second_name words)
+ChangesBy words Run old new = new ≡ old
+ChangesBy words Board old new = KeepsOthers MAX_TASKS old new
+
+-- words of no order write none
+abbrev pub ChangesIn : List (List ℕ) → Outcome → (old new : Option FileOf) → Type 0
+ChangesIn words (Err fault) old new = new ≡ old
+ChangesIn words (Ok order) old new = ChangesBy words order.command old new
+
+-- whether a command may call ports; words of no order call none
+abbrev pub calls_ports : Command → Bool
+calls_ports Go = true
+calls_ports Check = false
+calls_ports Dump = false
+calls_ports Cross = false
+calls_ports Merge = false
+calls_ports Freeze = false
+calls_ports Migrate = false
+calls_ports Run = true
+calls_ports Board = false
+
+abbrev pub calls_ports_in : Outcome → Bool
+calls_ports_in (Err fault) = false
+calls_ports_in (Ok order) = calls_ports order.command
+
+-- whether a command runs no library and may stand on no base
+abbrev pub stands_alone : Command → Bool
+stands_alone Go = false
+stands_alone Check = true
+stands_alone Dump = true
+stands_alone Cross = true
+stands_alone Merge = true
+stands_alone Freeze = false
+stands_alone Migrate = true
+stands_alone Run = false
+stands_alone Board = false
+
+-- the place of the base's name, of a command that may stand on a base
+abbrev pub base_by : Command → Option ℕ → Option ℕ
+base_by Go base = None
+base_by Check base = None
+base_by Dump base = None
+base_by Cross base = None
+base_by Merge base = None
+base_by Freeze base = base
+base_by Migrate base = None
+base_by Run base = base
+base_by Board base = base

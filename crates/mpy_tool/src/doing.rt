@@ -1,0 +1,167 @@
+//! Orders that run no library.
+
+ghost use Rattle.std.specs.Prelude.{◌≡◌, ◌≤◌, [], true, false, map, string_bytes, ForSome};
+ghost use Rattle.mpy_io.specs.Count.{Counts};
+ghost use Rattle.image_base.specs.Base.{IsOpened};
+ghost use Rattle.bc_library.specs.Shelf.{Shelf};
+ghost use Rattle.std.specs.Prelude.{Option, None as Nothing};
+ghost use Rattle.mpy_endings.specs.declared.ending.Ending.TheVariants.{Done};
+ghost use Rattle.mpy_endings.specs.Ending.{is_folder_fault, is_out_fault};
+ghost use Rattle.command_files.specs.Outside.{seen};
+ghost use Rattle.mpy_tool.specs.Below.{FreezesBelow};
+ghost use Rattle.mpy_tool.specs.Doing.{DoesBy, Finishes};
+ghost use Rattle.mpy_tool.specs.Order.{calls_ports, stands_alone, ChangesBy};
+
+use crate::releasing::release;
+use base_commands::freeze_on;
+use bc_library::Library;
+use board_command::board;
+use file_commands::{check, cross, dump, merge_files};
+use image_commands::{freeze, migrate};
+use mpy_endings::{Ended, Ending, file_names, say_ending, source_name, word_at};
+use mpy_io::{Failed, Folder, Sink};
+use mpy_words::{Command, Order};
+use std::alloc::Global;
+
+/// Writes the image of the sources of the manifest of this name, over the library below, if there is one.
+fn freeze_below<F: Folder>(
+    alloc: Global,
+    below: Option<Library>,
+    manifest: &str,
+    written: &str,
+    folder: &mut F,
+) -> Ending
+    requires below { ForSome below IsOpened }
+    ensures went { FreezesBelow below manifest.now written.now (F.files folder.old) (F.files folder.new) result }
+    ensures folder_counts { Counts (F.count folder.old) (F.count folder.new) (is_folder_fault result) }
+    ensures prints_nothing { is_out_fault result ≡ false }
+{
+    match below {
+        None => freeze(alloc, manifest, written, folder),
+        Some(below) => freeze_on(alloc, &below, manifest, written, folder),
+    }
+}
+
+/// Does what is ordered of a command that stands on no base, and may leave some of what is printed in the sink.
+fn ran_alone<F: Folder, S: Sink>(
+    order: Order,
+    alloc: Global,
+    words: &[String],
+    folder: &mut F,
+    out: &mut S,
+) -> Ended
+    requires level { order.level ≤ 3 }
+    requires alone { stands_alone order.command ≡ true }
+    ensures went { (below : Option Shelf) → DoesBy order (map string_bytes words.now) below order.command
+        (F.files folder.old) (F.files folder.new) (S.told out.old) (S.told out.new) result.place result.ending }
+    ensures folder_counts { Counts (F.count folder.old) (F.count folder.new) (is_folder_fault result.ending) }
+    ensures out_counts { Counts (S.count out.old) (S.count out.new) (is_out_fault result.ending) }
+    ensures files { ChangesBy (map string_bytes words.now) order.command (F.files folder.old) (F.files folder.new) }
+{
+    let name = word_at(words, 1);
+    match order.command {
+        Command::Check => Ended::of_two(check(alloc, name, folder, out)),
+        Command::Dump => Ended::of_two(dump(alloc, name, folder, out)),
+        Command::Cross => {
+            let stored = source_name(words, order.stored_name);
+            let written = word_at(words, 2);
+            Ended::of_two(cross(alloc, order.level, name, stored, written, folder))
+        }
+        Command::Merge => merge_files(alloc, file_names(words), name, folder),
+        Command::Migrate => Ended::of_two(migrate(alloc, name, word_at(words, 2), folder)),
+        Command::Go | Command::Freeze | Command::Run | Command::Board => unreachable!(),
+    }
+}
+
+/// Does what is ordered, over the library below, and may leave some of what is printed in the sink.
+fn ran<F: Folder, S: Sink>(
+    order: Order,
+    alloc: Global,
+    words: &[String],
+    below: Option<Library>,
+    folder: &mut F,
+    out: &mut S,
+) -> Ended
+    requires level { order.level ≤ 3 }
+    requires no_run { calls_ports order.command ≡ false }
+    requires below { ForSome below IsOpened }
+    ensures went { DoesBy order (map string_bytes words.now) below order.command
+        (F.files folder.old) (F.files folder.new) (S.told out.old) (S.told out.new) result.place result.ending }
+    ensures folder_counts { Counts (F.count folder.old) (F.count folder.new) (is_folder_fault result.ending) }
+    ensures out_counts { Counts (S.count out.old) (S.count out.new) (is_out_fault result.ending) }
+    ensures files { ChangesBy (map string_bytes words.now) order.command (F.files folder.old) (F.files folder.new) }
+{
+    let name = word_at(words, 1);
+    match order.command {
+        Command::Freeze => {
+            let written = word_at(words, 2);
+            Ended::of_two(freeze_below(alloc, below, name, written, folder))
+        }
+        Command::Board => board(alloc, below, name, word_at(words, 2), folder, out),
+        Command::Check | Command::Dump | Command::Cross | Command::Merge | Command::Migrate => {
+            release(below);
+            ran_alone(order, alloc, words, folder, out)
+        }
+        Command::Go | Command::Run => unreachable!(),
+    }
+}
+
+/// Does what is ordered, over the library below, and hands on what is printed.
+fn done<F: Folder, S: Sink>(
+    order: Order,
+    alloc: Global,
+    words: &[String],
+    below: Option<Library>,
+    folder: &mut F,
+    out: &mut S,
+) -> Ended
+    requires level { order.level ≤ 3 }
+    requires no_run { calls_ports order.command ≡ false }
+    requires below { ForSome below IsOpened }
+    ensures went { DoesBy order (map string_bytes words.now) below order.command
+        (F.files folder.old) (F.files folder.new) (S.told out.old) (S.told out.new) result.place result.ending }
+    ensures flushed { result.ending ≡ Done → S.held out.new ≡ [] }
+    ensures folder_counts { Counts (F.count folder.old) (F.count folder.new) (is_folder_fault result.ending) }
+    ensures out_counts { Counts (S.count out.old) (S.count out.new) (is_out_fault result.ending) }
+    ensures files { ChangesBy (map string_bytes words.now) order.command (F.files folder.old) (F.files folder.new) }
+{
+    let Ended { ending, place } = ran(order, alloc, words, below, folder, out);
+    match ending {
+        Ending::Done => match out.flush() {
+            Ok(()) => Ended {
+                ending: Ending::Done,
+                place,
+            },
+            Err(Failed) => Ended {
+                ending: Ending::WriteFault,
+                place,
+            },
+        },
+        ending => Ended { ending, place },
+    }
+}
+
+/// Does what is ordered, over the library below, says how it ended, and answers the exit status.
+pub(crate) fn do_order<F: Folder, S: Sink, E: Sink>(
+    order: Order,
+    alloc: Global,
+    words: &[String],
+    below: Option<Library>,
+    folder: &mut F,
+    out: &mut S,
+    say: &mut E,
+) -> u8
+    requires level { order.level ≤ 3 }
+    requires no_run { calls_ports order.command ≡ false }
+    requires below { ForSome below IsOpened }
+    ensures ended { Finishes order (map string_bytes words.now) below
+        (seen F.files F.count S.told S.count E.told E.count folder.old out.old say.old)
+        (seen F.files F.count S.told S.count E.told E.count folder.new out.new say.new) result order.command }
+    ensures flushed { result ≡ 0 → S.held out.new ≡ [] }
+    ensures files { ChangesBy (map string_bytes words.now) order.command (F.files folder.old) (F.files folder.new) }
+{
+    let ended = done(order, alloc, words, below, folder, out);
+    let name = word_at(words, ended.place);
+    let _ = say_ending(say, name, &ended.ending);
+    ended.ending.status()
+}

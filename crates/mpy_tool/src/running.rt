@@ -1,0 +1,113 @@
+//! Orders that run a library.
+
+ghost use Rattle.std.specs.Prelude.{◌≡◌, ◌≤◌, [], true, map, string_bytes, ForSome, IfOk, IfErr};
+ghost use Rattle.mpy_io.specs.Count.{Counts};
+ghost use Rattle.mpy_tree.specs.Raw.{Module};
+ghost use Rattle.library_files.specs.Ends.{HoldsModules};
+ghost use Rattle.image_base.specs.Base.{IsOpened};
+ghost use Rattle.image_runs.specs.Main.{IsMainAt};
+ghost use Rattle.mpy_words.specs.Words.{first_name};
+ghost use Rattle.command_files.specs.Opened.{failed_in};
+ghost use Rattle.command_files.specs.Outside.{seen};
+ghost use Rattle.run_commands.specs.Run.{IsUnloaded};
+ghost use Rattle.mpy_tool.specs.Below.{RunLibraryBelow};
+ghost use Rattle.mpy_tool.specs.Doing.{LibraryBy, RunsBy};
+ghost use Rattle.mpy_tool.specs.Order.{calls_ports, ChangesBy};
+
+use crate::releasing::release;
+use base_commands::run_ready_on;
+use bc_library::Library;
+use mpy_base::Room;
+use mpy_endings::{Ending, main_name, say_ending, word_at};
+use mpy_io::{Folder, Port, Sink};
+use mpy_words::{Command, Order};
+use port_set::PortSet;
+use run_commands::{Ready, run_loaded, run_ready, source_ready};
+use std::alloc::Global;
+
+/// The library of the file of this name, an image over the library below, if there is one, or what keeps it from being run.
+fn ready_below<F: Folder>(
+    alloc: Global,
+    below: Option<Library>,
+    name: &str,
+    main: &str,
+    folder: &mut F,
+) -> Result<Ready, Ending>
+    requires below { ForSome below IsOpened }
+    ensures comes { RunLibraryBelow below main.now (F.files folder.old) name.now result }
+    ensures there { IfOk result (λ ready. (m : Module) × IsMainAt ready.main ready.place m ready.library) }
+    ensures holds { IfOk result (λ ready. HoldsModules ready.library) }
+    ensures unloaded { IfErr result IsUnloaded }
+    ensures counts { Counts (F.count folder.old) (F.count folder.new) (failed_in result) }
+    ensures files { F.files folder.new ≡ F.files folder.old }
+{
+    match below {
+        None => run_ready(alloc, name, main, folder),
+        Some(below) => run_ready_on(alloc, below, name, main, folder),
+    }
+}
+
+/// The library of the source, the file or the image that the words name, whichever is ordered, or what keeps it from being run.
+fn library_of<F: Folder>(
+    order: Order,
+    alloc: Global,
+    words: &[String],
+    below: Option<Library>,
+    folder: &mut F,
+) -> Result<Ready, Ending>
+    requires level { order.level ≤ 3 }
+    requires runs { calls_ports order.command ≡ true }
+    requires below { ForSome below IsOpened }
+    ensures comes { LibraryBy order (map string_bytes words.now) below order.command (F.files folder.old) (first_name (map string_bytes words.now)) result }
+    ensures there { IfOk result (λ ready. (m : Module) × IsMainAt ready.main ready.place m ready.library) }
+    ensures holds { IfOk result (λ ready. HoldsModules ready.library) }
+    ensures unloaded { IfErr result IsUnloaded }
+    ensures counts { Counts (F.count folder.old) (F.count folder.new) (failed_in result) }
+    ensures files { F.files folder.new ≡ F.files folder.old }
+{
+    let name = word_at(words, 1);
+    match order.command {
+        Command::Go => {
+            release(below);
+            source_ready(alloc, order.level, name, folder)
+        }
+        Command::Run => {
+            let main = main_name(words, order.main_name);
+            ready_below(alloc, below, name, main, folder)
+        }
+        Command::Check | Command::Dump | Command::Cross | Command::Merge => unreachable!(),
+        Command::Freeze | Command::Migrate | Command::Board => unreachable!(),
+    }
+}
+
+/// Runs the library that is ordered, over the library below, says how that ended, and answers the exit status.
+pub(crate) fn run_order<F: Folder, S: Sink, P: Port, E: Sink>(
+    order: Order,
+    alloc: Global,
+    words: &[String],
+    below: Option<Library>,
+    folder: &mut F,
+    out: &mut S,
+    ports: &mut PortSet<P>,
+    say: &mut E,
+) -> u8
+    requires level { order.level ≤ 3 }
+    requires runs { calls_ports order.command ≡ true }
+    requires below { ForSome below IsOpened }
+    ensures ended { RunsBy order (map string_bytes words.now) below
+        (seen F.files F.count S.told S.count E.told E.count folder.old out.old say.old)
+        (seen F.files F.count S.told S.count E.told E.count folder.new out.new say.new)
+        (map P.seen ports.old) (map P.seen ports.new) result order.command }
+    ensures flushed { result ≡ 0 → S.held out.new ≡ [] }
+    ensures files { F.files folder.new ≡ F.files folder.old }
+{
+    let name = word_at(words, 1);
+    let room = Room {
+        cells: order.cells,
+        bytes: order.bytes,
+    };
+    let loaded = library_of(order, alloc, words, below, folder);
+    let ending = run_loaded(alloc, loaded, room, order.steps, out, ports, say);
+    let _ = say_ending(say, name, &ending);
+    ending.status()
+}

@@ -1,0 +1,4 @@
+pub mod Bases
+pub mod Running
+pub mod Going
+mod Starting

@@ -1,0 +1,41 @@
+use Rattle.std.proofs.Common.{◌≡◌, [], Result, refl, sym, subst}
+use Rattle.std.specs.Prelude.{IfOk, IfErr}
+use Rattle.std.proofs.lemmas.Option.{slice_get_within}
+use Rattle.mpy_tree.specs.Raw.{Module}
+use Rattle.image_runs.specs.Main.{IsMainAt}
+use Rattle.library_files.specs.Ends.{HoldsModules}
+use Rattle.library_runs.specs.declared.ending.RunEnd.TheVariants as ends
+use Rattle.library_runs.specs.Runs.{sight}
+use Rattle.mpy_endings.specs.declared.ending.Ending.{Ending}
+use Rattle.run_commands.specs.declared.ready.Ready.{Ready}
+use Rattle.run_commands.specs.Run.{IsUnloaded, Runs}
+use Rattle.run_commands.proofs.Running.{ran_library, not_loaded, same_sight, says_nothing}
+use Rattle.run_commands.proofs.run.run_loaded.Goals as goal
+
+pub run_library-end-requires-clause-runnable : goal.run_library-end-requires-clause-runnable
+run_library-end-requires-clause-runnable g c =
+    let holds = subst (λ (r : Result Ready Ending). IfOk r (λ ready. HoldsModules ready.library)) c.in-Ok.is c.requires.holds in
+    record { distinct = holds.distinct; are_modules = holds.are_modules; are_verified = holds.are_verified }
+
+pub returns-in-Ok-clause-went : goal.returns-in-Ok-clause-went
+returns-in-Ok-clause-went g c =
+    let old = sight g.S.Sink.told g.P.Port.seen c.args.out.now c.args.ports.now in
+    let new = sight g.S.Sink.told g.P.Port.seen c.run_library-end.new.out c.run_library-end.new.ports in
+    let end = c.run_library-end.result in
+    let Comes = λ (r : Result Ready Ending). r ≡ c.args.loaded in
+    let first = subst (λ (r : Result Ready Ending). IfOk r (λ ready. (m : Module) × IsMainAt ready.main ready.place m ready.library)) c.in-Ok.is c.requires.there in
+    let ran = c.run_library-end.ensures.runs (record { name = c.in-Ok.ready.main; held = first.0 }) first.1 in
+    let none = λ (e : end ≡ ends.NoMemory). same_sight g.S.Sink.told g.P.Port.seen c.args.out.now c.run_library-end.new.out c.args.ports.now c.run_library-end.new.ports (c.run_library-end.ensures.none e).0 (c.run_library-end.ensures.none e).1 in
+    let went = ran_library Comes c.args.room c.args.steps old new ran.0 c.in-Ok.ready end (sym c.in-Ok.is) none ran.1 in
+    (ran.0, subst (λ (x : Ending). Runs Comes c.args.room c.args.steps old new ran.0 x) (sym c.ending_of.ensures) went, ran.2)
+
+pub returns-in-Err-clause-went : goal.returns-in-Err-clause-went
+returns-in-Err-clause-went g c =
+    let here = sight g.S.Sink.told g.P.Port.seen c.args.out.now c.args.ports.now in
+    let Comes = λ (r : Result Ready Ending). r ≡ c.args.loaded in
+    ([], not_loaded Comes c.args.room c.args.steps here here [] c.in-Err.ending (subst (λ (r : Result Ready Ending). IfErr r IsUnloaded) c.in-Err.is c.requires.unloaded) (sym c.in-Err.is) refl refl, says_nothing (g.E.Sink.told c.args.say.now) (g.E.Sink.count c.args.say.now))
+
+pub run_library-end-requires-clause-there : goal.run_library-end-requires-clause-there
+run_library-end-requires-clause-there g c =
+    let first = subst (λ (r : Result Ready Ending). IfOk r (λ ready. (m : Module) × IsMainAt ready.main ready.place m ready.library)) c.in-Ok.is c.requires.there in
+    slice_get_within c.in-Ok.ready.library.modules c.in-Ok.ready.place (record { name = c.in-Ok.ready.main; held = first.0 }) first.1

@@ -1,0 +1,4 @@
+pub mod Base
+pub mod Go
+pub mod Run
+pub mod Ready

@@ -1,0 +1,12 @@
+//! The commands that run: the library of a source, a file or an image, and its run.
+#![tactic(auto)]
+
+mod base;
+mod go;
+mod ready;
+mod run;
+
+pub use base::base_of;
+pub use go::source_ready;
+pub use ready::Ready;
+pub use run::{begins_image, file_ready, run_loaded, run_ready};

@@ -1,0 +1,4 @@
+pub mod Meaning
+pub mod Making
+pub mod GoMeaning
+pub mod ImageMeaning

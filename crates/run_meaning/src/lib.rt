@@ -1,0 +1,8 @@
+//! What runs say of their programs: the headline, over the commands that make files and those that run them.
+#![tactic(auto)]
+
+mod meant;
+
+pub use meant::{
+    crossed_holds_law, go_means_law, holds_law, image_holds_law, makes_law, run_means_law,
+};

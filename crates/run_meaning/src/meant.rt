@@ -1,0 +1,90 @@
+//! What a run says of its program.
+
+ghost use Rattle.std.specs.Prelude.{◌≡◌, ℕ, List, Ok, Option, Some};
+ghost use Rattle.mpy_base.specs.declared.room.Room.{Room};
+ghost use Rattle.mpy_io.specs.Files.{FileOf};
+ghost use Rattle.mpy_io.specs.Ports.{PortView};
+ghost use Rattle.py_meaning.specs.Program.{Program, Units};
+ghost use Rattle.file_commands.specs.Cross.{Crosses};
+ghost use Rattle.mpy_endings.specs.declared.ending.Ending.TheVariants.{Done};
+ghost use Rattle.program_sources.specs.Sources.{IsProgramOfSources};
+ghost use Rattle.run_commands.specs.Base.{base_of};
+ghost use Rattle.run_commands.specs.declared.ready.Ready.{Ready};
+ghost use Rattle.image_commands.specs.Freeze.{Freezes};
+ghost use Rattle.run_meaning.specs.GoMeant.{GoMeans, HoldsCrossed};
+ghost use Rattle.run_meaning.specs.Made.{HoldMade, MakesOfSource, MakesOfUnits};
+ghost use Rattle.run_meaning.specs.Meant.{HoldsBuilt, HoldsImage, HoldsProgram, RunMeans};
+ghost use Rattle.file_commands.specs.Merge.{Merges};
+ghost use Rattle.command_files.specs.Outside.{Outside};
+ghost use Rattle.run_commands.specs.Ready.{GoLibrary, RunLibrary};
+ghost use Rattle.run_commands.specs.Run.{EndsRun};
+ghost use Rattle.frozen_programs.specs.Programs.{IsProgramOfManifest};
+
+use frozen_programs::frozen_law;
+use mpy_headline::meant_law;
+use program_sources::{files_law, sources_law};
+use unit_files::crossed_law;
+
+/// A run of a file or an image, and of a source, does as each program means whose units its library has.
+pub fn run_means_law()
+    ensures run { (main : List ℕ) (room : Room) (steps : ℕ) (name : List ℕ) (old new : Outside) (ports_old ports_new : List PortView) (status : ℕ)
+        → EndsRun (RunLibrary main) room steps name old new ports_old ports_new status
+        → RunMeans (RunLibrary main) room steps name old new ports_old ports_new status }
+    ensures source { (level : ℕ) (room : Room) (steps : ℕ) (name : List ℕ) (old new : Outside) (ports_old ports_new : List PortView) (status : ℕ)
+        → EndsRun (GoLibrary level) room steps name old new ports_old ports_new status
+        → RunMeans (GoLibrary level) room steps name old new ports_old ports_new status }
+{
+    meant_law();
+}
+
+/// A run of a source does as the program of the sources means.
+pub fn go_means_law()
+    ensures { (level : ℕ) (room : Room) (steps : ℕ) (name : List ℕ) (old new : Outside) (ports_old ports_new : List PortView) (status : ℕ)
+        → EndsRun (GoLibrary level) room steps name old new ports_old ports_new status
+        → GoMeans level room steps name old new ports_old ports_new status }
+{
+    run_means_law();
+    sources_law();
+}
+
+/// The files that a source and those that it asks for compile to hold the program of the sources, so that `run` of the main one does
+/// as `go` of the source, whatever name a main module is given.
+pub fn crossed_holds_law()
+    ensures { (sources files : FileOf) (path name main : List ℕ) (level : ℕ) (program : Program) → HoldsCrossed sources files path name level
+        → IsProgramOfSources sources (base_of name) path level program → HoldsProgram (RunLibrary main) (Some files) name program }
+{
+    files_law();
+}
+
+/// Files that `cross` and `merge` made hold the program of the sources that they were made of.
+pub fn holds_law()
+    ensures { (files : FileOf) (name main : List ℕ) (program : Program) → HoldsBuilt files name program
+        → HoldsProgram (RunLibrary main) (Some files) name program }
+{
+    built_files::built_law();
+    built_files::made_law();
+}
+
+/// The image that `freeze` made of a manifest's sources holds their program: where `run` of it with the main module of the name `main`
+/// has a library, they have one program with that main unit, and the run does as this program means.
+pub fn image_holds_law()
+    ensures program { (sources files : FileOf) (manifest image main : List ℕ) → HoldsImage sources files manifest image
+        → (ready : Ready) → RunLibrary main (Some files) image (Ok ready) → (program : Program) × IsProgramOfManifest sources manifest main program }
+    ensures holds { (sources files : FileOf) (manifest image main : List ℕ) → HoldsImage sources files manifest image
+        → (program : Program) → IsProgramOfManifest sources manifest main program → HoldsProgram (RunLibrary main) (Some files) image program }
+{
+    frozen_law();
+}
+
+/// What `cross` writes is made of the source that it compiles, what `merge` writes of the units that its files are made of, and what
+/// `freeze` writes is the image of the manifest's sources.
+pub fn makes_law()
+    ensures cross { (level : ℕ) (files : FileOf) (name stored written : List ℕ) (new : Option FileOf)
+        → Crosses level name stored written (Some files) new Done → MakesOfSource level files name stored written new }
+    ensures merge { (files : FileOf) (names : List (List ℕ)) (written : List ℕ) (new : Option FileOf) (place : ℕ) (units : Units)
+        → HoldMade files names units → Merges names written (Some files) new place Done → MakesOfUnits units written new }
+    ensures freeze { (manifest written : List ℕ) (files : FileOf) (new : Option FileOf) → Freezes manifest written (Some files) new Done
+        → (now : FileOf) × (new ≡ Some now) × HoldsImage files now manifest written }
+{
+    crossed_law();
+}
