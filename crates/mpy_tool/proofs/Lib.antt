@@ -1,1 +1,4 @@
 pub mod Ended
+pub mod Handing
+pub mod Alone
+pub mod Acting
