@@ -1,0 +1,2 @@
+LIMIT = 3
+NAMES = ("low", "high")
