@@ -1,4 +1,3 @@
-use Rattle.std.proofs.Common.{sym, subst, ◌∙◌}
 use Rattle.base_commands.proofs.ready.image_ready_on.Goals as goal
 
 pub returns-in-Ok-image_library_on-clause-there : goal.returns-in-Ok-image_library_on-clause-there
