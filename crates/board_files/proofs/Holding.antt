@@ -1,12 +1,11 @@
 -- Tasks go further, and their files with them.
-use Rattle.std.proofs.Common.{◌≡◌, ◌≢◌, ◌⊎◌, inl, inr, ℕ, zero, suc, ◌+◌, ◌<◌, ◌≤◌, ◌^◌, ◌==◌, Bool, true, false, List, [], ◌∷◌, ◌++◌, length, set, All, Option, Some, None, IsSome, Result, Ok, Err, OnOk, if◌then◌else◌, refl, sym, ap, subst, ◌∙◌, append-nil, eqb-true, lit<, arith}
+use Rattle.std.proofs.Common.{◌≡◌, ◌≢◌, inl, inr, ℕ, zero, suc, ◌+◌, ◌<◌, ◌≤◌, ◌^◌, ◌==◌, Bool, true, false, List, [], ◌∷◌, ◌++◌, length, set, Option, Some, None, IsSome, Result, Ok, Err, OnOk, if◌then◌else◌, refl, sym, ap, subst, ◌∙◌, append-nil, eqb-true, lit<, arith}
 use Rattle.std.specs.Prelude.{slice_get}
-use Rattle.std.specs.Io.KnownBytes.{Appends}
 use Rattle.std.proofs.lemmas.Bool.{eqb-false}
 use Rattle.std.proofs.lemmas.List.Elements.{All-nil, All-cons, All-set, All-weaker}
 use Rattle.std.proofs.lemmas.Option.{slice_get_within, get_or_from_slice_get}
 use Rattle.mpy_base.specs.declared.limits.TheConstants.{MAX_TASKS}
-use Rattle.mpy_io.specs.Files.{FileOf, Sets, Becomes, AppendsFile, appended}
+use Rattle.mpy_io.specs.Files.{FileOf, AppendsFile, appended}
 use Rattle.bc_library.specs.Shelf.{Shelf}
 use Rattle.vm_states.specs.Means.{Program}
 use Rattle.vm_programs.specs.Programs.{IsProgramOf}

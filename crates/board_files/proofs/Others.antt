@@ -1,7 +1,7 @@
 -- Files that stay, while those of tasks are written.
-use Rattle.std.proofs.Common.{◌≡◌, ◌≢◌, ◌⊎◌, inl, inr, ℕ, suc, ◌+◌, ◌<◌, ◌≤◌, ◌^◌, List, [], ◌++◌, Option, Some, None, IfSome, refl, sym, ap, subst, ◌∙◌, arith}
+use Rattle.std.proofs.Common.{◌≡◌, ◌≢◌, ◌⊎◌, inl, inr, ℕ, suc, ◌<◌, ◌^◌, List, [], Option, Some, None, refl, ap, subst, ◌∙◌, arith}
 use Rattle.mpy_io.specs.Files.{FileOf, Sets, Becomes, BecomesFront, AppendsFile, AppendsFileFront, appended}
-use Rattle.board_files.specs.Files.{out_name, IsNoOutput, KeepsOthers, AreEmpty, Adds}
+use Rattle.board_files.specs.Files.{out_name, KeepsOthers, AreEmpty}
 use Rattle.board_files.proofs.Names.{same_task}
 
 pub others_same : (count : ℕ) (old new : Option FileOf) → new ≡ old → KeepsOthers count old new

@@ -1,6 +1,6 @@
 -- The files of the tasks' output.
-use Rattle.std.specs.Prelude.{◌≡◌, ◌≢◌, ◌⊎◌, ℕ, ◌<◌, Bool, true, false, List, [], ◌++◌, Option, Some, None, IfSome, Result, Ok, Err, codes, decimal}
-use Rattle.mpy_io.specs.Files.{FileOf, AppendsFile, Becomes}
+use Rattle.std.specs.Prelude.{◌≡◌, ◌≢◌, ◌⊎◌, ℕ, ◌<◌, Bool, true, false, List, [], ◌++◌, Option, Some, IfSome, Result, Ok, Err, codes, decimal}
+use Rattle.mpy_io.specs.Files.{FileOf, AppendsFile}
 use Rattle.board_files.specs.declared.stop.BoardStop.{BoardStop}
 use Rattle.board_files.specs.declared.stop.BoardStop.TheVariants as stops
 use Rattle.board_files.specs.declared.stop.OutputStop.{OutputStop}
@@ -33,6 +33,12 @@ abbrev pub is_unwritten : Result (Unit {0}) OutputStop → Bool
 is_unwritten (Ok done) = false
 is_unwritten (Err (outputs.Unwritten task)) = true
 is_unwritten (Err outputs.NoMemory) = false
+
+-- the task whose file wasn't written is one of so many
+abbrev pub StopsWithin : (count : ℕ) → Result (Unit {0}) OutputStop → Type 0
+StopsWithin count (Ok done) = Unit {0}
+StopsWithin count (Err (outputs.Unwritten task)) = task < count
+StopsWithin count (Err outputs.NoMemory) = Unit {0}
 
 -- whether the sink failed
 abbrev pub is_unput : Result (Unit {0}) SummaryStop → Bool

@@ -1,7 +1,6 @@
 -- The lines that tell of the tasks of a board.
 use Rattle.std.specs.Prelude.{◌≡◌, ℕ, List, length, Option, Some, slice_get}
 use Rattle.std.specs.List.{concat}
-use Rattle.std.specs.Io.KnownBytes.{Appends}
 use Rattle.mpy_base.specs.declared.room.Room.{Room}
 use Rattle.board_tasks.specs.declared.ending.TaskEnd.{TaskEnd}
 use Rattle.board_tasks.specs.declared.turning.TaskRun.{TaskRun}
@@ -16,14 +15,13 @@ pub record TellsRun (runs : List TaskRun) (number : ℕ) (line : List ℕ) : Typ
   pub uses : (run : TaskRun) → slice_get runs number ≡ Some run → IsRoomOf run room
   pub is : line ≡ task_line number end room
 
-pub record PutsLine (runs : List TaskRun) (number : ℕ) (before behind : Option (List ℕ)) : Type 0 where
-  pub line : List ℕ
-  pub tells : TellsRun runs number line
-  pub put : Appends before behind line
-
--- a line for each of the first so many runs
-pub record PutsLines (runs : List TaskRun) (count : ℕ) (before behind : Option (List ℕ)) : Type 0 where
-  pub lines : List (List ℕ)
+-- the lines tell of the first of the runs, as many as are counted
+pub record TellRuns (runs : List TaskRun) (count : ℕ) (lines : List (List ℕ)) : Type 0 where
   pub as_many : length lines ≡ count
   pub each : (number : ℕ) (line : List ℕ) → slice_get lines number ≡ Some line → TellsRun runs number line
-  pub put : Appends before behind (concat lines)
+
+-- lines that tell of the runs were put, as a whole or not
+pub record PutsLines (Puts : Option (List ℕ) → Option (List ℕ) → List ℕ → Type 0) (runs : List TaskRun) (before behind : Option (List ℕ)) : Type 0 where
+  pub lines : List (List ℕ)
+  pub tell : TellRuns runs (length runs) lines
+  pub put : Puts before behind (concat lines)

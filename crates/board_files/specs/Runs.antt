@@ -1,11 +1,10 @@
 -- Tasks whose output goes to files.
-use Rattle.std.specs.Prelude.{◌≡◌, ℕ, ◌+◌, ◌≤◌, ◌==◌, List, [], ◌∷◌, length, All, Option, Some, slice_get, if◌then◌else◌}
+use Rattle.std.specs.Prelude.{◌≡◌, ℕ, ◌+◌, ◌≤◌, ◌==◌, List, length, All, Option, Some, slice_get, if◌then◌else◌}
 use Rattle.mpy_io.specs.Files.{FileOf}
 use Rattle.vm_states.specs.Means.{Program}
 use Rattle.board_plan.specs.declared.plan.Task.{Task}
 use Rattle.board_plan.specs.declared.plan.Turn.{Turn}
 use Rattle.board_tasks.specs.declared.turning.TaskRun.{TaskRun}
-use Rattle.board_tasks.specs.Alone.{run_of_task}
 use Rattle.board_tasks.specs.Schedules.{total}
 use Rattle.board_tasks.specs.Turns.{Stands}
 use Rattle.board_files.specs.Files.{out_name}

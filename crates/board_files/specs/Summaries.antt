@@ -6,6 +6,7 @@ use Rattle.mpy_base.specs.declared.limits.TheConstants.{MAX_TASKS}
 use Rattle.mpy_base.specs.declared.room.Room.{Room}
 use Rattle.mpy_base.specs.Kind.{kind_name}
 use Rattle.mpy_io.specs.Files.{FileOf}
+use Rattle.mpy_io.specs.Told.{AppendsFront}
 use Rattle.py_effects.specs.Ends.{Run}
 use Rattle.vm_states.specs.Means.{Program}
 use Rattle.board_plan.specs.declared.plan.Plan.{Plan}
@@ -51,14 +52,22 @@ module _ (p : Program) (plan : Plan) where
     pub as_many : length lines ≡ length plan.tasks
     pub each : (number : ℕ) (task : Task) (line : List ℕ) → slice_get plan.tasks number ≡ Some task → slice_get lines number ≡ Some line → SaysRun number (run_in number task) line
 
-  -- each task's file has the output of its run, and each other file is what it was. The summary of the runs was added to what was
-  -- printed
-  pub record HasRun (old new : FileOf) (before behind : Option (List ℕ)) : Type 0 where
+  -- each task's file has the output of its run, and each other file is what it was. The summary of the runs was put behind what was
+  -- printed, as a whole or not
+  pub record HasRunBy (Puts : Option (List ℕ) → Option (List ℕ) → List ℕ → Type 0) (old new : FileOf) (before behind : Option (List ℕ)) : Type 0 where
     pub outputs : (number : ℕ) (task : Task) → slice_get plan.tasks number ≡ Some task → new (out_name number) ≡ Some (run_in number task).world.output
     pub others : (name : List ℕ) → IsNoOutput (length plan.tasks) name → new name ≡ old name
     pub summary : List ℕ
     pub summarizes : Summarizes summary
-    pub added : Appends before behind summary
+    pub added : Puts before behind summary
+
+  -- the summary was put
+  abbrev pub HasRun : (old new : FileOf) → (before behind : Option (List ℕ)) → Type 0
+  HasRun old new before behind = HasRunBy Appends old new before behind
+
+  -- a front of it was put
+  abbrev pub HasRunFront : (old new : FileOf) → (before behind : Option (List ℕ)) → Type 0
+  HasRunFront old new before behind = HasRunBy AppendsFront old new before behind
 
 -- it has no more tasks than a board, the task of each turn, and no more steps than can be counted
 pub record CanRun (plan : Plan) : Type 0 where
@@ -69,3 +78,7 @@ pub record CanRun (plan : Plan) : Type 0 where
 -- the folder tells its files now
 abbrev pub HasRunIn : Program → Plan → (old new : Option FileOf) → (before behind : Option (List ℕ)) → Type 0
 HasRunIn p plan old new before behind = IfSome old (λ file. (now : FileOf) × (new ≡ Some now) × HasRun p plan file now before behind)
+
+-- the same where the sink of the summary failed
+abbrev pub HasRunFrontIn : Program → Plan → (old new : Option FileOf) → (before behind : Option (List ℕ)) → Type 0
+HasRunFrontIn p plan old new before behind = IfSome old (λ file. (now : FileOf) × (new ≡ Some now) × HasRunFront p plan file now before behind)

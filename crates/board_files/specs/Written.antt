@@ -1,5 +1,5 @@
 -- What the turns of a plan leave in the files of the tasks.
-use Rattle.std.specs.Prelude.{ℕ, List, length, Option}
+use Rattle.std.specs.Prelude.{List, length, Option}
 use Rattle.mpy_io.specs.Files.{FileOf}
 use Rattle.vm_states.specs.Means.{Program}
 use Rattle.board_plan.specs.declared.plan.Plan.{Plan}

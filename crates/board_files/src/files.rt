@@ -4,7 +4,7 @@ ghost use Rattle.std.specs.Prelude.{◌≡◌, ◌<◌, ◌≤◌, ◌^◌, [], 
 ghost use Rattle.mpy_io.specs.Count.{Counts};
 ghost use Rattle.mpy_io.specs.Files.{Becomes};
 ghost use Rattle.board_files.specs.Files as spec;
-ghost use Rattle.board_files.specs.Files.{Adds, AreEmpty, KeepsOthers, is_unwritten};
+ghost use Rattle.board_files.specs.Files.{Adds, AreEmpty, KeepsOthers, StopsWithin, is_unwritten};
 
 use crate::stop::OutputStop;
 use itoa::Buffer;
@@ -32,6 +32,7 @@ fn begin_file<F: Folder>(
     requires { task < count }
     ensures begun { OnOk result (Becomes (F.files folder.old) (F.files folder.new) (spec.out_name task) []) }
     ensures others { KeepsOthers count (F.files folder.old) (F.files folder.new) }
+    ensures within { StopsWithin count result }
     ensures counts { Counts (F.count folder.old) (F.count folder.new) (is_unwritten result) }
 {
     let name = out_name(alloc, task)?;
@@ -49,6 +50,7 @@ pub(crate) fn begin_files<F: Folder>(
 ) -> Result<(), OutputStop>
     ensures begun { OnOk result (AreEmpty count (F.files folder.old) (F.files folder.new)) }
     ensures others { KeepsOthers count (F.files folder.old) (F.files folder.new) }
+    ensures within { StopsWithin count result }
     ensures counts { Counts (F.count folder.old) (F.count folder.new) (is_unwritten result) }
 {
     for task in 0..count {
@@ -68,6 +70,7 @@ pub(crate) fn append_output<F: Folder>(
     requires { task < count }
     ensures appended { OnOk result (Adds (F.files folder.old) (F.files folder.new) (spec.out_name task) bytes.now) }
     ensures others { KeepsOthers count (F.files folder.old) (F.files folder.new) }
+    ensures within { StopsWithin count result }
     ensures counts { Counts (F.count folder.old) (F.count folder.new) (is_unwritten result) }
 {
     if bytes.is_empty() {

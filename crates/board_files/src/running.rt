@@ -1,14 +1,14 @@
 //! Runs of plans.
 
-ghost use Rattle.std.specs.Prelude.{◌≡◌, ◌≤◌, ℕ, List, [], Err, None, Some, IfOk, OnOk, length};
+ghost use Rattle.std.specs.Prelude.{◌≡◌, ◌<◌, ◌≤◌, ℕ, List, [], Err, None, Some, IfOk, OnOk, length};
 ghost use Rattle.mpy_base.specs.declared.limits.TheConstants.{MAX_TASKS};
 ghost use Rattle.mpy_io.specs.Count.{Counts};
 ghost use Rattle.vm_states.specs.Means.{Program};
 ghost use Rattle.vm_programs.specs.Programs.{IsProgramOf, IsRunnable};
 ghost use Rattle.board_tasks.specs.Opened.{AreOpened, first_missing};
 ghost use Rattle.board_tasks.specs.Turns.{AreRuns};
-ghost use Rattle.board_files.specs.Files.{AreEmpty, KeepsOthers, is_folder_fault, is_out_fault, is_unwritten};
-ghost use Rattle.board_files.specs.Summaries.{CanRun, HasRunIn};
+ghost use Rattle.board_files.specs.Files.{AreEmpty, KeepsOthers, StopsWithin, is_folder_fault, is_out_fault, is_unwritten};
+ghost use Rattle.board_files.specs.Summaries.{CanRun, HasRunFrontIn, HasRunIn};
 ghost use Rattle.board_files.specs.Written.{Written};
 
 use crate::files::begin_files;
@@ -63,6 +63,7 @@ fn write_output<F: Folder>(
     ensures runs { AreRuns library.now board.new }
     ensures few { length board.new ≤ MAX_TASKS }
     ensures others { KeepsOthers (length plan.now.tasks) (F.files folder.old) (F.files folder.new) }
+    ensures within { StopsWithin (length plan.now.tasks) result }
     ensures counts { Counts (F.count folder.old) (F.count folder.new) (is_unwritten result) }
 {
     let count = plan.tasks.len() as u32;
@@ -88,6 +89,10 @@ fn run_turns<F: Folder, S: Sink>(
     ensures ran { OnOk result ((p : Program) → IsProgramOf library.now p → HasRunIn p plan.now (F.files folder.old) (F.files folder.new) (S.told out.old) (S.told out.new)) }
     ensures flushed { OnOk result (S.held out.new ≡ []) }
     ensures there { (name : List ℕ) → result ≡ Err (BoardStop.NoModule name) → ⊥ }
+    ensures unwritten { (task : ℕ) → result ≡ Err (BoardStop.Unwritten task) → (task < length plan.now.tasks) × (out.new ≡ out.old) }
+    ensures unput { result ≡ Err BoardStop.WriteFault → (p : Program) → IsProgramOf library.now p
+        → HasRunFrontIn p plan.now (F.files folder.old) (F.files folder.new) (S.told out.old) (S.told out.new) }
+    ensures starved { result ≡ Err BoardStop.NoMemory → out.new ≡ out.old }
     ensures others { KeepsOthers (length plan.now.tasks) (F.files folder.old) (F.files folder.new) }
     ensures folder_counts { Counts (F.count folder.old) (F.count folder.new) (is_folder_fault result) }
     ensures out_counts { Counts (S.count out.old) (S.count out.new) (is_out_fault result) }
@@ -122,6 +127,15 @@ pub fn run_board<F: Folder, S: Sink>(
     ensures missing { (name : List ℕ) → result ≡ Err (BoardStop.NoModule name)
         → (first_missing library.now plan.now.tasks ≡ Some name) × (folder.new ≡ folder.old) × (out.new ≡ out.old) }
     ensures all_there { OnOk result (first_missing library.now plan.now.tasks ≡ None) }
+
+    // Where the folder fails to write the file of a task, or memory runs out, nothing was printed. Where the sink fails, the tasks have
+    // run, and a front of the summary was printed.
+    ensures unwritten { (task : ℕ) → result ≡ Err (BoardStop.Unwritten task)
+        → (task < length plan.now.tasks) × (first_missing library.now plan.now.tasks ≡ None) × (out.new ≡ out.old) }
+    ensures unput { result ≡ Err BoardStop.WriteFault → (first_missing library.now plan.now.tasks ≡ None)
+        × ((p : Program) → IsProgramOf library.now p
+        → HasRunFrontIn p plan.now (F.files folder.old) (F.files folder.new) (S.told out.old) (S.told out.new)) }
+    ensures starved { result ≡ Err BoardStop.NoMemory → out.new ≡ out.old }
 
     ensures others { KeepsOthers (length plan.now.tasks) (F.files folder.old) (F.files folder.new) }
     ensures folder_counts { Counts (F.count folder.old) (F.count folder.new) (is_folder_fault result) }

@@ -41,14 +41,3 @@ impl From<AllocError> for OutputStop {
         OutputStop::NoMemory
     }
 }
-
-impl From<AllocError> for SummaryStop {
-    ghost use Rattle.std.specs.Prelude.{◌≡◌};
-    ghost use Rattle.board_files.specs.declared.stop.SummaryStop.TheVariants as stops;
-
-    ghost from_gives = { λ _ e. e ≡ stops.NoMemory };
-
-    fn from(_error: AllocError) -> SummaryStop {
-        SummaryStop::NoMemory
-    }
-}

@@ -1,18 +1,21 @@
 //! The summary of a board.
 
-ghost use Rattle.std.specs.Prelude.{◌≡◌, ◌<◌, ◌≤◌, ◌++◌, [], IfOk, OnOk, decimal, length};
+ghost use Rattle.std.specs.Prelude.{◌≡◌, ◌<◌, ◌≤◌, ◌++◌, [], Err, IfOk, OnOk, OnErr, decimal, is_err, length};
+ghost use Rattle.std.specs.Io.KnownBytes.{Appends};
+ghost use Rattle.std.specs.List.{concat};
 ghost use Rattle.mpy_base.specs.declared.limits.TheConstants.{MAX_TASKS};
 ghost use Rattle.mpy_io.specs.Count.{Counts};
+ghost use Rattle.mpy_io.specs.Told.{AppendsFront};
 ghost use Rattle.board_tasks.specs.Turns.{AreRuns};
 ghost use Rattle.bc_library.specs.Shelf.{Shelf};
 ghost use Rattle.board_files.specs.Files.{is_unput};
 ghost use Rattle.board_files.specs.Summaries as spec;
-ghost use Rattle.board_files.specs.Lines.{PutsLine, PutsLines};
+ghost use Rattle.board_files.specs.Lines.{PutsLines, TellRuns, TellsRun};
 
 use crate::stop::SummaryStop;
 use board_tasks::{Board, TaskEnd};
 use itoa::Buffer;
-use mpy_base::Room;
+use mpy_base::{NoMemory, Room, Text};
 use mpy_io::{Failed, Sink};
 use std::alloc::{AllocError, Global};
 
@@ -61,39 +64,45 @@ fn task_line(
     Ok(line)
 }
 
-/// Puts the line of a task.
-fn put_task<S: Sink>(
-    alloc: Global,
-    board: &Board,
-    task: u32,
-    out: &mut S,
-) -> Result<(), SummaryStop>
+/// The line of a task of a board.
+fn line_of(alloc: Global, board: &Board, task: u32) -> Result<Text, NoMemory>
     requires runs { (shelf : Shelf) × AreRuns shelf board.now }
     requires there { task < length board.now }
-    ensures put { OnOk result (PutsLine board.now task (S.told out.old) (S.told out.new)) }
-    ensures counts { Counts (S.count out.old) (S.count out.new) (is_unput result) }
+    ensures { IfOk result (TellsRun board.now task) }
 {
     let line = task_line(alloc, task, board.end(task), board.used(task))?;
-    match out.put(&line) {
-        Ok(()) => Ok(()),
-        Err(Failed) => Err(SummaryStop::WriteFault),
-    }
+    Text::new(alloc, &line)
 }
 
-/// Puts the lines of all tasks.
-fn put_summary<S: Sink>(alloc: Global, board: &Board, out: &mut S) -> Result<(), SummaryStop>
+/// The lines of all tasks.
+fn summary_of(alloc: Global, board: &Board) -> Result<Vec<Text>, NoMemory>
     requires runs { (shelf : Shelf) × AreRuns shelf board.now }
     requires few { length board.now ≤ MAX_TASKS }
-    ensures put { OnOk result (PutsLines board.now (length board.now) (S.told out.old) (S.told out.new)) }
-    ensures counts { Counts (S.count out.old) (S.count out.new) (is_unput result) }
+    ensures { IfOk result (λ lines. TellRuns board.now (length board.now) lines.items) }
 {
+    let mut lines = Vec::new(alloc);
     for task in 0..board.len() as u32 {
-        put_task(alloc, board, task, out)?;
+        lines.push(line_of(alloc, board, task)?)?;
     }
-    Ok(())
+    Ok(lines)
 }
 
-/// Puts the lines of all tasks, and hands them on.
+/// Puts lines, and stops where a put fails.
+fn put_lines<S: Sink>(lines: &[Text], out: &mut S) -> Result<(), Failed>
+    ensures ok { OnOk result (Appends (S.told out.old) (S.told out.new) (concat lines.now)) }
+    ensures err { OnErr result (AppendsFront (S.told out.old) (S.told out.new) (concat lines.now)) }
+    ensures counts { Counts (S.count out.old) (S.count out.new) (is_err result) }
+{
+    let Some((line, rest)) = lines.split_first() else {
+        return Ok(());
+    };
+    match out.put(line.bytes()) {
+        Ok(()) => put_lines(rest, out),
+        Err(Failed) => Err(Failed),
+    }
+}
+
+/// Puts the lines of all tasks, and hands them on. All memory is taken before the first one is put.
 pub(crate) fn summarize<S: Sink>(
     alloc: Global,
     board: &Board,
@@ -101,15 +110,21 @@ pub(crate) fn summarize<S: Sink>(
 ) -> Result<(), SummaryStop>
     requires runs { (shelf : Shelf) × AreRuns shelf board.now }
     requires few { length board.now ≤ MAX_TASKS }
-    ensures put { OnOk result (PutsLines board.now (length board.now) (S.told out.old) (S.told out.new)) }
+    ensures put { OnOk result (PutsLines Appends board.now (S.told out.old) (S.told out.new)) }
     ensures flushed { OnOk result (S.held out.new ≡ []) }
+    ensures front { result ≡ Err SummaryStop.WriteFault → PutsLines AppendsFront board.now (S.told out.old) (S.told out.new) }
+    ensures starved { result ≡ Err SummaryStop.NoMemory → out.new ≡ out.old }
     ensures counts { Counts (S.count out.old) (S.count out.new) (is_unput result) }
 {
-    match put_summary(alloc, board, out) {
+    let lines = match summary_of(alloc, board) {
+        Ok(lines) => lines,
+        Err(NoMemory) => return Err(SummaryStop::NoMemory),
+    };
+    match put_lines(&lines, out) {
         Ok(()) => match out.flush() {
             Ok(()) => Ok(()),
             Err(Failed) => Err(SummaryStop::WriteFault),
         },
-        Err(stop) => Err(stop),
+        Err(Failed) => Err(SummaryStop::WriteFault),
     }
 }

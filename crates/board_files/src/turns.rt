@@ -7,7 +7,7 @@ ghost use Rattle.vm_states.specs.Means.{Program};
 ghost use Rattle.vm_programs.specs.Programs.{IsProgramOf};
 ghost use Rattle.board_plan.specs.Plans.{all_steps};
 ghost use Rattle.board_tasks.specs.Turns.{AreRuns};
-ghost use Rattle.board_files.specs.Files.{KeepsOthers, is_unwritten};
+ghost use Rattle.board_files.specs.Files.{KeepsOthers, StopsWithin, is_unwritten};
 ghost use Rattle.board_files.specs.Runs.{Goes, GoesBy, PaidWithin};
 
 use crate::files::append_output;
@@ -42,6 +42,7 @@ fn make_part<F: Folder>(
     ensures paid { (paid : ℕ) → PaidWithin board.old paid → PaidWithin board.new (paid + steps) }
     ensures goes { OnOk result ((p : Program) → IsProgramOf library.now p → Goes p task steps board.old board.new (F.files folder.old) (F.files folder.new)) }
     ensures others { KeepsOthers (length board.old) (F.files folder.old) (F.files folder.new) }
+    ensures within { StopsWithin (length board.old) result }
     ensures counts { Counts (F.count folder.old) (F.count folder.new) (is_unwritten result) }
 {
     stands_law();
@@ -73,6 +74,7 @@ fn make_turn<F: Folder>(
     ensures paid { (paid : ℕ) → PaidWithin board.old paid → PaidWithin board.new (paid + turn.steps) }
     ensures goes { OnOk result ((p : Program) → IsProgramOf library.now p → Goes p turn.task turn.steps board.old board.new (F.files folder.old) (F.files folder.new)) }
     ensures others { KeepsOthers (length board.old) (F.files folder.old) (F.files folder.new) }
+    ensures within { StopsWithin (length board.old) result }
     ensures counts { Counts (F.count folder.old) (F.count folder.new) (is_unwritten result) }
 {
     let mut left = turn.steps;
@@ -103,6 +105,7 @@ pub(crate) fn make_turns<F: Folder>(
     ensures as_many { length board.new ≡ length board.old }
     ensures goes { OnOk result ((p : Program) → IsProgramOf library.now p → GoesBy p turns.now board.old board.new (F.files folder.old) (F.files folder.new)) }
     ensures others { KeepsOthers (length board.old) (F.files folder.old) (F.files folder.new) }
+    ensures within { StopsWithin (length board.old) result }
     ensures counts { Counts (F.count folder.old) (F.count folder.new) (is_unwritten result) }
 {
     let mut rest = turns;

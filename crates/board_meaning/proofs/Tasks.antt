@@ -28,7 +28,7 @@ RunsMean = (shelf : Shelf) (p : machine.Program) (program : Program) → IsProgr
     → MeansRun program cells bytes ports n (run p.library program.main_name cells bytes ports n)
 
 pub ran_as_meant : RunsMean → (shelf : Shelf) (p : machine.Program) (plan : Plan) (old new : FileOf) (before behind : Option (List ℕ)) (number : ℕ) (task : Task) (program : Program) → IsProgramOf shelf p
-    → HasRun p plan old new before behind → slice_get plan.tasks number ≡ Some task → AreUnits program shelf → program.main_name ≡ task.«module» → RanAsMeant program plan number task new
+    → (ran : HasRun p plan old new before behind) → slice_get plan.tasks number ≡ Some task → AreUnits program shelf → program.main_name ≡ task.«module» → RanAsMeant program plan number task new ran.summarizes.lines
 ran_as_meant mean shelf p plan old new before behind number task program is ran at units named =
     let within = slice_get_within plan.tasks number task at in
     let many = ran.summarizes.as_many in
@@ -39,5 +39,6 @@ ran_as_meant mean shelf p plan old new before behind number task program is ran 
           (mean shelf p program is units task.room.cells task.room.bytes [] (total plan.turns number));
       output = ran.outputs number task at;
       line = line.0;
+      told = line.1;
       says = ran.summarizes.each number task line.0 at line.1;
     }

@@ -18,8 +18,8 @@ use program_runs::runs_law;
 /// ports, in the task's room and with the total of its own steps: whatever the other tasks do.
 pub fn tasks_law()
     ensures { (shelf : Shelf) (p : machine.Program) (plan : Plan) (old new : FileOf) (before behind : Option (List ℕ)) (number : ℕ) (task : Task) (program : Program)
-        → IsProgramOf shelf p → HasRun p plan old new before behind → slice_get plan.tasks number ≡ Some task → AreUnits program shelf → program.main_name ≡ task.«module»
-        → RanAsMeant program plan number task new }
+        → IsProgramOf shelf p → (ran : HasRun p plan old new before behind) → slice_get plan.tasks number ≡ Some task → AreUnits program shelf
+        → program.main_name ≡ task.«module» → RanAsMeant program plan number task new ran.summarizes.lines }
 {
     runs_law();
 }

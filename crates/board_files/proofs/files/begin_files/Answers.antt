@@ -2,7 +2,7 @@ use Rattle.std.proofs.Common.{◌≡◌, ℕ, ◌<◌, ◌^◌, Result, Err, sym
 use Rattle.std.proofs.lemmas.Result.{err_from_is_err_and}
 use Rattle.mpy_io.specs.Count.{Counts}
 use Rattle.board_files.specs.declared.stop.OutputStop.{OutputStop}
-use Rattle.board_files.specs.Files.{AreEmpty, is_unwritten}
+use Rattle.board_files.specs.Files.{AreEmpty, StopsWithin, is_unwritten}
 use Rattle.board_files.proofs.Others.{others_on, more_empty}
 use Rattle.board_files.proofs.files.begin_files.Goals as goal
 
@@ -27,3 +27,9 @@ loop-task-preserved g c =
       others_on c.args.count (files c.args.folder.now) (files c.loop-task.folder) (files c.begin_file.new.folder) c.loop-task.invariant.1 c.begin_file.ensures.others,
       c.in_ok-begin_file.ensures.counts ∙ c.loop-task.invariant.2,
     )
+
+pub returns-in_err-begin_file-clause-within : goal.returns-in_err-begin_file-clause-within
+returns-in_err-begin_file-clause-within g c =
+    let p = err_from_is_err_and c.from_residual.result c.from_residual.ensures.1 in
+    let same : c.from_residual.result ≡ Err c.in_err-begin_file.field-0.0 = cc (p.1, p.2) in
+    subst (StopsWithin c.args.count) (sym same) c.in_err-begin_file.ensures.within

@@ -1,7 +1,7 @@
-use Rattle.std.proofs.Common.{◌≡◌, ℕ, ◌<◌, ◌≤◌, List, length, All, sym, subst, ◌∙◌}
+use Rattle.std.proofs.Common.{ℕ, ◌<◌, ◌≤◌, List, length, All, sym, subst, ◌∙◌}
 use Rattle.mpy_base.specs.declared.limits.TheConstants.{MAX_TASKS}
 use Rattle.board_plan.specs.declared.plan.Turn.{Turn}
-use Rattle.board_files.specs.Files.{KeepsOthers}
+use Rattle.board_files.specs.Files.{KeepsOthers, StopsWithin}
 use Rattle.board_files.proofs.Holding.{opened_many, opened_runs, opened_unpaid}
 use Rattle.board_files.proofs.Others.{others_on}
 use Rattle.board_files.proofs.running.write_output.Goals as goal
@@ -40,3 +40,7 @@ returns-in-Err-clause-runs g c = opened_runs c.args.library.now c.args.plan.now.
 pub returns-in-Err-clause-few : goal.returns-in-Err-clause-few
 returns-in-Err-clause-few g c =
     subst (λ (n : ℕ). n ≤ MAX_TASKS) (sym (opened_many c.args.library.now c.args.plan.now.tasks c.args.board.now c.requires.opened)) c.requires.can_run.few
+
+pub returns-in-Ok-clause-within : goal.returns-in-Ok-clause-within
+returns-in-Ok-clause-within g c =
+    subst (λ (n : ℕ). StopsWithin n c.make_turns.result) (opened_many c.args.library.now c.args.plan.now.tasks c.args.board.now c.requires.opened) c.make_turns.ensures.within

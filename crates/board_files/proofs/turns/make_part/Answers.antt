@@ -1,4 +1,4 @@
-use Rattle.std.proofs.Common.{List, ℕ, ap}
+use Rattle.std.proofs.Common.{ap}
 use Rattle.mpy_io.specs.Memory.{SinkState}
 use Rattle.board_files.proofs.Holding.{went_so, over_so}
 use Rattle.board_files.proofs.turns.make_part.Goals as goal

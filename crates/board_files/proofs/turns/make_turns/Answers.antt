@@ -1,4 +1,4 @@
-use Rattle.std.proofs.Common.{rules, ◌≡◌, ◌∷◌, length, refl, ◌∙◌}
+use Rattle.std.proofs.Common.{rules, ◌≡◌, length, refl, ◌∙◌}
 use Rattle.board_files.proofs.Loops.{no_turns, more_turns, next_countable, next_there, all_turns}
 use Rattle.board_files.proofs.turns.make_turns.Goals as goal
 

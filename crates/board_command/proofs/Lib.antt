@@ -1,0 +1,4 @@
+mod Held
+mod Opening
+pub mod Ending
+pub mod Meaning

@@ -1,0 +1,5 @@
+pub mod Images
+pub mod Plans
+pub mod Boards
+pub mod Ends
+pub mod Meant

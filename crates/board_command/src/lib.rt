@@ -1,0 +1,11 @@
+//! The command `board`: the tasks of a plan by turns on an image.
+#![tactic(auto)]
+
+mod image;
+mod laws;
+mod plan;
+mod runnable;
+mod running;
+
+pub use laws::board_means_law;
+pub use running::board;
