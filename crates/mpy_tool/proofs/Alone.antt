@@ -1,5 +1,7 @@
 -- What single commands did, as the order says it.
 use Rattle.std.proofs.Common.{◌≡◌, ℕ, Bool, false, List, Option, Some, None, sym, ap, subst, ◌∙◌}
+use Rattle.std.specs.Option.{ForSome}
+use Rattle.std.specs.Prelude.{IfSome}
 use Rattle.std.specs.Io.KnownBytes.{Keeps}
 use Rattle.mpy_io.specs.Count.{Counts}
 use Rattle.mpy_io.specs.Files.{FileOf}
@@ -27,6 +29,10 @@ use Rattle.board_command.specs.Images.{library_below}
 use Rattle.mpy_tool.specs.Below.{FreezesBelow}
 use Rattle.mpy_tool.specs.Doing.{DoesBy}
 use Rattle.mpy_tool.specs.Order.{ChangesBy, stands_alone}
+
+pub for_some : (P : Shelf → Type 0) (o : Option Shelf) → IfSome o P → ForSome o P
+for_some P None h = λ x e. absurd cc
+for_some P (Some y) h = λ x e. let same : y ≡ x = cc in subst P same h
 
 module _ (order : Order) (words : List (List ℕ)) (below : Option Shelf) (command : Command) (old new : Option FileOf) (before behind : Option (List ℕ)) (place : ℕ) (ending : Ending) where
   abbrev Did : Command → Type 0

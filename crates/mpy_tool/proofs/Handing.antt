@@ -14,10 +14,10 @@ use Rattle.mpy_endings.specs.declared.ending.Ending.TheVariants.{Done, WriteFaul
 use Rattle.file_commands.specs.Check.{verified_line}
 use Rattle.file_commands.proofs.HandedOn.{checks_cut, dumps_cut}
 use Rattle.board_command.specs.Images.{library_below}
-use Rattle.board_command.proofs.Boards.{unflushed, flushed}
+use Rattle.board_command.proofs.Ending.{unflushed}
 use Rattle.mpy_tool.specs.Below.{FreezesBelow}
 use Rattle.mpy_tool.specs.Doing.{DoesBy}
-use Rattle.mpy_tool.specs.Order.{stands_alone}
+use Rattle.mpy_tool.proofs.Flushing.{flushed}
 
 freezes_cut : (below : Option Shelf) (manifest written : List ℕ) (old new : Option FileOf) → FreezesBelow below manifest written old new Done → FreezesBelow below manifest written old new WriteFault
 freezes_cut None manifest written old new p = p
