@@ -1,7 +1,8 @@
 //! The program: the tool's top call over the working folder and the standard streams.
 #![tactic(auto)]
 
-use mpy_io::{DiskFolder, InputPort, OutSink, Sink};
+use mpy_disk::Disk;
+use mpy_io::{InputPort, OutSink, Sink};
 use mpy_tool::mpy;
 use port_set::PortSet;
 use std::alloc::Global;
@@ -94,15 +95,6 @@ fn refuse<E: Sink>(say: &mut E, fault: ErrorKind) -> u8 {
     2
 }
 
-/// Below which folder on disk the files lie that the words name: the working folder, or all of the disk where the first
-/// named word begins with `/`.
-fn root_of(words: &[String]) -> &'static str {
-    match words {
-        [_, name, ..] if name.as_bytes().first() == Some(&b'/') => "/",
-        _ => ".",
-    }
-}
-
 fn tell<S: Sink, E: Sink>(text: &[u8], out: &mut S, say: &mut E) -> u8 {
     if out.put(text).is_ok() && out.flush().is_ok() {
         return 0;
@@ -124,10 +116,9 @@ fn main(rt: HostRuntime) -> ExitCode {
     if let Some(text) = notice(&words) {
         return ExitCode::from(tell(text, &mut out, &mut say));
     }
-    let Ok(root) = String::from_str(alloc, root_of(&words)) else {
+    let Ok(mut folder) = Disk::new(alloc, &rt, &rt) else {
         return ExitCode::from(refuse(&mut say, ErrorKind::OutOfMemory));
     };
-    let mut folder = DiskFolder::new(&rt, root);
     let mut ports = Vec::new(alloc);
     if ports.push(InputPort::new(rt.stdin(), rt.stderr())).is_err() {
         return ExitCode::from(refuse(&mut say, ErrorKind::OutOfMemory));
