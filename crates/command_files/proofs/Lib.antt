@@ -1,3 +1,3 @@
 pub mod Long
 pub mod Others
-pub mod Opened
+pub mod Verifying

@@ -1,5 +1,5 @@
 pub mod Checked
 pub mod Crossed
-pub mod Merging
+pub mod Merged
 pub mod HandedOn
 mod Crossings

@@ -1,2 +1,2 @@
-mod Places
-mod Matched
+pub mod Places
+pub mod Matched

@@ -38,10 +38,10 @@ pub record Below : Type 0 where
   pub one_image : (below : Base) (bytes : List ℕ) (a b : List images.Entry) → image below bytes (Ok a) → image below bytes (Ok b) → a ≡ b
   pub read : (bytes : List ℕ) (entries : List images.Entry) → IsImage nothing_below entries bytes → All (λ entry. IsVerified entry.held) entries → image nothing_below bytes (Ok entries)
 
-abbrev listed : List manifests.Entry → Answer
+abbrev pub listed : List manifests.Entry → Answer
 listed entries = Ok entries
 
-same_entries : (a b : List manifests.Entry) → listed a ≡ listed b → a ≡ b
+pub same_entries : (a b : List manifests.Entry) → listed a ≡ listed b → a ≡ b
 same_entries a b e = cc
 
 module _ (b : Below) where
@@ -55,7 +55,7 @@ module _ (b : Below) where
 
   module _ (files : FileOf) where
     -- the modules of a library of modules
-    abbrev modules_of : List Named → List shelves.Named
+    abbrev pub modules_of : List Named → List shelves.Named
     modules_of modules = (shelf_of (entries_of modules)).modules
 
     unit_file : (entry : manifests.Entry) (m : Named) (text : List ℕ) (source : Source) → HoldsSource (Some files) entry m → files entry.path ≡ Some text → IsReading entry.opt text entry.source source → IsUnitFile (Single source) (frozen m.held)
@@ -67,7 +67,7 @@ module _ (b : Below) where
         by : {x y : List ℕ} → Some x ≡ Some y → x ≡ y
         by e = cc
 
-    matched : (entries : List manifests.Entry) (modules : List Named) (all : List (Name × Entry)) → AllZip (HoldsSource (Some files)) entries modules → AllZip (IsSourceOf files) entries all → Matched (modules_of modules) all
+    pub matched : (entries : List manifests.Entry) (modules : List Named) (all : List (Name × Entry)) → AllZip (HoldsSource (Some files)) entries modules → AllZip (IsSourceOf files) entries all → Matched (modules_of modules) all
     matched [] [] [] h k = tt
     matched [] [] (e ∷ all) h k = absurd k
     matched [] (m ∷ modules) all h k = absurd h
@@ -77,7 +77,7 @@ module _ (b : Below) where
         let named : e ≡ (m.name, Runs (Single k.0.source)) = k.0.named_is ∙ ap (λ (name : Name). (name, Runs (Single k.0.source))) (sym h.0.name_is) in
         ((Single k.0.source, named, unit_file entry m k.0.text k.0.source h.0 k.0.there k.0.is_reading), matched entries modules all h.1 k.1)
 
-    sourced : (entries : List manifests.Entry) (modules : List Named) → AllZip (HoldsSource (Some files)) entries modules → (all : List (Name × Entry)) × AllZip (IsSourceOf files) entries all
+    pub sourced : (entries : List manifests.Entry) (modules : List Named) → AllZip (HoldsSource (Some files)) entries modules → (all : List (Name × Entry)) × AllZip (IsSourceOf files) entries all
     sourced [] modules h = ([], tt)
     sourced (entry ∷ entries) [] h = absurd h
     sourced (entry ∷ entries) (m ∷ modules) h =

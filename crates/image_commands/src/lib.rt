@@ -1,6 +1,8 @@
-//! The command `freeze`.
+//! The commands that write images: `freeze` and `migrate`.
 #![tactic(auto)]
 
-mod freezing;
+mod freeze_command;
+mod migrate_command;
 
-pub use freezing::freeze;
+pub use freeze_command::freeze;
+pub use migrate_command::migrate;

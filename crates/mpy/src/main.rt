@@ -29,16 +29,24 @@ usage:
   mpy merge OUT FILE..
                      verify the files FILE.. and write one file as OUT that runs them
                      in order, as in: mpy merge both.mpy one.mpy two.mpy
-  mpy freeze MANIFEST OUT
+  mpy freeze MANIFEST OUT [--base IMAGE]
                      compile the sources that the manifest MANIFEST names and write one
-                     image of their modules as OUT,
+                     image of their modules as OUT, over the image IMAGE if one is given,
                      as in: mpy freeze examples/board/manifest.py board.img
-  mpy run FILE [-m NAME] [--cells N] [--bytes N] [--steps N]
+  mpy migrate IMAGE OUT
+                     write the image IMAGE once more as OUT, in version 2,
+                     as in: mpy migrate board.img second.img
+  mpy run FILE [-m NAME] [--base IMAGE] [--cells N] [--bytes N] [--steps N]
                      run the file FILE with the files of the modules that it imports, or
-                     the module NAME (main if left out) of the image FILE, in
+                     the module NAME (main if left out) of the image FILE, which lies
+                     over the image IMAGE if one is given, in
                      an arena of N cells (65,536 if left out) with N bytes of texts
                      (262,144), for N steps at most (10,000,000),
                      as in: mpy run examples/sensor.mpy --cells 4000
+  mpy board IMAGE PLAN [--base IMAGE]
+                     run the tasks of the plan PLAN by turns on the image IMAGE, write
+                     the output of task N as N.out, and tell how each ended,
+                     as in: mpy board board.img examples/board/plan.txt
   mpy --help         print this text
   mpy --version      print the version
 
@@ -47,15 +55,15 @@ exit status (docs/MESSAGES.md explains each line that is said):
   1   an exception that nothing caught ended the run
   2   the words are no command
   3   a source isn't accepted
-  4   the file or the image isn't read, or isn't verified
+  4   the file, the image or its base isn't read, or isn't verified
   5   the run took all its steps
   6   the run's arena was too small
   7   a read failed
   8   a write failed
   9   out of memory
   10  a file, or the main module of an image, is absent
-  11  the files can't be merged, or are too many for a library, or the manifest
-      or its image has a fault
+  11  the files can't be merged, or are too many for a library, or the manifest,
+      its image or the plan has a fault
 ";
 
 /// The words after the program's own name.

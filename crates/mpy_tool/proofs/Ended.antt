@@ -1,18 +1,25 @@
--- How a whole command ended, from its parts.
+-- How an order that runs no library ended, by its command.
 use Rattle.std.proofs.Common.{◌≡◌, ℕ, List, [], Option, Result, get_or, ap, subst, ◌∙◌, refl}
-use Rattle.mpy_io.specs.Count.{Counts}
-use Rattle.mpy_io.specs.Files.{FileOf}
 use Rattle.mpy_io.specs.declared.fault.Failed.{Failed}
-use Rattle.mpy_words.specs.Words.{first_name, second_name}
+use Rattle.bc_library.specs.Shelf.{Shelf}
+use Rattle.source_files.specs.Sources.{stored}
+use Rattle.mpy_words.specs.declared.order.Command.TheVariants.{Check, Dump, Cross, Merge, Freeze, Migrate, Board}
+use Rattle.mpy_words.specs.declared.order.Order.{Order}
+use Rattle.mpy_words.specs.Words.{first_name, second_name, source_name, file_names}
 use Rattle.mpy_endings.specs.declared.ending.Ending.{Ending}
 use Rattle.mpy_endings.specs.declared.ending.Ending.TheVariants.{Done, Unaccepted, Unread, Unverified, Unmerged, Unopened, Unfrozen, Unboarded, Stopped, ReadFault, WriteFault, Unwritten, NoMemory, Absent}
-use Rattle.mpy_endings.specs.Ending.{status_of, is_folder_fault, is_out_fault}
 use Rattle.mpy_endings.specs.Line.{Puts, Says, line_of, name_in, place_in}
-use Rattle.command_files.specs.Outside.{Outside, Ends}
 use Rattle.mpy_endings.proofs.Said.{says_from}
-
-abbrev pub Relation : Type 1
-Relation = Option FileOf → List ℕ → Ending → Option (List ℕ) → Option (List ℕ) → Type 0
+use Rattle.command_files.specs.Outside.{Outside, Ends, EndsAt, Writes, WritesOf}
+use Rattle.file_commands.specs.Check.{Checks}
+use Rattle.file_commands.specs.Cross.{Crosses}
+use Rattle.file_commands.specs.Dump.{Dumps}
+use Rattle.file_commands.specs.Merge.{Merges}
+use Rattle.image_commands.specs.Migrate.{Migrates}
+use Rattle.board_command.specs.Boards.{Boards}
+use Rattle.board_command.specs.Images.{library_below}
+use Rattle.mpy_tool.specs.Below.{FreezesBelow}
+use Rattle.mpy_tool.specs.Doing.{DoesBy}
 
 -- but where a write failed, the line names the file that was read
 name_read : (read written : List ℕ) (ending : Ending) → (ending ≡ Unwritten → ⊥) → name_in read written ending ≡ read
@@ -54,24 +61,93 @@ pub said_at : (old new : Option (List ℕ)) (count_old count_new : ℕ) (words :
 said_at old new count_old count_new words said place ending r e p =
     subst (λ (n : List ℕ). Says old new count_old count_new (line_of n ending)) e (says_from old new count_old count_new (line_of said ending) r p)
 
-pub said_in : (old new : Option (List ℕ)) (count_old count_new : ℕ) (words : List (List ℕ)) (said : List ℕ) (place : ℕ) (ending : Ending) (r : Result (Unit {0}) Failed)
-    → said ≡ get_or words place [] → place ≡ place_in ending → Puts old new count_old count_new (line_of said ending) r
-    → Says old new count_old count_new (line_of (name_in (first_name words) (second_name words) ending) ending)
-said_in old new count_old count_new words said place ending r e at p =
-    let named = e ∙ (ap (λ (n : ℕ). get_or words n []) at ∙ word_named words ending) in
-    subst (λ (n : List ℕ). Says old new count_old count_new (line_of n ending)) named (says_from old new count_old count_new (line_of said ending) r p)
+module _ (words : List (List ℕ)) (old new : Outside) where
+  abbrev SaysOf : List ℕ → Ending → Type 0
+  SaysOf name ending = Says old.say new.say old.say_faults new.say_faults (line_of name ending)
 
-pub ends : (Relates : Relation) (read written : List ℕ) (old new : Outside) (status : ℕ) (ending : Ending)
-    → (Relates old.files read Unwritten old.out new.out → ⊥) → status ≡ status_of ending → Relates old.files read ending old.out new.out
-    → Counts old.folder_faults new.folder_faults (is_folder_fault ending) → Counts old.out_faults new.out_faults (is_out_fault ending)
-    → Says old.say new.say old.say_faults new.say_faults (line_of (name_in read written ending) ending) → Ends Relates read old new status
-ends Relates read written old new status ending never status_is went folder out says =
-    let apart = λ (e : ending ≡ Unwritten). never (subst (λ (x : Ending). Relates old.files read x old.out new.out) e went) in
-    record {
-      ending = ending;
-      status_is = status_is;
-      went = went;
-      folder_counts = folder;
-      out_counts = out;
-      says = subst (λ (n : List ℕ). Says old.say new.say old.say_faults new.say_faults (line_of n ending)) (name_read read written ending apart) says;
-    }
+  named_in : (place : ℕ) (ending : Ending) → place ≡ place_in ending → SaysOf (get_or words place []) ending → SaysOf (name_in (first_name words) (second_name words) ending) ending
+  named_in place ending at says = subst (λ (n : List ℕ). SaysOf n ending) (ap (λ (n : ℕ). get_or words n []) at ∙ word_named words ending) says
+
+  named_first : (place : ℕ) (ending : Ending) → place ≡ place_in ending → (ending ≡ Unwritten → ⊥) → SaysOf (get_or words place []) ending → SaysOf (first_name words) ending
+  named_first place ending at apart says =
+      subst (λ (n : List ℕ). SaysOf n ending) (name_read (first_name words) (second_name words) ending apart) (named_in place ending at says)
+
+-- each command's own form
+-- =======================
+
+module _ (order : Order) (words : List (List ℕ)) (below : Option Shelf) (old new : Outside) (status : ℕ) where
+  pub checked : EndsAt (DoesBy order words below Check) words old new status → Ends Checks (first_name words) old new status
+  checked h = record {
+    ending = h.ending;
+    status_is = h.status_is;
+    went = h.went.0;
+    folder_counts = h.folder_counts;
+    out_counts = h.out_counts;
+    says = named_first words old new h.place h.ending h.went.1 (λ e. subst (λ (x : Ending). Checks old.files (first_name words) x old.out new.out) e h.went.0) h.says;
+  }
+
+  pub dumped : EndsAt (DoesBy order words below Dump) words old new status → Ends Dumps (first_name words) old new status
+  dumped h = record {
+    ending = h.ending;
+    status_is = h.status_is;
+    went = h.went.0;
+    folder_counts = h.folder_counts;
+    out_counts = h.out_counts;
+    says = named_first words old new h.place h.ending h.went.1 (λ e. subst (λ (x : Ending). Dumps old.files (first_name words) x old.out new.out) e h.went.0) h.says;
+  }
+
+  pub crossed : EndsAt (DoesBy order words below Cross) words old new status → Writes (Crosses order.level (first_name words) (stored (source_name words order.stored_name)) (second_name words)) (first_name words) (second_name words) old new status
+  crossed h = record {
+    ending = h.ending;
+    status_is = h.status_is;
+    went = h.went.0;
+    prints = h.went.1;
+    folder_counts = h.folder_counts;
+    out_counts = h.out_counts;
+    says = named_in words old new h.place h.ending h.went.2 h.says;
+  }
+
+  pub frozen : EndsAt (DoesBy order words below Freeze) words old new status → Writes (FreezesBelow below (first_name words) (second_name words)) (first_name words) (second_name words) old new status
+  frozen h = record {
+    ending = h.ending;
+    status_is = h.status_is;
+    went = h.went.0;
+    prints = h.went.1;
+    folder_counts = h.folder_counts;
+    out_counts = h.out_counts;
+    says = named_in words old new h.place h.ending h.went.2 h.says;
+  }
+
+  pub migrated : EndsAt (DoesBy order words below Migrate) words old new status → Writes (Migrates (first_name words) (second_name words)) (first_name words) (second_name words) old new status
+  migrated h = record {
+    ending = h.ending;
+    status_is = h.status_is;
+    went = h.went.0;
+    prints = h.went.1;
+    folder_counts = h.folder_counts;
+    out_counts = h.out_counts;
+    says = named_in words old new h.place h.ending h.went.2 h.says;
+  }
+
+  pub merged : EndsAt (DoesBy order words below Merge) words old new status → WritesOf (Merges (file_names words) (first_name words)) words old new status
+  merged h = record {
+    ending = h.ending;
+    place = h.place;
+    status_is = h.status_is;
+    went = h.went.0;
+    prints = h.went.1;
+    folder_counts = h.folder_counts;
+    out_counts = h.out_counts;
+    says = h.says;
+  }
+
+  pub boarded : EndsAt (DoesBy order words below Board) words old new status → EndsAt (Boards (library_below below) (first_name words) (second_name words)) words old new status
+  boarded h = record {
+    ending = h.ending;
+    place = h.place;
+    status_is = h.status_is;
+    went = h.went;
+    folder_counts = h.folder_counts;
+    out_counts = h.out_counts;
+    says = h.says;
+  }

@@ -1,1 +1,5 @@
 pub mod Ended
+mod Flushing
+pub mod Handing
+pub mod Alone
+pub mod Acting

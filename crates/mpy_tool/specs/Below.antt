@@ -14,12 +14,12 @@ use Rattle.base_commands.specs.Freeze.{FreezesOn}
 
 -- over the library below, or over nothing
 abbrev pub FreezesBelow : Option Shelf → (manifest written : List ℕ) → Option FileOf → Option FileOf → Ending → Type 0
-FreezesBelow None manifest written old new ending = Freezes manifest written old new ending
-FreezesBelow (Some below) manifest written old new ending = FreezesOn below manifest written old new ending
+FreezesBelow None manifest written = Freezes manifest written
+FreezesBelow (Some below) manifest written = FreezesOn below manifest written
 
 abbrev pub RunLibraryBelow : Option Shelf → (main : List ℕ) → Libraries
-RunLibraryBelow None main files name answer = RunLibrary main files name answer
-RunLibraryBelow (Some below) main files name answer = RunLibraryOn below main files name answer
+RunLibraryBelow None main = RunLibrary main
+RunLibraryBelow (Some below) main = RunLibraryOn below main
 
 module _ (words : List (List ℕ)) (old new : Outside) (ports_old ports_new : List PortView) (status : ℕ) where
   -- the base of this name isn't opened, and nothing was done but to say so

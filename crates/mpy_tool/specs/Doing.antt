@@ -43,36 +43,41 @@ module _ (order : Order) (words : List (List ℕ)) (below : Option Shelf) where
   DoesBy Run old new before behind place ending = ⊥
   DoesBy Board old new before behind place ending = Boards (library_below below) (first_name words) (second_name words) old new before behind place ending
 
+  abbrev pub no_library : Libraries
+  no_library files name answer = ⊥
+
   -- which library a command runs
   abbrev pub LibraryBy : Command → Libraries
-  LibraryBy Go files name answer = GoLibrary order.level files name answer
-  LibraryBy Check files name answer = ⊥
-  LibraryBy Dump files name answer = ⊥
-  LibraryBy Cross files name answer = ⊥
-  LibraryBy Merge files name answer = ⊥
-  LibraryBy Freeze files name answer = ⊥
-  LibraryBy Migrate files name answer = ⊥
-  LibraryBy Run files name answer = RunLibraryBelow below (main_name words order.main_name) files name answer
-  LibraryBy Board files name answer = ⊥
+  LibraryBy Go = GoLibrary order.level
+  LibraryBy Check = no_library
+  LibraryBy Dump = no_library
+  LibraryBy Cross = no_library
+  LibraryBy Merge = no_library
+  LibraryBy Freeze = no_library
+  LibraryBy Migrate = no_library
+  LibraryBy Run = RunLibraryBelow below (main_name words order.main_name)
+  LibraryBy Board = no_library
+
+  -- how a command ended that runs no library
+  abbrev pub Finishes : (old new : Outside) → (status : ℕ) → Command → Type 0
+  Finishes old new status command = EndsAt (DoesBy command) words old new status
 
   module _ (old new : Outside) (ports_old ports_new : List PortView) (status : ℕ) where
-    abbrev pub Finishes : Command → Type 0
-    Finishes command = EndsAt (DoesBy command) words old new status
-
+    -- how one ended that runs a library
     abbrev pub RunsBy : Command → Type 0
     RunsBy command = EndsRun (LibraryBy command) (room_of order) order.steps (first_name words) old new ports_old ports_new status
 
     -- how the command ended over the library below
     abbrev pub ActsBy : Command → Type 0
     ActsBy Go = RunsBy Go
-    ActsBy Check = Finishes Check
-    ActsBy Dump = Finishes Dump
-    ActsBy Cross = Finishes Cross
-    ActsBy Merge = Finishes Merge
-    ActsBy Freeze = Finishes Freeze
-    ActsBy Migrate = Finishes Migrate
+    ActsBy Check = Finishes old new status Check
+    ActsBy Dump = Finishes old new status Dump
+    ActsBy Cross = Finishes old new status Cross
+    ActsBy Merge = Finishes old new status Merge
+    ActsBy Freeze = Finishes old new status Freeze
+    ActsBy Migrate = Finishes old new status Migrate
     ActsBy Run = RunsBy Run
-    ActsBy Board = Finishes Board
+    ActsBy Board = Finishes old new status Board
 
 -- how an order ended, over its base if it has one
 abbrev pub ObeysBy : Command → Order → List (List ℕ) → (old new : Outside) → (ports_old ports_new : List PortView) → (status : ℕ) → Type 0

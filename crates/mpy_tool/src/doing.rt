@@ -1,6 +1,6 @@
 //! Orders that run no library.
 
-ghost use Rattle.std.specs.Prelude.{◌≡◌, ◌≤◌, [], true, false, map, string_bytes, ForSome};
+ghost use Rattle.std.specs.Prelude.{◌≡◌, ◌≤◌, [], true, false, map, string_bytes, IfSome};
 ghost use Rattle.mpy_io.specs.Count.{Counts};
 ghost use Rattle.image_base.specs.Base.{IsOpened};
 ghost use Rattle.bc_library.specs.Shelf.{Shelf};
@@ -31,7 +31,7 @@ fn freeze_below<F: Folder>(
     written: &str,
     folder: &mut F,
 ) -> Ending
-    requires below { ForSome below IsOpened }
+    requires below { IfSome below IsOpened }
     ensures went { FreezesBelow below manifest.now written.now (F.files folder.old) (F.files folder.new) result }
     ensures folder_counts { Counts (F.count folder.old) (F.count folder.new) (is_folder_fault result) }
     ensures prints_nothing { is_out_fault result ≡ false }
@@ -84,7 +84,7 @@ fn ran<F: Folder, S: Sink>(
 ) -> Ended
     requires level { order.level ≤ 3 }
     requires no_run { calls_ports order.command ≡ false }
-    requires below { ForSome below IsOpened }
+    requires below { IfSome below IsOpened }
     ensures went { DoesBy order (map string_bytes words.now) below order.command
         (F.files folder.old) (F.files folder.new) (S.told out.old) (S.told out.new) result.place result.ending }
     ensures folder_counts { Counts (F.count folder.old) (F.count folder.new) (is_folder_fault result.ending) }
@@ -117,7 +117,7 @@ fn done<F: Folder, S: Sink>(
 ) -> Ended
     requires level { order.level ≤ 3 }
     requires no_run { calls_ports order.command ≡ false }
-    requires below { ForSome below IsOpened }
+    requires below { IfSome below IsOpened }
     ensures went { DoesBy order (map string_bytes words.now) below order.command
         (F.files folder.old) (F.files folder.new) (S.told out.old) (S.told out.new) result.place result.ending }
     ensures flushed { result.ending ≡ Done → S.held out.new ≡ [] }
@@ -153,7 +153,7 @@ pub(crate) fn do_order<F: Folder, S: Sink, E: Sink>(
 ) -> u8
     requires level { order.level ≤ 3 }
     requires no_run { calls_ports order.command ≡ false }
-    requires below { ForSome below IsOpened }
+    requires below { IfSome below IsOpened }
     ensures ended { Finishes order (map string_bytes words.now) below
         (seen F.files F.count S.told S.count E.told E.count folder.old out.old say.old)
         (seen F.files F.count S.told S.count E.told E.count folder.new out.new say.new) result order.command }

@@ -1,6 +1,6 @@
 //! Orders that run a library.
 
-ghost use Rattle.std.specs.Prelude.{◌≡◌, ◌≤◌, [], true, map, string_bytes, ForSome, IfOk, IfErr};
+ghost use Rattle.std.specs.Prelude.{◌≡◌, ◌≤◌, [], true, map, string_bytes, IfSome, IfOk, IfErr};
 ghost use Rattle.mpy_io.specs.Count.{Counts};
 ghost use Rattle.mpy_tree.specs.Raw.{Module};
 ghost use Rattle.library_files.specs.Ends.{HoldsModules};
@@ -33,7 +33,7 @@ fn ready_below<F: Folder>(
     main: &str,
     folder: &mut F,
 ) -> Result<Ready, Ending>
-    requires below { ForSome below IsOpened }
+    requires below { IfSome below IsOpened }
     ensures comes { RunLibraryBelow below main.now (F.files folder.old) name.now result }
     ensures there { IfOk result (λ ready. (m : Module) × IsMainAt ready.main ready.place m ready.library) }
     ensures holds { IfOk result (λ ready. HoldsModules ready.library) }
@@ -57,7 +57,7 @@ fn library_of<F: Folder>(
 ) -> Result<Ready, Ending>
     requires level { order.level ≤ 3 }
     requires runs { calls_ports order.command ≡ true }
-    requires below { ForSome below IsOpened }
+    requires below { IfSome below IsOpened }
     ensures comes { LibraryBy order (map string_bytes words.now) below order.command (F.files folder.old) (first_name (map string_bytes words.now)) result }
     ensures there { IfOk result (λ ready. (m : Module) × IsMainAt ready.main ready.place m ready.library) }
     ensures holds { IfOk result (λ ready. HoldsModules ready.library) }
@@ -93,7 +93,7 @@ pub(crate) fn run_order<F: Folder, S: Sink, P: Port, E: Sink>(
 ) -> u8
     requires level { order.level ≤ 3 }
     requires runs { calls_ports order.command ≡ true }
-    requires below { ForSome below IsOpened }
+    requires below { IfSome below IsOpened }
     ensures ended { RunsBy order (map string_bytes words.now) below
         (seen F.files F.count S.told S.count E.told E.count folder.old out.old say.old)
         (seen F.files F.count S.told S.count E.told E.count folder.new out.new say.new)

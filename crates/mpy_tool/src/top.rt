@@ -1,10 +1,12 @@
 //! The top call.
 
-ghost use Rattle.std.specs.Prelude.{◌≡◌, ◌≤◌, [], true, false, map, string_bytes, IfOk, IfErr, ForSome};
+ghost use Rattle.std.specs.Prelude.{◌≡◌, ◌≤◌, [], true, false, map, string_bytes, IfOk, IfErr, IfSome};
 ghost use Rattle.image_base.specs.Base.{IsOpened};
 ghost use Rattle.mpy_words.specs.declared.order.Command.TheVariants as commands;
 ghost use Rattle.mpy_words.specs.Words.{order_of, first_name, second_name, source_name, main_name, file_names};
 ghost use Rattle.source_files.specs.Sources.{stored};
+ghost use Rattle.mpy_endings.specs.Ending.{status_of};
+ghost use Rattle.mpy_endings.specs.Line.{Says, line_of};
 ghost use Rattle.command_files.specs.Outside.{seen, Ends, EndsAt, Writes, WritesOf};
 ghost use Rattle.file_commands.specs.Check.{Checks};
 ghost use Rattle.file_commands.specs.Cross.{Crosses};
@@ -24,8 +26,9 @@ ghost use Rattle.mpy_tool.specs.Order.{RefusesWords, base_by, calls_ports, calls
 use crate::doing::do_order;
 use crate::running::run_order;
 use base_library::base_library;
+use base_meaning::run_over_means_law;
 use bc_library::Library;
-use mpy_endings::{say_ending, say_words, word_at};
+use mpy_endings::{Ending, say_ending, say_words, word_at};
 use mpy_io::{Folder, Port, Sink};
 use mpy_words::{Command, Order, order_of};
 use port_set::PortSet;
@@ -69,7 +72,7 @@ fn act<F: Folder, S: Sink, P: Port, E: Sink>(
     ports: &mut PortSet<P>,
 ) -> u8
     requires level { order.level ≤ 3 }
-    requires below { ForSome below IsOpened }
+    requires below { IfSome below IsOpened }
     ensures ended { ActsBy order (map string_bytes words.now) below
         (seen F.files F.count S.told S.count E.told E.count folder.old out.old say.old)
         (seen F.files F.count S.told S.count E.told E.count folder.new out.new say.new)
@@ -82,6 +85,15 @@ fn act<F: Folder, S: Sink, P: Port, E: Sink>(
         return run_order(order, alloc, words, below, folder, out, ports, say);
     }
     do_order(order, alloc, words, below, folder, out, say)
+}
+
+/// Says why the base of this name isn't opened, and answers the exit status.
+fn say_refused<E: Sink>(base: &str, ending: Ending, say: &mut E) -> u8
+    ensures status { result ≡ status_of ending }
+    ensures says { Says (E.told say.old) (E.told say.new) (E.count say.old) (E.count say.new) (line_of base.now ending) }
+{
+    let _ = say_ending(say, base, &ending);
+    ending.status()
 }
 
 /// Does what is ordered, over the base that is ordered, if one is, and answers the exit status.
@@ -109,10 +121,7 @@ fn obey<F: Folder, S: Sink, P: Port, E: Sink>(
     let base = word_at(words, at);
     match base_library(alloc, base, folder) {
         Ok(below) => act(order, alloc, words, Some(below), folder, out, say, ports),
-        Err(ending) => {
-            let _ = say_ending(say, base, &ending);
-            ending.status()
-        }
+        Err(ending) => say_refused(base, ending, say),
     }
 }
 
@@ -236,6 +245,7 @@ pub fn mpy<F: Folder, S: Sink, P: Port, E: Sink>(
 {
     go_means_law();
     run_means_law();
+    run_over_means_law();
     match order_of(words) {
         Ok(order) => obey(order, alloc, words, folder, out, say, ports),
         Err(fault) => {

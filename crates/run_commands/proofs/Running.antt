@@ -35,7 +35,7 @@ use Rattle.command_files.specs.Outside.{Outside}
 use Rattle.run_commands.specs.Ready.{OpensMain}
 use Rattle.run_commands.specs.Run.{HoldsMain, LoadsOf, RefusesLibrary, IsUnloaded, Untouched, Runs, EndsRun, sight_in, load_end, ending_of}
 use Rattle.mpy_endings.proofs.Said.{says_from}
-use Rattle.command_files.proofs.Opened.{opened_err}
+use Rattle.command_files.proofs.Verifying.{opened_err}
 
 -- the main file
 -- =============

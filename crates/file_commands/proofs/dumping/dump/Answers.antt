@@ -24,5 +24,5 @@ returns-in-Ok-listing-clause-went g c =
 
 pub returns-in-Ok-read-clause-went : goal.returns-in-Ok-read-clause-went
 returns-in-Ok-read-clause-went g c =
-    let l = c.in-Err.ensures in
+    let l = c.in-Err-listing.ensures in
     (l.0, listed (g.F.Folder.files c.args.folder.now) c.args.name.now c.in-Ok.bytes.items c.deref.result.now l.0 c.in-Ok-read.raw c.in-Ok.ensures.read c.deref.ensures.value c.in-Ok-read.ensures.found l.1, l.2.err)

@@ -5,7 +5,7 @@ use Rattle.mpy_io.specs.Files.{FileOf}
 use Rattle.mpy_tree.specs.Raw.{Module}
 use Rattle.mpy_writer.proofs.Lists.{zip_seen}
 use Rattle.command_files.specs.Opened.{HoldsModule, Refuses}
-use Rattle.file_commands.proofs.Merging.{first_refused}
+use Rattle.file_commands.proofs.Merged.{first_refused}
 use Rattle.file_commands.proofs.merging.all_opened.Goals as goal
 
 -- a push that didn't fail put the module at the end

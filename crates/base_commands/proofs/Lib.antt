@@ -1,0 +1,2 @@
+pub mod Freezing
+mod Starting

@@ -1,0 +1,70 @@
+-- What the bytes of a file come to over a base.
+use Rattle.std.proofs.Common.{◌≡◌, ℕ, Bool, true, false, List, Option, Some, Result, Ok, Err, refl, sym, ap, subst, ◌∙◌}
+use Rattle.std.specs.Prelude.{IfErr}
+use Rattle.mpy_io.specs.Files.{FileOf}
+use Rattle.bc_library.specs.Shelf.{Shelf}
+use Rattle.mpy_endings.specs.declared.ending.Ending.{Ending}
+use Rattle.mpy_endings.specs.declared.ending.Ending.TheVariants.{Done, Unaccepted, Unread, Unverified, Unmerged, Unopened, Unfrozen, Unboarded, Stopped, ReadFault, WriteFault, Unwritten, NoMemory, Absent}
+use Rattle.mpy_endings.specs.Ending.{is_folder_fault}
+use Rattle.command_files.specs.Folder.{IsNotRead, MayHold}
+use Rattle.command_files.specs.Opened.{failed_in}
+use Rattle.run_commands.specs.declared.ready.Ready.{Ready}
+use Rattle.run_commands.specs.Ready.{FirstOf, begins_image}
+use Rattle.run_commands.specs.Run.{FileLibrary, IsUnloaded}
+use Rattle.base_commands.specs.Ready.{ImageStartOn, RunLibraryOn, of_file, of_image}
+
+-- a file that isn't read
+-- ======================
+
+pub unread_unloaded : (files : Option FileOf) (name : List ℕ) (ending : Ending) → IsNotRead files name ending → IsUnloaded ending
+unread_unloaded files name Done h = absurd h
+unread_unloaded files name (Unaccepted fault) h = absurd h
+unread_unloaded files name (Unread fault) h = tt
+unread_unloaded files name (Unverified fault) h = absurd h
+unread_unloaded files name (Unmerged fault) h = absurd h
+unread_unloaded files name (Unopened fault) h = absurd h
+unread_unloaded files name (Unfrozen fault) h = absurd h
+unread_unloaded files name (Unboarded fault) h = absurd h
+unread_unloaded files name (Stopped stop) h = absurd h
+unread_unloaded files name ReadFault h = tt
+unread_unloaded files name WriteFault h = absurd h
+unread_unloaded files name Unwritten h = absurd h
+unread_unloaded files name NoMemory h = tt
+unread_unloaded files name Absent h = tt
+
+-- an image, and another file
+-- ==========================
+
+module _ (below : Shelf) (main bytes : List ℕ) where
+  image_refused : (ending : Ending) → ImageStartOn below main bytes (Err ending) → IsUnloaded ending × (is_folder_fault ending ≡ false)
+  image_refused Done h = absurd h
+  image_refused (Unaccepted fault) h = absurd h
+  image_refused (Unread fault) h = absurd h
+  image_refused (Unverified fault) h = absurd h
+  image_refused (Unmerged fault) h = absurd h
+  image_refused (Unopened fault) h = (tt, refl)
+  image_refused (Unfrozen fault) h = absurd h
+  image_refused (Unboarded fault) h = absurd h
+  image_refused (Stopped stop) h = absurd h
+  image_refused ReadFault h = absurd h
+  image_refused WriteFault h = absurd h
+  image_refused Unwritten h = absurd h
+  image_refused NoMemory h = (tt, refl)
+  image_refused Absent h = absurd h
+
+  pub image_unloaded : (result : Result Ready Ending) → ImageStartOn below main bytes result → IfErr result IsUnloaded
+  image_unloaded (Ok ready) h = tt
+  image_unloaded (Err ending) h = (image_refused ending h).0
+
+  pub image_counted : (result : Result Ready Ending) → ImageStartOn below main bytes result → failed_in result ≡ false
+  image_counted (Ok ready) h = refl
+  image_counted (Err ending) h = (image_refused ending h).1
+
+module _ (below : Shelf) (main : List ℕ) (files : Option FileOf) (name bytes read : List ℕ) (begins : Bool) (result : Result Ready Ending) where
+  pub image_run : (word : List ℕ) → read ≡ bytes → word ≡ main → MayHold files name (Some bytes) → begins ≡ begins_image read → begins ≡ true → ImageStartOn below word read result → RunLibraryOn below main files name result
+  image_run word e f holds is true_is h =
+      of_image bytes holds (sym (is ∙ ap begins_image e) ∙ true_is)
+      (subst (λ (m : List ℕ). ImageStartOn below m bytes result) f (subst (λ (b : List ℕ). ImageStartOn below word b result) e h))
+
+  pub file_run : read ≡ bytes → MayHold files name (Some bytes) → begins ≡ begins_image read → begins ≡ false → FirstOf (FileLibrary files name) result → RunLibraryOn below main files name result
+  file_run e holds is false_is h = of_file bytes holds (sym (is ∙ ap begins_image e) ∙ false_is) h

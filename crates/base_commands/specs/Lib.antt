@@ -1,0 +1,2 @@
+pub mod Freeze
+pub mod Ready

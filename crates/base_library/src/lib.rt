@@ -1,0 +1,6 @@
+//! The library of a base.
+#![tactic(auto)]
+
+mod base;
+
+pub use base::base_library;

@@ -1,0 +1,2 @@
+mod Libraries
+mod Both

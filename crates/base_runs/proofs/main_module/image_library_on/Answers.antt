@@ -1,0 +1,36 @@
+use Rattle.std.proofs.Common.{◌≡◌, Some, None, inl, sym, ap, ◌∙◌}
+use Rattle.bc_library.specs.declared.fault.Member.TheVariants as members
+use Rattle.bc_library.specs.Shelf.{member_of}
+use Rattle.base_runs.proofs.Found.{main_at, found_only, found_no_fault, lacking_only, unopened_only, unopened_fault}
+use Rattle.base_runs.proofs.main_module.image_library_on.Goals as goal
+
+pub returns-in-Fault-clause-only : goal.returns-in-Fault-clause-only
+returns-in-Fault-clause-only c = λ shelf place h.
+    absurd (unopened_only c.args.below c.args.bytes.now c.args.main.now c.in-Err.refusal c.in-Fault.fault c.in-Err._below c.in-Fault.is c.in-Err.ensures.only shelf place h)
+
+pub returns-in-Fault-clause-fault : goal.returns-in-Fault-clause-fault
+returns-in-Fault-clause-fault c =
+    unopened_fault c.args.below c.args.bytes.now c.args.main.now c.in-Err.refusal c.in-Fault.fault c.in-Err._below c.in-Fault.is c.in-Err.ensures.only c.in-Err.ensures.fault
+
+pub returns-in-Some-Module-clause-there : goal.returns-in-Some-Module-clause-there
+returns-in-Some-Module-clause-there c =
+    let place = c.in-Some-Module.place in
+    let found : member_of c.in-Ok.library c.args.main.now ≡ Some (members.Module place) = sym c.find.ensures ∙ (c.in-Some-Module.is ∙ ap Some c.in-Some-Module.field-0-is) in
+    rw c.in-Some-Module.field-0-is (main_at c.args.main.now c.in-Ok.library place found)
+
+pub returns-in-Some-Module-clause-only : goal.returns-in-Some-Module-clause-only
+returns-in-Some-Module-clause-only c = λ shelf other h.
+    let place = c.in-Some-Module.place in
+    let found : member_of c.in-Ok.library c.args.main.now ≡ Some (members.Module place) = sym c.find.ensures ∙ (c.in-Some-Module.is ∙ ap Some c.in-Some-Module.field-0-is) in
+    rw c.in-Some-Module.field-0-is (inl (found_only c.args.below c.args.bytes.now c.args.main.now c.in-Ok.library place c.in-Ok.ensures.only found shelf other h))
+
+pub returns-in-Some-Module-clause-fault : goal.returns-in-Some-Module-clause-fault
+returns-in-Some-Module-clause-fault c = λ fault h.
+    let place = c.in-Some-Module.place in
+    let found : member_of c.in-Ok.library c.args.main.now ≡ Some (members.Module place) = sym c.find.ensures ∙ (c.in-Some-Module.is ∙ ap Some c.in-Some-Module.field-0-is) in
+    absurd (found_no_fault c.args.below c.args.bytes.now c.args.main.now c.in-Ok.library place c.in-Ok.ensures.only c.in-Ok.ensures.fault found fault h)
+
+pub returns-in-None-clause-only : goal.returns-in-None-clause-only
+returns-in-None-clause-only c = λ shelf place h.
+    let none : None ≡ member_of c.in-Ok.library c.args.main.now = sym c.in-None.is ∙ c.find.ensures in
+    absurd (lacking_only c.args.below c.args.bytes.now c.args.main.now c.in-Ok.library c.in-Ok.ensures.only none shelf place h)

@@ -1,0 +1,48 @@
+-- A command that was done, and whose text was handed on, or couldn't be.
+use Rattle.std.proofs.Common.{◌≡◌, ℕ, List, Option, Some, None, true}
+use Rattle.std.specs.Io.KnownBytes.{Keeps}
+use Rattle.std.proofs.KnownBytes.{Appends-kept, Keeps-trans}
+use Rattle.mpy_io.specs.Files.{FileOf}
+use Rattle.bc_library.specs.Shelf.{Shelf}
+use Rattle.source_files.specs.Sources.{stored}
+use Rattle.mpy_words.specs.declared.order.Command.{Command}
+use Rattle.mpy_words.specs.declared.order.Command.TheVariants.{Go, Check, Dump, Cross, Merge, Freeze, Migrate, Run, Board}
+use Rattle.mpy_words.specs.declared.order.Order.{Order}
+use Rattle.mpy_words.specs.Words.{first_name, second_name}
+use Rattle.mpy_endings.specs.declared.ending.Ending.{Ending}
+use Rattle.mpy_endings.specs.declared.ending.Ending.TheVariants.{Done, WriteFault}
+use Rattle.file_commands.specs.Check.{verified_line}
+use Rattle.file_commands.proofs.HandedOn.{checks_cut, dumps_cut}
+use Rattle.board_command.specs.Images.{library_below}
+use Rattle.board_command.proofs.Ending.{unflushed}
+use Rattle.mpy_tool.specs.Below.{FreezesBelow}
+use Rattle.mpy_tool.specs.Doing.{DoesBy}
+use Rattle.mpy_tool.proofs.Flushing.{flushed}
+
+freezes_cut : (below : Option Shelf) (manifest written : List ℕ) (old new : Option FileOf) → FreezesBelow below manifest written old new Done → FreezesBelow below manifest written old new WriteFault
+freezes_cut None manifest written old new p = p
+freezes_cut (Some below) manifest written old new p = p
+
+module _ (order : Order) (words : List (List ℕ)) (below : Option Shelf) (old new : Option FileOf) (a b c : Option (List ℕ)) (place : ℕ) (q : Keeps b c) where
+  -- what was held back is told already
+  pub handed_on : (command : Command) → DoesBy order words below command old new a b place Done → DoesBy order words below command old new a c place Done
+  handed_on Go p = absurd p
+  handed_on Check p = ((p.0.0, p.0.1, Appends-kept a b c (verified_line p.0.0) p.0.2 q), p.1)
+  handed_on Dump p = ((p.0.0, p.0.1, Appends-kept a b c p.0.0 p.0.2 q), p.1)
+  handed_on Cross p = (p.0, Keeps-trans a b c p.1 q, p.2)
+  handed_on Merge p = (p.0, Keeps-trans a b c p.1 q)
+  handed_on Freeze p = (p.0, Keeps-trans a b c p.1 q, p.2)
+  handed_on Migrate p = (p.0, Keeps-trans a b c p.1 q, p.2)
+  handed_on Run p = absurd p
+  handed_on Board p = flushed (library_below below) (first_name words) (second_name words) old new a b c place q p
+
+  pub held_back : (command : Command) → DoesBy order words below command old new a b place Done → DoesBy order words below command old new a c place WriteFault
+  held_back Go p = absurd p
+  held_back Check p = (checks_cut old (first_name words) a b c q p.0, p.1)
+  held_back Dump p = (dumps_cut old (first_name words) a b c q p.0, p.1)
+  held_back Cross p = (p.0, Keeps-trans a b c p.1 q, p.2)
+  held_back Merge p = (p.0, Keeps-trans a b c p.1 q)
+  held_back Freeze p = (freezes_cut below (first_name words) (second_name words) old new p.0, Keeps-trans a b c p.1 q, p.2)
+  held_back Migrate p = (p.0, Keeps-trans a b c p.1 q, p.2)
+  held_back Run p = absurd p
+  held_back Board p = unflushed (library_below below) (first_name words) (second_name words) old new a b c place q p

@@ -1,0 +1,7 @@
+use Rattle.mpy_endings.specs.Line.{line_of}
+use Rattle.mpy_endings.proofs.Said.{says_from}
+use Rattle.mpy_tool.proofs.top.say_refused.Goals as goal
+
+pub returns-clause-says : goal.returns-clause-says
+returns-clause-says g c =
+    says_from (g.E.Sink.told c.args.say.now) (g.E.Sink.told c.say_ending.new.say) (g.E.Sink.count c.args.say.now) (g.E.Sink.count c.say_ending.new.say) (line_of c.args.base.now c.args.ending) c.say_ending.result c.say_ending.ensures.line

@@ -1,0 +1,2 @@
+# Modules over the image of the board's.
+module("twice.py")
