@@ -18,7 +18,7 @@ use Rattle.mpy_endings.specs.declared.ending.Ending.TheVariants.{Done, Unaccepte
 use Rattle.mpy_endings.specs.declared.ending.BoardFault.TheVariants as boards
 use Rattle.board_command.specs.Images.{HoldsImage}
 use Rattle.board_command.specs.Plans.{RefusesPlan}
-use Rattle.board_command.specs.Boards.{Boards, CanStart, Holds, Untouched}
+use Rattle.board_command.specs.Boards.{Boards, Holds, Untouched}
 use Rattle.board_command.specs.Ends.{ending_of}
 
 keeps_same : (told : Option (List ℕ)) → Keeps told told

@@ -1,4 +1,3 @@
 mod Held
-mod Opening
 pub mod Ending
 pub mod Meaning

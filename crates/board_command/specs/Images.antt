@@ -1,5 +1,5 @@
 -- The library of an image file over a library below, or what keeps it from being one.
-use Rattle.std.specs.Prelude.{◌≡◌, ℕ, List, Option, Some, None}
+use Rattle.std.specs.Prelude.{ℕ, List, Option, Some, None}
 use Rattle.mpy_io.specs.Files.{FileOf}
 use Rattle.bc_library.specs.Shelf.{Shelf, no_entries}
 use Rattle.image_grammar.specs.declared.fault.ImageFault.{ImageFault}
