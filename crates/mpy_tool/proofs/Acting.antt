@@ -17,11 +17,11 @@ use Rattle.file_commands.specs.Check.{Checks}
 use Rattle.file_commands.specs.Cross.{Crosses}
 use Rattle.file_commands.specs.Dump.{Dumps}
 use Rattle.file_commands.specs.Merge.{Merges}
-use Rattle.run_commands.specs.Ready.{GoLibrary, RunLibrary}
+use Rattle.run_commands.specs.Ready.{GoLibrary}
 use Rattle.run_commands.specs.Run.{EndsRun, room_of}
 use Rattle.run_meaning.specs.Meant.{Libraries, RunMeans}
+use Rattle.run_meaning.proofs.Meaning.{MeantLaw, run_means}
 use Rattle.image_commands.specs.Migrate.{Migrates}
-use Rattle.base_commands.specs.Ready.{RunLibraryOn}
 use Rattle.base_library.specs.Base.{HoldsBase}
 use Rattle.base_library.specs.Over.{EndsAtBase}
 use Rattle.board_command.specs.Boards.{Boards}
@@ -145,17 +145,10 @@ module _ (order : Order) (words : List (List ℕ)) (old new : Outside) (ports_ol
   abbrev Means : Libraries → Type 0
   Means Comes = RunMeans Comes (room_of order) order.steps (first_name words) old new ports_old ports_new status
 
-  means_below : (main : List ℕ) → (Ran (RunLibrary main) → Means (RunLibrary main)) → ((below : Shelf) → Ran (RunLibraryOn below main) → Means (RunLibraryOn below main))
-      → (below : Option Shelf) → Ran (RunLibraryBelow below main) → Means (RunLibraryBelow below main)
-  means_below main alone over None h = alone h
-  means_below main alone over (Some below) h = over below h
-
-  pub means_of : (Ran (RunLibrary (main_name words order.main_name)) → Means (RunLibrary (main_name words order.main_name)))
-      → ((below : Shelf) → Ran (RunLibraryOn below (main_name words order.main_name)) → Means (RunLibraryOn below (main_name words order.main_name)))
-      → order.command ≡ Run → Obeyed order.command → BasedSo order.base (λ below. Means (RunLibraryBelow below (main_name words order.main_name)))
-  means_of alone over e h =
+  pub means_of : MeantLaw → order.command ≡ Run → Obeyed order.command → BasedSo order.base (λ below. Means (RunLibraryBelow below (main_name words order.main_name)))
+  means_of law e h =
       based_map order.base (λ below. Ran (RunLibraryBelow below (main_name words order.main_name))) (λ below. Means (RunLibraryBelow below (main_name words order.main_name)))
-      (means_below (main_name words order.main_name) alone over) (run_of e h)
+      (λ below. run_means law (RunLibraryBelow below (main_name words order.main_name)) (room_of order) order.steps (first_name words) old new ports_old ports_new status) (run_of e h)
 
   -- of what the words order
   -- =======================
@@ -177,3 +170,11 @@ module _ (order : Order) (words : List (List ℕ)) (old new : Outside) (ports_ol
   freeze_ordered outcome is h =
       subst (λ (r : Outcome). IfOk r (λ o. o.command ≡ Freeze → BasedSo o.base (λ below. Writes (FreezesBelow below (first_name words) (second_name words)) (first_name words) (second_name words) old new status))) is
       (λ e. freeze_of e h)
+
+  pub means_ordered : MeantLaw → (outcome : Outcome) → Ok order ≡ outcome → Obeyed order.command
+      → IfOk outcome (λ o. o.command ≡ Run
+      → BasedSo o.base (λ below. RunMeans (RunLibraryBelow below (main_name words o.main_name)) (room_of o) o.steps (first_name words) old new ports_old ports_new status))
+  means_ordered law outcome is h =
+      subst (λ (r : Outcome). IfOk r (λ o. o.command ≡ Run
+      → BasedSo o.base (λ below. RunMeans (RunLibraryBelow below (main_name words o.main_name)) (room_of o) o.steps (first_name words) old new ports_old ports_new status))) is
+      (λ e. means_of law e h)

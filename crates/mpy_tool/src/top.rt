@@ -26,13 +26,13 @@ ghost use Rattle.mpy_tool.specs.Order.{RefusesWords, base_by, calls_ports, calls
 use crate::doing::do_order;
 use crate::running::run_order;
 use base_library::base_library;
-use base_meaning::run_over_means_law;
 use bc_library::Library;
 use mpy_endings::{Ending, say_ending, say_words, word_at};
+use mpy_headline::meant_law;
 use mpy_io::{Folder, Port, Sink};
 use mpy_words::{Command, Order, order_of};
 use port_set::PortSet;
-use run_meaning::{go_means_law, run_means_law};
+use run_meaning::go_means_law;
 use std::alloc::Global;
 
 /// The status of words that are of no order.
@@ -244,8 +244,7 @@ pub fn mpy<F: Folder, S: Sink, P: Port, E: Sink>(
     ensures files { ChangesIn (map string_bytes words.now) (order_of (map string_bytes words.now)) (F.files folder.old) (F.files folder.new) }
 {
     go_means_law();
-    run_means_law();
-    run_over_means_law();
+    meant_law();
     match order_of(words) {
         Ok(order) => obey(order, alloc, words, folder, out, say, ports),
         Err(fault) => {

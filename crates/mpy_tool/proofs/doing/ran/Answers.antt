@@ -1,12 +1,11 @@
 use Rattle.std.proofs.Common.{map, string_bytes, sym, subst, ◌∙◌}
 use Rattle.std.proofs.KnownBytes.{Keeps-refl}
 use Rattle.mpy_io.specs.Count.{Counts}
-use Rattle.image_base.specs.Base.{IsOpened}
 use Rattle.mpy_words.specs.declared.order.Command.{Command}
 use Rattle.mpy_endings.specs.declared.ending.Ending.{Ending}
 use Rattle.mpy_endings.specs.Ending.{is_folder_fault}
 use Rattle.mpy_tool.specs.Order.{ChangesBy}
-use Rattle.mpy_tool.proofs.Alone.{freeze_did, board_did, freeze_changed, for_some}
+use Rattle.mpy_tool.proofs.Alone.{freeze_did, board_did, freeze_changed}
 use Rattle.mpy_tool.proofs.doing.ran.Goals as goal
 
 pub returns-in-Freeze-clause-went : goal.returns-in-Freeze-clause-went
@@ -30,6 +29,3 @@ returns-in-Board-clause-went g c =
 pub returns-in-Board-clause-files : goal.returns-in-Board-clause-files
 returns-in-Board-clause-files g c =
     subst (λ (command : Command). ChangesBy (map string_bytes c.args.words.now) command (g.F.Folder.files c.args.folder.now) (g.F.Folder.files c.board.new.folder)) (sym c.in-Board.is) c.board.ensures.files
-
-pub board-requires-clause-below : goal.board-requires-clause-below
-board-requires-clause-below g c = for_some IsOpened c.args.below c.requires.below
