@@ -84,7 +84,12 @@ module _ (code : Code) (rows : Rows) (i : Action) (p : ℕ) (x : At) (s : Stands
 
   pub keeps : slice_get code.actions p ≡ Some i → (goes_on code p i ≡ true → Falls rows (fall p i x)) → Keeps code rows p x
   keeps is f = record {
-    action = i; is = is; handlers = held f; height = s.height; state = s.state; falls = s.falls;
+    action = i;
+    is = is;
+    handlers = held f;
+    height = s.height;
+    state = s.state;
+    falls = s.falls;
     next = λ g. (f g).below;
     others = s.others.each;
   }

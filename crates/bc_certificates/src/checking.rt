@@ -13,9 +13,9 @@ ghost use Rattle.bc_certificates.specs.Rows.{Certifies, Keeps, at_if, brought, o
 ghost use Rattle.bc_certificates.specs.Checking.{Begins, Falls, Lead, Stands, rows_of};
 
 use bc_flow::{
-    Action, Code, Edge, Entry, Kind, Shape, action_at, are_marked, base, change_of, copy, entries_behind,
-    falls, finds, fits_entries, jump_edge, locals, next_edge, nothing, raise_edge, room, run_count,
-    run_edge, stays,
+    Action, Code, Edge, Entry, Kind, Shape, action_at, are_marked, base, change_of, copy,
+    entries_behind, falls, finds, fits_entries, jump_edge, locals, next_edge, nothing, raise_edge,
+    room, run_count, run_edge, stays,
 };
 use bc_shapes::{below, under};
 use mpy_base::NoMemory;
@@ -63,11 +63,7 @@ fn leads(rows: &[Option<Shape>], edge: Edge, y: &mut Shape) -> Result<bool, NoMe
 }
 
 /// Does an edge, if there is one?
-fn leads_if(
-    rows: &[Option<Shape>],
-    edge: Option<Edge>,
-    y: &mut Shape,
-) -> Result<bool, NoMemory>
+fn leads_if(rows: &[Option<Shape>], edge: Option<Edge>, y: &mut Shape) -> Result<bool, NoMemory>
     ensures { IfOk result (λ yes. OnTrue yes (Lead (rows_of rows.now) (map edge_of_rust (option_list edge.entry)))) }
 {
     match edge {

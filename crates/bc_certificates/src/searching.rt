@@ -50,7 +50,7 @@ pub(crate) struct Walk {
     pub marks: Vec<Mark>,
     /// The positions whose blocks are to be walked.
     pub queue: BinaryHeap<Reverse<usize>>,
-    /// How many positions may be walked again.
+    /// How many positions may be walked over before no block is walked again.
     pub left: usize,
 }
 
@@ -171,12 +171,7 @@ fn arrive_if(alloc: Global, walk: &mut Walk, edge: Option<Edge>) -> Result<bool,
 }
 
 /// Lets the edges arrive to the finally handlers that run among so many entries.
-fn arrive_runs(
-    alloc: Global,
-    walk: &mut Walk,
-    x: &Shape,
-    count: usize,
-) -> Result<bool, NoMemory> {
+fn arrive_runs(alloc: Global, walk: &mut Walk, x: &Shape, count: usize) -> Result<bool, NoMemory> {
     for (i, entry) in x.entries.iter().enumerate() {
         if i >= count {
             return Ok(true);
@@ -195,8 +190,7 @@ fn arrive_others(
     action: &Action,
     x: &Shape,
     base: &[Kind],
-) -> Result<bool, NoMemory>
-{
+) -> Result<bool, NoMemory> {
     let behind = entries_behind(change_of(action), x.slots.len(), &x.entries);
     if !arrive_if(alloc, walk, jump_edge(action, behind, base))? {
         return Ok(false);
@@ -273,7 +267,7 @@ fn walk_block(
     Ok(false)
 }
 
-/// Takes a position out of the queue, and tells whether its block is to be walked: where it was walked before, only while some
+/// Marks a position as no longer in the queue, and tells whether its block is to be walked: where it was walked before, only while some
 /// positions are left.
 fn begin_block(walk: &mut Walk, p: usize) -> bool {
     let mut mark = mark_at(&walk.marks, p);
@@ -328,14 +322,22 @@ fn start(alloc: Global, code: &Code) -> Result<Walk, NoMemory> {
     Ok(walk)
 }
 
-/// May edges meet anywhere behind the first position? Else its row is all that is needed.
-fn any_meet(marks: &[Mark]) -> bool {
-    for (p, mark) in marks.iter().enumerate() {
-        if p > 0 && mark.meets {
-            return true;
+/// Does any instruction jump, or have a handler? Else edges meet nowhere, and the row of the first position is all that is needed.
+fn any_jumps(code: &Code) -> bool {
+    for item in &code.items {
+        match item {
+            Item::Plain(_) => {}
+            Item::Jump(_, _) | Item::Unwind(_, _) => return true,
         }
     }
     false
+}
+
+/// The row of the first position alone.
+fn first_row(alloc: Global) -> Result<Vec<Option<Shape>>, NoMemory> {
+    let mut rows = Vec::new(alloc);
+    rows.push(Some(nothing(alloc)))?;
+    Ok(rows)
 }
 
 /// Rows for the positions where edges meet, if some were found: those that certify the code, wherever any do and its time was enough.
@@ -343,15 +345,17 @@ pub fn search(alloc: Global, code: &Code) -> Result<Option<Vec<Option<Shape>>>, 
     if code.items.is_empty() {
         return Ok(None);
     }
-    let mut walk = start(alloc, code)?;
-    if !any_meet(&walk.marks) {
-        return Ok(Some(walk.rows));
+    if !any_jumps(code) {
+        return Ok(Some(first_row(alloc)?));
     }
+    let mut walk = start(alloc, code)?;
     if !walk_all(alloc, code, &mut walk)? {
         return Ok(None);
     }
     let Walk {
-        mut rows, marks, ..
+        mut rows,
+        marks,
+        ..
     } = walk;
     spread(alloc, code, &mut rows, &marks)?;
     Ok(Some(rows))

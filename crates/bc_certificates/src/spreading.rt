@@ -121,7 +121,9 @@ fn exchange(
     gives: Gives,
 ) -> Result<(), NoMemory> {
     let mut given = given(alloc, &origins.top, gives)?;
-    origins.top.truncate(origins.top.len().saturating_sub(taken));
+    origins
+        .top
+        .truncate(origins.top.len().saturating_sub(taken));
     for _i in 0..given.len() {
         if let Some(slot) = given.pop() {
             origins.top.push(slot)?;

@@ -439,6 +439,11 @@ pub(crate) fn edges<'a>(
     }
     push_if(&mut edges, jump_edge(action, behind, base))?;
     push_if(&mut edges, raise_edge(x))?;
-    push_runs(&mut edges, x, &x.entries, run_count(action, x.entries.len()))?;
+    push_runs(
+        &mut edges,
+        x,
+        &x.entries,
+        run_count(action, x.entries.len()),
+    )?;
     Ok(edges)
 }

@@ -20,8 +20,7 @@ returns-then-same_entries c =
     let test : same_entries ds es ≡ true = ap (λ z. same_entries z es) (sym c.deref.ensures.value) ∙ ap (same_entries c.deref.result.now) (sym c.deref-2.ensures.value) ∙ sym c.same_entries.ensures ∙ c.if-same_entries.true in
     let below = c.are_below.ensures in
     let left = c.deref-then-same_entries.ensures.value in
-    let right = c.deref-then-same_entries-2.ensures.value in
-    (
+    let right = c.deref-then-same_entries-2.ensures.value in (
       λ t. record { slots = subst (λ z. Belows z ys) left (subst (Belows c.deref-then-same_entries.result.now) right (below.0 t)); entries = same_entries_is ds es test },
       λ h. below.1 (subst (λ z. Belows z c.deref-then-same_entries-2.result.now) (sym left) (subst (Belows xs) (sym right) h.slots)),
     )
