@@ -1,7 +1,6 @@
-use Rattle.std.proofs.Common.{◌≡◌, ◌<◌, ◌+◌, ◌↔◌, ◌&&◌, ◌∙◌, Bool, true, sym, length, get_or, drop, IsTrue, arith}
+use Rattle.std.proofs.Common.{◌<◌, ◌∙◌, sym, length, get_or, arith}
 use Rattle.std.proofs.lemmas.Bool.{and_parts, and_from}
 use Rattle.bc_shapes.specs.declared.kinds.Kind.TheVariants as kinds
-use Rattle.bc_shapes.specs.Shape.{Belows}
 use Rattle.bc_shapes.proofs.Order.{belows_more, belows_end, at_same}
 use Rattle.bc_shapes.proofs.shape.are_below.Goals as goal
 

@@ -1,4 +1,4 @@
-use Rattle.std.proofs.Common.{◌≡◌, ◌⊎◌, refl, sym, ◌∙◌, true, false, rules}
+use Rattle.std.proofs.Common.{refl, sym, ◌∙◌}
 use denote.Enum.Bare.{same_true, true_same}
 use Rattle.bc_shapes.specs.contracts.kinds.Kind.{the_type}
 use Rattle.bc_shapes.proofs.Order.{below_same, below_open, below_refl}

@@ -1,7 +1,6 @@
-use Rattle.std.proofs.Common.{◌≡◌, ◌∙◌, ◌↔◌, IsTrue, length, Bool, true, false, refl, sym, ap, subst, rules}
+use Rattle.std.proofs.Common.{◌≡◌, ◌∙◌, length, true, sym, ap, subst, rules}
 use Rattle.std.proofs.lemmas.Bool.{false≢true}
-use Rattle.bc_shapes.specs.Shape.{Under, Belows, same_entries}
-use Rattle.bc_shapes.specs.Views.{at_of}
+use Rattle.bc_shapes.specs.Shape.{Belows, same_entries}
 use Rattle.bc_shapes.proofs.Joins.{belows-length, same_entries_is, same_entries_from}
 use Rattle.bc_shapes.proofs.shape.under.Goals as goal
 
