@@ -23,7 +23,7 @@ each_carried : (code : Code) (rows : Rows) (es : List Edge) → Each (row rows) 
 each_carried code rows es none = none
 each_carried code rows es (also l h) = also (leads_carried code rows _ l) (each_carried code rows _ h)
 
-each_append : (a : Assigned) (es fs : List Edge) → Each a es → Each a fs → Each a (es ++ fs)
+pub each_append : (a : Assigned) (es fs : List Edge) → Each a es → Each a fs → Each a (es ++ fs)
 each_append a es fs none k = k
 each_append a es fs (also l h) k = also l (each_append a _ fs h k)
 
@@ -38,7 +38,7 @@ above None x h = record { at = x; is = refl; under = under_refl x }
 above (Some y) x h = record { at = y; is = refl; under = h }
 
 -- the edge to the next position comes first
-ways_are : (code : Code) (i : Action) (p n : ℕ) (es : List Entry) → ways code i p n es ≡ next_way (goes_on code p i) p (behind (change i) n es) ++ other_ways i n es
+pub ways_are : (code : Code) (i : Action) (p n : ℕ) (es : List Entry) → ways code i p n es ≡ next_way (goes_on code p i) p (behind (change i) n es) ++ other_ways i n es
 unfolding ways
 ways_are code i p n es =
     let first = next_way (goes_on code p i) p (behind (change i) n es) in

@@ -5,6 +5,13 @@ ghost use Rattle.bc_flow.specs.Code.{Code};
 ghost use Rattle.bc_flow.specs.Verified.{Holds, Verified};
 ghost use Rattle.bc_certificates.specs.Rows.{Rows, carried, Certifies};
 
+mod checking;
+mod searching;
+mod spreading;
+
+pub use checking::check;
+pub use searching::{certified, search};
+
 /// Code with a certificate is verified: what its rows carry meets the rules along every edge.
 pub fn certificate_law()
     ensures holds { (code : Code) (rows : Rows) → Certifies code rows → Holds code (carried code rows) }

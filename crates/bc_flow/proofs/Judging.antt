@@ -1,13 +1,11 @@
 -- What is judged of one position.
-use Rattle.std.proofs.Common.{◌≡◌, ℕ, ◌+◌, ◌-◌, ◌&&◌, List, [], ◌∷◌, ◌++◌, length, map, refl, sym, ap, ◌∙◌}
+use Rattle.std.proofs.Common.{◌≡◌, ℕ, ◌+◌, ◌-◌, ◌&&◌, List, length, map, sym, ap, ◌∙◌}
 use Rattle.std.specs.Prelude.{nat_le}
 use Rattle.bc_shapes.specs.declared.kinds.Kind.{Kind}
 use Rattle.bc_shapes.specs.declared.kinds.Give.{Give}
 use Rattle.bc_shapes.specs.declared.shape.Entry.{Entry}
 use Rattle.bc_shapes.specs.Shape.{At, after}
 use Rattle.bc_shapes.proofs.Loops.{after_size}
-use Rattle.bc_flow.specs.declared.edges.Edge.{Edge as RustEdge}
-use Rattle.bc_flow.specs.Views.{edge_of_rust}
 use Rattle.bc_flow.specs.Action.{Action}
 use Rattle.bc_flow.specs.Code.{Code}
 use Rattle.bc_flow.specs.Edges.{Edge, edge_of, edges, ways, takes, gives, gives_there, change, behind, asks, holds, holds_over, base, room, has_room, slots_of, How, Next, There, mark, arrive}
@@ -49,10 +47,3 @@ edge_is a x how q to es sl e h l s =
     h
     ∙ ap (λ z. let d : Edge = record { to = z; at = record { slots = sl; entries = map (mark z) es } } in d) l
     ∙ ap (λ z. let d : Edge = record { to = to; at = record { slots = z; entries = map (mark to) es } } in d) s
-
-pub pushed_edge : (old new : List RustEdge) (r : RustEdge) (e : Edge) → new ≡ old ++ r ∷ [] → edge_of_rust r ≡ e → map edge_of_rust new ≡ map edge_of_rust old ++ e ∷ []
-pushed_edge old new r e h f = ap (map edge_of_rust) h ∙ append old ∙ ap (λ z. map edge_of_rust old ++ z ∷ []) f
-  where
-    append : (xs : List RustEdge) → map edge_of_rust (xs ++ r ∷ []) ≡ map edge_of_rust xs ++ edge_of_rust r ∷ []
-    append [] = refl
-    append (x ∷ xs) = ap (λ z. edge_of_rust x ∷ z) (append xs)

@@ -9,7 +9,7 @@ use bc_shapes::{Give, Gives, Kind, Takes, Want};
 
 /// What an instruction does. Where it jumps is a position.
 #[derive(Clone, Copy)]
-pub(crate) enum Action {
+pub enum Action {
     /// Takes and gives slots, and goes on.
     Straight(Takes, Gives),
     /// Takes slots, and gives some and goes on, or gives others and jumps.
@@ -221,9 +221,9 @@ fn place(size: usize, target: Target) -> usize
     }
 }
 
-/// What an item does in a list of that length.
+/// What an item does in a list of that length. A target that is no position counts as the position behind the list.
 #[tactic(auto, unfolding(crate::specs::Action::action))]
-pub(crate) fn action_at(size: usize, item: Item) -> Action
+pub fn action_at(size: usize, item: Item) -> Action
     ensures { action_of result ≡ specs.action size item }
 {
     match item {

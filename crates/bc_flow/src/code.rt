@@ -62,7 +62,7 @@ fn item_locals(item: &Item) -> usize
 
 /// How many locals there are: the arguments, or more where a greater one is named.
 #[tactic(auto, using(crate::proofs::Items::locals_step, crate::proofs::Items::locals_most))]
-pub(crate) fn locals(code: &Code) -> usize
+pub fn locals(code: &Code) -> usize
     ensures { result ≡ specs.locals code.now.arguments code.now.items.items }
 {
     let mut most = code.arguments;

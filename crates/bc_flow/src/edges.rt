@@ -1,13 +1,13 @@
 //! Where the flow goes from an instruction, and the handler entries and slots that arrive there.
 
-ghost use Rattle.std.specs.Prelude.{◌≡◌, ◌+◌, ◌-◌, ◌^◌, ◌<◌, ◌≤◌, ◌++◌, ◌∷◌, [], IfOk, OnOk, ℕ, List, drop, length, map, min, Some, true, if◌then◌else◌};
+ghost use Rattle.std.specs.Prelude.{◌≡◌, ◌+◌, ◌-◌, ◌^◌, ◌<◌, ◌≤◌, ◌++◌, ◌∷◌, [], suc, IfOk, OnOk, ℕ, List, drop, length, map, min, Some, true, if◌then◌else◌};
 ghost use Rattle.bc_shapes.specs.Shape.{At};
 ghost use Rattle.bc_shapes.specs.declared.kinds.Give.TheVariants.{New};
 ghost use Rattle.bc_shapes.specs.Views.{at_of, takes_of, gives_of, slots_of_rust};
 ghost use Rattle.bc_flow.specs.Action.{Action as Does};
 ghost use Rattle.bc_flow.specs.Edges as specs;
 ghost use Rattle.bc_flow.specs.Code.{code_of};
-ghost use Rattle.bc_flow.specs.Views.{action_of, edge_of_rust, behind_of, AddsEdges};
+ghost use Rattle.bc_flow.specs.Views.{action_of, edge_of_rust, behind_of, option_list, AddsEdges};
 
 use crate::action::Action;
 use crate::code::Code;
@@ -17,7 +17,7 @@ use std::alloc::Global;
 
 /// What an instruction does with the entries.
 #[derive(Clone, Copy)]
-pub(crate) enum Change {
+pub enum Change {
     Keep,
     /// Pushes the entry of a handler, which is a finally handler or not.
     Push(usize, bool),
@@ -31,7 +31,7 @@ pub(crate) enum Change {
 
 /// Entries as a new one, if there is one, on others.
 #[derive(Clone, Copy)]
-pub(crate) struct Behind<'a> {
+pub struct Behind<'a> {
     pub new: Option<Entry>,
     pub rest: &'a [Entry],
 }
@@ -40,7 +40,7 @@ impl<'a> Behind<'a> {
     ghost use Rattle.std.specs.Prelude.{◌≡◌, ◌<◌, length, slice_index_or};
     ghost use Rattle.bc_flow.specs.Views.{behind_of};
 
-    pub(crate) fn len(self) -> usize
+    pub fn len(self) -> usize
         ensures { result ≡ length (behind_of self.entry) }
     {
         match self.new {
@@ -51,7 +51,7 @@ impl<'a> Behind<'a> {
 
     /// The entry below so many others.
     #[tactic(auto, using(crate::proofs::Loops::at_cons, bc_shapes::proofs::Loops::at_rest))]
-    pub(crate) fn at(self, i: usize) -> Entry
+    pub fn at(self, i: usize) -> Entry
         requires { i < length (behind_of self) }
         ensures { (d : Entry) → result ≡ slice_index_or (behind_of self.entry) i d }
     {
@@ -65,44 +65,61 @@ impl<'a> Behind<'a> {
 
 /// A position that the flow goes to, the slots that arrive there, and the entries without their marks.
 #[derive(Clone, Copy)]
-pub(crate) struct Edge<'a> {
+pub struct Edge<'a> {
     pub to: usize,
     pub slots: Slots<'a>,
     pub entries: Behind<'a>,
 }
 
 impl<'a> Edge<'a> {
-    ghost use Rattle.std.specs.Prelude.{◌≡◌, ◌<◌, IfOk, length, slice_index_or};
+    ghost use Rattle.std.specs.Prelude.{◌≡◌, ◌<◌, IfOk, OnOk, length, slice_index_or};
     ghost use Rattle.bc_shapes.specs.Views.{at_of};
     ghost use Rattle.bc_flow.specs.Views.{edge_of_rust, behind_of};
     ghost use Rattle.bc_flow.specs.Edges as specs;
 
     /// The entry below so many others, as it arrives.
-    pub(crate) fn entry(self, i: usize) -> Entry
+    pub fn entry(self, i: usize) -> Entry
         requires { i < length (behind_of self.entries) }
         ensures { (d : Entry) → result ≡ specs.mark self.entry.to (slice_index_or (behind_of self.entry.entries) i d) }
     {
         mark(self.to, self.entries.at(i))
     }
 
-    /// What arrives.
+    /// Makes the list that of the entries that arrive.
     #[tactic(auto, using(crate::proofs::Loops::mark_more, crate::proofs::Loops::mark_all))]
-    pub(crate) fn shape(self, alloc: Global) -> Result<Shape, NoMemory>
+    fn write_entries(self, list: &mut Vec<Entry>) -> Result<(), NoMemory>
+        ensures { OnOk result (list.new.items ≡ (edge_of_rust self.entry).at.entries) }
+    {
+        let count = self.entries.len();
+        list.clear();
+        for i in 0..count {
+            list.push(self.entry(i))?;
+        }
+        Ok(())
+    }
+
+    /// Makes the shape what arrives.
+    pub fn write(self, x: &mut Shape) -> Result<(), NoMemory>
+        ensures { OnOk result (at_of x.new ≡ (edge_of_rust self.entry).at) }
+    {
+        self.slots.write(&mut x.slots)?;
+        self.write_entries(&mut x.entries)
+    }
+
+    /// What arrives.
+    pub fn shape(self, alloc: Global) -> Result<Shape, NoMemory>
         ensures { IfOk result (λ x. at_of x ≡ (edge_of_rust self.entry).at) }
     {
         let slots = self.slots.list(alloc)?;
-        let count = self.entries.len();
-        let mut entries = Vec::with_capacity(alloc, count)?;
-        for i in 0..count {
-            entries.push(self.entry(i))?;
-        }
+        let mut entries = Vec::with_capacity(alloc, self.entries.len())?;
+        self.write_entries(&mut entries)?;
         Ok(Shape { slots, entries })
     }
 }
 
 /// What it takes from the top.
 #[tactic(auto, unfolding(crate::specs::Edges::takes))]
-pub(crate) fn takes(action: &Action) -> Takes
+pub fn takes(action: &Action) -> Takes
     ensures { takes_of result ≡ specs.takes (action_of action.now) }
 {
     match *action {
@@ -132,7 +149,7 @@ pub(crate) fn takes(action: &Action) -> Takes
 
 /// What it gives where the flow goes on.
 #[tactic(auto, unfolding(crate::specs::Edges::gives))]
-pub(crate) fn gives(action: &Action) -> Gives
+pub fn gives(action: &Action) -> Gives
     ensures { gives_of result ≡ specs.gives (action_of action.now) }
 {
     match *action {
@@ -146,7 +163,7 @@ pub(crate) fn gives(action: &Action) -> Gives
 
 /// What it gives where it jumps.
 #[tactic(auto, unfolding(crate::specs::Edges::gives_there))]
-pub(crate) fn gives_there(action: &Action) -> Gives
+pub fn gives_there(action: &Action) -> Gives
     ensures { gives_of result ≡ specs.gives_there (action_of action.now) }
 {
     match *action {
@@ -160,7 +177,7 @@ pub(crate) fn gives_there(action: &Action) -> Gives
 
 /// Does the flow go on to the next instruction?
 #[tactic(auto, unfolding(crate::specs::Edges::falls))]
-pub(crate) fn falls(action: &Action) -> bool
+pub fn falls(action: &Action) -> bool
     ensures { result ≡ specs.falls (action_of action.now) }
 {
     !matches!(
@@ -175,7 +192,7 @@ pub(crate) fn falls(action: &Action) -> bool
 
 /// Where it jumps.
 #[tactic(auto, unfolding(crate::specs::Edges::target))]
-fn target(action: &Action) -> Option<usize>
+pub fn target(action: &Action) -> Option<usize>
     ensures { result ≡ specs.target (action_of action.now) }
 {
     match *action {
@@ -189,7 +206,7 @@ fn target(action: &Action) -> Option<usize>
 
 /// What it does with the entries.
 #[tactic(auto, unfolding(crate::specs::Edges::change))]
-pub(crate) fn change_of(action: &Action) -> Change
+pub fn change_of(action: &Action) -> Change
     ensures { result ≡ specs.change (action_of action.now) }
 {
     match *action {
@@ -203,7 +220,7 @@ pub(crate) fn change_of(action: &Action) -> Change
 
 /// Among how many of so many entries it runs the finallys.
 #[tactic(auto, unfolding(crate::specs::Edges::runs))]
-fn runs(action: &Action, entries: usize) -> usize
+pub fn run_count(action: &Action, entries: usize) -> usize
     ensures { result ≡ specs.runs (action_of action.now) entries }
 {
     match *action {
@@ -215,7 +232,7 @@ fn runs(action: &Action, entries: usize) -> usize
 
 /// The entries behind an instruction, where so many slots are before it.
 #[tactic(auto, using(crate::proofs::Loops::rest_drop))]
-pub(crate) fn entries_behind<'a>(change: Change, slots: usize, entries: &'a [Entry]) -> Behind<'a>
+pub fn entries_behind<'a>(change: Change, slots: usize, entries: &'a [Entry]) -> Behind<'a>
     ensures { behind_of result ≡ specs.behind change slots entries.now }
 {
     match change {
@@ -303,32 +320,38 @@ fn enter<'a>(x: &'a Shape, entry: Entry, below: &'a [Entry]) -> Edge<'a>
     }
 }
 
-/// Adds the edge to the handler of the topmost entry that isn't active.
-fn push_raise<'a>(edges: &mut Vec<Edge<'a>>, x: &'a Shape) -> Result<(), NoMemory>
-    ensures { (a : Does) → OnOk result (AddsEdges a (at_of x.now) edges.old.items edges.new.items
-        (specs.raise_ways x.now.entries.items)) }
+/// The edge to the handler of the topmost entry that isn't active.
+pub fn raise_edge<'a>(x: &'a Shape) -> Option<Edge<'a>>
+    ensures { (a : Does) → map edge_of_rust (option_list result) ≡ map (specs.edge_of a (at_of x.now))
+        (specs.raise_ways x.now.entries.items) }
 {
     for (i, entry) in x.entries.iter().enumerate() {
         if !entry.active {
-            edges.push(enter(x, *entry, &x.entries[i + 1..]))?;
-            return Ok(());
+            return Some(enter(x, *entry, &x.entries[i + 1..]));
         }
     }
-    Ok(())
+    None
 }
 
-/// Adds the edge to the handler of an entry, if that is a finally handler that runs.
-fn push_run<'a>(
-    edges: &mut Vec<Edge<'a>>,
-    x: &'a Shape,
-    entry: Entry,
-    below: &'a [Entry],
-) -> Result<(), NoMemory>
-    ensures { (a : Does) → OnOk result (AddsEdges a (at_of x.now) edges.old.items edges.new.items
-        (specs.one_run entry below.now)) }
+/// The edge to the handler of an entry over these entries, if that is a finally handler that runs.
+pub fn run_edge<'a>(x: &'a Shape, entry: Entry, below: &'a [Entry]) -> Option<Edge<'a>>
+    ensures { (a : Does) → map edge_of_rust (option_list result) ≡ map (specs.edge_of a (at_of x.now))
+        (specs.one_run entry below.now) }
 {
     if entry.is_finally && !entry.active {
-        edges.push(enter(x, entry, below))?;
+        Some(enter(x, entry, below))
+    } else {
+        None
+    }
+}
+
+/// Adds an edge, if there is one.
+fn push_if<'a>(edges: &mut Vec<Edge<'a>>, edge: Option<Edge<'a>>) -> Result<(), NoMemory>
+    ensures { OnOk result (map edge_of_rust edges.new.items
+        ≡ map edge_of_rust edges.old.items ++ map edge_of_rust (option_list edge.entry)) }
+{
+    if let Some(edge) = edge {
+        edges.push(edge)?;
     }
     Ok(())
 }
@@ -348,61 +371,50 @@ fn push_runs<'a>(
         if i >= count {
             return Ok(());
         }
-        push_run(edges, x, *entry, below(entries, i + 1))?;
+        push_if(edges, run_edge(x, *entry, below(entries, i + 1)))?;
     }
     Ok(())
 }
 
-/// Adds the edge to the next position, if the flow goes on.
-fn push_next<'a>(
-    edges: &mut Vec<Edge<'a>>,
-    action: &Action,
-    p: usize,
-    behind: Behind<'a>,
-    base: &'a [Kind],
-) -> Result<(), NoMemory>
+/// The edge to the next position, with these entries.
+pub fn next_edge<'a>(action: &Action, p: usize, behind: Behind<'a>, base: &'a [Kind]) -> Edge<'a>
     requires { p + 1 < 2 ^ 64 }
     ensures { (x : At) → base.now ≡ specs.base (action_of action.now) x
-        → OnOk result (AddsEdges (action_of action.now) x edges.old.items edges.new.items
-        (specs.next_way true p (behind_of behind.entry))) }
+        → edge_of_rust result ≡ specs.edge_of (action_of action.now) x (specs.arrive (suc p) (behind_of behind.entry) specs.Next) }
 {
     let slots = Slots {
         gives: gives(action),
         taken: takes(action).len(),
         found: base,
     };
-    edges.push(Edge {
+    Edge {
         to: p + 1,
         slots,
         entries: behind,
-    })?;
-    Ok(())
+    }
 }
 
-/// Adds the edge to the position that it jumps to, if it does.
-fn push_jump<'a>(
-    edges: &mut Vec<Edge<'a>>,
-    action: &Action,
-    behind: Behind<'a>,
-    base: &'a [Kind],
-) -> Result<(), NoMemory>
+/// The edge to the position that it jumps to, with these entries, if it does.
+pub fn jump_edge<'a>(action: &Action, behind: Behind<'a>, base: &'a [Kind]) -> Option<Edge<'a>>
     ensures { (x : At) → base.now ≡ specs.base (action_of action.now) x
-        → OnOk result (AddsEdges (action_of action.now) x edges.old.items edges.new.items
-        (specs.jump_way (specs.target (action_of action.now)) (behind_of behind.entry))) }
+        → map edge_of_rust (option_list result) ≡ map (specs.edge_of (action_of action.now) x)
+        (specs.jump_way (specs.target (action_of action.now)) (behind_of behind.entry)) }
 {
-    if let Some(to) = target(action) {
-        let slots = Slots {
-            gives: gives_there(action),
-            taken: takes(action).len(),
-            found: base,
-        };
-        edges.push(Edge {
-            to,
-            slots,
-            entries: behind,
-        })?;
+    match target(action) {
+        None => None,
+        Some(to) => {
+            let slots = Slots {
+                gives: gives_there(action),
+                taken: takes(action).len(),
+                found: base,
+            };
+            Some(Edge {
+                to,
+                slots,
+                entries: behind,
+            })
+        }
     }
-    Ok(())
 }
 
 /// All edges that leave a position, with what arrives.
@@ -423,10 +435,15 @@ pub(crate) fn edges<'a>(
     let mut edges = Vec::with_capacity(alloc, 3)?;
     let behind = entries_behind(change_of(action), x.slots.len(), &x.entries);
     if falls(action) && p + 1 < code.items.len() {
-        push_next(&mut edges, action, p, behind, base)?;
+        push_if(&mut edges, Some(next_edge(action, p, behind, base)))?;
     }
-    push_jump(&mut edges, action, behind, base)?;
-    push_raise(&mut edges, x)?;
-    push_runs(&mut edges, x, &x.entries, runs(action, x.entries.len()))?;
+    push_if(&mut edges, jump_edge(action, behind, base))?;
+    push_if(&mut edges, raise_edge(x))?;
+    push_runs(
+        &mut edges,
+        x,
+        &x.entries,
+        run_count(action, x.entries.len()),
+    )?;
     Ok(edges)
 }

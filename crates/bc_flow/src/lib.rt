@@ -7,6 +7,12 @@ mod edges;
 mod rules;
 mod walk;
 
+pub use action::{Action, action_at};
 pub use bc_shapes::{Entry, Kind, Shape};
-pub use code::{Code, Fault, Rule, fault_of};
-pub use walk::{State, flow, one_fault, order, progress};
+pub use code::{Code, Fault, Rule, fault_of, locals};
+pub use edges::{
+    Behind, Change, Edge, change_of, entries_behind, falls, gives, gives_there, jump_edge,
+    next_edge, raise_edge, run_count, run_edge, takes, target,
+};
+pub use rules::{are_marked, base, finds, fits_entries, left, room, stays};
+pub use walk::{State, copy, flow, nothing, one_fault, order, progress, same_entries};

@@ -1,6 +1,6 @@
 //! The rules on one position.
 
-ghost use Rattle.std.specs.Prelude.{◌≡◌, ◌+◌, ◌-◌, ◌<◌, ◌≤◌, ℕ, drop, length, map, min, nat_le, nat_lt, if◌then◌else◌};
+ghost use Rattle.std.specs.Prelude.{◌≡◌, ◌+◌, ◌-◌, ◌<◌, ◌≤◌, ◌&&◌, ℕ, drop, length, map, min, nat_le, nat_lt, if◌then◌else◌};
 ghost use Rattle.bc_shapes.specs.Spans.{FitsBut};
 ghost use Rattle.bc_shapes.specs.Views.{at_of};
 ghost use Rattle.bc_flow.specs.Edges as specs;
@@ -41,9 +41,9 @@ fn is_marked(to: usize, entry: Entry) -> bool
     }
 }
 
-/// Are all entries that arrive?
+/// Is each entry that arrives active exactly from its handler's position on?
 #[tactic(auto, using(crate::proofs::Loops::marked_end))]
-fn are_marked(edge: Edge) -> bool
+pub fn are_marked(edge: Edge) -> bool
     ensures { result ≡ specs.is_marked edge.entry.to (edge_of_rust edge.entry).at.entries }
 {
     for i in 0..edge.entries.len() {
@@ -65,13 +65,21 @@ fn all_marked(edges: &[Edge]) -> bool
     true
 }
 
+/// Does it find the entries that it asks for, and are there no more behind it than there may be?
+pub fn fits_entries(code: &Code, action: &Action, slots: usize, entries: &[Entry]) -> bool
+    ensures { result ≡ (specs.asks (specs.change (action_of action.now)) entries.now
+        && nat_le (length (specs.behind (specs.change (action_of action.now)) slots entries.now)) code.now.n_exc) }
+{
+    let behind = entries_behind(change_of(action), slots, entries);
+    asks(change_of(action), entries) && behind.len() <= code.n_exc
+}
+
 /// The rule Handlers, but for the entries that meet.
 pub(crate) fn holds(code: &Code, action: &Action, x: &Shape, edges: &[Edge]) -> bool
     ensures { result ≡ specs.holds_over (code_of code.now) (action_of action.now) (at_of x.now)
         (map edge_of_rust edges.now) }
 {
-    let behind = entries_behind(change_of(action), x.slots.len(), &x.entries);
-    asks(change_of(action), &x.entries) && behind.len() <= code.n_exc && all_marked(edges)
+    fits_entries(code, action, x.slots.len(), &x.entries) && all_marked(edges)
 }
 
 /// The height of the entry below so many others.
@@ -117,7 +125,8 @@ fn lowest(count: usize, entries: &[Entry], slots: usize) -> usize
     least
 }
 
-fn left(change: Change, entries: &[Entry], slots: usize) -> usize
+/// How many of so many slots it works on: those that remain when the entries are left that it leaves.
+pub fn left(change: Change, entries: &[Entry], slots: usize) -> usize
     ensures { result ≡ specs.left change entries.now slots }
 {
     match change {
@@ -138,7 +147,7 @@ fn leaves(change: Change, entries: &[Entry], slots: usize) -> bool
 
 /// The slots that it works on.
 #[tactic(auto, unfolding(crate::specs::Edges::base))]
-pub(crate) fn base<'a>(action: &Action, x: &'a Shape) -> &'a [Kind]
+pub fn base<'a>(action: &Action, x: &'a Shape) -> &'a [Kind]
     ensures { result.now ≡ specs.base (action_of action.now) (at_of x.now) }
 {
     let slots = x.slots.len();
@@ -160,7 +169,7 @@ fn deep(change: Change, entries: &[Entry], taken: usize, slots: usize) -> bool
 
 /// The rule Height, but for the shapes that meet.
 #[tactic(auto, unfolding(crate::specs::Edges::finds))]
-pub(crate) fn finds(action: &Action, x: &Shape, base: &[Kind]) -> bool
+pub fn finds(action: &Action, x: &Shape, base: &[Kind]) -> bool
     requires { base.now ≡ specs.base (action_of action.now) (at_of x.now) }
     ensures { result ≡ specs.finds (action_of action.now) (at_of x.now) }
 {
@@ -196,7 +205,7 @@ fn has_all_room(code: &Code, locals: usize, before: usize, next: usize, there: u
 }
 
 /// The rule State.
-pub(crate) fn room(code: &Code, locals: usize, action: &Action, x: &Shape, base: &[Kind]) -> bool
+pub fn room(code: &Code, locals: usize, action: &Action, x: &Shape, base: &[Kind]) -> bool
     requires base_is { base.now ≡ specs.base (action_of action.now) (at_of x.now) }
     requires locals_are { locals ≡ (code_of code.now).locals }
     ensures { result ≡ specs.room (code_of code.now) (action_of action.now) (at_of x.now) }
@@ -209,7 +218,7 @@ pub(crate) fn room(code: &Code, locals: usize, action: &Action, x: &Shape, base:
 
 /// The rule Falls.
 #[tactic(auto, unfolding(crate::specs::Edges::stays))]
-pub(crate) fn stays(code: &Code, action: &Action, p: usize) -> bool
+pub fn stays(code: &Code, action: &Action, p: usize) -> bool
     requires { p < length code.now.items.items }
     ensures { result ≡ specs.stays (code_of code.now) (action_of action.now) p }
 {

@@ -41,7 +41,7 @@ pub enum State {
 
 /// Are these the entries that arrive?
 #[tactic(auto, using(crate::proofs::Loops::entries_end, crate::proofs::Loops::entries_differ))]
-fn same_entries(entries: &[Entry], edge: Edge) -> bool
+pub fn same_entries(entries: &[Entry], edge: Edge) -> bool
     ensures { result ≡ same_entries entries.now (edge_of_rust edge.entry).at.entries }
 {
     let count = edge.entries.len();
@@ -453,7 +453,7 @@ fn act(
 }
 
 /// Makes the one shape the other.
-fn copy(x: &mut Shape, y: &Shape) -> Result<(), NoMemory>
+pub fn copy(x: &mut Shape, y: &Shape) -> Result<(), NoMemory>
     ensures { OnOk result (at_of x.new ≡ at_of y.now) }
 {
     x.slots.clear();
@@ -520,7 +520,8 @@ fn least(states: &[State], queue: &mut BinaryHeap<Reverse<usize>>) -> Option<usi
     None
 }
 
-fn nothing(alloc: Global) -> Shape
+/// What holds at the start: no slots and no entries.
+pub fn nothing(alloc: Global) -> Shape
     ensures { at_of result ≡ specs.begin }
 {
     Shape {

@@ -44,7 +44,7 @@ fn fit(wants: &[Want], slots: &[Kind]) -> bool
     true
 }
 
-fn both(a: bool, b: bool) -> bool
+pub(crate) fn both(a: bool, b: bool) -> bool
     ensures { result ≡ (a && b) }
 {
     a & b
@@ -143,7 +143,7 @@ pub struct Slots<'a> {
 }
 
 impl<'a> Slots<'a> {
-    ghost use Rattle.std.specs.Prelude.{◌≡◌, ◌<◌, ◌≤◌, IfOk, length, slice_index_or};
+    ghost use Rattle.std.specs.Prelude.{◌≡◌, ◌<◌, ◌≤◌, IfOk, OnOk, length, slice_index_or};
     ghost use Rattle.bc_shapes.specs.Views.{gives_of, slots_of_rust};
     ghost use Rattle.bc_shapes.specs.declared.kinds.Kind.TheVariants.{Either};
 
@@ -180,20 +180,29 @@ impl<'a> Slots<'a> {
         self.found[self.taken + (i - self.gives.len())]
     }
 
-    /// A list of them.
+    /// Makes the list that of these slots.
     #[tactic(auto, using(crate::proofs::Loops::replicate_more, crate::proofs::Loops::after_is))]
+    pub fn write(self, list: &mut Vec<Kind>) -> Result<(), NoMemory>
+        ensures { OnOk result (list.new.items ≡ slots_of_rust self.entry) }
+    {
+        list.clear();
+        for _i in 0..self.gives.values {
+            list.push(Kind::Value)?;
+        }
+        for give in self.gives.others {
+            list.push(give_of(self.found, *give))?;
+        }
+        list.extend_from_slice(below(self.found, self.taken))?;
+        Ok(())
+    }
+
+    /// A list of them.
     pub fn list(self, alloc: Global) -> Result<Vec<Kind>, NoMemory>
         ensures { IfOk result (λ v. v.items ≡ slots_of_rust self.entry) }
     {
-        let left = below(self.found, self.taken);
-        let mut given = Vec::with_capacity(alloc, self.gives.len().saturating_add(left.len()))?;
-        for _i in 0..self.gives.values {
-            given.push(Kind::Value)?;
-        }
-        for give in self.gives.others {
-            given.push(give_of(self.found, *give))?;
-        }
-        given.extend_from_slice(left)?;
-        Ok(given)
+        let left = below(self.found, self.taken).len();
+        let mut list = Vec::with_capacity(alloc, self.gives.len().saturating_add(left))?;
+        self.write(&mut list)?;
+        Ok(list)
     }
 }

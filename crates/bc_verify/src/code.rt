@@ -12,6 +12,7 @@ ghost use Rattle.bc_flow.specs.Code.{code_of};
 
 use crate::fault::Rule;
 use crate::instruction::{Broken, first_broken, of_flow_rule};
+use bc_certificates::certified;
 use bc_flow::{Code, State, flow};
 use bc_ops::items_of;
 use bc_prelude::read_prelude;
@@ -49,7 +50,8 @@ pub(crate) fn read_code(alloc: Global, bytes: &[u8]) -> Result<Decoded, NoMemory
     })
 }
 
-/// The first fault of a code with so many children, by its instructions and then by its flow.
+/// The first fault of a code with that many children, by its instructions and then by its flow. Most verified code has a certificate,
+/// which is found sooner than the flow ends.
 fn first_in(
     alloc: Global,
     module: &RawModule,
@@ -62,6 +64,9 @@ fn first_in(
 {
     if let Some(broken) = first_broken(module, children, code) {
         return Ok(Some(broken));
+    }
+    if certified(alloc, code)? {
+        return Ok(None);
     }
     match flow(alloc, code)? {
         Ok(_) => Ok(None),

@@ -7,7 +7,7 @@ use Rattle.bc_flow.proofs.edges.push_runs.Goals as goal
 
 pub loop-i-preserved : goal.loop-i-preserved
 loop-i-preserved c = (
-  λ a. run_edges_more (edge_of a (at_of c.args.x.now)) (map edge_of_rust c.loop-i.edges.items) _ _ _ c.args.entries.now c.below.result.now _ (omega (arith, c.loop-i-test.true)) (omega (arith, c.if-i-count.false)) c.below.ensures (c.in_ok-push_run.ensures a)
+  λ a. run_edges_more (edge_of a (at_of c.args.x.now)) (map edge_of_rust c.loop-i.edges.items) _ _ _ c.args.entries.now c.below.result.now _ (omega (arith, c.loop-i-test.true)) (omega (arith, c.if-i-count.false)) c.below.ensures (c.in_ok-push_if.ensures ∙ ap (λ z. map edge_of_rust c.loop-i.edges.items ++ z) (c.run_edge.ensures a))
       ∙ c.loop-i.invariant.0 a,
   omega (arith, c.if-i-count.false),
 )

@@ -1,6 +1,0 @@
-use Rattle.std.proofs.Common.{◌≡◌, drop}
-use Rattle.bc_flow.specs.Edges.{raise_ways}
-use Rattle.bc_flow.proofs.edges.push_raise.Given as goal
-
-abbrev pub invariant-loop-i : goal.invariant-loop-i
-invariant-loop-i l = (raise_ways l.x.entries.items ≡ raise_ways (drop l.i l.x.entries.items)) × (l.edges.items ≡ l.initial.edges.items)
