@@ -1,6 +1,6 @@
 -- From the head of a dict to what contracts see of it.
 use Rattle.std.proofs.Common.{ℕ, suc, ◌+◌, ◌-◌, ◌*◌, ◌<◌, ◌≤◌, ◌≡◌, List, [], ◌∷◌, ◌++◌, length, Option, Some, None, get_or, set, map, take, drop, nat_le, replicate, inl, inr, refl, le_refl, sym, ◌∙◌, ap, subst, arith, ◌^◌}
-use Rattle.std.proofs.Math.Path.{ap₂}
+use Rattle.std.proofs.Math.Path.{fun_ext, ap₂}
 use Rattle.std.specs.List.{All, remove}
 use Rattle.std.specs.Vec.{vec_capacity}
 use Rattle.std.proofs.lemmas.List.{get_or_default, append-nil, set-get_or, take_at, drop_at, length-map, get_or-map, set-set, length_push}
@@ -11,19 +11,21 @@ use Rattle.arena_heap.specs.declared.value.Value.{Value}
 use Rattle.arena_heap.specs.declared.value.Value.TheVariants as values
 use Rattle.arena_heap.specs.declared.cells.Cell.{Cell}
 use Rattle.arena_heap.specs.declared.cells.Cell.TheVariants.{DictHead}
+use Rattle.arena_heap.specs.declared.cells.Cell.TheVariants as variants
 use Rattle.arena_heap.specs.declared.cells.Region.{Region}
-use Rattle.mpy_base.specs.World.{Heap, DictObject, ADict, IsA, object, kind_of, pairs_of, room_of, pairs_at, room_at, with_object, with_dict, Later}
+use Rattle.mpy_base.specs.World.{Heap, DictObject, ADict, AText, IsA, object, text_of, text_at, kind_of, pairs_of, room_of, pairs_at, room_at, with_object, with_dict, Later}
 use Rattle.mpy_base.specs.Weights.{Fits, with_used, dict_growth, grown_room, room_for, with_dict_room, with_pairs}
 use Rattle.mpy_base.proofs.Worlds.{is_within, object_grown, later_grown}
 use Rattle.mpy_base.proofs.Rooms.{room_is, room_positive}
 use Rattle.arena_heap.specs.Values.{ArenaObject, Leads, IsKey, held, IsFormed}
 use Rattle.arena_heap.specs.Dicts.{with_value}
-use Rattle.arena_heap.specs.Links.{IsLast, bucket_of, buckets_at}
-use Rattle.arena_heap.specs.Cells.{blank, cell_of, value_of, heads, part, first_link, next_link, bucket_in, AreLinked, Relinked, heap_of, Full, Holds, IsArena}
+use Rattle.arena_heap.specs.Links.{IsLast, bucket_of, buckets_at, text_end, with_key}
+use Rattle.arena_heap.specs.Cells.{blank, cell_of, value_of, heads, part, first_link, next_link, bucket_in, byte_first, byte_size, texts_in, read, AreLinked, Relinked, heap_of, Full, Holds, IsArena}
 use Rattle.arena_heap.proofs.Chains.{last_same, last_moved}
 use Rattle.arena_heap.proofs.Views.{fits_is}
 use Rattle.arena_heap.proofs.Regions.{get_or-part}
-use Rattle.arena_heap.proofs.DictCells.{region_pairs, full_dict, inside_dict, length-pairs, get_or-pairs, dict_pushed, dict_removed}
+use Rattle.arena_heap.proofs.DictCells.{region_pairs, full_dict, inside_dict, length-pairs, get_or-pairs, dict_pushed, dict_removed, linked_now}
+use Rattle.arena_heap.proofs.Frame.{length-objects}
 use Rattle.arena_heap.proofs.Seen.{seen, objects, Invariant, holds_now, seen_object, seen_sound, seen_within, replaced_again, replaced_seen}
 
 -- a pair that a dict may hold
@@ -122,16 +124,16 @@ removed_pairs objects pairs at all =
 
 module _ (a : Inside) {h : Heap Value ℕ} (e : seen a ≡ h) (n : ℕ) {r : Region} (head : heads a.cells.items n ≡ DictHead r) where
   -- other pairs in the place of those of the dict
-  pub dict_holds : (F : List (Value × Value) → List (Value × Value)) (cells : List Cell) → Holds cells a.bytes.items (set (objects a) n (Some (DictObject (F (region_pairs a.cells.items r)) r.room)))
-      → Holds cells a.bytes.items (set (objects a) n (Some (DictObject (F (pairs_at h n)) (room_at h n))))
-  dict_holds F cells held1 =
-      subst (λ (o : ArenaObject). Holds cells a.bytes.items (set (objects a) n (Some o)))
+  pub dict_holds : {keys : Option ℕ} (F : List (Value × Value) → List (Value × Value)) (cells : List Cell) → Holds keys cells a.bytes.items (set (objects a) n (Some (DictObject (F (region_pairs a.cells.items r)) r.room)))
+      → Holds keys cells a.bytes.items (set (objects a) n (Some (DictObject (F (pairs_at h n)) (room_at h n))))
+  dict_holds {keys} F cells held1 =
+      subst (λ (o : ArenaObject). Holds keys cells a.bytes.items (set (objects a) n (Some o)))
       (ap₂ (λ (ps : List (Value × Value)) (room : ℕ). DictObject (F ps) room) (seen_pairs a e n head) (seen_dict_room a e n head)) held1
 
 module _ (a : Inside) {h : Heap Value ℕ} (i : Invariant a) (e : seen a ≡ h) (n : ℕ) (is : IsA h.objects ADict n) where
   -- the invariant after a change of the pairs
-  pub dict_again_seen : (pairs : List (Value × Value)) (cells : List Cell) (cell_capacity : ℕ) → Holds cells a.bytes.items (set (objects a) n (Some (DictObject pairs (room_at h n))))
-      → vec_capacity a.cells ≤ cell_capacity → All (IsPair h.objects) pairs → IsArena cells a.bytes.items a.room.cells a.room.bytes cell_capacity (vec_capacity a.bytes)
+  pub dict_again_seen : {keys : Option ℕ} (pairs : List (Value × Value)) (cells : List Cell) (cell_capacity : ℕ) → Holds keys cells a.bytes.items (set (objects a) n (Some (DictObject pairs (room_at h n))))
+      → vec_capacity a.cells ≤ cell_capacity → All (IsPair h.objects) pairs → IsArena keys cells a.bytes.items a.room.cells a.room.bytes cell_capacity (vec_capacity a.bytes)
   dict_again_seen pairs cells cell_capacity held1 cc all =
       replaced_again a i e ADict n is (DictObject pairs (room_at h n)) refl cells a.bytes.items cell_capacity (vec_capacity a.bytes) held1 refl cc (le_refl _)
       (pairs_held h.objects pairs (room_at h n) all) (pairs_formed h.objects pairs all)
@@ -177,15 +179,69 @@ module _ (h : Heap Value ℕ) (n : ℕ) (is : IsA h.objects ADict n) where
       ∙ (ap (λ (os : List (Option ArenaObject)). record h { objects = os }) (set-set (h.objects ++ replicate (dict_growth h n k) None) n was now)
       ∙ ap (λ (j : ℕ). with_object (with_used h (dict_growth h n j)) n (DictObject new (grown_room h n j))) (sym (length_push old pair)))
 
+-- the bytes of a text, as the cells have it and as contracts see it
+text_read : (n : ℕ) (head : Cell) (cells : List Cell) (bytes : List ℕ) → text_of (read n head cells bytes) ≡ part bytes (byte_first n head) (byte_size head)
+text_read n variants.None cells bytes = refl
+text_read n (variants.Bool b) cells bytes = refl
+text_read n (variants.Int z) cells bytes = refl
+text_read n (variants.Pool n2) cells bytes = refl
+text_read n (variants.Object c) cells bytes = refl
+text_read n (variants.Fixed c) cells bytes = refl
+text_read n variants.Empty cells bytes = refl
+text_read n (variants.List l) cells bytes = refl
+text_read n (variants.Dict d) cells bytes = refl
+text_read n (variants.Tuple t) cells bytes = refl
+text_read n (variants.Text t) cells bytes = refl
+text_read n (variants.Fun f) cells bytes = refl
+text_read n (variants.Exc x) cells bytes = refl
+text_read n (variants.Method m) cells bytes = refl
+text_read n (variants.Range r) cells bytes = refl
+text_read n (variants.Module m) cells bytes = refl
+text_read n (variants.Built b) cells bytes = refl
+text_read n (variants.ListHead r) cells bytes = refl
+text_read n (variants.DictHead r) cells bytes = refl
+text_read n (variants.TupleHead k) cells bytes = refl
+text_read n (variants.TextHead t) cells bytes = refl
+text_read n (variants.FunHead name module_no code) cells bytes = refl
+text_read n (variants.ExcHead kind) cells bytes = refl
+text_read n (variants.MethodHead method) cells bytes = refl
+text_read n (variants.RangeHead start stop step) cells bytes = refl
+text_read n (variants.ModuleHead name) cells bytes = refl
+text_read n (variants.Place file line name) cells bytes = refl
+text_read n (variants.Links first next) cells bytes = refl
+
+pub texts_seen : (a : Inside) {h : Heap Value ℕ} → seen a ≡ h → text_at h ≡ texts_in a.cells.items a.bytes.items
+texts_seen a e = fun_ext (λ t. ap text_of (seen_object a e t refl) ∙ text_read t (heads a.cells.items t) a.cells.items a.bytes.items)
+
+-- a text that is led to lies among the cells that are used
+pub text_end_fits : (objects : List (Option ArenaObject)) (v : Value) → Leads objects v → text_end v ≤ length objects
+text_end_fits objects (values.Text t) leads = let within = is_within objects AText t.cell leads.meets in omega arith
+text_end_fits objects values.None leads = omega arith
+text_end_fits objects (values.Bool b) leads = omega arith
+text_end_fits objects (values.Int z) leads = omega arith
+text_end_fits objects (values.Str s) leads = omega arith
+text_end_fits objects (values.Fixed c) leads = omega arith
+text_end_fits objects values.Empty leads = omega arith
+text_end_fits objects (values.List l) leads = omega arith
+text_end_fits objects (values.Dict d) leads = omega arith
+text_end_fits objects (values.Tuple t) leads = omega arith
+text_end_fits objects (values.Fun f) leads = omega arith
+text_end_fits objects (values.Exc e) leads = omega arith
+text_end_fits objects (values.Method m) leads = omega arith
+text_end_fits objects (values.Range r) leads = omega arith
+text_end_fits objects (values.Module m) leads = omega arith
+text_end_fits objects (values.Built b) leads = omega arith
+
 -- the links of a dict that were read
 module _ (a : Inside) {h : Heap Value ℕ} (i : Invariant a) (e : seen a ≡ h) (n : ℕ) {r : Region} (head : heads a.cells.items n ≡ DictHead r) where
   pub some_buckets : 0 < r.room
   some_buckets = omega (arith, room_positive r.room (subst Full head (i.kept.full n)).1)
 
-  buckets_are : (at : ℕ) → at < r.len → buckets_at h n at ≡ bucket_in (part a.cells.items r.start (3 * r.room)) r.room at
+  buckets_are : (at : ℕ) → at < r.len → buckets_at h n at ≡ bucket_in (texts_in a.cells.items a.bytes.items) (part a.cells.items r.start (3 * r.room)) r.room at
   buckets_are at lt =
       let none : Value × Value = (values.None, values.None) in
-      ap₂ (λ (room : ℕ) (p : Value × Value). bucket_of room p.0) (sym (seen_dict_room a e n head))
+      ap (λ (texts : ℕ → List ℕ). bucket_of texts (room_at h n) (get_or (pairs_at h n) at none).0) (texts_seen a e)
+      ∙ ap₂ (λ (room : ℕ) (p : Value × Value). bucket_of (texts_in a.cells.items a.bytes.items) room p.0) (sym (seen_dict_room a e n head))
       (ap (λ (xs : List (Value × Value)). get_or xs at none) (sym (seen_pairs a e n head)) ∙ get_or-pairs (part a.cells.items r.start (3 * r.room)) r.len at none lt)
 
   read_link : (at j : ℕ) (x : Cell) → at < r.room → j ≡ r.start + 3 * at + 2 → x ≡ get_or a.cells.items j x → x ≡ get_or (part a.cells.items r.start (3 * r.room)) (3 * at + 2) blank
@@ -195,32 +251,37 @@ module _ (a : Inside) {h : Heap Value ℕ} (i : Invariant a) (e : seen a ≡ h) 
       ex ∙ (get_or_default a.cells.items j x blank (omega arith)
       ∙ (ap (λ m. get_or a.cells.items m blank) place ∙ sym (get_or-part a.cells.items r.start (3 * r.room) (3 * at + 2) blank (omega arith))))
 
-  pub seen_first : (bucket j found : ℕ) (x : Cell) → bucket < r.room → j ≡ r.start + 3 * bucket + 2 → x ≡ get_or a.cells.items j x → found ≡ first_link x
-      → IsLast (buckets_at h n) bucket (length (pairs_at h n)) found
-  seen_first bucket j found x lt ej ex ef =
-      let linked = i.linked n r head in
-      subst (λ limit. IsLast (buckets_at h n) bucket limit found) (seen_dict_len a e n head)
-      (last_moved (last_same (linked.firsts_lead bucket lt) buckets_are) refl (sym (ef ∙ ap first_link (read_link bucket j x lt ej ex))))
+  -- where dicts are linked
+  module _ {below : ℕ} (k : a.keys ≡ Some below) where
+    pub seen_first : (bucket j found : ℕ) (x : Cell) → bucket < r.room → j ≡ r.start + 3 * bucket + 2 → x ≡ get_or a.cells.items j x → found ≡ first_link x
+        → IsLast (buckets_at h n) bucket (length (pairs_at h n)) found
+    seen_first bucket j found x lt ej ex ef =
+        let linked = (linked_now (holds_now a i) n r head below k).0 in
+        subst (λ limit. IsLast (buckets_at h n) bucket limit found) (seen_dict_len a e n head)
+        (last_moved (last_same (linked.firsts_lead bucket lt) buckets_are) refl (sym (ef ∙ ap first_link (read_link bucket j x lt ej ex))))
 
-  pub seen_next : (at j found : ℕ) (x : Cell) → at < r.len → j ≡ r.start + 3 * at + 2 → x ≡ get_or a.cells.items j x → found ≡ next_link x
-      → IsLast (buckets_at h n) (buckets_at h n at) at found
-  seen_next at j found x lt ej ex ef =
-      let full = full_dict a.cells.items i.kept n r head in
-      let linked = i.linked n r head in
-      last_moved (last_same (linked.nexts_lead at lt) (λ k hk. buckets_are k (omega arith))) (sym (buckets_are at lt)) (sym (ef ∙ ap next_link (read_link at j x (omega arith) ej ex)))
+    pub seen_next : (at j found : ℕ) (x : Cell) → at < r.len → j ≡ r.start + 3 * at + 2 → x ≡ get_or a.cells.items j x → found ≡ next_link x
+        → IsLast (buckets_at h n) (buckets_at h n at) at found
+    seen_next at j found x lt ej ex ef =
+        let full = full_dict a.cells.items i.kept n r head in
+        let linked = (linked_now (holds_now a i) n r head below k).0 in
+        last_moved (last_same (linked.nexts_lead at lt) (λ k hk. buckets_are k (omega arith))) (sym (buckets_are at lt)) (sym (ef ∙ ap next_link (read_link at j x (omega arith) ej ex)))
 
 module _ (a : Inside) {h : Heap Value ℕ} (i : Invariant a) (e : seen a ≡ h) (n : ℕ) {r : Region} (head : heads a.cells.items n ≡ DictHead r) (is : IsA h.objects ADict n) where
   -- after a pair was put behind the others, and linked
   pub pushed_seen : (k v : Value) (x y : Cell) (cells : List Cell) (capacity : ℕ) → length (pairs_at h n) < room_at h n → x ≡ cell_of k → y ≡ cell_of v
-      → Relinked r.start r.room (set (set a.cells.items (r.start + 3 * r.len) x) (r.start + 3 * r.len + 1) y) cells → AreLinked (part cells r.start (3 * r.room)) r.room (r.len + 1)
+      → Relinked r.start r.room (set (set a.cells.items (r.start + 3 * r.len) x) (r.start + 3 * r.len + 1) y) cells
+      → (let was : List Cell = set (set a.cells.items (r.start + 3 * r.len) x) (r.start + 3 * r.len + 1) y in
+      AreLinked (texts_in was a.bytes.items) (part was r.start (3 * r.room)) r.room r.len → AreLinked (texts_in was a.bytes.items) (part cells r.start (3 * r.room)) r.room (r.len + 1))
       → vec_capacity a.cells ≤ capacity → IsKey k → Leads h.objects k → Leads h.objects v
-      → IsArena (set cells n (DictHead (record r { len = r.len + 1 }))) a.bytes.items a.room.cells a.room.bytes capacity (vec_capacity a.bytes)
+      → IsArena (with_key a.keys k) (set cells n (DictHead (record r { len = r.len + 1 }))) a.bytes.items a.room.cells a.room.bytes capacity (vec_capacity a.bytes)
       × (heap_of (set cells n (DictHead (record r { len = r.len + 1 }))) a.bytes.items a.room.cells a.room.bytes ≡ with_dict h n (pairs_at h n ++ (k, v) ∷ []))
   pushed_seen k v x y cells capacity lt ex ey relinked linked cc key key_leads leads =
       let len = seen_dict_len a e n head in
       let room = seen_dict_room a e n head in
       let held1 = dict_holds a e n head (λ (ps : List (Value × Value)). ps ++ (k, v) ∷ []) _
-      (dict_pushed (holds_now a i) n r k v x y (seen_within a e ADict n is) head (omega arith) ex ey cells relinked linked) in (
+      (dict_pushed (holds_now a i) n r k v x y (seen_within a e ADict n is) head (omega arith) ex ey cells
+      (omega (arith, text_end_fits h.objects k key_leads, ap (λ (w : Heap Value ℕ). length w.objects) e, length-objects a.cells.items a.bytes.items)) relinked linked) in (
         dict_again_seen a i e n is (pairs_at h n ++ (k, v) ∷ []) _ capacity held1 cc
             (All-push (IsPair h.objects) (pairs_at h n) (k, v) (dict_pairs a i e n is) (record { key = key; key_leads = key_leads; leads = leads })),
         replaced_seen a e n _ _ a.bytes.items held1 refl,
@@ -231,8 +292,8 @@ module _ (a : Inside) {h : Heap Value ℕ} (i : Invariant a) (e : seen a ≡ h) 
       → ((k : ℕ) (d : Cell) → r.start + 3 * at ≤ k → k + 3 < r.start + 3 * r.len → get_or cells1 k d ≡ get_or a.cells.items (k + 3) d)
       → ((k : ℕ) (d : Cell) → k < r.start + 3 * at → get_or cells1 k d ≡ get_or a.cells.items k d)
       → ((k : ℕ) (d : Cell) → r.start + 3 * r.len ≤ k + 3 → get_or cells1 k d ≡ get_or a.cells.items k d)
-      → Relinked r.start r.room cells1 cells → AreLinked (part cells r.start (3 * r.room)) r.room (r.len - 1) → vec_capacity a.cells ≤ capacity
-      → IsArena (set cells n (DictHead (record r { len = r.len - 1 }))) a.bytes.items a.room.cells a.room.bytes capacity (vec_capacity a.bytes)
+      → Relinked r.start r.room cells1 cells → AreLinked (texts_in cells1 a.bytes.items) (part cells r.start (3 * r.room)) r.room (r.len - 1) → vec_capacity a.cells ≤ capacity
+      → IsArena a.keys (set cells n (DictHead (record r { len = r.len - 1 }))) a.bytes.items a.room.cells a.room.bytes capacity (vec_capacity a.bytes)
       × (heap_of (set cells n (DictHead (record r { len = r.len - 1 }))) a.bytes.items a.room.cells a.room.bytes ≡ with_dict h n (remove (pairs_at h n) at))
   removed_seen at cells1 cells capacity lt l moved before behind relinked linked cc =
       let len = seen_dict_len a e n head in

@@ -1,17 +1,20 @@
 -- The three changes that every call is made of: cells are taken, a head is written, a region is written.
-use Rattle.std.proofs.Common.{ℕ, ◌+◌, ◌-◌, ◌*◌, ◌≤◌, ◌<◌, ◌≡◌, ◌≢◌, List, [], ◌++◌, length, Option, None, get_or, set, replicate, refl, sym, ◌∙◌, ap, subst, inl, inr, arith, length-append, length-set, get_or-set_same, get_or-set_other}
+use Rattle.std.proofs.Common.{ℕ, ◌+◌, ◌-◌, ◌*◌, ◌≤◌, ◌<◌, ◌≡◌, ◌≢◌, List, [], ◌++◌, length, Option, Some, None, nat_le, get_or, set, replicate, refl, sym, ◌∙◌, ap, subst, inl, inr, arith, length-append, length-set, get_or-set_same, get_or-set_other}
 use Rattle.std.proofs.Math.Path.{fun_ext, ap₂}
 use Rattle.std.proofs.lemmas.List.{ext_get_or, get_or_past, get_or_append_left, get_or-append_right, length-replicate, set_past}
 use Rattle.std.proofs.lemmas.List.FromFn.{length-map-range_with_len, get_or-map-range_with_len}
-use Rattle.std.proofs.lemmas.Bool.{cases_eq, cases_lt}
+use Rattle.std.proofs.lemmas.Bool.{cases_eq, cases_lt, cond-true, cond-false, le-leb, lt-leb}
 use Rattle.arena_heap.specs.declared.value.Value.{Value}
 use Rattle.arena_heap.specs.declared.cells.Cell.{Cell}
 use Rattle.mpy_base.specs.World.{object}
 use Rattle.arena_heap.specs.Values.{ArenaObject}
 use Rattle.arena_heap.specs.declared.cells.Cell.TheVariants.{DictHead}
-use Rattle.arena_heap.specs.Cells.{blank, cell_of, head_of, heads, first, size, byte_first, byte_size, Full, part, decode, read, object_at, objects_of, In, Apart, Kept, AreLinked, Links, Holds}
+use Rattle.arena_heap.specs.Cells.{blank, cell_of, head_of, heads, first, size, byte_first, byte_size, Full, part, decode, read, object_at, objects_of, In, Apart, Kept, AreLinked, IsBelow, pairs_in, Links, texts_in, Linked, AreAllLinked, Holds}
 use Rattle.mpy_base.proofs.Worlds.{object_nones}
+use Rattle.arena_heap.specs.Links.{without_text}
 use Rattle.arena_heap.proofs.CellValues.{head_of-cell_of}
+use Rattle.std.specs.List.{All}
+use Rattle.arena_heap.proofs.KeyTexts.{texts_same, links_texts}
 use Rattle.arena_heap.proofs.Regions.{part_same, apart_set, apart_more, in_same}
 
 pub heads_past : (cells : List Cell) (n : ℕ) → length cells ≤ n → heads cells n ≡ blank
@@ -36,7 +39,7 @@ pub record Bare (cells : List Cell) (bytes : List ℕ) (obs : List (Option Arena
   pub kept : Kept (heads cells) (length cells) (length bytes)
   pub objects : objects_of cells bytes ≡ obs
 
-pub bare : {cells : List Cell} {bytes : List ℕ} {obs : List (Option ArenaObject)} → Holds cells bytes obs → Bare cells bytes obs
+pub bare : {cells : List Cell} {bytes : List ℕ} {obs : List (Option ArenaObject)} {keys : Option ℕ} → Holds keys cells bytes obs → Bare cells bytes obs
 bare h = record { kept = h.kept; objects = h.objects }
 
 pub object_bare : {cells : List Cell} {bytes : List ℕ} {obs : List (Option ArenaObject)} → Bare cells bytes obs → (n : ℕ) → object obs n ≡ object_at cells bytes n
@@ -211,93 +214,156 @@ bare_byte {cells} {bytes} {obs} h n c b low i =
           ]);
     }
 
-pub length_held : {cells : List Cell} {bytes : List ℕ} {obs : List (Option ArenaObject)} → Holds cells bytes obs → length obs ≡ length cells
+pub length_held : {cells : List Cell} {bytes : List ℕ} {obs : List (Option ArenaObject)} {keys : Option ℕ} → Holds keys cells bytes obs → length obs ≡ length cells
 length_held h = length_bare (bare h)
 
--- the links of a region that reads the same
-pub links_same : (cells cells' : List Cell) (start room len : ℕ) → start + 3 * room ≤ length cells → length cells ≤ length cells'
+-- what holds of the cells of a region that reads the same
+pub region_same : (P : List Cell → Type 0) (cells cells' : List Cell) (start room : ℕ) → start + 3 * room ≤ length cells → length cells ≤ length cells'
     → ((c : ℕ) (d : Cell) → In start (3 * room) c → get_or cells' c d ≡ get_or cells c d)
-    → AreLinked (part cells start (3 * room)) room len → AreLinked (part cells' start (3 * room)) room len
-links_same cells cells' start room len inside longer same linked =
-    subst (λ (ps : List Cell). AreLinked ps room len) (sym (part_same cells cells' start (3 * room) inside (omega arith) same)) linked
+    → P (part cells start (3 * room)) → P (part cells' start (3 * room))
+region_same P cells cells' start room inside longer same p = subst P (sym (part_same cells cells' start (3 * room) inside (omega arith) same)) p
 
 -- an object whose head and region nobody wrote
-pub links_kept : (cells cells' : List Cell) {limit bytes : ℕ} (n : ℕ) → Kept (heads cells) limit bytes → limit ≡ length cells → length cells ≤ length cells' → heads cells' n ≡ heads cells n
+pub links_kept : (texts : ℕ → List ℕ) (below : ℕ) (cells cells' : List Cell) {limit bytes : ℕ} (n : ℕ) → Kept (heads cells) limit bytes → limit ≡ length cells → length cells ≤ length cells' → heads cells' n ≡ heads cells n
     → ((c : ℕ) (d : Cell) → In (first n (heads cells n)) (size (heads cells n)) c → get_or cells' c d ≡ get_or cells c d)
-    → Links (heads cells n) cells → Links (heads cells' n) cells'
-links_kept cells cells' {limit} n k el longer e same linked r is =
+    → Links texts below (heads cells n) cells → Links texts below (heads cells' n) cells'
+links_kept texts below cells cells' {limit} n k el longer e same linked r is =
     let head : heads cells n ≡ DictHead r = sym e ∙ is in
-    links_same cells cells' r.start r.room r.len (omega (arith, subst (λ (h : Cell). first n h + size h ≤ limit) head (k.cells_apart.inside n))) longer
+    region_same (λ (ps : List Cell). AreLinked texts ps r.room r.len × All (IsBelow below) (pairs_in ps r.len)) cells cells' r.start r.room (omega (arith, subst (λ (h : Cell). first n h + size h ≤ limit) head (k.cells_apart.inside n))) longer
     (λ c d i. same c d (subst (λ (h : Cell). In (first n h) (size h) c) (sym head) i)) (linked r head)
 
+-- all dicts are linked, unless none has to be
+pub all_linked : (keys : Option ℕ) (cells cells' : List Cell) (bytes bytes' : List ℕ) → ((below : ℕ) → keys ≡ Some below → Linked below cells bytes → Linked below cells' bytes') → AreAllLinked keys cells bytes → AreAllLinked keys cells' bytes'
+all_linked None cells cells' bytes bytes' f l = tt
+all_linked (Some below) cells cells' bytes bytes' f l = f below refl l
+
 -- the same four changes, where dicts are linked
-pub holds_used : {cells : List Cell} {bytes : List ℕ} {obs : List (Option ArenaObject)} → Holds cells bytes obs → (ps : List Cell)
-    → ((k : ℕ) → heads ps k ≡ blank) → Holds (cells ++ ps) bytes (obs ++ replicate (length ps) None)
-holds_used {cells} {bytes} {obs} h ps plain =
+pub holds_used : {cells : List Cell} {bytes : List ℕ} {obs : List (Option ArenaObject)} {keys : Option ℕ} → Holds keys cells bytes obs → (ps : List Cell)
+    → ((k : ℕ) → heads ps k ≡ blank) → Holds keys (cells ++ ps) bytes (obs ++ replicate (length ps) None)
+holds_used {cells} {bytes} {obs} {keys} h ps plain =
     let l : length (cells ++ ps) ≡ length cells + length ps = length-append cells ps in
     let same : heads (cells ++ ps) ≡ heads cells = heads_used cells ps plain in
+    let texts : texts_in (cells ++ ps) bytes ≡ texts_in cells bytes = texts_same cells (cells ++ ps) bytes (λ n. ap (λ (x : ℕ → Cell). x n) same) in
     let b = bare_used (bare h) ps plain in
     record {
       kept = b.kept;
-      linked = λ n. links_kept cells (cells ++ ps) n h.kept refl (omega arith) (ap (λ (x : ℕ → Cell). x n) same)
-          (λ c d i. get_or_append_left cells ps d c (omega (arith, h.kept.cells_apart.inside n, i.high))) (h.linked n);
+      linked = all_linked keys cells (cells ++ ps) bytes bytes (λ below q now. record {
+        few = omega (arith, now.few);
+        each = λ n. subst (λ (t : ℕ → List ℕ). Links t below (heads (cells ++ ps) n) (cells ++ ps)) (sym texts)
+            (links_kept (texts_in cells bytes) below cells (cells ++ ps) n h.kept refl (omega arith) (ap (λ (x : ℕ → Cell). x n) same)
+            (λ c d i. get_or_append_left cells ps d c (omega (arith, h.kept.cells_apart.inside n, i.high))) (now.each n));
+      }) h.linked;
       objects = b.objects;
     }
 
-pub holds_head : {cells : List Cell} {bytes : List ℕ} {obs : List (Option ArenaObject)} → Holds cells bytes obs → (n : ℕ) (c : Cell) → n < length cells
-    → Placed (heads cells) (length cells) (length bytes) n c → Links c cells → Holds (set cells n c) bytes (set obs n (read n c cells bytes))
-holds_head {cells} {bytes} {obs} h n c low p links =
+-- what a new head is to keep: its links, and the bytes of a text that may be a key
+pub record Fitting (keys : Option ℕ) (n : ℕ) (c : Cell) (cells : List Cell) (bytes : List ℕ) : Type 0 where
+  pub links : (below : ℕ) → keys ≡ Some below → Links (texts_in cells bytes) below c cells
+  pub text : (below : ℕ) → keys ≡ Some below → n < below → part bytes (byte_first n c) (byte_size c) ≡ texts_in cells bytes n
+
+pub holds_head : {cells : List Cell} {bytes : List ℕ} {obs : List (Option ArenaObject)} {keys : Option ℕ} → Holds keys cells bytes obs → (n : ℕ) (c : Cell) → n < length cells
+    → Placed (heads cells) (length cells) (length bytes) n c → Fitting keys n c cells bytes → Holds keys (set cells n c) bytes (set obs n (read n c cells bytes))
+holds_head {cells} {bytes} {obs} {keys} h n c low p fitting =
     let l : length (set cells n c) ≡ length cells = length-set cells n c in
     let here : heads (set cells n c) n ≡ c = heads_set_same cells n c low p.head in
     let b = bare_head (bare h) n c low p in
     record {
       kept = b.kept;
-      linked = λ m. elim (cases_eq m n) [
-        | inl e ↦ subst (λ (y : ℕ). Links (heads (set cells n c) y) (set cells n c)) (sym e) (λ r is.
-            let head : c ≡ DictHead r = sym here ∙ is in
-            links_same cells (set cells n c) r.start r.room r.len (subst (λ (x : Cell). first n x + size x ≤ length cells) head p.inside) (omega arith)
-            (λ x d i. get_or-set_other cells n x c d (λ q. p.outside (subst (λ (y : ℕ). In (first n c) (size c) y) q (subst (λ (y : Cell). In (first n y) (size y) x) (sym head) i))))
-            (links r head))
-        | inr ne ↦ links_kept cells (set cells n c) m h.kept refl (omega arith) (heads_set_other cells n m c ne)
-            (λ x d i. get_or-set_other cells n x c d (λ q. p.mine m (subst (λ (y : ℕ). In (first m (heads cells m)) (size (heads cells m)) y) q i))) (h.linked m)
-      ];
+      linked = all_linked keys cells (set cells n c) bytes bytes (λ below q now. record {
+        few = omega (arith, now.few);
+        each = λ m. links_texts (texts_in cells bytes) (texts_in (set cells n c) bytes) below (heads (set cells n c) m) (set cells n c)
+            (λ t lt. elim (cases_eq t n) [
+              | inl e ↦ subst (λ (y : ℕ). texts_in (set cells n c) bytes y ≡ texts_in cells bytes y) (sym e)
+                  (ap (λ (x : Cell). part bytes (byte_first n x) (byte_size x)) here ∙ fitting.text below q (subst (λ (y : ℕ). y < below) e lt))
+              | inr ne ↦ ap (λ (x : Cell). part bytes (byte_first t x) (byte_size x)) (heads_set_other cells n t c ne)
+            ])
+            (elim (cases_eq m n) [
+              | inl e ↦ subst (λ (y : ℕ). Links (texts_in cells bytes) below (heads (set cells n c) y) (set cells n c)) (sym e) (λ r is.
+                  let head : c ≡ DictHead r = sym here ∙ is in
+                  region_same (λ (ps : List Cell). AreLinked (texts_in cells bytes) ps r.room r.len × All (IsBelow below) (pairs_in ps r.len)) cells (set cells n c) r.start r.room (subst (λ (x : Cell). first n x + size x ≤ length cells) head p.inside) (omega arith)
+                  (λ x d i. get_or-set_other cells n x c d (λ q2. p.outside (subst (λ (y : ℕ). In (first n c) (size c) y) q2 (subst (λ (y : Cell). In (first n y) (size y) x) (sym head) i))))
+                  (fitting.links below q r head))
+              | inr ne ↦ links_kept (texts_in cells bytes) below cells (set cells n c) m h.kept refl (omega arith) (heads_set_other cells n m c ne)
+                  (λ x d i. get_or-set_other cells n x c d (λ q2. p.mine m (subst (λ (y : ℕ). In (first m (heads cells m)) (size (heads cells m)) y) q2 i))) (now.each m)
+            ]);
+      }) h.linked;
       objects = b.objects;
     }
 
-pub holds_written : {cells : List Cell} {bytes : List ℕ} {obs : List (Option ArenaObject)} → Holds cells bytes obs → (n : ℕ) (cells' : List Cell) → n < length cells → length cells' ≡ length cells
+pub holds_written : {cells : List Cell} {bytes : List ℕ} {obs : List (Option ArenaObject)} {keys : Option ℕ} → Holds keys cells bytes obs → (n : ℕ) (cells' : List Cell) → n < length cells → length cells' ≡ length cells
     → heads cells' ≡ heads cells → ((c : ℕ) (d : Cell) → (In (first n (heads cells n)) (size (heads cells n)) c → ⊥) → get_or cells' c d ≡ get_or cells c d)
-    → Links (heads cells n) cells' → Holds cells' bytes (set obs n (read n (heads cells n) cells' bytes))
-holds_written {cells} {bytes} {obs} h n cells' low l same out links =
+    → ((below : ℕ) → keys ≡ Some below → Links (texts_in cells bytes) below (heads cells n) cells') → Holds keys cells' bytes (set obs n (read n (heads cells n) cells' bytes))
+holds_written {cells} {bytes} {obs} {keys} h n cells' low l same out links =
     let b = bare_written (bare h) n cells' low l same out in
+    let texts : texts_in cells' bytes ≡ texts_in cells bytes = texts_same cells cells' bytes (λ m. ap (λ (x : ℕ → Cell). x m) same) in
     record {
       kept = b.kept;
-      linked = λ m. elim (cases_eq m n) [
-        | inl e ↦ subst (λ (y : ℕ). Links (heads cells' y) cells') (sym e) (subst (λ (c : Cell). Links c cells') (sym (ap (λ (x : ℕ → Cell). x n) same)) links)
-        | inr ne ↦ links_kept cells cells' m h.kept refl (omega arith) (ap (λ (x : ℕ → Cell). x m) same)
-            (λ x d i. out x d (λ j. ne (h.kept.cells_apart.apart m n x i j))) (h.linked m)
-      ];
+      linked = all_linked keys cells cells' bytes bytes (λ below q now. record {
+        few = omega (arith, now.few);
+        each = λ m. subst (λ (t : ℕ → List ℕ). Links t below (heads cells' m) cells') (sym texts) (elim (cases_eq m n) [
+          | inl e ↦ subst (λ (y : ℕ). Links (texts_in cells bytes) below (heads cells' y) cells') (sym e) (subst (λ (c : Cell). Links (texts_in cells bytes) below c cells') (sym (ap (λ (x : ℕ → Cell). x n) same)) (links below q))
+          | inr ne ↦ links_kept (texts_in cells bytes) below cells cells' m h.kept refl (omega arith) (ap (λ (x : ℕ → Cell). x m) same)
+              (λ x d i. out x d (λ j. ne (h.kept.cells_apart.apart m n x i j))) (now.each m)
+        ]);
+      }) h.linked;
       objects = b.objects;
     }
 
-pub holds_plain : {cells : List Cell} {bytes : List ℕ} {obs : List (Option ArenaObject)} → Holds cells bytes obs → (n c : ℕ) (x : Cell) → head_of x ≡ blank → n < length cells
-    → In (first n (heads cells n)) (size (heads cells n)) c → Links (heads cells n) (set cells c x) → Holds (set cells c x) bytes (set obs n (read n (heads cells n) (set cells c x) bytes))
+pub holds_plain : {cells : List Cell} {bytes : List ℕ} {obs : List (Option ArenaObject)} {keys : Option ℕ} → Holds keys cells bytes obs → (n c : ℕ) (x : Cell) → head_of x ≡ blank → n < length cells
+    → In (first n (heads cells n)) (size (heads cells n)) c → ((below : ℕ) → keys ≡ Some below → Links (texts_in cells bytes) below (heads cells n) (set cells c x)) → Holds keys (set cells c x) bytes (set obs n (read n (heads cells n) (set cells c x) bytes))
 holds_plain {cells} h n c x plain low i links =
     holds_written h n (set cells c x) low (length-set cells c x) (heads_set_plain cells c x plain (h.kept.plain n c i))
     (λ y d ni. get_or-set_other cells c y x d (λ q. ni (subst (λ (z : ℕ). In (first n (heads cells n)) (size (heads cells n)) z) (sym q) i))) links
 
-pub holds_item : {cells : List Cell} {bytes : List ℕ} {obs : List (Option ArenaObject)} → Holds cells bytes obs → (n c : ℕ) (v : Value) → n < length cells
-    → In (first n (heads cells n)) (size (heads cells n)) c → Links (heads cells n) (set cells c (cell_of v)) → Holds (set cells c (cell_of v)) bytes (set obs n (read n (heads cells n) (set cells c (cell_of v)) bytes))
+pub holds_item : {cells : List Cell} {bytes : List ℕ} {obs : List (Option ArenaObject)} {keys : Option ℕ} → Holds keys cells bytes obs → (n c : ℕ) (v : Value) → n < length cells
+    → In (first n (heads cells n)) (size (heads cells n)) c → ((below : ℕ) → keys ≡ Some below → Links (texts_in cells bytes) below (heads cells n) (set cells c (cell_of v))) → Holds keys (set cells c (cell_of v)) bytes (set obs n (read n (heads cells n) (set cells c (cell_of v)) bytes))
 holds_item h n c v low i links = holds_plain h n c (cell_of v) (head_of-cell_of v) low i links
 
-pub holds_more_bytes : {cells : List Cell} {bytes : List ℕ} {obs : List (Option ArenaObject)} → Holds cells bytes obs → (bs : List ℕ) → Holds cells (bytes ++ bs) obs
-holds_more_bytes h bs = let b = bare_more_bytes (bare h) bs in record { kept = b.kept; linked = h.linked; objects = b.objects }
+pub holds_more_bytes : {cells : List Cell} {bytes : List ℕ} {obs : List (Option ArenaObject)} {keys : Option ℕ} → Holds keys cells bytes obs → (bs : List ℕ) → Holds keys cells (bytes ++ bs) obs
+holds_more_bytes {cells} {bytes} {obs} {keys} h bs =
+    let b = bare_more_bytes (bare h) bs in
+    let l : length (bytes ++ bs) ≡ length bytes + length bs = length-append bytes bs in
+    record {
+      kept = b.kept;
+      linked = all_linked keys cells cells bytes (bytes ++ bs) (λ below q now. record {
+        few = now.few;
+        each = λ m. links_texts (texts_in cells bytes) (texts_in cells (bytes ++ bs)) below (heads cells m) cells
+            (λ t lt. part_same bytes (bytes ++ bs) (byte_first t (heads cells t)) (byte_size (heads cells t)) (h.kept.bytes_apart.inside t) (omega (arith, h.kept.bytes_apart.inside t))
+            (λ c d i. get_or_append_left bytes bs d c (omega (arith, h.kept.bytes_apart.inside t, i.high)))) (now.each m);
+      }) h.linked;
+      objects = b.objects;
+    }
 
-pub holds_byte : {cells : List Cell} {bytes : List ℕ} {obs : List (Option ArenaObject)} → Holds cells bytes obs → (n c b : ℕ) → n < length cells
-    → In (byte_first n (heads cells n)) (byte_size (heads cells n)) c → Holds cells (set bytes c b) (set obs n (read n (heads cells n) cells (set bytes c b)))
-holds_byte h n c b low i = let bare_now = bare_byte (bare h) n c b low i in record { kept = bare_now.kept; linked = h.linked; objects = bare_now.objects }
+-- a text is written: dicts stay linked where it can be no key
+module _ {cells : List Cell} {bytes : List ℕ} {obs : List (Option ArenaObject)} {keys : Option ℕ} (h : Holds keys cells bytes obs) (n c b : ℕ)
+    (i : In (byte_first n (heads cells n)) (byte_size (heads cells n)) c)
+  where
+    still_linked : (below : ℕ) → below ≤ n → Linked below cells bytes → Linked below cells (set bytes c b)
+    still_linked below le now =
+        let l : length (set bytes c b) ≡ length bytes = length-set bytes c b in
+        record {
+          few = now.few;
+          each = λ m. links_texts (texts_in cells bytes) (texts_in cells (set bytes c b)) below (heads cells m) cells
+              (λ t lt. part_same bytes (set bytes c b) (byte_first t (heads cells t)) (byte_size (heads cells t)) (h.kept.bytes_apart.inside t) (omega (arith, l, h.kept.bytes_apart.inside t))
+              (λ x d j. get_or-set_other bytes c x b d (λ q.
+              let same : t ≡ n = h.kept.bytes_apart.apart t n c (subst (λ (y : ℕ). In (byte_first t (heads cells t)) (byte_size (heads cells t)) y) q j) i in
+              absurd (omega arith)))) (now.each m);
+        }
+
+    filled : (k : Option ℕ) → AreAllLinked k cells bytes → AreAllLinked (without_text k n) cells (set bytes c b)
+    filled None now = tt
+    filled (Some below) now =
+        let none : Option ℕ = None in
+        elim (cases_lt n below) [
+          | inl lt ↦ subst (λ (k : Option ℕ). AreAllLinked k cells (set bytes c b)) (sym (cond-false (nat_le below n) (Some below) none (lt-leb below n lt))) tt
+          | inr le ↦ subst (λ (k : Option ℕ). AreAllLinked k cells (set bytes c b)) (sym (cond-true (nat_le below n) (Some below) none (le-leb below n le))) (still_linked below le now)
+        ]
+
+    pub holds_byte : n < length cells → Holds (without_text keys n) cells (set bytes c b) (set obs n (read n (heads cells n) cells (set bytes c b)))
+    holds_byte low = let bare_now = bare_byte (bare h) n c b low i in record { kept = bare_now.kept; linked = filled keys h.linked; objects = bare_now.objects }
 
 -- nothing yet
-pub holds_nothing : Holds [] [] []
+pub holds_nothing : Holds (Some 0) [] [] []
 holds_nothing =
     let none : (h : ℕ → ℕ) → Apart (λ n. 0) (λ n. 0) 0 = λ h. record { inside = λ n. omega arith; apart = λ n m c i j. absurd (omega (arith, i.low, i.high)) } in
     record {
@@ -307,6 +373,6 @@ holds_nothing =
         plain = λ n c i. refl;
         full = λ n. tt;
       };
-      linked = λ n r is. absurd cc;
+      linked = record { few = omega arith; each = λ n r is. absurd cc };
       objects = refl;
     }

@@ -5,6 +5,7 @@ pub mod DictCells
 pub mod DictSeen
 pub mod Frame
 pub mod Growths
+pub mod KeyTexts
 pub mod LinkCells
 pub mod ListCells
 pub mod ListSeen

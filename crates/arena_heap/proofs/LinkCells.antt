@@ -50,22 +50,22 @@ module _ (ps : List Cell) (room at : ℕ) (x : Cell) (whole : length ps ≡ 3 * 
   ]
 
 -- a pair is linked
-pub linked_more : (ps : List Cell) (room at bucket : ℕ) (x y : Cell) → length ps ≡ 3 * room → at < room → bucket < room → AreLinked ps room at
-    → bucket ≡ bucket_in ps room at → first_link x ≡ first_in ps at → next_link x ≡ first_in ps bucket
+pub linked_more : (texts : ℕ → List ℕ) (ps : List Cell) (room at bucket : ℕ) (x y : Cell) → length ps ≡ 3 * room → at < room → bucket < room → AreLinked texts ps room at
+    → bucket ≡ bucket_in texts ps room at → first_link x ≡ first_in ps at → next_link x ≡ first_in ps bucket
     → first_link y ≡ at + 1 → next_link y ≡ next_in (set ps (3 * at + 2) x) bucket
-    → AreLinked (set (set ps (3 * at + 2) x) (3 * bucket + 2) y) room (at + 1)
-linked_more ps room at bucket x y whole lt within linked e fx nx fy ny =
+    → AreLinked texts (set (set ps (3 * at + 2) x) (3 * bucket + 2) y) room (at + 1)
+linked_more texts ps room at bucket x y whole lt within linked e fx nx fy ny =
     let ps1 : List Cell = set ps (3 * at + 2) x in
     let ps2 : List Cell = set ps1 (3 * bucket + 2) y in
     let l1 : length ps1 ≡ 3 * room = length-set ps (3 * at + 2) x ∙ whole in
-    let bs : (k : ℕ) → bucket_in ps2 room k ≡ bucket_in ps room k =
-    λ k. ap (λ (c : Cell). bucket_of room (value_of c)) (key_same ps1 room bucket y l1 within k ∙ key_same ps room at x whole lt k) in
-    let own : bucket_in ps2 room at ≡ bucket = bs at ∙ sym e in
+    let bs : (k : ℕ) → bucket_in texts ps2 room k ≡ bucket_in texts ps room k =
+    λ k. ap (λ (c : Cell). bucket_of texts room (value_of c)) (key_same ps1 room bucket y l1 within k ∙ key_same ps room at x whole lt k) in
+    let own : bucket_in texts ps2 room at ≡ bucket = bs at ∙ sym e in
     let fs : (k : ℕ) → first_in ps1 k ≡ first_in ps k = first_kept ps room at x whole lt fx in
     let ns : (k : ℕ) → next_in ps2 k ≡ next_in ps1 k = next_kept ps1 room bucket y l1 within ny in
     let step : at + 1 ≡ suc at = omega arith in
-    subst (AreLinked ps2 room) (sym step)
-    (chained_more (bucket_in ps room) (first_in ps) (next_in ps) (bucket_in ps2 room) (first_in ps2) (next_in ps2) room at linked
+    subst (AreLinked texts ps2 room) (sym step)
+    (chained_more (bucket_in texts ps room) (first_in ps) (next_in ps) (bucket_in texts ps2 room) (first_in ps2) (next_in ps2) room at linked
     (λ k h. bs k) (subst (λ j. j < room) (sym own) within)
     (λ k h. ns k ∙ next_other ps room at x whole lt k (λ q. omega arith))
     (ns at ∙ (next_here ps room at x whole lt ∙ (nx ∙ ap (first_in ps) (sym own))))
@@ -73,8 +73,8 @@ linked_more ps room at bucket x y whole lt within linked e fx nx fy ny =
     (λ k h ne. first_other ps1 room bucket y l1 within k (λ q. ne (q ∙ sym own)) ∙ fs k))
 
 -- no links are read where the first links are 0
-pub linked_none : (ps : List Cell) (room : ℕ) → ((bucket : ℕ) → bucket < room → first_in ps bucket ≡ 0) → AreLinked ps room 0
-linked_none ps room none = chained_none (bucket_in ps room) (first_in ps) (next_in ps) room none
+pub linked_none : (texts : ℕ → List ℕ) (ps : List Cell) (room : ℕ) → ((bucket : ℕ) → bucket < room → first_in ps bucket ≡ 0) → AreLinked texts ps room 0
+linked_none texts ps room none = chained_none (bucket_in texts ps room) (first_in ps) (next_in ps) room none
 
 pub relinked_not : (start room : ℕ) (cells : List Cell) → Relinked start room cells cells
 relinked_not start room cells = record { same_length = refl; same_heads = λ c. refl; outside = λ c d i. refl; pairs = λ at lt. refl }
@@ -110,20 +110,20 @@ relinked_set cells start room at i x inside lt e plain was =
     }
 
 -- a value that is put in a pair changes no link
-pub linked_stored : (ps : List Cell) (room len i : ℕ) (x : Cell) → AreLinked ps room len → AreLinked (set ps (3 * i + 1) x) room len
-linked_stored ps room len i x linked =
+pub linked_stored : (texts : ℕ → List ℕ) (ps : List Cell) (room len i : ℕ) (x : Cell) → AreLinked texts ps room len → AreLinked texts (set ps (3 * i + 1) x) room len
+linked_stored texts ps room len i x linked =
     let qs : List Cell = set ps (3 * i + 1) x in
-    chained_same (bucket_in ps room) (first_in ps) (next_in ps) (bucket_in qs room) (first_in qs) (next_in qs) room len linked
-    (λ k h. ap (λ (c : Cell). bucket_of room (value_of c)) (get_or-set_other ps (3 * i + 1) (3 * k) x blank (λ q. omega arith)))
+    chained_same (bucket_in texts ps room) (first_in ps) (next_in ps) (bucket_in texts qs room) (first_in qs) (next_in qs) room len linked
+    (λ k h. ap (λ (c : Cell). bucket_of texts room (value_of c)) (get_or-set_other ps (3 * i + 1) (3 * k) x blank (λ q. omega arith)))
     (λ k h. ap first_link (get_or-set_other ps (3 * i + 1) (3 * k + 2) x blank (λ q. omega arith)))
     (λ k h. ap next_link (get_or-set_other ps (3 * i + 1) (3 * k + 2) x blank (λ q. omega arith)))
 
 -- nor does a key that is put behind the pairs
-pub linked_keyed : (ps : List Cell) (room len : ℕ) (x : Cell) → AreLinked ps room len → AreLinked (set ps (3 * len) x) room len
-linked_keyed ps room len x linked =
+pub linked_keyed : (texts : ℕ → List ℕ) (ps : List Cell) (room len : ℕ) (x : Cell) → AreLinked texts ps room len → AreLinked texts (set ps (3 * len) x) room len
+linked_keyed texts ps room len x linked =
     let qs : List Cell = set ps (3 * len) x in
-    chained_same (bucket_in ps room) (first_in ps) (next_in ps) (bucket_in qs room) (first_in qs) (next_in qs) room len linked
-    (λ k h. ap (λ (c : Cell). bucket_of room (value_of c)) (get_or-set_other ps (3 * len) (3 * k) x blank (λ q. omega arith)))
+    chained_same (bucket_in texts ps room) (first_in ps) (next_in ps) (bucket_in texts qs room) (first_in qs) (next_in qs) room len linked
+    (λ k h. ap (λ (c : Cell). bucket_of texts room (value_of c)) (get_or-set_other ps (3 * len) (3 * k) x blank (λ q. omega arith)))
     (λ k h. ap first_link (get_or-set_other ps (3 * len) (3 * k + 2) x blank (λ q. omega arith)))
     (λ k h. ap next_link (get_or-set_other ps (3 * len) (3 * k + 2) x blank (λ q. omega arith)))
 
@@ -135,13 +135,13 @@ read_at cells start room at k j x inside lt small ej ex =
     ∙ (ap (λ i. get_or cells i blank) ej ∙ sym (get_or-part cells start (3 * room) (3 * at + k) blank (omega arith))))
 
 -- a pair is put in front of its bucket: its own cell x is written from the cells that were read, and then the cell y of the bucket
-module _ (cells : List Cell) (start room at bucket key own front : ℕ) (key_cell own_cell front_cell x y_cell y : Cell)
+module _ (texts : ℕ → List ℕ) (cells : List Cell) (start room at bucket key own front : ℕ) (key_cell own_cell front_cell x y_cell y : Cell)
     (inside : start + 3 * room ≤ length cells) (lt : at < room) (within : bucket < room)
-    (plain : (c : ℕ) → In start (3 * room) c → heads cells c ≡ blank) (linked : AreLinked (part cells start (3 * room)) room at)
+    (plain : (c : ℕ) → In start (3 * room) c → heads cells c ≡ blank)
     (e_key : key ≡ start + (3 * at + 0)) (e_own : own ≡ start + (3 * at + 2)) (e_front : front ≡ start + (3 * bucket + 2))
     (r_key : key_cell ≡ get_or cells key key_cell) (r_own : own_cell ≡ get_or cells own own_cell) (r_front : front_cell ≡ get_or cells front front_cell)
     (r_y : y_cell ≡ get_or (set cells own x) front y_cell)
-    (bucket_is : bucket ≡ bucket_of room (value_of key_cell)) (plain_x : head_of x ≡ blank) (plain_y : head_of y ≡ blank)
+    (bucket_is : bucket ≡ bucket_of texts room (value_of key_cell)) (plain_x : head_of x ≡ blank) (plain_y : head_of y ≡ blank)
     (first_x : first_link x ≡ first_link own_cell) (next_x : next_link x ≡ first_link front_cell)
     (first_y : first_link y ≡ at + 1) (next_y : next_link y ≡ next_link y_cell)
   where
@@ -159,16 +159,16 @@ module _ (cells : List Cell) (start room at bucket key own front : ℕ) (key_cel
         (relinked_set (set cells own x) start room bucket front y (omega arith) within e_front plain_y
         (one.same_heads front ∙ plain front (record { low = omega arith; high = omega arith })))
 
-    pub link_linked : AreLinked (part (set (set cells own x) front y) start (3 * room)) room (at + 1)
-    link_linked =
+    pub link_linked : AreLinked texts (part cells start (3 * room)) room at → AreLinked texts (part (set (set cells own x) front y) start (3 * room)) room (at + 1)
+    link_linked linked =
         let whole : length ps ≡ 3 * room = length-part cells start (3 * room) inside in
         let l : length (set cells own x) ≡ length cells = length-set cells own x in
         let first_part : part (set cells own x) start (3 * room) ≡ set ps (3 * at + 2) x = part_linked cells start room at own x lt e_own in
         let parts : part (set (set cells own x) front y) start (3 * room) ≡ set (set ps (3 * at + 2) x) (3 * bucket + 2) y =
         part_linked (set cells own x) start room bucket front y within e_front ∙ ap (λ (qs : List Cell). set qs (3 * bucket + 2) y) first_part in
-        subst (λ (qs : List Cell). AreLinked qs room (at + 1)) (sym parts)
-        (linked_more ps room at bucket x y whole lt within linked
-        (bucket_is ∙ ap (λ (c : Cell). bucket_of room (value_of c)) (read_at cells start room at 0 key key_cell inside lt (omega arith) e_key r_key ∙ ap (λ j. get_or ps j blank) (omega arith)))
+        subst (λ (qs : List Cell). AreLinked texts qs room (at + 1)) (sym parts)
+        (linked_more texts ps room at bucket x y whole lt within linked
+        (bucket_is ∙ ap (λ (c : Cell). bucket_of texts room (value_of c)) (read_at cells start room at 0 key key_cell inside lt (omega arith) e_key r_key ∙ ap (λ j. get_or ps j blank) (omega arith)))
         (first_x ∙ ap first_link (read_at cells start room at 2 own own_cell inside lt (omega arith) e_own r_own))
         (next_x ∙ ap first_link (read_at cells start room bucket 2 front front_cell inside within (omega arith) e_front r_front))
         first_y

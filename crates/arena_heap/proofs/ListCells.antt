@@ -13,7 +13,7 @@ use Rattle.arena_heap.specs.declared.cells.Cell.TheVariants.{ListHead, DictHead}
 use Rattle.mpy_base.specs.World.{ListObject}
 use Rattle.mpy_base.specs.Weights.{IsRoom}
 use Rattle.arena_heap.specs.Values.{ArenaObject}
-use Rattle.arena_heap.specs.Cells.{blank, value_of, head_of, heads, first, size, Full, part, cell_of, read, In, Kept, Holds}
+use Rattle.arena_heap.specs.Cells.{blank, value_of, head_of, heads, first, byte_size, byte_first, size, Full, part, cell_of, read, In, Kept, Holds}
 use Rattle.arena_heap.proofs.Regions.{length-part, get_or-part}
 use Rattle.arena_heap.proofs.Frame.{holds_head, holds_item, holds_written}
 use Rattle.arena_heap.proofs.Moves.{holds_moved}
@@ -53,24 +53,24 @@ get_or-items cells r i d f low h =
 pub part-set : (cells : List Cell) (s z i : ℕ) (x : Cell) → i < z → part (set cells (s + i) x) s z ≡ set (part cells s z) i x
 part-set cells s z i x h = ap (take z) (drop-set-add s cells i x) ∙ take-set-lt z (drop s cells) i x h
 
-pub list_stored : {cells : List Cell} {bytes : List ℕ} {obs : List (Option ArenaObject)} → Holds cells bytes obs → (n i : ℕ) (r : Region) (v : Value) → n < length cells
-    → heads cells n ≡ ListHead r → i < r.len → Holds (set cells (r.start + i) (cell_of v)) bytes (set obs n (Some (ListObject (set (items_in cells r) i v) r.room)))
-list_stored {cells} {bytes} {obs} h n i r v low e lt =
+pub list_stored : {cells : List Cell} {bytes : List ℕ} {obs : List (Option ArenaObject)} {keys : Option ℕ} → Holds keys cells bytes obs → (n i : ℕ) (r : Region) (v : Value) → n < length cells
+    → heads cells n ≡ ListHead r → i < r.len → Holds keys (set cells (r.start + i) (cell_of v)) bytes (set obs n (Some (ListObject (set (items_in cells r) i v) r.room)))
+list_stored {cells} {bytes} {obs} {keys} h n i r v low e lt =
     let f = full_list cells h.kept n r e in
     let cells1 : List Cell = set cells (r.start + i) (cell_of v) in
     let items : map value_of (take r.len (part cells1 r.start r.room)) ≡ set (items_in cells r) i v =
     ap (λ (ps : List Cell). map value_of (take r.len ps)) (part-set cells r.start r.room i (cell_of v) (omega arith))
     ∙ (ap (map value_of) (take-set-lt r.len (part cells r.start r.room) i (cell_of v) lt) ∙ (map-set value_of (take r.len (part cells r.start r.room)) i (cell_of v) ∙ ap (set (items_in cells r) i) (value_of-cell_of v))) in
-    subst (λ (o : Option ArenaObject). Holds cells1 bytes (set obs n o))
+    subst (λ (o : Option ArenaObject). Holds keys cells1 bytes (set obs n o))
     (ap (λ (c : Cell). read n c cells1 bytes) e ∙ ap (λ vs. Some (ListObject vs r.room)) items)
     (holds_item h n (r.start + i) v low (in_list cells n r e (r.start + i) (record { low = omega arith; high = omega arith }))
-    (λ r2 q. let q2 : ListHead r ≡ DictHead r2 = sym e ∙ q in absurd cc))
+    (λ below k r2 q. let q2 : ListHead r ≡ DictHead r2 = sym e ∙ q in absurd cc))
 
 -- a header is written anew, of the same region
-pub list_again : {cells : List Cell} {bytes : List ℕ} {obs : List (Option ArenaObject)} → Holds cells bytes obs → (n len : ℕ) (r : Region) → n < length cells
+pub list_again : {cells : List Cell} {bytes : List ℕ} {obs : List (Option ArenaObject)} {keys : Option ℕ} → Holds keys cells bytes obs → (n len : ℕ) (r : Region) → n < length cells
     → heads cells n ≡ ListHead r → len ≤ r.room
-    → Holds (set cells n (ListHead (record r { len = len }))) bytes (set obs n (Some (ListObject (items_in cells (record r { len = len })) r.room)))
-list_again {cells} {bytes} {obs} h n len r low e full =
+    → Holds keys (set cells n (ListHead (record r { len = len }))) bytes (set obs n (Some (ListObject (items_in cells (record r { len = len })) r.room)))
+list_again {cells} {bytes} {obs} {keys} h n len r low e full =
     holds_head h n (ListHead (record r { len = len })) low (record {
       head = refl;
       inside = inside_list cells h.kept n r e;
@@ -81,16 +81,16 @@ list_again {cells} {bytes} {obs} h n len r low e full =
       outside = λ i. let q : heads cells n ≡ blank = h.kept.plain n n (in_list cells n r e n i) in let q2 : ListHead r ≡ blank = sym e ∙ q in cc;
       plain = λ x i. h.kept.plain n x (in_list cells n r e x i);
       full = (full, some_room cells h.kept n r e);
-    }) (λ r2 q. absurd cc)
+    }) (record { links = λ below k r2 q. absurd cc; text = λ below k lt. sym (ap (λ (x : Cell). part bytes (byte_first n x) (byte_size x)) e) })
 
 -- an item is taken out, and those behind it close up
-pub list_removed : {cells : List Cell} {bytes : List ℕ} {obs : List (Option ArenaObject)} → Holds cells bytes obs → (n i : ℕ) (r : Region) (cells1 : List Cell) → n < length cells
+pub list_removed : {cells : List Cell} {bytes : List ℕ} {obs : List (Option ArenaObject)} {keys : Option ℕ} → Holds keys cells bytes obs → (n i : ℕ) (r : Region) (cells1 : List Cell) → n < length cells
     → heads cells n ≡ ListHead r → i < r.len → length cells1 ≡ length cells
     → ((k : ℕ) (d : Cell) → r.start + i ≤ k → k + 1 < r.start + r.len → get_or cells1 k d ≡ get_or cells (k + 1) d)
     → ((k : ℕ) (d : Cell) → k < r.start + i → get_or cells1 k d ≡ get_or cells k d)
     → ((k : ℕ) (d : Cell) → r.start + r.len ≤ k + 1 → get_or cells1 k d ≡ get_or cells k d)
-    → Holds (set cells1 n (ListHead (record r { len = r.len - 1 }))) bytes (set obs n (Some (ListObject (remove (items_in cells r) i) r.room)))
-list_removed {cells} {bytes} {obs} h n i r cells1 low e lt l moved before behind =
+    → Holds keys (set cells1 n (ListHead (record r { len = r.len - 1 }))) bytes (set obs n (Some (ListObject (remove (items_in cells r) i) r.room)))
+list_removed {cells} {bytes} {obs} {keys} h n i r cells1 low e lt l moved before behind =
     let full = full_list cells h.kept n r e in
     let ins = inside_list cells h.kept n r e in
     let plain : (c : ℕ) → r.start ≤ c → c < r.start + r.room → heads cells c ≡ blank = λ c a b. h.kept.plain n c (in_list cells n r e c (record { low = a; high = b })) in
@@ -109,7 +109,7 @@ list_removed {cells} {bytes} {obs} h n i r cells1 low e lt l moved before behind
       ]
     ] in
     let o1 : Option ArenaObject = read n (heads cells n) cells1 bytes in
-    let h1 : Holds cells1 bytes (set obs n o1) = holds_written h n cells1 low l same out (λ r2 q. let q2 : ListHead r ≡ DictHead r2 = sym e ∙ q in absurd cc) in
+    let h1 : Holds keys cells1 bytes (set obs n o1) = holds_written h n cells1 low l same out (λ below k r2 q. let q2 : ListHead r ≡ DictHead r2 = sym e ∙ q in absurd cc) in
     let e1 : heads cells1 n ≡ ListHead r = ap (λ (f : ℕ → Cell). f n) same ∙ e in
     let r1 : Region = record r { len = r.len - 1 } in
     let li = length-items cells r full ins in
@@ -123,16 +123,16 @@ list_removed {cells} {bytes} {obs} h n i r cells1 low e lt l moved before behind
       | inr a ↦ ap value_of (moved (r.start + k) blank (omega arith) (omega arith) ∙ ap (λ j. get_or cells j blank) (omega arith))
           ∙ (sym (get_or-items cells r (k + 1) d full ins (omega arith)) ∙ sym (get_or-remove_above (items_in cells r) i d k a (omega arith)))
     ]) in
-    subst (λ (x : List (Option ArenaObject)). Holds (set cells1 n (ListHead r1)) bytes x)
+    subst (λ (x : List (Option ArenaObject)). Holds keys (set cells1 n (ListHead r1)) bytes x)
     (ap (λ vs. set (set obs n o1) n (Some (ListObject vs r.room))) items ∙ set-set obs n o1 (Some (ListObject (remove (items_in cells r) i) r.room)))
     (list_again h1 n (r.len - 1) r (omega arith) e1 (omega arith))
 
 -- a list moves behind all cells, and has its items there
-pub list_moved : {cells : List Cell} {bytes : List ℕ} {obs : List (Option ArenaObject)} → Holds cells bytes obs → (n start rest : ℕ) (r : Region) (cells1 : List Cell) → n < length cells
+pub list_moved : {cells : List Cell} {bytes : List ℕ} {obs : List (Option ArenaObject)} {keys : Option ℕ} → Holds keys cells bytes obs → (n start rest : ℕ) (r : Region) (cells1 : List Cell) → n < length cells
     → heads cells n ≡ ListHead r → IsRoom (r.len + rest) → start ≡ length cells → cells1 ≡ cells ++ (part cells r.start r.len ++ replicate rest blank)
-    → Holds (set cells1 n (ListHead (record { start = start; len = r.len; room = r.len + rest }))) bytes
+    → Holds keys (set cells1 n (ListHead (record { start = start; len = r.len; room = r.len + rest }))) bytes
     (set (obs ++ replicate (r.len + rest) None) n (Some (ListObject (items_in cells r) (r.len + rest))))
-list_moved {cells} {bytes} {obs} h n start rest r cells1 low e is_room es ec =
+list_moved {cells} {bytes} {obs} {keys} h n start rest r cells1 low e is_room es ec =
     let full = full_list cells h.kept n r e in
     let ins = inside_list cells h.kept n r e in
     let ps : List Cell = part cells r.start r.len in
@@ -151,22 +151,22 @@ list_moved {cells} {bytes} {obs} h n start rest r cells1 low e is_room es ec =
     ∙ (ap (map value_of) (take_at ps (replicate rest blank) r.len lp)
     ∙ ap (map value_of) (sym (take-take r.len r.room (drop r.start cells) full)))) in
     let moved = holds_moved h n (ListHead (record { start = length cells; len = r.len; room = length qs })) qs low
-    (λ q. let q2 : ListHead r ≡ blank = sym e ∙ q in cc) plain refl (omega arith, subst IsRoom (sym lq) is_room) (omega arith) refl refl (λ r2 q. absurd cc) in
-    subst (λ (x : List Cell). Holds (set x n (ListHead (record { start = start; len = r.len; room = r.len + rest }))) bytes (set (obs ++ replicate (r.len + rest) None) n (Some (ListObject (items_in cells r) (r.len + rest))))) (sym ec)
-    (subst (λ (j : ℕ). Holds (set (cells ++ qs) n (ListHead (record { start = j; len = r.len; room = r.len + rest }))) bytes (set (obs ++ replicate (r.len + rest) None) n (Some (ListObject (items_in cells r) (r.len + rest))))) (sym es)
-    (subst (λ vs. Holds (set (cells ++ qs) n (ListHead r1)) bytes (set (obs ++ replicate (r.len + rest) None) n (Some (ListObject vs (r.len + rest))))) items
-    (subst (λ (m : ℕ). Holds (set (cells ++ qs) n (ListHead (record { start = length cells; len = r.len; room = m }))) bytes
+    (λ q. let q2 : ListHead r ≡ blank = sym e ∙ q in cc) plain refl (omega arith, subst IsRoom (sym lq) is_room) (omega arith) refl refl (λ below k r2 q. absurd cc) (sym (ap (λ (x : Cell). part bytes (byte_first n x) (byte_size x)) e)) in
+    subst (λ (x : List Cell). Holds keys (set x n (ListHead (record { start = start; len = r.len; room = r.len + rest }))) bytes (set (obs ++ replicate (r.len + rest) None) n (Some (ListObject (items_in cells r) (r.len + rest))))) (sym ec)
+    (subst (λ (j : ℕ). Holds keys (set (cells ++ qs) n (ListHead (record { start = j; len = r.len; room = r.len + rest }))) bytes (set (obs ++ replicate (r.len + rest) None) n (Some (ListObject (items_in cells r) (r.len + rest))))) (sym es)
+    (subst (λ vs. Holds keys (set (cells ++ qs) n (ListHead r1)) bytes (set (obs ++ replicate (r.len + rest) None) n (Some (ListObject vs (r.len + rest))))) items
+    (subst (λ (m : ℕ). Holds keys (set (cells ++ qs) n (ListHead (record { start = length cells; len = r.len; room = m }))) bytes
     (set (obs ++ replicate m None) n (Some (ListObject (items_in (cells ++ qs) (record { start = length cells; len = r.len; room = m })) m)))) lq moved)))
 
 -- an item is put in front of place i, and those from there on make room
-pub list_inserted : {cells : List Cell} {bytes : List ℕ} {obs : List (Option ArenaObject)} → Holds cells bytes obs → (n i : ℕ) (r : Region) (v : Value) (cells1 : List Cell) → n < length cells
+pub list_inserted : {cells : List Cell} {bytes : List ℕ} {obs : List (Option ArenaObject)} {keys : Option ℕ} → Holds keys cells bytes obs → (n i : ℕ) (r : Region) (v : Value) (cells1 : List Cell) → n < length cells
     → heads cells n ≡ ListHead r → i ≤ r.len → r.len < r.room → length cells1 ≡ length cells
     → ((k : ℕ) (d : Cell) → r.start + i < k → k ≤ r.start + r.len → get_or cells1 k d ≡ get_or cells (k - 1) d)
     → get_or cells1 (r.start + i) blank ≡ cell_of v
     → ((k : ℕ) (d : Cell) → k < r.start + i → get_or cells1 k d ≡ get_or cells k d)
     → ((k : ℕ) (d : Cell) → r.start + r.len < k → get_or cells1 k d ≡ get_or cells k d)
-    → Holds (set cells1 n (ListHead (record r { len = r.len + 1 }))) bytes (set obs n (Some (ListObject (insert (items_in cells r) i v) r.room)))
-list_inserted {cells} {bytes} {obs} h n i r v cells1 low e le lt l moved here before behind =
+    → Holds keys (set cells1 n (ListHead (record r { len = r.len + 1 }))) bytes (set obs n (Some (ListObject (insert (items_in cells r) i v) r.room)))
+list_inserted {cells} {bytes} {obs} {keys} h n i r v cells1 low e le lt l moved here before behind =
     let full = full_list cells h.kept n r e in
     let ins = inside_list cells h.kept n r e in
     let plain : (c : ℕ) → r.start ≤ c → c < r.start + r.room → heads cells c ≡ blank = λ c a b. h.kept.plain n c (in_list cells n r e c (record { low = a; high = b })) in
@@ -188,7 +188,7 @@ list_inserted {cells} {bytes} {obs} h n i r v cells1 low e le lt l moved here be
       ]
     ] in
     let o1 : Option ArenaObject = read n (heads cells n) cells1 bytes in
-    let h1 : Holds cells1 bytes (set obs n o1) = holds_written h n cells1 low l same out (λ r2 q. let q2 : ListHead r ≡ DictHead r2 = sym e ∙ q in absurd cc) in
+    let h1 : Holds keys cells1 bytes (set obs n o1) = holds_written h n cells1 low l same out (λ below k r2 q. let q2 : ListHead r ≡ DictHead r2 = sym e ∙ q in absurd cc) in
     let e1 : heads cells1 n ≡ ListHead r = ap (λ (f : ℕ → Cell). f n) same ∙ e in
     let r1 : Region = record r { len = r.len + 1 } in
     let vs : List Value = items_in cells r in
@@ -210,18 +210,18 @@ list_inserted {cells} {bytes} {obs} h n i r v cells1 low e le lt l moved here be
             ∙ (sym (get_or-items cells r (k - 1) d full ins (omega (arith, ne))) ∙ sym (ap (λ j. get_or (insert vs i v) j d) kk ∙ get_or-insert_above vs i v d (k - 1) (omega (arith, ne)) (omega arith)))
       ]
     ]) in
-    subst (λ (x : List (Option ArenaObject)). Holds (set cells1 n (ListHead r1)) bytes x)
+    subst (λ (x : List (Option ArenaObject)). Holds keys (set cells1 n (ListHead r1)) bytes x)
     (ap (λ ws. set (set obs n o1) n (Some (ListObject ws r.room))) items ∙ set-set obs n o1 (Some (ListObject (insert vs i v) r.room)))
     (list_again h1 n (r.len + 1) r (omega arith) e1 (omega arith))
 
 -- the same where the cells were copied upwards, and then one was written
-pub list_put : {cells : List Cell} {bytes : List ℕ} {obs : List (Option ArenaObject)} → Holds cells bytes obs → (n i : ℕ) (r : Region) (v : Value) (x : Cell) (copied : List Cell) → n < length cells
+pub list_put : {cells : List Cell} {bytes : List ℕ} {obs : List (Option ArenaObject)} {keys : Option ℕ} → Holds keys cells bytes obs → (n i : ℕ) (r : Region) (v : Value) (x : Cell) (copied : List Cell) → n < length cells
     → heads cells n ≡ ListHead r → i ≤ r.len → r.len < r.room → x ≡ cell_of v → length copied ≡ length cells
     → ((k : ℕ) (d : Cell) → r.start + i + 1 ≤ k → k ≤ r.start + r.len → get_or copied k d ≡ get_or cells (k - 1) d)
     → ((k : ℕ) (d : Cell) → k < r.start + i + 1 → get_or copied k d ≡ get_or cells k d)
     → ((k : ℕ) (d : Cell) → r.start + r.len < k → get_or copied k d ≡ get_or cells k d)
-    → Holds (set (set copied (r.start + i) x) n (ListHead (record r { len = r.len + 1 }))) bytes (set obs n (Some (ListObject (insert (items_in cells r) i v) r.room)))
-list_put {cells} {bytes} {obs} h n i r v x copied low e le lt ex l moved before behind =
+    → Holds keys (set (set copied (r.start + i) x) n (ListHead (record r { len = r.len + 1 }))) bytes (set obs n (Some (ListObject (insert (items_in cells r) i v) r.room)))
+list_put {cells} {bytes} {obs} {keys} h n i r v x copied low e le lt ex l moved before behind =
     let ins = inside_list cells h.kept n r e in
     let at : ℕ = r.start + i in
     let other : (k : ℕ) (d : Cell) → k ≢ at → get_or (set copied at x) k d ≡ get_or copied k d = λ k d ne. get_or-set_other copied at k x d ne in

@@ -75,13 +75,13 @@ next_room h n items lt = cond-false _ _ _ (lt-leb items (room_at h n) lt)
 
 module _ (a : Inside) {h : Heap Value ℕ} (i : Invariant a) (e : seen a ≡ h) (n : ℕ) {r : Region} (head : heads a.cells.items n ≡ ListHead r) (is : IsA h.objects AList n) where
   -- after a change of the items in place
-  pub list_changed : (F : List Value → List Value) (cells : List Cell) (capacity : ℕ) → Holds cells a.bytes.items (set (objects a) n (Some (ListObject (F (items_in a.cells.items r)) r.room)))
+  pub list_changed : (F : List Value → List Value) (cells : List Cell) (capacity : ℕ) → Holds a.keys cells a.bytes.items (set (objects a) n (Some (ListObject (F (items_in a.cells.items r)) r.room)))
       → vec_capacity a.cells ≤ capacity → All (Leads h.objects) (F (items_at h n))
-      → IsArena cells a.bytes.items a.room.cells a.room.bytes capacity (vec_capacity a.bytes) × (heap_of cells a.bytes.items a.room.cells a.room.bytes ≡ with_list h n (F (items_at h n)))
+      → IsArena a.keys cells a.bytes.items a.room.cells a.room.bytes capacity (vec_capacity a.bytes) × (heap_of cells a.bytes.items a.room.cells a.room.bytes ≡ with_list h n (F (items_at h n)))
   list_changed F cells capacity held1 cc leads =
       let o : ArenaObject = ListObject (F (items_at h n)) (room_at h n) in
       let same : Some (ListObject (F (items_in a.cells.items r)) r.room) ≡ Some o = ap₂ (λ (vs : List Value) (k : ℕ). Some (ListObject (F vs) k)) (seen_items a e n head) (seen_room a e n head) in
-      let held2 : Holds cells a.bytes.items (set (objects a) n (Some o)) = subst (λ (x : Option ArenaObject). Holds cells a.bytes.items (set (objects a) n x)) same held1 in (
+      let held2 : Holds a.keys cells a.bytes.items (set (objects a) n (Some o)) = subst (λ (x : Option ArenaObject). Holds a.keys cells a.bytes.items (set (objects a) n x)) same held1 in (
         replaced_again a i e AList n is o refl cells a.bytes.items capacity (vec_capacity a.bytes) held2 refl cc (le_refl _) leads tt,
         replaced_seen a e n (Some o) cells a.bytes.items held2 refl,
       )
@@ -89,7 +89,7 @@ module _ (a : Inside) {h : Heap Value ℕ} (i : Invariant a) (e : seen a ≡ h) 
   -- after a move to the room for so many items
   pub list_reserved : (items start rest room : ℕ) (cells : List Cell) (capacity : ℕ) → r.room < items → room ≡ room_for items → rest ≡ room - r.len → start ≡ length a.cells.items
       → cells ≡ a.cells.items ++ (part a.cells.items r.start r.len ++ replicate rest blank) → Fits h (0 + 1 * room_for items) 0 → vec_capacity a.cells ≤ capacity
-      → IsArena (set cells n (ListHead (record { start = start; len = r.len; room = room }))) a.bytes.items a.room.cells a.room.bytes capacity (vec_capacity a.bytes)
+      → IsArena a.keys (set cells n (ListHead (record { start = start; len = r.len; room = room }))) a.bytes.items a.room.cells a.room.bytes capacity (vec_capacity a.bytes)
       × (heap_of (set cells n (ListHead (record { start = start; len = r.len; room = room }))) a.bytes.items a.room.cells a.room.bytes ≡ with_list_room h n items)
   list_reserved items start rest room cells capacity past eroom erest estart ecells fits cc =
       let new = room_is items in
@@ -102,12 +102,12 @@ module _ (a : Inside) {h : Heap Value ℕ} (i : Invariant a) (e : seen a ≡ h) 
       let cells1 : List Cell = set cells n (ListHead (record { start = start; len = r.len; room = room })) in
       let same : Some (ListObject (items_in a.cells.items r) (r.len + rest)) ≡ Some o = ap₂ (λ (vs : List Value) (k : ℕ). Some (ListObject vs k)) (seen_items a e n head) (total ∙ sym (next_room h n items past_room)) in
       let moved = list_moved (holds_now a i) n start rest r cells (seen_within a e AList n is) head (subst IsRoom (sym total) new.is_room) estart ecells in
-      let held1 : Holds cells1 a.bytes.items (set (objects a ++ replicate (r.len + rest) None) n (Some (ListObject (items_in a.cells.items r) (r.len + rest)))) =
-      subst (λ (k : ℕ). Holds (set cells n (ListHead (record { start = start; len = r.len; room = k }))) a.bytes.items (set (objects a ++ replicate (r.len + rest) None) n (Some (ListObject (items_in a.cells.items r) (r.len + rest))))) whole moved in
-      let held2 : Holds cells1 a.bytes.items (set (objects a ++ replicate (r.len + rest) None) n (Some o)) =
-      subst (λ (x : Option ArenaObject). Holds cells1 a.bytes.items (set (objects a ++ replicate (r.len + rest) None) n x)) same held1 in
-      let held3 : Holds cells1 a.bytes.items (set (objects a ++ replicate (list_growth h n items) None) n (Some o)) =
-      subst (λ (k : ℕ). Holds cells1 a.bytes.items (set (objects a ++ replicate k None) n (Some o))) growth held2 in
+      let held1 : Holds a.keys cells1 a.bytes.items (set (objects a ++ replicate (r.len + rest) None) n (Some (ListObject (items_in a.cells.items r) (r.len + rest)))) =
+      subst (λ (k : ℕ). Holds a.keys (set cells n (ListHead (record { start = start; len = r.len; room = k }))) a.bytes.items (set (objects a ++ replicate (r.len + rest) None) n (Some (ListObject (items_in a.cells.items r) (r.len + rest))))) whole moved in
+      let held2 : Holds a.keys cells1 a.bytes.items (set (objects a ++ replicate (r.len + rest) None) n (Some o)) =
+      subst (λ (x : Option ArenaObject). Holds a.keys cells1 a.bytes.items (set (objects a ++ replicate (r.len + rest) None) n x)) same held1 in
+      let held3 : Holds a.keys cells1 a.bytes.items (set (objects a ++ replicate (list_growth h n items) None) n (Some o)) =
+      subst (λ (k : ℕ). Holds a.keys cells1 a.bytes.items (set (objects a ++ replicate k None) n (Some o))) growth held2 in
       let grows : 0 + 1 * room_for items ≡ list_growth h n items = omega (arith, total, growth) in (
         grown_again a i e AList n (list_growth h n items) is o refl cells1 capacity (subst (λ (k : ℕ). Fits h k 0) grows fits) held3 cc (list_leads a e n head i) tt,
         grown_seen a e n (list_growth h n items) o cells1 held3,

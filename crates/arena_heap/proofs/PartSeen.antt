@@ -59,7 +59,7 @@ namespace a i e n name (Some d) is = ((sound_parts a i e n (ModuleObject name (S
 
 module _ (a : Inside) {h : Heap Value ℕ} (i : Invariant a) (e : seen a ≡ h) (n : ℕ) where
   pub placed_exception : (is : IsA h.objects AnException n) (file line name : ℕ)
-      → IsArena (set a.cells.items (n + 2) (variants.Place file line name)) a.bytes.items a.room.cells a.room.bytes (vec_capacity a.cells) (vec_capacity a.bytes)
+      → IsArena a.keys (set a.cells.items (n + 2) (variants.Place file line name)) a.bytes.items a.room.cells a.room.bytes (vec_capacity a.cells) (vec_capacity a.bytes)
       × (heap_of (set a.cells.items (n + 2) (variants.Place file line name)) a.bytes.items a.room.cells a.room.bytes ≡ with_place h n file line name)
   placed_exception is file line name =
       let head = exception_head a e n is in
@@ -80,11 +80,11 @@ module _ (a : Inside) {h : Heap Value ℕ} (i : Invariant a) (e : seen a ≡ h) 
       ∙ (ap (λ (qs : List Cell). decode (variants.ExcHead head.0) qs (part a.bytes.items 0 0)) parts
       ∙ ap₂ (λ (p q : Cell). decode (variants.ExcHead head.0) (p ∷ q ∷ []) (part a.bytes.items 0 0))
       (get_or-set_other ps 1 0 x blank (omega arith)) (get_or-set_same ps 1 x blank (omega arith))) in
-      let held1 : Holds cells1 a.bytes.items (set (objects a) n (Some o)) =
-      subst (λ (y : Option ArenaObject). Holds cells1 a.bytes.items (set (objects a) n y)) reads
+      let held1 : Holds a.keys cells1 a.bytes.items (set (objects a) n (Some o)) =
+      subst (λ (y : Option ArenaObject). Holds a.keys cells1 a.bytes.items (set (objects a) n y)) reads
       (holds_plain (holds_now a i) n (n + 2) x refl (seen_within a e AnException n is)
       (subst (λ (c : Cell). In (first n c) (size c) (n + 2)) (sym head.1) (record { low = omega arith; high = omega arith }))
-      (λ r2 q. let q2 : variants.ExcHead head.0 ≡ variants.DictHead r2 = sym head.1 ∙ q in absurd cc)) in
+      (λ below k r2 q. let q2 : variants.ExcHead head.0 ≡ variants.DictHead r2 = sym head.1 ∙ q in absurd cc)) in
       let sound = sound_parts a i e n (ExceptionObject head.0 args was.file was.line was.name) old in (
         replaced_again a i e AnException n is o refl cells1 a.bytes.items (vec_capacity a.cells) (vec_capacity a.bytes) held1 refl (le_refl _) (le_refl _) sound.0 sound.1,
         replaced_seen a e n (Some o) cells1 a.bytes.items held1 refl
@@ -92,7 +92,7 @@ module _ (a : Inside) {h : Heap Value ℕ} (i : Invariant a) (e : seen a ≡ h) 
       )
 
   pub named_as : (is : IsA h.objects AModule n) (names : DictNo) → IsA h.objects ADict names.cell
-      → IsArena (set a.cells.items (n + 1) (variants.Dict names)) a.bytes.items a.room.cells a.room.bytes (vec_capacity a.cells) (vec_capacity a.bytes)
+      → IsArena a.keys (set a.cells.items (n + 1) (variants.Dict names)) a.bytes.items a.room.cells a.room.bytes (vec_capacity a.cells) (vec_capacity a.bytes)
       × (heap_of (set a.cells.items (n + 1) (variants.Dict names)) a.bytes.items a.room.cells a.room.bytes ≡ with_names h n names.cell)
   named_as is names leads =
       let head = module_head a e n is in
@@ -110,11 +110,11 @@ module _ (a : Inside) {h : Heap Value ℕ} (i : Invariant a) (e : seen a ≡ h) 
       ap (λ (c : Cell). read n c cells1 a.bytes.items) head.1
       ∙ (ap (λ (qs : List Cell). Some (ModuleObject head.0 (dict_in (get_or qs 0 blank)))) parts
       ∙ ap (λ (p : Cell). Some (ModuleObject head.0 (dict_in p))) (get_or-set_same ps 0 x blank (omega arith))) in
-      let held1 : Holds cells1 a.bytes.items (set (objects a) n (Some o)) =
-      subst (λ (y : Option ArenaObject). Holds cells1 a.bytes.items (set (objects a) n y)) reads
+      let held1 : Holds a.keys cells1 a.bytes.items (set (objects a) n (Some o)) =
+      subst (λ (y : Option ArenaObject). Holds a.keys cells1 a.bytes.items (set (objects a) n y)) reads
       (holds_plain (holds_now a i) n (n + 1) x refl (seen_within a e AModule n is)
       (subst (λ (c : Cell). In (first n c) (size c) (n + 1)) (sym head.1) (record { low = omega arith; high = omega arith }))
-      (λ r2 q. let q2 : variants.ModuleHead head.0 ≡ variants.DictHead r2 = sym head.1 ∙ q in absurd cc)) in (
+      (λ below k r2 q. let q2 : variants.ModuleHead head.0 ≡ variants.DictHead r2 = sym head.1 ∙ q in absurd cc)) in (
         replaced_again a i e AModule n is o refl cells1 a.bytes.items (vec_capacity a.cells) (vec_capacity a.bytes) held1 refl (le_refl _) (le_refl _)
             (all_one (Leads h.objects) (values.Dict (record { cell = names.cell })) (record { meets = leads; small = tt })) tt,
         replaced_seen a e n (Some o) cells1 a.bytes.items held1 refl

@@ -23,9 +23,9 @@ abbrev pub objects : Inside → List (Option ArenaObject)
 objects a = objects_of a.cells.items a.bytes.items
 
 abbrev pub Invariant : Inside → Type 0
-Invariant a = IsArena a.cells.items a.bytes.items a.room.cells a.room.bytes (vec_capacity a.cells) (vec_capacity a.bytes)
+Invariant a = IsArena a.keys a.cells.items a.bytes.items a.room.cells a.room.bytes (vec_capacity a.cells) (vec_capacity a.bytes)
 
-pub holds_now : (a : Inside) → Invariant a → Holds a.cells.items a.bytes.items (objects a)
+pub holds_now : (a : Inside) → Invariant a → Holds a.keys a.cells.items a.bytes.items (objects a)
 holds_now a i = record { kept = i.kept; linked = i.linked; objects = refl }
 
 pub seen_is : (a : Inside) {h : Heap Value ℕ} → seen a ≡ h → (kind : ObjectKind) (n : ℕ) → IsA h.objects kind n → IsA (objects a) kind n
@@ -57,8 +57,8 @@ pub seen_few : (a : Inside) {h : Heap Value ℕ} → Invariant a → seen a ≡ 
 seen_few a i e = subst (λ (w : Heap Value ℕ). w.cell_size < 2 ^ 32) e i.cells_few
 
 -- the invariant, after a call
-pub arena_again : (a : Inside) (cells : List Cell) (bytes : List ℕ) (obs : List (Option ArenaObject)) (cell_capacity byte_capacity : ℕ) → Invariant a → Holds cells bytes obs → Sound obs
-    → length cells ≤ a.room.cells → length bytes ≤ a.room.bytes → a.room.cells ≤ cell_capacity → a.room.bytes ≤ byte_capacity → IsArena cells bytes a.room.cells a.room.bytes cell_capacity byte_capacity
+pub arena_again : {keys : Option ℕ} (a : Inside) (cells : List Cell) (bytes : List ℕ) (obs : List (Option ArenaObject)) (cell_capacity byte_capacity : ℕ) → Invariant a → Holds keys cells bytes obs → Sound obs
+    → length cells ≤ a.room.cells → length bytes ≤ a.room.bytes → a.room.cells ≤ cell_capacity → a.room.bytes ≤ byte_capacity → IsArena keys cells bytes a.room.cells a.room.bytes cell_capacity byte_capacity
 arena_again a cells bytes obs cell_capacity byte_capacity i h s lc lb cc cb =
     record {
       kept = h.kept;
@@ -73,10 +73,10 @@ arena_again a cells bytes obs cell_capacity byte_capacity i h s lc lb cc cb =
     }
 
 -- the invariant after a making
-pub made_again : (a : Inside) {h : Heap Value ℕ} → Invariant a → seen a ≡ h → (o : ArenaObject) (cells : List Cell) (bytes : List ℕ) (cell_capacity byte_capacity : ℕ)
-    → Fits h (cells_of o) (bytes_of o) → Holds cells bytes (objects a ++ Some o ∷ replicate (more_cells o) None) → length bytes ≡ length a.bytes.items + bytes_of o
+pub made_again : {keys : Option ℕ} (a : Inside) {h : Heap Value ℕ} → Invariant a → seen a ≡ h → (o : ArenaObject) (cells : List Cell) (bytes : List ℕ) (cell_capacity byte_capacity : ℕ)
+    → Fits h (cells_of o) (bytes_of o) → Holds keys cells bytes (objects a ++ Some o ∷ replicate (more_cells o) None) → length bytes ≡ length a.bytes.items + bytes_of o
     → vec_capacity a.cells ≤ cell_capacity → vec_capacity a.bytes ≤ byte_capacity → All (Leads h.objects) (held (Some o)) → IsFormed (Some o)
-    → IsArena cells bytes a.room.cells a.room.bytes cell_capacity byte_capacity
+    → IsArena keys cells bytes a.room.cells a.room.bytes cell_capacity byte_capacity
 made_again a i e o cells bytes cell_capacity byte_capacity fits held1 lb cc cb leads formed =
     let none : Option ArenaObject = None in
     let f = seen_fits a e fits in
@@ -85,8 +85,8 @@ made_again a i e o cells bytes cell_capacity byte_capacity fits held1 lb cc cb l
     arena_again a cells bytes _ cell_capacity byte_capacity i held1 (sound_made (objects a) o (more_cells o) i.sound (seen_leads a e _ leads) formed)
     (omega (arith, f.0, l, length_held held1)) (omega (arith, f.1, lb)) (omega (arith, cc, i.cells_taken)) (omega (arith, cb, i.bytes_taken))
 
-pub made_seen : (a : Inside) {h : Heap Value ℕ} → seen a ≡ h → (o : ArenaObject) (cells : List Cell) (bytes : List ℕ) → Fits h (cells_of o) (bytes_of o)
-    → Holds cells bytes (objects a ++ Some o ∷ replicate (more_cells o) None) → length bytes ≡ length a.bytes.items + bytes_of o
+pub made_seen : {keys : Option ℕ} (a : Inside) {h : Heap Value ℕ} → seen a ≡ h → (o : ArenaObject) (cells : List Cell) (bytes : List ℕ) → Fits h (cells_of o) (bytes_of o)
+    → Holds keys cells bytes (objects a ++ Some o ∷ replicate (more_cells o) None) → length bytes ≡ length a.bytes.items + bytes_of o
     → (n : ℕ) → n ≡ length a.cells.items → Made h (heap_of cells bytes a.room.cells a.room.bytes) n o
 made_seen a e o cells bytes fits held1 lb n en =
     record {
@@ -97,10 +97,10 @@ made_seen a e o cells bytes fits held1 lb n en =
     }
 
 -- the invariant where an object was replaced by one of its kind
-pub replaced_again : (a : Inside) {h : Heap Value ℕ} → Invariant a → seen a ≡ h → (kind : ObjectKind) (n : ℕ) → IsA h.objects kind n → (o : ArenaObject) → kind_of (Some o) ≡ Some kind
-    → (cells : List Cell) (bytes : List ℕ) (cell_capacity byte_capacity : ℕ) → Holds cells bytes (set (objects a) n (Some o)) → length bytes ≡ length a.bytes.items
+pub replaced_again : {keys : Option ℕ} (a : Inside) {h : Heap Value ℕ} → Invariant a → seen a ≡ h → (kind : ObjectKind) (n : ℕ) → IsA h.objects kind n → (o : ArenaObject) → kind_of (Some o) ≡ Some kind
+    → (cells : List Cell) (bytes : List ℕ) (cell_capacity byte_capacity : ℕ) → Holds keys cells bytes (set (objects a) n (Some o)) → length bytes ≡ length a.bytes.items
     → vec_capacity a.cells ≤ cell_capacity → vec_capacity a.bytes ≤ byte_capacity → All (Leads h.objects) (held (Some o)) → IsFormed (Some o)
-    → IsArena cells bytes a.room.cells a.room.bytes cell_capacity byte_capacity
+    → IsArena keys cells bytes a.room.cells a.room.bytes cell_capacity byte_capacity
 replaced_again a i e kind n is o is_kind cells bytes cell_capacity byte_capacity held1 lb cc cb leads formed =
     let lo = length-objects a.cells.items a.bytes.items in
     let old = seen_is a e kind n is in
@@ -109,17 +109,17 @@ replaced_again a i e kind n is o is_kind cells bytes cell_capacity byte_capacity
     (sound_set (objects a) n (Some o) i.sound (omega (arith, seen_within a e kind n is, lo)) (λ k q. is_kind ∙ (sym old ∙ q)) (seen_leads a e _ leads) formed)
     (omega (arith, lc, i.cells_fit)) (omega (arith, lb, i.bytes_fit)) (omega (arith, cc, i.cells_taken)) (omega (arith, cb, i.bytes_taken))
 
-pub replaced_seen : (a : Inside) {h : Heap Value ℕ} → seen a ≡ h → (n : ℕ) (o : Option ArenaObject) (cells : List Cell) (bytes : List ℕ) → Holds cells bytes (set (objects a) n o) → length bytes ≡ length a.bytes.items
+pub replaced_seen : {keys : Option ℕ} (a : Inside) {h : Heap Value ℕ} → seen a ≡ h → (n : ℕ) (o : Option ArenaObject) (cells : List Cell) (bytes : List ℕ) → Holds keys cells bytes (set (objects a) n o) → length bytes ≡ length a.bytes.items
     → heap_of cells bytes a.room.cells a.room.bytes ≡ record h { objects = set h.objects n o }
 replaced_seen a e n o cells bytes held1 lb =
     ap₂ (λ (os : List (Option ArenaObject)) (j : ℕ). record { objects = os; bytes = j; cell_size = a.room.cells; byte_size = a.room.bytes }) held1.objects lb
     ∙ ap (λ (h : Heap Value ℕ). record h { objects = set h.objects n o }) e
 
 -- the same where cells were taken for it
-pub grown_again : (a : Inside) {h : Heap Value ℕ} → Invariant a → seen a ≡ h → (kind : ObjectKind) (n m : ℕ) → IsA h.objects kind n → (o : ArenaObject) → kind_of (Some o) ≡ Some kind
-    → (cells : List Cell) (cell_capacity : ℕ) → Fits h m 0 → Holds cells a.bytes.items (set (objects a ++ replicate m None) n (Some o))
+pub grown_again : {keys : Option ℕ} (a : Inside) {h : Heap Value ℕ} → Invariant a → seen a ≡ h → (kind : ObjectKind) (n m : ℕ) → IsA h.objects kind n → (o : ArenaObject) → kind_of (Some o) ≡ Some kind
+    → (cells : List Cell) (cell_capacity : ℕ) → Fits h m 0 → Holds keys cells a.bytes.items (set (objects a ++ replicate m None) n (Some o))
     → vec_capacity a.cells ≤ cell_capacity → All (Leads h.objects) (held (Some o)) → IsFormed (Some o)
-    → IsArena cells a.bytes.items a.room.cells a.room.bytes cell_capacity (vec_capacity a.bytes)
+    → IsArena keys cells a.bytes.items a.room.cells a.room.bytes cell_capacity (vec_capacity a.bytes)
 grown_again a i e kind n m is o is_kind cells cell_capacity fits held1 cc leads formed =
     let none : Option ArenaObject = None in
     let f = seen_fits a e fits in
@@ -132,7 +132,7 @@ grown_again a i e kind n m is o is_kind cells cell_capacity fits held1 cc leads 
     (sound_set more n (Some o) (sound_used (objects a) m i.sound) (omega (arith, seen_within a e kind n is, lo, lm)) (λ k q. is_kind ∙ (sym old ∙ q)) (all_later later _ (seen_leads a e _ leads)) formed)
     (omega (arith, f.0, lo, lm, length_held held1, length-set more n (Some o))) i.bytes_fit (omega (arith, cc, i.cells_taken)) i.bytes_taken
 
-pub grown_seen : (a : Inside) {h : Heap Value ℕ} → seen a ≡ h → (n m : ℕ) (o : ArenaObject) (cells : List Cell) → Holds cells a.bytes.items (set (objects a ++ replicate m None) n (Some o))
+pub grown_seen : {keys : Option ℕ} (a : Inside) {h : Heap Value ℕ} → seen a ≡ h → (n m : ℕ) (o : ArenaObject) (cells : List Cell) → Holds keys cells a.bytes.items (set (objects a ++ replicate m None) n (Some o))
     → heap_of cells a.bytes.items a.room.cells a.room.bytes ≡ with_object (with_used h m) n o
 grown_seen a e n m o cells held1 =
     ap (λ (os : List (Option ArenaObject)). record { objects = os; bytes = length a.bytes.items; cell_size = a.room.cells; byte_size = a.room.bytes }) held1.objects

@@ -13,6 +13,7 @@ use Rattle.arena_heap.specs.declared.cells.Cell.TheVariants.{TupleHead, TextHead
 use Rattle.mpy_base.specs.World.{Heap, TupleObject, TextObject, ATuple, AText, IsA, object, items_of, text_of, items_at, text_at, with_tuple, with_text}
 use Rattle.arena_heap.specs.Values.{ArenaObject, Leads, held, IsFormed}
 use Rattle.arena_heap.specs.Cells.{blank, cell_of, value_of, kind_at, heads, first, size, byte_first, byte_size, part, read, heap_of, In, Kept, Holds, IsArena}
+use Rattle.arena_heap.specs.Links.{without_text}
 use Rattle.arena_heap.proofs.CellValues.{value_of-cell_of}
 use Rattle.arena_heap.proofs.Regions.{length-part, get_or-part}
 use Rattle.arena_heap.proofs.Frame.{holds_item, holds_byte}
@@ -34,25 +35,25 @@ inside_tuple cells {a} kept n k e = subst (λ (h : Cell). first n h + size h ≤
 pub inside_text : (cells : List Cell) {a b : ℕ} → Kept (heads cells) a b → (n : ℕ) (t : Span) → heads cells n ≡ TextHead t → t.start + t.len ≤ b
 inside_text cells {a} {b} kept n t e = subst (λ (h : Cell). byte_first n h + byte_size h ≤ b) e (kept.bytes_apart.inside n)
 
-pub tuple_stored : {cells : List Cell} {bytes : List ℕ} {obs : List (Option ArenaObject)} → Holds cells bytes obs → (n i k : ℕ) (v : Value) → n < length cells
-    → heads cells n ≡ TupleHead k → i < k → Holds (set cells (suc n + i) (cell_of v)) bytes (set obs n (Some (TupleObject (set (map value_of (part cells (suc n) k)) i v))))
-tuple_stored {cells} {bytes} {obs} h n i k v low e lt =
+pub tuple_stored : {cells : List Cell} {bytes : List ℕ} {obs : List (Option ArenaObject)} {keys : Option ℕ} → Holds keys cells bytes obs → (n i k : ℕ) (v : Value) → n < length cells
+    → heads cells n ≡ TupleHead k → i < k → Holds keys (set cells (suc n + i) (cell_of v)) bytes (set obs n (Some (TupleObject (set (map value_of (part cells (suc n) k)) i v))))
+tuple_stored {cells} {bytes} {obs} {keys} h n i k v low e lt =
     let cells1 : List Cell = set cells (suc n + i) (cell_of v) in
-    subst (λ (o : Option ArenaObject). Holds cells1 bytes (set obs n o))
+    subst (λ (o : Option ArenaObject). Holds keys cells1 bytes (set obs n o))
     (ap (λ (c : Cell). read n c cells1 bytes) e
     ∙ ap (λ vs. Some (TupleObject vs)) (ap (map value_of) (part-set cells (suc n) k i (cell_of v) lt)
     ∙ (map-set value_of (part cells (suc n) k) i (cell_of v) ∙ ap (set (map value_of (part cells (suc n) k)) i) (value_of-cell_of v))))
     (holds_item h n (suc n + i) v low (subst (λ (c : Cell). In (first n c) (size c) (suc n + i)) (sym e) (record { low = omega arith; high = omega arith }))
-    (λ r2 q. let q2 : TupleHead k ≡ DictHead r2 = sym e ∙ q in absurd cc))
+    (λ below s r2 q. let q2 : TupleHead k ≡ DictHead r2 = sym e ∙ q in absurd cc))
 
-pub text_stored : {cells : List Cell} {bytes : List ℕ} {obs : List (Option ArenaObject)} → Holds cells bytes obs → (n i b : ℕ) (t : Span) → n < length cells
-    → heads cells n ≡ TextHead t → i < t.len → Holds cells (set bytes (t.start + i) b) (set obs n (Some (TextObject (set (part bytes t.start t.len) i b))))
-text_stored {cells} {bytes} {obs} h n i b t low e lt =
+pub text_stored : {cells : List Cell} {bytes : List ℕ} {obs : List (Option ArenaObject)} {keys : Option ℕ} → Holds keys cells bytes obs → (n i b : ℕ) (t : Span) → n < length cells
+    → heads cells n ≡ TextHead t → i < t.len → Holds (without_text keys n) cells (set bytes (t.start + i) b) (set obs n (Some (TextObject (set (part bytes t.start t.len) i b))))
+text_stored {cells} {bytes} {obs} {keys} h n i b t low e lt =
     let bytes1 : List ℕ = set bytes (t.start + i) b in
-    subst (λ (o : Option ArenaObject). Holds cells bytes1 (set obs n o))
+    subst (λ (o : Option ArenaObject). Holds (without_text keys n) cells bytes1 (set obs n o))
     (ap (λ (c : Cell). read n c cells bytes1) e
     ∙ ap (λ bs. Some (TextObject bs)) (ap (take t.len) (drop-set-add t.start bytes i b) ∙ take-set-lt t.len (drop t.start bytes) i b lt))
-    (holds_byte h n (t.start + i) b low (subst (λ (c : Cell). In (byte_first n c) (byte_size c) (t.start + i)) (sym e) (record { low = omega arith; high = omega arith })))
+    (holds_byte h n (t.start + i) b (subst (λ (c : Cell). In (byte_first n c) (byte_size c) (t.start + i)) (sym e) (record { low = omega arith; high = omega arith })) low)
 
 module _ (a : Inside) {h : Heap Value ℕ} (i : Invariant a) (e : seen a ≡ h) (n : ℕ) {k : ℕ} (head : heads a.cells.items n ≡ TupleHead k) where
   pub tuple_seen : object h.objects n ≡ Some (TupleObject (map value_of (part a.cells.items (suc n) k)))
@@ -81,19 +82,19 @@ module _ (a : Inside) {h : Heap Value ℕ} (i : Invariant a) (e : seen a ≡ h) 
       (subst (λ (o : Option ArenaObject). All (Leads h.objects) (held o)) tuple_seen ((seen_sound a i e).leads n))
 
   pub tuple_filled : (is : IsA h.objects ATuple n) (at : ℕ) (v : Value) (x : Cell) → at < k → x ≡ cell_of v → Leads h.objects v
-      → IsArena (set a.cells.items (n + 1 + at) x) a.bytes.items a.room.cells a.room.bytes (vec_capacity a.cells) (vec_capacity a.bytes)
+      → IsArena a.keys (set a.cells.items (n + 1 + at) x) a.bytes.items a.room.cells a.room.bytes (vec_capacity a.cells) (vec_capacity a.bytes)
       × (heap_of (set a.cells.items (n + 1 + at) x) a.bytes.items a.room.cells a.room.bytes ≡ with_tuple h n (set (items_at h n) at v))
   tuple_filled is at v x lt ex leads =
       let cells1 : List Cell = set a.cells.items (n + 1 + at) x in
       let o : ArenaObject = TupleObject (set (items_at h n) at v) in
       let place : suc n + at ≡ n + 1 + at = omega arith in
       let stored = tuple_stored (holds_now a i) n at k v (seen_within a e ATuple n is) head lt in
-      let held1 : Holds (set a.cells.items (n + 1 + at) (cell_of v)) a.bytes.items (set (objects a) n (Some (TupleObject (set (map value_of (part a.cells.items (suc n) k)) at v)))) =
-      subst (λ (j : ℕ). Holds (set a.cells.items j (cell_of v)) a.bytes.items (set (objects a) n (Some (TupleObject (set (map value_of (part a.cells.items (suc n) k)) at v))))) place stored in
-      let held2 : Holds cells1 a.bytes.items (set (objects a) n (Some (TupleObject (set (map value_of (part a.cells.items (suc n) k)) at v)))) =
-      subst (λ (y : Cell). Holds (set a.cells.items (n + 1 + at) y) a.bytes.items (set (objects a) n (Some (TupleObject (set (map value_of (part a.cells.items (suc n) k)) at v))))) (sym ex) held1 in
-      let held3 : Holds cells1 a.bytes.items (set (objects a) n (Some o)) =
-      subst (λ (vs : List Value). Holds cells1 a.bytes.items (set (objects a) n (Some (TupleObject (set vs at v))))) tuple_items held2 in (
+      let held1 : Holds a.keys (set a.cells.items (n + 1 + at) (cell_of v)) a.bytes.items (set (objects a) n (Some (TupleObject (set (map value_of (part a.cells.items (suc n) k)) at v)))) =
+      subst (λ (j : ℕ). Holds a.keys (set a.cells.items j (cell_of v)) a.bytes.items (set (objects a) n (Some (TupleObject (set (map value_of (part a.cells.items (suc n) k)) at v))))) place stored in
+      let held2 : Holds a.keys cells1 a.bytes.items (set (objects a) n (Some (TupleObject (set (map value_of (part a.cells.items (suc n) k)) at v)))) =
+      subst (λ (y : Cell). Holds a.keys (set a.cells.items (n + 1 + at) y) a.bytes.items (set (objects a) n (Some (TupleObject (set (map value_of (part a.cells.items (suc n) k)) at v))))) (sym ex) held1 in
+      let held3 : Holds a.keys cells1 a.bytes.items (set (objects a) n (Some o)) =
+      subst (λ (vs : List Value). Holds a.keys cells1 a.bytes.items (set (objects a) n (Some (TupleObject (set vs at v))))) tuple_items held2 in (
         replaced_again a i e ATuple n is o refl cells1 a.bytes.items (vec_capacity a.cells) (vec_capacity a.bytes) held3 refl (le_refl _) (le_refl _)
             (All-set (Leads h.objects) (items_at h n) at v leads tuple_leads) tt,
         replaced_seen a e n (Some o) cells1 a.bytes.items held3 refl,
@@ -113,14 +114,14 @@ module _ (a : Inside) {h : Heap Value ℕ} (i : Invariant a) (e : seen a ≡ h) 
   text_ascii = subst (All (λ (b : ℕ). b < 128)) text_bytes (subst IsFormed text_seen ((seen_sound a i e).formed n))
 
   pub text_filled : (is : IsA h.objects AText n) (at b : ℕ) → at < t.len → b < 128
-      → IsArena a.cells.items (set a.bytes.items (t.start + at) b) a.room.cells a.room.bytes (vec_capacity a.cells) (vec_capacity a.bytes)
+      → IsArena (without_text a.keys n) a.cells.items (set a.bytes.items (t.start + at) b) a.room.cells a.room.bytes (vec_capacity a.cells) (vec_capacity a.bytes)
       × (heap_of a.cells.items (set a.bytes.items (t.start + at) b) a.room.cells a.room.bytes ≡ with_text h n (set (text_at h n) at b))
   text_filled is at b lt ascii =
       let bytes1 : List ℕ = set a.bytes.items (t.start + at) b in
       let o : ArenaObject = TextObject (set (text_at h n) at b) in
       let l : length bytes1 ≡ length a.bytes.items = length-set a.bytes.items (t.start + at) b in
-      let held1 : Holds a.cells.items bytes1 (set (objects a) n (Some o)) =
-      subst (λ (bs : List ℕ). Holds a.cells.items bytes1 (set (objects a) n (Some (TextObject (set bs at b))))) text_bytes
+      let held1 : Holds (without_text a.keys n) a.cells.items bytes1 (set (objects a) n (Some o)) =
+      subst (λ (bs : List ℕ). Holds (without_text a.keys n) a.cells.items bytes1 (set (objects a) n (Some (TextObject (set bs at b))))) text_bytes
       (text_stored (holds_now a i) n at b t (seen_within a e AText n is) head lt) in (
         replaced_again a i e AText n is o refl a.cells.items bytes1 (vec_capacity a.cells) (vec_capacity a.bytes) held1 l (le_refl _) (le_refl _)
             (All-nil (Leads h.objects)) (All-set (λ (x : ℕ). x < 128) (text_at h n) at b ascii text_ascii),

@@ -1,9 +1,10 @@
 -- How the cells and the bytes of an arena are read as objects, and what is kept of them.
 use Rattle.std.specs.Prelude.{ℕ, suc, ◌+◌, ◌*◌, ◌^◌, ◌≤◌, ◌<◌, ◌≡◌, List, length, Option, Some, None, slice_index_or, map, take, drop}
-use Rattle.std.specs.List.{range_with_len}
+use Rattle.std.specs.List.{range_with_len, All}
 use Rattle.arena_heap.specs.declared.value.Value.{Value}
 use Rattle.arena_heap.specs.declared.value.Value.TheVariants as values
 use Rattle.arena_heap.specs.declared.value.StrNo.TheVariants as strs
+use Rattle.arena_heap.specs.declared.value.TextNo.{TextNo}
 use Rattle.arena_heap.specs.declared.cells.Cell.{Cell}
 use Rattle.arena_heap.specs.declared.cells.Cell.TheVariants as cells
 use Rattle.mpy_base.specs.World.{ListObject, TupleObject, TextObject, DictObject, FunctionObject, ExceptionObject, MethodObject, RangeObject, ModuleObject, Heap, ObjectKind, AList, ATuple, AText, ADict, AFunction, AnException, AMethod, ARange, AModule}
@@ -140,8 +141,8 @@ abbrev pub next_link : Cell → ℕ
 next_link (cells.Links first next) = next
 next_link _ = 0
 
-abbrev pub bucket_in : List Cell → ℕ → ℕ → ℕ
-bucket_in ps room at = bucket_of room (value_of (slice_index_or ps (3 * at) blank))
+abbrev pub bucket_in : (ℕ → List ℕ) → List Cell → ℕ → ℕ → ℕ
+bucket_in texts ps room at = bucket_of texts room (value_of (slice_index_or ps (3 * at) blank))
 
 abbrev pub first_in : List Cell → ℕ → ℕ
 first_in ps bucket = first_link (slice_index_or ps (3 * bucket + 2) blank)
@@ -149,13 +150,37 @@ first_in ps bucket = first_link (slice_index_or ps (3 * bucket + 2) blank)
 abbrev pub next_in : List Cell → ℕ → ℕ
 next_in ps at = next_link (slice_index_or ps (3 * at + 2) blank)
 
--- the links of a dict's cells lead through its pairs
-abbrev pub AreLinked : List Cell → ℕ → ℕ → Type 0
-AreLinked ps room len = AreChained (bucket_in ps room) (first_in ps) (next_in ps) room len
+-- the links of a dict's cells lead through its pairs, where texts that were made have these bytes
+abbrev pub AreLinked : (ℕ → List ℕ) → List Cell → ℕ → ℕ → Type 0
+AreLinked texts ps room len = AreChained (bucket_in texts ps room) (first_in ps) (next_in ps) room len
+
+-- the key, where it is a text that was made, lies below a cell
+abbrev pub IsBelow : ℕ → Value × Value → Type 0
+IsBelow below pair = (t : TextNo) → pair.0 ≡ values.Text t → t.cell < below
 
 -- where the head is that of a dict, its links lead through its pairs
-abbrev pub Links : Cell → List Cell → Type 0
-Links head whole = (r : Region) → head ≡ cells.DictHead r → AreLinked (part whole r.start (3 * r.room)) r.room r.len
+abbrev pub Links : (ℕ → List ℕ) → ℕ → Cell → List Cell → Type 0
+Links texts below head whole =
+    (r : Region) → head ≡ cells.DictHead r
+    → AreLinked texts (part whole r.start (3 * r.room)) r.room r.len × All (IsBelow below) (pairs_in (part whole r.start (3 * r.room)) r.len)
+
+-- the bytes of the texts that were made, by their numbers
+abbrev pub texts_in : List Cell → List ℕ → ℕ → List ℕ
+texts_in cells bytes n = let head = heads cells n in part bytes (byte_first n head) (byte_size head)
+
+-- the texts' bytes lie among these
+abbrev pub HaveBytes : List Cell → List ℕ → Type 0
+HaveBytes cells bytes = (n : ℕ) → byte_first n (heads cells n) + byte_size (heads cells n) ≤ length bytes
+
+-- all dicts are linked, and the texts among their keys lie below a cell
+pub record Linked (below : ℕ) (cells : List Cell) (bytes : List ℕ) : Type 0 where
+  pub few : below ≤ length cells
+  pub each : (n : ℕ) → Links (texts_in cells bytes) below (heads cells n) cells
+
+-- unless a text that is a key was written later
+abbrev pub AreAllLinked : Option ℕ → List Cell → List ℕ → Type 0
+AreAllLinked None cells bytes = Unit {0}
+AreAllLinked (Some below) cells bytes = Linked below cells bytes
 
 -- the dict that a cell leads to, if it does
 abbrev pub dict_in : Cell → Option ℕ
@@ -224,10 +249,10 @@ abbrev pub heap_of : List Cell → List ℕ → ℕ → ℕ → Heap Value ℕ
 heap_of cells bytes cell_size byte_size =
     record { objects = objects_of cells bytes; bytes = length bytes; cell_size = cell_size; byte_size = byte_size }
 
--- what is kept of an arena of these sizes, whose vectors have this capacity
-pub record IsArena (cells : List Cell) (bytes : List ℕ) (cell_size byte_size cell_capacity byte_capacity : ℕ) : Type 0 where
+-- what is kept of an arena of these sizes, whose vectors have this capacity, and whose keys that are texts lie below a cell
+pub record IsArena (keys : Option ℕ) (cells : List Cell) (bytes : List ℕ) (cell_size byte_size cell_capacity byte_capacity : ℕ) : Type 0 where
   pub kept : Kept (heads cells) (length cells) (length bytes)
-  pub linked : (n : ℕ) → Links (heads cells n) cells
+  pub linked : AreAllLinked keys cells bytes
   pub sound : Sound (objects_of cells bytes)
   pub cells_fit : length cells ≤ cell_size
   pub bytes_fit : length bytes ≤ byte_size
@@ -237,9 +262,9 @@ pub record IsArena (cells : List Cell) (bytes : List ℕ) (cell_size byte_size c
   pub bytes_taken : byte_size ≤ byte_capacity
 
 -- the cells and bytes are kept, dicts are linked, and these objects are held
-pub record Holds (cells : List Cell) (bytes : List ℕ) (obs : List (Option ArenaObject)) : Type 0 where
+pub record Holds (keys : Option ℕ) (cells : List Cell) (bytes : List ℕ) (obs : List (Option ArenaObject)) : Type 0 where
   pub kept : Kept (heads cells) (length cells) (length bytes)
-  pub linked : (n : ℕ) → Links (heads cells n) cells
+  pub linked : AreAllLinked keys cells bytes
   pub objects : objects_of cells bytes ≡ obs
 
 -- a dict's cells were written at its links alone

@@ -16,6 +16,9 @@ pub struct Arena {
     pub(crate) cells: Vec<Cell>,
     pub(crate) bytes: Vec<u8>,
     pub(crate) room: Room,
+    /// The texts among the keys of dicts lie below this cell. None: one of them was written later, and dicts aren't linked
+    /// any more.
+    pub(crate) keys: Option<u32>,
 }
 
 impl Model for Arena {
@@ -29,7 +32,7 @@ impl Model for Arena {
 
     ghost view = { λ a. heap_of a.cells.items a.bytes.items a.room.cells a.room.bytes };
 
-    ghost invariant = { λ a. IsArena a.cells.items a.bytes.items a.room.cells a.room.bytes (vec_capacity a.cells) (vec_capacity a.bytes) };
+    ghost invariant = { λ a. IsArena a.keys a.cells.items a.bytes.items a.room.cells a.room.bytes (vec_capacity a.cells) (vec_capacity a.bytes) };
 }
 
 impl Arena {
@@ -39,7 +42,12 @@ impl Arena {
     {
         let cells = Vec::with_capacity(alloc, room.cells as usize)?;
         let bytes = Vec::with_capacity(alloc, room.bytes as usize)?;
-        Ok(Arena { cells, bytes, room })
+        Ok(Arena {
+            cells,
+            bytes,
+            room,
+            keys: Some(0),
+        })
     }
 
     /// The room used.

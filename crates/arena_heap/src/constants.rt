@@ -31,6 +31,10 @@ pub trait Constants {
     fn one_number_law(&self)
         ensures { (text : List ℕ) (m n : ℕ) → text_of self.now (StrNo.Pool m) ≡ Some text → text_of self.now (StrNo.Pool n) ≡ Some text → m ≡ n };
 
+    /// The number that a text has, if any.
+    fn number(&self, text: &[u8]) -> Option<u32>
+        ensures { (n : ℕ) → text_of self.now (StrNo.Pool n) ≡ Some text.now → result ≡ Some n };
+
     /// No constant tuple holds an object of an arena.
     fn items_law(&self)
         ensures { HoldNoObjects (items_of self.now) };

@@ -1,17 +1,18 @@
 //! Calls on dicts by the places of their pairs, in the order of insertion.
 
-ghost use Rattle.std.specs.Prelude.{◌≡◌, ◌+◌, ◌<◌, length, ◌++◌, ◌∷◌, [], Some, IfErr, OnOk, IfSome, slice_get};
+ghost use Rattle.std.specs.Prelude.{◌≡◌, ◌+◌, ◌%◌, ◌<◌, length, ◌++◌, ◌∷◌, [], Some, IfErr, OnOk, IfSome, slice_get};
 ghost use Rattle.std.specs.List.{remove};
-ghost use Rattle.mpy_base.specs.World.{ADict, IsA, Later, pairs_at, room_at, with_dict};
+ghost use Rattle.mpy_base.specs.World.{ADict, IsA, Later, pairs_at, room_at, text_at, with_dict};
 ghost use Rattle.mpy_base.specs.Weights.{Fits, Refused, dict_growth, with_dict_room, with_pairs};
 ghost use Rattle.arena_heap.specs.Values.{Leads, IsKey};
 ghost use Rattle.arena_heap.specs.Dicts.{with_value};
-ghost use Rattle.arena_heap.specs.Links.{IsLast, bucket_of, buckets_at};
+ghost use Rattle.arena_heap.specs.Links.{IsLast, text_code, bucket_of, buckets_at};
 
 use crate::arena::Arena;
 use crate::cells::{Cell, Region};
 use crate::heads::dict_region;
-use crate::links::{bucket_of, link, link_all};
+use crate::keys::with_key;
+use crate::links::{bucket_of, link, link_all, text_bucket};
 use crate::lists::move_cells;
 use crate::value::{DictNo, Value};
 use mpy_base::NoRoom;
@@ -43,24 +44,48 @@ pub fn dict_at(arena: &Arena, d: DictNo, at: u32) -> Option<(Value, Value)>
     }
 }
 
-/// One more than the place of the last pair in a key's bucket, or 0 where there is none. Equal keys have one bucket.
-pub fn dict_last(arena: &Arena, d: DictNo, key: Value) -> u32
+/// One more than the place of the last pair in a key's bucket, or 0 where there is none. Equal keys have one bucket, unless
+/// they are strs. None where dicts aren't linked any more.
+pub fn dict_last(arena: &Arena, d: DictNo, key: Value) -> Option<u32>
     requires { IsA arena.now.objects ADict d.cell }
-    ensures { IsLast (buckets_at arena.now d.cell) (bucket_of (room_at arena.now d.cell) key) (length (pairs_at arena.now d.cell)) result }
+    ensures { IfSome result (IsLast (buckets_at arena.now d.cell) (bucket_of (text_at arena.now) (room_at arena.now d.cell) key) (length (pairs_at arena.now d.cell))) }
 {
     let region = dict_region(&arena.cells, d.cell);
-    let bucket = bucket_of(region.room, key);
-    arena.cells[(region.start + 3 * bucket + 2) as usize].first()
+    let bucket = bucket_of(&arena.cells, &arena.bytes, region.room, key);
+    let last = arena.cells[(region.start + 3 * bucket + 2) as usize].first();
+    match arena.keys {
+        Some(_) => Some(last),
+        None => None,
+    }
 }
 
-/// One more than the place of the last pair in front of a pair in its bucket, or 0 where there is none.
-pub fn dict_before(arena: &Arena, d: DictNo, at: u32) -> u32
-    requires dict { IsA arena.now.objects ADict d.cell }
-    requires within { at < length (pairs_at arena.now d.cell) }
-    ensures { IsLast (buckets_at arena.now d.cell) (buckets_at arena.now d.cell at) at result }
+/// The same of the bucket where the texts that were made stand with these bytes.
+pub fn dict_last_text(arena: &Arena, d: DictNo, bytes: &[u8]) -> Option<u32>
+    requires { IsA arena.now.objects ADict d.cell }
+    ensures { IfSome result (IsLast (buckets_at arena.now d.cell) (text_code bytes.now % room_at arena.now d.cell) (length (pairs_at arena.now d.cell))) }
 {
     let region = dict_region(&arena.cells, d.cell);
-    arena.cells[(region.start + 3 * at + 2) as usize].next()
+    let bucket = text_bucket(region.room, bytes);
+    let last = arena.cells[(region.start + 3 * bucket + 2) as usize].first();
+    match arena.keys {
+        Some(_) => Some(last),
+        None => None,
+    }
+}
+
+/// One more than the place of the last pair in front of a pair in its bucket, or 0 where there is none. None where dicts
+/// aren't linked any more.
+pub fn dict_before(arena: &Arena, d: DictNo, at: u32) -> Option<u32>
+    requires dict { IsA arena.now.objects ADict d.cell }
+    requires within { at < length (pairs_at arena.now d.cell) }
+    ensures { IfSome result (IsLast (buckets_at arena.now d.cell) (buckets_at arena.now d.cell at) at) }
+{
+    let region = dict_region(&arena.cells, d.cell);
+    let front = arena.cells[(region.start + 3 * at + 2) as usize].next();
+    match arena.keys {
+        Some(_) => Some(front),
+        None => None,
+    }
 }
 
 /// Puts a value in the place of a pair's value. Its key stays.
@@ -96,7 +121,7 @@ pub(crate) fn reserve_dict(arena: &mut Arena, d: DictNo, pairs: u64) -> Result<(
         len: region.len,
         room,
     };
-    link_all(&mut arena.cells, moved);
+    link_all(&mut arena.cells, &arena.bytes, moved);
     arena.cells[d.cell as usize] = Cell::DictHead(moved);
     Ok(())
 }
@@ -114,13 +139,15 @@ pub(crate) fn put_in_dict(arena: &mut Arena, d: DictNo, key: Value, v: Value)
     let place = (region.start + 3 * region.len) as usize;
     arena.cells[place] = Cell::of(key);
     arena.cells[place + 1] = Cell::of(v);
-    link(&mut arena.cells, region, region.len);
+    link(&mut arena.cells, &arena.bytes, region, region.len);
     let longer = Region {
         start: region.start,
         len: region.len + 1,
         room: region.room,
     };
     arena.cells[d.cell as usize] = Cell::DictHead(longer);
+    let keys = with_key(arena.keys, key);
+    arena.keys = keys;
 }
 
 /// Puts a pair behind the others. A full dict moves to its next room. The caller sees to it that no pair has an equal key.
@@ -160,7 +187,7 @@ pub fn dict_remove_at(arena: &mut Arena, d: DictNo, at: u32) -> (Value, Value)
         len: region.len - 1,
         room: region.room,
     };
-    link_all(&mut arena.cells, shorter);
+    link_all(&mut arena.cells, &arena.bytes, shorter);
     arena.cells[d.cell as usize] = Cell::DictHead(shorter);
     (key, v)
 }

@@ -5,6 +5,7 @@ ghost use Rattle.mpy_base.specs.World.{AText, IsA, Later, text_at, with_text};
 
 use crate::arena::Arena;
 use crate::heads::text_span;
+use crate::keys::without_text;
 use crate::value::TextNo;
 
 /// The bytes of a text that was made, each below 0x80.
@@ -29,4 +30,6 @@ pub fn text_fill(arena: &mut Arena, t: TextNo, at: u32, byte: u8)
 {
     let span = text_span(&arena.cells, t.cell);
     arena.bytes[(span.start + at) as usize] = byte;
+    let keys = without_text(arena.keys, t.cell);
+    arena.keys = keys;
 }

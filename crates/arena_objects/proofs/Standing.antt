@@ -3,13 +3,13 @@ use Rattle.std.proofs.Common.{ℕ, ◌≡◌, List, length, Option, Some, None, 
 use Rattle.std.specs.Option.{IfSome, IfNone}
 use Rattle.arena_heap.specs.declared.value.Value.{Value}
 use Rattle.arena_heap.specs.declared.value.StrNo.{StrNo}
-use Rattle.mpy_base.specs.World.{Heap, pairs_at, room_at}
+use Rattle.mpy_base.specs.World.{Heap, pairs_at, room_at, text_at}
 use Rattle.arena_heap.specs.Links.{bucket_of}
 use Rattle.py_values.specs.Keys.{PlainKey}
 use Rattle.arena_objects.specs.Keys.{key_of, key_in, StandsAt, Lacks}
 use Rattle.arena_objects.specs.Found.{FirstFrom, HasKey, HasKeyIn}
 use Rattle.arena_objects.proofs.Following.{first_same}
-use Rattle.arena_objects.proofs.KeyCodes.{IsNumber, not_text, same_bucket}
+use Rattle.arena_objects.proofs.KeyCodes.{IsText, same_bucket}
 
 module _ (texts : StrNo → Option (List ℕ)) (heap : Heap Value ℕ) (d : ℕ) (key : Value) (p : PlainKey) (e : key_of texts heap key ≡ Some p) where
   pub first_stands : (found : Option ℕ) → FirstFrom (HasKey texts heap d p) (length (pairs_at heap d)) 0 found → IfSome found (StandsAt texts heap d key)
@@ -21,8 +21,14 @@ module _ (texts : StrNo → Option (List ℕ)) (heap : Heap Value ℕ) (d : ℕ)
   first_lacks (Some at) first = tt
 
   -- a key that is no str stands in its bucket alone
-  pub number_first : IsNumber key → (found : Option ℕ) → FirstFrom (HasKeyIn texts heap d p (bucket_of (room_at heap d) key)) (length (pairs_at heap d)) 0 found
+  pub number_first : (IsText p → ⊥) → (found : Option ℕ) → FirstFrom (HasKeyIn texts heap d p (bucket_of (text_at heap) (room_at heap d) key)) (length (pairs_at heap d)) 0 found
       → FirstFrom (HasKey texts heap d p) (length (pairs_at heap d)) 0 found
-  number_first is found first =
-      first_same (HasKeyIn texts heap d p (bucket_of (room_at heap d) key)) (HasKey texts heap d p) (length (pairs_at heap d)) found (λ k has. has.0)
-      (λ k has. (has, same_bucket texts heap (room_at heap d) (key_in (pairs_at heap d) k) key p has e (not_text texts heap key p is e))) first
+  number_first no_text found first =
+      first_same (HasKeyIn texts heap d p (bucket_of (text_at heap) (room_at heap d) key)) (HasKey texts heap d p) (length (pairs_at heap d)) found (λ k has. has.0)
+      (λ k has. (has, same_bucket texts heap (room_at heap d) (key_in (pairs_at heap d) k) key p has e no_text)) first
+
+  -- and the same of what a walk by the links told
+  pub number_found : (IsText p → ⊥) → (result : Option (Option ℕ)) → IfSome result (FirstFrom (HasKeyIn texts heap d p (bucket_of (text_at heap) (room_at heap d) key)) (length (pairs_at heap d)) 0)
+      → IfSome result (FirstFrom (HasKey texts heap d p) (length (pairs_at heap d)) 0)
+  number_found no_text None first = tt
+  number_found no_text (Some found) first = number_first no_text found first

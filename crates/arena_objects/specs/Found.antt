@@ -1,9 +1,11 @@
 -- The first place of a dict's pairs where something holds.
 use Rattle.std.specs.Prelude.{◌≡◌, ℕ, ◌<◌, ◌≤◌, min, List, Option, Some, None}
-use Rattle.mpy_base.specs.World.{Heap, pairs_at}
+use Rattle.mpy_base.specs.World.{Heap, pairs_at, room_at, text_at}
 use Rattle.arena_heap.specs.declared.value.Value.{Value}
+use Rattle.arena_heap.specs.declared.value.Value.TheVariants as values
 use Rattle.arena_heap.specs.declared.value.StrNo.{StrNo}
-use Rattle.arena_heap.specs.Links.{buckets_at}
+use Rattle.arena_heap.specs.declared.value.StrNo.TheVariants as strs
+use Rattle.arena_heap.specs.Links.{buckets_at, bucket_of}
 use Rattle.py_values.specs.Keys.{PlainKey}
 use Rattle.arena_objects.specs.Keys.{key_of, key_in}
 
@@ -24,3 +26,9 @@ HasKey texts heap d key at = key_of texts heap (key_in (pairs_at heap d) at) ≡
 -- and stands in this bucket
 abbrev pub HasKeyIn : (StrNo → Option (List ℕ)) → Heap Value ℕ → ℕ → PlainKey → ℕ → ℕ → Type 0
 HasKeyIn texts heap d key bucket at = HasKey texts heap d key at × (buckets_at heap d at ≡ bucket)
+
+-- the same of the bucket of a number's text, where there is such a number
+abbrev pub HasKeyNamed : (StrNo → Option (List ℕ)) → Heap Value ℕ → ℕ → PlainKey → Option ℕ → ℕ → Type 0
+HasKeyNamed texts heap d key None at = ⊥
+HasKeyNamed texts heap d key (Some number) at =
+    HasKeyIn texts heap d key (bucket_of (text_at heap) (room_at heap d) (values.Str (strs.Pool number))) at

@@ -1,17 +1,19 @@
 //! Where a dict has a key.
 
-ghost use Rattle.std.specs.Prelude.{◌≡◌, ◌<◌, ◌↔◌, length, Some, IsTrue, IfSome, IfNone};
-ghost use Rattle.mpy_base.specs.World.{ADict, IsA, pairs_at, room_at};
+ghost use Rattle.std.specs.Prelude.{◌≡◌, ℕ, ◌%◌, ◌<◌, ◌≤◌, ◌↔◌, length, Some, IsTrue, IfSome, IfNone};
+ghost use Rattle.mpy_base.specs.World.{ADict, IsA, pairs_at, room_at, text_at};
 ghost use Rattle.arena_heap.specs.Values.{Leads, IsKey};
 ghost use Rattle.arena_heap.specs.Constants.{IsTold};
-ghost use Rattle.arena_heap.specs.Links.{bucket_of};
-ghost use Rattle.arena_objects.specs.Found.{FirstFrom, HasKey, HasKeyIn, least};
+ghost use Rattle.arena_heap.specs.Links.{IsLast, buckets_at, bucket_of, text_code};
+ghost use Rattle.py_values.specs.Keys.{TextKey};
+ghost use Rattle.arena_objects.specs.Found.{FirstFrom, HasKey, HasKeyIn, HasKeyNamed, least};
 ghost use Rattle.arena_objects.specs.Keys.{key_of, StandsAt, Lacks, AllTold};
 ghost use Rattle.arena_objects.specs.PlainKeys.{plain};
 
 use crate::keys::Key;
 use arena_heap::{
-    Arena, Constants, DictNo, StrNo, Value, dict_at, dict_before, dict_last, dict_len,
+    Arena, Constants, DictNo, StrNo, Value, dict_at, dict_before, dict_last, dict_last_text,
+    dict_len,
 };
 
 /// Whether the pair at a place has this key.
@@ -41,28 +43,82 @@ fn in_dict<C: Constants>(arena: &Arena, consts: &C, d: DictNo, sought: Key) -> O
     None
 }
 
-/// The first pair with this key in the bucket of another, by a walk over the pairs of the bucket, from the last one on.
+/// The first pair with this key in a bucket, by a walk over the pairs of the bucket, from the last one on, which has the
+/// place `last - 1`. None where dicts aren't linked any more, here and in what follows.
+fn in_chain<C: Constants>(
+    arena: &Arena,
+    consts: &C,
+    d: DictNo,
+    sought: Key,
+    last: u32,
+) -> Option<Option<u32>>
+    requires dict { IsA arena.now.objects ADict d.cell }
+    requires all_told { AllTold (C.text_of consts.now) (C.items_of consts.now) arena.now.objects }
+    requires within { last ≤ length (pairs_at arena.now d.cell) }
+    ensures { (bucket : ℕ) → IsLast (buckets_at arena.now d.cell) bucket (length (pairs_at arena.now d.cell)) last
+        → IfSome result (FirstFrom (HasKeyIn (C.text_of consts.now) arena.now d.cell (plain sought.entry) bucket) (length (pairs_at arena.now d.cell)) 0) }
+{
+    let mut found = None;
+    let mut end = last;
+    while end > 0 {
+        let at = end - 1;
+        let front = dict_before(arena, d, at)?;
+        end = front;
+        if has_key(arena, consts, d, at, sought) {
+            found = Some(at);
+        }
+    }
+    Some(found)
+}
+
+/// The first pair with this key in the bucket of another.
 fn in_bucket<C: Constants>(
     arena: &Arena,
     consts: &C,
     d: DictNo,
     sought: Key,
     other: Value,
-) -> Option<u32>
+) -> Option<Option<u32>>
     requires dict { IsA arena.now.objects ADict d.cell }
     requires all_told { AllTold (C.text_of consts.now) (C.items_of consts.now) arena.now.objects }
-    ensures { FirstFrom (HasKeyIn (C.text_of consts.now) arena.now d.cell (plain sought.entry) (bucket_of (room_at arena.now d.cell) other)) (length (pairs_at arena.now d.cell)) 0 result }
+    ensures { IfSome result (FirstFrom (HasKeyIn (C.text_of consts.now) arena.now d.cell (plain sought.entry) (bucket_of (text_at arena.now) (room_at arena.now d.cell) other)) (length (pairs_at arena.now d.cell)) 0) }
 {
-    let mut found = None;
-    let mut end = dict_last(arena, d, other);
-    while end > 0 {
-        let at = end - 1;
-        end = dict_before(arena, d, at);
-        if has_key(arena, consts, d, at, sought) {
-            found = Some(at);
-        }
+    let last = dict_last(arena, d, other)?;
+    in_chain(arena, consts, d, sought, last)
+}
+
+/// The first pair with this key in the bucket where the texts that were made stand with these bytes.
+fn in_text_bucket<C: Constants>(
+    arena: &Arena,
+    consts: &C,
+    d: DictNo,
+    sought: Key,
+    bytes: &[u8],
+) -> Option<Option<u32>>
+    requires dict { IsA arena.now.objects ADict d.cell }
+    requires all_told { AllTold (C.text_of consts.now) (C.items_of consts.now) arena.now.objects }
+    ensures { IfSome result (FirstFrom (HasKeyIn (C.text_of consts.now) arena.now d.cell (plain sought.entry) (text_code bytes.now % room_at arena.now d.cell)) (length (pairs_at arena.now d.cell)) 0) }
+{
+    let last = dict_last_text(arena, d, bytes)?;
+    in_chain(arena, consts, d, sought, last)
+}
+
+/// The first pair with this key in the bucket of a number's text, where there is such a number.
+fn in_named_bucket<C: Constants>(
+    arena: &Arena,
+    consts: &C,
+    d: DictNo,
+    sought: Key,
+    number: Option<u32>,
+) -> Option<Option<u32>>
+    requires dict { IsA arena.now.objects ADict d.cell }
+    requires all_told { AllTold (C.text_of consts.now) (C.items_of consts.now) arena.now.objects }
+    ensures { IfSome result (FirstFrom (HasKeyNamed (C.text_of consts.now) arena.now d.cell (plain sought.entry) number) (length (pairs_at arena.now d.cell)) 0) }
+{
+    match number {
+        Some(n) => in_bucket(arena, consts, d, sought, Value::Str(StrNo::Pool(n))),
+        None => Some(None),
     }
-    found
 }
 
 /// The lesser of two places.
@@ -76,27 +132,77 @@ fn least(first: Option<u32>, second: Option<u32>) -> Option<u32>
     }
 }
 
-/// The first pair with a text of the constants as its key: it has the number of the text, or no number.
-fn with_name<C: Constants>(
+/// The number of the bytes of a text of the constants, if they have one.
+fn name_number<C: Constants>(consts: &C, name: StrNo, bytes: &[u8]) -> Option<u32>
+    requires { (n : ℕ) → name ≡ StrNo.Pool n → C.text_of consts.now (StrNo.Pool n) ≡ Some bytes.now }
+    ensures { (n : ℕ) → C.text_of consts.now (StrNo.Pool n) ≡ Some bytes.now → result ≡ Some n }
+{
+    match name {
+        StrNo::Pool(n) => {
+            consts.one_number_law();
+            Some(n)
+        }
+        StrNo::Object(_) => consts.number(bytes),
+    }
+}
+
+/// The same of the bytes of a str.
+fn number_of<C: Constants>(consts: &C, s: Value, bytes: &[u8]) -> Option<u32>
+    requires { (n : ℕ) → s ≡ Value.Str (StrNo.Pool n) → C.text_of consts.now (StrNo.Pool n) ≡ Some bytes.now }
+    ensures { (n : ℕ) → C.text_of consts.now (StrNo.Pool n) ≡ Some bytes.now → result ≡ Some n }
+{
+    match s {
+        Value::Str(name) => name_number(consts, name, bytes),
+        _ => consts.number(bytes),
+    }
+}
+
+/// The first pair whose key is a str with these bytes: it was made, has their number, or is another constant.
+fn with_text<C: Constants>(
     arena: &Arena,
     consts: &C,
     d: DictNo,
     sought: Key,
-    name: u32,
-) -> Option<u32>
+    bytes: &[u8],
+    number: Option<u32>,
+) -> Option<Option<u32>>
     requires dict { IsA arena.now.objects ADict d.cell }
     requires all_told { AllTold (C.text_of consts.now) (C.items_of consts.now) arena.now.objects }
-    requires name { key_of (C.text_of consts.now) arena.now (Value.Str (StrNo.Pool name)) ≡ Some (plain sought) }
-    ensures { FirstFrom (HasKey (C.text_of consts.now) arena.now d.cell (plain sought.entry)) (length (pairs_at arena.now d.cell)) 0 result }
+    requires text { plain sought ≡ TextKey bytes.now }
+    requires number { (n : ℕ) → C.text_of consts.now (StrNo.Pool n) ≡ Some bytes.now → number ≡ Some n }
+    ensures { IfSome result (FirstFrom (HasKey (C.text_of consts.now) arena.now d.cell (plain sought.entry)) (length (pairs_at arena.now d.cell)) 0) }
 {
-    consts.one_number_law();
-    let named = in_bucket(arena, consts, d, sought, Value::Str(StrNo::Pool(name)));
-    let others = in_bucket(arena, consts, d, sought, Value::None);
-    least(named, others)
+    let made = in_text_bucket(arena, consts, d, sought, bytes)?;
+    let others = in_bucket(arena, consts, d, sought, Value::None)?;
+    let named = in_named_bucket(arena, consts, d, sought, number)?;
+    let unnamed = least(made, others);
+    Some(least(unnamed, named))
 }
 
-/// The place of the first pair whose key is equal. It costs the pairs of the key's bucket, and those of the strs that are
-/// no texts of the constants; for such a str it costs all pairs.
+/// The first pair with this key, by the links.
+fn by_links<C: Constants>(
+    arena: &Arena,
+    consts: &C,
+    d: DictNo,
+    sought: Key,
+    key: Value,
+) -> Option<Option<u32>>
+    requires dict { IsA arena.now.objects ADict d.cell }
+    requires all_told { AllTold (C.text_of consts.now) (C.items_of consts.now) arena.now.objects }
+    requires sought { key_of (C.text_of consts.now) arena.now key ≡ Some (plain sought) }
+    ensures { IfSome result (FirstFrom (HasKey (C.text_of consts.now) arena.now d.cell (plain sought.entry)) (length (pairs_at arena.now d.cell)) 0) }
+{
+    match sought {
+        Key::Text(bytes) => {
+            let number = number_of(consts, key, bytes);
+            with_text(arena, consts, d, sought, bytes, number)
+        }
+        _ => in_bucket(arena, consts, d, sought, key),
+    }
+}
+
+/// The place of the first pair whose key is equal. It costs the pairs of a few buckets, and those of constant strs that have
+/// no number; all pairs where a text that is a key was written later.
 pub(crate) fn place_of<C: Constants>(
     arena: &Arena,
     consts: &C,
@@ -112,9 +218,8 @@ pub(crate) fn place_of<C: Constants>(
     ensures none { IfNone result (Lacks (C.text_of consts.now) arena.now d.cell key) }
 {
     let sought = Key::of(arena, consts, key);
-    match key {
-        Value::None | Value::Bool(_) | Value::Int(_) => in_bucket(arena, consts, d, sought, key),
-        Value::Str(StrNo::Pool(name)) => with_name(arena, consts, d, sought, name),
-        _ => in_dict(arena, consts, d, sought),
+    match by_links(arena, consts, d, sought, key) {
+        Some(found) => found,
+        None => in_dict(arena, consts, d, sought),
     }
 }

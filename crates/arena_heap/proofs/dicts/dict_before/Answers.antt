@@ -34,9 +34,9 @@ index-requires c =
     let len = seen_dict_len c.arena.inside c.arena.view_is c.args.d.cell c.dict_region-region.ensures in
     omega (arith, c.requires.within)
 
-pub returns : goal.returns
-returns c =
+pub returns-in-Some : goal.returns-in-Some
+returns-in-Some c =
     let r = c.dict_region-region.result in
     let len = seen_dict_len c.arena.inside c.arena.view_is c.args.d.cell c.dict_region-region.ensures in
-    seen_next c.arena.inside c.arena.invariant c.arena.view_is c.args.d.cell c.dict_region-region.ensures c.args.at (r.start + 3 * c.args.at + 2) c.next.result c.index.result.now
-    (omega (arith, c.requires.within)) refl c.index.ensures c.next.ensures
+    seen_next c.arena.inside c.arena.invariant c.arena.view_is c.args.d.cell c.dict_region-region.ensures c.in-Some.is c.args.at (r.start + 3 * c.args.at + 2) c.next-front.result c.index.result.now
+    (omega (arith, c.requires.within)) refl c.index.ensures c.next-front.ensures

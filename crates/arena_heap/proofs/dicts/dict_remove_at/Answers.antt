@@ -6,7 +6,8 @@ use Rattle.arena_heap.specs.declared.value.Value.{Value}
 use Rattle.mpy_base.specs.World.{Heap, ADict, Later, pairs_at}
 use Rattle.mpy_base.proofs.Worlds.{later_dict}
 use Rattle.arena_heap.specs.Values.{Leads}
-use Rattle.arena_heap.proofs.DictCells.{removed_plain}
+use Rattle.arena_heap.proofs.DictCells.{removed_plain, removed_heads}
+use Rattle.arena_heap.proofs.KeyTexts.{bytes_same}
 use Rattle.arena_heap.proofs.DictSeen.{seen_dict_len, seen_pair, dict_pairs, dict_lies, removed_seen}
 use Rattle.arena_heap.proofs.Seen.{seen_within, seen_head, holds_now}
 use Rattle.arena_heap.proofs.dicts.dict_remove_at.Goals as goal
@@ -79,6 +80,22 @@ link_all-requires-clause-plain c =
     (λ k d lo hi. b.0 k d lo (omega arith) ∙ ap (λ j. get_or a.cells.items j d) (omega arith))
     (λ k d hi. b.1 k d hi)
     (λ k d lo. b.2 k d (omega arith))
+
+pub link_all-requires-clause-bytes : goal.link_all-requires-clause-bytes
+link_all-requires-clause-bytes c =
+    let a = c.arena.inside in
+    let n = c.args.d.cell in
+    let r = c.dict_region-region.result in
+    let b = c.copy_within.ensures.by_index in
+    let lies = dict_lies a c.arena.invariant n c.dict_region-region.ensures in
+    let len = seen_dict_len a c.arena.view_is n c.dict_region-region.ensures in
+    bytes_same a.cells.items c.copy_within.new.self.items a.bytes.items
+    (removed_heads (holds_now a c.arena.invariant) n c.args.at r c.copy_within.new.self.items
+    (seen_within a c.arena.view_is ADict n c.requires.dict) c.dict_region-region.ensures (omega arith) (omega arith)
+    (λ k d lo hi. b.0 k d lo (omega arith) ∙ ap (λ j. get_or a.cells.items j d) (omega arith))
+    (λ k d hi. b.1 k d hi)
+    (λ k d lo. b.2 k d (omega arith)))
+    c.arena.invariant.kept.bytes_apart.inside
 
 pub invariant_of-arena : goal.invariant_of-arena
 invariant_of-arena c =

@@ -35,7 +35,7 @@ index_mut-requires c =
     let len = seen_dict_len c.arena.inside c.arena.view_is c.args.d.cell c.dict_region-region.ensures in
     omega arith
 
-new : (c : goal.After-arena-1) → Holds (set c.arena.inside.cells.items (c.dict_region-region.result.start + 3 * c.args.at + 1) c.of.result) c.arena.inside.bytes.items
+new : (c : goal.After-arena-1) → Holds c.arena.inside.keys (set c.arena.inside.cells.items (c.dict_region-region.result.start + 3 * c.args.at + 1) c.of.result) c.arena.inside.bytes.items
     (set (objects c.arena.inside) c.args.d.cell (Some (DictObject (with_value (pairs_at c.args.arena.now c.args.d.cell) c.args.at c.args.v) (room_at c.args.arena.now c.args.d.cell))))
 new c =
     let a = c.arena.inside in
@@ -43,7 +43,7 @@ new c =
     let r = c.dict_region-region.result in
     let len = seen_dict_len a c.arena.view_is n c.dict_region-region.ensures in
     dict_holds a c.arena.view_is n c.dict_region-region.ensures (λ (ps : List (Value × Value)). with_value ps c.args.at c.args.v) _
-    (subst (λ (x : List Cell). Holds x a.bytes.items (set (objects a) n (Some (DictObject (with_value (region_pairs a.cells.items r) c.args.at c.args.v) r.room))))
+    (subst (λ (x : List Cell). Holds c.arena.inside.keys x a.bytes.items (set (objects a) n (Some (DictObject (with_value (region_pairs a.cells.items r) c.args.at c.args.v) r.room))))
     (ap₂ (λ (j : ℕ) (x : Cell). set a.cells.items j x) (omega arith) (sym c.of.ensures))
     (dict_stored (holds_now a c.arena.invariant) n c.args.at r c.args.v (seen_within a c.arena.view_is ADict n c.requires.dict) c.dict_region-region.ensures (omega arith)))
 

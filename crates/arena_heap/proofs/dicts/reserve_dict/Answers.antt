@@ -7,7 +7,8 @@ use Rattle.mpy_base.specs.World.{ADict, DictObject, pairs_at, with_object}
 use Rattle.mpy_base.specs.Weights.{Fits, IsRoom, Refused, dict_growth, grown_room, room_for, with_used}
 use Rattle.mpy_base.proofs.Rooms.{room_is}
 use Rattle.arena_heap.specs.Cells.{Holds}
-use Rattle.arena_heap.proofs.DictCells.{dict_moved, moved_plain, moved_inside}
+use Rattle.arena_heap.proofs.DictCells.{dict_moved, moved_plain, moved_heads, moved_inside}
+use Rattle.arena_heap.proofs.KeyTexts.{bytes_same}
 use Rattle.arena_heap.proofs.DictSeen.{seen_pairs, seen_dict_room, pairs_held, pairs_formed, dict_pairs, dict_reserved_nothing, dict_lies, fits_nothing, small_growth, large_growth, large_room}
 use Rattle.arena_heap.proofs.Seen.{objects, seen_within, seen_head, seen_fits, holds_now, grown_again, grown_seen}
 use Rattle.arena_heap.proofs.dicts.reserve_dict.Goals as goal
@@ -52,7 +53,7 @@ fits c =
     let asked : 0 + 3 * room_for c.args.pairs ≡ 3 * c.in_ok-room.room = omega (arith, c.in_ok-room.ensures.room) in
     subst (λ (k : ℕ). Fits c.args.arena.now k 0) asked c.in_ok-room.ensures.fits
 
-new : (c : goal.After-arena-1) → Holds (set c.link_all.new.cells.items c.args.d.cell (DictHead (record { start = c.len-start.result; len = c.dict_region-region.result.len; room = c.in_ok-room.room }))) c.arena.inside.bytes.items
+new : (c : goal.After-arena-1) → Holds c.arena.inside.keys (set c.link_all.new.cells.items c.args.d.cell (DictHead (record { start = c.len-start.result; len = c.dict_region-region.result.len; room = c.in_ok-room.room }))) c.arena.inside.bytes.items
     (set (objects c.arena.inside ++ replicate (3 * c.in_ok-room.room) None) c.args.d.cell (Some (DictObject (pairs_at c.args.arena.now c.args.d.cell) c.in_ok-room.room)))
 new c =
     let a = c.arena.inside in
@@ -62,7 +63,7 @@ new c =
     let start = c.len-start.result in
     let lies = dict_lies a c.arena.invariant n c.dict_region-region.ensures in
     let holds = (room_is c.args.pairs).holds in
-    subst (λ (ps : List (Value × Value)). Holds (set c.link_all.new.cells.items n (DictHead (record { start = start; len = r.len; room = room }))) a.bytes.items (set (objects a ++ replicate (3 * room) None) n (Some (DictObject ps room))))
+    subst (λ (ps : List (Value × Value)). Holds c.arena.inside.keys (set c.link_all.new.cells.items n (DictHead (record { start = start; len = r.len; room = room }))) a.bytes.items (set (objects a ++ replicate (3 * room) None) n (Some (DictObject ps room))))
     (seen_pairs a c.arena.view_is n c.dict_region-region.ensures)
     (dict_moved (holds_now a c.arena.invariant) n start (3 * (room - r.len)) room r c.move_cells.new.cells.items (seen_within a c.arena.view_is ADict n c.requires) c.dict_region-region.ensures
     (subst IsRoom (sym c.in_ok-room.ensures.room) (room_is c.args.pairs).is_room) (omega (arith, c.in_ok-room.ensures.room)) (omega arith) c.move_cells.ensures.items
@@ -78,6 +79,19 @@ link_all-requires-clause-plain c =
     let holds = (room_is c.args.pairs).holds in
     moved_plain (holds_now a c.arena.invariant) n c.len-start.result (3 * (room - r.len)) room r c.move_cells.new.cells.items (seen_within a c.arena.view_is ADict n c.requires) c.dict_region-region.ensures
     (subst IsRoom (sym c.in_ok-room.ensures.room) (room_is c.args.pairs).is_room) (omega (arith, c.in_ok-room.ensures.room)) (omega arith) c.move_cells.ensures.items
+
+pub link_all-requires-clause-bytes : goal.link_all-requires-clause-bytes
+link_all-requires-clause-bytes c =
+    let a = c.arena.inside in
+    let n = c.args.d.cell in
+    let r = c.dict_region-region.result in
+    let room = c.in_ok-room.room in
+    let lies = dict_lies a c.arena.invariant n c.dict_region-region.ensures in
+    let holds = (room_is c.args.pairs).holds in
+    bytes_same a.cells.items c.move_cells.new.cells.items a.bytes.items
+    (moved_heads (holds_now a c.arena.invariant) n c.len-start.result (3 * (room - r.len)) room r c.move_cells.new.cells.items (seen_within a c.arena.view_is ADict n c.requires) c.dict_region-region.ensures
+    (subst IsRoom (sym c.in_ok-room.ensures.room) (room_is c.args.pairs).is_room) (omega (arith, c.in_ok-room.ensures.room)) (omega arith) c.move_cells.ensures.items)
+    c.arena.invariant.kept.bytes_apart.inside
 
 pub link_all-requires-clause-inside : goal.link_all-requires-clause-inside
 link_all-requires-clause-inside c =

@@ -28,7 +28,7 @@ loop-place-preserved c =
 pub returns-clause-linked : goal.returns-clause-linked
 returns-clause-linked c =
     let r = c.args.region in
-    linked_none (part c.loop-place.cells.items r.start (3 * r.room)) r.room (λ bucket lt. c.loop-place.invariant.1.none bucket (omega arith))
+    λ texts. linked_none texts (part c.loop-place.cells.items r.start (3 * r.room)) r.room (λ bucket lt. c.loop-place.invariant.1.none bucket (omega arith))
 
 pub returns-clause-relinked : goal.returns-clause-relinked
 returns-clause-relinked c = c.loop-place.invariant.0

@@ -20,7 +20,7 @@ list_region-region-requires-clause-list c = seen_head c.arena.inside c.arena.vie
 pub invariant_of-arena : goal.invariant_of-arena
 invariant_of-arena c = (list_changed c.arena.inside c.arena.invariant c.arena.view_is c.args.l.cell c.list_region-region.ensures c.requires.list (λ (vs : List Value). set vs c.args.at c.args.v)
     (set c.arena.inside.cells.items (c.list_region-region.result.start + c.args.at) c.of.result) _
-    (subst (λ (x : Cell). Holds (set c.arena.inside.cells.items (c.list_region-region.result.start + c.args.at) x) c.arena.inside.bytes.items
+    (subst (λ (x : Cell). Holds c.arena.inside.keys (set c.arena.inside.cells.items (c.list_region-region.result.start + c.args.at) x) c.arena.inside.bytes.items
     (set (objects c.arena.inside) c.args.l.cell (Some (ListObject (set (items_in c.arena.inside.cells.items c.list_region-region.result) c.args.at c.args.v) c.list_region-region.result.room)))) (sym c.of.ensures)
     (list_stored (holds_now c.arena.inside c.arena.invariant) c.args.l.cell c.args.at c.list_region-region.result c.args.v (seen_within c.arena.inside c.arena.view_is AList c.args.l.cell c.requires.list) c.list_region-region.ensures c.if-at-region.true))
     (le_refl _) (All-set (Leads c.args.arena.now.objects) (items_at c.args.arena.now c.args.l.cell) c.args.at c.args.v c.requires.leads (list_leads c.arena.inside c.arena.view_is c.args.l.cell c.list_region-region.ensures c.arena.invariant))).0
@@ -28,7 +28,7 @@ invariant_of-arena c = (list_changed c.arena.inside c.arena.invariant c.arena.vi
 pub returns-then-at-region-clause-set : goal.returns-then-at-region-clause-set
 returns-then-at-region-clause-set c = (list_changed c.arena.inside c.arena.invariant c.arena.view_is c.args.l.cell c.list_region-region.ensures c.requires.list (λ (vs : List Value). set vs c.args.at c.args.v)
     (set c.arena.inside.cells.items (c.list_region-region.result.start + c.args.at) c.of.result) _
-    (subst (λ (x : Cell). Holds (set c.arena.inside.cells.items (c.list_region-region.result.start + c.args.at) x) c.arena.inside.bytes.items
+    (subst (λ (x : Cell). Holds c.arena.inside.keys (set c.arena.inside.cells.items (c.list_region-region.result.start + c.args.at) x) c.arena.inside.bytes.items
     (set (objects c.arena.inside) c.args.l.cell (Some (ListObject (set (items_in c.arena.inside.cells.items c.list_region-region.result) c.args.at c.args.v) c.list_region-region.result.room)))) (sym c.of.ensures)
     (list_stored (holds_now c.arena.inside c.arena.invariant) c.args.l.cell c.args.at c.list_region-region.result c.args.v (seen_within c.arena.inside c.arena.view_is AList c.args.l.cell c.requires.list) c.list_region-region.ensures c.if-at-region.true))
     (le_refl _) (All-set (Leads c.args.arena.now.objects) (items_at c.args.arena.now c.args.l.cell) c.args.at c.args.v c.requires.leads (list_leads c.arena.inside c.arena.view_is c.args.l.cell c.list_region-region.ensures c.arena.invariant))).1

@@ -1,7 +1,9 @@
-use Rattle.std.proofs.Common.{arith, ℕ, sym, subst, set}
+use Rattle.std.specs.Vec.{vec_capacity}
+use Rattle.std.proofs.Common.{arith, ℕ, ◌+◌, List, Option, sym, subst, set}
 use Rattle.arena_heap.specs.declared.value.Value.{Value}
 use Rattle.mpy_base.specs.World.{Heap, AText, Later, text_at}
 use Rattle.mpy_base.proofs.Worlds.{later_text}
+use Rattle.arena_heap.specs.Cells.{IsArena}
 use Rattle.arena_heap.proofs.TupleSeen.{inside_text, text_length, text_filled}
 use Rattle.arena_heap.proofs.Seen.{seen_within, seen_head}
 use Rattle.arena_heap.proofs.texts.text_fill.Goals as goal
@@ -13,7 +15,11 @@ pub text_span-span-requires-clause-text : goal.text_span-span-requires-clause-te
 text_span-span-requires-clause-text c = seen_head c.arena.inside c.arena.view_is AText c.args.t.cell c.requires.text
 
 pub invariant_of-arena : goal.invariant_of-arena
-invariant_of-arena c = (text_filled c.arena.inside c.arena.invariant c.arena.view_is c.args.t.cell c.text_span-span.ensures c.requires.text c.args.at c.args.byte (omega (arith, c.requires.within, text_length c.arena.inside c.arena.invariant c.arena.view_is c.args.t.cell c.text_span-span.ensures)) c.requires.ascii).0
+invariant_of-arena c =
+    let a = c.arena.inside in
+    let bytes : List ℕ = set a.bytes.items (c.text_span-span.result.start + c.args.at) c.args.byte in
+    subst (λ (k : Option ℕ). IsArena k a.cells.items bytes a.room.cells a.room.bytes (vec_capacity a.cells) (vec_capacity a.bytes)) (sym c.without_text-keys.ensures)
+    (text_filled a c.arena.invariant c.arena.view_is c.args.t.cell c.text_span-span.ensures c.requires.text c.args.at c.args.byte (omega (arith, c.requires.within, text_length a c.arena.invariant c.arena.view_is c.args.t.cell c.text_span-span.ensures)) c.requires.ascii).0
 
 pub returns-clause-filled : goal.returns-clause-filled
 returns-clause-filled c = (text_filled c.arena.inside c.arena.invariant c.arena.view_is c.args.t.cell c.text_span-span.ensures c.requires.text c.args.at c.args.byte (omega (arith, c.requires.within, text_length c.arena.inside c.arena.invariant c.arena.view_is c.args.t.cell c.text_span-span.ensures)) c.requires.ascii).1

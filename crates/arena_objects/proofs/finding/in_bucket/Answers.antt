@@ -1,75 +1,7 @@
-use Rattle.std.proofs.Common.{ℕ, suc, ◌-◌, ◌≡◌, length, true, false, refl, subst, arith}
-use Rattle.mpy_base.specs.World.{pairs_at, room_at}
-use Rattle.arena_heap.specs.Links.{IsLast, buckets_at, bucket_of}
-use Rattle.arena_objects.specs.Found.{FirstFrom, HasKeyIn}
-use Rattle.arena_objects.specs.PlainKeys.{plain}
-use Rattle.arena_objects.proofs.Following.{first_start, first_found, first_passed}
 use Rattle.arena_objects.proofs.finding.in_bucket.Goals as goal
 
-pub loop-end-init : goal.loop-end-init
-loop-end-init g c =
-    let h = c.args.arena.now in
-    let d = c.args.d.cell in
-    let bucket = bucket_of (room_at h d) c.args.other in
-    let last = c.dict_last-end.ensures in (
-      last.within,
-      last.there,
-      first_start (HasKeyIn (g.C.Constants.text_of c.args.consts.now) h d (plain c.args.sought) bucket) (buckets_at h d) bucket (length (pairs_at h d)) (λ k is. is.1) c.dict_last-end.result last,
-    )
-
-pub dict_before-end-requires-clause-within : goal.dict_before-end-requires-clause-within
-dict_before-end-requires-clause-within g c = omega (arith, c.loop-end.invariant.0)
-
-pub has_key-requires-clause-within : goal.has_key-requires-clause-within
-has_key-requires-clause-within g c = omega (arith, c.loop-end.invariant.0)
-
-pub loop-end-preserved-then-has_key : goal.loop-end-preserved-then-has_key
-loop-end-preserved-then-has_key g c =
-    let h = c.args.arena.now in
-    let d = c.args.d.cell in
-    let len = length (pairs_at h d) in
-    let bucket = bucket_of (room_at h d) c.args.other in
-    let Holds : ℕ → Type 0 = HasKeyIn (g.C.Constants.text_of c.args.consts.now) h d (plain c.args.sought) bucket in
-    let was = c.loop-end.invariant in
-    let at : ℕ = c.loop-end.end - 1 in
-    let next : ℕ = c.dict_before-end.result in
-    let behind : c.loop-end.end ≡ suc at = omega arith in
-    let same = was.1 at behind in
-    let last : IsLast (buckets_at h d) bucket at next = subst (λ b. IsLast (buckets_at h d) b at next) same c.dict_before-end.ensures in
-    let first : FirstFrom Holds len (suc at) c.loop-end.found = subst (λ from. FirstFrom Holds len from c.loop-end.found) behind was.2 in
-    let within = last.within in (
-      omega (arith, was.0),
-      last.there,
-      first_found Holds (buckets_at h d) bucket len (λ k is. is.1) at next last (omega (arith, was.0)) (c.if-has_key.ensures.0 refl, same),
-    )
-
-pub loop-end-preserved : goal.loop-end-preserved
-loop-end-preserved g c =
-    let h = c.args.arena.now in
-    let d = c.args.d.cell in
-    let len = length (pairs_at h d) in
-    let bucket = bucket_of (room_at h d) c.args.other in
-    let Holds : ℕ → Type 0 = HasKeyIn (g.C.Constants.text_of c.args.consts.now) h d (plain c.args.sought) bucket in
-    let was = c.loop-end.invariant in
-    let at : ℕ = c.loop-end.end - 1 in
-    let next : ℕ = c.dict_before-end.result in
-    let behind : c.loop-end.end ≡ suc at = omega arith in
-    let same = was.1 at behind in
-    let last : IsLast (buckets_at h d) bucket at next = subst (λ b. IsLast (buckets_at h d) b at next) same c.dict_before-end.ensures in
-    let first : FirstFrom Holds len (suc at) c.loop-end.found = subst (λ from. FirstFrom Holds len from c.loop-end.found) behind was.2 in
-    let within = last.within in (
-      omega (arith, was.0),
-      last.there,
-      first_passed Holds (buckets_at h d) bucket len (λ k is. is.1) at next c.loop-end.found last (λ is. let never : false ≡ true = c.if-has_key.ensures.1 is.0 in cc) first,
-    )
-
-pub loop-end-smaller : goal.loop-end-smaller
-loop-end-smaller g c = let within = c.dict_before-end.ensures.within in omega arith
+pub in_chain-requires-clause-within : goal.in_chain-requires-clause-within
+in_chain-requires-clause-within g c = c.in_ok-last.ensures.within
 
 pub returns : goal.returns
-returns g c =
-    let h = c.args.arena.now in
-    let d = c.args.d.cell in
-    let bucket = bucket_of (room_at h d) c.args.other in
-    let none : c.loop-end.end ≡ 0 = omega arith in
-    subst (λ from. FirstFrom (HasKeyIn (g.C.Constants.text_of c.args.consts.now) h d (plain c.args.sought) bucket) (length (pairs_at h d)) from c.loop-end.found) none c.loop-end.invariant.2
+returns g c = c.in_chain.ensures _ c.in_ok-last.ensures

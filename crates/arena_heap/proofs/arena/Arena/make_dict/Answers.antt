@@ -17,9 +17,9 @@ use Rattle.arena_heap.proofs.arena.Arena.make_dict.Goals.{After-take_cells}
 abbrev new : (c : After-take_cells) → ArenaObject
 new c = DictObject [] (room_for c.args.pairs)
 
-left : (c : After-take_cells) → Holds c.take_cells.new.cells.items c.self.inside.bytes.items (objects c.self.inside ++ Some (new c) ∷ replicate (more_cells (new c)) None)
+left : (c : After-take_cells) → Holds c.self.inside.keys c.take_cells.new.cells.items c.self.inside.bytes.items (objects c.self.inside ++ Some (new c) ∷ replicate (more_cells (new c)) None)
 left c =
-    subst (λ (x : List Cell). Holds x c.self.inside.bytes.items (objects c.self.inside ++ Some (new c) ∷ replicate (more_cells (new c)) None))
+    subst (λ (x : List Cell). Holds c.self.inside.keys x c.self.inside.bytes.items (objects c.self.inside ++ Some (new c) ∷ replicate (more_cells (new c)) None))
     ((let room : room_for c.args.pairs ≡ c.in_ok-room.room = sym c.in_ok-room.ensures.room in
     let start : length c.self.inside.cells.items + 3 ≡ c.len-cell.result + 3 = omega arith in
     ap₂ (λ (from room : ℕ). c.self.inside.cells.items ++ variants.DictHead (record { start = from; len = 0; room = room }) ∷ replicate (2 + 3 * room) blank) start room ∙ sym c.take_cells.ensures.items))

@@ -15,9 +15,9 @@ use Rattle.arena_heap.proofs.arena.Arena.make_exc.Goals.{After-take_cells}
 abbrev new : (c : After-take_cells) → ArenaObject
 new c = ExceptionObject c.args.kind c.args.args 1 0 1
 
-left : (c : After-take_cells) → Holds c.take_cells.new.cells.items c.self.inside.bytes.items (objects c.self.inside ++ Some (new c) ∷ replicate (more_cells (new c)) None)
+left : (c : After-take_cells) → Holds c.self.inside.keys c.take_cells.new.cells.items c.self.inside.bytes.items (objects c.self.inside ++ Some (new c) ∷ replicate (more_cells (new c)) None)
 left c =
-    subst (λ (x : List Cell). Holds x c.self.inside.bytes.items (objects c.self.inside ++ Some (new c) ∷ replicate (more_cells (new c)) None))
+    subst (λ (x : List Cell). Holds c.self.inside.keys x c.self.inside.bytes.items (objects c.self.inside ++ Some (new c) ∷ replicate (more_cells (new c)) None))
     (ap (λ x. c.self.inside.cells.items ++ variants.ExcHead c.args.kind ∷ x ∷ variants.Place 1 0 1 ∷ replicate 3 blank) (sym c.of.ensures) ∙ sym c.take_cells.ensures.items)
     (exception_made (holds_now c.self.inside c.self.invariant) c.args.kind c.args.args)
 

@@ -16,9 +16,9 @@ use Rattle.arena_heap.proofs.arena.Arena.make_fun.Goals.{After-take_cells}
 abbrev new : (c : After-take_cells) → ArenaObject
 new c = FunctionObject c.args.name c.args.«module» c.args.code c.args.names.cell c.args.defaults
 
-left : (c : After-take_cells) → Holds c.take_cells.new.cells.items c.self.inside.bytes.items (objects c.self.inside ++ Some (new c) ∷ replicate (more_cells (new c)) None)
+left : (c : After-take_cells) → Holds c.self.inside.keys c.take_cells.new.cells.items c.self.inside.bytes.items (objects c.self.inside ++ Some (new c) ∷ replicate (more_cells (new c)) None)
 left c =
-    subst (λ (x : List Cell). Holds x c.self.inside.bytes.items (objects c.self.inside ++ Some (new c) ∷ replicate (more_cells (new c)) None))
+    subst (λ (x : List Cell). Holds c.self.inside.keys x c.self.inside.bytes.items (objects c.self.inside ++ Some (new c) ∷ replicate (more_cells (new c)) None))
     (ap (λ x. c.self.inside.cells.items ++ variants.FunHead c.args.name c.args.«module» c.args.code ∷ variants.Dict c.args.names ∷ x ∷ replicate 1 blank) (sym c.of.ensures) ∙ sym c.take_cells.ensures.items)
     (function_made (holds_now c.self.inside c.self.invariant) c.args.name c.args.«module» c.args.code c.args.names c.args.defaults)
 

@@ -14,9 +14,9 @@ use Rattle.arena_heap.proofs.arena.Arena.make_module.Goals.{After-take_cells}
 abbrev new : (c : After-take_cells) → ArenaObject
 new c = ModuleObject c.args.name None
 
-left : (c : After-take_cells) → Holds c.take_cells.new.cells.items c.self.inside.bytes.items (objects c.self.inside ++ Some (new c) ∷ replicate (more_cells (new c)) None)
+left : (c : After-take_cells) → Holds c.self.inside.keys c.take_cells.new.cells.items c.self.inside.bytes.items (objects c.self.inside ++ Some (new c) ∷ replicate (more_cells (new c)) None)
 left c =
-    subst (λ (x : List Cell). Holds x c.self.inside.bytes.items (objects c.self.inside ++ Some (new c) ∷ replicate (more_cells (new c)) None))
+    subst (λ (x : List Cell). Holds c.self.inside.keys x c.self.inside.bytes.items (objects c.self.inside ++ Some (new c) ∷ replicate (more_cells (new c)) None))
     (sym c.take_cells.ensures.items)
     (module_made (holds_now c.self.inside c.self.invariant) c.args.name)
 

@@ -23,9 +23,9 @@ ranged cells {a} {b} {c} {x} {y} {z} p q r =
 abbrev new : (c : After-take_cells) → ArenaObject
 new c = RangeObject c.args.start c.args.stop c.args.step
 
-left : (c : After-take_cells) → Holds c.take_cells.new.cells.items c.self.inside.bytes.items (objects c.self.inside ++ Some (new c) ∷ replicate (more_cells (new c)) None)
+left : (c : After-take_cells) → Holds c.self.inside.keys c.take_cells.new.cells.items c.self.inside.bytes.items (objects c.self.inside ++ Some (new c) ∷ replicate (more_cells (new c)) None)
 left c =
-    subst (λ (x : List Cell). Holds x c.self.inside.bytes.items (objects c.self.inside ++ Some (new c) ∷ replicate (more_cells (new c)) None))
+    subst (λ (x : List Cell). Holds c.self.inside.keys x c.self.inside.bytes.items (objects c.self.inside ++ Some (new c) ∷ replicate (more_cells (new c)) None))
     (sym (c.take_cells.ensures.items ∙ ranged c.self.inside.cells.items (to_z-of_z w32 c.args.start c.ranges.start) (to_z-of_z w32 c.args.stop c.ranges.stop) (to_z-of_z w32 c.args.step c.ranges.step)))
     (range_made (holds_now c.self.inside c.self.invariant) c.args.start c.args.stop c.args.step)
 

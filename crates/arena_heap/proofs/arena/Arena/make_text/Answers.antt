@@ -21,14 +21,14 @@ new c = TextObject (replicate c.args.count 0)
 more_bytes : (c : After-take_cells) → length c.take_bytes.new.bytes.items ≡ length c.self.inside.bytes.items + length {A = ℕ} (replicate c.args.count 0)
 more_bytes c = ap length c.take_bytes.ensures.items ∙ length-append c.self.inside.bytes.items (replicate c.args.count 0)
 
-left : (c : After-take_cells) → Holds c.take_cells.new.cells.items c.take_bytes.new.bytes.items (objects c.self.inside ++ Some (new c) ∷ replicate (more_cells (new c)) None)
+left : (c : After-take_cells) → Holds c.self.inside.keys c.take_cells.new.cells.items c.take_bytes.new.bytes.items (objects c.self.inside ++ Some (new c) ∷ replicate (more_cells (new c)) None)
 left c =
     let a = c.self.inside in
     let h = text_made (holds_now a c.self.invariant) (replicate c.args.count 0) in
     let start : length a.bytes.items ≡ c.len-start.result = omega arith in
     let e : a.cells.items ++ variants.TextHead (record { start = length a.bytes.items; len = length {A = ℕ} (replicate c.args.count 0) }) ∷ replicate 1 blank ≡ c.take_cells.new.cells.items =
     ap₂ (λ (i j : ℕ). a.cells.items ++ variants.TextHead (record { start = i; len = j }) ∷ replicate 1 blank) start (length-replicate {A = ℕ} c.args.count 0) ∙ sym c.take_cells.ensures.items in
-    subst₂ (λ (x : List Cell) (y : List ℕ). Holds x y (objects a ++ Some (new c) ∷ replicate 1 None)) e (sym c.take_bytes.ensures.items) h
+    subst₂ (λ (x : List Cell) (y : List ℕ). Holds c.self.inside.keys x y (objects a ++ Some (new c) ∷ replicate 1 None)) e (sym c.take_bytes.ensures.items) h
 
 pub take_cells-requires : goal.take_cells-requires
 take_cells-requires c = let f = seen_fits c.self.inside c.self.view_is c.in_ok-ask.ensures.ok in omega (arith, f.0, c.self.invariant.cells_taken)

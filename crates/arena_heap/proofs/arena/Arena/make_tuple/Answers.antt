@@ -23,9 +23,9 @@ fits_tuple {h} {asked} count few e f =
 abbrev new : (c : After-take_cells) → ArenaObject
 new c = TupleObject (replicate c.args.count values.None)
 
-left : (c : After-take_cells) → Holds c.take_cells.new.cells.items c.self.inside.bytes.items (objects c.self.inside ++ Some (new c) ∷ replicate (more_cells (new c)) None)
+left : (c : After-take_cells) → Holds c.self.inside.keys c.take_cells.new.cells.items c.self.inside.bytes.items (objects c.self.inside ++ Some (new c) ∷ replicate (more_cells (new c)) None)
 left c =
-    subst (λ (x : List Cell). Holds x c.self.inside.bytes.items (objects c.self.inside ++ Some (new c) ∷ replicate (more_cells (new c)) None))
+    subst (λ (x : List Cell). Holds c.self.inside.keys x c.self.inside.bytes.items (objects c.self.inside ++ Some (new c) ∷ replicate (more_cells (new c)) None))
     (sym c.take_cells.ensures.items)
     (tuple_made (holds_now c.self.inside c.self.invariant) c.args.count)
 
