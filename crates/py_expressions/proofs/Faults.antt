@@ -58,9 +58,6 @@ keeps_pure x i y j e = ap (λ (q : Input). q.front) (done_is x y i j e).1
 pub fails_refuse : {A : Type 0} → Fails (refuse {A = A})
 fails_refuse {A} i d e = sym (err_is {A = A} i.front d e)
 
-pub keeps_refuse : {A : Type 0} → Keeps (refuse {A = A})
-keeps_refuse i x j e = absurd (no_err i.front x j e)
-
 pub fails_if : {A : Type 0} (b : Bool) (p q : Parser A) → Fails p → Fails q → Fails (cond b p q)
 fails_if true p q f h = f
 fails_if false p q f h = h
@@ -71,9 +68,6 @@ keeps_if false p q f h = h
 
 pub fails_peek : {A : Type 0} (f : Tok → Parser A) → ((c : Tok) → Fails (f c)) → Fails (peek >>= f)
 fails_peek f h i d e = h (kind i) i d e
-
-pub keeps_peek : {A : Type 0} (f : Tok → Parser A) → ((c : Tok) → Keeps (f c)) → Keeps (peek >>= f)
-keeps_peek f h i x j e = h (kind i) i x j e
 
 pub fails_take : {A : Type 0} (q : Parser A) → Fails q → Fails (take_token >>= (λ _. q))
 fails_take q f i d e = f (next i) d e

@@ -7,6 +7,7 @@ use Rattle.py_tree.specs.declared.stmt.Target.{Target}
 use Rattle.py_expressions.specs.declared.cursor.Cursor.{Cursor}
 use Rattle.py_expressions.specs.declared.cursor.Syntax.{Syntax}
 use Rattle.py_expressions.specs.declared.grammar.Rule.{Rule}
+use Rattle.py_expressions.specs.declared.grammar.Rule.TheVariants as rule
 use Rattle.py_expressions.specs.Input.{Input, Outcome, Parser, Reads, kind, turns}
 use Rattle.py_expressions.specs.Reading.{Listed, all_trailers, atom, begins_trailer, expr, is_name, members, primary, tuple_of}
 use Rattle.py_expressions.specs.Targets.{all_targets, alone_of, given, item_of, one_gone, one_target, part_of, single, target_of, targets}
@@ -56,9 +57,14 @@ targets_give : (i j : Input) (n : ℕ) (found : Listed) → members (primary (ex
 unfolding targets
 targets_give i j n found h = rw h refl
 
-pub stops_at_primaries : (i : Input) (n : ℕ) → n ≡ turns i → (d : ℕ) → members (primary (expr n)) i ≡ stopped d → all_targets i ≡ stopped d
-stops_at_primaries i n e d h = all_by i n e ∙ targets_stop i n d h
+-- one level of nesting less
+primaries_by : (n : ℕ) (i : Input) → members (expr (n + 1) rule.Primary) i ≡ members (primary (expr n)) i
+unfolding expr
+primaries_by n i = ap (λ m. members (expr m rule.Primary) i) (add-one n)
 
-pub gives_targets : (i j : Input) (n : ℕ) (found : Listed) (x : Expr) (t : Option Target) → n ≡ turns i → members (primary (expr n)) i ≡ done found j → x ≡ tuple_of found.0 found.1 → t ≡ target_of (n + 1) x → all_targets i ≡ given t j
+pub stops_at_primaries : (i : Input) (n : ℕ) → n ≡ turns i → (d : ℕ) → members (expr (n + 1) rule.Primary) i ≡ stopped d → all_targets i ≡ stopped d
+stops_at_primaries i n e d h = all_by i n e ∙ targets_stop i n d (sym (primaries_by n i) ∙ h)
+
+pub gives_targets : (i j : Input) (n : ℕ) (found : Listed) (x : Expr) (t : Option Target) → n ≡ turns i → members (expr (n + 1) rule.Primary) i ≡ done found j → x ≡ tuple_of found.0 found.1 → t ≡ target_of (n + 1) x → all_targets i ≡ given t j
 gives_targets i j n found x t e h is made =
-    all_by i n e ∙ targets_give i j n found h ∙ ap (λ q. given q j) (ap (target_of (suc n)) (sym is) ∙ ap (λ m. target_of m x) (sym (add-one n)) ∙ sym made)
+    all_by i n e ∙ targets_give i j n found (sym (primaries_by n i) ∙ h) ∙ ap (λ q. given q j) (ap (target_of (suc n)) (sym is) ∙ ap (λ m. target_of m x) (sym (add-one n)) ∙ sym made)

@@ -72,17 +72,6 @@ operator_there (suc (suc (suc (suc (suc zero))))) [] how e = absurd cc
 operator_there (suc (suc (suc (suc (suc (suc n)))))) [] how e = absurd cc
 operator_there level (t ∷ ts) how e = (record { at = t.at; end = t.end; line = t.line }, refl)
 
--- in front of what ends comparisons
-no_comparison_by : (kind : Tok) → 10 ≤ joins kind → comparison kind ≡ None
-no_comparison_by (tok.Op op.Less) h = absurd (omega (arith, h))
-no_comparison_by (tok.Op op.Greater) h = absurd (omega (arith, h))
-no_comparison_by (tok.Op op.Equal) h = absurd (omega (arith, h))
-no_comparison_by (tok.Op op.LessEqual) h = absurd (omega (arith, h))
-no_comparison_by (tok.Op op.GreaterEqual) h = absurd (omega (arith, h))
-no_comparison_by (tok.Op op.NotEqual) h = absurd (omega (arith, h))
-no_comparison_by (tok.Word word.In) h = absurd (omega (arith, h))
-no_comparison_by _ h = refl
-
 pub comparison_joins : (kind : Tok) (how : CompareOp) → comparison kind ≡ Some how → joins kind ≡ 9
 comparison_joins (tok.Op op.Less) how e = refl
 comparison_joins (tok.Op op.Greater) how e = refl

@@ -111,6 +111,10 @@ after mark i = if sees mark i then next i else i
 abbrev pub eat : Mark → Parser Bool
 eat mark = λ i. Ok (sees mark i, after mark i)
 
+-- this mark comes next, behind what was read
+abbrev pub closed : {A : Type 0} → Mark → A → Parser A
+closed mark found = expect mark >> pure found
+
 abbrev pub name_by : Tok → Parser (List ℕ)
 name_by (tok.Name text) = take_token >> pure text
 name_by _ = refuse

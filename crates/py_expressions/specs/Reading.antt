@@ -240,6 +240,13 @@ module _ (inner : Rule → Parser Expr) where
     expect (mark.Op op.CloseBracket)
     pure (ex.List found.0)
 
+  -- the value behind a key
+  abbrev pub valued : {A : Type 0} → A → Parser (A × Expr)
+  valued key = do
+    expect (mark.Op op.Colon)
+    value ← inner rule.Test
+    pure (key, value)
+
   unfoldable pub pair : Parser (Expr × Expr)
   pair = do
     key ← inner rule.Test
@@ -421,6 +428,7 @@ module _ (inner : Rule → Parser Expr) where
   by_rule rule.Test = whole_test
   by_rule rule.NotTest = not_test
   by_rule rule.Factor = factor
+  by_rule rule.Primary = primary
 
 -- with no more than so many brackets, signs and the like, each in the one before
 unfoldable pub expr : ℕ → Rule → Parser Expr

@@ -174,6 +174,9 @@ item_by _ = None
 unfoldable pub item_of : Expr → Option Target
 item_of x = item_by (out-Expr x)
 
+abbrev pub whole_of : Bool → Expr → Option Target
+whole_of deletes = if deletes then item_of else part_of
+
 -- What an atom alone is as either: a name that no bracket encloses, so that a name is its first token.
 abbrev pub alone_by : Bool → Layer → Option Target
 alone_by false _ = None

@@ -48,15 +48,23 @@ impl<F: Fn(Global, &mut Cursor<'_>, usize, Rule) -> Result<Expr, Refused<Syntax>
         Ok(Expr::List(found))
     }
 
+    /// The key, with the value that stands behind its colon.
+    fn valued<T: Drop>(&self, tokens: &mut Cursor<'_>, key: T) -> Result<(T, Expr), Refused<Syntax>>
+        requires { Nests self.now.depth (F.pre self.now.expr) (F.post self.now.expr) }
+        ensures { Reads (spec.valued (spec.expr self.now.depth) key (input_of tokens.old)) result tokens.new }
+    {
+        tokens.expect(Mark::Op(Op::Colon))?;
+        let value = self.inner(tokens, Rule::Test)?;
+        Ok((key, value))
+    }
+
     #[tactic(auto, unfolding(crate::specs::Reading::pair))]
     fn pair(&self, tokens: &mut Cursor<'_>) -> Result<(Expr, Expr), Refused<Syntax>>
         requires { Nests self.now.depth (F.pre self.now.expr) (F.post self.now.expr) }
         ensures { Reads (spec.pair (spec.expr self.now.depth) (input_of tokens.old)) result tokens.new }
     {
         let key = self.inner(tokens, Rule::Test)?;
-        tokens.expect(Mark::Op(Op::Colon))?;
-        let value = self.inner(tokens, Rule::Test)?;
-        Ok((key, value))
+        self.valued(tokens, key)
     }
 
     fn pairs(&self, tokens: &mut Cursor<'_>) -> Result<Items<(Expr, Expr)>, Refused<Syntax>>

@@ -58,10 +58,10 @@ impl<F: Fn(Global, &mut Cursor<'_>, usize, Rule) -> Result<Expr, Refused<Syntax>
     {
         let value = self.inner(tokens, Rule::Test)?;
         let Arguments { mut args, keys } = given;
+        args.push(value)?;
         if !keys.is_empty() {
             return Err(tokens.refuse());
         }
-        args.push(value)?;
         Ok(Arguments { args, keys })
     }
 
@@ -78,10 +78,11 @@ impl<F: Fn(Global, &mut Cursor<'_>, usize, Rule) -> Result<Expr, Refused<Syntax>
         tokens.expect(Mark::Op(Op::Assign))?;
         let value = self.inner(tokens, Rule::Test)?;
         let Arguments { args, mut keys } = given;
-        if !is_new(&name, &keys) {
+        let differs = is_new(&name, &keys);
+        keys.push((name, value))?;
+        if !differs {
             return Err(tokens.refuse());
         }
-        keys.push((name, value))?;
         Ok(Arguments { args, keys })
     }
 
@@ -122,24 +123,22 @@ impl<F: Fn(Global, &mut Cursor<'_>, usize, Rule) -> Result<Expr, Refused<Syntax>
     }
 
     #[tactic(auto, unfolding(crate::specs::Reading::call))]
-    fn call(&self, tokens: &mut Cursor<'_>, callee: Expr) -> Result<Expr, Refused<Syntax>>
+    fn call(&self, tokens: &mut Cursor<'_>, callee: Boxed<Expr>) -> Result<Expr, Refused<Syntax>>
         requires { Nests self.now.depth (F.pre self.now.expr) (F.post self.now.expr) }
         ensures { Reads (spec.call (spec.expr self.now.depth) callee (input_of tokens.old)) result tokens.new }
     {
         let Arguments { args, keys } = self.arguments(tokens)?;
         tokens.expect(Mark::Op(Op::CloseParen))?;
-        let callee = Boxed::new(self.alloc, callee)?;
         Ok(Expr::Call { callee, args, keys })
     }
 
     #[tactic(auto, unfolding(crate::specs::Reading::index))]
-    fn index(&self, tokens: &mut Cursor<'_>, object: Expr) -> Result<Expr, Refused<Syntax>>
+    fn index(&self, tokens: &mut Cursor<'_>, object: Boxed<Expr>) -> Result<Expr, Refused<Syntax>>
         requires { Nests self.now.depth (F.pre self.now.expr) (F.post self.now.expr) }
         ensures { Reads (spec.index (spec.expr self.now.depth) object (input_of tokens.old)) result tokens.new }
     {
-        let (found, comma) = self.members(tokens)?;
+        let (found, comma) = self.members(tokens, Rule::Test)?;
         tokens.expect(Mark::Op(Op::CloseBracket))?;
-        let object = Boxed::new(self.alloc, object)?;
         let index = Boxed::new(self.alloc, tuple_of(found, comma))?;
         Ok(Expr::Index { object, index })
     }
@@ -149,19 +148,19 @@ impl<F: Fn(Global, &mut Cursor<'_>, usize, Rule) -> Result<Expr, Refused<Syntax>
         requires { Nests self.now.depth (F.pre self.now.expr) (F.post self.now.expr) }
         ensures { Reads (spec.trailer (spec.expr self.now.depth) left (input_of tokens.old)) result tokens.new }
     {
+        let object = Boxed::new(self.alloc, left)?;
         match tokens.peek() {
             Some(Tok::Op(Op::OpenParen)) => {
                 tokens.take();
-                self.call(tokens, left)
+                self.call(tokens, object)
             }
             Some(Tok::Op(Op::OpenBracket)) => {
                 tokens.take();
-                self.index(tokens, left)
+                self.index(tokens, object)
             }
             _ => {
                 tokens.take();
                 let name = tokens.name(self.alloc)?;
-                let object = Boxed::new(self.alloc, left)?;
                 Ok(Expr::Attr { object, name })
             }
         }

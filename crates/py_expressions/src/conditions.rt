@@ -3,12 +3,11 @@
 ghost use Rattle.std.specs.Prelude.{◌≡◌, IfOk};
 ghost use Rattle.std.specs.Option.{option_copied};
 ghost use Rattle.py_tokens.specs.declared.word.Word.TheVariants as word;
-ghost use Rattle.py_tree.specs.declared.expr.Expr.TheVariants as ex;
 ghost use Rattle.py_expressions.specs.Input.{Reads, input_of, seen};
 ghost use Rattle.py_expressions.specs.Reading as spec;
 ghost use Rattle.py_expressions.specs.Nests.{Nests};
 
-use crate::cursor::{Cursor, Mark, Syntax};
+use crate::cursor::{Cursor, Mark, Syntax, release};
 use crate::grammar::{Grammar, Rule};
 use crate::members::{and_of, or_of};
 use mpy_base::{Boxed, Items, NoMemory, Refused};
@@ -64,16 +63,6 @@ fn compare_op(tokens: &mut Cursor<'_>) -> Result<Option<CompareOp>, Refused<Synt
     }
 }
 
-/// `yes if test else no`
-fn cond(alloc: Global, test: Expr, yes: Expr, no: Expr) -> Result<Expr, NoMemory>
-    ensures { IfOk result (λ e. e ≡ ex.Cond test yes no) }
-{
-    let test = Boxed::new(alloc, test)?;
-    let yes = Boxed::new(alloc, yes)?;
-    let no = Boxed::new(alloc, no)?;
-    Ok(Expr::Cond { test, yes, no })
-}
-
 #[tactic(auto, unfolding(crate::specs::Reading::compared))]
 fn compared(alloc: Global, first: Expr, rest: Items<(CompareOp, Expr)>) -> Result<Expr, NoMemory>
     ensures { IfOk result (λ e. e ≡ spec.compared first rest) }
@@ -110,8 +99,13 @@ impl<F: Fn(Global, &mut Cursor<'_>, usize, Rule) -> Result<Expr, Refused<Syntax>
         ensures { Reads (spec.compare (spec.expr self.now.depth) (input_of tokens.old)) result tokens.new }
     {
         let first = self.sum(tokens, TOP_LEVEL)?;
-        let rest = self.comparisons(tokens)?;
-        Ok(compared(self.alloc, first, rest)?)
+        match self.comparisons(tokens) {
+            Ok(rest) => Ok(compared(self.alloc, first, rest)?),
+            Err(refused) => {
+                release(first);
+                Err(refused)
+            }
+        }
     }
 
     #[tactic(auto, unfolding(crate::specs::Reading::not_test))]
@@ -185,14 +179,18 @@ impl<F: Fn(Global, &mut Cursor<'_>, usize, Rule) -> Result<Expr, Refused<Syntax>
     }
 
     #[tactic(auto, unfolding(crate::specs::Reading::conditional))]
-    fn conditional(&self, tokens: &mut Cursor<'_>, yes: Expr) -> Result<Expr, Refused<Syntax>>
+    fn conditional(
+        &self,
+        tokens: &mut Cursor<'_>,
+        yes: Boxed<Expr>,
+    ) -> Result<Expr, Refused<Syntax>>
         requires { Nests self.now.depth (F.pre self.now.expr) (F.post self.now.expr) }
         ensures { Reads (spec.conditional (spec.expr self.now.depth) yes (input_of tokens.old)) result tokens.new }
     {
-        let test = self.or_test(tokens)?;
+        let test = Boxed::new(self.alloc, self.or_test(tokens)?)?;
         tokens.expect(Mark::Word(Word::Else))?;
-        let no = self.inner(tokens, Rule::Test)?;
-        Ok(cond(self.alloc, test, yes, no)?)
+        let no = Boxed::new(self.alloc, self.inner(tokens, Rule::Test)?)?;
+        Ok(Expr::Cond { test, yes, no })
     }
 
     #[tactic(auto, unfolding(crate::specs::Reading::whole_test))]
@@ -202,7 +200,8 @@ impl<F: Fn(Global, &mut Cursor<'_>, usize, Rule) -> Result<Expr, Refused<Syntax>
     {
         let first = self.or_test(tokens)?;
         if tokens.eat(Mark::Word(Word::If)) {
-            self.conditional(tokens, first)
+            let yes = Boxed::new(self.alloc, first)?;
+            self.conditional(tokens, yes)
         } else {
             Ok(first)
         }

@@ -36,6 +36,9 @@ pub struct Cursor<'a> {
     pub front: usize,
 }
 
+/// Lets a value go. A tree is let go here, so that this is proved once, for every type.
+pub fn release<T: Drop>(_value: T) {}
+
 fn is_mark(mark: Mark, kind: &Tok) -> bool
     ensures { result ≡ spec.is_mark mark kind.now }
 {
@@ -114,6 +117,16 @@ impl<'a> Cursor<'a> {
             Ok(())
         } else {
             Err(self.refuse())
+        }
+    }
+
+    /// What was read in front of the mark, which comes next and is taken.
+    pub fn closed<T: Drop>(&mut self, mark: Mark, found: T) -> Result<T, Refused<Syntax>>
+        ensures { Reads (spec.closed mark found (input_of self.old)) result self.new }
+    {
+        match self.expect(mark) {
+            Ok(()) => Ok(found),
+            Err(refused) => Err(refused),
         }
     }
 

@@ -19,7 +19,7 @@ use std::alloc::Global;
 fn tests(alloc: Global, tokens: &mut Cursor<'_>, depth: usize) -> Result<Expr, Refused<Syntax>>
     ensures { Reads (spec.tests depth (input_of tokens.old)) result tokens.new }
 {
-    let (found, comma) = Grammar { alloc, depth, expr }.members(tokens)?;
+    let (found, comma) = Grammar { alloc, depth, expr }.members(tokens, Rule::Test)?;
     Ok(tuple_of(found, comma))
 }
 

@@ -15,6 +15,7 @@ pub enum Rule {
     Test,
     NotTest,
     Factor,
+    Primary,
 }
 
 #[derive(Clone, Copy)]
@@ -42,6 +43,7 @@ impl<F: Fn(Global, &mut Cursor<'_>, usize, Rule) -> Result<Expr, Refused<Syntax>
             Rule::Test => self.test(tokens),
             Rule::NotTest => self.not_test(tokens),
             Rule::Factor => self.factor(tokens),
+            Rule::Primary => self.primary(tokens),
         }
     }
 }

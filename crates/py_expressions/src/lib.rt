@@ -12,7 +12,7 @@ mod operators;
 mod targets;
 
 pub use calls::Arguments;
-pub use cursor::{Cursor, Mark, Syntax};
+pub use cursor::{Cursor, Mark, Syntax, release};
 pub use expressions::{expressions_law, read_test, read_tests};
 pub use grammar::Rule;
 pub use targets::{read_gone, read_one, read_targets, target_of, targets_law};

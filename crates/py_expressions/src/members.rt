@@ -3,7 +3,6 @@
 ghost use Rattle.std.specs.Prelude.{◌≡◌, [], ◌∷◌, length};
 ghost use Rattle.std.specs.Option.{option_copied};
 ghost use Rattle.py_tree.specs.declared.expr.Expr.TheVariants as ex;
-ghost use Rattle.py_expressions.specs.declared.grammar.Rule.TheVariants as rule;
 ghost use Rattle.py_expressions.specs.Input.{Reads, input_of, seen};
 ghost use Rattle.py_expressions.specs.Reading as spec;
 ghost use Rattle.py_expressions.specs.Nests.{Nests};
@@ -68,32 +67,18 @@ pub(crate) fn or_of(found: Items<Expr>) -> Expr
 }
 
 impl<F: Fn(Global, &mut Cursor<'_>, usize, Rule) -> Result<Expr, Refused<Syntax>>> Grammar<F> {
-    /// One test or more, and whether a comma stands behind the last.
-    pub fn members(&self, tokens: &mut Cursor<'_>) -> Result<(Items<Expr>, bool), Refused<Syntax>>
+    /// One or more that the rule reads, and whether a comma stands behind the last.
+    pub fn members(
+        &self,
+        tokens: &mut Cursor<'_>,
+        item: Rule,
+    ) -> Result<(Items<Expr>, bool), Refused<Syntax>>
         requires { Nests self.now.depth (F.pre self.now.expr) (F.post self.now.expr) }
-        ensures { Reads (spec.members (spec.expr self.now.depth rule.Test) (input_of tokens.old)) result tokens.new }
+        ensures { Reads (spec.members (spec.expr self.now.depth item) (input_of tokens.old)) result tokens.new }
     {
         let mut found = Items::new(self.alloc);
         for _turn in 0..tokens.left() {
-            found.push(self.inner(tokens, Rule::Test)?)?;
-            if !tokens.eat(Mark::Op(Op::Comma)) {
-                return Ok((found, false));
-            }
-            if !begins_test(tokens.peek()) {
-                return Ok((found, true));
-            }
-        }
-        Err(tokens.refuse())
-    }
-
-    /// One primary or more, and whether a comma stands behind the last.
-    pub fn primaries(&self, tokens: &mut Cursor<'_>) -> Result<(Items<Expr>, bool), Refused<Syntax>>
-        requires { Nests self.now.depth (F.pre self.now.expr) (F.post self.now.expr) }
-        ensures { Reads (spec.members (spec.primary (spec.expr self.now.depth)) (input_of tokens.old)) result tokens.new }
-    {
-        let mut found = Items::new(self.alloc);
-        for _turn in 0..tokens.left() {
-            found.push(self.primary(tokens)?)?;
+            found.push(self.inner(tokens, item)?)?;
             if !tokens.eat(Mark::Op(Op::Comma)) {
                 return Ok((found, false));
             }
@@ -114,7 +99,7 @@ impl<F: Fn(Global, &mut Cursor<'_>, usize, Rule) -> Result<Expr, Refused<Syntax>
         ensures { Reads (spec.some_members (spec.expr self.now.depth) (input_of tokens.old)) result tokens.new }
     {
         if begins_test(tokens.peek()) {
-            self.members(tokens)
+            self.members(tokens, Rule::Test)
         } else {
             Ok((Items::new(self.alloc), false))
         }

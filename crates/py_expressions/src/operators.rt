@@ -1,15 +1,14 @@
 //! Signs, powers and binary operators.
 
-ghost use Rattle.std.specs.Prelude.{◌≡◌, ◌<◌, ◌-◌, IfOk};
+ghost use Rattle.std.specs.Prelude.{◌≡◌, ◌<◌, ◌-◌};
 ghost use Rattle.std.specs.Option.{option_copied};
-ghost use Rattle.py_tree.specs.declared.expr.Expr.TheVariants as ex;
 ghost use Rattle.py_expressions.specs.Input.{Reads, input_of, seen};
 ghost use Rattle.py_expressions.specs.Reading as spec;
 ghost use Rattle.py_expressions.specs.Nests.{Nests};
 
 use crate::cursor::{Cursor, Mark, Syntax};
 use crate::grammar::{Grammar, Rule};
-use mpy_base::{Boxed, NoMemory, Refused};
+use mpy_base::{Boxed, Refused};
 use py_tokens::{Op, Tok};
 use py_tree::{BinaryOp, Expr, UnaryOp};
 use std::alloc::Global;
@@ -47,14 +46,6 @@ fn operator(level: u8, kind: Option<&Tok>) -> Option<BinaryOp>
     }
 }
 
-fn binary(alloc: Global, op: BinaryOp, left: Expr, right: Expr) -> Result<Expr, NoMemory>
-    ensures { IfOk result (λ e. e ≡ ex.Binary op left right) }
-{
-    let left = Boxed::new(alloc, left)?;
-    let right = Boxed::new(alloc, right)?;
-    Ok(Expr::Binary { op, left, right })
-}
-
 impl<F: Fn(Global, &mut Cursor<'_>, usize, Rule) -> Result<Expr, Refused<Syntax>>> Grammar<F> {
     #[tactic(auto, unfolding(crate::specs::Reading::power))]
     fn power(&self, tokens: &mut Cursor<'_>) -> Result<Expr, Refused<Syntax>>
@@ -65,8 +56,10 @@ impl<F: Fn(Global, &mut Cursor<'_>, usize, Rule) -> Result<Expr, Refused<Syntax>
         if !tokens.eat(Mark::Op(Op::DoubleStar)) {
             return Ok(base);
         }
-        let exponent = self.inner(tokens, Rule::Factor)?;
-        Ok(binary(self.alloc, BinaryOp::Pow, base, exponent)?)
+        let op = BinaryOp::Pow;
+        let left = Boxed::new(self.alloc, base)?;
+        let right = Boxed::new(self.alloc, self.inner(tokens, Rule::Factor)?)?;
+        Ok(Expr::Binary { op, left, right })
     }
 
     #[tactic(auto, unfolding(crate::specs::Reading::factor))]
@@ -98,8 +91,13 @@ impl<F: Fn(Global, &mut Cursor<'_>, usize, Rule) -> Result<Expr, Refused<Syntax>
                 return Ok(left);
             };
             tokens.take();
-            let right = self.sum(tokens, level - 1)?;
-            left = binary(self.alloc, op, left, right)?;
+            let first = Boxed::new(self.alloc, left)?;
+            let right = Boxed::new(self.alloc, self.sum(tokens, level - 1)?)?;
+            left = Expr::Binary {
+                op,
+                left: first,
+                right,
+            };
         }
         Ok(left)
     }

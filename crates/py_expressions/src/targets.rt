@@ -16,7 +16,7 @@ ghost use Rattle.py_expressions.specs.Targets as spec;
 ghost use Rattle.py_expressions.specs.Targets.{One, Gone, Aims, one_text, one_tree, gone_text, gone_tree, aims_text, aims_tree, AimedMembers};
 
 use crate::calls::begins_trailer;
-use crate::cursor::{Cursor, Syntax};
+use crate::cursor::{Cursor, Syntax, release};
 use crate::grammar::{Grammar, Rule, expr};
 use crate::members::tuple_of;
 use mpy_base::{Items, NoMemory, Refused};
@@ -30,6 +30,7 @@ pub fn target_of(alloc: Global, depth: usize, value: Expr) -> Result<Option<Targ
     ensures { IfOk result (λ target. target ≡ spec.target_of depth value) }
 {
     if depth == 0 {
+        release(value);
         return Ok(None);
     }
     match value {
@@ -44,7 +45,10 @@ pub fn target_of(alloc: Global, depth: usize, value: Expr) -> Result<Option<Targ
         })),
         Expr::Tuple(members) => unpack(alloc, depth - 1, members),
         Expr::List(members) => unpack(alloc, depth - 1, members),
-        _ => Ok(None),
+        _ => {
+            release(value);
+            Ok(None)
+        }
     }
 }
 
@@ -92,7 +96,10 @@ fn part_of(value: Expr) -> Option<Target>
             object: object.into_inner(),
             index: index.into_inner(),
         }),
-        _ => None,
+        _ => {
+            release(value);
+            None
+        }
     }
 }
 
@@ -105,7 +112,20 @@ fn item_of(value: Expr) -> Option<Target>
             object: object.into_inner(),
             index: index.into_inner(),
         }),
-        _ => None,
+        _ => {
+            release(value);
+            None
+        }
+    }
+}
+
+fn whole_of(deletes: bool, value: Expr) -> Option<Target>
+    ensures { result ≡ spec.whole_of deletes value }
+{
+    if deletes {
+        item_of(value)
+    } else {
+        part_of(value)
     }
 }
 
@@ -115,7 +135,10 @@ fn alone(is_name: bool, value: Expr) -> Option<Target>
 {
     match value {
         Expr::Name(name) => is_name.then_some(Target::Name(name)),
-        _ => None,
+        _ => {
+            release(value);
+            None
+        }
     }
 }
 
@@ -133,9 +156,10 @@ fn given(tokens: &Cursor<'_>, found: Option<Target>) -> Result<Target, Refused<S
 }
 
 impl<F: Fn(Global, &mut Cursor<'_>, usize, Rule) -> Result<Expr, Refused<Syntax>>> Grammar<F> {
-    fn one(&self, tokens: &mut Cursor<'_>) -> Result<Target, Refused<Syntax>>
+    /// A name, or a primary that ends as the target of an augmented assignment, or as that of a `del`.
+    fn single(&self, tokens: &mut Cursor<'_>, deletes: bool) -> Result<Target, Refused<Syntax>>
         requires { Nests self.now.depth (F.pre self.now.expr) (F.post self.now.expr) }
-        ensures { Reads (spec.single spec.part_of (reading.expr self.now.depth) (input_of tokens.old)) result tokens.new }
+        ensures { Reads (spec.single (spec.whole_of deletes) (reading.expr self.now.depth) (input_of tokens.old)) result tokens.new }
     {
         let named = is_name(tokens.peek());
         let first = self.atom(tokens)?;
@@ -143,20 +167,7 @@ impl<F: Fn(Global, &mut Cursor<'_>, usize, Rule) -> Result<Expr, Refused<Syntax>
             return given(tokens, alone(named, first));
         }
         let whole = self.trailers(tokens, first)?;
-        given(tokens, part_of(whole))
-    }
-
-    fn gone(&self, tokens: &mut Cursor<'_>) -> Result<Target, Refused<Syntax>>
-        requires { Nests self.now.depth (F.pre self.now.expr) (F.post self.now.expr) }
-        ensures { Reads (spec.single spec.item_of (reading.expr self.now.depth) (input_of tokens.old)) result tokens.new }
-    {
-        let named = is_name(tokens.peek());
-        let first = self.atom(tokens)?;
-        if !begins_trailer(tokens.peek()) {
-            return given(tokens, alone(named, first));
-        }
-        let whole = self.trailers(tokens, first)?;
-        given(tokens, item_of(whole))
+        given(tokens, whole_of(deletes, whole))
     }
 }
 
@@ -164,22 +175,22 @@ fn one_target(alloc: Global, tokens: &mut Cursor<'_>) -> Result<Target, Refused<
     ensures { Reads (spec.one_target (input_of tokens.old)) result tokens.new }
 {
     let depth = tokens.left();
-    Grammar { alloc, depth, expr }.one(tokens)
+    Grammar { alloc, depth, expr }.single(tokens, false)
 }
 
 fn one_gone(alloc: Global, tokens: &mut Cursor<'_>) -> Result<Target, Refused<Syntax>>
     ensures { Reads (spec.one_gone (input_of tokens.old)) result tokens.new }
 {
     let depth = tokens.left();
-    Grammar { alloc, depth, expr }.gone(tokens)
+    Grammar { alloc, depth, expr }.single(tokens, true)
 }
 
 fn all_targets(alloc: Global, tokens: &mut Cursor<'_>) -> Result<Target, Refused<Syntax>>
     ensures { Reads (spec.all_targets (input_of tokens.old)) result tokens.new }
 {
-    let depth = tokens.left();
-    let (found, comma) = Grammar { alloc, depth, expr }.primaries(tokens)?;
-    let target = target_of(alloc, depth + 1, tuple_of(found, comma))?;
+    let depth = tokens.left() + 1;
+    let (found, comma) = Grammar { alloc, depth, expr }.members(tokens, Rule::Primary)?;
+    let target = target_of(alloc, depth, tuple_of(found, comma))?;
     given(tokens, target)
 }
 

@@ -36,9 +36,9 @@ target_of-returns-in-List t c =
     let e = deeper (λ n. target_of n c.args.value) c.args.depth (omega arith) ∙ ap (target_of (suc (c.args.depth - 1))) c.in-List.is ∙ target_list (c.args.depth - 1) c.in-List.members in
     rw e c.unpack-in-List.ensures
 
-pub target_of-returns : goal.target_of-returns
+pub target_of-returns-in_default : goal.target_of-returns-in_default
 unfolding target_of
-target_of-returns t c =
+target_of-returns-in_default t c =
     let e = deeper (λ n. target_of n c.args.value) c.args.depth (omega arith) in
     first_of (search (rules, the_lemmas), grind (arith, the_lemmas))
 

@@ -7,6 +7,6 @@ use Rattle.py_expressions.proofs.targets.item_of.Goals as goal
 pub returns-in-Index : goal.returns-in-Index
 returns-in-Index c = let e = ap item_of c.in-Index.is ∙ item_index c.in-Index.object c.in-Index.index in cc
 
-pub returns : goal.returns
+pub returns-in_default : goal.returns-in_default
 unfolding item_of
-returns c = first_of (search (rules, the_lemmas), grind (arith, the_lemmas))
+returns-in_default c = first_of (search (rules, the_lemmas), grind (arith, the_lemmas))

@@ -3,4 +3,4 @@ use Rattle.py_expressions.proofs.Singles.{one_by}
 use Rattle.py_expressions.proofs.targets.one_target.Goals as goal
 
 pub returns : goal.returns
-returns c = rw (one_by (input_of c.args.tokens.now) c.left-depth.result c.left-depth.ensures) c.one.ensures
+returns c = rw (one_by (input_of c.args.tokens.now) c.left-depth.result c.left-depth.ensures) c.single.ensures

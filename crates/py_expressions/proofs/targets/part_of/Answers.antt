@@ -10,6 +10,6 @@ returns-in-Attr c = let e = ap part_of c.in-Attr.is ∙ part_attribute c.in-Attr
 pub returns-in-Index : goal.returns-in-Index
 returns-in-Index c = let e = ap part_of c.in-Index.is ∙ part_index c.in-Index.object c.in-Index.index in cc
 
-pub returns : goal.returns
+pub returns-in_default : goal.returns-in_default
 unfolding part_of
-returns c = first_of (search (rules, the_lemmas), grind (arith, the_lemmas))
+returns-in_default c = first_of (search (rules, the_lemmas), grind (arith, the_lemmas))

@@ -15,9 +15,9 @@ chain-returns-in_default g t c =
     let e = one_more (λ n. chain (sum (expr c.args.self.now.depth) (c.args.level - 1)) c.args.level n c.loop-turn.left (input_of c.loop-turn.tokens)) _ c.loop-turn._turn c.loop-turn-test.true c.loop-turn.invariant in
     first_of (search rules, grind (arith, common_steps))
 
-pub chain-returns-in_err-right : goal.chain-returns-in_err-right
+pub chain-returns-in_err-sum : goal.chain-returns-in_err-sum
 unfolding chain
-chain-returns-in_err-right g t c =
+chain-returns-in_err-sum g t c =
     let e = one_more (λ n. chain (sum (expr c.args.self.now.depth) (c.args.level - 1)) c.args.level n c.loop-turn.left (input_of c.loop-turn.tokens)) _ c.loop-turn._turn c.loop-turn-test.true c.loop-turn.invariant in
     first_of (search rules, grind (arith, common_steps))
 
