@@ -1,8 +1,9 @@
 -- Texts that go into a pool one after another.
-use Rattle.std.proofs.Common.{◌≡◌, ℕ, zero, suc, ◌+◌, ◌-◌, ◌<◌, ◌≤◌, Bool, true, false, cond, nat_lt, List, [], ◌∷◌, ◌++◌, length, get_or, take, drop, map, not, ◌&&◌, ◌||◌, option_map, position, Option, Some, None, refl, sym, ap, ap₂, subst, ◌∙◌, length-append, arith}
-use Rattle.std.specs.Prelude.{slice_get, is_some}
+use Rattle.std.proofs.Common.{inl, inr, ◌≡◌, ℕ, zero, suc, ◌+◌, ◌-◌, ◌<◌, ◌≤◌, Bool, true, false, cond, nat_lt, List, [], ◌∷◌, ◌++◌, length, get_or, take, drop, map, not, ◌&&◌, ◌||◌, option_map, position, Option, Some, None, refl, sym, ap, ap₂, subst, ◌∙◌, length-append, arith}
+use Rattle.std.specs.Prelude.{slice_get, is_some, IfSome, IfNone}
 use Rattle.std.specs.List.{filter_map, cons_option, list_any}
 use Rattle.std.specs.Str.{bytes_eq}
+use Rattle.std.proofs.lemmas.Bool.{cases_lt}
 use Rattle.std.proofs.lemmas.Bool.Decides.{nat_tests}
 use Rattle.std.proofs.lemmas.List.{take_more, take_all, map-append}
 use Rattle.std.proofs.lemmas.List.Elements.{filter_map-append}
@@ -308,3 +309,22 @@ below_first pool n lt = taken_first (nat_lt n FIRST_OWN) (static_text_of n) (tex
 pub from_first_own : (pool : Texts) (n : ℕ) → FIRST_OWN ≤ n → text_of pool n ≡ text_numbered pool n
 unfolding text_numbered
 from_first_own pool n le = sym (from_own (static_text_of n) (text_of pool n) n le)
+
+-- a text that neither every file may name nor the pool has stands under no number
+pub unnumbered : (pool : Texts) (text : List ℕ) → IsOneToOne static_pool → IsOneToOne pool → static_number_of text ≡ None → number_of pool text ≡ None
+    → (n : ℕ) → text_numbered pool n ≡ Some text → ⊥
+unnumbered pool text static_law pool_law none other n q = elim (cases_lt n FIRST_OWN) [
+  | inl lt ↦ let found = sym none ∙ (static_law.inverse text n).1 (below_first pool n lt ∙ q) in cc
+  | inr ge ↦ let found = sym other ∙ (pool_law.inverse text n).1 (from_first_own pool n ge ∙ q) in cc
+]
+
+-- what the pool tells of a text that not every file may name
+pub found_number : (pool : Texts) (text : List ℕ) (found : Option ℕ) → pool.first ≡ FIRST_OWN → IsOneToOne pool → found ≡ number_of pool text → IfSome found (λ n. (pool.first ≤ n) × (n < pool.first + MAX_TABLE))
+    → IfSome found (λ n. text_numbered pool n ≡ Some text)
+found_number pool text None first law e within = tt
+found_number pool text (Some n) first law e within = pool_numbered pool text n law (sym e) (omega (arith, within.0))
+
+pub found_nowhere : (pool : Texts) (text : List ℕ) (found : Option ℕ) → IsOneToOne static_pool → IsOneToOne pool → static_number_of text ≡ None → found ≡ number_of pool text
+    → IfNone found ((n : ℕ) → text_numbered pool n ≡ Some text → ⊥)
+found_nowhere pool text None static_law pool_law none e = unnumbered pool text static_law pool_law none (sym e)
+found_nowhere pool text (Some n) static_law pool_law none e = tt

@@ -9,6 +9,7 @@ ghost use Rattle.bc_library.specs.Told.{IsTold};
 use crate::laws::library_law;
 use crate::library::{Library, Loaded, loaded_at};
 use crate::parts::Part;
+use crate::texts::known_number;
 use arena_heap::{ConstNo, Constants, StrNo, Value};
 use qstr_pool::{FIRST_OWN, Pool, static_text};
 
@@ -109,6 +110,11 @@ impl Constants for Library {
 
     fn one_number_law(&self) {
         library_law(self);
+    }
+
+    fn number(&self, text: &[u8]) -> Option<u32> {
+        library_law(self);
+        known_number(&self.pool, text)
     }
 
     fn items_law(&self) {

@@ -1,6 +1,6 @@
 //! The texts of a library, and their numbers.
 
-ghost use Rattle.std.specs.Prelude.{◌≡◌, ℕ, ◌<◌, ◌≤◌, List, [], ◌∷◌, length, map, None, Some, option_copied, IfOk, IfErr, OnOk, IsSome};
+ghost use Rattle.std.specs.Prelude.{◌≡◌, ℕ, ◌<◌, ◌≤◌, List, [], ◌∷◌, length, map, None, Some, option_copied, IfOk, IfErr, OnOk, IsSome, IfSome, IfNone};
 ghost use Rattle.std.specs.List.{filter_map};
 ghost use Rattle.std.specs.Option.{option_to_list};
 ghost use Rattle.mpy_base.specs.declared.refused.Refused.TheVariants as refused;
@@ -43,6 +43,20 @@ fn qstr_text(qstr: &Qstr) -> Option<&[u8]>
     match qstr {
         Qstr::Static(number) => static_text(*number),
         Qstr::Own(text) => Some(text.bytes()),
+    }
+}
+
+/// The number of the text, if it has one.
+pub(crate) fn known_number(pool: &Pool, text: &[u8]) -> Option<u32>
+    requires { pool.now.first ≡ FIRST_OWN }
+    ensures number { IfSome result (λ n. text_numbered pool.now n ≡ Some text.now) }
+    ensures none { IfNone result ((n : ℕ) → text_numbered pool.now n ≡ Some text.now → ⊥) }
+{
+    static_law();
+    pool_law(pool);
+    match static_number(text) {
+        Some(number) => Some(u32::from(number)),
+        None => pool.find(text),
     }
 }
 
