@@ -10,7 +10,6 @@ use Rattle.py_tokens.specs.declared.token.Tok.TheVariants as toks
 use Rattle.py_tokens.specs.declared.token.Token.{Token}
 use Rattle.py_nest.specs.declared.effect.Effect.{Effect}
 use Rattle.py_nest.specs.declared.effect.Effect.TheVariants.{Pushes, Closes, Pops, Counts, Clears, Keeps}
-use Rattle.py_nest.specs.declared.nest.TheConstants.{MAX_NEST}
 
 -- effects
 -- =======
@@ -102,7 +101,7 @@ nest tokens = depth (levels_of tokens)
 
 -- no front of the tokens nests too deep
 abbrev pub Nests : List Token → Type 0
-Nests tokens = (count : ℕ) → nest (take count tokens) ≤ MAX_NEST
+Nests tokens = (count : ℕ) → nest (take count tokens) ≤ 200
 
 -- the shortest front that nests too deep ends with a token in that line
 pub record IsTooDeep (tokens : List Token) (line : ℕ) : Type 0 where
@@ -111,7 +110,7 @@ pub record IsTooDeep (tokens : List Token) (line : ℕ) : Type 0 where
   pub rest : List Token
   pub splits : tokens ≡ front ++ last ∷ rest
   pub nests : Nests front
-  pub passes : MAX_NEST < nest (front ++ last ∷ [])
+  pub passes : 200 < nest (front ++ last ∷ [])
   pub stands : line ≡ last.line
 
 -- what a stack of counts holds in front of a place, the last first

@@ -1,7 +1,6 @@
 -- The tokens of a source, and its first fault.
 use Rattle.std.specs.Prelude.{◌≡◌, ℕ, ◌+◌, ◌<◌, ◌≤◌, ◌⊎◌, List, [], ◌∷◌, ◌++◌, length, take, Result, Ok, Err, if◌then◌else◌, ◌==◌, ◌&&◌, ◌||◌, Bool, false, not, Vec}
 use Rattle.std.specs.declared.alloc.Global.{Global}
-use Rattle.mpy_base.specs.declared.limits.TheConstants.{MAX_SOURCE_BYTES}
 use Rattle.mpy_base.specs.declared.refused.Refused.{Refused}
 use Rattle.mpy_base.specs.declared.refused.Refused.TheVariants as refused
 use Rattle.mpy_base.specs.declared.source.SourceFault.{SourceFault}
@@ -64,7 +63,7 @@ pub record IsRefused (opt : ℕ) (source : List ℕ) (fault : SourceFault) : Typ
 
 -- the tokens of a source
 pub record IsTokens (opt : ℕ) (source : List ℕ) (tokens : List Token) : Type 0 where
-  pub short : length source ≤ MAX_SOURCE_BYTES
+  pub short : length source ≤ 1048576
   pub reading : IsReading opt source (Ok tokens)
 
 -- what is read of a source that isn't too long, up to its first fault
@@ -74,7 +73,7 @@ IsFault opt source fault = IsReading opt source (Err fault) ⊎ IsRefused opt so
 -- the first fault of a source
 abbrev pub IsFirstFault : ℕ → List ℕ → SourceFault → Type 0
 IsFirstFault opt source fault =
-    ((MAX_SOURCE_BYTES < length source) × (fault ≡ too_long)) ⊎ ((length source ≤ MAX_SOURCE_BYTES) × IsFault opt source fault)
+    ((1048576 < length source) × (fault ≡ too_long)) ⊎ ((length source ≤ 1048576) × IsFault opt source fault)
 
 -- the answer is right
 abbrev pub Says : ℕ → List ℕ → Result (Vec Token Global) (Refused SourceFault) → Type 0
