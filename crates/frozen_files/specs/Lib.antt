@@ -1,4 +1,4 @@
-pub mod Faults
+pub use Rattle.frozen_faults.specs.Faults
 pub mod Sources
 pub mod Frozen
 pub mod Given

@@ -19,10 +19,10 @@ use Rattle.image_grammar.specs.declared.fault.ImageFault.{ImageFault}
 use Rattle.image_grammar.specs.Fault as image
 use Rattle.image_runs.specs.declared.fault.MainFault.{MainFault}
 use Rattle.image_runs.specs.declared.fault.MainFault.TheVariants as mains
-use Rattle.frozen_files.specs.declared.fault.SourcesFault.{SourcesFault}
-use Rattle.frozen_files.specs.declared.fault.SourcesFault.TheVariants as sources
-use Rattle.frozen_files.specs.declared.fault.FrozenFault.{FrozenFault}
-use Rattle.frozen_files.specs.declared.fault.FrozenFault.TheVariants as frozen
+use Rattle.frozen_faults.specs.declared.fault.SourcesFault.{SourcesFault}
+use Rattle.frozen_faults.specs.declared.fault.SourcesFault.TheVariants as sources
+use Rattle.frozen_faults.specs.declared.fault.FrozenFault.{FrozenFault}
+use Rattle.frozen_faults.specs.declared.fault.FrozenFault.TheVariants as frozen
 use Rattle.board_plan.specs.declared.plan.PlanFault.{PlanFault}
 use Rattle.board_plan.specs.declared.plan.PlanFault.TheVariants as plans
 use Rattle.mpy_words.specs.declared.order.WordFault.{WordFault}

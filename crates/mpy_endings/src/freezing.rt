@@ -8,7 +8,7 @@ use crate::line::say_fault;
 use crate::put::{
     put, put_head, put_index, put_last_index, put_last_word, put_numbered, put_three, put_word,
 };
-use frozen_files::{FrozenFault, SourcesFault};
+use frozen_faults::{FrozenFault, SourcesFault};
 use image_grammar::ImageFault;
 use image_runs::MainFault;
 use manifest_files::ManifestFault;

@@ -1,12 +1,12 @@
 //! The line that is said at the end of a command.
 
-ghost use Rattle.std.specs.Prelude.{◌≡◌, ◌++◌, List, ℕ, true, map, string_bytes, codes, decimal};
+ghost use Rattle.std.specs.Prelude.{◌≡◌, ◌++◌, true, map, string_bytes, codes, decimal};
 ghost use Rattle.mpy_reader.specs.Fault as file;
 ghost use Rattle.bc_verify.specs.Rule as rules;
 ghost use Rattle.mpy_merge.specs.Numbers as merges;
 ghost use Rattle.mpy_endings.specs.Ending.{is_stop_said, is_said};
 ghost use Rattle.mpy_endings.specs.Line as spec;
-ghost use Rattle.mpy_endings.specs.Line.{Puts, spaced, words_line, source_line, file_line, tag_text, path_text, verify_line, merge_line, stop_line, line_of};
+ghost use Rattle.mpy_endings.specs.Line.{Puts, words_line, source_line, file_line, tag_text, path_text, verify_line, merge_line, stop_line, line_of};
 
 use crate::boards::say_board;
 use crate::ending::{Ending, Stop};
