@@ -6,3 +6,4 @@ mod meant;
 pub use meant::{
     crossed_holds_law, go_means_law, holds_law, image_holds_law, makes_law, run_means_law,
 };
+pub use mpy_headline::meant_law;
