@@ -1,4 +1,4 @@
-//! Orders that run no library.
+//! Orders that run nothing.
 
 ghost use Rattle.std.specs.Prelude.{◌≡◌, ◌≤◌, [], true, false, map, string_bytes, IfSome};
 ghost use Rattle.mpy_io.specs.Count.{Counts};
@@ -69,7 +69,8 @@ fn ran_alone<F: Folder, S: Sink>(
         }
         Command::Merge => merge_files(alloc, file_names(words), name, folder),
         Command::Migrate => Ended::of_two(migrate(alloc, name, word_at(words, 2), folder)),
-        Command::Go | Command::Freeze | Command::Run | Command::Board => unreachable!(),
+        Command::Go | Command::Freeze | Command::Run => unreachable!(),
+        Command::Board | Command::Stress => unreachable!(),
     }
 }
 
@@ -102,7 +103,7 @@ fn ran<F: Folder, S: Sink>(
             release(below);
             ran_alone(order, alloc, words, folder, out)
         }
-        Command::Go | Command::Run => unreachable!(),
+        Command::Go | Command::Run | Command::Stress => unreachable!(),
     }
 }
 
