@@ -10,18 +10,18 @@ use Rattle.mpy_words.specs.declared.order.Command.{Command}
 use Rattle.mpy_words.specs.declared.order.Command.TheVariants.{Go, Check, Dump, Cross, Merge, Freeze, Migrate, Run, Board, Stress}
 use Rattle.mpy_words.specs.declared.order.Order.{Order}
 use Rattle.mpy_words.specs.Words.{Outcome, first_name, second_name, source_name, main_name, file_names}
-use Rattle.board_files.specs.Files.{KeepsOthers}
-use Rattle.command_files.specs.Outside.{Outside, Ends, EndsAt, Writes, WritesOf}
-use Rattle.command_files.proofs.Others.{same_only}
-use Rattle.file_commands.specs.Check.{Checks}
-use Rattle.file_commands.specs.Cross.{Crosses}
-use Rattle.file_commands.specs.Dump.{Dumps}
-use Rattle.file_commands.specs.Merge.{Merges}
-use Rattle.run_commands.specs.Ready.{GoLibrary}
-use Rattle.run_commands.specs.Run.{EndsRun, room_of}
+use Rattle.board_command.specs.board_files.Files.{KeepsOthers}
+use Rattle.run_meaning.specs.command_files.Outside.{Outside, Ends, EndsAt, Writes, WritesOf}
+use Rattle.run_meaning.proofs.command_files_lemmas.Others.{same_only}
+use Rattle.run_meaning.specs.file_commands.Check.{Checks}
+use Rattle.run_meaning.specs.file_commands.Cross.{Crosses}
+use Rattle.run_meaning.specs.file_commands.Dump.{Dumps}
+use Rattle.run_meaning.specs.file_commands.Merge.{Merges}
+use Rattle.base_commands.specs.run_commands.Ready.{GoLibrary}
+use Rattle.base_commands.specs.run_commands.Run.{EndsRun, room_of}
 use Rattle.run_meaning.specs.Meant.{Libraries, RunMeans}
 use Rattle.run_meaning.proofs.Meaning.{MeantLaw, run_means}
-use Rattle.image_commands.specs.Migrate.{Migrates}
+use Rattle.run_meaning.specs.image_commands.Migrate.{Migrates}
 use Rattle.base_library.specs.Base.{HoldsBase}
 use Rattle.base_library.specs.Over.{EndsAtBase}
 use Rattle.board_command.specs.Boards.{Boards}

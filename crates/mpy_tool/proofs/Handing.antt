@@ -11,8 +11,8 @@ use Rattle.mpy_words.specs.declared.order.Order.{Order}
 use Rattle.mpy_words.specs.Words.{first_name, second_name}
 use Rattle.mpy_endings.specs.declared.ending.Ending.{Ending}
 use Rattle.mpy_endings.specs.declared.ending.Ending.TheVariants.{Done, WriteFault}
-use Rattle.file_commands.specs.Check.{verified_line}
-use Rattle.file_commands.proofs.HandedOn.{checks_cut, dumps_cut}
+use Rattle.run_meaning.specs.file_commands.Check.{verified_line}
+use Rattle.run_meaning.proofs.file_commands_lemmas.HandedOn.{checks_cut, dumps_cut}
 use Rattle.board_command.specs.Images.{library_below}
 use Rattle.board_command.proofs.Ending.{unflushed}
 use Rattle.mpy_tool.specs.Below.{FreezesBelow}

@@ -7,9 +7,9 @@ use Rattle.mpy_endings.specs.declared.ending.Ending.{Ending}
 use Rattle.mpy_endings.specs.declared.ending.Ending.TheVariants.{Done, Unaccepted, Unread, Unverified, Unmerged, Unopened, Unfrozen, Unboarded, Stopped, ReadFault, WriteFault, Unwritten, NoMemory, Absent}
 use Rattle.mpy_endings.specs.declared.ending.Stop.TheVariants.{Past, LibraryFault, LibraryUnaccepted, Raised, Memory, Steps}
 use Rattle.mpy_endings.specs.Ending.{status_of}
-use Rattle.command_files.specs.Outside.{Outside}
-use Rattle.run_commands.specs.Ready.{GoLibrary}
-use Rattle.run_commands.specs.Run.{EndsRun, IsUnloaded}
+use Rattle.run_meaning.specs.command_files.Outside.{Outside}
+use Rattle.base_commands.specs.run_commands.Ready.{GoLibrary}
+use Rattle.base_commands.specs.run_commands.Run.{EndsRun, IsUnloaded}
 use Rattle.run_meaning.specs.GoMeant.{GoMeans}
 use Rattle.run_meaning.specs.Meant.{IsRunStatus}
 use Rattle.stress_command.specs.Stress.{EndsStress, Ran, beside, stress_name}

@@ -13,15 +13,15 @@ use Rattle.source_files.specs.Sources.{stored}
 use Rattle.mpy_endings.specs.declared.ending.Ending.{Ending}
 use Rattle.mpy_endings.specs.Ending.{is_folder_fault, is_out_fault, status_of}
 use Rattle.mpy_endings.specs.Line.{Says, line_of, place_in}
-use Rattle.command_files.specs.Outside.{Outside, EndsAt}
-use Rattle.file_commands.specs.Check.{Checks}
-use Rattle.file_commands.specs.Cross.{Crosses}
-use Rattle.file_commands.specs.Dump.{Dumps}
-use Rattle.file_commands.specs.Merge.{Merges}
-use Rattle.run_commands.specs.Ready.{GoLibrary}
-use Rattle.run_commands.specs.Run.{EndsRun, room_of}
+use Rattle.run_meaning.specs.command_files.Outside.{Outside, EndsAt}
+use Rattle.run_meaning.specs.file_commands.Check.{Checks}
+use Rattle.run_meaning.specs.file_commands.Cross.{Crosses}
+use Rattle.run_meaning.specs.file_commands.Dump.{Dumps}
+use Rattle.run_meaning.specs.file_commands.Merge.{Merges}
+use Rattle.base_commands.specs.run_commands.Ready.{GoLibrary}
+use Rattle.base_commands.specs.run_commands.Run.{EndsRun, room_of}
 use Rattle.run_meaning.specs.Meant.{Libraries}
-use Rattle.image_commands.specs.Migrate.{Migrates}
+use Rattle.run_meaning.specs.image_commands.Migrate.{Migrates}
 use Rattle.board_command.specs.Images.{library_below}
 use Rattle.board_command.specs.Boards.{Boards}
 use Rattle.stress_command.specs.Stress.{EndsStress}

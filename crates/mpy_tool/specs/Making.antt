@@ -3,7 +3,7 @@ use Rattle.std.specs.Prelude.{◌≡◌, ◌⊎◌, ℕ, List, Option}
 use Rattle.std.specs.Io.KnownBytes.{Appends}
 use Rattle.mpy_base.specs.declared.room.Room.{Room}
 use Rattle.mpy_io.specs.Ports.{PortView}
-use Rattle.command_files.specs.Outside.{Outside}
+use Rattle.run_meaning.specs.command_files.Outside.{Outside}
 use Rattle.run_meaning.specs.GoMeant.{GoMeans}
 use Rattle.run_meaning.specs.Meant.{IsRunStatus}
 use Rattle.stress_command.specs.Stress.{HasLibrary, Unprinted, beside, lines, stress_name}

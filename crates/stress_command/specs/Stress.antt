@@ -14,7 +14,7 @@ use Rattle.bc_library.specs.Shelf.{module_at}
 use Rattle.mpy_endings.specs.declared.ending.Ending.TheVariants.{WriteFault}
 use Rattle.mpy_endings.specs.Ending.{status_of}
 use Rattle.mpy_endings.specs.Line.{Says, line_of}
-use Rattle.command_files.specs.Outside.{Outside}
+use Rattle.run_commands.specs.command_files.Outside.{Outside}
 use Rattle.run_commands.specs.declared.ready.Ready.{Ready}
 use Rattle.run_commands.specs.Ready.{GoLibrary}
 use Rattle.run_commands.specs.Run.{EndsRun, IsUnloaded}

@@ -8,7 +8,7 @@ ghost use Rattle.image_runs.specs.Main.{IsMainAt};
 ghost use Rattle.library_files.specs.Ends.{HoldsModules};
 ghost use Rattle.stress_source.specs.Source.{stress_text};
 ghost use Rattle.mpy_io.specs.Memory.{file_of};
-ghost use Rattle.command_files.specs.Opened.{failed_in};
+ghost use Rattle.run_commands.specs.command_files.Opened.{failed_in};
 ghost use Rattle.run_commands.specs.Ready.{GoLibrary};
 ghost use Rattle.run_commands.specs.Run.{IsUnloaded};
 ghost use Rattle.stress_command.specs.Stress.{HasCodes, most_assignments, stress_files, stress_name};

@@ -1,5 +1,5 @@
 use Rattle.std.proofs.Common.{map, string_bytes, refl, sym, ◌∙◌}
-use Rattle.command_files.specs.Outside.{seen}
+use Rattle.run_meaning.specs.command_files.Outside.{seen}
 use Rattle.mpy_tool.proofs.Acting.{acts_run, acts_do, acts_make, quiet, same_changes}
 use Rattle.mpy_tool.proofs.top.act.Goals as goal
 

@@ -1,5 +1,5 @@
 use Rattle.std.proofs.Common.{map, string_bytes}
-use Rattle.command_files.specs.Outside.{seen}
+use Rattle.run_meaning.specs.command_files.Outside.{seen}
 use Rattle.mpy_words.specs.Words.{order_of}
 use Rattle.mpy_tool.proofs.Acting.{cross_ordered, freeze_ordered, migrate_ordered, means_ordered, stress_ordered, stress_means_ordered}
 use Rattle.mpy_tool.proofs.top.mpy.Goals as goal
