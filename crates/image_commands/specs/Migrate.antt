@@ -14,7 +14,7 @@ use Rattle.image_runs.specs.declared.fault.MainFault.TheVariants as mains
 use Rattle.frozen_faults.specs.declared.fault.FrozenFault.TheVariants as frozen
 use Rattle.mpy_endings.specs.declared.ending.Ending.{Ending}
 use Rattle.mpy_endings.specs.declared.ending.Ending.TheVariants.{Done, Unaccepted, Unread, Unverified, Unmerged, Unopened, Unfrozen, Unboarded, Stopped, ReadFault, WriteFault, Unwritten, NoMemory, Absent}
-use Rattle.command_files.specs.Folder.{MayHold, IsNotRead}
+use Rattle.base_library.specs.command_files.Folder.{MayHold, IsNotRead}
 use Rattle.base_library.specs.Base.{HoldsNoImage}
 
 -- the bytes are the image of version 2 of the modules of the image under the name, which lies over nothing
