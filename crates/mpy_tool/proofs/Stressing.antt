@@ -1,5 +1,5 @@
 -- What the run of a made source says of its program, from how it ended.
-use Rattle.std.proofs.Common.{◌≡◌, ◌⊎◌, ℕ, List, sym, subst, ◌∙◌, inl, inr}
+use Rattle.std.proofs.Common.{◌≡◌, ◌⊎◌, ℕ, List, subst, inl, inr}
 use Rattle.mpy_base.specs.declared.room.Room.{Room}
 use Rattle.mpy_io.specs.Ports.{PortView}
 use Rattle.image_runs.specs.declared.fault.MainFault.TheVariants as mains

@@ -1,4 +1,4 @@
-use Rattle.std.proofs.Common.{◌≡◌, ℕ, Option, Some, Ok, map, ap, refl, subst}
+use Rattle.std.proofs.Common.{◌≡◌, ℕ, Some, Ok, map, ap, refl, subst}
 use Rattle.run_commands.specs.Ready.{GoLibrary}
 use Rattle.run_commands.proofs.Running.{says_run, ends_run, status_zero}
 use Rattle.stress_command.specs.Stress.{sinks, stress_files, stress_name}
