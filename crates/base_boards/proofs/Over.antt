@@ -6,7 +6,7 @@ use Rattle.py_meaning.specs.Program.{Program}
 use Rattle.program_runs.specs.Units.{AreUnits}
 use Rattle.image_open.specs.Opens.{Opens}
 use Rattle.image_open.specs.OpensOn.{OpensOn}
-use Rattle.base_files.specs.Frozen.{HoldsFrozenOn}
+use Rattle.base_programs.specs.base_files.Frozen.{HoldsFrozenOn}
 use Rattle.base_programs.specs.Programs.{HoldsOver, IsImageOfSources, IsProgramOver, Sources}
 use Rattle.board_command.specs.Images.{HoldsImage}
 use Rattle.board_command.proofs.Meaning.{HasPrograms}

@@ -5,7 +5,7 @@ ghost use Rattle.mpy_io.specs.Files.{FileOf};
 ghost use Rattle.bc_library.specs.Shelf.{Shelf};
 ghost use Rattle.image_open.specs.Opens.{Opens};
 ghost use Rattle.board_plan.specs.declared.plan.Plan.{Plan};
-ghost use Rattle.base_files.specs.Frozen.{HoldsFrozenOn};
+ghost use Rattle.base_programs.specs.base_files.Frozen.{HoldsFrozenOn};
 ghost use Rattle.base_programs.specs.Programs.{IsImageOfSources, IsProgramOver, Sources};
 ghost use Rattle.mpy_endings.specs.declared.ending.Ending.TheVariants.{Done};
 ghost use Rattle.board_command.specs.Boards.{Boards};
@@ -13,7 +13,7 @@ ghost use Rattle.board_command.specs.Meant.{MeansTasks};
 ghost use Rattle.board_command.specs.Plans.{HoldsPlan};
 
 use base_programs::over_law;
-use board_meaning::tasks_law;
+use board_command::tasks_law;
 use vm_programs::program_law;
 
 /// Where the base is opened as the library of an image of a manifest's sources, and the image of the name `image` is that of another

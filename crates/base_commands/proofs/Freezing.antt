@@ -4,9 +4,9 @@ use Rattle.mpy_io.specs.Files.{FileOf}
 use Rattle.mpy_endings.specs.declared.ending.Ending.{Ending}
 use Rattle.mpy_endings.specs.declared.ending.Ending.TheVariants.{Done, Unaccepted, Unread, Unverified, Unmerged, Unopened, Unfrozen, Unboarded, Stopped, ReadFault, WriteFault, Unwritten, NoMemory, Absent}
 use Rattle.bc_library.specs.Shelf.{Shelf}
-use Rattle.command_files.specs.Folder.{ChangesOnly}
+use Rattle.run_commands.specs.command_files.Folder.{ChangesOnly}
 use Rattle.base_commands.specs.Freeze.{FreezesOn}
-use Rattle.command_files.proofs.Others.{same_only, became_only, front_only}
+use Rattle.run_commands.proofs.command_files_lemmas.Others.{same_only, became_only, front_only}
 
 pub freezes_on_only : (below : Shelf) (manifest written : List ℕ) (old new : Option FileOf) (ending : Ending) → FreezesOn below manifest written old new ending → ChangesOnly old new written
 freezes_on_only below manifest written old new Done h = became_only old new written h.0 h.2

@@ -6,8 +6,8 @@ use Rattle.bc_library.specs.Shelf.{Shelf}
 use Rattle.mpy_endings.specs.declared.ending.Ending.{Ending}
 use Rattle.mpy_endings.specs.declared.ending.Ending.TheVariants.{Done, Unaccepted, Unread, Unverified, Unmerged, Unopened, Unfrozen, Unboarded, Stopped, ReadFault, WriteFault, Unwritten, NoMemory, Absent}
 use Rattle.mpy_endings.specs.Ending.{is_folder_fault}
-use Rattle.command_files.specs.Folder.{IsNotRead, MayHold}
-use Rattle.command_files.specs.Opened.{failed_in}
+use Rattle.run_commands.specs.command_files.Folder.{IsNotRead, MayHold}
+use Rattle.run_commands.specs.command_files.Opened.{failed_in}
 use Rattle.run_commands.specs.declared.ready.Ready.{Ready}
 use Rattle.run_commands.specs.Ready.{FirstOf, begins_image}
 use Rattle.run_commands.specs.Run.{FileLibrary, IsUnloaded}

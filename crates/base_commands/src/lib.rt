@@ -6,3 +6,4 @@ mod ready;
 
 pub use freeze_command::freeze_on;
 pub use ready::run_ready_on;
+pub use run_commands::{Ready, run_loaded, run_ready, source_ready};

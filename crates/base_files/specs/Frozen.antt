@@ -9,8 +9,8 @@ use Rattle.image_base.specs.Base.{base_of}
 use Rattle.image_open.specs.OpensOn.{OpensOn, with_entries}
 use Rattle.image_freeze.specs.declared.named.Named.{Named}
 use Rattle.image_freeze.specs.Frozen.{FreezeFault, entries_of, image_bytes, second_front}
-use Rattle.frozen_files.specs.declared.fault.FrozenFault.{FrozenFault}
-use Rattle.frozen_files.specs.declared.fault.FrozenFault.TheVariants.{Sources, Image}
+use Rattle.frozen_faults.specs.declared.fault.FrozenFault.{FrozenFault}
+use Rattle.frozen_faults.specs.declared.fault.FrozenFault.TheVariants.{Sources, Image}
 use Rattle.frozen_files.specs.Faults.{FaultIs}
 use Rattle.frozen_files.specs.Sources.{HoldsSources, RefusesSources}
 

@@ -1,6 +1,6 @@
 //! Opening a base.
 
-ghost use Rattle.std.specs.Prelude.{◌≡◌, IfOk, IfErr};
+ghost use Rattle.std.specs.Prelude.{◌≡◌, IfOk};
 ghost use Rattle.mpy_io.specs.Count.{Counts};
 ghost use Rattle.image_base.specs.Base.{IsOpened};
 ghost use Rattle.command_files.specs.Opened.{failed_in};

@@ -4,3 +4,4 @@
 mod base;
 
 pub use base::base_library;
+pub use command_files::read_file;

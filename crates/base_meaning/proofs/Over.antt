@@ -11,17 +11,17 @@ use Rattle.image_grammar.specs.declared.entry.Entry.{Entry}
 use Rattle.image_open.specs.Opens.{Opens}
 use Rattle.image_migrate.specs.Migrated.{Migrates as MigratesTo}
 use Rattle.image_runs.specs.Main.{HoldsMain}
-use Rattle.frozen_files.specs.Frozen.{HoldsFrozen}
-use Rattle.frozen_programs.specs.Programs.{IsProgramOfManifest}
+use Rattle.run_meaning.specs.frozen_files.Frozen.{HoldsFrozen}
+use Rattle.run_meaning.specs.frozen_programs.Programs.{IsProgramOfManifest}
 use Rattle.mpy_endings.specs.declared.ending.Ending.TheVariants.{Done}
-use Rattle.base_library.specs.Base.{HoldsBase}
+use Rattle.run_meaning.specs.base_library.Base.{HoldsBase}
 use Rattle.base_runs.specs.Main.{HoldsMainOn}
 use Rattle.base_programs.specs.Programs.{HoldsOver, IsImageOfSources, IsProgramOver, Sources}
 use Rattle.base_commands.specs.Freeze.{FreezesOn}
-use Rattle.image_commands.specs.Migrate.{Migrates}
-use Rattle.run_commands.specs.declared.ready.Ready.{Ready}
-use Rattle.run_commands.specs.Ready as alone
-use Rattle.run_commands.specs.Ready.{RunLibrary, begins_image}
+use Rattle.run_meaning.specs.image_commands.Migrate.{Migrates}
+use Rattle.base_commands.specs.run_commands.declared.ready.Ready.{Ready}
+use Rattle.base_commands.specs.run_commands.Ready as alone
+use Rattle.base_commands.specs.run_commands.Ready.{RunLibrary, begins_image}
 use Rattle.run_meaning.specs.Meant.{HoldsImage, HoldsProgram}
 use Rattle.base_commands.specs.Ready as overs
 use Rattle.base_commands.specs.Ready.{RunLibraryOn}

@@ -3,7 +3,7 @@ use Rattle.std.specs.Prelude.{◌≡◌, ℕ, List, Some}
 use Rattle.mpy_io.specs.Files.{FileOf}
 use Rattle.bc_library.specs.Shelf.{Shelf}
 use Rattle.image_open.specs.Opens.{Opens}
-use Rattle.base_files.specs.Frozen.{HoldsFrozenOn}
+use Rattle.base_commands.specs.base_files.Frozen.{HoldsFrozenOn}
 use Rattle.base_programs.specs.Programs.{IsImageOfSources, Sources}
 
 -- the file under the name is an image over nothing, of version 1 or 2, of the manifest's sources

@@ -7,21 +7,21 @@ ghost use Rattle.mpy_io.specs.Ports.{PortView};
 ghost use Rattle.bc_library.specs.Shelf.{Shelf};
 ghost use Rattle.py_meaning.specs.Program.{Program};
 ghost use Rattle.mpy_endings.specs.declared.ending.Ending.TheVariants.{Done};
-ghost use Rattle.command_files.specs.Outside.{Outside};
-ghost use Rattle.frozen_programs.specs.Programs.{IsProgramOfManifest};
-ghost use Rattle.base_library.specs.Base.{HoldsBase};
+ghost use Rattle.run_meaning.specs.command_files.Outside.{Outside};
+ghost use Rattle.run_meaning.specs.frozen_programs.Programs.{IsProgramOfManifest};
+ghost use Rattle.run_meaning.specs.base_library.Base.{HoldsBase};
 ghost use Rattle.base_programs.specs.Programs.{IsProgramOver, Sources};
 ghost use Rattle.base_commands.specs.Freeze.{FreezesOn};
-ghost use Rattle.image_commands.specs.Migrate.{Migrates};
-ghost use Rattle.run_commands.specs.declared.ready.Ready.{Ready};
-ghost use Rattle.run_commands.specs.Ready.{RunLibrary};
-ghost use Rattle.run_commands.specs.Run.{EndsRun};
+ghost use Rattle.run_meaning.specs.image_commands.Migrate.{Migrates};
+ghost use Rattle.base_commands.specs.run_commands.declared.ready.Ready.{Ready};
+ghost use Rattle.base_commands.specs.run_commands.Ready.{RunLibrary};
+ghost use Rattle.base_commands.specs.run_commands.Run.{EndsRun};
 ghost use Rattle.run_meaning.specs.Meant.{HoldsImage, HoldsProgram, RunMeans};
 ghost use Rattle.base_commands.specs.Ready.{RunLibraryOn};
 ghost use Rattle.base_meaning.specs.Over.{HoldsImageOf, HoldsImageOver};
 
 use base_programs::{made_law, one_library_law, over_law};
-use mpy_headline::meant_law;
+use run_meaning::meant_law;
 
 /// A run over a base does as each program means whose units its library has.
 pub fn run_over_means_law()

@@ -15,10 +15,10 @@ use Rattle.image_open.specs.OpensOn.{OpensOn}
 use Rattle.image_runs.specs.Main.{HoldsMain}
 use Rattle.board_plan.specs.declared.plan.Plan.{Plan}
 use Rattle.board_plan.specs.declared.plan.Task.{Task}
-use Rattle.board_tasks.specs.Opened.{first_missing, missing_by, number_by, number_of}
-use Rattle.board_files.specs.Summaries.{HasRun}
+use Rattle.board_meaning.specs.board_tasks.Opened.{first_missing, missing_by, number_by, number_of}
+use Rattle.board_meaning.specs.board_files.Summaries.{HasRun}
 use Rattle.board_meaning.specs.Meant.{RanAsMeant}
-use Rattle.frozen_files.specs.Frozen.{HoldsFrozen}
+use Rattle.frozen_programs.specs.frozen_files.Frozen.{HoldsFrozen}
 use Rattle.frozen_programs.specs.Programs.{IsProgramOfManifest}
 use Rattle.mpy_endings.specs.declared.ending.Ending.TheVariants.{Done}
 use Rattle.board_command.specs.Boards.{Boards}

@@ -6,9 +6,9 @@ use Rattle.bc_library.specs.Shelf.{Shelf}
 use Rattle.vm_states.specs.Means.{Program}
 use Rattle.vm_programs.specs.Programs.{IsProgramOf, IsRunnable}
 use Rattle.board_plan.specs.declared.plan.Plan.{Plan}
-use Rattle.board_tasks.specs.Opened.{first_missing}
-use Rattle.board_files.specs.Files.{KeepsOthers}
-use Rattle.board_files.specs.Summaries.{HasRunIn, HasRunFrontIn}
+use Rattle.board_meaning.specs.board_tasks.Opened.{first_missing}
+use Rattle.board_meaning.specs.board_files.Files.{KeepsOthers}
+use Rattle.board_meaning.specs.board_files.Summaries.{HasRunIn, HasRunFrontIn}
 use Rattle.mpy_endings.specs.declared.ending.Ending.{Ending}
 use Rattle.mpy_endings.specs.declared.ending.Ending.TheVariants.{Done, Unaccepted, Unread, Unverified, Unmerged, Unopened, Unfrozen, Unboarded, Stopped, ReadFault, WriteFault, Unwritten, NoMemory, Absent}
 use Rattle.mpy_endings.specs.declared.ending.BoardFault.TheVariants as boards

@@ -1,3 +1,4 @@
+pub use Rattle.board_meaning.specs.board_files
 pub mod Images
 pub mod Plans
 pub mod Boards

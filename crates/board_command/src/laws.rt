@@ -4,7 +4,7 @@ ghost use Rattle.std.specs.Prelude.{◌≡◌, ℕ, List, Option, Some};
 ghost use Rattle.mpy_io.specs.Files.{FileOf};
 ghost use Rattle.bc_library.specs.Shelf.{no_entries};
 ghost use Rattle.board_plan.specs.declared.plan.Plan.{Plan};
-ghost use Rattle.frozen_files.specs.Frozen.{HoldsFrozen};
+ghost use Rattle.frozen_programs.specs.frozen_files.Frozen.{HoldsFrozen};
 ghost use Rattle.frozen_programs.specs.Programs.{IsProgramOfManifest};
 ghost use Rattle.mpy_endings.specs.declared.ending.Ending.TheVariants.{Done};
 ghost use Rattle.board_command.specs.Boards.{Boards};

@@ -7,5 +7,6 @@ mod plan;
 mod runnable;
 mod running;
 
+pub use board_meaning::tasks_law;
 pub use laws::board_means_law;
 pub use running::board;

@@ -1,6 +1,6 @@
 -- Tasks go further, and their files with them.
 use Rattle.std.proofs.Common.{◌≡◌, ◌≢◌, inl, inr, ℕ, zero, suc, ◌+◌, ◌<◌, ◌≤◌, ◌^◌, ◌==◌, Bool, true, false, List, [], ◌∷◌, ◌++◌, length, set, Option, Some, None, IsSome, Result, Ok, Err, OnOk, if◌then◌else◌, refl, sym, ap, subst, ◌∙◌, append-nil, eqb-true, lit<, arith}
-use Rattle.std.specs.Prelude.{slice_get}
+use Rattle.std.specs.Prelude.{All, slice_get}
 use Rattle.std.proofs.lemmas.Bool.{eqb-false}
 use Rattle.std.proofs.lemmas.List.Elements.{All-nil, All-cons, All-set, All-weaker}
 use Rattle.std.proofs.lemmas.Option.{slice_get_within, get_or_from_slice_get}
@@ -9,7 +9,6 @@ use Rattle.mpy_io.specs.Files.{FileOf, AppendsFile, appended}
 use Rattle.bc_library.specs.Shelf.{Shelf}
 use Rattle.vm_states.specs.Means.{Program}
 use Rattle.vm_programs.specs.Programs.{IsProgramOf}
-use Rattle.vm_machine.specs.Machine.{IsVm}
 use Rattle.board_plan.specs.declared.plan.Task.{Task}
 use Rattle.board_plan.specs.declared.plan.Turn.{Turn}
 use Rattle.board_tasks.specs.declared.ending.TurnEnd.{TurnEnd}
@@ -222,17 +221,17 @@ opened_many shelf [] (r ∷ runs) o = absurd o
 opened_many shelf (t ∷ tasks) [] o = absurd o
 opened_many shelf (t ∷ tasks) (r ∷ runs) o = ap suc (opened_many shelf tasks runs o.1)
 
+opened_all : {P : TaskRun → Type 0} (shelf : Shelf) → ((task : Task) (run : TaskRun) → IsOpened shelf task run → P run) → (tasks : List Task) (runs : List TaskRun) → AreOpened shelf tasks runs → All P runs
+opened_all {P} shelf each [] [] o = All-nil P
+opened_all shelf each [] (r ∷ runs) o = absurd o
+opened_all shelf each (t ∷ tasks) [] o = absurd o
+opened_all {P} shelf each (t ∷ tasks) (r ∷ runs) o = All-cons P r runs (each t r o.0) (opened_all shelf each tasks runs o.1)
+
 pub opened_runs : (shelf : Shelf) (tasks : List Task) (runs : List TaskRun) → AreOpened shelf tasks runs → AreRuns shelf runs
-opened_runs shelf [] [] o = All-nil (λ (r : TaskRun). IsVm shelf r.vm)
-opened_runs shelf [] (r ∷ runs) o = absurd o
-opened_runs shelf (t ∷ tasks) [] o = absurd o
-opened_runs shelf (t ∷ tasks) (r ∷ runs) o = All-cons (λ (x : TaskRun). IsVm shelf x.vm) r runs o.0.vm (opened_runs shelf tasks runs o.1)
+opened_runs shelf tasks runs o = opened_all shelf (λ task run it. it.vm) tasks runs o
 
 pub opened_unpaid : (shelf : Shelf) (tasks : List Task) (runs : List TaskRun) → AreOpened shelf tasks runs → PaidWithin runs 0
-opened_unpaid shelf [] [] o = All-nil (λ (r : TaskRun). r.vm.paid ≤ 0)
-opened_unpaid shelf [] (r ∷ runs) o = absurd o
-opened_unpaid shelf (t ∷ tasks) [] o = absurd o
-opened_unpaid shelf (t ∷ tasks) (r ∷ runs) o = All-cons (λ (x : TaskRun). x.vm.paid ≤ 0) r runs (let paid = o.0.paid in omega arith) (opened_unpaid shelf tasks runs o.1)
+opened_unpaid shelf tasks runs o = opened_all {P = λ (run : TaskRun). run.vm.paid ≤ 0} shelf (λ task run it. let paid = it.paid in omega arith) tasks runs o
 
 pub start : (shelf : Shelf) (p : Program) → ((task : Task) (run : TaskRun) → IsOpened shelf task run → Stands p task 0 [] run) → (tasks : List Task) (runs : List TaskRun) (before behind : Option FileOf)
     → AreOpened shelf tasks runs → IsSome before → AreEmpty (length tasks) before behind → HaveOutputs p tasks (λ (number : ℕ). 0) runs behind

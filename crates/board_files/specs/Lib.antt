@@ -1,3 +1,4 @@
+pub use Rattle.board_tasks.specs as board_tasks
 pub mod Files
 pub mod Runs
 pub mod Summaries

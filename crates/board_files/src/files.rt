@@ -1,6 +1,6 @@
 //! The files of the tasks' output.
 
-ghost use Rattle.std.specs.Prelude.{◌≡◌, ◌<◌, ◌≤◌, ◌^◌, [], IfOk, OnOk, string_bytes};
+ghost use Rattle.std.specs.Prelude.{◌≡◌, ◌<◌, [], IfOk, OnOk, string_bytes};
 ghost use Rattle.mpy_io.specs.Count.{Counts};
 ghost use Rattle.mpy_io.specs.Files.{Becomes};
 ghost use Rattle.board_files.specs.Files as spec;

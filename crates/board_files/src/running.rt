@@ -7,7 +7,7 @@ ghost use Rattle.vm_states.specs.Means.{Program};
 ghost use Rattle.vm_programs.specs.Programs.{IsProgramOf, IsRunnable};
 ghost use Rattle.board_tasks.specs.Opened.{AreOpened, first_missing};
 ghost use Rattle.board_tasks.specs.Turns.{AreRuns};
-ghost use Rattle.board_files.specs.Files.{AreEmpty, KeepsOthers, StopsWithin, is_folder_fault, is_out_fault, is_unwritten};
+ghost use Rattle.board_files.specs.Files.{KeepsOthers, StopsWithin, is_folder_fault, is_out_fault, is_unwritten};
 ghost use Rattle.board_files.specs.Summaries.{CanRun, HasRunFrontIn, HasRunIn};
 ghost use Rattle.board_files.specs.Written.{Written};
 

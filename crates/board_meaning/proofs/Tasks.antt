@@ -13,7 +13,7 @@ use Rattle.program_runs.specs.Runs.{MeansRun}
 use Rattle.program_runs.specs.Units.{AreUnits}
 use Rattle.board_plan.specs.declared.plan.Plan.{Plan}
 use Rattle.board_plan.specs.declared.plan.Task.{Task}
-use Rattle.board_tasks.specs.Schedules.{total}
+use Rattle.board_files.specs.board_tasks.Schedules.{total}
 use Rattle.board_files.specs.Summaries.{HasRun, run_in}
 use Rattle.board_meaning.specs.Meant.{RanAsMeant}
 

@@ -1,1 +1,3 @@
+pub use Rattle.board_files.specs as board_files
+pub use Rattle.board_files.specs.board_tasks
 pub mod Meant

@@ -4,5 +4,7 @@
 mod opening;
 mod reading;
 
+pub use mpy_compile::{compile, compile_law};
 pub use opening::{opened, verified};
 pub use reading::read_file;
+pub use source_files::{load_sources, source_module, stored_name};

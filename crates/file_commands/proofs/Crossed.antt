@@ -5,7 +5,7 @@ use Rattle.mpy_endings.specs.declared.ending.Ending.{Ending}
 use Rattle.mpy_endings.specs.declared.ending.Ending.TheVariants.{Done, Unaccepted, Unread, Unverified, Unmerged, Unopened, Unfrozen, Unboarded, Stopped, ReadFault, WriteFault, Unwritten, NoMemory, Absent}
 use Rattle.file_commands.specs.Cross.{HoldsCompiled, Crosses}
 use Rattle.command_files.specs.Folder.{ChangesOnly, MayHold}
-use Rattle.mpy_compile.specs.Compiled.{CompilesTo}
+use Rattle.command_files.specs.mpy_compile.Compiled.{CompilesTo}
 use Rattle.command_files.proofs.Others.{same_only, became_only, front_only}
 
 pub crosses_only : (level : ℕ) (name stored written : List ℕ) (old new : Option FileOf) (ending : Ending) → Crosses level name stored written old new ending → ChangesOnly old new written

@@ -5,7 +5,6 @@ ghost use Rattle.mpy_io.specs.Count.{Counts};
 ghost use Rattle.mpy_endings.specs.Ending.{is_folder_fault, is_out_fault};
 ghost use Rattle.file_commands.specs.Check.{Judges, Checks, verified_line};
 ghost use Rattle.mpy_endings.specs.Line.{Puts};
-ghost use Rattle.command_files.specs.Opened.{Opens};
 
 use command_files::{read_file, verified};
 use itoa::Buffer;

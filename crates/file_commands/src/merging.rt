@@ -3,7 +3,6 @@
 ghost use Rattle.std.specs.Prelude.{◌≡◌, map, string_bytes, false, IfOk, IfErr};
 ghost use Rattle.mpy_io.specs.Count.{Counts};
 ghost use Rattle.mpy_endings.specs.Ending.{is_folder_fault, is_out_fault};
-ghost use Rattle.command_files.specs.Opened.{HoldsModule, Refuses, failed_in};
 ghost use Rattle.file_commands.specs.Merge.{HoldModules, IsFirstRefused, Merges};
 
 use bc_verify::Verified;

@@ -14,9 +14,9 @@ use Rattle.mpy_compile.specs.Compiled.{Compiles, CompilesTo, IsFault}
 use Rattle.library_files.specs.Comes.{IsVerifiedFile}
 use Rattle.manifest_lines.specs.declared.entry.Entry.{Entry}
 use Rattle.image_freeze.specs.declared.named.Named.{Named}
-use Rattle.frozen_files.specs.declared.fault.SourcesFault.{SourcesFault}
-use Rattle.frozen_files.specs.declared.fault.SourcesFault.TheVariants.{Manifest, Absent, Unaccepted, Unread}
-use Rattle.frozen_files.specs.Faults.{FaultIs}
+use Rattle.frozen_faults.specs.declared.fault.SourcesFault.{SourcesFault}
+use Rattle.frozen_faults.specs.declared.fault.SourcesFault.TheVariants.{Manifest, Absent, Unaccepted, Unread}
+use Rattle.frozen_faults.specs.Faults.{FaultIs}
 use Rattle.frozen_files.specs.Sources.{MayHold, IsModuleOf, HoldsSource, IsFaulty, RefusesEntry}
 
 -- the module of the file that was compiled

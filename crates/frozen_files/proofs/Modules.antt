@@ -17,8 +17,8 @@ use Rattle.image_grammar.specs.Opening.{nothing_below}
 use Rattle.image_open.specs.Opens.{Opens, shelf_of}
 use Rattle.image_freeze.specs.declared.named.Named.{Named}
 use Rattle.image_freeze.specs.Frozen.{entries_of, first_front, image_bytes}
-use Rattle.frozen_files.specs.declared.fault.SourcesFault.{SourcesFault}
-use Rattle.frozen_files.specs.Faults.{FaultIs, of_manifest}
+use Rattle.frozen_faults.specs.declared.fault.SourcesFault.{SourcesFault}
+use Rattle.frozen_faults.specs.Faults.{FaultIs, of_manifest}
 use Rattle.frozen_files.specs.Frozen.{HoldsFrozen}
 use Rattle.frozen_files.specs.Sources.{MayList, RefusesManifest, HoldsSource, HoldsSources, RefusesEntry, IsFirstRefused, RefusesSource, RefusesSources}
 use Rattle.frozen_files.proofs.Lists.{zip_push, take_next, parts_at, take_all}

@@ -8,9 +8,9 @@ use Rattle.image_grammar.specs.Opening.{nothing_below}
 use Rattle.image_open.specs.Opens.{Opens, shelf_of}
 use Rattle.image_freeze.specs.declared.named.Named.{Named}
 use Rattle.image_freeze.specs.Frozen.{FreezeFault, entries_of, first_front, image_bytes}
-use Rattle.frozen_files.specs.declared.fault.FrozenFault.{FrozenFault}
-use Rattle.frozen_files.specs.declared.fault.FrozenFault.TheVariants.{Sources, Image}
-use Rattle.frozen_files.specs.Faults.{FaultIs}
+use Rattle.frozen_faults.specs.declared.fault.FrozenFault.{FrozenFault}
+use Rattle.frozen_faults.specs.declared.fault.FrozenFault.TheVariants.{Sources, Image}
+use Rattle.frozen_faults.specs.Faults.{FaultIs}
 use Rattle.frozen_files.specs.Sources.{HoldsSources, RefusesSources}
 
 -- the bytes are the image of the modules of the manifest's sources, which is opened as their library

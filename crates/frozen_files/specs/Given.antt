@@ -5,7 +5,7 @@ use Rattle.mpy_base.specs.declared.source.SourceFault.{SourceFault}
 use Rattle.mpy_tree.specs.Raw.{Module}
 use Rattle.mpy_compile.specs.Compiled.{IsFault}
 use Rattle.manifest_lines.specs.declared.entry.Entry.{Entry}
-use Rattle.frozen_files.specs.Faults.{FaultIs}
+use Rattle.frozen_faults.specs.Faults.{FaultIs}
 use Rattle.frozen_files.specs.Sources.{IsModuleOf}
 
 -- the module of its file, or its first fault

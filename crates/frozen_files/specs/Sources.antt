@@ -11,9 +11,9 @@ use Rattle.manifest_files.specs.declared.fault.ManifestFault.{ManifestFault}
 use Rattle.manifest_files.specs.Answers.{is_read_fault}
 use Rattle.manifest_files.specs.Entries as manifests
 use Rattle.image_freeze.specs.declared.named.Named.{Named}
-use Rattle.frozen_files.specs.declared.fault.SourcesFault.{SourcesFault}
-use Rattle.frozen_files.specs.declared.fault.SourcesFault.TheVariants.{Manifest, Absent, Unaccepted, Unread}
-use Rattle.frozen_files.specs.Faults.{of_manifest}
+use Rattle.frozen_faults.specs.declared.fault.SourcesFault.{SourcesFault}
+use Rattle.frozen_faults.specs.declared.fault.SourcesFault.TheVariants.{Manifest, Absent, Unaccepted, Unread}
+use Rattle.frozen_faults.specs.Faults.{of_manifest}
 
 -- a folder that tells its files has this under the name
 abbrev pub MayHold : Option FileOf → List ℕ → Option (List ℕ) → Type 0

@@ -2,11 +2,11 @@
 
 ghost use Rattle.std.specs.Prelude.{◌≡◌};
 ghost use Rattle.mpy_io.specs.Count.{Counts};
-ghost use Rattle.frozen_files.specs.Faults.{failed_by, is_read_failure};
+ghost use Rattle.frozen_faults.specs.Faults.{failed_by, is_read_failure};
 ghost use Rattle.frozen_files.specs.Frozen.{Freezes};
 
-use crate::fault::FrozenFault;
 use crate::sources::read_sources;
+use frozen_faults::FrozenFault;
 use image_freeze::freeze;
 use mpy_base::Refused;
 use mpy_io::Folder;

@@ -5,11 +5,11 @@ ghost use Rattle.mpy_io.specs.Count.{Counts};
 ghost use Rattle.mpy_tree.specs.Raw.{Module};
 ghost use Rattle.library_files.specs.Comes.{IsVerifiedFile};
 ghost use Rattle.manifest_files.specs.Plain.{IsPlain};
-ghost use Rattle.frozen_files.specs.Faults.{FaultIs, failed_by, is_read_fault};
+ghost use Rattle.frozen_faults.specs.Faults.{FaultIs, failed_by, is_read_fault};
 ghost use Rattle.frozen_files.specs.Given.{GivesModule};
 ghost use Rattle.frozen_files.specs.Sources.{HoldsSource, RefusesEntry};
 
-use crate::fault::SourcesFault;
+use frozen_faults::SourcesFault;
 use image_freeze::Named;
 use manifest_files::Entry;
 use mpy_base::{NoMemory, Refused, SourceFault, Text};

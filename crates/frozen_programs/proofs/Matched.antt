@@ -12,7 +12,7 @@ use Rattle.bc_library.specs.Shelf as shelves
 use Rattle.bc_library.specs.Shelf.{Shelf}
 use Rattle.py_meaning.specs.Tree.{Name}
 use Rattle.py_meaning.specs.Program.{Source, Unit, Single, Entry, Runs, Program, entry_in}
-use Rattle.mpy_compile.specs.Compiled.{CompilesTo}
+use Rattle.frozen_files.specs.mpy_compile.Compiled.{CompilesTo}
 use Rattle.unit_files.specs.Readings.{IsReading}
 use Rattle.program_runs.specs.Units.{IsUnitFile, HasUnit, HasEntry, AreUnits}
 use Rattle.manifest_lines.specs.declared.entry.Entry as manifests

@@ -1,7 +1,7 @@
 //! Programs of images that are frozen of a manifest's sources.
 #![tactic(auto)]
 
-ghost use Rattle.std.specs.Prelude.{◌≡◌, ℕ, List, Some};
+ghost use Rattle.std.specs.Prelude.{ℕ, List, Some};
 ghost use Rattle.mpy_base.specs.World.{PortState};
 ghost use Rattle.mpy_io.specs.Files.{FileOf};
 ghost use Rattle.bc_library.specs.Shelf.{Shelf};

@@ -11,10 +11,10 @@ use Rattle.image_migrate.specs.declared.fault.MigrateFault.{MigrateFault}
 use Rattle.image_migrate.specs.declared.fault.MigrateFault.TheVariants.{Opening, Freezing}
 use Rattle.image_migrate.specs.Migrated.{IsImageOf, Migrates as MigratesTo}
 use Rattle.image_runs.specs.declared.fault.MainFault.TheVariants as mains
-use Rattle.frozen_files.specs.declared.fault.FrozenFault.TheVariants as frozen
+use Rattle.frozen_faults.specs.declared.fault.FrozenFault.TheVariants as frozen
 use Rattle.mpy_endings.specs.declared.ending.Ending.{Ending}
 use Rattle.mpy_endings.specs.declared.ending.Ending.TheVariants.{Done, Unaccepted, Unread, Unverified, Unmerged, Unopened, Unfrozen, Unboarded, Stopped, ReadFault, WriteFault, Unwritten, NoMemory, Absent}
-use Rattle.command_files.specs.Folder.{MayHold, IsNotRead}
+use Rattle.base_library.specs.command_files.Folder.{MayHold, IsNotRead}
 use Rattle.base_library.specs.Base.{HoldsNoImage}
 
 -- the bytes are the image of version 2 of the modules of the image under the name, which lies over nothing

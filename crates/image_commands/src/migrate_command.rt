@@ -5,8 +5,8 @@ ghost use Rattle.mpy_io.specs.Count.{Counts};
 ghost use Rattle.mpy_endings.specs.Ending.{is_folder_fault, is_out_fault};
 ghost use Rattle.image_commands.specs.Migrate.{Migrates, refused_end};
 
-use command_files::read_file;
-use frozen_files::FrozenFault;
+use base_library::read_file;
+use frozen_faults::FrozenFault;
 use image_migrate::{MigrateFault, migrate_image};
 use image_runs::MainFault;
 use mpy_base::Refused;

@@ -34,8 +34,8 @@ usage:
                      compile the sources that the manifest MANIFEST names and write one
                      image of their modules as OUT, over the image IMAGE if one is given,
                      as in: mpy freeze examples/board/manifest.py board.img
-  mpy migrate IMAGE OUT
-                     write the image IMAGE once more as OUT, in version 2,
+  mpy migrate IN OUT
+                     write the image IN once more as OUT, in version 2,
                      as in: mpy migrate board.img second.img
   mpy run FILE [-m NAME] [--base IMAGE] [--cells N] [--bytes N] [--steps N]
                      run the file FILE with the files of the modules that it imports, or
@@ -48,6 +48,10 @@ usage:
                      run the tasks of the plan PLAN by turns on the image IMAGE, write
                      the output of task N as N.out, and tell how each ended,
                      as in: mpy board board.img examples/board/plan.txt
+  mpy stress SEED COUNT
+                     make a source that assigns COUNT (0 to 20,000) values to keys of a
+                     dict, both drawn from SEED, print how long it is and how many codes
+                     it has, and run it as go does, as in: mpy stress 7 20000
   mpy --help         print this text
   mpy --version      print the version
 

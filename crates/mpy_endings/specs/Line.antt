@@ -19,10 +19,10 @@ use Rattle.image_grammar.specs.declared.fault.ImageFault.{ImageFault}
 use Rattle.image_grammar.specs.Fault as image
 use Rattle.image_runs.specs.declared.fault.MainFault.{MainFault}
 use Rattle.image_runs.specs.declared.fault.MainFault.TheVariants as mains
-use Rattle.frozen_files.specs.declared.fault.SourcesFault.{SourcesFault}
-use Rattle.frozen_files.specs.declared.fault.SourcesFault.TheVariants as sources
-use Rattle.frozen_files.specs.declared.fault.FrozenFault.{FrozenFault}
-use Rattle.frozen_files.specs.declared.fault.FrozenFault.TheVariants as frozen
+use Rattle.frozen_faults.specs.declared.fault.SourcesFault.{SourcesFault}
+use Rattle.frozen_faults.specs.declared.fault.SourcesFault.TheVariants as sources
+use Rattle.frozen_faults.specs.declared.fault.FrozenFault.{FrozenFault}
+use Rattle.frozen_faults.specs.declared.fault.FrozenFault.TheVariants as frozen
 use Rattle.board_plan.specs.declared.plan.PlanFault.{PlanFault}
 use Rattle.board_plan.specs.declared.plan.PlanFault.TheVariants as plans
 use Rattle.mpy_words.specs.declared.order.WordFault.{WordFault}
@@ -40,6 +40,10 @@ use Rattle.library_files.specs.declared.limit.Limit.TheVariants as limits
 abbrev pub spaced : List ℕ → List ℕ
 spaced [] = []
 spaced (byte ∷ bytes) = 32 ∷ byte ∷ bytes
+
+-- what is said of a name, and the name
+abbrev pub named_line : (what name : List ℕ) → List ℕ
+named_line what name = what ++ (spaced name ++ codes "\n")
 
 -- what is said of a fault of the words, and the word that it names
 abbrev pub fault_text : WordFault → List ℕ
@@ -153,14 +157,14 @@ manifest_line name fault =
 -- why the image of this name has no main module
 abbrev pub main_line : List ℕ → MainFault → List ℕ
 main_line name (mains.Image fault) = image_line name fault
-main_line name (mains.NoMain main) = codes "mpy: absent " ++ main ++ codes "\n"
+main_line name (mains.NoMain main) = named_line (codes "mpy: absent") main
 
 -- why the manifest of this name has no modules of its sources
 abbrev pub sources_line : List ℕ → SourcesFault → List ℕ
 sources_line name (sources.Manifest fault) = manifest_line name fault
-sources_line name (sources.Absent other) = codes "mpy: absent " ++ other ++ codes "\n"
+sources_line name (sources.Absent other) = named_line (codes "mpy: absent") other
 sources_line name (sources.Unaccepted other fault) = source_line other fault
-sources_line name (sources.Unread other) = codes "mpy: read fault " ++ other ++ codes "\n"
+sources_line name (sources.Unread other) = named_line (codes "mpy: read fault") other
 
 -- and why no image
 abbrev pub frozen_line : List ℕ → FrozenFault → List ℕ
@@ -196,7 +200,7 @@ board_line name (boards.Unwritten task) = codes "mpy: write fault " ++ decimal t
 abbrev pub stop_line : Stop → List ℕ
 stop_line (Past limits.TooMany) = codes "mpy: library TooMany\n"
 stop_line (Past limits.Names) = codes "mpy: library Names\n"
-stop_line (LibraryFault path) = codes "mpy: read fault " ++ path ++ codes "\n"
+stop_line (LibraryFault path) = named_line (codes "mpy: read fault") path
 stop_line (LibraryUnaccepted source) = source_line source.path source.fault
 stop_line Raised = []
 stop_line Memory = []
@@ -213,11 +217,11 @@ line_of name (Unopened fault) = main_line name fault
 line_of name (Unfrozen fault) = frozen_line name fault
 line_of name (Unboarded fault) = board_line name fault
 line_of name (Stopped stop) = stop_line stop
-line_of name ReadFault = codes "mpy: read fault " ++ name ++ codes "\n"
+line_of name ReadFault = named_line (codes "mpy: read fault") name
 line_of name WriteFault = codes "mpy: write fault out\n"
-line_of name Unwritten = codes "mpy: write fault " ++ name ++ codes "\n"
+line_of name Unwritten = named_line (codes "mpy: write fault") name
 line_of name NoMemory = codes "mpy: memory\n"
-line_of name Absent = codes "mpy: absent " ++ name ++ codes "\n"
+line_of name Absent = named_line (codes "mpy: absent") name
 
 -- the name that the line has: of the file that is written where that failed, else of the one that is read
 abbrev pub name_in : (read written : List ℕ) → Ending → List ℕ

@@ -7,7 +7,7 @@ ghost use Rattle.mpy_endings.specs.Line.{place_in};
 
 use bc_verify::VerifyFault;
 use board_plan::PlanFault;
-use frozen_files::{FrozenFault, SourcesFault};
+use frozen_faults::{FrozenFault, SourcesFault};
 use image_runs::MainFault;
 use library_files::{Limit, UnacceptedSource};
 use mpy_base::{SourceFault, Text};

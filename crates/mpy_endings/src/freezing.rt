@@ -6,9 +6,9 @@ ghost use Rattle.mpy_endings.specs.Line.{Puts, frozen_line, image_line, main_lin
 
 use crate::line::say_fault;
 use crate::put::{
-    put, put_head, put_index, put_last_index, put_last_word, put_numbered, put_three, put_word,
+    put, put_head, put_index, put_last_index, put_last_word, put_named, put_numbered, put_word,
 };
-use frozen_files::{FrozenFault, SourcesFault};
+use frozen_faults::{FrozenFault, SourcesFault};
 use image_grammar::ImageFault;
 use image_runs::MainFault;
 use manifest_files::ManifestFault;
@@ -86,7 +86,7 @@ pub(crate) fn say_main<E: Sink>(say: &mut E, name: &str, fault: &MainFault) -> R
 {
     match fault {
         MainFault::Image(fault) => say_image(say, name, fault),
-        MainFault::NoMain(main) => put_three(say, b"mpy: absent ", main.bytes(), b"\n"),
+        MainFault::NoMain(main) => put_named(say, b"mpy: absent", main.bytes()),
     }
 }
 
@@ -96,9 +96,9 @@ fn say_sources<E: Sink>(say: &mut E, name: &str, fault: &SourcesFault) -> Result
 {
     match fault {
         SourcesFault::Manifest(fault) => say_manifest(say, name, fault),
-        SourcesFault::Absent(path) => put_three(say, b"mpy: absent ", path.bytes(), b"\n"),
+        SourcesFault::Absent(path) => put_named(say, b"mpy: absent", path.bytes()),
         SourcesFault::Unaccepted(path, fault) => say_fault(say, path.bytes(), fault),
-        SourcesFault::Unread(path) => put_three(say, b"mpy: read fault ", path.bytes(), b"\n"),
+        SourcesFault::Unread(path) => put_named(say, b"mpy: read fault", path.bytes()),
     }
 }
 

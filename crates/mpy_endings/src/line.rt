@@ -1,17 +1,17 @@
 //! The line that is said at the end of a command.
 
-ghost use Rattle.std.specs.Prelude.{◌≡◌, ◌++◌, List, ℕ, true, map, string_bytes, codes, decimal};
+ghost use Rattle.std.specs.Prelude.{◌≡◌, ◌++◌, true, map, string_bytes, codes, decimal};
 ghost use Rattle.mpy_reader.specs.Fault as file;
 ghost use Rattle.bc_verify.specs.Rule as rules;
 ghost use Rattle.mpy_merge.specs.Numbers as merges;
 ghost use Rattle.mpy_endings.specs.Ending.{is_stop_said, is_said};
 ghost use Rattle.mpy_endings.specs.Line as spec;
-ghost use Rattle.mpy_endings.specs.Line.{Puts, spaced, words_line, source_line, file_line, tag_text, path_text, verify_line, merge_line, stop_line, line_of};
+ghost use Rattle.mpy_endings.specs.Line.{Puts, words_line, source_line, file_line, tag_text, path_text, verify_line, merge_line, stop_line, line_of};
 
 use crate::boards::say_board;
 use crate::ending::{Ending, Stop};
 use crate::freezing::{say_frozen, say_main};
-use crate::put::{gap, put, put_head, put_three, put_two};
+use crate::put::{gap, put, put_head, put_named, put_three, put_two};
 use crate::words::word_at;
 use bc_verify::{Rule, VerifyFault};
 use itoa::Buffer;
@@ -223,7 +223,7 @@ fn say_stop<E: Sink>(say: &mut E, stop: &Stop) -> Result<(), Failed>
     match stop {
         Stop::Past(Limit::TooMany) => put(say, b"mpy: library TooMany\n"),
         Stop::Past(Limit::Names) => put(say, b"mpy: library Names\n"),
-        Stop::LibraryFault(path) => put_three(say, b"mpy: read fault ", path.bytes(), b"\n"),
+        Stop::LibraryFault(path) => put_named(say, b"mpy: read fault", path.bytes()),
         Stop::LibraryUnaccepted(source) => say_fault(say, source.path.bytes(), &source.fault),
         Stop::Raised | Stop::Memory => Ok(()),
         Stop::Steps(count) => say_steps(say, *count),
@@ -246,10 +246,10 @@ pub fn say_ending<E: Sink>(say: &mut E, name: &str, ending: &Ending) -> Result<(
         Ending::Unfrozen(fault) => say_frozen(say, name, fault),
         Ending::Unboarded(fault) => say_board(say, name, fault),
         Ending::Stopped(stop) => say_stop(say, stop),
-        Ending::ReadFault => put_three(say, b"mpy: read fault ", name.as_bytes(), b"\n"),
+        Ending::ReadFault => put_named(say, b"mpy: read fault", name.as_bytes()),
         Ending::WriteFault => put(say, b"mpy: write fault out\n"),
-        Ending::Unwritten => put_three(say, b"mpy: write fault ", name.as_bytes(), b"\n"),
+        Ending::Unwritten => put_named(say, b"mpy: write fault", name.as_bytes()),
         Ending::NoMemory => put(say, b"mpy: memory\n"),
-        Ending::Absent => put_three(say, b"mpy: absent ", name.as_bytes(), b"\n"),
+        Ending::Absent => put_named(say, b"mpy: absent", name.as_bytes()),
     }
 }

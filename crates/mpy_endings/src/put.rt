@@ -1,7 +1,7 @@
 //! Pieces of lines.
 
 ghost use Rattle.std.specs.Prelude.{◌≡◌, ◌++◌, codes, decimal};
-ghost use Rattle.mpy_endings.specs.Line.{Puts, spaced, tag_text};
+ghost use Rattle.mpy_endings.specs.Line.{Puts, named_line, spaced, tag_text};
 
 use itoa::Buffer;
 use mpy_io::{Failed, Sink};
@@ -87,6 +87,14 @@ pub(crate) fn put_last_word<E: Sink>(say: &mut E, word: &[u8]) -> Result<(), Fai
         (spaced word.now ++ codes "\n") result }
 {
     put_three(say, gap(word), word, b"\n")
+}
+
+/// Puts what is said of a name, and the name, and ends the line.
+pub(crate) fn put_named<E: Sink>(say: &mut E, what: &[u8], name: &[u8]) -> Result<(), Failed>
+    ensures { Puts (E.told say.old) (E.told say.new) (E.count say.old) (E.count say.new) (named_line what.now name.now) result }
+{
+    put(say, what)?;
+    put_last_word(say, name)
 }
 
 /// Puts a number that a fault tells, and ends the line.

@@ -1,6 +1,6 @@
 //! The words by their places.
 
-ghost use Rattle.std.specs.Prelude.{◌≡◌, List, ℕ, [], map, string_bytes, slice_index_or};
+ghost use Rattle.std.specs.Prelude.{◌≡◌, [], map, string_bytes, slice_index_or};
 ghost use Rattle.mpy_words.specs.Words as spec;
 
 /// The word at a place, and the empty one where there is none.

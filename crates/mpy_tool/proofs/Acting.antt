@@ -7,28 +7,31 @@ use Rattle.mpy_io.specs.Ports.{PortView}
 use Rattle.bc_library.specs.Shelf.{Shelf}
 use Rattle.source_files.specs.Sources.{stored}
 use Rattle.mpy_words.specs.declared.order.Command.{Command}
-use Rattle.mpy_words.specs.declared.order.Command.TheVariants.{Go, Check, Dump, Cross, Merge, Freeze, Migrate, Run, Board}
+use Rattle.mpy_words.specs.declared.order.Command.TheVariants.{Go, Check, Dump, Cross, Merge, Freeze, Migrate, Run, Board, Stress}
 use Rattle.mpy_words.specs.declared.order.Order.{Order}
 use Rattle.mpy_words.specs.Words.{Outcome, first_name, second_name, source_name, main_name, file_names}
-use Rattle.board_files.specs.Files.{KeepsOthers}
-use Rattle.command_files.specs.Outside.{Outside, Ends, EndsAt, Writes, WritesOf}
-use Rattle.command_files.proofs.Others.{same_only}
-use Rattle.file_commands.specs.Check.{Checks}
-use Rattle.file_commands.specs.Cross.{Crosses}
-use Rattle.file_commands.specs.Dump.{Dumps}
-use Rattle.file_commands.specs.Merge.{Merges}
-use Rattle.run_commands.specs.Ready.{GoLibrary}
-use Rattle.run_commands.specs.Run.{EndsRun, room_of}
+use Rattle.board_command.specs.board_files.Files.{KeepsOthers}
+use Rattle.run_meaning.specs.command_files.Outside.{Outside, Ends, EndsAt, Writes, WritesOf}
+use Rattle.run_meaning.proofs.command_files_lemmas.Others.{same_only}
+use Rattle.run_meaning.specs.file_commands.Check.{Checks}
+use Rattle.run_meaning.specs.file_commands.Cross.{Crosses}
+use Rattle.run_meaning.specs.file_commands.Dump.{Dumps}
+use Rattle.run_meaning.specs.file_commands.Merge.{Merges}
+use Rattle.base_commands.specs.run_commands.Ready.{GoLibrary}
+use Rattle.base_commands.specs.run_commands.Run.{EndsRun, room_of}
 use Rattle.run_meaning.specs.Meant.{Libraries, RunMeans}
 use Rattle.run_meaning.proofs.Meaning.{MeantLaw, run_means}
-use Rattle.image_commands.specs.Migrate.{Migrates}
+use Rattle.run_meaning.specs.image_commands.Migrate.{Migrates}
 use Rattle.base_library.specs.Base.{HoldsBase}
 use Rattle.base_library.specs.Over.{EndsAtBase}
 use Rattle.board_command.specs.Boards.{Boards}
 use Rattle.board_command.specs.Images.{library_below}
+use Rattle.stress_command.specs.Stress.{EndsStress}
 use Rattle.mpy_tool.specs.Below.{FreezesBelow, RunLibraryBelow, Based}
 use Rattle.mpy_tool.specs.Doing.{DoesBy, Finishes, RunsBy, ActsBy, ObeysBy}
-use Rattle.mpy_tool.specs.Order.{ChangesBy, calls_ports}
+use Rattle.mpy_tool.specs.Order.{ChangesBy, calls_ports, makes_source, runs_library}
+use Rattle.mpy_tool.specs.Making.{StressMeans}
+use Rattle.mpy_tool.proofs.Stressing.{GoLaw, stress_means}
 use Rattle.mpy_tool.proofs.Ended.{checked, dumped, crossed, merged, frozen, migrated, boarded}
 
 -- where no file changed
@@ -48,12 +51,17 @@ same_changes words Freeze old new e = same_only old new (second_name words) e
 same_changes words Migrate old new e = same_only old new (second_name words) e
 same_changes words Run old new e = e
 same_changes words Board old new e = same_others MAX_TASKS old new e
+same_changes words Stress old new e = e
 
 -- by the command
 -- ==============
 
+-- what runs nothing calls no ports
+pub quiet : (command : Command) → runs_library command ≡ false → makes_source command ≡ false → calls_ports command ≡ false
+quiet command r m = rw r m
+
 module _ (order : Order) (words : List (List ℕ)) (old new : Outside) (ports_old ports_new : List PortView) (status : ℕ) where
-  pub acts_run : (below : Option Shelf) (command : Command) → calls_ports command ≡ true → RunsBy order words below old new ports_old ports_new status command → ActsBy order words below old new ports_old ports_new status command
+  pub acts_run : (below : Option Shelf) (command : Command) → runs_library command ≡ true → RunsBy order words below old new ports_old ports_new status command → ActsBy order words below old new ports_old ports_new status command
   acts_run below Go e h = h
   acts_run below Check e h = absurd cc
   acts_run below Dump e h = absurd cc
@@ -63,6 +71,7 @@ module _ (order : Order) (words : List (List ℕ)) (old new : Outside) (ports_ol
   acts_run below Migrate e h = absurd cc
   acts_run below Run e h = h
   acts_run below Board e h = absurd cc
+  acts_run below Stress e h = absurd cc
 
   pub acts_do : (below : Option Shelf) (command : Command) → calls_ports command ≡ false → Finishes order words below old new status command → ActsBy order words below old new ports_old ports_new status command
   acts_do below Go e h = absurd cc
@@ -74,6 +83,19 @@ module _ (order : Order) (words : List (List ℕ)) (old new : Outside) (ports_ol
   acts_do below Migrate e h = h
   acts_do below Run e h = absurd cc
   acts_do below Board e h = h
+  acts_do below Stress e h = absurd cc
+
+  pub acts_make : (below : Option Shelf) (command : Command) → makes_source command ≡ true → EndsStress order.seed order.count (room_of order) order.steps old new ports_old ports_new status → ActsBy order words below old new ports_old ports_new status command
+  acts_make below Go e h = absurd cc
+  acts_make below Check e h = absurd cc
+  acts_make below Dump e h = absurd cc
+  acts_make below Cross e h = absurd cc
+  acts_make below Merge e h = absurd cc
+  acts_make below Freeze e h = absurd cc
+  acts_make below Migrate e h = absurd cc
+  acts_make below Run e h = absurd cc
+  acts_make below Board e h = absurd cc
+  acts_make below Stress e h = h
 
   -- over a base
   -- ===========
@@ -108,6 +130,9 @@ module _ (order : Order) (words : List (List ℕ)) (old new : Outside) (ports_ol
 
   pub go_of : order.command ≡ Go → Obeyed order.command → EndsRun (GoLibrary order.level) (room_of order) order.steps (first_name words) old new ports_old ports_new status
   go_of e h = as_command Go e h
+
+  pub stress_of : order.command ≡ Stress → Obeyed order.command → EndsStress order.seed order.count (room_of order) order.steps old new ports_old ports_new status
+  stress_of e h = as_command Stress e h
 
   pub check_of : order.command ≡ Check → Obeyed order.command → Ends Checks (first_name words) old new status
   check_of e h = checked order words None old new status (as_command Check e h)
@@ -158,6 +183,18 @@ module _ (order : Order) (words : List (List ℕ)) (old new : Outside) (ports_ol
   cross_ordered outcome is h =
       subst (λ (r : Outcome). IfOk r (λ o. o.command ≡ Cross → Writes (Crosses o.level (first_name words) (stored (source_name words o.stored_name)) (second_name words)) (first_name words) (second_name words) old new status)) is
       (λ e. cross_of e h)
+
+  pub stress_ordered : (outcome : Outcome) → Ok order ≡ outcome → Obeyed order.command
+      → IfOk outcome (λ o. o.command ≡ Stress → EndsStress o.seed o.count (room_of o) o.steps old new ports_old ports_new status)
+  stress_ordered outcome is h =
+      subst (λ (r : Outcome). IfOk r (λ o. o.command ≡ Stress → EndsStress o.seed o.count (room_of o) o.steps old new ports_old ports_new status)) is
+      (λ e. stress_of e h)
+
+  pub stress_means_ordered : GoLaw → (outcome : Outcome) → Ok order ≡ outcome → Obeyed order.command
+      → IfOk outcome (λ o. o.command ≡ Stress → StressMeans o.seed o.count (room_of o) o.steps old new ports_old ports_new status)
+  stress_means_ordered law outcome is h =
+      subst (λ (r : Outcome). IfOk r (λ o. o.command ≡ Stress → StressMeans o.seed o.count (room_of o) o.steps old new ports_old ports_new status)) is
+      (λ e. stress_means law order.seed order.count (room_of order) order.steps old new ports_old ports_new status (stress_of e h))
 
   pub migrate_ordered : (outcome : Outcome) → Ok order ≡ outcome → Obeyed order.command
       → IfOk outcome (λ o. o.command ≡ Migrate → Writes (Migrates (first_name words) (second_name words)) (first_name words) (second_name words) old new status)

@@ -8,21 +8,21 @@ use Rattle.mpy_io.specs.Files.{FileOf}
 use Rattle.bc_library.specs.Shelf.{Shelf}
 use Rattle.source_files.specs.Sources.{stored}
 use Rattle.mpy_words.specs.declared.order.Command.{Command}
-use Rattle.mpy_words.specs.declared.order.Command.TheVariants.{Go, Check, Dump, Cross, Merge, Freeze, Migrate, Run, Board}
+use Rattle.mpy_words.specs.declared.order.Command.TheVariants.{Go, Check, Dump, Cross, Merge, Freeze, Migrate, Run, Board, Stress}
 use Rattle.mpy_words.specs.declared.order.Order.{Order}
 use Rattle.mpy_words.specs.Words.{first_name, second_name, source_name, file_names}
 use Rattle.mpy_endings.specs.declared.ending.Ending.{Ending}
 use Rattle.mpy_endings.specs.Line.{place_in}
-use Rattle.command_files.specs.Folder.{ChangesOnly}
-use Rattle.file_commands.specs.Check.{Checks}
-use Rattle.file_commands.specs.Cross.{Crosses}
-use Rattle.file_commands.specs.Dump.{Dumps}
-use Rattle.file_commands.specs.Merge.{Merges}
-use Rattle.file_commands.proofs.Crossed.{crosses_only}
-use Rattle.file_commands.proofs.Merged.{merges_only}
-use Rattle.image_commands.specs.Migrate.{Migrates}
-use Rattle.image_commands.proofs.Freezing.{freezes_only}
-use Rattle.image_commands.proofs.Migrating.{migrates_only}
+use Rattle.run_meaning.specs.command_files.Folder.{ChangesOnly}
+use Rattle.run_meaning.specs.file_commands.Check.{Checks}
+use Rattle.run_meaning.specs.file_commands.Cross.{Crosses}
+use Rattle.run_meaning.specs.file_commands.Dump.{Dumps}
+use Rattle.run_meaning.specs.file_commands.Merge.{Merges}
+use Rattle.run_meaning.proofs.file_commands_lemmas.Crossed.{crosses_only}
+use Rattle.run_meaning.proofs.file_commands_lemmas.Merged.{merges_only}
+use Rattle.run_meaning.specs.image_commands.Migrate.{Migrates}
+use Rattle.run_meaning.proofs.image_commands_lemmas.Freezing.{freezes_only}
+use Rattle.run_meaning.proofs.image_commands_lemmas.Migrating.{migrates_only}
 use Rattle.base_commands.proofs.Freezing.{freezes_on_only}
 use Rattle.board_command.specs.Boards.{Boards}
 use Rattle.board_command.specs.Images.{library_below}

@@ -10,12 +10,12 @@ use Rattle.mpy_endings.specs.declared.ending.Ending.{Ending}
 use Rattle.mpy_endings.specs.declared.ending.Ending.TheVariants.{Done, Unaccepted, Unread, Unverified, Unmerged, Unopened, Unfrozen, Unboarded, Stopped, ReadFault, WriteFault, Unwritten, NoMemory, Absent}
 use Rattle.mpy_endings.specs.Line.{Puts, Says, line_of, name_in, place_in}
 use Rattle.mpy_endings.proofs.Said.{says_from}
-use Rattle.command_files.specs.Outside.{Outside, Ends, EndsAt, Writes, WritesOf}
-use Rattle.file_commands.specs.Check.{Checks}
-use Rattle.file_commands.specs.Cross.{Crosses}
-use Rattle.file_commands.specs.Dump.{Dumps}
-use Rattle.file_commands.specs.Merge.{Merges}
-use Rattle.image_commands.specs.Migrate.{Migrates}
+use Rattle.run_meaning.specs.command_files.Outside.{Outside, Ends, EndsAt, Writes, WritesOf}
+use Rattle.run_meaning.specs.file_commands.Check.{Checks}
+use Rattle.run_meaning.specs.file_commands.Cross.{Crosses}
+use Rattle.run_meaning.specs.file_commands.Dump.{Dumps}
+use Rattle.run_meaning.specs.file_commands.Merge.{Merges}
+use Rattle.run_meaning.specs.image_commands.Migrate.{Migrates}
 use Rattle.board_command.specs.Boards.{Boards}
 use Rattle.board_command.specs.Images.{library_below}
 use Rattle.mpy_tool.specs.Below.{FreezesBelow}

@@ -6,7 +6,7 @@ use Rattle.mpy_io.specs.Files.{FileOf}
 use Rattle.bc_library.specs.Shelf.{Shelf}
 use Rattle.vm_states.specs.Means.{Program}
 use Rattle.board_plan.specs.declared.plan.Plan.{Plan}
-use Rattle.board_files.specs.Summaries.{HasRunIn}
+use Rattle.board_command.specs.board_files.Summaries.{HasRunIn}
 use Rattle.mpy_endings.specs.declared.ending.Ending.TheVariants.{Done}
 use Rattle.board_command.specs.Boards.{Boards}
 

@@ -6,13 +6,13 @@ use Rattle.mpy_io.specs.Files.{FileOf}
 use Rattle.bc_library.specs.Shelf.{Shelf}
 use Rattle.source_files.specs.Sources.{stored}
 use Rattle.mpy_words.specs.declared.order.Command.{Command}
-use Rattle.mpy_words.specs.declared.order.Command.TheVariants.{Go, Check, Dump, Cross, Merge, Freeze, Migrate, Run, Board}
+use Rattle.mpy_words.specs.declared.order.Command.TheVariants.{Go, Check, Dump, Cross, Merge, Freeze, Migrate, Run, Board, Stress}
 use Rattle.mpy_words.specs.declared.order.Order.{Order}
 use Rattle.mpy_words.specs.Words.{first_name, second_name}
 use Rattle.mpy_endings.specs.declared.ending.Ending.{Ending}
 use Rattle.mpy_endings.specs.declared.ending.Ending.TheVariants.{Done, WriteFault}
-use Rattle.file_commands.specs.Check.{verified_line}
-use Rattle.file_commands.proofs.HandedOn.{checks_cut, dumps_cut}
+use Rattle.run_meaning.specs.file_commands.Check.{verified_line}
+use Rattle.run_meaning.proofs.file_commands_lemmas.HandedOn.{checks_cut, dumps_cut}
 use Rattle.board_command.specs.Images.{library_below}
 use Rattle.board_command.proofs.Ending.{unflushed}
 use Rattle.mpy_tool.specs.Below.{FreezesBelow}
@@ -34,6 +34,7 @@ module _ (order : Order) (words : List (List ℕ)) (below : Option Shelf) (old n
   handed_on Freeze p = (p.0, Keeps-trans a b c p.1 q, p.2)
   handed_on Migrate p = (p.0, Keeps-trans a b c p.1 q, p.2)
   handed_on Run p = absurd p
+  handed_on Stress p = absurd p
   handed_on Board p = flushed (library_below below) (first_name words) (second_name words) old new a b c place q p
 
   pub held_back : (command : Command) → DoesBy order words below command old new a b place Done → DoesBy order words below command old new a c place WriteFault
@@ -45,4 +46,5 @@ module _ (order : Order) (words : List (List ℕ)) (below : Option Shelf) (old n
   held_back Freeze p = (freezes_cut below (first_name words) (second_name words) old new p.0, Keeps-trans a b c p.1 q, p.2)
   held_back Migrate p = (p.0, Keeps-trans a b c p.1 q, p.2)
   held_back Run p = absurd p
+  held_back Stress p = absurd p
   held_back Board p = unflushed (library_below below) (first_name words) (second_name words) old new a b c place q p

@@ -2,4 +2,5 @@ pub mod Ended
 mod Flushing
 pub mod Handing
 pub mod Alone
+pub mod Stressing
 pub mod Acting

@@ -4,9 +4,9 @@ use Rattle.mpy_io.specs.Files.{FileOf}
 use Rattle.mpy_io.specs.Ports.{PortView}
 use Rattle.bc_library.specs.Shelf.{Shelf}
 use Rattle.mpy_endings.specs.declared.ending.Ending.{Ending}
-use Rattle.command_files.specs.Outside.{Outside}
-use Rattle.run_commands.specs.Ready.{RunLibrary}
-use Rattle.image_commands.specs.Freeze.{Freezes}
+use Rattle.run_meaning.specs.command_files.Outside.{Outside}
+use Rattle.base_commands.specs.run_commands.Ready.{RunLibrary}
+use Rattle.run_meaning.specs.image_commands.Freeze.{Freezes}
 use Rattle.run_meaning.specs.Meant.{Libraries}
 use Rattle.base_library.specs.Over.{EndsAtBase, WentOver}
 use Rattle.base_commands.specs.Ready.{RunLibraryOn}

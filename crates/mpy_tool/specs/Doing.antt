@@ -6,29 +6,30 @@ use Rattle.mpy_io.specs.Files.{FileOf}
 use Rattle.mpy_io.specs.Ports.{PortView}
 use Rattle.bc_library.specs.Shelf.{Shelf}
 use Rattle.mpy_words.specs.declared.order.Command.{Command}
-use Rattle.mpy_words.specs.declared.order.Command.TheVariants.{Go, Check, Dump, Cross, Merge, Freeze, Migrate, Run, Board}
+use Rattle.mpy_words.specs.declared.order.Command.TheVariants.{Go, Check, Dump, Cross, Merge, Freeze, Migrate, Run, Board, Stress}
 use Rattle.mpy_words.specs.declared.order.Order.{Order}
 use Rattle.mpy_words.specs.Words.{first_name, second_name, source_name, main_name, file_names}
 use Rattle.source_files.specs.Sources.{stored}
 use Rattle.mpy_endings.specs.declared.ending.Ending.{Ending}
 use Rattle.mpy_endings.specs.Ending.{is_folder_fault, is_out_fault, status_of}
 use Rattle.mpy_endings.specs.Line.{Says, line_of, place_in}
-use Rattle.command_files.specs.Outside.{Outside, EndsAt}
-use Rattle.file_commands.specs.Check.{Checks}
-use Rattle.file_commands.specs.Cross.{Crosses}
-use Rattle.file_commands.specs.Dump.{Dumps}
-use Rattle.file_commands.specs.Merge.{Merges}
-use Rattle.run_commands.specs.Ready.{GoLibrary}
-use Rattle.run_commands.specs.Run.{EndsRun, room_of}
+use Rattle.run_meaning.specs.command_files.Outside.{Outside, EndsAt}
+use Rattle.run_meaning.specs.file_commands.Check.{Checks}
+use Rattle.run_meaning.specs.file_commands.Cross.{Crosses}
+use Rattle.run_meaning.specs.file_commands.Dump.{Dumps}
+use Rattle.run_meaning.specs.file_commands.Merge.{Merges}
+use Rattle.base_commands.specs.run_commands.Ready.{GoLibrary}
+use Rattle.base_commands.specs.run_commands.Run.{EndsRun, room_of}
 use Rattle.run_meaning.specs.Meant.{Libraries}
-use Rattle.image_commands.specs.Migrate.{Migrates}
+use Rattle.run_meaning.specs.image_commands.Migrate.{Migrates}
 use Rattle.board_command.specs.Images.{library_below}
 use Rattle.board_command.specs.Boards.{Boards}
+use Rattle.stress_command.specs.Stress.{EndsStress}
 use Rattle.mpy_tool.specs.Below.{FreezesBelow, RunLibraryBelow, Based}
 use Rattle.mpy_tool.specs.Order.{base_by}
 
 module _ (order : Order) (words : List (List ℕ)) (below : Option Shelf) where
-  -- What a command that runs no library did, with what in the folder and on the output before and behind it, and how it ended, with the
+  -- What a command that runs nothing did, with what in the folder and on the output before and behind it, and how it ended, with the
   -- place of the word that its line names.
   abbrev pub DoesBy : Command → (old new : Option FileOf) → (before behind : Option (List ℕ)) → (place : ℕ) → Ending → Type 0
   DoesBy Go old new before behind place ending = ⊥
@@ -42,11 +43,12 @@ module _ (order : Order) (words : List (List ℕ)) (below : Option Shelf) where
   DoesBy Migrate old new before behind place ending = Migrates (first_name words) (second_name words) old new ending × Keeps before behind × (place ≡ place_in ending)
   DoesBy Run old new before behind place ending = ⊥
   DoesBy Board old new before behind place ending = Boards (library_below below) (first_name words) (second_name words) old new before behind place ending
+  DoesBy Stress old new before behind place ending = ⊥
 
   abbrev pub no_library : Libraries
   no_library files name answer = ⊥
 
-  -- which library a command runs
+  -- which library of the folder's files a command runs
   abbrev pub LibraryBy : Command → Libraries
   LibraryBy Go = GoLibrary order.level
   LibraryBy Check = no_library
@@ -57,13 +59,14 @@ module _ (order : Order) (words : List (List ℕ)) (below : Option Shelf) where
   LibraryBy Migrate = no_library
   LibraryBy Run = RunLibraryBelow below (main_name words order.main_name)
   LibraryBy Board = no_library
+  LibraryBy Stress = no_library
 
-  -- how a command ended that runs no library
+  -- how a command ended that runs nothing
   abbrev pub Finishes : (old new : Outside) → (status : ℕ) → Command → Type 0
   Finishes old new status command = EndsAt (DoesBy command) words old new status
 
   module _ (old new : Outside) (ports_old ports_new : List PortView) (status : ℕ) where
-    -- how one ended that runs a library
+    -- how one ended that runs such a library
     abbrev pub RunsBy : Command → Type 0
     RunsBy command = EndsRun (LibraryBy command) (room_of order) order.steps (first_name words) old new ports_old ports_new status
 
@@ -78,6 +81,7 @@ module _ (order : Order) (words : List (List ℕ)) (below : Option Shelf) where
     ActsBy Migrate = Finishes old new status Migrate
     ActsBy Run = RunsBy Run
     ActsBy Board = Finishes old new status Board
+    ActsBy Stress = EndsStress order.seed order.count (room_of order) order.steps old new ports_old ports_new status
 
 -- how an order ended, over its base if it has one
 abbrev pub ObeysBy : Command → Order → List (List ℕ) → (old new : Outside) → (ports_old ports_new : List PortView) → (status : ℕ) → Type 0

@@ -1,16 +1,16 @@
 -- What orders write and call, and which of them stand on a base.
-use Rattle.std.specs.Prelude.{◌≡◌, ℕ, List, Bool, true, false, Option, None, Ok, Err}
+use Rattle.std.specs.Prelude.{◌≡◌, ◌||◌, ℕ, List, Bool, true, false, Option, None, Ok, Err}
 use Rattle.std.specs.Io.KnownBytes.{Keeps}
 use Rattle.mpy_base.specs.declared.limits.TheConstants.{MAX_TASKS}
 use Rattle.mpy_io.specs.Files.{FileOf}
 use Rattle.mpy_words.specs.declared.order.Command.{Command}
-use Rattle.mpy_words.specs.declared.order.Command.TheVariants.{Go, Check, Dump, Cross, Merge, Freeze, Migrate, Run, Board}
+use Rattle.mpy_words.specs.declared.order.Command.TheVariants.{Go, Check, Dump, Cross, Merge, Freeze, Migrate, Run, Board, Stress}
 use Rattle.mpy_words.specs.declared.order.WordFault.{WordFault}
 use Rattle.mpy_words.specs.Words.{Outcome, first_name, second_name}
 use Rattle.mpy_endings.specs.Line.{Says, words_line}
-use Rattle.board_files.specs.Files.{KeepsOthers}
-use Rattle.command_files.specs.Folder.{ChangesOnly}
-use Rattle.command_files.specs.Outside.{Outside}
+use Rattle.board_command.specs.board_files.Files.{KeepsOthers}
+use Rattle.run_meaning.specs.command_files.Folder.{ChangesOnly}
+use Rattle.run_meaning.specs.command_files.Outside.{Outside}
 
 -- words of no order end with status 2, and nothing is done but to say so
 pub record RefusesWords (words : List (List ℕ)) (fault : WordFault) (old new : Outside) (status : ℕ) : Type 0 where
@@ -31,23 +31,42 @@ ChangesBy words Freeze old new = ChangesOnly old new (second_name words)
 ChangesBy words Migrate old new = ChangesOnly old new (second_name words)
 ChangesBy words Run old new = new ≡ old
 ChangesBy words Board old new = KeepsOthers MAX_TASKS old new
+ChangesBy words Stress old new = new ≡ old
 
 -- words of no order write none
 abbrev pub ChangesIn : List (List ℕ) → Outcome → (old new : Option FileOf) → Type 0
 ChangesIn words (Err fault) old new = new ≡ old
 ChangesIn words (Ok order) old new = ChangesBy words order.command old new
 
+-- whether a command runs the library of a file or a source of the folder
+abbrev pub runs_library : Command → Bool
+runs_library Go = true
+runs_library Check = false
+runs_library Dump = false
+runs_library Cross = false
+runs_library Merge = false
+runs_library Freeze = false
+runs_library Migrate = false
+runs_library Run = true
+runs_library Board = false
+runs_library Stress = false
+
+-- whether it runs a source that it makes
+abbrev pub makes_source : Command → Bool
+makes_source Go = false
+makes_source Check = false
+makes_source Dump = false
+makes_source Cross = false
+makes_source Merge = false
+makes_source Freeze = false
+makes_source Migrate = false
+makes_source Run = false
+makes_source Board = false
+makes_source Stress = true
+
 -- whether a command may call ports; words of no order call none
 abbrev pub calls_ports : Command → Bool
-calls_ports Go = true
-calls_ports Check = false
-calls_ports Dump = false
-calls_ports Cross = false
-calls_ports Merge = false
-calls_ports Freeze = false
-calls_ports Migrate = false
-calls_ports Run = true
-calls_ports Board = false
+calls_ports command = runs_library command || makes_source command
 
 abbrev pub calls_ports_in : Outcome → Bool
 calls_ports_in (Err fault) = false
@@ -64,6 +83,7 @@ stands_alone Freeze = false
 stands_alone Migrate = true
 stands_alone Run = false
 stands_alone Board = false
+stands_alone Stress = false
 
 -- the place of the base's name, of a command that may stand on a base
 abbrev pub base_by : Command → Option ℕ → Option ℕ
@@ -76,3 +96,4 @@ base_by Freeze base = base
 base_by Migrate base = None
 base_by Run base = base
 base_by Board base = base
+base_by Stress base = None

@@ -1,4 +1,4 @@
-//! Orders that run no library.
+//! Orders that run nothing.
 
 ghost use Rattle.std.specs.Prelude.{◌≡◌, ◌≤◌, [], true, false, map, string_bytes, IfSome};
 ghost use Rattle.mpy_io.specs.Count.{Counts};
@@ -7,7 +7,7 @@ ghost use Rattle.bc_library.specs.Shelf.{Shelf};
 ghost use Rattle.std.specs.Prelude.{Option, None as Nothing};
 ghost use Rattle.mpy_endings.specs.declared.ending.Ending.TheVariants.{Done};
 ghost use Rattle.mpy_endings.specs.Ending.{is_folder_fault, is_out_fault};
-ghost use Rattle.command_files.specs.Outside.{seen};
+ghost use Rattle.run_meaning.specs.command_files.Outside.{seen};
 ghost use Rattle.mpy_tool.specs.Below.{FreezesBelow};
 ghost use Rattle.mpy_tool.specs.Doing.{DoesBy, Finishes};
 ghost use Rattle.mpy_tool.specs.Order.{calls_ports, stands_alone, ChangesBy};
@@ -16,11 +16,10 @@ use crate::releasing::release;
 use base_commands::freeze_on;
 use bc_library::Library;
 use board_command::board;
-use file_commands::{check, cross, dump, merge_files};
-use image_commands::{freeze, migrate};
 use mpy_endings::{Ended, Ending, file_names, say_ending, source_name, word_at};
 use mpy_io::{Failed, Folder, Sink};
 use mpy_words::{Command, Order};
+use run_meaning::{check, cross, dump, freeze, merge_files, migrate};
 use std::alloc::Global;
 
 /// Writes the image of the sources of the manifest of this name, over the library below, if there is one.
@@ -69,7 +68,8 @@ fn ran_alone<F: Folder, S: Sink>(
         }
         Command::Merge => merge_files(alloc, file_names(words), name, folder),
         Command::Migrate => Ended::of_two(migrate(alloc, name, word_at(words, 2), folder)),
-        Command::Go | Command::Freeze | Command::Run | Command::Board => unreachable!(),
+        Command::Go | Command::Freeze | Command::Run => unreachable!(),
+        Command::Board | Command::Stress => unreachable!(),
     }
 }
 
@@ -102,7 +102,7 @@ fn ran<F: Folder, S: Sink>(
             release(below);
             ran_alone(order, alloc, words, folder, out)
         }
-        Command::Go | Command::Run => unreachable!(),
+        Command::Go | Command::Run | Command::Stress => unreachable!(),
     }
 }
 

@@ -7,22 +7,21 @@ ghost use Rattle.library_files.specs.Ends.{HoldsModules};
 ghost use Rattle.image_base.specs.Base.{IsOpened};
 ghost use Rattle.image_runs.specs.Main.{IsMainAt};
 ghost use Rattle.mpy_words.specs.Words.{first_name};
-ghost use Rattle.command_files.specs.Opened.{failed_in};
-ghost use Rattle.command_files.specs.Outside.{seen};
-ghost use Rattle.run_commands.specs.Run.{IsUnloaded};
+ghost use Rattle.run_meaning.specs.command_files.Opened.{failed_in};
+ghost use Rattle.run_meaning.specs.command_files.Outside.{seen};
+ghost use Rattle.base_commands.specs.run_commands.Run.{IsUnloaded};
 ghost use Rattle.mpy_tool.specs.Below.{RunLibraryBelow};
 ghost use Rattle.mpy_tool.specs.Doing.{LibraryBy, RunsBy};
-ghost use Rattle.mpy_tool.specs.Order.{calls_ports, ChangesBy};
+ghost use Rattle.mpy_tool.specs.Order.{runs_library};
 
 use crate::releasing::release;
-use base_commands::run_ready_on;
+use base_commands::{Ready, run_loaded, run_ready, run_ready_on, source_ready};
 use bc_library::Library;
 use mpy_base::Room;
 use mpy_endings::{Ending, main_name, say_ending, word_at};
 use mpy_io::{Folder, Port, Sink};
 use mpy_words::{Command, Order};
 use port_set::PortSet;
-use run_commands::{Ready, run_loaded, run_ready, source_ready};
 use std::alloc::Global;
 
 /// The library of the file of this name, an image over the library below, if there is one, or what keeps it from being run.
@@ -56,7 +55,7 @@ fn library_of<F: Folder>(
     folder: &mut F,
 ) -> Result<Ready, Ending>
     requires level { order.level ≤ 3 }
-    requires runs { calls_ports order.command ≡ true }
+    requires runs { runs_library order.command ≡ true }
     requires below { IfSome below IsOpened }
     ensures comes { LibraryBy order (map string_bytes words.now) below order.command (F.files folder.old) (first_name (map string_bytes words.now)) result }
     ensures there { IfOk result (λ ready. (m : Module) × IsMainAt ready.main ready.place m ready.library) }
@@ -76,7 +75,8 @@ fn library_of<F: Folder>(
             ready_below(alloc, below, name, main, folder)
         }
         Command::Check | Command::Dump | Command::Cross | Command::Merge => unreachable!(),
-        Command::Freeze | Command::Migrate | Command::Board => unreachable!(),
+        Command::Freeze | Command::Migrate => unreachable!(),
+        Command::Board | Command::Stress => unreachable!(),
     }
 }
 
@@ -92,7 +92,7 @@ pub(crate) fn run_order<F: Folder, S: Sink, P: Port, E: Sink>(
     say: &mut E,
 ) -> u8
     requires level { order.level ≤ 3 }
-    requires runs { calls_ports order.command ≡ true }
+    requires runs { runs_library order.command ≡ true }
     requires below { IfSome below IsOpened }
     ensures ended { RunsBy order (map string_bytes words.now) below
         (seen F.files F.count S.told S.count E.told E.count folder.old out.old say.old)

@@ -1,49 +1,67 @@
 //! The top call.
 
-ghost use Rattle.std.specs.Prelude.{◌≡◌, ◌≤◌, [], true, false, map, string_bytes, IfOk, IfErr, IfSome};
+ghost use Rattle.std.specs.Prelude.{◌≡◌, ◌≤◌, ℕ, [], true, false, map, string_bytes, Option, IfOk, IfErr, IfSome};
 ghost use Rattle.image_base.specs.Base.{IsOpened};
+ghost use Rattle.mpy_io.specs.Files.{FileOf};
 ghost use Rattle.mpy_words.specs.declared.order.Command.TheVariants as commands;
+ghost use Rattle.mpy_words.specs.Given.{most_count};
 ghost use Rattle.mpy_words.specs.Words.{order_of, first_name, second_name, source_name, main_name, file_names};
 ghost use Rattle.source_files.specs.Sources.{stored};
 ghost use Rattle.mpy_endings.specs.Ending.{status_of};
 ghost use Rattle.mpy_endings.specs.Line.{Says, line_of};
-ghost use Rattle.command_files.specs.Outside.{seen, Ends, EndsAt, Writes, WritesOf};
-ghost use Rattle.file_commands.specs.Check.{Checks};
-ghost use Rattle.file_commands.specs.Cross.{Crosses};
-ghost use Rattle.file_commands.specs.Dump.{Dumps};
-ghost use Rattle.file_commands.specs.Merge.{Merges};
-ghost use Rattle.run_commands.specs.Ready.{GoLibrary};
-ghost use Rattle.run_commands.specs.Run.{EndsRun, room_of};
+ghost use Rattle.run_meaning.specs.command_files.Outside.{seen, Ends, EndsAt, Writes, WritesOf};
+ghost use Rattle.run_meaning.specs.file_commands.Check.{Checks};
+ghost use Rattle.run_meaning.specs.file_commands.Cross.{Crosses};
+ghost use Rattle.run_meaning.specs.file_commands.Dump.{Dumps};
+ghost use Rattle.run_meaning.specs.file_commands.Merge.{Merges};
+ghost use Rattle.base_commands.specs.run_commands.Ready.{GoLibrary};
+ghost use Rattle.base_commands.specs.run_commands.Run.{EndsRun, room_of};
 ghost use Rattle.run_meaning.specs.GoMeant.{GoMeans};
 ghost use Rattle.run_meaning.specs.Meant.{RunMeans};
-ghost use Rattle.image_commands.specs.Migrate.{Migrates};
+ghost use Rattle.run_meaning.specs.image_commands.Migrate.{Migrates};
 ghost use Rattle.board_command.specs.Images.{library_below};
 ghost use Rattle.board_command.specs.Boards.{Boards};
+ghost use Rattle.stress_command.specs.Stress.{EndsStress, sinks};
 ghost use Rattle.mpy_tool.specs.Below.{Based, FreezesBelow, RunLibraryBelow};
 ghost use Rattle.mpy_tool.specs.Doing.{ActsBy, ObeysBy};
-ghost use Rattle.mpy_tool.specs.Order.{RefusesWords, base_by, calls_ports, calls_ports_in, ChangesBy, ChangesIn};
+ghost use Rattle.mpy_tool.specs.Making.{StressMeans};
+ghost use Rattle.mpy_tool.specs.Order.{RefusesWords, base_by, calls_ports, calls_ports_in, makes_source, runs_library, ChangesBy, ChangesIn};
 
 use crate::doing::do_order;
+use crate::releasing::release;
 use crate::running::run_order;
 use base_library::base_library;
 use bc_library::Library;
+use mpy_base::Room;
 use mpy_endings::{Ending, say_ending, say_words, word_at};
-use mpy_headline::meant_law;
 use mpy_io::{Folder, Port, Sink};
 use mpy_words::{Command, Order, order_of};
 use port_set::PortSet;
-use run_meaning::go_means_law;
+use run_meaning::{go_means_law, meant_law};
 use std::alloc::Global;
+use stress_command::stress;
 
 /// The status of words that are of no order.
 const WORDS_STATUS: u8 = 2;
 
-/// Does a command run a library?
+/// Does a command run the library of a file or a source of the folder?
 fn runs(command: Command) -> bool
-    ensures { result ≡ calls_ports command }
+    ensures { result ≡ runs_library command }
 {
     match command {
         Command::Go | Command::Run => true,
+        Command::Check | Command::Dump | Command::Cross | Command::Merge => false,
+        Command::Freeze | Command::Migrate | Command::Board | Command::Stress => false,
+    }
+}
+
+/// Does a command run a source that it makes?
+fn makes(command: Command) -> bool
+    ensures { result ≡ makes_source command }
+{
+    match command {
+        Command::Stress => true,
+        Command::Go | Command::Run => false,
         Command::Check | Command::Dump | Command::Cross | Command::Merge => false,
         Command::Freeze | Command::Migrate | Command::Board => false,
     }
@@ -56,8 +74,41 @@ fn base_place(order: Order) -> Option<usize>
     match order.command {
         Command::Freeze | Command::Run | Command::Board => order.base,
         Command::Go | Command::Check | Command::Dump | Command::Cross => None,
-        Command::Merge | Command::Migrate => None,
+        Command::Merge | Command::Migrate | Command::Stress => None,
     }
+}
+
+/// Runs the source that is ordered to be made, and answers the exit status.
+fn make<S: Sink, P: Port, E: Sink>(
+    order: Order,
+    alloc: Global,
+    below: Option<Library>,
+    out: &mut S,
+    say: &mut E,
+    ports: &mut PortSet<P>,
+) -> u8
+    requires count { order.count ≤ most_count }
+    ensures ended { (faults : ℕ) (files : Option FileOf) → EndsStress order.seed order.count (room_of order) order.steps
+        (sinks faults (S.told out.old) (S.count out.old) (E.told say.old) (E.count say.old) files)
+        (sinks faults (S.told out.new) (S.count out.new) (E.told say.new) (E.count say.new) files)
+        (map P.seen ports.old) (map P.seen ports.new) result }
+    ensures flushed { result ≡ 0 → S.held out.new ≡ [] }
+{
+    release(below);
+    let room = Room {
+        cells: order.cells,
+        bytes: order.bytes,
+    };
+    stress(
+        alloc,
+        order.seed,
+        order.count,
+        room,
+        order.steps,
+        out,
+        say,
+        ports,
+    )
 }
 
 /// Does what is ordered, over the library below, and answers the exit status.
@@ -72,6 +123,7 @@ fn act<F: Folder, S: Sink, P: Port, E: Sink>(
     ports: &mut PortSet<P>,
 ) -> u8
     requires level { order.level ≤ 3 }
+    requires count { order.count ≤ most_count }
     requires below { IfSome below IsOpened }
     ensures ended { ActsBy order (map string_bytes words.now) below
         (seen F.files F.count S.told S.count E.told E.count folder.old out.old say.old)
@@ -83,6 +135,9 @@ fn act<F: Folder, S: Sink, P: Port, E: Sink>(
 {
     if runs(order.command) {
         return run_order(order, alloc, words, below, folder, out, ports, say);
+    }
+    if makes(order.command) {
+        return make(order, alloc, below, out, say, ports);
     }
     do_order(order, alloc, words, below, folder, out, say)
 }
@@ -107,6 +162,7 @@ fn obey<F: Folder, S: Sink, P: Port, E: Sink>(
     ports: &mut PortSet<P>,
 ) -> u8
     requires level { order.level ≤ 3 }
+    requires count { order.count ≤ most_count }
     ensures ended { ObeysBy order.command order (map string_bytes words.now)
         (seen F.files F.count S.told S.count E.told E.count folder.old out.old say.old)
         (seen F.files F.count S.told S.count E.told E.count folder.new out.new say.new)
@@ -186,7 +242,7 @@ pub fn mpy<F: Folder, S: Sink, P: Port, E: Sink>(
         (seen F.files F.count S.told S.count E.told E.count folder.old out.old say.old)
         (seen F.files F.count S.told S.count E.told E.count folder.new out.new say.new) result)) }
 
-    // migrate IMAGE OUT: OUT becomes the image in version 2, and nothing is printed, or what kept it from that is said.
+    // migrate IN OUT: OUT becomes the image in version 2, and nothing is printed, or what kept it from that is said.
     ensures migrate { IfOk (order_of (map string_bytes words.now)) (λ order. order.command ≡ commands.Migrate
         → Writes (Migrates (first_name (map string_bytes words.now)) (second_name (map string_bytes words.now)))
         (first_name (map string_bytes words.now)) (second_name (map string_bytes words.now))
@@ -217,6 +273,14 @@ pub fn mpy<F: Folder, S: Sink, P: Port, E: Sink>(
         (seen F.files F.count S.told S.count E.told E.count folder.old out.old say.old)
         (seen F.files F.count S.told S.count E.told E.count folder.new out.new say.new) result)) }
 
+    // stress SEED COUNT: how long the made source is and how many codes it has are printed, and then it is run as go runs a source; or what
+    // kept it from that is said.
+    ensures stress { IfOk (order_of (map string_bytes words.now)) (λ order. order.command ≡ commands.Stress
+        → EndsStress order.seed order.count (room_of order) order.steps
+        (seen F.files F.count S.told S.count E.told E.count folder.old out.old say.old)
+        (seen F.files F.count S.told S.count E.told E.count folder.new out.new say.new)
+        (map P.seen ports.old) (map P.seen ports.new) result) }
+
     // `go` and `run` print and end as their program means, and stop earlier only at their last step: `go` as that of the sources, and `run` as
     // each whose units the library has.
     ensures go_means { IfOk (order_of (map string_bytes words.now)) (λ order. order.command ≡ commands.Go
@@ -234,7 +298,14 @@ pub fn mpy<F: Folder, S: Sink, P: Port, E: Sink>(
         (seen F.files F.count S.told S.count E.told E.count folder.new out.new say.new)
         (map P.seen ports.old) (map P.seen ports.new) result)) }
 
-    // Only go and run call ports.
+    // With the status of a run, stress printed its lines, and behind them it printed and ended as the made source means, as go does.
+    ensures stress_means { IfOk (order_of (map string_bytes words.now)) (λ order. order.command ≡ commands.Stress
+        → StressMeans order.seed order.count (room_of order) order.steps
+        (seen F.files F.count S.told S.count E.told E.count folder.old out.old say.old)
+        (seen F.files F.count S.told S.count E.told E.count folder.new out.new say.new)
+        (map P.seen ports.old) (map P.seen ports.new) result) }
+
+    // Only go, run and stress call ports.
     ensures ports { calls_ports_in (order_of (map string_bytes words.now)) ≡ false → ports.new ≡ ports.old }
 
     // With status 0 nothing of what is printed is held back.

@@ -1,8 +1,8 @@
 -- The orders and the first faults of small words.
 use Rattle.std.proofs.Common.{◌≡◌, ℕ, [], ◌∷◌, Option, Some, None, Ok, Err, codes, refl}
 use Rattle.mpy_words.specs.declared.order.Command.{Command}
-use Rattle.mpy_words.specs.declared.order.Command.TheVariants.{Go, Cross, Merge, Freeze, Migrate, Run, Board}
-use Rattle.mpy_words.specs.declared.order.Named.TheVariants.{Source, File, Output, Manifest, Image, Plan}
+use Rattle.mpy_words.specs.declared.order.Command.TheVariants.{Go, Cross, Merge, Freeze, Migrate, Run, Board, Stress}
+use Rattle.mpy_words.specs.declared.order.Named.TheVariants.{Source, File, Input, Output, Manifest, Plan, Count}
 use Rattle.mpy_words.specs.declared.order.Setting.TheVariants.{Level, StoredName, MainName, Base, Cells, Steps}
 use Rattle.mpy_words.specs.declared.order.WordFault.TheVariants.{NoCommand, Unknown, MissingName, MissingValue, BadNumber, Twice}
 use Rattle.mpy_words.specs.Number.{value_of}
@@ -10,15 +10,19 @@ use Rattle.mpy_words.specs.Words.{Outcome, settings, past_files, named, order_of
 
 abbrev ordered : Command → ℕ → Option ℕ → Outcome
 ordered command level stored_name =
-    Ok (record { command = command; level = level; stored_name = stored_name; main_name = None; base = None; cells = 65536; bytes = 262144; steps = 10000000 })
+    Ok (record { command = command; seed = 0; count = 0; level = level; stored_name = stored_name; main_name = None; base = None; cells = 65536; bytes = 262144; steps = 10000000 })
 
 abbrev runs : (cells bytes steps : ℕ) → Outcome
 runs cells bytes steps =
-    Ok (record { command = Run; level = 0; stored_name = None; main_name = None; base = None; cells = cells; bytes = bytes; steps = steps })
+    Ok (record { command = Run; seed = 0; count = 0; level = 0; stored_name = None; main_name = None; base = None; cells = cells; bytes = bytes; steps = steps })
 
 abbrev goes : (level cells bytes steps : ℕ) → Outcome
 goes level cells bytes steps =
-    Ok (record { command = Go; level = level; stored_name = None; main_name = None; base = None; cells = cells; bytes = bytes; steps = steps })
+    Ok (record { command = Go; seed = 0; count = 0; level = level; stored_name = None; main_name = None; base = None; cells = cells; bytes = bytes; steps = steps })
+
+abbrev stresses : (seed count : ℕ) → Outcome
+stresses seed count =
+    Ok (record { command = Stress; seed = seed; count = count; level = 0; stored_name = None; main_name = None; base = None; cells = 65536; bytes = 262144; steps = 10000000 })
 
 no_word : order_of [] ≡ Err NoCommand
 unfolding settings named past_files value_of
@@ -187,7 +191,7 @@ unfolding settings named past_files value_of
 freeze_option = refl
 
 run_image : order_of (codes "run" ∷ codes "i.img" ∷ codes "-m" ∷ codes "-a" ∷ [])
-    ≡ Ok (record { command = Run; level = 0; stored_name = None; main_name = Some 3; base = None; cells = 65536; bytes = 262144; steps = 10000000 })
+    ≡ Ok (record { command = Run; seed = 0; count = 0; level = 0; stored_name = None; main_name = Some 3; base = None; cells = 65536; bytes = 262144; steps = 10000000 })
 unfolding settings named past_files value_of
 run_image = refl
 
@@ -209,7 +213,7 @@ given_main = refl
 own_main : main_name (codes "run" ∷ codes "i" ∷ []) None ≡ codes "main"
 own_main = refl
 
-migrate_alone : order_of (codes "migrate" ∷ []) ≡ Err (MissingName Image)
+migrate_alone : order_of (codes "migrate" ∷ []) ≡ Err (MissingName Input)
 unfolding settings named past_files value_of
 migrate_alone = refl
 
@@ -234,7 +238,7 @@ unfolding settings named past_files value_of
 board_plan = refl
 
 run_over : order_of (codes "run" ∷ codes "i.img" ∷ codes "--base" ∷ codes "b.img" ∷ codes "-m" ∷ codes "a" ∷ [])
-    ≡ Ok (record { command = Run; level = 0; stored_name = None; main_name = Some 5; base = Some 3; cells = 65536; bytes = 262144; steps = 10000000 })
+    ≡ Ok (record { command = Run; seed = 0; count = 0; level = 0; stored_name = None; main_name = Some 5; base = Some 3; cells = 65536; bytes = 262144; steps = 10000000 })
 unfolding settings named past_files value_of
 run_over = refl
 
@@ -245,3 +249,31 @@ base_no_file = refl
 base_twice : order_of (codes "board" ∷ codes "i.img" ∷ codes "p" ∷ codes "--base" ∷ codes "b" ∷ codes "--base" ∷ codes "-x" ∷ []) ≡ Err (Twice Base)
 unfolding settings named past_files value_of
 base_twice = refl
+
+stress_numbers : order_of (codes "stress" ∷ codes "4294967295" ∷ codes "020000" ∷ []) ≡ stresses 4294967295 20000
+unfolding settings named past_files value_of
+stress_numbers = refl
+
+too_many_assignments : order_of (codes "stress" ∷ codes "1" ∷ codes "20001" ∷ []) ≡ Err (BadNumber 2)
+unfolding settings named past_files value_of
+too_many_assignments = refl
+
+great_seed : order_of (codes "stress" ∷ codes "4294967296" ∷ []) ≡ Err (BadNumber 1)
+unfolding settings named past_files value_of
+great_seed = refl
+
+seed_alone : order_of (codes "stress" ∷ codes "7" ∷ []) ≡ Err (MissingName Count)
+unfolding settings named past_files value_of
+seed_alone = refl
+
+no_number_before_missing : order_of (codes "stress" ∷ codes "x" ∷ []) ≡ Err (BadNumber 1)
+unfolding settings named past_files value_of
+no_number_before_missing = refl
+
+no_negative_seed : order_of (codes "stress" ∷ codes "-1" ∷ codes "2" ∷ []) ≡ Err (Unknown 1)
+unfolding settings named past_files value_of
+no_negative_seed = refl
+
+no_room_of_stress : order_of (codes "stress" ∷ codes "1" ∷ codes "2" ∷ codes "--cells" ∷ codes "1" ∷ []) ≡ Err (Unknown 3)
+unfolding settings named past_files value_of
+no_room_of_stress = refl

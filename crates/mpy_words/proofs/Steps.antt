@@ -1,12 +1,13 @@
--- One more option.
-use Rattle.std.proofs.Common.{◌≡◌, ℕ, List, ◌∷◌, false, Option, Some, Err, if◌then◌else◌, refl, ◌∙◌}
+-- One more option, and a word that is none in place of a named one.
+use Rattle.std.proofs.Common.{◌≡◌, ℕ, List, ◌∷◌, true, false, Option, Some, None, Err, if◌then◌else◌, refl, ◌∙◌}
 use Rattle.mpy_words.specs.declared.order.Command.{Command}
+use Rattle.mpy_words.specs.declared.order.Named.{Named}
 use Rattle.mpy_words.specs.declared.order.Setting.{Setting}
 use Rattle.mpy_words.specs.declared.given.Given.{Given}
-use Rattle.mpy_words.specs.declared.order.WordFault.TheVariants.{MissingValue}
+use Rattle.mpy_words.specs.declared.order.WordFault.TheVariants.{MissingValue, Unknown}
 use Rattle.mpy_words.specs.Command.{setting_of}
 use Rattle.mpy_words.specs.Given.{is_given, with_option}
-use Rattle.mpy_words.specs.Words.{Outcome, place, known, once, valued, names_none, settings}
+use Rattle.mpy_words.specs.Words.{Outcome, begins_with_dash, place, known, once, valued, names_none, settings, named}
 
 known_is : (count : ℕ) (words : List (List ℕ)) (o : Option Setting) (s : Setting) (go : Setting → Outcome) → Some s ≡ o → known count words o go ≡ go s
 known_is count words o s go e = rw (← e) refl
@@ -32,3 +33,8 @@ one_option count c given more word value words s none file set is =
     ∙ (once_is given s (read s) none
     ∙ (named_is s value (with s) file
     ∙ valued_is count (value ∷ words) (with_option given s (place count (value ∷ words)) value) more go is))
+
+pub unknown_name : (count : ℕ) (c : Command) (given : Given) (wanted : Named) (more : List Named) (word : List ℕ) (words : List (List ℕ))
+    → begins_with_dash word ≡ true → None ≡ setting_of c word → named count c given (wanted ∷ more) (word ∷ words) ≡ Err (Unknown (place count (word ∷ words)))
+unfolding named
+unknown_name count c given wanted more word words dash none = rw dash (rw (← none) refl)

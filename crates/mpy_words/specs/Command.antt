@@ -1,19 +1,22 @@
 -- The commands, the words that each names, and its options.
 use Rattle.std.specs.Prelude.{ℕ, Bool, true, false, List, [], ◌∷◌, Option, Some, None, codes, bytes_eq, if◌then◌else◌}
 use Rattle.mpy_words.specs.declared.order.Command.{Command}
-use Rattle.mpy_words.specs.declared.order.Command.TheVariants.{Go, Check, Dump, Cross, Merge, Freeze, Migrate, Run, Board}
+use Rattle.mpy_words.specs.declared.order.Command.TheVariants.{Go, Check, Dump, Cross, Merge, Freeze, Migrate, Run, Board, Stress}
 use Rattle.mpy_words.specs.declared.order.Named.{Named}
-use Rattle.mpy_words.specs.declared.order.Named.TheVariants.{Source, File, Output, Manifest, Image, Plan}
+use Rattle.mpy_words.specs.declared.order.Named.TheVariants.{Source, File, Input, Output, Manifest, Image, Plan, Seed, Count}
 use Rattle.mpy_words.specs.declared.order.Setting.{Setting}
 use Rattle.mpy_words.specs.declared.order.Setting.TheVariants.{Level, StoredName, MainName, Base, Cells, Bytes, Steps}
 
 abbrev pub name_of : Named → List ℕ
 name_of Source = codes "SRC"
 name_of File = codes "FILE"
+name_of Input = codes "IN"
 name_of Output = codes "OUT"
 name_of Manifest = codes "MANIFEST"
 name_of Image = codes "IMAGE"
 name_of Plan = codes "PLAN"
+name_of Seed = codes "SEED"
+name_of Count = codes "COUNT"
 
 abbrev pub spelling_of : Setting → List ℕ
 spelling_of Level = codes "-O"
@@ -35,7 +38,8 @@ command_of word =
     else (if bytes_eq word (codes "freeze") then Some Freeze
     else (if bytes_eq word (codes "migrate") then Some Migrate
     else (if bytes_eq word (codes "run") then Some Run
-    else (if bytes_eq word (codes "board") then Some Board else None))))))))
+    else (if bytes_eq word (codes "board") then Some Board
+    else (if bytes_eq word (codes "stress") then Some Stress else None)))))))))
 
 -- the words that stand behind a command
 abbrev pub names_of : Command → List Named
@@ -45,9 +49,10 @@ names_of Dump = File ∷ []
 names_of Cross = Source ∷ File ∷ []
 names_of Merge = Output ∷ []
 names_of Freeze = Manifest ∷ Output ∷ []
-names_of Migrate = Image ∷ Output ∷ []
+names_of Migrate = Input ∷ Output ∷ []
 names_of Run = File ∷ []
 names_of Board = Image ∷ Plan ∷ []
+names_of Stress = Seed ∷ Count ∷ []
 
 -- does the command take files behind these, as many as there are?
 abbrev pub takes_files : Command → Bool
@@ -60,6 +65,7 @@ takes_files Freeze = false
 takes_files Migrate = false
 takes_files Run = false
 takes_files Board = false
+takes_files Stress = false
 
 -- does the option name a file, so that no value of it begins with `-`?
 abbrev pub names_file : Setting → Bool
@@ -91,6 +97,7 @@ setting_of Merge word = None
 setting_of Freeze word = base_setting_of word
 setting_of Migrate word = None
 setting_of Board word = base_setting_of word
+setting_of Stress word = None
 setting_of Run word =
     if bytes_eq word (codes "-m") then Some MainName
     else (if bytes_eq word (codes "--base") then Some Base else run_setting_of word)

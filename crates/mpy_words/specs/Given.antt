@@ -1,6 +1,8 @@
--- The options that were given, each with its value.
+-- The numbers among the named words, and the options that were given, each with its value.
 use Rattle.std.specs.Prelude.{ℕ, ◌≤◌, ◌<◌, Bool, List, Option, Some, None, IfSome, is_some, option_map, unwrap_or}
 use Rattle.mpy_words.specs.declared.order.Command.{Command}
+use Rattle.mpy_words.specs.declared.order.Named.{Named}
+use Rattle.mpy_words.specs.declared.order.Named.TheVariants.{Source, File, Input, Output, Manifest, Image, Plan, Seed, Count}
 use Rattle.mpy_words.specs.declared.order.Setting.{Setting}
 use Rattle.mpy_words.specs.declared.order.Setting.TheVariants.{Level, StoredName, MainName, Base, Cells, Bytes, Steps}
 use Rattle.mpy_words.specs.declared.order.Order.{Order}
@@ -8,7 +10,7 @@ use Rattle.mpy_words.specs.declared.given.Given.{Given}
 use Rattle.mpy_words.specs.Number.{number_of}
 
 abbrev pub none_given : Given
-none_given = record { level = None; stored_name = None; main_name = None; base = None; cells = None; bytes = None; steps = None }
+none_given = record { seed = None; count = None; level = None; stored_name = None; main_name = None; base = None; cells = None; bytes = None; steps = None }
 
 abbrev pub is_given : Given → Setting → Bool
 is_given given Level = is_some given.level
@@ -29,6 +31,25 @@ most_bytes = 16777216
 abbrev pub most_steps : ℕ
 most_steps = 1000000000000
 
+-- the greatest seed, and the greatest count of assignments
+abbrev pub most_seed : ℕ
+most_seed = 4294967295
+
+abbrev pub most_count : ℕ
+most_count = 20000
+
+-- What is given with one more of the named words: a number up to its greatest one, or any word, which is found by its place.
+abbrev pub with_name : Given → Named → List ℕ → Option Given
+with_name given Source word = Some given
+with_name given File word = Some given
+with_name given Input word = Some given
+with_name given Output word = Some given
+with_name given Manifest word = Some given
+with_name given Image word = Some given
+with_name given Plan word = Some given
+with_name given Seed word = option_map (λ seed. record given { seed = Some seed }) (number_of most_seed word)
+with_name given Count word = option_map (λ count. record given { count = Some count }) (number_of most_count word)
+
 -- The options with one more, whose value is the word at this place: a number up to the option's greatest one, or any word,
 -- which is kept by its place.
 abbrev pub with_option : Given → Setting → ℕ → List ℕ → Option Given
@@ -40,10 +61,12 @@ with_option given Cells at word = option_map (λ cells. record given { cells = S
 with_option given Bytes at word = option_map (λ bytes. record given { bytes = Some bytes }) (number_of most_bytes word)
 with_option given Steps at word = option_map (λ steps. record given { steps = Some steps }) (number_of most_steps word)
 
--- what is ordered, with each option that wasn't given at its default
+-- what is ordered, with each option that wasn't given at its default, and a number that the command doesn't name at 0
 abbrev pub order_with : Command → Given → Order
 order_with command given = record {
   command = command;
+  seed = unwrap_or given.seed 0;
+  count = unwrap_or given.count 0;
   level = unwrap_or given.level 0;
   stored_name = given.stored_name;
   main_name = given.main_name;
@@ -53,8 +76,10 @@ order_with command given = record {
   steps = unwrap_or given.steps 10000000;
 }
 
--- each number within its option's bounds, each place below the count of words
+-- each number within its bounds, each place below the count of words
 pub record IsBounded (count : ℕ) (given : Given) : Type 0 where
+  pub seed : IfSome given.seed (λ seed. seed ≤ most_seed)
+  pub assignments : IfSome given.count (λ assignments. assignments ≤ most_count)
   pub level : IfSome given.level (λ level. level ≤ 3)
   pub stored_name : IfSome given.stored_name (λ at. at < count)
   pub main_name : IfSome given.main_name (λ at. at < count)

@@ -8,7 +8,7 @@ use Rattle.mpy_words.specs.declared.order.WordFault.{WordFault}
 use Rattle.mpy_words.specs.declared.order.WordFault.TheVariants.{NoCommand, Unknown, MissingName, MissingValue, BadNumber, Twice}
 use Rattle.mpy_words.specs.declared.given.Given.{Given}
 use Rattle.mpy_words.specs.Command.{command_of, names_of, takes_files, names_file, setting_of}
-use Rattle.mpy_words.specs.Given.{none_given, is_given, with_option, order_with}
+use Rattle.mpy_words.specs.Given.{none_given, is_given, with_name, with_option, order_with}
 
 abbrev pub Outcome : Type 0
 Outcome = Result Order WordFault
@@ -43,11 +43,12 @@ begins_with_dash (byte ∷ bytes) = byte == 45
 abbrev pub place : ℕ → List (List ℕ) → ℕ
 place count words = count - length words
 
--- ---- options, behind those that were given already
-
+-- where the first of these words has a value
 abbrev pub valued : ℕ → List (List ℕ) → Option Given → (Given → Outcome) → Outcome
 valued count words None go = Err (BadNumber (place count words))
 valued count words (Some more) go = go more
+
+-- ---- options, behind those that were given already
 
 abbrev pub once : Given → Setting → Outcome → Outcome
 once given s more = if is_given given s then Err (Twice s) else more
@@ -85,15 +86,16 @@ abbrev pub lacking : ℕ → Command → Named → List ℕ → List (List ℕ) 
 lacking count c wanted word words =
     known count (word ∷ words) (setting_of c word) (λ s. Err (MissingName wanted))
 
-unfoldable pub named : ℕ → Command → List Named → List (List ℕ) → Outcome
-named count c [] words = settings count c none_given (behind_files c words)
-named count c (wanted ∷ more) [] = Err (MissingName wanted)
-named count c (wanted ∷ more) (word ∷ words) =
-    if begins_with_dash word then lacking count c wanted word words else named count c more words
+unfoldable pub named : ℕ → Command → Given → List Named → List (List ℕ) → Outcome
+named count c given [] words = settings count c given (behind_files c words)
+named count c given (wanted ∷ more) [] = Err (MissingName wanted)
+named count c given (wanted ∷ more) (word ∷ words) =
+    if begins_with_dash word then lacking count c wanted word words
+    else valued count (word ∷ words) (with_name given wanted word) (λ given. named count c given more words)
 
 abbrev pub of_command : ℕ → Option Command → List (List ℕ) → Outcome
 of_command count None words = Err (Unknown 0)
-of_command count (Some c) words = named count c (names_of c) words
+of_command count (Some c) words = named count c none_given (names_of c) words
 
 -- the order, or the first fault from left to right
 abbrev pub order_of : List (List ℕ) → Outcome

@@ -1,11 +1,11 @@
-//! The options that were given.
+//! The numbers among the named words, and the options that were given.
 
 ghost use Rattle.std.specs.Prelude.{◌≡◌, ◌<◌, ℕ, IfSome};
 ghost use Rattle.mpy_words.specs.Given as spec;
 ghost use Rattle.mpy_words.specs.Given.{IsBounded};
 
 use crate::number::number;
-use crate::order::{Command, Order, Setting};
+use crate::order::{Command, Named, Order, Setting};
 
 /// The greatest level of optimization.
 const MAX_LEVEL: u64 = 3;
@@ -25,9 +25,16 @@ pub const MAX_STEPS: u64 = 1_000_000_000_000;
 
 const DEFAULT_STEPS: u64 = 10_000_000;
 
-/// The values of the options that were given: numbers, and the places of words.
+const MAX_SEED: u64 = 4_294_967_295;
+
+/// The greatest count of assignments of a made source.
+pub const MAX_COUNT: u64 = 20_000;
+
+/// The numbers that were named, and the values of the options that were given: numbers, and the places of words.
 #[derive(Clone, Copy, Debug, PartialEq, Eq)]
 pub struct Given {
+    pub seed: Option<u32>,
+    pub count: Option<u32>,
     pub level: Option<u8>,
     pub stored_name: Option<usize>,
     pub main_name: Option<usize>,
@@ -38,11 +45,13 @@ pub struct Given {
 }
 
 impl Given {
-    /// No option.
+    /// No number and no option.
     pub(crate) fn none() -> Given
         ensures { result ≡ spec.none_given }
     {
         Given {
+            seed: None,
+            count: None,
             level: None,
             stored_name: None,
             main_name: None,
@@ -65,6 +74,31 @@ impl Given {
             Setting::Cells => self.cells.is_some(),
             Setting::Bytes => self.bytes.is_some(),
             Setting::Steps => self.steps.is_some(),
+        }
+    }
+
+    /// What is given with one more of the named words; none where that is no number and is to be one.
+    pub(crate) fn with_name(self, named: Named, word: &[u8]) -> Option<Given>
+        ensures numbers { result ≡ spec.with_name self named word.now }
+        ensures bounded { (count : ℕ) → IsBounded count self → IfSome result (IsBounded count) }
+    {
+        match named {
+            Named::Source | Named::File | Named::Input | Named::Output => Some(self),
+            Named::Manifest | Named::Image | Named::Plan => Some(self),
+            Named::Seed => match number(MAX_SEED, word) {
+                Some(seed) => Some(Given {
+                    seed: Some(seed as u32),
+                    ..self
+                }),
+                None => None,
+            },
+            Named::Count => match number(MAX_COUNT, word) {
+                Some(count) => Some(Given {
+                    count: Some(count as u32),
+                    ..self
+                }),
+                None => None,
+            },
         }
     }
 
@@ -123,6 +157,8 @@ impl Given {
     {
         Order {
             command,
+            seed: self.seed.unwrap_or(0),
+            count: self.count.unwrap_or(0),
             level: self.level.unwrap_or(0),
             stored_name: self.stored_name,
             main_name: self.main_name,

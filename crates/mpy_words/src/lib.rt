@@ -6,6 +6,6 @@ pub mod number;
 mod order;
 mod words;
 
-pub use given::{MAX_BYTES, MAX_CELLS, MAX_STEPS};
+pub use given::{MAX_BYTES, MAX_CELLS, MAX_COUNT, MAX_STEPS};
 pub use order::{Command, Named, Order, Setting, WordFault};
 pub use words::order_of;

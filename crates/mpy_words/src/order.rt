@@ -24,6 +24,8 @@ pub enum Command {
     Run,
     /// `board IMAGE PLAN`
     Board,
+    /// `stress SEED COUNT`
+    Stress,
 }
 
 /// A word that a command names.
@@ -31,12 +33,18 @@ pub enum Command {
 pub enum Named {
     Source,
     File,
+    /// The image that is written once more.
+    Input,
     /// The file that is written.
     Output,
     Manifest,
     Image,
     /// The plan of a board.
     Plan,
+    /// The number from which a made source draws its keys and values.
+    Seed,
+    /// How many assignments it has.
+    Count,
 }
 
 /// An option, which stands behind the named words with its value.
@@ -62,6 +70,10 @@ pub enum Setting {
 #[derive(Clone, Copy, Debug, PartialEq, Eq)]
 pub struct Order {
     pub command: Command,
+    /// The number from which a made source draws, 0 where the command names none.
+    pub seed: u32,
+    /// How many assignments it has, 20,000 at most, 0 where the command names none.
+    pub count: u32,
     /// The level of optimization, 0 to 3.
     pub level: u8,
     /// The place of the name that the file is to store of its source, where one was given.
@@ -89,7 +101,7 @@ pub enum WordFault {
     MissingName(Named),
     /// An option's value isn't there.
     MissingValue(Setting),
-    /// An option's value is no number, or one outside its bounds, by its place.
+    /// A word that is to be a number is none, or one outside its bounds, by its place.
     BadNumber(usize),
     /// An option stands a second time.
     Twice(Setting),
@@ -103,10 +115,13 @@ impl Named {
         match self {
             Named::Source => "SRC",
             Named::File => "FILE",
+            Named::Input => "IN",
             Named::Output => "OUT",
             Named::Manifest => "MANIFEST",
             Named::Image => "IMAGE",
             Named::Plan => "PLAN",
+            Named::Seed => "SEED",
+            Named::Count => "COUNT",
         }
     }
 }

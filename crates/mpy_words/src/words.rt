@@ -2,7 +2,7 @@
 
 ghost use Rattle.std.specs.Prelude.{◌≡◌, ◌≤◌, ◌<◌, length, map, string_bytes, IfOk, IfSome};
 ghost use Rattle.mpy_words.specs.Command as commands;
-ghost use Rattle.mpy_words.specs.Given.{none_given, RunsWithin};
+ghost use Rattle.mpy_words.specs.Given.{none_given, most_count, IsBounded, RunsWithin};
 ghost use Rattle.mpy_words.specs.Words as spec;
 
 use crate::given::Given;
@@ -21,6 +21,7 @@ fn command(word: &str) -> Option<Command>
         "migrate" => Some(Command::Migrate),
         "run" => Some(Command::Run),
         "board" => Some(Command::Board),
+        "stress" => Some(Command::Stress),
         _ => None,
     }
 }
@@ -72,8 +73,9 @@ fn names(command: Command) -> &'static [Named]
         Command::Cross => &[Named::Source, Named::File],
         Command::Merge => &[Named::Output],
         Command::Freeze => &[Named::Manifest, Named::Output],
-        Command::Migrate => &[Named::Image, Named::Output],
+        Command::Migrate => &[Named::Input, Named::Output],
         Command::Board => &[Named::Image, Named::Plan],
+        Command::Stress => &[Named::Seed, Named::Count],
     }
 }
 
@@ -94,6 +96,7 @@ fn takes_files(command: Command) -> bool
         Command::Go | Command::Check | Command::Dump | Command::Cross => false,
         Command::Merge => true,
         Command::Freeze | Command::Migrate | Command::Run | Command::Board => false,
+        Command::Stress => false,
     }
 }
 
@@ -126,19 +129,26 @@ fn behind_files(command: Command, words: &[String]) -> &[String]
     rest
 }
 
-/// Reads options, the last of all the words, of which there are `count`.
+/// Reads options, the last of all the words, of which there are `count`, behind what was given already.
 #[tactic(auto, unfolding(crate::specs::Words::settings))]
-fn settings(count: usize, command: Command, words: &[String]) -> Result<Order, WordFault>
-    requires { length words.now ≤ count }
-    ensures order { result ≡ spec.settings count command none_given (map string_bytes words.now) }
+fn settings(
+    count: usize,
+    command: Command,
+    named: Given,
+    words: &[String],
+) -> Result<Order, WordFault>
+    requires within { length words.now ≤ count }
+    requires bounded { IsBounded count named }
+    ensures order { result ≡ spec.settings count command named (map string_bytes words.now) }
     ensures same { IfOk result (λ order. order.command ≡ command) }
+    ensures count { IfOk result (λ order. order.count ≤ most_count) }
     ensures level { IfOk result (λ order. order.level ≤ 3) }
     ensures stored_name { IfOk result (λ order. IfSome order.stored_name (λ at. at < count)) }
     ensures main_name { IfOk result (λ order. IfSome order.main_name (λ at. at < count)) }
     ensures base { IfOk result (λ order. IfSome order.base (λ at. at < count)) }
     ensures run { IfOk result RunsWithin }
 {
-    let mut given = Given::none();
+    let mut given = named;
     let mut rest = words;
     'more: while let Some((word, behind)) = rest.split_first() {
         let Some(setting) = setting(command, word.as_str()) else {
@@ -163,18 +173,20 @@ fn settings(count: usize, command: Command, words: &[String]) -> Result<Order, W
     Ok(given.order(command))
 }
 
-/// Reads the named words, passes files, and reads options.
+/// Reads the named words and the numbers among them, passes files, and reads options.
 #[tactic(auto, unfolding(crate::specs::Words::named))]
 fn named(count: usize, command: Command, words: &[String]) -> Result<Order, WordFault>
     requires { length words.now ≤ count }
-    ensures order { result ≡ spec.named count command (commands.names_of command) (map string_bytes words.now) }
+    ensures order { result ≡ spec.named count command none_given (commands.names_of command) (map string_bytes words.now) }
     ensures named { IfOk result (λ order. length (commands.names_of order.command) ≤ length words.now) }
+    ensures count { IfOk result (λ order. order.count ≤ most_count) }
     ensures level { IfOk result (λ order. order.level ≤ 3) }
     ensures stored_name { IfOk result (λ order. IfSome order.stored_name (λ at. at < count)) }
     ensures main_name { IfOk result (λ order. IfSome order.main_name (λ at. at < count)) }
     ensures base { IfOk result (λ order. IfSome order.base (λ at. at < count)) }
     ensures run { IfOk result RunsWithin }
 {
+    let mut given = Given::none();
     let mut rest = words;
     for wanted in names(command) {
         let Some((word, behind)) = rest.split_first() else {
@@ -186,9 +198,13 @@ fn named(count: usize, command: Command, words: &[String]) -> Result<Order, Word
                 None => Err(WordFault::Unknown(count - rest.len())),
             };
         }
+        let Some(with) = given.with_name(*wanted, word.as_bytes()) else {
+            return Err(WordFault::BadNumber(count - rest.len()));
+        };
+        given = with;
         rest = behind;
     }
-    settings(count, command, behind_files(command, rest))
+    settings(count, command, given, behind_files(command, rest))
 }
 
 /// The order that words give, the program's own name left out.
@@ -197,6 +213,9 @@ pub fn order_of(words: &[String]) -> Result<Order, WordFault>
 
     // The named words are there.
     ensures named { IfOk result (λ order. length (commands.names_of order.command) < length words.now) }
+
+    // A made source has 20,000 assignments at most.
+    ensures count { IfOk result (λ order. order.count ≤ most_count) }
 
     // The level is one of the four.
     ensures level { IfOk result (λ order. order.level ≤ 3) }

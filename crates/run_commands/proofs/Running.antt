@@ -16,8 +16,8 @@ use Rattle.library_files.specs.declared.limit.LoadFault.TheVariants as faults
 use Rattle.library_files.specs.Ends.{EndsIn, FailsInBase, is_failed}
 use Rattle.library_files.specs.Loads.{Loading, LoadsFrom}
 use Rattle.image_runs.specs.declared.fault.MainFault.TheVariants as mains
-use Rattle.frozen_files.specs.declared.fault.SourcesFault.TheVariants as sources
-use Rattle.frozen_files.specs.declared.fault.FrozenFault.TheVariants as frozen
+use Rattle.frozen_faults.specs.declared.fault.SourcesFault.TheVariants as sources
+use Rattle.frozen_faults.specs.declared.fault.FrozenFault.TheVariants as frozen
 use Rattle.library_runs.specs.declared.ending.RunEnd.{RunEnd}
 use Rattle.library_runs.specs.declared.ending.RunEnd.TheVariants as ends
 use Rattle.library_runs.specs.Runs.{Sight, IsOver, RunsAs, is_write_fault, sight, speaks}

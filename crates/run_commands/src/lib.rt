@@ -7,6 +7,7 @@ mod ready;
 mod run;
 
 pub use base::base_of;
+pub use command_files::read_file;
 pub use go::source_ready;
 pub use ready::Ready;
 pub use run::{begins_image, file_ready, run_loaded, run_ready};

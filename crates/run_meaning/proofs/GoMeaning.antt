@@ -7,11 +7,11 @@ use Rattle.mpy_io.specs.Ports.{PortView}
 use Rattle.bc_library.specs.Shelf.{Shelf}
 use Rattle.py_meaning.specs.Program.{Program}
 use Rattle.program_runs.specs.Units.{AreUnits}
-use Rattle.mpy_compile.specs.Compiled.{CompilesTo}
+use Rattle.file_commands.specs.mpy_compile.Compiled.{CompilesTo}
 use Rattle.mpy_tree.specs.File.{IsFile}
 use Rattle.mpy_tree.specs.Raw.{Module}
 use Rattle.library_files.specs.Loads.{Loaded, main_name}
-use Rattle.source_files.specs.Sources.{stored}
+use Rattle.file_commands.specs.source_files.Sources.{stored}
 use Rattle.program_sources.specs.Sources.{IsProgramOfSources}
 use Rattle.program_sources.specs.Libraries.{IsOfSources, IsOfFiles}
 use Rattle.mpy_endings.specs.declared.ending.Ending.{Ending}
@@ -23,7 +23,7 @@ use Rattle.run_commands.specs.Go.{SourceLoadsOf}
 use Rattle.run_commands.specs.Ready.{GoLibrary, RunLibrary}
 use Rattle.run_meaning.specs.Meant.{IsRunStatus, HoldsProgram, RunMeans}
 use Rattle.run_meaning.specs.GoMeant.{MeansSources, GoMeans, HoldsCrossed}
-use Rattle.command_files.specs.Outside.{Outside}
+use Rattle.file_commands.specs.command_files.Outside.{Outside}
 use Rattle.run_commands.specs.Run.{FileLibrary, Runs, EndsRun, sight_in}
 use Rattle.run_meaning.proofs.Meaning.{file_holds}
 

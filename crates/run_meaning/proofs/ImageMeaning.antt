@@ -4,7 +4,7 @@ use Rattle.mpy_io.specs.Files.{FileOf}
 use Rattle.bc_library.specs.Shelf.{Shelf}
 use Rattle.py_meaning.specs.Program.{Program}
 use Rattle.program_runs.specs.Units.{AreUnits}
-use Rattle.frozen_files.specs.Frozen.{HoldsFrozen}
+use Rattle.image_commands.specs.frozen_files.Frozen.{HoldsFrozen}
 use Rattle.image_runs.specs.Main.{HoldsMain}
 use Rattle.frozen_programs.specs.Programs.{IsProgramOfManifest}
 use Rattle.mpy_endings.specs.declared.ending.Ending.TheVariants.{Done}

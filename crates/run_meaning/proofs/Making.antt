@@ -4,12 +4,12 @@ use Rattle.mpy_io.specs.Files.{FileOf}
 use Rattle.mpy_tree.specs.File.{IsFile}
 use Rattle.mpy_tree.specs.Raw.{Module}
 use Rattle.py_meaning.specs.Program.{Source, Unit, Units, Part, Parts}
-use Rattle.mpy_compile.specs.Compiled.{CompilesTo}
+use Rattle.file_commands.specs.mpy_compile.Compiled.{CompilesTo}
 use Rattle.unit_files.specs.Readings.{IsReading}
 use Rattle.built_files.specs.Built.{crossed, merged, AreBuilt, last, next}
 use Rattle.mpy_endings.specs.declared.ending.Ending.TheVariants.{Done}
 use Rattle.file_commands.specs.Cross.{Crosses}
-use Rattle.command_files.specs.Opened.{HoldsModule}
+use Rattle.file_commands.specs.command_files.Opened.{HoldsModule}
 use Rattle.file_commands.specs.Merge.{HoldModules, Merges}
 use Rattle.run_meaning.specs.Made.{HoldsMade, HoldMade, MakesOfSource, MakesOfUnits}
 

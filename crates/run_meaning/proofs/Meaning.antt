@@ -15,9 +15,9 @@ use Rattle.py_meaning.specs.Program.{Unit, Program}
 use Rattle.vm_reports.specs.Rooms.{room_line}
 use Rattle.program_runs.specs.Units.{AreUnits}
 use Rattle.library_files.specs.Loads.{Loaded, LoadsFrom, main_name}
-use Rattle.library_runs.specs.declared.ending.RunEnd.{RunEnd}
-use Rattle.library_runs.specs.declared.ending.RunEnd.TheVariants as ends
-use Rattle.library_runs.specs.Runs.{Sight, RunsAs, end_of, said_of}
+use Rattle.run_commands.specs.library_runs.declared.ending.RunEnd.{RunEnd}
+use Rattle.run_commands.specs.library_runs.declared.ending.RunEnd.TheVariants as ends
+use Rattle.run_commands.specs.library_runs.Runs.{Sight, RunsAs, end_of, said_of}
 use Rattle.mpy_headline.specs.Meant.{RanAsMeant, CutShortAsMeant, EndsAsMeant}
 use Rattle.built_files.specs.Built.{IsBuilt, IsBuiltProgram}
 use Rattle.mpy_endings.specs.declared.ending.Ending.{Ending}
@@ -27,7 +27,7 @@ use Rattle.mpy_endings.specs.declared.ending.Stop.TheVariants as stops
 use Rattle.run_commands.specs.Base.{base_of}
 use Rattle.mpy_endings.specs.Ending.{status_of}
 use Rattle.mpy_endings.specs.Line.{Says, line_of}
-use Rattle.command_files.specs.Outside.{Outside}
+use Rattle.file_commands.specs.command_files.Outside.{Outside}
 use Rattle.run_commands.specs.Ready.{RunLibrary, not_read, of_file, of_image, begins_image}
 use Rattle.run_commands.specs.Run.{FileLibrary, RanLibrary, Runs, EndsRun, ending_of, sight_in}
 use Rattle.run_meaning.specs.Meant.{HoldsBuilt, HoldsProgram, IsRunStatus, DoesAsMeant, Libraries, RunMeans, end_status, end_text}

@@ -16,14 +16,14 @@ use Rattle.py_meaning.specs.Meaning.{meaning}
 use Rattle.vm_reports.specs.Rooms.{room_line}
 use Rattle.program_runs.specs.Units.{AreUnits}
 use Rattle.program_runs.specs.Runs.{MeansRun}
-use Rattle.frozen_files.specs.Frozen.{HoldsFrozen}
+use Rattle.image_commands.specs.frozen_files.Frozen.{HoldsFrozen}
 use Rattle.library_files.specs.Loads.{Loaded}
 use Rattle.built_files.specs.Built.{IsBuilt, IsBuiltProgram}
 use Rattle.mpy_endings.specs.declared.ending.Ending.{Ending}
 use Rattle.run_commands.specs.declared.ready.Ready.{Ready}
 use Rattle.run_commands.specs.Base.{base_of}
 use Rattle.mpy_endings.specs.Line.{Says}
-use Rattle.command_files.specs.Outside.{Outside}
+use Rattle.file_commands.specs.command_files.Outside.{Outside}
 use Rattle.run_commands.specs.Run.{LoadsOf}
 
 -- what the files of a folder come to as a library with a main module, of the file under a name: these, or why it isn't loaded

@@ -15,7 +15,7 @@ ghost use Rattle.run_meaning.specs.GoMeant.{GoMeans, HoldsCrossed};
 ghost use Rattle.run_meaning.specs.Made.{HoldMade, MakesOfSource, MakesOfUnits};
 ghost use Rattle.run_meaning.specs.Meant.{HoldsBuilt, HoldsImage, HoldsProgram, RunMeans};
 ghost use Rattle.file_commands.specs.Merge.{Merges};
-ghost use Rattle.command_files.specs.Outside.{Outside};
+ghost use Rattle.file_commands.specs.command_files.Outside.{Outside};
 ghost use Rattle.run_commands.specs.Ready.{GoLibrary, RunLibrary};
 ghost use Rattle.run_commands.specs.Run.{EndsRun};
 ghost use Rattle.frozen_programs.specs.Programs.{IsProgramOfManifest};

@@ -1,6 +1,6 @@
-use Rattle.std.proofs.Common.{ℕ, List, ◌++◌, codes, ap, sym, subst, ◌∙◌}
+use Rattle.std.proofs.Common.{ℕ, List, codes, ap, sym, subst, ◌∙◌}
 use Rattle.mpy_endings.specs.declared.ending.Ending.{Ending}
-use Rattle.mpy_endings.specs.Line.{Puts, source_line, line_of}
+use Rattle.mpy_endings.specs.Line.{Puts, named_line, source_line, line_of}
 use Rattle.mpy_endings.proofs.line.say_ending.Goals as goal
 
 pub returns-in-Unaccepted-clause-line : goal.returns-in-Unaccepted-clause-line
@@ -10,8 +10,8 @@ returns-in-Unaccepted-clause-line g c =
 
 pub returns-in-ReadFault-clause-line : goal.returns-in-ReadFault-clause-line
 returns-in-ReadFault-clause-line g c =
-    let line = ap (λ (name : List ℕ). codes "mpy: read fault " ++ name ++ codes "\n") c.as_bytes-in-ReadFault.ensures.value ∙ sym (ap (line_of c.args.name.now) c.in-ReadFault.is) in
-    subst (λ (bs : List ℕ). Puts (g.E.Sink.told c.args.say.now) (g.E.Sink.told c.put_three.new.say) (g.E.Sink.count c.args.say.now) (g.E.Sink.count c.put_three.new.say) bs c.put_three.result) line c.put_three.ensures
+    let line = ap (λ (name : List ℕ). named_line (codes "mpy: read fault") name) c.as_bytes-in-ReadFault.ensures.value ∙ sym (ap (line_of c.args.name.now) c.in-ReadFault.is) in
+    subst (λ (bs : List ℕ). Puts (g.E.Sink.told c.args.say.now) (g.E.Sink.told c.put_named.new.say) (g.E.Sink.count c.args.say.now) (g.E.Sink.count c.put_named.new.say) bs c.put_named.result) line c.put_named.ensures
 
 pub returns-in-WriteFault-clause-line : goal.returns-in-WriteFault-clause-line
 returns-in-WriteFault-clause-line g c =
@@ -19,8 +19,8 @@ returns-in-WriteFault-clause-line g c =
 
 pub returns-in-Unwritten-clause-line : goal.returns-in-Unwritten-clause-line
 returns-in-Unwritten-clause-line g c =
-    let line = ap (λ (name : List ℕ). codes "mpy: write fault " ++ name ++ codes "\n") c.as_bytes-in-Unwritten.ensures.value ∙ sym (ap (line_of c.args.name.now) c.in-Unwritten.is) in
-    subst (λ (bs : List ℕ). Puts (g.E.Sink.told c.args.say.now) (g.E.Sink.told c.put_three-in-Unwritten.new.say) (g.E.Sink.count c.args.say.now) (g.E.Sink.count c.put_three-in-Unwritten.new.say) bs c.put_three-in-Unwritten.result) line c.put_three-in-Unwritten.ensures
+    let line = ap (λ (name : List ℕ). named_line (codes "mpy: write fault") name) c.as_bytes-in-Unwritten.ensures.value ∙ sym (ap (line_of c.args.name.now) c.in-Unwritten.is) in
+    subst (λ (bs : List ℕ). Puts (g.E.Sink.told c.args.say.now) (g.E.Sink.told c.put_named-in-Unwritten.new.say) (g.E.Sink.count c.args.say.now) (g.E.Sink.count c.put_named-in-Unwritten.new.say) bs c.put_named-in-Unwritten.result) line c.put_named-in-Unwritten.ensures
 
 pub returns-in-NoMemory-clause-line : goal.returns-in-NoMemory-clause-line
 returns-in-NoMemory-clause-line g c =
@@ -28,5 +28,5 @@ returns-in-NoMemory-clause-line g c =
 
 pub returns-in-Absent-clause-line : goal.returns-in-Absent-clause-line
 returns-in-Absent-clause-line g c =
-    let line = ap (λ (name : List ℕ). codes "mpy: absent " ++ name ++ codes "\n") c.as_bytes-in-Absent.ensures.value ∙ sym (ap (line_of c.args.name.now) c.in-Absent.is) in
-    subst (λ (bs : List ℕ). Puts (g.E.Sink.told c.args.say.now) (g.E.Sink.told c.put_three-in-Absent.new.say) (g.E.Sink.count c.args.say.now) (g.E.Sink.count c.put_three-in-Absent.new.say) bs c.put_three-in-Absent.result) line c.put_three-in-Absent.ensures
+    let line = ap (λ (name : List ℕ). named_line (codes "mpy: absent") name) c.as_bytes-in-Absent.ensures.value ∙ sym (ap (line_of c.args.name.now) c.in-Absent.is) in
+    subst (λ (bs : List ℕ). Puts (g.E.Sink.told c.args.say.now) (g.E.Sink.told c.put_named-in-Absent.new.say) (g.E.Sink.count c.args.say.now) (g.E.Sink.count c.put_named-in-Absent.new.say) bs c.put_named-in-Absent.result) line c.put_named-in-Absent.ensures

@@ -1,12 +1,12 @@
-use Rattle.std.proofs.Common.{ℕ, List, ◌++◌, codes, ap, sym, subst, ◌∙◌}
+use Rattle.std.proofs.Common.{ℕ, List, codes, ap, sym, subst, ◌∙◌}
 use Rattle.mpy_endings.specs.declared.ending.Stop.{Stop}
-use Rattle.mpy_endings.specs.Line.{Puts, source_line, stop_line}
+use Rattle.mpy_endings.specs.Line.{Puts, named_line, source_line, stop_line}
 use Rattle.mpy_endings.proofs.line.say_stop.Goals as goal
 
 pub returns-in-LibraryFault-clause-line : goal.returns-in-LibraryFault-clause-line
 returns-in-LibraryFault-clause-line g c =
-    let line = ap (λ (path : List ℕ). codes "mpy: read fault " ++ path ++ codes "\n") c.bytes.ensures ∙ sym (ap stop_line c.in-LibraryFault.is) in
-    subst (λ (bs : List ℕ). Puts (g.E.Sink.told c.args.say.now) (g.E.Sink.told c.put_three.new.say) (g.E.Sink.count c.args.say.now) (g.E.Sink.count c.put_three.new.say) bs c.put_three.result) line c.put_three.ensures
+    let line = ap (λ (path : List ℕ). named_line (codes "mpy: read fault") path) c.bytes.ensures ∙ sym (ap stop_line c.in-LibraryFault.is) in
+    subst (λ (bs : List ℕ). Puts (g.E.Sink.told c.args.say.now) (g.E.Sink.told c.put_named.new.say) (g.E.Sink.count c.args.say.now) (g.E.Sink.count c.put_named.new.say) bs c.put_named.result) line c.put_named.ensures
 
 pub returns-in-LibraryUnaccepted-clause-line : goal.returns-in-LibraryUnaccepted-clause-line
 returns-in-LibraryUnaccepted-clause-line g c =

@@ -1,6 +1,6 @@
 use Rattle.std.proofs.Common.{◌≡◌, ℕ, map, string_bytes, subst}
-use Rattle.command_files.specs.Outside.{seen}
-use Rattle.run_commands.proofs.Running.{status_zero}
+use Rattle.run_meaning.specs.command_files.Outside.{seen}
+use Rattle.base_commands.proofs.run_commands_lemmas.Running.{status_zero}
 use Rattle.mpy_tool.proofs.Ended.{said_at}
 use Rattle.mpy_tool.proofs.doing.do_order.Goals as goal
 

@@ -1,8 +1,8 @@
 use Rattle.std.proofs.Common.{◌≡◌, ℕ, List, map, string_bytes, ap, sym, subst}
 use Rattle.mpy_words.specs.Words.{first_name}
-use Rattle.command_files.specs.Outside.{seen}
-use Rattle.run_commands.specs.Run.{room_of}
-use Rattle.run_commands.proofs.Running.{says_run, ends_run, status_zero}
+use Rattle.run_meaning.specs.command_files.Outside.{seen}
+use Rattle.base_commands.specs.run_commands.Run.{room_of}
+use Rattle.base_commands.proofs.run_commands_lemmas.Running.{says_run, ends_run, status_zero}
 use Rattle.mpy_tool.specs.Doing.{LibraryBy}
 use Rattle.mpy_tool.proofs.running.run_order.Goals as goal
 

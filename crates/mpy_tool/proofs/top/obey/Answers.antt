@@ -1,7 +1,7 @@
 use Rattle.std.proofs.Common.{◌≡◌, ℕ, Option, map, string_bytes, refl, sym, subst, ◌∙◌}
 use Rattle.std.proofs.KnownBytes.{Keeps-refl}
 use Rattle.bc_library.specs.Shelf.{Shelf}
-use Rattle.command_files.specs.Outside.{seen}
+use Rattle.run_meaning.specs.command_files.Outside.{seen}
 use Rattle.mpy_tool.specs.Doing.{ActsBy}
 use Rattle.mpy_tool.specs.Order.{base_by}
 use Rattle.mpy_tool.proofs.Acting.{at_base}

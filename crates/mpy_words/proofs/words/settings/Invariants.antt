@@ -1,11 +1,11 @@
 use Rattle.std.proofs.Common.{◌≡◌, ◌≤◌, length, map, string_bytes}
-use Rattle.mpy_words.specs.Given.{none_given, IsBounded}
+use Rattle.mpy_words.specs.Given.{IsBounded}
 use Rattle.mpy_words.specs.Words as spec
 use Rattle.mpy_words.proofs.words.settings.Given as goal
 
 abbrev pub invariant-more : goal.invariant-more
 invariant-more l =
-    (spec.settings l.count l.command none_given (map string_bytes l.words) ≡ spec.settings l.count l.command l.given (map string_bytes l.rest))
+    (spec.settings l.count l.command l.fn.named (map string_bytes l.words) ≡ spec.settings l.count l.command l.given (map string_bytes l.rest))
     × (length l.rest ≤ l.count) × IsBounded l.count l.given
 
 abbrev pub decreases-more : goal.decreases-more

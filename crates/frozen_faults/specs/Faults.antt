@@ -4,10 +4,10 @@ use Rattle.mpy_base.specs.declared.refused.Refused.{Refused}
 use Rattle.mpy_base.specs.declared.refused.Refused.TheVariants as refused
 use Rattle.manifest_files.specs.declared.fault.ManifestFault.{ManifestFault}
 use Rattle.manifest_files.specs.declared.fault.ManifestFault.TheVariants as manifests
-use Rattle.frozen_files.specs.declared.fault.SourcesFault.{SourcesFault}
-use Rattle.frozen_files.specs.declared.fault.SourcesFault.TheVariants.{Manifest, Absent, Unaccepted, Unread}
-use Rattle.frozen_files.specs.declared.fault.FrozenFault.{FrozenFault}
-use Rattle.frozen_files.specs.declared.fault.FrozenFault.TheVariants.{Sources, Image}
+use Rattle.frozen_faults.specs.declared.fault.SourcesFault.{SourcesFault}
+use Rattle.frozen_faults.specs.declared.fault.SourcesFault.TheVariants.{Manifest, Absent, Unaccepted, Unread}
+use Rattle.frozen_faults.specs.declared.fault.FrozenFault.{FrozenFault}
+use Rattle.frozen_faults.specs.declared.fault.FrozenFault.TheVariants.{Sources, Image}
 
 -- the first manifest where it is absent, and a manifest whose read failed, are told as files; each other fault as the manifest's
 abbrev pub of_manifest : (manifest : List ℕ) → ManifestFault → SourcesFault

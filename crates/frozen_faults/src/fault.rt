@@ -1,7 +1,7 @@
-//! Why a manifest's sources have no image.
+//! The faults of a manifest's sources and of their image.
 
 ghost use Rattle.std.specs.Prelude.{◌≡◌};
-ghost use Rattle.frozen_files.specs.Faults.{of_manifest};
+ghost use Rattle.frozen_faults.specs.Faults.{of_manifest};
 
 use image_grammar::ImageFault;
 use manifest_files::ManifestFault;
@@ -30,7 +30,7 @@ pub enum FrozenFault {
 }
 
 /// The fault of the manifest of this name.
-pub(crate) fn of_manifest(manifest: &str, fault: ManifestFault) -> SourcesFault
+pub fn of_manifest(manifest: &str, fault: ManifestFault) -> SourcesFault
     ensures { result ≡ of_manifest manifest.now fault }
 {
     match fault {

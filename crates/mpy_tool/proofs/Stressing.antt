@@ -1,0 +1,78 @@
+-- What the run of a made source says of its program, from how it ended.
+use Rattle.std.proofs.Common.{◌≡◌, ◌⊎◌, ℕ, List, subst, inl, inr}
+use Rattle.mpy_base.specs.declared.room.Room.{Room}
+use Rattle.mpy_io.specs.Ports.{PortView}
+use Rattle.image_runs.specs.declared.fault.MainFault.TheVariants as mains
+use Rattle.mpy_endings.specs.declared.ending.Ending.{Ending}
+use Rattle.mpy_endings.specs.declared.ending.Ending.TheVariants.{Done, Unaccepted, Unread, Unverified, Unmerged, Unopened, Unfrozen, Unboarded, Stopped, ReadFault, WriteFault, Unwritten, NoMemory, Absent}
+use Rattle.mpy_endings.specs.declared.ending.Stop.TheVariants.{Past, LibraryFault, LibraryUnaccepted, Raised, Memory, Steps}
+use Rattle.mpy_endings.specs.Ending.{status_of}
+use Rattle.run_meaning.specs.command_files.Outside.{Outside}
+use Rattle.base_commands.specs.run_commands.Ready.{GoLibrary}
+use Rattle.base_commands.specs.run_commands.Run.{EndsRun, IsUnloaded}
+use Rattle.run_meaning.specs.GoMeant.{GoMeans}
+use Rattle.run_meaning.specs.Meant.{IsRunStatus}
+use Rattle.stress_command.specs.Stress.{EndsStress, Ran, beside, stress_name}
+use Rattle.mpy_tool.specs.Making.{MeansMade, StressMeans}
+
+-- the statuses of a run, and that of a sink that failed
+abbrev IsRunning : ℕ → Type 0
+IsRunning status = IsRunStatus status ⊎ (status ≡ 8)
+
+not_run : (n : ℕ) → (n ≡ 0 → ⊥) → (n ≡ 1 → ⊥) → (n ≡ 5 → ⊥) → (n ≡ 6 → ⊥) → IsRunStatus n → ⊥
+not_run n a b c d (inl is) = a is
+not_run n a b c d (inr (inl is)) = b is
+not_run n a b c d (inr (inr (inl is))) = c is
+not_run n a b c d (inr (inr (inr is))) = d is
+
+not_running : (n : ℕ) → (n ≡ 0 → ⊥) → (n ≡ 1 → ⊥) → (n ≡ 5 → ⊥) → (n ≡ 6 → ⊥) → (n ≡ 8 → ⊥) → IsRunning n → ⊥
+not_running n a b c d e (inl is) = not_run n a b c d is
+not_running n a b c d e (inr is) = e is
+
+-- no run without a library
+unloaded_not : (ending : Ending) → IsUnloaded ending → IsRunning (status_of ending) → ⊥
+unloaded_not Done u h = absurd u
+unloaded_not (Unaccepted fault) u h = not_running 3 (λ e. absurd cc) (λ e. absurd cc) (λ e. absurd cc) (λ e. absurd cc) (λ e. absurd cc) h
+unloaded_not (Unread fault) u h = not_running 4 (λ e. absurd cc) (λ e. absurd cc) (λ e. absurd cc) (λ e. absurd cc) (λ e. absurd cc) h
+unloaded_not (Unverified fault) u h = not_running 4 (λ e. absurd cc) (λ e. absurd cc) (λ e. absurd cc) (λ e. absurd cc) (λ e. absurd cc) h
+unloaded_not (Unmerged fault) u h = absurd u
+unloaded_not (Unopened (mains.Image fault)) u h = not_running 4 (λ e. absurd cc) (λ e. absurd cc) (λ e. absurd cc) (λ e. absurd cc) (λ e. absurd cc) h
+unloaded_not (Unopened (mains.NoMain main)) u h = not_running 10 (λ e. absurd cc) (λ e. absurd cc) (λ e. absurd cc) (λ e. absurd cc) (λ e. absurd cc) h
+unloaded_not (Unfrozen fault) u h = absurd u
+unloaded_not (Unboarded fault) u h = absurd u
+unloaded_not (Stopped (Past limit)) u h = not_running 11 (λ e. absurd cc) (λ e. absurd cc) (λ e. absurd cc) (λ e. absurd cc) (λ e. absurd cc) h
+unloaded_not (Stopped (LibraryFault path)) u h = not_running 7 (λ e. absurd cc) (λ e. absurd cc) (λ e. absurd cc) (λ e. absurd cc) (λ e. absurd cc) h
+unloaded_not (Stopped (LibraryUnaccepted source)) u h = not_running 3 (λ e. absurd cc) (λ e. absurd cc) (λ e. absurd cc) (λ e. absurd cc) (λ e. absurd cc) h
+unloaded_not (Stopped Raised) u h = absurd u
+unloaded_not (Stopped Memory) u h = absurd u
+unloaded_not (Stopped (Steps count)) u h = absurd u
+unloaded_not ReadFault u h = not_running 7 (λ e. absurd cc) (λ e. absurd cc) (λ e. absurd cc) (λ e. absurd cc) (λ e. absurd cc) h
+unloaded_not WriteFault u h = absurd u
+unloaded_not Unwritten u h = absurd u
+unloaded_not NoMemory u h = not_running 9 (λ e. absurd cc) (λ e. absurd cc) (λ e. absurd cc) (λ e. absurd cc) (λ e. absurd cc) h
+unloaded_not Absent u h = not_running 10 (λ e. absurd cc) (λ e. absurd cc) (λ e. absurd cc) (λ e. absurd cc) (λ e. absurd cc) h
+
+-- what the law of runs of sources says
+abbrev pub GoLaw : Type 0
+GoLaw = (level : ℕ) (room : Room) (steps : ℕ) (name : List ℕ) (old new : Outside) (ports_old ports_new : List PortView) (status : ℕ)
+    → EndsRun (GoLibrary level) room steps name old new ports_old ports_new status → GoMeans level room steps name old new ports_old ports_new status
+
+module _ (law : GoLaw) (seed count : ℕ) (room : Room) (steps : ℕ) (old new : Outside) (ports_old ports_new : List PortView) (status : ℕ) where
+  meant : Ran seed count room steps old new ports_old ports_new status → MeansMade seed count room steps old new ports_old ports_new status
+  meant h = record {
+    number = h.number;
+    has = h.has;
+    printed = h.printed;
+    prints = h.prints;
+    means = law 0 room steps stress_name (beside seed count old h.printed) new ports_old ports_new status h.goes;
+  }
+
+  pub stress_means : EndsStress seed count room steps old new ports_old ports_new status → StressMeans seed count room steps old new ports_old ports_new status
+  stress_means (inl h) =
+      let none = λ (running : IsRunning status). unloaded_not h.goes.ending h.unloaded (subst IsRunning h.goes.status_is running) in
+      record { ended = λ e. absurd (none (inl e)); cut_short = λ e. absurd (none (inr e)) }
+  stress_means (inr (inl h)) = record {
+    ended = λ e. absurd (not_run 8 (λ x. absurd cc) (λ x. absurd cc) (λ x. absurd cc) (λ x. absurd cc) (subst IsRunStatus h.status_is e));
+    cut_short = λ e. inl h;
+  }
+  stress_means (inr (inr h)) = record { ended = λ e. meant h; cut_short = λ e. inr (meant h) }
