@@ -10,7 +10,7 @@ pub(crate) fn put_number(alloc: Global, form: &mut Vec<u8>, number: i64) -> Resu
 }
 
 fn put_str(form: &mut Vec<u8>, text: &Text) -> Result<(), AllocError> {
-    form.extend_from_slice(b" \"")?;
+    form.push(b'"')?;
     form.extend_from_slice(text.bytes())?;
     form.extend_from_slice(b"\"")
 }
@@ -66,11 +66,6 @@ pub(crate) fn open(form: &mut Vec<u8>, word: &[u8]) -> Result<(), AllocError> {
     form.extend_from_slice(word)
 }
 
-fn put_int(alloc: Global, form: &mut Vec<u8>, number: i32) -> Result<(), AllocError> {
-    form.push(b' ')?;
-    put_number(alloc, form, i64::from(number))
-}
-
 #[cycle(exprs)]
 pub(crate) fn put_expr(alloc: Global, form: &mut Vec<u8>, expr: &Expr) -> Result<(), AllocError> {
     match expr {
@@ -78,77 +73,74 @@ pub(crate) fn put_expr(alloc: Global, form: &mut Vec<u8>, expr: &Expr) -> Result
         Expr::True => put_word(form, b"True"),
         Expr::False => put_word(form, b"False"),
         Expr::Name(name) => put_word(form, name.bytes()),
-        Expr::Int(number) => put_int(alloc, form, *number),
-        Expr::Str(text) => put_str(form, text),
-        Expr::Unary { op, value } => put_one(alloc, form, unary_word(*op), value.get()),
-        Expr::Not(value) => put_one(alloc, form, b"not", value.get()),
+        Expr::Int(number) => {
+            form.push(b' ')?;
+            put_number(alloc, form, i64::from(*number))
+        }
+        Expr::Str(text) => {
+            form.push(b' ')?;
+            put_str(form, text)
+        }
+        Expr::Unary { op, value } => {
+            open(form, unary_word(*op))?;
+            put_expr(alloc, form, value.get())?;
+            form.extend_from_slice(b")")
+        }
+        Expr::Not(value) => {
+            open(form, b"not")?;
+            put_expr(alloc, form, value.get())?;
+            form.extend_from_slice(b")")
+        }
         Expr::Binary { op, left, right } => {
-            put_two(alloc, form, binary_word(*op), left.get(), right.get())
+            open(form, binary_word(*op))?;
+            put_expr(alloc, form, left.get())?;
+            put_expr(alloc, form, right.get())?;
+            form.extend_from_slice(b")")
         }
         Expr::Index { object, index } => {
-            put_two(alloc, form, b"index", object.get(), index.get())
+            open(form, b"index")?;
+            put_expr(alloc, form, object.get())?;
+            put_expr(alloc, form, index.get())?;
+            form.extend_from_slice(b")")
         }
-        Expr::Attr { object, name } => put_attr(alloc, form, object.get(), name),
-        Expr::Cond { test, yes, no } => put_cond(alloc, form, test.get(), yes.get(), no.get()),
+        Expr::Attr { object, name } => {
+            open(form, b"attr")?;
+            put_expr(alloc, form, object.get())?;
+            put_word(form, name.bytes())?;
+            form.extend_from_slice(b")")
+        }
+        Expr::Cond { test, yes, no } => {
+            open(form, b"cond")?;
+            put_expr(alloc, form, test.get())?;
+            put_expr(alloc, form, yes.get())?;
+            put_expr(alloc, form, no.get())?;
+            form.extend_from_slice(b")")
+        }
         Expr::And(items) => put_all(alloc, form, b"and", items.as_slice()),
         Expr::Or(items) => put_all(alloc, form, b"or", items.as_slice()),
         Expr::Tuple(items) => put_all(alloc, form, b"tuple", items.as_slice()),
         Expr::List(items) => put_all(alloc, form, b"list", items.as_slice()),
         Expr::Dict(pairs) => put_pairs(alloc, form, pairs.as_slice()),
-        Expr::Compare { first, rest } => put_compared(alloc, form, first.get(), rest.as_slice()),
+        Expr::Compare { first, rest } => {
+            open(form, b"compare")?;
+            put_expr(alloc, form, first.get())?;
+            put_compared(alloc, form, rest.as_slice())
+        }
         Expr::Call { callee, args, keys } => {
-            put_call(alloc, form, callee.get(), args.as_slice(), keys.as_slice())
+            open(form, b"call")?;
+            put_expr(alloc, form, callee.get())?;
+            put_each(alloc, form, args.as_slice())?;
+            put_keys(alloc, form, keys.as_slice())
         }
     }
 }
 
 #[cycle(exprs)]
-fn put_one(alloc: Global, form: &mut Vec<u8>, word: &[u8], value: &Expr) -> Result<(), AllocError> {
-    open(form, word)?;
-    put_expr(alloc, form, value)?;
-    form.extend_from_slice(b")")
-}
-
-#[cycle(exprs)]
-pub(crate) fn put_two(
-    alloc: Global,
-    form: &mut Vec<u8>,
-    word: &[u8],
-    first: &Expr,
-    second: &Expr,
-) -> Result<(), AllocError> {
-    open(form, word)?;
-    put_expr(alloc, form, first)?;
-    put_expr(alloc, form, second)?;
-    form.extend_from_slice(b")")
-}
-
-#[cycle(exprs)]
-fn put_cond(
-    alloc: Global,
-    form: &mut Vec<u8>,
-    test: &Expr,
-    yes: &Expr,
-    no: &Expr,
-) -> Result<(), AllocError> {
-    open(form, b"cond")?;
-    put_expr(alloc, form, test)?;
-    put_expr(alloc, form, yes)?;
-    put_expr(alloc, form, no)?;
-    form.extend_from_slice(b")")
-}
-
-#[cycle(exprs)]
-pub(crate) fn put_attr(
-    alloc: Global,
-    form: &mut Vec<u8>,
-    object: &Expr,
-    name: &Text,
-) -> Result<(), AllocError> {
-    open(form, b"attr")?;
-    put_expr(alloc, form, object)?;
-    put_word(form, name.bytes())?;
-    form.extend_from_slice(b")")
+fn put_each(alloc: Global, form: &mut Vec<u8>, items: &[Expr]) -> Result<(), AllocError> {
+    for item in items {
+        put_expr(alloc, form, item)?;
+    }
+    Ok(())
 }
 
 #[cycle(exprs)]
@@ -159,9 +151,7 @@ fn put_all(
     items: &[Expr],
 ) -> Result<(), AllocError> {
     open(form, word)?;
-    for item in items {
-        put_expr(alloc, form, item)?;
-    }
+    put_each(alloc, form, items)?;
     form.extend_from_slice(b")")
 }
 
@@ -179,11 +169,8 @@ fn put_pairs(alloc: Global, form: &mut Vec<u8>, pairs: &[(Expr, Expr)]) -> Resul
 fn put_compared(
     alloc: Global,
     form: &mut Vec<u8>,
-    first: &Expr,
     rest: &[(CompareOp, Expr)],
 ) -> Result<(), AllocError> {
-    open(form, b"compare")?;
-    put_expr(alloc, form, first)?;
     for (op, value) in rest {
         put_word(form, compare_word(*op))?;
         put_expr(alloc, form, value)?;
@@ -199,20 +186,4 @@ fn put_keys(alloc: Global, form: &mut Vec<u8>, keys: &[(Text, Expr)]) -> Result<
         put_expr(alloc, form, value)?;
     }
     form.extend_from_slice(b")")
-}
-
-#[cycle(exprs)]
-fn put_call(
-    alloc: Global,
-    form: &mut Vec<u8>,
-    callee: &Expr,
-    args: &[Expr],
-    keys: &[(Text, Expr)],
-) -> Result<(), AllocError> {
-    open(form, b"call")?;
-    put_expr(alloc, form, callee)?;
-    for arg in args {
-        put_expr(alloc, form, arg)?;
-    }
-    put_keys(alloc, form, keys)
 }
