@@ -17,7 +17,7 @@ use Rattle.mpy_endings.specs.declared.ending.Ending.TheVariants.{Done, Unaccepte
 use Rattle.image_runs.specs.declared.fault.MainFault.TheVariants as mains
 use Rattle.frozen_faults.specs.declared.fault.FrozenFault.TheVariants as frozen
 use Rattle.base_library.specs.command_files.Folder.{ChangesOnly, MayHold}
-use Rattle.base_library.proofs.command_files_lemmas.Others.{same_only, became_only, front_only}
+use Rattle.command_files.proofs.Others.{same_only, became_only, front_only}
 use Rattle.image_commands.specs.Migrate.{Migrates, refused_end}
 
 -- modules of an image have different names, so they can only be too big for another one
