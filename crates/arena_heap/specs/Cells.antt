@@ -236,7 +236,7 @@ pub record Apart (from size : ℕ → ℕ) (limit : ℕ) : Type 0 where
   pub inside : (n : ℕ) → from n + size n ≤ limit
   pub apart : (n m c : ℕ) → In (from n) (size n) c → In (from m) (size m) c → n ≡ m
 
--- what is kept of the heads h of an arena with so many cells and bytes used
+-- what is kept of the heads `h` of an arena that uses `cells` cells and `bytes` bytes
 pub record Kept (h : ℕ → Cell) (cells bytes : ℕ) : Type 0 where
   pub cells_apart : Apart (λ n. first n (h n)) (λ n. size (h n)) cells
   pub bytes_apart : Apart (λ n. byte_first n (h n)) (λ n. byte_size (h n)) bytes

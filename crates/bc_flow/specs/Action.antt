@@ -26,10 +26,10 @@ pub data Action : Type 0 where
   -- drops an except entry, and jumps
   PopExcept : ℕ → Action
   EndFinally : Action
-  -- jumps out of so many entries, and takes an iterator or not
+  -- jumps to an offset, out of a number of entries, and takes an iterator or not
   Unwind : ℕ → ℕ → Bool → Action
   Return : Action
-  -- takes so many values, and raises
+  -- takes that number of values, and raises
   Raise : ℕ → Action
 
 abbrev pub straight : ℕ → List Want → ℕ → List Give → Action

@@ -26,7 +26,7 @@ abbrev pub preorder_by : (Constant → List Constant) → Constant → Option (L
 preorder_by inner object None = object ∷ []
 preorder_by inner object (Some items) = object ∷ flat_map inner items
 
--- the same to so many levels
+-- the same to that number of levels of tuples
 unfoldable pub preorder_to : ℕ → Constant → List Constant
 preorder_to zero object = object ∷ []
 preorder_to (suc levels) object = preorder_by (preorder_to levels) object (items_in (out-Constant object))

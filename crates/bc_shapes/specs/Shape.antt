@@ -61,7 +61,7 @@ fits (w ∷ ws) (k ∷ ks) = stands w k && fits ws ks
 abbrev pub are_values : List Kind → Bool
 are_values ks = list_all (stands wants.Value) ks
 
--- so many values on top of others
+-- `n` values on top of others
 abbrev pub takes : ℕ → List Want → List Want
 takes n others = replicate n wants.Value ++ others
 
@@ -73,7 +73,7 @@ abbrev pub give_of : List Kind → Give → Kind
 give_of ks (New k) = k
 give_of ks (Again n) = get_or ks n kinds.Either
 
--- so many slots taken, and these given
+-- the slots once `n` are taken and these given
 abbrev pub after : List Give → ℕ → List Kind → List Kind
 after gs n ks = map (give_of ks) gs ++ drop n ks
 

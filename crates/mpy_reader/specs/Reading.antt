@@ -83,7 +83,7 @@ number bytes (Err Truncated) = EndsInside bytes
 number bytes (Err TooBig) = PassesForm bytes
 number bytes (Err fault) = ⊥
 
--- so many bytes
+-- the first `count` bytes
 abbrev pub taken : ℕ → List ℕ → Field (List ℕ)
 taken count bytes (Ok found) = (bytes ≡ found.0 ++ found.1) × (length found.0 ≡ count)
 taken count bytes (Err Truncated) = length bytes < count
@@ -96,7 +96,7 @@ count bytes = do
   judge (n.0 ≤ MAX_TABLE) TooBig
   pure n
 
--- so many fields, one after another
+-- that number of fields, one after another
 unfoldable pub many : {A : Type 0} → ℕ → (List ℕ → Field A) → List ℕ → Field (List A)
 many zero field bytes = pure ([], bytes)
 many (suc n) field bytes = do
@@ -113,7 +113,7 @@ abbrev pub own_of : FileFault → List ℕ → Reading (List ℕ)
 own_of fault text (Ok own) = IsText own text
 own_of fault text (Err f) = (f ≡ fault) × ((own : List ℕ) → IsText own text → ⊥)
 
--- a text of so many bytes with its zero byte
+-- a text of `len` bytes and its zero byte
 unfoldable pub text : FileFault → ℕ → List ℕ → Field (List ℕ)
 text fault len bytes = do
   whole ← taken (len + 1) bytes
@@ -175,7 +175,7 @@ object_by tuple_field tag rest =
     (choose (tag == tag_tuple) (tuple_field rest)
     (refuse (BadObject tag)))))))
 
--- so many levels of tuples may stand in the object
+-- an object with that number of levels of tuples at most
 unfoldable pub object : ℕ → List ℕ → Field Constant
 object zero bytes = do
   tag ← byte bytes
@@ -206,7 +206,7 @@ index bytes (Err BadPrelude) = EndsInside bytes
 index bytes (Err TooBig) = PassesForm bytes
 index bytes (Err fault) = ⊥
 
--- the number of a text in a table of so many
+-- the number of a text in a table of `texts` texts
 unfoldable pub name : ℕ → List ℕ → Field ℕ
 name texts bytes = do
   n ← index bytes
@@ -249,7 +249,7 @@ element inner texts bytes = do
   codes ← children inner front.0.1 front.1
   pure (roll-RawCode (record { bytes = front.0.0; children = codes.0 }), codes.1)
 
--- so many levels of codes may stand there, this one among them
+-- a code with that number of levels of codes at most, itself among them
 unfoldable pub code : ℕ → ℕ → List ℕ → Field RawCode
 code zero texts bytes = refuse TooBig
 code (suc levels) texts bytes = element (code levels texts) texts bytes

@@ -112,7 +112,7 @@ IsAtom text object =
     ⊎ IsStr text object
     ⊎ IsInt text object
 
--- an object with so many levels of tuples at most
+-- an object with that number of levels of tuples at most
 unfoldable pub IsObject : ℕ → List ℕ → Constant → Type 0
 IsObject zero text object = IsAtom text object
 IsObject (suc levels) text object = IsAtom text object ⊎ IsTuple (IsObject levels) text object
@@ -120,7 +120,7 @@ IsObject (suc levels) text object = IsAtom text object ⊎ IsTuple (IsObject lev
 -- codes
 -- =====
 
--- a code's own bytes: a prelude whose names stand in a table of so many texts, and instructions
+-- a code's own bytes: a prelude whose names stand in a table of `texts` texts, and instructions
 pub record IsOwnCode (texts : ℕ) (code : List ℕ) : Type 0 where
   pub prelude : Prelude
   pub begins : Begins code prelude
@@ -154,7 +154,7 @@ pub record IsElement (Inner : List ℕ → RawCode → Type 0) (texts : ℕ) (te
   pub are_children : AreChildren Inner has_children behind children
   pub code_is : code ≡ roll-RawCode (record { bytes = own; children = children })
 
--- a code with so many levels of codes at most, itself among them
+-- a code with that number of levels of codes at most, itself among them
 unfoldable pub IsCode : ℕ → ℕ → List ℕ → RawCode → Type 0
 IsCode zero texts text code = ⊥
 IsCode (suc levels) texts text code = IsElement (IsCode levels texts) texts text code

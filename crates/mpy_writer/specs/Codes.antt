@@ -8,7 +8,7 @@ use Rattle.mpy_tree.specs.declared.module.Item.TheVariants as items
 use Rattle.mpy_tree.specs.declared.module.Code.{Code, out-Code}
 use Rattle.mpy_tree.specs.declared.module.ModuleCode.{ModuleCode}
 
--- a code, and behind it those in it, so many levels deep
+-- a code, and behind it those in it, that number of levels deep
 unfoldable pub codes_in : ℕ → Code → List Code
 codes_in zero code = []
 codes_in (suc levels) code = code ∷ flat_map (codes_in levels) (out-Code code).children

@@ -55,7 +55,7 @@ position_of (labels.Jump op position) = position
 position_of (labels.Unwind position byte) = position
 position_of item = 0
 
--- the item may be written, and a jump names one of so many
+-- the item may be written, and a jump names one of `count` instructions
 abbrev pub IsPlaced : ℕ → Labelled → Type 0
 IsPlaced count (labels.At label) = ⊥
 IsPlaced count (labels.Plain instr) = IsEncodable instr × HasNoOffset instr
@@ -66,7 +66,7 @@ IsPlaced count (labels.Unwind position byte) = position < count
 abbrev pub numbered : Tables → List Item → List Labelled
 numbered tables items = map (item_of tables) items
 
--- the bytes of so many items where each offset is 0 and takes one byte
+-- the bytes of the first items, as many as the second argument says, where each offset is 0 and takes one byte
 abbrev pub drafted_to : List Labelled → ℕ → List ℕ
 drafted_to items zero = []
 drafted_to items (suc i) = drafted_to items i ++ flat_map spelling (instr_of (item_at items i) (pos 0) false)
