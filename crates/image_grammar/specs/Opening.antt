@@ -96,7 +96,7 @@ pub record IsUse (pool : Texts) (used n : ℕ) (text : List ℕ) : Type 0 where
   pub text_is : text_numbered pool n ≡ Some text
   pub in_turn : n ≤ FIRST_OWN + used
 
--- so many are used behind the number
+-- how many texts of the pool are used once the number `n` is used too, where `used` were before
 abbrev pub used_with : ℕ → ℕ → ℕ
 used_with used n = max used (n + 1 - FIRST_OWN)
 

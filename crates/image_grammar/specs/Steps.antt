@@ -44,7 +44,7 @@ sought {A} Fact fault (Err other) = (other ≡ fault) × ((x : A) → Fact x →
 abbrev pub Field : Type 0 → Type 1
 Field A = Reading (A × List ℕ)
 
--- a step is taken so many times, each from what the one before has left
+-- a step is taken that number of times, each from what the one before has left
 unfoldable pub times : {A : Type 0} → ℕ → (A → List ℕ → Field A) → A → List ℕ → Field A
 times zero step state bytes = pure (state, bytes)
 times (suc count) step state bytes = do

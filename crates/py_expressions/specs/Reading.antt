@@ -430,7 +430,7 @@ module _ (inner : Rule → Parser Expr) where
   by_rule rule.Factor = factor
   by_rule rule.Primary = primary
 
--- with no more than so many brackets, signs and the like, each in the one before
+-- an expression by a rule, with no more than that number of brackets, signs and the like, each in the one before
 unfoldable pub expr : ℕ → Rule → Parser Expr
 expr zero which = refuse
 expr (suc depth) which = by_rule (expr depth) which
