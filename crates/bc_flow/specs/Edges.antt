@@ -87,10 +87,12 @@ behind DropExcept n es = rest_of es
 behind DropActive n es = rest_of es
 behind (Leave k) n es = drop k es
 
+-- the top entry is that of an except handler
 abbrev pub top_is_except : List Entry → Bool
 top_is_except [] = false
 top_is_except (e ∷ es) = not e.is_finally
 
+-- the top entry is active
 abbrev pub top_is_active : List Entry → Bool
 top_is_active [] = false
 top_is_active (e ∷ es) = e.active
@@ -186,6 +188,7 @@ abbrev pub is_marked : ℕ → List Entry → Bool
 is_marked to [] = true
 is_marked to (e ∷ es) = (if e.active then nat_le e.handler to else nat_lt to e.handler) && is_marked to es
 
+-- the same of the entries of all edges
 abbrev pub all_marked : List Way → Bool
 all_marked [] = true
 all_marked (w ∷ ws) = is_marked w.to w.entries && all_marked ws

@@ -26,6 +26,7 @@ pub record Lies (s : Span) (x : At) (o : Option At) : Type 0 where
   pub long : length x.slots ≡ length there.slots
   pub below : BelowOutside (Some s) x.slots there.slots
 
+-- the same, and nothing where no slots are named
 abbrev pub Outside : Option Span → At → Option At → Type 0
 Outside None x o = Unit {0}
 Outside (Some s) x o = Lies s x o

@@ -31,6 +31,7 @@ abbrev pub keeps : ℕ → Give → Bool
 keeps n (New k) = true
 keeps n (Again m) = nat_lt m n
 
+-- the same of all slots that are given
 abbrev pub keeps_all : ℕ → List Give → Bool
 keeps_all n [] = true
 keeps_all n (g ∷ gs) = keeps n g && keeps_all n gs

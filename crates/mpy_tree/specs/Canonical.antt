@@ -48,6 +48,7 @@ abbrev pub children_bytes : (RawCode → List ℕ) → List RawCode → List ℕ
 children_bytes inner [] = []
 children_bytes inner (child ∷ children) = vuint (length (child ∷ children)) ++ flat_map inner (child ∷ children)
 
+-- does a code with these children have any?
 abbrev pub has_some : List RawCode → Bool
 has_some [] = false
 has_some (child ∷ children) = true
@@ -59,6 +60,7 @@ code_bytes (suc levels) code =
     vuint (header_of (length (out-RawCode code).bytes) (has_some (out-RawCode code).children))
     ++ ((out-RawCode code).bytes ++ children_bytes (code_bytes levels) (out-RawCode code).children)
 
+-- what is written for a module: the header, the numbers of texts and of objects, the texts, the objects and the code
 abbrev pub file_bytes : Module → List ℕ
 file_bytes m =
     0x4d ∷ 6 ∷ 0 ∷ m.bits ∷ (vuint (length m.qstrs) ++ (vuint (length m.objects)
@@ -93,6 +95,8 @@ unfoldable pub AllCodes : (List ℕ → Type 0) → ℕ → RawCode → Type 0
 AllCodes P zero code = P (out-RawCode code).bytes
 AllCodes P (suc levels) code = P (out-RawCode code).bytes × All (AllCodes P levels) (out-RawCode code).children
 
+-- the file is what is written for its module, its small integers take 31 bits, each static text is named by its number, and each
+-- code is canonical
 pub record Canonical (bytes : List ℕ) : Type 0 where
   pub m : Module
   pub bytes_are : bytes ≡ file_bytes m

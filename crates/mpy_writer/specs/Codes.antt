@@ -22,6 +22,7 @@ abbrev pub text_in : Item → List (List ℕ)
 text_in (items.Named op text) = text ∷ []
 text_in item = []
 
+-- the object that an instruction names, if it names one
 abbrev pub object_in : Item → List Constant
 object_in (items.Object object) = object ∷ []
 object_in item = []
@@ -30,6 +31,7 @@ object_in item = []
 abbrev pub texts_in : Code → List (List ℕ)
 texts_in code = (out-Code code).name ∷ ((out-Code code).args ++ flat_map text_in (out-Code code).instrs)
 
+-- the objects that a code's instructions name
 abbrev pub objects_in : Code → List Constant
 objects_in code = flat_map object_in (out-Code code).instrs
 
@@ -37,5 +39,6 @@ objects_in code = flat_map object_in (out-Code code).instrs
 abbrev pub texts_used : ModuleCode → List (List ℕ)
 texts_used m = m.source ∷ flat_map texts_in (codes m)
 
+-- the objects that a module names, as often as it names them
 abbrev pub objects_used : ModuleCode → List Constant
 objects_used m = flat_map objects_in (codes m)

@@ -88,9 +88,11 @@ pub record IsCodeWith (IsItem : ℕ → Item → Type 0) (code : Code) : Type 0 
   pub lines : NeverFall 1 (out-Code code).lines
   pub few_children : length (out-Code code).children ≤ MAX_TABLE
 
+-- a code that may be written, whose plain instructions name no text, no object and no place
 abbrev pub IsSoundCode : Code → Type 0
 IsSoundCode code = IsCodeWith IsSoundItem code
 
+-- the same of one whose plain instructions may have the number of a text or an object
 abbrev pub IsNumberedCode : Code → Type 0
 IsNumberedCode code = IsCodeWith IsNumberedItem code
 
@@ -99,6 +101,7 @@ unfoldable pub IsShallow : ℕ → Code → Type 0
 IsShallow zero code = ⊥
 IsShallow (suc levels) code = All (IsShallow levels) (out-Code code).children
 
+-- a module that may be written: it keeps the limits of a file, and its codes nest no deeper than a file's
 pub record IsWritable (m : ModuleCode) : Type 0 where
   pub source : IsText m.source
   pub shallow : IsShallow MAX_DEPTH m.code
