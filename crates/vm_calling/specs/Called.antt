@@ -56,12 +56,15 @@ module _ (p : Program) (callee : Callee) (given : Given) (before : Heap Value â„
   abbrev pub begins_in : PlainWorld
   begins_in = world_of p.tables w before
 
+  -- what is called, as the meaning has it
   abbrev pub called : plain.Callee
   called = plain_callee p.tables.texts p.tables.tuples begins_in callee
 
+  -- the positional arguments
   abbrev pub plain_args : List Val
   plain_args = map (value_of p.tables) given.args
 
+  -- the keyword arguments
   abbrev pub plain_keys : Keys
   plain_keys = map (plain_pair p.tables.texts p.tables.tuples) given.keys
 

@@ -19,11 +19,13 @@ is_iterable (values.Dict d) = true
 is_iterable (values.Range r) = true
 is_iterable _ = false
 
+-- is it a str?
 abbrev pub is_str : Value → Bool
 is_str (values.Str s) = true
 is_str (values.Text t) = true
 is_str _ = false
 
+-- is it a tuple?
 abbrev pub is_tuple : Value → Bool
 is_tuple (values.Fixed c) = true
 is_tuple values.Empty = true

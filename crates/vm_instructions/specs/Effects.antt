@@ -18,6 +18,7 @@ pub record Layout : Type 0 where
   pub starts : ℕ → ℕ → List ℕ
 
 module _ (texts : StrNo → Option (List ℕ)) (tuples : ConstNo → Option (List Value)) where
+  -- the tables that a step is told, by the layout
   abbrev pub tables_of : Layout → Tables
   tables_of layout = record { texts = texts; tuples = tuples; module_name = layout.module_name; starts = layout.starts }
 

@@ -16,6 +16,7 @@ HasRoom s = OfRunning (λ c. length c.slots < s.slot_room) s.calls
 abbrev pub HasRoomForTwo : Calls → Type 0
 HasRoomForTwo s = OfRunning (λ c. suc (length c.slots) < s.slot_room) s.calls
 
+-- what the operation needs: slots to take, and room for what it gives
 abbrev pub Needs : PlainOp → Calls → Type 0
 Needs plain_ops.LoadConstFalse s = HasRoom s
 Needs plain_ops.LoadConstNone s = HasRoom s

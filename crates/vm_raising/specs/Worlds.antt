@@ -30,6 +30,7 @@ failure w (Ok x) = Thrown x.cell w
 failure w (Err room) = Filled room w
 
 module _ (texts : StrNo → Option (List ℕ)) (tuples : ConstNo → Option (List Value)) where
+  -- how values, texts and names are seen
   abbrev pub sight : Sight
   sight = record { value = plain texts tuples; text = λ s. or_nothing (texts s); name = plain_name texts tuples }
 

@@ -40,6 +40,7 @@ end_in (Err failed) = None
 module _ {S : Type 0} (told : S → Option (List ℕ)) (count : S → ℕ) (p : Program) (callee : Callee) (given : Given) (before behind : Seen S) (earlier later : Registry) (old new : Calls) where
   -- what happens in one world, in which these modules are registered
   module _ (w : PlainWorld) where
+    -- that world
     abbrev pub within : PlainWorld
     within = with_modules p.tables w earlier
 

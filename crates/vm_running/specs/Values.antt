@@ -28,6 +28,7 @@ UsesName name_ops.StoreAttr = Unit {0}
 UsesName name_ops.ImportFrom = Unit {0}
 UsesName name_ops.ImportName = ⊥
 
+-- the instruction is one of these
 abbrev pub ActsOnValues : Instruction → Type 0
 ActsOnValues (fetched.Plain op) = IsPlainOperation op
 ActsOnValues (fetched.Number op n) = IsNumberOperation op

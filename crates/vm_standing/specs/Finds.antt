@@ -32,10 +32,12 @@ module _ (plan : Plan) (library : Library) (code : Code) (frame : Frame) where
     pub child : Code
     pub child_is : code_at library frame.module_name number ≡ Some child
 
+  -- the number is that of an operator with one operand
   pub record HasUnary (n : ℕ) : Type 0 where
     pub operator : PlainHeap → Val → Outcome Val
     pub is : unary_at n ≡ Some operator
 
+  -- the number is that of an operator with two operands
   pub record HasBinary (n : ℕ) : Type 0 where
     pub operator : TwoValued
     pub is : operator_at n ≡ Some operator
@@ -107,6 +109,7 @@ module _ (plan : Plan) (library : Library) (code : Code) (frame : Frame) where
   FindsJump ops.ForIter p = Iterator frame.slots × HasRoom 4 5
   FindsJump _ p = ⊥
 
+  -- what an instruction finds that names no text, no object and no place
   abbrev pub FindsInstr : Instr → Type 0
   FindsInstr (instrs.Plain op) = FindsPlain op
   FindsInstr (instrs.Name op n) = ⊥
@@ -117,6 +120,7 @@ module _ (plan : Plan) (library : Library) (code : Code) (frame : Frame) where
   FindsInstr (instrs.Unary n) = HasUnary n × OneValue frame.slots
   FindsInstr (instrs.Binary n) = HasBinary n × TwoValues frame.slots
 
+  -- what any instruction finds
   abbrev pub Finds : Item → Type 0
   Finds (Plain instr) = FindsInstr instr
   Finds (Names op name) = FindsNames op

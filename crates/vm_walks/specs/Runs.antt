@@ -4,6 +4,7 @@ use Rattle.py_values.specs.Equality.{Walk}
 use Rattle.vm_walks.specs.declared.budget.Halt.{Halt}
 use Rattle.vm_walks.specs.declared.budget.Halt.TheVariants.{TooDeep, Spent}
 
+-- the answer of a walk, which has none where it went too deep
 abbrev pub answered : {A : Type 0} → Option A → Result A Halt
 answered (Some a) = Ok a
 answered None = Err TooDeep
