@@ -14,6 +14,7 @@ abbrev pub FirstFrom : (Holds : ℕ → Type 0) → (len from : ℕ) → Option 
 FirstFrom Holds len from None = (k : ℕ) → from ≤ k → k < len → Holds k → ⊥
 FirstFrom Holds len from (Some at) = (from ≤ at) × (at < len) × Holds at × ((k : ℕ) → from ≤ k → k < at → Holds k → ⊥)
 
+-- the lesser of two places, of which each may be missing
 abbrev pub least : Option ℕ → Option ℕ → Option ℕ
 least None second = second
 least (Some at) None = Some at

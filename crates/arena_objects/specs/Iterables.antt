@@ -24,6 +24,7 @@ given (Some (DictObject pairs room)) = map (λ pair. pair.0) pairs
 given (Some (RangeObject start stop step)) = range_numbers start stop step
 given _ = []
 
+-- the list, or an empty one where there is none
 abbrev pub or_nothing : {A : Type 0} → Option (List A) → List A
 or_nothing (Some xs) = xs
 or_nothing None = []

@@ -52,6 +52,7 @@ BelowIn facts plans library Called (frame ∷ frames) = WaitsIn facts plans libr
 BelowIn facts plans library (Imported name m) [] = ⊥
 BelowIn facts plans library (Imported name m) (frame ∷ frames) = StandsIn facts plans library frame × BelowIn facts plans library frame.role frames
 
+-- a state whose running frame stands so, with such frames below it. It isn't stuck
 abbrev pub FitsIn : Facts → Plans → Library → State → Type 0
 FitsIn facts plans library (Running paid frame frames w) = StandsIn facts plans library frame × BelowIn facts plans library frame.role frames
 FitsIn facts plans library (Halted end w) = Unit {0}
@@ -61,11 +62,14 @@ FitsIn facts plans library (Stuck w) = ⊥
 abbrev pub Stands : Plans → Library → Frame → Type 0
 Stands = StandsIn anything
 
+-- the same of a frame that waits
 abbrev pub Waits : Plans → Library → Frame → Type 0
 Waits = WaitsIn anything
 
+-- the same of the frames below one
 abbrev pub Below : Plans → Library → Role → List Frame → Type 0
 Below = BelowIn anything
 
+-- the same of a state
 abbrev pub Fits : Plans → Library → State → Type 0
 Fits = FitsIn anything

@@ -71,6 +71,7 @@ pub record IsVerifiedModule (plans : ℕ → Plan) (m : Module) : Type 0 where
 abbrev pub Plans : Type 0
 Plans = Name → ℕ → Plan
 
+-- each module of the library is verified by its plans
 abbrev pub Follows : Plans → Library → Type 0
 Follows plans library = (name : Name) (m : Module) → entry_in library name ≡ Some (Holds m) → IsVerifiedModule (plans name) m
 

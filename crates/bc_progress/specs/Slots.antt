@@ -41,6 +41,7 @@ pub data ShowsAllIn (facts : Facts) : List Slot → Stack → Type 0 where
 abbrev pub Shows : Slot → flow.Slot → Type 0
 Shows = ShowsIn anything
 
+-- the same of slots one by one
 abbrev pub ShowsAll : List Slot → Stack → Type 0
 ShowsAll = ShowsAllIn anything
 

@@ -31,5 +31,6 @@ codes_to (suc levels) number code =
 abbrev pub codes_of : Module → List Numbered
 codes_of m = codes_to MAX_DEPTH 0 m.code
 
+-- the code `k` of the module `i`
 abbrev pub code_at : Shelf → ℕ → ℕ → Option Numbered
 code_at shelf i k = option_and_then (λ m. slice_get (codes_of m) k) (module_at shelf i)

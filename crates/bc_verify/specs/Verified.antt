@@ -13,6 +13,7 @@ use Rattle.bc_verify.specs.Path.{code_at, IsBefore}
 use Rattle.bc_verify.specs.Rule.{of_flow}
 use Rattle.bc_verify.specs.Rules.{KeepsAll, IsFirstBroken}
 
+-- how many children a code has
 abbrev pub children_of : RawCode → ℕ
 children_of code = length (out-RawCode code).children
 
@@ -37,6 +38,7 @@ pub record TellsLeast (code : RawCode) (states : List State) : Type 0 where
 abbrev pub AreVerified : Module → RawCode → Type 0
 AreVerified m root = (path : List ℕ) (code : RawCode) → code_at path root ≡ Some code → IsVerifiedCode m code
 
+-- all codes of the module are
 abbrev pub IsVerified : Module → Type 0
 IsVerified m = AreVerified m m.code
 

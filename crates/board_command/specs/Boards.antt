@@ -50,6 +50,7 @@ module _ (below : Shelf) (image plan_name : List ℕ) (old new : Option FileOf) 
   abbrev pub Started : (Shelf → Plan → Type 0) → Type 0
   Started Went = (shelf : Shelf) × (plan : Plan) × CanStart below image plan_name old shelf plan × Went shelf plan
 
+  -- the command on an image and a plan ended so, where the line names the word at the place
   abbrev pub Boards : (place : ℕ) → Ending → Type 0
   Boards place Done = Started (λ shelf plan. (p : Program) → IsProgramOf shelf p → HasRunIn p plan old new before behind)
   Boards place (Unaccepted fault) = ⊥

@@ -54,6 +54,7 @@ is_folder_fault (Err (stops.Unwritten task)) = true
 is_folder_fault (Err stops.WriteFault) = false
 is_folder_fault (Err stops.NoMemory) = false
 
+-- did the output fail?
 abbrev pub is_out_fault : Result (Unit {0}) BoardStop → Bool
 is_out_fault (Ok done) = false
 is_out_fault (Err (stops.NoModule name)) = false

@@ -60,6 +60,7 @@ abbrev pub EndsBy : Bool → TaskRun → Option TaskEnd → Type 0
 EndsBy true run end = end ≡ Some ends.WriteFault
 EndsBy false run end = Ends run.vm.arena (standing run.vm.end) end
 
+-- how the run of a task has ended, or that it is open
 abbrev pub HasEnd : TaskRun → Option TaskEnd → Type 0
 HasEnd run end = EndsBy run.failed run end
 

@@ -16,9 +16,11 @@ number_by None = None
 number_by (Some members.Refused) = None
 number_by (Some (members.Module number)) = Some number
 
+-- the number of the module of that name
 abbrev pub number_of : Shelf → (name : List ℕ) → Option ℕ
 number_of shelf name = number_by (member_of shelf name)
 
+-- the name, if it has no module, and else the first name that is missing among the others
 abbrev pub missing_by : (name : List ℕ) → Option ℕ → (others : Option (List ℕ)) → Option (List ℕ)
 missing_by name None others = Some name
 missing_by name (Some number) others = others

@@ -16,6 +16,7 @@ position_in (Some (Some p)) = p
 position_in (Some None) = 0
 position_in None = 0
 
+-- the position of the label `l`
 abbrev pub label_at : Labels → ℕ → ℕ
 label_at labels l = position_in (slice_get labels l)
 
@@ -27,6 +28,7 @@ item_at labels (drafts.Str text) = Loads (Str text)
 item_at labels (drafts.Jump op l) = Jumps op (label_at labels l)
 item_at labels (drafts.Unwind l byte) = Unwinds (label_at labels l) byte
 
+-- the instruction with its line
 abbrev pub line_at : Labels → DraftLine → Line
 line_at labels l = record { item = item_at labels l.item; line = l.line }
 

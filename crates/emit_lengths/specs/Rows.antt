@@ -30,6 +30,7 @@ doubled_wide locals (target ∷ targets) = store_length locals (plain_target tar
 abbrev pub dot_wide : ℕ → ℕ
 dot_wide byte = if nat_eq byte 46 then 4 else 0
 
+-- the bytes of these reads
 abbrev pub reads_wide : Name → ℕ
 reads_wide [] = 0
 reads_wide (byte ∷ bytes) = dot_wide byte + reads_wide bytes

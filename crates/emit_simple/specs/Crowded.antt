@@ -21,6 +21,7 @@ crowded_gone (ToName name) = false
 crowded_gone (ToIndex a b) = crowded a || crowded b
 crowded_gone _ = true
 
+-- the same of each target
 abbrev pub crowded_gones : Targets → Bool
 crowded_gones (Only t) = crowded_gone t
 crowded_gones (Then t ts) = crowded_gone t || crowded_gones ts
@@ -29,6 +30,7 @@ crowded_gones (Then t ts) = crowded_gone t || crowded_gones ts
 abbrev pub passes_entries : ℕ → Bool
 passes_entries count = nat_lt 127 count
 
+-- defaults: their tuple has more items than its instruction can name
 abbrev pub crowded_defaults : Exprs → Bool
 crowded_defaults NoExpr = false
 crowded_defaults (More e es) = crowded_all (More e es) || passes_items (count (More e es))

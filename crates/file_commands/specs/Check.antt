@@ -32,6 +32,7 @@ Judges bytes (Err (Unverified fault)) = IsUnverifiedFile bytes fault
 Judges bytes (Err NoMemory) = Unit {0}
 Judges bytes (Err _) = ⊥
 
+-- the line of a verified file
 abbrev pub verified_line : ℕ → List ℕ
 verified_line count = codes "verified " ++ decimal count ++ codes "\n"
 

@@ -23,6 +23,7 @@ pub data Loading : Type 0 where
 -- an entry of a library
 -- =====================
 
+-- is there a place for one more module or refused name?
 abbrev pub has_place : Shelf → Bool
 has_place shelf = nat_lt (length shelf.modules + length shelf.refused) MAX_MODULES
 
@@ -32,6 +33,7 @@ with_entry shelf name entries.Absent = shelf
 with_entry shelf name entries.Refused = with_refused shelf name
 with_entry shelf name (entries.Held m size) = with_module shelf name m
 
+-- how many bytes the modules' files have with an entry more
 abbrev pub size_with : ℕ → Entry → ℕ
 size_with size entries.Absent = size
 size_with size entries.Refused = size
@@ -97,6 +99,7 @@ pub data Loads (Comes : OfNames) : (shelf : Shelf) → (size : ℕ) → (togethe
 abbrev pub main_name : List ℕ
 main_name = codes "__main__"
 
+-- from a main module on: the limit that it passes by itself, or the end of loading
 abbrev pub LoadsBy : Option Limit → OfNames → (main : Module) → (size : ℕ) → Loading → Type 0
 LoadsBy (Some limit) Comes main size end = end ≡ Past limit
 LoadsBy None Comes main size end =

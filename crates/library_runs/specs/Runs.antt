@@ -116,6 +116,7 @@ module _ (p : Program) (name : Name) (room : Room) (steps : ℕ) (ports : List P
     pub strays : Strays (λ (told : Option (List ℕ)). told) p vm (begins_in printed) steps old.ports new.ports
     pub rose : RoseBeyond strays.strays.failed.number old.ports new.ports
 
+  -- the run ended so, with what was said, between what was seen before and behind it
   abbrev pub EndsSo : (old new : Sight) → RunEnd → List ℕ → Type 0
   EndsSo old new ends.Ended said = Ran old new ends.Ended said
   EndsSo old new ends.Raised said = Ran old new ends.Raised said

@@ -82,6 +82,7 @@ arguments_from (suc turns) found = next_argument found >>= arguments_by (argumen
 unfoldable pub arguments : Parser (List Argument)
 arguments = λ tokens. arguments_from (length tokens) [] tokens
 
+-- nothing is ahead
 abbrev pub end : Parser (Unit {0})
 end = ahead.end
 
@@ -91,7 +92,6 @@ call = do
   name ← ahead.name
   expect sign.Open
   found ← arguments
-  -- nothing is ahead
   end
   pure (record { name = name; arguments = found })
 

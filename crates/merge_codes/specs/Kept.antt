@@ -25,6 +25,7 @@ pub record GoesTo (count : ℕ) (target : Target) : Type 0 where
   pub target_is : target ≡ Position position
   pub within : position < count
 
+-- an item names what the module has, and jumps to one of `count` instructions
 abbrev pub IsKept : Module → ℕ → Item → Type 0
 IsKept m count (items.Plain instr) = NamesThere m instr
 IsKept m count (items.Jump op target) = GoesTo count target

@@ -46,6 +46,7 @@ board_status (boards.Plan fault) = 11
 board_status (boards.NoModule name) = 11
 board_status (boards.Unwritten task) = 8
 
+-- the exit status
 abbrev pub status_of : Ending → ℕ
 status_of Done = 0
 status_of (Unaccepted fault) = 3
@@ -71,11 +72,13 @@ is_read_stop Raised = false
 is_read_stop Memory = false
 is_read_stop (Steps count) = false
 
+-- is it the fault of a file that wasn't written?
 abbrev pub is_output_fault : BoardFault → Bool
 is_output_fault (boards.Plan fault) = false
 is_output_fault (boards.NoModule name) = false
 is_output_fault (boards.Unwritten task) = true
 
+-- the same of an ending
 abbrev pub is_folder_fault : Ending → Bool
 is_folder_fault Done = false
 is_folder_fault (Unaccepted fault) = false
@@ -118,6 +121,7 @@ is_stop_said Raised = true
 is_stop_said Memory = true
 is_stop_said (Steps count) = false
 
+-- the same of an ending
 abbrev pub is_said : Ending → Bool
 is_said Done = false
 is_said (Unaccepted fault) = false
@@ -143,6 +147,7 @@ IsSettledStop Raised = Unit {0}
 IsSettledStop Memory = Unit {0}
 IsSettledStop (Steps count) = Unit {0}
 
+-- the same of an ending
 abbrev pub IsSettled : Ending → Type 0
 IsSettled Done = Unit {0}
 IsSettled (Unaccepted fault) = Unit {0}

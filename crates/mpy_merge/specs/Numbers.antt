@@ -11,6 +11,7 @@ number_of TooMany = 3
 number_of (TooFar place) = 4
 number_of TooBig = 5
 
+-- its name
 abbrev pub name_of : MergeFault → List ℕ
 name_of Empty = codes "Empty"
 name_of TooManyNames = codes "TooManyNames"

@@ -49,6 +49,7 @@ calls_ports Migrate = false
 calls_ports Run = true
 calls_ports Board = false
 
+-- the same of the words' outcome
 abbrev pub calls_ports_in : Outcome → Bool
 calls_ports_in (Err fault) = false
 calls_ports_in (Ok order) = calls_ports order.command

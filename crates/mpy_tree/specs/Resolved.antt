@@ -60,9 +60,11 @@ abbrev pub line_numbers : Body → List ℕ
 line_numbers body = map (λ l. l.line) body.lines
 
 mutual
+  -- a code with those in it
   pub data Tree : Type 0 where
     node : Body → Trees → Tree
 
+  -- codes one behind the other
   pub data Trees : Type 0 where
     no_more : Trees
     more : Tree → Trees → Trees

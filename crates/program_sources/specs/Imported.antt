@@ -6,6 +6,7 @@ use Rattle.py_tree.specs.declared.stmt.Alias.{Alias}
 use Rattle.py_meaning.specs.Tree.{Name, Stmt, Do, Assign, AugName, AugAttr, AugIndex, Delete, Pass, Break, Continue, ReturnNone, Return, Reraise, Raise, Assert, AssertWith, Import, From, If, While, For, Try, Finally, TryFinally, Def, Block, End, Next, Branches, Else, Case, Handlers, NoHandler, Any, On, OnAs, Function, functions}
 use Rattle.py_meaning.specs.Program.{Source}
 
+-- the names that an import names
 abbrev pub names_of : List Alias → List Name
 names_of aliases = map (λ (a : Alias). a.name) aliases
 

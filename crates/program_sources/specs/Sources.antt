@@ -28,6 +28,7 @@ abbrev pub with_source : List (Name × Entry) → Name → Option Source → Lis
 with_source entries name None = entries
 with_source entries name (Some source) = entries ++ (name, Runs (Single source)) ∷ []
 
+-- the names that a source imports, if there is one
 abbrev pub imports_with : Option Source → List Name
 imports_with None = []
 imports_with (Some source) = source_imports source

@@ -59,18 +59,18 @@ behind_atom = 1
 abbrev pub behind_primary : ℕ
 behind_primary = 2
 
--- nor does `**`
+-- neither a trailer nor `**` goes on there
 abbrev pub behind_factor : ℕ
 behind_factor = 3
 
--- nor does a binary operator or a comparison
+-- nor does a binary operator or a comparison go on there
 abbrev pub behind_compare : ℕ
 behind_compare = 10
 
--- nor does a word of a test
+-- nor does a word of a test go on there
 abbrev pub behind_test : ℕ
 behind_test = 13
 
--- nor does a comma
+-- nor does a comma go on there
 abbrev pub behind_tests : ℕ
 behind_tests = 14

@@ -7,6 +7,7 @@ use Rattle.py_meaning.specs.Program.{Text}
 abbrev pub BeginsWithParams : Text → Type 0
 BeginsWithParams text = (others : List Name) × (text.locals ≡ text.params ++ others)
 
+-- the same of each text
 abbrev pub AllBeginWithParams : List Text → Type 0
 AllBeginWithParams [] = Unit {0}
 AllBeginWithParams (text ∷ texts) = BeginsWithParams text × AllBeginWithParams texts
@@ -15,6 +16,7 @@ AllBeginWithParams (text ∷ texts) = BeginsWithParams text × AllBeginWithParam
 abbrev pub HasSlots : Text → Type 0
 HasSlots text = length text.params ≤ length text.locals
 
+-- the same of each text
 abbrev pub AllHaveSlots : List Text → Type 0
 AllHaveSlots [] = Unit {0}
 AllHaveSlots (text ∷ texts) = HasSlots text × AllHaveSlots texts

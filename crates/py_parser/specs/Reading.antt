@@ -176,6 +176,7 @@ module _ (inner : Parser (List Stmt)) where
     closed ← eat mark.Dedent
     if closed then pure (found ++ some) else block_from n (found ++ some)
 
+  -- stmt { stmt } Dedent
   unfoldable pub whole_block : Parser (List Stmt)
   whole_block = λ i. block_from (turns i) [] i
 
@@ -184,7 +185,6 @@ module _ (inner : Parser (List Stmt)) where
   block = do
     expect mark.Indent
     mark_here
-    -- stmt { stmt } Dedent
     whole_block
 
   -- suite = line | Newline Indent stmt { stmt } Dedent
