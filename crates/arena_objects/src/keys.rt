@@ -33,6 +33,7 @@ impl<'a> Key<'a> {
         }
     }
 
+    /// Are the two one key to a dict? Its time is that of a comparison of two texts.
     pub(crate) fn is(self, other: Key) -> bool
         ensures { IsTrue result ↔ (plain self.entry ≡ plain other.entry) }
     {

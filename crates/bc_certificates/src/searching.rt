@@ -61,6 +61,7 @@ enum Turn {
     GoesOn,
 }
 
+/// The mark of a position, or that of one without a row where there is none.
 pub(crate) fn mark_at(marks: &[Mark], p: usize) -> Mark {
     if p < marks.len() { marks[p] } else { UNMARKED }
 }

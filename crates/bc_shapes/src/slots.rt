@@ -44,6 +44,7 @@ fn fit(wants: &[Want], slots: &[Kind]) -> bool
     true
 }
 
+/// Whether both hold. Both are evaluated, so that no branch lies between.
 pub(crate) fn both(a: bool, b: bool) -> bool
     ensures { result ≡ (a && b) }
 {
@@ -147,6 +148,7 @@ impl<'a> Slots<'a> {
     ghost use Rattle.bc_shapes.specs.Views.{gives_of, slots_of_rust};
     ghost use Rattle.bc_shapes.specs.declared.kinds.Kind.TheVariants.{Either};
 
+    /// How many slots these are.
     #[tactic(auto, using(crate::proofs::Loops::slots_size))]
     pub(crate) fn len(self) -> usize
         ensures { result ≡ length (slots_of_rust self.entry) }

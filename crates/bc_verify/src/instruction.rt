@@ -18,6 +18,7 @@ pub(crate) struct Broken {
     pub position: usize,
 }
 
+/// A rule of the flow, among the rules of modules.
 pub(crate) fn of_flow_rule(rule: FlowRule) -> Rule
     ensures { result ≡ of_flow rule }
 {

@@ -4,6 +4,7 @@ use mpy_base::Text;
 use py_tree::{BinaryOp, CompareOp, Expr, UnaryOp};
 use std::alloc::{AllocError, Global};
 
+/// Adds a decimal number.
 pub(crate) fn put_number(alloc: Global, form: &mut Vec<u8>, number: i64) -> Result<(), AllocError> {
     let digits = format!(in alloc; "{number}")?;
     form.extend_from_slice(digits.as_bytes())
@@ -23,6 +24,7 @@ fn unary_word(op: UnaryOp) -> &'static [u8] {
     }
 }
 
+/// The sign of an operator with two operands.
 pub(crate) fn binary_word(op: BinaryOp) -> &'static [u8] {
     match op {
         BinaryOp::Or => b"|",
@@ -66,6 +68,7 @@ pub(crate) fn open(form: &mut Vec<u8>, word: &[u8]) -> Result<(), AllocError> {
     form.extend_from_slice(word)
 }
 
+/// Adds the form of an expression.
 #[cycle(exprs)]
 pub(crate) fn put_expr(alloc: Global, form: &mut Vec<u8>, expr: &Expr) -> Result<(), AllocError> {
     match expr {

@@ -53,6 +53,7 @@ fn found(call: &str, given: &str) -> Option<Result<SmallInt, NumFault>> {
     }
 }
 
+/// What an operation answers to the numbers of a row, as its table has it; nothing where there is no such operation.
 pub(crate) fn answer(alloc: Global, call: &str, given: &str) -> Result<Option<String>, AllocError> {
     match found(call, given) {
         Some(answer) => Ok(Some(shown(alloc, answer)?)),

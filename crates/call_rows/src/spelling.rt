@@ -30,6 +30,7 @@ pub(crate) fn from_hex(alloc: Global, digits: &str) -> Result<Vec<u8>, AllocErro
     Ok(bytes)
 }
 
+/// Two hexadecimal digits for each byte.
 pub(crate) fn to_hex(alloc: Global, bytes: &[u8]) -> Result<String, AllocError> {
     let mut text = String::new(alloc);
     for byte in bytes {

@@ -143,6 +143,7 @@ fn put_plain(form: &mut Vec<u8>, kind: &StmtKind) -> Result<(), AllocError> {
     }
 }
 
+/// Adds the form of a statement, with those in it.
 #[cycle(stmts)]
 pub(crate) fn put_stmt(alloc: Global, form: &mut Vec<u8>, stmt: &Stmt) -> Result<(), AllocError> {
     put_number(alloc, form, i64::from(stmt.line))?;

@@ -97,6 +97,7 @@ fn print_port(rt: &HostRuntime) -> io::Result<()> {
     println!(rt; "faults {}", port.faults())
 }
 
+/// Prints how a folder, sinks and a port answer in turn, calls that fail among them.
 pub(crate) fn print_streams(rt: &HostRuntime) -> io::Result<()> {
     print_folder(rt)?;
     print_sinks(rt)?;

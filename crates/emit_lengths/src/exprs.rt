@@ -60,6 +60,7 @@ fn beside_links(count: usize) -> usize
     if count > 1 { 5 } else { 0 }
 }
 
+/// How many bytes the code of an expression has at most, or 2^64 - 1 where there are more.
 #[cycle(lengths)]
 pub(crate) fn expr_length(locals: &[Text], expr: &Expr) -> usize
     ensures { result ≡ saturated (expr_wide locals.now (plain_expr expr.now)) }
@@ -118,6 +119,7 @@ fn joined_length(locals: &[Text], items: &[Expr]) -> usize
     both(own, length, 0)
 }
 
+/// That of expressions one behind the other.
 #[cycle(lengths)]
 pub(crate) fn row_length(locals: &[Text], items: &[Expr]) -> usize
     ensures { result ≡ saturated (exprs_wide locals.now (exprs (map plain_expr items.now))) }

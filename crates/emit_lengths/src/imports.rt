@@ -60,6 +60,7 @@ fn alias_length(locals: &[Text], alias: &Alias) -> usize
     }
 }
 
+/// How many bytes the code of an import of these modules has at most, or 2^64 - 1 where there are more.
 pub(crate) fn imports_length(locals: &[Text], names: &[Alias]) -> usize
     ensures { result ≡ saturated (imports_wide locals.now names.now) }
 {

@@ -47,6 +47,7 @@ pub(crate) enum Form {
     Require,
 }
 
+/// The call of that name, if a manifest may make it.
 pub(crate) fn form_of(name: &[u8]) -> Option<Form>
     ensures { result ≡ spec.form_of name.now }
 {

@@ -18,6 +18,7 @@ pub(crate) struct Head {
     pub line: u32,
 }
 
+/// The head of the line of an instruction at the offset `start`, which is in the line `line` of the source.
 pub(crate) fn head_of(start: u32, line: u32) -> Head
     ensures is { IsHead start result }
     ensures line { result.line ≡ line }

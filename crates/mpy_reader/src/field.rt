@@ -12,6 +12,7 @@ use std::alloc::Global;
 /// A value and the bytes behind it.
 pub(crate) type Field<'a, T> = Result<(T, &'a [u8]), Refused<FileFault>>;
 
+/// One byte.
 pub(crate) fn byte(bytes: &[u8]) -> Field<'_, u8>
     ensures { Gives (λ found. (found.0, found.1.now)) result (reading.byte bytes.now) }
 {
@@ -21,6 +22,7 @@ pub(crate) fn byte(bytes: &[u8]) -> Field<'_, u8>
     }
 }
 
+/// A number in the form of a file's.
 pub(crate) fn number(bytes: &[u8]) -> Field<'_, u32>
     ensures { Gives (λ found. (found.0, found.1.now)) result (reading.number bytes.now) }
 {

@@ -18,6 +18,7 @@ pub enum Rule {
     Primary,
 }
 
+/// The rules, of which each reads what nests by `expr`, one level of nesting less.
 #[derive(Clone, Copy)]
 pub(crate) struct Grammar<F> {
     pub alloc: Global,

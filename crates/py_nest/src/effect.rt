@@ -47,6 +47,7 @@ fn effect_of_word(word: Word) -> Effect
     }
 }
 
+/// What a token does to the levels.
 pub(crate) fn effect_of(tok: &Tok) -> Effect
     ensures { result ≡ effect_of tok.now }
 {

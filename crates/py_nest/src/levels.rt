@@ -9,6 +9,7 @@ use crate::effect::Effect;
 use crate::nest::MAX_NEST;
 use std::marker::Model;
 
+/// The count on each level of nesting, the innermost on top.
 #[derive(Drop)]
 pub(crate) struct Levels {
     /// The count of the level on top.
@@ -45,6 +46,7 @@ impl Levels {
         }
     }
 
+    /// Do the levels lie deeper than a source may nest? It takes constant time.
     pub(crate) fn is_too_deep(&self) -> bool
         ensures { IsTrue result ↔ (MAX_NEST < depth self.now) }
     {

@@ -93,6 +93,7 @@ fn made(
     }
 }
 
+/// The rules of statements, of which each reads the statements of a block by `stmt`, one level of blocks less.
 #[derive(Clone, Copy)]
 pub(crate) struct Blocks<F> {
     pub alloc: Global,

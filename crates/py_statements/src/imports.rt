@@ -65,6 +65,7 @@ fn imported(alloc: Global, tokens: &mut Cursor<'_>) -> Result<Items<Alias>, Refu
     Ok(found)
 }
 
+/// Reads an `import` of modules.
 #[tactic(auto, unfolding(crate::specs::Reading::imports))]
 pub(crate) fn imports(alloc: Global, tokens: &mut Cursor<'_>) -> Result<StmtKind, Refused<Syntax>>
     ensures { Reads (spec.imports (input_of tokens.old)) result tokens.new }
@@ -74,6 +75,7 @@ pub(crate) fn imports(alloc: Global, tokens: &mut Cursor<'_>) -> Result<StmtKind
     Ok(StmtKind::Import(names))
 }
 
+/// Reads a `from` with the names that it imports.
 #[tactic(auto, unfolding(crate::specs::Reading::imports_from))]
 pub(crate) fn imports_from(
     alloc: Global,

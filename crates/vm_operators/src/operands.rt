@@ -23,6 +23,7 @@ pub(crate) enum Operand {
     Other,
 }
 
+/// What a value is to an operator, in constant time.
 pub(crate) fn operand_of(_arena: &Arena, v: Value) -> Operand
     requires { Leads _arena.now.objects v }
     ensures { IsOperand _arena.now v result }
@@ -87,6 +88,7 @@ fn beside_shape(arena: &Arena, left: Value, right: Value, shape: Shape) -> Opera
     }
 }
 
+/// What two values are to an operator together, in constant time.
 pub(crate) fn operands_of(arena: &Arena, left: Value, right: Value) -> Operands
     requires left { Leads arena.now.objects left }
     requires right { Leads arena.now.objects right }

@@ -7,6 +7,7 @@ ghost use Rattle.py_values.specs.Shown.{is_same_range as is_one_range};
 
 use arena_objects::range_count;
 
+/// Whether the two numbers are equal.
 pub(crate) fn is_one_number(a: i32, b: i32) -> bool
     ensures { result ≡ int_eq a b }
 {
