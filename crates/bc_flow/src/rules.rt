@@ -54,6 +54,7 @@ pub fn are_marked(edge: Edge) -> bool
     true
 }
 
+/// Are the entries of all edges marked as they must be?
 fn all_marked(edges: &[Edge]) -> bool
     ensures { result ≡ specs.edges_marked (map edge_of_rust edges.now) }
 {

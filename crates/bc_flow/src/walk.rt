@@ -84,6 +84,7 @@ fn agrees_state(state: &State, edge: Edge) -> bool
     }
 }
 
+/// Are the entries that arrive those that hold there, if any do?
 #[tactic(auto, using(crate::proofs::Tables::agrees_in, crate::proofs::Tables::agrees_out))]
 fn agrees(states: &[State], edge: Edge) -> bool
     ensures { result ≡ specs.agrees (table_of states.now) edge.entry.to (edge_of_rust edge.entry).at.entries }

@@ -29,6 +29,7 @@ fn stands(want: Want, kind: Kind) -> bool
     }
 }
 
+/// Do the slots that are asked lie on top?
 #[tactic(auto, using(crate::proofs::Loops::fits_step, crate::proofs::Loops::fits_short, crate::proofs::Loops::and_first))]
 fn fit(wants: &[Want], slots: &[Kind]) -> bool
     ensures { result ≡ specs.fits wants.now slots.now }

@@ -10,6 +10,7 @@ use mpy_base::limits::MAX_MODULES;
 use mpy_base::{NoMemory, Refused, Text};
 use std::alloc::Global;
 
+/// Is there an entry of the module?
 fn has_module(entries: &[Entry], name: &[u8]) -> bool
     ensures { result ≡ spec.has_module entries.now name.now }
 {

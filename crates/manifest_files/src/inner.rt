@@ -37,6 +37,7 @@ pub(crate) fn is_ascii(text: &[u8]) -> bool
     text.iter().all(|byte| *byte < 128)
 }
 
+/// Are the names and the path of an entry ASCII, and is its level 0 to 3?
 fn is_plain(entry: &Entry) -> bool
     ensures { result ≡ spec.is_plain entry.now }
 {

@@ -28,6 +28,7 @@ pub(crate) struct Ahead<'a> {
     pub(crate) tokens: &'a [Token],
 }
 
+/// Is the token of this kind the sign?
 fn is_sign(sign: Sign, kind: &Tok) -> bool
     ensures { result ≡ spec.is_sign sign kind.now }
 {

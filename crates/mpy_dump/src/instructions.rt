@@ -23,6 +23,7 @@ use mpy_base::limits::MAX_CODE_BYTES;
 use mpy_io::{Failed, Sink};
 use mpy_tree::RawModule;
 
+/// The name of an instruction, as it is listed.
 fn instr_name(instr: Instr) -> &'static [u8]
     ensures { result.now ≡ specs.instr_name instr }
 {
@@ -36,6 +37,7 @@ fn instr_name(instr: Instr) -> &'static [u8]
     }
 }
 
+/// Puts a blank and the name of number `n`, or the number where it leads to no text.
 fn put_spaced_name<S: Sink>(out: &mut S, module: &RawModule, n: u32) -> Result<(), Failed>
     ensures { Puts S.told S.count out.old out.new (codes " " ++ specs.name_text_at module.now n) result }
 {

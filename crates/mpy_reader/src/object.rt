@@ -28,6 +28,7 @@ const TAG_TUPLE: u8 = 10;
 /// A number past all small integers and their opposites.
 const PAST: u64 = (1 << 30) + 1;
 
+/// Reads a text behind its tag.
 #[tactic(auto, unfolding(crate::specs::Reading::str))]
 fn str_object(alloc: Global, bytes: &[u8]) -> Field<'_, Constant>
     ensures { Gives (λ found. (found.0, found.1.now)) result (reading.str bytes.now) }
@@ -82,6 +83,7 @@ fn int_of(text: &[u8]) -> Option<i32>
     }
 }
 
+/// Reads an integer behind its tag.
 #[tactic(auto, unfolding(crate::specs::Reading::int))]
 fn int_object(bytes: &[u8]) -> Field<'_, Constant>
     ensures { Gives (λ found. (found.0, found.1.now)) result (reading.int bytes.now) }

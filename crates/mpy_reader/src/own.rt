@@ -10,6 +10,7 @@ use bc_ops::decode_at;
 use bc_prelude::{PreludeFault, Signature, read_signature, read_size};
 use mpy_base::{Refused, VuintFault, read_vuint};
 
+/// The signature of a prelude.
 fn signature(code: &[u8]) -> Field<'_, Signature>
     ensures { Gives (λ found. (found.0, found.1.now)) result (reading.signature code.now) }
 {
@@ -74,6 +75,7 @@ fn names(bytes: &[u8], count: u32, texts: u32) -> Result<(), Refused<FileFault>>
     Ok(())
 }
 
+/// Refuses bytes that are no list of instructions.
 fn instructions(bytes: &[u8]) -> Result<(), Refused<FileFault>>
     ensures { Gives (λ _. tt) result (reading.instructions bytes.now) }
 {

@@ -39,6 +39,7 @@ pub struct Cursor<'a> {
 /// Lets a value go. A tree is let go here, so that this is proved once, for every type.
 pub fn release<T: Drop>(_value: T) {}
 
+/// Is the token of this kind the mark?
 fn is_mark(mark: Mark, kind: &Tok) -> bool
     ensures { result ≡ spec.is_mark mark kind.now }
 {

@@ -36,6 +36,7 @@ impl<F: Fn(Global, &mut Cursor<'_>, usize, Rule) -> Result<Expr, Refused<Syntax>
         (self.expr)(self.alloc, tokens, self.depth, rule)
     }
 
+    /// Reads by the rule.
     fn by_rule(&self, tokens: &mut Cursor<'_>, rule: Rule) -> Result<Expr, Refused<Syntax>>
         requires { Nests self.now.depth (F.pre self.now.expr) (F.post self.now.expr) }
         ensures { Reads (spec.by_rule (spec.expr self.now.depth) rule (input_of tokens.old)) result tokens.new }

@@ -21,6 +21,7 @@ pub(crate) enum Effect {
     Keeps,
 }
 
+/// What an operator does to the levels.
 fn effect_of_op(op: Op) -> Effect
     ensures { result ≡ effect_of_op op }
 {
@@ -37,6 +38,7 @@ fn effect_of_op(op: Op) -> Effect
     }
 }
 
+/// What a word does to the levels.
 fn effect_of_word(word: Word) -> Effect
     ensures { result ≡ effect_of_word word }
 {

@@ -115,6 +115,7 @@ pub(crate) fn first_stage(head: &Head) -> Stage
     }
 }
 
+/// The stage behind an `else`: that of a `try` may have a `finally` behind it.
 fn behind_else(stage: Stage) -> Stage
     ensures { result ≡ spec.behind_else stage }
 {

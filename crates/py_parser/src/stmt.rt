@@ -65,6 +65,7 @@ fn mark_if(tokens: &mut Cursor<'_>, ends: bool)
     }
 }
 
+/// The parts of a statement that may end here; refused where it may not.
 fn ended(tokens: &Cursor<'_>, stage: Stage, parts: Parts) -> Result<Parts, Refused<Syntax>>
     ensures { Reads (spec.ended (clauses.may_end stage) parts (input_of tokens.now)) result tokens.now }
 {
@@ -103,6 +104,7 @@ pub(crate) struct Blocks<F> {
 }
 
 impl<F: Fn(Global, &mut Cursor<'_>, usize) -> Result<Items<Stmt>, Refused<Syntax>>> Blocks<F> {
+    /// Reads the statements of a line in a block, one level of blocks less.
     fn inner(&self, tokens: &mut Cursor<'_>) -> Result<Items<Stmt>, Refused<Syntax>>
         requires { Nests self.now.depth (F.pre self.now.stmt) (F.post self.now.stmt) }
         ensures { Reads (spec.stmt self.now.depth (input_of tokens.old)) result tokens.new }
@@ -110,6 +112,7 @@ impl<F: Fn(Global, &mut Cursor<'_>, usize) -> Result<Items<Stmt>, Refused<Syntax
         (self.stmt)(self.alloc, tokens, self.depth)
     }
 
+    /// Reads `stmt { stmt } Dedent`.
     fn block_from(&self, tokens: &mut Cursor<'_>) -> Result<Items<Stmt>, Refused<Syntax>>
         requires { Nests self.now.depth (F.pre self.now.stmt) (F.post self.now.stmt) }
         ensures { Reads (spec.whole_block (spec.stmt self.now.depth) (input_of tokens.old)) result tokens.new }
@@ -126,6 +129,7 @@ impl<F: Fn(Global, &mut Cursor<'_>, usize) -> Result<Items<Stmt>, Refused<Syntax
         Err(tokens.refuse())
     }
 
+    /// Reads `Indent stmt { stmt } Dedent`.
     #[tactic(auto, unfolding(crate::specs::Reading::block))]
     fn block(&self, tokens: &mut Cursor<'_>) -> Result<Items<Stmt>, Refused<Syntax>>
         requires { Nests self.now.depth (F.pre self.now.stmt) (F.post self.now.stmt) }
@@ -136,6 +140,7 @@ impl<F: Fn(Global, &mut Cursor<'_>, usize) -> Result<Items<Stmt>, Refused<Syntax
         self.block_from(tokens)
     }
 
+    /// Reads `line | Newline Indent stmt { stmt } Dedent`.
     #[tactic(auto, unfolding(crate::specs::Reading::suite))]
     fn suite(&self, tokens: &mut Cursor<'_>) -> Result<Items<Stmt>, Refused<Syntax>>
         requires { Nests self.now.depth (F.pre self.now.stmt) (F.post self.now.stmt) }
@@ -167,6 +172,7 @@ impl<F: Fn(Global, &mut Cursor<'_>, usize) -> Result<Items<Stmt>, Refused<Syntax
         Ok((next, parts))
     }
 
+    /// Reads the further clauses of a statement.
     fn clauses(&self, tokens: &mut Cursor<'_>, first: Stage) -> Result<Parts, Refused<Syntax>>
         requires { Nests self.now.depth (F.pre self.now.stmt) (F.post self.now.stmt) }
         ensures { Reads (spec.all_clauses (spec.stmt self.now.depth) first (input_of tokens.old)) result tokens.new }
@@ -201,6 +207,7 @@ impl<F: Fn(Global, &mut Cursor<'_>, usize) -> Result<Items<Stmt>, Refused<Syntax
         Ok((body, parts))
     }
 
+    /// Reads a compound statement.
     fn compound(&self, tokens: &mut Cursor<'_>) -> Result<Stmt, Refused<Syntax>>
         requires { Nests self.now.depth (F.pre self.now.stmt) (F.post self.now.stmt) }
         ensures { Reads (spec.compound (spec.stmt self.now.depth) (input_of tokens.old)) result tokens.new }
@@ -211,6 +218,7 @@ impl<F: Fn(Global, &mut Cursor<'_>, usize) -> Result<Items<Stmt>, Refused<Syntax
         made(line, head, rest)
     }
 
+    /// Reads `stmt`: a compound statement, or a line.
     #[tactic(auto, unfolding(crate::specs::Reading::stmt_with))]
     fn stmt_with(&self, tokens: &mut Cursor<'_>) -> Result<Items<Stmt>, Refused<Syntax>>
         requires { Nests self.now.depth (F.pre self.now.stmt) (F.post self.now.stmt) }

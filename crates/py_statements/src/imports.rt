@@ -11,6 +11,7 @@ use py_tokens::{Op, Word};
 use py_tree::{Alias, StmtKind};
 use std::alloc::Global;
 
+/// Reads `path [ "as" NAME ]`, in whose path dots may stand or not.
 #[tactic(auto, unfolding(crate::specs::Reading::alias))]
 fn alias(alloc: Global, tokens: &mut Cursor<'_>, with_dots: bool) -> Result<Alias, Refused<Syntax>>
     ensures { Reads (spec.alias with_dots (input_of tokens.old)) result tokens.new }
