@@ -1,4 +1,4 @@
-//! Calls on lists.
+//! Calls on lists of an arena: length, items by place, growth. A list that outgrows its room moves behind all other cells.
 
 ghost use Rattle.std.specs.Prelude.{◌≡◌, ◌+◌, ◌<◌, ◌≤◌, ◌↔◌, length, ◌++◌, ◌∷◌, [], replicate, IfErr, OnOk, IsSome, IfSome, OnSome, IfNone, insert, slice_get, slice_set, vec_len};
 ghost use Rattle.std.specs.List.{remove};

@@ -1,4 +1,4 @@
-//! The command `board`.
+//! The command `board`: image and plan are read, the tasks run by turns, and the summary is put.
 
 ghost use Rattle.std.specs.Prelude.{◌≡◌, []};
 ghost use Rattle.std.specs.Option.{ForSome};

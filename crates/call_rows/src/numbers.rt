@@ -1,4 +1,4 @@
-//! Small integers.
+//! Rows of small integers: an operation, its numbers, and what it answers.
 
 use py_values::{NumFault, SmallInt};
 use std::alloc::{AllocError, Global};

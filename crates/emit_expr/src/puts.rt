@@ -1,4 +1,4 @@
-//! Single instructions.
+//! Single instructions that expressions put: names, strs and comparisons.
 
 ghost use Rattle.std.specs.Prelude.{◌≡◌, OnOk};
 ghost use Rattle.mpy_base.specs.Val.{Str};

@@ -1,4 +1,4 @@
-//! Assertions.
+//! Assertions, which have no code from level 1 of optimization on.
 
 ghost use Rattle.std.specs.Prelude.{OnOk};
 ghost use Rattle.py_meaning.specs.Tree.{Assert, AssertWith};

@@ -1,4 +1,4 @@
-//! Assignments.
+//! Assignments to one or more targets, and those with an operator.
 
 ghost use Rattle.std.specs.Prelude.{map, OnOk};
 ghost use Rattle.bc_ops.specs.declared.instr.Instr.TheVariants as instrs;

@@ -1,4 +1,4 @@
-//! Imports.
+//! Imports of modules and of their names, each with a store.
 
 ghost use Rattle.std.specs.Prelude.{◌≡◌, ◌==◌, map, OnOk, IfOk};
 ghost use Rattle.std.specs.List.{slice_split};

@@ -1,4 +1,4 @@
-//! Images.
+//! The modules of an image over a library, read from its first byte on and verified one after another.
 
 ghost use Rattle.std.specs.Prelude.{◌≡◌, ◌↔◌, ◌⊎◌, ◌≤◌, [], length, Err, IfOk, IsTrue};
 ghost use Rattle.mpy_base.specs.declared.limits.TheConstants.{MAX_IMAGE_BYTES};

@@ -1,4 +1,4 @@
-//! One row.
+//! One row: a source, how it is compiled, and what it comes to.
 
 use crate::source::{Source, counted, put_often};
 use mpy_base::Refused;

@@ -1,4 +1,4 @@
-//! Adding entries.
+//! Adding entries to those of a manifest, each with its path from the manifest's folder on, and its module once.
 
 ghost use Rattle.std.specs.Prelude.{◌≡◌, ◌++◌, [], ◌∷◌, Ok, IfOk, map, false};
 ghost use Rattle.manifest_files.specs.Answers.{Leads, is_failed};

@@ -1,4 +1,4 @@
-//! Calls.
+//! Calls of a manifest: a name with literal arguments, read from the tokens of a line.
 
 ghost use Rattle.std.specs.Prelude.{◌≡◌};
 ghost use Rattle.manifest_lines.specs.Ahead.{Reads, Gives};

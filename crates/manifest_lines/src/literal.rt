@@ -1,4 +1,4 @@
-//! Literals.
+//! Literals: strings, numbers, `None`, `True`, `False` and tuples of strings, in any number of brackets.
 
 ghost use Rattle.std.specs.Prelude.{◌≡◌, ◌∷◌, [], Some};
 ghost use Rattle.manifest_lines.specs.Ahead.{Reads};

@@ -1,4 +1,4 @@
-//! Modules.
+//! Copies of whole modules.
 
 ghost use Rattle.std.specs.Prelude.{◌≡◌, IfOk};
 

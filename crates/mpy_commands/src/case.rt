@@ -1,4 +1,4 @@
-//! A case.
+//! A case: files of a folder, and commands that are called in it with what each must print and write.
 
 use crate::command::Command;
 use crate::parts::put;

@@ -1,4 +1,4 @@
-//! Parts of lines.
+//! What the lines of a table have behind their tags: words, numbers, texts and bytes.
 
 use std::alloc::{AllocError, Global};
 

@@ -1,4 +1,4 @@
-//! Names and strs.
+//! How names and strs are listed: control bytes by number, and strs in quotes.
 
 ghost use Rattle.std.specs.Prelude.{◌≡◌, ◌<◌, ◌==◌, ◌||◌};
 ghost use Rattle.std.specs.List.{list_any};

@@ -1,4 +1,4 @@
-//! The whole listing.
+//! The whole listing: a head, the texts, the objects, and the codes in preorder.
 
 ghost use Rattle.std.specs.Prelude.{◌≡◌, ◌++◌, ℕ, List, [], codes, decimal, unwrap_or};
 ghost use Rattle.mpy_tree.specs.File.{IsModule};

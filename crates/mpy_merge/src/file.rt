@@ -1,4 +1,4 @@
-//! The merged file.
+//! The bytes of the merged file, from the modules' tables and codes.
 
 ghost use Rattle.std.specs.Prelude.{◌≡◌, ◌<◌, ◌≤◌, length, All, IfOk};
 ghost use Rattle.bc_verify.specs.Verified.{IsVerified};

@@ -1,4 +1,4 @@
-//! Codes.
+//! Reading codes: own bytes behind a header, and the children behind these, level by level.
 
 ghost use Rattle.std.specs.Prelude.{◌≡◌, ◌/◌, ◌%◌, ◌==◌};
 ghost use Rattle.mpy_reader.specs.Reading as reading;

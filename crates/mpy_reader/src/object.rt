@@ -1,4 +1,4 @@
-//! Objects.
+//! Reading objects by their tags, with the items of tuples, level by level.
 
 ghost use Rattle.std.specs.Prelude.{◌≡◌, ◌+◌, ◌*◌, ◌^◌, ◌<◌, ℕ, List, ◌∷◌, ℤ, min, MatchOption};
 ghost use Rattle.std.specs.Str.Parse.{IsNumeral, digits_value};

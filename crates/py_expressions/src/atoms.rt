@@ -1,4 +1,4 @@
-//! Atoms.
+//! Atoms: names, constants, adjacent strings, and what stands in brackets.
 
 ghost use Rattle.py_expressions.specs.Input.{Reads, input_of};
 ghost use Rattle.py_expressions.specs.Reading as spec;

@@ -1,4 +1,4 @@
-//! Targets.
+//! Targets: an expression is read, and then taken as a target, or refused.
 
 ghost use Rattle.std.specs.Prelude.{◌≡◌, ◌≤◌, suc, ℕ, List, ◌∷◌, length, Some, IfOk};
 ghost use Rattle.std.specs.Option.{option_copied};

@@ -1,4 +1,4 @@
-//! Headers of clauses.
+//! Headers of clauses, from their first word up to the colon.
 
 ghost use Rattle.std.specs.Prelude.{◌≡◌, true};
 ghost use Rattle.std.specs.List.{list_any, list_all};

@@ -1,4 +1,4 @@
-//! A whole source.
+//! A whole source: statements up to the end, and the fault where there is no tree.
 
 ghost use Rattle.std.specs.Prelude.{◌≡◌, ◌⊎◌, ◌-◌, [], ◌∷◌, List, length, drop, Err, IfOk, MatchResult};
 ghost use Rattle.mpy_base.specs.declared.refused.Refused.TheVariants as refused;

@@ -1,4 +1,4 @@
-//! Imports.
+//! Imports: dotted names, names in brackets, and `as`.
 
 ghost use Rattle.std.specs.Prelude.{◌≡◌};
 ghost use Rattle.py_expressions.specs.Input.{Reads, input_of};

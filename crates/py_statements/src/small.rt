@@ -1,4 +1,4 @@
-//! Small statements.
+//! Small statements, by their first token.
 
 ghost use Rattle.std.specs.Prelude.{◌≡◌, false};
 ghost use Rattle.std.specs.Option.{option_copied};

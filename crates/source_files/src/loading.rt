@@ -1,4 +1,4 @@
-//! Loading from sources.
+//! Loading a library from sources: each name that is asked for is found, compiled, and read back as a file.
 
 ghost use Rattle.std.specs.Prelude.{◌≡◌, ◌≤◌, IfOk, IfSome, IsUtf8};
 ghost use Rattle.mpy_io.specs.Count.{Counts};

@@ -1,4 +1,4 @@
-//! Operators in place.
+//! `+=` on lists, which take the items of any iterable in place.
 
 ghost use Rattle.std.specs.Prelude.{◌≡◌, min};
 ghost use Rattle.arena_heap.specs.Values.{Leads};

@@ -1,4 +1,4 @@
-//! `chr`.
+//! `chr`: a number of 7 bits as a text of one byte.
 
 ghost use Rattle.std.specs.Prelude.{◌≡◌, ◌<◌, ◌^◌, ◌⊎◌, pos, ◌<ℤ◌, [], ◌∷◌, length, map, All, IfOk, IfErr, IfSome, MatchOption};
 ghost use Rattle.mpy_base.specs.declared.builtin.Builtin.TheVariants as builtins;

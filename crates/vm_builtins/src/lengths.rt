@@ -1,4 +1,4 @@
-//! `len`.
+//! `len` of what has items.
 
 ghost use Rattle.std.specs.Prelude.{◌<◌, ◌^◌, length, map, All};
 ghost use Rattle.mpy_base.specs.declared.builtin.Builtin.TheVariants as builtins;

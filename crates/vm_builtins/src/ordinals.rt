@@ -1,4 +1,4 @@
-//! `ord`.
+//! `ord` of a text of one byte.
 
 ghost use Rattle.std.specs.Prelude.{◌<◌, ◌^◌, length, map, All};
 ghost use Rattle.mpy_base.specs.declared.builtin.Builtin.TheVariants as builtins;

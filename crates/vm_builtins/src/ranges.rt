@@ -1,4 +1,4 @@
-//! `range`.
+//! `range` of one to three numbers.
 
 ghost use Rattle.std.specs.Prelude.{◌≡◌, ◌≢◌, ◌<◌, ◌^◌, ◌≤◌, pos, length, map, All};
 ghost use Rattle.mpy_base.specs.World.{RangeObject};

@@ -1,4 +1,4 @@
-//! Pieces of texts.
+//! Pieces of a fault's text: words, numbers and names, read byte by byte without a text in memory.
 
 ghost use Rattle.std.specs.Prelude.{◌≡◌, ◌<◌, ◌^◌, length, slice_index};
 ghost use Rattle.std.specs.Fmt.{decimal};

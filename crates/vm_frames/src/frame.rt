@@ -1,4 +1,4 @@
-//! One frame.
+//! One frame: the memory of one call, with its locals, slots and handler entries in vectors of a fixed room.
 
 ghost use Rattle.std.specs.Prelude.{◌≡◌, ℕ, ◌+◌, ◌-◌, ◌<◌, ◌≤◌, List, [], ◌∷◌, length, drop, Option, Some, None, IfOk, IfSome, option_and_then, slice_get, slice_set, slice_index_or, map, replicate, reverse, take};
 ghost use Rattle.std.specs.Vec.{vec_capacity};

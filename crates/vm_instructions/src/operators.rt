@@ -1,4 +1,4 @@
-//! Operators.
+//! Instructions of operators with one operand and with two.
 
 ghost use Rattle.std.specs.Prelude.{◌≡◌, min, IsSome};
 ghost use Rattle.bc_ops.specs.declared.instr.Instr.TheVariants as instrs;

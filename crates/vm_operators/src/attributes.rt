@@ -1,4 +1,4 @@
-//! Attributes.
+//! Attributes of values: those of objects, the methods of types, and the names of modules.
 
 ghost use Rattle.std.specs.Prelude.{◌≡◌, IsSome};
 ghost use Rattle.mpy_base.specs.World.{MethodObject, AModule, IsA};

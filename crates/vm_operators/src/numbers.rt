@@ -1,4 +1,4 @@
-//! Operators on numbers.
+//! Operators on small integers, whose result is one again or a fault.
 
 ghost use Rattle.std.specs.Prelude.{◌≡◌};
 ghost use Rattle.py_primitives.specs.Operators.{number_answer as number_answer_of, unary_answer as unary_answer_of, gives_number as gives_number_of};

@@ -1,4 +1,4 @@
-//! What is raised.
+//! Raising: the exception of a fault or of a value is made, and gets the place where it is raised.
 
 ghost use Rattle.std.specs.Prelude.{◌≡◌, ℕ, [], ◌∷◌};
 ghost use Rattle.mpy_base.specs.Val.{Empty};
