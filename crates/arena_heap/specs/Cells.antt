@@ -109,7 +109,7 @@ size (cells.MethodHead method) = 1
 size (cells.ModuleHead name) = 1
 size _ = 0
 
--- and of bytes
+-- the region of bytes that it has now
 abbrev pub byte_first : ℕ → Cell → ℕ
 byte_first n (cells.TextHead t) = t.start
 byte_first n _ = 0
@@ -186,7 +186,7 @@ pub record Linked (below : ℕ) (cells : List Cell) (bytes : List ℕ) : Type 0 
   pub few : below ≤ length cells
   pub each : (n : ℕ) → Links (texts_in cells bytes) below (heads cells n) cells
 
--- unless a text that is a key was written later
+-- all dicts are linked; nothing is said of them once a text that is a key was written later (None)
 abbrev pub AreAllLinked : Option ℕ → List Cell → List ℕ → Type 0
 AreAllLinked None cells bytes = Unit {0}
 AreAllLinked (Some below) cells bytes = Linked below cells bytes

@@ -24,7 +24,7 @@ least (Some at) (Some other) = Some (min at other)
 abbrev pub HasKey : (StrNo → Option (List ℕ)) → Heap Value ℕ → ℕ → PlainKey → ℕ → Type 0
 HasKey texts heap d key at = key_of texts heap (key_in (pairs_at heap d) at) ≡ Some key
 
--- and stands in this bucket
+-- the pair at the place has the key, and stands in this bucket
 abbrev pub HasKeyIn : (StrNo → Option (List ℕ)) → Heap Value ℕ → ℕ → PlainKey → ℕ → ℕ → Type 0
 HasKeyIn texts heap d key bucket at = HasKey texts heap d key at × (buckets_at heap d at ≡ bucket)
 

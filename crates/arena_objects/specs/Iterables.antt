@@ -46,7 +46,7 @@ spelled texts heap v = or_nothing (bytes_of texts heap v)
 abbrev pub with_texts : Heap Value ℕ → List ℕ → Heap Value ℕ
 with_texts heap bytes = fold (λ h byte. with_made h (TextObject (byte ∷ []))) heap bytes
 
--- such texts, which take two cells each, from the first
+-- `count` texts that take two cells each, the first of them at `first`
 abbrev pub texts_from : ℕ → ℕ → List Value
 texts_from first count = map (λ k. values.Text (record { cell = first + 2 * k })) (range_with_len 0 count)
 

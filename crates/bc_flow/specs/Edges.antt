@@ -33,7 +33,7 @@ gives (Straight wants given) = given
 gives (Branch wants given there to) = given
 gives _ = []
 
--- and where it jumps
+-- what is given where the flow jumps
 unfoldable pub gives_there : Action → List Give
 gives_there (Branch wants given there to) = there
 gives_there _ = []
@@ -47,7 +47,7 @@ falls Return = false
 falls (Raise count) = false
 falls _ = true
 
--- where it jumps
+-- the position where the flow jumps, if it does
 unfoldable pub target : Action → Option ℕ
 target (Branch wants given there to) = Some to
 target (Jump to) = Some to
@@ -214,7 +214,7 @@ abbrev pub pushed : Bool → List Kind → List Kind
 pushed true ks = kinds.Cause ∷ ks
 pushed false ks = kinds.Either ∷ ks
 
--- the slots that arrive
+-- the slots that arrive along an edge
 unfoldable pub slots_of : Action → At → How → List Kind
 slots_of i x Next = after (gives i) (length (takes i)) (base i x)
 slots_of i x There = after (gives_there i) (length (takes i)) (base i x)
@@ -224,11 +224,11 @@ slots_of i x (Run h last) = pushed last (drop (length x.slots - h) x.slots)
 abbrev pub has_room : ℕ → ℕ → ℕ → ℕ → ℕ → Bool
 has_room locals n_state before next there = nat_le (locals + before) n_state && nat_le (locals + next) n_state && nat_le (locals + there) n_state
 
--- the rule State
+-- the rule State: the slots have room before the instruction and along its edges
 unfoldable pub room : Code → Action → At → Bool
 room code i x = has_room code.locals code.n_state (length x.slots) (length (slots_of i x Next)) (length (slots_of i x There))
 
--- the rule Falls
+-- the rule Falls: the flow doesn't go on behind the last instruction
 unfoldable pub stays : Code → Action → ℕ → Bool
 stays code i p = not (falls i) || nat_lt (suc p) (length code.actions)
 

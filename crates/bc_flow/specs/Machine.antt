@@ -21,7 +21,7 @@ pub data Slot : Type 0 where
   Iter1 Iter2 Iter3 Iter4 : Slot
   Null Method : Slot
 
--- the topmost first
+-- the slots, the topmost first
 abbrev pub Stack : Type 0
 Stack = List Slot
 
@@ -95,11 +95,11 @@ cut h xs = drop (length xs - h) xs
 abbrev pub remark : ℕ → Entry → Entry
 remark p e = record e { active = nat_le e.handler p }
 
--- at the position
+-- on at the position, with these slots and entries
 abbrev pub go : ℕ → Stack → List Entry → St
 go p st es = Run p st (map (remark p) es)
 
--- into an entry's handler
+-- on at an entry's handler, with a slot more on the entry's height
 abbrev pub enter : Entry → List Entry → Slot → Stack → St
 enter e es s st = go e.handler (s ∷ cut e.height st) (e ∷ es)
 

@@ -71,7 +71,7 @@ at [] p = None
 at (c ∷ t) zero = seen c
 at (c ∷ t) (suc p) = at t p
 
--- where two meet
+-- what holds where two arrive at one position: their entries are equal, and their slots meet
 abbrev pub meet_at : At → At → Option At
 meet_at y x = if same_entries y.entries x.entries then option_map (λ s. let z : At = record { slots = s; entries = y.entries } in z) (join y.slots x.slots) else None
 
@@ -119,7 +119,7 @@ abbrev pub agree : Table → List Edge → Bool
 agree t [] = true
 agree t (e ∷ es) = agrees t e.to e.at.entries && others e es && agree t es
 
--- the position is visited
+-- the table once the position is visited
 abbrev pub done_at : Table → ℕ → At → Table
 done_at [] p x = []
 done_at (c ∷ t) zero x = Done x ∷ t
@@ -158,12 +158,12 @@ visit_action code t p x (Some i) =
 abbrev pub visit : Code → Table → ℕ → At → Visit
 visit code t p x = visit_action code t p x (slice_get code.actions p)
 
--- a pending position
+-- the position is pending, with what arrived there
 pub data IsPending : Table → ℕ → At → Type 0 where
   here : {x : At} {t : Table} → IsPending (Pending x ∷ t) 0 x
   later : {c : Cell} {t : Table} {p : ℕ} {x : At} → IsPending t p x → IsPending (c ∷ t) (suc p) x
 
--- the least pending position
+-- the position is the least pending one
 pub record IsLeast (t : Table) (p : ℕ) (x : At) : Type 0 where
   pub pending : IsPending t p x
   pub least : (q : ℕ) (y : At) → IsPending t q y → p ≤ q

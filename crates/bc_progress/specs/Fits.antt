@@ -58,7 +58,7 @@ FitsIn facts plans library (Running paid frame frames w) = StandsIn facts plans 
 FitsIn facts plans library (Halted end w) = Unit {0}
 FitsIn facts plans library (Stuck w) = ⊥
 
--- so it is with whatever exceptions and methods
+-- a frame that stands so, whatever exceptions and methods there are
 abbrev pub Stands : Plans → Library → Frame → Type 0
 Stands = StandsIn anything
 

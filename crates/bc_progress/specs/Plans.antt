@@ -79,6 +79,6 @@ Follows plans library = (name : Name) (m : Module) → entry_in library name ≡
 abbrev pub AreVerified : Library → Type 0
 AreVerified library = (name : Name) (m : Module) → entry_in library name ≡ Some (Holds m) → (plans : ℕ → Plan) × IsVerifiedModule plans m
 
--- so it is with one plan for all
+-- a verified library: there are plans that verify each of its modules
 abbrev pub IsVerifiedLibrary : Library → Type 0
 IsVerifiedLibrary library = (plans : Plans) × Follows plans library

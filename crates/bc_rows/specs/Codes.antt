@@ -15,7 +15,7 @@ abbrev pub codes_by : (ℕ → RawCode → List Numbered) → ℕ → List RawCo
 codes_by inner number [] = []
 codes_by inner number (code ∷ codes) = inner number code ++ codes_by inner (number + length (inner number code)) codes
 
--- and their numbers
+-- the numbers of codes one after another, of which the first has the number
 abbrev pub numbers_by : (ℕ → RawCode → List Numbered) → ℕ → List RawCode → List ℕ
 numbers_by inner number [] = []
 numbers_by inner number (code ∷ codes) = number ∷ numbers_by inner (number + length (inner number code)) codes

@@ -34,11 +34,11 @@ pub record TellsLeast (code : RawCode) (states : List State) : Type 0 where
   pub holds : flow.Holds (flow_of body) (flow.at (table_of states))
   pub least : flow.IsLeastOf (flow_of body) (flow.at (table_of states))
 
--- all codes are
+-- all codes of a tree are verified
 abbrev pub AreVerified : Module → RawCode → Type 0
 AreVerified m root = (path : List ℕ) (code : RawCode) → code_at path root ≡ Some code → IsVerifiedCode m code
 
--- all codes of the module are
+-- a verified module: all its codes are
 abbrev pub IsVerified : Module → Type 0
 IsVerified m = AreVerified m m.code
 

@@ -28,7 +28,7 @@ AreEmpty count old new = IfSome old (λ file. (now : FileOf) × (new ≡ Some no
 abbrev pub Adds : (old new : Option FileOf) → (name bytes : List ℕ) → Type 0
 Adds old new name bytes = AppendsFile old new name bytes ⊎ ((bytes ≡ []) × (new ≡ old))
 
--- whether the folder failed
+-- did the folder fail, so that a task's file wasn't written?
 abbrev pub is_unwritten : Result (Unit {0}) OutputStop → Bool
 is_unwritten (Ok done) = false
 is_unwritten (Err (outputs.Unwritten task)) = true
@@ -40,13 +40,13 @@ StopsWithin count (Ok done) = Unit {0}
 StopsWithin count (Err (outputs.Unwritten task)) = task < count
 StopsWithin count (Err outputs.NoMemory) = Unit {0}
 
--- whether the sink failed
+-- did the sink fail, so that the summary wasn't put?
 abbrev pub is_unput : Result (Unit {0}) SummaryStop → Bool
 is_unput (Ok done) = false
 is_unput (Err summaries.WriteFault) = true
 is_unput (Err summaries.NoMemory) = false
 
--- the same of the run of a plan
+-- did the folder fail in the run of a plan?
 abbrev pub is_folder_fault : Result (Unit {0}) BoardStop → Bool
 is_folder_fault (Ok done) = false
 is_folder_fault (Err (stops.NoModule name)) = false
@@ -54,7 +54,7 @@ is_folder_fault (Err (stops.Unwritten task)) = true
 is_folder_fault (Err stops.WriteFault) = false
 is_folder_fault (Err stops.NoMemory) = false
 
--- did the output fail?
+-- did the sink fail in the run of a plan?
 abbrev pub is_out_fault : Result (Unit {0}) BoardStop → Bool
 is_out_fault (Ok done) = false
 is_out_fault (Err (stops.NoModule name)) = false

@@ -18,7 +18,7 @@ use Rattle.board_tasks.specs.declared.turning.TaskRun.{TaskRun}
 abbrev pub IsOver : TaskRun → Type 0
 IsOver run = (run.failed ≡ true) ⊎ IsSome run.vm.end
 
--- it hasn't
+-- the run goes on
 pub record GoesOn (run : TaskRun) : Type 0 where
   pub unfailed : run.failed ≡ false
   pub open_end : run.vm.end ≡ None
@@ -44,11 +44,11 @@ Ends heap plain.Ended end = end ≡ Some ends.Ended
 Ends heap (plain.Raised x) end = (kind : Kind) × IsOfKind heap x kind × (end ≡ Some (ends.Raised kind))
 Ends heap (plain.Memory room) end = end ≡ Some ends.Memory
 
--- so a run ended
+-- how a run of the machine ended, as a task's end
 abbrev pub RunEnds : Run → Option TaskEnd → Type 0
 RunEnds run end = Ends run.world.heap run.end end
 
--- how the machine stands
+-- how the machine's run stands, as the meaning has it
 abbrev pub standing : Option Stop → End
 standing None = plain.Open
 standing (Some stops.Ended) = plain.Ended

@@ -37,7 +37,7 @@ pub record IsOpened (shelf : Shelf) (task : Task) (run : TaskRun) : Type 0 where
   pub paid : run.vm.paid ≡ 0
   pub unfailed : run.failed ≡ false
 
--- so it is of each task
+-- the tasks are at their starts, one by one
 abbrev pub AreOpened : Shelf → List Task → List TaskRun → Type 0
 AreOpened shelf [] [] = Unit {0}
 AreOpened shelf [] (run ∷ runs) = ⊥

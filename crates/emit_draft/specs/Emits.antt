@@ -62,7 +62,7 @@ pub record Emits (k : ℕ) (a b : Draft) (s : Scope) (rest all : Bool) (P : Cont
   pub crowded : (b.crowded || rest) ≡ (a.crowded || all)
   pub stands : (c : Context) (labels : Labels) → After b s c labels → P c labels (length a.lines) (length b.lines)
 
--- one instruction
+-- the code of one instruction
 pub data IsPut (c : Context) (line p : ℕ) (item : Item) : (q : ℕ) → Type 0 where
   put : Has c line p item → IsPut c line p item (suc p)
 

@@ -108,7 +108,7 @@ pub record IsMadeCode (own : Bool) (site : Site) (text : Text) (code : Code) : T
 abbrev pub text_at : Source → ℕ → Function → Text
 text_at source number f = function_text source.file source 0 (or_none (slice_get source.locals number)) f
 
--- their codes
+-- the codes of the functions in a text
 pub data Grows (source : Source) : (depth number : ℕ) → Forest → List Code → Type 0 where
   no_code : {depth number : ℕ} → Grows source depth number bare []
   with_code : {depth number line : ℕ} {f : Function} {inner others : Forest} {first : Code} {codes : List Code}
@@ -136,7 +136,7 @@ pub data Breaks (source : Source) : (depth number : ℕ) → Forest → SourceFa
 
 -- ---- a walk over the functions in a text
 
--- their codes were added
+-- the codes of the functions in a text were added
 pub record IsWalked (source : Source) (forest : Forest) (a b : Children) : Type 0 where
   pub level : b.level ≡ a.level
   pub depth : b.depth ≡ a.depth

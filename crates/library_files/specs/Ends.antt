@@ -21,7 +21,7 @@ EndsIn Ends (Err (Fault (faults.Failed failed))) = ⊤
 EndsIn Ends (Err (Fault (faults.Unaccepted source))) = Ends (Unaccepted source)
 EndsIn Ends (Err NoMemory) = ⊤
 
--- a read failed outside
+-- did a read fail outside?
 abbrev pub is_failed : {A : Type 0} → Result A (Refused LoadFault) → Bool
 is_failed (Ok done) = false
 is_failed (Err (Fault (faults.Past limit))) = false

@@ -77,7 +77,7 @@ AsksFound Comes old new names result =
     (behind : List (List ℕ)) → GoesOn (Loads Comes old.library old.size names [] behind)
     (λ found. Loads Comes new.library new.size [] found.items behind) result
 
--- and for all the imports that are left
+-- the same for all the imports that are left
 abbrev pub LoadsLeft : OfNames → (old new : Begun) → (left : List (List ℕ)) → Result (Unit {0}) (Refused LoadFault) → Type 0
 LoadsLeft Comes old new left result =
     GoesOn (Loads Comes old.library old.size [] left []) (λ done end. end ≡ loads.Loaded new.library) result

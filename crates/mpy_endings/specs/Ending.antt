@@ -23,24 +23,24 @@ stop_status Memory = 6
 stop_status (LibraryFault path) = 7
 stop_status (Past limit) = 11
 
--- of an image that has no main module
+-- the status of an image that has no main module
 abbrev pub main_status : MainFault → ℕ
 main_status (mains.Image fault) = 4
 main_status (mains.NoMain name) = 10
 
--- of a manifest whose sources have no modules
+-- the status of a manifest whose sources have no modules
 abbrev pub sources_status : SourcesFault → ℕ
 sources_status (sources.Manifest fault) = 11
 sources_status (sources.Absent name) = 10
 sources_status (sources.Unaccepted name fault) = 3
 sources_status (sources.Unread name) = 7
 
--- and of one whose sources have no image
+-- the status of a manifest whose sources have no image
 abbrev pub frozen_status : FrozenFault → ℕ
 frozen_status (frozen.Sources fault) = sources_status fault
 frozen_status (frozen.Image fault) = 11
 
--- of a board that didn't run its plan
+-- the status of a board that didn't run its plan
 abbrev pub board_status : BoardFault → ℕ
 board_status (boards.Plan fault) = 11
 board_status (boards.NoModule name) = 11

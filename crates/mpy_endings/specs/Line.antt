@@ -118,7 +118,7 @@ image_line name fault =
     ++ tag_text (image.index_of fault)
     ++ (spaced (image_word fault) ++ codes "\n")
 
--- why modules have none
+-- the line of modules that have no image
 abbrev pub modules_line : ImageFault → List ℕ
 modules_line fault =
     codes "mpy: image "
@@ -168,7 +168,7 @@ sources_line name (sources.Absent other) = codes "mpy: absent " ++ other ++ code
 sources_line name (sources.Unaccepted other fault) = source_line other fault
 sources_line name (sources.Unread other) = codes "mpy: read fault " ++ other ++ codes "\n"
 
--- and why no image
+-- the line of a manifest whose sources have no image
 abbrev pub frozen_line : List ℕ → FrozenFault → List ℕ
 frozen_line name (frozen.Sources fault) = sources_line name fault
 frozen_line name (frozen.Image fault) = modules_line fault

@@ -17,7 +17,7 @@ abbrev pub IfFault : {A : Type 0} → Result A (Refused WriteFault) → (WriteFa
 IfFault (Ok x) P = Unit {0}
 IfFault (Err refusal) P = FaultIs refusal P
 
--- none yet
+-- a table without a text
 abbrev pub no_texts : Texts
 no_texts = record { first = 0; texts = [] }
 

@@ -23,7 +23,7 @@ use Rattle.py_expressions.specs.Input.{Parser, Input, ◌>>=◌, ◌>>◌, ◌<$
 
 -- ---- tables
 
--- the signs
+-- the operator of a sign
 abbrev pub sign : Tok → Option UnaryOp
 sign (tok.Op op.Plus) = Some unary.Plus
 sign (tok.Op op.Minus) = Some unary.Minus
@@ -142,7 +142,7 @@ keyword_at (t ∷ u ∷ ts) = if is_name t.kind then is_mark (mark.Op op.Assign)
 unfoldable pub sees_keyword : Input → Bool
 sees_keyword i = keyword_at i.ahead
 
--- further strings
+-- the string that comes next, and what follows; or the text that was found
 abbrev pub strings_by : (List ℕ → Parser (List ℕ)) → List ℕ → Tok → Parser (List ℕ)
 strings_by go found (tok.Str text) = take_token >> go (found ++ text)
 strings_by go found _ = pure found

@@ -136,7 +136,7 @@ both None ts = None
 both (Some t) None = None
 both (Some t) (Some ts) = Some (t ∷ ts)
 
--- each of them
+-- the target that each of the expressions is, where all are targets
 unfoldable pub each : (Expr → Option Target) → List Expr → Option (List Target)
 each go [] = Some []
 each go (x ∷ xs) = both (go x) (each go xs)
@@ -146,7 +146,7 @@ abbrev pub unpacked : Option (List Target) → Option Target
 unpacked None = None
 unpacked (Some ts) = Some (target.Unpack ts)
 
--- one or more
+-- the targets that one or more expressions are, as one that is unpacked
 unfoldable pub unpack : (Expr → Option Target) → List Expr → Option Target
 unpack go [] = None
 unpack go (x ∷ xs) = unpacked (each go (x ∷ xs))
@@ -179,7 +179,7 @@ part_by _ = None
 unfoldable pub part_of : Expr → Option Target
 part_of x = part_by (out-Expr x)
 
--- and as a target of a `del`
+-- what a primary with trailers may be as a target of `del`
 abbrev pub item_by : Layer → Option Target
 item_by (Expr-F.Index object i) = Some (target.Index object i)
 item_by _ = None

@@ -34,7 +34,7 @@ pub record SourceLoadsOf (level : ℕ) (files : Option FileOf) (name : List ℕ)
 abbrev pub IsOfSources : (name path : List ℕ) → Type 0
 IsOfSources name path = (module_name : List ℕ) × IsPlain module_name × Contains (candidates (base_of name) module_name source_ending) path
 
--- such a source has this first fault
+-- the source of that path is one of these, and has this first fault
 pub record IsFaultyOf (level : ℕ) (name : List ℕ) (unaccepted : UnacceptedSource) : Type 0 where
   pub is_of : IsOfSources name unaccepted.path
   pub source : List ℕ

@@ -40,7 +40,7 @@ abbrev pub of_stop : Result (Unit {0}) Stop → Result (Unit {0}) CallStop
 of_stop (Ok done) = Ok tt
 of_stop (Err stop) = Err (calls.Stops stop)
 
--- the sink failed
+-- did the sink fail?
 abbrev pub is_out : Result (Unit {0}) CallStop → Bool
 is_out (Ok done) = false
 is_out (Err (calls.Stops stop)) = false

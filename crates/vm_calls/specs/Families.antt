@@ -2,7 +2,7 @@
 use Rattle.mpy_base.specs.declared.builtin.Builtin.{Builtin}
 use Rattle.mpy_base.specs.declared.builtin.Builtin.TheVariants as builtins
 
--- those of ports
+-- the built-ins of ports
 abbrev pub IsOfPorts : Builtin → Type 0
 IsOfPorts builtins.PortPut = Unit {0}
 IsOfPorts builtins.PortGet = Unit {0}

@@ -4,15 +4,15 @@ use Rattle.vm_frames.specs.Calls.{Calls, OfRunning}
 use Rattle.vm_fetching.specs.declared.operations.PlainOp.{PlainOp}
 use Rattle.vm_fetching.specs.declared.operations.PlainOp.TheVariants as plain_ops
 
--- more than `count` slots
+-- the running call has more than `count` slots
 abbrev pub HasOver : ℕ → Calls → Type 0
 HasOver count s = OfRunning (λ c. count < length c.slots) s.calls
 
--- room for a slot more
+-- the running call has room for a slot more
 abbrev pub HasRoom : Calls → Type 0
 HasRoom s = OfRunning (λ c. length c.slots < s.slot_room) s.calls
 
--- and for two
+-- the running call has room for two slots more
 abbrev pub HasRoomForTwo : Calls → Type 0
 HasRoomForTwo s = OfRunning (λ c. suc (length c.slots) < s.slot_room) s.calls
 
