@@ -16,7 +16,7 @@ const MIN: i64 = -(1 << 30);
 
 const MAX: i64 = (1 << 30) - 1;
 
-/// What the place above so many groups counts.
+/// What the place above `groups` groups counts.
 fn place(groups: usize) -> u64
     requires { groups ≤ 5 }
     ensures value { result ≡ 128 ^ groups }
@@ -53,7 +53,7 @@ fn read_groups(bytes: &[u8]) -> Result<(u64, usize), CodeFault>
     }
 }
 
-/// The number of so many groups that are `value` without a sign. Bit 6 of the first byte is the sign.
+/// The number of `len` groups that are `value` without a sign. Bit 6 of the first byte is the sign.
 fn with_sign(first: u8, len: usize, value: u64) -> i64
     requires few { len ≤ 5 }
     requires small { value < 2 ^ 35 }

@@ -25,6 +25,7 @@ pub struct DiskFolder<R: Files + Alloc + Drop> {
 }
 
 impl<R: Files + Alloc + Drop> DiskFolder<R> {
+    /// The folder below `root`, which stands in front of each name as it is. Nothing is read yet.
     pub fn new(rt: R, root: String) -> DiskFolder<R>
         ensures { result ≡ record { rt = rt; root = root; faults = 0 } }
     {

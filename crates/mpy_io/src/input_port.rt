@@ -28,6 +28,7 @@ pub struct InputPort<R: Read + Drop, W: Write + Drop> {
 }
 
 impl<R: Read + Drop, W: Write + Drop> InputPort<R, W> {
+    /// A port that reads its answers from the one and writes its numbers to the other.
     pub fn new(reader: R, writer: W) -> InputPort<R, W>
         ensures { result ≡ record { reader = reader; writer = writer; faults = 0 } }
     {
@@ -38,6 +39,7 @@ impl<R: Read + Drop, W: Write + Drop> InputPort<R, W> {
         }
     }
 
+    /// What the numbers are written to.
     pub fn writer(&self) -> &W
         ensures { result.now ≡ self.now.writer }
     {

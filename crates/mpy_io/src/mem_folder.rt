@@ -34,6 +34,7 @@ impl Model for MemFolder {
 }
 
 impl MemFolder {
+    /// A folder with these files, of whose calls those fail that have these numbers, counted from 0.
     pub fn new(alloc: Global, files: Vec<(String, Vec<u8>)>, fail: Vec<u64>) -> MemFolder
         ensures { result ≡ record { files = entries_of files.items; fail = fail.items; calls = 0; faults = 0; starved = 0 } }
     {

@@ -31,6 +31,7 @@ impl Model for MemSink {
 impl MemSink {
     ghost use Rattle.std.specs.Prelude.{[]};
 
+    /// A sink of whose calls those fail that have these numbers, counted from 0.
     pub fn new(alloc: Global, fail: Vec<u64>) -> MemSink
         ensures { result ≡ record { bytes = []; fail = fail.items; calls = 0; faults = 0; starved = 0 } }
     {

@@ -57,6 +57,7 @@ impl<W: Write + Drop> OutSink<W> {
         }
     }
 
+    /// What the bytes are written to. Those that are still gathered aren't there yet.
     pub fn writer(&self) -> &W
         ensures { result.now ≡ self.now.writer }
     {

@@ -3,6 +3,7 @@ use Rattle.std.specs.Prelude.{ℕ, List, [], ◌∷◌, Option, Some, None}
 use Rattle.std.specs.Option.{option_map}
 use Rattle.py_values.specs.Equality.{Walk, answers, after}
 
+-- on with an answer, behind these visits
 abbrev pub go_on : {A B : Type 0} → Option A → ℕ → (A → Walk B) → Walk B
 go_on None visits next = record { answer = None; visits = visits }
 go_on (Some a) visits next = after visits (next a)

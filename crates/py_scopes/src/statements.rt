@@ -90,6 +90,7 @@ fn statement(
     }
 }
 
+/// The events of statements, one behind another; `looped` says whether a loop is around them.
 #[cycle(statements)]
 pub(crate) fn statements(
     alloc: Global,

@@ -17,6 +17,7 @@ pub(crate) fn put(events: &mut Vec<Event>, line: u32, act: Act) -> Result<(), No
     Ok(())
 }
 
+/// The uses of names in an expression, as they stand in the text.
 #[cycle(uses)]
 pub(crate) fn uses(
     alloc: Global,

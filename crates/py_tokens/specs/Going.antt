@@ -30,6 +30,7 @@ goes_from tokens levels brackets its is_open pieces stop = with_front tokens (fr
 abbrev pub known_level : Bool → List ℕ → ℕ → Option Level
 known_level is_new text line = if is_new then None else Some (record { text = text; line = line })
 
+-- the tokens of the whole source, where it was read up to here and these pieces follow
 abbrev pub goes_on : Lines → List Piece → Result Place SourceFault → Tokens
 goes_on here pieces stop =
     goes_from here.tokens.items here.levels.items here.brackets (known_level here.is_new here.level here.level_line) here.is_open pieces stop

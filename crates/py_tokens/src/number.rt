@@ -103,6 +103,7 @@ fn small(value: Option<u64>) -> Result<i32, NumberFault>
     }
 }
 
+/// The number that a run of letters, digits and `_` is, or why it is none.
 pub(crate) fn read_number(run: &[u8]) -> Result<i32, NumberFault>
     ensures { Says run.now result }
 {

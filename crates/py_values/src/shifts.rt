@@ -19,6 +19,7 @@ fn bits(n: SmallInt) -> Result<u32, NumFault>
 }
 
 impl SmallInt {
+    /// The number shifted to the left, or why there is none: a negative count of bits, or a result that isn't small.
     pub fn shl(self, other: SmallInt) -> Result<SmallInt, NumFault>
         ensures { result ≡ shl_of self other }
     {

@@ -51,6 +51,7 @@ impl SmallInt {
         SmallInt::checked(i64::from(n)).ok()
     }
 
+    /// The number, from -2^30 to 2^30 - 1.
     pub fn value(self) -> i32
         ensures value { result ≡ self }
         ensures small { IsSmall self }
