@@ -105,6 +105,7 @@ fn floor(change: Change, entries: &[Entry]) -> usize
     }
 }
 
+/// The lesser of two numbers.
 fn lower(a: usize, b: usize) -> usize
     ensures { result ≡ min a b }
 {

@@ -209,6 +209,7 @@ fn widen(changes: &mut Vec<Option<Span>>, p: usize, span: Span)
     }
 }
 
+/// Does a position wait for its visit?
 fn is_pending(states: &[State], n: usize) -> bool
     ensures yes { OnTrue result ((y : At) × IsPending (table_of states.now) n y) }
     ensures no { OnFalse result ((y : At) → IsPending (table_of states.now) n y → ⊥) }
@@ -272,6 +273,7 @@ fn put_all(
     Ok(true)
 }
 
+/// Notes that a pending position has been visited; its shape stays.
 fn set_done(states: &mut Vec<State>, p: usize)
     requires { p < length states.now.items }
     ensures { (x : At) → IsPending (table_of states.old.items) p x
@@ -557,6 +559,7 @@ fn unvisited(alloc: Global, size: usize) -> Result<Vec<Option<Span>>, NoMemory>
     Ok(changes)
 }
 
+/// The changes of no position. They take no memory.
 fn no_changes(alloc: Global) -> Vec<Option<Span>>
     ensures { result.items ≡ [] }
 {

@@ -107,6 +107,7 @@ fn keeps(give: Give, n: usize) -> bool
     }
 }
 
+/// Is each of these a new slot, or one of the topmost `n`?
 #[tactic(auto, using(crate::proofs::Spans::keeps_step, crate::proofs::Loops::and_first))]
 fn keep(gives: &[Give], n: usize) -> bool
     ensures { result ≡ spans.keeps_all n gives.now }

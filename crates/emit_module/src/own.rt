@@ -54,6 +54,7 @@ fn length_of(place: &Place, scope: &Scope, body: &[Stmt], draft: &Draft) -> usiz
     wide_length(draft)
 }
 
+/// What a text's code is measured by, from its tree and its draft.
 fn measures(place: &Place, scope: &Scope, body: &[Stmt], draft: &Draft) -> Measures
     ensures counted { (text : TextOf) → IsTextOf place.now scope.now body.now text → IsCounted place.now draft.now text result }
     ensures crowded { result.crowded ≡ draft.now.crowded }

@@ -30,6 +30,7 @@ struct Parts<'a> {
     instructions: &'a [u8],
 }
 
+/// Takes a code's own bytes apart.
 fn parts_of(bytes: &[u8]) -> Parts<'_>
     requires { (texts : ℕ) × IsOwnCode texts bytes.now }
     ensures { (begins : Begins bytes.now result.prelude) × (result.name ≡ slice_index begins.indexes 0)

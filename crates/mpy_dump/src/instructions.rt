@@ -45,6 +45,7 @@ fn put_spaced_name<S: Sink>(out: &mut S, module: &RawModule, n: u32) -> Result<(
     put_name_at(out, module, n)
 }
 
+/// Puts a target and a byte, a blank before each.
 fn put_two<S: Sink>(out: &mut S, target: i64, byte: u8) -> Result<(), Failed>
     ensures { Puts S.told S.count out.old out.new
         (codes " " ++ (signed_decimal target ++ (codes " " ++ decimal byte))) result }

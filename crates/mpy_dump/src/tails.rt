@@ -16,6 +16,7 @@ const BYTES: usize = 256;
 /// The lowest first byte of an instruction whose operand is a number. There are `FIRSTS` of them, one after another.
 const FIRST: usize = 16;
 
+/// How many first bytes there are of instructions whose operand is a number.
 const FIRSTS: usize = 40;
 
 /// How many numbers have one byte.
@@ -27,8 +28,10 @@ const PAIRS: usize = FIRSTS * NUMBERS;
 /// How many numbers are tried at least: locals and counts are mostly smaller.
 const FEW: usize = 16;
 
+/// An end for each byte.
 type Singles = [Short; BYTES];
 
+/// An end for each pair of a first byte and a number.
 type Pairs = [Short; PAIRS];
 
 /// The ends; an empty one where there is none.
@@ -65,6 +68,7 @@ fn tail_of(pen: &mut Pen, module: &RawModule, bytes: &[u8]) -> Short
     }
 }
 
+/// Those of the instructions of one byte.
 fn singles_of(pen: &mut Pen, module: &RawModule) -> Singles
     ensures { AreSingles module.now result }
 {
@@ -88,6 +92,7 @@ fn pair_tail(pen: &mut Pen, module: &RawModule, place: usize, tried: usize) -> S
     }
 }
 
+/// Those of the instructions of two bytes whose number is one of a name, or small.
 fn pairs_of(pen: &mut Pen, module: &RawModule) -> Pairs
     ensures { ArePairs module.now result }
 {

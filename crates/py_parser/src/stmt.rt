@@ -31,6 +31,7 @@ pub(crate) fn append(found: &mut Items<Stmt>, some: Items<Stmt>) -> Result<(), N
     Ok(())
 }
 
+/// The list of this one statement.
 fn only(alloc: Global, one: Stmt) -> Result<Items<Stmt>, NoMemory>
     ensures { IfOk result (λ all. all ≡ one ∷ []) }
 {

@@ -15,6 +15,7 @@ use arena_heap::{Arena, Constants, Value};
 use arena_objects::{item_at, item_count, make_byte, text_bytes};
 use vm_faults::{Fault, Stop, type_of};
 
+/// Can it be iterated over?
 fn is_iterable(_arena: &Arena, v: Value) -> bool
     requires { Leads _arena.now.objects v }
     ensures { DecidesIterable _arena.now v result }

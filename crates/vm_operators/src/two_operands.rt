@@ -54,6 +54,7 @@ fn unsupported(arena: &Arena, op: Operator, left: Value, right: Value) -> Fault
     }
 }
 
+/// How often something is repeated by a number: not at all where it is below 0.
 fn times(n: SmallInt) -> u32
     ensures { result ≡ at_least_zero n }
 {
