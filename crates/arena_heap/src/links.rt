@@ -53,7 +53,7 @@ fn span_at(cells: &Vec<Cell>, at: u32) -> Span
     }
 }
 
-/// The same of the text that was made at a cell.
+/// The code of the text that was made at a cell, by which its bucket is found.
 fn made_code(cells: &Vec<Cell>, bytes: &Vec<u8>, at: u32) -> u64
     requires { HaveBytes cells.now.items bytes.now.items }
     ensures { result ≡ text_code (texts_in cells.now.items bytes.now.items at) }

@@ -132,7 +132,7 @@ fn exchange(
     Ok(())
 }
 
-/// The same origins once more.
+/// A copy of the origins.
 fn copy_of(alloc: Global, origins: &Origins) -> Result<Origins, NoMemory> {
     let mut top = Vec::with_capacity(alloc, origins.top.len())?;
     top.extend_from_slice(&origins.top)?;

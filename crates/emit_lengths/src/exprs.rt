@@ -122,7 +122,7 @@ fn joined_length(locals: &[Text], items: &[Expr]) -> usize
     both(own, length, 0)
 }
 
-/// That of expressions one behind the other.
+/// How long the code of expressions is, one behind the other.
 #[cycle(lengths)]
 pub(crate) fn row_length(locals: &[Text], items: &[Expr]) -> usize
     ensures { result ≡ saturated (exprs_wide locals.now (exprs (map plain_expr items.now))) }

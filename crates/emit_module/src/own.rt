@@ -79,7 +79,7 @@ fn slots(measures: &Measures) -> u32
     (measures.locals + measures.height.max(1)) as u32
 }
 
-/// Its handler entries.
+/// The handler entries of a text without a fault.
 fn entries(measures: &Measures) -> u32
     requires { fault_of measures.now ≡ None }
     ensures { result ≡ measures.now.entries }

@@ -140,7 +140,7 @@ fn put_nest<'a, S: Sink>(
     Ok(())
 }
 
-/// The same, by a pen and tails that are made for it.
+/// Puts the lines of a code, and of those in it, by a pen and tails that are made for it.
 pub(crate) fn put_codes<'a, S: Sink>(
     out: &mut S,
     module: &'a RawModule,

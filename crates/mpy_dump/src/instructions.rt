@@ -143,7 +143,7 @@ fn gather_read<S: Sink>(
     gather_tail(out, pen, module, end, instr)
 }
 
-/// The same by the ends that are there for two bytes.
+/// Gathers the end of the line of the instruction at `at`, which is moved behind it: that which is kept for its two bytes, where one is.
 #[inline(always)]
 fn gather_pair<S: Sink>(
     out: &mut S,
@@ -172,7 +172,7 @@ fn gather_pair<S: Sink>(
     Ok(())
 }
 
-/// The same by the ends that are there.
+/// Gathers the end of the line of the instruction at `at`, which is moved behind it: that which is kept for its bytes, where one is.
 #[inline(always)]
 fn gather_end<S: Sink>(
     out: &mut S,

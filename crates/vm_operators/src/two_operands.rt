@@ -113,7 +113,7 @@ fn of_left<C: Constants>(
     }
 }
 
-/// The same with the number on the left.
+/// What an operator gives of the number `n` and a str, tuple or list: of `*` the right operand `n` times over.
 fn of_right<C: Constants>(
     arena: &mut Arena,
     consts: &C,
