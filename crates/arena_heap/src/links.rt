@@ -122,7 +122,7 @@ pub(crate) fn link(cells: &mut Vec<Cell>, bytes: &Vec<u8>, region: Region, at: u
     };
 }
 
-/// Takes all links out.
+/// Empties all buckets of a dict, and takes the links of its pairs out.
 fn unlink(cells: &mut Vec<Cell>, region: Region)
     requires inside { region.start + 3 * region.room ≤ vec_len cells.old }
     requires plain { (c : ℕ) → In region.start (3 * region.room) c → heads cells.old.items c ≡ blank }

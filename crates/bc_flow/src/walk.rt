@@ -319,7 +319,7 @@ fn clear_at(changes: &[Option<Span>], p: usize, action: &Action, base: &[Kind]) 
     }
 }
 
-/// Judges a position anew.
+/// Judges a position by all that the rules ask of it, whatever was known before.
 fn judge_all<'a>(
     code: &Code,
     locals: usize,
@@ -548,7 +548,7 @@ fn start(alloc: Global, size: usize) -> Result<Vec<State>, NoMemory>
     Ok(states)
 }
 
-/// No position was visited.
+/// The changes of `size` positions of which none was visited.
 fn unvisited(alloc: Global, size: usize) -> Result<Vec<Option<Span>>, NoMemory>
     ensures { IfOk result (λ v. (p : ℕ) (s : SpecSpan) → slice_get v.items p ≡ Some (Some s) → ⊥) }
 {
@@ -636,7 +636,7 @@ pub fn progress()
     ensures { (code : RustCode) → Verified (code_of code) → NeverStuck (code_of code) }
 {}
 
-/// There is one first fault.
+/// A code has at most one first fault.
 pub fn one_fault()
     ensures { (code : SpecCode) (r s : Rule) (p q : ℕ) → FirstFault code r p → FirstFault code s q
         → (r ≡ s) × (p ≡ q) }

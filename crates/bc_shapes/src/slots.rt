@@ -150,7 +150,7 @@ impl<'a> Slots<'a> {
     ghost use Rattle.bc_shapes.specs.Views.{gives_of, slots_of_rust};
     ghost use Rattle.bc_shapes.specs.declared.kinds.Kind.TheVariants.{Either};
 
-    /// How many slots these are.
+    /// How many slots arrive.
     #[tactic(auto, using(crate::proofs::Loops::slots_size))]
     pub(crate) fn len(self) -> usize
         ensures { result ≡ length (slots_of_rust self.entry) }
@@ -200,7 +200,7 @@ impl<'a> Slots<'a> {
         Ok(())
     }
 
-    /// A list of them.
+    /// The slots that arrive, as a list.
     pub fn list(self, alloc: Global) -> Result<Vec<Kind>, NoMemory>
         ensures { IfOk result (λ v. v.items ≡ slots_of_rust self.entry) }
     {

@@ -152,7 +152,7 @@ fn covered(bare: bool, alone: usize, whole: usize) -> usize
     if bare { alone } else { whole }
 }
 
-/// The jump behind a branch.
+/// The jump behind a branch, of 3 bytes: there is none behind the last branch where the `else` is bare.
 fn behind_length(left: usize, bare: bool) -> usize
     ensures { result ≡ behind_wide left bare }
 {

@@ -131,7 +131,7 @@ fn alone(alloc: Global, text: &[u8]) -> Result<Items<Text>, NoMemory>
     Ok(texts)
 }
 
-/// A string.
+/// The string that is given to a parameter, as a list of one.
 fn one(
     alloc: Global,
     form: Form,
@@ -146,7 +146,7 @@ fn one(
     }
 }
 
-/// A tuple of strings.
+/// The tuple of strings that is given to a parameter.
 fn several(
     alloc: Global,
     form: Form,

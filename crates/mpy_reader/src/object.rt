@@ -62,7 +62,7 @@ fn numeral(digits: &[u8]) -> Option<u64>
     Some(n)
 }
 
-/// The text behind a minus.
+/// The text behind a minus sign, where it begins with one.
 fn opposite(text: &[u8]) -> Option<&[u8]>
     ensures { MatchOption result ((digits : List ℕ) → text.now ≡ 45 ∷ digits → ⊥) (λ digits. text.now ≡ 45 ∷ digits.now) }
 {

@@ -50,14 +50,14 @@ fn line(tokens: &Cursor<'_>) -> u32
     }
 }
 
-/// A front ends here.
+/// Notes that a source might end here: what was read is the longest front so far.
 pub(crate) fn mark(tokens: &mut Cursor<'_>)
     ensures { input_of tokens.new ≡ spec.marked (input_of tokens.old) }
 {
     tokens.front = tokens.ahead.len();
 }
 
-/// A front ends here, if the statement may end.
+/// Notes that a source might end here, if the statement may end.
 fn mark_if(tokens: &mut Cursor<'_>, ends: bool)
     ensures { input_of tokens.new ≡ spec.marked_if ends (input_of tokens.old) }
 {

@@ -47,7 +47,7 @@ fn one_value<C: Constants>(
     }
 }
 
-/// Only `+` differs in place.
+/// What an operator in place gives. Only `+` differs from the plain one.
 fn in_place<C: Constants>(
     arena: &mut Arena,
     consts: &C,

@@ -121,7 +121,7 @@ fn make_call<S: Sink, P: Port>(
     }
 }
 
-/// Steps of a call.
+/// Steps of an instruction that calls.
 #[tactic(none)]
 fn step_call<S: Sink, P: Port>(
     vm: &mut Vm,
