@@ -53,7 +53,7 @@ fn span_at(cells: &Vec<Cell>, at: u32) -> Span
     }
 }
 
-/// The same of the text that was made at a cell.
+/// The code of the text that was made at a cell, by which its bucket is found.
 fn made_code(cells: &Vec<Cell>, bytes: &Vec<u8>, at: u32) -> u64
     requires { HaveBytes cells.now.items bytes.now.items }
     ensures { result ≡ text_code (texts_in cells.now.items bytes.now.items at) }
@@ -122,7 +122,7 @@ pub(crate) fn link(cells: &mut Vec<Cell>, bytes: &Vec<u8>, region: Region, at: u
     };
 }
 
-/// Takes all links out.
+/// Empties all buckets of a dict, and takes the links of its pairs out.
 fn unlink(cells: &mut Vec<Cell>, region: Region)
     requires inside { region.start + 3 * region.room ≤ vec_len cells.old }
     requires plain { (c : ℕ) → In region.start (3 * region.room) c → heads cells.old.items c ≡ blank }

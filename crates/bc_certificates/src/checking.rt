@@ -206,7 +206,7 @@ fn go(
     Ok(true)
 }
 
-/// The same, where the flow comes to the position.
+/// Takes what holds to the next position, if the rules are kept, it may be there, and the flow comes to the position.
 fn go_if(
     code: &Code,
     locals: usize,

@@ -34,8 +34,10 @@ pub(crate) struct Mark {
     pub changed: Span,
 }
 
+/// No slots at all.
 const NO_SLOTS: Span = Span { from: 0, to: 0 };
 
+/// The mark of a position of which nothing is known.
 const UNMARKED: Mark = Mark {
     meets: false,
     walked: false,
@@ -66,12 +68,14 @@ pub(crate) fn mark_at(marks: &[Mark], p: usize) -> Mark {
     if p < marks.len() { marks[p] } else { UNMARKED }
 }
 
+/// Puts the mark of a position, where there is such a position.
 fn set_mark(marks: &mut Vec<Mark>, p: usize, mark: Mark) {
     if p < marks.len() {
         marks[p] = mark;
     }
 }
 
+/// Notes that edges may meet at a position.
 fn meets_at(marks: &mut Vec<Mark>, p: usize) {
     let mut mark = mark_at(marks, p);
     mark.meets = true;
@@ -164,6 +168,7 @@ fn arrive(alloc: Global, walk: &mut Walk, edge: Edge) -> Result<bool, NoMemory> 
     }
 }
 
+/// Lets what an edge brings arrive, where there is an edge, and says whether it may.
 fn arrive_if(alloc: Global, walk: &mut Walk, edge: Option<Edge>) -> Result<bool, NoMemory> {
     match edge {
         None => Ok(true),

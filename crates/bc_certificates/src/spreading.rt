@@ -132,6 +132,7 @@ fn exchange(
     Ok(())
 }
 
+/// A copy of the origins.
 fn copy_of(alloc: Global, origins: &Origins) -> Result<Origins, NoMemory> {
     let mut top = Vec::with_capacity(alloc, origins.top.len())?;
     top.extend_from_slice(&origins.top)?;
@@ -353,6 +354,7 @@ fn changed_cells(marks: &[Mark], work: &mut Vec<Cell>) -> Result<(), NoMemory> {
     Ok(())
 }
 
+/// Closes a slot of the rows that these passages bring it to unchanged.
 fn follow_passages(
     map: &Map,
     rows: &mut Vec<Option<Shape>>,
@@ -370,6 +372,7 @@ fn follow_passages(
     Ok(())
 }
 
+/// Closes the slots that these links bring a slot to.
 fn follow_links(
     map: &Map,
     rows: &mut Vec<Option<Shape>>,

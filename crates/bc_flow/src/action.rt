@@ -42,7 +42,7 @@ fn straight(values: u32, wants: &'static [Want], new_values: u32, gives: &'stati
     Action::Straight(takes, gives)
 }
 
-/// The same, or gives `there` and jumps to `to`.
+/// Takes the slots `takes`, gives `gives`, and goes on; or gives `there`, and jumps to `to`.
 fn branch(takes: Takes, gives: Gives, there: &'static [Give], to: usize) -> Action
     ensures { action_of result ≡ specs.branch takes.values takes.others.now gives.values gives.others.now there.now to }
 {

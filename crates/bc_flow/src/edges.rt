@@ -99,7 +99,7 @@ impl<'a> Edge<'a> {
         Ok(())
     }
 
-    /// Makes the shape what arrives.
+    /// Makes `x` the shape that arrives.
     pub fn write(self, x: &mut Shape) -> Result<(), NoMemory>
         ensures { OnOk result (at_of x.new ≡ (edge_of_rust self.entry).at) }
     {
@@ -107,7 +107,7 @@ impl<'a> Edge<'a> {
         self.write_entries(&mut x.entries)
     }
 
-    /// What arrives.
+    /// The shape that arrives.
     pub fn shape(self, alloc: Global) -> Result<Shape, NoMemory>
         ensures { IfOk result (λ x. at_of x ≡ (edge_of_rust self.entry).at) }
     {
@@ -118,7 +118,7 @@ impl<'a> Edge<'a> {
     }
 }
 
-/// What it takes from the top.
+/// The slots that an instruction takes from the top.
 #[tactic(auto, unfolding(crate::specs::Edges::takes))]
 pub fn takes(action: &Action) -> Takes
     ensures { takes_of result ≡ specs.takes (action_of action.now) }
@@ -191,7 +191,7 @@ pub fn falls(action: &Action) -> bool
     )
 }
 
-/// Where it jumps.
+/// The position that an instruction jumps to, if it does.
 #[tactic(auto, unfolding(crate::specs::Edges::target))]
 pub fn target(action: &Action) -> Option<usize>
     ensures { result ≡ specs.target (action_of action.now) }
@@ -205,7 +205,7 @@ pub fn target(action: &Action) -> Option<usize>
     }
 }
 
-/// What it does with the entries.
+/// What an instruction does with the handler entries.
 #[tactic(auto, unfolding(crate::specs::Edges::change))]
 pub fn change_of(action: &Action) -> Change
     ensures { result ≡ specs.change (action_of action.now) }
@@ -273,7 +273,7 @@ fn mark(to: usize, entry: Entry) -> Entry
     }
 }
 
-/// What a handler begins with.
+/// The slot that a handler finds on top: a cause in a finally, and else an exception.
 fn first(is_finally: bool) -> &'static [Give]
     ensures { result.now ≡ (if is_finally then New Kind.Cause ∷ [] else New Kind.Either ∷ []) }
 {

@@ -105,6 +105,7 @@ fn floor(change: Change, entries: &[Entry]) -> usize
     }
 }
 
+/// The lesser of two numbers.
 fn lower(a: usize, b: usize) -> usize
     ensures { result ≡ min a b }
 {
@@ -146,7 +147,7 @@ fn leaves(change: Change, entries: &[Entry], slots: usize) -> bool
     }
 }
 
-/// The slots that it works on.
+/// The slots that an instruction works on: those that remain when the entries are left that it leaves.
 #[tactic(auto, unfolding(crate::specs::Edges::base))]
 pub fn base<'a>(action: &Action, x: &'a Shape) -> &'a [Kind]
     ensures { result.now ≡ specs.base (action_of action.now) (at_of x.now) }
@@ -168,7 +169,8 @@ fn deep(change: Change, entries: &[Entry], taken: usize, slots: usize) -> bool
     }
 }
 
-/// The rule Height, but for the shapes that meet.
+/// Are there the slots that the instruction takes, of the kinds that it asks for, and none of them below an entry that remains (the rule
+/// Height, but for the shapes that meet)?
 #[tactic(auto, unfolding(crate::specs::Edges::finds))]
 pub fn finds(action: &Action, x: &Shape, base: &[Kind]) -> bool
     requires { base.now ≡ specs.base (action_of action.now) (at_of x.now) }
@@ -178,7 +180,7 @@ pub fn finds(action: &Action, x: &Shape, base: &[Kind]) -> bool
     fits(takes, base) && deep(change_of(action), &x.entries, takes.len(), base.len())
 }
 
-/// The rule Height, but for the shapes that meet, where it held before slots of the span changed.
+/// As `finds`, where that held before slots of the span changed.
 #[tactic(auto, unfolding(crate::specs::Edges::finds))]
 pub(crate) fn finds_again(action: &Action, x: &Shape, base: &[Kind], span: Span) -> bool
     requires base_is { base.now ≡ specs.base (action_of action.now) (at_of x.now) }
@@ -205,7 +207,7 @@ fn has_all_room(code: &Code, locals: usize, before: usize, next: usize, there: u
         && has_room(locals, there, code.n_state)
 }
 
-/// The rule State.
+/// Is there room for the locals and the slots before the instruction, behind it and where it jumps (the rule State)?
 pub fn room(code: &Code, locals: usize, action: &Action, x: &Shape, base: &[Kind]) -> bool
     requires base_is { base.now ≡ specs.base (action_of action.now) (at_of x.now) }
     requires locals_are { locals ≡ (code_of code.now).locals }
@@ -217,7 +219,7 @@ pub fn room(code: &Code, locals: usize, action: &Action, x: &Shape, base: &[Kind
     has_all_room(code, locals, x.slots.len(), next, there)
 }
 
-/// The rule Falls.
+/// Does the flow stay in the code behind the instruction (the rule Falls)?
 #[tactic(auto, unfolding(crate::specs::Edges::stays))]
 pub fn stays(code: &Code, action: &Action, p: usize) -> bool
     requires { p < length code.now.items.items }

@@ -83,6 +83,7 @@ fn join_slot(slots: &mut Vec<Kind>, i: usize, kind: Kind) -> Option<bool>
     Some(true)
 }
 
+/// Whether one of the two holds.
 fn either(a: bool, b: bool) -> bool
     ensures { result ≡ (a || b) }
 {

@@ -59,7 +59,7 @@ impl Takes {
     ghost use Rattle.std.specs.Prelude.{◌≡◌, length};
     ghost use Rattle.bc_shapes.specs.Views.{takes_of};
 
-    /// How many slots these are.
+    /// How many slots are taken.
     #[inline(always)]
     pub fn len(self) -> usize
         ensures { result ≡ length (takes_of self) }
@@ -72,7 +72,7 @@ impl Gives {
     ghost use Rattle.std.specs.Prelude.{◌≡◌, length};
     ghost use Rattle.bc_shapes.specs.Views.{gives_of};
 
-    /// How many slots these are.
+    /// How many slots are given.
     #[inline(always)]
     pub fn len(self) -> usize
         ensures { result ≡ length (gives_of self) }

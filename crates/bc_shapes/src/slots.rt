@@ -107,6 +107,7 @@ fn keeps(give: Give, n: usize) -> bool
     }
 }
 
+/// Is each of these a new slot, or one of the topmost `n`?
 #[tactic(auto, using(crate::proofs::Spans::keeps_step, crate::proofs::Loops::and_first))]
 fn keep(gives: &[Give], n: usize) -> bool
     ensures { result ≡ spans.keeps_all n gives.now }
@@ -149,7 +150,7 @@ impl<'a> Slots<'a> {
     ghost use Rattle.bc_shapes.specs.Views.{gives_of, slots_of_rust};
     ghost use Rattle.bc_shapes.specs.declared.kinds.Kind.TheVariants.{Either};
 
-    /// How many slots these are.
+    /// How many slots arrive.
     #[tactic(auto, using(crate::proofs::Loops::slots_size))]
     pub(crate) fn len(self) -> usize
         ensures { result ≡ length (slots_of_rust self.entry) }
@@ -199,7 +200,7 @@ impl<'a> Slots<'a> {
         Ok(())
     }
 
-    /// A list of them.
+    /// The slots that arrive, as a list.
     pub fn list(self, alloc: Global) -> Result<Vec<Kind>, NoMemory>
         ensures { IfOk result (λ v. v.items ≡ slots_of_rust self.entry) }
     {

@@ -18,7 +18,7 @@ pub(crate) struct TreeFault {
     pub offset: usize,
 }
 
-/// The same one level above, where the code is the child with that place.
+/// The fault as it is told one level above, where the code is the child with that place.
 pub(crate) fn above(fault: TreeFault, place: usize) -> Result<TreeFault, NoMemory>
     ensures { IfOk result (λ f. (f.rule ≡ fault.rule) × (f.path.items ≡ place ∷ fault.path.items) × (f.offset ≡ fault.offset)) }
 {

@@ -13,6 +13,7 @@ use crate::numbers::{both, plus, three};
 use mpy_base::Text;
 use py_tree::{CompareOp, Expr};
 
+/// The slot of a name, if it is a local.
 fn place_of(locals: &[Text], name: &[u8]) -> Option<usize>
     ensures { result ≡ position (λ local. bytes_eq name.now local) locals.now }
 {
@@ -34,6 +35,7 @@ pub(crate) fn name_length(locals: &[Text], name: &[u8]) -> usize
     }
 }
 
+/// How many bytes a load of a small int takes with its operand at its longest.
 fn int_length(n: i32) -> usize
     ensures { result ≡ wide_int n }
 {
@@ -43,6 +45,7 @@ fn int_length(n: i32) -> usize
     6
 }
 
+/// How many bytes a comparison takes. `not in` and `is not` are two instructions.
 fn comparison_length(op: CompareOp) -> usize
     ensures { result ≡ comparison_wide op }
 {
@@ -119,7 +122,7 @@ fn joined_length(locals: &[Text], items: &[Expr]) -> usize
     both(own, length, 0)
 }
 
-/// That of expressions one behind the other.
+/// How long the code of expressions is, one behind the other.
 #[cycle(lengths)]
 pub(crate) fn row_length(locals: &[Text], items: &[Expr]) -> usize
     ensures { result ≡ saturated (exprs_wide locals.now (exprs (map plain_expr items.now))) }

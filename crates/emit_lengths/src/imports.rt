@@ -30,6 +30,7 @@ fn reads_length(name: &[u8]) -> usize
     length
 }
 
+/// Where the first dot of a name stands.
 fn first_dot(name: &[u8]) -> Option<usize>
     ensures place { result ≡ position (λ byte. nat_eq byte 46) name.now }
     ensures within { IfSome result (λ end. end < length name.now) }

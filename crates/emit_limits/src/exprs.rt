@@ -70,7 +70,7 @@ fn joined_height(items: &[Expr]) -> usize
     tallest(items)
 }
 
-/// Each over the same slots.
+/// The greatest height of these expressions, each over the same slots.
 #[cycle(heights)]
 fn tallest(items: &[Expr]) -> usize
     ensures { result ≡ saturated (tallest_of (exprs (map plain_expr items.now))) }

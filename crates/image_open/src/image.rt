@@ -59,7 +59,7 @@ fn counts_below<'a>(
     Ok(rest)
 }
 
-/// The same bytes, where the library has no texts and no modules.
+/// These bytes, where the library has no texts and no modules.
 #[tactic(auto, unfolding(image_grammar::specs::Opening::nothing_is_below))]
 fn nothing_is_below<'a>(
     below: &Library,

@@ -395,7 +395,7 @@ pub fn load_by<R: Reader, F: Folder>(
     }
 }
 
-/// The same from the files of modules.
+/// Loads the library of a main module, whose file has `size` bytes, from the files of modules in a folder.
 pub fn load<F: Folder>(
     alloc: Global,
     folder: &mut F,

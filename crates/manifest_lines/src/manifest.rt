@@ -59,7 +59,7 @@ fn number(tokens: &[Token]) -> u32
     }
 }
 
-/// The line of these tokens.
+/// The line of these tokens: what its call orders, or that it has none.
 fn judged(alloc: Global, tokens: &[Token]) -> Result<Line, NoMemory>
     ensures { IfOk result (λ line. line ≡ spec.line tokens.now) }
 {

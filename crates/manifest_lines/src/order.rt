@@ -111,6 +111,7 @@ fn level(form: Form, arguments: &[Argument], parameter: usize) -> Result<u8, Ref
     }
 }
 
+/// A copy of each text.
 fn copies(alloc: Global, texts: &[Text]) -> Result<Items<Text>, NoMemory>
     ensures { IfOk result (λ copies. copies ≡ texts.now) }
 {
@@ -121,6 +122,7 @@ fn copies(alloc: Global, texts: &[Text]) -> Result<Items<Text>, NoMemory>
     Ok(copies)
 }
 
+/// The list of this one text.
 fn alone(alloc: Global, text: &[u8]) -> Result<Items<Text>, NoMemory>
     ensures { IfOk result (λ texts. texts ≡ text.now ∷ []) }
 {
@@ -129,7 +131,7 @@ fn alone(alloc: Global, text: &[u8]) -> Result<Items<Text>, NoMemory>
     Ok(texts)
 }
 
-/// A string.
+/// The string that is given to a parameter, as a list of one.
 fn one(
     alloc: Global,
     form: Form,
@@ -144,7 +146,7 @@ fn one(
     }
 }
 
-/// A tuple of strings.
+/// The tuple of strings that is given to a parameter.
 fn several(
     alloc: Global,
     form: Form,

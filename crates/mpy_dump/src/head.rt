@@ -55,7 +55,7 @@ pub(crate) fn count_up(head: &mut Head, start: u32, by: u32)
     }
 }
 
-/// Makes the line another.
+/// Puts another number of a line into the head, where it differs.
 #[inline(always)]
 pub(crate) fn set_line(head: &mut Head, start: u32, line: u32)
     requires { IsHead start head.old }

@@ -45,6 +45,7 @@ fn put_spaced_name<S: Sink>(out: &mut S, module: &RawModule, n: u32) -> Result<(
     put_name_at(out, module, n)
 }
 
+/// Puts a target and a byte, a blank before each.
 fn put_two<S: Sink>(out: &mut S, target: i64, byte: u8) -> Result<(), Failed>
     ensures { Puts S.told S.count out.old out.new
         (codes " " ++ (signed_decimal target ++ (codes " " ++ decimal byte))) result }
@@ -142,7 +143,7 @@ fn gather_read<S: Sink>(
     gather_tail(out, pen, module, end, instr)
 }
 
-/// The same by the ends that are there for two bytes.
+/// Gathers the end of the line of the instruction at `at`, which is moved behind it: that which is kept for its two bytes, where one is.
 #[inline(always)]
 fn gather_pair<S: Sink>(
     out: &mut S,
@@ -171,7 +172,7 @@ fn gather_pair<S: Sink>(
     Ok(())
 }
 
-/// The same by the ends that are there.
+/// Gathers the end of the line of the instruction at `at`, which is moved behind it: that which is kept for its bytes, where one is.
 #[inline(always)]
 fn gather_end<S: Sink>(
     out: &mut S,

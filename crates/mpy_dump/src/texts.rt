@@ -8,7 +8,7 @@ ghost use Rattle.mpy_dump.specs.Texts as specs;
 use crate::put::put;
 use mpy_io::{Failed, Sink};
 
-/// A digit of sixteen.
+/// A hexadecimal digit.
 fn hex_digit(n: u8) -> u8
     requires { n < 16 }
     ensures { result ≡ specs.hex_digit n }
@@ -16,7 +16,7 @@ fn hex_digit(n: u8) -> u8
     if n < 10 { b'0' + n } else { b'a' - 10 + n }
 }
 
-/// A byte by its number.
+/// A byte as `\x` and two hexadecimal digits.
 fn hex(byte: u8) -> [u8; 4]
     ensures { result ≡ specs.hex byte }
 {

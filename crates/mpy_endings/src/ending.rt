@@ -174,7 +174,7 @@ pub struct Ended {
 }
 
 impl Ended {
-    /// That of a command that reads the first named file and writes the second.
+    /// How a command ended that reads the first named file and writes the second, and the place of the word that its line names.
     pub fn of_two(ending: Ending) -> Ended
         ensures ending { result.ending ≡ ending }
         ensures place { result.place ≡ place_in ending }

@@ -63,7 +63,7 @@ fn code_fits(code: &Code) -> bool
         && all_items_fit(code.instrs.as_slice())
 }
 
-/// Those of a code and of the codes in it, at most `levels` levels deep.
+/// The texts of a code and of the codes in it, at most `levels` levels deep.
 fn codes_fit(code: &Code, levels: usize) -> bool
     requires { IsShallow levels code.now }
     ensures { result ≡ list_all spec.code_fits (codes_in levels code.now) }

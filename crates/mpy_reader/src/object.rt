@@ -13,16 +13,22 @@ use mpy_base::{Items, Refused};
 use mpy_tree::Constant;
 use std::alloc::Global;
 
+/// The byte in front of `None`.
 const TAG_NONE: u8 = 1;
 
+/// The byte in front of `False`.
 const TAG_FALSE: u8 = 2;
 
+/// The byte in front of `True`.
 const TAG_TRUE: u8 = 3;
 
+/// The byte in front of a str.
 const TAG_STR: u8 = 5;
 
+/// The byte in front of an int.
 const TAG_INT: u8 = 7;
 
+/// The byte in front of a tuple.
 const TAG_TUPLE: u8 = 10;
 
 /// A number past all small integers and their opposites.
@@ -56,7 +62,7 @@ fn numeral(digits: &[u8]) -> Option<u64>
     Some(n)
 }
 
-/// The text behind a minus.
+/// The text behind a minus sign, where it begins with one.
 fn opposite(text: &[u8]) -> Option<&[u8]>
     ensures { MatchOption result ((digits : List ℕ) → text.now ≡ 45 ∷ digits → ⊥) (λ digits. text.now ≡ 45 ∷ digits.now) }
 {

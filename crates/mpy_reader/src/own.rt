@@ -10,7 +10,7 @@ use bc_ops::decode_at;
 use bc_prelude::{PreludeFault, Signature, read_signature, read_size};
 use mpy_base::{Refused, VuintFault, read_vuint};
 
-/// The signature of a prelude.
+/// Reads the signature of a prelude.
 fn signature(code: &[u8]) -> Field<'_, Signature>
     ensures { Gives (λ found. (found.0, found.1.now)) result (reading.signature code.now) }
 {
@@ -24,7 +24,7 @@ fn signature(code: &[u8]) -> Field<'_, Signature>
     }
 }
 
-/// The information, and the instructions behind it.
+/// Reads the information of a prelude; the instructions stand behind it.
 fn information(bytes: &[u8]) -> Field<'_, &[u8]>
     ensures { Gives (λ found. (found.0.now, found.1.now)) result (reading.information bytes.now) }
 {
@@ -37,7 +37,7 @@ fn information(bytes: &[u8]) -> Field<'_, &[u8]>
     }
 }
 
-/// A number in the information.
+/// Reads one number of the information.
 fn index(bytes: &[u8]) -> Field<'_, u32>
     ensures { Gives (λ found. (found.0, found.1.now)) result (reading.index bytes.now) }
 {

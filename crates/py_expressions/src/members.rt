@@ -27,7 +27,7 @@ pub(crate) fn begins_test(kind: Option<&Tok>) -> bool
     }
 }
 
-/// The only one.
+/// The expression of a list of one.
 fn only(found: Items<Expr>) -> Expr
     requires { length found ≡ 1 }
     ensures { found ≡ result ∷ [] }

@@ -53,6 +53,7 @@ impl Levels {
         self.total > MAX_NEST
     }
 
+    /// Puts a level on top, of count 0.
     fn push(&mut self)
         requires { depth self.old ≤ MAX_NEST }
         ensures { self.new ≡ behind Pushes self.old }
@@ -76,6 +77,7 @@ impl Levels {
         }
     }
 
+    /// Counts one more on the level on top.
     fn count(&mut self)
         requires { depth self.old ≤ MAX_NEST }
         ensures { self.new ≡ behind Counts self.old }
@@ -84,6 +86,7 @@ impl Levels {
         self.total += 1;
     }
 
+    /// Sets the count of the level on top to 0.
     fn clear(&mut self)
         ensures { self.new ≡ behind Clears self.old }
     {

@@ -31,6 +31,7 @@ pub(crate) fn append(found: &mut Items<Stmt>, some: Items<Stmt>) -> Result<(), N
     Ok(())
 }
 
+/// The list of this one statement.
 fn only(alloc: Global, one: Stmt) -> Result<Items<Stmt>, NoMemory>
     ensures { IfOk result (λ all. all ≡ one ∷ []) }
 {
@@ -49,14 +50,14 @@ fn line(tokens: &Cursor<'_>) -> u32
     }
 }
 
-/// A front ends here.
+/// Notes that a source might end here: what was read is the longest front so far.
 pub(crate) fn mark(tokens: &mut Cursor<'_>)
     ensures { input_of tokens.new ≡ spec.marked (input_of tokens.old) }
 {
     tokens.front = tokens.ahead.len();
 }
 
-/// A front ends here, if the statement may end.
+/// Notes that a source might end here, if the statement may end.
 fn mark_if(tokens: &mut Cursor<'_>, ends: bool)
     ensures { input_of tokens.new ≡ spec.marked_if ends (input_of tokens.old) }
 {

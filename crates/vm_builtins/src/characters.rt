@@ -50,6 +50,7 @@ fn character<C: Constants>(arena: &mut Arena, consts: &C, z: i32) -> Result<Valu
     }
 }
 
+/// `chr` of one value.
 fn chr_of<C: Constants>(arena: &mut Arena, consts: &C, v: Value) -> Result<Value, Stop>
     requires leads { Leads arena.old.objects v }
     requires all_told { AllTold (C.text_of consts.now) (C.items_of consts.now) arena.old.objects }

@@ -15,6 +15,7 @@ use crate::numbers::number_of;
 use arena_heap::{Arena, Constants, Value};
 use vm_faults::Stop;
 
+/// `abs` of one value.
 fn abs_of<C: Constants>(arena: &Arena, _consts: &C, v: Value) -> Result<Value, Stop>
     requires leads { Leads arena.now.objects v }
     requires all_told { AllTold (C.text_of _consts.now) (C.items_of _consts.now) arena.now.objects }

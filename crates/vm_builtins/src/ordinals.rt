@@ -27,6 +27,7 @@ fn code_of(bytes: &[u8]) -> Result<Value, Stop>
     Ok(Value::Int(bytes[0] as i32))
 }
 
+/// `ord` of one value.
 fn ord_of<C: Constants>(arena: &Arena, consts: &C, v: Value) -> Result<Value, Stop>
     requires leads { Leads arena.now.objects v }
     requires told { IsTold (C.text_of consts.now) (C.items_of consts.now) v }

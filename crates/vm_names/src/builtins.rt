@@ -7,6 +7,7 @@ ghost use Rattle.py_primitives.specs.Builtins.{named as first_named, globals as 
 use mpy_base::{Builtin, Kind};
 use vm_walks::builtin_name;
 
+/// What names can mean that no namespace has, in the order in which a name is looked for.
 const GLOBALS: [Builtin; 39] = [
     Builtin::Bool,
     Builtin::Int,
@@ -49,6 +50,7 @@ const GLOBALS: [Builtin; 39] = [
     Builtin::Kind(Kind::ValueError),
 ];
 
+/// All that names can mean that no namespace has.
 fn globals() -> &'static [Builtin]
     ensures { result.now ≡ all_globals }
 {

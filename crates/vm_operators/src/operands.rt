@@ -51,6 +51,7 @@ pub(crate) enum Operands {
     Unfit,
 }
 
+/// What two strs, tuples or lists are to an operator: two of one shape, or unfit.
 fn alike(_arena: &Arena, left: Value, right: Value, shape: Shape, other: Shape) -> Operands
     requires left { IsOperand _arena.now left (Operand.Shaped shape) }
     requires right { IsOperand _arena.now right (Operand.Shaped other) }
@@ -64,6 +65,7 @@ fn alike(_arena: &Arena, left: Value, right: Value, shape: Shape, other: Shape) 
     }
 }
 
+/// What a number and the value on its right are to an operator.
 fn beside_number(arena: &Arena, left: Value, right: Value, n: SmallInt) -> Operands
     requires left { IsOperand arena.now left (Operand.Number n) }
     requires right { Leads arena.now.objects right }
@@ -76,6 +78,7 @@ fn beside_number(arena: &Arena, left: Value, right: Value, n: SmallInt) -> Opera
     }
 }
 
+/// What a str, tuple or list and the value on its right are to an operator.
 fn beside_shape(arena: &Arena, left: Value, right: Value, shape: Shape) -> Operands
     requires left { IsOperand arena.now left (Operand.Shaped shape) }
     requires right { Leads arena.now.objects right }

@@ -41,6 +41,7 @@ fn kind_in(b: Builtin) -> Option<Kind>
     }
 }
 
+/// What raising a built-in raises: a new exception where it is a kind of them, and else nothing.
 fn raised_by_builtin(b: Builtin) -> Raised
     ensures { (heap : Heap Item ℕ) → IsRaised heap (Value.Built b) result }
 {
