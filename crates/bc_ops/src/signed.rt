@@ -11,9 +11,10 @@ use mpy_base::NoMemory;
 /// The bytes of a number at most.
 const MAX_BYTES: usize = 5;
 
-/// The least number and the greatest.
+/// The least number that an operand can be.
 const MIN: i64 = -(1 << 30);
 
+/// The greatest number that an operand can be.
 const MAX: i64 = (1 << 30) - 1;
 
 /// What the place above `groups` groups counts.

@@ -85,7 +85,7 @@ impl<R: Read + Drop, W: Write + Drop> Port for InputPort<R, W> {
     }
 }
 
-// The number on the next line, None at the end.
+/// The number on the next line, None at the end.
 fn next_answer<R: Read>(reader: &mut R) -> Result<Option<i32>, Failed>
     ensures { IfOk result (TakesLine (R.remaining reader.old) (R.remaining reader.new)) }
 {
@@ -101,7 +101,7 @@ fn next_answer<R: Read>(reader: &mut R) -> Result<Option<i32>, Failed>
     Err(Failed)
 }
 
-// None at the end. A read that is interrupted is tried again.
+/// The next byte, None at the end. A read that is interrupted is tried again.
 fn next_byte<R: Read>(reader: &mut R) -> Result<Option<u8>, Failed>
     ensures taken { IfOk result (λ byte. Consumes (R.remaining reader.old) (R.remaining reader.new) (option_to_list byte)) }
     ensures end { result ≡ Ok None → IsAtEnd (R.remaining reader.new) }
@@ -118,6 +118,7 @@ fn next_byte<R: Read>(reader: &mut R) -> Result<Option<u8>, Failed>
     Err(Failed)
 }
 
+/// The number that a line is: decimal digits, with a minus sign or without one.
 fn number_of(text: &[u8]) -> Result<i32, Failed>
     ensures found { IfOk result (λ n. IsDecimal text.now n) }
     ensures only { (n : ℤ) → IsDecimal text.now n → result ≡ Ok n }

@@ -44,7 +44,7 @@ impl MemSink {
         }
     }
 
-    /// All that was put.
+    /// All bytes that were put, in order.
     pub fn bytes(&self) -> &[u8]
         ensures { result.now ≡ self.now.bytes }
     {

@@ -31,7 +31,7 @@ pub(crate) fn target_binds(
     }
 }
 
-/// Those of targets, one behind another.
+/// The bindings and uses of targets, one behind another.
 #[cycle(targets)]
 pub(crate) fn targets_bind(
     alloc: Global,

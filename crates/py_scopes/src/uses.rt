@@ -63,6 +63,7 @@ pub(crate) fn uses(
     }
 }
 
+/// Adds the uses of names in these expressions.
 #[cycle(uses)]
 fn uses_all(
     alloc: Global,
@@ -78,6 +79,7 @@ fn uses_all(
     Ok(())
 }
 
+/// Adds the uses of names in the keys and values of a display.
 #[cycle(uses)]
 fn uses_pairs(
     alloc: Global,
@@ -94,6 +96,7 @@ fn uses_pairs(
     Ok(())
 }
 
+/// Adds the uses of names in the operands of a comparison but the first.
 #[cycle(uses)]
 fn uses_compared(
     alloc: Global,
@@ -109,6 +112,7 @@ fn uses_compared(
     Ok(())
 }
 
+/// Adds the uses of names in keyword arguments.
 #[cycle(uses)]
 fn uses_keys(
     alloc: Global,

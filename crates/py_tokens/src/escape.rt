@@ -65,6 +65,7 @@ pub(crate) fn line_end_len(bytes: &[u8]) -> usize
     }
 }
 
+/// What the bytes behind a backslash stand for, by the first of them.
 fn mark_of(behind: &[u8]) -> Mark
     ensures { result ≡ mark_of behind.now }
 {

@@ -213,6 +213,7 @@ impl Lines {
         Ok(())
     }
 
+    /// The fault of the indentation of the line.
     fn bad_indent(&self) -> SourceFault
         ensures { result ≡ bad_indent self.now.level_line }
     {
