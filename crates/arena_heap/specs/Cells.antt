@@ -228,7 +228,7 @@ decode (cells.RangeHead start stop step) ps bs = Some (RangeObject start stop st
 decode (cells.ModuleHead name) ps bs = Some (ModuleObject name (dict_in (slice_index_or ps 0 blank)))
 decode _ ps bs = None
 
--- the same, from the head and both regions whole
+-- an object from its head, and from the cells and the bytes of the whole arena
 abbrev pub read : ℕ → Cell → List Cell → List ℕ → Option ArenaObject
 read n h cells bytes = decode h (part cells (first n h) (size h)) (part bytes (byte_first n h) (byte_size h))
 

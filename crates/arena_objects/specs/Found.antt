@@ -28,7 +28,7 @@ HasKey texts heap d key at = key_of texts heap (key_in (pairs_at heap d) at) ≡
 abbrev pub HasKeyIn : (StrNo → Option (List ℕ)) → Heap Value ℕ → ℕ → PlainKey → ℕ → ℕ → Type 0
 HasKeyIn texts heap d key bucket at = HasKey texts heap d key at × (buckets_at heap d at ≡ bucket)
 
--- the same of the bucket of a number's text, where there is such a number
+-- the pair at the place has the key, and stands in the bucket of a number's text, where there is such a number
 abbrev pub HasKeyNamed : (StrNo → Option (List ℕ)) → Heap Value ℕ → ℕ → PlainKey → Option ℕ → ℕ → Type 0
 HasKeyNamed texts heap d key None at = ⊥
 HasKeyNamed texts heap d key (Some number) at =

@@ -35,7 +35,7 @@ abbrev pub fallen : Code → ℕ → Option Action → At → Option At
 fallen code p None x = None
 fallen code p (Some i) x = at_if (goes_on code p i) (fall p i x).at
 
--- the same of a position where something holds
+-- what the instruction at a position brings to the next one; nothing where nothing holds at the position
 abbrev pub brought : Code → ℕ → Option At → Option At
 brought code p None = None
 brought code p (Some x) = fallen code p (slice_get code.actions p) x
@@ -54,7 +54,7 @@ carried code rows (suc p) = or_else (row rows (suc p)) (brought code p (carried 
 abbrev pub other_ways : Action → ℕ → List Entry → List Way
 other_ways i n es = jump_way (target i) (behind (change i) n es) ++ raise_ways es ++ run_ways (runs i (length es)) es
 
--- the same with what arrives
+-- the edges that leave a position, with what arrives, but for the one to the next position
 abbrev pub other_edges : Action → At → List Edge
 other_edges i x = map (edge_of i x) (other_ways i (length x.slots) x.entries)
 

@@ -37,7 +37,7 @@ pub data Action : Type 0 where
 abbrev pub straight : ℕ → List Want → ℕ → List Give → Action
 straight n wants m given = Straight (takes n wants) (gives m given)
 
--- the same, or gives `there` and jumps to `to`
+-- takes `n` values on top of the slots `wants`, gives `m` new values on top of `given`, and goes on; or gives `there`, and jumps to `to`
 abbrev pub branch : ℕ → List Want → ℕ → List Give → List Give → ℕ → Action
 branch n wants m given there to = Branch (takes n wants) (gives m given) (gives 0 there) to
 
@@ -104,7 +104,7 @@ op_action _ n = none
 abbrev pub next_item : ℕ → Action
 next_item to = branch 0 iterator 1 (Again 0 ∷ Again 1 ∷ Again 2 ∷ Again 3 ∷ []) [] to
 
--- those that jump to the position, or have their handler there
+-- what the instructions do that jump to the position `to`, or have their handler there
 unfoldable pub jump_action : Op → ℕ → Action
 jump_action ops.Jump to = Jump to
 jump_action ops.PopJumpIfTrue to = branch 1 [] 0 [] [] to

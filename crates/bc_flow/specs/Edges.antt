@@ -188,7 +188,7 @@ abbrev pub is_marked : ℕ → List Entry → Bool
 is_marked to [] = true
 is_marked to (e ∷ es) = (if e.active then nat_le e.handler to else nat_lt to e.handler) && is_marked to es
 
--- the same of the entries of all edges
+-- in the entries of each edge, each is active exactly from its handler's position on
 abbrev pub all_marked : List Way → Bool
 all_marked [] = true
 all_marked (w ∷ ws) = is_marked w.to w.entries && all_marked ws
@@ -249,7 +249,7 @@ edge_to to slots es = record { to = to; at = record { slots = slots; entries = m
 abbrev pub edges : Code → Action → ℕ → At → List Edge
 edges code i p x = map (edge_of i x) (ways code i p (length x.slots) x.entries)
 
--- the same marks of the edges
+-- `all_marked`, of edges with what arrives
 abbrev pub edges_marked : List Edge → Bool
 edges_marked [] = true
 edges_marked (e ∷ es) = is_marked e.to e.at.entries && edges_marked es

@@ -23,7 +23,7 @@ pub record Leads (a : Assigned) (e : Edge) : Type 0 where
   pub is : a e.to ≡ Some at
   pub under : Under e.at at
 
--- the same of all edges
+-- the assignment has something at the end of each edge, above what arrives
 pub data Each (a : Assigned) : List Edge → Type 0 where
   none : Each a []
   also : {e : Edge} {es : List Edge} → Leads a e → Each a es → Each a (e ∷ es)
@@ -91,7 +91,7 @@ put [] n x = None
 put (c ∷ t) zero x = option_map (λ d. d ∷ t) (meet c x)
 put (c ∷ t) (suc n) x = option_map (λ u. c ∷ u) (put t n x)
 
--- the same for all edges
+-- the table after what the edges bring arrived, one after another, if it all may
 abbrev pub put_next : List Edge → Option Table → Option Table
 put_next es None = None
 put_next [] (Some t) = Some t
@@ -103,7 +103,7 @@ agrees_cell Unseen es = true
 agrees_cell (Pending y) es = same_entries y.entries es
 agrees_cell (Done y) es = same_entries y.entries es
 
--- the same of a position of the table
+-- the entries are those that hold at a position of the table, if any do
 abbrev pub agrees : Table → ℕ → List Entry → Bool
 agrees [] n es = false
 agrees (c ∷ t) zero es = agrees_cell c es
@@ -178,7 +178,7 @@ pub data Reached (code : Code) : Table → Type 0 where
   starts : Reached code (table_at (length code.actions))
   goes : {t u : Table} {p : ℕ} {x : At} → Reached code t → IsPending t p x → visit code t p x ≡ Good u → Reached code u
 
--- those that the walk comes to which takes the least position each time
+-- the tables that the walk comes to which takes the least pending position each time
 pub data Comes (code : Code) : Table → Type 0 where
   starts : Comes code (table_at (length code.actions))
   goes : {t u : Table} {p : ℕ} {x : At} → Comes code t → IsLeast t p x → visit code t p x ≡ Good u → Comes code u

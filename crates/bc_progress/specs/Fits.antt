@@ -62,14 +62,14 @@ FitsIn facts plans library (Stuck w) = ⊥
 abbrev pub Stands : Plans → Library → Frame → Type 0
 Stands = StandsIn anything
 
--- the same of a frame that waits
+-- a frame that waits stands as its flow says, whatever exceptions and methods there are
 abbrev pub Waits : Plans → Library → Frame → Type 0
 Waits = WaitsIn anything
 
--- the same of the frames below one
+-- the frames below one stand as their flows say, whatever exceptions and methods there are
 abbrev pub Below : Plans → Library → Role → List Frame → Type 0
 Below = BelowIn anything
 
--- the same of a state
+-- a state stands as the flows of its frames say, whatever exceptions and methods there are
 abbrev pub Fits : Plans → Library → State → Type 0
 Fits = FitsIn anything

@@ -41,7 +41,7 @@ pub data ShowsAllIn (facts : Facts) : List Slot → Stack → Type 0 where
 abbrev pub Shows : Slot → flow.Slot → Type 0
 Shows = ShowsIn anything
 
--- the same of slots one by one
+-- slots are the flow's, one by one, whatever exceptions and methods there are
 abbrev pub ShowsAll : List Slot → Stack → Type 0
 ShowsAll = ShowsAllIn anything
 

@@ -50,7 +50,7 @@ abbrev pub OfModule : (raw.Module → Type 0) → Stored → Type 0
 OfModule P (Kept m) = P m
 OfModule P Refused = Unit {0}
 
--- such a fact holds of each module that is stored
+-- the fact P holds of each module that is stored
 abbrev pub AllModules : (raw.Module → Type 0) → List (Name × Stored) → Type 0
 AllModules P [] = Unit {0}
 AllModules P (stored ∷ others) = OfModule P stored.1 × AllModules P others

@@ -28,7 +28,7 @@ module _ (below : Shelf) (image plan_name : List ℕ) (files : Option FileOf) wh
     pub runnable : IsRunnable shelf
     pub planned : HoldsPlan files plan_name plan
 
-  -- and the library has the module of each task
+  -- the files are such an image and the plan, and the library has the module of each task
   pub record CanStart (shelf : Shelf) (plan : Plan) : Type 0 where
     pub holds : Holds shelf plan
     pub modules : first_missing shelf plan.tasks ≡ None

@@ -55,7 +55,7 @@ standing (Some stops.Ended) = plain.Ended
 standing (Some (stops.Raised x)) = plain.Raised x.cell
 standing (Some (stops.Memory room)) = plain.Memory room
 
--- the same of a task, whose sink may have failed
+-- how a task ended, if it did: by a failed write where its sink failed, and else as the machine's run stands
 abbrev pub EndsBy : Bool → TaskRun → Option TaskEnd → Type 0
 EndsBy true run end = end ≡ Some ends.WriteFault
 EndsBy false run end = Ends run.vm.arena (standing run.vm.end) end
@@ -69,6 +69,6 @@ pub record UsesRoom {V N : Type 0} (heap : Heap V N) (room : Room) : Type 0 wher
   pub cells : room.cells ≡ used heap
   pub bytes : room.bytes ≡ heap.bytes
 
--- those of a task's arena
+-- the room that the objects of a task's arena use
 abbrev pub IsRoomOf : TaskRun → Room → Type 0
 IsRoomOf run room = UsesRoom run.vm.arena room

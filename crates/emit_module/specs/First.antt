@@ -14,7 +14,7 @@ pub record Site : Type 0 where
   pub line : ℕ
   pub depth : ℕ
 
--- those of the functions in a text of this depth, in text order
+-- where the functions in a text of this depth stand, in text order
 abbrev mutual
   pub sites : (depth : ℕ) → Block → List Site
   sites depth End = []

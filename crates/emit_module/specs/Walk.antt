@@ -184,7 +184,7 @@ BodyWalks source forest around (Ok inner) = IsWalked source forest (begun around
 BodyWalks source forest around (Err (Fault fault)) = Breaks source (begun around).depth (begun around).next forest fault
 BodyWalks source forest around (Err NoMemory) = Unit {0}
 
--- the same of a part of a source, whatever the source
+-- what a walk over a function's body comes to, of a part of a source, whatever the source
 pub record WalksBody (slots : List (List Name)) (part : Part Block) (around : Children) (r : Result Children (Refused SourceFault)) : Type 0 where
   pub by : (source : Source) → source.level ≡ around.level → source.locals ≡ slots → (n : ℕ) → BodyWalks source (planted (part.make n)) around r
 
@@ -239,7 +239,7 @@ TopWalks level source forest (Ok children) = IsWalked source forest (top level) 
 TopWalks level source forest (Err (Fault fault)) = Breaks source 0 0 forest fault
 TopWalks level source forest (Err NoMemory) = Unit {0}
 
--- the same of a part that is the whole of a source
+-- what a walk over a source comes to, of a part that is the whole of a source
 pub record WalksTop (level : ℕ) (slots : List (List Name)) (part : Part Block) (r : Result Children (Refused SourceFault)) : Type 0 where
   pub by : (source : Source) → source.level ≡ level → source.locals ≡ slots → (n : ℕ) → TopWalks level source (planted (part.make n)) r
 

@@ -75,7 +75,7 @@ parts_of pool own entries =
 abbrev pub first_front : List ℕ
 first_front = 0x4d ∷ 0x49 ∷ 1 ∷ 0x1f ∷ []
 
--- that of version 2, and the numbers of texts and modules below
+-- the header of version 2, and the numbers of texts and modules below
 abbrev pub second_front : Base → List ℕ
 second_front below = 0x4d ∷ 0x49 ∷ 2 ∷ 0x1f ∷ (vuint (length below.texts) ++ vuint (length below.names))
 

@@ -188,7 +188,7 @@ raw pool index used bytes = do
   parts ← body index (length texts.0.qstrs) texts.1
   pure ((module_of texts.0.qstrs parts.0, texts.0.used), parts.1)
 
--- the same of a module that must be verified
+-- the module at the place `index` behind its name, which must be verified, and how many texts are used then
 unfoldable pub held : Texts → ℕ → ℕ → List ℕ → Field (Module × ℕ)
 held pool index used bytes = do
   whole ← raw pool index used bytes

@@ -75,18 +75,18 @@ pub data Loads (Comes : OfNames) : (shelf : Shelf) → (size : ℕ) → (togethe
       → IsSome (member_of shelf name)
       → Loads Comes shelf size together found behind end
       → Loads Comes shelf size (name ∷ together) found behind end
-  -- its source isn't accepted
+  -- the source of the name isn't accepted
   unaccepted : (shelf : Shelf) (size : ℕ) (name : List ℕ) (together found behind : List (List ℕ)) (source : UnacceptedSource)
       → member_of shelf name ≡ None
       → Comes name (Err source)
       → Loads Comes shelf size (name ∷ together) found behind (Unaccepted source)
-  -- its file passes a limit
+  -- the file of the name passes a limit
   past : (shelf : Shelf) (size : ℕ) (name : List ℕ) (together found behind : List (List ℕ)) (entry : Entry) (limit : Limit)
       → member_of shelf name ≡ None
       → Comes name (Ok entry)
       → limit_of shelf size name entry ≡ Some limit
       → Loads Comes shelf size (name ∷ together) found behind (Past limit)
-  -- its file is taken, or absent
+  -- the file of the name is taken, or absent
   taken : (shelf : Shelf) (size : ℕ) (name : List ℕ) (together found behind : List (List ℕ)) (entry : Entry) (imports : List (List ℕ)) (end : Loading)
       → member_of shelf name ≡ None
       → Comes name (Ok entry)
@@ -109,6 +109,6 @@ LoadsBy None Comes main size end =
 abbrev pub LoadsWith : OfNames → (main : Module) → (size : ℕ) → Loading → Type 0
 LoadsWith Comes main size end = LoadsBy (limit_of no_entries 0 main_name (entries.Held main size)) Comes main size end
 
--- the same from the files of modules in a base folder
+-- from a main module, whose file has `size` bytes, and the files of modules in a base folder
 abbrev pub LoadsFrom : FileOf → (base : List ℕ) → (main : Module) → (size : ℕ) → Loading → Type 0
 LoadsFrom files base main size end = LoadsWith (ComesTo files base) main size end

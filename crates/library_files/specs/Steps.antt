@@ -71,13 +71,13 @@ AsksAll Comes old new names before after result =
     (behind : List (List ℕ)) → GoesOn (Loads Comes old.library old.size names before behind)
     (λ done. Loads Comes new.library new.size [] after behind) result
 
--- the same where none was found before
+-- where names are asked for one after another, and none was found before
 abbrev pub AsksFound : OfNames → (old new : Begun) → (names : List (List ℕ)) → Result (Vec (List ℕ) Global) (Refused LoadFault) → Type 0
 AsksFound Comes old new names result =
     (behind : List (List ℕ)) → GoesOn (Loads Comes old.library old.size names [] behind)
     (λ found. Loads Comes new.library new.size [] found.items behind) result
 
--- the same for all the imports that are left
+-- where all the imports that are left are asked for one after another
 abbrev pub LoadsLeft : OfNames → (old new : Begun) → (left : List (List ℕ)) → Result (Unit {0}) (Refused LoadFault) → Type 0
 LoadsLeft Comes old new left result =
     GoesOn (Loads Comes old.library old.size [] left []) (λ done end. end ≡ loads.Loaded new.library) result

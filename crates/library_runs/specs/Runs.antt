@@ -133,7 +133,8 @@ pub record RunsAs (shelf : Shelf) (name : Name) (room : Room) (steps : ℕ) (old
   pub runs : (p : Program) → IsProgramOf shelf p → (ports : List PortState) (printed : List ℕ) → old.out ≡ Some printed → Tell old.ports ports
       → EndsSo p name room steps ports old new end said ⊎ Strayed p name room steps ports printed old new
 
--- the same of a run in which no port strayed
+-- how a run of the library's module of this name ended in which no port strayed, in this room and with this bound on its steps: so in each
+-- program of the library, of which there is one
 abbrev pub RunsSo : Shelf → Name → Room → (steps : ℕ) → (old new : Sight) → RunEnd → (said : List ℕ) → Type 0
 RunsSo shelf name room steps old new end said =
     (p : Program) → IsProgramOf shelf p → (ports : List PortState) (printed : List ℕ) → old.out ≡ Some printed → Tell old.ports ports

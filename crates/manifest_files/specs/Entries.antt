@@ -80,7 +80,7 @@ include_saying opened name line path =
     if is_ascii path then (if is_open opened (folder_of name ++ path) then faulty (Loop (folder_of name ++ path)) else Another (folder_of name ++ path))
     else faulty (BadCall name line)
 
--- its names and its path are ASCII, as each literal is, and its level is one of the four
+-- an entry whose names and path are ASCII, as each literal is, and whose level is one of the four
 abbrev pub is_plain : Entry → Bool
 is_plain entry = is_ascii entry.«module» && (is_ascii entry.path && (is_ascii entry.source && nat_le entry.opt 3))
 

@@ -19,25 +19,25 @@ form_of name =
 
 -- ---- parameters, counted from 0
 
--- those of `include`
+-- the place of a parameter of `include`
 abbrev pub include_place : List ℕ → Option ℕ
 include_place name = if bytes_eq name (codes "manifest_path") then Some 0 else None
 
--- those of `module`
+-- the place of a parameter of `module`
 abbrev pub module_place : List ℕ → Option ℕ
 module_place name =
     if bytes_eq name (codes "module_path") then Some 0
     else (if bytes_eq name (codes "base_path") then Some 1
     else (if bytes_eq name (codes "opt") then Some 2 else None))
 
--- those of `freeze`
+-- the place of a parameter of `freeze`
 abbrev pub freeze_place : List ℕ → Option ℕ
 freeze_place name =
     if bytes_eq name (codes "path") then Some 0
     else (if bytes_eq name (codes "script") then Some 1
     else (if bytes_eq name (codes "opt") then Some 2 else None))
 
--- those of `package`
+-- the place of a parameter of `package`
 abbrev pub package_place : List ℕ → Option ℕ
 package_place name =
     if bytes_eq name (codes "package_path") then Some 0
@@ -70,7 +70,7 @@ abbrev pub nameless : Argument → Option (List ℕ) → Option Literal
 nameless argument None = Some argument.value
 nameless argument (Some name) = None
 
--- the same, where there is an argument
+-- the value of an argument without a name, where there is an argument
 abbrev pub nameless_in : Option Argument → Option Literal
 nameless_in None = None
 nameless_in (Some argument) = nameless argument argument.name

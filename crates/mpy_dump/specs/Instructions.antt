@@ -47,7 +47,7 @@ operand_text m end (Binary op) = codes " " ++ binary_sign op
 abbrev pub instr_head : ℕ → ℕ → Instr → List ℕ
 instr_head start line instr = decimal start ++ (codes " " ++ (decimal line ++ (codes " " ++ instr_name instr)))
 
--- the same with the blank behind the line, and what follows it up to the line's end
+-- what a line of an instruction begins with: the offset and the line, each with a blank behind
 abbrev pub head_text : ℕ → ℕ → List ℕ
 head_text start line = decimal start ++ (codes " " ++ (decimal line ++ codes " "))
 

@@ -62,7 +62,7 @@ operation_name StoreFast = codes "STORE_FAST"
 abbrev pub unary_signs : List (List ℕ)
 unary_signs = codes "+" ∷ codes "-" ∷ codes "~" ∷ codes "not" ∷ []
 
--- those of operators with two operands: comparisons, then in place, then plain
+-- the signs of operators with two operands, by their numbers: comparisons, then in place, then plain
 abbrev pub binary_signs : List (List ℕ)
 binary_signs =
     codes "<" ∷ codes ">" ∷ codes "==" ∷ codes "<=" ∷ codes ">=" ∷ codes "!=" ∷ codes "in" ∷ codes "is" ∷ codes "match"

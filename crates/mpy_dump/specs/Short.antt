@@ -12,7 +12,7 @@ use Rattle.mpy_dump.specs.Instructions.{head_text, instr_tail}
 abbrev pub short_text : Short → List ℕ
 short_text short = take short.len short.bytes
 
--- its digit is put into its text
+-- what a line begins with: the text of the head, with its last digit put in
 abbrev pub begins : Head → List ℕ
 begins head = slice_set (short_text head.text) head.last head.digit
 

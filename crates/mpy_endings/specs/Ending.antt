@@ -78,7 +78,7 @@ is_output_fault (boards.Plan fault) = false
 is_output_fault (boards.NoModule name) = false
 is_output_fault (boards.Unwritten task) = true
 
--- the same of an ending
+-- whether the folder's count of faults rose where a command ended so
 abbrev pub is_folder_fault : Ending → Bool
 is_folder_fault Done = false
 is_folder_fault (Unaccepted fault) = false
@@ -121,7 +121,7 @@ is_stop_said Raised = true
 is_stop_said Memory = true
 is_stop_said (Steps count) = false
 
--- the same of an ending
+-- whether it was said in the run how the command ended
 abbrev pub is_said : Ending → Bool
 is_said Done = false
 is_said (Unaccepted fault) = false
@@ -147,7 +147,7 @@ IsSettledStop Raised = Unit {0}
 IsSettledStop Memory = Unit {0}
 IsSettledStop (Steps count) = Unit {0}
 
--- the same of an ending
+-- neither a call that failed outside nor want of memory cut the command short that ended so
 abbrev pub IsSettled : Ending → Type 0
 IsSettled Done = Unit {0}
 IsSettled (Unaccepted fault) = Unit {0}

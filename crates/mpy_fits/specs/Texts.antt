@@ -39,6 +39,6 @@ code_fits code = text_fits (out-Code code).name && (list_all text_fits (out-Code
 abbrev pub module_fits : ModuleCode → Bool
 module_fits m = text_fits m.source && list_all code_fits (codes m)
 
--- the same as a fact
+-- the texts of a module are no longer than a file, as a fact
 abbrev pub TextsFit : ModuleCode → Type 0
 TextsFit m = module_fits m ≡ true

@@ -21,7 +21,7 @@ pub record IsFirstFarIn (tables : Tables) (modules : List Module) (place : ℕ) 
   pub far : IsFarAt tables modules place
   pub before : (earlier : ℕ) → earlier < place → IsFarAt tables modules earlier → ⊥
 
--- the same with the tables that the modules are merged to
+-- the module at the place is the first with such a code, by the tables that the modules are merged to
 pub record IsFirstFar (modules : List Module) (place : ℕ) : Type 0 where
   pub tables : Tables
   pub are_tables : AreTables modules tables

@@ -68,7 +68,7 @@ abbrev pub Gives : {A B : Type 0} → (A → B) → Result A (Refused FileFault)
 Gives view (Ok x) R = R (Ok (view x))
 Gives view (Err refusal) R = Fails refusal R
 
--- the same of a call that gives no value: some value is read
+-- a call that gives no value answers Ok where some value is read, and else the fault that is read
 abbrev pub Holds : {A B : Type 0} → Result A (Refused FileFault) → Reading B → Type 0
 Holds {B = B} (Ok _) R = (x : B) × R (Ok x)
 Holds (Err refusal) R = Fails refusal R

@@ -52,23 +52,23 @@ IsQstr text (Own own) = IsOwn text own
 abbrev pub tag_none : ℕ
 tag_none = 1
 
--- that of False
+-- the tag of False
 abbrev pub tag_false : ℕ
 tag_false = 2
 
--- that of True
+-- the tag of True
 abbrev pub tag_true : ℕ
 tag_true = 3
 
--- that of a text
+-- the tag of a text
 abbrev pub tag_str : ℕ
 tag_str = 5
 
--- that of an integer
+-- the tag of an integer
 abbrev pub tag_int : ℕ
 tag_int = 7
 
--- that of a tuple
+-- the tag of a tuple
 abbrev pub tag_tuple : ℕ
 tag_tuple = 10
 

@@ -17,7 +17,7 @@ abbrev pub object_in : Resolved → List Val
 object_in (object value) = value ∷ []
 object_in instr = []
 
--- those of a code without its children: its name, its arguments, and its instructions in their order
+-- the texts that a code without its children names: its name, its arguments, and those of its instructions in their order
 abbrev pub body_texts : Body → List (List ℕ)
 body_texts body = body.name ∷ (body.args ++ flat_map text_in (instrs_of body))
 
@@ -25,7 +25,7 @@ body_texts body = body.name ∷ (body.args ++ flat_map text_in (instrs_of body))
 abbrev pub body_objects : Body → List Val
 body_objects body = flat_map object_in (instrs_of body)
 
--- those of a code and then of its children, one after another
+-- what `of_body` gives of a code and then of its children, one after another
 abbrev mutual
   pub in_tree : {A : Type 0} → (Body → List A) → Tree → List A
   in_tree of_body (node body children) = of_body body ++ in_trees of_body children

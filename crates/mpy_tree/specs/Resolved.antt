@@ -93,7 +93,7 @@ resolved_instr m (instrs.Name op n) = named_at m op n
 resolved_instr m (instrs.Num LoadConstObj n) = object_at m n
 resolved_instr m instr = plain instr
 
--- the same of an item of a code's list, whose jumps have their targets already
+-- an item of a code's list, whose jumps have their targets already, with the text or the object that its number leads to
 abbrev pub resolved : Module → listings.Item → Resolved
 resolved m (listed.Plain instr) = resolved_instr m instr
 resolved m (listed.Jump op target) = jump op target

@@ -27,7 +27,7 @@ abbrev pub object_in : Item → List Constant
 object_in (items.Object object) = object ∷ []
 object_in item = []
 
--- those that a code names: its name, its arguments and its instructions' texts
+-- the texts that a code names: its name, its arguments and its instructions' texts
 abbrev pub texts_in : Code → List (List ℕ)
 texts_in code = (out-Code code).name ∷ ((out-Code code).args ++ flat_map text_in (out-Code code).instrs)
 
@@ -35,7 +35,7 @@ texts_in code = (out-Code code).name ∷ ((out-Code code).args ++ flat_map text_
 abbrev pub objects_in : Code → List Constant
 objects_in code = flat_map object_in (out-Code code).instrs
 
--- those that a module names, as often as it names them
+-- the texts that a module names, as often as it names them
 abbrev pub texts_used : ModuleCode → List (List ℕ)
 texts_used m = m.source ∷ flat_map texts_in (codes m)
 

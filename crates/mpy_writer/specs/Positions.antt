@@ -36,13 +36,13 @@ abbrev pub signed_in : Item → Bool
 signed_in (items.Jump op position) = is_signed (form_of (code_of op))
 signed_in item = true
 
--- its instruction
+-- the instruction of an item that names another, by the offset; none of other items
 abbrev pub jump_in : Item → ℤ → Bool → List Instr
 jump_in (items.Jump op position) offset wide = instrs.Jump op offset wide ∷ []
 jump_in (items.Unwind position byte) offset wide = instrs.Unwind offset wide byte ∷ []
 jump_in item offset wide = []
 
--- its bytes, of which one is the offset's
+-- the bytes of an item that names another, of which one is the offset's; 0 of other items
 abbrev pub short_size : Item → ℕ
 short_size (items.Jump op position) = 2
 short_size (items.Unwind position byte) = 3

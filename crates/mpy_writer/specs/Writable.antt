@@ -92,7 +92,7 @@ pub record IsCodeWith (IsItem : ℕ → Item → Type 0) (code : Code) : Type 0 
 abbrev pub IsSoundCode : Code → Type 0
 IsSoundCode code = IsCodeWith IsSoundItem code
 
--- the same of one whose plain instructions may have the number of a text or an object
+-- a code that may be written, whose plain instructions may have the number of a text or an object, but no place
 abbrev pub IsNumberedCode : Code → Type 0
 IsNumberedCode code = IsCodeWith IsNumberedItem code
 

@@ -10,7 +10,7 @@ use Rattle.py_meaning.specs.Program.{Source}
 abbrev pub names_of : List Alias → List Name
 names_of aliases = map (λ (a : Alias). a.name) aliases
 
--- those of a text's own statements. The body of a function is another text
+-- the names that a text's own statements import. The body of a function is another text
 abbrev mutual
   pub imports : Block → List Name
   imports End = []
@@ -52,6 +52,6 @@ abbrev mutual
   imports_by (On line test body handlers) = imports body ++ imports_by handlers
   imports_by (OnAs line test name body handlers) = imports body ++ imports_by handlers
 
--- those of the module's own statements, and of each function's
+-- the names that a module's own statements import, and those of each function
 abbrev pub source_imports : Source → List Name
 source_imports source = imports source.body ++ flat_map (λ (f : Function). imports f.body) (functions source.body)

@@ -49,7 +49,7 @@ pub data LoadsSources (files : FileOf) (base : List ℕ) (level : ℕ)
       → IsSome (entry_in entries name)
       → LoadsSources files base level entries together found behind all
       → LoadsSources files base level entries (name ∷ together) found behind all
-  -- its source is taken, or absent
+  -- the source of the name is taken, or absent
   taken : (entries : List (Name × Entry)) (name : Name) (together found behind : List Name) (source : Option Source) (all : List (Name × Entry))
       → entry_in entries name ≡ None
       → HoldsSource files base level name source

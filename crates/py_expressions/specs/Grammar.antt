@@ -141,12 +141,12 @@ mutual
 
 -- ---- the tokens of a reading, and then these
 
--- those of further strings
+-- the tokens of further strings, and then these
 abbrev pub strings_text : Strings → List Token → List Token
 strings_text no_string rest = rest
 strings_text (string l text ss) rest = at l (tok.Str text) ∷ strings_text ss rest
 
--- those of the operator of a comparison
+-- the tokens of the operator of a comparison, and then these
 abbrev pub comparison_text : Comparison → List Token → List Token
 comparison_text (alone l kind how is) rest = at l kind ∷ rest
 comparison_text (not_in l r) rest = at l (tok.Word word.Not) ∷ at r (tok.Word word.In) ∷ rest

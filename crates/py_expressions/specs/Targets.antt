@@ -48,17 +48,17 @@ mutual
 
 -- ---- the tokens of a reading, and then these
 
--- those of what a primary ends in
+-- the tokens of what a primary ends in, and then these
 abbrev pub ending_text : Ending → List Token → List Token
 ending_text (attribute l r text) rest = at l (tok.Op op.Dot) ∷ at r (tok.Name text) ∷ rest
 ending_text (index l m r) rest = at l (tok.Op op.OpenBracket) ∷ members_text m (at r (tok.Op op.CloseBracket) ∷ rest)
 
--- those of one target
+-- the tokens of one target, and then these
 abbrev pub one_text : One → List Token → List Token
 one_text (One.variable l text) rest = at l (tok.Name text) ∷ rest
 one_text (part a ts e) rest = atom_text a (trailers_text ts (ending_text e rest))
 
--- those of a target of `del`
+-- the tokens of a target of `del`, and then these
 abbrev pub gone_text : Gone → List Token → List Token
 gone_text (Gone.variable l text) rest = at l (tok.Name text) ∷ rest
 gone_text (item a ts l m r) rest = atom_text a (trailers_text ts (ending_text (index l m r) rest))
@@ -84,12 +84,12 @@ abbrev pub ending_tree : Ending → Expr → Target
 ending_tree (attribute l r text) object = target.Attr object text
 ending_tree (index l m r) object = target.Index object (members_tree m)
 
--- that of one target
+-- the tree of one target
 abbrev pub one_tree : One → Target
 one_tree (One.variable l text) = target.Name text
 one_tree (part a ts e) = ending_tree e (trailers_tree ts (atom_tree a))
 
--- that of a target of `del`
+-- the tree of a target of `del`
 abbrev pub gone_tree : Gone → Target
 gone_tree (Gone.variable l text) = target.Name text
 gone_tree (item a ts l m r) = target.Index (trailers_tree ts (atom_tree a)) (members_tree m)
@@ -124,7 +124,7 @@ abbrev mutual
   more_last (last_comma l) = true
   more_last (comma l a cs) = more_last cs
 
--- that of targets: one without a comma is itself, and others are unpacked
+-- the tree of targets: one without a comma is itself, and others are unpacked
 abbrev pub aims_tree : Aims → Target
 aims_tree gs = unpacks (aims_list gs) (aims_last gs)
 
@@ -192,13 +192,13 @@ item_of x = item_by (out-Expr x)
 abbrev pub whole_of : Bool → Expr → Option Target
 whole_of deletes = if deletes then item_of else part_of
 
--- What an atom alone is as either: a name that no bracket encloses, so that a name is its first token.
+-- the target that an atom alone is, to be assigned or deleted: a name that no bracket encloses, so that a name is its first token
 abbrev pub alone_by : Bool → Layer → Option Target
 alone_by false _ = None
 alone_by true (Expr-F.Name text) = Some (target.Name text)
 alone_by true _ = None
 
--- the same of a whole expression
+-- the target that a whole expression alone is, to be assigned or deleted
 unfoldable pub alone_of : Bool → Expr → Option Target
 alone_of is_name x = alone_by is_name (out-Expr x)
 

@@ -93,12 +93,12 @@ first_text (for_ l gs r m c) rest = at l (tok.Word word.For) ∷ aims_text gs (a
 first_text (try_ l c) rest = at l (tok.Word word.Try) ∷ at c (tok.Op op.Colon) ∷ rest
 first_text (def_ l n b ps fit e c) rest = at l (tok.Word word.Def) ∷ name_text n (at b (tok.Op op.OpenParen) ∷ parameters_text ps (at e (tok.Op op.CloseParen) ∷ at c (tok.Op op.Colon) ∷ rest))
 
--- those of `as` and a name, if they stand there
+-- the tokens of `as` and a name, if they stand there, and then these
 abbrev pub naming_text : Option Naming → List Token → List Token
 naming_text None rest = rest
 naming_text (Some n) rest = at n.place (tok.Word word.As) ∷ name_text n.name rest
 
--- those of the header of a further clause
+-- the tokens of the header of a further clause, and then these
 abbrev pub later_text : Later → List Token → List Token
 later_text (elif l t c) rest = at l (tok.Word word.Elif) ∷ test_text t (at c (tok.Op op.Colon) ∷ rest)
 later_text (else_ l c) rest = at l (tok.Word word.Else) ∷ at c (tok.Op op.Colon) ∷ rest

@@ -74,17 +74,17 @@ abbrev mutual
   TargetsSpelled (Only t) = TargetSpelled t
   TargetsSpelled (Then t ts) = TargetSpelled t × TargetsSpelled ts
 
--- the same of a name that may be missing
+-- a name that may be missing is ASCII
 abbrev pub IsAsciiOption : Option Name → Type 0
 IsAsciiOption None = Unit {0}
 IsAsciiOption (Some name) = IsAscii name
 
--- the same of what is imported, and of the names that it is bound to
+-- what is imported, and the names that it is bound to, are ASCII
 abbrev pub AliasesSpelled : List Alias → Type 0
 AliasesSpelled [] = Unit {0}
 AliasesSpelled (alias ∷ aliases) = (IsAscii alias.name × IsAsciiOption alias.bound) × AliasesSpelled aliases
 
--- the same of each name
+-- each name is ASCII
 abbrev pub AllAscii : List Name → Type 0
 AllAscii [] = Unit {0}
 AllAscii (name ∷ names) = IsAscii name × AllAscii names
@@ -147,7 +147,7 @@ pub record FunctionSpelled (f : Function) : Type 0 where
   pub from_one : 1 ≤ first
   pub body : BlockSpelled first last f.body
 
--- the same of each function
+-- each function: its name, its parameters and its body
 abbrev pub FunctionsSpelled : List Function → Type 0
 FunctionsSpelled [] = Unit {0}
 FunctionsSpelled (f ∷ fs) = FunctionSpelled f × FunctionsSpelled fs

@@ -93,46 +93,46 @@ pub data Line : Type 0 where
 
 -- ---- the tokens of a reading, and then these
 
--- those of a name
+-- the tokens of a name, and then these
 abbrev pub name_text : Name → List Token → List Token
 name_text n rest = at n.place (tok.Name n.text) ∷ rest
 
--- those of a dotted name
+-- the tokens of a dotted name, and then these
 abbrev pub dotted_text : Dotted → List Token → List Token
 dotted_text (Dotted.last n) rest = name_text n rest
 dotted_text (dotted n l d) rest = name_text n (at l (tok.Op op.Dot) ∷ dotted_text d rest)
 
--- those of a path, with its `as` and a name if it has them
+-- the tokens of a path, with its `as` and a name if it has them, and then these
 abbrev pub renamed_text : {Path : Type 0} → (Path → List Token → List Token) → Renamed Path → List Token → List Token
 renamed_text text (same p) rest = text p rest
 renamed_text text (renamed p l n) rest = text p (at l (tok.Word word.As) ∷ name_text n rest)
 
--- those of items with commas between
+-- the tokens of items with commas between, and then these
 abbrev pub series_text : {Item : Type 0} {bracketed : Bool} → (Item → List Token → List Token) → Series Item bracketed → List Token → List Token
 series_text text (Series.last x) rest = text x rest
 series_text text (last_comma x l) rest = text x (at l (tok.Op op.Comma) ∷ rest)
 series_text text (comma x l xs) rest = text x (at l (tok.Op op.Comma) ∷ series_text text xs rest)
 
--- those of an item that may be missing
+-- the tokens of an item that may be missing, and then these
 abbrev pub option_text : {Item : Type 0} → (Item → List Token → List Token) → Option Item → List Token → List Token
 option_text text None rest = rest
 option_text text (Some x) rest = text x rest
 
--- those of an assignment
+-- the tokens of an assignment, and then these
 abbrev pub assigned_text : Assigned → List Token → List Token
 assigned_text (value gs l m) rest = aims_text gs (at l (tok.Op op.Assign) ∷ members_text m rest)
 assigned_text (again gs l a) rest = aims_text gs (at l (tok.Op op.Assign) ∷ assigned_text a rest)
 
--- those of what `from` imports
+-- the tokens of what `from` imports, and then these
 abbrev pub imported_text : Imported → List Token → List Token
 imported_text (bare ns) rest = series_text (renamed_text name_text) ns rest
 imported_text (round l ns r) rest = at l (tok.Op op.OpenParen) ∷ series_text (renamed_text name_text) ns (at r (tok.Op op.CloseParen) ∷ rest)
 
--- those of the message of an assertion
+-- the tokens of the message of an assertion, and then these
 abbrev pub message_text : Message → List Token → List Token
 message_text m rest = at m.place (tok.Op op.Comma) ∷ test_text m.test rest
 
--- those of a small statement
+-- the tokens of a small statement, and then these
 abbrev pub small_text : Small → List Token → List Token
 small_text (tests m) rest = members_text m rest
 small_text (assigned a) rest = assigned_text a rest
@@ -148,7 +148,7 @@ small_text (assert l t m) rest = at l (tok.Word word.Assert) ∷ test_text t (op
 small_text (import l ns) rest = at l (tok.Word word.Import) ∷ series_text (renamed_text dotted_text) ns rest
 small_text (from l d r ns) rest = at l (tok.Word word.From) ∷ dotted_text d (at r (tok.Word word.Import) ∷ imported_text ns rest)
 
--- those of a line
+-- the tokens of a line, and then these
 abbrev pub line_text : Line → List Token → List Token
 line_text (Line.last one n) rest = small_text one (at n tok.Newline ∷ rest)
 line_text (last_semicolon one l n) rest = small_text one (at l (tok.Op op.Semicolon) ∷ at n tok.Newline ∷ rest)

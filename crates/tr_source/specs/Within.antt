@@ -26,7 +26,7 @@ pub record IsWithin (text : Text) : Type 0 where
   pub arguments : most_arguments text.level text.body ≤ MAX_ARGUMENTS
   pub pairs : most_pairs text.level text.body ≤ MAX_ITEMS
 
--- the same of each text
+-- each text keeps the limits that are counted on its tree
 abbrev pub AllWithin : List Text → Type 0
 AllWithin [] = Unit {0}
 AllWithin (text ∷ texts) = IsWithin text × AllWithin texts

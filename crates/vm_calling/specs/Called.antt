@@ -117,7 +117,8 @@ CallsIn told count shelf fetched callee given before behind old new result =
     → (w : PlainWorld) → told before.out ≡ Some w.output → Tell before.ports w.ports
     → CallComes told count p ready.place callee given before behind old new w result
 
--- the same of a call that puts nothing and calls no port, in each world
+-- a call that puts nothing and calls no port comes to this, in each program of the library that the old calls run, where this was fetched
+-- for the first of them, and in each world
 abbrev pub ComesIn : Shelf → Fetched → Callee → Given → (before behind : Heap Value ℕ) → (old new : Calls) → Result (Unit {0}) Stop → Type 0
 ComesIn shelf fetched callee given before behind old new result =
     (p : Program) (row : Row) → Means p → p.shelf ≡ shelf → IsState p before.objects old → (ready : IsReady p old row fetched)

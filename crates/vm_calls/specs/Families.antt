@@ -9,7 +9,7 @@ IsOfPorts builtins.PortGet = Unit {0}
 IsOfPorts builtins.PortCount = Unit {0}
 IsOfPorts _ = ⊥
 
--- those that concern the heap alone: no print, no port, and not the module of the ports
+-- the built-ins that concern the heap alone: no print, no port, and not the module of the ports
 abbrev pub IsOnHeap : Builtin → Type 0
 IsOnHeap builtins.Print = ⊥
 IsOnHeap builtins.Port = ⊥

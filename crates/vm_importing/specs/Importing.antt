@@ -31,7 +31,7 @@ pub record HasOperands (from level : Value) (c : Call) : Type 0 where
   pub from_is : slice_get c.slots 0 ≡ Some (slots.Value from)
   pub level_is : slice_get c.slots 1 ≡ Some (slots.Value level)
 
--- the same of the running call
+-- the running call's top slots: the names that are imported from the module, or None, and the level below
 abbrev pub AreOperands : (from level : Value) → List Call → Type 0
 AreOperands from level calls = OfRunning (HasOperands from level) calls
 

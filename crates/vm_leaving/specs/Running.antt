@@ -51,7 +51,8 @@ pub record RunsAt (texts : StrNo → Option (List ℕ)) (tuples : ConstNo → Op
   pub number : ℕ
   pub verified : IsVerifiedRow program.shelf number row
 
--- the same of a program of the shelf, with these modules registered
+-- the calls run a program of the shelf with these texts, tuples, names of modules and modules registered, and this was fetched for the
+-- first of them, of its row
 pub record RunsWith (texts : StrNo → Option (List ℕ)) (tuples : ConstNo → Option (List Value)) (names : List ModuleName) (shelf : Shelf) (heap : Heap Value ℕ) (modules : Registry) (s : Calls) (row : Row) (fetched : Fetched) : Type 0 where
   pub runs : RunsAt texts tuples names heap.objects s row fetched
   pub shelf_is : runs.program.shelf ≡ shelf

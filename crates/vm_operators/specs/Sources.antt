@@ -39,7 +39,7 @@ abbrev pub IsOtherThan : ℕ → Value → Type 0
 IsOtherThan n (values.Text t) = t.cell ≢ n
 IsOtherThan n _ = Unit {0}
 
--- the same of each part
+-- no part is the text of this number
 abbrev pub IsApart : ℕ → Source → Type 0
 IsApart n (sources.Joined left right) = IsOtherThan n left × IsOtherThan n right
 IsApart n (sources.Repeated times of) = IsOtherThan n of
@@ -52,7 +52,7 @@ IsElsewhere n (values.Dict d) = d.cell ≢ n
 IsElsewhere n (values.Range r) = r.cell ≢ n
 IsElsewhere n _ = Unit {0}
 
--- the same of each part
+-- no part is the object of this number, whose items it could have
 abbrev pub AreElsewhere : ℕ → Source → Type 0
 AreElsewhere n (sources.Joined left right) = IsElsewhere n left × IsElsewhere n right
 AreElsewhere n (sources.Repeated times of) = IsElsewhere n of

@@ -42,7 +42,7 @@ module _ (plan : Plan) (library : Library) (code : Code) (frame : Frame) where
     pub operator : TwoValued
     pub is : operator_at n ≡ Some operator
 
-  -- those without an operand. No other operation is among them
+  -- what an operation without an operand finds; no other operation is one
   abbrev pub FindsPlain : Op → Type 0
   FindsPlain ops.LoadConstFalse = HasRoom 0 1
   FindsPlain ops.LoadConstNone = HasRoom 0 1
@@ -63,7 +63,7 @@ module _ (plan : Plan) (library : Library) (code : Code) (frame : Frame) where
   FindsPlain ops.RaiseObj = OneValue frame.slots
   FindsPlain _ = ⊥
 
-  -- those that name a text
+  -- what an operation finds that names a text
   abbrev pub FindsNames : Op → Type 0
   FindsNames ops.LoadConstString = HasRoom 0 1
   FindsNames ops.LoadName = HasRoom 0 1
@@ -79,7 +79,7 @@ module _ (plan : Plan) (library : Library) (code : Code) (frame : Frame) where
   FindsNames ops.ImportFrom = OneValue frame.slots × HasRoom 1 2
   FindsNames _ = ⊥
 
-  -- those with a number
+  -- what an operation with a number finds
   abbrev pub FindsNumber : Op → ℕ → Type 0
   FindsNumber ops.LoadFast n = HasRoom 0 1
   FindsNumber ops.LoadFastN n = HasRoom 0 1

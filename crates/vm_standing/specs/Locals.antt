@@ -14,7 +14,7 @@ InstrIsWithin locals (instrs.Num ops.StoreFastN n) = n < locals
 InstrIsWithin locals (instrs.Num ops.DeleteFast n) = n < locals
 InstrIsWithin locals instr = Unit {0}
 
--- the same of any instruction
+-- the local that any instruction names, if it names one, is one of `locals`
 abbrev pub IsWithinLocals : (locals : ℕ) → Item → Type 0
 IsWithinLocals locals (Plain instr) = InstrIsWithin locals instr
 IsWithinLocals locals (Names op name) = Unit {0}
