@@ -60,7 +60,7 @@ abbrev pub instrs_to : List Labelled → List Bool → ℕ → List Instr
 instrs_to items widths zero = []
 instrs_to items widths (suc i) = instrs_to items widths i ++ instr_of (item_at items i) (offset items widths i) (width_at widths i)
 
--- those of all items
+-- the instructions of all items
 abbrev pub instrs_of : List Labelled → List Bool → List Instr
 instrs_of items widths = instrs_to items widths (length items)
 

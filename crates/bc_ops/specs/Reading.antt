@@ -17,7 +17,7 @@ ReadsNumber bytes (Err faults.Truncated) = numbers.EndsInside bytes
 ReadsNumber bytes (Err faults.BadNumber) = numbers.PassesForm bytes
 ReadsNumber bytes (Err fault) = ⊥
 
--- the same of groups, of a signed number and of an offset
+-- what is read of groups: the number that those in front of the bytes are, or why there is none
 abbrev pub ReadsGroups : List ℕ → Result (ℕ × ℕ) CodeFault → Type 0
 ReadsGroups bytes (Ok found) = (text rest : List ℕ) × numbers.Groups text found.0 × (bytes ≡ text ++ rest) × (found.1 ≡ length text)
 ReadsGroups bytes (Err faults.Truncated) = numbers.EndsInside bytes

@@ -61,27 +61,27 @@ code_of RaiseObj = 0x65
 code_of LoadFast = 0xb0
 code_of StoreFast = 0xc0
 
--- the forms of the first bytes below 0x70
+-- the forms of the first bytes of instructions that name a text
 abbrev pub name_rows : List Form
 name_rows =
     Name LoadConstString ∷ Name LoadName ∷ Name LoadGlobal ∷ Name LoadAttr ∷ Name LoadMethod ∷ Name StoreName ∷
     Name StoreGlobal ∷ Name StoreAttr ∷ Name DeleteName ∷ Name DeleteGlobal ∷ Name ImportName ∷ Name ImportFrom ∷ []
 
--- those of instructions with a number
+-- the forms of the first bytes of instructions with a number
 abbrev pub number_rows : List Form
 number_rows =
     Signed ∷ Number LoadConstObj ∷ Number LoadFastN ∷ Number StoreFastN ∷ Number DeleteFast ∷ Number BuildTuple ∷
     Number BuildList ∷ Number BuildMap ∷ Number UnpackSequence ∷ Number MakeFunction ∷ Number MakeFunctionDefargs ∷
     Call CallFunction ∷ Call CallMethod ∷ []
 
--- those of jumps
+-- the forms of the first bytes of jumps
 abbrev pub jump_rows : List Form
 jump_rows =
     Unwind ∷ Offset Jump true ∷ Offset PopJumpIfTrue true ∷ Offset PopJumpIfFalse true ∷
     Offset JumpIfTrueOrPop false ∷ Offset JumpIfFalseOrPop false ∷ Offset SetupExcept false ∷
     Offset SetupFinally false ∷ Offset PopExceptJump false ∷ Offset ForIter false ∷ []
 
--- those of instructions without an operand
+-- the forms of the first bytes of instructions without an operand
 abbrev pub plain_rows : List Form
 plain_rows =
     Whole (Plain LoadConstFalse) ∷ Whole (Plain LoadConstNone) ∷ Whole (Plain LoadConstTrue) ∷
@@ -90,7 +90,7 @@ plain_rows =
     Whole (Plain EndFinally) ∷ Whole (Plain GetIterStack) ∷ Whole (Plain StoreMap) ∷ Whole (Plain ReturnValue) ∷
     Whole (Plain RaiseLast) ∷ Whole (Plain RaiseObj) ∷ []
 
--- the first byte of such a row
+-- the first byte of the instructions of a form in these lists, and 0 of another form
 abbrev pub byte_of : Form → ℕ
 byte_of (Whole (Plain op)) = code_of op
 byte_of (Name op) = code_of op
@@ -101,23 +101,23 @@ byte_of (Offset op signed) = code_of op
 byte_of Unwind = 0x40
 byte_of form = 0
 
--- the first bytes of the instructions that aren't supported
+-- the first bytes that aren't supported among those of instructions that name a text
 abbrev pub name_outside : List ℕ
 name_outside = 0x15 ∷ []
 
--- those among the instructions with a number
+-- the first bytes that aren't supported among those of instructions with a number
 abbrev pub number_outside : List ℕ
 number_outside = 0x20 ∷ 0x21 ∷ 0x25 ∷ 0x27 ∷ 0x29 ∷ 0x2d ∷ 0x2e ∷ 0x2f ∷ 0x31 ∷ 0x35 ∷ 0x37 ∷ []
 
--- those among the jumps
+-- the first bytes that aren't supported among those of jumps
 abbrev pub jump_outside : List ℕ
 jump_outside = 0x47 ∷ []
 
--- those among the instructions without an operand
+-- the first bytes that aren't supported among those of instructions without an operand
 abbrev pub plain_outside : List ℕ
 plain_outside = 0x54 ∷ 0x5c ∷ 0x5e ∷ 0x66 ∷ 0x67 ∷ 0x68 ∷ 0x69 ∷ []
 
--- those among the operators
+-- the first bytes that aren't supported among those of operators
 abbrev pub short_outside : List ℕ
 short_outside = 0xe8 ∷ 0xea ∷ 0xf5 ∷ 0xf7 ∷ []
 

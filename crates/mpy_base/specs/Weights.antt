@@ -56,7 +56,7 @@ pub record Fits {V N : Type 0} (heap : Heap V N) (cells bytes : ℕ) : Type 0 wh
   pub cells_fit : used heap + cells ≤ heap.cell_size
   pub bytes_fit : heap.bytes + bytes ≤ heap.byte_size
 
--- the same as a test
+-- `cells` cells and `bytes` bytes are left, as a test
 abbrev pub does_fit : {V N : Type 0} → Heap V N → ℕ → ℕ → Bool
 does_fit heap cells bytes = nat_le (used heap + cells) heap.cell_size && nat_le (heap.bytes + bytes) heap.byte_size
 

@@ -30,7 +30,7 @@ pub record Sets (old new : FileOf) (name bytes : List ℕ) : Type 0 where
   pub here : new name ≡ Some bytes
   pub others : (other : List ℕ) → other ≢ name → new other ≡ old other
 
--- the same of what a folder tells
+-- where a folder tells its files, it tells now that the name stands for these bytes, and each other name for what it stood for
 abbrev pub Becomes : Option FileOf → Option FileOf → List ℕ → List ℕ → Type 0
 Becomes old new name bytes = IfSome old (λ file. (now : FileOf) × (new ≡ Some now) × Sets file now name bytes)
 

@@ -27,19 +27,19 @@ abbrev pub named : List (List ℕ × Builtin) → List ℕ → Option Builtin
 named [] name = None
 named (entry ∷ entries) name = if bytes_eq (entry.0) name then Some (entry.1) else named entries name
 
--- the methods of a type, by the name of the type
+-- the methods of lists
 abbrev pub list_methods : List (List ℕ × Builtin)
 list_methods =
     (codes "append", builtins.ListAppend) ∷ (codes "pop", builtins.ListPop) ∷ (codes "insert", builtins.ListInsert)
     ∷ (codes "extend", builtins.ListExtend) ∷ []
 
--- those of dicts
+-- the methods of dicts
 abbrev pub dict_methods : List (List ℕ × Builtin)
 dict_methods =
     (codes "get", builtins.DictGet) ∷ (codes "keys", builtins.DictKeys) ∷ (codes "values", builtins.DictValues)
     ∷ (codes "items", builtins.DictItems) ∷ (codes "pop", builtins.DictPop) ∷ []
 
--- those of strs
+-- the methods of strs
 abbrev pub str_methods : List (List ℕ × Builtin)
 str_methods =
     (codes "join", builtins.StrJoin) ∷ (codes "find", builtins.StrFind) ∷ (codes "startswith", builtins.StrStartsWith)

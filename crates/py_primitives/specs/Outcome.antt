@@ -90,7 +90,7 @@ list_of heap count kept =
     followed_by (making heap (ListObject [] (room_for count))) (λ made behind.
     followed_by (kept behind) (λ items last. gives made (with_list last (used heap) items)))
 
--- the same of a tuple
+-- a tuple with room for `count` items, which are made behind it
 abbrev pub tuple_of : PlainHeap → ℕ → (PlainHeap → Outcome (List Val)) → Outcome Val
 tuple_of heap zero kept = gives Empty heap
 tuple_of heap (suc count) kept =

@@ -12,7 +12,7 @@ go_on (Some a) visits next = after visits (next a)
 abbrev pub and_then : {A B : Type 0} → Walk A → (A → Walk B) → Walk B
 and_then first next = go_on first.answer first.visits next
 
--- the same walk, with another answer
+-- the walk, with its answer changed
 abbrev pub walk_map : {A B : Type 0} → (A → B) → Walk A → Walk B
 walk_map f walk = record { answer = option_map f walk.answer; visits = walk.visits }
 

@@ -49,7 +49,7 @@ acts_of = fold-Expr (List Act) expr_step
 
 -- ---- acts of a target
 
--- the same of an expression, if there is one
+-- the acts of an expression, if there is one
 abbrev pub acts_of_option : Option Expr → List Act
 acts_of_option None = []
 acts_of_option (Some e) = acts_of e

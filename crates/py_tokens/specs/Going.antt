@@ -63,7 +63,7 @@ Adds piece old new (Ok done) = (pieces : List Piece) (stop : Result Place Source
 Adds piece old new (Err (refused.Fault fault)) = (pieces : List Piece) (stop : Result Place SourceFault) → goes_on old (piece ∷ pieces) stop ≡ Err fault
 Adds piece old new (Err refused.NoMemory) = Unit {0}
 
--- the same of what comes before the token that stands here
+-- the reading with what comes before the token that stands here goes on as the new one does, or ends with the fault
 abbrev pub OpensLine : Tok → List ℕ → Lines → Lines → Result (Unit {0}) (Refused SourceFault) → Type 0
 OpensLine tok text old new (Ok done) = GoesAlike (piece_here old (lexemes.Token tok) text) old new
 OpensLine tok text old new (Err (refused.Fault fault)) =
