@@ -104,7 +104,7 @@ call_len heap v None = raises (NoLength (type_name heap v)) heap
 abbrev pub call_abs : PlainHeap → Val → Outcome Val
 call_abs heap v = with_number heap v (λ z. gives_number heap (checked (pos (unsigned_abs z))))
 
--- a range of these numbers, whose step isn't 0
+-- a range of these numbers, or the fault of a step that is 0
 abbrev pub range_of : PlainHeap → ℤ → ℤ → ℤ → Outcome Val
 range_of heap start stop step = if int_eq step (pos 0) then raises ZeroStep heap else making heap (RangeObject start stop step)
 
