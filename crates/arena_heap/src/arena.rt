@@ -50,7 +50,7 @@ impl Arena {
         })
     }
 
-    /// How many cells and bytes are used.
+    /// The room used.
     pub fn used(&self) -> Room
         ensures cells { result.cells ≡ used self.now }
         ensures bytes { result.bytes ≡ self.now.bytes }

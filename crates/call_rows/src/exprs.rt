@@ -10,12 +10,14 @@ pub(crate) fn put_number(alloc: Global, form: &mut Vec<u8>, number: i64) -> Resu
     form.extend_from_slice(digits.as_bytes())
 }
 
+/// Adds a text in quotes.
 fn put_str(form: &mut Vec<u8>, text: &Text) -> Result<(), AllocError> {
     form.push(b'"')?;
     form.extend_from_slice(text.bytes())?;
     form.extend_from_slice(b"\"")
 }
 
+/// The sign of an operator with one operand.
 fn unary_word(op: UnaryOp) -> &'static [u8] {
     match op {
         UnaryOp::Plus => b"+",
@@ -41,6 +43,7 @@ pub(crate) fn binary_word(op: BinaryOp) -> &'static [u8] {
     }
 }
 
+/// The sign of a comparison.
 fn compare_word(op: CompareOp) -> &'static [u8] {
     match op {
         CompareOp::Lt => b"<",
@@ -138,6 +141,7 @@ pub(crate) fn put_expr(alloc: Global, form: &mut Vec<u8>, expr: &Expr) -> Result
     }
 }
 
+/// Adds expressions, one behind the other.
 #[cycle(exprs)]
 fn put_each(alloc: Global, form: &mut Vec<u8>, items: &[Expr]) -> Result<(), AllocError> {
     for item in items {
@@ -146,6 +150,7 @@ fn put_each(alloc: Global, form: &mut Vec<u8>, items: &[Expr]) -> Result<(), All
     Ok(())
 }
 
+/// Adds expressions in a bracket behind a word.
 #[cycle(exprs)]
 fn put_all(
     alloc: Global,
@@ -158,6 +163,7 @@ fn put_all(
     form.extend_from_slice(b")")
 }
 
+/// Adds the keys and values of a dict.
 #[cycle(exprs)]
 fn put_pairs(alloc: Global, form: &mut Vec<u8>, pairs: &[(Expr, Expr)]) -> Result<(), AllocError> {
     open(form, b"dict")?;
@@ -168,6 +174,7 @@ fn put_pairs(alloc: Global, form: &mut Vec<u8>, pairs: &[(Expr, Expr)]) -> Resul
     form.extend_from_slice(b")")
 }
 
+/// Adds the further comparisons of a chain, and ends its bracket.
 #[cycle(exprs)]
 fn put_compared(
     alloc: Global,
@@ -181,6 +188,7 @@ fn put_compared(
     form.extend_from_slice(b")")
 }
 
+/// Adds keyword arguments, and ends the call's bracket.
 #[cycle(exprs)]
 fn put_keys(alloc: Global, form: &mut Vec<u8>, keys: &[(Text, Expr)]) -> Result<(), AllocError> {
     for (name, value) in keys {

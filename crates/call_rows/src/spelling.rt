@@ -2,6 +2,7 @@
 
 use std::alloc::{AllocError, Global};
 
+/// The value of a hexadecimal digit.
 fn digit_of(byte: u8) -> u8 {
     if byte < b'a' {
         byte.wrapping_sub(b'0')
@@ -10,6 +11,7 @@ fn digit_of(byte: u8) -> u8 {
     }
 }
 
+/// The byte of two hexadecimal digits.
 fn byte_of(high: u8, low: u8) -> u8 {
     digit_of(high).wrapping_mul(16).wrapping_add(digit_of(low))
 }

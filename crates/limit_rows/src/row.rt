@@ -57,6 +57,7 @@ impl Row {
         &self.about
     }
 
+    /// What the row's source comes to: its file, or its fault.
     fn outcome(&self, alloc: Global) -> Outcome {
         let stored = self.stored.as_slice();
         let is_ascii = stored.iter().all(|byte| *byte < 128);

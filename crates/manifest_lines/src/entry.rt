@@ -31,8 +31,10 @@ pub(crate) struct Sources {
     pub(crate) opt: u8,
 }
 
+/// The ending of a source's name.
 const ENDING: &[u8] = b".py";
 
+/// What stands behind a package's name in that of its first source, in front of the ending.
 const INIT: &[u8] = b"/__init__";
 
 /// The folder itself.

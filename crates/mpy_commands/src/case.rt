@@ -43,12 +43,14 @@ impl Case {
         }
     }
 
+    /// Adds a file of this name, with no bytes yet.
     fn add_file(&mut self, alloc: Global, name: &str) -> Result<(), AllocError> {
         let name = String::from_str(alloc, name)?;
         self.files.push((name, Vec::new(alloc)))?;
         Ok(())
     }
 
+    /// Adds a command of these words.
     fn add_command(&mut self, alloc: Global, words: &str) -> Result<(), AllocError> {
         let command = Command::new(alloc, words)?;
         self.commands.push(command)?;

@@ -10,7 +10,6 @@ use Rattle.mpy_words.specs.declared.given.Given.{Given}
 use Rattle.mpy_words.specs.Command.{command_of, names_of, takes_files, names_file, setting_of}
 use Rattle.mpy_words.specs.Given.{none_given, is_given, with_option, order_with}
 
--- the order, or the first fault of the words
 abbrev pub Outcome : Type 0
 Outcome = Result Order WordFault
 
@@ -18,7 +17,6 @@ Outcome = Result Order WordFault
 abbrev pub first_name : List (List ℕ) → List ℕ
 first_name words = slice_index_or words 1 []
 
--- the second word behind the command
 abbrev pub second_name : List (List ℕ) → List ℕ
 second_name words = slice_index_or words 2 []
 
@@ -47,12 +45,10 @@ place count words = count - length words
 
 -- ---- options, behind those that were given already
 
--- the option's value is one that it may have, or the fault tells the place of the value
 abbrev pub valued : ℕ → List (List ℕ) → Option Given → (Given → Outcome) → Outcome
 valued count words None go = Err (BadNumber (place count words))
 valued count words (Some more) go = go more
 
--- the option wasn't given before
 abbrev pub once : Given → Setting → Outcome → Outcome
 once given s more = if is_given given s then Err (Twice s) else more
 
@@ -60,12 +56,10 @@ once given s more = if is_given given s then Err (Twice s) else more
 abbrev pub names_none : Setting → List ℕ → Bool
 names_none s value = names_file s && begins_with_dash value
 
--- the word is an option of the command, or the fault tells its place
 abbrev pub known : ℕ → List (List ℕ) → Option Setting → (Setting → Outcome) → Outcome
 known count words None go = Err (Unknown (place count words))
 known count words (Some s) go = go s
 
--- options with their values, one behind the other; `count` is the number of all words
 unfoldable pub settings : ℕ → Command → Given → List (List ℕ) → Outcome
 settings count c given [] = Ok (order_with c given)
 settings count c given (word ∷ []) =
@@ -83,7 +77,6 @@ unfoldable pub past_files : List (List ℕ) → List (List ℕ)
 past_files [] = []
 past_files (word ∷ words) = if begins_with_dash word then word ∷ words else past_files words
 
--- the words behind the further files, where the command takes such
 abbrev pub behind_files : Command → List (List ℕ) → List (List ℕ)
 behind_files c words = if takes_files c then past_files words else words
 
@@ -92,14 +85,12 @@ abbrev pub lacking : ℕ → Command → Named → List ℕ → List (List ℕ) 
 lacking count c wanted word words =
     known count (word ∷ words) (setting_of c word) (λ s. Err (MissingName wanted))
 
--- the named words of a command, and then its options
 unfoldable pub named : ℕ → Command → List Named → List (List ℕ) → Outcome
 named count c [] words = settings count c none_given (behind_files c words)
 named count c (wanted ∷ more) [] = Err (MissingName wanted)
 named count c (wanted ∷ more) (word ∷ words) =
     if begins_with_dash word then lacking count c wanted word words else named count c more words
 
--- the words behind a command, or the fault that the first word is none
 abbrev pub of_command : ℕ → Option Command → List (List ℕ) → Outcome
 of_command count None words = Err (Unknown 0)
 of_command count (Some c) words = named count c (names_of c) words

@@ -50,7 +50,6 @@ const GLOBALS: [Builtin; 39] = [
     Builtin::Kind(Kind::ValueError),
 ];
 
-/// All that names can mean that no namespace has.
 fn globals() -> &'static [Builtin]
     ensures { result.now ≡ all_globals }
 {
