@@ -146,7 +146,7 @@ fn name_number<C: Constants>(consts: &C, name: StrNo, bytes: &[u8]) -> Option<u3
     }
 }
 
-/// The same of the bytes of a str.
+/// The number among the constants' texts of the bytes of a str, if they have one.
 fn number_of<C: Constants>(consts: &C, s: Value, bytes: &[u8]) -> Option<u32>
     requires { (n : ℕ) → s ≡ Value.Str (StrNo.Pool n) → C.text_of consts.now (StrNo.Pool n) ≡ Some bytes.now }
     ensures { (n : ℕ) → C.text_of consts.now (StrNo.Pool n) ≡ Some bytes.now → result ≡ Some n }

@@ -1,4 +1,4 @@
-//! Operators in place.
+//! `+=` on lists, which take the items of any iterable in place.
 
 ghost use Rattle.std.specs.Prelude.{◌≡◌, min};
 ghost use Rattle.arena_heap.specs.Values.{Leads};
@@ -33,7 +33,7 @@ pub fn inplace_add<C: Constants>(
     }
 }
 
-/// The visits of `inplace_add`, and no more than so many.
+/// How many visits `inplace_add` makes, `most` at most.
 pub fn visits_inplace_add<C: Constants>(
     arena: &Arena,
     consts: &C,

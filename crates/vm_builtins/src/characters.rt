@@ -1,4 +1,4 @@
-//! `chr`.
+//! `chr`: a number of 7 bits as a text of one byte.
 
 ghost use Rattle.std.specs.Prelude.{◌≡◌, ◌<◌, ◌^◌, ◌⊎◌, pos, ◌<ℤ◌, [], ◌∷◌, length, map, All, IfOk, IfErr, IfSome, MatchOption};
 ghost use Rattle.mpy_base.specs.declared.builtin.Builtin.TheVariants as builtins;
@@ -50,6 +50,7 @@ fn character<C: Constants>(arena: &mut Arena, consts: &C, z: i32) -> Result<Valu
     }
 }
 
+/// `chr` of one value.
 fn chr_of<C: Constants>(arena: &mut Arena, consts: &C, v: Value) -> Result<Value, Stop>
     requires leads { Leads arena.old.objects v }
     requires all_told { AllTold (C.text_of consts.now) (C.items_of consts.now) arena.old.objects }

@@ -1,4 +1,4 @@
-//! `len`.
+//! `len` of what has items.
 
 ghost use Rattle.std.specs.Prelude.{◌<◌, ◌^◌, length, map, All};
 ghost use Rattle.mpy_base.specs.declared.builtin.Builtin.TheVariants as builtins;
@@ -18,6 +18,7 @@ use vm_faults::{Fault, Stop, type_of};
 use vm_operators::length_of;
 use vm_walks::{Look, look_at};
 
+/// `len` of one value.
 fn len_of<C: Constants>(arena: &Arena, consts: &C, v: Value) -> Result<Value, Stop>
     requires leads { Leads arena.now.objects v }
     requires told { IsTold (C.text_of consts.now) (C.items_of consts.now) v }

@@ -1,4 +1,4 @@
-//! `abs`.
+//! `abs` of a number.
 
 ghost use Rattle.std.specs.Prelude.{◌<◌, ◌^◌, length, map, All};
 ghost use Rattle.mpy_base.specs.declared.builtin.Builtin.TheVariants as builtins;
@@ -15,6 +15,7 @@ use crate::numbers::number_of;
 use arena_heap::{Arena, Constants, Value};
 use vm_faults::Stop;
 
+/// `abs` of one value.
 fn abs_of<C: Constants>(arena: &Arena, _consts: &C, v: Value) -> Result<Value, Stop>
     requires leads { Leads arena.now.objects v }
     requires all_told { AllTold (C.text_of _consts.now) (C.items_of _consts.now) arena.now.objects }

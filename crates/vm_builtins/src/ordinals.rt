@@ -1,4 +1,4 @@
-//! `ord`.
+//! `ord` of a text of one byte.
 
 ghost use Rattle.std.specs.Prelude.{◌<◌, ◌^◌, length, map, All};
 ghost use Rattle.mpy_base.specs.declared.builtin.Builtin.TheVariants as builtins;
@@ -27,6 +27,7 @@ fn code_of(bytes: &[u8]) -> Result<Value, Stop>
     Ok(Value::Int(bytes[0] as i32))
 }
 
+/// `ord` of one value.
 fn ord_of<C: Constants>(arena: &Arena, consts: &C, v: Value) -> Result<Value, Stop>
     requires leads { Leads arena.now.objects v }
     requires told { IsTold (C.text_of consts.now) (C.items_of consts.now) v }

@@ -1,4 +1,4 @@
-//! `range`.
+//! `range` of one to three numbers.
 
 ghost use Rattle.std.specs.Prelude.{◌≡◌, ◌≢◌, ◌<◌, ◌^◌, ◌≤◌, pos, length, map, All};
 ghost use Rattle.mpy_base.specs.World.{RangeObject};
@@ -25,6 +25,7 @@ pub(crate) enum Bounds {
     StartStopStep(Value, Value, Value),
 }
 
+/// A range of these numbers, where the step isn't 0.
 fn make_range<C: Constants>(
     arena: &mut Arena,
     consts: &C,
@@ -45,6 +46,7 @@ fn make_range<C: Constants>(
     }
 }
 
+/// A range of these numbers, or the fault of a step that is 0.
 fn range_of<C: Constants>(
     arena: &mut Arena,
     consts: &C,
@@ -64,6 +66,7 @@ fn range_of<C: Constants>(
     make_range(arena, consts, start, stop, step)
 }
 
+/// A range of two numbers and a value, which is a fault where it is no number.
 fn with_step<C: Constants>(
     arena: &mut Arena,
     consts: &C,
@@ -83,6 +86,7 @@ fn with_step<C: Constants>(
     }
 }
 
+/// A range of a number and two values.
 fn with_stop_and_step<C: Constants>(
     arena: &mut Arena,
     consts: &C,
@@ -102,6 +106,7 @@ fn with_stop_and_step<C: Constants>(
     }
 }
 
+/// `range` of three values.
 fn with_all<C: Constants>(
     arena: &mut Arena,
     consts: &C,
@@ -121,6 +126,7 @@ fn with_all<C: Constants>(
     }
 }
 
+/// A range of a number and a value, with step 1.
 fn with_stop<C: Constants>(
     arena: &mut Arena,
     consts: &C,
@@ -138,6 +144,7 @@ fn with_stop<C: Constants>(
     }
 }
 
+/// `range` of two values.
 fn with_start_and_stop<C: Constants>(
     arena: &mut Arena,
     consts: &C,
@@ -155,6 +162,7 @@ fn with_start_and_stop<C: Constants>(
     }
 }
 
+/// `range` of one to three values.
 fn with_bounds<C: Constants>(arena: &mut Arena, consts: &C, bounds: Bounds) -> Result<Value, Stop>
     requires leads { BoundsLead arena.old.objects bounds }
     requires all_told { AllTold (C.text_of consts.now) (C.items_of consts.now) arena.old.objects }
@@ -167,6 +175,7 @@ fn with_bounds<C: Constants>(arena: &mut Arena, consts: &C, bounds: Bounds) -> R
     }
 }
 
+/// What a range is called with, of one to three arguments.
 fn bounds_of(args: &[Value]) -> Bounds
     requires least { 1 ≤ length args.now }
     requires most { length args.now ≤ 3 }

@@ -1,4 +1,4 @@
-//! `bool`.
+//! `bool` of any value.
 
 ghost use Rattle.std.specs.Prelude.{◌<◌, ◌^◌, length, map, All};
 ghost use Rattle.mpy_base.specs.declared.builtin.Builtin.TheVariants as builtins;
@@ -18,6 +18,7 @@ use arena_heap::{Arena, Constants, Value};
 use vm_faults::Stop;
 use vm_walks::truth;
 
+/// `bool` of one value.
 fn truth_of<C: Constants>(arena: &Arena, consts: &C, v: Value) -> Result<Value, Stop>
     requires leads { Leads arena.now.objects v }
     requires told { IsTold (C.text_of consts.now) (C.items_of consts.now) v }

@@ -19,14 +19,17 @@ use Rattle.vm_faults.specs.Faults.{plain_fault, IsKnown, IsKnownFault}
 abbrev pub name_text : (StrNo → Option (List ℕ)) → StrNo → List ℕ
 name_text texts name = or_nothing (texts name)
 
+-- the slots, or the fault as a stop
 abbrev pub bound_answer : Result Locals plain.Fault → Result Locals Stop
 bound_answer (Ok slots) = Ok slots
 bound_answer (Err fault) = Err (Raises fault)
 
 module _ (texts : StrNo → Option (List ℕ)) (tuples : ConstNo → Option (List Value)) where
+  -- a slot as the meaning has it
   abbrev pub plain_slot : Option Value → Option Val
   plain_slot slot = option_map (plain_value texts tuples) slot
 
+  -- the slots as the meaning has them
   abbrev pub plain_slots : List (Option Value) → Locals
   plain_slots slots = map plain_slot slots
 

@@ -25,6 +25,7 @@ pub enum CallStop {
     Out(Failed),
 }
 
+/// What a call that makes no output ends with.
 fn stopped(answer: Result<Value, Stop>) -> Result<Value, CallStop>
     ensures { result ≡ as_call answer }
 {
@@ -34,6 +35,7 @@ fn stopped(answer: Result<Value, Stop>) -> Result<Value, CallStop>
     }
 }
 
+/// What a call of `print` ends with.
 fn print_stopped(answer: Result<Value, PrintStop>) -> Result<Value, CallStop>
     ensures { result ≡ as_print answer }
 {

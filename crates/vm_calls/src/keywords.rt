@@ -1,4 +1,4 @@
-//! Keyword arguments.
+//! Keyword arguments put into the slots of parameters by name.
 
 ghost use Rattle.std.specs.Prelude.{◌≡◌, ◌<◌, length, List, map, Ok, All, IfSome, option_copied, bytes_eq, position, slice_get, option_and_then};
 ghost use Rattle.arena_heap.specs.Values.{IsStr};

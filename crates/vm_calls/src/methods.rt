@@ -1,4 +1,4 @@
-//! Calls of methods.
+//! Calls of methods of lists, dicts and strs, by the method.
 
 ghost use Rattle.std.specs.Prelude.{◌<◌, ◌^◌, length, map, All};
 ghost use Rattle.arena_heap.specs.Values.{IsMethodOf};

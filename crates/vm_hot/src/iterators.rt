@@ -55,7 +55,7 @@ fn item_from<C: Constants>(arena: &Arena, consts: &C, over: Value, at: u32) -> O
     }
 }
 
-/// The same of a list or a range.
+/// The item of a list or a range at a place, if there is one, and the place behind it.
 #[inline(always)]
 fn next_from<C: Constants>(arena: &Arena, consts: &C, over: Value, at: u32) -> Option<(Value, u32)>
     requires leads { Leads arena.now.objects over }

@@ -1,4 +1,4 @@
-//! Jumps.
+//! Jumps that change the running call alone, carried out at once.
 
 ghost use Rattle.std.specs.Prelude.{◌≡◌, ◌<◌, length, Some, None};
 ghost use Rattle.vm_frames.specs.Calls.{OfRunning};

@@ -1,4 +1,4 @@
-//! Attributes.
+//! Instructions on attributes of objects and of modules.
 
 ghost use Rattle.std.specs.Prelude.{◌≡◌, ◌<◌, length, IsSome};
 ghost use Rattle.bc_ops.specs.declared.instr.Op.TheVariants as ops;

@@ -1,4 +1,4 @@
-//! Locals.
+//! Instructions that load and delete the locals of the running call.
 
 ghost use Rattle.std.specs.Prelude.{◌≡◌, ◌<◌, length, IfSome, Some, slice_get};
 ghost use Rattle.bc_ops.specs.declared.instr.Op.TheVariants as ops;

@@ -1,4 +1,4 @@
-//! Names of modules.
+//! Instructions on the names of the running call's module.
 
 ghost use Rattle.std.specs.Prelude.{◌≡◌, ◌<◌, length, IsSome};
 ghost use Rattle.mpy_base.specs.World.{ADict, IsA};

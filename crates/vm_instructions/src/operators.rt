@@ -1,4 +1,4 @@
-//! Operators.
+//! Instructions of operators with one operand and with two.
 
 ghost use Rattle.std.specs.Prelude.{◌≡◌, min, IsSome};
 ghost use Rattle.bc_ops.specs.declared.instr.Instr.TheVariants as instrs;
@@ -29,6 +29,7 @@ use vm_frames::Frames;
 use vm_operators::{Operator, binary, unary, unary_not};
 use vm_types::op_match;
 
+/// What an operation on one value gives.
 fn one_value<C: Constants>(
     arena: &Arena,
     consts: &C,
@@ -46,7 +47,7 @@ fn one_value<C: Constants>(
     }
 }
 
-/// Only `+` differs in place.
+/// What an operator in place gives. Only `+` differs from the plain one.
 fn in_place<C: Constants>(
     arena: &mut Arena,
     consts: &C,
@@ -67,6 +68,7 @@ fn in_place<C: Constants>(
     }
 }
 
+/// How many visits an operation in place makes, `most` at most.
 fn visits_in_place<C: Constants>(
     arena: &Arena,
     consts: &C,
@@ -87,6 +89,7 @@ fn visits_in_place<C: Constants>(
     }
 }
 
+/// What an operation on two values gives.
 fn two_values<C: Constants>(
     arena: &mut Arena,
     consts: &C,
@@ -113,6 +116,7 @@ fn two_values<C: Constants>(
     }
 }
 
+/// How many visits an operation on two values makes, `most` at most.
 fn visits_two<C: Constants>(
     arena: &Arena,
     consts: &C,

@@ -27,6 +27,7 @@ pub(crate) fn gather<C: Constants>(frames: &Frames, arena: &Arena, consts: &C, i
     }
 }
 
+/// The value at a place.
 fn value_from(values: &[Value], at: usize) -> Value
     requires { at < length values.now }
     ensures { slice_get values.now at ≡ Some result }

@@ -57,7 +57,7 @@ fn fill_names(numbers: &[u32], names: &mut Vec<StrNo>)
     }
 }
 
-/// `count` empty values.
+/// Makes the list one of `count` values that are empty.
 fn fill_empty(count: usize, values: &mut Vec<Option<Value>>)
     requires { count ≤ vec_capacity values.old }
     ensures values { values.new.items ≡ replicate count None }

@@ -10,6 +10,7 @@ ghost use Rattle.vm_raising.specs.Worlds.{Stands, Does};
 use arena_heap::{Arena, Constants, ListNo, Value, put_in_list};
 use vm_faults::Stop;
 
+/// The item at a place.
 fn item_at(items: &[Value], at: usize) -> Value
     requires { at < length items.now }
     ensures { slice_get items.now at ≡ Some result }

@@ -1,4 +1,4 @@
-//! Names of modules.
+//! Names of a module: its namespace, and behind that the built-ins.
 
 ghost use Rattle.std.specs.Prelude.{◌≡◌, [], ◌∷◌, IsSome};
 ghost use Rattle.mpy_base.specs.World.{ADict, IsA};

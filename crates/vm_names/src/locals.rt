@@ -1,4 +1,4 @@
-//! Locals of calls.
+//! Locals of calls, which may be empty.
 
 ghost use Rattle.std.specs.Prelude.{[], ◌∷◌, ◌<◌, length, map, IfSome, slice_get};
 ghost use Rattle.std.specs.Option.{option_map};

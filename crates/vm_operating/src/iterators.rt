@@ -1,4 +1,4 @@
-//! Iterators.
+//! Operations on iterators, as they were fetched for calls of a program.
 
 ghost use Rattle.vm_fetching.specs.declared.instruction.Instruction.TheVariants as fetched;
 ghost use Rattle.vm_fetching.specs.declared.operations.JumpOp.TheVariants as jump_ops;

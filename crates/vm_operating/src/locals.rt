@@ -1,4 +1,4 @@
-//! Locals.
+//! Operations on locals, as they were fetched for calls of a program.
 
 ghost use Rattle.vm_fetching.specs.declared.instruction.Instruction.TheVariants as fetched;
 ghost use Rattle.vm_fetching.specs.declared.operations.NumberOp.TheVariants as number_ops;

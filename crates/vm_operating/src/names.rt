@@ -1,4 +1,4 @@
-//! Names of modules.
+//! Operations on the names of a module, as they were fetched for calls of a program.
 
 ghost use Rattle.vm_fetching.specs.declared.instruction.Instruction.TheVariants as fetched;
 ghost use Rattle.vm_fetching.specs.declared.operations.NameOp.TheVariants as name_ops;

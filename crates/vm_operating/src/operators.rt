@@ -1,4 +1,4 @@
-//! Operators.
+//! Operators, as they were fetched for calls of a program.
 
 ghost use Rattle.std.specs.Prelude.{◌≡◌, min};
 ghost use Rattle.vm_fetching.specs.declared.instruction.Instruction.TheVariants as fetched;

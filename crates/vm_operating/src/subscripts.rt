@@ -30,6 +30,7 @@ pub(crate) fn load_subscr<C: Constants>(
     vm_instructions::load_subscr(frames, arena, consts, end)
 }
 
+/// Is the slot empty?
 fn is_null(slot: Slot) -> bool
     ensures { result ≡ is_null_slot slot }
 {

@@ -1,4 +1,4 @@
-//! Attributes.
+//! Attributes of values: those of objects, the methods of types, and the names of modules.
 
 ghost use Rattle.std.specs.Prelude.{◌≡◌, IsSome};
 ghost use Rattle.mpy_base.specs.World.{MethodObject, AModule, IsA};
@@ -27,6 +27,7 @@ pub enum Attribute {
     Absent,
 }
 
+/// The bytes of a name.
 fn name_bytes<C: Constants>(consts: &C, name: StrNo) -> &[u8]
     requires { IsSome (C.text_of consts.now name) }
     ensures { result.now ≡ or_nothing (C.text_of consts.now name) }
@@ -34,6 +35,7 @@ fn name_bytes<C: Constants>(consts: &C, name: StrNo) -> &[u8]
     consts.text(name).unwrap()
 }
 
+/// The attribute of a list: one of its methods, or nothing.
 fn list_attribute(name: &[u8]) -> Attribute
     ensures { IsMethodsAttribute list_methods IsList name.now result }
 {
@@ -50,6 +52,7 @@ fn list_attribute(name: &[u8]) -> Attribute
     }
 }
 
+/// The attribute of a dict: one of its methods, or nothing.
 fn dict_attribute(name: &[u8]) -> Attribute
     ensures { IsMethodsAttribute dict_methods IsDict name.now result }
 {
@@ -68,6 +71,7 @@ fn dict_attribute(name: &[u8]) -> Attribute
     }
 }
 
+/// The attribute of a str: one of its methods, or nothing.
 fn str_attribute(name: &[u8]) -> Attribute
     ensures { IsMethodsAttribute str_methods IsStr name.now result }
 {
@@ -95,6 +99,7 @@ fn exception_attribute(args: Value, name: &[u8]) -> Attribute
     }
 }
 
+/// The attribute of the module of the ports: one of its functions, or nothing.
 fn port_attribute(name: &[u8]) -> Attribute
     ensures { IsBuiltAttribute Builtin.Port name.now result }
 {

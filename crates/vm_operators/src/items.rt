@@ -15,6 +15,7 @@ use arena_heap::{Arena, Constants, Value};
 use arena_objects::{item_at, item_count, make_byte, text_bytes};
 use vm_faults::{Fault, Stop, type_of};
 
+/// Can it be iterated over?
 fn is_iterable(_arena: &Arena, v: Value) -> bool
     requires { Leads _arena.now.objects v }
     ensures { DecidesIterable _arena.now v result }
@@ -27,7 +28,7 @@ fn is_iterable(_arena: &Arena, v: Value) -> bool
     }
 }
 
-/// An iterable itself.
+/// The value that is iterated over: an iterable itself, or the fault of another value.
 pub fn use_iter<C: Constants>(arena: &Arena, consts: &C, v: Value) -> Result<Value, Stop>
     requires leads { Leads arena.now.objects v }
     requires told { IsTold (C.text_of consts.now) (C.items_of consts.now) v }
@@ -70,7 +71,7 @@ fn str_item<C: Constants>(arena: &mut Arena, consts: &C, s: Value, at: usize) ->
     }
 }
 
-/// The item of another iterable.
+/// The item at a place of an iterable that isn't a str: nothing is made for it.
 fn other_item<C: Constants>(arena: &Arena, consts: &C, over: Value, at: usize) -> Value
     requires items { HasItems over }
     requires leads { Leads arena.now.objects over }

@@ -1,4 +1,4 @@
-//! Lengths.
+//! How many items an iterable has.
 
 ghost use Rattle.std.specs.Prelude.{◌≡◌};
 ghost use Rattle.arena_heap.specs.Values.{Leads};

@@ -18,6 +18,7 @@ pub(crate) enum Source {
     Repeated(u32, Value),
 }
 
+/// How many bytes a str has.
 fn str_len<C: Constants>(arena: &Arena, consts: &C, s: Value) -> usize
     requires { IsKnownStr (C.text_of consts.now) (C.items_of consts.now) arena.now.objects s }
     ensures bytes { result ≡ length (spelled (C.text_of consts.now) arena.now s) }
@@ -26,6 +27,7 @@ fn str_len<C: Constants>(arena: &Arena, consts: &C, s: Value) -> usize
     text_bytes(arena, consts, s).len()
 }
 
+/// The byte at a place of a str.
 fn str_byte<C: Constants>(arena: &Arena, consts: &C, s: Value, at: usize) -> u8
     requires str { IsKnownStr (C.text_of consts.now) (C.items_of consts.now) arena.now.objects s }
     requires within { at < length (spelled (C.text_of consts.now) arena.now s) }

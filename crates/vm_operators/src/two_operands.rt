@@ -54,6 +54,7 @@ fn unsupported(arena: &Arena, op: Operator, left: Value, right: Value) -> Fault
     }
 }
 
+/// How often something is repeated by a number: not at all where it is below 0.
 fn times(n: SmallInt) -> u32
     ensures { result ≡ at_least_zero n }
 {
@@ -85,7 +86,7 @@ fn of_shapes<C: Constants>(
     }
 }
 
-/// A str, tuple or list and a number, so many times of which `*` gives.
+/// What an operator gives of a str, tuple or list and the number `n`: of `*` the left operand `n` times over.
 fn of_left<C: Constants>(
     arena: &mut Arena,
     consts: &C,
@@ -112,7 +113,7 @@ fn of_left<C: Constants>(
     }
 }
 
-/// The same with the number on the left.
+/// What an operator gives of the number `n` and a str, tuple or list: of `*` the right operand `n` times over.
 fn of_right<C: Constants>(
     arena: &mut Arena,
     consts: &C,

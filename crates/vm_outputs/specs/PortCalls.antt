@@ -19,6 +19,7 @@ use Rattle.vm_operators.specs.Operands.{number_in}
 
 -- a call that answers so and leaves these ports does what the primitive does, if it fails only where that does
 module _ (texts : StrNo → Option (List ℕ)) (tuples : ConstNo → Option (List Value)) (heap : Heap Value ℕ) where
+  -- the answer and the ports are those of the primitive
   pub record IsPortOutcome (new : List PortView) (result : Result Value Stop) (outcome : PortOutcome) : Type 0 where
     pub answer : plain_answer texts tuples heap result ≡ outcome.answer
     pub ports : Tell new outcome.ports
@@ -81,6 +82,7 @@ abbrev pub put_at : List PortState → ℤ → ℤ → PortOutcome
 put_at ports (pos at) n = put_to ports at n (slice_get ports at)
 put_at ports (negsuc _) n = refused NoSuchPort ports
 
+-- a get of the port that has a number
 abbrev pub get_at : List PortState → ℤ → PortOutcome
 get_at ports (pos at) = get_from ports at (slice_get ports at)
 get_at ports (negsuc _) = refused NoSuchPort ports

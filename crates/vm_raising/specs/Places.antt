@@ -6,6 +6,7 @@ use Rattle.py_effects.specs.Effect.{Fails, Filled, fault_at}
 use Rattle.vm_raising.specs.declared.place.Place.{Place}
 use Rattle.vm_raising.specs.Worlds.{Sight}
 
+-- a place as the meaning has it
 abbrev pub plain_place : Sight → Place → effects.Place
 plain_place see place = record { file = see.name place.file; line = place.line; name = see.name place.name }
 

@@ -30,6 +30,7 @@ failure w (Ok x) = Thrown x.cell w
 failure w (Err room) = Filled room w
 
 module _ (texts : StrNo → Option (List ℕ)) (tuples : ConstNo → Option (List Value)) where
+  -- how values, texts and names are seen
   abbrev pub sight : Sight
   sight = record { value = plain texts tuples; text = λ s. or_nothing (texts s); name = plain_name texts tuples }
 
@@ -46,7 +47,7 @@ module _ (texts : StrNo → Option (List ℕ)) (tuples : ConstNo → Option (Lis
   abbrev pub Does : (old new : Heap Value ℕ) → Result Value Stop → (PlainHeap → Sight → Outcome Val) → Type 0
   Does old new result primitive = IsOutcome texts tuples old new result (primitive (plain_heap texts tuples old) sight)
 
-  -- the same of an effect on a world, which makes no visits
+  -- a call that leaves the new arena in the place of the old one, and answers so, has the effect on a world, which makes no visits
   pub record HasEffect (old new : Heap Value ℕ) (result : Result Value Stop) (effect : PlainWorld → Sight → Effect Val) : Type 0 where
     pub answer : (w : PlainWorld) → plain_answer texts tuples new result ≡ (effect (world_over w old) sight).answer
     pub world : (w : PlainWorld) → world_over w new ≡ (effect (world_over w old) sight).world
@@ -55,7 +56,7 @@ module _ (texts : StrNo → Option (List ℕ)) (tuples : ConstNo → Option (Lis
     pub later : Later old.objects new.objects
     pub all_told : AllTold texts tuples new.objects
 
-  -- the same of what gives no value
+  -- a call that leaves the new arena in the place of the old one, and gives an exception or finds no room, fails so on a world
   pub record HasFailed (old new : Heap Value ℕ) (result : Result ExcNo NoRoom) (fails : PlainWorld → Sight → Fails) : Type 0 where
     pub failure : (w : PlainWorld) → failure (world_over w new) result ≡ fails (world_over w old) sight
     pub exception : IfOk result (λ x. IsA new.objects AnException x.cell)

@@ -1,4 +1,4 @@
-//! What is raised.
+//! Raising: the exception of a fault or of a value is made, and gets the place where it is raised.
 
 ghost use Rattle.std.specs.Prelude.{◌≡◌, ℕ, [], ◌∷◌};
 ghost use Rattle.mpy_base.specs.Val.{Empty};
@@ -41,6 +41,7 @@ fn kind_in(b: Builtin) -> Option<Kind>
     }
 }
 
+/// What raising a built-in raises: a new exception where it is a kind of them, and else nothing.
 fn raised_by_builtin(b: Builtin) -> Raised
     ensures { (heap : Heap Item ℕ) → IsRaised heap (Value.Built b) result }
 {

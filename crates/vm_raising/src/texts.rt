@@ -48,10 +48,12 @@ fn name_law<C: Constants>(arena: &Arena, consts: &C, fault: Fault)
     }
 }
 
+/// A count fits 32 bits.
 fn one_count(_count: u32)
     ensures { _count < 2 ^ 32 }
 {}
 
+/// Two counts fit 32 bits each.
 fn two_counts(_first: u32, _second: u32)
     ensures { (_first < 2 ^ 32) × (_second < 2 ^ 32) }
 {}

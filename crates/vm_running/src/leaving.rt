@@ -1,4 +1,4 @@
-//! Returns and raises.
+//! Returns and raises that were fetched, through all calls up to the handler that takes them.
 
 ghost use Rattle.std.specs.Prelude.{◌≡◌, ℕ};
 ghost use Rattle.vm_fetching.specs.declared.operations.PlainOp.TheVariants as plain_ops;

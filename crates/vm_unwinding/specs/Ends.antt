@@ -14,6 +14,7 @@ use Rattle.vm_step.specs.Shown.{Tables, running_of, step_of}
 use Rattle.vm_unwinding.specs.declared.ends.End.{End}
 use Rattle.vm_unwinding.specs.declared.ends.End.TheVariants as ends
 
+-- how a run ended, as the machine has it
 abbrev pub end_of : End → plain.End
 end_of ends.Ended = plain.Ended
 end_of (ends.Raised x) = plain.Raised x.cell

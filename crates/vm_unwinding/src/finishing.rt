@@ -35,7 +35,7 @@ use vm_frames::{Frames, Slot};
 use vm_modules::Modules;
 use vm_moves::{moves_law, placed_law};
 
-/// Throws the exception on.
+/// Throws the exception on at the end of a finally.
 fn throw_on<C: Constants>(
     frames: &mut Frames,
     consts: &C,

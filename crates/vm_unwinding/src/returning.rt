@@ -1,4 +1,4 @@
-//! Returns from calls.
+//! Returns from calls, through the finallys that they run.
 
 ghost use Rattle.std.specs.Prelude.{◌≡◌, ℕ, Option, ◌<◌, ◌∷◌, List, length, drop, map, All};
 ghost use Rattle.mpy_base.specs.World.{Objects, AModule, IsA, Later};
