@@ -13,6 +13,7 @@ spread n = n * 2654435769 / 65536
 unfoldable pub code_after : ℕ → ℕ → ℕ
 code_after code byte = (code * 31 + byte) % 2 ^ 32
 
+-- the code of a text behind those bytes whose code is given
 abbrev pub bytes_code : ℕ → List ℕ → ℕ
 bytes_code code [] = code
 bytes_code code (byte ∷ bytes) = bytes_code (code_after code byte) bytes

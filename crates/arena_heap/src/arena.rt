@@ -61,7 +61,7 @@ impl Arena {
         }
     }
 
-    /// Whether so much more fits.
+    /// Whether `cells` more cells and `bytes` more bytes fit.
     pub(crate) fn ask(&self, cells: u64, bytes: u64) -> Result<(), NoRoom>
         ensures ok { OnOk result (Fits self.now cells bytes) }
         ensures told { IfErr result (λ e. e ≡ no_room self.now cells bytes) }

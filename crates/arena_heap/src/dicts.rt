@@ -101,7 +101,7 @@ pub fn dict_set_at(arena: &mut Arena, d: DictNo, at: u32, v: Value)
     arena.cells[place] = Cell::of(v);
 }
 
-/// Moves a dict to the room for so many pairs, unless its room holds them.
+/// Moves a dict to the room for `pairs` pairs, unless its room holds them.
 pub(crate) fn reserve_dict(arena: &mut Arena, d: DictNo, pairs: u64) -> Result<(), NoRoom>
     requires { IsA arena.old.objects ADict d.cell }
     ensures ok { OnOk result (arena.new ≡ with_dict_room arena.old d.cell pairs) }

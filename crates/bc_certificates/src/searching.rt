@@ -43,7 +43,7 @@ const UNMARKED: Mark = Mark {
     changed: NO_SLOTS,
 };
 
-/// The rows so far.
+/// The rows that were found as yet.
 #[derive(Drop)]
 pub(crate) struct Walk {
     pub rows: Vec<Option<Shape>>,
@@ -170,7 +170,7 @@ fn arrive_if(alloc: Global, walk: &mut Walk, edge: Option<Edge>) -> Result<bool,
     }
 }
 
-/// Lets the edges arrive to the finally handlers that run among so many entries.
+/// Lets the edges to the finally handlers that run among the `count` topmost entries arrive.
 fn arrive_runs(alloc: Global, walk: &mut Walk, x: &Shape, count: usize) -> Result<bool, NoMemory> {
     for (i, entry) in x.entries.iter().enumerate() {
         if i >= count {

@@ -61,7 +61,7 @@ struct Cell {
     slot: usize,
 }
 
-/// Leaves that many slots at most.
+/// Leaves the lowest `height` slots at most.
 fn cut(origins: &mut Origins, height: usize) {
     if height <= origins.low {
         origins.low = height;
@@ -71,7 +71,7 @@ fn cut(origins: &mut Origins, height: usize) {
     }
 }
 
-/// Names that many of the topmost slots, as far as there are so many.
+/// Names the topmost `count` slots, or all where there are fewer.
 fn name_slots(alloc: Global, origins: &mut Origins, count: usize) -> Result<(), NoMemory> {
     let missing = count.saturating_sub(origins.top.len()).min(origins.low);
     if missing == 0 {

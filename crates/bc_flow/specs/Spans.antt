@@ -26,6 +26,7 @@ pub record Lies (s : Span) (x : At) (o : Option At) : Type 0 where
   pub long : length x.slots ≡ length there.slots
   pub below : BelowOutside (Some s) x.slots there.slots
 
+-- the same, and nothing where no slots are named
 abbrev pub Outside : Option Span → At → Option At → Type 0
 Outside None x o = Unit {0}
 Outside (Some s) x o = Lies s x o
@@ -54,7 +55,7 @@ pub record Remembers (code : Code) (old : Assigned) (t : Table) (changes : List 
 abbrev pub updated : Assigned → ℕ → At → Assigned
 updated a p x q = if nat_eq q p then Some x else a q
 
--- all that it gives again lies above these slots, where it works on so many
+-- all that it gives again lies above these slots, where it works on `n` slots
 pub record IsClear (i : Action) (n : ℕ) (s : Span) : Type 0 where
   pub next_above : keeps_all (n - s.to) (gives i) ≡ true
   pub there_above : keeps_all (n - s.to) (gives_there i) ≡ true

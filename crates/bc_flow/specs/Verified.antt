@@ -55,9 +55,11 @@ pub data Cell : Type 0 where
   Pending : At → Cell
   Done : At → Cell
 
+-- what is known of each position
 abbrev pub Table : Type 0
 Table = List Cell
 
+-- what holds at a position that the walk came to
 abbrev pub seen : Cell → Option At
 seen Unseen = None
 seen (Pending x) = Some x
@@ -101,6 +103,7 @@ agrees_cell Unseen es = true
 agrees_cell (Pending y) es = same_entries y.entries es
 agrees_cell (Done y) es = same_entries y.entries es
 
+-- the same of a position of the table
 abbrev pub agrees : Table → ℕ → List Entry → Bool
 agrees [] n es = false
 agrees (c ∷ t) zero es = agrees_cell c es
@@ -127,20 +130,24 @@ pub data Visit : Type 0 where
   Bad : Rule → Visit
   Good : Table → Visit
 
+-- behind the slots: what arrives meets what is there (else Height), the slots have room (else State), and the flow stays (else Falls)
 abbrev pub after_put : Bool → Bool → Option Table → Visit
 after_put roomy stays None = Bad Height
 after_put false stays (Some t) = Bad State
 after_put true false (Some t) = Bad Falls
 after_put true true (Some t) = Good t
 
+-- behind the entries: the slots are found that are asked (else Height), and then the rest
 abbrev pub after_finds : Bool → Bool → Bool → Option Table → Visit
 after_finds false roomy stays t = Bad Height
 after_finds true roomy stays t = after_put roomy stays t
 
+-- the entries are as they must be (else Handlers), and then the rest
 abbrev pub after_holds : Bool → Bool → Bool → Bool → Option Table → Visit
 after_holds false finds roomy stays t = Bad Handlers
 after_holds true finds roomy stays t = after_finds finds roomy stays t
 
+-- the visit of a position with its instruction; where it has none, the flow has passed the end of the code
 abbrev pub visit_action : Code → Table → ℕ → At → Option Action → Visit
 visit_action code t p x None = Bad Falls
 visit_action code t p x (Some i) =
@@ -185,6 +192,7 @@ pub data FirstFault (code : Code) : Rule → ℕ → Type 0 where
 pub record Grows (a b : Assigned) : Type 0 where
   pub each : (p : ℕ) (x : At) → a p ≡ Some x → Leads b (record { to = p; at = x })
 
+-- the assignment lies below each one that meets the rules
 abbrev pub IsLeastOf : Code → Assigned → Type 0
 IsLeastOf code a = (b : Assigned) → Holds code b → Grows a b
 

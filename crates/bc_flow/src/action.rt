@@ -20,10 +20,10 @@ pub enum Action {
     /// Drops an except entry, and jumps.
     PopExcept(usize),
     EndFinally,
-    /// Jumps out of so many entries, and takes an iterator or not.
+    /// Jumps to an offset, out of a number of entries, and takes an iterator or not.
     Unwind(usize, usize, bool),
     Return,
-    /// Takes so many values, and raises.
+    /// Takes that number of values, and raises.
     Raise(u32),
 }
 

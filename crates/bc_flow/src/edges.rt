@@ -25,7 +25,7 @@ pub enum Change {
     DropExcept,
     /// Drops the top entry, which is active.
     DropActive,
-    /// Drops so many entries, each with a cut to its height.
+    /// Drops that number of the topmost entries, each with a cut to its height.
     Leave(usize),
 }
 
@@ -40,6 +40,7 @@ impl<'a> Behind<'a> {
     ghost use Rattle.std.specs.Prelude.{◌≡◌, ◌<◌, length, slice_index_or};
     ghost use Rattle.bc_flow.specs.Views.{behind_of};
 
+    /// How many entries these are.
     pub fn len(self) -> usize
         ensures { result ≡ length (behind_of self.entry) }
     {
@@ -49,7 +50,7 @@ impl<'a> Behind<'a> {
         }
     }
 
-    /// The entry below so many others.
+    /// The entry below `i` others.
     #[tactic(auto, using(crate::proofs::Loops::at_cons, bc_shapes::proofs::Loops::at_rest))]
     pub fn at(self, i: usize) -> Entry
         requires { i < length (behind_of self) }
@@ -77,7 +78,7 @@ impl<'a> Edge<'a> {
     ghost use Rattle.bc_flow.specs.Views.{edge_of_rust, behind_of};
     ghost use Rattle.bc_flow.specs.Edges as specs;
 
-    /// The entry below so many others, as it arrives.
+    /// The entry below `i` others, as it arrives.
     pub fn entry(self, i: usize) -> Entry
         requires { i < length (behind_of self.entries) }
         ensures { (d : Entry) → result ≡ specs.mark self.entry.to (slice_index_or (behind_of self.entry.entries) i d) }
@@ -218,7 +219,7 @@ pub fn change_of(action: &Action) -> Change
     }
 }
 
-/// Among how many of so many entries it runs the finallys.
+/// How many of the `entries` entries it leaves, from the top: it runs the finallys among these.
 #[tactic(auto, unfolding(crate::specs::Edges::runs))]
 pub fn run_count(action: &Action, entries: usize) -> usize
     ensures { result ≡ specs.runs (action_of action.now) entries }
@@ -230,7 +231,7 @@ pub fn run_count(action: &Action, entries: usize) -> usize
     }
 }
 
-/// The entries behind an instruction, where so many slots are before it.
+/// The entries behind an instruction, where `slots` slots are before it.
 #[tactic(auto, using(crate::proofs::Loops::rest_drop))]
 pub fn entries_behind<'a>(change: Change, slots: usize, entries: &'a [Entry]) -> Behind<'a>
     ensures { behind_of result ≡ specs.behind change slots entries.now }
@@ -356,7 +357,7 @@ fn push_if<'a>(edges: &mut Vec<Edge<'a>>, edge: Option<Edge<'a>>) -> Result<(), 
     Ok(())
 }
 
-/// Adds those to the finally handlers that run among so many entries from the top.
+/// Adds those to the finally handlers that run among the `count` topmost entries.
 #[tactic(auto, using(crate::proofs::Loops::runs_end))]
 fn push_runs<'a>(
     edges: &mut Vec<Edge<'a>>,

@@ -82,7 +82,7 @@ pub(crate) fn holds(code: &Code, action: &Action, x: &Shape, edges: &[Edge]) -> 
     fits_entries(code, action, x.slots.len(), &x.entries) && all_marked(edges)
 }
 
-/// The height of the entry below so many others.
+/// The height of the entry below `n` others, or 0 where there is none.
 #[tactic(auto, using(crate::proofs::Loops::floor_at, crate::proofs::Loops::floor_past))]
 fn floor_below(entries: &[Entry], n: usize) -> usize
     ensures { result ≡ specs.floor (drop n entries.now) }
@@ -110,7 +110,7 @@ fn lower(a: usize, b: usize) -> usize
     a.min(b)
 }
 
-/// How many slots are left when so many entries are left.
+/// How many of `slots` slots remain once the `count` topmost entries are left, each with a cut to its height.
 #[tactic(auto, using(crate::proofs::Loops::lowest_end))]
 fn lowest(count: usize, entries: &[Entry], slots: usize) -> usize
     ensures { result ≡ specs.lowest count entries.now slots }
@@ -125,7 +125,7 @@ fn lowest(count: usize, entries: &[Entry], slots: usize) -> usize
     least
 }
 
-/// How many of so many slots it works on: those that remain when the entries are left that it leaves.
+/// How many of `slots` slots it works on: those that remain when the entries are left that it leaves.
 pub fn left(change: Change, entries: &[Entry], slots: usize) -> usize
     ensures { result ≡ specs.left change entries.now slots }
 {
@@ -188,7 +188,7 @@ pub(crate) fn finds_again(action: &Action, x: &Shape, base: &[Kind], span: Span)
     fits_again(takes, base, span) && deep(change_of(action), &x.entries, takes.len(), base.len())
 }
 
-/// Is there room for so many slots beside the locals?
+/// Is there room for `slots` slots beside the locals?
 fn has_room(locals: usize, slots: usize, n_state: usize) -> bool
     ensures { result ≡ nat_le (locals + slots) n_state }
 {

@@ -562,7 +562,7 @@ fn no_changes(alloc: Global) -> Vec<Option<Span>>
     Vec::new(alloc)
 }
 
-/// Makes room for the slots that change, once so many visits were made that a position may be visited again.
+/// Makes room for the slots that change, once `visits` is the number of positions, so that the next visit may be of one again.
 #[tactic(auto, using(crate::proofs::Spans::since_none))]
 fn keep_changes(
     alloc: Global,

@@ -20,7 +20,7 @@ abbrev pub numbers_by : (ℕ → RawCode → List Numbered) → ℕ → List Raw
 numbers_by inner number [] = []
 numbers_by inner number (code ∷ codes) = number ∷ numbers_by inner (number + length (inner number code)) codes
 
--- a code that has the number, and the codes in it to so many levels
+-- a code that has the number `number`, and the codes in it to that number of levels
 unfoldable pub codes_to : ℕ → ℕ → RawCode → List Numbered
 codes_to zero number code = []
 codes_to (suc levels) number code =

@@ -12,7 +12,7 @@ use Rattle.bc_rows.specs.declared.row.Row.{Row}
 use Rattle.bc_rows.specs.Codes.{Numbered, codes_of}
 use Rattle.bc_rows.specs.Rows.{IsRowOf, module_named}
 
--- the bytes are so many indexes of the module's table
+-- the bytes are `count` indexes of the module's table
 pub record AreIndexes (shelf : Shelf) (i count : ℕ) (bytes indexes : List ℕ) : Type 0 where
   pub names : AreNames indexes bytes
   pub many : length indexes ≡ count

@@ -26,11 +26,12 @@ pub record SameOutside (s : Span) (ks ls : List Kind) : Type 0 where
 abbrev pub BelowOutside : Option Span → List Kind → List Kind → Type 0
 BelowOutside o ls ms = (k : ℕ) → k < length ms → Below (slice_index_or ls k Either) (slice_index_or ms k Either) ⊎ Among o (length ms - suc k)
 
--- a slot that is given is a new one, or one of so many from the top
+-- a slot that is given is a new one, or one of the topmost `n`
 abbrev pub keeps : ℕ → Give → Bool
 keeps n (New k) = true
 keeps n (Again m) = nat_lt m n
 
+-- the same of all slots that are given
 abbrev pub keeps_all : ℕ → List Give → Bool
 keeps_all n [] = true
 keeps_all n (g ∷ gs) = keeps n g && keeps_all n gs

@@ -41,14 +41,14 @@ pub enum Give {
     Again(usize),
 }
 
-/// The slots that are taken from the top: so many values, and these below them.
+/// The slots that are taken, from the top: `values` values, and the others below them.
 #[derive(Clone, Copy)]
 pub struct Takes {
     pub values: u32,
     pub others: &'static [Want],
 }
 
-/// The slots that are given, from the top: so many new values, and these below them.
+/// The slots that are given, from the top: `values` new values, and the others below them.
 #[derive(Clone, Copy)]
 pub struct Gives {
     pub values: u32,

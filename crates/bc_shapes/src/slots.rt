@@ -95,7 +95,7 @@ fn give_of(slots: &[Kind], give: Give) -> Kind
     }
 }
 
-/// Is it a new slot, or one of so many from the top?
+/// Is it a new slot, or one of the topmost `n`?
 fn keeps(give: Give, n: usize) -> bool
     ensures { result ≡ spans.keeps n give }
 {
@@ -117,7 +117,7 @@ fn keep(gives: &[Give], n: usize) -> bool
     true
 }
 
-/// Are all new slots, or some of so many from the top?
+/// Is each a new slot, or one of the topmost `n`?
 #[inline(always)]
 #[tactic(auto, using(crate::proofs::Spans::keeps_values))]
 pub fn keeps_all(gives: Gives, n: usize) -> bool
@@ -126,7 +126,7 @@ pub fn keeps_all(gives: Gives, n: usize) -> bool
     keep(gives.others, n)
 }
 
-/// All items but so many from the top.
+/// All items but the first `n`, which are the topmost.
 #[inline(always)]
 pub fn below<T>(items: &[T], n: usize) -> &[T]
     ensures { result.now ≡ drop n items.now }
@@ -134,7 +134,7 @@ pub fn below<T>(items: &[T], n: usize) -> &[T]
     if n < items.len() { &items[n..] } else { &[] }
 }
 
-/// Slots that arrive: some that are given on those that were found, but for so many.
+/// Slots that arrive: those that are given, on those that were found but for the topmost `taken`.
 #[derive(Clone, Copy)]
 pub struct Slots<'a> {
     pub gives: Gives,
@@ -154,7 +154,7 @@ impl<'a> Slots<'a> {
         self.gives.len() + self.found.len().saturating_sub(self.taken)
     }
 
-    /// The slot below so many others.
+    /// The slot below `i` others.
     #[tactic(auto, using(crate::proofs::Loops::slots_size))]
     pub(crate) fn at(self, i: usize) -> Kind
         requires { i < length (slots_of_rust self) }
@@ -171,7 +171,7 @@ impl<'a> Slots<'a> {
         }
     }
 
-    /// The slot below so many others, which was found.
+    /// The slot below `i` others, which was found.
     pub(crate) fn found_at(self, i: usize) -> Kind
         requires found { length (gives_of self.gives) ≤ i }
         requires within { i < length (slots_of_rust self) }

@@ -74,7 +74,7 @@ pub record IsFirstFault (m : Module) (fault : VerifyFault) : Type 0 where
   pub path_is : fault.path ≡ 0 ∷ path
   pub first : IsTreeFault m m.code fault.rule path fault.offset
 
--- how many codes there are in so many levels
+-- how many codes there are in that number of levels, the code itself the first
 unfoldable pub codes_in : ℕ → RawCode → ℕ
 codes_in zero code = 0
 codes_in (suc levels) code = 1 + sum_by (codes_in levels) (out-RawCode code).children

@@ -42,6 +42,7 @@ impl Model for Verified {
 }
 
 impl Verified {
+    /// The module, lent for reading.
     pub fn module(&self) -> &RawModule
         ensures { result.now ≡ self.now }
     {

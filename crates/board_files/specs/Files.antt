@@ -12,7 +12,7 @@ use Rattle.board_files.specs.declared.stop.SummaryStop.TheVariants as summaries
 unfoldable pub out_name : ℕ → List ℕ
 out_name task = decimal task ++ codes ".out"
 
--- the name is none of those of so many tasks
+-- the name is none of those of the first `count` tasks
 abbrev pub IsNoOutput : (count : ℕ) → (name : List ℕ) → Type 0
 IsNoOutput count name = (task : ℕ) → task < count → name ≢ out_name task
 
@@ -20,7 +20,7 @@ IsNoOutput count name = (task : ℕ) → task < count → name ≢ out_name task
 abbrev pub KeepsOthers : (count : ℕ) → (old new : Option FileOf) → Type 0
 KeepsOthers count old new = IfSome old (λ file. (now : FileOf) × (new ≡ Some now) × ((name : List ℕ) → IsNoOutput count name → now name ≡ file name))
 
--- the file of each of so many tasks is empty, and each other file is what it was
+-- the file of each of the first `count` tasks is empty
 abbrev pub AreEmpty : (count : ℕ) → (old new : Option FileOf) → Type 0
 AreEmpty count old new = IfSome old (λ file. (now : FileOf) × (new ≡ Some now) × ((task : ℕ) → task < count → now (out_name task) ≡ Some []))
 
@@ -34,7 +34,7 @@ is_unwritten (Ok done) = false
 is_unwritten (Err (outputs.Unwritten task)) = true
 is_unwritten (Err outputs.NoMemory) = false
 
--- the task whose file wasn't written is one of so many
+-- the task whose file wasn't written is one of the first `count`
 abbrev pub StopsWithin : (count : ℕ) → Result (Unit {0}) OutputStop → Type 0
 StopsWithin count (Ok done) = Unit {0}
 StopsWithin count (Err (outputs.Unwritten task)) = task < count

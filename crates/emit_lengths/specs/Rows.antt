@@ -10,7 +10,7 @@ use Rattle.py_meaning.specs.Statements.{bound_name, read_parts}
 use Rattle.py_meaning.specs.Plain.{plain_expr, plain_target}
 use Rattle.emit_counts.specs.Lengths.{behind_length, name_length, comparison_length, expr_length, store_length}
 
--- the operands with their comparisons, and so many bytes beside each
+-- the operands with their comparisons, and `beside` bytes beside each
 abbrev pub links_with : ℕ → List Name → List (CompareOp × trees.Expr) → ℕ
 links_with beside locals [] = 0
 links_with beside locals (link ∷ links) = expr_length locals (plain_expr link.1) + beside + comparison_length link.0 + links_with beside locals links
@@ -40,7 +40,7 @@ alias_wide locals alias = 4 * length (read_parts (parts_of alias.name) alias.bou
 
 -- ---- parts of statements
 
--- behind a branch with so many others behind it
+-- the bytes behind a branch that has `left` others behind it
 abbrev pub behind_wide : (left : ℕ) (bare : Bool) → ℕ
 behind_wide left bare = behind_length (nat_eq left 0 && bare)
 

@@ -52,7 +52,7 @@ fn comparison_length(op: CompareOp) -> usize
     1
 }
 
-/// What each of so many links has beside its operand and its comparison.
+/// How many bytes each of `count` links has beside its operand and its comparison.
 fn beside_links(count: usize) -> usize
     ensures one { count ≤ 1 → result ≡ 0 }
     ensures many { 1 < count → result ≡ 5 }

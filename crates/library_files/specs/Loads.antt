@@ -58,8 +58,8 @@ EntryImports (entries.Held m size) names = Imports m names
 -- loading
 -- =======
 
--- Where names come to these: from a library whose modules' files have that many bytes, with the names that are asked for together
--- by one import, the imports of the modules that were found under these, and the imports behind them.
+-- Where names come to these: from a library whose modules' files have `size` bytes in all, with the names that are asked for
+-- together by one import, the imports of the modules that were found under these, and the imports behind them.
 pub data Loads (Comes : OfNames) : (shelf : Shelf) → (size : ℕ) → (together found behind : List (List ℕ)) → Loading → Type 0 where
   -- no name is left
   ends : (shelf : Shelf) (size : ℕ) → Loads Comes shelf size [] [] [] (Loaded shelf)
@@ -102,7 +102,7 @@ LoadsBy (Some limit) Comes main size end = end ≡ Past limit
 LoadsBy None Comes main size end =
     (imports : List (List ℕ)) × Imports main imports × Loads Comes (with_module no_entries main_name main) size [] imports [] end
 
--- from a main module, whose file has that many bytes
+-- from a main module, whose file has `size` bytes
 abbrev pub LoadsWith : OfNames → (main : Module) → (size : ℕ) → Loading → Type 0
 LoadsWith Comes main size end = LoadsBy (limit_of no_entries 0 main_name (entries.Held main size)) Comes main size end
 

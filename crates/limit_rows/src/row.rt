@@ -42,6 +42,7 @@ pub struct Row {
 }
 
 impl Row {
+    /// A row about a limit, as yet with an empty source, level 0 and no stored name.
     pub fn new(alloc: Global, about: &str) -> Result<Row, AllocError> {
         Ok(Row {
             about: String::from_str(alloc, about)?,
@@ -51,6 +52,7 @@ impl Row {
         })
     }
 
+    /// What the row is about, as its table says.
     pub fn about(&self) -> &str {
         &self.about
     }

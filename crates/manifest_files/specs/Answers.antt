@@ -9,6 +9,7 @@ use Rattle.manifest_files.specs.declared.fault.ManifestFault.{ManifestFault}
 use Rattle.manifest_files.specs.declared.fault.ManifestFault.TheVariants.{BadCall, Loop, Twice, Absent, Required, Deep, TooMany, ReadFault}
 use Rattle.manifest_files.specs.Entries.{Said, Saying, Itself, Another, AreLines, entries_after}
 
+-- is it the fault of a read that failed outside?
 abbrev pub is_read_fault : ManifestFault → Bool
 is_read_fault (BadCall name line) = false
 is_read_fault (Loop name) = false
@@ -24,6 +25,7 @@ abbrev pub is_outside : Refused ManifestFault → Bool
 is_outside (refused.Fault fault) = is_read_fault fault
 is_outside refused.NoMemory = false
 
+-- the same of a call's answer
 abbrev pub is_failed : {A : Type 0} → Result A (Refused ManifestFault) → Bool
 is_failed (Ok value) = false
 is_failed (Err error) = is_outside error

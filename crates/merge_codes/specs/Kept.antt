@@ -19,7 +19,7 @@ NamesThere m (instrs.Name op n) = n < length m.qstrs
 NamesThere m (instrs.Num LoadConstObj n) = n < length m.objects
 NamesThere m instr = Unit {0}
 
--- the jump goes to one of so many instructions
+-- the jump goes to one of `count` instructions
 pub record GoesTo (count : ℕ) (target : Target) : Type 0 where
   pub position : ℕ
   pub target_is : target ≡ Position position

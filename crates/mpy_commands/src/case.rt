@@ -18,6 +18,7 @@ pub struct Case {
 }
 
 impl Case {
+    /// A case with an empty folder, and no command.
     pub fn new(alloc: Global) -> Case {
         Case {
             files: Vec::new(alloc),
@@ -95,6 +96,7 @@ pub struct Count {
 }
 
 impl Count {
+    /// No case and no command as yet.
     pub fn new(alloc: Global) -> Count {
         Count {
             cases: 0,

@@ -14,7 +14,7 @@ gap place = if place == 0 then [] else codes ", "
 abbrev pub item_text : ℕ → List ℕ → List ℕ
 item_text place item = gap place ++ item
 
--- what stands behind so many items: a lone one has a comma
+-- what stands behind `count` items: a lone one has a comma
 abbrev pub closing : ℕ → List ℕ
 closing count = if count == 1 then codes ",)" else codes ")"
 

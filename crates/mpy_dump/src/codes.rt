@@ -51,7 +51,7 @@ fn parts_of(bytes: &[u8]) -> Parts<'_>
     }
 }
 
-/// Puts the numbers of a code with so many bytes.
+/// Puts the numbers of a code of `size` bytes.
 fn put_numbers<S: Sink>(out: &mut S, prelude: &Prelude, size: usize) -> Result<(), Failed>
     ensures { Puts S.told S.count out.old out.new (specs.numbers_text prelude.now size) result }
 {
@@ -80,7 +80,7 @@ fn put_numbers<S: Sink>(out: &mut S, prelude: &Prelude, size: usize) -> Result<(
     )
 }
 
-/// Puts the line of a code with so many bytes.
+/// Puts the line of a code of `size` bytes.
 fn put_line<S: Sink>(
     out: &mut S,
     module: &RawModule,

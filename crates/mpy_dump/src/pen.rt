@@ -61,7 +61,7 @@ impl Pen {
         self.len
     }
 
-    /// Keeps so many bytes.
+    /// Keeps the first `len` bytes.
     pub(crate) fn cut(&mut self, len: usize)
         requires { len ≤ length self.old.text }
         ensures { self.new.text ≡ take len self.old.text }

@@ -13,7 +13,7 @@ use mpy_tree::RawModule;
 /// How many bytes there are.
 const BYTES: usize = 256;
 
-/// The first bytes of the instructions whose operand is a number: these on, so many.
+/// The lowest first byte of an instruction whose operand is a number. There are `FIRSTS` of them, one after another.
 const FIRST: usize = 16;
 
 const FIRSTS: usize = 40;

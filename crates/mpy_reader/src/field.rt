@@ -34,7 +34,7 @@ pub(crate) fn number(bytes: &[u8]) -> Field<'_, u32>
     }
 }
 
-/// So many bytes.
+/// The first `count` bytes.
 pub(crate) fn taken(bytes: &[u8], count: usize) -> Field<'_, &[u8]>
     ensures { Gives (λ found. (found.0.now, found.1.now)) result (reading.taken count bytes.now) }
 {
@@ -66,7 +66,7 @@ fn own_of(whole: &[u8]) -> Option<&[u8]>
     }
 }
 
-/// A text of so many bytes with its zero byte.
+/// A text of `len` bytes and its zero byte.
 #[tactic(auto, unfolding(crate::specs::Reading::text))]
 pub(crate) fn text(alloc: Global, bytes: &[u8], len: u32, fault: FileFault) -> Field<'_, Text>
     ensures { Gives (λ found. (found.0, found.1.now)) result (reading.text fault len bytes.now) }

@@ -94,7 +94,7 @@ fn int_object(bytes: &[u8]) -> Field<'_, Constant>
     Ok((Constant::Int(n), rest))
 }
 
-/// So many objects, with so many levels of tuples in each at most.
+/// The first `count` objects, with `levels` levels of tuples in each at most.
 #[cycle(object)]
 fn items(alloc: Global, count: u32, bytes: &[u8], levels: usize) -> Field<'_, Items<Constant>>
     ensures { Gives (λ found. (found.0, found.1.now)) result (reading.many count (reading.object levels) bytes.now) }
@@ -109,7 +109,7 @@ fn items(alloc: Global, count: u32, bytes: &[u8], levels: usize) -> Field<'_, It
     Ok((items, rest))
 }
 
-/// A tuple, with so many levels of tuples in it at most.
+/// A tuple, with `levels` levels of tuples in it at most.
 #[cycle(object)]
 #[tactic(auto, unfolding(crate::specs::Reading::tuple))]
 fn tuple(alloc: Global, bytes: &[u8], levels: usize) -> Field<'_, Constant>
@@ -120,7 +120,7 @@ fn tuple(alloc: Global, bytes: &[u8], levels: usize) -> Field<'_, Constant>
     Ok((Constant::Tuple(items), rest))
 }
 
-/// An object with so many levels of tuples at most.
+/// An object with `levels` levels of tuples at most.
 #[cycle(object)]
 fn object(alloc: Global, bytes: &[u8], levels: usize) -> Field<'_, Constant>
     ensures { Gives (λ found. (found.0, found.1.now)) result (reading.object levels bytes.now) }
@@ -138,7 +138,7 @@ fn object(alloc: Global, bytes: &[u8], levels: usize) -> Field<'_, Constant>
     }
 }
 
-/// So many objects.
+/// The first `count` objects.
 pub(crate) fn objects(alloc: Global, count: u32, bytes: &[u8]) -> Field<'_, Items<Constant>>
     ensures { Gives (λ found. (found.0, found.1.now)) result (reading.many count (reading.object MAX_DEPTH) bytes.now) }
 {

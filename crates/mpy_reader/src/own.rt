@@ -50,7 +50,7 @@ fn index(bytes: &[u8]) -> Field<'_, u32>
     }
 }
 
-/// The number of a text in a table of so many.
+/// The number of a text in a table of `texts` texts.
 #[tactic(auto, unfolding(crate::specs::Reading::name))]
 fn name(bytes: &[u8], texts: u32) -> Field<'_, u32>
     ensures { Gives (λ found. (found.0, found.1.now)) result (reading.name texts bytes.now) }
@@ -62,7 +62,7 @@ fn name(bytes: &[u8], texts: u32) -> Field<'_, u32>
     Ok((n, rest))
 }
 
-/// Passes so many names.
+/// Passes `count` names, each a number of a table of `texts` texts.
 fn names(bytes: &[u8], count: u32, texts: u32) -> Result<(), Refused<FileFault>>
     ensures { Holds result (reading.many count (reading.name texts) bytes.now) }
 {
@@ -87,7 +87,7 @@ fn instructions(bytes: &[u8]) -> Result<(), Refused<FileFault>>
     Ok(())
 }
 
-/// A code's own bytes, whose names stand in a table of so many texts.
+/// A code's own bytes, whose names stand in a table of `texts` texts.
 #[tactic(auto, unfolding(crate::specs::Reading::own_code))]
 pub(crate) fn own_code(code: &[u8], texts: u32) -> Result<(), Refused<FileFault>>
     ensures { Gives (λ _. tt) result (reading.own_code texts code.now) }

@@ -50,7 +50,7 @@ fn write_int(alloc: Global, out: &mut Vec<u8>, n: i32) -> Result<(), NoMemory>
     Ok(())
 }
 
-/// Adds the objects, with so many levels of tuples in each at most.
+/// Adds the objects, with `levels` levels of tuples in each at most.
 #[cycle(object)]
 fn write_objects(
     alloc: Global,
@@ -67,7 +67,7 @@ fn write_objects(
     Ok(())
 }
 
-/// Adds an object, with so many levels of tuples in it at most.
+/// Adds an object, with `levels` levels of tuples in it at most.
 #[cycle(object)]
 fn write_object(
     alloc: Global,

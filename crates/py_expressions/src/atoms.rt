@@ -94,6 +94,7 @@ impl<F: Fn(Global, &mut Cursor<'_>, usize, Rule) -> Result<Expr, Refused<Syntax>
         Ok(Expr::Dict(found))
     }
 
+    /// Reads an atom: a name, a constant, or what stands in brackets of one kind.
     #[tactic(auto, unfolding(crate::specs::Reading::atom))]
     pub fn atom(&self, tokens: &mut Cursor<'_>) -> Result<Expr, Refused<Syntax>>
         requires { Nests self.now.depth (F.pre self.now.expr) (F.post self.now.expr) }

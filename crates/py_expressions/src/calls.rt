@@ -166,6 +166,7 @@ impl<F: Fn(Global, &mut Cursor<'_>, usize, Rule) -> Result<Expr, Refused<Syntax>
         }
     }
 
+    /// Reads all calls, indexes and attributes that follow `left`, the innermost first.
     pub fn trailers(&self, tokens: &mut Cursor<'_>, mut left: Expr) -> Result<Expr, Refused<Syntax>>
         requires { Nests self.now.depth (F.pre self.now.expr) (F.post self.now.expr) }
         ensures { Reads (spec.all_trailers (spec.expr self.now.depth) left (input_of tokens.old)) result tokens.new }
@@ -179,6 +180,7 @@ impl<F: Fn(Global, &mut Cursor<'_>, usize, Rule) -> Result<Expr, Refused<Syntax>
         Ok(left)
     }
 
+    /// Reads a primary: an atom with the calls, indexes and attributes behind it.
     #[tactic(auto, unfolding(crate::specs::Reading::primary))]
     pub fn primary(&self, tokens: &mut Cursor<'_>) -> Result<Expr, Refused<Syntax>>
         requires { Nests self.now.depth (F.pre self.now.expr) (F.post self.now.expr) }

@@ -108,6 +108,7 @@ impl<F: Fn(Global, &mut Cursor<'_>, usize, Rule) -> Result<Expr, Refused<Syntax>
         }
     }
 
+    /// Reads a comparison behind any number of `not`.
     #[tactic(auto, unfolding(crate::specs::Reading::not_test))]
     pub fn not_test(&self, tokens: &mut Cursor<'_>) -> Result<Expr, Refused<Syntax>>
         requires { Nests self.now.depth (F.pre self.now.expr) (F.post self.now.expr) }
@@ -193,6 +194,7 @@ impl<F: Fn(Global, &mut Cursor<'_>, usize, Rule) -> Result<Expr, Refused<Syntax>
         Ok(Expr::Cond { test, yes, no })
     }
 
+    /// Reads a whole expression: `or` and what binds closer, and the `if` with its `else` behind it, if there is one.
     #[tactic(auto, unfolding(crate::specs::Reading::whole_test))]
     pub fn test(&self, tokens: &mut Cursor<'_>) -> Result<Expr, Refused<Syntax>>
         requires { Nests self.now.depth (F.pre self.now.expr) (F.post self.now.expr) }

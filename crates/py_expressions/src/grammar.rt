@@ -48,7 +48,7 @@ impl<F: Fn(Global, &mut Cursor<'_>, usize, Rule) -> Result<Expr, Refused<Syntax>
     }
 }
 
-/// Reads by a rule, with no more than so many nestings.
+/// Reads by a rule, with no more than `depth` nestings.
 pub(crate) fn expr(
     alloc: Global,
     tokens: &mut Cursor<'_>,

@@ -62,6 +62,7 @@ impl<F: Fn(Global, &mut Cursor<'_>, usize, Rule) -> Result<Expr, Refused<Syntax>
         Ok(Expr::Binary { op, left, right })
     }
 
+    /// Reads a power, or a sign with the factor behind it.
     #[tactic(auto, unfolding(crate::specs::Reading::factor))]
     pub fn factor(&self, tokens: &mut Cursor<'_>) -> Result<Expr, Refused<Syntax>>
         requires { Nests self.now.depth (F.pre self.now.expr) (F.post self.now.expr) }

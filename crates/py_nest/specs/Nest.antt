@@ -69,7 +69,7 @@ pub record Levels : Type 0 where
 abbrev pub base : Levels
 base = record { top = 0; below = [] }
 
--- The level on top is gone, and so much is added to the count below it. The base level stays as it is.
+-- The level on top is gone, and `more` is added to the count below it. The base level stays as it is.
 abbrev pub popped : Levels → List ℕ → ℕ → Levels
 popped levels [] more = levels
 popped levels (count ∷ below) more = record { top = count + more; below = below }

@@ -53,6 +53,7 @@ impl Pool {
         self.texts.len()
     }
 
+    /// Whether the pool holds no text.
     pub fn is_empty(&self) -> bool
         ensures { IsTrue result ↔ self.now.texts ≡ [] }
     {

@@ -17,7 +17,7 @@ use Rattle.run_commands.specs.Base.{base_of}
 use Rattle.command_files.specs.Source.{HoldsFaulty}
 use Rattle.command_files.specs.Folder.{MayHold}
 
--- the source under the name compiles at the level to a file of this verified module, which has that many bytes
+-- the source under the name compiles at the level to a file of this verified module, which has `size` bytes
 pub record HoldsSource (level : ℕ) (files : Option FileOf) (name : List ℕ) (m : Module) (size : ℕ) : Type 0 where
   pub source : List ℕ
   pub holds : MayHold files name (Some source)

@@ -72,6 +72,7 @@ fn room(text: &str) -> Room {
 }
 
 impl Program {
+    /// A program without files, that is run in an arena of the size that `mpy run` takes where nothing is said.
     pub fn new(alloc: Global) -> Program {
         let room = Room {
             cells: 65_536,

@@ -55,7 +55,7 @@ pub fn extend_list<C: Constants>(
     }
 }
 
-/// The visits of `extend_list`, and no more than so many. No item is walked.
+/// How many visits `extend_list` makes, `most` at most. No item is walked.
 pub fn visits_extend<C: Constants>(
     arena: &Arena,
     consts: &C,

@@ -33,7 +33,7 @@ pub fn inplace_add<C: Constants>(
     }
 }
 
-/// The visits of `inplace_add`, and no more than so many.
+/// How many visits `inplace_add` makes, `most` at most.
 pub fn visits_inplace_add<C: Constants>(
     arena: &Arena,
     consts: &C,

@@ -139,8 +139,8 @@ fn unpack_iterable<C: Constants>(
     }
 }
 
-/// Unpacks an iterable into so many slots. Those of a str are texts that are made; where one doesn't fit, those in front
-/// of it stay made.
+/// Unpacks an iterable into the slots, one item each. The items of a str are texts that are made; where one doesn't fit, those
+/// in front of it stay made.
 pub fn unpack<C: Constants>(
     arena: &mut Arena,
     consts: &C,

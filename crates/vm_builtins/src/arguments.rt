@@ -52,7 +52,7 @@ fn between(least: u32, most: u32, args: &[Value]) -> Result<(), Fault>
     }
 }
 
-/// So many arguments are taken, and no keyword arguments.
+/// Whether there are `takes` arguments and no keyword arguments, or the fault of what is wrong.
 pub fn only_so_many(takes: u32, args: &[Value], keys: &[(Value, Value)]) -> Result<(), Fault>
     requires few { length args.now < 2 ^ 32 }
     ensures as_many { IfOk result (λ _. length args.now ≡ takes) }

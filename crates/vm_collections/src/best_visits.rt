@@ -117,7 +117,7 @@ fn visits_call_best<C: Constants>(
     }
 }
 
-/// How many visits `call_min` makes, up to so many. It goes no further.
+/// How many visits `call_min` makes, `most` at most. It goes no further.
 pub fn visits_call_min<C: Constants>(
     arena: &Arena,
     consts: &C,
@@ -133,7 +133,7 @@ pub fn visits_call_min<C: Constants>(
     visits_call_best(arena, consts, Extreme::Least, args, keys, most)
 }
 
-/// How many visits `call_max` makes, up to so many. It goes no further.
+/// How many visits `call_max` makes, `most` at most. It goes no further.
 pub fn visits_call_max<C: Constants>(
     arena: &Arena,
     consts: &C,

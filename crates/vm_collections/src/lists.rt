@@ -80,7 +80,7 @@ pub fn call_list<C: Constants>(
     }
 }
 
-/// How many visits `call_list` makes, up to so many: the items.
+/// How many visits `call_list` makes, `most` at most: one for each item.
 pub fn visits_call_list<C: Constants>(
     arena: &Arena,
     consts: &C,

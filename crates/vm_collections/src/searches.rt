@@ -47,7 +47,7 @@ pub(crate) fn best<C: Constants>(
     Some(Ok(best))
 }
 
-/// The visits of a value and of its comparison with the best so far, up to so many.
+/// How many visits a value and its comparison with the best so far take, `most` at most.
 fn visits_candidate<C: Constants>(
     arena: &Arena,
     consts: &C,
@@ -68,7 +68,7 @@ fn visits_candidate<C: Constants>(
     1 + visits_order(arena, consts, v, best, most - 1)
 }
 
-/// How many visits the search takes, up to so many. It goes no further.
+/// How many visits the search takes, `most` at most. It goes no further.
 pub(crate) fn visits_best<C: Constants>(
     arena: &Arena,
     consts: &C,

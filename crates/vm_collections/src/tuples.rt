@@ -153,7 +153,7 @@ fn visits_tuple_of<C: Constants>(arena: &Arena, consts: &C, v: Value, most: u64)
     most.min(length_of(arena, consts, v) as u64)
 }
 
-/// How many visits `call_tuple` makes, up to so many: the items of what is no tuple.
+/// How many visits `call_tuple` makes, `most` at most: one for each item of what is no tuple.
 pub fn visits_call_tuple<C: Constants>(
     arena: &Arena,
     consts: &C,

@@ -71,7 +71,7 @@ pub fn op_eq<C: Constants>(arena: &Arena, consts: &C, a: Value, b: Value) -> Res
     }
 }
 
-/// How many visits `op_eq` makes, up to so many. It goes no further.
+/// How many visits `op_eq` makes, `most` at most. It goes no further.
 pub fn visits_op_eq<C: Constants>(arena: &Arena, consts: &C, a: Value, b: Value, most: u64) -> u64
     requires a_leads { Leads arena.now.objects a }
     requires b_leads { Leads arena.now.objects b }
@@ -98,7 +98,7 @@ pub fn op_ne<C: Constants>(arena: &Arena, consts: &C, a: Value, b: Value) -> Res
     }
 }
 
-/// How many visits `op_ne` makes, up to so many. It goes no further.
+/// How many visits `op_ne` makes, `most` at most. It goes no further.
 pub fn visits_op_ne<C: Constants>(arena: &Arena, consts: &C, a: Value, b: Value, most: u64) -> u64
     requires a_leads { Leads arena.now.objects a }
     requires b_leads { Leads arena.now.objects b }

@@ -103,7 +103,7 @@ pub fn op_contains<C: Constants>(
     }
 }
 
-/// How many visits `op_contains` makes, up to so many. It goes no further.
+/// How many visits `op_contains` makes, `most` at most. It goes no further.
 pub fn visits_op_contains<C: Constants>(
     arena: &Arena,
     consts: &C,

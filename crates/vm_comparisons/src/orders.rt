@@ -82,7 +82,7 @@ pub fn op_order<C: Constants>(
     }
 }
 
-/// How many visits `op_order` makes, up to so many, whichever the sign. It goes no further.
+/// How many visits `op_order` makes, `most` at most, whichever the sign. It goes no further.
 pub fn visits_op_order<C: Constants>(
     arena: &Arena,
     consts: &C,

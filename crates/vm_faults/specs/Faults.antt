@@ -99,7 +99,7 @@ module _ (texts : StrNo → Option (List ℕ)) (tuples : ConstNo → Option (Lis
   name_in (faults.NoModule name len) = take len (or_nothing (texts name))
   name_in _ = []
 
--- a text has so many first bytes
+-- the text `name` has `len` bytes at least
 abbrev pub IsPrefix : (StrNo → Option (List ℕ)) → StrNo → ℕ → Type 0
 IsPrefix texts name len = IsSome (texts name) × (len ≤ length (or_nothing (texts name)))
 

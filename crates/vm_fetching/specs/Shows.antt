@@ -46,7 +46,7 @@ TargetStarts starts (fetched.Binary n) = Unit {0}
 TargetStarts starts (fetched.Name op text) = Unit {0}
 TargetStarts starts (fetched.Object v) = Unit {0}
 
--- the local with the number is one of so many, where the operation has the number of one
+-- the local with the number is one of `locals`, where the operation has the number of one
 abbrev pub NumberIsWithin : (locals : ℕ) → NumberOp → ℕ → Type 0
 NumberIsWithin locals numbers.LoadFast n = n < locals
 NumberIsWithin locals numbers.LoadFastN n = n < locals

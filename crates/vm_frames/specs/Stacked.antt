@@ -13,7 +13,7 @@ no_call = record { module_number = 0; code = 0; at = 0; names = record { cell = 
 abbrev pub no_frame : Held
 no_frame = record { call = no_call; slot_room = 0; entry_room = 0 }
 
--- the calls of the lowest so many frames, the innermost first
+-- the calls of the lowest frames, as many as the second argument says, the innermost first
 abbrev pub calls_in : List Held → ℕ → List Call
 calls_in frames zero = []
 calls_in frames (suc depth) = (slice_index_or frames depth no_frame).call ∷ calls_in frames depth

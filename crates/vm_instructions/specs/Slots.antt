@@ -88,7 +88,7 @@ module _ (texts : StrNo → Option (List ℕ)) (tuples : ConstNo → Option (Lis
   PutsLooked objects end old new (Ok done) = (looked : Looked) × IsKnownLook texts tuples objects (Ok looked) × (new ≡ on_running (with_looked end looked) old)
   PutsLooked objects end old new (Err stop) = new ≡ old
 
-  -- the same, where known values are put in the place of the top slot, as many as count
+  -- the same, where `count` known values are put in the place of the top slot
   abbrev pub PutsValues : Objects Value ℕ → (end count : ℕ) → (old new : Calls) → Result (Unit {0}) Stop → Type 0
   PutsValues objects end count old new (Ok done) = (vs : List Value) × (length vs ≡ count) × All (IsKnown texts tuples objects) vs × (new ≡ on_running (with_values end vs) old)
   PutsValues objects end count old new (Err stop) = new ≡ old

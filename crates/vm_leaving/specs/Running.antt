@@ -58,7 +58,7 @@ pub record RunsWith (texts : StrNo → Option (List ℕ)) (tuples : ConstNo → 
   pub registered : AreRegistered runs.program heap modules
 
 module _ (p : Program) where
-  -- the machine's step of the calls in the world with this heap and these modules registered, where so much is paid
+  -- the machine's step of the calls in the world with this heap and these modules registered, where `paid` steps are paid on the instruction
   abbrev pub stepped_with : (paid : ℕ) → Calls → PlainWorld → Heap Value ℕ → Registry → State
   stepped_with paid s w heap modules = stepped p paid s (with_modules p.tables w modules) heap
 

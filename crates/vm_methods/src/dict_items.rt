@@ -54,7 +54,7 @@ fn make_pairs(arena: &mut Arena, d: DictNo) -> Result<(), NoRoom>
     Ok(())
 }
 
-/// Puts so many tuples, from the first, into an empty list that has room for them.
+/// Puts `count` tuples, of which the first has the cell `first`, into an empty list that has room for them.
 fn put_tuples(arena: &mut Arena, l: ListNo, first: u32, count: u32)
     requires list { IsA arena.old.objects AList l.cell }
     requires tuples { (k : ℕ) → k < count → IsA arena.old.objects ATuple (first + 3 * k) }

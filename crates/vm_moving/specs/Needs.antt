@@ -4,7 +4,7 @@ use Rattle.vm_frames.specs.Calls.{Calls, OfRunning}
 use Rattle.vm_fetching.specs.declared.operations.PlainOp.{PlainOp}
 use Rattle.vm_fetching.specs.declared.operations.PlainOp.TheVariants as plain_ops
 
--- more slots than so many
+-- more than `count` slots
 abbrev pub HasOver : ℕ → Calls → Type 0
 HasOver count s = OfRunning (λ c. count < length c.slots) s.calls
 

@@ -85,7 +85,7 @@ fn of_shapes<C: Constants>(
     }
 }
 
-/// A str, tuple or list and a number, so many times of which `*` gives.
+/// What an operator gives of a str, tuple or list and the number `n`: of `*` the left operand `n` times over.
 fn of_left<C: Constants>(
     arena: &mut Arena,
     consts: &C,

@@ -179,7 +179,7 @@ pub fn call_print<S: Sink, C: Constants>(
     }
 }
 
-/// How many visits the texts of values take one after another, up to the first that goes too deep, and to so many.
+/// How many visits the texts of values take one after another, up to the first that goes too deep, `most` at most.
 fn visits_texts<C: Constants>(arena: &Arena, consts: &C, args: &[Value], most: u64) -> u64
     requires known { All (IsKnown (C.text_of consts.now) (C.items_of consts.now) arena.now.objects) args.now }
     requires all_told { AllTold (C.text_of consts.now) (C.items_of consts.now) arena.now.objects }
@@ -198,7 +198,7 @@ fn visits_texts<C: Constants>(arena: &Arena, consts: &C, args: &[Value], most: u
     made
 }
 
-/// How many visits `print` of these arguments makes, up to so many. It goes no further.
+/// How many visits `print` of these arguments makes, `most` at most. It goes no further.
 pub fn visits_call_print<C: Constants>(
     arena: &Arena,
     consts: &C,

@@ -16,7 +16,7 @@ use Rattle.bc_progress.specs.Plans.{Plan}
 use Rattle.vm_standing.specs.OnTop.{OneValue, TwoValues, ThreeValues, Values, Anything, OneDropped, TwoOperands, ThreeOperands, Stored, Defaults, IsLooked, Iterator, Ending, Except}
 
 module _ (plan : Plan) (library : Library) (code : Code) (frame : Frame) where
-  -- room for so many slots in the place of as many as are taken
+  -- room for `given` slots in the place of the `taken` topmost
   abbrev pub HasRoom : (taken given : ℕ) → Type 0
   HasRoom taken given = code.locals + (length frame.slots - taken + given) ≤ plan.n_state
 

@@ -5,7 +5,7 @@ use Rattle.bc_ops.specs.declared.instr.Instr.{Instr}
 use Rattle.bc_ops.specs.declared.instr.Instr.TheVariants as instrs
 use Rattle.bc_machine.specs.Library.{Item, Plain, Names, Loads, Jumps, Unwinds}
 
--- the local that the instruction names, if it names one, is one of so many
+-- the local that the instruction names, if it names one, is one of `locals`
 abbrev pub InstrIsWithin : (locals : ℕ) → Instr → Type 0
 InstrIsWithin locals (instrs.Num ops.LoadFast n) = n < locals
 InstrIsWithin locals (instrs.Num ops.LoadFastN n) = n < locals

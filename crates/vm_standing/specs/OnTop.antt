@@ -97,8 +97,8 @@ pub record Iterator (slots : List Slot) : Type 0 where
   pub below : List Slot
   pub are : slots ≡ Iter over at 3 ∷ second ∷ third ∷ fourth ∷ below
 
--- what a finally has kept, where so many entries lie below its own: nothing, an exception, a return, or a jump out of no more
--- entries than there are
+-- what a finally has kept, where `entries` entries lie below its own: nothing, an exception, a return, or a jump out of no
+-- more entries than there are
 pub data IsCause (entries : ℕ) : Slot → Type 0 where
   nothing : IsCause entries (Value Nil)
   exception : (x : ℕ) → IsCause entries (Value (At x))

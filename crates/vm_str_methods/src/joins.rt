@@ -126,7 +126,7 @@ fn put_parts<C: Constants>(
     }
 }
 
-/// A text of the joined strs of an iterable, which have so many bytes. The empty one is a constant.
+/// A text of the joined strs of an iterable, which have `len` bytes. The empty one is a constant.
 fn make_joined<C: Constants>(
     arena: &mut Arena,
     consts: &C,
@@ -217,7 +217,7 @@ pub fn call_str_join<C: Constants>(
     }
 }
 
-/// How many items are looked at, up to the first that is no str and up to so many.
+/// How many items are looked at, up to the first that is no str, `most` at most.
 fn visits_of<C: Constants>(arena: &Arena, consts: &C, over: Value, most: u64) -> u64
     requires over { IsKnown (C.text_of consts.now) (C.items_of consts.now) arena.now.objects over }
     requires all_told { AllTold (C.text_of consts.now) (C.items_of consts.now) arena.now.objects }
@@ -232,7 +232,7 @@ fn visits_of<C: Constants>(arena: &Arena, consts: &C, over: Value, most: u64) ->
     limit as u64
 }
 
-/// How many visits `call_str_join` makes, up to so many. It goes no further.
+/// How many visits `call_str_join` makes, `most` at most. It goes no further.
 pub fn visits_call_str_join<C: Constants>(
     arena: &Arena,
     consts: &C,

@@ -110,8 +110,8 @@ module _ (view : View) where
     bound : (object method : Value) (builtin : Builtin) (below : List Slot) → view.plain method ≡ Built builtin → IsLooked (slots.Object (Some object) ∷ slots.Value method ∷ below)
     free : (v : Value) (below : List Slot) → IsLooked (slots.Object None ∷ slots.Value v ∷ below)
 
-  -- what a finally has kept, where so many entries lie below its own: nothing, an exception, a return, or a jump out of no more
-  -- entries than there are
+  -- what a finally has kept, where `entries` entries lie below its own: nothing, an exception, a return, or a jump out of no
+  -- more entries than there are
   pub data IsCause (entries : ℕ) : Slot → Type 0 where
     nothing : (v : Value) → view.plain v ≡ Nil → IsCause entries (slots.Value v)
     exception : (v : Value) (x : ℕ) → view.plain v ≡ At x → IsCause entries (slots.Value v)

@@ -105,7 +105,7 @@ fn fill_text<C: Constants>(
     }
 }
 
-/// A text that is the text of a value, of which so many bytes are asked for. The empty one is a constant.
+/// A text that is the text of a value, which has `len` bytes. The empty one is a constant.
 fn make_filled<C: Constants>(
     arena: &mut Arena,
     consts: &C,
@@ -173,7 +173,7 @@ pub fn call_str<C: Constants>(
     }
 }
 
-/// How many visits `call_str` makes, up to so many. It goes no further.
+/// How many visits `call_str` makes, `most` at most. It goes no further.
 pub fn visits_call_str<C: Constants>(
     arena: &Arena,
     consts: &C,
@@ -210,7 +210,7 @@ pub fn call_repr<C: Constants>(
     }
 }
 
-/// How many visits `call_repr` makes, up to so many. It goes no further.
+/// How many visits `call_repr` makes, `most` at most. It goes no further.
 pub fn visits_call_repr<C: Constants>(
     arena: &Arena,
     consts: &C,

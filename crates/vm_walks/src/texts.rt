@@ -59,7 +59,7 @@ pub fn text_len<C: Constants>(arena: &Arena, consts: &C, v: Value, raw: bool) ->
     }
 }
 
-/// How many visits the text of a value takes, up to so many. It goes no further.
+/// How many visits the text of a value takes, `most` at most. It goes no further.
 pub fn visits_text<C: Constants>(arena: &Arena, consts: &C, v: Value, raw: bool, most: u64) -> u64
     requires leads { Leads arena.now.objects v }
     requires told { IsTold (C.text_of consts.now) (C.items_of consts.now) v }
