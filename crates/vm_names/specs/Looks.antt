@@ -14,7 +14,7 @@ use Rattle.vm_faults.specs.declared.stop.Stop.{Stop}
 use Rattle.vm_faults.specs.declared.stop.Stop.TheVariants as stops
 use Rattle.vm_faults.specs.Faults.{IsKnown, IsKnownFault}
 use Rattle.vm_faults.specs.Outcomes.{plain_stop}
-use Rattle.vm_raising.specs.Worlds.{Sight, sight, world_over}
+use Rattle.vm_sights.specs.Sights.{Sight, sight_of as sight, world_over}
 use Rattle.vm_names.specs.declared.attributes.Looked.{Looked}
 use Rattle.vm_names.specs.declared.attributes.Looked.TheVariants as looks
 
