@@ -59,6 +59,7 @@ fn last_kept(entries: &[Entry]) -> Option<ExcNo>
 }
 
 /// A slot goes to this place, or behind all others.
+#[inline(always)]
 fn put_at(slots: &mut Vec<Slot>, at: usize, slot: Slot)
     requires there { at ≤ length slots.old.items }
     requires room { at < vec_capacity slots.old }
@@ -143,6 +144,7 @@ impl Frame {
     }
 
     /// A slot more, on top.
+    #[inline(always)]
     pub fn push(&mut self, slot: Slot)
         requires { length self.old.call.slots < self.old.slot_room }
         ensures { self.new ≡ record self.old { call = record self.old.call { slots = slot ∷ self.old.call.slots } } }

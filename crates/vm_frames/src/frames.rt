@@ -172,6 +172,7 @@ impl Frames {
     }
 
     /// A slot more, on top.
+    #[inline(always)]
     pub fn push(&mut self, slot: Slot)
         requires { OfRunning (λ c. length c.slots < self.old.slot_room) self.old.calls }
         ensures { self.new ≡ on_running (λ c. record c { slots = slot ∷ c.slots }) self.old }
