@@ -128,3 +128,10 @@ abbrev pub IsWithinRoom : Option ArenaObject → Type 0
 IsWithinRoom (Some (ListObject items room)) = length items ≤ room
 IsWithinRoom (Some (DictObject pairs room)) = length pairs ≤ room
 IsWithinRoom _ = Unit {0}
+
+-- a list, a tuple or a dict has fewer than 2^32 items
+abbrev pub HasFew : Option ArenaObject → Type 0
+HasFew (Some (ListObject items room)) = length items < 2 ^ 32
+HasFew (Some (TupleObject items)) = length items < 2 ^ 32
+HasFew (Some (DictObject pairs room)) = length pairs < 2 ^ 32
+HasFew _ = Unit {0}
