@@ -86,7 +86,7 @@ module _ (a : Inside) {h : Heap Value ℕ} (i : Invariant a) (e : seen a ≡ h) 
         replaced_seen a e n (Some o) cells a.bytes.items held2 refl,
       )
 
-  -- after a move to the room for so many items
+  -- after a move to the room for `items` items
   pub list_reserved : (items start rest room : ℕ) (cells : List Cell) (capacity : ℕ) → r.room < items → room ≡ room_for items → rest ≡ room - r.len → start ≡ length a.cells.items
       → cells ≡ a.cells.items ++ (part a.cells.items r.start r.len ++ replicate rest blank) → Fits h (0 + 1 * room_for items) 0 → vec_capacity a.cells ≤ capacity
       → IsArena a.keys (set cells n (ListHead (record { start = start; len = r.len; room = room }))) a.bytes.items a.room.cells a.room.bytes capacity (vec_capacity a.bytes)

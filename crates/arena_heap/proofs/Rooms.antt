@@ -1,5 +1,5 @@
 -- The rooms of an arena's lists and dicts, and what is left of the arena.
-use Rattle.std.proofs.Common.{ℕ, ◌^◌, ◌<◌, ◌≡◌, List, take, sym, subst, arith}
+use Rattle.std.proofs.Common.{ℕ, ◌+◌, ◌^◌, ◌<◌, ◌≤◌, ◌≡◌, List, length, take, drop, sym, subst, arith}
 use Rattle.std.proofs.lemmas.List.FromFn.{length-map-range_with_len}
 use Rattle.std.proofs.lemmas.List.{length-map, length-take}
 use Rattle.arena_heap.specs.declared.arena.Arena.TheInside.{Inside}
@@ -8,8 +8,8 @@ use Rattle.arena_heap.specs.declared.cells.Cell.{Cell}
 use Rattle.arena_heap.specs.declared.cells.Cell.TheVariants as cells
 use Rattle.mpy_base.specs.World.{Heap, object}
 use Rattle.mpy_base.specs.Weights.{Fits}
-use Rattle.arena_heap.specs.Values.{IsWithinRoom}
-use Rattle.arena_heap.specs.Cells.{heads, decode, Full, value_of, pair_in}
+use Rattle.arena_heap.specs.Values.{IsWithinRoom, HasFew}
+use Rattle.arena_heap.specs.Cells.{heads, first, size, part, decode, Full, value_of, pair_in}
 use Rattle.arena_heap.proofs.Frame.{object_is}
 use Rattle.arena_heap.proofs.Seen.{seen, Invariant}
 use Rattle.arena_heap.proofs.Views.{used_is}
@@ -31,3 +31,18 @@ seen_left a i e =
 
 pub seen_few_bytes : (a : Inside) {h : Heap Value ℕ} → Invariant a → seen a ≡ h → h.byte_size < 2 ^ 32
 seen_few_bytes a i e = subst (λ (h : Heap Value ℕ). h.byte_size < 2 ^ 32) e i.bytes_few
+
+-- what an object holds lies in its region
+decoded_few : (c : Cell) (n limit : ℕ) (ps : List Cell) (bs : List ℕ) → limit < 2 ^ 32 → first n c + size c ≤ limit → length ps ≤ size c → Full c → HasFew (decode c ps bs)
+decoded_few (cells.ListHead r) n limit ps bs few low short f = omega (arith, few, low, short, length-map (take r.len ps) value_of, length-take r.len ps)
+decoded_few (cells.TupleHead k) n limit ps bs few low short f = omega (arith, few, low, short, length-map ps value_of)
+decoded_few (cells.DictHead r) n limit ps bs few low short f = omega (arith, few, low, f.0, length-map-range_with_len (pair_in ps) 0 r.len)
+decoded_few _ n limit ps bs few low short f = tt
+
+pub seen_few_items : (a : Inside) {h : Heap Value ℕ} → Invariant a → seen a ≡ h → (n : ℕ) → HasFew (object h.objects n)
+seen_few_items a i e n =
+    let head = heads a.cells.items n in
+    let short : length (part a.cells.items (first n head) (size head)) ≤ size head = let most = length-take (size head) (drop (first n head) a.cells.items) in omega (arith, most) in
+    subst (λ (h : Heap Value ℕ). HasFew (object h.objects n)) e
+    (subst HasFew (sym (object_is a.cells.items a.bytes.items n))
+    (decoded_few head n (length a.cells.items) _ _ (omega (arith, i.cells_fit, i.cells_few)) (i.kept.cells_apart.inside n) short (i.kept.full n)))

@@ -13,6 +13,7 @@ use Rattle.arena_heap.specs.declared.cells.Region.{Region}
 use Rattle.arena_heap.specs.Values.{ArenaObject, Sound}
 use Rattle.arena_heap.specs.Links.{bucket_of, AreChained}
 
+-- the cell that holds None, as each one does that is taken
 abbrev pub blank : Cell
 blank = cells.None
 
@@ -97,6 +98,7 @@ first n (cells.MethodHead method) = suc n
 first n (cells.ModuleHead name) = suc n
 first n _ = 0
 
+-- how many cells that region has
 abbrev pub size : Cell → ℕ
 size (cells.ListHead r) = r.room
 size (cells.DictHead r) = 3 * r.room
@@ -107,11 +109,12 @@ size (cells.MethodHead method) = 1
 size (cells.ModuleHead name) = 1
 size _ = 0
 
--- and of bytes
+-- the region of bytes that it has now
 abbrev pub byte_first : ℕ → Cell → ℕ
 byte_first n (cells.TextHead t) = t.start
 byte_first n _ = 0
 
+-- how many bytes that region has
 abbrev pub byte_size : Cell → ℕ
 byte_size (cells.TextHead t) = t.len
 byte_size _ = 0
@@ -122,6 +125,7 @@ Full (cells.ListHead r) = (r.len ≤ r.room) × IsRoom r.room
 Full (cells.DictHead r) = (r.len ≤ r.room) × IsRoom r.room
 Full _ = Unit {0}
 
+-- the `size` items from the place `from` on
 abbrev pub part : {X : Type 0} → List X → ℕ → ℕ → List X
 part xs from size = take size (drop from xs)
 
@@ -129,6 +133,7 @@ part xs from size = take size (drop from xs)
 abbrev pub pair_in : List Cell → ℕ → Value × Value
 pair_in ps i = (value_of (slice_index_or ps (3 * i) blank), value_of (slice_index_or ps (3 * i + 1) blank))
 
+-- the first `n` pairs of a dict's cells
 abbrev pub pairs_in : List Cell → ℕ → List (Value × Value)
 pairs_in ps n = map (pair_in ps) (range_with_len 0 n)
 
@@ -137,16 +142,20 @@ abbrev pub first_link : Cell → ℕ
 first_link (cells.Links first next) = first
 first_link _ = 0
 
+-- the second link of a cell
 abbrev pub next_link : Cell → ℕ
 next_link (cells.Links first next) = next
 next_link _ = 0
 
+-- the bucket of the pair at the place `at`
 abbrev pub bucket_in : (ℕ → List ℕ) → List Cell → ℕ → ℕ → ℕ
 bucket_in texts ps room at = bucket_of texts room (value_of (slice_index_or ps (3 * at) blank))
 
+-- the link to the last pair of a bucket
 abbrev pub first_in : List Cell → ℕ → ℕ
 first_in ps bucket = first_link (slice_index_or ps (3 * bucket + 2) blank)
 
+-- the link from a pair to the one in front of it in its bucket
 abbrev pub next_in : List Cell → ℕ → ℕ
 next_in ps at = next_link (slice_index_or ps (3 * at + 2) blank)
 
@@ -177,7 +186,7 @@ pub record Linked (below : ℕ) (cells : List Cell) (bytes : List ℕ) : Type 0 
   pub few : below ≤ length cells
   pub each : (n : ℕ) → Links (texts_in cells bytes) below (heads cells n) cells
 
--- unless a text that is a key was written later
+-- all dicts are linked; nothing is said of them once a text that is a key was written later (None)
 abbrev pub AreAllLinked : Option ℕ → List Cell → List ℕ → Type 0
 AreAllLinked None cells bytes = Unit {0}
 AreAllLinked (Some below) cells bytes = Linked below cells bytes
@@ -187,6 +196,7 @@ abbrev pub dict_in : Cell → Option ℕ
 dict_in (cells.Dict d) = Some d.cell
 dict_in _ = None
 
+-- the number of the dict that a cell leads to, and 0 where it leads to none
 abbrev pub dict_number : Cell → ℕ
 dict_number (cells.Dict d) = d.cell
 dict_number _ = 0
@@ -197,6 +207,7 @@ pub record Raised : Type 0 where
   pub line : ℕ
   pub name : ℕ
 
+-- the place that a cell holds
 abbrev pub place_in : Cell → Raised
 place_in (cells.Place file line name) = record { file = file; line = line; name = name }
 place_in _ = record { file = 1; line = 0; name = 1 }
@@ -217,16 +228,19 @@ decode (cells.RangeHead start stop step) ps bs = Some (RangeObject start stop st
 decode (cells.ModuleHead name) ps bs = Some (ModuleObject name (dict_in (slice_index_or ps 0 blank)))
 decode _ ps bs = None
 
--- the same, from the head and both regions whole
+-- an object from its head, and from the cells and the bytes of the whole arena
 abbrev pub read : ℕ → Cell → List Cell → List ℕ → Option ArenaObject
 read n h cells bytes = decode h (part cells (first n h) (size h)) (part bytes (byte_first n h) (byte_size h))
 
+-- the object whose head is the cell of this number, if that is a head
 abbrev pub object_at : List Cell → List ℕ → ℕ → Option ArenaObject
 object_at cells bytes n = read n (heads cells n) cells bytes
 
+-- the objects of an arena, one for each cell: none where the cell is no head
 abbrev pub objects_of : List Cell → List ℕ → List (Option ArenaObject)
 objects_of cells bytes = map (object_at cells bytes) (range_with_len 0 (length cells))
 
+-- `c` is one of the `size` numbers from `from` on
 pub record In (from size c : ℕ) : Type 0 where
   pub low : from ≤ c
   pub high : c < from + size
@@ -236,7 +250,7 @@ pub record Apart (from size : ℕ → ℕ) (limit : ℕ) : Type 0 where
   pub inside : (n : ℕ) → from n + size n ≤ limit
   pub apart : (n m c : ℕ) → In (from n) (size n) c → In (from m) (size m) c → n ≡ m
 
--- what is kept of the heads h of an arena with so many cells and bytes used
+-- what is kept of the heads `h` of an arena that uses `cells` cells and `bytes` bytes
 pub record Kept (h : ℕ → Cell) (cells bytes : ℕ) : Type 0 where
   pub cells_apart : Apart (λ n. first n (h n)) (λ n. size (h n)) cells
   pub bytes_apart : Apart (λ n. byte_first n (h n)) (λ n. byte_size (h n)) bytes

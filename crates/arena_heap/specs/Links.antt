@@ -13,6 +13,7 @@ spread n = n * 2654435769 / 65536
 unfoldable pub code_after : ℕ → ℕ → ℕ
 code_after code byte = (code * 31 + byte) % 2 ^ 32
 
+-- the code of a text behind those bytes whose code is given
 abbrev pub bytes_code : ℕ → List ℕ → ℕ
 bytes_code code [] = code
 bytes_code code (byte ∷ bytes) = bytes_code (code_after code byte) bytes
@@ -56,12 +57,12 @@ abbrev pub text_end : Value → ℕ
 text_end (values.Text t) = t.cell + 1
 text_end _ = 0
 
--- the cell that the texts among the keys lie below, with a key more
+-- the cell that the texts among the keys lie below, where `key` is a key more
 abbrev pub with_key : Option ℕ → Value → Option ℕ
 with_key None key = None
 with_key (Some below) key = Some (max below (text_end key))
 
--- and after the text at a cell was written. None where it may be a key
+-- the cell that the texts among the keys lie below, once the text at the cell `at` was written; None where that may be a key
 abbrev pub without_text : Option ℕ → ℕ → Option ℕ
 without_text None at = None
 without_text (Some below) at = if nat_le below at then Some below else None

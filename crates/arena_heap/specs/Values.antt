@@ -23,6 +23,7 @@ needs (values.Range r) = Some (ARange, r.cell)
 needs (values.Module m) = Some (AModule, m.cell)
 needs _ = None
 
+-- an object of that kind has that number
 abbrev pub Meets : Objects Value ℕ → Option (ObjectKind × ℕ) → Type 0
 Meets objects None = Unit {0}
 Meets objects (Some p) = IsA objects p.0 p.1
@@ -31,6 +32,7 @@ Meets objects (Some p) = IsA objects p.0 p.1
 abbrev pub IsSmall : ℤ → Type 0
 IsSmall z = (neg_ℤ (pos (2 ^ 30)) ≤ℤ z) × (z <ℤ pos (2 ^ 30))
 
+-- a whole number is small
 abbrev pub HasSmall : Value → Type 0
 HasSmall (values.Int z) = IsSmall z
 HasSmall _ = Unit {0}
@@ -40,21 +42,25 @@ pub record Leads (objects : Objects Value ℕ) (v : Value) : Type 0 where
   pub meets : Meets objects (needs v)
   pub small : HasSmall v
 
+-- a tuple: the empty one, a constant, or one that was made
 abbrev pub IsTuple : Value → Type 0
 IsTuple values.Empty = Unit {0}
 IsTuple (values.Fixed c) = Unit {0}
 IsTuple (values.Tuple t) = Unit {0}
 IsTuple _ = ⊥
 
+-- a str: a text of a file, or one that was made
 abbrev pub IsStr : Value → Type 0
 IsStr (values.Str s) = Unit {0}
 IsStr (values.Text t) = Unit {0}
 IsStr _ = ⊥
 
+-- a list
 abbrev pub IsList : Value → Type 0
 IsList (values.List l) = Unit {0}
 IsList _ = ⊥
 
+-- a dict
 abbrev pub IsDict : Value → Type 0
 IsDict (values.Dict d) = Unit {0}
 IsDict _ = ⊥
@@ -122,3 +128,10 @@ abbrev pub IsWithinRoom : Option ArenaObject → Type 0
 IsWithinRoom (Some (ListObject items room)) = length items ≤ room
 IsWithinRoom (Some (DictObject pairs room)) = length pairs ≤ room
 IsWithinRoom _ = Unit {0}
+
+-- a list, a tuple or a dict has fewer than 2^32 items
+abbrev pub HasFew : Option ArenaObject → Type 0
+HasFew (Some (ListObject items room)) = length items < 2 ^ 32
+HasFew (Some (TupleObject items)) = length items < 2 ^ 32
+HasFew (Some (DictObject pairs room)) = length pairs < 2 ^ 32
+HasFew _ = Unit {0}

@@ -3,7 +3,7 @@
 ghost use Rattle.std.specs.Prelude.{◌≡◌, ℕ, ◌^◌, ◌<◌, IfOk, IfErr, OnOk, OnErr};
 ghost use Rattle.mpy_base.specs.World.{object};
 ghost use Rattle.mpy_base.specs.Weights.{empty, used, Fits, no_room};
-ghost use Rattle.arena_heap.specs.Values.{Sound, IsWithinRoom};
+ghost use Rattle.arena_heap.specs.Values.{Sound, IsWithinRoom, HasFew};
 
 use crate::cells::Cell;
 use mpy_base::{NoMemory, NoRoom, Room};
@@ -19,6 +19,8 @@ pub struct Arena {
     /// The texts among the keys of dicts lie below this cell. None: one of them was written later, and dicts aren't linked
     /// any more.
     pub(crate) keys: Option<u32>,
+    /// Room for the bytes of a text that is being made, unless it is lent.
+    pub(crate) scratch: Option<Vec<u8>>,
 }
 
 impl Model for Arena {
@@ -42,12 +44,29 @@ impl Arena {
     {
         let cells = Vec::with_capacity(alloc, room.cells as usize)?;
         let bytes = Vec::with_capacity(alloc, room.bytes as usize)?;
+        let scratch = Vec::with_capacity(alloc, room.bytes as usize)?;
         Ok(Arena {
             cells,
             bytes,
             room,
             keys: Some(0),
+            scratch: Some(scratch),
         })
+    }
+
+    /// Lends a vector that was taken with the arena: it has room for as many bytes as the arena, so that a text is made
+    /// there first, in one go. None: it is lent already. `return_scratch` gives it back.
+    pub fn lend_scratch(&mut self) -> Option<Vec<u8>>
+        ensures same { self.new ≡ self.old }
+    {
+        self.scratch.take()
+    }
+
+    /// Takes back what `lend_scratch` lent.
+    pub fn return_scratch(&mut self, scratch: Vec<u8>)
+        ensures same { self.new ≡ self.old }
+    {
+        self.scratch = Some(scratch);
     }
 
     /// The room used.
@@ -61,7 +80,7 @@ impl Arena {
         }
     }
 
-    /// Whether so much more fits.
+    /// Whether `cells` more cells and `bytes` more bytes fit.
     pub(crate) fn ask(&self, cells: u64, bytes: u64) -> Result<(), NoRoom>
         ensures ok { OnOk result (Fits self.now cells bytes) }
         ensures told { IfErr result (λ e. e ≡ no_room self.now cells bytes) }
@@ -95,9 +114,12 @@ impl Arena {
     {
         let _ = &self.room;
     }
-    /// An arena's lists and dicts hold no more than their rooms, and what is used of the arena lies within it.
+
+    /// An arena's lists and dicts hold no more than their rooms, its objects few items, and what is used of the arena lies
+    /// within it.
     pub fn room_law(&self)
         ensures rooms { (n : ℕ) → IsWithinRoom (object self.now.objects n) }
+        ensures few_items { (n : ℕ) → HasFew (object self.now.objects n) }
         ensures fits { Fits self.now 0 0 }
         ensures few { self.now.cell_size < 2 ^ 32 }
         ensures few_bytes { self.now.byte_size < 2 ^ 32 }

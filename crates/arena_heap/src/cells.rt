@@ -66,6 +66,7 @@ pub(crate) enum Cell {
 }
 
 impl Cell {
+    /// The cell that holds the value.
     pub(crate) fn of(v: Value) -> Cell
         ensures { result ≡ cell_of v }
     {

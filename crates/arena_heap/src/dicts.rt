@@ -59,7 +59,8 @@ pub fn dict_last(arena: &Arena, d: DictNo, key: Value) -> Option<u32>
     }
 }
 
-/// The same of the bucket where the texts that were made stand with these bytes.
+/// One more than the place of the last pair in the bucket where the texts that were made stand with these bytes, or 0 where there is
+/// none. None where dicts aren't linked any more.
 pub fn dict_last_text(arena: &Arena, d: DictNo, bytes: &[u8]) -> Option<u32>
     requires { IsA arena.now.objects ADict d.cell }
     ensures { IfSome result (IsLast (buckets_at arena.now d.cell) (text_code bytes.now % room_at arena.now d.cell) (length (pairs_at arena.now d.cell))) }
@@ -101,7 +102,7 @@ pub fn dict_set_at(arena: &mut Arena, d: DictNo, at: u32, v: Value)
     arena.cells[place] = Cell::of(v);
 }
 
-/// Moves a dict to the room for so many pairs, unless its room holds them.
+/// Moves a dict to the room for `pairs` pairs, unless its room holds them.
 pub(crate) fn reserve_dict(arena: &mut Arena, d: DictNo, pairs: u64) -> Result<(), NoRoom>
     requires { IsA arena.old.objects ADict d.cell }
     ensures ok { OnOk result (arena.new ≡ with_dict_room arena.old d.cell pairs) }

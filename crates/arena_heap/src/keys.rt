@@ -16,7 +16,7 @@ fn text_end(key: Value) -> u32
     }
 }
 
-/// With a key more.
+/// The cell that the texts among the keys lie below, where `key` is a key more.
 pub(crate) fn with_key(keys: Option<u32>, key: Value) -> Option<u32>
     requires { text_end key < 2 ^ 32 }
     ensures { result ≡ with_key keys key }
@@ -27,7 +27,7 @@ pub(crate) fn with_key(keys: Option<u32>, key: Value) -> Option<u32>
     }
 }
 
-/// After a text was written. None where it may be a key.
+/// The cell that the texts among the keys lie below, once the text at the cell `at` was written; None where that may be a key.
 pub(crate) fn without_text(keys: Option<u32>, at: u32) -> Option<u32>
     ensures { result ≡ without_text keys at }
 {

@@ -8,6 +8,7 @@ ghost use Rattle.arena_heap.specs.Cells.{In, heads, part, blank, byte_first, byt
 use crate::cells::{Cell, Region, Span};
 use crate::value::{StrNo, Value};
 
+/// The number, spread so that numbers that follow one another fall into different buckets.
 #[tactic(auto, unfolding(crate::specs::Links::spread))]
 fn spread(n: u32) -> u64
     ensures { result ≡ spread n }
@@ -52,7 +53,7 @@ fn span_at(cells: &Vec<Cell>, at: u32) -> Span
     }
 }
 
-/// The same of the text that was made at a cell.
+/// The code of the text that was made at a cell, by which its bucket is found.
 fn made_code(cells: &Vec<Cell>, bytes: &Vec<u8>, at: u32) -> u64
     requires { HaveBytes cells.now.items bytes.now.items }
     ensures { result ≡ text_code (texts_in cells.now.items bytes.now.items at) }
@@ -62,6 +63,7 @@ fn made_code(cells: &Vec<Cell>, bytes: &Vec<u8>, at: u32) -> u64
     text_code(&bytes[start..start + span.len as usize])
 }
 
+/// The number that puts a key into a bucket. It takes time linear in a text that was made, and constant time for other keys.
 fn code_of(cells: &Vec<Cell>, bytes: &Vec<u8>, key: Value) -> u64
     requires { HaveBytes cells.now.items bytes.now.items }
     ensures { result ≡ code_of (texts_in cells.now.items bytes.now.items) key }
@@ -120,7 +122,7 @@ pub(crate) fn link(cells: &mut Vec<Cell>, bytes: &Vec<u8>, region: Region, at: u
     };
 }
 
-/// Takes all links out.
+/// Empties all buckets of a dict, and takes the links of its pairs out.
 fn unlink(cells: &mut Vec<Cell>, region: Region)
     requires inside { region.start + 3 * region.room ≤ vec_len cells.old }
     requires plain { (c : ℕ) → In region.start (3 * region.room) c → heads cells.old.items c ≡ blank }

@@ -1,4 +1,4 @@
-//! Calls on lists.
+//! Calls on lists of an arena: length, items by place, growth. A list that outgrows its room moves behind all other cells.
 
 ghost use Rattle.std.specs.Prelude.{◌≡◌, ◌+◌, ◌<◌, ◌≤◌, ◌↔◌, length, ◌++◌, ◌∷◌, [], replicate, IfErr, OnOk, IsSome, IfSome, OnSome, IfNone, insert, slice_get, slice_set, vec_len};
 ghost use Rattle.std.specs.List.{remove};
@@ -14,7 +14,7 @@ use crate::heads::list_region;
 use crate::value::{ListNo, Value};
 use mpy_base::NoRoom;
 
-/// Copies so many cells behind all others, with so many blank cells behind them.
+/// Copies the `len` cells from `start` on behind all others, with `rest` blank cells behind the copy.
 pub(crate) fn move_cells(cells: &mut Vec<Cell>, start: u32, len: u32, rest: u32)
     requires inside { start + len ≤ vec_len cells.old }
     requires fits { vec_len cells.old + (len + rest) ≤ vec_capacity cells.old }
@@ -68,7 +68,7 @@ pub fn list_set(arena: &mut Arena, l: ListNo, at: u32, v: Value) -> Option<()>
     }
 }
 
-/// Moves a list to the room for so many items, unless its room holds them.
+/// Moves a list to the room for `items` items, unless its room holds them.
 pub fn reserve_list(arena: &mut Arena, l: ListNo, items: u64) -> Result<(), NoRoom>
     requires { IsA arena.old.objects AList l.cell }
     ensures ok { OnOk result (arena.new ≡ with_list_room arena.old l.cell items) }

@@ -14,7 +14,7 @@ use crate::value::{
 };
 use mpy_base::{Builtin, Kind, NoRoom, room_for};
 
-/// Takes the head of an object, some of its parts, and so many blank cells.
+/// Takes the head of an object, some of its parts, and `more` blank cells.
 pub(crate) fn take_cells(cells: &mut Vec<Cell>, head: Cell, parts: &[Cell], more: u32)
     requires { vec_len cells.old + suc (length parts.now + more) ≤ vec_capacity cells.old }
     ensures items { cells.new.items ≡ cells.old.items ++ head ∷ (parts.now ++ replicate more blank) }
@@ -26,7 +26,7 @@ pub(crate) fn take_cells(cells: &mut Vec<Cell>, head: Cell, parts: &[Cell], more
     let _ = cells.resize(len + more as usize, Cell::None);
 }
 
-/// Takes so many zero bytes.
+/// Takes `count` zero bytes.
 pub(crate) fn take_bytes(bytes: &mut Vec<u8>, count: u32)
     requires { vec_len bytes.old + count ≤ vec_capacity bytes.old }
     ensures items { bytes.new.items ≡ bytes.old.items ++ replicate count 0 }
@@ -37,7 +37,7 @@ pub(crate) fn take_bytes(bytes: &mut Vec<u8>, count: u32)
 }
 
 impl Arena {
-    /// Asks for `head` cells, and `each` for each place of the room for so many items. Gives the room.
+    /// Asks for `head` cells, and `each` for each place of the room for `items` items. Gives the room.
     pub(crate) fn ask_room(&self, head: u64, each: u64, items: u64) -> Result<u32, NoRoom>
         requires { 0 < each }
         ensures room { IfOk result (λ room. room ≡ room_for items) }
@@ -50,7 +50,7 @@ impl Arena {
         Ok(room as u32)
     }
 
-    /// A new list, empty, with the room that holds so many items.
+    /// A new list, empty, with the room that holds `items` items.
     pub fn make_list(&mut self, items: u64) -> Result<ListNo, NoRoom>
         ensures made { IfOk result (λ l. Made self.old self.new l.cell (ListObject [] (room_for items))) }
         ensures refused { IfErr result (λ e. Refused self.old self.new e (3 + room_for items) 0) }
@@ -69,7 +69,7 @@ impl Arena {
         Ok(ListNo { cell })
     }
 
-    /// A new dict, empty, with the room that holds so many pairs.
+    /// A new dict, empty, with the room that holds `pairs` pairs.
     pub fn make_dict(&mut self, pairs: u32) -> Result<DictNo, NoRoom>
         ensures made { IfOk result (λ d. Made self.old self.new d.cell (DictObject [] (room_for pairs))) }
         ensures refused { IfErr result (λ e. Refused self.old self.new e (3 + 3 * room_for pairs) 0) }
@@ -88,7 +88,7 @@ impl Arena {
         Ok(DictNo { cell })
     }
 
-    /// A new tuple of so many places, each of which holds None.
+    /// A new tuple of `count` places, each of which holds None.
     pub fn make_tuple(&mut self, count: u64) -> Result<TupleNo, NoRoom>
         requires { 0 < count }
         ensures made { IfOk result (λ t. Made self.old self.new t.cell (TupleObject (replicate count Value.None))) }
@@ -103,7 +103,7 @@ impl Arena {
         Ok(TupleNo { cell })
     }
 
-    /// A new text of so many zero bytes.
+    /// A new text of `count` zero bytes.
     pub fn make_text(&mut self, count: u64) -> Result<TextNo, NoRoom>
         requires { 0 < count }
         ensures made { IfOk result (λ t. Made self.old self.new t.cell (TextObject (replicate count 0))) }

@@ -8,41 +8,49 @@ pub struct ListNo {
     pub cell: u32,
 }
 
+/// A dict's number, which is its first cell.
 #[derive(Clone, Copy, Debug, PartialEq, Eq)]
 pub struct DictNo {
     pub cell: u32,
 }
 
+/// The number of a tuple of one item or more, which is its first cell. The empty tuple is `Value::Empty`.
 #[derive(Clone, Copy, Debug, PartialEq, Eq)]
 pub struct TupleNo {
     pub cell: u32,
 }
 
+/// The number of a text of one byte or more, which is its first cell. The empty text is `StrNo::Pool(1)`.
 #[derive(Clone, Copy, Debug, PartialEq, Eq)]
 pub struct TextNo {
     pub cell: u32,
 }
 
+/// A function's number, which is its first cell.
 #[derive(Clone, Copy, Debug, PartialEq, Eq)]
 pub struct FunNo {
     pub cell: u32,
 }
 
+/// An exception's number, which is its first cell.
 #[derive(Clone, Copy, Debug, PartialEq, Eq)]
 pub struct ExcNo {
     pub cell: u32,
 }
 
+/// A bound method's number, which is its first cell.
 #[derive(Clone, Copy, Debug, PartialEq, Eq)]
 pub struct MethodNo {
     pub cell: u32,
 }
 
+/// A range's number, which is its first cell.
 #[derive(Clone, Copy, Debug, PartialEq, Eq)]
 pub struct RangeNo {
     pub cell: u32,
 }
 
+/// The number of a module that is made, which is its first cell.
 #[derive(Clone, Copy, Debug, PartialEq, Eq)]
 pub struct ModuleNo {
     pub cell: u32,

@@ -1,5 +1,6 @@
 mod IterableExamples
 pub mod AfterSet
+pub mod Numbered
 pub mod Places
 pub mod Tolds
 pub mod RangeNumbers

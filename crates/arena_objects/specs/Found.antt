@@ -14,6 +14,7 @@ abbrev pub FirstFrom : (Holds : ℕ → Type 0) → (len from : ℕ) → Option 
 FirstFrom Holds len from None = (k : ℕ) → from ≤ k → k < len → Holds k → ⊥
 FirstFrom Holds len from (Some at) = (from ≤ at) × (at < len) × Holds at × ((k : ℕ) → from ≤ k → k < at → Holds k → ⊥)
 
+-- the lesser of two places, of which each may be missing
 abbrev pub least : Option ℕ → Option ℕ → Option ℕ
 least None second = second
 least (Some at) None = Some at
@@ -23,11 +24,11 @@ least (Some at) (Some other) = Some (min at other)
 abbrev pub HasKey : (StrNo → Option (List ℕ)) → Heap Value ℕ → ℕ → PlainKey → ℕ → Type 0
 HasKey texts heap d key at = key_of texts heap (key_in (pairs_at heap d) at) ≡ Some key
 
--- and stands in this bucket
+-- the pair at the place has the key, and stands in this bucket
 abbrev pub HasKeyIn : (StrNo → Option (List ℕ)) → Heap Value ℕ → ℕ → PlainKey → ℕ → ℕ → Type 0
 HasKeyIn texts heap d key bucket at = HasKey texts heap d key at × (buckets_at heap d at ≡ bucket)
 
--- the same of the bucket of a number's text, where there is such a number
+-- the pair at the place has the key, and stands in the bucket of a number's text, where there is such a number
 abbrev pub HasKeyNamed : (StrNo → Option (List ℕ)) → Heap Value ℕ → ℕ → PlainKey → Option ℕ → ℕ → Type 0
 HasKeyNamed texts heap d key None at = ⊥
 HasKeyNamed texts heap d key (Some number) at =

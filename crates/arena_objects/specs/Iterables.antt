@@ -24,6 +24,7 @@ given (Some (DictObject pairs room)) = map (λ pair. pair.0) pairs
 given (Some (RangeObject start stop step)) = range_numbers start stop step
 given _ = []
 
+-- the list, or an empty one where there is none
 abbrev pub or_nothing : {A : Type 0} → Option (List A) → List A
 or_nothing (Some xs) = xs
 or_nothing None = []
@@ -45,7 +46,7 @@ spelled texts heap v = or_nothing (bytes_of texts heap v)
 abbrev pub with_texts : Heap Value ℕ → List ℕ → Heap Value ℕ
 with_texts heap bytes = fold (λ h byte. with_made h (TextObject (byte ∷ []))) heap bytes
 
--- such texts, which take two cells each, from the first
+-- `count` texts that take two cells each, the first of them at `first`
 abbrev pub texts_from : ℕ → ℕ → List Value
 texts_from first count = map (λ k. values.Text (record { cell = first + 2 * k })) (range_with_len 0 count)
 

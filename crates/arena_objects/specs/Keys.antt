@@ -16,6 +16,7 @@ bytes_of texts heap (values.Str s) = texts s
 bytes_of texts heap (values.Text t) = Some (text_at heap t.cell)
 bytes_of texts heap _ = None
 
+-- the value as a key, if a dict may have it as one
 abbrev pub key_of : (StrNo → Option (List ℕ)) → Heap Value ℕ → Value → Option PlainKey
 key_of texts heap values.None = Some NoneKey
 key_of texts heap (values.Bool true) = Some (NumberKey (pos 1))

@@ -117,7 +117,7 @@ pub fn make_texts<C: Constants>(arena: &mut Arena, consts: &C, from: Value) -> R
     Ok(())
 }
 
-/// Puts so many texts, from the first, behind the items of a list that has room for them.
+/// Puts `count` texts, of which the first has the cell `first`, behind the items of a list that has room for them.
 fn put_texts(arena: &mut Arena, l: ListNo, first: u32, count: u32)
     requires list { IsA arena.old.objects AList l.cell }
     requires texts { (k : ℕ) → k < count → IsA arena.old.objects AText (first + 2 * k) }

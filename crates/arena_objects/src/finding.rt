@@ -16,27 +16,62 @@ use arena_heap::{
     dict_len,
 };
 
+/// Up to this many pairs of a dict are looked through one by one.
+const FEW_PAIRS: u32 = 8;
+
+/// Whether a key of a dict is equal to the one that is sought. Two texts of the constants are told apart by their numbers.
+fn is_sought<C: Constants>(arena: &Arena, consts: &C, other: Value, key: Value, sought: Key) -> bool
+    requires other { IsKey other }
+    requires leads { Leads arena.now.objects other }
+    requires told { IsTold (C.text_of consts.now) (C.items_of consts.now) other }
+    requires sought { key_of (C.text_of consts.now) arena.now key ≡ Some (plain sought) }
+    ensures { IsTrue result ↔ (key_of (C.text_of consts.now) arena.now other ≡ Some (plain sought.entry)) }
+{
+    if let Value::Str(StrNo::Pool(number)) = key {
+        if let Value::Str(StrNo::Pool(other_number)) = other {
+            consts.one_number_law();
+            return other_number == number;
+        }
+    }
+    Key::of(arena, consts, other).is(sought)
+}
+
 /// Whether the pair at a place has this key.
-fn has_key<C: Constants>(arena: &Arena, consts: &C, d: DictNo, at: u32, sought: Key) -> bool
+fn has_key<C: Constants>(
+    arena: &Arena,
+    consts: &C,
+    d: DictNo,
+    at: u32,
+    key: Value,
+    sought: Key,
+) -> bool
     requires dict { IsA arena.now.objects ADict d.cell }
     requires within { at < length (pairs_at arena.now d.cell) }
     requires all_told { AllTold (C.text_of consts.now) (C.items_of consts.now) arena.now.objects }
+    requires sought { key_of (C.text_of consts.now) arena.now key ≡ Some (plain sought) }
     ensures { IsTrue result ↔ HasKey (C.text_of consts.now) arena.now d.cell (plain sought.entry) at }
 {
     let Some((other, _)) = dict_at(arena, d, at) else {
         unreachable!()
     };
-    Key::of(arena, consts, other).is(sought)
+    is_sought(arena, consts, other, key, sought)
 }
 
 /// The first pair with this key, by a walk over all pairs.
-fn in_dict<C: Constants>(arena: &Arena, consts: &C, d: DictNo, sought: Key) -> Option<u32>
+fn in_dict<C: Constants>(
+    arena: &Arena,
+    consts: &C,
+    d: DictNo,
+    key: Value,
+    sought: Key,
+) -> Option<u32>
     requires dict { IsA arena.now.objects ADict d.cell }
+    requires sought { key_of (C.text_of consts.now) arena.now key ≡ Some (plain sought) }
     requires all_told { AllTold (C.text_of consts.now) (C.items_of consts.now) arena.now.objects }
     ensures { FirstFrom (HasKey (C.text_of consts.now) arena.now d.cell (plain sought.entry)) (length (pairs_at arena.now d.cell)) 0 result }
 {
     for at in 0..dict_len(arena, d) {
-        if has_key(arena, consts, d, at, sought) {
+        if has_key(arena, consts, d, at, key, sought) {
             return Some(at);
         }
     }
@@ -49,11 +84,13 @@ fn in_chain<C: Constants>(
     arena: &Arena,
     consts: &C,
     d: DictNo,
+    key: Value,
     sought: Key,
     last: u32,
 ) -> Option<Option<u32>>
     requires dict { IsA arena.now.objects ADict d.cell }
     requires all_told { AllTold (C.text_of consts.now) (C.items_of consts.now) arena.now.objects }
+    requires sought { key_of (C.text_of consts.now) arena.now key ≡ Some (plain sought) }
     requires within { last ≤ length (pairs_at arena.now d.cell) }
     ensures { (bucket : ℕ) → IsLast (buckets_at arena.now d.cell) bucket (length (pairs_at arena.now d.cell)) last
         → IfSome result (FirstFrom (HasKeyIn (C.text_of consts.now) arena.now d.cell (plain sought.entry) bucket) (length (pairs_at arena.now d.cell)) 0) }
@@ -64,7 +101,7 @@ fn in_chain<C: Constants>(
         let at = end - 1;
         let front = dict_before(arena, d, at)?;
         end = front;
-        if has_key(arena, consts, d, at, sought) {
+        if has_key(arena, consts, d, at, key, sought) {
             found = Some(at);
         }
     }
@@ -76,15 +113,17 @@ fn in_bucket<C: Constants>(
     arena: &Arena,
     consts: &C,
     d: DictNo,
+    key: Value,
     sought: Key,
     other: Value,
 ) -> Option<Option<u32>>
     requires dict { IsA arena.now.objects ADict d.cell }
     requires all_told { AllTold (C.text_of consts.now) (C.items_of consts.now) arena.now.objects }
+    requires sought { key_of (C.text_of consts.now) arena.now key ≡ Some (plain sought) }
     ensures { IfSome result (FirstFrom (HasKeyIn (C.text_of consts.now) arena.now d.cell (plain sought.entry) (bucket_of (text_at arena.now) (room_at arena.now d.cell) other)) (length (pairs_at arena.now d.cell)) 0) }
 {
     let last = dict_last(arena, d, other)?;
-    in_chain(arena, consts, d, sought, last)
+    in_chain(arena, consts, d, key, sought, last)
 }
 
 /// The first pair with this key in the bucket where the texts that were made stand with these bytes.
@@ -92,15 +131,17 @@ fn in_text_bucket<C: Constants>(
     arena: &Arena,
     consts: &C,
     d: DictNo,
+    key: Value,
     sought: Key,
     bytes: &[u8],
 ) -> Option<Option<u32>>
     requires dict { IsA arena.now.objects ADict d.cell }
     requires all_told { AllTold (C.text_of consts.now) (C.items_of consts.now) arena.now.objects }
+    requires sought { key_of (C.text_of consts.now) arena.now key ≡ Some (plain sought) }
     ensures { IfSome result (FirstFrom (HasKeyIn (C.text_of consts.now) arena.now d.cell (plain sought.entry) (text_code bytes.now % room_at arena.now d.cell)) (length (pairs_at arena.now d.cell)) 0) }
 {
     let last = dict_last_text(arena, d, bytes)?;
-    in_chain(arena, consts, d, sought, last)
+    in_chain(arena, consts, d, key, sought, last)
 }
 
 /// The first pair with this key in the bucket of a number's text, where there is such a number.
@@ -108,15 +149,17 @@ fn in_named_bucket<C: Constants>(
     arena: &Arena,
     consts: &C,
     d: DictNo,
+    key: Value,
     sought: Key,
     number: Option<u32>,
 ) -> Option<Option<u32>>
     requires dict { IsA arena.now.objects ADict d.cell }
     requires all_told { AllTold (C.text_of consts.now) (C.items_of consts.now) arena.now.objects }
+    requires sought { key_of (C.text_of consts.now) arena.now key ≡ Some (plain sought) }
     ensures { IfSome result (FirstFrom (HasKeyNamed (C.text_of consts.now) arena.now d.cell (plain sought.entry) number) (length (pairs_at arena.now d.cell)) 0) }
 {
     match number {
-        Some(n) => in_bucket(arena, consts, d, sought, Value::Str(StrNo::Pool(n))),
+        Some(n) => in_bucket(arena, consts, d, key, sought, Value::Str(StrNo::Pool(n))),
         None => Some(None),
     }
 }
@@ -146,7 +189,7 @@ fn name_number<C: Constants>(consts: &C, name: StrNo, bytes: &[u8]) -> Option<u3
     }
 }
 
-/// The same of the bytes of a str.
+/// The number among the constants' texts of the bytes of a str, if they have one.
 fn number_of<C: Constants>(consts: &C, s: Value, bytes: &[u8]) -> Option<u32>
     requires { (n : ℕ) → s ≡ Value.Str (StrNo.Pool n) → C.text_of consts.now (StrNo.Pool n) ≡ Some bytes.now }
     ensures { (n : ℕ) → C.text_of consts.now (StrNo.Pool n) ≡ Some bytes.now → result ≡ Some n }
@@ -162,19 +205,21 @@ fn with_text<C: Constants>(
     arena: &Arena,
     consts: &C,
     d: DictNo,
+    key: Value,
     sought: Key,
     bytes: &[u8],
     number: Option<u32>,
 ) -> Option<Option<u32>>
     requires dict { IsA arena.now.objects ADict d.cell }
     requires all_told { AllTold (C.text_of consts.now) (C.items_of consts.now) arena.now.objects }
+    requires sought { key_of (C.text_of consts.now) arena.now key ≡ Some (plain sought) }
     requires text { plain sought ≡ TextKey bytes.now }
     requires number { (n : ℕ) → C.text_of consts.now (StrNo.Pool n) ≡ Some bytes.now → number ≡ Some n }
     ensures { IfSome result (FirstFrom (HasKey (C.text_of consts.now) arena.now d.cell (plain sought.entry)) (length (pairs_at arena.now d.cell)) 0) }
 {
-    let made = in_text_bucket(arena, consts, d, sought, bytes)?;
-    let others = in_bucket(arena, consts, d, sought, Value::None)?;
-    let named = in_named_bucket(arena, consts, d, sought, number)?;
+    let made = in_text_bucket(arena, consts, d, key, sought, bytes)?;
+    let others = in_bucket(arena, consts, d, key, sought, Value::None)?;
+    let named = in_named_bucket(arena, consts, d, key, sought, number)?;
     let unnamed = least(made, others);
     Some(least(unnamed, named))
 }
@@ -184,8 +229,8 @@ fn by_links<C: Constants>(
     arena: &Arena,
     consts: &C,
     d: DictNo,
-    sought: Key,
     key: Value,
+    sought: Key,
 ) -> Option<Option<u32>>
     requires dict { IsA arena.now.objects ADict d.cell }
     requires all_told { AllTold (C.text_of consts.now) (C.items_of consts.now) arena.now.objects }
@@ -195,14 +240,14 @@ fn by_links<C: Constants>(
     match sought {
         Key::Text(bytes) => {
             let number = number_of(consts, key, bytes);
-            with_text(arena, consts, d, sought, bytes, number)
+            with_text(arena, consts, d, key, sought, bytes, number)
         }
-        _ => in_bucket(arena, consts, d, sought, key),
+        _ => in_bucket(arena, consts, d, key, sought, key),
     }
 }
 
 /// The place of the first pair whose key is equal. It costs the pairs of a few buckets, and those of constant strs that have
-/// no number; all pairs where a text that is a key was written later.
+/// no number; all pairs where they are few, or a text that is a key was written later.
 pub(crate) fn place_of<C: Constants>(
     arena: &Arena,
     consts: &C,
@@ -218,8 +263,11 @@ pub(crate) fn place_of<C: Constants>(
     ensures none { IfNone result (Lacks (C.text_of consts.now) arena.now d.cell key) }
 {
     let sought = Key::of(arena, consts, key);
-    match by_links(arena, consts, d, sought, key) {
+    if dict_len(arena, d) <= FEW_PAIRS {
+        return in_dict(arena, consts, d, key, sought);
+    }
+    match by_links(arena, consts, d, key, sought) {
         Some(found) => found,
-        None => in_dict(arena, consts, d, sought),
+        None => in_dict(arena, consts, d, key, sought),
     }
 }

@@ -18,7 +18,7 @@ pub(crate) enum Key<'a> {
 }
 
 impl<'a> Key<'a> {
-    /// The value of a key.
+    /// What a value is as a key.
     pub(crate) fn of<C: Constants>(arena: &'a Arena, consts: &'a C, key: Value) -> Key<'a>
         requires key { IsKey key }
         requires leads { Leads arena.now.objects key }
@@ -33,6 +33,7 @@ impl<'a> Key<'a> {
         }
     }
 
+    /// Are the two one key to a dict? Its time is that of a comparison of two texts.
     pub(crate) fn is(self, other: Key) -> bool
         ensures { IsTrue result ↔ (plain self.entry ≡ plain other.entry) }
     {

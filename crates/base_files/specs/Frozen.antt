@@ -28,6 +28,7 @@ pub record RefusesImageOn (below : Shelf) (files : Option FileOf) (manifest : Li
   pub sources : HoldsSources files manifest modules
   pub fault_is : FreezeFault (second_front (base_of below)) (base_of below) (entries_of modules) fault
 
+-- the manifest's sources have no image over the library below, for that fault
 abbrev pub RefusesFrozenOn : (below : Shelf) → Option FileOf → (manifest : List ℕ) → FrozenFault → Type 0
 RefusesFrozenOn below files manifest (Sources fault) = RefusesSources files manifest fault
 RefusesFrozenOn below files manifest (Image fault) = RefusesImageOn below files manifest fault

@@ -40,7 +40,7 @@ RefusesBase files base Unwritten = ⊥
 RefusesBase files base NoMemory = Unit {0}
 RefusesBase files base Absent = MayHold files base None
 
--- what opening it answers
+-- what opening the base answers: its library, or why it isn't opened
 abbrev pub BaseLibrary : Option FileOf → (base : List ℕ) → Result Shelf Ending → Type 0
 BaseLibrary files base (Ok below) = HoldsBase files base below
 BaseLibrary files base (Err ending) = RefusesBase files base ending

@@ -1,4 +1,4 @@
-//! Opening a base.
+//! Opening a base: the file of a name, taken as an image that lies over nothing.
 
 ghost use Rattle.std.specs.Prelude.{◌≡◌, IfOk};
 ghost use Rattle.mpy_io.specs.Count.{Counts};

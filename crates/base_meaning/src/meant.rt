@@ -49,7 +49,7 @@ pub fn over_holds_law()
     over_law();
 }
 
-/// So does an image over nothing of a manifest's sources, whichever version it has.
+/// The image over nothing of a manifest's sources holds their program too, whichever version it has.
 pub fn image_of_law()
     ensures program { (sources : Sources) (files : FileOf) (image main : List ℕ) → HoldsImageOf sources files image
         → (ready : Ready) → RunLibrary main (Some files) image (Ok ready)

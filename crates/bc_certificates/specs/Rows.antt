@@ -11,6 +11,7 @@ use Rattle.bc_flow.specs.Verified.{Assigned, Each, Leads, begin}
 abbrev pub Rows : Type 0
 Rows = List (Option At)
 
+-- the row of a position, where it has one
 abbrev pub row : Rows → Assigned
 row [] p = None
 row (o ∷ rows) zero = o
@@ -24,14 +25,17 @@ goes_on code p i = falls i && nat_lt (suc p) (length code.actions)
 abbrev pub fall : ℕ → Action → At → Edge
 fall p i x = edge_of i x (arrive (suc p) (behind (change i) (length x.slots) x.entries) Next)
 
+-- what arrives, if the condition holds
 abbrev pub at_if : Bool → At → Option At
 at_if true x = Some x
 at_if false x = None
 
+-- what an instruction brings to the next position, where there is one and the flow goes on to it
 abbrev pub fallen : Code → ℕ → Option Action → At → Option At
 fallen code p None x = None
 fallen code p (Some i) x = at_if (goes_on code p i) (fall p i x).at
 
+-- what the instruction at a position brings to the next one; nothing where nothing holds at the position
 abbrev pub brought : Code → ℕ → Option At → Option At
 brought code p None = None
 brought code p (Some x) = fallen code p (slice_get code.actions p) x
@@ -50,6 +54,7 @@ carried code rows (suc p) = or_else (row rows (suc p)) (brought code p (carried 
 abbrev pub other_ways : Action → ℕ → List Entry → List Way
 other_ways i n es = jump_way (target i) (behind (change i) n es) ++ raise_ways es ++ run_ways (runs i (length es)) es
 
+-- the edges that leave a position, with what arrives, but for the one to the next position
 abbrev pub other_edges : Action → At → List Edge
 other_edges i x = map (edge_of i x) (other_ways i (length x.slots) x.entries)
 

@@ -62,7 +62,7 @@ fn leads(rows: &[Option<Shape>], edge: Edge, y: &mut Shape) -> Result<bool, NoMe
     }
 }
 
-/// Does an edge, if there is one?
+/// Does the edge lead to such a row, if there is one?
 fn leads_if(rows: &[Option<Shape>], edge: Option<Edge>, y: &mut Shape) -> Result<bool, NoMemory>
     ensures { IfOk result (λ yes. OnTrue yes (Lead (rows_of rows.now) (map edge_of_rust (option_list edge.entry)))) }
 {
@@ -72,7 +72,7 @@ fn leads_if(rows: &[Option<Shape>], edge: Option<Edge>, y: &mut Shape) -> Result
     }
 }
 
-/// Do the edges to the finally handlers that run among so many entries?
+/// Do the edges to the finally handlers that run among the `count` topmost entries lead to such rows?
 fn runs_lead(
     rows: &[Option<Shape>],
     x: &Shape,
@@ -94,7 +94,7 @@ fn runs_lead(
     Ok(true)
 }
 
-/// Do all edges but the one to the next position?
+/// Do all edges but the one to the next position lead to such rows?
 fn others_lead(
     rows: &[Option<Shape>],
     action: &Action,
@@ -206,7 +206,7 @@ fn go(
     Ok(true)
 }
 
-/// The same, where the flow comes to the position.
+/// Takes what holds to the next position, if the rules are kept, it may be there, and the flow comes to the position.
 fn go_if(
     code: &Code,
     locals: usize,

@@ -34,8 +34,10 @@ pub(crate) struct Mark {
     pub changed: Span,
 }
 
+/// No slots at all.
 const NO_SLOTS: Span = Span { from: 0, to: 0 };
 
+/// The mark of a position of which nothing is known.
 const UNMARKED: Mark = Mark {
     meets: false,
     walked: false,
@@ -43,7 +45,7 @@ const UNMARKED: Mark = Mark {
     changed: NO_SLOTS,
 };
 
-/// The rows so far.
+/// The rows that were found as yet.
 #[derive(Drop)]
 pub(crate) struct Walk {
     pub rows: Vec<Option<Shape>>,
@@ -61,16 +63,19 @@ enum Turn {
     GoesOn,
 }
 
+/// The mark of a position, or that of one without a row where there is none.
 pub(crate) fn mark_at(marks: &[Mark], p: usize) -> Mark {
     if p < marks.len() { marks[p] } else { UNMARKED }
 }
 
+/// Puts the mark of a position, where there is such a position.
 fn set_mark(marks: &mut Vec<Mark>, p: usize, mark: Mark) {
     if p < marks.len() {
         marks[p] = mark;
     }
 }
 
+/// Notes that edges may meet at a position.
 fn meets_at(marks: &mut Vec<Mark>, p: usize) {
     let mut mark = mark_at(marks, p);
     mark.meets = true;
@@ -163,6 +168,7 @@ fn arrive(alloc: Global, walk: &mut Walk, edge: Edge) -> Result<bool, NoMemory> 
     }
 }
 
+/// Lets what an edge brings arrive, where there is an edge, and says whether it may.
 fn arrive_if(alloc: Global, walk: &mut Walk, edge: Option<Edge>) -> Result<bool, NoMemory> {
     match edge {
         None => Ok(true),
@@ -170,7 +176,7 @@ fn arrive_if(alloc: Global, walk: &mut Walk, edge: Option<Edge>) -> Result<bool,
     }
 }
 
-/// Lets the edges arrive to the finally handlers that run among so many entries.
+/// Lets the edges to the finally handlers that run among the `count` topmost entries arrive.
 fn arrive_runs(alloc: Global, walk: &mut Walk, x: &Shape, count: usize) -> Result<bool, NoMemory> {
     for (i, entry) in x.entries.iter().enumerate() {
         if i >= count {

@@ -61,7 +61,7 @@ struct Cell {
     slot: usize,
 }
 
-/// Leaves that many slots at most.
+/// Leaves the lowest `height` slots at most.
 fn cut(origins: &mut Origins, height: usize) {
     if height <= origins.low {
         origins.low = height;
@@ -71,7 +71,7 @@ fn cut(origins: &mut Origins, height: usize) {
     }
 }
 
-/// Names that many of the topmost slots, as far as there are so many.
+/// Names the topmost `count` slots, or all where there are fewer.
 fn name_slots(alloc: Global, origins: &mut Origins, count: usize) -> Result<(), NoMemory> {
     let missing = count.saturating_sub(origins.top.len()).min(origins.low);
     if missing == 0 {
@@ -132,6 +132,7 @@ fn exchange(
     Ok(())
 }
 
+/// A copy of the origins.
 fn copy_of(alloc: Global, origins: &Origins) -> Result<Origins, NoMemory> {
     let mut top = Vec::with_capacity(alloc, origins.top.len())?;
     top.extend_from_slice(&origins.top)?;
@@ -353,6 +354,7 @@ fn changed_cells(marks: &[Mark], work: &mut Vec<Cell>) -> Result<(), NoMemory> {
     Ok(())
 }
 
+/// Closes a slot of the rows that these passages bring it to unchanged.
 fn follow_passages(
     map: &Map,
     rows: &mut Vec<Option<Shape>>,
@@ -370,6 +372,7 @@ fn follow_passages(
     Ok(())
 }
 
+/// Closes the slots that these links bring a slot to.
 fn follow_links(
     map: &Map,
     rows: &mut Vec<Option<Shape>>,

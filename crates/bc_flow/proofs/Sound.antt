@@ -159,7 +159,7 @@ abbrev pub CanReturn : Assigned → Keeps → List Entry → Stack → Type 0
 CanReturn a S [] st = Unit {0}
 CanReturn a S (e ∷ es) st = OnTrue (is_run e) (Reach a S e.handler (KeptReturn ∷ cut e.height st) (e ∷ es)) × CanReturn a S es (cut e.height st)
 
--- and so is a jump out of so many entries
+-- a jump from here to `t` out of the topmost `d` entries is fine, through all the finallys that it runs
 abbrev pub CanUnwind : Assigned → Keeps → ℕ → Bool → ℕ → List Entry → Stack → Type 0
 CanUnwind a S t it zero es st = (all_wanted (iterator_if it) st ≡ true) × Reach a S t (drop (length (iterator_if it)) st) es
 CanUnwind a S t it (suc d) [] st = ⊥

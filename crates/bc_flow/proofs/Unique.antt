@@ -9,7 +9,7 @@ use Rattle.bc_flow.proofs.Puts.{some_is}
 use Rattle.bc_flow.proofs.Visits.{Visited, visit_on, pending_is, pending_in, done-long}
 use Rattle.bc_flow.proofs.Decides.{at_visit, unseen-long}
 
--- the table after so many visits
+-- the table after that number of visits
 data ComesIn (code : Code) : ℕ → Table → Type 0 where
   starts : ComesIn code 0 (table_at (length code.actions))
   goes : {n : ℕ} {t u : Table} {p : ℕ} {x : At} → ComesIn code n t → IsLeast t p x → visit code t p x ≡ Good u → ComesIn code (suc n) u

@@ -12,7 +12,7 @@ use Rattle.bc_flow.specs.declared.code.Rule.{Rule}
 use Rattle.bc_flow.specs.Verified.{Grows, Assigned, Leads, Each, none, also, Fine, Unseen, Pending, Done, Table, at, put, put_next, agrees, others, agree, done_at, Visit, Bad, Good, after_holds, visit_action, visit, IsPending, here, later}
 use Rattle.bc_flow.proofs.Puts.{grows_refl, grows_on, leads_on, IsDone, at_here, at_later, weigh, Puts, put_on, put_has, some_is}
 
--- each edge has at most so many slots
+-- each edge has at most `most` slots
 pub data Small (most : ℕ) : List Edge → Type 0 where
   small_none : Small most []
   small_also : {e : Edge} {es : List Edge} → opens e.at.slots ≤ most → Small most es → Small most (e ∷ es)

@@ -15,6 +15,7 @@ use Rattle.bc_shapes.specs.declared.kinds.Give.{Give}
 use Rattle.bc_shapes.specs.declared.kinds.Give.TheVariants.{New, Again}
 use Rattle.bc_shapes.specs.Shape.{takes, gives}
 
+-- what an instruction does
 pub data Action : Type 0 where
   -- takes and gives slots, and goes on
   Straight : List Want → List Give → Action
@@ -26,15 +27,17 @@ pub data Action : Type 0 where
   -- drops an except entry, and jumps
   PopExcept : ℕ → Action
   EndFinally : Action
-  -- jumps out of so many entries, and takes an iterator or not
+  -- jumps to an offset, out of a number of entries, and takes an iterator or not
   Unwind : ℕ → ℕ → Bool → Action
   Return : Action
-  -- takes so many values, and raises
+  -- takes that number of values, and raises
   Raise : ℕ → Action
 
+-- takes `n` values on top of the slots `wants`, gives `m` new values on top of `given`, and goes on
 abbrev pub straight : ℕ → List Want → ℕ → List Give → Action
 straight n wants m given = Straight (takes n wants) (gives m given)
 
+-- takes `n` values on top of the slots `wants`, gives `m` new values on top of `given`, and goes on; or gives `there`, and jumps to `to`
 abbrev pub branch : ℕ → List Want → ℕ → List Give → List Give → ℕ → Action
 branch n wants m given there to = Branch (takes n wants) (gives m given) (gives 0 there) to
 
@@ -42,6 +45,7 @@ branch n wants m given there to = Branch (takes n wants) (gives m given) (gives 
 abbrev pub none : Action
 none = Raise 0
 
+-- the four slots of an iterator
 abbrev pub iterator : List Want
 iterator = wants.Iter4 ∷ wants.Iter3 ∷ wants.Iter2 ∷ wants.Iter1 ∷ []
 
@@ -100,7 +104,7 @@ op_action _ n = none
 abbrev pub next_item : ℕ → Action
 next_item to = branch 0 iterator 1 (Again 0 ∷ Again 1 ∷ Again 2 ∷ Again 3 ∷ []) [] to
 
--- those that jump to the position, or have their handler there
+-- what the instructions do that jump to the position `to`, or have their handler there
 unfoldable pub jump_action : Op → ℕ → Action
 jump_action ops.Jump to = Jump to
 jump_action ops.PopJumpIfTrue to = branch 1 [] 0 [] [] to
@@ -113,6 +117,7 @@ jump_action ops.PopExceptJump to = PopExcept to
 jump_action ops.ForIter to = next_item to
 jump_action _ to = none
 
+-- what an instruction does that is no jump: in a code's list jumps are items of their own
 unfoldable pub instr_action : Instr → Action
 instr_action (instrs.Plain op) = op_action op 0
 instr_action (instrs.Name op n) = op_action op n

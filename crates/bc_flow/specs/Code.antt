@@ -26,6 +26,7 @@ op_locals ops.StoreFastN n = n + 1
 op_locals ops.DeleteFast n = n + 1
 op_locals _ n = 0
 
+-- one more than the local that an item names, and 0 where it names none
 unfoldable pub item_locals : Item → ℕ
 item_locals (items.Plain (instrs.Num op n)) = op_locals op n
 item_locals _ = 0
@@ -35,6 +36,7 @@ abbrev pub locals : ℕ → List Item → ℕ
 locals count [] = count
 locals count (item ∷ items) = max (item_locals item) (locals count items)
 
+-- what the flow asks of a code of items
 abbrev pub code_of : RustCode → Code
 code_of c = record {
   actions = map (action (length c.items.items)) c.items.items;
@@ -53,6 +55,7 @@ op_named ops.CallFunction n = arguments n
 op_named ops.CallMethod n = arguments n
 op_named _ n = 0
 
+-- how many items the operand of an item names, and 0 where it has no such operand
 unfoldable pub named : Item → ℕ
 named (items.Plain (instrs.Num op n)) = op_named op n
 named _ = 0

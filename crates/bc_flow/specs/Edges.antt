@@ -33,7 +33,7 @@ gives (Straight wants given) = given
 gives (Branch wants given there to) = given
 gives _ = []
 
--- and where it jumps
+-- what is given where the flow jumps
 unfoldable pub gives_there : Action → List Give
 gives_there (Branch wants given there to) = there
 gives_there _ = []
@@ -47,7 +47,7 @@ falls Return = false
 falls (Raise count) = false
 falls _ = true
 
--- where it jumps
+-- the position where the flow jumps, if it does
 unfoldable pub target : Action → Option ℕ
 target (Branch wants given there to) = Some to
 target (Jump to) = Some to
@@ -63,7 +63,7 @@ change EndFinally = DropActive
 change (Unwind to count takes_it) = Leave count
 change _ = Keep
 
--- among how many of so many entries it runs the finallys
+-- how many of `n` entries it leaves, from the top: it runs the finallys among these
 unfoldable pub runs : Action → ℕ → ℕ
 runs Return n = n
 runs (Unwind to count takes_it) n = count
@@ -79,7 +79,7 @@ abbrev pub floor : List Entry → ℕ
 floor [] = 0
 floor (e ∷ es) = e.height
 
--- the entries behind it, where so many slots are before it
+-- the entries behind it, where `n` slots are before it
 abbrev pub behind : Change → ℕ → List Entry → List Entry
 behind Keep n es = es
 behind (Push h last) n es = record { handler = h; is_finally = last; active = false; height = n } ∷ es
@@ -87,10 +87,12 @@ behind DropExcept n es = rest_of es
 behind DropActive n es = rest_of es
 behind (Leave k) n es = drop k es
 
+-- the top entry is that of an except handler
 abbrev pub top_is_except : List Entry → Bool
 top_is_except [] = false
 top_is_except (e ∷ es) = not e.is_finally
 
+-- the top entry is active
 abbrev pub top_is_active : List Entry → Bool
 top_is_active [] = false
 top_is_active (e ∷ es) = e.active
@@ -108,13 +110,13 @@ abbrev pub floor_of : Change → List Entry → ℕ
 floor_of (Leave k) es = floor (drop k es)
 floor_of _ es = floor es
 
--- how many of so many slots remain when so many entries are left, each with a cut to its height
+-- how many of `n` slots remain once the `k` topmost entries are left, each with a cut to its height
 abbrev pub lowest : ℕ → List Entry → ℕ → ℕ
 lowest zero es n = n
 lowest (suc k) [] n = n
 lowest (suc k) (e ∷ es) n = lowest k es (min e.height n)
 
--- how many of so many slots it works on
+-- how many of `n` slots it works on, from below
 abbrev pub left : Change → List Entry → ℕ → ℕ
 left (Leave k) es n = lowest k es n
 left _ es n = n
@@ -125,7 +127,8 @@ leaves DropExcept es n = nat_eq n (floor es)
 leaves DropActive es n = nat_eq n (floor es)
 leaves _ es n = true
 
--- where the slots of an edge come from: the next instruction's, the jump's, or a handler's over so many slots
+-- where the slots of an edge come from: the next instruction's, the jump's, or those of a handler, by its entry's height and
+-- whether it is a finally's
 pub data How : Type 0 where
   Next : How
   There : How
@@ -158,7 +161,7 @@ raise_ways (e ∷ es) = if e.active then raise_ways es else (way_in e es ∷ [])
 abbrev pub one_run : Entry → List Entry → List Way
 one_run e es = if e.is_finally && not e.active then (way_in e es ∷ []) else []
 
--- the finallys among so many entries
+-- the edges to the finallys among the `n` topmost entries
 abbrev pub run_ways : ℕ → List Entry → List Way
 run_ways zero es = []
 run_ways (suc n) [] = []
@@ -174,7 +177,7 @@ abbrev pub jump_way : Option ℕ → List Entry → List Way
 jump_way (Some t) es = arrive t es There ∷ []
 jump_way None es = []
 
--- all edges that leave a position, with the entries that arrive, where so many slots are before it
+-- all edges that leave a position `p`, with the entries that arrive, where `n` slots and the entries `es` are before it
 unfoldable pub ways : Code → Action → ℕ → ℕ → List Entry → List Way
 ways code i p n es =
     next_way (falls i && nat_lt (suc p) (length code.actions)) p (behind (change i) n es)
@@ -185,6 +188,7 @@ abbrev pub is_marked : ℕ → List Entry → Bool
 is_marked to [] = true
 is_marked to (e ∷ es) = (if e.active then nat_le e.handler to else nat_lt to e.handler) && is_marked to es
 
+-- in the entries of each edge, each is active exactly from its handler's position on
 abbrev pub all_marked : List Way → Bool
 all_marked [] = true
 all_marked (w ∷ ws) = is_marked w.to w.entries && all_marked ws
@@ -197,7 +201,7 @@ holds code i p n es = asks (change i) es && nat_le (length (behind (change i) n 
 unfoldable pub base : Action → At → List Kind
 base i x = drop (length x.slots - left (change i) x.entries (length x.slots)) x.slots
 
--- none of the slots that it takes lies below the top entry's height, where so many of so many are taken
+-- none of the slots that it takes lies below the top entry's height, where it takes `taken` of `n`
 abbrev pub deep : Change → List Entry → ℕ → ℕ → Bool
 deep c es taken n = nat_le taken n && nat_le (floor_of c es) (n - taken) && leaves c es (n - taken)
 
@@ -210,21 +214,21 @@ abbrev pub pushed : Bool → List Kind → List Kind
 pushed true ks = kinds.Cause ∷ ks
 pushed false ks = kinds.Either ∷ ks
 
--- the slots that arrive
+-- the slots that arrive along an edge
 unfoldable pub slots_of : Action → At → How → List Kind
 slots_of i x Next = after (gives i) (length (takes i)) (base i x)
 slots_of i x There = after (gives_there i) (length (takes i)) (base i x)
 slots_of i x (Run h last) = pushed last (drop (length x.slots - h) x.slots)
 
--- is there room for so many slots before an instruction, behind it and where it jumps?
+-- is there room for `before` slots before an instruction, `next` behind it and `there` where it jumps?
 abbrev pub has_room : ℕ → ℕ → ℕ → ℕ → ℕ → Bool
 has_room locals n_state before next there = nat_le (locals + before) n_state && nat_le (locals + next) n_state && nat_le (locals + there) n_state
 
--- the rule State
+-- the rule State: the slots have room before the instruction and along its edges
 unfoldable pub room : Code → Action → At → Bool
 room code i x = has_room code.locals code.n_state (length x.slots) (length (slots_of i x Next)) (length (slots_of i x There))
 
--- the rule Falls
+-- the rule Falls: the flow doesn't go on behind the last instruction
 unfoldable pub stays : Code → Action → ℕ → Bool
 stays code i p = not (falls i) || nat_lt (suc p) (length code.actions)
 
@@ -245,7 +249,7 @@ edge_to to slots es = record { to = to; at = record { slots = slots; entries = m
 abbrev pub edges : Code → Action → ℕ → At → List Edge
 edges code i p x = map (edge_of i x) (ways code i p (length x.slots) x.entries)
 
--- the same marks of the edges
+-- `all_marked`, of edges with what arrives
 abbrev pub edges_marked : List Edge → Bool
 edges_marked [] = true
 edges_marked (e ∷ es) = is_marked e.to e.at.entries && edges_marked es

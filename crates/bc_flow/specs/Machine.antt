@@ -15,13 +15,13 @@ use Rattle.bc_flow.specs.Edges.{takes, gives, gives_there, falls, target, iterat
 pub data Slot : Type 0 where
   Value : Slot
   NoneOrException : Slot
-  -- a return, and a jump that goes on to the position, out of so many more entries and with the iterator or not
+  -- a return, and a jump that goes on to the position `target`, out of `count` more entries and with the iterator or not
   KeptReturn : Slot
   KeptJump : (target count : ℕ) → (iterator : Bool) → Slot
   Iter1 Iter2 Iter3 Iter4 : Slot
   Null Method : Slot
 
--- the topmost first
+-- the slots, the topmost first
 abbrev pub Stack : Type 0
 Stack = List Slot
 
@@ -83,11 +83,11 @@ abbrev pub give_slot : Stack → Give → Slot
 give_slot st (New k) = slot_of k
 give_slot st (Again n) = get_or st n NoneOrException
 
--- so many slots taken, and these given
+-- the stack once `n` slots are taken and these given
 abbrev pub given : List Give → ℕ → Stack → Stack
 given gs n st = map (give_slot st) gs ++ drop n st
 
--- the lowest so many
+-- the lowest `h` of them
 abbrev pub cut : {A : Type 0} → ℕ → List A → List A
 cut h xs = drop (length xs - h) xs
 
@@ -95,11 +95,11 @@ cut h xs = drop (length xs - h) xs
 abbrev pub remark : ℕ → Entry → Entry
 remark p e = record e { active = nat_le e.handler p }
 
--- at the position
+-- on at the position, with these slots and entries
 abbrev pub go : ℕ → Stack → List Entry → St
 go p st es = Run p st (map (remark p) es)
 
--- into an entry's handler
+-- on at an entry's handler, with a slot more on the entry's height
 abbrev pub enter : Entry → List Entry → Slot → Stack → St
 enter e es s st = go e.handler (s ∷ cut e.height st) (e ∷ es)
 
@@ -121,7 +121,7 @@ leave (e ∷ es) st = if is_run e then enter e es KeptReturn st else leave es (c
 abbrev pub without_iter : ℕ → Bool → Stack → List Entry → St
 without_iter t it st es = if all_wanted (iterator_if it) st then go t (drop (length (iterator_if it)) st) es else Stuck
 
--- a jump out of so many entries
+-- a jump to `t` out of as many entries as the third argument says, which takes the iterator where `it` says so
 abbrev pub unwind : ℕ → Bool → ℕ → List Entry → Stack → St
 unwind t it zero es st = without_iter t it st es
 unwind t it (suc d) [] st = Stuck

@@ -8,6 +8,7 @@ use Rattle.std.specs.declared.cmp.Reverse.{Reverse}
 use Rattle.bc_shapes.specs.Shape.{At}
 use Rattle.bc_flow.specs.Verified.{Table, IsPending}
 
+-- the order of the queue: the greater item is the lesser position
 abbrev pub by_position : Reverse ℕ → Reverse ℕ → Ordering
 by_position a b = nat_cmp b.0 a.0
 

@@ -26,11 +26,12 @@ pub record Lies (s : Span) (x : At) (o : Option At) : Type 0 where
   pub long : length x.slots ≡ length there.slots
   pub below : BelowOutside (Some s) x.slots there.slots
 
+-- what arrives lies below what is there, but for the slots of the span; where there is no span, nothing is said
 abbrev pub Outside : Option Span → At → Option At → Type 0
 Outside None x o = Unit {0}
 Outside (Some s) x o = Lies s x o
 
--- the same of all edges
+-- what each edge brings lies below what is there, but for the slots of the span; where there is no span, nothing is said
 abbrev pub EachOutside : Option Span → Assigned → List Edge → Type 0
 EachOutside o a [] = Unit {0}
 EachOutside o a (e ∷ es) = Outside o e.at (a e.to) × EachOutside o a es
@@ -41,7 +42,7 @@ pub record Changed (old a : Assigned) (p : ℕ) (s : Span) : Type 0 where
   pub was : old p ≡ Some before
   pub now : Differs s before (a p)
 
--- the same of all positions that were visited
+-- each position that was visited has what it had at its last visit, but for the slots that changed since
 pub record Since (old a : Assigned) (changes : List (Option Span)) : Type 0 where
   pub each : (p : ℕ) (s : Span) → slice_get changes p ≡ Some (Some s) → Changed old a p s
 
@@ -54,7 +55,7 @@ pub record Remembers (code : Code) (old : Assigned) (t : Table) (changes : List 
 abbrev pub updated : Assigned → ℕ → At → Assigned
 updated a p x q = if nat_eq q p then Some x else a q
 
--- all that it gives again lies above these slots, where it works on so many
+-- all that it gives again lies above these slots, where it works on `n` slots
 pub record IsClear (i : Action) (n : ℕ) (s : Span) : Type 0 where
   pub next_above : keeps_all (n - s.to) (gives i) ≡ true
   pub there_above : keeps_all (n - s.to) (gives_there i) ≡ true

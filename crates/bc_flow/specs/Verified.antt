@@ -23,7 +23,7 @@ pub record Leads (a : Assigned) (e : Edge) : Type 0 where
   pub is : a e.to ≡ Some at
   pub under : Under e.at at
 
--- the same of all edges
+-- the assignment has something at the end of each edge, above what arrives
 pub data Each (a : Assigned) : List Edge → Type 0 where
   none : Each a []
   also : {e : Edge} {es : List Edge} → Leads a e → Each a es → Each a (e ∷ es)
@@ -55,9 +55,11 @@ pub data Cell : Type 0 where
   Pending : At → Cell
   Done : At → Cell
 
+-- what is known of each position
 abbrev pub Table : Type 0
 Table = List Cell
 
+-- what holds at a position that the walk came to
 abbrev pub seen : Cell → Option At
 seen Unseen = None
 seen (Pending x) = Some x
@@ -69,7 +71,7 @@ at [] p = None
 at (c ∷ t) zero = seen c
 at (c ∷ t) (suc p) = at t p
 
--- where two meet
+-- what holds where two arrive at one position: their entries are equal, and their slots meet
 abbrev pub meet_at : At → At → Option At
 meet_at y x = if same_entries y.entries x.entries then option_map (λ s. let z : At = record { slots = s; entries = y.entries } in z) (join y.slots x.slots) else None
 
@@ -89,7 +91,7 @@ put [] n x = None
 put (c ∷ t) zero x = option_map (λ d. d ∷ t) (meet c x)
 put (c ∷ t) (suc n) x = option_map (λ u. c ∷ u) (put t n x)
 
--- the same for all edges
+-- the table after what the edges bring arrived, one after another, if it all may
 abbrev pub put_next : List Edge → Option Table → Option Table
 put_next es None = None
 put_next [] (Some t) = Some t
@@ -101,6 +103,7 @@ agrees_cell Unseen es = true
 agrees_cell (Pending y) es = same_entries y.entries es
 agrees_cell (Done y) es = same_entries y.entries es
 
+-- the entries are those that hold at a position of the table, if any do
 abbrev pub agrees : Table → ℕ → List Entry → Bool
 agrees [] n es = false
 agrees (c ∷ t) zero es = agrees_cell c es
@@ -116,7 +119,7 @@ abbrev pub agree : Table → List Edge → Bool
 agree t [] = true
 agree t (e ∷ es) = agrees t e.to e.at.entries && others e es && agree t es
 
--- the position is visited
+-- the table once the position is visited
 abbrev pub done_at : Table → ℕ → At → Table
 done_at [] p x = []
 done_at (c ∷ t) zero x = Done x ∷ t
@@ -127,20 +130,24 @@ pub data Visit : Type 0 where
   Bad : Rule → Visit
   Good : Table → Visit
 
+-- behind the slots: what arrives meets what is there (else Height), the slots have room (else State), and the flow stays (else Falls)
 abbrev pub after_put : Bool → Bool → Option Table → Visit
 after_put roomy stays None = Bad Height
 after_put false stays (Some t) = Bad State
 after_put true false (Some t) = Bad Falls
 after_put true true (Some t) = Good t
 
+-- behind the entries: the slots are found that are asked (else Height), and then the rest
 abbrev pub after_finds : Bool → Bool → Bool → Option Table → Visit
 after_finds false roomy stays t = Bad Height
 after_finds true roomy stays t = after_put roomy stays t
 
+-- the entries are as they must be (else Handlers), and then the rest
 abbrev pub after_holds : Bool → Bool → Bool → Bool → Option Table → Visit
 after_holds false finds roomy stays t = Bad Handlers
 after_holds true finds roomy stays t = after_finds finds roomy stays t
 
+-- the visit of a position with its instruction; where it has none, the flow has passed the end of the code
 abbrev pub visit_action : Code → Table → ℕ → At → Option Action → Visit
 visit_action code t p x None = Bad Falls
 visit_action code t p x (Some i) =
@@ -151,12 +158,12 @@ visit_action code t p x (Some i) =
 abbrev pub visit : Code → Table → ℕ → At → Visit
 visit code t p x = visit_action code t p x (slice_get code.actions p)
 
--- a pending position
+-- the position is pending, with what arrived there
 pub data IsPending : Table → ℕ → At → Type 0 where
   here : {x : At} {t : Table} → IsPending (Pending x ∷ t) 0 x
   later : {c : Cell} {t : Table} {p : ℕ} {x : At} → IsPending t p x → IsPending (c ∷ t) (suc p) x
 
--- the least pending position
+-- the position is the least pending one
 pub record IsLeast (t : Table) (p : ℕ) (x : At) : Type 0 where
   pub pending : IsPending t p x
   pub least : (q : ℕ) (y : At) → IsPending t q y → p ≤ q
@@ -171,7 +178,7 @@ pub data Reached (code : Code) : Table → Type 0 where
   starts : Reached code (table_at (length code.actions))
   goes : {t u : Table} {p : ℕ} {x : At} → Reached code t → IsPending t p x → visit code t p x ≡ Good u → Reached code u
 
--- those that the walk comes to which takes the least position each time
+-- the tables that the walk comes to which takes the least pending position each time
 pub data Comes (code : Code) : Table → Type 0 where
   starts : Comes code (table_at (length code.actions))
   goes : {t u : Table} {p : ℕ} {x : At} → Comes code t → IsLeast t p x → visit code t p x ≡ Good u → Comes code u
@@ -185,6 +192,7 @@ pub data FirstFault (code : Code) : Rule → ℕ → Type 0 where
 pub record Grows (a b : Assigned) : Type 0 where
   pub each : (p : ℕ) (x : At) → a p ≡ Some x → Leads b (record { to = p; at = x })
 
+-- the assignment lies below each one that meets the rules
 abbrev pub IsLeastOf : Code → Assigned → Type 0
 IsLeastOf code a = (b : Assigned) → Holds code b → Grows a b
 

@@ -20,13 +20,14 @@ pub enum Action {
     /// Drops an except entry, and jumps.
     PopExcept(usize),
     EndFinally,
-    /// Jumps out of so many entries, and takes an iterator or not.
+    /// Jumps to an offset, out of a number of entries, and takes an iterator or not.
     Unwind(usize, usize, bool),
     Return,
-    /// Takes so many values, and raises.
+    /// Takes that number of values, and raises.
     Raise(u32),
 }
 
+/// Takes `values` values on top of the slots `wants`, gives `new_values` new values on top of `gives`, and goes on.
 fn straight(values: u32, wants: &'static [Want], new_values: u32, gives: &'static [Give]) -> Action
     ensures { action_of result ≡ specs.straight values wants.now new_values gives.now }
 {
@@ -41,6 +42,7 @@ fn straight(values: u32, wants: &'static [Want], new_values: u32, gives: &'stati
     Action::Straight(takes, gives)
 }
 
+/// Takes the slots `takes`, gives `gives`, and goes on; or gives `there`, and jumps to `to`.
 fn branch(takes: Takes, gives: Gives, there: &'static [Give], to: usize) -> Action
     ensures { action_of result ≡ specs.branch takes.values takes.others.now gives.values gives.others.now there.now to }
 {
@@ -197,6 +199,7 @@ fn next_item(to: usize) -> Action
     branch(takes, gives, &[], to)
 }
 
+/// What an instruction does that is no jump.
 #[tactic(auto, unfolding(crate::specs::Action::instr_action))]
 fn instr_action(instr: Instr) -> Action
     ensures { action_of result ≡ specs.instr_action instr }

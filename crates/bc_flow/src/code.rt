@@ -87,6 +87,7 @@ fn named(item: &Item) -> usize
     }
 }
 
+/// Does no instruction of a list of that length stand at the target?
 fn is_outside(size: usize, target: Target) -> bool
     ensures { IsTrue result ↔ specs.IsOutside size target }
 {
@@ -96,6 +97,7 @@ fn is_outside(size: usize, target: Target) -> bool
     }
 }
 
+/// Does a jump, or the entry of a handler, go to no instruction?
 fn leaves_code(size: usize, item: &Item) -> bool
     ensures { IsTrue result ↔ specs.LeavesCode size item.now }
 {

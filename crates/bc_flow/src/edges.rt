@@ -25,7 +25,7 @@ pub enum Change {
     DropExcept,
     /// Drops the top entry, which is active.
     DropActive,
-    /// Drops so many entries, each with a cut to its height.
+    /// Drops that number of the topmost entries, each with a cut to its height.
     Leave(usize),
 }
 
@@ -40,6 +40,7 @@ impl<'a> Behind<'a> {
     ghost use Rattle.std.specs.Prelude.{◌≡◌, ◌<◌, length, slice_index_or};
     ghost use Rattle.bc_flow.specs.Views.{behind_of};
 
+    /// How many entries these are.
     pub fn len(self) -> usize
         ensures { result ≡ length (behind_of self.entry) }
     {
@@ -49,7 +50,7 @@ impl<'a> Behind<'a> {
         }
     }
 
-    /// The entry below so many others.
+    /// The entry below `i` others.
     #[tactic(auto, using(crate::proofs::Loops::at_cons, bc_shapes::proofs::Loops::at_rest))]
     pub fn at(self, i: usize) -> Entry
         requires { i < length (behind_of self) }
@@ -77,7 +78,7 @@ impl<'a> Edge<'a> {
     ghost use Rattle.bc_flow.specs.Views.{edge_of_rust, behind_of};
     ghost use Rattle.bc_flow.specs.Edges as specs;
 
-    /// The entry below so many others, as it arrives.
+    /// The entry below `i` others, as it arrives.
     pub fn entry(self, i: usize) -> Entry
         requires { i < length (behind_of self.entries) }
         ensures { (d : Entry) → result ≡ specs.mark self.entry.to (slice_index_or (behind_of self.entry.entries) i d) }
@@ -98,7 +99,7 @@ impl<'a> Edge<'a> {
         Ok(())
     }
 
-    /// Makes the shape what arrives.
+    /// Makes `x` the shape that arrives.
     pub fn write(self, x: &mut Shape) -> Result<(), NoMemory>
         ensures { OnOk result (at_of x.new ≡ (edge_of_rust self.entry).at) }
     {
@@ -106,7 +107,7 @@ impl<'a> Edge<'a> {
         self.write_entries(&mut x.entries)
     }
 
-    /// What arrives.
+    /// The shape that arrives.
     pub fn shape(self, alloc: Global) -> Result<Shape, NoMemory>
         ensures { IfOk result (λ x. at_of x ≡ (edge_of_rust self.entry).at) }
     {
@@ -117,7 +118,7 @@ impl<'a> Edge<'a> {
     }
 }
 
-/// What it takes from the top.
+/// The slots that an instruction takes from the top.
 #[tactic(auto, unfolding(crate::specs::Edges::takes))]
 pub fn takes(action: &Action) -> Takes
     ensures { takes_of result ≡ specs.takes (action_of action.now) }
@@ -190,7 +191,7 @@ pub fn falls(action: &Action) -> bool
     )
 }
 
-/// Where it jumps.
+/// The position that an instruction jumps to, if it does.
 #[tactic(auto, unfolding(crate::specs::Edges::target))]
 pub fn target(action: &Action) -> Option<usize>
     ensures { result ≡ specs.target (action_of action.now) }
@@ -204,7 +205,7 @@ pub fn target(action: &Action) -> Option<usize>
     }
 }
 
-/// What it does with the entries.
+/// What an instruction does with the handler entries.
 #[tactic(auto, unfolding(crate::specs::Edges::change))]
 pub fn change_of(action: &Action) -> Change
     ensures { result ≡ specs.change (action_of action.now) }
@@ -218,7 +219,7 @@ pub fn change_of(action: &Action) -> Change
     }
 }
 
-/// Among how many of so many entries it runs the finallys.
+/// How many of the `entries` entries it leaves, from the top: it runs the finallys among these.
 #[tactic(auto, unfolding(crate::specs::Edges::runs))]
 pub fn run_count(action: &Action, entries: usize) -> usize
     ensures { result ≡ specs.runs (action_of action.now) entries }
@@ -230,7 +231,7 @@ pub fn run_count(action: &Action, entries: usize) -> usize
     }
 }
 
-/// The entries behind an instruction, where so many slots are before it.
+/// The entries behind an instruction, where `slots` slots are before it.
 #[tactic(auto, using(crate::proofs::Loops::rest_drop))]
 pub fn entries_behind<'a>(change: Change, slots: usize, entries: &'a [Entry]) -> Behind<'a>
     ensures { behind_of result ≡ specs.behind change slots entries.now }
@@ -272,7 +273,7 @@ fn mark(to: usize, entry: Entry) -> Entry
     }
 }
 
-/// What a handler begins with.
+/// The slot that a handler finds on top: a cause in a finally, and else an exception.
 fn first(is_finally: bool) -> &'static [Give]
     ensures { result.now ≡ (if is_finally then New Kind.Cause ∷ [] else New Kind.Either ∷ []) }
 {
@@ -356,7 +357,7 @@ fn push_if<'a>(edges: &mut Vec<Edge<'a>>, edge: Option<Edge<'a>>) -> Result<(), 
     Ok(())
 }
 
-/// Adds those to the finally handlers that run among so many entries from the top.
+/// Adds those to the finally handlers that run among the `count` topmost entries.
 #[tactic(auto, using(crate::proofs::Loops::runs_end))]
 fn push_runs<'a>(
     edges: &mut Vec<Edge<'a>>,

@@ -54,6 +54,7 @@ pub fn are_marked(edge: Edge) -> bool
     true
 }
 
+/// Are the entries of all edges marked as they must be?
 fn all_marked(edges: &[Edge]) -> bool
     ensures { result ≡ specs.edges_marked (map edge_of_rust edges.now) }
 {
@@ -82,7 +83,7 @@ pub(crate) fn holds(code: &Code, action: &Action, x: &Shape, edges: &[Edge]) -> 
     fits_entries(code, action, x.slots.len(), &x.entries) && all_marked(edges)
 }
 
-/// The height of the entry below so many others.
+/// The height of the entry below `n` others, or 0 where there is none.
 #[tactic(auto, using(crate::proofs::Loops::floor_at, crate::proofs::Loops::floor_past))]
 fn floor_below(entries: &[Entry], n: usize) -> usize
     ensures { result ≡ specs.floor (drop n entries.now) }
@@ -104,13 +105,14 @@ fn floor(change: Change, entries: &[Entry]) -> usize
     }
 }
 
+/// The lesser of two numbers.
 fn lower(a: usize, b: usize) -> usize
     ensures { result ≡ min a b }
 {
     a.min(b)
 }
 
-/// How many slots are left when so many entries are left.
+/// How many of `slots` slots remain once the `count` topmost entries are left, each with a cut to its height.
 #[tactic(auto, using(crate::proofs::Loops::lowest_end))]
 fn lowest(count: usize, entries: &[Entry], slots: usize) -> usize
     ensures { result ≡ specs.lowest count entries.now slots }
@@ -125,7 +127,7 @@ fn lowest(count: usize, entries: &[Entry], slots: usize) -> usize
     least
 }
 
-/// How many of so many slots it works on: those that remain when the entries are left that it leaves.
+/// How many of `slots` slots it works on: those that remain when the entries are left that it leaves.
 pub fn left(change: Change, entries: &[Entry], slots: usize) -> usize
     ensures { result ≡ specs.left change entries.now slots }
 {
@@ -145,7 +147,7 @@ fn leaves(change: Change, entries: &[Entry], slots: usize) -> bool
     }
 }
 
-/// The slots that it works on.
+/// The slots that an instruction works on: those that remain when the entries are left that it leaves.
 #[tactic(auto, unfolding(crate::specs::Edges::base))]
 pub fn base<'a>(action: &Action, x: &'a Shape) -> &'a [Kind]
     ensures { result.now ≡ specs.base (action_of action.now) (at_of x.now) }
@@ -167,7 +169,8 @@ fn deep(change: Change, entries: &[Entry], taken: usize, slots: usize) -> bool
     }
 }
 
-/// The rule Height, but for the shapes that meet.
+/// Are there the slots that the instruction takes, of the kinds that it asks for, and none of them below an entry that remains (the rule
+/// Height, but for the shapes that meet)?
 #[tactic(auto, unfolding(crate::specs::Edges::finds))]
 pub fn finds(action: &Action, x: &Shape, base: &[Kind]) -> bool
     requires { base.now ≡ specs.base (action_of action.now) (at_of x.now) }
@@ -177,7 +180,7 @@ pub fn finds(action: &Action, x: &Shape, base: &[Kind]) -> bool
     fits(takes, base) && deep(change_of(action), &x.entries, takes.len(), base.len())
 }
 
-/// The rule Height, but for the shapes that meet, where it held before slots of the span changed.
+/// As `finds`, where that held before slots of the span changed.
 #[tactic(auto, unfolding(crate::specs::Edges::finds))]
 pub(crate) fn finds_again(action: &Action, x: &Shape, base: &[Kind], span: Span) -> bool
     requires base_is { base.now ≡ specs.base (action_of action.now) (at_of x.now) }
@@ -188,7 +191,7 @@ pub(crate) fn finds_again(action: &Action, x: &Shape, base: &[Kind], span: Span)
     fits_again(takes, base, span) && deep(change_of(action), &x.entries, takes.len(), base.len())
 }
 
-/// Is there room for so many slots beside the locals?
+/// Is there room for `slots` slots beside the locals?
 fn has_room(locals: usize, slots: usize, n_state: usize) -> bool
     ensures { result ≡ nat_le (locals + slots) n_state }
 {
@@ -204,7 +207,7 @@ fn has_all_room(code: &Code, locals: usize, before: usize, next: usize, there: u
         && has_room(locals, there, code.n_state)
 }
 
-/// The rule State.
+/// Is there room for the locals and the slots before the instruction, behind it and where it jumps (the rule State)?
 pub fn room(code: &Code, locals: usize, action: &Action, x: &Shape, base: &[Kind]) -> bool
     requires base_is { base.now ≡ specs.base (action_of action.now) (at_of x.now) }
     requires locals_are { locals ≡ (code_of code.now).locals }
@@ -216,7 +219,7 @@ pub fn room(code: &Code, locals: usize, action: &Action, x: &Shape, base: &[Kind
     has_all_room(code, locals, x.slots.len(), next, there)
 }
 
-/// The rule Falls.
+/// Does the flow stay in the code behind the instruction (the rule Falls)?
 #[tactic(auto, unfolding(crate::specs::Edges::stays))]
 pub fn stays(code: &Code, action: &Action, p: usize) -> bool
     requires { p < length code.now.items.items }

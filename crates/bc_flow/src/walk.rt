@@ -84,6 +84,7 @@ fn agrees_state(state: &State, edge: Edge) -> bool
     }
 }
 
+/// Are the entries that arrive those that hold there, if any do?
 #[tactic(auto, using(crate::proofs::Tables::agrees_in, crate::proofs::Tables::agrees_out))]
 fn agrees(states: &[State], edge: Edge) -> bool
     ensures { result ≡ specs.agrees (table_of states.now) edge.entry.to (edge_of_rust edge.entry).at.entries }
@@ -208,6 +209,7 @@ fn widen(changes: &mut Vec<Option<Span>>, p: usize, span: Span)
     }
 }
 
+/// Does a position wait for its visit?
 fn is_pending(states: &[State], n: usize) -> bool
     ensures yes { OnTrue result ((y : At) × IsPending (table_of states.now) n y) }
     ensures no { OnFalse result ((y : At) → IsPending (table_of states.now) n y → ⊥) }
@@ -271,6 +273,7 @@ fn put_all(
     Ok(true)
 }
 
+/// Notes that a pending position has been visited; its shape stays.
 fn set_done(states: &mut Vec<State>, p: usize)
     requires { p < length states.now.items }
     ensures { (x : At) → IsPending (table_of states.old.items) p x
@@ -316,7 +319,7 @@ fn clear_at(changes: &[Option<Span>], p: usize, action: &Action, base: &[Kind]) 
     }
 }
 
-/// Judges a position anew.
+/// Judges a position by all that the rules ask of it, whatever was known before.
 fn judge_all<'a>(
     code: &Code,
     locals: usize,
@@ -545,7 +548,7 @@ fn start(alloc: Global, size: usize) -> Result<Vec<State>, NoMemory>
     Ok(states)
 }
 
-/// No position was visited.
+/// The changes of `size` positions of which none was visited.
 fn unvisited(alloc: Global, size: usize) -> Result<Vec<Option<Span>>, NoMemory>
     ensures { IfOk result (λ v. (p : ℕ) (s : SpecSpan) → slice_get v.items p ≡ Some (Some s) → ⊥) }
 {
@@ -556,13 +559,14 @@ fn unvisited(alloc: Global, size: usize) -> Result<Vec<Option<Span>>, NoMemory>
     Ok(changes)
 }
 
+/// The changes of no position. They take no memory.
 fn no_changes(alloc: Global) -> Vec<Option<Span>>
     ensures { result.items ≡ [] }
 {
     Vec::new(alloc)
 }
 
-/// Makes room for the slots that change, once so many visits were made that a position may be visited again.
+/// Makes room for the slots that change, once `visits` is the number of positions, so that the next visit may be of one again.
 #[tactic(auto, using(crate::proofs::Spans::since_none))]
 fn keep_changes(
     alloc: Global,
@@ -632,7 +636,7 @@ pub fn progress()
     ensures { (code : RustCode) → Verified (code_of code) → NeverStuck (code_of code) }
 {}
 
-/// There is one first fault.
+/// A code has at most one first fault.
 pub fn one_fault()
     ensures { (code : SpecCode) (r s : Rule) (p q : ℕ) → FirstFault code r p → FirstFault code s q
         → (r ≡ s) × (p ≡ q) }

@@ -90,7 +90,7 @@ behind_pieces ps qs end len s e f =
     ∙ (passed_over 0 0 end ps (starts end qs) s (omega (arith, e))
     ∙ (ap (λ (n : ℕ). target (starts end qs) n (pos end)) (omega arith) ∙ found_at qs end (length ps) (length (ps ++ qs)) len (length-append ps qs) rest))
 
--- so many items have as many instructions as stand among them
+-- an item that is an instruction has one, and a label has none
 length-instr_of : (it : Labelled) (z : ℤ) (wide : Bool) → length (instr_of it z wide) ≡ cond (is_instr it) 1 0
 length-instr_of (At label) z wide = refl
 length-instr_of (Plain instr) z wide = refl
@@ -104,7 +104,7 @@ length-instrs_to items widths (suc i) within =
     rw (← add-one i)
     (omega (arith, length-append (instrs_to items widths i) here, length-instrs_to items widths i (omega arith), length-instr_of (item_at items i) (offset items widths i) (width_at widths i), sum_by_more (λ (it : Labelled). cond (is_instr it) 1 0) items i (At 0) (omega arith)))
 
--- the instructions of so many items stand in front of those of more
+-- the instructions of the first `i` items stand in front of those of `i + k`
 more_behind : (items : List Labelled) (widths : List Bool) (i k : ℕ) → (behind : List Instr) × (instrs_to items widths (i + k) ≡ instrs_to items widths i ++ behind)
 more_behind items widths i zero = ([], ap (instrs_to items widths) (add-zero i) ∙ sym (append-nil (instrs_to items widths i)))
 more_behind items widths i (suc k) =
@@ -120,7 +120,7 @@ all_behind items widths i within =
 pieces_behind : (xs ys zs : List Instr) → zs ≡ xs ++ ys → map piece_of zs ≡ map piece_of xs ++ map piece_of ys
 pieces_behind xs ys zs e = ap (map piece_of) e ∙ map-append piece_of xs ys
 
--- the bytes of the pieces of so many items are as many as the next item's place
+-- the bytes of the pieces of the first `i` items are as many as the next item's place
 length-joined : (items : List Labelled) (widths : List Bool) (i : ℕ) → length (joined (map piece_of (instrs_to items widths i))) ≡ place items widths i
 length-joined items widths i = ap length (joined-pieces (instrs_to items widths i)) ∙ length-instrs items widths i
 

@@ -55,12 +55,12 @@ instr_of (Plain instr) offset wide = instr ∷ []
 instr_of (Jump op label) offset wide = instrs.Jump op offset wide ∷ []
 instr_of (Unwind label byte) offset wide = instrs.Unwind offset wide byte ∷ []
 
--- the instructions of so many items
+-- the instructions of the first items, as many as the third argument says
 abbrev pub instrs_to : List Labelled → List Bool → ℕ → List Instr
 instrs_to items widths zero = []
 instrs_to items widths (suc i) = instrs_to items widths i ++ instr_of (item_at items i) (offset items widths i) (width_at widths i)
 
--- those of all items
+-- the instructions of all items
 abbrev pub instrs_of : List Labelled → List Bool → List Instr
 instrs_of items widths = instrs_to items widths (length items)
 

@@ -30,6 +30,6 @@ listed_item items len (Plain instr) = listing.Plain instr ∷ []
 listed_item items len (Jump op label) = listing.Jump op (label_target items len label) ∷ []
 listed_item items len (Unwind label byte) = listing.Unwind (label_target items len label) byte ∷ []
 
--- the list of a layout with so many bytes
+-- the list of a layout of `len` bytes
 abbrev pub listed : List Labelled → ℕ → List Item
 listed items len = flat_map (listed_item items len) items

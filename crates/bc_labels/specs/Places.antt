@@ -34,7 +34,7 @@ abbrev pub offset : List Labelled → List Bool → ℕ → ℤ
 offset items widths i =
     pos (place items widths (target_of items (item_at items i))) -ℤ pos (place items widths i + 1 + offset_size (width_at widths i))
 
--- the places of so many items
+-- the places of the first items, as many as the third argument says
 abbrev pub places_to : List Labelled → List Bool → ℕ → List ℕ
 places_to items widths zero = []
 places_to items widths (suc i) = places_to items widths i ++ place items widths i ∷ []

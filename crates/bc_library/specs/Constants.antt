@@ -13,10 +13,12 @@ use Rattle.mpy_tree.specs.Raw.{Module}
 use Rattle.bc_library.specs.Shelf.{Shelf, module_at}
 use Rattle.bc_library.specs.Texts.{text_numbered}
 
+-- the items of a tuple
 abbrev pub items_in : Constant-F Constant → Option (List Constant)
 items_in (Constant-F.Tuple items) = Some items
 items_in object = None
 
+-- the bytes of a text
 abbrev pub bytes_in : Constant-F Constant → Option (List ℕ)
 bytes_in (Constant-F.Str text) = Some text
 bytes_in object = None
@@ -26,7 +28,7 @@ abbrev pub preorder_by : (Constant → List Constant) → Constant → Option (L
 preorder_by inner object None = object ∷ []
 preorder_by inner object (Some items) = object ∷ flat_map inner items
 
--- the same to so many levels
+-- the same to that number of levels of tuples
 unfoldable pub preorder_to : ℕ → Constant → List Constant
 preorder_to zero object = object ∷ []
 preorder_to (suc levels) object = preorder_by (preorder_to levels) object (items_in (out-Constant object))
@@ -39,11 +41,12 @@ preorder object = preorder_to MAX_DEPTH object
 abbrev pub constants_of : Module → List Constant
 constants_of m = flat_map preorder m.objects
 
--- the value of the object that has this number
+-- the value of a tuple that has this number, with these items: one without items is the empty tuple
 abbrev pub tuple_value : ConstNo → List Constant → Value
 tuple_value c [] = values.Empty
 tuple_value c (item ∷ items) = values.Fixed c
 
+-- the value of the object that has this number
 abbrev pub value_by : ConstNo → Constant-F Constant → Value
 value_by c Constant-F.None = values.None
 value_by c Constant-F.False = values.Bool false
@@ -52,6 +55,7 @@ value_by c (Constant-F.Str text) = values.Str (strs.Object c)
 value_by c (Constant-F.Int n) = values.Int n
 value_by c (Constant-F.Tuple items) = tuple_value c items
 
+-- the number of the constant `n` of the module `i`
 abbrev pub numbered : ℕ → ℕ → ConstNo
 numbered i n = record { «module» = i; object = n }
 
@@ -61,6 +65,7 @@ values_from i n [] = []
 values_from i n (object ∷ objects) =
     value_by (numbered i n) (out-Constant object) ∷ values_from i (n + length (preorder object)) objects
 
+-- the constant of this number
 abbrev pub constant_at : Shelf → ConstNo → Option Constant
 constant_at shelf c = option_and_then (λ m. slice_get (constants_of m) c.object) (module_at shelf c.«module»)
 

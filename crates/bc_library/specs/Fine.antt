@@ -19,11 +19,12 @@ FineBy P (Constant-F.Int n) = IsSmall n
 FineBy P (Constant-F.Tuple items) = P items
 FineBy P object = Unit {0}
 
+-- the items of a tuple: fewer than 2^31, and the fact holds of each
 pub record AreFew (P : Constant → Type 0) (items : List Constant) : Type 0 where
   pub few : length items < 2 ^ 31
   pub each : Each P items
 
--- an object with so many levels of tuples at most
+-- an object with that number of levels of tuples at most
 unfoldable pub Fine : ℕ → Constant → Type 0
 Fine zero object = FineBy (λ items. ⊥) (out-Constant object)
 Fine (suc levels) object = FineBy (AreFew (Fine levels)) (out-Constant object)

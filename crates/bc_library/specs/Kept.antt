@@ -22,15 +22,18 @@ pub record IsLoaded (pool : Texts) (i : ℕ) (l : Loaded) : Type 0 where
   pub fine : Each (Fine MAX_DEPTH) l.«module».objects
   pub verified : IsVerified l.«module»
 
+-- what is kept of a library: its pool, each of its modules, and names that differ
 pub record IsLibrary (modules : List Loaded) (refused : List (List ℕ)) (pool : Texts) : Type 0 where
   pub own : IsOwnPool pool
   pub loaded : (i : ℕ) (l : Loaded) → slice_get modules i ≡ Some l → IsLoaded pool i l
   pub distinct : (i k : ℕ) (a b : Loaded) → slice_get modules i ≡ Some a → slice_get modules k ≡ Some b → a.name ≡ b.name → i ≡ k
   pub few : length modules + length refused ≤ MAX_MODULES
 
+-- a module with its name, as a library is seen
 abbrev pub named : Loaded → Named
 named l = record { name = l.name; held = l.«module» }
 
+-- the library as it is seen
 abbrev pub shelf_of : List Loaded → List (List ℕ) → Texts → Shelf
 shelf_of modules refused pool = record { modules = map named modules; refused = refused; pool = pool }
 

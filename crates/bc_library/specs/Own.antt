@@ -11,6 +11,7 @@ pub record IsOwnText (text : List ℕ) : Type 0 where
   pub plain : IsPlain text
   pub own : static_number_of text ≡ None
 
+-- the pool of a library: texts of its own, numbered behind the static ones
 pub record IsOwnPool (pool : Texts) : Type 0 where
   pub first : pool.first ≡ FIRST_OWN
   pub each : Each IsOwnText pool.texts

@@ -28,6 +28,7 @@ abbrev pub bytes_of : Part → Option (List ℕ)
 bytes_of (parts.Str text) = Some text
 bytes_of part = None
 
+-- the values of a tuple's items
 abbrev pub items_of : Part → Option (List Value)
 items_of (parts.Tuple values) = Some values
 items_of part = None

@@ -26,9 +26,11 @@ pub record Shelf : Type 0 where
   pub refused : List (List ℕ)
   pub pool : Texts
 
+-- a library without modules and texts of its own
 abbrev pub no_entries : Shelf
 no_entries = record { modules = []; refused = []; pool = record { first = FIRST_OWN; texts = [] } }
 
+-- the library with a module more, whose texts go into the pool in the order of their first use
 abbrev pub with_module : Shelf → List ℕ → Module → Shelf
 with_module shelf name m = record {
   modules = shelf.modules ++ record { name = name; held = m } ∷ [];
@@ -36,9 +38,11 @@ with_module shelf name m = record {
   pool = with_texts shelf.pool (texts_of name m);
 }
 
+-- the library with a name more whose file was refused
 abbrev pub with_refused : Shelf → List ℕ → Shelf
 with_refused shelf name = record { modules = shelf.modules; refused = shelf.refused ++ name ∷ []; pool = shelf.pool }
 
+-- the names of the modules
 abbrev pub names : Shelf → List (List ℕ)
 names shelf = map (λ n. n.name) shelf.modules
 
@@ -56,6 +60,7 @@ member_of shelf name = member_by (position (bytes_eq name) (names shelf)) (list_
 abbrev pub IsFull : Shelf → Type 0
 IsFull shelf = MAX_MODULES ≤ length shelf.modules + length shelf.refused
 
+-- the module at a place
 abbrev pub module_at : Shelf → ℕ → Option Module
 module_at shelf i = option_and_then (λ n. Some n.held) (slice_get shelf.modules i)
 
@@ -63,6 +68,7 @@ module_at shelf i = option_and_then (λ n. Some n.held) (slice_get shelf.modules
 abbrev pub entry_at : Shelf → ℕ → ℕ → Option Qstr
 entry_at shelf i qstr = option_and_then (λ m. slice_get m.qstrs qstr) (module_at shelf i)
 
+-- the text of that entry
 abbrev pub table_text : Shelf → ℕ → ℕ → Option (List ℕ)
 table_text shelf i qstr = option_and_then raw.text_of (entry_at shelf i qstr)
 
@@ -71,6 +77,7 @@ abbrev pub fault_in : Refused LibFault → Option LibFault
 fault_in (refused.Fault fault) = Some fault
 fault_in refused.NoMemory = None
 
+-- the fault that a call tells which gives something back with its refusal
 abbrev pub fault_of : {A B : Type 0} → Result A (Refused LibFault × B) → Option LibFault
 fault_of (Ok done) = None
 fault_of (Err e) = fault_in e.0

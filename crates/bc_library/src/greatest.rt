@@ -9,7 +9,7 @@ ghost use Rattle.bc_library.specs.Greatest.{HasPrelude, IsGreatestIn};
 use bc_prelude::read_prelude;
 use mpy_tree::RawCode;
 
-/// The greatest of a code and of those in it, of which there are so many levels at most.
+/// The greatest of a code and of those in it, in `levels` levels of codes at most.
 pub(crate) fn greatest_in(code: &RawCode, levels: usize) -> (u32, u32)
     requires { (texts : ℕ) × (text : List ℕ) × IsCode levels texts text code.now }
     ensures { IsGreatestIn (HasPrelude code.now) result.0 result.1 }

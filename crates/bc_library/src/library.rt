@@ -91,6 +91,7 @@ fn is_among(names: &[Text], name: &[u8]) -> bool
     names.iter().any(|other| name == other.bytes())
 }
 
+/// The module at the place `i`.
 pub(crate) fn loaded_at(modules: &[Loaded], i: u32) -> Option<&Loaded>
     ensures { option_copied result ≡ slice_get modules.now i }
 {

@@ -82,7 +82,7 @@ fn add_object(
     Ok(value)
 }
 
-/// The same with objects one after another.
+/// Adds what is kept of objects, one after another, and gives their values.
 #[cycle(parts)]
 pub(crate) fn add_objects(
     alloc: Global,

@@ -10,6 +10,7 @@ pub record CodeList : Type 0 where
   pub items : List Item
   pub offsets : List ℕ
 
+-- the bytes are this list
 abbrev pub Listed : List ℕ → CodeList → Type 0
 Listed bytes l = Lists bytes l.items l.offsets
 

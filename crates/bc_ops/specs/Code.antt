@@ -36,6 +36,7 @@ IsOutside (forms.Call op) bytes = (text rest : List ℕ) × (n : ℕ) × numbers
 IsOutside forms.Outside bytes = Unit {0}
 IsOutside form bytes = ⊥
 
+-- the bytes end inside the operand of this form
 abbrev pub IsCut : Form → List ℕ → Type 0
 IsCut (forms.Name op) bytes = numbers.EndsInside bytes
 IsCut (forms.Number op) bytes = numbers.EndsInside bytes
@@ -45,6 +46,7 @@ IsCut (forms.Offset op signed) bytes = offsets.EndsInside bytes
 IsCut forms.Unwind bytes = offsets.EndsInside bytes ⊎ ((offset : ℤ) × (wide : Bool) × offsets.Spells true wide bytes offset)
 IsCut form bytes = ⊥
 
+-- the operand of this form passes its form
 abbrev pub IsPast : Form → List ℕ → Type 0
 IsPast (forms.Name op) bytes = numbers.PassesForm bytes
 IsPast (forms.Number op) bytes = numbers.PassesForm bytes

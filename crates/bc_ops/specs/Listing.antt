@@ -14,9 +14,11 @@ pub record Piece : Type 0 where
   pub text : List ℕ
   pub instr : Instr
 
+-- the bytes spell the instruction
 abbrev pub IsPiece : Piece → Type 0
 IsPiece piece = Spells piece.text piece.instr
 
+-- the bytes of pieces, one behind another
 abbrev pub joined : List Piece → List ℕ
 joined [] = []
 joined (piece ∷ pieces) = piece.text ++ joined pieces
@@ -38,6 +40,7 @@ item starts end (instrs.Jump op offset wide) = Jump op (target starts 0 (pos end
 item starts end (instrs.Unwind offset wide byte) = Unwind (target starts 0 (pos (end - 1) +ℤ offset)) byte
 item starts end instr = Plain instr
 
+-- the items of pieces, of which the first starts at `at`, in a code whose instructions start at `starts`
 abbrev pub items_at : List ℕ → ℕ → List Piece → List Item
 items_at starts at [] = []
 items_at starts at (piece ∷ pieces) =

@@ -17,5 +17,6 @@ pub record IsParted (bytes : List ℕ) (offsets : List ℕ) (instrs : List Ended
   pub offsets_are : offsets ≡ starts 0 pieces
   pub instrs_are : instrs ≡ ended 0 pieces
 
+-- the items of instructions in a code whose instructions start at `starts`
 abbrev pub items_in : List ℕ → List Ended → List Item
 items_in starts instrs = map (λ e. item starts e.end e.instr) instrs

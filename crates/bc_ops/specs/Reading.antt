@@ -17,24 +17,27 @@ ReadsNumber bytes (Err faults.Truncated) = numbers.EndsInside bytes
 ReadsNumber bytes (Err faults.BadNumber) = numbers.PassesForm bytes
 ReadsNumber bytes (Err fault) = ⊥
 
--- the same of groups, of a signed number and of an offset
+-- what is read of groups: the number that those in front of the bytes are, or why there is none
 abbrev pub ReadsGroups : List ℕ → Result (ℕ × ℕ) CodeFault → Type 0
 ReadsGroups bytes (Ok found) = (text rest : List ℕ) × numbers.Groups text found.0 × (bytes ≡ text ++ rest) × (found.1 ≡ length text)
 ReadsGroups bytes (Err faults.Truncated) = numbers.EndsInside bytes
 ReadsGroups bytes (Err faults.BadNumber) = numbers.HasFiveMore bytes
 ReadsGroups bytes (Err fault) = ⊥
 
+-- what reading a signed number answers
 abbrev pub ReadsSigned : List ℕ → Result (ℤ × ℕ) CodeFault → Type 0
 ReadsSigned bytes (Ok found) = (text rest : List ℕ) × integers.Spells text found.0 × (bytes ≡ text ++ rest) × (found.1 ≡ length text)
 ReadsSigned bytes (Err faults.Truncated) = numbers.EndsInside bytes
 ReadsSigned bytes (Err faults.BadNumber) = integers.PassesForm bytes
 ReadsSigned bytes (Err fault) = ⊥
 
+-- what reading an offset answers, with whether it is wide
 abbrev pub ReadsOffset : Bool → List ℕ → Result (ℤ × Bool × ℕ) CodeFault → Type 0
 ReadsOffset signed bytes (Ok found) = (text rest : List ℕ) × offsets.Spells signed found.1 text found.0 × (bytes ≡ text ++ rest) × (found.2 ≡ length text)
 ReadsOffset signed bytes (Err faults.Truncated) = offsets.EndsInside bytes
 ReadsOffset signed bytes (Err fault) = ⊥
 
+-- what reading the operand of an unwinding jump answers
 abbrev pub ReadsUnwind : List ℕ → Result (Instr × ℕ) CodeFault → Type 0
 ReadsUnwind bytes (Ok found) = (text rest : List ℕ) × Operand forms.Unwind text found.0 × (bytes ≡ text ++ rest) × (found.1 ≡ length text)
 ReadsUnwind bytes (Err faults.Truncated) = IsCut forms.Unwind bytes

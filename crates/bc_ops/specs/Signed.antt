@@ -3,10 +3,11 @@
 use Rattle.std.specs.Prelude.{◌≡◌, ◌⊎◌, ℕ, zero, suc, ◌+◌, ◌-◌, ◌/◌, ◌%◌, ◌^◌, ◌<◌, List, [], ◌∷◌, ◌++◌, length, slice_index, ◌==◌, nat_lt, if◌then◌else◌, ℤ, pos, negsuc, ◌-ℤ◌}
 use Rattle.mpy_base.specs.Vuint.{Groups, HasFiveMore}
 
--- the number of so many groups that are n without a sign
+-- the number of `len` groups that are `n` without a sign
 abbrev pub with_sign : ℕ → ℕ → ℕ → ℤ
 with_sign first len n = if first / 64 % 2 == 1 then pos n -ℤ pos (128 ^ len) else pos n
 
+-- the signed number of bytes whose groups are `n` without a sign
 abbrev pub signed_of : List ℕ → ℕ → ℤ
 signed_of bytes n = with_sign (slice_index bytes 0) (length bytes) n
 
@@ -35,6 +36,7 @@ pub record BeginsTooBig (bytes : List ℕ) : Type 0 where
   pub groups : Groups text n
   pub big : IsSmall (signed_of text n) → ⊥
 
+-- the bytes begin with five that have bit 7 set, or with a number that has no spelling
 abbrev pub PassesForm : List ℕ → Type 0
 PassesForm bytes = HasFiveMore bytes ⊎ BeginsTooBig bytes
 
@@ -57,6 +59,7 @@ abbrev pub unsigned_in : ℕ → ℤ → ℕ
 unsigned_in k (pos n) = n
 unsigned_in k (negsuc n) = 128 ^ (k + 1) - 1 - n
 
+-- the bytes of a number in `k` groups above the last
 abbrev pub spelled_in : ℕ → ℕ → List ℕ
 spelled_in k n = groups_above k (n / 128) ++ (n % 128) ∷ []
 

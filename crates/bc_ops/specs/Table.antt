@@ -61,24 +61,27 @@ code_of RaiseObj = 0x65
 code_of LoadFast = 0xb0
 code_of StoreFast = 0xc0
 
--- the forms of the first bytes below 0x70
+-- the forms of the first bytes of instructions that name a text
 abbrev pub name_rows : List Form
 name_rows =
     Name LoadConstString ∷ Name LoadName ∷ Name LoadGlobal ∷ Name LoadAttr ∷ Name LoadMethod ∷ Name StoreName ∷
     Name StoreGlobal ∷ Name StoreAttr ∷ Name DeleteName ∷ Name DeleteGlobal ∷ Name ImportName ∷ Name ImportFrom ∷ []
 
+-- the forms of the first bytes of instructions with a number
 abbrev pub number_rows : List Form
 number_rows =
     Signed ∷ Number LoadConstObj ∷ Number LoadFastN ∷ Number StoreFastN ∷ Number DeleteFast ∷ Number BuildTuple ∷
     Number BuildList ∷ Number BuildMap ∷ Number UnpackSequence ∷ Number MakeFunction ∷ Number MakeFunctionDefargs ∷
     Call CallFunction ∷ Call CallMethod ∷ []
 
+-- the forms of the first bytes of jumps
 abbrev pub jump_rows : List Form
 jump_rows =
     Unwind ∷ Offset Jump true ∷ Offset PopJumpIfTrue true ∷ Offset PopJumpIfFalse true ∷
     Offset JumpIfTrueOrPop false ∷ Offset JumpIfFalseOrPop false ∷ Offset SetupExcept false ∷
     Offset SetupFinally false ∷ Offset PopExceptJump false ∷ Offset ForIter false ∷ []
 
+-- the forms of the first bytes of instructions without an operand
 abbrev pub plain_rows : List Form
 plain_rows =
     Whole (Plain LoadConstFalse) ∷ Whole (Plain LoadConstNone) ∷ Whole (Plain LoadConstTrue) ∷
@@ -87,7 +90,7 @@ plain_rows =
     Whole (Plain EndFinally) ∷ Whole (Plain GetIterStack) ∷ Whole (Plain StoreMap) ∷ Whole (Plain ReturnValue) ∷
     Whole (Plain RaiseLast) ∷ Whole (Plain RaiseObj) ∷ []
 
--- the first byte of such a row
+-- the first byte of the instructions of a form in these lists, and 0 of another form
 abbrev pub byte_of : Form → ℕ
 byte_of (Whole (Plain op)) = code_of op
 byte_of (Name op) = code_of op
@@ -98,19 +101,23 @@ byte_of (Offset op signed) = code_of op
 byte_of Unwind = 0x40
 byte_of form = 0
 
--- the first bytes of the instructions that aren't supported
+-- the first bytes that aren't supported among those of instructions that name a text
 abbrev pub name_outside : List ℕ
 name_outside = 0x15 ∷ []
 
+-- the first bytes that aren't supported among those of instructions with a number
 abbrev pub number_outside : List ℕ
 number_outside = 0x20 ∷ 0x21 ∷ 0x25 ∷ 0x27 ∷ 0x29 ∷ 0x2d ∷ 0x2e ∷ 0x2f ∷ 0x31 ∷ 0x35 ∷ 0x37 ∷ []
 
+-- the first bytes that aren't supported among those of jumps
 abbrev pub jump_outside : List ℕ
 jump_outside = 0x47 ∷ []
 
+-- the first bytes that aren't supported among those of instructions without an operand
 abbrev pub plain_outside : List ℕ
 plain_outside = 0x54 ∷ 0x5c ∷ 0x5e ∷ 0x66 ∷ 0x67 ∷ 0x68 ∷ 0x69 ∷ []
 
+-- the first bytes that aren't supported among those of operators
 abbrev pub short_outside : List ℕ
 short_outside = 0xe8 ∷ 0xea ∷ 0xf5 ∷ 0xf7 ∷ []
 
@@ -128,12 +135,15 @@ row_for byte (row ∷ rows) outside = if byte == byte_of row then row else row_f
 unfoldable pub name_form : ℕ → Form
 name_form byte = row_for byte name_rows name_outside
 
+-- the form of a first byte among the instructions with a number
 unfoldable pub number_form : ℕ → Form
 number_form byte = row_for byte number_rows number_outside
 
+-- the form of a first byte among the jumps
 unfoldable pub jump_form : ℕ → Form
 jump_form byte = row_for byte jump_rows jump_outside
 
+-- the form of a first byte among the instructions without an operand
 unfoldable pub plain_form : ℕ → Form
 plain_form byte = row_for byte plain_rows plain_outside
 

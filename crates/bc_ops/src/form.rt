@@ -67,7 +67,7 @@ fn name_form(byte: u8) -> Form
     }
 }
 
-/// That of 0x20 to 0x3f.
+/// The form of the instructions that begin with a byte from 0x20 to 0x3f.
 #[tactic(auto, unfolding(crate::specs::Table::number_form))]
 fn number_form(byte: u8) -> Form
     ensures { result ≡ specs.number_form byte }
@@ -91,7 +91,7 @@ fn number_form(byte: u8) -> Form
     }
 }
 
-/// That of 0x40 to 0x4f.
+/// The form of the instructions that begin with a byte from 0x40 to 0x4f.
 #[tactic(auto, unfolding(crate::specs::Table::jump_form))]
 fn jump_form(byte: u8) -> Form
     ensures { result ≡ specs.jump_form byte }
@@ -139,7 +139,7 @@ fn jump_form(byte: u8) -> Form
     }
 }
 
-/// That of 0x50 to 0x6f.
+/// The form of the instructions that begin with a byte from 0x50 to 0x6f.
 #[tactic(auto, unfolding(crate::specs::Table::plain_form))]
 fn plain_form(byte: u8) -> Form
     ensures { result ≡ specs.plain_form byte }
@@ -167,7 +167,7 @@ fn plain_form(byte: u8) -> Form
     }
 }
 
-/// That of 0x70 on.
+/// The form of the instructions that begin with a byte from 0x70 on.
 #[tactic(auto, unfolding(crate::specs::Table::short_form))]
 fn short_form(byte: u8) -> Form
     requires { 0x70 ≤ byte }

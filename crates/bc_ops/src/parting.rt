@@ -87,7 +87,7 @@ fn item(starts: &[usize], ended: Ended) -> Item
     }
 }
 
-/// The items of instructions.
+/// The items of these instructions, each jump with the position that it names.
 fn items(alloc: Global, starts: &[usize], instrs: &[Ended]) -> Result<Vec<Item>, NoMemory>
     requires rising { IsStrictlyIncreasing starts.now }
     requires near { All (λ ended. ended.end ≤ MAX_CODE_BYTES) instrs.now }

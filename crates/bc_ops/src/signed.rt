@@ -11,12 +11,13 @@ use mpy_base::NoMemory;
 /// The bytes of a number at most.
 const MAX_BYTES: usize = 5;
 
-/// The least number and the greatest.
+/// The least number that an operand can be.
 const MIN: i64 = -(1 << 30);
 
+/// The greatest number that an operand can be.
 const MAX: i64 = (1 << 30) - 1;
 
-/// What the place above so many groups counts.
+/// What the place above `groups` groups counts.
 fn place(groups: usize) -> u64
     requires { groups ≤ 5 }
     ensures value { result ≡ 128 ^ groups }
@@ -53,7 +54,7 @@ fn read_groups(bytes: &[u8]) -> Result<(u64, usize), CodeFault>
     }
 }
 
-/// The number of so many groups that are `value` without a sign. Bit 6 of the first byte is the sign.
+/// The number of `len` groups that are `value` without a sign. Bit 6 of the first byte is the sign.
 fn with_sign(first: u8, len: usize, value: u64) -> i64
     requires few { len ≤ 5 }
     requires small { value < 2 ^ 35 }

@@ -8,10 +8,12 @@ use Rattle.bc_machine.specs.State.{State, Running, Halted, Stuck}
 abbrev pub behind : List ℕ → PlainWorld → PlainWorld
 behind front w = record w { output = front ++ w.output }
 
+-- a state with this text in front of what was printed
 abbrev pub state_behind : List ℕ → State → State
 state_behind front (Running paid frame frames w) = Running paid frame frames (behind front w)
 state_behind front (Halted end w) = Halted end (behind front w)
 state_behind front (Stuck w) = Stuck (behind front w)
 
+-- a run with this text in front of what was printed
 abbrev pub run_behind : List ℕ → Run → Run
 run_behind front run = record { end = run.end; world = behind front run.world }

@@ -21,7 +21,7 @@ names_refused fault = Err fault
 abbrev pub name_refused : PreludeFault → Result (ℕ × ℕ) PreludeFault
 name_refused fault = Err fault
 
--- so many indexes of the bytes at a place are passed
+-- `passed` indexes of the bytes at a place are passed
 pub record Walked (bytes : List ℕ) (at passed behind : ℕ) : Type 0 where
   pub indexes : List ℕ
   pub text : List ℕ

@@ -2,6 +2,7 @@
 use Rattle.std.specs.Prelude.{◌≡◌, ℕ, ◌+◌, ◌*◌, ◌/◌, ◌%◌, ◌<◌, List, [], ◌∷◌, ◌++◌, All}
 use Rattle.mpy_base.specs.Vuint.{HasMore}
 
+-- bytes of which each but the last has bit 7 set
 pub record IsChain (bytes : List ℕ) : Type 0 where
   pub high : List ℕ
   pub last : ℕ

@@ -49,6 +49,7 @@ is_short bytes lines = nat_le lines 6 || nat_lt 15 bytes
 abbrev pub bytes_taken : ℕ → ℕ
 bytes_taken bytes = min bytes 31
 
+-- how many lines of a change its first entry takes
 abbrev pub lines_taken : ℕ → ℕ → ℕ
 lines_taken bytes lines =
     if is_short bytes lines then (if nat_le bytes 31 then min lines 3 else 0) else min lines 2047
@@ -77,6 +78,7 @@ table_behind offset line [] = []
 table_behind offset line (pair ∷ pairs) =
     change (pair.0 - offset) (pair.1 - line) ++ table_behind pair.0 pair.1 pairs
 
+-- the table for the pairs of an offset and a line, from offset 0 and line 1 on
 abbrev pub table_of : List (ℕ × ℕ) → List ℕ
 table_of pairs = table_behind 0 1 pairs
 
@@ -85,6 +87,7 @@ abbrev pub RisesFrom : ℕ → ℕ → List (ℕ × ℕ) → Type 0
 RisesFrom offset line [] = Unit {0}
 RisesFrom offset line (pair ∷ pairs) = (offset ≤ pair.0) × (line ≤ pair.1) × RisesFrom pair.0 pair.1 pairs
 
+-- neither offsets nor lines fall, from offset 0 and line 1 on
 abbrev pub Rises : List (ℕ × ℕ) → Type 0
 Rises pairs = RisesFrom 0 1 pairs
 

@@ -13,7 +13,7 @@ abbrev pub spelling : List ℕ → List ℕ
 spelling [] = []
 spelling (index ∷ indexes) = vuint index ++ spelling indexes
 
--- the bytes end inside one of so many indexes
+-- the bytes end inside one of the first `count` indexes
 pub record NamesEnd (count : ℕ) (bytes : List ℕ) : Type 0 where
   pub text : List ℕ
   pub rest : List ℕ
@@ -23,7 +23,7 @@ pub record NamesEnd (count : ℕ) (bytes : List ℕ) : Type 0 where
   pub few : length indexes < count
   pub inside : EndsInside rest
 
--- one of so many indexes has no spelling
+-- one of the first `count` indexes has no spelling
 pub record NamesPass (count : ℕ) (bytes : List ℕ) : Type 0 where
   pub text : List ℕ
   pub rest : List ℕ

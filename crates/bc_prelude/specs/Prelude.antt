@@ -38,7 +38,7 @@ pub record Begins (code : List ℕ) (prelude : Prelude) : Type 0 where
   pub lines_at : prelude.lines_at ≡ prelude.info_at + length names
   pub code_at : prelude.code_at ≡ prelude.lines_at + length lines
 
--- such a fact holds of what follows the signature
+-- P holds of the signature that the code begins with and of what follows it
 pub record BehindSignature (P : Signature → List ℕ → Type 0) (code : List ℕ) : Type 0 where
   pub text : List ℕ
   pub rest : List ℕ
@@ -47,7 +47,7 @@ pub record BehindSignature (P : Signature → List ℕ → Type 0) (code : List 
   pub is_signature : IsSignature text signature
   pub holds : P signature rest
 
--- such a fact holds of the information behind the size field
+-- P holds of the information behind the size field that the bytes begin with
 pub record OfInformation (P : List ℕ → Type 0) (bytes : List ℕ) : Type 0 where
   pub text : List ℕ
   pub rest : List ℕ

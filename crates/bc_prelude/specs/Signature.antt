@@ -39,11 +39,12 @@ pub record IsSmall (text : List ℕ) : Type 0 where
   pub handlers : handlers_of text ≤ 255
   pub arguments : arguments_of text ≤ 255
 
+-- a number passes its limit
 abbrev pub IsBig : List ℕ → Type 0
 IsBig text = (4096 ≤ slots_of text) ⊎ (255 < handlers_of text) ⊎ (255 < arguments_of text)
 
--- the text is a signature with no flags and no keyword-only arguments, and these are its numbers; of defaulted arguments
--- past 2^32 - 1 it says so many
+-- the text is a signature with no flags and no keyword-only arguments, and these are its numbers; a count of defaulted arguments
+-- past 2^32 - 1 is told as 2^32 - 1
 pub record IsSignature (text : List ℕ) (signature : Signature) : Type 0 where
   pub chain : IsChain text
   pub small : IsSmall text

@@ -26,7 +26,7 @@ pub fn read_name_at(code: &[u8], at: usize, end: usize) -> Result<(u32, usize), 
     }
 }
 
-/// Passes so many indexes from `at` on, of bytes up to `end`, and gives the place behind them.
+/// Passes `count` indexes from `at` on, of bytes up to `end`, and gives the place behind them.
 pub fn read_names(code: &[u8], at: usize, end: usize, count: u32) -> Result<usize, PreludeFault>
     requires at_in { at ≤ end }
     requires end_in { end ≤ length code.now }

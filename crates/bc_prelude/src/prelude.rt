@@ -64,7 +64,7 @@ pub fn read_prelude(code: &[u8]) -> Result<Prelude, PreludeFault>
 }
 
 impl Prelude {
-    /// Its numbers that the signature has.
+    /// The numbers of a prelude that its signature has.
     fn signature(&self) -> Signature
         ensures { result ≡ signature_in self.now }
     {

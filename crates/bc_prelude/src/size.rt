@@ -50,7 +50,7 @@ fn spell(out: &mut Vec<u8>, size: usize) -> Result<(), NoMemory>
     Ok(())
 }
 
-/// Adds the shortest spelling of the size field of so much information. An `Err` leaves `out` as it was.
+/// Adds the shortest spelling of the size field of `size` bytes of information. An `Err` leaves `out` as it was.
 pub fn write_size(out: &mut Vec<u8>, size: usize) -> Result<(), NoMemory>
     ensures ok { OnOk result (out.new.items ≡ out.old.items ++ spelling size) }
     ensures err { OnErr result (out.new.items ≡ out.old.items) }

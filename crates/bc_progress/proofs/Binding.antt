@@ -78,7 +78,7 @@ module _ (heap : PlainHeap) (want : ℕ) (v : Val) (vs : List Val) where
 -- binding
 -- =======
 
--- the slots are so many, where there are any
+-- there are `n` slots, where there are any
 abbrev Sized : ℕ → Result Locals Fault → Type 0
 Sized n (Ok slots) = length slots ≡ n
 Sized n (Err fault) = Unit {0}

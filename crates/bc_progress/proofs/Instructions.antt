@@ -154,7 +154,7 @@ module _ (facts : Facts) (plans : Plans) (library : Library) (follows : Follows 
   abbrev U : Op → ℕ → List Slot → State
   U op n st = machine.number_step library place paid frame frames w op n st
 
-  -- the slots below so many values
+  -- the slots below `n` values
   below_values : (n : ℕ) (gs : List Give) → D (Straight (takes n []) gs) → ShowsAllIn facts (drop n frame.slots) (drop n s.stack) × C (suc frame.position) (map (give_slot s.stack) gs ++ drop n s.stack)
   below_values n gs a =
       let g = straight facts plans library follows place paid frame frames w s below (takes n []) gs a in
@@ -189,7 +189,7 @@ module _ (facts : Facts) (plans : Plans) (library : Library) (follows : Follows 
         waits = record { code = s.code; code_is = s.code_is; locals = s.locals; stack = s.stack; wants = ws; call = a; shows = subst (ShowsAllIn facts rest) e r; kept = s.kept; planned = s.planned };
       }
 
-  -- so many below the top of what lies below
+  -- the stack below the top of what lies below `k` others
   one_below : (k n : ℕ) (t : flow.Slot) (stack : Stack) → t ∷ stack ≡ drop k s.stack → n ≡ k + 1 → stack ≡ drop n s.stack
   one_below k n t stack e q = ap (drop 1) e ∙ (drop-drop 1 k s.stack ∙ ap (λ z. drop z s.stack) (sym q))
 

@@ -20,7 +20,7 @@ unary_there (suc (suc zero)) lt = tt
 unary_there (suc (suc (suc zero))) lt = tt
 unary_there (suc (suc (suc (suc n)))) lt = absurd (omega (arith, lt))
 
--- something holds of so many numbers from one on
+-- P holds of each of `count` numbers, from `start` on
 abbrev EachFrom : (ℕ → Type 0) → ℕ → ℕ → Type 0
 EachFrom P start zero = Unit {0}
 EachFrom P start (suc count) = P start × EachFrom P (suc start) count

@@ -80,7 +80,7 @@ one_method P k f slots stack (more {s = s} {t = t} h r) e = absurd (never s t h 
     never s t iterator3 e = false≢true e
     never s t iterator4 e = false≢true e
 
--- so many values
+-- `n` values and the others are taken
 pub takes-length : (n : ℕ) (ws : List Want) → length (takes n ws) ≡ n + length ws
 takes-length zero ws = omega arith
 takes-length (suc n) ws = let e = takes-length n ws in omega (arith, e)

@@ -52,20 +52,24 @@ BelowIn facts plans library Called (frame ∷ frames) = WaitsIn facts plans libr
 BelowIn facts plans library (Imported name m) [] = ⊥
 BelowIn facts plans library (Imported name m) (frame ∷ frames) = StandsIn facts plans library frame × BelowIn facts plans library frame.role frames
 
+-- a state whose running frame stands so, with such frames below it. It isn't stuck
 abbrev pub FitsIn : Facts → Plans → Library → State → Type 0
 FitsIn facts plans library (Running paid frame frames w) = StandsIn facts plans library frame × BelowIn facts plans library frame.role frames
 FitsIn facts plans library (Halted end w) = Unit {0}
 FitsIn facts plans library (Stuck w) = ⊥
 
--- so it is with whatever exceptions and methods
+-- a frame that stands so, whatever exceptions and methods there are
 abbrev pub Stands : Plans → Library → Frame → Type 0
 Stands = StandsIn anything
 
+-- a frame that waits stands as its flow says, whatever exceptions and methods there are
 abbrev pub Waits : Plans → Library → Frame → Type 0
 Waits = WaitsIn anything
 
+-- the frames below one stand as their flows say, whatever exceptions and methods there are
 abbrev pub Below : Plans → Library → Role → List Frame → Type 0
 Below = BelowIn anything
 
+-- a state stands as the flows of its frames say, whatever exceptions and methods there are
 abbrev pub Fits : Plans → Library → State → Type 0
 Fits = FitsIn anything

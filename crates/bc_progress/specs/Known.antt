@@ -11,7 +11,7 @@ use Rattle.bc_progress.specs.Slots.{Facts}
 use Rattle.bc_progress.specs.Plans.{Plans}
 use Rattle.bc_progress.specs.Fits.{FitsIn}
 
--- one of these methods
+-- the method is one of these
 abbrev pub IsAmong : List (List ℕ × Builtin) → Builtin → Type 0
 IsAmong methods method = (name : List ℕ) × (named methods name ≡ Some method)
 

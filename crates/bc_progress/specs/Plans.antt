@@ -30,7 +30,7 @@ IsKnown (Loads v) = Unit {0}
 IsKnown (Jumps op p) = (signed : Bool) × (form_of (code_of op) ≡ forms.Offset op signed)
 IsKnown (Unwinds p byte) = Unit {0}
 
--- the child with this number is a code of the module, which has so many
+-- the child with the number `n` is a code of the module, which has `count` codes
 abbrev pub IsChild : ℕ → List ℕ → ℕ → Type 0
 IsChild count children n = (number : ℕ) × (slice_get children n ≡ Some number) × (number < count)
 
@@ -55,7 +55,7 @@ flow_of plan code = record {
   locals = code.locals;
 }
 
--- the code of a module with so many is verified by the plan
+-- the code of a module with `count` codes is verified by the plan
 pub record IsVerifiedCode (count : ℕ) (plan : Plan) (code : Code) : Type 0 where
   pub params : length code.params ≤ code.locals
   pub known : (p : ℕ) (l : Line) → slice_get code.lines p ≡ Some l → IsKnown l.item
@@ -71,6 +71,7 @@ pub record IsVerifiedModule (plans : ℕ → Plan) (m : Module) : Type 0 where
 abbrev pub Plans : Type 0
 Plans = Name → ℕ → Plan
 
+-- each module of the library is verified by its plans
 abbrev pub Follows : Plans → Library → Type 0
 Follows plans library = (name : Name) (m : Module) → entry_in library name ≡ Some (Holds m) → IsVerifiedModule (plans name) m
 
@@ -78,6 +79,6 @@ Follows plans library = (name : Name) (m : Module) → entry_in library name ≡
 abbrev pub AreVerified : Library → Type 0
 AreVerified library = (name : Name) (m : Module) → entry_in library name ≡ Some (Holds m) → (plans : ℕ → Plan) × IsVerifiedModule plans m
 
--- so it is with one plan for all
+-- a verified library: there are plans that verify each of its modules
 abbrev pub IsVerifiedLibrary : Library → Type 0
 IsVerifiedLibrary library = (plans : Plans) × Follows plans library

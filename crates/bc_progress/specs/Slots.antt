@@ -12,7 +12,7 @@ pub record Facts : Type 1 where
   pub exception : ℕ → Type 0
   pub method : Val → Builtin → Type 0
 
--- nothing is
+-- facts that ask nothing of exceptions and methods
 abbrev pub anything : Facts
 anything = record { exception = λ x. Unit {0}; method = λ object method. Unit {0} }
 
@@ -37,10 +37,11 @@ pub data ShowsAllIn (facts : Facts) : List Slot → Stack → Type 0 where
       → ShowsAllIn facts (Object (Some object) ∷ Value (Built method) ∷ slots) (flow.Method ∷ flow.Value ∷ stack)
   free : {v : Val} {slots : List Slot} {stack : Stack} → ShowsAllIn facts slots stack → ShowsAllIn facts (Object None ∷ Value v ∷ slots) (flow.Method ∷ flow.Value ∷ stack)
 
--- so it is with whatever exceptions and methods
+-- a slot is one of the flow's, whatever exceptions and methods there are
 abbrev pub Shows : Slot → flow.Slot → Type 0
 Shows = ShowsIn anything
 
+-- slots are the flow's, one by one, whatever exceptions and methods there are
 abbrev pub ShowsAll : List Slot → Stack → Type 0
 ShowsAll = ShowsAllIn anything
 

@@ -33,11 +33,13 @@ IsLibraryOf (stored ∷ others) library =
 abbrev pub ResolveAlike : raw.Module → raw.Module → Type 0
 ResolveAlike a b = (tree : ResolvedModule) × Resolves a tree × Resolves b tree
 
+-- two entries: both refused, or modules that resolve alike
 abbrev pub AreAlike : Stored → Stored → Type 0
 AreAlike (Kept a) (Kept b) = ResolveAlike a b
 AreAlike Refused Refused = Unit {0}
 AreAlike a b = ⊥
 
+-- entries of the same names, alike one by one
 abbrev pub AllAlike : List (Name × Stored) → List (Name × Stored) → Type 0
 AllAlike [] [] = Unit {0}
 AllAlike (a ∷ first) (b ∷ second) = (a.0 ≡ b.0) × AreAlike a.1 b.1 × AllAlike first second
@@ -48,9 +50,11 @@ abbrev pub OfModule : (raw.Module → Type 0) → Stored → Type 0
 OfModule P (Kept m) = P m
 OfModule P Refused = Unit {0}
 
+-- the fact P holds of each module that is stored
 abbrev pub AllModules : (raw.Module → Type 0) → List (Name × Stored) → Type 0
 AllModules P [] = Unit {0}
 AllModules P (stored ∷ others) = OfModule P stored.1 × AllModules P others
 
+-- the module is verified, and one that a file holds
 abbrev pub IsVerifiedFile : raw.Module → Type 0
 IsVerifiedFile m = IsModule m × IsVerified m

@@ -17,7 +17,7 @@ use Rattle.bc_rows.specs.Rows.{IsRowOf}
 abbrev pub children : RawCode → List RawCode
 children code = (out-RawCode code).children
 
--- a code with so many levels at most, whose names stand in a table of so many texts
+-- a code of `levels` levels at most, whose names stand in a table of `texts` texts
 abbrev pub Nests : ℕ → ℕ → RawCode → Type 0
 Nests texts levels code = (text : List ℕ) × IsCode levels texts text code
 

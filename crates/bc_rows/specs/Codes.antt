@@ -15,12 +15,12 @@ abbrev pub codes_by : (ℕ → RawCode → List Numbered) → ℕ → List RawCo
 codes_by inner number [] = []
 codes_by inner number (code ∷ codes) = inner number code ++ codes_by inner (number + length (inner number code)) codes
 
--- and their numbers
+-- the numbers of codes one after another, of which the first has the number
 abbrev pub numbers_by : (ℕ → RawCode → List Numbered) → ℕ → List RawCode → List ℕ
 numbers_by inner number [] = []
 numbers_by inner number (code ∷ codes) = number ∷ numbers_by inner (number + length (inner number code)) codes
 
--- a code that has the number, and the codes in it to so many levels
+-- a code that has the number `number`, and the codes in it to that number of levels
 unfoldable pub codes_to : ℕ → ℕ → RawCode → List Numbered
 codes_to zero number code = []
 codes_to (suc levels) number code =
@@ -31,5 +31,6 @@ codes_to (suc levels) number code =
 abbrev pub codes_of : Module → List Numbered
 codes_of m = codes_to MAX_DEPTH 0 m.code
 
+-- the code `k` of the module `i`
 abbrev pub code_at : Shelf → ℕ → ℕ → Option Numbered
 code_at shelf i k = option_and_then (λ m. slice_get (codes_of m) k) (module_at shelf i)

@@ -12,7 +12,7 @@ use Rattle.bc_rows.specs.declared.row.Row.{Row}
 use Rattle.bc_rows.specs.Codes.{Numbered, codes_of}
 use Rattle.bc_rows.specs.Rows.{IsRowOf, module_named}
 
--- the bytes are so many indexes of the module's table
+-- the bytes are `count` indexes of the module's table
 pub record AreIndexes (shelf : Shelf) (i count : ℕ) (bytes indexes : List ℕ) : Type 0 where
   pub names : AreNames indexes bytes
   pub many : length indexes ≡ count
@@ -22,6 +22,7 @@ pub record AreIndexes (shelf : Shelf) (i count : ℕ) (bytes indexes : List ℕ)
 abbrev pub IsOwnCodeIn : Shelf → ℕ → List ℕ → Type 0
 IsOwnCodeIn shelf i bytes = (m : Module) × (module_at shelf i ≡ Some m) × IsOwnCode (length m.qstrs) bytes
 
+-- a code of the module `i`, with no more levels of codes than that
 abbrev pub IsCodeIn : Shelf → ℕ → ℕ → RawCode → Type 0
 IsCodeIn shelf i levels code = (m : Module) × (module_at shelf i ≡ Some m) × (text : List ℕ) × IsCode levels (length m.qstrs) text code
 
@@ -32,6 +33,7 @@ AreRows shelf i [] (row ∷ rows) = ⊥
 AreRows shelf i (code ∷ codes) [] = ⊥
 AreRows shelf i (code ∷ codes) (row ∷ rows) = IsRowOf shelf i code row × AreRows shelf i codes rows
 
+-- the row with these numbers of children
 abbrev pub with_children : Row → List ℕ → Row
 with_children row numbers = record row { children = numbers }
 
@@ -49,6 +51,7 @@ AreTables shelf tables =
 abbrev pub AreNamed : Shelf → List (Option ℕ) → Type 0
 AreNamed shelf named = (n : ℕ) (entry : Option ℕ) → slice_get named n ≡ Some entry → entry ≡ module_named shelf n
 
+-- the tables of all modules, and the modules that texts name
 pub record IsKept (shelf : Shelf) (tables : List (List Row)) (named : List (Option ℕ)) : Type 0 where
   pub rows : AreTables shelf tables
   pub all : (i : ℕ) → length tables ≤ i → module_at shelf i ≡ None

@@ -68,7 +68,7 @@ module _ (s : Span) (js ks : List Kind) (n from to : ℕ) (h : SameOutside s js 
       (λ e. values_from part (λ j lt. let l = length-take (to - from) (drop from ks) in let m : j < to - from = omega (arith, l, lt) in
       ap (stands wants.Value) (part_at j m) ∙ whole_at (from + j) (omega (arith, m, few)) e))
 
--- slots that serve so many values are as many
+-- slots that serve `n` values are `n` at least
 pub fits_long : (s : Span) (n : ℕ) (ws : List Want) (ks : List Kind) → FitsBut s (new_values n ++ ws) ks → n ≤ length ks
 fits_long s n ws ks f = elim (le_decides n (length ks)) [
   | inl le ↦ le

@@ -12,7 +12,7 @@ pub record JoinsAt (old : List Kind) (i : ℕ) (kind : Kind) (new : List Kind) (
   pub fewer : OnTrue changed (opens new < opens old)
   pub kept : OnFalse changed (new ≡ old)
 
--- all slots met others
+-- the slots met those that arrived, and the new ones are where they meet
 pub record Joins (old arriving new : List Kind) (changed : Bool) : Type 0 where
   pub is : join old arriving ≡ Some new
   pub fewer : OnTrue changed (opens new < opens old)

@@ -20,6 +20,7 @@ pub data Below : Kind → Kind → Type 0 where
   value : Below kinds.Either kinds.Value
   cause : Below kinds.Either kinds.Cause
 
+-- equally many slots, one by one below
 pub data Belows : List Kind → List Kind → Type 0 where
   none : Belows [] []
   also : {k l : Kind} {ks ls : List Kind} → Below k l → Belows ks ls → Belows (k ∷ ks) (l ∷ ls)
@@ -58,13 +59,15 @@ fits [] ks = true
 fits (w ∷ ws) [] = false
 fits (w ∷ ws) (k ∷ ks) = stands w k && fits ws ks
 
+-- each slot serves as a value
 abbrev pub are_values : List Kind → Bool
 are_values ks = list_all (stands wants.Value) ks
 
--- so many values on top of others
+-- `n` values on top of others
 abbrev pub takes : ℕ → List Want → List Want
 takes n others = replicate n wants.Value ++ others
 
+-- `n` new values on top of others
 abbrev pub gives : ℕ → List Give → List Give
 gives n others = replicate n (New kinds.Value) ++ others
 
@@ -73,7 +76,7 @@ abbrev pub give_of : List Kind → Give → Kind
 give_of ks (New k) = k
 give_of ks (Again n) = get_or ks n kinds.Either
 
--- so many slots taken, and these given
+-- the slots once `n` are taken and these given
 abbrev pub after : List Give → ℕ → List Kind → List Kind
 after gs n ks = map (give_of ks) gs ++ drop n ks
 
@@ -94,18 +97,22 @@ join_kind kinds.Null kinds.Null = Some kinds.Null
 join_kind kinds.Method kinds.Method = Some kinds.Method
 join_kind _ _ = None
 
+-- the kind where the condition holds, and else none
 abbrev pub only : Kind → Bool → Option Kind
 only k b = if b then Some k else None
 
+-- a slot on top of others, where there is one and these are
 abbrev pub both : Option Kind → Option (List Kind) → Option (List Kind)
 both (Some k) (Some ks) = Some (k ∷ ks)
 both _ _ = None
 
+-- where two lists of slots meet: equally many slots, one by one
 abbrev pub join : List Kind → List Kind → Option (List Kind)
 join [] [] = Some []
 join (k ∷ ks) (l ∷ ls) = both (join_kind k l) (join ks ls)
 join _ _ = None
 
+-- may the slot still become a value or a cause?
 abbrev pub is_either : Kind → Bool
 is_either kinds.Either = true
 is_either _ = false
@@ -115,13 +122,16 @@ abbrev pub opens : List Kind → ℕ
 opens [] = 0
 opens (k ∷ ks) = if is_either k then suc (opens ks) else opens ks
 
+-- are the two equal?
 abbrev pub same_bool : Bool → Bool → Bool
 same_bool true b = b
 same_bool false b = not b
 
+-- are the entries equal?
 abbrev pub same_entry : Entry → Entry → Bool
 same_entry d e = nat_eq d.handler e.handler && same_bool d.is_finally e.is_finally && same_bool d.active e.active && nat_eq d.height e.height
 
+-- are there equally many entries, equal one by one?
 abbrev pub same_entries : List Entry → List Entry → Bool
 same_entries [] [] = true
 same_entries (d ∷ ds) (e ∷ es) = same_entry d e && same_entries ds es

@@ -12,7 +12,7 @@ use Rattle.bc_shapes.specs.Shape.{Below, fits}
 abbrev pub In : Span → ℕ → Type 0
 In s n = (s.from ≤ n) × (n < s.to)
 
--- the same where all slots may be meant
+-- the slot of that number is one of these; without a span each slot is
 abbrev pub Among : Option Span → ℕ → Type 0
 Among None n = Unit {0}
 Among (Some s) n = In s n
@@ -26,11 +26,12 @@ pub record SameOutside (s : Span) (ks ls : List Kind) : Type 0 where
 abbrev pub BelowOutside : Option Span → List Kind → List Kind → Type 0
 BelowOutside o ls ms = (k : ℕ) → k < length ms → Below (slice_index_or ls k Either) (slice_index_or ms k Either) ⊎ Among o (length ms - suc k)
 
--- a slot that is given is a new one, or one of so many from the top
+-- a slot that is given is a new one, or one of the topmost `n`
 abbrev pub keeps : ℕ → Give → Bool
 keeps n (New k) = true
 keeps n (Again m) = nat_lt m n
 
+-- each slot that is given is a new one, or one of the topmost `n`
 abbrev pub keeps_all : ℕ → List Give → Bool
 keeps_all n [] = true
 keeps_all n (g ∷ gs) = keeps n g && keeps_all n gs

@@ -43,12 +43,14 @@ fn join_kind(one: Kind, other: Kind) -> Option<Kind>
     }
 }
 
+/// The kind where the condition holds, and else none.
 fn only(kind: Kind, same: bool) -> Option<Kind>
     ensures { result ≡ specs.only kind same }
 {
     if same { Some(kind) } else { None }
 }
 
+/// May the slot still become a value or a cause?
 fn is_open(kind: Kind) -> bool
     ensures { result ≡ specs.is_either kind }
 {
@@ -81,6 +83,7 @@ fn join_slot(slots: &mut Vec<Kind>, i: usize, kind: Kind) -> Option<bool>
     Some(true)
 }
 
+/// Whether one of the two holds.
 fn either(a: bool, b: bool) -> bool
     ensures { result ≡ (a || b) }
 {

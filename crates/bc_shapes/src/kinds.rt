@@ -41,14 +41,14 @@ pub enum Give {
     Again(usize),
 }
 
-/// The slots that are taken from the top: so many values, and these below them.
+/// The slots that are taken, from the top: `values` values, and the others below them.
 #[derive(Clone, Copy)]
 pub struct Takes {
     pub values: u32,
     pub others: &'static [Want],
 }
 
-/// The slots that are given, from the top: so many new values, and these below them.
+/// The slots that are given, from the top: `values` new values, and the others below them.
 #[derive(Clone, Copy)]
 pub struct Gives {
     pub values: u32,
@@ -59,7 +59,7 @@ impl Takes {
     ghost use Rattle.std.specs.Prelude.{◌≡◌, length};
     ghost use Rattle.bc_shapes.specs.Views.{takes_of};
 
-    /// How many slots these are.
+    /// How many slots are taken.
     #[inline(always)]
     pub fn len(self) -> usize
         ensures { result ≡ length (takes_of self) }
@@ -72,7 +72,7 @@ impl Gives {
     ghost use Rattle.std.specs.Prelude.{◌≡◌, length};
     ghost use Rattle.bc_shapes.specs.Views.{gives_of};
 
-    /// How many slots these are.
+    /// How many slots are given.
     #[inline(always)]
     pub fn len(self) -> usize
         ensures { result ≡ length (gives_of self) }

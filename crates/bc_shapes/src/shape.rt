@@ -26,6 +26,7 @@ pub struct Shape {
     pub entries: Vec<Entry>,
 }
 
+/// Are the two equal?
 fn same_bool(a: bool, b: bool) -> bool
     ensures { result ≡ specs.same_bool a b }
 {

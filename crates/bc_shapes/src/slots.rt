@@ -29,6 +29,7 @@ fn stands(want: Want, kind: Kind) -> bool
     }
 }
 
+/// Do the slots that are asked lie on top?
 #[tactic(auto, using(crate::proofs::Loops::fits_step, crate::proofs::Loops::fits_short, crate::proofs::Loops::and_first))]
 fn fit(wants: &[Want], slots: &[Kind]) -> bool
     ensures { result ≡ specs.fits wants.now slots.now }
@@ -44,6 +45,7 @@ fn fit(wants: &[Want], slots: &[Kind]) -> bool
     true
 }
 
+/// Whether both hold. Both are evaluated, so that no branch lies between.
 pub(crate) fn both(a: bool, b: bool) -> bool
     ensures { result ≡ (a && b) }
 {
@@ -95,7 +97,7 @@ fn give_of(slots: &[Kind], give: Give) -> Kind
     }
 }
 
-/// Is it a new slot, or one of so many from the top?
+/// Is it a new slot, or one of the topmost `n`?
 fn keeps(give: Give, n: usize) -> bool
     ensures { result ≡ spans.keeps n give }
 {
@@ -105,6 +107,7 @@ fn keeps(give: Give, n: usize) -> bool
     }
 }
 
+/// Is each of these a new slot, or one of the topmost `n`?
 #[tactic(auto, using(crate::proofs::Spans::keeps_step, crate::proofs::Loops::and_first))]
 fn keep(gives: &[Give], n: usize) -> bool
     ensures { result ≡ spans.keeps_all n gives.now }
@@ -117,7 +120,7 @@ fn keep(gives: &[Give], n: usize) -> bool
     true
 }
 
-/// Are all new slots, or some of so many from the top?
+/// Is each a new slot, or one of the topmost `n`?
 #[inline(always)]
 #[tactic(auto, using(crate::proofs::Spans::keeps_values))]
 pub fn keeps_all(gives: Gives, n: usize) -> bool
@@ -126,7 +129,7 @@ pub fn keeps_all(gives: Gives, n: usize) -> bool
     keep(gives.others, n)
 }
 
-/// All items but so many from the top.
+/// All items but the first `n`, which are the topmost.
 #[inline(always)]
 pub fn below<T>(items: &[T], n: usize) -> &[T]
     ensures { result.now ≡ drop n items.now }
@@ -134,7 +137,7 @@ pub fn below<T>(items: &[T], n: usize) -> &[T]
     if n < items.len() { &items[n..] } else { &[] }
 }
 
-/// Slots that arrive: some that are given on those that were found, but for so many.
+/// Slots that arrive: those that are given, on those that were found but for the topmost `taken`.
 #[derive(Clone, Copy)]
 pub struct Slots<'a> {
     pub gives: Gives,
@@ -147,6 +150,7 @@ impl<'a> Slots<'a> {
     ghost use Rattle.bc_shapes.specs.Views.{gives_of, slots_of_rust};
     ghost use Rattle.bc_shapes.specs.declared.kinds.Kind.TheVariants.{Either};
 
+    /// How many slots arrive.
     #[tactic(auto, using(crate::proofs::Loops::slots_size))]
     pub(crate) fn len(self) -> usize
         ensures { result ≡ length (slots_of_rust self.entry) }
@@ -154,7 +158,7 @@ impl<'a> Slots<'a> {
         self.gives.len() + self.found.len().saturating_sub(self.taken)
     }
 
-    /// The slot below so many others.
+    /// The slot below `i` others.
     #[tactic(auto, using(crate::proofs::Loops::slots_size))]
     pub(crate) fn at(self, i: usize) -> Kind
         requires { i < length (slots_of_rust self) }
@@ -171,7 +175,7 @@ impl<'a> Slots<'a> {
         }
     }
 
-    /// The slot below so many others, which was found.
+    /// The slot below `i` others, which was found.
     pub(crate) fn found_at(self, i: usize) -> Kind
         requires found { length (gives_of self.gives) ≤ i }
         requires within { i < length (slots_of_rust self) }
@@ -196,7 +200,7 @@ impl<'a> Slots<'a> {
         Ok(())
     }
 
-    /// A list of them.
+    /// The slots that arrive, as a list.
     pub fn list(self, alloc: Global) -> Result<Vec<Kind>, NoMemory>
         ensures { IfOk result (λ v. v.items ≡ slots_of_rust self.entry) }
     {

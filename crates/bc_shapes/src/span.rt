@@ -40,7 +40,7 @@ pub(crate) fn note(span: &mut Span, n: usize, changed: bool)
     }
 }
 
-/// The places of the slots from the top, where there are so many.
+/// The places of the slots from the top, where there are `count` slots.
 pub(crate) fn places(among: Option<Span>, count: usize) -> Span
     ensures from { result.from ≤ count }
     ensures to { result.to ≤ count }

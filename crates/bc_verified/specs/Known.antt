@@ -17,6 +17,7 @@ abbrev mutual
   AreKnownAll no_more = Unit {0}
   AreKnownAll (more tree trees) = AreKnownIn tree × AreKnownAll trees
 
+-- each instruction of a module's tree is one that a file has
 abbrev pub IsKnownTree : ResolvedModule → Type 0
 IsKnownTree m = AreKnownIn m.code
 

@@ -94,7 +94,7 @@ breaks_only m children body Falls item h = absurd h
 pub one_rule : (m : Module) (children : ℕ) (body : Body) (r s : Rule) (item : Item) → Breaks m children body r item → Breaks m children body s item → r ≡ s
 one_rule m children body r s item h k = breaks_only m children body r item h ∙ sym (breaks_only m children body s item k)
 
--- none of so many instructions breaks a rule by itself
+-- none of the first `n` instructions breaks a rule by itself
 abbrev pub KeepsBelow : Module → ℕ → Body → ℕ → Type 0
 KeepsBelow m children body n =
     (q : ℕ) (other : Item) (another : Rule) → q < n → slice_get body.items q ≡ Some other → Breaks m children body another other → ⊥

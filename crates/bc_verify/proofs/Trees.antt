@@ -16,7 +16,7 @@ use Rattle.bc_verify.specs.Verified.{IsVerifiedCode, AreVerified, IsCodeFault, I
 abbrev pub children : RawCode → List RawCode
 children code = (out-RawCode code).children
 
--- a code with so many levels at most
+-- a code of `levels` levels at most
 abbrev pub Nests : ℕ → RawCode → Type 0
 Nests levels code = (texts : ℕ) × (text : List ℕ) × IsCode levels texts text code
 
@@ -94,7 +94,7 @@ short_in levels root (n ∷ path) code w e =
 pub short_codes : (m : Module) (path : List ℕ) (code : RawCode) → IsModule m → code_at path m.code ≡ Some code → length (out-RawCode code).bytes ≤ MAX_CODE_BYTES
 short_codes m path code w e = short_in MAX_DEPTH m.code path code (length m.qstrs, w.1.code, w.1.is_code) e
 
--- so many children are verified, with what is in them
+-- the first `n` children are verified, with what is in them
 abbrev pub Done : Module → RawCode → ℕ → Type 0
 Done m root n = (k : ℕ) (child : RawCode) → k < n → slice_get (children root) k ≡ Some child → AreVerified m child
 

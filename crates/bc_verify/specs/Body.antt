@@ -24,6 +24,7 @@ pub record Says (bytes : List ℕ) (body : Body) (offsets : List ℕ) : Type 0 w
   pub n_exc : body.n_exc ≡ prelude.n_exc
   pub arguments : body.arguments ≡ prelude.args
 
+-- what the decoded code says
 abbrev pub body_of : RustCode → Body
 body_of c = record { items = c.items.items; n_state = c.n_state; n_exc = c.n_exc; arguments = c.arguments }
 

@@ -5,6 +5,7 @@ use Rattle.bc_verify.specs.declared.fault.Rule.TheVariants.{Jump, Height, Handle
 use Rattle.bc_flow.specs.declared.code.Rule as flow
 use Rattle.bc_flow.specs.declared.code.Rule.TheVariants as flows
 
+-- the number of a rule, which the line tells
 abbrev pub number_of : Rule → ℕ
 number_of Jump = 1
 number_of Height = 2
@@ -14,6 +15,7 @@ number_of Local = 5
 number_of State = 6
 number_of Names = 7
 
+-- the name of a rule, which the line tells
 abbrev pub name_of : Rule → List ℕ
 name_of Jump = codes "Jump"
 name_of Height = codes "Height"

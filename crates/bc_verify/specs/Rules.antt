@@ -11,7 +11,7 @@ use Rattle.bc_verify.specs.declared.fault.Rule.{Rule}
 use Rattle.bc_verify.specs.declared.fault.Rule.TheVariants as rules
 use Rattle.bc_verify.specs.Body.{Body}
 
--- the instruction names a text, an object, or one of so many children, that isn't there
+-- the instruction names a text, an object or a child that isn't there, where the code has `children` children
 abbrev pub IsMissing : Module → ℕ → Item → Type 0
 IsMissing m children (Plain (instrs.Name op n)) = length m.qstrs ≤ n
 IsMissing m children (Plain (instrs.Num ops.LoadConstObj n)) = length m.objects ≤ n

@@ -13,6 +13,7 @@ use Rattle.bc_verify.specs.Path.{code_at, IsBefore}
 use Rattle.bc_verify.specs.Rule.{of_flow}
 use Rattle.bc_verify.specs.Rules.{KeepsAll, IsFirstBroken}
 
+-- how many children a code has
 abbrev pub children_of : RawCode → ℕ
 children_of code = length (out-RawCode code).children
 
@@ -33,10 +34,11 @@ pub record TellsLeast (code : RawCode) (states : List State) : Type 0 where
   pub holds : flow.Holds (flow_of body) (flow.at (table_of states))
   pub least : flow.IsLeastOf (flow_of body) (flow.at (table_of states))
 
--- all codes are
+-- all codes of a tree are verified
 abbrev pub AreVerified : Module → RawCode → Type 0
 AreVerified m root = (path : List ℕ) (code : RawCode) → code_at path root ≡ Some code → IsVerifiedCode m code
 
+-- a verified module: all its codes are
 abbrev pub IsVerified : Module → Type 0
 IsVerified m = AreVerified m m.code
 
@@ -46,12 +48,12 @@ pub record IsFlowFault (body : Body) (rule : Rule) (position : ℕ) : Type 0 whe
   pub rule_is : rule ≡ of_flow broken
   pub first : flow.FirstFault (flow_of body) broken position
 
--- that of a code: the instructions by themselves come before the flow
+-- the first fault of a code: its instructions by themselves come before its flow
 abbrev pub IsFirstIn : Module → ℕ → Body → Rule → ℕ → Type 0
 IsFirstIn m children body rule position =
     IsFirstBroken m children body rule position ⊎ (KeepsAll m children body × IsFlowFault body rule position)
 
--- the same with an offset, which is 0 in a code without instructions
+-- the first fault of a code, with the offset of its instruction, or 0 in a code without instructions
 pub record IsCodeFault (m : Module) (code : RawCode) (rule : Rule) (offset : ℕ) : Type 0 where
   pub body : Body
   pub offsets : List ℕ
@@ -60,7 +62,7 @@ pub record IsCodeFault (m : Module) (code : RawCode) (rule : Rule) (offset : ℕ
   pub first : IsFirstIn m (children_of code) body rule position
   pub offset_is : offset ≡ slice_index offsets position
 
--- that of the first code in preorder that has one
+-- the first fault of the first code in preorder that has one, with the path to that code
 pub record IsTreeFault (m : Module) (root : RawCode) (rule : Rule) (path : List ℕ) (offset : ℕ) : Type 0 where
   pub code : RawCode
   pub is : code_at path root ≡ Some code
@@ -68,13 +70,13 @@ pub record IsTreeFault (m : Module) (root : RawCode) (rule : Rule) (path : List 
   pub before : (other : List ℕ) (earlier : RawCode) → IsBefore other path → code_at other root ≡ Some earlier
       → IsVerifiedCode m earlier
 
--- that of a module, whose outermost code has the path 0
+-- the first fault of a module, whose outermost code has the path 0
 pub record IsFirstFault (m : Module) (fault : VerifyFault) : Type 0 where
   pub path : List ℕ
   pub path_is : fault.path ≡ 0 ∷ path
   pub first : IsTreeFault m m.code fault.rule path fault.offset
 
--- how many codes there are in so many levels
+-- how many codes there are in that number of levels, the code itself the first
 unfoldable pub codes_in : ℕ → RawCode → ℕ
 codes_in zero code = 0
 codes_in (suc levels) code = 1 + sum_by (codes_in levels) (out-RawCode code).children

@@ -50,7 +50,7 @@ pub(crate) fn read_code(alloc: Global, bytes: &[u8]) -> Result<Decoded, NoMemory
     })
 }
 
-/// The first fault of a code with that many children, by its instructions and then by its flow. Most verified code has a certificate,
+/// The first fault of a code with `children` children, by its instructions and then by its flow. Most verified code has a certificate,
 /// which is found sooner than the flow ends.
 fn first_in(
     alloc: Global,

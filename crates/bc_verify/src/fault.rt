@@ -25,12 +25,14 @@ pub enum Rule {
 }
 
 impl Rule {
+    /// The number that messages give with the rule's name, from 1 to 7.
     pub fn number(self) -> u8
         ensures { result ≡ number_of self }
     {
         self as u8
     }
 
+    /// The name that messages give with the rule's number: one word, such as `Height`.
     pub fn name(self) -> &'static str
         ensures { result.now ≡ name_of self }
     {

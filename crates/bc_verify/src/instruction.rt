@@ -18,6 +18,7 @@ pub(crate) struct Broken {
     pub position: usize,
 }
 
+/// A rule of the flow, among the rules of modules.
 pub(crate) fn of_flow_rule(rule: FlowRule) -> Rule
     ensures { result ≡ of_flow rule }
 {
@@ -31,7 +32,7 @@ pub(crate) fn of_flow_rule(rule: FlowRule) -> Rule
     }
 }
 
-/// Does it name a text, an object, or one of so many children, that isn't there?
+/// Does it name a text, an object or a child that isn't there, where the code has `children` children?
 fn is_missing(module: &RawModule, children: usize, item: &Item) -> bool
     ensures { IsTrue result ↔ IsMissing module.now children item.now }
 {
@@ -60,7 +61,7 @@ fn broken_by(module: &RawModule, children: usize, code: &Code, item: &Item) -> O
     None
 }
 
-/// The first instruction of a code with so many children that breaks a rule by itself.
+/// The first instruction of a code with `children` children that breaks a rule by itself.
 pub(crate) fn first_broken(module: &RawModule, children: usize, code: &Code) -> Option<Broken>
     ensures some { IfSome result (λ b. IsFirstBroken module.now children (body_of code.now) b.rule b.position) }
     ensures none { IfNone result (KeepsAll module.now children (body_of code.now)) }

@@ -18,7 +18,7 @@ pub(crate) struct TreeFault {
     pub offset: usize,
 }
 
-/// The same one level above, where the code is the child with that place.
+/// The fault as it is told one level above, where the code is the child with that place.
 pub(crate) fn above(fault: TreeFault, place: usize) -> Result<TreeFault, NoMemory>
     ensures { IfOk result (λ f. (f.rule ≡ fault.rule) × (f.path.items ≡ place ∷ fault.path.items) × (f.offset ≡ fault.offset)) }
 {
@@ -31,7 +31,7 @@ pub(crate) fn above(fault: TreeFault, place: usize) -> Result<TreeFault, NoMemor
     Ok(TreeFault { rule, path, offset })
 }
 
-/// The first fault of a code and of those in it, of which there are so many levels at most.
+/// The first fault of a code and of those in it, in `levels` levels of codes at most.
 pub(crate) fn tree_fault(
     alloc: Global,
     module: &RawModule,
@@ -57,7 +57,7 @@ pub(crate) fn tree_fault(
     Ok(None)
 }
 
-/// How many codes there are in so many levels, or 2^64 - 1 where there are more.
+/// How many codes there are in the first `levels` levels, or 2^64 - 1 where there are more.
 pub(crate) fn count(code: &RawCode, levels: usize) -> u64
     ensures { result ≡ min (codes_in levels code.now) (2 ^ 64 - 1) }
 {

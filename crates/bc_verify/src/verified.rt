@@ -1,4 +1,4 @@
-//! Verified modules.
+//! Verified modules: the type that only `verify` makes, and the verifier itself.
 
 ghost use Rattle.std.specs.Prelude.{◌≡◌, IfOk, IfErr, OnOk, IfSome, IfNone, ℕ, List, Some, ◌≤◌, length, min, ◌-◌, ◌^◌};
 ghost use Rattle.mpy_base.specs.declared.refused.Refused.TheVariants as refused;
@@ -42,6 +42,7 @@ impl Model for Verified {
 }
 
 impl Verified {
+    /// The module, lent for reading.
     pub fn module(&self) -> &RawModule
         ensures { result.now ≡ self.now }
     {

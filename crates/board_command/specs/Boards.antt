@@ -28,7 +28,7 @@ module _ (below : Shelf) (image plan_name : List ℕ) (files : Option FileOf) wh
     pub runnable : IsRunnable shelf
     pub planned : HoldsPlan files plan_name plan
 
-  -- and the library has the module of each task
+  -- the files are such an image and the plan, and the library has the module of each task
   pub record CanStart (shelf : Shelf) (plan : Plan) : Type 0 where
     pub holds : Holds shelf plan
     pub modules : first_missing shelf plan.tasks ≡ None
@@ -50,6 +50,7 @@ module _ (below : Shelf) (image plan_name : List ℕ) (old new : Option FileOf) 
   abbrev pub Started : (Shelf → Plan → Type 0) → Type 0
   Started Went = (shelf : Shelf) × (plan : Plan) × CanStart below image plan_name old shelf plan × Went shelf plan
 
+  -- the command on an image and a plan ended so, where the line names the word at the place
   abbrev pub Boards : (place : ℕ) → Ending → Type 0
   Boards place Done = Started (λ shelf plan. (p : Program) → IsProgramOf shelf p → HasRunIn p plan old new before behind)
   Boards place (Unaccepted fault) = ⊥

@@ -6,6 +6,7 @@ use Rattle.mpy_endings.specs.declared.ending.Ending.{Ending}
 use Rattle.mpy_endings.specs.declared.ending.Ending.TheVariants.{Done, Unboarded, WriteFault, NoMemory}
 use Rattle.mpy_endings.specs.declared.ending.BoardFault.TheVariants as boards
 
+-- the ending, by what running the plan answers
 abbrev pub ending_of : Result (Unit {0}) BoardStop → Ending
 ending_of (Ok done) = Done
 ending_of (Err (stops.NoModule name)) = Unboarded (boards.NoModule name)

@@ -19,7 +19,7 @@ fn file_law(library: &Library, number: u32)
     }
 }
 
-/// So is each module of a library.
+/// Each module of a library is one that a file may hold.
 fn files_law(library: &Library)
     ensures { (i : ℕ) (m : Module) → module_at library.now i ≡ Some m → IsModule m }
 {

@@ -1,4 +1,4 @@
-//! The command `board`.
+//! The command `board`: image and plan are read, the tasks run by turns, and the summary is put.
 
 ghost use Rattle.std.specs.Prelude.{◌≡◌, []};
 ghost use Rattle.std.specs.Option.{ForSome};
@@ -23,7 +23,7 @@ use std::alloc::Global;
 /// The place of the image's name among the words of the command.
 const IMAGE: usize = 1;
 
-/// And of the plan's.
+/// The place of the plan's name among the words of the command.
 const PLAN: usize = 2;
 
 /// How the command ends whose plan was run, or wasn't.

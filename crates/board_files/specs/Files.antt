@@ -12,7 +12,7 @@ use Rattle.board_files.specs.declared.stop.SummaryStop.TheVariants as summaries
 unfoldable pub out_name : ℕ → List ℕ
 out_name task = decimal task ++ codes ".out"
 
--- the name is none of those of so many tasks
+-- the name is none of those of the first `count` tasks
 abbrev pub IsNoOutput : (count : ℕ) → (name : List ℕ) → Type 0
 IsNoOutput count name = (task : ℕ) → task < count → name ≢ out_name task
 
@@ -20,7 +20,7 @@ IsNoOutput count name = (task : ℕ) → task < count → name ≢ out_name task
 abbrev pub KeepsOthers : (count : ℕ) → (old new : Option FileOf) → Type 0
 KeepsOthers count old new = IfSome old (λ file. (now : FileOf) × (new ≡ Some now) × ((name : List ℕ) → IsNoOutput count name → now name ≡ file name))
 
--- the file of each of so many tasks is empty, and each other file is what it was
+-- the file of each of the first `count` tasks is empty
 abbrev pub AreEmpty : (count : ℕ) → (old new : Option FileOf) → Type 0
 AreEmpty count old new = IfSome old (λ file. (now : FileOf) × (new ≡ Some now) × ((task : ℕ) → task < count → now (out_name task) ≡ Some []))
 
@@ -28,25 +28,25 @@ AreEmpty count old new = IfSome old (λ file. (now : FileOf) × (new ≡ Some no
 abbrev pub Adds : (old new : Option FileOf) → (name bytes : List ℕ) → Type 0
 Adds old new name bytes = AppendsFile old new name bytes ⊎ ((bytes ≡ []) × (new ≡ old))
 
--- whether the folder failed
+-- did the folder fail, so that a task's file wasn't written?
 abbrev pub is_unwritten : Result (Unit {0}) OutputStop → Bool
 is_unwritten (Ok done) = false
 is_unwritten (Err (outputs.Unwritten task)) = true
 is_unwritten (Err outputs.NoMemory) = false
 
--- the task whose file wasn't written is one of so many
+-- the task whose file wasn't written is one of the first `count`
 abbrev pub StopsWithin : (count : ℕ) → Result (Unit {0}) OutputStop → Type 0
 StopsWithin count (Ok done) = Unit {0}
 StopsWithin count (Err (outputs.Unwritten task)) = task < count
 StopsWithin count (Err outputs.NoMemory) = Unit {0}
 
--- whether the sink failed
+-- did the sink fail, so that the summary wasn't put?
 abbrev pub is_unput : Result (Unit {0}) SummaryStop → Bool
 is_unput (Ok done) = false
 is_unput (Err summaries.WriteFault) = true
 is_unput (Err summaries.NoMemory) = false
 
--- the same of the run of a plan
+-- did the folder fail in the run of a plan?
 abbrev pub is_folder_fault : Result (Unit {0}) BoardStop → Bool
 is_folder_fault (Ok done) = false
 is_folder_fault (Err (stops.NoModule name)) = false
@@ -54,6 +54,7 @@ is_folder_fault (Err (stops.Unwritten task)) = true
 is_folder_fault (Err stops.WriteFault) = false
 is_folder_fault (Err stops.NoMemory) = false
 
+-- did the sink fail in the run of a plan?
 abbrev pub is_out_fault : Result (Unit {0}) BoardStop → Bool
 is_out_fault (Ok done) = false
 is_out_fault (Err (stops.NoModule name)) = false

@@ -15,7 +15,7 @@ pub record TellsRun (runs : List TaskRun) (number : ℕ) (line : List ℕ) : Typ
   pub uses : (run : TaskRun) → slice_get runs number ≡ Some run → IsRoomOf run room
   pub is : line ≡ task_line number end room
 
--- the lines tell of the first of the runs, as many as are counted
+-- the lines tell of the first `count` runs, one line each
 pub record TellRuns (runs : List TaskRun) (count : ℕ) (lines : List (List ℕ)) : Type 0 where
   pub as_many : length lines ≡ count
   pub each : (number : ℕ) (line : List ℕ) → slice_get lines number ≡ Some line → TellsRun runs number line

@@ -15,7 +15,7 @@ pub record HasOutput (p : Program) (task : Task) (steps : ℕ) (run : TaskRun) (
   pub holds : content ≡ Some printed
   pub stands : Stands p task steps printed run
 
--- so it is of each task, whose steps are given by its number
+-- the file of each task has the output of its run, for the steps that its number gives
 pub record HaveOutputs (p : Program) (tasks : List Task) (steps_of : ℕ → ℕ) (runs : List TaskRun) (files : Option FileOf) : Type 0 where
   pub file : FileOf
   pub told : files ≡ Some file

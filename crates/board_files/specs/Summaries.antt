@@ -79,6 +79,6 @@ pub record CanRun (plan : Plan) : Type 0 where
 abbrev pub HasRunIn : Program → Plan → (old new : Option FileOf) → (before behind : Option (List ℕ)) → Type 0
 HasRunIn p plan old new before behind = IfSome old (λ file. (now : FileOf) × (new ≡ Some now) × HasRun p plan file now before behind)
 
--- the same where the sink of the summary failed
+-- where the folder tells its files, it tells them at the end, and the tasks have run so that the sink of the summary failed
 abbrev pub HasRunFrontIn : Program → Plan → (old new : Option FileOf) → (before behind : Option (List ℕ)) → Type 0
 HasRunFrontIn p plan old new before behind = IfSome old (λ file. (now : FileOf) × (new ≡ Some now) × HasRunFront p plan file now before behind)

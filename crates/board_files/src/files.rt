@@ -42,7 +42,7 @@ fn begin_file<F: Folder>(
     }
 }
 
-/// Writes the files of so many tasks empty.
+/// Writes the files of the first `count` tasks empty.
 pub(crate) fn begin_files<F: Folder>(
     alloc: Global,
     count: u32,

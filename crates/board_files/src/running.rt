@@ -1,4 +1,4 @@
-//! Runs of plans.
+//! Runs of plans: the tasks by turns, a file for the output of each, and the summary behind all turns.
 
 ghost use Rattle.std.specs.Prelude.{◌≡◌, ◌<◌, ◌≤◌, ℕ, List, [], Err, None, Some, IfOk, OnOk, length};
 ghost use Rattle.mpy_base.specs.declared.limits.TheConstants.{MAX_TASKS};

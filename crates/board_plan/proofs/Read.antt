@@ -5,7 +5,7 @@ use Rattle.board_plan.specs.declared.plan.PlanFault.{PlanFault}
 use Rattle.board_plan.specs.Lines.{line_of}
 use Rattle.board_plan.specs.Plans.{IsPlan, Breaks, HasFault}
 
--- so many of all lines are read, and are the plan
+-- the first `number` of all lines are read, and are the plan
 pub record Reads (all rest : List (List ℕ)) (number : ℕ) (plan : Plan) : Type 0 where
   pub before : List (List ℕ)
   pub parts : all ≡ before ++ rest

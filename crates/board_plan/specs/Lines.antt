@@ -39,6 +39,7 @@ are_two (first ∷ second ∷ word ∷ words) = false
 
 -- ---- what a line says
 
+-- the room, where both of its numbers are there
 abbrev pub room_with : Option ℕ → Option ℕ → Option Room
 room_with None bytes = None
 room_with (Some cells) None = None
@@ -61,6 +62,7 @@ task_by (name ∷ cells ∷ []) = None
 task_by (name ∷ cells ∷ bytes ∷ []) = named_task name cells bytes
 task_by (name ∷ cells ∷ bytes ∷ word ∷ words) = None
 
+-- the turn, where both of its numbers are there
 abbrev pub turn_with : Option ℕ → Option ℕ → Option Turn
 turn_with None steps = None
 turn_with (Some task) None = None
@@ -73,6 +75,7 @@ turn_by (task ∷ []) = None
 turn_by (task ∷ steps ∷ []) = turn_with (number_of (2 ^ 32 - 1) task) (number_of most_steps steps)
 turn_by (task ∷ steps ∷ word ∷ words) = None
 
+-- what a line of these words says, if anything
 abbrev pub line_by : List (List ℕ) → Option Line
 line_by [] = None
 line_by (first ∷ words) =

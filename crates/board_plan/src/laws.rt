@@ -7,7 +7,7 @@ ghost use Rattle.board_plan.specs.declared.plan.PlanFault.{PlanFault};
 ghost use Rattle.board_plan.specs.Lines.{lines_of};
 ghost use Rattle.board_plan.specs.Plans.{HasFault, IsPlan, all_steps};
 
-/// Lines are one plan, or have one fault, and not both. The steps of a text's plan are no more than so many for each of its bytes.
+/// Lines are one plan, or have one fault, and not both. A text's plan has no more than `most_steps` steps for each of the text's bytes.
 pub fn plan_law()
     ensures one { (text : List (List ℕ)) (plan other : Plan) → IsPlan text plan → IsPlan text other → plan ≡ other }
     ensures one_fault { (text : List (List ℕ)) (fault other : PlanFault) → HasFault text fault → HasFault text other → fault ≡ other }

@@ -22,6 +22,7 @@ pub enum Line {
 /// The greatest number of a task.
 const MAX_TASK: u64 = 4_294_967_295;
 
+/// The room that two words are, within the bounds of the options of a run.
 fn room_of(cells: &[u8], bytes: &[u8]) -> Option<Room>
     ensures { result ≡ spec.room_of cells.now bytes.now }
 {

@@ -1,4 +1,4 @@
-//! Plans.
+//! What a plan is made of: tasks with their rooms, turns with their steps, and the faults of a text that is none.
 
 use mpy_base::{Items, Room, Text};
 

@@ -1,4 +1,4 @@
-//! Plans of texts.
+//! A plan read from the lines of a text, up to the first line that is none.
 
 ghost use Rattle.std.specs.Prelude.{◌≡◌, ◌++◌, ◌∷◌, [], ℕ, List, IfOk, OnOk, Err, Some};
 ghost use Rattle.mpy_base.specs.declared.refused.Refused.TheVariants as refused;

@@ -3,8 +3,10 @@
 ghost use Rattle.std.specs.Prelude.{◌≡◌, ◌<◌, ◌≤◌, [], ◌∷◌, false, length, IfNone, IfSome, MatchOption};
 ghost use Rattle.board_plan.specs.Lines as spec;
 
+/// The byte between two lines.
 const LINE_END: u8 = b'\n';
 
+/// The byte between two words.
 const SPACE: u8 = b' ';
 
 /// How many bytes stand before the first one of this kind.

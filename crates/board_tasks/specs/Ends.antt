@@ -18,7 +18,7 @@ use Rattle.board_tasks.specs.declared.turning.TaskRun.{TaskRun}
 abbrev pub IsOver : TaskRun → Type 0
 IsOver run = (run.failed ≡ true) ⊎ IsSome run.vm.end
 
--- it hasn't
+-- the run goes on
 pub record GoesOn (run : TaskRun) : Type 0 where
   pub unfailed : run.failed ≡ false
   pub open_end : run.vm.end ≡ None
@@ -44,22 +44,23 @@ Ends heap plain.Ended end = end ≡ Some ends.Ended
 Ends heap (plain.Raised x) end = (kind : Kind) × IsOfKind heap x kind × (end ≡ Some (ends.Raised kind))
 Ends heap (plain.Memory room) end = end ≡ Some ends.Memory
 
--- so a run ended
+-- how a run of the machine ended, as a task's end
 abbrev pub RunEnds : Run → Option TaskEnd → Type 0
 RunEnds run end = Ends run.world.heap run.end end
 
--- how the machine stands
+-- how the machine's run stands, as the meaning has it
 abbrev pub standing : Option Stop → End
 standing None = plain.Open
 standing (Some stops.Ended) = plain.Ended
 standing (Some (stops.Raised x)) = plain.Raised x.cell
 standing (Some (stops.Memory room)) = plain.Memory room
 
--- the same of a task, whose sink may have failed
+-- how a task ended, if it did: by a failed write where its sink failed, and else as the machine's run stands
 abbrev pub EndsBy : Bool → TaskRun → Option TaskEnd → Type 0
 EndsBy true run end = end ≡ Some ends.WriteFault
 EndsBy false run end = Ends run.vm.arena (standing run.vm.end) end
 
+-- how the run of a task has ended, or that it is open
 abbrev pub HasEnd : TaskRun → Option TaskEnd → Type 0
 HasEnd run end = EndsBy run.failed run end
 
@@ -68,6 +69,6 @@ pub record UsesRoom {V N : Type 0} (heap : Heap V N) (room : Room) : Type 0 wher
   pub cells : room.cells ≡ used heap
   pub bytes : room.bytes ≡ heap.bytes
 
--- those of a task's arena
+-- the room that the objects of a task's arena use
 abbrev pub IsRoomOf : TaskRun → Room → Type 0
 IsRoomOf run room = UsesRoom run.vm.arena room

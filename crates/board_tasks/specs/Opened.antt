@@ -16,9 +16,11 @@ number_by None = None
 number_by (Some members.Refused) = None
 number_by (Some (members.Module number)) = Some number
 
+-- the number of the module of that name
 abbrev pub number_of : Shelf → (name : List ℕ) → Option ℕ
 number_of shelf name = number_by (member_of shelf name)
 
+-- the name, if it has no module, and else the first name that is missing among the others
 abbrev pub missing_by : (name : List ℕ) → Option ℕ → (others : Option (List ℕ)) → Option (List ℕ)
 missing_by name None others = Some name
 missing_by name (Some number) others = others
@@ -35,7 +37,7 @@ pub record IsOpened (shelf : Shelf) (task : Task) (run : TaskRun) : Type 0 where
   pub paid : run.vm.paid ≡ 0
   pub unfailed : run.failed ≡ false
 
--- so it is of each task
+-- the tasks are at their starts, one by one
 abbrev pub AreOpened : Shelf → List Task → List TaskRun → Type 0
 AreOpened shelf [] [] = Unit {0}
 AreOpened shelf [] (run ∷ runs) = ⊥

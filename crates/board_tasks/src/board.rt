@@ -1,4 +1,4 @@
-//! Boards.
+//! A board: the runs of all tasks side by side, of which a turn moves one. All memory is taken when it is opened.
 
 ghost use Rattle.std.specs.Prelude.{◌≡◌, ℕ, ◌<◌, ◌≤◌, List, IfOk, OnOk, Err, None, Some, length, slice_get};
 ghost use Rattle.mpy_base.specs.declared.limits.TheConstants.{MAX_TASKS};

@@ -45,6 +45,7 @@ pub(crate) fn first_missing<'a>(library: &Library, tasks: &'a [Task]) -> Option<
     None
 }
 
+/// The run of one task, at its start: its module, in an arena of its own.
 fn open_task(
     alloc: Global,
     library: &Library,

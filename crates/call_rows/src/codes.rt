@@ -7,6 +7,7 @@ use mpy_base::{NoMemory, VuintFault, read_vuint, write_vuint};
 use qstr_pool::static_text;
 use std::alloc::{AllocError, Global};
 
+/// What reading a number answers.
 fn vuint(alloc: Global, read: Result<(u32, usize), VuintFault>) -> Result<String, AllocError> {
     match read {
         Ok((n, end)) => format!(in alloc; "{n} end {end}"),
@@ -22,6 +23,7 @@ fn written(alloc: Global, bytes: &[u8], done: Result<(), NoMemory>) -> Result<St
     }
 }
 
+/// The bytes that a number is written as.
 fn vuint_of(alloc: Global, word: &str) -> Result<String, AllocError> {
     let mut bytes = Vec::new(alloc);
     let n = word.parse::<u32>().unwrap_or(0);
@@ -32,6 +34,7 @@ fn vuint_of(alloc: Global, word: &str) -> Result<String, AllocError> {
     written(alloc, &bytes, done)
 }
 
+/// An instruction, with its code and its operand.
 fn instr(alloc: Global, instr: Instr) -> Result<String, AllocError> {
     match instr {
         Instr::Plain(op) => format!(in alloc; "plain {:02x}", op.code()),
@@ -49,6 +52,7 @@ fn instr(alloc: Global, instr: Instr) -> Result<String, AllocError> {
     }
 }
 
+/// What reading an instruction answers.
 fn decoded(alloc: Global, read: Result<(Instr, usize), CodeFault>) -> Result<String, AllocError> {
     match read {
         Ok((found, end)) => {
@@ -59,6 +63,7 @@ fn decoded(alloc: Global, read: Result<(Instr, usize), CodeFault>) -> Result<Str
     }
 }
 
+/// What reading a prelude answers.
 fn prelude(alloc: Global, read: Result<Prelude, PreludeFault>) -> Result<String, AllocError> {
     match read {
         Ok(found) => format!(in alloc;
@@ -75,12 +80,14 @@ fn prelude(alloc: Global, read: Result<Prelude, PreludeFault>) -> Result<String,
     }
 }
 
+/// The bytes that the size field of a prelude is written as.
 fn size_of(alloc: Global, word: &str) -> Result<String, AllocError> {
     let mut bytes = Vec::new(alloc);
     let done = write_size(&mut bytes, word.parse::<usize>().unwrap_or(0));
     written(alloc, &bytes, done)
 }
 
+/// The text that every file may name by this number.
 fn text_of_number(alloc: Global, word: &str) -> Result<String, AllocError> {
     match static_text(word.parse::<u16>().unwrap_or(0)) {
         Some(text) => to_text(alloc, text),

@@ -4,17 +4,20 @@ use mpy_base::Text;
 use py_tree::{BinaryOp, CompareOp, Expr, UnaryOp};
 use std::alloc::{AllocError, Global};
 
+/// Adds a decimal number.
 pub(crate) fn put_number(alloc: Global, form: &mut Vec<u8>, number: i64) -> Result<(), AllocError> {
     let digits = format!(in alloc; "{number}")?;
     form.extend_from_slice(digits.as_bytes())
 }
 
+/// Adds a text in quotes.
 fn put_str(form: &mut Vec<u8>, text: &Text) -> Result<(), AllocError> {
     form.push(b'"')?;
     form.extend_from_slice(text.bytes())?;
     form.extend_from_slice(b"\"")
 }
 
+/// The sign of an operator with one operand.
 fn unary_word(op: UnaryOp) -> &'static [u8] {
     match op {
         UnaryOp::Plus => b"+",
@@ -23,6 +26,7 @@ fn unary_word(op: UnaryOp) -> &'static [u8] {
     }
 }
 
+/// The sign of an operator with two operands.
 pub(crate) fn binary_word(op: BinaryOp) -> &'static [u8] {
     match op {
         BinaryOp::Or => b"|",
@@ -39,6 +43,7 @@ pub(crate) fn binary_word(op: BinaryOp) -> &'static [u8] {
     }
 }
 
+/// The sign of a comparison.
 fn compare_word(op: CompareOp) -> &'static [u8] {
     match op {
         CompareOp::Lt => b"<",
@@ -66,6 +71,7 @@ pub(crate) fn open(form: &mut Vec<u8>, word: &[u8]) -> Result<(), AllocError> {
     form.extend_from_slice(word)
 }
 
+/// Adds the form of an expression.
 #[cycle(exprs)]
 pub(crate) fn put_expr(alloc: Global, form: &mut Vec<u8>, expr: &Expr) -> Result<(), AllocError> {
     match expr {
@@ -135,6 +141,7 @@ pub(crate) fn put_expr(alloc: Global, form: &mut Vec<u8>, expr: &Expr) -> Result
     }
 }
 
+/// Adds expressions, one behind the other.
 #[cycle(exprs)]
 fn put_each(alloc: Global, form: &mut Vec<u8>, items: &[Expr]) -> Result<(), AllocError> {
     for item in items {
@@ -143,6 +150,7 @@ fn put_each(alloc: Global, form: &mut Vec<u8>, items: &[Expr]) -> Result<(), All
     Ok(())
 }
 
+/// Adds expressions in a bracket behind a word.
 #[cycle(exprs)]
 fn put_all(
     alloc: Global,
@@ -155,6 +163,7 @@ fn put_all(
     form.extend_from_slice(b")")
 }
 
+/// Adds the keys and values of a dict.
 #[cycle(exprs)]
 fn put_pairs(alloc: Global, form: &mut Vec<u8>, pairs: &[(Expr, Expr)]) -> Result<(), AllocError> {
     open(form, b"dict")?;
@@ -165,6 +174,7 @@ fn put_pairs(alloc: Global, form: &mut Vec<u8>, pairs: &[(Expr, Expr)]) -> Resul
     form.extend_from_slice(b")")
 }
 
+/// Adds the further comparisons of a chain, and ends its bracket.
 #[cycle(exprs)]
 fn put_compared(
     alloc: Global,
@@ -178,6 +188,7 @@ fn put_compared(
     form.extend_from_slice(b")")
 }
 
+/// Adds keyword arguments, and ends the call's bracket.
 #[cycle(exprs)]
 fn put_keys(alloc: Global, form: &mut Vec<u8>, keys: &[(Text, Expr)]) -> Result<(), AllocError> {
     for (name, value) in keys {

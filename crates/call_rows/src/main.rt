@@ -44,6 +44,7 @@ fn answer(alloc: Global, call: &str, given: &str) -> Result<String, AllocError> 
     }
 }
 
+/// Answers each call of the file `calls`, a line for each.
 fn main(rt: HostRuntime) -> io::Result<()> {
     let calls = fs::read_to_string(&rt, "calls")?;
     for line in calls.trim_end().split("\n") {

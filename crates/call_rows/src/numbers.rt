@@ -1,8 +1,9 @@
-//! Small integers.
+//! Rows of small integers: an operation, its numbers, and what it answers.
 
 use py_values::{NumFault, SmallInt};
 use std::alloc::{AllocError, Global};
 
+/// A number, or why there is none.
 fn shown(alloc: Global, answer: Result<SmallInt, NumFault>) -> Result<String, AllocError> {
     match answer {
         Ok(number) => {
@@ -31,6 +32,7 @@ fn of_two(call: &str, a: SmallInt, b: SmallInt) -> Option<Result<SmallInt, NumFa
     }
 }
 
+/// What an operation on one number answers, if there is such an operation.
 fn of_one(call: &str, n: SmallInt) -> Option<Result<SmallInt, NumFault>> {
     match call {
         "neg" => Some(n.neg()),
@@ -41,6 +43,7 @@ fn of_one(call: &str, n: SmallInt) -> Option<Result<SmallInt, NumFault>> {
     }
 }
 
+/// The small number that a word spells, if it does.
 fn small(word: &str) -> Option<SmallInt> {
     SmallInt::new(word.parse::<i32>().ok()?)
 }
@@ -53,6 +56,7 @@ fn found(call: &str, given: &str) -> Option<Result<SmallInt, NumFault>> {
     }
 }
 
+/// What an operation answers to the numbers of a row, as its table has it; nothing where there is no such operation.
 pub(crate) fn answer(alloc: Global, call: &str, given: &str) -> Result<Option<String>, AllocError> {
     match found(call, given) {
         Some(answer) => Ok(Some(shown(alloc, answer)?)),

@@ -2,6 +2,7 @@
 
 use std::alloc::{AllocError, Global};
 
+/// The value of a hexadecimal digit.
 fn digit_of(byte: u8) -> u8 {
     if byte < b'a' {
         byte.wrapping_sub(b'0')
@@ -10,6 +11,7 @@ fn digit_of(byte: u8) -> u8 {
     }
 }
 
+/// The byte of two hexadecimal digits.
 fn byte_of(high: u8, low: u8) -> u8 {
     digit_of(high).wrapping_mul(16).wrapping_add(digit_of(low))
 }
@@ -30,6 +32,7 @@ pub(crate) fn from_hex(alloc: Global, digits: &str) -> Result<Vec<u8>, AllocErro
     Ok(bytes)
 }
 
+/// Two hexadecimal digits for each byte.
 pub(crate) fn to_hex(alloc: Global, bytes: &[u8]) -> Result<String, AllocError> {
     let mut text = String::new(alloc);
     for byte in bytes {

@@ -5,6 +5,7 @@ use mpy_base::Text;
 use py_tree::{Alias, BinaryOp, Branch, Expr, Handler, Param, Stmt, StmtKind, Target};
 use std::alloc::{AllocError, Global};
 
+/// Adds an expression, if there is one.
 fn put_option(alloc: Global, form: &mut Vec<u8>, value: &Option<Expr>) -> Result<(), AllocError> {
     match value {
         Some(value) => put_expr(alloc, form, value),
@@ -12,6 +13,7 @@ fn put_option(alloc: Global, form: &mut Vec<u8>, value: &Option<Expr>) -> Result
     }
 }
 
+/// Adds a target.
 #[cycle(targets)]
 fn put_target(alloc: Global, form: &mut Vec<u8>, target: &Target) -> Result<(), AllocError> {
     match target {
@@ -36,6 +38,7 @@ fn put_target(alloc: Global, form: &mut Vec<u8>, target: &Target) -> Result<(), 
     }
 }
 
+/// Adds targets, one behind the other.
 #[cycle(targets)]
 fn put_targets(alloc: Global, form: &mut Vec<u8>, targets: &[Target]) -> Result<(), AllocError> {
     for target in targets {
@@ -44,6 +47,7 @@ fn put_targets(alloc: Global, form: &mut Vec<u8>, targets: &[Target]) -> Result<
     Ok(())
 }
 
+/// Adds names, each behind a blank.
 fn put_names(form: &mut Vec<u8>, names: &[Text]) -> Result<(), AllocError> {
     for name in names {
         put_word(form, name.bytes())?;
@@ -51,6 +55,7 @@ fn put_names(form: &mut Vec<u8>, names: &[Text]) -> Result<(), AllocError> {
     Ok(())
 }
 
+/// Adds imported names, each with the name that it is bound to, if it has one.
 fn put_aliases(form: &mut Vec<u8>, names: &[Alias]) -> Result<(), AllocError> {
     for alias in names {
         put_word(form, alias.name.bytes())?;
@@ -62,6 +67,7 @@ fn put_aliases(form: &mut Vec<u8>, names: &[Alias]) -> Result<(), AllocError> {
     Ok(())
 }
 
+/// Adds parameters with their defaults.
 fn put_params(alloc: Global, form: &mut Vec<u8>, params: &[Param]) -> Result<(), AllocError> {
     open(form, b"params")?;
     for param in params {
@@ -74,6 +80,7 @@ fn put_params(alloc: Global, form: &mut Vec<u8>, params: &[Param]) -> Result<(),
     form.extend_from_slice(b")")
 }
 
+/// Adds an augmented assignment.
 fn put_aug(
     alloc: Global,
     form: &mut Vec<u8>,
@@ -143,6 +150,7 @@ fn put_plain(form: &mut Vec<u8>, kind: &StmtKind) -> Result<(), AllocError> {
     }
 }
 
+/// Adds the form of a statement, with those in it.
 #[cycle(stmts)]
 pub(crate) fn put_stmt(alloc: Global, form: &mut Vec<u8>, stmt: &Stmt) -> Result<(), AllocError> {
     put_number(alloc, form, i64::from(stmt.line))?;
@@ -151,6 +159,7 @@ pub(crate) fn put_stmt(alloc: Global, form: &mut Vec<u8>, stmt: &Stmt) -> Result
     form.extend_from_slice(b")")
 }
 
+/// Adds a statement behind its line and bracket, with those in it.
 #[cycle(stmts)]
 fn put_kind(alloc: Global, form: &mut Vec<u8>, kind: &StmtKind) -> Result<(), AllocError> {
     match kind {
@@ -202,6 +211,7 @@ fn put_kind(alloc: Global, form: &mut Vec<u8>, kind: &StmtKind) -> Result<(), Al
     }
 }
 
+/// Adds the statements of a body.
 #[cycle(stmts)]
 fn put_body(alloc: Global, form: &mut Vec<u8>, body: &[Stmt]) -> Result<(), AllocError> {
     open(form, b"do")?;
@@ -212,6 +222,7 @@ fn put_body(alloc: Global, form: &mut Vec<u8>, body: &[Stmt]) -> Result<(), Allo
     form.extend_from_slice(b")")
 }
 
+/// Adds the body of a `finally`.
 #[cycle(stmts)]
 fn put_last(alloc: Global, form: &mut Vec<u8>, body: &[Stmt]) -> Result<(), AllocError> {
     open(form, b"finally")?;
@@ -219,6 +230,7 @@ fn put_last(alloc: Global, form: &mut Vec<u8>, body: &[Stmt]) -> Result<(), Allo
     form.extend_from_slice(b")")
 }
 
+/// Adds the branches of an `if`.
 #[cycle(stmts)]
 fn put_branches(alloc: Global, form: &mut Vec<u8>, branches: &[Branch]) -> Result<(), AllocError> {
     for branch in branches {
@@ -232,6 +244,7 @@ fn put_branches(alloc: Global, form: &mut Vec<u8>, branches: &[Branch]) -> Resul
     Ok(())
 }
 
+/// Adds the name that an `except` binds, if it does.
 fn put_bound(form: &mut Vec<u8>, name: &Option<Text>) -> Result<(), AllocError> {
     match name {
         Some(name) => {
@@ -242,6 +255,7 @@ fn put_bound(form: &mut Vec<u8>, name: &Option<Text>) -> Result<(), AllocError> 
     }
 }
 
+/// Adds the clauses of a `try`.
 #[cycle(stmts)]
 fn put_handlers(alloc: Global, form: &mut Vec<u8>, handlers: &[Handler]) -> Result<(), AllocError> {
     for handler in handlers {

@@ -20,6 +20,7 @@ impl Write for Full {
     }
 }
 
+/// How a put went, in a word.
 fn put(outcome: Result<(), Failed>) -> &'static str {
     match outcome {
         Ok(()) => "ok",
@@ -27,6 +28,7 @@ fn put(outcome: Result<(), Failed>) -> &'static str {
     }
 }
 
+/// What a read gave, or why it gave nothing.
 fn read(alloc: Global, outcome: Result<Vec<u8>, ReadFault>) -> Result<String, AllocError> {
     match outcome {
         Ok(bytes) => crate::spelling::to_text(alloc, &bytes),
@@ -34,6 +36,7 @@ fn read(alloc: Global, outcome: Result<Vec<u8>, ReadFault>) -> Result<String, Al
     }
 }
 
+/// What a get gave.
 fn got(alloc: Global, outcome: Result<Option<i32>, Failed>) -> Result<String, AllocError> {
     match outcome {
         Ok(Some(n)) => format!(in alloc; "{n}"),
@@ -42,6 +45,7 @@ fn got(alloc: Global, outcome: Result<Option<i32>, Failed>) -> Result<String, Al
     }
 }
 
+/// Tries the files of a folder, and prints what came.
 fn print_folder(rt: &HostRuntime) -> io::Result<()> {
     let alloc = rt.alloc();
     let name = format!(in alloc; "call_rows_{}", process::id(rt.process()))?;
@@ -72,6 +76,7 @@ fn gathering<W: Write + Drop>(alloc: Global, writer: W) -> io::Result<OutSink<W>
     }
 }
 
+/// Tries sinks, and prints what came.
 fn print_sinks(rt: &HostRuntime) -> io::Result<()> {
     let alloc = rt.alloc();
     let mut sink = gathering(alloc, Vec::new(alloc))?;
@@ -82,6 +87,7 @@ fn print_sinks(rt: &HostRuntime) -> io::Result<()> {
     println!(rt; "flush {}, faults {}", put(full.flush()), full.faults())
 }
 
+/// Tries a port, and prints what came.
 fn print_port(rt: &HostRuntime) -> io::Result<()> {
     let alloc = rt.alloc();
     let lines = b"12\n-2147483648\n+5\n\n 1\n2147483648\n123456789012345\n-07".as_slice();
@@ -97,6 +103,7 @@ fn print_port(rt: &HostRuntime) -> io::Result<()> {
     println!(rt; "faults {}", port.faults())
 }
 
+/// Prints how a folder, sinks and a port answer in turn, calls that fail among them.
 pub(crate) fn print_streams(rt: &HostRuntime) -> io::Result<()> {
     print_folder(rt)?;
     print_sinks(rt)?;

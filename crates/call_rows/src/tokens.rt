@@ -12,6 +12,7 @@ use py_tokens::{
 use qstr_pool::static_number;
 use std::alloc::{AllocError, Global};
 
+/// What a name spells: a word of the language, one that is refused, or a name.
 fn word(alloc: Global, text: &[u8]) -> Result<String, AllocError> {
     match read_word(text, 0) {
         Spelled::Word(word) => {
@@ -23,6 +24,7 @@ fn word(alloc: Global, text: &[u8]) -> Result<String, AllocError> {
     }
 }
 
+/// The operator in front, and how long it is.
 fn operator(alloc: Global, text: &[u8]) -> Result<String, AllocError> {
     match operator_at(text) {
         Some((Operator::Op(op), len)) => {
@@ -75,6 +77,7 @@ fn put_token(alloc: Global, text: &mut String, token: &Token) -> Result<(), Allo
     Ok(())
 }
 
+/// A fault of a source, with its line and its word.
 fn fault(alloc: Global, refused: Refused<SourceFault>) -> Result<String, AllocError> {
     match refused {
         Refused::Fault(fault) => {
@@ -108,6 +111,7 @@ fn put_locals(alloc: Global, text: &mut String, locals: &[Text]) -> Result<(), A
     text.push_str(";")
 }
 
+/// Adds the locals of each function, by the functions' numbers.
 fn put_slots(alloc: Global, text: &mut String, slots: &NameSlots) -> Result<(), AllocError> {
     for function in 0..=u32::MAX {
         match slots.locals(function) {
@@ -133,10 +137,12 @@ fn locals(alloc: Global, source: &[u8]) -> Result<String, AllocError> {
     Ok(text)
 }
 
+/// A length as digits.
 fn length(alloc: Global, length: usize) -> Result<String, AllocError> {
     format!(in alloc; "{length}")
 }
 
+/// The number by which every file may name this text.
 fn number_of_text(alloc: Global, text: &[u8]) -> Result<String, AllocError> {
     match static_number(text) {
         Some(n) => format!(in alloc; "{n}"),

@@ -63,6 +63,7 @@ fn made(alloc: Global, labels: &[Option<usize>], item: &DraftItem) -> Result<Ite
     }
 }
 
+/// The instructions of these lines, each jump with the position of its label.
 fn instructions(
     alloc: Global,
     labels: &[Option<usize>],
@@ -78,6 +79,7 @@ fn instructions(
     Ok(items)
 }
 
+/// The line of the source that each instruction is of.
 fn line_numbers(alloc: Global, lines: &[DraftLine]) -> Result<Items<u32>, NoMemory>
     ensures { IfOk result (λ numbers. numbers ≡ map line_number lines.now) }
 {

@@ -20,6 +20,7 @@ pub fn module_scope(alloc: Global) -> Scope
     }
 }
 
+/// A copy of each text.
 fn copies(alloc: Global, texts: &[Text]) -> Result<Items<Text>, NoMemory>
     ensures { IfOk result (λ copies. copies ≡ texts.now) }
 {

@@ -8,6 +8,7 @@ ghost use Rattle.emit_code.specs.Wide.{wide_instr as wide_of, wide_item as wide_
 use bc_ops::{Instr, Op};
 use emit_draft::{Draft, DraftItem};
 
+/// How many bytes an instruction takes with its operand at its longest.
 fn wide_instr(instr: Instr) -> usize
     ensures { result ≡ wide_of instr }
 {
@@ -31,6 +32,7 @@ fn wide_instr(instr: Instr) -> usize
     }
 }
 
+/// How many bytes an item of a draft takes with its operand at its longest.
 fn wide_item(item: &DraftItem) -> usize
     ensures { (labels : Labels) → result ≡ wide_in (item_at labels item.now) }
 {

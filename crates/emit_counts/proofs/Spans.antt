@@ -46,7 +46,7 @@ module _ (c : Context) where
   named_both (x ∷ xs) ys below n m = (n.0, named_both xs ys below n.1 m)
 
 module _ (c : Context) (sure : Type 0) where
-  -- the lines from p up to q have so many bytes, name no local that isn't there, and name each of the names that is local,
+  -- the lines from p up to q have `bytes` bytes, name no local that isn't there, and name each of the names that is local,
   -- where that is sure
   pub record Spans (p q bytes : ℕ) (names : List Name) : Type 0 where
     pub wide : bytes_to c q ≡ bytes_to c p + bytes

@@ -15,6 +15,7 @@ use Rattle.emit_counts.specs.Wide.{wide_int}
 abbrev pub comparison_length : CompareOp → ℕ
 comparison_length op = if is_negated op then 2 else 1
 
+-- the load of a constant
 abbrev pub constant_length : Val → ℕ
 constant_length Nil = 1
 constant_length (Truth b) = 1
@@ -111,6 +112,7 @@ module _ (locals : List Name) where
   delete_length (ToIndex a b) = expr_length a + expr_length b + 3
   delete_length (ToEach ts) = 0
 
+  -- deletions one behind the other
   abbrev pub deletes_length : Targets → ℕ
   deletes_length (Only t) = delete_length t
   deletes_length (Then t ts) = delete_length t + deletes_length ts

@@ -29,6 +29,7 @@ pub record HasOwnLocals (text : Text) : Type 0 where
   pub others : (slot : ℕ) → length text.params ≤ slot → slot < length text.locals
       → (name : Name) × (has name (bound_in text.body) ≡ true) × (position (bytes_eq name) text.locals ≡ Some slot)
 
+-- of each text: its locals are its parameters, and behind them names that it binds itself, each in its first slot
 abbrev pub AllHaveOwnLocals : List Text → Type 0
 AllHaveOwnLocals [] = Unit {0}
 AllHaveOwnLocals (text ∷ texts) = HasOwnLocals text × AllHaveOwnLocals texts

@@ -17,6 +17,7 @@ abbrev pub wide_int : ℤ → ℕ
 wide_int (pos n) = if nat_lt n 48 then 1 else 6
 wide_int (negsuc n) = if nat_lt n 16 then 1 else 6
 
+-- an instruction as it stands in a file
 abbrev pub wide_instr : Instr → ℕ
 wide_instr (instrs.Plain op) = 1
 wide_instr (instrs.Name op n) = 4
@@ -27,6 +28,7 @@ wide_instr (instrs.Unwind offset wide byte) = 4
 wide_instr (instrs.Unary op) = 1
 wide_instr (instrs.Binary op) = 1
 
+-- an instruction as the machine has it
 abbrev pub wide_item : Item → ℕ
 wide_item (Plain instr) = wide_instr instr
 wide_item (Names op text) = 4
@@ -34,6 +36,7 @@ wide_item (Loads value) = 4
 wide_item (Jumps op position) = 3
 wide_item (Unwinds position byte) = 4
 
+-- all instructions of a code
 abbrev pub wide_length : List Line → ℕ
 wide_length [] = 0
 wide_length (line ∷ lines) = wide_item line.item + wide_length lines

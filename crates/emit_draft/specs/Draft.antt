@@ -44,10 +44,10 @@ pub record PutsCount (a b : Draft) (line : ℕ) (op : Op) (passes : Bool) (numbe
   pub level : b.level ≡ a.level
   pub crowded : b.crowded ≡ (a.crowded || passes)
 
--- more than 4,096 items
+-- are there more than 4,096 items?
 abbrev pub passes_items : ℕ → Bool
 passes_items count = nat_lt 4096 count
 
--- more than 255 positional arguments, or keyword arguments
+-- are there more than 255 positional arguments, or keyword arguments?
 abbrev pub passes_members : (args keys : ℕ) → Bool
 passes_members args keys = nat_lt 255 args || nat_lt 255 keys

@@ -16,6 +16,7 @@ position_in (Some (Some p)) = p
 position_in (Some None) = 0
 position_in None = 0
 
+-- the position of the label `l`
 abbrev pub label_at : Labels → ℕ → ℕ
 label_at labels l = position_in (slice_get labels l)
 
@@ -27,6 +28,7 @@ item_at labels (drafts.Str text) = Loads (Str text)
 item_at labels (drafts.Jump op l) = Jumps op (label_at labels l)
 item_at labels (drafts.Unwind l byte) = Unwinds (label_at labels l) byte
 
+-- the instruction with its line
 abbrev pub line_at : Labels → DraftLine → Line
 line_at labels l = record { item = item_at labels l.item; line = l.line }
 
@@ -60,7 +62,7 @@ pub record Emits (k : ℕ) (a b : Draft) (s : Scope) (rest all : Bool) (P : Cont
   pub crowded : (b.crowded || rest) ≡ (a.crowded || all)
   pub stands : (c : Context) (labels : Labels) → After b s c labels → P c labels (length a.lines) (length b.lines)
 
--- one instruction
+-- the code of one instruction
 pub data IsPut (c : Context) (line p : ℕ) (item : Item) : (q : ℕ) → Type 0 where
   put : Has c line p item → IsPut c line p item (suc p)
 

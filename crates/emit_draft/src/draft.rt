@@ -45,6 +45,7 @@ pub struct Draft {
 impl Draft {
     ghost use Rattle.emit_draft.specs.Draft.{shown, Puts, Adds, Binds, PutsCount, passes_items, passes_members};
 
+    /// The line that an instruction gets: 1 at level 3, and its own at the others.
     fn shown_line(level: u8, line: u32) -> u32
         ensures { result ≡ shown level line }
     {

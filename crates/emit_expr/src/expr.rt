@@ -215,6 +215,7 @@ fn emit_callee(
     }
 }
 
+/// Each of these expressions, in order.
 #[cycle(expressions)]
 fn emit_all(
     alloc: Global,

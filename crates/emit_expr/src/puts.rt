@@ -1,4 +1,4 @@
-//! Single instructions.
+//! Single instructions that expressions put: names, strs and comparisons.
 
 ghost use Rattle.std.specs.Prelude.{◌≡◌, OnOk};
 ghost use Rattle.mpy_base.specs.Val.{Str};
@@ -31,6 +31,7 @@ pub(crate) fn put_named(
     draft.put(line, DraftItem::Named(op, text))
 }
 
+/// Puts the load of a name.
 pub(crate) fn put_load(
     alloc: Global,
     draft: &mut Draft,
@@ -45,6 +46,7 @@ pub(crate) fn put_load(
     Ok(())
 }
 
+/// Puts the load of a str.
 pub(crate) fn put_str(
     alloc: Global,
     draft: &mut Draft,
@@ -62,6 +64,7 @@ pub(crate) fn put_str(
     Ok(())
 }
 
+/// Puts a comparison, with a `not` behind it where it is negated.
 pub(crate) fn put_comparison(draft: &mut Draft, line: u32, op: CompareOp) -> Result<(), NoMemory>
     ensures { OnOk result ((s : Names) → EmitsC draft.old draft.new s line op) }
 {

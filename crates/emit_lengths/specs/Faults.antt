@@ -5,5 +5,6 @@ use Rattle.emit_limits.specs.declared.faults.Measures.{Measures}
 use Rattle.emit_limits.specs.Limits.{saturated}
 use Rattle.emit_counts.specs.Lengths.{text_length}
 
+-- the length that was counted is the text's, up to 2^64 - 1
 abbrev pub HasTextLength : Text → Measures → Type 0
 HasTextLength text m = m.length ≡ saturated (text_length text.locals text.level text.body)

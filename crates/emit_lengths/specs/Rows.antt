@@ -10,7 +10,7 @@ use Rattle.py_meaning.specs.Statements.{bound_name, read_parts}
 use Rattle.py_meaning.specs.Plain.{plain_expr, plain_target}
 use Rattle.emit_counts.specs.Lengths.{behind_length, name_length, comparison_length, expr_length, store_length}
 
--- the operands with their comparisons, and so many bytes beside each
+-- the operands with their comparisons, and `beside` bytes beside each
 abbrev pub links_with : ℕ → List Name → List (CompareOp × trees.Expr) → ℕ
 links_with beside locals [] = 0
 links_with beside locals (link ∷ links) = expr_length locals (plain_expr link.1) + beside + comparison_length link.0 + links_with beside locals links
@@ -30,6 +30,7 @@ doubled_wide locals (target ∷ targets) = store_length locals (plain_target tar
 abbrev pub dot_wide : ℕ → ℕ
 dot_wide byte = if nat_eq byte 46 then 4 else 0
 
+-- the bytes of these reads
 abbrev pub reads_wide : Name → ℕ
 reads_wide [] = 0
 reads_wide (byte ∷ bytes) = dot_wide byte + reads_wide bytes
@@ -40,7 +41,7 @@ alias_wide locals alias = 4 * length (read_parts (parts_of alias.name) alias.bou
 
 -- ---- parts of statements
 
--- behind a branch with so many others behind it
+-- the bytes behind a branch that has `left` others behind it
 abbrev pub behind_wide : (left : ℕ) (bare : Bool) → ℕ
 behind_wide left bare = behind_length (nat_eq left 0 && bare)
 

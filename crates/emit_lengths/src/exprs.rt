@@ -13,6 +13,7 @@ use crate::numbers::{both, plus, three};
 use mpy_base::Text;
 use py_tree::{CompareOp, Expr};
 
+/// The slot of a name, if it is a local.
 fn place_of(locals: &[Text], name: &[u8]) -> Option<usize>
     ensures { result ≡ position (λ local. bytes_eq name.now local) locals.now }
 {
@@ -34,6 +35,7 @@ pub(crate) fn name_length(locals: &[Text], name: &[u8]) -> usize
     }
 }
 
+/// How many bytes a load of a small int takes with its operand at its longest.
 fn int_length(n: i32) -> usize
     ensures { result ≡ wide_int n }
 {
@@ -43,6 +45,7 @@ fn int_length(n: i32) -> usize
     6
 }
 
+/// How many bytes a comparison takes. `not in` and `is not` are two instructions.
 fn comparison_length(op: CompareOp) -> usize
     ensures { result ≡ comparison_wide op }
 {
@@ -52,7 +55,7 @@ fn comparison_length(op: CompareOp) -> usize
     1
 }
 
-/// What each of so many links has beside its operand and its comparison.
+/// How many bytes each of `count` links has beside its operand and its comparison.
 fn beside_links(count: usize) -> usize
     ensures one { count ≤ 1 → result ≡ 0 }
     ensures many { 1 < count → result ≡ 5 }
@@ -60,6 +63,7 @@ fn beside_links(count: usize) -> usize
     if count > 1 { 5 } else { 0 }
 }
 
+/// How many bytes the code of an expression has at most, or 2^64 - 1 where there are more.
 #[cycle(lengths)]
 pub(crate) fn expr_length(locals: &[Text], expr: &Expr) -> usize
     ensures { result ≡ saturated (expr_wide locals.now (plain_expr expr.now)) }
@@ -118,6 +122,7 @@ fn joined_length(locals: &[Text], items: &[Expr]) -> usize
     both(own, length, 0)
 }
 
+/// How long the code of expressions is, one behind the other.
 #[cycle(lengths)]
 pub(crate) fn row_length(locals: &[Text], items: &[Expr]) -> usize
     ensures { result ≡ saturated (exprs_wide locals.now (exprs (map plain_expr items.now))) }

@@ -30,6 +30,7 @@ fn reads_length(name: &[u8]) -> usize
     length
 }
 
+/// Where the first dot of a name stands.
 fn first_dot(name: &[u8]) -> Option<usize>
     ensures place { result ≡ position (λ byte. nat_eq byte 46) name.now }
     ensures within { IfSome result (λ end. end < length name.now) }
@@ -60,6 +61,7 @@ fn alias_length(locals: &[Text], alias: &Alias) -> usize
     }
 }
 
+/// How many bytes the code of an import of these modules has at most, or 2^64 - 1 where there are more.
 pub(crate) fn imports_length(locals: &[Text], names: &[Alias]) -> usize
     ensures { result ≡ saturated (imports_wide locals.now names.now) }
 {

@@ -38,6 +38,7 @@ fn block_length(level: u8, locals: &[Text], held: bool, iterator: bool, stmts: &
     length
 }
 
+/// A statement, in the loop around: whether entries are held that were set up in it, and whether it has an iterator.
 #[cycle(blocks)]
 fn kind_length(level: u8, locals: &[Text], held: bool, iterator: bool, kind: &StmtKind) -> usize
     ensures { (n : ℕ) → result ≡ saturated (stmt_wide locals.now level held iterator ((plain_kind kind.now).make n)) }
@@ -151,7 +152,7 @@ fn covered(bare: bool, alone: usize, whole: usize) -> usize
     if bare { alone } else { whole }
 }
 
-/// The jump behind a branch.
+/// The jump behind a branch, of 3 bytes: there is none behind the last branch where the `else` is bare.
 fn behind_length(left: usize, bare: bool) -> usize
     ensures { result ≡ behind_wide left bare }
 {
@@ -226,6 +227,7 @@ fn default_length(locals: &[Text], default: &Option<Expr>) -> usize
     }
 }
 
+/// Has one of the parameters a default?
 fn has_defaults(params: &[Param]) -> bool
     ensures { result ≡ list_any (λ param. is_some param.default) params.now }
 {

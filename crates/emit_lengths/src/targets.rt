@@ -13,6 +13,7 @@ use crate::numbers::{both, plus, three};
 use mpy_base::Text;
 use py_tree::{Expr, Target};
 
+/// How many bytes a store into the target has at most, or 2^64 - 1 where there are more.
 #[cycle(stores)]
 pub(crate) fn store_length(locals: &[Text], target: &Target) -> usize
     ensures { result ≡ saturated (store_wide locals.now (plain_target target.now)) }

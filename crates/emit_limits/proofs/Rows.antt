@@ -58,7 +58,7 @@ pub record Over {X : Type 0} (f : ℕ → List X → ℕ) (from : ℕ) (all rest
   pub is : slots ≡ saturated below
   pub so_far : saturated (f from all) ≡ max h (saturated (f below rest))
 
--- each part has a number over so many slots, and leaves so many more
+-- each part has a number over `n` slots, and leaves `leaves` more
 pub record IsPile {X : Type 0} (f : ℕ → List X → ℕ) (g : X → ℕ) (leaves : ℕ) : Type 0 where
   pub more : (x : X) (xs : List X) (n : ℕ) → f n (x ∷ xs) ≡ max (n + g x) (f (leaves + n) xs)
 

@@ -17,21 +17,27 @@ saturated n = min n (2 ^ 64 - 1)
 
 -- ---- plain trees of lists and parts
 
+-- the pairs of a dict display
 abbrev pub plain_pairs : List (trees.Expr × trees.Expr) → List (Expr × Expr)
 plain_pairs pairs = map (λ (pair : trees.Expr × trees.Expr). (plain_expr pair.0, plain_expr pair.1)) pairs
 
+-- keyword arguments
 abbrev pub plain_keys : List (Name × trees.Expr) → List (Name × Expr)
 plain_keys keys = map (λ (key : Name × trees.Expr). (key.0, plain_expr key.1)) keys
 
+-- a statement
 abbrev pub plain_kind : StmtKind → Part Stmt
 plain_kind = fold-StmtKind (Part Stmt) (Part (Branches → Branches)) Clause (Part (Block → Block)) kind_step branch_step handler_step stmt_step
 
+-- a branch, in front of others
 abbrev pub plain_branch : Branch → Part (Branches → Branches)
 plain_branch = fold-Branch (Part Stmt) (Part (Branches → Branches)) Clause (Part (Block → Block)) kind_step branch_step handler_step stmt_step
 
+-- an except clause
 abbrev pub plain_handler : Handler → Clause
 plain_handler = fold-Handler (Part Stmt) (Part (Branches → Branches)) Clause (Part (Block → Block)) kind_step branch_step handler_step stmt_step
 
+-- a `try`, with a `finally` if it has one
 abbrev pub plain_try : (body : List Statement) (handlers : List Handler) (rest : List Statement) (last : Option (List Statement)) → Part Stmt
 plain_try body handlers rest last = try_of (block (map plain_stmt body)) (map plain_handler handlers) (block (map plain_stmt rest)) (option_map (map plain_stmt) last)
 

@@ -24,6 +24,7 @@ pub fn block_entries(stmts: &[Stmt]) -> usize
     entries
 }
 
+/// How many handler entries a statement holds at once at most.
 #[cycle(entries)]
 fn kind_entries(kind: &StmtKind) -> usize
     ensures { (n : ℕ) → result ≡ saturated (held ((plain_kind kind.now).make n)) }

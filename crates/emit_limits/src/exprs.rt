@@ -24,6 +24,7 @@ pub(crate) fn over(low: usize, high: usize) -> usize
     low.max(high.saturating_add(1))
 }
 
+/// How many slots an expression takes at most, or 2^64 - 1 where there are more.
 #[cycle(heights)]
 pub(crate) fn expr_height(expr: &Expr) -> usize
     ensures { result ≡ saturated (tall (plain_expr expr.now)) }
@@ -69,7 +70,7 @@ fn joined_height(items: &[Expr]) -> usize
     tallest(items)
 }
 
-/// Each over the same slots.
+/// The greatest height of these expressions, each over the same slots.
 #[cycle(heights)]
 fn tallest(items: &[Expr]) -> usize
     ensures { result ≡ saturated (tallest_of (exprs (map plain_expr items.now))) }

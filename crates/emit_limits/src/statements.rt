@@ -24,6 +24,7 @@ pub fn block_height(level: u8, stmts: &[Stmt]) -> usize
     height
 }
 
+/// How many slots a statement holds at once at most.
 #[cycle(blocks)]
 fn kind_height(level: u8, kind: &StmtKind) -> usize
     ensures { (n : ℕ) → result ≡ saturated (tall_stmt level ((plain_kind kind.now).make n)) }
@@ -89,6 +90,7 @@ pub(crate) fn covered(bare: bool, alone: usize, whole: usize) -> usize
     if bare { alone } else { whole }
 }
 
+/// The slots of an expression, or `none` where there is none.
 fn option_height(none: usize, value: &Option<Expr>) -> usize
     ensures { result ≡ saturated (on_option none tall value.now) }
 {
@@ -144,6 +146,7 @@ fn handlers_height(level: u8, handlers: &[Handler]) -> usize
     height.max(1)
 }
 
+/// The slots of `import`: two where it names a module.
 fn import_height(names: &[Alias]) -> usize
     ensures { result ≡ saturated (tall_import names.now) }
 {
@@ -163,6 +166,7 @@ fn default_height(slots: usize, default: &Option<Expr>) -> usize
     }
 }
 
+/// How many values a default puts: one, or none where there is no default.
 fn default_count(default: &Option<Expr>) -> usize
     ensures { result ≡ on_option 0 (λ e. 1) default.now }
 {

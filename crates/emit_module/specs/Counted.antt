@@ -29,10 +29,12 @@ pub record IsDraftLength (text : Text) (length : ℕ) : Type 0 where
   pub roomy : draft.crowded ≡ false
   pub is : (labels : Labels) → length ≡ saturated (wide_length (map (line_at labels) draft.lines))
 
+-- the wide length of a text, on either way
 pub data HasLength (text : Text) (length : ℕ) : Type 0 where
   on_draft : IsDraftLength text length → HasLength text length
   on_tree : length ≡ saturated (text_length text.locals text.level text.body) → HasLength text length
 
+-- what is counted of a text at its place in the source
 pub record AreCounted (site : Site) (text : Text) (m : Measures) : Type 0 where
   pub numbers : IsMeasured text m
   pub length : HasLength text m.length

@@ -14,7 +14,7 @@ pub record Site : Type 0 where
   pub line : ℕ
   pub depth : ℕ
 
--- those of the functions in a text of this depth, in text order
+-- where the functions in a text of this depth stand, in text order
 abbrev mutual
   pub sites : (depth : ℕ) → Block → List Site
   sites depth End = []
@@ -69,6 +69,7 @@ pub record HasFault (site : Site) (text : Text) (fault : SourceFault) : Type 0 w
 
 -- ---- texts in preorder
 
+-- no text passes a limit at its place
 pub data AllWithin : List Site → List Text → Type 0 where
   no_text : AllWithin [] []
   one_within : {site : Site} {sites : List Site} {text : Text} {texts : List Text}
@@ -81,8 +82,10 @@ pub data FirstFault : List Site → List Text → SourceFault → Type 0 where
   later : {site : Site} {sites : List Site} {text : Text} {texts : List Text} {fault : SourceFault}
       → IsWithin site text → FirstFault sites texts fault → FirstFault (site ∷ sites) (text ∷ texts) fault
 
+-- no text of the source passes a limit
 abbrev pub AreWithin : Source → Type 0
 AreWithin source = AllWithin (source_sites source) (source_texts source.file source 0)
 
+-- the fault of the source's first text that passes a limit
 abbrev pub IsFirstFault : Source → SourceFault → Type 0
 IsFirstFault source fault = FirstFault (source_sites source) (source_texts source.file source 0) fault

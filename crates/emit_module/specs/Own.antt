@@ -64,6 +64,7 @@ pub record IsFaulty (place : Place) (draft : Draft) (text : Text) (fault : Sourc
   pub line : fault.line ≡ place.line
   pub word : fault.word ≡ []
 
+-- why a text has no code: a limit, or want of memory
 abbrev pub IsRefused : Place → Draft → Text → Refused SourceFault → Type 0
 IsRefused place draft text (Fault fault) = IsFaulty place draft text fault
 IsRefused place draft text NoMemory = Unit {0}

@@ -33,10 +33,12 @@ pub data Forest : Type 0 where
   bare : Forest
   grow : (line : ℕ) → Function → (inner others : Forest) → Forest
 
+-- the functions of two parts of a text, one behind the other
 abbrev pub beside : Forest → Forest → Forest
 beside bare g = g
 beside (grow line f inner others) g = grow line f inner (beside others g)
 
+-- how many functions these are, with those in them
 abbrev pub size : Forest → ℕ
 size bare = 0
 size (grow line f inner others) = suc (size inner + size others)
@@ -102,10 +104,11 @@ pub record IsMadeCode (own : Bool) (site : Site) (text : Text) (code : Code) : T
 
 -- ---- the functions in a text, of which the first one is the source's function of this number, from 0 on
 
+-- the text of a function that has the number in the source
 abbrev pub text_at : Source → ℕ → Function → Text
 text_at source number f = function_text source.file source 0 (or_none (slice_get source.locals number)) f
 
--- their codes
+-- the codes of the functions in a text
 pub data Grows (source : Source) : (depth number : ℕ) → Forest → List Code → Type 0 where
   no_code : {depth number : ℕ} → Grows source depth number bare []
   with_code : {depth number line : ℕ} {f : Function} {inner others : Forest} {first : Code} {codes : List Code}
@@ -133,7 +136,7 @@ pub data Breaks (source : Source) : (depth number : ℕ) → Forest → SourceFa
 
 -- ---- a walk over the functions in a text
 
--- their codes were added
+-- the codes of the functions in a text were added
 pub record IsWalked (source : Source) (forest : Forest) (a b : Children) : Type 0 where
   pub level : b.level ≡ a.level
   pub depth : b.depth ≡ a.depth
@@ -159,6 +162,7 @@ pub record IsFront {A : Type 0} (source : Source) (a b : Children) (r : Result A
   pub is : whole ≡ beside front (behind at)
   pub walks : Walks source front a b r
 
+-- a walk over these branches, in front of others
 pub record WalksFront {A : Type 0} (slots : List (List Name)) (branches : List Branch) (a b : Children) (r : Result A (Refused SourceFault)) : Type 0 where
   pub by : (source : Source) → source.level ≡ a.level → source.locals ≡ slots → (rest : Part Branches) (n : ℕ)
       → IsFront source a b r (planted_of ((chain (map plain_branch branches) rest).make n)) (λ m. planted_of (rest.make m))
@@ -174,14 +178,17 @@ front_defs (branch ∷ branches) = (plain_branch branch).defs + front_defs branc
 abbrev pub begun : Children → Children
 begun around = record { level = around.level; depth = around.depth + 1; next = around.next + 1; codes = [] }
 
+-- what a walk over a function's body comes to
 abbrev pub BodyWalks : Source → Forest → (around : Children) → Result Children (Refused SourceFault) → Type 0
 BodyWalks source forest around (Ok inner) = IsWalked source forest (begun around) inner
 BodyWalks source forest around (Err (Fault fault)) = Breaks source (begun around).depth (begun around).next forest fault
 BodyWalks source forest around (Err NoMemory) = Unit {0}
 
+-- what a walk over a function's body comes to, of a part of a source, whatever the source
 pub record WalksBody (slots : List (List Name)) (part : Part Block) (around : Children) (r : Result Children (Refused SourceFault)) : Type 0 where
   pub by : (source : Source) → source.level ≡ around.level → source.locals ≡ slots → (n : ℕ) → BodyWalks source (planted (part.make n)) around r
 
+-- the place of a function inside others
 abbrev pub place_of : (around : Children) (line : ℕ) → List Param → Place
 place_of around line params = record { level = around.level; line = line; depth = around.depth + 1; params = length params }
 
@@ -191,6 +198,7 @@ pub record IsFunctionOf (params : List Param) (body : List stmts.Stmt) (f : Func
   pub number : ℕ
   pub made : f.body ≡ (plain_block body).make number
 
+-- what making the code of a text comes to
 abbrev pub CodesText : (place : Place) (own : Bool) → List stmts.Stmt → Text → Result OwnCode (Refused SourceFault) → Type 0
 CodesText place own body text (Ok code) = IsTextCode place own body text code
 CodesText place own body text (Err refusal) = IsTextRefused (record { line = place.line; depth = place.depth }) text refusal
@@ -221,14 +229,17 @@ pub record IsPut (a b : Children) (name : Name) (params : List Param) (own : Own
 
 -- ---- a source
 
+-- where the walk over a source begins
 abbrev pub top : (level : ℕ) → Children
 top level = record { level = level; depth = 0; next = 0; codes = [] }
 
+-- what a walk over a source comes to
 abbrev pub TopWalks : (level : ℕ) → Source → Forest → Result Children (Refused SourceFault) → Type 0
 TopWalks level source forest (Ok children) = IsWalked source forest (top level) children
 TopWalks level source forest (Err (Fault fault)) = Breaks source 0 0 forest fault
 TopWalks level source forest (Err NoMemory) = Unit {0}
 
+-- what a walk over a source comes to, of a part that is the whole of a source
 pub record WalksTop (level : ℕ) (slots : List (List Name)) (part : Part Block) (r : Result Children (Refused SourceFault)) : Type 0 where
   pub by : (source : Source) → source.level ≡ level → source.locals ≡ slots → (n : ℕ) → TopWalks level source (planted (part.make n)) r
 

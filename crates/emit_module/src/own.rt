@@ -54,6 +54,7 @@ fn length_of(place: &Place, scope: &Scope, body: &[Stmt], draft: &Draft) -> usiz
     wide_length(draft)
 }
 
+/// What a text's code is measured by, from its tree and its draft.
 fn measures(place: &Place, scope: &Scope, body: &[Stmt], draft: &Draft) -> Measures
     ensures counted { (text : TextOf) → IsTextOf place.now scope.now body.now text → IsCounted place.now draft.now text result }
     ensures crowded { result.crowded ≡ draft.now.crowded }
@@ -78,7 +79,7 @@ fn slots(measures: &Measures) -> u32
     (measures.locals + measures.height.max(1)) as u32
 }
 
-/// Its handler entries.
+/// The handler entries of a text without a fault.
 fn entries(measures: &Measures) -> u32
     requires { fault_of measures.now ≡ None }
     ensures { result ≡ measures.now.entries }

@@ -31,6 +31,7 @@ pub(crate) fn text_code(
     own_code(alloc, place, &scope, body, &draft)
 }
 
+/// The names of the parameters, in order.
 fn names(alloc: Global, params: &[Param]) -> Result<Items<Text>, NoMemory>
     ensures { IfOk result (λ names. names ≡ map (λ (param : ParamOf). param.name) params.now) }
 {

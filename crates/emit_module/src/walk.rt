@@ -55,6 +55,7 @@ pub(crate) fn emit_defs(
     Ok(())
 }
 
+/// Walks one statement for the functions that are defined in it.
 #[cycle(functions)]
 fn emit_in(
     alloc: Global,

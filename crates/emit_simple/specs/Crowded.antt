@@ -15,12 +15,13 @@ abbrev mutual
   crowded_targets (Only t) = crowded_target t
   crowded_targets (Then t ts) = crowded_target t || crowded_targets ts
 
--- names and indexes alone are deleted
+-- whether a target of `del` is crowded, or none that can be deleted: names and indexes alone are
 abbrev pub crowded_gone : Target → Bool
 crowded_gone (ToName name) = false
 crowded_gone (ToIndex a b) = crowded a || crowded b
 crowded_gone _ = true
 
+-- whether one of the targets of `del` is crowded, or none that can be deleted
 abbrev pub crowded_gones : Targets → Bool
 crowded_gones (Only t) = crowded_gone t
 crowded_gones (Then t ts) = crowded_gone t || crowded_gones ts
@@ -29,6 +30,7 @@ crowded_gones (Then t ts) = crowded_gone t || crowded_gones ts
 abbrev pub passes_entries : ℕ → Bool
 passes_entries count = nat_lt 127 count
 
+-- defaults: their tuple has more items than its instruction can name
 abbrev pub crowded_defaults : Exprs → Bool
 crowded_defaults NoExpr = false
 crowded_defaults (More e es) = crowded_all (More e es) || passes_items (count (More e es))

@@ -46,11 +46,13 @@ pub record EmitsM (a b : Draft) (s : Scope) (line : ℕ) (alias : Alias) : Type 
 pub record EmitsN (a b : Draft) (s : Scope) (line : ℕ) (aliases : List Alias) : Type 0 where
   pub by : Emits (length a.labels.items) a b s false false (λ c labels p q. StandsN c line p aliases q)
 
+-- names that are taken from the module on top
 pub record EmitsF (a b : Draft) (s : Scope) (line : ℕ) (aliases : List Alias) : Type 0 where
   pub by : Emits (length a.labels.items) a b s false false (λ c labels p q. StandsF c line p aliases q)
 
 -- ---- statements
 
+-- a statement that has no statements in it
 pub record EmitsS (a b : Draft) (s : Scope) (around : Loop) (line : ℕ) (stmt : Stmt) : Type 0 where
   pub by : Emits (length a.labels.items) a b s false (crowded_simple a.level around.entries stmt) (λ c labels p q. StandsS c (around_of labels around) line p stmt q)
 

@@ -22,5 +22,6 @@ is_simple_layer (StmtKind-F.Try inner handlers rest last) = false
 is_simple_layer (StmtKind-F.Def name params inner) = false
 is_simple_layer _ = true
 
+-- has the statement no statements in it?
 abbrev pub is_simple : StmtKind → Bool
 is_simple kind = is_simple_layer (out-StmtKind kind)

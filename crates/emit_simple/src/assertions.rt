@@ -1,4 +1,4 @@
-//! Assertions.
+//! Assertions, which have no code from level 1 of optimization on.
 
 ghost use Rattle.std.specs.Prelude.{OnOk};
 ghost use Rattle.py_meaning.specs.Tree.{Assert, AssertWith};
@@ -36,7 +36,7 @@ fn emit_assert(
     Ok(())
 }
 
-/// An assertion with a message.
+/// `assert test, message`, which has no code from level 1 on.
 fn emit_assert_with(
     alloc: Global,
     draft: &mut Draft,
@@ -61,7 +61,7 @@ fn emit_assert_with(
     Ok(())
 }
 
-/// An assertion.
+/// An assertion, with a message or without.
 pub(crate) fn emit_assertion(
     alloc: Global,
     draft: &mut Draft,

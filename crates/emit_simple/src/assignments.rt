@@ -1,4 +1,4 @@
-//! Assignments.
+//! Assignments to one or more targets, and those with an operator.
 
 ghost use Rattle.std.specs.Prelude.{map, OnOk};
 ghost use Rattle.bc_ops.specs.declared.instr.Instr.TheVariants as instrs;
@@ -49,6 +49,7 @@ fn put_in_place(draft: &mut Draft, line: u32, op: BinaryOp) -> Result<(), NoMemo
     draft.put(line, DraftItem::Plain(Instr::Binary(arithmetic_number(op))))
 }
 
+/// `name op= value`.
 fn emit_augmented_name(
     alloc: Global,
     draft: &mut Draft,
@@ -67,6 +68,7 @@ fn emit_augmented_name(
     Ok(())
 }
 
+/// `object.name op= value`.
 fn emit_augmented_attr(
     alloc: Global,
     draft: &mut Draft,
@@ -89,6 +91,7 @@ fn emit_augmented_attr(
     Ok(())
 }
 
+/// `object[index] op= value`.
 fn emit_augmented_index(
     alloc: Global,
     draft: &mut Draft,

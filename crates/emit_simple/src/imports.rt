@@ -1,4 +1,4 @@
-//! Imports.
+//! Imports of modules and of their names, each with a store.
 
 ghost use Rattle.std.specs.Prelude.{◌≡◌, ◌==◌, map, OnOk, IfOk};
 ghost use Rattle.std.specs.List.{slice_split};
@@ -58,7 +58,7 @@ fn emit_alias(
     }
 }
 
-/// An `import`.
+/// `import` of these names.
 pub(crate) fn emit_import(
     alloc: Global,
     draft: &mut Draft,
@@ -74,7 +74,7 @@ pub(crate) fn emit_import(
     Ok(())
 }
 
-/// The names as texts.
+/// The names that `from` imports, each as a text that is loaded.
 fn put_texts(alloc: Global, draft: &mut Draft, line: u32, names: &[Alias]) -> Result<(), NoMemory>
     ensures { OnOk result ((s : Names) → EmitsN draft.old draft.new s line names.now) }
 {
@@ -111,7 +111,7 @@ fn bound_name(alias: &Alias) -> &[u8]
     }
 }
 
-/// A `from`.
+/// `from path import names`.
 pub(crate) fn emit_from(
     alloc: Global,
     draft: &mut Draft,

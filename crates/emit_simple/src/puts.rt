@@ -1,4 +1,4 @@
-//! Single instructions.
+//! Single instructions that statements put, and the loads, stores and deletions of names.
 
 ghost use Rattle.std.specs.Prelude.{OnOk};
 ghost use Rattle.bc_ops.specs.declared.instr.Instr.TheVariants as instrs;

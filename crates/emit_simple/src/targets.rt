@@ -1,4 +1,4 @@
-//! Stores and deletions.
+//! Stores of the topmost value into targets, and deletions.
 
 ghost use Rattle.std.specs.Prelude.{[], map, OnOk};
 ghost use Rattle.py_meaning.specs.Tree.{ToName, ToEach, Pass, Delete};

@@ -9,6 +9,7 @@ pub record Made : Type 0 where
   pub name : Name
   pub given : ℕ
 
+-- the number of a function in its source
 abbrev pub number_of : Made → ℕ
 number_of m = m.number
 

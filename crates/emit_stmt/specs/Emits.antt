@@ -54,6 +54,7 @@ abbrev pub crowded_matched : (level entries : ℕ) → Option Name → Block →
 crowded_matched level entries None b = crowded_block level entries b
 crowded_matched level entries (Some name) b = passes_entries (suc entries) || crowded_block level (suc entries) b
 
+-- the code of such a body, with its functions' numbers from `child` up to `after`
 pub record EmitsMatched (a b : Draft) (s : Scope) (around : Loop) (line child after : ℕ) (name : Option Name) (body : Part Block) : Type 0 where
   pub few : after ≤ child + body.defs
   pub is : (n : ℕ) → after ≡ child + length (made (body.make n))

@@ -29,6 +29,7 @@ pub record PutsBehind (a b : Draft) (item : DraftItem) : Type 0 where
   pub level : b.level ≡ a.level
   pub crowded : b.crowded ≡ a.crowded
 
+-- the loop around with one entry more
 abbrev pub deeper_loop : Loop → Loop
 deeper_loop l = record l { entries = suc l.entries }
 
@@ -68,8 +69,10 @@ pub data StandsLast (c : Context) (a : Around) (p : ℕ) (last : Block) : (q : �
 
 -- ---- whatever the finished code is, this stands in it
 
+-- the test of an except clause, which jumps to the label `other` where it fails
 pub record EmitsMatch (a b : Draft) (s : Scope) (line : ℕ) (test : Expr) (other : ℕ) : Type 0 where
   pub by : Emits (length a.labels.items) a b s false (crowded test) (λ c labels p q. IsMatch c line p test (label_at labels other) q)
 
+-- the end of the name of an except clause
 pub record EmitsGone (a b : Draft) (s : Scope) (name : Name) : Type 0 where
   pub by : Emits (length a.labels.items) a b s false false (λ c labels p q. IsGone c p name q)

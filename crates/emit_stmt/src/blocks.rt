@@ -38,6 +38,7 @@ pub fn emit_block(
     Ok(at)
 }
 
+/// The code of one statement, in the loop around.
 #[cycle(blocks)]
 fn emit_stmt(
     alloc: Global,
@@ -187,6 +188,7 @@ fn emit_case(
     Ok(after)
 }
 
+/// A `while` loop, with its `else`.
 #[cycle(blocks)]
 fn emit_while(
     alloc: Global,
@@ -222,6 +224,7 @@ fn emit_while(
     Ok(after)
 }
 
+/// A `for` loop, with its `else`.
 #[cycle(blocks)]
 fn emit_for(
     alloc: Global,

@@ -17,6 +17,7 @@ use std::alloc::Global;
 /// The entries that a jump out of a loop can name.
 const MAX_NAMED: usize = 127;
 
+/// The line of the last instruction, or 1 where there is none.
 fn line_behind(lines: &[DraftLine]) -> u32
     ensures { result ≡ last_line 1 lines.now }
 {

@@ -23,7 +23,7 @@ pub fn within_law()
     limits_law();
 }
 
-/// Such a source has one module at most, which resolves to a verified tree.
+/// A source that translations ask for has one module at most, which resolves to a verified tree.
 pub fn module_law()
     ensures one { (file : Name) (level : ℕ) (tree : Module) (m n : ModuleCode) → IsAccepted level tree
         → IsTranslated (source_of file level tree) m → IsTranslated (source_of file level tree) n → m ≡ n }

@@ -17,7 +17,7 @@ use Rattle.command_files.specs.Opened.{IsUnverifiedFile}
 abbrev pub count_of : Module → ℕ
 count_of m = min (codes_in MAX_DEPTH m.code) (2 ^ 64 - 1)
 
--- the bytes are a file of a verified module with so many codes
+-- the bytes are a file of a verified module with `count` codes
 pub record IsVerifiedFile (bytes : List ℕ) (count : ℕ) : Type 0 where
   pub read : Module
   pub file : IsFile bytes read
@@ -32,10 +32,11 @@ Judges bytes (Err (Unverified fault)) = IsUnverifiedFile bytes fault
 Judges bytes (Err NoMemory) = Unit {0}
 Judges bytes (Err _) = ⊥
 
+-- the line of a verified file
 abbrev pub verified_line : ℕ → List ℕ
 verified_line count = codes "verified " ++ decimal count ++ codes "\n"
 
--- the file under the name is one of a verified module with so many codes
+-- the file under the name is one of a verified module with `count` codes
 pub record HoldsVerified (files : Option FileOf) (name : List ℕ) (count : ℕ) : Type 0 where
   pub bytes : List ℕ
   pub holds : MayHold files name (Some bytes)

@@ -1,4 +1,4 @@
-//! The command `check`.
+//! The command `check`: a file is read and verified, and a line with the number of its codes is put.
 
 ghost use Rattle.std.specs.Prelude.{◌≡◌};
 ghost use Rattle.mpy_io.specs.Count.{Counts};

@@ -1,4 +1,4 @@
-//! The command `cross`.
+//! The command `cross`: a source is compiled, and its file is written.
 
 ghost use Rattle.std.specs.Prelude.{◌≡◌, ◌≤◌, ℕ, List, Option, Some, false};
 ghost use Rattle.mpy_io.specs.Files.{FileOf};

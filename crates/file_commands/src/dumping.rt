@@ -1,4 +1,4 @@
-//! The command `dump`.
+//! The command `dump`: a file is read, and the listing of its module is put.
 
 ghost use Rattle.std.specs.Prelude.{◌≡◌};
 ghost use Rattle.mpy_io.specs.Count.{Counts};

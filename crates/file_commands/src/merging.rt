@@ -1,4 +1,4 @@
-//! The command `merge`.
+//! The command `merge`: files are read and verified one after another, and their merged file is written.
 
 ghost use Rattle.std.specs.Prelude.{◌≡◌, map, string_bytes, false, IfOk, IfErr};
 ghost use Rattle.mpy_io.specs.Count.{Counts};

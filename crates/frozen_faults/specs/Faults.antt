@@ -32,10 +32,12 @@ is_read_fault (Absent name) = false
 is_read_fault (Unaccepted name fault) = false
 is_read_fault (Unread name) = true
 
+-- is it the fault of a read that failed outside?
 abbrev pub is_read_failure : FrozenFault → Bool
 is_read_failure (Sources fault) = is_read_fault fault
 is_read_failure (Image fault) = false
 
+-- is a call's answer a fault of that kind?
 abbrev pub failed_by : {A F : Type 0} → (F → Bool) → Result A (Refused F) → Bool
 failed_by failed (Ok x) = false
 failed_by failed (Err (refused.Fault fault)) = failed fault

@@ -26,6 +26,7 @@ pub record RefusesImage (files : Option FileOf) (manifest : List ℕ) (fault : I
   pub sources : HoldsSources files manifest modules
   pub fault_is : FreezeFault first_front nothing_below (entries_of modules) fault
 
+-- the manifest's sources have no image, for that fault
 abbrev pub RefusesFrozen : Option FileOf → (manifest : List ℕ) → FrozenFault → Type 0
 RefusesFrozen files manifest (Sources fault) = RefusesSources files manifest fault
 RefusesFrozen files manifest (Image fault) = RefusesImage files manifest fault

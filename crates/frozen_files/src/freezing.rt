@@ -1,4 +1,4 @@
-//! Freezing.
+//! Freezing: the sources that a manifest names are compiled one after another, and their modules become an image.
 
 ghost use Rattle.std.specs.Prelude.{◌≡◌};
 ghost use Rattle.mpy_io.specs.Count.{Counts};

@@ -1,4 +1,4 @@
-//! The command `freeze`.
+//! The command `freeze`: the image of a manifest's sources is made, and written as a file.
 
 ghost use Rattle.std.specs.Prelude.{◌≡◌, false};
 ghost use Rattle.mpy_io.specs.Count.{Counts};

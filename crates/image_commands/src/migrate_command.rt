@@ -1,4 +1,4 @@
-//! The command `migrate`.
+//! The command `migrate`: an image is read, and written once more in version 2.
 
 ghost use Rattle.std.specs.Prelude.{◌≡◌, false};
 ghost use Rattle.mpy_io.specs.Count.{Counts};

@@ -21,7 +21,7 @@ pub fn cut_image()
         → 4 ≤ length front → FirstFault below front Truncated }
 {}
 
-/// Such an image with bytes behind it is none either: it has too many bytes, or some that are no part of it.
+/// An image of version 1 or 2 of verified modules with bytes behind it is none: it has too many bytes, or some that are no part of it.
 pub fn image_with_suffix()
     ensures trailing { (below : Base) (entries : List Entry) (bytes suffix : List ℕ) → IsSound below → IsImage below entries bytes
         → All (λ entry. IsVerified entry.held) entries → suffix ≢ [] → length (bytes ++ suffix) ≤ MAX_IMAGE_BYTES

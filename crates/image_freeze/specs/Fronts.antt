@@ -3,6 +3,7 @@ use Rattle.std.specs.Prelude.{◌≡◌, ◌⊎◌, ℕ, List, [], ◌==◌, if�
 use Rattle.image_grammar.specs.Opening.{Base}
 use Rattle.image_freeze.specs.Frozen.{first_front, second_front}
 
+-- the front of an image of that version
 abbrev pub front_of : ℕ → Base → List ℕ
 front_of version below = if version == 1 then first_front else second_front below
 

@@ -20,13 +20,16 @@ use Rattle.image_freeze.specs.declared.named.Named.{Named}
 -- a module as an image holds it: a text that every file may name has its number, and small integers have 31 bits
 -- ================================================================================================================
 
+-- an entry of a module's table as an image has it: a static text is named by its number
 abbrev pub frozen_qstr : Qstr → Qstr
 frozen_qstr (Static number) = Static number
 frozen_qstr (Own text) = qstr_of text
 
+-- a module as an image has it
 abbrev pub frozen : Module → Module
 frozen m = record { bits = 31; qstrs = map frozen_qstr m.qstrs; objects = m.objects; code = m.code }
 
+-- the modules of an image with their names
 abbrev pub entries_of : List Named → List Entry
 entries_of modules = map (λ (m : Named). entry_of m.name (frozen m.held)) modules
 
@@ -37,10 +40,12 @@ entries_of modules = map (λ (m : Named). entry_of m.name (frozen m.held)) modul
 abbrev pub text_number : Texts → List ℕ → ℕ
 text_number pool text = unwrap_or (number_in pool text) 0
 
+-- the number of an entry's text in the pool
 abbrev pub qstr_number : Texts → Qstr → ℕ
 qstr_number pool (Static number) = number
 qstr_number pool (Own text) = text_number pool text
 
+-- that number as an image has it
 abbrev pub number_bytes : Texts → Qstr → List ℕ
 number_bytes pool qstr = vuint (qstr_number pool qstr)
 
@@ -70,10 +75,11 @@ parts_of pool own entries =
 abbrev pub first_front : List ℕ
 first_front = 0x4d ∷ 0x49 ∷ 1 ∷ 0x1f ∷ []
 
--- that of version 2, and the numbers of texts and modules below
+-- the header of version 2, and the numbers of texts and modules below
 abbrev pub second_front : Base → List ℕ
 second_front below = 0x4d ∷ 0x49 ∷ 2 ∷ 0x1f ∷ (vuint (length below.texts) ++ vuint (length below.names))
 
+-- the image of modules, behind this front
 abbrev pub image_bytes : List ℕ → Base → List Entry → List ℕ
 image_bytes front below entries =
     front ++ parts_of (pool_of below entries) (drop (length below.texts) (pool_of below entries).texts) entries

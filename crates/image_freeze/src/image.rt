@@ -1,4 +1,4 @@
-//! Images.
+//! Images of modules, made over nothing or over a library.
 
 ghost use Rattle.std.specs.Prelude.{◌≡◌, ◌⊎◌, ◌+◌, ◌<◌, ◌≤◌, ◌^◌, ◌++◌, [], length, drop, map, All, IfOk, OnOk, Err};
 ghost use Rattle.mpy_base.specs.declared.limits.TheConstants.{MAX_IMAGE_BYTES, MAX_MODULES, MAX_TABLE};

@@ -1,4 +1,4 @@
-//! Modules in images.
+//! What holds of modules in images: they are verified as the modules are, and have one fault at most.
 
 ghost use Rattle.std.specs.Prelude.{◌≡◌, ℕ, List};
 ghost use Rattle.bc_verify.specs.Verified.{IsVerified};

@@ -33,7 +33,7 @@ fn is_short(object: &Constant, levels: usize) -> bool
     }
 }
 
-/// The same of each of the objects.
+/// Tells whether no text in one of the objects is longer than an image may be.
 fn are_short(objects: &[Constant]) -> bool
     requires { All (λ object. (text : List ℕ) × IsObject MAX_DEPTH text object) objects.now }
     ensures fine { IsTrue result → All (IsFine MAX_DEPTH) objects.now }
@@ -47,7 +47,7 @@ fn are_short(objects: &[Constant]) -> bool
     true
 }
 
-/// The same of each of the modules' objects.
+/// Tells whether no text in one of the modules' objects is longer than an image may be.
 pub(crate) fn objects_are_short(modules: &[Named]) -> bool
     requires { All (λ m. IsModule m.held) modules.now }
     ensures fine { IsTrue result → All (λ m. All (IsFine MAX_DEPTH) m.held.objects) modules.now }

@@ -3,6 +3,7 @@ use Rattle.std.specs.Prelude.{ℕ, List, codes, Option, Some, None}
 use Rattle.image_grammar.specs.declared.fault.ImageFault.{ImageFault}
 use Rattle.image_grammar.specs.declared.fault.ImageFault.TheVariants.{BadHeader, Truncated, BadNumber, BadModule, Twice, Trailing, TooBig, BadBase}
 
+-- the number of the fault, which the line tells
 abbrev pub number_of : ImageFault → ℕ
 number_of BadHeader = 1
 number_of Truncated = 2
@@ -13,6 +14,7 @@ number_of Trailing = 6
 number_of TooBig = 7
 number_of BadBase = 8
 
+-- the name of the fault, which the line tells
 abbrev pub name_of : ImageFault → List ℕ
 name_of BadHeader = codes "BadHeader"
 name_of Truncated = codes "Truncated"

@@ -52,7 +52,7 @@ IsFront below front =
     ⊎ ((texts names : List ℕ) × (front ≡ 0x4d ∷ 0x49 ∷ 2 ∷ 0x1f ∷ (texts ++ names))
     × Spells texts (length below.texts) × Spells names (length below.names))
 
--- no two are one
+-- no two of the names are equal, those before among them
 abbrev pub Differ : List (List ℕ) → List (List ℕ) → Type 0
 Differ before [] = Unit {0}
 Differ before (name ∷ names) = (Contains before name → ⊥) × Differ (before ++ name ∷ []) names

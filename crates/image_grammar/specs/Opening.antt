@@ -30,12 +30,14 @@ pub record Base : Type 0 where
   pub texts : List (List ℕ)
   pub names : List (List ℕ)
 
+-- no base
 abbrev pub nothing_below : Base
 nothing_below = record { texts = []; names = [] }
 
 -- numbers
 -- =======
 
+-- a number in the form of a file's: Truncated where the bytes end inside it, TooBig where it passes the form
 abbrev pub number : List ℕ → Field ℕ
 number bytes (Ok found) = (text : List ℕ) × Spells text found.0 × (bytes ≡ text ++ found.1)
 number bytes (Err Truncated) = EndsInside bytes
@@ -67,6 +69,7 @@ pub record IsNew (pool : Texts) (text : List ℕ) : Type 0 where
   pub own : static_number_of text ≡ None
   pub absent : number_of pool text ≡ None
 
+-- the pool with a text more
 abbrev pub with_last : Texts → List ℕ → Texts
 with_last pool text = record { first = pool.first; texts = pool.texts ++ text ∷ [] }
 
@@ -79,6 +82,7 @@ own_text pool bytes = do
   judge (IsNew pool own) BadNumber
   pure (with_last pool own, whole.1)
 
+-- the pool of the texts below alone
 abbrev pub pool_below : Base → Texts
 pool_below below = record { first = FIRST_OWN; texts = below.texts }
 
@@ -96,10 +100,11 @@ pub record IsUse (pool : Texts) (used n : ℕ) (text : List ℕ) : Type 0 where
   pub text_is : text_numbered pool n ≡ Some text
   pub in_turn : n ≤ FIRST_OWN + used
 
--- so many are used behind the number
+-- how many texts of the pool are used once the number `n` is used too, where `used` were before
 abbrev pub used_with : ℕ → ℕ → ℕ
 used_with used n = max used (n + 1 - FIRST_OWN)
 
+-- the text of the number, and how many texts are used then
 unfoldable pub use_of : Texts → ℕ → ℕ → Reading (List ℕ × ℕ)
 use_of pool used n = do
   text ← sought (IsUse pool used n) BadNumber
@@ -112,6 +117,7 @@ use_at pool used (Some n) = do
   found ← use_of pool used n
   pure found.1
 
+-- the number of a text: the static one, else that in the pool
 abbrev pub number_in : Texts → List ℕ → Option ℕ
 number_in pool text = option_or (static_number_of text) (number_of pool text)
 
@@ -123,6 +129,7 @@ use_part pool used (Some part) = use_at pool used (number_in pool part)
 -- modules
 -- =======
 
+-- the names of modules
 abbrev pub names_of : List Entry → List (List ℕ)
 names_of entries = map (λ entry. entry.name) entries
 
@@ -135,15 +142,18 @@ name below pool opened bytes = do
   used ← use_part pool found.1 (last_part found.0)
   pure ((found.0, used), n.1)
 
+-- the entry of the text that has the number in the pool
 abbrev pub qstr_of : ℕ → List ℕ → Qstr
 qstr_of n text = if nat_lt n FIRST_OWN then qstrs.Static n else qstrs.Own text
 
+-- a further entry of a module's table
 unfoldable pub qstr : Texts → Table → List ℕ → Field Table
 qstr pool table bytes = do
   n ← number bytes
   found ← use_of pool table.used n.0
   pure (record { qstrs = table.qstrs ++ qstr_of n.0 found.0 ∷ []; used = found.1 }, n.1)
 
+-- the table of a module's texts
 unfoldable pub qstr_table : Texts → ℕ → List ℕ → Field Table
 qstr_table pool used bytes = do
   n ← count MAX_TABLE bytes
@@ -163,9 +173,11 @@ body index texts bytes (Err Trailing) = ⊥
 body index texts bytes (Err TooBig) = ⊥
 body index texts bytes (Err BadBase) = ⊥
 
+-- the module of a table, objects and a code
 abbrev pub module_of : List Qstr → List Constant × RawCode → Module
 module_of table parts = record { bits = 31; qstrs = table; objects = parts.0; code = parts.1 }
 
+-- a module with its name
 abbrev pub entry_of : List ℕ → Module → Entry
 entry_of name m = record { name = name; held = m }
 
@@ -176,6 +188,7 @@ raw pool index used bytes = do
   parts ← body index (length texts.0.qstrs) texts.1
   pure ((module_of texts.0.qstrs parts.0, texts.0.used), parts.1)
 
+-- the module at the place `index` behind its name, which must be verified, and how many texts are used then
 unfoldable pub held : Texts → ℕ → ℕ → List ℕ → Field (Module × ℕ)
 held pool index used bytes = do
   whole ← raw pool index used bytes
@@ -189,9 +202,11 @@ entry below pool opened bytes = do
   whole ← held pool (length opened.entries) title.0.1 title.1
   pure (record { entries = opened.entries ++ entry_of title.0.0 whole.0.0 ∷ []; used = whole.0.1 }, whole.1)
 
+-- no module yet; all texts below are used
 abbrev pub none_opened : Base → Opened
 none_opened below = record { entries = []; used = length below.texts }
 
+-- the modules of the image, one after another
 unfoldable pub modules : Base → Texts → List ℕ → Field Opened
 modules below pool bytes = do
   n ← count (MAX_MODULES - length below.names) bytes
@@ -206,6 +221,7 @@ pub record IsHeader (bytes : List ℕ) (version : ℕ) (rest : List ℕ) : Type 
   pub from_one : 1 ≤ version
   pub known : version ≤ 2
 
+-- the header, and the version that it tells
 abbrev pub header : List ℕ → Field ℕ
 header bytes = sought (λ found. IsHeader bytes found.0 found.1) BadHeader
 
@@ -217,6 +233,7 @@ counts_below below bytes = do
   judge ((texts.0 ≡ length below.texts) × (names.0 ≡ length below.names)) BadBase
   pure names.1
 
+-- nothing lies below
 unfoldable pub nothing_is_below : Base → List ℕ → Reading (List ℕ)
 nothing_is_below below bytes = do
   judge ((below.texts ≡ []) × (below.names ≡ [])) BadBase
@@ -235,6 +252,7 @@ parts below bytes = do
   judge (opened.1 ≡ []) Trailing
   pure opened.0.entries
 
+-- a whole image over what lies below
 unfoldable pub image : Base → List ℕ → Reading (List Entry)
 image below bytes = do
   judge (length bytes ≤ MAX_IMAGE_BYTES) TooBig

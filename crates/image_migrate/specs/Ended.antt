@@ -16,10 +16,12 @@ ReadFails bytes (refusals.Fault (Opening fault)) = image nothing_below bytes (Er
 ReadFails bytes (refusals.Fault (Freezing fault)) = ⊥
 ReadFails bytes refusals.NoMemory = Unit {0}
 
+-- what reading an image over nothing answers
 abbrev pub HasRead : List ℕ → Result (List Entry) (Refused MigrateFault) → Type 0
 HasRead bytes (Ok entries) = image nothing_below bytes (Ok entries)
 HasRead bytes (Err refusal) = ReadFails bytes refusal
 
+-- the modules have no image of version 2, for that fault
 abbrev pub IsFreezeFault : List Entry → ImageFault → Type 0
 IsFreezeFault entries fault = FreezeFault (second_front nothing_below) nothing_below entries fault
 
@@ -35,6 +37,7 @@ WriteFails entries (refusals.Fault (Opening fault)) = ⊥
 WriteFails entries (refusals.Fault (Freezing fault)) = IsFreezeFault entries fault
 WriteFails entries refusals.NoMemory = Unit {0}
 
+-- what writing the image of version 2 answers
 abbrev pub HasWritten : {A : Type 0} → List Entry → (A → List ℕ) → Result A (Refused MigrateFault) → Type 0
 HasWritten entries bytes_of (Ok x) = IsSecond entries (bytes_of x)
 HasWritten entries bytes_of (Err refusal) = WriteFails entries refusal

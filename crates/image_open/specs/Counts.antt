@@ -2,6 +2,6 @@
 use Rattle.std.specs.Prelude.{◌≡◌, ℕ, length}
 use Rattle.image_grammar.specs.Opening.{Base}
 
--- so many texts and modules lie below
+-- `texts` texts and `names` modules lie below
 abbrev pub AreCounts : Base → ℕ → ℕ → Type 0
 AreCounts below texts names = (texts ≡ length below.texts) × (names ≡ length below.names)

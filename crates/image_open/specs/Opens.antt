@@ -10,6 +10,7 @@ use Rattle.image_grammar.specs.declared.fault.ImageFault.{ImageFault}
 use Rattle.image_grammar.specs.Image.{IsImage, texts_used}
 use Rattle.image_grammar.specs.Opening.{nothing_below, image}
 
+-- a module of an image with its name
 abbrev pub named : Entry → Named
 named entry = record { name = entry.name; held = entry.held }
 

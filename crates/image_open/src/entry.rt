@@ -121,7 +121,7 @@ fn raw<'a>(
     Ok(((RawModule::new(31, qstrs, objects, code), used), rest))
 }
 
-/// The same where the module is verified.
+/// The verified module at the place behind its name, and how many texts are used behind it.
 #[tactic(auto, unfolding(image_grammar::specs::Opening::held))]
 fn held<'a>(
     alloc: Global,

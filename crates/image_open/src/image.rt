@@ -1,4 +1,4 @@
-//! Images.
+//! The modules of an image over a library, read from its first byte on and verified one after another.
 
 ghost use Rattle.std.specs.Prelude.{◌≡◌, ◌↔◌, ◌⊎◌, ◌≤◌, [], length, Err, IfOk, IsTrue};
 ghost use Rattle.mpy_base.specs.declared.limits.TheConstants.{MAX_IMAGE_BYTES};
@@ -59,7 +59,7 @@ fn counts_below<'a>(
     Ok(rest)
 }
 
-/// The same bytes, where the library has no texts and no modules.
+/// These bytes, where the library has no texts and no modules.
 #[tactic(auto, unfolding(image_grammar::specs::Opening::nothing_is_below))]
 fn nothing_is_below<'a>(
     below: &Library,

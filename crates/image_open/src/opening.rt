@@ -1,4 +1,4 @@
-//! An image opened.
+//! Images over nothing, opened as libraries of their modules.
 
 ghost use Rattle.std.specs.Prelude.{◌≡◌, ◌⊎◌, IfOk, Ok, Err};
 ghost use Rattle.bc_library.specs.Shelf.{Shelf};

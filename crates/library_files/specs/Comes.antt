@@ -56,6 +56,7 @@ BytesComeTo bytes (Ok entries.Refused) = (m : Module) → IsVerifiedFile bytes m
 BytesComeTo bytes (Ok entries.Absent) = ⊥
 BytesComeTo bytes (Err fault) = ⊥
 
+-- a path comes to what the file's bytes come to
 abbrev pub ModuleFiles : OfFiles
 ModuleFiles path bytes answer = BytesComeTo bytes answer
 

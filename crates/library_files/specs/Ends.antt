@@ -21,7 +21,7 @@ EndsIn Ends (Err (Fault (faults.Failed failed))) = ⊤
 EndsIn Ends (Err (Fault (faults.Unaccepted source))) = Ends (Unaccepted source)
 EndsIn Ends (Err NoMemory) = ⊤
 
--- a read failed outside
+-- did a read fail outside?
 abbrev pub is_failed : {A : Type 0} → Result A (Refused LoadFault) → Bool
 is_failed (Ok done) = false
 is_failed (Err (Fault (faults.Past limit))) = false
@@ -39,7 +39,7 @@ FailsAmong suffix Comes base (Err (Fault (faults.Unaccepted source))) =
     (name : List ℕ) × IsPlain name × Contains (candidates base name suffix) source.path × (bytes : List ℕ) × Comes source.path bytes (Err source.fault)
 FailsAmong suffix Comes base (Err NoMemory) = ⊤
 
--- the same of files of modules, all of which are accepted
+-- the file of a module whose read failed is one that a plain name may have in the base folder; none is unaccepted
 abbrev pub FailsInBase : {A : Type 0} → (base : List ℕ) → Result A (Refused LoadFault) → Type 0
 FailsInBase base result = FailsAmong ending ModuleFiles base result
 

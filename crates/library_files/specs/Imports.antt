@@ -10,11 +10,11 @@ abbrev pub import_of : Resolved → Option (List ℕ)
 import_of (named ops.ImportName name) = Some name
 import_of instruction = None
 
--- those of a code's own instructions, in their order
+-- the names that a code's own instructions import, in their order
 abbrev pub own_imports : Body → List (List ℕ)
 own_imports body = filter_map import_of (instrs_of body)
 
--- those of a code and of the codes in it, in preorder
+-- the names that a code and the codes in it import, in preorder
 abbrev mutual
   pub imports_of : Tree → List (List ℕ)
   imports_of (node body children) = own_imports body ++ imports_of_all children
@@ -23,7 +23,7 @@ abbrev mutual
   imports_of_all no_more = []
   imports_of_all (more tree trees) = imports_of tree ++ imports_of_all trees
 
--- those of a module's tree
+-- the names that a module's tree imports
 pub record Imports (m : Module) (names : List (List ℕ)) : Type 0 where
   pub tree : ResolvedModule
   pub resolves : Resolves m tree

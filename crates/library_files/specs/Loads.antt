@@ -23,6 +23,7 @@ pub data Loading : Type 0 where
 -- an entry of a library
 -- =====================
 
+-- is there a place for one more module or refused name?
 abbrev pub has_place : Shelf → Bool
 has_place shelf = nat_lt (length shelf.modules + length shelf.refused) MAX_MODULES
 
@@ -32,6 +33,7 @@ with_entry shelf name entries.Absent = shelf
 with_entry shelf name entries.Refused = with_refused shelf name
 with_entry shelf name (entries.Held m size) = with_module shelf name m
 
+-- how many bytes the modules' files have with an entry more
 abbrev pub size_with : ℕ → Entry → ℕ
 size_with size entries.Absent = size
 size_with size entries.Refused = size
@@ -58,8 +60,8 @@ EntryImports (entries.Held m size) names = Imports m names
 -- loading
 -- =======
 
--- Where names come to these: from a library whose modules' files have that many bytes, with the names that are asked for together
--- by one import, the imports of the modules that were found under these, and the imports behind them.
+-- Where names come to these: from a library whose modules' files have `size` bytes in all, with the names that are asked for
+-- together by one import, the imports of the modules that were found under these, and the imports behind them.
 pub data Loads (Comes : OfNames) : (shelf : Shelf) → (size : ℕ) → (together found behind : List (List ℕ)) → Loading → Type 0 where
   -- no name is left
   ends : (shelf : Shelf) (size : ℕ) → Loads Comes shelf size [] [] [] (Loaded shelf)
@@ -73,18 +75,18 @@ pub data Loads (Comes : OfNames) : (shelf : Shelf) → (size : ℕ) → (togethe
       → IsSome (member_of shelf name)
       → Loads Comes shelf size together found behind end
       → Loads Comes shelf size (name ∷ together) found behind end
-  -- its source isn't accepted
+  -- the source of the name isn't accepted
   unaccepted : (shelf : Shelf) (size : ℕ) (name : List ℕ) (together found behind : List (List ℕ)) (source : UnacceptedSource)
       → member_of shelf name ≡ None
       → Comes name (Err source)
       → Loads Comes shelf size (name ∷ together) found behind (Unaccepted source)
-  -- its file passes a limit
+  -- the file of the name passes a limit
   past : (shelf : Shelf) (size : ℕ) (name : List ℕ) (together found behind : List (List ℕ)) (entry : Entry) (limit : Limit)
       → member_of shelf name ≡ None
       → Comes name (Ok entry)
       → limit_of shelf size name entry ≡ Some limit
       → Loads Comes shelf size (name ∷ together) found behind (Past limit)
-  -- its file is taken, or absent
+  -- the file of the name is taken, or absent
   taken : (shelf : Shelf) (size : ℕ) (name : List ℕ) (together found behind : List (List ℕ)) (entry : Entry) (imports : List (List ℕ)) (end : Loading)
       → member_of shelf name ≡ None
       → Comes name (Ok entry)
@@ -97,15 +99,16 @@ pub data Loads (Comes : OfNames) : (shelf : Shelf) → (size : ℕ) → (togethe
 abbrev pub main_name : List ℕ
 main_name = codes "__main__"
 
+-- from a main module on: the limit that it passes by itself, or the end of loading
 abbrev pub LoadsBy : Option Limit → OfNames → (main : Module) → (size : ℕ) → Loading → Type 0
 LoadsBy (Some limit) Comes main size end = end ≡ Past limit
 LoadsBy None Comes main size end =
     (imports : List (List ℕ)) × Imports main imports × Loads Comes (with_module no_entries main_name main) size [] imports [] end
 
--- from a main module, whose file has that many bytes
+-- from a main module, whose file has `size` bytes
 abbrev pub LoadsWith : OfNames → (main : Module) → (size : ℕ) → Loading → Type 0
 LoadsWith Comes main size end = LoadsBy (limit_of no_entries 0 main_name (entries.Held main size)) Comes main size end
 
--- the same from the files of modules in a base folder
+-- from a main module, whose file has `size` bytes, and the files of modules in a base folder
 abbrev pub LoadsFrom : FileOf → (base : List ℕ) → (main : Module) → (size : ℕ) → Loading → Type 0
 LoadsFrom files base main size end = LoadsWith (ComesTo files base) main size end

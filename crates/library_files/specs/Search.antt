@@ -25,6 +25,7 @@ ReadComesTo Comes path bytes (Err NoMemory) = ⊤
 abbrev pub LongComesTo : OfFiles → (path : List ℕ) → Result Entry (Refused LoadFault) → Type 0
 LongComesTo Comes path result = (bytes : List ℕ) → MAX_READ_BYTES < length bytes → ReadComesTo Comes path bytes result
 
+-- what a search comes to that ended with a fault
 abbrev pub FaultComesTo : OfFiles → FindFault → Result Entry (Refused LoadFault) → Type 0
 FaultComesTo Comes (finds.TooLong path) result = LongComesTo Comes path result
 FaultComesTo Comes (finds.Failed path) result = result ≡ Err (Fault (Failed (record { path = path })))

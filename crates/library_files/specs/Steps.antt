@@ -61,6 +61,7 @@ pub record IsAsked (name : List ℕ) : Type 0 where
   pub plain : IsPlain name
   pub short : length name < 2 ^ 31
 
+-- each is a name that is asked for
 abbrev pub AreAsked : List (List ℕ) → Type 0
 AreAsked names = AllByRecursion IsAsked names
 
@@ -70,13 +71,13 @@ AsksAll Comes old new names before after result =
     (behind : List (List ℕ)) → GoesOn (Loads Comes old.library old.size names before behind)
     (λ done. Loads Comes new.library new.size [] after behind) result
 
--- the same where none was found before
+-- where names are asked for one after another, and none was found before
 abbrev pub AsksFound : OfNames → (old new : Begun) → (names : List (List ℕ)) → Result (Vec (List ℕ) Global) (Refused LoadFault) → Type 0
 AsksFound Comes old new names result =
     (behind : List (List ℕ)) → GoesOn (Loads Comes old.library old.size names [] behind)
     (λ found. Loads Comes new.library new.size [] found.items behind) result
 
--- and for all the imports that are left
+-- where all the imports that are left are asked for one after another
 abbrev pub LoadsLeft : OfNames → (old new : Begun) → (left : List (List ℕ)) → Result (Unit {0}) (Refused LoadFault) → Type 0
 LoadsLeft Comes old new left result =
     GoesOn (Loads Comes old.library old.size [] left []) (λ done end. end ≡ loads.Loaded new.library) result
@@ -84,6 +85,7 @@ LoadsLeft Comes old new left result =
 -- what a step keeps
 -- =================
 
+-- each is a module that a file may hold
 abbrev pub AreModules : List Named → Type 0
 AreModules modules = AllByRecursion (λ n. IsModule n.held) modules
 
@@ -93,9 +95,11 @@ pub record AddsModules (old new : Shelf) : Type 0 where
   pub modules_are : new.modules ≡ old.modules ++ more
   pub hold : AreModules more
 
+-- how many more modules or refused names there is a place for
 abbrev pub places_left : Shelf → ℕ
 places_left shelf = MAX_MODULES - (length shelf.modules + length shelf.refused)
 
+-- each name has fewer than 2^31 bytes
 abbrev pub AreShort : List (List ℕ) → Type 0
 AreShort names = AllByRecursion (λ name. length name < 2 ^ 31) names
 
@@ -118,6 +122,7 @@ pub record IsBegun (main : Module) (size : ℕ) (begun : Begun) (left : List (Li
   pub held : IsModule main
   pub short : AreShort left
 
+-- how loading begins, or the limit that the main module passes
 abbrev pub BeginsBy : Module → (size : ℕ) → Result (Begun × Vec (List ℕ) Global) (Refused LoadFault) → Type 0
 BeginsBy main size (Ok begun) = IsBegun main size begun.0 begun.1.items
 BeginsBy main size (Err (Fault (Past limit))) = limit_of no_entries 0 main_name (entries.Held main size) ≡ Some limit

@@ -16,6 +16,7 @@ fn is_word_byte(byte: u8) -> bool
     byte.is_ascii_alphanumeric() || byte == b'_'
 }
 
+/// Is each byte a letter, a digit or `_`?
 fn are_word_bytes(bytes: &[u8]) -> bool
     ensures { result ≡ list_all plain.is_word_byte bytes.now }
 {

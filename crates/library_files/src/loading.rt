@@ -46,7 +46,7 @@ fn limit_fault(refused: Refused<LibFault>) -> Refused<LoadFault>
     }
 }
 
-/// Adds a module whose file has that many bytes.
+/// Adds a module whose file has `bytes` bytes.
 fn add_module(
     alloc: Global,
     begun: &mut Begun,
@@ -369,7 +369,7 @@ fn load_all<R: Reader, F: Folder>(
     }
 }
 
-/// Loads the library of a main module, whose file has that many bytes, from the files of a folder as the reader reads them.
+/// Loads the library of a main module, whose file has `size` bytes, from the files of a folder as the reader reads them.
 /// The base folder stands in front of their names as it is: with its `/`, or empty. Each name that is asked for takes two
 /// reads at most.
 pub fn load_by<R: Reader, F: Folder>(
@@ -395,7 +395,7 @@ pub fn load_by<R: Reader, F: Folder>(
     }
 }
 
-/// The same from the files of modules.
+/// Loads the library of a main module, whose file has `size` bytes, from the files of modules in a folder.
 pub fn load<F: Folder>(
     alloc: Global,
     folder: &mut F,

@@ -27,7 +27,7 @@ pub trait Reader {
     fn read(&self, alloc: Global, path: &[u8], bytes: &[u8]) -> Result<Entry, Refused<SourceFault>>
         ensures { Answers (comes self.now path.now bytes.now) result };
 
-    /// The same of a file that is longer than any that is read.
+    /// What a file comes to that is longer than any that is read, or the fault of a source that isn't accepted.
     fn read_long(&self, alloc: Global, path: &[u8]) -> Result<Entry, SourceFault>
         ensures { (bytes : List ℕ) → MAX_READ_BYTES < length bytes → comes self.now path.now bytes result };
 }

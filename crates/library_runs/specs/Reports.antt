@@ -18,7 +18,7 @@ answer_of (Some stops.Ended) = ends.Ended
 answer_of (Some (stops.Raised x)) = ends.Raised
 answer_of (Some (stops.Memory room)) = ends.Memory
 
--- and what it says over its arena
+-- what a run says at its end, over its arena
 abbrev pub said_by : Shelf → Vm → Option End → List ℕ
 said_by shelf vm None = []
 said_by shelf vm (Some stops.Ended) = []

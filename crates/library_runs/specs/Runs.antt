@@ -116,6 +116,7 @@ module _ (p : Program) (name : Name) (room : Room) (steps : ℕ) (ports : List P
     pub strays : Strays (λ (told : Option (List ℕ)). told) p vm (begins_in printed) steps old.ports new.ports
     pub rose : RoseBeyond strays.strays.failed.number old.ports new.ports
 
+  -- the run ended so, with what was said, between what was seen before and behind it
   abbrev pub EndsSo : (old new : Sight) → RunEnd → List ℕ → Type 0
   EndsSo old new ends.Ended said = Ran old new ends.Ended said
   EndsSo old new ends.Raised said = Ran old new ends.Raised said
@@ -132,7 +133,8 @@ pub record RunsAs (shelf : Shelf) (name : Name) (room : Room) (steps : ℕ) (old
   pub runs : (p : Program) → IsProgramOf shelf p → (ports : List PortState) (printed : List ℕ) → old.out ≡ Some printed → Tell old.ports ports
       → EndsSo p name room steps ports old new end said ⊎ Strayed p name room steps ports printed old new
 
--- the same of a run in which no port strayed
+-- how a run of the library's module of this name ended in which no port strayed, in this room and with this bound on its steps: so in each
+-- program of the library, of which there is one
 abbrev pub RunsSo : Shelf → Name → Room → (steps : ℕ) → (old new : Sight) → RunEnd → (said : List ℕ) → Type 0
 RunsSo shelf name room steps old new end said =
     (p : Program) → IsProgramOf shelf p → (ports : List PortState) (printed : List ℕ) → old.out ≡ Some printed → Tell old.ports ports

@@ -1,4 +1,4 @@
-//! How runs end.
+//! How runs of libraries end, as callers are told.
 
 /// How a run of a library ended.
 #[derive(Clone, Copy, Debug, PartialEq, Eq)]

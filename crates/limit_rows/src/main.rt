@@ -38,6 +38,7 @@ fn tried(alloc: Global, text: &str) -> Result<Count, AllocError> {
     Ok(Count { rows, wrong })
 }
 
+/// Tries the rows of the file `limits`, and tells which come to something else.
 fn main(rt: HostRuntime) -> io::Result<ExitCode> {
     let text = fs::read_to_string(&rt, "limits")?;
     let count = tried(rt.alloc(), &text)?;

@@ -1,4 +1,4 @@
-//! One row.
+//! One row: a source, how it is compiled, and what it comes to.
 
 use crate::source::{Source, counted, put_often};
 use mpy_base::Refused;
@@ -42,6 +42,7 @@ pub struct Row {
 }
 
 impl Row {
+    /// A row about a limit, as yet with an empty source, level 0 and no stored name.
     pub fn new(alloc: Global, about: &str) -> Result<Row, AllocError> {
         Ok(Row {
             about: String::from_str(alloc, about)?,
@@ -51,10 +52,12 @@ impl Row {
         })
     }
 
+    /// What the row is about, as its table says.
     pub fn about(&self) -> &str {
         &self.about
     }
 
+    /// What the row's source comes to: its file, or its fault.
     fn outcome(&self, alloc: Global) -> Outcome {
         let stored = self.stored.as_slice();
         let is_ascii = stored.iter().all(|byte| *byte < 128);

@@ -59,6 +59,7 @@ pub struct Source {
 }
 
 impl Source {
+    /// A source of no byte, in which a part that is said again would begin at the start.
     pub fn new(alloc: Global) -> Source {
         Source {
             bytes: Vec::new(alloc),
@@ -66,11 +67,12 @@ impl Source {
         }
     }
 
+    /// What was put together.
     pub fn bytes(&self) -> &[u8] {
         self.bytes.as_slice()
     }
 
-    /// The part behind the mark so often in all.
+    /// Has the part behind the mark `count` times in all, where it stood once.
     fn repeat(&mut self, alloc: Global, count: usize) -> Result<(), AllocError> {
         let mut part = Vec::new(alloc);
         if let Some(tail) = self.bytes.get(self.mark..) {

@@ -9,6 +9,7 @@ use Rattle.manifest_files.specs.declared.fault.ManifestFault.{ManifestFault}
 use Rattle.manifest_files.specs.declared.fault.ManifestFault.TheVariants.{BadCall, Loop, Twice, Absent, Required, Deep, TooMany, ReadFault}
 use Rattle.manifest_files.specs.Entries.{Said, Saying, Itself, Another, AreLines, entries_after}
 
+-- is it the fault of a read that failed outside?
 abbrev pub is_read_fault : ManifestFault → Bool
 is_read_fault (BadCall name line) = false
 is_read_fault (Loop name) = false
@@ -24,6 +25,7 @@ abbrev pub is_outside : Refused ManifestFault → Bool
 is_outside (refused.Fault fault) = is_read_fault fault
 is_outside refused.NoMemory = false
 
+-- whether a call's answer is that a read failed outside
 abbrev pub is_failed : {A : Type 0} → Result A (Refused ManifestFault) → Bool
 is_failed (Ok value) = false
 is_failed (Err error) = is_outside error
@@ -34,7 +36,7 @@ Leads before said (Ok done) after = entries_after before said ≡ Ok after
 Leads before said (Err (refused.Fault fault)) after = entries_after before said ≡ Err fault
 Leads before said (Err refused.NoMemory) after = Unit {0}
 
--- the same of what a line says by itself; a manifest that it includes is named
+-- the entries that were there became those behind what a line says by itself; a manifest that it includes is named
 abbrev pub Follows : List Entry → Saying → Result (Option (List ℕ)) (Refused ManifestFault) → List Entry → Type 0
 Follows before (Itself said) (Ok None) after = entries_after before said ≡ Ok after
 Follows before (Itself said) (Ok (Some inner)) after = ⊥

@@ -23,6 +23,7 @@ abbrev pub slash_end : (at found : ℕ) → List ℕ → ℕ
 slash_end at found [] = found
 slash_end at found (byte ∷ bytes) = slash_end (at + 1) (if byte == 47 then at + 1 else found) bytes
 
+-- how many bytes of a name are its folder's, with the last `/`
 abbrev pub folder_length : List ℕ → ℕ
 folder_length name = slash_end 0 0 name
 
@@ -44,6 +45,7 @@ AreLines bytes lines =
 
 -- ---- what a manifest says: entries and faults, in order
 
+-- one entry, or one fault
 abbrev pub Said : Type 0
 Said = Result Entry ManifestFault
 
@@ -52,6 +54,7 @@ pub data Saying : Type 0 where
   Itself : List Said → Saying
   Another : List ℕ → Saying
 
+-- a line says a fault
 abbrev pub faulty : ManifestFault → Saying
 faulty fault = Itself (Err fault ∷ [])
 
@@ -59,12 +62,15 @@ faulty fault = Itself (Err fault ∷ [])
 abbrev pub placed : List ℕ → Entry → Entry
 placed folder entry = record entry { path = folder ++ entry.path }
 
+-- the entry in a folder
 abbrev pub said_entry : List ℕ → Entry → Said
 said_entry folder entry = Ok (placed folder entry)
 
+-- is the name one of these?
 abbrev pub is_open : List (List ℕ) → List ℕ → Bool
 is_open names name = list_any (λ other. bytes_eq other name) names
 
+-- is each byte below 128?
 abbrev pub is_ascii : List ℕ → Bool
 is_ascii text = list_all (λ byte. nat_lt byte 128) text
 
@@ -74,7 +80,7 @@ include_saying opened name line path =
     if is_ascii path then (if is_open opened (folder_of name ++ path) then faulty (Loop (folder_of name ++ path)) else Another (folder_of name ++ path))
     else faulty (BadCall name line)
 
--- its names and its path are ASCII, as each literal is, and its level is one of the four
+-- an entry whose names and path are ASCII, as each literal is, and whose level is one of the four
 abbrev pub is_plain : Entry → Bool
 is_plain entry = is_ascii entry.«module» && (is_ascii entry.path && (is_ascii entry.source && nat_le entry.opt 3))
 
@@ -83,6 +89,7 @@ abbrev pub freeze_saying : (name : List ℕ) → (line : ℕ) → List Entry →
 freeze_saying name line entries =
     if list_all is_plain entries then Itself (map (said_entry (folder_of name)) entries) else faulty (BadCall name line)
 
+-- what the order of a line says; a line without one is no call
 abbrev pub order_saying : List (List ℕ) → (name : List ℕ) → (line : ℕ) → Option Order → Saying
 order_saying opened name line None = faulty (BadCall name line)
 order_saying opened name line (Some (Include path)) = include_saying opened name line path
@@ -94,6 +101,7 @@ order_saying opened name line (Some (Require wanted)) = faulty (Required wanted)
 abbrev pub line_saying : List (List ℕ) → (name : List ℕ) → Line → Saying
 line_saying opened name line = order_saying opened name line.number line.order
 
+-- what a saying comes to, where `another` tells what the manifest of a name says
 abbrev pub IsSaid : (List ℕ → List Said → Type 0) → Saying → List Said → Type 0
 IsSaid another (Itself own) said = said ≡ own
 IsSaid another (Another inner) said = another inner said
@@ -103,6 +111,7 @@ abbrev pub AreSaid : (Line → List Said → Type 0) → List Line → List Said
 AreSaid one [] said = said ≡ []
 AreSaid one (line ∷ lines) said = (first : List Said) × (others : List Said) × one line first × AreSaid one lines others × (said ≡ first ++ others)
 
+-- what a file says: its lines, where it is there, and else that it is absent
 abbrev pub FileSays : (List Line → List Said → Type 0) → (name : List ℕ) → Option (List ℕ) → List Said → Type 0
 FileSays its name None said = said ≡ Err (Absent name) ∷ []
 FileSays its name (Some bytes) said = (lines : List Line) × AreLines bytes lines × its lines said
@@ -116,9 +125,11 @@ Says files (suc left) opened name said =
 
 -- ---- the entries of what is said
 
+-- the entries, or the first fault
 abbrev pub Answer : Type 0
 Answer = Result (List Entry) ManifestFault
 
+-- is there an entry of the module?
 abbrev pub has_module : List Entry → List ℕ → Bool
 has_module entries name = list_any (λ entry. bytes_eq entry.«module» name) entries
 
@@ -128,6 +139,7 @@ one_more entries entry =
     if has_module entries entry.«module» then Err (Twice entry.«module»)
     else (if nat_lt (length entries) MAX_MODULES then Ok (entries ++ entry ∷ []) else Err TooMany)
 
+-- the first fault of two parts, one behind the other
 abbrev pub and_then : Answer → (List Entry → Answer) → Answer
 and_then (Ok entries) more = more entries
 and_then (Err fault) more = Err fault
@@ -146,8 +158,10 @@ LineSays files left opened name line = IsSaid (Says files left opened) (line_say
 abbrev pub IsAnswer : FileOf → (name : List ℕ) → Answer → Type 0
 IsAnswer files name answer = (said : List Said) × Says files MAX_OPEN [] name said × (answer ≡ entries_after [] said)
 
+-- the entries of the manifest of that name
 abbrev pub AreEntries : FileOf → (name : List ℕ) → List Entry → Type 0
 AreEntries files name entries = IsAnswer files name (Ok entries)
 
+-- the first fault of the manifest of that name
 abbrev pub IsFault : FileOf → (name : List ℕ) → ManifestFault → Type 0
 IsFault files name fault = IsAnswer files name (Err fault)

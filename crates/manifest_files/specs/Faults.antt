@@ -3,6 +3,7 @@ use Rattle.std.specs.Prelude.{ℕ, List, codes}
 use Rattle.manifest_files.specs.declared.fault.ManifestFault.{ManifestFault}
 use Rattle.manifest_files.specs.declared.fault.ManifestFault.TheVariants.{BadCall, Loop, Twice, Absent, Required, Deep, TooMany, ReadFault}
 
+-- the number of the fault, which the line tells
 abbrev pub number_of : ManifestFault → ℕ
 number_of (BadCall name line) = 1
 number_of (Loop name) = 2
@@ -13,6 +14,7 @@ number_of (Deep name) = 6
 number_of TooMany = 7
 number_of (ReadFault name) = 8
 
+-- the name of the fault, which the line tells
 abbrev pub name_of : ManifestFault → List ℕ
 name_of (BadCall name line) = codes "BadCall"
 name_of (Loop name) = codes "Loop"

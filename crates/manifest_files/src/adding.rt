@@ -1,4 +1,4 @@
-//! Adding entries.
+//! Adding entries to those of a manifest, each with its path from the manifest's folder on, and its module once.
 
 ghost use Rattle.std.specs.Prelude.{◌≡◌, ◌++◌, [], ◌∷◌, Ok, IfOk, map, false};
 ghost use Rattle.manifest_files.specs.Answers.{Leads, is_failed};
@@ -10,6 +10,7 @@ use mpy_base::limits::MAX_MODULES;
 use mpy_base::{NoMemory, Refused, Text};
 use std::alloc::Global;
 
+/// Is there an entry of the module?
 fn has_module(entries: &[Entry], name: &[u8]) -> bool
     ensures { result ≡ spec.has_module entries.now name.now }
 {

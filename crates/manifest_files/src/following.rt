@@ -12,6 +12,7 @@ use manifest_lines::{Entry, Line, Order};
 use mpy_base::{Refused, Text};
 use std::alloc::Global;
 
+/// The fault of a call in this line of this manifest that is no call of a manifest.
 fn bad_call(alloc: Global, name: &[u8], line: u32) -> Refused<ManifestFault>
     ensures is { IsBadCall name.now line result }
     ensures inside { is_outside result ≡ false }

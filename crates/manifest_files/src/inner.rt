@@ -30,12 +30,14 @@ pub(crate) fn folder_of(name: &[u8]) -> &[u8]
     &name[..folder_length(name)]
 }
 
+/// Is each byte below 128?
 pub(crate) fn is_ascii(text: &[u8]) -> bool
     ensures { result ≡ spec.is_ascii text.now }
 {
     text.iter().all(|byte| *byte < 128)
 }
 
+/// Are the names and the path of an entry ASCII, and is its level 0 to 3?
 fn is_plain(entry: &Entry) -> bool
     ensures { result ≡ spec.is_plain entry.now }
 {
@@ -45,12 +47,14 @@ fn is_plain(entry: &Entry) -> bool
         && entry.opt <= 3
 }
 
+/// Are the names and paths of all entries ASCII, and their levels 0 to 3?
 pub(crate) fn are_plain(entries: &[Entry]) -> bool
     ensures { result ≡ list_all spec.is_plain entries.now }
 {
     entries.iter().all(|entry| is_plain(entry))
 }
 
+/// Is the manifest of that name one of those that are open?
 pub(crate) fn is_open(names: &[Text], name: &[u8]) -> bool
     ensures { result ≡ spec.is_open names.now name.now }
 {

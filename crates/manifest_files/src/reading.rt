@@ -24,6 +24,7 @@ fn bad_line(alloc: Global, number: u32) -> Result<Vec<Line>, NoMemory>
     Ok(lines)
 }
 
+/// The lines of a manifest. Where its tokens have a fault, there is one line, which is no call.
 fn lines_of(alloc: Global, bytes: &[u8]) -> Result<Vec<Line>, NoMemory>
     ensures { IfOk result (λ lines. spec.AreLines bytes.now lines.items) }
 {

@@ -6,9 +6,11 @@ use Rattle.std.specs.Char.{is_ascii_alphanumeric, is_ascii_digit}
 use Rattle.manifest_lines.specs.declared.entry.Entry.{Entry}
 use Rattle.manifest_lines.specs.declared.entry.Sources.{Sources}
 
+-- is it a letter, a digit or `_`?
 abbrev pub is_name_byte : ℕ → Bool
 is_name_byte byte = is_ascii_alphanumeric byte || byte == 95
 
+-- may a name begin so? It begins with no digit
 abbrev pub begins_name : List ℕ → Bool
 begins_name [] = false
 begins_name (byte ∷ bytes) = not (is_ascii_digit byte)
@@ -29,6 +31,7 @@ is_script text = if bytes_eq (drop (length text - 3) text) (codes ".py") then is
 abbrev pub without_init : List ℕ → List ℕ
 without_init path = if bytes_eq (drop (length path - 9) path) (codes "/__init__") then take (length path - 9) path else path
 
+-- a dot for `/`
 abbrev pub dotted : ℕ → ℕ
 dotted byte = if byte == 47 then 46 else byte
 
@@ -40,9 +43,11 @@ module_of source = map dotted (without_init (front_of source))
 abbrev pub under : List ℕ → List ℕ
 under path = if bytes_eq path (codes ".") then [] else path ++ codes "/"
 
+-- the path of a script in its package
 abbrev pub source_of : Sources → List ℕ → List ℕ
 source_of sources script = under sources.«package» ++ script
 
+-- the entry of a script, where it is a name with the ending
 abbrev pub entry_of : Sources → List ℕ → Option Entry
 entry_of sources script = if is_script script then Some (record {
   «module» = module_of (source_of sources script);
@@ -51,6 +56,7 @@ entry_of sources script = if is_script script then Some (record {
   opt = sources.opt;
 }) else None
 
+-- what is made of an entry, where there is one
 abbrev pub with_entry : Option Entry → (Entry → Option (List Entry)) → Option (List Entry)
 with_entry None others = None
 with_entry (Some entry) others = others entry
@@ -60,5 +66,6 @@ abbrev pub entries_from : Sources → List Entry → List (List ℕ) → Option 
 entries_from sources found [] = Some found
 entries_from sources found (script ∷ scripts) = with_entry (entry_of sources script) (λ entry. entries_from sources (found ++ entry ∷ []) scripts)
 
+-- the entries of a call's scripts
 abbrev pub entries_of : Sources → Option (List Entry)
 entries_of sources = entries_from sources [] sources.scripts

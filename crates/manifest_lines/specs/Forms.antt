@@ -7,6 +7,7 @@ use Rattle.manifest_lines.specs.declared.call.Argument.{Argument}
 use Rattle.manifest_lines.specs.declared.form.Form.{Form}
 use Rattle.manifest_lines.specs.declared.form.Form.TheVariants.{Include, Module, Freeze, Package, Metadata, Require}
 
+-- the call of that name, if there is one
 abbrev pub form_of : List ℕ → Option Form
 form_of name =
     if bytes_eq name (codes "include") then Some Include
@@ -18,21 +19,25 @@ form_of name =
 
 -- ---- parameters, counted from 0
 
+-- the place of a parameter of `include`
 abbrev pub include_place : List ℕ → Option ℕ
 include_place name = if bytes_eq name (codes "manifest_path") then Some 0 else None
 
+-- the place of a parameter of `module`
 abbrev pub module_place : List ℕ → Option ℕ
 module_place name =
     if bytes_eq name (codes "module_path") then Some 0
     else (if bytes_eq name (codes "base_path") then Some 1
     else (if bytes_eq name (codes "opt") then Some 2 else None))
 
+-- the place of a parameter of `freeze`
 abbrev pub freeze_place : List ℕ → Option ℕ
 freeze_place name =
     if bytes_eq name (codes "path") then Some 0
     else (if bytes_eq name (codes "script") then Some 1
     else (if bytes_eq name (codes "opt") then Some 2 else None))
 
+-- the place of a parameter of `package`
 abbrev pub package_place : List ℕ → Option ℕ
 package_place name =
     if bytes_eq name (codes "package_path") then Some 0
@@ -49,6 +54,7 @@ place_of Package name = package_place name
 place_of Metadata name = None
 place_of Require name = None
 
+-- how many parameters a call has
 abbrev pub parameters : Form → ℕ
 parameters Include = 1
 parameters Module = 3
@@ -59,10 +65,12 @@ parameters Require = 0
 
 -- ---- what is given: an argument without a name to the parameter at its place, one with a name to the parameter of that name
 
+-- the value of an argument without a name
 abbrev pub nameless : Argument → Option (List ℕ) → Option Literal
 nameless argument None = Some argument.value
 nameless argument (Some name) = None
 
+-- the value of an argument without a name, where there is an argument
 abbrev pub nameless_in : Option Argument → Option Literal
 nameless_in None = None
 nameless_in (Some argument) = nameless argument argument.name
@@ -71,21 +79,26 @@ nameless_in (Some argument) = nameless argument argument.name
 abbrev pub nameless_at : List Argument → ℕ → Option Literal
 nameless_at arguments place = nameless_in (slice_get arguments place)
 
+-- is it this place?
 abbrev pub is_at : Option ℕ → ℕ → Bool
 is_at None parameter = false
 is_at (Some place) parameter = place == parameter
 
+-- does the name mean this parameter?
 abbrev pub is_name_for : Form → ℕ → Option (List ℕ) → Bool
 is_name_for form parameter None = false
 is_name_for form parameter (Some name) = is_at (place_of form name) parameter
 
+-- is the argument given by name to this parameter?
 abbrev pub is_for : Form → ℕ → Argument → Bool
 is_for form parameter argument = is_name_for form parameter argument.name
 
+-- the value that is given by name to this parameter
 abbrev pub named_for : Form → ℕ → List Argument → Option Literal
 named_for form parameter [] = None
 named_for form parameter (argument ∷ arguments) = if is_for form parameter argument then Some argument.value else named_for form parameter arguments
 
+-- the first value that there is
 abbrev pub or_named : Option Literal → Option Literal → Option Literal
 or_named (Some value) other = Some value
 or_named None other = other
@@ -96,14 +109,17 @@ value_of form parameter arguments = or_named (nameless_at arguments parameter) (
 
 -- ---- each argument is given to a parameter of its own
 
+-- is it the place of a parameter to which no argument is given by its place?
 abbrev pub is_place_free : List Argument → Option ℕ → Bool
 is_place_free arguments None = false
 is_place_free arguments (Some place) = is_none (nameless_at arguments place)
 
+-- an argument without a name is given, and one with a name where its parameter is free
 abbrev pub is_name_given : Form → List Argument → Option (List ℕ) → Bool
 is_name_given form arguments None = true
 is_name_given form arguments (Some name) = is_place_free arguments (place_of form name)
 
+-- is the argument given to a parameter?
 abbrev pub is_given : Form → List Argument → Argument → Bool
 is_given form arguments argument = is_name_given form arguments argument.name
 

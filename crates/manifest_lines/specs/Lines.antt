@@ -8,6 +8,7 @@ use Rattle.manifest_lines.specs.declared.manifest.Line.{Line}
 use Rattle.manifest_lines.specs.Calls.{call_of}
 use Rattle.manifest_lines.specs.Orders.{order_of, ◌>>=◌}
 
+-- is it the end of a line?
 abbrev pub is_newline : Tok → Bool
 is_newline tok.Newline = true
 is_newline kind = false
@@ -17,6 +18,7 @@ abbrev pub line_length : List Token → ℕ
 line_length [] = 0
 line_length (token ∷ tokens) = if is_newline token.kind then 0 else suc (line_length tokens)
 
+-- the token in front of the first line's, where there is a line
 abbrev pub onto_first : Token → List (List Token) → List (List Token)
 onto_first token [] = []
 onto_first token (line ∷ lines) = (token ∷ line) ∷ lines
@@ -31,11 +33,14 @@ abbrev pub number : List Token → ℕ
 number [] = 0
 number (token ∷ tokens) = token.line
 
+-- what a line of these tokens orders, if it is a call
 unfoldable pub order : List Token → Option Order
 order tokens = call_of tokens >>= order_of
 
+-- a line of these tokens
 abbrev pub line : List Token → Line
 line tokens = record { number = number tokens; order = order tokens }
 
+-- the logical lines of a manifest's tokens
 abbrev pub lines_of : List Token → List Line
 lines_of tokens = map line (split tokens)

@@ -19,6 +19,7 @@ signs s (suc most) found = do
   seen ← eat s
   if seen then signs s most (found + 1) else pure found
 
+-- how many opening brackets come next, which are passed
 abbrev pub opens : Parser ℕ
 opens = λ tokens. signs sign.Open (length tokens) 0 tokens
 
@@ -30,17 +31,21 @@ close count = do
 
 -- ---- strings
 
+-- the string that comes next, and what follows; or the text that was found
 abbrev pub strings_by : (List ℕ → Parser (List ℕ)) → List ℕ → Tok → Parser (List ℕ)
 strings_by go found (tok.Str text) = take_token >> go (found ++ text)
 strings_by go found kind = pure found
 
+-- { STRING }, behind the text that was found
 unfoldable pub strings_from : ℕ → List ℕ → Parser (List ℕ)
 strings_from zero found = pure found
 strings_from (suc turns) found = peek >>= strings_by (strings_from turns) found
 
+-- { STRING }, as one text
 unfoldable pub strings : Parser (List ℕ)
 strings = λ tokens. strings_from (length tokens) [] tokens
 
+-- the strings that begin with a token of the kind
 abbrev pub text_by : Tok → Parser (List ℕ)
 text_by (tok.Str found) = strings
 text_by kind = refuse
@@ -51,6 +56,7 @@ text = peek >>= text_by
 
 -- ---- literals
 
+-- the literal that begins with a token of the kind, and is no tuple
 abbrev pub plain_by : Tok → Parser Literal
 plain_by (tok.Str found) = lit.Text <$> strings
 plain_by (tok.Int n) = take_token >> pure (lit.Number n)
@@ -80,6 +86,7 @@ next_item = do
     last ← eat sign.Close
     if last then pure None else Some <$> item)
 
+-- the item that was read, and what follows; or those that were found, where none was
 abbrev pub items_by : (List (List ℕ) → Parser (List (List ℕ))) → List (List ℕ) → Option (List ℕ) → Parser (List (List ℕ))
 items_by go found None = pure found
 items_by go found (Some text) = go (found ++ text ∷ [])
@@ -89,6 +96,7 @@ unfoldable pub items_from : ℕ → List (List ℕ) → Parser (List (List ℕ))
 items_from zero found = refuse
 items_from (suc turns) found = next_item >>= items_by (items_from turns) found
 
+-- the items of a tuple behind its first one
 unfoldable pub items : List ℕ → Parser (List (List ℕ))
 items first = λ tokens. items_from (length tokens) (first ∷ []) tokens
 
@@ -107,6 +115,7 @@ inside depth = λ tokens. (if nat_lt 0 depth && sees sign.Close tokens then pure
   closed ← signs sign.Close depth 0
   if nat_lt closed depth then tuple value (depth - closed - 1) else pure (value, 0))) tokens
 
+-- a literal in any number of brackets
 unfoldable pub literal : Parser Literal
 literal = do
   depth ← opens

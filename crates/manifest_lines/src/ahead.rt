@@ -28,6 +28,7 @@ pub(crate) struct Ahead<'a> {
     pub(crate) tokens: &'a [Token],
 }
 
+/// Is the token of this kind the sign?
 fn is_sign(sign: Sign, kind: &Tok) -> bool
     ensures { result ≡ spec.is_sign sign kind.now }
 {
@@ -58,6 +59,7 @@ impl<'a> Ahead<'a> {
         self.tokens.len()
     }
 
+    /// Passes the next token, if there is one.
     pub(crate) fn take(&mut self)
         ensures { self.new.tokens.now ≡ spec.next self.old.tokens.now }
     {
@@ -66,6 +68,7 @@ impl<'a> Ahead<'a> {
         }
     }
 
+    /// Is the next token this sign?
     #[tactic(auto, unfolding(crate::specs::Ahead::sees))]
     pub(crate) fn sees(&self, sign: Sign) -> bool
         ensures { result ≡ spec.sees sign self.now.tokens.now }
@@ -76,6 +79,7 @@ impl<'a> Ahead<'a> {
         }
     }
 
+    /// Passes the next token if it is this sign, and says whether it was.
     #[tactic(auto, unfolding(crate::specs::Ahead::after))]
     pub(crate) fn eat(&mut self, sign: Sign) -> bool
         ensures found { result ≡ spec.sees sign self.old.tokens.now }
@@ -88,6 +92,7 @@ impl<'a> Ahead<'a> {
         found
     }
 
+    /// Passes the next token, which must be this sign.
     #[tactic(auto, unfolding(crate::specs::Ahead::expect))]
     pub(crate) fn expect(&mut self, sign: Sign) -> Result<(), Refused<NoCall>>
         ensures { Reads (spec.expect sign self.old.tokens.now) result self.new }

@@ -1,4 +1,4 @@
-//! Calls.
+//! Calls of a manifest: a name with literal arguments, read from the tokens of a line.
 
 ghost use Rattle.std.specs.Prelude.{◌≡◌};
 ghost use Rattle.manifest_lines.specs.Ahead.{Reads, Gives};
@@ -24,6 +24,7 @@ pub struct Call {
     pub arguments: Items<Argument>,
 }
 
+/// Has the argument this name?
 fn is_named(argument: &Argument, name: &[u8]) -> bool
     ensures { result ≡ spec.is_named name.now argument.now }
 {
@@ -57,6 +58,7 @@ fn may_follow(before: &[Argument], argument: &Argument) -> bool
     }
 }
 
+/// Reads `[ NAME "=" ] literal`.
 #[tactic(auto, unfolding(crate::specs::Calls::argument))]
 fn read_argument(alloc: Global, tokens: &mut Ahead<'_>) -> Result<Argument, Refused<NoCall>>
     ensures { Reads (spec.argument tokens.old.tokens.now) result tokens.new }
@@ -121,6 +123,7 @@ fn read_arguments(alloc: Global, tokens: &mut Ahead<'_>) -> Result<Items<Argumen
     Err(Refused::Fault(NoCall))
 }
 
+/// Refuses where a token is ahead.
 fn expect_end(tokens: &Ahead<'_>) -> Result<(), Refused<NoCall>>
     ensures { Reads (spec.end tokens.now.tokens.now) result tokens.now }
 {

@@ -31,19 +31,23 @@ pub(crate) struct Sources {
     pub(crate) opt: u8,
 }
 
+/// The ending of a source's name.
 const ENDING: &[u8] = b".py";
 
+/// What stands behind a package's name in that of its first source, in front of the ending.
 const INIT: &[u8] = b"/__init__";
 
 /// The folder itself.
 const HERE: &[u8] = b".";
 
+/// Is it a letter, a digit or `_`?
 fn is_name_byte(byte: u8) -> bool
     ensures { result ≡ spec.is_name_byte byte }
 {
     byte.is_ascii_alphanumeric() || byte == b'_'
 }
 
+/// May a name begin so? It begins with no digit.
 fn begins_name(text: &[u8]) -> bool
     ensures { result ≡ spec.begins_name text.now }
 {
@@ -53,12 +57,14 @@ fn begins_name(text: &[u8]) -> bool
     }
 }
 
+/// Is each a letter, a digit or `_`?
 fn are_name_bytes(text: &[u8]) -> bool
     ensures { result ≡ list_all spec.is_name_byte text.now }
 {
     text.iter().all(|byte| is_name_byte(*byte))
 }
 
+/// Is it a name: letters, digits and `_`, the first of which is no digit?
 fn is_name(text: &[u8]) -> bool
     ensures { result ≡ spec.is_name text.now }
 {
@@ -96,12 +102,14 @@ fn without_init(path: &[u8]) -> &[u8]
     if ending == INIT { front } else { path }
 }
 
+/// A dot for `/`, and each other byte as it is.
 fn dotted(byte: u8) -> u8
     ensures { result ≡ spec.dotted byte }
 {
     if byte == b'/' { b'.' } else { byte }
 }
 
+/// A path with a dot for each `/`.
 fn dots(alloc: Global, path: &[u8]) -> Result<Vec<u8>, AllocError>
     ensures { IfOk result (λ name. name.items ≡ map spec.dotted path.now) }
 {

@@ -47,6 +47,7 @@ pub(crate) enum Form {
     Require,
 }
 
+/// The call of that name, if a manifest may make it.
 pub(crate) fn form_of(name: &[u8]) -> Option<Form>
     ensures { result ≡ spec.form_of name.now }
 {
@@ -79,6 +80,7 @@ fn parameters(form: Form) -> usize
     }
 }
 
+/// The place of the parameter of `module` that has the name.
 fn module_place(name: &[u8]) -> Option<usize>
     ensures { result ≡ spec.module_place name.now }
 {
@@ -93,6 +95,7 @@ fn module_place(name: &[u8]) -> Option<usize>
     }
 }
 
+/// The place of the parameter of `freeze` that has the name.
 fn freeze_place(name: &[u8]) -> Option<usize>
     ensures { result ≡ spec.freeze_place name.now }
 {
@@ -107,6 +110,7 @@ fn freeze_place(name: &[u8]) -> Option<usize>
     }
 }
 
+/// The place of the parameter of `package` that has the name.
 fn package_place(name: &[u8]) -> Option<usize>
     ensures { result ≡ spec.package_place name.now }
 {
@@ -123,6 +127,7 @@ fn package_place(name: &[u8]) -> Option<usize>
     }
 }
 
+/// The place of the parameter of `include` that has the name.
 fn include_place(name: &[u8]) -> Option<usize>
     ensures { result ≡ spec.include_place name.now }
 {
@@ -155,6 +160,7 @@ fn nameless_at(arguments: &[Argument], place: usize) -> Option<&Literal>
     }
 }
 
+/// Is it the place of this parameter?
 fn is_at(place: Option<usize>, parameter: usize) -> bool
     ensures { result ≡ spec.is_at place parameter }
 {
@@ -209,6 +215,7 @@ fn is_given(form: Form, arguments: &[Argument], argument: &Argument) -> bool
     }
 }
 
+/// Is each argument given to a parameter?
 fn are_given(form: Form, arguments: &[Argument]) -> bool
     ensures { result ≡ list_all (spec.is_given form arguments.now) arguments.now }
 {

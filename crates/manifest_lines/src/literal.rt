@@ -1,4 +1,4 @@
-//! Literals.
+//! Literals: strings, numbers, `None`, `True`, `False` and tuples of strings, in any number of brackets.
 
 ghost use Rattle.std.specs.Prelude.{◌≡◌, ◌∷◌, [], Some};
 ghost use Rattle.manifest_lines.specs.Ahead.{Reads};
@@ -47,7 +47,7 @@ fn close(tokens: &mut Ahead<'_>, count: usize) -> Result<(), Refused<NoCall>>
     }
 }
 
-/// Adjacent strings as one.
+/// Reads the strings in front, one behind the other, as one. There may be none.
 fn strings(alloc: Global, tokens: &mut Ahead<'_>) -> Result<Text, Refused<NoCall>>
     ensures { Reads (spec.strings tokens.old.tokens.now) result tokens.new }
 {
@@ -62,7 +62,7 @@ fn strings(alloc: Global, tokens: &mut Ahead<'_>) -> Result<Text, Refused<NoCall
     Ok(Text::new(alloc, &bytes)?)
 }
 
-/// One string or more.
+/// Reads one string or more.
 #[tactic(auto, unfolding(crate::specs::Literals::text))]
 fn read_text(alloc: Global, tokens: &mut Ahead<'_>) -> Result<Text, Refused<NoCall>>
     ensures { Reads (spec.text tokens.old.tokens.now) result tokens.new }

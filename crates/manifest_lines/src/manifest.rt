@@ -20,6 +20,7 @@ pub struct Line {
     pub order: Option<Order>,
 }
 
+/// Is it the end of a line?
 fn is_newline(kind: &Tok) -> bool
     ensures { result ≡ spec.is_newline kind.now }
 {
@@ -39,6 +40,7 @@ fn line_length(tokens: &[Token]) -> usize
     tokens.len()
 }
 
+/// What a line of these tokens orders, if it is a call.
 #[tactic(auto, unfolding(crate::specs::Lines::order))]
 fn ordered(alloc: Global, tokens: &[Token]) -> Result<Order, Refused<NoCall>>
     ensures { Gives (spec.order tokens.now) result }
@@ -47,6 +49,7 @@ fn ordered(alloc: Global, tokens: &[Token]) -> Result<Order, Refused<NoCall>>
     order_of(alloc, &call)
 }
 
+/// The line of the first token.
 fn number(tokens: &[Token]) -> u32
     ensures { result ≡ spec.number tokens.now }
 {
@@ -56,7 +59,7 @@ fn number(tokens: &[Token]) -> u32
     }
 }
 
-/// The line of these tokens.
+/// The line of these tokens: what its call orders, or that it has none.
 fn judged(alloc: Global, tokens: &[Token]) -> Result<Line, NoMemory>
     ensures { IfOk result (λ line. line ≡ spec.line tokens.now) }
 {

@@ -38,6 +38,7 @@ fn has_variable(text: &[u8]) -> bool
     false
 }
 
+/// Is the first byte `(`?
 fn begins_with_bracket(text: &[u8]) -> bool
     ensures { result ≡ spec.begins_with_bracket text.now }
 {
@@ -47,6 +48,7 @@ fn begins_with_bracket(text: &[u8]) -> bool
     }
 }
 
+/// A text that may be a path, which has no variable.
 fn path_text(alloc: Global, text: &[u8]) -> Result<Text, Refused<NoCall>>
     ensures { Gives (spec.path_text text.now) result }
 {
@@ -56,6 +58,7 @@ fn path_text(alloc: Global, text: &[u8]) -> Result<Text, Refused<NoCall>>
     Ok(Text::new(alloc, text)?)
 }
 
+/// The path that is given to a parameter.
 fn path(
     alloc: Global,
     form: Form,
@@ -70,6 +73,7 @@ fn path(
     }
 }
 
+/// The path that is given to a parameter, and the folder itself where none is.
 fn path_or_dot(
     alloc: Global,
     form: Form,
@@ -85,6 +89,7 @@ fn path_or_dot(
     }
 }
 
+/// The level that a number is, from 0 to 3.
 fn level_of(number: i32) -> Result<u8, Refused<NoCall>>
     ensures { Gives (spec.level_of_number number) result }
 {
@@ -95,6 +100,7 @@ fn level_of(number: i32) -> Result<u8, Refused<NoCall>>
     }
 }
 
+/// The level that is given to a parameter, and 0 where none is.
 fn level(form: Form, arguments: &[Argument], parameter: usize) -> Result<u8, Refused<NoCall>>
     ensures { Gives (spec.level_of (calls.value_of form parameter arguments.now)) result }
 {
@@ -105,6 +111,7 @@ fn level(form: Form, arguments: &[Argument], parameter: usize) -> Result<u8, Ref
     }
 }
 
+/// A copy of each text.
 fn copies(alloc: Global, texts: &[Text]) -> Result<Items<Text>, NoMemory>
     ensures { IfOk result (λ copies. copies ≡ texts.now) }
 {
@@ -115,6 +122,7 @@ fn copies(alloc: Global, texts: &[Text]) -> Result<Items<Text>, NoMemory>
     Ok(copies)
 }
 
+/// The list of this one text.
 fn alone(alloc: Global, text: &[u8]) -> Result<Items<Text>, NoMemory>
     ensures { IfOk result (λ texts. texts ≡ text.now ∷ []) }
 {
@@ -123,7 +131,7 @@ fn alone(alloc: Global, text: &[u8]) -> Result<Items<Text>, NoMemory>
     Ok(texts)
 }
 
-/// A string.
+/// The string that is given to a parameter, as a list of one.
 fn one(
     alloc: Global,
     form: Form,
@@ -138,7 +146,7 @@ fn one(
     }
 }
 
-/// A tuple of strings.
+/// The tuple of strings that is given to a parameter.
 fn several(
     alloc: Global,
     form: Form,
@@ -153,6 +161,7 @@ fn several(
     }
 }
 
+/// The scripts that are given to a parameter, as a string or a tuple.
 fn one_or_several(
     alloc: Global,
     form: Form,
@@ -168,6 +177,7 @@ fn one_or_several(
     }
 }
 
+/// What `module(module_path, base_path=".", opt=None)` names.
 #[tactic(auto, unfolding(crate::specs::Orders::module_sources))]
 fn module_sources(alloc: Global, arguments: &[Argument]) -> Result<Sources, Refused<NoCall>>
     ensures { Gives (spec.module_sources arguments.now) result }
@@ -185,6 +195,7 @@ fn module_sources(alloc: Global, arguments: &[Argument]) -> Result<Sources, Refu
     })
 }
 
+/// What `freeze(path, script, opt=None)` names.
 #[tactic(auto, unfolding(crate::specs::Orders::freeze_sources))]
 fn freeze_sources(alloc: Global, arguments: &[Argument]) -> Result<Sources, Refused<NoCall>>
     ensures { Gives (spec.freeze_sources arguments.now) result }
@@ -202,6 +213,7 @@ fn freeze_sources(alloc: Global, arguments: &[Argument]) -> Result<Sources, Refu
     })
 }
 
+/// What `package(package_path, files, base_path=".", opt=None)` names.
 #[tactic(auto, unfolding(crate::specs::Orders::package_sources))]
 fn package_sources(alloc: Global, arguments: &[Argument]) -> Result<Sources, Refused<NoCall>>
     ensures { Gives (spec.package_sources arguments.now) result }
@@ -219,6 +231,7 @@ fn package_sources(alloc: Global, arguments: &[Argument]) -> Result<Sources, Ref
     })
 }
 
+/// Refuses where the arguments don't fit the call.
 fn expect_fit(form: Form, arguments: &[Argument]) -> Result<(), Refused<NoCall>>
     ensures { Gives (spec.expect_fit form arguments.now) result }
 {
@@ -229,6 +242,7 @@ fn expect_fit(form: Form, arguments: &[Argument]) -> Result<(), Refused<NoCall>>
     }
 }
 
+/// The order of `include(manifest_path)`.
 #[tactic(auto, unfolding(crate::specs::Orders::include))]
 fn include(alloc: Global, arguments: &[Argument]) -> Result<Order, Refused<NoCall>>
     ensures { Gives (spec.include arguments.now) result }
@@ -238,6 +252,7 @@ fn include(alloc: Global, arguments: &[Argument]) -> Result<Order, Refused<NoCal
     Ok(Order::Include(path))
 }
 
+/// The order of `module(module_path, base_path=".", opt=None)`.
 #[tactic(auto, unfolding(crate::specs::Orders::module_call))]
 fn module_call(alloc: Global, arguments: &[Argument]) -> Result<Order, Refused<NoCall>>
     ensures { Gives (spec.module_call arguments.now) result }
@@ -248,6 +263,7 @@ fn module_call(alloc: Global, arguments: &[Argument]) -> Result<Order, Refused<N
     Ok(Order::Freeze(entries))
 }
 
+/// The order of `freeze(path, script, opt=None)`.
 #[tactic(auto, unfolding(crate::specs::Orders::freeze_call))]
 fn freeze_call(alloc: Global, arguments: &[Argument]) -> Result<Order, Refused<NoCall>>
     ensures { Gives (spec.freeze_call arguments.now) result }
@@ -258,6 +274,7 @@ fn freeze_call(alloc: Global, arguments: &[Argument]) -> Result<Order, Refused<N
     Ok(Order::Freeze(entries))
 }
 
+/// The order of `package(package_path, files, base_path=".", opt=None)`.
 #[tactic(auto, unfolding(crate::specs::Orders::package_call))]
 fn package_call(alloc: Global, arguments: &[Argument]) -> Result<Order, Refused<NoCall>>
     ensures { Gives (spec.package_call arguments.now) result }

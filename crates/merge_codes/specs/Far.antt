@@ -15,7 +15,7 @@ pub record IsFarOwn (tables : Tables) (base : ℕ) (m : Module) (bytes : List �
   pub moved : IsMovedCode tables base m bytes code
   pub far : IsTooFar (labelled tables code) ⊎ IsBig tables code
 
--- one of the codes of the tree has
+-- one of the codes of the tree is such
 pub record HasFarCode (tables : Tables) (base : ℕ) (m : Module) (root : RawCode) : Type 0 where
   pub path : List ℕ
   pub raw : RawCode

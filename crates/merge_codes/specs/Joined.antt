@@ -6,7 +6,7 @@ use Rattle.mpy_writer.specs.declared.tables.Tables.{Tables}
 use Rattle.mpy_writer.specs.File.{qstr_of}
 use Rattle.merge_codes.specs.Moved.{text_at}
 
--- each text of the module is in the table, and its objects stand behind so many others
+-- each text of the module is in the table, and its objects stand behind `base` others
 pub record IsJoined (tables : Tables) (base : ℕ) (m merged : Module) : Type 0 where
   pub qstrs_are : merged.qstrs ≡ map qstr_of tables.texts.texts
   pub texts_there : (n : ℕ) → n < length m.qstrs → Contains tables.texts.texts (text_at m n)

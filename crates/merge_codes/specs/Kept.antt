@@ -19,12 +19,13 @@ NamesThere m (instrs.Name op n) = n < length m.qstrs
 NamesThere m (instrs.Num LoadConstObj n) = n < length m.objects
 NamesThere m instr = Unit {0}
 
--- the jump goes to one of so many instructions
+-- the jump goes to one of `count` instructions
 pub record GoesTo (count : ℕ) (target : Target) : Type 0 where
   pub position : ℕ
   pub target_is : target ≡ Position position
   pub within : position < count
 
+-- an item names what the module has, and jumps to one of `count` instructions
 abbrev pub IsKept : Module → ℕ → Item → Type 0
 IsKept m count (items.Plain instr) = NamesThere m instr
 IsKept m count (items.Jump op target) = GoesTo count target

@@ -67,7 +67,7 @@ pub record IsMovedOwn (tables : Tables) (base : ℕ) (m : Module) (bytes own : L
   pub is_own : IsOwn tables code own
   pub short : length own ≤ MAX_CODE_BYTES
 
--- the same of a code and of those in it, of so many levels at most
+-- the bytes of a code and of those in it, in that number of levels of codes at most, are what is written for the moved codes
 unfoldable pub IsMovedTree : ℕ → Tables → ℕ → Module → RawCode → RawCode → Type 0
 IsMovedTree zero tables base m raw moved = ⊥
 IsMovedTree (suc levels) tables base m raw moved =

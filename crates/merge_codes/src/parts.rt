@@ -19,6 +19,7 @@ pub(crate) struct Parts<'a> {
     pub instructions: &'a [u8],
 }
 
+/// The parts of a code's own bytes, which were read before.
 pub(crate) fn parts_of(bytes: &[u8]) -> Parts<'_>
     requires { (prelude : Prelude) × Begins bytes.now prelude }
     ensures { HasParts bytes.now result.prelude result.names.now result.lines.now result.instructions.now }

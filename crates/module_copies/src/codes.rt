@@ -1,4 +1,4 @@
-//! Codes.
+//! Copies of codes, with those in them.
 
 ghost use Rattle.std.specs.Prelude.{◌≡◌, ℕ, List, IfOk};
 ghost use Rattle.mpy_tree.specs.File.{IsCode};

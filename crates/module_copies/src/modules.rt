@@ -1,4 +1,4 @@
-//! Modules.
+//! Copies of whole modules.
 
 ghost use Rattle.std.specs.Prelude.{◌≡◌, IfOk};
 
@@ -9,6 +9,7 @@ use mpy_base::{Items, NoMemory, Text};
 use mpy_tree::{Qstr, RawModule, module_law};
 use std::alloc::Global;
 
+/// The copy of an entry of a table of texts.
 fn copy_qstr(alloc: Global, qstr: &Qstr) -> Result<Qstr, NoMemory>
     ensures { IfOk result (λ copy. copy ≡ qstr.now) }
 {

@@ -1,4 +1,4 @@
-//! Objects.
+//! Copies of objects, with the items of tuples.
 
 ghost use Rattle.std.specs.Prelude.{◌≡◌, IfOk};
 ghost use Rattle.bc_library.specs.Fine.{Each, Fine};

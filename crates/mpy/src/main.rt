@@ -10,8 +10,10 @@ use std::io::ErrorKind;
 use std::process::ExitCode;
 use std::{env, io};
 
+/// What `mpy --version` prints.
 const VERSION: &[u8] = b"mpy 0.1.0\n";
 
+/// What `mpy --help` prints.
 const HELP: &[u8] = b"mpy: a verified tool chain for MicroPython bytecode files
 
 usage:
@@ -99,6 +101,7 @@ fn refuse<E: Sink>(say: &mut E, fault: ErrorKind) -> u8 {
     2
 }
 
+/// Prints a text, and gives the exit status.
 fn tell<S: Sink, E: Sink>(text: &[u8], out: &mut S, say: &mut E) -> u8 {
     if out.put(text).is_ok() && out.flush().is_ok() {
         return 0;
@@ -107,6 +110,7 @@ fn tell<S: Sink, E: Sink>(text: &[u8], out: &mut S, say: &mut E) -> u8 {
     8
 }
 
+/// Carries out the words of the command over the system's streams and files.
 fn main(rt: HostRuntime) -> ExitCode {
     let alloc: Global = rt.alloc();
     let mut say = OutSink::new(alloc, rt.stderr());

@@ -34,6 +34,7 @@ pub data IsUnder : Kind → Kind → Type 0 where
   itself : {kind : Kind} → IsUnder kind kind
   below : {kind parent other : Kind} → parent_of kind ≡ Some parent → IsUnder parent other → IsUnder kind other
 
+-- the name of a kind, as Python has it
 abbrev pub kind_name : Kind → List ℕ
 kind_name kinds.BaseException = codes "BaseException"
 kind_name kinds.SystemExit = codes "SystemExit"

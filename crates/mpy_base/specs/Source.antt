@@ -3,6 +3,7 @@ use Rattle.std.specs.Prelude.{ℕ, List, codes}
 use Rattle.mpy_base.specs.declared.source.SourceCode.{SourceCode}
 use Rattle.mpy_base.specs.declared.source.SourceCode.TheVariants.{BadByte, BadToken, BadIndent, TooBigNumber, NotInProfile, Syntax, TooDeep, Capture, LateGlobal, OutsideLoop, OutsideFunction, TooLong, StateTooBig}
 
+-- the number of the fault, which the line tells
 abbrev pub number_of : SourceCode → ℕ
 number_of BadByte = 1
 number_of BadToken = 2
@@ -18,6 +19,7 @@ number_of OutsideFunction = 11
 number_of TooLong = 12
 number_of StateTooBig = 13
 
+-- the name of the fault, which the line tells
 abbrev pub name_of : SourceCode → List ℕ
 name_of BadByte = codes "BadByte"
 name_of BadToken = codes "BadToken"

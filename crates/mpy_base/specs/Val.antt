@@ -4,6 +4,7 @@ use Rattle.mpy_base.specs.declared.builtin.Builtin.{Builtin}
 use Rattle.mpy_base.specs.World.{World}
 
 mutual
+  -- a value
   pub data Val : Type 0 where
     Nil : Val
     Truth : Bool → Val
@@ -23,6 +24,7 @@ mutual
     Only : Val → Vals
     Then : Val → Vals → Vals
 
+-- the items as a list
 abbrev pub vals : Vals → List Val
 vals (Only v) = v ∷ []
 vals (Then v vs) = v ∷ vals vs

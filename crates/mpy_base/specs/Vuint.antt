@@ -1,6 +1,7 @@
 -- Numbers in groups of seven bits, the most significant group first. Bit 7 is set on every byte but the last.
 use Rattle.std.specs.Prelude.{◌≡◌, ◌⊎◌, ℕ, zero, suc, ◌+◌, ◌*◌, ◌/◌, ◌%◌, ◌^◌, ◌<◌, ◌≤◌, List, [], ◌∷◌, ◌++◌, length, take, fold, All, ◌==◌, if◌then◌else◌}
 
+-- bit 7 of the byte is set, so that another one follows
 abbrev pub HasMore : ℕ → Type 0
 HasMore byte = 128 ≤ byte
 
@@ -33,6 +34,7 @@ pub record HasFiveMore (bytes : List ℕ) : Type 0 where
   pub more : All HasMore (take 5 bytes)
   pub five : 5 ≤ length bytes
 
+-- the bytes begin with groups of 2^31 or more
 pub record BeginsTooBig (bytes : List ℕ) : Type 0 where
   pub text : List ℕ
   pub rest : List ℕ
@@ -41,6 +43,7 @@ pub record BeginsTooBig (bytes : List ℕ) : Type 0 where
   pub groups : Groups text n
   pub big : 2 ^ 31 ≤ n
 
+-- the bytes begin with a number that has no spelling
 abbrev pub PassesForm : List ℕ → Type 0
 PassesForm bytes = HasFiveMore bytes ⊎ BeginsTooBig bytes
 

@@ -5,6 +5,7 @@ use Rattle.std.specs.Prelude.{◌≡◌, ℕ, ℤ, List, [], Option, Some, None,
 use Rattle.mpy_base.specs.declared.builtin.Builtin.{Builtin}
 use Rattle.mpy_base.specs.declared.kind.Kind.{Kind}
 
+-- an object, over values and names of these types
 pub data Object (V N : Type 0) : Type 0 where
   ListObject : (items : List V) → (room : ℕ) → Object V N
   TupleObject : (items : List V) → Object V N
@@ -20,6 +21,7 @@ pub data Object (V N : Type 0) : Type 0 where
   -- a new module has no dict of names yet
   ModuleObject : (name : N) → (names : Option ℕ) → Object V N
 
+-- the kinds of objects
 pub data ObjectKind : Type 0 where
   AList ATuple AText ADict AFunction AnException AMethod ARange AModule : ObjectKind
 
@@ -43,6 +45,7 @@ pub record PortState : Type 0 where
   pub calls : ℕ
   pub failing : List ℕ
 
+-- the world of a program
 pub record World (V N : Type 0) : Type 0 where
   pub heap : Heap V N
   -- the registered modules in the order of registering, each with the number of its object
@@ -50,6 +53,7 @@ pub record World (V N : Type 0) : Type 0 where
   pub ports : List PortState
   pub output : List ℕ
 
+-- the kind of an object
 abbrev pub kind_of : {V N : Type 0} → Option (Object V N) → Option ObjectKind
 kind_of None = None
 kind_of (Some (ListObject items room)) = Some AList
@@ -62,6 +66,7 @@ kind_of (Some (MethodObject value method)) = Some AMethod
 kind_of (Some (RangeObject start stop step)) = Some ARange
 kind_of (Some (ModuleObject name names)) = Some AModule
 
+-- the object of the number, if there is one
 abbrev pub object : {V N : Type 0} → Objects V N → ℕ → Option (Object V N)
 object objects n = slice_index_or objects n None
 
@@ -85,10 +90,12 @@ room_of (Some (ListObject items room)) = room
 room_of (Some (DictObject pairs room)) = room
 room_of _ = 0
 
+-- the bytes of a text that was made
 abbrev pub text_of : {V N : Type 0} → Option (Object V N) → List ℕ
 text_of (Some (TextObject bytes)) = bytes
 text_of _ = []
 
+-- the pairs of a dict
 abbrev pub pairs_of : {V N : Type 0} → Option (Object V N) → List (V × V)
 pairs_of (Some (DictObject pairs room)) = pairs
 pairs_of _ = []
@@ -98,15 +105,19 @@ abbrev pub names_of : {V N : Type 0} → Option (Object V N) → Option ℕ
 names_of (Some (ModuleObject name names)) = names
 names_of _ = None
 
+-- the items of the list or tuple `n`
 abbrev pub items_at : {V N : Type 0} → Heap V N → ℕ → List V
 items_at heap n = items_of (object heap.objects n)
 
+-- the room of the list or dict `n`
 abbrev pub room_at : {V N : Type 0} → Heap V N → ℕ → ℕ
 room_at heap n = room_of (object heap.objects n)
 
+-- the bytes of the text `n`
 abbrev pub text_at : {V N : Type 0} → Heap V N → ℕ → List ℕ
 text_at heap n = text_of (object heap.objects n)
 
+-- the pairs of the dict `n`
 abbrev pub pairs_at : {V N : Type 0} → Heap V N → ℕ → List (V × V)
 pairs_at heap n = pairs_of (object heap.objects n)
 
@@ -118,12 +129,15 @@ with_object heap n o = record heap { objects = slice_set heap.objects n (Some o)
 abbrev pub with_list : {V N : Type 0} → Heap V N → ℕ → List V → Heap V N
 with_list heap n items = with_object heap n (ListObject items (room_at heap n))
 
+-- with a tuple of these items
 abbrev pub with_tuple : {V N : Type 0} → Heap V N → ℕ → List V → Heap V N
 with_tuple heap n items = with_object heap n (TupleObject items)
 
+-- with a text of these bytes
 abbrev pub with_text : {V N : Type 0} → Heap V N → ℕ → List ℕ → Heap V N
 with_text heap n bytes = with_object heap n (TextObject bytes)
 
+-- with a dict that has these pairs in the room that it has
 abbrev pub with_dict : {V N : Type 0} → Heap V N → ℕ → List (V × V) → Heap V N
 with_dict heap n pairs = with_object heap n (DictObject pairs (room_at heap n))
 
@@ -137,9 +151,11 @@ abbrev pub named : {V N : Type 0} → Option (Object V N) → ℕ → Option (Ob
 named (Some (ModuleObject name names)) new_names = Some (ModuleObject name (Some new_names))
 named other new_names = other
 
+-- with the exception `n` at that place
 abbrev pub with_place : {V N : Type 0} → Heap V N → ℕ → N → ℕ → N → Heap V N
 with_place heap n file line name =
     record heap { objects = slice_set heap.objects n (placed (object heap.objects n) file line name) }
 
+-- with the module `n`, whose names stand in the dict `names`
 abbrev pub with_names : {V N : Type 0} → Heap V N → ℕ → ℕ → Heap V N
 with_names heap n names = record heap { objects = slice_set heap.objects n (named (object heap.objects n) names) }

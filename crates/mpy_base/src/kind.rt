@@ -63,7 +63,7 @@ impl Kind {
         }
     }
 
-    /// The kind right above.
+    /// The kind that this one is a direct subclass of.
     pub fn parent(self) -> Option<Kind>
         ensures { result ≡ parent_of self }
     {

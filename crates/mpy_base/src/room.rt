@@ -21,7 +21,7 @@ pub struct NoRoom {
     pub bytes: bool,
 }
 
-/// The room of a list or dict that is made for so many items, or None past the numbers.
+/// The room of a list or dict that is made for `items` items, or None where it has no number of 64 bits.
 pub fn room_for(items: u64) -> Option<u64>
     ensures { SomeIff result (room_for items < 2 ^ 64) (room_for items) }
 {

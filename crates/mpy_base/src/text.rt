@@ -39,6 +39,7 @@ impl Text {
         })
     }
 
+    /// The bytes of the text, lent for reading.
     pub fn bytes(&self) -> &[u8]
         ensures { result.now ≡ self.now }
     {

@@ -1,4 +1,4 @@
-//! A case.
+//! A case: files of a folder, and commands that are called in it with what each must print and write.
 
 use crate::command::Command;
 use crate::parts::put;
@@ -18,6 +18,7 @@ pub struct Case {
 }
 
 impl Case {
+    /// A case with an empty folder, and no command.
     pub fn new(alloc: Global) -> Case {
         Case {
             files: Vec::new(alloc),
@@ -42,12 +43,14 @@ impl Case {
         }
     }
 
+    /// Adds a file of this name, with no bytes yet.
     fn add_file(&mut self, alloc: Global, name: &str) -> Result<(), AllocError> {
         let name = String::from_str(alloc, name)?;
         self.files.push((name, Vec::new(alloc)))?;
         Ok(())
     }
 
+    /// Adds a command of these words.
     fn add_command(&mut self, alloc: Global, words: &str) -> Result<(), AllocError> {
         let command = Command::new(alloc, words)?;
         self.commands.push(command)?;
@@ -95,6 +98,7 @@ pub struct Count {
 }
 
 impl Count {
+    /// No case and no command as yet.
     pub fn new(alloc: Global) -> Count {
         Count {
             cases: 0,

@@ -88,6 +88,7 @@ fn holds_all(folder: &MemFolder, files: &[(String, Vec<u8>)]) -> bool {
 }
 
 impl Command {
+    /// The command of the line's words, of which status 0 and no output is expected until more is said.
     pub fn new(alloc: Global, line: &str) -> Result<Command, AllocError> {
         Ok(Command {
             words: words(alloc, line)?,

@@ -52,6 +52,7 @@ fn tell(rt: &HostRuntime, name: &str, count: &Count) -> io::Result<u8> {
     Ok(status)
 }
 
+/// Tries the cases of each table that the file `tables` names, and tells which commands come to something else.
 fn main(rt: HostRuntime) -> io::Result<ExitCode> {
     let tables = fs::read_to_string(&rt, "tables")?;
     let mut status = 0;

@@ -1,4 +1,4 @@
-//! Parts of lines.
+//! What the lines of a table have behind their tags: words, numbers, texts and bytes.
 
 use std::alloc::{AllocError, Global};
 
@@ -29,6 +29,7 @@ pub fn numbers(alloc: Global, text: &str) -> Result<Vec<i32>, AllocError> {
     Ok(numbers)
 }
 
+/// Adds a line.
 fn put_line(to: &mut Vec<u8>, line: &str) -> Result<(), AllocError> {
     to.extend_from_slice(line.as_bytes())?;
     to.push(b'\n')?;
@@ -45,6 +46,7 @@ fn put_often(to: &mut Vec<u8>, counted: &str, end: &str) -> Result<(), AllocErro
     Ok(())
 }
 
+/// The value of a hexadecimal digit.
 fn digit_of(byte: u8) -> u8 {
     if byte < b'a' {
         byte.wrapping_sub(b'0')
@@ -53,6 +55,7 @@ fn digit_of(byte: u8) -> u8 {
     }
 }
 
+/// Adds bytes that are written in hexadecimal.
 fn put_bytes(to: &mut Vec<u8>, digits: &str) -> Result<(), AllocError> {
     for pair in digits.as_bytes().chunks_exact(2) {
         if let [high, low] = pair {

@@ -101,7 +101,7 @@ pub child_at : (codes : List RawCode) (k : ℕ) (child : RawCode) (path : List �
 child_at codes k child path within read =
     ap (λ (z : List RawCode). in_children path k (map preorder z)) (drop_more codes k child within ∙ ap (λ (z : RawCode). z ∷ drop (k + 1) codes) (sym read))
 
--- so many children were put: with the texts of the others, the text is one of the code and of those in it
+-- the first `place` children were put: with the texts of the others, the text is one of the code and of those in it
 abbrev pub Reached : {S : Type 0} → (S → Option (List ℕ)) → (S → ℕ) → S → S → Module → List ℕ → RawCode → ℕ → Type 0
 Reached told count old now m path code place =
     (rest : List ℕ) → Many (IsCodeText m) rest (in_children path place (map preorder (drop place (children code))))

@@ -17,6 +17,7 @@ abbrev pub path_step : Path-F (List ℕ) → List ℕ
 path_step Path-F.Outermost = []
 path_step (Path-F.Child above place) = above.now ++ place ∷ []
 
+-- the places on the way from the outermost code to one, the first of them first
 abbrev pub places : Path → List ℕ
 places = fold-Path (List ℕ) path_step
 
@@ -25,6 +26,7 @@ pub record Placed : Type 0 where
   pub path : List ℕ
   pub bytes : List ℕ
 
+-- own bytes with the path of their code
 abbrev pub placed : List ℕ → List ℕ → Placed
 placed path bytes = record { path = path; bytes = bytes }
 
@@ -33,6 +35,7 @@ abbrev pub in_children : List ℕ → ℕ → List (List ℕ → List Placed) �
 in_children path place [] = []
 in_children path place (child ∷ children) = child (path ++ place ∷ []) ++ in_children path (place + 1) children
 
+-- a code, and then those in it
 abbrev pub preorder_step : RawCode-F (List ℕ → List Placed) → List ℕ → List Placed
 preorder_step code path = placed path code.bytes ∷ in_children path 0 code.children
 
@@ -44,12 +47,14 @@ preorder = fold-RawCode (List ℕ → List Placed) preorder_step
 abbrev pub path_text : List ℕ → List ℕ
 path_text path = codes "0" ++ flat_map (λ place. codes "." ++ decimal place) path
 
+-- the numbers of a code's prelude, and how many bytes it has
 abbrev pub numbers_text : Prelude → ℕ → List ℕ
 numbers_text prelude size =
     codes " args " ++ (decimal prelude.args ++ (codes " defaults " ++ (decimal prelude.defaults
     ++ (codes " state " ++ (decimal prelude.n_state ++ (codes " handlers " ++ (decimal prelude.n_exc
     ++ (codes " bytes " ++ (decimal size ++ codes "\n")))))))))
 
+-- the line of a code
 abbrev pub code_line : Module → List ℕ → ℕ → Prelude → ℕ → List ℕ
 code_line m path name prelude size =
     codes "code " ++ (path_text path ++ (codes " " ++ (name_text_at m name ++ numbers_text prelude size)))

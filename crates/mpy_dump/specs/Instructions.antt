@@ -15,9 +15,11 @@ abbrev pub name_or_number : Option (List ℕ) → ℕ → List ℕ
 name_or_number None n = codes "?" ++ decimal n
 name_or_number (Some name) n = name_text name
 
+-- the name of number `n` as it is listed, or the number where it leads to no text
 abbrev pub name_text_at : Module → ℕ → List ℕ
 name_text_at m n = name_or_number (name_at m n) n
 
+-- the name of an instruction
 abbrev pub instr_name : Instr → List ℕ
 instr_name (Plain op) = operation_name op
 instr_name (Name op n) = operation_name op
@@ -45,13 +47,15 @@ operand_text m end (Binary op) = codes " " ++ binary_sign op
 abbrev pub instr_head : ℕ → ℕ → Instr → List ℕ
 instr_head start line instr = decimal start ++ (codes " " ++ (decimal line ++ (codes " " ++ instr_name instr)))
 
--- the same with the blank behind the line, and what follows it up to the line's end
+-- what a line of an instruction begins with: the offset and the line, each with a blank behind
 abbrev pub head_text : ℕ → ℕ → List ℕ
 head_text start line = decimal start ++ (codes " " ++ (decimal line ++ codes " "))
 
+-- the end of an instruction's line, from its name on
 abbrev pub instr_tail : Module → ℕ → Instr → List ℕ
 instr_tail m end instr = instr_name instr ++ (operand_text m end instr ++ codes "\n")
 
+-- the line of an instruction that starts at `start` and ends at `end`
 abbrev pub instr_line : Module → ℕ → ℕ → ℕ → Instr → List ℕ
 instr_line m start line end instr = instr_head start line instr ++ (operand_text m end instr ++ codes "\n")
 

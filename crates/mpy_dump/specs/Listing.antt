@@ -20,11 +20,13 @@ abbrev pub spelling_text : Qstr → List ℕ
 spelling_text (Static number) = codes "static " ++ (decimal number ++ codes " ")
 spelling_text (Own text) = codes "own "
 
+-- the line of a text of the table
 abbrev pub qstr_line : ℕ → Qstr → List ℕ
 qstr_line n qstr =
     (codes "qstr " ++ (decimal n ++ codes " "))
     ++ (spelling_text qstr ++ (name_text (unwrap_or (text_of qstr) []) ++ codes "\n"))
 
+-- the line of an object of the table
 abbrev pub object_line : ℕ → Constant → List ℕ
 object_line n object = (codes "object " ++ (decimal n ++ codes " ")) ++ (object_text object ++ codes "\n")
 

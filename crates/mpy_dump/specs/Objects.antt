@@ -11,10 +11,11 @@ use Rattle.mpy_dump.specs.Numbered.{numbered}
 abbrev pub gap : ℕ → List ℕ
 gap place = if place == 0 then [] else codes ", "
 
+-- an item of a tuple, with what stands in front of it
 abbrev pub item_text : ℕ → List ℕ → List ℕ
 item_text place item = gap place ++ item
 
--- what stands behind so many items: a lone one has a comma
+-- what stands behind `count` items: a lone one has a comma
 abbrev pub closing : ℕ → List ℕ
 closing count = if count == 1 then codes ",)" else codes ")"
 
@@ -27,5 +28,6 @@ object_step (Constant-F.Str text) = str_text text
 object_step (Constant-F.Int n) = signed_decimal n
 object_step (Constant-F.Tuple items) = codes "(" ++ (numbered item_text 0 items ++ closing (length items))
 
+-- an object as it is listed
 abbrev pub object_text : Constant → List ℕ
 object_text = fold-Constant (List ℕ) object_step

@@ -3,6 +3,7 @@ use Rattle.std.specs.Prelude.{ℕ, List, [], ◌∷◌, codes, nat_le, ◌&&◌,
 use Rattle.bc_ops.specs.declared.instr.Op.{Op}
 use Rattle.bc_ops.specs.declared.instr.Op.TheVariants.{LoadConstString, LoadName, LoadGlobal, LoadAttr, LoadMethod, StoreName, StoreGlobal, StoreAttr, DeleteName, DeleteGlobal, ImportName, ImportFrom, LoadConstObj, LoadFastN, StoreFastN, DeleteFast, BuildTuple, BuildList, BuildMap, UnpackSequence, MakeFunction, MakeFunctionDefargs, CallFunction, CallMethod, Jump, PopJumpIfTrue, PopJumpIfFalse, JumpIfTrueOrPop, JumpIfFalseOrPop, SetupExcept, SetupFinally, PopExceptJump, ForIter, LoadConstFalse, LoadConstNone, LoadConstTrue, LoadNull, LoadSubscr, StoreSubscr, DupTop, DupTopTwo, PopTop, RotTwo, RotThree, EndFinally, GetIterStack, StoreMap, ReturnValue, RaiseLast, RaiseObj, LoadFast, StoreFast}
 
+-- the name of an operation: MicroPython's own
 abbrev pub operation_name : Op → List ℕ
 operation_name LoadConstString = codes "LOAD_CONST_STRING"
 operation_name LoadName = codes "LOAD_NAME"
@@ -61,15 +62,18 @@ operation_name StoreFast = codes "STORE_FAST"
 abbrev pub unary_signs : List (List ℕ)
 unary_signs = codes "+" ∷ codes "-" ∷ codes "~" ∷ codes "not" ∷ []
 
+-- the signs of operators with two operands, by their numbers: comparisons, then in place, then plain
 abbrev pub binary_signs : List (List ℕ)
 binary_signs =
     codes "<" ∷ codes ">" ∷ codes "==" ∷ codes "<=" ∷ codes ">=" ∷ codes "!=" ∷ codes "in" ∷ codes "is" ∷ codes "match"
     ∷ codes "|" ∷ codes "^" ∷ codes "&" ∷ codes "<<" ∷ codes ">>" ∷ codes "+" ∷ codes "-" ∷ codes "*" ∷ codes "@" ∷ codes "//" ∷ codes "/" ∷ codes "%" ∷ codes "**"
     ∷ codes "|" ∷ codes "^" ∷ codes "&" ∷ codes "<<" ∷ codes ">>" ∷ codes "+" ∷ codes "-" ∷ codes "*" ∷ codes "@" ∷ codes "//" ∷ codes "/" ∷ codes "%" ∷ codes "**" ∷ []
 
+-- the sign of an operator with one operand
 abbrev pub unary_sign : ℕ → List ℕ
 unary_sign n = slice_index_or unary_signs n []
 
+-- the sign of an operator with two operands
 abbrev pub binary_sign : ℕ → List ℕ
 binary_sign n = slice_index_or binary_signs n []
 

@@ -3,6 +3,7 @@ use Rattle.std.specs.Prelude.{◌≡◌, ℕ, List, ◌++◌, Option, Result, On
 use Rattle.mpy_io.specs.declared.fault.Failed.{Failed}
 use Rattle.mpy_dump.specs.Puts.{Puts}
 
+-- what a pen has gathered, and how many puts failed
 pub record PenState : Type 0 where
   -- what is gathered
   pub text : List ℕ

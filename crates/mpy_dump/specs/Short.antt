@@ -8,10 +8,11 @@ use Rattle.mpy_dump.specs.declared.head.Head.{Head}
 use Rattle.mpy_dump.specs.declared.tails.Tails.{Tails}
 use Rattle.mpy_dump.specs.Instructions.{head_text, instr_tail}
 
+-- the text, which is a front of the bytes
 abbrev pub short_text : Short → List ℕ
 short_text short = take short.len short.bytes
 
--- its digit is put into its text
+-- what a line begins with: the text of the head, with its last digit put in
 abbrev pub begins : Head → List ℕ
 begins head = slice_set (short_text head.text) head.last head.digit
 
@@ -32,9 +33,11 @@ AreSingles m tails = (byte : ℕ) (other : Short) → byte < 256 → IsTail m (b
 abbrev pub two_bytes : ℕ → List ℕ
 two_bytes place = (16 + place / 128) ∷ place % 128 ∷ []
 
+-- a tail for each pair, at its place
 abbrev pub ArePairs : Module → List Short → Type 0
 ArePairs m tails = (place : ℕ) (other : Short) → place < 5120 → IsTail m (two_bytes place) (slice_index_or tails place other)
 
+-- the tails of both kinds
 pub record AreTails (m : Module) (tails : Tails) : Type 0 where
   pub singles : AreSingles m tails.singles
   pub pairs : ArePairs m tails.pairs

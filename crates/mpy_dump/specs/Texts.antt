@@ -18,6 +18,7 @@ is_control byte = nat_lt byte 32 || byte == 127
 abbrev pub name_byte : ℕ → List ℕ
 name_byte byte = if is_control byte || byte == 92 then hex byte else byte ∷ []
 
+-- a name as it is listed
 abbrev pub name_text : List ℕ → List ℕ
 name_text name = flat_map name_byte name
 
@@ -31,6 +32,7 @@ str_byte quote byte =
     else if is_control byte then hex byte
     else byte ∷ []
 
+-- is the byte among those of the text?
 abbrev pub has_byte : ℕ → List ℕ → Bool
 has_byte byte text = list_any (λ b. b == byte) text
 
@@ -38,11 +40,14 @@ has_byte byte text = list_any (λ b. b == byte) text
 abbrev pub quote_of : List ℕ → ℕ
 quote_of text = if has_byte 39 text && not (has_byte 34 text) then 34 else 39
 
+-- the bytes between the quotes
 abbrev pub inside : ℕ → List ℕ → List ℕ
 inside quote text = flat_map (str_byte quote) text
 
+-- the text between these quotes
 abbrev pub quoted : ℕ → List ℕ → List ℕ
 quoted quote text = quote ∷ (inside quote text ++ quote ∷ [])
 
+-- a str as it is listed
 abbrev pub str_text : List ℕ → List ℕ
 str_text text = quoted (quote_of text) text

@@ -30,6 +30,7 @@ struct Parts<'a> {
     instructions: &'a [u8],
 }
 
+/// Takes a code's own bytes apart.
 fn parts_of(bytes: &[u8]) -> Parts<'_>
     requires { (texts : ℕ) × IsOwnCode texts bytes.now }
     ensures { (begins : Begins bytes.now result.prelude) × (result.name ≡ slice_index begins.indexes 0)
@@ -51,7 +52,7 @@ fn parts_of(bytes: &[u8]) -> Parts<'_>
     }
 }
 
-/// Puts the numbers of a code with so many bytes.
+/// Puts the numbers of a code of `size` bytes.
 fn put_numbers<S: Sink>(out: &mut S, prelude: &Prelude, size: usize) -> Result<(), Failed>
     ensures { Puts S.told S.count out.old out.new (specs.numbers_text prelude.now size) result }
 {
@@ -80,7 +81,7 @@ fn put_numbers<S: Sink>(out: &mut S, prelude: &Prelude, size: usize) -> Result<(
     )
 }
 
-/// Puts the line of a code with so many bytes.
+/// Puts the line of a code of `size` bytes.
 fn put_line<S: Sink>(
     out: &mut S,
     module: &RawModule,
@@ -139,7 +140,7 @@ fn put_nest<'a, S: Sink>(
     Ok(())
 }
 
-/// The same, by a pen and tails that are made for it.
+/// Puts the lines of a code, and of those in it, by a pen and tails that are made for it.
 pub(crate) fn put_codes<'a, S: Sink>(
     out: &mut S,
     module: &'a RawModule,

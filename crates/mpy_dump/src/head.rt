@@ -18,6 +18,7 @@ pub(crate) struct Head {
     pub line: u32,
 }
 
+/// The head of the line of an instruction at the offset `start`, which is in the line `line` of the source.
 pub(crate) fn head_of(start: u32, line: u32) -> Head
     ensures is { IsHead start result }
     ensures line { result.line ≡ line }
@@ -54,7 +55,7 @@ pub(crate) fn count_up(head: &mut Head, start: u32, by: u32)
     }
 }
 
-/// Makes the line another.
+/// Puts another number of a line into the head, where it differs.
 #[inline(always)]
 pub(crate) fn set_line(head: &mut Head, start: u32, line: u32)
     requires { IsHead start head.old }

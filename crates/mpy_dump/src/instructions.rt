@@ -23,6 +23,7 @@ use mpy_base::limits::MAX_CODE_BYTES;
 use mpy_io::{Failed, Sink};
 use mpy_tree::RawModule;
 
+/// The name of an instruction, as it is listed.
 fn instr_name(instr: Instr) -> &'static [u8]
     ensures { result.now ≡ specs.instr_name instr }
 {
@@ -36,6 +37,7 @@ fn instr_name(instr: Instr) -> &'static [u8]
     }
 }
 
+/// Puts a blank and the name of number `n`, or the number where it leads to no text.
 fn put_spaced_name<S: Sink>(out: &mut S, module: &RawModule, n: u32) -> Result<(), Failed>
     ensures { Puts S.told S.count out.old out.new (codes " " ++ specs.name_text_at module.now n) result }
 {
@@ -43,6 +45,7 @@ fn put_spaced_name<S: Sink>(out: &mut S, module: &RawModule, n: u32) -> Result<(
     put_name_at(out, module, n)
 }
 
+/// Puts a target and a byte, a blank before each.
 fn put_two<S: Sink>(out: &mut S, target: i64, byte: u8) -> Result<(), Failed>
     ensures { Puts S.told S.count out.old out.new
         (codes " " ++ (signed_decimal target ++ (codes " " ++ decimal byte))) result }
@@ -140,7 +143,7 @@ fn gather_read<S: Sink>(
     gather_tail(out, pen, module, end, instr)
 }
 
-/// The same by the ends that are there for two bytes.
+/// Gathers the end of the line of the instruction at `at`, which is moved behind it: that which is kept for its two bytes, where one is.
 #[inline(always)]
 fn gather_pair<S: Sink>(
     out: &mut S,
@@ -169,7 +172,7 @@ fn gather_pair<S: Sink>(
     Ok(())
 }
 
-/// The same by the ends that are there.
+/// Gathers the end of the line of the instruction at `at`, which is moved behind it: that which is kept for its bytes, where one is.
 #[inline(always)]
 fn gather_end<S: Sink>(
     out: &mut S,

@@ -37,7 +37,7 @@ fn gap(place: usize) -> &'static [u8]
     if place == 0 { b"" } else { b", " }
 }
 
-/// What stands behind so many items.
+/// What stands behind `count` items of a tuple: a lone one has a comma.
 fn closing(count: usize) -> &'static [u8]
     ensures { result.now ≡ specs.closing count }
 {

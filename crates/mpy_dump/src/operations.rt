@@ -75,7 +75,7 @@ const BINARY_SIGNS: [&[u8]; 35] = [
     b"*", b"@", b"//", b"/", b"%", b"**",
 ];
 
-/// The sign with the number.
+/// The sign of the operator of this number, and no bytes where there is none.
 fn sign_at(signs: &[&'static [u8]], n: u8) -> &'static [u8]
     ensures { result.now ≡ slice_index_or (map (λ sign. sign.now) signs.now) n [] }
 {

@@ -15,6 +15,7 @@ pub(crate) enum Path<'a> {
     Child(&'a Path<'a>, usize),
 }
 
+/// Puts one step of a path: a dot and the place.
 fn put_place<S: Sink>(out: &mut S, place: usize) -> Result<(), Failed>
     ensures { Puts S.told S.count out.old out.new (codes "." ++ decimal place) result }
 {

@@ -37,6 +37,7 @@ impl Model for Pen {
 }
 
 impl Pen {
+    /// A pen that has gathered nothing, and has room for 4,096 bytes.
     pub(crate) fn new() -> Pen
         ensures { result.text ≡ [] }
     {
@@ -54,6 +55,7 @@ impl Pen {
         &self.bytes[..self.len]
     }
 
+    /// How many bytes are gathered.
     pub(crate) fn len(&self) -> usize
         ensures is { result ≡ length self.now.text }
         ensures room { result ≤ 4096 }
@@ -61,7 +63,7 @@ impl Pen {
         self.len
     }
 
-    /// Keeps so many bytes.
+    /// Keeps the first `len` bytes.
     pub(crate) fn cut(&mut self, len: usize)
         requires { len ≤ length self.old.text }
         ensures { self.new.text ≡ take len self.old.text }

@@ -16,6 +16,7 @@ pub(crate) struct Short {
 impl Short {
     ghost use Rattle.mpy_dump.specs.Short.{short_text};
 
+    /// A text of no byte.
     pub(crate) fn new() -> Short
         ensures text { short_text result ≡ [] }
         ensures len { result.len ≡ 0 }
@@ -26,6 +27,7 @@ impl Short {
         }
     }
 
+    /// Puts the bytes behind the others. There is room for 32 in all.
     pub(crate) fn add(&mut self, piece: &[u8])
         requires { self.old.len + length piece.now ≤ 32 }
         ensures text { short_text self.new ≡ short_text self.old ++ piece.now }

@@ -13,9 +13,10 @@ use mpy_tree::RawModule;
 /// How many bytes there are.
 const BYTES: usize = 256;
 
-/// The first bytes of the instructions whose operand is a number: these on, so many.
+/// The lowest first byte of an instruction whose operand is a number. There are `FIRSTS` of them, one after another.
 const FIRST: usize = 16;
 
+/// How many first bytes there are of instructions whose operand is a number.
 const FIRSTS: usize = 40;
 
 /// How many numbers have one byte.
@@ -27,8 +28,10 @@ const PAIRS: usize = FIRSTS * NUMBERS;
 /// How many numbers are tried at least: locals and counts are mostly smaller.
 const FEW: usize = 16;
 
+/// An end for each byte.
 type Singles = [Short; BYTES];
 
+/// An end for each pair of a first byte and a number.
 type Pairs = [Short; PAIRS];
 
 /// The ends; an empty one where there is none.
@@ -55,7 +58,7 @@ fn short_tail(pen: &mut Pen, module: &RawModule, instr: Instr) -> Short
     tail
 }
 
-/// That of the instruction with these bytes.
+/// The end of the line of the instruction that these bytes are; an empty one where they are none, or it is a jump or long.
 fn tail_of(pen: &mut Pen, module: &RawModule, bytes: &[u8]) -> Short
     ensures { IsTail module.now bytes.now result }
 {
@@ -65,6 +68,7 @@ fn tail_of(pen: &mut Pen, module: &RawModule, bytes: &[u8]) -> Short
     }
 }
 
+/// The ends of the instructions of one byte, by the byte.
 fn singles_of(pen: &mut Pen, module: &RawModule) -> Singles
     ensures { AreSingles module.now result }
 {
@@ -75,7 +79,7 @@ fn singles_of(pen: &mut Pen, module: &RawModule) -> Singles
     singles
 }
 
-/// That of the pair at the place, where its number is below `tried`.
+/// The end of the pair at the place, where its number is below `tried`; else an empty one.
 fn pair_tail(pen: &mut Pen, module: &RawModule, place: usize, tried: usize) -> Short
     requires { place < 5120 }
     ensures { IsTail module.now (two_bytes place) result }
@@ -88,6 +92,7 @@ fn pair_tail(pen: &mut Pen, module: &RawModule, place: usize, tried: usize) -> S
     }
 }
 
+/// The ends of the instructions of two bytes whose number is one of a name, or small, by both bytes.
 fn pairs_of(pen: &mut Pen, module: &RawModule) -> Pairs
     ensures { ArePairs module.now result }
 {
@@ -99,7 +104,7 @@ fn pairs_of(pen: &mut Pen, module: &RawModule) -> Pairs
     pairs
 }
 
-/// Those of all bytes, and of the pairs with the numbers of names.
+/// The ends of the instructions of one byte, and of those of two whose number is one of a name, or small.
 pub(crate) fn tails_of(pen: &mut Pen, module: &RawModule) -> Tails
     ensures { AreTails module.now result }
 {

@@ -1,4 +1,4 @@
-//! Names and strs.
+//! How names and strs are listed: control bytes by number, and strs in quotes.
 
 ghost use Rattle.std.specs.Prelude.{◌≡◌, ◌<◌, ◌==◌, ◌||◌};
 ghost use Rattle.std.specs.List.{list_any};
@@ -8,7 +8,7 @@ ghost use Rattle.mpy_dump.specs.Texts as specs;
 use crate::put::put;
 use mpy_io::{Failed, Sink};
 
-/// A digit of sixteen.
+/// A hexadecimal digit.
 fn hex_digit(n: u8) -> u8
     requires { n < 16 }
     ensures { result ≡ specs.hex_digit n }
@@ -16,13 +16,14 @@ fn hex_digit(n: u8) -> u8
     if n < 10 { b'0' + n } else { b'a' - 10 + n }
 }
 
-/// A byte by its number.
+/// A byte as `\x` and two hexadecimal digits.
 fn hex(byte: u8) -> [u8; 4]
     ensures { result ≡ specs.hex byte }
 {
     [b'\\', b'x', hex_digit(byte / 16), hex_digit(byte % 16)]
 }
 
+/// Is it a control byte: below the blank, or behind the tilde?
 fn is_control(byte: u8) -> bool
     ensures { result ≡ specs.is_control byte }
 {
@@ -36,6 +37,7 @@ fn is_numbered(byte: u8) -> bool
     is_control(byte) || byte == b'\\'
 }
 
+/// Puts a byte of a name: a control byte or a backslash by its number.
 fn put_name_byte<S: Sink>(out: &mut S, byte: u8) -> Result<(), Failed>
     ensures { Puts S.told S.count out.old out.new (specs.name_byte byte) result }
 {
@@ -56,6 +58,7 @@ fn put_name_bytes<S: Sink>(out: &mut S, name: &[u8]) -> Result<(), Failed>
     Ok(())
 }
 
+/// Is a byte of the name written by its number?
 fn has_numbered(name: &[u8]) -> bool
     ensures { result ≡ list_any (λ byte. specs.is_control byte || byte == 92) name.now }
 {
@@ -73,6 +76,7 @@ pub(crate) fn put_name<S: Sink>(out: &mut S, name: &[u8]) -> Result<(), Failed>
     }
 }
 
+/// Puts a byte of a str, behind a backslash where it needs one.
 fn put_str_byte<S: Sink>(out: &mut S, quote: u8, byte: u8) -> Result<(), Failed>
     ensures { Puts S.told S.count out.old out.new (specs.str_byte quote byte) result }
 {
@@ -101,6 +105,7 @@ fn put_inside<S: Sink>(out: &mut S, quote: u8, text: &[u8]) -> Result<(), Failed
     Ok(())
 }
 
+/// Is the byte among those of the text?
 fn has_byte(text: &[u8], byte: u8) -> bool
     ensures { result ≡ specs.has_byte byte text.now }
 {
@@ -118,6 +123,7 @@ fn quote_of(text: &[u8]) -> u8
     }
 }
 
+/// Puts the text between these quotes.
 fn put_quoted<S: Sink>(out: &mut S, quote: u8, text: &[u8]) -> Result<(), Failed>
     ensures { Puts S.told S.count out.old out.new (specs.quoted quote text.now) result }
 {

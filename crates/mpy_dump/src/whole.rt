@@ -1,4 +1,4 @@
-//! The whole listing.
+//! The whole listing: a head, the texts, the objects, and the codes in preorder.
 
 ghost use Rattle.std.specs.Prelude.{◌≡◌, ◌++◌, ℕ, List, [], codes, decimal, unwrap_or};
 ghost use Rattle.mpy_tree.specs.File.{IsModule};
@@ -19,6 +19,7 @@ use itoa::Buffer;
 use mpy_io::{Failed, Sink};
 use mpy_tree::{Constant, Qstr, RawModule, module_law};
 
+/// Puts the first line: the format's version and architecture, the bits of small ints, and how long both tables are.
 fn put_head<S: Sink>(out: &mut S, module: &RawModule) -> Result<(), Failed>
     ensures { Puts S.told S.count out.old out.new (head_line module.now) result }
 {
@@ -61,6 +62,7 @@ fn put_spelling<S: Sink>(out: &mut S, qstr: &Qstr) -> Result<(), Failed>
     }
 }
 
+/// The text of an entry of the table of texts, and no bytes where it has none.
 fn text_or_none(qstr: &Qstr) -> &[u8]
     ensures { result.now ≡ unwrap_or (raw.text_of qstr.now) [] }
 {
@@ -70,6 +72,7 @@ fn text_or_none(qstr: &Qstr) -> &[u8]
     }
 }
 
+/// Puts the line of text `n`.
 fn put_qstr<S: Sink>(out: &mut S, n: usize, qstr: &Qstr) -> Result<(), Failed>
     ensures { Puts S.told S.count out.old out.new (qstr_line n qstr.now) result }
 {
@@ -79,6 +82,7 @@ fn put_qstr<S: Sink>(out: &mut S, n: usize, qstr: &Qstr) -> Result<(), Failed>
     put(out, b"\n")
 }
 
+/// Puts a line for each text.
 fn put_qstrs<S: Sink>(out: &mut S, qstrs: &[Qstr]) -> Result<(), Failed>
     ensures { Puts S.told S.count out.old out.new (numbered qstr_line 0 qstrs.now) result }
 {
@@ -88,6 +92,7 @@ fn put_qstrs<S: Sink>(out: &mut S, qstrs: &[Qstr]) -> Result<(), Failed>
     Ok(())
 }
 
+/// Puts the line of object `n`.
 fn put_object_line<S: Sink>(out: &mut S, n: usize, object: &Constant) -> Result<(), Failed>
     ensures { Puts S.told S.count out.old out.new (object_line n object.now) result }
 {
@@ -96,6 +101,7 @@ fn put_object_line<S: Sink>(out: &mut S, n: usize, object: &Constant) -> Result<
     put(out, b"\n")
 }
 
+/// Puts a line for each object.
 fn put_objects<S: Sink>(out: &mut S, objects: &[Constant]) -> Result<(), Failed>
     ensures { Puts S.told S.count out.old out.new (numbered object_line 0 objects.now) result }
 {

@@ -23,29 +23,30 @@ stop_status Memory = 6
 stop_status (LibraryFault path) = 7
 stop_status (Past limit) = 11
 
--- of an image that has no main module
+-- the status of an image that has no main module
 abbrev pub main_status : MainFault → ℕ
 main_status (mains.Image fault) = 4
 main_status (mains.NoMain name) = 10
 
--- of a manifest whose sources have no modules
+-- the status of a manifest whose sources have no modules
 abbrev pub sources_status : SourcesFault → ℕ
 sources_status (sources.Manifest fault) = 11
 sources_status (sources.Absent name) = 10
 sources_status (sources.Unaccepted name fault) = 3
 sources_status (sources.Unread name) = 7
 
--- and of one whose sources have no image
+-- the status of a manifest whose sources have no image
 abbrev pub frozen_status : FrozenFault → ℕ
 frozen_status (frozen.Sources fault) = sources_status fault
 frozen_status (frozen.Image fault) = 11
 
--- of a board that didn't run its plan
+-- the status of a board that didn't run its plan
 abbrev pub board_status : BoardFault → ℕ
 board_status (boards.Plan fault) = 11
 board_status (boards.NoModule name) = 11
 board_status (boards.Unwritten task) = 8
 
+-- the exit status
 abbrev pub status_of : Ending → ℕ
 status_of Done = 0
 status_of (Unaccepted fault) = 3
@@ -71,11 +72,13 @@ is_read_stop Raised = false
 is_read_stop Memory = false
 is_read_stop (Steps count) = false
 
+-- is it the fault of a file that wasn't written?
 abbrev pub is_output_fault : BoardFault → Bool
 is_output_fault (boards.Plan fault) = false
 is_output_fault (boards.NoModule name) = false
 is_output_fault (boards.Unwritten task) = true
 
+-- whether the folder's count of faults rose where a command ended so
 abbrev pub is_folder_fault : Ending → Bool
 is_folder_fault Done = false
 is_folder_fault (Unaccepted fault) = false
@@ -118,6 +121,7 @@ is_stop_said Raised = true
 is_stop_said Memory = true
 is_stop_said (Steps count) = false
 
+-- whether it was said in the run how the command ended
 abbrev pub is_said : Ending → Bool
 is_said Done = false
 is_said (Unaccepted fault) = false
@@ -143,6 +147,7 @@ IsSettledStop Raised = Unit {0}
 IsSettledStop Memory = Unit {0}
 IsSettledStop (Steps count) = Unit {0}
 
+-- neither a call that failed outside nor want of memory cut the command short that ended so
 abbrev pub IsSettled : Ending → Type 0
 IsSettled Done = Unit {0}
 IsSettled (Unaccepted fault) = Unit {0}

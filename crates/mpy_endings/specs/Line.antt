@@ -54,6 +54,7 @@ fault_text (MissingValue setting) = codes "mpy: words 3 Missing"
 fault_text (BadNumber at) = codes "mpy: words 4 BadNumber"
 fault_text (Twice setting) = codes "mpy: words 5 Twice"
 
+-- the word that a fault of the words names
 abbrev pub fault_word : List (List ℕ) → WordFault → List ℕ
 fault_word words NoCommand = []
 fault_word words (Unknown at) = slice_index_or words at []
@@ -62,9 +63,11 @@ fault_word words (MissingValue setting) = spelling_of setting
 fault_word words (BadNumber at) = slice_index_or words at []
 fault_word words (Twice setting) = spelling_of setting
 
+-- the line of a fault of the words
 abbrev pub words_line : List (List ℕ) → WordFault → List ℕ
 words_line words fault = fault_text fault ++ (spaced (fault_word words fault) ++ codes "\n")
 
+-- the line of a source's fault
 abbrev pub source_line : List ℕ → SourceFault → List ℕ
 source_line name fault =
     (codes "mpy: " ++ name ++ codes ": source ")
@@ -77,6 +80,7 @@ abbrev pub tag_text : Option ℕ → List ℕ
 tag_text None = []
 tag_text (Some tag) = codes " " ++ decimal tag
 
+-- the line of a file's fault
 abbrev pub file_line : List ℕ → FileFault → List ℕ
 file_line name fault =
     (codes "mpy: " ++ name ++ codes ": file ")
@@ -90,6 +94,7 @@ path_text [] = []
 path_text (place ∷ []) = decimal place
 path_text (place ∷ next ∷ places) = decimal place ++ codes "." ++ path_text (next ∷ places)
 
+-- the line of a rule that a module breaks
 abbrev pub verify_line : List ℕ → VerifyFault → List ℕ
 verify_line name fault =
     (codes "mpy: " ++ name ++ codes ": verify ")
@@ -117,7 +122,7 @@ image_line name fault =
     ++ tag_text (image.index_of fault)
     ++ (spaced (image_word fault) ++ codes "\n")
 
--- why modules have none
+-- the line of modules that have no image
 abbrev pub modules_line : ImageFault → List ℕ
 modules_line fault =
     codes "mpy: image "
@@ -136,6 +141,7 @@ manifest_word (manifests.Deep name) = name
 manifest_word manifests.TooMany = []
 manifest_word (manifests.ReadFault name) = name
 
+-- the line of the manifest that a fault tells, if it tells one
 abbrev pub manifest_number : ManifestFault → Option ℕ
 manifest_number (manifests.BadCall name line) = Some line
 manifest_number (manifests.Loop name) = None
@@ -166,7 +172,7 @@ sources_line name (sources.Absent other) = named_line (codes "mpy: absent") othe
 sources_line name (sources.Unaccepted other fault) = source_line other fault
 sources_line name (sources.Unread other) = named_line (codes "mpy: read fault") other
 
--- and why no image
+-- the line of a manifest whose sources have no image
 abbrev pub frozen_line : List ℕ → FrozenFault → List ℕ
 frozen_line name (frozen.Sources fault) = sources_line name fault
 frozen_line name (frozen.Image fault) = modules_line fault
@@ -177,6 +183,7 @@ plan_text (plans.BadLine line) = codes "1 BadLine"
 plan_text (plans.NoTask line) = codes "2 NoTask"
 plan_text plans.TooMany = codes "3 TooMany"
 
+-- the line of the plan that a fault tells, if it tells one
 abbrev pub plan_number : PlanFault → Option ℕ
 plan_number (plans.BadLine line) = Some line
 plan_number (plans.NoTask line) = Some line

@@ -46,6 +46,7 @@ impl Stop {
     }
 }
 
+/// The status of an image that has no main module.
 fn main_status(fault: &MainFault) -> u8
     ensures { result ≡ spec.main_status fault.now }
 {
@@ -55,6 +56,7 @@ fn main_status(fault: &MainFault) -> u8
     }
 }
 
+/// The status of a manifest whose sources have no modules.
 fn sources_status(fault: &SourcesFault) -> u8
     ensures { result ≡ spec.sources_status fault.now }
 {
@@ -66,6 +68,7 @@ fn sources_status(fault: &SourcesFault) -> u8
     }
 }
 
+/// The status of a manifest whose sources have no image.
 fn frozen_status(fault: &FrozenFault) -> u8
     ensures { result ≡ spec.frozen_status fault.now }
 {
@@ -86,6 +89,7 @@ pub enum BoardFault {
     Unwritten(u32),
 }
 
+/// The status of a board that didn't run its plan.
 fn board_status(fault: &BoardFault) -> u8
     ensures { result ≡ spec.board_status fault.now }
 {
@@ -170,7 +174,7 @@ pub struct Ended {
 }
 
 impl Ended {
-    /// That of a command that reads the first named file and writes the second.
+    /// How a command ended that reads the first named file and writes the second, and the place of the word that its line names.
     pub fn of_two(ending: Ending) -> Ended
         ensures ending { result.ending ≡ ending }
         ensures place { result.place ≡ place_in ending }

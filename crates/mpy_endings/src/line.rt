@@ -35,7 +35,7 @@ fn fault_text(fault: WordFault) -> &'static [u8]
     }
 }
 
-/// The word that it names.
+/// The word of the command that a fault is about, or what it lacks.
 fn fault_word(words: &[String], fault: WordFault) -> &[u8]
     ensures { result.now ≡ spec.fault_word (map string_bytes words.now) fault }
 {

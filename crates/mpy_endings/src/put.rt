@@ -1,4 +1,4 @@
-//! Pieces of lines.
+//! Pieces of lines, put on a sink one after another up to the first put that fails.
 
 ghost use Rattle.std.specs.Prelude.{◌≡◌, ◌++◌, codes, decimal};
 ghost use Rattle.mpy_endings.specs.Line.{Puts, named_line, spaced, tag_text};

@@ -10,6 +10,7 @@ use Rattle.mpy_tree.specs.declared.module.Code.{Code, out-Code}
 use Rattle.mpy_tree.specs.declared.module.ModuleCode.{ModuleCode}
 use Rattle.mpy_writer.specs.Codes.{codes}
 
+-- the text is no longer than a file
 abbrev pub text_fits : List ℕ → Bool
 text_fits text = nat_le (length text) MAX_FILE_BYTES
 
@@ -22,6 +23,7 @@ object_fits (Constant-F.Str text) = text_fits text
 object_fits (Constant-F.Int n) = true
 object_fits (Constant-F.Tuple items) = true
 
+-- the texts of an instruction are no longer than a file
 abbrev pub item_fits : Item → Bool
 item_fits (items.Plain instr) = true
 item_fits (items.Named op text) = text_fits text
@@ -33,8 +35,10 @@ item_fits (items.Unwind position byte) = true
 abbrev pub code_fits : Code → Bool
 code_fits code = text_fits (out-Code code).name && (list_all text_fits (out-Code code).args && list_all item_fits (out-Code code).instrs)
 
+-- the texts of a module are no longer than a file
 abbrev pub module_fits : ModuleCode → Bool
 module_fits m = text_fits m.source && list_all code_fits (codes m)
 
+-- the texts of a module are no longer than a file, as a fact
 abbrev pub TextsFit : ModuleCode → Type 0
 TextsFit m = module_fits m ≡ true

@@ -12,12 +12,14 @@ use mpy_base::Text;
 use mpy_base::limits::{MAX_DEPTH, MAX_FILE_BYTES};
 use mpy_tree::{Code, Constant, Item, ModuleCode};
 
+/// Is the text no longer than a file?
 fn text_fits(text: &Text) -> bool
     ensures { result ≡ spec.text_fits text.now }
 {
     text.bytes().len() <= MAX_FILE_BYTES
 }
 
+/// Are the texts of an instruction no longer than a file?
 fn item_fits(item: &Item) -> bool
     ensures { result ≡ spec.item_fits item.now }
 {
@@ -28,6 +30,7 @@ fn item_fits(item: &Item) -> bool
     }
 }
 
+/// Are these texts no longer than a file?
 fn all_texts_fit(texts: &[Text]) -> bool
     ensures { result ≡ list_all spec.text_fits texts.now }
 {
@@ -39,6 +42,7 @@ fn all_texts_fit(texts: &[Text]) -> bool
     true
 }
 
+/// Are the texts of these instructions no longer than a file?
 fn all_items_fit(items: &[Item]) -> bool
     ensures { result ≡ list_all spec.item_fits items.now }
 {
@@ -59,7 +63,7 @@ fn code_fits(code: &Code) -> bool
         && all_items_fit(code.instrs.as_slice())
 }
 
-/// Those of a code and of the codes in it, at most `levels` levels deep.
+/// The texts of a code and of the codes in it, at most `levels` levels deep.
 fn codes_fit(code: &Code, levels: usize) -> bool
     requires { IsShallow levels code.now }
     ensures { result ≡ list_all spec.code_fits (codes_in levels code.now) }

@@ -39,6 +39,7 @@ module _ (program : Program) (room : Room) (steps : ℕ) (ports : List PortState
     pub earlier_means : MeansRun program room.cells room.bytes ports taken earlier
     pub told : Tell new.ports earlier.world.ports
 
+  -- the run ended as the program means
   abbrev pub EndsAsMeant : (old new : Sight) → RunEnd → (said : List ℕ) → Type 0
   EndsAsMeant old new ends.Ended said = RanAsMeant old new ends.Ended said
   EndsAsMeant old new ends.Raised said = RanAsMeant old new ends.Raised said

@@ -5,9 +5,11 @@ use Rattle.mpy_base.specs.declared.limits.TheConstants.{MAX_READ_BYTES}
 use Rattle.mpy_io.specs.declared.fault.ReadFault.{ReadFault}
 use Rattle.mpy_io.specs.declared.fault.ReadFault.TheVariants.{Absent, TooLong, Failed, NoMemory}
 
+-- the bytes of the file of each name, where there is one
 abbrev pub FileOf : Type 0
 FileOf = List ℕ → Option (List ℕ)
 
+-- did the read fail outside?
 abbrev pub is_failed : Result (Vec ℕ Global) ReadFault → Bool
 is_failed (Ok bytes) = false
 is_failed (Err Absent) = false
@@ -28,7 +30,7 @@ pub record Sets (old new : FileOf) (name bytes : List ℕ) : Type 0 where
   pub here : new name ≡ Some bytes
   pub others : (other : List ℕ) → other ≢ name → new other ≡ old other
 
--- the same of what a folder tells
+-- where a folder tells its files, it tells now that the name stands for these bytes, and each other name for what it stood for
 abbrev pub Becomes : Option FileOf → Option FileOf → List ℕ → List ℕ → Type 0
 Becomes old new name bytes = IfSome old (λ file. (now : FileOf) × (new ≡ Some now) × Sets file now name bytes)
 
@@ -40,8 +42,10 @@ BecomesFront old new name bytes = (new ≡ old) ⊎ ((front rest : List ℕ) × 
 abbrev pub appended : Option (List ℕ) → List ℕ → List ℕ
 appended file bytes = unwrap_or file [] ++ bytes
 
+-- the file of the name has these bytes behind those that it had, and no other file changes
 abbrev pub AppendsFile : Option FileOf → Option FileOf → List ℕ → List ℕ → Type 0
 AppendsFile old new name bytes = IfSome old (λ file. Becomes old new name (appended (file name) bytes))
 
+-- a front of these bytes went to the file's end, or nothing changed
 abbrev pub AppendsFileFront : Option FileOf → Option FileOf → List ℕ → List ℕ → Type 0
 AppendsFileFront old new name bytes = (new ≡ old) ⊎ ((front rest : List ℕ) × (bytes ≡ front ++ rest) × AppendsFile old new name front)

@@ -30,6 +30,7 @@ file_of (file ∷ files) name = if bytes_eq file.0 name then Some file.1 else fi
 abbrev pub entry_of : String Global × Vec ℕ Global → List ℕ × List ℕ
 entry_of file = (string_bytes file.0, file.1.items)
 
+-- the names and bytes of the files that are held
 abbrev pub entries_of : List (String Global × Vec ℕ Global) → List (List ℕ × List ℕ)
 entries_of files = map entry_of files
 

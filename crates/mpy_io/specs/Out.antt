@@ -2,6 +2,7 @@
 use Rattle.std.specs.Prelude.{ℕ, List, Option}
 use Rattle.std.specs.Io.KnownBytes.{append_known}
 
+-- what a sink holds that writes on to `writer`
 pub record OutState (W : Type 0) : Type 0 where
   pub writer : W
   -- the bytes that were put and not yet written

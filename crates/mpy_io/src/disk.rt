@@ -25,6 +25,7 @@ pub struct DiskFolder<R: Files + Alloc + Drop> {
 }
 
 impl<R: Files + Alloc + Drop> DiskFolder<R> {
+    /// The folder below `root`, which stands in front of each name as it is. Nothing is read yet.
     pub fn new(rt: R, root: String) -> DiskFolder<R>
         ensures { result ≡ record { rt = rt; root = root; faults = 0 } }
     {
@@ -35,7 +36,7 @@ impl<R: Files + Alloc + Drop> DiskFolder<R> {
         }
     }
 
-    // Counts how a write or an append went.
+    /// Counts how a write or an append went.
     fn end(&mut self, done: io::Result<()>) -> Result<(), Failed>
         ensures failed { is_err result ≡ is_err done }
         ensures counted { self.new ≡ record self.old { faults = if is_err result then next self.old.faults else self.old.faults } }
@@ -86,6 +87,7 @@ impl<R: Files + Alloc + Drop> Folder for DiskFolder<R> {
     }
 }
 
+/// The path of a name in a folder.
 fn path_of<A: Allocator>(alloc: A, root: &str, name: &str) -> Result<String<A>, AllocError>
     ensures { IfOk result (λ path. string_bytes path ≡ root.now ++ 47 ∷ name.now) }
 {
@@ -95,6 +97,7 @@ fn path_of<A: Allocator>(alloc: A, root: &str, name: &str) -> Result<String<A>, 
     Ok(path)
 }
 
+/// The content of a file in a folder.
 fn read_file<R: Files + Alloc>(
     rt: &R,
     alloc: Global,
@@ -112,7 +115,7 @@ fn read_file<R: Files + Alloc>(
     }
 }
 
-// What is left to read, but for more than any file that is read has.
+/// What is left to read, but for more than any file that is read has.
 fn read_all<F: Read + Drop>(file: F, alloc: Global) -> Result<Vec<u8>, ReadFault>
     ensures content { IfSome (F.remaining file) (λ bytes. Reads (Some bytes) result) }
     ensures short { IfOk result (λ bytes. length bytes.items ≤ MAX_READ_BYTES) }
@@ -126,6 +129,7 @@ fn read_all<F: Read + Drop>(file: F, alloc: Global) -> Result<Vec<u8>, ReadFault
     }
 }
 
+/// Why a file isn't read that wasn't opened: it is absent also where a part of its path is no folder.
 fn opening_fault(kind: ErrorKind) -> ReadFault
     ensures absent { (result ≡ ReadFault.Absent) ↔ ((kind ≡ ErrorKind.NotFound) ⊎ (kind ≡ ErrorKind.NotADirectory)) }
     ensures no_memory { (result ≡ ReadFault.NoMemory) ↔ (kind ≡ ErrorKind.OutOfMemory) }
@@ -137,11 +141,13 @@ fn opening_fault(kind: ErrorKind) -> ReadFault
     }
 }
 
+/// Makes these bytes the content of a file in a folder.
 fn write_file<R: Files + Alloc>(rt: &R, root: &str, name: &str, bytes: &[u8]) -> io::Result<()> {
     let path = path_of(rt.alloc(), root, name)?;
     fs::write(rt, path.as_str(), bytes)
 }
 
+/// Adds these bytes to a file in a folder, which is made where it is absent.
 fn append_file<R: Files + Alloc>(rt: &R, root: &str, name: &str, bytes: &[u8]) -> io::Result<()> {
     let path = path_of(rt.alloc(), root, name)?;
     let mut file = File::options()

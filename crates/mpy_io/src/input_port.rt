@@ -28,6 +28,7 @@ pub struct InputPort<R: Read + Drop, W: Write + Drop> {
 }
 
 impl<R: Read + Drop, W: Write + Drop> InputPort<R, W> {
+    /// A port that reads its answers from the one and writes its numbers to the other.
     pub fn new(reader: R, writer: W) -> InputPort<R, W>
         ensures { result ≡ record { reader = reader; writer = writer; faults = 0 } }
     {
@@ -38,6 +39,7 @@ impl<R: Read + Drop, W: Write + Drop> InputPort<R, W> {
         }
     }
 
+    /// What the numbers are written to.
     pub fn writer(&self) -> &W
         ensures { result.now ≡ self.now.writer }
     {
@@ -83,7 +85,7 @@ impl<R: Read + Drop, W: Write + Drop> Port for InputPort<R, W> {
     }
 }
 
-// The number on the next line, None at the end.
+/// The number on the next line, None at the end.
 fn next_answer<R: Read>(reader: &mut R) -> Result<Option<i32>, Failed>
     ensures { IfOk result (TakesLine (R.remaining reader.old) (R.remaining reader.new)) }
 {
@@ -99,7 +101,7 @@ fn next_answer<R: Read>(reader: &mut R) -> Result<Option<i32>, Failed>
     Err(Failed)
 }
 
-// None at the end. A read that is interrupted is tried again.
+/// The next byte, None at the end. A read that is interrupted is tried again.
 fn next_byte<R: Read>(reader: &mut R) -> Result<Option<u8>, Failed>
     ensures taken { IfOk result (λ byte. Consumes (R.remaining reader.old) (R.remaining reader.new) (option_to_list byte)) }
     ensures end { result ≡ Ok None → IsAtEnd (R.remaining reader.new) }
@@ -116,6 +118,7 @@ fn next_byte<R: Read>(reader: &mut R) -> Result<Option<u8>, Failed>
     Err(Failed)
 }
 
+/// The number that a line is: decimal digits, with a minus sign or without one.
 fn number_of(text: &[u8]) -> Result<i32, Failed>
     ensures found { IfOk result (λ n. IsDecimal text.now n) }
     ensures only { (n : ℤ) → IsDecimal text.now n → result ≡ Ok n }

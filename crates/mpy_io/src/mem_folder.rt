@@ -34,6 +34,7 @@ impl Model for MemFolder {
 }
 
 impl MemFolder {
+    /// A folder with these files, of whose calls those fail that have these numbers, counted from 0.
     pub fn new(alloc: Global, files: Vec<(String, Vec<u8>)>, fail: Vec<u64>) -> MemFolder
         ensures { result ≡ record { files = entries_of files.items; fail = fail.items; calls = 0; faults = 0; starved = 0 } }
     {
@@ -62,7 +63,7 @@ impl MemFolder {
         self.starved
     }
 
-    // Counts a call, and tells whether it is listed.
+    /// Counts a call, and tells whether it is listed.
     fn begin(&mut self) -> bool
         ensures listed { IsTrue result ↔ Contains self.old.fail self.old.calls }
         ensures counted { self.new ≡ record self.old { calls = next self.old.calls } }
@@ -72,13 +73,14 @@ impl MemFolder {
         listed
     }
 
+    /// Counts a call that failed.
     fn count_fault(&mut self)
         ensures { self.new ≡ record self.old { faults = next self.old.faults } }
     {
         self.faults = self.faults.saturating_add(1);
     }
 
-    // Counts how a write or an append went.
+    /// Counts how a write or an append went.
     fn end(&mut self, listed: bool, is_stored: bool) -> Result<(), Failed>
         ensures failed { is_err result ≡ (listed || not is_stored) }
         ensures counted { self.new ≡ record self.old {

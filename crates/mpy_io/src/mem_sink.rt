@@ -31,6 +31,7 @@ impl Model for MemSink {
 impl MemSink {
     ghost use Rattle.std.specs.Prelude.{[]};
 
+    /// A sink of whose calls those fail that have these numbers, counted from 0.
     pub fn new(alloc: Global, fail: Vec<u64>) -> MemSink
         ensures { result ≡ record { bytes = []; fail = fail.items; calls = 0; faults = 0; starved = 0 } }
     {
@@ -43,7 +44,7 @@ impl MemSink {
         }
     }
 
-    /// All that was put.
+    /// All bytes that were put, in order.
     pub fn bytes(&self) -> &[u8]
         ensures { result.now ≡ self.now.bytes }
     {

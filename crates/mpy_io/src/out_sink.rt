@@ -57,6 +57,7 @@ impl<W: Write + Drop> OutSink<W> {
         }
     }
 
+    /// What the bytes are written to. Those that are still gathered aren't there yet.
     pub fn writer(&self) -> &W
         ensures { result.now ≡ self.now.writer }
     {
@@ -102,6 +103,7 @@ impl<W: Write + Drop> Sink for OutSink<W> {
     }
 }
 
+/// Writes all bytes, and nothing where there are none.
 fn write_through<W: Write>(writer: &mut W, bytes: &[u8]) -> Result<(), Failed>
     ensures ok { OnOk result (Appends (W.contents writer.old) (W.contents writer.new) bytes.now) }
     ensures err { OnErr result (AppendsFront (W.contents writer.old) (W.contents writer.new) bytes.now) }
@@ -118,7 +120,7 @@ fn write_through<W: Write>(writer: &mut W, bytes: &[u8]) -> Result<(), Failed>
     }
 }
 
-// What a first write left. It stands apart, so that a piece that is taken at once costs little.
+/// What a first write left. It stands apart, so that a piece that is taken at once costs little.
 #[cold]
 #[inline(never)]
 fn write_rest<W: Write>(writer: &mut W, bytes: &[u8]) -> Result<(), Failed>

@@ -60,7 +60,7 @@ impl ScriptPort {
         self.starved
     }
 
-    // Counts a call, which fails where it is listed.
+    /// Counts a call, which fails where it is listed.
     fn begin(&mut self) -> Result<(), Failed>
         ensures listed { IsErr result ↔ IsFailing self.old.port }
         ensures counted { self.new ≡ record self.old {

@@ -16,6 +16,7 @@ abbrev pub FaultIs : Refused MergeFault → (MergeFault → Type 0) → Type 0
 FaultIs (refused.Fault fault) P = P fault
 FaultIs refused.NoMemory P = Unit {0}
 
+-- where a call ended with a fault, the fault is such a one
 abbrev pub IfFault : {A : Type 0} → Result A (Refused MergeFault) → (MergeFault → Type 0) → Type 0
 IfFault (Ok x) P = Unit {0}
 IfFault (Err refusal) P = FaultIs refusal P

@@ -9,17 +9,19 @@ use Rattle.mpy_merge.specs.declared.fault.TheConstants.{MAX_PARTS}
 use Rattle.merge_codes.specs.Far.{HasFarCode}
 use Rattle.mpy_merge.specs.Merged.{AreTables, all_objects, IsMerged, NestsWithin}
 
--- a module of the list has such a code, where its objects come behind those of the modules in front of it
+-- a code of the module at the place has a jump that reaches too far, or too many bytes, with its objects behind those of the modules
+-- in front of it
 pub record IsFarAt (tables : Tables) (modules : List Module) (place : ℕ) : Type 0 where
   pub m : Module
   pub is : slice_get modules place ≡ Some m
   pub far : HasFarCode tables (length (all_objects (take place modules))) m m.code
 
--- it is the first
+-- the module at the place is the first with such a code
 pub record IsFirstFarIn (tables : Tables) (modules : List Module) (place : ℕ) : Type 0 where
   pub far : IsFarAt tables modules place
   pub before : (earlier : ℕ) → earlier < place → IsFarAt tables modules earlier → ⊥
 
+-- the module at the place is the first with such a code, by the tables that the modules are merged to
 pub record IsFirstFar (modules : List Module) (place : ℕ) : Type 0 where
   pub tables : Tables
   pub are_tables : AreTables modules tables

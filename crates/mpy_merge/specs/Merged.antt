@@ -47,6 +47,7 @@ calls at zero = []
 calls at (suc n) =
     Plain (instrs.Num ops.MakeFunction at) ∷ Plain (instrs.Num ops.CallFunction 0) ∷ Plain (instrs.Plain ops.PopTop) ∷ calls (suc at) n
 
+-- the items of the outer code over `n` children
 abbrev pub outer_items : ℕ → List Item
 outer_items n = calls 0 n ++ Plain (instrs.Plain ops.LoadConstNone) ∷ Plain (instrs.Plain ops.ReturnValue) ∷ []
 
@@ -78,6 +79,7 @@ NestsWithin (suc levels) code = All (NestsWithin levels) (out-RawCode code).chil
 -- a file
 -- ======
 
+-- the module of these tables, objects and codes, below an outer code with these bytes
 abbrev pub merged_module : Tables → List Constant → List ℕ → List RawCode → Module
 merged_module tables objects own parts = record {
   bits = 31;

@@ -3,7 +3,7 @@ use Rattle.std.specs.Prelude.{ℕ, List, Option, Some, None, codes}
 use Rattle.mpy_merge.specs.declared.fault.MergeFault.{MergeFault}
 use Rattle.mpy_merge.specs.declared.fault.MergeFault.TheVariants.{Empty, TooManyNames, TooMany, TooFar, TooBig}
 
--- its number
+-- the number of the fault, which the line tells
 abbrev pub number_of : MergeFault → ℕ
 number_of Empty = 1
 number_of TooManyNames = 2
@@ -11,6 +11,7 @@ number_of TooMany = 3
 number_of (TooFar place) = 4
 number_of TooBig = 5
 
+-- the name of the fault, which the line tells
 abbrev pub name_of : MergeFault → List ℕ
 name_of Empty = codes "Empty"
 name_of TooManyNames = codes "TooManyNames"

@@ -1,4 +1,4 @@
-//! The merged file.
+//! The bytes of the merged file, from the modules' tables and codes.
 
 ghost use Rattle.std.specs.Prelude.{◌≡◌, ◌<◌, ◌≤◌, length, All, IfOk};
 ghost use Rattle.bc_verify.specs.Verified.{IsVerified};
@@ -71,7 +71,7 @@ fn file(alloc: Global, modules: &[Verified]) -> Result<Vec<u8>, Refused<MergeFau
     Ok(out)
 }
 
-/// The same of any modules, or the fault that comes first.
+/// The merged file of any modules, or the fault that comes first.
 pub(crate) fn file_or_fault(
     alloc: Global,
     modules: &[Verified],

@@ -38,7 +38,7 @@ fn is_short(object: &Constant, levels: usize) -> bool
     }
 }
 
-/// The same of each of the objects.
+/// Tells whether no text in one of the objects is longer than a file may be.
 fn are_short(objects: &[Constant]) -> bool
     requires { All (λ object. (text : List ℕ) × IsObject MAX_DEPTH text object) objects.now }
     ensures fine { IsTrue result → All (IsFine MAX_DEPTH) objects.now }
@@ -52,7 +52,7 @@ fn are_short(objects: &[Constant]) -> bool
     true
 }
 
-/// The same of each of the modules' objects.
+/// Tells whether no text in one of the modules' objects is longer than a file may be.
 pub(crate) fn all_short(modules: &[Verified]) -> bool
     ensures fine { IsTrue result → All (IsFine MAX_DEPTH) (all_objects modules.now) }
     ensures long { result ≡ false → MAX_FILE_BYTES < length (flat_map spelled (all_objects modules.now)) }

@@ -49,7 +49,7 @@ fn outer_code(alloc: Global, modules: usize) -> Result<Code, NoMemory>
     })
 }
 
-/// Its own bytes.
+/// The own bytes of the outermost code of `modules` modules.
 pub(crate) fn outer_own(alloc: Global, tables: &Tables, modules: usize) -> Result<Vec<u8>, NoMemory>
     requires few { modules ≤ MAX_PARTS }
     requires fit { TablesFit tables.now }

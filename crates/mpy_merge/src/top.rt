@@ -1,4 +1,4 @@
-//! The merge.
+//! The merge of modules as a whole, with the faults that keep modules from being merged, in their order.
 
 ghost use Rattle.std.specs.Prelude.{◌≡◌, ◌⊎◌, IfOk, Err};
 ghost use Rattle.bc_verify.specs.Verified.{IsVerified};

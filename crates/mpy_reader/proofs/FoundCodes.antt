@@ -20,7 +20,7 @@ use Rattle.mpy_reader.specs.declared.fault.FileFault.TheVariants.{TooBig}
 use Rattle.mpy_reader.specs.Reading.{Field, qstr, object, name, own_code, children, own, element, code, parts, file}
 use Rattle.mpy_reader.proofs.Found.{bind_ok, judge_ok, ok_is, ok_parts, read, spelt_as, Finds, count_found, many_found, qstr_found, object_found}
 
--- the number of a text in a table of so many
+-- the number of a text in a table of `texts`
 pub record IsName (texts : ℕ) (text : List ℕ) (n : ℕ) : Type 0 where
   pub spells : Spells text n
   pub within : n < texts

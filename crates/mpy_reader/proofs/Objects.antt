@@ -9,7 +9,7 @@ use Rattle.mpy_reader.specs.declared.fault.FileFault.TheVariants.{TooBig, BadObj
 use Rattle.mpy_reader.specs.Reading.{Field, Bind, goes_on, refuse, Gives, byte, tuple, object_by, object}
 use Rattle.mpy_reader.proofs.Steps.{onward}
 
--- a tuple where so many levels may stand
+-- a tuple where that number of levels may stand
 abbrev pub tuple_in : ℕ → List ℕ → Field Constant
 tuple_in zero = λ _. refuse TooBig
 tuple_in (suc levels) = tuple (object levels)

@@ -18,7 +18,7 @@ pub record IsBody (texts : ℕ) (text : List ℕ) (body : List Constant × RawCo
   pub are_objects : Many (IsObject MAX_DEPTH) objects body.0
   pub is_code : IsCode MAX_DEPTH texts outermost body.1
 
--- the same read from its first byte on, or its first fault
+-- reads the number of the objects, these, and a code whose names stand in a table of `texts` texts; or gives their first fault
 unfoldable pub body : ℕ → List ℕ → Field (List Constant × RawCode)
 body texts bytes = do
   number ← count bytes

@@ -3,6 +3,7 @@ use Rattle.std.specs.Prelude.{ℕ, List, codes, Option, Some, None}
 use Rattle.mpy_reader.specs.declared.fault.FileFault.{FileFault}
 use Rattle.mpy_reader.specs.declared.fault.FileFault.TheVariants.{BadHeader, Incompatible, Truncated, BadQstr, BadObject, BadCode, BadPrelude, Trailing, TooBig}
 
+-- the number of the fault, which the line tells
 abbrev pub number_of : FileFault → ℕ
 number_of BadHeader = 1
 number_of Incompatible = 2
@@ -14,6 +15,7 @@ number_of BadPrelude = 7
 number_of Trailing = 8
 number_of TooBig = 9
 
+-- the name of the fault, which the line tells
 abbrev pub name_of : FileFault → List ℕ
 name_of BadHeader = codes "BadHeader"
 name_of Incompatible = codes "Incompatible"

@@ -31,17 +31,21 @@ pub data Bind {A B : Type 0} (R : Result A FileFault → Type 0) (Q : A → Resu
   goes_on : (x : A) → R (Ok x) → Q x outcome → Bind R Q outcome
   stops : (fault : FileFault) → R (Err fault) → outcome ≡ Err fault → Bind R Q outcome
 
+-- the first reading, and then the one that its value gives
 infixl 10 ◌>>=◌
 abbrev pub ◌>>=◌ : {A B : Type 0} → Reading A → (A → Reading B) → Reading B
 R >>= Q = Bind R Q
 
+-- the first reading, and then the second, whatever the value of the first
 infixl 10 ◌>>◌
 abbrev pub ◌>>◌ : {A B : Type 0} → Reading A → Reading B → Reading B
 R >> Q = Bind R (λ _. Q)
 
+-- this value, without a look at any byte
 abbrev pub pure : {A : Type 0} → A → Reading A
 pure x outcome = outcome ≡ Ok x
 
+-- this fault
 abbrev pub refuse : {A : Type 0} → FileFault → Reading A
 refuse fault outcome = outcome ≡ Err fault
 
@@ -49,6 +53,7 @@ refuse fault outcome = outcome ≡ Err fault
 abbrev pub judge : Type 0 → FileFault → Reading (Unit {0})
 judge Fact fault outcome = (Fact × (outcome ≡ Ok tt)) ⊎ ((Fact → ⊥) × (outcome ≡ Err fault))
 
+-- the first reading where it is true, and else the second
 abbrev pub choose : {A : Type 0} → Bool → Reading A → Reading A → Reading A
 choose true P Q outcome = P outcome
 choose false P Q outcome = Q outcome
@@ -58,11 +63,12 @@ abbrev pub Fails : {B : Type 0} → Refused FileFault → Reading B → Type 0
 Fails (refused.Fault fault) R = R (Err fault)
 Fails refused.NoMemory R = Unit {0}
 
+-- what a call answers, seen by `view`, is what is read; and its fault is the one that is read
 abbrev pub Gives : {A B : Type 0} → (A → B) → Result A (Refused FileFault) → Reading B → Type 0
 Gives view (Ok x) R = R (Ok (view x))
 Gives view (Err refusal) R = Fails refusal R
 
--- the same of a call that gives no value: some value is read
+-- a call that gives no value answers Ok where some value is read, and else the fault that is read
 abbrev pub Holds : {A B : Type 0} → Result A (Refused FileFault) → Reading B → Type 0
 Holds {B = B} (Ok _) R = (x : B) × R (Ok x)
 Holds (Err refusal) R = Fails refusal R
@@ -70,20 +76,23 @@ Holds (Err refusal) R = Fails refusal R
 -- fields: a value and the bytes behind it
 -- ========================================
 
+-- a reading that gives a value and the bytes behind it
 abbrev pub Field : Type 0 → Type 1
 Field A = Reading (A × List ℕ)
 
+-- one byte
 abbrev pub byte : List ℕ → Field ℕ
 byte [] = refuse Truncated
 byte (first ∷ rest) = pure (first, rest)
 
+-- a number in the form of a file's: Truncated where the bytes end inside it, TooBig where it passes the form
 abbrev pub number : List ℕ → Field ℕ
 number bytes (Ok found) = (text : List ℕ) × Spells text found.0 × (bytes ≡ text ++ found.1)
 number bytes (Err Truncated) = EndsInside bytes
 number bytes (Err TooBig) = PassesForm bytes
 number bytes (Err fault) = ⊥
 
--- so many bytes
+-- the first `count` bytes
 abbrev pub taken : ℕ → List ℕ → Field (List ℕ)
 taken count bytes (Ok found) = (bytes ≡ found.0 ++ found.1) × (length found.0 ≡ count)
 taken count bytes (Err Truncated) = length bytes < count
@@ -96,7 +105,7 @@ count bytes = do
   judge (n.0 ≤ MAX_TABLE) TooBig
   pure n
 
--- so many fields, one after another
+-- that number of fields, one after another
 unfoldable pub many : {A : Type 0} → ℕ → (List ℕ → Field A) → List ℕ → Field (List A)
 many zero field bytes = pure ([], bytes)
 many (suc n) field bytes = do
@@ -109,11 +118,12 @@ pub record IsText (own text : List ℕ) : Type 0 where
   pub ends : text ≡ own ++ 0 ∷ []
   pub ascii : IsAscii own
 
+-- the text in front of the zero byte; or the fault, where it isn't ASCII or doesn't end so
 abbrev pub own_of : FileFault → List ℕ → Reading (List ℕ)
 own_of fault text (Ok own) = IsText own text
 own_of fault text (Err f) = (f ≡ fault) × ((own : List ℕ) → IsText own text → ⊥)
 
--- a text of so many bytes with its zero byte
+-- a text of `len` bytes and its zero byte
 unfoldable pub text : FileFault → ℕ → List ℕ → Field (List ℕ)
 text fault len bytes = do
   whole ← taken (len + 1) bytes
@@ -123,16 +133,19 @@ text fault len bytes = do
 -- the table of texts
 -- ==================
 
+-- the entry that names the static text of the number `number`
 unfoldable pub static_qstr : ℕ → List ℕ → Field Qstr
 static_qstr number rest = do
   judge ((1 ≤ number) × (number ≤ STATIC_COUNT)) BadQstr
   pure (qstrs.Static number, rest)
 
+-- the entry that spells a text of `len` bytes
 unfoldable pub own_qstr : ℕ → List ℕ → Field Qstr
 own_qstr len rest = do
   own ← text BadQstr len rest
   pure (qstrs.Own own.0, own.1)
 
+-- an entry of the table of texts: its first number is odd where it names a static text
 unfoldable pub qstr : List ℕ → Field Qstr
 qstr bytes = do
   n ← number bytes
@@ -141,16 +154,19 @@ qstr bytes = do
 -- objects
 -- =======
 
+-- a text behind its tag: its length, its bytes and a zero byte
 unfoldable pub str : List ℕ → Field Constant
 str bytes = do
   n ← number bytes
   own ← text (BadObject tag_str) n.0 n.1
   pure (constants.Str own.0, own.1)
 
+-- the small integer whose decimal form these bytes are, or the fault that there is none
 abbrev pub int_of : List ℕ → Reading ℤ
 int_of digits (Ok n) = IsDecimal digits n × IsSmall n
 int_of digits (Err fault) = (fault ≡ BadObject tag_int) × ((n : ℤ) → IsDecimal digits n → IsSmall n → ⊥)
 
+-- an integer behind its tag: how many bytes its decimal form has, and these
 unfoldable pub int : List ℕ → Field Constant
 int bytes = do
   n ← number bytes
@@ -158,6 +174,7 @@ int bytes = do
   value ← int_of digits.0
   pure (constants.Int value, digits.1)
 
+-- a tuple behind its tag: how many items it has, and these
 unfoldable pub tuple : (List ℕ → Field Constant) → List ℕ → Field Constant
 tuple inner bytes = do
   n ← number bytes
@@ -175,7 +192,7 @@ object_by tuple_field tag rest =
     (choose (tag == tag_tuple) (tuple_field rest)
     (refuse (BadObject tag)))))))
 
--- so many levels of tuples may stand in the object
+-- an object with that number of levels of tuples at most
 unfoldable pub object : ℕ → List ℕ → Field Constant
 object zero bytes = do
   tag ← byte bytes
@@ -187,6 +204,7 @@ object (suc levels) bytes = do
 -- codes
 -- =====
 
+-- the signature of a prelude; or the fault that it has no end, is outside its bounds, or passes its form
 abbrev pub signature : List ℕ → Field Signature
 signature code (Ok found) = (text : List ℕ) × IsSignature text found.0 × (code ≡ text ++ found.1)
 signature code (Err BadPrelude) = HasNoEnd code ⊎ SignatureOutside code
@@ -206,13 +224,14 @@ index bytes (Err BadPrelude) = EndsInside bytes
 index bytes (Err TooBig) = PassesForm bytes
 index bytes (Err fault) = ⊥
 
--- the number of a text in a table of so many
+-- the number of a text in a table of `texts` texts
 unfoldable pub name : ℕ → List ℕ → Field ℕ
 name texts bytes = do
   n ← index bytes
   judge (n.0 < texts) BadPrelude
   pure n
 
+-- all of these bytes are a list of instructions, or else the code is bad
 abbrev pub instructions : List ℕ → Reading (Unit {0})
 instructions bytes (Ok _) = (items : List Item) × IsListOf bytes items
 instructions bytes (Err fault) = (fault ≡ BadCode) × ((items : List Item) → IsListOf bytes items → ⊥)
@@ -243,13 +262,14 @@ own texts bytes = do
   own_code texts whole.0
   pure ((whole.0, header.0 / 4 % 2 == 1), whole.1)
 
+-- a code: its header, its own bytes, and its children, each read by `inner`
 unfoldable pub element : (List ℕ → Field RawCode) → ℕ → List ℕ → Field RawCode
 element inner texts bytes = do
   front ← own texts bytes
   codes ← children inner front.0.1 front.1
   pure (roll-RawCode (record { bytes = front.0.0; children = codes.0 }), codes.1)
 
--- so many levels of codes may stand there, this one among them
+-- a code with that number of levels of codes at most, itself among them
 unfoldable pub code : ℕ → ℕ → List ℕ → Field RawCode
 code zero texts bytes = refuse TooBig
 code (suc levels) texts bytes = element (code levels texts) texts bytes
@@ -263,17 +283,20 @@ pub record IsHeader (bytes : List ℕ) (bits : ℕ) (rest : List ℕ) : Type 0 w
   pub some_bits : 1 ≤ bits
   pub few_bits : bits ≤ 31
 
+-- four bytes or more that begin with the mark and have no header of this version
 pub record IsOther (bytes : List ℕ) : Type 0 where
   pub long : 4 ≤ length bytes
   pub mark : slice_index bytes 0 ≡ 0x4d
   pub other : (bits : ℕ) (rest : List ℕ) → IsHeader bytes bits rest → ⊥
 
+-- the header: BadHeader where it is shorter or has no mark, Incompatible where it is of another version
 abbrev pub header : List ℕ → Field ℕ
 header bytes (Ok found) = IsHeader bytes found.0 found.1
 header bytes (Err BadHeader) = (length bytes < 4) ⊎ (slice_index bytes 0 ≢ 0x4d)
 header bytes (Err Incompatible) = IsOther bytes
 header bytes (Err fault) = ⊥
 
+-- the fields of a file, one after another
 unfoldable pub parts : List ℕ → Field Module
 parts bytes = do
   bits ← header bytes
@@ -285,6 +308,7 @@ parts bytes = do
   outermost ← code MAX_DEPTH qstr_count.0 objects.1
   pure (record { bits = bits.0; qstrs = qstrs.0; objects = objects.0; code = outermost.0 }, outermost.1)
 
+-- a whole file, which isn't longer than one may be, and has nothing behind its fields
 unfoldable pub file : List ℕ → Reading Module
 file bytes = do
   judge (length bytes ≤ MAX_FILE_BYTES) TooBig

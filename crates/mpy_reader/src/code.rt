@@ -1,4 +1,4 @@
-//! Codes.
+//! Reading codes: own bytes behind a header, and the children behind these, level by level.
 
 ghost use Rattle.std.specs.Prelude.{◌≡◌, ◌/◌, ◌%◌, ◌==◌};
 ghost use Rattle.mpy_reader.specs.Reading as reading;
@@ -30,7 +30,7 @@ fn own(bytes: &[u8], texts: u32) -> Field<'_, (&[u8], bool)>
     Ok(((own, header / 4 % 2 == 1), rest))
 }
 
-/// The children behind a code's own bytes, of which each has so many levels of codes at most.
+/// The children behind a code's own bytes, of which each has `levels` levels of codes at most.
 #[cycle(code)]
 fn children(
     alloc: Global,
@@ -48,7 +48,7 @@ fn children(
     codes(alloc, count, rest, texts, levels)
 }
 
-/// So many codes, of which each has so many levels of codes at most.
+/// The first `count` codes, of which each has `levels` levels of codes at most.
 #[cycle(code)]
 fn codes(
     alloc: Global,
@@ -69,7 +69,7 @@ fn codes(
     Ok((codes, rest))
 }
 
-/// A code in front, with so many levels of codes at most, itself among them.
+/// A code in front, with `levels` levels of codes at most, itself among them.
 #[cycle(code)]
 pub(crate) fn code(alloc: Global, bytes: &[u8], texts: u32, levels: usize) -> Field<'_, RawCode>
     ensures { Gives (λ found. (found.0, found.1.now)) result (reading.code levels texts bytes.now) }

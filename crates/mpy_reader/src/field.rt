@@ -12,6 +12,7 @@ use std::alloc::Global;
 /// A value and the bytes behind it.
 pub(crate) type Field<'a, T> = Result<(T, &'a [u8]), Refused<FileFault>>;
 
+/// Reads one byte.
 pub(crate) fn byte(bytes: &[u8]) -> Field<'_, u8>
     ensures { Gives (λ found. (found.0, found.1.now)) result (reading.byte bytes.now) }
 {
@@ -21,6 +22,7 @@ pub(crate) fn byte(bytes: &[u8]) -> Field<'_, u8>
     }
 }
 
+/// Reads a number that is written as a vuint.
 pub(crate) fn number(bytes: &[u8]) -> Field<'_, u32>
     ensures { Gives (λ found. (found.0, found.1.now)) result (reading.number bytes.now) }
 {
@@ -34,7 +36,7 @@ pub(crate) fn number(bytes: &[u8]) -> Field<'_, u32>
     }
 }
 
-/// So many bytes.
+/// Reads the first `count` bytes.
 pub(crate) fn taken(bytes: &[u8], count: usize) -> Field<'_, &[u8]>
     ensures { Gives (λ found. (found.0.now, found.1.now)) result (reading.taken count bytes.now) }
 {
@@ -44,7 +46,7 @@ pub(crate) fn taken(bytes: &[u8], count: usize) -> Field<'_, &[u8]>
     Ok(bytes.split_at(count))
 }
 
-/// A number of things.
+/// Reads how many entries a table has, which no table may pass.
 #[tactic(auto, unfolding(crate::specs::Reading::count))]
 pub(crate) fn count(bytes: &[u8]) -> Field<'_, u32>
     ensures { Gives (λ found. (found.0, found.1.now)) result (reading.count bytes.now) }
@@ -66,7 +68,7 @@ fn own_of(whole: &[u8]) -> Option<&[u8]>
     }
 }
 
-/// A text of so many bytes with its zero byte.
+/// A text of `len` bytes and its zero byte.
 #[tactic(auto, unfolding(crate::specs::Reading::text))]
 pub(crate) fn text(alloc: Global, bytes: &[u8], len: u32, fault: FileFault) -> Field<'_, Text>
     ensures { Gives (λ found. (found.0, found.1.now)) result (reading.text fault len bytes.now) }

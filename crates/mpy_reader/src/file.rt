@@ -1,4 +1,4 @@
-//! Files.
+//! Reading a file as a whole: header, tables and the outermost code, in one pass.
 
 ghost use Rattle.std.specs.Prelude.{◌≡◌, ◌⊎◌, ◌↔◌, List, ℕ, Result, Ok, Err, IfOk, IsOkAnd};
 ghost use Rattle.mpy_tree.specs.Raw.{Module};

@@ -1,4 +1,4 @@
-//! Objects.
+//! Reading objects by their tags, with the items of tuples, level by level.
 
 ghost use Rattle.std.specs.Prelude.{◌≡◌, ◌+◌, ◌*◌, ◌^◌, ◌<◌, ℕ, List, ◌∷◌, ℤ, min, MatchOption};
 ghost use Rattle.std.specs.Str.Parse.{IsNumeral, digits_value};
@@ -13,21 +13,28 @@ use mpy_base::{Items, Refused};
 use mpy_tree::Constant;
 use std::alloc::Global;
 
+/// The byte in front of `None`.
 const TAG_NONE: u8 = 1;
 
+/// The byte in front of `False`.
 const TAG_FALSE: u8 = 2;
 
+/// The byte in front of `True`.
 const TAG_TRUE: u8 = 3;
 
+/// The byte in front of a str.
 const TAG_STR: u8 = 5;
 
+/// The byte in front of an int.
 const TAG_INT: u8 = 7;
 
+/// The byte in front of a tuple.
 const TAG_TUPLE: u8 = 10;
 
 /// A number past all small integers and their opposites.
 const PAST: u64 = (1 << 30) + 1;
 
+/// Reads a text behind its tag.
 #[tactic(auto, unfolding(crate::specs::Reading::str))]
 fn str_object(alloc: Global, bytes: &[u8]) -> Field<'_, Constant>
     ensures { Gives (λ found. (found.0, found.1.now)) result (reading.str bytes.now) }
@@ -55,7 +62,7 @@ fn numeral(digits: &[u8]) -> Option<u64>
     Some(n)
 }
 
-/// The text behind a minus.
+/// The text behind a minus sign, where it begins with one.
 fn opposite(text: &[u8]) -> Option<&[u8]>
     ensures { MatchOption result ((digits : List ℕ) → text.now ≡ 45 ∷ digits → ⊥) (λ digits. text.now ≡ 45 ∷ digits.now) }
 {
@@ -82,6 +89,7 @@ fn int_of(text: &[u8]) -> Option<i32>
     }
 }
 
+/// Reads an integer behind its tag.
 #[tactic(auto, unfolding(crate::specs::Reading::int))]
 fn int_object(bytes: &[u8]) -> Field<'_, Constant>
     ensures { Gives (λ found. (found.0, found.1.now)) result (reading.int bytes.now) }
@@ -94,7 +102,7 @@ fn int_object(bytes: &[u8]) -> Field<'_, Constant>
     Ok((Constant::Int(n), rest))
 }
 
-/// So many objects, with so many levels of tuples in each at most.
+/// The first `count` objects, with `levels` levels of tuples in each at most.
 #[cycle(object)]
 fn items(alloc: Global, count: u32, bytes: &[u8], levels: usize) -> Field<'_, Items<Constant>>
     ensures { Gives (λ found. (found.0, found.1.now)) result (reading.many count (reading.object levels) bytes.now) }
@@ -109,7 +117,7 @@ fn items(alloc: Global, count: u32, bytes: &[u8], levels: usize) -> Field<'_, It
     Ok((items, rest))
 }
 
-/// A tuple, with so many levels of tuples in it at most.
+/// A tuple, with `levels` levels of tuples in it at most.
 #[cycle(object)]
 #[tactic(auto, unfolding(crate::specs::Reading::tuple))]
 fn tuple(alloc: Global, bytes: &[u8], levels: usize) -> Field<'_, Constant>
@@ -120,7 +128,7 @@ fn tuple(alloc: Global, bytes: &[u8], levels: usize) -> Field<'_, Constant>
     Ok((Constant::Tuple(items), rest))
 }
 
-/// An object with so many levels of tuples at most.
+/// An object with `levels` levels of tuples at most.
 #[cycle(object)]
 fn object(alloc: Global, bytes: &[u8], levels: usize) -> Field<'_, Constant>
     ensures { Gives (λ found. (found.0, found.1.now)) result (reading.object levels bytes.now) }
@@ -138,7 +146,7 @@ fn object(alloc: Global, bytes: &[u8], levels: usize) -> Field<'_, Constant>
     }
 }
 
-/// So many objects.
+/// The first `count` objects.
 pub(crate) fn objects(alloc: Global, count: u32, bytes: &[u8]) -> Field<'_, Items<Constant>>
     ensures { Gives (λ found. (found.0, found.1.now)) result (reading.many count (reading.object MAX_DEPTH) bytes.now) }
 {

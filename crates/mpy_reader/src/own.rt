@@ -10,6 +10,7 @@ use bc_ops::decode_at;
 use bc_prelude::{PreludeFault, Signature, read_signature, read_size};
 use mpy_base::{Refused, VuintFault, read_vuint};
 
+/// Reads the signature of a prelude.
 fn signature(code: &[u8]) -> Field<'_, Signature>
     ensures { Gives (λ found. (found.0, found.1.now)) result (reading.signature code.now) }
 {
@@ -23,7 +24,7 @@ fn signature(code: &[u8]) -> Field<'_, Signature>
     }
 }
 
-/// The information, and the instructions behind it.
+/// Reads the information of a prelude; the instructions stand behind it.
 fn information(bytes: &[u8]) -> Field<'_, &[u8]>
     ensures { Gives (λ found. (found.0.now, found.1.now)) result (reading.information bytes.now) }
 {
@@ -36,7 +37,7 @@ fn information(bytes: &[u8]) -> Field<'_, &[u8]>
     }
 }
 
-/// A number in the information.
+/// Reads one number of the information.
 fn index(bytes: &[u8]) -> Field<'_, u32>
     ensures { Gives (λ found. (found.0, found.1.now)) result (reading.index bytes.now) }
 {
@@ -50,7 +51,7 @@ fn index(bytes: &[u8]) -> Field<'_, u32>
     }
 }
 
-/// The number of a text in a table of so many.
+/// The number of a text in a table of `texts` texts.
 #[tactic(auto, unfolding(crate::specs::Reading::name))]
 fn name(bytes: &[u8], texts: u32) -> Field<'_, u32>
     ensures { Gives (λ found. (found.0, found.1.now)) result (reading.name texts bytes.now) }
@@ -62,7 +63,7 @@ fn name(bytes: &[u8], texts: u32) -> Field<'_, u32>
     Ok((n, rest))
 }
 
-/// Passes so many names.
+/// Passes `count` names, each a number of a table of `texts` texts.
 fn names(bytes: &[u8], count: u32, texts: u32) -> Result<(), Refused<FileFault>>
     ensures { Holds result (reading.many count (reading.name texts) bytes.now) }
 {
@@ -74,6 +75,7 @@ fn names(bytes: &[u8], count: u32, texts: u32) -> Result<(), Refused<FileFault>>
     Ok(())
 }
 
+/// Refuses bytes that are no list of instructions.
 fn instructions(bytes: &[u8]) -> Result<(), Refused<FileFault>>
     ensures { Gives (λ _. tt) result (reading.instructions bytes.now) }
 {
@@ -87,7 +89,7 @@ fn instructions(bytes: &[u8]) -> Result<(), Refused<FileFault>>
     Ok(())
 }
 
-/// A code's own bytes, whose names stand in a table of so many texts.
+/// A code's own bytes, whose names stand in a table of `texts` texts.
 #[tactic(auto, unfolding(crate::specs::Reading::own_code))]
 pub(crate) fn own_code(code: &[u8], texts: u32) -> Result<(), Refused<FileFault>>
     ensures { Gives (λ _. tt) result (reading.own_code texts code.now) }

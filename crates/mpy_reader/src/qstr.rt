@@ -22,7 +22,7 @@ fn static_qstr(number: u32, rest: &[u8]) -> Field<'_, Qstr>
     Ok((Qstr::Static(number as u16), rest))
 }
 
-/// The entry that spells a text of so many bytes.
+/// The entry that spells a text of `len` bytes.
 #[tactic(auto, unfolding(crate::specs::Reading::own_qstr))]
 fn own_qstr(alloc: Global, len: u32, rest: &[u8]) -> Field<'_, Qstr>
     ensures { Gives (λ found. (found.0, found.1.now)) result (reading.own_qstr len rest.now) }
@@ -44,7 +44,7 @@ fn qstr(alloc: Global, bytes: &[u8]) -> Field<'_, Qstr>
     }
 }
 
-/// So many entries.
+/// The first `count` entries.
 pub(crate) fn qstrs(alloc: Global, count: u32, bytes: &[u8]) -> Field<'_, Items<Qstr>>
     ensures { Gives (λ found. (found.0, found.1.now)) result (reading.many count reading.qstr bytes.now) }
 {

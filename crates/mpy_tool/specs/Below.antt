@@ -17,6 +17,7 @@ abbrev pub FreezesBelow : Option Shelf → (manifest written : List ℕ) → Opt
 FreezesBelow None manifest written = Freezes manifest written
 FreezesBelow (Some below) manifest written = FreezesOn below manifest written
 
+-- the libraries that `run` loads
 abbrev pub RunLibraryBelow : Option Shelf → (main : List ℕ) → Libraries
 RunLibraryBelow None main = RunLibrary main
 RunLibraryBelow (Some below) main = RunLibraryOn below main

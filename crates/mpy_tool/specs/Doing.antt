@@ -45,6 +45,7 @@ module _ (order : Order) (words : List (List ℕ)) (below : Option Shelf) where
   DoesBy Board old new before behind place ending = Boards (library_below below) (first_name words) (second_name words) old new before behind place ending
   DoesBy Stress old new before behind place ending = ⊥
 
+  -- there is no library, whatever the files
   abbrev pub no_library : Libraries
   no_library files name answer = ⊥
 

@@ -68,6 +68,7 @@ makes_source Stress = true
 abbrev pub calls_ports : Command → Bool
 calls_ports command = runs_library command || makes_source command
 
+-- the same of the words' outcome
 abbrev pub calls_ports_in : Outcome → Bool
 calls_ports_in (Err fault) = false
 calls_ports_in (Ok order) = calls_ports order.command

@@ -38,7 +38,7 @@ object_by inner (Constant-F.Str text) = tag_str ∷ (vuint (length text) ++ (tex
 object_by inner (Constant-F.Int n) = tag_int ∷ (vuint (length (signed_decimal n)) ++ signed_decimal n)
 object_by inner (Constant-F.Tuple items) = tag_tuple ∷ (vuint (length items) ++ flat_map inner items)
 
--- what is written for an object of so many levels of tuples
+-- what is written for an object of that number of levels of tuples at most
 unfoldable pub object_bytes : ℕ → Constant → List ℕ
 object_bytes zero object = object_by (λ _. []) (out-Constant object)
 object_bytes (suc levels) object = object_by (object_bytes levels) (out-Constant object)
@@ -48,17 +48,19 @@ abbrev pub children_bytes : (RawCode → List ℕ) → List RawCode → List ℕ
 children_bytes inner [] = []
 children_bytes inner (child ∷ children) = vuint (length (child ∷ children)) ++ flat_map inner (child ∷ children)
 
+-- does a code with these children have any?
 abbrev pub has_some : List RawCode → Bool
 has_some [] = false
 has_some (child ∷ children) = true
 
--- what is written for a code of so many levels of codes
+-- what is written for a code of that number of levels of codes at most
 unfoldable pub code_bytes : ℕ → RawCode → List ℕ
 code_bytes zero code = []
 code_bytes (suc levels) code =
     vuint (header_of (length (out-RawCode code).bytes) (has_some (out-RawCode code).children))
     ++ ((out-RawCode code).bytes ++ children_bytes (code_bytes levels) (out-RawCode code).children)
 
+-- what is written for a module: the header, the numbers of texts and of objects, the texts, the objects and the code
 abbrev pub file_bytes : Module → List ℕ
 file_bytes m =
     0x4d ∷ 6 ∷ 0 ∷ m.bits ∷ (vuint (length m.qstrs) ++ (vuint (length m.objects)
@@ -88,11 +90,13 @@ pub record IsCanonicalCode (code : List ℕ) : Type 0 where
   pub code_at : prelude.code_at ≡ prelude.info_at + length (names.spelling indexes)
       + length (table_of (changes 1 (zip (offsets 0 instrs) lines)))
 
--- such a fact holds of a code's own bytes and of those of the codes in it, so many levels deep
+-- the fact `P` holds of a code's own bytes and of those of the codes in it, that number of levels deep
 unfoldable pub AllCodes : (List ℕ → Type 0) → ℕ → RawCode → Type 0
 AllCodes P zero code = P (out-RawCode code).bytes
 AllCodes P (suc levels) code = P (out-RawCode code).bytes × All (AllCodes P levels) (out-RawCode code).children
 
+-- the file is what is written for its module, its small integers take 31 bits, each static text is named by its number, and each
+-- code is canonical
 pub record Canonical (bytes : List ℕ) : Type 0 where
   pub m : Module
   pub bytes_are : bytes ≡ file_bytes m

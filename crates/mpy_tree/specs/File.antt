@@ -20,6 +20,7 @@ abbrev pub Many : {A : Type 0} → (List ℕ → A → Type 0) → List ℕ → 
 Many Form text [] = text ≡ []
 Many Form text (x ∷ xs) = (front behind : List ℕ) × Form front x × (text ≡ front ++ behind) × Many Form behind xs
 
+-- each byte is below 128
 abbrev pub IsAscii : List ℕ → Type 0
 IsAscii text = All (λ byte. byte < 128) text
 
@@ -39,6 +40,7 @@ pub record IsOwn (text : List ℕ) (own : List ℕ) : Type 0 where
   pub spells : Spells front (2 * length own)
   pub ascii : IsAscii own
 
+-- an entry of the table of texts: the number of a static text, or a text of the file's own
 abbrev pub IsQstr : List ℕ → Qstr → Type 0
 IsQstr text (Static number) = IsStatic text number
 IsQstr text (Own own) = IsOwn text own
@@ -50,18 +52,23 @@ IsQstr text (Own own) = IsOwn text own
 abbrev pub tag_none : ℕ
 tag_none = 1
 
+-- the tag of False
 abbrev pub tag_false : ℕ
 tag_false = 2
 
+-- the tag of True
 abbrev pub tag_true : ℕ
 tag_true = 3
 
+-- the tag of a text
 abbrev pub tag_str : ℕ
 tag_str = 5
 
+-- the tag of an integer
 abbrev pub tag_int : ℕ
 tag_int = 7
 
+-- the tag of a tuple
 abbrev pub tag_tuple : ℕ
 tag_tuple = 10
 
@@ -76,6 +83,7 @@ pub record IsSmall (n : ℤ) : Type 0 where
   pub least : (pos 0 -ℤ pos (2 ^ 30)) ≤ℤ n
   pub below : n <ℤ pos (2 ^ 30)
 
+-- a text: its tag, its length, its bytes and a zero byte
 pub record IsStr (text : List ℕ) (object : Constant) : Type 0 where
   pub count : List ℕ
   pub own : List ℕ
@@ -84,6 +92,7 @@ pub record IsStr (text : List ℕ) (object : Constant) : Type 0 where
   pub ascii : IsAscii own
   pub object_is : object ≡ constants.Str own
 
+-- a small integer: its tag, how many bytes its decimal form has, and these
 pub record IsInt (text : List ℕ) (object : Constant) : Type 0 where
   pub count : List ℕ
   pub digits : List ℕ
@@ -94,6 +103,7 @@ pub record IsInt (text : List ℕ) (object : Constant) : Type 0 where
   pub small : IsSmall n
   pub object_is : object ≡ constants.Int n
 
+-- a tuple: its tag, how many items it has, and these, each in the form `Inner`
 pub record IsTuple (Inner : List ℕ → Constant → Type 0) (text : List ℕ) (object : Constant) : Type 0 where
   pub count : List ℕ
   pub spelled : List ℕ
@@ -112,7 +122,7 @@ IsAtom text object =
     ⊎ IsStr text object
     ⊎ IsInt text object
 
--- an object with so many levels of tuples at most
+-- an object with that number of levels of tuples at most
 unfoldable pub IsObject : ℕ → List ℕ → Constant → Type 0
 IsObject zero text object = IsAtom text object
 IsObject (suc levels) text object = IsAtom text object ⊎ IsTuple (IsObject levels) text object
@@ -120,7 +130,7 @@ IsObject (suc levels) text object = IsAtom text object ⊎ IsTuple (IsObject lev
 -- codes
 -- =====
 
--- a code's own bytes: a prelude whose names stand in a table of so many texts, and instructions
+-- a code's own bytes: a prelude whose names stand in a table of `texts` texts, and instructions
 pub record IsOwnCode (texts : ℕ) (code : List ℕ) : Type 0 where
   pub prelude : Prelude
   pub begins : Begins code prelude
@@ -141,6 +151,7 @@ AreChildren Inner true text children =
     (count spelled : List ℕ) × Spells count (length children) × (length children ≤ MAX_TABLE)
     × (text ≡ count ++ spelled) × Many Inner spelled children
 
+-- a code: its header, its own bytes, and its children, each in the form `Inner`
 pub record IsElement (Inner : List ℕ → RawCode → Type 0) (texts : ℕ) (text : List ℕ) (code : RawCode) : Type 0 where
   pub header : List ℕ
   pub own : List ℕ
@@ -154,7 +165,7 @@ pub record IsElement (Inner : List ℕ → RawCode → Type 0) (texts : ℕ) (te
   pub are_children : AreChildren Inner has_children behind children
   pub code_is : code ≡ roll-RawCode (record { bytes = own; children = children })
 
--- a code with so many levels of codes at most, itself among them
+-- a code with that number of levels of codes at most, itself among them
 unfoldable pub IsCode : ℕ → ℕ → List ℕ → RawCode → Type 0
 IsCode zero texts text code = ⊥
 IsCode (suc levels) texts text code = IsElement (IsCode levels texts) texts text code

@@ -12,18 +12,20 @@ abbrev pub text_in : Resolved → List (List ℕ)
 text_in (named op text) = text ∷ []
 text_in instr = []
 
+-- the object that an instruction names, if it names one
 abbrev pub object_in : Resolved → List Val
 object_in (object value) = value ∷ []
 object_in instr = []
 
--- those of a code without its children: its name, its arguments, and its instructions in their order
+-- the texts that a code without its children names: its name, its arguments, and those of its instructions in their order
 abbrev pub body_texts : Body → List (List ℕ)
 body_texts body = body.name ∷ (body.args ++ flat_map text_in (instrs_of body))
 
+-- the objects that a code without its children names, in the order of its instructions
 abbrev pub body_objects : Body → List Val
 body_objects body = flat_map object_in (instrs_of body)
 
--- those of a code and then of its children, one after another
+-- what `of_body` gives of a code and then of its children, one after another
 abbrev mutual
   pub in_tree : {A : Type 0} → (Body → List A) → Tree → List A
   in_tree of_body (node body children) = of_body body ++ in_trees of_body children
@@ -32,9 +34,11 @@ abbrev mutual
   in_trees of_body no_more = []
   in_trees of_body (more tree trees) = in_tree of_body tree ++ in_trees of_body trees
 
+-- the texts that a module uses, in their order, as often as they are used: the name of its source, and those of its codes
 abbrev pub texts_used : ResolvedModule → List (List ℕ)
 texts_used tree = tree.source ∷ in_tree body_texts tree.code
 
+-- the objects that a module uses, in their order, as often as they are used
 abbrev pub objects_used : ResolvedModule → List Val
 objects_used tree = in_tree body_objects tree.code
 

@@ -51,20 +51,25 @@ pub record Body : Type 0 where
   pub n_exc : ℕ
   pub lines : List ResolvedLine
 
+-- the instructions of a code
 abbrev pub instrs_of : Body → List Resolved
 instrs_of body = map (λ l. l.item) body.lines
 
+-- the lines of its instructions, one each
 abbrev pub line_numbers : Body → List ℕ
 line_numbers body = map (λ l. l.line) body.lines
 
 mutual
+  -- a code with those in it
   pub data Tree : Type 0 where
     node : Body → Trees → Tree
 
+  -- codes one behind the other
   pub data Trees : Type 0 where
     no_more : Trees
     more : Tree → Trees → Trees
 
+-- the name of the source, and the outermost code
 pub record ResolvedModule : Type 0 where
   pub source : List ℕ
   pub code : Tree
@@ -73,18 +78,22 @@ pub record ResolvedModule : Type 0 where
 abbrev pub name_at : Module → ℕ → Option (List ℕ)
 name_at m n = option_and_then text_of (slice_get m.qstrs n)
 
+-- an instruction whose operand is the number of a text: with the text, where there is one
 abbrev pub named_at : Module → Op → ℕ → Resolved
 named_at m op n = unwrap_or (option_map (named op) (name_at m n)) (plain (instrs.Name op n))
 
+-- the instruction that loads the object of a number: with its value, where there is one
 abbrev pub object_at : Module → ℕ → Resolved
 object_at m n =
     unwrap_or (option_map (λ constant. object (value_of constant)) (slice_get m.objects n)) (plain (instrs.Num LoadConstObj n))
 
+-- an instruction with the text or the object that its number leads to
 abbrev pub resolved_instr : Module → Instr → Resolved
 resolved_instr m (instrs.Name op n) = named_at m op n
 resolved_instr m (instrs.Num LoadConstObj n) = object_at m n
 resolved_instr m instr = plain instr
 
+-- an item of a code's list, whose jumps have their targets already, with the text or the object that its number leads to
 abbrev pub resolved : Module → listings.Item → Resolved
 resolved m (listed.Plain instr) = resolved_instr m instr
 resolved m (listed.Jump op target) = jump op target
@@ -113,6 +122,7 @@ abbrev mutual
   ResolveCodes m (more tree trees) codes =
       (first : RawCode) × (others : List RawCode) × (codes ≡ first ∷ others) × ResolvesCode m tree first × ResolveCodes m trees others
 
+-- the tree is what the numbers and offsets of the module lead to
 pub record Resolves (m : Module) (tree : ResolvedModule) : Type 0 where
   pub source : name_at m 0 ≡ Some tree.source
   pub code : ResolvesCode m tree.code m.code
@@ -124,6 +134,7 @@ Reads bytes tree = (m : Module) × IsFile bytes m × Resolves m tree
 -- the tree of a program among these
 -- =================================
 
+-- an instruction of a program that is to be written
 abbrev pub resolved_item : Item → Resolved
 resolved_item (items.Plain instr) = plain instr
 resolved_item (items.Named op text) = named op text
@@ -131,6 +142,7 @@ resolved_item (items.Object constant) = object (value_of constant)
 resolved_item (items.Jump op position) = jump op (Position position)
 resolved_item (items.Unwind position byte) = unwind (Position position) byte
 
+-- the body is that of the code of such a program
 pub record IsBodyOf (code : Code) (body : Body) : Type 0 where
   pub name : body.name ≡ (out-Code code).name
   pub args : body.args ≡ (out-Code code).args

@@ -10,6 +10,7 @@ abbrev pub vals_of : Val → List Val → Vals
 vals_of v [] = Only v
 vals_of v (u ∷ us) = Then v (vals_of u us)
 
+-- the tuple of these values, which may be none
 abbrev pub tuple_value : List Val → Val
 tuple_value [] = Empty
 tuple_value (v ∷ vs) = Fixed (vals_of v vs)
@@ -23,5 +24,6 @@ constant_step (Constant-F.Str text) = Str text
 constant_step (Constant-F.Int n) = Int n
 constant_step (Constant-F.Tuple items) = tuple_value items
 
+-- the value of an object
 abbrev pub value_of : Constant → Val
 value_of = fold-Constant Val constant_step

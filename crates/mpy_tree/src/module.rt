@@ -25,7 +25,7 @@ pub enum Item {
     Object(Constant),
     /// One that names another by its position in the list.
     Jump(Op, u32),
-    /// The same, with the byte behind the offset.
+    /// One that names another by its position in the list, with the byte that stands behind the offset.
     Unwind(u32, u8),
 }
 

@@ -52,6 +52,7 @@ impl Model for RawModule {
 }
 
 impl RawModule {
+    /// A module of these parts, which it takes as they are. `bits` says how many bits small integers take.
     pub fn new(bits: u8, qstrs: Items<Qstr>, objects: Items<Constant>, code: RawCode) -> RawModule
         requires { IsModule (record { bits = bits; qstrs = qstrs; objects = objects; code = code }) }
         ensures { result ≡ record { bits = bits; qstrs = qstrs; objects = objects; code = code } }
@@ -78,6 +79,7 @@ impl RawModule {
         self.qstrs.as_slice()
     }
 
+    /// The table of objects, in the order of the file.
     pub fn objects(&self) -> &[Constant]
         ensures { result.now ≡ self.now.objects }
     {

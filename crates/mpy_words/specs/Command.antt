@@ -7,6 +7,7 @@ use Rattle.mpy_words.specs.declared.order.Named.TheVariants.{Source, File, Input
 use Rattle.mpy_words.specs.declared.order.Setting.{Setting}
 use Rattle.mpy_words.specs.declared.order.Setting.TheVariants.{Level, StoredName, MainName, Base, Cells, Bytes, Steps}
 
+-- how usage and messages call a named word
 abbrev pub name_of : Named → List ℕ
 name_of Source = codes "SRC"
 name_of File = codes "FILE"
@@ -18,6 +19,7 @@ name_of Plan = codes "PLAN"
 name_of Seed = codes "SEED"
 name_of Count = codes "COUNT"
 
+-- the word of an option
 abbrev pub spelling_of : Setting → List ℕ
 spelling_of Level = codes "-O"
 spelling_of StoredName = codes "-s"

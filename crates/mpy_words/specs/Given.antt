@@ -9,9 +9,11 @@ use Rattle.mpy_words.specs.declared.order.Order.{Order}
 use Rattle.mpy_words.specs.declared.given.Given.{Given}
 use Rattle.mpy_words.specs.Number.{number_of}
 
+-- no option was given
 abbrev pub none_given : Given
 none_given = record { seed = None; count = None; level = None; stored_name = None; main_name = None; base = None; cells = None; bytes = None; steps = None }
 
+-- was the option given?
 abbrev pub is_given : Given → Setting → Bool
 is_given given Level = is_some given.level
 is_given given StoredName = is_some given.stored_name
@@ -25,9 +27,11 @@ is_given given Steps = is_some given.steps
 abbrev pub most_cells : ℕ
 most_cells = 4194304
 
+-- that of bytes: 2^24
 abbrev pub most_bytes : ℕ
 most_bytes = 16777216
 
+-- that of steps: 10^12
 abbrev pub most_steps : ℕ
 most_steps = 1000000000000
 

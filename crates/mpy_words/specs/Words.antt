@@ -39,7 +39,7 @@ abbrev pub begins_with_dash : List ℕ → Bool
 begins_with_dash [] = false
 begins_with_dash (byte ∷ bytes) = byte == 45
 
--- the place of the first of these words, which stand behind the others of so many
+-- the place of the first of these words, which are the last of `count` words
 abbrev pub place : ℕ → List (List ℕ) → ℕ
 place count words = count - length words
 

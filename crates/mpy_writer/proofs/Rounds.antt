@@ -185,7 +185,7 @@ module _ (tables : Tables) (ys : List Item) (few : length ys ≤ 2 ^ 29) where
       subst (λ (ws : List Bool). IsFewest labelled (spread ws)) (sym same)
       (record { sized = length-spread old ∙ (ap double size ∙ sym (whole tables ys few)); short_fit = fit; needed = need })
 
-  -- the bytes of so many items
+  -- the bytes of the first `i` items
   abbrev pub laid_to : List Bool → ℕ → List ℕ
   laid_to ws i = flat_map spelling (instrs_to labelled (spread ws) (double i))
 

@@ -8,7 +8,7 @@ use Rattle.mpy_tree.specs.declared.module.Item.TheVariants as items
 use Rattle.mpy_tree.specs.declared.module.Code.{Code, out-Code}
 use Rattle.mpy_tree.specs.declared.module.ModuleCode.{ModuleCode}
 
--- a code, and behind it those in it, so many levels deep
+-- a code, and behind it those in it, that number of levels deep
 unfoldable pub codes_in : ℕ → Code → List Code
 codes_in zero code = []
 codes_in (suc levels) code = code ∷ flat_map (codes_in levels) (out-Code code).children
@@ -22,20 +22,23 @@ abbrev pub text_in : Item → List (List ℕ)
 text_in (items.Named op text) = text ∷ []
 text_in item = []
 
+-- the object that an instruction names, if it names one
 abbrev pub object_in : Item → List Constant
 object_in (items.Object object) = object ∷ []
 object_in item = []
 
--- those that a code names: its name, its arguments and its instructions' texts
+-- the texts that a code names: its name, its arguments and its instructions' texts
 abbrev pub texts_in : Code → List (List ℕ)
 texts_in code = (out-Code code).name ∷ ((out-Code code).args ++ flat_map text_in (out-Code code).instrs)
 
+-- the objects that a code's instructions name
 abbrev pub objects_in : Code → List Constant
 objects_in code = flat_map object_in (out-Code code).instrs
 
--- those that a module names, as often as it names them
+-- the texts that a module names, as often as it names them
 abbrev pub texts_used : ModuleCode → List (List ℕ)
 texts_used m = m.source ∷ flat_map texts_in (codes m)
 
+-- the objects that a module names, as often as it names them
 abbrev pub objects_used : ModuleCode → List Constant
 objects_used m = flat_map objects_in (codes m)

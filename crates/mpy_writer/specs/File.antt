@@ -50,9 +50,11 @@ labelled_from tables position [] = []
 labelled_from tables position (item ∷ items) =
     label_at position ++ (item_of tables item ∷ labelled_from tables (position + 1) items)
 
+-- the items of a code with their labels
 abbrev pub labelled : Tables → Code → List Labelled
 labelled tables code = labelled_from tables 0 (out-Code code).instrs
 
+-- the signature of a code, which has no flags and no keyword-only arguments
 abbrev pub signature_of : Code → Signature
 signature_of code = record {
   n_state = (out-Code code).n_state;
@@ -86,6 +88,7 @@ pub record IsOwn (tables : Tables) (code : Code) (own : List ℕ) : Type 0 where
 -- a file
 -- ======
 
+-- does a code with these children have any?
 abbrev pub has_some : List Code → Bool
 has_some [] = false
 has_some (child ∷ children) = true
@@ -110,6 +113,7 @@ abbrev pub entry_of : List ℕ → Option ℕ → Qstr
 entry_of text None = qstrs.Own text
 entry_of text (Some number) = qstrs.Static number
 
+-- the entry of a text in the table of texts
 abbrev pub qstr_of : List ℕ → Qstr
 qstr_of text = entry_of text (static_number_of text)
 
@@ -140,6 +144,7 @@ pub record HasManyNames (m : ModuleCode) : Type 0 where
 abbrev pub SomeFar : Tables → List Code → Type 0
 SomeFar tables codes = (code : Code) × Contains codes code × IsTooFar (labelled tables code)
 
+-- a jump in one of the module's codes has an offset that fits no form
 pub record HasFarJump (m : ModuleCode) : Type 0 where
   pub tables : Tables
   pub are_tables : AreTables m tables
@@ -155,9 +160,11 @@ IsCodeFault tables code TooManyNames = ⊥
 IsCodeFault tables code TooFar = IsTooFar (labelled tables code)
 IsCodeFault tables code TooBig = IsBig tables code
 
+-- one of the codes has too many bytes
 abbrev pub SomeBig : Tables → List Code → Type 0
 SomeBig tables codes = (code : Code) × Contains codes code × IsBig tables code
 
+-- one of the module's codes has too many bytes
 pub record HasBigCode (m : ModuleCode) : Type 0 where
   pub tables : Tables
   pub are_tables : AreTables m tables

@@ -12,11 +12,12 @@ abbrev pub FaultIs : Refused WriteFault → (WriteFault → Type 0) → Type 0
 FaultIs (refused.Fault fault) P = P fault
 FaultIs refused.NoMemory P = Unit {0}
 
+-- where a call ended with a fault, the fault is such a one
 abbrev pub IfFault : {A : Type 0} → Result A (Refused WriteFault) → (WriteFault → Type 0) → Type 0
 IfFault (Ok x) P = Unit {0}
 IfFault (Err refusal) P = FaultIs refusal P
 
--- none yet
+-- a table without a text
 abbrev pub no_texts : Texts
 no_texts = record { first = 0; texts = [] }
 

@@ -19,6 +19,7 @@ use Rattle.mpy_writer.specs.File.{item_of}
 -- an item that names another
 -- ==========================
 
+-- does the item name another?
 abbrev pub is_jump : Item → Bool
 is_jump (items.Jump op position) = true
 is_jump (items.Unwind position byte) = true
@@ -35,13 +36,13 @@ abbrev pub signed_in : Item → Bool
 signed_in (items.Jump op position) = is_signed (form_of (code_of op))
 signed_in item = true
 
--- its instruction
+-- the instruction of an item that names another, by the offset; none of other items
 abbrev pub jump_in : Item → ℤ → Bool → List Instr
 jump_in (items.Jump op position) offset wide = instrs.Jump op offset wide ∷ []
 jump_in (items.Unwind position byte) offset wide = instrs.Unwind offset wide byte ∷ []
 jump_in item offset wide = []
 
--- its bytes, of which one is the offset's
+-- the bytes of an item that names another, of which one is the offset's; 0 of other items
 abbrev pub short_size : Item → ℕ
 short_size (items.Jump op position) = 2
 short_size (items.Unwind position byte) = 3
@@ -50,12 +51,13 @@ short_size item = 0
 -- a list of items
 -- ===============
 
+-- the position that a labelled item names, and 0 for another item
 abbrev pub position_of : Labelled → ℕ
 position_of (labels.Jump op position) = position
 position_of (labels.Unwind position byte) = position
 position_of item = 0
 
--- the item may be written, and a jump names one of so many
+-- the item may be written, and a jump names one of `count` instructions
 abbrev pub IsPlaced : ℕ → Labelled → Type 0
 IsPlaced count (labels.At label) = ⊥
 IsPlaced count (labels.Plain instr) = IsEncodable instr × HasNoOffset instr
@@ -66,11 +68,12 @@ IsPlaced count (labels.Unwind position byte) = position < count
 abbrev pub numbered : Tables → List Item → List Labelled
 numbered tables items = map (item_of tables) items
 
--- the bytes of so many items where each offset is 0 and takes one byte
+-- the bytes of the first items, as many as the second argument says, where each offset is 0 and takes one byte
 abbrev pub drafted_to : List Labelled → ℕ → List ℕ
 drafted_to items zero = []
 drafted_to items (suc i) = drafted_to items i ++ flat_map spelling (instr_of (item_at items i) (pos 0) false)
 
+-- the bytes of all items where each offset is 0 and takes one byte
 abbrev pub drafted : Tables → List Item → List ℕ
 drafted tables items = drafted_to (numbered tables items) (length items)
 

@@ -28,6 +28,7 @@ pub record Fits (table : Texts) : Type 0 where
   pub first : table.first ≡ 0
   pub few : length table.texts ≤ MAX_TABLE
 
+-- both tables fit
 pub record TablesFit (tables : Tables) : Type 0 where
   pub texts : Fits tables.texts
   pub objects : Fits tables.objects

@@ -34,7 +34,7 @@ abbrev pub IsFineBy : (Constant → Type 0) → Constant-F Constant → Type 0
 IsFineBy Inner (Constant-F.Tuple items) = (length items < 2 ^ 31) × All Inner items
 IsFineBy Inner object = IsAtomBy object
 
--- an object of so many levels of tuples at most, with fine texts and small integers
+-- an object of that number of levels of tuples at most, with fine texts and small integers
 unfoldable pub IsFine : ℕ → Constant → Type 0
 IsFine zero object = IsAtomBy (out-Constant object)
 IsFine (suc levels) object = IsFineBy (IsFine levels) (out-Constant object)
@@ -47,13 +47,13 @@ IsPlain (instrs.Jump op offset wide) = ⊥
 IsPlain (instrs.Unwind offset wide byte) = ⊥
 IsPlain instr = Unit {0}
 
--- the position of one of so many instructions, of 32 bits as in an item
+-- the position of one of `count` instructions, of 32 bits as in an item
 pub record IsPosition (count position : ℕ) : Type 0 where
   pub within : position < count
   pub small : position < 2 ^ 32
 
--- the operation is one of its kind, the operand keeps its bounds, and a jump names one of so many instructions; such a
--- fact holds of a plain instruction
+-- the operation is one of its kind, the operand keeps its bounds, and a jump names one of `count` instructions; the fact
+-- `IsInstr` holds of a plain instruction
 abbrev pub IsItemWith : (Instr → Type 0) → ℕ → Item → Type 0
 IsItemWith IsInstr count (items.Plain instr) = IsInstr instr × IsEncodable instr
 IsItemWith IsInstr count (items.Named op text) = (form_of (code_of op) ≡ forms.Name op) × IsText text
@@ -88,17 +88,20 @@ pub record IsCodeWith (IsItem : ℕ → Item → Type 0) (code : Code) : Type 0 
   pub lines : NeverFall 1 (out-Code code).lines
   pub few_children : length (out-Code code).children ≤ MAX_TABLE
 
+-- a code that may be written, whose plain instructions name no text, no object and no place
 abbrev pub IsSoundCode : Code → Type 0
 IsSoundCode code = IsCodeWith IsSoundItem code
 
+-- a code that may be written, whose plain instructions may have the number of a text or an object, but no place
 abbrev pub IsNumberedCode : Code → Type 0
 IsNumberedCode code = IsCodeWith IsNumberedItem code
 
--- the code has so many levels of codes at most, itself among them
+-- the code has that number of levels of codes at most, itself among them
 unfoldable pub IsShallow : ℕ → Code → Type 0
 IsShallow zero code = ⊥
 IsShallow (suc levels) code = All (IsShallow levels) (out-Code code).children
 
+-- a module that may be written: it keeps the limits of a file, and its codes nest no deeper than a file's
 pub record IsWritable (m : ModuleCode) : Type 0 where
   pub source : IsText m.source
   pub shallow : IsShallow MAX_DEPTH m.code

@@ -128,6 +128,7 @@ fn write_names(out: &mut Vec<u8>, tables: &Tables, code: &Code) -> Result<(), No
     Ok(())
 }
 
+/// What the prelude of a code says of its call: its slots, handler entries, parameters and defaults.
 fn signature(code: &Code) -> Signature
     requires { IsNumberedCode code.now }
     ensures { result ≡ signature_of code.now }

@@ -7,7 +7,7 @@ ghost use Rattle.mpy_writer.specs.Writable.{IsShallow};
 use mpy_base::NoMemory;
 use mpy_tree::Code;
 
-/// Adds the code, and behind it those in it, so many levels deep.
+/// Adds the code, and behind it those in it, `levels` levels deep.
 pub(crate) fn add_codes<'a>(
     codes: &mut Vec<&'a Code>,
     code: &'a Code,

@@ -1,4 +1,4 @@
-//! Files.
+//! Writing a module as a file: tables, then the codes in preorder, each with the layout of its jumps.
 
 ghost use Rattle.std.specs.Prelude.{◌≡◌, ◌⊎◌, ◌++◌, List, ℕ, map, All, IfOk, OnOk, Err};
 ghost use Rattle.std.specs.List.{concat, flat_map};

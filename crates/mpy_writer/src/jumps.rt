@@ -19,7 +19,7 @@ fn is_jump(item: &Item) -> bool
     matches!(item, Item::Jump(..) | Item::Unwind(..))
 }
 
-/// Does one of the items?
+/// Does one of the items name another?
 pub(crate) fn has_jumps(items: &[Item]) -> bool
     ensures { result ≡ false → All (λ item. specs.is_jump item ≡ false) items.now }
 {
@@ -53,7 +53,7 @@ pub(crate) fn short_size(item: &Item) -> usize
     }
 }
 
-/// The bytes of an offset.
+/// How many bytes an offset takes.
 fn offset_size(wide: bool) -> usize
     ensures { result ≡ places.offset_size wide }
 {

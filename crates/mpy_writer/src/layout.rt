@@ -97,7 +97,7 @@ fn with_jumps(
     fill(alloc, tables, items, draft, &starts, &widths)
 }
 
-/// The layout of the instructions.
+/// The bytes of the instructions, each jump with the offset of the item that it names.
 pub(crate) fn by_positions(
     alloc: Global,
     tables: &Tables,

@@ -14,16 +14,22 @@ use mpy_base::{NoMemory, Text, write_vuint};
 use mpy_tree::Constant;
 use std::alloc::Global;
 
+/// The byte in front of `None`.
 const TAG_NONE: u8 = 1;
 
+/// The byte in front of `False`.
 const TAG_FALSE: u8 = 2;
 
+/// The byte in front of `True`.
 const TAG_TRUE: u8 = 3;
 
+/// The byte in front of a str.
 const TAG_STR: u8 = 5;
 
+/// The byte in front of an int.
 const TAG_INT: u8 = 7;
 
+/// The byte in front of a tuple.
 const TAG_TUPLE: u8 = 10;
 
 /// Adds a text.
@@ -50,7 +56,7 @@ fn write_int(alloc: Global, out: &mut Vec<u8>, n: i32) -> Result<(), NoMemory>
     Ok(())
 }
 
-/// Adds the objects, with so many levels of tuples in each at most.
+/// Adds the objects, with `levels` levels of tuples in each at most.
 #[cycle(object)]
 fn write_objects(
     alloc: Global,
@@ -67,7 +73,7 @@ fn write_objects(
     Ok(())
 }
 
-/// Adds an object, with so many levels of tuples in it at most.
+/// Adds an object, with `levels` levels of tuples in it at most.
 #[cycle(object)]
 fn write_object(
     alloc: Global,

@@ -45,7 +45,7 @@ pub fn use_text(alloc: Global, pool: &mut Pool, text: &[u8]) -> Result<(), Refus
     }
 }
 
-/// Uses the texts.
+/// Puts each of the texts into the table, where it isn't in it.
 fn use_texts(alloc: Global, pool: &mut Pool, texts: &[Text]) -> Result<(), Refused<WriteFault>>
     ensures ok { OnOk result (pool.new ≡ all_interned pool.old texts.now) }
     ensures fault { IfFault result (PassesTable pool.old texts.now) }
@@ -126,7 +126,7 @@ pub(crate) fn use_all_objects(
     Ok(())
 }
 
-/// The tables of the codes.
+/// The tables of texts and of objects of these codes, the name of the source first.
 pub(crate) fn make_tables(
     alloc: Global,
     source: &Text,

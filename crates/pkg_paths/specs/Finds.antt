@@ -33,6 +33,7 @@ NamesOneOf names (Err (Fault (TooLong name))) = Contains names name
 NamesOneOf names (Err (Fault (Failed name))) = Contains names name
 NamesOneOf names (Err NoMemory) = ⊤
 
+-- did a read fail outside?
 abbrev pub is_failed : Result (Option Found) (Refused FindFault) → Bool
 is_failed (Ok found) = false
 is_failed (Err (Fault (Failed name))) = true

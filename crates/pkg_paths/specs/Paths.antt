@@ -7,9 +7,11 @@ use Rattle.pkg_paths.specs.Plain.{parts_of}
 abbrev pub path_of : (base name : List ℕ) → List ℕ
 path_of base name = base ++ join_with_byte 47 (parts_of name)
 
+-- the file of a package of the name
 abbrev pub package_file : (base name ending : List ℕ) → List ℕ
 package_file base name ending = path_of base name ++ (codes "/__init__" ++ ending)
 
+-- the file of a plain module of the name
 abbrev pub plain_file : (base name ending : List ℕ) → List ℕ
 plain_file base name ending = path_of base name ++ ending
 

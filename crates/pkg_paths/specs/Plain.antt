@@ -20,6 +20,7 @@ is_part (byte ∷ bytes) = is_word_byte byte && list_all is_word_byte bytes
 abbrev pub is_plain : List ℕ → Bool
 is_plain name = list_all is_part (parts_of name)
 
+-- parts of letters, digits and `_`, none empty, joined by dots, as a fact
 abbrev pub IsPlain : List ℕ → Type 0
 IsPlain name = IsTrue (is_plain name)
 

@@ -14,12 +14,14 @@ pub struct Paths {
     pub plain: Text,
 }
 
+/// A byte, and `/` in place of a dot.
 fn slashed(byte: u8) -> u8
     ensures { result ≡ (if nat_eq 46 byte then 47 else byte) }
 {
     if byte == b'.' { b'/' } else { byte }
 }
 
+/// A name with `/` in place of each dot.
 fn slashes(alloc: Global, name: &[u8]) -> Result<Vec<u8>, AllocError>
     ensures { IfOk result (λ path. path.items ≡ map (λ byte. if nat_eq 46 byte then 47 else byte) name.now) }
 {

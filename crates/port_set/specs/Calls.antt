@@ -15,7 +15,7 @@ pub record CallsOne (old new : List PortView) (number : ℕ) (Call : PortView �
 abbrev pub Tell : List PortView → List PortState → Type 0
 Tell views ports = map (λ view. view.told) views ≡ map (λ port. Some port) ports
 
--- the same call of ports that tell their contents
+-- the port of this number was called, as the relation says of its contents, and every other port tells what it told
 pub record CallsTold (old : List PortState) (new : List PortView) (number : ℕ) (Call : PortState → PortState → Type 0) : Type 0 where
   pub before : PortState
   pub after : PortState

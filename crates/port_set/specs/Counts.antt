@@ -58,7 +58,7 @@ pub record IsAccounted (old new : PortView) : Type 0 where
   pub countable : new.count < 2 ^ 64 - 1
   pub accounted : (new.count ≤ old.count) ⊎ RisesAsTold old.told new.told old.count new.count
 
--- so it is of each port
+-- of each port: its count didn't rise, or by no more than the faults that it tells, and doesn't stand at the end of its type
 abbrev pub AreAccounted : (old new : List PortView) → Type 0
 AreAccounted old new =
     (number : ℕ) (before after : PortView) → slice_get old number ≡ Some before → slice_get new number ≡ Some after → IsAccounted before after

@@ -3,6 +3,7 @@
 use mpy_io::Failed;
 use thiserror::Error;
 
+/// Why a call of a port gives no answer.
 #[derive(Clone, Copy, Debug, PartialEq, Eq, Error)]
 pub enum PortFault {
     /// No port has the number.

@@ -15,7 +15,8 @@ pub fn put_law()
         → CallsTold ports new i (λ before after. (after ≡ after_put before n failed) × (IsFailing before → IsTrue failed)) }
 {}
 
-/// The same of a get, which answers the first pending answer of that port.
+/// A get on one of many ports that tell their contents: it answers the first pending answer of that port, which becomes what a get makes
+/// of it.
 pub fn get_law()
     ensures { (old new : List PortView) (ports : List PortState) (i : ℕ) (result : Result (Option ℤ) PortFault)
         → Tell old ports

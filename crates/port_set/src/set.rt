@@ -24,12 +24,14 @@ impl<P> Model for PortSet<P> {
 }
 
 impl<P: Port> PortSet<P> {
+    /// A set of these ports, numbered from 0 in their order.
     pub fn new(ports: Vec<P>) -> PortSet<P>
         ensures { result ≡ ports.items }
     {
         PortSet { ports }
     }
 
+    /// How many ports there are.
     pub fn len(&self) -> usize
         ensures { result ≡ length self.now }
     {

@@ -6,10 +6,11 @@ use Rattle.py_tree.specs.declared.stmt.Alias.{Alias}
 use Rattle.py_meaning.specs.Tree.{Name, Stmt, Do, Assign, AugName, AugAttr, AugIndex, Delete, Pass, Break, Continue, ReturnNone, Return, Reraise, Raise, Assert, AssertWith, Import, From, If, While, For, Try, Finally, TryFinally, Def, Block, End, Next, Branches, Else, Case, Handlers, NoHandler, Any, On, OnAs, Function, functions}
 use Rattle.py_meaning.specs.Program.{Source}
 
+-- the names that an import names
 abbrev pub names_of : List Alias → List Name
 names_of aliases = map (λ (a : Alias). a.name) aliases
 
--- those of a text's own statements. The body of a function is another text
+-- the names that a text's own statements import. The body of a function is another text
 abbrev mutual
   pub imports : Block → List Name
   imports End = []
@@ -51,6 +52,6 @@ abbrev mutual
   imports_by (On line test body handlers) = imports body ++ imports_by handlers
   imports_by (OnAs line test name body handlers) = imports body ++ imports_by handlers
 
--- those of the module's own statements, and of each function's
+-- the names that a module's own statements import, and those of each function
 abbrev pub source_imports : Source → List Name
 source_imports source = imports source.body ++ flat_map (λ (f : Function). imports f.body) (functions source.body)

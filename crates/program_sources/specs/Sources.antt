@@ -28,6 +28,7 @@ abbrev pub with_source : List (Name × Entry) → Name → Option Source → Lis
 with_source entries name None = entries
 with_source entries name (Some source) = entries ++ (name, Runs (Single source)) ∷ []
 
+-- the names that a source imports, if there is one
 abbrev pub imports_with : Option Source → List Name
 imports_with None = []
 imports_with (Some source) = source_imports source
@@ -48,7 +49,7 @@ pub data LoadsSources (files : FileOf) (base : List ℕ) (level : ℕ)
       → IsSome (entry_in entries name)
       → LoadsSources files base level entries together found behind all
       → LoadsSources files base level entries (name ∷ together) found behind all
-  -- its source is taken, or absent
+  -- the source of the name is taken, or absent
   taken : (entries : List (Name × Entry)) (name : Name) (together found behind : List Name) (source : Option Source) (all : List (Name × Entry))
       → entry_in entries name ≡ None
       → HoldsSource files base level name source

@@ -46,6 +46,7 @@ joins (tok.Word word.If) = 12
 joins (tok.Op op.Comma) = 13
 joins _ = 14
 
+-- the rank of the first of the tokens
 abbrev pub rank : List Token → ℕ
 rank [] = 14
 rank (t ∷ ts) = joins t.kind
@@ -54,17 +55,22 @@ rank (t ∷ ts) = joins t.kind
 abbrev pub behind_atom : ℕ
 behind_atom = 1
 
+-- no trailer goes on there
 abbrev pub behind_primary : ℕ
 behind_primary = 2
 
+-- neither a trailer nor `**` goes on there
 abbrev pub behind_factor : ℕ
 behind_factor = 3
 
+-- nor does a binary operator or a comparison go on there
 abbrev pub behind_compare : ℕ
 behind_compare = 10
 
+-- nor does a word of a test go on there
 abbrev pub behind_test : ℕ
 behind_test = 13
 
+-- nor does a comma go on there
 abbrev pub behind_tests : ℕ
 behind_tests = 14

@@ -40,6 +40,7 @@ mutual
     primary : Atom → Trailers → Factor
     power : Atom → Trailers → Place → Factor → Factor
 
+  -- atom = NAME | INT | STRING { STRING } | "None" | "True" | "False" | "(" [ tests ] ")" | "[" [ tests ] "]" | "{" pairs "}"
   pub data Atom : Type 0 where
     name : Place → List ℕ → Atom
     int : Place → ℤ → Atom
@@ -61,6 +62,7 @@ mutual
     no_pair : Pairs
     pair : Test → Place → Test → BehindPair → Pairs
 
+  -- nothing, or a comma and what is left of the pairs
   pub data BehindPair : Type 0 where
     pair_end : BehindPair
     pair_comma : Place → Pairs → BehindPair
@@ -79,6 +81,7 @@ mutual
     positional : {names : List (List ℕ)} → names ≡ [] → Test → BehindArgument names → Arguments names
     keyword : {names : List (List ℕ)} → Place → (text : List ℕ) → is_new text names ≡ true → Place → Test → BehindArgument (names ++ text ∷ []) → Arguments names
 
+  -- nothing, or a comma and what is left of the arguments
   pub data BehindArgument : List (List ℕ) → Type 0 where
     argument_end : {names : List (List ℕ)} → BehindArgument names
     argument_comma : {names : List (List ℕ)} → Place → Arguments names → BehindArgument names
@@ -87,6 +90,7 @@ mutual
   pub data Members : Type 0 where
     listed : Test → Commas → Members
 
+  -- { "," test } [ "," ]
   pub data Commas : Type 0 where
     no_comma : Commas
     last_comma : Place → Commas
@@ -101,6 +105,7 @@ mutual
   pub data OrTest : Type 0 where
     or_test : AndTest → OrMore → OrTest
 
+  -- { "or" andtest }
   pub data OrMore : Type 0 where
     no_or : OrMore
     or_more : Place → AndTest → OrMore → OrMore
@@ -109,6 +114,7 @@ mutual
   pub data AndTest : Type 0 where
     and_test : NotTest → AndMore → AndTest
 
+  -- { "and" nottest }
   pub data AndMore : Type 0 where
     no_and : AndMore
     and_more : Place → NotTest → AndMore → AndMore
@@ -118,6 +124,7 @@ mutual
     negated : Place → NotTest → NotTest
     compare : Sum 6 → Comparisons → NotTest
 
+  -- { comparison bor }
   pub data Comparisons : Type 0 where
     no_comparison : Comparisons
     comparing : Comparison → Sum 6 → Comparisons → Comparisons
@@ -127,16 +134,19 @@ mutual
     operand : Factor → Sum zero
     grouped : {level : ℕ} → Sum level → Chain level → Sum (suc level)
 
+  -- operators of one level above, each with its right operand
   pub data Chain : ℕ → Type 0 where
     no_operator : {level : ℕ} → Chain level
     operated : {level : ℕ} → Place → (kind : Tok) (how : BinaryOp) → operator (suc level) kind ≡ Some how → Sum level → Chain level → Chain level
 
 -- ---- the tokens of a reading, and then these
 
+-- the tokens of further strings, and then these
 abbrev pub strings_text : Strings → List Token → List Token
 strings_text no_string rest = rest
 strings_text (string l text ss) rest = at l (tok.Str text) ∷ strings_text ss rest
 
+-- the tokens of the operator of a comparison, and then these
 abbrev pub comparison_text : Comparison → List Token → List Token
 comparison_text (alone l kind how is) rest = at l kind ∷ rest
 comparison_text (not_in l r) rest = at l (tok.Word word.Not) ∷ at r (tok.Word word.In) ∷ rest
@@ -236,6 +246,7 @@ abbrev pub strings_tree : Strings → List ℕ
 strings_tree no_string = []
 strings_tree (string l text ss) = text ++ strings_tree ss
 
+-- the operator of a comparison
 abbrev pub comparison_tree : Comparison → CompareOp
 comparison_tree (alone l kind how is) = how
 comparison_tree (not_in l r) = compares.NotIn
@@ -351,5 +362,6 @@ abbrev mutual
   chain_tree no_operator left = left
   chain_tree (operated l kind how is s c) left = chain_tree c (ex.Binary how left (sum_tree s))
 
+-- one test without a comma is itself, and others are a tuple
 abbrev pub members_tree : Members → Expr
 members_tree m = tuple_of (members_list m) (members_comma m)

@@ -8,6 +8,7 @@ use Rattle.py_expressions.specs.declared.cursor.Syntax.{Syntax}
 use Rattle.py_expressions.specs.Input.{Input, input_of, Outcome, Parser}
 use Rattle.py_expressions.specs.Follow.{rank}
 
+-- the input of these tokens
 abbrev pub input : List Token → ℕ → Input
 input ts front = record { ahead = ts; front = front }
 

@@ -10,6 +10,7 @@ use Rattle.py_expressions.specs.declared.grammar.Rule.{Rule}
 use Rattle.py_expressions.specs.Input.{input_of, Reads}
 use Rattle.py_expressions.specs.Reading.{expr}
 
+-- it may be called with any input and rule, and reads what `expr` reads to that depth
 pub record Nests (depth : ℕ) (pre : Global → MutBor Cursor → ℕ → Rule → Type 0)
     (post : Global → MutBor Cursor → ℕ → Rule → Result Expr (Refused Syntax) → MutBor Cursor → Type 0) : Type 0 where
   pub callable : (alloc : Global) (old : MutBor Cursor) (which : Rule) → pre alloc old depth which

@@ -40,6 +40,7 @@ mutual
   pub data Aims : Type 0 where
     listed : Aim → MoreAims → Aims
 
+  -- { "," target } [ "," ]
   pub data MoreAims : Type 0 where
     no_comma : MoreAims
     last_comma : Place → MoreAims
@@ -47,14 +48,17 @@ mutual
 
 -- ---- the tokens of a reading, and then these
 
+-- the tokens of what a primary ends in, and then these
 abbrev pub ending_text : Ending → List Token → List Token
 ending_text (attribute l r text) rest = at l (tok.Op op.Dot) ∷ at r (tok.Name text) ∷ rest
 ending_text (index l m r) rest = at l (tok.Op op.OpenBracket) ∷ members_text m (at r (tok.Op op.CloseBracket) ∷ rest)
 
+-- the tokens of one target, and then these
 abbrev pub one_text : One → List Token → List Token
 one_text (One.variable l text) rest = at l (tok.Name text) ∷ rest
 one_text (part a ts e) rest = atom_text a (trailers_text ts (ending_text e rest))
 
+-- the tokens of a target of `del`, and then these
 abbrev pub gone_text : Gone → List Token → List Token
 gone_text (Gone.variable l text) rest = at l (tok.Name text) ∷ rest
 gone_text (item a ts l m r) rest = atom_text a (trailers_text ts (ending_text (index l m r) rest))
@@ -75,14 +79,17 @@ abbrev mutual
 
 -- ---- the target of a reading
 
+-- the part of the object that the ending names
 abbrev pub ending_tree : Ending → Expr → Target
 ending_tree (attribute l r text) object = target.Attr object text
 ending_tree (index l m r) object = target.Index object (members_tree m)
 
+-- the tree of one target
 abbrev pub one_tree : One → Target
 one_tree (One.variable l text) = target.Name text
 one_tree (part a ts e) = ending_tree e (trailers_tree ts (atom_tree a))
 
+-- the tree of a target of `del`
 abbrev pub gone_tree : Gone → Target
 gone_tree (Gone.variable l text) = target.Name text
 gone_tree (item a ts l m r) = target.Index (trailers_tree ts (atom_tree a)) (members_tree m)
@@ -117,33 +124,38 @@ abbrev mutual
   more_last (last_comma l) = true
   more_last (comma l a cs) = more_last cs
 
+-- the tree of targets: one without a comma is itself, and others are unpacked
 abbrev pub aims_tree : Aims → Target
 aims_tree gs = unpacks (aims_list gs) (aims_last gs)
 
 -- ---- the targets that expressions are
 
+-- a target in front of others, where all of them are targets
 abbrev pub both : Option Target → Option (List Target) → Option (List Target)
 both None ts = None
 both (Some t) None = None
 both (Some t) (Some ts) = Some (t ∷ ts)
 
--- each of them
+-- the target that each of the expressions is, where all are targets
 unfoldable pub each : (Expr → Option Target) → List Expr → Option (List Target)
 each go [] = Some []
 each go (x ∷ xs) = both (go x) (each go xs)
 
+-- the targets as one that is unpacked
 abbrev pub unpacked : Option (List Target) → Option Target
 unpacked None = None
 unpacked (Some ts) = Some (target.Unpack ts)
 
--- one or more
+-- the targets that one or more expressions are, as one that is unpacked
 unfoldable pub unpack : (Expr → Option Target) → List Expr → Option Target
 unpack go [] = None
 unpack go (x ∷ xs) = unpacked (each go (x ∷ xs))
 
+-- an expression by its outermost part
 abbrev pub Layer : Type 0
 Layer = Expr-F Expr
 
+-- the target that an expression is by its outermost part: a name, an attribute, an item, or a tuple or list of targets
 abbrev pub target_by : (Expr → Option Target) → Layer → Option Target
 target_by go (Expr-F.Name text) = Some (target.Name text)
 target_by go (Expr-F.Attr object text) = Some (target.Attr object text)
@@ -163,31 +175,36 @@ part_by (Expr-F.Attr object text) = Some (target.Attr object text)
 part_by (Expr-F.Index object i) = Some (target.Index object i)
 part_by _ = None
 
+-- the attribute or item that an expression is
 unfoldable pub part_of : Expr → Option Target
 part_of x = part_by (out-Expr x)
 
--- and as a target of a `del`
+-- what a primary with trailers may be as a target of `del`
 abbrev pub item_by : Layer → Option Target
 item_by (Expr-F.Index object i) = Some (target.Index object i)
 item_by _ = None
 
+-- the item that an expression is
 unfoldable pub item_of : Expr → Option Target
 item_of x = item_by (out-Expr x)
 
+-- the one or the other, by whether it is deleted
 abbrev pub whole_of : Bool → Expr → Option Target
 whole_of deletes = if deletes then item_of else part_of
 
--- What an atom alone is as either: a name that no bracket encloses, so that a name is its first token.
+-- the target that an atom alone is, to be assigned or deleted: a name that no bracket encloses, so that a name is its first token
 abbrev pub alone_by : Bool → Layer → Option Target
 alone_by false _ = None
 alone_by true (Expr-F.Name text) = Some (target.Name text)
 alone_by true _ = None
 
+-- the target that a whole expression alone is, to be assigned or deleted
 unfoldable pub alone_of : Bool → Expr → Option Target
 alone_of is_name x = alone_by is_name (out-Expr x)
 
 -- ---- targets that are read as primaries
 
+-- the value, where there is one
 abbrev pub given : {A : Type 0} → Option A → Parser A
 given None = refuse
 given (Some x) = pure x
@@ -198,6 +215,7 @@ targets depth = do
   found ← members (primary (expr depth))
   given (target_of (suc depth) (tuple_of found.0 found.1))
 
+-- targets in front of `in`, with room for each nesting of what is ahead
 unfoldable pub all_targets : Parser Target
 all_targets = λ i. targets (turns i) i
 

@@ -1,4 +1,4 @@
-//! Atoms.
+//! Atoms: names, constants, adjacent strings, and what stands in brackets.
 
 ghost use Rattle.py_expressions.specs.Input.{Reads, input_of};
 ghost use Rattle.py_expressions.specs.Reading as spec;
@@ -28,6 +28,7 @@ fn strings(alloc: Global, tokens: &mut Cursor<'_>) -> Result<Text, Refused<Synta
 }
 
 impl<F: Fn(Global, &mut Cursor<'_>, usize, Rule) -> Result<Expr, Refused<Syntax>>> Grammar<F> {
+    /// Reads `[ tests ] ")"`.
     #[tactic(auto, unfolding(crate::specs::Reading::round))]
     fn round(&self, tokens: &mut Cursor<'_>) -> Result<Expr, Refused<Syntax>>
         requires { Nests self.now.depth (F.pre self.now.expr) (F.post self.now.expr) }
@@ -38,6 +39,7 @@ impl<F: Fn(Global, &mut Cursor<'_>, usize, Rule) -> Result<Expr, Refused<Syntax>
         Ok(tuple_of(found, comma))
     }
 
+    /// Reads `[ tests ] "]"`.
     #[tactic(auto, unfolding(crate::specs::Reading::square))]
     fn square(&self, tokens: &mut Cursor<'_>) -> Result<Expr, Refused<Syntax>>
         requires { Nests self.now.depth (F.pre self.now.expr) (F.post self.now.expr) }
@@ -58,6 +60,7 @@ impl<F: Fn(Global, &mut Cursor<'_>, usize, Rule) -> Result<Expr, Refused<Syntax>
         Ok((key, value))
     }
 
+    /// Reads `test ":" test`.
     #[tactic(auto, unfolding(crate::specs::Reading::pair))]
     fn pair(&self, tokens: &mut Cursor<'_>) -> Result<(Expr, Expr), Refused<Syntax>>
         requires { Nests self.now.depth (F.pre self.now.expr) (F.post self.now.expr) }
@@ -67,6 +70,7 @@ impl<F: Fn(Global, &mut Cursor<'_>, usize, Rule) -> Result<Expr, Refused<Syntax>
         self.valued(tokens, key)
     }
 
+    /// Reads `[ pair { "," pair } [ "," ] ]`.
     fn pairs(&self, tokens: &mut Cursor<'_>) -> Result<Items<(Expr, Expr)>, Refused<Syntax>>
         requires { Nests self.now.depth (F.pre self.now.expr) (F.post self.now.expr) }
         ensures { Reads (spec.pairs (spec.expr self.now.depth) (input_of tokens.old)) result tokens.new }
@@ -84,6 +88,7 @@ impl<F: Fn(Global, &mut Cursor<'_>, usize, Rule) -> Result<Expr, Refused<Syntax>
         Ok(found)
     }
 
+    /// Reads `pairs "}"`.
     #[tactic(auto, unfolding(crate::specs::Reading::brace))]
     fn brace(&self, tokens: &mut Cursor<'_>) -> Result<Expr, Refused<Syntax>>
         requires { Nests self.now.depth (F.pre self.now.expr) (F.post self.now.expr) }
@@ -94,6 +99,7 @@ impl<F: Fn(Global, &mut Cursor<'_>, usize, Rule) -> Result<Expr, Refused<Syntax>
         Ok(Expr::Dict(found))
     }
 
+    /// Reads an atom: a name, a constant, or what stands in brackets of one kind.
     #[tactic(auto, unfolding(crate::specs::Reading::atom))]
     pub fn atom(&self, tokens: &mut Cursor<'_>) -> Result<Expr, Refused<Syntax>>
         requires { Nests self.now.depth (F.pre self.now.expr) (F.post self.now.expr) }

@@ -30,6 +30,7 @@ fn has_name(keys: &[(Text, Expr)], name: &Text) -> bool
     keys.iter().any(|key| key.0.bytes() == name.bytes())
 }
 
+/// Has none of the keyword arguments this name?
 fn is_new(name: &Text, keys: &Items<(Text, Expr)>) -> bool
     ensures { result ≡ spec.is_new name.now (spec.names keys.now) }
 {
@@ -47,6 +48,7 @@ pub(crate) fn begins_trailer(kind: Option<&Tok>) -> bool
 }
 
 impl<F: Fn(Global, &mut Cursor<'_>, usize, Rule) -> Result<Expr, Refused<Syntax>>> Grammar<F> {
+    /// Reads one more positional argument behind those that are given.
     #[tactic(auto, unfolding(crate::specs::Reading::positional))]
     fn positional(
         &self,
@@ -65,6 +67,7 @@ impl<F: Fn(Global, &mut Cursor<'_>, usize, Rule) -> Result<Expr, Refused<Syntax>
         Ok(Arguments { args, keys })
     }
 
+    /// Reads one more keyword argument, whose name none of those has that are given.
     #[tactic(auto, unfolding(crate::specs::Reading::keyword))]
     fn keyword(
         &self,
@@ -86,6 +89,7 @@ impl<F: Fn(Global, &mut Cursor<'_>, usize, Rule) -> Result<Expr, Refused<Syntax>
         Ok(Arguments { args, keys })
     }
 
+    /// Reads one more argument behind those that are given.
     #[tactic(auto, unfolding(crate::specs::Reading::argument))]
     fn argument(
         &self,
@@ -102,6 +106,7 @@ impl<F: Fn(Global, &mut Cursor<'_>, usize, Rule) -> Result<Expr, Refused<Syntax>
         }
     }
 
+    /// Reads `[ arg { "," arg } [ "," ] ]`.
     fn arguments(&self, tokens: &mut Cursor<'_>) -> Result<Arguments, Refused<Syntax>>
         requires { Nests self.now.depth (F.pre self.now.expr) (F.post self.now.expr) }
         ensures { Reads (spec.arguments (spec.expr self.now.depth) (input_of tokens.old)) result tokens.new }
@@ -122,6 +127,7 @@ impl<F: Fn(Global, &mut Cursor<'_>, usize, Rule) -> Result<Expr, Refused<Syntax>
         Ok(given)
     }
 
+    /// Reads `arguments ")"` behind the callee and its opening bracket.
     #[tactic(auto, unfolding(crate::specs::Reading::call))]
     fn call(&self, tokens: &mut Cursor<'_>, callee: Boxed<Expr>) -> Result<Expr, Refused<Syntax>>
         requires { Nests self.now.depth (F.pre self.now.expr) (F.post self.now.expr) }
@@ -132,6 +138,7 @@ impl<F: Fn(Global, &mut Cursor<'_>, usize, Rule) -> Result<Expr, Refused<Syntax>
         Ok(Expr::Call { callee, args, keys })
     }
 
+    /// Reads `tests "]"` behind the object and its opening bracket.
     #[tactic(auto, unfolding(crate::specs::Reading::index))]
     fn index(&self, tokens: &mut Cursor<'_>, object: Boxed<Expr>) -> Result<Expr, Refused<Syntax>>
         requires { Nests self.now.depth (F.pre self.now.expr) (F.post self.now.expr) }
@@ -143,6 +150,7 @@ impl<F: Fn(Global, &mut Cursor<'_>, usize, Rule) -> Result<Expr, Refused<Syntax>
         Ok(Expr::Index { object, index })
     }
 
+    /// Reads one trailer behind what is on its left.
     #[tactic(auto, unfolding(crate::specs::Reading::trailer))]
     fn trailer(&self, tokens: &mut Cursor<'_>, left: Expr) -> Result<Expr, Refused<Syntax>>
         requires { Nests self.now.depth (F.pre self.now.expr) (F.post self.now.expr) }
@@ -166,6 +174,7 @@ impl<F: Fn(Global, &mut Cursor<'_>, usize, Rule) -> Result<Expr, Refused<Syntax>
         }
     }
 
+    /// Reads all calls, indexes and attributes that follow `left`, the innermost first.
     pub fn trailers(&self, tokens: &mut Cursor<'_>, mut left: Expr) -> Result<Expr, Refused<Syntax>>
         requires { Nests self.now.depth (F.pre self.now.expr) (F.post self.now.expr) }
         ensures { Reads (spec.all_trailers (spec.expr self.now.depth) left (input_of tokens.old)) result tokens.new }
@@ -179,6 +188,7 @@ impl<F: Fn(Global, &mut Cursor<'_>, usize, Rule) -> Result<Expr, Refused<Syntax>
         Ok(left)
     }
 
+    /// Reads a primary: an atom with the calls, indexes and attributes behind it.
     #[tactic(auto, unfolding(crate::specs::Reading::primary))]
     pub fn primary(&self, tokens: &mut Cursor<'_>) -> Result<Expr, Refused<Syntax>>
         requires { Nests self.now.depth (F.pre self.now.expr) (F.post self.now.expr) }

@@ -34,6 +34,7 @@ fn comparison(kind: Option<&Tok>) -> Option<CompareOp>
     }
 }
 
+/// Reads `[ comparison ]`.
 #[tactic(auto, unfolding(crate::specs::Reading::compare_op))]
 fn compare_op(tokens: &mut Cursor<'_>) -> Result<Option<CompareOp>, Refused<Syntax>>
     ensures { Reads (spec.compare_op (input_of tokens.old)) result tokens.new }
@@ -63,6 +64,7 @@ fn compare_op(tokens: &mut Cursor<'_>) -> Result<Option<CompareOp>, Refused<Synt
     }
 }
 
+/// An operand with its comparisons; alone it is itself.
 #[tactic(auto, unfolding(crate::specs::Reading::compared))]
 fn compared(alloc: Global, first: Expr, rest: Items<(CompareOp, Expr)>) -> Result<Expr, NoMemory>
     ensures { IfOk result (λ e. e ≡ spec.compared first rest) }
@@ -75,6 +77,7 @@ fn compared(alloc: Global, first: Expr, rest: Items<(CompareOp, Expr)>) -> Resul
 }
 
 impl<F: Fn(Global, &mut Cursor<'_>, usize, Rule) -> Result<Expr, Refused<Syntax>>> Grammar<F> {
+    /// Reads `{ comparison bor }`.
     fn comparisons(
         &self,
         tokens: &mut Cursor<'_>,
@@ -93,6 +96,7 @@ impl<F: Fn(Global, &mut Cursor<'_>, usize, Rule) -> Result<Expr, Refused<Syntax>
         Ok(found)
     }
 
+    /// Reads `bor { comparison bor }`.
     #[tactic(auto, unfolding(crate::specs::Reading::compare))]
     fn compare(&self, tokens: &mut Cursor<'_>) -> Result<Expr, Refused<Syntax>>
         requires { Nests self.now.depth (F.pre self.now.expr) (F.post self.now.expr) }
@@ -108,6 +112,7 @@ impl<F: Fn(Global, &mut Cursor<'_>, usize, Rule) -> Result<Expr, Refused<Syntax>
         }
     }
 
+    /// Reads a comparison behind any number of `not`.
     #[tactic(auto, unfolding(crate::specs::Reading::not_test))]
     pub fn not_test(&self, tokens: &mut Cursor<'_>) -> Result<Expr, Refused<Syntax>>
         requires { Nests self.now.depth (F.pre self.now.expr) (F.post self.now.expr) }
@@ -120,6 +125,7 @@ impl<F: Fn(Global, &mut Cursor<'_>, usize, Rule) -> Result<Expr, Refused<Syntax>
         Ok(Expr::Not(value))
     }
 
+    /// Reads `{ "and" nottest }` behind the first operand.
     fn and_operands(
         &self,
         tokens: &mut Cursor<'_>,
@@ -139,6 +145,7 @@ impl<F: Fn(Global, &mut Cursor<'_>, usize, Rule) -> Result<Expr, Refused<Syntax>
         Ok(found)
     }
 
+    /// Reads `nottest { "and" nottest }`.
     #[tactic(auto, unfolding(crate::specs::Reading::and_test, crate::specs::Reading::junction))]
     fn and_test(&self, tokens: &mut Cursor<'_>) -> Result<Expr, Refused<Syntax>>
         requires { Nests self.now.depth (F.pre self.now.expr) (F.post self.now.expr) }
@@ -149,6 +156,7 @@ impl<F: Fn(Global, &mut Cursor<'_>, usize, Rule) -> Result<Expr, Refused<Syntax>
         Ok(and_of(found))
     }
 
+    /// Reads `{ "or" andtest }` behind the first operand.
     fn or_operands(
         &self,
         tokens: &mut Cursor<'_>,
@@ -168,6 +176,7 @@ impl<F: Fn(Global, &mut Cursor<'_>, usize, Rule) -> Result<Expr, Refused<Syntax>
         Ok(found)
     }
 
+    /// Reads `andtest { "or" andtest }`.
     #[tactic(auto, unfolding(crate::specs::Reading::or_test, crate::specs::Reading::junction))]
     fn or_test(&self, tokens: &mut Cursor<'_>) -> Result<Expr, Refused<Syntax>>
         requires { Nests self.now.depth (F.pre self.now.expr) (F.post self.now.expr) }
@@ -178,6 +187,7 @@ impl<F: Fn(Global, &mut Cursor<'_>, usize, Rule) -> Result<Expr, Refused<Syntax>
         Ok(or_of(found))
     }
 
+    /// Reads `ortest "else" test` behind the first operand and its `if`.
     #[tactic(auto, unfolding(crate::specs::Reading::conditional))]
     fn conditional(
         &self,
@@ -193,6 +203,7 @@ impl<F: Fn(Global, &mut Cursor<'_>, usize, Rule) -> Result<Expr, Refused<Syntax>
         Ok(Expr::Cond { test, yes, no })
     }
 
+    /// Reads a whole expression: `or` and what binds closer, and the `if` with its `else` behind it, if there is one.
     #[tactic(auto, unfolding(crate::specs::Reading::whole_test))]
     pub fn test(&self, tokens: &mut Cursor<'_>) -> Result<Expr, Refused<Syntax>>
         requires { Nests self.now.depth (F.pre self.now.expr) (F.post self.now.expr) }

@@ -39,6 +39,7 @@ pub struct Cursor<'a> {
 /// Lets a value go. A tree is let go here, so that this is proved once, for every type.
 pub fn release<T: Drop>(_value: T) {}
 
+/// Is the token of this kind the mark?
 fn is_mark(mark: Mark, kind: &Tok) -> bool
     ensures { result ≡ spec.is_mark mark kind.now }
 {
@@ -78,6 +79,7 @@ impl<'a> Cursor<'a> {
         Refused::Fault(Syntax { left: self.front })
     }
 
+    /// Passes the next token, if there is one.
     pub fn take(&mut self)
         ensures { input_of self.new ≡ spec.next (input_of self.old) }
     {
@@ -86,6 +88,7 @@ impl<'a> Cursor<'a> {
         }
     }
 
+    /// Is the next token this one?
     #[tactic(auto, unfolding(crate::specs::Input::sees))]
     pub fn sees(&self, mark: Mark) -> bool
         ensures { result ≡ spec.sees mark (input_of self.now) }
@@ -96,6 +99,7 @@ impl<'a> Cursor<'a> {
         }
     }
 
+    /// Passes the next token if it is this one, and says whether it was.
     #[tactic(auto, unfolding(crate::specs::Input::after))]
     pub fn eat(&mut self, mark: Mark) -> bool
         ensures found { result ≡ spec.sees mark (input_of self.old) }
@@ -108,6 +112,7 @@ impl<'a> Cursor<'a> {
         found
     }
 
+    /// Passes the next token, which must be this one. It is refused otherwise, and stays.
     #[tactic(auto, unfolding(crate::specs::Input::expect))]
     pub fn expect(&mut self, mark: Mark) -> Result<(), Refused<Syntax>>
         ensures { Reads (spec.expect mark (input_of self.old)) result self.new }

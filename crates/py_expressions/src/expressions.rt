@@ -15,6 +15,7 @@ use mpy_base::Refused;
 use py_tree::Expr;
 use std::alloc::Global;
 
+/// Reads `test { "," test } [ "," ]`, with no more nestings than `depth`.
 #[tactic(auto, unfolding(crate::specs::Reading::tests))]
 fn tests(alloc: Global, tokens: &mut Cursor<'_>, depth: usize) -> Result<Expr, Refused<Syntax>>
     ensures { Reads (spec.tests depth (input_of tokens.old)) result tokens.new }
@@ -23,6 +24,7 @@ fn tests(alloc: Global, tokens: &mut Cursor<'_>, depth: usize) -> Result<Expr, R
     Ok(tuple_of(found, comma))
 }
 
+/// Reads `test { "," test } [ "," ]`, with room for each nesting of what is ahead.
 fn all_tests(alloc: Global, tokens: &mut Cursor<'_>) -> Result<Expr, Refused<Syntax>>
     ensures { Reads (spec.all_tests (input_of tokens.old)) result tokens.new }
 {
@@ -30,6 +32,7 @@ fn all_tests(alloc: Global, tokens: &mut Cursor<'_>) -> Result<Expr, Refused<Syn
     tests(alloc, tokens, depth)
 }
 
+/// Reads `test`, with room for each nesting of what is ahead.
 fn one_test(alloc: Global, tokens: &mut Cursor<'_>) -> Result<Expr, Refused<Syntax>>
     ensures { Reads (spec.one_test (input_of tokens.old)) result tokens.new }
 {

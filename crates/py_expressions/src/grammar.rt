@@ -18,6 +18,7 @@ pub enum Rule {
     Primary,
 }
 
+/// The rules, of which each reads what nests by `expr`, one level of nesting less.
 #[derive(Clone, Copy)]
 pub(crate) struct Grammar<F> {
     pub alloc: Global,
@@ -35,6 +36,7 @@ impl<F: Fn(Global, &mut Cursor<'_>, usize, Rule) -> Result<Expr, Refused<Syntax>
         (self.expr)(self.alloc, tokens, self.depth, rule)
     }
 
+    /// Reads by the rule.
     fn by_rule(&self, tokens: &mut Cursor<'_>, rule: Rule) -> Result<Expr, Refused<Syntax>>
         requires { Nests self.now.depth (F.pre self.now.expr) (F.post self.now.expr) }
         ensures { Reads (spec.by_rule (spec.expr self.now.depth) rule (input_of tokens.old)) result tokens.new }
@@ -48,7 +50,7 @@ impl<F: Fn(Global, &mut Cursor<'_>, usize, Rule) -> Result<Expr, Refused<Syntax>
     }
 }
 
-/// Reads by a rule, with no more than so many nestings.
+/// Reads by a rule, with no more than `depth` nestings.
 pub(crate) fn expr(
     alloc: Global,
     tokens: &mut Cursor<'_>,

@@ -27,7 +27,7 @@ pub(crate) fn begins_test(kind: Option<&Tok>) -> bool
     }
 }
 
-/// The only one.
+/// The expression of a list of one.
 fn only(found: Items<Expr>) -> Expr
     requires { length found ≡ 1 }
     ensures { found ≡ result ∷ [] }
@@ -46,6 +46,7 @@ pub(crate) fn tuple_of(found: Items<Expr>, comma: bool) -> Expr
     only(found)
 }
 
+/// The operands of `and`; one alone is itself.
 #[tactic(auto, unfolding(crate::specs::Reading::joined))]
 pub(crate) fn and_of(found: Items<Expr>) -> Expr
     ensures { result ≡ spec.joined ex.And found }
@@ -56,6 +57,7 @@ pub(crate) fn and_of(found: Items<Expr>) -> Expr
     only(found)
 }
 
+/// The operands of `or`; one alone is itself.
 #[tactic(auto, unfolding(crate::specs::Reading::joined))]
 pub(crate) fn or_of(found: Items<Expr>) -> Expr
     ensures { result ≡ spec.joined ex.Or found }

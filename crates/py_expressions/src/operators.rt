@@ -13,6 +13,7 @@ use py_tokens::{Op, Tok};
 use py_tree::{BinaryOp, Expr, UnaryOp};
 use std::alloc::Global;
 
+/// The operator that a sign is.
 fn sign(kind: Option<&Tok>) -> Option<UnaryOp>
     ensures { result ≡ spec.sign (seen (option_copied kind.entry)) }
 {
@@ -47,6 +48,7 @@ fn operator(level: u8, kind: Option<&Tok>) -> Option<BinaryOp>
 }
 
 impl<F: Fn(Global, &mut Cursor<'_>, usize, Rule) -> Result<Expr, Refused<Syntax>>> Grammar<F> {
+    /// Reads `primary [ "**" factor ]`.
     #[tactic(auto, unfolding(crate::specs::Reading::power))]
     fn power(&self, tokens: &mut Cursor<'_>) -> Result<Expr, Refused<Syntax>>
         requires { Nests self.now.depth (F.pre self.now.expr) (F.post self.now.expr) }
@@ -62,6 +64,7 @@ impl<F: Fn(Global, &mut Cursor<'_>, usize, Rule) -> Result<Expr, Refused<Syntax>
         Ok(Expr::Binary { op, left, right })
     }
 
+    /// Reads a power, or a sign with the factor behind it.
     #[tactic(auto, unfolding(crate::specs::Reading::factor))]
     pub fn factor(&self, tokens: &mut Cursor<'_>) -> Result<Expr, Refused<Syntax>>
         requires { Nests self.now.depth (F.pre self.now.expr) (F.post self.now.expr) }
@@ -75,6 +78,7 @@ impl<F: Fn(Global, &mut Cursor<'_>, usize, Rule) -> Result<Expr, Refused<Syntax>
         Ok(Expr::Unary { op, value })
     }
 
+    /// Reads `{ operator operand }` of one level behind the first operand.
     #[cycle(sum)]
     fn chain(
         &self,

@@ -1,4 +1,4 @@
-//! Targets.
+//! Targets: an expression is read, and then taken as a target, or refused.
 
 ghost use Rattle.std.specs.Prelude.{◌≡◌, ◌≤◌, suc, ℕ, List, ◌∷◌, length, Some, IfOk};
 ghost use Rattle.std.specs.Option.{option_copied};
@@ -52,6 +52,7 @@ pub fn target_of(alloc: Global, depth: usize, value: Expr) -> Result<Option<Targ
     }
 }
 
+/// The target of a tuple or list, which has one member or more.
 #[cycle(target)]
 fn unpack(alloc: Global, depth: usize, members: Items<Expr>) -> Result<Option<Target>, NoMemory>
     ensures { IfOk result (λ target. target ≡ spec.unpack (spec.target_of depth) members) }
@@ -65,6 +66,7 @@ fn unpack(alloc: Global, depth: usize, members: Items<Expr>) -> Result<Option<Ta
     }
 }
 
+/// The target that each member is.
 #[cycle(target)]
 fn each(
     alloc: Global,
@@ -119,6 +121,7 @@ fn item_of(value: Expr) -> Option<Target>
     }
 }
 
+/// The item that a primary is as a target of `del`, or the attribute or item as one of an augmented assignment.
 fn whole_of(deletes: bool, value: Expr) -> Option<Target>
     ensures { result ≡ spec.whole_of deletes value }
 {
@@ -142,6 +145,7 @@ fn alone(is_name: bool, value: Expr) -> Option<Target>
     }
 }
 
+/// Is it a name?
 fn is_name(kind: Option<&Tok>) -> bool
     ensures { result ≡ reading.is_name (seen (option_copied kind.entry)) }
 {
@@ -171,6 +175,7 @@ impl<F: Fn(Global, &mut Cursor<'_>, usize, Rule) -> Result<Expr, Refused<Syntax>
     }
 }
 
+/// Reads the target of an augmented assignment.
 fn one_target(alloc: Global, tokens: &mut Cursor<'_>) -> Result<Target, Refused<Syntax>>
     ensures { Reads (spec.one_target (input_of tokens.old)) result tokens.new }
 {
@@ -178,6 +183,7 @@ fn one_target(alloc: Global, tokens: &mut Cursor<'_>) -> Result<Target, Refused<
     Grammar { alloc, depth, expr }.single(tokens, false)
 }
 
+/// Reads a target of `del`.
 fn one_gone(alloc: Global, tokens: &mut Cursor<'_>) -> Result<Target, Refused<Syntax>>
     ensures { Reads (spec.one_gone (input_of tokens.old)) result tokens.new }
 {
@@ -185,6 +191,7 @@ fn one_gone(alloc: Global, tokens: &mut Cursor<'_>) -> Result<Target, Refused<Sy
     Grammar { alloc, depth, expr }.single(tokens, true)
 }
 
+/// Reads the targets of a `for`, in front of its `in`.
 fn all_targets(alloc: Global, tokens: &mut Cursor<'_>) -> Result<Target, Refused<Syntax>>
     ensures { Reads (spec.all_targets (input_of tokens.old)) result tokens.new }
 {

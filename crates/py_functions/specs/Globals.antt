@@ -11,23 +11,29 @@ pub record Globals : Type 0 where
   pub own : List Name
   pub inner : List (List Name)
 
+-- nothing is declared
 abbrev pub none : Globals
 none = record { own = []; inner = [] }
 
+-- two parts, one behind the other
 abbrev pub and_then : Globals → Globals → Globals
 and_then first second = record { own = first.own ++ second.own; inner = first.inner ++ second.inner }
 
+-- parts one behind the other
 abbrev pub all : List Globals → Globals
 all [] = none
 all (part ∷ parts) = and_then part (all parts)
 
+-- the parts, if there are any
 abbrev pub optional : Option (List Globals) → Globals
 optional None = none
 optional (Some parts) = all parts
 
+-- a function that is defined in a text: its own declarations are those of a new text
 abbrev pub function : Globals → Globals
 function body = record { own = []; inner = body.own ∷ body.inner }
 
+-- a statement, by the parts in it
 abbrev pub kind_step : StmtKind-F Globals Globals Globals Globals → Globals
 kind_step (StmtKind-F.Expr value) = none
 kind_step (StmtKind-F.Assign targets value) = none
@@ -48,15 +54,19 @@ kind_step (StmtKind-F.For target over inner rest) = and_then (all inner) (all re
 kind_step (StmtKind-F.Try inner handlers rest last) = and_then (all inner) (and_then (all handlers) (and_then (all rest) (optional last)))
 kind_step (StmtKind-F.Def name params inner) = function (all inner)
 
+-- a branch, by its body
 abbrev pub branch_step : Branch-F Globals Globals Globals Globals → Globals
 branch_step branch = all branch.body
 
+-- an except clause, by its body
 abbrev pub handler_step : Handler-F Globals Globals Globals Globals → Globals
 handler_step handler = all handler.body
 
+-- a statement with its line
 abbrev pub stmt_step : Stmt-F Globals Globals Globals Globals → Globals
 stmt_step stmt = stmt.kind
 
+-- what a statement declares
 abbrev pub stmt_globals : Stmt → Globals
 stmt_globals = fold-Stmt Globals Globals Globals Globals kind_step branch_step handler_step stmt_step
 

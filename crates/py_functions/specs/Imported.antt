@@ -61,6 +61,7 @@ abbrev pub spelled_on : Name → List Name → Name
 spelled_on part [] = part
 spelled_on part (next ∷ parts) = part ++ 46 ∷ spelled_on next parts
 
+-- the name that any number of parts spell, with dots between them; none spell the empty name
 abbrev pub spelled : List Name → Name
 spelled [] = []
 spelled (part ∷ parts) = spelled_on part parts

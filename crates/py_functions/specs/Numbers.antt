@@ -58,6 +58,7 @@ NoneTwice ns = (i j n : ℕ) → slice_get ns i ≡ Some n → slice_get ns j �
 abbrev pub IsNumbered : Text → Type 0
 IsNumbered text = NoneTwice (map (λ m. text.base + m) (numbers_in text.body))
 
+-- no two functions of one of the texts have the same number in its file
 abbrev pub AllNumbered : List Text → Type 0
 AllNumbered [] = Unit {0}
 AllNumbered (text ∷ texts) = IsNumbered text × AllNumbered texts

@@ -7,14 +7,16 @@ use Rattle.py_meaning.specs.Program.{Text}
 abbrev pub BeginsWithParams : Text → Type 0
 BeginsWithParams text = (others : List Name) × (text.locals ≡ text.params ++ others)
 
+-- the locals of each text are its parameters and then others
 abbrev pub AllBeginWithParams : List Text → Type 0
 AllBeginWithParams [] = Unit {0}
 AllBeginWithParams (text ∷ texts) = BeginsWithParams text × AllBeginWithParams texts
 
--- so each parameter has a slot
+-- each parameter of a text has a slot: it has as many locals at least
 abbrev pub HasSlots : Text → Type 0
 HasSlots text = length text.params ≤ length text.locals
 
+-- each parameter of each text has a slot
 abbrev pub AllHaveSlots : List Text → Type 0
 AllHaveSlots [] = Unit {0}
 AllHaveSlots (text ∷ texts) = HasSlots text × AllHaveSlots texts

@@ -35,7 +35,7 @@ abbrev mutual
   IsPlaced inside looped (Finally body last) = WellPlaced inside looped body × WellPlaced inside looped last
   IsPlaced inside looped (TryFinally body handlers rest last) =
       WellPlaced inside looped body × HandlersPlaced inside looped handlers × WellPlaced inside looped rest × WellPlaced inside looped last
-  -- nor the text of a function
+  -- the text of a function stands in no loop
   IsPlaced inside looped (Def number name params defaults body) = WellPlaced true false body
 
   pub ArePlaced : (inside looped : Bool) → Branches → Type 0

@@ -14,6 +14,7 @@ use Rattle.py_nest.specs.declared.effect.Effect.TheVariants.{Pushes, Closes, Pop
 -- effects
 -- =======
 
+-- what an operator does to the levels
 abbrev pub effect_of_op : Op → Effect
 effect_of_op ops.OpenParen = Pushes
 effect_of_op ops.OpenBracket = Pushes
@@ -38,6 +39,7 @@ effect_of_op ops.ShiftLeftAssign = Clears
 effect_of_op ops.ShiftRightAssign = Clears
 effect_of_op op = Counts
 
+-- what a word does to the levels
 abbrev pub effect_of_word : Word → Effect
 effect_of_word words.And = Counts
 effect_of_word words.Or = Counts
@@ -69,7 +71,7 @@ pub record Levels : Type 0 where
 abbrev pub base : Levels
 base = record { top = 0; below = [] }
 
--- The level on top is gone, and so much is added to the count below it. The base level stays as it is.
+-- The level on top is gone, and `more` is added to the count below it. The base level stays as it is.
 abbrev pub popped : Levels → List ℕ → ℕ → Levels
 popped levels [] more = levels
 popped levels (count ∷ below) more = record { top = count + more; below = below }
@@ -87,15 +89,18 @@ behind Keeps levels = levels
 abbrev pub depth : Levels → ℕ
 depth levels = levels.top + sum levels.below + length levels.below
 
+-- the levels behind a token
 abbrev pub after : Levels → Token → Levels
 after levels token = behind (effect_of token.kind) levels
 
 -- nest
 -- ====
 
+-- the levels behind tokens
 abbrev pub levels_of : List Token → Levels
 levels_of tokens = fold after base tokens
 
+-- how deep tokens nest at their end
 abbrev pub nest : List Token → ℕ
 nest tokens = depth (levels_of tokens)
 

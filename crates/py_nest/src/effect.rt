@@ -21,6 +21,7 @@ pub(crate) enum Effect {
     Keeps,
 }
 
+/// What an operator does to the levels.
 fn effect_of_op(op: Op) -> Effect
     ensures { result ≡ effect_of_op op }
 {
@@ -37,6 +38,7 @@ fn effect_of_op(op: Op) -> Effect
     }
 }
 
+/// What a word does to the levels.
 fn effect_of_word(word: Word) -> Effect
     ensures { result ≡ effect_of_word word }
 {
@@ -47,6 +49,7 @@ fn effect_of_word(word: Word) -> Effect
     }
 }
 
+/// What a token does to the levels.
 pub(crate) fn effect_of(tok: &Tok) -> Effect
     ensures { result ≡ effect_of tok.now }
 {

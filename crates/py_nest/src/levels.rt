@@ -9,6 +9,7 @@ use crate::effect::Effect;
 use crate::nest::MAX_NEST;
 use std::marker::Model;
 
+/// The count on each level of nesting, the innermost on top.
 #[derive(Drop)]
 pub(crate) struct Levels {
     /// The count of the level on top.
@@ -45,12 +46,14 @@ impl Levels {
         }
     }
 
+    /// Do the levels lie deeper than a source may nest? It takes constant time.
     pub(crate) fn is_too_deep(&self) -> bool
         ensures { IsTrue result ↔ (MAX_NEST < depth self.now) }
     {
         self.total > MAX_NEST
     }
 
+    /// Puts a level on top, of count 0.
     fn push(&mut self)
         requires { depth self.old ≤ MAX_NEST }
         ensures { self.new ≡ behind Pushes self.old }
@@ -74,6 +77,7 @@ impl Levels {
         }
     }
 
+    /// Counts one more on the level on top.
     fn count(&mut self)
         requires { depth self.old ≤ MAX_NEST }
         ensures { self.new ≡ behind Counts self.old }
@@ -82,6 +86,7 @@ impl Levels {
         self.total += 1;
     }
 
+    /// Sets the count of the level on top to 0.
     fn clear(&mut self)
         ensures { self.new ≡ behind Clears self.old }
     {

@@ -15,3 +15,5 @@ pub mod Lines
 pub mod Defs
 pub mod FormedTree
 pub mod Ended
+pub mod Produced
+pub mod Produces

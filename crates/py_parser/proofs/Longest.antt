@@ -25,7 +25,7 @@ use Rattle.py_parser.proofs.Sounder.{Seen, Sees, first_begins, later_begins, lat
 use Rattle.py_parser.proofs.Completer.{begins_stmt, is_later, begins_no_later, compound_begins, no_dedent, marked_if_is, suite_block, clause_done, clauses_is, tail, compound_is, line_done, stmt_is, block_next, Done, statement_starts, statement_complete, suite_complete}
 use Rattle.py_parser.proofs.Stops.{Stop, Stops, behind_ends, not_both, block_from_stops, clauses_stops, stmt_stops}
 
--- no more than so many tokens are left
+-- no more than `r` tokens are left
 abbrev pub Bound : {A : Type 0} → Outcome A → ℕ → Type 0
 Bound (Ok p) r = length p.1.ahead ≤ r
 Bound (Err d) r = d ≤ r

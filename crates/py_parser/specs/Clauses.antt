@@ -44,6 +44,7 @@ abbrev pub may_end : Stage → Bool
 may_end Tried = false
 may_end stage = true
 
+-- the stage behind the first clause
 abbrev pub first_stage : Head → Stage
 first_stage (head.If test) = Branches
 first_stage (head.While test) = Loop
@@ -51,15 +52,18 @@ first_stage (head.For target over) = Loop
 first_stage head.Try = Tried
 first_stage (head.Def text params) = Ended
 
+-- the stage behind an `else`: that of a `try` may have a `finally` behind it
 abbrev pub behind_else : Stage → Stage
 behind_else Handlers = Rest
 behind_else LastHandler = Rest
 behind_else stage = Ended
 
+-- the stage behind an `except`: one without a test is the last
 abbrev pub behind_except : Option Expr → Stage
 behind_except (Some test) = Handlers
 behind_except None = LastHandler
 
+-- the stage behind a further clause
 abbrev pub behind : Stage → Header → Stage
 behind stage (header.Elif test) = Branches
 behind stage header.Else = behind_else stage
@@ -82,10 +86,12 @@ goes_on stage kind = false
 
 -- ---- parameters
 
+-- the names of parameters
 abbrev pub param_names : List Param → List (List ℕ)
 param_names [] = []
 param_names (p ∷ ps) = p.name ∷ param_names ps
 
+-- each parameter has a default
 abbrev pub all_default : List Param → Bool
 all_default params = list_all (λ param. is_some param.default) params
 
@@ -94,21 +100,26 @@ abbrev pub defaults_last : List Param → Bool
 defaults_last [] = true
 defaults_last (p ∷ ps) = if is_some p.default then all_default ps else defaults_last ps
 
+-- no two names are equal
 abbrev pub names_differ : List (List ℕ) → Bool
 names_differ [] = true
 names_differ (text ∷ texts) = is_new text texts && names_differ texts
 
+-- the names of parameters differ, and those with defaults are the last
 abbrev pub params_fit : List Param → Bool
 params_fit params = names_differ (param_names params) && defaults_last params
 
 -- ---- trees
 
+-- a branch whose word stands in that line
 abbrev pub branch_of : ℕ → Expr → List Stmt → Branch
 branch_of line test body = roll-Branch (record { line = line; test = test; body = body })
 
+-- an except clause whose word stands in that line
 abbrev pub handler_of : ℕ → Option Expr → Option (List ℕ) → List Stmt → Handler
 handler_of line test text body = roll-Handler (record { line = line; test = test; name = text; body = body })
 
+-- no further clause
 abbrev pub no_parts : Parts
 no_parts = record { branches = []; handlers = []; rest = []; last = None }
 

@@ -18,6 +18,7 @@ mutual
     in_first : First → Place → Place → Front → Open
     behind_first : (first : First) → Suite → OpenClauses (first_stage (first_tree first)) → Open
 
+  -- the further clauses of an open statement that has come to that stage: the last of them is open
   pub data OpenClauses : Stage → Type 0 where
     in_later : {stage : Stage} → (later : Later) → may_follow stage (later_word later) ≡ true → Place → Place → Front → OpenClauses stage
     behind_later : {stage : Stage} → (later : Later) → may_follow stage (later_word later) ≡ true → Suite → OpenClauses (behind stage (later_tree later)) → OpenClauses stage

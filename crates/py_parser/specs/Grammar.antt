@@ -34,18 +34,22 @@ pub data Parameters : Type 0 where
   none : Parameters
   some : Series Parameter true → Parameters
 
+-- the tokens of a parameter, and then these
 abbrev pub parameter_text : Parameter → List Token → List Token
 parameter_text (plain n) rest = name_text n rest
 parameter_text (default n l t) rest = name_text n (at l (tok.Op op.Assign) ∷ test_text t rest)
 
+-- a parameter, with its default if it has one
 abbrev pub parameter_tree : Parameter → Param
 parameter_tree (plain n) = record { name = n.text; default = None }
 parameter_tree (default n l t) = record { name = n.text; default = Some (test_tree t) }
 
+-- the tokens of parameters, and then these
 abbrev pub parameters_text : Parameters → List Token → List Token
 parameters_text none rest = rest
 parameters_text (some ps) rest = series_text parameter_text ps rest
 
+-- the parameters
 abbrev pub parameters_list : Parameters → List Param
 parameters_list none = []
 parameters_list (some ps) = series_list parameter_tree ps
@@ -81,6 +85,7 @@ pub data Later : Type 0 where
   -- "finally" ":"
   finally : Place → Place → Later
 
+-- the tokens of the header of a first clause, and then these
 abbrev pub first_text : First → List Token → List Token
 first_text (if_ l t c) rest = at l (tok.Word word.If) ∷ test_text t (at c (tok.Op op.Colon) ∷ rest)
 first_text (while_ l t c) rest = at l (tok.Word word.While) ∷ test_text t (at c (tok.Op op.Colon) ∷ rest)
@@ -88,10 +93,12 @@ first_text (for_ l gs r m c) rest = at l (tok.Word word.For) ∷ aims_text gs (a
 first_text (try_ l c) rest = at l (tok.Word word.Try) ∷ at c (tok.Op op.Colon) ∷ rest
 first_text (def_ l n b ps fit e c) rest = at l (tok.Word word.Def) ∷ name_text n (at b (tok.Op op.OpenParen) ∷ parameters_text ps (at e (tok.Op op.CloseParen) ∷ at c (tok.Op op.Colon) ∷ rest))
 
+-- the tokens of `as` and a name, if they stand there, and then these
 abbrev pub naming_text : Option Naming → List Token → List Token
 naming_text None rest = rest
 naming_text (Some n) rest = at n.place (tok.Word word.As) ∷ name_text n.name rest
 
+-- the tokens of the header of a further clause, and then these
 abbrev pub later_text : Later → List Token → List Token
 later_text (elif l t c) rest = at l (tok.Word word.Elif) ∷ test_text t (at c (tok.Op op.Colon) ∷ rest)
 later_text (else_ l c) rest = at l (tok.Word word.Else) ∷ at c (tok.Op op.Colon) ∷ rest
@@ -99,6 +106,7 @@ later_text (except l t n c) rest = at l (tok.Word word.Except) ∷ test_text t (
 later_text (except_all l c) rest = at l (tok.Word word.Except) ∷ at c (tok.Op op.Colon) ∷ rest
 later_text (finally l c) rest = at l (tok.Word word.Finally) ∷ at c (tok.Op op.Colon) ∷ rest
 
+-- the header of a first clause
 abbrev pub first_tree : First → Head
 first_tree (if_ l t c) = head.If (test_tree t)
 first_tree (while_ l t c) = head.While (test_tree t)
@@ -106,10 +114,12 @@ first_tree (for_ l gs r m c) = head.For (aims_tree gs) (members_tree m)
 first_tree (try_ l c) = head.Try
 first_tree (def_ l n b ps fit e c) = head.Def n.text (parameters_list ps)
 
+-- the name behind `as`
 abbrev pub naming_tree : Option Naming → Option (List ℕ)
 naming_tree None = None
 naming_tree (Some n) = Some n.name.text
 
+-- the header of a further clause
 abbrev pub later_tree : Later → Header
 later_tree (elif l t c) = header.Elif (test_tree t)
 later_tree (else_ l c) = header.Else
@@ -117,6 +127,7 @@ later_tree (except l t n c) = header.Except (Some (test_tree t)) (naming_tree n)
 later_tree (except_all l c) = header.Except None None
 later_tree (finally l c) = header.Finally
 
+-- the line of the first word
 abbrev pub first_line : First → ℕ
 first_line (if_ l t c) = l.line
 first_line (while_ l t c) = l.line
@@ -124,6 +135,7 @@ first_line (for_ l gs r m c) = l.line
 first_line (try_ l c) = l.line
 first_line (def_ l n b ps fit e c) = l.line
 
+-- the line of a further clause's word
 abbrev pub later_line : Later → ℕ
 later_line (elif l t c) = l.line
 later_line (else_ l c) = l.line
@@ -131,6 +143,7 @@ later_line (except l t n c) = l.line
 later_line (except_all l c) = l.line
 later_line (finally l c) = l.line
 
+-- the word that a further clause begins with
 abbrev pub later_word : Later → Word
 later_word (elif l t c) = word.Elif
 later_word (else_ l c) = word.Else

@@ -1,5 +1,6 @@
 pub mod Clauses
 pub mod Grammar
+pub mod Productions
 pub mod Reading
 pub mod Fronts
 pub mod Nests

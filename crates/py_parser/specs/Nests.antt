@@ -9,6 +9,7 @@ use Rattle.py_expressions.specs.declared.cursor.Syntax.{Syntax}
 use Rattle.py_expressions.specs.Input.{input_of, Reads}
 use Rattle.py_parser.specs.Reading.{stmt}
 
+-- it may be called with any input, and reads what `stmt` reads to that depth
 pub record Nests (depth : ℕ) (pre : Global → MutBor Cursor → ℕ → Type 0)
     (post : Global → MutBor Cursor → ℕ → Result (List Stmt) (Refused Syntax) → MutBor Cursor → Type 0) : Type 0 where
   pub callable : (alloc : Global) (old : MutBor Cursor) → pre alloc old depth

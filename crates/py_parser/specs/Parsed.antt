@@ -16,6 +16,7 @@ use Rattle.py_statements.specs.Reading.{line_at}
 use Rattle.py_parser.specs.Grammar.{IsTree}
 use Rattle.py_parser.specs.Fronts.{IsLongest}
 
+-- a fault in that line, which names no word
 abbrev pub fault_of : SourceCode → ℕ → SourceFault
 fault_of code line = record { code = code; line = line; word = [] }
 
@@ -45,6 +46,7 @@ pub record IsSyntaxFault (tokens : List Token) (fault : SourceFault) : Type 0 wh
   pub behind : IsBehindLongest tokens line
   pub is : fault ≡ fault_of Syntax line
 
+-- why tokens have no tree
 abbrev pub IsFault : List Token → SourceFault → Type 0
 IsFault tokens fault = IsDeepFault tokens fault ⊎ IsSyntaxFault tokens fault
 

@@ -53,6 +53,7 @@ iterated target = do
   expect (mark.Op op.Colon)
   pure (head.For target over)
 
+-- "for" targets "in" tests ":"
 unfoldable pub for_head : Parser Head
 for_head = do
   take_token
@@ -60,20 +61,24 @@ for_head = do
   expect (mark.Word word.In)
   iterated target
 
+-- a parameter, with its default if it has one
 abbrev pub param_of : List ℕ → Option Expr → Param
 param_of text default = record { name = text; default = default }
 
+-- param = NAME [ "=" test ]
 unfoldable pub parameter : Parser Param
 parameter = do
   text ← name
   has_default ← eat (mark.Op op.Assign)
   if has_default then (λ x. param_of text (Some x)) <$> one_test else pure (param_of text None)
 
+-- [ param { "," param } [ "," ] ]
 unfoldable pub parameters : Parser (List Param)
 parameters = do
   none ← closes true
   if none then pure [] else series parameter true
 
+-- a `def` whose parameters fit
 abbrev pub fitting : List ℕ → List Param → Parser Head
 fitting text params = if params_fit params then pure (head.Def text params) else refuse
 
@@ -85,6 +90,7 @@ defined text = do
   expect (mark.Op op.Colon)
   fitting text params
 
+-- "def" NAME "(" [ param { "," param } [ "," ] ] ")" ":"
 unfoldable pub def_head : Parser Head
 def_head = do
   take_token
@@ -92,6 +98,7 @@ def_head = do
   expect (mark.Op op.OpenParen)
   defined text
 
+-- the header of a first clause that begins with a token of the kind
 abbrev pub first_by : Tok → Parser Head
 first_by (tok.Word word.If) = head.If <$> condition
 first_by (tok.Word word.While) = head.While <$> condition
@@ -110,6 +117,7 @@ naming = do
   renames ← eat (mark.Word word.As)
   if renames then Some <$> name else pure None
 
+-- test [ "as" NAME ] ":"
 unfoldable pub catching : Parser Header
 catching = do
   test ← one_test
@@ -117,12 +125,14 @@ catching = do
   expect (mark.Op op.Colon)
   pure (header.Except (Some test) text)
 
+-- "except" [ test [ "as" NAME ] ] ":"
 unfoldable pub except_header : Parser Header
 except_header = do
   take_token
   all ← eat (mark.Op op.Colon)
   if all then pure (header.Except None None) else catching
 
+-- the header of a further clause that begins with a token of the kind
 abbrev pub later_by : Tok → Parser Header
 later_by (tok.Word word.Elif) = header.Elif <$> condition
 later_by (tok.Word word.Else) = word_alone >> pure header.Else
@@ -140,6 +150,7 @@ later = peek >>= later_by
 abbrev pub marked : Input → Input
 marked i = record i { front = length i.ahead }
 
+-- a front ends here, and nothing is read
 abbrev pub mark_here : Parser (Unit {0})
 mark_here = λ i. Ok (tt, marked i)
 
@@ -148,6 +159,7 @@ abbrev pub marked_if : Bool → Input → Input
 marked_if true i = marked i
 marked_if false i = i
 
+-- the parts of a statement that may end, and a refusal of one that may not
 abbrev pub ended : Bool → Parts → Parser Parts
 ended true parts = pure parts
 ended false parts = refuse
@@ -155,6 +167,7 @@ ended false parts = refuse
 -- ---- statements, where those in a block are read by the parameter
 
 module _ (inner : Parser (List Stmt)) where
+  -- stmt { stmt } Dedent, `n` statements at most, behind those that were found
   unfoldable pub block_from : ℕ → List Stmt → Parser (List Stmt)
   block_from zero found = refuse
   block_from (suc n) found = do
@@ -163,6 +176,7 @@ module _ (inner : Parser (List Stmt)) where
     closed ← eat mark.Dedent
     if closed then pure (found ++ some) else block_from n (found ++ some)
 
+  -- stmt { stmt } Dedent
   unfoldable pub whole_block : Parser (List Stmt)
   whole_block = λ i. block_from (turns i) [] i
 
@@ -173,6 +187,7 @@ module _ (inner : Parser (List Stmt)) where
     mark_here
     whole_block
 
+  -- suite = line | Newline Indent stmt { stmt } Dedent
   unfoldable pub suite : Parser (List Stmt)
   suite = do
     is_block ← eat mark.Newline
@@ -186,6 +201,7 @@ module _ (inner : Parser (List Stmt)) where
     body ← suite
     pure (behind stage its, with_clause at its body parts)
 
+  -- the further clauses of a statement that has come to that stage, `n` at most
   unfoldable pub clauses : ℕ → Stage → Parts → Parser Parts
   clauses zero stage parts = λ i. ended (may_end stage) parts (marked_if (may_end stage) i)
   clauses (suc n) stage parts = λ i. (do
@@ -194,6 +210,7 @@ module _ (inner : Parser (List Stmt)) where
       more ← one_clause stage parts
       clauses n more.0 more.1) else ended (may_end stage) parts) (marked_if (may_end stage) i)
 
+  -- the further clauses of a statement that has come to that stage
   unfoldable pub all_clauses : Stage → Parser Parts
   all_clauses stage = λ i. clauses (turns i) stage no_parts i
 
@@ -210,6 +227,7 @@ module _ (inner : Parser (List Stmt)) where
     parts ← all_clauses stage
     pure (body, parts)
 
+  -- a compound statement
   unfoldable pub compound : Parser Stmt
   compound = do
     at ← line
@@ -217,10 +235,12 @@ module _ (inner : Parser (List Stmt)) where
     body ← suite
     finished at its body
 
+  -- a compound statement, or a line
   abbrev pub stmt_if : Bool → Parser (List Stmt)
   stmt_if true = (λ one. one ∷ []) <$> compound
   stmt_if false = one_line
 
+  -- stmt
   unfoldable pub stmt_with : Parser (List Stmt)
   stmt_with = peek >>= λ kind. stmt_if (begins_compound kind)
 
@@ -237,12 +257,15 @@ ends_at [] = false
 ends_at (t ∷ []) = sees mark.End (record { ahead = t ∷ []; front = 0 })
 ends_at (t ∷ u ∷ ts) = false
 
+-- is nothing left but End?
 unfoldable pub is_end : Input → Bool
 is_end i = ends_at i.ahead
 
+-- { stmt } End, `n` statements at most, behind those that were found
 unfoldable pub file_from : ℕ → ℕ → List Stmt → Parser (List Stmt)
 file_from depth zero found = refuse
 file_from depth (suc n) found = λ i. if is_end i then Ok (found, i) else (stmt depth >>= λ some. mark_here >> file_from depth n (found ++ some)) i
 
+-- file = { stmt } End
 unfoldable pub file : List Token → Outcome (List Stmt)
 file tokens = file_from (suc (suc (length tokens))) (suc (length tokens)) [] (record { ahead = tokens; front = length tokens })

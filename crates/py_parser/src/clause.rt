@@ -102,6 +102,7 @@ pub(crate) fn may_end(stage: Stage) -> bool
     !matches!(stage, Stage::Tried)
 }
 
+/// The stage behind the first clause.
 pub(crate) fn first_stage(head: &Head) -> Stage
     ensures { result ≡ spec.first_stage head.now }
 {
@@ -114,6 +115,7 @@ pub(crate) fn first_stage(head: &Head) -> Stage
     }
 }
 
+/// The stage behind an `else`: that of a `try` may have a `finally` behind it.
 fn behind_else(stage: Stage) -> Stage
     ensures { result ≡ spec.behind_else stage }
 {
@@ -123,6 +125,7 @@ fn behind_else(stage: Stage) -> Stage
     }
 }
 
+/// The stage behind a further clause.
 pub(crate) fn behind(stage: Stage, header: &Header) -> Stage
     ensures { result ≡ spec.behind stage header.now }
 {
@@ -135,6 +138,7 @@ pub(crate) fn behind(stage: Stage, header: &Header) -> Stage
     }
 }
 
+/// A statement of its first clause alone.
 pub(crate) fn no_parts(alloc: Global) -> Parts
     ensures { result ≡ spec.no_parts }
 {

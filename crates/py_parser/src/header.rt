@@ -1,4 +1,4 @@
-//! Headers of clauses.
+//! Headers of clauses, from their first word up to the colon.
 
 ghost use Rattle.std.specs.Prelude.{◌≡◌, true};
 ghost use Rattle.std.specs.List.{list_any, list_all};
@@ -19,6 +19,7 @@ use py_tokens::{Op, Tok, Word};
 use py_tree::{Expr, Param, Target};
 use std::alloc::Global;
 
+/// Passes a word and a colon.
 #[tactic(auto, unfolding(crate::specs::Reading::word_alone))]
 fn word_alone(tokens: &mut Cursor<'_>) -> Result<(), Refused<Syntax>>
     ensures { Reads (spec.word_alone (input_of tokens.old)) result tokens.new }
@@ -27,6 +28,7 @@ fn word_alone(tokens: &mut Cursor<'_>) -> Result<(), Refused<Syntax>>
     tokens.expect(Mark::Op(Op::Colon))
 }
 
+/// Reads a test between a word and a colon, and passes these.
 #[tactic(auto, unfolding(crate::specs::Reading::condition))]
 fn condition(alloc: Global, tokens: &mut Cursor<'_>) -> Result<Expr, Refused<Syntax>>
     ensures { Reads (spec.condition (input_of tokens.old)) result tokens.new }
@@ -58,6 +60,7 @@ fn for_over(target: Target, over: Result<Expr, Refused<Syntax>>) -> Result<Head,
     }
 }
 
+/// Reads `"for" targets "in" tests ":"`.
 fn for_head(alloc: Global, tokens: &mut Cursor<'_>) -> Result<Head, Refused<Syntax>>
     ensures { Reads (spec.for_head (input_of tokens.old)) result tokens.new }
 {
@@ -67,6 +70,7 @@ fn for_head(alloc: Global, tokens: &mut Cursor<'_>) -> Result<Head, Refused<Synt
     for_over(target, over)
 }
 
+/// Reads `NAME [ "=" test ]`.
 #[tactic(auto, unfolding(crate::specs::Reading::parameter))]
 fn parameter(alloc: Global, tokens: &mut Cursor<'_>) -> Result<Param, Refused<Syntax>>
     ensures { Reads (spec.parameter (input_of tokens.old)) result tokens.new }
@@ -99,6 +103,7 @@ fn some_parameters(alloc: Global, tokens: &mut Cursor<'_>) -> Result<Items<Param
     Err(tokens.refuse())
 }
 
+/// Reads `[ param { "," param } [ "," ] ]`.
 #[tactic(auto, unfolding(crate::specs::Reading::parameters))]
 fn parameters(alloc: Global, tokens: &mut Cursor<'_>) -> Result<Items<Param>, Refused<Syntax>>
     ensures { Reads (spec.parameters (input_of tokens.old)) result tokens.new }
@@ -118,12 +123,14 @@ fn has_name(params: &[Param], name: &Text) -> bool
         .any(|param| param.name.bytes() == name.bytes())
 }
 
+/// Has none of the parameters this name?
 fn is_new(name: &Text, params: &[Param]) -> bool
     ensures { result ≡ expressions.is_new name.now (clauses.param_names params.now) }
 {
     !has_name(params, name)
 }
 
+/// Do the names of parameters differ?
 fn names_differ(params: &[Param]) -> bool
     ensures { result ≡ clauses.names_differ (clauses.param_names params.now) }
 {
@@ -137,6 +144,7 @@ fn names_differ(params: &[Param]) -> bool
     true
 }
 
+/// Has each parameter a default?
 fn all_default(params: &[Param]) -> bool
     ensures { result ≡ clauses.all_default params.now }
 {
@@ -157,6 +165,7 @@ fn defaults_last(params: &[Param]) -> bool
     true
 }
 
+/// Do the names of parameters differ, and are those with defaults the last?
 fn params_fit(params: &[Param]) -> bool
     ensures { result ≡ clauses.params_fit params.now }
 {
@@ -166,6 +175,7 @@ fn params_fit(params: &[Param]) -> bool
     defaults_last(params)
 }
 
+/// A `def` whose parameters fit; refused where they don't.
 fn fitting(tokens: &Cursor<'_>, name: Text, params: Items<Param>) -> Result<Head, Refused<Syntax>>
     ensures { Reads (spec.fitting name params (input_of tokens.now)) result tokens.now }
 {
@@ -187,6 +197,7 @@ fn defined(alloc: Global, tokens: &mut Cursor<'_>, name: Text) -> Result<Head, R
     fitting(tokens, name, params)
 }
 
+/// Reads `"def" NAME "(" [ param { "," param } [ "," ] ] ")" ":"`.
 #[tactic(auto, unfolding(crate::specs::Reading::def_head))]
 fn def_head(alloc: Global, tokens: &mut Cursor<'_>) -> Result<Head, Refused<Syntax>>
     ensures { Reads (spec.def_head (input_of tokens.old)) result tokens.new }
@@ -215,6 +226,7 @@ pub(crate) fn first(alloc: Global, tokens: &mut Cursor<'_>) -> Result<Head, Refu
     }
 }
 
+/// Reads `[ "as" NAME ]`.
 #[tactic(auto, unfolding(crate::specs::Reading::naming))]
 fn naming(alloc: Global, tokens: &mut Cursor<'_>) -> Result<Option<Text>, Refused<Syntax>>
     ensures { Reads (spec.naming (input_of tokens.old)) result tokens.new }
@@ -226,6 +238,7 @@ fn naming(alloc: Global, tokens: &mut Cursor<'_>) -> Result<Option<Text>, Refuse
     Ok(Some(name))
 }
 
+/// Reads `test [ "as" NAME ] ":"`.
 #[tactic(auto, unfolding(crate::specs::Reading::catching))]
 fn catching(alloc: Global, tokens: &mut Cursor<'_>) -> Result<Header, Refused<Syntax>>
     ensures { Reads (spec.catching (input_of tokens.old)) result tokens.new }
@@ -239,6 +252,7 @@ fn catching(alloc: Global, tokens: &mut Cursor<'_>) -> Result<Header, Refused<Sy
     })
 }
 
+/// Reads `"except" [ test [ "as" NAME ] ] ":"`.
 #[tactic(auto, unfolding(crate::specs::Reading::except_header))]
 fn except_header(alloc: Global, tokens: &mut Cursor<'_>) -> Result<Header, Refused<Syntax>>
     ensures { Reads (spec.except_header (input_of tokens.old)) result tokens.new }

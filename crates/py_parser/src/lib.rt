@@ -3,7 +3,9 @@
 
 mod clause;
 mod header;
+mod productions;
 mod source;
 mod stmt;
 
+pub use productions::productions_law;
 pub use source::{parse, parser_law};

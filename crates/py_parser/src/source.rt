@@ -1,4 +1,4 @@
-//! A whole source.
+//! A whole source: statements up to the end, and the fault where there is no tree.
 
 ghost use Rattle.std.specs.Prelude.{◌≡◌, ◌⊎◌, ◌-◌, [], ◌∷◌, List, length, drop, Err, IfOk, MatchResult};
 ghost use Rattle.mpy_base.specs.declared.refused.Refused.TheVariants as refused;
@@ -34,6 +34,7 @@ fn is_end(tokens: &Cursor<'_>) -> bool
     }
 }
 
+/// Reads `{ stmt } End` in `turns` turns at most.
 fn file_from(
     alloc: Global,
     tokens: &mut Cursor<'_>,
@@ -54,6 +55,7 @@ fn file_from(
     Err(tokens.refuse())
 }
 
+/// Reads `{ stmt } End`.
 fn file(alloc: Global, tokens: &[Token]) -> Result<Items<Stmt>, Refused<Syntax>>
     ensures { ReadsAll (spec.file tokens.now) result }
 {
@@ -64,6 +66,7 @@ fn file(alloc: Global, tokens: &[Token]) -> Result<Items<Stmt>, Refused<Syntax>>
     file_from(alloc, &mut ahead, tokens.len() + 2, tokens.len() + 1)
 }
 
+/// The fault in that line, which names no word.
 fn fault_of(alloc: Global, code: SourceCode, line: u32) -> SourceFault
     ensures { result ≡ fault_of code line }
 {

@@ -31,6 +31,7 @@ pub(crate) fn append(found: &mut Items<Stmt>, some: Items<Stmt>) -> Result<(), N
     Ok(())
 }
 
+/// The list of this one statement.
 fn only(alloc: Global, one: Stmt) -> Result<Items<Stmt>, NoMemory>
     ensures { IfOk result (λ all. all ≡ one ∷ []) }
 {
@@ -49,14 +50,14 @@ fn line(tokens: &Cursor<'_>) -> u32
     }
 }
 
-/// A front ends here.
+/// Notes that a source might end here: what was read is the longest front so far.
 pub(crate) fn mark(tokens: &mut Cursor<'_>)
     ensures { input_of tokens.new ≡ spec.marked (input_of tokens.old) }
 {
     tokens.front = tokens.ahead.len();
 }
 
-/// A front ends here, if the statement may end.
+/// Notes that a source might end here, if the statement may end.
 fn mark_if(tokens: &mut Cursor<'_>, ends: bool)
     ensures { input_of tokens.new ≡ spec.marked_if ends (input_of tokens.old) }
 {
@@ -65,6 +66,7 @@ fn mark_if(tokens: &mut Cursor<'_>, ends: bool)
     }
 }
 
+/// The parts of a statement that may end here; refused where it may not.
 fn ended(tokens: &Cursor<'_>, stage: Stage, parts: Parts) -> Result<Parts, Refused<Syntax>>
     ensures { Reads (spec.ended (clauses.may_end stage) parts (input_of tokens.now)) result tokens.now }
 {
@@ -93,6 +95,7 @@ fn made(
     }
 }
 
+/// The rules of statements, of which each reads the statements of a block by `stmt`, one level of blocks less.
 #[derive(Clone, Copy)]
 pub(crate) struct Blocks<F> {
     pub alloc: Global,
@@ -102,6 +105,7 @@ pub(crate) struct Blocks<F> {
 }
 
 impl<F: Fn(Global, &mut Cursor<'_>, usize) -> Result<Items<Stmt>, Refused<Syntax>>> Blocks<F> {
+    /// Reads the statements of a line in a block, one level of blocks less.
     fn inner(&self, tokens: &mut Cursor<'_>) -> Result<Items<Stmt>, Refused<Syntax>>
         requires { Nests self.now.depth (F.pre self.now.stmt) (F.post self.now.stmt) }
         ensures { Reads (spec.stmt self.now.depth (input_of tokens.old)) result tokens.new }
@@ -109,6 +113,7 @@ impl<F: Fn(Global, &mut Cursor<'_>, usize) -> Result<Items<Stmt>, Refused<Syntax
         (self.stmt)(self.alloc, tokens, self.depth)
     }
 
+    /// Reads `stmt { stmt } Dedent`.
     fn block_from(&self, tokens: &mut Cursor<'_>) -> Result<Items<Stmt>, Refused<Syntax>>
         requires { Nests self.now.depth (F.pre self.now.stmt) (F.post self.now.stmt) }
         ensures { Reads (spec.whole_block (spec.stmt self.now.depth) (input_of tokens.old)) result tokens.new }
@@ -125,6 +130,7 @@ impl<F: Fn(Global, &mut Cursor<'_>, usize) -> Result<Items<Stmt>, Refused<Syntax
         Err(tokens.refuse())
     }
 
+    /// Reads `Indent stmt { stmt } Dedent`.
     #[tactic(auto, unfolding(crate::specs::Reading::block))]
     fn block(&self, tokens: &mut Cursor<'_>) -> Result<Items<Stmt>, Refused<Syntax>>
         requires { Nests self.now.depth (F.pre self.now.stmt) (F.post self.now.stmt) }
@@ -135,6 +141,7 @@ impl<F: Fn(Global, &mut Cursor<'_>, usize) -> Result<Items<Stmt>, Refused<Syntax
         self.block_from(tokens)
     }
 
+    /// Reads `line | Newline Indent stmt { stmt } Dedent`.
     #[tactic(auto, unfolding(crate::specs::Reading::suite))]
     fn suite(&self, tokens: &mut Cursor<'_>) -> Result<Items<Stmt>, Refused<Syntax>>
         requires { Nests self.now.depth (F.pre self.now.stmt) (F.post self.now.stmt) }
@@ -166,6 +173,7 @@ impl<F: Fn(Global, &mut Cursor<'_>, usize) -> Result<Items<Stmt>, Refused<Syntax
         Ok((next, parts))
     }
 
+    /// Reads the further clauses of a statement.
     fn clauses(&self, tokens: &mut Cursor<'_>, first: Stage) -> Result<Parts, Refused<Syntax>>
         requires { Nests self.now.depth (F.pre self.now.stmt) (F.post self.now.stmt) }
         ensures { Reads (spec.all_clauses (spec.stmt self.now.depth) first (input_of tokens.old)) result tokens.new }
@@ -200,6 +208,7 @@ impl<F: Fn(Global, &mut Cursor<'_>, usize) -> Result<Items<Stmt>, Refused<Syntax
         Ok((body, parts))
     }
 
+    /// Reads a compound statement.
     fn compound(&self, tokens: &mut Cursor<'_>) -> Result<Stmt, Refused<Syntax>>
         requires { Nests self.now.depth (F.pre self.now.stmt) (F.post self.now.stmt) }
         ensures { Reads (spec.compound (spec.stmt self.now.depth) (input_of tokens.old)) result tokens.new }
@@ -210,6 +219,7 @@ impl<F: Fn(Global, &mut Cursor<'_>, usize) -> Result<Items<Stmt>, Refused<Syntax
         made(line, head, rest)
     }
 
+    /// Reads `stmt`: a compound statement, or a line.
     #[tactic(auto, unfolding(crate::specs::Reading::stmt_with))]
     fn stmt_with(&self, tokens: &mut Cursor<'_>) -> Result<Items<Stmt>, Refused<Syntax>>
         requires { Nests self.now.depth (F.pre self.now.stmt) (F.post self.now.stmt) }

@@ -11,6 +11,7 @@ abbrev pub kind_in : Builtin → Option Kind
 kind_in (builtins.Kind kind) = Some kind
 kind_in _ = None
 
+-- is the built-in a type?
 abbrev pub is_type : Builtin → Bool
 is_type builtins.Bool = true
 is_type builtins.Int = true
@@ -26,25 +27,29 @@ abbrev pub named : List (List ℕ × Builtin) → List ℕ → Option Builtin
 named [] name = None
 named (entry ∷ entries) name = if bytes_eq (entry.0) name then Some (entry.1) else named entries name
 
--- the methods of a type, by the name of the type
+-- the methods of lists
 abbrev pub list_methods : List (List ℕ × Builtin)
 list_methods =
     (codes "append", builtins.ListAppend) ∷ (codes "pop", builtins.ListPop) ∷ (codes "insert", builtins.ListInsert)
     ∷ (codes "extend", builtins.ListExtend) ∷ []
 
+-- the methods of dicts
 abbrev pub dict_methods : List (List ℕ × Builtin)
 dict_methods =
     (codes "get", builtins.DictGet) ∷ (codes "keys", builtins.DictKeys) ∷ (codes "values", builtins.DictValues)
     ∷ (codes "items", builtins.DictItems) ∷ (codes "pop", builtins.DictPop) ∷ []
 
+-- the methods of strs
 abbrev pub str_methods : List (List ℕ × Builtin)
 str_methods =
     (codes "join", builtins.StrJoin) ∷ (codes "find", builtins.StrFind) ∷ (codes "startswith", builtins.StrStartsWith)
     ∷ (codes "split", builtins.StrSplit) ∷ []
 
+-- the functions of the module `port`
 abbrev pub port_calls : List (List ℕ × Builtin)
 port_calls = (codes "put", builtins.PortPut) ∷ (codes "get", builtins.PortGet) ∷ (codes "count", builtins.PortCount) ∷ []
 
+-- the kinds of exceptions
 abbrev pub all_kinds : List Kind
 all_kinds =
     kinds.BaseException ∷ kinds.SystemExit ∷ kinds.KeyboardInterrupt ∷ kinds.Exception ∷ kinds.ArithmeticError
@@ -60,5 +65,6 @@ globals =
     ∷ builtins.Len ∷ builtins.Abs ∷ builtins.Range ∷ builtins.Min ∷ builtins.Max ∷ builtins.Repr ∷ builtins.Ord
     ∷ builtins.Chr ∷ builtins.IsInstance ∷ map builtins.Kind all_kinds
 
+-- the built-in that a name means where no namespace has it
 abbrev pub global_named : List ℕ → Option Builtin
 global_named name = named (map (λ b. (builtin_name b, b)) globals) name

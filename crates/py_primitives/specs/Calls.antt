@@ -30,6 +30,7 @@ pub data Counts : Type 0 where
   Between : (least most : ℕ) → Counts
   AtLeast : ℕ → Counts
 
+-- how many arguments each built-in takes
 abbrev pub counts_of : Builtin → Counts
 counts_of builtins.Bool = Exactly 1
 counts_of builtins.Int = Exactly 1
@@ -74,6 +75,7 @@ count_fault (Between least most) given =
     else (if nat_lt most given then Some (TooMany most given) else None)
 count_fault (AtLeast least) given = if nat_lt given least then Some (TooFew least given) else None
 
+-- the fault, if there is one, and else what follows
 abbrev pub unless_fault : {A : Type 0} → PlainHeap → Option Fault → Outcome A → Outcome A
 unless_fault heap None next = next
 unless_fault heap (Some fault) next = raises fault heap
@@ -81,6 +83,7 @@ unless_fault heap (Some fault) next = raises fault heap
 -- arguments
 -- =========
 
+-- what follows on a number, and a fault for any other value
 abbrev pub of_number : {A : Type 0} → PlainHeap → Val → Shown → (ℤ → Outcome A) → Outcome A
 of_number heap v (Number z) next = next z
 of_number heap v _ next = raises (NotANumber (type_name heap v)) heap
@@ -92,16 +95,20 @@ with_number heap v next = of_number heap v (shown heap v) next
 -- numbers and strs
 -- ================
 
+-- `len`
 abbrev pub call_len : PlainHeap → Val → Option (List Val) → Outcome Val
 call_len heap v (Some items) = gives_number heap (checked (pos (length_of heap v)))
 call_len heap v None = raises (NoLength (type_name heap v)) heap
 
+-- `abs`
 abbrev pub call_abs : PlainHeap → Val → Outcome Val
 call_abs heap v = with_number heap v (λ z. gives_number heap (checked (pos (unsigned_abs z))))
 
+-- a range of these numbers, or the fault of a step that is 0
 abbrev pub range_of : PlainHeap → ℤ → ℤ → ℤ → Outcome Val
 range_of heap start stop step = if int_eq step (pos 0) then raises ZeroStep heap else making heap (RangeObject start stop step)
 
+-- `range`
 abbrev pub call_range : PlainHeap → List Val → Outcome Val
 call_range heap (a ∷ []) = with_number heap a (λ stop. range_of heap (pos 0) stop (pos 1))
 call_range heap (a ∷ b ∷ []) = with_number heap a (λ start. with_number heap b (λ stop. range_of heap start stop (pos 1)))
@@ -113,9 +120,11 @@ abbrev pub without_blanks : List ℕ → List ℕ
 without_blanks [] = []
 without_blanks (byte ∷ bytes) = if nat_eq byte 32 then without_blanks bytes else byte ∷ bytes
 
+-- the text without blanks at its ends
 abbrev pub trimmed : List ℕ → List ℕ
 trimmed bytes = reverse (without_blanks (reverse (without_blanks bytes)))
 
+-- the number that digits spell
 abbrev pub digits_number : List ℕ → Option ℕ
 digits_number [] = None
 digits_number digits = if list_all is_ascii_digit digits then Some (fold (λ n digit. 10 * n + (digit - 48)) 0 digits) else None
@@ -127,31 +136,38 @@ signed_number (byte ∷ bytes) =
     if nat_eq byte 45 then option_map (λ n. neg_ℤ (pos n)) (digits_number bytes)
     else option_map pos (digits_number (if nat_eq byte 43 then bytes else byte ∷ bytes))
 
+-- the number that a text spells, or the fault that it spells none
 abbrev pub gives_numeral : PlainHeap → Option ℤ → Outcome Val
 gives_numeral heap (Some z) = gives_number heap (checked z)
 gives_numeral heap None = raises NoNumeral heap
 
+-- `int`
 abbrev pub int_of : PlainHeap → Val → Shown → Outcome Val
 int_of heap v (Text bytes) = gives_numeral heap (signed_number (trimmed bytes))
 int_of heap v other = of_number heap v other (λ z. gives (Int z) heap)
 
+-- `ord`
 abbrev pub ord_of : PlainHeap → Shown → Outcome Val
 ord_of heap (Text (byte ∷ [])) = gives (Int (pos byte)) heap
 ord_of heap _ = raises NoCharacter heap
 
+-- `chr`
 abbrev pub character : PlainHeap → ℤ → Outcome Val
 character heap (pos n) = if nat_lt n 128 then making_text heap (n ∷ []) else raises NoCode heap
 character heap (negsuc n) = raises NoCode heap
 
+-- `str`
 abbrev pub call_str : PlainHeap → Val → Outcome Val
 call_str heap v = after_walk heap (str_of heap v) (making_text heap)
 
+-- `repr`
 abbrev pub call_repr : PlainHeap → Val → Outcome Val
 call_repr heap v = after_walk heap (repr_of heap v) (making_text heap)
 
 -- the least and the greatest
 -- ==========================
 
+-- what follows on the best value, and a fault for two that have no order
 abbrev pub gives_best : PlainHeap → Sign → (Val → Outcome Val) → Result Val Unordered → Outcome Val
 gives_best heap sign next (Ok best) = next best
 gives_best heap sign next (Err e) = unsupported heap (sign_method sign) e.left e.right
@@ -166,6 +182,7 @@ abbrev pub made_letter : PlainHeap → Shown → Val → Outcome Val
 made_letter heap (Text bytes) (Str letter) = making_text heap letter
 made_letter heap _ v = gives v heap
 
+-- `min` and `max`: of the items of one argument, or of several arguments
 abbrev pub call_best : PlainHeap → Sign → List Val → Outcome Val
 call_best heap sign (v ∷ []) = iterating heap v (best_of heap sign (made_letter heap (shown heap v)))
 call_best heap sign vs = best_of heap sign (λ best. gives best heap) vs
@@ -173,13 +190,16 @@ call_best heap sign vs = best_of heap sign (λ best. gives best heap) vs
 -- lists, tuples and types
 -- =======================
 
+-- a list of the items of an iterable
 abbrev pub list_from : PlainHeap → Val → List Val → Outcome Val
 list_from heap v items = with_visits (length items) (list_of heap (length items) (λ behind. kept_items behind items (shown heap v)))
 
+-- `list`
 abbrev pub call_list : PlainHeap → List Val → Outcome Val
 call_list heap [] = making_list heap []
 call_list heap (v ∷ _) = iterating heap v (list_from heap v)
 
+-- a tuple of the items of an iterable
 abbrev pub tuple_from : PlainHeap → Val → List Val → Outcome Val
 tuple_from heap v items = with_visits (length items) (tuple_of heap (length items) (λ behind. kept_items behind items (shown heap v)))
 
@@ -188,17 +208,21 @@ abbrev pub tuple_shown : PlainHeap → Val → Shown → Outcome Val
 tuple_shown heap v (Tuple items) = gives v heap
 tuple_shown heap v _ = iterating heap v (tuple_from heap v)
 
+-- `tuple`
 abbrev pub call_tuple : PlainHeap → List Val → Outcome Val
 call_tuple heap [] = gives Empty heap
 call_tuple heap (v ∷ _) = tuple_shown heap v (shown heap v)
 
+-- `dict`
 abbrev pub call_dict : PlainHeap → Outcome Val
 call_dict heap = making heap (DictObject [] 4)
 
+-- the type that a value is
 abbrev pub named_type : Val → Option Builtin
 named_type (Built b) = if is_type b then Some b else None
 named_type _ = None
 
+-- is it a number?
 abbrev pub is_number : Shown → Bool
 is_number (Number z) = true
 is_number _ = false
@@ -214,10 +238,12 @@ is_instance heap v (builtins.Kind kind) = is_exception_of (exception_kind heap v
 is_instance heap v builtins.Int = is_number (shown heap v)
 is_instance heap v type = bytes_eq (type_name heap v) (builtin_name type)
 
+-- is the value an instance of one of these types?
 abbrev pub instance_of : PlainHeap → Val → Option (List Builtin) → Outcome Val
 instance_of heap v (Some types) = gives (Truth (list_any (is_instance heap v) types)) heap
 instance_of heap v None = raises NotTypes heap
 
+-- `isinstance`
 abbrev pub call_isinstance : PlainHeap → Val → Val → Outcome Val
 call_isinstance heap v types = instance_of heap v (all_of named_type (members types (shown heap types)))
 

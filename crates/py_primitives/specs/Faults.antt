@@ -7,6 +7,7 @@ use Rattle.mpy_base.specs.Val.{Val, Int}
 use Rattle.py_values.specs.declared.small_int.NumFault.{NumFault}
 use Rattle.py_values.specs.declared.small_int.NumFault.TheVariants.{Overflow, ZeroDivide, NegativeShift, NegativePower}
 
+-- a fault, with what its text tells
 pub data Fault : Type 0 where
   -- operators over these types, by the name of the operator's method
   Unsupported : (method left right : List ℕ) → Fault
@@ -44,18 +45,21 @@ pub data Fault : Type 0 where
   NoModule : (name : List ℕ) → Fault
   RelativeImport IncompatibleFile BadDefaults : Fault
 
+-- the kind of exception of a number's fault
 abbrev pub number_kind : NumFault → Kind
 number_kind Overflow = kinds.OverflowError
 number_kind ZeroDivide = kinds.ZeroDivisionError
 number_kind NegativeShift = kinds.ValueError
 number_kind NegativePower = kinds.ValueError
 
+-- the text of a number's fault
 abbrev pub number_text : NumFault → List ℕ
 number_text Overflow = codes "small int overflow"
 number_text ZeroDivide = codes "divide by zero"
 number_text NegativeShift = codes "negative shift count"
 number_text NegativePower = codes "negative power with no float support"
 
+-- the kind of exception of a fault
 abbrev pub fault_kind : Fault → Kind
 fault_kind (Unsupported method left right) = kinds.TypeError
 fault_kind (UnsupportedOne method type) = kinds.TypeError
@@ -105,6 +109,7 @@ fault_kind RelativeImport = kinds.ImportError
 fault_kind IncompatibleFile = kinds.ValueError
 fault_kind BadDefaults = kinds.TypeError
 
+-- the text between single quotes
 abbrev pub between_quotes : List ℕ → List ℕ
 between_quotes text = codes "'" ++ text ++ codes "'"
 
@@ -112,6 +117,7 @@ between_quotes text = codes "'" ++ text ++ codes "'"
 abbrev pub object_does : List ℕ → List ℕ → List ℕ
 object_does type does = between_quotes type ++ codes " object " ++ does
 
+-- a text with two numbers in it
 abbrev pub takes_counts : List ℕ → ℕ → List ℕ → ℕ → List ℕ → List ℕ
 takes_counts first m middle n last = first ++ decimal m ++ middle ++ decimal n ++ last
 
@@ -121,6 +127,7 @@ fault_value (NoKey key) = Some key
 fault_value PortFailed = Some (Int (pos 5))
 fault_value _ = None
 
+-- the text of a fault
 abbrev pub fault_text : Fault → List ℕ
 fault_text (Unsupported method left right) =
     codes "unsupported types for " ++ method ++ codes ": " ++ between_quotes left ++ codes ", " ++ between_quotes right

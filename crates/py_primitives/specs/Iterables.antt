@@ -7,9 +7,11 @@ use Rattle.py_values.specs.Names.{type_name}
 use Rattle.py_primitives.specs.Faults.{NotIterable}
 use Rattle.py_primitives.specs.Outcome.{Outcome, gives, raises, making_text, making_texts}
 
+-- the number of a range at a place
 abbrev pub range_number : ℤ → ℤ → ℕ → ℤ
 range_number start step at = start +ℤ pos at *ℤ step
 
+-- the numbers of a range
 abbrev pub range_numbers : ℤ → ℤ → ℤ → List Val
 range_numbers start stop step = map (λ at. Int (range_number start step at)) (range_with_len 0 (range_len start stop step))
 
@@ -26,9 +28,11 @@ shown_items (Pairs pairs) = Some (map (λ pair. pair.0) pairs)
 shown_items (Range start stop step) = Some (range_numbers start stop step)
 shown_items _ = None
 
+-- the items of a value, if it is an iterable
 abbrev pub items_in : PlainHeap → Val → Option (List Val)
 items_in heap v = shown_items (shown heap v)
 
+-- how many items there are of what a program can see
 abbrev pub shown_length : Shown → ℕ
 shown_length (Text bytes) = length bytes
 shown_length (Tuple items) = length items
@@ -41,6 +45,7 @@ shown_length _ = 0
 abbrev pub length_of : PlainHeap → Val → ℕ
 length_of heap v = shown_length (shown heap v)
 
+-- the value, or None where there is none
 abbrev pub or_nil : Option Val → Val
 or_nil (Some v) = v
 or_nil None = Nil
@@ -54,6 +59,7 @@ shown_item heap at (Pairs pairs) = gives (or_nil (slice_get (map (λ pair. pair.
 shown_item heap at (Range start stop step) = gives (Int (range_number start step at)) heap
 shown_item heap at _ = gives Nil heap
 
+-- the item of an iterable at a place
 abbrev pub item_of : PlainHeap → Val → ℕ → Outcome Val
 item_of heap v at = shown_item heap at (shown heap v)
 
@@ -62,6 +68,7 @@ abbrev pub over_items : {A : Type 0} → PlainHeap → Val → Option (List Val)
 over_items heap v (Some items) next = next items
 over_items heap v None next = raises (NotIterable (type_name heap v)) heap
 
+-- what follows on the items of an iterable
 abbrev pub iterating : {A : Type 0} → PlainHeap → Val → (List Val → Outcome A) → Outcome A
 iterating heap v next = over_items heap v (items_in heap v) next
 

@@ -30,9 +30,11 @@ put_items heap list items =
     then gives Nil (with_items heap list items)
     else is_full heap (list_growth heap list (length items)) 0
 
+-- the item at a place, which is taken out of the list
 abbrev pub pop_at : PlainHeap → ℕ → List Val → ℕ → Outcome Val
 pop_at heap list items at = gives (or_nil (slice_get items at)) (with_list heap list (remove items at))
 
+-- `pop` with an index
 abbrev pub pop_from : PlainHeap → ℕ → List Val → Val → Outcome Val
 pop_from heap list [] index = raises EmptyList heap
 pop_from heap list items index = at_place heap (At list) index (pop_at heap list items)
@@ -42,9 +44,11 @@ abbrev pub pop : PlainHeap → ℕ → List Val → List Val → Outcome Val
 pop heap list items [] = pop_from heap list items (Int (negsuc 0))
 pop heap list items (index ∷ _) = with_number heap index (λ z. pop_from heap list items (Int z))
 
+-- `insert`
 abbrev pub insert_item : PlainHeap → ℕ → List Val → Val → Val → Outcome Val
 insert_item heap list items index v = with_number heap index (λ z. put_items heap list (insert items (place_before (length items) z) v))
 
+-- a method of a list, with as many arguments as it takes
 abbrev pub list_method : PlainHeap → Builtin → ℕ → List Val → List Val → Outcome Val
 list_method heap builtins.ListAppend list items (v ∷ _) = put_items heap list (items ++ v ∷ [])
 list_method heap builtins.ListPop list items args = pop heap list items args
@@ -61,6 +65,7 @@ get_or (Some v) _ = v
 get_or None [] = Nil
 get_or None (v ∷ _) = v
 
+-- `pop` of a dict: the value of the key, which is taken out, else the second argument, else a fault
 abbrev pub pop_found : PlainHeap → ℕ → List (Val × Val) → Val → List Val → Option Val → Outcome Val
 pop_found heap dict pairs key others (Some v) = gives v (with_dict heap dict (without_key heap pairs key))
 pop_found heap dict pairs key (v ∷ _) None = gives v heap
@@ -70,11 +75,13 @@ pop_found heap dict pairs key [] None = raises (NoKey key) heap
 abbrev pub dict_list : PlainHeap → List Val → Outcome Val
 dict_list heap items = with_visits (length items) (making_list heap items)
 
+-- a tuple is made for each pair
 abbrev pub making_pairs : PlainHeap → List (Val × Val) → Outcome (List Val)
 making_pairs heap [] = gives [] heap
 making_pairs heap (pair ∷ pairs) =
     followed_by (making_tuple heap (pair.0 ∷ pair.1 ∷ [])) (λ v behind. followed_by (making_pairs behind pairs) (λ vs last. gives (v ∷ vs) last))
 
+-- a method of a dict, with as many arguments as it takes
 abbrev pub dict_method : PlainHeap → Builtin → ℕ → List (Val × Val) → List Val → Outcome Val
 dict_method heap builtins.DictGet dict pairs (key ∷ others) = with_key_of heap key (gives (get_or (value_of_key heap pairs key) others) heap)
 dict_method heap builtins.DictPop dict pairs (key ∷ others) = with_key_of heap key (pop_found heap dict pairs key others (value_of_key heap pairs key))
@@ -86,10 +93,12 @@ dict_method heap _ dict pairs _ = gives Nil heap
 -- strs
 -- ====
 
+-- the bytes of a str
 abbrev pub str_in : Shown → Option (List ℕ)
 str_in (Text bytes) = Some bytes
 str_in _ = None
 
+-- a str in front of the others
 abbrev pub part_behind : Option (List ℕ) → Walk (Option (List (List ℕ))) → Walk (Option (List (List ℕ)))
 part_behind (Some bytes) rest = walk_map (option_map (λ parts. bytes ∷ parts)) rest
 part_behind None rest = answers None
@@ -99,6 +108,7 @@ abbrev pub parts_of : PlainHeap → List Val → Walk (Option (List (List ℕ)))
 parts_of heap [] = answers (Some [])
 parts_of heap (v ∷ vs) = visit (part_behind (str_in (shown heap v)) (parts_of heap vs))
 
+-- a text of the joined strs, or the fault that one of the values is none
 abbrev pub gives_joined : PlainHeap → List ℕ → Option (List (List ℕ)) → Outcome Val
 gives_joined heap bytes (Some parts) = making_text heap (joined bytes parts)
 gives_joined heap bytes None = raises JoinsNoStr heap
@@ -134,10 +144,12 @@ abbrev pub of_str : {A : Type 0} → PlainHeap → Val → Val → Shown → (Li
 of_str heap object v (Text bytes) next = next bytes
 of_str heap object v _ next = unsupported heap (codes "__contains__") object v
 
+-- `split` with a separator, which isn't empty
 abbrev pub split_by : PlainHeap → List ℕ → List ℕ → Outcome Val
 split_by heap bytes [] = raises EmptySeparator heap
 split_by heap bytes (byte ∷ separator) = list_of_texts heap (pieces_between 0 (byte ∷ separator) bytes)
 
+-- a method of a str, with as many arguments as it takes
 abbrev pub str_method : PlainHeap → Builtin → Val → List ℕ → List Val → Outcome Val
 str_method heap builtins.StrJoin object bytes (v ∷ _) = iterating heap v (λ items. after_walk heap (parts_of heap items) (gives_joined heap bytes))
 str_method heap builtins.StrFind object bytes (v ∷ _) = of_str heap object v (shown heap v) (λ part. gives_number heap (checked (found_from 0 part bytes)))
@@ -149,6 +161,7 @@ str_method heap _ object bytes _ = gives Nil heap
 -- all of them
 -- ===========
 
+-- a method, by what a program can see of its object
 abbrev pub method_shown : PlainHeap → Builtin → Val → List Val → Shown → Outcome Val
 method_shown heap method (At n) args (Items items) = list_method heap method n items args
 method_shown heap method (At n) args (Pairs pairs) = dict_method heap method n pairs args

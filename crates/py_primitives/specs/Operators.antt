@@ -44,6 +44,7 @@ operator_method FloorDivide = codes "__floordiv__"
 operator_method Modulo = codes "__mod__"
 operator_method Power = codes "__pow__"
 
+-- the method of a sign of order
 abbrev pub sign_method : Sign → List ℕ
 sign_method Below = codes "__lt__"
 sign_method Above = codes "__gt__"
@@ -53,6 +54,7 @@ sign_method NotBelow = codes "__ge__"
 -- numbers
 -- =======
 
+-- what an operator gives of two numbers
 abbrev pub number_answer : Operator → ℤ → ℤ → Result ℤ NumFault
 number_answer Or a b = checked (int_or a b)
 number_answer Xor a b = checked (int_xor a b)
@@ -74,9 +76,11 @@ gives_number heap (Err fault) = raises (Arithmetic fault) heap
 -- arithmetic, and sequences that are joined and repeated
 -- ======================================================
 
+-- the fault that the operator of this method takes no such operands
 abbrev pub unsupported : {A : Type 0} → PlainHeap → List ℕ → Val → Val → Outcome A
 unsupported heap method a b = raises (Unsupported method (type_name heap a) (type_name heap b)) heap
 
+-- what an operator gives of two operands, by what a program can see of them
 abbrev pub binary_shown : PlainHeap → Operator → Val → Val → Shown → Shown → Outcome Val
 binary_shown heap op a b (Number x) (Number y) = gives_number heap (number_answer op x y)
 binary_shown heap Add a b (Text s) (Text t) = making_text heap (s ++ t)
@@ -90,6 +94,7 @@ binary_shown heap Multiply a b (Items xs) (Number n) = making_list heap (repeat 
 binary_shown heap Multiply a b (Number n) (Items xs) = making_list heap (repeat (at_least_zero n) xs)
 binary_shown heap op a b _ _ = unsupported heap (operator_method op) a b
 
+-- an operator with two operands
 abbrev pub binary : PlainHeap → Operator → Val → Val → Outcome Val
 binary heap op a b = binary_shown heap op a b (shown heap a) (shown heap b)
 
@@ -103,6 +108,7 @@ extended_by heap list v items =
     then followed_by (kept_items (with_list_room heap list total) items (shown heap v)) (λ kept behind. gives (At list) (with_list behind list (items_at heap list ++ kept)))
     else is_full heap (list_growth heap list total) 0)
 
+-- a list takes the items of an iterable
 abbrev pub extend : PlainHeap → ℕ → Val → Outcome Val
 extend heap list v = iterating heap v (extended_by heap list v)
 
@@ -111,51 +117,63 @@ abbrev pub in_place_shown : PlainHeap → Operator → Val → Val → Shown →
 in_place_shown heap Add (At n) b (Items items) = extend heap n b
 in_place_shown heap op a b _ = binary heap op a b
 
+-- an operator in place
 abbrev pub in_place : PlainHeap → Operator → Val → Val → Outcome Val
 in_place heap op a b = in_place_shown heap op a b (shown heap a)
 
 -- one operand
 -- ===========
 
+-- the operators with one operand, but `not`
 pub data UnaryOperator : Type 0 where
   Plus Minus Invert : UnaryOperator
 
+-- the method that a fault names
 abbrev pub unary_method : UnaryOperator → List ℕ
 unary_method Plus = codes "__pos__"
 unary_method Minus = codes "__neg__"
 unary_method Invert = codes "__invert__"
 
+-- what an operator gives of a number
 abbrev pub unary_answer : UnaryOperator → ℤ → Result ℤ NumFault
 unary_answer Plus z = Ok z
 unary_answer Minus z = checked (neg_ℤ z)
 unary_answer Invert z = checked (neg_ℤ z -ℤ pos 1)
 
+-- what an operator gives of an operand, by what a program can see of it
 abbrev pub unary_shown : PlainHeap → UnaryOperator → Val → Shown → Outcome Val
 unary_shown heap op v (Number z) = gives_number heap (unary_answer op z)
 unary_shown heap op v _ = raises (UnsupportedOne (unary_method op) (type_name heap v)) heap
 
+-- an operator with one operand
 abbrev pub unary : PlainHeap → UnaryOperator → Val → Outcome Val
 unary heap op v = unary_shown heap op v (shown heap v)
 
+-- `not`
 abbrev pub unary_not : PlainHeap → Val → Outcome Val
 unary_not heap v = gives (Truth (not (truth heap v))) heap
 
 -- comparisons
 -- ===========
 
+-- `==`
 abbrev pub op_eq : PlainHeap → Val → Val → Outcome Val
 op_eq heap a b = after_walk heap (equal heap a b) (λ same. gives (Truth same) heap)
 
+-- `!=`
 abbrev pub op_ne : PlainHeap → Val → Val → Outcome Val
 op_ne heap a b = after_walk heap (equal heap a b) (λ same. gives (Truth (not same)) heap)
 
+-- whether the order has the sign, and a fault for two values that have none
 abbrev pub gives_order : PlainHeap → Sign → Result Ordering Unordered → Outcome Val
 gives_order heap sign (Ok o) = gives (Truth (has_sign sign o)) heap
 gives_order heap sign (Err e) = unsupported heap (sign_method sign) e.left e.right
 
+-- `<`, `>`, `<=` and `>=`
 abbrev pub op_order : PlainHeap → Sign → Val → Val → Outcome Val
 op_order heap sign a b = after_walk heap (order heap a b) (gives_order heap sign)
 
+-- are two values one, by what a program can see of them? Strs of the same bytes are
 abbrev pub is_one_shown : Val → Val → Shown → Shown → Bool
 is_one_shown a b (Text s) (Text t) = bytes_eq s t
 is_one_shown a b _ _ = is_same a b
@@ -176,6 +194,7 @@ abbrev mutual
   are_one heap (Then v vs) (Then w ws) = is_one heap v w && are_one heap vs ws
   are_one heap _ _ = false
 
+-- `is`
 abbrev pub op_is : PlainHeap → Val → Val → Outcome Val
 op_is heap a b = gives (Truth (is_one heap a b)) heap
 
@@ -184,6 +203,7 @@ abbrev pub contains_equal : PlainHeap → Val → List Val → Walk Bool
 contains_equal heap v [] = answers false
 contains_equal heap v (item ∷ items) = and_then (equal heap item v) (elim [ true ↦ answers true | false ↦ contains_equal heap v items ])
 
+-- does the one text stand in the other?
 abbrev pub is_part : List ℕ → List ℕ → Bool
 is_part part [] = starts_with nat_eq [] part
 is_part part (byte ∷ bytes) = if starts_with nat_eq (byte ∷ bytes) part then true else is_part part bytes
@@ -197,6 +217,7 @@ abbrev pub with_key_of : {A : Type 0} → PlainHeap → Val → Outcome A → Ou
 with_key_of heap key next =
     if is_some (key_of heap key) then next else raises (UnsupportedOne (codes "__hash__") (type_name heap key)) heap
 
+-- what `in` gives, by what a program can see of the operands
 abbrev pub contains_shown : PlainHeap → Val → Val → Shown → Shown → Outcome Val
 contains_shown heap v container it (Tuple items) = after_walk heap (contains_equal heap v items) (λ found. gives (Truth found) heap)
 contains_shown heap v container it (Items items) = after_walk heap (contains_equal heap v items) (λ found. gives (Truth found) heap)
@@ -213,11 +234,12 @@ op_contains heap v container = contains_shown heap v container (shown heap v) (s
 -- exceptions and types
 -- ====================
 
--- a kind and those above it, so many at most. There are four at most
+-- a kind and those above it, that number at most. There are four at most
 abbrev pub lineage : ℕ → Option Kind → List Kind
 lineage (suc n) (Some kind) = kind ∷ lineage n (parent_of kind)
 lineage _ _ = []
 
+-- are the two kinds one?
 abbrev pub is_kind : Kind → Kind → Bool
 is_kind kind other = bytes_eq (kind_name kind) (kind_name other)
 
@@ -230,10 +252,12 @@ abbrev pub raised_kind : Option (Object Val (List ℕ)) → Option Kind
 raised_kind (Some (ExceptionObject kind args file line name)) = Some kind
 raised_kind _ = None
 
+-- the kind of an exception that was made
 abbrev pub exception_kind : PlainHeap → Val → Option Kind
 exception_kind heap (At n) = raised_kind (object heap.objects n)
 exception_kind heap _ = None
 
+-- the kind that a value is
 abbrev pub named_kind : Val → Option Kind
 named_kind (Built b) = kind_in b
 named_kind _ = None
@@ -248,6 +272,7 @@ abbrev pub all_of : {A : Type 0} → (Val → Option A) → List Val → Option 
 all_of f [] = Some []
 all_of f (v ∷ vs) = option_and_then (λ x. option_map (λ xs. x ∷ xs) (all_of f vs)) (f v)
 
+-- is the kind one of these, or below one?
 abbrev pub match_kinds : PlainHeap → Option Kind → Option (List Kind) → Outcome Val
 match_kinds heap (Some kind) (Some kinds) = gives (Truth (list_any (is_under kind) kinds)) heap
 match_kinds heap _ _ = raises UnsupportedMatch heap

@@ -21,6 +21,7 @@ module _ (equal : Val → Val → Walk Bool) (order : Val → Val → Walk (Resu
   order_items (x ∷ xs) (y ∷ ys) = and_then (equal x y) (elim [ true ↦ order_items xs ys | false ↦ order x y ])
   order_items xs ys = answers (Ok (nat_cmp (length xs) (length ys)))
 
+  -- the order of two values, by what a program can see of them
   abbrev pub order_shown : Val → Val → Shown → Shown → Walk (Result Ordering Unordered)
   order_shown a b (Number x) (Number y) = answers (Ok (int_cmp x y))
   order_shown a b (Text s) (Text t) = answers (Ok (slice_cmp nat_cmp s t))
@@ -28,12 +29,13 @@ module _ (equal : Val → Val → Walk Bool) (order : Val → Val → Walk (Resu
   order_shown a b (Items xs) (Items ys) = order_items xs ys
   order_shown a b _ _ = answers (Err (record { left = a; right = b }))
 
--- an order that may go so many levels deep
+-- an order that may go that number of levels deep
 abbrev pub order_within : PlainHeap → ℕ → Val → Val → Walk (Result Ordering Unordered)
 order_within heap zero a b = goes_too_deep
 order_within heap (suc depth) a b =
     visit (order_shown (equal_within heap depth) (order_within heap depth) a b (shown heap a) (shown heap b))
 
+-- the order of two values
 unfoldable pub order : PlainHeap → Val → Val → Walk (Result Ordering Unordered)
 order heap a b = order_within heap MAX_WALK_DEPTH a b
 
@@ -41,6 +43,7 @@ order heap a b = order_within heap MAX_WALK_DEPTH a b
 pub data Sign : Type 0 where
   Below Above NotAbove NotBelow : Sign
 
+-- is the order one that the sign asks for?
 abbrev pub has_sign : Sign → Ordering → Bool
 has_sign Below o = is_lt o
 has_sign Above o = is_gt o
@@ -50,10 +53,12 @@ has_sign NotBelow o = is_ge o
 -- the first value that no other is below, or above: each value is one visit, besides those of its comparison with the best
 -- of those in front of it
 module _ (heap : PlainHeap) (sign : Sign) where
+  -- the better of a value and the best of those in front of it
   abbrev pub better : Val → Val → Result Ordering Unordered → Result Val Unordered
   better v best (Ok o) = Ok (if has_sign sign o then v else best)
   better v best (Err e) = Err e
 
+  -- the best of values, from the best of those in front of them on
   abbrev pub best_from : Result Val Unordered → List Val → Walk (Result Val Unordered)
   best_from best [] = answers best
   best_from (Ok best) (v ∷ vs) = visit (and_then (order heap v best) (λ found. best_from (better v best found) vs))

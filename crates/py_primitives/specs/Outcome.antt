@@ -20,19 +20,23 @@ pub record Outcome (A : Type 0) : Type 0 where
   pub heap : PlainHeap
   pub visits : ℕ
 
+-- this value, with this heap behind it
 abbrev pub gives : {A : Type 0} → A → PlainHeap → Outcome A
 gives a heap = record { answer = Ok a; heap = heap; visits = 0 }
 
+-- this fault, with this heap behind it
 abbrev pub raises : {A : Type 0} → Fault → PlainHeap → Outcome A
 raises fault heap = record { answer = Err (Raises fault); heap = heap; visits = 0 }
 
--- so many cells and bytes don't fit
+-- `cells` cells and `bytes` bytes don't fit
 abbrev pub is_full : {A : Type 0} → PlainHeap → ℕ → ℕ → Outcome A
 is_full heap cells bytes = record { answer = Err (Full (no_room heap cells bytes)); heap = heap; visits = 0 }
 
+-- the outcome with visits more
 abbrev pub with_visits : {A : Type 0} → ℕ → Outcome A → Outcome A
 with_visits visits outcome = record outcome { visits = visits + outcome.visits }
 
+-- on with a value, behind these visits
 abbrev pub go_on_with : {A B : Type 0} → Result A Stop → PlainHeap → ℕ → (A → PlainHeap → Outcome B) → Outcome B
 go_on_with (Ok a) heap visits next = with_visits visits (next a heap)
 go_on_with (Err stop) heap visits next = record { answer = Err stop; heap = heap; visits = visits }
@@ -41,6 +45,7 @@ go_on_with (Err stop) heap visits next = record { answer = Err stop; heap = heap
 abbrev pub followed_by : {A B : Type 0} → Outcome A → (A → PlainHeap → Outcome B) → Outcome B
 followed_by first next = go_on_with first.answer first.heap first.visits next
 
+-- on with the answer of a walk, which goes too deep where it has none
 abbrev pub after_answer : {A B : Type 0} → Option A → PlainHeap → (A → Outcome B) → Outcome B
 after_answer (Some a) heap next = next a
 after_answer None heap next = raises TooDeep heap
@@ -52,6 +57,7 @@ after_walk heap walk next = with_visits walk.visits (after_answer walk.answer he
 -- makings
 -- =======
 
+-- an object is made, where it fits
 abbrev pub making : PlainHeap → Object Val (List ℕ) → Outcome Val
 making heap o =
     if does_fit heap (cells_of o) (bytes_of o)
@@ -78,13 +84,13 @@ making_texts heap [] = gives [] heap
 making_texts heap (text ∷ texts) =
     followed_by (making_text heap text) (λ v behind. followed_by (making_texts behind texts) (λ vs last. gives (v ∷ vs) last))
 
--- a list with room for so many items, which are made behind it
+-- a list with room for `count` items, which are made behind it
 abbrev pub list_of : PlainHeap → ℕ → (PlainHeap → Outcome (List Val)) → Outcome Val
 list_of heap count kept =
     followed_by (making heap (ListObject [] (room_for count))) (λ made behind.
     followed_by (kept behind) (λ items last. gives made (with_list last (used heap) items)))
 
--- the same of a tuple
+-- a tuple with room for `count` items, which are made behind it
 abbrev pub tuple_of : PlainHeap → ℕ → (PlainHeap → Outcome (List Val)) → Outcome Val
 tuple_of heap zero kept = gives Empty heap
 tuple_of heap (suc count) kept =

@@ -23,17 +23,20 @@ pub record Ends : Type 0 where
   pub sep : Option (List ℕ)
   pub last : Option (List ℕ)
 
+-- what a keyword gives, unless it was given before; it must be a str
 abbrev pub if_new : List ℕ → Option (List ℕ) → Shown → (List ℕ → Ends) → Result Ends Fault
 if_new name (Some old) v given = Err (RepeatedKeyword name)
 if_new name None (Text bytes) given = Ok (given bytes)
 if_new name None _ given = Err (NotAStr name)
 
+-- what the keyword of this name gives: `sep` or `end`
 abbrev pub named_end : Ends → List ℕ → Shown → Result Ends Fault
 named_end ends name v =
     if bytes_eq name (codes "sep") then if_new name ends.sep v (λ bytes. record ends { sep = Some bytes })
     else (if bytes_eq name (codes "end") then if_new name ends.last v (λ bytes. record ends { last = Some bytes })
     else Err (UnknownKeyword name))
 
+-- what one keyword argument gives; its name must be a str
 abbrev pub one_end : Ends → Shown → Shown → Result Ends Fault
 one_end ends (Text name) v = named_end ends name v
 one_end ends _ v = Err KeywordNotAStr
@@ -66,12 +69,15 @@ pub record PortOutcome : Type 0 where
 abbrev pub with_call : PortState → PortState
 with_call port = record port { calls = min (port.calls + 1) (2 ^ 64 - 1) }
 
+-- does the next call of the port fail?
 abbrev pub call_fails : PortState → Bool
 call_fails port = list_any (nat_eq port.calls) port.failing
 
+-- this fault, with these ports behind it
 abbrev pub refused : Fault → List PortState → PortOutcome
 refused fault ports = record { answer = Err (Raises fault); ports = ports }
 
+-- a put to a port, if there is one
 abbrev pub put_to : List PortState → ℕ → ℤ → Option PortState → PortOutcome
 put_to ports at n (Some port) =
     if call_fails port then refused PortFailed (slice_set ports at (with_call port))
@@ -87,6 +93,7 @@ abbrev pub taken : List ℤ → Result Val Stop
 taken [] = Ok Nil
 taken (n ∷ _) = number_answer n
 
+-- the answers behind the first one
 abbrev pub others : List ℤ → List ℤ
 others [] = []
 others (_ ∷ ns) = ns
@@ -98,26 +105,32 @@ get_from ports at (Some port) =
     else record { answer = taken port.pending; ports = slice_set ports at (record (with_call port) { pending = others port.pending }) }
 get_from ports at None = refused NoSuchPort ports
 
+-- the fault of an argument that is no number
 abbrev pub not_a_number : PlainHeap → Val → List PortState → PortOutcome
 not_a_number heap v ports = refused (NotANumber (type_name heap v)) ports
 
+-- a put, by what a program can see of its arguments
 abbrev pub put_shown : PlainHeap → List PortState → Val → Val → Shown → Shown → PortOutcome
 put_shown heap ports i n (Number (pos at)) (Number z) = put_to ports at z (slice_get ports at)
 put_shown heap ports i n (Number (negsuc _)) (Number z) = refused NoSuchPort ports
 put_shown heap ports i n (Number _) _ = not_a_number heap n ports
 put_shown heap ports i n _ _ = not_a_number heap i ports
 
+-- `port.put`
 abbrev pub call_port_put : PlainHeap → List PortState → Val → Val → PortOutcome
 call_port_put heap ports i n = put_shown heap ports i n (shown heap i) (shown heap n)
 
+-- a get, by what a program can see of its argument
 abbrev pub get_shown : PlainHeap → List PortState → Val → Shown → PortOutcome
 get_shown heap ports i (Number (pos at)) = get_from ports at (slice_get ports at)
 get_shown heap ports i (Number (negsuc _)) = refused NoSuchPort ports
 get_shown heap ports i _ = not_a_number heap i ports
 
+-- `port.get`
 abbrev pub call_port_get : PlainHeap → List PortState → Val → PortOutcome
 call_port_get heap ports i = get_shown heap ports i (shown heap i)
 
+-- `port.count`
 abbrev pub call_port_count : List PortState → PortOutcome
 call_port_count ports = record { answer = number_answer (pos (length ports)); ports = ports }
 
@@ -128,6 +141,7 @@ port_called heap ports builtins.PortGet (i ∷ _) = call_port_get heap ports i
 port_called heap ports builtins.PortCount _ = call_port_count ports
 port_called heap ports _ _ = record { answer = Ok Nil; ports = ports }
 
+-- the fault, if there is one, and else what follows
 abbrev pub port_unless_fault : List PortState → Option Fault → PortOutcome → PortOutcome
 port_unless_fault ports None next = next
 port_unless_fault ports (Some fault) next = refused fault ports

@@ -48,14 +48,17 @@ quoted bytes = quote_of bytes ∷ flat_map (escaped (quote_of bytes)) bytes ++ q
 -- values without others in them
 -- =============================
 
+-- the text of a bool
 abbrev pub truth_text : Bool → List ℕ
 truth_text true = codes "True"
 truth_text false = codes "False"
 
+-- the text of a built-in
 abbrev pub builtin_text : Builtin → List ℕ
 builtin_text builtins.Port = codes "<module 'port'>"
 builtin_text b = if is_type b then codes "<class '" ++ builtin_name b ++ codes "'>" else codes "<function>"
 
+-- the text of a range; a step of 1 is left out
 abbrev pub range_text : (start stop step : ℤ) → List ℕ
 range_text start stop step =
     codes "range(" ++ signed_decimal start ++ codes ", " ++ signed_decimal stop
@@ -69,6 +72,7 @@ str_text false bytes = quoted bytes
 -- values with others in them
 -- ==========================
 
+-- texts with a separator between them
 abbrev pub joined : List ℕ → List (List ℕ) → List ℕ
 joined separator texts = join_by (λ text. text) separator texts
 
@@ -89,9 +93,11 @@ module _ (heap : PlainHeap) (write : Bool → Val → Walk (List ℕ)) where
   tuple_text (v ∷ []) = texts_between (codes "(") (codes ",)") (v ∷ [])
   tuple_text vs = texts_between (codes "(") (codes ")") vs
 
+  -- the text of a dict's pair
   abbrev pub pair_text : Val × Val → Walk (List ℕ)
   pair_text pair = and_then (write false (pair.0)) (λ key. walk_map (λ v. key ++ codes ": " ++ v) (write false (pair.1)))
 
+  -- the text of a dict
   abbrev pub dict_text : List (Val × Val) → Walk (List ℕ)
   dict_text pairs = walk_map (λ texts. codes "{" ++ joined (codes ", ") texts ++ codes "}") (walk_all pair_text pairs)
 
@@ -101,10 +107,12 @@ module _ (heap : PlainHeap) (write : Bool → Val → Walk (List ℕ)) where
   exception_str args (v ∷ []) = write true v
   exception_str args vs = write false args
 
+  -- the str or the repr of an exception
   abbrev pub exception_text : Bool → Kind → Val → Walk (List ℕ)
   exception_text true kind args = exception_str args (items_of_tuple (shown heap args))
   exception_text false kind args = texts_between (kind_name kind ++ codes "(") (codes ")") (items_of_tuple (shown heap args))
 
+  -- the text of an object
   abbrev pub object_text : Bool → Option (Object Val (List ℕ)) → Walk (List ℕ)
   object_text raw (Some (ListObject items room)) = texts_between (codes "[") (codes "]") items
   object_text raw (Some (TupleObject items)) = tuple_text items
@@ -117,6 +125,7 @@ module _ (heap : PlainHeap) (write : Bool → Val → Walk (List ℕ)) where
   object_text raw (Some (ModuleObject name names)) = answers (codes "<module '" ++ name ++ codes "'>")
   object_text raw None = answers []
 
+  -- the text of a value, by those of the values in it
   abbrev pub written : Bool → Val → Walk (List ℕ)
   written raw Nil = answers (codes "None")
   written raw (Truth b) = answers (truth_text b)
@@ -127,13 +136,15 @@ module _ (heap : PlainHeap) (write : Bool → Val → Walk (List ℕ)) where
   written raw (Built b) = answers (builtin_text b)
   written raw (At n) = object_text raw (object heap.objects n)
 
--- a text that may go so many levels deep
+-- a text that may go that number of levels deep
 abbrev pub write_within : PlainHeap → ℕ → Bool → Val → Walk (List ℕ)
 write_within heap zero raw v = goes_too_deep
 write_within heap (suc depth) raw v = visit (written heap (write_within heap depth) raw v)
 
+-- what str and print write of a value
 unfoldable pub str_of : PlainHeap → Val → Walk (List ℕ)
 str_of heap v = write_within heap MAX_WALK_DEPTH true v
 
+-- what repr writes of a value
 unfoldable pub repr_of : PlainHeap → Val → Walk (List ℕ)
 repr_of heap v = write_within heap MAX_WALK_DEPTH false v

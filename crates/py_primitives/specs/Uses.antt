@@ -19,10 +19,12 @@ use Rattle.py_primitives.specs.Operators.{with_key_of}
 -- indexes
 -- =======
 
+-- what follows at a place that is there
 abbrev pub at_found : {A : Type 0} → PlainHeap → Val → Option ℕ → (ℕ → Outcome A) → Outcome A
 at_found heap v (Some at) next = next at
 at_found heap v None next = raises (OutOfRange (type_name heap v)) heap
 
+-- what follows at the place that an index names, by what a program can see of it
 abbrev pub at_shown : {A : Type 0} → PlainHeap → Val → Val → Shown → (ℕ → Outcome A) → Outcome A
 at_shown heap v index (Number z) next = at_found heap v (place_at (length_of heap v) z) next
 at_shown heap v index _ next = raises (NotAnIndex (type_name heap v) (type_name heap index)) heap
@@ -31,6 +33,7 @@ at_shown heap v index _ next = raises (NotAnIndex (type_name heap v) (type_name 
 abbrev pub at_place : {A : Type 0} → PlainHeap → Val → Val → (ℕ → Outcome A) → Outcome A
 at_place heap v index next = at_shown heap v index (shown heap index) next
 
+-- what follows on a value that was found at a key
 abbrev pub at_key : {A : Type 0} → PlainHeap → Val → Option Val → (Val → Outcome A) → Outcome A
 at_key heap key (Some v) next = next v
 at_key heap key None next = raises (NoKey key) heap
@@ -39,6 +42,7 @@ at_key heap key None next = raises (NoKey key) heap
 abbrev pub of_key : {A : Type 0} → PlainHeap → List (Val × Val) → Val → (Val → Outcome A) → Outcome A
 of_key heap pairs key next = with_key_of heap key (at_key heap key (value_of_key heap pairs key) next)
 
+-- the item at an index, by what a program can see of the object
 abbrev pub shown_at : PlainHeap → Val → Val → Shown → Outcome Val
 shown_at heap v index (Pairs pairs) = of_key heap pairs index (λ found. gives found heap)
 shown_at heap v index (Text bytes) = at_place heap v index (item_of heap v)
@@ -47,6 +51,7 @@ shown_at heap v index (Items items) = at_place heap v index (item_of heap v)
 shown_at heap v index (Range start stop step) = at_place heap v index (item_of heap v)
 shown_at heap v index _ = raises (NotSubscriptable (type_name heap v)) heap
 
+-- the item of a value at an index
 abbrev pub get_item : PlainHeap → Val → Val → Outcome Val
 get_item heap v index = shown_at heap v index (shown heap v)
 
@@ -58,19 +63,23 @@ put_pair heap dict key v =
     then gives Nil (with_pairs heap dict pairs)
     else is_full heap (dict_growth heap dict (length pairs)) 0
 
+-- the item at an index is set, by what a program can see of the object
 abbrev pub set_shown : PlainHeap → Val → Val → Val → Shown → Outcome Val
 set_shown heap (At n) index v (Pairs pairs) = with_key_of heap index (put_pair heap n index v)
 set_shown heap (At n) index v (Items items) = at_place heap (At n) index (λ at. gives Nil (with_list heap n (slice_set items at v)))
 set_shown heap o index v _ = raises (NotAssignable (type_name heap o)) heap
 
+-- the item of a value at an index is set
 abbrev pub set_item : PlainHeap → Val → Val → Val → Outcome Val
 set_item heap o index v = set_shown heap o index v (shown heap o)
 
+-- the item at an index is deleted, by what a program can see of the object
 abbrev pub delete_shown : PlainHeap → Val → Val → Shown → Outcome Val
 delete_shown heap (At n) index (Pairs pairs) = of_key heap pairs index (λ found. gives Nil (with_dict heap n (without_key heap pairs index)))
 delete_shown heap (At n) index (Items items) = at_place heap (At n) index (λ at. gives Nil (with_list heap n (remove items at)))
 delete_shown heap o index _ = raises (NotDeletable (type_name heap o)) heap
 
+-- the item of a value at an index is deleted
 abbrev pub delete_item : PlainHeap → Val → Val → Outcome Val
 delete_item heap o index = delete_shown heap o index (shown heap o)
 
@@ -83,14 +92,17 @@ pub data Attribute : Type 0 where
   Method : Builtin → Attribute
   Absent : Attribute
 
+-- an attribute that is a value, if it is there
 abbrev pub found_value : Option Val → Attribute
 found_value (Some v) = Found v
 found_value None = Absent
 
+-- an attribute that is a method, if it is there
 abbrev pub found_method : Option Builtin → Attribute
 found_method (Some method) = Method method
 found_method None = Absent
 
+-- the attribute of an object
 abbrev pub object_attribute : PlainHeap → List ℕ → Option (Object Val (List ℕ)) → Attribute
 object_attribute heap name (Some (ListObject items room)) = found_method (named list_methods name)
 object_attribute heap name (Some (DictObject pairs room)) = found_method (named dict_methods name)
@@ -99,15 +111,18 @@ object_attribute heap name (Some (ExceptionObject kind args file line own_name))
 object_attribute heap name (Some (ModuleObject own_name (Some names))) = found_value (value_of_key heap (pairs_at heap names) (Str name))
 object_attribute heap name _ = Absent
 
+-- the attribute of a value
 abbrev pub attribute : PlainHeap → Val → List ℕ → Attribute
 attribute heap (Str bytes) name = found_method (named str_methods name)
 attribute heap (Built builtins.Port) name = found_value (option_map Built (named port_calls name))
 attribute heap (At n) name = object_attribute heap name (object heap.objects n)
 attribute heap _ name = Absent
 
+-- the fault that a value has no such attribute
 abbrev pub no_attribute : {A : Type 0} → PlainHeap → Val → List ℕ → Outcome A
 no_attribute heap v name = raises (NoAttribute (type_name heap v) name) heap
 
+-- the value of an attribute
 abbrev pub gives_attribute : PlainHeap → Val → List ℕ → Attribute → Outcome Val
 gives_attribute heap v name (Found found) = gives found heap
 gives_attribute heap v name (Method method) = making heap (MethodObject v method)
@@ -117,6 +132,7 @@ gives_attribute heap v name Absent = no_attribute heap v name
 abbrev pub get_attr : PlainHeap → Val → List ℕ → Outcome Val
 get_attr heap v name = gives_attribute heap v name (attribute heap v name)
 
+-- the attribute of an object is set
 abbrev pub set_in : PlainHeap → Val → List ℕ → Val → Option (Object Val (List ℕ)) → Outcome Val
 set_in heap o name v (Some (ModuleObject own_name (Some names))) = put_pair heap names (Str name) v
 set_in heap o name v _ = no_attribute heap o name
@@ -129,11 +145,12 @@ set_attr heap o name v = no_attribute heap o name
 -- unpacking
 -- =========
 
+-- the items of an iterable, where there are `want` of them
 abbrev pub unpack_items : PlainHeap → ℕ → Val → List Val → Outcome (List Val)
 unpack_items heap want v items =
     if nat_lt (length items) want then raises (UnpacksMore (length items)) heap
     else (if nat_lt want (length items) then raises (UnpacksFewer want) heap else kept_items heap items (shown heap v))
 
--- so many items of an iterable, which has no others
+-- the `want` items of an iterable, which has no others
 abbrev pub unpack : PlainHeap → ℕ → Val → Outcome (List Val)
 unpack heap want v = iterating heap v (unpack_items heap want v)

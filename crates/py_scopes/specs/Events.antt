@@ -43,21 +43,25 @@ expr_step (Expr-F.Attr object name) = object
 expr_step (Expr-F.Index object index) = object ++ index
 expr_step (Expr-F.Call callee args keys) = callee ++ (flat_map (λ arg. arg) args ++ flat_map (λ key. key.1) keys)
 
+-- what an expression does with names: it uses them
 abbrev pub acts_of : Expr → List Act
 acts_of = fold-Expr (List Act) expr_step
 
 -- ---- acts of a target
 
+-- the acts of an expression, if there is one
 abbrev pub acts_of_option : Option Expr → List Act
 acts_of_option None = []
 acts_of_option (Some e) = acts_of e
 
+-- what a target does with names, by its parts
 abbrev pub target_step : Target-F (List Act) → List Act
 target_step (Target-F.Name name) = Bind name ∷ []
 target_step (Target-F.Attr object name) = acts_of object
 target_step (Target-F.Index object index) = acts_of object ++ acts_of index
 target_step (Target-F.Unpack targets) = flat_map (λ t. t) targets
 
+-- what a target does with names: it binds its name, or uses those of its object
 abbrev pub target_acts : Target → List Act
 target_acts = fold-Target (List Act) target_step
 
@@ -76,9 +80,11 @@ first_part (b ∷ bytes) = if nat_eq b 46 then [] else b ∷ first_part bytes
 abbrev pub bound_by : Alias → List ℕ
 bound_by alias = elim alias.bound [ None ↦ first_part alias.name | Some name ↦ name ]
 
+-- the bindings of what is imported
 abbrev pub import_acts : List Alias → List Act
 import_acts names = map (λ (alias : Alias). Bind (bound_by alias)) names
 
+-- the binding of a name, if there is one
 abbrev pub optional_name : Option (List ℕ) → List Act
 optional_name None = []
 optional_name (Some name) = Bind name ∷ []
@@ -91,6 +97,7 @@ Part = Bool → List Event
 abbrev pub body : Bool → List Part → List Event
 body looped parts = flat_map (λ (part : Part). part looped) parts
 
+-- the events of a body, if there is one
 abbrev pub optional_body : Bool → Option (List Part) → List Event
 optional_body looped None = []
 optional_body looped (Some parts) = body looped parts
@@ -127,22 +134,28 @@ kind_step (StmtKind-F.Try inner handlers rest last) line looped =
 kind_step (StmtKind-F.Def name params inner) line looped =
     at line (Bind name ∷ flat_map (λ (param : Param). acts_of_option param.default) params) ++ function line params inner
 
+-- the events of a branch: those of its test and of its body
 abbrev pub branch_step : Branch-F (ℕ → Part) Part Part Part → Part
 branch_step branch looped = at branch.line (acts_of branch.test) ++ body looped branch.body
 
+-- the events of an except clause: those of its test, its name and its body
 abbrev pub handler_step : Handler-F (ℕ → Part) Part Part Part → Part
 handler_step handler looped =
     at handler.line (acts_of_option handler.test ++ optional_name handler.name) ++ body looped handler.body
 
+-- the events of a statement, in its line
 abbrev pub stmt_step : Stmt-F (ℕ → Part) Part Part Part → Part
 stmt_step stmt looped = stmt.kind stmt.line looped
 
+-- the events of a statement with those in it
 abbrev pub stmt_events : Stmt → Part
 stmt_events = fold-Stmt (ℕ → Part) Part Part Part kind_step branch_step handler_step stmt_step
 
+-- the events of a branch with those in it
 abbrev pub branch_events : Branch → Part
 branch_events = fold-Branch (ℕ → Part) Part Part Part kind_step branch_step handler_step stmt_step
 
+-- the events of an except clause with those in it
 abbrev pub handler_events : Handler → Part
 handler_events = fold-Handler (ℕ → Part) Part Part Part kind_step branch_step handler_step stmt_step
 

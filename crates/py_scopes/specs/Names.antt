@@ -22,6 +22,7 @@ added names name = if has name names then names else names ++ name ∷ []
 abbrev pub Table : Type 0
 Table = ℕ → List (List ℕ)
 
+-- the bytes of a name
 abbrev pub bytes_of : Vec ℕ Global → List ℕ
 bytes_of key = key.items
 

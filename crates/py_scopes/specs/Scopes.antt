@@ -20,6 +20,7 @@ pub record Mark : Type 0 where
   pub event : Event
   pub around : List ℕ
 
+-- an event with the functions around it
 abbrev pub mark : Event → List ℕ → Mark
 mark event around = record { event = event; around = around }
 
@@ -28,10 +29,12 @@ abbrev pub next_behind : Act → ℕ → ℕ
 next_behind Enter next = suc next
 next_behind _ next = next
 
+-- the functions around a function that ends
 abbrev pub outer : List ℕ → List ℕ
 outer [] = []
 outer (f ∷ around) = around
 
+-- the functions around what follows an event
 abbrev pub around_behind : Act → ℕ → List ℕ → List ℕ
 around_behind Enter next around = next ∷ around
 around_behind Leave next around = outer around
@@ -43,6 +46,7 @@ marks_from next around [] = []
 marks_from next around (e ∷ events) =
     mark e around ∷ marks_from (next_behind e.act next) (around_behind e.act next around) events
 
+-- the events of a source with the functions around them
 abbrev pub marks : List Event → List Mark
 marks = marks_from 0 []
 
@@ -108,6 +112,7 @@ abbrev pub is_late : Table → List ℕ → List ℕ → Bool
 is_late occurring name [] = false
 is_late occurring name (f ∷ around) = has name (occurring f)
 
+-- a fault in that line, which names this word
 abbrev pub fault : SourceCode → ℕ → List ℕ → Option SourceFault
 fault code line name = Some (record { code = code; line = line; word = name })
 
@@ -135,11 +140,13 @@ pub record IsFirst (ms : List Mark) (f : SourceFault) : Type 0 where
   pub here : fault_at ms place ≡ Some f
   pub none_before : (n : ℕ) → n < place → fault_at ms n ≡ None
 
+-- no event is a misuse
 abbrev pub AreFaultless : List Mark → Type 0
 AreFaultless ms = (n : ℕ) → fault_at ms n ≡ None
 
 -- ---- a source
 
+-- the events of a tree with the functions around them
 abbrev pub marks_of : Module → List Mark
 marks_of tree = marks (events_of tree)
 
@@ -147,8 +154,10 @@ marks_of tree = marks (events_of tree)
 abbrev pub slots_of : Module → List (List (List ℕ))
 slots_of tree = let ms = marks_of tree in locals_below (own Bound ms) (own Declared ms) (functions (events_of tree))
 
+-- the first misuse of a name in a source
 abbrev pub IsFirstFault : Module → SourceFault → Type 0
 IsFirstFault tree f = IsFirst (marks_of tree) f
 
+-- a source misuses no name
 abbrev pub IsFaultless : Module → Type 0
 IsFaultless tree = AreFaultless (marks_of tree)

@@ -11,6 +11,7 @@ use indexmap::IndexSet;
 use mpy_base::{Items, NoMemory, SourceCode, SourceFault, Text};
 use std::alloc::Global;
 
+/// Is the name local to this function: bound in it, and not declared global?
 fn is_local(
     bound: &[IndexSet<Vec<u8>>],
     declared: &[IndexSet<Vec<u8>>],
@@ -42,6 +43,7 @@ fn is_found(
     false
 }
 
+/// Is the name, in the innermost of these functions, one that is local to a function around it?
 fn is_captured(
     bound: &[IndexSet<Vec<u8>>],
     declared: &[IndexSet<Vec<u8>>],
@@ -59,12 +61,14 @@ fn is_captured(
         && is_found(bound, declared, name, &around[1..])
 }
 
+/// Has the name occurred in the innermost of these functions before?
 fn is_late(seen: &[IndexSet<Vec<u8>>], name: &[u8], around: &[usize]) -> bool
     ensures { result ≡ late_test (names_in seen.now) name.now around.now }
 {
     !around.is_empty() && is_in(seen, around[0], name)
 }
 
+/// A fault that names this name.
 fn fault(
     alloc: Global,
     code: SourceCode,
@@ -156,7 +160,7 @@ fn keep(
     Ok(())
 }
 
-/// A function's locals.
+/// The locals of a function: the names bound in it that it doesn't declare global.
 fn locals(
     alloc: Global,
     keys: &[Vec<u8>],

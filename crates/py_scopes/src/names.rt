@@ -20,6 +20,7 @@ pub enum Tells {
     Occurring,
 }
 
+/// The name that an act tells of those that are meant, if it does.
 fn told(tells: Tells, act: &Act) -> Option<&[u8]>
     ensures { option_copied result ≡ names_told tells act.now }
 {

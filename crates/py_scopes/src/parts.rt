@@ -13,6 +13,7 @@ use mpy_base::{NoMemory, Text};
 use py_tree::{Alias, Expr, Param, Target};
 use std::alloc::Global;
 
+/// The uses of names in an expression, if there is one.
 pub(crate) fn option_uses(
     alloc: Global,
     events: &mut Vec<Event>,
@@ -27,6 +28,7 @@ pub(crate) fn option_uses(
     }
 }
 
+/// The binding of a name, if there is one.
 pub(crate) fn name_binds(
     alloc: Global,
     events: &mut Vec<Event>,
@@ -41,6 +43,7 @@ pub(crate) fn name_binds(
     }
 }
 
+/// The declarations of `global` names.
 pub(crate) fn declares(
     alloc: Global,
     events: &mut Vec<Event>,
@@ -76,6 +79,7 @@ fn bound_name(alias: &Alias) -> &[u8]
     }
 }
 
+/// The bindings of what is imported.
 pub(crate) fn imports(
     alloc: Global,
     events: &mut Vec<Event>,
@@ -94,6 +98,7 @@ pub(crate) fn imports(
     Ok(())
 }
 
+/// The uses of names in the defaults of parameters.
 pub(crate) fn defaults_use(
     alloc: Global,
     events: &mut Vec<Event>,
@@ -108,6 +113,7 @@ pub(crate) fn defaults_use(
     Ok(())
 }
 
+/// The bindings of parameters.
 pub(crate) fn params_bind(
     alloc: Global,
     events: &mut Vec<Event>,
@@ -126,6 +132,7 @@ pub(crate) fn params_bind(
     Ok(())
 }
 
+/// The bindings of an assignment to several targets, and then the uses in its value.
 pub(crate) fn targets_take(
     alloc: Global,
     events: &mut Vec<Event>,
@@ -139,6 +146,7 @@ pub(crate) fn targets_take(
     uses(alloc, events, line, value)
 }
 
+/// The bindings of an assignment to one target, and then the uses in its value.
 pub(crate) fn target_takes(
     alloc: Global,
     events: &mut Vec<Event>,

@@ -20,6 +20,7 @@ impl Model for NameSlots {
 }
 
 impl NameSlots {
+    /// The slots of these functions' locals, a list for each.
     pub(crate) fn new(functions: Vec<Items<Text>>) -> NameSlots
         ensures { result ≡ functions.items }
     {

@@ -14,6 +14,7 @@ use mpy_base::{NoMemory, Text};
 use py_tree::{Branch, Handler, Param, Stmt, StmtKind};
 use std::alloc::Global;
 
+/// Adds the events of a statement, in a loop or not.
 #[cycle(statements)]
 fn statement(
     alloc: Global,
@@ -90,6 +91,7 @@ fn statement(
     }
 }
 
+/// The events of statements, one behind another; `looped` says whether a loop is around them.
 #[cycle(statements)]
 pub(crate) fn statements(
     alloc: Global,
@@ -105,6 +107,7 @@ pub(crate) fn statements(
     Ok(())
 }
 
+/// Adds the events of branches: the tests and bodies of each.
 #[cycle(statements)]
 fn branch_bodies(
     alloc: Global,
@@ -121,6 +124,7 @@ fn branch_bodies(
     Ok(())
 }
 
+/// Adds the events of clauses.
 #[cycle(statements)]
 fn handler_bodies(
     alloc: Global,
@@ -138,6 +142,7 @@ fn handler_bodies(
     Ok(())
 }
 
+/// Adds the events of a function's own text, from its beginning to its end.
 #[cycle(statements)]
 fn function_body(
     alloc: Global,

@@ -10,6 +10,7 @@ use mpy_base::{NoMemory, Text};
 use py_tree::Target;
 use std::alloc::Global;
 
+/// The bindings and uses of a target.
 #[cycle(targets)]
 pub(crate) fn target_binds(
     alloc: Global,
@@ -30,6 +31,7 @@ pub(crate) fn target_binds(
     }
 }
 
+/// The bindings and uses of targets, one behind another.
 #[cycle(targets)]
 pub(crate) fn targets_bind(
     alloc: Global,

@@ -17,6 +17,7 @@ pub(crate) fn put(events: &mut Vec<Event>, line: u32, act: Act) -> Result<(), No
     Ok(())
 }
 
+/// The uses of names in an expression, as they stand in the text.
 #[cycle(uses)]
 pub(crate) fn uses(
     alloc: Global,
@@ -62,6 +63,7 @@ pub(crate) fn uses(
     }
 }
 
+/// Adds the uses of names in these expressions.
 #[cycle(uses)]
 fn uses_all(
     alloc: Global,
@@ -77,6 +79,7 @@ fn uses_all(
     Ok(())
 }
 
+/// Adds the uses of names in the keys and values of a display.
 #[cycle(uses)]
 fn uses_pairs(
     alloc: Global,
@@ -93,6 +96,7 @@ fn uses_pairs(
     Ok(())
 }
 
+/// Adds the uses of names in the operands of a comparison but the first.
 #[cycle(uses)]
 fn uses_compared(
     alloc: Global,
@@ -108,6 +112,7 @@ fn uses_compared(
     Ok(())
 }
 
+/// Adds the uses of names in keyword arguments.
 #[cycle(uses)]
 fn uses_keys(
     alloc: Global,

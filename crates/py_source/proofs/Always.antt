@@ -27,7 +27,7 @@ use Rattle.py_scopes.specs.Scopes.{slots_of, Mark, fault_at, IsFirst, AreFaultle
 -- nesting
 -- =======
 
--- no front of at most so many tokens nests too deep
+-- no front of at most `i` tokens nests too deep
 abbrev NestsWithin : List Token → ℕ → Type 0
 NestsWithin tokens i = (count : ℕ) → count ≤ i → nest (take count tokens) ≤ MAX_NEST
 

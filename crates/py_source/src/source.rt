@@ -1,4 +1,4 @@
-//! Reading a source.
+//! Reading a source: its tokens, its nesting, its tree and its names, up to the first fault.
 
 ghost use Rattle.std.specs.Prelude.{◌≡◌, ◌≤◌, ◌⊎◌, ℕ, List, Err, IfOk, MatchResult};
 ghost use Rattle.mpy_base.specs.declared.refused.Refused.TheVariants as refused;

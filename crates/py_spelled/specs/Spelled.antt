@@ -6,6 +6,7 @@ use Rattle.py_meaning.specs.Tree.{Name, Expr, Constant, Named, Unary, Not, Binar
 
 -- ---- names and expressions
 
+-- each byte is below 128
 abbrev pub IsAscii : List ℕ → Type 0
 IsAscii text = All (λ byte. byte < 128) text
 
@@ -73,14 +74,17 @@ abbrev mutual
   TargetsSpelled (Only t) = TargetSpelled t
   TargetsSpelled (Then t ts) = TargetSpelled t × TargetsSpelled ts
 
+-- a name that may be missing is ASCII
 abbrev pub IsAsciiOption : Option Name → Type 0
 IsAsciiOption None = Unit {0}
 IsAsciiOption (Some name) = IsAscii name
 
+-- what is imported, and the names that it is bound to, are ASCII
 abbrev pub AliasesSpelled : List Alias → Type 0
 AliasesSpelled [] = Unit {0}
 AliasesSpelled (alias ∷ aliases) = (IsAscii alias.name × IsAsciiOption alias.bound) × AliasesSpelled aliases
 
+-- each name is ASCII
 abbrev pub AllAscii : List Name → Type 0
 AllAscii [] = Unit {0}
 AllAscii (name ∷ names) = IsAscii name × AllAscii names
@@ -133,6 +137,7 @@ abbrev mutual
 
 -- ---- functions
 
+-- a function: its name, its parameters and its body
 pub record FunctionSpelled (f : Function) : Type 0 where
   pub name : IsAscii f.name
   pub params : AllAscii f.params
@@ -142,6 +147,7 @@ pub record FunctionSpelled (f : Function) : Type 0 where
   pub from_one : 1 ≤ first
   pub body : BlockSpelled first last f.body
 
+-- each function: its name, its parameters and its body
 abbrev pub FunctionsSpelled : List Function → Type 0
 FunctionsSpelled [] = Unit {0}
 FunctionsSpelled (f ∷ fs) = FunctionSpelled f × FunctionsSpelled fs

@@ -59,6 +59,7 @@ pub record Message : Type 0 where
 
 -- ---- the rules
 
+-- small: a statement that has no statements in it
 pub data Small : Type 0 where
   -- tests
   tests : Members → Small
@@ -92,37 +93,46 @@ pub data Line : Type 0 where
 
 -- ---- the tokens of a reading, and then these
 
+-- the tokens of a name, and then these
 abbrev pub name_text : Name → List Token → List Token
 name_text n rest = at n.place (tok.Name n.text) ∷ rest
 
+-- the tokens of a dotted name, and then these
 abbrev pub dotted_text : Dotted → List Token → List Token
 dotted_text (Dotted.last n) rest = name_text n rest
 dotted_text (dotted n l d) rest = name_text n (at l (tok.Op op.Dot) ∷ dotted_text d rest)
 
+-- the tokens of a path, with its `as` and a name if it has them, and then these
 abbrev pub renamed_text : {Path : Type 0} → (Path → List Token → List Token) → Renamed Path → List Token → List Token
 renamed_text text (same p) rest = text p rest
 renamed_text text (renamed p l n) rest = text p (at l (tok.Word word.As) ∷ name_text n rest)
 
+-- the tokens of items with commas between, and then these
 abbrev pub series_text : {Item : Type 0} {bracketed : Bool} → (Item → List Token → List Token) → Series Item bracketed → List Token → List Token
 series_text text (Series.last x) rest = text x rest
 series_text text (last_comma x l) rest = text x (at l (tok.Op op.Comma) ∷ rest)
 series_text text (comma x l xs) rest = text x (at l (tok.Op op.Comma) ∷ series_text text xs rest)
 
+-- the tokens of an item that may be missing, and then these
 abbrev pub option_text : {Item : Type 0} → (Item → List Token → List Token) → Option Item → List Token → List Token
 option_text text None rest = rest
 option_text text (Some x) rest = text x rest
 
+-- the tokens of an assignment, and then these
 abbrev pub assigned_text : Assigned → List Token → List Token
 assigned_text (value gs l m) rest = aims_text gs (at l (tok.Op op.Assign) ∷ members_text m rest)
 assigned_text (again gs l a) rest = aims_text gs (at l (tok.Op op.Assign) ∷ assigned_text a rest)
 
+-- the tokens of what `from` imports, and then these
 abbrev pub imported_text : Imported → List Token → List Token
 imported_text (bare ns) rest = series_text (renamed_text name_text) ns rest
 imported_text (round l ns r) rest = at l (tok.Op op.OpenParen) ∷ series_text (renamed_text name_text) ns (at r (tok.Op op.CloseParen) ∷ rest)
 
+-- the tokens of the message of an assertion, and then these
 abbrev pub message_text : Message → List Token → List Token
 message_text m rest = at m.place (tok.Op op.Comma) ∷ test_text m.test rest
 
+-- the tokens of a small statement, and then these
 abbrev pub small_text : Small → List Token → List Token
 small_text (tests m) rest = members_text m rest
 small_text (assigned a) rest = assigned_text a rest
@@ -138,6 +148,7 @@ small_text (assert l t m) rest = at l (tok.Word word.Assert) ∷ test_text t (op
 small_text (import l ns) rest = at l (tok.Word word.Import) ∷ series_text (renamed_text dotted_text) ns rest
 small_text (from l d r ns) rest = at l (tok.Word word.From) ∷ dotted_text d (at r (tok.Word word.Import) ∷ imported_text ns rest)
 
+-- the tokens of a line, and then these
 abbrev pub line_text : Line → List Token → List Token
 line_text (Line.last one n) rest = small_text one (at n tok.Newline ∷ rest)
 line_text (last_semicolon one l n) rest = small_text one (at l (tok.Op op.Semicolon) ∷ at n tok.Newline ∷ rest)
@@ -150,33 +161,41 @@ abbrev pub dotted_tree : Dotted → List ℕ
 dotted_tree (Dotted.last n) = n.text
 dotted_tree (dotted n l d) = n.text ++ dot ∷ dotted_tree d
 
+-- what is imported, and the name that it is bound to if `as` gives one
 abbrev pub renamed_tree : {Path : Type 0} → (Path → List ℕ) → Renamed Path → Alias
 renamed_tree tree (same p) = record { name = tree p; bound = None }
 renamed_tree tree (renamed p l n) = record { name = tree p; bound = Some n.text }
 
+-- the items
 abbrev pub series_list : {Item A : Type 0} {bracketed : Bool} → (Item → A) → Series Item bracketed → List A
 series_list tree (Series.last x) = tree x ∷ []
 series_list tree (last_comma x l) = tree x ∷ []
 series_list tree (comma x l xs) = tree x ∷ series_list tree xs
 
+-- the text of a name
 abbrev pub name_tree : Name → List ℕ
 name_tree n = n.text
 
+-- the targets of an assignment, the leftmost first
 abbrev pub assigned_targets : Assigned → List Target
 assigned_targets (value gs l m) = aims_tree gs ∷ []
 assigned_targets (again gs l a) = aims_tree gs ∷ assigned_targets a
 
+-- the value of an assignment
 abbrev pub assigned_value : Assigned → Expr
 assigned_value (value gs l m) = members_tree m
 assigned_value (again gs l a) = assigned_value a
 
+-- what `from` imports
 abbrev pub imported_list : Imported → List Alias
 imported_list (bare ns) = series_list (renamed_tree name_tree) ns
 imported_list (round l ns r) = series_list (renamed_tree name_tree) ns
 
+-- the message of an assertion
 abbrev pub message_tree : Message → Expr
 message_tree m = test_tree m.test
 
+-- a small statement
 abbrev pub small_tree : Small → StmtKind
 small_tree (tests m) = s.Expr (members_tree m)
 small_tree (assigned a) = s.Assign (assigned_targets a) (assigned_value a)
@@ -196,6 +215,7 @@ small_tree (from l d r ns) = s.From (dotted_tree d) (imported_list ns)
 abbrev pub statement_tree : Small → Stmt
 statement_tree one = roll-Stmt (record { line = line_at (small_text one []); kind = small_tree one })
 
+-- the statements of a line
 abbrev pub line_tree : Line → List Stmt
 line_tree (Line.last one n) = statement_tree one ∷ []
 line_tree (last_semicolon one l n) = statement_tree one ∷ []

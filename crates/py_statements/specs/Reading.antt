@@ -67,9 +67,11 @@ abbrev pub line_at : List Token → ℕ
 line_at [] = 0
 line_at (t ∷ ts) = t.line
 
+-- the line of the next token, which stays
 abbrev pub line : Parser ℕ
 line = λ i. Ok (line_at i.ahead, i)
 
+-- the statement of the kind in that line
 abbrev pub stmt_of : ℕ → StmtKind → Stmt
 stmt_of at kind = roll-Stmt (record { line = at; kind = kind })
 
@@ -77,11 +79,13 @@ stmt_of at kind = roll-Stmt (record { line = at; kind = kind })
 abbrev pub is_closed : Bool → Input → Bool
 is_closed bracketed i = if bracketed then sees (mark.Op op.CloseParen) i else false
 
+-- does the closing bracket come next, where there was an opening one?
 abbrev pub closes : Bool → Parser Bool
 closes bracketed = λ i. Ok (is_closed bracketed i, i)
 
 -- items with commas between, and in brackets also behind the last
 module _ {A : Type 0} (item : Parser A) (bracketed : Bool) where
+  -- item { "," item }, `n` items at most, behind those that were found
   unfoldable pub series_from : ℕ → List A → Parser (List A)
   series_from zero found = refuse
   series_from (suc n) found = do
@@ -91,11 +95,13 @@ module _ {A : Type 0} (item : Parser A) (bracketed : Bool) where
       ends ← closes bracketed
       if ends then pure (found ++ x ∷ []) else series_from n (found ++ x ∷ [])) else pure (found ++ x ∷ [])
 
+  -- item { "," item }, and in brackets [ "," ] behind the last
   unfoldable pub series : Parser (List A)
   series = λ i. series_from (turns i) [] i
 
 -- ---- names
 
+-- { "." NAME }, `n` at most, behind the text that was found
 unfoldable pub dotted_from : ℕ → List ℕ → Parser (List ℕ)
 dotted_from zero found = pure found
 dotted_from (suc n) found = do
@@ -104,6 +110,7 @@ dotted_from (suc n) found = do
     part ← name
     dotted_from n (found ++ dot ∷ part)) else pure found
 
+-- { "." NAME } behind the first name
 unfoldable pub all_dotted : List ℕ → Parser (List ℕ)
 all_dotted first = λ i. dotted_from (turns i) first i
 
@@ -111,10 +118,12 @@ all_dotted first = λ i. dotted_from (turns i) first i
 unfoldable pub dotted : Parser (List ℕ)
 dotted = name >>= all_dotted
 
+-- dotted or NAME
 abbrev pub path : Bool → Parser (List ℕ)
 path true = dotted
 path false = name
 
+-- what is imported, and the name that it is bound to if one is given
 abbrev pub alias_of : List ℕ → Option (List ℕ) → Alias
 alias_of text bound = record { name = text; bound = bound }
 
@@ -127,6 +136,7 @@ alias with_dots = do
 
 -- ---- tests and assignments
 
+-- tests behind targets are the value of an assignment, and tests alone are an expression
 abbrev pub concluded : List Target → Expr → StmtKind
 concluded [] x = s.Expr x
 concluded (t ∷ ts) x = s.Assign (t ∷ ts) x
@@ -141,13 +151,16 @@ assigned depth (suc n) found x = do
     y ← all_tests
     assigned depth n (found ++ to ∷ []) y) else pure (concluded found x)
 
+-- { "=" tests } behind the first tests
 unfoldable pub all_assigned : ℕ → Expr → Parser StmtKind
 all_assigned depth x = λ i. assigned depth (turns i) [] x i
 
+-- AUG tests behind the target
 abbrev pub augmented_by : Target → Option BinaryOp → Parser StmtKind
 augmented_by to None = refuse
 augmented_by to (Some how) = take_token >> s.Aug to how <$> all_tests
 
+-- one AUG tests
 unfoldable pub augmented : Parser StmtKind
 augmented = do
   to ← one_target
@@ -167,23 +180,29 @@ expression = λ i. (do
 abbrev pub alone : StmtKind → Parser StmtKind
 alone kind = take_token >> pure kind
 
+-- "del" gone { "," gone }
 unfoldable pub deletion : Parser StmtKind
 deletion = take_token >> s.Del <$> series one_gone false
 
+-- [ item ], in front of the end of a small statement
 unfoldable pub optional : {A : Type 0} → Parser A → Parser (Option A)
 optional item = do
   kind ← peek
   if ends_small kind then pure None else Some <$> item
 
+-- "return" [ tests ]
 unfoldable pub returned : Parser StmtKind
 returned = take_token >> s.Return <$> optional all_tests
 
+-- "raise" [ test ]
 unfoldable pub raised : Parser StmtKind
 raised = take_token >> s.Raise <$> optional one_test
 
+-- "global" NAME { "," NAME }
 unfoldable pub globals : Parser StmtKind
 globals = take_token >> s.Global <$> series name false
 
+-- "assert" test [ "," test ]
 unfoldable pub assertion : Parser StmtKind
 assertion = do
   take_token
@@ -191,6 +210,7 @@ assertion = do
   more ← eat (mark.Op op.Comma)
   if more then (λ message. s.Assert test (Some message)) <$> one_test else pure (s.Assert test None)
 
+-- "import" das { "," das }
 unfoldable pub imports : Parser StmtKind
 imports = take_token >> s.Import <$> series (alias true) false
 
@@ -201,6 +221,7 @@ imported = do
   names ← series (alias false) bracketed
   if bracketed then (expect (mark.Op op.CloseParen) >> pure names) else pure names
 
+-- "from" dotted "import" ..
 unfoldable pub imports_from : Parser StmtKind
 imports_from = do
   take_token
@@ -208,6 +229,7 @@ imports_from = do
   expect (mark.Word word.Import)
   s.From text <$> imported
 
+-- the small statement that begins with a token of the kind
 abbrev pub small_by : Tok → Parser StmtKind
 small_by (tok.Word word.Del) = deletion
 small_by (tok.Word word.Pass) = alone s.Pass
@@ -221,6 +243,7 @@ small_by (tok.Word word.Import) = imports
 small_by (tok.Word word.From) = imports_from
 small_by _ = expression
 
+-- small
 unfoldable pub small : Parser StmtKind
 small = peek >>= small_by
 
@@ -232,6 +255,7 @@ statement = do
 
 -- ---- a line
 
+-- small { ";" small } [ ";" ] Newline, `n` statements at most, behind those that were found
 unfoldable pub statements : ℕ → List Stmt → Parser (List Stmt)
 statements zero found = refuse
 statements (suc n) found = do
@@ -240,5 +264,6 @@ statements (suc n) found = do
   ends ← eat mark.Newline
   if ends then pure (found ++ one ∷ []) else (if goes_on then statements n (found ++ one ∷ []) else refuse)
 
+-- line = small { ";" small } [ ";" ] Newline
 unfoldable pub one_line : Parser (List Stmt)
 one_line = λ i. statements (turns i) [] i

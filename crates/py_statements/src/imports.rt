@@ -1,4 +1,4 @@
-//! Imports.
+//! Imports: dotted names, names in brackets, and `as`.
 
 ghost use Rattle.std.specs.Prelude.{◌≡◌};
 ghost use Rattle.py_expressions.specs.Input.{Reads, input_of};
@@ -11,6 +11,7 @@ use py_tokens::{Op, Word};
 use py_tree::{Alias, StmtKind};
 use std::alloc::Global;
 
+/// Reads `path [ "as" NAME ]`, in whose path dots may stand or not.
 #[tactic(auto, unfolding(crate::specs::Reading::alias))]
 fn alias(alloc: Global, tokens: &mut Cursor<'_>, with_dots: bool) -> Result<Alias, Refused<Syntax>>
     ensures { Reads (spec.alias with_dots (input_of tokens.old)) result tokens.new }
@@ -65,6 +66,7 @@ fn imported(alloc: Global, tokens: &mut Cursor<'_>) -> Result<Items<Alias>, Refu
     Ok(found)
 }
 
+/// Reads an `import` of modules.
 #[tactic(auto, unfolding(crate::specs::Reading::imports))]
 pub(crate) fn imports(alloc: Global, tokens: &mut Cursor<'_>) -> Result<StmtKind, Refused<Syntax>>
     ensures { Reads (spec.imports (input_of tokens.old)) result tokens.new }
@@ -74,6 +76,7 @@ pub(crate) fn imports(alloc: Global, tokens: &mut Cursor<'_>) -> Result<StmtKind
     Ok(StmtKind::Import(names))
 }
 
+/// Reads a `from` with the names that it imports.
 #[tactic(auto, unfolding(crate::specs::Reading::imports_from))]
 pub(crate) fn imports_from(
     alloc: Global,

@@ -14,6 +14,7 @@ use py_tokens::Op;
 use py_tree::Stmt;
 use std::alloc::Global;
 
+/// Reads `small { ";" small } [ ";" ] Newline`.
 fn one_line(alloc: Global, tokens: &mut Cursor<'_>) -> Result<Items<Stmt>, Refused<Syntax>>
     ensures { Reads (spec.one_line (input_of tokens.old)) result tokens.new }
 {

@@ -49,6 +49,7 @@ pub(crate) fn dotted(alloc: Global, tokens: &mut Cursor<'_>) -> Result<Text, Ref
     all_dotted(alloc, tokens, &first)
 }
 
+/// Reads a name, in which dots may stand where `with_dots` says so.
 pub(crate) fn path(
     alloc: Global,
     tokens: &mut Cursor<'_>,

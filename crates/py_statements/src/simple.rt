@@ -79,6 +79,7 @@ fn all_assigned(
     Ok(concluded(targets, value))
 }
 
+/// Reads `one AUG tests`.
 #[tactic(auto, unfolding(crate::specs::Reading::augmented))]
 fn augmented(alloc: Global, tokens: &mut Cursor<'_>) -> Result<StmtKind, Refused<Syntax>>
     ensures { Reads (spec.augmented (input_of tokens.old)) result tokens.new }

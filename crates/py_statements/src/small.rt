@@ -1,4 +1,4 @@
-//! Small statements.
+//! Small statements, by their first token.
 
 ghost use Rattle.std.specs.Prelude.{◌≡◌, false};
 ghost use Rattle.std.specs.Option.{option_copied};
@@ -55,6 +55,7 @@ fn gone(alloc: Global, tokens: &mut Cursor<'_>) -> Result<Items<Target>, Refused
     Err(tokens.refuse())
 }
 
+/// Reads `"del" gone { "," gone }`.
 #[tactic(auto, unfolding(crate::specs::Reading::deletion))]
 fn deletion(alloc: Global, tokens: &mut Cursor<'_>) -> Result<StmtKind, Refused<Syntax>>
     ensures { Reads (spec.deletion (input_of tokens.old)) result tokens.new }
@@ -64,6 +65,7 @@ fn deletion(alloc: Global, tokens: &mut Cursor<'_>) -> Result<StmtKind, Refused<
     Ok(StmtKind::Del(targets))
 }
 
+/// Reads `"return" [ tests ]`.
 #[tactic(auto, unfolding(crate::specs::Reading::returned, crate::specs::Reading::optional))]
 fn returned(alloc: Global, tokens: &mut Cursor<'_>) -> Result<StmtKind, Refused<Syntax>>
     ensures { Reads (spec.returned (input_of tokens.old)) result tokens.new }
@@ -76,6 +78,7 @@ fn returned(alloc: Global, tokens: &mut Cursor<'_>) -> Result<StmtKind, Refused<
     Ok(StmtKind::Return(Some(value)))
 }
 
+/// Reads `"raise" [ test ]`.
 #[tactic(auto, unfolding(crate::specs::Reading::raised, crate::specs::Reading::optional))]
 fn raised(alloc: Global, tokens: &mut Cursor<'_>) -> Result<StmtKind, Refused<Syntax>>
     ensures { Reads (spec.raised (input_of tokens.old)) result tokens.new }
@@ -88,6 +91,7 @@ fn raised(alloc: Global, tokens: &mut Cursor<'_>) -> Result<StmtKind, Refused<Sy
     Ok(StmtKind::Raise(Some(value)))
 }
 
+/// Reads `"global" NAME { "," NAME }`.
 #[tactic(auto, unfolding(crate::specs::Reading::globals))]
 fn globals(alloc: Global, tokens: &mut Cursor<'_>) -> Result<StmtKind, Refused<Syntax>>
     ensures { Reads (spec.globals (input_of tokens.old)) result tokens.new }
@@ -97,6 +101,7 @@ fn globals(alloc: Global, tokens: &mut Cursor<'_>) -> Result<StmtKind, Refused<S
     Ok(StmtKind::Global(found))
 }
 
+/// Reads `"assert" test [ "," test ]`.
 #[tactic(auto, unfolding(crate::specs::Reading::assertion))]
 fn assertion(alloc: Global, tokens: &mut Cursor<'_>) -> Result<StmtKind, Refused<Syntax>>
     ensures { Reads (spec.assertion (input_of tokens.old)) result tokens.new }
@@ -111,6 +116,7 @@ fn assertion(alloc: Global, tokens: &mut Cursor<'_>) -> Result<StmtKind, Refused
     Ok(StmtKind::Assert { test, message })
 }
 
+/// Reads a small statement.
 #[tactic(auto, unfolding(crate::specs::Reading::small))]
 fn small(alloc: Global, tokens: &mut Cursor<'_>) -> Result<StmtKind, Refused<Syntax>>
     ensures { Reads (spec.small (input_of tokens.old)) result tokens.new }

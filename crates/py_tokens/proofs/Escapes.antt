@@ -17,7 +17,7 @@ use Rattle.py_tokens.specs.Literal.{given_text}
 abbrev pub IsBackslash : ℕ → Type 0
 IsBackslash byte = byte ≡ 92
 
--- the bytes begin with an escape of so many bytes that gives this
+-- the bytes begin with an escape of `n` bytes that gives this
 abbrev pub Found : List ℕ → ℕ → List ℕ → Type 0
 Found bytes n given = (n ≤ length bytes) × IsEscape (take n bytes) (drop n bytes) given
 

@@ -25,6 +25,7 @@ mark_of_byte byte =
     if byte == 120 then Hexadecimal else (
     if byte == 117 || byte == 85 || byte == 78 then Unicode else Nothing)))))))))))))
 
+-- what the bytes behind a backslash make of it
 abbrev pub mark_of : List ℕ → Mark
 mark_of [] = Nothing
 mark_of (byte ∷ rest) = mark_of_byte byte

@@ -30,6 +30,7 @@ goes_from tokens levels brackets its is_open pieces stop = with_front tokens (fr
 abbrev pub known_level : Bool → List ℕ → ℕ → Option Level
 known_level is_new text line = if is_new then None else Some (record { text = text; line = line })
 
+-- the tokens of the whole source, where it was read up to here and these pieces follow
 abbrev pub goes_on : Lines → List Piece → Result Place SourceFault → Tokens
 goes_on here pieces stop =
     goes_from here.tokens.items here.levels.items here.brackets (known_level here.is_new here.level here.level_line) here.is_open pieces stop
@@ -62,7 +63,7 @@ Adds piece old new (Ok done) = (pieces : List Piece) (stop : Result Place Source
 Adds piece old new (Err (refused.Fault fault)) = (pieces : List Piece) (stop : Result Place SourceFault) → goes_on old (piece ∷ pieces) stop ≡ Err fault
 Adds piece old new (Err refused.NoMemory) = Unit {0}
 
--- the same of what comes before the token that stands here
+-- the reading with what comes before the token that stands here goes on as the new one does, or ends with the fault
 abbrev pub OpensLine : Tok → List ℕ → Lines → Lines → Result (Unit {0}) (Refused SourceFault) → Type 0
 OpensLine tok text old new (Ok done) = GoesAlike (piece_here old (lexemes.Token tok) text) old new
 OpensLine tok text old new (Err (refused.Fault fault)) =

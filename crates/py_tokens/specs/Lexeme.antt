@@ -68,6 +68,7 @@ pub record IsRunOf (P : ℕ → Type 0) (text bytes : List ℕ) : Type 0 where
 abbrev pub fault : SourceCode → Answer
 fault kind = Err (record { code = kind; at = 0; word = [] })
 
+-- a token that the language leaves out, with its word
 abbrev pub not_in_profile : List ℕ → Answer
 not_in_profile word = Err (record { code = code.NotInProfile; at = 0; word = word })
 
@@ -75,6 +76,7 @@ not_in_profile word = Err (record { code = code.NotInProfile; at = 0; word = wor
 abbrev pub token : Tok → List ℕ → Answer
 token tok text = Ok (lexemes.Token tok, text)
 
+-- the token of a number, or its fault
 abbrev pub number_answer : List ℕ → Result ℤ NumberFault → Answer
 number_answer run (Ok n) = token (toks.Int n) run
 number_answer run (Err numbers.BadToken) = fault code.BadToken
@@ -82,11 +84,12 @@ number_answer run (Err numbers.Float) = not_in_profile (codes "float")
 number_answer run (Err numbers.Complex) = not_in_profile (codes "complex")
 number_answer run (Err numbers.TooBig) = fault code.TooBigNumber
 
+-- the token of an operator, or the fault that the language leaves it out
 abbrev pub operator_answer : Operator → List ℕ → Answer
 operator_answer (operators.Op op) text = token (toks.Op op) text
 operator_answer operators.Refused text = not_in_profile text
 
--- the fault of a string, which stands so many bytes behind its prefix
+-- the fault of a string, which stands `at` bytes behind its prefix
 abbrev pub string_fault : StringFaultKind → ℕ → LexemeFault
 string_fault strings.BadByte at = record { code = code.BadByte; at = at; word = [] }
 string_fault strings.BadToken at = record { code = code.BadToken; at = at; word = [] }

@@ -6,6 +6,7 @@ abbrev pub Begins : (ℕ → Type 0) → List ℕ → Type 0
 Begins P [] = ⊥
 Begins P (first ∷ others) = P first
 
+-- LF or CR
 abbrev pub IsLineByte : ℕ → Type 0
 IsLineByte byte = (byte ≡ 10) ⊎ (byte ≡ 13)
 

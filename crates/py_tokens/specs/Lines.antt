@@ -20,6 +20,7 @@ pub record Piece : Type 0 where
   pub at : ℕ
   pub line : ℕ
 
+-- a place in a source, by its byte and its line
 pub record Place : Type 0 where
   pub at : ℕ
   pub line : ℕ
@@ -32,12 +33,14 @@ pub record Line : Type 0 where
 -- brackets
 -- ========
 
+-- is the operator an opening bracket?
 abbrev pub opens : Op → Bool
 opens ops.OpenParen = true
 opens ops.OpenBracket = true
 opens ops.OpenBrace = true
 opens op = false
 
+-- is the operator a closing bracket?
 abbrev pub closes : Op → Bool
 closes ops.CloseParen = true
 closes ops.CloseBracket = true
@@ -56,6 +59,7 @@ count_behind count tok = count
 abbrev pub empty_token : Tok → Place → Token
 empty_token tok place = record { kind = tok; at = place.at; end = place.at; line = place.line }
 
+-- the token that ends a logical line
 abbrev pub newline : Piece → Token
 newline piece = record { kind = toks.Newline; at = piece.at; end = piece.at + length piece.text; line = piece.line }
 
@@ -64,17 +68,21 @@ abbrev pub last_end : Result Place SourceFault → Result Token SourceFault
 last_end (Ok place) = Ok (empty_token toks.Newline place)
 last_end (Err fault) = Err fault
 
+-- the piece in front of the first of the lines
 abbrev pub with_piece : Piece → Line × List Line → Line × List Line
 with_piece piece lines = (record { pieces = piece ∷ lines.0.pieces; ends = lines.0.ends }, lines.1)
 
+-- does a line end, where no bracket is open, end the logical line?
 abbrev pub ends_line : ℕ → Lexeme → Bool
 ends_line count lexemes.LineEnd = count == 0
 ends_line count lexeme = false
 
+-- how many brackets are open behind a lexeme
 abbrev pub brackets_behind : ℕ → Lexeme → ℕ
 brackets_behind count (lexemes.Token tok) = count_behind count tok
 brackets_behind count lexeme = count
 
+-- the lines as one list
 abbrev pub all_lines : Line × List Line → List Line
 all_lines lines = lines.0 ∷ lines.1
 
@@ -94,10 +102,12 @@ abbrev pub level_of_first : Lexeme → List ℕ → List ℕ
 level_of_first lexemes.Blank text = text
 level_of_first lexeme text = []
 
+-- the blanks that a line begins with, and its number
 pub record Level : Type 0 where
   pub text : List ℕ
   pub line : ℕ
 
+-- the level of a line of these pieces
 abbrev pub level : List Piece → Level
 level [] = record { text = []; line = 0 }
 level (piece ∷ pieces) = record { text = level_of_first piece.lexeme piece.text; line = piece.line }
@@ -108,9 +118,11 @@ change_at (Some place) goes_on = Some (changes.Keeps (place + 1))
 change_at None true = Some changes.Opens
 change_at None false = None
 
+-- the innermost of the open levels
 abbrev pub innermost : List (List ℕ) → List ℕ
 innermost levels = slice_index_or levels (length levels - 1) []
 
+-- what a level does to the open ones
 abbrev pub change : List (List ℕ) → List ℕ → Option Change
 change levels text = change_at (position (λ other. bytes_eq other text) levels) (starts_with nat_eq text (innermost levels))
 
@@ -133,6 +145,7 @@ with_token (lexemes.Token tok) piece tokens =
     record { kind = tok; at = piece.at; end = piece.at + length piece.text; line = piece.line } ∷ tokens
 with_token lexeme piece tokens = tokens
 
+-- the tokens of pieces
 abbrev pub tokens_of : List Piece → List Token
 tokens_of [] = []
 tokens_of (piece ∷ pieces) = with_token piece.lexeme piece (tokens_of pieces)
@@ -141,6 +154,7 @@ tokens_of (piece ∷ pieces) = with_token piece.lexeme piece (tokens_of pieces)
 abbrev pub Tokens : Type 0
 Tokens = Result (List Token) SourceFault
 
+-- these tokens in front of others, or the fault that there was
 abbrev pub with_front : List Token → Tokens → Tokens
 with_front front (Ok tokens) = Ok (front ++ tokens)
 with_front front (Err fault) = Err fault
@@ -155,6 +169,7 @@ abbrev pub is_empty : List Token → Result Token SourceFault → Bool
 is_empty [] (Ok newline) = true
 is_empty tokens ends = false
 
+-- the fault of a level that is none of the open ones, in that line
 abbrev pub bad_indent : ℕ → SourceFault
 bad_indent line = record { code = BadIndent; line = line; word = [] }
 

@@ -22,6 +22,7 @@ Opens quotes rest =
     (quote : ℕ) × IsQuote quote
     × ((quotes ≡ quote ∷ quote ∷ quote ∷ []) ⊎ ((quotes ≡ quote ∷ []) × ¬ Stands (quote ∷ quote ∷ []) rest))
 
+-- there are three quotes
 abbrev pub IsTriple : List ℕ → Type 0
 IsTriple quotes = length quotes ≡ 3
 

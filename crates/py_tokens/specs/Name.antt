@@ -17,6 +17,7 @@ IsNameStart byte = IsLetter byte ⊎ (byte ≡ 95)
 abbrev pub IsNamePart : ℕ → Type 0
 IsNamePart byte = IsNameStart byte ⊎ IsDigit byte
 
+-- a name: a letter or an underscore, and letters, digits and underscores behind it
 abbrev pub IsName : List ℕ → Type 0
 IsName [] = ⊥
 IsName (first ∷ others) = IsNameStart first × All IsNamePart others

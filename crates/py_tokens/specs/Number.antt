@@ -9,6 +9,7 @@ use Rattle.py_tokens.specs.Digits.{IsDigits, Digits}
 abbrev pub IsRunPart : ℕ → Type 0
 IsRunPart byte = IsNamePart byte ⊎ (byte ≡ 46)
 
+-- the first byte is a digit
 abbrev pub BeginsWithDigit : List ℕ → Type 0
 BeginsWithDigit [] = ⊥
 BeginsWithDigit (first ∷ others) = IsDigit first

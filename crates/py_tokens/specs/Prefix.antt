@@ -9,6 +9,7 @@ IsInAnyCase [] [] = Unit {0}
 IsInAnyCase (letter ∷ letters) (byte ∷ text) = ((byte ≡ letter) ⊎ (byte + 32 ≡ letter)) × IsInAnyCase letters text
 IsInAnyCase letters text = ⊥
 
+-- the text is that prefix, in any case
 abbrev pub IsPrefix : Prefix → List ℕ → Type 0
 IsPrefix prefixes.Plain text = IsInAnyCase (codes "u") text
 IsPrefix prefixes.Raw text = IsInAnyCase (codes "r") text

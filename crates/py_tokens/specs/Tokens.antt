@@ -24,6 +24,7 @@ line_ends (byte ∷ rest) = (if byte == 10 || (byte == 13 && not (begins_lf rest
 abbrev pub line_at : List ℕ → ℕ → ℕ
 line_at source at = 1 + line_ends (take at source)
 
+-- the place of a byte of a source
 abbrev pub place_at : List ℕ → ℕ → Place
 place_at source at = record { at = at; line = line_at source at }
 

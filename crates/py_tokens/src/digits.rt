@@ -6,6 +6,7 @@ ghost use Rattle.py_tokens.specs.Digits.{IsDigitOf, digit_value, IsDigits, value
 /// The first value that is too big for a small integer.
 pub(crate) const TOO_BIG: u64 = 1 << 30;
 
+/// The digit of the base that a byte is.
 pub(crate) fn digit_of(byte: u8, base: u64) -> Option<u64>
     ensures { MatchOption result (¬ IsDigitOf base byte)
         (λ digit. IsDigitOf base byte × (digit ≡ digit_value byte)) }

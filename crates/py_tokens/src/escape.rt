@@ -31,7 +31,7 @@ pub(crate) enum Given {
     Itself,
 }
 
-/// So many bytes of a literal.
+/// The first `len` bytes of a literal, and what they give.
 #[derive(Clone, Copy)]
 pub(crate) struct Piece {
     pub(crate) len: usize,
@@ -65,6 +65,7 @@ pub(crate) fn line_end_len(bytes: &[u8]) -> usize
     }
 }
 
+/// What the bytes behind a backslash stand for, by the first of them.
 fn mark_of(behind: &[u8]) -> Mark
     ensures { result ≡ mark_of behind.now }
 {
@@ -117,7 +118,7 @@ fn hexadecimal(behind: &[u8]) -> Option<u64>
     }
 }
 
-/// The character of that number, written in so many bytes behind the backslash.
+/// The character of the number `value`, written in `len` bytes behind the backslash.
 fn character(len: usize, value: u64) -> Result<Piece, StringFaultKind>
     requires { len ≤ 3 }
     ensures { MatchResult result

@@ -70,6 +70,7 @@ enum Class {
     BadByte,
 }
 
+/// What begins with these bytes, by the first of them, or by two.
 fn class_of(bytes: &[u8]) -> Class
     requires { 0 < length bytes.now }
     ensures { Announces result bytes.now }
@@ -115,6 +116,7 @@ fn line_len(bytes: &[u8]) -> usize
     bytes.len()
 }
 
+/// A refusal at the front that names no word.
 fn refusal(alloc: Global, code: SourceCode) -> Refused<LexemeFault>
     ensures { Refuses code 0 [] result }
 {
@@ -139,6 +141,7 @@ fn outside(alloc: Global, word: &[u8], at: usize) -> Refused<LexemeFault>
     }
 }
 
+/// The refusal of a string, by its fault and the fault's place.
 fn string_refusal(alloc: Global, kind: StringFaultKind, at: usize) -> Refused<LexemeFault>
     ensures { let fault = string_fault kind at in Refuses fault.code at fault.word result }
 {
@@ -207,12 +210,14 @@ fn word_at(alloc: Global, name: &[u8], opt: u8) -> Result<(Lexeme, usize), Refus
     Ok((Lexeme::Token(tok), name.len()))
 }
 
+/// Is the first byte a quote?
 fn begins_quote(bytes: &[u8]) -> bool
     ensures { IsTrue result ↔ Begins IsQuote bytes.now }
 {
     matches!(bytes, [b'"' | b'\'', ..])
 }
 
+/// The name, word or prefixed string in front.
 fn name_at(alloc: Global, bytes: &[u8], opt: u8) -> Result<(Lexeme, usize), Refused<LexemeFault>>
     requires level { opt ≤ 3 }
     requires begins { Begins IsNameStart bytes.now }
@@ -226,12 +231,14 @@ fn name_at(alloc: Global, bytes: &[u8], opt: u8) -> Result<(Lexeme, usize), Refu
     }
 }
 
+/// A number as a token.
 fn int_lexeme(number: i32) -> Lexeme
     ensures { result ≡ lexemes.Token (toks.Int number) }
 {
     Lexeme::Token(Tok::Int(number))
 }
 
+/// The number in front, or why it is none.
 fn number_at(alloc: Global, bytes: &[u8]) -> Result<(Lexeme, usize), Refused<LexemeFault>>
     requires { BeginsRun bytes.now }
     ensures { (opt : ℕ) → Finds (Answers opt classes.Number bytes.now) bytes.now result }

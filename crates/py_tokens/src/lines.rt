@@ -17,7 +17,7 @@ use std::alloc::Global;
 /// What a line does to the open levels.
 #[derive(Clone, Copy)]
 enum Change {
-    /// So many stay, of which the last is its own.
+    /// That number of levels stay, of which the last is its own.
     Keeps(usize),
     /// Its own is one more.
     Opens,
@@ -96,7 +96,7 @@ fn empty_token(kind: Tok, at: u32, line: u32) -> Token
     }
 }
 
-/// Adds so many Dedents.
+/// Adds `count` Dedents.
 fn push_dedents(tokens: &mut Vec<Token>, count: usize, at: u32, line: u32) -> Result<(), NoMemory>
     ensures ok { OnOk result (tokens.new.items
         ≡ tokens.old.items ++ replicate count (empty_token toks.Dedent (record { at = at; line = line }))) }
@@ -153,7 +153,7 @@ impl Lines {
     ghost use Rattle.py_tokens.specs.Lines.{Piece, Place, bad_indent, change_tokens, levels_behind, tokens_of_pieces};
     ghost use Rattle.py_tokens.specs.Going.{goes_on, piece_here, StaysAt, StaysInLine, GoesAlike, Adds, OpensLine};
 
-    /// Where nothing has been read, with room for so many tokens.
+    /// Where nothing has been read, with room for `room` tokens.
     pub(crate) fn new(alloc: Global, room: usize) -> Result<Lines, NoMemory>
         ensures place { IfOk result (λ here. (here.at ≡ 0) × (here.line ≡ 1)) }
         ensures whole { IfOk result (λ here. (pieces : List Piece) (stop : Result Place SourceFault)
@@ -213,6 +213,7 @@ impl Lines {
         Ok(())
     }
 
+    /// The fault of the indentation of the line.
     fn bad_indent(&self) -> SourceFault
         ensures { result ≡ bad_indent self.now.level_line }
     {

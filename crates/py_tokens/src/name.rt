@@ -3,6 +3,7 @@
 ghost use Rattle.std.specs.Prelude.{◌≡◌, ℕ, ◌<◌, ◌≤◌, ◌↔◌, List, ◌++◌, All, IsTrue, length, take, drop, slice_index};
 ghost use Rattle.py_tokens.specs.Name.{IsNameStart, IsNamePart, IsName};
 
+/// May a name begin with the byte?
 fn is_name_start(byte: u8) -> bool
     ensures { IsTrue result ↔ IsNameStart byte }
 {

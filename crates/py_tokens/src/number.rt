@@ -61,12 +61,14 @@ fn prefixed(run: &[u8]) -> Option<(u64, &[u8])>
     }
 }
 
+/// Has it a dot or an `e`, as floats have?
 fn looks_float(run: &[u8]) -> bool
     ensures { IsTrue result ↔ LooksFloat run.now }
 {
     run.contains(&b'.') || run.contains(&b'e') || run.contains(&b'E')
 }
 
+/// Does it end in a `j`, as imaginary numbers do?
 fn looks_complex(run: &[u8]) -> bool
     ensures { IsTrue result ↔ LooksComplex run.now }
 {
@@ -103,6 +105,7 @@ fn small(value: Option<u64>) -> Result<i32, NumberFault>
     }
 }
 
+/// The number that a run of letters, digits and `_` is, or why it is none.
 pub(crate) fn read_number(run: &[u8]) -> Result<i32, NumberFault>
     ensures { Says run.now result }
 {

@@ -17,6 +17,7 @@ pub(crate) enum Prefix {
     Format,
 }
 
+/// The prefix of a string that a word is.
 pub(crate) fn prefix_of(text: &[u8]) -> Option<Prefix>
     ensures { MatchOption result ((prefix : Prefix) → ¬ IsPrefix prefix text.now)
         (λ prefix. IsPrefix prefix text.now) }

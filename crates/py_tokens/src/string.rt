@@ -83,6 +83,7 @@ fn add_given(text: &mut Vec<u8>, bytes: &[u8], piece: Piece) -> Result<(), NoMem
     Ok(())
 }
 
+/// The text of a string from its quote on, and how many bytes the string takes; or its first fault.
 pub(crate) fn read_string(
     alloc: Global,
     bytes: &[u8],

@@ -146,6 +146,7 @@ fn debug_value(opt: u8) -> Word
     if opt == 0 { Word::True } else { Word::False }
 }
 
+/// The word of the language that a text spells, if it does.
 fn word_of(text: &[u8]) -> Option<Word>
     ensures { (w : Word) → (result ≡ Some w) ↔ (text.now ≡ spelling w) }
 {

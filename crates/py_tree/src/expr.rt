@@ -2,6 +2,7 @@
 
 use mpy_base::{Boxed, Items, Text};
 
+/// The operators with one operand, but `not`.
 #[derive(Clone, Copy, Debug, PartialEq, Eq)]
 pub enum UnaryOp {
     Plus,
@@ -9,6 +10,7 @@ pub enum UnaryOp {
     Invert,
 }
 
+/// The operators with two operands.
 #[derive(Clone, Copy, Debug, PartialEq, Eq)]
 pub enum BinaryOp {
     Or,
@@ -24,6 +26,7 @@ pub enum BinaryOp {
     Pow,
 }
 
+/// The comparisons.
 #[derive(Clone, Copy, Debug, PartialEq, Eq)]
 pub enum CompareOp {
     Lt,

@@ -36,6 +36,7 @@ pub struct Handler {
     pub body: Items<Stmt>,
 }
 
+/// A parameter of a function, with its default if it has one.
 #[derive(Drop)]
 pub struct Param {
     pub name: Text,

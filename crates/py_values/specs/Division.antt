@@ -20,6 +20,7 @@ abbrev pub floor_quotient : ℤ → ℤ → ℤ
 floor_quotient a (pos b) = int_div_euclid a (pos b)
 floor_quotient a (negsuc b) = int_div_euclid (neg_ℤ a) (pos (suc b))
 
+-- the remainder, which has the sign of the divisor
 abbrev pub floor_remainder : ℤ → ℤ → ℤ
 floor_remainder a (pos b) = int_rem_euclid a (pos b)
 floor_remainder a (negsuc b) = neg_ℤ (int_rem_euclid (neg_ℤ a) (pos (suc b)))
@@ -33,5 +34,6 @@ unless_zero b z = checked z
 abbrev pub floor_div_of : ℤ → ℤ → Result ℤ NumFault
 floor_div_of a b = unless_zero b (floor_quotient a b)
 
+-- what a division leaves, or the fault that it is one by zero
 abbrev pub modulo_of : ℤ → ℤ → Result ℤ NumFault
 modulo_of a b = unless_zero b (floor_remainder a b)

@@ -12,9 +12,11 @@ pub record Walk (A : Type 0) : Type 0 where
   pub answer : Option A
   pub visits : ℕ
 
+-- an answer without a visit
 abbrev pub answers : {A : Type 0} → A → Walk A
 answers a = record { answer = Some a; visits = 0 }
 
+-- no answer, since the walk would go too deep
 abbrev pub goes_too_deep : {A : Type 0} → Walk A
 goes_too_deep = record { answer = None; visits = 0 }
 
@@ -22,6 +24,7 @@ goes_too_deep = record { answer = None; visits = 0 }
 abbrev pub visit : {A : Type 0} → Walk A → Walk A
 visit walk = record { answer = walk.answer; visits = suc walk.visits }
 
+-- the walk, behind these visits
 abbrev pub after : {A : Type 0} → ℕ → Walk A → Walk A
 after visits walk = record { answer = walk.answer; visits = visits + walk.visits }
 
@@ -30,6 +33,7 @@ abbrev pub when : Option Bool → ℕ → Walk Bool → Walk Bool
 when (Some true) visits others = after visits others
 when answer visits others = record { answer = answer; visits = visits }
 
+-- the second walk where the first answers true, and else its answer
 abbrev pub if_so : Walk Bool → Walk Bool → Walk Bool
 if_so first others = when first.answer first.visits others
 
@@ -50,6 +54,7 @@ module _ (heap : PlainHeap) (equal : Val → Val → Walk Bool) where
   abbrev pub equal_items : List Val → List Val → Walk Bool
   equal_items xs ys = if nat_eq (length xs) (length ys) then all_equal xs ys else answers false
 
+  -- the rest is compared where the two values are there and equal
   abbrev pub equal_found : Val → Option Val → Walk Bool → Walk Bool
   equal_found x (Some y) others = if_so (equal x y) others
   equal_found x None others = answers false
@@ -59,6 +64,7 @@ module _ (heap : PlainHeap) (equal : Val → Val → Walk Bool) where
   all_found [] others = answers true
   all_found (pair ∷ pairs) others = equal_found (pair.1) (value_of_key heap others (pair.0)) (all_found pairs others)
 
+  -- two dicts are compared: as many pairs, and each key's values
   abbrev pub equal_pairs : List (Val × Val) → List (Val × Val) → Walk Bool
   equal_pairs ps qs = if nat_eq (length ps) (length qs) then all_found ps qs else answers false
 
@@ -73,7 +79,7 @@ module _ (heap : PlainHeap) (equal : Val → Val → Walk Bool) where
   equal_shown a b (Range start stop step) (Range start' stop' step') = answers (is_same_range start stop step start' stop' step')
   equal_shown a b _ _ = answers (is_same a b)
 
--- a comparison that may go so many levels deep
+-- a comparison that may go that number of levels deep
 abbrev pub equal_within : PlainHeap → ℕ → Val → Val → Walk Bool
 equal_within heap zero a b = goes_too_deep
 equal_within heap (suc depth) a b = visit (equal_shown heap (equal_within heap depth) a b (shown heap a) (shown heap b))

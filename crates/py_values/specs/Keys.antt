@@ -10,6 +10,7 @@ pub data PlainKey : Type 0 where
   NumberKey : ℤ → PlainKey
   TextKey : List ℕ → PlainKey
 
+-- the key that a program can see of a value, if it may be one
 abbrev pub shown_key : Shown → Option PlainKey
 shown_key Nothing = Some NoneKey
 shown_key (Number z) = Some (NumberKey z)
@@ -20,6 +21,7 @@ shown_key _ = None
 abbrev pub key_of : PlainHeap → Val → Option PlainKey
 key_of heap v = shown_key (shown heap v)
 
+-- are the two keys, and one?
 abbrev pub is_same_key : Option PlainKey → Option PlainKey → Bool
 is_same_key (Some NoneKey) (Some NoneKey) = true
 is_same_key (Some (NumberKey y)) (Some (NumberKey z)) = int_eq y z

@@ -56,6 +56,7 @@ builtin_type (builtins.Kind kind) = codes "type"
 builtin_type builtins.Port = codes "module"
 builtin_type _ = codes "function"
 
+-- the name of an object's type
 abbrev pub object_type : Option (Object Val (List ℕ)) → List ℕ
 object_type (Some (ListObject items room)) = codes "list"
 object_type (Some (TupleObject items)) = codes "tuple"

@@ -10,6 +10,7 @@ abbrev pub shl_of : ℤ → ℤ → Result ℤ NumFault
 shl_of a (pos n) = checked (a *ℤ pos (2 ^ n))
 shl_of a (negsuc n) = Err NegativeShift
 
+-- a shift to the right, or the fault that the count of bits is negative
 abbrev pub shr_of : ℤ → ℤ → Result ℤ NumFault
 shr_of a (pos n) = checked (floor_quotient a (pos (2 ^ n)))
 shr_of a (negsuc n) = Err NegativeShift

@@ -8,6 +8,7 @@ use Rattle.mpy_base.specs.Val.{Val, Nil, Truth, Int, Str, Fixed, Empty, Built, A
 abbrev pub PlainHeap : Type 0
 PlainHeap = Heap Val (List ℕ)
 
+-- what a program can see of a value
 pub data Shown : Type 0 where
   Nothing : Shown
   Number : ℤ → Shown
@@ -18,6 +19,7 @@ pub data Shown : Type 0 where
   Range : (start stop step : ℤ) → Shown
   Other : Shown
 
+-- what a program can see of an object
 abbrev pub shown_object : Option (Object Val (List ℕ)) → Shown
 shown_object (Some (ListObject items room)) = Items items
 shown_object (Some (TupleObject items)) = Tuple items
@@ -31,6 +33,7 @@ abbrev pub number_of_truth : Bool → ℤ
 number_of_truth true = pos 1
 number_of_truth false = pos 0
 
+-- what a program can see of a value in this heap
 abbrev pub shown : PlainHeap → Val → Shown
 shown heap Nil = Nothing
 shown heap (Truth b) = Number (number_of_truth b)
@@ -64,6 +67,7 @@ is_same_range start stop step start' stop' step' =
 -- truth
 -- =====
 
+-- is there no element?
 abbrev pub is_empty : {A : Type 0} → List A → Bool
 is_empty [] = true
 is_empty (x ∷ xs) = false
@@ -79,5 +83,6 @@ shown_truth (Pairs pairs) = not (is_empty pairs)
 shown_truth (Range start stop step) = not (nat_eq (range_len start stop step) 0)
 shown_truth Other = true
 
+-- is the value true?
 abbrev pub truth : PlainHeap → Val → Bool
 truth heap v = shown_truth (shown heap v)

@@ -7,18 +7,21 @@ ghost use Rattle.py_values.specs.Bits.{int_and, int_or, int_xor, bit_of};
 use crate::{NumFault, SmallInt};
 
 impl SmallInt {
+    /// `&` of the two as two's complement. It is always small.
     pub fn and(self, other: SmallInt) -> Result<SmallInt, NumFault>
         ensures { result ≡ checked (int_and self other) }
     {
         SmallInt::checked(i64::from(self.value() & other.value()))
     }
 
+    /// `|` of the two as two's complement. It is always small.
     pub fn or(self, other: SmallInt) -> Result<SmallInt, NumFault>
         ensures { result ≡ checked (int_or self other) }
     {
         SmallInt::checked(i64::from(self.value() | other.value()))
     }
 
+    /// `^` of the two as two's complement. It is always small.
     pub fn xor(self, other: SmallInt) -> Result<SmallInt, NumFault>
         ensures { result ≡ checked (int_xor self other) }
     {

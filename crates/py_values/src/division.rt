@@ -17,6 +17,7 @@ fn divisor(n: SmallInt) -> Result<i32, NumFault>
     }
 }
 
+/// The quotient, rounded towards minus infinity.
 fn quotient(a: i32, b: i32) -> i32
     requires a_small { IsSmall a }
     requires b_small { IsSmall b }
@@ -30,6 +31,7 @@ fn quotient(a: i32, b: i32) -> i32
     }
 }
 
+/// What remains behind that quotient: it has the sign of the divisor.
 fn remainder(a: i32, b: i32) -> i32
     requires a_small { IsSmall a }
     requires b_small { IsSmall b }

@@ -33,6 +33,7 @@ fn growing_power(base: SmallInt, exponent: u32) -> Result<SmallInt, NumFault>
 }
 
 impl SmallInt {
+    /// The power, or why there is none: a negative exponent, or a power that isn't small.
     pub fn power(self, other: SmallInt) -> Result<SmallInt, NumFault>
         ensures { result ≡ power_of self other }
     {

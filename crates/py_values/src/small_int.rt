@@ -20,8 +20,10 @@ pub enum NumFault {
     NegativePower,
 }
 
+/// The least small int, -2^30.
 const LEAST: i64 = -1_073_741_824;
 
+/// The greatest small int, 2^30 - 1.
 const GREATEST: i64 = 1_073_741_823;
 
 /// A whole number from -2^30 to 2^30 - 1, which contracts see as the number.
@@ -51,6 +53,7 @@ impl SmallInt {
         SmallInt::checked(i64::from(n)).ok()
     }
 
+    /// The number, from -2^30 to 2^30 - 1.
     pub fn value(self) -> i32
         ensures value { result ≡ self }
         ensures small { IsSmall self }

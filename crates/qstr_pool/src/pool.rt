@@ -1,4 +1,4 @@
-//! Pools of texts.
+//! Pools of texts: each text once, with a number by the order of first use. A look-up takes the time of a hash of the text.
 
 ghost use Rattle.std.specs.Prelude.{◌≡◌, ◌↔◌, ℕ, ◌+◌, ◌<◌, ◌≤◌, ◌^◌, List, [], length, Some, None, Ok, option_copied, IsTrue, IsSome, IfSome, IsOk, IfOk, OnOk, OnErr, IsErrOf};
 ghost use Rattle.qstr_pool.specs.Full.{pool_full};
@@ -53,6 +53,7 @@ impl Pool {
         self.texts.len()
     }
 
+    /// Whether the pool holds no text.
     pub fn is_empty(&self) -> bool
         ensures { IsTrue result ↔ self.now.texts ≡ [] }
     {

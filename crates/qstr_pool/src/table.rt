@@ -180,6 +180,7 @@ pub const STATIC_COUNT: u16 = 165;
 /// The number of the first text that a file names of its own.
 pub const FIRST_OWN: u32 = 166;
 
+/// All texts that every file may name by number.
 fn texts() -> &'static [&'static [u8]]
     ensures texts { map (λ text. text.now) result.now ≡ static_texts }
     ensures count { length result.now ≡ STATIC_COUNT }

@@ -6,6 +6,7 @@ abbrev pub slash_end : (at found : ℕ) → List ℕ → ℕ
 slash_end at found [] = found
 slash_end at found (byte ∷ bytes) = slash_end (at + 1) (if byte == 47 then at + 1 else found) bytes
 
+-- how many bytes of a name are its folder's, with the last `/`
 abbrev pub base_length : List ℕ → ℕ
 base_length name = slash_end 0 0 name
 

@@ -17,7 +17,7 @@ use Rattle.run_commands.specs.Base.{base_of}
 use Rattle.command_files.specs.Source.{HoldsFaulty}
 use Rattle.command_files.specs.Folder.{MayHold}
 
--- the source under the name compiles at the level to a file of this verified module, which has that many bytes
+-- the source under the name compiles at the level to a file of this verified module, which has `size` bytes
 pub record HoldsSource (level : ℕ) (files : Option FileOf) (name : List ℕ) (m : Module) (size : ℕ) : Type 0 where
   pub source : List ℕ
   pub holds : MayHold files name (Some source)
@@ -34,7 +34,7 @@ pub record SourceLoadsOf (level : ℕ) (files : Option FileOf) (name : List ℕ)
 abbrev pub IsOfSources : (name path : List ℕ) → Type 0
 IsOfSources name path = (module_name : List ℕ) × IsPlain module_name × Contains (candidates (base_of name) module_name source_ending) path
 
--- such a source has this first fault
+-- the source of that path is one of these, and has this first fault
 pub record IsFaultyOf (level : ℕ) (name : List ℕ) (unaccepted : UnacceptedSource) : Type 0 where
   pub is_of : IsOfSources name unaccepted.path
   pub source : List ℕ

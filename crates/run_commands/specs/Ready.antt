@@ -30,7 +30,7 @@ abbrev pub OpensMain : (bytes : List ℕ) → Result (Module × ℕ) Ending → 
 OpensMain bytes (Ok main) = IsFile bytes main.0 × IsVerified main.0 × (main.1 ≡ length bytes)
 OpensMain bytes (Err ending) = Opens bytes (Err ending)
 
--- go SRC
+-- what `go SRC` is to run: the library of the source, or why there is none
 abbrev pub GoLibrary : (level : ℕ) → Option FileOf → (name : List ℕ) → Result Ready Ending → Type 0
 GoLibrary level files name answer = FirstOf (SourceLibrary level files name) answer
 

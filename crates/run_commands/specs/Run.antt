@@ -36,7 +36,7 @@ use Rattle.command_files.specs.Outside.{Outside}
 -- the library of a file
 -- =====================
 
--- the file under the name is one of this verified module, and has that many bytes
+-- the file under the name is one of this verified module, and has `size` bytes
 pub record HoldsMain (files : Option FileOf) (name : List ℕ) (m : Module) (size : ℕ) : Type 0 where
   pub bytes : List ℕ
   pub holds : MayHold files name (Some bytes)

@@ -75,7 +75,7 @@ fn source_library<F: Folder>(
     }
 }
 
-/// The same with its main module, the first one.
+/// The library of the source of this name at a level with its main module, the first one, or what keeps it from being loaded.
 pub fn source_ready<F: Folder>(
     alloc: Global,
     level: u8,

@@ -24,7 +24,7 @@ pub record MeansSources (level : ℕ) (room : Room) (steps : ℕ) (name : List �
       → (ports : List PortState) (printed : List ℕ) → Tell ports_old ports → AreAccounted ports_old ports_new → old.out ≡ Some printed
       → DoesAsMeant program room steps ports old new ports_new status
 
--- the same of a run of the source of this name, in a folder that tells its files
+-- what a run of the source of this name means, in a folder that tells its files
 abbrev pub GoMeans : (level : ℕ) → Room → (steps : ℕ) → (name : List ℕ) → (old new : Outside) → (ports_old ports_new : List PortView) → (status : ℕ) → Type 0
 GoMeans level room steps name old new ports_old ports_new status =
     IfSome old.files (MeansSources level room steps name old new ports_old ports_new status)

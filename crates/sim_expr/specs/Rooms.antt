@@ -9,6 +9,7 @@ module _ (library : Library) where
   abbrev pub HasRoom : Name → ℕ → Locals → Type 0
   HasRoom name number locals = (code : Code) → code_at library name number ≡ Some code → code.locals ≤ length locals
 
+  -- the locals of each frame are enough for its code
   abbrev pub AllRoom : List Frame → Type 0
   AllRoom [] = Unit {0}
   AllRoom (f ∷ frames) = HasRoom f.module_name f.code f.locals × AllRoom frames

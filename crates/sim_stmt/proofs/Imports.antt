@@ -103,7 +103,7 @@ o_bind_is library K spare owed owed1 v1 v k env slots s t x1 x2 x size1 size2 si
 o_bind_is library K spare owed owed1 v1 v k env slots s t x1 x2 x size1 size2 size (EOpen w) nx same xs ss xw sw g h = g_wide library K _ s t 0 0 0 0 0 x1 x size1 size (omega (arith, xw)) (omega (arith, sw)) g
 o_bind_is library K spare owed owed1 v1 v k env slots s t x1 x2 x size1 size2 size (EFull e t1 w) nx same xs ss xw sw g h = g_wide library K _ s t t1 0 0 0 0 x1 x size1 size (omega (arith, xw)) (omega (arith, sw)) g
 
--- so many turns, each of which is 16 steps
+-- `m` turns, each of which is 16 steps
 turns_sim : {A : Type 0} (library : Library) (K spare owed : ℕ) (v : A → PlainWorld → State) (k : Site) (env : Locals) (slots : List Slot) (f : Frame) (w : PlainWorld) (nx : ℕ → Out A) (m t x size : ℕ)
     → ((t1 : ℕ) → t1 ≤ t → GoesO library K spare owed v k env slots (Running 0 f k.frames w) t1 (16 * m + x) size (nx t1)) → GoesO library K spare owed v k env slots (Running 0 f k.frames w) t x (m + size) (e_turns m t w nx)
 turns_sim library K spare owed v k env slots f w nx zero t x size h = o_wide library K spare spare owed owed v k env slots _ t (16 * 0 + x) x size (0 + size) (nx t) (omega arith) (omega arith) (omega arith) (omega arith) (h t (omega arith))

@@ -19,7 +19,7 @@ ascii_of byte = if nat_lt byte 128 then byte else 63
 abbrev pub stored : List ℕ → List ℕ
 stored path = map ascii_of path
 
--- the source of this path compiles to a file of the module, which is verified, and the file has that many bytes
+-- the source of this path compiles to a file of the module, which is verified, and the file has `size` bytes
 pub record IsModuleOf (level : ℕ) (path source : List ℕ) (m : Module) (size : ℕ) : Type 0 where
   pub bytes : List ℕ
   pub compiles : CompilesTo level source (stored path) bytes
@@ -47,6 +47,6 @@ source_ending = codes ".py"
 abbrev pub ComesToSource : (level : ℕ) → FileOf → (base : List ℕ) → OfNames
 ComesToSource level files base = NameComesTo source_ending (SourceComesTo level) base files
 
--- loading from a main module, whose file has that many bytes, and from the sources in a base folder
+-- loading from a main module, whose file has `size` bytes, and from the sources in a base folder
 abbrev pub LoadsFromSources : (level : ℕ) → FileOf → (base : List ℕ) → (main : Module) → (size : ℕ) → Loading → Type 0
 LoadsFromSources level files base main size end = LoadsWith (ComesToSource level files base) main size end

@@ -1,4 +1,4 @@
-//! Loading from sources.
+//! Loading a library from sources: each name that is asked for is found, compiled, and read back as a file.
 
 ghost use Rattle.std.specs.Prelude.{◌≡◌, ◌≤◌, IfOk, IfSome, IsUtf8};
 ghost use Rattle.mpy_io.specs.Count.{Counts};
@@ -21,6 +21,7 @@ pub struct Sources {
 }
 
 impl Sources {
+    /// Sources that are compiled at the level of optimization `level`.
     pub fn new(level: u8) -> Sources
         requires { level ≤ 3 }
         ensures { result.level ≡ level }
@@ -55,7 +56,7 @@ impl Reader for Sources {
     }
 }
 
-/// Loads the library of a main module, whose file has that many bytes, from the sources of a folder, each compiled at the
+/// Loads the library of a main module, whose file has `size` bytes, from the sources of a folder, each compiled at the
 /// level with the stored name of its path. The base folder stands in front of their names as it is: with its `/`, or empty.
 /// Each name that is asked for takes two reads at most, and all sources that are read are compiled.
 pub fn load_sources<F: Folder>(

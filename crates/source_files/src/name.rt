@@ -6,6 +6,7 @@ ghost use Rattle.source_files.specs.Sources.{ascii_of, stored};
 use mpy_base::{NoMemory, Text};
 use std::alloc::Global;
 
+/// A byte, and `?` in place of one that isn't ASCII.
 fn ascii_byte(byte: u8) -> u8
     ensures { result ≡ ascii_of byte }
 {

@@ -56,6 +56,7 @@ fn tried(alloc: Global, text: &str) -> Result<Count, NoMemory> {
     Ok(count)
 }
 
+/// Runs the programs of the file `programs` in parts, and tells which come to something else.
 fn main(rt: HostRuntime) -> io::Result<ExitCode> {
     let text = fs::read_to_string(&rt, "programs")?;
     let count = match tried(rt.alloc(), &text) {

@@ -24,6 +24,7 @@ pub struct Program {
     pub used: Room,
 }
 
+/// The value of a hexadecimal digit.
 fn digit_of(byte: u8) -> u8 {
     if byte < b'a' {
         byte.wrapping_sub(b'0')
@@ -32,6 +33,7 @@ fn digit_of(byte: u8) -> u8 {
     }
 }
 
+/// Adds bytes that are written in hexadecimal.
 fn put_bytes(to: &mut Vec<u8>, digits: &str) -> Result<(), AllocError> {
     for pair in digits.as_bytes().chunks_exact(2) {
         if let [high, low] = pair {
@@ -45,6 +47,7 @@ fn put_bytes(to: &mut Vec<u8>, digits: &str) -> Result<(), AllocError> {
     Ok(())
 }
 
+/// Adds a line.
 fn put_line(to: &mut Vec<u8>, line: &str) -> Result<(), AllocError> {
     to.extend_from_slice(line.as_bytes())?;
     to.push(b'\n')?;
@@ -72,6 +75,7 @@ fn room(text: &str) -> Room {
 }
 
 impl Program {
+    /// A program without files, that is run in an arena of the size that `mpy run` takes where nothing is said.
     pub fn new(alloc: Global) -> Program {
         let room = Room {
             cells: 65_536,

@@ -7,6 +7,7 @@ abbrev pub assignment : ℕ → List ℕ
 assignment state =
     codes "    d[" ++ (decimal (drawn (next state)) ++ (codes "] = " ++ (decimal (drawn (next (next state))) ++ codes "\n")))
 
+-- that number of assignments, from a state on
 abbrev pub assignments : ℕ → ℕ → List ℕ
 assignments state zero = []
 assignments state (suc count) = assignment state ++ assignments (next (next state)) count
@@ -22,13 +23,16 @@ functions (suc many) state number left =
     let here = min left 500 in
     function state number here ++ functions many (after state (2 * here)) (suc number) (left - here)
 
+-- the call of the function of that number
 abbrev pub call : ℕ → List ℕ
 call number = codes "f" ++ (decimal number ++ codes "(d)\n")
 
+-- calls of `many` functions, from a number on
 abbrev pub calls : (many number : ℕ) → List ℕ
 calls zero number = []
 calls (suc many) number = call number ++ calls many (suc number)
 
+-- the sum over the dict, and its print
 abbrev pub ending : List ℕ
 ending = codes "s = 0\nfor k in d.keys():\n    s = s + k * d[k]\nprint(len(d), s)\n"
 

@@ -7,7 +7,7 @@ use Rattle.bc_translation.specs.Translation.{Translates}
 use Rattle.tr_source.specs.Accepted.{source_of, IsAccepted}
 use Rattle.tr_source.specs.Short.{IsShort}
 
--- its translation, where it is accepted and the translation is short
+-- the translation of a source, where the source is accepted and the translation is short
 pub record IsCompiled (file : Name) (level : ℕ) (tree : Module) (m : ResolvedModule) : Type 0 where
   pub accepted : IsAccepted level tree
   pub translates : Translates (source_of file level tree) m

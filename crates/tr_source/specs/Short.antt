@@ -24,10 +24,12 @@ number_length ops.LoadFast = 1
 number_length ops.StoreFast = 1
 number_length op = 4
 
+-- the bytes of the load of an integer
 abbrev pub int_length : ℤ → ℕ
 int_length (pos n) = if nat_lt n 48 then 1 else 6
 int_length (negsuc n) = if nat_lt n 16 then 1 else 6
 
+-- the bytes of an instruction
 abbrev pub length_of : Resolved → ℕ
 length_of (plain (instrs.Num op n)) = number_length op
 length_of (plain (instrs.Int n)) = int_length n
@@ -37,6 +39,7 @@ length_of (object value) = 4
 length_of (jump op target) = 3
 length_of (unwind target byte) = 4
 
+-- the bytes of a code's instructions
 abbrev pub wide_length : Body → ℕ
 wide_length body = sum (map length_of (instrs_of body))
 
@@ -46,6 +49,7 @@ IsWide (instrs.Jump op offset wide) = wide ≡ true
 IsWide (instrs.Unwind offset wide byte) = wide ≡ true
 IsWide instr = Unit {0}
 
+-- each jump of the code has its longer form
 pub record HasWideJumps (code : List ℕ) : Type 0 where
   pub prelude : Prelude
   pub begins : Begins code prelude
@@ -63,6 +67,7 @@ pub record HasWideFile (m : ResolvedModule) : Type 0 where
   pub canonical : Canonical bytes
   pub in_first_use : InFirstUse bytes
 
+-- the codes of the module pass no limit on their length, and its file passes none
 pub record IsShort (m : ResolvedModule) : Type 0 where
   pub lengths : All (λ body. wide_length body ≤ MAX_WIDE_LENGTH) (bodies m.code)
   pub file : HasWideFile m

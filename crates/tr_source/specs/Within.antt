@@ -18,6 +18,7 @@ most_pairs = greatest_block (λ args keys. 0) pair_count
 abbrev pub slots_in : Text → ℕ
 slots_in text = length text.locals + max 1 (tall_block text.level text.body)
 
+-- a text keeps the limits that are counted on its tree
 pub record IsWithin (text : Text) : Type 0 where
   pub slots : slots_in text ≤ MAX_STATE
   pub entries : held_in text.body ≤ 100
@@ -25,6 +26,7 @@ pub record IsWithin (text : Text) : Type 0 where
   pub arguments : most_arguments text.level text.body ≤ MAX_ARGUMENTS
   pub pairs : most_pairs text.level text.body ≤ MAX_ITEMS
 
+-- each text keeps the limits that are counted on its tree
 abbrev pub AllWithin : List Text → Type 0
 AllWithin [] = Unit {0}
 AllWithin (text ∷ texts) = IsWithin text × AllWithin texts

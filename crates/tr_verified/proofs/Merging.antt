@@ -19,7 +19,7 @@ use Rattle.tr_verified.proofs.Steps.{p_straight}
 use Rattle.tr_verified.proofs.Whole.{Assignment, closed, verified, keeps_all}
 use Rattle.tr_verified.proofs.Trees.{lines_actions, lines_at}
 
--- the calls of so many children, the first of this number
+-- the calls of children, the first of the number `at`, as many as the second number says
 abbrev call_lines : ℕ → ℕ → List Line
 call_lines at zero = []
 call_lines at (suc n) =
@@ -39,7 +39,7 @@ no_local : (at n : ℕ) → locals_of 0 (map (λ (l : ResolvedLine). l.item) (ma
 no_local at zero = refl
 no_local at (suc n) = let h = no_local (suc at) n in omega (arith, h)
 
--- the position behind so many calls
+-- the position behind calls from `p` on, as many as the second number says
 abbrev past : ℕ → ℕ → ℕ
 past p zero = p
 past p (suc n) = past (suc (suc (suc p))) n

@@ -56,7 +56,7 @@ module _ (texts : StrNo → Option (List ℕ)) (tuples : ConstNo → Option (Lis
       ∙ (ap (λ (r : ℕ). with_object (with_used heap (cond (nat_le k r) 0 (3 * room_for k))) n (DictObject plain_pairs (cond (nat_le k r) r (room_for k)))) (sym (room_of_plain texts tuples h n))
       ∙ ap (λ (j : ℕ). with_object (with_used heap (dict_growth heap n j)) n (DictObject plain_pairs (grown_room heap n j))) (sym (length-map pairs (plain_pair texts tuples))))
 
-  -- a list with room for so many
+  -- a list with room for `k` items
   pub list_room_put : (n k : ℕ) → plain_heap texts tuples (with_list_room h n k) ≡ with_list_room (plain_heap texts tuples h) n k
   list_room_put n k =
       let heap = plain_heap texts tuples h in

@@ -21,7 +21,7 @@ use Rattle.vm_faults.proofs.Outcomes.{fits_true, fits_false}
 abbrev pub spelled_out : List ℕ → List (List ℕ)
 spelled_out bytes = map (λ byte. byte ∷ []) bytes
 
--- so many texts, which take two cells each, from the first
+-- texts that take two cells each, from the first on, as many as the second number says
 abbrev texts_at : ℕ → ℕ → List Val
 texts_at first zero = []
 texts_at first (suc count) = At first ∷ texts_at (first + 2) count

@@ -153,7 +153,7 @@ module _ (texts : StrNo → Option (List ℕ)) (tuples : ConstNo → Option (Lis
       (record { leads = record { meets = texts_are h bytes k few; small = tt }; told = tt })
 
   module _ (h : Heap Value ℕ) (v : Value) (all : AllTold texts tuples h.objects) where
-    -- an iterable with so many items
+    -- an iterable with `want` items
     counted : (i : Iterated texts tuples h v) (want : ℕ) → want ≡ length i.items
         → unpack (plain_heap texts tuples h) want (plain texts tuples v) ≡ kept_items (plain_heap texts tuples h) i.items (shown (plain_heap texts tuples h) (plain texts tuples v))
     counted i want e = unpack_by h v i want false false (is_not_below (length i.items) want (omega arith)) (is_not_below want (length i.items) (omega arith))

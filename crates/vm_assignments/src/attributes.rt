@@ -4,12 +4,8 @@ ghost use Rattle.std.specs.Prelude.{IsSome};
 ghost use Rattle.mpy_base.specs.World.{AModule, IsA};
 ghost use Rattle.mpy_base.specs.Val.{At};
 ghost use Rattle.arena_heap.specs.Values.{Leads};
-ghost use Rattle.arena_heap.specs.Constants.{IsTold};
-ghost use Rattle.arena_objects.specs.Keys.{AllTold};
-ghost use Rattle.arena_objects.specs.Iterables.{or_nothing};
 ghost use Rattle.py_primitives.specs.Uses.{set_attr as set_attr_of};
-ghost use Rattle.vm_walks.specs.Plain.{plain, plain_heap};
-ghost use Rattle.vm_faults.specs.Outcomes.{IsOutcome};
+ghost use Rattle.vm_sights.specs.Sights.{Tells, TellsAll, Does};
 
 use crate::pairs::put_pair;
 use arena_heap::{Arena, Constants, ModuleNo, StrNo, Value, module_parts};
@@ -26,9 +22,9 @@ fn set_name<C: Constants>(
     requires is_module { IsA arena.old.objects AModule m.cell }
     requires name { IsSome (C.text_of consts.now name) }
     requires leads { Leads arena.old.objects v }
-    requires told { IsTold (C.text_of consts.now) (C.items_of consts.now) v }
-    requires all_told { AllTold (C.text_of consts.now) (C.items_of consts.now) arena.old.objects }
-    ensures { IsOutcome (C.text_of consts.now) (C.items_of consts.now) arena.old arena.new result (set_attr_of (plain_heap (C.text_of consts.now) (C.items_of consts.now) arena.old) (At m.cell) (or_nothing (C.text_of consts.now name)) (plain (C.text_of consts.now) (C.items_of consts.now) v)) }
+    requires told { Tells C.Constants consts.now v }
+    requires all_told { TellsAll C.Constants consts.now arena.old }
+    ensures { Does C.Constants consts.now arena.old arena.new result (λ heap see. set_attr_of heap (At m.cell) (see.text name) (see.value v)) }
 {
     let (_, namespace) = module_parts(arena, m);
     match namespace {
@@ -49,12 +45,12 @@ pub fn set_attr<C: Constants>(
     v: Value,
 ) -> Result<Value, Stop>
     requires object_leads { Leads arena.old.objects object }
-    requires object_told { IsTold (C.text_of consts.now) (C.items_of consts.now) object }
+    requires object_told { Tells C.Constants consts.now object }
     requires name { IsSome (C.text_of consts.now name) }
     requires leads { Leads arena.old.objects v }
-    requires told { IsTold (C.text_of consts.now) (C.items_of consts.now) v }
-    requires all_told { AllTold (C.text_of consts.now) (C.items_of consts.now) arena.old.objects }
-    ensures { IsOutcome (C.text_of consts.now) (C.items_of consts.now) arena.old arena.new result (set_attr_of (plain_heap (C.text_of consts.now) (C.items_of consts.now) arena.old) (plain (C.text_of consts.now) (C.items_of consts.now) object) (or_nothing (C.text_of consts.now name)) (plain (C.text_of consts.now) (C.items_of consts.now) v)) }
+    requires told { Tells C.Constants consts.now v }
+    requires all_told { TellsAll C.Constants consts.now arena.old }
+    ensures { Does C.Constants consts.now arena.old arena.new result (λ heap see. set_attr_of heap (see.value object) (see.text name) (see.value v)) }
 {
     match object {
         Value::Module(m) => set_name(arena, consts, m, name, v),

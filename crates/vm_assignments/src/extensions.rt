@@ -1,14 +1,11 @@
 //! Lists that take the items of iterables.
 
-ghost use Rattle.std.specs.Prelude.{◌≡◌, min, IsSome};
+ghost use Rattle.std.specs.Prelude.{IsSome};
 ghost use Rattle.mpy_base.specs.World.{AList, IsA};
 ghost use Rattle.arena_heap.specs.Values.{Leads};
-ghost use Rattle.arena_heap.specs.Constants.{IsTold};
-ghost use Rattle.arena_objects.specs.Keys.{AllTold};
 ghost use Rattle.py_primitives.specs.Iterables.{items_in};
 ghost use Rattle.py_primitives.specs.Operators.{extend as extend_of};
-ghost use Rattle.vm_walks.specs.Plain.{plain, plain_heap};
-ghost use Rattle.vm_faults.specs.Outcomes.{IsOutcome};
+ghost use Rattle.vm_sights.specs.Sights.{sight, Tells, TellsAll, Does, CountsUpTo};
 
 use arena_heap::{Arena, Constants, ListNo, Value};
 use arena_objects::list_extend;
@@ -24,10 +21,10 @@ fn take_items<C: Constants>(
 ) -> Result<Value, Stop>
     requires list { IsA arena.old.objects AList l.cell }
     requires leads { Leads arena.old.objects from }
-    requires told { IsTold (C.text_of consts.now) (C.items_of consts.now) from }
-    requires iterable { IsSome (items_in (plain_heap (C.text_of consts.now) (C.items_of consts.now) arena.old) (plain (C.text_of consts.now) (C.items_of consts.now) from)) }
-    requires all_told { AllTold (C.text_of consts.now) (C.items_of consts.now) arena.old.objects }
-    ensures { IsOutcome (C.text_of consts.now) (C.items_of consts.now) arena.old arena.new result (extend_of (plain_heap (C.text_of consts.now) (C.items_of consts.now) arena.old) l.cell (plain (C.text_of consts.now) (C.items_of consts.now) from)) }
+    requires told { Tells C.Constants consts.now from }
+    requires iterable { let see = sight C.Constants consts.now in IsSome (items_in (see.heap arena.old) (see.value from)) }
+    requires all_told { TellsAll C.Constants consts.now arena.old }
+    ensures { Does C.Constants consts.now arena.old arena.new result (λ heap see. extend_of heap l.cell (see.value from)) }
 {
     items_law(arena, consts, from);
     match list_extend(arena, consts, l, from) {
@@ -45,9 +42,9 @@ pub fn extend_list<C: Constants>(
 ) -> Result<Value, Stop>
     requires list { IsA arena.old.objects AList l.cell }
     requires leads { Leads arena.old.objects from }
-    requires told { IsTold (C.text_of consts.now) (C.items_of consts.now) from }
-    requires all_told { AllTold (C.text_of consts.now) (C.items_of consts.now) arena.old.objects }
-    ensures { IsOutcome (C.text_of consts.now) (C.items_of consts.now) arena.old arena.new result (extend_of (plain_heap (C.text_of consts.now) (C.items_of consts.now) arena.old) l.cell (plain (C.text_of consts.now) (C.items_of consts.now) from)) }
+    requires told { Tells C.Constants consts.now from }
+    requires all_told { TellsAll C.Constants consts.now arena.old }
+    ensures { Does C.Constants consts.now arena.old arena.new result (λ heap see. extend_of heap l.cell (see.value from)) }
 {
     match use_iter(arena, consts, from) {
         Ok(_) => take_items(arena, consts, l, from),
@@ -55,7 +52,7 @@ pub fn extend_list<C: Constants>(
     }
 }
 
-/// The visits of `extend_list`, and no more than so many. No item is walked.
+/// How many visits `extend_list` makes, `most` at most. No item is walked.
 pub fn visits_extend<C: Constants>(
     arena: &Arena,
     consts: &C,
@@ -64,8 +61,8 @@ pub fn visits_extend<C: Constants>(
     most: u64,
 ) -> u64
     requires leads { Leads arena.now.objects from }
-    requires told { IsTold (C.text_of consts.now) (C.items_of consts.now) from }
-    ensures { let outcome = extend_of (plain_heap (C.text_of consts.now) (C.items_of consts.now) arena.now) _l.cell (plain (C.text_of consts.now) (C.items_of consts.now) from) in result ≡ min outcome.visits most }
+    requires told { Tells C.Constants consts.now from }
+    ensures { CountsUpTo C.Constants consts.now result most arena.now (λ heap see. extend_of heap _l.cell (see.value from)) }
 {
     most.min(length_of(arena, consts, from) as u64)
 }

@@ -1,12 +1,8 @@
-//! Operators in place.
+//! `+=` on lists, which take the items of any iterable in place.
 
-ghost use Rattle.std.specs.Prelude.{◌≡◌, min};
 ghost use Rattle.arena_heap.specs.Values.{Leads};
-ghost use Rattle.arena_heap.specs.Constants.{IsTold};
-ghost use Rattle.arena_objects.specs.Keys.{AllTold};
 ghost use Rattle.py_primitives.specs.Operators.{Add, in_place};
-ghost use Rattle.vm_walks.specs.Plain.{plain, plain_heap};
-ghost use Rattle.vm_faults.specs.Outcomes.{IsOutcome};
+ghost use Rattle.vm_sights.specs.Sights.{Tells, TellsAll, Does, CountsUpTo};
 
 use crate::extensions::{extend_list, visits_extend};
 use arena_heap::{Arena, Constants, Value};
@@ -22,10 +18,10 @@ pub fn inplace_add<C: Constants>(
 ) -> Result<Value, Stop>
     requires left_leads { Leads arena.old.objects left }
     requires right_leads { Leads arena.old.objects right }
-    requires left_told { IsTold (C.text_of consts.now) (C.items_of consts.now) left }
-    requires right_told { IsTold (C.text_of consts.now) (C.items_of consts.now) right }
-    requires all_told { AllTold (C.text_of consts.now) (C.items_of consts.now) arena.old.objects }
-    ensures { IsOutcome (C.text_of consts.now) (C.items_of consts.now) arena.old arena.new result (in_place (plain_heap (C.text_of consts.now) (C.items_of consts.now) arena.old) Add (plain (C.text_of consts.now) (C.items_of consts.now) left) (plain (C.text_of consts.now) (C.items_of consts.now) right)) }
+    requires left_told { Tells C.Constants consts.now left }
+    requires right_told { Tells C.Constants consts.now right }
+    requires all_told { TellsAll C.Constants consts.now arena.old }
+    ensures { Does C.Constants consts.now arena.old arena.new result (λ heap see. in_place heap Add (see.value left) (see.value right)) }
 {
     match left {
         Value::List(l) => extend_list(arena, consts, l, right),
@@ -33,7 +29,7 @@ pub fn inplace_add<C: Constants>(
     }
 }
 
-/// The visits of `inplace_add`, and no more than so many.
+/// How many visits `inplace_add` makes, `most` at most.
 pub fn visits_inplace_add<C: Constants>(
     arena: &Arena,
     consts: &C,
@@ -43,9 +39,9 @@ pub fn visits_inplace_add<C: Constants>(
 ) -> u64
     requires left_leads { Leads arena.now.objects left }
     requires right_leads { Leads arena.now.objects right }
-    requires left_told { IsTold (C.text_of consts.now) (C.items_of consts.now) left }
-    requires right_told { IsTold (C.text_of consts.now) (C.items_of consts.now) right }
-    ensures { let outcome = in_place (plain_heap (C.text_of consts.now) (C.items_of consts.now) arena.now) Add (plain (C.text_of consts.now) (C.items_of consts.now) left) (plain (C.text_of consts.now) (C.items_of consts.now) right) in result ≡ min outcome.visits most }
+    requires left_told { Tells C.Constants consts.now left }
+    requires right_told { Tells C.Constants consts.now right }
+    ensures { CountsUpTo C.Constants consts.now result most arena.now (λ heap see. in_place heap Add (see.value left) (see.value right)) }
 {
     match left {
         Value::List(l) => visits_extend(arena, consts, l, right, most),

@@ -4,18 +4,16 @@ ghost use Rattle.std.specs.Prelude.{map, slice_set};
 ghost use Rattle.mpy_base.specs.World.{ADict, AList, IsA, items_at, with_list};
 ghost use Rattle.mpy_base.specs.Val.{Nil, At};
 ghost use Rattle.arena_heap.specs.Values.{Leads};
-ghost use Rattle.arena_heap.specs.Constants.{IsTold};
-ghost use Rattle.arena_objects.specs.Keys.{AllTold};
 ghost use Rattle.py_primitives.specs.Operators.{with_key_of};
 ghost use Rattle.py_primitives.specs.Outcome.{gives};
 ghost use Rattle.py_primitives.specs.Uses.{at_place, put_pair as put_pair_of, set_item as set_item_of};
-ghost use Rattle.vm_walks.specs.Plain.{plain, plain_heap};
-ghost use Rattle.vm_faults.specs.Outcomes.{IsOutcome};
+ghost use Rattle.vm_sights.specs.Sights.{Tells, TellsAll, Does};
 
 use crate::pairs::put_pair;
 use arena_heap::{Arena, Constants, DictNo, ListNo, Value, list_set};
 use vm_faults::{Fault, SpecialMethod, Stop, type_of};
-use vm_operators::{Container, container_of, is_key, items_law, place_of};
+use vm_operators::{Container, container_of, items_law, place_of};
+use vm_sights::is_key;
 
 /// Sets the value of what may be a key.
 fn set_key<C: Constants>(
@@ -27,11 +25,11 @@ fn set_key<C: Constants>(
 ) -> Result<Value, Stop>
     requires dict { IsA arena.old.objects ADict d.cell }
     requires key_leads { Leads arena.old.objects key }
-    requires key_told { IsTold (C.text_of consts.now) (C.items_of consts.now) key }
+    requires key_told { Tells C.Constants consts.now key }
     requires leads { Leads arena.old.objects v }
-    requires told { IsTold (C.text_of consts.now) (C.items_of consts.now) v }
-    requires all_told { AllTold (C.text_of consts.now) (C.items_of consts.now) arena.old.objects }
-    ensures { let heap = plain_heap (C.text_of consts.now) (C.items_of consts.now) arena.old in let key = plain (C.text_of consts.now) (C.items_of consts.now) key in IsOutcome (C.text_of consts.now) (C.items_of consts.now) arena.old arena.new result (with_key_of heap key (put_pair_of heap d.cell key (plain (C.text_of consts.now) (C.items_of consts.now) v))) }
+    requires told { Tells C.Constants consts.now v }
+    requires all_told { TellsAll C.Constants consts.now arena.old }
+    ensures { Does C.Constants consts.now arena.old arena.new result (λ heap see. let key = see.value key in with_key_of heap key (put_pair_of heap d.cell key (see.value v))) }
 {
     if !is_key(arena, key) {
         return Err(Stop::Raises(Fault::UnsupportedOne {
@@ -52,11 +50,11 @@ fn set_place<C: Constants>(
 ) -> Result<Value, Stop>
     requires list { IsA arena.old.objects AList l.cell }
     requires index_leads { Leads arena.old.objects index }
-    requires index_told { IsTold (C.text_of consts.now) (C.items_of consts.now) index }
+    requires index_told { Tells C.Constants consts.now index }
     requires leads { Leads arena.old.objects v }
-    requires told { IsTold (C.text_of consts.now) (C.items_of consts.now) v }
-    requires all_told { AllTold (C.text_of consts.now) (C.items_of consts.now) arena.old.objects }
-    ensures { let heap = plain_heap (C.text_of consts.now) (C.items_of consts.now) arena.old in let items = map (plain (C.text_of consts.now) (C.items_of consts.now)) (items_at arena.old l.cell) in IsOutcome (C.text_of consts.now) (C.items_of consts.now) arena.old arena.new result (at_place heap (At l.cell) (plain (C.text_of consts.now) (C.items_of consts.now) index) (λ at. gives Nil (with_list heap l.cell (slice_set items at (plain (C.text_of consts.now) (C.items_of consts.now) v))))) }
+    requires told { Tells C.Constants consts.now v }
+    requires all_told { TellsAll C.Constants consts.now arena.old }
+    ensures { Does C.Constants consts.now arena.old arena.new result (λ heap see. let items = map see.value (items_at arena.old l.cell) in at_place heap (At l.cell) (see.value index) (λ at. gives Nil (with_list heap l.cell (slice_set items at (see.value v))))) }
 {
     items_law(arena, consts, Value::List(l));
     match place_of(arena, consts, Value::List(l), index) {
@@ -77,13 +75,13 @@ pub fn set_item<C: Constants>(
     v: Value,
 ) -> Result<Value, Stop>
     requires object_leads { Leads arena.old.objects object }
-    requires object_told { IsTold (C.text_of consts.now) (C.items_of consts.now) object }
+    requires object_told { Tells C.Constants consts.now object }
     requires index_leads { Leads arena.old.objects index }
-    requires index_told { IsTold (C.text_of consts.now) (C.items_of consts.now) index }
+    requires index_told { Tells C.Constants consts.now index }
     requires leads { Leads arena.old.objects v }
-    requires told { IsTold (C.text_of consts.now) (C.items_of consts.now) v }
-    requires all_told { AllTold (C.text_of consts.now) (C.items_of consts.now) arena.old.objects }
-    ensures { IsOutcome (C.text_of consts.now) (C.items_of consts.now) arena.old arena.new result (set_item_of (plain_heap (C.text_of consts.now) (C.items_of consts.now) arena.old) (plain (C.text_of consts.now) (C.items_of consts.now) object) (plain (C.text_of consts.now) (C.items_of consts.now) index) (plain (C.text_of consts.now) (C.items_of consts.now) v)) }
+    requires told { Tells C.Constants consts.now v }
+    requires all_told { TellsAll C.Constants consts.now arena.old }
+    ensures { Does C.Constants consts.now arena.old arena.new result (λ heap see. set_item_of heap (see.value object) (see.value index) (see.value v)) }
 {
     match container_of(arena, object) {
         Container::Dict(d) => set_key(arena, consts, d, index, v),

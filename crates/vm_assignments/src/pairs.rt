@@ -2,11 +2,8 @@
 
 ghost use Rattle.mpy_base.specs.World.{ADict, IsA};
 ghost use Rattle.arena_heap.specs.Values.{Leads, IsKey};
-ghost use Rattle.arena_heap.specs.Constants.{IsTold};
-ghost use Rattle.arena_objects.specs.Keys.{AllTold};
 ghost use Rattle.py_primitives.specs.Uses.{put_pair as put_pair_of};
-ghost use Rattle.vm_walks.specs.Plain.{plain, plain_heap};
-ghost use Rattle.vm_faults.specs.Outcomes.{IsOutcome};
+ghost use Rattle.vm_sights.specs.Sights.{Tells, TellsAll, Does};
 
 use arena_heap::{Arena, Constants, DictNo, Value};
 use arena_objects::dict_set;
@@ -23,11 +20,11 @@ pub(crate) fn put_pair<C: Constants>(
     requires dict { IsA arena.old.objects ADict d.cell }
     requires key { IsKey key }
     requires key_leads { Leads arena.old.objects key }
-    requires key_told { IsTold (C.text_of consts.now) (C.items_of consts.now) key }
+    requires key_told { Tells C.Constants consts.now key }
     requires leads { Leads arena.old.objects v }
-    requires told { IsTold (C.text_of consts.now) (C.items_of consts.now) v }
-    requires all_told { AllTold (C.text_of consts.now) (C.items_of consts.now) arena.old.objects }
-    ensures { IsOutcome (C.text_of consts.now) (C.items_of consts.now) arena.old arena.new result (put_pair_of (plain_heap (C.text_of consts.now) (C.items_of consts.now) arena.old) d.cell (plain (C.text_of consts.now) (C.items_of consts.now) key) (plain (C.text_of consts.now) (C.items_of consts.now) v)) }
+    requires told { Tells C.Constants consts.now v }
+    requires all_told { TellsAll C.Constants consts.now arena.old }
+    ensures { Does C.Constants consts.now arena.old arena.new result (λ heap see. put_pair_of heap d.cell (see.value key) (see.value v)) }
 {
     arena.sound_law();
     arena.room_law();

@@ -1,14 +1,11 @@
 //! Iterables that are unpacked.
 
-ghost use Rattle.std.specs.Prelude.{◌≡◌, ◌+◌, ◌*◌, ◌^◌, ◌<◌, length, All, IsSome, OnErr, OnOk, IfErr};
+ghost use Rattle.std.specs.Prelude.{◌≡◌, ◌+◌, ◌*◌, ◌^◌, ◌<◌, length, IsSome, OnErr};
 ghost use Rattle.arena_heap.specs.Values.{Leads, IsStr};
-ghost use Rattle.arena_heap.specs.Constants.{IsTold};
-ghost use Rattle.arena_objects.specs.Keys.{AllTold};
 ghost use Rattle.arena_objects.specs.Iterables.{items_in as items_in_arena, spelled, texts_from};
 ghost use Rattle.py_primitives.specs.Iterables.{items_in, length_of as length_in};
 ghost use Rattle.py_primitives.specs.Uses.{unpack as unpack_of};
-ghost use Rattle.vm_walks.specs.Plain.{plain, plain_heap};
-ghost use Rattle.vm_faults.specs.Faults.{IsKnown};
+ghost use Rattle.vm_sights.specs.Sights.{sight, Tells, TellsAll, KnowsAll};
 ghost use Rattle.vm_assignments.specs.Slots.{FillsSlots};
 
 use arena_heap::{Arena, Constants, TextNo, Value};
@@ -38,10 +35,10 @@ fn unpack_letters<C: Constants>(
 ) -> Result<(), Stop>
     requires str { IsStr s }
     requires leads { Leads arena.old.objects s }
-    requires told { IsTold (C.text_of consts.now) (C.items_of consts.now) s }
-    requires all_told { AllTold (C.text_of consts.now) (C.items_of consts.now) arena.old.objects }
+    requires told { Tells C.Constants consts.now s }
+    requires all_told { TellsAll C.Constants consts.now arena.old }
     requires count { length slots.old ≡ length (spelled (C.text_of consts.now) arena.old s) }
-    ensures outcome { FillsSlots (C.text_of consts.now) (C.items_of consts.now) arena.old arena.new slots.new result (unpack_of (plain_heap (C.text_of consts.now) (C.items_of consts.now) arena.old) (length slots.old) (plain (C.text_of consts.now) (C.items_of consts.now) s)) }
+    ensures outcome { let see = sight C.Constants consts.now in FillsSlots see.texts see.tuples arena.old arena.new slots.new result (unpack_of (see.heap arena.old) (length slots.old) (see.value s)) }
     ensures count { length slots.new ≡ length slots.old }
     ensures unchanged { OnErr result (slots.new ≡ slots.old) }
 {
@@ -59,11 +56,11 @@ fn unpack_letters<C: Constants>(
 /// Puts the items of an iterable into the slots.
 fn fill_items<C: Constants>(arena: &Arena, consts: &C, over: Value, slots: &mut [Value])
     requires leads { Leads arena.now.objects over }
-    requires told { IsTold (C.text_of consts.now) (C.items_of consts.now) over }
-    requires all_told { AllTold (C.text_of consts.now) (C.items_of consts.now) arena.now.objects }
+    requires told { Tells C.Constants consts.now over }
+    requires all_told { TellsAll C.Constants consts.now arena.now }
     requires count { length slots.old ≡ length (items_in_arena (C.items_of consts.now) arena.now over) }
     ensures filled { slots.new ≡ items_in_arena (C.items_of consts.now) arena.now over }
-    ensures known { All (IsKnown (C.text_of consts.now) (C.items_of consts.now) arena.now.objects) slots.new }
+    ensures known { KnowsAll C.Constants consts.now arena.now slots.new }
 {
     items_law(arena, consts, over);
     for at in 0..slots.len() {
@@ -79,11 +76,11 @@ fn unpack_items<C: Constants>(
     slots: &mut [Value],
 ) -> Result<(), Stop>
     requires leads { Leads arena.old.objects over }
-    requires told { IsTold (C.text_of consts.now) (C.items_of consts.now) over }
-    requires all_told { AllTold (C.text_of consts.now) (C.items_of consts.now) arena.old.objects }
-    requires iterable { IsSome (items_in (plain_heap (C.text_of consts.now) (C.items_of consts.now) arena.old) (plain (C.text_of consts.now) (C.items_of consts.now) over)) }
-    requires count { length slots.old ≡ length_in (plain_heap (C.text_of consts.now) (C.items_of consts.now) arena.old) (plain (C.text_of consts.now) (C.items_of consts.now) over) }
-    ensures outcome { FillsSlots (C.text_of consts.now) (C.items_of consts.now) arena.old arena.new slots.new result (unpack_of (plain_heap (C.text_of consts.now) (C.items_of consts.now) arena.old) (length slots.old) (plain (C.text_of consts.now) (C.items_of consts.now) over)) }
+    requires told { Tells C.Constants consts.now over }
+    requires all_told { TellsAll C.Constants consts.now arena.old }
+    requires iterable { let see = sight C.Constants consts.now in IsSome (items_in (see.heap arena.old) (see.value over)) }
+    requires count { let see = sight C.Constants consts.now in length slots.old ≡ length_in (see.heap arena.old) (see.value over) }
+    ensures outcome { let see = sight C.Constants consts.now in FillsSlots see.texts see.tuples arena.old arena.new slots.new result (unpack_of (see.heap arena.old) (length slots.old) (see.value over)) }
     ensures count { length slots.new ≡ length slots.old }
     ensures unchanged { OnErr result (slots.new ≡ slots.old) }
 {
@@ -101,9 +98,9 @@ fn unpack_items<C: Constants>(
 /// How many items an iterable has.
 fn count_of<C: Constants>(arena: &Arena, consts: &C, over: Value) -> u32
     requires leads { Leads arena.now.objects over }
-    requires told { IsTold (C.text_of consts.now) (C.items_of consts.now) over }
-    requires iterable { IsSome (items_in (plain_heap (C.text_of consts.now) (C.items_of consts.now) arena.now) (plain (C.text_of consts.now) (C.items_of consts.now) over)) }
-    ensures { result ≡ length_in (plain_heap (C.text_of consts.now) (C.items_of consts.now) arena.now) (plain (C.text_of consts.now) (C.items_of consts.now) over) }
+    requires told { Tells C.Constants consts.now over }
+    requires iterable { let see = sight C.Constants consts.now in IsSome (items_in (see.heap arena.now) (see.value over)) }
+    ensures { let see = sight C.Constants consts.now in result ≡ length_in (see.heap arena.now) (see.value over) }
 {
     items_law(arena, consts, over);
     match over {
@@ -120,10 +117,10 @@ fn unpack_iterable<C: Constants>(
     slots: &mut [Value],
 ) -> Result<(), Stop>
     requires leads { Leads arena.old.objects over }
-    requires told { IsTold (C.text_of consts.now) (C.items_of consts.now) over }
-    requires all_told { AllTold (C.text_of consts.now) (C.items_of consts.now) arena.old.objects }
-    requires iterable { IsSome (items_in (plain_heap (C.text_of consts.now) (C.items_of consts.now) arena.old) (plain (C.text_of consts.now) (C.items_of consts.now) over)) }
-    ensures outcome { FillsSlots (C.text_of consts.now) (C.items_of consts.now) arena.old arena.new slots.new result (unpack_of (plain_heap (C.text_of consts.now) (C.items_of consts.now) arena.old) (length slots.old) (plain (C.text_of consts.now) (C.items_of consts.now) over)) }
+    requires told { Tells C.Constants consts.now over }
+    requires all_told { TellsAll C.Constants consts.now arena.old }
+    requires iterable { let see = sight C.Constants consts.now in IsSome (items_in (see.heap arena.old) (see.value over)) }
+    ensures outcome { let see = sight C.Constants consts.now in FillsSlots see.texts see.tuples arena.old arena.new slots.new result (unpack_of (see.heap arena.old) (length slots.old) (see.value over)) }
     ensures count { length slots.new ≡ length slots.old }
     ensures unchanged { OnErr result (slots.new ≡ slots.old) }
 {
@@ -139,8 +136,8 @@ fn unpack_iterable<C: Constants>(
     }
 }
 
-/// Unpacks an iterable into so many slots. Those of a str are texts that are made; where one doesn't fit, those in front
-/// of it stay made.
+/// Unpacks an iterable into the slots, one item each. The items of a str are texts that are made; where one doesn't fit, those
+/// in front of it stay made.
 pub fn unpack<C: Constants>(
     arena: &mut Arena,
     consts: &C,
@@ -148,9 +145,9 @@ pub fn unpack<C: Constants>(
     slots: &mut [Value],
 ) -> Result<(), Stop>
     requires leads { Leads arena.old.objects over }
-    requires told { IsTold (C.text_of consts.now) (C.items_of consts.now) over }
-    requires all_told { AllTold (C.text_of consts.now) (C.items_of consts.now) arena.old.objects }
-    ensures outcome { FillsSlots (C.text_of consts.now) (C.items_of consts.now) arena.old arena.new slots.new result (unpack_of (plain_heap (C.text_of consts.now) (C.items_of consts.now) arena.old) (length slots.old) (plain (C.text_of consts.now) (C.items_of consts.now) over)) }
+    requires told { Tells C.Constants consts.now over }
+    requires all_told { TellsAll C.Constants consts.now arena.old }
+    ensures outcome { let see = sight C.Constants consts.now in FillsSlots see.texts see.tuples arena.old arena.new slots.new result (unpack_of (see.heap arena.old) (length slots.old) (see.value over)) }
     ensures count { length slots.new ≡ length slots.old }
     ensures unchanged { OnErr result (slots.new ≡ slots.old) }
 {

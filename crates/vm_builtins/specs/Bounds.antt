@@ -12,6 +12,7 @@ given_by (bounds.Stop stop) = stop ∷ []
 given_by (bounds.StartStop start stop) = start ∷ stop ∷ []
 given_by (bounds.StartStopStep start stop step) = start ∷ stop ∷ step ∷ []
 
+-- the values among the arguments lead to objects
 abbrev pub BoundsLead : Objects Value ℕ → Given → Type 0
 BoundsLead objects (bounds.Stop stop) = Leads objects stop
 BoundsLead objects (bounds.StartStop start stop) = Leads objects start × Leads objects stop

@@ -8,7 +8,7 @@ ghost use Rattle.vm_builtins.specs.Arguments.{IsRefusal, IsMiscount, IsMisgiven,
 use arena_heap::Value;
 use vm_faults::Fault;
 
-/// Keyword arguments are refused.
+/// The fault of keyword arguments, if there are any.
 fn no_keywords(keys: &[(Value, Value)]) -> Result<(), Fault>
     ensures none { IfOk result (λ _. keys.now ≡ []) }
     ensures some { IfErr result (λ fault. keys.now ≢ []) }
@@ -52,7 +52,7 @@ fn between(least: u32, most: u32, args: &[Value]) -> Result<(), Fault>
     }
 }
 
-/// So many arguments are taken, and no keyword arguments.
+/// Whether there are `takes` arguments and no keyword arguments, or the fault of what is wrong.
 pub fn only_so_many(takes: u32, args: &[Value], keys: &[(Value, Value)]) -> Result<(), Fault>
     requires few { length args.now < 2 ^ 32 }
     ensures as_many { IfOk result (λ _. length args.now ≡ takes) }
@@ -66,7 +66,7 @@ pub fn only_so_many(takes: u32, args: &[Value], keys: &[(Value, Value)]) -> Resu
     }
 }
 
-/// The only argument.
+/// The argument of a call that takes one and no keyword arguments, or the call's fault.
 pub fn one_argument(args: &[Value], keys: &[(Value, Value)]) -> Result<Value, Fault>
     requires few { length args.now < 2 ^ 32 }
     ensures given { IfOk result (λ v. args.now ≡ v ∷ []) }

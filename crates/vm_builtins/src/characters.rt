@@ -1,14 +1,11 @@
-//! `chr`.
+//! `chr`: a number of 7 bits as a text of one byte.
 
-ghost use Rattle.std.specs.Prelude.{◌≡◌, ◌<◌, ◌^◌, ◌⊎◌, pos, ◌<ℤ◌, [], ◌∷◌, length, map, All, IfOk, IfErr, IfSome, MatchOption};
+ghost use Rattle.std.specs.Prelude.{◌≡◌, ◌<◌, ◌^◌, ◌⊎◌, pos, ◌<ℤ◌, [], ◌∷◌, length, IfSome, MatchOption};
 ghost use Rattle.mpy_base.specs.declared.builtin.Builtin.TheVariants as builtins;
 ghost use Rattle.arena_heap.specs.Values.{Leads};
-ghost use Rattle.arena_objects.specs.Keys.{AllTold};
 ghost use Rattle.py_primitives.specs.Outcome.{making_text};
-ghost use Rattle.py_primitives.specs.Calls.{call, with_number, character as character_in};
-ghost use Rattle.vm_walks.specs.Plain.{plain, plain_pair, plain_heap};
-ghost use Rattle.vm_faults.specs.Faults.{IsKnown};
-ghost use Rattle.vm_faults.specs.Outcomes.{IsOutcome};
+ghost use Rattle.py_primitives.specs.Calls.{with_number, character as character_in};
+ghost use Rattle.vm_sights.specs.Sights.{calling, TellsAll, KnowsAll, Does};
 
 use crate::arguments::one_argument;
 use crate::numbers::number_of;
@@ -30,8 +27,8 @@ fn ascii_code(z: i32) -> Option<u8>
 /// A text of one byte.
 pub fn letter<C: Constants>(arena: &mut Arena, _consts: &C, byte: u8) -> Result<Value, Stop>
     requires ascii { byte < 128 }
-    requires all_told { AllTold (C.text_of _consts.now) (C.items_of _consts.now) arena.old.objects }
-    ensures { IsOutcome (C.text_of _consts.now) (C.items_of _consts.now) arena.old arena.new result (making_text (plain_heap (C.text_of _consts.now) (C.items_of _consts.now) arena.old) (byte ∷ [])) }
+    requires all_told { TellsAll C.Constants _consts.now arena.old }
+    ensures { Does C.Constants _consts.now arena.old arena.new result (λ heap see. making_text heap (byte ∷ [])) }
 {
     match make_byte(arena, byte) {
         Ok(letter) => Ok(Value::Text(letter)),
@@ -41,8 +38,8 @@ pub fn letter<C: Constants>(arena: &mut Arena, _consts: &C, byte: u8) -> Result<
 
 /// The character that has this code.
 fn character<C: Constants>(arena: &mut Arena, consts: &C, z: i32) -> Result<Value, Stop>
-    requires all_told { AllTold (C.text_of consts.now) (C.items_of consts.now) arena.old.objects }
-    ensures { IsOutcome (C.text_of consts.now) (C.items_of consts.now) arena.old arena.new result (character_in (plain_heap (C.text_of consts.now) (C.items_of consts.now) arena.old) z) }
+    requires all_told { TellsAll C.Constants consts.now arena.old }
+    ensures { Does C.Constants consts.now arena.old arena.new result (λ heap see. character_in heap z) }
 {
     match ascii_code(z) {
         Some(byte) => letter(arena, consts, byte),
@@ -50,10 +47,11 @@ fn character<C: Constants>(arena: &mut Arena, consts: &C, z: i32) -> Result<Valu
     }
 }
 
+/// `chr` of one value.
 fn chr_of<C: Constants>(arena: &mut Arena, consts: &C, v: Value) -> Result<Value, Stop>
     requires leads { Leads arena.old.objects v }
-    requires all_told { AllTold (C.text_of consts.now) (C.items_of consts.now) arena.old.objects }
-    ensures { IsOutcome (C.text_of consts.now) (C.items_of consts.now) arena.old arena.new result (with_number (plain_heap (C.text_of consts.now) (C.items_of consts.now) arena.old) (plain (C.text_of consts.now) (C.items_of consts.now) v) (character_in (plain_heap (C.text_of consts.now) (C.items_of consts.now) arena.old))) }
+    requires all_told { TellsAll C.Constants consts.now arena.old }
+    ensures { Does C.Constants consts.now arena.old arena.new result (λ heap see. with_number heap (see.value v) (character_in heap)) }
 {
     match number_of(arena, v) {
         Ok(z) => character(arena, consts, z),
@@ -69,9 +67,9 @@ pub fn call_chr<C: Constants>(
     keys: &[(Value, Value)],
 ) -> Result<Value, Stop>
     requires few { length args.now < 2 ^ 32 }
-    requires known { All (IsKnown (C.text_of consts.now) (C.items_of consts.now) arena.old.objects) args.now }
-    requires all_told { AllTold (C.text_of consts.now) (C.items_of consts.now) arena.old.objects }
-    ensures { IsOutcome (C.text_of consts.now) (C.items_of consts.now) arena.old arena.new result (call (plain_heap (C.text_of consts.now) (C.items_of consts.now) arena.old) builtins.Chr (map (plain (C.text_of consts.now) (C.items_of consts.now)) args.now) (map (plain_pair (C.text_of consts.now) (C.items_of consts.now)) keys.now)) }
+    requires known { KnowsAll C.Constants consts.now arena.old args.now }
+    requires all_told { TellsAll C.Constants consts.now arena.old }
+    ensures { Does C.Constants consts.now arena.old arena.new result (calling builtins.Chr args.now keys.now) }
 {
     match one_argument(args, keys) {
         Ok(v) => chr_of(arena, consts, v),

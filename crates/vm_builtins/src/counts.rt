@@ -9,6 +9,7 @@ use arena_heap::Value;
 use py_values::NumFault;
 use vm_faults::{Fault, Stop};
 
+/// The greatest small int, 2^30 - 1.
 const GREATEST: usize = 1_073_741_823;
 
 /// A number, or the fault of one that is out of range.

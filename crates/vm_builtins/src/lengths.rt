@@ -1,15 +1,11 @@
-//! `len`.
+//! `len` of what has items.
 
-ghost use Rattle.std.specs.Prelude.{◌<◌, ◌^◌, length, map, All};
+ghost use Rattle.std.specs.Prelude.{◌<◌, ◌^◌, length};
 ghost use Rattle.mpy_base.specs.declared.builtin.Builtin.TheVariants as builtins;
 ghost use Rattle.arena_heap.specs.Values.{Leads};
-ghost use Rattle.arena_heap.specs.Constants.{IsTold};
-ghost use Rattle.arena_objects.specs.Keys.{AllTold};
 ghost use Rattle.py_primitives.specs.Iterables.{items_in};
-ghost use Rattle.py_primitives.specs.Calls.{call, call_len as len_in};
-ghost use Rattle.vm_walks.specs.Plain.{plain, plain_pair, plain_heap};
-ghost use Rattle.vm_faults.specs.Faults.{IsKnown};
-ghost use Rattle.vm_faults.specs.Outcomes.{IsOutcome};
+ghost use Rattle.py_primitives.specs.Calls.{call_len as len_in};
+ghost use Rattle.vm_sights.specs.Sights.{calling, Tells, TellsAll, KnowsAll, Does};
 
 use crate::arguments::one_argument;
 use crate::counts::gives_count;
@@ -18,11 +14,12 @@ use vm_faults::{Fault, Stop, type_of};
 use vm_operators::length_of;
 use vm_walks::{Look, look_at};
 
+/// `len` of one value.
 fn len_of<C: Constants>(arena: &Arena, consts: &C, v: Value) -> Result<Value, Stop>
     requires leads { Leads arena.now.objects v }
-    requires told { IsTold (C.text_of consts.now) (C.items_of consts.now) v }
-    requires all_told { AllTold (C.text_of consts.now) (C.items_of consts.now) arena.now.objects }
-    ensures { IsOutcome (C.text_of consts.now) (C.items_of consts.now) arena.now arena.now result (len_in (plain_heap (C.text_of consts.now) (C.items_of consts.now) arena.now) (plain (C.text_of consts.now) (C.items_of consts.now) v) (items_in (plain_heap (C.text_of consts.now) (C.items_of consts.now) arena.now) (plain (C.text_of consts.now) (C.items_of consts.now) v))) }
+    requires told { Tells C.Constants consts.now v }
+    requires all_told { TellsAll C.Constants consts.now arena.now }
+    ensures { Does C.Constants consts.now arena.now arena.now result (λ heap see. len_in heap (see.value v) (items_in heap (see.value v))) }
 {
     match look_at(arena, consts, v) {
         Look::Nothing | Look::Number(_) | Look::Other => {
@@ -40,9 +37,9 @@ pub fn call_len<C: Constants>(
     keys: &[(Value, Value)],
 ) -> Result<Value, Stop>
     requires few { length args.now < 2 ^ 32 }
-    requires known { All (IsKnown (C.text_of consts.now) (C.items_of consts.now) arena.now.objects) args.now }
-    requires all_told { AllTold (C.text_of consts.now) (C.items_of consts.now) arena.now.objects }
-    ensures { IsOutcome (C.text_of consts.now) (C.items_of consts.now) arena.now arena.now result (call (plain_heap (C.text_of consts.now) (C.items_of consts.now) arena.now) builtins.Len (map (plain (C.text_of consts.now) (C.items_of consts.now)) args.now) (map (plain_pair (C.text_of consts.now) (C.items_of consts.now)) keys.now)) }
+    requires known { KnowsAll C.Constants consts.now arena.now args.now }
+    requires all_told { TellsAll C.Constants consts.now arena.now }
+    ensures { Does C.Constants consts.now arena.now arena.now result (calling builtins.Len args.now keys.now) }
 {
     match one_argument(args, keys) {
         Ok(v) => len_of(arena, consts, v),

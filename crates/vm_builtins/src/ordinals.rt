@@ -1,15 +1,11 @@
-//! `ord`.
+//! `ord` of a text of one byte.
 
-ghost use Rattle.std.specs.Prelude.{◌<◌, ◌^◌, length, map, All};
+ghost use Rattle.std.specs.Prelude.{◌<◌, ◌^◌, length};
 ghost use Rattle.mpy_base.specs.declared.builtin.Builtin.TheVariants as builtins;
 ghost use Rattle.arena_heap.specs.Values.{Leads};
-ghost use Rattle.arena_heap.specs.Constants.{IsTold};
-ghost use Rattle.arena_objects.specs.Keys.{AllTold};
 ghost use Rattle.py_values.specs.Shown.{Text, shown};
-ghost use Rattle.py_primitives.specs.Calls.{call, ord_of as ord_in};
-ghost use Rattle.vm_walks.specs.Plain.{plain, plain_pair, plain_heap};
-ghost use Rattle.vm_faults.specs.Faults.{IsKnown};
-ghost use Rattle.vm_faults.specs.Outcomes.{IsOutcome};
+ghost use Rattle.py_primitives.specs.Calls.{ord_of as ord_in};
+ghost use Rattle.vm_sights.specs.Sights.{calling, Tells, TellsAll, KnowsAll, Does};
 ghost use Rattle.vm_operators.specs.Changeless.{IsAnswerOf};
 
 use crate::arguments::one_argument;
@@ -27,11 +23,12 @@ fn code_of(bytes: &[u8]) -> Result<Value, Stop>
     Ok(Value::Int(bytes[0] as i32))
 }
 
+/// `ord` of one value.
 fn ord_of<C: Constants>(arena: &Arena, consts: &C, v: Value) -> Result<Value, Stop>
     requires leads { Leads arena.now.objects v }
-    requires told { IsTold (C.text_of consts.now) (C.items_of consts.now) v }
-    requires all_told { AllTold (C.text_of consts.now) (C.items_of consts.now) arena.now.objects }
-    ensures { IsOutcome (C.text_of consts.now) (C.items_of consts.now) arena.now arena.now result (ord_in (plain_heap (C.text_of consts.now) (C.items_of consts.now) arena.now) (shown (plain_heap (C.text_of consts.now) (C.items_of consts.now) arena.now) (plain (C.text_of consts.now) (C.items_of consts.now) v))) }
+    requires told { Tells C.Constants consts.now v }
+    requires all_told { TellsAll C.Constants consts.now arena.now }
+    ensures { Does C.Constants consts.now arena.now arena.now result (λ heap see. ord_in heap (shown heap (see.value v))) }
 {
     match look_at(arena, consts, v) {
         Look::Text(bytes) => code_of(bytes),
@@ -47,9 +44,9 @@ pub fn call_ord<C: Constants>(
     keys: &[(Value, Value)],
 ) -> Result<Value, Stop>
     requires few { length args.now < 2 ^ 32 }
-    requires known { All (IsKnown (C.text_of consts.now) (C.items_of consts.now) arena.now.objects) args.now }
-    requires all_told { AllTold (C.text_of consts.now) (C.items_of consts.now) arena.now.objects }
-    ensures { IsOutcome (C.text_of consts.now) (C.items_of consts.now) arena.now arena.now result (call (plain_heap (C.text_of consts.now) (C.items_of consts.now) arena.now) builtins.Ord (map (plain (C.text_of consts.now) (C.items_of consts.now)) args.now) (map (plain_pair (C.text_of consts.now) (C.items_of consts.now)) keys.now)) }
+    requires known { KnowsAll C.Constants consts.now arena.now args.now }
+    requires all_told { TellsAll C.Constants consts.now arena.now }
+    ensures { Does C.Constants consts.now arena.now arena.now result (calling builtins.Ord args.now keys.now) }
 {
     match one_argument(args, keys) {
         Ok(v) => ord_of(arena, consts, v),

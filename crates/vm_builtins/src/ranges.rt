@@ -1,15 +1,12 @@
-//! `range`.
+//! `range` of one to three numbers.
 
-ghost use Rattle.std.specs.Prelude.{◌≡◌, ◌≢◌, ◌<◌, ◌^◌, ◌≤◌, pos, length, map, All};
+ghost use Rattle.std.specs.Prelude.{◌≡◌, ◌≢◌, ◌<◌, ◌^◌, ◌≤◌, pos, length, map};
 ghost use Rattle.mpy_base.specs.World.{RangeObject};
 ghost use Rattle.mpy_base.specs.declared.builtin.Builtin.TheVariants as builtins;
 ghost use Rattle.arena_heap.specs.Values.{Leads, IsSmall};
-ghost use Rattle.arena_objects.specs.Keys.{AllTold};
 ghost use Rattle.py_primitives.specs.Outcome.{making};
-ghost use Rattle.py_primitives.specs.Calls.{call, call_range as range_in, range_of as range_from, with_number};
-ghost use Rattle.vm_walks.specs.Plain.{plain, plain_pair, plain_heap};
-ghost use Rattle.vm_faults.specs.Faults.{IsKnown};
-ghost use Rattle.vm_faults.specs.Outcomes.{IsOutcome};
+ghost use Rattle.py_primitives.specs.Calls.{call_range as range_in, range_of as range_from, with_number};
+ghost use Rattle.vm_sights.specs.Sights.{calling, TellsAll, KnowsAll, Does};
 ghost use Rattle.vm_builtins.specs.Bounds.{given_by, BoundsLead};
 
 use crate::arguments::only_between;
@@ -25,6 +22,7 @@ pub(crate) enum Bounds {
     StartStopStep(Value, Value, Value),
 }
 
+/// A range of these numbers, where the step isn't 0.
 fn make_range<C: Constants>(
     arena: &mut Arena,
     consts: &C,
@@ -36,8 +34,8 @@ fn make_range<C: Constants>(
     requires stop_small { IsSmall stop }
     requires step_small { IsSmall step }
     requires nonzero { step ≢ pos 0 }
-    requires all_told { AllTold (C.text_of consts.now) (C.items_of consts.now) arena.old.objects }
-    ensures { IsOutcome (C.text_of consts.now) (C.items_of consts.now) arena.old arena.new result (making (plain_heap (C.text_of consts.now) (C.items_of consts.now) arena.old) (RangeObject start stop step)) }
+    requires all_told { TellsAll C.Constants consts.now arena.old }
+    ensures { Does C.Constants consts.now arena.old arena.new result (λ heap see. making heap (RangeObject start stop step)) }
 {
     match arena.make_range(start, stop, step) {
         Ok(range) => Ok(Value::Range(range)),
@@ -45,6 +43,7 @@ fn make_range<C: Constants>(
     }
 }
 
+/// A range of these numbers, or the fault of a step that is 0.
 fn range_of<C: Constants>(
     arena: &mut Arena,
     consts: &C,
@@ -55,8 +54,8 @@ fn range_of<C: Constants>(
     requires start_small { IsSmall start }
     requires stop_small { IsSmall stop }
     requires step_small { IsSmall step }
-    requires all_told { AllTold (C.text_of consts.now) (C.items_of consts.now) arena.old.objects }
-    ensures { IsOutcome (C.text_of consts.now) (C.items_of consts.now) arena.old arena.new result (range_from (plain_heap (C.text_of consts.now) (C.items_of consts.now) arena.old) start stop step) }
+    requires all_told { TellsAll C.Constants consts.now arena.old }
+    ensures { Does C.Constants consts.now arena.old arena.new result (λ heap see. range_from heap start stop step) }
 {
     if step == 0 {
         return Err(Stop::Raises(Fault::ZeroStep));
@@ -64,6 +63,7 @@ fn range_of<C: Constants>(
     make_range(arena, consts, start, stop, step)
 }
 
+/// A range of two numbers and a value, which is a fault where it is no number.
 fn with_step<C: Constants>(
     arena: &mut Arena,
     consts: &C,
@@ -74,8 +74,8 @@ fn with_step<C: Constants>(
     requires start_small { IsSmall start }
     requires stop_small { IsSmall stop }
     requires step_leads { Leads arena.old.objects step }
-    requires all_told { AllTold (C.text_of consts.now) (C.items_of consts.now) arena.old.objects }
-    ensures { IsOutcome (C.text_of consts.now) (C.items_of consts.now) arena.old arena.new result (with_number (plain_heap (C.text_of consts.now) (C.items_of consts.now) arena.old) (plain (C.text_of consts.now) (C.items_of consts.now) step) (λ w. range_from (plain_heap (C.text_of consts.now) (C.items_of consts.now) arena.old) start stop w)) }
+    requires all_told { TellsAll C.Constants consts.now arena.old }
+    ensures { Does C.Constants consts.now arena.old arena.new result (λ heap see. with_number heap (see.value step) (λ w. range_from heap start stop w)) }
 {
     match number_of(arena, step) {
         Ok(z) => range_of(arena, consts, start, stop, z),
@@ -83,6 +83,7 @@ fn with_step<C: Constants>(
     }
 }
 
+/// A range of a number and two values.
 fn with_stop_and_step<C: Constants>(
     arena: &mut Arena,
     consts: &C,
@@ -93,8 +94,8 @@ fn with_stop_and_step<C: Constants>(
     requires start_small { IsSmall start }
     requires stop_leads { Leads arena.old.objects stop }
     requires step_leads { Leads arena.old.objects step }
-    requires all_told { AllTold (C.text_of consts.now) (C.items_of consts.now) arena.old.objects }
-    ensures { IsOutcome (C.text_of consts.now) (C.items_of consts.now) arena.old arena.new result (with_number (plain_heap (C.text_of consts.now) (C.items_of consts.now) arena.old) (plain (C.text_of consts.now) (C.items_of consts.now) stop) (λ y. with_number (plain_heap (C.text_of consts.now) (C.items_of consts.now) arena.old) (plain (C.text_of consts.now) (C.items_of consts.now) step) (λ w. range_from (plain_heap (C.text_of consts.now) (C.items_of consts.now) arena.old) start y w))) }
+    requires all_told { TellsAll C.Constants consts.now arena.old }
+    ensures { Does C.Constants consts.now arena.old arena.new result (λ heap see. with_number heap (see.value stop) (λ y. with_number heap (see.value step) (λ w. range_from heap start y w))) }
 {
     match number_of(arena, stop) {
         Ok(z) => with_step(arena, consts, start, z, step),
@@ -102,6 +103,7 @@ fn with_stop_and_step<C: Constants>(
     }
 }
 
+/// `range` of three values.
 fn with_all<C: Constants>(
     arena: &mut Arena,
     consts: &C,
@@ -112,8 +114,8 @@ fn with_all<C: Constants>(
     requires start_leads { Leads arena.old.objects start }
     requires stop_leads { Leads arena.old.objects stop }
     requires step_leads { Leads arena.old.objects step }
-    requires all_told { AllTold (C.text_of consts.now) (C.items_of consts.now) arena.old.objects }
-    ensures { IsOutcome (C.text_of consts.now) (C.items_of consts.now) arena.old arena.new result (with_number (plain_heap (C.text_of consts.now) (C.items_of consts.now) arena.old) (plain (C.text_of consts.now) (C.items_of consts.now) start) (λ x. with_number (plain_heap (C.text_of consts.now) (C.items_of consts.now) arena.old) (plain (C.text_of consts.now) (C.items_of consts.now) stop) (λ y. with_number (plain_heap (C.text_of consts.now) (C.items_of consts.now) arena.old) (plain (C.text_of consts.now) (C.items_of consts.now) step) (λ w. range_from (plain_heap (C.text_of consts.now) (C.items_of consts.now) arena.old) x y w)))) }
+    requires all_told { TellsAll C.Constants consts.now arena.old }
+    ensures { Does C.Constants consts.now arena.old arena.new result (λ heap see. with_number heap (see.value start) (λ x. with_number heap (see.value stop) (λ y. with_number heap (see.value step) (λ w. range_from heap x y w)))) }
 {
     match number_of(arena, start) {
         Ok(z) => with_stop_and_step(arena, consts, z, stop, step),
@@ -121,6 +123,7 @@ fn with_all<C: Constants>(
     }
 }
 
+/// A range of a number and a value, with step 1.
 fn with_stop<C: Constants>(
     arena: &mut Arena,
     consts: &C,
@@ -129,8 +132,8 @@ fn with_stop<C: Constants>(
 ) -> Result<Value, Stop>
     requires start_small { IsSmall start }
     requires stop_leads { Leads arena.old.objects stop }
-    requires all_told { AllTold (C.text_of consts.now) (C.items_of consts.now) arena.old.objects }
-    ensures { IsOutcome (C.text_of consts.now) (C.items_of consts.now) arena.old arena.new result (with_number (plain_heap (C.text_of consts.now) (C.items_of consts.now) arena.old) (plain (C.text_of consts.now) (C.items_of consts.now) stop) (λ y. range_from (plain_heap (C.text_of consts.now) (C.items_of consts.now) arena.old) start y (pos 1))) }
+    requires all_told { TellsAll C.Constants consts.now arena.old }
+    ensures { Does C.Constants consts.now arena.old arena.new result (λ heap see. with_number heap (see.value stop) (λ y. range_from heap start y (pos 1))) }
 {
     match number_of(arena, stop) {
         Ok(z) => range_of(arena, consts, start, z, 1),
@@ -138,6 +141,7 @@ fn with_stop<C: Constants>(
     }
 }
 
+/// `range` of two values.
 fn with_start_and_stop<C: Constants>(
     arena: &mut Arena,
     consts: &C,
@@ -146,8 +150,8 @@ fn with_start_and_stop<C: Constants>(
 ) -> Result<Value, Stop>
     requires start_leads { Leads arena.old.objects start }
     requires stop_leads { Leads arena.old.objects stop }
-    requires all_told { AllTold (C.text_of consts.now) (C.items_of consts.now) arena.old.objects }
-    ensures { IsOutcome (C.text_of consts.now) (C.items_of consts.now) arena.old arena.new result (with_number (plain_heap (C.text_of consts.now) (C.items_of consts.now) arena.old) (plain (C.text_of consts.now) (C.items_of consts.now) start) (λ x. with_number (plain_heap (C.text_of consts.now) (C.items_of consts.now) arena.old) (plain (C.text_of consts.now) (C.items_of consts.now) stop) (λ y. range_from (plain_heap (C.text_of consts.now) (C.items_of consts.now) arena.old) x y (pos 1)))) }
+    requires all_told { TellsAll C.Constants consts.now arena.old }
+    ensures { Does C.Constants consts.now arena.old arena.new result (λ heap see. with_number heap (see.value start) (λ x. with_number heap (see.value stop) (λ y. range_from heap x y (pos 1)))) }
 {
     match number_of(arena, start) {
         Ok(z) => with_stop(arena, consts, z, stop),
@@ -155,10 +159,11 @@ fn with_start_and_stop<C: Constants>(
     }
 }
 
+/// `range` of one to three values.
 fn with_bounds<C: Constants>(arena: &mut Arena, consts: &C, bounds: Bounds) -> Result<Value, Stop>
     requires leads { BoundsLead arena.old.objects bounds }
-    requires all_told { AllTold (C.text_of consts.now) (C.items_of consts.now) arena.old.objects }
-    ensures { IsOutcome (C.text_of consts.now) (C.items_of consts.now) arena.old arena.new result (range_in (plain_heap (C.text_of consts.now) (C.items_of consts.now) arena.old) (map (plain (C.text_of consts.now) (C.items_of consts.now)) (given_by bounds))) }
+    requires all_told { TellsAll C.Constants consts.now arena.old }
+    ensures { Does C.Constants consts.now arena.old arena.new result (λ heap see. range_in heap (map see.value (given_by bounds))) }
 {
     match bounds {
         Bounds::Stop(stop) => with_stop(arena, consts, 0, stop),
@@ -167,6 +172,7 @@ fn with_bounds<C: Constants>(arena: &mut Arena, consts: &C, bounds: Bounds) -> R
     }
 }
 
+/// What a range is called with, of one to three arguments.
 fn bounds_of(args: &[Value]) -> Bounds
     requires least { 1 ≤ length args.now }
     requires most { length args.now ≤ 3 }
@@ -189,9 +195,9 @@ pub fn call_range<C: Constants>(
     keys: &[(Value, Value)],
 ) -> Result<Value, Stop>
     requires few { length args.now < 2 ^ 32 }
-    requires known { All (IsKnown (C.text_of consts.now) (C.items_of consts.now) arena.old.objects) args.now }
-    requires all_told { AllTold (C.text_of consts.now) (C.items_of consts.now) arena.old.objects }
-    ensures { IsOutcome (C.text_of consts.now) (C.items_of consts.now) arena.old arena.new result (call (plain_heap (C.text_of consts.now) (C.items_of consts.now) arena.old) builtins.Range (map (plain (C.text_of consts.now) (C.items_of consts.now)) args.now) (map (plain_pair (C.text_of consts.now) (C.items_of consts.now)) keys.now)) }
+    requires known { KnowsAll C.Constants consts.now arena.old args.now }
+    requires all_told { TellsAll C.Constants consts.now arena.old }
+    ensures { Does C.Constants consts.now arena.old arena.new result (calling builtins.Range args.now keys.now) }
 {
     match only_between(1, 3, args, keys) {
         Ok(()) => with_bounds(arena, consts, bounds_of(args)),

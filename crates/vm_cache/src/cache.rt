@@ -29,7 +29,7 @@ impl Model for Cache {
 }
 
 impl Cache {
-    /// Nothing was fetched yet.
+    /// The cache of a library of which nothing was fetched yet. It takes its memory here.
     #[tactic(auto, using(crate::proofs::Empty::none_kept))]
     pub fn new(alloc: Global, library: &Library, rows: &Rows<'_>) -> Result<Cache, NoMemory>
         ensures { IfOk result (AreFetched library.now) }

@@ -41,18 +41,21 @@ impl Codes {
         Ok(Codes { codes })
     }
 
+    /// What was kept of a code, by its offsets.
     pub(crate) fn places(&self, code: u32) -> Option<&Places>
         ensures { IfSome result (λ places. (offset : ℕ) → place_in places.now offset ≡ code_in self.now code offset) }
     {
         self.codes.get(code as usize)
     }
 
+    /// What was kept at an offset of a code.
     pub(crate) fn look(&self, code: u32, offset: u32) -> Option<Fetched>
         ensures { result ≡ code_in self.now code offset }
     {
         self.codes.get(code as usize)?.look(offset)
     }
 
+    /// Keeps what was fetched at an offset of a code; nothing where there is no such code or offset.
     #[tactic(auto, using(crate::proofs::Keeping::update_some, crate::proofs::Keeping::update_none))]
     pub(crate) fn keep(&mut self, code: u32, offset: u32, fetched: Fetched)
         ensures { self.new ≡ update_at self.old code (λ places. slice_set places offset (Some fetched)) }

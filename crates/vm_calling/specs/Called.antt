@@ -40,7 +40,7 @@ abbrev pub of_stop : Result (Unit {0}) Stop → Result (Unit {0}) CallStop
 of_stop (Ok done) = Ok tt
 of_stop (Err stop) = Err (calls.Stops stop)
 
--- the sink failed
+-- did the sink fail?
 abbrev pub is_out : Result (Unit {0}) CallStop → Bool
 is_out (Ok done) = false
 is_out (Err (calls.Stops stop)) = false
@@ -56,12 +56,15 @@ module _ (p : Program) (callee : Callee) (given : Given) (before : Heap Value �
   abbrev pub begins_in : PlainWorld
   begins_in = world_of p.tables w before
 
+  -- what is called, as the meaning has it
   abbrev pub called : plain.Callee
   called = plain_callee p.tables.texts p.tables.tuples begins_in callee
 
+  -- the positional arguments
   abbrev pub plain_args : List Val
   plain_args = map (value_of p.tables) given.args
 
+  -- the keyword arguments
   abbrev pub plain_keys : Keys
   plain_keys = map (plain_pair p.tables.texts p.tables.tuples) given.keys
 
@@ -114,7 +117,8 @@ CallsIn told count shelf fetched callee given before behind old new result =
     → (w : PlainWorld) → told before.out ≡ Some w.output → Tell before.ports w.ports
     → CallComes told count p ready.place callee given before behind old new w result
 
--- the same of a call that puts nothing and calls no port, in each world
+-- a call that puts nothing and calls no port comes to this, in each program of the library that the old calls run, where this was fetched
+-- for the first of them, and in each world
 abbrev pub ComesIn : Shelf → Fetched → Callee → Given → (before behind : Heap Value ℕ) → (old new : Calls) → Result (Unit {0}) Stop → Type 0
 ComesIn shelf fetched callee given before behind old new result =
     (p : Program) (row : Row) → Means p → p.shelf ≡ shelf → IsState p before.objects old → (ready : IsReady p old row fetched)

@@ -29,7 +29,8 @@ pub record RunsIn (shelf : Shelf) (heap : Heap Value ℕ) (s : Calls) (fetched :
   pub state : IsState program heap.objects s
   pub ready : IsReady program s row fetched
 
--- and no code of the program has more slots than there is room for
+-- the calls run a program of the library over the arena, no code of which has more slots than there is room for, and this was fetched for
+-- the first of them
 pub record RunsWithin (room : ℕ) (shelf : Shelf) (heap : Heap Value ℕ) (s : Calls) (fetched : Fetched) : Type 0 where
   pub runs : RunsIn shelf heap s fetched
   pub roomy : (name : Name) (number : ℕ) (code : Code) → code_at runs.program.library name number ≡ Some code → (runs.program.plans name number).n_state ≤ room

@@ -1,4 +1,4 @@
-//! Calls.
+//! Calls that an instruction makes: what is called is looked at, the visits are paid, and then the call is carried out.
 
 ghost use Rattle.std.specs.Prelude.{◌≡◌, ◌<◌, ◌^◌, map, true, OnErr};
 ghost use Rattle.mpy_base.specs.declared.builtin.Builtin.{Builtin as BuiltIn};

@@ -41,7 +41,7 @@ fn name_at(names: &[ModuleName], module_number: u32) -> u32
     names[module_number as usize].name
 }
 
-/// A child of a code.
+/// The child of this number of a code, as its function keeps it.
 pub(crate) fn child_in(
     rows: &Rows<'_>,
     names: &[ModuleName],

@@ -17,7 +17,7 @@ use Rattle.py_effects.specs.Effect.{faults}
 use Rattle.py_effects.specs.Calling.{Callee, Acts, callee_object, callee_of}
 use Rattle.vm_walks.specs.Plain.{plain, plain_by, plain_object, plain_heap, fixed_of, fixed_within}
 use Rattle.vm_walks.proofs.PlainValues.{object_plain, within_step}
-use Rattle.vm_calls.specs.Binding.{world_over}
+use Rattle.vm_sights.specs.Sights.{world_over}
 
 abbrev refuses : PlainWorld → List ℕ → Callee
 refuses w name = Acts (λ args keys. faults (NotCallable name) w)

@@ -11,22 +11,26 @@ use Rattle.py_primitives.specs.Faults as plain
 use Rattle.py_primitives.specs.Outcome.{Stop, Raises}
 use Rattle.py_effects.specs.Effect.{Effect}
 use Rattle.py_effects.specs.Names.{Locals}
-use Rattle.vm_walks.specs.Plain.{plain as plain_value, plain_heap}
+use Rattle.vm_walks.specs.Plain.{plain as plain_value}
 use Rattle.vm_faults.specs.declared.fault.Fault.{Fault}
 use Rattle.vm_faults.specs.Faults.{plain_fault, IsKnown, IsKnownFault}
+use Rattle.vm_sights.specs.Sights.{world_over}
 
 -- the bytes of a name
 abbrev pub name_text : (StrNo → Option (List ℕ)) → StrNo → List ℕ
 name_text texts name = or_nothing (texts name)
 
+-- the slots, or the fault as a stop
 abbrev pub bound_answer : Result Locals plain.Fault → Result Locals Stop
 bound_answer (Ok slots) = Ok slots
 bound_answer (Err fault) = Err (Raises fault)
 
 module _ (texts : StrNo → Option (List ℕ)) (tuples : ConstNo → Option (List Value)) where
+  -- a slot as the meaning has it
   abbrev pub plain_slot : Option Value → Option Val
   plain_slot slot = option_map (plain_value texts tuples) slot
 
+  -- the slots as the meaning has them
   abbrev pub plain_slots : List (Option Value) → Locals
   plain_slots slots = map plain_slot slots
 
@@ -39,16 +43,12 @@ module _ (texts : StrNo → Option (List ℕ)) (tuples : ConstNo → Option (Lis
   plain_bound heap slots (Ok done) = Ok (plain_slots slots)
   plain_bound heap slots (Err fault) = Err (plain_fault texts tuples heap fault)
 
-  -- the world with the heap of an arena in the place of its own
-  abbrev pub world_over : PlainWorld → Heap Value ℕ → PlainWorld
-  world_over w heap = record w { heap = plain_heap texts tuples heap }
-
   -- a binding that leaves these slots, and answers so, has this effect on each world of the heap: it changes nothing of the
   -- world, and makes no visits
   pub record IsBound (heap : Heap Value ℕ) (slots : List (Option Value)) (result : Result (Unit {0}) Fault) (effect : PlainWorld → Effect Locals) : Type 0 where
-    pub answer : (w : PlainWorld) → bound_answer (plain_bound heap slots result) ≡ (effect (world_over w heap)).answer
-    pub world : (w : PlainWorld) → (effect (world_over w heap)).world ≡ world_over w heap
-    pub visits : (w : PlainWorld) → (effect (world_over w heap)).visits ≡ 0
+    pub answer : (w : PlainWorld) → bound_answer (plain_bound heap slots result) ≡ (effect (world_over texts tuples w heap)).answer
+    pub world : (w : PlainWorld) → (effect (world_over texts tuples w heap)).world ≡ world_over texts tuples w heap
+    pub visits : (w : PlainWorld) → (effect (world_over texts tuples w heap)).visits ≡ 0
 
   -- the values of the slots are known, or those of the fault
   abbrev pub IsKnownBound : Objects Value ℕ → List (Option Value) → Result (Unit {0}) Fault → Type 0

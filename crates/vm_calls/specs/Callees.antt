@@ -23,6 +23,7 @@ pub record HasParts (o : Option ArenaObject) (f : Function) : Type 0 where
   pub is : o ≡ Some (FunctionObject name f.module_name f.code f.names.cell f.defaults)
 
 module _ (texts : StrNo → Option (List ℕ)) (tuples : ConstNo → Option (List Value)) where
+  -- a function as the meaning has it
   abbrev pub plain_function : Function → plain.Function
   plain_function f = record {
     module_name = plain_name texts tuples f.module_name;
@@ -49,6 +50,7 @@ module _ (texts : StrNo → Option (List ℕ)) (tuples : ConstNo → Option (Lis
     pub known : IsKnown texts tuples objects object
     pub of_type : IsMethodOf method object
 
+  -- a callee whose values lead to objects and are told
   abbrev pub IsKnownCallee : Objects Value ℕ → Callee → Type 0
   IsKnownCallee objects (callees.Runs f) = IsKnownFunction objects f
   IsKnownCallee objects (callees.Method object method) = IsKnownMethod objects object method

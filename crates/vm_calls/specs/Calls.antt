@@ -34,6 +34,7 @@ abbrev pub as_call : Result Value Stop → Result Value CallStop
 as_call (Ok v) = Ok v
 as_call (Err stop) = Err (calls.Stops stop)
 
+-- the answer of a call of `print` as that of a built-in's
 abbrev pub as_print : Result Value PrintStop → Result Value CallStop
 as_print (Ok v) = Ok v
 as_print (Err (prints.Raises fault)) = Err (calls.Stops (stops.Raises fault))
@@ -58,12 +59,15 @@ IsKnownCall texts tuples objects (Err (calls.Stops stop)) = IsKnownAnswer texts 
 IsKnownCall texts tuples objects (Err (calls.Out failed)) = Unit {0}
 
 module _ {S : Type 0} (told : S → Option (List ℕ)) (count : S → ℕ) (texts : StrNo → Option (List ℕ)) (tuples : ConstNo → Option (List Value)) (old new : Seen S) (args : List Value) (keys : List (Value × Value)) (result : Result Value CallStop) where
+  -- the heap before the call, as the meaning has it
   abbrev pub heap_of : PlainHeap
   heap_of = plain_heap texts tuples old.heap
 
+  -- the positional arguments
   abbrev pub plain_args : List Val
   plain_args = map (plain_value texts tuples) args
 
+  -- the keyword arguments
   abbrev pub plain_keys : List (Val × Val)
   plain_keys = map (plain_pair texts tuples) keys
 
@@ -88,6 +92,7 @@ module _ {S : Type 0} (told : S → Option (List ℕ)) (count : S → ℕ) (text
       → (r ≡ Err (stops.Raises faults.PortFailed) → (call_port heap_of contents b plain_args plain_keys).answer ≡ Err (primitives.Raises plain.PortFailed))
       → IsPortOutcome texts tuples old.heap new.ports r (call_port heap_of contents b plain_args plain_keys)
 
+  -- a call of a port does what the primitive does; where it fails, the port told so
   pub record CallsPort (b : Builtin) : Type 0 where
     pub does : Answers as_call result (DoesAsPort b)
     pub failed : result ≡ Err (calls.Stops (stops.Raises faults.PortFailed)) → Failed (called_number args) old.ports new.ports

@@ -2,14 +2,14 @@
 use Rattle.mpy_base.specs.declared.builtin.Builtin.{Builtin}
 use Rattle.mpy_base.specs.declared.builtin.Builtin.TheVariants as builtins
 
--- those of ports
+-- the built-ins of ports
 abbrev pub IsOfPorts : Builtin → Type 0
 IsOfPorts builtins.PortPut = Unit {0}
 IsOfPorts builtins.PortGet = Unit {0}
 IsOfPorts builtins.PortCount = Unit {0}
 IsOfPorts _ = ⊥
 
--- those that concern the heap alone: no print, no port, and not the module of the ports
+-- the built-ins that concern the heap alone: no print, no port, and not the module of the ports
 abbrev pub IsOnHeap : Builtin → Type 0
 IsOnHeap builtins.Print = ⊥
 IsOnHeap builtins.Port = ⊥

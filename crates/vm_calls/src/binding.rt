@@ -1,11 +1,9 @@
 //! The binding of arguments to the slots of a function's parameters.
 
-ghost use Rattle.std.specs.Prelude.{◌≡◌, ◌-◌, ◌<◌, ◌^◌, length, map, All, Ok};
-ghost use Rattle.arena_objects.specs.Keys.{AllTold};
+ghost use Rattle.std.specs.Prelude.{◌≡◌, ◌-◌, ◌<◌, ◌^◌, length, map, Ok};
 ghost use Rattle.py_values.specs.Shown.{shown};
 ghost use Rattle.py_effects.specs.Calling.{all_filled, bound, bind as bind_of, default_items};
-ghost use Rattle.vm_walks.specs.Plain.{plain, plain_heap, plain_pair};
-ghost use Rattle.vm_faults.specs.Faults.{IsKnown};
+ghost use Rattle.vm_sights.specs.Sights.{under, sight, TellsAll, Knows, KnowsAll, KnowsPairs};
 ghost use Rattle.vm_calls.specs.Binding.{name_text, plain_slots, AreKnown, IsBound, IsKnownBound, plain_bound};
 
 use crate::defaults::put_defaults;
@@ -31,11 +29,11 @@ fn complete<C: Constants>(
     slots: &mut [Option<Value>],
 ) -> Result<(), Fault>
     requires few { length slots.old < 2 ^ 32 }
-    requires known_slots { AreKnown (C.text_of consts.now) (C.items_of consts.now) arena.now.objects slots.old }
-    requires defaults { IsKnown (C.text_of consts.now) (C.items_of consts.now) arena.now.objects defaults }
-    requires all_told { AllTold (C.text_of consts.now) (C.items_of consts.now) arena.now.objects }
-    ensures complete { plain_bound (C.text_of consts.now) (C.items_of consts.now) arena.now slots.new result ≡ all_filled (length slots.old - given) (default_items (shown (plain_heap (C.text_of consts.now) (C.items_of consts.now) arena.now) (plain (C.text_of consts.now) (C.items_of consts.now) defaults))) (Ok (plain_slots (C.text_of consts.now) (C.items_of consts.now) slots.old)) }
-    ensures known { IsKnownBound (C.text_of consts.now) (C.items_of consts.now) arena.now.objects slots.new result }
+    requires known_slots { under C.Constants consts.now AreKnown arena.now.objects slots.old }
+    requires defaults { Knows C.Constants consts.now arena.now defaults }
+    requires all_told { TellsAll C.Constants consts.now arena.now }
+    ensures complete { let see = sight C.Constants consts.now in plain_bound see.texts see.tuples arena.now slots.new result ≡ all_filled (length slots.old - given) (default_items (shown (see.heap arena.now) (see.value defaults))) (Ok (plain_slots see.texts see.tuples slots.old)) }
+    ensures known { under C.Constants consts.now IsKnownBound arena.now.objects slots.new result }
 {
     let before = slots.len().saturating_sub(given as usize);
     put_defaults(arena, consts, defaults, before, slots);
@@ -59,12 +57,12 @@ fn bind_given<C: Constants>(
     requires slots { length slots.old ≡ length params.names.now }
     requires few { length params.names.now < 2 ^ 32 }
     requires few_args { length args.now < 2 ^ 32 }
-    requires defaults { IsKnown (C.text_of consts.now) (C.items_of consts.now) arena.now.objects params.defaults }
-    requires known { All (IsKnown (C.text_of consts.now) (C.items_of consts.now) arena.now.objects) args.now }
-    requires known_keys { All (λ pair. IsKnown (C.text_of consts.now) (C.items_of consts.now) arena.now.objects pair.0 × IsKnown (C.text_of consts.now) (C.items_of consts.now) arena.now.objects pair.1) keys.now }
-    requires all_told { AllTold (C.text_of consts.now) (C.items_of consts.now) arena.now.objects }
-    ensures bound { plain_bound (C.text_of consts.now) (C.items_of consts.now) arena.now slots.new result ≡ bound (plain_heap (C.text_of consts.now) (C.items_of consts.now) arena.now) (map (name_text (C.text_of consts.now)) params.entry.names.now) params.entry.given (plain (C.text_of consts.now) (C.items_of consts.now) params.entry.defaults) (map (plain (C.text_of consts.now) (C.items_of consts.now)) args.now) (map (plain_pair (C.text_of consts.now) (C.items_of consts.now)) keys.now) }
-    ensures known { IsKnownBound (C.text_of consts.now) (C.items_of consts.now) arena.now.objects slots.new result }
+    requires defaults { Knows C.Constants consts.now arena.now params.defaults }
+    requires known { KnowsAll C.Constants consts.now arena.now args.now }
+    requires known_keys { KnowsPairs C.Constants consts.now arena.now keys.now }
+    requires all_told { TellsAll C.Constants consts.now arena.now }
+    ensures bound { let see = sight C.Constants consts.now in plain_bound see.texts see.tuples arena.now slots.new result ≡ bound (see.heap arena.now) (map (name_text see.texts) params.entry.names.now) params.entry.given (see.value params.entry.defaults) (map see.value args.now) (map see.pair keys.now) }
+    ensures known { under C.Constants consts.now IsKnownBound arena.now.objects slots.new result }
 {
     if args.len() > params.names.len() {
         return Err(Fault::WrongCount {
@@ -92,12 +90,12 @@ pub fn bind<C: Constants>(
     requires slots { length slots.old ≡ length params.names.now }
     requires few { length params.names.now < 2 ^ 32 }
     requires few_args { length args.now < 2 ^ 32 }
-    requires defaults { IsKnown (C.text_of consts.now) (C.items_of consts.now) arena.now.objects params.defaults }
-    requires known { All (IsKnown (C.text_of consts.now) (C.items_of consts.now) arena.now.objects) args.now }
-    requires known_keys { All (λ pair. IsKnown (C.text_of consts.now) (C.items_of consts.now) arena.now.objects pair.0 × IsKnown (C.text_of consts.now) (C.items_of consts.now) arena.now.objects pair.1) keys.now }
-    requires all_told { AllTold (C.text_of consts.now) (C.items_of consts.now) arena.now.objects }
-    ensures bound { IsBound (C.text_of consts.now) (C.items_of consts.now) arena.now slots.new result (λ w. bind_of w (map (name_text (C.text_of consts.now)) params.entry.names.now) params.entry.given (plain (C.text_of consts.now) (C.items_of consts.now) params.entry.defaults) (map (plain (C.text_of consts.now) (C.items_of consts.now)) args.now) (map (plain_pair (C.text_of consts.now) (C.items_of consts.now)) keys.now)) }
-    ensures known { IsKnownBound (C.text_of consts.now) (C.items_of consts.now) arena.now.objects slots.new result }
+    requires defaults { Knows C.Constants consts.now arena.now params.defaults }
+    requires known { KnowsAll C.Constants consts.now arena.now args.now }
+    requires known_keys { KnowsPairs C.Constants consts.now arena.now keys.now }
+    requires all_told { TellsAll C.Constants consts.now arena.now }
+    ensures bound { let see = sight C.Constants consts.now in IsBound see.texts see.tuples arena.now slots.new result (λ w. bind_of w (map (name_text see.texts) params.entry.names.now) params.entry.given (see.value params.entry.defaults) (map see.value args.now) (map see.pair keys.now)) }
+    ensures known { under C.Constants consts.now IsKnownBound arena.now.objects slots.new result }
 {
     bind_given(arena, consts, params, args, keys, slots)
 }

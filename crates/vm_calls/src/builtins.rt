@@ -1,14 +1,11 @@
 //! Calls of built-ins that concern the heap alone.
 
-ghost use Rattle.std.specs.Prelude.{◌≡◌, ℕ, List, ◌<◌, ◌^◌, length, map, All};
+ghost use Rattle.std.specs.Prelude.{◌≡◌, List, ◌<◌, ◌^◌, length};
 ghost use Rattle.mpy_base.specs.Val.{Val, Nil};
-ghost use Rattle.arena_objects.specs.Keys.{AllTold};
 ghost use Rattle.py_values.specs.Shown.{PlainHeap};
 ghost use Rattle.py_primitives.specs.Outcome.{gives};
-ghost use Rattle.py_primitives.specs.Calls.{Exactly, Between, counts_of, called, call};
-ghost use Rattle.vm_walks.specs.Plain.{plain, plain_pair, plain_heap};
-ghost use Rattle.vm_faults.specs.Faults.{IsKnown};
-ghost use Rattle.vm_faults.specs.Outcomes.{IsOutcome};
+ghost use Rattle.py_primitives.specs.Calls.{Exactly, Between, counts_of, called};
+ghost use Rattle.vm_sights.specs.Sights.{calling, TellsAll, KnowsAll, Does};
 ghost use Rattle.vm_calls.specs.Families.{IsOnHeap, IsUnbound};
 
 use arena_heap::{Arena, Constants, Value};
@@ -32,8 +29,8 @@ fn take_exactly<C: Constants>(
     requires few { length args.now < 2 ^ 32 }
     requires counts { counts_of b ≡ Exactly count }
     requires nothing { (heap : PlainHeap) (given : List Val) → called heap b given ≡ gives Nil heap }
-    requires all_told { AllTold (C.text_of _consts.now) (C.items_of _consts.now) arena.now.objects }
-    ensures { IsOutcome (C.text_of _consts.now) (C.items_of _consts.now) arena.now arena.now result (call (plain_heap (C.text_of _consts.now) (C.items_of _consts.now) arena.now) b (map (plain (C.text_of _consts.now) (C.items_of _consts.now)) args.now) (map (plain_pair (C.text_of _consts.now) (C.items_of _consts.now)) keys.now)) }
+    requires all_told { TellsAll C.Constants _consts.now arena.now }
+    ensures { Does C.Constants _consts.now arena.now arena.now result (calling b args.now keys.now) }
 {
     match only_so_many(count, args, keys) {
         Ok(()) => Ok(Value::None),
@@ -53,8 +50,8 @@ fn take_between<C: Constants>(
     requires few { length args.now < 2 ^ 32 }
     requires counts { counts_of b ≡ Between bounds.0 bounds.1 }
     requires nothing { (heap : PlainHeap) (given : List Val) → called heap b given ≡ gives Nil heap }
-    requires all_told { AllTold (C.text_of _consts.now) (C.items_of _consts.now) arena.now.objects }
-    ensures { IsOutcome (C.text_of _consts.now) (C.items_of _consts.now) arena.now arena.now result (call (plain_heap (C.text_of _consts.now) (C.items_of _consts.now) arena.now) b (map (plain (C.text_of _consts.now) (C.items_of _consts.now)) args.now) (map (plain_pair (C.text_of _consts.now) (C.items_of _consts.now)) keys.now)) }
+    requires all_told { TellsAll C.Constants _consts.now arena.now }
+    ensures { Does C.Constants _consts.now arena.now arena.now result (calling b args.now keys.now) }
 {
     match only_between(bounds.0, bounds.1, args, keys) {
         Ok(()) => Ok(Value::None),
@@ -72,8 +69,8 @@ fn call_unbound<C: Constants>(
 ) -> Result<Value, Stop>
     requires method { IsUnbound b }
     requires few { length args.now < 2 ^ 32 }
-    requires all_told { AllTold (C.text_of consts.now) (C.items_of consts.now) arena.now.objects }
-    ensures { IsOutcome (C.text_of consts.now) (C.items_of consts.now) arena.now arena.now result (call (plain_heap (C.text_of consts.now) (C.items_of consts.now) arena.now) b (map (plain (C.text_of consts.now) (C.items_of consts.now)) args.now) (map (plain_pair (C.text_of consts.now) (C.items_of consts.now)) keys.now)) }
+    requires all_told { TellsAll C.Constants consts.now arena.now }
+    ensures { Does C.Constants consts.now arena.now arena.now result (calling b args.now keys.now) }
 {
     match b {
         Builtin::ListAppend => take_exactly(arena, consts, Builtin::ListAppend, 1, args, keys),
@@ -110,9 +107,9 @@ pub fn call_on_heap<C: Constants>(
 ) -> Result<Value, Stop>
     requires on_heap { IsOnHeap b }
     requires few { length args.now < 2 ^ 32 }
-    requires known { All (IsKnown (C.text_of consts.now) (C.items_of consts.now) arena.old.objects) args.now }
-    requires all_told { AllTold (C.text_of consts.now) (C.items_of consts.now) arena.old.objects }
-    ensures { IsOutcome (C.text_of consts.now) (C.items_of consts.now) arena.old arena.new result (call (plain_heap (C.text_of consts.now) (C.items_of consts.now) arena.old) b (map (plain (C.text_of consts.now) (C.items_of consts.now)) args.now) (map (plain_pair (C.text_of consts.now) (C.items_of consts.now)) keys.now)) }
+    requires known { KnowsAll C.Constants consts.now arena.old args.now }
+    requires all_told { TellsAll C.Constants consts.now arena.old }
+    ensures { Does C.Constants consts.now arena.old arena.new result (calling b args.now keys.now) }
 {
     match b {
         Builtin::Bool => call_bool(arena, consts, args, keys),

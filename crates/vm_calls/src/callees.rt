@@ -3,12 +3,9 @@
 ghost use Rattle.std.specs.Prelude.{◌≡◌};
 ghost use Rattle.mpy_base.specs.World.{AFunction, IsA, object};
 ghost use Rattle.mpy_base.specs.Val.{PlainWorld};
-ghost use Rattle.arena_objects.specs.Keys.{AllTold};
 ghost use Rattle.py_effects.specs.Calling.{callee_of as callee_in};
-ghost use Rattle.vm_walks.specs.Plain.{plain};
-ghost use Rattle.vm_faults.specs.Faults.{IsKnown};
+ghost use Rattle.vm_sights.specs.Sights.{under, sight, TellsAll, Knows, world_over};
 ghost use Rattle.vm_calls.specs.Callees.{HasParts, plain_callee, IsKnownFunction, IsKnownCallee};
-ghost use Rattle.vm_calls.specs.Binding.{world_over};
 
 use arena_heap::{Arena, Constants, DictNo, FunNo, MethodNo, Value, fun_parts, method_parts};
 use mpy_base::Builtin;
@@ -38,9 +35,9 @@ pub enum Callee {
 /// The parts of a function.
 fn function_of<C: Constants>(arena: &Arena, _consts: &C, f: FunNo) -> Function
     requires function { IsA arena.now.objects AFunction f.cell }
-    requires all_told { AllTold (C.text_of _consts.now) (C.items_of _consts.now) arena.now.objects }
+    requires all_told { TellsAll C.Constants _consts.now arena.now }
     ensures parts { HasParts (object arena.now.objects f.cell) result }
-    ensures known { IsKnownFunction (C.text_of _consts.now) (C.items_of _consts.now) arena.now.objects result }
+    ensures known { under C.Constants _consts.now IsKnownFunction arena.now.objects result }
 {
     let (_, module_name, code, names, defaults) = fun_parts(arena, f);
     Function {
@@ -53,10 +50,10 @@ fn function_of<C: Constants>(arena: &Arena, _consts: &C, f: FunNo) -> Function
 
 /// What a call of a value does.
 pub fn callee_of<C: Constants>(arena: &Arena, _consts: &C, v: Value) -> Callee
-    requires known { IsKnown (C.text_of _consts.now) (C.items_of _consts.now) arena.now.objects v }
-    requires all_told { AllTold (C.text_of _consts.now) (C.items_of _consts.now) arena.now.objects }
-    ensures callee { (w : PlainWorld) → plain_callee (C.text_of _consts.now) (C.items_of _consts.now) (world_over (C.text_of _consts.now) (C.items_of _consts.now) w arena.now) result ≡ callee_in (world_over (C.text_of _consts.now) (C.items_of _consts.now) w arena.now) (plain (C.text_of _consts.now) (C.items_of _consts.now) v) }
-    ensures known { IsKnownCallee (C.text_of _consts.now) (C.items_of _consts.now) arena.now.objects result }
+    requires known { Knows C.Constants _consts.now arena.now v }
+    requires all_told { TellsAll C.Constants _consts.now arena.now }
+    ensures callee { let see = sight C.Constants _consts.now in (w : PlainWorld) → plain_callee see.texts see.tuples (world_over see.texts see.tuples w arena.now) result ≡ callee_in (world_over see.texts see.tuples w arena.now) (see.value v) }
+    ensures known { under C.Constants _consts.now IsKnownCallee arena.now.objects result }
 {
     match v {
         Value::Fun(f) => Callee::Runs(function_of(arena, _consts, f)),

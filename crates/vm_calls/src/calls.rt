@@ -1,11 +1,10 @@
 //! Calls of built-ins, with the output and the ports.
 
-ghost use Rattle.std.specs.Prelude.{◌≡◌, ◌<◌, ◌^◌, length, map, All, Err};
+ghost use Rattle.std.specs.Prelude.{◌≡◌, ◌<◌, ◌^◌, length, map, Err};
 ghost use Rattle.mpy_base.specs.World.{Later};
-ghost use Rattle.arena_objects.specs.Keys.{AllTold};
 ghost use Rattle.vm_faults.specs.declared.fault.Fault.TheVariants as faults;
 ghost use Rattle.vm_faults.specs.declared.stop.Stop.TheVariants as stops;
-ghost use Rattle.vm_faults.specs.Faults.{IsKnown};
+ghost use Rattle.vm_sights.specs.Sights.{under, TellsAll, KnowsAll, KnowsPairs};
 ghost use Rattle.vm_calls.specs.Calls.{IsCall, IsKnownCall, as_call, as_print};
 
 use crate::builtins::call_on_heap;
@@ -25,6 +24,7 @@ pub enum CallStop {
     Out(Failed),
 }
 
+/// What a call that makes no output ends with.
 fn stopped(answer: Result<Value, Stop>) -> Result<Value, CallStop>
     ensures { result ≡ as_call answer }
 {
@@ -34,6 +34,7 @@ fn stopped(answer: Result<Value, Stop>) -> Result<Value, CallStop>
     }
 }
 
+/// What a call of `print` ends with.
 fn print_stopped(answer: Result<Value, PrintStop>) -> Result<Value, CallStop>
     ensures { result ≡ as_print answer }
 {
@@ -62,13 +63,13 @@ pub fn call_builtin<C: Constants, S: Sink, P: Port>(
     keys: &[(Value, Value)],
 ) -> Result<Value, CallStop>
     requires few { length args.now < 2 ^ 32 }
-    requires known { All (IsKnown (C.text_of consts.now) (C.items_of consts.now) arena.old.objects) args.now }
-    requires known_keys { All (λ pair. IsKnown (C.text_of consts.now) (C.items_of consts.now) arena.old.objects pair.0 × IsKnown (C.text_of consts.now) (C.items_of consts.now) arena.old.objects pair.1) keys.now }
-    requires all_told { AllTold (C.text_of consts.now) (C.items_of consts.now) arena.old.objects }
+    requires known { KnowsAll C.Constants consts.now arena.old args.now }
+    requires known_keys { KnowsPairs C.Constants consts.now arena.old keys.now }
+    requires all_told { TellsAll C.Constants consts.now arena.old }
     ensures call { IsCall S.told S.count (C.text_of consts.now) (C.items_of consts.now) (record { heap = arena.old; out = out.old; ports = map P.seen ports.old }) (record { heap = arena.new; out = out.new; ports = map P.seen ports.new }) args.now keys.now result b }
-    ensures known { IsKnownCall (C.text_of consts.now) (C.items_of consts.now) arena.new.objects result }
+    ensures known { under C.Constants consts.now IsKnownCall arena.new.objects result }
     ensures later { Later arena.old.objects arena.new.objects }
-    ensures all_told { AllTold (C.text_of consts.now) (C.items_of consts.now) arena.new.objects }
+    ensures all_told { TellsAll C.Constants consts.now arena.new }
 {
     match b {
         Builtin::Print => print_stopped(call_print(arena, consts, out, args, keys)),

@@ -2,11 +2,9 @@
 
 ghost use Rattle.std.specs.Prelude.{◌≡◌, ◌<◌, ◌≤◌, ◌^◌, length, IfSome, slice_get};
 ghost use Rattle.std.specs.Option.{option_or};
-ghost use Rattle.arena_objects.specs.Keys.{AllTold};
 ghost use Rattle.py_values.specs.Shown.{shown};
 ghost use Rattle.py_effects.specs.Calling.{default_items, last_slots};
-ghost use Rattle.vm_walks.specs.Plain.{plain, plain_heap};
-ghost use Rattle.vm_faults.specs.Faults.{IsKnown};
+ghost use Rattle.vm_sights.specs.Sights.{under, sight, TellsAll, Knows};
 ghost use Rattle.vm_calls.specs.Binding.{plain_slot, plain_slots, AreKnown};
 
 use crate::slots::slot_at;
@@ -16,10 +14,10 @@ use vm_walks::{Look, look_at};
 
 /// The default at a place. What is no tuple has none.
 fn default_at<C: Constants>(arena: &Arena, consts: &C, defaults: Value, at: u32) -> Option<Value>
-    requires defaults { IsKnown (C.text_of consts.now) (C.items_of consts.now) arena.now.objects defaults }
-    requires all_told { AllTold (C.text_of consts.now) (C.items_of consts.now) arena.now.objects }
-    ensures default { plain_slot (C.text_of consts.now) (C.items_of consts.now) result ≡ slice_get (default_items (shown (plain_heap (C.text_of consts.now) (C.items_of consts.now) arena.now) (plain (C.text_of consts.now) (C.items_of consts.now) defaults))) at }
-    ensures known { IfSome result (IsKnown (C.text_of consts.now) (C.items_of consts.now) arena.now.objects) }
+    requires defaults { Knows C.Constants consts.now arena.now defaults }
+    requires all_told { TellsAll C.Constants consts.now arena.now }
+    ensures default { let see = sight C.Constants consts.now in plain_slot see.texts see.tuples result ≡ slice_get (default_items (shown (see.heap arena.now) (see.value defaults))) at }
+    ensures known { IfSome result (Knows C.Constants consts.now arena.now) }
 {
     match look_at(arena, consts, defaults) {
         Look::Tuple(count) => {
@@ -41,11 +39,11 @@ fn or_default<C: Constants>(
     defaults: Value,
     at: u32,
 ) -> Option<Value>
-    requires slot { IfSome slot (IsKnown (C.text_of consts.now) (C.items_of consts.now) arena.now.objects) }
-    requires defaults { IsKnown (C.text_of consts.now) (C.items_of consts.now) arena.now.objects defaults }
-    requires all_told { AllTold (C.text_of consts.now) (C.items_of consts.now) arena.now.objects }
-    ensures value { plain_slot (C.text_of consts.now) (C.items_of consts.now) result ≡ option_or (plain_slot (C.text_of consts.now) (C.items_of consts.now) slot) (slice_get (default_items (shown (plain_heap (C.text_of consts.now) (C.items_of consts.now) arena.now) (plain (C.text_of consts.now) (C.items_of consts.now) defaults))) at) }
-    ensures known { IfSome result (IsKnown (C.text_of consts.now) (C.items_of consts.now) arena.now.objects) }
+    requires slot { IfSome slot (Knows C.Constants consts.now arena.now) }
+    requires defaults { Knows C.Constants consts.now arena.now defaults }
+    requires all_told { TellsAll C.Constants consts.now arena.now }
+    ensures value { let see = sight C.Constants consts.now in plain_slot see.texts see.tuples result ≡ option_or (plain_slot see.texts see.tuples slot) (slice_get (default_items (shown (see.heap arena.now) (see.value defaults))) at) }
+    ensures known { IfSome result (Knows C.Constants consts.now arena.now) }
 {
     match slot {
         Some(v) => Some(v),
@@ -63,11 +61,11 @@ pub(crate) fn put_defaults<C: Constants>(
 )
     requires before { before ≤ length slots.old }
     requires few { length slots.old < 2 ^ 32 }
-    requires known_slots { AreKnown (C.text_of consts.now) (C.items_of consts.now) arena.now.objects slots.old }
-    requires defaults { IsKnown (C.text_of consts.now) (C.items_of consts.now) arena.now.objects defaults }
-    requires all_told { AllTold (C.text_of consts.now) (C.items_of consts.now) arena.now.objects }
-    ensures put { plain_slots (C.text_of consts.now) (C.items_of consts.now) slots.new ≡ last_slots before (plain_slots (C.text_of consts.now) (C.items_of consts.now) slots.old) (default_items (shown (plain_heap (C.text_of consts.now) (C.items_of consts.now) arena.now) (plain (C.text_of consts.now) (C.items_of consts.now) defaults))) }
-    ensures known { AreKnown (C.text_of consts.now) (C.items_of consts.now) arena.now.objects slots.new }
+    requires known_slots { under C.Constants consts.now AreKnown arena.now.objects slots.old }
+    requires defaults { Knows C.Constants consts.now arena.now defaults }
+    requires all_told { TellsAll C.Constants consts.now arena.now }
+    ensures put { let see = sight C.Constants consts.now in plain_slots see.texts see.tuples slots.new ≡ last_slots before (plain_slots see.texts see.tuples slots.old) (default_items (shown (see.heap arena.now) (see.value defaults))) }
+    ensures known { under C.Constants consts.now AreKnown arena.now.objects slots.new }
 {
     for at in before..slots.len() {
         let place = (at - before) as u32;

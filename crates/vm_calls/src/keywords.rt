@@ -1,29 +1,19 @@
-//! Keyword arguments.
+//! Keyword arguments put into the slots of parameters by name.
 
-ghost use Rattle.std.specs.Prelude.{◌≡◌, ◌<◌, length, List, map, Ok, All, IfSome, option_copied, bytes_eq, position, slice_get, option_and_then};
+ghost use Rattle.std.specs.Prelude.{◌≡◌, ◌<◌, length, map, Ok, IfSome, option_copied, bytes_eq, position, slice_get, option_and_then};
 ghost use Rattle.arena_heap.specs.Values.{IsStr};
 ghost use Rattle.arena_objects.specs.Iterables.{spelled};
 ghost use Rattle.py_values.specs.Shown.{shown};
 ghost use Rattle.py_primitives.specs.Methods.{str_in};
 ghost use Rattle.py_effects.specs.Calling.{filled, one_key, with_keys};
-ghost use Rattle.vm_walks.specs.Plain.{plain, plain_heap, plain_pair};
-ghost use Rattle.vm_faults.specs.Faults.{IsKnown, IsKnownStr};
+ghost use Rattle.vm_sights.specs.Sights.{under, sight, Knows, KnowsPairs, KnowsStr};
 ghost use Rattle.vm_calls.specs.Binding.{name_text, plain_slots, AreKnown, plain_bound, IsKnownBound};
 
 use crate::slots::slot_at;
 use arena_heap::{Arena, Constants, StrNo, Value};
 use arena_objects::text_bytes;
 use vm_faults::Fault;
-
-/// The bytes of a name, and none where there is no such text.
-fn name_bytes<C: Constants>(consts: &C, name: StrNo) -> &[u8]
-    ensures { result.now ≡ name_text (C.text_of consts.now) name }
-{
-    match consts.text(name) {
-        Some(text) => text,
-        None => &[],
-    }
-}
+use vm_sights::name_bytes;
 
 /// Whether a parameter has this name.
 fn is_named<C: Constants>(consts: &C, param: StrNo, name: &[u8]) -> bool
@@ -47,8 +37,8 @@ fn place_of<C: Constants>(consts: &C, params: &[StrNo], name: &[u8]) -> Option<u
 
 /// The bytes of a str. Other values have none.
 fn str_of<'a, C: Constants>(arena: &'a Arena, consts: &'a C, v: Value) -> Option<&'a [u8]>
-    requires { IsKnown (C.text_of consts.now) (C.items_of consts.now) arena.now.objects v }
-    ensures shown { option_copied result ≡ str_in (shown (plain_heap (C.text_of consts.now) (C.items_of consts.now) arena.now) (plain (C.text_of consts.now) (C.items_of consts.now) v)) }
+    requires { Knows C.Constants consts.now arena.now v }
+    ensures shown { let see = sight C.Constants consts.now in option_copied result ≡ str_in (shown (see.heap arena.now) (see.value v)) }
     ensures str { IfSome result (λ _. IsStr v) }
     ensures spelled { IfSome result (λ bytes. bytes.now ≡ spelled (C.text_of consts.now) arena.now v) }
 {
@@ -69,11 +59,11 @@ fn fill_slot<C: Constants>(
     v: Value,
 ) -> Result<(), Fault>
     requires within { at < length slots.old }
-    requires known_slots { AreKnown (C.text_of _consts.now) (C.items_of _consts.now) arena.now.objects slots.old }
-    requires name { IsKnownStr (C.text_of _consts.now) (C.items_of _consts.now) arena.now.objects name }
-    requires value { IsKnown (C.text_of _consts.now) (C.items_of _consts.now) arena.now.objects v }
-    ensures filled { plain_bound (C.text_of _consts.now) (C.items_of _consts.now) arena.now slots.new result ≡ filled (plain_slots (C.text_of _consts.now) (C.items_of _consts.now) slots.old) at (spelled (C.text_of _consts.now) arena.now name) (plain (C.text_of _consts.now) (C.items_of _consts.now) v) (option_and_then (λ old. old) (slice_get (plain_slots (C.text_of _consts.now) (C.items_of _consts.now) slots.old) at)) }
-    ensures known { IsKnownBound (C.text_of _consts.now) (C.items_of _consts.now) arena.now.objects slots.new result }
+    requires known_slots { under C.Constants _consts.now AreKnown arena.now.objects slots.old }
+    requires name { KnowsStr C.Constants _consts.now arena.now name }
+    requires value { Knows C.Constants _consts.now arena.now v }
+    ensures filled { let see = sight C.Constants _consts.now in plain_bound see.texts see.tuples arena.now slots.new result ≡ filled (plain_slots see.texts see.tuples slots.old) at (see.bytes arena.now name) (see.value v) (option_and_then (λ old. old) (slice_get (plain_slots see.texts see.tuples slots.old) at)) }
+    ensures known { under C.Constants _consts.now IsKnownBound arena.now.objects slots.new result }
 {
     match slot_at(slots, at) {
         Some(_) => Err(Fault::RepeatedKeyword(name)),
@@ -94,11 +84,11 @@ fn put_keyword<C: Constants>(
     v: Value,
 ) -> Result<(), Fault>
     requires slots { length slots.old ≡ length params.now }
-    requires known_slots { AreKnown (C.text_of consts.now) (C.items_of consts.now) arena.now.objects slots.old }
-    requires name { IsKnown (C.text_of consts.now) (C.items_of consts.now) arena.now.objects name }
-    requires value { IsKnown (C.text_of consts.now) (C.items_of consts.now) arena.now.objects v }
-    ensures put { plain_bound (C.text_of consts.now) (C.items_of consts.now) arena.now slots.new result ≡ one_key (map (name_text (C.text_of consts.now)) params.now) (plain_slots (C.text_of consts.now) (C.items_of consts.now) slots.old) (plain (C.text_of consts.now) (C.items_of consts.now) v) (shown (plain_heap (C.text_of consts.now) (C.items_of consts.now) arena.now) (plain (C.text_of consts.now) (C.items_of consts.now) name)) }
-    ensures known { IsKnownBound (C.text_of consts.now) (C.items_of consts.now) arena.now.objects slots.new result }
+    requires known_slots { under C.Constants consts.now AreKnown arena.now.objects slots.old }
+    requires name { Knows C.Constants consts.now arena.now name }
+    requires value { Knows C.Constants consts.now arena.now v }
+    ensures put { let see = sight C.Constants consts.now in plain_bound see.texts see.tuples arena.now slots.new result ≡ one_key (map (name_text see.texts) params.now) (plain_slots see.texts see.tuples slots.old) (see.value v) (shown (see.heap arena.now) (see.value name)) }
+    ensures known { under C.Constants consts.now IsKnownBound arena.now.objects slots.new result }
 {
     let Some(text) = str_of(arena, consts, name) else {
         return Err(Fault::KeywordNotAStr);
@@ -118,10 +108,10 @@ pub(crate) fn put_keywords<C: Constants>(
     keys: &[(Value, Value)],
 ) -> Result<(), Fault>
     requires slots { length slots.old ≡ length params.now }
-    requires known_slots { AreKnown (C.text_of consts.now) (C.items_of consts.now) arena.now.objects slots.old }
-    requires known { All (λ pair. IsKnown (C.text_of consts.now) (C.items_of consts.now) arena.now.objects pair.0 × IsKnown (C.text_of consts.now) (C.items_of consts.now) arena.now.objects pair.1) keys.now }
-    ensures put { plain_bound (C.text_of consts.now) (C.items_of consts.now) arena.now slots.new result ≡ with_keys (plain_heap (C.text_of consts.now) (C.items_of consts.now) arena.now) (map (name_text (C.text_of consts.now)) params.now) (Ok (plain_slots (C.text_of consts.now) (C.items_of consts.now) slots.old)) (map (plain_pair (C.text_of consts.now) (C.items_of consts.now)) keys.now) }
-    ensures known { IsKnownBound (C.text_of consts.now) (C.items_of consts.now) arena.now.objects slots.new result }
+    requires known_slots { under C.Constants consts.now AreKnown arena.now.objects slots.old }
+    requires known { KnowsPairs C.Constants consts.now arena.now keys.now }
+    ensures put { let see = sight C.Constants consts.now in plain_bound see.texts see.tuples arena.now slots.new result ≡ with_keys (see.heap arena.now) (map (name_text see.texts) params.now) (Ok (plain_slots see.texts see.tuples slots.old)) (map see.pair keys.now) }
+    ensures known { under C.Constants consts.now IsKnownBound arena.now.objects slots.new result }
 {
     for pair in keys {
         let (name, v) = *pair;

@@ -1,12 +1,9 @@
-//! Calls of methods.
+//! Calls of methods of lists, dicts and strs, by the method.
 
-ghost use Rattle.std.specs.Prelude.{◌<◌, ◌^◌, length, map, All};
+ghost use Rattle.std.specs.Prelude.{◌<◌, ◌^◌, length, map};
 ghost use Rattle.arena_heap.specs.Values.{IsMethodOf};
-ghost use Rattle.arena_objects.specs.Keys.{AllTold};
 ghost use Rattle.py_primitives.specs.Methods.{call_method as call_method_in};
-ghost use Rattle.vm_walks.specs.Plain.{plain, plain_pair, plain_heap};
-ghost use Rattle.vm_faults.specs.Faults.{IsKnown};
-ghost use Rattle.vm_faults.specs.Outcomes.{IsOutcome};
+ghost use Rattle.vm_sights.specs.Sights.{TellsAll, Knows, KnowsAll, Does};
 
 use arena_heap::{Arena, Constants, Value};
 use mpy_base::Builtin;
@@ -27,11 +24,11 @@ pub fn call_method<C: Constants>(
     keys: &[(Value, Value)],
 ) -> Result<Value, Stop>
     requires method { IsMethodOf method object }
-    requires object { IsKnown (C.text_of consts.now) (C.items_of consts.now) arena.old.objects object }
+    requires object { Knows C.Constants consts.now arena.old object }
     requires few { length args.now < 2 ^ 32 }
-    requires known { All (IsKnown (C.text_of consts.now) (C.items_of consts.now) arena.old.objects) args.now }
-    requires all_told { AllTold (C.text_of consts.now) (C.items_of consts.now) arena.old.objects }
-    ensures { IsOutcome (C.text_of consts.now) (C.items_of consts.now) arena.old arena.new result (call_method_in (plain_heap (C.text_of consts.now) (C.items_of consts.now) arena.old) method (plain (C.text_of consts.now) (C.items_of consts.now) object) (map (plain (C.text_of consts.now) (C.items_of consts.now)) args.now) (map (plain_pair (C.text_of consts.now) (C.items_of consts.now)) keys.now)) }
+    requires known { KnowsAll C.Constants consts.now arena.old args.now }
+    requires all_told { TellsAll C.Constants consts.now arena.old }
+    ensures { Does C.Constants consts.now arena.old arena.new result (λ heap see. call_method_in heap method (see.value object) (map see.value args.now) (map see.pair keys.now)) }
 {
     match method {
         Builtin::ListAppend => call_list_append(arena, consts, object, args, keys),

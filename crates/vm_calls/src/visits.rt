@@ -1,14 +1,11 @@
 //! The visits of calls, which are paid before a call acts.
 
-ghost use Rattle.std.specs.Prelude.{◌≡◌, ◌<◌, ◌^◌, length, map, min, All};
+ghost use Rattle.std.specs.Prelude.{◌≡◌, ◌<◌, ◌^◌, length, map, min};
 ghost use Rattle.mpy_base.specs.Val.{PlainWorld};
 ghost use Rattle.arena_heap.specs.Values.{IsMethodOf};
-ghost use Rattle.arena_objects.specs.Keys.{AllTold};
 ghost use Rattle.py_primitives.specs.Methods.{call_method as call_method_in};
 ghost use Rattle.py_effects.specs.Calling.{call_builtin as call_builtin_in};
-ghost use Rattle.vm_walks.specs.Plain.{plain, plain_pair, plain_heap};
-ghost use Rattle.vm_faults.specs.Faults.{IsKnown};
-ghost use Rattle.vm_calls.specs.Binding.{world_over};
+ghost use Rattle.vm_sights.specs.Sights.{sight, TellsAll, Knows, KnowsAll, KnowsPairs, CountsUpTo, world_over};
 
 use arena_heap::{Arena, Constants, Value};
 use mpy_base::Builtin;
@@ -31,11 +28,11 @@ pub fn visits_call_method<C: Constants>(
     most: u64,
 ) -> u64
     requires method { IsMethodOf method object }
-    requires object { IsKnown (C.text_of consts.now) (C.items_of consts.now) arena.now.objects object }
+    requires object { Knows C.Constants consts.now arena.now object }
     requires few { length args.now < 2 ^ 32 }
-    requires known { All (IsKnown (C.text_of consts.now) (C.items_of consts.now) arena.now.objects) args.now }
-    requires all_told { AllTold (C.text_of consts.now) (C.items_of consts.now) arena.now.objects }
-    ensures { result ≡ min (call_method_in (plain_heap (C.text_of consts.now) (C.items_of consts.now) arena.now) method (plain (C.text_of consts.now) (C.items_of consts.now) object) (map (plain (C.text_of consts.now) (C.items_of consts.now)) args.now) (map (plain_pair (C.text_of consts.now) (C.items_of consts.now)) keys.now)).visits most }
+    requires known { KnowsAll C.Constants consts.now arena.now args.now }
+    requires all_told { TellsAll C.Constants consts.now arena.now }
+    ensures { CountsUpTo C.Constants consts.now result most arena.now (λ heap see. call_method_in heap method (see.value object) (map see.value args.now) (map see.pair keys.now)) }
 {
     match method {
         Builtin::ListExtend => visits_call_list_extend(arena, consts, object, args, keys, most),
@@ -57,10 +54,10 @@ pub fn visits_call_builtin<C: Constants>(
     most: u64,
 ) -> u64
     requires few { length args.now < 2 ^ 32 }
-    requires known { All (IsKnown (C.text_of consts.now) (C.items_of consts.now) arena.now.objects) args.now }
-    requires known_keys { All (λ pair. IsKnown (C.text_of consts.now) (C.items_of consts.now) arena.now.objects pair.0 × IsKnown (C.text_of consts.now) (C.items_of consts.now) arena.now.objects pair.1) keys.now }
-    requires all_told { AllTold (C.text_of consts.now) (C.items_of consts.now) arena.now.objects }
-    ensures { (w : PlainWorld) → result ≡ min (call_builtin_in (world_over (C.text_of consts.now) (C.items_of consts.now) w arena.now) b (map (plain (C.text_of consts.now) (C.items_of consts.now)) args.now) (map (plain_pair (C.text_of consts.now) (C.items_of consts.now)) keys.now)).visits most }
+    requires known { KnowsAll C.Constants consts.now arena.now args.now }
+    requires known_keys { KnowsPairs C.Constants consts.now arena.now keys.now }
+    requires all_told { TellsAll C.Constants consts.now arena.now }
+    ensures { let see = sight C.Constants consts.now in (w : PlainWorld) → result ≡ min (call_builtin_in (world_over see.texts see.tuples w arena.now) b (map see.value args.now) (map see.pair keys.now)).visits most }
 {
     match b {
         Builtin::Print => visits_call_print(arena, consts, args, keys, most),

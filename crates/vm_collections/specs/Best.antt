@@ -21,6 +21,7 @@ use Rattle.vm_collections.specs.declared.extreme.Extreme.TheVariants as extremes
 use Rattle.vm_collections.specs.declared.candidates.Candidates.{Candidates}
 use Rattle.vm_collections.specs.declared.candidates.Candidates.TheVariants as candidates
 
+-- the sign by which a value is better than another one
 abbrev pub plain_extreme : Extreme → Sign
 plain_extreme extremes.Least = plain.Below
 plain_extreme extremes.Greatest = plain.Above
@@ -36,6 +37,7 @@ values_of tuples heap (candidates.Items over) = items_in tuples heap over
 values_of tuples heap (candidates.Arguments args) = args.now
 
 module _ (texts : StrNo → Option (List ℕ)) (tuples : ConstNo → Option (List Value)) where
+  -- the values that are compared are known
   abbrev pub AreKnown : Objects Value ℕ → Candidates → Type 0
   AreKnown objects (candidates.Items over) = IsKnown texts tuples objects over
   AreKnown objects (candidates.Arguments args) = All (IsKnown texts tuples objects) args.now × (length args.now < 2 ^ 32)
@@ -45,10 +47,12 @@ module _ (texts : StrNo → Option (List ℕ)) (tuples : ConstNo → Option (Lis
   plain_best (Ok v) = Ok (plain_value texts tuples v)
   plain_best (Err e) = Err (plain_unordered texts tuples e)
 
+  -- the best value is known, or the two values that have no order are
   abbrev pub IsKnownBest : Objects Value ℕ → Result Value Unordered → Type 0
   IsKnownBest objects (Ok v) = IsKnown texts tuples objects v
   IsKnownBest objects (Err e) = BothLead objects e
 
+-- the built-in that gives it
 abbrev pub extreme_builtin : Extreme → Builtin
 extreme_builtin extremes.Least = builtins.Min
 extreme_builtin extremes.Greatest = builtins.Max

@@ -19,11 +19,13 @@ is_iterable (values.Dict d) = true
 is_iterable (values.Range r) = true
 is_iterable _ = false
 
+-- is it a str?
 abbrev pub is_str : Value → Bool
 is_str (values.Str s) = true
 is_str (values.Text t) = true
 is_str _ = false
 
+-- is it a tuple?
 abbrev pub is_tuple : Value → Bool
 is_tuple (values.Fixed c) = true
 is_tuple values.Empty = true
@@ -39,7 +41,7 @@ abbrev pub AreOptional : List Value → Option Value → Type 0
 AreOptional args (Some v) = args ≡ v ∷ []
 AreOptional args None = args ≡ []
 
--- what is kept of an iterable's items: of a str so many texts, which take two cells each, from the first
+-- what is kept of an iterable's items: of a str `count` texts, which take two cells each, the first of them at `first`
 abbrev pub kept_values : (ConstNo → Option (List Value)) → Heap Value ℕ → (first count : ℕ) → Value → List Value
 kept_values tuples heap first count v = if is_str v then texts_from first count else items_in tuples heap v
 

@@ -1,17 +1,13 @@
 //! `min` and `max`.
 
-ghost use Rattle.std.specs.Prelude.{◌≡◌, ◌<◌, ◌^◌, true, length, map, All};
+ghost use Rattle.std.specs.Prelude.{◌≡◌, ◌<◌, ◌^◌, true, length, map};
 ghost use Rattle.mpy_base.specs.declared.builtin.Builtin.TheVariants as builtins;
 ghost use Rattle.arena_heap.specs.Values.{Leads};
-ghost use Rattle.arena_heap.specs.Constants.{IsTold};
-ghost use Rattle.arena_objects.specs.Keys.{AllTold};
 ghost use Rattle.py_values.specs.Shown.{shown};
 ghost use Rattle.py_primitives.specs.Outcome.{gives};
 ghost use Rattle.py_primitives.specs.Iterables.{iterating};
-ghost use Rattle.py_primitives.specs.Calls.{call, call_best as best_called, best_of, made_letter};
-ghost use Rattle.vm_walks.specs.Plain.{plain, plain_pair, plain_heap};
-ghost use Rattle.vm_faults.specs.Faults.{IsKnown};
-ghost use Rattle.vm_faults.specs.Outcomes.{IsOutcome};
+ghost use Rattle.py_primitives.specs.Calls.{call_best as best_called, best_of, made_letter};
+ghost use Rattle.vm_sights.specs.Sights.{under, calling, Tells, TellsAll, KnowsAll, Does};
 ghost use Rattle.vm_collections.specs.Collected.{is_str as is_some_str};
 ghost use Rattle.vm_collections.specs.Best.{plain_extreme, values_of, AreKnown, extreme_builtin};
 
@@ -34,9 +30,9 @@ fn best_value<C: Constants>(
     extreme: Extreme,
     from: Candidates<'_>,
 ) -> Result<Value, Stop>
-    requires known { AreKnown (C.text_of consts.now) (C.items_of consts.now) arena.now.objects from }
-    requires all_told { AllTold (C.text_of consts.now) (C.items_of consts.now) arena.now.objects }
-    ensures { IsOutcome (C.text_of consts.now) (C.items_of consts.now) arena.now arena.now result (best_of (plain_heap (C.text_of consts.now) (C.items_of consts.now) arena.now) (plain_extreme extreme) (λ best. gives best (plain_heap (C.text_of consts.now) (C.items_of consts.now) arena.now)) (map (plain (C.text_of consts.now) (C.items_of consts.now)) (values_of (C.items_of consts.now) arena.now from.entry))) }
+    requires known { under C.Constants consts.now AreKnown arena.now.objects from }
+    requires all_told { TellsAll C.Constants consts.now arena.now }
+    ensures { Does C.Constants consts.now arena.now arena.now result (λ heap see. best_of heap (plain_extreme extreme) (λ best. gives best heap) (map see.value (values_of see.tuples arena.now from.entry))) }
 {
     if candidate_count(arena, consts, from) == 0 {
         return Err(Stop::Raises(Fault::NothingToCompare));
@@ -61,9 +57,9 @@ fn best_letter<C: Constants>(
 ) -> Result<Value, Stop>
     requires str { is_some_str s ≡ true }
     requires leads { Leads arena.old.objects s }
-    requires told { IsTold (C.text_of consts.now) (C.items_of consts.now) s }
-    requires all_told { AllTold (C.text_of consts.now) (C.items_of consts.now) arena.old.objects }
-    ensures { IsOutcome (C.text_of consts.now) (C.items_of consts.now) arena.old arena.new result (iterating (plain_heap (C.text_of consts.now) (C.items_of consts.now) arena.old) (plain (C.text_of consts.now) (C.items_of consts.now) s) (best_of (plain_heap (C.text_of consts.now) (C.items_of consts.now) arena.old) (plain_extreme extreme) (made_letter (plain_heap (C.text_of consts.now) (C.items_of consts.now) arena.old) (shown (plain_heap (C.text_of consts.now) (C.items_of consts.now) arena.old) (plain (C.text_of consts.now) (C.items_of consts.now) s))))) }
+    requires told { Tells C.Constants consts.now s }
+    requires all_told { TellsAll C.Constants consts.now arena.old }
+    ensures { Does C.Constants consts.now arena.old arena.new result (λ heap see. iterating heap (see.value s) (best_of heap (plain_extreme extreme) (made_letter heap (shown heap (see.value s))))) }
 {
     let bytes = spelled_bytes(arena, consts, s);
     if bytes.is_empty() {
@@ -81,9 +77,9 @@ fn best_item<C: Constants>(
     over: Value,
 ) -> Result<Value, Stop>
     requires leads { Leads arena.old.objects over }
-    requires told { IsTold (C.text_of consts.now) (C.items_of consts.now) over }
-    requires all_told { AllTold (C.text_of consts.now) (C.items_of consts.now) arena.old.objects }
-    ensures { IsOutcome (C.text_of consts.now) (C.items_of consts.now) arena.old arena.new result (iterating (plain_heap (C.text_of consts.now) (C.items_of consts.now) arena.old) (plain (C.text_of consts.now) (C.items_of consts.now) over) (best_of (plain_heap (C.text_of consts.now) (C.items_of consts.now) arena.old) (plain_extreme extreme) (made_letter (plain_heap (C.text_of consts.now) (C.items_of consts.now) arena.old) (shown (plain_heap (C.text_of consts.now) (C.items_of consts.now) arena.old) (plain (C.text_of consts.now) (C.items_of consts.now) over))))) }
+    requires told { Tells C.Constants consts.now over }
+    requires all_told { TellsAll C.Constants consts.now arena.old }
+    ensures { Does C.Constants consts.now arena.old arena.new result (λ heap see. iterating heap (see.value over) (best_of heap (plain_extreme extreme) (made_letter heap (shown heap (see.value over))))) }
 {
     if is_str(over) {
         best_letter(arena, consts, extreme, over)
@@ -104,9 +100,9 @@ fn best_of_arguments<C: Constants>(
 ) -> Result<Value, Stop>
     requires some { 0 < length args.now }
     requires few { length args.now < 2 ^ 32 }
-    requires known { All (IsKnown (C.text_of consts.now) (C.items_of consts.now) arena.old.objects) args.now }
-    requires all_told { AllTold (C.text_of consts.now) (C.items_of consts.now) arena.old.objects }
-    ensures { IsOutcome (C.text_of consts.now) (C.items_of consts.now) arena.old arena.new result (best_called (plain_heap (C.text_of consts.now) (C.items_of consts.now) arena.old) (plain_extreme extreme) (map (plain (C.text_of consts.now) (C.items_of consts.now)) args.now)) }
+    requires known { KnowsAll C.Constants consts.now arena.old args.now }
+    requires all_told { TellsAll C.Constants consts.now arena.old }
+    ensures { Does C.Constants consts.now arena.old arena.new result (λ heap see. best_called heap (plain_extreme extreme) (map see.value args.now)) }
 {
     if args.len() == 1 {
         best_item(arena, consts, extreme, args[0])
@@ -123,9 +119,9 @@ fn call_best<C: Constants>(
     keys: &[(Value, Value)],
 ) -> Result<Value, Stop>
     requires few { length args.now < 2 ^ 32 }
-    requires known { All (IsKnown (C.text_of consts.now) (C.items_of consts.now) arena.old.objects) args.now }
-    requires all_told { AllTold (C.text_of consts.now) (C.items_of consts.now) arena.old.objects }
-    ensures { IsOutcome (C.text_of consts.now) (C.items_of consts.now) arena.old arena.new result (call (plain_heap (C.text_of consts.now) (C.items_of consts.now) arena.old) (extreme_builtin extreme) (map (plain (C.text_of consts.now) (C.items_of consts.now)) args.now) (map (plain_pair (C.text_of consts.now) (C.items_of consts.now)) keys.now)) }
+    requires known { KnowsAll C.Constants consts.now arena.old args.now }
+    requires all_told { TellsAll C.Constants consts.now arena.old }
+    ensures { Does C.Constants consts.now arena.old arena.new result (calling (extreme_builtin extreme) args.now keys.now) }
 {
     match some_arguments(args, keys) {
         Ok(()) => best_of_arguments(arena, consts, extreme, args),
@@ -141,9 +137,9 @@ pub fn call_min<C: Constants>(
     keys: &[(Value, Value)],
 ) -> Result<Value, Stop>
     requires few { length args.now < 2 ^ 32 }
-    requires known { All (IsKnown (C.text_of consts.now) (C.items_of consts.now) arena.old.objects) args.now }
-    requires all_told { AllTold (C.text_of consts.now) (C.items_of consts.now) arena.old.objects }
-    ensures { IsOutcome (C.text_of consts.now) (C.items_of consts.now) arena.old arena.new result (call (plain_heap (C.text_of consts.now) (C.items_of consts.now) arena.old) builtins.Min (map (plain (C.text_of consts.now) (C.items_of consts.now)) args.now) (map (plain_pair (C.text_of consts.now) (C.items_of consts.now)) keys.now)) }
+    requires known { KnowsAll C.Constants consts.now arena.old args.now }
+    requires all_told { TellsAll C.Constants consts.now arena.old }
+    ensures { Does C.Constants consts.now arena.old arena.new result (calling builtins.Min args.now keys.now) }
 {
     call_best(arena, consts, Extreme::Least, args, keys)
 }
@@ -156,9 +152,9 @@ pub fn call_max<C: Constants>(
     keys: &[(Value, Value)],
 ) -> Result<Value, Stop>
     requires few { length args.now < 2 ^ 32 }
-    requires known { All (IsKnown (C.text_of consts.now) (C.items_of consts.now) arena.old.objects) args.now }
-    requires all_told { AllTold (C.text_of consts.now) (C.items_of consts.now) arena.old.objects }
-    ensures { IsOutcome (C.text_of consts.now) (C.items_of consts.now) arena.old arena.new result (call (plain_heap (C.text_of consts.now) (C.items_of consts.now) arena.old) builtins.Max (map (plain (C.text_of consts.now) (C.items_of consts.now)) args.now) (map (plain_pair (C.text_of consts.now) (C.items_of consts.now)) keys.now)) }
+    requires known { KnowsAll C.Constants consts.now arena.old args.now }
+    requires all_told { TellsAll C.Constants consts.now arena.old }
+    ensures { Does C.Constants consts.now arena.old arena.new result (calling builtins.Max args.now keys.now) }
 {
     call_best(arena, consts, Extreme::Greatest, args, keys)
 }

@@ -1,16 +1,13 @@
 //! How many visits `min` and `max` make.
 
-ghost use Rattle.std.specs.Prelude.{◌≡◌, ◌<◌, ◌^◌, min, true, length, map, All};
+ghost use Rattle.std.specs.Prelude.{◌≡◌, ◌<◌, ◌^◌, true, length, map};
 ghost use Rattle.mpy_base.specs.declared.builtin.Builtin.TheVariants as builtins;
 ghost use Rattle.arena_heap.specs.Values.{Leads};
-ghost use Rattle.arena_heap.specs.Constants.{IsTold};
-ghost use Rattle.arena_objects.specs.Keys.{AllTold};
 ghost use Rattle.py_values.specs.Shown.{shown};
 ghost use Rattle.py_primitives.specs.Outcome.{gives};
 ghost use Rattle.py_primitives.specs.Iterables.{iterating};
-ghost use Rattle.py_primitives.specs.Calls.{call, call_best as best_called, best_of, made_letter};
-ghost use Rattle.vm_walks.specs.Plain.{plain, plain_pair, plain_heap};
-ghost use Rattle.vm_faults.specs.Faults.{IsKnown};
+ghost use Rattle.py_primitives.specs.Calls.{call_best as best_called, best_of, made_letter};
+ghost use Rattle.vm_sights.specs.Sights.{under, calling, Tells, TellsAll, KnowsAll, CountsUpTo};
 ghost use Rattle.vm_collections.specs.Collected.{is_str as is_some_str};
 ghost use Rattle.vm_collections.specs.Best.{plain_extreme, values_of, AreKnown, extreme_builtin};
 
@@ -29,9 +26,9 @@ fn visits_best_value<C: Constants>(
     from: Candidates<'_>,
     most: u64,
 ) -> u64
-    requires known { AreKnown (C.text_of consts.now) (C.items_of consts.now) arena.now.objects from }
-    requires all_told { AllTold (C.text_of consts.now) (C.items_of consts.now) arena.now.objects }
-    ensures { result ≡ min (best_of (plain_heap (C.text_of consts.now) (C.items_of consts.now) arena.now) (plain_extreme extreme) (λ best. gives best (plain_heap (C.text_of consts.now) (C.items_of consts.now) arena.now)) (map (plain (C.text_of consts.now) (C.items_of consts.now)) (values_of (C.items_of consts.now) arena.now from.entry))).visits most }
+    requires known { under C.Constants consts.now AreKnown arena.now.objects from }
+    requires all_told { TellsAll C.Constants consts.now arena.now }
+    ensures { CountsUpTo C.Constants consts.now result most arena.now (λ heap see. best_of heap (plain_extreme extreme) (λ best. gives best heap) (map see.value (values_of see.tuples arena.now from.entry))) }
 {
     if candidate_count(arena, consts, from) == 0 {
         return 0;
@@ -49,8 +46,8 @@ fn visits_letters<C: Constants>(
 ) -> u64
     requires str { is_some_str s ≡ true }
     requires leads { Leads arena.now.objects s }
-    requires told { IsTold (C.text_of consts.now) (C.items_of consts.now) s }
-    ensures { result ≡ min (iterating (plain_heap (C.text_of consts.now) (C.items_of consts.now) arena.now) (plain (C.text_of consts.now) (C.items_of consts.now) s) (best_of (plain_heap (C.text_of consts.now) (C.items_of consts.now) arena.now) (plain_extreme _extreme) (made_letter (plain_heap (C.text_of consts.now) (C.items_of consts.now) arena.now) (shown (plain_heap (C.text_of consts.now) (C.items_of consts.now) arena.now) (plain (C.text_of consts.now) (C.items_of consts.now) s))))).visits most }
+    requires told { Tells C.Constants consts.now s }
+    ensures { CountsUpTo C.Constants consts.now result most arena.now (λ heap see. iterating heap (see.value s) (best_of heap (plain_extreme _extreme) (made_letter heap (shown heap (see.value s))))) }
 {
     let count = kept_count(arena, consts, s) as u64;
     most.min((2 * count).saturating_sub(1))
@@ -64,9 +61,9 @@ fn visits_best_item<C: Constants>(
     most: u64,
 ) -> u64
     requires leads { Leads arena.now.objects over }
-    requires told { IsTold (C.text_of consts.now) (C.items_of consts.now) over }
-    requires all_told { AllTold (C.text_of consts.now) (C.items_of consts.now) arena.now.objects }
-    ensures { result ≡ min (iterating (plain_heap (C.text_of consts.now) (C.items_of consts.now) arena.now) (plain (C.text_of consts.now) (C.items_of consts.now) over) (best_of (plain_heap (C.text_of consts.now) (C.items_of consts.now) arena.now) (plain_extreme extreme) (made_letter (plain_heap (C.text_of consts.now) (C.items_of consts.now) arena.now) (shown (plain_heap (C.text_of consts.now) (C.items_of consts.now) arena.now) (plain (C.text_of consts.now) (C.items_of consts.now) over))))).visits most }
+    requires told { Tells C.Constants consts.now over }
+    requires all_told { TellsAll C.Constants consts.now arena.now }
+    ensures { CountsUpTo C.Constants consts.now result most arena.now (λ heap see. iterating heap (see.value over) (best_of heap (plain_extreme extreme) (made_letter heap (shown heap (see.value over))))) }
 {
     if is_str(over) {
         visits_letters(arena, consts, extreme, over, most)
@@ -87,9 +84,9 @@ fn visits_of_arguments<C: Constants>(
 ) -> u64
     requires some { 0 < length args.now }
     requires few { length args.now < 2 ^ 32 }
-    requires known { All (IsKnown (C.text_of consts.now) (C.items_of consts.now) arena.now.objects) args.now }
-    requires all_told { AllTold (C.text_of consts.now) (C.items_of consts.now) arena.now.objects }
-    ensures { result ≡ min (best_called (plain_heap (C.text_of consts.now) (C.items_of consts.now) arena.now) (plain_extreme extreme) (map (plain (C.text_of consts.now) (C.items_of consts.now)) args.now)).visits most }
+    requires known { KnowsAll C.Constants consts.now arena.now args.now }
+    requires all_told { TellsAll C.Constants consts.now arena.now }
+    ensures { CountsUpTo C.Constants consts.now result most arena.now (λ heap see. best_called heap (plain_extreme extreme) (map see.value args.now)) }
 {
     if args.len() == 1 {
         visits_best_item(arena, consts, extreme, args[0], most)
@@ -107,9 +104,9 @@ fn visits_call_best<C: Constants>(
     most: u64,
 ) -> u64
     requires few { length args.now < 2 ^ 32 }
-    requires known { All (IsKnown (C.text_of consts.now) (C.items_of consts.now) arena.now.objects) args.now }
-    requires all_told { AllTold (C.text_of consts.now) (C.items_of consts.now) arena.now.objects }
-    ensures { result ≡ min (call (plain_heap (C.text_of consts.now) (C.items_of consts.now) arena.now) (extreme_builtin extreme) (map (plain (C.text_of consts.now) (C.items_of consts.now)) args.now) (map (plain_pair (C.text_of consts.now) (C.items_of consts.now)) keys.now)).visits most }
+    requires known { KnowsAll C.Constants consts.now arena.now args.now }
+    requires all_told { TellsAll C.Constants consts.now arena.now }
+    ensures { CountsUpTo C.Constants consts.now result most arena.now (calling (extreme_builtin extreme) args.now keys.now) }
 {
     match some_arguments(args, keys) {
         Ok(()) => visits_of_arguments(arena, consts, extreme, args, most),
@@ -117,7 +114,7 @@ fn visits_call_best<C: Constants>(
     }
 }
 
-/// How many visits `call_min` makes, up to so many. It goes no further.
+/// How many visits `call_min` makes, `most` at most. It goes no further.
 pub fn visits_call_min<C: Constants>(
     arena: &Arena,
     consts: &C,
@@ -126,14 +123,14 @@ pub fn visits_call_min<C: Constants>(
     most: u64,
 ) -> u64
     requires few { length args.now < 2 ^ 32 }
-    requires known { All (IsKnown (C.text_of consts.now) (C.items_of consts.now) arena.now.objects) args.now }
-    requires all_told { AllTold (C.text_of consts.now) (C.items_of consts.now) arena.now.objects }
-    ensures { result ≡ min (call (plain_heap (C.text_of consts.now) (C.items_of consts.now) arena.now) builtins.Min (map (plain (C.text_of consts.now) (C.items_of consts.now)) args.now) (map (plain_pair (C.text_of consts.now) (C.items_of consts.now)) keys.now)).visits most }
+    requires known { KnowsAll C.Constants consts.now arena.now args.now }
+    requires all_told { TellsAll C.Constants consts.now arena.now }
+    ensures { CountsUpTo C.Constants consts.now result most arena.now (calling builtins.Min args.now keys.now) }
 {
     visits_call_best(arena, consts, Extreme::Least, args, keys, most)
 }
 
-/// How many visits `call_max` makes, up to so many. It goes no further.
+/// How many visits `call_max` makes, `most` at most. It goes no further.
 pub fn visits_call_max<C: Constants>(
     arena: &Arena,
     consts: &C,
@@ -142,9 +139,9 @@ pub fn visits_call_max<C: Constants>(
     most: u64,
 ) -> u64
     requires few { length args.now < 2 ^ 32 }
-    requires known { All (IsKnown (C.text_of consts.now) (C.items_of consts.now) arena.now.objects) args.now }
-    requires all_told { AllTold (C.text_of consts.now) (C.items_of consts.now) arena.now.objects }
-    ensures { result ≡ min (call (plain_heap (C.text_of consts.now) (C.items_of consts.now) arena.now) builtins.Max (map (plain (C.text_of consts.now) (C.items_of consts.now)) args.now) (map (plain_pair (C.text_of consts.now) (C.items_of consts.now)) keys.now)).visits most }
+    requires known { KnowsAll C.Constants consts.now arena.now args.now }
+    requires all_told { TellsAll C.Constants consts.now arena.now }
+    ensures { CountsUpTo C.Constants consts.now result most arena.now (calling builtins.Max args.now keys.now) }
 {
     visits_call_best(arena, consts, Extreme::Greatest, args, keys, most)
 }

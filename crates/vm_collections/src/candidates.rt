@@ -1,8 +1,7 @@
 //! The values of which the best is looked for.
 
 ghost use Rattle.std.specs.Prelude.{◌≡◌, ◌<◌, length, slice_index_or};
-ghost use Rattle.arena_objects.specs.Keys.{AllTold};
-ghost use Rattle.vm_faults.specs.Faults.{IsKnown};
+ghost use Rattle.vm_sights.specs.Sights.{under, TellsAll, Knows};
 ghost use Rattle.vm_collections.specs.Best.{values_of, AreKnown};
 
 use arena_heap::{Arena, Constants, Value};
@@ -17,7 +16,7 @@ pub(crate) enum Candidates<'a> {
 
 /// How many there are.
 pub(crate) fn candidate_count<C: Constants>(arena: &Arena, consts: &C, from: Candidates<'_>) -> u32
-    requires { AreKnown (C.text_of consts.now) (C.items_of consts.now) arena.now.objects from }
+    requires { under C.Constants consts.now AreKnown arena.now.objects from }
     ensures { result ≡ length (values_of (C.items_of consts.now) arena.now from.entry) }
 {
     match from {
@@ -33,11 +32,11 @@ pub(crate) fn candidate<C: Constants>(
     from: Candidates<'_>,
     at: u32,
 ) -> Value
-    requires known { AreKnown (C.text_of consts.now) (C.items_of consts.now) arena.now.objects from }
-    requires all_told { AllTold (C.text_of consts.now) (C.items_of consts.now) arena.now.objects }
+    requires known { under C.Constants consts.now AreKnown arena.now.objects from }
+    requires all_told { TellsAll C.Constants consts.now arena.now }
     requires within { at < length (values_of (C.items_of consts.now) arena.now from) }
     ensures value { result ≡ slice_index_or (values_of (C.items_of consts.now) arena.now from.entry) at Value.None }
-    ensures known { IsKnown (C.text_of consts.now) (C.items_of consts.now) arena.now.objects result }
+    ensures known { Knows C.Constants consts.now arena.now result }
 {
     match from {
         Candidates::Items(over) => item_at(arena, consts, over, at),

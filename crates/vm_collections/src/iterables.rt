@@ -2,7 +2,7 @@
 
 ghost use Rattle.std.specs.Prelude.{◌≡◌};
 ghost use Rattle.arena_heap.specs.Values.{Leads};
-ghost use Rattle.arena_heap.specs.Constants.{IsTold};
+ghost use Rattle.vm_sights.specs.Sights.{under, Tells};
 ghost use Rattle.vm_collections.specs.Collected.{is_iterable as iterates, is_str as is_some_str, is_tuple as is_some_tuple, kept_length};
 
 use arena_heap::{Arena, Constants, Value};
@@ -43,8 +43,8 @@ pub(crate) fn is_tuple(v: Value) -> bool
 /// How many items a list of an iterable's items has.
 pub(crate) fn kept_count<C: Constants>(arena: &Arena, consts: &C, v: Value) -> u32
     requires leads { Leads arena.now.objects v }
-    requires told { IsTold (C.text_of consts.now) (C.items_of consts.now) v }
-    ensures { result ≡ kept_length (C.text_of consts.now) (C.items_of consts.now) arena.now v }
+    requires told { Tells C.Constants consts.now v }
+    ensures { result ≡ under C.Constants consts.now kept_length arena.now v }
 {
     match v {
         Value::Str(_) | Value::Text(_) => text_bytes(arena, consts, v).len() as u32,

@@ -2,8 +2,8 @@
 
 ghost use Rattle.std.specs.Prelude.{◌≡◌, ◌<◌, All};
 ghost use Rattle.arena_heap.specs.Values.{Leads};
-ghost use Rattle.arena_heap.specs.Constants.{IsTold};
 ghost use Rattle.arena_objects.specs.Iterables.{spelled};
+ghost use Rattle.vm_sights.specs.Sights.{Tells};
 
 use arena_heap::{Arena, Constants, Value};
 use arena_objects::text_bytes;
@@ -11,7 +11,7 @@ use arena_objects::text_bytes;
 /// The bytes of a str, and none of another value.
 pub(crate) fn spelled_bytes<'a, C: Constants>(arena: &'a Arena, consts: &'a C, v: Value) -> &'a [u8]
     requires leads { Leads arena.now.objects v }
-    requires told { IsTold (C.text_of consts.now) (C.items_of consts.now) v }
+    requires told { Tells C.Constants consts.now v }
     ensures bytes { result.now ≡ spelled (C.text_of consts.now) arena.now v }
     ensures ascii { All (λ b. b < 128) result.now }
 {

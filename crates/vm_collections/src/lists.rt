@@ -1,16 +1,12 @@
 //! `list`.
 
-ghost use Rattle.std.specs.Prelude.{◌≡◌, ◌<◌, ◌^◌, min, true, [], length, map, All};
+ghost use Rattle.std.specs.Prelude.{◌≡◌, ◌<◌, ◌^◌, true, [], length};
 ghost use Rattle.mpy_base.specs.declared.builtin.Builtin.TheVariants as builtins;
 ghost use Rattle.arena_heap.specs.Values.{Leads};
-ghost use Rattle.arena_heap.specs.Constants.{IsTold};
-ghost use Rattle.arena_objects.specs.Keys.{AllTold};
 ghost use Rattle.py_primitives.specs.Outcome.{making_list};
 ghost use Rattle.py_primitives.specs.Iterables.{iterating};
-ghost use Rattle.py_primitives.specs.Calls.{call, list_from as list_from_items};
-ghost use Rattle.vm_walks.specs.Plain.{plain, plain_pair, plain_heap};
-ghost use Rattle.vm_faults.specs.Faults.{IsKnown};
-ghost use Rattle.vm_faults.specs.Outcomes.{IsOutcome};
+ghost use Rattle.py_primitives.specs.Calls.{list_from as list_from_items};
+ghost use Rattle.vm_sights.specs.Sights.{calling, Tells, TellsAll, KnowsAll, Does, CountsUpTo};
 ghost use Rattle.vm_collections.specs.Collected.{is_iterable as iterates};
 
 use crate::arguments::optional_argument;
@@ -21,8 +17,8 @@ use vm_faults::{Fault, Stop, type_of};
 use vm_operators::{items_law, length_of};
 
 fn empty_list<C: Constants>(arena: &mut Arena, _consts: &C) -> Result<Value, Stop>
-    requires all_told { AllTold (C.text_of _consts.now) (C.items_of _consts.now) arena.old.objects }
-    ensures { IsOutcome (C.text_of _consts.now) (C.items_of _consts.now) arena.old arena.new result (making_list (plain_heap (C.text_of _consts.now) (C.items_of _consts.now) arena.old) []) }
+    requires all_told { TellsAll C.Constants _consts.now arena.old }
+    ensures { Does C.Constants _consts.now arena.old arena.new result (λ heap see. making_list heap []) }
 {
     match arena.make_list(0) {
         Ok(l) => Ok(Value::List(l)),
@@ -34,9 +30,9 @@ fn empty_list<C: Constants>(arena: &mut Arena, _consts: &C) -> Result<Value, Sto
 fn list_from<C: Constants>(arena: &mut Arena, consts: &C, v: Value) -> Result<Value, Stop>
     requires iterable { iterates v ≡ true }
     requires leads { Leads arena.old.objects v }
-    requires told { IsTold (C.text_of consts.now) (C.items_of consts.now) v }
-    requires all_told { AllTold (C.text_of consts.now) (C.items_of consts.now) arena.old.objects }
-    ensures { IsOutcome (C.text_of consts.now) (C.items_of consts.now) arena.old arena.new result (iterating (plain_heap (C.text_of consts.now) (C.items_of consts.now) arena.old) (plain (C.text_of consts.now) (C.items_of consts.now) v) (list_from_items (plain_heap (C.text_of consts.now) (C.items_of consts.now) arena.old) (plain (C.text_of consts.now) (C.items_of consts.now) v))) }
+    requires told { Tells C.Constants consts.now v }
+    requires all_told { TellsAll C.Constants consts.now arena.old }
+    ensures { Does C.Constants consts.now arena.old arena.new result (λ heap see. iterating heap (see.value v) (list_from_items heap (see.value v))) }
 {
     items_law(arena, consts, v);
     let count = kept_count(arena, consts, v);
@@ -51,9 +47,9 @@ fn list_from<C: Constants>(arena: &mut Arena, consts: &C, v: Value) -> Result<Va
 
 fn list_of<C: Constants>(arena: &mut Arena, consts: &C, v: Value) -> Result<Value, Stop>
     requires leads { Leads arena.old.objects v }
-    requires told { IsTold (C.text_of consts.now) (C.items_of consts.now) v }
-    requires all_told { AllTold (C.text_of consts.now) (C.items_of consts.now) arena.old.objects }
-    ensures { IsOutcome (C.text_of consts.now) (C.items_of consts.now) arena.old arena.new result (iterating (plain_heap (C.text_of consts.now) (C.items_of consts.now) arena.old) (plain (C.text_of consts.now) (C.items_of consts.now) v) (list_from_items (plain_heap (C.text_of consts.now) (C.items_of consts.now) arena.old) (plain (C.text_of consts.now) (C.items_of consts.now) v))) }
+    requires told { Tells C.Constants consts.now v }
+    requires all_told { TellsAll C.Constants consts.now arena.old }
+    ensures { Does C.Constants consts.now arena.old arena.new result (λ heap see. iterating heap (see.value v) (list_from_items heap (see.value v))) }
 {
     if !is_iterable(v) {
         return Err(Stop::Raises(Fault::NotIterable(type_of(arena, v))));
@@ -69,9 +65,9 @@ pub fn call_list<C: Constants>(
     keys: &[(Value, Value)],
 ) -> Result<Value, Stop>
     requires few { length args.now < 2 ^ 32 }
-    requires known { All (IsKnown (C.text_of consts.now) (C.items_of consts.now) arena.old.objects) args.now }
-    requires all_told { AllTold (C.text_of consts.now) (C.items_of consts.now) arena.old.objects }
-    ensures { IsOutcome (C.text_of consts.now) (C.items_of consts.now) arena.old arena.new result (call (plain_heap (C.text_of consts.now) (C.items_of consts.now) arena.old) builtins.List (map (plain (C.text_of consts.now) (C.items_of consts.now)) args.now) (map (plain_pair (C.text_of consts.now) (C.items_of consts.now)) keys.now)) }
+    requires known { KnowsAll C.Constants consts.now arena.old args.now }
+    requires all_told { TellsAll C.Constants consts.now arena.old }
+    ensures { Does C.Constants consts.now arena.old arena.new result (calling builtins.List args.now keys.now) }
 {
     match optional_argument(args, keys) {
         Ok(Some(v)) => list_of(arena, consts, v),
@@ -80,7 +76,7 @@ pub fn call_list<C: Constants>(
     }
 }
 
-/// How many visits `call_list` makes, up to so many: the items.
+/// How many visits `call_list` makes, `most` at most: one for each item.
 pub fn visits_call_list<C: Constants>(
     arena: &Arena,
     consts: &C,
@@ -89,8 +85,8 @@ pub fn visits_call_list<C: Constants>(
     most: u64,
 ) -> u64
     requires few { length args.now < 2 ^ 32 }
-    requires known { All (IsKnown (C.text_of consts.now) (C.items_of consts.now) arena.now.objects) args.now }
-    ensures { result ≡ min (call (plain_heap (C.text_of consts.now) (C.items_of consts.now) arena.now) builtins.List (map (plain (C.text_of consts.now) (C.items_of consts.now)) args.now) (map (plain_pair (C.text_of consts.now) (C.items_of consts.now)) keys.now)).visits most }
+    requires known { KnowsAll C.Constants consts.now arena.now args.now }
+    ensures { CountsUpTo C.Constants consts.now result most arena.now (calling builtins.List args.now keys.now) }
 {
     match optional_argument(args, keys) {
         Ok(Some(v)) => most.min(length_of(arena, consts, v) as u64),

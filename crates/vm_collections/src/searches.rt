@@ -3,10 +3,8 @@
 ghost use Rattle.std.specs.Prelude.{◌≡◌, ◌<◌, suc, length, map, min, IfSome, if◌then◌else◌};
 ghost use Rattle.std.specs.Option.{option_map};
 ghost use Rattle.arena_heap.specs.Values.{Leads};
-ghost use Rattle.arena_heap.specs.Constants.{IsTold};
-ghost use Rattle.arena_objects.specs.Keys.{AllTold};
 ghost use Rattle.py_primitives.specs.Order.{order as order_of, has_sign};
-ghost use Rattle.vm_walks.specs.Plain.{plain, plain_heap};
+ghost use Rattle.vm_sights.specs.Sights.{under, sight, Tells, TellsAll};
 ghost use Rattle.vm_collections.specs.Best.{plain_extreme, best_among, values_of, AreKnown, plain_best, IsKnownBest};
 
 use crate::candidates::{Candidates, candidate, candidate_count};
@@ -29,11 +27,11 @@ pub(crate) fn best<C: Constants>(
     extreme: Extreme,
     from: Candidates<'_>,
 ) -> Option<Result<Value, Unordered>>
-    requires known { AreKnown (C.text_of consts.now) (C.items_of consts.now) arena.now.objects from }
-    requires all_told { AllTold (C.text_of consts.now) (C.items_of consts.now) arena.now.objects }
+    requires known { under C.Constants consts.now AreKnown arena.now.objects from }
+    requires all_told { TellsAll C.Constants consts.now arena.now }
     requires some { 0 < length (values_of (C.items_of consts.now) arena.now from) }
-    ensures answer { option_map (plain_best (C.text_of consts.now) (C.items_of consts.now)) result ≡ (best_among (plain_heap (C.text_of consts.now) (C.items_of consts.now) arena.now) (plain_extreme extreme) (map (plain (C.text_of consts.now) (C.items_of consts.now)) (values_of (C.items_of consts.now) arena.now from.entry))).answer }
-    ensures known { IfSome result (IsKnownBest (C.text_of consts.now) (C.items_of consts.now) arena.now.objects) }
+    ensures answer { let see = sight C.Constants consts.now in option_map (plain_best see.texts see.tuples) result ≡ (best_among (see.heap arena.now) (plain_extreme extreme) (map see.value (values_of see.tuples arena.now from.entry))).answer }
+    ensures known { IfSome result (under C.Constants consts.now IsKnownBest arena.now.objects) }
 {
     let mut best = candidate(arena, consts, from, 0);
     for at in 1..candidate_count(arena, consts, from) {
@@ -47,7 +45,7 @@ pub(crate) fn best<C: Constants>(
     Some(Ok(best))
 }
 
-/// The visits of a value and of its comparison with the best so far, up to so many.
+/// How many visits a value and its comparison with the best so far take, `most` at most.
 fn visits_candidate<C: Constants>(
     arena: &Arena,
     consts: &C,
@@ -57,10 +55,10 @@ fn visits_candidate<C: Constants>(
 ) -> u64
     requires v_leads { Leads arena.now.objects v }
     requires best_leads { Leads arena.now.objects best }
-    requires v_told { IsTold (C.text_of consts.now) (C.items_of consts.now) v }
-    requires best_told { IsTold (C.text_of consts.now) (C.items_of consts.now) best }
-    requires all_told { AllTold (C.text_of consts.now) (C.items_of consts.now) arena.now.objects }
-    ensures { result ≡ min (suc (order_of (plain_heap (C.text_of consts.now) (C.items_of consts.now) arena.now) (plain (C.text_of consts.now) (C.items_of consts.now) v) (plain (C.text_of consts.now) (C.items_of consts.now) best)).visits) most }
+    requires v_told { Tells C.Constants consts.now v }
+    requires best_told { Tells C.Constants consts.now best }
+    requires all_told { TellsAll C.Constants consts.now arena.now }
+    ensures { let see = sight C.Constants consts.now in result ≡ min (suc (order_of (see.heap arena.now) (see.value v) (see.value best)).visits) most }
 {
     if most == 0 {
         return 0;
@@ -68,7 +66,7 @@ fn visits_candidate<C: Constants>(
     1 + visits_order(arena, consts, v, best, most - 1)
 }
 
-/// How many visits the search takes, up to so many. It goes no further.
+/// How many visits the search takes, `most` at most. It goes no further.
 pub(crate) fn visits_best<C: Constants>(
     arena: &Arena,
     consts: &C,
@@ -76,10 +74,10 @@ pub(crate) fn visits_best<C: Constants>(
     from: Candidates<'_>,
     most: u64,
 ) -> u64
-    requires known { AreKnown (C.text_of consts.now) (C.items_of consts.now) arena.now.objects from }
-    requires all_told { AllTold (C.text_of consts.now) (C.items_of consts.now) arena.now.objects }
+    requires known { under C.Constants consts.now AreKnown arena.now.objects from }
+    requires all_told { TellsAll C.Constants consts.now arena.now }
     requires some { 0 < length (values_of (C.items_of consts.now) arena.now from) }
-    ensures { result ≡ min (best_among (plain_heap (C.text_of consts.now) (C.items_of consts.now) arena.now) (plain_extreme extreme) (map (plain (C.text_of consts.now) (C.items_of consts.now)) (values_of (C.items_of consts.now) arena.now from.entry))).visits most }
+    ensures { let see = sight C.Constants consts.now in result ≡ min (best_among (see.heap arena.now) (plain_extreme extreme) (map see.value (values_of see.tuples arena.now from.entry))).visits most }
 {
     if most == 0 {
         return 0;

@@ -1,17 +1,13 @@
 //! `tuple`.
 
-ghost use Rattle.std.specs.Prelude.{◌≡◌, ◌<◌, ◌^◌, min, true, length, map, slice_index_or, All};
+ghost use Rattle.std.specs.Prelude.{◌≡◌, ◌<◌, ◌^◌, true, length, slice_index_or};
 ghost use Rattle.mpy_base.specs.declared.builtin.Builtin.TheVariants as builtins;
 ghost use Rattle.mpy_base.specs.World.{ATuple, IsA, Later, items_at, with_tuple};
 ghost use Rattle.arena_heap.specs.Values.{Leads};
-ghost use Rattle.arena_heap.specs.Constants.{IsTold};
-ghost use Rattle.arena_objects.specs.Keys.{AllTold};
 ghost use Rattle.py_primitives.specs.Iterables.{iterating};
-ghost use Rattle.py_primitives.specs.Calls.{call, tuple_shown, tuple_from as tuple_from_items};
+ghost use Rattle.py_primitives.specs.Calls.{tuple_shown, tuple_from as tuple_from_items};
 ghost use Rattle.py_values.specs.Shown.{shown};
-ghost use Rattle.vm_walks.specs.Plain.{plain, plain_pair, plain_heap};
-ghost use Rattle.vm_faults.specs.Faults.{IsKnown};
-ghost use Rattle.vm_faults.specs.Outcomes.{IsOutcome};
+ghost use Rattle.vm_sights.specs.Sights.{calling, Tells, TellsAll, KnowsAll, Does, CountsUpTo};
 ghost use Rattle.vm_operators.specs.Sources.{IsElsewhere};
 ghost use Rattle.vm_collections.specs.Collected.{is_iterable as iterates, kept_values, AreLetters};
 
@@ -32,14 +28,14 @@ fn kept_item<C: Constants>(
     at: u32,
 ) -> Value
     requires leads { Leads arena.now.objects v }
-    requires told { IsTold (C.text_of consts.now) (C.items_of consts.now) v }
-    requires all_told { AllTold (C.text_of consts.now) (C.items_of consts.now) arena.now.objects }
+    requires told { Tells C.Constants consts.now v }
+    requires all_told { TellsAll C.Constants consts.now arena.now }
     requires letters { AreLetters arena.now.objects first count v }
     requires items { length (kept_values (C.items_of consts.now) arena.now first count v) ≡ count }
     requires within { at < count }
     ensures item { result ≡ slice_index_or (kept_values (C.items_of consts.now) arena.now first count v) at Value.None }
     ensures leads { Leads arena.now.objects result }
-    ensures told { IsTold (C.text_of consts.now) (C.items_of consts.now) result }
+    ensures told { Tells C.Constants consts.now result }
 {
     if is_str(v) {
         arena.room_law();
@@ -61,15 +57,15 @@ fn fill_tuple<C: Constants>(
 )
     requires tuple { IsA arena.old.objects ATuple t.cell }
     requires leads { Leads arena.old.objects v }
-    requires told { IsTold (C.text_of consts.now) (C.items_of consts.now) v }
-    requires all_told { AllTold (C.text_of consts.now) (C.items_of consts.now) arena.old.objects }
+    requires told { Tells C.Constants consts.now v }
+    requires all_told { TellsAll C.Constants consts.now arena.old }
     requires apart { IsElsewhere t.cell v }
     requires letters { AreLetters arena.old.objects first count v }
     requires items { length (kept_values (C.items_of consts.now) arena.old first count v) ≡ count }
     requires room { length (items_at arena.old t.cell) ≡ count }
     ensures filled { arena.new ≡ with_tuple arena.old t.cell (kept_values (C.items_of consts.now) arena.old first count v) }
     ensures later { Later arena.old.objects arena.new.objects }
-    ensures all_told { AllTold (C.text_of consts.now) (C.items_of consts.now) arena.new.objects }
+    ensures all_told { TellsAll C.Constants consts.now arena.new }
 {
     for at in 0..count {
         let item = kept_item(arena, consts, v, first, count, at);
@@ -81,9 +77,9 @@ fn fill_tuple<C: Constants>(
 fn tuple_from<C: Constants>(arena: &mut Arena, consts: &C, v: Value) -> Result<Value, Stop>
     requires iterable { iterates v ≡ true }
     requires leads { Leads arena.old.objects v }
-    requires told { IsTold (C.text_of consts.now) (C.items_of consts.now) v }
-    requires all_told { AllTold (C.text_of consts.now) (C.items_of consts.now) arena.old.objects }
-    ensures { IsOutcome (C.text_of consts.now) (C.items_of consts.now) arena.old arena.new result (iterating (plain_heap (C.text_of consts.now) (C.items_of consts.now) arena.old) (plain (C.text_of consts.now) (C.items_of consts.now) v) (tuple_from_items (plain_heap (C.text_of consts.now) (C.items_of consts.now) arena.old) (plain (C.text_of consts.now) (C.items_of consts.now) v))) }
+    requires told { Tells C.Constants consts.now v }
+    requires all_told { TellsAll C.Constants consts.now arena.old }
+    ensures { Does C.Constants consts.now arena.old arena.new result (λ heap see. iterating heap (see.value v) (tuple_from_items heap (see.value v))) }
 {
     items_law(arena, consts, v);
     let count = kept_count(arena, consts, v);
@@ -108,9 +104,9 @@ fn tuple_from<C: Constants>(arena: &mut Arena, consts: &C, v: Value) -> Result<V
 
 fn tuple_of<C: Constants>(arena: &mut Arena, consts: &C, v: Value) -> Result<Value, Stop>
     requires leads { Leads arena.old.objects v }
-    requires told { IsTold (C.text_of consts.now) (C.items_of consts.now) v }
-    requires all_told { AllTold (C.text_of consts.now) (C.items_of consts.now) arena.old.objects }
-    ensures { IsOutcome (C.text_of consts.now) (C.items_of consts.now) arena.old arena.new result (tuple_shown (plain_heap (C.text_of consts.now) (C.items_of consts.now) arena.old) (plain (C.text_of consts.now) (C.items_of consts.now) v) (shown (plain_heap (C.text_of consts.now) (C.items_of consts.now) arena.old) (plain (C.text_of consts.now) (C.items_of consts.now) v))) }
+    requires told { Tells C.Constants consts.now v }
+    requires all_told { TellsAll C.Constants consts.now arena.old }
+    ensures { Does C.Constants consts.now arena.old arena.new result (λ heap see. tuple_shown heap (see.value v) (shown heap (see.value v))) }
 {
     if is_tuple(v) {
         items_law(arena, consts, v);
@@ -130,9 +126,9 @@ pub fn call_tuple<C: Constants>(
     keys: &[(Value, Value)],
 ) -> Result<Value, Stop>
     requires few { length args.now < 2 ^ 32 }
-    requires known { All (IsKnown (C.text_of consts.now) (C.items_of consts.now) arena.old.objects) args.now }
-    requires all_told { AllTold (C.text_of consts.now) (C.items_of consts.now) arena.old.objects }
-    ensures { IsOutcome (C.text_of consts.now) (C.items_of consts.now) arena.old arena.new result (call (plain_heap (C.text_of consts.now) (C.items_of consts.now) arena.old) builtins.Tuple (map (plain (C.text_of consts.now) (C.items_of consts.now)) args.now) (map (plain_pair (C.text_of consts.now) (C.items_of consts.now)) keys.now)) }
+    requires known { KnowsAll C.Constants consts.now arena.old args.now }
+    requires all_told { TellsAll C.Constants consts.now arena.old }
+    ensures { Does C.Constants consts.now arena.old arena.new result (calling builtins.Tuple args.now keys.now) }
 {
     match optional_argument(args, keys) {
         Ok(Some(v)) => tuple_of(arena, consts, v),
@@ -143,8 +139,8 @@ pub fn call_tuple<C: Constants>(
 
 fn visits_tuple_of<C: Constants>(arena: &Arena, consts: &C, v: Value, most: u64) -> u64
     requires leads { Leads arena.now.objects v }
-    requires told { IsTold (C.text_of consts.now) (C.items_of consts.now) v }
-    ensures { result ≡ min (tuple_shown (plain_heap (C.text_of consts.now) (C.items_of consts.now) arena.now) (plain (C.text_of consts.now) (C.items_of consts.now) v) (shown (plain_heap (C.text_of consts.now) (C.items_of consts.now) arena.now) (plain (C.text_of consts.now) (C.items_of consts.now) v))).visits most }
+    requires told { Tells C.Constants consts.now v }
+    ensures { CountsUpTo C.Constants consts.now result most arena.now (λ heap see. tuple_shown heap (see.value v) (shown heap (see.value v))) }
 {
     if is_tuple(v) {
         items_law(arena, consts, v);
@@ -153,7 +149,7 @@ fn visits_tuple_of<C: Constants>(arena: &Arena, consts: &C, v: Value, most: u64)
     most.min(length_of(arena, consts, v) as u64)
 }
 
-/// How many visits `call_tuple` makes, up to so many: the items of what is no tuple.
+/// How many visits `call_tuple` makes, `most` at most: one for each item of what is no tuple.
 pub fn visits_call_tuple<C: Constants>(
     arena: &Arena,
     consts: &C,
@@ -162,8 +158,8 @@ pub fn visits_call_tuple<C: Constants>(
     most: u64,
 ) -> u64
     requires few { length args.now < 2 ^ 32 }
-    requires known { All (IsKnown (C.text_of consts.now) (C.items_of consts.now) arena.now.objects) args.now }
-    ensures { result ≡ min (call (plain_heap (C.text_of consts.now) (C.items_of consts.now) arena.now) builtins.Tuple (map (plain (C.text_of consts.now) (C.items_of consts.now)) args.now) (map (plain_pair (C.text_of consts.now) (C.items_of consts.now)) keys.now)).visits most }
+    requires known { KnowsAll C.Constants consts.now arena.now args.now }
+    ensures { CountsUpTo C.Constants consts.now result most arena.now (calling builtins.Tuple args.now keys.now) }
 {
     match optional_argument(args, keys) {
         Ok(Some(v)) => visits_tuple_of(arena, consts, v, most),

@@ -13,17 +13,15 @@ use Rattle.mpy_base.specs.Val.{Val}
 use Rattle.arena_heap.specs.Values.{ArenaObject, Leads, Sound, IsKey, IsFormed, held}
 use Rattle.arena_heap.specs.Constants.{IsTold}
 use Rattle.arena_objects.specs.Keys.{AllTold, Lacks, IsValueOf, key_of, key_in}
-use Rattle.arena_objects.specs.Iterables.{or_nothing}
 use Rattle.arena_objects.proofs.Places.{no_pair}
-use Rattle.py_values.specs.Shown.{PlainHeap, Shown}
+use Rattle.py_values.specs.Shown.{PlainHeap}
 use Rattle.py_values.specs.Names.{type_name}
 use Rattle.py_values.specs.Keys as plain_keys
-use Rattle.py_values.specs.Keys.{TextKey, shown_key, value_of_key}
+use Rattle.py_values.specs.Keys.{TextKey, value_of_key}
 use Rattle.py_primitives.specs.Faults.{UnsupportedOne}
 use Rattle.py_primitives.specs.Outcome.{Outcome, raises}
 use Rattle.py_primitives.specs.Operators.{with_key_of}
-use Rattle.vm_walks.specs.Plain.{plain, plain_by, plain_pair, plain_heap, fixed_within}
-use Rattle.vm_walks.proofs.PlainValues.{within_step, shown_fixed}
+use Rattle.vm_walks.specs.Plain.{plain, plain_pair, plain_heap}
 use Rattle.vm_walks.proofs.FoundKeys.{AllSame, key_same, kept_at, kept_nowhere}
 
 abbrev keys_of : List (Value × Value) → List Value
@@ -98,15 +96,6 @@ module _ (texts : StrNo → Option (List ℕ)) (tuples : ConstNo → Option (Lis
   pub key_there : (r : Option Value) → IfSome r (IsValueOf texts heap d key) → IfNone r (Lacks texts heap d key) → is_some r ≡ is_some sought
   key_there (Some v) some none = ap is_some (sym (found v some))
   key_there None some none = ap is_some (sym (lacking none))
-
--- a constant tuple is no key
-pub fixed_no_key : (texts : StrNo → Option (List ℕ)) (tuples : ConstNo → Option (List Value)) (h : Heap Value ℕ) (v : Value) (c : ConstNo) → v ≡ values.Fixed c
-    → false ≡ is_some (plain_keys.key_of (plain_heap texts tuples h) (plain texts tuples v))
-fixed_no_key texts tuples h v c is =
-    let heap = plain_heap texts tuples h in
-    let items = map (plain_by texts (fixed_within texts tuples 31)) (or_nothing (tuples c)) in
-    sym (ap (λ (w : Value). is_some (plain_keys.key_of heap (plain texts tuples w))) is
-    ∙ (ap (λ (w : Val). is_some (plain_keys.key_of heap w)) (within_step texts tuples 31 c) ∙ ap (λ (s : Shown). is_some (shown_key s)) (shown_fixed heap items)))
 
 module _ {A : Type 0} (heap : PlainHeap) (key : Val) (next : Outcome A) where
   tested : (b : Bool) → b ≡ is_some (plain_keys.key_of heap key) → with_key_of heap key next ≡ cond b next (raises (UnsupportedOne (codes "__hash__") (type_name heap key)) heap)

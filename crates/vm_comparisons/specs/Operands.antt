@@ -1,11 +1,10 @@
 -- What comparisons see of their operands.
-use Rattle.std.specs.Prelude.{◌≡◌, ℕ, ℤ, Bool, false, List, Option, is_some}
+use Rattle.std.specs.Prelude.{◌≡◌, ℕ, ℤ, Bool, false, List, Option}
 use Rattle.mpy_base.specs.World.{Heap}
 use Rattle.arena_heap.specs.declared.value.Value.{Value}
 use Rattle.arena_heap.specs.declared.value.StrNo.{StrNo}
 use Rattle.arena_heap.specs.declared.value.ConstNo.{ConstNo}
 use Rattle.py_values.specs.Names.{type_name}
-use Rattle.py_values.specs.Keys.{key_of}
 use Rattle.py_values.specs.Shown.{Shown, Number, shown}
 use Rattle.py_primitives.specs.Faults.{Unsupported}
 use Rattle.py_primitives.specs.Operators.{is_in_range}
@@ -19,11 +18,6 @@ IsUnsupported heap method left right fault =
     (texts : StrNo → Option (List ℕ)) (tuples : ConstNo → Option (List Value))
     → IsKnownFault texts tuples heap.objects fault
     × (plain_fault texts tuples heap fault ≡ Unsupported method (type_name (plain_heap texts tuples heap) (plain texts tuples left)) (type_name (plain_heap texts tuples heap) (plain texts tuples right)))
-
--- may a value be a key, whatever the constants are?
-abbrev pub DecidesKey : Heap Value ℕ → Value → Bool → Type 0
-DecidesKey heap v answer =
-    (texts : StrNo → Option (List ℕ)) (tuples : ConstNo → Option (List Value)) → answer ≡ is_some (key_of (plain_heap texts tuples heap) (plain texts tuples v))
 
 -- a number that is one of a range's
 abbrev pub is_number_within : Shown → ℤ → ℤ → ℤ → Bool

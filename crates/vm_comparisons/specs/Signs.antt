@@ -3,6 +3,7 @@ use Rattle.py_primitives.specs.Order as plain
 use Rattle.vm_comparisons.specs.declared.signs.Sign.{Sign}
 use Rattle.vm_comparisons.specs.declared.signs.Sign.TheVariants as signs
 
+-- a sign of order
 abbrev pub plain_sign : Sign → plain.Sign
 plain_sign signs.Below = plain.Below
 plain_sign signs.Above = plain.Above

@@ -3,12 +3,9 @@
 ghost use Rattle.std.specs.Prelude.{◌≡◌, min};
 ghost use Rattle.std.specs.Ordering.{int_eq};
 ghost use Rattle.arena_heap.specs.Values.{Leads};
-ghost use Rattle.arena_heap.specs.Constants.{IsTold};
-ghost use Rattle.arena_objects.specs.Keys.{AllTold};
 ghost use Rattle.py_primitives.specs.Operators.{op_eq as eq_of, op_ne as ne_of, op_is as is_of};
 ghost use Rattle.py_values.specs.Equality.{equal as walk_of};
-ghost use Rattle.vm_walks.specs.Plain.{plain, plain_heap};
-ghost use Rattle.vm_faults.specs.Outcomes.{IsOutcome};
+ghost use Rattle.vm_sights.specs.Sights.{sight, Tells, TellsAll, Does, CountsUpTo};
 
 use arena_heap::{Arena, Constants, Value};
 use vm_faults::{Fault, Stop};
@@ -24,10 +21,10 @@ fn is_same_number(m: i32, n: i32) -> bool
 fn same<C: Constants>(arena: &Arena, consts: &C, a: Value, b: Value) -> Option<bool>
     requires a_leads { Leads arena.now.objects a }
     requires b_leads { Leads arena.now.objects b }
-    requires a_told { IsTold (C.text_of consts.now) (C.items_of consts.now) a }
-    requires b_told { IsTold (C.text_of consts.now) (C.items_of consts.now) b }
-    requires all_told { AllTold (C.text_of consts.now) (C.items_of consts.now) arena.now.objects }
-    ensures answer { result ≡ (walk_of (plain_heap (C.text_of consts.now) (C.items_of consts.now) arena.now) (plain (C.text_of consts.now) (C.items_of consts.now) a) (plain (C.text_of consts.now) (C.items_of consts.now) b)).answer }
+    requires a_told { Tells C.Constants consts.now a }
+    requires b_told { Tells C.Constants consts.now b }
+    requires all_told { TellsAll C.Constants consts.now arena.now }
+    ensures answer { let see = sight C.Constants consts.now in result ≡ (walk_of (see.heap arena.now) (see.value a) (see.value b)).answer }
 {
     match a {
         Value::Int(m) => match b {
@@ -42,10 +39,10 @@ fn same<C: Constants>(arena: &Arena, consts: &C, a: Value, b: Value) -> Option<b
 fn visits_same<C: Constants>(arena: &Arena, consts: &C, a: Value, b: Value, most: u64) -> u64
     requires a_leads { Leads arena.now.objects a }
     requires b_leads { Leads arena.now.objects b }
-    requires a_told { IsTold (C.text_of consts.now) (C.items_of consts.now) a }
-    requires b_told { IsTold (C.text_of consts.now) (C.items_of consts.now) b }
-    requires all_told { AllTold (C.text_of consts.now) (C.items_of consts.now) arena.now.objects }
-    ensures visits { result ≡ min (walk_of (plain_heap (C.text_of consts.now) (C.items_of consts.now) arena.now) (plain (C.text_of consts.now) (C.items_of consts.now) a) (plain (C.text_of consts.now) (C.items_of consts.now) b)).visits most }
+    requires a_told { Tells C.Constants consts.now a }
+    requires b_told { Tells C.Constants consts.now b }
+    requires all_told { TellsAll C.Constants consts.now arena.now }
+    ensures visits { let see = sight C.Constants consts.now in result ≡ min (walk_of (see.heap arena.now) (see.value a) (see.value b)).visits most }
 {
     match a {
         Value::Int(_m) => match b {
@@ -60,10 +57,10 @@ fn visits_same<C: Constants>(arena: &Arena, consts: &C, a: Value, b: Value, most
 pub fn op_eq<C: Constants>(arena: &Arena, consts: &C, a: Value, b: Value) -> Result<Value, Stop>
     requires a_leads { Leads arena.now.objects a }
     requires b_leads { Leads arena.now.objects b }
-    requires a_told { IsTold (C.text_of consts.now) (C.items_of consts.now) a }
-    requires b_told { IsTold (C.text_of consts.now) (C.items_of consts.now) b }
-    requires all_told { AllTold (C.text_of consts.now) (C.items_of consts.now) arena.now.objects }
-    ensures { IsOutcome (C.text_of consts.now) (C.items_of consts.now) arena.now arena.now result (eq_of (plain_heap (C.text_of consts.now) (C.items_of consts.now) arena.now) (plain (C.text_of consts.now) (C.items_of consts.now) a) (plain (C.text_of consts.now) (C.items_of consts.now) b)) }
+    requires a_told { Tells C.Constants consts.now a }
+    requires b_told { Tells C.Constants consts.now b }
+    requires all_told { TellsAll C.Constants consts.now arena.now }
+    ensures { Does C.Constants consts.now arena.now arena.now result (λ heap see. eq_of heap (see.value a) (see.value b)) }
 {
     match same(arena, consts, a, b) {
         Some(same) => Ok(Value::Bool(same)),
@@ -71,14 +68,14 @@ pub fn op_eq<C: Constants>(arena: &Arena, consts: &C, a: Value, b: Value) -> Res
     }
 }
 
-/// How many visits `op_eq` makes, up to so many. It goes no further.
+/// How many visits `op_eq` makes, `most` at most. It goes no further.
 pub fn visits_op_eq<C: Constants>(arena: &Arena, consts: &C, a: Value, b: Value, most: u64) -> u64
     requires a_leads { Leads arena.now.objects a }
     requires b_leads { Leads arena.now.objects b }
-    requires a_told { IsTold (C.text_of consts.now) (C.items_of consts.now) a }
-    requires b_told { IsTold (C.text_of consts.now) (C.items_of consts.now) b }
-    requires all_told { AllTold (C.text_of consts.now) (C.items_of consts.now) arena.now.objects }
-    ensures { result ≡ min (eq_of (plain_heap (C.text_of consts.now) (C.items_of consts.now) arena.now) (plain (C.text_of consts.now) (C.items_of consts.now) a) (plain (C.text_of consts.now) (C.items_of consts.now) b)).visits most }
+    requires a_told { Tells C.Constants consts.now a }
+    requires b_told { Tells C.Constants consts.now b }
+    requires all_told { TellsAll C.Constants consts.now arena.now }
+    ensures { CountsUpTo C.Constants consts.now result most arena.now (λ heap see. eq_of heap (see.value a) (see.value b)) }
 {
     visits_same(arena, consts, a, b, most)
 }
@@ -87,10 +84,10 @@ pub fn visits_op_eq<C: Constants>(arena: &Arena, consts: &C, a: Value, b: Value,
 pub fn op_ne<C: Constants>(arena: &Arena, consts: &C, a: Value, b: Value) -> Result<Value, Stop>
     requires a_leads { Leads arena.now.objects a }
     requires b_leads { Leads arena.now.objects b }
-    requires a_told { IsTold (C.text_of consts.now) (C.items_of consts.now) a }
-    requires b_told { IsTold (C.text_of consts.now) (C.items_of consts.now) b }
-    requires all_told { AllTold (C.text_of consts.now) (C.items_of consts.now) arena.now.objects }
-    ensures { IsOutcome (C.text_of consts.now) (C.items_of consts.now) arena.now arena.now result (ne_of (plain_heap (C.text_of consts.now) (C.items_of consts.now) arena.now) (plain (C.text_of consts.now) (C.items_of consts.now) a) (plain (C.text_of consts.now) (C.items_of consts.now) b)) }
+    requires a_told { Tells C.Constants consts.now a }
+    requires b_told { Tells C.Constants consts.now b }
+    requires all_told { TellsAll C.Constants consts.now arena.now }
+    ensures { Does C.Constants consts.now arena.now arena.now result (λ heap see. ne_of heap (see.value a) (see.value b)) }
 {
     match same(arena, consts, a, b) {
         Some(same) => Ok(Value::Bool(!same)),
@@ -98,14 +95,14 @@ pub fn op_ne<C: Constants>(arena: &Arena, consts: &C, a: Value, b: Value) -> Res
     }
 }
 
-/// How many visits `op_ne` makes, up to so many. It goes no further.
+/// How many visits `op_ne` makes, `most` at most. It goes no further.
 pub fn visits_op_ne<C: Constants>(arena: &Arena, consts: &C, a: Value, b: Value, most: u64) -> u64
     requires a_leads { Leads arena.now.objects a }
     requires b_leads { Leads arena.now.objects b }
-    requires a_told { IsTold (C.text_of consts.now) (C.items_of consts.now) a }
-    requires b_told { IsTold (C.text_of consts.now) (C.items_of consts.now) b }
-    requires all_told { AllTold (C.text_of consts.now) (C.items_of consts.now) arena.now.objects }
-    ensures { result ≡ min (ne_of (plain_heap (C.text_of consts.now) (C.items_of consts.now) arena.now) (plain (C.text_of consts.now) (C.items_of consts.now) a) (plain (C.text_of consts.now) (C.items_of consts.now) b)).visits most }
+    requires a_told { Tells C.Constants consts.now a }
+    requires b_told { Tells C.Constants consts.now b }
+    requires all_told { TellsAll C.Constants consts.now arena.now }
+    ensures { CountsUpTo C.Constants consts.now result most arena.now (λ heap see. ne_of heap (see.value a) (see.value b)) }
 {
     visits_same(arena, consts, a, b, most)
 }
@@ -114,10 +111,10 @@ pub fn visits_op_ne<C: Constants>(arena: &Arena, consts: &C, a: Value, b: Value,
 pub fn op_is<C: Constants>(arena: &Arena, consts: &C, a: Value, b: Value) -> Result<Value, Stop>
     requires a_leads { Leads arena.now.objects a }
     requires b_leads { Leads arena.now.objects b }
-    requires a_told { IsTold (C.text_of consts.now) (C.items_of consts.now) a }
-    requires b_told { IsTold (C.text_of consts.now) (C.items_of consts.now) b }
-    requires all_told { AllTold (C.text_of consts.now) (C.items_of consts.now) arena.now.objects }
-    ensures { IsOutcome (C.text_of consts.now) (C.items_of consts.now) arena.now arena.now result (is_of (plain_heap (C.text_of consts.now) (C.items_of consts.now) arena.now) (plain (C.text_of consts.now) (C.items_of consts.now) a) (plain (C.text_of consts.now) (C.items_of consts.now) b)) }
+    requires a_told { Tells C.Constants consts.now a }
+    requires b_told { Tells C.Constants consts.now b }
+    requires all_told { TellsAll C.Constants consts.now arena.now }
+    ensures { Does C.Constants consts.now arena.now arena.now result (λ heap see. is_of heap (see.value a) (see.value b)) }
 {
     Ok(Value::Bool(is_one(arena, consts, a, b)))
 }

@@ -7,6 +7,7 @@ ghost use Rattle.vm_comparisons.specs.Operands.{IsUnsupported};
 use arena_heap::{Arena, Value};
 use vm_faults::{Fault, SpecialMethod, type_of};
 
+/// The fault that the operator of this method takes no such operands.
 pub(crate) fn unsupported(arena: &Arena, method: SpecialMethod, left: Value, right: Value) -> Fault
     requires left { Leads arena.now.objects left }
     requires right { Leads arena.now.objects right }

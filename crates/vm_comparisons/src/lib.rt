@@ -3,7 +3,6 @@
 
 mod equalities;
 mod faults;
-mod keys;
 mod membership;
 mod orders;
 mod parts;

@@ -1,36 +1,33 @@
 //! Membership.
 
-ghost use Rattle.std.specs.Prelude.{◌≡◌, map, min, is_some};
+ghost use Rattle.std.specs.Prelude.{map, is_some};
 ghost use Rattle.mpy_base.specs.World.{ADict, IsA, pairs_at};
 ghost use Rattle.mpy_base.specs.Val.{Truth};
 ghost use Rattle.arena_heap.specs.Values.{Leads};
-ghost use Rattle.arena_heap.specs.Constants.{IsTold};
-ghost use Rattle.arena_objects.specs.Keys.{AllTold};
 ghost use Rattle.arena_objects.specs.Iterables.{items_in};
 ghost use Rattle.py_values.specs.Shown.{Text, shown};
 ghost use Rattle.py_values.specs.Keys.{value_of_key};
 ghost use Rattle.py_primitives.specs.Outcome.{gives, after_walk};
 ghost use Rattle.py_primitives.specs.Operators.{op_contains as contains_of, contains_equal, contains_shown, with_key_of};
-ghost use Rattle.vm_walks.specs.Plain.{plain, plain_pair, plain_heap};
-ghost use Rattle.vm_faults.specs.Outcomes.{IsOutcome};
+ghost use Rattle.vm_sights.specs.Sights.{Tells, TellsAll, Does, CountsUpTo};
 
 use crate::faults::unsupported;
-use crate::keys::is_key;
 use crate::parts::has_part;
 use crate::ranges::has_number;
 use arena_heap::{Arena, Constants, DictNo, Value};
 use arena_objects::dict_get;
 use vm_faults::{Fault, SpecialMethod, Stop, type_of};
+use vm_sights::is_key;
 use vm_walks::{Look, contains, look_at, visits_contains};
 
 /// Whether a list or tuple has an item that equals a value.
 fn has_item<C: Constants>(arena: &Arena, consts: &C, v: Value, over: Value) -> Result<Value, Stop>
     requires v_leads { Leads arena.now.objects v }
     requires over_leads { Leads arena.now.objects over }
-    requires v_told { IsTold (C.text_of consts.now) (C.items_of consts.now) v }
-    requires over_told { IsTold (C.text_of consts.now) (C.items_of consts.now) over }
-    requires all_told { AllTold (C.text_of consts.now) (C.items_of consts.now) arena.now.objects }
-    ensures { IsOutcome (C.text_of consts.now) (C.items_of consts.now) arena.now arena.now result (after_walk (plain_heap (C.text_of consts.now) (C.items_of consts.now) arena.now) (contains_equal (plain_heap (C.text_of consts.now) (C.items_of consts.now) arena.now) (plain (C.text_of consts.now) (C.items_of consts.now) v) (map (plain (C.text_of consts.now) (C.items_of consts.now)) (items_in (C.items_of consts.now) arena.now over))) (λ found. gives (Truth found) (plain_heap (C.text_of consts.now) (C.items_of consts.now) arena.now))) }
+    requires v_told { Tells C.Constants consts.now v }
+    requires over_told { Tells C.Constants consts.now over }
+    requires all_told { TellsAll C.Constants consts.now arena.now }
+    ensures { Does C.Constants consts.now arena.now arena.now result (λ heap see. after_walk heap (contains_equal heap (see.value v) (map see.value (items_in see.tuples arena.now over))) (λ found. gives (Truth found) heap)) }
 {
     match contains(arena, consts, over, v) {
         Some(found) => Ok(Value::Bool(found)),
@@ -42,9 +39,9 @@ fn has_item<C: Constants>(arena: &Arena, consts: &C, v: Value, over: Value) -> R
 fn has_key<C: Constants>(arena: &Arena, consts: &C, v: Value, d: DictNo) -> Result<Value, Stop>
     requires dict { IsA arena.now.objects ADict d.cell }
     requires v_leads { Leads arena.now.objects v }
-    requires v_told { IsTold (C.text_of consts.now) (C.items_of consts.now) v }
-    requires all_told { AllTold (C.text_of consts.now) (C.items_of consts.now) arena.now.objects }
-    ensures { IsOutcome (C.text_of consts.now) (C.items_of consts.now) arena.now arena.now result (with_key_of (plain_heap (C.text_of consts.now) (C.items_of consts.now) arena.now) (plain (C.text_of consts.now) (C.items_of consts.now) v) (gives (Truth (is_some (value_of_key (plain_heap (C.text_of consts.now) (C.items_of consts.now) arena.now) (map (plain_pair (C.text_of consts.now) (C.items_of consts.now)) (pairs_at arena.now d.cell)) (plain (C.text_of consts.now) (C.items_of consts.now) v)))) (plain_heap (C.text_of consts.now) (C.items_of consts.now) arena.now))) }
+    requires v_told { Tells C.Constants consts.now v }
+    requires all_told { TellsAll C.Constants consts.now arena.now }
+    ensures { Does C.Constants consts.now arena.now arena.now result (λ heap see. with_key_of heap (see.value v) (gives (Truth (is_some (value_of_key heap (map see.pair (pairs_at arena.now d.cell)) (see.value v)))) heap)) }
 {
     if !is_key(arena, v) {
         return Err(Stop::Raises(Fault::UnsupportedOne {
@@ -66,10 +63,10 @@ fn has_text<C: Constants>(
 ) -> Result<Value, Stop>
     requires v_leads { Leads arena.now.objects v }
     requires container_leads { Leads arena.now.objects container }
-    requires v_told { IsTold (C.text_of consts.now) (C.items_of consts.now) v }
-    requires container_told { IsTold (C.text_of consts.now) (C.items_of consts.now) container }
-    requires all_told { AllTold (C.text_of consts.now) (C.items_of consts.now) arena.now.objects }
-    ensures { IsOutcome (C.text_of consts.now) (C.items_of consts.now) arena.now arena.now result (contains_shown (plain_heap (C.text_of consts.now) (C.items_of consts.now) arena.now) (plain (C.text_of consts.now) (C.items_of consts.now) v) (plain (C.text_of consts.now) (C.items_of consts.now) container) (shown (plain_heap (C.text_of consts.now) (C.items_of consts.now) arena.now) (plain (C.text_of consts.now) (C.items_of consts.now) v)) (Text bytes.now)) }
+    requires v_told { Tells C.Constants consts.now v }
+    requires container_told { Tells C.Constants consts.now container }
+    requires all_told { TellsAll C.Constants consts.now arena.now }
+    ensures { Does C.Constants consts.now arena.now arena.now result (λ heap see. contains_shown heap (see.value v) (see.value container) (shown heap (see.value v)) (Text bytes.now)) }
 {
     match look_at(arena, consts, v) {
         Look::Text(part) => Ok(Value::Bool(has_part(bytes, part))),
@@ -86,10 +83,10 @@ pub fn op_contains<C: Constants>(
 ) -> Result<Value, Stop>
     requires v_leads { Leads arena.now.objects v }
     requires container_leads { Leads arena.now.objects container }
-    requires v_told { IsTold (C.text_of consts.now) (C.items_of consts.now) v }
-    requires container_told { IsTold (C.text_of consts.now) (C.items_of consts.now) container }
-    requires all_told { AllTold (C.text_of consts.now) (C.items_of consts.now) arena.now.objects }
-    ensures { IsOutcome (C.text_of consts.now) (C.items_of consts.now) arena.now arena.now result (contains_of (plain_heap (C.text_of consts.now) (C.items_of consts.now) arena.now) (plain (C.text_of consts.now) (C.items_of consts.now) v) (plain (C.text_of consts.now) (C.items_of consts.now) container)) }
+    requires v_told { Tells C.Constants consts.now v }
+    requires container_told { Tells C.Constants consts.now container }
+    requires all_told { TellsAll C.Constants consts.now arena.now }
+    ensures { Does C.Constants consts.now arena.now arena.now result (λ heap see. contains_of heap (see.value v) (see.value container)) }
 {
     match look_at(arena, consts, container) {
         Look::Tuple(_) => has_item(arena, consts, v, container),
@@ -103,7 +100,7 @@ pub fn op_contains<C: Constants>(
     }
 }
 
-/// How many visits `op_contains` makes, up to so many. It goes no further.
+/// How many visits `op_contains` makes, `most` at most. It goes no further.
 pub fn visits_op_contains<C: Constants>(
     arena: &Arena,
     consts: &C,
@@ -113,10 +110,10 @@ pub fn visits_op_contains<C: Constants>(
 ) -> u64
     requires v_leads { Leads arena.now.objects v }
     requires container_leads { Leads arena.now.objects container }
-    requires v_told { IsTold (C.text_of consts.now) (C.items_of consts.now) v }
-    requires container_told { IsTold (C.text_of consts.now) (C.items_of consts.now) container }
-    requires all_told { AllTold (C.text_of consts.now) (C.items_of consts.now) arena.now.objects }
-    ensures { result ≡ min (contains_of (plain_heap (C.text_of consts.now) (C.items_of consts.now) arena.now) (plain (C.text_of consts.now) (C.items_of consts.now) v) (plain (C.text_of consts.now) (C.items_of consts.now) container)).visits most }
+    requires v_told { Tells C.Constants consts.now v }
+    requires container_told { Tells C.Constants consts.now container }
+    requires all_told { TellsAll C.Constants consts.now arena.now }
+    ensures { CountsUpTo C.Constants consts.now result most arena.now (λ heap see. contains_of heap (see.value v) (see.value container)) }
 {
     match look_at(arena, consts, container) {
         Look::Tuple(_) => visits_contains(arena, consts, container, v, most),

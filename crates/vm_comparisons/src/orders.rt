@@ -2,13 +2,10 @@
 
 ghost use Rattle.std.specs.Prelude.{◌≡◌, min, option_map, IfSome, IfErr};
 ghost use Rattle.arena_heap.specs.Values.{Leads};
-ghost use Rattle.arena_heap.specs.Constants.{IsTold};
-ghost use Rattle.arena_objects.specs.Keys.{AllTold};
 ghost use Rattle.py_primitives.specs.Operators.{op_order as order_of};
 ghost use Rattle.py_primitives.specs.Order.{order as walk_of};
 ghost use Rattle.vm_walks.specs.Orders.{plain_order, BothLead};
-ghost use Rattle.vm_walks.specs.Plain.{plain, plain_heap};
-ghost use Rattle.vm_faults.specs.Outcomes.{IsOutcome};
+ghost use Rattle.vm_sights.specs.Sights.{sight, Tells, TellsAll, Does, CountsUpTo};
 ghost use Rattle.vm_comparisons.specs.Signs.{plain_sign};
 
 use crate::faults::unsupported;
@@ -27,10 +24,10 @@ fn ordered<C: Constants>(
 ) -> Option<Result<Ordering, Unordered>>
     requires a_leads { Leads arena.now.objects a }
     requires b_leads { Leads arena.now.objects b }
-    requires a_told { IsTold (C.text_of consts.now) (C.items_of consts.now) a }
-    requires b_told { IsTold (C.text_of consts.now) (C.items_of consts.now) b }
-    requires all_told { AllTold (C.text_of consts.now) (C.items_of consts.now) arena.now.objects }
-    ensures answer { option_map (plain_order (C.text_of consts.now) (C.items_of consts.now)) result ≡ (walk_of (plain_heap (C.text_of consts.now) (C.items_of consts.now) arena.now) (plain (C.text_of consts.now) (C.items_of consts.now) a) (plain (C.text_of consts.now) (C.items_of consts.now) b)).answer }
+    requires a_told { Tells C.Constants consts.now a }
+    requires b_told { Tells C.Constants consts.now b }
+    requires all_told { TellsAll C.Constants consts.now arena.now }
+    ensures answer { let see = sight C.Constants consts.now in option_map (plain_order see.texts see.tuples) result ≡ (walk_of (see.heap arena.now) (see.value a) (see.value b)).answer }
     ensures lead { IfSome result (λ found. IfErr found (BothLead arena.now.objects)) }
 {
     match a {
@@ -46,10 +43,10 @@ fn ordered<C: Constants>(
 fn visits_ordered<C: Constants>(arena: &Arena, consts: &C, a: Value, b: Value, most: u64) -> u64
     requires a_leads { Leads arena.now.objects a }
     requires b_leads { Leads arena.now.objects b }
-    requires a_told { IsTold (C.text_of consts.now) (C.items_of consts.now) a }
-    requires b_told { IsTold (C.text_of consts.now) (C.items_of consts.now) b }
-    requires all_told { AllTold (C.text_of consts.now) (C.items_of consts.now) arena.now.objects }
-    ensures visits { result ≡ min (walk_of (plain_heap (C.text_of consts.now) (C.items_of consts.now) arena.now) (plain (C.text_of consts.now) (C.items_of consts.now) a) (plain (C.text_of consts.now) (C.items_of consts.now) b)).visits most }
+    requires a_told { Tells C.Constants consts.now a }
+    requires b_told { Tells C.Constants consts.now b }
+    requires all_told { TellsAll C.Constants consts.now arena.now }
+    ensures visits { let see = sight C.Constants consts.now in result ≡ min (walk_of (see.heap arena.now) (see.value a) (see.value b)).visits most }
 {
     match a {
         Value::Int(_m) => match b {
@@ -70,10 +67,10 @@ pub fn op_order<C: Constants>(
 ) -> Result<Value, Stop>
     requires a_leads { Leads arena.now.objects a }
     requires b_leads { Leads arena.now.objects b }
-    requires a_told { IsTold (C.text_of consts.now) (C.items_of consts.now) a }
-    requires b_told { IsTold (C.text_of consts.now) (C.items_of consts.now) b }
-    requires all_told { AllTold (C.text_of consts.now) (C.items_of consts.now) arena.now.objects }
-    ensures { IsOutcome (C.text_of consts.now) (C.items_of consts.now) arena.now arena.now result (order_of (plain_heap (C.text_of consts.now) (C.items_of consts.now) arena.now) (plain_sign sign) (plain (C.text_of consts.now) (C.items_of consts.now) a) (plain (C.text_of consts.now) (C.items_of consts.now) b)) }
+    requires a_told { Tells C.Constants consts.now a }
+    requires b_told { Tells C.Constants consts.now b }
+    requires all_told { TellsAll C.Constants consts.now arena.now }
+    ensures { Does C.Constants consts.now arena.now arena.now result (λ heap see. order_of heap (plain_sign sign) (see.value a) (see.value b)) }
 {
     match ordered(arena, consts, a, b) {
         Some(Ok(found)) => Ok(Value::Bool(sign.holds(found))),
@@ -82,7 +79,7 @@ pub fn op_order<C: Constants>(
     }
 }
 
-/// How many visits `op_order` makes, up to so many, whichever the sign. It goes no further.
+/// How many visits `op_order` makes, `most` at most, whichever the sign. It goes no further.
 pub fn visits_op_order<C: Constants>(
     arena: &Arena,
     consts: &C,
@@ -93,10 +90,10 @@ pub fn visits_op_order<C: Constants>(
 ) -> u64
     requires a_leads { Leads arena.now.objects a }
     requires b_leads { Leads arena.now.objects b }
-    requires a_told { IsTold (C.text_of consts.now) (C.items_of consts.now) a }
-    requires b_told { IsTold (C.text_of consts.now) (C.items_of consts.now) b }
-    requires all_told { AllTold (C.text_of consts.now) (C.items_of consts.now) arena.now.objects }
-    ensures { result ≡ min (order_of (plain_heap (C.text_of consts.now) (C.items_of consts.now) arena.now) (plain_sign _sign) (plain (C.text_of consts.now) (C.items_of consts.now) a) (plain (C.text_of consts.now) (C.items_of consts.now) b)).visits most }
+    requires a_told { Tells C.Constants consts.now a }
+    requires b_told { Tells C.Constants consts.now b }
+    requires all_told { TellsAll C.Constants consts.now arena.now }
+    ensures { CountsUpTo C.Constants consts.now result most arena.now (λ heap see. order_of heap (plain_sign _sign) (see.value a) (see.value b)) }
 {
     visits_ordered(arena, consts, a, b, most)
 }

@@ -16,6 +16,7 @@ use Rattle.vm_faults.specs.declared.method.SpecialMethod.{SpecialMethod}
 use Rattle.vm_faults.specs.declared.method.SpecialMethod.TheVariants as methods
 use Rattle.vm_faults.specs.Types.{type_text}
 
+-- the name that Python gives the method
 abbrev pub method_text : SpecialMethod → List ℕ
 method_text methods.Or = codes "__or__"
 method_text methods.Xor = codes "__xor__"
@@ -39,6 +40,7 @@ method_text methods.Invert = codes "__invert__"
 method_text methods.Hash = codes "__hash__"
 
 module _ (texts : StrNo → Option (List ℕ)) (tuples : ConstNo → Option (List Value)) (heap : Heap Value ℕ) where
+  -- a fault as the meaning has it
   abbrev pub plain_fault : Fault → plain.Fault
   plain_fault (faults.Unsupported method left right) = plain.Unsupported (method_text method) (type_text left) (type_text right)
   plain_fault (faults.UnsupportedOne method operand) = plain.UnsupportedOne (method_text method) (type_text operand)
@@ -99,10 +101,11 @@ module _ (texts : StrNo → Option (List ℕ)) (tuples : ConstNo → Option (Lis
   name_in (faults.NoModule name len) = take len (or_nothing (texts name))
   name_in _ = []
 
--- a text has so many first bytes
+-- the text `name` has `len` bytes at least
 abbrev pub IsPrefix : (StrNo → Option (List ℕ)) → StrNo → ℕ → Type 0
 IsPrefix texts name len = IsSome (texts name) × (len ≤ length (or_nothing (texts name)))
 
+-- the fault raises an exception of that kind
 abbrev pub IsKindOf : Fault → Kind → Type 0
 IsKindOf fault kind =
     (texts : StrNo → Option (List ℕ)) (tuples : ConstNo → Option (List Value)) (heap : Heap Value ℕ) → kind ≡ plain.fault_kind (plain_fault texts tuples heap fault)
@@ -113,6 +116,7 @@ module _ (texts : StrNo → Option (List ℕ)) (tuples : ConstNo → Option (Lis
     pub leads : Leads objects v
     pub told : IsTold texts tuples v
 
+  -- a str that leads to its text, or is told
   pub record IsKnownStr (v : Value) : Type 0 where
     pub str : IsStr v
     pub leads : Leads objects v

@@ -14,10 +14,12 @@ use Rattle.vm_faults.specs.declared.stop.Stop.TheVariants as stops
 use Rattle.vm_faults.specs.Faults.{plain_fault, IsKnown, IsKnownFault}
 
 module _ (texts : StrNo → Option (List ℕ)) (tuples : ConstNo → Option (List Value)) where
+  -- a stop as the meaning has it
   abbrev pub plain_stop : Heap Value ℕ → Stop → primitives.Stop
   plain_stop heap (stops.Raises fault) = primitives.Raises (plain_fault texts tuples heap fault)
   plain_stop heap (stops.Full e) = primitives.Full e
 
+  -- an answer as the meaning has it
   abbrev pub plain_answer : Heap Value ℕ → Result Value Stop → Result Val primitives.Stop
   plain_answer heap (Ok v) = Ok (plain texts tuples v)
   plain_answer heap (Err stop) = Err (plain_stop heap stop)

@@ -12,6 +12,7 @@ use Rattle.vm_faults.specs.Faults.{plain_fault, name_in}
 use Rattle.vm_faults.specs.declared.piece.Piece.{Piece}
 use Rattle.vm_faults.specs.declared.piece.Piece.TheVariants.{Text, Number, Name}
 
+-- the bytes of a piece, where a name has these
 abbrev pub piece_text : List ℕ → Piece → List ℕ
 piece_text name (Text text) = text.now
 piece_text name (Number n) = decimal n

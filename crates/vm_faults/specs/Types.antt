@@ -10,6 +10,7 @@ use Rattle.vm_walks.specs.Plain.{plain, plain_heap}
 use Rattle.vm_faults.specs.declared.types.ValueType.{ValueType}
 use Rattle.vm_faults.specs.declared.types.ValueType.TheVariants as types
 
+-- the name of a type, as messages tell it
 abbrev pub type_text : ValueType → List ℕ
 type_text types.None = codes "NoneType"
 type_text types.Bool = codes "bool"

@@ -1,4 +1,4 @@
-//! Faults.
+//! Faults: a kind of fault with the values and names that its text tells. None takes memory.
 
 use crate::method::SpecialMethod;
 use crate::types::ValueType;

@@ -8,6 +8,7 @@ use crate::fault::Fault;
 use mpy_base::Kind;
 use py_values::NumFault;
 
+/// The kind of exception that a fault of arithmetic is.
 fn number_kind(fault: NumFault) -> Kind
     ensures { result ≡ kind_of_number fault }
 {

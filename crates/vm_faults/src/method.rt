@@ -29,6 +29,7 @@ pub enum SpecialMethod {
 }
 
 impl SpecialMethod {
+    /// The name that Python gives the method, which the message of an unsupported operator tells.
     pub fn name(self) -> &'static str
         ensures name { result.now ≡ method_text self }
         ensures short { length result.now ≤ 32 }

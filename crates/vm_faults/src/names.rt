@@ -8,6 +8,7 @@ use crate::fault::Fault;
 use arena_heap::{Arena, Constants, StrNo, Value};
 use arena_objects::text_bytes;
 
+/// The bytes of a constant name.
 fn constant_name<C: Constants>(consts: &C, name: StrNo) -> &[u8]
     requires { IsSome (C.text_of consts.now name) }
     ensures { result.now ≡ or_nothing (C.text_of consts.now name) }
@@ -15,6 +16,7 @@ fn constant_name<C: Constants>(consts: &C, name: StrNo) -> &[u8]
     consts.text(name).unwrap()
 }
 
+/// The bytes of a name that is a str, constant or made.
 fn made_name<'a, C: Constants>(arena: &'a Arena, consts: &'a C, name: Value) -> &'a [u8]
     requires { IsKnownStr (C.text_of consts.now) (C.items_of consts.now) arena.now.objects name }
     ensures { result.now ≡ spelled (C.text_of consts.now) arena.now name }
@@ -22,6 +24,7 @@ fn made_name<'a, C: Constants>(arena: &'a Arena, consts: &'a C, name: Value) -> 
     text_bytes(arena, consts, name)
 }
 
+/// The first `len` bytes of a constant name, which is the name of a module that was asked for.
 fn module_name<C: Constants>(consts: &C, name: StrNo, len: u32) -> &[u8]
     requires { IsPrefix (C.text_of consts.now) name len }
     ensures { result.now ≡ take len (or_nothing (C.text_of consts.now name)) }

@@ -1,4 +1,4 @@
-//! Pieces of texts.
+//! Pieces of a fault's text: words, numbers and names, read byte by byte without a text in memory.
 
 ghost use Rattle.std.specs.Prelude.{◌≡◌, ◌<◌, ◌^◌, length, slice_index};
 ghost use Rattle.std.specs.Fmt.{decimal};
@@ -16,12 +16,14 @@ pub(crate) enum Piece {
     Name,
 }
 
+/// The digits of a number.
 fn digits(buffer: &mut Buffer, n: u32) -> &[u8]
     ensures { result.now ≡ decimal n }
 {
     buffer.format(n).as_bytes()
 }
 
+/// How long a piece is.
 fn piece_len(piece: Piece, name: &[u8]) -> usize
     ensures { result ≡ length (piece_text name.now piece) }
 {
@@ -35,6 +37,7 @@ fn piece_len(piece: Piece, name: &[u8]) -> usize
     }
 }
 
+/// The byte at a place of a piece.
 fn piece_byte(piece: Piece, name: &[u8], at: usize) -> u8
     requires { at < length (piece_text name.now piece) }
     ensures { result ≡ slice_index (piece_text name.now piece) at }

@@ -59,6 +59,7 @@ impl ValueType {
     }
 }
 
+/// The type of a built-in: that of types, of modules or of functions.
 fn builtin_type(b: Builtin) -> ValueType
     ensures { type_text result ≡ type_of_builtin b }
 {

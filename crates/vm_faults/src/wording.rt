@@ -13,8 +13,10 @@ use crate::piece::Piece;
 use crate::types::ValueType;
 use py_values::NumFault;
 
+/// The piece without a byte.
 const NOTHING: Piece = Piece::Text("");
 
+/// The text of a fault of arithmetic.
 fn number_text(fault: NumFault) -> &'static str
     ensures text { result.now ≡ text_of_number fault }
     ensures short { length result.now ≤ 64 }
@@ -27,6 +29,7 @@ fn number_text(fault: NumFault) -> &'static str
     }
 }
 
+/// A text alone.
 fn plain(text: &'static str) -> [Piece; 7]
     requires { length text.now ≤ 64 }
     ensures text { (name : List ℕ) → wording_text name result ≡ text.now }
@@ -60,6 +63,7 @@ fn typed(first: &'static str, of: ValueType, last: &'static str) -> [Piece; 7]
     ]
 }
 
+/// `object of type 'T' has no len()`.
 fn no_length(of: ValueType) -> [Piece; 7]
     ensures text { (name : List ℕ) → wording_text name result ≡ codes "object of type " ++ between_quotes (type_text of) ++ codes " has no len()" }
     ensures few { AreFew result }
@@ -75,6 +79,7 @@ fn no_length(of: ValueType) -> [Piece; 7]
     ]
 }
 
+/// `'T' object`, and what it does.
 fn object_does(object: ValueType, does: &'static str) -> [Piece; 7]
     requires { length does.now ≤ 64 }
     ensures text { (name : List ℕ) → wording_text name result ≡ does_text (type_text object) does.now }
@@ -91,6 +96,7 @@ fn object_does(object: ValueType, does: &'static str) -> [Piece; 7]
     ]
 }
 
+/// `unsupported types for M: 'T', 'U'`.
 fn unsupported(method: SpecialMethod, left: ValueType, right: ValueType) -> [Piece; 7]
     ensures text { (name : List ℕ) → wording_text name result ≡ codes "unsupported types for " ++ method_text method ++ codes ": " ++ between_quotes (type_text left) ++ codes ", " ++ between_quotes (type_text right) }
     ensures few { AreFew result }
@@ -106,6 +112,7 @@ fn unsupported(method: SpecialMethod, left: ValueType, right: ValueType) -> [Pie
     ]
 }
 
+/// `unsupported type for M: 'T'`.
 fn unsupported_one(method: SpecialMethod, operand: ValueType) -> [Piece; 7]
     ensures text { (name : List ℕ) → wording_text name result ≡ codes "unsupported type for " ++ method_text method ++ codes ": " ++ between_quotes (type_text operand) }
     ensures few { AreFew result }
@@ -121,6 +128,7 @@ fn unsupported_one(method: SpecialMethod, operand: ValueType) -> [Piece; 7]
     ]
 }
 
+/// `T indices must be integers, not U`.
 fn not_an_index(sequence: ValueType, index: ValueType) -> [Piece; 7]
     ensures text { (name : List ℕ) → wording_text name result ≡ type_text sequence ++ codes " indices must be integers, not " ++ type_text index }
     ensures few { AreFew result }
@@ -136,6 +144,7 @@ fn not_an_index(sequence: ValueType, index: ValueType) -> [Piece; 7]
     ]
 }
 
+/// `'T' object has no attribute 'N'`.
 fn no_attribute(object: ValueType) -> [Piece; 7]
     ensures text { (name : List ℕ) → wording_text name result ≡ does_text (type_text object) (codes "has no attribute " ++ between_quotes name) }
     ensures few { AreFew result }
@@ -168,6 +177,7 @@ fn named(first: &'static str) -> [Piece; 7]
     ]
 }
 
+/// `name 'N' isn't defined`.
 fn no_such_name() -> [Piece; 7]
     ensures text { (name : List ℕ) → wording_text name result ≡ codes "name " ++ between_quotes name ++ codes " isn't defined" }
     ensures few { AreFew result }
@@ -183,6 +193,7 @@ fn no_such_name() -> [Piece; 7]
     ]
 }
 
+/// `N must be a str`.
 fn not_a_str() -> [Piece; 7]
     ensures text { (name : List ℕ) → wording_text name result ≡ name ++ codes " must be a str" }
     ensures few { AreFew result }
@@ -198,6 +209,7 @@ fn not_a_str() -> [Piece; 7]
     ]
 }
 
+/// A text with a number.
 fn counted(first: &'static str, n: u32, last: &'static str) -> [Piece; 7]
     requires { length first.now + length last.now ≤ 64 }
     ensures text { (name : List ℕ) → wording_text name result ≡ first.now ++ decimal n ++ last.now }

@@ -10,6 +10,7 @@ use Rattle.vm_fetching.specs.declared.instruction.Instruction.{Instruction}
 use Rattle.vm_fetching.specs.declared.instruction.Instruction.TheVariants as fetched
 use Rattle.vm_fetching.specs.Operations.{number_op}
 
+-- what an operation with the number `n` is, in a code of the module `i`
 pub data IsNumbered (shelf : Shelf) (i n : ℕ) : Op → Instruction → Type 0 where
   number : (o : NumberOp) → IsNumbered shelf i n (number_op o) (fetched.Number o n)
   object : (v : Value) → object_value shelf i n ≡ Some v → IsNumbered shelf i n ops.LoadConstObj (fetched.Object v)

@@ -10,6 +10,7 @@ use Rattle.vm_fetching.specs.declared.operations.NameOp.TheVariants as name_ops
 use Rattle.vm_fetching.specs.declared.operations.JumpOp.{JumpOp}
 use Rattle.vm_fetching.specs.declared.operations.JumpOp.TheVariants as jump_ops
 
+-- an operation without an operand
 abbrev pub plain_op : PlainOp → Op
 plain_op plain_ops.LoadConstFalse = ops.LoadConstFalse
 plain_op plain_ops.LoadConstNone = ops.LoadConstNone
@@ -29,6 +30,7 @@ plain_op plain_ops.ReturnValue = ops.ReturnValue
 plain_op plain_ops.RaiseLast = ops.RaiseLast
 plain_op plain_ops.RaiseObj = ops.RaiseObj
 
+-- one with a number
 abbrev pub number_op : NumberOp → Op
 number_op number_ops.LoadFast = ops.LoadFast
 number_op number_ops.LoadFastN = ops.LoadFastN
@@ -44,6 +46,7 @@ number_op number_ops.MakeFunctionDefargs = ops.MakeFunctionDefargs
 number_op number_ops.CallFunction = ops.CallFunction
 number_op number_ops.CallMethod = ops.CallMethod
 
+-- one with a name
 abbrev pub name_op : NameOp → Op
 name_op name_ops.LoadConstString = ops.LoadConstString
 name_op name_ops.LoadName = ops.LoadName
@@ -58,6 +61,7 @@ name_op name_ops.StoreAttr = ops.StoreAttr
 name_op name_ops.ImportName = ops.ImportName
 name_op name_ops.ImportFrom = ops.ImportFrom
 
+-- one that jumps
 abbrev pub jump_op : JumpOp → Op
 jump_op jump_ops.Jump = ops.Jump
 jump_op jump_ops.PopJumpIfTrue = ops.PopJumpIfTrue

@@ -23,6 +23,7 @@ use Rattle.vm_fetching.specs.Operations.{plain_op, number_op, name_op, jump_op}
 
 -- the machine's item of what is fetched, where instructions start at these offsets
 module _ (tables : Tables) (starts : List ℕ) where
+  -- the item of what was fetched
   abbrev pub item_of_fetched : Instruction → Item
   item_of_fetched (fetched.Plain op) = machine.Plain (instrs.Plain (plain_op op))
   item_of_fetched (fetched.Number op n) = machine.Plain (instrs.Num (number_op op) n)
@@ -46,7 +47,7 @@ TargetStarts starts (fetched.Binary n) = Unit {0}
 TargetStarts starts (fetched.Name op text) = Unit {0}
 TargetStarts starts (fetched.Object v) = Unit {0}
 
--- the local with the number is one of so many, where the operation has the number of one
+-- the local with the number is one of `locals`, where the operation has the number of one
 abbrev pub NumberIsWithin : (locals : ℕ) → NumberOp → ℕ → Type 0
 NumberIsWithin locals numbers.LoadFast n = n < locals
 NumberIsWithin locals numbers.LoadFastN n = n < locals
@@ -62,6 +63,7 @@ NumberIsWithin locals numbers.MakeFunctionDefargs n = Unit {0}
 NumberIsWithin locals numbers.CallFunction n = Unit {0}
 NumberIsWithin locals numbers.CallMethod n = Unit {0}
 
+-- the local that was named, if one was, is one of `locals`
 abbrev pub LocalIsWithin : (locals : ℕ) → Instruction → Type 0
 LocalIsWithin locals (fetched.Number op n) = NumberIsWithin locals op n
 LocalIsWithin locals (fetched.Plain op) = Unit {0}

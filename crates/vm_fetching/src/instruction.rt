@@ -1,4 +1,4 @@
-//! What is fetched.
+//! What is fetched: an instruction with the numbers of its library, in place of those of its module.
 
 use crate::operations::{JumpOp, NameOp, NumberOp, PlainOp};
 use arena_heap::{StrNo, Value};

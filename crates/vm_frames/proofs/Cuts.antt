@@ -50,11 +50,11 @@ reverse-set {A = A} (x ∷ xs) i v h = by_test (nat_lt i (length xs)) refl (reve
         ∙ (sym (set-append_seam (reverse xs) x [] v)
         ∙ (ap (λ (n : ℕ). set (reverse xs ++ x ∷ []) n v) l ∙ ap (λ (z : List A). set z i v) (sym (reverse-cons x xs)))))
 
--- the last of the first so many stands first where they are seen from their end
+-- the last of the first `i + 1` stands first where they are seen from their end
 pub reverse-take_more : {A : Type 0} (xs : List A) (i : ℕ) (d : A) → i < length xs → reverse (take (i + 1) xs) ≡ get_or xs i d ∷ reverse (take i xs)
 reverse-take_more xs i d h = ap reverse (take_more xs i d h) ∙ reverse-append (take i xs) (get_or xs i d ∷ [])
 
--- all but the last so many, seen from their end
+-- all but the last `n`, seen from their end
 pub reverse-take_but : {A : Type 0} (xs : List A) (n : ℕ) → reverse (take (length xs - n) xs) ≡ drop n (reverse xs)
 reverse-take_but {A = A} xs n = reverse-take xs (length xs - n) ∙ by_test (nat_lt n (length xs)) refl
   where

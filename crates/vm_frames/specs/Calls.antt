@@ -35,5 +35,6 @@ abbrev pub change_first : (Call → Call) → List Call → List Call
 change_first change [] = []
 change_first change (c ∷ cs) = change c ∷ cs
 
+-- the calls with the running one changed
 abbrev pub on_running : (Call → Call) → Calls → Calls
 on_running change s = record s { calls = change_first change s.calls }

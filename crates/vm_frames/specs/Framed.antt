@@ -5,6 +5,7 @@ use Rattle.vm_frames.specs.Held.{Held}
 use Rattle.vm_frames.specs.declared.slot.Entry.{Entry}
 use Rattle.vm_frames.specs.declared.frame.Frame.TheInside.{Inside}
 
+-- what the fields hold
 abbrev pub held_of : Inside → Held
 held_of f = record {
   call = record {
@@ -25,6 +26,7 @@ held_of f = record {
 abbrev pub IsLow : ℕ → Entry → Type 0
 IsLow room e = e.height < room
 
+-- what the fields keep: all fits, and the memory for it is taken
 pub record IsFrame (f : Inside) : Type 0 where
   pub locals_fit : length f.locals.items ≤ f.slot_room
   pub slots_fit : length f.slots.items ≤ f.slot_room

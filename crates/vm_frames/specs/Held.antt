@@ -8,6 +8,7 @@ pub record Held : Type 0 where
   pub slot_room : ℕ
   pub entry_room : ℕ
 
+-- the frame with another call in its room
 abbrev pub with_call : Held → Call → Held
 with_call f c = record f { call = c }
 

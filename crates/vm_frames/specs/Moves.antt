@@ -26,7 +26,7 @@ abbrev pub from_first : (Entry → Bool) → List Entry → List Entry
 from_first passes [] = []
 from_first passes (e ∷ es) = if passes e then e ∷ es else from_first passes es
 
--- the lowest so many slots
+-- the lowest `height` slots
 abbrev pub cut : ℕ → List Slot → List Slot
 cut height st = drop (length st - height) st
 
@@ -53,8 +53,8 @@ abbrev pub without_iterator : Bool → List Slot → List Slot
 without_iterator true st = drop 4 st
 without_iterator false st = st
 
--- a jump out of so many entries, up to the first finally that it runs, which keeps what is left of the jump. Each entry
--- that is left cuts the slots to its height
+-- a jump to `target` out of `count` entries, up to the first finally that it runs, which keeps what is left of the jump. Each
+-- entry that is left cuts the slots to its height
 abbrev pub jumped : (target count : ℕ) → Bool → List Entry → List Slot → Call → Moved
 jumped target zero it es st c = record { handler = None; call = record c { at = target; slots = without_iterator it st; entries = es } }
 jumped target (suc count) it [] st c = record { handler = None; call = record c { at = target; slots = without_iterator it st; entries = [] } }

@@ -1,4 +1,4 @@
-//! One frame.
+//! One frame: the memory of one call, with its locals, slots and handler entries in vectors of a fixed room.
 
 ghost use Rattle.std.specs.Prelude.{◌≡◌, ℕ, ◌+◌, ◌-◌, ◌<◌, ◌≤◌, List, [], ◌∷◌, length, drop, Option, Some, None, IfOk, IfSome, option_and_then, slice_get, slice_set, slice_index_or, map, replicate, reverse, take};
 ghost use Rattle.std.specs.Vec.{vec_capacity};
@@ -76,7 +76,7 @@ fn put_at(slots: &mut Vec<Slot>, at: usize, slot: Slot)
 }
 
 impl Frame {
-    /// A frame with room for so many locals, as many slots and so many entries.
+    /// A frame with room for `slots` locals, `slots` slots and `entries` entries.
     pub fn new(alloc: Global, slots: u32, entries: u32) -> Result<Frame, NoMemory>
         ensures { IfOk result (λ f. HasRoom slots entries f) }
     {
@@ -100,6 +100,7 @@ impl Frame {
         })
     }
 
+    /// The numbers of its module and of its code in that module, and the dict of its global names.
     pub fn code(&self) -> (u32, u32, DictNo)
         ensures module_number { result.0 ≡ self.now.call.module_number }
         ensures code { result.1 ≡ self.now.call.code }
@@ -108,12 +109,14 @@ impl Frame {
         (self.module_number, self.code, self.names)
     }
 
+    /// What its end does.
     pub fn role(&self) -> Role
         ensures { result ≡ self.now.call.role }
     {
         self.role
     }
 
+    /// The offset of the instruction where it stands.
     pub fn at(&self) -> u32
         ensures { result ≡ self.now.call.at }
     {
@@ -162,14 +165,14 @@ impl Frame {
         self.slots[self.height as usize]
     }
 
-    /// The lowest so many slots stay.
+    /// The lowest `height` slots stay, or all where there are fewer.
     pub fn cut(&mut self, height: u32)
         ensures { self.new ≡ record self.old { call = record self.old.call { slots = cut height self.old.call.slots } } }
     {
         self.height = self.height.min(height);
     }
 
-    /// So many slots are taken from the top, or all where there are fewer.
+    /// The topmost `count` slots are taken, or all where there are fewer.
     pub fn take_slots(&mut self, count: usize)
         ensures { self.new ≡ record self.old { call = record self.old.call { slots = drop count self.old.call.slots } } }
     {

@@ -48,7 +48,7 @@ fn make_frames(alloc: Global, slots: u32, entries: u32) -> Result<Vec<Frame>, No
 }
 
 impl Frames {
-    /// No calls yet, with room for so many locals, as many slots and so many entries in each. It takes all its memory here.
+    /// No calls yet, with room for `slots` locals, `slots` slots and `entries` entries in each. It takes all its memory here.
     pub fn new(alloc: Global, slots: u32, entries: u32) -> Result<Frames, NoMemory>
         ensures { IfOk result (λ f. f ≡ record { calls = []; slot_room = slots; entry_room = entries }) }
     {
@@ -61,7 +61,7 @@ impl Frames {
         })
     }
 
-    /// Fewer than 2^32 locals, and as many slots, fit into a call.
+    /// A call has room for fewer than 2^32 locals, and for fewer than 2^32 slots.
     pub fn room_law(&self)
         ensures { self.now.slot_room < 2 ^ 32 }
     {

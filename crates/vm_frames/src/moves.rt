@@ -66,7 +66,7 @@ pub fn leave(frame: &mut Frame, v: Value) -> Option<u32>
     None
 }
 
-/// Jumps to an offset out of so many entries, up to the innermost finally that is run before.
+/// Jumps to the offset `target` out of `entries` entries, up to the innermost finally that is run before.
 pub fn jump(frame: &mut Frame, target: u32, entries: u8, iterator: bool) -> Option<u32>
     requires { entries ≤ length frame.old.call.entries }
     ensures moved { jumped target entries iterator frame.old.call.entries frame.old.call.slots frame.old.call ≡ record { handler = result; call = frame.new.call } }

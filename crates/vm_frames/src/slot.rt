@@ -17,7 +17,7 @@ pub enum Slot {
     },
     /// What a finally keeps: a return.
     Return(Value),
-    /// What a finally keeps: a jump to an offset out of so many entries, which takes an iterator or not.
+    /// What a finally keeps: a jump to the offset `target` out of `entries` more entries, which takes an iterator or not.
     Jump {
         target: u32,
         entries: u8,

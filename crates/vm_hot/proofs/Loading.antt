@@ -12,7 +12,8 @@ use Rattle.py_effects.specs.Effect.{Effect}
 use Rattle.py_effects.specs.Names.{assigned}
 use Rattle.bc_machine.specs.Library.{Plain}
 use Rattle.vm_faults.specs.declared.stop.Stop.{Stop}
-use Rattle.vm_raising.specs.Worlds.{Sight, sight, world_over, HasEffect}
+use Rattle.vm_sights.specs.Sights.{Sight, sight_of as sight, world_over}
+use Rattle.vm_raising.specs.Worlds.{HasEffect}
 use Rattle.vm_frames.specs.Calls.{Call, Calls, OfRunning}
 use Rattle.vm_moves.specs.Views.{starts_of, frame_of}
 use Rattle.vm_step.specs.Shown.{view_of}

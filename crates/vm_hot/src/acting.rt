@@ -1,6 +1,7 @@
 //! Instructions by their forms.
 
 ghost use Rattle.std.specs.Prelude.{◌≡◌, Ok, true, false};
+ghost use Rattle.vm_sights.specs.Sights.{under};
 ghost use Rattle.vm_fetching.specs.declared.instruction.Instruction.TheVariants as fetched;
 ghost use Rattle.vm_moving.specs.Moving.{fetched_plain};
 ghost use Rattle.vm_known.specs.Acting.{RunsOver};
@@ -27,8 +28,8 @@ fn plain_at_once<C: Constants>(
     op: PlainOp,
     end: u32,
 ) -> Option<u64>
-    requires runs { RunsOver (C.text_of consts.now) (C.items_of consts.now) arena.now frames.old (fetched_plain op end) }
-    ensures { ActsAtOnce (C.text_of consts.now) (C.items_of consts.now) (fetched_plain op end) arena.now frames.old frames.new result }
+    requires runs { under C.Constants consts.now RunsOver arena.now frames.old (fetched_plain op end) }
+    ensures { under C.Constants consts.now ActsAtOnce (fetched_plain op end) arena.now frames.old frames.new result }
 {
     match op {
         PlainOp::LoadConstFalse => done(move_on(frames, arena, consts, op, end)),
@@ -62,8 +63,8 @@ pub fn act_at_once<C: Constants>(
     consts: &C,
     fetched: Fetched,
 ) -> Option<u64>
-    requires runs { RunsOver (C.text_of consts.now) (C.items_of consts.now) arena.now frames.old fetched }
-    ensures acts { ActsAtOnce (C.text_of consts.now) (C.items_of consts.now) fetched arena.now frames.old frames.new result }
+    requires runs { under C.Constants consts.now RunsOver arena.now frames.old fetched }
+    ensures acts { under C.Constants consts.now ActsAtOnce fetched arena.now frames.old frames.new result }
 {
     let end = fetched.end;
     match fetched.instruction {
@@ -91,8 +92,8 @@ fn store_plain<C: Constants>(
     op: PlainOp,
     end: u32,
 ) -> bool
-    requires runs { RunsOver (C.text_of consts.now) (C.items_of consts.now) arena.old frames.old (fetched_plain op end) }
-    ensures done { result ≡ true → ActsKeeping (C.text_of consts.now) (C.items_of consts.now) (fetched_plain op end) 0 arena.old arena.new frames.old frames.new (Ok tt) }
+    requires runs { under C.Constants consts.now RunsOver arena.old frames.old (fetched_plain op end) }
+    ensures done { result ≡ true → under C.Constants consts.now ActsKeeping (fetched_plain op end) 0 arena.old arena.new frames.old frames.new (Ok tt) }
     ensures left { result ≡ false → (frames.new ≡ frames.old) × (arena.new ≡ arena.old) }
 {
     match op {
@@ -110,8 +111,8 @@ pub fn store_at_once<C: Constants>(
     consts: &C,
     fetched: Fetched,
 ) -> bool
-    requires runs { RunsOver (C.text_of consts.now) (C.items_of consts.now) arena.old frames.old fetched }
-    ensures done { result ≡ true → ActsKeeping (C.text_of consts.now) (C.items_of consts.now) fetched 0 arena.old arena.new frames.old frames.new (Ok tt) }
+    requires runs { under C.Constants consts.now RunsOver arena.old frames.old fetched }
+    ensures done { result ≡ true → under C.Constants consts.now ActsKeeping fetched 0 arena.old arena.new frames.old frames.new (Ok tt) }
     ensures left { result ≡ false → (frames.new ≡ frames.old) × (arena.new ≡ arena.old) }
 {
     match fetched.instruction {

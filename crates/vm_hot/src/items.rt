@@ -4,13 +4,11 @@ ghost use Rattle.std.specs.Prelude.{◌≡◌, ◌<◌, ◌≤◌, ℤ, length, 
 ghost use Rattle.mpy_base.specs.World.{items_at};
 ghost use Rattle.mpy_base.specs.Val.{Int};
 ghost use Rattle.arena_heap.specs.declared.value.Value.TheVariants as values;
-ghost use Rattle.arena_heap.specs.Constants.{IsTold};
 ghost use Rattle.arena_heap.specs.Values.{Leads};
-ghost use Rattle.arena_objects.specs.Keys.{AllTold};
 ghost use Rattle.py_primitives.specs.Iterables.{place_at};
 ghost use Rattle.py_primitives.specs.Uses.{get_item, set_item};
-ghost use Rattle.vm_walks.specs.Plain.{plain, plain_heap};
 ghost use Rattle.vm_faults.specs.Outcomes.{IsOutcome};
+ghost use Rattle.vm_sights.specs.Sights.{under, sight, Tells, TellsAll};
 ghost use Rattle.vm_frames.specs.Calls.{OfRunning, on_running};
 ghost use Rattle.vm_instructions.specs.Slots.{HasValue, without};
 ghost use Rattle.vm_fetching.specs.declared.operations.PlainOp.TheVariants as plain_ops;
@@ -59,8 +57,8 @@ fn front_place(len: u32, number: i32) -> Option<u32>
 #[inline(always)]
 fn item_in<C: Constants>(arena: &Arena, _consts: &C, l: ListNo, number: i32) -> Option<Value>
     requires leads { Leads arena.now.objects (values.List l) }
-    requires all_told { AllTold (C.text_of _consts.now) (C.items_of _consts.now) arena.now.objects }
-    ensures { IfSome result (λ v. IsOutcome (C.text_of _consts.now) (C.items_of _consts.now) arena.now arena.now (Ok v) (get_item (plain_heap (C.text_of _consts.now) (C.items_of _consts.now) arena.now) (plain (C.text_of _consts.now) (C.items_of _consts.now) (values.List l)) (plain (C.text_of _consts.now) (C.items_of _consts.now) (values.Int number)))) }
+    requires all_told { TellsAll C.Constants _consts.now arena.now }
+    ensures { let see = sight C.Constants _consts.now in IfSome result (λ v. IsOutcome see.texts see.tuples arena.now arena.now (Ok v) (get_item (see.heap arena.now) (see.value (values.List l)) (see.value (values.Int number)))) }
 {
     match front_place(list_len(arena, l), number) {
         Some(at) => match list_at(arena, l, at) {
@@ -79,8 +77,8 @@ pub(crate) fn load_item<C: Constants>(
     consts: &C,
     end: u32,
 ) -> Option<u64>
-    requires runs { RunsOver (C.text_of consts.now) (C.items_of consts.now) arena.now frames.old (fetched_plain plain_ops.LoadSubscr end) }
-    ensures { ActsAtOnce (C.text_of consts.now) (C.items_of consts.now) (fetched_plain plain_ops.LoadSubscr end) arena.now frames.old frames.new result }
+    requires runs { under C.Constants consts.now RunsOver arena.now frames.old (fetched_plain plain_ops.LoadSubscr end) }
+    ensures { under C.Constants consts.now ActsAtOnce (fetched_plain plain_ops.LoadSubscr end) arena.now frames.old frames.new result }
 {
     acting_law();
     tops_law();
@@ -114,9 +112,9 @@ fn put_item<C: Constants>(arena: &mut Arena, _consts: &C, l: ListNo, at: u32, v:
     requires list { Leads arena.old.objects (values.List l) }
     requires within { at < length (items_at arena.old l.cell) }
     requires leads { Leads arena.old.objects v }
-    requires told { IsTold (C.text_of _consts.now) (C.items_of _consts.now) v }
-    requires all_told { AllTold (C.text_of _consts.now) (C.items_of _consts.now) arena.old.objects }
-    ensures { (number : ℤ) → place_at (length (items_at arena.old l.cell)) number ≡ Some at → IsOutcome (C.text_of _consts.now) (C.items_of _consts.now) arena.old arena.new (Ok values.None) (set_item (plain_heap (C.text_of _consts.now) (C.items_of _consts.now) arena.old) (plain (C.text_of _consts.now) (C.items_of _consts.now) (values.List l)) (Int number) (plain (C.text_of _consts.now) (C.items_of _consts.now) v)) }
+    requires told { Tells C.Constants _consts.now v }
+    requires all_told { TellsAll C.Constants _consts.now arena.old }
+    ensures { let see = sight C.Constants _consts.now in (number : ℤ) → place_at (length (items_at arena.old l.cell)) number ≡ Some at → IsOutcome see.texts see.tuples arena.old arena.new (Ok values.None) (set_item (see.heap arena.old) (see.value (values.List l)) (Int number) (see.value v)) }
 {
     let _set = list_set(arena, l, at, v);
 }
@@ -141,8 +139,8 @@ pub(crate) fn store_item<C: Constants>(
     consts: &C,
     end: u32,
 ) -> bool
-    requires runs { RunsOver (C.text_of consts.now) (C.items_of consts.now) arena.old frames.old (fetched_plain plain_ops.StoreSubscr end) }
-    ensures done { result ≡ true → ActsKeeping (C.text_of consts.now) (C.items_of consts.now) (fetched_plain plain_ops.StoreSubscr end) 0 arena.old arena.new frames.old frames.new (Ok tt) }
+    requires runs { under C.Constants consts.now RunsOver arena.old frames.old (fetched_plain plain_ops.StoreSubscr end) }
+    ensures done { result ≡ true → under C.Constants consts.now ActsKeeping (fetched_plain plain_ops.StoreSubscr end) 0 arena.old arena.new frames.old frames.new (Ok tt) }
     ensures left { result ≡ false → (frames.new ≡ frames.old) × (arena.new ≡ arena.old) }
 {
     acting_law();

@@ -1,12 +1,10 @@
 //! Iterators over lists and ranges.
 
 ghost use Rattle.std.specs.Prelude.{◌≡◌, ◌<◌, ◌≤◌, length, drop, suc, Ok, IfSome, slice_set};
-ghost use Rattle.arena_heap.specs.Constants.{IsTold};
 ghost use Rattle.arena_heap.specs.Values.{Leads};
-ghost use Rattle.arena_objects.specs.Keys.{AllTold};
 ghost use Rattle.py_primitives.specs.Iterables.{item_of as item_in, length_of as length_in};
-ghost use Rattle.vm_walks.specs.Plain.{plain, plain_heap};
 ghost use Rattle.vm_faults.specs.Outcomes.{IsOutcome};
+ghost use Rattle.vm_sights.specs.Sights.{under, sight, Tells, TellsAll};
 ghost use Rattle.vm_frames.specs.declared.slot.Slot.TheVariants as slots;
 ghost use Rattle.vm_frames.specs.Calls.{OfRunning, on_running};
 ghost use Rattle.vm_operators.specs.Operands.{HasItems, IsNested};
@@ -41,10 +39,10 @@ fn item_from<C: Constants>(arena: &Arena, consts: &C, over: Value, at: u32) -> O
     requires items { HasItems over }
     requires nested { IsNested (C.items_of consts.now) over }
     requires leads { Leads arena.now.objects over }
-    requires told { IsTold (C.text_of consts.now) (C.items_of consts.now) over }
-    requires all_told { AllTold (C.text_of consts.now) (C.items_of consts.now) arena.now.objects }
-    ensures within { IfSome result (λ next. at < length_in (plain_heap (C.text_of consts.now) (C.items_of consts.now) arena.now) (plain (C.text_of consts.now) (C.items_of consts.now) over)) }
-    ensures item { IfSome result (λ next. IsOutcome (C.text_of consts.now) (C.items_of consts.now) arena.now arena.now (Ok next.0) (item_in (plain_heap (C.text_of consts.now) (C.items_of consts.now) arena.now) (plain (C.text_of consts.now) (C.items_of consts.now) over) at)) }
+    requires told { Tells C.Constants consts.now over }
+    requires all_told { TellsAll C.Constants consts.now arena.now }
+    ensures within { let see = sight C.Constants consts.now in IfSome result (λ next. at < length_in (see.heap arena.now) (see.value over)) }
+    ensures item { let see = sight C.Constants consts.now in IfSome result (λ next. IsOutcome see.texts see.tuples arena.now arena.now (Ok next.0) (item_in (see.heap arena.now) (see.value over) at)) }
     ensures place { IfSome result (λ next. next.1 ≡ suc at) }
 {
     if at < item_count(arena, consts, over) {
@@ -55,14 +53,14 @@ fn item_from<C: Constants>(arena: &Arena, consts: &C, over: Value, at: u32) -> O
     }
 }
 
-/// The same of a list or a range.
+/// The item of a list or a range at a place, if there is one, and the place behind it.
 #[inline(always)]
 fn next_from<C: Constants>(arena: &Arena, consts: &C, over: Value, at: u32) -> Option<(Value, u32)>
     requires leads { Leads arena.now.objects over }
-    requires told { IsTold (C.text_of consts.now) (C.items_of consts.now) over }
-    requires all_told { AllTold (C.text_of consts.now) (C.items_of consts.now) arena.now.objects }
-    ensures within { IfSome result (λ next. at < length_in (plain_heap (C.text_of consts.now) (C.items_of consts.now) arena.now) (plain (C.text_of consts.now) (C.items_of consts.now) over)) }
-    ensures item { IfSome result (λ next. IsOutcome (C.text_of consts.now) (C.items_of consts.now) arena.now arena.now (Ok next.0) (item_in (plain_heap (C.text_of consts.now) (C.items_of consts.now) arena.now) (plain (C.text_of consts.now) (C.items_of consts.now) over) at)) }
+    requires told { Tells C.Constants consts.now over }
+    requires all_told { TellsAll C.Constants consts.now arena.now }
+    ensures within { let see = sight C.Constants consts.now in IfSome result (λ next. at < length_in (see.heap arena.now) (see.value over)) }
+    ensures item { let see = sight C.Constants consts.now in IfSome result (λ next. IsOutcome see.texts see.tuples arena.now arena.now (Ok next.0) (item_in (see.heap arena.now) (see.value over) at)) }
     ensures place { IfSome result (λ next. next.1 ≡ suc at) }
 {
     match over {
@@ -115,8 +113,8 @@ pub(crate) fn iterate<C: Constants>(
     target: u32,
     end: u32,
 ) -> Option<u64>
-    requires runs { RunsOver (C.text_of consts.now) (C.items_of consts.now) arena.now frames.old (record { instruction = fetched.Jump jump_ops.ForIter target; end = end }) }
-    ensures { ActsAtOnce (C.text_of consts.now) (C.items_of consts.now) (record { instruction = fetched.Jump jump_ops.ForIter target; end = end }) arena.now frames.old frames.new result }
+    requires runs { under C.Constants consts.now RunsOver arena.now frames.old (record { instruction = fetched.Jump jump_ops.ForIter target; end = end }) }
+    ensures { under C.Constants consts.now ActsAtOnce (record { instruction = fetched.Jump jump_ops.ForIter target; end = end }) arena.now frames.old frames.new result }
 {
     acting_law();
     tops_law();

@@ -1,7 +1,6 @@
-//! Jumps.
+//! Jumps that change the running call alone, carried out at once.
 
-ghost use Rattle.std.specs.Prelude.{◌≡◌, ◌<◌, length, Some, None};
-ghost use Rattle.vm_frames.specs.Calls.{OfRunning};
+ghost use Rattle.vm_sights.specs.Sights.{under};
 ghost use Rattle.vm_fetching.specs.declared.instruction.Instruction.TheVariants as fetched;
 ghost use Rattle.vm_known.specs.Acting.{RunsOver};
 ghost use Rattle.vm_operating.specs.Tests.{IsTest};
@@ -26,8 +25,8 @@ fn test_at_once<C: Constants>(
     end: u32,
 ) -> Option<u64>
     requires test { IsTest op }
-    requires runs { RunsOver (C.text_of _consts.now) (C.items_of _consts.now) _arena.now frames.old (record { instruction = fetched.Jump op target; end = end }) }
-    ensures { ActsAtOnce (C.text_of _consts.now) (C.items_of _consts.now) (record { instruction = fetched.Jump op target; end = end }) _arena.now frames.old frames.new result }
+    requires runs { under C.Constants _consts.now RunsOver _arena.now frames.old (record { instruction = fetched.Jump op target; end = end }) }
+    ensures { under C.Constants _consts.now ActsAtOnce (record { instruction = fetched.Jump op target; end = end }) _arena.now frames.old frames.new result }
 {
     acting_law();
     tops_law();
@@ -53,8 +52,8 @@ pub(crate) fn jump_at_once<C: Constants>(
     target: u32,
     end: u32,
 ) -> Option<u64>
-    requires runs { RunsOver (C.text_of consts.now) (C.items_of consts.now) arena.now frames.old (record { instruction = fetched.Jump op target; end = end }) }
-    ensures { ActsAtOnce (C.text_of consts.now) (C.items_of consts.now) (record { instruction = fetched.Jump op target; end = end }) arena.now frames.old frames.new result }
+    requires runs { under C.Constants consts.now RunsOver arena.now frames.old (record { instruction = fetched.Jump op target; end = end }) }
+    ensures { under C.Constants consts.now ActsAtOnce (record { instruction = fetched.Jump op target; end = end }) arena.now frames.old frames.new result }
 {
     match op {
         JumpOp::Jump => done(jump(frames, arena, consts, target, end)),

@@ -1,10 +1,10 @@
 //! Locals that are loaded and stored.
 
-ghost use Rattle.std.specs.Prelude.{◌≡◌, ◌<◌, length, Ok, Err};
+ghost use Rattle.std.specs.Prelude.{◌<◌, length};
 ghost use Rattle.bc_ops.specs.declared.instr.Op.TheVariants as ops;
 ghost use Rattle.bc_ops.specs.declared.instr.Instr.TheVariants as instrs;
-ghost use Rattle.arena_objects.specs.Keys.{AllTold};
 ghost use Rattle.bc_machine.specs.Library.{Plain};
+ghost use Rattle.vm_sights.specs.Sights.{under, TellsAll};
 ghost use Rattle.vm_frames.specs.Calls.{OfRunning};
 ghost use Rattle.vm_fetching.specs.declared.instruction.Instruction.TheVariants as fetched;
 ghost use Rattle.vm_fetching.specs.declared.operations.NumberOp.TheVariants as number_ops;
@@ -31,12 +31,12 @@ fn load<C: Constants>(
     end: u32,
 ) -> Result<(), Stop>
     requires room { OfRunning (λ c. length c.slots < frames.old.slot_room) frames.old.calls }
-    requires local { HasLocal (C.text_of consts.now) (C.items_of consts.now) arena.now.objects n frames.old.calls }
-    requires all_told { AllTold (C.text_of consts.now) (C.items_of consts.now) arena.now.objects }
-    ensures short { Steps (C.text_of consts.now) (C.items_of consts.now) (Plain (instrs.Num ops.LoadFast n)) 0 end arena.now arena.now frames.old.calls frames.new.calls result }
-    ensures long { Steps (C.text_of consts.now) (C.items_of consts.now) (Plain (instrs.Num ops.LoadFastN n)) 0 end arena.now arena.now frames.old.calls frames.new.calls result }
-    ensures moved { Puts (C.text_of consts.now) (C.items_of consts.now) arena.now.objects (with_value end 0) frames.old frames.new result }
-    ensures leaves { Leaves (C.text_of consts.now) (C.items_of consts.now) arena.now arena.now result }
+    requires local { under C.Constants consts.now HasLocal arena.now.objects n frames.old.calls }
+    requires all_told { TellsAll C.Constants consts.now arena.now }
+    ensures short { under C.Constants consts.now Steps (Plain (instrs.Num ops.LoadFast n)) 0 end arena.now arena.now frames.old.calls frames.new.calls result }
+    ensures long { under C.Constants consts.now Steps (Plain (instrs.Num ops.LoadFastN n)) 0 end arena.now arena.now frames.old.calls frames.new.calls result }
+    ensures moved { under C.Constants consts.now Puts arena.now.objects (with_value end 0) frames.old frames.new result }
+    ensures leaves { under C.Constants consts.now Leaves arena.now arena.now result }
 {
     let local = frames.local(n);
     match assigned(arena, consts, local) {
@@ -57,8 +57,8 @@ fn load_short<C: Constants>(
     n: u32,
     end: u32,
 ) -> Option<u64>
-    requires runs { RunsOver (C.text_of consts.now) (C.items_of consts.now) arena.now frames.old (record { instruction = fetched.Number number_ops.LoadFast n; end = end }) }
-    ensures { ActsAtOnce (C.text_of consts.now) (C.items_of consts.now) (record { instruction = fetched.Number number_ops.LoadFast n; end = end }) arena.now frames.old frames.new result }
+    requires runs { under C.Constants consts.now RunsOver arena.now frames.old (record { instruction = fetched.Number number_ops.LoadFast n; end = end }) }
+    ensures { under C.Constants consts.now ActsAtOnce (record { instruction = fetched.Number number_ops.LoadFast n; end = end }) arena.now frames.old frames.new result }
 {
     acting_law();
     done(load(frames, arena, consts, n, end))
@@ -73,8 +73,8 @@ fn load_long<C: Constants>(
     n: u32,
     end: u32,
 ) -> Option<u64>
-    requires runs { RunsOver (C.text_of consts.now) (C.items_of consts.now) arena.now frames.old (record { instruction = fetched.Number number_ops.LoadFastN n; end = end }) }
-    ensures { ActsAtOnce (C.text_of consts.now) (C.items_of consts.now) (record { instruction = fetched.Number number_ops.LoadFastN n; end = end }) arena.now frames.old frames.new result }
+    requires runs { under C.Constants consts.now RunsOver arena.now frames.old (record { instruction = fetched.Number number_ops.LoadFastN n; end = end }) }
+    ensures { under C.Constants consts.now ActsAtOnce (record { instruction = fetched.Number number_ops.LoadFastN n; end = end }) arena.now frames.old frames.new result }
 {
     acting_law();
     done(load(frames, arena, consts, n, end))
@@ -90,8 +90,8 @@ pub(crate) fn local_at_once<C: Constants>(
     n: u32,
     end: u32,
 ) -> Option<u64>
-    requires runs { RunsOver (C.text_of consts.now) (C.items_of consts.now) arena.now frames.old (record { instruction = fetched.Number op n; end = end }) }
-    ensures { ActsAtOnce (C.text_of consts.now) (C.items_of consts.now) (record { instruction = fetched.Number op n; end = end }) arena.now frames.old frames.new result }
+    requires runs { under C.Constants consts.now RunsOver arena.now frames.old (record { instruction = fetched.Number op n; end = end }) }
+    ensures { under C.Constants consts.now ActsAtOnce (record { instruction = fetched.Number op n; end = end }) arena.now frames.old frames.new result }
 {
     match op {
         NumberOp::LoadFast => load_short(frames, arena, consts, n, end),

@@ -1,6 +1,7 @@
 //! Names of modules that are looked up, and texts.
 
 ghost use Rattle.vm_fetching.specs.declared.instruction.Instruction.TheVariants as fetched;
+ghost use Rattle.vm_sights.specs.Sights.{under};
 ghost use Rattle.vm_fetching.specs.declared.operations.NameOp.TheVariants as name_ops;
 ghost use Rattle.vm_known.specs.Acting.{RunsOver};
 ghost use Rattle.vm_hot.specs.AtOnce.{ActsAtOnce};
@@ -20,8 +21,8 @@ fn load_name<C: Constants>(
     name: StrNo,
     end: u32,
 ) -> Option<u64>
-    requires runs { RunsOver (C.text_of consts.now) (C.items_of consts.now) arena.now frames.old (record { instruction = fetched.Name name_ops.LoadName name; end = end }) }
-    ensures { ActsAtOnce (C.text_of consts.now) (C.items_of consts.now) (record { instruction = fetched.Name name_ops.LoadName name; end = end }) arena.now frames.old frames.new result }
+    requires runs { under C.Constants consts.now RunsOver arena.now frames.old (record { instruction = fetched.Name name_ops.LoadName name; end = end }) }
+    ensures { under C.Constants consts.now ActsAtOnce (record { instruction = fetched.Name name_ops.LoadName name; end = end }) arena.now frames.old frames.new result }
 {
     acting_law();
     done(vm_instructions::load_name(frames, arena, consts, name, end))
@@ -36,8 +37,8 @@ fn load_global<C: Constants>(
     name: StrNo,
     end: u32,
 ) -> Option<u64>
-    requires runs { RunsOver (C.text_of consts.now) (C.items_of consts.now) arena.now frames.old (record { instruction = fetched.Name name_ops.LoadGlobal name; end = end }) }
-    ensures { ActsAtOnce (C.text_of consts.now) (C.items_of consts.now) (record { instruction = fetched.Name name_ops.LoadGlobal name; end = end }) arena.now frames.old frames.new result }
+    requires runs { under C.Constants consts.now RunsOver arena.now frames.old (record { instruction = fetched.Name name_ops.LoadGlobal name; end = end }) }
+    ensures { under C.Constants consts.now ActsAtOnce (record { instruction = fetched.Name name_ops.LoadGlobal name; end = end }) arena.now frames.old frames.new result }
 {
     acting_law();
     done(vm_instructions::load_name(frames, arena, consts, name, end))
@@ -53,8 +54,8 @@ pub(crate) fn name_at_once<C: Constants>(
     text: StrNo,
     end: u32,
 ) -> Option<u64>
-    requires runs { RunsOver (C.text_of consts.now) (C.items_of consts.now) arena.now frames.old (record { instruction = fetched.Name op text; end = end }) }
-    ensures { ActsAtOnce (C.text_of consts.now) (C.items_of consts.now) (record { instruction = fetched.Name op text; end = end }) arena.now frames.old frames.new result }
+    requires runs { under C.Constants consts.now RunsOver arena.now frames.old (record { instruction = fetched.Name op text; end = end }) }
+    ensures { under C.Constants consts.now ActsAtOnce (record { instruction = fetched.Name op text; end = end }) arena.now frames.old frames.new result }
 {
     match op {
         NameOp::LoadConstString => done(load_text(frames, arena, consts, text, end)),

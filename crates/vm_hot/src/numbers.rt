@@ -9,12 +9,14 @@ ghost use Rattle.vm_hot.specs.Numbers.{Gives, Computes};
 use py_values::{NumFault, SmallInt};
 use std::cmp::Ordering;
 
+/// Are the numbers the same?
 fn is_same(left: i32, right: i32) -> bool
     ensures { result ≡ int_eq left right }
 {
     left == right
 }
 
+/// How the numbers compare.
 fn order_of(left: i32, right: i32) -> Ordering
     ensures { result ≡ int_cmp left right }
 {

@@ -1,19 +1,14 @@
 //! Operators over two small integers.
 
-ghost use Rattle.std.specs.Prelude.{◌≡◌, ◌≤◌, ◌<◌, ℕ, ℤ, List, Option, ◌∷◌, drop, length, IfSome};
-ghost use Rattle.mpy_base.specs.World.{Objects};
-ghost use Rattle.arena_heap.specs.declared.value.Value.{Value as Item};
+ghost use Rattle.std.specs.Prelude.{◌≡◌, ◌≤◌, ◌<◌, ◌∷◌, drop, length, IfSome};
 ghost use Rattle.arena_heap.specs.declared.value.Value.TheVariants as values;
-ghost use Rattle.arena_heap.specs.declared.value.StrNo.{StrNo};
-ghost use Rattle.arena_heap.specs.declared.value.ConstNo.{ConstNo};
-ghost use Rattle.vm_walks.specs.Plain.{plain};
-ghost use Rattle.vm_faults.specs.Faults.{IsKnown};
+ghost use Rattle.vm_sights.specs.Sights.{under};
 ghost use Rattle.vm_frames.specs.Calls.{OfRunning, on_running};
 ghost use Rattle.vm_instructions.specs.Slots.{HasValue, with_value};
 ghost use Rattle.vm_fetching.specs.declared.instruction.Instruction.TheVariants as fetched;
 ghost use Rattle.vm_known.specs.Acting.{RunsOver};
 ghost use Rattle.vm_hot.specs.AtOnce.{ActsAtOnce};
-ghost use Rattle.vm_hot.specs.Numbers.{Gives, IsAnswer};
+ghost use Rattle.vm_hot.specs.Numbers.{IsAnswer};
 
 use crate::numbers::{compare, compute};
 use arena_heap::{Arena, Constants, Value};
@@ -81,8 +76,8 @@ pub(crate) fn binary_at_once<C: Constants>(
     number: u8,
     end: u32,
 ) -> Option<u64>
-    requires runs { RunsOver (C.text_of _consts.now) (C.items_of _consts.now) _arena.now frames.old (record { instruction = fetched.Binary number; end = end }) }
-    ensures { ActsAtOnce (C.text_of _consts.now) (C.items_of _consts.now) (record { instruction = fetched.Binary number; end = end }) _arena.now frames.old frames.new result }
+    requires runs { under C.Constants _consts.now RunsOver _arena.now frames.old (record { instruction = fetched.Binary number; end = end }) }
+    ensures { under C.Constants _consts.now ActsAtOnce (record { instruction = fetched.Binary number; end = end }) _arena.now frames.old frames.new result }
 {
     acting_law();
     tops_law();

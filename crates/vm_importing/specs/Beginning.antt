@@ -38,10 +38,12 @@ pub record HasBegun (number locals name : ℕ) (old new : Calls) (before behind 
   pub calls : new ≡ record old { calls = begun number locals made ∷ old.calls }
   pub registered : behind ≡ with_entry before (record { name = name; object = made.number })
 
+-- neither the calls nor the registered modules change
 pub record HasStayed (old new : Calls) (before behind : Registry) : Type 0 where
   pub calls : new ≡ old
   pub registered : behind ≡ before
 
+-- the module begins, or nothing changes
 abbrev pub HasImported : (number locals name : ℕ) → (old new : Calls) → (before behind : Registry) → Result (Unit {0}) Stop → Type 0
 HasImported number locals name old new before behind (Ok done) = (made : Made) × HasBegun number locals name old new before behind made
 HasImported number locals name old new before behind (Err stop) = HasStayed old new before behind

@@ -31,6 +31,7 @@ pub record HasOperands (from level : Value) (c : Call) : Type 0 where
   pub from_is : slice_get c.slots 0 ≡ Some (slots.Value from)
   pub level_is : slice_get c.slots 1 ≡ Some (slots.Value level)
 
+-- the running call's top slots: the names that are imported from the module, or None, and the level below
 abbrev pub AreOperands : (from level : Value) → List Call → Type 0
 AreOperands from level calls = OfRunning (HasOperands from level) calls
 
@@ -66,6 +67,7 @@ module _ (texts : StrNo → Option (List ℕ)) (tuples : ConstNo → Option (Lis
     pub none_absent : first_absent w (prefixes name) ≡ None
     pub value_is : plain texts tuples v ≡ module_named w (given_name (plain texts tuples from) name)
 
+  -- the first prefix of the name that is absent begins, or is refused
   abbrev pub Begins : Import → Type 0
   Begins import = (len : ℕ) × IsAbsent len × IsBeginning shelf deep len (take len name) import
 

@@ -6,11 +6,10 @@ ghost use Rattle.mpy_base.specs.Val.{PlainWorld};
 ghost use Rattle.bc_ops.specs.declared.instr.Op.TheVariants as ops;
 ghost use Rattle.arena_heap.specs.declared.value.StrNo.TheVariants as strs;
 ghost use Rattle.arena_heap.specs.declared.value.Value.{Value as Item};
-ghost use Rattle.arena_objects.specs.Keys.{AllTold};
 ghost use Rattle.bc_library.specs.Shelf.{Shelf};
 ghost use Rattle.bc_machine.specs.Library.{Library, Name, Names};
 ghost use Rattle.py_effects.specs.Effect.{Place};
-ghost use Rattle.vm_faults.specs.Outcomes.{IsKnownAnswer};
+ghost use Rattle.vm_sights.specs.Sights.{under, TellsAll, KnowsAnswer};
 ghost use Rattle.vm_moves.specs.Placed.{IsPlaced};
 ghost use Rattle.vm_step.specs.Shown.{Tables, view_of, step_of};
 ghost use Rattle.vm_step.specs.Outcomes.{world_of, outcome_of};
@@ -56,16 +55,12 @@ pub fn begin_import<C: Constants>(
     requires shallow { length frames.old.calls < LIMIT }
     requires locals { locals ≤ frames.old.slot_room }
     requires room { length modules.old.entries < modules.old.room }
-    requires all_told { AllTold (C.text_of consts.now) (C.items_of consts.now) arena.old.objects }
-    ensures steps { (tables : Tables) (shelf : Shelf) (library : Library) (w : PlainWorld) (name : Name) (from level : Item) → AreTablesOf (C.text_of consts.now) (C.items_of consts.now) names.now tables
-        → AreOperands from level frames.old.calls → IsImport tables.texts tables.tuples shelf (world_of tables (with_modules tables w modules.old) arena.old) true name from level (imports.Begin number)
-        → StandsFor tables shelf library → IsOutermost tables library number locals
-        → (place : Place) (paid : ℕ) → step_of tables library place paid frames.old.calls (world_of tables (with_modules tables w modules.old) arena.old) (Names ops.ImportName name)
-        ≡ outcome_of tables place (with_modules tables w modules.new) arena.new frames.old.calls frames.new.calls result }
+    requires all_told { TellsAll C.Constants consts.now arena.old }
+    ensures steps { (tables : Tables) (shelf : Shelf) (library : Library) (w : PlainWorld) (name : Name) (from level : Item) → under C.Constants consts.now AreTablesOf names.now tables → AreOperands from level frames.old.calls → IsImport tables.texts tables.tuples shelf (world_of tables (with_modules tables w modules.old) arena.old) true name from level (imports.Begin number) → StandsFor tables shelf library → IsOutermost tables library number locals → (place : Place) (paid : ℕ) → step_of tables library place paid frames.old.calls (world_of tables (with_modules tables w modules.old) arena.old) (Names ops.ImportName name) ≡ outcome_of tables place (with_modules tables w modules.new) arena.new frames.old.calls frames.new.calls result }
     ensures begun { (m : NameNumbers) → slice_get names.now number ≡ Some m → HasImported number locals m.name frames.old frames.new modules.old modules.new result }
     ensures placed { (tables : Tables) (library : Library) → IsOutermost tables library number locals → All (IsPlaced (view_of tables)) frames.old.calls → All (IsPlaced (view_of tables)) frames.new.calls }
-    ensures stop { IfErr result (λ stop. IsKnownAnswer (C.text_of consts.now) (C.items_of consts.now) arena.new.objects (Err stop)) }
-    ensures keeps { Keeps (C.text_of consts.now) (C.items_of consts.now) (length names.now) arena.old.objects arena.new.objects frames.old.calls frames.new.calls }
+    ensures stop { IfErr result (λ stop. KnowsAnswer C.Constants consts.now arena.new (Err stop)) }
+    ensures keeps { under C.Constants consts.now Keeps (length names.now) arena.old.objects arena.new.objects frames.old.calls frames.new.calls }
 {
     moves_law();
     placed_law();

@@ -1,13 +1,14 @@
 //! What an import comes to.
 
-ghost use Rattle.std.specs.Prelude.{◌≡◌, ◌≤◌, length, IsSome, Some, None, nat_lt};
+ghost use Rattle.std.specs.Prelude.{◌≡◌, ◌≤◌, length, IsSome, nat_lt};
 ghost use Rattle.mpy_base.specs.declared.limits.TheConstants.{MAX_CALLS as LIMIT};
 ghost use Rattle.mpy_base.specs.Val.{PlainWorld};
 ghost use Rattle.arena_heap.specs.declared.value.StrNo.TheVariants as strs;
 ghost use Rattle.arena_heap.specs.declared.value.Value.{Value as Item};
-ghost use Rattle.vm_walks.specs.Plain.{plain, plain_name};
+ghost use Rattle.vm_walks.specs.Plain.{plain};
 ghost use Rattle.vm_modules.specs.Registry.{plain_modules};
 ghost use Rattle.py_effects.specs.Modules.{module_named};
+ghost use Rattle.vm_sights.specs.Sights.{under, sight};
 ghost use Rattle.vm_importing.specs.declared.importing.Import.TheVariants as imports;
 ghost use Rattle.vm_importing.specs.Importing.{AreOperands, IsImport, IsBeginning, IsModule, given_name};
 
@@ -45,7 +46,7 @@ pub enum Import {
 /// The bytes of a text.
 fn text_of<C: Constants>(consts: &C, name: u32) -> &[u8]
     requires { IsSome (C.text_of consts.now (strs.Pool name)) }
-    ensures bytes { result.now ≡ plain_name (C.text_of consts.now) (C.items_of consts.now) name }
+    ensures bytes { result.now ≡ (sight C.Constants consts.now).name name }
     ensures few { length result.now ≤ 2147483647 }
 {
     match consts.text(StrNo::Pool(name)) {
@@ -56,7 +57,7 @@ fn text_of<C: Constants>(consts: &C, name: u32) -> &[u8]
 
 /// The registered module of this name, and else `port`.
 fn module_of<C: Constants>(consts: &C, modules: &Modules, name: &[u8]) -> Value
-    ensures named { (w : PlainWorld) → plain (C.text_of consts.now) (C.items_of consts.now) result ≡ module_named (record w { modules = plain_modules (C.text_of consts.now) (C.items_of consts.now) modules.now }) name.now }
+    ensures named { (w : PlainWorld) → under C.Constants consts.now plain result ≡ module_named (record w { modules = under C.Constants consts.now plain_modules modules.now }) name.now }
     ensures is { IsModule result }
 {
     match modules.registered_as(consts, name) {
@@ -67,7 +68,7 @@ fn module_of<C: Constants>(consts: &C, modules: &Modules, name: &[u8]) -> Value
 
 /// The module that is wanted, all prefixes of whose name are there.
 fn wanted<C: Constants>(consts: &C, modules: &Modules, from: Value, text: &[u8]) -> Value
-    ensures named { (w : PlainWorld) → plain (C.text_of consts.now) (C.items_of consts.now) result ≡ module_named (record w { modules = plain_modules (C.text_of consts.now) (C.items_of consts.now) modules.now }) (given_name (plain (C.text_of consts.now) (C.items_of consts.now) from) text.now) }
+    ensures named { let see = sight C.Constants consts.now in (w : PlainWorld) → see.value result ≡ module_named (record w { modules = plain_modules see.texts see.tuples modules.now }) (given_name (see.value from) text.now) }
     ensures is { IsModule result }
 {
     match from {
@@ -108,8 +109,7 @@ pub fn import_name<C: Constants>(
 ) -> Import
     requires operands { (from : Item) × (level : Item) × AreOperands from level frames.now.calls }
     requires name { IsSome (C.text_of consts.now (strs.Pool name)) }
-    ensures comes { (from level : Item) (w : PlainWorld) → AreOperands from level frames.now.calls
-        → IsImport (C.text_of consts.now) (C.items_of consts.now) library.now (record w { modules = plain_modules (C.text_of consts.now) (C.items_of consts.now) modules.now }) (nat_lt (length frames.now.calls) LIMIT) (plain_name (C.text_of consts.now) (C.items_of consts.now) name) from level result }
+    ensures comes { let see = sight C.Constants consts.now in (from level : Item) (w : PlainWorld) → AreOperands from level frames.now.calls → IsImport see.texts see.tuples library.now (record w { modules = plain_modules see.texts see.tuples modules.now }) (nat_lt (length frames.now.calls) LIMIT) (see.name name) from level result }
     ensures given { (v : Item) → result ≡ imports.Put v → IsModule v }
 {
     let from = value_at(frames, 0);

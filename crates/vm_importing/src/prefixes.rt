@@ -1,10 +1,11 @@
 //! The prefixes of a dotted name: the texts that end before a dot or at the end.
 
-ghost use Rattle.std.specs.Prelude.{◌≡◌, ◌≤◌, take, length, Some, None, IfSome, bytes_eq, ◌||◌, is_some, codes};
+ghost use Rattle.std.specs.Prelude.{◌≡◌, ◌≤◌, take, length, IfSome, ◌||◌, is_some};
 ghost use Rattle.std.specs.Option.{option_map};
 ghost use Rattle.mpy_base.specs.Val.{PlainWorld};
 ghost use Rattle.py_effects.specs.Modules.{prefixes, first_of, registered_as, is_port};
 ghost use Rattle.bc_machine.specs.Parts.{first_absent as first_absent_in};
+ghost use Rattle.vm_sights.specs.Sights.{under};
 ghost use Rattle.vm_modules.specs.Registry.{plain_modules};
 
 use arena_heap::Constants;
@@ -12,7 +13,7 @@ use vm_modules::Modules;
 
 /// Whether a module of this name is there without an import: it is registered, or it is `port`.
 fn is_there<C: Constants>(consts: &C, modules: &Modules, name: &[u8]) -> bool
-    ensures { result ≡ (is_some (registered_as (plain_modules (C.text_of consts.now) (C.items_of consts.now) modules.now) name.now) || is_port name.now) }
+    ensures { result ≡ (is_some (registered_as (under C.Constants consts.now plain_modules modules.now) name.now) || is_port name.now) }
 {
     modules.registered_as(consts, name).is_some() || name == b"port".as_slice()
 }
@@ -23,7 +24,7 @@ pub(crate) fn first_absent<C: Constants>(
     modules: &Modules,
     name: &[u8],
 ) -> Option<usize>
-    ensures first { (w : PlainWorld) → option_map (λ len. take len name.now) result ≡ first_absent_in (record w { modules = plain_modules (C.text_of consts.now) (C.items_of consts.now) modules.now }) (prefixes name.now) }
+    ensures first { (w : PlainWorld) → option_map (λ len. take len name.now) result ≡ first_absent_in (record w { modules = under C.Constants consts.now plain_modules modules.now }) (prefixes name.now) }
     ensures within { IfSome result (λ len. len ≤ length name.now) }
 {
     for at in 0..name.len() {

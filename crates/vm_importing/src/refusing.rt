@@ -2,7 +2,7 @@
 
 ghost use Rattle.std.specs.Prelude.{◌≡◌, ℕ, List, Option, IsSome, Err, nat_lt, length};
 ghost use Rattle.mpy_base.specs.declared.limits.TheConstants.{MAX_CALLS as LIMIT};
-ghost use Rattle.mpy_base.specs.World.{Heap, Objects};
+ghost use Rattle.mpy_base.specs.World.{Heap};
 ghost use Rattle.mpy_base.specs.Val.{PlainWorld};
 ghost use Rattle.bc_ops.specs.declared.instr.Op.TheVariants as ops;
 ghost use Rattle.arena_heap.specs.declared.value.Value.{Value as Item};

@@ -13,7 +13,7 @@ use Rattle.py_effects.specs.Effect.{Effect}
 use Rattle.py_effects.specs.Names.{assigned, load_local, without_local}
 use Rattle.vm_walks.specs.Plain.{plain}
 use Rattle.vm_faults.specs.declared.stop.Stop.{Stop}
-use Rattle.vm_raising.specs.Worlds.{world_over}
+use Rattle.vm_sights.specs.Sights.{world_over}
 use Rattle.vm_frames.specs.Calls.{Call, Calls, OfRunning}
 use Rattle.bc_offsets.specs.Positions.{position_in}
 use Rattle.vm_moves.specs.Views.{View, slots_of, locals_of, entries_of, starts_of, position_of, frame_of}

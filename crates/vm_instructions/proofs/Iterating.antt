@@ -16,7 +16,7 @@ use Rattle.py_primitives.specs.Iterables.{use_iter, item_of, length_of, shown_le
 use Rattle.py_effects.specs.Effect.{Place, on_heap}
 use Rattle.vm_walks.specs.Plain.{plain, plain_heap}
 use Rattle.vm_faults.specs.declared.stop.Stop.{Stop}
-use Rattle.vm_raising.specs.Worlds.{world_over}
+use Rattle.vm_sights.specs.Sights.{world_over}
 use Rattle.vm_frames.specs.declared.slot.Slot.{Slot}
 use Rattle.vm_frames.specs.declared.slot.Slot.TheVariants as slots
 use Rattle.vm_frames.specs.Calls.{Call, Calls, OfRunning, on_running}

@@ -15,7 +15,7 @@ use Rattle.py_effects.specs.Names.{load_method}
 use Rattle.vm_walks.specs.Plain.{plain}
 use Rattle.vm_faults.specs.declared.stop.Stop.{Stop}
 use Rattle.vm_faults.specs.declared.stop.Stop.TheVariants as stops
-use Rattle.vm_raising.specs.Worlds.{world_over}
+use Rattle.vm_sights.specs.Sights.{world_over}
 use Rattle.vm_names.specs.declared.attributes.Looked.{Looked}
 use Rattle.vm_names.specs.declared.attributes.Looked.TheVariants as looks
 use Rattle.vm_names.specs.Looks.{Looks, IsKnownLook, plain_looked}

@@ -18,6 +18,7 @@ pub record Layout : Type 0 where
   pub starts : ℕ → ℕ → List ℕ
 
 module _ (texts : StrNo → Option (List ℕ)) (tuples : ConstNo → Option (List Value)) where
+  -- the tables that a step is told, by the layout
   abbrev pub tables_of : Layout → Tables
   tables_of layout = record { texts = texts; tuples = tuples; module_name = layout.module_name; starts = layout.starts }
 
@@ -26,7 +27,8 @@ module _ (texts : StrNo → Option (List ℕ)) (tuples : ConstNo → Option (Lis
   Steps item visits end before behind old new result =
       (layout : Layout) → IsNext (tables_of layout) end old → Does (tables_of layout) item visits before behind old new result
 
-  -- the same of an instruction that may jump to a target, which is an offset
+  -- the machine's instruction that may jump to a target, which is an offset, does this, wherever instructions start, where the other offset
+  -- is that of the next one
   abbrev pub JumpSteps : (ℕ → Item) → (target end : ℕ) → (before behind : Heap Value ℕ) → (old new : List Call) → Result (Unit {0}) Stop → Type 0
   JumpSteps item target end before behind old new result =
       (layout : Layout) (position : ℕ) → IsAt (tables_of layout) target position old → IsNext (tables_of layout) end old → Does (tables_of layout) (item position) 0 before behind old new result

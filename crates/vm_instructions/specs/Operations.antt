@@ -12,10 +12,12 @@ use Rattle.vm_instructions.specs.declared.operations.OneOperand.TheVariants as o
 use Rattle.vm_instructions.specs.declared.operations.TwoOperands.{TwoOperands}
 use Rattle.vm_instructions.specs.declared.operations.TwoOperands.TheVariants as twos
 
+-- the primitive of an operator with one operand
 abbrev pub meaning_of_one : OneOperand → PlainHeap → Val → Outcome Val
 meaning_of_one (ones.Arithmetic op) = λ heap. unary heap (plain_unary op)
 meaning_of_one ones.Not = unary_not
 
+-- the primitive of an operator with two operands
 abbrev pub meaning_of_two : TwoOperands → TwoValued
 meaning_of_two (twos.Order sign) = λ heap. op_order heap (plain_sign sign)
 meaning_of_two twos.Equal = op_eq

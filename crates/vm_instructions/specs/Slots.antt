@@ -83,12 +83,12 @@ module _ (texts : StrNo → Option (List ℕ)) (tuples : ConstNo → Option (Lis
   Puts objects change old new (Ok done) = (v : Value) × IsKnown texts tuples objects v × (new ≡ on_running (change v) old)
   Puts objects change old new (Err stop) = new ≡ old
 
-  -- the same, where what a method call begins with is put
+  -- what a method call begins with is put in the running call where the instruction is done, and where it stops the calls stay
   abbrev pub PutsLooked : Objects Value ℕ → (end : ℕ) → (old new : Calls) → Result (Unit {0}) Stop → Type 0
   PutsLooked objects end old new (Ok done) = (looked : Looked) × IsKnownLook texts tuples objects (Ok looked) × (new ≡ on_running (with_looked end looked) old)
   PutsLooked objects end old new (Err stop) = new ≡ old
 
-  -- the same, where known values are put in the place of the top slot, as many as count
+  -- `count` known values are put in the place of the top slot where the instruction is done, and where it stops the calls stay
   abbrev pub PutsValues : Objects Value ℕ → (end count : ℕ) → (old new : Calls) → Result (Unit {0}) Stop → Type 0
   PutsValues objects end count old new (Ok done) = (vs : List Value) × (length vs ≡ count) × All (IsKnown texts tuples objects) vs × (new ≡ on_running (with_values end vs) old)
   PutsValues objects end count old new (Err stop) = new ≡ old

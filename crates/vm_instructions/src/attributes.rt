@@ -1,11 +1,11 @@
-//! Attributes.
+//! Instructions on attributes of objects and of modules.
 
-ghost use Rattle.std.specs.Prelude.{◌≡◌, ◌<◌, length, IsSome};
+ghost use Rattle.std.specs.Prelude.{◌<◌, length, IsSome};
 ghost use Rattle.bc_ops.specs.declared.instr.Op.TheVariants as ops;
 ghost use Rattle.arena_objects.specs.Iterables.{or_nothing};
-ghost use Rattle.arena_objects.specs.Keys.{AllTold};
 ghost use Rattle.vm_frames.specs.Calls.{OfRunning};
 ghost use Rattle.bc_machine.specs.Library.{Names};
+ghost use Rattle.vm_sights.specs.Sights.{under, TellsAll};
 ghost use Rattle.vm_instructions.specs.Effects.{Steps, Leaves};
 ghost use Rattle.vm_instructions.specs.Slots.{HasKnown, Puts, PutsLooked, Changes, with_value, without};
 
@@ -26,11 +26,11 @@ pub fn load_attr<C: Constants>(
     end: u32,
 ) -> Result<(), Stop>
     requires name { IsSome (C.text_of consts.now name) }
-    requires object { HasKnown (C.text_of consts.now) (C.items_of consts.now) arena.old.objects 0 frames.old.calls }
-    requires all_told { AllTold (C.text_of consts.now) (C.items_of consts.now) arena.old.objects }
-    ensures steps { Steps (C.text_of consts.now) (C.items_of consts.now) (Names ops.LoadAttr (or_nothing (C.text_of consts.now name))) 0 end arena.old arena.new frames.old.calls frames.new.calls result }
-    ensures moved { Puts (C.text_of consts.now) (C.items_of consts.now) arena.new.objects (with_value end 1) frames.old frames.new result }
-    ensures leaves { Leaves (C.text_of consts.now) (C.items_of consts.now) arena.old arena.new result }
+    requires object { under C.Constants consts.now HasKnown arena.old.objects 0 frames.old.calls }
+    requires all_told { TellsAll C.Constants consts.now arena.old }
+    ensures steps { under C.Constants consts.now Steps (Names ops.LoadAttr (or_nothing (C.text_of consts.now name))) 0 end arena.old arena.new frames.old.calls frames.new.calls result }
+    ensures moved { under C.Constants consts.now Puts arena.new.objects (with_value end 1) frames.old frames.new result }
+    ensures leaves { under C.Constants consts.now Leaves arena.old arena.new result }
 {
     let object = value_at(frames, arena, consts, 0);
     let given = get_attr(arena, consts, object, name);
@@ -46,12 +46,12 @@ pub fn store_attr<C: Constants>(
     end: u32,
 ) -> Result<(), Stop>
     requires name { IsSome (C.text_of consts.now name) }
-    requires object { HasKnown (C.text_of consts.now) (C.items_of consts.now) arena.old.objects 0 frames.old.calls }
-    requires value { HasKnown (C.text_of consts.now) (C.items_of consts.now) arena.old.objects 1 frames.old.calls }
-    requires all_told { AllTold (C.text_of consts.now) (C.items_of consts.now) arena.old.objects }
-    ensures steps { Steps (C.text_of consts.now) (C.items_of consts.now) (Names ops.StoreAttr (or_nothing (C.text_of consts.now name))) 0 end arena.old arena.new frames.old.calls frames.new.calls result }
+    requires object { under C.Constants consts.now HasKnown arena.old.objects 0 frames.old.calls }
+    requires value { under C.Constants consts.now HasKnown arena.old.objects 1 frames.old.calls }
+    requires all_told { TellsAll C.Constants consts.now arena.old }
+    ensures steps { under C.Constants consts.now Steps (Names ops.StoreAttr (or_nothing (C.text_of consts.now name))) 0 end arena.old arena.new frames.old.calls frames.new.calls result }
     ensures moved { Changes (without end 2) frames.old frames.new result }
-    ensures leaves { Leaves (C.text_of consts.now) (C.items_of consts.now) arena.old arena.new result }
+    ensures leaves { under C.Constants consts.now Leaves arena.old arena.new result }
 {
     let object = value_at(frames, arena, consts, 0);
     let v = value_at(frames, arena, consts, 1);
@@ -69,11 +69,11 @@ pub fn import_from<C: Constants>(
 ) -> Result<(), Stop>
     requires room { OfRunning (λ c. length c.slots < frames.old.slot_room) frames.old.calls }
     requires name { IsSome (C.text_of consts.now name) }
-    requires object { HasKnown (C.text_of consts.now) (C.items_of consts.now) arena.old.objects 0 frames.old.calls }
-    requires all_told { AllTold (C.text_of consts.now) (C.items_of consts.now) arena.old.objects }
-    ensures steps { Steps (C.text_of consts.now) (C.items_of consts.now) (Names ops.ImportFrom (or_nothing (C.text_of consts.now name))) 0 end arena.old arena.new frames.old.calls frames.new.calls result }
-    ensures moved { Puts (C.text_of consts.now) (C.items_of consts.now) arena.new.objects (with_value end 0) frames.old frames.new result }
-    ensures leaves { Leaves (C.text_of consts.now) (C.items_of consts.now) arena.old arena.new result }
+    requires object { under C.Constants consts.now HasKnown arena.old.objects 0 frames.old.calls }
+    requires all_told { TellsAll C.Constants consts.now arena.old }
+    ensures steps { under C.Constants consts.now Steps (Names ops.ImportFrom (or_nothing (C.text_of consts.now name))) 0 end arena.old arena.new frames.old.calls frames.new.calls result }
+    ensures moved { under C.Constants consts.now Puts arena.new.objects (with_value end 0) frames.old frames.new result }
+    ensures leaves { under C.Constants consts.now Leaves arena.old arena.new result }
 {
     let object = value_at(frames, arena, consts, 0);
     let given = imported_from(arena, consts, object, name);
@@ -90,11 +90,11 @@ pub fn load_method<C: Constants>(
 ) -> Result<(), Stop>
     requires room { OfRunning (λ c. length c.slots < frames.old.slot_room) frames.old.calls }
     requires name { IsSome (C.text_of consts.now name) }
-    requires object { HasKnown (C.text_of consts.now) (C.items_of consts.now) arena.now.objects 0 frames.old.calls }
-    requires all_told { AllTold (C.text_of consts.now) (C.items_of consts.now) arena.now.objects }
-    ensures steps { Steps (C.text_of consts.now) (C.items_of consts.now) (Names ops.LoadMethod (or_nothing (C.text_of consts.now name))) 0 end arena.now arena.now frames.old.calls frames.new.calls result }
-    ensures moved { PutsLooked (C.text_of consts.now) (C.items_of consts.now) arena.now.objects end frames.old frames.new result }
-    ensures leaves { Leaves (C.text_of consts.now) (C.items_of consts.now) arena.now arena.now result }
+    requires object { under C.Constants consts.now HasKnown arena.now.objects 0 frames.old.calls }
+    requires all_told { TellsAll C.Constants consts.now arena.now }
+    ensures steps { under C.Constants consts.now Steps (Names ops.LoadMethod (or_nothing (C.text_of consts.now name))) 0 end arena.now arena.now frames.old.calls frames.new.calls result }
+    ensures moved { under C.Constants consts.now PutsLooked arena.now.objects end frames.old frames.new result }
+    ensures leaves { under C.Constants consts.now Leaves arena.now arena.now result }
 {
     let object = value_at(frames, arena, consts, 0);
     let given = method_of(arena, consts, object, name);

@@ -3,9 +3,9 @@
 ghost use Rattle.std.specs.Prelude.{◌≡◌, ℕ, ◌+◌, ◌^◌, ◌<◌, ◌≤◌, length, suc};
 ghost use Rattle.bc_ops.specs.declared.instr.Op.TheVariants as ops;
 ghost use Rattle.bc_ops.specs.declared.instr.Instr.TheVariants as instrs;
-ghost use Rattle.arena_objects.specs.Keys.{AllTold};
 ghost use Rattle.vm_frames.specs.Calls.{OfRunning};
 ghost use Rattle.bc_machine.specs.Library.{Plain};
+ghost use Rattle.vm_sights.specs.Sights.{under, TellsAll};
 ghost use Rattle.vm_instructions.specs.Effects.{Steps, Leaves};
 ghost use Rattle.vm_instructions.specs.Slots.{HasKnown, Puts, PutsValues, with_value, with_values};
 ghost use Rattle.vm_instructions.specs.Settled.{Settles};
@@ -28,12 +28,12 @@ pub fn build_tuple<C: Constants>(
     end: u32,
 ) -> Result<(), Stop>
     requires few { length items.old < 2 ^ 32 }
-    requires known { (slot : ℕ) → slot < length items.old → HasKnown (C.text_of consts.now) (C.items_of consts.now) arena.old.objects slot frames.old.calls }
+    requires known { (slot : ℕ) → slot < length items.old → under C.Constants consts.now HasKnown arena.old.objects slot frames.old.calls }
     requires room { length items.old ≡ 0 → OfRunning (λ c. length c.slots < frames.old.slot_room) frames.old.calls }
-    requires all_told { AllTold (C.text_of consts.now) (C.items_of consts.now) arena.old.objects }
-    ensures steps { Steps (C.text_of consts.now) (C.items_of consts.now) (Plain (instrs.Num ops.BuildTuple (length items.old))) 0 end arena.old arena.new frames.old.calls frames.new.calls result }
-    ensures moved { Puts (C.text_of consts.now) (C.items_of consts.now) arena.new.objects (with_value end (length items.old)) frames.old frames.new result }
-    ensures leaves { Leaves (C.text_of consts.now) (C.items_of consts.now) arena.old arena.new result }
+    requires all_told { TellsAll C.Constants consts.now arena.old }
+    ensures steps { under C.Constants consts.now Steps (Plain (instrs.Num ops.BuildTuple (length items.old))) 0 end arena.old arena.new frames.old.calls frames.new.calls result }
+    ensures moved { under C.Constants consts.now Puts arena.new.objects (with_value end (length items.old)) frames.old frames.new result }
+    ensures leaves { under C.Constants consts.now Leaves arena.old arena.new result }
 {
     gather(frames, arena, consts, items);
     let given = make_tuple(arena, consts, items);
@@ -49,12 +49,12 @@ pub fn build_list<C: Constants>(
     end: u32,
 ) -> Result<(), Stop>
     requires few { length items.old < 2 ^ 32 }
-    requires known { (slot : ℕ) → slot < length items.old → HasKnown (C.text_of consts.now) (C.items_of consts.now) arena.old.objects slot frames.old.calls }
+    requires known { (slot : ℕ) → slot < length items.old → under C.Constants consts.now HasKnown arena.old.objects slot frames.old.calls }
     requires room { length items.old ≡ 0 → OfRunning (λ c. length c.slots < frames.old.slot_room) frames.old.calls }
-    requires all_told { AllTold (C.text_of consts.now) (C.items_of consts.now) arena.old.objects }
-    ensures steps { Steps (C.text_of consts.now) (C.items_of consts.now) (Plain (instrs.Num ops.BuildList (length items.old))) 0 end arena.old arena.new frames.old.calls frames.new.calls result }
-    ensures moved { Puts (C.text_of consts.now) (C.items_of consts.now) arena.new.objects (with_value end (length items.old)) frames.old frames.new result }
-    ensures leaves { Leaves (C.text_of consts.now) (C.items_of consts.now) arena.old arena.new result }
+    requires all_told { TellsAll C.Constants consts.now arena.old }
+    ensures steps { under C.Constants consts.now Steps (Plain (instrs.Num ops.BuildList (length items.old))) 0 end arena.old arena.new frames.old.calls frames.new.calls result }
+    ensures moved { under C.Constants consts.now Puts arena.new.objects (with_value end (length items.old)) frames.old frames.new result }
+    ensures leaves { under C.Constants consts.now Leaves arena.old arena.new result }
 {
     gather(frames, arena, consts, items);
     let given = make_list(arena, consts, items);
@@ -70,10 +70,10 @@ pub fn build_map<C: Constants>(
     end: u32,
 ) -> Result<(), Stop>
     requires room { OfRunning (λ c. length c.slots < frames.old.slot_room) frames.old.calls }
-    requires all_told { AllTold (C.text_of consts.now) (C.items_of consts.now) arena.old.objects }
-    ensures steps { Steps (C.text_of consts.now) (C.items_of consts.now) (Plain (instrs.Num ops.BuildMap pairs)) 0 end arena.old arena.new frames.old.calls frames.new.calls result }
-    ensures moved { Puts (C.text_of consts.now) (C.items_of consts.now) arena.new.objects (with_value end 0) frames.old frames.new result }
-    ensures leaves { Leaves (C.text_of consts.now) (C.items_of consts.now) arena.old arena.new result }
+    requires all_told { TellsAll C.Constants consts.now arena.old }
+    ensures steps { under C.Constants consts.now Steps (Plain (instrs.Num ops.BuildMap pairs)) 0 end arena.old arena.new frames.old.calls frames.new.calls result }
+    ensures moved { under C.Constants consts.now Puts arena.new.objects (with_value end 0) frames.old frames.new result }
+    ensures leaves { under C.Constants consts.now Leaves arena.old arena.new result }
 {
     let given = make_dict(arena, consts, pairs);
     put(frames, 0, given, end)
@@ -107,12 +107,12 @@ pub fn unpack_sequence<C: Constants>(
     items: &mut [Value],
     end: u32,
 ) -> Result<(), Stop>
-    requires sequence { HasKnown (C.text_of consts.now) (C.items_of consts.now) arena.old.objects 0 frames.old.calls }
+    requires sequence { under C.Constants consts.now HasKnown arena.old.objects 0 frames.old.calls }
     requires room { OfRunning (λ c. length c.slots + length items.old ≤ suc frames.old.slot_room) frames.old.calls }
-    requires all_told { AllTold (C.text_of consts.now) (C.items_of consts.now) arena.old.objects }
-    ensures steps { Steps (C.text_of consts.now) (C.items_of consts.now) (Plain (instrs.Num ops.UnpackSequence (length items.old))) 0 end arena.old arena.new frames.old.calls frames.new.calls result }
-    ensures moved { PutsValues (C.text_of consts.now) (C.items_of consts.now) arena.new.objects end (length items.old) frames.old frames.new result }
-    ensures leaves { Leaves (C.text_of consts.now) (C.items_of consts.now) arena.old arena.new result }
+    requires all_told { TellsAll C.Constants consts.now arena.old }
+    ensures steps { under C.Constants consts.now Steps (Plain (instrs.Num ops.UnpackSequence (length items.old))) 0 end arena.old arena.new frames.old.calls frames.new.calls result }
+    ensures moved { under C.Constants consts.now PutsValues arena.new.objects end (length items.old) frames.old frames.new result }
+    ensures leaves { under C.Constants consts.now Leaves arena.old arena.new result }
 {
     let v = value_at(frames, arena, consts, 0);
     let given = unpack(arena, consts, v, items);

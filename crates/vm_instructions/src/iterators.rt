@@ -6,11 +6,8 @@ ghost use Rattle.bc_ops.specs.declared.instr.Op.TheVariants as ops;
 ghost use Rattle.bc_ops.specs.declared.instr.Instr.TheVariants as instrs;
 ghost use Rattle.arena_heap.specs.declared.value.Value.{Value as Item};
 ghost use Rattle.arena_heap.specs.Values.{Leads};
-ghost use Rattle.arena_heap.specs.Constants.{IsTold};
-ghost use Rattle.arena_objects.specs.Keys.{AllTold};
 ghost use Rattle.py_primitives.specs.Iterables.{items_in, length_of as length_in};
-ghost use Rattle.vm_walks.specs.Plain.{plain, plain_heap};
-ghost use Rattle.vm_faults.specs.Faults.{IsKnown};
+ghost use Rattle.vm_sights.specs.Sights.{under, sight, Tells, TellsAll};
 ghost use Rattle.vm_frames.specs.Calls.{OfRunning, on_running};
 ghost use Rattle.bc_machine.specs.Library.{Plain, Jumps};
 ghost use Rattle.vm_step.specs.Shown.{Tests};
@@ -29,8 +26,8 @@ use vm_walks::truth;
 
 /// The truth of the top value, by which the tests jump.
 pub fn top_truth<C: Constants>(frames: &Frames, arena: &Arena, consts: &C) -> bool
-    requires { HasKnown (C.text_of consts.now) (C.items_of consts.now) arena.now.objects 0 frames.now.calls }
-    ensures { (layout : Layout) (w : PlainWorld) → let tables = tables_of (C.text_of consts.now) (C.items_of consts.now) layout in Tests tables (world_of tables w arena.now) result frames.now.calls }
+    requires { under C.Constants consts.now HasKnown arena.now.objects 0 frames.now.calls }
+    ensures { (layout : Layout) (w : PlainWorld) → let tables = under C.Constants consts.now tables_of layout in Tests tables (world_of tables w arena.now) result frames.now.calls }
 {
     let v = value_at(frames, arena, consts, 0);
     truth(arena, consts, v)
@@ -44,11 +41,11 @@ pub fn get_iter_stack<C: Constants>(
     end: u32,
 ) -> Result<(), Stop>
     requires room { OfRunning (λ c. length c.slots + 3 < frames.old.slot_room + 1) frames.old.calls }
-    requires iterable { HasKnown (C.text_of consts.now) (C.items_of consts.now) arena.now.objects 0 frames.old.calls }
-    requires all_told { AllTold (C.text_of consts.now) (C.items_of consts.now) arena.now.objects }
-    ensures steps { Steps (C.text_of consts.now) (C.items_of consts.now) (Plain (instrs.Plain ops.GetIterStack)) 0 end arena.now arena.now frames.old.calls frames.new.calls result }
-    ensures moved { Puts (C.text_of consts.now) (C.items_of consts.now) arena.now.objects (with_iterator end) frames.old frames.new result }
-    ensures leaves { Leaves (C.text_of consts.now) (C.items_of consts.now) arena.now arena.now result }
+    requires iterable { under C.Constants consts.now HasKnown arena.now.objects 0 frames.old.calls }
+    requires all_told { TellsAll C.Constants consts.now arena.now }
+    ensures steps { under C.Constants consts.now Steps (Plain (instrs.Plain ops.GetIterStack)) 0 end arena.now arena.now frames.old.calls frames.new.calls result }
+    ensures moved { under C.Constants consts.now Puts arena.now.objects (with_iterator end) frames.old frames.new result }
+    ensures leaves { under C.Constants consts.now Leaves arena.now arena.now result }
 {
     let v = value_at(frames, arena, consts, 0);
     let given = use_iter(arena, consts, v);
@@ -57,10 +54,10 @@ pub fn get_iter_stack<C: Constants>(
 
 /// What the iterator on top goes over, and its place.
 fn iterator_at<C: Constants>(frames: &Frames, _arena: &Arena, _consts: &C) -> (Value, u32)
-    requires { HasIterator (C.text_of _consts.now) (C.items_of _consts.now) _arena.now.objects frames.now.calls }
+    requires { under C.Constants _consts.now HasIterator _arena.now.objects frames.now.calls }
     ensures there { IsIterator result.0 result.1 frames.now.calls }
     ensures leads { Leads _arena.now.objects result.0 }
-    ensures told { IsTold (C.text_of _consts.now) (C.items_of _consts.now) result.0 }
+    ensures told { Tells C.Constants _consts.now result.0 }
 {
     match frames.slot(0) {
         Slot::Iter { over, at, .. } => (over, at),
@@ -71,9 +68,9 @@ fn iterator_at<C: Constants>(frames: &Frames, _arena: &Arena, _consts: &C) -> (V
 /// How many items an iterable has.
 fn count_of<C: Constants>(arena: &Arena, consts: &C, over: Value) -> u32
     requires leads { Leads arena.now.objects over }
-    requires told { IsTold (C.text_of consts.now) (C.items_of consts.now) over }
-    requires iterable { IsSome (items_in (plain_heap (C.text_of consts.now) (C.items_of consts.now) arena.now) (plain (C.text_of consts.now) (C.items_of consts.now) over)) }
-    ensures { result ≡ length_in (plain_heap (C.text_of consts.now) (C.items_of consts.now) arena.now) (plain (C.text_of consts.now) (C.items_of consts.now) over) }
+    requires told { Tells C.Constants consts.now over }
+    requires iterable { let see = sight C.Constants consts.now in IsSome (items_in (see.heap arena.now) (see.value over)) }
+    ensures { let see = sight C.Constants consts.now in result ≡ length_in (see.heap arena.now) (see.value over) }
 {
     items_law(arena, consts, over);
     match over {
@@ -86,8 +83,8 @@ fn count_of<C: Constants>(arena: &Arena, consts: &C, over: Value) -> u32
 #[tactic(auto, using(crate::proofs::Iterating::iterable_within))]
 fn next_place<C: Constants>(arena: &Arena, consts: &C, over: Value, at: u32) -> u32
     requires leads { Leads arena.now.objects over }
-    requires told { IsTold (C.text_of consts.now) (C.items_of consts.now) over }
-    requires within { at < length_in (plain_heap (C.text_of consts.now) (C.items_of consts.now) arena.now) (plain (C.text_of consts.now) (C.items_of consts.now) over) }
+    requires told { Tells C.Constants consts.now over }
+    requires within { let see = sight C.Constants consts.now in at < length_in (see.heap arena.now) (see.value over) }
     ensures { result ≡ suc at }
 {
     let _count = count_of(arena, consts, over);
@@ -102,14 +99,14 @@ pub fn for_iter<C: Constants>(
     target: u32,
     end: u32,
 ) -> Result<(), Stop>
-    requires iterator { HasIterator (C.text_of consts.now) (C.items_of consts.now) arena.old.objects frames.old.calls }
+    requires iterator { under C.Constants consts.now HasIterator arena.old.objects frames.old.calls }
     requires slots { OfRunning (λ c. 4 ≤ length c.slots) frames.old.calls }
     requires room { OfRunning (λ c. length c.slots < frames.old.slot_room) frames.old.calls }
-    requires all_told { AllTold (C.text_of consts.now) (C.items_of consts.now) arena.old.objects }
-    ensures steps { JumpSteps (C.text_of consts.now) (C.items_of consts.now) (Jumps ops.ForIter) target end arena.old arena.new frames.old.calls frames.new.calls result }
-    ensures item { (over : Item) (at : ℕ) → IsIterator over at frames.old.calls → at < length_in (plain_heap (C.text_of consts.now) (C.items_of consts.now) arena.old) (plain (C.text_of consts.now) (C.items_of consts.now) over) → Puts (C.text_of consts.now) (C.items_of consts.now) arena.new.objects (with_item end over (suc at)) frames.old frames.new result }
-    ensures ended { (over : Item) (at : ℕ) → IsIterator over at frames.old.calls → length_in (plain_heap (C.text_of consts.now) (C.items_of consts.now) arena.old) (plain (C.text_of consts.now) (C.items_of consts.now) over) ≤ at → (result ≡ Ok tt) × (frames.new ≡ on_running (without target 4) frames.old) }
-    ensures leaves { Leaves (C.text_of consts.now) (C.items_of consts.now) arena.old arena.new result }
+    requires all_told { TellsAll C.Constants consts.now arena.old }
+    ensures steps { under C.Constants consts.now JumpSteps (Jumps ops.ForIter) target end arena.old arena.new frames.old.calls frames.new.calls result }
+    ensures item { let see = sight C.Constants consts.now in (over : Item) (at : ℕ) → IsIterator over at frames.old.calls → at < length_in (see.heap arena.old) (see.value over) → Puts see.texts see.tuples arena.new.objects (with_item end over (suc at)) frames.old frames.new result }
+    ensures ended { let see = sight C.Constants consts.now in (over : Item) (at : ℕ) → IsIterator over at frames.old.calls → length_in (see.heap arena.old) (see.value over) ≤ at → (result ≡ Ok tt) × (frames.new ≡ on_running (without target 4) frames.old) }
+    ensures leaves { under C.Constants consts.now Leaves arena.old arena.new result }
 {
     let (over, at) = iterator_at(frames, arena, consts);
     if (at as usize) < length_of(arena, consts, over) {

@@ -1,12 +1,12 @@
-//! Names of modules.
+//! Instructions on the names of the running call's module.
 
-ghost use Rattle.std.specs.Prelude.{◌≡◌, ◌<◌, length, IsSome};
+ghost use Rattle.std.specs.Prelude.{◌<◌, length, IsSome};
 ghost use Rattle.mpy_base.specs.World.{ADict, IsA};
 ghost use Rattle.bc_ops.specs.declared.instr.Op.TheVariants as ops;
 ghost use Rattle.arena_objects.specs.Iterables.{or_nothing};
-ghost use Rattle.arena_objects.specs.Keys.{AllTold};
 ghost use Rattle.vm_frames.specs.Calls.{OfRunning};
 ghost use Rattle.bc_machine.specs.Library.{Names};
+ghost use Rattle.vm_sights.specs.Sights.{under, TellsAll};
 ghost use Rattle.vm_instructions.specs.Effects.{Steps, Leaves};
 ghost use Rattle.vm_instructions.specs.Slots.{HasKnown, Puts, Changes, with_value, without};
 
@@ -27,11 +27,11 @@ pub fn load_name<C: Constants>(
     requires room { OfRunning (λ c. length c.slots < frames.old.slot_room) frames.old.calls }
     requires names { OfRunning (λ c. IsA arena.now.objects ADict c.names.cell) frames.old.calls }
     requires name { IsSome (C.text_of consts.now name) }
-    requires all_told { AllTold (C.text_of consts.now) (C.items_of consts.now) arena.now.objects }
-    ensures name { Steps (C.text_of consts.now) (C.items_of consts.now) (Names ops.LoadName (or_nothing (C.text_of consts.now name))) 0 end arena.now arena.now frames.old.calls frames.new.calls result }
-    ensures global { Steps (C.text_of consts.now) (C.items_of consts.now) (Names ops.LoadGlobal (or_nothing (C.text_of consts.now name))) 0 end arena.now arena.now frames.old.calls frames.new.calls result }
-    ensures moved { Puts (C.text_of consts.now) (C.items_of consts.now) arena.now.objects (with_value end 0) frames.old frames.new result }
-    ensures leaves { Leaves (C.text_of consts.now) (C.items_of consts.now) arena.now arena.now result }
+    requires all_told { TellsAll C.Constants consts.now arena.now }
+    ensures name { under C.Constants consts.now Steps (Names ops.LoadName (or_nothing (C.text_of consts.now name))) 0 end arena.now arena.now frames.old.calls frames.new.calls result }
+    ensures global { under C.Constants consts.now Steps (Names ops.LoadGlobal (or_nothing (C.text_of consts.now name))) 0 end arena.now arena.now frames.old.calls frames.new.calls result }
+    ensures moved { under C.Constants consts.now Puts arena.now.objects (with_value end 0) frames.old frames.new result }
+    ensures leaves { under C.Constants consts.now Leaves arena.now arena.now result }
 {
     let (_, _, names) = frames.running();
     let given = load_global(arena, consts, names, name);
@@ -48,12 +48,12 @@ pub fn store_name<C: Constants>(
 ) -> Result<(), Stop>
     requires names { OfRunning (λ c. IsA arena.old.objects ADict c.names.cell) frames.old.calls }
     requires name { IsSome (C.text_of consts.now name) }
-    requires value { HasKnown (C.text_of consts.now) (C.items_of consts.now) arena.old.objects 0 frames.old.calls }
-    requires all_told { AllTold (C.text_of consts.now) (C.items_of consts.now) arena.old.objects }
-    ensures name { Steps (C.text_of consts.now) (C.items_of consts.now) (Names ops.StoreName (or_nothing (C.text_of consts.now name))) 0 end arena.old arena.new frames.old.calls frames.new.calls result }
-    ensures global { Steps (C.text_of consts.now) (C.items_of consts.now) (Names ops.StoreGlobal (or_nothing (C.text_of consts.now name))) 0 end arena.old arena.new frames.old.calls frames.new.calls result }
+    requires value { under C.Constants consts.now HasKnown arena.old.objects 0 frames.old.calls }
+    requires all_told { TellsAll C.Constants consts.now arena.old }
+    ensures name { under C.Constants consts.now Steps (Names ops.StoreName (or_nothing (C.text_of consts.now name))) 0 end arena.old arena.new frames.old.calls frames.new.calls result }
+    ensures global { under C.Constants consts.now Steps (Names ops.StoreGlobal (or_nothing (C.text_of consts.now name))) 0 end arena.old arena.new frames.old.calls frames.new.calls result }
     ensures moved { Changes (without end 1) frames.old frames.new result }
-    ensures leaves { Leaves (C.text_of consts.now) (C.items_of consts.now) arena.old arena.new result }
+    ensures leaves { under C.Constants consts.now Leaves arena.old arena.new result }
 {
     let (_, _, names) = frames.running();
     let v = value_at(frames, arena, consts, 0);
@@ -71,11 +71,11 @@ pub fn delete_name<C: Constants>(
 ) -> Result<(), Stop>
     requires names { OfRunning (λ c. IsA arena.old.objects ADict c.names.cell) frames.old.calls }
     requires name { IsSome (C.text_of consts.now name) }
-    requires all_told { AllTold (C.text_of consts.now) (C.items_of consts.now) arena.old.objects }
-    ensures name { Steps (C.text_of consts.now) (C.items_of consts.now) (Names ops.DeleteName (or_nothing (C.text_of consts.now name))) 0 end arena.old arena.new frames.old.calls frames.new.calls result }
-    ensures global { Steps (C.text_of consts.now) (C.items_of consts.now) (Names ops.DeleteGlobal (or_nothing (C.text_of consts.now name))) 0 end arena.old arena.new frames.old.calls frames.new.calls result }
+    requires all_told { TellsAll C.Constants consts.now arena.old }
+    ensures name { under C.Constants consts.now Steps (Names ops.DeleteName (or_nothing (C.text_of consts.now name))) 0 end arena.old arena.new frames.old.calls frames.new.calls result }
+    ensures global { under C.Constants consts.now Steps (Names ops.DeleteGlobal (or_nothing (C.text_of consts.now name))) 0 end arena.old arena.new frames.old.calls frames.new.calls result }
     ensures moved { Changes (without end 0) frames.old frames.new result }
-    ensures leaves { Leaves (C.text_of consts.now) (C.items_of consts.now) arena.old arena.new result }
+    ensures leaves { under C.Constants consts.now Leaves arena.old arena.new result }
 {
     let (_, _, names) = frames.running();
     let given = delete_global(arena, consts, names, name);

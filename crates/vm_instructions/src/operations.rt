@@ -42,6 +42,7 @@ pub(crate) fn one_operand(number: u8) -> Option<OneOperand>
     }
 }
 
+/// The comparison of this number.
 fn comparison(number: u8) -> TwoOperands
     requires { number < 9 }
     ensures { slice_get comparisons number ≡ Some (Some (meaning_of_two result)) }

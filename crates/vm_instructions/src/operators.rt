@@ -1,14 +1,11 @@
-//! Operators.
+//! Instructions of operators with one operand and with two.
 
 ghost use Rattle.std.specs.Prelude.{◌≡◌, min, IsSome};
 ghost use Rattle.bc_ops.specs.declared.instr.Instr.TheVariants as instrs;
 ghost use Rattle.arena_heap.specs.declared.value.Value.{Value as Item};
 ghost use Rattle.arena_heap.specs.Values.{Leads};
-ghost use Rattle.arena_heap.specs.Constants.{IsTold};
-ghost use Rattle.arena_objects.specs.Keys.{AllTold};
 ghost use Rattle.py_primitives.specs.Operators.{in_place as in_place_of};
-ghost use Rattle.vm_walks.specs.Plain.{plain, plain_heap};
-ghost use Rattle.vm_faults.specs.Outcomes.{IsOutcome};
+ghost use Rattle.vm_sights.specs.Sights.{under, sight, Tells, TellsAll, Does};
 ghost use Rattle.vm_operators.specs.Operators.{plain_operator};
 ghost use Rattle.bc_machine.specs.Library.{Plain};
 ghost use Rattle.bc_machine.specs.Operations.{unary_at, operator_at};
@@ -29,6 +26,7 @@ use vm_frames::Frames;
 use vm_operators::{Operator, binary, unary, unary_not};
 use vm_types::op_match;
 
+/// What an operation on one value gives.
 fn one_value<C: Constants>(
     arena: &Arena,
     consts: &C,
@@ -36,9 +34,9 @@ fn one_value<C: Constants>(
     v: Value,
 ) -> Result<Value, Stop>
     requires leads { Leads arena.now.objects v }
-    requires told { IsTold (C.text_of consts.now) (C.items_of consts.now) v }
-    requires all_told { AllTold (C.text_of consts.now) (C.items_of consts.now) arena.now.objects }
-    ensures { IsOutcome (C.text_of consts.now) (C.items_of consts.now) arena.now arena.now result (meaning_of_one op (plain_heap (C.text_of consts.now) (C.items_of consts.now) arena.now) (plain (C.text_of consts.now) (C.items_of consts.now) v)) }
+    requires told { Tells C.Constants consts.now v }
+    requires all_told { TellsAll C.Constants consts.now arena.now }
+    ensures { Does C.Constants consts.now arena.now arena.now result (λ heap see. meaning_of_one op heap (see.value v)) }
 {
     match op {
         OneOperand::Arithmetic(op) => unary(arena, consts, op, v),
@@ -46,7 +44,7 @@ fn one_value<C: Constants>(
     }
 }
 
-/// Only `+` differs in place.
+/// What an operator in place gives. Only `+` differs from the plain one.
 fn in_place<C: Constants>(
     arena: &mut Arena,
     consts: &C,
@@ -56,10 +54,10 @@ fn in_place<C: Constants>(
 ) -> Result<Value, Stop>
     requires left_leads { Leads arena.old.objects left }
     requires right_leads { Leads arena.old.objects right }
-    requires left_told { IsTold (C.text_of consts.now) (C.items_of consts.now) left }
-    requires right_told { IsTold (C.text_of consts.now) (C.items_of consts.now) right }
-    requires all_told { AllTold (C.text_of consts.now) (C.items_of consts.now) arena.old.objects }
-    ensures { IsOutcome (C.text_of consts.now) (C.items_of consts.now) arena.old arena.new result (in_place_of (plain_heap (C.text_of consts.now) (C.items_of consts.now) arena.old) (plain_operator op) (plain (C.text_of consts.now) (C.items_of consts.now) left) (plain (C.text_of consts.now) (C.items_of consts.now) right)) }
+    requires left_told { Tells C.Constants consts.now left }
+    requires right_told { Tells C.Constants consts.now right }
+    requires all_told { TellsAll C.Constants consts.now arena.old }
+    ensures { Does C.Constants consts.now arena.old arena.new result (λ heap see. in_place_of heap (plain_operator op) (see.value left) (see.value right)) }
 {
     match op {
         Operator::Add => inplace_add(arena, consts, left, right),
@@ -67,6 +65,7 @@ fn in_place<C: Constants>(
     }
 }
 
+/// How many visits an operation in place makes, `most` at most.
 fn visits_in_place<C: Constants>(
     arena: &Arena,
     consts: &C,
@@ -77,9 +76,9 @@ fn visits_in_place<C: Constants>(
 ) -> u64
     requires left_leads { Leads arena.now.objects left }
     requires right_leads { Leads arena.now.objects right }
-    requires left_told { IsTold (C.text_of consts.now) (C.items_of consts.now) left }
-    requires right_told { IsTold (C.text_of consts.now) (C.items_of consts.now) right }
-    ensures { let outcome = in_place_of (plain_heap (C.text_of consts.now) (C.items_of consts.now) arena.now) (plain_operator op) (plain (C.text_of consts.now) (C.items_of consts.now) left) (plain (C.text_of consts.now) (C.items_of consts.now) right) in result ≡ min outcome.visits most }
+    requires left_told { Tells C.Constants consts.now left }
+    requires right_told { Tells C.Constants consts.now right }
+    ensures { let see = sight C.Constants consts.now in let outcome = in_place_of (see.heap arena.now) (plain_operator op) (see.value left) (see.value right) in result ≡ min outcome.visits most }
 {
     match op {
         Operator::Add => visits_inplace_add(arena, consts, left, right, most),
@@ -87,6 +86,7 @@ fn visits_in_place<C: Constants>(
     }
 }
 
+/// What an operation on two values gives.
 fn two_values<C: Constants>(
     arena: &mut Arena,
     consts: &C,
@@ -96,10 +96,10 @@ fn two_values<C: Constants>(
 ) -> Result<Value, Stop>
     requires left_leads { Leads arena.old.objects left }
     requires right_leads { Leads arena.old.objects right }
-    requires left_told { IsTold (C.text_of consts.now) (C.items_of consts.now) left }
-    requires right_told { IsTold (C.text_of consts.now) (C.items_of consts.now) right }
-    requires all_told { AllTold (C.text_of consts.now) (C.items_of consts.now) arena.old.objects }
-    ensures { IsOutcome (C.text_of consts.now) (C.items_of consts.now) arena.old arena.new result (meaning_of_two op (plain_heap (C.text_of consts.now) (C.items_of consts.now) arena.old) (plain (C.text_of consts.now) (C.items_of consts.now) left) (plain (C.text_of consts.now) (C.items_of consts.now) right)) }
+    requires left_told { Tells C.Constants consts.now left }
+    requires right_told { Tells C.Constants consts.now right }
+    requires all_told { TellsAll C.Constants consts.now arena.old }
+    ensures { Does C.Constants consts.now arena.old arena.new result (λ heap see. meaning_of_two op heap (see.value left) (see.value right)) }
 {
     match op {
         TwoOperands::Order(sign) => op_order(arena, consts, sign, left, right),
@@ -113,6 +113,7 @@ fn two_values<C: Constants>(
     }
 }
 
+/// How many visits an operation on two values makes, `most` at most.
 fn visits_two<C: Constants>(
     arena: &Arena,
     consts: &C,
@@ -123,10 +124,10 @@ fn visits_two<C: Constants>(
 ) -> u64
     requires left_leads { Leads arena.now.objects left }
     requires right_leads { Leads arena.now.objects right }
-    requires left_told { IsTold (C.text_of consts.now) (C.items_of consts.now) left }
-    requires right_told { IsTold (C.text_of consts.now) (C.items_of consts.now) right }
-    requires all_told { AllTold (C.text_of consts.now) (C.items_of consts.now) arena.now.objects }
-    ensures { let outcome = meaning_of_two op (plain_heap (C.text_of consts.now) (C.items_of consts.now) arena.now) (plain (C.text_of consts.now) (C.items_of consts.now) left) (plain (C.text_of consts.now) (C.items_of consts.now) right) in result ≡ min outcome.visits most }
+    requires left_told { Tells C.Constants consts.now left }
+    requires right_told { Tells C.Constants consts.now right }
+    requires all_told { TellsAll C.Constants consts.now arena.now }
+    ensures { let see = sight C.Constants consts.now in let outcome = meaning_of_two op (see.heap arena.now) (see.value left) (see.value right) in result ≡ min outcome.visits most }
 {
     match op {
         TwoOperands::Order(sign) => visits_op_order(arena, consts, sign, left, right, most),
@@ -149,11 +150,11 @@ pub fn unary_op<C: Constants>(
     end: u32,
 ) -> Result<(), Stop>
     requires operator { IsSome (unary_at number) }
-    requires operand { HasKnown (C.text_of consts.now) (C.items_of consts.now) arena.now.objects 0 frames.old.calls }
-    requires all_told { AllTold (C.text_of consts.now) (C.items_of consts.now) arena.now.objects }
-    ensures steps { Steps (C.text_of consts.now) (C.items_of consts.now) (Plain (instrs.Unary number)) 0 end arena.now arena.now frames.old.calls frames.new.calls result }
-    ensures moved { Puts (C.text_of consts.now) (C.items_of consts.now) arena.now.objects (with_value end 1) frames.old frames.new result }
-    ensures leaves { Leaves (C.text_of consts.now) (C.items_of consts.now) arena.now arena.now result }
+    requires operand { under C.Constants consts.now HasKnown arena.now.objects 0 frames.old.calls }
+    requires all_told { TellsAll C.Constants consts.now arena.now }
+    ensures steps { under C.Constants consts.now Steps (Plain (instrs.Unary number)) 0 end arena.now arena.now frames.old.calls frames.new.calls result }
+    ensures moved { under C.Constants consts.now Puts arena.now.objects (with_value end 1) frames.old frames.new result }
+    ensures leaves { under C.Constants consts.now Leaves arena.now arena.now result }
 {
     let Some(op) = one_operand(number) else {
         unreachable!();
@@ -172,12 +173,12 @@ pub fn binary_op<C: Constants>(
     end: u32,
 ) -> Result<(), Stop>
     requires operator { IsSome (operator_at number) }
-    requires right { HasKnown (C.text_of consts.now) (C.items_of consts.now) arena.old.objects 0 frames.old.calls }
-    requires left { HasKnown (C.text_of consts.now) (C.items_of consts.now) arena.old.objects 1 frames.old.calls }
-    requires all_told { AllTold (C.text_of consts.now) (C.items_of consts.now) arena.old.objects }
-    ensures steps { (left right : Item) → HasValue 1 left frames.old.calls → HasValue 0 right frames.old.calls → Steps (C.text_of consts.now) (C.items_of consts.now) (Plain (instrs.Binary number)) (visits_of (operator_at number) (plain_heap (C.text_of consts.now) (C.items_of consts.now) arena.old) (plain (C.text_of consts.now) (C.items_of consts.now) left) (plain (C.text_of consts.now) (C.items_of consts.now) right)) end arena.old arena.new frames.old.calls frames.new.calls result }
-    ensures moved { Puts (C.text_of consts.now) (C.items_of consts.now) arena.new.objects (with_value end 2) frames.old frames.new result }
-    ensures leaves { Leaves (C.text_of consts.now) (C.items_of consts.now) arena.old arena.new result }
+    requires right { under C.Constants consts.now HasKnown arena.old.objects 0 frames.old.calls }
+    requires left { under C.Constants consts.now HasKnown arena.old.objects 1 frames.old.calls }
+    requires all_told { TellsAll C.Constants consts.now arena.old }
+    ensures steps { let see = sight C.Constants consts.now in (left right : Item) → HasValue 1 left frames.old.calls → HasValue 0 right frames.old.calls → Steps see.texts see.tuples (Plain (instrs.Binary number)) (visits_of (operator_at number) (see.heap arena.old) (see.value left) (see.value right)) end arena.old arena.new frames.old.calls frames.new.calls result }
+    ensures moved { under C.Constants consts.now Puts arena.new.objects (with_value end 2) frames.old frames.new result }
+    ensures leaves { under C.Constants consts.now Leaves arena.old arena.new result }
 {
     let Some(op) = two_operands(number) else {
         unreachable!();
@@ -197,10 +198,10 @@ pub fn visits_binary_op<C: Constants>(
     most: u64,
 ) -> u64
     requires operator { IsSome (operator_at number) }
-    requires right { HasKnown (C.text_of consts.now) (C.items_of consts.now) arena.now.objects 0 frames.now.calls }
-    requires left { HasKnown (C.text_of consts.now) (C.items_of consts.now) arena.now.objects 1 frames.now.calls }
-    requires all_told { AllTold (C.text_of consts.now) (C.items_of consts.now) arena.now.objects }
-    ensures { (left right : Item) → HasValue 1 left frames.now.calls → HasValue 0 right frames.now.calls → result ≡ min (visits_of (operator_at number) (plain_heap (C.text_of consts.now) (C.items_of consts.now) arena.now) (plain (C.text_of consts.now) (C.items_of consts.now) left) (plain (C.text_of consts.now) (C.items_of consts.now) right)) most }
+    requires right { under C.Constants consts.now HasKnown arena.now.objects 0 frames.now.calls }
+    requires left { under C.Constants consts.now HasKnown arena.now.objects 1 frames.now.calls }
+    requires all_told { TellsAll C.Constants consts.now arena.now }
+    ensures { let see = sight C.Constants consts.now in (left right : Item) → HasValue 1 left frames.now.calls → HasValue 0 right frames.now.calls → result ≡ min (visits_of (operator_at number) (see.heap arena.now) (see.value left) (see.value right)) most }
 {
     let Some(op) = two_operands(number) else {
         unreachable!();

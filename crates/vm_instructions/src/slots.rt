@@ -2,8 +2,7 @@
 
 ghost use Rattle.std.specs.Prelude.{◌≡◌, ◌<◌, ◌≤◌, ◌∷◌, Some, IfSome, length, drop, slice_get};
 ghost use Rattle.arena_heap.specs.Values.{Leads};
-ghost use Rattle.arena_heap.specs.Constants.{IsTold};
-ghost use Rattle.vm_faults.specs.Faults.{IsKnown};
+ghost use Rattle.vm_sights.specs.Sights.{under, Tells, Knows};
 ghost use Rattle.vm_frames.specs.Calls.{OfRunning, on_running};
 ghost use Rattle.vm_instructions.specs.Slots.{HasKnown, HasLocal, HasValue, looked_over, with_empty, with_looked, with_value, without};
 ghost use Rattle.vm_instructions.specs.Settled.{Settles};
@@ -20,12 +19,12 @@ pub(crate) fn value_at<C: Constants>(
     _consts: &C,
     slot: u32,
 ) -> Value
-    requires { HasKnown (C.text_of _consts.now) (C.items_of _consts.now) _arena.now.objects slot frames.now.calls }
+    requires { under C.Constants _consts.now HasKnown _arena.now.objects slot frames.now.calls }
     ensures there { HasValue slot result frames.now.calls }
     ensures below { OfRunning (λ c. slot < length c.slots) frames.now.calls }
-    ensures known { IsKnown (C.text_of _consts.now) (C.items_of _consts.now) _arena.now.objects result }
+    ensures known { Knows C.Constants _consts.now _arena.now result }
     ensures leads { Leads _arena.now.objects result }
-    ensures told { IsTold (C.text_of _consts.now) (C.items_of _consts.now) result }
+    ensures told { Tells C.Constants _consts.now result }
 {
     match frames.slot(slot) {
         Slot::Value(v) => v,
@@ -40,9 +39,9 @@ pub(crate) fn local_at<C: Constants>(
     _consts: &C,
     n: u32,
 ) -> Option<Value>
-    requires { HasLocal (C.text_of _consts.now) (C.items_of _consts.now) _arena.now.objects n frames.now.calls }
+    requires { under C.Constants _consts.now HasLocal _arena.now.objects n frames.now.calls }
     ensures there { OfRunning (λ c. slice_get c.locals n ≡ Some result) frames.now.calls }
-    ensures known { IfSome result (IsKnown (C.text_of _consts.now) (C.items_of _consts.now) _arena.now.objects) }
+    ensures known { IfSome result (Knows C.Constants _consts.now _arena.now) }
 {
     frames.local(n)
 }

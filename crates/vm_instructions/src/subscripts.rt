@@ -1,10 +1,9 @@
 //! Items of values, by index or key.
 
-ghost use Rattle.std.specs.Prelude.{◌≡◌};
 ghost use Rattle.bc_ops.specs.declared.instr.Op.TheVariants as ops;
 ghost use Rattle.bc_ops.specs.declared.instr.Instr.TheVariants as instrs;
-ghost use Rattle.arena_objects.specs.Keys.{AllTold};
 ghost use Rattle.bc_machine.specs.Library.{Plain};
+ghost use Rattle.vm_sights.specs.Sights.{under, TellsAll};
 ghost use Rattle.vm_instructions.specs.Effects.{Steps, Leaves};
 ghost use Rattle.vm_instructions.specs.Slots.{HasKnown, HasNull, Puts, Changes, with_value, without};
 
@@ -23,12 +22,12 @@ pub fn load_subscr<C: Constants>(
     consts: &C,
     end: u32,
 ) -> Result<(), Stop>
-    requires index { HasKnown (C.text_of consts.now) (C.items_of consts.now) arena.old.objects 0 frames.old.calls }
-    requires object { HasKnown (C.text_of consts.now) (C.items_of consts.now) arena.old.objects 1 frames.old.calls }
-    requires all_told { AllTold (C.text_of consts.now) (C.items_of consts.now) arena.old.objects }
-    ensures steps { Steps (C.text_of consts.now) (C.items_of consts.now) (Plain (instrs.Plain ops.LoadSubscr)) 0 end arena.old arena.new frames.old.calls frames.new.calls result }
-    ensures moved { Puts (C.text_of consts.now) (C.items_of consts.now) arena.new.objects (with_value end 2) frames.old frames.new result }
-    ensures leaves { Leaves (C.text_of consts.now) (C.items_of consts.now) arena.old arena.new result }
+    requires index { under C.Constants consts.now HasKnown arena.old.objects 0 frames.old.calls }
+    requires object { under C.Constants consts.now HasKnown arena.old.objects 1 frames.old.calls }
+    requires all_told { TellsAll C.Constants consts.now arena.old }
+    ensures steps { under C.Constants consts.now Steps (Plain (instrs.Plain ops.LoadSubscr)) 0 end arena.old arena.new frames.old.calls frames.new.calls result }
+    ensures moved { under C.Constants consts.now Puts arena.new.objects (with_value end 2) frames.old frames.new result }
+    ensures leaves { under C.Constants consts.now Leaves arena.old arena.new result }
 {
     let index = value_at(frames, arena, consts, 0);
     let object = value_at(frames, arena, consts, 1);
@@ -43,13 +42,13 @@ pub fn store_subscr<C: Constants>(
     consts: &C,
     end: u32,
 ) -> Result<(), Stop>
-    requires index { HasKnown (C.text_of consts.now) (C.items_of consts.now) arena.old.objects 0 frames.old.calls }
-    requires object { HasKnown (C.text_of consts.now) (C.items_of consts.now) arena.old.objects 1 frames.old.calls }
-    requires value { HasKnown (C.text_of consts.now) (C.items_of consts.now) arena.old.objects 2 frames.old.calls }
-    requires all_told { AllTold (C.text_of consts.now) (C.items_of consts.now) arena.old.objects }
-    ensures steps { Steps (C.text_of consts.now) (C.items_of consts.now) (Plain (instrs.Plain ops.StoreSubscr)) 0 end arena.old arena.new frames.old.calls frames.new.calls result }
+    requires index { under C.Constants consts.now HasKnown arena.old.objects 0 frames.old.calls }
+    requires object { under C.Constants consts.now HasKnown arena.old.objects 1 frames.old.calls }
+    requires value { under C.Constants consts.now HasKnown arena.old.objects 2 frames.old.calls }
+    requires all_told { TellsAll C.Constants consts.now arena.old }
+    ensures steps { under C.Constants consts.now Steps (Plain (instrs.Plain ops.StoreSubscr)) 0 end arena.old arena.new frames.old.calls frames.new.calls result }
     ensures moved { Changes (without end 3) frames.old frames.new result }
-    ensures leaves { Leaves (C.text_of consts.now) (C.items_of consts.now) arena.old arena.new result }
+    ensures leaves { under C.Constants consts.now Leaves arena.old arena.new result }
 {
     let index = value_at(frames, arena, consts, 0);
     let object = value_at(frames, arena, consts, 1);
@@ -65,13 +64,13 @@ pub fn delete_subscr<C: Constants>(
     consts: &C,
     end: u32,
 ) -> Result<(), Stop>
-    requires index { HasKnown (C.text_of consts.now) (C.items_of consts.now) arena.old.objects 0 frames.old.calls }
-    requires object { HasKnown (C.text_of consts.now) (C.items_of consts.now) arena.old.objects 1 frames.old.calls }
+    requires index { under C.Constants consts.now HasKnown arena.old.objects 0 frames.old.calls }
+    requires object { under C.Constants consts.now HasKnown arena.old.objects 1 frames.old.calls }
     requires no_value { HasNull 2 frames.old.calls }
-    requires all_told { AllTold (C.text_of consts.now) (C.items_of consts.now) arena.old.objects }
-    ensures steps { Steps (C.text_of consts.now) (C.items_of consts.now) (Plain (instrs.Plain ops.StoreSubscr)) 0 end arena.old arena.new frames.old.calls frames.new.calls result }
+    requires all_told { TellsAll C.Constants consts.now arena.old }
+    ensures steps { under C.Constants consts.now Steps (Plain (instrs.Plain ops.StoreSubscr)) 0 end arena.old arena.new frames.old.calls frames.new.calls result }
     ensures moved { Changes (without end 3) frames.old frames.new result }
-    ensures leaves { Leaves (C.text_of consts.now) (C.items_of consts.now) arena.old arena.new result }
+    ensures leaves { under C.Constants consts.now Leaves arena.old arena.new result }
 {
     let index = value_at(frames, arena, consts, 0);
     let object = value_at(frames, arena, consts, 1);
@@ -86,13 +85,13 @@ pub fn store_map<C: Constants>(
     consts: &C,
     end: u32,
 ) -> Result<(), Stop>
-    requires key { HasKnown (C.text_of consts.now) (C.items_of consts.now) arena.old.objects 0 frames.old.calls }
-    requires value { HasKnown (C.text_of consts.now) (C.items_of consts.now) arena.old.objects 1 frames.old.calls }
-    requires dict { HasKnown (C.text_of consts.now) (C.items_of consts.now) arena.old.objects 2 frames.old.calls }
-    requires all_told { AllTold (C.text_of consts.now) (C.items_of consts.now) arena.old.objects }
-    ensures steps { Steps (C.text_of consts.now) (C.items_of consts.now) (Plain (instrs.Plain ops.StoreMap)) 0 end arena.old arena.new frames.old.calls frames.new.calls result }
+    requires key { under C.Constants consts.now HasKnown arena.old.objects 0 frames.old.calls }
+    requires value { under C.Constants consts.now HasKnown arena.old.objects 1 frames.old.calls }
+    requires dict { under C.Constants consts.now HasKnown arena.old.objects 2 frames.old.calls }
+    requires all_told { TellsAll C.Constants consts.now arena.old }
+    ensures steps { under C.Constants consts.now Steps (Plain (instrs.Plain ops.StoreMap)) 0 end arena.old arena.new frames.old.calls frames.new.calls result }
     ensures moved { Changes (without end 2) frames.old frames.new result }
-    ensures leaves { Leaves (C.text_of consts.now) (C.items_of consts.now) arena.old arena.new result }
+    ensures leaves { under C.Constants consts.now Leaves arena.old arena.new result }
 {
     let key = value_at(frames, arena, consts, 0);
     let v = value_at(frames, arena, consts, 1);

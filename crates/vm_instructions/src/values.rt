@@ -1,8 +1,8 @@
 //! Runs of slots: values, and iterators.
 
-ghost use Rattle.std.specs.Prelude.{◌≡◌, ℕ, ◌+◌, ◌-◌, ◌^◌, ◌<◌, ◌≤◌, suc, length, drop, Some, All, slice_get};
+ghost use Rattle.std.specs.Prelude.{◌≡◌, ℕ, ◌+◌, ◌-◌, ◌^◌, ◌<◌, ◌≤◌, suc, length, drop, Some, slice_get};
 ghost use Rattle.arena_heap.specs.declared.value.Value.{Value as Item};
-ghost use Rattle.vm_faults.specs.Faults.{IsKnown};
+ghost use Rattle.vm_sights.specs.Sights.{under, KnowsAll};
 ghost use Rattle.vm_frames.specs.Calls.{OfRunning, on_running};
 ghost use Rattle.vm_instructions.specs.Slots.{HasKnown, HasValue, with_values, with_iterator, with_item, iterator_over};
 ghost use Rattle.vm_instructions.specs.Settled.{Settles};
@@ -15,10 +15,10 @@ use vm_frames::{Frames, Slot};
 /// The values of the topmost slots, the lowest first.
 pub(crate) fn gather<C: Constants>(frames: &Frames, arena: &Arena, consts: &C, items: &mut [Value])
     requires few { length items.old < 2 ^ 32 }
-    requires known { (slot : ℕ) → slot < length items.old → HasKnown (C.text_of consts.now) (C.items_of consts.now) arena.now.objects slot frames.now.calls }
+    requires known { (slot : ℕ) → slot < length items.old → under C.Constants consts.now HasKnown arena.now.objects slot frames.now.calls }
     ensures count { length items.new ≡ length items.old }
     ensures values { (at : ℕ) (v : Item) → slice_get items.new at ≡ Some v → HasValue (length items.old - suc at) v frames.now.calls }
-    ensures known { All (IsKnown (C.text_of consts.now) (C.items_of consts.now) arena.now.objects) items.new }
+    ensures known { KnowsAll C.Constants consts.now arena.now items.new }
 {
     let count = items.len();
     for at in 0..count {
@@ -27,6 +27,7 @@ pub(crate) fn gather<C: Constants>(frames: &Frames, arena: &Arena, consts: &C, i
     }
 }
 
+/// The value at a place.
 fn value_from(values: &[Value], at: usize) -> Value
     requires { at < length values.now }
     ensures { slice_get values.now at ≡ Some result }

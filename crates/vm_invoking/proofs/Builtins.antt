@@ -30,7 +30,7 @@ use Rattle.vm_outputs.specs.declared.prints.PrintStop.{PrintStop}
 use Rattle.vm_outputs.specs.declared.prints.PrintStop.TheVariants as print_stops
 use Rattle.vm_outputs.specs.Prints.{Puts, IsPrint}
 use Rattle.vm_outputs.specs.PortCalls.{IsPortOutcome}
-use Rattle.vm_raising.specs.Worlds.{world_over}
+use Rattle.vm_sights.specs.Sights.{world_over}
 use Rattle.vm_calls.specs.declared.calls.CallStop.{CallStop}
 use Rattle.vm_calls.specs.declared.calls.CallStop.TheVariants as calls
 use Rattle.vm_calls.specs.Calls.{as_call, as_print, Seen, IsCall, heap_of, plain_args, plain_keys, ActsOnHeap}

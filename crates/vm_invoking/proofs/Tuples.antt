@@ -18,7 +18,8 @@ use Rattle.vm_faults.specs.declared.stop.Stop.{Stop}
 use Rattle.vm_faults.specs.declared.stop.Stop.TheVariants as stops
 use Rattle.vm_faults.specs.declared.fault.Fault.TheVariants as fault_names
 use Rattle.vm_faults.specs.Outcomes.{plain_answer}
-use Rattle.vm_modules.specs.Effects.{IsEffect, world_over}
+use Rattle.vm_sights.specs.Sights.{world_over}
+use Rattle.vm_modules.specs.Effects.{IsEffect}
 use Rattle.vm_invoking.specs.Children.{judged}
 
 module _ (texts : StrNo → Option (List ℕ)) (tuples : ConstNo → Option (List Value)) where

@@ -9,9 +9,11 @@ pub record Bound : Type 0 where
   pub values : List (Option Value)
   pub room : ℕ
 
+-- what the fields hold
 abbrev pub bound_of : Inside → Bound
 bound_of b = record { values = b.values.items; room = b.room }
 
+-- the vectors have room for what may be bound
 pub record HasRoom (b : Inside) : Type 0 where
   pub names : b.room ≤ vec_capacity b.names
   pub values : b.room ≤ vec_capacity b.values

@@ -4,9 +4,11 @@ use Rattle.std.specs.Vec.{vec_capacity}
 use Rattle.vm_invoking.specs.Operands.{Given}
 use Rattle.vm_invoking.specs.declared.operands.Operands.TheInside.{Inside}
 
+-- what the fields hold
 abbrev pub given_of : Inside → Given
 given_of o = record { args = o.args.items; keys = o.keys.items; room = o.room }
 
+-- the vectors have room for the operands
 pub record HasRoom (o : Inside) : Type 0 where
   pub args : o.room ≤ vec_capacity o.args
   pub keys : o.room ≤ vec_capacity o.keys

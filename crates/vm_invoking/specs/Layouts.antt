@@ -11,5 +11,6 @@ pub record Layout : Type 0 where
   pub module_name : ℕ → Name
   pub starts : ℕ → ℕ → List ℕ
 
+-- the tables that a step is told, by texts, tuples and layout
 abbrev pub tables_of : (StrNo → Option (List ℕ)) → (ConstNo → Option (List Value)) → Layout → Tables
 tables_of texts tuples layout = record { texts = texts; tuples = tuples; module_name = layout.module_name; starts = layout.starts }

@@ -41,14 +41,18 @@ paired (name ∷ v ∷ vs) = (name, v) ∷ paired vs
 abbrev pub args_count : ℕ → ℕ
 args_count number = number % 256
 
+-- how many slots the keyword arguments take
 abbrev pub keys_count : ℕ → ℕ
 keys_count number = 2 * (number / 256)
 
+-- how many slots all arguments take
 abbrev pub operands_count : ℕ → ℕ
 operands_count number = keys_count number + args_count number
 
+-- the positional arguments, the first one first
 abbrev pub args_in : ℕ → List Slot → List Value
 args_in number st = values_in (args_count number) (drop (keys_count number) st)
 
+-- the keyword arguments, which lie above the positional ones
 abbrev pub keys_in : ℕ → List Slot → List (Value × Value)
 keys_in number st = paired (values_in (keys_count number) st)

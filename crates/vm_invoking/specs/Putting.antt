@@ -16,7 +16,7 @@ use Rattle.vm_step.specs.Stacks.{gone}
 abbrev pub with_value : (end taken : ℕ) → Value → Call → Call
 with_value end taken v c = gone end (slots.Value v ∷ drop taken c.slots) c
 
--- so it goes on where a value is given, and else the calls stay
+-- the running call goes on with the value that was given; where none was, the calls stay
 abbrev pub put_in : {E : Type 0} → (end taken : ℕ) → Result Value E → Calls → Calls
 put_in end taken (Ok v) calls = on_running (with_value end taken v) calls
 put_in end taken (Err stop) calls = calls

@@ -8,11 +8,9 @@ ghost use Rattle.arena_heap.specs.declared.value.Value.{Value as Item};
 ghost use Rattle.arena_heap.specs.declared.value.StrNo.{StrNo as TextName};
 ghost use Rattle.arena_heap.specs.declared.value.ConstNo.{ConstNo as TupleName};
 ghost use Rattle.arena_heap.specs.Values.{IsMethodOf};
-ghost use Rattle.arena_objects.specs.Keys.{AllTold};
 ghost use Rattle.py_primitives.specs.Methods.{call_method as call_method_in};
 ghost use Rattle.bc_machine.specs.Library.{Library, Item as Instruction};
-ghost use Rattle.vm_walks.specs.Plain.{plain, plain_heap, plain_pair};
-ghost use Rattle.vm_faults.specs.Faults.{IsKnown};
+ghost use Rattle.vm_sights.specs.Sights.{under, sight, TellsAll, Knows};
 ghost use Rattle.vm_calls.specs.declared.callees.Callee.TheVariants as callees;
 ghost use Rattle.vm_calls.specs.Families.{IsOfPorts};
 ghost use Rattle.vm_frames.specs.Calls.{Call, OfRunning};
@@ -49,15 +47,13 @@ pub fn act_method<C: Constants>(
     requires some { 0 < size }
     requires there { size ≤ length (running_slots frames.old.calls) }
     requires method { IsMethodOf method object }
-    requires object { IsKnown (C.text_of consts.now) (C.items_of consts.now) arena.old.objects object }
+    requires object { Knows C.Constants consts.now arena.old object }
     requires few { length operands.now.args < 2 ^ 32 }
-    requires known { AreKnown (C.text_of consts.now) (C.items_of consts.now) arena.old.objects operands.now }
-    requires all_told { AllTold (C.text_of consts.now) (C.items_of consts.now) arena.old.objects }
-    ensures steps { (layout : Layout) (item : Instruction) → Invokes (tables_of (C.text_of consts.now) (C.items_of consts.now) layout) item size arena.old frames.old.calls operands.now.args operands.now.keys (callees.Method object method)
-        → IsNext (tables_of (C.text_of consts.now) (C.items_of consts.now) layout) end frames.old.calls
-        → Does (tables_of (C.text_of consts.now) (C.items_of consts.now) layout) item (call_method_in (plain_heap (C.text_of consts.now) (C.items_of consts.now) arena.old) method (plain (C.text_of consts.now) (C.items_of consts.now) object) (map (plain (C.text_of consts.now) (C.items_of consts.now)) operands.now.args) (map (plain_pair (C.text_of consts.now) (C.items_of consts.now)) operands.now.keys)).visits arena.old arena.new frames.old.calls frames.new.calls result }
-    ensures moved { Puts (C.text_of consts.now) (C.items_of consts.now) arena.new.objects end size frames.old frames.new result }
-    ensures leaves { Leaves (C.text_of consts.now) (C.items_of consts.now) arena.old arena.new result }
+    requires known { under C.Constants consts.now AreKnown arena.old.objects operands.now }
+    requires all_told { TellsAll C.Constants consts.now arena.old }
+    ensures steps { let see = sight C.Constants consts.now in (layout : Layout) (item : Instruction) → Invokes (tables_of see.texts see.tuples layout) item size arena.old frames.old.calls operands.now.args operands.now.keys (callees.Method object method) → IsNext (tables_of see.texts see.tuples layout) end frames.old.calls → Does (tables_of see.texts see.tuples layout) item (call_method_in (see.heap arena.old) method (see.value object) (map see.value operands.now.args) (map see.pair operands.now.keys)).visits arena.old arena.new frames.old.calls frames.new.calls result }
+    ensures moved { under C.Constants consts.now Puts arena.new.objects end size frames.old frames.new result }
+    ensures leaves { under C.Constants consts.now Leaves arena.old arena.new result }
 {
     let args = operands.positional();
     let keys = operands.keywords();
@@ -111,16 +107,14 @@ pub fn act_builtin<C: Constants, S: Sink, P: Port>(
     requires some { 0 < size }
     requires there { size ≤ length (running_slots frames.old.calls) }
     requires few { length operands.now.args < 2 ^ 32 }
-    requires known { AreKnown (C.text_of consts.now) (C.items_of consts.now) arena.old.objects operands.now }
-    requires all_told { AllTold (C.text_of consts.now) (C.items_of consts.now) arena.old.objects }
-    ensures acts { (layout : Layout) (library : Library) (item : Instruction) (w : PlainWorld) → Invokes (tables_of (C.text_of consts.now) (C.items_of consts.now) layout) item size arena.old frames.old.calls operands.now.args operands.now.keys (callees.Built b)
-        → IsNext (tables_of (C.text_of consts.now) (C.items_of consts.now) layout) end frames.old.calls → (IsOfPorts b → Tell (map P.seen ports.old) w.ports)
-        → ActsBuilt S.told S.count (tables_of (C.text_of consts.now) (C.items_of consts.now) layout) library item size end b operands.now.args operands.now.keys (record { heap = arena.old; out = out.old; ports = map P.seen ports.old }) (record { heap = arena.new; out = out.new; ports = map P.seen ports.new }) frames.old.calls frames.new.calls w result }
+    requires known { under C.Constants consts.now AreKnown arena.old.objects operands.now }
+    requires all_told { TellsAll C.Constants consts.now arena.old }
+    ensures acts { (layout : Layout) (library : Library) (item : Instruction) (w : PlainWorld) → Invokes (under C.Constants consts.now tables_of layout) item size arena.old frames.old.calls operands.now.args operands.now.keys (callees.Built b) → IsNext (under C.Constants consts.now tables_of layout) end frames.old.calls → (IsOfPorts b → Tell (map P.seen ports.old) w.ports) → ActsBuilt S.told S.count (under C.Constants consts.now tables_of layout) library item size end b operands.now.args operands.now.keys (record { heap = arena.old; out = out.old; ports = map P.seen ports.old }) (record { heap = arena.new; out = out.new; ports = map P.seen ports.new }) frames.old.calls frames.new.calls w result }
     ensures called { IsCalled S.told S.count (C.text_of consts.now) (C.items_of consts.now) (record { heap = arena.old; out = out.old; ports = map P.seen ports.old }) (record { heap = arena.new; out = out.new; ports = map P.seen ports.new }) operands.now.args operands.now.keys b result }
-    ensures moved { Puts (C.text_of consts.now) (C.items_of consts.now) arena.new.objects end size frames.old frames.new result }
-    ensures known { IsKnownCallStop (C.text_of consts.now) (C.items_of consts.now) arena.new.objects result }
+    ensures moved { under C.Constants consts.now Puts arena.new.objects end size frames.old frames.new result }
+    ensures known { under C.Constants consts.now IsKnownCallStop arena.new.objects result }
     ensures later { Later arena.old.objects arena.new.objects }
-    ensures all_told { AllTold (C.text_of consts.now) (C.items_of consts.now) arena.new.objects }
+    ensures all_told { TellsAll C.Constants consts.now arena.new }
 {
     let args = operands.positional();
     let keys = operands.keywords();

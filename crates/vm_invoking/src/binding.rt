@@ -1,12 +1,10 @@
 //! Arguments that are bound to the parameters of a code.
 
-ghost use Rattle.std.specs.Prelude.{◌≡◌, ◌+◌, ◌<◌, ◌≤◌, ◌^◌, [], ◌∷◌, ◌++◌, length, map, replicate, None, IfOk};
+ghost use Rattle.std.specs.Prelude.{◌≡◌, ◌<◌, ◌≤◌, ◌^◌, [], length, map, replicate, None, IfOk};
 ghost use Rattle.std.specs.Vec.{vec_capacity};
 ghost use Rattle.arena_heap.specs.declared.value.StrNo.TheVariants as strs;
-ghost use Rattle.arena_objects.specs.Keys.{AllTold};
 ghost use Rattle.py_effects.specs.Calling.{bind as bind_in};
-ghost use Rattle.vm_walks.specs.Plain.{plain, plain_pair};
-ghost use Rattle.vm_faults.specs.Faults.{IsKnown};
+ghost use Rattle.vm_sights.specs.Sights.{under, sight, TellsAll, Knows};
 ghost use Rattle.vm_calls.specs.Binding.{name_text, IsBound, IsKnownBound};
 ghost use Rattle.vm_invoking.specs.Known.{AreKnown};
 
@@ -57,7 +55,7 @@ fn fill_names(numbers: &[u32], names: &mut Vec<StrNo>)
     }
 }
 
-/// `count` empty values.
+/// Makes the list one of `count` values that are empty.
 fn fill_empty(count: usize, values: &mut Vec<Option<Value>>)
     requires { count ≤ vec_capacity values.old }
     ensures values { values.new.items ≡ replicate count None }
@@ -100,11 +98,11 @@ impl Bindings {
         requires fits { length code.now.params.now ≤ self.old.room }
         requires few { length code.now.params.now < 2 ^ 32 }
         requires few_args { length operands.now.args < 2 ^ 32 }
-        requires defaults { IsKnown (C.text_of consts.now) (C.items_of consts.now) arena.now.objects defaults }
-        requires known { AreKnown (C.text_of consts.now) (C.items_of consts.now) arena.now.objects operands.now }
-        requires all_told { AllTold (C.text_of consts.now) (C.items_of consts.now) arena.now.objects }
-        ensures bound { IsBound (C.text_of consts.now) (C.items_of consts.now) arena.now self.new.values result (λ w. bind_in w (map (name_text (C.text_of consts.now)) (map (λ n. strs.Pool n) code.now.params.now)) code.now.given (plain (C.text_of consts.now) (C.items_of consts.now) defaults) (map (plain (C.text_of consts.now) (C.items_of consts.now)) operands.now.args) (map (plain_pair (C.text_of consts.now) (C.items_of consts.now)) operands.now.keys)) }
-        ensures known { IsKnownBound (C.text_of consts.now) (C.items_of consts.now) arena.now.objects self.new.values result }
+        requires defaults { Knows C.Constants consts.now arena.now defaults }
+        requires known { under C.Constants consts.now AreKnown arena.now.objects operands.now }
+        requires all_told { TellsAll C.Constants consts.now arena.now }
+        ensures bound { let see = sight C.Constants consts.now in IsBound see.texts see.tuples arena.now self.new.values result (λ w. bind_in w (map (name_text see.texts) (map (λ n. strs.Pool n) code.now.params.now)) code.now.given (see.value defaults) (map see.value operands.now.args) (map see.pair operands.now.keys)) }
+        ensures known { under C.Constants consts.now IsKnownBound arena.now.objects self.new.values result }
         ensures count { length self.new.values ≡ length code.now.params.now }
         ensures room { self.new.room ≡ self.old.room }
     {

@@ -5,15 +5,13 @@ ghost use Rattle.mpy_base.specs.Val.{PlainWorld};
 ghost use Rattle.bc_ops.specs.declared.instr.Op.TheVariants as ops;
 ghost use Rattle.bc_ops.specs.declared.instr.Instr.TheVariants as instrs;
 ghost use Rattle.arena_heap.specs.declared.value.Value.{Value as Item};
-ghost use Rattle.arena_objects.specs.Keys.{AllTold};
 ghost use Rattle.py_effects.specs.Effect.{Place};
 ghost use Rattle.bc_machine.specs.Library.{Library, Plain};
 ghost use Rattle.bc_machine.specs.Operations.{Operands as MachineOperands};
 ghost use Rattle.bc_machine.specs.State as states;
 ghost use Rattle.bc_machine.specs.Step.{call_looked, run_callee};
-ghost use Rattle.vm_walks.specs.Plain.{plain};
+ghost use Rattle.vm_sights.specs.Sights.{under, TellsAll, world_over};
 ghost use Rattle.vm_calls.specs.Callees.{plain_callee, IsKnownCallee};
-ghost use Rattle.vm_calls.specs.Binding.{world_over};
 ghost use Rattle.vm_frames.specs.declared.slot.Slot.TheVariants as slots;
 ghost use Rattle.vm_moves.specs.Views.{slot_of};
 ghost use Rattle.vm_step.specs.Shown.{view_of};
@@ -50,10 +48,10 @@ pub fn call_function<C: Constants>(
     number: u32,
 ) -> Invocation
     requires callee { (v : Item) × (slice_get (running_slots frames.now.calls) (operands_of number) ≡ Some (slots.Value v)) }
-    requires known { All (IsKnownSlot (C.text_of consts.now) (C.items_of consts.now) arena.now.objects) (running_slots frames.now.calls) }
-    requires all_told { AllTold (C.text_of consts.now) (C.items_of consts.now) arena.now.objects }
-    ensures invokes { (layout : Layout) → Invokes (tables_of (C.text_of consts.now) (C.items_of consts.now) layout) (Plain (instrs.Num ops.CallFunction number)) result.size arena.now frames.now.calls (args_in number (running_slots frames.now.calls)) (keys_in number (running_slots frames.now.calls)) result.callee }
-    ensures known { IsKnownCallee (C.text_of consts.now) (C.items_of consts.now) arena.now.objects result.callee }
+    requires known { All (under C.Constants consts.now IsKnownSlot arena.now.objects) (running_slots frames.now.calls) }
+    requires all_told { TellsAll C.Constants consts.now arena.now }
+    ensures invokes { (layout : Layout) → Invokes (under C.Constants consts.now tables_of layout) (Plain (instrs.Num ops.CallFunction number)) result.size arena.now frames.now.calls (args_in number (running_slots frames.now.calls)) (keys_in number (running_slots frames.now.calls)) result.callee }
+    ensures known { under C.Constants consts.now IsKnownCallee arena.now.objects result.callee }
     ensures size { result.size ≡ suc (operands_of number) }
     ensures there { result.size ≤ length (running_slots frames.now.calls) }
 {
@@ -68,13 +66,11 @@ pub fn call_function<C: Constants>(
 /// What is called where a look-up left these slots: a method of its object, or a value without one.
 fn looked_callee<C: Constants>(arena: &Arena, consts: &C, upper: Slot, lower: Slot) -> Callee
     requires looked { IsBound upper lower ⊎ IsFree upper lower }
-    requires known_upper { IsKnownSlot (C.text_of consts.now) (C.items_of consts.now) arena.now.objects upper }
-    requires known_lower { IsKnownSlot (C.text_of consts.now) (C.items_of consts.now) arena.now.objects lower }
-    requires all_told { AllTold (C.text_of consts.now) (C.items_of consts.now) arena.now.objects }
-    ensures called { (layout : Layout) (library : Library) (place : Place) (paid : ℕ) (frame : states.Frame) (frames : List states.Frame) (w : PlainWorld) (starts : List ℕ) (o : MachineOperands) (below : List states.Slot)
-        → call_looked library place paid frame frames (world_over (C.text_of consts.now) (C.items_of consts.now) w arena.now) o (slot_of (view_of (tables_of (C.text_of consts.now) (C.items_of consts.now) layout)) starts upper ∷ slot_of (view_of (tables_of (C.text_of consts.now) (C.items_of consts.now) layout)) starts lower ∷ below)
-        ≡ run_callee library place paid frame frames (world_over (C.text_of consts.now) (C.items_of consts.now) w arena.now) below (plain_callee (C.text_of consts.now) (C.items_of consts.now) (world_over (C.text_of consts.now) (C.items_of consts.now) w arena.now) result) o.args o.keys }
-    ensures known { IsKnownCallee (C.text_of consts.now) (C.items_of consts.now) arena.now.objects result }
+    requires known_upper { under C.Constants consts.now IsKnownSlot arena.now.objects upper }
+    requires known_lower { under C.Constants consts.now IsKnownSlot arena.now.objects lower }
+    requires all_told { TellsAll C.Constants consts.now arena.now }
+    ensures called { (layout : Layout) (library : Library) (place : Place) (paid : ℕ) (frame : states.Frame) (frames : List states.Frame) (w : PlainWorld) (starts : List ℕ) (o : MachineOperands) (below : List states.Slot) → call_looked library place paid frame frames (under C.Constants consts.now world_over w arena.now) o (slot_of (view_of (under C.Constants consts.now tables_of layout)) starts upper ∷ slot_of (view_of (under C.Constants consts.now tables_of layout)) starts lower ∷ below) ≡ run_callee library place paid frame frames (under C.Constants consts.now world_over w arena.now) below (under C.Constants consts.now plain_callee (under C.Constants consts.now world_over w arena.now) result) o.args o.keys }
+    ensures known { under C.Constants consts.now IsKnownCallee arena.now.objects result }
 {
     let callee = value_of(lower);
     match upper {
@@ -99,10 +95,10 @@ pub fn call_method<C: Constants>(
     number: u32,
 ) -> Invocation
     requires looked { HasLooked (operands_of number) (running_slots frames.now.calls) }
-    requires known { All (IsKnownSlot (C.text_of consts.now) (C.items_of consts.now) arena.now.objects) (running_slots frames.now.calls) }
-    requires all_told { AllTold (C.text_of consts.now) (C.items_of consts.now) arena.now.objects }
-    ensures invokes { (layout : Layout) → Invokes (tables_of (C.text_of consts.now) (C.items_of consts.now) layout) (Plain (instrs.Num ops.CallMethod number)) result.size arena.now frames.now.calls (args_in number (running_slots frames.now.calls)) (keys_in number (running_slots frames.now.calls)) result.callee }
-    ensures known { IsKnownCallee (C.text_of consts.now) (C.items_of consts.now) arena.now.objects result.callee }
+    requires known { All (under C.Constants consts.now IsKnownSlot arena.now.objects) (running_slots frames.now.calls) }
+    requires all_told { TellsAll C.Constants consts.now arena.now }
+    ensures invokes { (layout : Layout) → Invokes (under C.Constants consts.now tables_of layout) (Plain (instrs.Num ops.CallMethod number)) result.size arena.now frames.now.calls (args_in number (running_slots frames.now.calls)) (keys_in number (running_slots frames.now.calls)) result.callee }
+    ensures known { under C.Constants consts.now IsKnownCallee arena.now.objects result.callee }
     ensures size { result.size ≡ suc (suc (operands_of number)) }
     ensures there { result.size ≤ length (running_slots frames.now.calls) }
 {

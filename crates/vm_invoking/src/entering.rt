@@ -7,9 +7,9 @@ ghost use Rattle.arena_heap.specs.declared.value.Value.{Value as Item};
 ghost use Rattle.arena_heap.specs.declared.value.Value.TheVariants as values;
 ghost use Rattle.arena_heap.specs.declared.value.StrNo.{StrNo as TextName};
 ghost use Rattle.arena_heap.specs.declared.value.ConstNo.{ConstNo as TupleName};
-ghost use Rattle.arena_objects.specs.Keys.{AllTold};
 ghost use Rattle.bc_machine.specs.Library.{Library, Item as Instruction, code_at};
 ghost use Rattle.vm_walks.specs.Plain.{plain_name};
+ghost use Rattle.vm_sights.specs.Sights.{under, TellsAll};
 ghost use Rattle.vm_calls.specs.declared.callees.Callee.TheVariants as callees;
 ghost use Rattle.vm_calls.specs.declared.callees.Function.{Function as Callable};
 ghost use Rattle.vm_calls.specs.Callees.{IsKnownFunction};
@@ -123,16 +123,13 @@ pub fn run_function<C: Constants>(
     requires few { frames.old.slot_room < 2 ^ 32 }
     requires fits { length code.now.params.now ≤ bindings.old.room }
     requires few_args { length operands.now.args < 2 ^ 32 }
-    requires function { IsKnownFunction (C.text_of consts.now) (C.items_of consts.now) arena.now.objects function }
-    requires known { AreKnown (C.text_of consts.now) (C.items_of consts.now) arena.now.objects operands.now }
-    requires all_told { AllTold (C.text_of consts.now) (C.items_of consts.now) arena.now.objects }
-    ensures steps { (layout : Layout) (library : Library) (item : Instruction) → Invokes (tables_of (C.text_of consts.now) (C.items_of consts.now) layout) item size arena.now frames.old.calls operands.now.args operands.now.keys (callees.Runs function)
-        → IsCodeOf (tables_of (C.text_of consts.now) (C.items_of consts.now) layout) library function module_number code.now
-        → ComesTo (tables_of (C.text_of consts.now) (C.items_of consts.now) layout) library item 0 arena.now arena.now frames.old.calls frames.new.calls result }
-    ensures entered { Enters (C.text_of consts.now) (C.items_of consts.now) arena.now.objects function module_number code.now.locals size frames.old frames.new result }
-    ensures placed { (layout : Layout) (library : Library) → IsCodeOf (tables_of (C.text_of consts.now) (C.items_of consts.now) layout) library function module_number code.now → IsOk result
-        → OfRunning (IsPlaced (view_of (tables_of (C.text_of consts.now) (C.items_of consts.now) layout))) frames.new.calls }
-    ensures stop { IsKnownStop (C.text_of consts.now) (C.items_of consts.now) arena.now.objects result }
+    requires function { under C.Constants consts.now IsKnownFunction arena.now.objects function }
+    requires known { under C.Constants consts.now AreKnown arena.now.objects operands.now }
+    requires all_told { TellsAll C.Constants consts.now arena.now }
+    ensures steps { (layout : Layout) (library : Library) (item : Instruction) → Invokes (under C.Constants consts.now tables_of layout) item size arena.now frames.old.calls operands.now.args operands.now.keys (callees.Runs function) → IsCodeOf (under C.Constants consts.now tables_of layout) library function module_number code.now → ComesTo (under C.Constants consts.now tables_of layout) library item 0 arena.now arena.now frames.old.calls frames.new.calls result }
+    ensures entered { under C.Constants consts.now Enters arena.now.objects function module_number code.now.locals size frames.old frames.new result }
+    ensures placed { (layout : Layout) (library : Library) → IsCodeOf (under C.Constants consts.now tables_of layout) library function module_number code.now → IsOk result → OfRunning (IsPlaced (view_of (under C.Constants consts.now tables_of layout))) frames.new.calls }
+    ensures stop { under C.Constants consts.now IsKnownStop arena.now.objects result }
     ensures room { bindings.new.room ≡ bindings.old.room }
 {
     moves_law();

@@ -5,13 +5,10 @@ ghost use Rattle.mpy_base.specs.World.{ADict, IsA, Later};
 ghost use Rattle.bc_ops.specs.declared.instr.Op.TheVariants as ops;
 ghost use Rattle.bc_ops.specs.declared.instr.Instr.TheVariants as instrs;
 ghost use Rattle.arena_heap.specs.Values.{IsTuple};
-ghost use Rattle.arena_objects.specs.Keys.{AllTold};
 ghost use Rattle.py_values.specs.Shown.{shown};
 ghost use Rattle.py_effects.specs.Modules.{has_items as has_so_many};
 ghost use Rattle.bc_machine.specs.Library.{Library, Plain};
-ghost use Rattle.vm_walks.specs.Plain.{plain, plain_name, plain_heap};
-ghost use Rattle.vm_faults.specs.Faults.{IsKnown};
-ghost use Rattle.vm_faults.specs.Outcomes.{IsKnownAnswer};
+ghost use Rattle.vm_sights.specs.Sights.{under, sight, TellsAll, Knows, KnowsAnswer};
 ghost use Rattle.vm_modules.specs.Effects.{IsEffect};
 ghost use Rattle.vm_frames.specs.Calls.{OfRunning};
 ghost use Rattle.vm_step.specs.Shown.{IsNext};
@@ -50,9 +47,9 @@ fn names_of(frames: &Frames) -> DictNo
 
 /// Is the value a tuple of `count` items?
 fn has_items<C: Constants>(arena: &Arena, consts: &C, v: Value, count: u32) -> bool
-    requires known { IsKnown (C.text_of consts.now) (C.items_of consts.now) arena.now.objects v }
+    requires known { Knows C.Constants consts.now arena.now v }
     ensures tuple { IsTrue result → IsTuple v }
-    ensures judged { result ≡ has_so_many count (shown (plain_heap (C.text_of consts.now) (C.items_of consts.now) arena.now) (plain (C.text_of consts.now) (C.items_of consts.now) v)) }
+    ensures judged { let see = sight C.Constants consts.now in result ≡ has_so_many count (shown (see.heap arena.now) (see.value v)) }
 {
     match look_at(arena, consts, v) {
         Look::Tuple(items) => items == count,
@@ -71,12 +68,10 @@ pub fn make_function<C: Constants>(
 ) -> Result<(), Stop>
     requires names { OfRunning (λ c. IsA arena.old.objects ADict c.names.cell) frames.old.calls }
     requires room { OfRunning (λ c. length c.slots < frames.old.slot_room) frames.old.calls }
-    requires all_told { AllTold (C.text_of consts.now) (C.items_of consts.now) arena.old.objects }
-    ensures steps { (layout : Layout) (library : Library) (at : ℕ) → IsNext (tables_of (C.text_of consts.now) (C.items_of consts.now) layout) end frames.old.calls
-        → OfRunning (IsChild (tables_of (C.text_of consts.now) (C.items_of consts.now) layout) library at child) frames.old.calls
-        → ComesTo (tables_of (C.text_of consts.now) (C.items_of consts.now) layout) library (Plain (instrs.Num ops.MakeFunction at)) 0 arena.old arena.new frames.old.calls frames.new.calls result }
-    ensures moved { Puts (C.text_of consts.now) (C.items_of consts.now) arena.new.objects end 0 frames.old frames.new result }
-    ensures leaves { Leaves (C.text_of consts.now) (C.items_of consts.now) arena.old arena.new result }
+    requires all_told { TellsAll C.Constants consts.now arena.old }
+    ensures steps { (layout : Layout) (library : Library) (at : ℕ) → IsNext (under C.Constants consts.now tables_of layout) end frames.old.calls → OfRunning (IsChild (under C.Constants consts.now tables_of layout) library at child) frames.old.calls → ComesTo (under C.Constants consts.now tables_of layout) library (Plain (instrs.Num ops.MakeFunction at)) 0 arena.old arena.new frames.old.calls frames.new.calls result }
+    ensures moved { under C.Constants consts.now Puts arena.new.objects end 0 frames.old frames.new result }
+    ensures leaves { under C.Constants consts.now Leaves arena.old arena.new result }
 {
     let function = NewFunction {
         name: child.name,
@@ -99,12 +94,12 @@ fn make_judged<C: Constants>(
     defaults: Value,
 ) -> Result<Value, Stop>
     requires names { IsA arena.old.objects ADict names.cell }
-    requires known { IsKnown (C.text_of consts.now) (C.items_of consts.now) arena.old.objects defaults }
-    requires all_told { AllTold (C.text_of consts.now) (C.items_of consts.now) arena.old.objects }
-    ensures effect { IsEffect (C.text_of consts.now) (C.items_of consts.now) arena.old arena.new result (λ w. judged w child.given (plain_name (C.text_of consts.now) (C.items_of consts.now) child.name) (plain_name (C.text_of consts.now) (C.items_of consts.now) child.module_name) child.code names.cell (plain (C.text_of consts.now) (C.items_of consts.now) defaults)) }
-    ensures known { IsKnownAnswer (C.text_of consts.now) (C.items_of consts.now) arena.new.objects result }
+    requires known { Knows C.Constants consts.now arena.old defaults }
+    requires all_told { TellsAll C.Constants consts.now arena.old }
+    ensures effect { let see = sight C.Constants consts.now in IsEffect see.texts see.tuples arena.old arena.new result (λ w. judged w child.given (see.name child.name) (see.name child.module_name) child.code names.cell (see.value defaults)) }
+    ensures known { KnowsAnswer C.Constants consts.now arena.new result }
     ensures later { Later arena.old.objects arena.new.objects }
-    ensures all_told { AllTold (C.text_of consts.now) (C.items_of consts.now) arena.new.objects }
+    ensures all_told { TellsAll C.Constants consts.now arena.new }
 {
     let fits = has_items(arena, consts, defaults, child.given);
     if fits {
@@ -131,13 +126,11 @@ pub fn make_function_with<C: Constants>(
     end: u32,
 ) -> Result<(), Stop>
     requires names { OfRunning (λ c. IsA arena.old.objects ADict c.names.cell) frames.old.calls }
-    requires defaults { HasDefaults (C.text_of consts.now) (C.items_of consts.now) arena.old.objects (running_slots frames.old.calls) }
-    requires all_told { AllTold (C.text_of consts.now) (C.items_of consts.now) arena.old.objects }
-    ensures steps { (layout : Layout) (library : Library) (at : ℕ) → IsNext (tables_of (C.text_of consts.now) (C.items_of consts.now) layout) end frames.old.calls
-        → OfRunning (IsChild (tables_of (C.text_of consts.now) (C.items_of consts.now) layout) library at child) frames.old.calls
-        → ComesTo (tables_of (C.text_of consts.now) (C.items_of consts.now) layout) library (Plain (instrs.Num ops.MakeFunctionDefargs at)) 0 arena.old arena.new frames.old.calls frames.new.calls result }
-    ensures moved { Puts (C.text_of consts.now) (C.items_of consts.now) arena.new.objects end 2 frames.old frames.new result }
-    ensures leaves { Leaves (C.text_of consts.now) (C.items_of consts.now) arena.old arena.new result }
+    requires defaults { under C.Constants consts.now HasDefaults arena.old.objects (running_slots frames.old.calls) }
+    requires all_told { TellsAll C.Constants consts.now arena.old }
+    ensures steps { (layout : Layout) (library : Library) (at : ℕ) → IsNext (under C.Constants consts.now tables_of layout) end frames.old.calls → OfRunning (IsChild (under C.Constants consts.now tables_of layout) library at child) frames.old.calls → ComesTo (under C.Constants consts.now tables_of layout) library (Plain (instrs.Num ops.MakeFunctionDefargs at)) 0 arena.old arena.new frames.old.calls frames.new.calls result }
+    ensures moved { under C.Constants consts.now Puts arena.new.objects end 2 frames.old frames.new result }
+    ensures leaves { under C.Constants consts.now Leaves arena.old arena.new result }
 {
     let names = names_of(frames);
     let defaults = value_at(frames, 1);

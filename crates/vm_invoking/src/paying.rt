@@ -2,9 +2,7 @@
 
 ghost use Rattle.std.specs.Prelude.{◌≡◌, ◌<◌, ◌^◌, length, map, min};
 ghost use Rattle.mpy_base.specs.Val.{PlainWorld};
-ghost use Rattle.arena_objects.specs.Keys.{AllTold};
-ghost use Rattle.vm_walks.specs.Plain.{plain, plain_pair};
-ghost use Rattle.vm_calls.specs.Binding.{world_over};
+ghost use Rattle.vm_sights.specs.Sights.{under, sight, TellsAll, world_over};
 ghost use Rattle.vm_calls.specs.Callees.{plain_callee, IsKnownCallee};
 ghost use Rattle.vm_invoking.specs.Invoking.{visits_of};
 ghost use Rattle.vm_invoking.specs.Known.{AreKnown};
@@ -21,11 +19,11 @@ pub fn visits_call<C: Constants>(
     operands: &Operands,
     most: u64,
 ) -> u64
-    requires callee { IsKnownCallee (C.text_of consts.now) (C.items_of consts.now) arena.now.objects callee }
+    requires callee { under C.Constants consts.now IsKnownCallee arena.now.objects callee }
     requires few { length operands.now.args < 2 ^ 32 }
-    requires known { AreKnown (C.text_of consts.now) (C.items_of consts.now) arena.now.objects operands.now }
-    requires all_told { AllTold (C.text_of consts.now) (C.items_of consts.now) arena.now.objects }
-    ensures { (w : PlainWorld) → result ≡ min (visits_of (plain_callee (C.text_of consts.now) (C.items_of consts.now) (world_over (C.text_of consts.now) (C.items_of consts.now) w arena.now) callee) (map (plain (C.text_of consts.now) (C.items_of consts.now)) operands.now.args) (map (plain_pair (C.text_of consts.now) (C.items_of consts.now)) operands.now.keys)) most }
+    requires known { under C.Constants consts.now AreKnown arena.now.objects operands.now }
+    requires all_told { TellsAll C.Constants consts.now arena.now }
+    ensures { let see = sight C.Constants consts.now in (w : PlainWorld) → result ≡ min (visits_of (plain_callee see.texts see.tuples (world_over see.texts see.tuples w arena.now) callee) (map see.value operands.now.args) (map see.pair operands.now.keys)) most }
 {
     let args = operands.positional();
     let keys = operands.keywords();

@@ -18,5 +18,6 @@ module _ (p : Program) (objects : Objects Value ℕ) where
       let frame = frame_of (view_of p.tables) c in
       StandsIn (facts_of objects) p.plans p.library frame × BelowIn (facts_of objects) p.plans p.library frame.role (map (frame_of (view_of p.tables)) cs)
 
+  -- the calls of a state are such
   pub record HoldsKept (s : Calls) : Type 0 where
     pub calls : KeepCalls s.calls

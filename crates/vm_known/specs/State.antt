@@ -15,12 +15,15 @@ module _ (p : Program) (objects : Objects Value ℕ) where
   abbrev pub IsKnownValue : Value → Type 0
   IsKnownValue v = IsKnown p.tables.texts p.tables.tuples objects v
 
+  -- a slot is known
   abbrev pub IsKnownSlot : Slot → Type 0
   IsKnownSlot slot = known.IsKnownSlot p.tables.texts p.tables.tuples objects slot
 
+  -- a local is empty, or its value is known
   abbrev pub IsKnownLocal : Option Value → Type 0
   IsKnownLocal local = IfSome local (IsKnown p.tables.texts p.tables.tuples objects)
 
+  -- a call is known
   abbrev pub IsKnownCall : Call → Type 0
   IsKnownCall c = known.IsKnownCall p.tables.texts p.tables.tuples (length p.shelf.modules) objects c
 

@@ -45,7 +45,7 @@ module _ (p : Program) where
     pub objects : Later before.objects behind.objects
     pub stop : IsKnownStop p.tables.texts p.tables.tuples behind.objects result
 
-  -- so it is where the names are these and the import was fetched for the first of the old calls
+  -- the import went so where the names are these and it was fetched for the first of the old calls
   abbrev pub ImportsBehind : (StrNo → Option (List ℕ)) → (ConstNo → Option (List Value)) → List ModuleName → Row → (name end : ℕ) → (before behind : Heap Value ℕ) → (earlier later : Registry) → (old new : Calls) → Result (Unit {0}) Stop → Type 0
   ImportsBehind texts tuples names row name end before behind earlier later old new result =
       Means p → Tells texts tuples p → AreNames p names → IsState p before.objects old → AreRegistered p before earlier → (ready : IsReady p old row (fetched_import name end))

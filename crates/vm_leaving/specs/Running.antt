@@ -51,14 +51,15 @@ pub record RunsAt (texts : StrNo → Option (List ℕ)) (tuples : ConstNo → Op
   pub number : ℕ
   pub verified : IsVerifiedRow program.shelf number row
 
--- the same of a program of the shelf, with these modules registered
+-- the calls run a program of the shelf with these texts, tuples, names of modules and modules registered, and this was fetched for the
+-- first of them, of its row
 pub record RunsWith (texts : StrNo → Option (List ℕ)) (tuples : ConstNo → Option (List Value)) (names : List ModuleName) (shelf : Shelf) (heap : Heap Value ℕ) (modules : Registry) (s : Calls) (row : Row) (fetched : Fetched) : Type 0 where
   pub runs : RunsAt texts tuples names heap.objects s row fetched
   pub shelf_is : runs.program.shelf ≡ shelf
   pub registered : AreRegistered runs.program heap modules
 
 module _ (p : Program) where
-  -- the machine's step of the calls in the world with this heap and these modules registered, where so much is paid
+  -- the machine's step of the calls in the world with this heap and these modules registered, where `paid` steps are paid on the instruction
   abbrev pub stepped_with : (paid : ℕ) → Calls → PlainWorld → Heap Value ℕ → Registry → State
   stepped_with paid s w heap modules = stepped p paid s (with_modules p.tables w modules) heap
 

@@ -1,14 +1,13 @@
 //! Imports, and the modules that they begin.
 
-ghost use Rattle.std.specs.Prelude.{◌≡◌, ◌<◌, ◌^◌, ℕ, Some, IsSome, codes, length, nat_lt, true};
+ghost use Rattle.std.specs.Prelude.{◌≡◌, ◌<◌, ◌^◌, ℕ, Some, IsSome, codes, length, nat_lt};
 ghost use Rattle.mpy_base.specs.declared.limits.TheConstants.{MAX_CALLS as LIMIT};
 ghost use Rattle.mpy_base.specs.Val.{PlainWorld};
 ghost use Rattle.arena_heap.specs.declared.value.Value.{Value as Item};
-ghost use Rattle.bc_library.specs.Shelf.{Shelf};
 ghost use Rattle.bc_rows.specs.declared.row.Row.{Row as CodeRow};
 ghost use Rattle.bc_rows.specs.Codes.{code_at};
 ghost use Rattle.bc_rows.specs.Rows.{IsRow};
-ghost use Rattle.vm_walks.specs.Plain.{plain_name};
+ghost use Rattle.vm_sights.specs.Sights.{under, sight};
 ghost use Rattle.vm_modules.specs.Registry.{plain_modules};
 ghost use Rattle.vm_importing.specs.declared.importing.Import.TheVariants as imports;
 ghost use Rattle.vm_importing.specs.Importing.{AreOperands, IsImport};
@@ -55,13 +54,11 @@ fn begin<C: Constants>(
     name: u32,
     number: u32,
 ) -> Result<(), Stop>
-    requires runs { (row : CodeRow) × (end : ℕ) × RunsWith (C.text_of consts.now) (C.items_of consts.now) names.now rows.now arena.old modules.old frames.old row (fetched_import name end) }
+    requires runs { (row : CodeRow) × (end : ℕ) × under C.Constants consts.now RunsWith names.now rows.now arena.old modules.old frames.old row (fetched_import name end) }
     requires key { C.text_of consts.now key ≡ Some (codes "__name__") }
     requires short { frames.old.slot_room < 2 ^ 32 }
-    requires import { (from level : Item) (w : PlainWorld) → AreOperands from level frames.old.calls
-        → IsImport (C.text_of consts.now) (C.items_of consts.now) rows.now (record w { modules = plain_modules (C.text_of consts.now) (C.items_of consts.now) modules.old }) (nat_lt (length frames.old.calls) LIMIT) (plain_name (C.text_of consts.now) (C.items_of consts.now) name) from level (imports.Begin number) }
-    ensures comes { (p : Program) (row : CodeRow) (end : ℕ) → p.shelf ≡ rows.now
-        → ImportsBehind p (C.text_of consts.now) (C.items_of consts.now) names.now row name end arena.old arena.new modules.old modules.new frames.old frames.new result }
+    requires import { let see = sight C.Constants consts.now in (from level : Item) (w : PlainWorld) → AreOperands from level frames.old.calls → IsImport see.texts see.tuples rows.now (record w { modules = plain_modules see.texts see.tuples modules.old }) (nat_lt (length frames.old.calls) LIMIT) (see.name name) from level (imports.Begin number) }
+    ensures comes { (p : Program) (row : CodeRow) (end : ℕ) → p.shelf ≡ rows.now → ImportsBehind under C.Constants consts.now p names.now row name end arena.old arena.new modules.old modules.new frames.old frames.new result }
     ensures rooms { frames.new ≡ record frames.old { calls = frames.new.calls } }
     ensures registry { modules.new.room ≡ modules.old.room }
 {
@@ -90,12 +87,11 @@ pub fn import_on<C: Constants>(
     name: u32,
     end: u32,
 ) -> Result<(), Stop>
-    requires runs { (row : CodeRow) × RunsWith (C.text_of consts.now) (C.items_of consts.now) names.now rows.now arena.old modules.old frames.old row (fetched_import name end) }
+    requires runs { (row : CodeRow) × under C.Constants consts.now RunsWith names.now rows.now arena.old modules.old frames.old row (fetched_import name end) }
     requires rows { rows.now ≡ library.now }
     requires key { C.text_of consts.now key ≡ Some (codes "__name__") }
     requires short { frames.old.slot_room < 2 ^ 32 }
-    ensures comes { (p : Program) (row : CodeRow) → p.shelf ≡ rows.now
-        → ImportsBehind p (C.text_of consts.now) (C.items_of consts.now) names.now row name end arena.old arena.new modules.old modules.new frames.old frames.new result }
+    ensures comes { (p : Program) (row : CodeRow) → p.shelf ≡ rows.now → ImportsBehind under C.Constants consts.now p names.now row name end arena.old arena.new modules.old modules.new frames.old frames.new result }
     ensures rooms { frames.new ≡ record frames.old { calls = frames.new.calls } }
     ensures registry { modules.new.room ≡ modules.old.room }
 {

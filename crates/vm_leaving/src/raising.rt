@@ -2,7 +2,7 @@
 
 ghost use Rattle.std.specs.Prelude.{◌≡◌, ◌<◌, ℕ, length, Err};
 ghost use Rattle.bc_library.specs.Shelf.{Shelf};
-ghost use Rattle.vm_faults.specs.Outcomes.{IsKnownAnswer};
+ghost use Rattle.vm_sights.specs.Sights.{under, KnowsAnswer};
 ghost use Rattle.vm_frames.specs.Calls.{OfRunning};
 ghost use Rattle.vm_fetching.specs.declared.instruction.Fetched.{Fetched as FetchedHere};
 ghost use Rattle.vm_fetching.specs.declared.operations.PlainOp.TheVariants as plain_ops;
@@ -52,10 +52,9 @@ pub fn stop_on<C: Constants>(
     row: &Row<'_>,
     stop: Stop,
 ) -> Option<End>
-    requires runs { (fetched : FetchedHere) × RunsAt (C.text_of consts.now) (C.items_of consts.now) names.now arena.old.objects frames.old row.now fetched }
-    requires stop { IsKnownAnswer (C.text_of consts.now) (C.items_of consts.now) arena.old.objects (Err stop) }
-    ensures comes { (p : Program) (fetched : FetchedHere) → Means p → Tells (C.text_of consts.now) (C.items_of consts.now) p → AreNames p names.now → IsState p arena.old.objects frames.old
-        → (ready : IsReady p frames.old row.now fetched) → StopsOn p ready.place arena.old arena.new modules.old modules.new frames.old frames.new stop result }
+    requires runs { (fetched : FetchedHere) × under C.Constants consts.now RunsAt names.now arena.old.objects frames.old row.now fetched }
+    requires stop { KnowsAnswer C.Constants consts.now arena.old (Err stop) }
+    ensures comes { (p : Program) (fetched : FetchedHere) → Means p → under C.Constants consts.now Tells p → AreNames p names.now → IsState p arena.old.objects frames.old → (ready : IsReady p frames.old row.now fetched) → StopsOn p ready.place arena.old arena.new modules.old modules.new frames.old frames.new stop result }
     ensures rooms { frames.new ≡ record frames.old { calls = frames.new.calls } }
     ensures registry { modules.new.room ≡ modules.old.room }
 {
@@ -74,9 +73,8 @@ pub fn raise_on<C: Constants>(
     names: &[ModuleName],
     row: &Row<'_>,
 ) -> Option<End>
-    requires runs { (end : ℕ) × RunsAt (C.text_of consts.now) (C.items_of consts.now) names.now arena.old.objects frames.old row.now (fetched_plain plain_ops.RaiseObj end) }
-    ensures comes { (p : Program) (end : ℕ)
-        → RunsOnBehind p (C.text_of consts.now) (C.items_of consts.now) names.now row.now (fetched_plain plain_ops.RaiseObj end) arena.old arena.new modules.old modules.new frames.old frames.new result }
+    requires runs { (end : ℕ) × under C.Constants consts.now RunsAt names.now arena.old.objects frames.old row.now (fetched_plain plain_ops.RaiseObj end) }
+    ensures comes { (p : Program) (end : ℕ) → RunsOnBehind under C.Constants consts.now p names.now row.now (fetched_plain plain_ops.RaiseObj end) arena.old arena.new modules.old modules.new frames.old frames.new result }
     ensures rooms { frames.new ≡ record frames.old { calls = frames.new.calls } }
     ensures registry { modules.new.room ≡ modules.old.room }
 {
@@ -96,9 +94,8 @@ pub fn raise_again_on<C: Constants>(
     names: &[ModuleName],
     row: &Row<'_>,
 ) -> Option<End>
-    requires runs { (end : ℕ) × RunsAt (C.text_of consts.now) (C.items_of consts.now) names.now arena.old.objects frames.old row.now (fetched_plain plain_ops.RaiseLast end) }
-    ensures comes { (p : Program) (end : ℕ)
-        → RunsOnBehind p (C.text_of consts.now) (C.items_of consts.now) names.now row.now (fetched_plain plain_ops.RaiseLast end) arena.old arena.new modules.old modules.new frames.old frames.new result }
+    requires runs { (end : ℕ) × under C.Constants consts.now RunsAt names.now arena.old.objects frames.old row.now (fetched_plain plain_ops.RaiseLast end) }
+    ensures comes { (p : Program) (end : ℕ) → RunsOnBehind under C.Constants consts.now p names.now row.now (fetched_plain plain_ops.RaiseLast end) arena.old arena.new modules.old modules.new frames.old frames.new result }
     ensures rooms { frames.new ≡ record frames.old { calls = frames.new.calls } }
     ensures registry { modules.new.room ≡ modules.old.room }
 {

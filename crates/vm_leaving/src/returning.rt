@@ -7,6 +7,7 @@ ghost use Rattle.arena_heap.specs.declared.value.StrNo.{StrNo as TextName};
 ghost use Rattle.arena_heap.specs.declared.value.ConstNo.{ConstNo as TupleName};
 ghost use Rattle.bc_rows.specs.declared.row.Row.{Row as CodeRow};
 ghost use Rattle.vm_faults.specs.Faults.{IsKnown};
+ghost use Rattle.vm_sights.specs.Sights.{under};
 ghost use Rattle.vm_fetching.specs.declared.operations.PlainOp.TheVariants as plain_ops;
 ghost use Rattle.vm_unwinding.specs.Known.{IsKnownCall, IsKnownAfter};
 ghost use Rattle.vm_unwinding.specs.declared.ends.After.TheVariants as afters;
@@ -86,10 +87,9 @@ pub fn return_on<C: Constants>(
     modules: &Modules,
     names: &[ModuleName],
 ) -> Option<End>
-    requires runs { (end : ℕ) × (row : CodeRow) × RunsWith (C.text_of consts.now) (C.items_of consts.now) names.now library.now arena.old modules.now frames.old row (fetched_plain plain_ops.ReturnValue end) }
+    requires runs { (end : ℕ) × (row : CodeRow) × under C.Constants consts.now RunsWith names.now library.now arena.old modules.now frames.old row (fetched_plain plain_ops.ReturnValue end) }
     requires rows { rows.now ≡ library.now }
-    ensures comes { (p : Program) (end : ℕ) (row : CodeRow) → p.shelf ≡ library.now
-        → RunsOnBehind p (C.text_of consts.now) (C.items_of consts.now) names.now row (fetched_plain plain_ops.ReturnValue end) arena.old arena.new modules.now modules.now frames.old frames.new result }
+    ensures comes { (p : Program) (end : ℕ) (row : CodeRow) → p.shelf ≡ library.now → RunsOnBehind under C.Constants consts.now p names.now row (fetched_plain plain_ops.ReturnValue end) arena.old arena.new modules.now modules.now frames.old frames.new result }
     ensures rooms { frames.new ≡ record frames.old { calls = frames.new.calls } }
 {
     keeps_law();

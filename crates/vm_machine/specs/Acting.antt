@@ -41,7 +41,7 @@ abbrev pub AreFetchedIn : Shelf → (module_number code : ℕ) → List (Option 
 AreFetchedIn shelf module_number code places =
     (offset : ℕ) (fetched : Fetched) → place_in places offset ≡ Some fetched → IsFetchedOf shelf module_number code offset fetched
 
--- the memory stays
+-- the memory that the machine has taken stays
 pub record SameMemory (old new : Vm) : Type 0 where
   pub frames : new.frames ≡ record old.frames { calls = new.frames.calls }
   pub modules : new.modules.room ≡ old.modules.room

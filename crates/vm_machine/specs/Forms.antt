@@ -27,7 +27,7 @@ HasForm i (forms.MakesWith number) = i ≡ fetched.Number number_ops.MakeFunctio
 HasForm i (forms.Imports name) = i ≡ fetched.Name name_ops.ImportName (strs.Pool name)
 HasForm i (forms.Calls op number) = (i ≡ fetched.Number op number) × CallsValue op
 
--- it is no call
+-- the instruction makes no call
 abbrev pub IsNoCall : Form → Type 0
 IsNoCall forms.Operates = Unit {0}
 IsNoCall (forms.Leaves op) = Unit {0}

@@ -90,6 +90,7 @@ module _ {S : Type 0} (told : S → Option (List ℕ)) where
     abbrev pub Runs : (new : Vm) → Type 0
     Runs new = (p : Program) → IsProgramOf shelf p → (w : PlainWorld) → Agree before w → RunsFor p old w most new behind ⊎ Strays p old w most before.ports behind.ports
 
-    -- the same up to a put in which the sink failed
+    -- the machine's run is made up to a put in which the sink failed, within these steps, in each program of the library, where no port
+    -- fails that the machine's doesn't
     abbrev pub RunsToFailure : (count : S → ℕ) → Type 0
     RunsToFailure count = (p : Program) → IsProgramOf shelf p → (w : PlainWorld) → Agree before w → SinkFails p old w count most behind ⊎ Strays p old w most before.ports behind.ports

@@ -21,7 +21,7 @@ use vm_kept::cause_law;
 use vm_running::{finish, import, leave, make, make_with, operate};
 use vm_starting::{NAME, Vm};
 
-/// An instruction on values.
+/// Carries out an instruction on values.
 #[tactic(none)]
 fn operate_on(vm: &mut Vm, library: &Library, row: &Row<'_>, fetched: Fetched)
     requires values { ActsOnValues fetched.instruction }
@@ -41,7 +41,7 @@ fn operate_on(vm: &mut Vm, library: &Library, row: &Row<'_>, fetched: Fetched)
     vm.end = ended;
 }
 
-/// A return or a raise.
+/// Carries out a return or a raise.
 #[tactic(none)]
 fn leave_on(vm: &mut Vm, library: &Library, rows: &Rows<'_>, row: &Row<'_>, op: PlainOp, end: u32)
     requires leaves { LeavesCall op }
@@ -64,7 +64,7 @@ fn leave_on(vm: &mut Vm, library: &Library, rows: &Rows<'_>, row: &Row<'_>, op: 
     vm.end = ended;
 }
 
-/// The end of a finally.
+/// Carries out the end of a finally.
 #[tactic(none)]
 fn finish_on(vm: &mut Vm, library: &Library, rows: &Rows<'_>, row: &Row<'_>, end: u32)
     requires fetched { HasFetched library.now vm.old row.now (fetched_plain plain_ops.EndFinally end) }
@@ -86,7 +86,7 @@ fn finish_on(vm: &mut Vm, library: &Library, rows: &Rows<'_>, row: &Row<'_>, end
     vm.end = ended;
 }
 
-/// A function without defaults.
+/// Carries out the making of a function without defaults.
 #[tactic(none)]
 fn make_on(vm: &mut Vm, library: &Library, rows: &Rows<'_>, row: &Row<'_>, number: u32, end: u32)
     requires fetched { HasFetched library.now vm.old row.now (record { instruction = fetched_as.Number number_ops.MakeFunction number; end = end }) }

@@ -41,7 +41,8 @@ fn act_unpaid(vm: &mut Vm, library: &Library, rows: &Rows<'_>, fetched: Fetched)
     }
 }
 
-/// The same, where an item of a list that is set is carried out at once.
+/// The instruction that was fetched, if it is no call and makes no visits, where an item of a list that is set is carried out at once.
+/// It answers how many steps were taken: none where it is left.
 #[inline(always)]
 fn store_or_act(vm: &mut Vm, library: &Library, rows: &Rows<'_>, fetched: Fetched) -> u64
     requires fetched { (row : CodeRow) × HasFetched library.now vm.old row fetched }
@@ -97,7 +98,8 @@ fn run_in(
     taken
 }
 
-/// The same of the running call's code.
+/// Instructions of the running call's code that are carried out at once, one after another: up to `most` steps, where nothing is paid.
+/// How many steps were taken.
 fn run_here(vm: &mut Vm, library: &Library, cache: &Cache, most: u64) -> u64
     requires vm { IsVm library.now vm.old }
     requires goes_on { vm.old.end ≡ None }

@@ -37,6 +37,7 @@ pub(crate) fn fetch_at<'b, 'a>(
     (row, fetched)
 }
 
+/// Is the running call one of this code of this module?
 fn is_same(here: u32, running: u32, module_number: u32, code: u32) -> bool
     ensures { result ≡ true → (here ≡ module_number) × (running ≡ code) }
 {

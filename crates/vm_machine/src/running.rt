@@ -47,8 +47,8 @@ pub fn run<S: Sink, P: Port>(
     Ok(())
 }
 
-/// The same, where what was fetched of the library is kept: an instruction is decoded once, and those that change the running call
-/// alone are carried out at once.
+/// The run of the library for these steps more, or up to its end, where what was fetched of the library is kept: an instruction is
+/// decoded once, and those that change the running call alone are carried out at once.
 pub fn run_kept<S: Sink, P: Port>(
     vm: &mut Vm,
     library: &Library,

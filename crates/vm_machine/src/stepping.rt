@@ -121,7 +121,7 @@ fn make_call<S: Sink, P: Port>(
     }
 }
 
-/// Steps of a call.
+/// Steps of an instruction that calls.
 #[tactic(none)]
 fn step_call<S: Sink, P: Port>(
     vm: &mut Vm,
@@ -248,7 +248,8 @@ fn step<S: Sink, P: Port>(
     step_on(vm, library, rows, out, ports, row, fetched, most)
 }
 
-/// The same, and where the run has ended all of the steps, which do nothing.
+/// One instruction, or the rest of the steps that it costs, or `most` of them; where the run has ended all of the steps, which do
+/// nothing. How many steps were taken.
 #[tactic(none)]
 pub(crate) fn advance<S: Sink, P: Port>(
     vm: &mut Vm,
@@ -276,7 +277,7 @@ pub(crate) fn advance<S: Sink, P: Port>(
     }
 }
 
-/// The same, where what was fetched is kept.
+/// One instruction, or the rest of the steps that it costs, or `most` of them, where what was fetched is kept. How many steps were taken.
 #[tactic(none)]
 fn step_kept<S: Sink, P: Port>(
     vm: &mut Vm,
@@ -307,7 +308,8 @@ fn step_kept<S: Sink, P: Port>(
     step_on(vm, library, rows, out, ports, row, fetched, most)
 }
 
-/// The same, and where the run has ended all of the steps, which do nothing.
+/// One instruction, or the rest of the steps that it costs, or `most` of them, where what was fetched is kept; where the run has ended
+/// all of the steps, which do nothing. How many steps were taken.
 #[tactic(none)]
 fn go<S: Sink, P: Port>(
     vm: &mut Vm,

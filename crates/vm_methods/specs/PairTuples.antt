@@ -8,6 +8,7 @@ use Rattle.arena_heap.specs.declared.value.Value.{Value}
 use Rattle.arena_heap.specs.declared.value.Value.TheVariants as values
 use Rattle.arena_heap.specs.Values.{ArenaObject}
 
+-- the tuple of a key and its value
 abbrev pub pair_object : Value × Value → ArenaObject
 pair_object pair = TupleObject (pair.0 ∷ pair.1 ∷ [])
 

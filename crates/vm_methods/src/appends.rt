@@ -1,15 +1,11 @@
 //! `append` of lists.
 
-ghost use Rattle.std.specs.Prelude.{◌<◌, ◌^◌, ◌++◌, ◌∷◌, [], length, map, All};
+ghost use Rattle.std.specs.Prelude.{◌<◌, ◌^◌, ◌++◌, ◌∷◌, [], length, map};
 ghost use Rattle.mpy_base.specs.declared.builtin.Builtin.TheVariants as builtins;
 ghost use Rattle.mpy_base.specs.World.{AList, IsA, items_at};
 ghost use Rattle.arena_heap.specs.Values.{Leads, IsList};
-ghost use Rattle.arena_heap.specs.Constants.{IsTold};
-ghost use Rattle.arena_objects.specs.Keys.{AllTold};
-ghost use Rattle.py_primitives.specs.Methods.{call_method, put_items};
-ghost use Rattle.vm_walks.specs.Plain.{plain, plain_pair, plain_heap};
-ghost use Rattle.vm_faults.specs.Faults.{IsKnown};
-ghost use Rattle.vm_faults.specs.Outcomes.{IsOutcome};
+ghost use Rattle.py_primitives.specs.Methods.{put_items};
+ghost use Rattle.vm_sights.specs.Sights.{calling_method, Tells, TellsAll, KnowsAll, Does};
 
 use crate::objects::list_number;
 use crate::puts::put_item;
@@ -20,9 +16,9 @@ use vm_faults::Stop;
 fn append<C: Constants>(arena: &mut Arena, consts: &C, l: ListNo, v: Value) -> Result<Value, Stop>
     requires list { IsA arena.old.objects AList l.cell }
     requires leads { Leads arena.old.objects v }
-    requires told { IsTold (C.text_of consts.now) (C.items_of consts.now) v }
-    requires all_told { AllTold (C.text_of consts.now) (C.items_of consts.now) arena.old.objects }
-    ensures { IsOutcome (C.text_of consts.now) (C.items_of consts.now) arena.old arena.new result (put_items (plain_heap (C.text_of consts.now) (C.items_of consts.now) arena.old) l.cell (map (plain (C.text_of consts.now) (C.items_of consts.now)) (items_at arena.old l.cell) ++ plain (C.text_of consts.now) (C.items_of consts.now) v ∷ [])) }
+    requires told { Tells C.Constants consts.now v }
+    requires all_told { TellsAll C.Constants consts.now arena.old }
+    ensures { Does C.Constants consts.now arena.old arena.new result (λ heap see. put_items heap l.cell (map see.value (items_at arena.old l.cell) ++ see.value v ∷ [])) }
 {
     let end = list_len(arena, l);
     put_item(arena, consts, l, end, v)
@@ -39,9 +35,9 @@ pub fn call_list_append<C: Constants>(
     requires list { IsList object }
     requires leads { Leads arena.old.objects object }
     requires few { length args.now < 2 ^ 32 }
-    requires known { All (IsKnown (C.text_of consts.now) (C.items_of consts.now) arena.old.objects) args.now }
-    requires all_told { AllTold (C.text_of consts.now) (C.items_of consts.now) arena.old.objects }
-    ensures { IsOutcome (C.text_of consts.now) (C.items_of consts.now) arena.old arena.new result (call_method (plain_heap (C.text_of consts.now) (C.items_of consts.now) arena.old) builtins.ListAppend (plain (C.text_of consts.now) (C.items_of consts.now) object) (map (plain (C.text_of consts.now) (C.items_of consts.now)) args.now) (map (plain_pair (C.text_of consts.now) (C.items_of consts.now)) keys.now)) }
+    requires known { KnowsAll C.Constants consts.now arena.old args.now }
+    requires all_told { TellsAll C.Constants consts.now arena.old }
+    ensures { Does C.Constants consts.now arena.old arena.new result (calling_method builtins.ListAppend object args.now keys.now) }
 {
     let l = list_number(object);
     match one_argument(args, keys) {

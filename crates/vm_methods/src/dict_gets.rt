@@ -1,25 +1,21 @@
 //! `get` of dicts.
 
-ghost use Rattle.std.specs.Prelude.{◌<◌, ◌^◌, length, map, All};
+ghost use Rattle.std.specs.Prelude.{◌<◌, ◌^◌, length, map};
 ghost use Rattle.mpy_base.specs.declared.builtin.Builtin.TheVariants as builtins;
 ghost use Rattle.mpy_base.specs.World.{ADict, IsA, pairs_at};
 ghost use Rattle.arena_heap.specs.Values.{Leads, IsDict};
-ghost use Rattle.arena_heap.specs.Constants.{IsTold};
-ghost use Rattle.arena_objects.specs.Keys.{AllTold};
 ghost use Rattle.py_values.specs.Keys.{value_of_key};
 ghost use Rattle.py_primitives.specs.Outcome.{gives};
 ghost use Rattle.py_primitives.specs.Operators.{with_key_of};
-ghost use Rattle.py_primitives.specs.Methods.{call_method, get_or as value_or};
-ghost use Rattle.vm_walks.specs.Plain.{plain, plain_pair, plain_heap};
-ghost use Rattle.vm_faults.specs.Faults.{IsKnown};
-ghost use Rattle.vm_faults.specs.Outcomes.{IsOutcome};
+ghost use Rattle.py_primitives.specs.Methods.{get_or as value_or};
+ghost use Rattle.vm_sights.specs.Sights.{calling_method, Tells, TellsAll, KnowsAll, Does};
 
 use crate::objects::dict_number;
 use arena_heap::{Arena, Constants, DictNo, Value};
 use arena_objects::dict_get;
 use vm_builtins::only_between;
 use vm_faults::{Fault, SpecialMethod, Stop, type_of};
-use vm_operators::is_key;
+use vm_sights::is_key;
 
 /// The value of a key, and else the first of the other arguments, if there is one.
 fn get<C: Constants>(
@@ -31,10 +27,10 @@ fn get<C: Constants>(
 ) -> Result<Value, Stop>
     requires dict { IsA arena.now.objects ADict d.cell }
     requires leads { Leads arena.now.objects key }
-    requires told { IsTold (C.text_of consts.now) (C.items_of consts.now) key }
-    requires known { All (IsKnown (C.text_of consts.now) (C.items_of consts.now) arena.now.objects) others.now }
-    requires all_told { AllTold (C.text_of consts.now) (C.items_of consts.now) arena.now.objects }
-    ensures { let heap = plain_heap (C.text_of consts.now) (C.items_of consts.now) arena.now in let pairs = map (plain_pair (C.text_of consts.now) (C.items_of consts.now)) (pairs_at arena.now d.cell) in let key = plain (C.text_of consts.now) (C.items_of consts.now) key in IsOutcome (C.text_of consts.now) (C.items_of consts.now) arena.now arena.now result (with_key_of heap key (gives (value_or (value_of_key heap pairs key) (map (plain (C.text_of consts.now) (C.items_of consts.now)) others.now)) heap)) }
+    requires told { Tells C.Constants consts.now key }
+    requires known { KnowsAll C.Constants consts.now arena.now others.now }
+    requires all_told { TellsAll C.Constants consts.now arena.now }
+    ensures { Does C.Constants consts.now arena.now arena.now result (λ heap see. let pairs = map see.pair (pairs_at arena.now d.cell) in let key = see.value key in with_key_of heap key (gives (value_or (value_of_key heap pairs key) (map see.value others.now)) heap)) }
 {
     if !is_key(arena, key) {
         return Err(Stop::Raises(Fault::UnsupportedOne {
@@ -63,9 +59,9 @@ pub fn call_dict_get<C: Constants>(
     requires dict { IsDict object }
     requires leads { Leads arena.now.objects object }
     requires few { length args.now < 2 ^ 32 }
-    requires known { All (IsKnown (C.text_of consts.now) (C.items_of consts.now) arena.now.objects) args.now }
-    requires all_told { AllTold (C.text_of consts.now) (C.items_of consts.now) arena.now.objects }
-    ensures { IsOutcome (C.text_of consts.now) (C.items_of consts.now) arena.now arena.now result (call_method (plain_heap (C.text_of consts.now) (C.items_of consts.now) arena.now) builtins.DictGet (plain (C.text_of consts.now) (C.items_of consts.now) object) (map (plain (C.text_of consts.now) (C.items_of consts.now)) args.now) (map (plain_pair (C.text_of consts.now) (C.items_of consts.now)) keys.now)) }
+    requires known { KnowsAll C.Constants consts.now arena.now args.now }
+    requires all_told { TellsAll C.Constants consts.now arena.now }
+    ensures { Does C.Constants consts.now arena.now arena.now result (calling_method builtins.DictGet object args.now keys.now) }
 {
     let d = dict_number(object);
     match only_between(1, 2, args, keys) {

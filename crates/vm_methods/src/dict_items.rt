@@ -1,15 +1,13 @@
 //! `items` of dicts.
 
-ghost use Rattle.std.specs.Prelude.{◌≡◌, ℕ, ◌+◌, ◌*◌, ◌<◌, ◌≤◌, ◌^◌, ◌∷◌, [], length, map, min, IfOk, IfErr, OnOk};
+ghost use Rattle.std.specs.Prelude.{◌≡◌, ℕ, ◌+◌, ◌*◌, ◌<◌, ◌≤◌, ◌^◌, ◌∷◌, [], length, map, IfErr, OnOk};
 ghost use Rattle.mpy_base.specs.declared.builtin.Builtin.TheVariants as builtins;
-ghost use Rattle.mpy_base.specs.World.{TupleObject, ADict, AList, ATuple, IsA, Later, items_at, pairs_at, room_at, with_list};
+ghost use Rattle.mpy_base.specs.World.{TupleObject, ADict, AList, ATuple, IsA, items_at, pairs_at, room_at, with_list};
 ghost use Rattle.mpy_base.specs.Weights.{Fits, Made, Refused, used};
 ghost use Rattle.arena_heap.specs.Values.{Leads, IsDict};
-ghost use Rattle.arena_objects.specs.Keys.{AllTold};
 ghost use Rattle.py_primitives.specs.Outcome.{list_of};
-ghost use Rattle.py_primitives.specs.Methods.{call_method, making_pairs};
-ghost use Rattle.vm_walks.specs.Plain.{plain, plain_pair, plain_heap};
-ghost use Rattle.vm_faults.specs.Outcomes.{IsOutcome};
+ghost use Rattle.py_primitives.specs.Methods.{making_pairs};
+ghost use Rattle.vm_sights.specs.Sights.{calling_method, TellsAll, Does, CountsUpTo};
 ghost use Rattle.vm_methods.specs.PairTuples.{with_tuples, tuples_from, TupleRefused};
 
 use crate::objects::dict_number;
@@ -54,7 +52,7 @@ fn make_pairs(arena: &mut Arena, d: DictNo) -> Result<(), NoRoom>
     Ok(())
 }
 
-/// Puts so many tuples, from the first, into an empty list that has room for them.
+/// Puts `count` tuples, of which the first has the cell `first`, into an empty list that has room for them.
 fn put_tuples(arena: &mut Arena, l: ListNo, first: u32, count: u32)
     requires list { IsA arena.old.objects AList l.cell }
     requires tuples { (k : ℕ) → k < count → IsA arena.old.objects ATuple (first + 3 * k) }
@@ -97,8 +95,8 @@ fn fill_with_tuples(arena: &mut Arena, l: ListNo, d: DictNo) -> Result<(), NoRoo
 /// A new list of new tuples of the pairs of a dict.
 fn make_items<C: Constants>(arena: &mut Arena, _consts: &C, d: DictNo) -> Result<Value, Stop>
     requires dict { IsA arena.old.objects ADict d.cell }
-    requires all_told { AllTold (C.text_of _consts.now) (C.items_of _consts.now) arena.old.objects }
-    ensures { let pairs = map (plain_pair (C.text_of _consts.now) (C.items_of _consts.now)) (pairs_at arena.old d.cell) in IsOutcome (C.text_of _consts.now) (C.items_of _consts.now) arena.old arena.new result (list_of (plain_heap (C.text_of _consts.now) (C.items_of _consts.now) arena.old) (length pairs) (λ behind. making_pairs behind pairs)) }
+    requires all_told { TellsAll C.Constants _consts.now arena.old }
+    ensures { Does C.Constants _consts.now arena.old arena.new result (λ heap see. let pairs = map see.pair (pairs_at arena.old d.cell) in list_of heap (length pairs) (λ behind. making_pairs behind pairs)) }
 {
     let count = dict_len(arena, d) as u64;
     match arena.make_list(count) {
@@ -121,8 +119,8 @@ pub fn call_dict_items<C: Constants>(
     requires dict { IsDict object }
     requires leads { Leads arena.old.objects object }
     requires few { length args.now < 2 ^ 32 }
-    requires all_told { AllTold (C.text_of consts.now) (C.items_of consts.now) arena.old.objects }
-    ensures { IsOutcome (C.text_of consts.now) (C.items_of consts.now) arena.old arena.new result (call_method (plain_heap (C.text_of consts.now) (C.items_of consts.now) arena.old) builtins.DictItems (plain (C.text_of consts.now) (C.items_of consts.now) object) (map (plain (C.text_of consts.now) (C.items_of consts.now)) args.now) (map (plain_pair (C.text_of consts.now) (C.items_of consts.now)) keys.now)) }
+    requires all_told { TellsAll C.Constants consts.now arena.old }
+    ensures { Does C.Constants consts.now arena.old arena.new result (calling_method builtins.DictItems object args.now keys.now) }
 {
     let d = dict_number(object);
     match only_so_many(0, args, keys) {
@@ -143,7 +141,7 @@ pub fn visits_call_dict_items<C: Constants>(
     requires dict { IsDict object }
     requires leads { Leads arena.now.objects object }
     requires few { length args.now < 2 ^ 32 }
-    ensures { result ≡ min (call_method (plain_heap (C.text_of _consts.now) (C.items_of _consts.now) arena.now) builtins.DictItems (plain (C.text_of _consts.now) (C.items_of _consts.now) object) (map (plain (C.text_of _consts.now) (C.items_of _consts.now)) args.now) (map (plain_pair (C.text_of _consts.now) (C.items_of _consts.now)) keys.now)).visits most }
+    ensures { CountsUpTo C.Constants _consts.now result most arena.now (calling_method builtins.DictItems object args.now keys.now) }
 {
     let d = dict_number(object);
     match only_so_many(0, args, keys) {

@@ -1,24 +1,20 @@
 //! `pop` of dicts.
 
-ghost use Rattle.std.specs.Prelude.{◌<◌, ◌^◌, length, map, All};
+ghost use Rattle.std.specs.Prelude.{◌<◌, ◌^◌, length, map};
 ghost use Rattle.mpy_base.specs.declared.builtin.Builtin.TheVariants as builtins;
 ghost use Rattle.mpy_base.specs.World.{ADict, IsA, pairs_at};
 ghost use Rattle.arena_heap.specs.Values.{Leads, IsDict};
-ghost use Rattle.arena_heap.specs.Constants.{IsTold};
-ghost use Rattle.arena_objects.specs.Keys.{AllTold};
 ghost use Rattle.py_values.specs.Keys.{value_of_key};
 ghost use Rattle.py_primitives.specs.Operators.{with_key_of};
-ghost use Rattle.py_primitives.specs.Methods.{call_method, pop_found};
-ghost use Rattle.vm_walks.specs.Plain.{plain, plain_pair, plain_heap};
-ghost use Rattle.vm_faults.specs.Faults.{IsKnown};
-ghost use Rattle.vm_faults.specs.Outcomes.{IsOutcome};
+ghost use Rattle.py_primitives.specs.Methods.{pop_found};
+ghost use Rattle.vm_sights.specs.Sights.{calling_method, Tells, TellsAll, KnowsAll, Does};
 
 use crate::objects::dict_number;
 use arena_heap::{Arena, Constants, DictNo, Value};
 use arena_objects::dict_delete;
 use vm_builtins::only_between;
 use vm_faults::{Fault, SpecialMethod, Stop, type_of};
-use vm_operators::is_key;
+use vm_sights::is_key;
 
 /// Takes out the pair of a key and gives its value, and else the first of the other arguments, if there is one.
 fn pop_key<C: Constants>(
@@ -30,10 +26,10 @@ fn pop_key<C: Constants>(
 ) -> Result<Value, Stop>
     requires dict { IsA arena.old.objects ADict d.cell }
     requires leads { Leads arena.old.objects key }
-    requires told { IsTold (C.text_of consts.now) (C.items_of consts.now) key }
-    requires known { All (IsKnown (C.text_of consts.now) (C.items_of consts.now) arena.old.objects) others.now }
-    requires all_told { AllTold (C.text_of consts.now) (C.items_of consts.now) arena.old.objects }
-    ensures { let heap = plain_heap (C.text_of consts.now) (C.items_of consts.now) arena.old in let pairs = map (plain_pair (C.text_of consts.now) (C.items_of consts.now)) (pairs_at arena.old d.cell) in let key = plain (C.text_of consts.now) (C.items_of consts.now) key in IsOutcome (C.text_of consts.now) (C.items_of consts.now) arena.old arena.new result (with_key_of heap key (pop_found heap d.cell pairs key (map (plain (C.text_of consts.now) (C.items_of consts.now)) others.now) (value_of_key heap pairs key))) }
+    requires told { Tells C.Constants consts.now key }
+    requires known { KnowsAll C.Constants consts.now arena.old others.now }
+    requires all_told { TellsAll C.Constants consts.now arena.old }
+    ensures { Does C.Constants consts.now arena.old arena.new result (λ heap see. let pairs = map see.pair (pairs_at arena.old d.cell) in let key = see.value key in with_key_of heap key (pop_found heap d.cell pairs key (map see.value others.now) (value_of_key heap pairs key))) }
 {
     if !is_key(arena, key) {
         return Err(Stop::Raises(Fault::UnsupportedOne {
@@ -62,9 +58,9 @@ pub fn call_dict_pop<C: Constants>(
     requires dict { IsDict object }
     requires leads { Leads arena.old.objects object }
     requires few { length args.now < 2 ^ 32 }
-    requires known { All (IsKnown (C.text_of consts.now) (C.items_of consts.now) arena.old.objects) args.now }
-    requires all_told { AllTold (C.text_of consts.now) (C.items_of consts.now) arena.old.objects }
-    ensures { IsOutcome (C.text_of consts.now) (C.items_of consts.now) arena.old arena.new result (call_method (plain_heap (C.text_of consts.now) (C.items_of consts.now) arena.old) builtins.DictPop (plain (C.text_of consts.now) (C.items_of consts.now) object) (map (plain (C.text_of consts.now) (C.items_of consts.now)) args.now) (map (plain_pair (C.text_of consts.now) (C.items_of consts.now)) keys.now)) }
+    requires known { KnowsAll C.Constants consts.now arena.old args.now }
+    requires all_told { TellsAll C.Constants consts.now arena.old }
+    ensures { Does C.Constants consts.now arena.old arena.new result (calling_method builtins.DictPop object args.now keys.now) }
 {
     let d = dict_number(object);
     match only_between(1, 2, args, keys) {

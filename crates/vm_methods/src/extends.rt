@@ -1,18 +1,13 @@
 //! `extend` of lists.
 
-ghost use Rattle.std.specs.Prelude.{◌≡◌, ◌<◌, ◌^◌, length, map, min, All};
+ghost use Rattle.std.specs.Prelude.{◌<◌, ◌^◌, length};
 ghost use Rattle.mpy_base.specs.declared.builtin.Builtin.TheVariants as builtins;
 ghost use Rattle.mpy_base.specs.World.{AList, IsA};
 ghost use Rattle.mpy_base.specs.Val.{Nil};
 ghost use Rattle.arena_heap.specs.Values.{Leads, IsList};
-ghost use Rattle.arena_heap.specs.Constants.{IsTold};
-ghost use Rattle.arena_objects.specs.Keys.{AllTold};
 ghost use Rattle.py_primitives.specs.Outcome.{followed_by, gives};
 ghost use Rattle.py_primitives.specs.Operators.{extend as extend_in};
-ghost use Rattle.py_primitives.specs.Methods.{call_method};
-ghost use Rattle.vm_walks.specs.Plain.{plain, plain_pair, plain_heap};
-ghost use Rattle.vm_faults.specs.Faults.{IsKnown};
-ghost use Rattle.vm_faults.specs.Outcomes.{IsOutcome};
+ghost use Rattle.vm_sights.specs.Sights.{calling_method, Tells, TellsAll, KnowsAll, Does, CountsUpTo};
 
 use crate::objects::list_number;
 use arena_heap::{Arena, Constants, ListNo, Value};
@@ -30,9 +25,9 @@ fn extend_only<C: Constants>(
 ) -> Result<Value, Stop>
     requires list { IsA arena.old.objects AList l.cell }
     requires leads { Leads arena.old.objects from }
-    requires told { IsTold (C.text_of consts.now) (C.items_of consts.now) from }
-    requires all_told { AllTold (C.text_of consts.now) (C.items_of consts.now) arena.old.objects }
-    ensures { IsOutcome (C.text_of consts.now) (C.items_of consts.now) arena.old arena.new result (followed_by (extend_in (plain_heap (C.text_of consts.now) (C.items_of consts.now) arena.old) l.cell (plain (C.text_of consts.now) (C.items_of consts.now) from)) (λ extended behind. gives Nil behind)) }
+    requires told { Tells C.Constants consts.now from }
+    requires all_told { TellsAll C.Constants consts.now arena.old }
+    ensures { Does C.Constants consts.now arena.old arena.new result (λ heap see. followed_by (extend_in heap l.cell (see.value from)) (λ extended behind. gives Nil behind)) }
 {
     match extend_list(arena, consts, l, from) {
         Ok(_) => Ok(Value::None),
@@ -51,9 +46,9 @@ pub fn call_list_extend<C: Constants>(
     requires list { IsList object }
     requires leads { Leads arena.old.objects object }
     requires few { length args.now < 2 ^ 32 }
-    requires known { All (IsKnown (C.text_of consts.now) (C.items_of consts.now) arena.old.objects) args.now }
-    requires all_told { AllTold (C.text_of consts.now) (C.items_of consts.now) arena.old.objects }
-    ensures { IsOutcome (C.text_of consts.now) (C.items_of consts.now) arena.old arena.new result (call_method (plain_heap (C.text_of consts.now) (C.items_of consts.now) arena.old) builtins.ListExtend (plain (C.text_of consts.now) (C.items_of consts.now) object) (map (plain (C.text_of consts.now) (C.items_of consts.now)) args.now) (map (plain_pair (C.text_of consts.now) (C.items_of consts.now)) keys.now)) }
+    requires known { KnowsAll C.Constants consts.now arena.old args.now }
+    requires all_told { TellsAll C.Constants consts.now arena.old }
+    ensures { Does C.Constants consts.now arena.old arena.new result (calling_method builtins.ListExtend object args.now keys.now) }
 {
     let l = list_number(object);
     match one_argument(args, keys) {
@@ -74,8 +69,8 @@ pub fn visits_call_list_extend<C: Constants>(
     requires list { IsList object }
     requires leads { Leads arena.now.objects object }
     requires few { length args.now < 2 ^ 32 }
-    requires known { All (IsKnown (C.text_of consts.now) (C.items_of consts.now) arena.now.objects) args.now }
-    ensures { result ≡ min (call_method (plain_heap (C.text_of consts.now) (C.items_of consts.now) arena.now) builtins.ListExtend (plain (C.text_of consts.now) (C.items_of consts.now) object) (map (plain (C.text_of consts.now) (C.items_of consts.now)) args.now) (map (plain_pair (C.text_of consts.now) (C.items_of consts.now)) keys.now)).visits most }
+    requires known { KnowsAll C.Constants consts.now arena.now args.now }
+    ensures { CountsUpTo C.Constants consts.now result most arena.now (calling_method builtins.ListExtend object args.now keys.now) }
 {
     let _l = list_number(object);
     match one_argument(args, keys) {

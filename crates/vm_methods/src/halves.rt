@@ -1,14 +1,11 @@
 //! `keys` and `values` of dicts.
 
-ghost use Rattle.std.specs.Prelude.{◌≡◌, ◌<◌, ◌≤◌, ◌^◌, length, map, min};
+ghost use Rattle.std.specs.Prelude.{◌≡◌, ◌<◌, ◌≤◌, ◌^◌, length, map};
 ghost use Rattle.mpy_base.specs.declared.builtin.Builtin.TheVariants as builtins;
 ghost use Rattle.mpy_base.specs.World.{ADict, AList, IsA, items_at, pairs_at, room_at, with_list};
 ghost use Rattle.arena_heap.specs.Values.{Leads, IsDict};
-ghost use Rattle.arena_objects.specs.Keys.{AllTold};
 ghost use Rattle.py_primitives.specs.Outcome.{making_list};
-ghost use Rattle.py_primitives.specs.Methods.{call_method};
-ghost use Rattle.vm_walks.specs.Plain.{plain, plain_pair, plain_heap};
-ghost use Rattle.vm_faults.specs.Outcomes.{IsOutcome};
+ghost use Rattle.vm_sights.specs.Sights.{calling_method, TellsAll, Does, CountsUpTo};
 ghost use Rattle.vm_methods.specs.Halves.{half_of};
 
 use crate::objects::dict_number;
@@ -56,8 +53,8 @@ fn make_half<C: Constants>(
     half: Half,
 ) -> Result<Value, Stop>
     requires dict { IsA arena.old.objects ADict d.cell }
-    requires all_told { AllTold (C.text_of _consts.now) (C.items_of _consts.now) arena.old.objects }
-    ensures { IsOutcome (C.text_of _consts.now) (C.items_of _consts.now) arena.old arena.new result (making_list (plain_heap (C.text_of _consts.now) (C.items_of _consts.now) arena.old) (map (plain (C.text_of _consts.now) (C.items_of _consts.now)) (map (half_of half) (pairs_at arena.old d.cell)))) }
+    requires all_told { TellsAll C.Constants _consts.now arena.old }
+    ensures { Does C.Constants _consts.now arena.old arena.new result (λ heap see. making_list heap (map see.value (map (half_of half) (pairs_at arena.old d.cell)))) }
 {
     let count = dict_len(arena, d) as u64;
     match arena.make_list(count) {
@@ -80,8 +77,8 @@ pub fn call_dict_keys<C: Constants>(
     requires dict { IsDict object }
     requires leads { Leads arena.old.objects object }
     requires few { length args.now < 2 ^ 32 }
-    requires all_told { AllTold (C.text_of consts.now) (C.items_of consts.now) arena.old.objects }
-    ensures { IsOutcome (C.text_of consts.now) (C.items_of consts.now) arena.old arena.new result (call_method (plain_heap (C.text_of consts.now) (C.items_of consts.now) arena.old) builtins.DictKeys (plain (C.text_of consts.now) (C.items_of consts.now) object) (map (plain (C.text_of consts.now) (C.items_of consts.now)) args.now) (map (plain_pair (C.text_of consts.now) (C.items_of consts.now)) keys.now)) }
+    requires all_told { TellsAll C.Constants consts.now arena.old }
+    ensures { Does C.Constants consts.now arena.old arena.new result (calling_method builtins.DictKeys object args.now keys.now) }
 {
     let d = dict_number(object);
     match only_so_many(0, args, keys) {
@@ -101,8 +98,8 @@ pub fn call_dict_values<C: Constants>(
     requires dict { IsDict object }
     requires leads { Leads arena.old.objects object }
     requires few { length args.now < 2 ^ 32 }
-    requires all_told { AllTold (C.text_of consts.now) (C.items_of consts.now) arena.old.objects }
-    ensures { IsOutcome (C.text_of consts.now) (C.items_of consts.now) arena.old arena.new result (call_method (plain_heap (C.text_of consts.now) (C.items_of consts.now) arena.old) builtins.DictValues (plain (C.text_of consts.now) (C.items_of consts.now) object) (map (plain (C.text_of consts.now) (C.items_of consts.now)) args.now) (map (plain_pair (C.text_of consts.now) (C.items_of consts.now)) keys.now)) }
+    requires all_told { TellsAll C.Constants consts.now arena.old }
+    ensures { Does C.Constants consts.now arena.old arena.new result (calling_method builtins.DictValues object args.now keys.now) }
 {
     let d = dict_number(object);
     match only_so_many(0, args, keys) {
@@ -123,7 +120,7 @@ pub fn visits_call_dict_keys<C: Constants>(
     requires dict { IsDict object }
     requires leads { Leads arena.now.objects object }
     requires few { length args.now < 2 ^ 32 }
-    ensures { result ≡ min (call_method (plain_heap (C.text_of _consts.now) (C.items_of _consts.now) arena.now) builtins.DictKeys (plain (C.text_of _consts.now) (C.items_of _consts.now) object) (map (plain (C.text_of _consts.now) (C.items_of _consts.now)) args.now) (map (plain_pair (C.text_of _consts.now) (C.items_of _consts.now)) keys.now)).visits most }
+    ensures { CountsUpTo C.Constants _consts.now result most arena.now (calling_method builtins.DictKeys object args.now keys.now) }
 {
     let d = dict_number(object);
     match only_so_many(0, args, keys) {
@@ -144,7 +141,7 @@ pub fn visits_call_dict_values<C: Constants>(
     requires dict { IsDict object }
     requires leads { Leads arena.now.objects object }
     requires few { length args.now < 2 ^ 32 }
-    ensures { result ≡ min (call_method (plain_heap (C.text_of _consts.now) (C.items_of _consts.now) arena.now) builtins.DictValues (plain (C.text_of _consts.now) (C.items_of _consts.now) object) (map (plain (C.text_of _consts.now) (C.items_of _consts.now)) args.now) (map (plain_pair (C.text_of _consts.now) (C.items_of _consts.now)) keys.now)).visits most }
+    ensures { CountsUpTo C.Constants _consts.now result most arena.now (calling_method builtins.DictValues object args.now keys.now) }
 {
     let d = dict_number(object);
     match only_so_many(0, args, keys) {

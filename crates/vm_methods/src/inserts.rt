@@ -1,16 +1,12 @@
 //! `insert` of lists.
 
-ghost use Rattle.std.specs.Prelude.{◌≡◌, ◌<◌, ◌≤◌, ◌^◌, ◌∷◌, [], length, map, All};
+ghost use Rattle.std.specs.Prelude.{◌≡◌, ◌<◌, ◌≤◌, ◌^◌, length, map};
 ghost use Rattle.mpy_base.specs.declared.builtin.Builtin.TheVariants as builtins;
 ghost use Rattle.mpy_base.specs.World.{AList, IsA, items_at};
 ghost use Rattle.arena_heap.specs.Values.{Leads, IsList};
-ghost use Rattle.arena_heap.specs.Constants.{IsTold};
-ghost use Rattle.arena_objects.specs.Keys.{AllTold};
 ghost use Rattle.py_primitives.specs.Iterables.{place_before as place_in};
-ghost use Rattle.py_primitives.specs.Methods.{call_method, insert_item};
-ghost use Rattle.vm_walks.specs.Plain.{plain, plain_pair, plain_heap};
-ghost use Rattle.vm_faults.specs.Faults.{IsKnown};
-ghost use Rattle.vm_faults.specs.Outcomes.{IsOutcome};
+ghost use Rattle.py_primitives.specs.Methods.{insert_item};
+ghost use Rattle.vm_sights.specs.Sights.{calling_method, Tells, TellsAll, KnowsAll, Does};
 
 use crate::objects::list_number;
 use crate::puts::put_item;
@@ -41,9 +37,9 @@ fn insert<C: Constants>(
     requires list { IsA arena.old.objects AList l.cell }
     requires index_leads { Leads arena.old.objects index }
     requires leads { Leads arena.old.objects v }
-    requires told { IsTold (C.text_of consts.now) (C.items_of consts.now) v }
-    requires all_told { AllTold (C.text_of consts.now) (C.items_of consts.now) arena.old.objects }
-    ensures { IsOutcome (C.text_of consts.now) (C.items_of consts.now) arena.old arena.new result (insert_item (plain_heap (C.text_of consts.now) (C.items_of consts.now) arena.old) l.cell (map (plain (C.text_of consts.now) (C.items_of consts.now)) (items_at arena.old l.cell)) (plain (C.text_of consts.now) (C.items_of consts.now) index) (plain (C.text_of consts.now) (C.items_of consts.now) v)) }
+    requires told { Tells C.Constants consts.now v }
+    requires all_told { TellsAll C.Constants consts.now arena.old }
+    ensures { Does C.Constants consts.now arena.old arena.new result (λ heap see. insert_item heap l.cell (map see.value (items_at arena.old l.cell)) (see.value index) (see.value v)) }
 {
     match number_of(arena, index) {
         Ok(number) => {
@@ -65,9 +61,9 @@ pub fn call_list_insert<C: Constants>(
     requires list { IsList object }
     requires leads { Leads arena.old.objects object }
     requires few { length args.now < 2 ^ 32 }
-    requires known { All (IsKnown (C.text_of consts.now) (C.items_of consts.now) arena.old.objects) args.now }
-    requires all_told { AllTold (C.text_of consts.now) (C.items_of consts.now) arena.old.objects }
-    ensures { IsOutcome (C.text_of consts.now) (C.items_of consts.now) arena.old arena.new result (call_method (plain_heap (C.text_of consts.now) (C.items_of consts.now) arena.old) builtins.ListInsert (plain (C.text_of consts.now) (C.items_of consts.now) object) (map (plain (C.text_of consts.now) (C.items_of consts.now)) args.now) (map (plain_pair (C.text_of consts.now) (C.items_of consts.now)) keys.now)) }
+    requires known { KnowsAll C.Constants consts.now arena.old args.now }
+    requires all_told { TellsAll C.Constants consts.now arena.old }
+    ensures { Does C.Constants consts.now arena.old arena.new result (calling_method builtins.ListInsert object args.now keys.now) }
 {
     let l = list_number(object);
     match only_so_many(2, args, keys) {

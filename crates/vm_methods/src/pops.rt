@@ -1,15 +1,12 @@
 //! `pop` of lists.
 
-ghost use Rattle.std.specs.Prelude.{◌≡◌, ◌<◌, ◌^◌, length, map, All};
+ghost use Rattle.std.specs.Prelude.{◌<◌, ◌^◌, length, map};
 ghost use Rattle.mpy_base.specs.declared.builtin.Builtin.TheVariants as builtins;
 ghost use Rattle.mpy_base.specs.World.{AList, IsA, items_at};
 ghost use Rattle.mpy_base.specs.Val.{Int};
 ghost use Rattle.arena_heap.specs.Values.{Leads, IsList, IsSmall};
-ghost use Rattle.arena_objects.specs.Keys.{AllTold};
-ghost use Rattle.py_primitives.specs.Methods.{call_method, pop as pop_in, pop_from as pop_from_in};
-ghost use Rattle.vm_walks.specs.Plain.{plain, plain_pair, plain_heap};
-ghost use Rattle.vm_faults.specs.Faults.{IsKnown};
-ghost use Rattle.vm_faults.specs.Outcomes.{IsOutcome};
+ghost use Rattle.py_primitives.specs.Methods.{pop as pop_in, pop_from as pop_from_in};
+ghost use Rattle.vm_sights.specs.Sights.{calling_method, TellsAll, KnowsAll, Does};
 
 use crate::objects::list_number;
 use arena_heap::{Arena, Constants, ListNo, Value, list_len, list_pop};
@@ -26,8 +23,8 @@ fn pop_from<C: Constants>(
 ) -> Result<Value, Stop>
     requires list { IsA arena.old.objects AList l.cell }
     requires small { IsSmall number }
-    requires all_told { AllTold (C.text_of consts.now) (C.items_of consts.now) arena.old.objects }
-    ensures { IsOutcome (C.text_of consts.now) (C.items_of consts.now) arena.old arena.new result (pop_from_in (plain_heap (C.text_of consts.now) (C.items_of consts.now) arena.old) l.cell (map (plain (C.text_of consts.now) (C.items_of consts.now)) (items_at arena.old l.cell)) (Int number)) }
+    requires all_told { TellsAll C.Constants consts.now arena.old }
+    ensures { Does C.Constants consts.now arena.old arena.new result (λ heap see. pop_from_in heap l.cell (map see.value (items_at arena.old l.cell)) (Int number)) }
 {
     if list_len(arena, l) == 0 {
         return Err(Stop::Raises(Fault::EmptyList));
@@ -50,9 +47,9 @@ fn pop<C: Constants>(
     args: &[Value],
 ) -> Result<Value, Stop>
     requires list { IsA arena.old.objects AList l.cell }
-    requires known { All (IsKnown (C.text_of consts.now) (C.items_of consts.now) arena.old.objects) args.now }
-    requires all_told { AllTold (C.text_of consts.now) (C.items_of consts.now) arena.old.objects }
-    ensures { IsOutcome (C.text_of consts.now) (C.items_of consts.now) arena.old arena.new result (pop_in (plain_heap (C.text_of consts.now) (C.items_of consts.now) arena.old) l.cell (map (plain (C.text_of consts.now) (C.items_of consts.now)) (items_at arena.old l.cell)) (map (plain (C.text_of consts.now) (C.items_of consts.now)) args.now)) }
+    requires known { KnowsAll C.Constants consts.now arena.old args.now }
+    requires all_told { TellsAll C.Constants consts.now arena.old }
+    ensures { Does C.Constants consts.now arena.old arena.new result (λ heap see. pop_in heap l.cell (map see.value (items_at arena.old l.cell)) (map see.value args.now)) }
 {
     if args.is_empty() {
         return pop_from(arena, consts, l, -1);
@@ -74,9 +71,9 @@ pub fn call_list_pop<C: Constants>(
     requires list { IsList object }
     requires leads { Leads arena.old.objects object }
     requires few { length args.now < 2 ^ 32 }
-    requires known { All (IsKnown (C.text_of consts.now) (C.items_of consts.now) arena.old.objects) args.now }
-    requires all_told { AllTold (C.text_of consts.now) (C.items_of consts.now) arena.old.objects }
-    ensures { IsOutcome (C.text_of consts.now) (C.items_of consts.now) arena.old arena.new result (call_method (plain_heap (C.text_of consts.now) (C.items_of consts.now) arena.old) builtins.ListPop (plain (C.text_of consts.now) (C.items_of consts.now) object) (map (plain (C.text_of consts.now) (C.items_of consts.now)) args.now) (map (plain_pair (C.text_of consts.now) (C.items_of consts.now)) keys.now)) }
+    requires known { KnowsAll C.Constants consts.now arena.old args.now }
+    requires all_told { TellsAll C.Constants consts.now arena.old }
+    ensures { Does C.Constants consts.now arena.old arena.new result (calling_method builtins.ListPop object args.now keys.now) }
 {
     let l = list_number(object);
     match only_between(0, 1, args, keys) {

@@ -3,11 +3,8 @@
 ghost use Rattle.std.specs.Prelude.{◌≤◌, insert, length, map};
 ghost use Rattle.mpy_base.specs.World.{AList, IsA, items_at};
 ghost use Rattle.arena_heap.specs.Values.{Leads};
-ghost use Rattle.arena_heap.specs.Constants.{IsTold};
-ghost use Rattle.arena_objects.specs.Keys.{AllTold};
 ghost use Rattle.py_primitives.specs.Methods.{put_items};
-ghost use Rattle.vm_walks.specs.Plain.{plain, plain_heap};
-ghost use Rattle.vm_faults.specs.Outcomes.{IsOutcome};
+ghost use Rattle.vm_sights.specs.Sights.{Tells, TellsAll, Does};
 
 use arena_heap::{Arena, Constants, ListNo, Value, list_insert};
 use vm_faults::Stop;
@@ -22,10 +19,10 @@ pub(crate) fn put_item<C: Constants>(
 ) -> Result<Value, Stop>
     requires list { IsA arena.old.objects AList l.cell }
     requires leads { Leads arena.old.objects v }
-    requires told { IsTold (C.text_of _consts.now) (C.items_of _consts.now) v }
-    requires all_told { AllTold (C.text_of _consts.now) (C.items_of _consts.now) arena.old.objects }
+    requires told { Tells C.Constants _consts.now v }
+    requires all_told { TellsAll C.Constants _consts.now arena.old }
     requires within { at ≤ length (items_at arena.old l.cell) }
-    ensures { IsOutcome (C.text_of _consts.now) (C.items_of _consts.now) arena.old arena.new result (put_items (plain_heap (C.text_of _consts.now) (C.items_of _consts.now) arena.old) l.cell (insert (map (plain (C.text_of _consts.now) (C.items_of _consts.now)) (items_at arena.old l.cell)) at (plain (C.text_of _consts.now) (C.items_of _consts.now) v))) }
+    ensures { Does C.Constants _consts.now arena.old arena.new result (λ heap see. put_items heap l.cell (insert (map see.value (items_at arena.old l.cell)) at (see.value v))) }
 {
     match list_insert(arena, l, at, v) {
         Ok(()) => Ok(Value::None),

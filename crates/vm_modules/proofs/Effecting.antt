@@ -15,7 +15,8 @@ use Rattle.py_effects.specs.Effect.{Effect, on_heap, does}
 use Rattle.vm_faults.specs.declared.stop.Stop.{Stop as ArenaStop}
 use Rattle.vm_faults.specs.Outcomes.{IsOutcome}
 use Rattle.vm_modules.specs.Registry.{Registry}
-use Rattle.vm_modules.specs.Effects.{world_over, world_with, IsEffect, IsStored}
+use Rattle.vm_sights.specs.Sights.{world_over}
+use Rattle.vm_modules.specs.Effects.{world_with, IsEffect, IsStored}
 
 -- visits
 -- ======

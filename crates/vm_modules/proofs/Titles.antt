@@ -27,7 +27,8 @@ use Rattle.vm_faults.specs.declared.stop.Stop.{Stop}
 use Rattle.vm_faults.specs.Outcomes.{plain_stop, plain_answer, IsOutcome}
 use Rattle.vm_modules.specs.declared.makings.Made.{Made}
 use Rattle.vm_modules.specs.Registry.{Registry, plain_entry, plain_modules, with_entry}
-use Rattle.vm_modules.specs.Effects.{world_over, world_with, made_answer, IsMade, IsMaking}
+use Rattle.vm_sights.specs.Sights.{world_over}
+use Rattle.vm_modules.specs.Effects.{world_with, made_answer, IsMade, IsMaking}
 
 -- the namespace of a module
 -- =========================

@@ -11,14 +11,11 @@ use Rattle.py_effects.specs.Modules as plain
 use Rattle.vm_walks.specs.Plain.{plain_heap}
 use Rattle.vm_faults.specs.declared.stop.Stop.{Stop}
 use Rattle.vm_faults.specs.Outcomes.{plain_stop, plain_answer}
+use Rattle.vm_sights.specs.Sights.{world_over}
 use Rattle.vm_modules.specs.declared.makings.Made.{Made}
 use Rattle.vm_modules.specs.Registry.{Registry, plain_modules, with_entry}
 
 module _ (texts : StrNo → Option (List ℕ)) (tuples : ConstNo → Option (List Value)) where
-  -- the world with the heap of an arena in the place of its own
-  abbrev pub world_over : PlainWorld → Heap Value ℕ → PlainWorld
-  world_over w heap = record w { heap = plain_heap texts tuples heap }
-
   -- the same with registered modules
   abbrev pub world_with : PlainWorld → Heap Value ℕ → Registry → PlainWorld
   world_with w heap registry = record w { heap = plain_heap texts tuples heap; modules = plain_modules texts tuples registry }
@@ -26,9 +23,9 @@ module _ (texts : StrNo → Option (List ℕ)) (tuples : ConstNo → Option (Lis
   -- a call that leaves the new heap in the place of the old one, and answers so, has this effect on each world of the old
   -- heap, which makes no visits
   pub record IsEffect (old new : Heap Value ℕ) (result : Result Value Stop) (effect : PlainWorld → Effect Val) : Type 0 where
-    pub answer : (w : PlainWorld) → plain_answer texts tuples new result ≡ (effect (world_over w old)).answer
-    pub world : (w : PlainWorld) → world_over w new ≡ (effect (world_over w old)).world
-    pub visits : (w : PlainWorld) → (effect (world_over w old)).visits ≡ 0
+    pub answer : (w : PlainWorld) → plain_answer texts tuples new result ≡ (effect (world_over texts tuples w old)).answer
+    pub world : (w : PlainWorld) → world_over texts tuples w new ≡ (effect (world_over texts tuples w old)).world
+    pub visits : (w : PlainWorld) → (effect (world_over texts tuples w old)).visits ≡ 0
 
   -- a module that was made, or none
   abbrev pub made_answer : Heap Value ℕ → Result Made Stop → Result plain.Made primitives.Stop
@@ -37,9 +34,9 @@ module _ (texts : StrNo → Option (List ℕ)) (tuples : ConstNo → Option (Lis
 
   -- the same of a call that makes a module
   pub record IsMade (old new : Heap Value ℕ) (result : Result Made Stop) (effect : PlainWorld → Effect plain.Made) : Type 0 where
-    pub answer : (w : PlainWorld) → made_answer new result ≡ (effect (world_over w old)).answer
-    pub world : (w : PlainWorld) → world_over w new ≡ (effect (world_over w old)).world
-    pub visits : (w : PlainWorld) → (effect (world_over w old)).visits ≡ 0
+    pub answer : (w : PlainWorld) → made_answer new result ≡ (effect (world_over texts tuples w old)).answer
+    pub world : (w : PlainWorld) → world_over texts tuples w new ≡ (effect (world_over texts tuples w old)).world
+    pub visits : (w : PlainWorld) → (effect (world_over texts tuples w old)).visits ≡ 0
 
   -- the same of one that registers it, too
   pub record IsMaking (old new : Heap Value ℕ) (before after : Registry) (result : Result Made Stop) (effect : PlainWorld → Effect plain.Made) : Type 0 where

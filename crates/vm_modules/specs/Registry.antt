@@ -11,6 +11,7 @@ pub record Registry : Type 0 where
   pub entries : List Entry
   pub room : ℕ
 
+-- the registry with an entry more
 abbrev pub with_entry : Registry → Entry → Registry
 with_entry registry entry = record registry { entries = registry.entries ++ entry ∷ [] }
 
@@ -19,5 +20,6 @@ module _ (texts : StrNo → Option (List ℕ)) (tuples : ConstNo → Option (Lis
   abbrev pub plain_entry : Entry → List ℕ × ℕ
   plain_entry entry = (plain_name texts tuples entry.name, entry.object.cell)
 
+  -- the registered modules as the meaning has them
   abbrev pub plain_modules : Registry → List (List ℕ × ℕ)
   plain_modules registry = map plain_entry registry.entries

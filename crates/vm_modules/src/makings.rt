@@ -6,13 +6,10 @@ ghost use Rattle.arena_heap.specs.declared.value.Value.TheVariants as values;
 ghost use Rattle.mpy_base.specs.World.{DictObject, ModuleObject, ADict, IsA, Later, with_names};
 ghost use Rattle.mpy_base.specs.Val.{Str};
 ghost use Rattle.arena_heap.specs.Values.{IsDefaults};
-ghost use Rattle.arena_objects.specs.Keys.{AllTold};
 ghost use Rattle.py_primitives.specs.Outcome.{making};
 ghost use Rattle.py_primitives.specs.Uses.{put_pair};
 ghost use Rattle.py_effects.specs.Modules.{make_function as make_function_in, make_module as make_module_in, making_module as making_module_in};
-ghost use Rattle.vm_walks.specs.Plain.{plain, plain_name, plain_heap};
-ghost use Rattle.vm_faults.specs.Faults.{IsKnown};
-ghost use Rattle.vm_faults.specs.Outcomes.{IsKnownAnswer, IsOutcome};
+ghost use Rattle.vm_sights.specs.Sights.{sight, TellsAll, Knows, KnowsAnswer, Does};
 ghost use Rattle.vm_modules.specs.Effects.{IsEffect, IsMade, IsMaking, AreMade, as_value, registry_after};
 
 use crate::registry::Modules;
@@ -46,12 +43,12 @@ pub fn make_function<C: Constants>(
 ) -> Result<Value, Stop>
     requires names { IsA arena.old.objects ADict function.names.cell }
     requires defaults { IsDefaults function.defaults }
-    requires known { IsKnown (C.text_of _consts.now) (C.items_of _consts.now) arena.old.objects function.defaults }
-    requires all_told { AllTold (C.text_of _consts.now) (C.items_of _consts.now) arena.old.objects }
-    ensures effect { IsEffect (C.text_of _consts.now) (C.items_of _consts.now) arena.old arena.new result (λ w. make_function_in w (plain_name (C.text_of _consts.now) (C.items_of _consts.now) function.name) (plain_name (C.text_of _consts.now) (C.items_of _consts.now) function.module_name) function.code function.names.cell (plain (C.text_of _consts.now) (C.items_of _consts.now) function.defaults)) }
-    ensures known { IsKnownAnswer (C.text_of _consts.now) (C.items_of _consts.now) arena.new.objects result }
+    requires known { Knows C.Constants _consts.now arena.old function.defaults }
+    requires all_told { TellsAll C.Constants _consts.now arena.old }
+    ensures effect { let see = sight C.Constants _consts.now in IsEffect see.texts see.tuples arena.old arena.new result (λ w. make_function_in w (see.name function.name) (see.name function.module_name) function.code function.names.cell (see.value function.defaults)) }
+    ensures known { KnowsAnswer C.Constants _consts.now arena.new result }
     ensures later { Later arena.old.objects arena.new.objects }
-    ensures all_told { AllTold (C.text_of _consts.now) (C.items_of _consts.now) arena.new.objects }
+    ensures all_told { TellsAll C.Constants _consts.now arena.new }
 {
     let NewFunction {
         name,
@@ -68,8 +65,8 @@ pub fn make_function<C: Constants>(
 
 /// A new module, which has no namespace yet.
 fn new_module<C: Constants>(arena: &mut Arena, _consts: &C, name: u32) -> Result<ModuleNo, Stop>
-    requires { AllTold (C.text_of _consts.now) (C.items_of _consts.now) arena.old.objects }
-    ensures { IsOutcome (C.text_of _consts.now) (C.items_of _consts.now) arena.old arena.new (as_value values.Module result) (making (plain_heap (C.text_of _consts.now) (C.items_of _consts.now) arena.old) (ModuleObject (plain_name (C.text_of _consts.now) (C.items_of _consts.now) name) None)) }
+    requires { TellsAll C.Constants _consts.now arena.old }
+    ensures { Does C.Constants _consts.now arena.old arena.new (as_value values.Module result) (λ heap see. making heap (ModuleObject (see.name name) None)) }
 {
     match arena.make_module(name) {
         Ok(m) => Ok(m),
@@ -79,8 +76,8 @@ fn new_module<C: Constants>(arena: &mut Arena, _consts: &C, name: u32) -> Result
 
 /// A new dict for the names of a module.
 fn new_names<C: Constants>(arena: &mut Arena, _consts: &C) -> Result<DictNo, Stop>
-    requires { AllTold (C.text_of _consts.now) (C.items_of _consts.now) arena.old.objects }
-    ensures { IsOutcome (C.text_of _consts.now) (C.items_of _consts.now) arena.old arena.new (as_value values.Dict result) (making (plain_heap (C.text_of _consts.now) (C.items_of _consts.now) arena.old) (DictObject [] 4)) }
+    requires { TellsAll C.Constants _consts.now arena.old }
+    ensures { Does C.Constants _consts.now arena.old arena.new (as_value values.Dict result) (λ heap see. making heap (DictObject [] 4)) }
 {
     match arena.make_dict(4) {
         Ok(d) => Ok(d),
@@ -99,8 +96,8 @@ fn set_title<C: Constants>(
     requires key { C.text_of consts.now key ≡ Some (codes "__name__") }
     requires name { IsSome (C.text_of consts.now (strs.Pool name)) }
     requires made { AreMade arena.old.objects made }
-    requires all_told { AllTold (C.text_of consts.now) (C.items_of consts.now) arena.old.objects }
-    ensures { IsOutcome (C.text_of consts.now) (C.items_of consts.now) arena.old arena.new result (put_pair (with_names (plain_heap (C.text_of consts.now) (C.items_of consts.now) arena.old) made.number.cell made.names.cell) made.names.cell (Str (codes "__name__")) (Str (plain_name (C.text_of consts.now) (C.items_of consts.now) name))) }
+    requires all_told { TellsAll C.Constants consts.now arena.old }
+    ensures { Does C.Constants consts.now arena.old arena.new result (λ heap see. put_pair (with_names heap made.number.cell made.names.cell) made.names.cell (Str (codes "__name__")) (Str (see.name name))) }
 {
     module_names(arena, made.number, made.names);
     let title = Value::Str(StrNo::Pool(name));
@@ -116,11 +113,11 @@ fn making_module<C: Constants>(
 ) -> Result<Made, Stop>
     requires key { C.text_of consts.now key ≡ Some (codes "__name__") }
     requires name { IsSome (C.text_of consts.now (strs.Pool name)) }
-    requires all_told { AllTold (C.text_of consts.now) (C.items_of consts.now) arena.old.objects }
-    ensures effect { IsMade (C.text_of consts.now) (C.items_of consts.now) arena.old arena.new result (λ w. making_module_in w (plain_name (C.text_of consts.now) (C.items_of consts.now) name)) }
+    requires all_told { TellsAll C.Constants consts.now arena.old }
+    ensures effect { let see = sight C.Constants consts.now in IsMade see.texts see.tuples arena.old arena.new result (λ w. making_module_in w (see.name name)) }
     ensures made { IfOk result (AreMade arena.new.objects) }
     ensures later { Later arena.old.objects arena.new.objects }
-    ensures all_told { AllTold (C.text_of consts.now) (C.items_of consts.now) arena.new.objects }
+    ensures all_told { TellsAll C.Constants consts.now arena.new }
 {
     let number = match new_module(arena, consts, name) {
         Ok(m) => m,
@@ -148,12 +145,12 @@ pub fn make_module<C: Constants>(
     requires key { C.text_of consts.now key ≡ Some (codes "__name__") }
     requires name { IsSome (C.text_of consts.now (strs.Pool name)) }
     requires room { length modules.old.entries < modules.old.room }
-    requires all_told { AllTold (C.text_of consts.now) (C.items_of consts.now) arena.old.objects }
-    ensures effect { IsMaking (C.text_of consts.now) (C.items_of consts.now) arena.old arena.new modules.old modules.new result (λ w. make_module_in w (plain_name (C.text_of consts.now) (C.items_of consts.now) name)) }
+    requires all_told { TellsAll C.Constants consts.now arena.old }
+    ensures effect { let see = sight C.Constants consts.now in IsMaking see.texts see.tuples arena.old arena.new modules.old modules.new result (λ w. make_module_in w (see.name name)) }
     ensures registered { modules.new ≡ registry_after name modules.old result }
     ensures made { IfOk result (AreMade arena.new.objects) }
     ensures later { Later arena.old.objects arena.new.objects }
-    ensures all_told { AllTold (C.text_of consts.now) (C.items_of consts.now) arena.new.objects }
+    ensures all_told { TellsAll C.Constants consts.now arena.new }
 {
     match making_module(arena, consts, key, name) {
         Ok(made) => {

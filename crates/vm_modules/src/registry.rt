@@ -5,7 +5,7 @@ ghost use Rattle.std.specs.Option.{option_map};
 ghost use Rattle.std.specs.Vec.{vec_capacity};
 ghost use Rattle.mpy_base.specs.Val.{PlainWorld};
 ghost use Rattle.py_effects.specs.Modules.{registered_as as registered_in, module_named as module_named_in, forget_module as forget_module_in};
-ghost use Rattle.vm_walks.specs.Plain.{plain, plain_name};
+ghost use Rattle.vm_sights.specs.Sights.{under, sight};
 ghost use Rattle.vm_modules.specs.Registry.{plain_entry, plain_modules, with_entry};
 
 use crate::entry::Entry;
@@ -35,7 +35,7 @@ impl Model for Modules {
 
 /// The first of these that has this name.
 fn find<C: Constants>(consts: &C, entries: &[Entry], name: &[u8]) -> Option<ModuleNo>
-    ensures { option_map (λ m. m.cell) result ≡ registered_in (map (plain_entry (C.text_of consts.now) (C.items_of consts.now)) entries.now) name.now }
+    ensures { option_map (λ m. m.cell) result ≡ registered_in (map (under C.Constants consts.now plain_entry) entries.now) name.now }
 {
     for entry in entries {
         if is_named(consts, entry.name, name) {
@@ -47,7 +47,7 @@ fn find<C: Constants>(consts: &C, entries: &[Entry], name: &[u8]) -> Option<Modu
 
 /// Those that have other names stay.
 fn keep_others<C: Constants>(consts: &C, entries: &mut Vec<Entry>, name: &[u8])
-    ensures items { entries.new.items ≡ filter (λ entry. not (bytes_eq (plain_name (C.text_of consts.now) (C.items_of consts.now) entry.name) name.now)) entries.old.items }
+    ensures items { entries.new.items ≡ filter (λ entry. not (bytes_eq ((sight C.Constants consts.now).name entry.name) name.now)) entries.old.items }
     ensures capacity { vec_capacity entries.new ≡ vec_capacity entries.old }
     ensures fewer { length entries.new.items ≤ length entries.old.items }
 {
@@ -73,14 +73,14 @@ impl Modules {
 
     /// The first registered module of this name.
     pub fn registered_as<C: Constants>(&self, consts: &C, name: &[u8]) -> Option<ModuleNo>
-        ensures { option_map (λ m. m.cell) result ≡ registered_in (plain_modules (C.text_of consts.now) (C.items_of consts.now) self.now) name.now }
+        ensures { option_map (λ m. m.cell) result ≡ registered_in (under C.Constants consts.now plain_modules self.now) name.now }
     {
         find(consts, &self.entries, name)
     }
 
     /// The registered module of this name, and else `port`.
     pub fn module_named<C: Constants>(&self, consts: &C, name: &[u8]) -> Value
-        ensures { (w : PlainWorld) → plain (C.text_of consts.now) (C.items_of consts.now) result ≡ module_named_in (record w { modules = plain_modules (C.text_of consts.now) (C.items_of consts.now) self.now }) name.now }
+        ensures { let see = sight C.Constants consts.now in (w : PlainWorld) → see.value result ≡ module_named_in (record w { modules = plain_modules see.texts see.tuples self.now }) name.now }
     {
         match self.registered_as(consts, name) {
             Some(m) => Value::Module(m),
@@ -90,7 +90,7 @@ impl Modules {
 
     /// No module of this name is registered from now on.
     pub fn forget_module<C: Constants>(&mut self, consts: &C, name: &[u8])
-        ensures forgotten { (w : PlainWorld) → record w { modules = plain_modules (C.text_of consts.now) (C.items_of consts.now) self.new } ≡ forget_module_in (record w { modules = plain_modules (C.text_of consts.now) (C.items_of consts.now) self.old }) name.now }
+        ensures forgotten { let see = sight C.Constants consts.now in (w : PlainWorld) → record w { modules = plain_modules see.texts see.tuples self.new } ≡ forget_module_in (record w { modules = plain_modules see.texts see.tuples self.old }) name.now }
         ensures room { self.new.room ≡ self.old.room }
         ensures fewer { length self.new.entries ≤ length self.old.entries }
     {

@@ -3,26 +3,24 @@
 ghost use Rattle.std.specs.Prelude.{◌≡◌, Some, option_and_then};
 ghost use Rattle.std.specs.Option.{option_map};
 ghost use Rattle.mpy_base.specs.World.{AModule, IsA, Later};
-ghost use Rattle.arena_objects.specs.Keys.{AllTold};
 ghost use Rattle.py_effects.specs.Heaps.{Registered};
 ghost use Rattle.py_effects.specs.Modules.{registered_as as registered_in, outer_name, last_part, store_module as store_module_in};
-ghost use Rattle.vm_walks.specs.Plain.{plain_name, plain_heap};
-ghost use Rattle.vm_faults.specs.Outcomes.{IsKnownAnswer};
+ghost use Rattle.vm_sights.specs.Sights.{sight, TellsAll, KnowsAnswer};
 ghost use Rattle.vm_modules.specs.Registry.{plain_modules};
 ghost use Rattle.vm_modules.specs.Effects.{IsStored};
 
 use crate::dots::last_dot;
-use crate::names::name_bytes;
 use crate::registry::Modules;
 use arena_heap::{Arena, Constants, ModuleNo, StrNo, Value};
 use vm_assignments::set_attr;
 use vm_faults::Stop;
+use vm_sights::name_bytes;
 
 /// The registered module before a dotted name.
 fn outer_module<C: Constants>(consts: &C, modules: &Modules, name: u32) -> Option<ModuleNo>
-    ensures { option_map (λ m. m.cell) result ≡ option_and_then (registered_in (plain_modules (C.text_of consts.now) (C.items_of consts.now) modules.now)) (outer_name (plain_name (C.text_of consts.now) (C.items_of consts.now) name)) }
+    ensures { let see = sight C.Constants consts.now in option_map (λ m. m.cell) result ≡ option_and_then (registered_in (plain_modules see.texts see.tuples modules.now)) (outer_name (see.name name)) }
 {
-    let text = name_bytes(consts, name);
+    let text = name_bytes(consts, StrNo::Pool(name));
     match last_dot(text) {
         Some(at) => modules.registered_as(consts, &text[..at]),
         None => None,
@@ -39,14 +37,14 @@ pub fn store_module<C: Constants>(
     last: StrNo,
     m: ModuleNo,
 ) -> Result<Value, Stop>
-    requires last { C.text_of consts.now last ≡ Some (last_part (plain_name (C.text_of consts.now) (C.items_of consts.now) name)) }
+    requires last { let see = sight C.Constants consts.now in see.texts last ≡ Some (last_part (see.name name)) }
     requires is_module { IsA arena.old.objects AModule m.cell }
-    requires registered { Registered (plain_modules (C.text_of consts.now) (C.items_of consts.now) modules.now) (plain_heap (C.text_of consts.now) (C.items_of consts.now) arena.old) }
-    requires all_told { AllTold (C.text_of consts.now) (C.items_of consts.now) arena.old.objects }
-    ensures effect { IsStored (C.text_of consts.now) (C.items_of consts.now) arena.old arena.new modules.now result (λ w. store_module_in w (plain_name (C.text_of consts.now) (C.items_of consts.now) name) m.cell) }
-    ensures known { IsKnownAnswer (C.text_of consts.now) (C.items_of consts.now) arena.new.objects result }
+    requires registered { let see = sight C.Constants consts.now in Registered (plain_modules see.texts see.tuples modules.now) (see.heap arena.old) }
+    requires all_told { TellsAll C.Constants consts.now arena.old }
+    ensures effect { let see = sight C.Constants consts.now in IsStored see.texts see.tuples arena.old arena.new modules.now result (λ w. store_module_in w (see.name name) m.cell) }
+    ensures known { KnowsAnswer C.Constants consts.now arena.new result }
     ensures later { Later arena.old.objects arena.new.objects }
-    ensures all_told { AllTold (C.text_of consts.now) (C.items_of consts.now) arena.new.objects }
+    ensures all_told { TellsAll C.Constants consts.now arena.new }
 {
     match outer_module(consts, modules, name) {
         Some(outer) => set_attr(arena, consts, Value::Module(outer), last, Value::Module(m)),

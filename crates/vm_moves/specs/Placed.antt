@@ -5,6 +5,7 @@ use Rattle.vm_frames.specs.Calls.{Call}
 use Rattle.bc_offsets.specs.Positions.{CodeList, Listed, Starts}
 use Rattle.vm_moves.specs.Views.{View, starts_of}
 
+-- the call stands at an instruction of its code, and each of its handlers starts at one
 pub record IsPlaced (view : View) (c : Call) : Type 0 where
   pub bytes : List ℕ
   pub list : CodeList

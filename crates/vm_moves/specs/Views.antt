@@ -26,6 +26,7 @@ pub record View : Type 0 where
   pub exceptions : (x : ExcNo) → plain (values.Exc x) ≡ At x.cell
 
 module _ (view : View) where
+  -- a slot of a frame whose instructions start at these offsets
   abbrev pub slot_of : List ℕ → Slot → states.Slot
   slot_of starts (slots.Value v) = states.Value (view.plain v)
   slot_of starts slots.Null = states.Null
@@ -34,14 +35,17 @@ module _ (view : View) where
   slot_of starts (slots.Return v) = states.KeptReturn (view.plain v)
   slot_of starts (slots.Jump target count it) = states.KeptJump (position_in starts target) count it
 
+  -- a role of a frame; an import has the name of its module
   abbrev pub role_of : Name → Role → states.Role
   role_of name roles.Main = states.Main
   role_of name roles.Call = states.Called
   role_of name (roles.Import m) = states.Imported name m.cell
 
+  -- the slots
   abbrev pub slots_of : List ℕ → List Slot → List states.Slot
   slots_of starts st = map (slot_of starts) st
 
+  -- the locals
   abbrev pub locals_of : List (Option Value) → List (Option Val)
   locals_of vs = map (option_map view.plain) vs
 
@@ -55,16 +59,20 @@ entry_of starts position e = record {
   kept = option_map (λ (x : ExcNo). x.cell) e.kept;
 }
 
+-- the entries of a frame that stands at a position
 abbrev pub entries_of : List ℕ → ℕ → List Entry → List states.Entry
 entries_of starts position es = map (entry_of starts position) es
 
 module _ (view : View) where
+  -- the offsets that the instructions of a call's code start at
   abbrev pub starts_of : Call → List ℕ
   starts_of c = view.starts c.module_number c.code
 
+  -- the position of the instruction where a call stands
   abbrev pub position_of : Call → ℕ
   position_of c = position_in (starts_of c) c.at
 
+  -- the frame that a call is
   abbrev pub frame_of : Call → states.Frame
   frame_of c = record {
     module_name = view.module_name c.module_number;
@@ -82,5 +90,6 @@ module _ (view : View) where
   entered_or (Some handler) inside outside = inside
   entered_or None inside outside = outside
 
+  -- the state behind a move
   abbrev pub behind : Moved → List states.Frame → PlainWorld → State → State
   behind moved frames w outside = entered_or moved.handler (Running 0 (frame_of moved.call) frames w) outside

@@ -75,6 +75,6 @@ pub record Goes (p : Program) (old new : Calls) : Type 0 where
   pub steps : (paid : ℕ) (w : PlainWorld) → step p.library (running_of p.tables paid old.calls w) ≡ running_of p.tables 0 new.calls w
   pub runs : IsRunning p new
 
--- so it is in each program that the old calls run, where this was fetched for the first of them
+-- the calls go on so in each program that the old ones run, where this was fetched for the first of them
 abbrev pub GoesBehind : Fetched → (old new : Calls) → Type 0
 GoesBehind fetched old new = (p : Program) (row : Row) → Means p → IsRunning p old → IsReady p old row fetched → Goes p old new

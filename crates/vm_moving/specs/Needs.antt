@@ -4,18 +4,19 @@ use Rattle.vm_frames.specs.Calls.{Calls, OfRunning}
 use Rattle.vm_fetching.specs.declared.operations.PlainOp.{PlainOp}
 use Rattle.vm_fetching.specs.declared.operations.PlainOp.TheVariants as plain_ops
 
--- more slots than so many
+-- the running call has more than `count` slots
 abbrev pub HasOver : ℕ → Calls → Type 0
 HasOver count s = OfRunning (λ c. count < length c.slots) s.calls
 
--- room for a slot more
+-- the running call has room for a slot more
 abbrev pub HasRoom : Calls → Type 0
 HasRoom s = OfRunning (λ c. length c.slots < s.slot_room) s.calls
 
--- and for two
+-- the running call has room for two slots more
 abbrev pub HasRoomForTwo : Calls → Type 0
 HasRoomForTwo s = OfRunning (λ c. suc (length c.slots) < s.slot_room) s.calls
 
+-- what the operation needs: slots to take, and room for what it gives
 abbrev pub Needs : PlainOp → Calls → Type 0
 Needs plain_ops.LoadConstFalse s = HasRoom s
 Needs plain_ops.LoadConstNone s = HasRoom s

@@ -2,6 +2,7 @@
 use Rattle.vm_fetching.specs.declared.operations.NumberOp.{NumberOp}
 use Rattle.vm_fetching.specs.declared.operations.NumberOp.TheVariants as number_ops
 
+-- the operation stores a local
 abbrev pub StoresLocal : NumberOp → Type 0
 StoresLocal number_ops.StoreFast = Unit {0}
 StoresLocal number_ops.StoreFastN = Unit {0}

@@ -17,7 +17,7 @@ use Rattle.vm_walks.specs.Plain.{plain, plain_pair, plain_heap}
 use Rattle.vm_faults.proofs.Heaps.{pairs_of_plain, dict_put}
 use Rattle.vm_operators.proofs.DictKeys.{IsKnownKey}
 use Rattle.vm_methods.proofs.DictValues.{value_there, value_missing, pairs_without}
-use Rattle.vm_raising.specs.Worlds.{world_over}
+use Rattle.vm_sights.specs.Sights.{world_over}
 
 module _ (texts : StrNo → Option (List ℕ)) (tuples : ConstNo → Option (List Value)) (h : Heap Value ℕ) (names : ℕ) (is : IsA h.objects ADict names) (sound : Sound h.objects) (all : AllTold texts tuples h.objects)
     (name : StrNo) (told : IsSome (texts name)) where

@@ -14,15 +14,17 @@ use Rattle.vm_faults.specs.declared.stop.Stop.{Stop}
 use Rattle.vm_faults.specs.declared.stop.Stop.TheVariants as stops
 use Rattle.vm_faults.specs.Faults.{IsKnown, IsKnownFault}
 use Rattle.vm_faults.specs.Outcomes.{plain_stop}
-use Rattle.vm_raising.specs.Worlds.{Sight, sight, world_over}
+use Rattle.vm_sights.specs.Sights.{Sight, sight_of as sight, world_over}
 use Rattle.vm_names.specs.declared.attributes.Looked.{Looked}
 use Rattle.vm_names.specs.declared.attributes.Looked.TheVariants as looks
 
 module _ (texts : StrNo → Option (List ℕ)) (tuples : ConstNo → Option (List Value)) where
+  -- what a look-up left on the slots, as the meaning has it
   abbrev pub plain_looked : Looked → effects.Looked
   plain_looked (looks.Bound method object) = effects.Bound method (plain texts tuples object)
   plain_looked (looks.Free v) = effects.Free (plain texts tuples v)
 
+  -- the answer of a look-up, as the meaning has it
   abbrev pub plain_look : Heap Value ℕ → Result Looked Stop → Result effects.Looked primitives.Stop
   plain_look heap (Ok looked) = Ok (plain_looked looked)
   plain_look heap (Err stop) = Err (plain_stop texts tuples heap stop)

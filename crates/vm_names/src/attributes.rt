@@ -2,6 +2,7 @@
 
 ghost use Rattle.std.specs.Prelude.{[], ◌∷◌, IsSome};
 ghost use Rattle.py_effects.specs.Names.{load_method as loads_method, import_from as imports};
+ghost use Rattle.vm_sights.specs.Sights.{under};
 ghost use Rattle.vm_raising.specs.Worlds.{Stands, HasEffect};
 ghost use Rattle.vm_names.specs.Looks.{Looks};
 
@@ -25,8 +26,8 @@ pub fn load_method<C: Constants>(
     name: StrNo,
 ) -> Result<Looked, Stop>
     requires name { IsSome (C.text_of consts.now name) }
-    requires stands { Stands (C.text_of consts.now) (C.items_of consts.now) arena.now (object ∷ []) }
-    ensures { Looks (C.text_of consts.now) (C.items_of consts.now) arena.now result (λ w see. loads_method w (see.value object) (see.text name)) }
+    requires stands { under C.Constants consts.now Stands arena.now (object ∷ []) }
+    ensures { under C.Constants consts.now Looks arena.now result (λ w see. loads_method w (see.value object) (see.text name)) }
 {
     match attribute_of(arena, consts, object, name) {
         Attribute::Found(v) => Ok(Looked::Free(v)),
@@ -46,8 +47,8 @@ pub fn import_from<C: Constants>(
     name: StrNo,
 ) -> Result<Value, Stop>
     requires name { IsSome (C.text_of consts.now name) }
-    requires stands { Stands (C.text_of consts.now) (C.items_of consts.now) arena.old (object ∷ []) }
-    ensures { HasEffect (C.text_of consts.now) (C.items_of consts.now) arena.old arena.new result (λ w see. imports w (see.value object) (see.text name)) }
+    requires stands { under C.Constants consts.now Stands arena.old (object ∷ []) }
+    ensures { under C.Constants consts.now HasEffect arena.old arena.new result (λ w see. imports w (see.value object) (see.text name)) }
 {
     match attribute_of(arena, consts, object, name) {
         Attribute::Found(v) => Ok(v),

@@ -7,6 +7,7 @@ ghost use Rattle.py_primitives.specs.Builtins.{named as first_named, globals as 
 use mpy_base::{Builtin, Kind};
 use vm_walks::builtin_name;
 
+/// What names can mean that no namespace has, in the order in which a name is looked for.
 const GLOBALS: [Builtin; 39] = [
     Builtin::Bool,
     Builtin::Int,

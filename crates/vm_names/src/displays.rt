@@ -5,11 +5,13 @@ ghost use Rattle.mpy_base.specs.World.{DictObject, AList, IsA, items_at, room_at
 ghost use Rattle.mpy_base.specs.Weights.{room_for};
 ghost use Rattle.arena_heap.specs.Values.{Leads};
 ghost use Rattle.py_primitives.specs.Outcome.{making, making_list};
-ghost use Rattle.vm_raising.specs.Worlds.{Stands, Does};
+ghost use Rattle.vm_sights.specs.Sights.{under, Does};
+ghost use Rattle.vm_raising.specs.Worlds.{Stands};
 
 use arena_heap::{Arena, Constants, ListNo, Value, put_in_list};
 use vm_faults::Stop;
 
+/// The item at a place.
 fn item_at(items: &[Value], at: usize) -> Value
     requires { at < length items.now }
     ensures { slice_get items.now at ≡ Some result }
@@ -39,8 +41,8 @@ pub fn make_list<C: Constants>(
     items: &[Value],
 ) -> Result<Value, Stop>
     requires few { length items.now < 2 ^ 32 }
-    requires stands { Stands (C.text_of _consts.now) (C.items_of _consts.now) arena.old items.now }
-    ensures { Does (C.text_of _consts.now) (C.items_of _consts.now) arena.old arena.new result (λ heap see. making_list heap (map see.value items.now)) }
+    requires stands { under C.Constants _consts.now Stands arena.old items.now }
+    ensures { Does C.Constants _consts.now arena.old arena.new result (λ heap see. making_list heap (map see.value items.now)) }
 {
     match arena.make_list(items.len() as u64) {
         Ok(l) => {
@@ -53,8 +55,8 @@ pub fn make_list<C: Constants>(
 
 /// A new dict, empty, with room for a number of pairs.
 pub fn make_dict<C: Constants>(arena: &mut Arena, _consts: &C, pairs: u32) -> Result<Value, Stop>
-    requires { Stands (C.text_of _consts.now) (C.items_of _consts.now) arena.old [] }
-    ensures { Does (C.text_of _consts.now) (C.items_of _consts.now) arena.old arena.new result (λ heap see. making heap (DictObject [] (room_for pairs))) }
+    requires { under C.Constants _consts.now Stands arena.old [] }
+    ensures { Does C.Constants _consts.now arena.old arena.new result (λ heap see. making heap (DictObject [] (room_for pairs))) }
 {
     match arena.make_dict(pairs) {
         Ok(dict) => Ok(Value::Dict(dict)),

@@ -1,10 +1,11 @@
-//! Names of modules.
+//! Names of a module: its namespace, and behind that the built-ins.
 
 ghost use Rattle.std.specs.Prelude.{◌≡◌, [], ◌∷◌, IsSome};
 ghost use Rattle.mpy_base.specs.World.{ADict, IsA};
 ghost use Rattle.arena_objects.specs.Iterables.{or_nothing};
 ghost use Rattle.py_primitives.specs.Builtins.{global_named as builtin_of_name};
 ghost use Rattle.py_effects.specs.Names.{load_global as loads, store_global as stores, delete_global as deletes, built_in as finds_builtin};
+ghost use Rattle.vm_sights.specs.Sights.{under};
 ghost use Rattle.vm_raising.specs.Worlds.{Stands, HasEffect};
 
 use crate::builtins::global_named;
@@ -24,8 +25,8 @@ pub(crate) fn name_bytes<C: Constants>(consts: &C, name: StrNo) -> &[u8]
 /// What a name means that its namespace lacks.
 fn load_builtin<C: Constants>(_arena: &Arena, consts: &C, name: StrNo) -> Result<Value, Stop>
     requires name { IsSome (C.text_of consts.now name) }
-    requires stands { Stands (C.text_of consts.now) (C.items_of consts.now) _arena.now [] }
-    ensures { HasEffect (C.text_of consts.now) (C.items_of consts.now) _arena.now _arena.now result (λ w see. finds_builtin w (see.text name) (builtin_of_name (see.text name))) }
+    requires stands { under C.Constants consts.now Stands _arena.now [] }
+    ensures { under C.Constants consts.now HasEffect _arena.now _arena.now result (λ w see. finds_builtin w (see.text name) (builtin_of_name (see.text name))) }
 {
     match global_named(name_bytes(consts, name)) {
         Some(b) => Ok(Value::Built(b)),
@@ -42,8 +43,8 @@ pub fn load_global<C: Constants>(
 ) -> Result<Value, Stop>
     requires names { IsA arena.now.objects ADict names.cell }
     requires name { IsSome (C.text_of consts.now name) }
-    requires stands { Stands (C.text_of consts.now) (C.items_of consts.now) arena.now [] }
-    ensures { HasEffect (C.text_of consts.now) (C.items_of consts.now) arena.now arena.now result (λ w see. loads w names.cell (see.text name)) }
+    requires stands { under C.Constants consts.now Stands arena.now [] }
+    ensures { under C.Constants consts.now HasEffect arena.now arena.now result (λ w see. loads w names.cell (see.text name)) }
 {
     arena.sound_law();
     match dict_get(arena, consts, names, Value::Str(name)) {
@@ -62,8 +63,8 @@ pub fn store_global<C: Constants>(
 ) -> Result<Value, Stop>
     requires names { IsA arena.old.objects ADict names.cell }
     requires name { IsSome (C.text_of consts.now name) }
-    requires stands { Stands (C.text_of consts.now) (C.items_of consts.now) arena.old (v ∷ []) }
-    ensures { HasEffect (C.text_of consts.now) (C.items_of consts.now) arena.old arena.new result (λ w see. stores w names.cell (see.text name) (see.value v)) }
+    requires stands { under C.Constants consts.now Stands arena.old (v ∷ []) }
+    ensures { under C.Constants consts.now HasEffect arena.old arena.new result (λ w see. stores w names.cell (see.text name) (see.value v)) }
 {
     set_item(arena, consts, Value::Dict(names), Value::Str(name), v)
 }
@@ -77,8 +78,8 @@ pub fn delete_global<C: Constants>(
 ) -> Result<Value, Stop>
     requires names { IsA arena.old.objects ADict names.cell }
     requires name { IsSome (C.text_of consts.now name) }
-    requires stands { Stands (C.text_of consts.now) (C.items_of consts.now) arena.old [] }
-    ensures { HasEffect (C.text_of consts.now) (C.items_of consts.now) arena.old arena.new result (λ w see. deletes w names.cell (see.text name)) }
+    requires stands { under C.Constants consts.now Stands arena.old [] }
+    ensures { under C.Constants consts.now HasEffect arena.old arena.new result (λ w see. deletes w names.cell (see.text name)) }
 {
     arena.sound_law();
     match dict_delete(arena, consts, names, Value::Str(name)) {

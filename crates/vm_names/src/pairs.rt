@@ -2,6 +2,7 @@
 
 ghost use Rattle.std.specs.Prelude.{[], ◌∷◌};
 ghost use Rattle.py_effects.specs.Names.{store_pair as stores};
+ghost use Rattle.vm_sights.specs.Sights.{under};
 ghost use Rattle.vm_raising.specs.Worlds.{Stands, HasEffect};
 
 use arena_heap::{Arena, Constants, Value};
@@ -17,8 +18,8 @@ pub fn store_pair<C: Constants>(
     key: Value,
     v: Value,
 ) -> Result<Value, Stop>
-    requires { Stands (C.text_of consts.now) (C.items_of consts.now) arena.old (object ∷ key ∷ v ∷ []) }
-    ensures { HasEffect (C.text_of consts.now) (C.items_of consts.now) arena.old arena.new result (λ w see. stores w (see.value object) (see.value key) (see.value v)) }
+    requires { under C.Constants consts.now Stands arena.old (object ∷ key ∷ v ∷ []) }
+    ensures { under C.Constants consts.now HasEffect arena.old arena.new result (λ w see. stores w (see.value object) (see.value key) (see.value v)) }
 {
     match container_of(arena, object) {
         Container::Dict(_) => set_item(arena, consts, object, key, v),

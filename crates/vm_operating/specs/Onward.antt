@@ -39,7 +39,7 @@ module _ (texts : StrNo → Option (List ℕ)) (tuples : ConstNo → Option (Lis
     pub slots_known : (c : Call) → All (IsKnownSlot texts tuples objects) c.slots → All (IsKnownSlot texts tuples objects) (slots_of c)
     pub locals_known : (c : Call) → All (λ v. IfSome v (IsKnown texts tuples objects)) c.locals → All (λ v. IfSome v (IsKnown texts tuples objects)) (locals_of c)
 
-  -- so it is where the instruction is done, and where it stops the calls stay
+  -- the calls have gone on where the instruction is done, and are as they were where it stopped
   abbrev pub GoesOnward : Objects Value ℕ → (offset : ℕ) → (old new : Calls) → Result (Unit {0}) Stop → Type 0
   GoesOnward objects offset old new (Ok done) = Onward objects offset old new
   GoesOnward objects offset old new (Err stop) = new ≡ old

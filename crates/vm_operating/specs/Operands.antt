@@ -20,5 +20,6 @@ pub record HasOperandIn (slot : ℕ) (c : Call) : Type 0 where
   pub there : slice_get c.slots slot ≡ Some operand
   pub is : IsOperand operand
 
+-- a value lies in the running call's slot, or the slot is empty
 abbrev pub HasOperand : (slot : ℕ) → List Call → Type 0
 HasOperand slot calls = OfRunning (HasOperandIn slot) calls

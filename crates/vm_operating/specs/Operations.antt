@@ -7,6 +7,7 @@ use Rattle.vm_fetching.specs.declared.operations.NumberOp.TheVariants as number_
 use Rattle.vm_fetching.specs.declared.operations.NameOp.{NameOp}
 use Rattle.vm_fetching.specs.declared.operations.NameOp.TheVariants as name_ops
 
+-- the operations without an operand that act on values and frames
 abbrev pub IsPlainOperation : PlainOp → Type 0
 IsPlainOperation plain_ops.LoadConstFalse = Unit {0}
 IsPlainOperation plain_ops.LoadConstNone = Unit {0}
@@ -26,6 +27,7 @@ IsPlainOperation plain_ops.ReturnValue = ⊥
 IsPlainOperation plain_ops.RaiseLast = ⊥
 IsPlainOperation plain_ops.RaiseObj = ⊥
 
+-- the operations with a number that act on values and frames
 abbrev pub IsNumberOperation : NumberOp → Type 0
 IsNumberOperation number_ops.LoadFast = Unit {0}
 IsNumberOperation number_ops.LoadFastN = Unit {0}

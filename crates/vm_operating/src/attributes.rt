@@ -1,6 +1,7 @@
-//! Attributes.
+//! Operations on attributes, as they were fetched for calls of a program.
 
 ghost use Rattle.vm_fetching.specs.declared.instruction.Instruction.TheVariants as fetched;
+ghost use Rattle.vm_sights.specs.Sights.{under};
 ghost use Rattle.vm_fetching.specs.declared.operations.NameOp.TheVariants as name_ops;
 ghost use Rattle.vm_known.specs.Acting.{RunsOver};
 ghost use Rattle.vm_operating.specs.Keeping.{ActsKeeping};
@@ -19,8 +20,8 @@ pub(crate) fn load_attr<C: Constants>(
     name: StrNo,
     end: u32,
 ) -> Result<(), Stop>
-    requires runs { RunsOver (C.text_of consts.now) (C.items_of consts.now) arena.old frames.old (record { instruction = fetched.Name name_ops.LoadAttr name; end = end }) }
-    ensures acts { ActsKeeping (C.text_of consts.now) (C.items_of consts.now) (record { instruction = fetched.Name name_ops.LoadAttr name; end = end }) 0 arena.old arena.new frames.old frames.new result }
+    requires runs { under C.Constants consts.now RunsOver arena.old frames.old (record { instruction = fetched.Name name_ops.LoadAttr name; end = end }) }
+    ensures acts { under C.Constants consts.now ActsKeeping (record { instruction = fetched.Name name_ops.LoadAttr name; end = end }) 0 arena.old arena.new frames.old frames.new result }
 {
     acting_law();
     tops_law();
@@ -35,8 +36,8 @@ pub(crate) fn load_method<C: Constants>(
     name: StrNo,
     end: u32,
 ) -> Result<(), Stop>
-    requires runs { RunsOver (C.text_of consts.now) (C.items_of consts.now) arena.now frames.old (record { instruction = fetched.Name name_ops.LoadMethod name; end = end }) }
-    ensures acts { ActsKeeping (C.text_of consts.now) (C.items_of consts.now) (record { instruction = fetched.Name name_ops.LoadMethod name; end = end }) 0 arena.now arena.now frames.old frames.new result }
+    requires runs { under C.Constants consts.now RunsOver arena.now frames.old (record { instruction = fetched.Name name_ops.LoadMethod name; end = end }) }
+    ensures acts { under C.Constants consts.now ActsKeeping (record { instruction = fetched.Name name_ops.LoadMethod name; end = end }) 0 arena.now arena.now frames.old frames.new result }
 {
     acting_law();
     tops_law();
@@ -51,8 +52,8 @@ pub(crate) fn store_attr<C: Constants>(
     name: StrNo,
     end: u32,
 ) -> Result<(), Stop>
-    requires runs { RunsOver (C.text_of consts.now) (C.items_of consts.now) arena.old frames.old (record { instruction = fetched.Name name_ops.StoreAttr name; end = end }) }
-    ensures acts { ActsKeeping (C.text_of consts.now) (C.items_of consts.now) (record { instruction = fetched.Name name_ops.StoreAttr name; end = end }) 0 arena.old arena.new frames.old frames.new result }
+    requires runs { under C.Constants consts.now RunsOver arena.old frames.old (record { instruction = fetched.Name name_ops.StoreAttr name; end = end }) }
+    ensures acts { under C.Constants consts.now ActsKeeping (record { instruction = fetched.Name name_ops.StoreAttr name; end = end }) 0 arena.old arena.new frames.old frames.new result }
 {
     acting_law();
     tops_law();
@@ -67,8 +68,8 @@ pub(crate) fn import_from<C: Constants>(
     name: StrNo,
     end: u32,
 ) -> Result<(), Stop>
-    requires runs { RunsOver (C.text_of consts.now) (C.items_of consts.now) arena.old frames.old (record { instruction = fetched.Name name_ops.ImportFrom name; end = end }) }
-    ensures acts { ActsKeeping (C.text_of consts.now) (C.items_of consts.now) (record { instruction = fetched.Name name_ops.ImportFrom name; end = end }) 0 arena.old arena.new frames.old frames.new result }
+    requires runs { under C.Constants consts.now RunsOver arena.old frames.old (record { instruction = fetched.Name name_ops.ImportFrom name; end = end }) }
+    ensures acts { under C.Constants consts.now ActsKeeping (record { instruction = fetched.Name name_ops.ImportFrom name; end = end }) 0 arena.old arena.new frames.old frames.new result }
 {
     acting_law();
     tops_law();

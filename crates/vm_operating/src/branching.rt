@@ -3,6 +3,7 @@
 ghost use Rattle.std.specs.Prelude.{◌≡◌, ◌<◌, ℕ, length};
 ghost use Rattle.mpy_base.specs.Val.{PlainWorld};
 ghost use Rattle.bc_machine.specs.Library.{Jumps};
+ghost use Rattle.vm_sights.specs.Sights.{under};
 ghost use Rattle.vm_frames.specs.Calls.{OfRunning, on_running};
 ghost use Rattle.vm_step.specs.Shown.{Tables, Steps, IsNext, IsAt, Tests};
 ghost use Rattle.vm_fetching.specs.Operations.{jump_op};
@@ -50,8 +51,8 @@ pub(crate) fn test_jump<C: Constants>(
     end: u32,
 ) -> Result<(), Stop>
     requires test { IsTest op }
-    requires runs { RunsOver (C.text_of consts.now) (C.items_of consts.now) arena.now frames.old (record { instruction = fetched.Jump op target; end = end }) }
-    ensures acts { ActsKeeping (C.text_of consts.now) (C.items_of consts.now) (record { instruction = fetched.Jump op target; end = end }) 0 arena.now arena.now frames.old frames.new result }
+    requires runs { under C.Constants consts.now RunsOver arena.now frames.old (record { instruction = fetched.Jump op target; end = end }) }
+    ensures acts { under C.Constants consts.now ActsKeeping (record { instruction = fetched.Jump op target; end = end }) 0 arena.now arena.now frames.old frames.new result }
 {
     acting_law();
     tops_law();

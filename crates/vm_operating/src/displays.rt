@@ -1,6 +1,7 @@
 //! Displays, and sequences that are unpacked. Values are on their way in memory that the caller lends, a place for each.
 
 ghost use Rattle.std.specs.Prelude.{◌≡◌, length};
+ghost use Rattle.vm_sights.specs.Sights.{under};
 ghost use Rattle.vm_fetching.specs.declared.instruction.Instruction.TheVariants as fetched;
 ghost use Rattle.vm_fetching.specs.declared.operations.NumberOp.TheVariants as number_ops;
 ghost use Rattle.vm_known.specs.Acting.{RunsOver};
@@ -22,8 +23,8 @@ pub(crate) fn build_tuple<C: Constants>(
     end: u32,
 ) -> Result<(), Stop>
     requires places { length items.old ≡ n }
-    requires runs { RunsOver (C.text_of consts.now) (C.items_of consts.now) arena.old frames.old (record { instruction = fetched.Number number_ops.BuildTuple n; end = end }) }
-    ensures acts { ActsKeeping (C.text_of consts.now) (C.items_of consts.now) (record { instruction = fetched.Number number_ops.BuildTuple n; end = end }) 0 arena.old arena.new frames.old frames.new result }
+    requires runs { under C.Constants consts.now RunsOver arena.old frames.old (record { instruction = fetched.Number number_ops.BuildTuple n; end = end }) }
+    ensures acts { under C.Constants consts.now ActsKeeping (record { instruction = fetched.Number number_ops.BuildTuple n; end = end }) 0 arena.old arena.new frames.old frames.new result }
 {
     acting_law();
     tops_law();
@@ -41,8 +42,8 @@ pub(crate) fn build_list<C: Constants>(
     end: u32,
 ) -> Result<(), Stop>
     requires places { length items.old ≡ n }
-    requires runs { RunsOver (C.text_of consts.now) (C.items_of consts.now) arena.old frames.old (record { instruction = fetched.Number number_ops.BuildList n; end = end }) }
-    ensures acts { ActsKeeping (C.text_of consts.now) (C.items_of consts.now) (record { instruction = fetched.Number number_ops.BuildList n; end = end }) 0 arena.old arena.new frames.old frames.new result }
+    requires runs { under C.Constants consts.now RunsOver arena.old frames.old (record { instruction = fetched.Number number_ops.BuildList n; end = end }) }
+    ensures acts { under C.Constants consts.now ActsKeeping (record { instruction = fetched.Number number_ops.BuildList n; end = end }) 0 arena.old arena.new frames.old frames.new result }
 {
     acting_law();
     tops_law();
@@ -58,8 +59,8 @@ pub(crate) fn build_map<C: Constants>(
     pairs: u32,
     end: u32,
 ) -> Result<(), Stop>
-    requires runs { RunsOver (C.text_of consts.now) (C.items_of consts.now) arena.old frames.old (record { instruction = fetched.Number number_ops.BuildMap pairs; end = end }) }
-    ensures acts { ActsKeeping (C.text_of consts.now) (C.items_of consts.now) (record { instruction = fetched.Number number_ops.BuildMap pairs; end = end }) 0 arena.old arena.new frames.old frames.new result }
+    requires runs { under C.Constants consts.now RunsOver arena.old frames.old (record { instruction = fetched.Number number_ops.BuildMap pairs; end = end }) }
+    ensures acts { under C.Constants consts.now ActsKeeping (record { instruction = fetched.Number number_ops.BuildMap pairs; end = end }) 0 arena.old arena.new frames.old frames.new result }
 {
     acting_law();
     vm_instructions::build_map(frames, arena, consts, pairs, end)
@@ -75,8 +76,8 @@ pub(crate) fn unpack_sequence<C: Constants>(
     end: u32,
 ) -> Result<(), Stop>
     requires places { length items.old ≡ n }
-    requires runs { RunsOver (C.text_of consts.now) (C.items_of consts.now) arena.old frames.old (record { instruction = fetched.Number number_ops.UnpackSequence n; end = end }) }
-    ensures acts { ActsKeeping (C.text_of consts.now) (C.items_of consts.now) (record { instruction = fetched.Number number_ops.UnpackSequence n; end = end }) 0 arena.old arena.new frames.old frames.new result }
+    requires runs { under C.Constants consts.now RunsOver arena.old frames.old (record { instruction = fetched.Number number_ops.UnpackSequence n; end = end }) }
+    ensures acts { under C.Constants consts.now ActsKeeping (record { instruction = fetched.Number number_ops.UnpackSequence n; end = end }) 0 arena.old arena.new frames.old frames.new result }
 {
     acting_law();
     tops_law();

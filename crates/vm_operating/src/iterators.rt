@@ -1,6 +1,7 @@
-//! Iterators.
+//! Operations on iterators, as they were fetched for calls of a program.
 
 ghost use Rattle.vm_fetching.specs.declared.instruction.Instruction.TheVariants as fetched;
+ghost use Rattle.vm_sights.specs.Sights.{under};
 ghost use Rattle.vm_fetching.specs.declared.operations.JumpOp.TheVariants as jump_ops;
 ghost use Rattle.vm_fetching.specs.declared.operations.PlainOp.TheVariants as plain_ops;
 ghost use Rattle.vm_moving.specs.Moving.{fetched_plain};
@@ -20,8 +21,8 @@ pub(crate) fn get_iter_stack<C: Constants>(
     consts: &C,
     end: u32,
 ) -> Result<(), Stop>
-    requires runs { RunsOver (C.text_of consts.now) (C.items_of consts.now) arena.now frames.old (fetched_plain plain_ops.GetIterStack end) }
-    ensures acts { ActsKeeping (C.text_of consts.now) (C.items_of consts.now) (fetched_plain plain_ops.GetIterStack end) 0 arena.now arena.now frames.old frames.new result }
+    requires runs { under C.Constants consts.now RunsOver arena.now frames.old (fetched_plain plain_ops.GetIterStack end) }
+    ensures acts { under C.Constants consts.now ActsKeeping (fetched_plain plain_ops.GetIterStack end) 0 arena.now arena.now frames.old frames.new result }
 {
     acting_law();
     tops_law();
@@ -36,8 +37,8 @@ pub(crate) fn for_iter<C: Constants>(
     target: u32,
     end: u32,
 ) -> Result<(), Stop>
-    requires runs { RunsOver (C.text_of consts.now) (C.items_of consts.now) arena.old frames.old (record { instruction = fetched.Jump jump_ops.ForIter target; end = end }) }
-    ensures acts { ActsKeeping (C.text_of consts.now) (C.items_of consts.now) (record { instruction = fetched.Jump jump_ops.ForIter target; end = end }) 0 arena.old arena.new frames.old frames.new result }
+    requires runs { under C.Constants consts.now RunsOver arena.old frames.old (record { instruction = fetched.Jump jump_ops.ForIter target; end = end }) }
+    ensures acts { under C.Constants consts.now ActsKeeping (record { instruction = fetched.Jump jump_ops.ForIter target; end = end }) 0 arena.old arena.new frames.old frames.new result }
 {
     acting_law();
     tops_law();

@@ -1,6 +1,7 @@
-//! Locals.
+//! Operations on locals, as they were fetched for calls of a program.
 
 ghost use Rattle.vm_fetching.specs.declared.instruction.Instruction.TheVariants as fetched;
+ghost use Rattle.vm_sights.specs.Sights.{under};
 ghost use Rattle.vm_fetching.specs.declared.operations.NumberOp.TheVariants as number_ops;
 ghost use Rattle.vm_known.specs.Acting.{RunsOver};
 ghost use Rattle.vm_operating.specs.Keeping.{ActsKeeping};
@@ -18,8 +19,8 @@ pub(crate) fn load_fast<C: Constants>(
     n: u32,
     end: u32,
 ) -> Result<(), Stop>
-    requires runs { RunsOver (C.text_of consts.now) (C.items_of consts.now) arena.now frames.old (record { instruction = fetched.Number number_ops.LoadFast n; end = end }) }
-    ensures acts { ActsKeeping (C.text_of consts.now) (C.items_of consts.now) (record { instruction = fetched.Number number_ops.LoadFast n; end = end }) 0 arena.now arena.now frames.old frames.new result }
+    requires runs { under C.Constants consts.now RunsOver arena.now frames.old (record { instruction = fetched.Number number_ops.LoadFast n; end = end }) }
+    ensures acts { under C.Constants consts.now ActsKeeping (record { instruction = fetched.Number number_ops.LoadFast n; end = end }) 0 arena.now arena.now frames.old frames.new result }
 {
     acting_law();
     vm_instructions::load_fast(frames, arena, consts, n, end)
@@ -33,8 +34,8 @@ pub(crate) fn load_fast_n<C: Constants>(
     n: u32,
     end: u32,
 ) -> Result<(), Stop>
-    requires runs { RunsOver (C.text_of consts.now) (C.items_of consts.now) arena.now frames.old (record { instruction = fetched.Number number_ops.LoadFastN n; end = end }) }
-    ensures acts { ActsKeeping (C.text_of consts.now) (C.items_of consts.now) (record { instruction = fetched.Number number_ops.LoadFastN n; end = end }) 0 arena.now arena.now frames.old frames.new result }
+    requires runs { under C.Constants consts.now RunsOver arena.now frames.old (record { instruction = fetched.Number number_ops.LoadFastN n; end = end }) }
+    ensures acts { under C.Constants consts.now ActsKeeping (record { instruction = fetched.Number number_ops.LoadFastN n; end = end }) 0 arena.now arena.now frames.old frames.new result }
 {
     acting_law();
     vm_instructions::load_fast(frames, arena, consts, n, end)
@@ -48,8 +49,8 @@ pub(crate) fn delete_fast<C: Constants>(
     n: u32,
     end: u32,
 ) -> Result<(), Stop>
-    requires runs { RunsOver (C.text_of consts.now) (C.items_of consts.now) arena.now frames.old (record { instruction = fetched.Number number_ops.DeleteFast n; end = end }) }
-    ensures acts { ActsKeeping (C.text_of consts.now) (C.items_of consts.now) (record { instruction = fetched.Number number_ops.DeleteFast n; end = end }) 0 arena.now arena.now frames.old frames.new result }
+    requires runs { under C.Constants consts.now RunsOver arena.now frames.old (record { instruction = fetched.Number number_ops.DeleteFast n; end = end }) }
+    ensures acts { under C.Constants consts.now ActsKeeping (record { instruction = fetched.Number number_ops.DeleteFast n; end = end }) 0 arena.now arena.now frames.old frames.new result }
 {
     acting_law();
     vm_instructions::delete_fast(frames, arena, consts, n, end)

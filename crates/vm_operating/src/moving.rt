@@ -1,6 +1,7 @@
 //! Instructions that move frames alone, over an arena that stays.
 
 ghost use Rattle.vm_fetching.specs.declared.instruction.Instruction.TheVariants as fetched;
+ghost use Rattle.vm_sights.specs.Sights.{under};
 ghost use Rattle.vm_fetching.specs.declared.operations.JumpOp.TheVariants as jump_ops;
 ghost use Rattle.vm_fetching.specs.declared.operations.NameOp.TheVariants as name_ops;
 ghost use Rattle.vm_fetching.specs.declared.operations.NumberOp.TheVariants as number_ops;
@@ -28,8 +29,8 @@ pub fn move_on<C: Constants>(
     end: u32,
 ) -> Result<(), Stop>
     requires moves { MovesSlots op }
-    requires runs { RunsOver (C.text_of _consts.now) (C.items_of _consts.now) _arena.now frames.old (fetched_plain op end) }
-    ensures acts { ActsKeeping (C.text_of _consts.now) (C.items_of _consts.now) (fetched_plain op end) 0 _arena.now _arena.now frames.old frames.new result }
+    requires runs { under C.Constants _consts.now RunsOver _arena.now frames.old (fetched_plain op end) }
+    ensures acts { under C.Constants _consts.now ActsKeeping (fetched_plain op end) 0 _arena.now _arena.now frames.old frames.new result }
 {
     acting_law();
     move_slots(frames, op, end);
@@ -44,8 +45,8 @@ pub fn store_fast<C: Constants>(
     n: u32,
     end: u32,
 ) -> Result<(), Stop>
-    requires runs { RunsOver (C.text_of _consts.now) (C.items_of _consts.now) _arena.now frames.old (record { instruction = fetched.Number number_ops.StoreFast n; end = end }) }
-    ensures acts { ActsKeeping (C.text_of _consts.now) (C.items_of _consts.now) (record { instruction = fetched.Number number_ops.StoreFast n; end = end }) 0 _arena.now _arena.now frames.old frames.new result }
+    requires runs { under C.Constants _consts.now RunsOver _arena.now frames.old (record { instruction = fetched.Number number_ops.StoreFast n; end = end }) }
+    ensures acts { under C.Constants _consts.now ActsKeeping (record { instruction = fetched.Number number_ops.StoreFast n; end = end }) 0 _arena.now _arena.now frames.old frames.new result }
 {
     acting_law();
     tops_law();
@@ -61,8 +62,8 @@ pub fn store_fast_n<C: Constants>(
     n: u32,
     end: u32,
 ) -> Result<(), Stop>
-    requires runs { RunsOver (C.text_of _consts.now) (C.items_of _consts.now) _arena.now frames.old (record { instruction = fetched.Number number_ops.StoreFastN n; end = end }) }
-    ensures acts { ActsKeeping (C.text_of _consts.now) (C.items_of _consts.now) (record { instruction = fetched.Number number_ops.StoreFastN n; end = end }) 0 _arena.now _arena.now frames.old frames.new result }
+    requires runs { under C.Constants _consts.now RunsOver _arena.now frames.old (record { instruction = fetched.Number number_ops.StoreFastN n; end = end }) }
+    ensures acts { under C.Constants _consts.now ActsKeeping (record { instruction = fetched.Number number_ops.StoreFastN n; end = end }) 0 _arena.now _arena.now frames.old frames.new result }
 {
     acting_law();
     tops_law();
@@ -78,8 +79,8 @@ pub fn load_int<C: Constants>(
     n: i32,
     end: u32,
 ) -> Result<(), Stop>
-    requires runs { RunsOver (C.text_of _consts.now) (C.items_of _consts.now) _arena.now frames.old (record { instruction = fetched.Int n; end = end }) }
-    ensures acts { ActsKeeping (C.text_of _consts.now) (C.items_of _consts.now) (record { instruction = fetched.Int n; end = end }) 0 _arena.now _arena.now frames.old frames.new result }
+    requires runs { under C.Constants _consts.now RunsOver _arena.now frames.old (record { instruction = fetched.Int n; end = end }) }
+    ensures acts { under C.Constants _consts.now ActsKeeping (record { instruction = fetched.Int n; end = end }) 0 _arena.now _arena.now frames.old frames.new result }
 {
     acting_law();
     load_small(frames, n, end);
@@ -94,8 +95,8 @@ pub fn load_text<C: Constants>(
     text: StrNo,
     end: u32,
 ) -> Result<(), Stop>
-    requires runs { RunsOver (C.text_of _consts.now) (C.items_of _consts.now) _arena.now frames.old (record { instruction = fetched.Name name_ops.LoadConstString text; end = end }) }
-    ensures acts { ActsKeeping (C.text_of _consts.now) (C.items_of _consts.now) (record { instruction = fetched.Name name_ops.LoadConstString text; end = end }) 0 _arena.now _arena.now frames.old frames.new result }
+    requires runs { under C.Constants _consts.now RunsOver _arena.now frames.old (record { instruction = fetched.Name name_ops.LoadConstString text; end = end }) }
+    ensures acts { under C.Constants _consts.now ActsKeeping (record { instruction = fetched.Name name_ops.LoadConstString text; end = end }) 0 _arena.now _arena.now frames.old frames.new result }
 {
     acting_law();
     load_str(frames, text, end);
@@ -110,8 +111,8 @@ pub fn load_object<C: Constants>(
     v: Value,
     end: u32,
 ) -> Result<(), Stop>
-    requires runs { RunsOver (C.text_of _consts.now) (C.items_of _consts.now) _arena.now frames.old (record { instruction = fetched.Object v; end = end }) }
-    ensures acts { ActsKeeping (C.text_of _consts.now) (C.items_of _consts.now) (record { instruction = fetched.Object v; end = end }) 0 _arena.now _arena.now frames.old frames.new result }
+    requires runs { under C.Constants _consts.now RunsOver _arena.now frames.old (record { instruction = fetched.Object v; end = end }) }
+    ensures acts { under C.Constants _consts.now ActsKeeping (record { instruction = fetched.Object v; end = end }) 0 _arena.now _arena.now frames.old frames.new result }
 {
     acting_law();
     load_constant(frames, v, end);
@@ -126,8 +127,8 @@ pub fn jump<C: Constants>(
     target: u32,
     end: u32,
 ) -> Result<(), Stop>
-    requires runs { RunsOver (C.text_of _consts.now) (C.items_of _consts.now) _arena.now frames.old (record { instruction = fetched.Jump jump_ops.Jump target; end = end }) }
-    ensures acts { ActsKeeping (C.text_of _consts.now) (C.items_of _consts.now) (record { instruction = fetched.Jump jump_ops.Jump target; end = end }) 0 _arena.now _arena.now frames.old frames.new result }
+    requires runs { under C.Constants _consts.now RunsOver _arena.now frames.old (record { instruction = fetched.Jump jump_ops.Jump target; end = end }) }
+    ensures acts { under C.Constants _consts.now ActsKeeping (record { instruction = fetched.Jump jump_ops.Jump target; end = end }) 0 _arena.now _arena.now frames.old frames.new result }
 {
     acting_law();
     jump_on(frames, target, end);
@@ -142,8 +143,8 @@ pub(crate) fn setup_except<C: Constants>(
     handler: u32,
     end: u32,
 ) -> Result<(), Stop>
-    requires runs { RunsOver (C.text_of _consts.now) (C.items_of _consts.now) _arena.now frames.old (record { instruction = fetched.Jump jump_ops.SetupExcept handler; end = end }) }
-    ensures acts { ActsKeeping (C.text_of _consts.now) (C.items_of _consts.now) (record { instruction = fetched.Jump jump_ops.SetupExcept handler; end = end }) 0 _arena.now _arena.now frames.old frames.new result }
+    requires runs { under C.Constants _consts.now RunsOver _arena.now frames.old (record { instruction = fetched.Jump jump_ops.SetupExcept handler; end = end }) }
+    ensures acts { under C.Constants _consts.now ActsKeeping (record { instruction = fetched.Jump jump_ops.SetupExcept handler; end = end }) 0 _arena.now _arena.now frames.old frames.new result }
 {
     acting_law();
     begin_except(frames, handler, end);
@@ -158,8 +159,8 @@ pub(crate) fn setup_finally<C: Constants>(
     handler: u32,
     end: u32,
 ) -> Result<(), Stop>
-    requires runs { RunsOver (C.text_of _consts.now) (C.items_of _consts.now) _arena.now frames.old (record { instruction = fetched.Jump jump_ops.SetupFinally handler; end = end }) }
-    ensures acts { ActsKeeping (C.text_of _consts.now) (C.items_of _consts.now) (record { instruction = fetched.Jump jump_ops.SetupFinally handler; end = end }) 0 _arena.now _arena.now frames.old frames.new result }
+    requires runs { under C.Constants _consts.now RunsOver _arena.now frames.old (record { instruction = fetched.Jump jump_ops.SetupFinally handler; end = end }) }
+    ensures acts { under C.Constants _consts.now ActsKeeping (record { instruction = fetched.Jump jump_ops.SetupFinally handler; end = end }) 0 _arena.now _arena.now frames.old frames.new result }
 {
     acting_law();
     begin_finally(frames, handler, end);
@@ -174,8 +175,8 @@ pub(crate) fn pop_except_jump<C: Constants>(
     target: u32,
     end: u32,
 ) -> Result<(), Stop>
-    requires runs { RunsOver (C.text_of _consts.now) (C.items_of _consts.now) _arena.now frames.old (record { instruction = fetched.Jump jump_ops.PopExceptJump target; end = end }) }
-    ensures acts { ActsKeeping (C.text_of _consts.now) (C.items_of _consts.now) (record { instruction = fetched.Jump jump_ops.PopExceptJump target; end = end }) 0 _arena.now _arena.now frames.old frames.new result }
+    requires runs { under C.Constants _consts.now RunsOver _arena.now frames.old (record { instruction = fetched.Jump jump_ops.PopExceptJump target; end = end }) }
+    ensures acts { under C.Constants _consts.now ActsKeeping (record { instruction = fetched.Jump jump_ops.PopExceptJump target; end = end }) 0 _arena.now _arena.now frames.old frames.new result }
 {
     acting_law();
     end_except(frames, target, end);
@@ -191,8 +192,8 @@ pub fn unwind_jump<C: Constants>(
     byte: u8,
     end: u32,
 ) -> Result<(), Stop>
-    requires runs { RunsOver (C.text_of _consts.now) (C.items_of _consts.now) _arena.now frames.old (record { instruction = fetched.Unwind target byte; end = end }) }
-    ensures acts { ActsKeeping (C.text_of _consts.now) (C.items_of _consts.now) (record { instruction = fetched.Unwind target byte; end = end }) 0 _arena.now _arena.now frames.old frames.new result }
+    requires runs { under C.Constants _consts.now RunsOver _arena.now frames.old (record { instruction = fetched.Unwind target byte; end = end }) }
+    ensures acts { under C.Constants _consts.now ActsKeeping (record { instruction = fetched.Unwind target byte; end = end }) 0 _arena.now _arena.now frames.old frames.new result }
 {
     acting_law();
     jump_out(frames, target, byte, end);

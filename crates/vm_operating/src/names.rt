@@ -1,6 +1,7 @@
-//! Names of modules.
+//! Operations on the names of a module, as they were fetched for calls of a program.
 
 ghost use Rattle.vm_fetching.specs.declared.instruction.Instruction.TheVariants as fetched;
+ghost use Rattle.vm_sights.specs.Sights.{under};
 ghost use Rattle.vm_fetching.specs.declared.operations.NameOp.TheVariants as name_ops;
 ghost use Rattle.vm_known.specs.Acting.{RunsOver};
 ghost use Rattle.vm_operating.specs.Keeping.{ActsKeeping};
@@ -19,8 +20,8 @@ pub(crate) fn load_name<C: Constants>(
     name: StrNo,
     end: u32,
 ) -> Result<(), Stop>
-    requires runs { RunsOver (C.text_of consts.now) (C.items_of consts.now) arena.now frames.old (record { instruction = fetched.Name name_ops.LoadName name; end = end }) }
-    ensures acts { ActsKeeping (C.text_of consts.now) (C.items_of consts.now) (record { instruction = fetched.Name name_ops.LoadName name; end = end }) 0 arena.now arena.now frames.old frames.new result }
+    requires runs { under C.Constants consts.now RunsOver arena.now frames.old (record { instruction = fetched.Name name_ops.LoadName name; end = end }) }
+    ensures acts { under C.Constants consts.now ActsKeeping (record { instruction = fetched.Name name_ops.LoadName name; end = end }) 0 arena.now arena.now frames.old frames.new result }
 {
     acting_law();
     vm_instructions::load_name(frames, arena, consts, name, end)
@@ -34,8 +35,8 @@ pub(crate) fn load_global<C: Constants>(
     name: StrNo,
     end: u32,
 ) -> Result<(), Stop>
-    requires runs { RunsOver (C.text_of consts.now) (C.items_of consts.now) arena.now frames.old (record { instruction = fetched.Name name_ops.LoadGlobal name; end = end }) }
-    ensures acts { ActsKeeping (C.text_of consts.now) (C.items_of consts.now) (record { instruction = fetched.Name name_ops.LoadGlobal name; end = end }) 0 arena.now arena.now frames.old frames.new result }
+    requires runs { under C.Constants consts.now RunsOver arena.now frames.old (record { instruction = fetched.Name name_ops.LoadGlobal name; end = end }) }
+    ensures acts { under C.Constants consts.now ActsKeeping (record { instruction = fetched.Name name_ops.LoadGlobal name; end = end }) 0 arena.now arena.now frames.old frames.new result }
 {
     acting_law();
     vm_instructions::load_name(frames, arena, consts, name, end)
@@ -49,8 +50,8 @@ pub(crate) fn store_name<C: Constants>(
     name: StrNo,
     end: u32,
 ) -> Result<(), Stop>
-    requires runs { RunsOver (C.text_of consts.now) (C.items_of consts.now) arena.old frames.old (record { instruction = fetched.Name name_ops.StoreName name; end = end }) }
-    ensures acts { ActsKeeping (C.text_of consts.now) (C.items_of consts.now) (record { instruction = fetched.Name name_ops.StoreName name; end = end }) 0 arena.old arena.new frames.old frames.new result }
+    requires runs { under C.Constants consts.now RunsOver arena.old frames.old (record { instruction = fetched.Name name_ops.StoreName name; end = end }) }
+    ensures acts { under C.Constants consts.now ActsKeeping (record { instruction = fetched.Name name_ops.StoreName name; end = end }) 0 arena.old arena.new frames.old frames.new result }
 {
     acting_law();
     tops_law();
@@ -65,8 +66,8 @@ pub(crate) fn store_global<C: Constants>(
     name: StrNo,
     end: u32,
 ) -> Result<(), Stop>
-    requires runs { RunsOver (C.text_of consts.now) (C.items_of consts.now) arena.old frames.old (record { instruction = fetched.Name name_ops.StoreGlobal name; end = end }) }
-    ensures acts { ActsKeeping (C.text_of consts.now) (C.items_of consts.now) (record { instruction = fetched.Name name_ops.StoreGlobal name; end = end }) 0 arena.old arena.new frames.old frames.new result }
+    requires runs { under C.Constants consts.now RunsOver arena.old frames.old (record { instruction = fetched.Name name_ops.StoreGlobal name; end = end }) }
+    ensures acts { under C.Constants consts.now ActsKeeping (record { instruction = fetched.Name name_ops.StoreGlobal name; end = end }) 0 arena.old arena.new frames.old frames.new result }
 {
     acting_law();
     tops_law();
@@ -81,8 +82,8 @@ pub(crate) fn delete_name<C: Constants>(
     name: StrNo,
     end: u32,
 ) -> Result<(), Stop>
-    requires runs { RunsOver (C.text_of consts.now) (C.items_of consts.now) arena.old frames.old (record { instruction = fetched.Name name_ops.DeleteName name; end = end }) }
-    ensures acts { ActsKeeping (C.text_of consts.now) (C.items_of consts.now) (record { instruction = fetched.Name name_ops.DeleteName name; end = end }) 0 arena.old arena.new frames.old frames.new result }
+    requires runs { under C.Constants consts.now RunsOver arena.old frames.old (record { instruction = fetched.Name name_ops.DeleteName name; end = end }) }
+    ensures acts { under C.Constants consts.now ActsKeeping (record { instruction = fetched.Name name_ops.DeleteName name; end = end }) 0 arena.old arena.new frames.old frames.new result }
 {
     acting_law();
     vm_instructions::delete_name(frames, arena, consts, name, end)
@@ -96,8 +97,8 @@ pub(crate) fn delete_global<C: Constants>(
     name: StrNo,
     end: u32,
 ) -> Result<(), Stop>
-    requires runs { RunsOver (C.text_of consts.now) (C.items_of consts.now) arena.old frames.old (record { instruction = fetched.Name name_ops.DeleteGlobal name; end = end }) }
-    ensures acts { ActsKeeping (C.text_of consts.now) (C.items_of consts.now) (record { instruction = fetched.Name name_ops.DeleteGlobal name; end = end }) 0 arena.old arena.new frames.old frames.new result }
+    requires runs { under C.Constants consts.now RunsOver arena.old frames.old (record { instruction = fetched.Name name_ops.DeleteGlobal name; end = end }) }
+    ensures acts { under C.Constants consts.now ActsKeeping (record { instruction = fetched.Name name_ops.DeleteGlobal name; end = end }) 0 arena.old arena.new frames.old frames.new result }
 {
     acting_law();
     vm_instructions::delete_name(frames, arena, consts, name, end)

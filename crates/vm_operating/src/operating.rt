@@ -1,6 +1,7 @@
 //! Instructions by their forms, for the operations that act on values and frames.
 
 ghost use Rattle.std.specs.Prelude.{◌≤◌, length};
+ghost use Rattle.vm_sights.specs.Sights.{under};
 ghost use Rattle.vm_fetching.specs.declared.instruction.Instruction.TheVariants as fetched;
 ghost use Rattle.vm_moving.specs.Moving.{fetched_plain};
 ghost use Rattle.vm_known.specs.Acting.{RunsOver};
@@ -33,8 +34,8 @@ pub fn plain_on<C: Constants>(
     end: u32,
 ) -> Result<(), Stop>
     requires operation { IsPlainOperation op }
-    requires runs { RunsOver (C.text_of consts.now) (C.items_of consts.now) arena.old frames.old (fetched_plain op end) }
-    ensures acts { ActsKeeping (C.text_of consts.now) (C.items_of consts.now) (fetched_plain op end) 0 arena.old arena.new frames.old frames.new result }
+    requires runs { under C.Constants consts.now RunsOver arena.old frames.old (fetched_plain op end) }
+    ensures acts { under C.Constants consts.now ActsKeeping (fetched_plain op end) 0 arena.old arena.new frames.old frames.new result }
 {
     match op {
         PlainOp::LoadSubscr => load_subscr(frames, arena, consts, end),
@@ -69,8 +70,8 @@ pub fn number_on<C: Constants>(
 ) -> Result<(), Stop>
     requires operation { IsNumberOperation op }
     requires places { frames.old.slot_room ≤ length items.old }
-    requires runs { RunsOver (C.text_of consts.now) (C.items_of consts.now) arena.old frames.old (record { instruction = fetched.Number op n; end = end }) }
-    ensures acts { ActsKeeping (C.text_of consts.now) (C.items_of consts.now) (record { instruction = fetched.Number op n; end = end }) 0 arena.old arena.new frames.old frames.new result }
+    requires runs { under C.Constants consts.now RunsOver arena.old frames.old (record { instruction = fetched.Number op n; end = end }) }
+    ensures acts { under C.Constants consts.now ActsKeeping (record { instruction = fetched.Number op n; end = end }) 0 arena.old arena.new frames.old frames.new result }
 {
     tops_law();
     match op {
@@ -104,8 +105,8 @@ pub fn name_on<C: Constants>(
     end: u32,
 ) -> Result<(), Stop>
     requires operation { IsNameOperation op }
-    requires runs { RunsOver (C.text_of consts.now) (C.items_of consts.now) arena.old frames.old (record { instruction = fetched.Name op name; end = end }) }
-    ensures acts { ActsKeeping (C.text_of consts.now) (C.items_of consts.now) (record { instruction = fetched.Name op name; end = end }) 0 arena.old arena.new frames.old frames.new result }
+    requires runs { under C.Constants consts.now RunsOver arena.old frames.old (record { instruction = fetched.Name op name; end = end }) }
+    ensures acts { under C.Constants consts.now ActsKeeping (record { instruction = fetched.Name op name; end = end }) 0 arena.old arena.new frames.old frames.new result }
 {
     match op {
         NameOp::LoadConstString => load_text(frames, arena, consts, name, end),
@@ -133,8 +134,8 @@ pub fn attribute_on<C: Constants>(
     end: u32,
 ) -> Result<(), Stop>
     requires operation { IsAttributeOperation op }
-    requires runs { RunsOver (C.text_of consts.now) (C.items_of consts.now) arena.old frames.old (record { instruction = fetched.Name op name; end = end }) }
-    ensures acts { ActsKeeping (C.text_of consts.now) (C.items_of consts.now) (record { instruction = fetched.Name op name; end = end }) 0 arena.old arena.new frames.old frames.new result }
+    requires runs { under C.Constants consts.now RunsOver arena.old frames.old (record { instruction = fetched.Name op name; end = end }) }
+    ensures acts { under C.Constants consts.now ActsKeeping (record { instruction = fetched.Name op name; end = end }) 0 arena.old arena.new frames.old frames.new result }
 {
     match op {
         NameOp::LoadAttr => load_attr(frames, arena, consts, name, end),
@@ -161,8 +162,8 @@ pub fn jump_to<C: Constants>(
     target: u32,
     end: u32,
 ) -> Result<(), Stop>
-    requires runs { RunsOver (C.text_of consts.now) (C.items_of consts.now) arena.old frames.old (record { instruction = fetched.Jump op target; end = end }) }
-    ensures acts { ActsKeeping (C.text_of consts.now) (C.items_of consts.now) (record { instruction = fetched.Jump op target; end = end }) 0 arena.old arena.new frames.old frames.new result }
+    requires runs { under C.Constants consts.now RunsOver arena.old frames.old (record { instruction = fetched.Jump op target; end = end }) }
+    ensures acts { under C.Constants consts.now ActsKeeping (record { instruction = fetched.Jump op target; end = end }) 0 arena.old arena.new frames.old frames.new result }
 {
     match op {
         JumpOp::Jump => jump(frames, arena, consts, target, end),

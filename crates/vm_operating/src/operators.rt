@@ -1,6 +1,7 @@
-//! Operators.
+//! Operators, as they were fetched for calls of a program.
 
 ghost use Rattle.std.specs.Prelude.{◌≡◌, min};
+ghost use Rattle.vm_sights.specs.Sights.{under};
 ghost use Rattle.vm_fetching.specs.declared.instruction.Instruction.TheVariants as fetched;
 ghost use Rattle.vm_known.specs.Acting.{RunsOver};
 ghost use Rattle.vm_operating.specs.Keeping.{ActsKeeping};
@@ -20,8 +21,8 @@ pub fn unary_op<C: Constants>(
     number: u8,
     end: u32,
 ) -> Result<(), Stop>
-    requires runs { RunsOver (C.text_of consts.now) (C.items_of consts.now) arena.now frames.old (record { instruction = fetched.Unary number; end = end }) }
-    ensures acts { ActsKeeping (C.text_of consts.now) (C.items_of consts.now) (record { instruction = fetched.Unary number; end = end }) 0 arena.now arena.now frames.old frames.new result }
+    requires runs { under C.Constants consts.now RunsOver arena.now frames.old (record { instruction = fetched.Unary number; end = end }) }
+    ensures acts { under C.Constants consts.now ActsKeeping (record { instruction = fetched.Unary number; end = end }) 0 arena.now arena.now frames.old frames.new result }
 {
     acting_law();
     tops_law();
@@ -36,8 +37,8 @@ pub fn binary_op<C: Constants>(
     number: u8,
     end: u32,
 ) -> Result<(), Stop>
-    requires runs { RunsOver (C.text_of consts.now) (C.items_of consts.now) arena.old frames.old (record { instruction = fetched.Binary number; end = end }) }
-    ensures acts { ActsKeeping (C.text_of consts.now) (C.items_of consts.now) (record { instruction = fetched.Binary number; end = end }) (visits_binary (C.text_of consts.now) (C.items_of consts.now) arena.old frames.old.calls number) arena.old arena.new frames.old frames.new result }
+    requires runs { under C.Constants consts.now RunsOver arena.old frames.old (record { instruction = fetched.Binary number; end = end }) }
+    ensures acts { under C.Constants consts.now ActsKeeping (record { instruction = fetched.Binary number; end = end }) (under C.Constants consts.now visits_binary arena.old frames.old.calls number) arena.old arena.new frames.old frames.new result }
 {
     acting_law();
     tops_law();
@@ -53,8 +54,8 @@ pub fn visits_binary_op<C: Constants>(
     end: u32,
     most: u64,
 ) -> u64
-    requires runs { RunsOver (C.text_of consts.now) (C.items_of consts.now) arena.now frames.now (record { instruction = fetched.Binary number; end = end }) }
-    ensures visits { result ≡ min (visits_binary (C.text_of consts.now) (C.items_of consts.now) arena.now frames.now.calls number) most }
+    requires runs { under C.Constants consts.now RunsOver arena.now frames.now (record { instruction = fetched.Binary number; end = end }) }
+    ensures visits { result ≡ min (under C.Constants consts.now visits_binary arena.now frames.now.calls number) most }
 {
     tops_law();
     let _ = end;

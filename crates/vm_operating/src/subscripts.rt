@@ -2,6 +2,7 @@
 
 ghost use Rattle.std.specs.Prelude.{◌≡◌, true, false};
 ghost use Rattle.arena_heap.specs.declared.value.Value.{Value as Item};
+ghost use Rattle.vm_sights.specs.Sights.{under};
 ghost use Rattle.vm_instructions.specs.Slots.{HasValue, HasNull};
 ghost use Rattle.vm_fetching.specs.declared.operations.PlainOp.TheVariants as plain_ops;
 ghost use Rattle.vm_moving.specs.Moving.{fetched_plain};
@@ -22,14 +23,15 @@ pub(crate) fn load_subscr<C: Constants>(
     consts: &C,
     end: u32,
 ) -> Result<(), Stop>
-    requires runs { RunsOver (C.text_of consts.now) (C.items_of consts.now) arena.old frames.old (fetched_plain plain_ops.LoadSubscr end) }
-    ensures acts { ActsKeeping (C.text_of consts.now) (C.items_of consts.now) (fetched_plain plain_ops.LoadSubscr end) 0 arena.old arena.new frames.old frames.new result }
+    requires runs { under C.Constants consts.now RunsOver arena.old frames.old (fetched_plain plain_ops.LoadSubscr end) }
+    ensures acts { under C.Constants consts.now ActsKeeping (fetched_plain plain_ops.LoadSubscr end) 0 arena.old arena.new frames.old frames.new result }
 {
     acting_law();
     tops_law();
     vm_instructions::load_subscr(frames, arena, consts, end)
 }
 
+/// Is the slot empty?
 fn is_null(slot: Slot) -> bool
     ensures { result ≡ is_null_slot slot }
 {
@@ -60,9 +62,9 @@ fn set_subscr<C: Constants>(
     consts: &C,
     end: u32,
 ) -> Result<(), Stop>
-    requires runs { RunsOver (C.text_of consts.now) (C.items_of consts.now) arena.old frames.old (fetched_plain plain_ops.StoreSubscr end) }
+    requires runs { under C.Constants consts.now RunsOver arena.old frames.old (fetched_plain plain_ops.StoreSubscr end) }
     requires value { (v : Item) × HasValue 2 v frames.old.calls }
-    ensures acts { ActsKeeping (C.text_of consts.now) (C.items_of consts.now) (fetched_plain plain_ops.StoreSubscr end) 0 arena.old arena.new frames.old frames.new result }
+    ensures acts { under C.Constants consts.now ActsKeeping (fetched_plain plain_ops.StoreSubscr end) 0 arena.old arena.new frames.old frames.new result }
 {
     acting_law();
     tops_law();
@@ -76,9 +78,9 @@ fn delete_subscr<C: Constants>(
     consts: &C,
     end: u32,
 ) -> Result<(), Stop>
-    requires runs { RunsOver (C.text_of consts.now) (C.items_of consts.now) arena.old frames.old (fetched_plain plain_ops.StoreSubscr end) }
+    requires runs { under C.Constants consts.now RunsOver arena.old frames.old (fetched_plain plain_ops.StoreSubscr end) }
     requires no_value { HasNull 2 frames.old.calls }
-    ensures acts { ActsKeeping (C.text_of consts.now) (C.items_of consts.now) (fetched_plain plain_ops.StoreSubscr end) 0 arena.old arena.new frames.old frames.new result }
+    ensures acts { under C.Constants consts.now ActsKeeping (fetched_plain plain_ops.StoreSubscr end) 0 arena.old arena.new frames.old frames.new result }
 {
     acting_law();
     tops_law();
@@ -92,8 +94,8 @@ pub(crate) fn store_subscr<C: Constants>(
     consts: &C,
     end: u32,
 ) -> Result<(), Stop>
-    requires runs { RunsOver (C.text_of consts.now) (C.items_of consts.now) arena.old frames.old (fetched_plain plain_ops.StoreSubscr end) }
-    ensures acts { ActsKeeping (C.text_of consts.now) (C.items_of consts.now) (fetched_plain plain_ops.StoreSubscr end) 0 arena.old arena.new frames.old frames.new result }
+    requires runs { under C.Constants consts.now RunsOver arena.old frames.old (fetched_plain plain_ops.StoreSubscr end) }
+    ensures acts { under C.Constants consts.now ActsKeeping (fetched_plain plain_ops.StoreSubscr end) 0 arena.old arena.new frames.old frames.new result }
 {
     tops_law();
     if lacks_third(frames) {
@@ -110,8 +112,8 @@ pub(crate) fn store_map<C: Constants>(
     consts: &C,
     end: u32,
 ) -> Result<(), Stop>
-    requires runs { RunsOver (C.text_of consts.now) (C.items_of consts.now) arena.old frames.old (fetched_plain plain_ops.StoreMap end) }
-    ensures acts { ActsKeeping (C.text_of consts.now) (C.items_of consts.now) (fetched_plain plain_ops.StoreMap end) 0 arena.old arena.new frames.old frames.new result }
+    requires runs { under C.Constants consts.now RunsOver arena.old frames.old (fetched_plain plain_ops.StoreMap end) }
+    ensures acts { under C.Constants consts.now ActsKeeping (fetched_plain plain_ops.StoreMap end) 0 arena.old arena.new frames.old frames.new result }
 {
     acting_law();
     tops_law();

@@ -16,7 +16,6 @@ use Rattle.arena_objects.specs.Iterables.{or_nothing, given, spelled}
 use Rattle.arena_objects.proofs.Gifts.{count_numbers, number_in}
 use Rattle.py_values.specs.Shown.{PlainHeap, Shown, Text, Tuple, range_len, shown, shown_object}
 use Rattle.py_values.specs.Names.{type_name}
-use Rattle.py_values.specs.Keys.{key_of, shown_key}
 use Rattle.py_primitives.specs.Faults.{NotIterable}
 use Rattle.py_primitives.specs.Outcome.{gives, raises}
 use Rattle.py_primitives.specs.Iterables.{shown_items, items_in, shown_length, shown_item, or_nil, over_items}
@@ -127,14 +126,6 @@ fixed_iterates texts tuples h v c is =
     let items = map (plain_by texts (fixed_within texts tuples 31)) (or_nothing (tuples c)) in
     sym (ap (λ (w : Value). is_some (items_in heap (plain texts tuples w))) is
     ∙ (ap (λ (w : Val). is_some (items_in heap w)) (within_step texts tuples 31 c) ∙ ap (λ (s : Shown). is_some (shown_items s)) (shown_fixed heap items)))
-
-pub fixed_no_key : (texts : StrNo → Option (List ℕ)) (tuples : ConstNo → Option (List Value)) (h : Heap Value ℕ) (v : Value) (c : ConstNo) → v ≡ values.Fixed c
-    → false ≡ is_some (key_of (plain_heap texts tuples h) (plain texts tuples v))
-fixed_no_key texts tuples h v c is =
-    let heap = plain_heap texts tuples h in
-    let items = map (plain_by texts (fixed_within texts tuples 31)) (or_nothing (tuples c)) in
-    sym (ap (λ (w : Value). is_some (key_of heap (plain texts tuples w))) is
-    ∙ (ap (λ (w : Val). is_some (key_of heap w)) (within_step texts tuples 31 c) ∙ ap (λ (s : Shown). is_some (shown_key s)) (shown_fixed heap items)))
 
 pub fixed_shape : (texts : StrNo → Option (List ℕ)) (tuples : ConstNo → Option (List Value)) (h : Heap Value ℕ) (v : Value) (c : ConstNo) → v ≡ values.Fixed c
     → ShowsShape (shown (plain_heap texts tuples h) (plain texts tuples v)) shapes.Tuple

@@ -135,7 +135,7 @@ module _ (texts : StrNo → Option (List ℕ)) (tuples : ConstNo → Option (Lis
         (set_at old.objects (Some (TextObject bytes)) (replicate 1 None) (Some (TextObject target)) t (sym m.number)) len);
   }
 
--- what a making of so many bytes leaves
+-- what a making of `len` bytes leaves
 pub bytes_made : {old made : Heap Value ℕ} {t : ℕ} (len : ℕ) → Made old made t (TextObject (replicate len 0)) → made.bytes ≡ old.bytes + len
 bytes_made {old} {made} {t} len m = ap (λ (w : Heap Value ℕ). w.bytes) m.world ∙ ap (λ (n : ℕ). old.bytes + n) (length-replicate len 0)
 

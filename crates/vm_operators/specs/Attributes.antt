@@ -16,6 +16,7 @@ use Rattle.vm_faults.specs.Faults.{IsKnown}
 use Rattle.vm_operators.specs.declared.attributes.Attribute.{Attribute}
 use Rattle.vm_operators.specs.declared.attributes.Attribute.TheVariants as attributes
 
+-- what an attribute is, as the primitives have it
 abbrev pub plain_attribute : (StrNo → Option (List ℕ)) → (ConstNo → Option (List Value)) → Attribute → uses.Attribute
 plain_attribute texts tuples (attributes.Found v) = uses.Found (plain texts tuples v)
 plain_attribute texts tuples (attributes.Method method) = uses.Method method

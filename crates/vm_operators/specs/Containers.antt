@@ -29,6 +29,7 @@ HasNoItems (Number z) = Unit {0}
 HasNoItems Other = Unit {0}
 HasNoItems _ = ⊥
 
+-- what the value is to an index: a dict, a list, another sequence, or nothing that has items
 abbrev pub IsContainer : Heap Value ℕ → Value → Container → Type 0
 IsContainer heap v (containers.Dict d) = v ≡ values.Dict d
 IsContainer heap v (containers.List l) = v ≡ values.List l

@@ -7,7 +7,6 @@ use Rattle.arena_heap.specs.declared.value.StrNo.{StrNo}
 use Rattle.arena_heap.specs.declared.value.ConstNo.{ConstNo}
 use Rattle.arena_heap.specs.Constants.{NestsWithin}
 use Rattle.py_values.specs.Shown.{number_of_truth}
-use Rattle.py_values.specs.Keys.{key_of}
 use Rattle.py_primitives.specs.Iterables.{items_in}
 use Rattle.vm_walks.specs.Plain.{plain, plain_heap}
 
@@ -21,11 +20,6 @@ number_in _ = None
 abbrev pub DecidesIterable : Heap Value ℕ → Value → Bool → Type 0
 DecidesIterable heap v answer =
     (texts : StrNo → Option (List ℕ)) (tuples : ConstNo → Option (List Value)) → answer ≡ is_some (items_in (plain_heap texts tuples heap) (plain texts tuples v))
-
--- may a value be a key, whatever the constants are?
-abbrev pub DecidesKey : Heap Value ℕ → Value → Bool → Type 0
-DecidesKey heap v answer =
-    (texts : StrNo → Option (List ℕ)) (tuples : ConstNo → Option (List Value)) → answer ≡ is_some (key_of (plain_heap texts tuples heap) (plain texts tuples v))
 
 -- values whose items are no new texts
 abbrev pub HasItems : Value → Type 0

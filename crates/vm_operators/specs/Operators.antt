@@ -5,11 +5,13 @@ use Rattle.vm_operators.specs.declared.operators.Operator.TheVariants as operato
 use Rattle.vm_operators.specs.declared.operators.UnaryOperator.{UnaryOperator}
 use Rattle.vm_operators.specs.declared.operators.UnaryOperator.TheVariants as unaries
 
+-- an operator with one operand
 abbrev pub plain_unary : UnaryOperator → plain.UnaryOperator
 plain_unary unaries.Plus = plain.Plus
 plain_unary unaries.Minus = plain.Minus
 plain_unary unaries.Invert = plain.Invert
 
+-- an operator with two operands
 abbrev pub plain_operator : Operator → plain.Operator
 plain_operator operators.Or = plain.Or
 plain_operator operators.Xor = plain.Xor

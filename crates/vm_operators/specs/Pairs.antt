@@ -23,6 +23,7 @@ use Rattle.vm_operators.specs.declared.operands.Operand.TheVariants as operands
 use Rattle.vm_operators.specs.declared.operands.Shape.{Shape}
 use Rattle.vm_operators.specs.declared.operands.Shape.TheVariants as shapes
 
+-- a str, a tuple or a list of that shape
 abbrev pub HasShape : Value → Shape → Type 0
 HasShape v shapes.Text = IsStr v
 HasShape v shapes.Tuple = IsTuple v
@@ -43,6 +44,7 @@ ShowsShape (Tuple items) shapes.Tuple = Unit {0}
 ShowsShape (Items items) shapes.List = Unit {0}
 ShowsShape _ _ = ⊥
 
+-- what an operand is to an operator: a number, a str, tuple or list, or something else
 abbrev pub IsOperand : Heap Value ℕ → Value → Operand → Type 0
 IsOperand heap v (operands.Number n) =
     (texts : StrNo → Option (List ℕ)) (tuples : ConstNo → Option (List Value)) → shown (plain_heap texts tuples heap) (plain texts tuples v) ≡ Number n
@@ -51,6 +53,7 @@ IsOperand heap v (operands.Shaped shape) =
 IsOperand heap v operands.Other =
     (texts : StrNo → Option (List ℕ)) (tuples : ConstNo → Option (List Value)) → IsUnfit (shown (plain_heap texts tuples heap) (plain texts tuples v))
 
+-- two strs, two tuples or two lists
 abbrev pub AreAlike : Shown → Shown → Type 0
 AreAlike (Text bytes) (Text others) = Unit {0}
 AreAlike (Tuple items) (Tuple others) = Unit {0}
@@ -71,6 +74,7 @@ AreUnfit (Tuple items) (Number y) = ⊥
 AreUnfit (Items items) (Number y) = ⊥
 AreUnfit _ _ = Unit {0}
 
+-- what two operands are to an operator together
 abbrev pub IsOperands : Heap Value ℕ → Value → Value → Operands → Type 0
 IsOperands heap left right (pairs.Numbers x y) = IsOperand heap left (operands.Number x) × IsOperand heap right (operands.Number y)
 IsOperands heap left right (pairs.Alike shape) = IsOperand heap left (operands.Shaped shape) × IsOperand heap right (operands.Shaped shape)
@@ -86,6 +90,7 @@ module _ (texts : StrNo → Option (List ℕ)) (tuples : ConstNo → Option (Lis
   joined shapes.Tuple source = making_tuple (plain_heap texts tuples heap) (map (plain texts tuples) (source_items tuples heap source))
   joined shapes.List source = making_list (plain_heap texts tuples heap) (map (plain texts tuples) (source_items tuples heap source))
 
+-- what is joined or repeated is known, and for a new str each part is one
 abbrev pub AreShaped : (StrNo → Option (List ℕ)) → (ConstNo → Option (List Value)) → Objects Value ℕ → Shape → Source → Type 0
 AreShaped texts tuples objects shapes.Text source = AreStrs texts tuples objects source
 AreShaped texts tuples objects _ source = AreKnown texts tuples objects source

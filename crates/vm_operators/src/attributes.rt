@@ -1,23 +1,20 @@
-//! Attributes.
+//! Attributes of values: those of objects, the methods of types, and the names of modules.
 
 ghost use Rattle.std.specs.Prelude.{◌≡◌, IsSome};
 ghost use Rattle.mpy_base.specs.World.{MethodObject, AModule, IsA};
 ghost use Rattle.mpy_base.specs.Val.{At};
 ghost use Rattle.arena_heap.specs.Values.{Leads, IsStr, IsList, IsDict, IsMethodOf};
-ghost use Rattle.arena_heap.specs.Constants.{IsTold};
-ghost use Rattle.arena_objects.specs.Keys.{AllTold};
-ghost use Rattle.arena_objects.specs.Iterables.{or_nothing};
 ghost use Rattle.py_primitives.specs.Builtins.{list_methods, dict_methods, str_methods};
 ghost use Rattle.py_primitives.specs.Outcome.{making};
 ghost use Rattle.py_primitives.specs.Uses.{attribute as attribute_in, get_attr as get_attr_of};
-ghost use Rattle.vm_walks.specs.Plain.{plain, plain_heap};
-ghost use Rattle.vm_faults.specs.Outcomes.{IsOutcome};
+ghost use Rattle.vm_sights.specs.Sights.{under, sight, Tells, TellsAll, Does};
 ghost use Rattle.vm_operators.specs.Attributes.{plain_attribute, IsKnownAttribute, IsMethodsAttribute, IsArgsAttribute, IsBuiltAttribute};
 
 use arena_heap::{Arena, Constants, ModuleNo, StrNo, Value, exc_parts, module_parts};
 use arena_objects::dict_get;
 use mpy_base::Builtin;
 use vm_faults::{Fault, Stop, type_of};
+use vm_sights::name_bytes;
 
 /// What an attribute of a value is: a value, a method of the value's type, or nothing.
 #[derive(Clone, Copy)]
@@ -27,13 +24,7 @@ pub enum Attribute {
     Absent,
 }
 
-fn name_bytes<C: Constants>(consts: &C, name: StrNo) -> &[u8]
-    requires { IsSome (C.text_of consts.now name) }
-    ensures { result.now ≡ or_nothing (C.text_of consts.now name) }
-{
-    consts.text(name).unwrap()
-}
-
+/// The attribute of a list: one of its methods, or nothing.
 fn list_attribute(name: &[u8]) -> Attribute
     ensures { IsMethodsAttribute list_methods IsList name.now result }
 {
@@ -50,6 +41,7 @@ fn list_attribute(name: &[u8]) -> Attribute
     }
 }
 
+/// The attribute of a dict: one of its methods, or nothing.
 fn dict_attribute(name: &[u8]) -> Attribute
     ensures { IsMethodsAttribute dict_methods IsDict name.now result }
 {
@@ -68,6 +60,7 @@ fn dict_attribute(name: &[u8]) -> Attribute
     }
 }
 
+/// The attribute of a str: one of its methods, or nothing.
 fn str_attribute(name: &[u8]) -> Attribute
     ensures { IsMethodsAttribute str_methods IsStr name.now result }
 {
@@ -95,6 +88,7 @@ fn exception_attribute(args: Value, name: &[u8]) -> Attribute
     }
 }
 
+/// The attribute of the module of the ports: one of its functions, or nothing.
 fn port_attribute(name: &[u8]) -> Attribute
     ensures { IsBuiltAttribute Builtin.Port name.now result }
 {
@@ -123,9 +117,9 @@ fn built_attribute(b: Builtin, name: &[u8]) -> Attribute
 fn module_attribute<C: Constants>(arena: &Arena, consts: &C, m: ModuleNo, name: StrNo) -> Attribute
     requires is_module { IsA arena.now.objects AModule m.cell }
     requires name { IsSome (C.text_of consts.now name) }
-    requires all_told { AllTold (C.text_of consts.now) (C.items_of consts.now) arena.now.objects }
-    ensures plain { plain_attribute (C.text_of consts.now) (C.items_of consts.now) result ≡ attribute_in (plain_heap (C.text_of consts.now) (C.items_of consts.now) arena.now) (At m.cell) (or_nothing (C.text_of consts.now name)) }
-    ensures known { IsKnownAttribute (C.text_of consts.now) (C.items_of consts.now) arena.now.objects (Value.Module m) result }
+    requires all_told { TellsAll C.Constants consts.now arena.now }
+    ensures plain { let see = sight C.Constants consts.now in plain_attribute see.texts see.tuples result ≡ attribute_in (see.heap arena.now) (At m.cell) (see.text name) }
+    ensures known { under C.Constants consts.now IsKnownAttribute arena.now.objects (Value.Module m) result }
 {
     arena.sound_law();
     let (_, namespace) = module_parts(arena, m);
@@ -142,9 +136,9 @@ fn module_attribute<C: Constants>(arena: &Arena, consts: &C, m: ModuleNo, name: 
 pub fn attribute_of<C: Constants>(arena: &Arena, consts: &C, v: Value, name: StrNo) -> Attribute
     requires leads { Leads arena.now.objects v }
     requires name { IsSome (C.text_of consts.now name) }
-    requires all_told { AllTold (C.text_of consts.now) (C.items_of consts.now) arena.now.objects }
-    ensures plain { plain_attribute (C.text_of consts.now) (C.items_of consts.now) result ≡ attribute_in (plain_heap (C.text_of consts.now) (C.items_of consts.now) arena.now) (plain (C.text_of consts.now) (C.items_of consts.now) v) (or_nothing (C.text_of consts.now name)) }
-    ensures known { IsKnownAttribute (C.text_of consts.now) (C.items_of consts.now) arena.now.objects v result }
+    requires all_told { TellsAll C.Constants consts.now arena.now }
+    ensures plain { let see = sight C.Constants consts.now in plain_attribute see.texts see.tuples result ≡ attribute_in (see.heap arena.now) (see.value v) (see.text name) }
+    ensures known { under C.Constants consts.now IsKnownAttribute arena.now.objects v result }
 {
     let text = name_bytes(consts, name);
     match v {
@@ -172,10 +166,10 @@ pub fn bind_method<C: Constants>(
     method: Builtin,
 ) -> Result<Value, Stop>
     requires leads { Leads arena.old.objects object }
-    requires told { IsTold (C.text_of consts.now) (C.items_of consts.now) object }
+    requires told { Tells C.Constants consts.now object }
     requires method { IsMethodOf method object }
-    requires all_told { AllTold (C.text_of consts.now) (C.items_of consts.now) arena.old.objects }
-    ensures { IsOutcome (C.text_of consts.now) (C.items_of consts.now) arena.old arena.new result (making (plain_heap (C.text_of consts.now) (C.items_of consts.now) arena.old) (MethodObject (plain (C.text_of consts.now) (C.items_of consts.now) object) method)) }
+    requires all_told { TellsAll C.Constants consts.now arena.old }
+    ensures { Does C.Constants consts.now arena.old arena.new result (λ heap see. making heap (MethodObject (see.value object) method)) }
 {
     match arena.make_method(object, method) {
         Ok(m) => Ok(Value::Method(m)),
@@ -191,10 +185,10 @@ pub fn get_attr<C: Constants>(
     name: StrNo,
 ) -> Result<Value, Stop>
     requires leads { Leads arena.old.objects object }
-    requires told { IsTold (C.text_of consts.now) (C.items_of consts.now) object }
+    requires told { Tells C.Constants consts.now object }
     requires name { IsSome (C.text_of consts.now name) }
-    requires all_told { AllTold (C.text_of consts.now) (C.items_of consts.now) arena.old.objects }
-    ensures { IsOutcome (C.text_of consts.now) (C.items_of consts.now) arena.old arena.new result (get_attr_of (plain_heap (C.text_of consts.now) (C.items_of consts.now) arena.old) (plain (C.text_of consts.now) (C.items_of consts.now) object) (or_nothing (C.text_of consts.now name))) }
+    requires all_told { TellsAll C.Constants consts.now arena.old }
+    ensures { Does C.Constants consts.now arena.old arena.new result (λ heap see. get_attr_of heap (see.value object) (see.text name)) }
 {
     match attribute_of(arena, consts, object, name) {
         Attribute::Found(v) => Ok(v),

@@ -1,25 +1,22 @@
 //! Items and keys that are deleted.
 
-ghost use Rattle.std.specs.Prelude.{◌≡◌, map};
+ghost use Rattle.std.specs.Prelude.{map};
 ghost use Rattle.std.specs.List.{remove};
 ghost use Rattle.mpy_base.specs.World.{ADict, AList, IsA, items_at, pairs_at, with_dict, with_list};
 ghost use Rattle.mpy_base.specs.Val.{Nil, At};
 ghost use Rattle.arena_heap.specs.Values.{Leads};
-ghost use Rattle.arena_heap.specs.Constants.{IsTold};
-ghost use Rattle.arena_objects.specs.Keys.{AllTold};
 ghost use Rattle.py_values.specs.Keys.{without_key};
 ghost use Rattle.py_primitives.specs.Outcome.{gives};
 ghost use Rattle.py_primitives.specs.Uses.{of_key, at_place, delete_item as delete_item_of};
-ghost use Rattle.vm_walks.specs.Plain.{plain, plain_pair, plain_heap};
-ghost use Rattle.vm_faults.specs.Outcomes.{IsOutcome};
+ghost use Rattle.vm_sights.specs.Sights.{Tells, TellsAll, Does};
 
 use crate::containers::{Container, container_of};
 use crate::indexes::place_of;
 use crate::items::items_law;
-use crate::keys::is_key;
 use arena_heap::{Arena, Constants, DictNo, ListNo, Value, list_pop};
 use arena_objects::dict_delete;
 use vm_faults::{Fault, SpecialMethod, Stop, type_of};
+use vm_sights::is_key;
 
 /// Deletes the pair of a key.
 fn delete_key<C: Constants>(
@@ -30,9 +27,9 @@ fn delete_key<C: Constants>(
 ) -> Result<Value, Stop>
     requires dict { IsA arena.old.objects ADict d.cell }
     requires leads { Leads arena.old.objects key }
-    requires told { IsTold (C.text_of consts.now) (C.items_of consts.now) key }
-    requires all_told { AllTold (C.text_of consts.now) (C.items_of consts.now) arena.old.objects }
-    ensures { let heap = plain_heap (C.text_of consts.now) (C.items_of consts.now) arena.old in let pairs = map (plain_pair (C.text_of consts.now) (C.items_of consts.now)) (pairs_at arena.old d.cell) in let key = plain (C.text_of consts.now) (C.items_of consts.now) key in IsOutcome (C.text_of consts.now) (C.items_of consts.now) arena.old arena.new result (of_key heap pairs key (λ found. gives Nil (with_dict heap d.cell (without_key heap pairs key)))) }
+    requires told { Tells C.Constants consts.now key }
+    requires all_told { TellsAll C.Constants consts.now arena.old }
+    ensures { Does C.Constants consts.now arena.old arena.new result (λ heap see. let pairs = map see.pair (pairs_at arena.old d.cell) in let key = see.value key in of_key heap pairs key (λ found. gives Nil (with_dict heap d.cell (without_key heap pairs key)))) }
 {
     if !is_key(arena, key) {
         return Err(Stop::Raises(Fault::UnsupportedOne {
@@ -56,9 +53,9 @@ fn delete_place<C: Constants>(
 ) -> Result<Value, Stop>
     requires list { IsA arena.old.objects AList l.cell }
     requires leads { Leads arena.old.objects index }
-    requires told { IsTold (C.text_of consts.now) (C.items_of consts.now) index }
-    requires all_told { AllTold (C.text_of consts.now) (C.items_of consts.now) arena.old.objects }
-    ensures { let heap = plain_heap (C.text_of consts.now) (C.items_of consts.now) arena.old in let items = map (plain (C.text_of consts.now) (C.items_of consts.now)) (items_at arena.old l.cell) in IsOutcome (C.text_of consts.now) (C.items_of consts.now) arena.old arena.new result (at_place heap (At l.cell) (plain (C.text_of consts.now) (C.items_of consts.now) index) (λ at. gives Nil (with_list heap l.cell (remove items at)))) }
+    requires told { Tells C.Constants consts.now index }
+    requires all_told { TellsAll C.Constants consts.now arena.old }
+    ensures { Does C.Constants consts.now arena.old arena.new result (λ heap see. let items = map see.value (items_at arena.old l.cell) in at_place heap (At l.cell) (see.value index) (λ at. gives Nil (with_list heap l.cell (remove items at)))) }
 {
     items_law(arena, consts, Value::List(l));
     match place_of(arena, consts, Value::List(l), index) {
@@ -78,11 +75,11 @@ pub fn delete_item<C: Constants>(
     index: Value,
 ) -> Result<Value, Stop>
     requires leads { Leads arena.old.objects object }
-    requires told { IsTold (C.text_of consts.now) (C.items_of consts.now) object }
+    requires told { Tells C.Constants consts.now object }
     requires index_leads { Leads arena.old.objects index }
-    requires index_told { IsTold (C.text_of consts.now) (C.items_of consts.now) index }
-    requires all_told { AllTold (C.text_of consts.now) (C.items_of consts.now) arena.old.objects }
-    ensures { IsOutcome (C.text_of consts.now) (C.items_of consts.now) arena.old arena.new result (delete_item_of (plain_heap (C.text_of consts.now) (C.items_of consts.now) arena.old) (plain (C.text_of consts.now) (C.items_of consts.now) object) (plain (C.text_of consts.now) (C.items_of consts.now) index)) }
+    requires index_told { Tells C.Constants consts.now index }
+    requires all_told { TellsAll C.Constants consts.now arena.old }
+    ensures { Does C.Constants consts.now arena.old arena.new result (λ heap see. delete_item_of heap (see.value object) (see.value index)) }
 {
     match container_of(arena, object) {
         Container::Dict(d) => delete_key(arena, consts, d, index),

@@ -1,13 +1,10 @@
 //! Items by their indexes.
 
-ghost use Rattle.std.specs.Prelude.{◌≡◌, ◌<◌, IfOk, IfErr};
+ghost use Rattle.std.specs.Prelude.{◌<◌, IfOk, IfErr};
 ghost use Rattle.arena_heap.specs.Values.{Leads};
-ghost use Rattle.arena_heap.specs.Constants.{IsTold};
-ghost use Rattle.arena_objects.specs.Keys.{AllTold};
 ghost use Rattle.py_primitives.specs.Uses.{at_place, get_item as get_item_of};
 ghost use Rattle.py_primitives.specs.Iterables.{item_of as item_in, length_of as length_in};
-ghost use Rattle.vm_walks.specs.Plain.{plain, plain_heap};
-ghost use Rattle.vm_faults.specs.Outcomes.{IsOutcome};
+ghost use Rattle.vm_sights.specs.Sights.{under, sight, Tells, TellsAll, Does};
 ghost use Rattle.vm_operators.specs.Containers.{IsPlace, IsNoPlace};
 
 use crate::containers::{Container, container_of};
@@ -27,11 +24,11 @@ pub fn place_of<C: Constants>(
     index: Value,
 ) -> Result<usize, Fault>
     requires leads { Leads arena.now.objects object }
-    requires told { IsTold (C.text_of consts.now) (C.items_of consts.now) object }
+    requires told { Tells C.Constants consts.now object }
     requires index_leads { Leads arena.now.objects index }
-    ensures place { IfOk result (λ at. IsPlace (C.text_of consts.now) (C.items_of consts.now) arena.now object index at) }
-    ensures within { IfOk result (λ at. at < length_in (plain_heap (C.text_of consts.now) (C.items_of consts.now) arena.now) (plain (C.text_of consts.now) (C.items_of consts.now) object)) }
-    ensures fault { IfErr result (IsNoPlace (C.text_of consts.now) (C.items_of consts.now) arena.now object index) }
+    ensures place { IfOk result (λ at. under C.Constants consts.now IsPlace arena.now object index at) }
+    ensures within { let see = sight C.Constants consts.now in IfOk result (λ at. at < length_in (see.heap arena.now) (see.value object)) }
+    ensures fault { IfErr result (under C.Constants consts.now IsNoPlace arena.now object index) }
 {
     let Some(number) = number_of(index) else {
         return Err(Fault::NotAnIndex {
@@ -53,11 +50,11 @@ fn get_place<C: Constants>(
     index: Value,
 ) -> Result<Value, Stop>
     requires leads { Leads arena.old.objects object }
-    requires told { IsTold (C.text_of consts.now) (C.items_of consts.now) object }
+    requires told { Tells C.Constants consts.now object }
     requires index_leads { Leads arena.old.objects index }
-    requires index_told { IsTold (C.text_of consts.now) (C.items_of consts.now) index }
-    requires all_told { AllTold (C.text_of consts.now) (C.items_of consts.now) arena.old.objects }
-    ensures { IsOutcome (C.text_of consts.now) (C.items_of consts.now) arena.old arena.new result (at_place (plain_heap (C.text_of consts.now) (C.items_of consts.now) arena.old) (plain (C.text_of consts.now) (C.items_of consts.now) object) (plain (C.text_of consts.now) (C.items_of consts.now) index) (item_in (plain_heap (C.text_of consts.now) (C.items_of consts.now) arena.old) (plain (C.text_of consts.now) (C.items_of consts.now) object))) }
+    requires index_told { Tells C.Constants consts.now index }
+    requires all_told { TellsAll C.Constants consts.now arena.old }
+    ensures { Does C.Constants consts.now arena.old arena.new result (λ heap see. at_place heap (see.value object) (see.value index) (item_in heap (see.value object))) }
 {
     match place_of(arena, consts, object, index) {
         Ok(at) => item_of(arena, consts, object, at),
@@ -73,11 +70,11 @@ pub fn get_item<C: Constants>(
     index: Value,
 ) -> Result<Value, Stop>
     requires leads { Leads arena.old.objects object }
-    requires told { IsTold (C.text_of consts.now) (C.items_of consts.now) object }
+    requires told { Tells C.Constants consts.now object }
     requires index_leads { Leads arena.old.objects index }
-    requires index_told { IsTold (C.text_of consts.now) (C.items_of consts.now) index }
-    requires all_told { AllTold (C.text_of consts.now) (C.items_of consts.now) arena.old.objects }
-    ensures { IsOutcome (C.text_of consts.now) (C.items_of consts.now) arena.old arena.new result (get_item_of (plain_heap (C.text_of consts.now) (C.items_of consts.now) arena.old) (plain (C.text_of consts.now) (C.items_of consts.now) object) (plain (C.text_of consts.now) (C.items_of consts.now) index)) }
+    requires index_told { Tells C.Constants consts.now index }
+    requires all_told { TellsAll C.Constants consts.now arena.old }
+    ensures { Does C.Constants consts.now arena.old arena.new result (λ heap see. get_item_of heap (see.value object) (see.value index)) }
 {
     match container_of(arena, object) {
         Container::Dict(d) => get_key(arena, consts, d, index),

@@ -2,10 +2,8 @@
 
 ghost use Rattle.std.specs.Prelude.{◌≡◌, ◌≤◌, length, map};
 ghost use Rattle.mpy_base.specs.World.{AList, ATuple, IsA, Later, items_at, room_at, with_list, with_tuple};
-ghost use Rattle.arena_objects.specs.Keys.{AllTold};
 ghost use Rattle.py_primitives.specs.Outcome.{making_tuple, making_list};
-ghost use Rattle.vm_walks.specs.Plain.{plain, plain_heap};
-ghost use Rattle.vm_faults.specs.Outcomes.{IsOutcome};
+ghost use Rattle.vm_sights.specs.Sights.{under, TellsAll, Does};
 ghost use Rattle.vm_operators.specs.Sources.{source_items, AreKnown, AreElsewhere};
 
 use crate::sources::{Source, items_len, source_item};
@@ -15,14 +13,14 @@ use vm_faults::Stop;
 /// Fills a tuple with the items of values.
 fn fill_tuple<C: Constants>(arena: &mut Arena, consts: &C, t: TupleNo, count: u32, source: Source)
     requires tuple { IsA arena.old.objects ATuple t.cell }
-    requires known { AreKnown (C.text_of consts.now) (C.items_of consts.now) arena.old.objects source }
-    requires all_told { AllTold (C.text_of consts.now) (C.items_of consts.now) arena.old.objects }
+    requires known { under C.Constants consts.now AreKnown arena.old.objects source }
+    requires all_told { TellsAll C.Constants consts.now arena.old }
     requires apart { AreElsewhere t.cell source }
     requires items { length (source_items (C.items_of consts.now) arena.old source) ≡ count }
     requires room { length (items_at arena.old t.cell) ≡ count }
     ensures filled { arena.new ≡ with_tuple arena.old t.cell (source_items (C.items_of consts.now) arena.old source) }
     ensures later { Later arena.old.objects arena.new.objects }
-    ensures all_told { AllTold (C.text_of consts.now) (C.items_of consts.now) arena.new.objects }
+    ensures all_told { TellsAll C.Constants consts.now arena.new }
 {
     for at in 0..count {
         let v = source_item(arena, consts, source, at);
@@ -36,9 +34,9 @@ pub(crate) fn make_joined_tuple<C: Constants>(
     consts: &C,
     source: Source,
 ) -> Result<Value, Stop>
-    requires known { AreKnown (C.text_of consts.now) (C.items_of consts.now) arena.old.objects source }
-    requires all_told { AllTold (C.text_of consts.now) (C.items_of consts.now) arena.old.objects }
-    ensures { IsOutcome (C.text_of consts.now) (C.items_of consts.now) arena.old arena.new result (making_tuple (plain_heap (C.text_of consts.now) (C.items_of consts.now) arena.old) (map (plain (C.text_of consts.now) (C.items_of consts.now)) (source_items (C.items_of consts.now) arena.old source))) }
+    requires known { under C.Constants consts.now AreKnown arena.old.objects source }
+    requires all_told { TellsAll C.Constants consts.now arena.old }
+    ensures { Does C.Constants consts.now arena.old arena.new result (λ heap see. making_tuple heap (map see.value (source_items see.tuples arena.old source))) }
 {
     let len = items_len(arena, consts, source);
     if len == 0 {
@@ -58,15 +56,15 @@ pub(crate) fn make_joined_tuple<C: Constants>(
 /// Puts the items of values into an empty list with room for them.
 fn fill_list<C: Constants>(arena: &mut Arena, consts: &C, l: ListNo, count: u32, source: Source)
     requires list { IsA arena.old.objects AList l.cell }
-    requires known { AreKnown (C.text_of consts.now) (C.items_of consts.now) arena.old.objects source }
-    requires all_told { AllTold (C.text_of consts.now) (C.items_of consts.now) arena.old.objects }
+    requires known { under C.Constants consts.now AreKnown arena.old.objects source }
+    requires all_told { TellsAll C.Constants consts.now arena.old }
     requires apart { AreElsewhere l.cell source }
     requires items { length (source_items (C.items_of consts.now) arena.old source) ≡ count }
     requires empty { length (items_at arena.old l.cell) ≡ 0 }
     requires room { count ≤ room_at arena.old l.cell }
     ensures filled { arena.new ≡ with_list arena.old l.cell (source_items (C.items_of consts.now) arena.old source) }
     ensures later { Later arena.old.objects arena.new.objects }
-    ensures all_told { AllTold (C.text_of consts.now) (C.items_of consts.now) arena.new.objects }
+    ensures all_told { TellsAll C.Constants consts.now arena.new }
 {
     for at in 0..count {
         let v = source_item(arena, consts, source, at);
@@ -80,9 +78,9 @@ pub(crate) fn make_joined_list<C: Constants>(
     consts: &C,
     source: Source,
 ) -> Result<Value, Stop>
-    requires known { AreKnown (C.text_of consts.now) (C.items_of consts.now) arena.old.objects source }
-    requires all_told { AllTold (C.text_of consts.now) (C.items_of consts.now) arena.old.objects }
-    ensures { IsOutcome (C.text_of consts.now) (C.items_of consts.now) arena.old arena.new result (making_list (plain_heap (C.text_of consts.now) (C.items_of consts.now) arena.old) (map (plain (C.text_of consts.now) (C.items_of consts.now)) (source_items (C.items_of consts.now) arena.old source))) }
+    requires known { under C.Constants consts.now AreKnown arena.old.objects source }
+    requires all_told { TellsAll C.Constants consts.now arena.old }
+    ensures { Does C.Constants consts.now arena.old arena.new result (λ heap see. making_list heap (map see.value (source_items see.tuples arena.old source))) }
 {
     let len = items_len(arena, consts, source);
     match arena.make_list(len) {

@@ -2,19 +2,17 @@
 
 ghost use Rattle.std.specs.Prelude.{◌≡◌, ◌^◌, ◌<◌, length};
 ghost use Rattle.arena_heap.specs.Values.{Leads, IsStr};
-ghost use Rattle.arena_heap.specs.Constants.{IsTold};
-ghost use Rattle.arena_objects.specs.Keys.{AllTold};
 ghost use Rattle.arena_objects.specs.Iterables.{spelled, items_in as items_in_arena};
 ghost use Rattle.py_primitives.specs.Outcome.{gives};
 ghost use Rattle.py_primitives.specs.Iterables.{use_iter as use_iter_of, item_of as item_in, length_of as length_in};
-ghost use Rattle.vm_walks.specs.Plain.{plain, plain_heap};
-ghost use Rattle.vm_faults.specs.Outcomes.{IsOutcome};
+ghost use Rattle.vm_sights.specs.Sights.{sight, Tells, TellsAll, Does};
 ghost use Rattle.vm_operators.specs.Operands.{DecidesIterable, HasItems, IsNested};
 
 use arena_heap::{Arena, Constants, Value};
 use arena_objects::{item_at, item_count, make_byte, text_bytes};
 use vm_faults::{Fault, Stop, type_of};
 
+/// Can it be iterated over?
 fn is_iterable(_arena: &Arena, v: Value) -> bool
     requires { Leads _arena.now.objects v }
     ensures { DecidesIterable _arena.now v result }
@@ -27,12 +25,12 @@ fn is_iterable(_arena: &Arena, v: Value) -> bool
     }
 }
 
-/// An iterable itself.
+/// The value that is iterated over: an iterable itself, or the fault of another value.
 pub fn use_iter<C: Constants>(arena: &Arena, consts: &C, v: Value) -> Result<Value, Stop>
     requires leads { Leads arena.now.objects v }
-    requires told { IsTold (C.text_of consts.now) (C.items_of consts.now) v }
-    requires all_told { AllTold (C.text_of consts.now) (C.items_of consts.now) arena.now.objects }
-    ensures { IsOutcome (C.text_of consts.now) (C.items_of consts.now) arena.now arena.now result (use_iter_of (plain_heap (C.text_of consts.now) (C.items_of consts.now) arena.now) (plain (C.text_of consts.now) (C.items_of consts.now) v)) }
+    requires told { Tells C.Constants consts.now v }
+    requires all_told { TellsAll C.Constants consts.now arena.now }
+    ensures { Does C.Constants consts.now arena.now arena.now result (λ heap see. use_iter_of heap (see.value v)) }
 {
     if is_iterable(arena, v) {
         Ok(v)
@@ -44,7 +42,7 @@ pub fn use_iter<C: Constants>(arena: &Arena, consts: &C, v: Value) -> Result<Val
 /// Constant tuples nest at most 32 deep, and no iterable has 2^32 items.
 pub fn items_law<C: Constants>(arena: &Arena, consts: &C, v: Value)
     requires leads { Leads arena.now.objects v }
-    requires told { IsTold (C.text_of consts.now) (C.items_of consts.now) v }
+    requires told { Tells C.Constants consts.now v }
     ensures nested { IsNested (C.items_of consts.now) v }
     ensures few { length (items_in_arena (C.items_of consts.now) arena.now v) < 2 ^ 32 }
 {
@@ -58,10 +56,10 @@ pub fn items_law<C: Constants>(arena: &Arena, consts: &C, v: Value)
 fn str_item<C: Constants>(arena: &mut Arena, consts: &C, s: Value, at: usize) -> Result<Value, Stop>
     requires str { IsStr s }
     requires leads { Leads arena.old.objects s }
-    requires told { IsTold (C.text_of consts.now) (C.items_of consts.now) s }
-    requires all_told { AllTold (C.text_of consts.now) (C.items_of consts.now) arena.old.objects }
+    requires told { Tells C.Constants consts.now s }
+    requires all_told { TellsAll C.Constants consts.now arena.old }
     requires within { at < length (spelled (C.text_of consts.now) arena.old s) }
-    ensures { IsOutcome (C.text_of consts.now) (C.items_of consts.now) arena.old arena.new result (item_in (plain_heap (C.text_of consts.now) (C.items_of consts.now) arena.old) (plain (C.text_of consts.now) (C.items_of consts.now) s) at) }
+    ensures { Does C.Constants consts.now arena.old arena.new result (λ heap see. item_in heap (see.value s) at) }
 {
     let byte = text_bytes(arena, consts, s)[at];
     match make_byte(arena, byte) {
@@ -70,16 +68,16 @@ fn str_item<C: Constants>(arena: &mut Arena, consts: &C, s: Value, at: usize) ->
     }
 }
 
-/// The item of another iterable.
+/// The item at a place of an iterable that isn't a str: nothing is made for it.
 fn other_item<C: Constants>(arena: &Arena, consts: &C, over: Value, at: usize) -> Value
     requires items { HasItems over }
     requires leads { Leads arena.now.objects over }
-    requires told { IsTold (C.text_of consts.now) (C.items_of consts.now) over }
-    requires all_told { AllTold (C.text_of consts.now) (C.items_of consts.now) arena.now.objects }
-    requires within { at < length_in (plain_heap (C.text_of consts.now) (C.items_of consts.now) arena.now) (plain (C.text_of consts.now) (C.items_of consts.now) over) }
-    ensures item { item_in (plain_heap (C.text_of consts.now) (C.items_of consts.now) arena.now) (plain (C.text_of consts.now) (C.items_of consts.now) over) at ≡ gives (plain (C.text_of consts.now) (C.items_of consts.now) result) (plain_heap (C.text_of consts.now) (C.items_of consts.now) arena.now) }
+    requires told { Tells C.Constants consts.now over }
+    requires all_told { TellsAll C.Constants consts.now arena.now }
+    requires within { let see = sight C.Constants consts.now in at < length_in (see.heap arena.now) (see.value over) }
+    ensures item { let see = sight C.Constants consts.now in item_in (see.heap arena.now) (see.value over) at ≡ gives (see.value result) (see.heap arena.now) }
     ensures leads { Leads arena.now.objects result }
-    ensures told { IsTold (C.text_of consts.now) (C.items_of consts.now) result }
+    ensures told { Tells C.Constants consts.now result }
 {
     items_law(arena, consts, over);
     item_at(arena, consts, over, at as u32)
@@ -93,10 +91,10 @@ pub fn item_of<C: Constants>(
     at: usize,
 ) -> Result<Value, Stop>
     requires leads { Leads arena.old.objects over }
-    requires told { IsTold (C.text_of consts.now) (C.items_of consts.now) over }
-    requires all_told { AllTold (C.text_of consts.now) (C.items_of consts.now) arena.old.objects }
-    requires within { at < length_in (plain_heap (C.text_of consts.now) (C.items_of consts.now) arena.old) (plain (C.text_of consts.now) (C.items_of consts.now) over) }
-    ensures { IsOutcome (C.text_of consts.now) (C.items_of consts.now) arena.old arena.new result (item_in (plain_heap (C.text_of consts.now) (C.items_of consts.now) arena.old) (plain (C.text_of consts.now) (C.items_of consts.now) over) at) }
+    requires told { Tells C.Constants consts.now over }
+    requires all_told { TellsAll C.Constants consts.now arena.old }
+    requires within { let see = sight C.Constants consts.now in at < length_in (see.heap arena.old) (see.value over) }
+    ensures { Does C.Constants consts.now arena.old arena.new result (λ heap see. item_in heap (see.value over) at) }
 {
     match over {
         Value::Str(_) | Value::Text(_) => str_item(arena, consts, over, at),

@@ -1,12 +1,9 @@
 //! Strs that are joined and repeated.
 
-ghost use Rattle.std.specs.Prelude.{◌≡◌, ◌≢◌, ◌^◌, ◌<◌, Some, [], length};
+ghost use Rattle.std.specs.Prelude.{◌≡◌, length};
 ghost use Rattle.mpy_base.specs.World.{AText, IsA, Later, text_at, with_text};
-ghost use Rattle.arena_heap.specs.declared.value.StrNo.TheVariants as strs;
-ghost use Rattle.arena_objects.specs.Keys.{AllTold};
 ghost use Rattle.py_primitives.specs.Outcome.{making_text};
-ghost use Rattle.vm_walks.specs.Plain.{plain_heap};
-ghost use Rattle.vm_faults.specs.Outcomes.{IsOutcome};
+ghost use Rattle.vm_sights.specs.Sights.{under, TellsAll, Does};
 ghost use Rattle.vm_operators.specs.Sources.{source_bytes, AreStrs, IsApart};
 
 use crate::sources::{Source, byte_at, bytes_len};
@@ -16,7 +13,7 @@ use vm_faults::Stop;
 /// Writes the bytes of strs to a text of their length.
 fn fill_text<C: Constants>(arena: &mut Arena, consts: &C, t: TextNo, count: u32, source: Source)
     requires text { IsA arena.old.objects AText t.cell }
-    requires strs { AreStrs (C.text_of consts.now) (C.items_of consts.now) arena.old.objects source }
+    requires strs { under C.Constants consts.now AreStrs arena.old.objects source }
     requires apart { IsApart t.cell source }
     requires bytes { length (source_bytes (C.text_of consts.now) arena.old source) ≡ count }
     requires room { length (text_at arena.old t.cell) ≡ count }
@@ -35,9 +32,9 @@ pub(crate) fn make_joined<C: Constants>(
     consts: &C,
     source: Source,
 ) -> Result<Value, Stop>
-    requires strs { AreStrs (C.text_of consts.now) (C.items_of consts.now) arena.old.objects source }
-    requires all_told { AllTold (C.text_of consts.now) (C.items_of consts.now) arena.old.objects }
-    ensures { IsOutcome (C.text_of consts.now) (C.items_of consts.now) arena.old arena.new result (making_text (plain_heap (C.text_of consts.now) (C.items_of consts.now) arena.old) (source_bytes (C.text_of consts.now) arena.old source)) }
+    requires strs { under C.Constants consts.now AreStrs arena.old.objects source }
+    requires all_told { TellsAll C.Constants consts.now arena.old }
+    ensures { Does C.Constants consts.now arena.old arena.new result (λ heap see. making_text heap (source_bytes see.texts arena.old source)) }
 {
     let len = bytes_len(arena, consts, source);
     if len == 0 {

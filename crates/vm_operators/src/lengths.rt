@@ -1,10 +1,9 @@
-//! Lengths.
+//! How many items an iterable has.
 
 ghost use Rattle.std.specs.Prelude.{◌≡◌};
 ghost use Rattle.arena_heap.specs.Values.{Leads};
-ghost use Rattle.arena_heap.specs.Constants.{IsTold};
 ghost use Rattle.py_primitives.specs.Iterables.{length_of as length_in};
-ghost use Rattle.vm_walks.specs.Plain.{plain, plain_heap};
+ghost use Rattle.vm_sights.specs.Sights.{sight, Tells};
 
 use arena_heap::{Arena, Constants, Value};
 use arena_objects::{dict_len, range_count};
@@ -13,8 +12,8 @@ use vm_walks::{Look, look_at};
 /// How many items an iterable has. Other values have none.
 pub fn length_of<C: Constants>(arena: &Arena, consts: &C, over: Value) -> usize
     requires leads { Leads arena.now.objects over }
-    requires told { IsTold (C.text_of consts.now) (C.items_of consts.now) over }
-    ensures { result ≡ length_in (plain_heap (C.text_of consts.now) (C.items_of consts.now) arena.now) (plain (C.text_of consts.now) (C.items_of consts.now) over) }
+    requires told { Tells C.Constants consts.now over }
+    ensures { let see = sight C.Constants consts.now in result ≡ length_in (see.heap arena.now) (see.value over) }
 {
     match look_at(arena, consts, over) {
         Look::Text(bytes) => bytes.len(),

@@ -24,7 +24,6 @@ pub use containers::{Container, container_of};
 pub use deletions::delete_item;
 pub use indexes::{get_item, place_of};
 pub use items::{item_of, items_law, use_iter};
-pub use keys::is_key;
 pub use lengths::length_of;
 pub use one_operand::{unary, unary_not};
 pub use operand::number_of;

@@ -1,4 +1,4 @@
-//! Operators on numbers.
+//! Operators on small integers, whose result is one again or a fault.
 
 ghost use Rattle.std.specs.Prelude.{◌≡◌};
 ghost use Rattle.py_primitives.specs.Operators.{number_answer as number_answer_of, unary_answer as unary_answer_of, gives_number as gives_number_of};
@@ -10,6 +10,7 @@ use arena_heap::Value;
 use py_values::{NumFault, SmallInt};
 use vm_faults::{Fault, Stop};
 
+/// What an operator gives of one number.
 pub(crate) fn unary_answer(op: UnaryOperator, n: SmallInt) -> Result<SmallInt, NumFault>
     ensures { result ≡ unary_answer_of (plain_unary op) n }
 {
@@ -20,6 +21,7 @@ pub(crate) fn unary_answer(op: UnaryOperator, n: SmallInt) -> Result<SmallInt, N
     }
 }
 
+/// What an operator gives of two numbers.
 pub(crate) fn number_answer(op: Operator, x: SmallInt, y: SmallInt) -> Result<SmallInt, NumFault>
     ensures { result ≡ number_answer_of (plain_operator op) x y }
 {

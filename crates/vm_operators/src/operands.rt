@@ -23,6 +23,7 @@ pub(crate) enum Operand {
     Other,
 }
 
+/// What a value is to an operator, in constant time.
 pub(crate) fn operand_of(_arena: &Arena, v: Value) -> Operand
     requires { Leads _arena.now.objects v }
     ensures { IsOperand _arena.now v result }
@@ -50,6 +51,7 @@ pub(crate) enum Operands {
     Unfit,
 }
 
+/// What two strs, tuples or lists are to an operator: two of one shape, or unfit.
 fn alike(_arena: &Arena, left: Value, right: Value, shape: Shape, other: Shape) -> Operands
     requires left { IsOperand _arena.now left (Operand.Shaped shape) }
     requires right { IsOperand _arena.now right (Operand.Shaped other) }
@@ -63,6 +65,7 @@ fn alike(_arena: &Arena, left: Value, right: Value, shape: Shape, other: Shape) 
     }
 }
 
+/// What a number and the value on its right are to an operator.
 fn beside_number(arena: &Arena, left: Value, right: Value, n: SmallInt) -> Operands
     requires left { IsOperand arena.now left (Operand.Number n) }
     requires right { Leads arena.now.objects right }
@@ -75,6 +78,7 @@ fn beside_number(arena: &Arena, left: Value, right: Value, n: SmallInt) -> Opera
     }
 }
 
+/// What a str, tuple or list and the value on its right are to an operator.
 fn beside_shape(arena: &Arena, left: Value, right: Value, shape: Shape) -> Operands
     requires left { IsOperand arena.now left (Operand.Shaped shape) }
     requires right { Leads arena.now.objects right }
@@ -87,6 +91,7 @@ fn beside_shape(arena: &Arena, left: Value, right: Value, shape: Shape) -> Opera
     }
 }
 
+/// What two values are to an operator together, in constant time.
 pub(crate) fn operands_of(arena: &Arena, left: Value, right: Value) -> Operands
     requires left { Leads arena.now.objects left }
     requires right { Leads arena.now.objects right }

@@ -2,10 +2,8 @@
 
 ghost use Rattle.std.specs.Prelude.{◌≡◌, ◌-◌, ◌^◌, ◌<◌, length, min, slice_index, slice_index_or};
 ghost use Rattle.arena_heap.specs.Values.{Leads};
-ghost use Rattle.arena_heap.specs.Constants.{IsTold};
-ghost use Rattle.arena_objects.specs.Keys.{AllTold};
 ghost use Rattle.arena_objects.specs.Iterables.{spelled};
-ghost use Rattle.vm_faults.specs.Faults.{IsKnownStr};
+ghost use Rattle.vm_sights.specs.Sights.{under, Tells, TellsAll, KnowsStr};
 ghost use Rattle.vm_operators.specs.Sources.{source_bytes, source_items, AreStrs, AreKnown};
 
 use arena_heap::{Arena, Constants, Value};
@@ -18,16 +16,18 @@ pub(crate) enum Source {
     Repeated(u32, Value),
 }
 
+/// How many bytes a str has.
 fn str_len<C: Constants>(arena: &Arena, consts: &C, s: Value) -> usize
-    requires { IsKnownStr (C.text_of consts.now) (C.items_of consts.now) arena.now.objects s }
+    requires { KnowsStr C.Constants consts.now arena.now s }
     ensures bytes { result ≡ length (spelled (C.text_of consts.now) arena.now s) }
     ensures few { result < 2 ^ 63 }
 {
     text_bytes(arena, consts, s).len()
 }
 
+/// The byte at a place of a str.
 fn str_byte<C: Constants>(arena: &Arena, consts: &C, s: Value, at: usize) -> u8
-    requires str { IsKnownStr (C.text_of consts.now) (C.items_of consts.now) arena.now.objects s }
+    requires str { KnowsStr C.Constants consts.now arena.now s }
     requires within { at < length (spelled (C.text_of consts.now) arena.now s) }
     ensures byte { result ≡ slice_index (spelled (C.text_of consts.now) arena.now s) at }
     ensures ascii { result < 128 }
@@ -37,7 +37,7 @@ fn str_byte<C: Constants>(arena: &Arena, consts: &C, s: Value, at: usize) -> u8
 
 /// How many bytes the strs have, 2^64 - 1 at most.
 pub(crate) fn bytes_len<C: Constants>(arena: &Arena, consts: &C, source: Source) -> u64
-    requires { AreStrs (C.text_of consts.now) (C.items_of consts.now) arena.now.objects source }
+    requires { under C.Constants consts.now AreStrs arena.now.objects source }
     ensures { result ≡ min (length (source_bytes (C.text_of consts.now) arena.now source)) (2 ^ 64 - 1) }
 {
     match source {
@@ -52,7 +52,7 @@ pub(crate) fn bytes_len<C: Constants>(arena: &Arena, consts: &C, source: Source)
 
 /// The byte at a place of the strs.
 pub(crate) fn byte_at<C: Constants>(arena: &Arena, consts: &C, source: Source, at: usize) -> u8
-    requires strs { AreStrs (C.text_of consts.now) (C.items_of consts.now) arena.now.objects source }
+    requires strs { under C.Constants consts.now AreStrs arena.now.objects source }
     requires within { at < length (source_bytes (C.text_of consts.now) arena.now source) }
     ensures byte { result ≡ slice_index (source_bytes (C.text_of consts.now) arena.now source) at }
     ensures ascii { result < 128 }
@@ -75,7 +75,7 @@ pub(crate) fn byte_at<C: Constants>(arena: &Arena, consts: &C, source: Source, a
 
 /// How many items the values have.
 pub(crate) fn items_len<C: Constants>(arena: &Arena, consts: &C, source: Source) -> u64
-    requires { AreKnown (C.text_of consts.now) (C.items_of consts.now) arena.now.objects source }
+    requires { under C.Constants consts.now AreKnown arena.now.objects source }
     ensures { result ≡ length (source_items (C.items_of consts.now) arena.now source) }
 {
     match source {
@@ -88,12 +88,12 @@ pub(crate) fn items_len<C: Constants>(arena: &Arena, consts: &C, source: Source)
 
 /// The item at a place of the values.
 pub(crate) fn source_item<C: Constants>(arena: &Arena, consts: &C, source: Source, at: u32) -> Value
-    requires known { AreKnown (C.text_of consts.now) (C.items_of consts.now) arena.now.objects source }
-    requires all_told { AllTold (C.text_of consts.now) (C.items_of consts.now) arena.now.objects }
+    requires known { under C.Constants consts.now AreKnown arena.now.objects source }
+    requires all_told { TellsAll C.Constants consts.now arena.now }
     requires within { at < length (source_items (C.items_of consts.now) arena.now source) }
     ensures item { result ≡ slice_index_or (source_items (C.items_of consts.now) arena.now source) at Value.None }
     ensures leads { Leads arena.now.objects result }
-    ensures told { IsTold (C.text_of consts.now) (C.items_of consts.now) result }
+    ensures told { Tells C.Constants consts.now result }
 {
     match source {
         Source::Joined(left, right) => {

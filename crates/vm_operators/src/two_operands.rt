@@ -1,14 +1,10 @@
 //! Operators over two operands.
 
-ghost use Rattle.std.specs.Prelude.{◌≡◌, Some, []};
-ghost use Rattle.arena_heap.specs.declared.value.StrNo.TheVariants as strs;
+ghost use Rattle.std.specs.Prelude.{◌≡◌};
 ghost use Rattle.arena_heap.specs.Values.{Leads};
-ghost use Rattle.arena_heap.specs.Constants.{IsTold};
-ghost use Rattle.arena_objects.specs.Keys.{AllTold};
 ghost use Rattle.py_values.specs.Shown.{at_least_zero};
 ghost use Rattle.py_primitives.specs.Operators.{binary as binary_of};
-ghost use Rattle.vm_walks.specs.Plain.{plain, plain_heap};
-ghost use Rattle.vm_faults.specs.Outcomes.{IsOutcome};
+ghost use Rattle.vm_sights.specs.Sights.{under, Tells, TellsAll, Does};
 ghost use Rattle.vm_operators.specs.Operators.{plain_operator};
 ghost use Rattle.vm_operators.specs.Pairs.{AreShaped, IsOperands, joined, IsUnsupported};
 
@@ -30,9 +26,9 @@ fn make_shaped<C: Constants>(
     shape: Shape,
     source: Source,
 ) -> Result<Value, Stop>
-    requires shaped { AreShaped (C.text_of consts.now) (C.items_of consts.now) arena.old.objects shape source }
-    requires all_told { AllTold (C.text_of consts.now) (C.items_of consts.now) arena.old.objects }
-    ensures { IsOutcome (C.text_of consts.now) (C.items_of consts.now) arena.old arena.new result (joined (C.text_of consts.now) (C.items_of consts.now) arena.old shape source) }
+    requires shaped { under C.Constants consts.now AreShaped arena.old.objects shape source }
+    requires all_told { TellsAll C.Constants consts.now arena.old }
+    ensures { Does C.Constants consts.now arena.old arena.new result (λ heap see. joined see.texts see.tuples arena.old shape source) }
 {
     match shape {
         Shape::Text => make_joined(arena, consts, source),
@@ -54,6 +50,7 @@ fn unsupported(arena: &Arena, op: Operator, left: Value, right: Value) -> Fault
     }
 }
 
+/// How often something is repeated by a number: not at all where it is below 0.
 fn times(n: SmallInt) -> u32
     ensures { result ≡ at_least_zero n }
 {
@@ -71,11 +68,11 @@ fn of_shapes<C: Constants>(
 ) -> Result<Value, Stop>
     requires left_leads { Leads arena.old.objects left }
     requires right_leads { Leads arena.old.objects right }
-    requires left_told { IsTold (C.text_of consts.now) (C.items_of consts.now) left }
-    requires right_told { IsTold (C.text_of consts.now) (C.items_of consts.now) right }
-    requires all_told { AllTold (C.text_of consts.now) (C.items_of consts.now) arena.old.objects }
+    requires left_told { Tells C.Constants consts.now left }
+    requires right_told { Tells C.Constants consts.now right }
+    requires all_told { TellsAll C.Constants consts.now arena.old }
     requires operands { IsOperands arena.old left right (Operands.Alike shape) }
-    ensures { IsOutcome (C.text_of consts.now) (C.items_of consts.now) arena.old arena.new result (binary_of (plain_heap (C.text_of consts.now) (C.items_of consts.now) arena.old) (plain_operator op) (plain (C.text_of consts.now) (C.items_of consts.now) left) (plain (C.text_of consts.now) (C.items_of consts.now) right)) }
+    ensures { Does C.Constants consts.now arena.old arena.new result (λ heap see. binary_of heap (plain_operator op) (see.value left) (see.value right)) }
 {
     items_law(arena, consts, left);
     items_law(arena, consts, right);
@@ -85,7 +82,7 @@ fn of_shapes<C: Constants>(
     }
 }
 
-/// A str, tuple or list and a number, so many times of which `*` gives.
+/// What an operator gives of a str, tuple or list and the number `n`: of `*` the left operand `n` times over.
 fn of_left<C: Constants>(
     arena: &mut Arena,
     consts: &C,
@@ -97,11 +94,11 @@ fn of_left<C: Constants>(
 ) -> Result<Value, Stop>
     requires left_leads { Leads arena.old.objects left }
     requires right_leads { Leads arena.old.objects right }
-    requires left_told { IsTold (C.text_of consts.now) (C.items_of consts.now) left }
-    requires right_told { IsTold (C.text_of consts.now) (C.items_of consts.now) right }
-    requires all_told { AllTold (C.text_of consts.now) (C.items_of consts.now) arena.old.objects }
+    requires left_told { Tells C.Constants consts.now left }
+    requires right_told { Tells C.Constants consts.now right }
+    requires all_told { TellsAll C.Constants consts.now arena.old }
     requires operands { IsOperands arena.old left right (Operands.Left shape n) }
-    ensures { IsOutcome (C.text_of consts.now) (C.items_of consts.now) arena.old arena.new result (binary_of (plain_heap (C.text_of consts.now) (C.items_of consts.now) arena.old) (plain_operator op) (plain (C.text_of consts.now) (C.items_of consts.now) left) (plain (C.text_of consts.now) (C.items_of consts.now) right)) }
+    ensures { Does C.Constants consts.now arena.old arena.new result (λ heap see. binary_of heap (plain_operator op) (see.value left) (see.value right)) }
 {
     items_law(arena, consts, left);
     match op {
@@ -112,7 +109,7 @@ fn of_left<C: Constants>(
     }
 }
 
-/// The same with the number on the left.
+/// What an operator gives of the number `n` and a str, tuple or list: of `*` the right operand `n` times over.
 fn of_right<C: Constants>(
     arena: &mut Arena,
     consts: &C,
@@ -124,11 +121,11 @@ fn of_right<C: Constants>(
 ) -> Result<Value, Stop>
     requires left_leads { Leads arena.old.objects left }
     requires right_leads { Leads arena.old.objects right }
-    requires left_told { IsTold (C.text_of consts.now) (C.items_of consts.now) left }
-    requires right_told { IsTold (C.text_of consts.now) (C.items_of consts.now) right }
-    requires all_told { AllTold (C.text_of consts.now) (C.items_of consts.now) arena.old.objects }
+    requires left_told { Tells C.Constants consts.now left }
+    requires right_told { Tells C.Constants consts.now right }
+    requires all_told { TellsAll C.Constants consts.now arena.old }
     requires operands { IsOperands arena.old left right (Operands.Right shape n) }
-    ensures { IsOutcome (C.text_of consts.now) (C.items_of consts.now) arena.old arena.new result (binary_of (plain_heap (C.text_of consts.now) (C.items_of consts.now) arena.old) (plain_operator op) (plain (C.text_of consts.now) (C.items_of consts.now) left) (plain (C.text_of consts.now) (C.items_of consts.now) right)) }
+    ensures { Does C.Constants consts.now arena.old arena.new result (λ heap see. binary_of heap (plain_operator op) (see.value left) (see.value right)) }
 {
     items_law(arena, consts, right);
     match op {
@@ -149,10 +146,10 @@ pub fn binary<C: Constants>(
 ) -> Result<Value, Stop>
     requires left_leads { Leads arena.old.objects left }
     requires right_leads { Leads arena.old.objects right }
-    requires left_told { IsTold (C.text_of consts.now) (C.items_of consts.now) left }
-    requires right_told { IsTold (C.text_of consts.now) (C.items_of consts.now) right }
-    requires all_told { AllTold (C.text_of consts.now) (C.items_of consts.now) arena.old.objects }
-    ensures { IsOutcome (C.text_of consts.now) (C.items_of consts.now) arena.old arena.new result (binary_of (plain_heap (C.text_of consts.now) (C.items_of consts.now) arena.old) (plain_operator op) (plain (C.text_of consts.now) (C.items_of consts.now) left) (plain (C.text_of consts.now) (C.items_of consts.now) right)) }
+    requires left_told { Tells C.Constants consts.now left }
+    requires right_told { Tells C.Constants consts.now right }
+    requires all_told { TellsAll C.Constants consts.now arena.old }
+    ensures { Does C.Constants consts.now arena.old arena.new result (λ heap see. binary_of heap (plain_operator op) (see.value left) (see.value right)) }
 {
     match operands_of(arena, left, right) {
         Operands::Numbers(x, y) => gives_number(number_answer(op, x, y)),

@@ -21,6 +21,7 @@ module _ (texts : StrNo → Option (List ℕ)) (tuples : ConstNo → Option (Lis
   abbrev pub plain_ends : Given → Ends
   plain_ends given = record { sep = option_map (spelled texts heap) given.sep; last = option_map (spelled texts heap) given.last }
 
+  -- what is given, or the fault, as the meaning has it
   abbrev pub plain_found : Result Given Fault → Result Ends plain.Fault
   plain_found (Ok given) = Ok (plain_ends given)
   plain_found (Err fault) = Err (plain_fault texts tuples heap fault)
@@ -30,6 +31,7 @@ module _ (texts : StrNo → Option (List ℕ)) (tuples : ConstNo → Option (Lis
     pub sep : IfSome given.sep (IsKnownStr texts tuples heap.objects)
     pub last : IfSome given.last (IsKnownStr texts tuples heap.objects)
 
+  -- what is given is told, or the fault is known
   abbrev pub IsKnownFound : Result Given Fault → Type 0
   IsKnownFound (Ok given) = AreStrs given
   IsKnownFound (Err fault) = IsKnownFault texts tuples heap.objects fault

@@ -1,5 +1,6 @@
 -- What calls of ports do to ports that tell their contents.
-use Rattle.std.specs.Prelude.{◌≡◌, ℕ, ℤ, pos, negsuc, List, [], ◌∷◌, Option, Some, None, IfSome, Ok, Err, Result, slice_get}
+use Rattle.std.specs.Prelude.{◌≡◌, ℕ, ℤ, pos, negsuc, List, [], ◌∷◌, map, Option, Some, None, IfSome, Ok, Err, Result, slice_get}
+use Rattle.mpy_base.specs.declared.builtin.Builtin.{Builtin}
 use Rattle.mpy_base.specs.World.{Heap, PortState}
 use Rattle.mpy_io.specs.Count.{Rose}
 use Rattle.mpy_io.specs.Ports.{PortView, IsFailing, called as called_once}
@@ -9,16 +10,21 @@ use Rattle.arena_heap.specs.declared.value.Value.TheVariants as values
 use Rattle.arena_heap.specs.declared.value.StrNo.{StrNo}
 use Rattle.arena_heap.specs.Values.{IsSmall}
 use Rattle.arena_heap.specs.declared.value.ConstNo.{ConstNo}
-use Rattle.py_primitives.specs.Faults.{NoSuchPort}
-use Rattle.py_primitives.specs.Output.{PortOutcome, refused, number_answer, taken, put_to, get_from}
+use Rattle.arena_heap.specs.declared.constants.Constants.{Ghosts}
+use Rattle.py_values.specs.Shown.{PlainHeap}
+use Rattle.py_primitives.specs.Faults.{NoSuchPort, PortFailed}
+use Rattle.py_primitives.specs.Outcome.{Raises}
+use Rattle.py_primitives.specs.Output.{PortOutcome, refused, number_answer, taken, put_to, get_from, call_port}
 use Rattle.vm_faults.specs.declared.fault.Fault.TheVariants as faults
 use Rattle.vm_faults.specs.declared.stop.Stop.{Stop}
 use Rattle.vm_faults.specs.declared.stop.Stop.TheVariants as stops
 use Rattle.vm_faults.specs.Outcomes.{plain_answer}
+use Rattle.vm_sights.specs.Sights.{Sight, sight}
 use Rattle.vm_operators.specs.Operands.{number_in}
 
 -- a call that answers so and leaves these ports does what the primitive does, if it fails only where that does
 module _ (texts : StrNo → Option (List ℕ)) (tuples : ConstNo → Option (List Value)) (heap : Heap Value ℕ) where
+  -- the answer and the ports are those of the primitive
   pub record IsPortOutcome (new : List PortView) (result : Result Value Stop) (outcome : PortOutcome) : Type 0 where
     pub answer : plain_answer texts tuples heap result ≡ outcome.answer
     pub ports : Tell new outcome.ports
@@ -81,6 +87,38 @@ abbrev pub put_at : List PortState → ℤ → ℤ → PortOutcome
 put_at ports (pos at) n = put_to ports at n (slice_get ports at)
 put_at ports (negsuc _) n = refused NoSuchPort ports
 
+-- a get of the port that has a number
 abbrev pub get_at : List PortState → ℤ → PortOutcome
 get_at ports (pos at) = get_from ports at (slice_get ports at)
 get_at ports (negsuc _) = refused NoSuchPort ports
+
+-- a call failed, or a primitive does
+abbrev pub IsFailure : Result Value Stop → Type 0
+IsFailure result = result ≡ Err (stops.Raises faults.PortFailed)
+
+abbrev pub HasFailure : PortOutcome → Type 0
+HasFailure outcome = outcome.answer ≡ Err (Raises PortFailed)
+
+-- a call, if it fails only where the primitive does, does what that does to ports that tell their contents
+abbrev pub DoesTold : (old new : List PortView) → Result Value Stop → (List PortState → PortOutcome) → Type 0
+DoesTold old new result primitive =
+    (contents : List PortState) → Tell old contents → (IsFailure result → HasFailure (primitive contents)) → DoesPort new result (primitive contents)
+
+-- it fails only where the next call of the port of this number does
+abbrev pub FailsListed : Option ℤ → Result Value Stop → (List PortState → PortOutcome) → Type 0
+FailsListed called result primitive = IsFailure result → (contents : List PortState) → IsListed called contents → HasFailure (primitive contents)
+
+-- a built-in of ports is called
+abbrev pub calling_port : Builtin → (args : List Value) → (keys : List (Value × Value)) → PlainHeap → Sight → List PortState → PortOutcome
+calling_port builtin args keys heap see ports = call_port heap ports builtin (map see.value args) (map see.pair keys)
+
+-- both over an arena
+module _ {T : Type 0} (C : Ghosts T) (consts : T) (arena : Heap Value ℕ) where
+  abbrev pub DoesPorts : (old new : List PortView) → Result Value Stop → (PlainHeap → Sight → List PortState → PortOutcome) → Type 0
+  DoesPorts old new result primitive =
+      let see = sight C consts in
+      let done = primitive (see.heap arena) see in
+      (contents : List PortState) → Tell old contents → (IsFailure result → HasFailure (done contents)) → IsPortOutcome see.texts see.tuples arena new result (done contents)
+
+  abbrev pub FailsPorts : Option ℤ → Result Value Stop → (PlainHeap → Sight → List PortState → PortOutcome) → Type 0
+  FailsPorts called result primitive = let see = sight C consts in FailsListed called result (primitive (see.heap arena) see)

@@ -1,5 +1,5 @@
 -- What print puts on a sink, and what it answers.
-use Rattle.std.specs.Prelude.{◌≡◌, ℕ, zero, suc, List, [], Option, Bool, true, false, Result, Ok, Err}
+use Rattle.std.specs.Prelude.{◌≡◌, ℕ, zero, suc, List, [], map, Option, Bool, true, false, Result, Ok, Err}
 use Rattle.std.specs.Io.KnownBytes.{Appends}
 use Rattle.mpy_base.specs.World.{Heap}
 use Rattle.mpy_io.specs.Count.{Counts}
@@ -8,9 +8,14 @@ use Rattle.arena_heap.specs.declared.value.Value.{Value}
 use Rattle.arena_heap.specs.declared.value.Value.TheVariants as values
 use Rattle.arena_heap.specs.declared.value.StrNo.{StrNo}
 use Rattle.arena_heap.specs.declared.value.ConstNo.{ConstNo}
+use Rattle.arena_heap.specs.declared.constants.Constants.{Ghosts}
+use Rattle.py_values.specs.Shown.{PlainHeap}
 use Rattle.py_primitives.specs.Outcome.{Outcome, Raises}
+use Rattle.py_primitives.specs.Texts.{str_of}
+use Rattle.py_primitives.specs.Walks.{walk_all}
 use Rattle.vm_faults.specs.declared.fault.Fault.{Fault}
 use Rattle.vm_faults.specs.Faults.{plain_fault, IsKnownFault}
+use Rattle.vm_sights.specs.Sights.{Sight, sight}
 use Rattle.vm_outputs.specs.declared.prints.PrintStop.{PrintStop}
 use Rattle.vm_outputs.specs.declared.prints.PrintStop.TheVariants as stops
 
@@ -49,3 +54,13 @@ module _ {S : Type 0} (told : S → Option (List ℕ)) (count : S → ℕ) where
     IsPrint old new (Ok v) outcome = (v ≡ values.None) × Printed old new false outcome
     IsPrint old new (Err (stops.Raises fault)) outcome = Raised old new fault outcome
     IsPrint old new (Err (stops.Out failed)) outcome = Printed old new true outcome
+
+module _ {T : Type 0} (C : Ghosts T) (consts : T) (arena : Heap Value ℕ) where
+  -- the texts of values, where the walk of each ends
+  abbrev pub str_texts : List Value → Option (List (List ℕ))
+  str_texts args = let see = sight C consts in (walk_all (str_of (see.heap arena)) (map see.value args)).answer
+
+  -- a call over an arena prints what this does
+  abbrev pub DoesPrint : {S : Type 0} → (S → Option (List ℕ)) → (S → ℕ) → (old new : S) → Result Value PrintStop → (PlainHeap → Sight → Outcome (List ℕ)) → Type 0
+  DoesPrint told count old new result primitive =
+      let see = sight C consts in IsPrint told count see.texts see.tuples arena old new result (primitive (see.heap arena) see)

@@ -1,14 +1,11 @@
 //! The keyword arguments of `print`.
 
-ghost use Rattle.std.specs.Prelude.{◌≡◌, ℕ, List, Ok, All, IfOk, IfErr, bytes_eq, map};
+ghost use Rattle.std.specs.Prelude.{◌≡◌, ℕ, List, Ok, IfOk, IfErr, bytes_eq, map};
 ghost use Rattle.std.specs.Option.{option_map};
 ghost use Rattle.arena_heap.specs.Values.{Leads};
-ghost use Rattle.arena_heap.specs.Constants.{IsTold};
-ghost use Rattle.arena_objects.specs.Iterables.{spelled};
 ghost use Rattle.py_values.specs.Shown.{shown};
 ghost use Rattle.py_primitives.specs.Output.{Ends, ends_from, if_new, one_end};
-ghost use Rattle.vm_walks.specs.Plain.{plain, plain_heap, plain_pair};
-ghost use Rattle.vm_faults.specs.Faults.{IsKnown, IsKnownStr, IsKnownFault};
+ghost use Rattle.vm_sights.specs.Sights.{under, sight, Tells, Knows, KnowsPairs, KnowsStr, KnowsFault};
 ghost use Rattle.vm_outputs.specs.Ends.{AreStrs, IsKnownFound, given_as, nothing_given, plain_ends, plain_found};
 
 use crate::strs::str_of;
@@ -30,12 +27,12 @@ fn new_end<C: Constants>(
     old: Option<Value>,
     v: Value,
 ) -> Result<Value, Fault>
-    requires name { IsKnownStr (C.text_of consts.now) (C.items_of consts.now) arena.now.objects name }
+    requires name { KnowsStr C.Constants consts.now arena.now name }
     requires leads { Leads arena.now.objects v }
-    requires told { IsTold (C.text_of consts.now) (C.items_of consts.now) v }
-    ensures found { (with_bytes : List ℕ → Ends) → if_new (spelled (C.text_of consts.now) arena.now name) (option_map (spelled (C.text_of consts.now) arena.now) old) (shown (plain_heap (C.text_of consts.now) (C.items_of consts.now) arena.now) (plain (C.text_of consts.now) (C.items_of consts.now) v)) with_bytes ≡ given_as (C.text_of consts.now) (C.items_of consts.now) arena.now with_bytes result }
-    ensures str { IfOk result (IsKnownStr (C.text_of consts.now) (C.items_of consts.now) arena.now.objects) }
-    ensures known { IfErr result (IsKnownFault (C.text_of consts.now) (C.items_of consts.now) arena.now.objects) }
+    requires told { Tells C.Constants consts.now v }
+    ensures found { let see = sight C.Constants consts.now in (with_bytes : List ℕ → Ends) → if_new (see.bytes arena.now name) (option_map (see.bytes arena.now) old) (shown (see.heap arena.now) (see.value v)) with_bytes ≡ given_as see.texts see.tuples arena.now with_bytes result }
+    ensures str { IfOk result (KnowsStr C.Constants consts.now arena.now) }
+    ensures known { IfErr result (KnowsFault C.Constants consts.now arena.now) }
 {
     if old.is_some() {
         return Err(Fault::RepeatedKeyword(name));
@@ -60,11 +57,11 @@ fn one_more<C: Constants>(
     name: Value,
     v: Value,
 ) -> Result<Given, Fault>
-    requires strs { AreStrs (C.text_of consts.now) (C.items_of consts.now) arena.now given }
-    requires name { IsKnown (C.text_of consts.now) (C.items_of consts.now) arena.now.objects name }
-    requires value { IsKnown (C.text_of consts.now) (C.items_of consts.now) arena.now.objects v }
-    ensures found { plain_found (C.text_of consts.now) (C.items_of consts.now) arena.now result ≡ one_end (plain_ends (C.text_of consts.now) (C.items_of consts.now) arena.now given) (shown (plain_heap (C.text_of consts.now) (C.items_of consts.now) arena.now) (plain (C.text_of consts.now) (C.items_of consts.now) name)) (shown (plain_heap (C.text_of consts.now) (C.items_of consts.now) arena.now) (plain (C.text_of consts.now) (C.items_of consts.now) v)) }
-    ensures known { IsKnownFound (C.text_of consts.now) (C.items_of consts.now) arena.now result }
+    requires strs { under C.Constants consts.now AreStrs arena.now given }
+    requires name { Knows C.Constants consts.now arena.now name }
+    requires value { Knows C.Constants consts.now arena.now v }
+    ensures found { let see = sight C.Constants consts.now in plain_found see.texts see.tuples arena.now result ≡ one_end (plain_ends see.texts see.tuples arena.now given) (shown (see.heap arena.now) (see.value name)) (shown (see.heap arena.now) (see.value v)) }
+    ensures known { under C.Constants consts.now IsKnownFound arena.now result }
 {
     let Some(bytes) = str_of(arena, consts, name) else {
         return Err(Fault::KeywordNotAStr);
@@ -96,9 +93,9 @@ pub(crate) fn given_by<C: Constants>(
     consts: &C,
     keys: &[(Value, Value)],
 ) -> Result<Given, Fault>
-    requires known { All (λ pair. IsKnown (C.text_of consts.now) (C.items_of consts.now) arena.now.objects pair.0 × IsKnown (C.text_of consts.now) (C.items_of consts.now) arena.now.objects pair.1) keys.now }
-    ensures found { plain_found (C.text_of consts.now) (C.items_of consts.now) arena.now result ≡ ends_from (plain_heap (C.text_of consts.now) (C.items_of consts.now) arena.now) (Ok nothing_given) (map (plain_pair (C.text_of consts.now) (C.items_of consts.now)) keys.now) }
-    ensures known { IsKnownFound (C.text_of consts.now) (C.items_of consts.now) arena.now result }
+    requires known { KnowsPairs C.Constants consts.now arena.now keys.now }
+    ensures found { let see = sight C.Constants consts.now in plain_found see.texts see.tuples arena.now result ≡ ends_from (see.heap arena.now) (Ok nothing_given) (map see.pair keys.now) }
+    ensures known { under C.Constants consts.now IsKnownFound arena.now result }
 {
     let mut given = Given {
         sep: None,

@@ -1,22 +1,16 @@
 //! Calls of ports.
 
-ghost use Rattle.std.specs.Prelude.{◌≡◌, ◌<◌, ◌<ℤ◌, ◌^◌, ℕ, pos, List, All, Some, Err, MatchOption, length, map, slice_get};
+ghost use Rattle.std.specs.Prelude.{◌≡◌, ◌<◌, ◌<ℤ◌, ◌^◌, pos, List, Some, MatchOption, length, map, slice_get};
 ghost use Rattle.mpy_base.specs.declared.builtin.Builtin.TheVariants as builtins;
 ghost use Rattle.std.specs.Option.{option_to_list};
 ghost use Rattle.mpy_base.specs.World.{PortState};
 ghost use Rattle.port_set.specs.Calls.{Tell};
 ghost use Rattle.port_set.specs.Counts.{CountsKeep};
 ghost use Rattle.arena_heap.specs.Values.{Leads};
-ghost use Rattle.py_primitives.specs.Faults as plain_faults;
-ghost use Rattle.py_primitives.specs.Outcome as outcomes;
 ghost use Rattle.py_primitives.specs.Output.{put_to, get_from, call_port, call_port_put as put_of, call_port_get as get_of};
-ghost use Rattle.vm_walks.specs.Plain.{plain, plain_heap, plain_pair};
-ghost use Rattle.vm_faults.specs.declared.fault.Fault.TheVariants as faults;
-ghost use Rattle.vm_faults.specs.declared.stop.Stop.TheVariants as stops;
-ghost use Rattle.vm_faults.specs.Faults.{IsKnown};
-ghost use Rattle.vm_faults.specs.Outcomes.{IsKnownAnswer};
+ghost use Rattle.vm_sights.specs.Sights.{sight, KnowsAll, KnowsAnswer};
 ghost use Rattle.vm_operators.specs.Operands.{number_in};
-ghost use Rattle.vm_outputs.specs.PortCalls.{DoesPort, Failed, IsListed, IsNoCall, IsNumberAnswer, IsPortAnswer, IsPortOutcome, IsTaken, called_number, get_at, put_at};
+ghost use Rattle.vm_outputs.specs.PortCalls.{DoesPorts, DoesTold, Failed, FailsListed, FailsPorts, IsFailure, calling_port, IsNoCall, IsNumberAnswer, IsPortAnswer, IsPortOutcome, IsTaken, called_number, get_at, put_at};
 
 use arena_heap::{Arena, Constants, Value};
 use mpy_io::Port;
@@ -34,10 +28,10 @@ fn place_of(z: i32) -> Option<usize>
 
 /// Writes a number to the port at a place.
 fn put_number<P: Port>(ports: &mut PortSet<P>, at: usize, n: i32) -> Result<Value, Stop>
-    ensures told { (contents : List PortState) → Tell (map P.seen ports.old) contents → (result ≡ Err (stops.Raises faults.PortFailed) → (put_to contents at n (slice_get contents at)).answer ≡ Err (outcomes.Raises plain_faults.PortFailed)) → DoesPort (map P.seen ports.new) result (put_to contents at n (slice_get contents at)) }
-    ensures failed { result ≡ Err (stops.Raises faults.PortFailed) → Failed (Some (pos at)) (map P.seen ports.old) (map P.seen ports.new) }
+    ensures told { DoesTold (map P.seen ports.old) (map P.seen ports.new) result (λ contents. put_to contents at n (slice_get contents at)) }
+    ensures failed { IsFailure result → Failed (Some (pos at)) (map P.seen ports.old) (map P.seen ports.new) }
     ensures refused { IsNoCall result → ports.new ≡ ports.old }
-    ensures listed { result ≡ Err (stops.Raises faults.PortFailed) → (contents : List PortState) → IsListed (Some (pos at)) contents → (put_to contents at n (slice_get contents at)).answer ≡ Err (outcomes.Raises plain_faults.PortFailed) }
+    ensures listed { FailsListed (Some (pos at)) result (λ contents. put_to contents at n (slice_get contents at)) }
     ensures faults { CountsKeep (map P.seen ports.old) (map P.seen ports.new) }
     ensures number { IsPortAnswer result }
 {
@@ -50,10 +44,10 @@ fn put_number<P: Port>(ports: &mut PortSet<P>, at: usize, n: i32) -> Result<Valu
 
 /// Writes a number to the port that has a number.
 fn put_numbered<P: Port>(ports: &mut PortSet<P>, i: i32, n: i32) -> Result<Value, Stop>
-    ensures told { (contents : List PortState) → Tell (map P.seen ports.old) contents → (result ≡ Err (stops.Raises faults.PortFailed) → (put_at contents i n).answer ≡ Err (outcomes.Raises plain_faults.PortFailed)) → DoesPort (map P.seen ports.new) result (put_at contents i n) }
-    ensures failed { result ≡ Err (stops.Raises faults.PortFailed) → Failed (Some i) (map P.seen ports.old) (map P.seen ports.new) }
+    ensures told { DoesTold (map P.seen ports.old) (map P.seen ports.new) result (λ contents. put_at contents i n) }
+    ensures failed { IsFailure result → Failed (Some i) (map P.seen ports.old) (map P.seen ports.new) }
     ensures refused { IsNoCall result → ports.new ≡ ports.old }
-    ensures listed { result ≡ Err (stops.Raises faults.PortFailed) → (contents : List PortState) → IsListed (Some i) contents → (put_at contents i n).answer ≡ Err (outcomes.Raises plain_faults.PortFailed) }
+    ensures listed { FailsListed (Some i) result (λ contents. put_at contents i n) }
     ensures faults { CountsKeep (map P.seen ports.old) (map P.seen ports.new) }
     ensures number { IsPortAnswer result }
 {
@@ -73,11 +67,11 @@ fn put_value<C: Constants, P: Port>(
 ) -> Result<Value, Stop>
     requires leads { Leads arena.now.objects i }
     requires n_leads { Leads arena.now.objects n }
-    ensures told { (contents : List PortState) → Tell (map P.seen ports.old) contents → (result ≡ Err (stops.Raises faults.PortFailed) → (put_of (plain_heap (C.text_of _consts.now) (C.items_of _consts.now) arena.now) contents (plain (C.text_of _consts.now) (C.items_of _consts.now) i) (plain (C.text_of _consts.now) (C.items_of _consts.now) n)).answer ≡ Err (outcomes.Raises plain_faults.PortFailed)) → IsPortOutcome (C.text_of _consts.now) (C.items_of _consts.now) arena.now (map P.seen ports.new) result (put_of (plain_heap (C.text_of _consts.now) (C.items_of _consts.now) arena.now) contents (plain (C.text_of _consts.now) (C.items_of _consts.now) i) (plain (C.text_of _consts.now) (C.items_of _consts.now) n)) }
-    ensures known { IsKnownAnswer (C.text_of _consts.now) (C.items_of _consts.now) arena.now.objects result }
-    ensures failed { result ≡ Err (stops.Raises faults.PortFailed) → Failed (number_in i) (map P.seen ports.old) (map P.seen ports.new) }
+    ensures told { DoesPorts C.Constants _consts.now arena.now (map P.seen ports.old) (map P.seen ports.new) result (λ heap see contents. put_of heap contents (see.value i) (see.value n)) }
+    ensures known { KnowsAnswer C.Constants _consts.now arena.now result }
+    ensures failed { IsFailure result → Failed (number_in i) (map P.seen ports.old) (map P.seen ports.new) }
     ensures refused { IsNoCall result → ports.new ≡ ports.old }
-    ensures listed { result ≡ Err (stops.Raises faults.PortFailed) → (contents : List PortState) → IsListed (number_in i) contents → (put_of (plain_heap (C.text_of _consts.now) (C.items_of _consts.now) arena.now) contents (plain (C.text_of _consts.now) (C.items_of _consts.now) i) (plain (C.text_of _consts.now) (C.items_of _consts.now) n)).answer ≡ Err (outcomes.Raises plain_faults.PortFailed) }
+    ensures listed { FailsPorts C.Constants _consts.now arena.now (number_in i) result (λ heap see contents. put_of heap contents (see.value i) (see.value n)) }
     ensures faults { CountsKeep (map P.seen ports.old) (map P.seen ports.new) }
 {
     let number = match number_of(arena, i) {
@@ -99,12 +93,12 @@ pub fn call_port_put<C: Constants, P: Port>(
     keys: &[(Value, Value)],
 ) -> Result<Value, Stop>
     requires few { length args.now < 2 ^ 32 }
-    requires known { All (IsKnown (C.text_of consts.now) (C.items_of consts.now) arena.now.objects) args.now }
-    ensures told { (contents : List PortState) → Tell (map P.seen ports.old) contents → (result ≡ Err (stops.Raises faults.PortFailed) → (call_port (plain_heap (C.text_of consts.now) (C.items_of consts.now) arena.now) contents builtins.PortPut (map (plain (C.text_of consts.now) (C.items_of consts.now)) args.now) (map (plain_pair (C.text_of consts.now) (C.items_of consts.now)) keys.now)).answer ≡ Err (outcomes.Raises plain_faults.PortFailed)) → IsPortOutcome (C.text_of consts.now) (C.items_of consts.now) arena.now (map P.seen ports.new) result (call_port (plain_heap (C.text_of consts.now) (C.items_of consts.now) arena.now) contents builtins.PortPut (map (plain (C.text_of consts.now) (C.items_of consts.now)) args.now) (map (plain_pair (C.text_of consts.now) (C.items_of consts.now)) keys.now)) }
-    ensures known { IsKnownAnswer (C.text_of consts.now) (C.items_of consts.now) arena.now.objects result }
-    ensures failed { result ≡ Err (stops.Raises faults.PortFailed) → Failed (called_number args.now) (map P.seen ports.old) (map P.seen ports.new) }
+    requires known { KnowsAll C.Constants consts.now arena.now args.now }
+    ensures told { DoesPorts C.Constants consts.now arena.now (map P.seen ports.old) (map P.seen ports.new) result (calling_port builtins.PortPut args.now keys.now) }
+    ensures known { KnowsAnswer C.Constants consts.now arena.now result }
+    ensures failed { IsFailure result → Failed (called_number args.now) (map P.seen ports.old) (map P.seen ports.new) }
     ensures refused { IsNoCall result → ports.new ≡ ports.old }
-    ensures listed { result ≡ Err (stops.Raises faults.PortFailed) → (contents : List PortState) → IsListed (called_number args.now) contents → (call_port (plain_heap (C.text_of consts.now) (C.items_of consts.now) arena.now) contents builtins.PortPut (map (plain (C.text_of consts.now) (C.items_of consts.now)) args.now) (map (plain_pair (C.text_of consts.now) (C.items_of consts.now)) keys.now)).answer ≡ Err (outcomes.Raises plain_faults.PortFailed) }
+    ensures listed { FailsPorts C.Constants consts.now arena.now (called_number args.now) result (calling_port builtins.PortPut args.now keys.now) }
     ensures faults { CountsKeep (map P.seen ports.old) (map P.seen ports.new) }
 {
     match only_so_many(2, args, keys) {
@@ -117,7 +111,7 @@ pub fn call_port_put<C: Constants, P: Port>(
 fn answer_value(answer: Option<i32>) -> Result<Value, Stop>
     ensures taken { IsTaken (option_to_list answer) result }
     ensures number { IsPortAnswer result }
-    ensures answered { result ≡ Err (stops.Raises faults.PortFailed) → ⊥ }
+    ensures answered { IsFailure result → ⊥ }
     ensures called { IsNoCall result → ⊥ }
 {
     match answer {
@@ -129,10 +123,10 @@ fn answer_value(answer: Option<i32>) -> Result<Value, Stop>
 
 /// Takes an answer of the port at a place.
 fn get_answer<P: Port>(ports: &mut PortSet<P>, at: usize) -> Result<Value, Stop>
-    ensures told { (contents : List PortState) → Tell (map P.seen ports.old) contents → (result ≡ Err (stops.Raises faults.PortFailed) → (get_from contents at (slice_get contents at)).answer ≡ Err (outcomes.Raises plain_faults.PortFailed)) → DoesPort (map P.seen ports.new) result (get_from contents at (slice_get contents at)) }
-    ensures failed { result ≡ Err (stops.Raises faults.PortFailed) → Failed (Some (pos at)) (map P.seen ports.old) (map P.seen ports.new) }
+    ensures told { DoesTold (map P.seen ports.old) (map P.seen ports.new) result (λ contents. get_from contents at (slice_get contents at)) }
+    ensures failed { IsFailure result → Failed (Some (pos at)) (map P.seen ports.old) (map P.seen ports.new) }
     ensures refused { IsNoCall result → ports.new ≡ ports.old }
-    ensures listed { result ≡ Err (stops.Raises faults.PortFailed) → (contents : List PortState) → IsListed (Some (pos at)) contents → (get_from contents at (slice_get contents at)).answer ≡ Err (outcomes.Raises plain_faults.PortFailed) }
+    ensures listed { FailsListed (Some (pos at)) result (λ contents. get_from contents at (slice_get contents at)) }
     ensures faults { CountsKeep (map P.seen ports.old) (map P.seen ports.new) }
     ensures number { IsPortAnswer result }
 {
@@ -145,10 +139,10 @@ fn get_answer<P: Port>(ports: &mut PortSet<P>, at: usize) -> Result<Value, Stop>
 
 /// Takes an answer of the port that has a number.
 fn get_numbered<P: Port>(ports: &mut PortSet<P>, i: i32) -> Result<Value, Stop>
-    ensures told { (contents : List PortState) → Tell (map P.seen ports.old) contents → (result ≡ Err (stops.Raises faults.PortFailed) → (get_at contents i).answer ≡ Err (outcomes.Raises plain_faults.PortFailed)) → DoesPort (map P.seen ports.new) result (get_at contents i) }
-    ensures failed { result ≡ Err (stops.Raises faults.PortFailed) → Failed (Some i) (map P.seen ports.old) (map P.seen ports.new) }
+    ensures told { DoesTold (map P.seen ports.old) (map P.seen ports.new) result (λ contents. get_at contents i) }
+    ensures failed { IsFailure result → Failed (Some i) (map P.seen ports.old) (map P.seen ports.new) }
     ensures refused { IsNoCall result → ports.new ≡ ports.old }
-    ensures listed { result ≡ Err (stops.Raises faults.PortFailed) → (contents : List PortState) → IsListed (Some i) contents → (get_at contents i).answer ≡ Err (outcomes.Raises plain_faults.PortFailed) }
+    ensures listed { FailsListed (Some i) result (λ contents. get_at contents i) }
     ensures faults { CountsKeep (map P.seen ports.old) (map P.seen ports.new) }
     ensures number { IsPortAnswer result }
 {
@@ -166,11 +160,11 @@ fn get_value<C: Constants, P: Port>(
     i: Value,
 ) -> Result<Value, Stop>
     requires leads { Leads arena.now.objects i }
-    ensures told { (contents : List PortState) → Tell (map P.seen ports.old) contents → (result ≡ Err (stops.Raises faults.PortFailed) → (get_of (plain_heap (C.text_of _consts.now) (C.items_of _consts.now) arena.now) contents (plain (C.text_of _consts.now) (C.items_of _consts.now) i)).answer ≡ Err (outcomes.Raises plain_faults.PortFailed)) → IsPortOutcome (C.text_of _consts.now) (C.items_of _consts.now) arena.now (map P.seen ports.new) result (get_of (plain_heap (C.text_of _consts.now) (C.items_of _consts.now) arena.now) contents (plain (C.text_of _consts.now) (C.items_of _consts.now) i)) }
-    ensures known { IsKnownAnswer (C.text_of _consts.now) (C.items_of _consts.now) arena.now.objects result }
-    ensures failed { result ≡ Err (stops.Raises faults.PortFailed) → Failed (number_in i) (map P.seen ports.old) (map P.seen ports.new) }
+    ensures told { DoesPorts C.Constants _consts.now arena.now (map P.seen ports.old) (map P.seen ports.new) result (λ heap see contents. get_of heap contents (see.value i)) }
+    ensures known { KnowsAnswer C.Constants _consts.now arena.now result }
+    ensures failed { IsFailure result → Failed (number_in i) (map P.seen ports.old) (map P.seen ports.new) }
     ensures refused { IsNoCall result → ports.new ≡ ports.old }
-    ensures listed { result ≡ Err (stops.Raises faults.PortFailed) → (contents : List PortState) → IsListed (number_in i) contents → (get_of (plain_heap (C.text_of _consts.now) (C.items_of _consts.now) arena.now) contents (plain (C.text_of _consts.now) (C.items_of _consts.now) i)).answer ≡ Err (outcomes.Raises plain_faults.PortFailed) }
+    ensures listed { FailsPorts C.Constants _consts.now arena.now (number_in i) result (λ heap see contents. get_of heap contents (see.value i)) }
     ensures faults { CountsKeep (map P.seen ports.old) (map P.seen ports.new) }
 {
     match number_of(arena, i) {
@@ -188,12 +182,12 @@ pub fn call_port_get<C: Constants, P: Port>(
     keys: &[(Value, Value)],
 ) -> Result<Value, Stop>
     requires few { length args.now < 2 ^ 32 }
-    requires known { All (IsKnown (C.text_of consts.now) (C.items_of consts.now) arena.now.objects) args.now }
-    ensures told { (contents : List PortState) → Tell (map P.seen ports.old) contents → (result ≡ Err (stops.Raises faults.PortFailed) → (call_port (plain_heap (C.text_of consts.now) (C.items_of consts.now) arena.now) contents builtins.PortGet (map (plain (C.text_of consts.now) (C.items_of consts.now)) args.now) (map (plain_pair (C.text_of consts.now) (C.items_of consts.now)) keys.now)).answer ≡ Err (outcomes.Raises plain_faults.PortFailed)) → IsPortOutcome (C.text_of consts.now) (C.items_of consts.now) arena.now (map P.seen ports.new) result (call_port (plain_heap (C.text_of consts.now) (C.items_of consts.now) arena.now) contents builtins.PortGet (map (plain (C.text_of consts.now) (C.items_of consts.now)) args.now) (map (plain_pair (C.text_of consts.now) (C.items_of consts.now)) keys.now)) }
-    ensures known { IsKnownAnswer (C.text_of consts.now) (C.items_of consts.now) arena.now.objects result }
-    ensures failed { result ≡ Err (stops.Raises faults.PortFailed) → Failed (called_number args.now) (map P.seen ports.old) (map P.seen ports.new) }
+    requires known { KnowsAll C.Constants consts.now arena.now args.now }
+    ensures told { DoesPorts C.Constants consts.now arena.now (map P.seen ports.old) (map P.seen ports.new) result (calling_port builtins.PortGet args.now keys.now) }
+    ensures known { KnowsAnswer C.Constants consts.now arena.now result }
+    ensures failed { IsFailure result → Failed (called_number args.now) (map P.seen ports.old) (map P.seen ports.new) }
     ensures refused { IsNoCall result → ports.new ≡ ports.old }
-    ensures listed { result ≡ Err (stops.Raises faults.PortFailed) → (contents : List PortState) → IsListed (called_number args.now) contents → (call_port (plain_heap (C.text_of consts.now) (C.items_of consts.now) arena.now) contents builtins.PortGet (map (plain (C.text_of consts.now) (C.items_of consts.now)) args.now) (map (plain_pair (C.text_of consts.now) (C.items_of consts.now)) keys.now)).answer ≡ Err (outcomes.Raises plain_faults.PortFailed) }
+    ensures listed { FailsPorts C.Constants consts.now arena.now (called_number args.now) result (calling_port builtins.PortGet args.now keys.now) }
     ensures faults { CountsKeep (map P.seen ports.old) (map P.seen ports.new) }
 {
     match one_argument(args, keys) {
@@ -223,8 +217,8 @@ pub fn call_port_count<C: Constants, P: Port>(
     keys: &[(Value, Value)],
 ) -> Result<Value, Stop>
     requires few { length args.now < 2 ^ 32 }
-    ensures told { (contents : List PortState) → Tell (map P.seen ports.now) contents → IsPortOutcome (C.text_of consts.now) (C.items_of consts.now) arena.now (map P.seen ports.now) result (call_port (plain_heap (C.text_of consts.now) (C.items_of consts.now) arena.now) contents builtins.PortCount (map (plain (C.text_of consts.now) (C.items_of consts.now)) args.now) (map (plain_pair (C.text_of consts.now) (C.items_of consts.now)) keys.now)) }
-    ensures known { IsKnownAnswer (C.text_of consts.now) (C.items_of consts.now) arena.now.objects result }
+    ensures told { let see = sight C.Constants consts.now in (contents : List PortState) → Tell (map P.seen ports.now) contents → IsPortOutcome see.texts see.tuples arena.now (map P.seen ports.now) result (call_port (see.heap arena.now) contents builtins.PortCount (map see.value args.now) (map see.pair keys.now)) }
+    ensures known { KnowsAnswer C.Constants consts.now arena.now result }
 {
     match only_so_many(0, args, keys) {
         Ok(()) => count_value(ports.len()),

@@ -13,6 +13,7 @@ pub(crate) struct Printer<'a, S> {
 }
 
 impl<'a, S: Sink> Printer<'a, S> {
+    /// A printer over a sink, of which no put has failed.
     pub(crate) fn new(out: &'a mut S) -> Printer<'a, S>
         ensures same_reference { result.out.ghost_name ≡ out.entry.ghost_name }
         ensures unchanged { result.out.now ≡ out.old }

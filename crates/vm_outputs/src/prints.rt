@@ -3,15 +3,13 @@
 ghost use Rattle.std.specs.Prelude.{◌≡◌, ◌<◌, ◌++◌, ℕ, List, All, Some, Ok, true, is_some, is_err, map, unwrap_or, IfSome, min};
 ghost use Rattle.std.specs.Option.{option_map};
 ghost use Rattle.arena_objects.specs.Iterables.{spelled};
-ghost use Rattle.arena_objects.specs.Keys.{AllTold};
 ghost use Rattle.py_primitives.specs.Output.{printed, printed_with};
 ghost use Rattle.py_primitives.specs.Texts.{str_of, joined};
 ghost use Rattle.py_primitives.specs.Walks.{walk_all};
-ghost use Rattle.vm_walks.specs.Plain.{plain, plain_heap, plain_pair};
 ghost use Rattle.vm_walks.specs.Pens.{Wrote};
-ghost use Rattle.vm_faults.specs.Faults.{IsKnown, IsKnownStr};
+ghost use Rattle.vm_sights.specs.Sights.{under, sight, TellsAll, KnowsAll, KnowsPairs, KnowsStr, CountsUpTo};
 ghost use Rattle.vm_outputs.specs.Ends.{AreStrs, plain_ends};
-ghost use Rattle.vm_outputs.specs.Prints.{IsPrint, Puts, PutsOn, in_front};
+ghost use Rattle.vm_outputs.specs.Prints.{Puts, PutsOn, in_front, DoesPrint, str_texts};
 
 use crate::keywords::{Given, given_by};
 use crate::printer::Printer;
@@ -31,9 +29,9 @@ pub enum PrintStop {
 
 /// Whether all these have texts: a text may go too deep.
 fn all_end<C: Constants>(arena: &Arena, consts: &C, args: &[Value]) -> bool
-    requires known { All (IsKnown (C.text_of consts.now) (C.items_of consts.now) arena.now.objects) args.now }
-    requires all_told { AllTold (C.text_of consts.now) (C.items_of consts.now) arena.now.objects }
-    ensures { result ≡ is_some (walk_all (str_of (plain_heap (C.text_of consts.now) (C.items_of consts.now) arena.now)) (map (plain (C.text_of consts.now) (C.items_of consts.now)) args.now)).answer }
+    requires known { KnowsAll C.Constants consts.now arena.now args.now }
+    requires all_told { TellsAll C.Constants consts.now arena.now }
+    ensures { result ≡ is_some (str_texts C.Constants consts.now arena.now args.now) }
 {
     for v in args {
         if text_len(arena, consts, *v, true).is_none() {
@@ -62,11 +60,11 @@ fn put_texts<P: Pen, C: Constants>(
     sep: &[u8],
     pen: &mut P,
 )
-    requires known { All (IsKnown (C.text_of consts.now) (C.items_of consts.now) arena.now.objects) args.now }
-    requires all_told { AllTold (C.text_of consts.now) (C.items_of consts.now) arena.now.objects }
+    requires known { KnowsAll C.Constants consts.now arena.now args.now }
+    requires all_told { TellsAll C.Constants consts.now arena.now }
     requires ascii { All (λ b. b < 128) sep.now }
-    requires end { is_some (walk_all (str_of (plain_heap (C.text_of consts.now) (C.items_of consts.now) arena.now)) (map (plain (C.text_of consts.now) (C.items_of consts.now)) args.now)).answer ≡ true }
-    ensures { (texts : List (List ℕ)) → (walk_all (str_of (plain_heap (C.text_of consts.now) (C.items_of consts.now) arena.now)) (map (plain (C.text_of consts.now) (C.items_of consts.now)) args.now)).answer ≡ Some texts → Wrote P.Takes pen.old (joined sep.now texts) pen.new }
+    requires end { is_some (str_texts C.Constants consts.now arena.now args.now) ≡ true }
+    ensures { (texts : List (List ℕ)) → str_texts C.Constants consts.now arena.now args.now ≡ Some texts → Wrote P.Takes pen.old (joined sep.now texts) pen.new }
 {
     for (at, v) in args.iter().enumerate() {
         put_separator(pen, sep, at);
@@ -85,13 +83,13 @@ fn write_line<S: Sink, C: Constants>(
     last: &[u8],
     printer: &mut Printer<S>,
 )
-    requires known { All (IsKnown (C.text_of consts.now) (C.items_of consts.now) arena.now.objects) args.now }
-    requires all_told { AllTold (C.text_of consts.now) (C.items_of consts.now) arena.now.objects }
+    requires known { KnowsAll C.Constants consts.now arena.now args.now }
+    requires all_told { TellsAll C.Constants consts.now arena.now }
     requires sep { All (λ b. b < 128) sep.now }
     requires last { All (λ b. b < 128) last.now }
-    requires end { is_some (walk_all (str_of (plain_heap (C.text_of consts.now) (C.items_of consts.now) arena.now)) (map (plain (C.text_of consts.now) (C.items_of consts.now)) args.now)).answer ≡ true }
+    requires end { is_some (str_texts C.Constants consts.now arena.now args.now) ≡ true }
     ensures same_reference { printer.new.out.ghost_name ≡ printer.old.out.ghost_name }
-    ensures puts { (texts : List (List ℕ)) → (walk_all (str_of (plain_heap (C.text_of consts.now) (C.items_of consts.now) arena.now)) (map (plain (C.text_of consts.now) (C.items_of consts.now)) args.now)).answer ≡ Some texts → PutsOn S.told S.count printer.old.failed printer.old.out.now printer.new.out.now printer.new.failed (joined sep.now texts ++ last.now) }
+    ensures puts { (texts : List (List ℕ)) → str_texts C.Constants consts.now arena.now args.now ≡ Some texts → PutsOn S.told S.count printer.old.failed printer.old.out.now printer.new.out.now printer.new.failed (joined sep.now texts ++ last.now) }
 {
     put_texts(arena, consts, args, sep, printer);
     printer.put(last);
@@ -106,12 +104,12 @@ fn put_line<S: Sink, C: Constants>(
     sep: &[u8],
     last: &[u8],
 ) -> Result<(), Failed>
-    requires known { All (IsKnown (C.text_of consts.now) (C.items_of consts.now) arena.now.objects) args.now }
-    requires all_told { AllTold (C.text_of consts.now) (C.items_of consts.now) arena.now.objects }
+    requires known { KnowsAll C.Constants consts.now arena.now args.now }
+    requires all_told { TellsAll C.Constants consts.now arena.now }
     requires sep { All (λ b. b < 128) sep.now }
     requires last { All (λ b. b < 128) last.now }
-    requires end { is_some (walk_all (str_of (plain_heap (C.text_of consts.now) (C.items_of consts.now) arena.now)) (map (plain (C.text_of consts.now) (C.items_of consts.now)) args.now)).answer ≡ true }
-    ensures { (texts : List (List ℕ)) → (walk_all (str_of (plain_heap (C.text_of consts.now) (C.items_of consts.now) arena.now)) (map (plain (C.text_of consts.now) (C.items_of consts.now)) args.now)).answer ≡ Some texts → Puts S.told S.count out.old out.new (is_err result) (joined sep.now texts ++ last.now) }
+    requires end { is_some (str_texts C.Constants consts.now arena.now args.now) ≡ true }
+    ensures { (texts : List (List ℕ)) → str_texts C.Constants consts.now arena.now args.now ≡ Some texts → Puts S.told S.count out.old out.new (is_err result) (joined sep.now texts ++ last.now) }
 {
     let mut printer = Printer::new(out);
     write_line(arena, consts, args, sep, last, &mut printer);
@@ -125,7 +123,7 @@ fn end_bytes<'a, C: Constants>(
     given: Option<Value>,
     otherwise: &'a [u8],
 ) -> &'a [u8]
-    requires str { IfSome given (IsKnownStr (C.text_of consts.now) (C.items_of consts.now) arena.now.objects) }
+    requires str { IfSome given (KnowsStr C.Constants consts.now arena.now) }
     requires ascii { All (λ b. b < 128) otherwise.now }
     ensures bytes { result.now ≡ unwrap_or (option_map (spelled (C.text_of consts.now) arena.now) given) otherwise.now }
     ensures ascii { All (λ b. b < 128) result.now }
@@ -144,10 +142,10 @@ fn print_with<S: Sink, C: Constants>(
     args: &[Value],
     given: Given,
 ) -> Result<Value, PrintStop>
-    requires known { All (IsKnown (C.text_of consts.now) (C.items_of consts.now) arena.now.objects) args.now }
-    requires all_told { AllTold (C.text_of consts.now) (C.items_of consts.now) arena.now.objects }
-    requires strs { AreStrs (C.text_of consts.now) (C.items_of consts.now) arena.now given }
-    ensures { IsPrint S.told S.count (C.text_of consts.now) (C.items_of consts.now) arena.now out.old out.new result (printed_with (plain_heap (C.text_of consts.now) (C.items_of consts.now) arena.now) (map (plain (C.text_of consts.now) (C.items_of consts.now)) args.now) (Ok (plain_ends (C.text_of consts.now) (C.items_of consts.now) arena.now given))) }
+    requires known { KnowsAll C.Constants consts.now arena.now args.now }
+    requires all_told { TellsAll C.Constants consts.now arena.now }
+    requires strs { under C.Constants consts.now AreStrs arena.now given }
+    ensures { DoesPrint C.Constants consts.now arena.now S.told S.count out.old out.new result (λ heap see. printed_with heap (map see.value args.now) (Ok (plain_ends see.texts see.tuples arena.now given))) }
 {
     if !all_end(arena, consts, args) {
         return Err(PrintStop::Raises(Fault::TooDeep));
@@ -168,10 +166,10 @@ pub fn call_print<S: Sink, C: Constants>(
     args: &[Value],
     keys: &[(Value, Value)],
 ) -> Result<Value, PrintStop>
-    requires known { All (IsKnown (C.text_of consts.now) (C.items_of consts.now) arena.now.objects) args.now }
-    requires known_keys { All (λ pair. IsKnown (C.text_of consts.now) (C.items_of consts.now) arena.now.objects pair.0 × IsKnown (C.text_of consts.now) (C.items_of consts.now) arena.now.objects pair.1) keys.now }
-    requires all_told { AllTold (C.text_of consts.now) (C.items_of consts.now) arena.now.objects }
-    ensures { IsPrint S.told S.count (C.text_of consts.now) (C.items_of consts.now) arena.now out.old out.new result (printed (plain_heap (C.text_of consts.now) (C.items_of consts.now) arena.now) (map (plain (C.text_of consts.now) (C.items_of consts.now)) args.now) (map (plain_pair (C.text_of consts.now) (C.items_of consts.now)) keys.now)) }
+    requires known { KnowsAll C.Constants consts.now arena.now args.now }
+    requires known_keys { KnowsPairs C.Constants consts.now arena.now keys.now }
+    requires all_told { TellsAll C.Constants consts.now arena.now }
+    ensures { DoesPrint C.Constants consts.now arena.now S.told S.count out.old out.new result (λ heap see. printed heap (map see.value args.now) (map see.pair keys.now)) }
 {
     match given_by(arena, consts, keys) {
         Ok(given) => print_with(arena, consts, out, args, given),
@@ -179,11 +177,11 @@ pub fn call_print<S: Sink, C: Constants>(
     }
 }
 
-/// How many visits the texts of values take one after another, up to the first that goes too deep, and to so many.
+/// How many visits the texts of values take one after another, up to the first that goes too deep, `most` at most.
 fn visits_texts<C: Constants>(arena: &Arena, consts: &C, args: &[Value], most: u64) -> u64
-    requires known { All (IsKnown (C.text_of consts.now) (C.items_of consts.now) arena.now.objects) args.now }
-    requires all_told { AllTold (C.text_of consts.now) (C.items_of consts.now) arena.now.objects }
-    ensures { result ≡ min (walk_all (str_of (plain_heap (C.text_of consts.now) (C.items_of consts.now) arena.now)) (map (plain (C.text_of consts.now) (C.items_of consts.now)) args.now)).visits most }
+    requires known { KnowsAll C.Constants consts.now arena.now args.now }
+    requires all_told { TellsAll C.Constants consts.now arena.now }
+    ensures { let see = sight C.Constants consts.now in result ≡ min (walk_all (str_of (see.heap arena.now)) (map see.value args.now)).visits most }
 {
     let mut made = 0;
     for v in args {
@@ -198,7 +196,7 @@ fn visits_texts<C: Constants>(arena: &Arena, consts: &C, args: &[Value], most: u
     made
 }
 
-/// How many visits `print` of these arguments makes, up to so many. It goes no further.
+/// How many visits `print` of these arguments makes, `most` at most. It goes no further.
 pub fn visits_call_print<C: Constants>(
     arena: &Arena,
     consts: &C,
@@ -206,10 +204,10 @@ pub fn visits_call_print<C: Constants>(
     keys: &[(Value, Value)],
     most: u64,
 ) -> u64
-    requires known { All (IsKnown (C.text_of consts.now) (C.items_of consts.now) arena.now.objects) args.now }
-    requires known_keys { All (λ pair. IsKnown (C.text_of consts.now) (C.items_of consts.now) arena.now.objects pair.0 × IsKnown (C.text_of consts.now) (C.items_of consts.now) arena.now.objects pair.1) keys.now }
-    requires all_told { AllTold (C.text_of consts.now) (C.items_of consts.now) arena.now.objects }
-    ensures { result ≡ min (printed (plain_heap (C.text_of consts.now) (C.items_of consts.now) arena.now) (map (plain (C.text_of consts.now) (C.items_of consts.now)) args.now) (map (plain_pair (C.text_of consts.now) (C.items_of consts.now)) keys.now)).visits most }
+    requires known { KnowsAll C.Constants consts.now arena.now args.now }
+    requires known_keys { KnowsPairs C.Constants consts.now arena.now keys.now }
+    requires all_told { TellsAll C.Constants consts.now arena.now }
+    ensures { CountsUpTo C.Constants consts.now result most arena.now (λ heap see. printed heap (map see.value args.now) (map see.pair keys.now)) }
 {
     match given_by(arena, consts, keys) {
         Ok(_) => visits_texts(arena, consts, args, most),

@@ -2,11 +2,10 @@
 
 ghost use Rattle.std.specs.Prelude.{◌≡◌, ◌<◌, All, IfSome, option_copied};
 ghost use Rattle.arena_heap.specs.Values.{Leads, IsStr};
-ghost use Rattle.arena_heap.specs.Constants.{IsTold};
 ghost use Rattle.arena_objects.specs.Iterables.{spelled};
 ghost use Rattle.py_values.specs.Shown.{shown};
 ghost use Rattle.py_primitives.specs.Methods.{str_in};
-ghost use Rattle.vm_walks.specs.Plain.{plain, plain_heap};
+ghost use Rattle.vm_sights.specs.Sights.{sight, Tells};
 
 use arena_heap::{Arena, Constants, Value};
 use arena_objects::text_bytes;
@@ -18,8 +17,8 @@ pub(crate) fn str_of<'a, C: Constants>(
     v: Value,
 ) -> Option<&'a [u8]>
     requires leads { Leads arena.now.objects v }
-    requires told { IsTold (C.text_of consts.now) (C.items_of consts.now) v }
-    ensures shown { option_copied result ≡ str_in (shown (plain_heap (C.text_of consts.now) (C.items_of consts.now) arena.now) (plain (C.text_of consts.now) (C.items_of consts.now) v)) }
+    requires told { Tells C.Constants consts.now v }
+    ensures shown { let see = sight C.Constants consts.now in option_copied result ≡ str_in (shown (see.heap arena.now) (see.value v)) }
     ensures str { IfSome result (λ _. IsStr v) }
     ensures spelled { IfSome result (λ bytes. bytes.now ≡ spelled (C.text_of consts.now) arena.now v) }
     ensures ascii { IfSome result (λ bytes. All (λ b. b < 128) bytes.now) }

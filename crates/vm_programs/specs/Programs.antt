@@ -18,7 +18,7 @@ pub record IsRunnable (shelf : Shelf) : Type 0 where
   pub are_modules : (i : ℕ) (m : Module) → module_at shelf i ≡ Some m → IsModule m
   pub are_verified : (i : ℕ) (m : Module) → module_at shelf i ≡ Some m → IsVerified m
 
--- its modules by their names, and behind them the refused names
+-- what a library stores: its modules by their names, and behind them the refused names
 abbrev pub stored_of : Shelf → List (Name × Stored)
 stored_of shelf = map (λ (n : Named). (n.name, Kept n.held)) shelf.modules ++ map (λ (name : Name). (name, Refused)) shelf.refused
 

@@ -18,7 +18,8 @@ use Rattle.vm_faults.specs.declared.stop.Stop.TheVariants.{Raises}
 use Rattle.vm_faults.specs.Faults.{plain_fault, IsKnownFault}
 use Rattle.vm_faults.specs.Outcomes.{IsOutcome}
 use Rattle.vm_faults.proofs.Outcomes.{gives_outcome, raises_outcome}
-use Rattle.vm_raising.specs.Worlds.{Sight, sight, world_over, HasEffect}
+use Rattle.vm_sights.specs.Sights.{Sight, sight_of as sight, world_over}
+use Rattle.vm_raising.specs.Worlds.{HasEffect}
 
 module _ (texts : StrNo → Option (List ℕ)) (tuples : ConstNo → Option (List Value)) where
   -- the outcome of a primitive that makes no visits

@@ -30,7 +30,8 @@ use Rattle.vm_faults.proofs.Heaps.{object_of}
 use Rattle.vm_operators.proofs.ItemFills.{told_put}
 use Rattle.vm_raising.specs.declared.place.Place.{Place}
 use Rattle.vm_raising.specs.Places.{plain_place, stopped_at}
-use Rattle.vm_raising.specs.Worlds.{Sight, sight, world_over, HasFailed}
+use Rattle.vm_sights.specs.Sights.{Sight, sight_of as sight, world_over}
+use Rattle.vm_raising.specs.Worlds.{HasFailed}
 
 module _ (texts : StrNo → Option (List ℕ)) (tuples : ConstNo → Option (List Value)) where
   placed_plain : (o : Option ArenaObject) (file line name : ℕ)

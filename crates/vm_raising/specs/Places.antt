@@ -4,8 +4,9 @@ use Rattle.py_primitives.specs.Outcome.{Stop, Raises, Full}
 use Rattle.py_effects.specs.Effect as effects
 use Rattle.py_effects.specs.Effect.{Fails, Filled, fault_at}
 use Rattle.vm_raising.specs.declared.place.Place.{Place}
-use Rattle.vm_raising.specs.Worlds.{Sight}
+use Rattle.vm_sights.specs.Sights.{Sight}
 
+-- a place as the meaning has it
 abbrev pub plain_place : Sight → Place → effects.Place
 plain_place see place = record { file = see.name place.file; line = place.line; name = see.name place.name }
 

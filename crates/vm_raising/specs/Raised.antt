@@ -15,6 +15,7 @@ abbrev pub IsNothing : Heap Value ℕ → Value → Type 0
 IsNothing heap v =
     (texts : StrNo → Option (List ℕ)) (tuples : ConstNo → Option (List Value)) → (named_kind (plain texts tuples v) ≡ None) × (exception_kind (plain_heap texts tuples heap) (plain texts tuples v) ≡ None)
 
+-- what raising the value raises: a new exception of a kind, the exception that it is, or nothing
 abbrev pub IsRaised : Heap Value ℕ → Value → Raised → Type 0
 IsRaised heap v (raised.New kind) = (texts : StrNo → Option (List ℕ)) (tuples : ConstNo → Option (List Value)) → named_kind (plain texts tuples v) ≡ Some kind
 IsRaised heap v (raised.Same x) = v ≡ values.Exc x

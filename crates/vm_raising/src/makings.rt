@@ -4,13 +4,11 @@ ghost use Rattle.std.specs.Prelude.{[], ◌∷◌};
 ghost use Rattle.mpy_base.specs.World.{ExceptionObject};
 ghost use Rattle.arena_heap.specs.declared.value.Value.TheVariants as values;
 ghost use Rattle.arena_heap.specs.Values.{Leads, IsTuple};
-ghost use Rattle.arena_heap.specs.Constants.{IsTold};
-ghost use Rattle.arena_objects.specs.Keys.{AllTold};
 ghost use Rattle.py_primitives.specs.Faults.{fault_value};
 ghost use Rattle.py_primitives.specs.Outcome.{making, making_tuple, making_exception, making_fault, fault_argument as argument_of_fault};
-ghost use Rattle.vm_faults.specs.Faults.{plain_fault, IsKnownFault};
+ghost use Rattle.vm_faults.specs.Faults.{plain_fault};
+ghost use Rattle.vm_sights.specs.Sights.{under, Tells, TellsAll, KnowsFault, Does};
 ghost use Rattle.vm_raising.specs.Makings.{as_value};
-ghost use Rattle.vm_raising.specs.Worlds.{Does};
 
 use crate::texts::make_fault_text;
 use arena_heap::{Arena, Constants, ExcNo, TupleNo, Value, tuple_fill};
@@ -23,9 +21,9 @@ fn fault_argument<C: Constants>(
     consts: &C,
     fault: Fault,
 ) -> Result<Value, NoRoom>
-    requires known { IsKnownFault (C.text_of consts.now) (C.items_of consts.now) arena.old.objects fault }
-    requires all_told { AllTold (C.text_of consts.now) (C.items_of consts.now) arena.old.objects }
-    ensures { Does (C.text_of consts.now) (C.items_of consts.now) arena.old arena.new (as_value (λ v. v) result) (λ heap see. let plain = plain_fault (C.text_of consts.now) (C.items_of consts.now) arena.old fault in argument_of_fault heap plain (fault_value plain)) }
+    requires known { KnowsFault C.Constants consts.now arena.old fault }
+    requires all_told { TellsAll C.Constants consts.now arena.old }
+    ensures { Does C.Constants consts.now arena.old arena.new (as_value (λ v. v) result) (λ heap see. let plain = under C.Constants consts.now plain_fault arena.old fault in argument_of_fault heap plain (fault_value plain)) }
 {
     match fault {
         Fault::NoKey(key) => Ok(key),
@@ -37,9 +35,9 @@ fn fault_argument<C: Constants>(
 /// A tuple of one value.
 fn make_single<C: Constants>(arena: &mut Arena, _consts: &C, v: Value) -> Result<TupleNo, NoRoom>
     requires leads { Leads arena.old.objects v }
-    requires told { IsTold (C.text_of _consts.now) (C.items_of _consts.now) v }
-    requires all_told { AllTold (C.text_of _consts.now) (C.items_of _consts.now) arena.old.objects }
-    ensures { Does (C.text_of _consts.now) (C.items_of _consts.now) arena.old arena.new (as_value values.Tuple result) (λ heap see. making_tuple heap (see.value v ∷ [])) }
+    requires told { Tells C.Constants _consts.now v }
+    requires all_told { TellsAll C.Constants _consts.now arena.old }
+    ensures { Does C.Constants _consts.now arena.old arena.new (as_value values.Tuple result) (λ heap see. making_tuple heap (see.value v ∷ [])) }
 {
     match arena.make_tuple(1) {
         Ok(t) => {
@@ -58,10 +56,10 @@ pub(crate) fn make_exception<C: Constants>(
     args: Value,
 ) -> Result<ExcNo, NoRoom>
     requires leads { Leads arena.old.objects args }
-    requires told { IsTold (C.text_of consts.now) (C.items_of consts.now) args }
+    requires told { Tells C.Constants consts.now args }
     requires tuple { IsTuple args }
-    requires all_told { AllTold (C.text_of consts.now) (C.items_of consts.now) arena.old.objects }
-    ensures { Does (C.text_of consts.now) (C.items_of consts.now) arena.old arena.new (as_value values.Exc result) (λ heap see. making heap (ExceptionObject kind (see.value args) [] 0 [])) }
+    requires all_told { TellsAll C.Constants consts.now arena.old }
+    ensures { Does C.Constants consts.now arena.old arena.new (as_value values.Exc result) (λ heap see. making heap (ExceptionObject kind (see.value args) [] 0 [])) }
 {
     consts.empty_law();
     match arena.make_exc(kind, args) {
@@ -78,9 +76,9 @@ fn make_with_argument<C: Constants>(
     v: Value,
 ) -> Result<ExcNo, NoRoom>
     requires leads { Leads arena.old.objects v }
-    requires told { IsTold (C.text_of consts.now) (C.items_of consts.now) v }
-    requires all_told { AllTold (C.text_of consts.now) (C.items_of consts.now) arena.old.objects }
-    ensures { Does (C.text_of consts.now) (C.items_of consts.now) arena.old arena.new (as_value values.Exc result) (λ heap see. making_exception heap kind (see.value v ∷ [])) }
+    requires told { Tells C.Constants consts.now v }
+    requires all_told { TellsAll C.Constants consts.now arena.old }
+    ensures { Does C.Constants consts.now arena.old arena.new (as_value values.Exc result) (λ heap see. making_exception heap kind (see.value v ∷ [])) }
 {
     match make_single(arena, consts, v) {
         Ok(t) => make_exception(arena, consts, kind, Value::Tuple(t)),
@@ -94,9 +92,9 @@ pub(crate) fn make_fault<C: Constants>(
     consts: &C,
     fault: Fault,
 ) -> Result<ExcNo, NoRoom>
-    requires known { IsKnownFault (C.text_of consts.now) (C.items_of consts.now) arena.old.objects fault }
-    requires all_told { AllTold (C.text_of consts.now) (C.items_of consts.now) arena.old.objects }
-    ensures { Does (C.text_of consts.now) (C.items_of consts.now) arena.old arena.new (as_value values.Exc result) (λ heap see. making_fault heap (plain_fault (C.text_of consts.now) (C.items_of consts.now) arena.old fault)) }
+    requires known { KnowsFault C.Constants consts.now arena.old fault }
+    requires all_told { TellsAll C.Constants consts.now arena.old }
+    ensures { Does C.Constants consts.now arena.old arena.new (as_value values.Exc result) (λ heap see. making_fault heap (under C.Constants consts.now plain_fault arena.old fault)) }
 {
     match fault_argument(arena, consts, fault) {
         Ok(v) => make_with_argument(arena, consts, fault_kind(fault), v),

@@ -1,4 +1,4 @@
-//! What is raised.
+//! Raising: the exception of a fault or of a value is made, and gets the place where it is raised.
 
 ghost use Rattle.std.specs.Prelude.{◌≡◌, ℕ, [], ◌∷◌};
 ghost use Rattle.mpy_base.specs.Val.{Empty};
@@ -9,8 +9,9 @@ ghost use Rattle.py_primitives.specs.Builtins.{kind_in as kind_that_is};
 ghost use Rattle.py_primitives.specs.Outcome.{making};
 ghost use Rattle.py_effects.specs.Effect.{raise_made, fault_at as fault_at_place};
 ghost use Rattle.py_effects.specs.Names.{raise_value as raise_value_at};
-ghost use Rattle.vm_faults.specs.Faults.{plain_fault, IsKnownFault};
-ghost use Rattle.vm_faults.specs.Outcomes.{plain_stop, IsKnownAnswer};
+ghost use Rattle.vm_faults.specs.Faults.{plain_fault};
+ghost use Rattle.vm_faults.specs.Outcomes.{plain_stop};
+ghost use Rattle.vm_sights.specs.Sights.{under, KnowsFault, KnowsAnswer};
 ghost use Rattle.vm_raising.specs.Places.{plain_place, stopped_at};
 ghost use Rattle.vm_raising.specs.Raised.{IsRaised};
 ghost use Rattle.vm_raising.specs.Worlds.{Stands, HasFailed};
@@ -41,6 +42,7 @@ fn kind_in(b: Builtin) -> Option<Kind>
     }
 }
 
+/// What raising a built-in raises: a new exception where it is a kind of them, and else nothing.
 fn raised_by_builtin(b: Builtin) -> Raised
     ensures { (heap : Heap Item ℕ) → IsRaised heap (Value.Built b) result }
 {
@@ -80,9 +82,9 @@ pub fn fault_at<C: Constants>(
     place: Place,
     fault: Fault,
 ) -> Result<ExcNo, NoRoom>
-    requires stands { Stands (C.text_of consts.now) (C.items_of consts.now) arena.old [] }
-    requires known { IsKnownFault (C.text_of consts.now) (C.items_of consts.now) arena.old.objects fault }
-    ensures { HasFailed (C.text_of consts.now) (C.items_of consts.now) arena.old arena.new result (λ w see. fault_at_place (plain_place see place) w (plain_fault (C.text_of consts.now) (C.items_of consts.now) arena.old fault)) }
+    requires stands { under C.Constants consts.now Stands arena.old [] }
+    requires known { KnowsFault C.Constants consts.now arena.old fault }
+    ensures { under C.Constants consts.now HasFailed arena.old arena.new result (λ w see. fault_at_place (plain_place see place) w (under C.Constants consts.now plain_fault arena.old fault)) }
 {
     match make_fault(arena, consts, fault) {
         Ok(x) => {
@@ -100,9 +102,9 @@ pub fn stop_at<C: Constants>(
     place: Place,
     stop: Stop,
 ) -> Result<ExcNo, NoRoom>
-    requires stands { Stands (C.text_of consts.now) (C.items_of consts.now) arena.old [] }
-    requires known { IsKnownAnswer (C.text_of consts.now) (C.items_of consts.now) arena.old.objects (Err stop) }
-    ensures { HasFailed (C.text_of consts.now) (C.items_of consts.now) arena.old arena.new result (λ w see. stopped_at (plain_place see place) w (plain_stop (C.text_of consts.now) (C.items_of consts.now) arena.old stop)) }
+    requires stands { under C.Constants consts.now Stands arena.old [] }
+    requires known { KnowsAnswer C.Constants consts.now arena.old (Err stop) }
+    ensures { under C.Constants consts.now HasFailed arena.old arena.new result (λ w see. stopped_at (plain_place see place) w (under C.Constants consts.now plain_stop arena.old stop)) }
 {
     match stop {
         Stop::Raises(fault) => fault_at(arena, consts, place, fault),
@@ -117,8 +119,8 @@ fn raise_kind<C: Constants>(
     place: Place,
     kind: Kind,
 ) -> Result<ExcNo, NoRoom>
-    requires { Stands (C.text_of consts.now) (C.items_of consts.now) arena.old [] }
-    ensures { HasFailed (C.text_of consts.now) (C.items_of consts.now) arena.old arena.new result (λ w see. raise_made (plain_place see place) w (making w.heap (ExceptionObject kind Empty [] 0 []))) }
+    requires { under C.Constants consts.now Stands arena.old [] }
+    ensures { under C.Constants consts.now HasFailed arena.old arena.new result (λ w see. raise_made (plain_place see place) w (making w.heap (ExceptionObject kind Empty [] 0 []))) }
 {
     match make_exception(arena, consts, kind, Value::Empty) {
         Ok(x) => {
@@ -136,8 +138,8 @@ pub fn raise_value<C: Constants>(
     place: Place,
     v: Value,
 ) -> Result<ExcNo, NoRoom>
-    requires { Stands (C.text_of consts.now) (C.items_of consts.now) arena.old (v ∷ []) }
-    ensures { HasFailed (C.text_of consts.now) (C.items_of consts.now) arena.old arena.new result (λ w see. raise_value_at (plain_place see place) w (see.value v)) }
+    requires { under C.Constants consts.now Stands arena.old (v ∷ []) }
+    ensures { under C.Constants consts.now HasFailed arena.old arena.new result (λ w see. raise_value_at (plain_place see place) w (see.value v)) }
 {
     match raised_by(arena, v) {
         Raised::New(kind) => raise_kind(arena, consts, place, kind),

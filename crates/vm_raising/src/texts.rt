@@ -2,13 +2,12 @@
 
 ghost use Rattle.std.specs.Prelude.{◌≡◌, ◌<◌, ◌^◌, length, All, IsSome};
 ghost use Rattle.mpy_base.specs.World.{AText, IsA, Later, text_at, with_text};
-ghost use Rattle.arena_objects.specs.Keys.{AllTold};
 ghost use Rattle.arena_objects.specs.Iterables.{or_nothing, spelled};
 ghost use Rattle.py_primitives.specs.Faults.{fault_text};
 ghost use Rattle.py_primitives.specs.Outcome.{making_text};
-ghost use Rattle.vm_faults.specs.Faults.{plain_fault, name_in, IsKnownFault, IsKnownStr};
+ghost use Rattle.vm_faults.specs.Faults.{plain_fault, name_in};
+ghost use Rattle.vm_sights.specs.Sights.{under, TellsAll, KnowsStr, KnowsFault, Does};
 ghost use Rattle.vm_raising.specs.Makings.{as_value, IsApart, HasCounts};
-ghost use Rattle.vm_raising.specs.Worlds.{Does};
 
 use arena_heap::{Arena, Constants, StrNo, TextNo, Value, text_fill};
 use arena_objects::text_bytes;
@@ -25,7 +24,7 @@ fn constant_law<C: Constants>(consts: &C, name: StrNo)
 
 /// The bytes of a str are below 0x80.
 fn str_law<C: Constants>(arena: &Arena, consts: &C, name: Value)
-    requires { IsKnownStr (C.text_of consts.now) (C.items_of consts.now) arena.now.objects name }
+    requires { KnowsStr C.Constants consts.now arena.now name }
     ensures { All (λ b. b < 128) (spelled (C.text_of consts.now) arena.now name) }
 {
     let _text = text_bytes(arena, consts, name);
@@ -33,8 +32,8 @@ fn str_law<C: Constants>(arena: &Arena, consts: &C, name: Value)
 
 /// The bytes of the name that a fault has are below 0x80.
 fn name_law<C: Constants>(arena: &Arena, consts: &C, fault: Fault)
-    requires { IsKnownFault (C.text_of consts.now) (C.items_of consts.now) arena.now.objects fault }
-    ensures { All (λ b. b < 128) (name_in (C.text_of consts.now) (C.items_of consts.now) arena.now fault) }
+    requires { KnowsFault C.Constants consts.now arena.now fault }
+    ensures { All (λ b. b < 128) (under C.Constants consts.now name_in arena.now fault) }
 {
     match fault {
         Fault::NoAttribute { name, .. } | Fault::NoSuchName(name) | Fault::NotImported(name) => {
@@ -48,10 +47,12 @@ fn name_law<C: Constants>(arena: &Arena, consts: &C, fault: Fault)
     }
 }
 
+/// A count fits 32 bits.
 fn one_count(_count: u32)
     ensures { _count < 2 ^ 32 }
 {}
 
+/// Two counts fit 32 bits each.
 fn two_counts(_first: u32, _second: u32)
     ensures { (_first < 2 ^ 32) × (_second < 2 ^ 32) }
 {}
@@ -73,8 +74,8 @@ fn count_law(fault: Fault)
 
 /// The bytes of a fault's text are below 0x80.
 fn ascii_law<C: Constants>(arena: &Arena, consts: &C, fault: Fault)
-    requires { IsKnownFault (C.text_of consts.now) (C.items_of consts.now) arena.now.objects fault }
-    ensures { All (λ b. b < 128) (fault_text (plain_fault (C.text_of consts.now) (C.items_of consts.now) arena.now fault)) }
+    requires { KnowsFault C.Constants consts.now arena.now fault }
+    ensures { All (λ b. b < 128) (fault_text (under C.Constants consts.now plain_fault arena.now fault)) }
 {
     name_law(arena, consts, fault);
     count_law(fault);
@@ -83,11 +84,11 @@ fn ascii_law<C: Constants>(arena: &Arena, consts: &C, fault: Fault)
 /// Writes the text of a fault to a text of its length.
 fn fill_fault<C: Constants>(arena: &mut Arena, consts: &C, t: TextNo, fault: Fault)
     requires text { IsA arena.old.objects AText t.cell }
-    requires known { IsKnownFault (C.text_of consts.now) (C.items_of consts.now) arena.old.objects fault }
+    requires known { KnowsFault C.Constants consts.now arena.old fault }
     requires apart { IsApart t.cell fault }
     requires few { length (text_at arena.old t.cell) < 2 ^ 32 }
-    requires room { length (text_at arena.old t.cell) ≡ length (fault_text (plain_fault (C.text_of consts.now) (C.items_of consts.now) arena.old fault)) }
-    ensures filled { arena.new ≡ with_text arena.old t.cell (fault_text (plain_fault (C.text_of consts.now) (C.items_of consts.now) arena.old fault)) }
+    requires room { length (text_at arena.old t.cell) ≡ length (fault_text (under C.Constants consts.now plain_fault arena.old fault)) }
+    ensures filled { arena.new ≡ with_text arena.old t.cell (fault_text (under C.Constants consts.now plain_fault arena.old fault)) }
     ensures later { Later arena.old.objects arena.new.objects }
 {
     ascii_law(arena, consts, fault);
@@ -103,9 +104,9 @@ pub(crate) fn make_fault_text<C: Constants>(
     consts: &C,
     fault: Fault,
 ) -> Result<Value, NoRoom>
-    requires known { IsKnownFault (C.text_of consts.now) (C.items_of consts.now) arena.old.objects fault }
-    requires all_told { AllTold (C.text_of consts.now) (C.items_of consts.now) arena.old.objects }
-    ensures { Does (C.text_of consts.now) (C.items_of consts.now) arena.old arena.new (as_value (λ v. v) result) (λ heap see. making_text heap (fault_text (plain_fault (C.text_of consts.now) (C.items_of consts.now) arena.old fault))) }
+    requires known { KnowsFault C.Constants consts.now arena.old fault }
+    requires all_told { TellsAll C.Constants consts.now arena.old }
+    ensures { Does C.Constants consts.now arena.old arena.new (as_value (λ v. v) result) (λ heap see. making_text heap (fault_text (under C.Constants consts.now plain_fault arena.old fault))) }
 {
     let len = fault_len(arena, consts, fault);
     if len == 0 {

@@ -1,4 +1,4 @@
-//! Pieces of texts.
+//! Pieces of a report, written on a sink one after another.
 
 ghost use Rattle.std.specs.Prelude.{◌<◌, All};
 ghost use Rattle.std.specs.Fmt.{decimal, signed_decimal};

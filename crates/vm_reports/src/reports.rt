@@ -4,14 +4,12 @@ ghost use Rattle.std.specs.Prelude.{◌≡◌, ◌<◌, All, is_err, length, map
 ghost use Rattle.mpy_base.specs.Kind.{kind_name};
 ghost use Rattle.mpy_base.specs.World.{AnException, IsA};
 ghost use Rattle.arena_heap.specs.Values.{IsTuple, Leads};
-ghost use Rattle.arena_heap.specs.Constants.{IsTold};
 ghost use Rattle.arena_objects.specs.Iterables.{items_in};
-ghost use Rattle.arena_objects.specs.Keys.{AllTold};
 ghost use Rattle.py_values.specs.Shown.{shown};
 ghost use Rattle.py_primitives.specs.Texts.{items_of_tuple, truth_text};
 ghost use Rattle.py_effects.specs.Ends.{Raised, arguments_text, end_report, sole_text};
 ghost use Rattle.vm_walks.specs.Pens.{Wrote};
-ghost use Rattle.vm_walks.specs.Plain.{plain, plain_heap, plain_name};
+ghost use Rattle.vm_sights.specs.Sights.{sight, Tells, TellsAll};
 ghost use Rattle.vm_outputs.specs.Prints.{Puts, PutsOn};
 ghost use Rattle.vm_reports.specs.Reports.{first_lines};
 
@@ -21,29 +19,19 @@ use arena_heap::{Arena, Constants, ExcNo, StrNo, Value};
 use arena_objects::{exc_parts, item_at, text_bytes};
 use mpy_base::Kind;
 use mpy_io::{Failed, Sink};
+use vm_sights::name_bytes;
 use vm_walks::{Look, Pen, look_at};
-
-/// The bytes of a name.
-fn name_bytes<C: Constants>(consts: &C, name: u32) -> &[u8]
-    ensures bytes { result.now ≡ plain_name (C.text_of consts.now) (C.items_of consts.now) name }
-    ensures ascii { All (λ b. b < 128) result.now }
-{
-    match consts.text(StrNo::Pool(name)) {
-        Some(bytes) => bytes,
-        None => &[],
-    }
-}
 
 /// Writes the first two lines of a report, by the place where its exception was raised.
 fn write_place<P: Pen, C: Constants>(consts: &C, file: u32, line: u32, name: u32, pen: &mut P)
-    ensures { Wrote P.Takes pen.old (first_lines (plain_name (C.text_of consts.now) (C.items_of consts.now) file) line (plain_name (C.text_of consts.now) (C.items_of consts.now) name)) pen.new }
+    ensures { let see = sight C.Constants consts.now in Wrote P.Takes pen.old (first_lines (see.name file) line (see.name name)) pen.new }
 {
     write(pen, b"Traceback (most recent call last):\n  File \"");
-    write(pen, name_bytes(consts, file));
+    write(pen, name_bytes(consts, StrNo::Pool(file)));
     write(pen, b"\", line ");
     write_number(pen, u64::from(line));
     write(pen, b", in ");
-    write(pen, name_bytes(consts, name));
+    write(pen, name_bytes(consts, StrNo::Pool(name)));
     write(pen, b"\n")
 }
 
@@ -58,8 +46,8 @@ fn truth_bytes(b: bool) -> &'static [u8]
 /// Writes the text of a sole argument.
 fn write_sole<P: Pen, C: Constants>(arena: &Arena, consts: &C, v: Value, pen: &mut P)
     requires leads { Leads arena.now.objects v }
-    requires told { IsTold (C.text_of consts.now) (C.items_of consts.now) v }
-    ensures { Wrote P.Takes pen.old (sole_text (plain_heap (C.text_of consts.now) (C.items_of consts.now) arena.now) (plain (C.text_of consts.now) (C.items_of consts.now) v)) pen.new }
+    requires told { Tells C.Constants consts.now v }
+    ensures { let see = sight C.Constants consts.now in Wrote P.Takes pen.old (sole_text (see.heap arena.now) (see.value v)) pen.new }
 {
     match v {
         Value::None => write(pen, b"None"),
@@ -74,9 +62,9 @@ fn write_sole<P: Pen, C: Constants>(arena: &Arena, consts: &C, v: Value, pen: &m
 fn argument_count<C: Constants>(arena: &Arena, consts: &C, args: Value) -> u32
     requires tuple { IsTuple args }
     requires leads { Leads arena.now.objects args }
-    requires told { IsTold (C.text_of consts.now) (C.items_of consts.now) args }
+    requires told { Tells C.Constants consts.now args }
     ensures count { result ≡ length (items_in (C.items_of consts.now) arena.now args) }
-    ensures items { items_of_tuple (shown (plain_heap (C.text_of consts.now) (C.items_of consts.now) arena.now) (plain (C.text_of consts.now) (C.items_of consts.now) args)) ≡ map (plain (C.text_of consts.now) (C.items_of consts.now)) (items_in (C.items_of consts.now) arena.now args) }
+    ensures items { let see = sight C.Constants consts.now in items_of_tuple (shown (see.heap arena.now) (see.value args)) ≡ map see.value (items_in see.tuples arena.now args) }
 {
     match look_at(arena, consts, args) {
         Look::Tuple(count) => count,
@@ -88,9 +76,9 @@ fn argument_count<C: Constants>(arena: &Arena, consts: &C, args: Value) -> u32
 fn write_arguments<P: Pen, C: Constants>(arena: &Arena, consts: &C, args: Value, pen: &mut P)
     requires tuple { IsTuple args }
     requires leads { Leads arena.now.objects args }
-    requires told { IsTold (C.text_of consts.now) (C.items_of consts.now) args }
-    requires all_told { AllTold (C.text_of consts.now) (C.items_of consts.now) arena.now.objects }
-    ensures { Wrote P.Takes pen.old (arguments_text (plain_heap (C.text_of consts.now) (C.items_of consts.now) arena.now) (items_of_tuple (shown (plain_heap (C.text_of consts.now) (C.items_of consts.now) arena.now) (plain (C.text_of consts.now) (C.items_of consts.now) args)))) pen.new }
+    requires told { Tells C.Constants consts.now args }
+    requires all_told { TellsAll C.Constants consts.now arena.now }
+    ensures { let see = sight C.Constants consts.now in Wrote P.Takes pen.old (arguments_text (see.heap arena.now) (items_of_tuple (shown (see.heap arena.now) (see.value args)))) pen.new }
 {
     let count = argument_count(arena, consts, args);
     if count == 0 {
@@ -114,8 +102,8 @@ fn write_kind<P: Pen>(pen: &mut P, kind: Kind)
 /// Writes the report of an exception.
 fn write_report<P: Pen, C: Constants>(arena: &Arena, consts: &C, x: ExcNo, pen: &mut P)
     requires exception { IsA arena.now.objects AnException x.cell }
-    requires all_told { AllTold (C.text_of consts.now) (C.items_of consts.now) arena.now.objects }
-    ensures { Wrote P.Takes pen.old (end_report (plain_heap (C.text_of consts.now) (C.items_of consts.now) arena.now) (Raised x.cell)) pen.new }
+    requires all_told { TellsAll C.Constants consts.now arena.now }
+    ensures { Wrote P.Takes pen.old (end_report ((sight C.Constants consts.now).heap arena.now) (Raised x.cell)) pen.new }
 {
     let (kind, args, file, line, name) = exc_parts(arena, x);
     write_place(consts, file, line, name, pen);
@@ -133,9 +121,9 @@ fn print_report<S: Sink, C: Constants>(
     printer: &mut Printer<S>,
 )
     requires exception { IsA arena.now.objects AnException x.cell }
-    requires all_told { AllTold (C.text_of consts.now) (C.items_of consts.now) arena.now.objects }
+    requires all_told { TellsAll C.Constants consts.now arena.now }
     ensures same_reference { printer.new.out.ghost_name ≡ printer.old.out.ghost_name }
-    ensures puts { PutsOn S.told S.count printer.old.failed printer.old.out.now printer.new.out.now printer.new.failed (end_report (plain_heap (C.text_of consts.now) (C.items_of consts.now) arena.now) (Raised x.cell)) }
+    ensures puts { PutsOn S.told S.count printer.old.failed printer.old.out.now printer.new.out.now printer.new.failed (end_report ((sight C.Constants consts.now).heap arena.now) (Raised x.cell)) }
 {
     write_report(arena, consts, x, printer)
 }
@@ -148,8 +136,8 @@ pub fn put_report<S: Sink, C: Constants>(
     out: &mut S,
 ) -> Result<(), Failed>
     requires exception { IsA arena.now.objects AnException x.cell }
-    requires all_told { AllTold (C.text_of consts.now) (C.items_of consts.now) arena.now.objects }
-    ensures { Puts S.told S.count out.old out.new (is_err result) (end_report (plain_heap (C.text_of consts.now) (C.items_of consts.now) arena.now) (Raised x.cell)) }
+    requires all_told { TellsAll C.Constants consts.now arena.now }
+    ensures { Puts S.told S.count out.old out.new (is_err result) (end_report ((sight C.Constants consts.now).heap arena.now) (Raised x.cell)) }
 {
     let mut printer = Printer::new(out);
     print_report(arena, consts, x, &mut printer);

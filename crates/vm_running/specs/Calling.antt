@@ -40,6 +40,7 @@ end_in (Err failed) = None
 module _ {S : Type 0} (told : S → Option (List ℕ)) (count : S → ℕ) (p : Program) (callee : Callee) (given : Given) (before behind : Seen S) (earlier later : Registry) (old new : Calls) where
   -- what happens in one world, in which these modules are registered
   module _ (w : PlainWorld) where
+    -- that world
     abbrev pub within : PlainWorld
     within = with_modules p.tables w earlier
 
@@ -83,7 +84,7 @@ module _ {S : Type 0} (told : S → Option (List ℕ)) (count : S → ℕ) (p : 
     pub objects : Later before.heap.objects behind.heap.objects
     pub stays : OnErr result OnlyPuts
 
--- so it is where the names are these and the call was fetched for the first of the old calls
+-- the call goes on so where the names are these and it was fetched for the first of the old calls
 abbrev pub CallsOnBehind : {S : Type 0} → (told : S → Option (List ℕ)) → (count : S → ℕ) → (p : Program) → (StrNo → Option (List ℕ)) → (ConstNo → Option (List Value)) → List ModuleName → Row → Fetched → Callee → Given → (before behind : Seen S) → (earlier later : Registry) → (old new : Calls) → Result (Option End) SinkFault → Type 0
 CallsOnBehind told count p texts tuples names row fetched callee given before behind earlier later old new result =
     Means p → Tells texts tuples p → AreNames p names → IsState p before.heap.objects old → AreRegistered p before.heap earlier → IsReady p old row fetched
@@ -103,7 +104,7 @@ module _ (p : Program) (place : Place) (next size : ℕ) (before behind : Heap V
         → stopping_of p.tables place (with_modules p.tables w earlier) between old.calls stop ≡ state_of p.tables end new.calls (world_of p.tables (with_modules p.tables v later) behind) → Went end
     same : new ≡ old → behind ≡ before → Went None
 
--- so it went where the names are these and the call was fetched for the first of the old calls
+-- the call went so where the names are these and it was fetched for the first of the old calls
 abbrev pub WentBehind : (p : Program) → (StrNo → Option (List ℕ)) → (ConstNo → Option (List Value)) → List ModuleName → Row → Fetched → (size : ℕ) → (before behind : Heap Value ℕ) → (earlier later : Registry) → (old new : Calls) → Option End → Type 0
 WentBehind p texts tuples names row fetched size before behind earlier later old new end =
     Means p → Tells texts tuples p → AreNames p names → IsState p before.objects old → AreRegistered p before earlier → (ready : IsReady p old row fetched)

@@ -2,6 +2,7 @@
 use Rattle.vm_fetching.specs.declared.operations.PlainOp.{PlainOp}
 use Rattle.vm_fetching.specs.declared.operations.PlainOp.TheVariants as plain_ops
 
+-- the operation returns or raises
 abbrev pub LeavesCall : PlainOp → Type 0
 LeavesCall plain_ops.ReturnValue = Unit {0}
 LeavesCall plain_ops.RaiseLast = Unit {0}

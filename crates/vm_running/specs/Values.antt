@@ -28,6 +28,7 @@ UsesName name_ops.StoreAttr = Unit {0}
 UsesName name_ops.ImportFrom = Unit {0}
 UsesName name_ops.ImportName = ⊥
 
+-- the instruction is one of these
 abbrev pub ActsOnValues : Instruction → Type 0
 ActsOnValues (fetched.Plain op) = IsPlainOperation op
 ActsOnValues (fetched.Number op n) = IsNumberOperation op
@@ -39,7 +40,7 @@ ActsOnValues (fetched.Object v) = Unit {0}
 ActsOnValues (fetched.Jump op target) = Unit {0}
 ActsOnValues (fetched.Unwind target byte) = Unit {0}
 
--- its visits over the heap: those of an operator with two operands, and no others
+-- an instruction's visits over the heap: those of an operator with two operands, and no others
 abbrev pub value_visits : (StrNo → Option (List ℕ)) → (ConstNo → Option (List Value)) → Heap Value ℕ → List Call → Instruction → ℕ
 value_visits texts tuples heap calls (fetched.Binary number) = visits_binary texts tuples heap calls number
 value_visits texts tuples heap calls (fetched.Plain op) = 0

@@ -2,6 +2,7 @@
 
 ghost use Rattle.std.specs.Prelude.{◌≡◌};
 ghost use Rattle.bc_rows.specs.declared.row.Row.{Row as CodeRow};
+ghost use Rattle.vm_sights.specs.Sights.{under};
 ghost use Rattle.vm_fetching.specs.declared.operations.PlainOp.TheVariants as plain_ops;
 ghost use Rattle.vm_states.specs.Means.{Program};
 ghost use Rattle.vm_leaving.specs.Keeping.{KeepsCause};
@@ -29,10 +30,9 @@ pub fn finish<C: Constants>(
     names: &[ModuleName],
     end: u32,
 ) -> Option<End>
-    requires runs { (row : CodeRow) × (h : RunsWith (C.text_of consts.now) (C.items_of consts.now) names.now library.now arena.old modules.old frames.old row (fetched_plain plain_ops.EndFinally end)) × KeepsCause h.runs.program frames.old }
+    requires runs { (row : CodeRow) × (h : under C.Constants consts.now RunsWith names.now library.now arena.old modules.old frames.old row (fetched_plain plain_ops.EndFinally end)) × KeepsCause h.runs.program frames.old }
     requires rows { rows.now ≡ library.now }
-    ensures comes { (p : Program) (row : CodeRow) → p.shelf ≡ library.now → KeepsCause p frames.old
-        → ComesOnBehind p (C.text_of consts.now) (C.items_of consts.now) names.now row (fetched_plain plain_ops.EndFinally end) 0 arena.old arena.new modules.old modules.new frames.old frames.new result }
+    ensures comes { (p : Program) (row : CodeRow) → p.shelf ≡ library.now → KeepsCause p frames.old → ComesOnBehind under C.Constants consts.now p names.now row (fetched_plain plain_ops.EndFinally end) 0 arena.old arena.new modules.old modules.new frames.old frames.new result }
     ensures rooms { frames.new ≡ record frames.old { calls = frames.new.calls } }
     ensures registry { modules.new.room ≡ modules.old.room }
 {

@@ -1,6 +1,7 @@
 //! Imports, and what their stops come to.
 
 ghost use Rattle.std.specs.Prelude.{◌≡◌, ◌<◌, ◌^◌, Some, codes};
+ghost use Rattle.vm_sights.specs.Sights.{under};
 ghost use Rattle.vm_states.specs.Means.{Program};
 ghost use Rattle.vm_leaving.specs.Importing.{fetched_import};
 ghost use Rattle.vm_leaving.specs.Running.{RunsWith};
@@ -30,12 +31,11 @@ pub fn import<C: Constants>(
     name: u32,
     end: u32,
 ) -> Option<End>
-    requires runs { RunsWith (C.text_of consts.now) (C.items_of consts.now) names.now rows.now arena.old modules.old frames.old row.now (fetched_import name end) }
+    requires runs { under C.Constants consts.now RunsWith names.now rows.now arena.old modules.old frames.old row.now (fetched_import name end) }
     requires rows { rows.now ≡ library.now }
     requires key { C.text_of consts.now key ≡ Some (codes "__name__") }
     requires short { frames.old.slot_room < 2 ^ 32 }
-    ensures comes { (p : Program) → p.shelf ≡ rows.now
-        → ComesOnBehind p (C.text_of consts.now) (C.items_of consts.now) names.now row.now (fetched_import name end) 0 arena.old arena.new modules.old modules.new frames.old frames.new result }
+    ensures comes { (p : Program) → p.shelf ≡ rows.now → ComesOnBehind under C.Constants consts.now p names.now row.now (fetched_import name end) 0 arena.old arena.new modules.old modules.new frames.old frames.new result }
     ensures rooms { frames.new ≡ record frames.old { calls = frames.new.calls } }
     ensures registry { modules.new.room ≡ modules.old.room }
 {

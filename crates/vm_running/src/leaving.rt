@@ -1,7 +1,7 @@
-//! Returns and raises.
+//! Returns and raises that were fetched, through all calls up to the handler that takes them.
 
 ghost use Rattle.std.specs.Prelude.{◌≡◌, ℕ};
-ghost use Rattle.vm_fetching.specs.declared.operations.PlainOp.TheVariants as plain_ops;
+ghost use Rattle.vm_sights.specs.Sights.{under};
 ghost use Rattle.vm_states.specs.Means.{Program};
 ghost use Rattle.vm_leaving.specs.Running.{fetched_plain, RunsWith, RunsOnBehind};
 ghost use Rattle.vm_running.specs.Leaves.{LeavesCall};
@@ -29,10 +29,9 @@ pub fn leave<C: Constants>(
     op: PlainOp,
 ) -> Option<End>
     requires leaves { LeavesCall op }
-    requires runs { (end : ℕ) × RunsWith (C.text_of consts.now) (C.items_of consts.now) names.now library.now arena.old modules.old frames.old row.now (fetched_plain op end) }
+    requires runs { (end : ℕ) × under C.Constants consts.now RunsWith names.now library.now arena.old modules.old frames.old row.now (fetched_plain op end) }
     requires rows { rows.now ≡ library.now }
-    ensures comes { (p : Program) (end : ℕ) → p.shelf ≡ library.now
-        → RunsOnBehind p (C.text_of consts.now) (C.items_of consts.now) names.now row.now (fetched_plain op end) arena.old arena.new modules.old modules.new frames.old frames.new result }
+    ensures comes { (p : Program) (end : ℕ) → p.shelf ≡ library.now → RunsOnBehind under C.Constants consts.now p names.now row.now (fetched_plain op end) arena.old arena.new modules.old modules.new frames.old frames.new result }
     ensures rooms { frames.new ≡ record frames.old { calls = frames.new.calls } }
     ensures registry { modules.new.room ≡ modules.old.room }
 {

@@ -2,6 +2,7 @@
 
 ghost use Rattle.std.specs.Prelude.{◌≡◌, ◌≤◌, length};
 ghost use Rattle.bc_library.specs.Shelf.{Shelf};
+ghost use Rattle.vm_sights.specs.Sights.{under};
 ghost use Rattle.vm_fetching.specs.declared.instruction.Instruction.TheVariants as fetched_as;
 ghost use Rattle.vm_states.specs.Means.{Program};
 ghost use Rattle.vm_known.specs.Acting.{RunsOver};
@@ -34,8 +35,8 @@ fn name_or_attribute<C: Constants>(
     end: u32,
 ) -> Result<(), Stop>
     requires operation { UsesName op }
-    requires runs { RunsOver (C.text_of consts.now) (C.items_of consts.now) arena.old frames.old (record { instruction = fetched_as.Name op name; end = end }) }
-    ensures acts { ActsKeeping (C.text_of consts.now) (C.items_of consts.now) (record { instruction = fetched_as.Name op name; end = end }) 0 arena.old arena.new frames.old frames.new result }
+    requires runs { under C.Constants consts.now RunsOver arena.old frames.old (record { instruction = fetched_as.Name op name; end = end }) }
+    ensures acts { under C.Constants consts.now ActsKeeping (record { instruction = fetched_as.Name op name; end = end }) 0 arena.old arena.new frames.old frames.new result }
 {
     match op {
         NameOp::LoadConstString => name_on(frames, arena, consts, op, name, end),
@@ -64,8 +65,8 @@ fn act_on<C: Constants>(
 ) -> Result<(), Stop>
     requires values { ActsOnValues fetched.instruction }
     requires places { frames.old.slot_room ≤ length items.old }
-    requires runs { RunsOver (C.text_of consts.now) (C.items_of consts.now) arena.old frames.old fetched }
-    ensures acts { ActsKeeping (C.text_of consts.now) (C.items_of consts.now) fetched (value_visits (C.text_of consts.now) (C.items_of consts.now) arena.old frames.old.calls fetched.instruction) arena.old arena.new frames.old frames.new result }
+    requires runs { under C.Constants consts.now RunsOver arena.old frames.old fetched }
+    ensures acts { under C.Constants consts.now ActsKeeping fetched (under C.Constants consts.now value_visits arena.old frames.old.calls fetched.instruction) arena.old arena.new frames.old frames.new result }
 {
     let end = fetched.end;
     match fetched.instruction {
@@ -99,9 +100,8 @@ pub fn operate<C: Constants>(
 ) -> Option<End>
     requires values { ActsOnValues fetched.instruction }
     requires places { frames.old.slot_room ≤ length items.old }
-    requires runs { (shelf : Shelf) × RunsWith (C.text_of consts.now) (C.items_of consts.now) names.now shelf arena.old modules.old frames.old row.now fetched }
-    ensures comes { (p : Program)
-        → ComesOnBehind p (C.text_of consts.now) (C.items_of consts.now) names.now row.now fetched (value_visits (C.text_of consts.now) (C.items_of consts.now) arena.old frames.old.calls fetched.instruction) arena.old arena.new modules.old modules.new frames.old frames.new result }
+    requires runs { (shelf : Shelf) × under C.Constants consts.now RunsWith names.now shelf arena.old modules.old frames.old row.now fetched }
+    ensures comes { (p : Program) → ComesOnBehind under C.Constants consts.now p names.now row.now fetched (under C.Constants consts.now value_visits arena.old frames.old.calls fetched.instruction) arena.old arena.new modules.old modules.new frames.old frames.new result }
     ensures rooms { frames.new ≡ record frames.old { calls = frames.new.calls } }
     ensures registry { modules.new.room ≡ modules.old.room }
 {

@@ -81,7 +81,7 @@ takes_none forms.Unwind op n e t = t
 takes_none forms.Outside op n e t = t
 takes_none forms.Unknown op n e t = t
 
--- a jump that goes on out of so many entries has as many
+-- a jump that goes on out of `count` entries has as many
 unwinds_few : (a : Assigned) (keeps : List FlowEntry → Stack → Type 0) (to : ℕ) (it : Bool) (count : ℕ) (entries : List FlowEntry) (stack : Stack) → CanUnwind a keeps to it count entries stack → count ≤ length entries
 unwinds_few a keeps to it zero entries stack u = omega arith
 unwinds_few a keeps to it (suc count) [] stack u = absurd u

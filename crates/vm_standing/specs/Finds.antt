@@ -16,7 +16,7 @@ use Rattle.bc_progress.specs.Plans.{Plan}
 use Rattle.vm_standing.specs.OnTop.{OneValue, TwoValues, ThreeValues, Values, Anything, OneDropped, TwoOperands, ThreeOperands, Stored, Defaults, IsLooked, Iterator, Ending, Except}
 
 module _ (plan : Plan) (library : Library) (code : Code) (frame : Frame) where
-  -- room for so many slots in the place of as many as are taken
+  -- room for `given` slots in the place of the `taken` topmost
   abbrev pub HasRoom : (taken given : ℕ) → Type 0
   HasRoom taken given = code.locals + (length frame.slots - taken + given) ≤ plan.n_state
 
@@ -32,15 +32,17 @@ module _ (plan : Plan) (library : Library) (code : Code) (frame : Frame) where
     pub child : Code
     pub child_is : code_at library frame.module_name number ≡ Some child
 
+  -- the number is that of an operator with one operand
   pub record HasUnary (n : ℕ) : Type 0 where
     pub operator : PlainHeap → Val → Outcome Val
     pub is : unary_at n ≡ Some operator
 
+  -- the number is that of an operator with two operands
   pub record HasBinary (n : ℕ) : Type 0 where
     pub operator : TwoValued
     pub is : operator_at n ≡ Some operator
 
-  -- those without an operand. No other operation is among them
+  -- what an operation without an operand finds; no other operation is one
   abbrev pub FindsPlain : Op → Type 0
   FindsPlain ops.LoadConstFalse = HasRoom 0 1
   FindsPlain ops.LoadConstNone = HasRoom 0 1
@@ -61,7 +63,7 @@ module _ (plan : Plan) (library : Library) (code : Code) (frame : Frame) where
   FindsPlain ops.RaiseObj = OneValue frame.slots
   FindsPlain _ = ⊥
 
-  -- those that name a text
+  -- what an operation finds that names a text
   abbrev pub FindsNames : Op → Type 0
   FindsNames ops.LoadConstString = HasRoom 0 1
   FindsNames ops.LoadName = HasRoom 0 1
@@ -77,7 +79,7 @@ module _ (plan : Plan) (library : Library) (code : Code) (frame : Frame) where
   FindsNames ops.ImportFrom = OneValue frame.slots × HasRoom 1 2
   FindsNames _ = ⊥
 
-  -- those with a number
+  -- what an operation with a number finds
   abbrev pub FindsNumber : Op → ℕ → Type 0
   FindsNumber ops.LoadFast n = HasRoom 0 1
   FindsNumber ops.LoadFastN n = HasRoom 0 1
@@ -107,6 +109,7 @@ module _ (plan : Plan) (library : Library) (code : Code) (frame : Frame) where
   FindsJump ops.ForIter p = Iterator frame.slots × HasRoom 4 5
   FindsJump _ p = ⊥
 
+  -- what an instruction finds that names no text, no object and no place
   abbrev pub FindsInstr : Instr → Type 0
   FindsInstr (instrs.Plain op) = FindsPlain op
   FindsInstr (instrs.Name op n) = ⊥
@@ -117,6 +120,7 @@ module _ (plan : Plan) (library : Library) (code : Code) (frame : Frame) where
   FindsInstr (instrs.Unary n) = HasUnary n × OneValue frame.slots
   FindsInstr (instrs.Binary n) = HasBinary n × TwoValues frame.slots
 
+  -- what any instruction finds
   abbrev pub Finds : Item → Type 0
   Finds (Plain instr) = FindsInstr instr
   Finds (Names op name) = FindsNames op

@@ -5,7 +5,7 @@ use Rattle.bc_ops.specs.declared.instr.Instr.{Instr}
 use Rattle.bc_ops.specs.declared.instr.Instr.TheVariants as instrs
 use Rattle.bc_machine.specs.Library.{Item, Plain, Names, Loads, Jumps, Unwinds}
 
--- the local that the instruction names, if it names one, is one of so many
+-- the local that the instruction names, if it names one, is one of `locals`
 abbrev pub InstrIsWithin : (locals : ℕ) → Instr → Type 0
 InstrIsWithin locals (instrs.Num ops.LoadFast n) = n < locals
 InstrIsWithin locals (instrs.Num ops.LoadFastN n) = n < locals
@@ -14,6 +14,7 @@ InstrIsWithin locals (instrs.Num ops.StoreFastN n) = n < locals
 InstrIsWithin locals (instrs.Num ops.DeleteFast n) = n < locals
 InstrIsWithin locals instr = Unit {0}
 
+-- the local that any instruction names, if it names one, is one of `locals`
 abbrev pub IsWithinLocals : (locals : ℕ) → Item → Type 0
 IsWithinLocals locals (Plain instr) = InstrIsWithin locals instr
 IsWithinLocals locals (Names op name) = Unit {0}

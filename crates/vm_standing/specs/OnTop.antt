@@ -4,17 +4,20 @@ use Rattle.mpy_base.specs.declared.builtin.Builtin.{Builtin}
 use Rattle.mpy_base.specs.Val.{Val, Nil, Built, At}
 use Rattle.bc_machine.specs.State.{Slot, Value, Null, Object, Iter, KeptReturn, KeptJump, Entry}
 
+-- a value
 pub record OneValue (slots : List Slot) : Type 0 where
   pub top : Val
   pub below : List Slot
   pub are : slots ≡ Value top ∷ below
 
+-- two values
 pub record TwoValues (slots : List Slot) : Type 0 where
   pub top : Val
   pub second : Val
   pub below : List Slot
   pub are : slots ≡ Value top ∷ Value second ∷ below
 
+-- three values
 pub record ThreeValues (slots : List Slot) : Type 0 where
   pub top : Val
   pub second : Val
@@ -30,6 +33,7 @@ pub record Values (count : ℕ) (Holds : List Slot → Type 0) (slots : List Slo
   pub many : length values ≡ count
   pub holds : Holds below
 
+-- any slots, or none
 abbrev pub Anything : List Slot → Type 0
 Anything slots = Unit {0}
 
@@ -43,12 +47,14 @@ pub data IsDropped : Slot → Type 0 where
   value : (v : Val) → IsDropped (Value v)
   iterator : (over : Val) (at part : ℕ) → IsDropped (Iter over at part)
 
+-- a slot that may be dropped: a value, or one of an iterator
 pub record OneDropped (slots : List Slot) : Type 0 where
   pub top : Slot
   pub below : List Slot
   pub are : slots ≡ top ∷ below
   pub is : IsDropped top
 
+-- two slots, each a value or empty
 pub record TwoOperands (slots : List Slot) : Type 0 where
   pub top : Slot
   pub second : Slot
@@ -57,6 +63,7 @@ pub record TwoOperands (slots : List Slot) : Type 0 where
   pub top_is : IsOperand top
   pub second_is : IsOperand second
 
+-- three such slots
 pub record ThreeOperands (slots : List Slot) : Type 0 where
   pub top : Slot
   pub second : Slot
@@ -97,8 +104,8 @@ pub record Iterator (slots : List Slot) : Type 0 where
   pub below : List Slot
   pub are : slots ≡ Iter over at 3 ∷ second ∷ third ∷ fourth ∷ below
 
--- what a finally has kept, where so many entries lie below its own: nothing, an exception, a return, or a jump out of no more
--- entries than there are
+-- what a finally has kept, where `entries` entries lie below its own: nothing, an exception, a return, or a jump out of no
+-- more entries than there are
 pub data IsCause (entries : ℕ) : Slot → Type 0 where
   nothing : IsCause entries (Value Nil)
   exception : (x : ℕ) → IsCause entries (Value (At x))

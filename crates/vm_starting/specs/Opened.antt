@@ -34,7 +34,7 @@ pub record IsBegun (shelf : Shelf) (number : ℕ) (room : Room) (vm : Vm) : Type
   pub none : before.entries ≡ []
   pub begins : Begins shelf number locals (empty room.cells room.bytes) vm.arena before vm.modules vm.frames.calls
 
--- nothing has begun
+-- the machine has taken its memory, and nothing has begun
 pub record IsFresh (room : Room) (vm : Vm) : Type 0 where
   pub calls : vm.frames.calls ≡ []
   pub arena : vm.arena ≡ empty room.cells room.bytes

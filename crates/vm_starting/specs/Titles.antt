@@ -14,7 +14,7 @@ pub record IsTitle (pool : Texts) (name : List ℕ) (title : ModuleName) : Type 
   pub name_is : text_numbered pool title.name ≡ Some name
   pub last_is : text_numbered pool title.last ≡ Some (last_of name)
 
--- one for each module
+-- a title for each module
 pub record AreTitles (shelf : Shelf) (names : List ModuleName) : Type 0 where
   pub as_many : length names ≡ length shelf.modules
   pub each : (i : ℕ) (m : ModuleName) (n : Named) → slice_get names i ≡ Some m → slice_get shelf.modules i ≡ Some n → IsTitle shelf.pool n.name m

@@ -25,6 +25,7 @@ module _ (p : Program) where
   abbrev pub IsOfModule : Call → Type 0
   IsOfModule c = c.module_number < length p.shelf.modules
 
+  -- the calls run the program: they fit their codes, stand at instructions, and have their rooms
   pub record IsRunning (s : Calls) : Type 0 where
     pub fits : FitCalls s.calls
     pub placed : All (IsPlaced (view_of p.tables)) s.calls

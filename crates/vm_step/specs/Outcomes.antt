@@ -5,7 +5,7 @@ use Rattle.mpy_base.specs.Val.{PlainWorld}
 use Rattle.arena_heap.specs.declared.value.Value.{Value}
 use Rattle.vm_faults.specs.declared.stop.Stop.{Stop}
 use Rattle.vm_faults.specs.Outcomes.{plain_stop}
-use Rattle.vm_raising.specs.Worlds.{world_over}
+use Rattle.vm_sights.specs.Sights.{world_over}
 use Rattle.vm_raising.specs.Places.{stopped_at}
 use Rattle.vm_frames.specs.Calls.{Call}
 use Rattle.vm_moves.specs.Views.{frame_of}

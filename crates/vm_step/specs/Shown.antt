@@ -26,12 +26,15 @@ pub record Tables : Type 0 where
   pub starts : ℕ → ℕ → List ℕ
 
 module _ (tables : Tables) where
+  -- a value as the meaning has it
   abbrev pub value_of : Value → Val
   value_of v = plain tables.texts tables.tuples v
 
+  -- the bytes of a text that lies outside the arena
   abbrev pub text_of : StrNo → Name
   text_of s = or_nothing (tables.texts s)
 
+  -- how a call is seen as a frame
   abbrev pub view_of : View
   view_of = record { plain = value_of; module_name = tables.module_name; starts = tables.starts; exceptions = λ x. refl }
 

@@ -7,7 +7,7 @@ ghost use Rattle.vm_step.specs.Stacks.{gone};
 
 use vm_frames::{Frames, Slot};
 
-/// With a slot more on top.
+/// The running call goes on at an offset, with a slot more on top.
 pub fn go_with(frames: &mut Frames, slot: Slot, offset: u32)
     requires { OfRunning (λ c. length c.slots < frames.old.slot_room) frames.old.calls }
     ensures { frames.new ≡ on_running (λ c. gone offset (slot ∷ c.slots) c) frames.old }
@@ -16,7 +16,7 @@ pub fn go_with(frames: &mut Frames, slot: Slot, offset: u32)
     frames.set_offset(offset);
 }
 
-/// Without the top slot.
+/// The running call goes on at an offset without its top slot, which is given.
 pub fn go_without(frames: &mut Frames, offset: u32) -> Slot
     requires { OfRunning (λ c. 0 < length c.slots) frames.old.calls }
     ensures top { IsTop result frames.old.calls }
@@ -27,7 +27,7 @@ pub fn go_without(frames: &mut Frames, offset: u32) -> Slot
     slot
 }
 
-/// At the target with all slots where it jumps, and else at the end without the top one.
+/// The running call goes on at the target with all slots where it jumps, and else at the end without the top one.
 pub fn go_if(frames: &mut Frames, jumps: bool, target: u32, end: u32)
     requires { OfRunning (λ c. 0 < length c.slots) frames.old.calls }
     ensures { frames.new ≡ on_running (λ c. if jumps then gone target c.slots c else gone end (drop 1 c.slots) c) frames.old }

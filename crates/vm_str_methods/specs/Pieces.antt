@@ -53,6 +53,7 @@ abbrev pub with_piece : Heap Value ℕ → List ℕ → Heap Value ℕ
 with_piece heap [] = heap
 with_piece heap (byte ∷ bytes) = with_made heap (TextObject (byte ∷ bytes))
 
+-- the heap with a text more for each of the pieces
 abbrev pub with_pieces : Heap Value ℕ → List (List ℕ) → Heap Value ℕ
 with_pieces heap pieces = fold with_piece heap pieces
 
@@ -61,6 +62,7 @@ abbrev pub cell_behind : ℕ → List ℕ → ℕ
 cell_behind cell [] = cell
 cell_behind cell (byte ∷ bytes) = cell + 2
 
+-- the number of cells that are used behind pieces
 abbrev pub cells_behind : ℕ → List (List ℕ) → ℕ
 cells_behind cell pieces = fold cell_behind cell pieces
 
@@ -69,6 +71,7 @@ abbrev pub piece_value : ℕ → List ℕ → Value
 piece_value cell [] = values.Str (strs.Pool 1)
 piece_value cell (byte ∷ bytes) = values.Text (record { cell = cell })
 
+-- the strs of pieces whose texts lie one behind the other from a cell on
 abbrev pub piece_values : ℕ → List (List ℕ) → List Value
 piece_values cell [] = []
 piece_values cell (piece ∷ pieces) = piece_value cell piece ∷ piece_values (cell_behind cell piece) pieces

@@ -3,7 +3,7 @@
 ghost use Rattle.std.specs.Prelude.{◌≡◌, ◌+◌, ◌<◌, ◌≤◌, ◌^◌, length, slice_index};
 ghost use Rattle.mpy_base.specs.World.{AText, IsA, Later, text_at, with_text};
 ghost use Rattle.arena_objects.specs.Iterables.{spelled};
-ghost use Rattle.vm_faults.specs.Faults.{IsKnownStr};
+ghost use Rattle.vm_sights.specs.Sights.{under, KnowsStr};
 ghost use Rattle.vm_operators.specs.Sources.{IsOtherThan};
 ghost use Rattle.vm_str_methods.specs.Parts.{IsCut, cut_bytes, written};
 
@@ -20,14 +20,14 @@ pub(crate) struct Cut {
 
 /// How many bytes a str has.
 pub(crate) fn str_len<C: Constants>(arena: &Arena, consts: &C, s: Value) -> u32
-    requires { IsKnownStr (C.text_of consts.now) (C.items_of consts.now) arena.now.objects s }
+    requires { KnowsStr C.Constants consts.now arena.now s }
     ensures { result ≡ length (spelled (C.text_of consts.now) arena.now s) }
 {
     text_bytes(arena, consts, s).len() as u32
 }
 
 fn str_byte<C: Constants>(arena: &Arena, consts: &C, s: Value, at: u32) -> u8
-    requires str { IsKnownStr (C.text_of consts.now) (C.items_of consts.now) arena.now.objects s }
+    requires str { KnowsStr C.Constants consts.now arena.now s }
     requires within { at < length (spelled (C.text_of consts.now) arena.now s) }
     ensures byte { result ≡ slice_index (spelled (C.text_of consts.now) arena.now s) at }
     ensures ascii { result < 128 }
@@ -38,7 +38,7 @@ fn str_byte<C: Constants>(arena: &Arena, consts: &C, s: Value, at: u32) -> u8
 /// Writes a part of a str to a text, from a place on.
 pub(crate) fn put_cut<C: Constants>(arena: &mut Arena, consts: &C, t: TextNo, from: u32, cut: Cut)
     requires text { IsA arena.old.objects AText t.cell }
-    requires cut { IsCut (C.text_of consts.now) (C.items_of consts.now) arena.old cut }
+    requires cut { under C.Constants consts.now IsCut arena.old cut }
     requires apart { IsOtherThan t.cell cut.of }
     requires room { from + cut.len ≤ length (text_at arena.old t.cell) }
     requires few { from + cut.len < 2 ^ 32 }
@@ -53,9 +53,9 @@ pub(crate) fn put_cut<C: Constants>(arena: &mut Arena, consts: &C, t: TextNo, fr
 
 /// A whole str.
 pub(crate) fn whole<C: Constants>(arena: &Arena, consts: &C, s: Value) -> Cut
-    requires { IsKnownStr (C.text_of consts.now) (C.items_of consts.now) arena.now.objects s }
+    requires { KnowsStr C.Constants consts.now arena.now s }
     ensures bytes { cut_bytes (C.text_of consts.now) arena.now result ≡ spelled (C.text_of consts.now) arena.now s }
-    ensures cut { IsCut (C.text_of consts.now) (C.items_of consts.now) arena.now result }
+    ensures cut { under C.Constants consts.now IsCut arena.now result }
     ensures of { result.of ≡ s }
 {
     let len = str_len(arena, consts, s);

@@ -1,20 +1,16 @@
 //! `join`.
 
-ghost use Rattle.std.specs.Prelude.{◌≡◌, ◌≢◌, ◌+◌, ◌-◌, ◌++◌, ◌≤◌, ◌<◌, ◌^◌, length, map, min, slice_index_or, [], All, OnSome};
+ghost use Rattle.std.specs.Prelude.{◌≡◌, ◌≢◌, ◌+◌, ◌-◌, ◌++◌, ◌≤◌, ◌<◌, ◌^◌, length, min, slice_index_or, [], All, OnSome};
 ghost use Rattle.std.specs.Option.{option_map};
 ghost use Rattle.mpy_base.specs.declared.builtin.Builtin.TheVariants as builtins;
 ghost use Rattle.mpy_base.specs.World.{AText, IsA, Later, text_at, with_text};
 ghost use Rattle.arena_heap.specs.Values.{Leads, IsStr};
-ghost use Rattle.arena_heap.specs.Constants.{IsTold};
-ghost use Rattle.arena_objects.specs.Keys.{AllTold};
-ghost use Rattle.arena_objects.specs.Iterables.{items_in, spelled, or_nothing};
+ghost use Rattle.arena_objects.specs.Iterables.{items_in, or_nothing};
 ghost use Rattle.py_primitives.specs.Texts.{joined};
 ghost use Rattle.py_primitives.specs.Outcome.{making_text, after_walk};
 ghost use Rattle.py_primitives.specs.Iterables.{iterating, items_in as plain_items_in};
-ghost use Rattle.py_primitives.specs.Methods.{call_method, parts_of, gives_joined};
-ghost use Rattle.vm_walks.specs.Plain.{plain, plain_pair, plain_heap};
-ghost use Rattle.vm_faults.specs.Faults.{IsKnown, IsKnownStr};
-ghost use Rattle.vm_faults.specs.Outcomes.{IsOutcome};
+ghost use Rattle.py_primitives.specs.Methods.{parts_of, gives_joined};
+ghost use Rattle.vm_sights.specs.Sights.{under, calling_method, sight, Tells, TellsAll, Knows, KnowsAll, KnowsStr, Does, CountsUpTo};
 ghost use Rattle.vm_operators.specs.Sources.{IsOtherThan};
 ghost use Rattle.vm_str_methods.specs.Parts.{strs_of, all_strs, looked_at, parts_in, cut_bytes, IsCut, CanJoin, written, in_front};
 
@@ -39,11 +35,11 @@ fn step_len(at: u32, separator: u32, part: u32) -> u64
 
 /// How many bytes the joined strs of an iterable have, 2^64 - 1 at most, or None where an item is no str.
 fn joined_len<C: Constants>(arena: &Arena, consts: &C, separator: Value, over: Value) -> Option<u64>
-    requires separator { IsKnownStr (C.text_of consts.now) (C.items_of consts.now) arena.now.objects separator }
-    requires over { IsKnown (C.text_of consts.now) (C.items_of consts.now) arena.now.objects over }
-    requires all_told { AllTold (C.text_of consts.now) (C.items_of consts.now) arena.now.objects }
-    ensures len { result ≡ option_map (λ parts. min (length (joined (spelled (C.text_of consts.now) arena.now separator) parts)) (2 ^ 64 - 1)) (all_strs (strs_of (plain_heap (C.text_of consts.now) (C.items_of consts.now) arena.now) (plain (C.text_of consts.now) (C.items_of consts.now) over))) }
-    ensures known { OnSome result (All (IsKnownStr (C.text_of consts.now) (C.items_of consts.now) arena.now.objects) (items_in (C.items_of consts.now) arena.now over)) }
+    requires separator { KnowsStr C.Constants consts.now arena.now separator }
+    requires over { Knows C.Constants consts.now arena.now over }
+    requires all_told { TellsAll C.Constants consts.now arena.now }
+    ensures len { let see = sight C.Constants consts.now in result ≡ option_map (λ parts. min (length (joined (see.bytes arena.now separator) parts)) (2 ^ 64 - 1)) (all_strs (strs_of (see.heap arena.now) (see.value over))) }
+    ensures known { OnSome result (All (KnowsStr C.Constants consts.now arena.now) (items_in (C.items_of consts.now) arena.now over)) }
 {
     items_law(arena, consts, over);
     let between = str_len(arena, consts, separator);
@@ -67,7 +63,7 @@ fn put_separator<C: Constants>(
     separator: Cut,
 ) -> u32
     requires text { IsA arena.old.objects AText t.cell }
-    requires cut { IsCut (C.text_of consts.now) (C.items_of consts.now) arena.old separator }
+    requires cut { under C.Constants consts.now IsCut arena.old separator }
     requires apart { IsOtherThan t.cell separator.of }
     requires room { from + length (in_front at (cut_bytes (C.text_of consts.now) arena.old separator)) ≤ length (text_at arena.old t.cell) }
     requires few { length (text_at arena.old t.cell) < 2 ^ 32 }
@@ -91,7 +87,7 @@ fn put_part<C: Constants>(
     separator: Cut,
     over: Value,
 ) -> u32
-    requires join { CanJoin (C.text_of consts.now) (C.items_of consts.now) arena.old t.cell separator over }
+    requires join { under C.Constants consts.now CanJoin arena.old t.cell separator over }
     requires within { at < length (parts_in (C.text_of consts.now) arena.old (C.items_of consts.now) over) }
     requires room { from + length (in_front at (cut_bytes (C.text_of consts.now) arena.old separator) ++ slice_index_or (parts_in (C.text_of consts.now) arena.old (C.items_of consts.now) over) at []) ≤ length (text_at arena.old t.cell) }
     requires few { length (text_at arena.old t.cell) < 2 ^ 32 }
@@ -113,7 +109,7 @@ fn put_parts<C: Constants>(
     separator: Cut,
     over: Value,
 )
-    requires join { CanJoin (C.text_of consts.now) (C.items_of consts.now) arena.old t.cell separator over }
+    requires join { under C.Constants consts.now CanJoin arena.old t.cell separator over }
     requires count { count ≡ length (parts_in (C.text_of consts.now) arena.old (C.items_of consts.now) over) }
     requires room { length (joined (cut_bytes (C.text_of consts.now) arena.old separator) (parts_in (C.text_of consts.now) arena.old (C.items_of consts.now) over)) ≡ length (text_at arena.old t.cell) }
     requires few { length (text_at arena.old t.cell) < 2 ^ 32 }
@@ -126,7 +122,7 @@ fn put_parts<C: Constants>(
     }
 }
 
-/// A text of the joined strs of an iterable, which have so many bytes. The empty one is a constant.
+/// A text of the joined strs of an iterable, which have `len` bytes. The empty one is a constant.
 fn make_joined<C: Constants>(
     arena: &mut Arena,
     consts: &C,
@@ -134,12 +130,12 @@ fn make_joined<C: Constants>(
     over: Value,
     len: u64,
 ) -> Result<Value, Stop>
-    requires separator { IsKnownStr (C.text_of consts.now) (C.items_of consts.now) arena.old.objects separator }
-    requires over { IsKnown (C.text_of consts.now) (C.items_of consts.now) arena.old.objects over }
-    requires strs { All (IsKnownStr (C.text_of consts.now) (C.items_of consts.now) arena.old.objects) (items_in (C.items_of consts.now) arena.old over) }
-    requires all_told { AllTold (C.text_of consts.now) (C.items_of consts.now) arena.old.objects }
-    requires len { len ≡ min (length (joined (spelled (C.text_of consts.now) arena.old separator) (parts_in (C.text_of consts.now) arena.old (C.items_of consts.now) over))) (2 ^ 64 - 1) }
-    ensures { IsOutcome (C.text_of consts.now) (C.items_of consts.now) arena.old arena.new result (making_text (plain_heap (C.text_of consts.now) (C.items_of consts.now) arena.old) (joined (spelled (C.text_of consts.now) arena.old separator) (parts_in (C.text_of consts.now) arena.old (C.items_of consts.now) over))) }
+    requires separator { KnowsStr C.Constants consts.now arena.old separator }
+    requires over { Knows C.Constants consts.now arena.old over }
+    requires strs { All (KnowsStr C.Constants consts.now arena.old) (items_in (C.items_of consts.now) arena.old over) }
+    requires all_told { TellsAll C.Constants consts.now arena.old }
+    requires len { let see = sight C.Constants consts.now in len ≡ min (length (joined (see.bytes arena.old separator) (parts_in see.texts arena.old see.tuples over))) (2 ^ 64 - 1) }
+    ensures { Does C.Constants consts.now arena.old arena.new result (λ heap see. making_text heap (joined (see.bytes arena.old separator) (parts_in see.texts arena.old see.tuples over))) }
 {
     if len == 0 {
         consts.empty_law();
@@ -164,10 +160,10 @@ fn join_strs<C: Constants>(
     separator: Value,
     over: Value,
 ) -> Result<Value, Stop>
-    requires separator { IsKnownStr (C.text_of consts.now) (C.items_of consts.now) arena.old.objects separator }
-    requires over { IsKnown (C.text_of consts.now) (C.items_of consts.now) arena.old.objects over }
-    requires all_told { AllTold (C.text_of consts.now) (C.items_of consts.now) arena.old.objects }
-    ensures { IsOutcome (C.text_of consts.now) (C.items_of consts.now) arena.old arena.new result (after_walk (plain_heap (C.text_of consts.now) (C.items_of consts.now) arena.old) (parts_of (plain_heap (C.text_of consts.now) (C.items_of consts.now) arena.old) (or_nothing (plain_items_in (plain_heap (C.text_of consts.now) (C.items_of consts.now) arena.old) (plain (C.text_of consts.now) (C.items_of consts.now) over)))) (gives_joined (plain_heap (C.text_of consts.now) (C.items_of consts.now) arena.old) (spelled (C.text_of consts.now) arena.old separator))) }
+    requires separator { KnowsStr C.Constants consts.now arena.old separator }
+    requires over { Knows C.Constants consts.now arena.old over }
+    requires all_told { TellsAll C.Constants consts.now arena.old }
+    ensures { Does C.Constants consts.now arena.old arena.new result (λ heap see. after_walk heap (parts_of heap (or_nothing (plain_items_in heap (see.value over)))) (gives_joined heap (see.bytes arena.old separator))) }
 {
     match joined_len(arena, consts, separator, over) {
         Some(len) => {
@@ -184,10 +180,10 @@ fn join_in<C: Constants>(
     separator: Value,
     over: Value,
 ) -> Result<Value, Stop>
-    requires separator { IsKnownStr (C.text_of consts.now) (C.items_of consts.now) arena.old.objects separator }
-    requires over { IsKnown (C.text_of consts.now) (C.items_of consts.now) arena.old.objects over }
-    requires all_told { AllTold (C.text_of consts.now) (C.items_of consts.now) arena.old.objects }
-    ensures { IsOutcome (C.text_of consts.now) (C.items_of consts.now) arena.old arena.new result (iterating (plain_heap (C.text_of consts.now) (C.items_of consts.now) arena.old) (plain (C.text_of consts.now) (C.items_of consts.now) over) (λ items. after_walk (plain_heap (C.text_of consts.now) (C.items_of consts.now) arena.old) (parts_of (plain_heap (C.text_of consts.now) (C.items_of consts.now) arena.old) items) (gives_joined (plain_heap (C.text_of consts.now) (C.items_of consts.now) arena.old) (spelled (C.text_of consts.now) arena.old separator)))) }
+    requires separator { KnowsStr C.Constants consts.now arena.old separator }
+    requires over { Knows C.Constants consts.now arena.old over }
+    requires all_told { TellsAll C.Constants consts.now arena.old }
+    ensures { Does C.Constants consts.now arena.old arena.new result (λ heap see. iterating heap (see.value over) (λ items. after_walk heap (parts_of heap items) (gives_joined heap (see.bytes arena.old separator)))) }
 {
     match use_iter(arena, consts, over) {
         Ok(_) => join_strs(arena, consts, separator, over),
@@ -206,10 +202,10 @@ pub fn call_str_join<C: Constants>(
     requires few { length args.now < 2 ^ 32 }
     requires str { IsStr object }
     requires leads { Leads arena.old.objects object }
-    requires told { IsTold (C.text_of consts.now) (C.items_of consts.now) object }
-    requires known { All (IsKnown (C.text_of consts.now) (C.items_of consts.now) arena.old.objects) args.now }
-    requires all_told { AllTold (C.text_of consts.now) (C.items_of consts.now) arena.old.objects }
-    ensures { IsOutcome (C.text_of consts.now) (C.items_of consts.now) arena.old arena.new result (call_method (plain_heap (C.text_of consts.now) (C.items_of consts.now) arena.old) builtins.StrJoin (plain (C.text_of consts.now) (C.items_of consts.now) object) (map (plain (C.text_of consts.now) (C.items_of consts.now)) args.now) (map (plain_pair (C.text_of consts.now) (C.items_of consts.now)) keys.now)) }
+    requires told { Tells C.Constants consts.now object }
+    requires known { KnowsAll C.Constants consts.now arena.old args.now }
+    requires all_told { TellsAll C.Constants consts.now arena.old }
+    ensures { Does C.Constants consts.now arena.old arena.new result (calling_method builtins.StrJoin object args.now keys.now) }
 {
     match one_argument(args, keys) {
         Ok(v) => join_in(arena, consts, object, v),
@@ -217,11 +213,11 @@ pub fn call_str_join<C: Constants>(
     }
 }
 
-/// How many items are looked at, up to the first that is no str and up to so many.
+/// How many items are looked at, up to the first that is no str, `most` at most.
 fn visits_of<C: Constants>(arena: &Arena, consts: &C, over: Value, most: u64) -> u64
-    requires over { IsKnown (C.text_of consts.now) (C.items_of consts.now) arena.now.objects over }
-    requires all_told { AllTold (C.text_of consts.now) (C.items_of consts.now) arena.now.objects }
-    ensures { result ≡ min (looked_at (strs_of (plain_heap (C.text_of consts.now) (C.items_of consts.now) arena.now) (plain (C.text_of consts.now) (C.items_of consts.now) over))) most }
+    requires over { Knows C.Constants consts.now arena.now over }
+    requires all_told { TellsAll C.Constants consts.now arena.now }
+    ensures { let see = sight C.Constants consts.now in result ≡ min (looked_at (strs_of (see.heap arena.now) (see.value over))) most }
 {
     let limit = most.min(part_count(arena, consts, over) as u64) as u32;
     for at in 0..limit {
@@ -232,7 +228,7 @@ fn visits_of<C: Constants>(arena: &Arena, consts: &C, over: Value, most: u64) ->
     limit as u64
 }
 
-/// How many visits `call_str_join` makes, up to so many. It goes no further.
+/// How many visits `call_str_join` makes, `most` at most. It goes no further.
 pub fn visits_call_str_join<C: Constants>(
     arena: &Arena,
     consts: &C,
@@ -244,10 +240,10 @@ pub fn visits_call_str_join<C: Constants>(
     requires few { length args.now < 2 ^ 32 }
     requires str { IsStr object }
     requires leads { Leads arena.now.objects object }
-    requires told { IsTold (C.text_of consts.now) (C.items_of consts.now) object }
-    requires known { All (IsKnown (C.text_of consts.now) (C.items_of consts.now) arena.now.objects) args.now }
-    requires all_told { AllTold (C.text_of consts.now) (C.items_of consts.now) arena.now.objects }
-    ensures { result ≡ min (call_method (plain_heap (C.text_of consts.now) (C.items_of consts.now) arena.now) builtins.StrJoin (plain (C.text_of consts.now) (C.items_of consts.now) object) (map (plain (C.text_of consts.now) (C.items_of consts.now)) args.now) (map (plain_pair (C.text_of consts.now) (C.items_of consts.now)) keys.now)).visits most }
+    requires told { Tells C.Constants consts.now object }
+    requires known { KnowsAll C.Constants consts.now arena.now args.now }
+    requires all_told { TellsAll C.Constants consts.now arena.now }
+    ensures { CountsUpTo C.Constants consts.now result most arena.now (calling_method builtins.StrJoin object args.now keys.now) }
 {
     match one_argument(args, keys) {
         Ok(v) => visits_of(arena, consts, v, most),

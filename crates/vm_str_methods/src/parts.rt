@@ -4,10 +4,8 @@ ghost use Rattle.std.specs.Prelude.{◌≡◌, ◌↔◌, ◌<◌, ℕ, length, 
 ghost use Rattle.std.specs.Option.{option_map};
 ghost use Rattle.arena_heap.specs.declared.value.Value.{Value as Item};
 ghost use Rattle.arena_heap.specs.Values.{IsStr};
-ghost use Rattle.arena_objects.specs.Keys.{AllTold};
-ghost use Rattle.arena_objects.specs.Iterables.{items_in, spelled};
-ghost use Rattle.vm_walks.specs.Plain.{plain, plain_heap};
-ghost use Rattle.vm_faults.specs.Faults.{IsKnown, IsKnownStr};
+ghost use Rattle.arena_objects.specs.Iterables.{items_in};
+ghost use Rattle.vm_sights.specs.Sights.{under, sight, TellsAll, Knows, KnowsStr};
 ghost use Rattle.vm_operators.specs.Sources.{IsOtherThan};
 ghost use Rattle.vm_str_methods.specs.Parts.{strs_of, parts_in, cut_bytes, IsCut};
 
@@ -28,9 +26,9 @@ pub(crate) fn is_str(v: Value) -> bool
 
 /// How many parts an iterable has. Other values have none.
 pub(crate) fn part_count<C: Constants>(arena: &Arena, consts: &C, over: Value) -> u32
-    requires { IsKnown (C.text_of consts.now) (C.items_of consts.now) arena.now.objects over }
+    requires { Knows C.Constants consts.now arena.now over }
     ensures parts { result ≡ length (parts_in (C.text_of consts.now) arena.now (C.items_of consts.now) over) }
-    ensures strs { result ≡ length (strs_of (plain_heap (C.text_of consts.now) (C.items_of consts.now) arena.now) (plain (C.text_of consts.now) (C.items_of consts.now) over)) }
+    ensures strs { let see = sight C.Constants consts.now in result ≡ length (strs_of (see.heap arena.now) (see.value over)) }
 {
     if is_str(over) {
         return str_len(arena, consts, over);
@@ -41,12 +39,12 @@ pub(crate) fn part_count<C: Constants>(arena: &Arena, consts: &C, over: Value) -
 
 /// How many bytes the item of an iterable has, or None where it is no str.
 fn item_len<C: Constants>(arena: &Arena, consts: &C, over: Value, at: u32) -> Option<u32>
-    requires over { IsKnown (C.text_of consts.now) (C.items_of consts.now) arena.now.objects over }
-    requires all_told { AllTold (C.text_of consts.now) (C.items_of consts.now) arena.now.objects }
+    requires over { Knows C.Constants consts.now arena.now over }
+    requires all_told { TellsAll C.Constants consts.now arena.now }
     requires other { IsStr over → ⊥ }
     requires within { at < length (items_in (C.items_of consts.now) arena.now over) }
-    ensures len { result ≡ option_map length (slice_index_or (strs_of (plain_heap (C.text_of consts.now) (C.items_of consts.now) arena.now) (plain (C.text_of consts.now) (C.items_of consts.now) over)) at None) }
-    ensures known { OnSome result ((v : Item) → slice_get (items_in (C.items_of consts.now) arena.now over) at ≡ Some v → IsKnownStr (C.text_of consts.now) (C.items_of consts.now) arena.now.objects v) }
+    ensures len { let see = sight C.Constants consts.now in result ≡ option_map length (slice_index_or (strs_of (see.heap arena.now) (see.value over)) at None) }
+    ensures known { OnSome result ((v : Item) → slice_get (items_in (C.items_of consts.now) arena.now over) at ≡ Some v → KnowsStr C.Constants consts.now arena.now v) }
 {
     items_law(arena, consts, over);
     let item = item_at(arena, consts, over, at);
@@ -59,11 +57,11 @@ fn item_len<C: Constants>(arena: &Arena, consts: &C, over: Value, at: u32) -> Op
 
 /// How many bytes the part at a place has, or None where it is no str.
 pub(crate) fn part_len<C: Constants>(arena: &Arena, consts: &C, over: Value, at: u32) -> Option<u32>
-    requires over { IsKnown (C.text_of consts.now) (C.items_of consts.now) arena.now.objects over }
-    requires all_told { AllTold (C.text_of consts.now) (C.items_of consts.now) arena.now.objects }
-    requires within { at < length (strs_of (plain_heap (C.text_of consts.now) (C.items_of consts.now) arena.now) (plain (C.text_of consts.now) (C.items_of consts.now) over)) }
-    ensures len { result ≡ option_map length (slice_index_or (strs_of (plain_heap (C.text_of consts.now) (C.items_of consts.now) arena.now) (plain (C.text_of consts.now) (C.items_of consts.now) over)) at None) }
-    ensures known { OnSome result ((v : Item) → slice_get (items_in (C.items_of consts.now) arena.now over) at ≡ Some v → IsKnownStr (C.text_of consts.now) (C.items_of consts.now) arena.now.objects v) }
+    requires over { Knows C.Constants consts.now arena.now over }
+    requires all_told { TellsAll C.Constants consts.now arena.now }
+    requires within { let see = sight C.Constants consts.now in at < length (strs_of (see.heap arena.now) (see.value over)) }
+    ensures len { let see = sight C.Constants consts.now in result ≡ option_map length (slice_index_or (strs_of (see.heap arena.now) (see.value over)) at None) }
+    ensures known { OnSome result ((v : Item) → slice_get (items_in (C.items_of consts.now) arena.now over) at ≡ Some v → KnowsStr C.Constants consts.now arena.now v) }
 {
     if is_str(over) {
         return Some(1);
@@ -74,12 +72,12 @@ pub(crate) fn part_len<C: Constants>(arena: &Arena, consts: &C, over: Value, at:
 
 /// The part at a place of an iterable that has only strs.
 pub(crate) fn part_at<C: Constants>(arena: &Arena, consts: &C, over: Value, at: u32) -> Cut
-    requires over { IsKnown (C.text_of consts.now) (C.items_of consts.now) arena.now.objects over }
-    requires all_told { AllTold (C.text_of consts.now) (C.items_of consts.now) arena.now.objects }
-    requires strs { All (IsKnownStr (C.text_of consts.now) (C.items_of consts.now) arena.now.objects) (items_in (C.items_of consts.now) arena.now over) }
+    requires over { Knows C.Constants consts.now arena.now over }
+    requires all_told { TellsAll C.Constants consts.now arena.now }
+    requires strs { All (KnowsStr C.Constants consts.now arena.now) (items_in (C.items_of consts.now) arena.now over) }
     requires within { at < length (parts_in (C.text_of consts.now) arena.now (C.items_of consts.now) over) }
     ensures bytes { cut_bytes (C.text_of consts.now) arena.now result ≡ slice_index_or (parts_in (C.text_of consts.now) arena.now (C.items_of consts.now) over) at [] }
-    ensures cut { IsCut (C.text_of consts.now) (C.items_of consts.now) arena.now result }
+    ensures cut { under C.Constants consts.now IsCut arena.now result }
     ensures apart { (t : ℕ) → IsOtherThan t over → All (IsOtherThan t) (items_in (C.items_of consts.now) arena.now over) → IsOtherThan t result.of }
 {
     if is_str(over) {

@@ -2,8 +2,8 @@
 
 ghost use Rattle.std.specs.Prelude.{◌≡◌, ◌≢◌, ℕ, ◌<◌, ◌≤◌, ◌^◌, [], length, drop, slice_index, IfSome, IfNone};
 ghost use Rattle.arena_objects.specs.Iterables.{spelled};
-ghost use Rattle.py_primitives.specs.Methods.{is_space as is_space_byte, pieces_between, words_of};
-ghost use Rattle.vm_faults.specs.Faults.{IsKnownStr};
+ghost use Rattle.py_primitives.specs.Methods.{is_space as is_space_byte, words_of};
+ghost use Rattle.vm_sights.specs.Sights.{under, KnowsStr};
 ghost use Rattle.vm_str_methods.specs.Pieces.{between, IsSpan, IsSplit, IsPiece, pieces_from};
 
 use crate::cuts::Cut;
@@ -101,8 +101,8 @@ fn next_span<C: Constants>(
     split: Split,
     at: u64,
 ) -> Option<Span>
-    requires object { IsKnownStr (C.text_of consts.now) (C.items_of consts.now) arena.now.objects object }
-    requires split { IsSplit (C.text_of consts.now) (C.items_of consts.now) arena.now split }
+    requires object { KnowsStr C.Constants consts.now arena.now object }
+    requires split { under C.Constants consts.now IsSplit arena.now split }
     ensures some { IfSome result (IsSpan (pieces_from (C.text_of consts.now) arena.now split object) (spelled (C.text_of consts.now) arena.now object) at) }
     ensures none { IfNone result (pieces_from (C.text_of consts.now) arena.now split object at ≡ []) }
     ensures few { length (spelled (C.text_of consts.now) arena.now object) < 2 ^ 32 }
@@ -128,9 +128,9 @@ pub(crate) fn next_piece<C: Constants>(
     split: Split,
     at: u64,
 ) -> Option<Piece>
-    requires object { IsKnownStr (C.text_of consts.now) (C.items_of consts.now) arena.now.objects object }
-    requires split { IsSplit (C.text_of consts.now) (C.items_of consts.now) arena.now split }
-    ensures some { IfSome result (IsPiece (C.text_of consts.now) (C.items_of consts.now) arena.now split object at) }
+    requires object { KnowsStr C.Constants consts.now arena.now object }
+    requires split { under C.Constants consts.now IsSplit arena.now split }
+    ensures some { IfSome result (under C.Constants consts.now IsPiece arena.now split object at) }
     ensures none { IfNone result (pieces_from (C.text_of consts.now) arena.now split object at ≡ []) }
 {
     match next_span(arena, consts, object, split, at) {

@@ -5,14 +5,9 @@ ghost use Rattle.mpy_base.specs.declared.builtin.Builtin.TheVariants as builtins
 ghost use Rattle.mpy_base.specs.World.{AList, IsA, items_at, room_at, with_list};
 ghost use Rattle.mpy_base.specs.Weights.{used};
 ghost use Rattle.arena_heap.specs.Values.{Leads, IsStr};
-ghost use Rattle.arena_heap.specs.Constants.{IsTold};
-ghost use Rattle.arena_objects.specs.Keys.{AllTold};
-ghost use Rattle.arena_objects.specs.Iterables.{spelled};
 ghost use Rattle.py_values.specs.Shown.{shown};
-ghost use Rattle.py_primitives.specs.Methods.{call_method, str_method, list_of_texts, of_str, split_by};
-ghost use Rattle.vm_walks.specs.Plain.{plain, plain_pair, plain_heap};
-ghost use Rattle.vm_faults.specs.Faults.{IsKnown, IsKnownStr};
-ghost use Rattle.vm_faults.specs.Outcomes.{IsOutcome};
+ghost use Rattle.py_primitives.specs.Methods.{str_method, list_of_texts, of_str, split_by};
+ghost use Rattle.vm_sights.specs.Sights.{under, calling_method, Tells, TellsAll, Knows, KnowsAll, KnowsStr, Does};
 ghost use Rattle.vm_str_methods.specs.Parts.{IsCut, cut_bytes};
 ghost use Rattle.vm_str_methods.specs.Pieces.{IsSplit, pieces_from, piece_value, piece_values, cell_behind, cells_behind, with_piece, with_pieces, FitsPiece, FitPieces, PieceRefused, PiecesRefused};
 
@@ -27,8 +22,8 @@ use vm_faults::{Fault, Stop};
 
 /// How many pieces a str has.
 fn count_pieces<C: Constants>(arena: &Arena, consts: &C, object: Value, split: Split) -> u64
-    requires object { IsKnownStr (C.text_of consts.now) (C.items_of consts.now) arena.now.objects object }
-    requires split { IsSplit (C.text_of consts.now) (C.items_of consts.now) arena.now split }
+    requires object { KnowsStr C.Constants consts.now arena.now object }
+    requires split { under C.Constants consts.now IsSplit arena.now split }
     ensures { result ≡ length (pieces_from (C.text_of consts.now) arena.now split object 0) }
 {
     let mut at = 0;
@@ -42,7 +37,7 @@ fn count_pieces<C: Constants>(arena: &Arena, consts: &C, object: Value, split: S
 
 /// Makes the text of a piece. An empty piece is a constant.
 fn make_piece<C: Constants>(arena: &mut Arena, consts: &C, cut: Cut) -> Result<(), NoRoom>
-    requires { IsCut (C.text_of consts.now) (C.items_of consts.now) arena.old cut }
+    requires { under C.Constants consts.now IsCut arena.old cut }
     ensures ok { OnOk result (arena.new ≡ with_piece arena.old (cut_bytes (C.text_of consts.now) arena.old cut)) }
     ensures fits { OnOk result (FitsPiece arena.old (cut_bytes (C.text_of consts.now) arena.old cut)) }
     ensures refused { IfErr result (λ e. PieceRefused arena.old arena.new e (cut_bytes (C.text_of consts.now) arena.old cut)) }
@@ -62,8 +57,8 @@ fn make_pieces<C: Constants>(
     object: Value,
     split: Split,
 ) -> Result<(), NoRoom>
-    requires object { IsKnownStr (C.text_of consts.now) (C.items_of consts.now) arena.old.objects object }
-    requires split { IsSplit (C.text_of consts.now) (C.items_of consts.now) arena.old split }
+    requires object { KnowsStr C.Constants consts.now arena.old object }
+    requires split { under C.Constants consts.now IsSplit arena.old split }
     ensures ok { OnOk result (arena.new ≡ with_pieces arena.old (pieces_from (C.text_of consts.now) arena.old split object 0)) }
     ensures fits { OnOk result (FitPieces arena.old (pieces_from (C.text_of consts.now) arena.old split object 0)) }
     ensures refused { IfErr result (λ e. PiecesRefused arena.old arena.new e (pieces_from (C.text_of consts.now) arena.old split object 0)) }
@@ -107,8 +102,8 @@ fn put_pieces<C: Constants>(
     split: Split,
 )
     requires list { IsA arena.old.objects AList l.cell }
-    requires object { IsKnownStr (C.text_of consts.now) (C.items_of consts.now) arena.old.objects object }
-    requires split { IsSplit (C.text_of consts.now) (C.items_of consts.now) arena.old split }
+    requires object { KnowsStr C.Constants consts.now arena.old object }
+    requires split { under C.Constants consts.now IsSplit arena.old split }
     requires empty { items_at arena.old l.cell ≡ [] }
     requires room { length (pieces_from (C.text_of consts.now) arena.old split object 0) ≤ room_at arena.old l.cell }
     requires texts { All (Leads arena.old.objects) (piece_values first (pieces_from (C.text_of consts.now) arena.old split object 0)) }
@@ -142,8 +137,8 @@ fn fill_list<C: Constants>(
     split: Split,
 ) -> Result<(), NoRoom>
     requires list { IsA arena.old.objects AList l.cell }
-    requires object { IsKnownStr (C.text_of consts.now) (C.items_of consts.now) arena.old.objects object }
-    requires split { IsSplit (C.text_of consts.now) (C.items_of consts.now) arena.old split }
+    requires object { KnowsStr C.Constants consts.now arena.old object }
+    requires split { under C.Constants consts.now IsSplit arena.old split }
     requires empty { items_at arena.old l.cell ≡ [] }
     requires room { length (pieces_from (C.text_of consts.now) arena.old split object 0) ≤ room_at arena.old l.cell }
     ensures ok { OnOk result (arena.new ≡ with_list (with_pieces arena.old (pieces_from (C.text_of consts.now) arena.old split object 0)) l.cell (piece_values (used arena.old) (pieces_from (C.text_of consts.now) arena.old split object 0))) }
@@ -165,10 +160,10 @@ fn split_pieces<C: Constants>(
     object: Value,
     split: Split,
 ) -> Result<Value, Stop>
-    requires object { IsKnownStr (C.text_of consts.now) (C.items_of consts.now) arena.old.objects object }
-    requires split { IsSplit (C.text_of consts.now) (C.items_of consts.now) arena.old split }
-    requires all_told { AllTold (C.text_of consts.now) (C.items_of consts.now) arena.old.objects }
-    ensures { IsOutcome (C.text_of consts.now) (C.items_of consts.now) arena.old arena.new result (list_of_texts (plain_heap (C.text_of consts.now) (C.items_of consts.now) arena.old) (pieces_from (C.text_of consts.now) arena.old split object 0)) }
+    requires object { KnowsStr C.Constants consts.now arena.old object }
+    requires split { under C.Constants consts.now IsSplit arena.old split }
+    requires all_told { TellsAll C.Constants consts.now arena.old }
+    ensures { Does C.Constants consts.now arena.old arena.new result (λ heap see. list_of_texts heap (pieces_from see.texts arena.old split object 0)) }
 {
     consts.empty_law();
     let count = count_pieces(arena, consts, object, split);
@@ -188,10 +183,10 @@ fn split_between<C: Constants>(
     object: Value,
     v: Value,
 ) -> Result<Value, Stop>
-    requires object { IsKnownStr (C.text_of consts.now) (C.items_of consts.now) arena.old.objects object }
-    requires known { IsKnown (C.text_of consts.now) (C.items_of consts.now) arena.old.objects v }
-    requires all_told { AllTold (C.text_of consts.now) (C.items_of consts.now) arena.old.objects }
-    ensures { IsOutcome (C.text_of consts.now) (C.items_of consts.now) arena.old arena.new result (of_str (plain_heap (C.text_of consts.now) (C.items_of consts.now) arena.old) (plain (C.text_of consts.now) (C.items_of consts.now) object) (plain (C.text_of consts.now) (C.items_of consts.now) v) (shown (plain_heap (C.text_of consts.now) (C.items_of consts.now) arena.old) (plain (C.text_of consts.now) (C.items_of consts.now) v)) (split_by (plain_heap (C.text_of consts.now) (C.items_of consts.now) arena.old) (spelled (C.text_of consts.now) arena.old object))) }
+    requires object { KnowsStr C.Constants consts.now arena.old object }
+    requires known { Knows C.Constants consts.now arena.old v }
+    requires all_told { TellsAll C.Constants consts.now arena.old }
+    ensures { Does C.Constants consts.now arena.old arena.new result (λ heap see. of_str heap (see.value object) (see.value v) (shown heap (see.value v)) (split_by heap (see.bytes arena.old object))) }
 {
     if !is_str(v) {
         return Err(Stop::Raises(no_str(arena, object, v)));
@@ -209,11 +204,11 @@ fn split_with<C: Constants>(
     object: Value,
     args: &[Value],
 ) -> Result<Value, Stop>
-    requires object { IsKnownStr (C.text_of consts.now) (C.items_of consts.now) arena.old.objects object }
-    requires known { All (IsKnown (C.text_of consts.now) (C.items_of consts.now) arena.old.objects) args.now }
-    requires all_told { AllTold (C.text_of consts.now) (C.items_of consts.now) arena.old.objects }
+    requires object { KnowsStr C.Constants consts.now arena.old object }
+    requires known { KnowsAll C.Constants consts.now arena.old args.now }
+    requires all_told { TellsAll C.Constants consts.now arena.old }
     requires few { length args.now ≤ 1 }
-    ensures { IsOutcome (C.text_of consts.now) (C.items_of consts.now) arena.old arena.new result (str_method (plain_heap (C.text_of consts.now) (C.items_of consts.now) arena.old) builtins.StrSplit (plain (C.text_of consts.now) (C.items_of consts.now) object) (spelled (C.text_of consts.now) arena.old object) (map (plain (C.text_of consts.now) (C.items_of consts.now)) args.now)) }
+    ensures { Does C.Constants consts.now arena.old arena.new result (λ heap see. str_method heap builtins.StrSplit (see.value object) (see.bytes arena.old object) (map see.value args.now)) }
 {
     if args.is_empty() {
         split_pieces(arena, consts, object, Split::Words)
@@ -233,10 +228,10 @@ pub fn call_str_split<C: Constants>(
     requires few { length args.now < 2 ^ 32 }
     requires str { IsStr object }
     requires leads { Leads arena.old.objects object }
-    requires told { IsTold (C.text_of consts.now) (C.items_of consts.now) object }
-    requires known { All (IsKnown (C.text_of consts.now) (C.items_of consts.now) arena.old.objects) args.now }
-    requires all_told { AllTold (C.text_of consts.now) (C.items_of consts.now) arena.old.objects }
-    ensures { IsOutcome (C.text_of consts.now) (C.items_of consts.now) arena.old arena.new result (call_method (plain_heap (C.text_of consts.now) (C.items_of consts.now) arena.old) builtins.StrSplit (plain (C.text_of consts.now) (C.items_of consts.now) object) (map (plain (C.text_of consts.now) (C.items_of consts.now)) args.now) (map (plain_pair (C.text_of consts.now) (C.items_of consts.now)) keys.now)) }
+    requires told { Tells C.Constants consts.now object }
+    requires known { KnowsAll C.Constants consts.now arena.old args.now }
+    requires all_told { TellsAll C.Constants consts.now arena.old }
+    ensures { Does C.Constants consts.now arena.old arena.new result (calling_method builtins.StrSplit object args.now keys.now) }
 {
     match only_between(0, 1, args, keys) {
         Ok(()) => split_with(arena, consts, object, args),

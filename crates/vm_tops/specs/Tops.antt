@@ -9,17 +9,20 @@ use Rattle.vm_frames.specs.declared.slot.Entry.{Entry}
 use Rattle.bc_offsets.specs.Positions.{position_in}
 use Rattle.vm_moves.specs.Views.{View}
 
+-- a value
 pub record OneValue (st : List Slot) : Type 0 where
   pub top : Value
   pub below : List Slot
   pub are : st ≡ slots.Value top ∷ below
 
+-- two values
 pub record TwoValues (st : List Slot) : Type 0 where
   pub top : Value
   pub second : Value
   pub below : List Slot
   pub are : st ≡ slots.Value top ∷ slots.Value second ∷ below
 
+-- three values
 pub record ThreeValues (st : List Slot) : Type 0 where
   pub top : Value
   pub second : Value
@@ -35,6 +38,7 @@ pub record Values (count : ℕ) (Holds : List Slot → Type 0) (st : List Slot) 
   pub many : length values ≡ count
   pub holds : Holds below
 
+-- any slots, or none
 abbrev pub Anything : List Slot → Type 0
 Anything st = Unit {0}
 
@@ -48,12 +52,14 @@ pub data IsDropped : Slot → Type 0 where
   value : (v : Value) → IsDropped (slots.Value v)
   iterator : (over : Value) (at part : ℕ) → IsDropped (slots.Iter over at part)
 
+-- a slot that may be dropped: a value, or one of an iterator
 pub record OneDropped (st : List Slot) : Type 0 where
   pub top : Slot
   pub below : List Slot
   pub are : st ≡ top ∷ below
   pub is : IsDropped top
 
+-- two slots, each a value or empty
 pub record TwoOperands (st : List Slot) : Type 0 where
   pub top : Slot
   pub second : Slot
@@ -62,6 +68,7 @@ pub record TwoOperands (st : List Slot) : Type 0 where
   pub top_is : IsOperand top
   pub second_is : IsOperand second
 
+-- three such slots
 pub record ThreeOperands (st : List Slot) : Type 0 where
   pub top : Slot
   pub second : Slot
@@ -110,8 +117,8 @@ module _ (view : View) where
     bound : (object method : Value) (builtin : Builtin) (below : List Slot) → view.plain method ≡ Built builtin → IsLooked (slots.Object (Some object) ∷ slots.Value method ∷ below)
     free : (v : Value) (below : List Slot) → IsLooked (slots.Object None ∷ slots.Value v ∷ below)
 
-  -- what a finally has kept, where so many entries lie below its own: nothing, an exception, a return, or a jump out of no more
-  -- entries than there are
+  -- what a finally has kept, where `entries` entries lie below its own: nothing, an exception, a return, or a jump out of no
+  -- more entries than there are
   pub data IsCause (entries : ℕ) : Slot → Type 0 where
     nothing : (v : Value) → view.plain v ≡ Nil → IsCause entries (slots.Value v)
     exception : (v : Value) (x : ℕ) → view.plain v ≡ At x → IsCause entries (slots.Value v)

@@ -1,6 +1,7 @@
 -- Texts that a walk finds.
-use Rattle.std.proofs.Common.{◌≡◌, ℕ, ◌^◌, ◌-◌, min, List, length, Option, Some, None, Result, Err, refl, sym, ap, subst}
-use Rattle.std.specs.Prelude.{IsSome}
+use Rattle.std.proofs.Common.{◌≡◌, ℕ, ◌^◌, ◌-◌, ◌≤◌, min, List, length, Option, Some, None, Result, Err, refl, sym, ap, subst}
+use Rattle.std.specs.Prelude.{IsSome, IfSome, Vec}
+use Rattle.std.specs.declared.alloc.Global.{Global}
 use Rattle.std.specs.Option.{option_map}
 use Rattle.mpy_base.specs.World.{Heap}
 use Rattle.mpy_base.specs.Val.{Val}
@@ -49,3 +50,12 @@ pub too_deep : (texts : StrNo → Option (List ℕ)) (tuples : ConstNo → Optio
     → IsOutcome texts tuples h h (Err (Raises faults.TooDeep)) (after_walk (plain_heap texts tuples h) walk next)
 too_deep texts tuples h all walk next e =
     visited texts tuples h h walk.visits _ _ (raises_outcome texts tuples h faults.TooDeep _ all tt (ap (λ (o : Option (List ℕ)). after_answer o (plain_heap texts tuples h) next) e))
+
+-- where the text that is found fits, and where it is found in bytes
+pub room_found : {room : ℕ} (o : Option (List ℕ)) → length (or_nothing o) ≤ room → IfSome o (λ text. length text ≤ room)
+room_found None low = tt
+room_found (Some text) low = low
+
+pub items_found : (r : Option (Vec ℕ Global)) (o : Option (List ℕ)) → option_map (λ text. text.items) r ≡ o → IfSome r (λ text. text.items ≡ or_nothing o)
+items_found None o e = tt
+items_found (Some text) o e = ap or_nothing e

@@ -17,6 +17,7 @@ module _ (texts : StrNo → Option (List ℕ)) (tuples : ConstNo → Option (Lis
   abbrev pub found_text : Option (List ℕ)
   found_text = (text_of (plain_heap texts tuples heap) raw (plain texts tuples v)).answer
 
+  -- the text of a value that goes deep enough for one, and nothing of another
   abbrev pub text_in : List ℕ
   text_in = or_nothing found_text
 

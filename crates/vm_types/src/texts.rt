@@ -1,6 +1,6 @@
 //! `str` and `repr`.
 
-ghost use Rattle.std.specs.Prelude.{◌≡◌, ◌+◌, ◌-◌, ◌<◌, ◌≤◌, ◌^◌, length, min, take, drop, map, slice_index, IsSome, All};
+ghost use Rattle.std.specs.Prelude.{◌≡◌, ◌+◌, ◌-◌, ◌<◌, ◌≤◌, ◌^◌, length, min, take, drop, map, IsSome, IfSome, All};
 ghost use Rattle.mpy_base.specs.declared.builtin.Builtin.TheVariants as builtins;
 ghost use Rattle.mpy_base.specs.World.{AText, IsA, Later, text_at, with_text};
 ghost use Rattle.arena_heap.specs.Values.{Leads};
@@ -17,7 +17,7 @@ ghost use Rattle.vm_types.specs.Texts.{found_text, text_in, IsApart, written_ove
 use arena_heap::{Arena, Constants, StrNo, TextNo, Value, text_fill};
 use vm_builtins::one_argument;
 use vm_faults::{Fault, Stop};
-use vm_walks::{TextPart, text_len, text_part, visits_text};
+use vm_walks::{TextPart, text_len, text_part, visits_text, whole_text};
 
 /// How many bytes a part has.
 fn part_size(part: &TextPart) -> usize
@@ -29,27 +29,17 @@ fn part_size(part: &TextPart) -> usize
     part.count
 }
 
-fn part_byte(part: &TextPart, at: usize) -> u8
-    requires count { part.now.count ≤ 4096 }
-    requires within { at < length (take part.now.count part.now.bytes) }
-    ensures { result ≡ slice_index (take part.now.count part.now.bytes) at }
-{
-    part.bytes[..part.count][at]
-}
-
 /// Writes a part of a text over the bytes from a place on.
-fn put_part(arena: &mut Arena, t: TextNo, from: u32, part: &TextPart)
+fn put_part(arena: &mut Arena, t: TextNo, from: u32, part: &[u8])
     requires text { IsA arena.old.objects AText t.cell }
     requires few { length (text_at arena.old t.cell) < 2 ^ 32 }
-    requires count { part.now.count ≤ 4096 }
-    requires within { from + length (take part.now.count part.now.bytes) ≤ length (text_at arena.old t.cell) }
-    requires ascii { All (λ b. b < 128) (take part.now.count part.now.bytes) }
-    ensures put { arena.new ≡ with_text arena.old t.cell (written_over from (take part.now.count part.now.bytes) (text_at arena.old t.cell)) }
+    requires within { from + length part.now ≤ length (text_at arena.old t.cell) }
+    requires ascii { All (λ b. b < 128) part.now }
+    ensures put { arena.new ≡ with_text arena.old t.cell (written_over from part.now (text_at arena.old t.cell)) }
     ensures later { Later arena.old.objects arena.new.objects }
 {
-    for at in 0..part_size(part) {
-        let byte = part_byte(part, at);
-        text_fill(arena, t, from + at as u32, byte);
+    for at in 0..part.len() {
+        text_fill(arena, t, from + at as u32, part[at]);
     }
 }
 
@@ -75,12 +65,12 @@ fn put_next<C: Constants>(
     ensures later { Later arena.old.objects arena.new.objects }
 {
     let part = text_part(arena, consts, v, raw, from as u64).unwrap();
-    put_part(arena, t, from, &part);
+    put_part(arena, t, from, &part.bytes[..part.count]);
     part_size(&part) as u32
 }
 
-/// Writes the text of a value to a text of its length.
-fn fill_text<C: Constants>(
+/// Writes the text of a value to a text of its length, part by part.
+fn fill_by_parts<C: Constants>(
     arena: &mut Arena,
     consts: &C,
     v: Value,
@@ -105,7 +95,61 @@ fn fill_text<C: Constants>(
     }
 }
 
-/// A text that is the text of a value, of which so many bytes are asked for. The empty one is a constant.
+/// The text of a value, which is written in one walk over bytes that the arena lends, or None where it lends none that
+/// are enough.
+fn text_at_once<C: Constants>(
+    arena: &mut Arena,
+    consts: &C,
+    v: Value,
+    raw: bool,
+    count: u32,
+) -> Option<Vec<u8>>
+    requires leads { Leads arena.old.objects v }
+    requires told { IsTold (C.text_of consts.now) (C.items_of consts.now) v }
+    requires all_told { AllTold (C.text_of consts.now) (C.items_of consts.now) arena.old.objects }
+    requires bytes { length (text_in (C.text_of consts.now) (C.items_of consts.now) arena.old raw v) ≡ count }
+    ensures same { arena.new ≡ arena.old }
+    ensures text { IfSome result (λ text. text.items ≡ text_in (C.text_of consts.now) (C.items_of consts.now) arena.old raw v) }
+    ensures ascii { IfSome result (λ text. All (λ b. b < 128) text.items) }
+{
+    let scratch = arena.lend_scratch()?;
+    if scratch.capacity() < count as usize {
+        arena.return_scratch(scratch);
+        return None;
+    }
+    whole_text(arena, consts, v, raw, scratch)
+}
+
+/// Writes the text of a value to a text of its length.
+fn fill_text<C: Constants>(
+    arena: &mut Arena,
+    consts: &C,
+    v: Value,
+    raw: bool,
+    t: TextNo,
+    count: u32,
+)
+    requires leads { Leads arena.old.objects v }
+    requires told { IsTold (C.text_of consts.now) (C.items_of consts.now) v }
+    requires all_told { AllTold (C.text_of consts.now) (C.items_of consts.now) arena.old.objects }
+    requires text { IsA arena.old.objects AText t.cell }
+    requires found { IsSome (found_text (C.text_of consts.now) (C.items_of consts.now) arena.old raw v) }
+    requires apart { IsApart (C.text_of consts.now) (C.items_of consts.now) arena.old raw v t.cell }
+    requires bytes { length (text_in (C.text_of consts.now) (C.items_of consts.now) arena.old raw v) ≡ count }
+    requires room { length (text_at arena.old t.cell) ≡ count }
+    ensures filled { arena.new ≡ with_text arena.old t.cell (text_in (C.text_of consts.now) (C.items_of consts.now) arena.old raw v) }
+    ensures later { Later arena.old.objects arena.new.objects }
+{
+    match text_at_once(arena, consts, v, raw, count) {
+        Some(text) => {
+            put_part(arena, t, 0, &text);
+            arena.return_scratch(text);
+        }
+        None => fill_by_parts(arena, consts, v, raw, t, count),
+    }
+}
+
+/// A text that is the text of a value, which has `len` bytes. The empty one is a constant.
 fn make_filled<C: Constants>(
     arena: &mut Arena,
     consts: &C,
@@ -173,7 +217,7 @@ pub fn call_str<C: Constants>(
     }
 }
 
-/// How many visits `call_str` makes, up to so many. It goes no further.
+/// How many visits `call_str` makes, `most` at most. It goes no further.
 pub fn visits_call_str<C: Constants>(
     arena: &Arena,
     consts: &C,
@@ -210,7 +254,7 @@ pub fn call_repr<C: Constants>(
     }
 }
 
-/// How many visits `call_repr` makes, up to so many. It goes no further.
+/// How many visits `call_repr` makes, `most` at most. It goes no further.
 pub fn visits_call_repr<C: Constants>(
     arena: &Arena,
     consts: &C,

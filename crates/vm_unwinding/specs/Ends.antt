@@ -7,13 +7,14 @@ use Rattle.bc_machine.specs.Library.{Item, Library}
 use Rattle.bc_machine.specs.State.{State, Halted}
 use Rattle.vm_raising.specs.declared.place.Place.{Place}
 use Rattle.vm_raising.specs.Places.{plain_place}
-use Rattle.vm_raising.specs.Worlds.{sight}
+use Rattle.vm_sights.specs.Sights.{sight_of as sight}
 use Rattle.vm_modules.specs.Registry.{Registry, plain_modules}
 use Rattle.vm_frames.specs.Calls.{Call}
 use Rattle.vm_step.specs.Shown.{Tables, running_of, step_of}
 use Rattle.vm_unwinding.specs.declared.ends.End.{End}
 use Rattle.vm_unwinding.specs.declared.ends.End.TheVariants as ends
 
+-- how a run ended, as the machine has it
 abbrev pub end_of : End → plain.End
 end_of ends.Ended = plain.Ended
 end_of (ends.Raised x) = plain.Raised x.cell

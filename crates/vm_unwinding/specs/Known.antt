@@ -27,6 +27,7 @@ HasModule objects roles.Call = Unit {0}
 HasModule objects (roles.Import m) = IsA objects AModule m.cell
 
 module _ (texts : StrNo → Option (List ℕ)) (tuples : ConstNo → Option (List Value)) where
+  -- a slot whose values are known
   abbrev pub IsKnownSlot : Objects Value ℕ → Slot → Type 0
   IsKnownSlot objects (slots.Value v) = IsKnown texts tuples objects v
   IsKnownSlot objects slots.Null = Unit {0}

@@ -37,6 +37,7 @@ abbrev pub failed_calls : Result ExcNo NoRoom → List Call → List Call
 failed_calls (Ok x) calls = thrown x calls
 failed_calls (Err room) calls = calls
 
+-- how the run ends behind a failure, if it does
 abbrev pub failed_end : Result ExcNo NoRoom → List Call → Option End
 failed_end (Ok x) calls = thrown_out x (thrown x calls)
 failed_end (Err room) calls = Some (ends.Memory room)

@@ -22,6 +22,7 @@ pub enum Cause {
     },
 }
 
+/// The cause that a value keeps.
 fn cause_in(v: Value) -> Cause
     requires { IsCause v }
     ensures { slots.Value v ≡ cause_slot result }

@@ -6,11 +6,11 @@ ghost use Rattle.mpy_base.specs.Val.{PlainWorld};
 ghost use Rattle.bc_ops.specs.declared.instr.Op.TheVariants as ops;
 ghost use Rattle.bc_ops.specs.declared.instr.Instr.TheVariants as instrs;
 ghost use Rattle.arena_heap.specs.declared.value.Value.{Value as Item};
-ghost use Rattle.arena_objects.specs.Keys.{AllTold};
 ghost use Rattle.py_effects.specs.Effect.{Place};
 ghost use Rattle.py_effects.specs.Heaps.{Registered};
 ghost use Rattle.bc_machine.specs.Library.{Plain};
 ghost use Rattle.vm_walks.specs.Plain.{plain_heap};
+ghost use Rattle.vm_sights.specs.Sights.{under, TellsAll};
 ghost use Rattle.vm_modules.specs.Registry.{plain_modules};
 ghost use Rattle.vm_frames.specs.Calls.{OfRunning, change_first};
 ghost use Rattle.vm_moves.specs.Views.{View};
@@ -35,7 +35,7 @@ use vm_frames::{Frames, Slot};
 use vm_modules::Modules;
 use vm_moves::{moves_law, placed_law};
 
-/// Throws the exception on.
+/// Throws the exception on at the end of a finally.
 fn throw_on<C: Constants>(
     frames: &mut Frames,
     consts: &C,
@@ -45,11 +45,10 @@ fn throw_on<C: Constants>(
 ) -> After
     requires running { 0 < length frames.old.calls }
     requires named { All (λ c. c.module_number < length names.now) frames.old.calls }
-    ensures state { (tables : Tables) (w : PlainWorld) → AreTablesOf (C.text_of consts.now) (C.items_of consts.now) names.now tables → All (IsPlaced (view_of tables)) frames.old.calls
-        → throwing_of tables x frames.old.calls (with_modules tables w modules.old) ≡ after_of tables result frames.new.calls (with_modules tables w modules.new) }
+    ensures state { (tables : Tables) (w : PlainWorld) → under C.Constants consts.now AreTablesOf names.now tables → All (IsPlaced (view_of tables)) frames.old.calls → throwing_of tables x frames.old.calls (with_modules tables w modules.old) ≡ after_of tables result frames.new.calls (with_modules tables w modules.new) }
     ensures calls { frames.new ≡ record frames.old { calls = thrown x frames.old.calls } }
     ensures placed { (view : View) → All (IsPlaced view) frames.old.calls → All (IsPlaced view) frames.new.calls }
-    ensures after { (objects : Objects Item ℕ) → IsA objects AnException x.cell → IsKnownAfter (C.text_of consts.now) (C.items_of consts.now) objects result }
+    ensures after { (objects : Objects Item ℕ) → IsA objects AnException x.cell → under C.Constants consts.now IsKnownAfter objects result }
     ensures forgets { Forgets modules.old modules.new }
 {
     match fail(frames, consts, modules, names, Ok(x)) {
@@ -71,16 +70,15 @@ fn resume<C: Constants>(
     requires fits { OfRunning (FitsEntries cause) frames.old.calls }
     requires named { All (λ c. c.module_number < length names.now) frames.old.calls }
     requires role { OfRunning (λ c. HasModule arena.old.objects c.role) frames.old.calls }
-    requires last { All (HasLast (C.text_of consts.now) (C.items_of consts.now)) names.now }
-    requires registered { Registered (plain_modules (C.text_of consts.now) (C.items_of consts.now) modules.old) (plain_heap (C.text_of consts.now) (C.items_of consts.now) arena.old) }
-    requires all_told { AllTold (C.text_of consts.now) (C.items_of consts.now) arena.old.objects }
-    ensures state { (tables : Tables) (w : PlainWorld) → AreTablesOf (C.text_of consts.now) (C.items_of consts.now) names.now tables → IsNext tables end frames.old.calls → All (IsPlaced (view_of tables)) frames.old.calls
-        → resuming_of tables cause frames.old.calls (world_of tables (with_modules tables w modules.old) arena.old) ≡ after_of tables result frames.new.calls (world_of tables (with_modules tables w modules.new) arena.new) }
+    requires last { All (under C.Constants consts.now HasLast) names.now }
+    requires registered { Registered (under C.Constants consts.now plain_modules modules.old) (under C.Constants consts.now plain_heap arena.old) }
+    requires all_told { TellsAll C.Constants consts.now arena.old }
+    ensures state { (tables : Tables) (w : PlainWorld) → under C.Constants consts.now AreTablesOf names.now tables → IsNext tables end frames.old.calls → All (IsPlaced (view_of tables)) frames.old.calls → resuming_of tables cause frames.old.calls (world_of tables (with_modules tables w modules.old) arena.old) ≡ after_of tables result frames.new.calls (world_of tables (with_modules tables w modules.new) arena.new) }
     ensures calls { frames.new ≡ record frames.old { calls = resumed cause end frames.old.calls } }
     ensures placed { (view : View) → OfRunning (GoesOn view end cause) frames.old.calls → All (IsPlaced view) frames.old.calls → All (IsPlaced view) frames.new.calls }
-    ensures after { (objects : Objects Item ℕ) → IsKnownSlot (C.text_of consts.now) (C.items_of consts.now) objects (cause_slot cause) → IsKnownAfter (C.text_of consts.now) (C.items_of consts.now) objects result }
+    ensures after { (objects : Objects Item ℕ) → under C.Constants consts.now IsKnownSlot objects (cause_slot cause) → under C.Constants consts.now IsKnownAfter objects result }
     ensures later { Later arena.old.objects arena.new.objects }
-    ensures all_told { AllTold (C.text_of consts.now) (C.items_of consts.now) arena.new.objects }
+    ensures all_told { TellsAll C.Constants consts.now arena.new }
     ensures forgets { Forgets modules.old modules.new }
 {
     moves_law();
@@ -121,16 +119,14 @@ pub fn end_finally<C: Constants>(
     requires entry { OfRunning (λ c. 0 < length c.entries) frames.old.calls }
     requires named { All (λ c. c.module_number < length names.now) frames.old.calls }
     requires role { OfRunning (λ c. HasModule arena.old.objects c.role) frames.old.calls }
-    requires last { All (HasLast (C.text_of consts.now) (C.items_of consts.now)) names.now }
-    requires registered { Registered (plain_modules (C.text_of consts.now) (C.items_of consts.now) modules.old) (plain_heap (C.text_of consts.now) (C.items_of consts.now) arena.old) }
-    requires all_told { AllTold (C.text_of consts.now) (C.items_of consts.now) arena.old.objects }
-    ensures steps { (tables : Tables) (place : Place) (w : PlainWorld) → AreTablesOf (C.text_of consts.now) (C.items_of consts.now) names.now tables → IsNext tables end frames.old.calls → All (IsPlaced (view_of tables)) frames.old.calls
-        → StepsTo tables place (world_of tables (with_modules tables w modules.old) arena.old) (Plain (instrs.Plain ops.EndFinally)) frames.old.calls
-        (after_of tables result frames.new.calls (world_of tables (with_modules tables w modules.new) arena.new)) }
+    requires last { All (under C.Constants consts.now HasLast) names.now }
+    requires registered { Registered (under C.Constants consts.now plain_modules modules.old) (under C.Constants consts.now plain_heap arena.old) }
+    requires all_told { TellsAll C.Constants consts.now arena.old }
+    ensures steps { (tables : Tables) (place : Place) (w : PlainWorld) → under C.Constants consts.now AreTablesOf names.now tables → IsNext tables end frames.old.calls → All (IsPlaced (view_of tables)) frames.old.calls → StepsTo tables place (world_of tables (with_modules tables w modules.old) arena.old) (Plain (instrs.Plain ops.EndFinally)) frames.old.calls (after_of tables result frames.new.calls (world_of tables (with_modules tables w modules.new) arena.new)) }
     ensures calls { (cause : Kept) → IsTop (cause_slot cause) frames.old.calls → frames.new ≡ record frames.old { calls = resumed cause end (change_first unkept frames.old.calls) } }
     ensures placed { (view : View) (cause : Kept) → IsTop (cause_slot cause) frames.old.calls → OfRunning (GoesOn view end cause) frames.old.calls → All (IsPlaced view) frames.old.calls → All (IsPlaced view) frames.new.calls }
-    ensures after { All (IsKnownCall (C.text_of consts.now) (C.items_of consts.now) (length names.now) arena.old.objects) frames.old.calls → IsKnownAfter (C.text_of consts.now) (C.items_of consts.now) arena.new.objects result }
-    ensures keeps { Keeps (C.text_of consts.now) (C.items_of consts.now) (length names.now) arena.old.objects arena.new.objects frames.old.calls frames.new.calls }
+    ensures after { All (under C.Constants consts.now IsKnownCall (length names.now) arena.old.objects) frames.old.calls → under C.Constants consts.now IsKnownAfter arena.new.objects result }
+    ensures keeps { under C.Constants consts.now Keeps (length names.now) arena.old.objects arena.new.objects frames.old.calls frames.new.calls }
     ensures forgets { Forgets modules.old modules.new }
 {
     placed_law();

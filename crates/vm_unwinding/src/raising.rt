@@ -5,10 +5,8 @@ ghost use Rattle.mpy_base.specs.Val.{PlainWorld};
 ghost use Rattle.bc_ops.specs.declared.instr.Op.TheVariants as ops;
 ghost use Rattle.bc_ops.specs.declared.instr.Instr.TheVariants as instrs;
 ghost use Rattle.arena_heap.specs.declared.value.Value.{Value as Item};
-ghost use Rattle.arena_objects.specs.Keys.{AllTold};
 ghost use Rattle.bc_machine.specs.Library.{Plain};
-ghost use Rattle.vm_faults.specs.Faults.{IsKnown};
-ghost use Rattle.vm_faults.specs.Outcomes.{IsKnownAnswer};
+ghost use Rattle.vm_sights.specs.Sights.{under, TellsAll, Knows, KnowsAnswer};
 ghost use Rattle.vm_frames.specs.declared.slot.Slot.TheVariants as slots;
 ghost use Rattle.vm_frames.specs.Calls.{OfRunning};
 ghost use Rattle.vm_moves.specs.Views.{View};
@@ -44,14 +42,12 @@ pub fn raise<C: Constants>(
 ) -> Option<End>
     requires running { 0 < length frames.old.calls }
     requires named { All (λ c. c.module_number < length names.now) frames.old.calls }
-    requires stop { IsKnownAnswer (C.text_of consts.now) (C.items_of consts.now) arena.old.objects (Err stop) }
-    requires all_told { AllTold (C.text_of consts.now) (C.items_of consts.now) arena.old.objects }
-    ensures state { (tables : Tables) (w : PlainWorld) → AreTablesOf (C.text_of consts.now) (C.items_of consts.now) names.now tables → All (IsPlaced (view_of tables)) frames.old.calls
-        → stopping_of tables (place_of tables place) (with_modules tables w modules.old) arena.old frames.old.calls stop
-        ≡ state_of tables result frames.new.calls (world_of tables (with_modules tables w modules.new) arena.new) }
+    requires stop { KnowsAnswer C.Constants consts.now arena.old (Err stop) }
+    requires all_told { TellsAll C.Constants consts.now arena.old }
+    ensures state { (tables : Tables) (w : PlainWorld) → under C.Constants consts.now AreTablesOf names.now tables → All (IsPlaced (view_of tables)) frames.old.calls → stopping_of tables (place_of tables place) (with_modules tables w modules.old) arena.old frames.old.calls stop ≡ state_of tables result frames.new.calls (world_of tables (with_modules tables w modules.new) arena.new) }
     ensures thrown { HasThrown arena.new.objects frames.old frames.new result }
     ensures placed { (view : View) → All (IsPlaced view) frames.old.calls → All (IsPlaced view) frames.new.calls }
-    ensures keeps { Keeps (C.text_of consts.now) (C.items_of consts.now) (length names.now) arena.old.objects arena.new.objects frames.old.calls frames.new.calls }
+    ensures keeps { under C.Constants consts.now Keeps (length names.now) arena.old.objects arena.new.objects frames.old.calls frames.new.calls }
     ensures forgets { Forgets modules.old modules.new }
 {
     let failure = stop_at(arena, consts, place, stop);
@@ -68,15 +64,13 @@ pub fn raise_obj<C: Constants>(
     names: &[ModuleName],
     place: Place,
 ) -> Option<End>
-    requires value { (v : Item) × IsTop (slots.Value v) frames.old.calls × IsKnown (C.text_of consts.now) (C.items_of consts.now) arena.old.objects v }
+    requires value { (v : Item) × IsTop (slots.Value v) frames.old.calls × Knows C.Constants consts.now arena.old v }
     requires named { All (λ c. c.module_number < length names.now) frames.old.calls }
-    requires all_told { AllTold (C.text_of consts.now) (C.items_of consts.now) arena.old.objects }
-    ensures steps { (tables : Tables) (w : PlainWorld) → AreTablesOf (C.text_of consts.now) (C.items_of consts.now) names.now tables → All (IsPlaced (view_of tables)) frames.old.calls
-        → StepsTo tables (place_of tables place) (world_of tables (with_modules tables w modules.old) arena.old) (Plain (instrs.Plain ops.RaiseObj)) frames.old.calls
-        (state_of tables result frames.new.calls (world_of tables (with_modules tables w modules.new) arena.new)) }
+    requires all_told { TellsAll C.Constants consts.now arena.old }
+    ensures steps { (tables : Tables) (w : PlainWorld) → under C.Constants consts.now AreTablesOf names.now tables → All (IsPlaced (view_of tables)) frames.old.calls → StepsTo tables (place_of tables place) (world_of tables (with_modules tables w modules.old) arena.old) (Plain (instrs.Plain ops.RaiseObj)) frames.old.calls (state_of tables result frames.new.calls (world_of tables (with_modules tables w modules.new) arena.new)) }
     ensures thrown { HasThrown arena.new.objects frames.old frames.new result }
     ensures placed { (view : View) → All (IsPlaced view) frames.old.calls → All (IsPlaced view) frames.new.calls }
-    ensures keeps { Keeps (C.text_of consts.now) (C.items_of consts.now) (length names.now) arena.old.objects arena.new.objects frames.old.calls frames.new.calls }
+    ensures keeps { under C.Constants consts.now Keeps (length names.now) arena.old.objects arena.new.objects frames.old.calls frames.new.calls }
     ensures forgets { Forgets modules.old modules.new }
 {
     let Slot::Value(v) = frames.slot(0) else {
@@ -98,13 +92,11 @@ pub fn raise_last<C: Constants>(
 ) -> Option<End>
     requires entries { OfRunning (λ c. All (KeepsException arena.old.objects) c.entries) frames.old.calls }
     requires named { All (λ c. c.module_number < length names.now) frames.old.calls }
-    requires all_told { AllTold (C.text_of consts.now) (C.items_of consts.now) arena.old.objects }
-    ensures steps { (tables : Tables) (w : PlainWorld) → AreTablesOf (C.text_of consts.now) (C.items_of consts.now) names.now tables → All (IsPlaced (view_of tables)) frames.old.calls
-        → StepsTo tables (place_of tables place) (world_of tables (with_modules tables w modules.old) arena.old) (Plain (instrs.Plain ops.RaiseLast)) frames.old.calls
-        (state_of tables result frames.new.calls (world_of tables (with_modules tables w modules.new) arena.new)) }
+    requires all_told { TellsAll C.Constants consts.now arena.old }
+    ensures steps { (tables : Tables) (w : PlainWorld) → under C.Constants consts.now AreTablesOf names.now tables → All (IsPlaced (view_of tables)) frames.old.calls → StepsTo tables (place_of tables place) (world_of tables (with_modules tables w modules.old) arena.old) (Plain (instrs.Plain ops.RaiseLast)) frames.old.calls (state_of tables result frames.new.calls (world_of tables (with_modules tables w modules.new) arena.new)) }
     ensures thrown { HasThrown arena.new.objects frames.old frames.new result }
     ensures placed { (view : View) → All (IsPlaced view) frames.old.calls → All (IsPlaced view) frames.new.calls }
-    ensures keeps { Keeps (C.text_of consts.now) (C.items_of consts.now) (length names.now) arena.old.objects arena.new.objects frames.old.calls frames.new.calls }
+    ensures keeps { under C.Constants consts.now Keeps (length names.now) arena.old.objects arena.new.objects frames.old.calls frames.new.calls }
     ensures forgets { Forgets modules.old modules.new }
 {
     moves_law();

@@ -1,4 +1,4 @@
-//! Returns from calls.
+//! Returns from calls, through the finallys that they run.
 
 ghost use Rattle.std.specs.Prelude.{◌≡◌, ℕ, Option, ◌<◌, ◌∷◌, List, length, drop, map, All};
 ghost use Rattle.mpy_base.specs.World.{Objects, AModule, IsA, Later};
@@ -9,21 +9,21 @@ ghost use Rattle.arena_heap.specs.declared.value.Value.{Value as Item};
 ghost use Rattle.arena_heap.specs.declared.value.StrNo.{StrNo as TextName};
 ghost use Rattle.arena_heap.specs.declared.value.ConstNo.{ConstNo as TupleName};
 ghost use Rattle.bc_offsets.specs.Positions.{Starts};
-ghost use Rattle.arena_objects.specs.Keys.{AllTold};
 ghost use Rattle.py_effects.specs.Effect.{Place, given};
 ghost use Rattle.py_effects.specs.Heaps.{Registered};
 ghost use Rattle.py_effects.specs.Modules.{store_module as stored_module};
 ghost use Rattle.bc_machine.specs.Library.{Plain};
 ghost use Rattle.bc_machine.specs.State as states;
 ghost use Rattle.bc_machine.specs.State.{Running, on_given, give as given_to};
-ghost use Rattle.vm_walks.specs.Plain.{plain_name, plain_heap};
+ghost use Rattle.vm_walks.specs.Plain.{plain_heap};
 ghost use Rattle.vm_faults.specs.Faults.{IsKnown};
 ghost use Rattle.vm_faults.specs.declared.fault.Fault.{Fault};
 ghost use Rattle.vm_faults.specs.declared.stop.Stop.TheVariants as stops;
+ghost use Rattle.vm_sights.specs.Sights.{under, sight, TellsAll};
 ghost use Rattle.vm_modules.specs.Registry.{plain_modules};
 ghost use Rattle.vm_modules.specs.Effects.{world_with};
 ghost use Rattle.vm_frames.specs.declared.slot.Slot.TheVariants as slots;
-ghost use Rattle.vm_frames.specs.Calls.{Call, OfRunning, change_first, on_running};
+ghost use Rattle.vm_frames.specs.Calls.{OfRunning, change_first, on_running};
 ghost use Rattle.vm_moves.specs.Views.{View, starts_of, role_of, frame_of};
 ghost use Rattle.vm_moves.specs.Placed.{IsPlaced};
 ghost use Rattle.vm_step.specs.Shown.{Tables, value_of, view_of, running_of, IsNext, IsTop};
@@ -62,15 +62,13 @@ fn store<C: Constants>(
     name: ModuleName,
     m: ModuleNo,
 ) -> Result<(), NoRoom>
-    requires last { HasLast (C.text_of consts.now) (C.items_of consts.now) name }
+    requires last { under C.Constants consts.now HasLast name }
     requires is_module { IsA arena.old.objects AModule m.cell }
-    requires registered { Registered (plain_modules (C.text_of consts.now) (C.items_of consts.now) modules.now) (plain_heap (C.text_of consts.now) (C.items_of consts.now) arena.old) }
-    requires all_told { AllTold (C.text_of consts.now) (C.items_of consts.now) arena.old.objects }
-    ensures state { (place : Place) (w : PlainWorld) (frame : states.Frame) (frames : List states.Frame)
-        → on_given (given place (stored_module (world_with (C.text_of consts.now) (C.items_of consts.now) w arena.old modules.now) (plain_name (C.text_of consts.now) (C.items_of consts.now) name.name) m.cell)) frame frames (λ done. Running 0 frame frames)
-        ≡ stored_state result frame frames (world_with (C.text_of consts.now) (C.items_of consts.now) w arena.new modules.now) }
+    requires registered { Registered (under C.Constants consts.now plain_modules modules.now) (under C.Constants consts.now plain_heap arena.old) }
+    requires all_told { TellsAll C.Constants consts.now arena.old }
+    ensures state { let see = sight C.Constants consts.now in (place : Place) (w : PlainWorld) (frame : states.Frame) (frames : List states.Frame) → on_given (given place (stored_module (world_with see.texts see.tuples w arena.old modules.now) (see.name name.name) m.cell)) frame frames (λ done. Running 0 frame frames) ≡ stored_state result frame frames (world_with see.texts see.tuples w arena.new modules.now) }
     ensures later { Later arena.old.objects arena.new.objects }
-    ensures all_told { AllTold (C.text_of consts.now) (C.items_of consts.now) arena.new.objects }
+    ensures all_told { TellsAll C.Constants consts.now arena.new }
 {
     match store_module(arena, consts, modules, name.name, StrNo::Pool(name.last), m) {
         Ok(_) => Ok(()),
@@ -88,16 +86,14 @@ fn give<C: Constants>(
     role: Role,
     v: Value,
 ) -> After
-    requires last { HasLast (C.text_of consts.now) (C.items_of consts.now) name }
+    requires last { under C.Constants consts.now HasLast name }
     requires role { HasModule arena.old.objects role }
-    requires registered { Registered (plain_modules (C.text_of consts.now) (C.items_of consts.now) modules.now) (plain_heap (C.text_of consts.now) (C.items_of consts.now) arena.old) }
-    requires all_told { AllTold (C.text_of consts.now) (C.items_of consts.now) arena.old.objects }
-    ensures state { (tables : Tables) (w : PlainWorld) → tables.texts ≡ C.text_of consts.now → tables.tuples ≡ C.items_of consts.now
-        → given_to (value_of tables v) (role_of (view_of tables) (plain_name (C.text_of consts.now) (C.items_of consts.now) name.name) role) (map (frame_of (view_of tables)) frames.now.calls) (world_of tables (with_modules tables w modules.now) arena.old)
-        ≡ after_of tables result frames.now.calls (world_of tables (with_modules tables w modules.now) arena.new) }
-    ensures after { (objects : Objects Item ℕ) → IsKnown (C.text_of consts.now) (C.items_of consts.now) objects v → IsKnownAfter (C.text_of consts.now) (C.items_of consts.now) objects result }
+    requires registered { Registered (under C.Constants consts.now plain_modules modules.now) (under C.Constants consts.now plain_heap arena.old) }
+    requires all_told { TellsAll C.Constants consts.now arena.old }
+    ensures state { let see = sight C.Constants consts.now in (tables : Tables) (w : PlainWorld) → tables.texts ≡ see.texts → tables.tuples ≡ see.tuples → given_to (value_of tables v) (role_of (view_of tables) (see.name name.name) role) (map (frame_of (view_of tables)) frames.now.calls) (world_of tables (with_modules tables w modules.now) arena.old) ≡ after_of tables result frames.now.calls (world_of tables (with_modules tables w modules.now) arena.new) }
+    ensures after { (objects : Objects Item ℕ) → under C.Constants consts.now IsKnown objects v → under C.Constants consts.now IsKnownAfter objects result }
     ensures later { Later arena.old.objects arena.new.objects }
-    ensures all_told { AllTold (C.text_of consts.now) (C.items_of consts.now) arena.new.objects }
+    ensures all_told { TellsAll C.Constants consts.now arena.new }
 {
     let waiting = frames.depth();
     if waiting == 0 {
@@ -124,16 +120,15 @@ pub(crate) fn leave<C: Constants>(
 ) -> After
     requires named { OfRunning (λ c. c.module_number < length names.now) frames.old.calls }
     requires role { OfRunning (λ c. HasModule arena.old.objects c.role) frames.old.calls }
-    requires last { All (HasLast (C.text_of consts.now) (C.items_of consts.now)) names.now }
-    requires registered { Registered (plain_modules (C.text_of consts.now) (C.items_of consts.now) modules.now) (plain_heap (C.text_of consts.now) (C.items_of consts.now) arena.old) }
-    requires all_told { AllTold (C.text_of consts.now) (C.items_of consts.now) arena.old.objects }
-    ensures state { (tables : Tables) (w : PlainWorld) → AreTablesOf (C.text_of consts.now) (C.items_of consts.now) names.now tables → OfRunning (IsPlaced (view_of tables)) frames.old.calls
-        → leaving_of tables v frames.old.calls (world_of tables (with_modules tables w modules.now) arena.old) ≡ after_of tables result frames.new.calls (world_of tables (with_modules tables w modules.now) arena.new) }
+    requires last { All (under C.Constants consts.now HasLast) names.now }
+    requires registered { Registered (under C.Constants consts.now plain_modules modules.now) (under C.Constants consts.now plain_heap arena.old) }
+    requires all_told { TellsAll C.Constants consts.now arena.old }
+    ensures state { (tables : Tables) (w : PlainWorld) → under C.Constants consts.now AreTablesOf names.now tables → OfRunning (IsPlaced (view_of tables)) frames.old.calls → leaving_of tables v frames.old.calls (world_of tables (with_modules tables w modules.now) arena.old) ≡ after_of tables result frames.new.calls (world_of tables (with_modules tables w modules.now) arena.new) }
     ensures calls { frames.new ≡ record frames.old { calls = left v frames.old.calls } }
     ensures placed { (view : View) → All (IsPlaced view) frames.old.calls → All (IsPlaced view) frames.new.calls }
-    ensures after { (objects : Objects Item ℕ) → IsKnown (C.text_of consts.now) (C.items_of consts.now) objects v → IsKnownAfter (C.text_of consts.now) (C.items_of consts.now) objects result }
+    ensures after { (objects : Objects Item ℕ) → under C.Constants consts.now IsKnown objects v → under C.Constants consts.now IsKnownAfter objects result }
     ensures later { Later arena.old.objects arena.new.objects }
-    ensures all_told { AllTold (C.text_of consts.now) (C.items_of consts.now) arena.new.objects }
+    ensures all_told { TellsAll C.Constants consts.now arena.new }
 {
     moves_law();
     placed_law();
@@ -162,16 +157,14 @@ pub fn return_value<C: Constants>(
     requires value { (v : Item) × IsTop (slots.Value v) frames.old.calls }
     requires named { OfRunning (λ c. c.module_number < length names.now) frames.old.calls }
     requires role { OfRunning (λ c. HasModule arena.old.objects c.role) frames.old.calls }
-    requires last { All (HasLast (C.text_of consts.now) (C.items_of consts.now)) names.now }
-    requires registered { Registered (plain_modules (C.text_of consts.now) (C.items_of consts.now) modules.now) (plain_heap (C.text_of consts.now) (C.items_of consts.now) arena.old) }
-    requires all_told { AllTold (C.text_of consts.now) (C.items_of consts.now) arena.old.objects }
-    ensures steps { (tables : Tables) (place : Place) (w : PlainWorld) → AreTablesOf (C.text_of consts.now) (C.items_of consts.now) names.now tables → OfRunning (IsPlaced (view_of tables)) frames.old.calls
-        → StepsTo tables place (world_of tables (with_modules tables w modules.now) arena.old) (Plain (instrs.Plain ops.ReturnValue)) frames.old.calls
-        (after_of tables result frames.new.calls (world_of tables (with_modules tables w modules.now) arena.new)) }
+    requires last { All (under C.Constants consts.now HasLast) names.now }
+    requires registered { Registered (under C.Constants consts.now plain_modules modules.now) (under C.Constants consts.now plain_heap arena.old) }
+    requires all_told { TellsAll C.Constants consts.now arena.old }
+    ensures steps { (tables : Tables) (place : Place) (w : PlainWorld) → under C.Constants consts.now AreTablesOf names.now tables → OfRunning (IsPlaced (view_of tables)) frames.old.calls → StepsTo tables place (world_of tables (with_modules tables w modules.now) arena.old) (Plain (instrs.Plain ops.ReturnValue)) frames.old.calls (after_of tables result frames.new.calls (world_of tables (with_modules tables w modules.now) arena.new)) }
     ensures calls { (v : Item) → IsTop (slots.Value v) frames.old.calls → frames.new ≡ record frames.old { calls = left v (change_first (λ c. record c { slots = drop 1 c.slots }) frames.old.calls) } }
     ensures placed { (view : View) → All (IsPlaced view) frames.old.calls → All (IsPlaced view) frames.new.calls }
-    ensures after { All (IsKnownCall (C.text_of consts.now) (C.items_of consts.now) (length names.now) arena.old.objects) frames.old.calls → IsKnownAfter (C.text_of consts.now) (C.items_of consts.now) arena.new.objects result }
-    ensures keeps { Keeps (C.text_of consts.now) (C.items_of consts.now) (length names.now) arena.old.objects arena.new.objects frames.old.calls frames.new.calls }
+    ensures after { All (under C.Constants consts.now IsKnownCall (length names.now) arena.old.objects) frames.old.calls → under C.Constants consts.now IsKnownAfter arena.new.objects result }
+    ensures keeps { under C.Constants consts.now Keeps (length names.now) arena.old.objects arena.new.objects frames.old.calls frames.new.calls }
 {
     let Slot::Value(v) = frames.pop() else {
         unreachable!();

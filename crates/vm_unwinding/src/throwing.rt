@@ -3,6 +3,7 @@
 ghost use Rattle.std.specs.Prelude.{◌≡◌, ◌<◌, true, None, length, All, drop, if◌then◌else◌};
 ghost use Rattle.mpy_base.specs.Val.{PlainWorld};
 ghost use Rattle.bc_machine.specs.State.{abandoned};
+ghost use Rattle.vm_sights.specs.Sights.{under};
 ghost use Rattle.vm_raising.specs.Worlds.{failure as failing};
 ghost use Rattle.vm_frames.specs.Calls.{OfRunning};
 ghost use Rattle.vm_moves.specs.Views.{View, role_of};
@@ -14,12 +15,13 @@ ghost use Rattle.vm_unwinding.specs.Ends.{with_modules, state_of};
 ghost use Rattle.vm_unwinding.specs.Thrown.{throwing_of, thrown, thrown_out, failed_calls, failed_end};
 
 use crate::ends::End;
-use crate::names::{ModuleName, name_bytes, name_of};
-use arena_heap::{Constants, ExcNo};
+use crate::names::{ModuleName, name_of};
+use arena_heap::{Constants, ExcNo, StrNo};
 use mpy_base::NoRoom;
 use vm_frames::{Frames, Role};
 use vm_modules::Modules;
 use vm_moves::{moves_law, placed_law};
+use vm_sights::name_bytes;
 
 /// A call of the module that ends with this role is left by a raise: a module that it imports is forgotten.
 fn abandon<C: Constants>(
@@ -30,13 +32,13 @@ fn abandon<C: Constants>(
     role: Role,
 )
     requires { module_number < length names.now }
-    ensures abandoned { (tables : Tables) (w : PlainWorld) → AreTablesOf (C.text_of consts.now) (C.items_of consts.now) names.now tables → with_modules tables w modules.new ≡ abandoned (role_of (view_of tables) (tables.module_name module_number) role) (with_modules tables w modules.old) }
+    ensures abandoned { (tables : Tables) (w : PlainWorld) → under C.Constants consts.now AreTablesOf names.now tables → with_modules tables w modules.new ≡ abandoned (role_of (view_of tables) (tables.module_name module_number) role) (with_modules tables w modules.old) }
     ensures forgets { Forgets modules.old modules.new }
 {
     match role {
         Role::Import(_) => {
             let name = name_of(names, module_number);
-            modules.forget_module(consts, name_bytes(consts, name.name));
+            modules.forget_module(consts, name_bytes(consts, StrNo::Pool(name.name)));
         }
         Role::Main | Role::Call => {}
     }
@@ -51,8 +53,7 @@ fn catch<C: Constants>(
     x: ExcNo,
 ) -> bool
     requires { OfRunning (λ c. c.module_number < length names.now) frames.old.calls }
-    ensures state { (tables : Tables) (w : PlainWorld) → AreTablesOf (C.text_of consts.now) (C.items_of consts.now) names.now tables → OfRunning (IsPlaced (view_of tables)) frames.old.calls
-        → throwing_of tables x frames.old.calls (with_modules tables w modules.old) ≡ (if result then running_of tables 0 frames.new.calls (with_modules tables w modules.new) else throwing_of tables x frames.new.calls (with_modules tables w modules.new)) }
+    ensures state { (tables : Tables) (w : PlainWorld) → under C.Constants consts.now AreTablesOf names.now tables → OfRunning (IsPlaced (view_of tables)) frames.old.calls → throwing_of tables x frames.old.calls (with_modules tables w modules.old) ≡ (if result then running_of tables 0 frames.new.calls (with_modules tables w modules.new) else throwing_of tables x frames.new.calls (with_modules tables w modules.new)) }
     ensures calls { frames.new ≡ record frames.old { calls = if result then thrown x frames.old.calls else drop 1 frames.old.calls } }
     ensures thrown { thrown x frames.old.calls ≡ (if result then frames.new.calls else thrown x frames.new.calls) }
     ensures caught { result ≡ true → thrown_out x frames.new.calls ≡ None }
@@ -80,8 +81,7 @@ fn throw<C: Constants>(
     x: ExcNo,
 ) -> Option<End>
     requires { All (λ c. c.module_number < length names.now) frames.old.calls }
-    ensures state { (tables : Tables) (w : PlainWorld) → AreTablesOf (C.text_of consts.now) (C.items_of consts.now) names.now tables → All (IsPlaced (view_of tables)) frames.old.calls
-        → throwing_of tables x frames.old.calls (with_modules tables w modules.old) ≡ state_of tables result frames.new.calls (with_modules tables w modules.new) }
+    ensures state { (tables : Tables) (w : PlainWorld) → under C.Constants consts.now AreTablesOf names.now tables → All (IsPlaced (view_of tables)) frames.old.calls → throwing_of tables x frames.old.calls (with_modules tables w modules.old) ≡ state_of tables result frames.new.calls (with_modules tables w modules.new) }
     ensures calls { frames.new ≡ record frames.old { calls = thrown x frames.old.calls } }
     ensures end { result ≡ thrown_out x frames.new.calls }
     ensures forgets { Forgets modules.old modules.new }
@@ -105,8 +105,7 @@ pub(crate) fn fail<C: Constants>(
 ) -> Option<End>
     requires running { 0 < length frames.old.calls }
     requires named { All (λ c. c.module_number < length names.now) frames.old.calls }
-    ensures state { (tables : Tables) (w : PlainWorld) → AreTablesOf (C.text_of consts.now) (C.items_of consts.now) names.now tables → All (IsPlaced (view_of tables)) frames.old.calls
-        → failing_of tables frames.old.calls (failing (with_modules tables w modules.old) failure) ≡ state_of tables result frames.new.calls (with_modules tables w modules.new) }
+    ensures state { (tables : Tables) (w : PlainWorld) → under C.Constants consts.now AreTablesOf names.now tables → All (IsPlaced (view_of tables)) frames.old.calls → failing_of tables frames.old.calls (failing (with_modules tables w modules.old) failure) ≡ state_of tables result frames.new.calls (with_modules tables w modules.new) }
     ensures calls { frames.new ≡ record frames.old { calls = failed_calls failure frames.old.calls } }
     ensures end { result ≡ failed_end failure frames.old.calls }
     ensures placed { (view : View) → All (IsPlaced view) frames.old.calls → All (IsPlaced view) frames.new.calls }

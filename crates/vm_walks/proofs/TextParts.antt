@@ -1,7 +1,7 @@
 -- Parts of texts that are kept piece by piece.
-use Rattle.std.proofs.Common.{◌≡◌, ℕ, zero, suc, ◌+◌, ◌-◌, ◌≤◌, ◌<◌, List, [], ◌∷◌, ◌++◌, length, take, drop, set, get_or, refl, sym, ap, ◌∙◌, arith, append_assoc}
+use Rattle.std.proofs.Common.{◌≡◌, ℕ, zero, suc, ◌+◌, ◌-◌, ◌≤◌, List, [], ◌∷◌, ◌++◌, length, take, drop, min, refl, sym, ap, ◌∙◌, arith, append_assoc}
 use Rattle.std.specs.List.{flat_map}
-use Rattle.std.proofs.lemmas.List.{length-append, append-nil, length-take, take_all, take_at, take_more, take_more_set}
+use Rattle.std.proofs.lemmas.List.{append-nil, length-take, take_all, take_min, drop_all}
 use Rattle.vm_walks.specs.Pens.{Chain, Wrote}
 
 pub take_twice : (n : ℕ) (xs ys : List ℕ) → take n (take n xs ++ ys) ≡ take n (xs ++ ys)
@@ -25,42 +25,32 @@ pub kept_nothing : (n k : ℕ) (kept : List ℕ) → length kept ≤ n → take 
 kept_nothing n zero kept h = ap (take n) (append-nil kept) ∙ take_all n kept h
 kept_nothing n (suc k) kept h = ap (take n) (append-nil kept) ∙ take_all n kept h
 
-drop_nil : (k : ℕ) → drop {A = ℕ} k [] ≡ []
-drop_nil zero = refl
-drop_nil (suc k) = refl
-
 pub few_taken : (count : ℕ) (bytes : List ℕ) (n : ℕ) → count ≤ n → length (take count bytes) ≤ n
 few_taken count bytes n h = let e = length-take count bytes in omega (arith, e)
 
--- a byte that is skipped, one that is kept, and one past a full part
-pub skip_one : (n k : ℕ) (kept : List ℕ) (b : ℕ) → 0 < k → length kept ≤ n → kept ≡ take n (kept ++ drop k (b ∷ []))
-skip_one n zero kept b h low = absurd (omega arith)
-skip_one n (suc k) kept b h low = sym (ap (λ (ys : List ℕ). take n (kept ++ ys)) (drop_nil k) ∙ (ap (take n) (append-nil kept) ∙ take_all n kept low))
+-- a piece that is skipped
+pub skipped : (n k : ℕ) (kept piece : List ℕ) → length piece ≤ k → length kept ≤ n → kept ≡ take n (kept ++ drop k piece)
+skipped n k kept piece far low = sym (ap (λ (ys : List ℕ). take n (kept ++ ys)) (drop_all k piece far) ∙ (ap (take n) (append-nil kept) ∙ take_all n kept low))
 
-pub keep_one : (n : ℕ) (bytes : List ℕ) (count k b : ℕ) → k ≤ 0 → count < length bytes → count < n → take (count + 1) (set bytes count b) ≡ take n (take count bytes ++ drop k (b ∷ []))
-keep_one n bytes count zero b z lt few =
-    let e = length-take count bytes in
-    let f = length-append (take count bytes) (b ∷ []) in
-    take_more_set bytes count b lt ∙ sym (take_all n (take count bytes ++ b ∷ []) (omega (arith, e, f)))
-keep_one n bytes count (suc k) b z lt few = absurd (omega arith)
+taken_behind : (n : ℕ) (xs ys : List ℕ) → take n (xs ++ ys) ≡ take n xs ++ take (n - length xs) ys
+taken_behind zero xs ys = let e : 0 ≡ 0 - length xs = omega arith in ap (λ (k : ℕ). take k ys) e
+taken_behind (suc n) [] ys = let e : suc n ≡ suc n - 0 = omega arith in ap (λ (k : ℕ). take k ys) e
+taken_behind (suc n) (x ∷ xs) ys =
+    let e : n - length xs ≡ suc n - suc (length xs) = omega arith in
+    ap (λ (zs : List ℕ). x ∷ zs) (taken_behind n xs ys ∙ ap (λ (k : ℕ). take n xs ++ take k ys) e)
 
-pub full_one : (n : ℕ) (bytes : List ℕ) (count k b : ℕ) → length bytes ≡ n → count ≤ n → n ≤ count → take count bytes ≡ take n (take count bytes ++ drop k (b ∷ []))
-full_one n bytes count k b e le full =
-    let f = length-take count bytes in
-    let m : length (take count bytes) ≡ n = omega (arith, e, f) in
-    sym (take_at (take count bytes) (drop k (b ∷ [])) n m)
-
--- one byte more of a piece
-pub put_step : (n k m i : ℕ) (first mid last piece : List ℕ) → i < length piece → m ≡ k - i → mid ≡ take n (first ++ drop k (take i piece)) → last ≡ take n (mid ++ drop m (get_or piece i 0 ∷ []))
-    → last ≡ take n (first ++ drop k (take (i + 1) piece))
-put_step n k m i first mid last piece lt skips is_mid is_last =
-    let b = get_or piece i 0 in
-    let e = length-take i piece in
-    let same : m ≡ k - length (take i piece) = omega (arith, e, skips, lt) in
-    is_last
-    ∙ (ap (λ (j : ℕ). take n (mid ++ drop j (b ∷ []))) same
-    ∙ (ap (λ (ys : List ℕ). take n (ys ++ drop (k - length (take i piece)) (b ∷ []))) is_mid
-    ∙ (kept_then n k first (take i piece) (b ∷ []) ∙ ap (λ (ys : List ℕ). take n (first ++ drop k ys)) (sym (take_more piece i 0 lt)))))
+-- what there is room for behind the bytes in front of a place
+pub taken_room : (n start count : ℕ) (bytes piece : List ℕ) → length bytes ≡ n → start ≤ n → count ≡ min (length piece) (n - start)
+    → take n (take start bytes ++ piece) ≡ take start bytes ++ take count piece
+taken_room n start count bytes piece room le is =
+    let front = length-take start bytes in
+    let low : length (take start bytes) ≤ n = omega (arith, front, room, le) in
+    let left : n - length (take start bytes) ≡ n - start = omega (arith, front, room, le) in
+    let least : min (n - start) (length piece) ≡ count = omega (arith, is) in
+    taken_behind n (take start bytes) piece
+    ∙ (ap (λ (xs : List ℕ). xs ++ take (n - length (take start bytes)) piece) (take_all n (take start bytes) low)
+    ∙ (ap (λ (k : ℕ). take start bytes ++ take k piece) left
+    ∙ ap (λ (xs : List ℕ). take start bytes ++ xs) (sym (take_min (n - start) piece) ∙ ap (λ (k : ℕ). take k piece) least)))
 
 module _ {P : Type 0} (Takes : P → List ℕ → P → Type 0) (skip : P → ℕ) (kept : P → List ℕ) (n : ℕ) (few : (pen : P) → length (kept pen) ≤ n)
     (is_skip : (old : P) (piece : List ℕ) (new : P) → Takes old piece new → skip new ≡ skip old - length piece) (is_kept : (old : P) (piece : List ℕ) (new : P) → Takes old piece new → kept new ≡ take n (kept old ++ drop (skip old) piece)) where

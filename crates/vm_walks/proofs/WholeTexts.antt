@@ -1,7 +1,8 @@
 -- Whole texts, and how long they are.
-use Rattle.std.proofs.Common.{◌≡◌, ℕ, ◌+◌, ◌-◌, ◌^◌, ◌≤◌, List, [], ◌∷◌, Bool, true, false, Option, None, Result, Ok, Err, length, min, refl, sym, ap, ◌∙◌, arith}
+use Rattle.std.proofs.Common.{◌≡◌, ℕ, ◌+◌, ◌-◌, ◌^◌, ◌≤◌, List, [], ◌∷◌, ◌++◌, append_assoc, Bool, true, false, Option, Some, None, Result, Ok, Err, length, min, refl, sym, ap, subst, ◌∙◌, arith}
+use Rattle.std.specs.Prelude.{IfSome}
 use Rattle.std.specs.List.{flat_map}
-use Rattle.std.proofs.lemmas.List.{length-append}
+use Rattle.std.proofs.lemmas.List.{length-append, append-nil}
 use Rattle.mpy_base.specs.Val.{Val}
 use Rattle.py_values.specs.Shown.{PlainHeap}
 use Rattle.py_values.specs.Equality.{Walk}
@@ -56,3 +57,30 @@ module _ {P : Type 0} (Takes : P → List ℕ → P → Type 0) (bytes : P → �
       let e = chain_counts h.pieces old new (omega (arith, zero)) h.chain in
       let n = ap (λ (ys : List ℕ). length ys) h.whole in
       omega (arith, e, n, zero)
+
+-- a pen that puts pieces behind its bytes, where it has room
+module _ {P : Type 0} (Takes : P → List ℕ → P → Type 0) (items : P → List ℕ) (room : P → ℕ)
+    (puts : (old : P) (piece : List ℕ) (new : P) → Takes old piece new → length (items old) + length piece ≤ room old → items new ≡ items old ++ piece)
+    (keeps : (old : P) (piece : List ℕ) (new : P) → Takes old piece new → room old ≤ room new) where
+  chain_puts : (pieces : List (List ℕ)) (old new : P) → length (items old) + length (flat_map (λ (piece : List ℕ). piece) pieces) ≤ room old → Chain Takes old pieces new
+      → items new ≡ items old ++ flat_map (λ (piece : List ℕ). piece) pieces
+  chain_puts [] old new fits h = ap items h ∙ sym (append-nil (items old))
+  chain_puts (piece ∷ pieces) old new fits h =
+      let rest = flat_map (λ (piece : List ℕ). piece) pieces in
+      let both = length-append piece rest in
+      let put = puts old piece h.mid h.taken (omega (arith, fits, both)) in
+      let now = ap (λ (ys : List ℕ). length ys) put in
+      let front = length-append (items old) piece in
+      let more = keeps old piece h.mid h.taken in
+      chain_puts pieces h.mid new (omega (arith, fits, both, now, front, more)) h.rest
+      ∙ (ap (λ (ys : List ℕ). ys ++ rest) put ∙ append_assoc (items old) piece rest)
+
+  pub wrote_puts : (text : List ℕ) (old new : P) → Wrote Takes old text new → items old ≡ [] → length text ≤ room old → items new ≡ text
+  wrote_puts text old new h none fits =
+      let all = ap (λ (ys : List ℕ). length ys) h.whole in
+      let empty = ap (λ (ys : List ℕ). length ys) none in
+      chain_puts h.pieces old new (omega (arith, fits, all, empty)) h.chain ∙ (ap (λ (ys : List ℕ). ys ++ flat_map (λ (piece : List ℕ). piece) h.pieces) none ∙ h.whole)
+
+-- the room that a text asks for, where it is there
+pub fits : {room : ℕ} {answer : Option (List ℕ)} (text : List ℕ) → answer ≡ Some text → IfSome answer (λ text. length text ≤ room) → length text ≤ room
+fits {room} text is low = subst (λ (answer : Option (List ℕ)). IfSome answer (λ text. length text ≤ room)) is low

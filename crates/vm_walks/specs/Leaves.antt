@@ -28,6 +28,7 @@ part_text texts (Some (RangeObject start stop step)) = range_text start stop ste
 part_text texts (Some (ModuleObject name names)) = codes "<module '" ++ or_nothing (texts (strs.Pool name)) ++ codes "'>"
 part_text texts _ = []
 
+-- the text of a value without items; a str stands in quotes unless `raw` says so
 abbrev pub leaf_text : (StrNo → Option (List ℕ)) → Heap Value ℕ → Bool → Value → List ℕ
 leaf_text texts heap raw values.None = codes "None"
 leaf_text texts heap raw (values.Bool b) = truth_text b

@@ -26,10 +26,12 @@ module _ (texts : StrNo → Option (List ℕ)) (tuples : ConstNo → Option (Lis
   abbrev pub plain_unordered : Unordered → meaning.Unordered
   plain_unordered e = record { left = plain texts tuples e.left; right = plain texts tuples e.right }
 
+  -- an order, or two values that have none
   abbrev pub plain_order : Result Ordering Unordered → Result Ordering meaning.Unordered
   plain_order (Ok o) = Ok o
   plain_order (Err e) = Err (plain_unordered e)
 
+  -- the same of a walk that may halt
   abbrev pub plain_answer : Result (Result Ordering Unordered) Halt → Result (Result Ordering meaning.Unordered) Halt
   plain_answer (Ok found) = Ok (plain_order found)
   plain_answer (Err halt) = Err halt

@@ -1,5 +1,6 @@
 -- What pens take.
-use Rattle.std.specs.Prelude.{◌≡◌, ℕ, List, [], ◌∷◌, Option, Result, Ok, Err}
+use Rattle.std.specs.Prelude.{◌≡◌, ◌≤◌, ◌+◌, ℕ, List, [], ◌∷◌, ◌++◌, length, Option, Result, Ok, Err, Vec, vec_capacity}
+use Rattle.std.specs.declared.alloc.Global.{Global}
 use Rattle.std.specs.List.{flat_map}
 use Rattle.vm_walks.specs.declared.budget.Halt.{Halt}
 
@@ -30,3 +31,8 @@ pub record Writes {P A : Type 0} (Takes : P → List ℕ → P → Type 0) (text
 abbrev pub Wrought : {P A : Type 0} → (P → List ℕ → P → Type 0) → (A → List ℕ) → Result A Halt × Option ℕ → Result (Unit {0}) Halt → Option ℕ → P → P → Type 0
 Wrought Takes text ran (Ok done) left old new = Writes Takes text ran left old new
 Wrought Takes text ran (Err halt) left old new = ran ≡ (Err halt, left)
+
+-- where there is room for a piece, it stands behind the bytes
+pub record Appends (old : Vec ℕ Global) (piece : List ℕ) (new : Vec ℕ Global) : Type 0 where
+  pub items : length old.items + length piece ≤ vec_capacity old → new.items ≡ old.items ++ piece
+  pub room : vec_capacity old ≤ vec_capacity new

@@ -11,6 +11,7 @@ use Rattle.arena_heap.specs.Values.{ArenaObject}
 use Rattle.arena_objects.specs.Iterables.{or_nothing}
 use Rattle.py_values.specs.Shown.{PlainHeap}
 
+-- one value or more, as the items of a constant tuple
 abbrev pub vals_from : Val → List Val → Vals
 vals_from v [] = Only v
 vals_from v (w ∷ vs) = Then v (vals_from w vs)
@@ -49,6 +50,7 @@ module _ (texts : StrNo → Option (List ℕ)) (tuples : ConstNo → Option (Lis
   abbrev pub plain : Value → Val
   plain v = plain_by texts (fixed_within 32) v
 
+  -- the key and the value of a dict's pair
   abbrev pub plain_pair : Value × Value → Val × Val
   plain_pair pair = (plain (pair.0), plain (pair.1))
 
@@ -56,6 +58,7 @@ module _ (texts : StrNo → Option (List ℕ)) (tuples : ConstNo → Option (Lis
   abbrev pub plain_name : ℕ → List ℕ
   plain_name n = or_nothing (texts (strs.Pool n))
 
+  -- an object as the meaning has it
   abbrev pub plain_object : Option ArenaObject → Option (Object Val (List ℕ))
   plain_object None = None
   plain_object (Some (ListObject items room)) = Some (ListObject (map plain items) room)
@@ -70,6 +73,7 @@ module _ (texts : StrNo → Option (List ℕ)) (tuples : ConstNo → Option (Lis
   plain_object (Some (RangeObject start stop step)) = Some (RangeObject start stop step)
   plain_object (Some (ModuleObject name names)) = Some (ModuleObject (plain_name name) names)
 
+  -- the heap as the meaning has it
   abbrev pub plain_heap : Heap Value ℕ → PlainHeap
   plain_heap heap =
       record { objects = map plain_object heap.objects; bytes = heap.bytes; cell_size = heap.cell_size; byte_size = heap.byte_size }

@@ -4,11 +4,12 @@ use Rattle.py_values.specs.Equality.{Walk}
 use Rattle.vm_walks.specs.declared.budget.Halt.{Halt}
 use Rattle.vm_walks.specs.declared.budget.Halt.TheVariants.{TooDeep, Spent}
 
+-- the answer of a walk, which has none where it went too deep
 abbrev pub answered : {A : Type 0} → Option A → Result A Halt
 answered (Some a) = Ok a
 answered None = Err TooDeep
 
--- what a walk gives that may make so many visits, and what is left of these. With None it may make any number
+-- what a walk gives that may make `left` visits, and how many of these are left. With None it may make any number
 abbrev pub run : {A : Type 0} → Walk A → Option ℕ → Result A Halt × Option ℕ
 run walk None = (answered walk.answer, None)
 run walk (Some left) = if nat_le walk.visits left then (answered walk.answer, Some (left - walk.visits)) else (Err Spent, Some 0)

@@ -37,7 +37,7 @@ impl Budget {
         }
     }
 
-    /// How many of so many visits were made.
+    /// How many of the `most` visits that there were at first were made.
     pub(crate) fn made_of(self, most: u64) -> u64
         ensures { IfSome self.left (λ left. result ≡ most - left) }
     {

@@ -28,7 +28,7 @@ pub fn contains<C: Constants>(arena: &Arena, consts: &C, over: Value, v: Value) 
     find_equal(arena, consts, over, v, &mut budget).ok()
 }
 
-/// How many visits the search for an equal item takes, up to so many. It goes no further.
+/// How many visits the search for an equal item takes, `most` at most. It goes no further.
 pub fn visits_contains<C: Constants>(
     arena: &Arena,
     consts: &C,

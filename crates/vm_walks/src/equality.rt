@@ -30,7 +30,7 @@ pub fn equal<C: Constants>(arena: &Arena, consts: &C, a: Value, b: Value) -> Opt
     equal_values(arena, consts, a, b, MAX_WALK_DEPTH as u32, &mut budget).ok()
 }
 
-/// How many visits the comparison of two values makes, up to so many. It goes no further.
+/// How many visits the comparison of two values makes, `most` at most. It goes no further.
 pub fn visits_equal<C: Constants>(arena: &Arena, consts: &C, a: Value, b: Value, most: u64) -> u64
     requires a_leads { Leads arena.now.objects a }
     requires b_leads { Leads arena.now.objects b }

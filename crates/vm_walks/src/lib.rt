@@ -23,6 +23,7 @@ mod ruler;
 mod texts;
 mod truths;
 mod tuples;
+mod writer;
 mod writing;
 
 pub use containing::{contains, visits_contains};
@@ -33,5 +34,5 @@ pub use ones::is_one;
 pub use orders::{Unordered, order, visits_order};
 pub use parts::TextPart;
 pub use pen::Pen;
-pub use texts::{text_len, text_part, visits_text, write_text};
+pub use texts::{text_len, text_part, visits_text, whole_text, write_text};
 pub use truths::truth;

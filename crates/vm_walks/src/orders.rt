@@ -46,7 +46,7 @@ pub fn order<C: Constants>(
     order_values(arena, consts, a, b, MAX_WALK_DEPTH as u32, &mut budget).ok()
 }
 
-/// How many visits the order of two values takes, up to so many. It goes no further.
+/// How many visits the order of two values takes, `most` at most. It goes no further.
 pub fn visits_order<C: Constants>(arena: &Arena, consts: &C, a: Value, b: Value, most: u64) -> u64
     requires a_leads { Leads arena.now.objects a }
     requires b_leads { Leads arena.now.objects b }

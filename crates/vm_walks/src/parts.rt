@@ -1,6 +1,6 @@
 //! Parts of texts.
 
-ghost use Rattle.std.specs.Prelude.{◌≡◌, ◌≤◌, ◌<◌, ◌-◌, ◌++◌, ◌∷◌, [], take, drop, length, All};
+ghost use Rattle.std.specs.Prelude.{◌≡◌, ◌≤◌, ◌<◌, ◌+◌, ◌-◌, ◌++◌, [], take, drop, length, min, All};
 
 use crate::pen::Pen;
 
@@ -21,19 +21,27 @@ pub(crate) struct Cutter {
     ghost ascii: { All (λ b. b < 128) (take part.count part.bytes) },
 }
 
+/// Copies a piece to its place, as far as there is room, and gives where it ends.
+fn fill(bytes: &mut [u8], start: usize, piece: &[u8]) -> usize
+    requires start { start ≤ length bytes.old }
+    ensures room { length bytes.new ≡ length bytes.old }
+    ensures end { result ≤ length bytes.new }
+    ensures filled { take result bytes.new ≡ take (length bytes.old) (take start bytes.old ++ piece.now) }
+{
+    let count = piece.len().min(bytes.len() - start);
+    let end = start + count;
+    bytes[start..end].copy_from_slice(&piece[..count]);
+    end
+}
+
 impl Cutter {
-    /// Takes a byte, unless it is skipped or the part is full.
-    fn cut(&mut self, byte: u8)
-        requires ascii { byte < 128 }
-        ensures skip { self.new.skip ≡ self.old.skip - 1 }
-        ensures kept { take self.new.part.count self.new.part.bytes ≡ take 4096 (take self.old.part.count self.old.part.bytes ++ drop self.old.skip (byte ∷ [])) }
+    /// Keeps a piece behind what was kept, as far as the part has room.
+    fn keep(&mut self, piece: &[u8])
+        requires ascii { All (λ b. b < 128) piece.now }
+        ensures skip { self.new.skip ≡ self.old.skip }
+        ensures kept { take self.new.part.count self.new.part.bytes ≡ take 4096 (take self.old.part.count self.old.part.bytes ++ piece.now) }
     {
-        if self.skip > 0 {
-            self.skip -= 1;
-        } else if self.part.count < 4096 {
-            self.part.bytes[self.part.count] = byte;
-            self.part.count += 1;
-        }
+        self.part.count = fill(&mut self.part.bytes, self.part.count, piece);
     }
 }
 
@@ -43,8 +51,13 @@ impl Pen for Cutter {
     ghost Takes = { λ old piece new. (new.skip ≡ old.skip - length piece) × (take new.part.count new.part.bytes ≡ take 4096 (take old.part.count old.part.bytes ++ drop old.skip piece)) };
 
     fn put(&mut self, piece: &[u8]) {
-        for byte in piece {
-            self.cut(*byte);
+        let length = piece.len() as u64;
+        if length <= self.skip {
+            self.skip -= length;
+        } else {
+            let rest = &piece[self.skip as usize..];
+            self.skip = 0;
+            self.keep(rest);
         }
     }
 }

@@ -7,13 +7,14 @@ ghost use Rattle.py_values.specs.Shown.{is_same_range as is_one_range};
 
 use arena_objects::range_count;
 
+/// Whether the two numbers are equal.
 pub(crate) fn is_one_number(a: i32, b: i32) -> bool
     ensures { result ≡ int_eq a b }
 {
     a == b
 }
 
-/// Whether so many numbers are the same on either side, by whether the starts are and the steps are.
+/// Whether the `count` numbers of two ranges are the same, by whether the starts are and the steps are.
 fn has_same_numbers(count: u32, is_start: bool, is_step: bool) -> bool
     ensures { result ≡ (nat_eq count 0 || (is_start && (nat_eq count 1 || is_step))) }
 {

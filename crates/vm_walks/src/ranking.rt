@@ -19,7 +19,7 @@ use std::cmp::Ordering;
 #[derive(Clone, Copy)]
 pub(crate) enum Ranking {
     Decided(Ordering),
-    /// That of their items, so many on either side.
+    /// That of their items, of which these are the numbers on the left and on the right.
     Items(u32, u32),
     Unordered,
 }

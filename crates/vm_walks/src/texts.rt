@@ -1,6 +1,6 @@
 //! The texts of values: how long they are, how many visits they take, and the texts themselves.
 
-ghost use Rattle.std.specs.Prelude.{◌≡◌, ◌≤◌, ◌<◌, ◌-◌, ◌^◌, length, min, take, drop, None, OnSome, IfSome, IfNone, All};
+ghost use Rattle.std.specs.Prelude.{◌≡◌, ◌≤◌, ◌<◌, ◌-◌, ◌^◌, length, min, take, drop, None, OnSome, IfSome, IfNone, All, vec_capacity};
 ghost use Rattle.std.specs.Option.{option_map};
 ghost use Rattle.arena_heap.specs.Values.{Leads};
 ghost use Rattle.arena_heap.specs.Constants.{IsTold};
@@ -12,6 +12,7 @@ use crate::budget::Budget;
 use crate::parts::{Cutter, TextPart};
 use crate::pen::Pen;
 use crate::ruler::Ruler;
+use crate::writer::Writer;
 use crate::writing::write_value;
 use arena_heap::{Arena, Constants, Value};
 use mpy_base::limits::MAX_WALK_DEPTH;
@@ -59,7 +60,7 @@ pub fn text_len<C: Constants>(arena: &Arena, consts: &C, v: Value, raw: bool) ->
     }
 }
 
-/// How many visits the text of a value takes, up to so many. It goes no further.
+/// How many visits the text of a value takes, `most` at most. It goes no further.
 pub fn visits_text<C: Constants>(arena: &Arena, consts: &C, v: Value, raw: bool, most: u64) -> u64
     requires leads { Leads arena.now.objects v }
     requires told { IsTold (C.text_of consts.now) (C.items_of consts.now) v }
@@ -102,6 +103,31 @@ pub fn text_part<C: Constants>(
     let mut cutter = Cutter { skip: from, part };
     match write_text(arena, consts, v, raw, &mut cutter) {
         Some(()) => Some(cutter.part),
+        None => None,
+    }
+}
+
+/// The text of a value, which is written in one walk over the bytes of a vector that has room for it. It gives None where
+/// the text goes too deep.
+pub fn whole_text<C: Constants>(
+    arena: &Arena,
+    consts: &C,
+    v: Value,
+    raw: bool,
+    bytes: Vec<u8>,
+) -> Option<Vec<u8>>
+    requires leads { Leads arena.now.objects v }
+    requires told { IsTold (C.text_of consts.now) (C.items_of consts.now) v }
+    requires all_told { AllTold (C.text_of consts.now) (C.items_of consts.now) arena.now.objects }
+    requires room { IfSome (text_of (plain_heap (C.text_of consts.now) (C.items_of consts.now) arena.now) raw (plain (C.text_of consts.now) (C.items_of consts.now) v)).answer (λ text. length text ≤ vec_capacity bytes) }
+    ensures text { option_map (λ text. text.items) result ≡ (text_of (plain_heap (C.text_of consts.now) (C.items_of consts.now) arena.now) raw (plain (C.text_of consts.now) (C.items_of consts.now) v)).answer }
+    ensures ascii { IfSome result (λ text. All (λ b. b < 128) text.items) }
+{
+    let mut bytes = bytes;
+    bytes.clear();
+    let mut writer = Writer { bytes };
+    match write_text(arena, consts, v, raw, &mut writer) {
+        Some(()) => Some(writer.bytes),
         None => None,
     }
 }

@@ -14,7 +14,7 @@ use crate::look::look_at;
 use arena_heap::{Arena, Constants, Value};
 use arena_objects::item_count;
 
-/// What stands behind so many items. A tuple of one has a comma.
+/// What stands behind the `count` items of a tuple: a lone one has a comma.
 fn end_of(count: u32) -> &'static [u8]
     ensures end { result.now ≡ end_of_tuple count }
     ensures ascii { All (λ b. b < 128) result.now }

@@ -26,6 +26,7 @@ use Rattle.mpy_base.specs.contracts.boxed.Boxed.TheInside as inner
 abbrev pub the_former : Former {0} → Former {0}
 the_former g = g
 
+-- what a box holds is weighed as the value in it is
 abbrev pub the_weighed : {g : Former {0}} → Weighed g → Weighed (the_former g)
 the_weighed w = w
 

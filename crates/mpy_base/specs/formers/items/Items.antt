@@ -23,12 +23,14 @@ use Rattle.mpy_base.specs.contracts.items.Items.TheInside as inner
 abbrev pub the_former : Former {0} → Former {0}
 the_former g = list g
 
+-- what a list holds is weighed as its elements are
 abbrev pub the_weighed : {g : Former {0}} → Weighed g → Weighed (the_former g)
 the_weighed w = w_list w
 
 pub the_empty : List ⊥
 the_empty = []
 
+-- the elements of a list
 abbrev pub the_items : (X : Type 0) → List X → List X
 the_items X elements = elements
 

@@ -1,7 +1,8 @@
 use Rattle.std.proofs.Common.{map, ap, ◌∙◌}
 use Rattle.py_effects.specs.Calling.{bound}
 use Rattle.vm_walks.specs.Plain.{plain, plain_pair, plain_heap}
-use Rattle.vm_calls.specs.Binding.{name_text, bound_answer, world_over}
+use Rattle.vm_sights.specs.Sights.{world_over}
+use Rattle.vm_calls.specs.Binding.{name_text, bound_answer}
 use Rattle.vm_calls.proofs.Bound.{effect_answer, effect_world, effect_visits}
 use Rattle.vm_calls.proofs.binding.bind.Goals as goal
 

@@ -3,7 +3,7 @@ use Rattle.mpy_base.specs.declared.builtin.Builtin.{Builtin}
 use Rattle.py_primitives.specs.Output.{printed}
 use Rattle.py_effects.specs.Calling.{call_builtin}
 use Rattle.vm_walks.specs.Plain.{plain, plain_pair, plain_heap}
-use Rattle.vm_calls.specs.Binding.{world_over}
+use Rattle.vm_sights.specs.Sights.{world_over}
 use Rattle.vm_calls.proofs.FreeOutcomes.{nothing}
 use Rattle.vm_calls.proofs.FreeBuiltins.{prints_visits, builtin_free}
 use Rattle.vm_calls.proofs.visits.visits_call_builtin.Goals as goal

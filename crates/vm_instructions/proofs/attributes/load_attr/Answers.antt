@@ -3,7 +3,7 @@ use Rattle.bc_ops.specs.declared.instr.Op.TheVariants as ops
 use Rattle.arena_objects.specs.Iterables.{or_nothing}
 use Rattle.py_primitives.specs.Uses.{get_attr}
 use Rattle.vm_walks.specs.Plain.{plain, plain_heap}
-use Rattle.vm_raising.specs.Worlds.{world_over}
+use Rattle.vm_sights.specs.Sights.{world_over}
 use Rattle.vm_frames.specs.declared.slot.Slot.TheVariants as slots
 use Rattle.vm_frames.specs.Calls.{Call}
 use Rattle.vm_moves.specs.Views.{starts_of, frame_of}

@@ -3,7 +3,7 @@ use Rattle.bc_ops.specs.declared.instr.Op.TheVariants as ops
 use Rattle.bc_ops.specs.declared.instr.Instr.TheVariants as instrs
 use Rattle.py_primitives.specs.Outcome.{making_tuple}
 use Rattle.vm_walks.specs.Plain.{plain, plain_heap}
-use Rattle.vm_raising.specs.Worlds.{world_over}
+use Rattle.vm_sights.specs.Sights.{world_over}
 use Rattle.vm_frames.specs.Calls.{Call, OfRunning}
 use Rattle.bc_machine.specs.Library.{Plain}
 use Rattle.vm_step.specs.Shown.{view_of}

@@ -3,7 +3,7 @@ use Rattle.bc_ops.specs.declared.instr.Op.TheVariants as ops
 use Rattle.arena_heap.specs.declared.value.DictNo.{DictNo}
 use Rattle.arena_objects.specs.Iterables.{or_nothing}
 use Rattle.py_effects.specs.Names as effects
-use Rattle.vm_raising.specs.Worlds.{world_over}
+use Rattle.vm_sights.specs.Sights.{world_over}
 use Rattle.vm_frames.specs.Calls.{Call}
 use Rattle.vm_moves.specs.Views.{starts_of, frame_of}
 use Rattle.bc_machine.specs.Library.{Names}

@@ -5,7 +5,7 @@ use Rattle.arena_heap.specs.declared.value.DictNo.{DictNo}
 use Rattle.arena_objects.specs.Iterables.{or_nothing}
 use Rattle.py_effects.specs.Names as effects
 use Rattle.vm_walks.specs.Plain.{plain}
-use Rattle.vm_raising.specs.Worlds.{world_over}
+use Rattle.vm_sights.specs.Sights.{world_over}
 use Rattle.vm_frames.specs.declared.slot.Slot.TheVariants as slots
 use Rattle.vm_frames.specs.Calls.{Call}
 use Rattle.vm_moves.specs.Views.{starts_of, frame_of}

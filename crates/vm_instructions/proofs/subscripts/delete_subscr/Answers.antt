@@ -4,7 +4,7 @@ use Rattle.bc_ops.specs.declared.instr.Instr.TheVariants as instrs
 use Rattle.arena_heap.specs.declared.value.Value.{Value}
 use Rattle.py_primitives.specs.Uses.{delete_item}
 use Rattle.vm_walks.specs.Plain.{plain, plain_heap}
-use Rattle.vm_raising.specs.Worlds.{world_over}
+use Rattle.vm_sights.specs.Sights.{world_over}
 use Rattle.vm_frames.specs.declared.slot.Slot.TheVariants as slots
 use Rattle.vm_frames.specs.Calls.{Call}
 use Rattle.vm_moves.specs.Views.{starts_of, frame_of}

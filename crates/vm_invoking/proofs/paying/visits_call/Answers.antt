@@ -1,7 +1,7 @@
 use Rattle.std.proofs.Common.{ℕ, List, map, min, sym, ap, ◌∙◌}
 use Rattle.arena_heap.specs.declared.value.Value.{Value}
 use Rattle.vm_walks.specs.Plain.{plain, plain_pair}
-use Rattle.vm_calls.specs.Binding.{world_over}
+use Rattle.vm_sights.specs.Sights.{world_over}
 use Rattle.vm_calls.specs.Callees.{plain_callee}
 use Rattle.vm_calls.specs.declared.callees.Callee.{Callee}
 use Rattle.vm_calls.specs.declared.callees.Callee.TheVariants as callees

@@ -11,7 +11,7 @@ use Rattle.py_effects.specs.Effect.{on_heap}
 use Rattle.py_effects.specs.Names.{imported_from}
 use Rattle.vm_walks.specs.Plain.{plain, plain_heap}
 use Rattle.vm_faults.specs.declared.fault.Fault.TheVariants as arena_faults
-use Rattle.vm_raising.specs.Worlds.{world_over}
+use Rattle.vm_sights.specs.Sights.{world_over}
 use Rattle.vm_raising.proofs.Effects.{heap_effect, value_effect, fault_effect}
 use Rattle.vm_names.proofs.attributes.import_from.Goals as goal
 

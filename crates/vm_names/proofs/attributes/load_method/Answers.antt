@@ -7,7 +7,7 @@ use Rattle.py_primitives.specs.Uses.{Attribute}
 use Rattle.py_effects.specs.Effect.{Effect, faults}
 use Rattle.py_effects.specs.Names.{Looked, looked_up}
 use Rattle.vm_walks.specs.Plain.{plain}
-use Rattle.vm_raising.specs.Worlds.{world_over}
+use Rattle.vm_sights.specs.Sights.{world_over}
 use Rattle.vm_names.proofs.attributes.load_method.Goals as goal
 
 pub attribute_of-requires-clause-leads : goal.attribute_of-requires-clause-leads

@@ -12,7 +12,8 @@ use Rattle.vm_walks.specs.Plain.{plain_heap}
 use Rattle.vm_faults.specs.declared.fault.Fault.TheVariants as faults
 use Rattle.vm_faults.specs.declared.stop.Stop.TheVariants.{Raises}
 use Rattle.vm_faults.proofs.Outcomes.{answered}
-use Rattle.vm_raising.specs.Worlds.{world_over, HasEffect}
+use Rattle.vm_sights.specs.Sights.{world_over}
+use Rattle.vm_raising.specs.Worlds.{HasEffect}
 use Rattle.vm_raising.proofs.Effects.{heap_effect, fault_effect}
 use Rattle.vm_names.proofs.Namespaces.{named_there, named_nowhere, name_deleted}
 use Rattle.vm_names.proofs.globals.delete_global.Goals as goal

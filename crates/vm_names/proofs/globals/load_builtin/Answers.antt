@@ -5,7 +5,7 @@ use Rattle.arena_objects.specs.Iterables.{or_nothing}
 use Rattle.py_primitives.specs.Builtins.{global_named}
 use Rattle.py_effects.specs.Names.{built_in}
 use Rattle.vm_faults.specs.declared.fault.Fault.TheVariants as faults
-use Rattle.vm_raising.specs.Worlds.{world_over}
+use Rattle.vm_sights.specs.Sights.{world_over}
 use Rattle.vm_raising.proofs.Effects.{value_effect, fault_effect}
 use Rattle.vm_names.proofs.globals.load_builtin.Goals as goal
 

@@ -2,7 +2,7 @@ use Rattle.std.proofs.Common.{Option, ap}
 use Rattle.mpy_base.specs.Val.{Val}
 use Rattle.arena_objects.specs.Iterables.{or_nothing}
 use Rattle.py_effects.specs.Names.{found_global}
-use Rattle.vm_raising.specs.Worlds.{world_over}
+use Rattle.vm_sights.specs.Sights.{world_over}
 use Rattle.vm_raising.proofs.Effects.{value_effect, same_effect}
 use Rattle.vm_names.proofs.Namespaces.{named_there, named_nowhere}
 use Rattle.vm_names.proofs.globals.load_global.Goals as goal

@@ -6,7 +6,7 @@ use Rattle.py_primitives.specs.Outcome.{Outcome}
 use Rattle.py_effects.specs.Effect.{on_heap}
 use Rattle.py_primitives.specs.Uses.{set_item}
 use Rattle.vm_walks.specs.Plain.{plain, plain_heap}
-use Rattle.vm_raising.specs.Worlds.{world_over}
+use Rattle.vm_sights.specs.Sights.{world_over}
 use Rattle.vm_raising.proofs.Effects.{heap_effect}
 use Rattle.vm_names.proofs.Stores.{put_visits, set_name}
 use Rattle.vm_names.proofs.globals.store_global.Goals as goal

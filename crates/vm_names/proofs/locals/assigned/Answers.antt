@@ -6,7 +6,7 @@ use Rattle.py_effects.specs.Names.{assigned}
 use Rattle.vm_walks.specs.Plain.{plain}
 use Rattle.vm_faults.specs.declared.fault.Fault.TheVariants as faults
 use Rattle.vm_faults.specs.Faults.{IsKnown}
-use Rattle.vm_raising.specs.Worlds.{world_over}
+use Rattle.vm_sights.specs.Sights.{world_over}
 use Rattle.vm_raising.proofs.Effects.{value_effect, fault_effect}
 use Rattle.vm_names.proofs.locals.assigned.Goals as goal
 

@@ -6,7 +6,7 @@ use Rattle.mpy_base.specs.Val.{Val}
 use Rattle.py_primitives.specs.Uses.{set_item}
 use Rattle.vm_walks.specs.Plain.{plain, plain_heap}
 use Rattle.vm_faults.specs.declared.fault.Fault.TheVariants as arena_faults
-use Rattle.vm_raising.specs.Worlds.{world_over}
+use Rattle.vm_sights.specs.Sights.{world_over}
 use Rattle.vm_raising.proofs.Effects.{heap_effect, fault_effect}
 use Rattle.vm_names.proofs.Stores.{set_visits, stored_dict, stored_nowhere}
 use Rattle.vm_names.proofs.pairs.store_pair.Goals as goal

@@ -23,7 +23,7 @@ returns-in-Str-clause-plain g c =
     let name = or_nothing (texts c.args.name) in
     let is : IsStr c.args.v = subst IsStr (sym c.in-Str.is) tt in
     (c.str_attribute.ensures texts tuples h.objects c.args.v is).0
-    ∙ (ap (λ (xs : List ℕ). found_method (named str_methods xs)) c.name_bytes-text.ensures ∙ sym (has_str_methods texts tuples h name c.args.v is c.requires.leads))
+    ∙ (ap (λ (xs : List ℕ). found_method (named str_methods xs)) c.name_bytes-text.ensures.bytes ∙ sym (has_str_methods texts tuples h name c.args.v is c.requires.leads))
 
 pub returns-in-Str-clause-known : goal.returns-in-Str-clause-known
 returns-in-Str-clause-known g c =
@@ -43,7 +43,7 @@ returns-in-Text-clause-plain g c =
     let name = or_nothing (texts c.args.name) in
     let is : IsStr c.args.v = subst IsStr (sym c.in-Text.is) tt in
     (c.str_attribute-in-Text.ensures texts tuples h.objects c.args.v is).0
-    ∙ (ap (λ (xs : List ℕ). found_method (named str_methods xs)) c.name_bytes-text.ensures ∙ sym (has_str_methods texts tuples h name c.args.v is c.requires.leads))
+    ∙ (ap (λ (xs : List ℕ). found_method (named str_methods xs)) c.name_bytes-text.ensures.bytes ∙ sym (has_str_methods texts tuples h name c.args.v is c.requires.leads))
 
 pub returns-in-Text-clause-known : goal.returns-in-Text-clause-known
 returns-in-Text-clause-known g c =
@@ -63,7 +63,7 @@ returns-in-List-clause-plain g c =
     let name = or_nothing (texts c.args.name) in
     let is : IsList c.args.v = subst IsList (sym c.in-List.is) tt in
     (c.list_attribute.ensures texts tuples h.objects c.args.v is).0
-    ∙ (ap (λ (xs : List ℕ). found_method (named list_methods xs)) c.name_bytes-text.ensures ∙ sym (has_list_methods texts tuples h name c.args.v is c.requires.leads))
+    ∙ (ap (λ (xs : List ℕ). found_method (named list_methods xs)) c.name_bytes-text.ensures.bytes ∙ sym (has_list_methods texts tuples h name c.args.v is c.requires.leads))
 
 pub returns-in-List-clause-known : goal.returns-in-List-clause-known
 returns-in-List-clause-known g c =
@@ -83,7 +83,7 @@ returns-in-Dict-clause-plain g c =
     let name = or_nothing (texts c.args.name) in
     let is : IsDict c.args.v = subst IsDict (sym c.in-Dict.is) tt in
     (c.dict_attribute.ensures texts tuples h.objects c.args.v is).0
-    ∙ (ap (λ (xs : List ℕ). found_method (named dict_methods xs)) c.name_bytes-text.ensures ∙ sym (has_dict_methods texts tuples h name c.args.v is c.requires.leads))
+    ∙ (ap (λ (xs : List ℕ). found_method (named dict_methods xs)) c.name_bytes-text.ensures.bytes ∙ sym (has_dict_methods texts tuples h name c.args.v is c.requires.leads))
 
 pub returns-in-Dict-clause-known : goal.returns-in-Dict-clause-known
 returns-in-Dict-clause-known g c =
@@ -114,7 +114,7 @@ returns-in-Exc-clause-plain g c =
     let held_args = subst (λ o. All (IsTold texts tuples) (held o)) c.exc_parts.ensures.parts (c.requires.all_told.told c.in-Exc.e.cell) in
     let known : IsKnown texts tuples h.objects args = record { leads = c.exc_parts.ensures.leads; told = held_args zero values.None (omega arith) } in
     let has = c.exception_attribute.ensures texts tuples h.objects c.args.v known in
-    has.0 ∙ (ap (λ (xs : List ℕ). if bytes_eq xs (codes "args") then Found (plain texts tuples args) else Absent) c.name_bytes-text.ensures
+    has.0 ∙ (ap (λ (xs : List ℕ). if bytes_eq xs (codes "args") then Found (plain texts tuples args) else Absent) c.name_bytes-text.ensures.bytes
     ∙ sym (ap (λ (w : Value). attribute heap (plain texts tuples w) name) c.in-Exc.is
     ∙ has_args texts tuples h name c.in-Exc.e.cell c.exc_parts.result.0 args c.exc_parts.result.2 c.exc_parts.result.3 c.exc_parts.result.4 c.exc_parts.ensures.parts))
 
@@ -139,7 +139,7 @@ returns-in-Built-clause-plain g c =
     let heap = plain_heap texts tuples h in
     let name = or_nothing (texts c.args.name) in
     (c.built_attribute.ensures texts tuples h.objects c.args.v heap).0
-    ∙ (ap (λ (xs : List ℕ). attribute heap (Built c.in-Built.b) xs) c.name_bytes-text.ensures ∙ sym (ap (λ (w : Value). attribute heap (plain texts tuples w) name) c.in-Built.is))
+    ∙ (ap (λ (xs : List ℕ). attribute heap (Built c.in-Built.b) xs) c.name_bytes-text.ensures.bytes ∙ sym (ap (λ (w : Value). attribute heap (plain texts tuples w) name) c.in-Built.is))
 
 pub returns-in-Built-clause-known : goal.returns-in-Built-clause-known
 returns-in-Built-clause-known g c =

@@ -7,7 +7,8 @@ use Rattle.py_effects.specs.Names.{raise_by, raise_value}
 use Rattle.py_primitives.specs.Operators.{exception_kind}
 use Rattle.vm_walks.specs.Plain.{plain, plain_heap}
 use Rattle.vm_raising.specs.Places.{plain_place}
-use Rattle.vm_raising.specs.Worlds.{sight, world_over, HasFailed}
+use Rattle.vm_sights.specs.Sights.{sight_of as sight, world_over}
+use Rattle.vm_raising.specs.Worlds.{HasFailed}
 use Rattle.vm_raising.proofs.Failures.{alike, replaced, nothing_raised}
 use Rattle.vm_raising.proofs.raising.raise_value.Goals as goal
 

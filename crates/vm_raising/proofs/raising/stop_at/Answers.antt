@@ -3,7 +3,7 @@ use Rattle.vm_faults.specs.declared.stop.Stop.{Stop}
 use Rattle.vm_faults.specs.Outcomes.{plain_stop, IsKnownAnswer}
 use Rattle.mpy_base.proofs.Worlds.{later_same}
 use Rattle.vm_raising.specs.Places.{plain_place, stopped_at}
-use Rattle.vm_raising.specs.Worlds.{sight, world_over}
+use Rattle.vm_sights.specs.Sights.{sight_of as sight, world_over}
 use Rattle.vm_raising.proofs.Failures.{alike}
 use Rattle.vm_raising.proofs.raising.stop_at.Goals as goal
 

@@ -6,7 +6,7 @@ use Rattle.vm_moves.specs.Placed.{IsPlaced}
 use Rattle.bc_offsets.specs.Positions.{Starts}
 use Rattle.vm_step.specs.Shown.{view_of, running_of}
 use Rattle.vm_step.specs.Outcomes.{world_of}
-use Rattle.vm_raising.specs.Worlds.{world_over}
+use Rattle.vm_sights.specs.Sights.{world_over}
 use Rattle.vm_unwinding.specs.declared.causes.Cause.{Cause}
 use Rattle.vm_unwinding.specs.Known.{IsKnownSlot}
 use Rattle.vm_unwinding.specs.Causes.{cause_slot, FitsEntries, GoesOn, resumed, resuming_of}

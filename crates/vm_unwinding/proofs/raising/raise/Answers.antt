@@ -1,6 +1,6 @@
 use Rattle.std.proofs.Common.{◌≡◌, sym, ap, ◌∙◌, All}
 use Rattle.py_effects.specs.Effect.{Fails}
-use Rattle.vm_raising.specs.Worlds.{world_over}
+use Rattle.vm_sights.specs.Sights.{world_over}
 use Rattle.vm_moves.specs.Placed.{IsPlaced}
 use Rattle.vm_step.specs.Shown.{Tables, view_of}
 use Rattle.vm_step.specs.Outcomes.{world_of, failing_of, stopping_of}

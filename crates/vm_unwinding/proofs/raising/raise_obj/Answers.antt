@@ -3,7 +3,7 @@ use Rattle.bc_ops.specs.declared.instr.Op.TheVariants as ops
 use Rattle.bc_ops.specs.declared.instr.Instr.TheVariants as instrs
 use Rattle.py_effects.specs.Effect.{Fails}
 use Rattle.bc_machine.specs.Library.{Plain}
-use Rattle.vm_raising.specs.Worlds.{world_over}
+use Rattle.vm_sights.specs.Sights.{world_over}
 use Rattle.vm_moves.specs.Placed.{IsPlaced}
 use Rattle.vm_step.specs.Shown.{Tables, view_of}
 use Rattle.vm_step.specs.Outcomes.{world_of, failing_of}

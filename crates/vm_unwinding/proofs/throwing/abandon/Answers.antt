@@ -20,6 +20,6 @@ returns-in-Import-clause-abandoned g c tables w are =
     (λ module_name starts named.
     let t : Tables = record { texts = texts; tuples = tuples; module_name = module_name; starts = starts } in
     c.forget_module.ensures.forgotten w
-    ∙ ap (λ (z : List ℕ). forget_module (with_modules t w old) z) (c.name_bytes.ensures ∙ sym (named n c.name_of-name.result c.name_of-name.ensures))
+    ∙ ap (λ (z : List ℕ). forget_module (with_modules t w old) z) (c.name_bytes.ensures.bytes ∙ sym (named n c.name_of-name.result c.name_of-name.ensures))
     ∙ ap (λ (r : Role). abandoned (role_of (view_of t) (module_name n) r) (with_modules t w old)) (sym c.in-Import.is))
     tables are

@@ -1,4 +1,4 @@
-use Rattle.arena_heap.proofs.Rooms.{seen_rooms, seen_left, seen_few_bytes}
+use Rattle.arena_heap.proofs.Rooms.{seen_rooms, seen_few_items, seen_left, seen_few_bytes}
 use Rattle.arena_heap.proofs.Seen.{seen_few}
 use Rattle.arena_heap.proofs.arena.Arena.room_law.Goals as goal
 
@@ -13,3 +13,6 @@ returns-clause-few c = seen_few c.self.inside c.self.invariant c.self.view_is
 
 pub returns-clause-few_bytes : goal.returns-clause-few_bytes
 returns-clause-few_bytes c = seen_few_bytes c.self.inside c.self.invariant c.self.view_is
+
+pub returns-clause-few_items : goal.returns-clause-few_items
+returns-clause-few_items c = seen_few_items c.self.inside c.self.invariant c.self.view_is

@@ -2,12 +2,12 @@
 
 ghost use Rattle.std.specs.Prelude.{◌↔◌, IsTrue};
 ghost use Rattle.arena_heap.specs.Values.{Leads, IsKey};
-ghost use Rattle.vm_comparisons.specs.Operands.{DecidesKey};
+ghost use Rattle.vm_sights.specs.Keys.{DecidesKey};
 
 use arena_heap::{Arena, Value};
 
 /// Whether a value may be a key.
-pub(crate) fn is_key(_arena: &Arena, v: Value) -> bool
+pub fn is_key(_arena: &Arena, v: Value) -> bool
     requires { Leads _arena.now.objects v }
     ensures key { IsTrue result ↔ IsKey v }
     ensures shown { DecidesKey _arena.now v result }

@@ -2,7 +2,7 @@ use Rattle.std.proofs.Common.{◌≡◌, ◌≤◌, ◌-◌, take}
 use Rattle.std.proofs.Math.Seq.{paste}
 use Rattle.mpy_base.specs.World.{text_at, with_text}
 use Rattle.vm_types.specs.Texts.{text_in}
-use Rattle.vm_types.proofs.texts.fill_text.Given as goal
+use Rattle.vm_types.proofs.texts.fill_by_parts.Given as goal
 
 abbrev pub invariant-loop-from : goal.invariant-loop-from
 invariant-loop-from g l =
