@@ -21,14 +21,14 @@ use Rattle.bc_machine.specs.Step.{step}
 use Rattle.bc_machine.specs.Machine.{start, steps, run, run_of}
 use Rattle.bc_outputs.specs.Behind.{behind, state_behind, run_behind}
 use Rattle.vm_frames.specs.Calls.{Call}
-use Rattle.vm_step.specs.Shown.{Tables, running_of}
+use Rattle.vm_machine.specs.vm_step.Shown.{Tables, running_of}
 use Rattle.vm_walks.specs.Plain.{plain_heap}
-use Rattle.vm_outputs.specs.Prints.{Puts}
-use Rattle.vm_unwinding.specs.declared.ends.End.{End}
-use Rattle.vm_unwinding.specs.declared.ends.End.TheVariants as stops
-use Rattle.vm_states.specs.Means.{Program}
-use Rattle.vm_programs.specs.Programs.{IsProgramOf}
-use Rattle.vm_starting.specs.declared.opening.Vm.{Vm}
+use Rattle.vm_reports.specs.vm_outputs.Prints.{Puts}
+use Rattle.vm_machine.specs.vm_unwinding.declared.ends.End.{End}
+use Rattle.vm_machine.specs.vm_unwinding.declared.ends.End.TheVariants as stops
+use Rattle.vm_machine.specs.vm_states.Means.{Program}
+use Rattle.vm_machine.specs.vm_programs.Programs.{IsProgramOf}
+use Rattle.vm_machine.specs.vm_starting.declared.opening.Vm.{Vm}
 use Rattle.vm_machine.specs.Machine.{paid_state, world_in, machine_of}
 use Rattle.vm_machine.specs.Running.{Outside, Agree, RunsFor, Strays, SinkFails, RunsToFailure}
 use Rattle.vm_machine.specs.Running.{Runs as MachineRuns}

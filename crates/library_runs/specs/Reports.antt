@@ -4,10 +4,10 @@ use Rattle.py_effects.specs.Ends.{Raised, end_report}
 use Rattle.bc_library.specs.Constants.{items_at, text_at}
 use Rattle.bc_library.specs.Shelf.{Shelf}
 use Rattle.vm_walks.specs.Plain.{plain_heap}
-use Rattle.vm_unwinding.specs.declared.ends.End.{End}
-use Rattle.vm_unwinding.specs.declared.ends.End.TheVariants as stops
+use Rattle.vm_machine.specs.vm_unwinding.declared.ends.End.{End}
+use Rattle.vm_machine.specs.vm_unwinding.declared.ends.End.TheVariants as stops
 use Rattle.vm_reports.specs.Rooms.{room_line}
-use Rattle.vm_starting.specs.declared.opening.Vm.{Vm}
+use Rattle.vm_machine.specs.vm_starting.declared.opening.Vm.{Vm}
 use Rattle.library_runs.specs.declared.ending.RunEnd.{RunEnd}
 use Rattle.library_runs.specs.declared.ending.RunEnd.TheVariants as ends
 

@@ -17,9 +17,9 @@ use Rattle.bc_machine.specs.Library.{Name}
 use Rattle.bc_machine.specs.Machine.{run, start}
 use Rattle.bc_outputs.specs.Behind.{behind}
 use Rattle.vm_reports.specs.Rooms.{room_line}
-use Rattle.vm_states.specs.Means.{Program}
-use Rattle.vm_programs.specs.Programs.{IsProgramOf}
-use Rattle.vm_starting.specs.declared.opening.Vm.{Vm}
+use Rattle.vm_machine.specs.vm_states.Means.{Program}
+use Rattle.vm_machine.specs.vm_programs.Programs.{IsProgramOf}
+use Rattle.vm_machine.specs.vm_starting.declared.opening.Vm.{Vm}
 use Rattle.vm_machine.specs.Machine.{machine_of}
 use Rattle.vm_machine.specs.Running.{Outside, Strays}
 use Rattle.library_runs.specs.declared.ending.RunEnd.{RunEnd}

@@ -6,7 +6,7 @@ ghost use Rattle.mpy_base.specs.World.{PortState};
 ghost use Rattle.port_set.specs.Counts.{AreAccounted};
 ghost use Rattle.bc_library.specs.Shelf.{Shelf};
 ghost use Rattle.bc_machine.specs.Library.{Name};
-ghost use Rattle.vm_states.specs.Means.{Program};
+ghost use Rattle.vm_machine.specs.vm_states.Means.{Program};
 ghost use Rattle.library_runs.specs.declared.ending.RunEnd.{RunEnd};
 ghost use Rattle.library_runs.specs.Runs.{RunsAs, RunsSo, Sight, Strayed};
 

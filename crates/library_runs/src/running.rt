@@ -4,7 +4,7 @@ ghost use Rattle.std.specs.Prelude.{◌≡◌, ◌<◌, [], List, ℕ, false, le
 ghost use Rattle.mpy_io.specs.Count.{Counts};
 ghost use Rattle.port_set.specs.Counts.{CountsKeep};
 ghost use Rattle.bc_library.specs.Shelf.{Named};
-ghost use Rattle.vm_programs.specs.Programs.{IsRunnable};
+ghost use Rattle.vm_machine.specs.vm_programs.Programs.{IsRunnable};
 ghost use Rattle.library_runs.specs.declared.ending.RunEnd.{RunEnd as End};
 ghost use Rattle.library_runs.specs.Runs.{RunsAs, Says, IsOver, is_write_fault, sight, speaks};
 
@@ -17,9 +17,7 @@ use mpy_base::{NoMemory, Room};
 use mpy_io::{Failed, Port, Sink};
 use port_set::PortSet;
 use std::alloc::Global;
-use vm_cache::Cache;
-use vm_machine::{open, run_kept};
-use vm_programs::program_law;
+use vm_machine::{Cache, open, program_law, run_kept};
 
 /// Runs the library's module of this number as the main one, in an arena of this room, for these steps at most. What was printed
 /// is handed on before anything is said.

@@ -4,7 +4,7 @@ use Rattle.std.specs.Prelude.{option_and_then}
 use Rattle.std.proofs.lemmas.List.Elements.{All-replicate, All-get_or}
 use Rattle.std.proofs.lemmas.Option.{none-some, slice_get_within, get_or_from_slice_get}
 use Rattle.bc_library.specs.Shelf.{Shelf}
-use Rattle.vm_fetching.specs.declared.instruction.Fetched.{Fetched}
+use Rattle.vm_states.specs.vm_fetching.declared.instruction.Fetched.{Fetched}
 use Rattle.vm_cache.specs.Kept.{Kept, AreFetched, is_empty, code_in, place_in}
 
 -- what is of all is of the one in a place

@@ -3,7 +3,7 @@ use Rattle.std.proofs.Common.{◌≡◌, ℕ, zero, suc, ◌≤◌, List, [], �
 use Rattle.std.specs.Prelude.{◌⊎◌, option_and_then}
 use Rattle.std.proofs.lemmas.Option.{same_Some}
 use Rattle.bc_library.specs.Shelf.{Shelf}
-use Rattle.vm_fetching.specs.declared.instruction.Fetched.{Fetched}
+use Rattle.vm_states.specs.vm_fetching.declared.instruction.Fetched.{Fetched}
 use Rattle.vm_cache.specs.Kept.{Kept, IsFetchedOf, AreFetched, update_by, update_at, with_kept, code_in, place_in, kept_at}
 use Rattle.vm_cache.proofs.Empty.{some_of}
 

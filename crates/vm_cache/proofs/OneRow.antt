@@ -20,8 +20,8 @@ use Rattle.bc_rows.specs.declared.row.Row.{Row}
 use Rattle.bc_rows.specs.Codes.{Numbered}
 use Rattle.bc_rows.specs.Rows.{IsRowOf, IsRow}
 use Rattle.bc_rows.specs.Runs.{RunsAs, line_at}
-use Rattle.vm_fetching.specs.declared.instruction.Fetched.{Fetched}
-use Rattle.vm_fetching.specs.Shows.{item_of_fetched, LocalIsWithin}
+use Rattle.vm_states.specs.vm_fetching.declared.instruction.Fetched.{Fetched}
+use Rattle.vm_states.specs.vm_fetching.Shows.{item_of_fetched, LocalIsWithin}
 use Rattle.vm_states.specs.Ready.{IsFetched}
 
 -- what stands between two places

@@ -11,7 +11,7 @@ use mpy_base::NoMemory;
 use mpy_base::limits::MAX_MODULES;
 use std::alloc::Global;
 use std::marker::Model;
-use vm_fetching::Fetched;
+use vm_states::Fetched;
 
 /// What was fetched of a library's codes. It takes 28 bytes for each byte of their instructions, where it is made; and no more later.
 #[derive(Drop)]
@@ -21,7 +21,7 @@ pub struct Cache {
 
 impl Model for Cache {
     ghost use Rattle.std.specs.Prelude.{List, Option};
-    ghost use Rattle.vm_fetching.specs.declared.instruction.Fetched.{Fetched};
+    ghost use Rattle.vm_states.specs.vm_fetching.declared.instruction.Fetched.{Fetched};
 
     ghost Value = { List (List (List (Option Fetched))) };
 

@@ -8,7 +8,7 @@ use bc_rows::Rows;
 use mpy_base::NoMemory;
 use std::alloc::Global;
 use std::marker::Model;
-use vm_fetching::Fetched;
+use vm_states::Fetched;
 
 /// What was fetched of the codes of a module.
 #[derive(Drop)]
@@ -18,7 +18,7 @@ pub(crate) struct Codes {
 
 impl Model for Codes {
     ghost use Rattle.std.specs.Prelude.{List, Option};
-    ghost use Rattle.vm_fetching.specs.declared.instruction.Fetched.{Fetched};
+    ghost use Rattle.vm_states.specs.vm_fetching.declared.instruction.Fetched.{Fetched};
 
     ghost Value = { List (List (Option Fetched)) };
 

@@ -4,7 +4,7 @@ ghost use Rattle.std.specs.Prelude.{ℕ};
 ghost use Rattle.bc_library.specs.Shelf.{Shelf};
 ghost use Rattle.bc_rows.specs.declared.row.Row.{Row};
 ghost use Rattle.bc_rows.specs.Rows.{IsRow};
-ghost use Rattle.vm_fetching.specs.declared.instruction.Fetched.{Fetched};
+ghost use Rattle.vm_states.specs.vm_fetching.declared.instruction.Fetched.{Fetched};
 ghost use Rattle.vm_states.specs.Ready.{IsFetched};
 ghost use Rattle.vm_cache.specs.Kept.{Kept, IsFetchedOf, AreFetched, with_kept};
 

@@ -9,3 +9,4 @@ mod places;
 pub use cache::Cache;
 pub use law::{cache_law, row_law};
 pub use places::Places;
+pub use vm_states::{Fetched, Instruction, NameOp, NumberOp, PlainOp, fetch, ready_law};

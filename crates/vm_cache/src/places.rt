@@ -6,7 +6,7 @@ ghost use Rattle.vm_cache.specs.Kept.{place_in};
 use mpy_base::NoMemory;
 use std::alloc::Global;
 use std::marker::Model;
-use vm_fetching::Fetched;
+use vm_states::Fetched;
 
 /// What was fetched at the offsets of a code. An offset at which nothing was fetched yet holds nothing.
 #[derive(Drop)]
@@ -16,7 +16,7 @@ pub struct Places {
 
 impl Model for Places {
     ghost use Rattle.std.specs.Prelude.{List, Option};
-    ghost use Rattle.vm_fetching.specs.declared.instruction.Fetched.{Fetched};
+    ghost use Rattle.vm_states.specs.vm_fetching.declared.instruction.Fetched.{Fetched};
 
     ghost Value = { List (Option Fetched) };
 

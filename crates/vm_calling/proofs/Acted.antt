@@ -16,26 +16,26 @@ use Rattle.bc_rows.specs.declared.row.Row.{Row}
 use Rattle.vm_walks.specs.Plain.{plain, plain_heap, plain_pair}
 use Rattle.vm_faults.specs.declared.types.ValueType.{ValueType}
 use Rattle.vm_faults.specs.declared.stop.Stop.{Stop}
-use Rattle.vm_calls.specs.Calls.{Seen}
-use Rattle.vm_calls.specs.Families.{IsOfPorts}
-use Rattle.vm_calls.specs.declared.callees.Callee.{Callee}
-use Rattle.vm_calls.specs.declared.callees.Callee.TheVariants as callees
-use Rattle.vm_calls.specs.declared.calls.CallStop.{CallStop}
+use Rattle.vm_invoking.specs.vm_calls.Calls.{Seen}
+use Rattle.vm_invoking.specs.vm_calls.Families.{IsOfPorts}
+use Rattle.vm_invoking.specs.vm_calls.declared.callees.Callee.{Callee}
+use Rattle.vm_invoking.specs.vm_calls.declared.callees.Callee.TheVariants as callees
+use Rattle.vm_invoking.specs.vm_calls.declared.calls.CallStop.{CallStop}
 use Rattle.vm_frames.specs.Calls.{Call, Calls, OfRunning}
-use Rattle.vm_step.specs.Shown.{Tables, IsNext}
-use Rattle.vm_step.specs.Outcomes.{world_of, outcome_of, Does}
-use Rattle.vm_fetching.specs.declared.operations.NumberOp.{NumberOp}
-use Rattle.vm_fetching.specs.declared.instruction.Fetched.{Fetched}
-use Rattle.vm_fetching.specs.declared.instruction.Instruction.TheVariants as fetched
-use Rattle.vm_fetching.specs.Operations.{number_op}
+use Rattle.vm_invoking.specs.vm_step.Shown.{Tables, IsNext}
+use Rattle.vm_invoking.specs.vm_step.Outcomes.{world_of, outcome_of, Does}
+use Rattle.vm_known.specs.vm_fetching.declared.operations.NumberOp.{NumberOp}
+use Rattle.vm_known.specs.vm_fetching.declared.instruction.Fetched.{Fetched}
+use Rattle.vm_known.specs.vm_fetching.declared.instruction.Instruction.TheVariants as fetched
+use Rattle.vm_known.specs.vm_fetching.Operations.{number_op}
 use Rattle.vm_invoking.specs.declared.calling.Invocation.{Invocation}
 use Rattle.vm_invoking.specs.Built.{ActsBuilt, IsCalled}
 use Rattle.vm_invoking.specs.Invoking.{Invokes}
 use Rattle.vm_invoking.specs.Layouts.{Layout, tables_of}
 use Rattle.vm_invoking.specs.Operands.{Given, running_slots}
 use Rattle.vm_invoking.specs.Putting.{Puts}
-use Rattle.vm_states.specs.Means.{Program, Means}
-use Rattle.vm_states.specs.Ready.{IsReady}
+use Rattle.vm_known.specs.vm_states.Means.{Program, Means}
+use Rattle.vm_known.specs.vm_states.Ready.{IsReady}
 use Rattle.vm_known.specs.State.{IsState}
 use Rattle.vm_calling.specs.Called.{of_stop, visits, Comes, CallComes, HeapComes}
 use Rattle.vm_calling.specs.Runs.{IsFetchedAt}

@@ -23,18 +23,18 @@ use Rattle.bc_rows.specs.declared.row.Row.{Row}
 use Rattle.vm_faults.specs.declared.stop.Stop.{Stop}
 use Rattle.vm_frames.specs.Calls.{Call, Calls, OfRunning, change_first}
 use Rattle.vm_moves.specs.Placed.{IsPlaced}
-use Rattle.vm_step.specs.Shown.{text_of, view_of, running_of, step_of}
-use Rattle.vm_step.specs.Outcomes.{world_of}
-use Rattle.vm_calls.specs.declared.callees.Function.{Function}
-use Rattle.vm_calls.specs.Callees.{IsKnownFunction}
-use Rattle.vm_fetching.specs.declared.instruction.Fetched.{Fetched}
+use Rattle.vm_invoking.specs.vm_step.Shown.{text_of, view_of, running_of, step_of}
+use Rattle.vm_invoking.specs.vm_step.Outcomes.{world_of}
+use Rattle.vm_invoking.specs.vm_calls.declared.callees.Function.{Function}
+use Rattle.vm_invoking.specs.vm_calls.Callees.{IsKnownFunction}
+use Rattle.vm_known.specs.vm_fetching.declared.instruction.Fetched.{Fetched}
 use Rattle.vm_invoking.specs.declared.binding.FunctionCode.{FunctionCode}
 use Rattle.vm_invoking.specs.Coming.{ComesTo}
 use Rattle.vm_invoking.specs.Entering.{IsCodeOf, begun, entered, Enters}
-use Rattle.vm_unwinding.specs.Known as known
-use Rattle.vm_states.specs.Means.{Program, Means}
-use Rattle.vm_states.specs.Ready.{item_at, IsReady}
-use Rattle.vm_states.specs.Running.{IsOfModule, IsRunning}
+use Rattle.vm_known.specs.vm_unwinding.Known as known
+use Rattle.vm_known.specs.vm_states.Means.{Program, Means}
+use Rattle.vm_known.specs.vm_states.Ready.{item_at, IsReady}
+use Rattle.vm_known.specs.vm_states.Running.{IsOfModule, IsRunning}
 use Rattle.vm_known.specs.State.{IsKnownSlot, IsKnownLocal, IsKnownCall, IsState}
 
 abbrev pub Went : Type 0

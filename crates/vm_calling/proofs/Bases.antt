@@ -28,20 +28,20 @@ use Rattle.bc_rows.specs.declared.row.Row.{Row}
 use Rattle.bc_rows.specs.Codes as codes
 use Rattle.bc_rows.specs.Rows.{IsRow}
 use Rattle.vm_walks.specs.Plain.{plain_name}
-use Rattle.vm_calls.specs.declared.callees.Function.{Function}
+use Rattle.vm_invoking.specs.vm_calls.declared.callees.Function.{Function}
 use Rattle.vm_frames.specs.Calls.{Call, Calls, OfRunning}
 use Rattle.vm_moves.specs.Views.{frame_of}
-use Rattle.vm_step.specs.Shown.{text_of, view_of}
+use Rattle.vm_invoking.specs.vm_step.Shown.{text_of, view_of}
 use Rattle.vm_standing.specs.Finds.{HasChild}
-use Rattle.vm_unwinding.specs.declared.names.ModuleName.{ModuleName}
+use Rattle.vm_known.specs.vm_unwinding.declared.names.ModuleName.{ModuleName}
 use Rattle.vm_invoking.specs.declared.binding.FunctionCode.{FunctionCode}
 use Rattle.vm_invoking.specs.declared.making.Child.{Child}
 use Rattle.vm_invoking.specs.Children.{IsChild}
 use Rattle.vm_invoking.specs.Entering.{IsCodeOf}
-use Rattle.vm_fetching.specs.declared.instruction.Fetched.{Fetched}
-use Rattle.vm_states.specs.Means.{Program, Means}
-use Rattle.vm_states.specs.Ready.{IsReady}
-use Rattle.vm_states.specs.Running.{IsOfModule, IsRunning}
+use Rattle.vm_known.specs.vm_fetching.declared.instruction.Fetched.{Fetched}
+use Rattle.vm_known.specs.vm_states.Means.{Program, Means}
+use Rattle.vm_known.specs.vm_states.Ready.{IsReady}
+use Rattle.vm_known.specs.vm_states.Running.{IsOfModule, IsRunning}
 use Rattle.vm_known.specs.State.{IsKnownCall, IsState}
 use Rattle.vm_calling.specs.Children.{HasChildIn, IsChildIn}
 use Rattle.vm_calling.specs.Codes.{module_of_name, LacksCode}

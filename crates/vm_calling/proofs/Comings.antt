@@ -19,24 +19,24 @@ use Rattle.vm_walks.specs.Plain.{plain_pair}
 use Rattle.vm_faults.specs.declared.fault.Fault.TheVariants as faults
 use Rattle.vm_faults.specs.declared.stop.Stop.{Stop}
 use Rattle.vm_faults.specs.declared.stop.Stop.TheVariants as stops
-use Rattle.vm_calls.specs.Calls.{Seen}
-use Rattle.vm_calls.specs.declared.callees.Callee.{Callee}
-use Rattle.vm_calls.specs.declared.callees.Callee.TheVariants as callees
-use Rattle.vm_calls.specs.declared.calls.CallStop.{CallStop}
-use Rattle.vm_calls.specs.declared.calls.CallStop.TheVariants as calls
+use Rattle.vm_invoking.specs.vm_calls.Calls.{Seen}
+use Rattle.vm_invoking.specs.vm_calls.declared.callees.Callee.{Callee}
+use Rattle.vm_invoking.specs.vm_calls.declared.callees.Callee.TheVariants as callees
+use Rattle.vm_invoking.specs.vm_calls.declared.calls.CallStop.{CallStop}
+use Rattle.vm_invoking.specs.vm_calls.declared.calls.CallStop.TheVariants as calls
 use Rattle.vm_frames.specs.Calls.{Calls, change_first}
-use Rattle.vm_step.specs.Shown.{Tables, value_of, running_of}
-use Rattle.vm_step.specs.Outcomes.{outcome_of, Does}
-use Rattle.vm_fetching.specs.declared.instruction.Fetched.{Fetched}
+use Rattle.vm_invoking.specs.vm_step.Shown.{Tables, value_of, running_of}
+use Rattle.vm_invoking.specs.vm_step.Outcomes.{outcome_of, Does}
+use Rattle.vm_known.specs.vm_fetching.declared.instruction.Fetched.{Fetched}
 use Rattle.vm_invoking.specs.Coming as invoking
 use Rattle.vm_invoking.specs.Coming.{ComesTo}
 use Rattle.vm_invoking.specs.Built.{ActsBuilt}
 use Rattle.vm_invoking.specs.Layouts.{Layout, tables_of}
 use Rattle.vm_invoking.specs.Operands.{Given}
 use Rattle.vm_invoking.specs.Putting.{with_value}
-use Rattle.vm_states.specs.Means.{Program, Means}
-use Rattle.vm_states.specs.Ready.{item_at, IsReady}
-use Rattle.vm_unwinding.proofs.Tabling.{by_parts}
+use Rattle.vm_known.specs.vm_states.Means.{Program, Means}
+use Rattle.vm_known.specs.vm_states.Ready.{item_at, IsReady}
+use Rattle.vm_known.proofs.vm_unwinding_lemmas.Tabling.{by_parts}
 use Rattle.vm_calling.specs.Called.{of_stop, begins_in, visits, Comes, Strays, CallComes}
 use Rattle.vm_calling.proofs.Places.{texts_are, tuples_are}
 

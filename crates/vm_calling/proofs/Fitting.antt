@@ -31,18 +31,18 @@ use Rattle.vm_frames.specs.declared.slot.Slot.TheVariants as slots
 use Rattle.vm_frames.specs.Calls.{Call, Calls, change_first, on_running}
 use Rattle.vm_moves.specs.Placed.{IsPlaced}
 use Rattle.vm_moves.specs.Views.{slot_of, slots_of, starts_of, position_of, frame_of}
-use Rattle.vm_step.specs.Shown.{view_of, value_of}
-use Rattle.vm_step.proofs.Stepping.{goes_to}
-use Rattle.vm_fetching.specs.declared.operations.NumberOp.{NumberOp}
-use Rattle.vm_fetching.specs.declared.operations.NumberOp.TheVariants as number_ops
-use Rattle.vm_fetching.specs.declared.instruction.Fetched.{Fetched}
-use Rattle.vm_fetching.specs.declared.instruction.Instruction.TheVariants as fetched
-use Rattle.vm_fetching.specs.Operations.{number_op}
-use Rattle.vm_fetching.specs.Shows.{item_of_fetched}
+use Rattle.vm_invoking.specs.vm_step.Shown.{view_of, value_of}
+use Rattle.vm_invoking.proofs.vm_step_lemmas.Stepping.{goes_to}
+use Rattle.vm_known.specs.vm_fetching.declared.operations.NumberOp.{NumberOp}
+use Rattle.vm_known.specs.vm_fetching.declared.operations.NumberOp.TheVariants as number_ops
+use Rattle.vm_known.specs.vm_fetching.declared.instruction.Fetched.{Fetched}
+use Rattle.vm_known.specs.vm_fetching.declared.instruction.Instruction.TheVariants as fetched
+use Rattle.vm_known.specs.vm_fetching.Operations.{number_op}
+use Rattle.vm_known.specs.vm_fetching.Shows.{item_of_fetched}
 use Rattle.vm_invoking.specs.Operands.{operands_count}
 use Rattle.vm_invoking.specs.Putting.{with_value}
-use Rattle.vm_states.specs.Means.{Program, Means}
-use Rattle.vm_states.specs.Running.{FitCalls, HasRooms, IsOfModule, IsRunning}
+use Rattle.vm_known.specs.vm_states.Means.{Program, Means}
+use Rattle.vm_known.specs.vm_states.Running.{FitCalls, HasRooms, IsOfModule, IsRunning}
 use Rattle.vm_calling.specs.Runs.{IsFetchedAt}
 use Rattle.vm_calling.specs.Taken.{CallsValue, callee_slots}
 use Rattle.vm_calling.proofs.Places as places

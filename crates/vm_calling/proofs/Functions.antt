@@ -14,18 +14,18 @@ use Rattle.bc_rows.specs.declared.row.Row.{Row}
 use Rattle.bc_rows.specs.Rows.{IsRow}
 use Rattle.vm_walks.specs.Plain.{plain_name}
 use Rattle.vm_faults.specs.declared.stop.Stop.{Stop}
-use Rattle.vm_calls.specs.declared.callees.Callee.{Callee}
-use Rattle.vm_calls.specs.declared.callees.Callee.TheVariants as callees
-use Rattle.vm_calls.specs.declared.callees.Function.{Function}
-use Rattle.vm_calls.specs.Callees.{IsKnownFunction, IsKnownCallee}
+use Rattle.vm_invoking.specs.vm_calls.declared.callees.Callee.{Callee}
+use Rattle.vm_invoking.specs.vm_calls.declared.callees.Callee.TheVariants as callees
+use Rattle.vm_invoking.specs.vm_calls.declared.callees.Function.{Function}
+use Rattle.vm_invoking.specs.vm_calls.Callees.{IsKnownFunction, IsKnownCallee}
 use Rattle.vm_frames.specs.Calls.{Calls, OfRunning, on_running}
 use Rattle.vm_moves.specs.Placed.{IsPlaced}
-use Rattle.vm_step.specs.Shown.{Tables, IsNext, view_of}
-use Rattle.vm_step.specs.Outcomes.{world_of, outcome_of}
-use Rattle.vm_fetching.specs.declared.operations.NumberOp.{NumberOp}
-use Rattle.vm_fetching.specs.declared.instruction.Fetched.{Fetched}
-use Rattle.vm_fetching.specs.declared.instruction.Instruction.TheVariants as fetched
-use Rattle.vm_fetching.specs.Operations.{number_op}
+use Rattle.vm_invoking.specs.vm_step.Shown.{Tables, IsNext, view_of}
+use Rattle.vm_invoking.specs.vm_step.Outcomes.{world_of, outcome_of}
+use Rattle.vm_known.specs.vm_fetching.declared.operations.NumberOp.{NumberOp}
+use Rattle.vm_known.specs.vm_fetching.declared.instruction.Fetched.{Fetched}
+use Rattle.vm_known.specs.vm_fetching.declared.instruction.Instruction.TheVariants as fetched
+use Rattle.vm_known.specs.vm_fetching.Operations.{number_op}
 use Rattle.vm_invoking.specs.declared.binding.FunctionCode.{FunctionCode}
 use Rattle.vm_invoking.specs.declared.calling.Invocation.{Invocation}
 use Rattle.vm_invoking.specs.Coming.{ComesTo}
@@ -35,8 +35,8 @@ use Rattle.vm_invoking.specs.Layouts.{Layout, tables_of}
 use Rattle.vm_invoking.specs.Operands.{Given}
 use Rattle.vm_invoking.specs.Putting.{with_value}
 use Rattle.vm_invoking.proofs.Knowns.{none_known}
-use Rattle.vm_states.specs.Means.{Program, Means}
-use Rattle.vm_states.specs.Ready.{IsReady}
+use Rattle.vm_known.specs.vm_states.Means.{Program, Means}
+use Rattle.vm_known.specs.vm_states.Ready.{IsReady}
 use Rattle.vm_known.specs.State.{IsState}
 use Rattle.vm_calling.specs.Called.{Comes}
 use Rattle.vm_calling.specs.Codes.{module_of_name, LacksCode}

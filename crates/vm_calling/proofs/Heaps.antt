@@ -29,28 +29,28 @@ use Rattle.vm_faults.specs.Faults.{plain_fault}
 use Rattle.vm_faults.specs.declared.stop.Stop.{Stop}
 use Rattle.vm_faults.specs.declared.stop.Stop.TheVariants as stops
 use Rattle.vm_faults.specs.Outcomes.{plain_answer, IsOutcome}
-use Rattle.vm_outputs.specs.declared.prints.PrintStop.{PrintStop}
-use Rattle.vm_outputs.specs.declared.prints.PrintStop.TheVariants as print_stops
-use Rattle.vm_outputs.specs.Prints.{IsPrint}
-use Rattle.vm_outputs.specs.PortCalls.{Failed, IsListed, called_number}
-use Rattle.vm_outputs.proofs.PortsTold.{failed_beyond}
+use Rattle.vm_invoking.specs.vm_outputs.declared.prints.PrintStop.{PrintStop}
+use Rattle.vm_invoking.specs.vm_outputs.declared.prints.PrintStop.TheVariants as print_stops
+use Rattle.vm_invoking.specs.vm_outputs.Prints.{IsPrint}
+use Rattle.vm_invoking.specs.vm_outputs.PortCalls.{Failed, IsListed, called_number}
+use Rattle.vm_invoking.proofs.vm_outputs_lemmas.PortsTold.{failed_beyond}
 use Rattle.py_primitives.specs.Output.{printed}
-use Rattle.vm_calls.specs.declared.calls.CallStop.{CallStop}
-use Rattle.vm_calls.specs.declared.calls.CallStop.TheVariants as calls
-use Rattle.vm_calls.specs.declared.callees.Callee.TheVariants as callees
-use Rattle.vm_calls.specs.Calls.{as_call, as_print, Seen, IsCall}
-use Rattle.vm_calls.specs.Families.{IsOnHeap, IsOfPorts}
-use Rattle.vm_calls.proofs.FamilyEffects.{on_heap_effect}
+use Rattle.vm_invoking.specs.vm_calls.declared.calls.CallStop.{CallStop}
+use Rattle.vm_invoking.specs.vm_calls.declared.calls.CallStop.TheVariants as calls
+use Rattle.vm_invoking.specs.vm_calls.declared.callees.Callee.TheVariants as callees
+use Rattle.vm_invoking.specs.vm_calls.Calls.{as_call, as_print, Seen, IsCall}
+use Rattle.vm_invoking.specs.vm_calls.Families.{IsOnHeap, IsOfPorts}
+use Rattle.vm_invoking.proofs.vm_calls_lemmas.FamilyEffects.{on_heap_effect}
 use Rattle.vm_frames.specs.Calls.{Calls}
-use Rattle.vm_step.specs.Shown.{value_of}
-use Rattle.vm_step.specs.Outcomes.{world_of, outcome_of}
-use Rattle.vm_fetching.specs.declared.instruction.Fetched.{Fetched}
+use Rattle.vm_invoking.specs.vm_step.Shown.{value_of}
+use Rattle.vm_invoking.specs.vm_step.Outcomes.{world_of, outcome_of}
+use Rattle.vm_known.specs.vm_fetching.declared.instruction.Fetched.{Fetched}
 use Rattle.vm_invoking.specs.Built.{Acts, ActsBuilt, IsCalled}
 use Rattle.vm_invoking.specs.Putting.{done_of, Puts}
 use Rattle.vm_invoking.specs.Operands.{Given}
 use Rattle.vm_invoking.proofs.Builtins.{family, heap_call}
-use Rattle.vm_states.specs.Means.{Program}
-use Rattle.vm_states.specs.Ready.{item_at, IsReady}
+use Rattle.vm_known.specs.vm_states.Means.{Program}
+use Rattle.vm_known.specs.vm_states.Ready.{item_at, IsReady}
 use Rattle.vm_calling.specs.Called.{of_stop, is_out, visits, Comes, Strays, Reaches, HeapComes}
 use Rattle.vm_calling.proofs.Comings.{Decided, by_step}
 

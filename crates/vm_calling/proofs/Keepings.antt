@@ -11,7 +11,7 @@ use Rattle.vm_faults.specs.declared.stop.Stop.{Stop}
 use Rattle.vm_frames.specs.declared.slot.Slot.{Slot}
 use Rattle.vm_frames.specs.declared.slot.Slot.TheVariants as slots
 use Rattle.vm_frames.specs.Calls.{Call, Calls, change_first, on_running}
-use Rattle.vm_calls.specs.declared.callees.Function.{Function}
+use Rattle.vm_invoking.specs.vm_calls.declared.callees.Function.{Function}
 use Rattle.vm_invoking.specs.Entering.{begun, Enters}
 use Rattle.vm_invoking.specs.Putting.{with_value, Puts}
 use Rattle.vm_calling.specs.Taken.{HasMethods, Keeps}

@@ -14,9 +14,9 @@ use Rattle.vm_walks.specs.Plain.{fixed_of, fixed_within, plain}
 use Rattle.vm_frames.specs.declared.slot.Slot.{Slot}
 use Rattle.vm_frames.specs.declared.slot.Slot.TheVariants as slots
 use Rattle.vm_frames.specs.Calls.{Call, OfRunning}
-use Rattle.vm_step.specs.Shown.{Tables, view_of}
+use Rattle.vm_invoking.specs.vm_step.Shown.{Tables, view_of}
 use Rattle.vm_tops.specs.Tops.{OneValue, Defaults, Values, IsLooked, bound, free}
-use Rattle.vm_unwinding.specs.Known as known
+use Rattle.vm_known.specs.vm_unwinding.Known as known
 use Rattle.vm_invoking.specs.Invoking.{HasLooked}
 use Rattle.vm_invoking.specs.Children.{HasDefaults}
 use Rattle.vm_invoking.specs.Known.{IsKnownSlot}

@@ -17,7 +17,7 @@ use Rattle.bc_rows.specs.Codes as codes
 use Rattle.bc_rows.specs.Codes.{codes_of}
 use Rattle.bc_rows.specs.Rows.{IsRow}
 use Rattle.bc_rows.specs.Runs.{RunsAs}
-use Rattle.vm_states.specs.Means.{Program, IsMeant, Means}
+use Rattle.vm_known.specs.vm_states.Means.{Program, IsMeant, Means}
 
 -- the laws of rows
 pub record Laws : Type 0 where

@@ -16,17 +16,17 @@ use Rattle.vm_frames.specs.declared.slot.Slot.{Slot}
 use Rattle.vm_frames.specs.declared.slot.Slot.TheVariants as slots
 use Rattle.vm_frames.specs.Calls.{Call, Calls, on_running}
 use Rattle.vm_moves.specs.Views.{starts_of}
-use Rattle.vm_step.specs.Shown.{view_of, running_of, step_of}
-use Rattle.vm_step.specs.Outcomes.{world_of, outcome_of}
+use Rattle.vm_invoking.specs.vm_step.Shown.{view_of, running_of, step_of}
+use Rattle.vm_invoking.specs.vm_step.Outcomes.{world_of, outcome_of}
 use Rattle.vm_standing.specs.Finds.{GoesOn}
-use Rattle.vm_fetching.specs.declared.instruction.Fetched.{Fetched}
-use Rattle.vm_instructions.specs.Effects as instructions
+use Rattle.vm_known.specs.vm_fetching.declared.instruction.Fetched.{Fetched}
+use Rattle.vm_known.specs.vm_instructions.Effects as instructions
 use Rattle.vm_invoking.specs.Built.{IsKnownCallStop}
 use Rattle.vm_invoking.specs.Coming.{ComesTo}
 use Rattle.vm_invoking.specs.Putting.{with_value, IsKnownStop, Puts}
-use Rattle.vm_states.specs.Means.{Program, Means}
-use Rattle.vm_states.specs.Ready.{item_at, IsReady}
-use Rattle.vm_states.specs.Running.{IsRunning}
+use Rattle.vm_known.specs.vm_states.Means.{Program, Means}
+use Rattle.vm_known.specs.vm_states.Ready.{item_at, IsReady}
+use Rattle.vm_known.specs.vm_states.Running.{IsRunning}
 use Rattle.vm_known.specs.Acting.{Acts}
 use Rattle.vm_known.specs.State.{IsKnownValue, IsState}
 use Rattle.vm_calling.specs.Called.{of_stop}

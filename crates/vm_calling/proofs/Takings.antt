@@ -12,28 +12,28 @@ use Rattle.bc_flow.specs.Action.{arguments}
 use Rattle.bc_machine.specs.Library.{Name, Code, Library, Plain, code_at}
 use Rattle.bc_progress.specs.Plans.{Plan}
 use Rattle.bc_rows.specs.declared.row.Row.{Row}
-use Rattle.vm_calls.specs.Callees.{IsKnownCallee}
+use Rattle.vm_invoking.specs.vm_calls.Callees.{IsKnownCallee}
 use Rattle.vm_frames.specs.declared.slot.Slot.{Slot}
 use Rattle.vm_frames.specs.declared.slot.Slot.TheVariants as slots
 use Rattle.vm_frames.specs.Calls.{Call, Calls, OfRunning}
 use Rattle.vm_moves.specs.Views.{View, slots_of, starts_of, frame_of}
-use Rattle.vm_step.specs.Shown.{Tables, view_of}
+use Rattle.vm_invoking.specs.vm_step.Shown.{Tables, view_of}
 use Rattle.vm_standing.specs.Finds.{FindsNumber}
 use Rattle.vm_standing.specs.OnTop as machine
 use Rattle.vm_tops.specs.Tops as tops
-use Rattle.vm_fetching.specs.declared.operations.NumberOp.{NumberOp}
-use Rattle.vm_fetching.specs.declared.operations.NumberOp.TheVariants as number_ops
-use Rattle.vm_fetching.specs.declared.instruction.Fetched.{Fetched}
-use Rattle.vm_fetching.specs.declared.instruction.Instruction.TheVariants as fetched
-use Rattle.vm_fetching.specs.Operations.{number_op}
+use Rattle.vm_known.specs.vm_fetching.declared.operations.NumberOp.{NumberOp}
+use Rattle.vm_known.specs.vm_fetching.declared.operations.NumberOp.TheVariants as number_ops
+use Rattle.vm_known.specs.vm_fetching.declared.instruction.Fetched.{Fetched}
+use Rattle.vm_known.specs.vm_fetching.declared.instruction.Instruction.TheVariants as fetched
+use Rattle.vm_known.specs.vm_fetching.Operations.{number_op}
 use Rattle.vm_invoking.specs.declared.calling.Invocation.{Invocation}
 use Rattle.vm_invoking.specs.Invoking.{HasLooked, Invokes}
 use Rattle.vm_invoking.specs.Known.{IsKnownSlot, AreKnown}
 use Rattle.vm_invoking.specs.Layouts.{Layout, tables_of}
 use Rattle.vm_invoking.specs.Operands.{Given, running_slots, args_in, keys_in, operands_count}
-use Rattle.vm_states.specs.Means.{Program, Means}
-use Rattle.vm_states.specs.Ready.{IsReady}
-use Rattle.vm_states.specs.Running.{FitCalls, IsRunning}
+use Rattle.vm_known.specs.vm_states.Means.{Program, Means}
+use Rattle.vm_known.specs.vm_states.Ready.{IsReady}
+use Rattle.vm_known.specs.vm_states.Running.{FitCalls, IsRunning}
 use Rattle.vm_calling.specs.Runs.{RunsIn, RunsWithin}
 use Rattle.vm_calling.specs.Taken.{CallsValue, callee_slots, HasMethods, IsTaken}
 use Rattle.vm_calling.proofs.Arriving.{Within}

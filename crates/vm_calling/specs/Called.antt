@@ -16,22 +16,22 @@ use Rattle.bc_machine.specs.State.{State}
 use Rattle.bc_rows.specs.declared.row.Row.{Row}
 use Rattle.vm_walks.specs.Plain.{plain_pair}
 use Rattle.vm_faults.specs.declared.stop.Stop.{Stop}
-use Rattle.vm_outputs.specs.Prints.{Puts}
-use Rattle.vm_outputs.specs.PortCalls.{Failed, called_number}
-use Rattle.vm_calls.specs.Calls.{Seen}
-use Rattle.vm_calls.specs.Callees.{plain_callee}
-use Rattle.vm_calls.specs.declared.callees.Callee.{Callee}
-use Rattle.vm_calls.specs.declared.calls.CallStop.{CallStop}
-use Rattle.vm_calls.specs.declared.calls.CallStop.TheVariants as calls
+use Rattle.vm_invoking.specs.vm_outputs.Prints.{Puts}
+use Rattle.vm_invoking.specs.vm_outputs.PortCalls.{Failed, called_number}
+use Rattle.vm_invoking.specs.vm_calls.Calls.{Seen}
+use Rattle.vm_invoking.specs.vm_calls.Callees.{plain_callee}
+use Rattle.vm_invoking.specs.vm_calls.declared.callees.Callee.{Callee}
+use Rattle.vm_invoking.specs.vm_calls.declared.calls.CallStop.{CallStop}
+use Rattle.vm_invoking.specs.vm_calls.declared.calls.CallStop.TheVariants as calls
 use Rattle.vm_frames.specs.Calls.{Call, Calls, on_running}
-use Rattle.vm_step.specs.Shown.{value_of, running_of}
-use Rattle.vm_step.specs.Outcomes.{world_of, outcome_of}
-use Rattle.vm_fetching.specs.declared.instruction.Fetched.{Fetched}
+use Rattle.vm_invoking.specs.vm_step.Shown.{value_of, running_of}
+use Rattle.vm_invoking.specs.vm_step.Outcomes.{world_of, outcome_of}
+use Rattle.vm_known.specs.vm_fetching.declared.instruction.Fetched.{Fetched}
 use Rattle.vm_invoking.specs.Invoking.{visits_of}
 use Rattle.vm_invoking.specs.Operands.{Given}
 use Rattle.vm_invoking.specs.Putting.{with_value}
-use Rattle.vm_states.specs.Means.{Program, Means}
-use Rattle.vm_states.specs.Ready.{IsReady}
+use Rattle.vm_known.specs.vm_states.Means.{Program, Means}
+use Rattle.vm_known.specs.vm_states.Ready.{IsReady}
 use Rattle.vm_known.specs.Acting.{stepped}
 use Rattle.vm_known.specs.State.{IsState}
 

@@ -5,7 +5,7 @@ use Rattle.bc_rows.specs.declared.row.Row.{Row}
 use Rattle.bc_rows.specs.Codes.{code_at}
 use Rattle.bc_rows.specs.Rows.{IsRow}
 use Rattle.vm_invoking.specs.declared.making.Child.{Child}
-use Rattle.vm_unwinding.specs.declared.names.ModuleName.{ModuleName}
+use Rattle.vm_known.specs.vm_unwinding.declared.names.ModuleName.{ModuleName}
 
 -- the code k of the module i has the child n, and the module's name has a number
 pub record HasChildIn (shelf : Shelf) (names : List ModuleName) (i k n : ℕ) : Type 0 where

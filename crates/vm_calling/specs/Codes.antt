@@ -5,7 +5,7 @@ use Rattle.bc_library.specs.Constants.{items_at, text_at}
 use Rattle.bc_library.specs.Shelf.{Shelf, names}
 use Rattle.bc_rows.specs.Codes.{code_at}
 use Rattle.vm_walks.specs.Plain.{plain_name}
-use Rattle.vm_calls.specs.declared.callees.Function.{Function}
+use Rattle.vm_invoking.specs.vm_calls.declared.callees.Function.{Function}
 
 -- the first module whose name is the text of the number
 abbrev pub module_of_name : Shelf → ℕ → Option ℕ

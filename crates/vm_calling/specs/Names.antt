@@ -3,7 +3,7 @@ use Rattle.std.specs.Prelude.{◌≡◌, ℕ, List, length, Some, slice_get}
 use Rattle.bc_library.specs.Constants.{items_at, text_at}
 use Rattle.bc_library.specs.Shelf.{Shelf, Named}
 use Rattle.vm_walks.specs.Plain.{plain_name}
-use Rattle.vm_unwinding.specs.declared.names.ModuleName.{ModuleName}
+use Rattle.vm_known.specs.vm_unwinding.declared.names.ModuleName.{ModuleName}
 
 -- a number for each module, whose text is the module's name
 pub record AreNames (shelf : Shelf) (names : List ModuleName) : Type 0 where

@@ -9,13 +9,13 @@ use Rattle.arena_heap.specs.Values.{IsMethodOf}
 use Rattle.bc_library.specs.Constants.{items_at, text_at}
 use Rattle.bc_library.specs.Shelf.{Shelf}
 use Rattle.bc_machine.specs.Library.{Plain}
-use Rattle.vm_calls.specs.Callees.{IsKnownCallee}
+use Rattle.vm_invoking.specs.vm_calls.Callees.{IsKnownCallee}
 use Rattle.vm_frames.specs.declared.slot.Slot.{Slot}
 use Rattle.vm_frames.specs.declared.slot.Slot.TheVariants as slots
 use Rattle.vm_frames.specs.Calls.{Call, Calls}
-use Rattle.vm_fetching.specs.declared.operations.NumberOp.{NumberOp}
-use Rattle.vm_fetching.specs.declared.operations.NumberOp.TheVariants as number_ops
-use Rattle.vm_fetching.specs.Operations.{number_op}
+use Rattle.vm_known.specs.vm_fetching.declared.operations.NumberOp.{NumberOp}
+use Rattle.vm_known.specs.vm_fetching.declared.operations.NumberOp.TheVariants as number_ops
+use Rattle.vm_known.specs.vm_fetching.Operations.{number_op}
 use Rattle.vm_invoking.specs.declared.calling.Invocation.{Invocation}
 use Rattle.vm_invoking.specs.Invoking.{Invokes}
 use Rattle.vm_invoking.specs.Known.{AreKnown}

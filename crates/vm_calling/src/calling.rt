@@ -6,9 +6,9 @@ ghost use Rattle.mpy_base.specs.World.{Later};
 ghost use Rattle.mpy_io.specs.Count.{Counts};
 ghost use Rattle.port_set.specs.Counts.{CountsKeep};
 ghost use Rattle.bc_library.specs.Constants.{items_at, text_at};
-ghost use Rattle.vm_calls.specs.declared.callees.Callee.TheVariants as callees;
+ghost use Rattle.vm_invoking.specs.vm_calls.declared.callees.Callee.TheVariants as callees;
 ghost use Rattle.vm_frames.specs.Calls.{OfRunning};
-ghost use Rattle.vm_fetching.specs.declared.instruction.Instruction.TheVariants as fetched;
+ghost use Rattle.vm_known.specs.vm_fetching.declared.instruction.Instruction.TheVariants as fetched;
 ghost use Rattle.vm_invoking.specs.Built.{IsCalled, IsKnownCallStop};
 ghost use Rattle.vm_calling.specs.Called.{CallsIn, HeapComesIn, is_out, of_stop};
 ghost use Rattle.vm_calling.specs.Runs.{IsFetchedAt, RunsWithin, RunsAgain};
@@ -20,13 +20,12 @@ use bc_library::Library;
 use bc_rows::{Rows, rows_law};
 use mpy_io::{Port, Sink};
 use port_set::PortSet;
-use vm_calls::{CallStop, Callee};
 use vm_faults::Stop;
-use vm_fetching::NumberOp;
 use vm_frames::Frames;
-use vm_invoking::{Bindings, Invocation, Operands, act_builtin, act_method, refuse_call};
-use vm_known::known_law;
-use vm_states::keeps_law;
+use vm_invoking::{
+    Bindings, CallStop, Callee, Invocation, Operands, act_builtin, act_method, refuse_call,
+};
+use vm_known::{NumberOp, keeps_law, known_law};
 
 /// A stop as that of a call.
 fn stopped(acted: Result<(), Stop>) -> Result<(), CallStop>

@@ -2,8 +2,8 @@
 
 ghost use Rattle.std.specs.Prelude.{◌≡◌, ◌<◌, ◌^◌, OnErr};
 ghost use Rattle.bc_library.specs.Constants.{items_at, text_at};
-ghost use Rattle.vm_calls.specs.declared.callees.Callee.TheVariants as callees;
-ghost use Rattle.vm_fetching.specs.declared.instruction.Instruction.TheVariants as fetched;
+ghost use Rattle.vm_invoking.specs.vm_calls.declared.callees.Callee.TheVariants as callees;
+ghost use Rattle.vm_known.specs.vm_fetching.declared.instruction.Instruction.TheVariants as fetched;
 ghost use Rattle.vm_invoking.specs.Putting.{IsKnownStop};
 ghost use Rattle.vm_calling.specs.Called.{ComesIn};
 ghost use Rattle.vm_calling.specs.Runs.{RunsWithin, RunsAgain};
@@ -14,13 +14,12 @@ use arena_heap::Arena;
 use bc_library::Library;
 use bc_progress::room_law;
 use bc_rows::{Rows, rows_law};
-use vm_calls::Function;
 use vm_faults::Stop;
-use vm_fetching::NumberOp;
 use vm_frames::Frames;
-use vm_invoking::{Bindings, FunctionCode, Invocation, Operands, run_function, skip_function};
-use vm_known::known_law;
-use vm_states::keeps_law;
+use vm_invoking::{
+    Bindings, Function, FunctionCode, Invocation, Operands, run_function, skip_function,
+};
+use vm_known::{NumberOp, keeps_law, known_law};
 
 /// A function is called: its code is entered, or the call gives None where the library doesn't have the code.
 pub(crate) fn call_code(

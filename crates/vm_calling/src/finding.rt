@@ -3,16 +3,15 @@
 ghost use Rattle.std.specs.Prelude.{◌≡◌, ◌<◌, length, Some, IsSome, IfSome, IfNone, slice_get};
 ghost use Rattle.bc_rows.specs.Codes.{code_at};
 ghost use Rattle.bc_rows.specs.Rows.{IsRow};
-ghost use Rattle.vm_unwinding.specs.declared.names.ModuleName.{ModuleName as Numbers};
+ghost use Rattle.vm_known.specs.vm_unwinding.declared.names.ModuleName.{ModuleName as Numbers};
 ghost use Rattle.vm_calling.specs.Children.{HasChildIn, IsChildIn};
 ghost use Rattle.vm_calling.specs.Codes.{module_of_name, LacksCode};
 
 use arena_heap::{Constants, StrNo};
 use bc_library::Library;
 use bc_rows::{Row, Rows};
-use vm_calls::Function;
-use vm_invoking::Child;
-use vm_unwinding::ModuleName;
+use vm_invoking::{Child, Function};
+use vm_known::ModuleName;
 
 /// The row of a code that is there.
 fn row_at<'b, 'a>(rows: &'b Rows<'a>, module_number: u32, code: u32) -> &'b Row<'a>

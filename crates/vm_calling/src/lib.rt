@@ -10,3 +10,4 @@ mod taking;
 pub use calling::call_on;
 pub use making::{make_function, make_function_with};
 pub use taking::{take_call, visits_call_on};
+pub use vm_invoking::{Bindings, CallStop, Invocation, Operands};

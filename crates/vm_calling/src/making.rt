@@ -1,8 +1,8 @@
 //! Functions that are made.
 
 ghost use Rattle.std.specs.Prelude.{◌≡◌, OnErr};
-ghost use Rattle.vm_fetching.specs.declared.instruction.Instruction.TheVariants as fetched;
-ghost use Rattle.vm_fetching.specs.declared.operations.NumberOp.TheVariants as number_ops;
+ghost use Rattle.vm_known.specs.vm_fetching.declared.instruction.Instruction.TheVariants as fetched;
+ghost use Rattle.vm_known.specs.vm_fetching.declared.operations.NumberOp.TheVariants as number_ops;
 ghost use Rattle.vm_calling.specs.Names.{AreNames};
 ghost use Rattle.vm_calling.specs.Runs.{RunsIn, ActsIn};
 ghost use Rattle.vm_calling.specs.Taken.{Keeps};
@@ -13,10 +13,8 @@ use bc_library::Library;
 use bc_rows::{Rows, rows_law};
 use vm_faults::Stop;
 use vm_frames::Frames;
-use vm_known::known_law;
-use vm_states::keeps_law;
+use vm_known::{ModuleName, keeps_law, known_law};
 use vm_tops::tops_law;
-use vm_unwinding::ModuleName;
 
 /// MAKE_FUNCTION, where it was fetched for the running call: a function of the child with the number, without defaults. Where it
 /// stops, the calls stay.

@@ -4,11 +4,11 @@ ghost use Rattle.std.specs.Prelude.{◌≡◌, ◌<◌, length, min};
 ghost use Rattle.mpy_base.specs.Val.{PlainWorld};
 ghost use Rattle.arena_objects.specs.Keys.{AllTold};
 ghost use Rattle.bc_library.specs.Constants.{items_at, text_at};
-ghost use Rattle.vm_calls.specs.Callees.{IsKnownCallee};
+ghost use Rattle.vm_invoking.specs.vm_calls.Callees.{IsKnownCallee};
 ghost use Rattle.vm_frames.specs.Calls.{OfRunning};
-ghost use Rattle.vm_fetching.specs.declared.instruction.Instruction.TheVariants as fetched;
+ghost use Rattle.vm_known.specs.vm_fetching.declared.instruction.Instruction.TheVariants as fetched;
 ghost use Rattle.vm_invoking.specs.Known.{AreKnown};
-ghost use Rattle.vm_states.specs.Means.{Program, Means};
+ghost use Rattle.vm_known.specs.vm_states.Means.{Program, Means};
 ghost use Rattle.vm_calling.specs.Called.{visits};
 ghost use Rattle.vm_calling.specs.Runs.{RunsWithin};
 ghost use Rattle.vm_calling.specs.Taken.{CallsValue, HasMethods, IsTaken};
@@ -16,9 +16,9 @@ ghost use Rattle.vm_calling.specs.Taken.{CallsValue, HasMethods, IsTaken};
 use arena_heap::Arena;
 use bc_library::Library;
 use bc_progress::room_law;
-use vm_fetching::NumberOp;
 use vm_frames::Frames;
 use vm_invoking::{Invocation, Operands, call_function, call_method, visits_call};
+use vm_known::NumberOp;
 use vm_tops::tops_law;
 
 /// CALL_FUNCTION or CALL_METHOD, where it was fetched for the running call: what it calls. Its operands are copied. It changes

@@ -1,3 +1,4 @@
+pub use Rattle.vm_outputs.proofs as vm_outputs_lemmas
 pub mod Bound
 pub mod BuiltinNames
 pub mod CallFamilies

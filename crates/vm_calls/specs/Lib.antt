@@ -1,3 +1,4 @@
+pub use Rattle.vm_outputs.specs as vm_outputs
 pub mod Binding
 pub mod Callees
 pub mod Calls

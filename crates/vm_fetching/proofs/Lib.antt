@@ -1,3 +1,4 @@
+pub use Rattle.vm_step.proofs as vm_step_lemmas
 mod Constants
 mod FewLines
 mod Kept

@@ -10,13 +10,13 @@ use Rattle.vm_faults.specs.declared.stop.Stop.{Stop}
 use Rattle.vm_frames.specs.declared.slot.Slot.{Slot}
 use Rattle.vm_frames.specs.declared.slot.Slot.TheVariants as slots
 use Rattle.vm_frames.specs.Calls.{Call, Calls, on_running}
-use Rattle.vm_instructions.specs.Effects.{Steps, Leaves}
-use Rattle.vm_instructions.specs.Slots.{with_value, without, Puts}
-use Rattle.vm_unwinding.specs.Known.{IsKnownSlot}
-use Rattle.vm_fetching.specs.declared.instruction.Fetched.{Fetched}
-use Rattle.vm_states.specs.Means.{Program}
-use Rattle.vm_states.specs.Ready.{item_at}
-use Rattle.vm_known.specs.Acting.{Tells}
+use Rattle.vm_operating.specs.vm_instructions.Effects.{Steps, Leaves}
+use Rattle.vm_operating.specs.vm_instructions.Slots.{with_value, without, Puts}
+use Rattle.vm_operating.specs.vm_unwinding.Known.{IsKnownSlot}
+use Rattle.vm_operating.specs.vm_fetching.declared.instruction.Fetched.{Fetched}
+use Rattle.vm_operating.specs.vm_states.Means.{Program}
+use Rattle.vm_operating.specs.vm_states.Ready.{item_at}
+use Rattle.vm_operating.specs.vm_known.Acting.{Tells}
 use Rattle.vm_operating.specs.Keeping.{ActsKeeping}
 use Rattle.vm_operating.specs.Onward.{StartsBehind, DoesBehind, Onward, GoesOnward}
 use Rattle.vm_hot.proofs.Telling.{does_steps}

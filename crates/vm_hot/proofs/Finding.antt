@@ -16,14 +16,14 @@ use Rattle.vm_frames.specs.declared.slot.Slot.{Slot}
 use Rattle.vm_frames.specs.declared.slot.Slot.TheVariants as slots
 use Rattle.vm_frames.specs.Calls.{Call, Calls, OfRunning}
 use Rattle.vm_moves.specs.Views.{View, slots_of, starts_of}
-use Rattle.vm_step.specs.Shown.{view_of}
+use Rattle.vm_operating.specs.vm_step.Shown.{view_of}
 use Rattle.vm_standing.specs.OnTop as machine
 use Rattle.vm_tops.specs.Tops as tops
-use Rattle.vm_instructions.specs.Slots.{HasValue, HasKnown, HasLocal}
-use Rattle.vm_instructions.specs.Effects.{Leaves}
-use Rattle.vm_fetching.specs.declared.instruction.Fetched.{Fetched}
-use Rattle.vm_known.specs.State.{IsKnownSlot, IsKnownLocal, IsKnownCall}
-use Rattle.vm_known.specs.Acting.{RunsOver}
+use Rattle.vm_operating.specs.vm_instructions.Slots.{HasValue, HasKnown, HasLocal}
+use Rattle.vm_operating.specs.vm_instructions.Effects.{Leaves}
+use Rattle.vm_operating.specs.vm_fetching.declared.instruction.Fetched.{Fetched}
+use Rattle.vm_operating.specs.vm_known.State.{IsKnownSlot, IsKnownLocal, IsKnownCall}
+use Rattle.vm_operating.specs.vm_known.Acting.{RunsOver}
 use Rattle.vm_hot.proofs.Telling.{of_texts}
 
 -- what is of all is of the one in a place

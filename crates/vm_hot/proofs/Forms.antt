@@ -5,9 +5,9 @@ use Rattle.arena_heap.specs.declared.value.Value.{Value}
 use Rattle.arena_heap.specs.declared.value.StrNo.{StrNo}
 use Rattle.arena_heap.specs.declared.value.ConstNo.{ConstNo}
 use Rattle.vm_frames.specs.Calls.{Calls}
-use Rattle.vm_fetching.specs.declared.instruction.Fetched.{Fetched}
-use Rattle.vm_fetching.specs.declared.instruction.Instruction.{Instruction}
-use Rattle.vm_known.specs.Acting.{RunsOver}
+use Rattle.vm_operating.specs.vm_fetching.declared.instruction.Fetched.{Fetched}
+use Rattle.vm_operating.specs.vm_fetching.declared.instruction.Instruction.{Instruction}
+use Rattle.vm_operating.specs.vm_known.Acting.{RunsOver}
 use Rattle.vm_hot.specs.AtOnce.{ActsAtOnce}
 
 module _ (texts : StrNo → Option (List ℕ)) (tuples : ConstNo → Option (List Value)) (f : Fetched) (i : Instruction) (is : f.instruction ≡ i) where

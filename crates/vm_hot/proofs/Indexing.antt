@@ -32,16 +32,16 @@ use Rattle.vm_sights.specs.Sights.{world_over}
 use Rattle.vm_frames.specs.declared.slot.Slot.TheVariants as slots
 use Rattle.vm_frames.specs.Calls.{Call, Calls, on_running}
 use Rattle.vm_moves.specs.Views.{starts_of, frame_of}
-use Rattle.vm_step.specs.Shown.{view_of}
-use Rattle.vm_step.proofs.Stepping.{both}
+use Rattle.vm_operating.specs.vm_step.Shown.{view_of}
+use Rattle.vm_operating.proofs.vm_step_lemmas.Stepping.{both}
 use Rattle.vm_operators.proofs.IndexUses.{list_shown}
 use Rattle.vm_operators.proofs.ItemFills.{told_put}
 use Rattle.vm_assignments.proofs.ItemUses.{set_list}
-use Rattle.vm_instructions.specs.Effects.{tables_of, Steps, Leaves}
-use Rattle.vm_instructions.specs.Slots.{HasValue, Puts, with_value, without}
-use Rattle.vm_instructions.proofs.Items as items
-use Rattle.vm_instructions.proofs.Settling.{of_outcome, puts_steps, takes_steps}
-use Rattle.vm_instructions.proofs.Visits.{get_item_free, set_item_free}
+use Rattle.vm_operating.specs.vm_instructions.Effects.{tables_of, Steps, Leaves}
+use Rattle.vm_operating.specs.vm_instructions.Slots.{HasValue, Puts, with_value, without}
+use Rattle.vm_operating.proofs.vm_instructions_lemmas.Items as items
+use Rattle.vm_operating.proofs.vm_instructions_lemmas.Settling.{of_outcome, puts_steps, takes_steps}
+use Rattle.vm_operating.proofs.vm_instructions_lemmas.Visits.{get_item_free, set_item_free}
 
 module _ (texts : StrNo → Option (List ℕ)) (tuples : ConstNo → Option (List Value)) (heap : Heap Value ℕ) where
   abbrev P : PlainHeap

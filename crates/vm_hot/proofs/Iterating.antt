@@ -19,21 +19,21 @@ use Rattle.vm_frames.specs.declared.slot.Slot.TheVariants as slots
 use Rattle.vm_frames.specs.Calls.{Call, Calls, OfRunning, on_running}
 use Rattle.vm_moves.specs.Views.{View, slots_of, starts_of}
 use Rattle.vm_standing.specs.OnTop as machine
-use Rattle.vm_step.specs.Shown.{view_of}
-use Rattle.vm_step.proofs.Changing.{then_is, same_on, still}
-use Rattle.vm_step.proofs.Stepping.{both, weaker}
+use Rattle.vm_operating.specs.vm_step.Shown.{view_of}
+use Rattle.vm_operating.proofs.vm_step_lemmas.Changing.{then_is, same_on, still}
+use Rattle.vm_operating.proofs.vm_step_lemmas.Stepping.{both, weaker}
 use Rattle.vm_tops.specs.Tops as tops
-use Rattle.vm_instructions.specs.Effects.{JumpSteps, Leaves}
-use Rattle.vm_instructions.specs.Slots.{iterator_over, with_item}
-use Rattle.vm_instructions.proofs.Iterating.{advances}
-use Rattle.vm_instructions.proofs.Settling.{of_outcome}
-use Rattle.vm_instructions.proofs.Visits.{item_free}
-use Rattle.vm_unwinding.specs.Known.{IsKnownSlot}
-use Rattle.vm_fetching.specs.declared.instruction.Fetched.{Fetched}
-use Rattle.vm_fetching.specs.declared.instruction.Instruction.TheVariants as fetched
-use Rattle.vm_fetching.specs.declared.operations.JumpOp.TheVariants as jump_ops
-use Rattle.vm_known.specs.State.{IsKnownSlot as IsKnownSlotOf}
-use Rattle.vm_known.specs.Acting.{RunsOver}
+use Rattle.vm_operating.specs.vm_instructions.Effects.{JumpSteps, Leaves}
+use Rattle.vm_operating.specs.vm_instructions.Slots.{iterator_over, with_item}
+use Rattle.vm_operating.proofs.vm_instructions_lemmas.Iterating.{advances}
+use Rattle.vm_operating.proofs.vm_instructions_lemmas.Settling.{of_outcome}
+use Rattle.vm_operating.proofs.vm_instructions_lemmas.Visits.{item_free}
+use Rattle.vm_operating.specs.vm_unwinding.Known.{IsKnownSlot}
+use Rattle.vm_operating.specs.vm_fetching.declared.instruction.Fetched.{Fetched}
+use Rattle.vm_operating.specs.vm_fetching.declared.instruction.Instruction.TheVariants as fetched
+use Rattle.vm_operating.specs.vm_fetching.declared.operations.JumpOp.TheVariants as jump_ops
+use Rattle.vm_operating.specs.vm_known.State.{IsKnownSlot as IsKnownSlotOf}
+use Rattle.vm_operating.specs.vm_known.Acting.{RunsOver}
 use Rattle.vm_operating.specs.Keeping.{ActsKeeping}
 use Rattle.vm_operating.specs.Onward.{DoesBehind}
 use Rattle.vm_hot.proofs.Ending.{ActsLaw, slots_onward}

@@ -13,17 +13,17 @@ use Rattle.py_effects.specs.Names.{assigned}
 use Rattle.bc_machine.specs.Library.{Plain}
 use Rattle.vm_faults.specs.declared.stop.Stop.{Stop}
 use Rattle.vm_sights.specs.Sights.{Sight, sight_of as sight, world_over}
-use Rattle.vm_raising.specs.Worlds.{HasEffect}
+use Rattle.vm_operating.specs.vm_raising.Worlds.{HasEffect}
 use Rattle.vm_frames.specs.Calls.{Call, Calls, OfRunning}
 use Rattle.vm_moves.specs.Views.{starts_of, frame_of}
-use Rattle.vm_step.specs.Shown.{view_of}
-use Rattle.vm_instructions.specs.Effects.{tables_of, Steps, Leaves}
-use Rattle.vm_instructions.specs.Settled.{Settles}
-use Rattle.vm_instructions.specs.Slots.{Puts, with_value}
-use Rattle.vm_instructions.proofs.Emptying.{loaded}
-use Rattle.vm_instructions.proofs.Items as items
-use Rattle.vm_instructions.proofs.Settling as settling
-use Rattle.vm_instructions.proofs.Settling.{Answers, of_effect, puts_steps}
+use Rattle.vm_operating.specs.vm_step.Shown.{view_of}
+use Rattle.vm_operating.specs.vm_instructions.Effects.{tables_of, Steps, Leaves}
+use Rattle.vm_operating.specs.vm_instructions.Settled.{Settles}
+use Rattle.vm_operating.specs.vm_instructions.Slots.{Puts, with_value}
+use Rattle.vm_operating.proofs.vm_instructions_lemmas.Emptying.{loaded}
+use Rattle.vm_operating.proofs.vm_instructions_lemmas.Items as items
+use Rattle.vm_operating.proofs.vm_instructions_lemmas.Settling as settling
+use Rattle.vm_operating.proofs.vm_instructions_lemmas.Settling.{Answers, of_effect, puts_steps}
 
 module _ (texts : StrNo → Option (List ℕ)) (tuples : ConstNo → Option (List Value)) (heap : Heap Value ℕ) (old new : Calls) (n end : ℕ) (local : Option Value)
     (there : OfRunning (λ c. slice_get c.locals n ≡ Some local) old.calls) (given : Result Value Stop) (does : HasEffect texts tuples heap heap given (λ w see. assigned w (option_map see.value local)))

@@ -21,12 +21,12 @@ use Rattle.vm_frames.specs.declared.slot.Slot.{Slot}
 use Rattle.vm_frames.specs.declared.slot.Slot.TheVariants as slots
 use Rattle.vm_frames.specs.Calls.{Call, Calls, on_running}
 use Rattle.vm_moves.specs.Views.{View, slots_of, starts_of, frame_of}
-use Rattle.vm_step.specs.Shown.{view_of}
-use Rattle.vm_step.proofs.Stepping.{both}
-use Rattle.vm_instructions.specs.Effects.{tables_of, Steps}
-use Rattle.vm_instructions.specs.Slots.{HasValue, Puts, with_value}
-use Rattle.vm_instructions.proofs.Items.{on_two, Gave}
-use Rattle.vm_instructions.proofs.Settling.{Answers, of_outcome, puts_steps}
+use Rattle.vm_operating.specs.vm_step.Shown.{view_of}
+use Rattle.vm_operating.proofs.vm_step_lemmas.Stepping.{both}
+use Rattle.vm_operating.specs.vm_instructions.Effects.{tables_of, Steps}
+use Rattle.vm_operating.specs.vm_instructions.Slots.{HasValue, Puts, with_value}
+use Rattle.vm_operating.proofs.vm_instructions_lemmas.Items.{on_two, Gave}
+use Rattle.vm_operating.proofs.vm_instructions_lemmas.Settling.{Answers, of_outcome, puts_steps}
 use Rattle.vm_hot.specs.Numbers.{Gives, IsAnswer}
 
 module _ (view : View) (starts : List ℕ) (library : Library) (place : Place) (paid : ℕ) (frame : states.Frame) (frames : List states.Frame) (w : PlainWorld) (number : ℕ) where

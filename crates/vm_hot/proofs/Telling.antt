@@ -10,13 +10,13 @@ use Rattle.bc_rows.specs.declared.row.Row.{Row}
 use Rattle.vm_faults.specs.declared.stop.Stop.{Stop}
 use Rattle.vm_frames.specs.Calls.{Call, Calls}
 use Rattle.vm_moves.specs.Views.{starts_of}
-use Rattle.vm_step.specs.Shown.{view_of, IsAt}
-use Rattle.vm_step.specs.Outcomes.{Does}
-use Rattle.vm_instructions.specs.Effects.{Layout, Steps}
-use Rattle.vm_fetching.specs.declared.instruction.Fetched.{Fetched}
-use Rattle.vm_states.specs.Means.{Program}
-use Rattle.vm_states.specs.Ready.{IsReady, item_at}
-use Rattle.vm_known.specs.Acting.{Tells}
+use Rattle.vm_operating.specs.vm_step.Shown.{view_of, IsAt}
+use Rattle.vm_operating.specs.vm_step.Outcomes.{Does}
+use Rattle.vm_operating.specs.vm_instructions.Effects.{Layout, Steps}
+use Rattle.vm_operating.specs.vm_fetching.declared.instruction.Fetched.{Fetched}
+use Rattle.vm_operating.specs.vm_states.Means.{Program}
+use Rattle.vm_operating.specs.vm_states.Ready.{IsReady, item_at}
+use Rattle.vm_operating.specs.vm_known.Acting.{Tells}
 use Rattle.vm_operating.specs.Onward.{DoesBehind}
 
 -- what is of these texts and tuples is of those of the program, and back

@@ -13,18 +13,18 @@ use Rattle.bc_progress.specs.Plans.{Plan}
 use Rattle.vm_frames.specs.declared.slot.Slot.{Slot}
 use Rattle.vm_frames.specs.Calls.{Calls, on_running}
 use Rattle.vm_moves.specs.Views.{starts_of}
-use Rattle.vm_step.specs.Shown.{Tables, view_of, IsAt, IsNext, Tests}
-use Rattle.vm_step.specs.Shown as step
-use Rattle.vm_step.specs.Outcomes.{world_of}
-use Rattle.vm_instructions.specs.Effects.{Layout, tables_of}
+use Rattle.vm_operating.specs.vm_step.Shown.{Tables, view_of, IsAt, IsNext, Tests}
+use Rattle.vm_operating.specs.vm_step.Shown as step
+use Rattle.vm_operating.specs.vm_step.Outcomes.{world_of}
+use Rattle.vm_operating.specs.vm_instructions.Effects.{Layout, tables_of}
 use Rattle.vm_standing.specs.Finds.{FindsJump}
 use Rattle.vm_standing.specs.OnTop as machine
-use Rattle.vm_unwinding.specs.Known.{IsKnownSlot}
-use Rattle.vm_fetching.specs.Operations.{jump_op}
-use Rattle.vm_fetching.specs.declared.operations.JumpOp.{JumpOp}
-use Rattle.vm_fetching.specs.declared.operations.JumpOp.TheVariants as jump_ops
-use Rattle.vm_fetching.specs.declared.instruction.Fetched.{Fetched}
-use Rattle.vm_fetching.specs.declared.instruction.Instruction.TheVariants as fetched
+use Rattle.vm_operating.specs.vm_unwinding.Known.{IsKnownSlot}
+use Rattle.vm_operating.specs.vm_fetching.Operations.{jump_op}
+use Rattle.vm_operating.specs.vm_fetching.declared.operations.JumpOp.{JumpOp}
+use Rattle.vm_operating.specs.vm_fetching.declared.operations.JumpOp.TheVariants as jump_ops
+use Rattle.vm_operating.specs.vm_fetching.declared.instruction.Fetched.{Fetched}
+use Rattle.vm_operating.specs.vm_fetching.declared.instruction.Instruction.TheVariants as fetched
 use Rattle.vm_operating.specs.Onward.{StartsBehind, DoesBehind, Onward}
 use Rattle.vm_operating.specs.Tests.{IsTest, tested}
 use Rattle.vm_hot.proofs.Telling.{of_program, layout_of, at_first}

@@ -8,10 +8,10 @@ use Rattle.arena_heap.specs.declared.value.StrNo.{StrNo}
 use Rattle.arena_heap.specs.declared.value.ConstNo.{ConstNo}
 use Rattle.py_values.specs.Shown.{PlainHeap, truth}
 use Rattle.vm_frames.specs.Calls.{Call}
-use Rattle.vm_step.specs.Shown.{Tests}
-use Rattle.vm_step.specs.Outcomes.{world_of}
-use Rattle.vm_instructions.specs.Effects.{Layout, tables_of}
-use Rattle.vm_instructions.specs.Slots.{HasValue}
+use Rattle.vm_operating.specs.vm_step.Shown.{Tests}
+use Rattle.vm_operating.specs.vm_step.Outcomes.{world_of}
+use Rattle.vm_operating.specs.vm_instructions.Effects.{Layout, tables_of}
+use Rattle.vm_operating.specs.vm_instructions.Slots.{HasValue}
 
 truth_is : (heap : PlainHeap) (b : Bool) → truth heap (Truth b) ≡ b
 truth_is heap true = refl

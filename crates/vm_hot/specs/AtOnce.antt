@@ -6,7 +6,7 @@ use Rattle.arena_heap.specs.declared.value.StrNo.{StrNo}
 use Rattle.arena_heap.specs.declared.value.ConstNo.{ConstNo}
 use Rattle.vm_faults.specs.declared.stop.Stop.{Stop}
 use Rattle.vm_frames.specs.Calls.{Calls}
-use Rattle.vm_fetching.specs.declared.instruction.Fetched.{Fetched}
+use Rattle.vm_operating.specs.vm_fetching.declared.instruction.Fetched.{Fetched}
 use Rattle.vm_operating.specs.Keeping.{ActsKeeping}
 
 -- it acts over a heap that stays, without a stop and with these visits, of which there is one at most; or it is left, and the

@@ -2,9 +2,9 @@
 
 ghost use Rattle.std.specs.Prelude.{◌≡◌, Ok, true, false};
 ghost use Rattle.vm_sights.specs.Sights.{under};
-ghost use Rattle.vm_fetching.specs.declared.instruction.Instruction.TheVariants as fetched;
-ghost use Rattle.vm_moving.specs.Moving.{fetched_plain};
-ghost use Rattle.vm_known.specs.Acting.{RunsOver};
+ghost use Rattle.vm_operating.specs.vm_fetching.declared.instruction.Instruction.TheVariants as fetched;
+ghost use Rattle.vm_operating.specs.vm_moving.Moving.{fetched_plain};
+ghost use Rattle.vm_operating.specs.vm_known.Acting.{RunsOver};
 ghost use Rattle.vm_operating.specs.Keeping.{ActsKeeping};
 ghost use Rattle.vm_hot.specs.AtOnce.{ActsAtOnce};
 
@@ -15,9 +15,8 @@ use crate::locals::local_at_once;
 use crate::names::name_at_once;
 use crate::operators::binary_at_once;
 use arena_heap::{Arena, Constants};
-use vm_fetching::{Fetched, Instruction, PlainOp};
 use vm_frames::Frames;
-use vm_operating::{load_int, load_object, move_on, unary_op};
+use vm_operating::{Fetched, Instruction, PlainOp, load_int, load_object, move_on, unary_op};
 
 /// An operation without an operand: those that move slots alone are carried out.
 #[inline(always)]

@@ -2,7 +2,7 @@
 
 ghost use Rattle.std.specs.Prelude.{◌≡◌, ◌<◌, ◌∷◌, length};
 ghost use Rattle.vm_frames.specs.Calls.{OfRunning, on_running};
-ghost use Rattle.vm_step.specs.Stacks.{gone};
+ghost use Rattle.vm_operating.specs.vm_step.Stacks.{gone};
 ghost use Rattle.vm_hot.specs.AtOnce.{visits_done};
 
 use vm_faults::Stop;

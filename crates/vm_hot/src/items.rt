@@ -10,10 +10,10 @@ ghost use Rattle.py_primitives.specs.Uses.{get_item, set_item};
 ghost use Rattle.vm_faults.specs.Outcomes.{IsOutcome};
 ghost use Rattle.vm_sights.specs.Sights.{under, sight, Tells, TellsAll};
 ghost use Rattle.vm_frames.specs.Calls.{OfRunning, on_running};
-ghost use Rattle.vm_instructions.specs.Slots.{HasValue, without};
-ghost use Rattle.vm_fetching.specs.declared.operations.PlainOp.TheVariants as plain_ops;
-ghost use Rattle.vm_moving.specs.Moving.{fetched_plain};
-ghost use Rattle.vm_known.specs.Acting.{RunsOver};
+ghost use Rattle.vm_operating.specs.vm_instructions.Slots.{HasValue, without};
+ghost use Rattle.vm_operating.specs.vm_fetching.declared.operations.PlainOp.TheVariants as plain_ops;
+ghost use Rattle.vm_operating.specs.vm_moving.Moving.{fetched_plain};
+ghost use Rattle.vm_operating.specs.vm_known.Acting.{RunsOver};
 ghost use Rattle.vm_operating.specs.Keeping.{ActsKeeping};
 ghost use Rattle.vm_hot.specs.AtOnce.{ActsAtOnce};
 

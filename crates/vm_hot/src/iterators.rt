@@ -8,10 +8,10 @@ ghost use Rattle.vm_sights.specs.Sights.{under, sight, Tells, TellsAll};
 ghost use Rattle.vm_frames.specs.declared.slot.Slot.TheVariants as slots;
 ghost use Rattle.vm_frames.specs.Calls.{OfRunning, on_running};
 ghost use Rattle.vm_operators.specs.Operands.{HasItems, IsNested};
-ghost use Rattle.vm_instructions.specs.Slots.{IsIterator, iterator_over, with_item};
-ghost use Rattle.vm_fetching.specs.declared.instruction.Instruction.TheVariants as fetched;
-ghost use Rattle.vm_fetching.specs.declared.operations.JumpOp.TheVariants as jump_ops;
-ghost use Rattle.vm_known.specs.Acting.{RunsOver};
+ghost use Rattle.vm_operating.specs.vm_instructions.Slots.{IsIterator, iterator_over, with_item};
+ghost use Rattle.vm_operating.specs.vm_fetching.declared.instruction.Instruction.TheVariants as fetched;
+ghost use Rattle.vm_operating.specs.vm_fetching.declared.operations.JumpOp.TheVariants as jump_ops;
+ghost use Rattle.vm_operating.specs.vm_known.Acting.{RunsOver};
 ghost use Rattle.vm_hot.specs.AtOnce.{ActsAtOnce};
 
 use crate::doing::go_with;

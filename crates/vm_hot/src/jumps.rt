@@ -1,17 +1,16 @@
 //! Jumps that change the running call alone, carried out at once.
 
 ghost use Rattle.vm_sights.specs.Sights.{under};
-ghost use Rattle.vm_fetching.specs.declared.instruction.Instruction.TheVariants as fetched;
-ghost use Rattle.vm_known.specs.Acting.{RunsOver};
+ghost use Rattle.vm_operating.specs.vm_fetching.declared.instruction.Instruction.TheVariants as fetched;
+ghost use Rattle.vm_operating.specs.vm_known.Acting.{RunsOver};
 ghost use Rattle.vm_operating.specs.Tests.{IsTest};
 ghost use Rattle.vm_hot.specs.AtOnce.{ActsAtOnce};
 
 use crate::doing::done;
 use crate::iterators::iterate;
 use arena_heap::{Arena, Constants, Value};
-use vm_fetching::JumpOp;
 use vm_frames::{Frames, Slot};
-use vm_operating::{acting_law, jump, jump_by};
+use vm_operating::{JumpOp, acting_law, jump, jump_by};
 use vm_tops::tops_law;
 
 /// A jump that tests the top value, where that is a bool.

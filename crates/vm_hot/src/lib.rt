@@ -12,3 +12,4 @@ mod numbers;
 mod operators;
 
 pub use acting::{act_at_once, store_at_once};
+pub use vm_operating::{End, ModuleName, visits_binary_op};

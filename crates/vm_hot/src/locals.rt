@@ -6,22 +6,20 @@ ghost use Rattle.bc_ops.specs.declared.instr.Instr.TheVariants as instrs;
 ghost use Rattle.bc_machine.specs.Library.{Plain};
 ghost use Rattle.vm_sights.specs.Sights.{under, TellsAll};
 ghost use Rattle.vm_frames.specs.Calls.{OfRunning};
-ghost use Rattle.vm_fetching.specs.declared.instruction.Instruction.TheVariants as fetched;
-ghost use Rattle.vm_fetching.specs.declared.operations.NumberOp.TheVariants as number_ops;
-ghost use Rattle.vm_instructions.specs.Effects.{Steps, Leaves};
-ghost use Rattle.vm_instructions.specs.Slots.{Puts, HasLocal, with_value};
-ghost use Rattle.vm_known.specs.Acting.{RunsOver};
+ghost use Rattle.vm_operating.specs.vm_fetching.declared.instruction.Instruction.TheVariants as fetched;
+ghost use Rattle.vm_operating.specs.vm_fetching.declared.operations.NumberOp.TheVariants as number_ops;
+ghost use Rattle.vm_operating.specs.vm_instructions.Effects.{Steps, Leaves};
+ghost use Rattle.vm_operating.specs.vm_instructions.Slots.{Puts, HasLocal, with_value};
+ghost use Rattle.vm_operating.specs.vm_known.Acting.{RunsOver};
 ghost use Rattle.vm_hot.specs.AtOnce.{ActsAtOnce};
 
 use crate::doing::{done, go_with};
 use arena_heap::{Arena, Constants};
 use vm_faults::Stop;
-use vm_fetching::NumberOp;
 use vm_frames::{Frames, Slot};
-use vm_names::assigned;
-use vm_operating::{acting_law, store_fast, store_fast_n};
+use vm_operating::{NumberOp, acting_law, assigned, store_fast, store_fast_n};
 
-/// LOAD_FAST, in one byte or in more, as `vm_instructions::load_fast` does it.
+/// LOAD_FAST, in one byte or in more, as `vm_operating::load_fast` does it.
 #[inline(always)]
 fn load<C: Constants>(
     frames: &mut Frames,

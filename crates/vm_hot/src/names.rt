@@ -1,16 +1,15 @@
 //! Names of modules that are looked up, and texts.
 
-ghost use Rattle.vm_fetching.specs.declared.instruction.Instruction.TheVariants as fetched;
+ghost use Rattle.vm_operating.specs.vm_fetching.declared.instruction.Instruction.TheVariants as fetched;
 ghost use Rattle.vm_sights.specs.Sights.{under};
-ghost use Rattle.vm_fetching.specs.declared.operations.NameOp.TheVariants as name_ops;
-ghost use Rattle.vm_known.specs.Acting.{RunsOver};
+ghost use Rattle.vm_operating.specs.vm_fetching.declared.operations.NameOp.TheVariants as name_ops;
+ghost use Rattle.vm_operating.specs.vm_known.Acting.{RunsOver};
 ghost use Rattle.vm_hot.specs.AtOnce.{ActsAtOnce};
 
 use crate::doing::done;
 use arena_heap::{Arena, Constants, StrNo};
-use vm_fetching::NameOp;
 use vm_frames::Frames;
-use vm_operating::{acting_law, load_text};
+use vm_operating::{NameOp, acting_law, load_text};
 
 /// LOAD_NAME.
 #[inline(always)]
@@ -25,7 +24,7 @@ fn load_name<C: Constants>(
     ensures { under C.Constants consts.now ActsAtOnce (record { instruction = fetched.Name name_ops.LoadName name; end = end }) arena.now frames.old frames.new result }
 {
     acting_law();
-    done(vm_instructions::load_name(frames, arena, consts, name, end))
+    done(vm_operating::load_name(frames, arena, consts, name, end))
 }
 
 /// LOAD_GLOBAL.
@@ -41,7 +40,7 @@ fn load_global<C: Constants>(
     ensures { under C.Constants consts.now ActsAtOnce (record { instruction = fetched.Name name_ops.LoadGlobal name; end = end }) arena.now frames.old frames.new result }
 {
     acting_law();
-    done(vm_instructions::load_name(frames, arena, consts, name, end))
+    done(vm_operating::load_name(frames, arena, consts, name, end))
 }
 
 /// A text that is loaded, or what has a name of the running call's module.

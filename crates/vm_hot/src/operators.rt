@@ -4,9 +4,9 @@ ghost use Rattle.std.specs.Prelude.{◌≡◌, ◌≤◌, ◌<◌, ◌∷◌, dr
 ghost use Rattle.arena_heap.specs.declared.value.Value.TheVariants as values;
 ghost use Rattle.vm_sights.specs.Sights.{under};
 ghost use Rattle.vm_frames.specs.Calls.{OfRunning, on_running};
-ghost use Rattle.vm_instructions.specs.Slots.{HasValue, with_value};
-ghost use Rattle.vm_fetching.specs.declared.instruction.Instruction.TheVariants as fetched;
-ghost use Rattle.vm_known.specs.Acting.{RunsOver};
+ghost use Rattle.vm_operating.specs.vm_instructions.Slots.{HasValue, with_value};
+ghost use Rattle.vm_operating.specs.vm_fetching.declared.instruction.Instruction.TheVariants as fetched;
+ghost use Rattle.vm_operating.specs.vm_known.Acting.{RunsOver};
 ghost use Rattle.vm_hot.specs.AtOnce.{ActsAtOnce};
 ghost use Rattle.vm_hot.specs.Numbers.{IsAnswer};
 

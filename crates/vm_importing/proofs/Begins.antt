@@ -30,7 +30,7 @@ use Rattle.bc_machine.specs.State.{State, Running, Imported, fail, on_given}
 use Rattle.bc_machine.specs.Parts.{new_frame}
 use Rattle.bc_machine.specs.Step as step
 use Rattle.vm_walks.specs.Plain.{plain_name, plain_heap}
-use Rattle.vm_raising.specs.Places.{stopped_at}
+use Rattle.vm_unwinding.specs.vm_raising.Places.{stopped_at}
 use Rattle.vm_faults.specs.Faults.{IsKnown}
 use Rattle.vm_faults.specs.declared.stop.Stop.{Stop}
 use Rattle.vm_faults.specs.declared.stop.Stop.TheVariants as stops
@@ -43,8 +43,8 @@ use Rattle.vm_modules.specs.Registry.{Registry}
 use Rattle.vm_modules.specs.Effects.{IsMaking, AreMade, world_with, made_answer}
 use Rattle.vm_moves.specs.Views.{View, role_of, locals_of, starts_of, frame_of}
 use Rattle.vm_moves.specs.Placed.{IsPlaced}
-use Rattle.vm_step.specs.Shown.{Tables, view_of, step_of}
-use Rattle.vm_step.specs.Outcomes.{world_of, outcome_of}
+use Rattle.vm_unwinding.specs.vm_step.Shown.{Tables, view_of, step_of}
+use Rattle.vm_unwinding.specs.vm_step.Outcomes.{world_of, outcome_of}
 use Rattle.vm_unwinding.specs.declared.names.ModuleName.{ModuleName}
 use Rattle.vm_unwinding.specs.Names.{AreTablesOf}
 use Rattle.vm_unwinding.specs.Ends.{with_modules}

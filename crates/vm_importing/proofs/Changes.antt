@@ -4,7 +4,7 @@ use Rattle.arena_heap.specs.declared.value.Value.{Value}
 use Rattle.vm_frames.specs.declared.slot.Slot.{Slot}
 use Rattle.vm_frames.specs.declared.slot.Slot.TheVariants as slots
 use Rattle.vm_frames.specs.Calls.{Call, Calls, OfRunning, change_first, on_running}
-use Rattle.vm_step.specs.Stacks.{gone}
+use Rattle.vm_unwinding.specs.vm_step.Stacks.{gone}
 
 abbrev HasTwo : Call → Type 0
 HasTwo c = 2 ≤ length c.slots

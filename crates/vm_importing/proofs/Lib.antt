@@ -1,3 +1,4 @@
+pub use Rattle.vm_unwinding.proofs.vm_step_lemmas
 pub mod Begins
 pub mod Changes
 pub mod Coming

@@ -31,10 +31,10 @@ use Rattle.vm_frames.specs.declared.slot.Slot.TheVariants as slots
 use Rattle.vm_frames.specs.Calls.{Call, Calls, on_running}
 use Rattle.bc_offsets.specs.Positions.{position_in}
 use Rattle.vm_moves.specs.Views.{slots_of, starts_of, position_of, frame_of}
-use Rattle.vm_step.specs.Shown.{Tables, value_of, view_of, step_of, Steps, IsNext}
-use Rattle.vm_step.specs.Outcomes.{world_of, stopping_of}
-use Rattle.vm_step.specs.Stacks.{gone}
-use Rattle.vm_step.proofs.Stepping.{both, goes_to, steps_by}
+use Rattle.vm_unwinding.specs.vm_step.Shown.{Tables, value_of, view_of, step_of, Steps, IsNext}
+use Rattle.vm_unwinding.specs.vm_step.Outcomes.{world_of, stopping_of}
+use Rattle.vm_unwinding.specs.vm_step.Stacks.{gone}
+use Rattle.vm_unwinding.proofs.vm_step_lemmas.Stepping.{both, goes_to, steps_by}
 use Rattle.vm_importing.specs.declared.importing.Import.TheVariants as imports
 use Rattle.vm_importing.specs.declared.importing.Refusal.{Refusal}
 use Rattle.vm_importing.specs.declared.importing.Refusal.TheVariants as refusals

@@ -7,7 +7,7 @@ use Rattle.vm_frames.specs.declared.slot.Role.TheVariants as roles
 use Rattle.vm_frames.specs.Calls.{Call, Calls}
 use Rattle.vm_modules.specs.declared.makings.Made.{Made}
 use Rattle.vm_modules.specs.Registry.{Registry, with_entry}
-use Rattle.vm_step.specs.Shown.{Tables}
+use Rattle.vm_unwinding.specs.vm_step.Shown.{Tables}
 
 -- in the library the module of this number has a code 0 with these locals. Its instructions have bytes, one at least
 pub record IsOutermost (tables : Tables) (library : Library) (number locals : ℕ) : Type 0 where

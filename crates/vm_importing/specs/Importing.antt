@@ -20,7 +20,7 @@ use Rattle.vm_faults.specs.declared.fault.Fault.{Fault}
 use Rattle.vm_faults.specs.declared.fault.Fault.TheVariants as faults
 use Rattle.vm_frames.specs.declared.slot.Slot.TheVariants as slots
 use Rattle.vm_frames.specs.Calls.{Call, OfRunning}
-use Rattle.vm_step.specs.Shown.{Tables}
+use Rattle.vm_unwinding.specs.vm_step.Shown.{Tables}
 use Rattle.vm_importing.specs.declared.importing.Import.{Import}
 use Rattle.vm_importing.specs.declared.importing.Import.TheVariants as imports
 use Rattle.vm_importing.specs.declared.importing.Refusal.{Refusal}

@@ -8,8 +8,8 @@ ghost use Rattle.bc_library.specs.Shelf.{Shelf};
 ghost use Rattle.bc_machine.specs.Library.{Name, Names};
 ghost use Rattle.vm_frames.specs.declared.slot.Slot.TheVariants as slots;
 ghost use Rattle.vm_frames.specs.Calls.{OfRunning, on_running};
-ghost use Rattle.vm_step.specs.Shown.{Tables, IsNext, Steps};
-ghost use Rattle.vm_step.specs.Stacks.{gone};
+ghost use Rattle.vm_unwinding.specs.vm_step.Shown.{Tables, IsNext, Steps};
+ghost use Rattle.vm_unwinding.specs.vm_step.Stacks.{gone};
 ghost use Rattle.vm_importing.specs.declared.importing.Import.TheVariants as imports;
 ghost use Rattle.vm_importing.specs.Importing.{AreOperands, IsImport};
 

@@ -8,7 +8,7 @@ use Rattle.py_primitives.specs.Outcome as primitives
 use Rattle.py_effects.specs.Effect.{Effect, Place, Fails, Thrown, Filled, failed, given_answer, fault_at}
 use Rattle.vm_faults.specs.declared.stop.Stop.{Stop}
 use Rattle.vm_faults.specs.Outcomes.{plain_stop}
-use Rattle.vm_raising.specs.Places.{stopped_at}
+use Rattle.vm_names.specs.vm_raising.Places.{stopped_at}
 use Rattle.vm_frames.specs.Calls.{Call, Calls, OfRunning, change_first, on_running}
 use Rattle.vm_moves.specs.Views.{frame_of}
 use Rattle.bc_machine.specs.Library.{Item, Library}

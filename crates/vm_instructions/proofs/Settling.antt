@@ -13,7 +13,7 @@ use Rattle.vm_walks.specs.Plain.{plain, plain_heap}
 use Rattle.vm_faults.specs.declared.stop.Stop.{Stop}
 use Rattle.vm_faults.specs.Outcomes.{plain_answer, IsKnownAnswer, IsOutcome}
 use Rattle.vm_sights.specs.Sights.{Sight, sight_of as sight, world_over}
-use Rattle.vm_raising.specs.Worlds.{HasEffect}
+use Rattle.vm_names.specs.vm_raising.Worlds.{HasEffect}
 use Rattle.vm_frames.specs.declared.slot.Slot.TheVariants as slots
 use Rattle.vm_frames.specs.Calls.{Call, Calls, OfRunning}
 use Rattle.bc_offsets.specs.Positions.{position_in}

@@ -1,3 +1,4 @@
+pub use Rattle.vm_names.specs as vm_names
 pub mod Effects
 pub mod Operations
 pub mod Settled

@@ -16,8 +16,7 @@ use arena_heap::{Arena, Constants, Value};
 use vm_assignments::unpack;
 use vm_faults::Stop;
 use vm_frames::Frames;
-use vm_names::{make_dict, make_list};
-use vm_types::make_tuple;
+use vm_names::{make_dict, make_list, make_tuple};
 
 /// BUILD_TUPLE, of as many items as the caller lends values for.
 pub fn build_tuple<C: Constants>(

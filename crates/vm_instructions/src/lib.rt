@@ -19,3 +19,4 @@ pub use locals::{delete_fast, load_fast};
 pub use names::{delete_name, load_name, store_name};
 pub use operators::{binary_op, unary_op, visits_binary_op};
 pub use subscripts::{delete_subscr, load_subscr, store_map, store_subscr};
+pub use vm_names::assigned;

@@ -23,8 +23,8 @@ use vm_comparisons::{
 };
 use vm_faults::Stop;
 use vm_frames::Frames;
+use vm_names::op_match;
 use vm_operators::{Operator, binary, unary, unary_not};
-use vm_types::op_match;
 
 /// What an operation on one value gives.
 fn one_value<C: Constants>(

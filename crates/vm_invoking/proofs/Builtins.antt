@@ -26,10 +26,10 @@ use Rattle.vm_faults.specs.declared.stop.Stop.{Stop}
 use Rattle.vm_faults.specs.declared.stop.Stop.TheVariants as stops
 use Rattle.vm_faults.specs.Faults.{plain_fault}
 use Rattle.vm_faults.specs.Outcomes.{plain_answer, IsOutcome}
-use Rattle.vm_outputs.specs.declared.prints.PrintStop.{PrintStop}
-use Rattle.vm_outputs.specs.declared.prints.PrintStop.TheVariants as print_stops
-use Rattle.vm_outputs.specs.Prints.{Puts, IsPrint}
-use Rattle.vm_outputs.specs.PortCalls.{IsPortOutcome}
+use Rattle.vm_calls.specs.vm_outputs.declared.prints.PrintStop.{PrintStop}
+use Rattle.vm_calls.specs.vm_outputs.declared.prints.PrintStop.TheVariants as print_stops
+use Rattle.vm_calls.specs.vm_outputs.Prints.{Puts, IsPrint}
+use Rattle.vm_calls.specs.vm_outputs.PortCalls.{IsPortOutcome}
 use Rattle.vm_sights.specs.Sights.{world_over}
 use Rattle.vm_calls.specs.declared.calls.CallStop.{CallStop}
 use Rattle.vm_calls.specs.declared.calls.CallStop.TheVariants as calls

@@ -11,7 +11,7 @@ use Rattle.py_effects.specs.Effect.{Effect, Place, Fails, Thrown, Filled, failed
 use Rattle.vm_faults.specs.declared.stop.Stop.{Stop}
 use Rattle.vm_faults.specs.declared.stop.Stop.TheVariants as stops
 use Rattle.vm_faults.specs.Outcomes.{plain_answer, IsKnownAnswer}
-use Rattle.vm_raising.specs.Places.{stopped_at}
+use Rattle.vm_step.specs.vm_raising.Places.{stopped_at}
 use Rattle.vm_frames.specs.declared.slot.Slot.TheVariants as slots
 use Rattle.vm_frames.specs.Calls.{Call, Calls, OfRunning, change_first}
 use Rattle.bc_offsets.specs.Positions.{position_in}

@@ -1,3 +1,6 @@
+pub use Rattle.vm_calls.proofs as vm_calls_lemmas
+pub use Rattle.vm_calls.proofs.vm_outputs_lemmas
+pub use Rattle.vm_step.proofs as vm_step_lemmas
 pub mod Answering
 pub mod Builtins
 pub mod BuiltActs

@@ -16,7 +16,7 @@ use Rattle.vm_walks.specs.Plain.{plain_pair}
 use Rattle.vm_faults.specs.declared.fault.Fault.TheVariants as faults
 use Rattle.vm_faults.specs.declared.stop.Stop.{Stop}
 use Rattle.vm_faults.specs.declared.stop.Stop.TheVariants as stops
-use Rattle.vm_outputs.specs.Prints.{Puts}
+use Rattle.vm_calls.specs.vm_outputs.Prints.{Puts}
 use Rattle.vm_calls.specs.Calls.{Seen, IsCall}
 use Rattle.vm_calls.specs.declared.calls.CallStop.{CallStop}
 use Rattle.vm_calls.specs.declared.calls.CallStop.TheVariants as calls

@@ -1,3 +1,6 @@
+pub use Rattle.vm_calls.specs as vm_calls
+pub use Rattle.vm_calls.specs.vm_outputs
+pub use Rattle.vm_step.specs as vm_step
 pub mod Binding
 pub mod Built
 pub mod Children

@@ -21,14 +21,14 @@ use Rattle.vm_frames.specs.declared.slot.Slot.{Slot}
 use Rattle.vm_frames.specs.declared.slot.Slot.TheVariants as slots
 use Rattle.vm_frames.specs.Calls.{Call, Calls, OfRunning}
 use Rattle.vm_moves.specs.Views.{slot_of, slots_of, starts_of, frame_of}
-use Rattle.vm_step.specs.Shown.{view_of, value_of, IsTop}
-use Rattle.vm_unwinding.specs.declared.causes.Cause.{Cause}
-use Rattle.vm_unwinding.specs.declared.causes.Cause.TheVariants as causes
-use Rattle.vm_unwinding.specs.Causes.{cause_slot}
-use Rattle.vm_fetching.specs.declared.operations.PlainOp.TheVariants as plain_ops
-use Rattle.vm_states.specs.Means.{Program, Means}
-use Rattle.vm_states.specs.Ready.{IsReady}
-use Rattle.vm_known.specs.State.{IsKnownSlot, IsKnownCall, IsState}
+use Rattle.vm_leaving.specs.vm_step.Shown.{view_of, value_of, IsTop}
+use Rattle.vm_leaving.specs.vm_unwinding.declared.causes.Cause.{Cause}
+use Rattle.vm_leaving.specs.vm_unwinding.declared.causes.Cause.TheVariants as causes
+use Rattle.vm_leaving.specs.vm_unwinding.Causes.{cause_slot}
+use Rattle.vm_leaving.specs.vm_fetching.declared.operations.PlainOp.TheVariants as plain_ops
+use Rattle.vm_leaving.specs.vm_states.Means.{Program, Means}
+use Rattle.vm_leaving.specs.vm_states.Ready.{IsReady}
+use Rattle.vm_leaving.specs.vm_known.State.{IsKnownSlot, IsKnownCall, IsState}
 use Rattle.vm_leaving.specs.Keeping.{TargetStarts, KeepsCause}
 use Rattle.vm_leaving.specs.Running.{fetched_plain}
 use Rattle.vm_kept.specs.Kept.{KeepCalls, HoldsKept}

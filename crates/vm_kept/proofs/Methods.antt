@@ -22,9 +22,9 @@ use Rattle.vm_frames.specs.declared.slot.Slot.{Slot}
 use Rattle.vm_frames.specs.declared.slot.Slot.TheVariants as slots
 use Rattle.vm_frames.specs.Calls.{Call, Calls, OfRunning}
 use Rattle.vm_moves.specs.Views.{slot_of, starts_of}
-use Rattle.vm_step.specs.Shown.{view_of, value_of}
-use Rattle.vm_states.specs.Means.{Program}
-use Rattle.vm_known.specs.State.{IsKnownSlot, IsKnownCall, IsState}
+use Rattle.vm_leaving.specs.vm_step.Shown.{view_of, value_of}
+use Rattle.vm_leaving.specs.vm_states.Means.{Program}
+use Rattle.vm_leaving.specs.vm_known.State.{IsKnownSlot, IsKnownCall, IsState}
 use Rattle.vm_calling.specs.Taken.{HasMethods}
 use Rattle.vm_kept.specs.Kept.{KeepCalls, HoldsKept}
 use Rattle.vm_kept.proofs.Plain.{get_map, all_get}

@@ -12,14 +12,14 @@ use Rattle.bc_progress.proofs.Frames.{fails_fit}
 use Rattle.bc_progress.proofs.Others.{stands_more, below_more, objects_more}
 use Rattle.vm_faults.specs.declared.stop.Stop.{Stop}
 use Rattle.vm_faults.specs.Outcomes.{plain_stop}
-use Rattle.vm_raising.specs.Places.{stopped_at}
+use Rattle.vm_leaving.specs.vm_raising.Places.{stopped_at}
 use Rattle.vm_modules.specs.Registry.{Registry}
 use Rattle.vm_frames.specs.Calls.{Call, Calls}
 use Rattle.vm_moves.specs.Views.{frame_of}
-use Rattle.vm_step.specs.Shown.{view_of, running_of}
-use Rattle.vm_step.specs.Outcomes.{world_of, failing_of, stopping_of}
-use Rattle.vm_unwinding.specs.Ends.{with_modules}
-use Rattle.vm_states.specs.Means.{Program, Means}
+use Rattle.vm_leaving.specs.vm_step.Shown.{view_of, running_of}
+use Rattle.vm_leaving.specs.vm_step.Outcomes.{world_of, failing_of, stopping_of}
+use Rattle.vm_leaving.specs.vm_unwinding.Ends.{with_modules}
+use Rattle.vm_leaving.specs.vm_states.Means.{Program, Means}
 use Rattle.vm_kept.specs.Kept.{KeepCalls, HoldsKept}
 use Rattle.vm_kept.proofs.Plain.{to_plain}
 use Rattle.vm_kept.proofs.Steps.{plain_of, running_objects, first_later, kept_in}

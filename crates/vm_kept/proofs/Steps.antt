@@ -20,11 +20,11 @@ use Rattle.vm_walks.specs.Plain.{plain_object}
 use Rattle.vm_modules.specs.Registry.{Registry}
 use Rattle.vm_frames.specs.Calls.{Call, Calls}
 use Rattle.vm_moves.specs.Views.{slots_of, entries_of, starts_of, position_of, frame_of}
-use Rattle.vm_step.specs.Shown.{view_of, running_of}
-use Rattle.vm_step.specs.Outcomes.{world_of}
-use Rattle.vm_unwinding.specs.Ends.{with_modules}
-use Rattle.vm_states.specs.Means.{Program, Means}
-use Rattle.vm_states.specs.Running.{FitCalls, IsRunning}
+use Rattle.vm_leaving.specs.vm_step.Shown.{view_of, running_of}
+use Rattle.vm_leaving.specs.vm_step.Outcomes.{world_of}
+use Rattle.vm_leaving.specs.vm_unwinding.Ends.{with_modules}
+use Rattle.vm_leaving.specs.vm_states.Means.{Program, Means}
+use Rattle.vm_leaving.specs.vm_states.Running.{FitCalls, IsRunning}
 use Rattle.vm_leaving.specs.Running.{stepped_with}
 use Rattle.vm_kept.specs.Kept.{KeepCalls, HoldsKept}
 use Rattle.vm_kept.proofs.Plain.{to_plain, from_plain}

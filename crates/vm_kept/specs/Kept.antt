@@ -6,8 +6,8 @@ use Rattle.bc_progress.specs.Fits.{StandsIn, BelowIn}
 use Rattle.bc_progress.specs.Known.{facts_of}
 use Rattle.vm_frames.specs.Calls.{Call, Calls}
 use Rattle.vm_moves.specs.Views.{frame_of}
-use Rattle.vm_step.specs.Shown.{view_of}
-use Rattle.vm_states.specs.Means.{Program}
+use Rattle.vm_leaving.specs.vm_step.Shown.{view_of}
+use Rattle.vm_leaving.specs.vm_states.Means.{Program}
 
 module _ (p : Program) (objects : Objects Value ℕ) where
   -- the first of the calls stands at an instruction, and the others wait, as the plans have it. An exception that a handler finds

@@ -13,18 +13,18 @@ ghost use Rattle.bc_machine.specs.Machine.{start};
 ghost use Rattle.bc_rows.specs.declared.row.Row.{Row};
 ghost use Rattle.vm_modules.specs.Registry.{Registry};
 ghost use Rattle.vm_frames.specs.Calls.{Call, Calls, OfRunning, on_running};
-ghost use Rattle.vm_step.specs.Shown.{running_of};
-ghost use Rattle.vm_step.specs.Outcomes.{world_of, stopping_of};
-ghost use Rattle.vm_unwinding.specs.Ends.{with_modules};
-ghost use Rattle.vm_fetching.specs.declared.operations.NumberOp.{NumberOp};
-ghost use Rattle.vm_fetching.specs.declared.operations.PlainOp.TheVariants as plain_ops;
-ghost use Rattle.vm_fetching.specs.declared.instruction.Instruction.TheVariants as fetched;
-ghost use Rattle.vm_invoking.specs.Operands.{operands_count};
-ghost use Rattle.vm_invoking.specs.Putting.{with_value};
-ghost use Rattle.vm_states.specs.Means.{Program, Means};
-ghost use Rattle.vm_states.specs.Running.{IsRunning};
-ghost use Rattle.vm_states.specs.Ready.{IsReady};
-ghost use Rattle.vm_known.specs.State.{IsState};
+ghost use Rattle.vm_leaving.specs.vm_step.Shown.{running_of};
+ghost use Rattle.vm_leaving.specs.vm_step.Outcomes.{world_of, stopping_of};
+ghost use Rattle.vm_leaving.specs.vm_unwinding.Ends.{with_modules};
+ghost use Rattle.vm_leaving.specs.vm_fetching.declared.operations.NumberOp.{NumberOp};
+ghost use Rattle.vm_leaving.specs.vm_fetching.declared.operations.PlainOp.TheVariants as plain_ops;
+ghost use Rattle.vm_leaving.specs.vm_fetching.declared.instruction.Instruction.TheVariants as fetched;
+ghost use Rattle.vm_calling.specs.vm_invoking.Operands.{operands_count};
+ghost use Rattle.vm_calling.specs.vm_invoking.Putting.{with_value};
+ghost use Rattle.vm_leaving.specs.vm_states.Means.{Program, Means};
+ghost use Rattle.vm_leaving.specs.vm_states.Running.{IsRunning};
+ghost use Rattle.vm_leaving.specs.vm_states.Ready.{IsReady};
+ghost use Rattle.vm_leaving.specs.vm_known.State.{IsState};
 ghost use Rattle.vm_leaving.specs.Keeping.{KeepsCause};
 ghost use Rattle.vm_leaving.specs.Running.{fetched_plain, stepped_with};
 ghost use Rattle.vm_calling.specs.Taken.{HasMethods, CallsValue, callee_slots};
@@ -84,3 +84,6 @@ pub fn methods_law()
     ensures { (p : Program) (objects : Objects Value ℕ) (s : Calls) → IsState p objects s → HoldsKept p objects s
         → OfRunning (λ c. HasMethods c.slots) s.calls }
 {}
+
+pub use vm_calling::{take_call, visits_call_on};
+pub use vm_leaving::registered_law;

@@ -11,10 +11,10 @@ use Rattle.bc_machine.specs.State.{State}
 use Rattle.bc_machine.specs.Step.{step}
 use Rattle.bc_rows.specs.declared.row.Row.{Row}
 use Rattle.vm_frames.specs.Calls.{Calls}
-use Rattle.vm_step.specs.Shown.{running_of}
-use Rattle.vm_step.specs.Outcomes.{world_of, outcome_of}
+use Rattle.vm_unwinding.specs.vm_step.Shown.{running_of}
+use Rattle.vm_unwinding.specs.vm_step.Outcomes.{world_of, outcome_of}
 use Rattle.vm_instructions.specs.Effects.{IsKnownStop}
-use Rattle.vm_fetching.specs.declared.instruction.Fetched.{Fetched}
+use Rattle.vm_states.specs.vm_fetching.declared.instruction.Fetched.{Fetched}
 use Rattle.vm_states.specs.Means.{Program, Means}
 use Rattle.vm_states.specs.Ready.{IsReady}
 use Rattle.vm_known.specs.State.{IsState}

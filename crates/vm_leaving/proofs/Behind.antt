@@ -22,18 +22,18 @@ use Rattle.bc_progress.proofs.Knowing.{ThrowsKnown, all_covered}
 use Rattle.bc_progress.proofs.Frames.{fails_fit}
 use Rattle.vm_faults.specs.declared.stop.Stop.{Stop}
 use Rattle.vm_faults.specs.Outcomes.{plain_stop}
-use Rattle.vm_raising.specs.Places.{stopped_at}
+use Rattle.vm_importing.specs.vm_raising.Places.{stopped_at}
 use Rattle.vm_modules.specs.Registry.{Registry}
 use Rattle.vm_frames.specs.Calls.{Call, Calls}
 use Rattle.vm_moves.specs.Placed.{IsPlaced}
 use Rattle.vm_moves.specs.Views.{frame_of}
-use Rattle.vm_step.specs.Shown.{Tables, view_of, running_of}
-use Rattle.vm_step.specs.Outcomes.{world_of, failing_of, stopping_of}
-use Rattle.vm_unwinding.specs.declared.ends.End.{End}
-use Rattle.vm_unwinding.specs.Ends.{with_modules, state_of}
-use Rattle.vm_unwinding.specs.Known.{Keeps}
-use Rattle.vm_states.specs.Means.{Program, Means}
-use Rattle.vm_states.specs.Running.{FitCalls, IsOfModule}
+use Rattle.vm_importing.specs.vm_step.Shown.{Tables, view_of, running_of}
+use Rattle.vm_importing.specs.vm_step.Outcomes.{world_of, failing_of, stopping_of}
+use Rattle.vm_importing.specs.vm_unwinding.declared.ends.End.{End}
+use Rattle.vm_importing.specs.vm_unwinding.Ends.{with_modules, state_of}
+use Rattle.vm_importing.specs.vm_unwinding.Known.{Keeps}
+use Rattle.vm_known.specs.vm_states.Means.{Program, Means}
+use Rattle.vm_known.specs.vm_states.Running.{FitCalls, IsOfModule}
 use Rattle.vm_known.specs.State.{IsState, IsKnownCall}
 use Rattle.vm_leaving.specs.Modules.{registered_names, AreRegistered}
 use Rattle.vm_leaving.specs.Running.{IsRun}

@@ -17,18 +17,18 @@ use Rattle.bc_machine.specs.Growth as growth
 use Rattle.vm_modules.specs.Registry.{Registry, plain_modules}
 use Rattle.vm_frames.specs.Calls.{Call, Calls}
 use Rattle.vm_moves.specs.Placed.{IsPlaced}
-use Rattle.vm_step.specs.Shown.{view_of, running_of}
-use Rattle.vm_step.specs.Outcomes.{world_of}
-use Rattle.vm_unwinding.specs.declared.ends.End.{End}
-use Rattle.vm_unwinding.specs.declared.ends.After.TheVariants as afters
-use Rattle.vm_unwinding.specs.Ends.{with_modules, state_of}
-use Rattle.vm_unwinding.specs.Known.{IsKnownAfter, Keeps}
-use Rattle.vm_unwinding.specs.Thrown.{thrown, thrown_out, failed_end, HasThrown}
-use Rattle.vm_states.specs.Means.{Program, Means}
-use Rattle.vm_states.specs.Running.{IsOfModule, IsRunning}
+use Rattle.vm_importing.specs.vm_step.Shown.{view_of, running_of}
+use Rattle.vm_importing.specs.vm_step.Outcomes.{world_of}
+use Rattle.vm_importing.specs.vm_unwinding.declared.ends.End.{End}
+use Rattle.vm_importing.specs.vm_unwinding.declared.ends.After.TheVariants as afters
+use Rattle.vm_importing.specs.vm_unwinding.Ends.{with_modules, state_of}
+use Rattle.vm_importing.specs.vm_unwinding.Known.{IsKnownAfter, Keeps}
+use Rattle.vm_importing.specs.vm_unwinding.Thrown.{thrown, thrown_out, failed_end, HasThrown}
+use Rattle.vm_known.specs.vm_states.Means.{Program, Means}
+use Rattle.vm_known.specs.vm_states.Running.{IsOfModule, IsRunning}
 use Rattle.vm_known.specs.State.{IsState, IsKnownCall}
 use Rattle.vm_known.specs.Acting.{Tells}
-use Rattle.vm_unwinding.specs.declared.names.ModuleName.{ModuleName}
+use Rattle.vm_importing.specs.vm_unwinding.declared.names.ModuleName.{ModuleName}
 use Rattle.vm_leaving.specs.Own.{AreOwn}
 use Rattle.vm_leaving.specs.Modules.{registered_names, AreNames, AreRegistered}
 use Rattle.vm_leaving.specs.Running.{stepped_with, IsRun}

@@ -10,15 +10,15 @@ use Rattle.vm_frames.specs.declared.slot.Slot.{Slot}
 use Rattle.vm_frames.specs.declared.slot.Entry.{Entry}
 use Rattle.vm_frames.specs.Calls.{Call}
 use Rattle.vm_moves.specs.Views.{View, starts_of, position_of}
-use Rattle.vm_step.specs.Shown.{Tables}
-use Rattle.vm_unwinding.specs.declared.causes.Cause.{Cause}
-use Rattle.vm_unwinding.specs.declared.causes.Cause.TheVariants as causes
-use Rattle.vm_unwinding.specs.declared.ends.After.{After}
-use Rattle.vm_unwinding.specs.declared.ends.After.TheVariants as afters
-use Rattle.vm_unwinding.specs.Causes.{cause_slot, FitsEntries, GoesOn, unkept}
-use Rattle.vm_unwinding.specs.Left.{receiving_of, after_of}
+use Rattle.vm_importing.specs.vm_step.Shown.{Tables}
+use Rattle.vm_importing.specs.vm_unwinding.declared.causes.Cause.{Cause}
+use Rattle.vm_importing.specs.vm_unwinding.declared.causes.Cause.TheVariants as causes
+use Rattle.vm_importing.specs.vm_unwinding.declared.ends.After.{After}
+use Rattle.vm_importing.specs.vm_unwinding.declared.ends.After.TheVariants as afters
+use Rattle.vm_importing.specs.vm_unwinding.Causes.{cause_slot, FitsEntries, GoesOn, unkept}
+use Rattle.vm_importing.specs.vm_unwinding.Left.{receiving_of, after_of}
 use Rattle.vm_tops.specs.Tops.{IsCause, jump, Ending}
-use Rattle.vm_states.specs.Means.{Program}
+use Rattle.vm_known.specs.vm_states.Means.{Program}
 use Rattle.vm_leaving.specs.Own.{AreOwn}
 use Rattle.vm_leaving.specs.Modules.{registered_names}
 use Rattle.vm_leaving.specs.Keeping.{TargetStarts}

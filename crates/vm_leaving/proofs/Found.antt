@@ -5,11 +5,11 @@ use Rattle.arena_heap.specs.declared.value.Value.{Value}
 use Rattle.vm_frames.specs.declared.slot.Slot.{Slot}
 use Rattle.vm_frames.specs.declared.slot.Slot.TheVariants as slots
 use Rattle.vm_frames.specs.Calls.{Calls}
-use Rattle.vm_fetching.specs.declared.instruction.Fetched.{Fetched}
+use Rattle.vm_known.specs.vm_fetching.declared.instruction.Fetched.{Fetched}
 use Rattle.bc_rows.specs.declared.row.Row.{Row}
 use Rattle.mpy_base.specs.World.{Objects}
-use Rattle.vm_states.specs.Means.{Program}
-use Rattle.vm_states.specs.Ready.{IsReady}
+use Rattle.vm_known.specs.vm_states.Means.{Program}
+use Rattle.vm_known.specs.vm_states.Ready.{IsReady}
 use Rattle.vm_known.specs.State.{IsState, IsKnownValue, IsKnownSlot, IsKnownCall}
 use Rattle.vm_leaving.proofs.Places.{all_first}
 

@@ -30,19 +30,19 @@ use Rattle.vm_modules.specs.Registry.{Registry, plain_entry, plain_modules, with
 use Rattle.vm_frames.specs.declared.slot.Slot.{Slot}
 use Rattle.vm_frames.specs.Calls.{Calls, OfRunning}
 use Rattle.vm_moves.specs.Placed.{IsPlaced}
-use Rattle.vm_step.specs.Shown.{view_of}
-use Rattle.vm_step.specs.Outcomes.{outcome_of}
-use Rattle.vm_instructions.specs.Effects.{IsKnownStop}
-use Rattle.vm_unwinding.specs.declared.names.ModuleName.{ModuleName}
-use Rattle.vm_unwinding.specs.Ends.{with_modules}
-use Rattle.vm_unwinding.specs.Known.{Keeps}
+use Rattle.vm_importing.specs.vm_step.Shown.{view_of}
+use Rattle.vm_importing.specs.vm_step.Outcomes.{outcome_of}
+use Rattle.vm_known.specs.vm_instructions.Effects.{IsKnownStop}
+use Rattle.vm_importing.specs.vm_unwinding.declared.names.ModuleName.{ModuleName}
+use Rattle.vm_importing.specs.vm_unwinding.Ends.{with_modules}
+use Rattle.vm_importing.specs.vm_unwinding.Known.{Keeps}
 use Rattle.vm_importing.specs.declared.importing.Import.{Import}
 use Rattle.vm_importing.specs.declared.importing.Import.TheVariants as imports
 use Rattle.vm_importing.specs.Importing.{HasOperands, AreOperands, IsModule, registered, port, IsImport}
 use Rattle.vm_importing.specs.Beginning.{begun, HasImported}
 use Rattle.vm_tops.specs.Tops.{TwoValues}
-use Rattle.vm_states.specs.Means.{Program, Means}
-use Rattle.vm_states.specs.Ready.{IsReady}
+use Rattle.vm_known.specs.vm_states.Means.{Program, Means}
+use Rattle.vm_known.specs.vm_states.Ready.{IsReady}
 use Rattle.vm_known.specs.State.{IsState, IsKnownValue}
 use Rattle.vm_known.specs.Acting.{Tells}
 use Rattle.vm_leaving.specs.Own.{AreOwn}
@@ -194,7 +194,7 @@ module _ (went : Went) (sounds : SoundLaw) (texts : StrNo → Option (List ℕ))
     imports_so (Err stopped) steps stayed stop = record {
       steps = steps;
       state = record {
-        running = subst (Rattle.vm_states.specs.Running.IsRunning p) (sym stayed.calls) state.running;
+        running = subst (Rattle.vm_known.specs.vm_states.Running.IsRunning p) (sym stayed.calls) state.running;
         known = here.known state.known;
         all_told = here.all_told;
       };

@@ -1,3 +1,4 @@
+pub use Rattle.vm_importing.proofs.vm_step_lemmas
 mod Registered
 mod Worlds
 mod Sounds

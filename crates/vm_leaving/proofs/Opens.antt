@@ -16,7 +16,7 @@ use Rattle.vm_modules.specs.declared.entry.Entry.{Entry}
 use Rattle.vm_modules.specs.declared.makings.Made.{Made}
 use Rattle.vm_modules.specs.Registry.{Registry, plain_entry, plain_modules, with_entry}
 use Rattle.vm_modules.specs.Effects.{world_with, IsMaking}
-use Rattle.vm_states.specs.Means.{Program}
+use Rattle.vm_known.specs.vm_states.Means.{Program}
 use Rattle.vm_leaving.specs.Own.{AreOwn}
 use Rattle.vm_leaving.specs.Modules.{registered_names, AreRegistered}
 use Rattle.vm_leaving.proofs.Registered.{own_more}

@@ -28,8 +28,8 @@ use Rattle.bc_rows.specs.Runs.{RunsAs}
 use Rattle.vm_frames.specs.Calls.{Calls}
 use Rattle.vm_importing.specs.Importing.{StandsFor}
 use Rattle.vm_importing.specs.Beginning.{IsOutermost}
-use Rattle.vm_states.specs.Means.{Program, IsMeant, Means}
-use Rattle.vm_states.specs.Running.{HasRooms}
+use Rattle.vm_known.specs.vm_states.Means.{Program, IsMeant, Means}
+use Rattle.vm_known.specs.vm_states.Running.{HasRooms}
 use Rattle.vm_leaving.proofs.Shelves as shelves
 use Rattle.vm_leaving.proofs.Shelves.{member_stands}
 

@@ -9,12 +9,12 @@ use Rattle.bc_library.specs.Texts.{text_numbered}
 use Rattle.py_effects.specs.Effect as effects
 use Rattle.bc_rows.specs.declared.row.Row.{Row}
 use Rattle.vm_walks.specs.Plain.{plain_name}
-use Rattle.vm_raising.specs.declared.place.Place.{Place}
+use Rattle.vm_importing.specs.vm_raising.declared.place.Place.{Place}
 use Rattle.vm_frames.specs.Calls.{Call, Calls, OfRunning}
-use Rattle.vm_unwinding.specs.Ends.{place_of}
-use Rattle.vm_fetching.specs.declared.instruction.Fetched.{Fetched}
-use Rattle.vm_states.specs.Means.{Program, Means}
-use Rattle.vm_states.specs.Ready.{IsPlaceOf, IsReady}
+use Rattle.vm_importing.specs.vm_unwinding.Ends.{place_of}
+use Rattle.vm_known.specs.vm_fetching.declared.instruction.Fetched.{Fetched}
+use Rattle.vm_known.specs.vm_states.Means.{Program, Means}
+use Rattle.vm_known.specs.vm_states.Ready.{IsPlaceOf, IsReady}
 use Rattle.vm_leaving.specs.Running.{place_at}
 
 abbrev placed : List ℕ → ℕ → List ℕ → effects.Place

@@ -14,17 +14,17 @@ use Rattle.vm_modules.specs.Registry.{Registry, plain_modules}
 use Rattle.vm_frames.specs.Calls.{Calls}
 use Rattle.vm_moves.specs.Views.{View}
 use Rattle.vm_moves.specs.Placed.{IsPlaced}
-use Rattle.vm_step.specs.Shown.{view_of, step_of}
-use Rattle.vm_step.specs.Outcomes.{world_of, stopping_of}
-use Rattle.vm_unwinding.specs.declared.names.ModuleName.{ModuleName}
-use Rattle.vm_unwinding.specs.declared.ends.End.{End}
-use Rattle.vm_unwinding.specs.Ends.{with_modules, state_of}
-use Rattle.vm_unwinding.specs.Known.{Keeps}
-use Rattle.vm_unwinding.specs.Names.{Forgets}
-use Rattle.vm_unwinding.specs.Thrown.{HasThrown}
-use Rattle.vm_fetching.specs.declared.instruction.Fetched.{Fetched}
-use Rattle.vm_states.specs.Means.{Program, Means}
-use Rattle.vm_states.specs.Ready.{IsReady, item_at}
+use Rattle.vm_importing.specs.vm_step.Shown.{view_of, step_of}
+use Rattle.vm_importing.specs.vm_step.Outcomes.{world_of, stopping_of}
+use Rattle.vm_importing.specs.vm_unwinding.declared.names.ModuleName.{ModuleName}
+use Rattle.vm_importing.specs.vm_unwinding.declared.ends.End.{End}
+use Rattle.vm_importing.specs.vm_unwinding.Ends.{with_modules, state_of}
+use Rattle.vm_importing.specs.vm_unwinding.Known.{Keeps}
+use Rattle.vm_importing.specs.vm_unwinding.Names.{Forgets}
+use Rattle.vm_importing.specs.vm_unwinding.Thrown.{HasThrown}
+use Rattle.vm_known.specs.vm_fetching.declared.instruction.Fetched.{Fetched}
+use Rattle.vm_known.specs.vm_states.Means.{Program, Means}
+use Rattle.vm_known.specs.vm_states.Ready.{IsReady, item_at}
 use Rattle.vm_known.specs.State.{IsState, IsKnownCall}
 use Rattle.vm_known.specs.Acting.{Tells}
 use Rattle.vm_leaving.specs.Own.{AreOwn}

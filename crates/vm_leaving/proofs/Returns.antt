@@ -17,19 +17,19 @@ use Rattle.bc_rows.specs.declared.row.Row.{Row}
 use Rattle.vm_modules.specs.Registry.{Registry, plain_modules}
 use Rattle.vm_frames.specs.Calls.{Call, Calls}
 use Rattle.vm_moves.specs.Placed.{IsPlaced}
-use Rattle.vm_step.specs.Shown.{view_of, running_of, step_of}
-use Rattle.vm_step.specs.Outcomes.{world_of}
-use Rattle.vm_unwinding.specs.declared.names.ModuleName.{ModuleName}
-use Rattle.vm_unwinding.specs.declared.ends.End.{End}
-use Rattle.vm_unwinding.specs.declared.ends.After.{After}
-use Rattle.vm_unwinding.specs.declared.ends.After.TheVariants as afters
-use Rattle.vm_unwinding.specs.Ends.{with_modules, state_of}
-use Rattle.vm_unwinding.specs.Known.{IsKnownCall, IsKnownAfter, Keeps}
-use Rattle.vm_unwinding.specs.Left.{after_of}
-use Rattle.vm_fetching.specs.declared.instruction.Fetched.{Fetched}
-use Rattle.vm_states.specs.Means.{Program, Means}
-use Rattle.vm_states.specs.Ready.{IsReady, item_at}
-use Rattle.vm_states.specs.Running.{FitCalls, HasRooms, IsOfModule}
+use Rattle.vm_importing.specs.vm_step.Shown.{view_of, running_of, step_of}
+use Rattle.vm_importing.specs.vm_step.Outcomes.{world_of}
+use Rattle.vm_importing.specs.vm_unwinding.declared.names.ModuleName.{ModuleName}
+use Rattle.vm_importing.specs.vm_unwinding.declared.ends.End.{End}
+use Rattle.vm_importing.specs.vm_unwinding.declared.ends.After.{After}
+use Rattle.vm_importing.specs.vm_unwinding.declared.ends.After.TheVariants as afters
+use Rattle.vm_importing.specs.vm_unwinding.Ends.{with_modules, state_of}
+use Rattle.vm_importing.specs.vm_unwinding.Known.{IsKnownCall, IsKnownAfter, Keeps}
+use Rattle.vm_importing.specs.vm_unwinding.Left.{after_of}
+use Rattle.vm_known.specs.vm_fetching.declared.instruction.Fetched.{Fetched}
+use Rattle.vm_known.specs.vm_states.Means.{Program, Means}
+use Rattle.vm_known.specs.vm_states.Ready.{IsReady, item_at}
+use Rattle.vm_known.specs.vm_states.Running.{FitCalls, HasRooms, IsOfModule}
 use Rattle.vm_known.specs.State.{IsState}
 use Rattle.vm_known.specs.Acting.{Tells}
 use Rattle.vm_leaving.specs.Own.{AreOwn}

@@ -23,16 +23,16 @@ use Rattle.vm_walks.specs.Plain.{plain_object}
 use Rattle.vm_walks.proofs.PlainValues.{object_plain}
 use Rattle.vm_faults.specs.declared.stop.Stop.{Stop}
 use Rattle.vm_faults.specs.Outcomes.{plain_stop}
-use Rattle.vm_raising.specs.Places.{stopped_at}
+use Rattle.vm_importing.specs.vm_raising.Places.{stopped_at}
 use Rattle.vm_faults.proofs.Heaps.{kind_plain}
 use Rattle.vm_modules.specs.Registry.{Registry}
 use Rattle.vm_frames.specs.Calls.{Call, Calls}
 use Rattle.vm_moves.specs.Views.{frame_of}
-use Rattle.vm_step.specs.Shown.{Tables, view_of, running_of, step_of}
-use Rattle.vm_step.specs.Outcomes.{world_of, failing_of, stopping_of}
-use Rattle.vm_unwinding.specs.declared.ends.End.{End}
-use Rattle.vm_unwinding.specs.Ends.{with_modules, state_of}
-use Rattle.vm_states.specs.Means.{Program}
+use Rattle.vm_importing.specs.vm_step.Shown.{Tables, view_of, running_of, step_of}
+use Rattle.vm_importing.specs.vm_step.Outcomes.{world_of, failing_of, stopping_of}
+use Rattle.vm_importing.specs.vm_unwinding.declared.ends.End.{End}
+use Rattle.vm_importing.specs.vm_unwinding.Ends.{with_modules, state_of}
+use Rattle.vm_known.specs.vm_states.Means.{Program}
 use Rattle.vm_known.specs.State.{IsState, IsKnownCall}
 use Rattle.vm_leaving.specs.Own.{AreOwn}
 use Rattle.vm_leaving.specs.Modules.{AreRegistered}

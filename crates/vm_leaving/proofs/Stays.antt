@@ -6,10 +6,10 @@ use Rattle.arena_heap.specs.declared.value.Value.{Value}
 use Rattle.py_effects.specs.Heaps.{Sound}
 use Rattle.vm_modules.specs.Registry.{Registry}
 use Rattle.vm_frames.specs.Calls.{Calls}
-use Rattle.vm_step.specs.Shown.{running_of}
-use Rattle.vm_step.specs.Outcomes.{world_of}
-use Rattle.vm_unwinding.specs.Ends.{with_modules}
-use Rattle.vm_states.specs.Means.{Program}
+use Rattle.vm_importing.specs.vm_step.Shown.{running_of}
+use Rattle.vm_importing.specs.vm_step.Outcomes.{world_of}
+use Rattle.vm_importing.specs.vm_unwinding.Ends.{with_modules}
+use Rattle.vm_known.specs.vm_states.Means.{Program}
 use Rattle.vm_known.specs.State.{IsState}
 use Rattle.vm_leaving.specs.Modules.{AreRegistered}
 use Rattle.vm_leaving.specs.Running.{stepped_with}

@@ -13,10 +13,10 @@ use Rattle.bc_rows.specs.Codes as codes
 use Rattle.bc_rows.specs.Codes.{Numbered, codes_of}
 use Rattle.bc_rows.specs.Rows.{IsRow}
 use Rattle.vm_frames.specs.Calls.{Call, Calls, OfRunning}
-use Rattle.vm_fetching.specs.declared.instruction.Fetched.{Fetched}
-use Rattle.vm_fetching.specs.Fetches.{IsVerifiedRow}
-use Rattle.vm_states.specs.Means.{Program, Means}
-use Rattle.vm_states.specs.Ready.{IsFetched}
+use Rattle.vm_known.specs.vm_fetching.declared.instruction.Fetched.{Fetched}
+use Rattle.vm_known.specs.vm_fetching.Fetches.{IsVerifiedRow}
+use Rattle.vm_known.specs.vm_states.Means.{Program, Means}
+use Rattle.vm_known.specs.vm_states.Ready.{IsFetched}
 use Rattle.vm_leaving.specs.Waiting.{IsWaiting}
 use Rattle.vm_leaving.proofs.Taking.{First, first_of, row_there, verified_row, starts_at}
 

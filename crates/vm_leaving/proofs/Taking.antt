@@ -23,13 +23,13 @@ use Rattle.arena_heap.specs.declared.value.Value.{Value}
 use Rattle.vm_frames.specs.Calls.{Call, Calls, OfRunning}
 use Rattle.vm_moves.specs.Placed.{IsPlaced}
 use Rattle.vm_moves.specs.Views.{starts_of, position_of, frame_of}
-use Rattle.vm_step.specs.Shown.{Tables, IsNext, value_of, view_of}
-use Rattle.vm_unwinding.specs.Left.{receiving_of}
-use Rattle.vm_fetching.specs.declared.instruction.Fetched.{Fetched}
-use Rattle.vm_fetching.specs.Fetches.{IsVerifiedRow, Fetches}
-use Rattle.vm_states.specs.Means.{Program, IsMeant, Means}
-use Rattle.vm_states.specs.Ready.{IsFetched}
-use Rattle.vm_states.specs.Running.{IsOfModule}
+use Rattle.vm_importing.specs.vm_step.Shown.{Tables, IsNext, value_of, view_of}
+use Rattle.vm_importing.specs.vm_unwinding.Left.{receiving_of}
+use Rattle.vm_known.specs.vm_fetching.declared.instruction.Fetched.{Fetched}
+use Rattle.vm_known.specs.vm_fetching.Fetches.{IsVerifiedRow, Fetches}
+use Rattle.vm_known.specs.vm_states.Means.{Program, IsMeant, Means}
+use Rattle.vm_known.specs.vm_states.Ready.{IsFetched}
+use Rattle.vm_known.specs.vm_states.Running.{IsOfModule}
 use Rattle.vm_leaving.specs.Waiting.{IsWaiting}
 
 at_least : {A : Type 0} (xs : List A) (i : ℕ) → i < length xs → (x : A) × (slice_get xs i ≡ Some x)

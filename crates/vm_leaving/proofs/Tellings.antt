@@ -8,12 +8,12 @@ use Rattle.py_effects.specs.Heaps.{Registered}
 use Rattle.vm_walks.specs.Plain.{plain_name, plain_heap}
 use Rattle.vm_modules.specs.Registry.{Registry, plain_modules}
 use Rattle.vm_frames.specs.Calls.{Call}
-use Rattle.vm_unwinding.specs.declared.names.ModuleName.{ModuleName}
-use Rattle.vm_unwinding.specs.Names.{AreTablesOf}
-use Rattle.vm_unwinding.specs.Known.{IsKnownCall}
-use Rattle.vm_unwinding.specs.Left.{HasLast}
-use Rattle.vm_states.specs.Means.{Program}
-use Rattle.vm_states.specs.Running.{IsOfModule}
+use Rattle.vm_importing.specs.vm_unwinding.declared.names.ModuleName.{ModuleName}
+use Rattle.vm_importing.specs.vm_unwinding.Names.{AreTablesOf}
+use Rattle.vm_importing.specs.vm_unwinding.Known.{IsKnownCall}
+use Rattle.vm_importing.specs.vm_unwinding.Left.{HasLast}
+use Rattle.vm_known.specs.vm_states.Means.{Program}
+use Rattle.vm_known.specs.vm_states.Running.{IsOfModule}
 use Rattle.vm_known.specs.Acting.{Tells}
 use Rattle.vm_leaving.specs.Modules.{AreNames, AreRegistered}
 

@@ -11,15 +11,15 @@ use Rattle.bc_rows.specs.declared.row.Row.{Row}
 use Rattle.vm_faults.specs.declared.stop.Stop.{Stop}
 use Rattle.vm_modules.specs.Registry.{Registry}
 use Rattle.vm_frames.specs.Calls.{Calls}
-use Rattle.vm_step.specs.Outcomes.{outcome_of}
-use Rattle.vm_instructions.specs.Effects.{IsKnownStop}
-use Rattle.vm_unwinding.specs.declared.names.ModuleName.{ModuleName}
-use Rattle.vm_unwinding.specs.Ends.{with_modules}
-use Rattle.vm_fetching.specs.declared.operations.NameOp.TheVariants as name_ops
-use Rattle.vm_fetching.specs.declared.instruction.Fetched.{Fetched}
-use Rattle.vm_fetching.specs.declared.instruction.Instruction.TheVariants as fetched
-use Rattle.vm_states.specs.Means.{Program, Means}
-use Rattle.vm_states.specs.Ready.{IsReady}
+use Rattle.vm_importing.specs.vm_step.Outcomes.{outcome_of}
+use Rattle.vm_known.specs.vm_instructions.Effects.{IsKnownStop}
+use Rattle.vm_importing.specs.vm_unwinding.declared.names.ModuleName.{ModuleName}
+use Rattle.vm_importing.specs.vm_unwinding.Ends.{with_modules}
+use Rattle.vm_known.specs.vm_fetching.declared.operations.NameOp.TheVariants as name_ops
+use Rattle.vm_known.specs.vm_fetching.declared.instruction.Fetched.{Fetched}
+use Rattle.vm_known.specs.vm_fetching.declared.instruction.Instruction.TheVariants as fetched
+use Rattle.vm_known.specs.vm_states.Means.{Program, Means}
+use Rattle.vm_known.specs.vm_states.Ready.{IsReady}
 use Rattle.vm_known.specs.State.{IsState}
 use Rattle.vm_known.specs.Acting.{Tells}
 use Rattle.vm_leaving.specs.Modules.{AreNames, AreRegistered}

@@ -2,11 +2,11 @@
 use Rattle.vm_frames.specs.Calls.{Call, Calls, OfRunning}
 use Rattle.bc_offsets.specs.Positions.{Starts}
 use Rattle.vm_moves.specs.Views.{View, starts_of}
-use Rattle.vm_step.specs.Shown.{view_of, IsTop}
-use Rattle.vm_unwinding.specs.declared.causes.Cause.{Cause}
-use Rattle.vm_unwinding.specs.declared.causes.Cause.TheVariants as causes
-use Rattle.vm_unwinding.specs.Causes.{cause_slot}
-use Rattle.vm_states.specs.Means.{Program}
+use Rattle.vm_importing.specs.vm_step.Shown.{view_of, IsTop}
+use Rattle.vm_importing.specs.vm_unwinding.declared.causes.Cause.{Cause}
+use Rattle.vm_importing.specs.vm_unwinding.declared.causes.Cause.TheVariants as causes
+use Rattle.vm_importing.specs.vm_unwinding.Causes.{cause_slot}
+use Rattle.vm_known.specs.vm_states.Means.{Program}
 
 -- an instruction of the call starts at the target of a jump
 abbrev pub TargetStarts : View → Cause → Call → Type 0

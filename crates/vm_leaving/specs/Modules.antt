@@ -8,9 +8,9 @@ use Rattle.bc_library.specs.Shelf as shelves
 use Rattle.bc_machine.specs.Library.{Name}
 use Rattle.vm_walks.specs.Plain.{plain_name, plain_heap}
 use Rattle.vm_modules.specs.Registry.{Registry, plain_modules}
-use Rattle.vm_unwinding.specs.declared.names.ModuleName.{ModuleName}
-use Rattle.vm_unwinding.specs.Left.{HasLast}
-use Rattle.vm_states.specs.Means.{Program}
+use Rattle.vm_importing.specs.vm_unwinding.declared.names.ModuleName.{ModuleName}
+use Rattle.vm_importing.specs.vm_unwinding.Left.{HasLast}
+use Rattle.vm_known.specs.vm_states.Means.{Program}
 use Rattle.vm_leaving.specs.Own.{AreOwn}
 
 module _ (p : Program) where

@@ -12,21 +12,21 @@ use Rattle.py_effects.specs.Effect as effects
 use Rattle.bc_machine.specs.State.{State}
 use Rattle.bc_rows.specs.declared.row.Row.{Row}
 use Rattle.vm_faults.specs.declared.stop.Stop.{Stop}
-use Rattle.vm_raising.specs.declared.place.Place.{Place}
+use Rattle.vm_importing.specs.vm_raising.declared.place.Place.{Place}
 use Rattle.vm_modules.specs.Registry.{Registry}
 use Rattle.vm_frames.specs.Calls.{Calls}
-use Rattle.vm_step.specs.Outcomes.{world_of, stopping_of}
-use Rattle.vm_unwinding.specs.declared.names.ModuleName.{ModuleName}
-use Rattle.vm_unwinding.specs.declared.ends.End.{End}
-use Rattle.vm_unwinding.specs.declared.ends.After.TheVariants as afters
-use Rattle.vm_unwinding.specs.Ends.{with_modules, state_of}
-use Rattle.vm_unwinding.specs.Known.{IsKnownAfter}
-use Rattle.vm_fetching.specs.declared.operations.PlainOp.{PlainOp}
-use Rattle.vm_fetching.specs.declared.instruction.Fetched.{Fetched}
-use Rattle.vm_fetching.specs.declared.instruction.Instruction.TheVariants as fetched
-use Rattle.vm_fetching.specs.Fetches.{IsVerifiedRow}
-use Rattle.vm_states.specs.Means.{Program, Means}
-use Rattle.vm_states.specs.Ready.{IsReady}
+use Rattle.vm_importing.specs.vm_step.Outcomes.{world_of, stopping_of}
+use Rattle.vm_importing.specs.vm_unwinding.declared.names.ModuleName.{ModuleName}
+use Rattle.vm_importing.specs.vm_unwinding.declared.ends.End.{End}
+use Rattle.vm_importing.specs.vm_unwinding.declared.ends.After.TheVariants as afters
+use Rattle.vm_importing.specs.vm_unwinding.Ends.{with_modules, state_of}
+use Rattle.vm_importing.specs.vm_unwinding.Known.{IsKnownAfter}
+use Rattle.vm_known.specs.vm_fetching.declared.operations.PlainOp.{PlainOp}
+use Rattle.vm_known.specs.vm_fetching.declared.instruction.Fetched.{Fetched}
+use Rattle.vm_known.specs.vm_fetching.declared.instruction.Instruction.TheVariants as fetched
+use Rattle.vm_known.specs.vm_fetching.Fetches.{IsVerifiedRow}
+use Rattle.vm_known.specs.vm_states.Means.{Program, Means}
+use Rattle.vm_known.specs.vm_states.Ready.{IsReady}
 use Rattle.vm_known.specs.State.{IsState}
 use Rattle.vm_known.specs.Acting.{Tells, stepped}
 use Rattle.vm_leaving.specs.Modules.{AreNames, AreRegistered}

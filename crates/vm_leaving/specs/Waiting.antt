@@ -5,14 +5,14 @@ use Rattle.arena_heap.specs.declared.value.Value.{Value}
 use Rattle.bc_progress.specs.Fits.{Fits}
 use Rattle.vm_frames.specs.Calls.{Calls}
 use Rattle.vm_moves.specs.Placed.{IsPlaced}
-use Rattle.vm_step.specs.Shown.{view_of}
-use Rattle.vm_unwinding.specs.declared.ends.End.{End}
-use Rattle.vm_unwinding.specs.declared.ends.After.{After}
-use Rattle.vm_unwinding.specs.declared.ends.After.TheVariants as afters
-use Rattle.vm_unwinding.specs.Ends.{state_of}
-use Rattle.vm_unwinding.specs.Left.{receiving_of, after_of}
-use Rattle.vm_states.specs.Means.{Program}
-use Rattle.vm_states.specs.Running.{IsOfModule, HasRooms}
+use Rattle.vm_importing.specs.vm_step.Shown.{view_of}
+use Rattle.vm_importing.specs.vm_unwinding.declared.ends.End.{End}
+use Rattle.vm_importing.specs.vm_unwinding.declared.ends.After.{After}
+use Rattle.vm_importing.specs.vm_unwinding.declared.ends.After.TheVariants as afters
+use Rattle.vm_importing.specs.vm_unwinding.Ends.{state_of}
+use Rattle.vm_importing.specs.vm_unwinding.Left.{receiving_of, after_of}
+use Rattle.vm_known.specs.vm_states.Means.{Program}
+use Rattle.vm_known.specs.vm_states.Running.{IsOfModule, HasRooms}
 
 module _ (p : Program) where
   -- the first of the calls goes on behind its instruction with the value, as the plans have it

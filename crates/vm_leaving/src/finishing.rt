@@ -3,8 +3,8 @@
 ghost use Rattle.std.specs.Prelude.{◌≡◌};
 ghost use Rattle.bc_rows.specs.declared.row.Row.{Row as CodeRow};
 ghost use Rattle.vm_sights.specs.Sights.{under};
-ghost use Rattle.vm_fetching.specs.declared.operations.PlainOp.TheVariants as plain_ops;
-ghost use Rattle.vm_states.specs.Means.{Program};
+ghost use Rattle.vm_known.specs.vm_fetching.declared.operations.PlainOp.TheVariants as plain_ops;
+ghost use Rattle.vm_known.specs.vm_states.Means.{Program};
 ghost use Rattle.vm_leaving.specs.Keeping.{KeepsCause};
 ghost use Rattle.vm_leaving.specs.Running.{fetched_plain, RunsWith, RunsOnBehind};
 
@@ -15,10 +15,10 @@ use bc_machine::sound_law;
 use bc_progress::progress_law;
 use bc_rows::Rows;
 use vm_frames::Frames;
+use vm_importing::{End, ModuleName, end_finally};
+use vm_known::keeps_law;
 use vm_modules::Modules;
-use vm_states::keeps_law;
 use vm_tops::tops_law;
-use vm_unwinding::{End, ModuleName, end_finally};
 
 /// END_FINALLY, where it was fetched for the running call, which goes on with what the finally kept: at `end`, behind the
 /// instruction, with an exception, with a return, or with a jump. It answers how the run ends, if it does.

@@ -11,7 +11,7 @@ ghost use Rattle.vm_sights.specs.Sights.{under, sight};
 ghost use Rattle.vm_modules.specs.Registry.{plain_modules};
 ghost use Rattle.vm_importing.specs.declared.importing.Import.TheVariants as imports;
 ghost use Rattle.vm_importing.specs.Importing.{AreOperands, IsImport};
-ghost use Rattle.vm_states.specs.Means.{Program};
+ghost use Rattle.vm_known.specs.vm_states.Means.{Program};
 ghost use Rattle.vm_leaving.specs.Running.{RunsWith};
 ghost use Rattle.vm_leaving.specs.Importing.{fetched_import, ImportsBehind};
 
@@ -22,13 +22,11 @@ use bc_progress::room_law;
 use bc_rows::{Rows, rows_law};
 use vm_faults::Stop;
 use vm_frames::Frames;
-use vm_importing::{Import, begin_import, import_name, put_import, refuse_import};
-use vm_known::known_law;
+use vm_importing::{Import, ModuleName, begin_import, import_name, put_import, refuse_import};
+use vm_known::{keeps_law, known_law};
 use vm_modules::Modules;
 use vm_standing::standing_law;
-use vm_states::keeps_law;
 use vm_tops::tops_law;
-use vm_unwinding::ModuleName;
 
 /// The locals of the outermost code of a module, which are fewer than 2^32.
 fn outermost_locals(rows: &Rows<'_>, number: u32) -> u32

@@ -12,3 +12,5 @@ pub use importing::import_on;
 pub use law::registered_law;
 pub use raising::{raise_again_on, raise_on, stop_on};
 pub use returning::return_on;
+pub use vm_importing::{End, ModuleName};
+pub use vm_known::{Fetched, Instruction, NameOp, NumberOp, PlainOp};

@@ -4,11 +4,11 @@ ghost use Rattle.std.specs.Prelude.{◌≡◌, ◌<◌, ℕ, length, Err};
 ghost use Rattle.bc_library.specs.Shelf.{Shelf};
 ghost use Rattle.vm_sights.specs.Sights.{under, KnowsAnswer};
 ghost use Rattle.vm_frames.specs.Calls.{OfRunning};
-ghost use Rattle.vm_fetching.specs.declared.instruction.Fetched.{Fetched as FetchedHere};
-ghost use Rattle.vm_fetching.specs.declared.operations.PlainOp.TheVariants as plain_ops;
-ghost use Rattle.vm_fetching.specs.Fetches.{IsVerifiedRow};
-ghost use Rattle.vm_states.specs.Means.{Program, Means};
-ghost use Rattle.vm_states.specs.Ready.{IsReady};
+ghost use Rattle.vm_known.specs.vm_fetching.declared.instruction.Fetched.{Fetched as FetchedHere};
+ghost use Rattle.vm_known.specs.vm_fetching.declared.operations.PlainOp.TheVariants as plain_ops;
+ghost use Rattle.vm_known.specs.vm_fetching.Fetches.{IsVerifiedRow};
+ghost use Rattle.vm_known.specs.vm_states.Means.{Program, Means};
+ghost use Rattle.vm_known.specs.vm_states.Ready.{IsReady};
 ghost use Rattle.vm_known.specs.State.{IsState};
 ghost use Rattle.vm_known.specs.Acting.{Tells};
 ghost use Rattle.vm_leaving.specs.Modules.{AreNames};
@@ -18,13 +18,11 @@ use arena_heap::{Arena, Constants};
 use bc_machine::sound_law;
 use bc_rows::Row;
 use vm_faults::Stop;
-use vm_fetching::line_of;
 use vm_frames::Frames;
+use vm_importing::{End, ModuleName, Place, raise, raise_last, raise_obj};
+use vm_known::{keeps_law, line_of};
 use vm_modules::Modules;
-use vm_raising::Place;
-use vm_states::keeps_law;
 use vm_tops::tops_law;
-use vm_unwinding::{End, ModuleName, raise, raise_last, raise_obj};
 
 /// The place of the running call's instruction, in the row of its code. It walks through the row's line table.
 fn place_in(frames: &Frames, row: &Row<'_>) -> Place

@@ -8,10 +8,10 @@ ghost use Rattle.arena_heap.specs.declared.value.ConstNo.{ConstNo as TupleName};
 ghost use Rattle.bc_rows.specs.declared.row.Row.{Row as CodeRow};
 ghost use Rattle.vm_faults.specs.Faults.{IsKnown};
 ghost use Rattle.vm_sights.specs.Sights.{under};
-ghost use Rattle.vm_fetching.specs.declared.operations.PlainOp.TheVariants as plain_ops;
-ghost use Rattle.vm_unwinding.specs.Known.{IsKnownCall, IsKnownAfter};
-ghost use Rattle.vm_unwinding.specs.declared.ends.After.TheVariants as afters;
-ghost use Rattle.vm_states.specs.Means.{Program, Means};
+ghost use Rattle.vm_known.specs.vm_fetching.declared.operations.PlainOp.TheVariants as plain_ops;
+ghost use Rattle.vm_importing.specs.vm_unwinding.Known.{IsKnownCall, IsKnownAfter};
+ghost use Rattle.vm_importing.specs.vm_unwinding.declared.ends.After.TheVariants as afters;
+ghost use Rattle.vm_known.specs.vm_states.Means.{Program, Means};
 ghost use Rattle.vm_leaving.specs.Running.{fetched_plain, RunsWith, RunsOnBehind};
 ghost use Rattle.vm_leaving.specs.Waiting.{IsWaiting, IsSettling, Settles};
 
@@ -20,14 +20,13 @@ use bc_library::Library;
 use bc_machine::sound_law;
 use bc_progress::{progress_law, room_law};
 use bc_rows::{Rows, rows_law};
-use vm_fetching::{fetch, step_law};
 use vm_frames::Frames;
+use vm_importing::{After, End, ModuleName, receive, return_value};
+use vm_known::{fetch, keeps_law, step_law};
 use vm_modules::Modules;
 use vm_moves::placed_law;
 use vm_standing::standing_law;
-use vm_states::keeps_law;
 use vm_tops::tops_law;
-use vm_unwinding::{After, End, ModuleName, receive, return_value};
 
 /// The call that waits takes the value of the one that it made, and goes on behind its instruction, which is fetched again.
 fn take(frames: &mut Frames, library: &Library, rows: &Rows<'_>, v: Value)

@@ -12,19 +12,19 @@ use Rattle.bc_rows.specs.declared.row.Row.{Row}
 use Rattle.py_effects.specs.Ends.{new_world}
 use Rattle.vm_modules.specs.Registry.{Registry}
 use Rattle.vm_frames.specs.Calls.{Call, Calls, OfRunning}
-use Rattle.vm_step.specs.Shown.{running_of}
-use Rattle.vm_step.specs.Outcomes.{world_of}
-use Rattle.vm_unwinding.specs.declared.ends.End.{End}
-use Rattle.vm_unwinding.specs.Ends.{with_modules, state_of}
-use Rattle.vm_fetching.specs.declared.instruction.Fetched.{Fetched}
-use Rattle.vm_states.specs.Means.{Program}
-use Rattle.vm_known.specs.State.{IsState}
+use Rattle.vm_cache.specs.vm_step.Shown.{running_of}
+use Rattle.vm_cache.specs.vm_step.Outcomes.{world_of}
+use Rattle.vm_hot.specs.vm_unwinding.declared.ends.End.{End}
+use Rattle.vm_hot.specs.vm_unwinding.Ends.{with_modules, state_of}
+use Rattle.vm_cache.specs.vm_fetching.declared.instruction.Fetched.{Fetched}
+use Rattle.vm_cache.specs.vm_states.Means.{Program}
+use Rattle.vm_starting.specs.vm_known.State.{IsState}
 use Rattle.vm_kept.specs.Kept.{HoldsKept}
-use Rattle.vm_calling.specs.Runs.{IsFetchedAt}
-use Rattle.vm_leaving.specs.Modules.{AreRegistered}
-use Rattle.vm_leaving.specs.Running.{IsRun, stepped_with}
-use Rattle.vm_operating.specs.Keeping.{ActsKeeping}
-use Rattle.vm_programs.specs.Programs.{IsProgramOf}
+use Rattle.vm_kept.specs.vm_calling.Runs.{IsFetchedAt}
+use Rattle.vm_kept.specs.vm_leaving.Modules.{AreRegistered}
+use Rattle.vm_kept.specs.vm_leaving.Running.{IsRun, stepped_with}
+use Rattle.vm_hot.specs.vm_operating.Keeping.{ActsKeeping}
+use Rattle.vm_starting.specs.vm_programs.Programs.{IsProgramOf}
 use Rattle.vm_running.specs.Comes.{ComesOn}
 use Rattle.vm_cache.specs.Kept.{IsFetchedOf}
 use Rattle.vm_starting.specs.declared.opening.Vm.{Vm}

@@ -9,20 +9,20 @@ use Rattle.bc_machine.specs.Machine.{steps}
 use Rattle.bc_machine.specs.State.{State}
 use Rattle.bc_machine.specs.Step.{step}
 use Rattle.bc_rows.specs.declared.row.Row.{Row}
-use Rattle.vm_step.specs.Shown.{running_of}
-use Rattle.vm_unwinding.specs.declared.ends.End.{End}
-use Rattle.vm_unwinding.specs.Ends.{with_modules}
-use Rattle.vm_fetching.specs.declared.operations.NumberOp.{NumberOp}
-use Rattle.vm_fetching.specs.declared.instruction.Fetched.{Fetched}
-use Rattle.vm_fetching.specs.declared.instruction.Instruction.TheVariants as fetched
-use Rattle.vm_invoking.specs.declared.calling.Invocation.{Invocation}
-use Rattle.vm_states.specs.Means.{Program}
-use Rattle.vm_calling.specs.Called as called
-use Rattle.vm_calling.specs.Called.{visits}
-use Rattle.vm_calling.specs.Taken.{IsTaken}
+use Rattle.vm_cache.specs.vm_step.Shown.{running_of}
+use Rattle.vm_hot.specs.vm_unwinding.declared.ends.End.{End}
+use Rattle.vm_hot.specs.vm_unwinding.Ends.{with_modules}
+use Rattle.vm_cache.specs.vm_fetching.declared.operations.NumberOp.{NumberOp}
+use Rattle.vm_cache.specs.vm_fetching.declared.instruction.Fetched.{Fetched}
+use Rattle.vm_cache.specs.vm_fetching.declared.instruction.Instruction.TheVariants as fetched
+use Rattle.vm_starting.specs.vm_invoking.declared.calling.Invocation.{Invocation}
+use Rattle.vm_cache.specs.vm_states.Means.{Program}
+use Rattle.vm_kept.specs.vm_calling.Called as called
+use Rattle.vm_kept.specs.vm_calling.Called.{visits}
+use Rattle.vm_kept.specs.vm_calling.Taken.{IsTaken}
 use Rattle.vm_kept.specs.Kept.{HoldsKept}
-use Rattle.vm_leaving.specs.Running.{IsRun}
-use Rattle.vm_programs.specs.Programs.{IsProgramOf}
+use Rattle.vm_kept.specs.vm_leaving.Running.{IsRun}
+use Rattle.vm_starting.specs.vm_programs.Programs.{IsProgramOf}
 use Rattle.vm_running.specs.Calling as calling
 use Rattle.vm_starting.specs.declared.opening.Vm.{Vm}
 use Rattle.vm_machine.specs.Acting.{HasFetched, Called, seen_by}

@@ -10,20 +10,20 @@ use Rattle.bc_library.specs.Shelf.{Shelf}
 use Rattle.bc_rows.specs.declared.row.Row.{Row}
 use Rattle.vm_modules.specs.Registry.{Registry}
 use Rattle.vm_frames.specs.Calls.{Call, Calls}
-use Rattle.vm_unwinding.specs.declared.ends.End.{End}
-use Rattle.vm_unwinding.specs.declared.names.ModuleName.{ModuleName}
-use Rattle.vm_fetching.specs.declared.instruction.Fetched.{Fetched}
-use Rattle.vm_fetching.specs.declared.instruction.Instruction.{Instruction}
-use Rattle.vm_fetching.specs.Fetches.{IsVerifiedRow}
-use Rattle.vm_invoking.specs.Operands.{Given}
-use Rattle.vm_states.specs.Means.{Program, Means}
-use Rattle.vm_states.specs.Ready.{IsReady}
-use Rattle.vm_known.specs.Acting.{Tells, RunsOver}
-use Rattle.vm_known.specs.State.{IsState}
-use Rattle.vm_leaving.specs.Modules.{AreNames, AreRegistered}
-use Rattle.vm_leaving.specs.Running.{RunsWith, RunsOn}
-use Rattle.vm_calling.specs.Runs.{RunsWithin}
-use Rattle.vm_programs.specs.Programs.{IsProgramOf}
+use Rattle.vm_hot.specs.vm_unwinding.declared.ends.End.{End}
+use Rattle.vm_hot.specs.vm_unwinding.declared.names.ModuleName.{ModuleName}
+use Rattle.vm_cache.specs.vm_fetching.declared.instruction.Fetched.{Fetched}
+use Rattle.vm_cache.specs.vm_fetching.declared.instruction.Instruction.{Instruction}
+use Rattle.vm_cache.specs.vm_fetching.Fetches.{IsVerifiedRow}
+use Rattle.vm_starting.specs.vm_invoking.Operands.{Given}
+use Rattle.vm_cache.specs.vm_states.Means.{Program, Means}
+use Rattle.vm_cache.specs.vm_states.Ready.{IsReady}
+use Rattle.vm_starting.specs.vm_known.Acting.{Tells, RunsOver}
+use Rattle.vm_starting.specs.vm_known.State.{IsState}
+use Rattle.vm_kept.specs.vm_leaving.Modules.{AreNames, AreRegistered}
+use Rattle.vm_kept.specs.vm_leaving.Running.{RunsWith, RunsOn}
+use Rattle.vm_kept.specs.vm_calling.Runs.{RunsWithin}
+use Rattle.vm_starting.specs.vm_programs.Programs.{IsProgramOf}
 use Rattle.vm_running.specs.Comes.{ComesOn}
 use Rattle.vm_starting.specs.declared.opening.Vm.{Vm}
 use Rattle.vm_machine.proofs.Texts.{few_slots}

@@ -9,19 +9,19 @@ use Rattle.arena_objects.specs.Keys.{AllTold}
 use Rattle.bc_library.specs.Constants.{items_at, text_at}
 use Rattle.bc_library.specs.Shelf.{Shelf}
 use Rattle.vm_frames.specs.Calls.{Call, Calls}
-use Rattle.vm_step.specs.Shown.{running_of}
-use Rattle.vm_unwinding.specs.declared.names.ModuleName.{ModuleName}
-use Rattle.vm_unwinding.specs.declared.ends.End.{End}
-use Rattle.vm_unwinding.specs.declared.ends.After.TheVariants as afters
-use Rattle.vm_unwinding.specs.Ends.{state_of}
-use Rattle.vm_unwinding.specs.Known.{IsKnownAfter}
-use Rattle.vm_invoking.specs.Operands.{Given}
-use Rattle.vm_states.specs.Means.{Program}
-use Rattle.vm_known.specs.Acting.{Tells}
-use Rattle.vm_known.specs.State.{IsState}
+use Rattle.vm_cache.specs.vm_step.Shown.{running_of}
+use Rattle.vm_hot.specs.vm_unwinding.declared.names.ModuleName.{ModuleName}
+use Rattle.vm_hot.specs.vm_unwinding.declared.ends.End.{End}
+use Rattle.vm_hot.specs.vm_unwinding.declared.ends.After.TheVariants as afters
+use Rattle.vm_hot.specs.vm_unwinding.Ends.{state_of}
+use Rattle.vm_hot.specs.vm_unwinding.Known.{IsKnownAfter}
+use Rattle.vm_starting.specs.vm_invoking.Operands.{Given}
+use Rattle.vm_cache.specs.vm_states.Means.{Program}
+use Rattle.vm_starting.specs.vm_known.Acting.{Tells}
+use Rattle.vm_starting.specs.vm_known.State.{IsState}
 use Rattle.vm_kept.specs.Kept.{HoldsKept}
-use Rattle.vm_leaving.specs.Running.{IsRun}
-use Rattle.vm_programs.specs.Programs.{IsProgramOf}
+use Rattle.vm_kept.specs.vm_leaving.Running.{IsRun}
+use Rattle.vm_starting.specs.vm_programs.Programs.{IsProgramOf}
 use Rattle.vm_starting.specs.declared.opening.Vm.{Vm}
 use Rattle.vm_starting.specs.Opened.{HasMemory}
 use Rattle.vm_starting.specs.Titles.{AreTitles}

@@ -13,17 +13,17 @@ use Rattle.vm_faults.specs.declared.stop.Stop.{Stop}
 use Rattle.vm_modules.specs.Registry.{Registry}
 use Rattle.vm_frames.specs.Calls.{Call, Calls, on_running}
 use Rattle.vm_moves.specs.Views.{frame_of}
-use Rattle.vm_step.specs.Shown.{view_of, running_of}
-use Rattle.vm_step.specs.Outcomes.{world_of, stopping_of}
-use Rattle.vm_unwinding.specs.declared.ends.End.{End}
-use Rattle.vm_unwinding.specs.Ends.{with_modules, state_of}
-use Rattle.vm_fetching.specs.declared.operations.NumberOp.{NumberOp}
-use Rattle.vm_fetching.specs.declared.instruction.Instruction.TheVariants as fetched
-use Rattle.vm_invoking.specs.Operands.{operands_count}
-use Rattle.vm_invoking.specs.Putting.{with_value}
-use Rattle.vm_states.specs.Means.{Program, Means}
-use Rattle.vm_states.specs.Ready.{IsReady}
-use Rattle.vm_calling.specs.Taken.{CallsValue, callee_slots}
+use Rattle.vm_cache.specs.vm_step.Shown.{view_of, running_of}
+use Rattle.vm_cache.specs.vm_step.Outcomes.{world_of, stopping_of}
+use Rattle.vm_hot.specs.vm_unwinding.declared.ends.End.{End}
+use Rattle.vm_hot.specs.vm_unwinding.Ends.{with_modules, state_of}
+use Rattle.vm_cache.specs.vm_fetching.declared.operations.NumberOp.{NumberOp}
+use Rattle.vm_cache.specs.vm_fetching.declared.instruction.Instruction.TheVariants as fetched
+use Rattle.vm_starting.specs.vm_invoking.Operands.{operands_count}
+use Rattle.vm_starting.specs.vm_invoking.Putting.{with_value}
+use Rattle.vm_cache.specs.vm_states.Means.{Program, Means}
+use Rattle.vm_cache.specs.vm_states.Ready.{IsReady}
+use Rattle.vm_kept.specs.vm_calling.Taken.{CallsValue, callee_slots}
 use Rattle.vm_kept.specs.Kept.{KeepCalls, HoldsKept}
 use Rattle.vm_running.specs.Calling.{Went, steps, gives, raises, same}
 use Rattle.vm_machine.proofs.Stepped.{StepLaw}

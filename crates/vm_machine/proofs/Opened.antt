@@ -19,16 +19,16 @@ use Rattle.vm_modules.specs.declared.makings.Made.{Made}
 use Rattle.vm_modules.specs.Effects.{IsMaking}
 use Rattle.vm_modules.specs.Registry.{Registry, with_entry}
 use Rattle.vm_frames.specs.Calls.{Call, Calls}
-use Rattle.vm_unwinding.specs.declared.ends.End.{End}
-use Rattle.vm_unwinding.specs.declared.ends.End.TheVariants as ends
-use Rattle.vm_unwinding.specs.declared.ends.After.TheVariants as afters
-use Rattle.vm_unwinding.specs.Known.{IsKnownAfter}
-use Rattle.vm_states.specs.Means.{Program}
-use Rattle.vm_states.specs.Running.{IsRunning}
-use Rattle.vm_known.specs.State.{IsState}
+use Rattle.vm_hot.specs.vm_unwinding.declared.ends.End.{End}
+use Rattle.vm_hot.specs.vm_unwinding.declared.ends.End.TheVariants as ends
+use Rattle.vm_hot.specs.vm_unwinding.declared.ends.After.TheVariants as afters
+use Rattle.vm_hot.specs.vm_unwinding.Known.{IsKnownAfter}
+use Rattle.vm_cache.specs.vm_states.Means.{Program}
+use Rattle.vm_cache.specs.vm_states.Running.{IsRunning}
+use Rattle.vm_starting.specs.vm_known.State.{IsState}
 use Rattle.vm_kept.specs.Kept.{HoldsKept}
-use Rattle.vm_leaving.specs.Modules.{AreRegistered}
-use Rattle.vm_programs.specs.Programs.{IsProgramOf, IsRunnable}
+use Rattle.vm_kept.specs.vm_leaving.Modules.{AreRegistered}
+use Rattle.vm_starting.specs.vm_programs.Programs.{IsProgramOf, IsRunnable}
 use Rattle.vm_starting.specs.declared.opening.Vm.{Vm}
 use Rattle.vm_starting.specs.Opened.{HasMemory, IsBegun, state_in}
 use Rattle.vm_starting.specs.Starting.{main_call}

@@ -21,27 +21,27 @@ use Rattle.vm_frames.specs.declared.slot.Slot.{Slot}
 use Rattle.vm_frames.specs.declared.slot.Slot.TheVariants as slots
 use Rattle.vm_frames.specs.Calls.{Call, Calls}
 use Rattle.vm_moves.specs.Views.{slots_of, starts_of, frame_of}
-use Rattle.vm_step.specs.Shown.{Tables, value_of, view_of, running_of, step_of}
-use Rattle.vm_step.specs.Outcomes.{world_of}
-use Rattle.vm_instructions.specs.Operations as operations
-use Rattle.vm_operating.specs.Operators.{value_in, visits_over, visits_binary}
-use Rattle.vm_calls.specs.Callees.{plain_callee}
-use Rattle.vm_fetching.specs.declared.instruction.Fetched.{Fetched}
-use Rattle.vm_fetching.specs.declared.instruction.Instruction.{Instruction}
-use Rattle.vm_fetching.specs.declared.instruction.Instruction.TheVariants as fetched
-use Rattle.vm_fetching.specs.declared.operations.NumberOp.{NumberOp}
-use Rattle.vm_fetching.specs.Operations.{number_op}
-use Rattle.vm_fetching.specs.Shows.{item_of_fetched}
-use Rattle.vm_invoking.specs.declared.calling.Invocation.{Invocation}
-use Rattle.vm_invoking.specs.Invoking.{visits_of, calling_of, Invokes}
-use Rattle.vm_invoking.specs.Layouts.{Layout, tables_of}
-use Rattle.vm_invoking.specs.Operands.{Given}
-use Rattle.vm_states.specs.Means.{Program}
-use Rattle.vm_states.specs.Ready.{IsReady}
-use Rattle.vm_known.specs.Acting.{stepped}
-use Rattle.vm_calling.specs.Called.{visits}
-use Rattle.vm_calling.specs.Taken.{IsTaken}
-use Rattle.vm_programs.specs.Programs.{IsProgramOf}
+use Rattle.vm_cache.specs.vm_step.Shown.{Tables, value_of, view_of, running_of, step_of}
+use Rattle.vm_cache.specs.vm_step.Outcomes.{world_of}
+use Rattle.vm_hot.specs.vm_instructions.Operations as operations
+use Rattle.vm_hot.specs.vm_operating.Operators.{value_in, visits_over, visits_binary}
+use Rattle.vm_starting.specs.vm_calls.Callees.{plain_callee}
+use Rattle.vm_cache.specs.vm_fetching.declared.instruction.Fetched.{Fetched}
+use Rattle.vm_cache.specs.vm_fetching.declared.instruction.Instruction.{Instruction}
+use Rattle.vm_cache.specs.vm_fetching.declared.instruction.Instruction.TheVariants as fetched
+use Rattle.vm_cache.specs.vm_fetching.declared.operations.NumberOp.{NumberOp}
+use Rattle.vm_cache.specs.vm_fetching.Operations.{number_op}
+use Rattle.vm_cache.specs.vm_fetching.Shows.{item_of_fetched}
+use Rattle.vm_starting.specs.vm_invoking.declared.calling.Invocation.{Invocation}
+use Rattle.vm_starting.specs.vm_invoking.Invoking.{visits_of, calling_of, Invokes}
+use Rattle.vm_starting.specs.vm_invoking.Layouts.{Layout, tables_of}
+use Rattle.vm_starting.specs.vm_invoking.Operands.{Given}
+use Rattle.vm_cache.specs.vm_states.Means.{Program}
+use Rattle.vm_cache.specs.vm_states.Ready.{IsReady}
+use Rattle.vm_starting.specs.vm_known.Acting.{stepped}
+use Rattle.vm_kept.specs.vm_calling.Called.{visits}
+use Rattle.vm_kept.specs.vm_calling.Taken.{IsTaken}
+use Rattle.vm_starting.specs.vm_programs.Programs.{IsProgramOf}
 use Rattle.vm_running.specs.Values.{value_visits}
 use Rattle.vm_machine.proofs.Machines.{in_program}
 

@@ -8,17 +8,17 @@ use Rattle.bc_rows.specs.declared.row.Row.{Row}
 use Rattle.bc_rows.specs.Codes.{code_at}
 use Rattle.bc_rows.specs.Rows.{IsRow}
 use Rattle.vm_frames.specs.Calls.{Call, Calls, OfRunning}
-use Rattle.vm_unwinding.specs.declared.names.ModuleName.{ModuleName}
-use Rattle.vm_unwinding.specs.Left.{HasLast}
-use Rattle.vm_unwinding.specs.Names.{AreTablesOf}
-use Rattle.vm_fetching.specs.declared.instruction.Fetched.{Fetched}
-use Rattle.vm_fetching.specs.Fetches.{IsVerifiedRow}
-use Rattle.vm_states.specs.Means.{Program, Means}
-use Rattle.vm_states.specs.Ready.{IsFetched, IsReady}
-use Rattle.vm_states.specs.Running.{FitCalls, IsRunning}
-use Rattle.vm_leaving.specs.Modules.{AreNames}
-use Rattle.vm_calling.specs.Runs.{IsFetchedAt}
-use Rattle.vm_programs.specs.Programs.{IsProgramOf}
+use Rattle.vm_hot.specs.vm_unwinding.declared.names.ModuleName.{ModuleName}
+use Rattle.vm_hot.specs.vm_unwinding.Left.{HasLast}
+use Rattle.vm_hot.specs.vm_unwinding.Names.{AreTablesOf}
+use Rattle.vm_cache.specs.vm_fetching.declared.instruction.Fetched.{Fetched}
+use Rattle.vm_cache.specs.vm_fetching.Fetches.{IsVerifiedRow}
+use Rattle.vm_cache.specs.vm_states.Means.{Program, Means}
+use Rattle.vm_cache.specs.vm_states.Ready.{IsFetched, IsReady}
+use Rattle.vm_cache.specs.vm_states.Running.{FitCalls, IsRunning}
+use Rattle.vm_kept.specs.vm_leaving.Modules.{AreNames}
+use Rattle.vm_kept.specs.vm_calling.Runs.{IsFetchedAt}
+use Rattle.vm_starting.specs.vm_programs.Programs.{IsProgramOf}
 use Rattle.vm_starting.specs.declared.opening.Vm.{Vm}
 use Rattle.vm_starting.specs.Titles.{AreTitles}
 use Rattle.vm_machine.specs.Acting.{HasFetched}

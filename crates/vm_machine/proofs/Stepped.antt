@@ -13,15 +13,15 @@ use Rattle.bc_machine.specs.Step.{step}
 use Rattle.bc_rows.specs.declared.row.Row.{Row}
 use Rattle.vm_modules.specs.Registry.{Registry}
 use Rattle.vm_frames.specs.Calls.{Calls}
-use Rattle.vm_step.specs.Shown.{running_of}
-use Rattle.vm_step.specs.Outcomes.{world_of}
-use Rattle.vm_unwinding.specs.declared.ends.End.{End}
-use Rattle.vm_unwinding.specs.Ends.{with_modules, state_of}
-use Rattle.vm_fetching.specs.declared.instruction.Fetched.{Fetched}
-use Rattle.vm_states.specs.Means.{Program, Means}
+use Rattle.vm_cache.specs.vm_step.Shown.{running_of}
+use Rattle.vm_cache.specs.vm_step.Outcomes.{world_of}
+use Rattle.vm_hot.specs.vm_unwinding.declared.ends.End.{End}
+use Rattle.vm_hot.specs.vm_unwinding.Ends.{with_modules, state_of}
+use Rattle.vm_cache.specs.vm_fetching.declared.instruction.Fetched.{Fetched}
+use Rattle.vm_cache.specs.vm_states.Means.{Program, Means}
 use Rattle.vm_kept.specs.Kept.{HoldsKept}
-use Rattle.vm_leaving.specs.Running.{stepped_with}
-use Rattle.vm_programs.specs.Programs.{IsProgramOf}
+use Rattle.vm_kept.specs.vm_leaving.Running.{stepped_with}
+use Rattle.vm_starting.specs.vm_programs.Programs.{IsProgramOf}
 use Rattle.vm_running.specs.Values.{value_visits}
 use Rattle.vm_starting.specs.declared.opening.Vm.{Vm}
 use Rattle.vm_machine.specs.Acting.{HasFetched, Acted, Stepped}

@@ -5,13 +5,13 @@ use Rattle.arena_heap.specs.declared.value.Value.{Value}
 use Rattle.arena_heap.specs.declared.value.StrNo.{StrNo}
 use Rattle.arena_heap.specs.declared.value.ConstNo.{ConstNo}
 use Rattle.arena_heap.specs.declared.value.StrNo.TheVariants as strs
-use Rattle.vm_fetching.specs.declared.instruction.Instruction.{Instruction}
-use Rattle.vm_fetching.specs.declared.instruction.Instruction.TheVariants as fetched
-use Rattle.vm_fetching.specs.declared.operations.PlainOp.TheVariants as plain_ops
-use Rattle.vm_fetching.specs.declared.operations.NumberOp.TheVariants as number_ops
-use Rattle.vm_fetching.specs.declared.operations.NameOp.TheVariants as name_ops
+use Rattle.vm_cache.specs.vm_fetching.declared.instruction.Instruction.{Instruction}
+use Rattle.vm_cache.specs.vm_fetching.declared.instruction.Instruction.TheVariants as fetched
+use Rattle.vm_cache.specs.vm_fetching.declared.operations.PlainOp.TheVariants as plain_ops
+use Rattle.vm_cache.specs.vm_fetching.declared.operations.NumberOp.TheVariants as number_ops
+use Rattle.vm_cache.specs.vm_fetching.declared.operations.NameOp.TheVariants as name_ops
 use Rattle.vm_frames.specs.Calls.{Call}
-use Rattle.vm_calling.specs.Taken.{CallsValue}
+use Rattle.vm_kept.specs.vm_calling.Taken.{CallsValue}
 use Rattle.vm_running.specs.Leaves.{LeavesCall}
 use Rattle.vm_running.specs.Values.{ActsOnValues, value_visits}
 use Rattle.vm_machine.specs.declared.forms.Form.{Form}

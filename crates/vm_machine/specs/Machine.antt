@@ -6,17 +6,17 @@ use Rattle.bc_library.specs.Constants.{items_at, text_at}
 use Rattle.bc_library.specs.Shelf.{Shelf}
 use Rattle.bc_machine.specs.State.{State, Halted}
 use Rattle.vm_frames.specs.Calls.{Call}
-use Rattle.vm_step.specs.Shown.{running_of}
-use Rattle.vm_step.specs.Outcomes.{world_of}
-use Rattle.vm_unwinding.specs.declared.ends.End.{End}
-use Rattle.vm_unwinding.specs.declared.ends.After.TheVariants as afters
-use Rattle.vm_unwinding.specs.Ends.{end_of, with_modules}
-use Rattle.vm_unwinding.specs.Known.{IsKnownAfter}
-use Rattle.vm_states.specs.Means.{Program}
-use Rattle.vm_known.specs.State.{IsState}
+use Rattle.vm_cache.specs.vm_step.Shown.{running_of}
+use Rattle.vm_cache.specs.vm_step.Outcomes.{world_of}
+use Rattle.vm_hot.specs.vm_unwinding.declared.ends.End.{End}
+use Rattle.vm_hot.specs.vm_unwinding.declared.ends.After.TheVariants as afters
+use Rattle.vm_hot.specs.vm_unwinding.Ends.{end_of, with_modules}
+use Rattle.vm_hot.specs.vm_unwinding.Known.{IsKnownAfter}
+use Rattle.vm_cache.specs.vm_states.Means.{Program}
+use Rattle.vm_starting.specs.vm_known.State.{IsState}
 use Rattle.vm_kept.specs.Kept.{HoldsKept}
-use Rattle.vm_leaving.specs.Modules.{AreRegistered}
-use Rattle.vm_programs.specs.Programs.{IsRunnable, IsProgramOf}
+use Rattle.vm_kept.specs.vm_leaving.Modules.{AreRegistered}
+use Rattle.vm_starting.specs.vm_programs.Programs.{IsRunnable, IsProgramOf}
 use Rattle.vm_starting.specs.declared.opening.Vm.{Vm}
 use Rattle.vm_starting.specs.Opened.{HasMemory}
 

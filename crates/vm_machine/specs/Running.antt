@@ -8,19 +8,19 @@ use Rattle.bc_library.specs.Shelf.{Shelf}
 use Rattle.bc_machine.specs.Machine.{steps}
 use Rattle.bc_machine.specs.Step.{step}
 use Rattle.bc_rows.specs.declared.row.Row.{Row}
-use Rattle.vm_outputs.specs.Prints.{Puts}
+use Rattle.vm_starting.specs.vm_outputs.Prints.{Puts}
 use Rattle.vm_frames.specs.Calls.{Call}
-use Rattle.vm_step.specs.Shown.{running_of}
-use Rattle.vm_unwinding.specs.Ends.{with_modules}
-use Rattle.vm_fetching.specs.declared.operations.NumberOp.{NumberOp}
-use Rattle.vm_fetching.specs.declared.instruction.Instruction.TheVariants as fetched
-use Rattle.vm_invoking.specs.declared.calling.Invocation.{Invocation}
-use Rattle.vm_invoking.specs.Operands.{Given}
-use Rattle.vm_states.specs.Means.{Program}
-use Rattle.vm_states.specs.Ready.{IsReady}
-use Rattle.vm_calling.specs.Called as called
-use Rattle.vm_calling.specs.Taken.{IsTaken}
-use Rattle.vm_programs.specs.Programs.{IsProgramOf}
+use Rattle.vm_cache.specs.vm_step.Shown.{running_of}
+use Rattle.vm_hot.specs.vm_unwinding.Ends.{with_modules}
+use Rattle.vm_cache.specs.vm_fetching.declared.operations.NumberOp.{NumberOp}
+use Rattle.vm_cache.specs.vm_fetching.declared.instruction.Instruction.TheVariants as fetched
+use Rattle.vm_starting.specs.vm_invoking.declared.calling.Invocation.{Invocation}
+use Rattle.vm_starting.specs.vm_invoking.Operands.{Given}
+use Rattle.vm_cache.specs.vm_states.Means.{Program}
+use Rattle.vm_cache.specs.vm_states.Ready.{IsReady}
+use Rattle.vm_kept.specs.vm_calling.Called as called
+use Rattle.vm_kept.specs.vm_calling.Taken.{IsTaken}
+use Rattle.vm_starting.specs.vm_programs.Programs.{IsProgramOf}
 use Rattle.vm_starting.specs.declared.opening.Vm.{Vm}
 use Rattle.vm_machine.specs.Machine.{machine_of, world_in}
 

@@ -2,11 +2,11 @@
 
 ghost use Rattle.std.specs.Prelude.{◌≡◌};
 ghost use Rattle.bc_library.specs.Constants.{items_at, text_at};
-ghost use Rattle.vm_fetching.specs.declared.instruction.Instruction.TheVariants as fetched_as;
-ghost use Rattle.vm_fetching.specs.declared.operations.NumberOp.TheVariants as number_ops;
-ghost use Rattle.vm_fetching.specs.declared.operations.PlainOp.TheVariants as plain_ops;
-ghost use Rattle.vm_leaving.specs.Importing.{fetched_import};
-ghost use Rattle.vm_leaving.specs.Running.{fetched_plain};
+ghost use Rattle.vm_cache.specs.vm_fetching.declared.instruction.Instruction.TheVariants as fetched_as;
+ghost use Rattle.vm_cache.specs.vm_fetching.declared.operations.NumberOp.TheVariants as number_ops;
+ghost use Rattle.vm_cache.specs.vm_fetching.declared.operations.PlainOp.TheVariants as plain_ops;
+ghost use Rattle.vm_kept.specs.vm_leaving.Importing.{fetched_import};
+ghost use Rattle.vm_kept.specs.vm_leaving.Running.{fetched_plain};
 ghost use Rattle.vm_running.specs.Leaves.{LeavesCall};
 ghost use Rattle.vm_running.specs.Values.{ActsOnValues, value_visits};
 ghost use Rattle.vm_machine.specs.Acting.{Acted, HasFetched};
@@ -16,7 +16,7 @@ use crate::forms::Form;
 use arena_heap::StrNo;
 use bc_library::Library;
 use bc_rows::{Row, Rows};
-use vm_fetching::{Fetched, PlainOp};
+use vm_cache::{Fetched, PlainOp};
 use vm_kept::cause_law;
 use vm_running::{finish, import, leave, make, make_with, operate};
 use vm_starting::{NAME, Vm};

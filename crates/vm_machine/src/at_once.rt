@@ -11,13 +11,10 @@ use crate::fetching::{fetch_in, fetch_kept, row_of};
 use crate::forms::unpaid_form;
 use bc_library::Library;
 use bc_rows::Rows;
-use vm_cache::{Cache, Places};
-use vm_fetching::Fetched;
+use vm_cache::{Cache, Fetched, Places};
 use vm_hot::{act_at_once, store_at_once};
-use vm_kept::step_law;
-use vm_leaving::registered_law;
-use vm_programs::program_law;
-use vm_starting::Vm;
+use vm_kept::{registered_law, step_law};
+use vm_starting::{Vm, program_law};
 
 /// The instruction that was fetched, if it is no call and makes no visits. It answers how many steps were taken: none where it is
 /// left.

@@ -8,11 +8,8 @@ ghost use Rattle.vm_machine.specs.Acting.{AreFetchedIn, HasFetched};
 
 use bc_library::Library;
 use bc_rows::{Row, Rows};
-use vm_cache::{Cache, Places, cache_law, row_law};
-use vm_fetching::{Fetched, fetch};
-use vm_programs::program_law;
-use vm_starting::{Vm, names_law};
-use vm_states::ready_law;
+use vm_cache::{Cache, Fetched, Places, cache_law, fetch, ready_law, row_law};
+use vm_starting::{Vm, names_law, program_law};
 
 /// What is fetched for the running call, and the row of its code. It takes no memory.
 pub(crate) fn fetch_at<'b, 'a>(

@@ -3,12 +3,12 @@
 ghost use Rattle.std.specs.Prelude.{◌≡◌, ℕ, false, IfSome, IfNone};
 ghost use Rattle.arena_heap.specs.declared.value.StrNo.TheVariants as strs;
 ghost use Rattle.bc_library.specs.Shelf.{Shelf};
-ghost use Rattle.vm_fetching.specs.declared.instruction.Instruction.TheVariants as fetched;
-ghost use Rattle.vm_fetching.specs.Shows.{TextIsThere};
+ghost use Rattle.vm_cache.specs.vm_fetching.declared.instruction.Instruction.TheVariants as fetched;
+ghost use Rattle.vm_cache.specs.vm_fetching.Shows.{TextIsThere};
 ghost use Rattle.vm_machine.specs.Forms.{HasForm, IsNoCall, MakesNoVisits};
 
 use arena_heap::StrNo;
-use vm_fetching::{Instruction, NameOp, NumberOp, PlainOp};
+use vm_cache::{Instruction, NameOp, NumberOp, PlainOp};
 
 /// What carries out an instruction.
 #[derive(Clone, Copy, Debug, PartialEq, Eq)]

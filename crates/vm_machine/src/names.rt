@@ -7,7 +7,7 @@ use bc_library::{Library, library_law};
 use mpy_base::NoMemory;
 use mpy_base::limits::MAX_MODULES;
 use std::alloc::Global;
-use vm_unwinding::ModuleName;
+use vm_hot::ModuleName;
 
 /// The names of the library's modules, in the order of their numbers.
 pub(crate) fn module_names(alloc: Global, library: &Library) -> Result<Vec<ModuleName>, NoMemory>

@@ -6,8 +6,8 @@ ghost use Rattle.mpy_base.specs.World.{PortState};
 ghost use Rattle.bc_machine.specs.Library.{Name};
 ghost use Rattle.bc_machine.specs.Machine.{start};
 ghost use Rattle.py_effects.specs.Ends.{new_world};
-ghost use Rattle.vm_states.specs.Means.{Program};
-ghost use Rattle.vm_programs.specs.Programs.{IsProgramOf, IsRunnable};
+ghost use Rattle.vm_cache.specs.vm_states.Means.{Program};
+ghost use Rattle.vm_starting.specs.vm_programs.Programs.{IsProgramOf, IsRunnable};
 ghost use Rattle.vm_machine.specs.Machine.{IsVm, machine_of};
 
 use crate::names::module_names;
@@ -15,8 +15,7 @@ use bc_library::{Library, library_law};
 use bc_rows::Rows;
 use mpy_base::{NoMemory, Room};
 use std::alloc::Global;
-use vm_kept::begins_law;
-use vm_leaving::registered_law;
+use vm_kept::{begins_law, registered_law};
 use vm_starting::Vm;
 
 /// A run of the library whose main module has this number, in an arena of this room. It takes all its memory here. Where the main

@@ -7,8 +7,8 @@ ghost use Rattle.vm_machine.specs.Acting.{HasFetched};
 
 use bc_library::Library;
 use bc_rows::Row;
-use vm_fetching::{Fetched, Instruction};
-use vm_operating::visits_binary_op;
+use vm_cache::{Fetched, Instruction};
+use vm_hot::visits_binary_op;
 use vm_starting::Vm;
 
 /// How many visits the instruction makes, which is no call, up to `most`. It goes no further.

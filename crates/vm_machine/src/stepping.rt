@@ -3,11 +3,11 @@
 ghost use Rattle.std.specs.Prelude.{◌≡◌, ◌+◌, ◌<◌, ◌≤◌, ◌^◌, map, IfOk, OnErr, None, is_err};
 ghost use Rattle.mpy_io.specs.Count.{Counts};
 ghost use Rattle.port_set.specs.Counts.{CountsKeep};
-ghost use Rattle.vm_fetching.specs.declared.instruction.Instruction.TheVariants as fetched_as;
-ghost use Rattle.vm_states.specs.Means.{Program};
-ghost use Rattle.vm_calling.specs.Taken.{CallsValue, IsTaken};
+ghost use Rattle.vm_cache.specs.vm_fetching.declared.instruction.Instruction.TheVariants as fetched_as;
+ghost use Rattle.vm_cache.specs.vm_states.Means.{Program};
+ghost use Rattle.vm_kept.specs.vm_calling.Taken.{CallsValue, IsTaken};
 ghost use Rattle.vm_kept.specs.Kept.{HoldsKept};
-ghost use Rattle.vm_programs.specs.Programs.{IsProgramOf};
+ghost use Rattle.vm_starting.specs.vm_programs.Programs.{IsProgramOf};
 ghost use Rattle.vm_cache.specs.Kept.{AreFetched};
 ghost use Rattle.vm_machine.specs.Acting.{Called, HasFetched, Stepped};
 ghost use Rattle.vm_machine.specs.Forms.{HasForm, IsNoCall};
@@ -23,13 +23,10 @@ use bc_library::Library;
 use bc_rows::{Row, Rows};
 use mpy_io::{Failed, Port, Sink};
 use port_set::PortSet;
-use vm_cache::Cache;
-use vm_calling::{take_call, visits_call_on};
-use vm_fetching::{Fetched, NumberOp};
-use vm_invoking::Invocation;
-use vm_kept::{gives_law, methods_law, raises_law, step_law};
+use vm_cache::{Cache, Fetched, NumberOp};
+use vm_kept::{gives_law, methods_law, raises_law, step_law, take_call, visits_call_on};
 use vm_running::call;
-use vm_starting::Vm;
+use vm_starting::{Invocation, Vm};
 
 /// Steps of an instruction of this form, which is no call.
 #[tactic(none)]

@@ -18,13 +18,13 @@ use Rattle.vm_moves.specs.Placed.{IsPlaced}
 use Rattle.bc_machine.specs.Step.{step}
 use Rattle.vm_moves.specs.Views.{starts_of, frame_of}
 use Rattle.bc_offsets.specs.Positions.{Starts, position_in}
-use Rattle.vm_step.specs.Shown.{Tables, Steps, IsNext, IsAt, view_of, running_of, step_of}
-use Rattle.vm_step.specs.Stacks.{gone}
+use Rattle.vm_states.specs.vm_step.Shown.{Tables, Steps, IsNext, IsAt, view_of, running_of, step_of}
+use Rattle.vm_states.specs.vm_step.Stacks.{gone}
 use Rattle.vm_standing.specs.Finds.{FindsPlain, GoesOn}
-use Rattle.vm_fetching.specs.declared.operations.PlainOp.{PlainOp}
-use Rattle.vm_fetching.specs.declared.operations.PlainOp.TheVariants as plain_ops
-use Rattle.vm_fetching.specs.declared.instruction.Fetched.{Fetched}
-use Rattle.vm_fetching.specs.Operations.{plain_op}
+use Rattle.vm_states.specs.vm_fetching.declared.operations.PlainOp.{PlainOp}
+use Rattle.vm_states.specs.vm_fetching.declared.operations.PlainOp.TheVariants as plain_ops
+use Rattle.vm_states.specs.vm_fetching.declared.instruction.Fetched.{Fetched}
+use Rattle.vm_states.specs.vm_fetching.Operations.{plain_op}
 use Rattle.vm_states.specs.Means.{Program, Means}
 use Rattle.vm_states.specs.Ready.{item_at, IsReady}
 use Rattle.vm_states.specs.Running.{IsOfModule, IsRunning}

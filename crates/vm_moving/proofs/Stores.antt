@@ -13,15 +13,15 @@ use Rattle.vm_frames.specs.declared.slot.Slot.{Slot}
 use Rattle.vm_frames.specs.declared.slot.Slot.TheVariants as slots
 use Rattle.vm_frames.specs.Calls.{Call, Calls}
 use Rattle.vm_moves.specs.Views.{View, slots_of, starts_of, frame_of}
-use Rattle.vm_step.specs.Shown.{Tables, Steps, IsNext, IsTop, view_of}
+use Rattle.vm_states.specs.vm_step.Shown.{Tables, Steps, IsNext, IsTop, view_of}
 use Rattle.vm_standing.specs.Finds.{FindsNumber}
 use Rattle.vm_standing.specs.OnTop as machine
 use Rattle.vm_tops.specs.Tops as tops
-use Rattle.vm_fetching.specs.declared.operations.NumberOp.{NumberOp}
-use Rattle.vm_fetching.specs.declared.operations.NumberOp.TheVariants as number_ops
-use Rattle.vm_fetching.specs.declared.instruction.Instruction.TheVariants as fetched
-use Rattle.vm_fetching.specs.Operations.{number_op}
-use Rattle.vm_fetching.specs.Shows.{NumberIsWithin}
+use Rattle.vm_states.specs.vm_fetching.declared.operations.NumberOp.{NumberOp}
+use Rattle.vm_states.specs.vm_fetching.declared.operations.NumberOp.TheVariants as number_ops
+use Rattle.vm_states.specs.vm_fetching.declared.instruction.Instruction.TheVariants as fetched
+use Rattle.vm_states.specs.vm_fetching.Operations.{number_op}
+use Rattle.vm_states.specs.vm_fetching.Shows.{NumberIsWithin}
 use Rattle.vm_states.specs.Means.{Program}
 use Rattle.vm_states.specs.Ready.{IsReady}
 use Rattle.vm_moving.specs.Storing.{StoresLocal}

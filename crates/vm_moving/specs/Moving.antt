@@ -7,12 +7,12 @@ use Rattle.bc_machine.specs.Step.{step}
 use Rattle.vm_frames.specs.declared.slot.Slot.{Slot}
 use Rattle.vm_frames.specs.declared.slot.Slot.TheVariants as slots
 use Rattle.vm_frames.specs.Calls.{Calls}
-use Rattle.vm_step.specs.Shown.{running_of}
-use Rattle.vm_step.specs.Stacks.{doubled, doubled_two, turned_two, turned_three}
-use Rattle.vm_fetching.specs.declared.operations.PlainOp.{PlainOp}
-use Rattle.vm_fetching.specs.declared.operations.PlainOp.TheVariants as plain_ops
-use Rattle.vm_fetching.specs.declared.instruction.Fetched.{Fetched}
-use Rattle.vm_fetching.specs.declared.instruction.Instruction.TheVariants as fetched
+use Rattle.vm_states.specs.vm_step.Shown.{running_of}
+use Rattle.vm_states.specs.vm_step.Stacks.{doubled, doubled_two, turned_two, turned_three}
+use Rattle.vm_states.specs.vm_fetching.declared.operations.PlainOp.{PlainOp}
+use Rattle.vm_states.specs.vm_fetching.declared.operations.PlainOp.TheVariants as plain_ops
+use Rattle.vm_states.specs.vm_fetching.declared.instruction.Fetched.{Fetched}
+use Rattle.vm_states.specs.vm_fetching.declared.instruction.Instruction.TheVariants as fetched
 use Rattle.vm_states.specs.Means.{Program, Means}
 use Rattle.vm_states.specs.Ready.{IsReady}
 use Rattle.vm_states.specs.Running.{IsRunning}

@@ -1,8 +1,8 @@
 -- What an operation that moves slots needs of the running call.
 use Rattle.std.specs.Prelude.{ℕ, suc, ◌<◌, length}
 use Rattle.vm_frames.specs.Calls.{Calls, OfRunning}
-use Rattle.vm_fetching.specs.declared.operations.PlainOp.{PlainOp}
-use Rattle.vm_fetching.specs.declared.operations.PlainOp.TheVariants as plain_ops
+use Rattle.vm_states.specs.vm_fetching.declared.operations.PlainOp.{PlainOp}
+use Rattle.vm_states.specs.vm_fetching.declared.operations.PlainOp.TheVariants as plain_ops
 
 -- the running call has more than `count` slots
 abbrev pub HasOver : ℕ → Calls → Type 0

@@ -1,6 +1,6 @@
 -- Instructions that store a local.
-use Rattle.vm_fetching.specs.declared.operations.NumberOp.{NumberOp}
-use Rattle.vm_fetching.specs.declared.operations.NumberOp.TheVariants as number_ops
+use Rattle.vm_states.specs.vm_fetching.declared.operations.NumberOp.{NumberOp}
+use Rattle.vm_states.specs.vm_fetching.declared.operations.NumberOp.TheVariants as number_ops
 
 -- the operation stores a local
 abbrev pub StoresLocal : NumberOp → Type 0

@@ -3,15 +3,14 @@
 ghost use Rattle.std.specs.Prelude.{◌≡◌, ◌%◌, drop, nat_le, true, false};
 ghost use Rattle.vm_frames.specs.Calls.{on_running};
 ghost use Rattle.vm_frames.specs.Moves.{jumped};
-ghost use Rattle.vm_step.specs.Stacks.{gone, set_up};
-ghost use Rattle.vm_fetching.specs.declared.instruction.Instruction.TheVariants as fetched;
-ghost use Rattle.vm_fetching.specs.declared.operations.JumpOp.TheVariants as jump_ops;
+ghost use Rattle.vm_states.specs.vm_step.Stacks.{gone, set_up};
+ghost use Rattle.vm_states.specs.vm_fetching.declared.instruction.Instruction.TheVariants as fetched;
+ghost use Rattle.vm_states.specs.vm_fetching.declared.operations.JumpOp.TheVariants as jump_ops;
 ghost use Rattle.vm_moving.specs.Moving.{Runs, GoesBehind};
 
 use vm_frames::Frames;
 use vm_moves::placed_law;
-use vm_states::keeps_law;
-use vm_step::{jump, pop_except_jump, setup_except, setup_finally, unwind_jump};
+use vm_states::{jump, keeps_law, pop_except_jump, setup_except, setup_finally, unwind_jump};
 use vm_tops::tops_law;
 
 /// JUMP, where it was fetched for the running call.

@@ -4,15 +4,14 @@ ghost use Rattle.std.specs.Prelude.{◌≡◌, ◌∷◌};
 ghost use Rattle.arena_heap.specs.declared.value.Value.TheVariants as values;
 ghost use Rattle.vm_frames.specs.declared.slot.Slot.TheVariants as slots;
 ghost use Rattle.vm_frames.specs.Calls.{on_running};
-ghost use Rattle.vm_step.specs.Stacks.{gone};
-ghost use Rattle.vm_fetching.specs.declared.instruction.Instruction.TheVariants as fetched;
-ghost use Rattle.vm_fetching.specs.declared.operations.NameOp.TheVariants as name_ops;
+ghost use Rattle.vm_states.specs.vm_step.Stacks.{gone};
+ghost use Rattle.vm_states.specs.vm_fetching.declared.instruction.Instruction.TheVariants as fetched;
+ghost use Rattle.vm_states.specs.vm_fetching.declared.operations.NameOp.TheVariants as name_ops;
 ghost use Rattle.vm_moving.specs.Moving.{Runs, GoesBehind};
 
 use arena_heap::{StrNo, Value};
 use vm_frames::Frames;
-use vm_states::keeps_law;
-use vm_step::{load_int, load_object, load_text};
+use vm_states::{keeps_law, load_int, load_object, load_text};
 
 /// A small integer, where its instruction was fetched for the running call.
 pub fn load_small(frames: &mut Frames, n: i32, end: u32)

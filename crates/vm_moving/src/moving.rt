@@ -5,17 +5,16 @@ ghost use Rattle.mpy_base.specs.Val.{PlainWorld};
 ghost use Rattle.bc_ops.specs.declared.instr.Instr.TheVariants as instrs;
 ghost use Rattle.bc_machine.specs.Library.{Plain};
 ghost use Rattle.vm_frames.specs.Calls.{on_running};
-ghost use Rattle.vm_step.specs.Shown.{Tables, Steps, IsNext};
-ghost use Rattle.vm_step.specs.Stacks.{gone};
-ghost use Rattle.vm_fetching.specs.Operations.{plain_op};
+ghost use Rattle.vm_states.specs.vm_step.Shown.{Tables, Steps, IsNext};
+ghost use Rattle.vm_states.specs.vm_step.Stacks.{gone};
+ghost use Rattle.vm_states.specs.vm_fetching.Operations.{plain_op};
 ghost use Rattle.vm_moving.specs.Moving.{MovesSlots, moved_slots, fetched_plain, Runs, GoesBehind};
 ghost use Rattle.vm_moving.specs.Needs.{Needs};
 
-use vm_fetching::PlainOp;
 use vm_frames::Frames;
-use vm_states::keeps_law;
-use vm_step::{
-    dup_top, dup_top_two, load_false, load_none, load_null, load_true, pop_top, rot_three, rot_two,
+use vm_states::{
+    PlainOp, dup_top, dup_top_two, keeps_law, load_false, load_none, load_null, load_true, pop_top,
+    rot_three, rot_two,
 };
 use vm_tops::tops_law;
 

@@ -4,15 +4,13 @@ ghost use Rattle.std.specs.Prelude.{◌≡◌, Some, drop, slice_set};
 ghost use Rattle.arena_heap.specs.declared.value.Value.{Value as Item};
 ghost use Rattle.vm_frames.specs.declared.slot.Slot.TheVariants as slots;
 ghost use Rattle.vm_frames.specs.Calls.{on_running};
-ghost use Rattle.vm_step.specs.Shown.{IsTop};
-ghost use Rattle.vm_fetching.specs.declared.instruction.Instruction.TheVariants as fetched;
+ghost use Rattle.vm_states.specs.vm_step.Shown.{IsTop};
+ghost use Rattle.vm_states.specs.vm_fetching.declared.instruction.Instruction.TheVariants as fetched;
 ghost use Rattle.vm_moving.specs.Moving.{Runs, GoesBehind};
 ghost use Rattle.vm_moving.specs.Storing.{StoresLocal};
 
-use vm_fetching::NumberOp;
 use vm_frames::Frames;
-use vm_states::keeps_law;
-use vm_step::store_fast;
+use vm_states::{NumberOp, keeps_law, store_fast};
 use vm_tops::tops_law;
 
 /// STORE_FAST, in one byte or in more, where it was fetched for the running call.

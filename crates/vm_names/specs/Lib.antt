@@ -1,1 +1,2 @@
+pub use Rattle.vm_raising.specs as vm_raising
 pub mod Looks

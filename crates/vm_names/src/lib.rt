@@ -13,3 +13,4 @@ pub use displays::{make_dict, make_list};
 pub use globals::{delete_global, load_global, store_global};
 pub use locals::assigned;
 pub use pairs::store_pair;
+pub use vm_raising::{make_tuple, op_match};

@@ -11,8 +11,8 @@ use Rattle.vm_frames.specs.Calls.{Calls}
 use Rattle.vm_moves.specs.Views.{View, slots_of}
 use Rattle.vm_standing.specs.OnTop as machine
 use Rattle.vm_tops.specs.Tops as tops
-use Rattle.vm_instructions.specs.Slots.{HasKnown}
-use Rattle.vm_fetching.specs.declared.instruction.Fetched.{Fetched}
+use Rattle.vm_known.specs.vm_instructions.Slots.{HasKnown}
+use Rattle.vm_moving.specs.vm_fetching.declared.instruction.Fetched.{Fetched}
 use Rattle.vm_known.specs.Acting.{RunsOver}
 use Rattle.vm_operating.proofs.Finding.{has_known, machine_slots, view, starts, st}
 

@@ -22,7 +22,7 @@ use Rattle.bc_library.proofs.Files.{fine_objects}
 use Rattle.bc_library.proofs.Preorders.{leaf, opened}
 use Rattle.bc_library.proofs.Told.{value_at, told_items}
 use Rattle.vm_faults.specs.Faults.{IsKnown}
-use Rattle.vm_states.specs.Means.{Program, Means}
+use Rattle.vm_moving.specs.vm_states.Means.{Program, Means}
 
 first_dropped : (all behind : List Constant) (p : ℕ) (x : Constant) → drop p all ≡ x ∷ behind → slice_get all p ≡ Some x
 first_dropped [] behind zero x e = absurd cc

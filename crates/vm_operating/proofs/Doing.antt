@@ -15,13 +15,13 @@ use Rattle.vm_faults.specs.declared.stop.Stop.{Stop}
 use Rattle.vm_frames.specs.declared.slot.Slot.{Slot}
 use Rattle.vm_frames.specs.Calls.{Call, Calls, change_first, on_running}
 use Rattle.vm_moves.specs.Views.{starts_of}
-use Rattle.vm_step.specs.Shown.{view_of, running_of, step_of, IsAt}
-use Rattle.vm_step.specs.Outcomes.{world_of, Does}
-use Rattle.vm_instructions.specs.Effects.{Layout, Steps, JumpSteps, Leaves}
-use Rattle.vm_fetching.specs.declared.instruction.Fetched.{Fetched}
-use Rattle.vm_states.specs.Means.{Program, Means}
-use Rattle.vm_states.specs.Ready.{IsReady, item_at}
-use Rattle.vm_states.specs.Running.{IsRunning}
+use Rattle.vm_moving.specs.vm_step.Shown.{view_of, running_of, step_of, IsAt}
+use Rattle.vm_moving.specs.vm_step.Outcomes.{world_of, Does}
+use Rattle.vm_known.specs.vm_instructions.Effects.{Layout, Steps, JumpSteps, Leaves}
+use Rattle.vm_moving.specs.vm_fetching.declared.instruction.Fetched.{Fetched}
+use Rattle.vm_moving.specs.vm_states.Means.{Program, Means}
+use Rattle.vm_moving.specs.vm_states.Ready.{IsReady, item_at}
+use Rattle.vm_moving.specs.vm_states.Running.{IsRunning}
 use Rattle.vm_moving.specs.Moving.{GoesBehind}
 use Rattle.vm_known.specs.State.{IsState}
 use Rattle.vm_known.specs.State as state

@@ -7,11 +7,11 @@ use Rattle.arena_heap.specs.declared.value.ConstNo.{ConstNo}
 use Rattle.bc_machine.specs.Library.{Item}
 use Rattle.vm_faults.specs.declared.stop.Stop.{Stop}
 use Rattle.vm_frames.specs.Calls.{Call, Calls}
-use Rattle.vm_instructions.specs.Effects.{Steps, Leaves}
-use Rattle.vm_instructions.specs.Slots.{with_value, without, with_empty, with_iterator, Changes, Puts, PutsLooked, PutsValues}
-use Rattle.vm_fetching.specs.declared.instruction.Fetched.{Fetched}
-use Rattle.vm_states.specs.Means.{Program}
-use Rattle.vm_states.specs.Ready.{item_at}
+use Rattle.vm_known.specs.vm_instructions.Effects.{Steps, Leaves}
+use Rattle.vm_known.specs.vm_instructions.Slots.{with_value, without, with_empty, with_iterator, Changes, Puts, PutsLooked, PutsValues}
+use Rattle.vm_moving.specs.vm_fetching.declared.instruction.Fetched.{Fetched}
+use Rattle.vm_moving.specs.vm_states.Means.{Program}
+use Rattle.vm_moving.specs.vm_states.Ready.{item_at}
 use Rattle.vm_known.specs.Acting.{Tells}
 use Rattle.vm_operating.specs.Keeping.{ActsKeeping}
 use Rattle.vm_operating.specs.Onward.{StartsBehind, DoesBehind, GoesOnward}

@@ -16,13 +16,13 @@ use Rattle.vm_frames.specs.Calls.{Calls, OfRunning, on_running}
 use Rattle.vm_moves.specs.Views.{View, slots_of}
 use Rattle.vm_standing.specs.OnTop as machine
 use Rattle.vm_tops.specs.Tops as tops
-use Rattle.vm_instructions.specs.Effects.{JumpSteps, Leaves}
-use Rattle.vm_instructions.specs.Slots.{HasIterator, Puts, with_item, without}
-use Rattle.vm_unwinding.specs.Known.{IsKnownSlot}
-use Rattle.vm_unwinding.proofs.Keeping.{value_later}
-use Rattle.vm_fetching.specs.declared.operations.JumpOp.TheVariants as jump_ops
-use Rattle.vm_fetching.specs.declared.instruction.Fetched.{Fetched}
-use Rattle.vm_fetching.specs.declared.instruction.Instruction.TheVariants as fetched
+use Rattle.vm_known.specs.vm_instructions.Effects.{JumpSteps, Leaves}
+use Rattle.vm_known.specs.vm_instructions.Slots.{HasIterator, Puts, with_item, without}
+use Rattle.vm_known.specs.vm_unwinding.Known.{IsKnownSlot}
+use Rattle.vm_known.proofs.vm_unwinding_lemmas.Keeping.{value_later}
+use Rattle.vm_moving.specs.vm_fetching.declared.operations.JumpOp.TheVariants as jump_ops
+use Rattle.vm_moving.specs.vm_fetching.declared.instruction.Fetched.{Fetched}
+use Rattle.vm_moving.specs.vm_fetching.declared.instruction.Instruction.TheVariants as fetched
 use Rattle.vm_known.specs.State.{IsKnownSlot as IsKnownSlotOf}
 use Rattle.vm_known.specs.Acting.{RunsOver}
 use Rattle.vm_operating.specs.Keeping.{ActsKeeping}

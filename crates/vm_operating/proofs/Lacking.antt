@@ -7,7 +7,7 @@ use Rattle.vm_frames.specs.declared.slot.Slot.{Slot}
 use Rattle.vm_frames.specs.declared.slot.Slot.TheVariants as slots
 use Rattle.vm_frames.specs.Calls.{Call, OfRunning}
 use Rattle.vm_tops.specs.Tops.{IsOperand}
-use Rattle.vm_instructions.specs.Slots.{HasValue, HasNull}
+use Rattle.vm_known.specs.vm_instructions.Slots.{HasValue, HasNull}
 use Rattle.vm_operating.specs.Operands.{is_null, HasOperand}
 
 pub operand_within : (slot : ℕ) (calls : List Call) → HasOperand slot calls → OfRunning (λ c. slot < length c.slots) calls

@@ -9,14 +9,14 @@ use Rattle.arena_heap.specs.declared.value.StrNo.{StrNo}
 use Rattle.arena_heap.specs.declared.value.ConstNo.{ConstNo}
 use Rattle.vm_faults.specs.declared.stop.Stop.{Stop}
 use Rattle.vm_faults.specs.Faults.{IsKnown}
-use Rattle.vm_names.specs.declared.attributes.Looked.{Looked}
-use Rattle.vm_names.specs.declared.attributes.Looked.TheVariants as looks
-use Rattle.vm_names.specs.Looks.{IsKnownLook}
+use Rattle.vm_known.specs.vm_names.declared.attributes.Looked.{Looked}
+use Rattle.vm_known.specs.vm_names.declared.attributes.Looked.TheVariants as looks
+use Rattle.vm_known.specs.vm_names.Looks.{IsKnownLook}
 use Rattle.vm_frames.specs.declared.slot.Slot.{Slot}
 use Rattle.vm_frames.specs.declared.slot.Slot.TheVariants as slots
 use Rattle.vm_frames.specs.Calls.{Call, Calls, on_running}
-use Rattle.vm_instructions.specs.Slots.{with_value, without, with_empty, looked_over, iterator_over, with_iterator, with_item, Changes, Puts, PutsLooked, PutsValues}
-use Rattle.vm_unwinding.specs.Known.{IsKnownSlot}
+use Rattle.vm_known.specs.vm_instructions.Slots.{with_value, without, with_empty, looked_over, iterator_over, with_iterator, with_item, Changes, Puts, PutsLooked, PutsValues}
+use Rattle.vm_known.specs.vm_unwinding.Known.{IsKnownSlot}
 use Rattle.vm_operating.specs.Onward.{Onward, GoesOnward}
 
 module _ (texts : StrNo → Option (List ℕ)) (tuples : ConstNo → Option (List Value)) (objects : Objects Value ℕ) where

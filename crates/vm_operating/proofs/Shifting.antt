@@ -12,11 +12,11 @@ use Rattle.vm_frames.specs.declared.slot.Slot.{Slot}
 use Rattle.vm_frames.specs.declared.slot.Slot.TheVariants as slots
 use Rattle.vm_frames.specs.Calls.{Call, Calls, on_running}
 use Rattle.vm_frames.specs.Moves.{jumped as jumped_by}
-use Rattle.vm_step.specs.Stacks.{gone, doubled, doubled_two, turned_two, turned_three, entry_over, set_up}
-use Rattle.vm_unwinding.specs.Known.{IsKnownSlot, KeepsException}
-use Rattle.vm_unwinding.proofs.Finishes.{jumped_known}
-use Rattle.vm_fetching.specs.declared.operations.PlainOp.{PlainOp}
-use Rattle.vm_fetching.specs.declared.operations.PlainOp.TheVariants as plain_ops
+use Rattle.vm_moving.specs.vm_step.Stacks.{gone, doubled, doubled_two, turned_two, turned_three, entry_over, set_up}
+use Rattle.vm_known.specs.vm_unwinding.Known.{IsKnownSlot, KeepsException}
+use Rattle.vm_known.proofs.vm_unwinding_lemmas.Finishes.{jumped_known}
+use Rattle.vm_moving.specs.vm_fetching.declared.operations.PlainOp.{PlainOp}
+use Rattle.vm_moving.specs.vm_fetching.declared.operations.PlainOp.TheVariants as plain_ops
 use Rattle.vm_moving.specs.Moving.{moved_slots}
 use Rattle.vm_operating.specs.Onward.{Changed}
 

@@ -7,8 +7,8 @@ use Rattle.arena_heap.specs.declared.value.ConstNo.{ConstNo}
 use Rattle.vm_walks.specs.Plain.{plain, plain_heap}
 use Rattle.bc_machine.specs.Operations.{operator_at}
 use Rattle.vm_frames.specs.Calls.{Call}
-use Rattle.vm_instructions.specs.Operations.{visits_of}
-use Rattle.vm_instructions.specs.Slots.{HasValue}
+use Rattle.vm_known.specs.vm_instructions.Operations.{visits_of}
+use Rattle.vm_known.specs.vm_instructions.Slots.{HasValue}
 use Rattle.vm_operating.specs.Operators.{value_in, visits_over, visits_binary}
 
 -- where the operands lie

@@ -6,7 +6,7 @@ use Rattle.arena_heap.specs.declared.value.StrNo.{StrNo}
 use Rattle.arena_heap.specs.declared.value.ConstNo.{ConstNo}
 use Rattle.vm_faults.specs.declared.stop.Stop.{Stop}
 use Rattle.vm_frames.specs.Calls.{Calls}
-use Rattle.vm_fetching.specs.declared.instruction.Fetched.{Fetched}
+use Rattle.vm_moving.specs.vm_fetching.declared.instruction.Fetched.{Fetched}
 use Rattle.vm_known.specs.Acting.{ActsBehind}
 
 -- it acts so in each program, the rooms of the calls stay, and where it stops all of the calls do

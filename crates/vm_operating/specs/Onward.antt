@@ -11,12 +11,12 @@ use Rattle.vm_faults.specs.Faults.{IsKnown}
 use Rattle.vm_frames.specs.declared.slot.Slot.{Slot}
 use Rattle.vm_frames.specs.Calls.{Call, Calls, on_running}
 use Rattle.vm_moves.specs.Views.{starts_of}
-use Rattle.vm_step.specs.Shown.{view_of}
-use Rattle.vm_step.specs.Outcomes.{Does}
-use Rattle.vm_unwinding.specs.Known.{IsKnownSlot, IsKnownCall}
-use Rattle.vm_fetching.specs.declared.instruction.Fetched.{Fetched}
-use Rattle.vm_states.specs.Means.{Program}
-use Rattle.vm_states.specs.Ready.{IsReady, item_at}
+use Rattle.vm_moving.specs.vm_step.Shown.{view_of}
+use Rattle.vm_moving.specs.vm_step.Outcomes.{Does}
+use Rattle.vm_known.specs.vm_unwinding.Known.{IsKnownSlot, IsKnownCall}
+use Rattle.vm_moving.specs.vm_fetching.declared.instruction.Fetched.{Fetched}
+use Rattle.vm_moving.specs.vm_states.Means.{Program}
+use Rattle.vm_moving.specs.vm_states.Ready.{IsReady, item_at}
 use Rattle.vm_known.specs.Acting.{Tells}
 
 -- an instruction starts at the offset, where this was fetched for the first of the calls of a program

@@ -1,11 +1,11 @@
 -- Operations that act on values and frames, and leave the running call running. The others make functions, call, raise, return,
 -- end a finally or import a module.
-use Rattle.vm_fetching.specs.declared.operations.PlainOp.{PlainOp}
-use Rattle.vm_fetching.specs.declared.operations.PlainOp.TheVariants as plain_ops
-use Rattle.vm_fetching.specs.declared.operations.NumberOp.{NumberOp}
-use Rattle.vm_fetching.specs.declared.operations.NumberOp.TheVariants as number_ops
-use Rattle.vm_fetching.specs.declared.operations.NameOp.{NameOp}
-use Rattle.vm_fetching.specs.declared.operations.NameOp.TheVariants as name_ops
+use Rattle.vm_moving.specs.vm_fetching.declared.operations.PlainOp.{PlainOp}
+use Rattle.vm_moving.specs.vm_fetching.declared.operations.PlainOp.TheVariants as plain_ops
+use Rattle.vm_moving.specs.vm_fetching.declared.operations.NumberOp.{NumberOp}
+use Rattle.vm_moving.specs.vm_fetching.declared.operations.NumberOp.TheVariants as number_ops
+use Rattle.vm_moving.specs.vm_fetching.declared.operations.NameOp.{NameOp}
+use Rattle.vm_moving.specs.vm_fetching.declared.operations.NameOp.TheVariants as name_ops
 
 -- the operations without an operand that act on values and frames
 abbrev pub IsPlainOperation : PlainOp → Type 0

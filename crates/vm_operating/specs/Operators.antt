@@ -9,7 +9,7 @@ use Rattle.bc_machine.specs.Operations.{operator_at}
 use Rattle.vm_frames.specs.declared.slot.Slot.{Slot}
 use Rattle.vm_frames.specs.declared.slot.Slot.TheVariants as slots
 use Rattle.vm_frames.specs.Calls.{Call}
-use Rattle.vm_instructions.specs.Operations.{visits_of}
+use Rattle.vm_known.specs.vm_instructions.Operations.{visits_of}
 
 -- the value that lies in a slot, if one does
 abbrev pub value_in : Option Slot → Option Value

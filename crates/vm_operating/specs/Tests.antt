@@ -1,9 +1,9 @@
 -- Jumps that test the top value.
 use Rattle.std.specs.Prelude.{ℕ, Bool, not, drop, if◌then◌else◌}
 use Rattle.vm_frames.specs.Calls.{Call}
-use Rattle.vm_step.specs.Stacks.{gone}
-use Rattle.vm_fetching.specs.declared.operations.JumpOp.{JumpOp}
-use Rattle.vm_fetching.specs.declared.operations.JumpOp.TheVariants as jump_ops
+use Rattle.vm_moving.specs.vm_step.Stacks.{gone}
+use Rattle.vm_moving.specs.vm_fetching.declared.operations.JumpOp.{JumpOp}
+use Rattle.vm_moving.specs.vm_fetching.declared.operations.JumpOp.TheVariants as jump_ops
 
 -- the operation tests the top value
 abbrev pub IsTest : JumpOp → Type 0

@@ -1,8 +1,8 @@
 //! Operations on attributes, as they were fetched for calls of a program.
 
-ghost use Rattle.vm_fetching.specs.declared.instruction.Instruction.TheVariants as fetched;
+ghost use Rattle.vm_moving.specs.vm_fetching.declared.instruction.Instruction.TheVariants as fetched;
 ghost use Rattle.vm_sights.specs.Sights.{under};
-ghost use Rattle.vm_fetching.specs.declared.operations.NameOp.TheVariants as name_ops;
+ghost use Rattle.vm_moving.specs.vm_fetching.declared.operations.NameOp.TheVariants as name_ops;
 ghost use Rattle.vm_known.specs.Acting.{RunsOver};
 ghost use Rattle.vm_operating.specs.Keeping.{ActsKeeping};
 
@@ -25,7 +25,7 @@ pub(crate) fn load_attr<C: Constants>(
 {
     acting_law();
     tops_law();
-    vm_instructions::load_attr(frames, arena, consts, name, end)
+    vm_known::load_attr(frames, arena, consts, name, end)
 }
 
 /// LOAD_METHOD.
@@ -41,7 +41,7 @@ pub(crate) fn load_method<C: Constants>(
 {
     acting_law();
     tops_law();
-    vm_instructions::load_method(frames, arena, consts, name, end)
+    vm_known::load_method(frames, arena, consts, name, end)
 }
 
 /// STORE_ATTR.
@@ -57,7 +57,7 @@ pub(crate) fn store_attr<C: Constants>(
 {
     acting_law();
     tops_law();
-    vm_instructions::store_attr(frames, arena, consts, name, end)
+    vm_known::store_attr(frames, arena, consts, name, end)
 }
 
 /// IMPORT_FROM.
@@ -73,5 +73,5 @@ pub(crate) fn import_from<C: Constants>(
 {
     acting_law();
     tops_law();
-    vm_instructions::import_from(frames, arena, consts, name, end)
+    vm_known::import_from(frames, arena, consts, name, end)
 }

@@ -5,9 +5,9 @@ ghost use Rattle.mpy_base.specs.Val.{PlainWorld};
 ghost use Rattle.bc_machine.specs.Library.{Jumps};
 ghost use Rattle.vm_sights.specs.Sights.{under};
 ghost use Rattle.vm_frames.specs.Calls.{OfRunning, on_running};
-ghost use Rattle.vm_step.specs.Shown.{Tables, Steps, IsNext, IsAt, Tests};
-ghost use Rattle.vm_fetching.specs.Operations.{jump_op};
-ghost use Rattle.vm_fetching.specs.declared.instruction.Instruction.TheVariants as fetched;
+ghost use Rattle.vm_moving.specs.vm_step.Shown.{Tables, Steps, IsNext, IsAt, Tests};
+ghost use Rattle.vm_moving.specs.vm_fetching.Operations.{jump_op};
+ghost use Rattle.vm_moving.specs.vm_fetching.declared.instruction.Instruction.TheVariants as fetched;
 ghost use Rattle.vm_known.specs.Acting.{RunsOver};
 ghost use Rattle.vm_operating.specs.Keeping.{ActsKeeping};
 ghost use Rattle.vm_operating.specs.Tests.{IsTest, tested};
@@ -15,10 +15,11 @@ ghost use Rattle.vm_operating.specs.Tests.{IsTest, tested};
 use crate::law::acting_law;
 use arena_heap::{Arena, Constants};
 use vm_faults::Stop;
-use vm_fetching::JumpOp;
 use vm_frames::Frames;
-use vm_instructions::top_truth;
-use vm_step::{jump_if_false_or_pop, jump_if_true_or_pop, pop_jump_if_false, pop_jump_if_true};
+use vm_known::top_truth;
+use vm_moving::{
+    JumpOp, jump_if_false_or_pop, jump_if_true_or_pop, pop_jump_if_false, pop_jump_if_true,
+};
 use vm_tops::tops_law;
 
 /// The jump, where the truth of the top value is given.

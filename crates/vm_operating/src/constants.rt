@@ -9,7 +9,7 @@ ghost use Rattle.arena_heap.specs.declared.value.ConstNo.{ConstNo};
 ghost use Rattle.bc_ops.specs.Signed.{IsSmall};
 ghost use Rattle.bc_library.specs.Constants.{object_value};
 ghost use Rattle.vm_faults.specs.Faults.{IsKnown};
-ghost use Rattle.vm_states.specs.Means.{Program, Means};
+ghost use Rattle.vm_moving.specs.vm_states.Means.{Program, Means};
 
 /// An object of one of a program's modules is known over each arena, and so is a small integer.
 pub fn constants_law()

@@ -2,8 +2,8 @@
 
 ghost use Rattle.std.specs.Prelude.{◌≡◌, length};
 ghost use Rattle.vm_sights.specs.Sights.{under};
-ghost use Rattle.vm_fetching.specs.declared.instruction.Instruction.TheVariants as fetched;
-ghost use Rattle.vm_fetching.specs.declared.operations.NumberOp.TheVariants as number_ops;
+ghost use Rattle.vm_moving.specs.vm_fetching.declared.instruction.Instruction.TheVariants as fetched;
+ghost use Rattle.vm_moving.specs.vm_fetching.declared.operations.NumberOp.TheVariants as number_ops;
 ghost use Rattle.vm_known.specs.Acting.{RunsOver};
 ghost use Rattle.vm_operating.specs.Keeping.{ActsKeeping};
 
@@ -29,7 +29,7 @@ pub(crate) fn build_tuple<C: Constants>(
     acting_law();
     tops_law();
     let _ = n;
-    vm_instructions::build_tuple(frames, arena, consts, items, end)
+    vm_known::build_tuple(frames, arena, consts, items, end)
 }
 
 /// BUILD_LIST, where a place is lent for each item.
@@ -48,7 +48,7 @@ pub(crate) fn build_list<C: Constants>(
     acting_law();
     tops_law();
     let _ = n;
-    vm_instructions::build_list(frames, arena, consts, items, end)
+    vm_known::build_list(frames, arena, consts, items, end)
 }
 
 /// BUILD_MAP, with room for a number of pairs.
@@ -63,7 +63,7 @@ pub(crate) fn build_map<C: Constants>(
     ensures acts { under C.Constants consts.now ActsKeeping (record { instruction = fetched.Number number_ops.BuildMap pairs; end = end }) 0 arena.old arena.new frames.old frames.new result }
 {
     acting_law();
-    vm_instructions::build_map(frames, arena, consts, pairs, end)
+    vm_known::build_map(frames, arena, consts, pairs, end)
 }
 
 /// UNPACK_SEQUENCE, where a place is lent for each item.
@@ -82,5 +82,5 @@ pub(crate) fn unpack_sequence<C: Constants>(
     acting_law();
     tops_law();
     let _ = n;
-    vm_instructions::unpack_sequence(frames, arena, consts, items, end)
+    vm_known::unpack_sequence(frames, arena, consts, items, end)
 }

@@ -1,9 +1,9 @@
 //! Operations on iterators, as they were fetched for calls of a program.
 
-ghost use Rattle.vm_fetching.specs.declared.instruction.Instruction.TheVariants as fetched;
+ghost use Rattle.vm_moving.specs.vm_fetching.declared.instruction.Instruction.TheVariants as fetched;
 ghost use Rattle.vm_sights.specs.Sights.{under};
-ghost use Rattle.vm_fetching.specs.declared.operations.JumpOp.TheVariants as jump_ops;
-ghost use Rattle.vm_fetching.specs.declared.operations.PlainOp.TheVariants as plain_ops;
+ghost use Rattle.vm_moving.specs.vm_fetching.declared.operations.JumpOp.TheVariants as jump_ops;
+ghost use Rattle.vm_moving.specs.vm_fetching.declared.operations.PlainOp.TheVariants as plain_ops;
 ghost use Rattle.vm_moving.specs.Moving.{fetched_plain};
 ghost use Rattle.vm_known.specs.Acting.{RunsOver};
 ghost use Rattle.vm_operating.specs.Keeping.{ActsKeeping};
@@ -26,7 +26,7 @@ pub(crate) fn get_iter_stack<C: Constants>(
 {
     acting_law();
     tops_law();
-    vm_instructions::get_iter_stack(frames, arena, consts, end)
+    vm_known::get_iter_stack(frames, arena, consts, end)
 }
 
 /// FOR_ITER.
@@ -42,5 +42,5 @@ pub(crate) fn for_iter<C: Constants>(
 {
     acting_law();
     tops_law();
-    vm_instructions::for_iter(frames, arena, consts, target, end)
+    vm_known::for_iter(frames, arena, consts, target, end)
 }

@@ -7,14 +7,14 @@ ghost use Rattle.arena_heap.specs.declared.value.StrNo.{StrNo};
 ghost use Rattle.arena_heap.specs.declared.value.ConstNo.{ConstNo};
 ghost use Rattle.vm_faults.specs.declared.stop.Stop.{Stop};
 ghost use Rattle.vm_frames.specs.Calls.{Calls};
-ghost use Rattle.vm_instructions.specs.Effects.{Leaves};
-ghost use Rattle.vm_fetching.specs.declared.instruction.Fetched.{Fetched};
+ghost use Rattle.vm_known.specs.vm_instructions.Effects.{Leaves};
+ghost use Rattle.vm_moving.specs.vm_fetching.declared.instruction.Fetched.{Fetched};
 ghost use Rattle.vm_moving.specs.Moving.{GoesBehind};
 ghost use Rattle.vm_operating.specs.Keeping.{ActsKeeping};
 ghost use Rattle.vm_operating.specs.Onward.{StartsBehind, DoesBehind, GoesOnward, Changed};
 
 use vm_known::known_law;
-use vm_states::keeps_law;
+use vm_moving::keeps_law;
 
 /// An instruction acts in each program as it does there, where the running call goes on at the start of an instruction with known
 /// slots and locals; and one that moves frames alone acts as it goes, where the running call stays known.

@@ -22,3 +22,5 @@ pub use moving::{
 };
 pub use operating::{attribute_on, jump_to, name_on, number_on, plain_on};
 pub use operators::{binary_op, unary_op, visits_binary_op};
+pub use vm_known::{End, ModuleName, assigned, load_name};
+pub use vm_moving::{Fetched, Instruction, JumpOp, NameOp, NumberOp, PlainOp};

@@ -1,8 +1,8 @@
 //! Operations on locals, as they were fetched for calls of a program.
 
-ghost use Rattle.vm_fetching.specs.declared.instruction.Instruction.TheVariants as fetched;
+ghost use Rattle.vm_moving.specs.vm_fetching.declared.instruction.Instruction.TheVariants as fetched;
 ghost use Rattle.vm_sights.specs.Sights.{under};
-ghost use Rattle.vm_fetching.specs.declared.operations.NumberOp.TheVariants as number_ops;
+ghost use Rattle.vm_moving.specs.vm_fetching.declared.operations.NumberOp.TheVariants as number_ops;
 ghost use Rattle.vm_known.specs.Acting.{RunsOver};
 ghost use Rattle.vm_operating.specs.Keeping.{ActsKeeping};
 
@@ -23,7 +23,7 @@ pub(crate) fn load_fast<C: Constants>(
     ensures acts { under C.Constants consts.now ActsKeeping (record { instruction = fetched.Number number_ops.LoadFast n; end = end }) 0 arena.now arena.now frames.old frames.new result }
 {
     acting_law();
-    vm_instructions::load_fast(frames, arena, consts, n, end)
+    vm_known::load_fast(frames, arena, consts, n, end)
 }
 
 /// LOAD_FAST in more bytes.
@@ -38,7 +38,7 @@ pub(crate) fn load_fast_n<C: Constants>(
     ensures acts { under C.Constants consts.now ActsKeeping (record { instruction = fetched.Number number_ops.LoadFastN n; end = end }) 0 arena.now arena.now frames.old frames.new result }
 {
     acting_law();
-    vm_instructions::load_fast(frames, arena, consts, n, end)
+    vm_known::load_fast(frames, arena, consts, n, end)
 }
 
 /// DELETE_FAST.
@@ -53,5 +53,5 @@ pub(crate) fn delete_fast<C: Constants>(
     ensures acts { under C.Constants consts.now ActsKeeping (record { instruction = fetched.Number number_ops.DeleteFast n; end = end }) 0 arena.now arena.now frames.old frames.new result }
 {
     acting_law();
-    vm_instructions::delete_fast(frames, arena, consts, n, end)
+    vm_known::delete_fast(frames, arena, consts, n, end)
 }

@@ -1,10 +1,10 @@
 //! Instructions that move frames alone, over an arena that stays.
 
-ghost use Rattle.vm_fetching.specs.declared.instruction.Instruction.TheVariants as fetched;
+ghost use Rattle.vm_moving.specs.vm_fetching.declared.instruction.Instruction.TheVariants as fetched;
 ghost use Rattle.vm_sights.specs.Sights.{under};
-ghost use Rattle.vm_fetching.specs.declared.operations.JumpOp.TheVariants as jump_ops;
-ghost use Rattle.vm_fetching.specs.declared.operations.NameOp.TheVariants as name_ops;
-ghost use Rattle.vm_fetching.specs.declared.operations.NumberOp.TheVariants as number_ops;
+ghost use Rattle.vm_moving.specs.vm_fetching.declared.operations.JumpOp.TheVariants as jump_ops;
+ghost use Rattle.vm_moving.specs.vm_fetching.declared.operations.NameOp.TheVariants as name_ops;
+ghost use Rattle.vm_moving.specs.vm_fetching.declared.operations.NumberOp.TheVariants as number_ops;
 ghost use Rattle.vm_moving.specs.Moving.{MovesSlots, fetched_plain};
 ghost use Rattle.vm_known.specs.Acting.{RunsOver};
 ghost use Rattle.vm_operating.specs.Keeping.{ActsKeeping};
@@ -12,11 +12,10 @@ ghost use Rattle.vm_operating.specs.Keeping.{ActsKeeping};
 use crate::law::acting_law;
 use arena_heap::{Arena, Constants, StrNo, Value};
 use vm_faults::Stop;
-use vm_fetching::{NumberOp, PlainOp};
 use vm_frames::Frames;
 use vm_moving::{
-    begin_except, begin_finally, end_except, jump_on, jump_out, load_constant, load_small,
-    load_str, move_slots, store_local,
+    NumberOp, PlainOp, begin_except, begin_finally, end_except, jump_on, jump_out, load_constant,
+    load_small, load_str, move_slots, store_local,
 };
 use vm_tops::tops_law;
 

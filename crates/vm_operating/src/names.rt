@@ -1,8 +1,8 @@
 //! Operations on the names of a module, as they were fetched for calls of a program.
 
-ghost use Rattle.vm_fetching.specs.declared.instruction.Instruction.TheVariants as fetched;
+ghost use Rattle.vm_moving.specs.vm_fetching.declared.instruction.Instruction.TheVariants as fetched;
 ghost use Rattle.vm_sights.specs.Sights.{under};
-ghost use Rattle.vm_fetching.specs.declared.operations.NameOp.TheVariants as name_ops;
+ghost use Rattle.vm_moving.specs.vm_fetching.declared.operations.NameOp.TheVariants as name_ops;
 ghost use Rattle.vm_known.specs.Acting.{RunsOver};
 ghost use Rattle.vm_operating.specs.Keeping.{ActsKeeping};
 
@@ -24,7 +24,7 @@ pub(crate) fn load_name<C: Constants>(
     ensures acts { under C.Constants consts.now ActsKeeping (record { instruction = fetched.Name name_ops.LoadName name; end = end }) 0 arena.now arena.now frames.old frames.new result }
 {
     acting_law();
-    vm_instructions::load_name(frames, arena, consts, name, end)
+    vm_known::load_name(frames, arena, consts, name, end)
 }
 
 /// LOAD_GLOBAL.
@@ -39,7 +39,7 @@ pub(crate) fn load_global<C: Constants>(
     ensures acts { under C.Constants consts.now ActsKeeping (record { instruction = fetched.Name name_ops.LoadGlobal name; end = end }) 0 arena.now arena.now frames.old frames.new result }
 {
     acting_law();
-    vm_instructions::load_name(frames, arena, consts, name, end)
+    vm_known::load_name(frames, arena, consts, name, end)
 }
 
 /// STORE_NAME.
@@ -55,7 +55,7 @@ pub(crate) fn store_name<C: Constants>(
 {
     acting_law();
     tops_law();
-    vm_instructions::store_name(frames, arena, consts, name, end)
+    vm_known::store_name(frames, arena, consts, name, end)
 }
 
 /// STORE_GLOBAL.
@@ -71,7 +71,7 @@ pub(crate) fn store_global<C: Constants>(
 {
     acting_law();
     tops_law();
-    vm_instructions::store_name(frames, arena, consts, name, end)
+    vm_known::store_name(frames, arena, consts, name, end)
 }
 
 /// DELETE_NAME.
@@ -86,7 +86,7 @@ pub(crate) fn delete_name<C: Constants>(
     ensures acts { under C.Constants consts.now ActsKeeping (record { instruction = fetched.Name name_ops.DeleteName name; end = end }) 0 arena.old arena.new frames.old frames.new result }
 {
     acting_law();
-    vm_instructions::delete_name(frames, arena, consts, name, end)
+    vm_known::delete_name(frames, arena, consts, name, end)
 }
 
 /// DELETE_GLOBAL.
@@ -101,5 +101,5 @@ pub(crate) fn delete_global<C: Constants>(
     ensures acts { under C.Constants consts.now ActsKeeping (record { instruction = fetched.Name name_ops.DeleteGlobal name; end = end }) 0 arena.old arena.new frames.old frames.new result }
 {
     acting_law();
-    vm_instructions::delete_name(frames, arena, consts, name, end)
+    vm_known::delete_name(frames, arena, consts, name, end)
 }

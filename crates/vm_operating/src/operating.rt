@@ -2,7 +2,7 @@
 
 ghost use Rattle.std.specs.Prelude.{◌≤◌, length};
 ghost use Rattle.vm_sights.specs.Sights.{under};
-ghost use Rattle.vm_fetching.specs.declared.instruction.Instruction.TheVariants as fetched;
+ghost use Rattle.vm_moving.specs.vm_fetching.declared.instruction.Instruction.TheVariants as fetched;
 ghost use Rattle.vm_moving.specs.Moving.{fetched_plain};
 ghost use Rattle.vm_known.specs.Acting.{RunsOver};
 ghost use Rattle.vm_operating.specs.Keeping.{ActsKeeping};
@@ -21,8 +21,8 @@ use crate::names::{delete_global, delete_name, load_global, load_name, store_glo
 use crate::subscripts::{load_subscr, store_map, store_subscr};
 use arena_heap::{Arena, Constants, StrNo, Value};
 use vm_faults::Stop;
-use vm_fetching::{JumpOp, NameOp, NumberOp, PlainOp};
 use vm_frames::Frames;
+use vm_moving::{JumpOp, NameOp, NumberOp, PlainOp};
 use vm_tops::tops_law;
 
 /// An operation without an operand: on constants, slots, items and iterators. It makes no visits.

@@ -2,7 +2,7 @@
 
 ghost use Rattle.std.specs.Prelude.{◌≡◌, min};
 ghost use Rattle.vm_sights.specs.Sights.{under};
-ghost use Rattle.vm_fetching.specs.declared.instruction.Instruction.TheVariants as fetched;
+ghost use Rattle.vm_moving.specs.vm_fetching.declared.instruction.Instruction.TheVariants as fetched;
 ghost use Rattle.vm_known.specs.Acting.{RunsOver};
 ghost use Rattle.vm_operating.specs.Keeping.{ActsKeeping};
 ghost use Rattle.vm_operating.specs.Operators.{visits_binary};
@@ -26,7 +26,7 @@ pub fn unary_op<C: Constants>(
 {
     acting_law();
     tops_law();
-    vm_instructions::unary_op(frames, arena, consts, number, end)
+    vm_known::unary_op(frames, arena, consts, number, end)
 }
 
 /// BINARY_OP. Its visits are those of the operator (`visits_binary_op`).
@@ -42,7 +42,7 @@ pub fn binary_op<C: Constants>(
 {
     acting_law();
     tops_law();
-    vm_instructions::binary_op(frames, arena, consts, number, end)
+    vm_known::binary_op(frames, arena, consts, number, end)
 }
 
 /// How many visits BINARY_OP makes, up to `most`. It goes no further.
@@ -59,5 +59,5 @@ pub fn visits_binary_op<C: Constants>(
 {
     tops_law();
     let _ = end;
-    vm_instructions::visits_binary_op(frames, arena, consts, number, most)
+    vm_known::visits_binary_op(frames, arena, consts, number, most)
 }

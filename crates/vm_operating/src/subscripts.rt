@@ -3,8 +3,8 @@
 ghost use Rattle.std.specs.Prelude.{◌≡◌, true, false};
 ghost use Rattle.arena_heap.specs.declared.value.Value.{Value as Item};
 ghost use Rattle.vm_sights.specs.Sights.{under};
-ghost use Rattle.vm_instructions.specs.Slots.{HasValue, HasNull};
-ghost use Rattle.vm_fetching.specs.declared.operations.PlainOp.TheVariants as plain_ops;
+ghost use Rattle.vm_known.specs.vm_instructions.Slots.{HasValue, HasNull};
+ghost use Rattle.vm_moving.specs.vm_fetching.declared.operations.PlainOp.TheVariants as plain_ops;
 ghost use Rattle.vm_moving.specs.Moving.{fetched_plain};
 ghost use Rattle.vm_known.specs.Acting.{RunsOver};
 ghost use Rattle.vm_operating.specs.Keeping.{ActsKeeping};
@@ -28,7 +28,7 @@ pub(crate) fn load_subscr<C: Constants>(
 {
     acting_law();
     tops_law();
-    vm_instructions::load_subscr(frames, arena, consts, end)
+    vm_known::load_subscr(frames, arena, consts, end)
 }
 
 /// Is the slot empty?
@@ -68,7 +68,7 @@ fn set_subscr<C: Constants>(
 {
     acting_law();
     tops_law();
-    vm_instructions::store_subscr(frames, arena, consts, end)
+    vm_known::store_subscr(frames, arena, consts, end)
 }
 
 /// STORE_SUBSCR, where an item is deleted: no value lies below the object.
@@ -84,7 +84,7 @@ fn delete_subscr<C: Constants>(
 {
     acting_law();
     tops_law();
-    vm_instructions::delete_subscr(frames, arena, consts, end)
+    vm_known::delete_subscr(frames, arena, consts, end)
 }
 
 /// STORE_SUBSCR: an item is set, or deleted where no value lies below the object.
@@ -117,5 +117,5 @@ pub(crate) fn store_map<C: Constants>(
 {
     acting_law();
     tops_law();
-    vm_instructions::store_map(frames, arena, consts, end)
+    vm_known::store_map(frames, arena, consts, end)
 }

@@ -15,7 +15,7 @@ use Rattle.bc_progress.specs.Plans.{Plan, Plans, IsVerifiedModule, Follows}
 use Rattle.bc_verified.specs.Rooms.{TakesAtMost, PlanAtMost}
 use Rattle.bc_resolved.specs.Stored.{Stored, Kept, Refused, IsMachineModule, IsLibraryOf, AllModules}
 use Rattle.bc_rows.specs.Codes.{code_at}
-use Rattle.vm_step.specs.Shown.{Tables}
+use Rattle.vm_states.specs.vm_step.Shown.{Tables}
 use Rattle.vm_states.specs.Means.{Program, IsMeant, Means}
 use Rattle.vm_programs.specs.Programs.{IsRunnable, stored_of, FindsAll, FitsGreatest, IsProgramOf}
 use Rattle.vm_programs.proofs.Offsets.{Once, code_of_module, offsets_of, starts_are}

@@ -8,3 +8,4 @@ mod texts;
 
 pub use place::Place;
 pub use raising::{fault_at, raise_value, stop_at};
+pub use vm_types::{make_tuple, op_match};

@@ -16,24 +16,24 @@ use Rattle.bc_rows.specs.declared.row.Row.{Row}
 use Rattle.vm_faults.specs.declared.stop.Stop.{Stop}
 use Rattle.vm_faults.specs.declared.stop.Stop.TheVariants as stops
 use Rattle.vm_faults.specs.Outcomes.{IsKnownAnswer}
-use Rattle.vm_calls.specs.Calls.{Seen}
-use Rattle.vm_calls.specs.declared.callees.Callee.{Callee}
-use Rattle.vm_calls.specs.declared.calls.CallStop.{CallStop}
-use Rattle.vm_calls.specs.declared.calls.CallStop.TheVariants as calls
+use Rattle.vm_calling.specs.vm_calls.Calls.{Seen}
+use Rattle.vm_calling.specs.vm_calls.declared.callees.Callee.{Callee}
+use Rattle.vm_calling.specs.vm_calls.declared.calls.CallStop.{CallStop}
+use Rattle.vm_calling.specs.vm_calls.declared.calls.CallStop.TheVariants as calls
 use Rattle.vm_modules.specs.Registry.{Registry, plain_modules}
 use Rattle.vm_frames.specs.Calls.{Calls}
-use Rattle.vm_step.specs.Shown.{Tables, running_of}
-use Rattle.vm_step.specs.Outcomes.{world_of, stopping_of}
-use Rattle.vm_invoking.specs.Built.{IsKnownCallStop}
-use Rattle.vm_invoking.specs.Operands.{Given}
-use Rattle.vm_unwinding.specs.declared.names.ModuleName.{ModuleName}
-use Rattle.vm_unwinding.specs.declared.ends.End.{End}
-use Rattle.vm_unwinding.specs.Ends.{with_modules, state_of}
-use Rattle.vm_fetching.specs.declared.instruction.Fetched.{Fetched}
-use Rattle.vm_states.specs.Means.{Program, Means}
-use Rattle.vm_states.specs.Ready.{IsReady}
-use Rattle.vm_known.specs.State.{IsState}
-use Rattle.vm_known.specs.Acting.{Tells}
+use Rattle.vm_leaving.specs.vm_step.Shown.{Tables, running_of}
+use Rattle.vm_leaving.specs.vm_step.Outcomes.{world_of, stopping_of}
+use Rattle.vm_calling.specs.vm_invoking.Built.{IsKnownCallStop}
+use Rattle.vm_calling.specs.vm_invoking.Operands.{Given}
+use Rattle.vm_leaving.specs.vm_unwinding.declared.names.ModuleName.{ModuleName}
+use Rattle.vm_leaving.specs.vm_unwinding.declared.ends.End.{End}
+use Rattle.vm_leaving.specs.vm_unwinding.Ends.{with_modules, state_of}
+use Rattle.vm_leaving.specs.vm_fetching.declared.instruction.Fetched.{Fetched}
+use Rattle.vm_leaving.specs.vm_states.Means.{Program, Means}
+use Rattle.vm_leaving.specs.vm_states.Ready.{IsReady}
+use Rattle.vm_leaving.specs.vm_known.State.{IsState}
+use Rattle.vm_leaving.specs.vm_known.Acting.{Tells}
 use Rattle.vm_calling.specs.Called.{CallsIn, CallComes, HeapComes, HeapComesIn}
 use Rattle.vm_calling.specs.Runs.{RunsIn, RunsWithin, RunsAgain}
 use Rattle.vm_leaving.specs.Modules.{AreNames, AreRegistered}

@@ -4,8 +4,8 @@ use Rattle.mpy_base.specs.World.{Heap}
 use Rattle.arena_heap.specs.declared.value.Value.{Value}
 use Rattle.vm_modules.specs.Registry.{Registry}
 use Rattle.vm_frames.specs.Calls.{Calls}
-use Rattle.vm_unwinding.specs.declared.ends.End.{End}
-use Rattle.vm_states.specs.Means.{Program}
+use Rattle.vm_leaving.specs.vm_unwinding.declared.ends.End.{End}
+use Rattle.vm_leaving.specs.vm_states.Means.{Program}
 use Rattle.vm_leaving.specs.Running.{RunsOn}
 use Rattle.vm_running.specs.Comes.{ComesOn}
 

@@ -6,9 +6,9 @@ use Rattle.arena_heap.specs.declared.value.StrNo.{StrNo}
 use Rattle.arena_heap.specs.declared.value.ConstNo.{ConstNo}
 use Rattle.vm_faults.specs.declared.stop.Stop.{Stop}
 use Rattle.vm_frames.specs.Calls.{Calls}
-use Rattle.vm_fetching.specs.declared.instruction.Fetched.{Fetched}
-use Rattle.vm_fetching.specs.declared.instruction.Instruction.{Instruction}
-use Rattle.vm_known.specs.Acting.{RunsOver}
+use Rattle.vm_leaving.specs.vm_fetching.declared.instruction.Fetched.{Fetched}
+use Rattle.vm_leaving.specs.vm_fetching.declared.instruction.Instruction.{Instruction}
+use Rattle.vm_leaving.specs.vm_known.Acting.{RunsOver}
 use Rattle.vm_operating.specs.Keeping.{ActsKeeping}
 use Rattle.vm_running.specs.Values.{value_visits}
 

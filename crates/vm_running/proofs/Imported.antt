@@ -12,15 +12,15 @@ use Rattle.vm_faults.specs.declared.stop.Stop.{Stop}
 use Rattle.vm_faults.specs.Outcomes.{IsKnownAnswer}
 use Rattle.vm_modules.specs.Registry.{Registry}
 use Rattle.vm_frames.specs.Calls.{Calls}
-use Rattle.vm_step.specs.Outcomes.{stopping_of}
-use Rattle.vm_unwinding.specs.declared.names.ModuleName.{ModuleName}
-use Rattle.vm_unwinding.specs.declared.ends.End.{End}
-use Rattle.vm_unwinding.specs.Ends.{with_modules}
-use Rattle.vm_fetching.specs.declared.instruction.Fetched.{Fetched}
-use Rattle.vm_states.specs.Means.{Program, Means}
-use Rattle.vm_states.specs.Ready.{IsReady}
-use Rattle.vm_known.specs.State.{IsState}
-use Rattle.vm_known.specs.Acting.{Tells}
+use Rattle.vm_leaving.specs.vm_step.Outcomes.{stopping_of}
+use Rattle.vm_leaving.specs.vm_unwinding.declared.names.ModuleName.{ModuleName}
+use Rattle.vm_leaving.specs.vm_unwinding.declared.ends.End.{End}
+use Rattle.vm_leaving.specs.vm_unwinding.Ends.{with_modules}
+use Rattle.vm_leaving.specs.vm_fetching.declared.instruction.Fetched.{Fetched}
+use Rattle.vm_leaving.specs.vm_states.Means.{Program, Means}
+use Rattle.vm_leaving.specs.vm_states.Ready.{IsReady}
+use Rattle.vm_leaving.specs.vm_known.State.{IsState}
+use Rattle.vm_leaving.specs.vm_known.Acting.{Tells}
 use Rattle.vm_leaving.specs.Importing.{fetched_import, Imports, ImportsBehind}
 use Rattle.vm_leaving.specs.Modules.{AreNames, AreRegistered}
 use Rattle.vm_leaving.specs.Running.{stepped_with, RunsAt, RunsWith, StopsOn}

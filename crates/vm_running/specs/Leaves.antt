@@ -1,6 +1,6 @@
 -- Operations that return from the running call, or raise.
-use Rattle.vm_fetching.specs.declared.operations.PlainOp.{PlainOp}
-use Rattle.vm_fetching.specs.declared.operations.PlainOp.TheVariants as plain_ops
+use Rattle.vm_leaving.specs.vm_fetching.declared.operations.PlainOp.{PlainOp}
+use Rattle.vm_leaving.specs.vm_fetching.declared.operations.PlainOp.TheVariants as plain_ops
 
 -- the operation returns or raises
 abbrev pub LeavesCall : PlainOp → Type 0

@@ -6,10 +6,10 @@ use Rattle.arena_heap.specs.declared.value.Value.{Value}
 use Rattle.arena_heap.specs.declared.value.StrNo.{StrNo}
 use Rattle.arena_heap.specs.declared.value.ConstNo.{ConstNo}
 use Rattle.vm_frames.specs.Calls.{Call}
-use Rattle.vm_fetching.specs.declared.instruction.Instruction.{Instruction}
-use Rattle.vm_fetching.specs.declared.instruction.Instruction.TheVariants as fetched
-use Rattle.vm_fetching.specs.declared.operations.NameOp.{NameOp}
-use Rattle.vm_fetching.specs.declared.operations.NameOp.TheVariants as name_ops
+use Rattle.vm_leaving.specs.vm_fetching.declared.instruction.Instruction.{Instruction}
+use Rattle.vm_leaving.specs.vm_fetching.declared.instruction.Instruction.TheVariants as fetched
+use Rattle.vm_leaving.specs.vm_fetching.declared.operations.NameOp.{NameOp}
+use Rattle.vm_leaving.specs.vm_fetching.declared.operations.NameOp.TheVariants as name_ops
 use Rattle.vm_operating.specs.Operations.{IsPlainOperation, IsNumberOperation}
 use Rattle.vm_operating.specs.Operators.{visits_binary}
 

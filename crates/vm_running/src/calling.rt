@@ -5,8 +5,8 @@ ghost use Rattle.mpy_io.specs.Count.{Counts};
 ghost use Rattle.port_set.specs.Counts.{CountsKeep};
 ghost use Rattle.bc_library.specs.Constants.{items_at, text_at};
 ghost use Rattle.vm_frames.specs.Calls.{OfRunning};
-ghost use Rattle.vm_fetching.specs.declared.instruction.Instruction.TheVariants as fetched_as;
-ghost use Rattle.vm_states.specs.Means.{Program};
+ghost use Rattle.vm_leaving.specs.vm_fetching.declared.instruction.Instruction.TheVariants as fetched_as;
+ghost use Rattle.vm_leaving.specs.vm_states.Means.{Program};
 ghost use Rattle.vm_calling.specs.Runs.{IsFetchedAt};
 ghost use Rattle.vm_calling.specs.Taken.{CallsValue, IsTaken};
 ghost use Rattle.vm_leaving.specs.Running.{RunsWith};
@@ -17,14 +17,10 @@ use bc_library::Library;
 use bc_rows::{Row, Rows};
 use mpy_io::{Failed, Port, Sink};
 use port_set::PortSet;
-use vm_calling::call_on;
-use vm_calls::CallStop;
-use vm_fetching::NumberOp;
+use vm_calling::{Bindings, CallStop, Invocation, Operands, call_on};
 use vm_frames::Frames;
-use vm_invoking::{Bindings, Invocation, Operands};
-use vm_leaving::{registered_law, stop_on};
+use vm_leaving::{End, ModuleName, NumberOp, registered_law, stop_on};
 use vm_modules::Modules;
-use vm_unwinding::{End, ModuleName};
 
 /// CALL_FUNCTION or CALL_METHOD, that was fetched for the running call, of this row, and taken by `vm_calling::take_call`, where its
 /// visits are paid; where it stops, the stop is raised at its place. It answers how the run ends, if it does. Where the sink

@@ -3,8 +3,8 @@
 ghost use Rattle.std.specs.Prelude.{◌≡◌};
 ghost use Rattle.bc_rows.specs.declared.row.Row.{Row as CodeRow};
 ghost use Rattle.vm_sights.specs.Sights.{under};
-ghost use Rattle.vm_fetching.specs.declared.operations.PlainOp.TheVariants as plain_ops;
-ghost use Rattle.vm_states.specs.Means.{Program};
+ghost use Rattle.vm_leaving.specs.vm_fetching.declared.operations.PlainOp.TheVariants as plain_ops;
+ghost use Rattle.vm_leaving.specs.vm_states.Means.{Program};
 ghost use Rattle.vm_leaving.specs.Keeping.{KeepsCause};
 ghost use Rattle.vm_leaving.specs.Running.{fetched_plain, RunsWith};
 ghost use Rattle.vm_running.specs.Comes.{ComesOnBehind};
@@ -13,9 +13,8 @@ use arena_heap::{Arena, Constants};
 use bc_library::Library;
 use bc_rows::Rows;
 use vm_frames::Frames;
-use vm_leaving::end_finally_on;
+use vm_leaving::{End, ModuleName, end_finally_on};
 use vm_modules::Modules;
-use vm_unwinding::{End, ModuleName};
 
 /// END_FINALLY, that was fetched for the running call: it goes on with what the finally kept. It answers how the run ends, if it
 /// does. It makes no visits.

@@ -2,7 +2,7 @@
 
 ghost use Rattle.std.specs.Prelude.{◌≡◌, ◌<◌, ◌^◌, Some, codes};
 ghost use Rattle.vm_sights.specs.Sights.{under};
-ghost use Rattle.vm_states.specs.Means.{Program};
+ghost use Rattle.vm_leaving.specs.vm_states.Means.{Program};
 ghost use Rattle.vm_leaving.specs.Importing.{fetched_import};
 ghost use Rattle.vm_leaving.specs.Running.{RunsWith};
 ghost use Rattle.vm_running.specs.Comes.{ComesOnBehind};
@@ -11,9 +11,8 @@ use arena_heap::{Arena, Constants, StrNo};
 use bc_library::Library;
 use bc_rows::{Row, Rows};
 use vm_frames::Frames;
-use vm_leaving::{import_on, stop_on};
+use vm_leaving::{End, ModuleName, import_on, stop_on};
 use vm_modules::Modules;
-use vm_unwinding::{End, ModuleName};
 
 /// IMPORT_NAME of the text with the number, that was fetched for the running call, of this row; where it stops, the stop is raised
 /// at its place. It answers how the run ends, if it does. `key` is the text `__name__`.

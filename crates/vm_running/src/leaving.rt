@@ -2,18 +2,16 @@
 
 ghost use Rattle.std.specs.Prelude.{◌≡◌, ℕ};
 ghost use Rattle.vm_sights.specs.Sights.{under};
-ghost use Rattle.vm_states.specs.Means.{Program};
+ghost use Rattle.vm_leaving.specs.vm_states.Means.{Program};
 ghost use Rattle.vm_leaving.specs.Running.{fetched_plain, RunsWith, RunsOnBehind};
 ghost use Rattle.vm_running.specs.Leaves.{LeavesCall};
 
 use arena_heap::{Arena, Constants};
 use bc_library::Library;
 use bc_rows::{Row, Rows};
-use vm_fetching::PlainOp;
 use vm_frames::Frames;
-use vm_leaving::{raise_again_on, raise_on, return_on};
+use vm_leaving::{End, ModuleName, PlainOp, raise_again_on, raise_on, return_on};
 use vm_modules::Modules;
-use vm_unwinding::{End, ModuleName};
 
 /// A return or a raise that was fetched for the running call, of this row. It answers how the run ends, if it does. It makes no
 /// visits.

@@ -2,9 +2,9 @@
 
 ghost use Rattle.std.specs.Prelude.{◌≡◌};
 ghost use Rattle.bc_library.specs.Constants.{items_at, text_at};
-ghost use Rattle.vm_fetching.specs.declared.instruction.Instruction.TheVariants as fetched_as;
-ghost use Rattle.vm_fetching.specs.declared.operations.NumberOp.TheVariants as number_ops;
-ghost use Rattle.vm_states.specs.Means.{Program};
+ghost use Rattle.vm_leaving.specs.vm_fetching.declared.instruction.Instruction.TheVariants as fetched_as;
+ghost use Rattle.vm_leaving.specs.vm_fetching.declared.operations.NumberOp.TheVariants as number_ops;
+ghost use Rattle.vm_leaving.specs.vm_states.Means.{Program};
 ghost use Rattle.vm_leaving.specs.Running.{RunsWith};
 ghost use Rattle.vm_running.specs.Comes.{ComesOnBehind};
 
@@ -13,9 +13,8 @@ use bc_library::Library;
 use bc_rows::{Row, Rows};
 use vm_calling::{make_function, make_function_with};
 use vm_frames::Frames;
-use vm_leaving::{registered_law, stop_on};
+use vm_leaving::{End, ModuleName, registered_law, stop_on};
 use vm_modules::Modules;
-use vm_unwinding::{End, ModuleName};
 
 /// MAKE_FUNCTION of the child with the number, that was fetched for the running call, of this row: a function without defaults.
 /// Where it stops, the stop is raised at its place. It answers how the run ends, if it does. It makes no visits.

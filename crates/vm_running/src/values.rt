@@ -3,9 +3,9 @@
 ghost use Rattle.std.specs.Prelude.{◌≡◌, ◌≤◌, length};
 ghost use Rattle.bc_library.specs.Shelf.{Shelf};
 ghost use Rattle.vm_sights.specs.Sights.{under};
-ghost use Rattle.vm_fetching.specs.declared.instruction.Instruction.TheVariants as fetched_as;
-ghost use Rattle.vm_states.specs.Means.{Program};
-ghost use Rattle.vm_known.specs.Acting.{RunsOver};
+ghost use Rattle.vm_leaving.specs.vm_fetching.declared.instruction.Instruction.TheVariants as fetched_as;
+ghost use Rattle.vm_leaving.specs.vm_states.Means.{Program};
+ghost use Rattle.vm_leaving.specs.vm_known.Acting.{RunsOver};
 ghost use Rattle.vm_leaving.specs.Running.{RunsWith};
 ghost use Rattle.vm_operating.specs.Keeping.{ActsKeeping};
 ghost use Rattle.vm_running.specs.Comes.{ComesOnBehind};
@@ -14,15 +14,13 @@ ghost use Rattle.vm_running.specs.Values.{UsesName, ActsOnValues, value_visits};
 use arena_heap::{Arena, Constants, StrNo, Value};
 use bc_rows::Row;
 use vm_faults::Stop;
-use vm_fetching::{Fetched, Instruction, NameOp};
 use vm_frames::Frames;
-use vm_leaving::{registered_law, stop_on};
+use vm_leaving::{End, Fetched, Instruction, ModuleName, NameOp, registered_law, stop_on};
 use vm_modules::Modules;
 use vm_operating::{
     attribute_on, binary_op, jump_to, load_int, load_object, name_on, number_on, plain_on,
     unary_op, unwind_jump,
 };
-use vm_unwinding::{End, ModuleName};
 
 /// A text, a name of the running call's module, or an attribute of a value. It makes no visits.
 #[tactic(none)]

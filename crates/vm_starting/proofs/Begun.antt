@@ -40,12 +40,12 @@ use Rattle.vm_modules.specs.Registry.{Registry}
 use Rattle.vm_modules.specs.Effects.{IsMaking, AreMade, made_answer, world_with}
 use Rattle.vm_moves.specs.Views.{View, role_of, locals_of, starts_of, frame_of}
 use Rattle.vm_moves.specs.Placed.{IsPlaced}
-use Rattle.vm_step.specs.Shown.{view_of, running_of}
-use Rattle.vm_step.specs.Outcomes.{world_of}
-use Rattle.vm_unwinding.specs.Ends.{with_modules}
-use Rattle.vm_unwinding.specs.Known as known
-use Rattle.vm_states.specs.Means.{Program, Means}
-use Rattle.vm_states.specs.Running.{FitCalls, HasRooms, IsOfModule}
+use Rattle.vm_invoking.specs.vm_step.Shown.{view_of, running_of}
+use Rattle.vm_invoking.specs.vm_step.Outcomes.{world_of}
+use Rattle.vm_known.specs.vm_unwinding.Ends.{with_modules}
+use Rattle.vm_known.specs.vm_unwinding.Known as known
+use Rattle.vm_programs.specs.vm_states.Means.{Program, Means}
+use Rattle.vm_programs.specs.vm_states.Running.{FitCalls, HasRooms, IsOfModule}
 use Rattle.vm_known.specs.State.{IsKnownCall, IsState}
 use Rattle.vm_programs.specs.Codes.{IsCodeOf}
 use Rattle.vm_walks.specs.Plain.{plain_name, plain_heap}

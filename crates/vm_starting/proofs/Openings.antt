@@ -22,10 +22,10 @@ use Rattle.bc_rows.specs.Rows.{IsRow}
 use Rattle.py_effects.specs.Ends.{new_world}
 use Rattle.vm_frames.specs.Calls.{Calls}
 use Rattle.vm_modules.specs.Registry.{Registry}
-use Rattle.vm_step.specs.Outcomes.{world_of}
-use Rattle.vm_unwinding.specs.Ends.{with_modules}
-use Rattle.vm_states.specs.Means.{Program}
-use Rattle.vm_states.specs.Running.{HasRooms}
+use Rattle.vm_invoking.specs.vm_step.Outcomes.{world_of}
+use Rattle.vm_known.specs.vm_unwinding.Ends.{with_modules}
+use Rattle.vm_programs.specs.vm_states.Means.{Program}
+use Rattle.vm_programs.specs.vm_states.Running.{HasRooms}
 use Rattle.vm_programs.specs.Codes.{IsCodeOf}
 use Rattle.vm_programs.specs.Programs.{IsProgramOf}
 use Rattle.vm_starting.specs.Starting.{IsMain}

@@ -9,10 +9,10 @@ use Rattle.arena_objects.specs.Iterables.{or_nothing}
 use Rattle.py_effects.specs.Modules as modules
 use Rattle.bc_library.specs.Shelf.{Shelf, Named}
 use Rattle.vm_walks.specs.Plain.{plain_name}
-use Rattle.vm_unwinding.specs.declared.names.ModuleName.{ModuleName}
-use Rattle.vm_unwinding.specs.Left.{HasLast}
-use Rattle.vm_unwinding.specs.Names.{AreTablesOf}
-use Rattle.vm_states.specs.Means.{Program, Means}
+use Rattle.vm_known.specs.vm_unwinding.declared.names.ModuleName.{ModuleName}
+use Rattle.vm_known.specs.vm_unwinding.Left.{HasLast}
+use Rattle.vm_known.specs.vm_unwinding.Names.{AreTablesOf}
+use Rattle.vm_programs.specs.vm_states.Means.{Program, Means}
 use Rattle.vm_starting.specs.Titles.{AreTitles}
 use Rattle.vm_starting.proofs.Lasts.{last_is}
 

@@ -8,9 +8,9 @@ use Rattle.bc_library.specs.Greatest.{IsGreatestIn, ShelfHas}
 use Rattle.bc_library.specs.Shelf.{Shelf}
 use Rattle.bc_machine.specs.State.{State}
 use Rattle.vm_modules.specs.Registry.{Registry}
-use Rattle.vm_step.specs.Outcomes.{world_of}
-use Rattle.vm_unwinding.specs.Ends.{with_modules, state_of}
-use Rattle.vm_states.specs.Means.{Program}
+use Rattle.vm_invoking.specs.vm_step.Outcomes.{world_of}
+use Rattle.vm_known.specs.vm_unwinding.Ends.{with_modules, state_of}
+use Rattle.vm_programs.specs.vm_states.Means.{Program}
 use Rattle.vm_starting.specs.declared.opening.Vm.{Vm}
 use Rattle.vm_starting.specs.Starting.{Begins}
 use Rattle.vm_starting.specs.Titles.{AreTitles}

@@ -18,8 +18,8 @@ use Rattle.vm_walks.specs.Plain.{plain_name}
 use Rattle.vm_modules.specs.declared.makings.Made.{Made}
 use Rattle.vm_modules.specs.Effects.{IsMaking}
 use Rattle.vm_modules.specs.Registry.{Registry, with_entry}
-use Rattle.vm_step.specs.Shown.{running_of}
-use Rattle.vm_states.specs.Means.{Program}
+use Rattle.vm_invoking.specs.vm_step.Shown.{running_of}
+use Rattle.vm_programs.specs.vm_states.Means.{Program}
 use Rattle.vm_starting.specs.declared.starting.TheConstants.{MAIN}
 
 -- the module with this name has this number, and its code 0 these locals

@@ -3,7 +3,7 @@ use Rattle.std.specs.Prelude.{◌≡◌, ℕ, List, length, Some, slice_get, unw
 use Rattle.bc_library.specs.Shelf.{Shelf, Named}
 use Rattle.bc_library.specs.Texts.{last_part, text_numbered}
 use Rattle.qstr_pool.specs.Pool.{Texts}
-use Rattle.vm_unwinding.specs.declared.names.ModuleName.{ModuleName}
+use Rattle.vm_known.specs.vm_unwinding.declared.names.ModuleName.{ModuleName}
 
 -- what stands behind the last dot of a name, or the whole name where it has no dot
 abbrev pub last_of : List ℕ → List ℕ

@@ -8,3 +8,5 @@ mod starting;
 pub use names::names_law;
 pub use opening::Vm;
 pub use starting::{MAIN, NAME, start_main};
+pub use vm_invoking::Invocation;
+pub use vm_programs::program_law;

@@ -2,10 +2,10 @@
 
 ghost use Rattle.std.specs.Prelude.{List, IsSome, All};
 ghost use Rattle.arena_heap.specs.declared.value.StrNo.TheVariants as strs;
-ghost use Rattle.vm_unwinding.specs.declared.names.ModuleName.{ModuleName as NameNumbers};
-ghost use Rattle.vm_unwinding.specs.Left.{HasLast};
-ghost use Rattle.vm_unwinding.specs.Names.{AreTablesOf};
-ghost use Rattle.vm_states.specs.Means.{Program, Means};
+ghost use Rattle.vm_known.specs.vm_unwinding.declared.names.ModuleName.{ModuleName as NameNumbers};
+ghost use Rattle.vm_known.specs.vm_unwinding.Left.{HasLast};
+ghost use Rattle.vm_known.specs.vm_unwinding.Names.{AreTablesOf};
+ghost use Rattle.vm_programs.specs.vm_states.Means.{Program, Means};
 ghost use Rattle.vm_starting.specs.Titles.{AreTitles};
 
 /// What the names of modules say of a program of the library: they are those of its tables, and their texts and those of their

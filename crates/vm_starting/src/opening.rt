@@ -11,10 +11,10 @@ ghost use Rattle.bc_machine.specs.Machine.{start};
 ghost use Rattle.bc_rows.specs.declared.row.Row.{Row as CodeRow};
 ghost use Rattle.bc_rows.specs.Rows.{IsRow};
 ghost use Rattle.py_effects.specs.Ends.{new_world};
-ghost use Rattle.vm_states.specs.Means.{Program};
+ghost use Rattle.vm_programs.specs.vm_states.Means.{Program};
 ghost use Rattle.vm_known.specs.State.{IsState};
 ghost use Rattle.vm_programs.specs.Programs.{IsProgramOf, IsRunnable};
-ghost use Rattle.vm_unwinding.specs.declared.ends.End.TheVariants as ends;
+ghost use Rattle.vm_known.specs.vm_unwinding.declared.ends.End.TheVariants as ends;
 ghost use Rattle.vm_starting.specs.Opened.{HasMemory, IsBegun, IsFresh, state_in};
 ghost use Rattle.vm_starting.specs.Titles.{AreTitles};
 
@@ -27,9 +27,9 @@ use mpy_base::{NoMemory, Room};
 use std::alloc::Global;
 use vm_frames::Frames;
 use vm_invoking::{Bindings, Operands};
+use vm_known::{End, ModuleName};
 use vm_modules::Modules;
 use vm_programs::{code_law, program_law};
-use vm_unwinding::{End, ModuleName};
 
 /// What a run of a library keeps. All its memory is taken where it is opened.
 #[derive(Drop)]

@@ -6,10 +6,10 @@ ghost use Rattle.arena_objects.specs.Keys.{AllTold};
 ghost use Rattle.bc_library.specs.Constants.{items_at, text_at};
 ghost use Rattle.bc_machine.specs.Library.{Name};
 ghost use Rattle.bc_machine.specs.Machine.{start};
-ghost use Rattle.vm_step.specs.Outcomes.{world_of};
-ghost use Rattle.vm_unwinding.specs.Ends.{with_modules};
-ghost use Rattle.vm_states.specs.Means.{Program, Means};
-ghost use Rattle.vm_states.specs.Running.{HasRooms};
+ghost use Rattle.vm_invoking.specs.vm_step.Outcomes.{world_of};
+ghost use Rattle.vm_known.specs.vm_unwinding.Ends.{with_modules};
+ghost use Rattle.vm_programs.specs.vm_states.Means.{Program, Means};
+ghost use Rattle.vm_programs.specs.vm_states.Running.{HasRooms};
 ghost use Rattle.vm_known.specs.State.{IsState};
 ghost use Rattle.vm_starting.specs.Starting.{Begins, IsMain, started_of};
 

@@ -1,2 +1,3 @@
+pub use Rattle.vm_fetching.proofs.vm_step_lemmas
 mod Readying
 mod Onwards

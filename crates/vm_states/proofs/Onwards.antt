@@ -13,7 +13,7 @@ use Rattle.vm_frames.specs.declared.slot.Slot.{Slot}
 use Rattle.vm_frames.specs.Calls.{Call, Calls, change_first, on_running}
 use Rattle.vm_moves.specs.Placed.{IsPlaced}
 use Rattle.vm_moves.specs.Views.{View, starts_of}
-use Rattle.vm_step.specs.Shown.{view_of, running_of, step_of}
+use Rattle.vm_fetching.specs.vm_step.Shown.{view_of, running_of, step_of}
 use Rattle.bc_rows.specs.declared.row.Row.{Row}
 use Rattle.vm_fetching.specs.declared.instruction.Fetched.{Fetched}
 use Rattle.vm_states.specs.Means.{Program, Means}

@@ -25,7 +25,7 @@ use Rattle.bc_rows.specs.Runs.{RunsAs}
 use Rattle.vm_frames.specs.Calls.{Call, Calls}
 use Rattle.vm_moves.specs.Placed.{IsPlaced}
 use Rattle.vm_moves.specs.Views.{frame_of}
-use Rattle.vm_step.specs.Shown.{Tables, IsNext, view_of, running_of, step_of}
+use Rattle.vm_fetching.specs.vm_step.Shown.{Tables, IsNext, view_of, running_of, step_of}
 use Rattle.vm_fetching.specs.declared.instruction.Fetched.{Fetched}
 use Rattle.vm_fetching.specs.Fetches.{IsVerifiedRow, Fetches}
 use Rattle.vm_fetching.specs.Shows.{item_of_fetched, TargetStarts, LocalIsWithin}

@@ -12,7 +12,7 @@ use Rattle.bc_progress.specs.Plans.{Plans, Follows}
 use Rattle.bc_rows.specs.declared.row.Row.{Row}
 use Rattle.bc_rows.specs.Rows.{IsRow}
 use Rattle.vm_fetching.specs.Fetches.{AreOf}
-use Rattle.vm_step.specs.Shown.{Tables}
+use Rattle.vm_fetching.specs.vm_step.Shown.{Tables}
 
 -- a library of files, the machine's library, what numbers stand for, and how each code is verified
 pub record Program : Type 0 where

@@ -13,7 +13,7 @@ use Rattle.bc_rows.specs.declared.row.Row.{Row}
 use Rattle.bc_rows.specs.Runs.{RunsAs}
 use Rattle.vm_frames.specs.Calls.{Call, Calls}
 use Rattle.vm_moves.specs.Views.{starts_of, position_of, frame_of}
-use Rattle.vm_step.specs.Shown.{Tables, IsNext, view_of, running_of, step_of}
+use Rattle.vm_fetching.specs.vm_step.Shown.{Tables, IsNext, view_of, running_of, step_of}
 use Rattle.vm_standing.specs.Finds.{Finds, GoesOn}
 use Rattle.vm_fetching.specs.declared.instruction.Fetched.{Fetched}
 use Rattle.vm_fetching.specs.Fetches.{AreOf, Fetches}

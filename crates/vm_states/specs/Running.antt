@@ -5,7 +5,7 @@ use Rattle.bc_progress.specs.Fits.{Stands, Below}
 use Rattle.vm_frames.specs.Calls.{Call, Calls}
 use Rattle.vm_moves.specs.Placed.{IsPlaced}
 use Rattle.vm_moves.specs.Views.{frame_of}
-use Rattle.vm_step.specs.Shown.{view_of}
+use Rattle.vm_fetching.specs.vm_step.Shown.{view_of}
 use Rattle.vm_states.specs.Means.{Program}
 
 module _ (p : Program) where

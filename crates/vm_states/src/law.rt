@@ -12,7 +12,7 @@ ghost use Rattle.vm_frames.specs.declared.slot.Slot.{Slot};
 ghost use Rattle.vm_frames.specs.Calls.{Call, Calls, on_running};
 ghost use Rattle.vm_moves.specs.Placed.{IsPlaced};
 ghost use Rattle.vm_moves.specs.Views.{starts_of};
-ghost use Rattle.vm_step.specs.Shown.{view_of, running_of, step_of};
+ghost use Rattle.vm_fetching.specs.vm_step.Shown.{view_of, running_of, step_of};
 ghost use Rattle.vm_fetching.specs.declared.instruction.Fetched.{Fetched};
 ghost use Rattle.vm_fetching.specs.Fetches.{IsVerifiedRow};
 ghost use Rattle.vm_states.specs.Means.{Program, Means};

@@ -17,3 +17,4 @@ pub use loading::{load_false, load_int, load_none, load_null, load_object, load_
 pub use stacking::{dup_top, dup_top_two, pop_top, rot_three, rot_two};
 pub use storing::store_fast;
 pub use unwinding::unwind_jump;
+pub use vm_raising::{Place, raise_value, stop_at};

@@ -22,7 +22,7 @@ use Rattle.bc_machine.specs.State.{State, fail}
 use Rattle.bc_machine.specs.Operations.{kept_of}
 use Rattle.bc_machine.specs.Step.{plain_step}
 use Rattle.vm_faults.specs.Faults.{IsKnown}
-use Rattle.vm_raising.specs.Worlds.{Stands}
+use Rattle.vm_step.specs.vm_raising.Worlds.{Stands}
 use Rattle.vm_frames.specs.declared.slot.Slot.{Slot}
 use Rattle.vm_frames.specs.declared.slot.Slot.TheVariants as slots
 use Rattle.vm_frames.specs.declared.slot.Entry.{Entry}

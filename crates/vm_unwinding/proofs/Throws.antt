@@ -10,7 +10,7 @@ use Rattle.arena_heap.specs.declared.value.ConstNo.{ConstNo}
 use Rattle.arena_heap.specs.declared.value.ExcNo.{ExcNo}
 use Rattle.bc_machine.specs.State as states
 use Rattle.bc_machine.specs.State.{State, Running, Halted, abandoned, throw_in, throw_out}
-use Rattle.vm_raising.specs.Worlds.{failure}
+use Rattle.vm_step.specs.vm_raising.Worlds.{failure}
 use Rattle.vm_frames.specs.declared.slot.Role.{Role}
 use Rattle.vm_frames.specs.Calls.{Call, Calls, OfRunning, change_first, on_running}
 use Rattle.vm_frames.specs.Moves.{raised}

@@ -5,8 +5,8 @@ use Rattle.py_effects.specs.Effect as effects
 use Rattle.py_effects.specs.Ends as plain
 use Rattle.bc_machine.specs.Library.{Item, Library}
 use Rattle.bc_machine.specs.State.{State, Halted}
-use Rattle.vm_raising.specs.declared.place.Place.{Place}
-use Rattle.vm_raising.specs.Places.{plain_place}
+use Rattle.vm_step.specs.vm_raising.declared.place.Place.{Place}
+use Rattle.vm_step.specs.vm_raising.Places.{plain_place}
 use Rattle.vm_sights.specs.Sights.{sight_of as sight}
 use Rattle.vm_modules.specs.Registry.{Registry, plain_modules}
 use Rattle.vm_frames.specs.Calls.{Call}

@@ -15,3 +15,4 @@ pub use finishing::end_finally;
 pub use names::ModuleName;
 pub use raising::{raise, raise_last, raise_obj};
 pub use returning::{receive, return_value};
+pub use vm_step::Place;

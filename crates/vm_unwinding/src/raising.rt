@@ -26,7 +26,7 @@ use vm_faults::{Fault, Stop};
 use vm_frames::{Frames, Slot};
 use vm_modules::Modules;
 use vm_moves::moves_law;
-use vm_raising::{Place, raise_value, stop_at};
+use vm_step::{Place, raise_value, stop_at};
 
 /// A stop at the running call's instruction: the exception of a fault, which gets the place, is thrown through the calls, or
 /// want of room ends the run. It answers how the run ends, if it does; else the calls run. It goes through each call once,

@@ -4,7 +4,7 @@ ghost use Rattle.std.specs.Prelude.{◌≡◌, ◌<◌, true, None, length, All,
 ghost use Rattle.mpy_base.specs.Val.{PlainWorld};
 ghost use Rattle.bc_machine.specs.State.{abandoned};
 ghost use Rattle.vm_sights.specs.Sights.{under};
-ghost use Rattle.vm_raising.specs.Worlds.{failure as failing};
+ghost use Rattle.vm_step.specs.vm_raising.Worlds.{failure as failing};
 ghost use Rattle.vm_frames.specs.Calls.{OfRunning};
 ghost use Rattle.vm_moves.specs.Views.{View, role_of};
 ghost use Rattle.vm_moves.specs.Placed.{IsPlaced};

@@ -4,12 +4,12 @@ use Rattle.mpy_base.specs.declared.builtin.Builtin.{Builtin}
 use Rattle.bc_library.specs.Constants.{items_at, text_at}
 use Rattle.mpy_io.specs.Count.{Counts}
 use Rattle.port_set.proofs.Counting.{counts_same}
-use Rattle.vm_calls.specs.Calls.{Seen}
-use Rattle.vm_calls.specs.Callees.{IsKnownCallee}
-use Rattle.vm_calls.specs.declared.calls.CallStop.TheVariants as calls
-use Rattle.vm_calls.specs.declared.callees.Callee.{Callee}
-use Rattle.vm_calls.specs.declared.callees.Callee.TheVariants as callees
-use Rattle.vm_fetching.specs.declared.instruction.Instruction.TheVariants as fetched
+use Rattle.vm_invoking.specs.vm_calls.Calls.{Seen}
+use Rattle.vm_invoking.specs.vm_calls.Callees.{IsKnownCallee}
+use Rattle.vm_invoking.specs.vm_calls.declared.calls.CallStop.TheVariants as calls
+use Rattle.vm_invoking.specs.vm_calls.declared.callees.Callee.{Callee}
+use Rattle.vm_invoking.specs.vm_calls.declared.callees.Callee.TheVariants as callees
+use Rattle.vm_known.specs.vm_fetching.declared.instruction.Instruction.TheVariants as fetched
 use Rattle.vm_invoking.specs.Built.{IsCalled, IsKnownCallStop}
 use Rattle.vm_calling.specs.Called.{is_out, CallComes, HeapComes}
 use Rattle.vm_calling.proofs.Heaps as heaps

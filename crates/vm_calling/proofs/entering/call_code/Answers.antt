@@ -1,8 +1,8 @@
 use Rattle.std.proofs.Common.{Ok, refl, subst, arith}
 use Rattle.std.specs.Prelude.{IfNone}
 use Rattle.bc_library.specs.Constants.{items_at, text_at}
-use Rattle.vm_calls.specs.Callees.{IsKnownCallee}
-use Rattle.vm_fetching.specs.declared.instruction.Instruction.TheVariants as fetched
+use Rattle.vm_invoking.specs.vm_calls.Callees.{IsKnownCallee}
+use Rattle.vm_known.specs.vm_fetching.declared.instruction.Instruction.TheVariants as fetched
 use Rattle.vm_invoking.specs.declared.binding.FunctionCode.{FunctionCode}
 use Rattle.vm_calling.specs.Codes.{LacksCode}
 use Rattle.vm_calling.proofs.Arriving.{enters_stays}

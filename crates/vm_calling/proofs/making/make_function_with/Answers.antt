@@ -7,10 +7,10 @@ use Rattle.bc_ops.specs.declared.instr.Op.TheVariants as ops
 use Rattle.bc_ops.specs.declared.instr.Instr.TheVariants as instrs
 use Rattle.bc_machine.specs.Library.{Plain}
 use Rattle.vm_frames.specs.Calls.{Call, OfRunning}
-use Rattle.vm_step.specs.Shown.{Tables, IsNext, view_of}
-use Rattle.vm_fetching.specs.declared.instruction.Fetched.{Fetched}
-use Rattle.vm_fetching.specs.declared.instruction.Instruction.TheVariants as fetched
-use Rattle.vm_fetching.specs.declared.operations.NumberOp.TheVariants as number_ops
+use Rattle.vm_invoking.specs.vm_step.Shown.{Tables, IsNext, view_of}
+use Rattle.vm_known.specs.vm_fetching.declared.instruction.Fetched.{Fetched}
+use Rattle.vm_known.specs.vm_fetching.declared.instruction.Instruction.TheVariants as fetched
+use Rattle.vm_known.specs.vm_fetching.declared.operations.NumberOp.TheVariants as number_ops
 use Rattle.vm_moves.specs.Views.{starts_of}
 use Rattle.vm_invoking.specs.Children.{HasDefaults, IsChild}
 use Rattle.vm_invoking.specs.Operands.{running_slots}

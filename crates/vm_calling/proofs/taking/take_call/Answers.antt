@@ -1,9 +1,9 @@
 use Rattle.std.proofs.Common.{sym, subst, arith}
 use Rattle.bc_library.specs.Constants.{items_at, text_at}
-use Rattle.vm_step.specs.Shown.{view_of}
-use Rattle.vm_fetching.specs.declared.operations.NumberOp.{NumberOp}
-use Rattle.vm_fetching.specs.declared.operations.NumberOp.TheVariants as number_ops
-use Rattle.vm_fetching.specs.declared.instruction.Instruction.TheVariants as fetched
+use Rattle.vm_invoking.specs.vm_step.Shown.{view_of}
+use Rattle.vm_known.specs.vm_fetching.declared.operations.NumberOp.{NumberOp}
+use Rattle.vm_known.specs.vm_fetching.declared.operations.NumberOp.TheVariants as number_ops
+use Rattle.vm_known.specs.vm_fetching.declared.instruction.Instruction.TheVariants as fetched
 use Rattle.vm_calling.specs.Taken.{IsTaken}
 use Rattle.vm_calling.proofs.Takings as takings
 use Rattle.vm_calling.proofs.taking.take_call.Goals as goal

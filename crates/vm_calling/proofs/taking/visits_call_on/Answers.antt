@@ -2,7 +2,7 @@ use Rattle.std.proofs.Common.{◌≡◌, map}
 use Rattle.std.specs.Prelude.{min}
 use Rattle.vm_walks.specs.Plain.{plain, plain_pair}
 use Rattle.vm_sights.specs.Sights.{world_over}
-use Rattle.vm_calls.specs.Callees.{plain_callee}
+use Rattle.vm_invoking.specs.vm_calls.Callees.{plain_callee}
 use Rattle.vm_invoking.specs.Invoking.{visits_of}
 use Rattle.vm_calling.proofs.Places.{over}
 use Rattle.vm_calling.proofs.taking.visits_call_on.Goals as goal

@@ -1,6 +1,6 @@
 use Rattle.std.proofs.Common.{sym, subst}
-use Rattle.vm_fetching.specs.declared.operations.PlainOp.{PlainOp}
-use Rattle.vm_moving.specs.Moving.{fetched_plain}
+use Rattle.vm_operating.specs.vm_fetching.declared.operations.PlainOp.{PlainOp}
+use Rattle.vm_operating.specs.vm_moving.Moving.{fetched_plain}
 use Rattle.vm_hot.specs.AtOnce.{ActsAtOnce}
 use Rattle.vm_hot.proofs.Done.{at_once}
 use Rattle.vm_hot.proofs.acting.plain_at_once.Goals as goal

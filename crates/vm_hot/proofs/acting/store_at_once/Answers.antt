@@ -1,6 +1,6 @@
 use Rattle.std.proofs.Common.{Ok, sym, subst}
-use Rattle.vm_fetching.specs.declared.instruction.Instruction.{Instruction}
-use Rattle.vm_fetching.specs.declared.instruction.Instruction.TheVariants as fetched
+use Rattle.vm_operating.specs.vm_fetching.declared.instruction.Instruction.{Instruction}
+use Rattle.vm_operating.specs.vm_fetching.declared.instruction.Instruction.TheVariants as fetched
 use Rattle.vm_operating.specs.Keeping.{ActsKeeping}
 use Rattle.vm_hot.proofs.Forms.{runs_at}
 use Rattle.vm_hot.proofs.acting.store_at_once.Goals as goal

@@ -1,6 +1,6 @@
 use Rattle.std.proofs.Common.{Ok, sym, subst}
-use Rattle.vm_fetching.specs.declared.operations.PlainOp.{PlainOp}
-use Rattle.vm_moving.specs.Moving.{fetched_plain}
+use Rattle.vm_operating.specs.vm_fetching.declared.operations.PlainOp.{PlainOp}
+use Rattle.vm_operating.specs.vm_moving.Moving.{fetched_plain}
 use Rattle.vm_operating.specs.Keeping.{ActsKeeping}
 use Rattle.vm_hot.proofs.acting.store_plain.Goals as goal
 

@@ -1,7 +1,7 @@
 use Rattle.std.proofs.Common.{length, ◌≤◌, arith}
 use Rattle.vm_frames.specs.Calls.{Call}
-use Rattle.vm_step.proofs.Changing.{then_is}
-use Rattle.vm_instructions.proofs.Calls.{dropped, dropped_one, can_drop, fewer, runs_on}
+use Rattle.vm_operating.proofs.vm_step_lemmas.Changing.{then_is}
+use Rattle.vm_operating.proofs.vm_instructions_lemmas.Calls.{dropped, dropped_one, can_drop, fewer, runs_on}
 use Rattle.vm_hot.proofs.items.drop_three.Goals as goal
 
 pub pop-requires : goal.pop-requires

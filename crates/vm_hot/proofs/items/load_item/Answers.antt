@@ -8,9 +8,9 @@ use Rattle.bc_ops.specs.declared.instr.Op.TheVariants as ops
 use Rattle.bc_ops.specs.declared.instr.Instr.TheVariants as instrs
 use Rattle.bc_machine.specs.Library.{Plain}
 use Rattle.vm_frames.specs.Calls.{Call}
-use Rattle.vm_step.proofs.Stepping.{weaker}
-use Rattle.vm_fetching.specs.declared.operations.PlainOp.TheVariants as plain_ops
-use Rattle.vm_moving.specs.Moving.{fetched_plain}
+use Rattle.vm_operating.proofs.vm_step_lemmas.Stepping.{weaker}
+use Rattle.vm_operating.specs.vm_fetching.declared.operations.PlainOp.TheVariants as plain_ops
+use Rattle.vm_operating.specs.vm_moving.Moving.{fetched_plain}
 use Rattle.vm_hot.proofs.Ending as ending
 use Rattle.vm_hot.proofs.Finding as finding
 use Rattle.vm_hot.proofs.Indexing as indexing

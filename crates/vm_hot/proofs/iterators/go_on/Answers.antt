@@ -1,8 +1,8 @@
 use Rattle.std.proofs.Common.{◌∷◌}
 use Rattle.vm_frames.specs.declared.slot.Slot.TheVariants as slots
 use Rattle.vm_frames.specs.Calls.{Call}
-use Rattle.vm_step.specs.Stacks.{gone}
-use Rattle.vm_step.proofs.Changing.{then_is}
+use Rattle.vm_operating.specs.vm_step.Stacks.{gone}
+use Rattle.vm_operating.proofs.vm_step_lemmas.Changing.{then_is}
 use Rattle.vm_hot.proofs.Iterating.{set_iterator, room_kept}
 use Rattle.vm_hot.proofs.iterators.go_on.Goals as goal
 

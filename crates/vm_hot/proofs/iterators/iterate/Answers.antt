@@ -1,6 +1,6 @@
 use Rattle.std.proofs.Common.{arith, length, ◌<◌}
 use Rattle.vm_frames.specs.Calls.{Call}
-use Rattle.vm_step.proofs.Stepping.{weaker}
+use Rattle.vm_operating.proofs.vm_step_lemmas.Stepping.{weaker}
 use Rattle.vm_hot.proofs.Finding as finding
 use Rattle.vm_hot.proofs.Iterating as iterating
 use Rattle.vm_hot.proofs.iterators.iterate.Goals as goal

@@ -4,7 +4,7 @@ use Rattle.vm_frames.specs.declared.slot.Slot.{Slot}
 use Rattle.vm_frames.specs.declared.slot.Slot.TheVariants as slots
 use Rattle.vm_frames.specs.Calls.{OfRunning}
 use Rattle.vm_moves.specs.Views.{starts_of, frame_of}
-use Rattle.vm_step.specs.Shown.{view_of}
+use Rattle.vm_operating.specs.vm_step.Shown.{view_of}
 use Rattle.vm_hot.proofs.Finding as finding
 use Rattle.vm_hot.proofs.Testing as testing
 use Rattle.vm_hot.proofs.Truths.{tests_bool}

@@ -2,7 +2,7 @@ use Rattle.std.proofs.Common.{Option, refl, subst}
 use Rattle.std.specs.Prelude.{IfSome}
 use Rattle.arena_heap.specs.declared.value.Value.{Value}
 use Rattle.vm_faults.specs.Faults.{IsKnown}
-use Rattle.vm_instructions.proofs.Calls.{local_within, same_local}
+use Rattle.vm_operating.proofs.vm_instructions_lemmas.Calls.{local_within, same_local}
 use Rattle.vm_hot.proofs.Loading as loading
 use Rattle.vm_hot.proofs.locals.load.Goals as goal
 

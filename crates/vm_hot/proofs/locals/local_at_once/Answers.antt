@@ -1,7 +1,7 @@
 use Rattle.std.proofs.Common.{subst, sym}
-use Rattle.vm_fetching.specs.declared.operations.NumberOp.{NumberOp}
-use Rattle.vm_fetching.specs.declared.operations.NumberOp.TheVariants as number_ops
-use Rattle.vm_fetching.specs.declared.instruction.Instruction.TheVariants as fetched
+use Rattle.vm_operating.specs.vm_fetching.declared.operations.NumberOp.{NumberOp}
+use Rattle.vm_operating.specs.vm_fetching.declared.operations.NumberOp.TheVariants as number_ops
+use Rattle.vm_operating.specs.vm_fetching.declared.instruction.Instruction.TheVariants as fetched
 use Rattle.vm_hot.specs.AtOnce.{ActsAtOnce}
 use Rattle.vm_hot.proofs.Done.{at_once}
 use Rattle.vm_hot.proofs.locals.local_at_once.Goals as goal

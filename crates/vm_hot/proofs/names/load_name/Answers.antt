@@ -3,8 +3,8 @@ use Rattle.bc_ops.specs.declared.instr.Op.TheVariants as ops
 use Rattle.arena_heap.specs.declared.value.StrNo.{StrNo}
 use Rattle.arena_objects.specs.Iterables.{or_nothing}
 use Rattle.bc_machine.specs.Library.{Names}
-use Rattle.vm_fetching.specs.declared.instruction.Instruction.TheVariants as fetched
-use Rattle.vm_fetching.specs.declared.operations.NameOp.TheVariants as name_ops
+use Rattle.vm_operating.specs.vm_fetching.declared.instruction.Instruction.TheVariants as fetched
+use Rattle.vm_operating.specs.vm_fetching.declared.operations.NameOp.TheVariants as name_ops
 use Rattle.vm_hot.proofs.Ending as ending
 use Rattle.vm_hot.proofs.Finding as finding
 use Rattle.vm_hot.proofs.Done.{at_once}

@@ -3,8 +3,8 @@ use Rattle.std.proofs.lemmas.Int.{to_z-of_z}
 use Rattle.bc_ops.specs.declared.instr.Instr.TheVariants as instrs
 use Rattle.bc_machine.specs.Library.{Plain}
 use Rattle.vm_frames.specs.Calls.{Call}
-use Rattle.vm_step.proofs.Stepping.{weaker}
-use Rattle.vm_fetching.specs.declared.instruction.Instruction.TheVariants as fetched
+use Rattle.vm_operating.proofs.vm_step_lemmas.Stepping.{weaker}
+use Rattle.vm_operating.specs.vm_fetching.declared.instruction.Instruction.TheVariants as fetched
 use Rattle.vm_hot.proofs.Ending as ending
 use Rattle.vm_hot.proofs.Finding as finding
 use Rattle.vm_hot.proofs.Operating as operating

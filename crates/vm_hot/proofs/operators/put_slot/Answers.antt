@@ -1,5 +1,5 @@
 use Rattle.std.proofs.Common.{arith}
-use Rattle.vm_instructions.proofs.Calls.{put_some}
+use Rattle.vm_operating.proofs.vm_instructions_lemmas.Calls.{put_some}
 use Rattle.vm_hot.proofs.operators.put_slot.Goals as goal
 
 pub returns : goal.returns

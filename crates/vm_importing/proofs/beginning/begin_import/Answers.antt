@@ -4,8 +4,8 @@ use Rattle.std.specs.Prelude.{IsSome}
 use Rattle.arena_heap.specs.declared.value.StrNo.TheVariants as strs
 use Rattle.vm_frames.specs.Calls.{Calls}
 use Rattle.vm_moves.specs.Placed.{IsPlaced}
-use Rattle.vm_step.specs.Shown.{view_of}
-use Rattle.vm_step.specs.Outcomes.{outcome_of}
+use Rattle.vm_unwinding.specs.vm_step.Shown.{view_of}
+use Rattle.vm_unwinding.specs.vm_step.Outcomes.{outcome_of}
 use Rattle.vm_unwinding.specs.declared.names.ModuleName.{ModuleName}
 use Rattle.vm_unwinding.specs.Ends.{with_modules}
 use Rattle.vm_unwinding.specs.Known.{IsKnownCall}

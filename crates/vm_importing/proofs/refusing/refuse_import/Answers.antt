@@ -4,7 +4,7 @@ use Rattle.mpy_base.specs.declared.limits.TheConstants.{MAX_CALLS}
 use Rattle.vm_faults.specs.declared.fault.Fault.{Fault}
 use Rattle.vm_faults.specs.declared.stop.Stop.TheVariants as stops
 use Rattle.vm_faults.specs.Outcomes.{IsKnownAnswer}
-use Rattle.vm_step.specs.Outcomes.{stopping_of}
+use Rattle.vm_unwinding.specs.vm_step.Outcomes.{stopping_of}
 use Rattle.vm_importing.proofs.Machine.{fails_steps, fault_known}
 use Rattle.vm_importing.proofs.refusing.refuse_import.Goals as goal
 

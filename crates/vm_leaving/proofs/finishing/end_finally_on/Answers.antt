@@ -6,12 +6,12 @@ use Rattle.bc_ops.specs.declared.instr.Instr.TheVariants as instrs
 use Rattle.py_effects.specs.Ends.{new_world}
 use Rattle.bc_machine.specs.Library.{Plain}
 use Rattle.vm_moves.specs.Views.{starts_of, position_of}
-use Rattle.vm_step.specs.Shown.{view_of, step_of}
-use Rattle.vm_step.specs.Outcomes.{world_of}
-use Rattle.vm_unwinding.specs.Causes.{cause_slot, FitsEntries, GoesOn, unkept}
-use Rattle.vm_unwinding.specs.Ends.{with_modules}
-use Rattle.vm_unwinding.specs.Known.{HasModule}
-use Rattle.vm_fetching.specs.declared.operations.PlainOp.TheVariants as plain_ops
+use Rattle.vm_importing.specs.vm_step.Shown.{view_of, step_of}
+use Rattle.vm_importing.specs.vm_step.Outcomes.{world_of}
+use Rattle.vm_importing.specs.vm_unwinding.Causes.{cause_slot, FitsEntries, GoesOn, unkept}
+use Rattle.vm_importing.specs.vm_unwinding.Ends.{with_modules}
+use Rattle.vm_importing.specs.vm_unwinding.Known.{HasModule}
+use Rattle.vm_known.specs.vm_fetching.declared.operations.PlainOp.TheVariants as plain_ops
 use Rattle.std.proofs.Common.{Some, slice_get}
 use Rattle.vm_leaving.specs.Keeping.{TargetStarts}
 use Rattle.vm_leaving.specs.Modules.{registered_names}

@@ -8,10 +8,10 @@ use Rattle.bc_rows.specs.Codes.{code_at}
 use Rattle.bc_rows.specs.Rows.{IsRow}
 use Rattle.vm_walks.specs.Plain.{plain_name}
 use Rattle.vm_moves.specs.Views.{starts_of}
-use Rattle.vm_step.specs.Shown.{view_of}
-use Rattle.vm_step.specs.Outcomes.{world_of}
-use Rattle.vm_instructions.specs.Effects.{IsKnownStop}
-use Rattle.vm_unwinding.specs.Ends.{with_modules}
+use Rattle.vm_importing.specs.vm_step.Shown.{view_of}
+use Rattle.vm_importing.specs.vm_step.Outcomes.{world_of}
+use Rattle.vm_known.specs.vm_instructions.Effects.{IsKnownStop}
+use Rattle.vm_importing.specs.vm_unwinding.Ends.{with_modules}
 use Rattle.vm_importing.specs.declared.importing.Import.TheVariants as imports
 use Rattle.vm_importing.specs.Importing.{IsImport}
 use Rattle.vm_importing.specs.Beginning.{IsOutermost}

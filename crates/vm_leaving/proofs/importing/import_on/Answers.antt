@@ -11,9 +11,9 @@ use Rattle.vm_walks.specs.Plain.{plain, plain_name}
 use Rattle.vm_modules.specs.Registry.{plain_modules}
 use Rattle.vm_frames.specs.declared.slot.Slot.TheVariants as slots
 use Rattle.vm_moves.specs.Views.{starts_of}
-use Rattle.vm_step.specs.Shown.{view_of, running_of, step_of}
-use Rattle.vm_step.specs.Outcomes.{world_of}
-use Rattle.vm_unwinding.specs.Ends.{with_modules}
+use Rattle.vm_importing.specs.vm_step.Shown.{view_of, running_of, step_of}
+use Rattle.vm_importing.specs.vm_step.Outcomes.{world_of}
+use Rattle.vm_importing.specs.vm_unwinding.Ends.{with_modules}
 use Rattle.vm_importing.specs.declared.importing.Import.{Import}
 use Rattle.vm_importing.specs.declared.importing.Import.TheVariants as imports
 use Rattle.vm_importing.specs.Importing.{IsImport, given_name}

@@ -4,11 +4,11 @@ use Rattle.bc_ops.specs.declared.instr.Instr.TheVariants as instrs
 use Rattle.py_effects.specs.Effect.{Place}
 use Rattle.arena_objects.specs.Keys.{AllTold}
 use Rattle.bc_machine.specs.Library.{Plain}
-use Rattle.vm_step.specs.Shown.{step_of}
-use Rattle.vm_step.specs.Outcomes.{world_of}
-use Rattle.vm_unwinding.specs.Known.{KeepsException}
-use Rattle.vm_unwinding.specs.Ends.{with_modules, state_of}
-use Rattle.vm_fetching.specs.declared.operations.PlainOp.TheVariants as plain_ops
+use Rattle.vm_importing.specs.vm_step.Shown.{step_of}
+use Rattle.vm_importing.specs.vm_step.Outcomes.{world_of}
+use Rattle.vm_importing.specs.vm_unwinding.Known.{KeepsException}
+use Rattle.vm_importing.specs.vm_unwinding.Ends.{with_modules, state_of}
+use Rattle.vm_known.specs.vm_fetching.declared.operations.PlainOp.TheVariants as plain_ops
 use Rattle.vm_leaving.specs.Modules.{registered_names}
 use Rattle.vm_leaving.specs.Running.{fetched_plain}
 use Rattle.vm_leaving.proofs.Registered.{own_fewer}

@@ -8,10 +8,10 @@ use Rattle.vm_faults.specs.Faults.{IsKnown}
 use Rattle.vm_frames.specs.declared.slot.Slot.{Slot}
 use Rattle.vm_frames.specs.declared.slot.Slot.TheVariants as slots
 use Rattle.vm_moves.specs.Views.{starts_of}
-use Rattle.vm_step.specs.Shown.{view_of, step_of}
-use Rattle.vm_step.specs.Outcomes.{world_of}
-use Rattle.vm_unwinding.specs.Ends.{with_modules, state_of}
-use Rattle.vm_fetching.specs.declared.operations.PlainOp.TheVariants as plain_ops
+use Rattle.vm_importing.specs.vm_step.Shown.{view_of, step_of}
+use Rattle.vm_importing.specs.vm_step.Outcomes.{world_of}
+use Rattle.vm_importing.specs.vm_unwinding.Ends.{with_modules, state_of}
+use Rattle.vm_known.specs.vm_fetching.declared.operations.PlainOp.TheVariants as plain_ops
 use Rattle.vm_leaving.specs.Modules.{registered_names}
 use Rattle.vm_leaving.specs.Running.{fetched_plain}
 use Rattle.vm_leaving.proofs.Registered.{own_fewer}

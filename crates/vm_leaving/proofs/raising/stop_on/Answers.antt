@@ -1,8 +1,8 @@
 use Rattle.std.proofs.Common.{◌≡◌, subst}
 use Rattle.py_effects.specs.Effect.{Place}
 use Rattle.arena_objects.specs.Keys.{AllTold}
-use Rattle.vm_step.specs.Outcomes.{world_of, stopping_of}
-use Rattle.vm_unwinding.specs.Ends.{with_modules, state_of}
+use Rattle.vm_importing.specs.vm_step.Outcomes.{world_of, stopping_of}
+use Rattle.vm_importing.specs.vm_unwinding.Ends.{with_modules, state_of}
 use Rattle.vm_leaving.proofs.Tellings.{out, tables_are, counted}
 use Rattle.vm_leaving.proofs.Places.{some_run, place_here}
 use Rattle.vm_leaving.proofs.Ends.{thrown_same}

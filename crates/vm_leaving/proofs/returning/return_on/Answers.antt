@@ -5,9 +5,9 @@ use Rattle.vm_frames.specs.declared.slot.Slot.TheVariants as slots
 use Rattle.vm_frames.specs.Calls.{Call}
 use Rattle.vm_moves.specs.Views.{starts_of}
 use Rattle.vm_moves.specs.Placed.{IsPlaced}
-use Rattle.vm_step.specs.Shown.{view_of}
-use Rattle.vm_unwinding.specs.Known.{HasModule}
-use Rattle.vm_fetching.specs.declared.operations.PlainOp.TheVariants as plain_ops
+use Rattle.vm_importing.specs.vm_step.Shown.{view_of}
+use Rattle.vm_importing.specs.vm_unwinding.Known.{HasModule}
+use Rattle.vm_known.specs.vm_fetching.declared.operations.PlainOp.TheVariants as plain_ops
 use Rattle.vm_leaving.specs.Running.{fetched_plain}
 use Rattle.vm_leaving.proofs.Tellings.{out, tables_are, counted, known_out, last_out, registered_out}
 use Rattle.vm_leaving.proofs.Places.{on_first, all_first}

@@ -1,6 +1,6 @@
 use Rattle.std.proofs.Common.{◌≡◌, None, refl, sym, subst}
-use Rattle.vm_unwinding.specs.declared.ends.After.{After}
-use Rattle.vm_unwinding.specs.Known.{IsKnownAfter}
+use Rattle.vm_importing.specs.vm_unwinding.declared.ends.After.{After}
+use Rattle.vm_importing.specs.vm_unwinding.Known.{IsKnownAfter}
 use Rattle.vm_leaving.specs.Waiting.{IsSettling, Settles}
 use Rattle.vm_leaving.proofs.returning.settle.Goals as goal
 

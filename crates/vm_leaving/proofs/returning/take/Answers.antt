@@ -1,7 +1,7 @@
 use Rattle.std.proofs.Common.{sym, ◌∙◌, subst}
 use Rattle.bc_library.specs.Shelf.{Shelf}
 use Rattle.bc_rows.specs.Rows.{IsRow}
-use Rattle.vm_step.specs.Shown.{view_of}
+use Rattle.vm_importing.specs.vm_step.Shown.{view_of}
 use Rattle.vm_leaving.proofs.Returns.{same_calls}
 use Rattle.vm_leaving.proofs.Taking.{some_waits, room, next_is, begins}
 use Rattle.vm_leaving.proofs.Takes.{no_row, row_here, row_verified, row_starts, fetched_here}

@@ -2,11 +2,11 @@ use Rattle.std.proofs.Common.{◌∷◌, true, refl}
 use Rattle.bc_offsets.specs.Positions.{position_in}
 use Rattle.vm_frames.specs.Calls.{Call}
 use Rattle.vm_moves.specs.Views.{starts_of}
-use Rattle.vm_step.specs.Shown.{view_of}
-use Rattle.vm_step.specs.Stacks.{entry_over, set_up}
-use Rattle.vm_fetching.specs.declared.instruction.Fetched.{Fetched}
-use Rattle.vm_fetching.specs.declared.instruction.Instruction.TheVariants as fetched
-use Rattle.vm_fetching.specs.declared.operations.JumpOp.TheVariants as jump_ops
+use Rattle.vm_states.specs.vm_step.Shown.{view_of}
+use Rattle.vm_states.specs.vm_step.Stacks.{entry_over, set_up}
+use Rattle.vm_states.specs.vm_fetching.declared.instruction.Fetched.{Fetched}
+use Rattle.vm_states.specs.vm_fetching.declared.instruction.Instruction.TheVariants as fetched
+use Rattle.vm_states.specs.vm_fetching.declared.operations.JumpOp.TheVariants as jump_ops
 use Rattle.vm_moving.proofs.Moves as moves
 use Rattle.vm_moving.proofs.jumping.begin_finally.Goals as goal
 

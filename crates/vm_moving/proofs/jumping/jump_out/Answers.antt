@@ -2,9 +2,9 @@ use Rattle.std.proofs.Common.{◌≤◌, ◌%◌, length, nat_le, arith}
 use Rattle.bc_offsets.specs.Positions.{position_in}
 use Rattle.vm_frames.specs.Moves.{jumped}
 use Rattle.vm_moves.specs.Views.{starts_of}
-use Rattle.vm_step.specs.Shown.{view_of}
-use Rattle.vm_fetching.specs.declared.instruction.Fetched.{Fetched}
-use Rattle.vm_fetching.specs.declared.instruction.Instruction.TheVariants as fetched
+use Rattle.vm_states.specs.vm_step.Shown.{view_of}
+use Rattle.vm_states.specs.vm_fetching.declared.instruction.Fetched.{Fetched}
+use Rattle.vm_states.specs.vm_fetching.declared.instruction.Instruction.TheVariants as fetched
 use Rattle.vm_moving.proofs.Moves as moves
 use Rattle.vm_moving.proofs.jumping.jump_out.Goals as goal
 

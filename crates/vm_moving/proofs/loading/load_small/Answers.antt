@@ -5,9 +5,9 @@ use Rattle.arena_heap.specs.declared.value.Value.TheVariants as values
 use Rattle.bc_machine.specs.Library.{Plain}
 use Rattle.vm_frames.specs.declared.slot.Slot.TheVariants as slots
 use Rattle.vm_frames.specs.Calls.{on_running}
-use Rattle.vm_step.specs.Shown.{Steps}
-use Rattle.vm_step.specs.Stacks.{gone}
-use Rattle.vm_fetching.specs.declared.instruction.Instruction.TheVariants as fetched
+use Rattle.vm_states.specs.vm_step.Shown.{Steps}
+use Rattle.vm_states.specs.vm_step.Stacks.{gone}
+use Rattle.vm_states.specs.vm_fetching.declared.instruction.Instruction.TheVariants as fetched
 use Rattle.vm_moving.proofs.Moves as moves
 use Rattle.vm_moving.proofs.loading.load_small.Goals as goal
 

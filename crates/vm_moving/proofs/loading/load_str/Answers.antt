@@ -1,8 +1,8 @@
 use Rattle.std.proofs.Common.{◌∷◌}
 use Rattle.arena_heap.specs.declared.value.Value.TheVariants as values
 use Rattle.vm_frames.specs.declared.slot.Slot.TheVariants as slots
-use Rattle.vm_fetching.specs.declared.instruction.Instruction.TheVariants as fetched
-use Rattle.vm_fetching.specs.declared.operations.NameOp.TheVariants as name_ops
+use Rattle.vm_states.specs.vm_fetching.declared.instruction.Instruction.TheVariants as fetched
+use Rattle.vm_states.specs.vm_fetching.declared.operations.NameOp.TheVariants as name_ops
 use Rattle.vm_moving.proofs.Moves as moves
 use Rattle.vm_moving.proofs.loading.load_str.Goals as goal
 

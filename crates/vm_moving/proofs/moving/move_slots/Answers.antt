@@ -1,4 +1,4 @@
-use Rattle.vm_step.specs.Shown.{view_of}
+use Rattle.vm_states.specs.vm_step.Shown.{view_of}
 use Rattle.vm_moving.proofs.Moves as moves
 use Rattle.vm_moving.proofs.moving.move_slots.Goals as goal
 

@@ -1,7 +1,7 @@
 use Rattle.std.proofs.Common.{◌<◌, Some, drop, length}
 use Rattle.std.specs.Prelude.{slice_set}
-use Rattle.vm_fetching.specs.declared.instruction.Fetched.{Fetched}
-use Rattle.vm_fetching.specs.declared.instruction.Instruction.TheVariants as fetched
+use Rattle.vm_states.specs.vm_fetching.declared.instruction.Fetched.{Fetched}
+use Rattle.vm_states.specs.vm_fetching.declared.instruction.Instruction.TheVariants as fetched
 use Rattle.vm_moving.proofs.Moves as moves
 use Rattle.vm_moving.proofs.Stores as stores
 use Rattle.vm_moving.proofs.storing.store_local.Goals as goal

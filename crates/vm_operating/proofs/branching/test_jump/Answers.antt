@@ -3,7 +3,7 @@ use Rattle.vm_operating.proofs.Finding as finding
 use Rattle.vm_operating.proofs.Testing as testing
 use Rattle.bc_offsets.specs.Positions.{position_in}
 use Rattle.vm_moves.specs.Views.{starts_of, frame_of}
-use Rattle.vm_step.specs.Shown.{view_of}
+use Rattle.vm_moving.specs.vm_step.Shown.{view_of}
 use Rattle.vm_operating.proofs.branching.test_jump.Goals as goal
 
 pub top_truth-truth-requires : goal.top_truth-truth-requires

@@ -3,8 +3,8 @@ use Rattle.bc_ops.specs.declared.instr.Op.TheVariants as ops
 use Rattle.bc_ops.specs.declared.instr.Instr.TheVariants as instrs
 use Rattle.bc_machine.specs.Library.{Plain}
 use Rattle.vm_moves.specs.Views.{frame_of}
-use Rattle.vm_step.specs.Shown.{view_of}
-use Rattle.vm_fetching.specs.declared.operations.PlainOp.TheVariants as plain_ops
+use Rattle.vm_moving.specs.vm_step.Shown.{view_of}
+use Rattle.vm_moving.specs.vm_fetching.declared.operations.PlainOp.TheVariants as plain_ops
 use Rattle.vm_moving.specs.Moving.{fetched_plain}
 use Rattle.vm_operating.proofs.Ending as ending
 use Rattle.vm_operating.proofs.Finding as finding

@@ -2,8 +2,8 @@ use Rattle.std.proofs.Common.{refl}
 use Rattle.bc_ops.specs.declared.instr.Op.TheVariants as ops
 use Rattle.bc_ops.specs.declared.instr.Instr.TheVariants as instrs
 use Rattle.bc_machine.specs.Library.{Plain}
-use Rattle.vm_fetching.specs.declared.instruction.Instruction.TheVariants as fetched
-use Rattle.vm_fetching.specs.declared.operations.NumberOp.TheVariants as number_ops
+use Rattle.vm_moving.specs.vm_fetching.declared.instruction.Instruction.TheVariants as fetched
+use Rattle.vm_moving.specs.vm_fetching.declared.operations.NumberOp.TheVariants as number_ops
 use Rattle.vm_operating.proofs.Ending as ending
 use Rattle.vm_operating.proofs.Finding as finding
 use Rattle.vm_operating.proofs.locals.delete_fast.Goals as goal

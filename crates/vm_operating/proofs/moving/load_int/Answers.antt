@@ -3,8 +3,8 @@ use Rattle.std.proofs.lemmas.Int.{to_z-of_z}
 use Rattle.arena_heap.specs.declared.value.Value.TheVariants as values
 use Rattle.vm_frames.specs.declared.slot.Slot.TheVariants as slots
 use Rattle.vm_frames.specs.Calls.{on_running}
-use Rattle.vm_step.specs.Stacks.{gone}
-use Rattle.vm_fetching.specs.declared.instruction.Instruction.TheVariants as fetched
+use Rattle.vm_moving.specs.vm_step.Stacks.{gone}
+use Rattle.vm_moving.specs.vm_fetching.declared.instruction.Instruction.TheVariants as fetched
 use Rattle.vm_moving.specs.Moving.{Runs, GoesBehind}
 use Rattle.vm_operating.proofs.Constancy as constancy
 use Rattle.vm_operating.proofs.Finding as finding

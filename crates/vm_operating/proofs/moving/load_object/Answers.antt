@@ -1,4 +1,4 @@
-use Rattle.vm_fetching.specs.declared.instruction.Instruction.TheVariants as fetched
+use Rattle.vm_moving.specs.vm_fetching.declared.instruction.Instruction.TheVariants as fetched
 use Rattle.vm_frames.specs.declared.slot.Slot.TheVariants as slots
 use Rattle.vm_operating.proofs.Constancy as constancy
 use Rattle.vm_operating.proofs.Finding as finding

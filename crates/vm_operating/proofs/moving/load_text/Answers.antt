@@ -1,5 +1,5 @@
-use Rattle.vm_fetching.specs.declared.instruction.Instruction.TheVariants as fetched
-use Rattle.vm_fetching.specs.declared.operations.NameOp.TheVariants as name_ops
+use Rattle.vm_moving.specs.vm_fetching.declared.instruction.Instruction.TheVariants as fetched
+use Rattle.vm_moving.specs.vm_fetching.declared.operations.NameOp.TheVariants as name_ops
 use Rattle.arena_heap.specs.declared.value.Value.TheVariants as values
 use Rattle.vm_frames.specs.declared.slot.Slot.TheVariants as slots
 use Rattle.vm_operating.proofs.Finding as finding

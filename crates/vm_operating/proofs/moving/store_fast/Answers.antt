@@ -1,5 +1,5 @@
-use Rattle.vm_fetching.specs.declared.instruction.Instruction.TheVariants as fetched
-use Rattle.vm_fetching.specs.declared.operations.NumberOp.TheVariants as number_ops
+use Rattle.vm_moving.specs.vm_fetching.declared.instruction.Instruction.TheVariants as fetched
+use Rattle.vm_moving.specs.vm_fetching.declared.operations.NumberOp.TheVariants as number_ops
 use Rattle.vm_operating.proofs.Finding as finding
 use Rattle.vm_operating.proofs.Shifting as shifting
 use Rattle.vm_operating.proofs.moving.store_fast.Goals as goal

@@ -1,5 +1,5 @@
 use Rattle.std.proofs.Common.{◌%◌, nat_le}
-use Rattle.vm_fetching.specs.declared.instruction.Instruction.TheVariants as fetched
+use Rattle.vm_moving.specs.vm_fetching.declared.instruction.Instruction.TheVariants as fetched
 use Rattle.vm_operating.proofs.Finding as finding
 use Rattle.vm_operating.proofs.Shifting as shifting
 use Rattle.vm_operating.proofs.moving.unwind_jump.Goals as goal

@@ -1,6 +1,6 @@
 use Rattle.std.proofs.Common.{subst, sym}
-use Rattle.vm_fetching.specs.declared.operations.JumpOp.{JumpOp}
-use Rattle.vm_fetching.specs.declared.instruction.Instruction.TheVariants as fetched
+use Rattle.vm_moving.specs.vm_fetching.declared.operations.JumpOp.{JumpOp}
+use Rattle.vm_moving.specs.vm_fetching.declared.instruction.Instruction.TheVariants as fetched
 use Rattle.vm_operating.specs.Keeping.{ActsKeeping}
 use Rattle.vm_operating.proofs.operating.jump_to.Goals as goal
 

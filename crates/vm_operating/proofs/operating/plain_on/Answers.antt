@@ -1,5 +1,5 @@
 use Rattle.std.proofs.Common.{subst, sym}
-use Rattle.vm_fetching.specs.declared.operations.PlainOp.{PlainOp}
+use Rattle.vm_moving.specs.vm_fetching.declared.operations.PlainOp.{PlainOp}
 use Rattle.vm_moving.specs.Moving.{fetched_plain}
 use Rattle.vm_operating.specs.Keeping.{ActsKeeping}
 use Rattle.vm_operating.proofs.operating.plain_on.Goals as goal

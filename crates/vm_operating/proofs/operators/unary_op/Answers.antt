@@ -2,7 +2,7 @@ use Rattle.std.proofs.Common.{refl, subst, sym}
 use Rattle.std.specs.Prelude.{IsSome}
 use Rattle.bc_ops.specs.declared.instr.Instr.TheVariants as instrs
 use Rattle.bc_machine.specs.Library.{Plain}
-use Rattle.vm_fetching.specs.declared.instruction.Instruction.TheVariants as fetched
+use Rattle.vm_moving.specs.vm_fetching.declared.instruction.Instruction.TheVariants as fetched
 use Rattle.vm_operating.proofs.Ending as ending
 use Rattle.vm_operating.proofs.Finding as finding
 use Rattle.vm_operating.proofs.operators.unary_op.Goals as goal

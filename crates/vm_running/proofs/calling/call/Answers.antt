@@ -2,9 +2,9 @@ use Rattle.std.proofs.Common.{◌≡◌, map, true, Result, Err, refl, sym, ap, 
 use Rattle.std.specs.Prelude.{OnErr}
 use Rattle.mpy_io.specs.Count.{Counts}
 use Rattle.bc_library.specs.Constants.{items_at, text_at}
-use Rattle.vm_calls.specs.declared.calls.CallStop.{CallStop}
-use Rattle.vm_fetching.specs.declared.instruction.Instruction.TheVariants as fetched
-use Rattle.vm_invoking.specs.Built.{IsKnownCallStop}
+use Rattle.vm_calling.specs.vm_calls.declared.calls.CallStop.{CallStop}
+use Rattle.vm_leaving.specs.vm_fetching.declared.instruction.Instruction.TheVariants as fetched
+use Rattle.vm_calling.specs.vm_invoking.Built.{IsKnownCallStop}
 use Rattle.vm_calling.specs.Called.{is_out, CallsIn, HeapComesIn}
 use Rattle.vm_running.specs.Calling as went
 use Rattle.vm_running.proofs.Called.{roomy, call_stopped, call_known, called, called_went, call_refused, call_raised, call_went}

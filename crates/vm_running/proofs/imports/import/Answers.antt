@@ -1,7 +1,7 @@
 use Rattle.std.proofs.Common.{◌≡◌, Result, subst, ◌∙◌}
 use Rattle.bc_rows.specs.declared.row.Row.{Row}
 use Rattle.vm_faults.specs.declared.stop.Stop.{Stop}
-use Rattle.vm_states.specs.Means.{Program}
+use Rattle.vm_leaving.specs.vm_states.Means.{Program}
 use Rattle.vm_leaving.specs.Importing.{fetched_import, ImportsBehind}
 use Rattle.vm_running.proofs.Rooms.{rooms_through}
 use Rattle.vm_running.proofs.Imported.{imported, import_stopped, import_known, import_comes}

@@ -1,5 +1,5 @@
 use Rattle.std.proofs.Common.{refl, sym, subst}
-use Rattle.vm_fetching.specs.declared.operations.PlainOp.{PlainOp}
+use Rattle.vm_leaving.specs.vm_fetching.declared.operations.PlainOp.{PlainOp}
 use Rattle.vm_leaving.specs.Running.{fetched_plain, RunsWith, RunsOnBehind}
 use Rattle.vm_running.proofs.leaving.leave.Goals as goal
 

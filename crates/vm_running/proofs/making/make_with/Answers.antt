@@ -1,8 +1,8 @@
 use Rattle.std.proofs.Common.{◌≡◌, Result, refl, subst}
 use Rattle.std.specs.Prelude.{OnErr}
 use Rattle.vm_faults.specs.declared.stop.Stop.{Stop}
-use Rattle.vm_fetching.specs.declared.instruction.Instruction.TheVariants as fetched
-use Rattle.vm_fetching.specs.declared.operations.NumberOp.TheVariants as number_ops
+use Rattle.vm_leaving.specs.vm_fetching.declared.instruction.Instruction.TheVariants as fetched
+use Rattle.vm_leaving.specs.vm_fetching.declared.operations.NumberOp.TheVariants as number_ops
 use Rattle.vm_calling.specs.Runs.{ActsIn}
 use Rattle.vm_running.proofs.Rooms.{rooms_through}
 use Rattle.vm_running.proofs.Made.{within, numbered, made, make_stopped, make_known, make_comes}

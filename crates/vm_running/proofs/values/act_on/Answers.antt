@@ -1,7 +1,7 @@
 use Rattle.std.proofs.Common.{ℤ, sym, subst, rules, SFits, w32}
 use Rattle.std.proofs.lemmas.Int.{to_z-of_z}
-use Rattle.vm_fetching.specs.declared.instruction.Instruction.TheVariants as fetched
-use Rattle.vm_known.specs.Acting.{RunsOver}
+use Rattle.vm_leaving.specs.vm_fetching.declared.instruction.Instruction.TheVariants as fetched
+use Rattle.vm_leaving.specs.vm_known.Acting.{RunsOver}
 use Rattle.vm_operating.specs.Keeping.{ActsKeeping}
 use Rattle.vm_running.specs.Values.{ActsOnValues}
 use Rattle.vm_running.proofs.Forms.{runs_at, acts_at}

@@ -2,9 +2,9 @@ use Rattle.std.proofs.Common.{◌≡◌, List, [], ◌∷◌, Ok, Err, sym, ap, 
 use Rattle.std.specs.Prelude.{is_some}
 use Rattle.vm_frames.specs.Calls.{Call, Calls}
 use Rattle.vm_modules.specs.Registry.{Registry}
-use Rattle.vm_step.specs.Shown.{running_of}
-use Rattle.vm_step.specs.Outcomes.{world_of}
-use Rattle.vm_unwinding.specs.Ends.{with_modules}
+use Rattle.vm_invoking.specs.vm_step.Shown.{running_of}
+use Rattle.vm_invoking.specs.vm_step.Outcomes.{world_of}
+use Rattle.vm_known.specs.vm_unwinding.Ends.{with_modules}
 use Rattle.vm_starting.specs.Starting.{main_call}
 use Rattle.vm_starting.proofs.Texts.{main_text, name_text}
 use Rattle.vm_starting.proofs.Begun as begun

@@ -1,4 +1,4 @@
-use Rattle.vm_step.specs.Shown.{view_of}
+use Rattle.vm_fetching.specs.vm_step.Shown.{view_of}
 use Rattle.vm_states.proofs.Readying as readying
 use Rattle.vm_states.proofs.law.ready_law.Goals as goal
 

@@ -8,10 +8,10 @@ use Rattle.bc_machine.specs.Library.{Name}
 use Rattle.bc_machine.specs.Machine.{start}
 use Rattle.py_effects.specs.Ends.{new_world}
 use Rattle.vm_frames.specs.Calls.{Calls}
-use Rattle.vm_step.specs.Outcomes.{world_of}
-use Rattle.vm_unwinding.specs.declared.ends.End.{End}
-use Rattle.vm_unwinding.specs.declared.ends.End.TheVariants as ends
-use Rattle.vm_unwinding.specs.Ends.{with_modules, state_of}
+use Rattle.vm_invoking.specs.vm_step.Outcomes.{world_of}
+use Rattle.vm_known.specs.vm_unwinding.declared.ends.End.{End}
+use Rattle.vm_known.specs.vm_unwinding.declared.ends.End.TheVariants as ends
+use Rattle.vm_known.specs.vm_unwinding.Ends.{with_modules, state_of}
 use Rattle.vm_starting.specs.Starting.{Begins}
 use Rattle.vm_starting.proofs.Openings.{rooms, main_in, fresh_world}
 use Rattle.vm_starting.proofs.opening.Vm.open.Goals as goal
