@@ -5,21 +5,21 @@ use Rattle.std.specs.List.{filter_map, cons_option, list_any}
 use Rattle.std.specs.Str.{bytes_eq}
 use Rattle.std.proofs.lemmas.Bool.{cases_lt}
 use Rattle.std.proofs.lemmas.Bool.Decides.{nat_tests}
-use Rattle.std.proofs.lemmas.List.{take_more, take_all, map-append}
+use Rattle.std.proofs.lemmas.List.{take_more, take_all, take_at, append_assoc, append-nil, map-append}
 use Rattle.std.proofs.lemmas.List.Elements.{filter_map-append}
 use Rattle.std.proofs.lemmas.List.Folds.{list_any_at}
 use Rattle.std.proofs.lemmas.Option.{slice_get_within, slice_get-get_or, get_or_from_slice_get}
 use Rattle.std.proofs.lemmas.Slice.Eq.{bytes_eq-Decides}
 use Rattle.mpy_base.specs.declared.limits.TheConstants.{MAX_TABLE}
 use Rattle.qstr_pool.specs.declared.table.TheConstants.{FIRST_OWN, STATIC_COUNT}
-use Rattle.qstr_pool.specs.Pool.{Texts, text_of, number_of, interned, all_differ, IsOneToOne}
+use Rattle.qstr_pool.specs.Pool.{Texts, text_of, number_of, interned, first_texts, all_differ, IsOneToOne}
 use Rattle.qstr_pool.specs.Static.{static_texts, static_pool, static_text_of, static_number_of}
 use Rattle.qstr_pool.proofs.Places.{absent}
 use Rattle.mpy_tree.specs.declared.raw.Qstr.{Qstr}
 use Rattle.mpy_tree.specs.declared.raw.Qstr.TheVariants.{Static, Own}
 use Rattle.mpy_tree.specs.Raw as raw
 use Rattle.bc_library.specs.Fine.{FineQstr}
-use Rattle.bc_library.specs.Texts.{AreNumbers, text_numbered, with_text, with_texts}
+use Rattle.bc_library.specs.Texts.{AreNumbers, Extends, text_numbered, with_text, with_texts}
 
 -- one by one is all at once
 pub with_append : (pool : Texts) (xs ys : List (List ℕ)) → with_texts pool (xs ++ ys) ≡ with_texts (with_texts pool xs) ys
@@ -61,6 +61,43 @@ same_first pool (text ∷ texts) = same_first (with_text pool text) texts ∙ fi
     first_by : (pool new : Texts) (text : List ℕ) → Grown pool new text → new.first ≡ pool.first
     first_by pool new text (same e) = ap (λ (p : Texts). p.first) e
     first_by pool new text (grown e) = ap (λ (p : Texts). p.first) e
+
+-- what a longer pool begins with
+-- ==============================
+
+abbrev behind : Texts → List (List ℕ) → Texts
+behind pool more = record { first = pool.first; texts = pool.texts ++ more }
+
+pub extends_same : (pool longer : Texts) → longer ≡ pool → Extends pool longer
+extends_same pool longer e = record {
+  more = [];
+  is = e ∙ ap (λ (ts : List (List ℕ)). let p : Texts = record { first = pool.first; texts = ts } in p) (sym (append-nil pool.texts));
+}
+
+extends_grown : (pool new : Texts) (text : List ℕ) → Grown pool new text → Extends pool new
+extends_grown pool new text (same e) = extends_same pool new e
+extends_grown pool new text (grown e) = record { more = text ∷ []; is = e }
+
+pub extends_trans : (a b c : Texts) → Extends a b → Extends b c → Extends a c
+extends_trans a b c f g = record {
+  more = f.more ++ g.more;
+  is = g.is ∙ (ap (λ (p : Texts). behind p g.more) f.is
+      ∙ ap (λ (ts : List (List ℕ)). let p : Texts = record { first = a.first; texts = ts } in p) (append_assoc a.texts f.more g.more));
+}
+
+pub extends_texts : (pool : Texts) (texts : List (List ℕ)) → Extends pool (with_texts pool texts)
+extends_texts pool [] = extends_same pool pool refl
+extends_texts pool (text ∷ texts) =
+    extends_trans pool (with_text pool text) (with_texts (with_text pool text) texts) (extends_grown pool (with_text pool text) text (grows pool text)) (extends_texts (with_text pool text) texts)
+
+pub extends_by : (pool longer : Texts) (texts : List (List ℕ)) → longer ≡ with_texts pool texts → Extends pool longer
+extends_by pool longer texts e = subst (λ (p : Texts). Extends pool p) (sym e) (extends_texts pool texts)
+
+-- its first texts are the pool
+pub taken_back : (pool longer after : Texts) (count : ℕ) → Extends pool longer → count ≡ length pool.texts → after ≡ first_texts longer count → after ≡ pool
+taken_back pool longer after count x e f =
+    f ∙ (ap (λ (p : Texts). first_texts p count) x.is
+    ∙ ap (λ (ts : List (List ℕ)). let p : Texts = record { first = pool.first; texts = ts } in p) (take_at pool.texts x.more count (sym e)))
 
 at_front : (xs ys : List (List ℕ)) (i : ℕ) (x : List ℕ) → slice_get xs i ≡ Some x → slice_get (xs ++ ys) i ≡ Some x
 at_front [] ys i x e = absurd cc
@@ -283,18 +320,17 @@ all_copied pool copy i le c =
 -- a name and then a table
 -- =======================
 
-pub both_taken : (pool copy first new : Texts) (xs ys : List (List ℕ)) → copy ≡ pool → first ≡ with_texts copy xs → new ≡ with_texts first ys → new ≡ with_texts pool (xs ++ ys)
-both_taken pool copy first new xs ys e f g =
-    g ∙ (ap (λ p. with_texts p ys) (f ∙ ap (λ p. with_texts p xs) e) ∙ sym (with_append pool xs ys))
+pub both_taken : (pool first new : Texts) (xs ys : List (List ℕ)) → first ≡ with_texts pool xs → new ≡ with_texts first ys → new ≡ with_texts pool (xs ++ ys)
+both_taken pool first new xs ys e f = f ∙ (ap (λ p. with_texts p ys) e ∙ sym (with_append pool xs ys))
 
-pub name_overflows : (pool copy : Texts) (xs ys : List (List ℕ)) → copy ≡ pool → MAX_TABLE < length (with_texts copy xs).texts → MAX_TABLE < length (with_texts pool (xs ++ ys)).texts
-name_overflows pool copy xs ys e over =
+pub name_overflows : (pool : Texts) (xs ys : List (List ℕ)) → MAX_TABLE < length (with_texts pool xs).texts → MAX_TABLE < length (with_texts pool (xs ++ ys)).texts
+name_overflows pool xs ys over =
     let more = longer (with_texts pool xs) ys in
-    omega (arith, over, more, ap (λ (p : Texts). length (with_texts p xs).texts) e, ap (λ (p : Texts). length p.texts) (with_append pool xs ys))
+    omega (arith, over, more, ap (λ (p : Texts). length p.texts) (with_append pool xs ys))
 
-pub rest_overflows : (pool copy first : Texts) (xs ys : List (List ℕ)) → copy ≡ pool → first ≡ with_texts copy xs → MAX_TABLE < length (with_texts first ys).texts → MAX_TABLE < length (with_texts pool (xs ++ ys)).texts
-rest_overflows pool copy first xs ys e f over =
-    omega (arith, over, ap (λ (p : Texts). length p.texts) (both_taken pool copy first (with_texts first ys) xs ys e f refl))
+pub rest_overflows : (pool first : Texts) (xs ys : List (List ℕ)) → first ≡ with_texts pool xs → MAX_TABLE < length (with_texts first ys).texts → MAX_TABLE < length (with_texts pool (xs ++ ys)).texts
+rest_overflows pool first xs ys e over =
+    omega (arith, over, ap (λ (p : Texts). length p.texts) (both_taken pool first (with_texts first ys) xs ys e refl))
 
 -- by the first number of the pool
 -- ===============================

@@ -103,8 +103,8 @@ pushed (z ∷ xs) y (suc i) x e =
 abbrev pub loaded_of : Brought → Module → Loaded
 loaded_of k m = record { name = k.name; title = k.title; «module» = m; numbers = k.numbers; values = k.values; parts = k.parts }
 
-pub brought_as : (pool : Texts) (n i : ℕ) (name : List ℕ) (raw m : Module) (k : Brought) → n ≡ i → raw ≡ m → IsBrought pool n name raw k → IsBrought pool i name m k
-brought_as pool n i name raw m k e f b = subst (λ z. IsBrought pool z name m k) e (subst (λ z. IsBrought pool n name z k) f b)
+pub brought_as : (pool longer : Texts) (n i : ℕ) (name : List ℕ) (raw m : Module) (k : Brought) → n ≡ i → raw ≡ m → IsBrought pool n name raw longer k → IsBrought pool i name m longer k
+brought_as pool longer n i name raw m k e f b = subst (λ z. IsBrought pool z name m longer k) e (subst (λ z. IsBrought pool n name z longer k) f b)
 
 -- no module has the name
 abbrev pub IsNew : List Loaded → List ℕ → Type 0
@@ -137,8 +137,8 @@ title_kept pool texts longer name title e is =
     subst (λ (p : Texts). IsTitle p name title) (sym e)
     (record { name_is = kept pool texts title.name name is.name_is; last_is = kept pool texts title.last (last_of name) is.last_is })
 
-pub with_further : (modules : List Loaded) (refused : List (List ℕ)) (pool : Texts) (name : List ℕ) (m : Module) (k : Brought) → IsLibrary modules refused pool → IsBrought pool (length modules) name m k → length modules + length refused < MAX_MODULES → IsVerified m → IsNew modules name → IsLibrary (modules ++ loaded_of k m ∷ []) refused k.pool
-with_further modules refused pool name m k lib b room verified fresh = record {
+pub with_further : (modules : List Loaded) (refused : List (List ℕ)) (pool longer : Texts) (name : List ℕ) (m : Module) (k : Brought) → IsLibrary modules refused pool → IsBrought pool (length modules) name m longer k → length modules + length refused < MAX_MODULES → IsVerified m → IsNew modules name → IsLibrary (modules ++ loaded_of k m ∷ []) refused longer
+with_further modules refused pool longer name m k lib b room verified fresh = record {
   own = b.own;
   loaded = λ i l e.
       elim (pushed modules (loaded_of k m) i l e) [
@@ -148,13 +148,13 @@ with_further modules refused pool name m k lib b room verified fresh = record {
               numbers = subst (λ (p : Texts). AreNumbers p l.numbers.items l.«module».qstrs) (sym b.pool_is) (are_kept pool (texts_of name m) l.numbers.items l.«module».qstrs was.numbers);
               values = was.values;
               parts = was.parts;
-              title = title_kept pool (texts_of name m) k.pool l.name l.title b.pool_is was.title;
+              title = title_kept pool (texts_of name m) longer l.name l.title b.pool_is was.title;
               fine = was.fine;
               verified = was.verified;
             }
         | last f g ↦
-            let here : IsLoaded k.pool (length modules) (loaded_of k m) = record { title = subst (λ (t : List ℕ). IsTitle k.pool t k.title) (sym b.name_is) b.title; numbers = b.numbers; values = b.values; parts = b.parts; fine = b.fine; verified = verified } in
-            subst (λ n. IsLoaded k.pool n l) (sym f) (subst (IsLoaded k.pool (length modules)) g here)
+            let here : IsLoaded longer (length modules) (loaded_of k m) = record { title = subst (λ (t : List ℕ). IsTitle longer t k.title) (sym b.name_is) b.title; numbers = b.numbers; values = b.values; parts = b.parts; fine = b.fine; verified = verified } in
+            subst (λ n. IsLoaded longer n l) (sym f) (subst (IsLoaded longer (length modules)) g here)
       ];
   distinct = λ i j x y e f same.
       apart modules (loaded_of k m) i j x y lib.distinct (λ n l g h. fresh n l g (h ∙ b.name_is)) (pushed modules (loaded_of k m) i x e) (pushed modules (loaded_of k m) j y f) same;
@@ -176,8 +176,8 @@ named_as t m = record { name = t; held = m }
 abbrev as_shelf : List Named → List (List ℕ) → Texts → Shelf
 as_shelf ns refused p = record { modules = ns; refused = refused; pool = p }
 
-pub seen_further : (modules : List Loaded) (refused : List (List ℕ)) (pool : Texts) (shelf : Shelf) (name : List ℕ) (m : Module) (k : Brought) → shelf_of modules refused pool ≡ shelf → IsBrought pool (length modules) name m k → shelf_of (modules ++ loaded_of k m ∷ []) refused k.pool ≡ with_module shelf name m
-seen_further modules refused pool shelf name m k is b =
+pub seen_further : (modules : List Loaded) (refused : List (List ℕ)) (pool longer : Texts) (shelf : Shelf) (name : List ℕ) (m : Module) (k : Brought) → shelf_of modules refused pool ≡ shelf → IsBrought pool (length modules) name m longer k → shelf_of (modules ++ loaded_of k m ∷ []) refused longer ≡ with_module shelf name m
+seen_further modules refused pool longer shelf name m k is b =
     let first : map named (modules ++ loaded_of k m ∷ []) ≡ map named modules ++ record { name = name; held = m } ∷ [] =
     map-append named modules (loaded_of k m ∷ []) ∙ ap (λ (t : List ℕ). map named modules ++ named_as t m ∷ []) b.name_is in
     ap₂ (λ (ns : List Named) (p : Texts). as_shelf ns refused p) first b.pool_is ∙ ap (λ (s : Shelf). with_module s name m) is

@@ -10,13 +10,13 @@ use Rattle.bc_library.specs.Own.{IsOwnPool}
 use Rattle.bc_library.specs.Parts.{parts_from}
 use Rattle.bc_library.specs.Texts.{AreNumbers, IsTitle, texts_of, with_texts}
 
--- what is kept beside a module that gets the number i
-pub record IsBrought (pool : Texts) (i : ℕ) (name : List ℕ) (m : Module) (k : Brought) : Type 0 where
-  pub pool_is : k.pool ≡ with_texts pool (texts_of name m)
-  pub own : IsOwnPool k.pool
+-- what is kept beside a module that gets the number i, and the pool with its texts
+pub record IsBrought (pool : Texts) (i : ℕ) (name : List ℕ) (m : Module) (longer : Texts) (k : Brought) : Type 0 where
+  pub pool_is : longer ≡ with_texts pool (texts_of name m)
+  pub own : IsOwnPool longer
   pub name_is : k.name ≡ name
-  pub title : IsTitle k.pool name k.title
-  pub numbers : AreNumbers k.pool k.numbers.items m.qstrs
+  pub title : IsTitle longer name k.title
+  pub numbers : AreNumbers longer k.numbers.items m.qstrs
   pub values : k.values ≡ values_from i 0 m.objects
   pub parts : k.parts.items ≡ parts_from i 0 (constants_of m)
   pub fine : Each (Fine MAX_DEPTH) m.objects

@@ -23,6 +23,11 @@ abbrev pub with_texts : Texts → List (List ℕ) → Texts
 with_texts pool [] = pool
 with_texts pool (text ∷ texts) = with_texts (with_text pool text) texts
 
+-- a longer pool: the same texts under the same numbers, and others behind them
+pub record Extends (pool longer : Texts) : Type 0 where
+  pub more : List (List ℕ)
+  pub is : longer ≡ record { first = pool.first; texts = pool.texts ++ more }
+
 -- the text behind the last dot
 abbrev pub last_part : List ℕ → Option (List ℕ)
 last_part [] = None

@@ -11,12 +11,12 @@ ghost use Rattle.bc_library.specs.Greatest.{IsGreatestIn, ShelfHas};
 ghost use Rattle.bc_library.specs.Kept.{OneHas};
 ghost use Rattle.bc_library.specs.Own.{IsOwnPool};
 ghost use Rattle.bc_library.specs.Shelf.{IsFull, Named, fault_of, member_of, entry_at, module_at, no_entries, table_text, with_module, with_refused};
-ghost use Rattle.bc_library.specs.Texts.{AreNumbers, IsPlain, IsTitle, texts_of, text_numbered, with_texts};
+ghost use Rattle.bc_library.specs.Texts.{AreNumbers, IsPlain, IsTitle, texts_of, text_numbered, with_texts, Extends};
 
 use crate::fault::{LibFault, Member};
 use crate::greatest::greatest_in;
 use crate::parts::{Part, add_objects};
-use crate::texts::{Title, copy_of, take_name, take_table};
+use crate::texts::{Title, take_name, take_table};
 use arena_heap::Value;
 use bc_verify::{Verified, verified_law};
 use mpy_base::limits::{MAX_DEPTH, MAX_MODULES, MAX_TABLE};
@@ -68,7 +68,6 @@ impl Model for Library {
 
 /// What a library keeps beside a module that it takes.
 struct Brought {
-    pool: Pool,
     name: Text,
     title: Title,
     numbers: Vec<u32>,
@@ -104,47 +103,50 @@ fn number_at(numbers: &[u32], qstr: u32) -> Option<u32>
     numbers.get(qstr as usize).copied()
 }
 
-/// The pool with the texts of a module behind those that are there, and the numbers of its name and of its table.
+/// Puts the texts of a module behind those of the pool, and gives the numbers of its name and of its table. After a refusal
+/// some of the texts may be there.
 fn numbered(
     alloc: Global,
-    pool: &Pool,
+    pool: &mut Pool,
     name: &[u8],
     raw: &RawModule,
-) -> Result<(Pool, Title, Vec<u32>), Refused<Full>>
-    requires { pool.now.first ≡ FIRST_OWN }
-    ensures pool { IfOk result (λ r. r.0 ≡ with_texts pool.now (texts_of name.now raw.now)) }
-    ensures title { IfOk result (λ r. IsTitle r.0 name.now r.1) }
-    ensures numbers { IfOk result (λ r. AreNumbers r.0 r.2.items raw.now.qstrs) }
-    ensures fits { IfOk result (λ r. length r.0.texts ≤ MAX_TABLE) }
+) -> Result<(Title, Vec<u32>), Refused<Full>>
+    requires { pool.old.first ≡ FIRST_OWN }
+    ensures pool { OnOk result (pool.new ≡ with_texts pool.old (texts_of name.now raw.now)) }
+    ensures title { IfOk result (λ r. IsTitle pool.new name.now r.0) }
+    ensures numbers { IfOk result (λ r. AreNumbers pool.new r.1.items raw.now.qstrs) }
+    ensures fits { OnOk result (length pool.new.texts ≤ MAX_TABLE) }
     ensures full { result ≡ Err (refused.Fault pool_full)
-        → MAX_TABLE < length (with_texts pool.now (texts_of name.now raw.now)).texts }
+        → MAX_TABLE < length (with_texts pool.old (texts_of name.now raw.now)).texts }
+    ensures err { OnErr result (Extends pool.old pool.new) }
 {
     module_law(raw);
-    let mut longer = copy_of(alloc, pool)?;
-    let title = take_name(alloc, &mut longer, name)?;
-    let numbers = take_table(alloc, &mut longer, raw.qstrs())?;
-    pool_law(&longer);
-    Ok((longer, title, numbers))
+    let title = take_name(alloc, pool, name)?;
+    let numbers = take_table(alloc, pool, raw.qstrs())?;
+    pool_law(pool);
+    Ok((title, numbers))
 }
 
-/// What a library keeps beside the module, which gets the number, and the pool with its texts.
+/// What a library keeps beside the module, which gets the number, and whose texts go into the pool. After a refusal some of
+/// the texts may be there.
 fn brought_by(
     alloc: Global,
-    pool: &Pool,
+    pool: &mut Pool,
     number: u32,
     name: &[u8],
     raw: &RawModule,
 ) -> Result<Brought, Refused<LibFault>>
-    requires own { IsOwnPool pool.now }
+    requires own { IsOwnPool pool.old }
     requires plain { IsPlain name.now }
-    ensures brought { IfOk result (λ k. IsBrought pool.now number name.now raw.now k) }
-    ensures fits { OnOk result (length (with_texts pool.now (texts_of name.now raw.now)).texts ≤ MAX_TABLE) }
+    ensures brought { IfOk result (λ k. IsBrought pool.old number name.now raw.now pool.new k) }
+    ensures fits { OnOk result (length (with_texts pool.old (texts_of name.now raw.now)).texts ≤ MAX_TABLE) }
     ensures names { (f : LibFault) → result ≡ Err (refused.Fault f) → (f ≡ LibFault.Names)
-        × (MAX_TABLE < length (with_texts pool.now (texts_of name.now raw.now)).texts) }
+        × (MAX_TABLE < length (with_texts pool.old (texts_of name.now raw.now)).texts) }
+    ensures err { OnErr result (Extends pool.old pool.new) }
 {
     module_law(raw);
     static_law();
-    let (pool, title, numbers) = match numbered(alloc, pool, name, raw) {
+    let (title, numbers) = match numbered(alloc, pool, name, raw) {
         Ok(numbered) => numbered,
         Err(Refused::Fault(Full)) => return Err(Refused::Fault(LibFault::Names)),
         Err(Refused::NoMemory) => return Err(Refused::NoMemory),
@@ -153,7 +155,6 @@ fn brought_by(
     let values = add_objects(alloc, &mut parts, number, raw.objects(), MAX_DEPTH)?;
     let name = Text::new(alloc, name)?;
     Ok(Brought {
-        pool,
         name,
         title,
         numbers,
@@ -278,11 +279,14 @@ impl Library {
         }
         verified_law(&verified);
         let number = self.modules.len() as u32;
-        match brought_by(alloc, &self.pool, number, name, verified.module()) {
-            Err(refused) => Err((refused, verified)),
+        let held = self.pool.len();
+        match brought_by(alloc, &mut self.pool, number, name, verified.module()) {
+            Err(refused) => {
+                self.pool.truncate(held);
+                Err((refused, verified))
+            }
             Ok(brought) => {
                 let Brought {
-                    pool,
                     name,
                     title,
                     numbers,
@@ -298,11 +302,11 @@ impl Library {
                     parts,
                 };
                 match put(&mut self.modules, loaded) {
-                    Ok(()) => {
-                        self.pool = pool;
-                        Ok(())
+                    Ok(()) => Ok(()),
+                    Err(verified) => {
+                        self.pool.truncate(held);
+                        Err((Refused::NoMemory, verified))
                     }
-                    Err(verified) => Err((Refused::NoMemory, verified)),
                 }
             }
         }

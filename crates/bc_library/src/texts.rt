@@ -1,6 +1,6 @@
 //! The texts of a library, and their numbers.
 
-ghost use Rattle.std.specs.Prelude.{◌≡◌, ℕ, ◌<◌, ◌≤◌, List, [], ◌∷◌, length, map, None, Some, option_copied, IfOk, IfErr, OnOk, IsSome, IfSome, IfNone};
+ghost use Rattle.std.specs.Prelude.{◌≡◌, ℕ, ◌<◌, ◌≤◌, List, [], ◌∷◌, length, map, None, Some, option_copied, IfOk, IfErr, OnOk, OnErr, IsSome, IfSome, IfNone};
 ghost use Rattle.std.specs.List.{filter_map};
 ghost use Rattle.std.specs.Option.{option_to_list};
 ghost use Rattle.mpy_base.specs.declared.refused.Refused.TheVariants as refused;
@@ -8,10 +8,10 @@ ghost use Rattle.qstr_pool.specs.Full.{pool_full};
 ghost use Rattle.qstr_pool.specs.Pool.{text_of};
 ghost use Rattle.mpy_tree.specs.Raw as raw;
 ghost use Rattle.bc_library.specs.Fine.{Each, FineQstr};
-ghost use Rattle.bc_library.specs.Texts.{AreNumbers, IsTitle, last_part, text_numbered, with_text, with_texts};
+ghost use Rattle.bc_library.specs.Texts.{AreNumbers, Extends, IsTitle, last_part, text_numbered, with_text, with_texts};
 
+use mpy_base::Refused;
 use mpy_base::limits::MAX_TABLE;
-use mpy_base::{NoMemory, Refused};
 use mpy_tree::Qstr;
 use qstr_pool::{FIRST_OWN, Full, Pool, pool_law, static_law, static_number, static_text};
 use std::alloc::Global;
@@ -67,6 +67,7 @@ pub(crate) fn take_text(alloc: Global, pool: &mut Pool, text: &[u8]) -> Result<u
     ensures pool { OnOk result (pool.new ≡ with_text pool.old text.now) }
     ensures fits { OnOk result (length pool.new.texts ≤ MAX_TABLE) }
     ensures full { result ≡ Err (refused.Fault pool_full) → MAX_TABLE < length (with_text pool.old text.now).texts }
+    ensures err { OnErr result (pool.new ≡ pool.old) }
 {
     static_law();
     let number = match static_number(text) {
@@ -84,6 +85,7 @@ pub(crate) fn take_name(alloc: Global, pool: &mut Pool, name: &[u8]) -> Result<T
     ensures pool { OnOk result (pool.new ≡ with_texts pool.old (name.now ∷ option_to_list (last_part name.now))) }
     ensures full { result ≡ Err (refused.Fault pool_full)
         → MAX_TABLE < length (with_texts pool.old (name.now ∷ option_to_list (last_part name.now))).texts }
+    ensures err { OnErr result (Extends pool.old pool.new) }
 {
     let number = take_text(alloc, pool, name)?;
     match last_part(name) {
@@ -110,6 +112,7 @@ pub(crate) fn take_table(
     ensures pool { OnOk result (pool.new ≡ with_texts pool.old (filter_map raw.text_of qstrs.now)) }
     ensures full { result ≡ Err (refused.Fault pool_full)
         → MAX_TABLE < length (with_texts pool.old (filter_map raw.text_of qstrs.now)).texts }
+    ensures err { OnErr result (Extends pool.old pool.new) }
 {
     let mut numbers = Vec::new(alloc);
     for qstr in qstrs {
@@ -119,23 +122,4 @@ pub(crate) fn take_table(
         numbers.push(take_text(alloc, pool, text)?)?;
     }
     Ok(numbers)
-}
-
-/// A pool of the same texts.
-pub(crate) fn copy_of(alloc: Global, pool: &Pool) -> Result<Pool, NoMemory>
-    requires { pool.now.first ≡ FIRST_OWN }
-    ensures { IfOk result (λ copy. copy ≡ pool.now) }
-{
-    pool_law(pool);
-    let mut copy = Pool::new(alloc, FIRST_OWN)?;
-    for place in 0..pool.len() {
-        let Some(text) = pool.text(FIRST_OWN + place as u32) else {
-            unreachable!();
-        };
-        match copy.intern(alloc, text) {
-            Ok(_) => {}
-            Err(_) => return Err(NoMemory),
-        }
-    }
-    Ok(copy)
 }

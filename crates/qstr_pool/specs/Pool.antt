@@ -1,5 +1,5 @@
 -- Texts with numbers, one after another.
-use Rattle.std.specs.Prelude.{◌≡◌, ◌↔◌, ℕ, ◌+◌, ◌-◌, ◌<◌, ◌≤◌, ◌^◌, Bool, true, not, ◌&&◌, List, [], ◌∷◌, ◌++◌, length, Option, Some, None, option_map, position, slice_get, if◌then◌else◌, nat_lt}
+use Rattle.std.specs.Prelude.{◌≡◌, ◌↔◌, ℕ, ◌+◌, ◌-◌, ◌<◌, ◌≤◌, ◌^◌, Bool, true, not, ◌&&◌, List, [], ◌∷◌, ◌++◌, length, Option, Some, None, option_map, position, slice_get, take, if◌then◌else◌, nat_lt}
 use Rattle.std.specs.List.{list_any}
 use Rattle.std.specs.Str.{bytes_eq}
 use Rattle.mpy_base.specs.declared.limits.TheConstants.{MAX_TABLE}
@@ -20,6 +20,10 @@ text_of pool n = if nat_lt n pool.first then None else slice_get pool.texts (n -
 -- the texts after a use of one: where it is new it goes last
 abbrev pub interned : Texts → List ℕ → Texts
 interned pool text = if list_any (bytes_eq text) pool.texts then pool else record { first = pool.first; texts = pool.texts ++ text ∷ [] }
+
+-- the first texts, as many as `count`, or all where there are no more
+abbrev pub first_texts : Texts → ℕ → Texts
+first_texts pool count = record { first = pool.first; texts = take count pool.texts }
 
 -- whether no text stands twice
 abbrev pub all_differ : List (List ℕ) → Bool

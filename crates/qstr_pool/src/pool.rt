@@ -2,7 +2,7 @@
 
 ghost use Rattle.std.specs.Prelude.{◌≡◌, ◌↔◌, ℕ, ◌+◌, ◌<◌, ◌≤◌, ◌^◌, List, [], length, Some, None, Ok, option_copied, IsTrue, IsSome, IfSome, IsOk, IfOk, OnOk, OnErr, IsErrOf};
 ghost use Rattle.qstr_pool.specs.Full.{pool_full};
-ghost use Rattle.qstr_pool.specs.Pool.{IsPool, IsOneToOne, number_of, text_of, interned, all_differ};
+ghost use Rattle.qstr_pool.specs.Pool.{IsPool, IsOneToOne, number_of, text_of, interned, first_texts, all_differ};
 
 use indexmap::IndexSet;
 use mpy_base::limits::MAX_TABLE;
@@ -97,6 +97,13 @@ impl Pool {
         }
         self.texts.insert(Vec::from_slice(alloc, text)?)?;
         Ok(self.first + place as u32)
+    }
+
+    /// Keeps the first `count` texts, each with its number, and forgets the others. Takes no memory.
+    pub fn truncate(&mut self, count: usize)
+        ensures { self.new ≡ first_texts self.old count }
+    {
+        self.texts.truncate(count);
     }
 }
 

@@ -8,8 +8,10 @@ use Rattle.bc_library.specs.Constants.{preorder, values_from}
 use Rattle.bc_library.specs.Fine.{Each, Fine}
 use Rattle.bc_library.specs.Own.{IsOwnPool}
 use Rattle.bc_library.specs.Parts.{parts_from}
+use Rattle.bc_library.specs.Texts.{texts_of}
 use Rattle.bc_library.proofs.Files.{fine_objects, fine_qstrs}
 use Rattle.bc_library.proofs.Own.{own_texts}
+use Rattle.bc_library.proofs.Pools.{extends_by}
 use Rattle.bc_library.proofs.library.brought_by.Goals as goal
 
 pub numbered-requires : goal.numbered-requires
@@ -60,3 +62,15 @@ returns-clause-fits c = subst (λ (p : Texts). length p.texts ≤ MAX_TABLE) c.i
 
 pub returns-clause-names : goal.returns-clause-names
 returns-clause-names c f e = absurd cc
+
+pub returns-in-Err-Fault-clause-err : goal.returns-in-Err-Fault-clause-err
+returns-in-Err-Fault-clause-err c = c.in-Err-Fault.ensures.err
+
+pub returns-in-Err-NoMemory-clause-err : goal.returns-in-Err-NoMemory-clause-err
+returns-in-Err-NoMemory-clause-err c = c.in-Err-NoMemory.ensures.err
+
+pub returns-in_err-values-clause-err : goal.returns-in_err-values-clause-err
+returns-in_err-values-clause-err c = extends_by c.args.pool.now c.numbered.new.pool (texts_of c.args.name.now c.args.raw.now) c.in-Ok.ensures.pool
+
+pub returns-in_err-name-clause-err : goal.returns-in_err-name-clause-err
+returns-in_err-name-clause-err c = extends_by c.args.pool.now c.numbered.new.pool (texts_of c.args.name.now c.args.raw.now) c.in-Ok.ensures.pool

@@ -6,7 +6,7 @@ use Rattle.mpy_base.specs.declared.refused.Refused.TheVariants as refused
 use Rattle.mpy_tree.specs.Raw as raw
 use Rattle.qstr_pool.specs.Full.{pool_full}
 use Rattle.qstr_pool.specs.Pool.{Texts}
-use Rattle.bc_library.proofs.Pools.{same_first, entry_there, next_taken, table_overflows}
+use Rattle.bc_library.proofs.Pools.{same_first, entry_there, next_taken, table_overflows, extends_by, extends_same, extends_trans}
 use Rattle.bc_library.proofs.texts.take_table.Goals as goal
 
 pub unreachable-requires : goal.unreachable-requires
@@ -29,3 +29,13 @@ pub loop-qstr-preserved : goal.loop-qstr-preserved
 loop-qstr-preserved c =
     next_taken c.args.pool.now c.loop-qstr.pool c.take_text.new.pool c.args.qstrs.now c.loop-qstr.qstr-index c.qstr-item.result c.in-Some.text.now c.loop-qstr.numbers.items c.push.new.self.items c.in_ok-take_text.field-0
     c.loop-qstr-test.true c.qstr-item.is c.loop-qstr.invariant (sym c.in-Some.ensures) c.in_ok-take_text.ensures.pool c.in_ok-take_text.ensures.number c.in_ok-push.ensures.items
+
+pub returns-in_err-take_text-clause-err : goal.returns-in_err-take_text-clause-err
+returns-in_err-take_text-clause-err c =
+    extends_by c.args.pool.now c.take_text.new.pool (filter_map raw.text_of (take c.loop-qstr.qstr-index c.args.qstrs.now)) (c.in_err-take_text.ensures.err ∙ c.loop-qstr.invariant.pool_is)
+
+pub returns-in_err-push-clause-err : goal.returns-in_err-push-clause-err
+returns-in_err-push-clause-err c =
+    extends_trans c.args.pool.now c.loop-qstr.pool c.take_text.new.pool
+    (extends_by c.args.pool.now c.loop-qstr.pool (filter_map raw.text_of (take c.loop-qstr.qstr-index c.args.qstrs.now)) c.loop-qstr.invariant.pool_is)
+    (extends_by c.loop-qstr.pool c.take_text.new.pool (c.in-Some.text.now ∷ []) c.in_ok-take_text.ensures.pool)

@@ -1,4 +1,4 @@
-use Rattle.std.proofs.Common.{◌≡◌, ℕ, ◌<◌, ◌≤◌, List, length, Err, sym, ap, subst, ◌∙◌, arith}
+use Rattle.std.proofs.Common.{◌≡◌, ℕ, ◌<◌, ◌≤◌, List, length, Err, sym, ap, ap₂, subst, ◌∙◌, arith}
 use Rattle.mpy_base.specs.declared.limits.TheConstants.{MAX_TABLE}
 use Rattle.mpy_tree.specs.Raw.{Module}
 use Rattle.qstr_pool.specs.Pool.{Texts}
@@ -6,6 +6,7 @@ use Rattle.bc_library.specs.declared.library.Loaded.{Loaded}
 use Rattle.bc_library.specs.Kept.{IsLibrary, shelf_of}
 use Rattle.bc_library.specs.Shelf.{Shelf}
 use Rattle.bc_library.specs.Texts.{with_texts, texts_of}
+use Rattle.bc_library.proofs.Pools.{extends_by, taken_back}
 use Rattle.bc_library.proofs.Shelves.{OnlyNames, has_room, only_names, not_there, brought_as, is_new, with_further, seen_further}
 use Rattle.bc_library.proofs.library.Library.add.Goals as goal
 
@@ -27,18 +28,27 @@ brought_by-requires-clause-own c = c.self.invariant.own
 pub brought_by-requires-clause-plain : goal.brought_by-requires-clause-plain
 brought_by-requires-clause-plain c = record { ascii = c.requires.ascii; short = c.requires.short }
 
+pub invariant_of-self-in-Ok-put : goal.invariant_of-self-in-Ok-put
+invariant_of-self-in-Ok-put c =
+    let number : c.len-number.result ≡ length c.self.inside.modules.items = omega (arith, c.len-number.ensures) in
+    let brought = brought_as c.self.inside.pool c.brought_by.new.pool c.len-number.result (length c.self.inside.modules.items) c.args.name.now c.module.result.now c.args.verified c.in-Ok.brought number c.module.ensures c.in-Ok.ensures.brought in
+    let room = has_room c.self.inside.modules.items c.self.inside.refused c.self.inside.pool c.args.self.now c.self.view_is c.in_default.ensures.none.1 in
+    subst (λ (ls : List Loaded). IsLibrary ls c.self.inside.refused c.brought_by.new.pool) (sym c.in-Ok-put.ensures.ok)
+    (with_further c.self.inside.modules.items c.self.inside.refused c.self.inside.pool c.brought_by.new.pool c.args.name.now c.args.verified c.in-Ok.brought c.self.invariant brought room c.verified_law.ensures
+    (is_new c.self.inside.modules.items c.self.inside.refused c.self.inside.pool c.args.self.now c.args.name.now c.self.view_is c.in_default.ensures.none.0))
+
 pub invariant_of-self : goal.invariant_of-self
 invariant_of-self c =
-    let number : c.len-number.result ≡ length c.self.inside.modules.items = omega (arith, c.len-number.ensures) in
-    let brought = brought_as c.self.inside.pool c.len-number.result (length c.self.inside.modules.items) c.args.name.now c.module.result.now c.args.verified c.in-Ok.brought number c.module.ensures c.in-Ok.ensures.brought in
-    let room = has_room c.self.inside.modules.items c.self.inside.refused c.self.inside.pool c.args.self.now c.self.view_is c.in_default.ensures.none.1 in
-    subst (λ (ls : List Loaded). IsLibrary ls c.self.inside.refused c.in-Ok.brought.pool) (sym c.in-Ok-put.ensures.ok)
-    (with_further c.self.inside.modules.items c.self.inside.refused c.self.inside.pool c.args.name.now c.args.verified c.in-Ok.brought c.self.invariant brought room c.verified_law.ensures
-    (is_new c.self.inside.modules.items c.self.inside.refused c.self.inside.pool c.args.self.now c.args.name.now c.self.view_is c.in_default.ensures.none.0))
+    let back = taken_back c.self.inside.pool c.brought_by.new.pool c.truncate.new.self c.len-held.result c.in-Err.ensures.err c.len-held.ensures c.truncate.ensures in
+    subst (λ (p : Texts). IsLibrary c.self.inside.modules.items c.self.inside.refused p) (sym back) c.self.invariant
 
 pub invariant_of-self-in-Err-put : goal.invariant_of-self-in-Err-put
 invariant_of-self-in-Err-put c =
-    subst (λ (ls : List Loaded). IsLibrary ls c.self.inside.refused c.self.inside.pool) (sym c.in-Err-put.ensures.err) c.self.invariant
+    let back =
+    taken_back c.self.inside.pool c.brought_by.new.pool c.truncate-in-Err-put.new.self c.len-held.result
+    (extends_by c.self.inside.pool c.brought_by.new.pool (texts_of c.args.name.now c.module.result.now) c.in-Ok.ensures.brought.pool_is) c.len-held.ensures c.truncate-in-Err-put.ensures in
+    subst (λ (p : Texts). IsLibrary c.put.new.modules.items c.self.inside.refused p) (sym back)
+    (subst (λ (ls : List Loaded). IsLibrary ls c.self.inside.refused c.self.inside.pool) (sym c.in-Err-put.ensures.err) c.self.invariant)
 
 abbrev Overflows : Texts → List ℕ → Module → Type 0
 Overflows pool name m = MAX_TABLE < length (with_texts pool (texts_of name m)).texts
@@ -63,9 +73,9 @@ returns-in-Err-clause-names c e = (c.in_default.ensures.none.0, c.in_default.ens
 pub returns-in-Ok-put-clause-added : goal.returns-in-Ok-put-clause-added
 returns-in-Ok-put-clause-added c =
     let number : c.len-number.result ≡ length c.self.inside.modules.items = omega (arith, c.len-number.ensures) in
-    let brought = brought_as c.self.inside.pool c.len-number.result (length c.self.inside.modules.items) c.args.name.now c.module.result.now c.args.verified c.in-Ok.brought number c.module.ensures c.in-Ok.ensures.brought in
-    ap (λ (ls : List Loaded). shelf_of ls c.self.inside.refused c.in-Ok.brought.pool) c.in-Ok-put.ensures.ok
-    ∙ seen_further c.self.inside.modules.items c.self.inside.refused c.self.inside.pool c.args.self.now c.args.name.now c.args.verified c.in-Ok.brought c.self.view_is brought
+    let brought = brought_as c.self.inside.pool c.brought_by.new.pool c.len-number.result (length c.self.inside.modules.items) c.args.name.now c.module.result.now c.args.verified c.in-Ok.brought number c.module.ensures c.in-Ok.ensures.brought in
+    ap (λ (ls : List Loaded). shelf_of ls c.self.inside.refused c.brought_by.new.pool) c.in-Ok-put.ensures.ok
+    ∙ seen_further c.self.inside.modules.items c.self.inside.refused c.self.inside.pool c.brought_by.new.pool c.args.self.now c.args.name.now c.args.verified c.in-Ok.brought c.self.view_is brought
 
 pub returns-in-Ok-put-clause-twice : goal.returns-in-Ok-put-clause-twice
 returns-in-Ok-put-clause-twice c = (λ e. absurd cc, λ s. absurd (not_there _ c.in_default.ensures.none.0 s))
@@ -95,4 +105,12 @@ returns-in-Err-put-clause-back c = c.in-Err-put.ensures.back
 
 pub returns-in-Err-put-clause-err : goal.returns-in-Err-put-clause-err
 returns-in-Err-put-clause-err c =
-    ap (λ (ls : List Loaded). shelf_of ls c.self.inside.refused c.self.inside.pool) c.in-Err-put.ensures.err ∙ c.self.view_is
+    let back =
+    taken_back c.self.inside.pool c.brought_by.new.pool c.truncate-in-Err-put.new.self c.len-held.result
+    (extends_by c.self.inside.pool c.brought_by.new.pool (texts_of c.args.name.now c.module.result.now) c.in-Ok.ensures.brought.pool_is) c.len-held.ensures c.truncate-in-Err-put.ensures in
+    ap₂ (λ (ls : List Loaded) (p : Texts). shelf_of ls c.self.inside.refused p) c.in-Err-put.ensures.err back ∙ c.self.view_is
+
+pub returns-in-Err-clause-err : goal.returns-in-Err-clause-err
+returns-in-Err-clause-err c =
+    let back = taken_back c.self.inside.pool c.brought_by.new.pool c.truncate.new.self c.len-held.result c.in-Err.ensures.err c.len-held.ensures c.truncate.ensures in
+    ap (λ (p : Texts). shelf_of c.self.inside.modules.items c.self.inside.refused p) back ∙ c.self.view_is
