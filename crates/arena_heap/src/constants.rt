@@ -10,6 +10,8 @@ pub trait Constants {
     ghost use Rattle.arena_heap.specs.declared.value.ConstNo.{ConstNo as TupleName};
     ghost use Rattle.arena_heap.specs.declared.value.Value.{Value as Item};
     ghost use Rattle.arena_heap.specs.Constants.{HoldNoObjects, IsItemOf, NestsWithin};
+    ghost use Rattle.qstr_pool.specs.declared.table.TheConstants.{FIRST_OWN};
+    ghost use Rattle.qstr_pool.specs.Static.{static_text_of};
 
     /// The bytes of a text.
     ghost text_of: { Self → TextName → Option (List ℕ) };
@@ -30,6 +32,10 @@ pub trait Constants {
     /// No two numbers have one text.
     fn one_number_law(&self)
         ensures { (text : List ℕ) (m n : ℕ) → text_of self.now (StrNo.Pool m) ≡ Some text → text_of self.now (StrNo.Pool n) ≡ Some text → m ≡ n };
+
+    /// A number that every file may give a text has that text.
+    fn static_law(&self)
+        ensures { (n : ℕ) → n < FIRST_OWN → text_of self.now (StrNo.Pool n) ≡ static_text_of n };
 
     /// The number that a text has, if any.
     fn number(&self, text: &[u8]) -> Option<u32>

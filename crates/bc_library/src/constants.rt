@@ -112,6 +112,10 @@ impl Constants for Library {
         library_law(self);
     }
 
+    fn static_law(&self) {
+        let _ = &self.pool;
+    }
+
     fn number(&self, text: &[u8]) -> Option<u32> {
         library_law(self);
         known_number(&self.pool, text)

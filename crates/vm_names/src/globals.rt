@@ -8,7 +8,7 @@ ghost use Rattle.py_effects.specs.Names.{load_global as loads, store_global as s
 ghost use Rattle.vm_sights.specs.Sights.{under};
 ghost use Rattle.vm_raising.specs.Worlds.{Stands, HasEffect};
 
-use crate::builtins::global_named;
+use crate::builtins::global_of;
 use arena_heap::{Arena, Constants, DictNo, StrNo, Value};
 use arena_objects::{dict_delete, dict_get};
 use vm_assignments::set_item;
@@ -28,7 +28,7 @@ fn load_builtin<C: Constants>(_arena: &Arena, consts: &C, name: StrNo) -> Result
     requires stands { under C.Constants consts.now Stands _arena.now [] }
     ensures { under C.Constants consts.now HasEffect _arena.now _arena.now result (λ w see. finds_builtin w (see.text name) (builtin_of_name (see.text name))) }
 {
-    match global_named(name_bytes(consts, name)) {
+    match global_of(consts, name) {
         Some(b) => Ok(Value::Built(b)),
         None => Err(Stop::Raises(Fault::NoSuchName(name))),
     }

@@ -1,8 +1,7 @@
-use Rattle.std.proofs.Common.{Option, sym, ap, ◌∙◌}
+use Rattle.std.proofs.Common.{Option, sym, ap}
 use Rattle.mpy_base.specs.declared.builtin.Builtin.{Builtin}
 use Rattle.arena_heap.specs.declared.value.Value.TheVariants as values
 use Rattle.arena_objects.specs.Iterables.{or_nothing}
-use Rattle.py_primitives.specs.Builtins.{global_named}
 use Rattle.py_effects.specs.Names.{built_in}
 use Rattle.vm_faults.specs.declared.fault.Fault.TheVariants as faults
 use Rattle.vm_sights.specs.Sights.{world_over}
@@ -14,7 +13,7 @@ returns-in-Some g c =
     let texts = g.C.Constants.text_of c.args.consts.now in
     let tuples = g.C.Constants.items_of c.args.consts.now in
     let h = c.args._arena.now in
-    let found = c.in-Some.ensures ∙ ap global_named c.name_bytes.ensures in
+    let found = c.in-Some.ensures in
     value_effect texts tuples h (values.Built c.in-Some.b) _ c.requires.stands.all_told (record { meets = tt; small = tt }) tt
     (λ w. ap (λ (o : Option Builtin). built_in (world_over texts tuples w h) (or_nothing (texts c.args.name)) o) (sym found))
 
@@ -23,6 +22,6 @@ returns-in-None g c =
     let texts = g.C.Constants.text_of c.args.consts.now in
     let tuples = g.C.Constants.items_of c.args.consts.now in
     let h = c.args._arena.now in
-    let found = c.in-None.ensures ∙ ap global_named c.name_bytes.ensures in
+    let found = c.in-None.ensures in
     fault_effect texts tuples h (faults.NoSuchName c.args.name) _ c.requires.stands.all_told c.requires.name
     (λ w. ap (λ (o : Option Builtin). built_in (world_over texts tuples w h) (or_nothing (texts c.args.name)) o) (sym found))
