@@ -1,6 +1,5 @@
 pub mod AttributeUses
 pub mod DictKeys
-pub mod FewItems
 pub mod IndexUses
 pub mod ItemFills
 pub mod ItemsShown

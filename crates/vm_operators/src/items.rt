@@ -46,12 +46,10 @@ pub fn items_law<C: Constants>(arena: &Arena, consts: &C, v: Value)
     ensures nested { IsNested (C.items_of consts.now) v }
     ensures few { length (items_in_arena (C.items_of consts.now) arena.now v) < 2 ^ 32 }
 {
-    arena.sound_law();
-    arena.room_law();
     if let Value::Fixed(c) = v {
         let _len = consts.len(c);
-        let _count = item_count(arena, consts, v);
     }
+    let _count = item_count(arena, consts, v);
 }
 
 /// The item of a str, which is made.
