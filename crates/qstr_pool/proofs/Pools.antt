@@ -1,11 +1,12 @@
 -- Numbers and texts of a pool, and what a use of a text makes of it.
-use Rattle.std.proofs.Common.{◌≡◌, ℕ, zero, suc, ◌+◌, ◌-◌, ◌≤◌, Bool, true, false, cond, nat_lt, List, [], ◌∷◌, ◌++◌, map, length, Option, Some, None, option_map, position, slice_get, refl, sym, ap, ap₂, ◌∙◌, arith}
+use Rattle.std.proofs.Common.{◌≡◌, ℕ, zero, suc, ◌+◌, ◌-◌, ◌≤◌, Bool, true, false, cond, nat_lt, List, [], ◌∷◌, ◌++◌, map, length, take, Option, Some, None, option_map, position, slice_get, refl, sym, ap, ap₂, ◌∙◌, arith}
 use Rattle.std.specs.List.{list_any}
 use Rattle.std.specs.Str.{bytes_eq}
+use Rattle.std.proofs.lemmas.List.{take-map}
 use Rattle.std.proofs.lemmas.Option.{slice_get-map}
 use Rattle.std.proofs.lemmas.Bool.Decides.{nat_tests}
 use Rattle.indexmap.specs.IndexSet.{insert_key}
-use Rattle.qstr_pool.specs.Pool.{Texts, IsOneToOne, number_of, text_of, interned, all_differ}
+use Rattle.qstr_pool.specs.Pool.{Texts, IsOneToOne, number_of, text_of, interned, first_texts, all_differ}
 use Rattle.qstr_pool.proofs.Places.{found, stands, position-map, absent, present, pushed, inserted}
 
 counted : (first n : ℕ) (r : Option ℕ) → option_map (λ place. first + place) r ≡ Some n → (r ≡ Some (n - first)) × (first ≤ n)
@@ -102,3 +103,9 @@ text_kept pool text first texts n known same are e =
     let at = sym (from_first pool.first n (slice_get pool.texts (n - pool.first)) above) ∙ e in
     let last = from_first pool.first n (slice_get (pool.texts ++ text ∷ []) (n - pool.first)) above ∙ at_front pool.texts text (n - pool.first) known at in
     ap₂ (λ (k : ℕ) (ts : List (List ℕ)). text_of (record { first = k; texts = ts }) n) same are ∙ last
+
+-- the first keys are those of the first texts
+pub front_is : {K : Type 0} (f : K → List ℕ) (old new : List K) (first count : ℕ) (pool : Texts) → record { first = first; texts = map f old } ≡ pool → new ≡ take count old → record { first = first; texts = map f new } ≡ first_texts pool count
+front_is f old new first count pool are front =
+    let texts : map f new ≡ take count (map f old) = ap (map f) front ∙ sym (take-map f count old) in
+    ap (λ (found : List (List ℕ)). record { first = first; texts = found }) texts ∙ ap (λ (p : Texts). first_texts p count) are
