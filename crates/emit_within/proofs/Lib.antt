@@ -1,4 +1,3 @@
-pub use Rattle.emit_module.proofs as emit_module_lemmas
 pub mod Crowded
 pub mod Nested
 pub mod Accepted

@@ -5,5 +5,4 @@ mod fault;
 mod migrate;
 
 pub use fault::MigrateFault;
-pub use image_freeze::freeze_law;
 pub use migrate::migrate_image;

@@ -5,7 +5,7 @@ use Rattle.mpy_base.specs.declared.limits.TheConstants.{MAX_TASKS}
 use Rattle.mpy_io.specs.Files.{FileOf}
 use Rattle.mpy_io.specs.Ports.{PortView}
 use Rattle.bc_library.specs.Shelf.{Shelf}
-use Rattle.stress_command.specs.source_files.Sources.{stored}
+use Rattle.source_files.specs.Sources.{stored}
 use Rattle.mpy_words.specs.declared.order.Command.{Command}
 use Rattle.mpy_words.specs.declared.order.Command.TheVariants.{Go, Check, Dump, Cross, Merge, Freeze, Migrate, Run, Board, Stress}
 use Rattle.mpy_words.specs.declared.order.Order.{Order}
@@ -22,8 +22,8 @@ use Rattle.base_commands.specs.run_commands.Run.{EndsRun, room_of}
 use Rattle.run_meaning.specs.Meant.{Libraries, RunMeans}
 use Rattle.run_meaning.proofs.Meaning.{MeantLaw, run_means}
 use Rattle.run_meaning.specs.image_commands.Migrate.{Migrates}
-use Rattle.run_meaning.specs.base_library.Base.{HoldsBase}
-use Rattle.run_meaning.specs.base_library.Over.{EndsAtBase}
+use Rattle.base_library.specs.Base.{HoldsBase}
+use Rattle.base_library.specs.Over.{EndsAtBase}
 use Rattle.board_command.specs.Boards.{Boards}
 use Rattle.board_command.specs.Images.{library_below}
 use Rattle.stress_command.specs.Stress.{EndsStress}

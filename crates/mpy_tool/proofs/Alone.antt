@@ -6,13 +6,13 @@ use Rattle.std.specs.Io.KnownBytes.{Keeps}
 use Rattle.mpy_io.specs.Count.{Counts}
 use Rattle.mpy_io.specs.Files.{FileOf}
 use Rattle.bc_library.specs.Shelf.{Shelf}
-use Rattle.stress_command.specs.source_files.Sources.{stored}
+use Rattle.source_files.specs.Sources.{stored}
 use Rattle.mpy_words.specs.declared.order.Command.{Command}
 use Rattle.mpy_words.specs.declared.order.Command.TheVariants.{Go, Check, Dump, Cross, Merge, Freeze, Migrate, Run, Board, Stress}
 use Rattle.mpy_words.specs.declared.order.Order.{Order}
 use Rattle.mpy_words.specs.Words.{first_name, second_name, source_name, file_names}
-use Rattle.stress_command.specs.mpy_endings.declared.ending.Ending.{Ending}
-use Rattle.stress_command.specs.mpy_endings.Line.{place_in}
+use Rattle.mpy_endings.specs.declared.ending.Ending.{Ending}
+use Rattle.mpy_endings.specs.Line.{place_in}
 use Rattle.run_meaning.specs.command_files.Folder.{ChangesOnly}
 use Rattle.run_meaning.specs.file_commands.Check.{Checks}
 use Rattle.run_meaning.specs.file_commands.Cross.{Crosses}

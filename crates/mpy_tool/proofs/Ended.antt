@@ -2,14 +2,14 @@
 use Rattle.std.proofs.Common.{◌≡◌, ℕ, List, [], Option, Result, get_or, ap, subst, ◌∙◌, refl}
 use Rattle.mpy_io.specs.declared.fault.Failed.{Failed}
 use Rattle.bc_library.specs.Shelf.{Shelf}
-use Rattle.stress_command.specs.source_files.Sources.{stored}
+use Rattle.source_files.specs.Sources.{stored}
 use Rattle.mpy_words.specs.declared.order.Command.TheVariants.{Check, Dump, Cross, Merge, Freeze, Migrate, Board}
 use Rattle.mpy_words.specs.declared.order.Order.{Order}
 use Rattle.mpy_words.specs.Words.{first_name, second_name, source_name, file_names}
-use Rattle.stress_command.specs.mpy_endings.declared.ending.Ending.{Ending}
-use Rattle.stress_command.specs.mpy_endings.declared.ending.Ending.TheVariants.{Done, Unaccepted, Unread, Unverified, Unmerged, Unopened, Unfrozen, Unboarded, Stopped, ReadFault, WriteFault, Unwritten, NoMemory, Absent}
-use Rattle.stress_command.specs.mpy_endings.Line.{Puts, Says, line_of, name_in, place_in}
-use Rattle.stress_command.proofs.mpy_endings_lemmas.Said.{says_from}
+use Rattle.mpy_endings.specs.declared.ending.Ending.{Ending}
+use Rattle.mpy_endings.specs.declared.ending.Ending.TheVariants.{Done, Unaccepted, Unread, Unverified, Unmerged, Unopened, Unfrozen, Unboarded, Stopped, ReadFault, WriteFault, Unwritten, NoMemory, Absent}
+use Rattle.mpy_endings.specs.Line.{Puts, Says, line_of, name_in, place_in}
+use Rattle.mpy_endings.proofs.Said.{says_from}
 use Rattle.run_meaning.specs.command_files.Outside.{Outside, Ends, EndsAt, Writes, WritesOf}
 use Rattle.run_meaning.specs.file_commands.Check.{Checks}
 use Rattle.run_meaning.specs.file_commands.Cross.{Crosses}

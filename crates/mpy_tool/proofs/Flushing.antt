@@ -4,10 +4,10 @@ use Rattle.std.specs.Io.KnownBytes.{Keeps}
 use Rattle.std.proofs.KnownBytes.{Appends-kept}
 use Rattle.mpy_io.specs.Files.{FileOf}
 use Rattle.bc_library.specs.Shelf.{Shelf}
-use Rattle.stress_command.specs.vm_states.Means.{Program}
+use Rattle.vm_states.specs.Means.{Program}
 use Rattle.board_plan.specs.declared.plan.Plan.{Plan}
 use Rattle.board_command.specs.board_files.Summaries.{HasRunIn}
-use Rattle.stress_command.specs.mpy_endings.declared.ending.Ending.TheVariants.{Done}
+use Rattle.mpy_endings.specs.declared.ending.Ending.TheVariants.{Done}
 use Rattle.board_command.specs.Boards.{Boards}
 
 run_flushed : (p : Program) (plan : Plan) (old new : Option FileOf) (before behind last : Option (List ℕ)) → Keeps behind last → HasRunIn p plan old new before behind → HasRunIn p plan old new before last

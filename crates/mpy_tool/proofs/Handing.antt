@@ -4,13 +4,13 @@ use Rattle.std.specs.Io.KnownBytes.{Keeps}
 use Rattle.std.proofs.KnownBytes.{Appends-kept, Keeps-trans}
 use Rattle.mpy_io.specs.Files.{FileOf}
 use Rattle.bc_library.specs.Shelf.{Shelf}
-use Rattle.stress_command.specs.source_files.Sources.{stored}
+use Rattle.source_files.specs.Sources.{stored}
 use Rattle.mpy_words.specs.declared.order.Command.{Command}
 use Rattle.mpy_words.specs.declared.order.Command.TheVariants.{Go, Check, Dump, Cross, Merge, Freeze, Migrate, Run, Board, Stress}
 use Rattle.mpy_words.specs.declared.order.Order.{Order}
 use Rattle.mpy_words.specs.Words.{first_name, second_name}
-use Rattle.stress_command.specs.mpy_endings.declared.ending.Ending.{Ending}
-use Rattle.stress_command.specs.mpy_endings.declared.ending.Ending.TheVariants.{Done, WriteFault}
+use Rattle.mpy_endings.specs.declared.ending.Ending.{Ending}
+use Rattle.mpy_endings.specs.declared.ending.Ending.TheVariants.{Done, WriteFault}
 use Rattle.run_meaning.specs.file_commands.Check.{verified_line}
 use Rattle.run_meaning.proofs.file_commands_lemmas.HandedOn.{checks_cut, dumps_cut}
 use Rattle.board_command.specs.Images.{library_below}

@@ -2,11 +2,11 @@
 use Rattle.std.proofs.Common.{◌≡◌, ◌⊎◌, ℕ, List, subst, inl, inr}
 use Rattle.mpy_base.specs.declared.room.Room.{Room}
 use Rattle.mpy_io.specs.Ports.{PortView}
-use Rattle.stress_command.specs.image_runs.declared.fault.MainFault.TheVariants as mains
-use Rattle.stress_command.specs.mpy_endings.declared.ending.Ending.{Ending}
-use Rattle.stress_command.specs.mpy_endings.declared.ending.Ending.TheVariants.{Done, Unaccepted, Unread, Unverified, Unmerged, Unopened, Unfrozen, Unboarded, Stopped, ReadFault, WriteFault, Unwritten, NoMemory, Absent}
-use Rattle.stress_command.specs.mpy_endings.declared.ending.Stop.TheVariants.{Past, LibraryFault, LibraryUnaccepted, Raised, Memory, Steps}
-use Rattle.stress_command.specs.mpy_endings.Ending.{status_of}
+use Rattle.image_runs.specs.declared.fault.MainFault.TheVariants as mains
+use Rattle.mpy_endings.specs.declared.ending.Ending.{Ending}
+use Rattle.mpy_endings.specs.declared.ending.Ending.TheVariants.{Done, Unaccepted, Unread, Unverified, Unmerged, Unopened, Unfrozen, Unboarded, Stopped, ReadFault, WriteFault, Unwritten, NoMemory, Absent}
+use Rattle.mpy_endings.specs.declared.ending.Stop.TheVariants.{Past, LibraryFault, LibraryUnaccepted, Raised, Memory, Steps}
+use Rattle.mpy_endings.specs.Ending.{status_of}
 use Rattle.run_meaning.specs.command_files.Outside.{Outside}
 use Rattle.base_commands.specs.run_commands.Ready.{GoLibrary}
 use Rattle.base_commands.specs.run_commands.Run.{EndsRun, IsUnloaded}

@@ -3,12 +3,12 @@ use Rattle.std.specs.Prelude.{◌≡◌, ◌⊎◌, ℕ, List, [], Option, Some,
 use Rattle.mpy_io.specs.Files.{FileOf}
 use Rattle.mpy_io.specs.Ports.{PortView}
 use Rattle.bc_library.specs.Shelf.{Shelf}
-use Rattle.stress_command.specs.mpy_endings.declared.ending.Ending.{Ending}
+use Rattle.mpy_endings.specs.declared.ending.Ending.{Ending}
 use Rattle.run_meaning.specs.command_files.Outside.{Outside}
 use Rattle.base_commands.specs.run_commands.Ready.{RunLibrary}
 use Rattle.run_meaning.specs.image_commands.Freeze.{Freezes}
 use Rattle.run_meaning.specs.Meant.{Libraries}
-use Rattle.run_meaning.specs.base_library.Over.{EndsAtBase, WentOver}
+use Rattle.base_library.specs.Over.{EndsAtBase, WentOver}
 use Rattle.base_commands.specs.Ready.{RunLibraryOn}
 use Rattle.base_commands.specs.Freeze.{FreezesOn}
 

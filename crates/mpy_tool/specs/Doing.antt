@@ -9,10 +9,10 @@ use Rattle.mpy_words.specs.declared.order.Command.{Command}
 use Rattle.mpy_words.specs.declared.order.Command.TheVariants.{Go, Check, Dump, Cross, Merge, Freeze, Migrate, Run, Board, Stress}
 use Rattle.mpy_words.specs.declared.order.Order.{Order}
 use Rattle.mpy_words.specs.Words.{first_name, second_name, source_name, main_name, file_names}
-use Rattle.stress_command.specs.source_files.Sources.{stored}
-use Rattle.stress_command.specs.mpy_endings.declared.ending.Ending.{Ending}
-use Rattle.stress_command.specs.mpy_endings.Ending.{is_folder_fault, is_out_fault, status_of}
-use Rattle.stress_command.specs.mpy_endings.Line.{Says, line_of, place_in}
+use Rattle.source_files.specs.Sources.{stored}
+use Rattle.mpy_endings.specs.declared.ending.Ending.{Ending}
+use Rattle.mpy_endings.specs.Ending.{is_folder_fault, is_out_fault, status_of}
+use Rattle.mpy_endings.specs.Line.{Says, line_of, place_in}
 use Rattle.run_meaning.specs.command_files.Outside.{Outside, EndsAt}
 use Rattle.run_meaning.specs.file_commands.Check.{Checks}
 use Rattle.run_meaning.specs.file_commands.Cross.{Crosses}

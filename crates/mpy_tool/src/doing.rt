@@ -5,8 +5,8 @@ ghost use Rattle.mpy_io.specs.Count.{Counts};
 ghost use Rattle.image_base.specs.Base.{IsOpened};
 ghost use Rattle.bc_library.specs.Shelf.{Shelf};
 ghost use Rattle.std.specs.Prelude.{Option, None as Nothing};
-ghost use Rattle.stress_command.specs.mpy_endings.declared.ending.Ending.TheVariants.{Done};
-ghost use Rattle.stress_command.specs.mpy_endings.Ending.{is_folder_fault, is_out_fault};
+ghost use Rattle.mpy_endings.specs.declared.ending.Ending.TheVariants.{Done};
+ghost use Rattle.mpy_endings.specs.Ending.{is_folder_fault, is_out_fault};
 ghost use Rattle.run_meaning.specs.command_files.Outside.{seen};
 ghost use Rattle.mpy_tool.specs.Below.{FreezesBelow};
 ghost use Rattle.mpy_tool.specs.Doing.{DoesBy, Finishes};
@@ -16,11 +16,11 @@ use crate::releasing::release;
 use base_commands::freeze_on;
 use bc_library::Library;
 use board_command::board;
+use mpy_endings::{Ended, Ending, file_names, say_ending, source_name, word_at};
 use mpy_io::{Failed, Folder, Sink};
 use mpy_words::{Command, Order};
 use run_meaning::{check, cross, dump, freeze, merge_files, migrate};
 use std::alloc::Global;
-use stress_command::{Ended, Ending, file_names, say_ending, source_name, word_at};
 
 /// Writes the image of the sources of the manifest of this name, over the library below, if there is one.
 fn freeze_below<F: Folder>(

@@ -5,7 +5,7 @@ ghost use Rattle.mpy_io.specs.Count.{Counts};
 ghost use Rattle.mpy_tree.specs.Raw.{Module};
 ghost use Rattle.library_files.specs.Ends.{HoldsModules};
 ghost use Rattle.image_base.specs.Base.{IsOpened};
-ghost use Rattle.stress_command.specs.image_runs.Main.{IsMainAt};
+ghost use Rattle.image_runs.specs.Main.{IsMainAt};
 ghost use Rattle.mpy_words.specs.Words.{first_name};
 ghost use Rattle.run_meaning.specs.command_files.Opened.{failed_in};
 ghost use Rattle.run_meaning.specs.command_files.Outside.{seen};
@@ -18,11 +18,11 @@ use crate::releasing::release;
 use base_commands::{Ready, run_loaded, run_ready, run_ready_on, source_ready};
 use bc_library::Library;
 use mpy_base::Room;
+use mpy_endings::{Ending, main_name, say_ending, word_at};
 use mpy_io::{Folder, Port, Sink};
 use mpy_words::{Command, Order};
 use port_set::PortSet;
 use std::alloc::Global;
-use stress_command::{Ending, main_name, say_ending, word_at};
 
 /// The library of the file of this name, an image over the library below, if there is one, or what keeps it from being run.
 fn ready_below<F: Folder>(

@@ -6,9 +6,9 @@ ghost use Rattle.mpy_io.specs.Files.{FileOf};
 ghost use Rattle.mpy_words.specs.declared.order.Command.TheVariants as commands;
 ghost use Rattle.mpy_words.specs.Given.{most_count};
 ghost use Rattle.mpy_words.specs.Words.{order_of, first_name, second_name, source_name, main_name, file_names};
-ghost use Rattle.stress_command.specs.source_files.Sources.{stored};
-ghost use Rattle.stress_command.specs.mpy_endings.Ending.{status_of};
-ghost use Rattle.stress_command.specs.mpy_endings.Line.{Says, line_of};
+ghost use Rattle.source_files.specs.Sources.{stored};
+ghost use Rattle.mpy_endings.specs.Ending.{status_of};
+ghost use Rattle.mpy_endings.specs.Line.{Says, line_of};
 ghost use Rattle.run_meaning.specs.command_files.Outside.{seen, Ends, EndsAt, Writes, WritesOf};
 ghost use Rattle.run_meaning.specs.file_commands.Check.{Checks};
 ghost use Rattle.run_meaning.specs.file_commands.Cross.{Crosses};
@@ -30,14 +30,16 @@ ghost use Rattle.mpy_tool.specs.Order.{RefusesWords, base_by, calls_ports, calls
 use crate::doing::do_order;
 use crate::releasing::release;
 use crate::running::run_order;
+use base_library::base_library;
 use bc_library::Library;
 use mpy_base::Room;
+use mpy_endings::{Ending, say_ending, say_words, word_at};
 use mpy_io::{Folder, Port, Sink};
 use mpy_words::{Command, Order, order_of};
 use port_set::PortSet;
-use run_meaning::{base_library, go_means_law, meant_law};
+use run_meaning::{go_means_law, meant_law};
 use std::alloc::Global;
-use stress_command::{Ending, say_ending, say_words, stress, word_at};
+use stress_command::stress;
 
 /// The status of words that are of no order.
 const WORDS_STATUS: u8 = 2;

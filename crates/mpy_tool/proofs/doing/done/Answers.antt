@@ -1,5 +1,5 @@
 use Rattle.std.proofs.Common.{map, string_bytes, subst}
-use Rattle.stress_command.specs.mpy_endings.declared.ending.Ending.{Ending}
+use Rattle.mpy_endings.specs.declared.ending.Ending.{Ending}
 use Rattle.mpy_tool.specs.Doing.{DoesBy}
 use Rattle.mpy_tool.proofs.Handing.{handed_on, held_back}
 use Rattle.mpy_tool.proofs.doing.done.Goals as goal
