@@ -1,4 +1,5 @@
 pub mod Turns
+pub mod Levels
 pub mod Steps
 pub mod Tables
 pub mod Forward
@@ -8,6 +9,7 @@ pub mod Backward
 pub mod Faults
 pub mod Whole
 pub mod Aimed
+pub mod Depths
 pub mod Embedded
 pub mod Aims
 pub mod Singles

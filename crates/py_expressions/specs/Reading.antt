@@ -395,12 +395,20 @@ module _ (inner : Rule → Parser Expr) where
 
   -- ---- operators
 
+  -- the exponent, behind its base and the sign of a power
+  abbrev pub raised : Expr → Parser Expr
+  raised base = ex.Binary binary.Pow base <$> inner rule.Factor
+
   -- power = primary [ "**" factor ]
   unfoldable pub power : Parser Expr
   power = do
     base ← primary
     raises ← eat (mark.Op op.DoubleStar)
     if raises then ex.Binary binary.Pow base <$> inner rule.Factor else pure base
+
+  -- behind a sign that stands first
+  abbrev pub signed : UnaryOp → Parser Expr
+  signed found = ex.Unary found <$> inner rule.Factor
 
   -- a factor behind its sign, or a power where there is none
   abbrev pub factor_by : Option UnaryOp → Parser Expr
@@ -442,6 +450,10 @@ module _ (inner : Rule → Parser Expr) where
     first ← sum top_level
     more ← all_comparisons
     pure (compared first more)
+
+  -- behind a `not`
+  abbrev pub negated : Parser Expr
+  negated = ex.Not <$> inner rule.NotTest
 
   -- nottest = "not" nottest | compare
   unfoldable pub not_test : Parser Expr

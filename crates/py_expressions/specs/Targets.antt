@@ -169,6 +169,10 @@ unfoldable pub target_of : ℕ → Expr → Option Target
 target_of zero x = None
 target_of (suc depth) x = target_by (target_of depth) (out-Expr x)
 
+-- an expression is this target, however deep its brackets are
+abbrev pub IsTarget : Expr → Target → Type 0
+IsTarget x to = (depth : ℕ) × (target_of depth x ≡ Some to)
+
 -- what a primary with trailers may be as a target of an augmented assignment
 abbrev pub part_by : Layer → Option Target
 part_by (Expr-F.Attr object text) = Some (target.Attr object text)

@@ -71,6 +71,7 @@ impl<F: Fn(Global, &mut Cursor<'_>, usize, Rule) -> Result<Expr, Refused<Syntax>
     }
 
     /// Reads `[ pair { "," pair } [ "," ] ]`.
+    #[inline(never)]
     fn pairs(&self, tokens: &mut Cursor<'_>) -> Result<Items<(Expr, Expr)>, Refused<Syntax>>
         requires { Nests self.now.depth (F.pre self.now.expr) (F.post self.now.expr) }
         ensures { Reads (spec.pairs (spec.expr self.now.depth) (input_of tokens.old)) result tokens.new }
@@ -100,6 +101,7 @@ impl<F: Fn(Global, &mut Cursor<'_>, usize, Rule) -> Result<Expr, Refused<Syntax>
     }
 
     /// Reads an atom: a name, a constant, or what stands in brackets of one kind.
+    #[inline(never)]
     #[tactic(auto, unfolding(crate::specs::Reading::atom))]
     pub fn atom(&self, tokens: &mut Cursor<'_>) -> Result<Expr, Refused<Syntax>>
         requires { Nests self.now.depth (F.pre self.now.expr) (F.post self.now.expr) }

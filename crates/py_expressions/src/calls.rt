@@ -175,6 +175,7 @@ impl<F: Fn(Global, &mut Cursor<'_>, usize, Rule) -> Result<Expr, Refused<Syntax>
     }
 
     /// Reads all calls, indexes and attributes that follow `left`, the innermost first.
+    #[inline(never)]
     pub fn trailers(&self, tokens: &mut Cursor<'_>, mut left: Expr) -> Result<Expr, Refused<Syntax>>
         requires { Nests self.now.depth (F.pre self.now.expr) (F.post self.now.expr) }
         ensures { Reads (spec.all_trailers (spec.expr self.now.depth) left (input_of tokens.old)) result tokens.new }

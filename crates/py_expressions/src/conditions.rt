@@ -65,6 +65,7 @@ fn compare_op(tokens: &mut Cursor<'_>) -> Result<Option<CompareOp>, Refused<Synt
 }
 
 /// An operand with its comparisons; alone it is itself.
+#[inline(never)]
 #[tactic(auto, unfolding(crate::specs::Reading::compared))]
 fn compared(alloc: Global, first: Expr, rest: Items<(CompareOp, Expr)>) -> Result<Expr, NoMemory>
     ensures { IfOk result (λ e. e ≡ spec.compared first rest) }
@@ -78,6 +79,7 @@ fn compared(alloc: Global, first: Expr, rest: Items<(CompareOp, Expr)>) -> Resul
 
 impl<F: Fn(Global, &mut Cursor<'_>, usize, Rule) -> Result<Expr, Refused<Syntax>>> Grammar<F> {
     /// Reads `{ comparison bor }`.
+    #[inline(never)]
     fn comparisons(
         &self,
         tokens: &mut Cursor<'_>,
@@ -97,6 +99,7 @@ impl<F: Fn(Global, &mut Cursor<'_>, usize, Rule) -> Result<Expr, Refused<Syntax>
     }
 
     /// Reads `bor { comparison bor }`.
+    #[inline(never)]
     #[tactic(auto, unfolding(crate::specs::Reading::compare))]
     fn compare(&self, tokens: &mut Cursor<'_>) -> Result<Expr, Refused<Syntax>>
         requires { Nests self.now.depth (F.pre self.now.expr) (F.post self.now.expr) }
@@ -112,20 +115,31 @@ impl<F: Fn(Global, &mut Cursor<'_>, usize, Rule) -> Result<Expr, Refused<Syntax>
         }
     }
 
+    /// Behind a `not`.
+    #[inline(never)]
+    fn negated(&self, tokens: &mut Cursor<'_>) -> Result<Expr, Refused<Syntax>>
+        requires { Nests self.now.depth (F.pre self.now.expr) (F.post self.now.expr) }
+        ensures { Reads (spec.negated (spec.expr self.now.depth) (input_of tokens.old)) result tokens.new }
+    {
+        let value = Boxed::new(self.alloc, self.inner(tokens, Rule::NotTest)?)?;
+        Ok(Expr::Not(value))
+    }
+
     /// Reads a comparison behind any number of `not`.
     #[tactic(auto, unfolding(crate::specs::Reading::not_test))]
     pub fn not_test(&self, tokens: &mut Cursor<'_>) -> Result<Expr, Refused<Syntax>>
         requires { Nests self.now.depth (F.pre self.now.expr) (F.post self.now.expr) }
         ensures { Reads (spec.not_test (spec.expr self.now.depth) (input_of tokens.old)) result tokens.new }
     {
-        if !tokens.eat(Mark::Word(Word::Not)) {
-            return self.compare(tokens);
+        if tokens.eat(Mark::Word(Word::Not)) {
+            self.negated(tokens)
+        } else {
+            self.compare(tokens)
         }
-        let value = Boxed::new(self.alloc, self.inner(tokens, Rule::NotTest)?)?;
-        Ok(Expr::Not(value))
     }
 
     /// Reads `{ "and" nottest }` behind the first operand.
+    #[inline(never)]
     fn and_operands(
         &self,
         tokens: &mut Cursor<'_>,
@@ -157,6 +171,7 @@ impl<F: Fn(Global, &mut Cursor<'_>, usize, Rule) -> Result<Expr, Refused<Syntax>
     }
 
     /// Reads `{ "or" andtest }` behind the first operand.
+    #[inline(never)]
     fn or_operands(
         &self,
         tokens: &mut Cursor<'_>,
@@ -188,6 +203,7 @@ impl<F: Fn(Global, &mut Cursor<'_>, usize, Rule) -> Result<Expr, Refused<Syntax>
     }
 
     /// Reads `ortest "else" test` behind the first operand and its `if`.
+    #[inline(never)]
     #[tactic(auto, unfolding(crate::specs::Reading::conditional))]
     fn conditional(
         &self,

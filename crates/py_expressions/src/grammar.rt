@@ -1,4 +1,7 @@
 //! The rules that hold tests take the reader of those as a parameter, so that each is proved by itself.
+//!
+//! A level of brackets takes the frames of all rules from a test to an atom, so what holds trees beside a rule's first operand
+//! stands in functions of their own, which aren't inlined.
 
 ghost use Rattle.py_expressions.specs.Input.{Reads, input_of};
 ghost use Rattle.py_expressions.specs.Reading as spec;
@@ -29,6 +32,7 @@ pub(crate) struct Grammar<F> {
 
 impl<F: Fn(Global, &mut Cursor<'_>, usize, Rule) -> Result<Expr, Refused<Syntax>>> Grammar<F> {
     /// Reads what nests, one level deeper.
+    #[inline(always)]
     pub fn inner(&self, tokens: &mut Cursor<'_>, rule: Rule) -> Result<Expr, Refused<Syntax>>
         requires { Nests self.now.depth (F.pre self.now.expr) (F.post self.now.expr) }
         ensures { Reads (spec.expr self.now.depth rule (input_of tokens.old)) result tokens.new }
@@ -37,6 +41,7 @@ impl<F: Fn(Global, &mut Cursor<'_>, usize, Rule) -> Result<Expr, Refused<Syntax>
     }
 
     /// Reads by the rule.
+    #[inline(always)]
     fn by_rule(&self, tokens: &mut Cursor<'_>, rule: Rule) -> Result<Expr, Refused<Syntax>>
         requires { Nests self.now.depth (F.pre self.now.expr) (F.post self.now.expr) }
         ensures { Reads (spec.by_rule (spec.expr self.now.depth) rule (input_of tokens.old)) result tokens.new }

@@ -47,6 +47,7 @@ pub(crate) fn tuple_of(found: Items<Expr>, comma: bool) -> Expr
 }
 
 /// The operands of `and`; one alone is itself.
+#[inline(never)]
 #[tactic(auto, unfolding(crate::specs::Reading::joined))]
 pub(crate) fn and_of(found: Items<Expr>) -> Expr
     ensures { result ≡ spec.joined ex.And found }
@@ -58,6 +59,7 @@ pub(crate) fn and_of(found: Items<Expr>) -> Expr
 }
 
 /// The operands of `or`; one alone is itself.
+#[inline(never)]
 #[tactic(auto, unfolding(crate::specs::Reading::joined))]
 pub(crate) fn or_of(found: Items<Expr>) -> Expr
     ensures { result ≡ spec.joined ex.Or found }

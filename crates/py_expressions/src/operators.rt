@@ -48,7 +48,19 @@ fn operator(level: u8, kind: Option<&Tok>) -> Option<BinaryOp>
 }
 
 impl<F: Fn(Global, &mut Cursor<'_>, usize, Rule) -> Result<Expr, Refused<Syntax>>> Grammar<F> {
+    /// Behind the sign of a power.
+    #[inline(never)]
+    fn raised(&self, tokens: &mut Cursor<'_>, left: Boxed<Expr>) -> Result<Expr, Refused<Syntax>>
+        requires { Nests self.now.depth (F.pre self.now.expr) (F.post self.now.expr) }
+        ensures { Reads (spec.raised (spec.expr self.now.depth) left (input_of tokens.old)) result tokens.new }
+    {
+        let op = BinaryOp::Pow;
+        let right = Boxed::new(self.alloc, self.inner(tokens, Rule::Factor)?)?;
+        Ok(Expr::Binary { op, left, right })
+    }
+
     /// Reads `primary [ "**" factor ]`.
+    #[inline(never)]
     #[tactic(auto, unfolding(crate::specs::Reading::power))]
     fn power(&self, tokens: &mut Cursor<'_>) -> Result<Expr, Refused<Syntax>>
         requires { Nests self.now.depth (F.pre self.now.expr) (F.post self.now.expr) }
@@ -58,10 +70,18 @@ impl<F: Fn(Global, &mut Cursor<'_>, usize, Rule) -> Result<Expr, Refused<Syntax>
         if !tokens.eat(Mark::Op(Op::DoubleStar)) {
             return Ok(base);
         }
-        let op = BinaryOp::Pow;
         let left = Boxed::new(self.alloc, base)?;
-        let right = Boxed::new(self.alloc, self.inner(tokens, Rule::Factor)?)?;
-        Ok(Expr::Binary { op, left, right })
+        self.raised(tokens, left)
+    }
+
+    /// Behind a sign that stands first.
+    #[inline(never)]
+    fn signed(&self, tokens: &mut Cursor<'_>, op: UnaryOp) -> Result<Expr, Refused<Syntax>>
+        requires { Nests self.now.depth (F.pre self.now.expr) (F.post self.now.expr) }
+        ensures { Reads (spec.signed (spec.expr self.now.depth) op (input_of tokens.old)) result tokens.new }
+    {
+        let value = Boxed::new(self.alloc, self.inner(tokens, Rule::Factor)?)?;
+        Ok(Expr::Unary { op, value })
     }
 
     /// Reads a power, or a sign with the factor behind it.
@@ -74,12 +94,12 @@ impl<F: Fn(Global, &mut Cursor<'_>, usize, Rule) -> Result<Expr, Refused<Syntax>
             return self.power(tokens);
         };
         tokens.take();
-        let value = Boxed::new(self.alloc, self.inner(tokens, Rule::Factor)?)?;
-        Ok(Expr::Unary { op, value })
+        self.signed(tokens, op)
     }
 
     /// Reads `{ operator operand }` of one level behind the first operand.
     #[cycle(sum)]
+    #[inline(never)]
     fn chain(
         &self,
         tokens: &mut Cursor<'_>,
@@ -112,10 +132,10 @@ impl<F: Fn(Global, &mut Cursor<'_>, usize, Rule) -> Result<Expr, Refused<Syntax>
         requires { Nests self.now.depth (F.pre self.now.expr) (F.post self.now.expr) }
         ensures { Reads (spec.sum (spec.expr self.now.depth) level (input_of tokens.old)) result tokens.new }
     {
-        if level == 0 {
-            return self.factor(tokens);
+        let mut found = self.factor(tokens)?;
+        for tighter in 0..level {
+            found = self.chain(tokens, tighter + 1, found)?;
         }
-        let first = self.sum(tokens, level - 1)?;
-        self.chain(tokens, level, first)
+        Ok(found)
     }
 }

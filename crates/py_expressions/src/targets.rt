@@ -5,6 +5,7 @@ ghost use Rattle.std.specs.Option.{option_copied};
 ghost use Rattle.py_tokens.specs.declared.token.Token.{Token};
 ghost use Rattle.py_tokens.specs.declared.token.Tok.TheVariants as tok;
 ghost use Rattle.py_tokens.specs.declared.word.Word.TheVariants as word;
+ghost use Rattle.py_tree.specs.declared.expr.Expr.{Expr as Tree};
 ghost use Rattle.py_tree.specs.declared.stmt.Target.{Target};
 ghost use Rattle.py_expressions.specs.Follow.{rank, behind_primary};
 ghost use Rattle.py_expressions.specs.Grammar.{Members, members_text, members_tree};
@@ -13,7 +14,7 @@ ghost use Rattle.py_expressions.specs.Laws.{IsFound, IsRead, NamesFront};
 ghost use Rattle.py_expressions.specs.Reading as reading;
 ghost use Rattle.py_expressions.specs.Nests.{Nests};
 ghost use Rattle.py_expressions.specs.Targets as spec;
-ghost use Rattle.py_expressions.specs.Targets.{One, Gone, Aims, one_text, one_tree, gone_text, gone_tree, aims_text, aims_tree, AimedMembers};
+ghost use Rattle.py_expressions.specs.Targets.{One, Gone, Aims, one_text, one_tree, gone_text, gone_tree, aims_text, aims_tree, AimedMembers, IsTarget};
 
 use crate::calls::begins_trailer;
 use crate::cursor::{Cursor, Syntax, release};
@@ -235,8 +236,10 @@ pub fn read_targets(alloc: Global, tokens: &mut Cursor<'_>) -> Result<Target, Re
     all_targets(alloc, tokens)
 }
 
-/// Tests whose tree is a target are spelled as one, and each target is spelled as tests whose tree it is.
+/// Tests whose tree is a target are spelled as one, and each target is spelled as tests whose tree it is. An expression is
+/// one target at most.
 pub fn targets_law()
+    ensures one { (value : Tree) (first second : Target) → IsTarget value first → IsTarget value second → first ≡ second }
     ensures aimed { (m : Members) (depth : ℕ) (target : Target) → spec.target_of depth (members_tree m) ≡ Some target
         → AimedMembers (members_text m) target }
     ensures embedded { (aims : Aims) → (m : Members) × ((rest : List Token) → members_text m rest ≡ aims_text aims rest)

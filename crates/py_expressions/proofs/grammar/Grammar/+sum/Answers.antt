@@ -1,8 +1,9 @@
-use Rattle.std.proofs.Common.{◌-◌, rules, arith}
+use Rattle.std.proofs.Common.{◌≡◌, ◌+◌, ◌-◌, rules, arith}
 use Rattle.std.proofs.lemmas.Grind.{common_steps}
 use Rattle.py_expressions.specs.Input.{input_of}
 use Rattle.py_expressions.specs.Reading.{expr, chain, whole_chain, sum}
-use Rattle.py_expressions.proofs.Turns.{one_more, no_more, deeper}
+use Rattle.py_expressions.proofs.Levels.{sum_longer, sum_refused}
+use Rattle.py_expressions.proofs.Turns.{one_more, no_more}
 use Rattle.py_expressions.proofs.grammar.Grammar.+sum.Goals as goal
 
 pub chain-loop-turn-init : goal.chain-loop-turn-init
@@ -33,18 +34,30 @@ chain-returns g t c =
     let e = no_more (λ n. chain (sum (expr c.args.self.now.depth) (c.args.level - 1)) c.args.level n c.loop-turn.left (input_of c.loop-turn.tokens)) _ c.loop-turn._turn c.loop-turn-test.false c.loop-turn.invariant in
     first_of (search rules, grind (arith, common_steps))
 
-pub sum-returns-then-level-eq0 : goal.sum-returns-then-level-eq0
+pub sum-returns-in_err-found : goal.sum-returns-in_err-found
 unfolding sum
-sum-returns-then-level-eq0 g t c = first_of (search rules, grind (arith, common_steps))
+sum-returns-in_err-found g t c =
+    let refused = sum_refused (expr c.args.self.now.depth) (input_of c.args.tokens.now) 0 c.args.level in
+    first_of (search rules, grind (arith, common_steps))
 
-pub sum-returns-in_err-first : goal.sum-returns-in_err-first
+pub sum-loop-tighter-init : goal.sum-loop-tighter-init
 unfolding sum
-sum-returns-in_err-first g t c =
-    let e = deeper (λ n. sum (expr c.args.self.now.depth) n (input_of c.args.tokens.now)) c.args.level (omega arith) in
+sum-loop-tighter-init g t c = first_of (search rules, grind (arith, common_steps))
+
+pub sum-returns-in_err-found-2 : goal.sum-returns-in_err-found-2
+sum-returns-in_err-found-2 g t c =
+    let longer = sum_longer (expr c.args.self.now.depth) (input_of c.args.tokens.now) c.loop-tighter.tighter c.loop-tighter.found (input_of c.loop-tighter.tokens) c.loop-tighter.invariant.0 in
+    let tighter : (c.loop-tighter.tighter + 1) - 1 ≡ c.loop-tighter.tighter = omega arith in
+    let refused = sum_refused (expr c.args.self.now.depth) (input_of c.args.tokens.now) (c.loop-tighter.tighter + 1) c.args.level in
+    first_of (search rules, grind (arith, common_steps))
+
+pub sum-loop-tighter-preserved : goal.sum-loop-tighter-preserved
+sum-loop-tighter-preserved g t c =
+    let longer = sum_longer (expr c.args.self.now.depth) (input_of c.args.tokens.now) c.loop-tighter.tighter c.loop-tighter.found (input_of c.loop-tighter.tokens) c.loop-tighter.invariant.0 in
+    let tighter : (c.loop-tighter.tighter + 1) - 1 ≡ c.loop-tighter.tighter = omega arith in
     first_of (search rules, grind (arith, common_steps))
 
 pub sum-returns : goal.sum-returns
-unfolding sum
 sum-returns g t c =
-    let e = deeper (λ n. sum (expr c.args.self.now.depth) n (input_of c.args.tokens.now)) c.args.level (omega arith) in
+    let all : c.loop-tighter.tighter ≡ c.args.level = omega arith in
     first_of (search rules, grind (arith, common_steps))
