@@ -1,6 +1,6 @@
 -- Texts that go into a pool one after another.
 use Rattle.std.proofs.Common.{inl, inr, ◌≡◌, ℕ, zero, suc, ◌+◌, ◌-◌, ◌<◌, ◌≤◌, Bool, true, false, cond, nat_lt, List, [], ◌∷◌, ◌++◌, length, get_or, take, drop, map, not, ◌&&◌, ◌||◌, option_map, position, Option, Some, None, refl, sym, ap, ap₂, subst, ◌∙◌, length-append, arith}
-use Rattle.std.specs.Prelude.{slice_get, is_some, IfSome, IfNone}
+use Rattle.std.specs.Prelude.{slice_get, is_some, IfSome, IfNone, Result, Ok, Err, OnErr}
 use Rattle.std.specs.List.{filter_map, cons_option, list_any}
 use Rattle.std.specs.Str.{bytes_eq}
 use Rattle.std.proofs.lemmas.Bool.{cases_lt}
@@ -364,3 +364,8 @@ pub found_nowhere : (pool : Texts) (text : List ℕ) (found : Option ℕ) → Is
     → IfNone found ((n : ℕ) → text_numbered pool n ≡ Some text → ⊥)
 found_nowhere pool text None static_law pool_law none e = unnumbered pool text static_law pool_law none (sym e)
 found_nowhere pool text (Some n) static_law pool_law none e = tt
+
+-- what holds in any case holds after a refusal
+pub on_err : {T E : Type 0} (r : Result T E) (P : Type 0) → P → OnErr r P
+on_err (Ok x) P p = tt
+on_err (Err e) P p = p

@@ -11,7 +11,7 @@ use Rattle.bc_library.specs.Parts.{parts_from}
 use Rattle.bc_library.specs.Texts.{texts_of}
 use Rattle.bc_library.proofs.Files.{fine_objects, fine_qstrs}
 use Rattle.bc_library.proofs.Own.{own_texts}
-use Rattle.bc_library.proofs.Pools.{extends_by}
+use Rattle.bc_library.proofs.Pools.{extends_by, on_err}
 use Rattle.bc_library.proofs.library.brought_by.Goals as goal
 
 pub numbered-requires : goal.numbered-requires
@@ -70,7 +70,7 @@ pub returns-in-Err-NoMemory-clause-err : goal.returns-in-Err-NoMemory-clause-err
 returns-in-Err-NoMemory-clause-err c = c.in-Err-NoMemory.ensures.err
 
 pub returns-in_err-values-clause-err : goal.returns-in_err-values-clause-err
-returns-in_err-values-clause-err c = extends_by c.args.pool.now c.numbered.new.pool (texts_of c.args.name.now c.args.raw.now) c.in-Ok.ensures.pool
+returns-in_err-values-clause-err c = on_err c.from_residual.result _ (extends_by c.args.pool.now c.numbered.new.pool (texts_of c.args.name.now c.args.raw.now) c.in-Ok.ensures.pool)
 
 pub returns-in_err-name-clause-err : goal.returns-in_err-name-clause-err
-returns-in_err-name-clause-err c = extends_by c.args.pool.now c.numbered.new.pool (texts_of c.args.name.now c.args.raw.now) c.in-Ok.ensures.pool
+returns-in_err-name-clause-err c = on_err c.from_residual-in_err-name.result _ (extends_by c.args.pool.now c.numbered.new.pool (texts_of c.args.name.now c.args.raw.now) c.in-Ok.ensures.pool)

@@ -6,7 +6,7 @@ use Rattle.qstr_pool.specs.Full.{pool_full}
 use Rattle.std.specs.Prelude.{unwrap_or}
 use Rattle.qstr_pool.specs.Pool.{Texts}
 use Rattle.bc_library.specs.Texts.{last_part, text_numbered, with_text}
-use Rattle.bc_library.proofs.Pools.{kept, longer, same_first, extends_by, extends_same}
+use Rattle.bc_library.proofs.Pools.{kept, longer, same_first, extends_by, extends_same, on_err}
 use Rattle.bc_library.proofs.texts.take_name.Goals as goal
 
 pub returns-in_err-number-clause-full : goal.returns-in_err-number-clause-full
@@ -29,8 +29,9 @@ returns-in_ok-last-in-Some-clause-title c =
     }
 
 pub returns-in_err-number-clause-err : goal.returns-in_err-number-clause-err
-returns-in_err-number-clause-err c = extends_same c.args.pool.now c.take_text.new.pool c.in_err-number.ensures.err
+returns-in_err-number-clause-err c = on_err c.from_residual.result _ (extends_same c.args.pool.now c.take_text.new.pool c.in_err-number.ensures.err)
 
 pub returns-in_err-last-in-Some-clause-err : goal.returns-in_err-last-in-Some-clause-err
 returns-in_err-last-in-Some-clause-err c =
-    extends_by c.args.pool.now c.take_text-in-Some.new.pool (c.args.name.now ∷ []) (c.in_err-last-in-Some.ensures.err ∙ c.in_ok-number.ensures.pool)
+    on_err c.from_residual-in_err-last-in-Some.result _
+    (extends_by c.args.pool.now c.take_text-in-Some.new.pool (c.args.name.now ∷ []) (c.in_err-last-in-Some.ensures.err ∙ c.in_ok-number.ensures.pool))

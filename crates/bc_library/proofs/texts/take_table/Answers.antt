@@ -1,4 +1,4 @@
-use Rattle.std.proofs.Common.{◌≡◌, Err, take, refl, sym, ap, ◌∙◌}
+use Rattle.std.proofs.Common.{◌≡◌, [], ◌∷◌, Err, take, refl, sym, ap, ◌∙◌}
 use Rattle.std.proofs.lemmas.Option.{slice_get_read}
 use Rattle.std.proofs.lemmas.Result.{err_from_is_err_and}
 use Rattle.std.specs.List.{filter_map}
@@ -6,7 +6,7 @@ use Rattle.mpy_base.specs.declared.refused.Refused.TheVariants as refused
 use Rattle.mpy_tree.specs.Raw as raw
 use Rattle.qstr_pool.specs.Full.{pool_full}
 use Rattle.qstr_pool.specs.Pool.{Texts}
-use Rattle.bc_library.proofs.Pools.{same_first, entry_there, next_taken, table_overflows, extends_by, extends_same, extends_trans}
+use Rattle.bc_library.proofs.Pools.{same_first, entry_there, next_taken, table_overflows, extends_by, extends_trans, on_err}
 use Rattle.bc_library.proofs.texts.take_table.Goals as goal
 
 pub unreachable-requires : goal.unreachable-requires
@@ -32,10 +32,12 @@ loop-qstr-preserved c =
 
 pub returns-in_err-take_text-clause-err : goal.returns-in_err-take_text-clause-err
 returns-in_err-take_text-clause-err c =
-    extends_by c.args.pool.now c.take_text.new.pool (filter_map raw.text_of (take c.loop-qstr.qstr-index c.args.qstrs.now)) (c.in_err-take_text.ensures.err ∙ c.loop-qstr.invariant.pool_is)
+    on_err c.from_residual.result _
+    (extends_by c.args.pool.now c.take_text.new.pool (filter_map raw.text_of (take c.loop-qstr.qstr-index c.args.qstrs.now)) (c.in_err-take_text.ensures.err ∙ c.loop-qstr.invariant.pool_is))
 
 pub returns-in_err-push-clause-err : goal.returns-in_err-push-clause-err
 returns-in_err-push-clause-err c =
-    extends_trans c.args.pool.now c.loop-qstr.pool c.take_text.new.pool
+    on_err c.from_residual-in_err-push.result _
+    (extends_trans c.args.pool.now c.loop-qstr.pool c.take_text.new.pool
     (extends_by c.args.pool.now c.loop-qstr.pool (filter_map raw.text_of (take c.loop-qstr.qstr-index c.args.qstrs.now)) c.loop-qstr.invariant.pool_is)
-    (extends_by c.loop-qstr.pool c.take_text.new.pool (c.in-Some.text.now ∷ []) c.in_ok-take_text.ensures.pool)
+    (extends_by c.loop-qstr.pool c.take_text.new.pool (c.in-Some.text.now ∷ []) c.in_ok-take_text.ensures.pool))

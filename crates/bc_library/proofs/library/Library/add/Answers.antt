@@ -1,7 +1,11 @@
 use Rattle.std.proofs.Common.{◌≡◌, ℕ, ◌<◌, ◌≤◌, List, length, Err, sym, ap, ap₂, subst, ◌∙◌, arith}
 use Rattle.mpy_base.specs.declared.limits.TheConstants.{MAX_TABLE}
+use Rattle.mpy_base.specs.declared.refused.Refused.{Refused}
+use Rattle.mpy_base.specs.declared.refused.Refused.TheVariants as refusals
 use Rattle.mpy_tree.specs.Raw.{Module}
 use Rattle.qstr_pool.specs.Pool.{Texts}
+use Rattle.bc_library.specs.declared.fault.LibFault.{LibFault}
+use Rattle.bc_library.specs.declared.fault.LibFault.TheVariants as faults
 use Rattle.bc_library.specs.declared.library.Loaded.{Loaded}
 use Rattle.bc_library.specs.Kept.{IsLibrary, shelf_of}
 use Rattle.bc_library.specs.Shelf.{Shelf}
@@ -53,22 +57,26 @@ invariant_of-self-in-Err-put c =
 abbrev Overflows : Texts → List ℕ → Module → Type 0
 Overflows pool name m = MAX_TABLE < length (with_texts pool (texts_of name m)).texts
 
-faults_of : (c : goal.In-Err) → OnlyNames c.in-Err.refused (Overflows c.args.self.now.pool c.args.name.now c.args.verified)
-faults_of c =
-    let told = only_names c.in-Err.refused (Overflows c.self.inside.pool c.args.name.now c.module.result.now) (λ f e. c.in-Err.ensures.names f (ap (λ z. Err z) e)) in
-    subst (λ (p : Texts). OnlyNames c.in-Err.refused (Overflows p c.args.name.now c.args.verified)) (ap (λ (s : Shelf). s.pool) c.self.view_is)
-    (subst (λ (m : Module). OnlyNames c.in-Err.refused (Overflows c.self.inside.pool c.args.name.now m)) c.module.ensures told)
+-- a refusal of the texts tells nothing but that they are too many
+faults_of : (refused : Refused LibFault) (inside pool : Texts) (name : List ℕ) (read verified : Module) → inside ≡ pool → read ≡ verified → ((f : LibFault) → refused ≡ refusals.Fault f → (f ≡ faults.Names) × Overflows inside name read) → OnlyNames refused (Overflows pool name verified)
+faults_of refused inside pool name read verified same is told =
+    subst (λ (p : Texts). OnlyNames refused (Overflows p name verified)) same
+    (subst (λ (m : Module). OnlyNames refused (Overflows inside name m)) is (only_names refused (Overflows inside name read) told))
 
 pub returns-in-Err-clause-twice : goal.returns-in-Err-clause-twice
 returns-in-Err-clause-twice c =
-    (λ e. absurd ((faults_of c).twice e), λ s. absurd (not_there _ c.in_default.ensures.none.0 s))
+    let found = faults_of c.in-Err.refused c.self.inside.pool c.args.self.now.pool c.args.name.now c.module.result.now c.args.verified (ap (λ (s : Shelf). s.pool) c.self.view_is) c.module.ensures (λ f e. c.in-Err.ensures.names f (ap (λ z. Err z) e)) in
+    (λ e. absurd (found.twice e), λ s. absurd (not_there _ c.in_default.ensures.none.0 s))
 
 pub returns-in-Err-clause-too_many : goal.returns-in-Err-clause-too_many
 returns-in-Err-clause-too_many c =
-    (λ e. absurd ((faults_of c).too_many e), λ s. absurd (c.in_default.ensures.none.1 s.1))
+    let found = faults_of c.in-Err.refused c.self.inside.pool c.args.self.now.pool c.args.name.now c.module.result.now c.args.verified (ap (λ (s : Shelf). s.pool) c.self.view_is) c.module.ensures (λ f e. c.in-Err.ensures.names f (ap (λ z. Err z) e)) in
+    (λ e. absurd (found.too_many e), λ s. absurd (c.in_default.ensures.none.1 s.1))
 
 pub returns-in-Err-clause-names : goal.returns-in-Err-clause-names
-returns-in-Err-clause-names c e = (c.in_default.ensures.none.0, c.in_default.ensures.none.1, (faults_of c).full e)
+returns-in-Err-clause-names c e =
+    let found = faults_of c.in-Err.refused c.self.inside.pool c.args.self.now.pool c.args.name.now c.module.result.now c.args.verified (ap (λ (s : Shelf). s.pool) c.self.view_is) c.module.ensures (λ f e. c.in-Err.ensures.names f (ap (λ z. Err z) e)) in
+    (c.in_default.ensures.none.0, c.in_default.ensures.none.1, found.full e)
 
 pub returns-in-Ok-put-clause-added : goal.returns-in-Ok-put-clause-added
 returns-in-Ok-put-clause-added c =
