@@ -72,7 +72,7 @@ pub fn raise_on<C: Constants>(
     row: &Row<'_>,
 ) -> Option<End>
     requires runs { (end : ℕ) × under C.Constants consts.now RunsAt names.now arena.old.objects frames.old row.now (fetched_plain plain_ops.RaiseObj end) }
-    ensures comes { (p : Program) (end : ℕ) → under C.Constants consts.now RunsOnBehind p names.now row.now (fetched_plain plain_ops.RaiseObj end) arena.old arena.new modules.old modules.new frames.old frames.new result }
+    ensures comes { (p : Program) (end : ℕ) → under C.Constants consts.now (RunsOnBehind p) names.now row.now (fetched_plain plain_ops.RaiseObj end) arena.old arena.new modules.old modules.new frames.old frames.new result }
     ensures rooms { frames.new ≡ record frames.old { calls = frames.new.calls } }
     ensures registry { modules.new.room ≡ modules.old.room }
 {
@@ -93,7 +93,7 @@ pub fn raise_again_on<C: Constants>(
     row: &Row<'_>,
 ) -> Option<End>
     requires runs { (end : ℕ) × under C.Constants consts.now RunsAt names.now arena.old.objects frames.old row.now (fetched_plain plain_ops.RaiseLast end) }
-    ensures comes { (p : Program) (end : ℕ) → under C.Constants consts.now RunsOnBehind p names.now row.now (fetched_plain plain_ops.RaiseLast end) arena.old arena.new modules.old modules.new frames.old frames.new result }
+    ensures comes { (p : Program) (end : ℕ) → under C.Constants consts.now (RunsOnBehind p) names.now row.now (fetched_plain plain_ops.RaiseLast end) arena.old arena.new modules.old modules.new frames.old frames.new result }
     ensures rooms { frames.new ≡ record frames.old { calls = frames.new.calls } }
     ensures registry { modules.new.room ≡ modules.old.room }
 {

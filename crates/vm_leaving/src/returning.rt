@@ -88,7 +88,7 @@ pub fn return_on<C: Constants>(
 ) -> Option<End>
     requires runs { (end : ℕ) × (row : CodeRow) × under C.Constants consts.now RunsWith names.now library.now arena.old modules.now frames.old row (fetched_plain plain_ops.ReturnValue end) }
     requires rows { rows.now ≡ library.now }
-    ensures comes { (p : Program) (end : ℕ) (row : CodeRow) → p.shelf ≡ library.now → under C.Constants consts.now RunsOnBehind p names.now row (fetched_plain plain_ops.ReturnValue end) arena.old arena.new modules.now modules.now frames.old frames.new result }
+    ensures comes { (p : Program) (end : ℕ) (row : CodeRow) → p.shelf ≡ library.now → under C.Constants consts.now (RunsOnBehind p) names.now row (fetched_plain plain_ops.ReturnValue end) arena.old arena.new modules.now modules.now frames.old frames.new result }
     ensures rooms { frames.new ≡ record frames.old { calls = frames.new.calls } }
 {
     keeps_law();

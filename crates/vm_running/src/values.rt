@@ -99,7 +99,7 @@ pub fn operate<C: Constants>(
     requires values { ActsOnValues fetched.instruction }
     requires places { frames.old.slot_room ≤ length items.old }
     requires runs { (shelf : Shelf) × under C.Constants consts.now RunsWith names.now shelf arena.old modules.old frames.old row.now fetched }
-    ensures comes { (p : Program) → under C.Constants consts.now ComesOnBehind p names.now row.now fetched (under C.Constants consts.now value_visits arena.old frames.old.calls fetched.instruction) arena.old arena.new modules.old modules.new frames.old frames.new result }
+    ensures comes { (p : Program) → under C.Constants consts.now (ComesOnBehind p) names.now row.now fetched (under C.Constants consts.now value_visits arena.old frames.old.calls fetched.instruction) arena.old arena.new modules.old modules.new frames.old frames.new result }
     ensures rooms { frames.new ≡ record frames.old { calls = frames.new.calls } }
     ensures registry { modules.new.room ≡ modules.old.room }
 {
