@@ -52,7 +52,7 @@ pub fn act_method<C: Constants>(
     requires known { under C.Constants consts.now AreKnown arena.old.objects operands.now }
     requires all_told { TellsAll C.Constants consts.now arena.old }
     ensures steps { let see = sight C.Constants consts.now in (layout : Layout) (item : Instruction) → Invokes (tables_of see.texts see.tuples layout) item size arena.old frames.old.calls operands.now.args operands.now.keys (callees.Method object method) → IsNext (tables_of see.texts see.tuples layout) end frames.old.calls → Does (tables_of see.texts see.tuples layout) item (call_method_in (see.heap arena.old) method (see.value object) (map see.value operands.now.args) (map see.pair operands.now.keys)).visits arena.old arena.new frames.old.calls frames.new.calls result }
-    ensures moved { under C.Constants consts.now Puts arena.new.objects end size frames.old frames.new result }
+    ensures moved { Puts (C.text_of consts.now) (C.items_of consts.now) arena.new.objects end size frames.old frames.new result }
     ensures leaves { under C.Constants consts.now Leaves arena.old arena.new result }
 {
     let args = operands.positional();
@@ -111,7 +111,7 @@ pub fn act_builtin<C: Constants, S: Sink, P: Port>(
     requires all_told { TellsAll C.Constants consts.now arena.old }
     ensures acts { (layout : Layout) (library : Library) (item : Instruction) (w : PlainWorld) → Invokes (under C.Constants consts.now tables_of layout) item size arena.old frames.old.calls operands.now.args operands.now.keys (callees.Built b) → IsNext (under C.Constants consts.now tables_of layout) end frames.old.calls → (IsOfPorts b → Tell (map P.seen ports.old) w.ports) → ActsBuilt S.told S.count (under C.Constants consts.now tables_of layout) library item size end b operands.now.args operands.now.keys (record { heap = arena.old; out = out.old; ports = map P.seen ports.old }) (record { heap = arena.new; out = out.new; ports = map P.seen ports.new }) frames.old.calls frames.new.calls w result }
     ensures called { IsCalled S.told S.count (C.text_of consts.now) (C.items_of consts.now) (record { heap = arena.old; out = out.old; ports = map P.seen ports.old }) (record { heap = arena.new; out = out.new; ports = map P.seen ports.new }) operands.now.args operands.now.keys b result }
-    ensures moved { under C.Constants consts.now Puts arena.new.objects end size frames.old frames.new result }
+    ensures moved { Puts (C.text_of consts.now) (C.items_of consts.now) arena.new.objects end size frames.old frames.new result }
     ensures known { under C.Constants consts.now IsKnownCallStop arena.new.objects result }
     ensures later { Later arena.old.objects arena.new.objects }
     ensures all_told { TellsAll C.Constants consts.now arena.new }

@@ -70,7 +70,7 @@ pub fn make_function<C: Constants>(
     requires room { OfRunning (λ c. length c.slots < frames.old.slot_room) frames.old.calls }
     requires all_told { TellsAll C.Constants consts.now arena.old }
     ensures steps { (layout : Layout) (library : Library) (at : ℕ) → IsNext (under C.Constants consts.now tables_of layout) end frames.old.calls → OfRunning (IsChild (under C.Constants consts.now tables_of layout) library at child) frames.old.calls → ComesTo (under C.Constants consts.now tables_of layout) library (Plain (instrs.Num ops.MakeFunction at)) 0 arena.old arena.new frames.old.calls frames.new.calls result }
-    ensures moved { under C.Constants consts.now Puts arena.new.objects end 0 frames.old frames.new result }
+    ensures moved { Puts (C.text_of consts.now) (C.items_of consts.now) arena.new.objects end 0 frames.old frames.new result }
     ensures leaves { under C.Constants consts.now Leaves arena.old arena.new result }
 {
     let function = NewFunction {
@@ -129,7 +129,7 @@ pub fn make_function_with<C: Constants>(
     requires defaults { under C.Constants consts.now HasDefaults arena.old.objects (running_slots frames.old.calls) }
     requires all_told { TellsAll C.Constants consts.now arena.old }
     ensures steps { (layout : Layout) (library : Library) (at : ℕ) → IsNext (under C.Constants consts.now tables_of layout) end frames.old.calls → OfRunning (IsChild (under C.Constants consts.now tables_of layout) library at child) frames.old.calls → ComesTo (under C.Constants consts.now tables_of layout) library (Plain (instrs.Num ops.MakeFunctionDefargs at)) 0 arena.old arena.new frames.old.calls frames.new.calls result }
-    ensures moved { under C.Constants consts.now Puts arena.new.objects end 2 frames.old frames.new result }
+    ensures moved { Puts (C.text_of consts.now) (C.items_of consts.now) arena.new.objects end 2 frames.old frames.new result }
     ensures leaves { under C.Constants consts.now Leaves arena.old arena.new result }
 {
     let names = names_of(frames);
