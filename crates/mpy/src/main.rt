@@ -3,7 +3,7 @@
 
 use mpy_disk::Disk;
 use mpy_io::{InputPort, OutSink, Sink};
-use mpy_tool::mpy;
+use mpy_tool::{Outside, mpy};
 use port_set::PortSet;
 use std::alloc::Global;
 use std::io::ErrorKind;
@@ -124,14 +124,18 @@ fn main(rt: HostRuntime) -> ExitCode {
     if let Some(text) = notice(&words) {
         return ExitCode::from(tell(text, &mut out, &mut say));
     }
-    let Ok(mut folder) = Disk::new(alloc, &rt, &rt) else {
+    let Ok(folder) = Disk::new(alloc, &rt, &rt) else {
         return ExitCode::from(refuse(&mut say, ErrorKind::OutOfMemory));
     };
     let mut ports = Vec::new(alloc);
     if ports.push(InputPort::new(rt.stdin(), rt.stderr())).is_err() {
         return ExitCode::from(refuse(&mut say, ErrorKind::OutOfMemory));
     }
-    let mut ports = PortSet::new(ports);
-    let status = mpy(alloc, &words, &mut folder, &mut out, &mut say, &mut ports);
-    ExitCode::from(status)
+    let mut outside = Outside {
+        folder,
+        out,
+        say,
+        ports: PortSet::new(ports),
+    };
+    ExitCode::from(mpy(alloc, &words, &mut outside))
 }

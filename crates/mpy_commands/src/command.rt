@@ -2,9 +2,10 @@
 
 use crate::parts::{numbers, put, words};
 use mpy_io::{MemFolder, MemSink, Port, ScriptPort};
-use mpy_tool::mpy;
+use mpy_tool::{Outside, mpy};
 use port_set::PortSet;
 use std::alloc::{AllocError, Global};
+use std::mem;
 
 /// A command's words, a port, which calls fail of it and of the output, and what is to come of the command.
 #[derive(Drop)]
@@ -53,6 +54,11 @@ fn port_set(
         ports.push(port_of(alloc, answers, fails)?)?;
     }
     Ok(PortSet::new(ports))
+}
+
+/// A folder of no files.
+fn empty(alloc: Global) -> MemFolder {
+    MemFolder::new(alloc, Vec::new(alloc), Vec::new(alloc))
 }
 
 /// Whether the port has written these numbers and no others, or there is none and there are none.
@@ -160,17 +166,30 @@ impl Command {
         }
     }
 
-    /// Does it come to what is to come of it, in a case of this text?
+    /// Does it come to what is to come of it, in a case of this text? The folder is as the command leaves it.
     pub fn is_so(
         &self,
         alloc: Global,
         folder: &mut MemFolder,
         text: &[u8],
     ) -> Result<bool, AllocError> {
-        let mut ports = port_set(alloc, &self.answers, &self.port_fails)?;
-        let mut out = MemSink::new(alloc, copied(alloc, &self.out_fails)?);
-        let mut say = MemSink::new(alloc, Vec::new(alloc));
-        let status = mpy(alloc, &self.words, folder, &mut out, &mut say, &mut ports);
+        let ports = port_set(alloc, &self.answers, &self.port_fails)?;
+        let out = MemSink::new(alloc, copied(alloc, &self.out_fails)?);
+        let say = MemSink::new(alloc, Vec::new(alloc));
+        let mut outside = Outside {
+            folder: mem::replace(folder, empty(alloc)),
+            out,
+            say,
+            ports,
+        };
+        let status = mpy(alloc, &self.words, &mut outside);
+        let Outside {
+            folder: left,
+            out,
+            say,
+            ports,
+        } = outside;
+        *folder = left;
         let printed = self.prints(out.bytes(), text);
         let written = holds_all(folder, &self.written);
         let said = self.say.as_slice() == say.bytes();

@@ -1,17 +1,16 @@
 -- Orders over a base, and what they change.
-use Rattle.std.proofs.Common.{◌≡◌, ℕ, true, false, List, [], Option, Some, None, get_or, Ok, refl, sym, subst, inl, inr}
+use Rattle.std.proofs.Common.{◌≡◌, ℕ, true, false, List, [], Option, Some, None, get_or, Ok, refl, subst, inl, inr}
 use Rattle.std.specs.Prelude.{IfOk}
 use Rattle.mpy_base.specs.declared.limits.TheConstants.{MAX_TASKS}
 use Rattle.mpy_io.specs.Files.{FileOf}
-use Rattle.mpy_io.specs.Ports.{PortView}
 use Rattle.bc_library.specs.Shelf.{Shelf}
 use Rattle.source_files.specs.Sources.{stored}
 use Rattle.mpy_words.specs.declared.order.Command.{Command}
 use Rattle.mpy_words.specs.declared.order.Command.TheVariants.{Go, Check, Dump, Cross, Merge, Freeze, Migrate, Run, Board, Stress}
 use Rattle.mpy_words.specs.declared.order.Order.{Order}
-use Rattle.mpy_words.specs.Words.{Outcome, first_name, second_name, source_name, main_name, file_names}
+use Rattle.mpy_words.specs.Words.{Outcome, order_of, first_name, second_name, source_name, main_name, file_names}
 use Rattle.board_command.specs.board_files.Files.{KeepsOthers}
-use Rattle.run_meaning.specs.command_files.Outside.{Outside, Ends, EndsAt, Writes, WritesOf}
+use Rattle.run_meaning.specs.command_files.Outside.{Ends, EndsAt, Writes, WritesOf}
 use Rattle.run_meaning.proofs.command_files_lemmas.Others.{same_only}
 use Rattle.run_meaning.specs.file_commands.Check.{Checks}
 use Rattle.run_meaning.specs.file_commands.Cross.{Crosses}
@@ -19,6 +18,7 @@ use Rattle.run_meaning.specs.file_commands.Dump.{Dumps}
 use Rattle.run_meaning.specs.file_commands.Merge.{Merges}
 use Rattle.base_commands.specs.run_commands.Ready.{GoLibrary}
 use Rattle.base_commands.specs.run_commands.Run.{EndsRun, room_of}
+use Rattle.run_meaning.specs.GoMeant.{GoMeans}
 use Rattle.run_meaning.specs.Meant.{Libraries, RunMeans}
 use Rattle.run_meaning.proofs.Meaning.{MeantLaw, run_means}
 use Rattle.run_meaning.specs.image_commands.Migrate.{Migrates}
@@ -27,8 +27,9 @@ use Rattle.base_library.specs.Over.{EndsAtBase}
 use Rattle.board_command.specs.Boards.{Boards}
 use Rattle.board_command.specs.Images.{library_below}
 use Rattle.stress_command.specs.Stress.{EndsStress}
+use Rattle.mpy_tool.specs.Call.{Call, Orders, OrdersOne, OrdersTwo, Shows, ShowsPorts}
 use Rattle.mpy_tool.specs.Below.{FreezesBelow, RunLibraryBelow, Based}
-use Rattle.mpy_tool.specs.Doing.{DoesBy, Finishes, RunsBy, ActsBy, ObeysBy}
+use Rattle.mpy_tool.specs.Doing.{Finishes, RunsBy, ActsBy, ObeysBy}
 use Rattle.mpy_tool.specs.Order.{ChangesBy, calls_ports, makes_source, runs_library}
 use Rattle.mpy_tool.specs.Making.{StressMeans}
 use Rattle.mpy_tool.proofs.Stressing.{GoLaw, stress_means}
@@ -60,8 +61,8 @@ same_changes words Stress old new e = e
 pub quiet : (command : Command) → runs_library command ≡ false → makes_source command ≡ false → calls_ports command ≡ false
 quiet command r m = rw r m
 
-module _ (order : Order) (words : List (List ℕ)) (old new : Outside) (ports_old ports_new : List PortView) (status : ℕ) where
-  pub acts_run : (below : Option Shelf) (command : Command) → runs_library command ≡ true → RunsBy order words below old new ports_old ports_new status command → ActsBy order words below old new ports_old ports_new status command
+module _ (order : Order) (call : Call) where
+  pub acts_run : (below : Option Shelf) (command : Command) → runs_library command ≡ true → RunsBy order call below command → ActsBy order call below command
   acts_run below Go e h = h
   acts_run below Check e h = absurd cc
   acts_run below Dump e h = absurd cc
@@ -73,7 +74,7 @@ module _ (order : Order) (words : List (List ℕ)) (old new : Outside) (ports_ol
   acts_run below Board e h = absurd cc
   acts_run below Stress e h = absurd cc
 
-  pub acts_do : (below : Option Shelf) (command : Command) → calls_ports command ≡ false → Finishes order words below old new status command → ActsBy order words below old new ports_old ports_new status command
+  pub acts_do : (below : Option Shelf) (command : Command) → calls_ports command ≡ false → Finishes order call below command → ActsBy order call below command
   acts_do below Go e h = absurd cc
   acts_do below Check e h = h
   acts_do below Dump e h = h
@@ -85,7 +86,7 @@ module _ (order : Order) (words : List (List ℕ)) (old new : Outside) (ports_ol
   acts_do below Board e h = h
   acts_do below Stress e h = absurd cc
 
-  pub acts_make : (below : Option Shelf) (command : Command) → makes_source command ≡ true → EndsStress order.seed order.count (room_of order) order.steps old new ports_old ports_new status → ActsBy order words below old new ports_old ports_new status command
+  pub acts_make : (below : Option Shelf) (command : Command) → makes_source command ≡ true → ShowsPorts call (EndsStress order.seed order.count (room_of order) order.steps) → ActsBy order call below command
   acts_make below Go e h = absurd cc
   acts_make below Check e h = absurd cc
   acts_make below Dump e h = absurd cc
@@ -97,121 +98,145 @@ module _ (order : Order) (words : List (List ℕ)) (old new : Outside) (ports_ol
   acts_make below Board e h = absurd cc
   acts_make below Stress e h = h
 
+  -- the call with these files and these faults of the folder before it
+  abbrev from : (files : Option FileOf) → (faults : ℕ) → Call
+  from files faults = record call { old = record call.old { files = files; folder_faults = faults } }
+
+  -- what was done behind the reading of a base, which changes no file and adds no fault
+  pub acts_again : (below : Option Shelf) (command : Command) (files : Option FileOf) (faults : ℕ) → files ≡ call.old.files → faults ≡ call.old.folder_faults
+      → ActsBy order (from files faults) below command → ActsBy order call below command
+  acts_again below command files faults same_files same_faults h =
+      subst (λ (f : Option FileOf). ActsBy order (from f call.old.folder_faults) below command) same_files
+      (subst (λ (n : ℕ). ActsBy order (from files n) below command) same_faults h)
+
   -- over a base
   -- ===========
 
-  abbrev BasedSo : Option ℕ → (Option Shelf → Type 0) → Type 0
-  BasedSo base Went = Based words old new ports_old ports_new status base Went
+  pub over_none : (base : Option ℕ) (Went : Option Shelf → Type 0) → None ≡ base → Went None → Based call base Went
+  over_none base Went e h = subst (λ (b : Option ℕ). Based call b Went) e h
 
-  pub over_none : (base : Option ℕ) (Went : Option Shelf → Type 0) → None ≡ base → Went None → BasedSo base Went
-  over_none base Went e h = subst (λ (b : Option ℕ). BasedSo b Went) e h
-
-  pub over_base : (base : Option ℕ) (Went : Option Shelf → Type 0) (at : ℕ) (name : List ℕ) (below : Shelf) → Some at ≡ base → name ≡ get_or words at [] → HoldsBase old.files name below → Went (Some below) → BasedSo base Went
+  pub over_base : (base : Option ℕ) (Went : Option Shelf → Type 0) (at : ℕ) (name : List ℕ) (below : Shelf) → Some at ≡ base → name ≡ get_or call.words at []
+      → HoldsBase call.old.files name below → Went (Some below) → Based call base Went
   over_base base Went at name below e n holds h =
-      subst (λ (b : Option ℕ). BasedSo b Went) e (inr (record { below = below; holds = subst (λ (x : List ℕ). HoldsBase old.files x below) n holds; went = h }))
+      subst (λ (b : Option ℕ). Based call b Went) e (inr (record { below = below; holds = subst (λ (x : List ℕ). HoldsBase call.old.files x below) n holds; went = h }))
 
-  pub at_base : (base : Option ℕ) (Went : Option Shelf → Type 0) (at : ℕ) (name : List ℕ) → Some at ≡ base → name ≡ get_or words at [] → EndsAtBase name old new status → ports_new ≡ ports_old → BasedSo base Went
+  pub at_base : (base : Option ℕ) (Went : Option Shelf → Type 0) (at : ℕ) (name : List ℕ) → Some at ≡ base → name ≡ get_or call.words at [] → Shows call (EndsAtBase name)
+      → call.ports_new ≡ call.ports_old → Based call base Went
   at_base base Went at name e n h same =
-      subst (λ (b : Option ℕ). BasedSo b Went) e (inl (subst (λ (x : List ℕ). EndsAtBase x old new status) n h, same))
+      subst (λ (b : Option ℕ). Based call b Went) e (inl (subst (λ (x : List ℕ). Shows call (EndsAtBase x)) n h, same))
 
-  pub based_map : (base : Option ℕ) (P Q : Option Shelf → Type 0) → ((below : Option Shelf) → P below → Q below) → BasedSo base P → BasedSo base Q
+  pub based_map : (base : Option ℕ) (P Q : Option Shelf → Type 0) → ((below : Option Shelf) → P below → Q below) → Based call base P → Based call base Q
   based_map None P Q f h = f None h
   based_map (Some at) P Q f (inl h) = inl h
   based_map (Some at) P Q f (inr h) = inr (record { below = h.below; holds = h.holds; went = f (Some h.below) h.went })
 
-  -- each command's own form
-  -- =======================
+  -- each command, of what the words order
+  -- =====================================
 
   abbrev Obeyed : Command → Type 0
-  Obeyed command = ObeysBy command order words old new ports_old ports_new status
+  Obeyed command = ObeysBy order call command
 
   as_command : (command : Command) → order.command ≡ command → Obeyed order.command → Obeyed command
   as_command command e h = subst Obeyed e h
 
-  pub go_of : order.command ≡ Go → Obeyed order.command → EndsRun (GoLibrary order.level) (room_of order) order.steps (first_name words) old new ports_old ports_new status
-  go_of e h = as_command Go e h
-
-  pub stress_of : order.command ≡ Stress → Obeyed order.command → EndsStress order.seed order.count (room_of order) order.steps old new ports_old ports_new status
-  stress_of e h = as_command Stress e h
-
-  pub check_of : order.command ≡ Check → Obeyed order.command → Ends Checks (first_name words) old new status
-  check_of e h = checked order words None old new status (as_command Check e h)
-
-  pub dump_of : order.command ≡ Dump → Obeyed order.command → Ends Dumps (first_name words) old new status
-  dump_of e h = dumped order words None old new status (as_command Dump e h)
-
-  pub cross_of : order.command ≡ Cross → Obeyed order.command
-      → Writes (Crosses order.level (first_name words) (stored (source_name words order.stored_name)) (second_name words)) (first_name words) (second_name words) old new status
-  cross_of e h = crossed order words None old new status (as_command Cross e h)
-
-  pub merge_of : order.command ≡ Merge → Obeyed order.command → WritesOf (Merges (file_names words) (first_name words)) words old new status
-  merge_of e h = merged order words None old new status (as_command Merge e h)
-
-  pub migrate_of : order.command ≡ Migrate → Obeyed order.command → Writes (Migrates (first_name words) (second_name words)) (first_name words) (second_name words) old new status
-  migrate_of e h = migrated order words None old new status (as_command Migrate e h)
-
-  pub freeze_of : order.command ≡ Freeze → Obeyed order.command
-      → BasedSo order.base (λ below. Writes (FreezesBelow below (first_name words) (second_name words)) (first_name words) (second_name words) old new status)
-  freeze_of e h = based_map order.base (λ below. ActsBy order words below old new ports_old ports_new status Freeze) (λ below. Writes (FreezesBelow below (first_name words) (second_name words)) (first_name words) (second_name words) old new status)
-      (λ below. frozen order words below old new status) (as_command Freeze e h)
-
-  pub board_of : order.command ≡ Board → Obeyed order.command
-      → BasedSo order.base (λ below. EndsAt (Boards (library_below below) (first_name words) (second_name words)) words old new status)
-  board_of e h = based_map order.base (λ below. ActsBy order words below old new ports_old ports_new status Board) (λ below. EndsAt (Boards (library_below below) (first_name words) (second_name words)) words old new status)
-      (λ below. boarded order words below old new status) (as_command Board e h)
-
-  pub run_of : order.command ≡ Run → Obeyed order.command
-      → BasedSo order.base (λ below. EndsRun (RunLibraryBelow below (main_name words order.main_name)) (room_of order) order.steps (first_name words) old new ports_old ports_new status)
-  run_of e h = as_command Run e h
+  ordered : (command : Command) (Went : Order → Type 0) → Ok order ≡ order_of call.words → (order.command ≡ command → Went order) → Orders call command Went
+  ordered command Went is h = subst (λ (r : Outcome). IfOk r (λ o. o.command ≡ command → Went o)) is h
 
   abbrev Ran : Libraries → Type 0
-  Ran Comes = EndsRun Comes (room_of order) order.steps (first_name words) old new ports_old ports_new status
+  Ran Comes = ShowsPorts call (EndsRun Comes (room_of order) order.steps (first_name call.words))
 
   abbrev Means : Libraries → Type 0
-  Means Comes = RunMeans Comes (room_of order) order.steps (first_name words) old new ports_old ports_new status
+  Means Comes = ShowsPorts call (RunMeans Comes (room_of order) order.steps (first_name call.words))
 
-  pub means_of : MeantLaw → order.command ≡ Run → Obeyed order.command → BasedSo order.base (λ below. Means (RunLibraryBelow below (main_name words order.main_name)))
-  means_of law e h =
-      based_map order.base (λ below. Ran (RunLibraryBelow below (main_name words order.main_name))) (λ below. Means (RunLibraryBelow below (main_name words order.main_name)))
-      (λ below. run_means law (RunLibraryBelow below (main_name words order.main_name)) (room_of order) order.steps (first_name words) old new ports_old ports_new status) (run_of e h)
+  pub go_ordered : Ok order ≡ order_of call.words → Obeyed order.command
+      → OrdersOne call Go (λ o src. ShowsPorts call (EndsRun (GoLibrary o.level) (room_of o) o.steps src))
+  go_ordered is h =
+      ordered Go (λ o. ShowsPorts call (EndsRun (GoLibrary o.level) (room_of o) o.steps (first_name call.words))) is
+      (λ e. as_command Go e h)
 
-  -- of what the words order
-  -- =======================
+  pub check_ordered : Ok order ≡ order_of call.words → Obeyed order.command → OrdersOne call Check (λ o file. Shows call (Ends Checks file))
+  check_ordered is h =
+      ordered Check (λ o. Shows call (Ends Checks (first_name call.words))) is
+      (λ e. checked order call None (as_command Check e h))
 
-  pub cross_ordered : (outcome : Outcome) → Ok order ≡ outcome → Obeyed order.command
-      → IfOk outcome (λ o. o.command ≡ Cross → Writes (Crosses o.level (first_name words) (stored (source_name words o.stored_name)) (second_name words)) (first_name words) (second_name words) old new status)
-  cross_ordered outcome is h =
-      subst (λ (r : Outcome). IfOk r (λ o. o.command ≡ Cross → Writes (Crosses o.level (first_name words) (stored (source_name words o.stored_name)) (second_name words)) (first_name words) (second_name words) old new status)) is
-      (λ e. cross_of e h)
+  pub dump_ordered : Ok order ≡ order_of call.words → Obeyed order.command → OrdersOne call Dump (λ o file. Shows call (Ends Dumps file))
+  dump_ordered is h =
+      ordered Dump (λ o. Shows call (Ends Dumps (first_name call.words))) is
+      (λ e. dumped order call None (as_command Dump e h))
 
-  pub stress_ordered : (outcome : Outcome) → Ok order ≡ outcome → Obeyed order.command
-      → IfOk outcome (λ o. o.command ≡ Stress → EndsStress o.seed o.count (room_of o) o.steps old new ports_old ports_new status)
-  stress_ordered outcome is h =
-      subst (λ (r : Outcome). IfOk r (λ o. o.command ≡ Stress → EndsStress o.seed o.count (room_of o) o.steps old new ports_old ports_new status)) is
-      (λ e. stress_of e h)
+  pub cross_ordered : Ok order ≡ order_of call.words → Obeyed order.command
+      → OrdersTwo call Cross (λ o src file. Shows call (Writes (Crosses o.level src (stored (source_name call.words o.stored_name)) file) src file))
+  cross_ordered is h =
+      let src = first_name call.words in
+      let file = second_name call.words in
+      ordered Cross (λ o. Shows call (Writes (Crosses o.level src (stored (source_name call.words o.stored_name)) file) src file)) is
+      (λ e. crossed order call None (as_command Cross e h))
 
-  pub stress_means_ordered : GoLaw → (outcome : Outcome) → Ok order ≡ outcome → Obeyed order.command
-      → IfOk outcome (λ o. o.command ≡ Stress → StressMeans o.seed o.count (room_of o) o.steps old new ports_old ports_new status)
-  stress_means_ordered law outcome is h =
-      subst (λ (r : Outcome). IfOk r (λ o. o.command ≡ Stress → StressMeans o.seed o.count (room_of o) o.steps old new ports_old ports_new status)) is
-      (λ e. stress_means law order.seed order.count (room_of order) order.steps old new ports_old ports_new status (stress_of e h))
+  pub merge_ordered : Ok order ≡ order_of call.words → Obeyed order.command
+      → OrdersOne call Merge (λ o out. Shows call (WritesOf (Merges (file_names call.words) out) call.words))
+  merge_ordered is h =
+      ordered Merge (λ o. Shows call (WritesOf (Merges (file_names call.words) (first_name call.words)) call.words)) is
+      (λ e. merged order call None (as_command Merge e h))
 
-  pub migrate_ordered : (outcome : Outcome) → Ok order ≡ outcome → Obeyed order.command
-      → IfOk outcome (λ o. o.command ≡ Migrate → Writes (Migrates (first_name words) (second_name words)) (first_name words) (second_name words) old new status)
-  migrate_ordered outcome is h =
-      subst (λ (r : Outcome). IfOk r (λ o. o.command ≡ Migrate → Writes (Migrates (first_name words) (second_name words)) (first_name words) (second_name words) old new status)) is
-      (λ e. migrate_of e h)
+  pub freeze_ordered : Ok order ≡ order_of call.words → Obeyed order.command
+      → OrdersTwo call Freeze (λ o manifest out. Based call o.base (λ below. Shows call (Writes (FreezesBelow below manifest out) manifest out)))
+  freeze_ordered is h =
+      let manifest = first_name call.words in
+      let out = second_name call.words in
+      let Frozen = λ (below : Option Shelf). Shows call (Writes (FreezesBelow below manifest out) manifest out) in
+      ordered Freeze (λ o. Based call o.base Frozen) is
+      (λ e. based_map order.base (λ below. ActsBy order call below Freeze) Frozen (λ below. frozen order call below) (as_command Freeze e h))
 
-  pub freeze_ordered : (outcome : Outcome) → Ok order ≡ outcome → Obeyed order.command
-      → IfOk outcome (λ o. o.command ≡ Freeze → BasedSo o.base (λ below. Writes (FreezesBelow below (first_name words) (second_name words)) (first_name words) (second_name words) old new status))
-  freeze_ordered outcome is h =
-      subst (λ (r : Outcome). IfOk r (λ o. o.command ≡ Freeze → BasedSo o.base (λ below. Writes (FreezesBelow below (first_name words) (second_name words)) (first_name words) (second_name words) old new status))) is
-      (λ e. freeze_of e h)
+  pub migrate_ordered : Ok order ≡ order_of call.words → Obeyed order.command
+      → OrdersTwo call Migrate (λ o image out. Shows call (Writes (Migrates image out) image out))
+  migrate_ordered is h =
+      let image = first_name call.words in
+      let out = second_name call.words in
+      ordered Migrate (λ o. Shows call (Writes (Migrates image out) image out)) is
+      (λ e. migrated order call None (as_command Migrate e h))
 
-  pub means_ordered : MeantLaw → (outcome : Outcome) → Ok order ≡ outcome → Obeyed order.command
-      → IfOk outcome (λ o. o.command ≡ Run
-      → BasedSo o.base (λ below. RunMeans (RunLibraryBelow below (main_name words o.main_name)) (room_of o) o.steps (first_name words) old new ports_old ports_new status))
-  means_ordered law outcome is h =
-      subst (λ (r : Outcome). IfOk r (λ o. o.command ≡ Run
-      → BasedSo o.base (λ below. RunMeans (RunLibraryBelow below (main_name words o.main_name)) (room_of o) o.steps (first_name words) old new ports_old ports_new status))) is
-      (λ e. means_of law e h)
+  pub run_ordered : Ok order ≡ order_of call.words → Obeyed order.command
+      → OrdersOne call Run (λ o file. Based call o.base (λ below.
+      ShowsPorts call (EndsRun (RunLibraryBelow below (main_name call.words o.main_name)) (room_of o) o.steps file)))
+  run_ordered is h =
+      ordered Run (λ o. Based call o.base (λ below.
+      ShowsPorts call (EndsRun (RunLibraryBelow below (main_name call.words o.main_name)) (room_of o) o.steps (first_name call.words)))) is
+      (λ e. as_command Run e h)
+
+  pub board_ordered : Ok order ≡ order_of call.words → Obeyed order.command
+      → OrdersTwo call Board (λ o image plan. Based call o.base (λ below. Shows call (EndsAt (Boards (library_below below) image plan) call.words)))
+  board_ordered is h =
+      let image = first_name call.words in
+      let plan = second_name call.words in
+      let Boarded = λ (below : Option Shelf). Shows call (EndsAt (Boards (library_below below) image plan) call.words) in
+      ordered Board (λ o. Based call o.base Boarded) is
+      (λ e. based_map order.base (λ below. ActsBy order call below Board) Boarded (λ below. boarded order call below) (as_command Board e h))
+
+  pub stress_ordered : Ok order ≡ order_of call.words → Obeyed order.command
+      → Orders call Stress (λ o. ShowsPorts call (EndsStress o.seed o.count (room_of o) o.steps))
+  stress_ordered is h =
+      ordered Stress (λ o. ShowsPorts call (EndsStress o.seed o.count (room_of o) o.steps)) is
+      (λ e. as_command Stress e h)
+
+  pub go_means_ordered : GoLaw → Ok order ≡ order_of call.words → Obeyed order.command
+      → OrdersOne call Go (λ o src. ShowsPorts call (GoMeans o.level (room_of o) o.steps src))
+  go_means_ordered law is h =
+      let src = first_name call.words in
+      ordered Go (λ o. ShowsPorts call (GoMeans o.level (room_of o) o.steps src)) is
+      (λ e. law order.level (room_of order) order.steps src call.old call.new call.ports_old call.ports_new call.status (as_command Go e h))
+
+  pub run_means_ordered : MeantLaw → Ok order ≡ order_of call.words → Obeyed order.command
+      → OrdersOne call Run (λ o file. Based call o.base (λ below.
+      ShowsPorts call (RunMeans (RunLibraryBelow below (main_name call.words o.main_name)) (room_of o) o.steps file)))
+  run_means_ordered law is h =
+      let file = first_name call.words in
+      let Comes = λ (below : Option Shelf). RunLibraryBelow below (main_name call.words order.main_name) in
+      ordered Run (λ o. Based call o.base (λ below. ShowsPorts call (RunMeans (RunLibraryBelow below (main_name call.words o.main_name)) (room_of o) o.steps file))) is
+      (λ e. based_map order.base (λ below. Ran (Comes below)) (λ below. Means (Comes below))
+      (λ below. run_means law (Comes below) (room_of order) order.steps file call.old call.new call.ports_old call.ports_new call.status) (as_command Run e h))
+
+  pub stress_means_ordered : GoLaw → Ok order ≡ order_of call.words → Obeyed order.command
+      → Orders call Stress (λ o. ShowsPorts call (StressMeans o.seed o.count (room_of o) o.steps))
+  stress_means_ordered law is h =
+      ordered Stress (λ o. ShowsPorts call (StressMeans o.seed o.count (room_of o) o.steps)) is
+      (λ e. stress_means law order.seed order.count (room_of order) order.steps call.old call.new call.ports_old call.ports_new call.status (as_command Stress e h))

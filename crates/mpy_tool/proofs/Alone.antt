@@ -1,14 +1,13 @@
 -- What single commands did, as the order says it.
-use Rattle.std.proofs.Common.{◌≡◌, ℕ, Bool, false, List, Option, Some, None, sym, ap, subst, ◌∙◌}
+use Rattle.std.proofs.Common.{◌≡◌, ℕ, List, Option, Some, None, sym, ap, subst, ◌∙◌}
 use Rattle.std.specs.Option.{ForSome}
 use Rattle.std.specs.Prelude.{IfSome}
 use Rattle.std.specs.Io.KnownBytes.{Keeps}
-use Rattle.mpy_io.specs.Count.{Counts}
 use Rattle.mpy_io.specs.Files.{FileOf}
 use Rattle.bc_library.specs.Shelf.{Shelf}
 use Rattle.source_files.specs.Sources.{stored}
 use Rattle.mpy_words.specs.declared.order.Command.{Command}
-use Rattle.mpy_words.specs.declared.order.Command.TheVariants.{Go, Check, Dump, Cross, Merge, Freeze, Migrate, Run, Board, Stress}
+use Rattle.mpy_words.specs.declared.order.Command.TheVariants.{Check, Dump, Cross, Merge, Freeze, Migrate, Board}
 use Rattle.mpy_words.specs.declared.order.Order.{Order}
 use Rattle.mpy_words.specs.Words.{first_name, second_name, source_name, file_names}
 use Rattle.mpy_endings.specs.declared.ending.Ending.{Ending}
@@ -28,7 +27,7 @@ use Rattle.board_command.specs.Boards.{Boards}
 use Rattle.board_command.specs.Images.{library_below}
 use Rattle.mpy_tool.specs.Below.{FreezesBelow}
 use Rattle.mpy_tool.specs.Doing.{DoesBy}
-use Rattle.mpy_tool.specs.Order.{ChangesBy, stands_alone}
+use Rattle.mpy_tool.specs.Order.{ChangesBy}
 
 pub for_some : (P : Shelf → Type 0) (o : Option Shelf) → IfSome o P → ForSome o P
 for_some P None h = λ x e. absurd cc

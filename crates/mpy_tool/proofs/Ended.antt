@@ -19,7 +19,8 @@ use Rattle.run_meaning.specs.image_commands.Migrate.{Migrates}
 use Rattle.board_command.specs.Boards.{Boards}
 use Rattle.board_command.specs.Images.{library_below}
 use Rattle.mpy_tool.specs.Below.{FreezesBelow}
-use Rattle.mpy_tool.specs.Doing.{DoesBy}
+use Rattle.mpy_tool.specs.Call.{Call, Shows}
+use Rattle.mpy_tool.specs.Doing.{Finishes}
 
 -- but where a write failed, the line names the file that was read
 name_read : (read written : List ℕ) (ending : Ending) → (ending ≡ Unwritten → ⊥) → name_in read written ending ≡ read
@@ -75,28 +76,28 @@ module _ (words : List (List ℕ)) (old new : Outside) where
 -- each command's own form
 -- =======================
 
-module _ (order : Order) (words : List (List ℕ)) (below : Option Shelf) (old new : Outside) (status : ℕ) where
-  pub checked : EndsAt (DoesBy order words below Check) words old new status → Ends Checks (first_name words) old new status
+module _ (order : Order) (call : Call) (below : Option Shelf) where
+  pub checked : Finishes order call below Check → Shows call (Ends Checks (first_name call.words))
   checked h = record {
     ending = h.ending;
     status_is = h.status_is;
     went = h.went.0;
     folder_counts = h.folder_counts;
     out_counts = h.out_counts;
-    says = named_first words old new h.place h.ending h.went.1 (λ e. subst (λ (x : Ending). Checks old.files (first_name words) x old.out new.out) e h.went.0) h.says;
+    says = named_first call.words call.old call.new h.place h.ending h.went.1 (λ e. subst (λ (x : Ending). Checks call.old.files (first_name call.words) x call.old.out call.new.out) e h.went.0) h.says;
   }
 
-  pub dumped : EndsAt (DoesBy order words below Dump) words old new status → Ends Dumps (first_name words) old new status
+  pub dumped : Finishes order call below Dump → Shows call (Ends Dumps (first_name call.words))
   dumped h = record {
     ending = h.ending;
     status_is = h.status_is;
     went = h.went.0;
     folder_counts = h.folder_counts;
     out_counts = h.out_counts;
-    says = named_first words old new h.place h.ending h.went.1 (λ e. subst (λ (x : Ending). Dumps old.files (first_name words) x old.out new.out) e h.went.0) h.says;
+    says = named_first call.words call.old call.new h.place h.ending h.went.1 (λ e. subst (λ (x : Ending). Dumps call.old.files (first_name call.words) x call.old.out call.new.out) e h.went.0) h.says;
   }
 
-  pub crossed : EndsAt (DoesBy order words below Cross) words old new status → Writes (Crosses order.level (first_name words) (stored (source_name words order.stored_name)) (second_name words)) (first_name words) (second_name words) old new status
+  pub crossed : Finishes order call below Cross → Shows call (Writes (Crosses order.level (first_name call.words) (stored (source_name call.words order.stored_name)) (second_name call.words)) (first_name call.words) (second_name call.words))
   crossed h = record {
     ending = h.ending;
     status_is = h.status_is;
@@ -104,10 +105,10 @@ module _ (order : Order) (words : List (List ℕ)) (below : Option Shelf) (old n
     prints = h.went.1;
     folder_counts = h.folder_counts;
     out_counts = h.out_counts;
-    says = named_in words old new h.place h.ending h.went.2 h.says;
+    says = named_in call.words call.old call.new h.place h.ending h.went.2 h.says;
   }
 
-  pub frozen : EndsAt (DoesBy order words below Freeze) words old new status → Writes (FreezesBelow below (first_name words) (second_name words)) (first_name words) (second_name words) old new status
+  pub frozen : Finishes order call below Freeze → Shows call (Writes (FreezesBelow below (first_name call.words) (second_name call.words)) (first_name call.words) (second_name call.words))
   frozen h = record {
     ending = h.ending;
     status_is = h.status_is;
@@ -115,10 +116,10 @@ module _ (order : Order) (words : List (List ℕ)) (below : Option Shelf) (old n
     prints = h.went.1;
     folder_counts = h.folder_counts;
     out_counts = h.out_counts;
-    says = named_in words old new h.place h.ending h.went.2 h.says;
+    says = named_in call.words call.old call.new h.place h.ending h.went.2 h.says;
   }
 
-  pub migrated : EndsAt (DoesBy order words below Migrate) words old new status → Writes (Migrates (first_name words) (second_name words)) (first_name words) (second_name words) old new status
+  pub migrated : Finishes order call below Migrate → Shows call (Writes (Migrates (first_name call.words) (second_name call.words)) (first_name call.words) (second_name call.words))
   migrated h = record {
     ending = h.ending;
     status_is = h.status_is;
@@ -126,10 +127,10 @@ module _ (order : Order) (words : List (List ℕ)) (below : Option Shelf) (old n
     prints = h.went.1;
     folder_counts = h.folder_counts;
     out_counts = h.out_counts;
-    says = named_in words old new h.place h.ending h.went.2 h.says;
+    says = named_in call.words call.old call.new h.place h.ending h.went.2 h.says;
   }
 
-  pub merged : EndsAt (DoesBy order words below Merge) words old new status → WritesOf (Merges (file_names words) (first_name words)) words old new status
+  pub merged : Finishes order call below Merge → Shows call (WritesOf (Merges (file_names call.words) (first_name call.words)) call.words)
   merged h = record {
     ending = h.ending;
     place = h.place;
@@ -141,7 +142,7 @@ module _ (order : Order) (words : List (List ℕ)) (below : Option Shelf) (old n
     says = h.says;
   }
 
-  pub boarded : EndsAt (DoesBy order words below Board) words old new status → EndsAt (Boards (library_below below) (first_name words) (second_name words)) words old new status
+  pub boarded : Finishes order call below Board → Shows call (EndsAt (Boards (library_below below) (first_name call.words) (second_name call.words)) call.words)
   boarded h = record {
     ending = h.ending;
     place = h.place;

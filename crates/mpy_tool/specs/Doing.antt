@@ -1,9 +1,7 @@
 -- What each order does, by its command.
-use Rattle.std.specs.Prelude.{◌≡◌, ℕ, List, [], Option, slice_index_or}
+use Rattle.std.specs.Prelude.{◌≡◌, ℕ, List, Option}
 use Rattle.std.specs.Io.KnownBytes.{Keeps}
-use Rattle.mpy_io.specs.Count.{Counts}
 use Rattle.mpy_io.specs.Files.{FileOf}
-use Rattle.mpy_io.specs.Ports.{PortView}
 use Rattle.bc_library.specs.Shelf.{Shelf}
 use Rattle.mpy_words.specs.declared.order.Command.{Command}
 use Rattle.mpy_words.specs.declared.order.Command.TheVariants.{Go, Check, Dump, Cross, Merge, Freeze, Migrate, Run, Board, Stress}
@@ -11,9 +9,8 @@ use Rattle.mpy_words.specs.declared.order.Order.{Order}
 use Rattle.mpy_words.specs.Words.{first_name, second_name, source_name, main_name, file_names}
 use Rattle.source_files.specs.Sources.{stored}
 use Rattle.mpy_endings.specs.declared.ending.Ending.{Ending}
-use Rattle.mpy_endings.specs.Ending.{is_folder_fault, is_out_fault, status_of}
-use Rattle.mpy_endings.specs.Line.{Says, line_of, place_in}
-use Rattle.run_meaning.specs.command_files.Outside.{Outside, EndsAt}
+use Rattle.mpy_endings.specs.Line.{place_in}
+use Rattle.run_meaning.specs.command_files.Outside.{EndsAt}
 use Rattle.run_meaning.specs.file_commands.Check.{Checks}
 use Rattle.run_meaning.specs.file_commands.Cross.{Crosses}
 use Rattle.run_meaning.specs.file_commands.Dump.{Dumps}
@@ -25,6 +22,7 @@ use Rattle.run_meaning.specs.image_commands.Migrate.{Migrates}
 use Rattle.board_command.specs.Images.{library_below}
 use Rattle.board_command.specs.Boards.{Boards}
 use Rattle.stress_command.specs.Stress.{EndsStress}
+use Rattle.mpy_tool.specs.Call.{Call, Shows, ShowsPorts}
 use Rattle.mpy_tool.specs.Below.{FreezesBelow, RunLibraryBelow, Based}
 use Rattle.mpy_tool.specs.Order.{base_by}
 
@@ -62,29 +60,29 @@ module _ (order : Order) (words : List (List ℕ)) (below : Option Shelf) where
   LibraryBy Board = no_library
   LibraryBy Stress = no_library
 
+-- over the library below, or over nothing
+module _ (order : Order) (call : Call) (below : Option Shelf) where
   -- how a command ended that runs nothing
-  abbrev pub Finishes : (old new : Outside) → (status : ℕ) → Command → Type 0
-  Finishes old new status command = EndsAt (DoesBy command) words old new status
+  abbrev pub Finishes : Command → Type 0
+  Finishes command = Shows call (EndsAt (DoesBy order call.words below command) call.words)
 
-  module _ (old new : Outside) (ports_old ports_new : List PortView) (status : ℕ) where
-    -- how one ended that runs such a library
-    abbrev pub RunsBy : Command → Type 0
-    RunsBy command = EndsRun (LibraryBy command) (room_of order) order.steps (first_name words) old new ports_old ports_new status
+  -- how one ended that runs such a library
+  abbrev pub RunsBy : Command → Type 0
+  RunsBy command = ShowsPorts call (EndsRun (LibraryBy order call.words below command) (room_of order) order.steps (first_name call.words))
 
-    -- how the command ended over the library below
-    abbrev pub ActsBy : Command → Type 0
-    ActsBy Go = RunsBy Go
-    ActsBy Check = Finishes old new status Check
-    ActsBy Dump = Finishes old new status Dump
-    ActsBy Cross = Finishes old new status Cross
-    ActsBy Merge = Finishes old new status Merge
-    ActsBy Freeze = Finishes old new status Freeze
-    ActsBy Migrate = Finishes old new status Migrate
-    ActsBy Run = RunsBy Run
-    ActsBy Board = Finishes old new status Board
-    ActsBy Stress = EndsStress order.seed order.count (room_of order) order.steps old new ports_old ports_new status
+  -- how each command ended
+  abbrev pub ActsBy : Command → Type 0
+  ActsBy Go = RunsBy Go
+  ActsBy Check = Finishes Check
+  ActsBy Dump = Finishes Dump
+  ActsBy Cross = Finishes Cross
+  ActsBy Merge = Finishes Merge
+  ActsBy Freeze = Finishes Freeze
+  ActsBy Migrate = Finishes Migrate
+  ActsBy Run = RunsBy Run
+  ActsBy Board = Finishes Board
+  ActsBy Stress = ShowsPorts call (EndsStress order.seed order.count (room_of order) order.steps)
 
 -- how an order ended, over its base if it has one
-abbrev pub ObeysBy : Command → Order → List (List ℕ) → (old new : Outside) → (ports_old ports_new : List PortView) → (status : ℕ) → Type 0
-ObeysBy command order words old new ports_old ports_new status =
-    Based words old new ports_old ports_new status (base_by command order.base) (λ below. ActsBy order words below old new ports_old ports_new status command)
+abbrev pub ObeysBy : Order → Call → Command → Type 0
+ObeysBy order call command = Based call (base_by command order.base) (λ below. ActsBy order call below command)

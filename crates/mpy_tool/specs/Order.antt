@@ -33,7 +33,7 @@ ChangesBy words Run old new = new ≡ old
 ChangesBy words Board old new = KeepsOthers MAX_TASKS old new
 ChangesBy words Stress old new = new ≡ old
 
--- words of no order write none
+-- no file changed but those that the ordered command writes; words of no order write none
 abbrev pub ChangesIn : List (List ℕ) → Outcome → (old new : Option FileOf) → Type 0
 ChangesIn words (Err fault) old new = new ≡ old
 ChangesIn words (Ok order) old new = ChangesBy words order.command old new
@@ -51,7 +51,7 @@ runs_library Run = true
 runs_library Board = false
 runs_library Stress = false
 
--- whether it runs a source that it makes
+-- whether a command runs a source that it makes
 abbrev pub makes_source : Command → Bool
 makes_source Go = false
 makes_source Check = false
@@ -64,11 +64,11 @@ makes_source Run = false
 makes_source Board = false
 makes_source Stress = true
 
--- whether a command may call ports; words of no order call none
+-- whether a command may call ports
 abbrev pub calls_ports : Command → Bool
 calls_ports command = runs_library command || makes_source command
 
--- the same of the words' outcome
+-- whether what words order may call ports; words of no order call none
 abbrev pub calls_ports_in : Outcome → Bool
 calls_ports_in (Err fault) = false
 calls_ports_in (Ok order) = calls_ports order.command

@@ -1,23 +1,23 @@
 //! Orders that run nothing.
 
-ghost use Rattle.std.specs.Prelude.{◌≡◌, ◌≤◌, [], true, false, map, string_bytes, IfSome};
+ghost use Rattle.std.specs.Prelude.{◌≡◌, ◌≤◌, [], true, false, Option, IfSome};
 ghost use Rattle.mpy_io.specs.Count.{Counts};
 ghost use Rattle.image_base.specs.Base.{IsOpened};
 ghost use Rattle.bc_library.specs.Shelf.{Shelf};
-ghost use Rattle.std.specs.Prelude.{Option, None as Nothing};
 ghost use Rattle.mpy_endings.specs.declared.ending.Ending.TheVariants.{Done};
 ghost use Rattle.mpy_endings.specs.Ending.{is_folder_fault, is_out_fault};
-ghost use Rattle.run_meaning.specs.command_files.Outside.{seen};
 ghost use Rattle.mpy_tool.specs.Below.{FreezesBelow};
+ghost use Rattle.mpy_tool.specs.Call.{call_of, texts};
 ghost use Rattle.mpy_tool.specs.Doing.{DoesBy, Finishes};
 ghost use Rattle.mpy_tool.specs.Order.{calls_ports, stands_alone, ChangesBy};
 
+use crate::outside::Outside;
 use crate::releasing::release;
 use base_commands::freeze_on;
 use bc_library::Library;
 use board_command::board;
 use mpy_endings::{Ended, Ending, file_names, say_ending, source_name, word_at};
-use mpy_io::{Failed, Folder, Sink};
+use mpy_io::{Failed, Folder, Port, Sink};
 use mpy_words::{Command, Order};
 use run_meaning::{check, cross, dump, freeze, merge_files, migrate};
 use std::alloc::Global;
@@ -51,11 +51,11 @@ fn ran_alone<F: Folder, S: Sink>(
 ) -> Ended
     requires level { order.level ≤ 3 }
     requires alone { stands_alone order.command ≡ true }
-    ensures went { (below : Option Shelf) → DoesBy order (map string_bytes words.now) below order.command
+    ensures went { (below : Option Shelf) → DoesBy order (texts words.now) below order.command
         (F.files folder.old) (F.files folder.new) (S.told out.old) (S.told out.new) result.place result.ending }
     ensures folder_counts { Counts (F.count folder.old) (F.count folder.new) (is_folder_fault result.ending) }
     ensures out_counts { Counts (S.count out.old) (S.count out.new) (is_out_fault result.ending) }
-    ensures files { ChangesBy (map string_bytes words.now) order.command (F.files folder.old) (F.files folder.new) }
+    ensures files { ChangesBy (texts words.now) order.command (F.files folder.old) (F.files folder.new) }
 {
     let name = word_at(words, 1);
     match order.command {
@@ -85,11 +85,11 @@ fn ran<F: Folder, S: Sink>(
     requires level { order.level ≤ 3 }
     requires no_run { calls_ports order.command ≡ false }
     requires below { IfSome below IsOpened }
-    ensures went { DoesBy order (map string_bytes words.now) below order.command
+    ensures went { DoesBy order (texts words.now) below order.command
         (F.files folder.old) (F.files folder.new) (S.told out.old) (S.told out.new) result.place result.ending }
     ensures folder_counts { Counts (F.count folder.old) (F.count folder.new) (is_folder_fault result.ending) }
     ensures out_counts { Counts (S.count out.old) (S.count out.new) (is_out_fault result.ending) }
-    ensures files { ChangesBy (map string_bytes words.now) order.command (F.files folder.old) (F.files folder.new) }
+    ensures files { ChangesBy (texts words.now) order.command (F.files folder.old) (F.files folder.new) }
 {
     let name = word_at(words, 1);
     match order.command {
@@ -118,12 +118,12 @@ fn done<F: Folder, S: Sink>(
     requires level { order.level ≤ 3 }
     requires no_run { calls_ports order.command ≡ false }
     requires below { IfSome below IsOpened }
-    ensures went { DoesBy order (map string_bytes words.now) below order.command
+    ensures went { DoesBy order (texts words.now) below order.command
         (F.files folder.old) (F.files folder.new) (S.told out.old) (S.told out.new) result.place result.ending }
     ensures flushed { result.ending ≡ Done → S.held out.new ≡ [] }
     ensures folder_counts { Counts (F.count folder.old) (F.count folder.new) (is_folder_fault result.ending) }
     ensures out_counts { Counts (S.count out.old) (S.count out.new) (is_out_fault result.ending) }
-    ensures files { ChangesBy (map string_bytes words.now) order.command (F.files folder.old) (F.files folder.new) }
+    ensures files { ChangesBy (texts words.now) order.command (F.files folder.old) (F.files folder.new) }
 {
     let Ended { ending, place } = ran(order, alloc, words, below, folder, out);
     match ending {
@@ -142,26 +142,31 @@ fn done<F: Folder, S: Sink>(
 }
 
 /// Does what is ordered, over the library below, says how it ended, and answers the exit status.
-pub(crate) fn do_order<F: Folder, S: Sink, E: Sink>(
+pub(crate) fn do_order<F: Folder, S: Sink, P: Port, E: Sink>(
     order: Order,
     alloc: Global,
     words: &[String],
     below: Option<Library>,
-    folder: &mut F,
-    out: &mut S,
-    say: &mut E,
+    outside: &mut Outside<F, S, P, E>,
 ) -> u8
     requires level { order.level ≤ 3 }
     requires no_run { calls_ports order.command ≡ false }
     requires below { IfSome below IsOpened }
-    ensures ended { Finishes order (map string_bytes words.now) below
-        (seen F.files F.count S.told S.count E.told E.count folder.old out.old say.old)
-        (seen F.files F.count S.told S.count E.told E.count folder.new out.new say.new) result order.command }
-    ensures flushed { result ≡ 0 → S.held out.new ≡ [] }
-    ensures files { ChangesBy (map string_bytes words.now) order.command (F.files folder.old) (F.files folder.new) }
+    ensures ended { let call = call_of F.Folder S.Sink P.Port E.Sink words.now outside.old outside.new result in
+        Finishes order call below order.command }
+    ensures ports { outside.new.ports ≡ outside.old.ports }
+    ensures flushed { result ≡ 0 → S.held outside.new.out ≡ [] }
+    ensures files { ChangesBy (texts words.now) order.command (F.files outside.old.folder) (F.files outside.new.folder) }
 {
-    let ended = done(order, alloc, words, below, folder, out);
+    let ended = done(
+        order,
+        alloc,
+        words,
+        below,
+        &mut outside.folder,
+        &mut outside.out,
+    );
     let name = word_at(words, ended.place);
-    let _ = say_ending(say, name, &ended.ending);
+    let _ = say_ending(&mut outside.say, name, &ended.ending);
     ended.ending.status()
 }

@@ -1,6 +1,6 @@
 //! Orders that run a library.
 
-ghost use Rattle.std.specs.Prelude.{◌≡◌, ◌≤◌, [], true, map, string_bytes, IfSome, IfOk, IfErr};
+ghost use Rattle.std.specs.Prelude.{◌≡◌, ◌≤◌, [], true, IfSome, IfOk, IfErr};
 ghost use Rattle.mpy_io.specs.Count.{Counts};
 ghost use Rattle.mpy_tree.specs.Raw.{Module};
 ghost use Rattle.library_files.specs.Ends.{HoldsModules};
@@ -8,12 +8,13 @@ ghost use Rattle.image_base.specs.Base.{IsOpened};
 ghost use Rattle.image_runs.specs.Main.{IsMainAt};
 ghost use Rattle.mpy_words.specs.Words.{first_name};
 ghost use Rattle.run_meaning.specs.command_files.Opened.{failed_in};
-ghost use Rattle.run_meaning.specs.command_files.Outside.{seen};
 ghost use Rattle.base_commands.specs.run_commands.Run.{IsUnloaded};
 ghost use Rattle.mpy_tool.specs.Below.{RunLibraryBelow};
+ghost use Rattle.mpy_tool.specs.Call.{call_of, texts};
 ghost use Rattle.mpy_tool.specs.Doing.{LibraryBy, RunsBy};
 ghost use Rattle.mpy_tool.specs.Order.{runs_library};
 
+use crate::outside::Outside;
 use crate::releasing::release;
 use base_commands::{Ready, run_loaded, run_ready, run_ready_on, source_ready};
 use bc_library::Library;
@@ -21,7 +22,6 @@ use mpy_base::Room;
 use mpy_endings::{Ending, main_name, say_ending, word_at};
 use mpy_io::{Folder, Port, Sink};
 use mpy_words::{Command, Order};
-use port_set::PortSet;
 use std::alloc::Global;
 
 /// The library of the file of this name, an image over the library below, if there is one, or what keeps it from being run.
@@ -57,7 +57,8 @@ fn library_of<F: Folder>(
     requires level { order.level ≤ 3 }
     requires runs { runs_library order.command ≡ true }
     requires below { IfSome below IsOpened }
-    ensures comes { LibraryBy order (map string_bytes words.now) below order.command (F.files folder.old) (first_name (map string_bytes words.now)) result }
+    ensures comes { let given = texts words.now in
+        LibraryBy order given below order.command (F.files folder.old) (first_name given) result }
     ensures there { IfOk result (λ ready. (m : Module) × IsMainAt ready.main ready.place m ready.library) }
     ensures holds { IfOk result (λ ready. HoldsModules ready.library) }
     ensures unloaded { IfErr result IsUnloaded }
@@ -86,28 +87,31 @@ pub(crate) fn run_order<F: Folder, S: Sink, P: Port, E: Sink>(
     alloc: Global,
     words: &[String],
     below: Option<Library>,
-    folder: &mut F,
-    out: &mut S,
-    ports: &mut PortSet<P>,
-    say: &mut E,
+    outside: &mut Outside<F, S, P, E>,
 ) -> u8
     requires level { order.level ≤ 3 }
     requires runs { runs_library order.command ≡ true }
     requires below { IfSome below IsOpened }
-    ensures ended { RunsBy order (map string_bytes words.now) below
-        (seen F.files F.count S.told S.count E.told E.count folder.old out.old say.old)
-        (seen F.files F.count S.told S.count E.told E.count folder.new out.new say.new)
-        (map P.seen ports.old) (map P.seen ports.new) result order.command }
-    ensures flushed { result ≡ 0 → S.held out.new ≡ [] }
-    ensures files { F.files folder.new ≡ F.files folder.old }
+    ensures ended { let call = call_of F.Folder S.Sink P.Port E.Sink words.now outside.old outside.new result in
+        RunsBy order call below order.command }
+    ensures flushed { result ≡ 0 → S.held outside.new.out ≡ [] }
+    ensures files { F.files outside.new.folder ≡ F.files outside.old.folder }
 {
     let name = word_at(words, 1);
     let room = Room {
         cells: order.cells,
         bytes: order.bytes,
     };
-    let loaded = library_of(order, alloc, words, below, folder);
-    let ending = run_loaded(alloc, loaded, room, order.steps, out, ports, say);
-    let _ = say_ending(say, name, &ending);
+    let loaded = library_of(order, alloc, words, below, &mut outside.folder);
+    let ending = run_loaded(
+        alloc,
+        loaded,
+        room,
+        order.steps,
+        &mut outside.out,
+        &mut outside.ports,
+        &mut outside.say,
+    );
+    let _ = say_ending(&mut outside.say, name, &ending);
     ending.status()
 }

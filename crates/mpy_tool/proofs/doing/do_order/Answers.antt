@@ -1,14 +1,12 @@
-use Rattle.std.proofs.Common.{◌≡◌, ℕ, map, string_bytes, subst}
-use Rattle.run_meaning.specs.command_files.Outside.{seen}
+use Rattle.std.proofs.Common.{◌≡◌, ℕ, subst}
 use Rattle.base_commands.proofs.run_commands_lemmas.Running.{status_zero}
+use Rattle.mpy_tool.specs.Call.{call_of}
 use Rattle.mpy_tool.proofs.Ended.{said_at}
 use Rattle.mpy_tool.proofs.doing.do_order.Goals as goal
 
 pub returns-clause-ended : goal.returns-clause-ended
 returns-clause-ended g c =
-    let words = map string_bytes c.args.words.now in
-    let old = seen g.F.Folder.files g.F.Folder.count g.S.Sink.told g.S.Sink.count g.E.Sink.told g.E.Sink.count c.args.folder.now c.args.out.now c.args.say.now in
-    let new = seen g.F.Folder.files g.F.Folder.count g.S.Sink.told g.S.Sink.count g.E.Sink.told g.E.Sink.count c.done-ended.new.folder c.done-ended.new.out c.say_ending.new.say in
+    let call = call_of g.F.Folder g.S.Sink g.P.Port g.E.Sink c.args.words.now c.args.outside.now (record c.args.outside.now { folder = c.done-ended.new.folder; out = c.done-ended.new.out; say = c.say_ending.new.say }) c.status.result in
     record {
       ending = c.done-ended.result.ending;
       place = c.done-ended.result.place;
@@ -16,7 +14,7 @@ returns-clause-ended g c =
       went = c.done-ended.ensures.went;
       folder_counts = c.done-ended.ensures.folder_counts;
       out_counts = c.done-ended.ensures.out_counts;
-      says = said_at old.say new.say old.say_faults new.say_faults words c.word_at-name.result.now c.done-ended.result.place c.done-ended.result.ending c.say_ending.result c.word_at-name.ensures c.say_ending.ensures.line;
+      says = said_at call.old.say call.new.say call.old.say_faults call.new.say_faults call.words c.word_at-name.result.now c.done-ended.result.place c.done-ended.result.ending c.say_ending.result c.word_at-name.ensures c.say_ending.ensures.line;
     }
 
 pub returns-clause-flushed : goal.returns-clause-flushed

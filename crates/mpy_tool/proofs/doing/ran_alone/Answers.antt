@@ -1,4 +1,4 @@
-use Rattle.std.proofs.Common.{map, string_bytes, sym, subst, ◌∙◌, refl}
+use Rattle.std.proofs.Common.{map, string_bytes, sym, subst}
 use Rattle.std.proofs.KnownBytes.{Keeps-refl}
 use Rattle.mpy_io.specs.Count.{Counts}
 use Rattle.source_files.specs.Sources.{stored}

@@ -1,47 +1,68 @@
-use Rattle.std.proofs.Common.{map, string_bytes}
-use Rattle.run_meaning.specs.command_files.Outside.{seen}
-use Rattle.mpy_words.specs.Words.{order_of}
-use Rattle.mpy_tool.proofs.Acting.{cross_ordered, freeze_ordered, migrate_ordered, means_ordered, stress_ordered, stress_means_ordered}
+use Rattle.mpy_tool.specs.Call.{call_of}
+use Rattle.mpy_tool.proofs.Acting.{go_ordered, check_ordered, dump_ordered, cross_ordered, merge_ordered, freeze_ordered, migrate_ordered, run_ordered, board_ordered, stress_ordered, go_means_ordered, run_means_ordered, stress_means_ordered}
 use Rattle.mpy_tool.proofs.top.mpy.Goals as goal
+
+pub returns-in-Ok-clause-go : goal.returns-in-Ok-clause-go
+returns-in-Ok-clause-go g c =
+    let call = call_of g.F.Folder g.S.Sink g.P.Port g.E.Sink c.args.words.now c.args.outside.now c.obey.new.outside c.obey.result in
+    go_ordered c.in-Ok.order call c.in-Ok.ensures.order c.obey.ensures.ended
+
+pub returns-in-Ok-clause-check : goal.returns-in-Ok-clause-check
+returns-in-Ok-clause-check g c =
+    let call = call_of g.F.Folder g.S.Sink g.P.Port g.E.Sink c.args.words.now c.args.outside.now c.obey.new.outside c.obey.result in
+    check_ordered c.in-Ok.order call c.in-Ok.ensures.order c.obey.ensures.ended
+
+pub returns-in-Ok-clause-dump : goal.returns-in-Ok-clause-dump
+returns-in-Ok-clause-dump g c =
+    let call = call_of g.F.Folder g.S.Sink g.P.Port g.E.Sink c.args.words.now c.args.outside.now c.obey.new.outside c.obey.result in
+    dump_ordered c.in-Ok.order call c.in-Ok.ensures.order c.obey.ensures.ended
 
 pub returns-in-Ok-clause-cross : goal.returns-in-Ok-clause-cross
 returns-in-Ok-clause-cross g c =
-    let words = map string_bytes c.args.words.now in
-    let old = seen g.F.Folder.files g.F.Folder.count g.S.Sink.told g.S.Sink.count g.E.Sink.told g.E.Sink.count c.args.folder.now c.args.out.now c.args.say.now in
-    let new = seen g.F.Folder.files g.F.Folder.count g.S.Sink.told g.S.Sink.count g.E.Sink.told g.E.Sink.count c.obey.new.folder c.obey.new.out c.obey.new.say in
-    cross_ordered c.in-Ok.order words old new (map g.P.Port.seen c.args.ports.now) (map g.P.Port.seen c.obey.new.ports) c.obey.result (order_of words) c.in-Ok.ensures.order c.obey.ensures.ended
+    let call = call_of g.F.Folder g.S.Sink g.P.Port g.E.Sink c.args.words.now c.args.outside.now c.obey.new.outside c.obey.result in
+    cross_ordered c.in-Ok.order call c.in-Ok.ensures.order c.obey.ensures.ended
+
+pub returns-in-Ok-clause-merge : goal.returns-in-Ok-clause-merge
+returns-in-Ok-clause-merge g c =
+    let call = call_of g.F.Folder g.S.Sink g.P.Port g.E.Sink c.args.words.now c.args.outside.now c.obey.new.outside c.obey.result in
+    merge_ordered c.in-Ok.order call c.in-Ok.ensures.order c.obey.ensures.ended
 
 pub returns-in-Ok-clause-freeze : goal.returns-in-Ok-clause-freeze
 returns-in-Ok-clause-freeze g c =
-    let words = map string_bytes c.args.words.now in
-    let old = seen g.F.Folder.files g.F.Folder.count g.S.Sink.told g.S.Sink.count g.E.Sink.told g.E.Sink.count c.args.folder.now c.args.out.now c.args.say.now in
-    let new = seen g.F.Folder.files g.F.Folder.count g.S.Sink.told g.S.Sink.count g.E.Sink.told g.E.Sink.count c.obey.new.folder c.obey.new.out c.obey.new.say in
-    freeze_ordered c.in-Ok.order words old new (map g.P.Port.seen c.args.ports.now) (map g.P.Port.seen c.obey.new.ports) c.obey.result (order_of words) c.in-Ok.ensures.order c.obey.ensures.ended
+    let call = call_of g.F.Folder g.S.Sink g.P.Port g.E.Sink c.args.words.now c.args.outside.now c.obey.new.outside c.obey.result in
+    freeze_ordered c.in-Ok.order call c.in-Ok.ensures.order c.obey.ensures.ended
 
 pub returns-in-Ok-clause-migrate : goal.returns-in-Ok-clause-migrate
 returns-in-Ok-clause-migrate g c =
-    let words = map string_bytes c.args.words.now in
-    let old = seen g.F.Folder.files g.F.Folder.count g.S.Sink.told g.S.Sink.count g.E.Sink.told g.E.Sink.count c.args.folder.now c.args.out.now c.args.say.now in
-    let new = seen g.F.Folder.files g.F.Folder.count g.S.Sink.told g.S.Sink.count g.E.Sink.told g.E.Sink.count c.obey.new.folder c.obey.new.out c.obey.new.say in
-    migrate_ordered c.in-Ok.order words old new (map g.P.Port.seen c.args.ports.now) (map g.P.Port.seen c.obey.new.ports) c.obey.result (order_of words) c.in-Ok.ensures.order c.obey.ensures.ended
+    let call = call_of g.F.Folder g.S.Sink g.P.Port g.E.Sink c.args.words.now c.args.outside.now c.obey.new.outside c.obey.result in
+    migrate_ordered c.in-Ok.order call c.in-Ok.ensures.order c.obey.ensures.ended
 
-pub returns-in-Ok-clause-run_means : goal.returns-in-Ok-clause-run_means
-returns-in-Ok-clause-run_means g c =
-    let words = map string_bytes c.args.words.now in
-    let old = seen g.F.Folder.files g.F.Folder.count g.S.Sink.told g.S.Sink.count g.E.Sink.told g.E.Sink.count c.args.folder.now c.args.out.now c.args.say.now in
-    let new = seen g.F.Folder.files g.F.Folder.count g.S.Sink.told g.S.Sink.count g.E.Sink.told g.E.Sink.count c.obey.new.folder c.obey.new.out c.obey.new.say in
-    means_ordered c.in-Ok.order words old new (map g.P.Port.seen c.args.ports.now) (map g.P.Port.seen c.obey.new.ports) c.obey.result c.meant_law.ensures (order_of words) c.in-Ok.ensures.order c.obey.ensures.ended
+pub returns-in-Ok-clause-run : goal.returns-in-Ok-clause-run
+returns-in-Ok-clause-run g c =
+    let call = call_of g.F.Folder g.S.Sink g.P.Port g.E.Sink c.args.words.now c.args.outside.now c.obey.new.outside c.obey.result in
+    run_ordered c.in-Ok.order call c.in-Ok.ensures.order c.obey.ensures.ended
+
+pub returns-in-Ok-clause-board : goal.returns-in-Ok-clause-board
+returns-in-Ok-clause-board g c =
+    let call = call_of g.F.Folder g.S.Sink g.P.Port g.E.Sink c.args.words.now c.args.outside.now c.obey.new.outside c.obey.result in
+    board_ordered c.in-Ok.order call c.in-Ok.ensures.order c.obey.ensures.ended
 
 pub returns-in-Ok-clause-stress : goal.returns-in-Ok-clause-stress
 returns-in-Ok-clause-stress g c =
-    let words = map string_bytes c.args.words.now in
-    let old = seen g.F.Folder.files g.F.Folder.count g.S.Sink.told g.S.Sink.count g.E.Sink.told g.E.Sink.count c.args.folder.now c.args.out.now c.args.say.now in
-    let new = seen g.F.Folder.files g.F.Folder.count g.S.Sink.told g.S.Sink.count g.E.Sink.told g.E.Sink.count c.obey.new.folder c.obey.new.out c.obey.new.say in
-    stress_ordered c.in-Ok.order words old new (map g.P.Port.seen c.args.ports.now) (map g.P.Port.seen c.obey.new.ports) c.obey.result (order_of words) c.in-Ok.ensures.order c.obey.ensures.ended
+    let call = call_of g.F.Folder g.S.Sink g.P.Port g.E.Sink c.args.words.now c.args.outside.now c.obey.new.outside c.obey.result in
+    stress_ordered c.in-Ok.order call c.in-Ok.ensures.order c.obey.ensures.ended
+
+pub returns-in-Ok-clause-go_means : goal.returns-in-Ok-clause-go_means
+returns-in-Ok-clause-go_means g c =
+    let call = call_of g.F.Folder g.S.Sink g.P.Port g.E.Sink c.args.words.now c.args.outside.now c.obey.new.outside c.obey.result in
+    go_means_ordered c.in-Ok.order call c.go_means_law.ensures c.in-Ok.ensures.order c.obey.ensures.ended
+
+pub returns-in-Ok-clause-run_means : goal.returns-in-Ok-clause-run_means
+returns-in-Ok-clause-run_means g c =
+    let call = call_of g.F.Folder g.S.Sink g.P.Port g.E.Sink c.args.words.now c.args.outside.now c.obey.new.outside c.obey.result in
+    run_means_ordered c.in-Ok.order call c.meant_law.ensures c.in-Ok.ensures.order c.obey.ensures.ended
 
 pub returns-in-Ok-clause-stress_means : goal.returns-in-Ok-clause-stress_means
 returns-in-Ok-clause-stress_means g c =
-    let words = map string_bytes c.args.words.now in
-    let old = seen g.F.Folder.files g.F.Folder.count g.S.Sink.told g.S.Sink.count g.E.Sink.told g.E.Sink.count c.args.folder.now c.args.out.now c.args.say.now in
-    let new = seen g.F.Folder.files g.F.Folder.count g.S.Sink.told g.S.Sink.count g.E.Sink.told g.E.Sink.count c.obey.new.folder c.obey.new.out c.obey.new.say in
-    stress_means_ordered c.in-Ok.order words old new (map g.P.Port.seen c.args.ports.now) (map g.P.Port.seen c.obey.new.ports) c.obey.result c.go_means_law.ensures (order_of words) c.in-Ok.ensures.order c.obey.ensures.ended
+    let call = call_of g.F.Folder g.S.Sink g.P.Port g.E.Sink c.args.words.now c.args.outside.now c.obey.new.outside c.obey.result in
+    stress_means_ordered c.in-Ok.order call c.go_means_law.ensures c.in-Ok.ensures.order c.obey.ensures.ended
