@@ -3,7 +3,7 @@ use Rattle.std.proofs.Common.{◌≡◌, ℕ, List, Some, sym, subst, ◌∙◌}
 use Rattle.mpy_io.specs.Files.{FileOf}
 use Rattle.bc_library.specs.Shelf.{Shelf}
 use Rattle.py_meaning.specs.Program.{Program}
-use Rattle.program_runs.specs.Units.{AreUnits}
+use Rattle.base_programs.specs.program_runs.Units.{AreUnits}
 use Rattle.image_open.specs.Opens.{Opens}
 use Rattle.image_open.specs.OpensOn.{OpensOn}
 use Rattle.base_programs.specs.base_files.Frozen.{HoldsFrozenOn}

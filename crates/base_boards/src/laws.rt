@@ -7,14 +7,13 @@ ghost use Rattle.image_open.specs.Opens.{Opens};
 ghost use Rattle.board_plan.specs.declared.plan.Plan.{Plan};
 ghost use Rattle.base_programs.specs.base_files.Frozen.{HoldsFrozenOn};
 ghost use Rattle.base_programs.specs.Programs.{IsImageOfSources, IsProgramOver, Sources};
-ghost use Rattle.mpy_endings.specs.declared.ending.Ending.TheVariants.{Done};
+ghost use Rattle.board_command.specs.mpy_endings.declared.ending.Ending.TheVariants.{Done};
 ghost use Rattle.board_command.specs.Boards.{Boards};
 ghost use Rattle.board_command.specs.Meant.{MeansTasks};
 ghost use Rattle.board_command.specs.Plans.{HoldsPlan};
 
-use base_programs::over_law;
+use base_programs::{over_law, program_law};
 use board_command::tasks_law;
-use vm_programs::program_law;
 
 /// Where the base is opened as the library of an image of a manifest's sources, and the image of the name `image` is that of another
 /// manifest's sources over it, each task of a plan that is run on it prints and ends as the program of both means whose main unit is the

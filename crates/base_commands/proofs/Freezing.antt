@@ -1,8 +1,8 @@
 -- What writing an image over a base does to other files.
 use Rattle.std.proofs.Common.{List, ℕ, Option}
 use Rattle.mpy_io.specs.Files.{FileOf}
-use Rattle.mpy_endings.specs.declared.ending.Ending.{Ending}
-use Rattle.mpy_endings.specs.declared.ending.Ending.TheVariants.{Done, Unaccepted, Unread, Unverified, Unmerged, Unopened, Unfrozen, Unboarded, Stopped, ReadFault, WriteFault, Unwritten, NoMemory, Absent}
+use Rattle.run_commands.specs.mpy_endings.declared.ending.Ending.{Ending}
+use Rattle.run_commands.specs.mpy_endings.declared.ending.Ending.TheVariants.{Done, Unaccepted, Unread, Unverified, Unmerged, Unopened, Unfrozen, Unboarded, Stopped, ReadFault, WriteFault, Unwritten, NoMemory, Absent}
 use Rattle.bc_library.specs.Shelf.{Shelf}
 use Rattle.run_commands.specs.command_files.Folder.{ChangesOnly}
 use Rattle.base_commands.specs.Freeze.{FreezesOn}

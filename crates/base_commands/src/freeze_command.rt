@@ -2,14 +2,14 @@
 
 ghost use Rattle.std.specs.Prelude.{◌≡◌, [], false};
 ghost use Rattle.mpy_io.specs.Count.{Counts};
-ghost use Rattle.mpy_endings.specs.Ending.{is_folder_fault, is_out_fault};
+ghost use Rattle.run_commands.specs.mpy_endings.Ending.{is_folder_fault, is_out_fault};
 ghost use Rattle.base_commands.specs.Freeze.{FreezesOn};
 
 use base_files::freeze_files_on;
 use bc_library::Library;
 use mpy_base::Refused;
-use mpy_endings::Ending;
 use mpy_io::{Failed, Folder};
+use run_commands::Ending;
 use std::alloc::Global;
 
 /// Writes the image over the library below of the sources of the manifest of this name.

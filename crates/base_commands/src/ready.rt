@@ -5,7 +5,7 @@ ghost use Rattle.mpy_io.specs.Count.{Counts};
 ghost use Rattle.mpy_tree.specs.Raw.{Module};
 ghost use Rattle.library_files.specs.Ends.{HoldsModules};
 ghost use Rattle.image_base.specs.Base.{IsOpened};
-ghost use Rattle.image_runs.specs.Main.{IsMainAt};
+ghost use Rattle.base_runs.specs.image_runs.Main.{IsMainAt};
 ghost use Rattle.run_commands.specs.command_files.Opened.{failed_in};
 ghost use Rattle.run_commands.specs.Run.{IsUnloaded};
 ghost use Rattle.base_commands.specs.Ready.{ImageStartOn, RunLibraryOn};
@@ -13,9 +13,8 @@ ghost use Rattle.base_commands.specs.Ready.{ImageStartOn, RunLibraryOn};
 use base_runs::image_library_on;
 use bc_library::Library;
 use mpy_base::{NoMemory, Refused, Text};
-use mpy_endings::Ending;
 use mpy_io::Folder;
-use run_commands::{Ready, begins_image, file_ready, read_file};
+use run_commands::{Ending, Ready, begins_image, file_ready, read_file};
 use std::alloc::Global;
 
 /// The library of an image over the library below and the module of this name, of either, or what keeps it from being run.

@@ -1,1 +1,2 @@
+pub use Rattle.frozen_files.specs as frozen_files
 pub mod Frozen

@@ -5,9 +5,9 @@ use Rattle.bc_library.specs.Shelf.{Shelf}
 use Rattle.image_grammar.specs.declared.fault.ImageFault.{ImageFault}
 use Rattle.image_grammar.specs.Opening.{FirstFault, nothing_below}
 use Rattle.image_open.specs.Opens.{Opens}
-use Rattle.image_runs.specs.declared.fault.MainFault.TheVariants as mains
-use Rattle.mpy_endings.specs.declared.ending.Ending.{Ending}
-use Rattle.mpy_endings.specs.declared.ending.Ending.TheVariants.{Done, Unaccepted, Unread, Unverified, Unmerged, Unopened, Unfrozen, Unboarded, Stopped, ReadFault, WriteFault, Unwritten, NoMemory, Absent}
+use Rattle.command_files.specs.image_runs.declared.fault.MainFault.TheVariants as mains
+use Rattle.command_files.specs.mpy_endings.declared.ending.Ending.{Ending}
+use Rattle.command_files.specs.mpy_endings.declared.ending.Ending.TheVariants.{Done, Unaccepted, Unread, Unverified, Unmerged, Unopened, Unfrozen, Unboarded, Stopped, ReadFault, WriteFault, Unwritten, NoMemory, Absent}
 use Rattle.command_files.specs.Folder.{MayHold, IsNotRead}
 
 -- the file under the name is an image over nothing, which is opened as this library

@@ -4,9 +4,9 @@ use Rattle.std.specs.Io.KnownBytes.{Keeps}
 use Rattle.mpy_io.specs.Count.{Counts}
 use Rattle.mpy_io.specs.Files.{FileOf}
 use Rattle.bc_library.specs.Shelf.{Shelf}
-use Rattle.mpy_endings.specs.declared.ending.Ending.{Ending}
-use Rattle.mpy_endings.specs.Ending.{is_folder_fault, status_of}
-use Rattle.mpy_endings.specs.Line.{Says, line_of}
+use Rattle.command_files.specs.mpy_endings.declared.ending.Ending.{Ending}
+use Rattle.command_files.specs.mpy_endings.Ending.{is_folder_fault, status_of}
+use Rattle.command_files.specs.mpy_endings.Line.{Says, line_of}
 use Rattle.command_files.specs.Outside.{Outside}
 use Rattle.base_library.specs.Base.{HoldsBase, RefusesBase}
 

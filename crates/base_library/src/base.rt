@@ -7,12 +7,10 @@ ghost use Rattle.command_files.specs.Opened.{failed_in};
 ghost use Rattle.base_library.specs.Base.{BaseLibrary};
 
 use bc_library::Library;
-use command_files::read_file;
+use command_files::{Ending, MainFault, read_file};
 use image_open::open_image;
 use image_over::over_law;
-use image_runs::MainFault;
 use mpy_base::Refused;
-use mpy_endings::Ending;
 use mpy_io::Folder;
 use std::alloc::Global;
 

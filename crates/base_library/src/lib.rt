@@ -4,4 +4,4 @@
 mod base;
 
 pub use base::base_library;
-pub use command_files::read_file;
+pub use command_files::{Ending, MainFault, read_file};

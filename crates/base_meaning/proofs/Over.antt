@@ -4,18 +4,18 @@ use Rattle.std.specs.Prelude.{◌≢◌}
 use Rattle.mpy_io.specs.Files.{FileOf}
 use Rattle.bc_library.specs.Shelf.{Shelf}
 use Rattle.py_meaning.specs.Program.{Program}
-use Rattle.program_runs.specs.Units.{AreUnits}
+use Rattle.base_programs.specs.program_runs.Units.{AreUnits}
 use Rattle.image_grammar.specs.Image.{IsImage, IsFront}
 use Rattle.image_grammar.specs.Opening.{Base}
 use Rattle.image_grammar.specs.declared.entry.Entry.{Entry}
 use Rattle.image_open.specs.Opens.{Opens}
-use Rattle.image_migrate.specs.Migrated.{Migrates as MigratesTo}
-use Rattle.image_runs.specs.Main.{HoldsMain}
+use Rattle.base_programs.specs.image_migrate.Migrated.{Migrates as MigratesTo}
+use Rattle.base_programs.specs.image_runs.Main.{HoldsMain}
 use Rattle.run_meaning.specs.frozen_files.Frozen.{HoldsFrozen}
 use Rattle.run_meaning.specs.frozen_programs.Programs.{IsProgramOfManifest}
-use Rattle.mpy_endings.specs.declared.ending.Ending.TheVariants.{Done}
+use Rattle.base_commands.specs.mpy_endings.declared.ending.Ending.TheVariants.{Done}
 use Rattle.run_meaning.specs.base_library.Base.{HoldsBase}
-use Rattle.base_runs.specs.Main.{HoldsMainOn}
+use Rattle.base_programs.specs.base_runs.Main.{HoldsMainOn}
 use Rattle.base_programs.specs.Programs.{HoldsOver, IsImageOfSources, IsProgramOver, Sources}
 use Rattle.base_commands.specs.Freeze.{FreezesOn}
 use Rattle.run_meaning.specs.image_commands.Migrate.{Migrates}

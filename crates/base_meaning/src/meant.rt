@@ -6,7 +6,7 @@ ghost use Rattle.mpy_io.specs.Files.{FileOf};
 ghost use Rattle.mpy_io.specs.Ports.{PortView};
 ghost use Rattle.bc_library.specs.Shelf.{Shelf};
 ghost use Rattle.py_meaning.specs.Program.{Program};
-ghost use Rattle.mpy_endings.specs.declared.ending.Ending.TheVariants.{Done};
+ghost use Rattle.base_commands.specs.mpy_endings.declared.ending.Ending.TheVariants.{Done};
 ghost use Rattle.run_meaning.specs.command_files.Outside.{Outside};
 ghost use Rattle.run_meaning.specs.frozen_programs.Programs.{IsProgramOfManifest};
 ghost use Rattle.run_meaning.specs.base_library.Base.{HoldsBase};

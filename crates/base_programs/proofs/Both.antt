@@ -7,7 +7,7 @@ use Rattle.bc_library.specs.Shelf as shelves
 use Rattle.bc_library.specs.Shelf.{Shelf}
 use Rattle.py_meaning.specs.Tree.{Name}
 use Rattle.py_meaning.specs.Program.{Entry, Runs, Program, entry_in}
-use Rattle.program_runs.specs.Units.{HasUnit, HasEntry, AreUnits}
+use Rattle.frozen_programs.specs.program_runs.Units.{HasUnit, HasEntry, AreUnits}
 use Rattle.manifest_lines.specs.declared.entry.Entry as manifests
 use Rattle.manifest_files.specs.Entries.{AreEntries}
 use Rattle.image_grammar.specs.Image.{Differ}
@@ -15,10 +15,10 @@ use Rattle.image_grammar.specs.Opening.{names_of}
 use Rattle.image_grammar.specs.declared.entry.Entry as images
 use Rattle.image_open.specs.Opens.{named, shelf_of}
 use Rattle.image_open.specs.OpensOn.{with_entries}
-use Rattle.image_over.proofs.Behind.{differ_join}
-use Rattle.image_freeze.specs.declared.named.Named.{Named}
-use Rattle.image_freeze.specs.Frozen.{entries_of}
-use Rattle.image_runs.specs.Main.{HoldsMain}
+use Rattle.base_runs.proofs.image_over_lemmas.Behind.{differ_join}
+use Rattle.image_migrate.specs.image_freeze.declared.named.Named.{Named}
+use Rattle.image_migrate.specs.image_freeze.Frozen.{entries_of}
+use Rattle.base_runs.specs.image_runs.Main.{HoldsMain}
 use Rattle.frozen_programs.specs.Programs.{IsProgramOfManifest, IsSourceOf}
 use Rattle.frozen_programs.proofs.Places.{Matched, has_in, has_entry, has_unit}
 use Rattle.frozen_programs.proofs.Matched.{Below, matched, modules_of, same_entries, sourced}

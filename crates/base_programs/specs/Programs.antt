@@ -8,9 +8,9 @@ use Rattle.py_meaning.specs.Tree.{Name}
 use Rattle.py_meaning.specs.Program.{Entry, Runs, Program, entry_in}
 use Rattle.bc_library.specs.Shelf.{Shelf}
 use Rattle.image_open.specs.Opens.{Opens, shelf_of}
-use Rattle.image_freeze.specs.declared.named.Named.{Named}
-use Rattle.image_freeze.specs.Frozen.{entries_of}
-use Rattle.frozen_files.specs.Sources.{HoldsSources}
+use Rattle.image_migrate.specs.image_freeze.declared.named.Named.{Named}
+use Rattle.image_migrate.specs.image_freeze.Frozen.{entries_of}
+use Rattle.base_files.specs.frozen_files.Sources.{HoldsSources}
 use Rattle.base_files.specs.Frozen.{HoldsFrozenOn}
 use Rattle.base_runs.specs.Main.{HoldsMainOn}
 use Rattle.frozen_programs.specs.Programs.{IsSourceOf}

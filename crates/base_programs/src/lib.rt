@@ -7,17 +7,17 @@ ghost use Rattle.image_grammar.specs.Image.{Differ};
 ghost use Rattle.image_open.specs.Opens.{Opens};
 ghost use Rattle.image_open.specs.OpensOn.{OpensOn};
 ghost use Rattle.image_migrate.specs.Migrated.{Migrates};
-ghost use Rattle.image_runs.specs.Main.{HoldsMain};
+ghost use Rattle.base_runs.specs.image_runs.Main.{HoldsMain};
 ghost use Rattle.py_meaning.specs.Program.{Program};
-ghost use Rattle.program_runs.specs.Units.{AreUnits};
-ghost use Rattle.frozen_files.specs.Frozen.{HoldsFrozen};
+ghost use Rattle.frozen_programs.specs.program_runs.Units.{AreUnits};
+ghost use Rattle.base_files.specs.frozen_files.Frozen.{HoldsFrozen};
 ghost use Rattle.frozen_programs.specs.Programs.{IsProgramOfManifest};
 ghost use Rattle.base_programs.specs.Programs.{HoldsOver, IsImageOfSources, IsProgramOver, Sources};
 
-use image_freeze::freeze_law;
+use frozen_programs::crossed_law;
+use image_migrate::freeze_law;
 use image_open::image_law;
 use manifest_files::entries_law;
-use unit_files::crossed_law;
 
 /// Bytes are opened as one library: over nothing, and over an image that lies over nothing.
 pub fn one_library_law()
@@ -69,3 +69,5 @@ pub fn over_law()
     freeze_law();
     image_law();
 }
+
+pub use frozen_programs::program_law;

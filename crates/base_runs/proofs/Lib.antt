@@ -1,2 +1,3 @@
+pub use Rattle.image_over.proofs as image_over_lemmas
 mod Held
 mod Found

@@ -1,1 +1,2 @@
+pub use Rattle.image_runs.specs as image_runs
 pub mod Main

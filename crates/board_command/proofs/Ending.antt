@@ -5,17 +5,17 @@ use Rattle.std.proofs.KnownBytes.{Appends-kept}
 use Rattle.mpy_base.specs.declared.limits.TheConstants.{MAX_TASKS}
 use Rattle.mpy_io.specs.Files.{FileOf}
 use Rattle.bc_library.specs.Shelf.{Shelf}
-use Rattle.vm_states.specs.Means.{Program}
-use Rattle.vm_programs.specs.Programs.{IsProgramOf}
+use Rattle.board_meaning.specs.vm_states.Means.{Program}
+use Rattle.board_meaning.specs.vm_programs.Programs.{IsProgramOf}
 use Rattle.board_plan.specs.declared.plan.Plan.{Plan}
 use Rattle.board_meaning.specs.board_tasks.Opened.{first_missing}
 use Rattle.board_meaning.specs.board_files.declared.stop.BoardStop.{BoardStop}
 use Rattle.board_meaning.specs.board_files.declared.stop.BoardStop.TheVariants as stops
 use Rattle.board_meaning.specs.board_files.Files.{KeepsOthers}
 use Rattle.board_meaning.specs.board_files.Summaries.{HasRunIn, HasRunFrontIn}
-use Rattle.mpy_endings.specs.declared.ending.Ending.{Ending}
-use Rattle.mpy_endings.specs.declared.ending.Ending.TheVariants.{Done, Unaccepted, Unread, Unverified, Unmerged, Unopened, Unfrozen, Unboarded, Stopped, ReadFault, WriteFault, Unwritten, NoMemory, Absent}
-use Rattle.mpy_endings.specs.declared.ending.BoardFault.TheVariants as boards
+use Rattle.command_files.specs.mpy_endings.declared.ending.Ending.{Ending}
+use Rattle.command_files.specs.mpy_endings.declared.ending.Ending.TheVariants.{Done, Unaccepted, Unread, Unverified, Unmerged, Unopened, Unfrozen, Unboarded, Stopped, ReadFault, WriteFault, Unwritten, NoMemory, Absent}
+use Rattle.command_files.specs.mpy_endings.declared.ending.BoardFault.TheVariants as boards
 use Rattle.board_command.specs.Images.{HoldsImage}
 use Rattle.board_command.specs.Plans.{RefusesPlan}
 use Rattle.board_command.specs.Boards.{Boards, Holds, Untouched}

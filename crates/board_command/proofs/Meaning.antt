@@ -7,12 +7,12 @@ use Rattle.bc_library.specs.declared.fault.Member.{Member}
 use Rattle.bc_library.specs.declared.fault.Member.TheVariants as members
 use Rattle.bc_library.specs.Shelf.{Shelf, member_of, no_entries}
 use Rattle.py_meaning.specs.Program.{Program}
-use Rattle.vm_states.specs.Means as machine
-use Rattle.vm_programs.specs.Programs.{IsProgramOf, IsRunnable}
-use Rattle.program_runs.specs.Units.{AreUnits}
+use Rattle.board_meaning.specs.vm_states.Means as machine
+use Rattle.board_meaning.specs.vm_programs.Programs.{IsProgramOf, IsRunnable}
+use Rattle.board_meaning.specs.program_runs.Units.{AreUnits}
 use Rattle.image_open.specs.Opens.{Opens}
 use Rattle.image_open.specs.OpensOn.{OpensOn}
-use Rattle.image_runs.specs.Main.{HoldsMain}
+use Rattle.frozen_programs.specs.image_runs.Main.{HoldsMain}
 use Rattle.board_plan.specs.declared.plan.Plan.{Plan}
 use Rattle.board_plan.specs.declared.plan.Task.{Task}
 use Rattle.board_meaning.specs.board_tasks.Opened.{first_missing, missing_by, number_by, number_of}
@@ -20,7 +20,7 @@ use Rattle.board_meaning.specs.board_files.Summaries.{HasRun}
 use Rattle.board_meaning.specs.Meant.{RanAsMeant}
 use Rattle.frozen_programs.specs.frozen_files.Frozen.{HoldsFrozen}
 use Rattle.frozen_programs.specs.Programs.{IsProgramOfManifest}
-use Rattle.mpy_endings.specs.declared.ending.Ending.TheVariants.{Done}
+use Rattle.command_files.specs.mpy_endings.declared.ending.Ending.TheVariants.{Done}
 use Rattle.board_command.specs.Boards.{Boards}
 use Rattle.board_command.specs.Images.{HoldsImage}
 use Rattle.board_command.specs.Meant.{MeansTasks}

@@ -3,15 +3,15 @@ use Rattle.std.specs.Prelude.{◌≡◌, ◌⊎◌, ℕ, ◌<◌, List, length, 
 use Rattle.mpy_io.specs.Files.{FileOf}
 use Rattle.std.specs.Io.KnownBytes.{Keeps}
 use Rattle.bc_library.specs.Shelf.{Shelf}
-use Rattle.vm_states.specs.Means.{Program}
-use Rattle.vm_programs.specs.Programs.{IsProgramOf, IsRunnable}
+use Rattle.board_meaning.specs.vm_states.Means.{Program}
+use Rattle.board_meaning.specs.vm_programs.Programs.{IsProgramOf, IsRunnable}
 use Rattle.board_plan.specs.declared.plan.Plan.{Plan}
 use Rattle.board_meaning.specs.board_tasks.Opened.{first_missing}
 use Rattle.board_meaning.specs.board_files.Files.{KeepsOthers}
 use Rattle.board_meaning.specs.board_files.Summaries.{HasRunIn, HasRunFrontIn}
-use Rattle.mpy_endings.specs.declared.ending.Ending.{Ending}
-use Rattle.mpy_endings.specs.declared.ending.Ending.TheVariants.{Done, Unaccepted, Unread, Unverified, Unmerged, Unopened, Unfrozen, Unboarded, Stopped, ReadFault, WriteFault, Unwritten, NoMemory, Absent}
-use Rattle.mpy_endings.specs.declared.ending.BoardFault.TheVariants as boards
+use Rattle.command_files.specs.mpy_endings.declared.ending.Ending.{Ending}
+use Rattle.command_files.specs.mpy_endings.declared.ending.Ending.TheVariants.{Done, Unaccepted, Unread, Unverified, Unmerged, Unopened, Unfrozen, Unboarded, Stopped, ReadFault, WriteFault, Unwritten, NoMemory, Absent}
+use Rattle.command_files.specs.mpy_endings.declared.ending.BoardFault.TheVariants as boards
 use Rattle.board_command.specs.Images.{HoldsImage, RefusesImage}
 use Rattle.board_command.specs.Plans.{HoldsPlan, RefusesPlan}
 

@@ -1,3 +1,4 @@
+pub use Rattle.command_files.specs.mpy_endings
 pub use Rattle.board_meaning.specs.board_files
 pub mod Images
 pub mod Plans

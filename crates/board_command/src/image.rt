@@ -8,19 +8,18 @@ ghost use Rattle.image_grammar.specs.declared.fault.ImageFault.{ImageFault as Fa
 ghost use Rattle.image_grammar.specs.Opening.{FirstFault};
 ghost use Rattle.image_base.specs.Base.{IsOpened, base_of};
 ghost use Rattle.image_open.specs.OpensOn.{OpensOn};
-ghost use Rattle.vm_programs.specs.Programs.{IsRunnable};
+ghost use Rattle.board_meaning.specs.vm_programs.Programs.{IsRunnable};
 ghost use Rattle.command_files.specs.Opened.{failed_in};
 ghost use Rattle.board_command.specs.Images.{HoldsImage, RefusesImage, library_below};
 
 use crate::runnable::runnable_law;
 use bc_library::Library;
-use command_files::read_file;
+use command_files::{Ending, read_file};
+use frozen_programs::MainFault;
 use image_grammar::ImageFault;
 use image_open::open_image;
 use image_over::{open_on, over_law};
-use image_runs::MainFault;
 use mpy_base::Refused;
-use mpy_endings::Ending;
 use mpy_io::Folder;
 use std::alloc::Global;
 

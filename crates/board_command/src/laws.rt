@@ -6,14 +6,13 @@ ghost use Rattle.bc_library.specs.Shelf.{no_entries};
 ghost use Rattle.board_plan.specs.declared.plan.Plan.{Plan};
 ghost use Rattle.frozen_programs.specs.frozen_files.Frozen.{HoldsFrozen};
 ghost use Rattle.frozen_programs.specs.Programs.{IsProgramOfManifest};
-ghost use Rattle.mpy_endings.specs.declared.ending.Ending.TheVariants.{Done};
+ghost use Rattle.command_files.specs.mpy_endings.declared.ending.Ending.TheVariants.{Done};
 ghost use Rattle.board_command.specs.Boards.{Boards};
 ghost use Rattle.board_command.specs.Meant.{MeansTasks};
 ghost use Rattle.board_command.specs.Plans.{HoldsPlan};
 
-use board_meaning::tasks_law;
+use board_meaning::{program_law, tasks_law};
 use frozen_programs::frozen_law;
-use vm_programs::program_law;
 
 /// Where the image of the name `image` is that of a manifest's sources, which may lie in another folder, each task of a plan that is run
 /// on it prints and ends as the program means whose main unit is the task's module: without ports, in the task's room, and with the

@@ -4,7 +4,7 @@ ghost use Rattle.std.specs.Prelude.{◌≡◌, ℕ, Some};
 ghost use Rattle.mpy_tree.specs.Raw.{Module};
 ghost use Rattle.mpy_tree.specs.File.{IsModule};
 ghost use Rattle.bc_library.specs.Shelf.{module_at};
-ghost use Rattle.vm_programs.specs.Programs.{IsRunnable};
+ghost use Rattle.board_meaning.specs.vm_programs.Programs.{IsRunnable};
 
 use bc_library::{Library, library_law, modules_law};
 use mpy_base::limits::MAX_MODULES;

@@ -3,8 +3,8 @@
 ghost use Rattle.std.specs.Prelude.{◌≡◌, ◌+◌, ◌<◌, ◌≤◌, ◌^◌, ℕ, All, OnOk, length};
 ghost use Rattle.mpy_base.specs.declared.limits.TheConstants.{MAX_TASKS};
 ghost use Rattle.mpy_io.specs.Count.{Counts};
-ghost use Rattle.vm_states.specs.Means.{Program};
-ghost use Rattle.vm_programs.specs.Programs.{IsProgramOf};
+ghost use Rattle.board_tasks.specs.vm_states.Means.{Program};
+ghost use Rattle.board_tasks.specs.vm_programs.Programs.{IsProgramOf};
 ghost use Rattle.board_plan.specs.Plans.{all_steps};
 ghost use Rattle.board_tasks.specs.Turns.{AreRuns};
 ghost use Rattle.board_files.specs.Files.{KeepsOthers, StopsWithin, is_unwritten};

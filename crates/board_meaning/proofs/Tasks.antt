@@ -7,8 +7,8 @@ use Rattle.mpy_io.specs.Files.{FileOf}
 use Rattle.bc_library.specs.Shelf.{Shelf}
 use Rattle.py_meaning.specs.Program.{Program}
 use Rattle.bc_machine.specs.Machine.{run}
-use Rattle.vm_states.specs.Means as machine
-use Rattle.vm_programs.specs.Programs.{IsProgramOf}
+use Rattle.program_runs.specs.vm_states.Means as machine
+use Rattle.program_runs.specs.vm_programs.Programs.{IsProgramOf}
 use Rattle.program_runs.specs.Runs.{MeansRun}
 use Rattle.program_runs.specs.Units.{AreUnits}
 use Rattle.board_plan.specs.declared.plan.Plan.{Plan}

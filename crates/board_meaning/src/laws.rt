@@ -4,8 +4,8 @@ ghost use Rattle.std.specs.Prelude.{◌≡◌, ℕ, List, Option, Some, slice_ge
 ghost use Rattle.mpy_io.specs.Files.{FileOf};
 ghost use Rattle.bc_library.specs.Shelf.{Shelf};
 ghost use Rattle.py_meaning.specs.Program.{Program};
-ghost use Rattle.vm_states.specs.Means as machine;
-ghost use Rattle.vm_programs.specs.Programs.{IsProgramOf};
+ghost use Rattle.program_runs.specs.vm_states.Means as machine;
+ghost use Rattle.program_runs.specs.vm_programs.Programs.{IsProgramOf};
 ghost use Rattle.program_runs.specs.Units.{AreUnits};
 ghost use Rattle.board_plan.specs.declared.plan.Plan.{Plan};
 ghost use Rattle.board_plan.specs.declared.plan.Task.{Task};

@@ -11,10 +11,10 @@ use Rattle.bc_machine.specs.Machine.{run_of, steps}
 use Rattle.bc_machine.specs.Growth.{world_of}
 use Rattle.bc_outputs.specs.Behind.{behind, state_behind}
 use Rattle.vm_frames.specs.Calls.{Call}
-use Rattle.vm_unwinding.specs.declared.ends.End.{End}
-use Rattle.vm_step.specs.Shown.{running_of}
-use Rattle.vm_states.specs.Means.{Program}
-use Rattle.vm_starting.specs.declared.opening.Vm.{Vm}
+use Rattle.vm_machine.specs.vm_unwinding.declared.ends.End.{End}
+use Rattle.vm_machine.specs.vm_step.Shown.{running_of}
+use Rattle.vm_machine.specs.vm_states.Means.{Program}
+use Rattle.vm_machine.specs.vm_starting.declared.opening.Vm.{Vm}
 use Rattle.vm_machine.specs.Machine.{paid_state, world_in, machine_of}
 use Rattle.board_tasks.specs.Alone.{alone}
 

@@ -16,10 +16,10 @@ use Rattle.bc_machine.specs.State.{State, Running, Halted, Stuck}
 use Rattle.bc_machine.specs.Machine.{run_of, steps}
 use Rattle.vm_frames.specs.Calls.{Call}
 use Rattle.vm_walks.specs.Plain.{plain_object}
-use Rattle.vm_unwinding.specs.declared.ends.End.{End as Stop}
-use Rattle.vm_states.specs.Means.{Program}
-use Rattle.vm_programs.specs.Programs.{IsProgramOf}
-use Rattle.vm_starting.specs.declared.opening.Vm.{Vm}
+use Rattle.vm_machine.specs.vm_unwinding.declared.ends.End.{End as Stop}
+use Rattle.vm_machine.specs.vm_states.Means.{Program}
+use Rattle.vm_machine.specs.vm_programs.Programs.{IsProgramOf}
+use Rattle.vm_machine.specs.vm_starting.declared.opening.Vm.{Vm}
 use Rattle.vm_machine.specs.Machine.{paid_state, world_in, machine_of}
 use Rattle.board_plan.specs.declared.plan.Task.{Task}
 use Rattle.board_plan.specs.declared.plan.Turn.{Turn}

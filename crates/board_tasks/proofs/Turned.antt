@@ -19,10 +19,10 @@ use Rattle.bc_machine.specs.Machine.{run_of, steps}
 use Rattle.bc_machine.specs.Machine.{steps as runs_in}
 use Rattle.bc_outputs.specs.Behind.{state_behind}
 use Rattle.vm_frames.specs.Calls.{Call}
-use Rattle.vm_step.specs.Shown.{running_of}
-use Rattle.vm_states.specs.Means.{Program}
-use Rattle.vm_programs.specs.Programs.{IsProgramOf}
-use Rattle.vm_starting.specs.declared.opening.Vm.{Vm}
+use Rattle.vm_machine.specs.vm_step.Shown.{running_of}
+use Rattle.vm_machine.specs.vm_states.Means.{Program}
+use Rattle.vm_machine.specs.vm_programs.Programs.{IsProgramOf}
+use Rattle.vm_machine.specs.vm_starting.declared.opening.Vm.{Vm}
 use Rattle.vm_machine.specs.Machine.{world_in, machine_of}
 use Rattle.vm_machine.specs.Running.{Outside, Agree, RunsFor, Strays, SinkFails, Runs, RunsToFailure}
 use Rattle.board_tasks.specs.Alone.{alone}

@@ -6,8 +6,8 @@ use Rattle.mpy_base.specs.Weights.{used}
 use Rattle.mpy_base.specs.World.{Heap, ExceptionObject, object}
 use Rattle.py_effects.specs.Ends as plain
 use Rattle.py_effects.specs.Ends.{End, Run}
-use Rattle.vm_unwinding.specs.declared.ends.End.{End as Stop}
-use Rattle.vm_unwinding.specs.declared.ends.End.TheVariants as stops
+use Rattle.vm_machine.specs.vm_unwinding.declared.ends.End.{End as Stop}
+use Rattle.vm_machine.specs.vm_unwinding.declared.ends.End.TheVariants as stops
 use Rattle.board_tasks.specs.declared.ending.TaskEnd.{TaskEnd}
 use Rattle.board_tasks.specs.declared.ending.TaskEnd.TheVariants as ends
 use Rattle.board_tasks.specs.declared.ending.TurnEnd.{TurnEnd}

@@ -16,9 +16,7 @@ use bc_rows::Rows;
 use mpy_io::{Failed, ScriptPort, Sink};
 use port_set::PortSet;
 use std::alloc::Global;
-use vm_machine::run;
-use vm_starting::Vm;
-use vm_unwinding::End;
+use vm_machine::{End, Vm, run};
 
 /// The run of a task.
 #[derive(Drop)]

@@ -15,7 +15,7 @@ use Rattle.library_files.specs.declared.entry.Entry.TheVariants as entries
 use Rattle.library_files.specs.declared.limit.Limit.{Limit}
 use Rattle.library_files.specs.Comes.{ComesTo, FileComesTo, ModuleFiles, ending}
 use Rattle.library_files.specs.Loads.{Loaded, LoadsBy, LoadsFrom, limit_of, main_name}
-use Rattle.program_runs.specs.Units.{IsUnitFile, HasUnit, HasEntry, AreUnits}
+use Rattle.unit_files.specs.program_runs.Units.{IsUnitFile, HasUnit, HasEntry, AreUnits}
 use Rattle.built_files.specs.Built.{IsBuilt, IsBuiltEntry, IsBuiltProgram}
 use Rattle.built_files.proofs.Came.{Came, CameAs, came}
 

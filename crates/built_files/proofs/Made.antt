@@ -9,9 +9,9 @@ use Rattle.bc_verified.specs.Known.{HasTexts}
 use Rattle.bc_verified.specs.Verified.{IsVerifiedTree, AllVerifiedTrees}
 use Rattle.bc_translation.specs.Merge.{merge_of}
 use Rattle.py_meaning.specs.Program.{Source, Unit, Single, Merge, Units, Part, Parts}
-use Rattle.mpy_compile.specs.Compiled.{CompilesTo}
-use Rattle.mpy_merge.specs.AsMerge.{ReadsAsMerge}
-use Rattle.program_runs.specs.Units.{IsUnitFile, AreUnitFiles}
+use Rattle.unit_files.specs.mpy_compile.Compiled.{CompilesTo}
+use Rattle.unit_files.specs.mpy_merge.AsMerge.{ReadsAsMerge}
+use Rattle.unit_files.specs.program_runs.Units.{IsUnitFile, AreUnitFiles}
 use Rattle.unit_files.specs.Readings.{IsReading}
 use Rattle.built_files.specs.Built.{IsBuilt, crossed, merged, AreBuilt, last, next}
 

@@ -8,8 +8,8 @@ use Rattle.pkg_paths.specs.Paths.{candidates}
 use Rattle.bc_library.specs.Shelf.{Shelf, member_of}
 use Rattle.py_meaning.specs.Tree.{Name}
 use Rattle.py_meaning.specs.Program.{Source, Unit, Single, Merge, Units, Part, Parts, Entry, Runs, Refused, Program, entry_in}
-use Rattle.mpy_compile.specs.Compiled.{CompilesTo}
-use Rattle.mpy_merge.specs.AsMerge.{ReadsAsMerge}
+use Rattle.unit_files.specs.mpy_compile.Compiled.{CompilesTo}
+use Rattle.unit_files.specs.mpy_merge.AsMerge.{ReadsAsMerge}
 use Rattle.unit_files.specs.Readings.{IsReading}
 use Rattle.library_files.specs.Comes.{IsVerifiedFile, ending}
 

@@ -9,7 +9,7 @@ ghost use Rattle.bc_verify.specs.Verified.{IsVerified};
 ghost use Rattle.bc_library.specs.Shelf.{Shelf};
 ghost use Rattle.py_meaning.specs.Program.{Unit, Program};
 ghost use Rattle.library_files.specs.Loads.{Loaded, LoadsFrom};
-ghost use Rattle.program_runs.specs.Units.{IsUnitFile, AreUnits};
+ghost use Rattle.unit_files.specs.program_runs.Units.{IsUnitFile, AreUnits};
 ghost use Rattle.built_files.specs.Built.{IsBuilt, IsBuiltProgram};
 
 use bc_resolved::resolves_law;
@@ -42,3 +42,5 @@ pub fn built_law()
 {
     made_law();
 }
+
+pub use unit_files::crossed_law;

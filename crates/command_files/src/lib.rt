@@ -4,7 +4,10 @@
 mod opening;
 mod reading;
 
-pub use mpy_compile::{compile, compile_law};
+pub use mpy_endings::{
+    BoardFault, Ended, Ending, MainFault, Stop, file_names, image_library, main_name, merge,
+    put_three, say_ending, say_words, source_name, word_at,
+};
 pub use opening::{opened, verified};
 pub use reading::read_file;
-pub use source_files::{load_sources, source_module, stored_name};
+pub use source_files::{compile, compile_law, load_sources, source_module, stored_name};

@@ -7,7 +7,7 @@ ghost use Rattle.py_meaning.specs.Program.{Text as TextOf, or_none};
 ghost use Rattle.emit_lengths.specs.Faults.{HasTextLength};
 ghost use Rattle.emit_limits.specs.declared.faults.Measures.{Measures};
 ghost use Rattle.emit_limits.specs.Faults.{fault_of, IsMeasured};
-ghost use Rattle.emit_simple.specs.Plain.{plain_kind};
+ghost use Rattle.emit_stmt.specs.emit_simple.Plain.{plain_kind};
 ghost use Rattle.emit_stmt.specs.Parts.{plain_block, plain_handlers};
 ghost use Rattle.emit_module.specs.Walk.{planted, planted_in, planted_by, front_defs, WalksAll, WalksFront, WalksBody, CodesFunction, IsPut};
 

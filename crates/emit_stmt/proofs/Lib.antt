@@ -1,3 +1,4 @@
+pub use Rattle.emit_simple.proofs as emit_simple_lemmas
 pub mod Children
 pub mod Keeps
 pub mod Loops

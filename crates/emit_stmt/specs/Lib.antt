@@ -1,3 +1,4 @@
+pub use Rattle.emit_simple.specs as emit_simple
 pub mod Parts
 pub mod Children
 pub mod Crowded

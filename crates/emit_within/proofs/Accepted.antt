@@ -4,7 +4,7 @@ use Rattle.py_meaning.specs.Program.{Text}
 use Rattle.emit_limits.specs.declared.faults.Measures.{Measures}
 use Rattle.emit_limits.specs.Faults.{fault_of, IsMeasured}
 use Rattle.emit_limits.specs.Faults as limits
-use Rattle.emit_stmt.specs.Crowded.{crowded_block}
+use Rattle.emit_module.specs.emit_stmt.Crowded.{crowded_block}
 use Rattle.emit_module.specs.First.{Site, IsWithin, AllWithin, no_text, one_within}
 use Rattle.tr_source.specs.Within as translated
 use Rattle.emit_module.proofs.Shallow.{few_around, roomy_text}

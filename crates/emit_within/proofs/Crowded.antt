@@ -7,8 +7,8 @@ use Rattle.bc_translation.specs.Heights as heights
 use Rattle.tr_verified.specs.Greatest.{greatest, greatest_of, greatest_links, greatest_pairs, greatest_keys, greatest_store, greatest_stores, greatest_stmt, greatest_block, greatest_branches, greatest_handlers}
 use Rattle.emit_draft.specs.Draft.{passes_items, passes_members}
 use Rattle.emit_expr.specs.Crowded.{crowded, crowded_all, crowded_links, crowded_pairs, crowded_keys}
-use Rattle.emit_simple.specs.Crowded.{crowded_target, crowded_targets, crowded_gone, crowded_gones, crowded_defaults, passes_entries, at_level}
-use Rattle.emit_stmt.specs.Crowded.{crowded_block, crowded_stmt, crowded_branches, crowded_handlers}
+use Rattle.emit_module.specs.emit_simple.Crowded.{crowded_target, crowded_targets, crowded_gone, crowded_gones, crowded_defaults, passes_entries, at_level}
+use Rattle.emit_module.specs.emit_stmt.Crowded.{crowded_block, crowded_stmt, crowded_branches, crowded_handlers}
 
 pub or_left : (a b : Bool) → (a || b) ≡ false → a ≡ false
 or_left true b e = e

@@ -32,3 +32,6 @@ pub fn module_law()
 {
     accepted_law();
 }
+
+pub use emit_module::{emit, faults_law, resolved_law};
+pub use tr_source::{compiled_law, limits_law};

@@ -15,7 +15,7 @@ use Rattle.bc_translation.specs.Context.{Context}
 use Rattle.bc_translation.specs.Translation.{own, StandsCode, HasState}
 use Rattle.bc_verified.specs.Operands.{IsInside}
 use Rattle.bc_verified.specs.Verified.{IsVerifiedBody}
-use Rattle.tr_source.specs.Within as limits
+use Rattle.emit_within.specs.tr_source.Within as limits
 use Rattle.emit_counts.specs.Lengths.{text_length}
 use Rattle.emit_counts.specs.Wide.{wide_length}
 use Rattle.emit_counts.specs.Stands.{IsCodeOf}

@@ -5,7 +5,7 @@ use Rattle.py_meaning.specs.Tree.{Name, Exprs, NoExpr, More, Stmt, Do, Assign, A
 use Rattle.bc_translation.specs.Translation.{own, own_in, own_of, own_by}
 use Rattle.emit_counts.specs.Wide.{wide_length}
 use Rattle.emit_counts.specs.Lengths.{defaults_length, stmt_length, block_length, branches_length, handlers_length}
-use Rattle.emit_module.proofs.Few.{some_item}
+use Rattle.emit_within.proofs.emit_module_lemmas.Few.{some_item}
 
 pub no_more_lines : (lines : List Line) → length lines ≤ wide_length lines
 no_more_lines [] = omega arith

@@ -15,12 +15,12 @@ use Rattle.py_meaning.specs.Tree.{Name, Function, functions}
 use Rattle.py_meaning.specs.Program.{Source, Text, module_name, function_texts, source_texts}
 use Rattle.bc_machine.specs.Library.{Code, size_of, numbers_from, codes_from}
 use Rattle.bc_verified.specs.Verified.{AreVerifiedIn, AreVerifiedAll, count_of}
-use Rattle.tr_source.specs.Within as limits
+use Rattle.emit_within.specs.tr_source.Within as limits
 use Rattle.emit_counts.specs.Lengths.{text_length}
 use Rattle.emit_limits.specs.Faults.{is_big_state}
-use Rattle.emit_module.specs.First.{Site, IsWithin, AllWithin, no_text, one_within}
-use Rattle.emit_module.specs.Module.{IsTranslated}
-use Rattle.emit_module.proofs.Few.{not_long}
+use Rattle.emit_within.specs.emit_module.First.{Site, IsWithin, AllWithin, no_text, one_within}
+use Rattle.emit_within.specs.emit_module.Module.{IsTranslated}
+use Rattle.emit_within.proofs.emit_module_lemmas.Few.{not_long}
 use Rattle.py_spelled.specs.Spelled.{IsAscii, FunctionsSpelled, TreeSpelled}
 use Rattle.mpy_fits.specs.Texts.{text_fits, code_fits, TextsFit}
 use Rattle.emit_written.proofs.Items.{and_left, and_right, text_is}

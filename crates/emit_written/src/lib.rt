@@ -11,13 +11,12 @@ ghost use Rattle.py_tree.specs.declared.stmt.Module.{Module};
 ghost use Rattle.py_tree.specs.Formed.{IsFormed};
 ghost use Rattle.py_scopes.specs.Scopes.{IsFaultless};
 ghost use Rattle.py_meaning.specs.Tree.{Name};
-ghost use Rattle.emit_module.specs.First.{AreWithin};
-ghost use Rattle.emit_module.specs.Module.{source_of, IsTranslated};
+ghost use Rattle.emit_within.specs.emit_module.First.{AreWithin};
+ghost use Rattle.emit_within.specs.emit_module.Module.{source_of, IsTranslated};
 
 use emit_counts::lengths_law;
-use emit_within::{module_law, within_law};
+use emit_within::{limits_law, module_law, within_law};
 use py_spelled::spelled_law;
-use tr_source::limits_law;
 
 /// The module of an accepted source of whose texts none passes a limit is one that may be written, where its stored name is ASCII,
 /// no text in it is longer than a file, and its codes nest no deeper than a file's.
@@ -31,3 +30,5 @@ pub fn written_law()
     spelled_law();
     limits_law();
 }
+
+pub use emit_within::{compiled_law, emit, faults_law, module_law, resolved_law, within_law};

@@ -6,12 +6,11 @@ ghost use Rattle.mpy_io.specs.Count.{Counts};
 ghost use Rattle.command_files.specs.mpy_compile.Compiled.{Compiles};
 ghost use Rattle.command_files.specs.source_files.Sources.{stored};
 ghost use Rattle.file_commands.specs.Cross.{Crosses};
-ghost use Rattle.mpy_endings.specs.declared.ending.Ending.{Ending};
-ghost use Rattle.mpy_endings.specs.Ending.{IsSettled, is_folder_fault, is_out_fault};
+ghost use Rattle.command_files.specs.mpy_endings.declared.ending.Ending.{Ending};
+ghost use Rattle.command_files.specs.mpy_endings.Ending.{IsSettled, is_folder_fault, is_out_fault};
 
-use command_files::{compile, compile_law, stored_name};
+use command_files::{Ending, compile, compile_law, stored_name};
 use mpy_base::{NoMemory, Refused, SourceFault};
-use mpy_endings::Ending;
 use mpy_io::{Failed, Folder, ReadFault};
 use std::alloc::Global;
 

@@ -2,15 +2,13 @@
 
 ghost use Rattle.std.specs.Prelude.{◌≡◌, map, string_bytes, false, IfOk, IfErr};
 ghost use Rattle.mpy_io.specs.Count.{Counts};
-ghost use Rattle.mpy_endings.specs.Ending.{is_folder_fault, is_out_fault};
+ghost use Rattle.command_files.specs.mpy_endings.Ending.{is_folder_fault, is_out_fault};
 ghost use Rattle.file_commands.specs.Merge.{HoldModules, IsFirstRefused, Merges};
 
 use bc_verify::Verified;
-use command_files::opened;
+use command_files::{Ended, Ending, merge, opened};
 use mpy_base::Refused;
-use mpy_endings::{Ended, Ending};
 use mpy_io::{Failed, Folder};
-use mpy_merge::merge;
 use std::alloc::Global;
 
 /// The verified modules of the files of these names, or the first that isn't one of such.

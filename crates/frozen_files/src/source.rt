@@ -13,11 +13,10 @@ use frozen_faults::SourcesFault;
 use image_freeze::Named;
 use manifest_files::Entry;
 use mpy_base::{NoMemory, Refused, SourceFault, Text};
-use mpy_compile::compile;
 use mpy_io::{Folder, ReadFault};
 use mpy_reader::read;
 use mpy_tree::RawModule;
-use source_files::compiled_law;
+use source_files::{compile, compiled_law};
 use std::alloc::Global;
 use std::str::from_utf8;
 

@@ -14,15 +14,15 @@ use Rattle.py_meaning.specs.Tree.{Name}
 use Rattle.py_meaning.specs.Program.{Source, Unit, Single, Entry, Runs, Program, entry_in}
 use Rattle.frozen_files.specs.mpy_compile.Compiled.{CompilesTo}
 use Rattle.unit_files.specs.Readings.{IsReading}
-use Rattle.program_runs.specs.Units.{IsUnitFile, HasUnit, HasEntry, AreUnits}
+use Rattle.unit_files.specs.program_runs.Units.{IsUnitFile, HasUnit, HasEntry, AreUnits}
 use Rattle.manifest_lines.specs.declared.entry.Entry as manifests
 use Rattle.manifest_files.specs.Entries.{Answer, IsAnswer, AreEntries}
 use Rattle.image_grammar.specs.declared.entry.Entry as images
 use Rattle.image_grammar.specs.Image.{IsImage}
 use Rattle.image_grammar.specs.Opening.{Base, image, nothing_below}
 use Rattle.image_open.specs.Opens.{Opens, shelf_of}
-use Rattle.image_freeze.specs.declared.named.Named.{Named}
-use Rattle.image_freeze.specs.Frozen.{entries_of, frozen}
+use Rattle.frozen_files.specs.image_freeze.declared.named.Named.{Named}
+use Rattle.frozen_files.specs.image_freeze.Frozen.{entries_of, frozen}
 use Rattle.frozen_files.specs.Sources.{HoldsSource}
 use Rattle.frozen_files.specs.Frozen.{HoldsFrozen}
 use Rattle.image_runs.specs.Main.{HoldsMain}

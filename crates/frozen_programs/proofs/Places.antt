@@ -10,7 +10,7 @@ use Rattle.bc_library.specs.declared.fault.Member.TheVariants as members
 use Rattle.bc_library.specs.Shelf.{Shelf, Named, member_by, member_of, module_at}
 use Rattle.py_meaning.specs.Tree.{Name}
 use Rattle.py_meaning.specs.Program.{Unit, Entry, Runs, Refused, entry_in}
-use Rattle.program_runs.specs.Units.{IsUnitFile, HasUnit, HasEntry}
+use Rattle.unit_files.specs.program_runs.Units.{IsUnitFile, HasUnit, HasEntry}
 
 -- names
 -- =====

@@ -9,7 +9,7 @@ use Rattle.py_effects.specs.Ends.{Run}
 use Rattle.py_meaning.specs.Tree.{Name}
 use Rattle.py_meaning.specs.Program.{Source, Single, Entry, Runs, Program, entry_in}
 use Rattle.unit_files.specs.Readings.{IsReading}
-use Rattle.program_runs.specs.Runs.{MeansRun}
+use Rattle.unit_files.specs.program_runs.Runs.{MeansRun}
 
 -- the source that the text at the entry's path is read as, at its level and under its stored name, stands under the entry's name
 pub record IsSourceOf (files : FileOf) (entry : manifests.Entry) (named : Name × Entry) : Type 0 where

@@ -6,19 +6,18 @@ ghost use Rattle.mpy_base.specs.World.{PortState};
 ghost use Rattle.mpy_io.specs.Files.{FileOf};
 ghost use Rattle.bc_library.specs.Shelf.{Shelf};
 ghost use Rattle.bc_machine.specs.Machine.{run};
-ghost use Rattle.vm_states.specs.Means as machine;
-ghost use Rattle.vm_programs.specs.Programs.{IsProgramOf};
+ghost use Rattle.unit_files.specs.vm_states.Means as machine;
+ghost use Rattle.unit_files.specs.vm_programs.Programs.{IsProgramOf};
 ghost use Rattle.py_meaning.specs.Program.{Program};
-ghost use Rattle.program_runs.specs.Units.{AreUnits};
+ghost use Rattle.unit_files.specs.program_runs.Units.{AreUnits};
 ghost use Rattle.frozen_files.specs.Frozen.{HoldsFrozen};
 ghost use Rattle.image_runs.specs.Main.{HoldsMain};
 ghost use Rattle.frozen_programs.specs.Programs.{IsProgramOfManifest, MeansManifest};
 
-use image_freeze::freeze_law;
+use frozen_files::freeze_law;
 use image_open::image_law;
 use manifest_files::entries_law;
-use program_runs::runs_law;
-use unit_files::crossed_law;
+use unit_files::{crossed_law, runs_law};
 
 /// The image of a manifest's sources, where it has a module of the name `main`: the sources have a program of which that is the main
 /// unit, and the library that the image is opened as has its units.
@@ -43,3 +42,6 @@ pub fn means_law()
     frozen_law();
     runs_law();
 }
+
+pub use image_runs::MainFault;
+pub use unit_files::{crossed_law, program_law};

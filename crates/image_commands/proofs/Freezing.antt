@@ -1,11 +1,11 @@
 -- What writing an image does to other files.
 use Rattle.std.proofs.Common.{List, ℕ, Option}
 use Rattle.mpy_io.specs.Files.{FileOf}
-use Rattle.mpy_endings.specs.declared.ending.Ending.{Ending}
-use Rattle.mpy_endings.specs.declared.ending.Ending.TheVariants.{Done, Unaccepted, Unread, Unverified, Unmerged, Unopened, Unfrozen, Unboarded, Stopped, ReadFault, WriteFault, Unwritten, NoMemory, Absent}
+use Rattle.base_library.specs.mpy_endings.declared.ending.Ending.{Ending}
+use Rattle.base_library.specs.mpy_endings.declared.ending.Ending.TheVariants.{Done, Unaccepted, Unread, Unverified, Unmerged, Unopened, Unfrozen, Unboarded, Stopped, ReadFault, WriteFault, Unwritten, NoMemory, Absent}
 use Rattle.base_library.specs.command_files.Folder.{ChangesOnly}
 use Rattle.image_commands.specs.Freeze.{Freezes}
-use Rattle.command_files.proofs.Others.{same_only, became_only, front_only}
+use Rattle.base_library.proofs.command_files_lemmas.Others.{same_only, became_only, front_only}
 
 pub freezes_only : (manifest written : List ℕ) (old new : Option FileOf) (ending : Ending) → Freezes manifest written old new ending → ChangesOnly old new written
 freezes_only manifest written old new Done h = became_only old new written h.0 h.2

@@ -2,8 +2,8 @@
 use Rattle.std.specs.Prelude.{◌≡◌, ℕ, List, Option}
 use Rattle.mpy_io.specs.Files.{FileOf, Becomes, BecomesFront}
 use Rattle.frozen_files.specs.Frozen.{HoldsFrozen, RefusesFrozen}
-use Rattle.mpy_endings.specs.declared.ending.Ending.{Ending}
-use Rattle.mpy_endings.specs.declared.ending.Ending.TheVariants.{Done, Unaccepted, Unread, Unverified, Unmerged, Unopened, Unfrozen, Unboarded, Stopped, ReadFault, WriteFault, Unwritten, NoMemory, Absent}
+use Rattle.base_library.specs.mpy_endings.declared.ending.Ending.{Ending}
+use Rattle.base_library.specs.mpy_endings.declared.ending.Ending.TheVariants.{Done, Unaccepted, Unread, Unverified, Unmerged, Unopened, Unfrozen, Unboarded, Stopped, ReadFault, WriteFault, Unwritten, NoMemory, Absent}
 
 -- How writing the image of the sources of the manifest of this name ended: what the written file became, or why all files are as they
 -- were.

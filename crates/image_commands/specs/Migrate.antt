@@ -6,14 +6,14 @@ use Rattle.mpy_io.specs.Files.{FileOf, Becomes, BecomesFront}
 use Rattle.image_grammar.specs.declared.entry.Entry.{Entry}
 use Rattle.image_grammar.specs.declared.fault.ImageFault.TheVariants.{TooBig}
 use Rattle.image_grammar.specs.Opening.{nothing_below}
-use Rattle.image_freeze.specs.Frozen.{IsTooBig, second_front}
+use Rattle.image_migrate.specs.image_freeze.Frozen.{IsTooBig, second_front}
 use Rattle.image_migrate.specs.declared.fault.MigrateFault.{MigrateFault}
 use Rattle.image_migrate.specs.declared.fault.MigrateFault.TheVariants.{Opening, Freezing}
 use Rattle.image_migrate.specs.Migrated.{IsImageOf, Migrates as MigratesTo}
-use Rattle.image_runs.specs.declared.fault.MainFault.TheVariants as mains
+use Rattle.base_library.specs.image_runs.declared.fault.MainFault.TheVariants as mains
 use Rattle.frozen_faults.specs.declared.fault.FrozenFault.TheVariants as frozen
-use Rattle.mpy_endings.specs.declared.ending.Ending.{Ending}
-use Rattle.mpy_endings.specs.declared.ending.Ending.TheVariants.{Done, Unaccepted, Unread, Unverified, Unmerged, Unopened, Unfrozen, Unboarded, Stopped, ReadFault, WriteFault, Unwritten, NoMemory, Absent}
+use Rattle.base_library.specs.mpy_endings.declared.ending.Ending.{Ending}
+use Rattle.base_library.specs.mpy_endings.declared.ending.Ending.TheVariants.{Done, Unaccepted, Unread, Unverified, Unmerged, Unopened, Unfrozen, Unboarded, Stopped, ReadFault, WriteFault, Unwritten, NoMemory, Absent}
 use Rattle.base_library.specs.command_files.Folder.{MayHold, IsNotRead}
 use Rattle.base_library.specs.Base.{HoldsNoImage}
 

@@ -2,12 +2,12 @@
 
 ghost use Rattle.std.specs.Prelude.{◌≡◌, false};
 ghost use Rattle.mpy_io.specs.Count.{Counts};
-ghost use Rattle.mpy_endings.specs.Ending.{is_folder_fault, is_out_fault};
+ghost use Rattle.base_library.specs.mpy_endings.Ending.{is_folder_fault, is_out_fault};
 ghost use Rattle.image_commands.specs.Freeze.{Freezes};
 
+use base_library::Ending;
 use frozen_files::freeze_files;
 use mpy_base::Refused;
-use mpy_endings::Ending;
 use mpy_io::{Failed, Folder};
 use std::alloc::Global;
 

@@ -2,15 +2,13 @@
 
 ghost use Rattle.std.specs.Prelude.{◌≡◌, false};
 ghost use Rattle.mpy_io.specs.Count.{Counts};
-ghost use Rattle.mpy_endings.specs.Ending.{is_folder_fault, is_out_fault};
+ghost use Rattle.base_library.specs.mpy_endings.Ending.{is_folder_fault, is_out_fault};
 ghost use Rattle.image_commands.specs.Migrate.{Migrates, refused_end};
 
-use base_library::read_file;
+use base_library::{Ending, MainFault, read_file};
 use frozen_faults::FrozenFault;
 use image_migrate::{MigrateFault, migrate_image};
-use image_runs::MainFault;
 use mpy_base::Refused;
-use mpy_endings::Ending;
 use mpy_io::{Failed, Folder};
 use std::alloc::Global;
 

@@ -10,9 +10,9 @@ use Rattle.py_scopes.specs.Scopes.{IsFaultless}
 use Rattle.py_source.specs.declared.source.Accepted.{Accepted}
 use Rattle.py_source.specs.Source as sources
 use Rattle.py_meaning.specs.Program.{Source}
-use Rattle.tr_source.specs.Accepted.{IsAccepted}
-use Rattle.emit_module.specs.First.{AreWithin, IsFirstFault}
-use Rattle.emit_module.specs.Module.{source_of, IsTranslated}
+use Rattle.emit_written.specs.tr_source.Accepted.{IsAccepted}
+use Rattle.emit_written.specs.emit_module.First.{AreWithin, IsFirstFault}
+use Rattle.emit_written.specs.emit_module.Module.{source_of, IsTranslated}
 use Rattle.mpy_compile.specs.Compiled.{IsFileOf, IsFileFault, IsCompiled, CompilesTo, HasCodeFault, IsFault}
 
 -- what the crates below say

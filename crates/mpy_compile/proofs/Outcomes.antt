@@ -8,8 +8,8 @@ use Rattle.mpy_base.specs.declared.source.SourceFault.{SourceFault}
 use Rattle.mpy_tree.specs.declared.module.ModuleCode.{ModuleCode}
 use Rattle.py_source.specs.declared.source.Accepted.{Accepted}
 use Rattle.py_source.specs.Source as sources
-use Rattle.emit_module.specs.First.{IsFirstFault}
-use Rattle.emit_module.specs.Module.{source_of}
+use Rattle.emit_written.specs.emit_module.First.{IsFirstFault}
+use Rattle.emit_written.specs.emit_module.Module.{source_of}
 use Rattle.mpy_compile.specs.Compiled.{IsCompiled, Files, Compiles}
 
 module _ (level : ℕ) (source stored : List ℕ) where

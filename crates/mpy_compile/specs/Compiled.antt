@@ -14,9 +14,9 @@ use Rattle.mpy_writer.specs.File.{IsWritten, FirstFault}
 use Rattle.mpy_fits.specs.Texts.{module_fits, TextsFit}
 use Rattle.py_source.specs.declared.source.Accepted.{Accepted}
 use Rattle.py_source.specs.Source as sources
-use Rattle.emit_module.specs.First.{AreWithin}
-use Rattle.emit_module.specs.First as texts
-use Rattle.emit_module.specs.Module.{source_of, IsTranslated}
+use Rattle.emit_written.specs.emit_module.First.{AreWithin}
+use Rattle.emit_written.specs.emit_module.First as texts
+use Rattle.emit_written.specs.emit_module.Module.{source_of, IsTranslated}
 
 -- ---- the file of a module
 

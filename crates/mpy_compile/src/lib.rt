@@ -10,9 +10,7 @@ ghost use Rattle.mpy_writer.specs.Writable.{IsShallow, IsWritable};
 ghost use Rattle.mpy_fits.specs.Texts.{TextsFit};
 ghost use Rattle.mpy_compile.specs.Compiled.{IsCompiled, CompilesTo, IsFault, Compiles, Files};
 
-use emit_module::{emit, faults_law};
-use emit_within::{module_law, within_law};
-use emit_written::written_law;
+use emit_written::{emit, faults_law, module_law, within_law, written_law};
 use mpy_base::{Refused, SourceFault};
 use mpy_fits::texts_fit;
 use mpy_tree::ModuleCode;
@@ -74,3 +72,5 @@ pub fn compile_law()
     faults_law();
     write_law();
 }
+
+pub use emit_written::{compiled_law, resolved_law, within_law};

@@ -9,8 +9,8 @@ use Rattle.py_effects.specs.Ends.{End, Open, Ended, Raised, Memory, Run}
 use Rattle.py_meaning.specs.Program.{Program}
 use Rattle.py_meaning.specs.Meaning.{meaning}
 use Rattle.bc_machine.specs.Machine.{run}
-use Rattle.vm_states.specs.Means as machine
-use Rattle.vm_programs.specs.Programs.{IsProgramOf}
+use Rattle.program_runs.specs.vm_states.Means as machine
+use Rattle.program_runs.specs.vm_programs.Programs.{IsProgramOf}
 use Rattle.program_runs.specs.Runs.{MeansRun}
 use Rattle.library_runs.specs.declared.ending.RunEnd.{RunEnd}
 use Rattle.library_runs.specs.declared.ending.RunEnd.TheVariants as ends

@@ -10,7 +10,7 @@ ghost use Rattle.py_meaning.specs.Program.{Program};
 ghost use Rattle.py_meaning.specs.Meaning.{meaning};
 ghost use Rattle.bc_translation.specs.Link.{Links};
 ghost use Rattle.bc_translation.specs.Correct.{IsOpen, IsBehind, Behaves};
-ghost use Rattle.vm_states.specs.Means as machine;
+ghost use Rattle.vm_programs.specs.vm_states.Means as machine;
 ghost use Rattle.vm_programs.specs.Programs.{IsProgramOf};
 ghost use Rattle.program_runs.specs.Units.{AreUnits};
 ghost use Rattle.program_runs.specs.Runs.{MeansRun};
@@ -58,3 +58,5 @@ pub fn runs_law()
     ended_law();
     prefix_law();
 }
+
+pub use vm_programs::program_law;

@@ -12,7 +12,7 @@ use Rattle.bc_verify.specs.Verified.{IsVerified}
 use Rattle.bc_library.specs.Shelf.{Shelf}
 use Rattle.py_meaning.specs.Tree.{Name}
 use Rattle.py_meaning.specs.Program.{Source, Single, Program}
-use Rattle.mpy_compile.specs.Compiled.{CompilesTo}
+use Rattle.source_files.specs.mpy_compile.Compiled.{CompilesTo}
 use Rattle.library_files.specs.declared.entry.Entry as loading
 use Rattle.library_files.specs.declared.entry.Entry.TheVariants as entries
 use Rattle.library_files.specs.Asked.{asked_for}
@@ -20,7 +20,7 @@ use Rattle.library_files.specs.Comes.{FileComesTo, ModuleFiles, ComesTo, ending}
 use Rattle.source_files.specs.Sources.{stored, IsModuleOf, SourceComesTo}
 use Rattle.source_files.specs.Sources as compiled
 use Rattle.unit_files.specs.Readings.{IsReading}
-use Rattle.program_runs.specs.Units.{IsUnitFile, AreUnits}
+use Rattle.unit_files.specs.program_runs.Units.{IsUnitFile, AreUnits}
 use Rattle.program_sources.specs.Imported.{source_imports}
 use Rattle.program_sources.specs.Sources.{source_file, HoldsSource, IsProgramOfSources}
 use Rattle.program_sources.specs.Libraries.{IsOfSources, IsCrossed, IsAsked, by_main, by_found, AreCrossed, IsOfFiles}

@@ -19,7 +19,7 @@ use Rattle.library_files.specs.Comes.{OfNames}
 use Rattle.library_files.specs.Loads.{Loading, Loaded, Past, Unaccepted, Loads, main_name, limit_of, LoadsBy, LoadsWith}
 use Rattle.library_files.specs.Loads as files
 use Rattle.unit_files.specs.Readings.{IsReading}
-use Rattle.program_runs.specs.Units.{IsUnitFile, HasEntry, AreUnits}
+use Rattle.unit_files.specs.program_runs.Units.{IsUnitFile, HasEntry, AreUnits}
 use Rattle.program_sources.specs.Imported.{source_imports}
 use Rattle.source_files.specs.Sources.{stored}
 use Rattle.program_sources.specs.Sources.{HoldsSource, imports_with, with_source, LoadsSources, IsProgramOfSources}

@@ -7,7 +7,7 @@ use Rattle.pkg_paths.specs.Paths.{candidates}
 use Rattle.bc_library.specs.Shelf.{Shelf}
 use Rattle.py_meaning.specs.Tree.{Name}
 use Rattle.py_meaning.specs.Program.{Source}
-use Rattle.mpy_compile.specs.Compiled.{CompilesTo}
+use Rattle.source_files.specs.mpy_compile.Compiled.{CompilesTo}
 use Rattle.library_files.specs.Asked.{asked_for}
 use Rattle.library_files.specs.Comes.{ending}
 use Rattle.library_files.specs.Loads.{Loaded, LoadsFrom}

@@ -10,7 +10,7 @@ use Rattle.py_meaning.specs.Program.{Source, Single, Entry, Runs, entry_in, Prog
 use Rattle.library_files.specs.Asked.{asked_for}
 use Rattle.source_files.specs.Sources.{stored, source_ending}
 use Rattle.unit_files.specs.Readings.{IsReading}
-use Rattle.program_runs.specs.Runs.{MeansRun}
+use Rattle.unit_files.specs.program_runs.Runs.{MeansRun}
 use Rattle.program_sources.specs.Imported.{source_imports}
 
 -- the file of the name's source: that of a package before a plain one

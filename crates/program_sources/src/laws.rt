@@ -9,17 +9,16 @@ ghost use Rattle.bc_machine.specs.Machine.{run};
 ghost use Rattle.py_meaning.specs.Program.{Source, Program};
 ghost use Rattle.bc_translation.specs.Translation.{Translates};
 ghost use Rattle.library_files.specs.Imports.{imports_of};
-ghost use Rattle.vm_states.specs.Means as machine;
-ghost use Rattle.vm_programs.specs.Programs.{IsProgramOf};
-ghost use Rattle.program_runs.specs.Units.{AreUnits};
+ghost use Rattle.unit_files.specs.vm_states.Means as machine;
+ghost use Rattle.unit_files.specs.vm_programs.Programs.{IsProgramOf};
+ghost use Rattle.unit_files.specs.program_runs.Units.{AreUnits};
 ghost use Rattle.program_sources.specs.Imported.{source_imports};
 ghost use Rattle.program_sources.specs.Sources.{IsProgramOfSources, MeansSources};
 ghost use Rattle.program_sources.specs.Libraries.{IsOfSources, IsOfFiles};
 
 use bc_resolved::resolves_law;
-use program_runs::runs_law;
 use py_source::accepted_law;
-use unit_files::crossed_law;
+use unit_files::{crossed_law, runs_law};
 
 /// The translation of a source imports the names that the source does, in its order.
 pub fn imports_law()

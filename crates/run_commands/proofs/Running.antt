@@ -15,26 +15,26 @@ use Rattle.library_files.specs.declared.limit.LoadFault.{LoadFault}
 use Rattle.library_files.specs.declared.limit.LoadFault.TheVariants as faults
 use Rattle.library_files.specs.Ends.{EndsIn, FailsInBase, is_failed}
 use Rattle.library_files.specs.Loads.{Loading, LoadsFrom}
-use Rattle.image_runs.specs.declared.fault.MainFault.TheVariants as mains
+use Rattle.command_files.specs.image_runs.declared.fault.MainFault.TheVariants as mains
 use Rattle.frozen_faults.specs.declared.fault.SourcesFault.TheVariants as sources
 use Rattle.frozen_faults.specs.declared.fault.FrozenFault.TheVariants as frozen
 use Rattle.library_runs.specs.declared.ending.RunEnd.{RunEnd}
 use Rattle.library_runs.specs.declared.ending.RunEnd.TheVariants as ends
 use Rattle.library_runs.specs.Runs.{Sight, IsOver, RunsAs, is_write_fault, sight, speaks}
-use Rattle.mpy_endings.specs.declared.ending.BoardFault.TheVariants as boards
-use Rattle.mpy_endings.specs.declared.ending.Ending.{Ending}
-use Rattle.mpy_endings.specs.declared.ending.Ending.TheVariants.{Done, Unaccepted, Unread, Unverified, Unmerged, Unopened, Unfrozen, Unboarded, Stopped, ReadFault, WriteFault, Unwritten, NoMemory, Absent}
-use Rattle.mpy_endings.specs.declared.ending.Stop.TheVariants.{Past, LibraryFault, LibraryUnaccepted, Raised, Memory, Steps}
+use Rattle.command_files.specs.mpy_endings.declared.ending.BoardFault.TheVariants as boards
+use Rattle.command_files.specs.mpy_endings.declared.ending.Ending.{Ending}
+use Rattle.command_files.specs.mpy_endings.declared.ending.Ending.TheVariants.{Done, Unaccepted, Unread, Unverified, Unmerged, Unopened, Unfrozen, Unboarded, Stopped, ReadFault, WriteFault, Unwritten, NoMemory, Absent}
+use Rattle.command_files.specs.mpy_endings.declared.ending.Stop.TheVariants.{Past, LibraryFault, LibraryUnaccepted, Raised, Memory, Steps}
 use Rattle.run_commands.specs.Base.{base_of}
-use Rattle.mpy_endings.specs.Ending.{is_folder_fault, is_out_fault, is_said, status_of}
+use Rattle.command_files.specs.mpy_endings.Ending.{is_folder_fault, is_out_fault, is_said, status_of}
 use Rattle.command_files.specs.Folder.{MayHold}
-use Rattle.mpy_endings.specs.Line.{Puts, Says, line_of}
+use Rattle.command_files.specs.mpy_endings.Line.{Puts, Says, line_of}
 use Rattle.command_files.specs.Opened.{Opens, Refuses, failed_in}
 use Rattle.run_commands.specs.declared.ready.Ready.{Ready}
 use Rattle.command_files.specs.Outside.{Outside}
 use Rattle.run_commands.specs.Ready.{OpensMain}
 use Rattle.run_commands.specs.Run.{HoldsMain, LoadsOf, RefusesLibrary, IsUnloaded, Untouched, Runs, EndsRun, sight_in, load_end, ending_of}
-use Rattle.mpy_endings.proofs.Said.{says_from}
+use Rattle.command_files.proofs.mpy_endings_lemmas.Said.{says_from}
 use Rattle.command_files.proofs.Verifying.{opened_err}
 
 -- the main file

@@ -7,7 +7,10 @@ mod ready;
 mod run;
 
 pub use base::base_of;
-pub use command_files::read_file;
+pub use command_files::{
+    BoardFault, Ended, Ending, Stop, file_names, main_name, put_three, read_file, say_ending,
+    say_words, source_name, word_at,
+};
 pub use go::source_ready;
 pub use ready::Ready;
 pub use run::{begins_image, file_ready, run_loaded, run_ready};

@@ -6,8 +6,8 @@ use Rattle.mpy_base.specs.World.{PortState}
 use Rattle.port_set.specs.Counts.{AreAccounted}
 use Rattle.bc_library.specs.Shelf.{Shelf}
 use Rattle.bc_machine.specs.Library.{Name}
-use Rattle.vm_states.specs.Means.{Program}
-use Rattle.vm_programs.specs.Programs.{IsProgramOf}
+use Rattle.library_runs.specs.vm_states.Means.{Program}
+use Rattle.library_runs.specs.vm_programs.Programs.{IsProgramOf}
 use Rattle.library_runs.specs.declared.ending.RunEnd.{RunEnd}
 use Rattle.library_runs.specs.declared.ending.RunEnd.TheVariants as ends
 use Rattle.library_runs.specs.Runs.{Sight, IsOver, Ran, EndsSo, RunsAs, RunsSo}

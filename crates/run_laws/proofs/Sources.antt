@@ -6,7 +6,7 @@ use Rattle.mpy_tree.specs.Raw.{Module}
 use Rattle.mpy_tree.specs.File.{IsFile}
 use Rattle.pkg_paths.specs.Finds.{NamedFile, first_there}
 use Rattle.pkg_paths.specs.Paths.{candidates}
-use Rattle.mpy_compile.specs.Compiled.{CompilesTo, IsFault}
+use Rattle.source_files.specs.mpy_compile.Compiled.{CompilesTo, IsFault}
 use Rattle.library_files.specs.declared.entry.Entry.{Entry}
 use Rattle.library_files.specs.declared.entry.Entry.TheVariants as entries
 use Rattle.library_files.specs.declared.limit.UnacceptedSource.{UnacceptedSource}

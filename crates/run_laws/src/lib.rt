@@ -15,8 +15,8 @@ ghost use Rattle.run_laws.specs.Alike.{Tells, IsWholeRun, AreAlike};
 
 use library_files::imports_law;
 use library_runs::accounted_law;
-use mpy_compile::compile_law;
 use mpy_reader::file_law;
+use source_files::compile_law;
 
 /// A source has one module of one size at most, and from a main module and sources loading ends in one way.
 pub fn sources_law()

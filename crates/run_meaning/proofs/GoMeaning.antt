@@ -6,7 +6,7 @@ use Rattle.mpy_io.specs.Files.{FileOf}
 use Rattle.mpy_io.specs.Ports.{PortView}
 use Rattle.bc_library.specs.Shelf.{Shelf}
 use Rattle.py_meaning.specs.Program.{Program}
-use Rattle.program_runs.specs.Units.{AreUnits}
+use Rattle.mpy_headline.specs.program_runs.Units.{AreUnits}
 use Rattle.file_commands.specs.mpy_compile.Compiled.{CompilesTo}
 use Rattle.mpy_tree.specs.File.{IsFile}
 use Rattle.mpy_tree.specs.Raw.{Module}
@@ -14,11 +14,11 @@ use Rattle.library_files.specs.Loads.{Loaded, main_name}
 use Rattle.file_commands.specs.source_files.Sources.{stored}
 use Rattle.program_sources.specs.Sources.{IsProgramOfSources}
 use Rattle.program_sources.specs.Libraries.{IsOfSources, IsOfFiles}
-use Rattle.mpy_endings.specs.declared.ending.Ending.{Ending}
-use Rattle.mpy_endings.specs.declared.ending.Ending.TheVariants.{Done, Unaccepted, Unread, Unverified, Unmerged, Unopened, Unfrozen, Unboarded, Stopped, ReadFault, WriteFault, Unwritten, NoMemory, Absent}
-use Rattle.mpy_endings.specs.declared.ending.Stop.TheVariants as stops
+use Rattle.file_commands.specs.mpy_endings.declared.ending.Ending.{Ending}
+use Rattle.file_commands.specs.mpy_endings.declared.ending.Ending.TheVariants.{Done, Unaccepted, Unread, Unverified, Unmerged, Unopened, Unfrozen, Unboarded, Stopped, ReadFault, WriteFault, Unwritten, NoMemory, Absent}
+use Rattle.file_commands.specs.mpy_endings.declared.ending.Stop.TheVariants as stops
 use Rattle.run_commands.specs.Base.{base_of}
-use Rattle.mpy_endings.specs.Ending.{status_of}
+use Rattle.file_commands.specs.mpy_endings.Ending.{status_of}
 use Rattle.run_commands.specs.Go.{SourceLoadsOf}
 use Rattle.run_commands.specs.Ready.{GoLibrary, RunLibrary}
 use Rattle.run_meaning.specs.Meant.{IsRunStatus, HoldsProgram, RunMeans}

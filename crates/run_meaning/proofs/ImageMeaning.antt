@@ -3,11 +3,11 @@ use Rattle.std.proofs.Common.{◌≡◌, ℕ, true, false, List, Option, Some, O
 use Rattle.mpy_io.specs.Files.{FileOf}
 use Rattle.bc_library.specs.Shelf.{Shelf}
 use Rattle.py_meaning.specs.Program.{Program}
-use Rattle.program_runs.specs.Units.{AreUnits}
+use Rattle.mpy_headline.specs.program_runs.Units.{AreUnits}
 use Rattle.image_commands.specs.frozen_files.Frozen.{HoldsFrozen}
-use Rattle.image_runs.specs.Main.{HoldsMain}
+use Rattle.frozen_programs.specs.image_runs.Main.{HoldsMain}
 use Rattle.frozen_programs.specs.Programs.{IsProgramOfManifest}
-use Rattle.mpy_endings.specs.declared.ending.Ending.TheVariants.{Done}
+use Rattle.file_commands.specs.mpy_endings.declared.ending.Ending.TheVariants.{Done}
 use Rattle.run_commands.specs.declared.ready.Ready.{Ready}
 use Rattle.image_commands.specs.Freeze.{Freezes}
 use Rattle.run_meaning.specs.Meant.{HoldsProgram, HoldsImage}

@@ -5,9 +5,9 @@ use Rattle.mpy_tree.specs.File.{IsFile}
 use Rattle.mpy_tree.specs.Raw.{Module}
 use Rattle.py_meaning.specs.Program.{Source, Unit, Units, Part, Parts}
 use Rattle.file_commands.specs.mpy_compile.Compiled.{CompilesTo}
-use Rattle.unit_files.specs.Readings.{IsReading}
+use Rattle.built_files.specs.unit_files.Readings.{IsReading}
 use Rattle.built_files.specs.Built.{crossed, merged, AreBuilt, last, next}
-use Rattle.mpy_endings.specs.declared.ending.Ending.TheVariants.{Done}
+use Rattle.file_commands.specs.mpy_endings.declared.ending.Ending.TheVariants.{Done}
 use Rattle.file_commands.specs.Cross.{Crosses}
 use Rattle.file_commands.specs.command_files.Opened.{HoldsModule}
 use Rattle.file_commands.specs.Merge.{HoldModules, Merges}

@@ -12,21 +12,21 @@ use Rattle.bc_library.specs.Shelf.{Shelf}
 use Rattle.py_values.specs.Shown.{PlainHeap}
 use Rattle.py_effects.specs.Ends.{End, Open, Ended, Raised, Memory, end_report}
 use Rattle.py_meaning.specs.Program.{Unit, Program}
-use Rattle.vm_reports.specs.Rooms.{room_line}
-use Rattle.program_runs.specs.Units.{AreUnits}
+use Rattle.mpy_headline.specs.vm_reports.Rooms.{room_line}
+use Rattle.mpy_headline.specs.program_runs.Units.{AreUnits}
 use Rattle.library_files.specs.Loads.{Loaded, LoadsFrom, main_name}
 use Rattle.run_commands.specs.library_runs.declared.ending.RunEnd.{RunEnd}
 use Rattle.run_commands.specs.library_runs.declared.ending.RunEnd.TheVariants as ends
 use Rattle.run_commands.specs.library_runs.Runs.{Sight, RunsAs, end_of, said_of}
 use Rattle.mpy_headline.specs.Meant.{RanAsMeant, CutShortAsMeant, EndsAsMeant}
 use Rattle.built_files.specs.Built.{IsBuilt, IsBuiltProgram}
-use Rattle.mpy_endings.specs.declared.ending.Ending.{Ending}
-use Rattle.mpy_endings.specs.declared.ending.Ending.TheVariants.{Done, Unaccepted, Unread, Unverified, Unmerged, Unopened, Unfrozen, Unboarded, Stopped, ReadFault, WriteFault, Unwritten, NoMemory, Absent}
-use Rattle.image_runs.specs.declared.fault.MainFault.TheVariants as mains
-use Rattle.mpy_endings.specs.declared.ending.Stop.TheVariants as stops
+use Rattle.file_commands.specs.mpy_endings.declared.ending.Ending.{Ending}
+use Rattle.file_commands.specs.mpy_endings.declared.ending.Ending.TheVariants.{Done, Unaccepted, Unread, Unverified, Unmerged, Unopened, Unfrozen, Unboarded, Stopped, ReadFault, WriteFault, Unwritten, NoMemory, Absent}
+use Rattle.frozen_programs.specs.image_runs.declared.fault.MainFault.TheVariants as mains
+use Rattle.file_commands.specs.mpy_endings.declared.ending.Stop.TheVariants as stops
 use Rattle.run_commands.specs.Base.{base_of}
-use Rattle.mpy_endings.specs.Ending.{status_of}
-use Rattle.mpy_endings.specs.Line.{Says, line_of}
+use Rattle.file_commands.specs.mpy_endings.Ending.{status_of}
+use Rattle.file_commands.specs.mpy_endings.Line.{Says, line_of}
 use Rattle.file_commands.specs.command_files.Outside.{Outside}
 use Rattle.run_commands.specs.Ready.{RunLibrary, not_read, of_file, of_image, begins_image}
 use Rattle.run_commands.specs.Run.{FileLibrary, RanLibrary, Runs, EndsRun, ending_of, sight_in}

@@ -2,7 +2,7 @@
 use Rattle.std.specs.Prelude.{◌≡◌, ℕ, List, [], ◌∷◌, Option, Some}
 use Rattle.mpy_io.specs.Files.{FileOf}
 use Rattle.py_meaning.specs.Program.{Source, Unit, Single, Merge, Units, Part, Parts}
-use Rattle.unit_files.specs.Readings.{IsReading}
+use Rattle.built_files.specs.unit_files.Readings.{IsReading}
 use Rattle.built_files.specs.Built.{IsBuilt}
 
 -- the file under the name is made of the unit, by compiling and merging

@@ -13,16 +13,16 @@ use Rattle.py_values.specs.Shown.{PlainHeap}
 use Rattle.py_effects.specs.Ends.{End, Open, Ended, Raised, Memory, Run, end_report}
 use Rattle.py_meaning.specs.Program.{Program}
 use Rattle.py_meaning.specs.Meaning.{meaning}
-use Rattle.vm_reports.specs.Rooms.{room_line}
-use Rattle.program_runs.specs.Units.{AreUnits}
-use Rattle.program_runs.specs.Runs.{MeansRun}
+use Rattle.mpy_headline.specs.vm_reports.Rooms.{room_line}
+use Rattle.mpy_headline.specs.program_runs.Units.{AreUnits}
+use Rattle.mpy_headline.specs.program_runs.Runs.{MeansRun}
 use Rattle.image_commands.specs.frozen_files.Frozen.{HoldsFrozen}
 use Rattle.library_files.specs.Loads.{Loaded}
 use Rattle.built_files.specs.Built.{IsBuilt, IsBuiltProgram}
-use Rattle.mpy_endings.specs.declared.ending.Ending.{Ending}
+use Rattle.file_commands.specs.mpy_endings.declared.ending.Ending.{Ending}
 use Rattle.run_commands.specs.declared.ready.Ready.{Ready}
 use Rattle.run_commands.specs.Base.{base_of}
-use Rattle.mpy_endings.specs.Line.{Says}
+use Rattle.file_commands.specs.mpy_endings.Line.{Says}
 use Rattle.file_commands.specs.command_files.Outside.{Outside}
 use Rattle.run_commands.specs.Run.{LoadsOf}
 

@@ -6,7 +6,7 @@ ghost use Rattle.mpy_io.specs.Files.{FileOf};
 ghost use Rattle.mpy_io.specs.Ports.{PortView};
 ghost use Rattle.py_meaning.specs.Program.{Program, Units};
 ghost use Rattle.file_commands.specs.Cross.{Crosses};
-ghost use Rattle.mpy_endings.specs.declared.ending.Ending.TheVariants.{Done};
+ghost use Rattle.file_commands.specs.mpy_endings.declared.ending.Ending.TheVariants.{Done};
 ghost use Rattle.program_sources.specs.Sources.{IsProgramOfSources};
 ghost use Rattle.run_commands.specs.Base.{base_of};
 ghost use Rattle.run_commands.specs.declared.ready.Ready.{Ready};
@@ -20,10 +20,10 @@ ghost use Rattle.run_commands.specs.Ready.{GoLibrary, RunLibrary};
 ghost use Rattle.run_commands.specs.Run.{EndsRun};
 ghost use Rattle.frozen_programs.specs.Programs.{IsProgramOfManifest};
 
+use built_files::crossed_law;
 use frozen_programs::frozen_law;
 use mpy_headline::meant_law;
 use program_sources::{files_law, sources_law};
-use unit_files::crossed_law;
 
 /// A run of a file or an image, and of a source, does as each program means whose units its library has.
 pub fn run_means_law()

@@ -11,9 +11,9 @@ use Rattle.py_source.specs.declared.source.Accepted.{Accepted}
 use Rattle.py_source.specs.Source as sources
 use Rattle.py_meaning.specs.Meaning.{source_of}
 use Rattle.bc_translation.specs.Translation.{Translates}
-use Rattle.tr_source.specs.Accepted.{IsAccepted}
-use Rattle.emit_module.specs.First.{AreWithin}
-use Rattle.emit_module.specs.Module.{IsResolved}
+use Rattle.mpy_compile.specs.tr_source.Accepted.{IsAccepted}
+use Rattle.mpy_compile.specs.emit_module.First.{AreWithin}
+use Rattle.mpy_compile.specs.emit_module.Module.{IsResolved}
 use Rattle.mpy_compile.specs.Compiled.{CompilesTo}
 use Rattle.library_files.specs.Comes.{IsVerifiedFile}
 

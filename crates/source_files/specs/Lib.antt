@@ -1,1 +1,2 @@
+pub use Rattle.mpy_compile.specs as mpy_compile
 pub mod Sources

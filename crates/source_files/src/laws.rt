@@ -5,8 +5,7 @@ ghost use Rattle.mpy_tree.specs.Raw.{Module};
 ghost use Rattle.mpy_compile.specs.Compiled.{CompilesTo};
 ghost use Rattle.library_files.specs.Comes.{IsVerifiedFile};
 
-use emit_module::resolved_law;
-use emit_within::within_law;
+use mpy_compile::{resolved_law, within_law};
 use py_source::asked_law;
 use tr_source;
 
@@ -17,5 +16,5 @@ pub fn compiled_law()
     asked_law();
     resolved_law();
     within_law();
-    tr_source::compiled_law();
+    mpy_compile::compiled_law();
 }

@@ -3,7 +3,7 @@
 ghost use Rattle.std.specs.Prelude.{◌≡◌, ◌<◌, length, IfOk, IfSome};
 ghost use Rattle.mpy_tree.specs.Raw.{Module};
 ghost use Rattle.library_files.specs.Ends.{BeginsWith, HoldsModules};
-ghost use Rattle.vm_programs.specs.Programs.{IsRunnable};
+ghost use Rattle.vm_machine.specs.vm_programs.Programs.{IsRunnable};
 ghost use Rattle.vm_machine.specs.Machine.{IsVm};
 
 use crate::program::Program;
@@ -17,9 +17,7 @@ use mpy_reader::read;
 use port_set::PortSet;
 use std::alloc::Global;
 use std::mem;
-use vm_machine::{open, run, used};
-use vm_starting::Vm;
-use vm_unwinding::End;
+use vm_machine::{End, Vm, open, run, used};
 
 /// The greatest count of steps that are paid on an instruction, for which a run goes on.
 const MOST_PAID: u64 = 1 << 62;

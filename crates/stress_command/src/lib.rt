@@ -4,4 +4,8 @@
 mod making;
 mod running;
 
+pub use run_commands::{
+    BoardFault, Ended, Ending, Stop, file_names, main_name, say_ending, say_words, source_name,
+    word_at,
+};
 pub use running::stress;

@@ -1,10 +1,10 @@
 //! The made source and its library.
 
 ghost use Rattle.std.specs.Prelude.{◌≡◌, ◌≤◌, ◌⊎◌, [], ◌∷◌, false, length, IfOk, IfErr, Ok, Err, Some};
-ghost use Rattle.mpy_endings.specs.declared.ending.Ending.TheVariants.{NoMemory as WithoutMemory};
-ghost use Rattle.mpy_endings.specs.Ending.{is_folder_fault};
+ghost use Rattle.run_commands.specs.mpy_endings.declared.ending.Ending.TheVariants.{NoMemory as WithoutMemory};
+ghost use Rattle.run_commands.specs.mpy_endings.Ending.{is_folder_fault};
 ghost use Rattle.mpy_tree.specs.Raw.{Module};
-ghost use Rattle.image_runs.specs.Main.{IsMainAt};
+ghost use Rattle.run_commands.specs.image_runs.Main.{IsMainAt};
 ghost use Rattle.library_files.specs.Ends.{HoldsModules};
 ghost use Rattle.stress_source.specs.Source.{stress_text};
 ghost use Rattle.mpy_io.specs.Memory.{file_of};
@@ -14,9 +14,8 @@ ghost use Rattle.run_commands.specs.Run.{IsUnloaded};
 ghost use Rattle.stress_command.specs.Stress.{HasCodes, most_assignments, stress_files, stress_name};
 
 use mpy_base::NoMemory;
-use mpy_endings::Ending;
 use mpy_io::{Folder, MemFolder};
-use run_commands::{Ready, source_ready};
+use run_commands::{Ending, Ready, source_ready};
 use std::alloc::Global;
 use stress_source::stress_source;
 

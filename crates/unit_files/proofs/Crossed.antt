@@ -14,9 +14,9 @@ use Rattle.py_meaning.specs.Program.{Source, Single}
 use Rattle.py_meaning.specs.Meaning.{source_of}
 use Rattle.bc_translation.specs.Link.{translated}
 use Rattle.bc_translation.specs.Translation.{Translates}
-use Rattle.tr_source.specs.Accepted.{IsAccepted}
-use Rattle.emit_module.specs.First.{AreWithin}
-use Rattle.emit_module.specs.Module.{IsResolved}
+use Rattle.mpy_compile.specs.tr_source.Accepted.{IsAccepted}
+use Rattle.mpy_compile.specs.emit_module.First.{AreWithin}
+use Rattle.mpy_compile.specs.emit_module.Module.{IsResolved}
 use Rattle.mpy_compile.specs.Compiled.{CompilesTo}
 use Rattle.program_runs.specs.Units.{IsUnitFile}
 use Rattle.unit_files.specs.Readings.{IsReading}

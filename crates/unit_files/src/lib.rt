@@ -12,11 +12,9 @@ ghost use Rattle.program_runs.specs.Units.{IsUnitFile, AreUnitFiles};
 ghost use Rattle.unit_files.specs.Readings.{IsReading};
 
 use bc_resolved::resolves_law;
-use emit_module::resolved_law;
-use emit_within::within_law;
+use mpy_compile::{compiled_law, resolved_law, within_law};
 use mpy_reader::file_law;
 use py_source::{accepted_law, asked_law};
-use tr_source::compiled_law;
 
 /// What a source compiles to under a stored name is a file, and one of the unit that the source is read as. Its module is
 /// verified, so that nothing that reads and verifies files refuses it.
@@ -45,3 +43,5 @@ pub fn merged_law()
     file_law();
     resolves_law();
 }
+
+pub use program_runs::{program_law, runs_law};

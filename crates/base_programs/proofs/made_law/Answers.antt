@@ -1,4 +1,4 @@
-use Rattle.image_freeze.specs.Frozen.{entries_of}
+use Rattle.image_migrate.specs.image_freeze.Frozen.{entries_of}
 use Rattle.image_open.specs.Opens.{shelf_of}
 use Rattle.base_programs.proofs.Libraries.{Images, opens_again}
 use Rattle.base_programs.proofs.made_law.Goals as goal

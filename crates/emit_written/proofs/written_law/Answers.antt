@@ -1,4 +1,4 @@
-use Rattle.emit_module.specs.Module.{source_of}
+use Rattle.emit_within.specs.emit_module.Module.{source_of}
 use Rattle.emit_written.proofs.Whole.{written, all_short}
 use Rattle.emit_written.proofs.written_law.Goals as goal
 

@@ -1,6 +1,6 @@
 use Rattle.std.proofs.Common.{subst}
 use Rattle.py_meaning.specs.Program.{Program}
-use Rattle.program_runs.specs.Units.{AreUnits}
+use Rattle.unit_files.specs.program_runs.Units.{AreUnits}
 use Rattle.program_sources.proofs.Loaded.{Below}
 use Rattle.program_sources.proofs.Follows.{Crosses, of_files_units}
 use Rattle.program_sources.proofs.laws.files_law.Goals as goal

@@ -1,7 +1,7 @@
 use Rattle.std.proofs.Common.{subst}
 use Rattle.bc_machine.specs.Library.{Name}
 use Rattle.bc_machine.specs.Machine.{run}
-use Rattle.program_runs.specs.Runs.{MeansRun}
+use Rattle.unit_files.specs.program_runs.Runs.{MeansRun}
 use Rattle.program_sources.proofs.laws.means_law.Goals as goal
 
 pub returns-clause-of_sources : goal.returns-clause-of_sources

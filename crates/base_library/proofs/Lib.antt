@@ -1,0 +1,1 @@
+pub use Rattle.command_files.proofs as command_files_lemmas
