@@ -16,7 +16,7 @@ use bc_resolved::resolves_law;
 use bc_verified::{file_law as texts_law, raw_law, tree_law};
 use mpy_reader::file_law;
 use tr_verified::merge_law;
-use unit_files::{crossed_law, merged_law};
+use unit_files::merged_law;
 
 /// What is made of a unit, by compiling and merging, is a file of the unit, and verified, so that nothing that reads and verifies
 /// files refuses it.

@@ -13,7 +13,7 @@ ghost use Rattle.bc_verified.specs.Verified.{IsVerifiedTree};
 ghost use Rattle.tr_source.specs.Accepted.{IsAccepted};
 
 use emit_limits::within_law as text_law;
-use tr_source::{accepted_law, limits_law};
+use tr_source::accepted_law;
 
 /// A formed and faultless tree of whose texts none passes a limit is one that translations ask for.
 pub fn within_law()

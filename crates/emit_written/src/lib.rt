@@ -15,7 +15,7 @@ ghost use Rattle.emit_within.specs.emit_module.First.{AreWithin};
 ghost use Rattle.emit_within.specs.emit_module.Module.{source_of, IsTranslated};
 
 use emit_counts::lengths_law;
-use emit_within::{limits_law, module_law, within_law};
+use emit_within::limits_law;
 use py_spelled::spelled_law;
 
 /// The module of an accepted source of whose texts none passes a limit is one that may be written, where its stored name is ASCII,

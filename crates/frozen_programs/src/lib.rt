@@ -17,7 +17,7 @@ ghost use Rattle.frozen_programs.specs.Programs.{IsProgramOfManifest, MeansManif
 use frozen_files::freeze_law;
 use image_open::image_law;
 use manifest_files::entries_law;
-use unit_files::{crossed_law, runs_law};
+use unit_files::runs_law;
 
 /// The image of a manifest's sources, where it has a module of the name `main`: the sources have a program of which that is the main
 /// unit, and the library that the image is opened as has its units.

@@ -10,7 +10,7 @@ ghost use Rattle.mpy_writer.specs.Writable.{IsShallow, IsWritable};
 ghost use Rattle.mpy_fits.specs.Texts.{TextsFit};
 ghost use Rattle.mpy_compile.specs.Compiled.{IsCompiled, CompilesTo, IsFault, Compiles, Files};
 
-use emit_written::{emit, faults_law, module_law, within_law, written_law};
+use emit_written::{emit, faults_law, module_law, written_law};
 use mpy_base::{Refused, SourceFault};
 use mpy_fits::texts_fit;
 use mpy_tree::ModuleCode;

@@ -19,7 +19,6 @@ use bc_machine::{ended_law as machine_ended_law, prefix_law as machine_prefix_la
 use bc_resolved::resolves_law;
 use py_meaning::{ended_law, prefix_law};
 use sim_stmt::behaves_law;
-use vm_programs::program_law;
 
 /// The machine's library of a library of a program's files has the program's modules.
 pub fn links_law()
