@@ -1,11 +1,13 @@
 //! The clauses of a compound statement.
 
-ghost use Rattle.std.specs.Prelude.{◌≡◌, ◌∷◌, IfOk};
+ghost use Rattle.std.specs.Prelude.{◌≡◌, ◌∷◌, ◌++◌, [], IfOk, Some};
 ghost use Rattle.std.specs.Option.{option_copied};
 ghost use Rattle.py_expressions.specs.Input.{seen};
+ghost use Rattle.py_tree.specs.declared.stmt.StmtKind.TheVariants as kinds;
 ghost use Rattle.py_parser.specs.Clauses as spec;
 
 use mpy_base::{Items, NoMemory, Text};
+use py_expressions::release;
 use py_tokens::{Tok, Word};
 use py_tree::{Branch, Expr, Handler, Param, Stmt, StmtKind, Target};
 use std::alloc::Global;
@@ -150,6 +152,70 @@ pub(crate) fn no_parts(alloc: Global) -> Parts
     }
 }
 
+/// The parts with one branch more.
+fn with_branch(one: Branch, mut parts: Parts) -> Result<Parts, NoMemory>
+    ensures { IfOk result (λ more. more ≡ record parts { branches = parts.branches ++ one ∷ [] }) }
+{
+    match parts.branches.push(one) {
+        Ok(()) => Ok(parts),
+        Err(error) => {
+            release(parts);
+            Err(error)
+        }
+    }
+}
+
+/// The parts with one handler more.
+fn with_handler(one: Handler, mut parts: Parts) -> Result<Parts, NoMemory>
+    ensures { IfOk result (λ more. more ≡ record parts { handlers = parts.handlers ++ one ∷ [] }) }
+{
+    match parts.handlers.push(one) {
+        Ok(()) => Ok(parts),
+        Err(error) => {
+            release(parts);
+            Err(error)
+        }
+    }
+}
+
+/// The parts with this body of an `else`.
+fn with_rest(body: Items<Stmt>, parts: Parts) -> Parts
+    ensures { result ≡ record parts { rest = body } }
+{
+    let Parts {
+        branches,
+        handlers,
+        rest,
+        last,
+    } = parts;
+    release(rest);
+    Parts {
+        branches,
+        handlers,
+        rest: body,
+        last,
+    }
+}
+
+/// The parts with this body of a `finally`.
+fn with_last(body: Items<Stmt>, parts: Parts) -> Parts
+    ensures { result ≡ record parts { last = Some body } }
+{
+    let Parts {
+        branches,
+        handlers,
+        rest,
+        last,
+    } = parts;
+    release(last);
+    Parts {
+        branches,
+        handlers,
+        rest,
+        last: Some(body),
+    }
+}
+
 /// The parts with one clause more, whose word stands in that line.
 pub(crate) fn with_clause(
     line: u32,
@@ -159,29 +225,20 @@ pub(crate) fn with_clause(
 ) -> Result<Parts, NoMemory>
     ensures { IfOk result (λ more. more ≡ spec.with_clause line header body parts) }
 {
-    let Parts {
-        mut branches,
-        mut handlers,
-        mut rest,
-        mut last,
-    } = parts;
     match header {
-        Header::Elif(test) => branches.push(Branch { line, test, body })?,
-        Header::Else => rest = body,
-        Header::Except { test, name } => handlers.push(Handler {
-            line,
-            test,
-            name,
-            body,
-        })?,
-        Header::Finally => last = Some(body),
+        Header::Elif(test) => with_branch(Branch { line, test, body }, parts),
+        Header::Else => Ok(with_rest(body, parts)),
+        Header::Except { test, name } => {
+            let one = Handler {
+                line,
+                test,
+                name,
+                body,
+            };
+            with_handler(one, parts)
+        }
+        Header::Finally => Ok(with_last(body, parts)),
     }
-    Ok(Parts {
-        branches,
-        handlers,
-        rest,
-        last,
-    })
 }
 
 /// The branch in front of the others.
@@ -193,6 +250,62 @@ fn in_front(first: Branch, others: Items<Branch>) -> Result<Items<Branch>, NoMem
     Ok(Items::from_vec(all))
 }
 
+/// The body of the `else`; no other part is kept.
+fn rest_of(parts: Parts) -> Items<Stmt>
+    ensures { result ≡ parts.rest }
+{
+    let Parts {
+        branches,
+        handlers,
+        rest,
+        last,
+    } = parts;
+    release(branches);
+    release(handlers);
+    release(last);
+    rest
+}
+
+/// An `if` of its first branch and the parts behind it.
+fn if_of(first: Branch, parts: Parts) -> Result<StmtKind, NoMemory>
+    ensures { IfOk result (λ kind. kind ≡ kinds.If (first ∷ parts.branches) parts.rest) }
+{
+    let Parts {
+        branches,
+        handlers,
+        rest,
+        last,
+    } = parts;
+    release(handlers);
+    release(last);
+    match in_front(first, branches) {
+        Ok(branches) => Ok(StmtKind::If { branches, rest }),
+        Err(error) => {
+            release(rest);
+            Err(error)
+        }
+    }
+}
+
+/// A `try` of its body and the parts behind it.
+fn try_of(body: Items<Stmt>, parts: Parts) -> StmtKind
+    ensures { result ≡ kinds.Try body parts.handlers parts.rest parts.last }
+{
+    let Parts {
+        branches,
+        handlers,
+        rest,
+        last,
+    } = parts;
+    release(branches);
+    StmtKind::Try {
+        body,
+        handlers,
+        rest,
+        last,
+    }
+}
+
 /// The statement of these clauses, whose first word stands in that line.
 pub(crate) fn kind_of(
     line: u32,
@@ -202,30 +315,25 @@ pub(crate) fn kind_of(
 ) -> Result<StmtKind, NoMemory>
     ensures { IfOk result (λ kind. kind ≡ spec.kind_of line head body parts) }
 {
-    let Parts {
-        branches,
-        handlers,
-        rest,
-        last,
-    } = parts;
     match head {
-        Head::If(test) => {
-            let branches = in_front(Branch { line, test, body }, branches)?;
-            Ok(StmtKind::If { branches, rest })
+        Head::If(test) => if_of(Branch { line, test, body }, parts),
+        Head::While(test) => {
+            let rest = rest_of(parts);
+            Ok(StmtKind::While { test, body, rest })
         }
-        Head::While(test) => Ok(StmtKind::While { test, body, rest }),
-        Head::For { target, over } => Ok(StmtKind::For {
-            target,
-            over,
-            body,
-            rest,
-        }),
-        Head::Try => Ok(StmtKind::Try {
-            body,
-            handlers,
-            rest,
-            last,
-        }),
-        Head::Def { name, params } => Ok(StmtKind::Def { name, params, body }),
+        Head::For { target, over } => {
+            let rest = rest_of(parts);
+            Ok(StmtKind::For {
+                target,
+                over,
+                body,
+                rest,
+            })
+        }
+        Head::Try => Ok(try_of(body, parts)),
+        Head::Def { name, params } => {
+            release(parts);
+            Ok(StmtKind::Def { name, params, body })
+        }
     }
 }

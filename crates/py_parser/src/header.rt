@@ -14,7 +14,7 @@ ghost use Rattle.py_parser.specs.Reading as spec;
 
 use crate::clause::{Head, Header};
 use mpy_base::{Items, Refused, Text};
-use py_expressions::{Cursor, Mark, Syntax, read_targets, read_test, read_tests};
+use py_expressions::{Cursor, Mark, Syntax, read_targets, read_test, read_tests, release};
 use py_tokens::{Op, Tok, Word};
 use py_tree::{Expr, Param, Target};
 use std::alloc::Global;
@@ -35,8 +35,7 @@ fn condition(alloc: Global, tokens: &mut Cursor<'_>) -> Result<Expr, Refused<Syn
 {
     tokens.take();
     let test = read_test(alloc, tokens)?;
-    tokens.expect(Mark::Op(Op::Colon))?;
-    Ok(test)
+    tokens.closed(Mark::Op(Op::Colon), test)
 }
 
 /// What a `for` goes over: `in`, tests and a colon.
@@ -46,8 +45,7 @@ fn iterable(alloc: Global, tokens: &mut Cursor<'_>) -> Result<Expr, Refused<Synt
 {
     tokens.expect(Mark::Word(Word::In))?;
     let over = read_tests(alloc, tokens)?;
-    tokens.expect(Mark::Op(Op::Colon))?;
-    Ok(over)
+    tokens.closed(Mark::Op(Op::Colon), over)
 }
 
 /// The header of a `for`, if what it goes over was read.
@@ -56,7 +54,10 @@ fn for_over(target: Target, over: Result<Expr, Refused<Syntax>>) -> Result<Head,
 {
     match over {
         Ok(over) => Ok(Head::For { target, over }),
-        Err(error) => Err(error),
+        Err(error) => {
+            release(target);
+            Err(error)
+        }
     }
 }
 
@@ -243,13 +244,14 @@ fn naming(alloc: Global, tokens: &mut Cursor<'_>) -> Result<Option<Text>, Refuse
 fn catching(alloc: Global, tokens: &mut Cursor<'_>) -> Result<Header, Refused<Syntax>>
     ensures { Reads (spec.catching (input_of tokens.old)) result tokens.new }
 {
-    let test = read_test(alloc, tokens)?;
-    let name = naming(alloc, tokens)?;
-    tokens.expect(Mark::Op(Op::Colon))?;
-    Ok(Header::Except {
-        test: Some(test),
-        name,
-    })
+    let test = Some(read_test(alloc, tokens)?);
+    match naming(alloc, tokens) {
+        Ok(name) => tokens.closed(Mark::Op(Op::Colon), Header::Except { test, name }),
+        Err(refused) => {
+            release(test);
+            Err(refused)
+        }
+    }
 }
 
 /// Reads `"except" [ test [ "as" NAME ] ] ":"`.

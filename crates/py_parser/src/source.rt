@@ -17,7 +17,7 @@ ghost use Rattle.py_parser.specs.Parsed.{ReadsAll, fault_of, IsFault, IsEnded};
 
 use crate::stmt::{append, mark, stmt};
 use mpy_base::{Items, Refused, SourceCode, SourceFault, Text};
-use py_expressions::{Cursor, Mark, Syntax};
+use py_expressions::{Cursor, Mark, Syntax, release};
 use py_nest::nest_fault;
 use py_tokens::Token;
 use py_tree::{Module, Stmt};
@@ -52,6 +52,7 @@ fn file_from(
         append(&mut found, some)?;
         mark(tokens);
     }
+    release(found);
     Err(tokens.refuse())
 }
 

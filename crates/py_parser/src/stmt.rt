@@ -16,13 +16,13 @@ use crate::clause::{
 };
 use crate::header::{first, later};
 use mpy_base::{Items, NoMemory, Refused};
-use py_expressions::{Cursor, Mark, Syntax};
+use py_expressions::{Cursor, Mark, Syntax, release};
 use py_statements::read_line;
 use py_tree::Stmt;
 use std::alloc::Global;
 
-/// Adds the statements.
-pub(crate) fn append(found: &mut Items<Stmt>, some: Items<Stmt>) -> Result<(), NoMemory>
+/// Adds the items.
+pub(crate) fn append<T: Drop>(found: &mut Items<T>, some: Items<T>) -> Result<(), NoMemory>
     ensures { OnOk result (found.new ≡ found.old ++ some) }
 {
     for one in some.into_vec() {
@@ -31,8 +31,8 @@ pub(crate) fn append(found: &mut Items<Stmt>, some: Items<Stmt>) -> Result<(), N
     Ok(())
 }
 
-/// The list of this one statement.
-fn only(alloc: Global, one: Stmt) -> Result<Items<Stmt>, NoMemory>
+/// The list of this one item.
+fn only<T: Drop>(alloc: Global, one: T) -> Result<Items<T>, NoMemory>
     ensures { IfOk result (λ all. all ≡ one ∷ []) }
 {
     let mut all = Items::new(alloc);
@@ -73,6 +73,7 @@ fn ended(tokens: &Cursor<'_>, stage: Stage, parts: Parts) -> Result<Parts, Refus
     if may_end(stage) {
         Ok(parts)
     } else {
+        release(parts);
         Err(tokens.refuse())
     }
 }
@@ -91,7 +92,10 @@ fn made(
             let kind = kind_of(line, head, body, parts)?;
             Ok(Stmt { line, kind })
         }
-        Err(refused) => Err(refused),
+        Err(refused) => {
+            release(head);
+            Err(refused)
+        }
     }
 }
 
@@ -127,6 +131,7 @@ impl<F: Fn(Global, &mut Cursor<'_>, usize) -> Result<Items<Stmt>, Refused<Syntax
                 return Ok(found);
             }
         }
+        release(found);
         Err(tokens.refuse())
     }
 
@@ -166,8 +171,21 @@ impl<F: Fn(Global, &mut Cursor<'_>, usize) -> Result<Items<Stmt>, Refused<Syntax
         ensures { Reads (spec.one_clause (spec.stmt self.now.depth) stage parts (input_of tokens.old)) result tokens.new }
     {
         let line = line(tokens);
-        let header = later(self.alloc, tokens)?;
-        let body = self.suite(tokens)?;
+        let header = match later(self.alloc, tokens) {
+            Ok(header) => header,
+            Err(refused) => {
+                release(parts);
+                return Err(refused);
+            }
+        };
+        let body = match self.suite(tokens) {
+            Ok(body) => body,
+            Err(refused) => {
+                release(header);
+                release(parts);
+                return Err(refused);
+            }
+        };
         let next = behind(stage, &header);
         let parts = with_clause(line, header, body, parts)?;
         Ok((next, parts))
@@ -204,8 +222,13 @@ impl<F: Fn(Global, &mut Cursor<'_>, usize) -> Result<Items<Stmt>, Refused<Syntax
         ensures { Reads (spec.behind_head (spec.stmt self.now.depth) first (input_of tokens.old)) result tokens.new }
     {
         let body = self.suite(tokens)?;
-        let parts = self.clauses(tokens, first)?;
-        Ok((body, parts))
+        match self.clauses(tokens, first) {
+            Ok(parts) => Ok((body, parts)),
+            Err(refused) => {
+                release(body);
+                Err(refused)
+            }
+        }
     }
 
     /// Reads a compound statement.
