@@ -1,13 +1,13 @@
 //! Tests, and the assignments that begin as tests do.
 
-ghost use Rattle.std.specs.Prelude.{◌≡◌};
+ghost use Rattle.std.specs.Prelude.{◌≡◌, Some};
 ghost use Rattle.std.specs.Option.{option_copied};
 ghost use Rattle.py_expressions.specs.Input.{Reads, input_of, seen};
 ghost use Rattle.py_expressions.specs.Targets as targets;
 ghost use Rattle.py_statements.specs.Reading as spec;
 
 use mpy_base::{Items, Refused};
-use py_expressions::{Cursor, Mark, Syntax, read_one, read_tests, target_of};
+use py_expressions::{Cursor, Mark, Syntax, read_one, read_tests, release, target_of};
 use py_tokens::{Op, Tok};
 use py_tree::{BinaryOp, Expr, StmtKind, Target};
 use std::alloc::Global;
@@ -79,18 +79,38 @@ fn all_assigned(
     Ok(concluded(targets, value))
 }
 
+/// Reads `AUG tests` behind the target.
+fn augmented_by(
+    alloc: Global,
+    tokens: &mut Cursor<'_>,
+    target: Target,
+    op: BinaryOp,
+) -> Result<StmtKind, Refused<Syntax>>
+    ensures { Reads (spec.augmented_by target (Some op) (input_of tokens.old)) result tokens.new }
+{
+    tokens.take();
+    match read_tests(alloc, tokens) {
+        Ok(value) => Ok(StmtKind::Aug { target, op, value }),
+        Err(refused) => {
+            release(target);
+            Err(refused)
+        }
+    }
+}
+
 /// Reads `one AUG tests`.
 #[tactic(auto, unfolding(crate::specs::Reading::augmented))]
 fn augmented(alloc: Global, tokens: &mut Cursor<'_>) -> Result<StmtKind, Refused<Syntax>>
     ensures { Reads (spec.augmented (input_of tokens.old)) result tokens.new }
 {
     let target = read_one(alloc, tokens)?;
-    let Some(op) = augments(tokens.peek()) else {
-        return Err(tokens.refuse());
-    };
-    tokens.take();
-    let value = read_tests(alloc, tokens)?;
-    Ok(StmtKind::Aug { target, op, value })
+    match augments(tokens.peek()) {
+        Some(op) => augmented_by(alloc, tokens, target, op),
+        None => {
+            release(target);
+            Err(tokens.refuse())
+        }
+    }
 }
 
 /// A statement that begins with tests.
@@ -105,6 +125,7 @@ pub(crate) fn expression(
     let depth = tokens.left() + 1;
     let first = read_tests(alloc, tokens)?;
     if augments(tokens.peek()).is_some() {
+        release(first);
         tokens.ahead = start;
         return augmented(alloc, tokens);
     }

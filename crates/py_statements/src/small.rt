@@ -10,7 +10,7 @@ use crate::imports::{imports, imports_from};
 use crate::names::names;
 use crate::simple::expression;
 use mpy_base::{Items, Refused};
-use py_expressions::{Cursor, Mark, Syntax, read_gone, read_test, read_tests};
+use py_expressions::{Cursor, Mark, Syntax, read_gone, read_test, read_tests, release};
 use py_tokens::{Op, Tok, Word};
 use py_tree::{Stmt, StmtKind, Target};
 use std::alloc::Global;
@@ -112,8 +112,16 @@ fn assertion(alloc: Global, tokens: &mut Cursor<'_>) -> Result<StmtKind, Refused
         let message = None;
         return Ok(StmtKind::Assert { test, message });
     }
-    let message = Some(read_test(alloc, tokens)?);
-    Ok(StmtKind::Assert { test, message })
+    match read_test(alloc, tokens) {
+        Ok(message) => {
+            let message = Some(message);
+            Ok(StmtKind::Assert { test, message })
+        }
+        Err(refused) => {
+            release(test);
+            Err(refused)
+        }
+    }
 }
 
 /// Reads a small statement.
