@@ -61,9 +61,10 @@ fn imported(alloc: Global, tokens: &mut Cursor<'_>) -> Result<Items<Alias>, Refu
     let bracketed = tokens.eat(Mark::Op(Op::OpenParen));
     let found = aliases(alloc, tokens, false, bracketed)?;
     if bracketed {
-        tokens.expect(Mark::Op(Op::CloseParen))?;
+        tokens.closed(Mark::Op(Op::CloseParen), found)
+    } else {
+        Ok(found)
     }
-    Ok(found)
 }
 
 /// Reads an `import` of modules.

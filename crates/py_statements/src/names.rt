@@ -1,11 +1,11 @@
 //! Names, with dots and `as`.
 
-ghost use Rattle.std.specs.Prelude.{◌≡◌, false};
+ghost use Rattle.std.specs.Prelude.{◌≡◌, ◌∷◌, ◌++◌, false, OnOk};
 ghost use Rattle.py_expressions.specs.Input.{Reads, input_of};
 ghost use Rattle.py_expressions.specs.Input as input;
 ghost use Rattle.py_statements.specs.Reading as spec;
 
-use mpy_base::{Items, Refused, Text};
+use mpy_base::{Items, NoMemory, Refused, Text};
 use py_expressions::{Cursor, Mark, Syntax};
 use py_tokens::Op;
 use std::alloc::Global;
@@ -24,6 +24,15 @@ pub(crate) fn names(alloc: Global, tokens: &mut Cursor<'_>) -> Result<Items<Text
     Err(tokens.refuse())
 }
 
+/// Puts a dot and the name behind the text so far.
+fn add_part(bytes: &mut Vec<u8>, part: Text) -> Result<(), NoMemory>
+    ensures { OnOk result (bytes.new.items ≡ bytes.old.items ++ spec.dot ∷ part) }
+{
+    bytes.push(b'.')?;
+    bytes.extend_from_slice(part.bytes())?;
+    Ok(())
+}
+
 /// The text so far, and the names that dots put behind it.
 fn all_dotted(alloc: Global, tokens: &mut Cursor<'_>, first: &Text) -> Result<Text, Refused<Syntax>>
     ensures { Reads (spec.all_dotted first.now (input_of tokens.old)) result tokens.new }
@@ -34,8 +43,7 @@ fn all_dotted(alloc: Global, tokens: &mut Cursor<'_>, first: &Text) -> Result<Te
             return Ok(Text::new(alloc, &bytes)?);
         }
         let part = tokens.name(alloc)?;
-        bytes.push(b'.')?;
-        bytes.extend_from_slice(part.bytes())?;
+        add_part(&mut bytes, part)?;
     }
     Ok(Text::new(alloc, &bytes)?)
 }
