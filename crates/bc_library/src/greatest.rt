@@ -6,7 +6,7 @@ ghost use Rattle.mpy_tree.specs.File.{IsCode};
 ghost use Rattle.bc_prelude.specs.declared.prelude.Prelude.{Prelude};
 ghost use Rattle.bc_library.specs.Greatest.{HasPrelude, IsGreatestIn};
 
-use bc_prelude::read_prelude;
+use bc_prelude::parts_of;
 use mpy_tree::RawCode;
 
 /// The greatest of a code and of those in it, in `levels` levels of codes at most.
@@ -14,9 +14,7 @@ pub(crate) fn greatest_in(code: &RawCode, levels: usize) -> (u32, u32)
     requires { (texts : ℕ) × (text : List ℕ) × IsCode levels texts text code.now }
     ensures { IsGreatestIn (HasPrelude code.now) result.0 result.1 }
 {
-    let Ok(prelude) = read_prelude(code.bytes.bytes()) else {
-        unreachable!();
-    };
+    let prelude = parts_of(code.bytes.bytes()).prelude;
     let mut state = prelude.n_state;
     let mut exc = prelude.n_exc;
     for child in code.children.as_slice() {

@@ -5,7 +5,7 @@ use Rattle.bc_prelude.specs.declared.fault.PreludeFault.{PreludeFault}
 use Rattle.bc_prelude.specs.declared.fault.PreludeFault.TheVariants as faults
 use Rattle.bc_prelude.specs.declared.signature.Signature.{Signature}
 use Rattle.bc_prelude.specs.Chain.{IsChain, HasNoEnd}
-use Rattle.bc_prelude.specs.Signature.{flags_of, kwonly_of, IsSmall, IsBig, IsSignature, SignaturePasses, SignatureOutside}
+use Rattle.bc_prelude.specs.Signature.{flags_of, kwonly_of, KeepsLimits, IsBig, IsSignature, SignaturePasses, SignatureOutside}
 use Rattle.bc_prelude.proofs.Chains.{one_chain, has_end}
 
 abbrev pub signature_read : Signature → ℕ → Result (Signature × ℕ) PreludeFault
@@ -21,7 +21,7 @@ pub record SignatureResult (code : List ℕ) (result : Result (Signature × ℕ)
   pub too_big : IsErrOf result faults.TooBig ↔ SignaturePasses code
   pub outside : IsErrOf result faults.Outside ↔ SignatureOutside code
 
-big_small : (text : List ℕ) → IsBig text → IsSmall text → ⊥
+big_small : (text : List ℕ) → IsBig text → KeepsLimits text → ⊥
 big_small text (inl big) small = omega (arith, big, small.slots)
 big_small text (inr (inl big)) small = omega (arith, big, small.handlers)
 big_small text (inr (inr big)) small = omega (arith, big, small.arguments)
@@ -62,16 +62,16 @@ signature_endless code none = record {
 pub signature_big : (code text rest : List ℕ) → code ≡ text ++ rest → IsChain text → IsBig text → SignatureResult code (signature_refused faults.TooBig)
 signature_big code text rest e chain big = record {
   only = λ t r signature is f.
-      absurd (big_small text big (subst IsSmall (same_text code text rest t r chain e is.chain f) is.small));
+      absurd (big_small text big (subst KeepsLimits (same_text code text rest t r chain e is.chain f) is.small));
   truncated = (λ e. absurd cc, λ none. absurd (has_end code text rest chain e none));
   too_big = (λ _. record { text = text; rest = rest; code_is = e; chain = chain; big = big }, λ _. refl);
   outside = (
     λ e. absurd cc,
-    λ p. absurd (big_small text big (subst IsSmall (same_text code text rest p.text p.rest chain e p.chain p.code_is) p.small)),
+    λ p. absurd (big_small text big (subst KeepsLimits (same_text code text rest p.text p.rest chain e p.chain p.code_is) p.small)),
   );
 }
 
-pub signature_outside : (code text rest : List ℕ) → code ≡ text ++ rest → IsChain text → IsSmall text → (0 < flags_of text) ⊎ (0 < kwonly_of text) → SignatureResult code (signature_refused faults.Outside)
+pub signature_outside : (code text rest : List ℕ) → code ≡ text ++ rest → IsChain text → KeepsLimits text → (0 < flags_of text) ⊎ (0 < kwonly_of text) → SignatureResult code (signature_refused faults.Outside)
 signature_outside code text rest e chain small some = record {
   only = λ t r signature is f.
       let same = same_text code text rest t r chain e is.chain f in

@@ -6,7 +6,7 @@ use Rattle.mpy_base.specs.Vuint.{HasMore}
 use Rattle.bc_prelude.specs.declared.signature.Signature.{Signature}
 use Rattle.bc_prelude.specs.Chain.{IsChain, number_of}
 use Rattle.bc_prelude.specs.Signature as signatures
-use Rattle.bc_prelude.specs.Signature.{slots_of, handlers_of, arguments_of, flags_of, kwonly_of, defaults_of, further_byte, signature_in, signature_from, IsSmall, IsSignature, IsWritable}
+use Rattle.bc_prelude.specs.Signature.{slots_of, handlers_of, arguments_of, flags_of, kwonly_of, defaults_of, further_byte, signature_in, signature_from, KeepsLimits, IsSignature, IsWritable}
 use Rattle.bc_prelude.specs.Size as sizes
 use Rattle.bc_prelude.specs.Size.{size_in, IsSize}
 use Rattle.bc_prelude.proofs.Chains.{some_byte, one_chain}

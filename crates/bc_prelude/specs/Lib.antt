@@ -1,4 +1,5 @@
 pub mod Chain
+pub mod Cursor
 pub mod Lines
 pub mod Names
 pub mod Prelude

@@ -38,6 +38,13 @@ pub record Begins (code : List ℕ) (prelude : Prelude) : Type 0 where
   pub lines_at : prelude.lines_at ≡ prelude.info_at + length names
   pub code_at : prelude.code_at ≡ prelude.lines_at + length lines
 
+-- the parts of a code that begins with the prelude
+pub record HasParts (code : List ℕ) (prelude : Prelude) (names lines instructions : List ℕ) : Type 0 where
+  pub begins : Begins code prelude
+  pub names_are : names ≡ begins.names
+  pub lines_are : lines ≡ begins.lines
+  pub instructions_are : instructions ≡ begins.instructions
+
 -- P holds of the signature that the code begins with and of what follows it
 pub record BehindSignature (P : Signature → List ℕ → Type 0) (code : List ℕ) : Type 0 where
   pub text : List ℕ

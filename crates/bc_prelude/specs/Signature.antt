@@ -34,7 +34,7 @@ defaults_of [] = 0
 defaults_of (first ∷ others) = number_of 1 2 others
 
 -- the numbers keep their limits, 4096 slots and 255 handler entries and arguments
-pub record IsSmall (text : List ℕ) : Type 0 where
+pub record KeepsLimits (text : List ℕ) : Type 0 where
   pub slots : slots_of text < 4096
   pub handlers : handlers_of text ≤ 255
   pub arguments : arguments_of text ≤ 255
@@ -47,7 +47,7 @@ IsBig text = (4096 ≤ slots_of text) ⊎ (255 < handlers_of text) ⊎ (255 < ar
 -- past 2^32 - 1 is told as 2^32 - 1
 pub record IsSignature (text : List ℕ) (signature : Signature) : Type 0 where
   pub chain : IsChain text
-  pub small : IsSmall text
+  pub small : KeepsLimits text
   pub no_flags : flags_of text ≡ 0
   pub no_kwonly : kwonly_of text ≡ 0
   pub n_state : signature.n_state ≡ slots_of text + 1
@@ -71,7 +71,7 @@ pub record SignatureOutside (code : List ℕ) : Type 0 where
   pub rest : List ℕ
   pub code_is : code ≡ text ++ rest
   pub chain : IsChain text
-  pub small : IsSmall text
+  pub small : KeepsLimits text
   pub outside : (0 < flags_of text) ⊎ (0 < kwonly_of text)
 
 -- a signature that may be written

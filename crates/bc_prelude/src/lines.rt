@@ -8,19 +8,19 @@ use mpy_base::NoMemory;
 /// An entry of a table: how many bytes of the instructions it passes, by how many lines the line rises there, and how
 /// many bytes of the table it takes.
 #[derive(Clone, Copy, Debug)]
-struct Entry {
-    bytes: u32,
-    lines: u32,
-    len: usize,
+pub(crate) struct Entry {
+    pub bytes: u32,
+    pub lines: u32,
+    pub len: usize,
 }
 
 /// The entry at `at`, unless the table ends before its end.
-fn entry_at(table: &[u8], at: usize) -> Option<Entry>
+pub(crate) fn entry_at(table: &[u8], at: usize) -> Option<Entry>
     requires { at ≤ length table.now }
     ensures { MatchOption result (entries_of (drop at table.now) ≡ []) (λ entry.
         (entries_of (drop at table.now)
         ≡ record { bytes = entry.bytes; lines = entry.lines } ∷ entries_of (drop (at + entry.len) table.now))
-        × (0 < entry.len) × (at + entry.len ≤ length table.now)) }
+        × (0 < entry.len) × (at + entry.len ≤ length table.now) × (entry.lines ≤ 2047)) }
 {
     let first = table.get(at).copied()?;
     if first < 128 {
@@ -151,10 +151,13 @@ pub fn write_lines(out: &mut Vec<u8>, lines: &[(u32, u32)]) -> Result<(), NoMemo
 }
 
 /// A table that was written gives, for each offset, the line of the last pair that isn't behind it, and 1 before the
-/// first. It may be read.
+/// first. It may be read, and so may each table of no more than 4,194,303 bytes, since a byte of it has no more than
+/// 1024 lines.
 pub fn lines_law()
     ensures lines { (pairs : List (ℕ × ℕ)) (offset : ℕ) → Rises pairs
         → line_of (table_of pairs) offset ≡ line_among 1 pairs offset }
     ensures readable { (pairs : List (ℕ × ℕ)) → Rises pairs → All (λ pair. pair.1 < 2 ^ 32) pairs
         → lines_together (entries_of (table_of pairs)) < 2 ^ 32 - 1 }
+    ensures few { (table : List ℕ) → All (λ byte. byte < 256) table
+        → lines_together (entries_of table) ≤ 1024 * length table }
 {}

@@ -14,7 +14,7 @@ ghost use Rattle.mpy_tree.specs.Resolved.{Body, Tree, IsBody, ResolvesCode};
 ghost use Rattle.library_files.specs.Imports.{Imports, import_of, own_imports, imports_of};
 
 use bc_ops::{Instr, Item, Op, items_of};
-use bc_prelude::read_prelude;
+use bc_prelude::parts_of;
 use bc_resolved::resolves_law;
 use mpy_base::{NoMemory, Text};
 use mpy_tree::{Qstr, RawCode, RawModule, module_law};
@@ -78,11 +78,7 @@ fn add_own(
     ensures { OnOk result ((body : Body) → IsBody module.now bytes.now body
         → names.new.items ≡ names.old.items ++ own_imports body) }
 {
-    let Ok(prelude) = read_prelude(bytes) else {
-        unreachable!();
-    };
-    let (_, instructions) = bytes.split_at(prelude.code_at);
-    let listed = items_of(alloc, instructions)?;
+    let listed = items_of(alloc, parts_of(bytes).instructions)?;
     add_items(alloc, module, &listed.items, names)
 }
 

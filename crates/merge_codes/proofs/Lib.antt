@@ -1,4 +1,3 @@
-pub mod Cursors
 pub mod Made
 pub mod Places
 pub mod Reading

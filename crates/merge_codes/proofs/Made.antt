@@ -22,7 +22,7 @@ use Rattle.mpy_writer.specs.File.{IsOwn, IsCodeFault}
 use Rattle.merge_codes.specs.Far.{IsFarOwn}
 use Rattle.merge_codes.specs.Kept.{IsKeptCode}
 use Rattle.merge_codes.specs.Moved.{text_at, IsMovedItem, IsMovedCode, IsMovedOwn}
-use Rattle.merge_codes.proofs.Places.{instructions_at, parts_short}
+use Rattle.bc_prelude.proofs.Pieces.{instructions_at, parts_short}
 use Rattle.merge_codes.proofs.Sound.{short_list}
 
 -- the instructions of a kept code, wherever it is read

@@ -44,11 +44,12 @@ use Rattle.bc_verify.specs.Verified.{AreVerified}
 use Rattle.merge_codes.specs.Joined.{IsJoined}
 use Rattle.merge_codes.specs.Kept.{NamesThere, IsKept, IsKeptCode}
 use Rattle.merge_codes.specs.Moved.{text_at, moved_instr, IsMovedItem, IsMovedOwn, IsMovedTree}
-use Rattle.merge_codes.proofs.Places.{instructions_at, lines_at, names_at}
+use Rattle.bc_prelude.proofs.Pieces.{instructions_at, lines_at, names_at}
 use Rattle.merge_codes.proofs.Made.{items_kept}
 use Rattle.merge_codes.proofs.Sound.{numbered}
 use Rattle.merge_codes.proofs.Texts.{text_fine, text_known}
-use Rattle.merge_codes.proofs.Trees.{Nests, children, whole, kept_code, verified_child}
+use Rattle.mpy_tree.proofs.Codes.{Nests, children, whole}
+use Rattle.merge_codes.proofs.Trees.{kept_code, verified_child}
 
 -- what a code's bytes say, twice
 record Same (bytes : List ℕ) (p q : Prelude) (a : Begins bytes p) (b : Begins bytes q) : Type 0 where
@@ -206,8 +207,8 @@ module _ (tables : Tables) (fit : TablesFit tables) (base : ℕ) (m merged : Mod
         }
 
   -- the codes in it
-  trees_moved : (levels : ℕ) (ts : Trees) (raws moved : List RawCode) → AllByRecursion (λ raw. Nests levels (length m.qstrs) raw × AreVerified m raw) raws
-      → ((t : Tree) (r s : RawCode) → Nests levels (length m.qstrs) r → AreVerified m r → IsMovedTree levels tables base m r s → ResolvesCode m t r → ResolvesCode merged t s)
+  trees_moved : (levels : ℕ) (ts : Trees) (raws moved : List RawCode) → AllByRecursion (λ raw. Nests (length m.qstrs) levels raw × AreVerified m raw) raws
+      → ((t : Tree) (r s : RawCode) → Nests (length m.qstrs) levels r → AreVerified m r → IsMovedTree levels tables base m r s → ResolvesCode m t r → ResolvesCode merged t s)
       → AllZip (IsMovedTree levels tables base m) raws moved → ResolveCodes m ts raws → ResolveCodes merged ts moved
   trees_moved levels no_more [] [] all step zip h = refl
   trees_moved levels no_more [] (s ∷ ss) all step zip h = absurd zip
@@ -224,12 +225,12 @@ module _ (tables : Tables) (fit : TablesFit tables) (base : ℕ) (m merged : Mod
   each_there P [] h = tt
   each_there P (r ∷ rs) h = (h 0 r refl, each_there P rs (λ n raw e. h (suc n) raw e))
 
-  pub tree_moved : (levels : ℕ) (t : Tree) (raw moved : RawCode) → Nests levels (length m.qstrs) raw → AreVerified m raw → IsMovedTree levels tables base m raw moved → ResolvesCode m t raw → ResolvesCode merged t moved
+  pub tree_moved : (levels : ℕ) (t : Tree) (raw moved : RawCode) → Nests (length m.qstrs) levels raw → AreVerified m raw → IsMovedTree levels tables base m raw moved → ResolvesCode m t raw → ResolvesCode merged t moved
   unfolding IsMovedTree
   tree_moved zero t raw moved nests verified h r = absurd h
   tree_moved (suc levels) (node body ts) raw moved nests verified h r =
-      let w = whole (suc levels) (length m.qstrs) raw nests in
+      let w = whole (length m.qstrs) (suc levels) raw nests in
       let below : w.below ≡ levels = omega (arith, w.levels_are) in
       let k = kept_code m (suc levels) raw nests (verified [] raw refl) in
-      let all = each_there (λ c. Nests levels (length m.qstrs) c × AreVerified m c) (children raw) (λ n c at. (subst (λ l. Nests l (length m.qstrs) c) below (w.each n c at), verified_child m raw c n verified at)) in
+      let all = each_there (λ c. Nests (length m.qstrs) levels c × AreVerified m c) (children raw) (λ n c at. (subst (λ l. Nests (length m.qstrs) l c) below (w.each n c at), verified_child m raw c n verified at)) in
       (body_moved (out-RawCode raw).bytes (out-RawCode moved).bytes k h.0 body r.0, trees_moved levels ts (children raw) (children moved) all (tree_moved levels) h.1 r.1)

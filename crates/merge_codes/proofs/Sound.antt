@@ -38,7 +38,7 @@ use Rattle.mpy_writer.proofs.Labelled.{object_form}
 use Rattle.mpy_writer.proofs.Numbers.{number_small}
 use Rattle.merge_codes.specs.Kept.{NamesThere, GoesTo, IsKept, IsKeptCode}
 use Rattle.merge_codes.specs.Moved.{text_at, moved_instr, IsMovedItem, IsMovedCode}
-use Rattle.merge_codes.proofs.Places.{parts_short, instructions_at}
+use Rattle.bc_prelude.proofs.Pieces.{parts_short, instructions_at}
 use Rattle.merge_codes.proofs.Texts.{text_fine}
 
 -- what bytes spell

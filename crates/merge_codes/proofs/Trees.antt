@@ -18,13 +18,14 @@ use Rattle.bc_ops.specs.declared.listing.Item.TheVariants as listed
 use Rattle.bc_ops.specs.Listing.{starts}
 use Rattle.bc_flow.specs.Code.{IsOutside}
 use Rattle.mpy_tree.specs.declared.raw.RawCode.{RawCode, RawCode-F, out-RawCode, roll-RawCode, out-roll-RawCode}
-use Rattle.mpy_tree.specs.File.{header_of, Many, AreChildren, IsOwnCode, IsCode}
+use Rattle.mpy_tree.specs.File.{header_of}
 use Rattle.mpy_tree.specs.Raw.{Module}
 use Rattle.mpy_tree.specs.Canonical.{has_some, children_bytes, code_bytes}
 use Rattle.bc_verify.specs.declared.fault.Rule.{Rule}
 use Rattle.bc_verify.specs.declared.fault.Rule.TheVariants as rules
 use Rattle.bc_verify.specs.Body.{Body, Says}
-use Rattle.bc_verify.specs.Path.{code_at}
+use Rattle.mpy_tree.specs.Codes.{code_at}
+use Rattle.mpy_tree.proofs.Codes.{children, Nests, whole, get_at}
 use Rattle.bc_verify.specs.Rules.{Breaks}
 use Rattle.bc_verify.specs.Verified.{IsVerifiedCode, AreVerified}
 use Rattle.bc_verify.proofs.Bodies.{one_body}
@@ -33,55 +34,6 @@ use Rattle.merge_codes.specs.Far.{IsFarOwn, HasFarCode}
 use Rattle.merge_codes.specs.Heads.{head_of}
 use Rattle.merge_codes.specs.Kept.{NamesThere, GoesTo, IsKept, IsKeptCode}
 use Rattle.merge_codes.specs.Moved.{IsMovedOwn, IsMovedTree}
-
-abbrev pub children : RawCode → List RawCode
-children code = (out-RawCode code).children
-
--- a code of a file
--- ================
-
-abbrev pub Nests : ℕ → ℕ → RawCode → Type 0
-Nests levels texts code = (text : List ℕ) × IsCode levels texts text code
-
-nth : (Inner : List ℕ → RawCode → Type 0) (text : List ℕ) (xs : List RawCode) (n : ℕ) (x : RawCode) → Many Inner text xs → slice_get xs n ≡ Some x → (front : List ℕ) × Inner front x
-nth Inner text [] n x many e = absurd cc
-nth Inner text (y ∷ ys) zero x many e = let same : y ≡ x = cc in (many.0, subst (Inner many.0) same many.2)
-nth Inner text (y ∷ ys) (suc n) x many e = nth Inner many.1 ys n x many.4 e
-
-nth_child : (Inner : List ℕ → RawCode → Type 0) (has : Bool) (text : List ℕ) (xs : List RawCode) (n : ℕ) (x : RawCode) → AreChildren Inner has text xs → slice_get xs n ≡ Some x → (front : List ℕ) × Inner front x
-nth_child Inner false text xs n x are e =
-    let none : slice_get [] n ≡ Some x = subst (λ z. slice_get z n ≡ Some x) are.1 e in
-    absurd cc
-nth_child Inner true text xs n x are e = nth Inner are.1 xs n x are.5 e
-
-few_children : (Inner : List ℕ → RawCode → Type 0) (has : Bool) (text : List ℕ) (xs : List RawCode) → AreChildren Inner has text xs → length xs ≤ MAX_TABLE
-few_children Inner false text xs are = omega (arith, ap length are.1)
-few_children Inner true text xs are = are.3
-
-pub record Whole (levels texts : ℕ) (code : RawCode) : Type 0 where
-  pub below : ℕ
-  pub levels_are : levels ≡ suc below
-  pub own : IsOwnCode texts (out-RawCode code).bytes
-  pub short : length (out-RawCode code).bytes ≤ MAX_CODE_BYTES
-  pub few : length (children code) ≤ MAX_TABLE
-  pub each : (n : ℕ) (child : RawCode) → slice_get (children code) n ≡ Some child → Nests below texts child
-
-pub whole : (levels texts : ℕ) (code : RawCode) → Nests levels texts code → Whole levels texts code
-unfolding IsCode
-whole zero texts code w = absurd w.1
-whole (suc below) texts code w =
-    let e = w.1 in
-    let parts = ap out-RawCode e.code_is ∙ out-roll-RawCode (record { bytes = e.own; children = e.children }) in
-    let bytes : e.own ≡ (out-RawCode code).bytes = sym (ap (λ z. z.bytes) parts) in
-    let inside : e.children ≡ children code = sym (ap (λ z. z.children) parts) in
-    record {
-      below = below;
-      levels_are = refl;
-      own = subst (IsOwnCode texts) bytes e.is_own;
-      short = subst (λ z. length z ≤ MAX_CODE_BYTES) bytes e.short;
-      few = subst (λ z. length z ≤ MAX_TABLE) inside (few_children (IsCode below texts) e.has_children e.behind e.children e.are_children);
-      each = λ n child at. nth_child (IsCode below texts) e.has_children e.behind e.children n child e.are_children (subst (λ z. slice_get z n ≡ Some child) (sym inside) at);
-    }
 
 -- a verified code is kept
 -- =======================
@@ -122,10 +74,10 @@ module _ (m : Module) (inner : ℕ) (body : Body) where
   keep_all [] h = tt
   keep_all (x ∷ xs) h = (keep x (h 0 x refl), keep_all xs (λ p item e. h (suc p) item e))
 
-pub kept_code : (m : Module) (levels : ℕ) (code : RawCode) → Nests levels (length m.qstrs) code → IsVerifiedCode m code → IsKeptCode m (out-RawCode code).bytes
+pub kept_code : (m : Module) (levels : ℕ) (code : RawCode) → Nests (length m.qstrs) levels code → IsVerifiedCode m code → IsKeptCode m (out-RawCode code).bytes
 unfolding Safe
 kept_code m levels code nests v =
-    let w = whole levels (length m.qstrs) code nests in
+    let w = whole (length m.qstrs) levels code nests in
     let bytes = (out-RawCode code).bytes in
     let body : Body = record { items = w.own.items; n_state = w.own.prelude.n_state; n_exc = w.own.prelude.n_exc; arguments = w.own.prelude.args } in
     let said : Says bytes body (starts 0 w.own.listed.pieces) = record {
@@ -153,11 +105,6 @@ kept_code m levels code nests v =
 
 -- the codes in a code
 -- ===================
-
-pub get_at : {A : Type 0} → (xs : List A) (p : ℕ) (x : A) → p < length xs → x ≡ get_or xs p x → slice_get xs p ≡ Some x
-get_at [] p x lt e = absurd (omega (arith, lt))
-get_at (y ∷ ys) zero x lt e = ap (λ z. Some z) (sym e)
-get_at (y ∷ ys) (suc p) x lt e = get_at ys p x (omega (arith, lt)) e
 
 below : (path : List ℕ) (n : ℕ) (code child found : RawCode) → slice_get (children code) n ≡ Some child → code_at path child ≡ Some found → code_at (n ∷ path) code ≡ Some found
 below path n code child found at is = ap (option_and_then (code_at path)) at ∙ is

@@ -1,7 +1,7 @@
 -- Why a code has no bytes with its numbers moved.
 use Rattle.std.specs.Prelude.{◌≡◌, ◌⊎◌, ℕ, List, Some}
 use Rattle.bc_labels.specs.Choice.{IsTooFar}
-use Rattle.bc_verify.specs.Path.{code_at}
+use Rattle.mpy_tree.specs.Codes.{code_at}
 use Rattle.mpy_tree.specs.declared.module.Code.{Code}
 use Rattle.mpy_tree.specs.declared.raw.RawCode.{RawCode, out-RawCode}
 use Rattle.mpy_tree.specs.Raw.{Module}

@@ -1,4 +1,3 @@
-pub mod Cursor
 pub mod Far
 pub mod Heads
 pub mod Joined

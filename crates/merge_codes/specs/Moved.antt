@@ -73,10 +73,3 @@ IsMovedTree zero tables base m raw moved = ⊥
 IsMovedTree (suc levels) tables base m raw moved =
     IsMovedOwn tables base m (out-RawCode raw).bytes (out-RawCode moved).bytes
     × AllZip (IsMovedTree levels tables base m) (out-RawCode raw).children (out-RawCode moved).children
-
--- what a code's own bytes begin with, and its parts
-pub record HasParts (bytes : List ℕ) (prelude : Prelude) (names lines instructions : List ℕ) : Type 0 where
-  pub begins : Begins bytes prelude
-  pub names_are : names ≡ begins.names
-  pub lines_are : lines ≡ begins.lines
-  pub instructions_are : instructions ≡ begins.instructions

@@ -1,11 +1,10 @@
 //! Codes of verified modules with the numbers of a merged file.
 #![tactic(auto)]
 
-mod cursor;
 mod law;
 mod lines;
 mod moved;
-mod parts;
+mod names;
 mod tree;
 
 pub use law::moved_law;

@@ -4,7 +4,7 @@ ghost use Rattle.std.specs.Prelude.{◌≡◌, ◌≤◌, length, map, All, IfOk
 ghost use Rattle.std.specs.List.Sorted.{IsStrictlyIncreasing};
 ghost use Rattle.bc_prelude.specs.Lines.{line_of};
 
-use crate::cursor::{advance, start};
+use bc_prelude::Place;
 use mpy_base::NoMemory;
 use mpy_base::limits::MAX_CODE_BYTES;
 use std::alloc::Global;
@@ -17,9 +17,9 @@ pub(crate) fn lines_at(alloc: Global, table: &[u8], offsets: &[usize]) -> Result
     ensures { IfOk result (λ lines. lines.items ≡ map (line_of table.now) offsets.now) }
 {
     let mut lines = Vec::with_capacity(alloc, offsets.len())?;
-    let mut place = start(table);
+    let mut place = Place::start();
     for offset in offsets {
-        place = advance(table, place, *offset as u32);
+        place = place.advance(table, *offset as u32);
         lines.push(place.line)?;
     }
     Ok(lines)

@@ -13,8 +13,9 @@ ghost use Rattle.merge_codes.specs.Moved.{IsMovedItem, IsMovedCode};
 ghost use Rattle.merge_codes.specs.Kept.{IsKept, IsKeptCode, NamesThere, GoesTo};
 
 use crate::lines::lines_at;
-use crate::parts::{indexes_of, parts_of};
+use crate::names::indexes_of;
 use bc_ops::{Instr, Op, Target, items_of};
+use bc_prelude::parts_of;
 use mpy_base::limits::{MAX_CODE_BYTES, MAX_TABLE};
 use mpy_base::{Items, NoMemory, Text};
 use mpy_tree::{Code, Item, Qstr, RawModule};

@@ -1,31 +1,33 @@
 use Rattle.std.proofs.Common.{◌≡◌, ◌+◌, ◌-◌, length, Some, sym, ap, subst, arith}
 use Rattle.std.specs.Prelude.{slice_get, max}
 use Rattle.bc_prelude.specs.Prelude.{Begins}
-use Rattle.bc_verify.proofs.Trees.{Nests, children, whole, get_at}
+use Rattle.mpy_tree.proofs.Codes.{Nests, children, whole, get_at}
 use Rattle.bc_library.specs.Greatest.{IsGreatestIn}
 use Rattle.bc_library.proofs.Preludes.{HasBelow, first_code, next_child, all_children}
 use Rattle.bc_library.proofs.greatest.+greatest_in.Goals as goal
 
-pub unreachable-requires : goal.unreachable-requires
-unreachable-requires t c =
-    let w = whole c.args.levels c.args.code.now c.requires in
-    let begins = subst (λ z. Begins z w.own.prelude) (sym c.bytes.ensures) w.own.begins in
-    c.in_default.not-Ok w.own.prelude (c.read_prelude.ensures.only w.own.prelude begins)
+pub parts_of-requires : goal.parts_of-requires
+parts_of-requires t c =
+    let w = whole c.requires.0 c.args.levels c.args.code.now (c.requires.1, c.requires.2) in
+    (w.own.prelude, subst (λ z. Begins z w.own.prelude) (sym c.bytes.ensures) w.own.begins)
 
 pub loop-child-init : goal.loop-child-init
-loop-child-init t c = first_code c.args.code.now c.in-Ok.prelude (subst (λ z. Begins z c.in-Ok.prelude) c.bytes.ensures c.in-Ok.ensures.found)
+loop-child-init t c =
+    let prelude = c.parts_of.result.prelude in
+    first_code c.args.code.now prelude (subst (λ z. Begins z prelude) c.bytes.ensures c.parts_of.ensures.begins)
 
 pub overflow_sub-levels : goal.overflow_sub-levels
-overflow_sub-levels t c = let w = whole c.args.levels c.args.code.now c.requires in omega (arith, w.levels_are)
+overflow_sub-levels t c = let w = whole c.requires.0 c.args.levels c.args.code.now (c.requires.1, c.requires.2) in omega (arith, w.levels_are)
 
 pub greatest_in-child_state-requires : goal.greatest_in-child_state-requires
 greatest_in-child_state-requires t c =
-    let w = whole c.args.levels c.args.code.now c.requires in
+    let w = whole c.requires.0 c.args.levels c.args.code.now (c.requires.1, c.requires.2) in
     let below : w.below ≡ c.args.levels - 1 = omega (arith, w.levels_are) in
     let here : slice_get (children c.args.code.now) c.loop-child.child-index ≡ Some c.child-item.result =
     subst (λ z. slice_get z c.loop-child.child-index ≡ Some c.child-item.result) c.as_slice-child-items.ensures
     (get_at c.as_slice-child-items.result.now c.loop-child.child-index c.child-item.result c.loop-child-test.true c.child-item.is) in
-    (omega (arith, w.levels_are), subst (λ n. Nests n c.child-item.result) below (w.each c.loop-child.child-index c.child-item.result here))
+    let inner = subst (λ n. Nests c.requires.0 n c.child-item.result) below (w.each c.loop-child.child-index c.child-item.result here) in
+    (omega (arith, w.levels_are), (c.requires.0, inner.0, inner.1))
 
 pub loop-child-preserved : goal.loop-child-preserved
 loop-child-preserved t c =

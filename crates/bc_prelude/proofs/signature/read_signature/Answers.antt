@@ -1,6 +1,6 @@
 use Rattle.std.proofs.Common.{◌≡◌, ◌⊎◌, ◌<◌, ◌+◌, length, refl, sym, subst, inl, inr, arith}
 use Rattle.bc_prelude.specs.Chain.{IsChain}
-use Rattle.bc_prelude.specs.Signature.{flags_of, kwonly_of, IsBig, IsSmall, IsSignature}
+use Rattle.bc_prelude.specs.Signature.{flags_of, kwonly_of, IsBig, KeepsLimits, IsSignature}
 use Rattle.bc_prelude.proofs.Chains.{parted}
 use Rattle.bc_prelude.proofs.Signatures.{signature_big, signature_outside, signature_found}
 use Rattle.bc_prelude.proofs.signature.read_signature.Goals as goal
@@ -24,7 +24,7 @@ returns-then-parts-gt0 c =
     let text = c.split_at.result.0.now in
     let whole = parted c.args.code.now text c.split_at.result.1.now c.in-Some.end c.split_at.ensures.front c.split_at.ensures.back in
     let chain = subst IsChain (sym c.split_at.ensures.front) c.in-Some.ensures.found.1 in
-    let small : IsSmall text = record { slots = omega arith; handlers = omega arith; arguments = omega arith } in
+    let small : KeepsLimits text = record { slots = omega arith; handlers = omega arith; arguments = omega arith } in
     let some : (0 < flags_of text) ⊎ (0 < kwonly_of text) = elim c.then-parts-gt0.branch [
       | then-parts-gt0-via-then-parts-gt0 w ↦ inl (omega arith)
       | then-parts-gt0-via-else-parts-gt0+then-parts-gt0-2 w ↦ inr (omega arith)
@@ -37,7 +37,7 @@ returns c =
     let text = c.split_at.result.0.now in
     let whole = parted c.args.code.now text c.split_at.result.1.now c.in-Some.end c.split_at.ensures.front c.split_at.ensures.back in
     let chain = subst IsChain (sym c.split_at.ensures.front) c.in-Some.ensures.found.1 in
-    let small : IsSmall text = record { slots = omega arith; handlers = omega arith; arguments = omega arith } in
+    let small : KeepsLimits text = record { slots = omega arith; handlers = omega arith; arguments = omega arith } in
     let is : IsSignature text (record { n_state = c.parts_of-parts.result.slots + 1; n_exc = c.parts_of-parts.result.handlers; flags = 0; args = c.parts_of-parts.result.arguments; kwonly = 0; defaults = c.min.result }) = record {
       chain = chain;
       small = small;

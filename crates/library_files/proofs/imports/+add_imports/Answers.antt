@@ -2,7 +2,7 @@ use Rattle.std.proofs.Common.{◌≡◌, ◌<◌, ◌≤◌, get_or, length, sym
 use Rattle.mpy_base.specs.declared.limits.TheConstants.{MAX_CODE_BYTES}
 use Rattle.mpy_tree.specs.declared.raw.RawCode.{the_lemmas}
 use Rattle.mpy_tree.specs.Resolved.{IsBody}
-use Rattle.bc_verify.proofs.Trees.{whole, get_at}
+use Rattle.mpy_tree.proofs.Codes.{whole, get_at}
 use Rattle.library_files.proofs.Walks.{body_there, own_reached, child_there, child_reached, all_reached}
 use Rattle.library_files.proofs.imports.+add_imports.Goals as goal
 
@@ -14,7 +14,7 @@ add_own-requires-clause-resolves t c =
 pub add_own-requires-clause-short : goal.add_own-requires-clause-short
 add_own-requires-clause-short t c =
     let nests = c.requires.nests in
-    subst (λ z. length z ≤ MAX_CODE_BYTES) (sym c.bytes.ensures) (whole nests.0 c.args.code.now (nests.1, nests.2, nests.3)).short
+    subst (λ z. length z ≤ MAX_CODE_BYTES) (sym c.bytes.ensures) (whole nests.1 nests.0 c.args.code.now (nests.2, nests.3)).short
 
 pub loop-child-init : goal.loop-child-init
 loop-child-init t c =
@@ -29,9 +29,9 @@ add_imports-requires t c =
     let nests = c.requires.nests in
     let within = subst (λ z. place < length z) c.as_slice-child-items.ensures c.loop-child-test.true in
     let read = subst (λ z. child ≡ get_or z place child) c.as_slice-child-items.ensures c.child-item.is in
-    let w = whole nests.0 code (nests.1, nests.2, nests.3) in
+    let w = whole nests.1 nests.0 code (nests.2, nests.3) in
     let below = w.each place child (get_at _ place child within read) in
-    (search (rules, the_lemmas), (child_there c.args.module.now code child _ _ place within read c.requires.resolves c.loop-child.invariant, (w.below, below.0, below.1, below.2)))
+    (search (rules, the_lemmas), (child_there c.args.module.now code child _ _ place within read c.requires.resolves c.loop-child.invariant, (w.below, nests.1, below.0, below.1)))
 
 pub loop-child-preserved : goal.loop-child-preserved
 loop-child-preserved t c =

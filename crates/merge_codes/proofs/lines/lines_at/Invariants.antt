@@ -1,6 +1,6 @@
 use Rattle.std.proofs.Common.{◌≡◌, ◌++◌, ◌<◌, ◌≤◌, length, get_or, drop, map}
 use Rattle.bc_prelude.specs.Lines.{line_of}
-use Rattle.merge_codes.specs.Cursor.{IsPlace}
+use Rattle.bc_prelude.specs.Cursor.{IsPlace}
 use Rattle.merge_codes.proofs.lines.lines_at.Given as goal
 
 -- the place isn't behind the next offset

@@ -9,7 +9,7 @@ use Rattle.bc_prelude.specs.Lines.{line_of}
 use Rattle.mpy_tree.specs.declared.module.Code.{Code, Code-F, out-roll-Code}
 use Rattle.merge_codes.specs.Kept.{IsKept}
 use Rattle.merge_codes.specs.Moved.{text_at, IsMovedItem}
-use Rattle.merge_codes.proofs.Places.{parts_short}
+use Rattle.bc_prelude.proofs.Pieces.{parts_short}
 use Rattle.merge_codes.proofs.Sound.{offsets_rise, offsets_within}
 use Rattle.merge_codes.proofs.Made.{list_there, items_kept, few_kept, moved_by}
 use Rattle.merge_codes.proofs.moved.moved_code.Goals as goal

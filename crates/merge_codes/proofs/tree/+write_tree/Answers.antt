@@ -8,7 +8,8 @@ use Rattle.merge_codes.specs.Far.{IsFarOwn, HasFarCode}
 use Rattle.merge_codes.specs.Heads.{head_of}
 use Rattle.merge_codes.specs.Kept.{IsKeptCode}
 use Rattle.merge_codes.specs.Moved.{IsMovedOwn}
-use Rattle.merge_codes.proofs.Trees.{Nests, children, whole, kept_code, get_at, verified_child, far_child, far_here, reached_none, reached_more, all_written}
+use Rattle.mpy_tree.proofs.Codes.{Nests, children, whole, get_at}
+use Rattle.merge_codes.proofs.Trees.{kept_code, verified_child, far_child, far_here, reached_none, reached_more, all_written}
 use Rattle.merge_codes.proofs.tree.+write_tree.Goals as goal
 
 pub moved_own-requires-clause-kept : goal.moved_own-requires-clause-kept
@@ -28,12 +29,12 @@ write_head-requires-clause-short t c = subst (λ (z : List ℕ). length z ≤ MA
 
 pub write_head-requires-clause-few : goal.write_head-requires-clause-few
 write_head-requires-clause-few t c =
-    let w = whole c.args.levels (length c.args.module.now.qstrs) c.args.raw.now c.requires.nests in
+    let w = whole (length c.args.module.now.qstrs) c.args.levels c.args.raw.now c.requires.nests in
     let few = w.few in
     omega (arith, few, c.len.ensures)
 
 pub overflow_sub-levels : goal.overflow_sub-levels
-overflow_sub-levels t c = let w = whole c.args.levels (length c.args.module.now.qstrs) c.args.raw.now c.requires.nests in omega (arith, w.levels_are)
+overflow_sub-levels t c = let w = whole (length c.args.module.now.qstrs) c.args.levels c.args.raw.now c.requires.nests in omega (arith, w.levels_are)
 
 pub loop-child-init : goal.loop-child-init
 loop-child-init t c = reached_none (c.args.levels - 1) c.args.tables.now c.args.base c.args.module.now (children c.args.raw.now) c.write_head.new.out.items
@@ -41,7 +42,7 @@ loop-child-init t c = reached_none (c.args.levels - 1) c.args.tables.now c.args.
 pub write_tree-requires : goal.write_tree-requires
 write_tree-requires t c =
     let m = c.args.module.now in
-    let w = whole c.args.levels (length m.qstrs) c.args.raw.now c.requires.nests in
+    let w = whole (length m.qstrs) c.args.levels c.args.raw.now c.requires.nests in
     let below : w.below ≡ c.args.levels - 1 = omega (arith, w.levels_are) in
     let here : slice_get (children c.args.raw.now) c.loop-child.child-index ≡ Some c.child-item.result =
     subst (λ z. slice_get z c.loop-child.child-index ≡ Some c.child-item.result) c.as_slice-child-items.ensures
@@ -52,7 +53,7 @@ write_tree-requires t c =
         (
           c.requires.few,
           (
-            subst (λ n. Nests n (length m.qstrs) c.child-item.result) below (w.each c.loop-child.child-index c.child-item.result here),
+            subst (λ n. Nests (length m.qstrs) n c.child-item.result) below (w.each c.loop-child.child-index c.child-item.result here),
             verified_child m c.args.raw.now c.child-item.result c.loop-child.child-index c.requires.verified here,
           ),
         ),
@@ -80,7 +81,7 @@ loop-child-preserved t c =
 pub returns-clause-ok : goal.returns-clause-ok
 returns-clause-ok t c =
     let m = c.args.module.now in
-    let w = whole c.args.levels (length m.qstrs) c.args.raw.now c.requires.nests in
+    let w = whole (length m.qstrs) c.args.levels c.args.raw.now c.requires.nests in
     let raws = children c.args.raw.now in
     let own = c.in_ok-own.own.items in
     let headed = c.in_ok-write_head.ensures ∙ ap₂ (λ (z : List ℕ) (n : ℕ). c.args.out.now.items ++ head_of z n) c.deref.ensures.value c.len.ensures in

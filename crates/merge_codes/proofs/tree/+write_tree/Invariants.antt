@@ -1,5 +1,6 @@
 use Rattle.std.proofs.Common.{◌-◌}
-use Rattle.merge_codes.proofs.Trees.{Reached, children}
+use Rattle.mpy_tree.proofs.Codes.{children}
+use Rattle.merge_codes.proofs.Trees.{Reached}
 use Rattle.merge_codes.proofs.tree.+write_tree.Given as goal
 
 abbrev pub decreases-write_tree : goal.decreases-write_tree

@@ -1,6 +1,6 @@
 use Rattle.std.proofs.Common.{arith}
-use Rattle.merge_codes.proofs.Cursors.{place_behind}
-use Rattle.merge_codes.proofs.cursor.advance.Goals as goal
+use Rattle.bc_prelude.proofs.Cursors.{place_behind}
+use Rattle.bc_prelude.proofs.cursor.Place.advance.Goals as goal
 
 pub loop-entry-preserved : goal.loop-entry-preserved
 loop-entry-preserved c =

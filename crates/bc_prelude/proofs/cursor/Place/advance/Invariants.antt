@@ -1,6 +1,6 @@
 use Rattle.std.proofs.Common.{◌-◌, ◌≤◌, length}
-use Rattle.merge_codes.specs.Cursor.{IsPlace}
-use Rattle.merge_codes.proofs.cursor.advance.Given as goal
+use Rattle.bc_prelude.specs.Cursor.{IsPlace}
+use Rattle.bc_prelude.proofs.cursor.Place.advance.Given as goal
 
 abbrev pub invariant-loop-entry : goal.invariant-loop-entry
 invariant-loop-entry l = record {

@@ -1,6 +1,6 @@
 use Rattle.std.proofs.Common.{◌≡◌, ◌+◌, ◌∷◌, [], ◌++◌, ℕ, List, length, sym, ap, subst, ◌∙◌, arith, zero-le}
 use Rattle.merge_codes.proofs.Places.{Left, next, all_found, one_number}
-use Rattle.merge_codes.proofs.parts.indexes_of.Goals as goal
+use Rattle.merge_codes.proofs.names.indexes_of.Goals as goal
 
 pub loop-at-init : goal.loop-at-init
 loop-at-init c indexes are = (indexes, ap (λ (z : List ℕ). z ++ indexes) c.new-indexes.ensures.items, are, zero-le)

@@ -1,7 +1,7 @@
 -- A place in a table of lines.
 use Rattle.std.specs.Prelude.{◌≡◌, ℕ, ◌+◌, ◌-◌, ◌*◌, ◌≤◌, List, length, drop}
 use Rattle.bc_prelude.specs.Lines.{entries_of, lines_passed, line_of}
-use Rattle.merge_codes.specs.declared.cursor.Place.{Place}
+use Rattle.bc_prelude.specs.declared.cursor.Place.{Place}
 
 -- the entries in front of it are passed by every offset that isn't in front of it
 pub record IsPlace (table : List ℕ) (place : Place) : Type 0 where

@@ -2,13 +2,13 @@
 use Rattle.std.proofs.Common.{◌≡◌, ℕ, ◌+◌, ◌-◌, ◌<◌, ◌≤◌, List, ◌∷◌, length, drop, false, cond, ltb, ap, ◌∙◌, arith}
 use Rattle.std.proofs.lemmas.Bool.Decides.{nat_tests}
 use Rattle.bc_prelude.specs.Lines.{Entry, entries_of, lines_passed}
-use Rattle.merge_codes.specs.declared.cursor.Place.{Place}
-use Rattle.merge_codes.specs.Cursor.{IsPlace}
+use Rattle.bc_prelude.specs.declared.cursor.Place.{Place}
+use Rattle.bc_prelude.specs.Cursor.{IsPlace}
 
-abbrev pub entry : ℕ → ℕ → Entry
+abbrev entry : ℕ → ℕ → Entry
 entry bytes lines = record { bytes = bytes; lines = lines }
 
-abbrev pub place_of : ℕ → ℕ → ℕ → Place
+abbrev place_of : ℕ → ℕ → ℕ → Place
 place_of at passed line = record { at = at; passed = passed; line = line }
 
 -- an entry that an offset passes

@@ -1,7 +1,7 @@
 use Rattle.std.proofs.Common.{◌-◌, ℕ, List, length}
 use Rattle.bc_prelude.specs.Names.{AreNames}
 use Rattle.merge_codes.proofs.Places.{Left}
-use Rattle.merge_codes.proofs.parts.indexes_of.Given as goal
+use Rattle.merge_codes.proofs.names.indexes_of.Given as goal
 
 abbrev pub invariant-loop-at : goal.invariant-loop-at
 invariant-loop-at l = (indexes : List ℕ) → AreNames indexes l.names → Left l.names indexes l.indexes.items l.at
