@@ -1,11 +1,11 @@
 -- The texts that indexes lead to, one after another.
-use Rattle.std.proofs.Common.{Result, Ok, Err, ◌≡◌, ℕ, ◌+◌, ◌<◌, ◌≤◌, List, [], ◌∷◌, ◌++◌, length, take, drop, map, refl, sym, ap, ap₂, subst, ◌∙◌, append_assoc, length-append, arith}
+use Rattle.std.proofs.Common.{Result, Ok, Err, ◌≡◌, ℕ, ◌+◌, ◌<◌, ◌≤◌, List, [], ◌∷◌, ◌++◌, length, drop, map, refl, sym, ap, ap₂, subst, ◌∙◌, append_assoc, length-append, arith}
 use Rattle.std.specs.Prelude.{IsSome}
 use Rattle.std.specs.List.{AllByRecursion}
-use Rattle.std.proofs.lemmas.List.{append-nil, map-append, drop-drop, length_push, length-drop, length-take-le}
+use Rattle.std.proofs.lemmas.List.{append-nil, map-append, drop-drop, length_push, length-drop}
 use Rattle.std.proofs.Math.Seq.{drop-append_seam}
 use Rattle.mpy_base.specs.Vuint.{Spells}
-use Rattle.bc_prelude.specs.declared.fault.PreludeFault.{PreludeFault}
+use Rattle.mpy_base.specs.declared.vuint.VuintFault.{VuintFault}
 use Rattle.bc_prelude.specs.Names.{AreNames}
 use Rattle.bc_library.specs.Shelf.{Shelf, entry_at, table_text}
 use Rattle.bc_library.specs.Texts.{text_numbered}
@@ -40,18 +40,18 @@ next_by shelf i (index ∷ others) bytes lt names known = record {
 }
 
 -- as many are passed, and the place is behind them
-pub record Walked (shelf : Shelf) (i : ℕ) (code : List ℕ) (end : ℕ) (indexes : List ℕ) (passed place : ℕ) (numbers : List ℕ) : Type 0 where
+pub record Walked (shelf : Shelf) (i : ℕ) (names indexes : List ℕ) (passed place : ℕ) (numbers : List ℕ) : Type 0 where
   pub done : List ℕ
   pub left : List ℕ
   pub indexes_are : indexes ≡ done ++ left
   pub count : length done ≡ passed
   pub named : map (text_numbered shelf.pool) numbers ≡ map (table_text shelf i) done
-  pub left_are : AreNames left (drop place (take end code))
+  pub left_are : AreNames left (drop place names)
   pub known : AllByRecursion (λ index. IsSome (entry_at shelf i index)) left
-  pub within : place ≤ end
+  pub within : place ≤ length names
 
-pub walked_none : (shelf : Shelf) (i : ℕ) (code : List ℕ) (at end count : ℕ) (numbers : List ℕ) → at ≤ end → numbers ≡ [] → (indexes : List ℕ) → AreIndexes shelf i count (drop at (take end code)) indexes → Walked shelf i code end indexes 0 at numbers
-walked_none shelf i code at end count numbers within none indexes a = record {
+pub walked_none : (shelf : Shelf) (i count : ℕ) (names numbers : List ℕ) → numbers ≡ [] → (indexes : List ℕ) → AreIndexes shelf i count names indexes → Walked shelf i names indexes 0 0 numbers
+walked_none shelf i count names numbers none indexes a = record {
   done = [];
   left = indexes;
   indexes_are = refl;
@@ -59,18 +59,16 @@ walked_none shelf i code at end count numbers within none indexes a = record {
   named = ap (map (text_numbered shelf.pool)) none;
   left_are = a.names;
   known = a.known;
-  within = within;
+  within = omega arith;
 }
 
-pub next_of : (shelf : Shelf) (i : ℕ) (code : List ℕ) (end : ℕ) (indexes : List ℕ) (passed place : ℕ) (numbers : List ℕ) (w : Walked shelf i code end indexes passed place numbers) → passed < length indexes → Next shelf i w.left (drop place (take end code))
-next_of shelf i code end indexes passed place numbers w lt =
-    next_by shelf i w.left (drop place (take end code)) (omega (arith, lt, ap length w.indexes_are, length-append w.done w.left, w.count)) w.left_are w.known
+pub next_of : (shelf : Shelf) (i : ℕ) (names indexes : List ℕ) (passed place : ℕ) (numbers : List ℕ) (w : Walked shelf i names indexes passed place numbers) → passed < length indexes → Next shelf i w.left (drop place names)
+next_of shelf i names indexes passed place numbers w lt =
+    next_by shelf i w.left (drop place names) (omega (arith, lt, ap length w.indexes_are, length-append w.done w.left, w.count)) w.left_are w.known
 
-pub walked_more : (shelf : Shelf) (i : ℕ) (code : List ℕ) (end : ℕ) (indexes : List ℕ) (passed place : ℕ) (numbers : List ℕ) (w : Walked shelf i code end indexes passed place numbers) (n : Next shelf i w.left (drop place (take end code))) (number behind : ℕ) (more : List ℕ) → end ≤ length code → text_numbered shelf.pool number ≡ table_text shelf i n.index → behind ≡ place + length n.text → more ≡ numbers ++ number ∷ [] → Walked shelf i code end indexes (passed + 1) behind more
-walked_more shelf i code end indexes passed place numbers w n number behind more inside is place_is more_is =
-    let whole = take end code in
-    let rest : drop behind whole ≡ n.rest = ap (λ (z : ℕ). drop z whole) place_is ∙ (sym (drop-drop (length n.text) place whole) ∙ (ap (drop (length n.text)) n.bytes_are ∙ drop-append_seam n.text n.rest)) in
-    let long = length-take-le end code inside in
+pub walked_more : (shelf : Shelf) (i : ℕ) (names indexes : List ℕ) (passed place : ℕ) (numbers : List ℕ) (w : Walked shelf i names indexes passed place numbers) (n : Next shelf i w.left (drop place names)) (number behind : ℕ) (more : List ℕ) → text_numbered shelf.pool number ≡ table_text shelf i n.index → behind ≡ place + length n.text → more ≡ numbers ++ number ∷ [] → Walked shelf i names indexes (passed + 1) behind more
+walked_more shelf i names indexes passed place numbers w n number behind more is place_is more_is =
+    let rest : drop behind names ≡ n.rest = ap (λ (z : ℕ). drop z names) place_is ∙ (sym (drop-drop (length n.text) place names) ∙ (ap (drop (length n.text)) n.bytes_are ∙ drop-append_seam n.text n.rest)) in
     record {
       done = w.done ++ n.index ∷ [];
       left = n.others;
@@ -80,7 +78,7 @@ walked_more shelf i code end indexes passed place numbers w n number behind more
           ∙ (ap₂ (λ a b. a ++ b ∷ []) w.named is ∙ sym (map-append (table_text shelf i) w.done (n.index ∷ []))));
       left_are = subst (AreNames n.others) (sym rest) n.behind;
       known = n.known;
-      within = omega (arith, w.within, place_is, long, ap length n.bytes_are, length-append n.text n.rest, length-drop place whole);
+      within = omega (arith, w.within, place_is, ap length n.bytes_are, length-append n.text n.rest, length-drop place names);
     }
 
 -- no index is left
@@ -88,8 +86,8 @@ none_left : (left : List ℕ) → length left ≡ 0 → left ≡ []
 none_left [] e = refl
 none_left (index ∷ left) e = absurd (omega (arith, e))
 
-pub walked_all : (shelf : Shelf) (i : ℕ) (code : List ℕ) (end : ℕ) (indexes : List ℕ) (passed place : ℕ) (numbers : List ℕ) → Walked shelf i code end indexes passed place numbers → length indexes ≤ passed → map (text_numbered shelf.pool) numbers ≡ map (table_text shelf i) indexes
-walked_all shelf i code end indexes passed place numbers w le =
+pub walked_all : (shelf : Shelf) (i : ℕ) (names indexes : List ℕ) (passed place : ℕ) (numbers : List ℕ) → Walked shelf i names indexes passed place numbers → length indexes ≤ passed → map (text_numbered shelf.pool) numbers ≡ map (table_text shelf i) indexes
+walked_all shelf i names indexes passed place numbers w le =
     let none : w.left ≡ [] = none_left w.left (omega (arith, le, ap length w.indexes_are, length-append w.done w.left, w.count)) in
     let all : indexes ≡ w.done = w.indexes_are ∙ (ap (λ z. w.done ++ z) none ∙ append-nil w.done) in
     w.named ∙ ap (map (table_text shelf i)) (sym all)
@@ -103,7 +101,7 @@ abbrev second_of : {E : Type 0} → ℕ → Result (ℕ × ℕ) E → ℕ
 second_of n (Ok p) = p.1
 second_of n (Err e) = n
 
-abbrev read_as : ℕ → ℕ → Result (ℕ × ℕ) PreludeFault
+abbrev read_as : ℕ → ℕ → Result (ℕ × ℕ) VuintFault
 read_as index behind = Ok (index, behind)
 
 pub both_read : (a b x y : ℕ) → read_as a x ≡ read_as b y → (a ≡ b) × (x ≡ y)

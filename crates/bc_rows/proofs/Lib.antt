@@ -1,6 +1,6 @@
 mod Indexes
 mod Locals
 mod Numbering
-mod Preludes
+pub mod Preludes
 mod Runs
 mod Tables

@@ -1,5 +1,5 @@
 -- The codes of a module and those of its tree, each for each.
-use Rattle.std.proofs.Common.{◌≡◌, ℕ, zero, suc, ◌+◌, List, [], ◌∷◌, ◌++◌, length, take, drop, map, option_map, Option, Some, None, refl, sym, ap, ap₂, subst, ◌∙◌, length-append, arith}
+use Rattle.std.proofs.Common.{◌≡◌, ℕ, zero, suc, ◌+◌, List, [], ◌∷◌, ◌++◌, length, map, option_map, Option, Some, None, refl, sym, ap, ap₂, subst, ◌∙◌, length-append, arith}
 use Rattle.std.specs.Prelude.{slice_get, max, option_and_then, unwrap_or}
 use Rattle.std.proofs.lemmas.List.{length-map}
 use Rattle.std.proofs.lemmas.Option.{slice_get-map}
@@ -14,16 +14,14 @@ use Rattle.bc_ops.specs.Listing as listing
 use Rattle.bc_ops.specs.Listing.{Lists, starts}
 use Rattle.bc_ops.proofs.Lists.{one_listing}
 use Rattle.bc_prelude.specs.declared.prelude.Prelude.{Prelude}
-use Rattle.bc_prelude.specs.Prelude.{Begins}
 use Rattle.bc_prelude.specs.Lines as tables
-use Rattle.bc_prelude.proofs.Preludes.{same_prelude}
-use Rattle.bc_prelude.proofs.Indexes.{same_indexes}
 use Rattle.bc_offsets.specs.Positions.{CodeList, Listed, Starts, Reads, position_in}
-use Rattle.bc_verify.proofs.Bodies.{same_instructions}
 use Rattle.mpy_tree.specs.declared.raw.RawCode.{RawCode}
 use Rattle.mpy_tree.specs.Raw as raw
 use Rattle.mpy_tree.specs.declared.module.Constant.{Constant}
 use Rattle.mpy_tree.specs.Values.{value_of}
+use Rattle.mpy_tree.specs.Codes.{Placed, codes_by, numbers_by, codes_to, codes_of}
+use Rattle.mpy_tree.proofs.Codes.{children, Nests, EachNests, whole, module_nests}
 use Rattle.mpy_tree.specs.Resolved as trees
 use Rattle.mpy_tree.specs.File.{IsModule}
 use Rattle.mpy_tree.specs.Resolved.{Resolved, ResolvedLine, Body, instrs_of, line_numbers, Tree, node, Trees, no_more, more, ResolvedModule, name_at, resolved, IsBody, ResolvesCode, ResolveCodes, Resolves}
@@ -32,40 +30,38 @@ use Rattle.bc_library.specs.Texts.{text_numbered}
 use Rattle.bc_machine.specs.Library as machine
 use Rattle.bc_machine.specs.Library.{Code, Line, code_of, codes_from, size_of, sizes_of, numbers_from, module_of}
 use Rattle.bc_rows.specs.declared.row.Row.{Row}
-use Rattle.bc_rows.specs.Codes.{Numbered, codes_by, numbers_by, codes_to, codes_of}
 use Rattle.bc_flow.specs.Code.{item_locals, locals}
 use Rattle.bc_rows.specs.Rows.{IsRowOf, IsRow}
 use Rattle.bc_rows.specs.Runs.{RunsAs, line_at}
-use Rattle.bc_rows.proofs.Numbering.{children, Nests, EachNests, whole}
-use Rattle.bc_rows.proofs.Preludes.{parts_of}
+use Rattle.bc_rows.proofs.Preludes.{SameParts, same_parts}
 
 -- the machine's codes, one for each
 -- =================================
 
-pub record IsCodeOf (m : raw.Module) (n : Numbered) (code : Code) : Type 0 where
+pub record IsCodeOf (m : raw.Module) (n : Placed) (code : Code) : Type 0 where
   pub body : Body
   pub is_body : IsBody m n.bytes body
   pub code_is : code ≡ code_of body n.children
 
-abbrev pub Match : raw.Module → List Numbered → List Code → Type 0
+abbrev pub Match : raw.Module → List Placed → List Code → Type 0
 Match m [] [] = Unit {0}
 Match m [] (c ∷ cs) = ⊥
 Match m (n ∷ ns) [] = ⊥
 Match m (n ∷ ns) (c ∷ cs) = IsCodeOf m n c × Match m ns cs
 
-match_append : (m : raw.Module) (a b : List Numbered) (x y : List Code) → Match m a x → Match m b y → Match m (a ++ b) (x ++ y)
+match_append : (m : raw.Module) (a b : List Placed) (x y : List Code) → Match m a x → Match m b y → Match m (a ++ b) (x ++ y)
 match_append m [] b [] y h k = k
 match_append m [] b (c ∷ x) y h k = absurd h
 match_append m (n ∷ a) b [] y h k = absurd h
 match_append m (n ∷ a) b (c ∷ x) y h k = (h.0, match_append m a b x y h.1 k)
 
-pub match_count : (m : raw.Module) (a : List Numbered) (x : List Code) → Match m a x → length x ≡ length a
+pub match_count : (m : raw.Module) (a : List Placed) (x : List Code) → Match m a x → length x ≡ length a
 match_count m [] [] h = refl
 match_count m [] (c ∷ x) h = absurd h
 match_count m (n ∷ a) [] h = absurd h
 match_count m (n ∷ a) (c ∷ x) h = ap suc (match_count m a x h.1)
 
-pub match_at : (m : raw.Module) (a : List Numbered) (x : List Code) (k : ℕ) (n : Numbered) → Match m a x → slice_get a k ≡ Some n → (code : Code) × (slice_get x k ≡ Some code) × IsCodeOf m n code
+pub match_at : (m : raw.Module) (a : List Placed) (x : List Code) (k : ℕ) (n : Placed) → Match m a x → slice_get a k ≡ Some n → (code : Code) × (slice_get x k ≡ Some code) × IsCodeOf m n code
 match_at m [] x k n h e = absurd cc
 match_at m (p ∷ a) [] k n h e = absurd h
 match_at m (p ∷ a) (c ∷ x) zero n h e = let same : p ≡ n = cc in (c, refl, subst (λ z. IsCodeOf m z c) same h.0)
@@ -86,47 +82,48 @@ module _ (m : raw.Module) where
   abbrev texts : ℕ
   texts = length m.qstrs
 
-  record MatchAll (levels number : ℕ) (trees : Trees) (codes : List RawCode) : Type 0 where
-    codes_match : Match m (codes_by (codes_to levels) number codes) (machine.codes_of number trees)
-    numbers_match : numbers_by (codes_to levels) number codes ≡ numbers_from number trees
+  record MatchAll (levels : ℕ) (path : List ℕ) (place number : ℕ) (trees : Trees) (codes : List RawCode) : Type 0 where
+    codes_match : Match m (codes_by (codes_to levels) path place number codes) (machine.codes_of number trees)
+    numbers_match : numbers_by (codes_to levels) path place number codes ≡ numbers_from number trees
 
-  no_codes : (levels number : ℕ) (codes : List RawCode) → codes ≡ [] → MatchAll levels number no_more codes
-  no_codes levels number codes e =
-      subst (MatchAll levels number no_more) (sym e) (record { codes_match = tt; numbers_match = refl })
+  no_codes : (levels : ℕ) (path : List ℕ) (place number : ℕ) (codes : List RawCode) → codes ≡ [] → MatchAll levels path place number no_more codes
+  no_codes levels path place number codes e =
+      subst (MatchAll levels path place number no_more) (sym e) (record { codes_match = tt; numbers_match = refl })
 
-  more_codes : (levels number : ℕ) (tree : Tree) (trees : Trees) (first : RawCode) (others : List RawCode) → Match m (codes_to levels number first) (codes_from number tree) → MatchAll levels (number + size_of tree) trees others → MatchAll levels number (more tree trees) (first ∷ others)
-  more_codes levels number tree trees first others h k =
-      let size : number + length (codes_to levels number first) ≡ number + size_of tree = ap (λ n. number + n) (sym (match_count m (codes_to levels number first) (codes_from number tree) h) ∙ count_tree number tree) in
-      let behind = codes_by (codes_to levels) in
+  more_codes : (levels : ℕ) (path : List ℕ) (place number : ℕ) (tree : Tree) (trees : Trees) (first : RawCode) (others : List RawCode) → Match m (codes_to levels (path ++ place ∷ []) number first) (codes_from number tree) → MatchAll levels path (suc place) (number + size_of tree) trees others → MatchAll levels path place number (more tree trees) (first ∷ others)
+  more_codes levels path place number tree trees first others h k =
+      let here = codes_to levels (path ++ place ∷ []) number first in
+      let size : number + length here ≡ number + size_of tree = ap (λ n. number + n) (sym (match_count m here (codes_from number tree) h) ∙ count_tree number tree) in
+      let behind = codes_by (codes_to levels) path (suc place) in
       record {
-        codes_match = subst (λ n. Match m (codes_to levels number first ++ behind n others) (codes_from number tree ++ machine.codes_of (number + size_of tree) trees)) (sym size)
-            (match_append m (codes_to levels number first) (behind (number + size_of tree) others) (codes_from number tree) (machine.codes_of (number + size_of tree) trees) h k.codes_match);
-        numbers_match = ap (λ z. number ∷ z) (ap (λ n. numbers_by (codes_to levels) n others) size ∙ k.numbers_match);
+        codes_match = subst (λ n. Match m (here ++ behind n others) (codes_from number tree ++ machine.codes_of (number + size_of tree) trees)) (sym size)
+            (match_append m here (behind (number + size_of tree) others) (codes_from number tree) (machine.codes_of (number + size_of tree) trees) h k.codes_match);
+        numbers_match = ap (λ z. number ∷ z) (ap (λ n. numbers_by (codes_to levels) path (suc place) n others) size ∙ k.numbers_match);
       }
 
   mutual
     unfolding codes_to
 
-    tree_matches : (levels number : ℕ) (tree : Tree) (code : RawCode) → Nests texts levels code → ResolvesCode m tree code → Match m (codes_to levels number code) (codes_from number tree)
-    tree_matches zero number (node body trees) code nests h = absurd (let w = whole texts 0 code nests in let no : 0 ≡ suc w.below = w.levels_are in cc)
-    tree_matches (suc levels) number (node body trees) code nests h =
+    tree_matches : (levels : ℕ) (path : List ℕ) (number : ℕ) (tree : Tree) (code : RawCode) → Nests texts levels code → ResolvesCode m tree code → Match m (codes_to levels path number code) (codes_from number tree)
+    tree_matches zero path number (node body trees) code nests h = absurd (let w = whole texts 0 code nests in let no : 0 ≡ suc w.below = w.levels_are in cc)
+    tree_matches (suc levels) path number (node body trees) code nests h =
         let w = whole texts (suc levels) code nests in
         let below : w.below ≡ levels = omega (arith, w.levels_are) in
         let each = subst (λ l. EachNests texts l (children code)) below w.each in
-        let all = trees_match levels (suc number) trees (children code) each h.1 in
+        let all = trees_match levels path 0 (suc number) trees (children code) each h.1 in
         (record { body = body; is_body = h.0; code_is = ap (code_of body) (sym all.numbers_match) }, all.codes_match)
 
-    trees_match : (levels number : ℕ) (trees : Trees) (codes : List RawCode) → EachNests texts levels codes → ResolveCodes m trees codes → MatchAll levels number trees codes
-    trees_match levels number no_more codes each h = no_codes levels number codes h
-    trees_match levels number (more tree trees) codes each h =
+    trees_match : (levels : ℕ) (path : List ℕ) (place number : ℕ) (trees : Trees) (codes : List RawCode) → EachNests texts levels codes → ResolveCodes m trees codes → MatchAll levels path place number trees codes
+    trees_match levels path place number no_more codes each h = no_codes levels path place number codes h
+    trees_match levels path place number (more tree trees) codes each h =
         let here : slice_get codes 0 ≡ Some h.0 = ap (λ z. slice_get z 0) h.2 in
         let others : EachNests texts levels h.1 = λ n code at. each (suc n) code (ap (λ z. slice_get z (suc n)) h.2 ∙ at) in
-        let first = tree_matches levels number tree h.0 (each 0 h.0 here) h.3 in
-        let behind = trees_match levels (number + size_of tree) trees h.1 others h.4 in
-        subst (MatchAll levels number (more tree trees)) (sym h.2) (more_codes levels number tree trees h.0 h.1 first behind)
+        let first = tree_matches levels (path ++ place ∷ []) number tree h.0 (each 0 h.0 here) h.3 in
+        let behind = trees_match levels path (suc place) (number + size_of tree) trees h.1 others h.4 in
+        subst (MatchAll levels path place number (more tree trees)) (sym h.2) (more_codes levels path place number tree trees h.0 h.1 first behind)
 
 pub all_match : (m : raw.Module) (tree : ResolvedModule) → IsModule m → Resolves m tree → Match m (codes_of m) (module_of tree).codes
-all_match m tree is r = tree_matches m MAX_DEPTH 0 tree.code m.code (is.1.code, is.1.is_code) r.code
+all_match m tree is r = tree_matches m MAX_DEPTH [] 0 tree.code m.code (module_nests m is) r.code
 
 -- a row and the machine's code
 -- ============================
@@ -178,12 +175,6 @@ texts_known shelf i m e [] = refl
 texts_known shelf i m e (n ∷ ns) =
     ap₂ (λ t ts. t ∷ ts) (ap (λ o. option_and_then raw.text_of (option_and_then (λ (m : raw.Module). slice_get m.qstrs n) o)) e) (texts_known shelf i m e ns)
 
--- a code has one list of indexes
-same_names_of : (bytes : List ℕ) (p q : Prelude) (a : Begins bytes p) (b : Begins bytes q) → p ≡ q → length a.indexes ≡ length b.indexes → a.indexes ≡ b.indexes
-same_names_of bytes p q a b e count =
-    let names : a.names ≡ b.names = sym (parts_of bytes p a).names_are ∙ (ap (λ (z : Prelude). drop z.info_at (take z.lines_at bytes)) e ∙ (parts_of bytes q b).names_are) in
-    same_indexes a.indexes b.indexes a.names b.names [] [] a.are_names b.are_names count (ap (λ z. z ++ []) names)
-
 -- what a row and a body say of the same bytes
 record Same (m : raw.Module) (row : Row) (body : Body) : Type 0 where
   items : List Item
@@ -192,21 +183,16 @@ record Same (m : raw.Module) (row : Row) (body : Body) : Type 0 where
   instrs : instrs_of body ≡ map (resolved m) items
   lines : line_numbers body ≡ map (tables.line_of row.line_table.now) offsets
 
-same : (shelf : Shelf) (i : ℕ) (m : raw.Module) (n : Numbered) (row : Row) (body : Body) → IsRowOf shelf i n row → IsBody m n.bytes body → Same m row body
+same : (shelf : Shelf) (i : ℕ) (m : raw.Module) (n : Placed) (row : Row) (body : Body) → IsRowOf shelf i n row → IsBody m n.bytes body → Same m row body
 same shelf i m n row body r b =
-    let preludes : b.prelude ≡ r.prelude = same_prelude n.bytes b.prelude r.prelude b.begins r.begins in
-    let instructions : b.begins.instructions ≡ row.instructions.now = same_instructions n.bytes b.prelude r.prelude b.begins r.begins preludes ∙ sym r.instructions in
-    let table : b.begins.lines ≡ row.line_table.now =
-    sym (parts_of n.bytes b.prelude b.begins).table_is
-    ∙ (ap (λ (p : Prelude). drop p.lines_at (take p.code_at n.bytes)) preludes
-    ∙ ((parts_of n.bytes r.prelude r.begins).table_is ∙ sym r.line_table)) in
+    let parts : SameParts n.bytes b.prelude r.prelude b.begins r.begins = same_parts n.bytes b.prelude r.prelude b.begins r.begins in
     let lists : Lists b.begins.instructions b.items (starts 0 b.is_list.pieces) = record { is_list = b.is_list; offsets_are = refl } in
     record {
       items = b.items;
       offsets = starts 0 b.is_list.pieces;
-      lists = subst (λ z. Lists z b.items (starts 0 b.is_list.pieces)) instructions lists;
+      lists = subst (λ z. Lists z b.items (starts 0 b.is_list.pieces)) (parts.instructions ∙ sym r.instructions) lists;
       instrs = b.instrs;
-      lines = b.lines ∙ ap (λ z. map (tables.line_of z) (starts 0 b.is_list.pieces)) table;
+      lines = b.lines ∙ ap (λ z. map (tables.line_of z) (starts 0 b.is_list.pieces)) (parts.lines ∙ sym r.line_table);
     }
 
 size_is : (m : raw.Module) (items : List Item) (body : Body) → instrs_of body ≡ map (resolved m) items → length body.lines ≡ length items
@@ -229,25 +215,23 @@ line_there m row body children s l at instr end listed starts reads =
     ∙ (ap (option_map (machine.line_of (length body.lines))) line
     ∙ ap (λ z. Some (line_at m z row.line_table.now at item)) size)
 
-runs_as : (shelf : Shelf) (i : ℕ) (m : raw.Module) (n : Numbered) (row : Row) (code : Code) → module_at shelf i ≡ Some m → IsRowOf shelf i n row → IsCodeOf m n code → RunsAs shelf m row code
+runs_as : (shelf : Shelf) (i : ℕ) (m : raw.Module) (n : Placed) (row : Row) (code : Code) → module_at shelf i ≡ Some m → IsRowOf shelf i n row → IsCodeOf m n code → RunsAs shelf m row code
 runs_as shelf i m n row code there r c =
     let body = c.body in
     let b = c.is_body in
-    let preludes : b.prelude ≡ r.prelude = same_prelude n.bytes b.prelude r.prelude b.begins r.begins in
+    let parts : SameParts n.bytes b.prelude r.prelude b.begins r.begins = same_parts n.bytes b.prelude r.prelude b.begins r.begins in
     let s = same shelf i m n row body r b in
     let one = one_listing row.instructions.now r.list.items s.items r.list.offsets s.offsets r.listed s.lists in
-    let args : b.prelude.args ≡ r.prelude.args = ap (λ (p : Prelude). p.args) preludes in
-    let count : length b.begins.indexes ≡ length r.begins.indexes = omega (arith, b.begins.count, r.begins.count, args) in
-    let indexes : b.begins.indexes ≡ r.begins.indexes = same_names_of n.bytes b.prelude r.prelude b.begins r.begins preludes count in
+    let args : b.prelude.args ≡ r.prelude.args = ap (λ (p : Prelude). p.args) parts.prelude in
     let texts : map (text_numbered shelf.pool) (row.name ∷ row.params) ≡ map Some (body.name ∷ body.args) =
-    r.names ∙ (texts_known shelf i m there r.begins.indexes ∙ (ap (map (name_at m)) (sym indexes) ∙ b.names)) in
+    r.names ∙ (texts_known shelf i m there r.begins.indexes ∙ (ap (map (name_at m)) (sym parts.indexes) ∙ b.names)) in
     let params : length body.args ≡ r.prelude.args =
     (let n1 = ap length b.names in let n2 = length-map b.begins.indexes (name_at m) in let n3 : length (map (λ (t : List ℕ). Some t) body.args) ≡ length body.args = length-map body.args (λ (t : List ℕ). Some t) in omega (arith, n1, n2, n3, b.begins.count, args)) in
     let is = c.code_is in
     subst (RunsAs shelf m row) (sym is) (record {
       name = cc;
       params = cc;
-      given = r.given ∙ (ap (λ (p : Prelude). p.defaults) (sym preludes) ∙ sym b.defaults);
+      given = r.given ∙ (ap (λ (p : Prelude). p.defaults) (sym parts.prelude) ∙ sym b.defaults);
       locals = r.locals ∙ (ap₂ locals (sym params) one.0 ∙ (sym (locals_are m (length body.args) s.items) ∙ ap (machine.locals_of (length body.args)) (sym s.instrs)));
       children = r.children;
       as_many = λ l h.
@@ -257,7 +241,7 @@ runs_as shelf i m n row code there r c =
     })
 
 -- the machine's code of a number, where there is one
-pub runs_at : (shelf : Shelf) (i k : ℕ) (m : raw.Module) (tree : ResolvedModule) (n : Numbered) (row : Row) → module_at shelf i ≡ Some m → IsModule m → Resolves m tree → slice_get (codes_of m) k ≡ Some n → IsRowOf shelf i n row → (code : Code) × (slice_get (module_of tree).codes k ≡ Some code) × RunsAs shelf m row code
+pub runs_at : (shelf : Shelf) (i k : ℕ) (m : raw.Module) (tree : ResolvedModule) (n : Placed) (row : Row) → module_at shelf i ≡ Some m → IsModule m → Resolves m tree → slice_get (codes_of m) k ≡ Some n → IsRowOf shelf i n row → (code : Code) × (slice_get (module_of tree).codes k ≡ Some code) × RunsAs shelf m row code
 runs_at shelf i k m tree n row there is resolves at r =
     let found = match_at m (codes_of m) (module_of tree).codes k n (all_match m tree is resolves) at in
     (found.0, found.1, runs_as shelf i m n row found.0 there r found.2)

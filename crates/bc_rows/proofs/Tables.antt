@@ -9,10 +9,11 @@ use Rattle.qstr_pool.specs.Pool.{Texts, text_of}
 use Rattle.qstr_pool.specs.Static.{static_text_of}
 use Rattle.mpy_tree.specs.Raw.{Module}
 use Rattle.mpy_tree.specs.File.{IsModule}
+use Rattle.mpy_tree.specs.Codes.{Placed, codes_of}
 use Rattle.bc_library.specs.Shelf.{Shelf, Named, names, module_at, member_by, member_of}
 use Rattle.bc_library.specs.Texts.{text_numbered}
 use Rattle.bc_rows.specs.declared.row.Row.{Row}
-use Rattle.bc_rows.specs.Codes.{Numbered, codes_of, code_at}
+use Rattle.bc_rows.specs.Codes.{code_numbered}
 use Rattle.bc_rows.specs.Rows.{IsRowOf, IsRow, module_named}
 use Rattle.bc_rows.specs.Made.{AreRows, AreTables, AreNamed, IsKept, module_in}
 use Rattle.bc_library.proofs.Told.{behind}
@@ -68,20 +69,20 @@ one_table shelf tables more i m rows are count there is h e k found at =
 -- the row that is found
 -- =====================
 
-row_there : (shelf : Shelf) (i : ℕ) (codes : List Numbered) (rows : List Row) (k : ℕ) (row : Row) → AreRows shelf i codes rows → slice_get rows k ≡ Some row → (code : Numbered) × (slice_get codes k ≡ Some code) × IsRowOf shelf i code row
+row_there : (shelf : Shelf) (i : ℕ) (codes : List Placed) (rows : List Row) (k : ℕ) (row : Row) → AreRows shelf i codes rows → slice_get rows k ≡ Some row → (code : Placed) × (slice_get codes k ≡ Some code) × IsRowOf shelf i code row
 row_there shelf i [] [] k row h e = absurd cc
 row_there shelf i [] (r ∷ rows) k row h e = absurd h
 row_there shelf i (c ∷ codes) [] k row h e = absurd h
 row_there shelf i (c ∷ codes) (r ∷ rows) zero row h e = let same : r ≡ row = cc in (c, refl, subst (IsRowOf shelf i c) same h.0)
 row_there shelf i (c ∷ codes) (r ∷ rows) (suc k) row h e = row_there shelf i codes rows k row h.1 e
 
-no_row : (shelf : Shelf) (i : ℕ) (codes : List Numbered) (rows : List Row) (k : ℕ) → AreRows shelf i codes rows → slice_get rows k ≡ None → slice_get codes k ≡ None
+no_row : (shelf : Shelf) (i : ℕ) (codes : List Placed) (rows : List Row) (k : ℕ) → AreRows shelf i codes rows → slice_get rows k ≡ None → slice_get codes k ≡ None
 no_row shelf i [] rows k h e = refl
 no_row shelf i (c ∷ codes) [] k h e = absurd h
 no_row shelf i (c ∷ codes) (r ∷ rows) zero h e = absurd cc
 no_row shelf i (c ∷ codes) (r ∷ rows) (suc k) h e = no_row shelf i codes rows k h.1 e
 
-code_in : (shelf : Shelf) (i k : ℕ) (m : Module) (o : Option Numbered) → module_at shelf i ≡ Some m → slice_get (codes_of m) k ≡ o → code_at shelf i k ≡ o
+code_in : (shelf : Shelf) (i k : ℕ) (m : Module) (o : Option Placed) → module_at shelf i ≡ Some m → slice_get (codes_of m) k ≡ o → code_numbered shelf i k ≡ o
 code_in shelf i k m o e f = ap (option_and_then (λ (m : Module). slice_get (codes_of m) k)) e ∙ f
 
 pub row_found : (shelf : Shelf) (tables : List (List Row)) (i k : ℕ) (rows : List Row) (r : Option (Bor Row)) → AreTables shelf tables → slice_get tables i ≡ Some rows → option_copied r ≡ slice_get rows k → IfSome r (λ row. IsRow shelf i k row.now)
@@ -95,9 +96,9 @@ none_by : (P : Type 0) (r : Option (Bor Row)) (o : Option Row) → option_copied
 none_by P None o e f = f (sym e)
 none_by P (Some b) o e f = tt
 
-pub row_missing : (shelf : Shelf) (tables : List (List Row)) (i k : ℕ) (rows : List Row) (r : Option (Bor Row)) → AreTables shelf tables → slice_get tables i ≡ Some rows → option_copied r ≡ slice_get rows k → IfNone r (code_at shelf i k ≡ None)
+pub row_missing : (shelf : Shelf) (tables : List (List Row)) (i k : ℕ) (rows : List Row) (r : Option (Bor Row)) → AreTables shelf tables → slice_get tables i ≡ Some rows → option_copied r ≡ slice_get rows k → IfNone r (code_numbered shelf i k ≡ None)
 row_missing shelf tables i k rows r are there e =
-    none_by (code_at shelf i k ≡ None) r (slice_get rows k) e (λ at.
+    none_by (code_numbered shelf i k ≡ None) r (slice_get rows k) e (λ at.
     let t = are i rows there in
     code_in shelf i k t.0 None t.1 (no_row shelf i (codes_of t.0) rows k t.3 at))
 
@@ -106,7 +107,7 @@ past_tables [] i e = omega arith
 past_tables (t ∷ tables) zero e = absurd cc
 past_tables (t ∷ tables) (suc i) e = let le = past_tables tables i e in omega (arith, le)
 
-pub table_missing : (shelf : Shelf) (tables : List (List Row)) (named : List (Option ℕ)) (i k : ℕ) → IsKept shelf tables named → slice_get tables i ≡ None → code_at shelf i k ≡ None
+pub table_missing : (shelf : Shelf) (tables : List (List Row)) (named : List (Option ℕ)) (i k : ℕ) → IsKept shelf tables named → slice_get tables i ≡ None → code_numbered shelf i k ≡ None
 table_missing shelf tables named i k kept e = ap (option_and_then (λ (m : Module). slice_get (codes_of m) k)) (kept.all i (past_tables tables i e))
 
 -- names

@@ -3,13 +3,13 @@ use Rattle.std.specs.Prelude.{◌≡◌, ℕ, ◌<◌, ◌≤◌, ◌^◌, List,
 use Rattle.std.specs.List.{AllByRecursion}
 use Rattle.mpy_tree.specs.declared.raw.RawCode.{RawCode}
 use Rattle.mpy_tree.specs.Raw.{Module}
+use Rattle.mpy_tree.specs.Codes.{Placed, codes_of}
 use Rattle.mpy_tree.specs.File.{IsOwnCode, IsCode, IsModule}
 use Rattle.bc_prelude.specs.Names.{AreNames}
 use Rattle.bc_library.specs.declared.fault.Member.{Member}
 use Rattle.bc_library.specs.declared.fault.Member.TheVariants as members
 use Rattle.bc_library.specs.Shelf.{Shelf, module_at, entry_at}
 use Rattle.bc_rows.specs.declared.row.Row.{Row}
-use Rattle.bc_rows.specs.Codes.{Numbered, codes_of}
 use Rattle.bc_rows.specs.Rows.{IsRowOf, module_named}
 
 -- the bytes are `count` indexes of the module's table
@@ -27,7 +27,7 @@ abbrev pub IsCodeIn : Shelf → ℕ → ℕ → RawCode → Type 0
 IsCodeIn shelf i levels code = (m : Module) × (module_at shelf i ≡ Some m) × (text : List ℕ) × IsCode levels (length m.qstrs) text code
 
 -- a row for each of these codes
-abbrev pub AreRows : Shelf → ℕ → List Numbered → List Row → Type 0
+abbrev pub AreRows : Shelf → ℕ → List Placed → List Row → Type 0
 AreRows shelf i [] [] = Unit {0}
 AreRows shelf i [] (row ∷ rows) = ⊥
 AreRows shelf i (code ∷ codes) [] = ⊥
@@ -38,7 +38,7 @@ abbrev pub with_children : Row → List ℕ → Row
 with_children row numbers = record row { children = numbers }
 
 -- those rows are behind the others
-abbrev pub Adds : Shelf → ℕ → List Numbered → List Row → List Row → Type 0
+abbrev pub Adds : Shelf → ℕ → List Placed → List Row → List Row → Type 0
 Adds shelf i codes before after = (added : List Row) × (after ≡ before ++ added) × AreRows shelf i codes added
 
 -- the rows of the first modules

@@ -5,14 +5,15 @@ use Rattle.bc_prelude.specs.declared.prelude.Prelude.{Prelude}
 use Rattle.bc_prelude.specs.Prelude.{Begins}
 use Rattle.bc_flow.specs.Code.{locals}
 use Rattle.bc_offsets.specs.Positions.{CodeList, Listed}
+use Rattle.mpy_tree.specs.Codes.{Placed}
 use Rattle.bc_library.specs.Shelf.{Shelf, names, table_text}
 use Rattle.bc_library.specs.Texts.{text_numbered}
 use Rattle.bc_rows.specs.declared.row.Row.{Row}
-use Rattle.bc_rows.specs.Codes.{Numbered, code_at}
+use Rattle.bc_rows.specs.Codes.{code_numbered}
 
 -- the row is what the prelude and the tables of the code say, whose module has the number i: its texts are those that the
 -- code's indexes lead to
-pub record IsRowOf (shelf : Shelf) (i : ℕ) (code : Numbered) (row : Row) : Type 0 where
+pub record IsRowOf (shelf : Shelf) (i : ℕ) (code : Placed) (row : Row) : Type 0 where
   pub prelude : Prelude
   pub begins : Begins code.bytes prelude
   pub instructions : row.instructions.now ≡ begins.instructions
@@ -31,8 +32,8 @@ pub record IsRowOf (shelf : Shelf) (i : ℕ) (code : Numbered) (row : Row) : Typ
 
 -- the row is of the code that has the number k in the module i
 pub record IsRow (shelf : Shelf) (i k : ℕ) (row : Row) : Type 0 where
-  pub code : Numbered
-  pub there : code_at shelf i k ≡ Some code
+  pub code : Placed
+  pub there : code_numbered shelf i k ≡ Some code
   pub is_row : IsRowOf shelf i code row
 
 -- the first module whose name is the text of the number

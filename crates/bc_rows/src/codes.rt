@@ -1,11 +1,11 @@
 //! The rows of the codes of a module.
 
-ghost use Rattle.std.specs.Prelude.{◌≡◌, ◌<◌, length, IfOk, OnOk, Some, slice_get, slice_set};
+ghost use Rattle.std.specs.Prelude.{◌≡◌, ◌<◌, ℕ, List, length, IfOk, OnOk, Some, slice_get, slice_set};
 ghost use Rattle.mpy_tree.specs.File.{IsModule};
+ghost use Rattle.mpy_tree.specs.Codes.{codes_to, codes_of};
 ghost use Rattle.bc_library.specs.Shelf.{module_at, table_text};
 ghost use Rattle.bc_library.specs.Texts.{text_numbered};
 ghost use Rattle.bc_rows.specs.declared.row.Row.{Row};
-ghost use Rattle.bc_rows.specs.Codes.{codes_to, codes_of};
 ghost use Rattle.bc_rows.specs.Made.{Adds, AreRows, IsCodeIn, with_children};
 
 use crate::row::{Row, own_row};
@@ -33,7 +33,8 @@ fn put_children(rows: &mut [Row<'_>], place: usize, children: Items<u32>)
     rows[place].children = children;
 }
 
-/// Adds the row of a code, and behind it those of the codes in it, which have at most `levels` levels.
+/// Adds the row of a code, and behind it those of the codes in it, which have at most `levels` levels. Whatever path the code
+/// has, its rows are the same.
 fn add_code<'a>(
     alloc: Global,
     library: &Library,
@@ -45,7 +46,7 @@ fn add_code<'a>(
 ) -> Result<(), NoMemory>
     requires is { IsCodeIn library.now number levels code.now }
     requires source { text_numbered library.now.pool source ≡ table_text library.now number 0 }
-    ensures { OnOk result (Adds library.now number (codes_to levels (length rows.old.items) code.now) rows.old.items rows.new.items) }
+    ensures { OnOk result ((path : List ℕ) → Adds library.now number (codes_to levels path (length rows.old.items) code.now) rows.old.items rows.new.items) }
 {
     let place = rows.len();
     let row = own_row(alloc, library, number, source, code.bytes.bytes())?;

@@ -1,6 +1,6 @@
 //! A row of one code.
 
-ghost use Rattle.std.specs.Prelude.{◌≡◌, ℕ, ◌+◌, ◌≤◌, ◌^◌, List, [], ◌++◌, length, drop, take, map, IfOk, IsSome};
+ghost use Rattle.std.specs.Prelude.{◌≡◌, ℕ, ◌+◌, ◌≤◌, ◌^◌, List, [], ◌++◌, length, drop, map, IfOk, IsSome};
 ghost use Rattle.mpy_base.specs.Vuint.{Spells};
 ghost use Rattle.mpy_base.specs.declared.limits.TheConstants.{MAX_CODE_BYTES};
 ghost use Rattle.bc_library.specs.Shelf.{entry_at, table_text};
@@ -11,8 +11,8 @@ ghost use Rattle.bc_rows.specs.Rows.{IsRowOf};
 
 use bc_library::Library;
 use bc_ops::{Instr, Item, Op, items_of};
-use bc_prelude::{read_name_at, read_prelude};
-use mpy_base::{Items, NoMemory};
+use bc_prelude::parts_of;
+use mpy_base::{Items, NoMemory, read_vuint};
 use std::alloc::Global;
 
 /// What a run of a code in its bytes asks for.
@@ -40,16 +40,15 @@ pub struct Row<'a> {
     pub children: Items<u32>,
 }
 
-/// The number of the text that an index leads to, and the place behind the index.
-fn text_at(library: &Library, number: u32, code: &[u8], at: usize, end: usize) -> (u32, usize)
-    requires at_in { at ≤ end }
-    requires end_in { end ≤ length code.now }
-    requires known { (text rest : List ℕ) × (index : ℕ) × Spells text index × (drop at (take end code.now) ≡ text ++ rest)
+/// The number of the text that the index at `at` leads to, and the place behind the index.
+fn text_at(library: &Library, number: u32, names: &[u8], at: usize) -> (u32, usize)
+    requires inside { at ≤ length names.now }
+    requires known { (text rest : List ℕ) × (index : ℕ) × Spells text index × (drop at names.now ≡ text ++ rest)
         × IsSome (entry_at library.now number index) }
-    ensures { (text rest : List ℕ) (index : ℕ) → Spells text index → drop at (take end code.now) ≡ text ++ rest
+    ensures { (text rest : List ℕ) (index : ℕ) → Spells text index → drop at names.now ≡ text ++ rest
         → (text_numbered library.now.pool result.0 ≡ table_text library.now number index) × (result.1 ≡ at + length text) }
 {
-    let Ok((index, behind)) = read_name_at(code, at, end) else {
+    let Ok((index, behind)) = read_vuint(names, at) else {
         unreachable!();
     };
     let Some(text) = library.text_number(number, index) else {
@@ -58,26 +57,22 @@ fn text_at(library: &Library, number: u32, code: &[u8], at: usize, end: usize) -
     (text, behind)
 }
 
-/// The numbers of the texts that `count` indexes, from `at` on, lead to.
-fn texts_at(
+/// The numbers of the texts that the `count` indexes in `names` lead to.
+fn texts_of(
     alloc: Global,
     library: &Library,
     number: u32,
-    code: &[u8],
-    at: usize,
-    end: usize,
+    names: &[u8],
     count: u32,
 ) -> Result<Vec<u32>, NoMemory>
-    requires at_in { at ≤ end }
-    requires end_in { end ≤ length code.now }
-    requires known { (indexes : List ℕ) × AreIndexes library.now number count (drop at (take end code.now)) indexes }
-    ensures { IfOk result (λ numbers. (indexes : List ℕ) → AreIndexes library.now number count (drop at (take end code.now)) indexes
+    requires { (indexes : List ℕ) × AreIndexes library.now number count names.now indexes }
+    ensures { IfOk result (λ numbers. (indexes : List ℕ) → AreIndexes library.now number count names.now indexes
         → map (text_numbered library.now.pool) numbers.items ≡ map (table_text library.now number) indexes) }
 {
     let mut numbers = Vec::new(alloc);
-    let mut place = at;
+    let mut place = 0;
     for _ in 0..count {
-        let (text, behind) = text_at(library, number, code, place, end);
+        let (text, behind) = text_at(library, number, names, place);
         numbers.push(text)?;
         place = behind;
     }
@@ -122,35 +117,23 @@ pub(crate) fn own_row<'a>(
     requires own { IsOwnCodeIn library.now number code.now }
     requires short { length code.now ≤ MAX_CODE_BYTES }
     requires source { text_numbered library.now.pool source ≡ table_text library.now number 0 }
-    ensures { IfOk result (IsRowOf library.now number (record { bytes = code.now; children = [] })) }
+    ensures { IfOk result (IsRowOf library.now number (record { path = []; bytes = code.now; children = [] })) }
 {
-    let Ok(prelude) = read_prelude(code) else {
-        unreachable!();
-    };
-    let (front, instructions) = code.split_at(prelude.code_at);
-    let (_, line_table) = front.split_at(prelude.lines_at);
-    let count = 1 + prelude.args;
-    let mut params = texts_at(
-        alloc,
-        library,
-        number,
-        code,
-        prelude.info_at,
-        prelude.lines_at,
-        count,
-    )?;
+    let parts = parts_of(code);
+    let count = 1 + parts.prelude.args;
+    let mut params = texts_of(alloc, library, number, parts.names, count)?;
     let name = params.remove(0);
-    let listed = items_of(alloc, instructions)?;
+    let listed = items_of(alloc, parts.instructions)?;
     Ok(Row {
-        instructions,
-        line_table,
+        instructions: parts.instructions,
+        line_table: parts.lines,
         name,
         source,
         params: Items::from_vec(params),
-        given: prelude.defaults,
-        locals: locals_in(prelude.args, &listed.items),
-        n_state: prelude.n_state,
-        n_exc: prelude.n_exc,
+        given: parts.prelude.defaults,
+        locals: locals_in(parts.prelude.args, &listed.items),
+        n_state: parts.prelude.n_state,
+        n_exc: parts.prelude.n_exc,
         children: Items::new(alloc),
     })
 }

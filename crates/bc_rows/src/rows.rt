@@ -4,7 +4,7 @@ ghost use Rattle.std.specs.Prelude.{◌≡◌, ℕ, ◌≤◌, ◌<◌, ◌^◌,
 ghost use Rattle.mpy_tree.specs.File.{IsModule};
 ghost use Rattle.mpy_tree.specs.Raw.{Module};
 ghost use Rattle.bc_library.specs.Shelf.{module_at};
-ghost use Rattle.bc_rows.specs.Codes.{code_at};
+ghost use Rattle.bc_rows.specs.Codes.{code_numbered};
 ghost use Rattle.bc_rows.specs.Made.{AreNamed, AreTables, module_in};
 ghost use Rattle.bc_rows.specs.Rows.{IsRow, module_named};
 
@@ -120,7 +120,7 @@ impl<'a> Rows<'a> {
     /// The row of a code of the module, which has that number in preorder. In constant time.
     pub fn row(&self, module_number: u32, code: u32) -> Option<&Row<'a>>
         ensures is { IfSome result (λ row. IsRow self.now module_number code row.now) }
-        ensures none { IfNone result (code_at self.now module_number code ≡ None) }
+        ensures none { IfNone result (code_numbered self.now module_number code ≡ None) }
     {
         match table_at(&self.tables, module_number) {
             Some(rows) => rows.get(code as usize),

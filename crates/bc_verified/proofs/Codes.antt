@@ -10,7 +10,7 @@ use Rattle.bc_prelude.specs.Prelude.{Begins}
 use Rattle.mpy_tree.specs.declared.raw.RawCode.{RawCode, out-RawCode}
 use Rattle.mpy_tree.specs.Raw as raw
 use Rattle.mpy_tree.specs.Resolved.{Resolved, ResolvedLine, Body, instrs_of, Tree, node, Trees, no_more, more, ResolvedModule, ResolvesCode, ResolveCodes, Resolves}
-use Rattle.bc_verify.specs.Path.{code_at}
+use Rattle.mpy_tree.specs.Codes.{code_at}
 use Rattle.bc_machine.specs.Library.{Item, Plain, Line, Code, Module, item_of, line_of, locals_of, code_of, size_of, sizes_of, numbers_from, codes_from, codes_of, module_of}
 use Rattle.bc_progress.specs.Plans.{action_of, IsKnown, IsChild, MakesChild, Plan, IsVerifiedCode, IsVerifiedModule}
 use Rattle.bc_verified.specs.Operands.{IsThere}

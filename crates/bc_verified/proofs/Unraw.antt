@@ -5,7 +5,7 @@ use Rattle.mpy_tree.specs.Raw.{Module}
 use Rattle.mpy_tree.specs.Resolved.{Body, Tree, node, Trees, no_more, more, ResolvedModule, IsBody, ResolvesCode, ResolveCodes, Resolves}
 use Rattle.bc_flow.specs.Verified.{Verified}
 use Rattle.bc_verify.specs.Body as verify
-use Rattle.bc_verify.specs.Path.{code_at}
+use Rattle.mpy_tree.specs.Codes.{code_at}
 use Rattle.bc_verify.specs.Rules.{KeepsAll}
 use Rattle.bc_verify.specs.Verified.{children_of, IsVerifiedCode, AreVerified, IsVerified}
 use Rattle.bc_verify.proofs.Bodies.{one_body}

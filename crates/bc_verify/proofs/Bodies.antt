@@ -1,23 +1,17 @@
 -- What a code's own bytes say, once.
-use Rattle.std.proofs.Common.{◌≡◌, ℕ, List, ◌++◌, length, drop, refl, sym, ap, subst, ◌∙◌, append_assoc, arith, length-append}
-use Rattle.std.proofs.Math.Seq.{drop-append_seam}
+use Rattle.std.proofs.Common.{◌≡◌, ◌≤◌, ℕ, List, length, drop, refl, sym, ap, subst, ◌∙◌, arith, length-drop}
 use Rattle.bc_ops.specs.declared.listing.Item.{Item}
 use Rattle.bc_ops.specs.Listing.{Lists, starts}
 use Rattle.bc_ops.proofs.Lists.{one_listing}
 use Rattle.bc_prelude.specs.declared.prelude.Prelude.{Prelude}
 use Rattle.bc_prelude.specs.Prelude.{Begins}
+use Rattle.bc_prelude.proofs.Pieces.{instructions_at}
 use Rattle.bc_prelude.proofs.Preludes.{same_prelude}
 use Rattle.mpy_tree.specs.File.{IsOwnCode}
 use Rattle.bc_verify.specs.Body.{Body, Says}
 
--- the instructions stand at the place that the prelude names
-pub instructions_at : (bytes : List ℕ) (prelude : Prelude) (b : Begins bytes prelude) → drop prelude.code_at bytes ≡ b.instructions
-instructions_at bytes prelude b =
-    let front = b.signature ++ (b.size ++ (b.names ++ b.lines)) in
-    let parts : front ++ b.instructions ≡ b.signature ++ (b.size ++ (b.names ++ (b.lines ++ b.instructions))) = simp append_assoc in
-    let place : prelude.code_at ≡ length front =
-    omega (arith, b.code_at, b.lines_at, b.info_at, length-append b.signature (b.size ++ (b.names ++ b.lines)), length-append b.size (b.names ++ b.lines), length-append b.names b.lines) in
-    ap (λ n. drop n bytes) place ∙ (ap (drop (length front)) (b.code_is ∙ sym parts) ∙ drop-append_seam front b.instructions)
+pub instructions_short : (bytes : List ℕ) (prelude : Prelude) (b : Begins bytes prelude) → length b.instructions ≤ length bytes
+instructions_short bytes prelude b = let is = ap length (instructions_at bytes prelude b) in omega (arith, sym is, length-drop prelude.code_at bytes)
 
 pub same_instructions : (bytes : List ℕ) (p q : Prelude) (b : Begins bytes p) (c : Begins bytes q) → p ≡ q → b.instructions ≡ c.instructions
 same_instructions bytes p q b c e = sym (instructions_at bytes p b) ∙ (ap (λ (z : Prelude). drop z.code_at bytes) e ∙ instructions_at bytes q c)

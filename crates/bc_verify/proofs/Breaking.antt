@@ -1,7 +1,7 @@
 -- An instruction breaks one rule at most.
 use Rattle.std.proofs.Common.{◌≡◌, ℕ, ◌+◌, ◌<◌, ◌≤◌, length, Some, below_more, refl, sym, subst, ◌∙◌, arith}
 use Rattle.std.specs.Prelude.{slice_get}
-use Rattle.bc_verify.proofs.Trees.{get_within}
+use Rattle.mpy_tree.proofs.Codes.{get_within}
 use Rattle.mpy_base.specs.declared.limits.TheConstants.{MAX_ITEMS}
 use Rattle.bc_ops.specs.declared.instr.Op.{Op}
 use Rattle.bc_ops.specs.declared.instr.Op.TheVariants as ops

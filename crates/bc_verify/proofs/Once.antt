@@ -12,7 +12,7 @@ use Rattle.mpy_tree.specs.Raw.{Module}
 use Rattle.bc_verify.specs.declared.fault.Rule.{Rule}
 use Rattle.bc_verify.specs.declared.fault.VerifyFault.{VerifyFault}
 use Rattle.bc_verify.specs.Body.{Body, flow_of}
-use Rattle.bc_verify.specs.Path.{code_at, IsBefore}
+use Rattle.mpy_tree.specs.Codes.{code_at, IsBefore}
 use Rattle.bc_verify.specs.Rule.{of_flow}
 use Rattle.bc_verify.specs.Rules.{Breaks, KeepsAll, IsFirstBroken}
 use Rattle.bc_verify.specs.Verified.{children_of, IsVerifiedCode, AreVerified, IsVerified, IsFirstIn, IsCodeFault, IsTreeFault, IsFirstFault}

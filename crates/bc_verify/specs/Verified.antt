@@ -1,5 +1,5 @@
 -- Verified modules, and the first fault of others.
-use Rattle.std.specs.Prelude.{◌≡◌, ◌⊎◌, ℕ, zero, suc, ◌+◌, List, ◌∷◌, length, Some, slice_index, sum_by}
+use Rattle.std.specs.Prelude.{◌≡◌, ◌⊎◌, ℕ, List, ◌∷◌, length, Some, slice_index}
 use Rattle.mpy_tree.specs.declared.raw.RawCode.{RawCode, out-RawCode}
 use Rattle.mpy_tree.specs.Raw.{Module}
 use Rattle.bc_flow.specs.declared.code.Rule.{Rule as FlowRule}
@@ -9,7 +9,7 @@ use Rattle.bc_flow.specs.Views.{table_of}
 use Rattle.bc_verify.specs.declared.fault.Rule.{Rule}
 use Rattle.bc_verify.specs.declared.fault.VerifyFault.{VerifyFault}
 use Rattle.bc_verify.specs.Body.{Body, Says, flow_of}
-use Rattle.bc_verify.specs.Path.{code_at, IsBefore}
+use Rattle.mpy_tree.specs.Codes.{code_at, IsBefore}
 use Rattle.bc_verify.specs.Rule.{of_flow}
 use Rattle.bc_verify.specs.Rules.{KeepsAll, IsFirstBroken}
 
@@ -75,8 +75,3 @@ pub record IsFirstFault (m : Module) (fault : VerifyFault) : Type 0 where
   pub path : List ℕ
   pub path_is : fault.path ≡ 0 ∷ path
   pub first : IsTreeFault m m.code fault.rule path fault.offset
-
--- how many codes there are in that number of levels, the code itself the first
-unfoldable pub codes_in : ℕ → RawCode → ℕ
-codes_in zero code = 0
-codes_in (suc levels) code = 1 + sum_by (codes_in levels) (out-RawCode code).children

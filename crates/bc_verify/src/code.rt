@@ -15,7 +15,7 @@ use crate::instruction::{Broken, first_broken, of_flow_rule};
 use bc_certificates::certified;
 use bc_flow::{Code, State, flow};
 use bc_ops::items_of;
-use bc_prelude::read_prelude;
+use bc_prelude::parts_of;
 use mpy_base::NoMemory;
 use mpy_base::limits::MAX_CODE_BYTES;
 use mpy_tree::{RawCode, RawModule};
@@ -34,17 +34,14 @@ pub(crate) fn read_code(alloc: Global, bytes: &[u8]) -> Result<Decoded, NoMemory
     requires short { length bytes.now ≤ MAX_CODE_BYTES }
     ensures { IfOk result (λ d. Says bytes.now (body_of d.code) d.offsets.items) }
 {
-    let Ok(prelude) = read_prelude(bytes) else {
-        unreachable!();
-    };
-    let (_, instructions) = bytes.split_at(prelude.code_at);
-    let listed = items_of(alloc, instructions)?;
+    let parts = parts_of(bytes);
+    let listed = items_of(alloc, parts.instructions)?;
     Ok(Decoded {
         code: Code {
             items: listed.items,
-            n_state: prelude.n_state as usize,
-            n_exc: prelude.n_exc as usize,
-            arguments: prelude.args as usize,
+            n_state: parts.prelude.n_state as usize,
+            n_exc: parts.prelude.n_exc as usize,
+            arguments: parts.prelude.args as usize,
         },
         offsets: listed.offsets,
     })

@@ -1,8 +1,9 @@
 //! The codes of a module in preorder.
 
-ghost use Rattle.std.specs.Prelude.{◌≡◌, ℕ, List, ◌∷◌, IfOk, IfSome, IfNone, min, ◌-◌, ◌^◌};
+ghost use Rattle.std.specs.Prelude.{◌≡◌, ℕ, List, [], ◌∷◌, length, IfOk, IfSome, IfNone, min, ◌-◌, ◌^◌};
+ghost use Rattle.mpy_tree.specs.Codes.{codes_to};
 ghost use Rattle.mpy_tree.specs.File.{IsCode};
-ghost use Rattle.bc_verify.specs.Verified.{AreVerified, IsTreeFault, codes_in};
+ghost use Rattle.bc_verify.specs.Verified.{AreVerified, IsTreeFault};
 
 use crate::code::code_fault;
 use crate::fault::Rule;
@@ -59,7 +60,7 @@ pub(crate) fn tree_fault(
 
 /// How many codes there are in the first `levels` levels, or 2^64 - 1 where there are more.
 pub(crate) fn count(code: &RawCode, levels: usize) -> u64
-    ensures { result ≡ min (codes_in levels code.now) (2 ^ 64 - 1) }
+    ensures { result ≡ min (length (codes_to levels [] 0 code.now)) (2 ^ 64 - 1) }
 {
     if levels == 0 {
         return 0;

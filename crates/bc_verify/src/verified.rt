@@ -7,9 +7,9 @@ ghost use Rattle.mpy_tree.specs.File.{IsModule};
 ghost use Rattle.mpy_tree.specs.Raw.{Module};
 ghost use Rattle.bc_flow.specs.Verified.{Decides};
 ghost use Rattle.bc_verify.specs.Body.{Body, flow_of};
-ghost use Rattle.bc_verify.specs.Path.{code_at};
+ghost use Rattle.mpy_tree.specs.Codes.{code_at, codes_of};
 ghost use Rattle.bc_verify.specs.declared.fault.VerifyFault.{VerifyFault};
-ghost use Rattle.bc_verify.specs.Verified.{IsVerified, IsFirstFault, codes_in};
+ghost use Rattle.bc_verify.specs.Verified.{IsVerified, IsFirstFault};
 
 use crate::fault::VerifyFault;
 use crate::tree::{above, count, tree_fault};
@@ -51,7 +51,7 @@ impl Verified {
 
     /// How many codes it has, or 2^64 - 1 where there are more.
     pub fn codes(&self) -> u64
-        ensures { result ≡ min (codes_in MAX_DEPTH self.now.code) (2 ^ 64 - 1) }
+        ensures { result ≡ min (length (codes_of self.now)) (2 ^ 64 - 1) }
     {
         count(self.module.code(), MAX_DEPTH)
     }

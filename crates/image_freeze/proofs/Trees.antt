@@ -10,7 +10,8 @@ use Rattle.mpy_tree.specs.File.{header_of, AreChildren, IsCode}
 use Rattle.mpy_tree.specs.Canonical.{has_some, children_bytes, code_bytes}
 use Rattle.mpy_writer.proofs.Spelled.{many_spelled}
 use Rattle.merge_codes.specs.Heads.{head_of}
-use Rattle.merge_codes.proofs.Trees.{Nests, Whole, children, whole, head_is, get_at}
+use Rattle.mpy_tree.proofs.Codes.{Nests, children, whole, get_at}
+use Rattle.merge_codes.proofs.Trees.{head_is}
 use Rattle.image_freeze.proofs.Loops.{each_of, added_all}
 
 -- it is spelled so
@@ -29,10 +30,10 @@ pub tree_spelled : (levels texts : ℕ) (text : List ℕ) (code : RawCode) → I
 unfolding IsCode code_bytes
 tree_spelled zero texts text code h = absurd h
 tree_spelled (suc levels) texts text code h =
-    let w = whole (suc levels) texts code (text, h) in
+    let w = whole texts (suc levels) code (text, h) in
     let below : w.below ≡ levels = omega (arith, w.levels_are) in
     let all = each_of (λ (r : RawCode). IsCode levels texts (code_bytes levels r) r) (children code) (λ n child at.
-    let inside = subst (λ (k : ℕ). Nests k texts child) below (w.each n child at) in
+    let inside = subst (λ (k : ℕ). Nests texts k child) below (w.each n child at) in
     tree_spelled levels texts inside.0 child inside.1) in
     record {
       header = vuint (header_of (length (out-RawCode code).bytes) (has_some (children code)));

@@ -1,3 +1,5 @@
+pub mod Codes
+mod Examples
 pub mod Lines
 pub mod Resolving
 pub mod Values

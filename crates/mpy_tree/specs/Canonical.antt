@@ -48,10 +48,10 @@ abbrev pub children_bytes : (RawCode → List ℕ) → List RawCode → List ℕ
 children_bytes inner [] = []
 children_bytes inner (child ∷ children) = vuint (length (child ∷ children)) ++ flat_map inner (child ∷ children)
 
--- does a code with these children have any?
-abbrev pub has_some : List RawCode → Bool
+-- does the list have any item?
+abbrev pub has_some : {A : Type 0} → List A → Bool
 has_some [] = false
-has_some (child ∷ children) = true
+has_some (x ∷ xs) = true
 
 -- what is written for a code of that number of levels of codes at most
 unfoldable pub code_bytes : ℕ → RawCode → List ℕ

@@ -1,4 +1,5 @@
 pub mod Canonical
+pub mod Codes
 pub mod File
 pub mod FirstUse
 pub mod Raw

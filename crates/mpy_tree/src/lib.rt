@@ -5,4 +5,4 @@ mod module;
 mod raw;
 
 pub use module::{Code, Constant, Item, ModuleCode};
-pub use raw::{Qstr, RawCode, RawModule, module_law, resolving_law};
+pub use raw::{Qstr, RawCode, RawModule, module_law, preorder_law, resolving_law};

@@ -1,6 +1,8 @@
 //! Modules as a file holds them.
 
-ghost use Rattle.std.specs.Prelude.{◌≡◌};
+ghost use Rattle.std.specs.Prelude.{◌≡◌, ℕ, ◌<◌, List, [], ◌∷◌, ◌++◌, Some, slice_get};
+ghost use Rattle.mpy_tree.specs.declared.raw.RawCode.{RawCode};
+ghost use Rattle.mpy_tree.specs.Codes.{code_at, IsBefore, Placed, codes_of, IsPlaced};
 ghost use Rattle.mpy_tree.specs.File.{IsModule};
 ghost use Rattle.mpy_tree.specs.Raw.{Module};
 ghost use Rattle.mpy_tree.specs.Resolved.{ResolvedModule, Resolves};
@@ -105,4 +107,17 @@ pub fn module_law(raw: &RawModule)
 /// A module resolves to one tree at most.
 pub fn resolving_law()
     ensures { (m : Module) (a b : ResolvedModule) → Resolves m a → Resolves m b → a ≡ b }
+{}
+
+/// The list of a module's codes has the code of each path at one place, and their places keep preorder. The numbers of a code's
+/// children are their places.
+pub fn preorder_law()
+    ensures placed { (m : Module) (k : ℕ) (place : Placed) → slice_get (codes_of m) k ≡ Some place → IsPlaced m place }
+    ensures all { (m : Module) (path : List ℕ) (code : RawCode) → IsModule m → code_at path m.code ≡ Some code
+        → (k : ℕ) × (place : Placed) × (slice_get (codes_of m) k ≡ Some place) × (place.path ≡ path) }
+    ensures order { (m : Module) (j k : ℕ) (a b : Placed) → slice_get (codes_of m) j ≡ Some a
+        → slice_get (codes_of m) k ≡ Some b → j < k → IsBefore a.path b.path }
+    ensures children { (m : Module) (k n j : ℕ) (place : Placed) → IsModule m → slice_get (codes_of m) k ≡ Some place
+        → slice_get place.children n ≡ Some j
+        → (child : Placed) × (slice_get (codes_of m) j ≡ Some child) × (child.path ≡ place.path ++ n ∷ []) }
 {}

@@ -1,7 +1,6 @@
 -- What `stress SEED COUNT` does: it runs a made source, as `go` runs one.
 use Rattle.std.specs.Prelude.{◌≡◌, ◌⊎◌, ℕ, ◌-◌, ◌^◌, min, List, [], ◌∷◌, ◌++◌, length, codes, decimal, Option, Some, Ok}
 use Rattle.std.specs.Io.KnownBytes.{Appends}
-use Rattle.mpy_base.specs.declared.limits.TheConstants.{MAX_DEPTH}
 use Rattle.mpy_base.specs.declared.room.Room.{Room}
 use Rattle.mpy_io.specs.Count.{Rose}
 use Rattle.mpy_io.specs.Files.{FileOf}
@@ -9,7 +8,7 @@ use Rattle.mpy_io.specs.Memory.{file_of}
 use Rattle.mpy_io.specs.Ports.{PortView}
 use Rattle.mpy_io.specs.Told.{AppendsFront}
 use Rattle.mpy_tree.specs.Raw.{Module}
-use Rattle.bc_verify.specs.Verified.{codes_in}
+use Rattle.mpy_tree.specs.Codes.{codes_of}
 use Rattle.bc_library.specs.Shelf.{module_at}
 use Rattle.run_commands.specs.mpy_endings.declared.ending.Ending.TheVariants.{WriteFault}
 use Rattle.run_commands.specs.mpy_endings.Ending.{status_of}
@@ -36,7 +35,7 @@ stress_files seed count = file_of ((stress_name, stress_text seed count) ∷ [])
 pub record HasCodes (ready : Ready) (number : ℕ) : Type 0 where
   pub main : Module
   pub is_main : module_at ready.library ready.place ≡ Some main
-  pub number_is : number ≡ min (codes_in MAX_DEPTH main.code) (2 ^ 64 - 1)
+  pub number_is : number ≡ min (length (codes_of main)) (2 ^ 64 - 1)
 
 -- what is printed in front of the output: how long the source is, and how many codes its module has
 abbrev pub front_lines : (bytes number : ℕ) → List ℕ

@@ -25,7 +25,7 @@ use Rattle.bc_progress.specs.Plans.{Plan, flow_of, action_of}
 use Rattle.bc_progress.proofs.Frames.{meets}
 use Rattle.bc_progress.proofs.Steps.{get_there}
 use Rattle.bc_rows.specs.declared.row.Row.{Row}
-use Rattle.bc_rows.specs.Codes as codes
+use Rattle.bc_rows.specs.Codes.{code_numbered}
 use Rattle.bc_rows.specs.Rows.{IsRow}
 use Rattle.vm_walks.specs.Plain.{plain_name}
 use Rattle.vm_invoking.specs.vm_calls.declared.callees.Function.{Function}
@@ -190,7 +190,7 @@ module _ (p : Program) (means : Means p) (laws : Laws) (f : Function) where
           some = bytes_there row.instructions.now l is.is_row.listed (omega (arith, lines, many));
         }
 
-    code_missing : codes.code_at p.shelf i f.code ≡ None → code_at p.library (plain_name p.tables.texts p.tables.tuples f.module_name) f.code ≡ None
+    code_missing : code_numbered p.shelf i f.code ≡ None → code_at p.library (plain_name p.tables.texts p.tables.tuples f.module_name) f.code ≡ None
     code_missing e = subst (λ (name : Name). code_at p.library name f.code ≡ None) module_is (code_absent p means i at.inside laws f.code e)
 
   -- a name that leads to no module has no code
@@ -206,7 +206,7 @@ module _ (p : Program) (means : Means p) (laws : Laws) (f : Function) where
   pub code_lacks : LacksCode p.shelf f → code_at p.library (plain_name p.tables.texts p.tables.tuples f.module_name) f.code ≡ None
   code_lacks lacks = by (module_of_name p.shelf f.module_name) refl lacks
     where
-      by : (o : Option ℕ) → module_of_name p.shelf f.module_name ≡ o → option_and_then (λ i. codes.code_at p.shelf i f.code) o ≡ None
+      by : (o : Option ℕ) → module_of_name p.shelf f.module_name ≡ o → option_and_then (λ i. code_numbered p.shelf i f.code) o ≡ None
           → code_at p.library (plain_name p.tables.texts p.tables.tuples f.module_name) f.code ≡ None
       by None e h = nameless (plain_name p.tables.texts p.tables.tuples f.module_name) (list_any (bytes_eq (plain_name p.tables.texts p.tables.tuples f.module_name)) p.shelf.refused) (sym named_here ∙ e) refl
       by (Some i) e h = code_missing i e h

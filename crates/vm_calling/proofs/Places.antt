@@ -5,6 +5,7 @@ use Rattle.std.proofs.lemmas.Option.{same_Some, slice_get_within, slice_get_past
 use Rattle.mpy_tree.specs.File.{IsModule}
 use Rattle.mpy_tree.specs.Raw as raw
 use Rattle.mpy_tree.specs.Resolved.{ResolvedModule, Resolves}
+use Rattle.mpy_tree.specs.Codes.{codes_of}
 use Rattle.bc_library.specs.Constants.{items_at, text_at}
 use Rattle.bc_library.specs.Shelf.{Shelf, Named, module_at}
 use Rattle.arena_heap.specs.declared.value.Value.{Value}
@@ -13,8 +14,7 @@ use Rattle.arena_heap.specs.declared.value.ConstNo.{ConstNo}
 use Rattle.bc_machine.specs.Library.{Code, Holds, Entry, entry_in, module_in, code_in, code_at, module_of}
 use Rattle.bc_progress.proofs.Steps.{get_there}
 use Rattle.bc_rows.specs.declared.row.Row.{Row}
-use Rattle.bc_rows.specs.Codes as codes
-use Rattle.bc_rows.specs.Codes.{codes_of}
+use Rattle.bc_rows.specs.Codes.{code_numbered}
 use Rattle.bc_rows.specs.Rows.{IsRow}
 use Rattle.bc_rows.specs.Runs.{RunsAs}
 use Rattle.vm_known.specs.vm_states.Means.{Program, IsMeant, Means}
@@ -54,7 +54,7 @@ module _ (p : Program) (means : Means p) (i : ℕ) (within : i < length p.shelf.
   machine_code : (k : ℕ) → code_at p.library (p.tables.module_name i) k ≡ slice_get (module_of here.meant.tree).codes k
   machine_code k = ap (λ (o : Option Entry). code_in (module_in o) k) here.entry
 
-  shelf_code : (k : ℕ) → codes.code_at p.shelf i k ≡ slice_get (codes_of here.n.held) k
+  shelf_code : (k : ℕ) → code_numbered p.shelf i k ≡ slice_get (codes_of here.n.held) k
   shelf_code k = ap (λ (o : Option raw.Module). option_and_then (λ (m : raw.Module). slice_get (codes_of m) k) o) here.there
 
   module _ (laws : Laws) where
@@ -62,7 +62,7 @@ module _ (p : Program) (means : Means p) (i : ℕ) (within : i < length p.shelf.
     count = laws.as_many here.n.held here.meant.tree here.meant.is_module here.meant.resolves
 
     -- a code of the machine has a row
-    pub row_there : (k : ℕ) (code : Code) → code_at p.library (p.tables.module_name i) k ≡ Some code → IsSome (codes.code_at p.shelf i k)
+    pub row_there : (k : ℕ) (code : Code) → code_at p.library (p.tables.module_name i) k ≡ Some code → IsSome (code_numbered p.shelf i k)
     row_there k code e =
         let few = slice_get_within (module_of here.meant.tree).codes k code (sym (machine_code k) ∙ e) in
         let same = count in
@@ -70,7 +70,7 @@ module _ (p : Program) (means : Means p) (i : ℕ) (within : i < length p.shelf.
         subst IsSome (sym (shelf_code k ∙ found.1)) refl
 
     -- a code that has no row isn't one of the machine
-    pub code_absent : (k : ℕ) → codes.code_at p.shelf i k ≡ None → code_at p.library (p.tables.module_name i) k ≡ None
+    pub code_absent : (k : ℕ) → code_numbered p.shelf i k ≡ None → code_at p.library (p.tables.module_name i) k ≡ None
     code_absent k e =
         let many = past (codes_of here.n.held) k (sym (shelf_code k) ∙ e) in
         let same = count in

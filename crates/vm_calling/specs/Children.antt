@@ -2,15 +2,15 @@
 use Rattle.std.specs.Prelude.{◌≡◌, ℕ, ◌<◌, List, length, Some, IsSome, slice_get}
 use Rattle.bc_library.specs.Shelf.{Shelf}
 use Rattle.bc_rows.specs.declared.row.Row.{Row}
-use Rattle.bc_rows.specs.Codes.{code_at}
+use Rattle.bc_rows.specs.Codes.{code_numbered}
 use Rattle.bc_rows.specs.Rows.{IsRow}
 use Rattle.vm_invoking.specs.declared.making.Child.{Child}
 use Rattle.vm_known.specs.vm_unwinding.declared.names.ModuleName.{ModuleName}
 
 -- the code k of the module i has the child n, and the module's name has a number
 pub record HasChildIn (shelf : Shelf) (names : List ModuleName) (i k n : ℕ) : Type 0 where
-  pub there : IsSome (code_at shelf i k)
-  pub child : (row : Row) → IsRow shelf i k row → (number : ℕ) × (slice_get row.children n ≡ Some number) × IsSome (code_at shelf i number)
+  pub there : IsSome (code_numbered shelf i k)
+  pub child : (row : Row) → IsRow shelf i k row → (number : ℕ) × (slice_get row.children n ≡ Some number) × IsSome (code_numbered shelf i number)
   pub within : i < length names
 
 -- this is the child n of the code k of the module i

@@ -3,7 +3,7 @@ use Rattle.std.specs.Prelude.{◌≡◌, ℕ, Option, None, position, option_and
 use Rattle.std.specs.Str.{bytes_eq}
 use Rattle.bc_library.specs.Constants.{items_at, text_at}
 use Rattle.bc_library.specs.Shelf.{Shelf, names}
-use Rattle.bc_rows.specs.Codes.{code_at}
+use Rattle.bc_rows.specs.Codes.{code_numbered}
 use Rattle.vm_walks.specs.Plain.{plain_name}
 use Rattle.vm_invoking.specs.vm_calls.declared.callees.Function.{Function}
 
@@ -13,4 +13,4 @@ module_of_name shelf number = position (bytes_eq (plain_name (text_at shelf) (it
 
 -- the library has no code of the function
 abbrev pub LacksCode : Shelf → Function → Type 0
-LacksCode shelf f = option_and_then (λ i. code_at shelf i f.code) (module_of_name shelf f.module_name) ≡ None
+LacksCode shelf f = option_and_then (λ i. code_numbered shelf i f.code) (module_of_name shelf f.module_name) ≡ None

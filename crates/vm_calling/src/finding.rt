@@ -1,7 +1,7 @@
 //! What is found in the tables of a library.
 
 ghost use Rattle.std.specs.Prelude.{◌≡◌, ◌<◌, length, Some, IsSome, IfSome, IfNone, slice_get};
-ghost use Rattle.bc_rows.specs.Codes.{code_at};
+ghost use Rattle.bc_rows.specs.Codes.{code_numbered};
 ghost use Rattle.bc_rows.specs.Rows.{IsRow};
 ghost use Rattle.vm_known.specs.vm_unwinding.declared.names.ModuleName.{ModuleName as Numbers};
 ghost use Rattle.vm_calling.specs.Children.{HasChildIn, IsChildIn};
@@ -15,7 +15,7 @@ use vm_known::ModuleName;
 
 /// The row of a code that is there.
 fn row_at<'b, 'a>(rows: &'b Rows<'a>, module_number: u32, code: u32) -> &'b Row<'a>
-    requires { IsSome (code_at rows.now module_number code) }
+    requires { IsSome (code_numbered rows.now module_number code) }
     ensures { IsRow rows.now module_number code result.now }
 {
     match rows.row(module_number, code) {

@@ -1,9 +1,9 @@
 pub use Rattle.vm_step.proofs as vm_step_lemmas
 mod Constants
-mod FewLines
 mod Kept
 mod Operating
 mod Reading
 mod Showing
 mod Stepping
+mod Tables
 mod Texts

@@ -7,6 +7,7 @@ use Rattle.std.proofs.lemmas.Option.{same_Some, slice_get_within}
 use Rattle.mpy_tree.specs.File.{IsModule}
 use Rattle.mpy_tree.specs.Raw as raw
 use Rattle.mpy_tree.specs.Resolved.{ResolvedModule, Resolves}
+use Rattle.mpy_tree.specs.Codes.{codes_of}
 use Rattle.bc_ops.specs.Listing.{Piece, IsPiece, joined, starts, items_at}
 use Rattle.bc_offsets.specs.Positions.{CodeList, Listed}
 use Rattle.bc_offsets.proofs.Pieces.{some_text, all_spelled}
@@ -21,8 +22,7 @@ use Rattle.bc_progress.specs.Plans.{Plans, Follows}
 use Rattle.bc_progress.specs.Fits.{Stands, IsWithin}
 use Rattle.bc_progress.proofs.Steps.{new_stands}
 use Rattle.bc_rows.specs.declared.row.Row.{Row}
-use Rattle.bc_rows.specs.Codes as codes
-use Rattle.bc_rows.specs.Codes.{codes_of}
+use Rattle.bc_rows.specs.Codes.{code_numbered}
 use Rattle.bc_rows.specs.Rows.{IsRow}
 use Rattle.bc_rows.specs.Runs.{RunsAs}
 use Rattle.vm_frames.specs.Calls.{Calls}
@@ -107,12 +107,12 @@ module _ (p : Program) (means : Means p) (name : Name) (number : ℕ) (is : memb
   code_same : stands.code ≡ first.code
   code_same = same_Some stands.code first.code (sym stands.code_is ∙ first.code_is)
 
-  pub outermost_there : ((m : raw.Module) (tree : ResolvedModule) → IsModule m → Resolves m tree → length (module_of tree).codes ≡ length (codes_of m)) → IsSome (codes.code_at p.shelf number 0)
+  pub outermost_there : ((m : raw.Module) (tree : ResolvedModule) → IsModule m → Resolves m tree → length (module_of tree).codes ≡ length (codes_of m)) → IsSome (code_numbered p.shelf number 0)
   outermost_there as_many =
       let count = as_many h.named.held meant.tree meant.is_module meant.resolves in
       let few = slice_get_within M.codes 0 first.code first.listed in
       let found = at_least (codes_of h.named.held) 0 (subst (λ k. 0 < k) count few) in
-      let e : codes.code_at p.shelf number 0 ≡ Some found.0 = ap (λ (o : Option raw.Module). option_and_then (λ (m : raw.Module). slice_get (codes_of m) 0) o) there ∙ found.1 in
+      let e : code_numbered p.shelf number 0 ≡ Some found.0 = ap (λ (o : Option raw.Module). option_and_then (λ (m : raw.Module). slice_get (codes_of m) 0) o) there ∙ found.1 in
       subst IsSome (sym e) refl
 
   module _ (runs : (shelf : Shelf) (i k : ℕ) (m : raw.Module) (tree : ResolvedModule) (r : Row) → IsModule m → module_at shelf i ≡ Some m

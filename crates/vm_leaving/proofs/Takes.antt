@@ -4,13 +4,13 @@ use Rattle.std.specs.Prelude.{IsSome}
 use Rattle.mpy_tree.specs.File.{IsModule}
 use Rattle.mpy_tree.specs.Raw as raw
 use Rattle.mpy_tree.specs.Resolved.{ResolvedModule, Resolves}
+use Rattle.mpy_tree.specs.Codes.{Placed, codes_of}
 use Rattle.arena_heap.specs.declared.value.Value.{Value}
 use Rattle.bc_offsets.specs.Positions.{CodeList, Listed, Starts}
 use Rattle.bc_library.specs.Shelf.{Shelf}
 use Rattle.bc_machine.specs.Library.{module_of}
 use Rattle.bc_rows.specs.declared.row.Row.{Row}
-use Rattle.bc_rows.specs.Codes as codes
-use Rattle.bc_rows.specs.Codes.{Numbered, codes_of}
+use Rattle.bc_rows.specs.Codes.{code_numbered}
 use Rattle.bc_rows.specs.Rows.{IsRow}
 use Rattle.vm_frames.specs.Calls.{Call, Calls, OfRunning}
 use Rattle.vm_known.specs.vm_fetching.declared.instruction.Fetched.{Fetched}
@@ -45,10 +45,10 @@ module _ (p : Program) (means : Means p) (v : Value) (s : Calls) (h : IsWaiting 
       subst (λ (z : Shelf). P z number code) same
       (subst (λ (z : ℕ). P p.shelf z code) (sym number_same) (subst (λ (z : ℕ). P p.shelf first.module_number z) (sym code_same) x))
 
-  pub no_row : ((m : raw.Module) (tree : ResolvedModule) → IsModule m → Resolves m tree → length (module_of tree).codes ≡ length (codes_of m)) → codes.code_at shelf number code ≡ None → ⊥
+  pub no_row : ((m : raw.Module) (tree : ResolvedModule) → IsModule m → Resolves m tree → length (module_of tree).codes ≡ length (codes_of m)) → code_numbered shelf number code ≡ None → ⊥
   no_row as_many none =
-      let some : IsSome (codes.code_at shelf number code) = there (λ x i k. IsSome (codes.code_at x i k)) (row_there p means v s h as_many) in
-      let wrong : false ≡ true = subst (λ (o : Option Numbered). IsSome o) none some in
+      let some : IsSome (code_numbered shelf number code) = there (λ x i k. IsSome (code_numbered x i k)) (row_there p means v s h as_many) in
+      let wrong : false ≡ true = subst (λ (o : Option Placed). IsSome o) none some in
       absurd cc
 
   module _ (row : Row) (is : IsRow shelf number code row) where

@@ -7,6 +7,7 @@ use Rattle.mpy_base.specs.Val.{PlainWorld}
 use Rattle.mpy_tree.specs.File.{IsModule}
 use Rattle.mpy_tree.specs.Raw as raw
 use Rattle.mpy_tree.specs.Resolved.{ResolvedModule, Resolves}
+use Rattle.mpy_tree.specs.Codes.{codes_of}
 use Rattle.bc_offsets.specs.Positions.{CodeList, Listed, Starts, position_in}
 use Rattle.bc_library.specs.Shelf.{Shelf, Named, module_at}
 use Rattle.bc_machine.specs.Library.{Code, Line, Module, Holds, Library, entry_in, module_in, code_in, module_of}
@@ -15,8 +16,7 @@ use Rattle.bc_machine.specs.State.{Frame, remark}
 use Rattle.bc_progress.specs.Plans.{Plans, Follows}
 use Rattle.bc_progress.specs.Fits.{Stands, IsWithin, Fits}
 use Rattle.bc_rows.specs.declared.row.Row.{Row}
-use Rattle.bc_rows.specs.Codes as codes
-use Rattle.bc_rows.specs.Codes.{codes_of}
+use Rattle.bc_rows.specs.Codes.{code_numbered}
 use Rattle.bc_rows.specs.Rows.{IsRow}
 use Rattle.bc_rows.specs.Runs.{RunsAs}
 use Rattle.arena_heap.specs.declared.value.Value.{Value}
@@ -103,12 +103,12 @@ module _ (p : Program) (means : Means p) (v : Value) (s : Calls) (h : IsWaiting 
         code_there = sym (ap (λ (o : Option Module). code_in o c.code) machine_there) ∙ stands.code_is;
       }
 
-  pub row_there : ((m : raw.Module) (tree : ResolvedModule) → IsModule m → Resolves m tree → length (module_of tree).codes ≡ length (codes_of m)) → IsSome (codes.code_at p.shelf c.module_number c.code)
+  pub row_there : ((m : raw.Module) (tree : ResolvedModule) → IsModule m → Resolves m tree → length (module_of tree).codes ≡ length (codes_of m)) → IsSome (code_numbered p.shelf c.module_number c.code)
   row_there as_many =
       let count = as_many of.n.held of.meant.tree of.meant.is_module of.meant.resolves in
       let few = below (module_of of.meant.tree).codes c.code stands.code of.code_there in
       let found = at_least (codes_of of.n.held) c.code (subst (λ k. c.code < k) count few) in
-      let is : codes.code_at p.shelf c.module_number c.code ≡ Some found.0 = ap (λ (o : Option raw.Module). option_and_then (λ (m : raw.Module). slice_get (codes_of m) c.code) o) of.there ∙ found.1 in
+      let is : code_numbered p.shelf c.module_number c.code ≡ Some found.0 = ap (λ (o : Option raw.Module). option_and_then (λ (m : raw.Module). slice_get (codes_of m) c.code) o) of.there ∙ found.1 in
       subst IsSome (sym is) refl
 
   -- room for the value

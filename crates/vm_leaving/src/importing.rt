@@ -5,7 +5,7 @@ ghost use Rattle.mpy_base.specs.declared.limits.TheConstants.{MAX_CALLS as LIMIT
 ghost use Rattle.mpy_base.specs.Val.{PlainWorld};
 ghost use Rattle.arena_heap.specs.declared.value.Value.{Value as Item};
 ghost use Rattle.bc_rows.specs.declared.row.Row.{Row as CodeRow};
-ghost use Rattle.bc_rows.specs.Codes.{code_at};
+ghost use Rattle.bc_rows.specs.Codes.{code_numbered};
 ghost use Rattle.bc_rows.specs.Rows.{IsRow};
 ghost use Rattle.vm_sights.specs.Sights.{under, sight};
 ghost use Rattle.vm_modules.specs.Registry.{plain_modules};
@@ -30,7 +30,7 @@ use vm_tops::tops_law;
 
 /// The locals of the outermost code of a module, which are fewer than 2^32.
 fn outermost_locals(rows: &Rows<'_>, number: u32) -> u32
-    requires there { IsSome (code_at rows.now number 0) }
+    requires there { IsSome (code_numbered rows.now number 0) }
     requires short { (row : CodeRow) → IsRow rows.now number 0 row → row.locals < 2 ^ 32 }
     ensures { (row : CodeRow) × IsRow rows.now number 0 row × (result ≡ row.locals) }
 {

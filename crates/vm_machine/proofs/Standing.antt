@@ -5,7 +5,7 @@ use Rattle.arena_heap.specs.declared.value.StrNo.TheVariants as strs
 use Rattle.bc_library.specs.Shelf.{Shelf}
 use Rattle.bc_offsets.specs.Positions.{CodeList, Listed, Starts}
 use Rattle.bc_rows.specs.declared.row.Row.{Row}
-use Rattle.bc_rows.specs.Codes.{code_at}
+use Rattle.bc_rows.specs.Codes.{code_numbered}
 use Rattle.bc_rows.specs.Rows.{IsRow}
 use Rattle.vm_frames.specs.Calls.{Call, Calls, OfRunning}
 use Rattle.vm_hot.specs.vm_unwinding.declared.names.ModuleName.{ModuleName}
@@ -40,7 +40,7 @@ none_some (Some x) e some = cc
 
 -- the laws that are used
 pub record Laws : Type 0 where
-  pub row : (p : Program) (s : Calls) (c : Call) (cs : List Call) → Means p → IsRunning p s → s.calls ≡ c ∷ cs → IsSome (code_at p.shelf c.module_number c.code)
+  pub row : (p : Program) (s : Calls) (c : Call) (cs : List Call) → Means p → IsRunning p s → s.calls ≡ c ∷ cs → IsSome (code_numbered p.shelf c.module_number c.code)
   pub verified : (p : Program) (s : Calls) (c : Call) (cs : List Call) (row : Row) → Means p → IsRunning p s → s.calls ≡ c ∷ cs → IsRow p.shelf c.module_number c.code row → IsVerifiedRow p.shelf c.module_number row
   pub starts : (p : Program) (s : Calls) (c : Call) (cs : List Call) (row : Row) → Means p → IsRunning p s → s.calls ≡ c ∷ cs → IsRow p.shelf c.module_number c.code row → (l : CodeList) × Listed row.instructions.now l × Starts l.offsets c.at
   pub ready : (p : Program) (s : Calls) (c : Call) (cs : List Call) (row : Row) (fetched : Fetched) → Means p → IsRunning p s → s.calls ≡ c ∷ cs → IsRow p.shelf c.module_number c.code row → IsFetched p.shelf c.module_number row c.at fetched
@@ -101,11 +101,11 @@ module _ (shelf : Shelf) (vm : Vm) (h : IsVm shelf vm) (goes_on : vm.end ≡ Non
           (subst (λ (i : ℕ). P shelf i C.code C.at) (sym same_module)
           (subst (λ (z : Shelf). P z C.module_number C.code C.at) of.shelf_is x)))
 
-    pub row_there : code_at shelf module_number code ≡ None → ⊥
+    pub row_there : code_numbered shelf module_number code ≡ None → ⊥
     row_there none =
         let f = first program is_program in
-        let some = from_call program is_program (λ z i k a. IsSome (code_at z i k)) (laws.row program vm.frames f.0 f.1 is_program.means (running program is_program) f.2) in
-        none_some (code_at shelf module_number code) none some
+        let some = from_call program is_program (λ z i k a. IsSome (code_numbered z i k)) (laws.row program vm.frames f.0 f.1 is_program.means (running program is_program) f.2) in
+        none_some (code_numbered shelf module_number code) none some
 
     module _ (row : Row) (is : IsRow shelf module_number code row) where
       row_in : (p : Program) (of : IsProgramOf shelf p) → IsRow p.shelf (C p of).module_number (C p of).code row

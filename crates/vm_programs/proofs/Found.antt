@@ -10,11 +10,11 @@ use Rattle.bc_offsets.specs.Positions.{CodeList, Listed, Starts, position_in}
 use Rattle.mpy_tree.specs.File.{IsModule}
 use Rattle.mpy_tree.specs.Raw as raw
 use Rattle.mpy_tree.specs.Resolved.{ResolvedModule, Resolves}
+use Rattle.mpy_tree.specs.Codes.{codes_of}
 use Rattle.bc_library.specs.Shelf.{Shelf, Named, module_at}
 use Rattle.bc_machine.specs.Library.{Code, Line, Holds as Held, Entry, code_in, module_in, entry_in, code_at, module_of}
 use Rattle.bc_progress.specs.Plans.{Plan, IsVerifiedCode, action_of}
 use Rattle.bc_rows.specs.declared.row.Row.{Row}
-use Rattle.bc_rows.specs.Codes.{codes_of}
 use Rattle.bc_rows.specs.Rows.{IsRow}
 use Rattle.bc_rows.specs.Runs.{RunsAs}
 use Rattle.vm_states.specs.Means.{Program, IsMeant, Means}

@@ -14,7 +14,7 @@ use Rattle.bc_library.specs.Greatest.{IsGreatestIn, ShelfHas}
 use Rattle.bc_progress.specs.Plans.{Plan, Plans, IsVerifiedModule, Follows}
 use Rattle.bc_verified.specs.Rooms.{TakesAtMost, PlanAtMost}
 use Rattle.bc_resolved.specs.Stored.{Stored, Kept, Refused, IsMachineModule, IsLibraryOf, AllModules}
-use Rattle.bc_rows.specs.Codes.{code_at}
+use Rattle.bc_rows.specs.Codes.{code_numbered}
 use Rattle.vm_states.specs.vm_step.Shown.{Tables}
 use Rattle.vm_states.specs.Means.{Program, IsMeant, Means}
 use Rattle.vm_programs.specs.Programs.{IsRunnable, stored_of, FindsAll, FitsGreatest, IsProgramOf}
@@ -31,7 +31,7 @@ tables_of shelf is = record {
   texts = text_at shelf;
   tuples = items_at shelf;
   module_name = λ i. name_by (slice_get shelf.modules i);
-  starts = λ i k. offsets_of (code_at shelf i k) (λ n e. code_of_module shelf is.are_modules i k n e);
+  starts = λ i k. offsets_of (code_numbered shelf i k) (λ n e. code_of_module shelf is.are_modules i k n e);
 }
 
 -- what is stored
@@ -136,7 +136,7 @@ module _ (laws : Laws) (shelf : Shelf) (is : IsRunnable shelf) where
           tree = machine_is.tree;
           resolves = machine_is.resolves;
           held = entry.1 ∙ ap Some (entry.2.2 ∙ ap Holds machine_is.machine_is);
-          starts_are = λ k row l row_is listed. starts_are laws.once shelf i k row l row_is listed (code_at shelf i k) (λ c f. code_of_module shelf is.are_modules i k c f) row_is.there;
+          starts_are = λ k row l row_is listed. starts_are laws.once shelf i k row l row_is listed (code_numbered shelf i k) (λ c f. code_of_module shelf is.are_modules i k c f) row_is.there;
         }
 
     refused_in : (name : Name) → member_of shelf name ≡ Some members.Refused → entry_in library name ≡ Some machine.Refused

@@ -10,7 +10,6 @@ ghost use Rattle.vm_programs.specs.Programs.{IsRunnable, IsProgramOf, FindsAll};
 
 use bc_offsets::offsets_law;
 use bc_ops::listing_law;
-use bc_prelude::prelude_law;
 use bc_resolved::stored_law;
 use bc_rows::rows_law;
 use bc_verified::module_law;
@@ -24,7 +23,6 @@ pub fn program_law()
 {
     stored_law();
     module_law();
-    prelude_law();
     listing_law();
 }
 

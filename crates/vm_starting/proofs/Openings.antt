@@ -11,13 +11,14 @@ use Rattle.arena_heap.specs.declared.value.ConstNo.{ConstNo}
 use Rattle.arena_heap.specs.Constants.{IsTold}
 use Rattle.arena_objects.specs.Keys.{AllTold}
 use Rattle.bc_prelude.specs.declared.prelude.Prelude.{Prelude}
-use Rattle.mpy_tree.specs.declared.raw.RawCode.{RawCode, out-RawCode}
 use Rattle.mpy_tree.specs.Raw.{Module}
 use Rattle.bc_library.specs.Greatest.{ShelfHas, IsGreatestIn}
 use Rattle.bc_library.specs.Shelf.{Shelf, Named}
 use Rattle.bc_machine.specs.Library.{Name}
 use Rattle.bc_rows.specs.declared.row.Row.{Row}
-use Rattle.bc_rows.specs.Codes.{Numbered, numbers_by, codes_to, codes_of, code_at}
+use Rattle.mpy_tree.specs.Codes.{Placed, codes_of}
+use Rattle.mpy_tree.proofs.Codes.{own_place, codes_open}
+use Rattle.bc_rows.specs.Codes.{code_numbered}
 use Rattle.bc_rows.specs.Rows.{IsRow}
 use Rattle.py_effects.specs.Ends.{new_world}
 use Rattle.vm_frames.specs.Calls.{Calls}
@@ -58,21 +59,15 @@ module _ (p : Program) (shelf : Shelf) (of : IsProgramOf shelf p) (n_state n_exc
 -- the first code
 -- ==============
 
-first_in : (levels below number : ℕ) (code : RawCode) → levels ≡ suc below → (n : Numbered) × (slice_get (codes_to levels number code) 0 ≡ Some n)
-unfolding codes_to
-first_in levels below number code e =
-    let n : Numbered = record { bytes = (out-RawCode code).bytes; children = numbers_by (codes_to below) (suc number) (out-RawCode code).children } in
-    (n, ap (λ l. slice_get (codes_to l number code) 0) e)
-
-first_code : (m : Module) → (n : Numbered) × (slice_get (codes_of m) 0 ≡ Some n)
-first_code m = first_in MAX_DEPTH 31 0 m.code refl
+first_code : (m : Module) → (n : Placed) × (slice_get (codes_of m) 0 ≡ Some n)
+first_code m = (own_place 31 [] 0 m.code, ap (λ z. slice_get z 0) (codes_open MAX_DEPTH 31 [] 0 m.code refl))
 
 code_in : (modules : List Named) (i : ℕ) → i < length modules → option_and_then (λ (m : Module). slice_get (codes_of m) 0) (option_and_then (λ (n : Named). Some n.held) (slice_get modules i)) ≡ None → ⊥
 code_in [] i lt e = omega (arith, lt)
 code_in (n ∷ modules) zero lt e = let first = first_code n.held in let wrong : Some first.0 ≡ None = sym first.1 ∙ e in cc
 code_in (n ∷ modules) (suc i) lt e = code_in modules i (omega (arith, lt)) e
 
-pub code_there : (shelf : Shelf) (i : ℕ) → i < length shelf.modules → code_at shelf i 0 ≡ None → ⊥
+pub code_there : (shelf : Shelf) (i : ℕ) → i < length shelf.modules → code_numbered shelf i 0 ≡ None → ⊥
 code_there shelf i lt e = code_in shelf.modules i lt e
 
 -- an empty world

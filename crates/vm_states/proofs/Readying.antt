@@ -6,6 +6,7 @@ use Rattle.mpy_base.specs.Val.{PlainWorld}
 use Rattle.mpy_tree.specs.File.{IsModule}
 use Rattle.mpy_tree.specs.Raw as raw
 use Rattle.mpy_tree.specs.Resolved.{ResolvedModule, Resolves}
+use Rattle.mpy_tree.specs.Codes.{codes_of}
 use Rattle.bc_prelude.specs.Lines as lines
 use Rattle.bc_offsets.specs.Positions.{CodeList, Listed, Starts, position_in}
 use Rattle.bc_offsets.proofs.Order.{each}
@@ -18,8 +19,7 @@ use Rattle.bc_machine.specs.Step.{step}
 use Rattle.bc_progress.specs.Plans.{Plans, Follows}
 use Rattle.bc_progress.specs.Fits.{Stands, IsWithin}
 use Rattle.bc_rows.specs.declared.row.Row.{Row}
-use Rattle.bc_rows.specs.Codes as codes
-use Rattle.bc_rows.specs.Codes.{Numbered, codes_of}
+use Rattle.bc_rows.specs.Codes.{code_numbered}
 use Rattle.bc_rows.specs.Rows.{IsRow}
 use Rattle.bc_rows.specs.Runs.{RunsAs}
 use Rattle.vm_frames.specs.Calls.{Call, Calls}
@@ -96,12 +96,12 @@ module _ (p : Program) (s : Calls) (c : Call) (cs : List Call) (means : Means p)
   starts_at row is = (is.is_row.list, is.is_row.listed, here row is)
 
   module _ (as_many : (m : raw.Module) (tree : ResolvedModule) → IsModule m → Resolves m tree → length (module_of tree).codes ≡ length (codes_of m)) where
-    pub row_there : IsSome (codes.code_at p.shelf c.module_number c.code)
+    pub row_there : IsSome (code_numbered p.shelf c.module_number c.code)
     row_there =
         let count = as_many of.n.held of.meant.tree of.meant.is_module of.meant.resolves in
         let few = below (module_of of.meant.tree).codes c.code stands.code of.code_there in
         let found = at_least (codes_of of.n.held) c.code (subst (λ k. c.code < k) count few) in
-        let is : codes.code_at p.shelf c.module_number c.code ≡ Some found.0 = ap (λ (o : Option raw.Module). option_and_then (λ (m : raw.Module). slice_get (codes_of m) c.code) o) of.there ∙ found.1 in
+        let is : code_numbered p.shelf c.module_number c.code ≡ Some found.0 = ap (λ (o : Option raw.Module). option_and_then (λ (m : raw.Module). slice_get (codes_of m) c.code) o) of.there ∙ found.1 in
         subst IsSome (sym is) refl
 
   module _ (row : Row) (is : IsRow p.shelf c.module_number c.code row) (fetched : Fetched) (fetches : IsFetched p.shelf c.module_number row c.at fetched) where

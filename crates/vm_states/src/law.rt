@@ -6,7 +6,7 @@ ghost use Rattle.arena_heap.specs.declared.value.Value.{Value};
 ghost use Rattle.bc_offsets.specs.Positions.{CodeList, Listed, Starts};
 ghost use Rattle.bc_machine.specs.Step.{step};
 ghost use Rattle.bc_rows.specs.declared.row.Row.{Row};
-ghost use Rattle.bc_rows.specs.Codes.{code_at};
+ghost use Rattle.bc_rows.specs.Codes.{code_numbered};
 ghost use Rattle.bc_rows.specs.Rows.{IsRow};
 ghost use Rattle.vm_frames.specs.declared.slot.Slot.{Slot};
 ghost use Rattle.vm_frames.specs.Calls.{Call, Calls, on_running};
@@ -29,7 +29,7 @@ use vm_tops::tops_law;
 /// Of calls that run a program: the first one's code has a row, which is verified; an instruction starts at the call's offset;
 /// and what is fetched there is ready.
 pub fn ready_law()
-    ensures row { (p : Program) (s : Calls) (c : Call) (cs : List Call) → Means p → IsRunning p s → s.calls ≡ c ∷ cs → IsSome (code_at p.shelf c.module_number c.code) }
+    ensures row { (p : Program) (s : Calls) (c : Call) (cs : List Call) → Means p → IsRunning p s → s.calls ≡ c ∷ cs → IsSome (code_numbered p.shelf c.module_number c.code) }
     ensures verified { (p : Program) (s : Calls) (c : Call) (cs : List Call) (row : Row) → Means p → IsRunning p s → s.calls ≡ c ∷ cs
         → IsRow p.shelf c.module_number c.code row → IsVerifiedRow p.shelf c.module_number row }
     ensures starts { (p : Program) (s : Calls) (c : Call) (cs : List Call) (row : Row) → Means p → IsRunning p s → s.calls ≡ c ∷ cs

@@ -1,9 +1,10 @@
-use Rattle.std.proofs.Common.{◌-◌, take}
-use Rattle.bc_rows.proofs.Numbering.{Added, children}
+use Rattle.std.proofs.Common.{◌-◌, ℕ, List, take}
+use Rattle.mpy_tree.proofs.Codes.{children}
+use Rattle.bc_rows.proofs.Numbering.{Added}
 use Rattle.bc_rows.proofs.codes.+add_code.Given as goal
 
 abbrev pub decreases-add_code : goal.decreases-add_code
 decreases-add_code l = l.levels
 
 abbrev pub invariant-loop-child : goal.invariant-loop-child
-invariant-loop-child l = Added l.library l.number (l.levels - 1) l.fn.rows.items l.code (take l.child-index (children l.code)) l.rows.items l.children
+invariant-loop-child l = (path : List ℕ) → Added l.library l.number (l.levels - 1) path l.fn.rows.items l.code (take l.child-index (children l.code)) l.rows.items l.children

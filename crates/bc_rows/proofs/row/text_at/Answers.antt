@@ -8,7 +8,7 @@ use Rattle.bc_rows.proofs.row.text_at.Goals as goal
 pub unreachable-requires : goal.unreachable-requires
 unreachable-requires c =
     let k = c.requires.known in
-    c.in_default.not-Ok _ (c.read_name_at.ensures.only k.0 k.1 k.2 k.3 k.4)
+    c.in_default.not-Ok _ (c.read_vuint.ensures.only k.0 k.1 k.2 k.3 k.4)
 
 pub unreachable-requires-in_default-text_number : goal.unreachable-requires-in_default-text_number
 unreachable-requires-in_default-text_number c =

@@ -1,22 +1,22 @@
 use Rattle.std.proofs.Common.{◌≡◌, ◌-◌, ◌<◌, ℕ, List, length, get_or, ap₂, subst, ◌∙◌, arith}
 use Rattle.mpy_tree.specs.declared.raw.RawCode.{RawCode, roll-RawCode, roll-out-RawCode}
-use Rattle.module_copies.proofs.Trees.{Nests, below, children}
+use Rattle.mpy_tree.proofs.Codes.{Nests, whole, children}
 use Rattle.module_copies.proofs.Copies.{all_copied, at_place, next_copied}
 use Rattle.module_copies.proofs.codes.+copy_code.Goals as goal
 
 pub overflow_sub-levels : goal.overflow_sub-levels
 overflow_sub-levels t c =
-    let w = below c.args.levels c.requires.0 c.args.code.now (c.requires.1, c.requires.2) in
+    let w = whole c.requires.0 c.args.levels c.args.code.now (c.requires.1, c.requires.2) in
     omega (arith, w.levels_are)
 
 pub copy_code-requires : goal.copy_code-requires
 copy_code-requires t c =
-    let w = below c.args.levels c.requires.0 c.args.code.now (c.requires.1, c.requires.2) in
-    let left : w.left ≡ c.args.levels - 1 = omega (arith, w.levels_are) in
+    let w = whole c.requires.0 c.args.levels c.args.code.now (c.requires.1, c.requires.2) in
+    let left : w.below ≡ c.args.levels - 1 = omega (arith, w.levels_are) in
     let lt = subst (λ (z : List RawCode). c.loop-child.child-index < length z) c.as_slice-child-items.ensures c.loop-child-test.true in
     let is = subst (λ (z : List RawCode). c.child-item.result ≡ get_or z c.loop-child.child-index c.child-item.result) c.as_slice-child-items.ensures c.child-item.is in
     let here = at_place (children c.args.code.now) c.loop-child.child-index c.child-item.result lt is in
-    let inside = subst (λ (n : ℕ). Nests n c.requires.0 c.child-item.result) left (w.each c.loop-child.child-index c.child-item.result here) in
+    let inside = subst (λ (n : ℕ). Nests c.requires.0 n c.child-item.result) left (w.each c.loop-child.child-index c.child-item.result here) in
     (omega (arith, w.levels_are), (c.requires.0, inside.0, inside.1))
 
 pub loop-child-preserved : goal.loop-child-preserved

@@ -1,7 +1,7 @@
 use Rattle.std.proofs.Common.{List, length, sym, ap, subst, ◌∙◌, arith}
 use Rattle.std.specs.Prelude.{ℕ, IsSome, slice_get}
 use Rattle.std.proofs.lemmas.Option.{same_Some, slice_get_within}
-use Rattle.bc_rows.specs.Codes.{code_at}
+use Rattle.bc_rows.specs.Codes.{code_numbered}
 use Rattle.vm_calling.proofs.finding.child_in.Goals as goal
 
 pub number_at-child-requires : goal.number_at-child-requires
@@ -17,4 +17,4 @@ row_at-row-requires c =
     let row = c.row_at-parent.result.now in
     let k = c.requires.child row c.row_at-parent.ensures in
     let same = same_Some k.0 c.number_at-child.result (sym k.1 ∙ (ap (λ (z : List ℕ). slice_get z c.args.number) (sym c.as_slice.ensures) ∙ c.number_at-child.ensures)) in
-    subst (λ n. IsSome (code_at c.args.rows.now c.args.module_number n)) same k.2
+    subst (λ n. IsSome (code_numbered c.args.rows.now c.args.module_number n)) same k.2

@@ -1,4 +1,4 @@
-use Rattle.vm_fetching.proofs.FewLines.{table_short}
+use Rattle.vm_fetching.proofs.Tables.{table_short}
 use Rattle.vm_fetching.proofs.lines.line_of.Goals as goal
 
 pub line_in-requires : goal.line_in-requires

@@ -4,7 +4,7 @@ use Rattle.mpy_base.specs.declared.limits.TheConstants.{MAX_CALLS}
 use Rattle.arena_objects.specs.Keys.{AllTold}
 use Rattle.arena_heap.specs.declared.value.StrNo.TheVariants as strs
 use Rattle.bc_library.specs.Shelf.{Shelf}
-use Rattle.bc_rows.specs.Codes.{code_at}
+use Rattle.bc_rows.specs.Codes.{code_numbered}
 use Rattle.bc_rows.specs.Rows.{IsRow}
 use Rattle.vm_walks.specs.Plain.{plain_name}
 use Rattle.vm_moves.specs.Views.{starts_of}
@@ -37,7 +37,7 @@ outermost_locals-locals-requires-clause-there g c =
     let has = operands_here p s c.requires.runs.0 c.args.name c.requires.runs.1 r t in
     let is = import_here texts tuples p h.runs.tells c.args.rows.now h.shelf_is w c.args.modules.now (nat_lt (length s.calls) MAX_CALLS) c.args.name t.top t.second (imports.Begin c.args.number) (c.requires.import t.top t.second w has) in
     let b = begins_here p c.args.modules.now w (length s.calls) c.args.number (plain_name p.tables.texts p.tables.tuples c.args.name) t.top t.second is in
-    subst (λ (z : Shelf). IsSome (code_at z c.args.number 0)) h.shelf_is (outermost_there p h.runs.means b.title c.args.number b.member c.rows_law.ensures.as_many)
+    subst (λ (z : Shelf). IsSome (code_numbered z c.args.number 0)) h.shelf_is (outermost_there p h.runs.means b.title c.args.number b.member c.rows_law.ensures.as_many)
 
 pub outermost_locals-locals-requires-clause-short : goal.outermost_locals-locals-requires-clause-short
 outermost_locals-locals-requires-clause-short g c row is_row =

@@ -1,11 +1,11 @@
 use Rattle.std.proofs.Common.{◌≡◌, true, false, Option, refl, subst, arith}
 use Rattle.std.specs.Prelude.{IsSome}
-use Rattle.bc_rows.specs.Codes.{Numbered}
+use Rattle.mpy_tree.specs.Codes.{Placed}
 use Rattle.vm_leaving.proofs.importing.outermost_locals.Goals as goal
 
 pub unreachable-requires : goal.unreachable-requires
 unreachable-requires c =
-    let wrong : false ≡ true = subst (λ (o : Option Numbered). IsSome o) c.in_default.ensures.none c.requires.there in
+    let wrong : false ≡ true = subst (λ (o : Option Placed). IsSome o) c.in_default.ensures.none c.requires.there in
     absurd cc
 
 pub overflow_cast-result : goal.overflow_cast-result

@@ -1,6 +1,6 @@
 use Rattle.std.proofs.Common.{sym, ap, subst, ◌∙◌}
 use Rattle.bc_library.specs.Shelf.{Shelf}
-use Rattle.bc_rows.specs.Codes.{code_at}
+use Rattle.bc_rows.specs.Codes.{code_numbered}
 use Rattle.bc_rows.specs.Rows.{IsRow}
 use Rattle.vm_machine.proofs.Standing as fetching
 use Rattle.vm_machine.proofs.fetching.fetch_at.Goals as goal
@@ -21,7 +21,7 @@ unreachable-requires c =
     let laws : fetching.Laws = record { row = c.ready_law.ensures.row; verified = c.ready_law.ensures.verified; starts = c.ready_law.ensures.starts; ready = c.ready_law.ensures.ready } in
     fetching.row_there c.args.library.now c.args.vm.now c.requires.vm c.requires.goes_on p.0 p.1 laws c.running-module_number.result.0 c.running-module_number.result.1 c.offset-at.result
     c.running-module_number.ensures.module_number c.running-module_number.ensures.code c.offset-at.ensures
-    (ap (λ (z : Shelf). code_at z c.running-module_number.result.0 c.running-module_number.result.1) (sym c.requires.rows) ∙ c.in_default.ensures.none)
+    (ap (λ (z : Shelf). code_numbered z c.running-module_number.result.0 c.running-module_number.result.1) (sym c.requires.rows) ∙ c.in_default.ensures.none)
 
 pub fetch-fetched-requires-clause-row : goal.fetch-fetched-requires-clause-row
 fetch-fetched-requires-clause-row c =

@@ -1,6 +1,6 @@
 use Rattle.std.proofs.Common.{sym, ap, subst, ◌∙◌}
 use Rattle.bc_library.specs.Shelf.{Shelf}
-use Rattle.bc_rows.specs.Codes.{code_at}
+use Rattle.bc_rows.specs.Codes.{code_numbered}
 use Rattle.bc_rows.specs.Rows.{IsRow}
 use Rattle.vm_machine.proofs.AtOnce.{read_of}
 use Rattle.vm_machine.proofs.Standing as fetching
@@ -18,7 +18,7 @@ unreachable-requires c =
     let laws : fetching.Laws = record { row = c.ready_law.ensures.row; verified = c.ready_law.ensures.verified; starts = c.ready_law.ensures.starts; ready = c.ready_law.ensures.ready } in
     fetching.row_there c.args._library.now c.args.vm.now h.is_vm h.goes_on h.program h.is_program laws c.running-module_number.result.0 c.running-module_number.result.1 c.offset-at.result
     c.running-module_number.ensures.module_number c.running-module_number.ensures.code c.offset-at.ensures
-    (ap (λ (z : Shelf). code_at z c.running-module_number.result.0 c.running-module_number.result.1) (sym c.requires.rows) ∙ c.in-None.ensures.none)
+    (ap (λ (z : Shelf). code_numbered z c.running-module_number.result.0 c.running-module_number.result.1) (sym c.requires.rows) ∙ c.in-None.ensures.none)
 
 pub returns : goal.returns
 returns c =

@@ -4,7 +4,7 @@ use Rattle.vm_programs.proofs.law.program_law.Goals as goal
 pub returns-clause-exists : goal.returns-clause-exists
 returns-clause-exists c shelf is =
     let laws : Laws = record {
-      once = record { one_prelude = c.prelude_law.ensures.one_prelude; one_start = c.listing_law.ensures.one_start };
+      once = record { one_start = c.listing_law.ensures.one_start };
       library = c.stored_law.ensures.library;
       rooms = c.module_law.ensures.rooms;
     } in

@@ -1,0 +1,17 @@
+-- How long the line table of a row is.
+use Rattle.std.proofs.Common.{ℕ, ◌≤◌, length, ap, arith}
+use Rattle.mpy_base.specs.declared.limits.TheConstants.{MAX_CODE_BYTES}
+use Rattle.bc_prelude.proofs.Pieces.{parts_short}
+use Rattle.mpy_tree.specs.declared.raw.RawCode.{out-RawCode}
+use Rattle.bc_verify.proofs.Trees as trees
+use Rattle.bc_library.specs.Shelf.{Shelf}
+use Rattle.bc_rows.specs.declared.row.Row.{Row}
+use Rattle.vm_fetching.specs.Fetches.{IsVerifiedRow}
+use Rattle.vm_fetching.proofs.Kept.{row_path}
+
+pub table_short : (shelf : Shelf) (i : ℕ) (row : Row) → IsVerifiedRow shelf i row → length row.line_table.now ≤ MAX_CODE_BYTES
+table_short shelf i row v =
+    let p = row_path shelf i row v in
+    let short : length (out-RawCode p.code).bytes ≤ MAX_CODE_BYTES = trees.short_codes v.m v.is_row.code.path p.code v.is_module p.there in
+    let parts = parts_short _ _ v.is_row.is_row.begins in
+    omega (arith, short, parts, ap length p.bytes, ap length v.is_row.is_row.line_table)
