@@ -1,7 +1,7 @@
 pub mod Bodies
-pub mod Cursors
 mod Examples
 pub mod Heads
+pub mod Numbers
 pub mod Once
 pub mod Paths
 pub mod Pens

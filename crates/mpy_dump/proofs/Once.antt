@@ -9,15 +9,16 @@ use Rattle.bc_ops.proofs.Law.{one_instruction}
 use Rattle.bc_prelude.specs.declared.prelude.Prelude.{Prelude}
 use Rattle.bc_prelude.specs.Prelude.{Begins}
 use Rattle.bc_prelude.specs.Lines.{line_of}
+use Rattle.bc_prelude.proofs.Pieces.{instructions_at, lines_at}
 use Rattle.bc_prelude.proofs.Preludes.{same_prelude}
 use Rattle.bc_prelude.proofs.Indexes.{same_indexes}
+use Rattle.mpy_tree.specs.Codes.{Placed, codes_of}
 use Rattle.mpy_tree.specs.Raw.{Module}
 use Rattle.mpy_tree.specs.File.{Many, IsModule}
 use Rattle.mpy_dump.specs.Numbered.{numbered}
 use Rattle.mpy_dump.specs.Instructions.{instr_line, instr_lines}
-use Rattle.mpy_dump.specs.Codes.{Placed, code_line, IsCodeText}
+use Rattle.mpy_dump.specs.Codes.{code_line, IsCodeText}
 use Rattle.mpy_dump.specs.Listing.{head_line, qstr_line, object_line, IsListing}
-use Rattle.mpy_dump.proofs.Bodies.{instructions_at, lines_are}
 use Rattle.mpy_dump.proofs.Trees.{module_exists}
 
 some_text : {A : Type 0} (piece : Piece) (bytes : List ℕ) → IsPiece piece → [] ≡ piece.text ++ bytes → A
@@ -53,7 +54,7 @@ one_code m code x y a b =
     let bytes = code.bytes in
     let same : a.prelude ≡ b.prelude = same_prelude bytes a.prelude b.prelude a.begins b.begins in
     let table : a.begins.lines ≡ b.begins.lines =
-    sym (lines_are bytes a.prelude a.begins) ∙ (ap (λ (z : Prelude). drop z.lines_at (take z.code_at bytes)) same ∙ lines_are bytes b.prelude b.begins) in
+    sym (lines_at bytes a.prelude a.begins) ∙ (ap (λ (z : Prelude). drop z.lines_at (take z.code_at bytes)) same ∙ lines_at bytes b.prelude b.begins) in
     let code_is : a.begins.instructions ≡ b.begins.instructions =
     sym (instructions_at bytes a.prelude a.begins) ∙ (ap (λ (z : Prelude). drop z.code_at bytes) same ∙ instructions_at bytes b.prelude b.begins) in
     let lines : instr_lines m a.begins.lines 0 a.pieces ≡ instr_lines m b.begins.lines 0 b.pieces =
@@ -72,7 +73,7 @@ one_text m (code ∷ codes) x y a b =
 
 pub one_listing : (m : Module) (x y : List ℕ) → IsListing m x → IsListing m y → x ≡ y
 one_listing m x y a b =
-    a.text_is ∙ (ap (λ (z : List ℕ). head_line m ++ (numbered qstr_line 0 m.qstrs ++ (numbered object_line 0 m.objects ++ z))) (one_text m _ a.codes_text b.codes_text a.are_codes b.are_codes) ∙ sym b.text_is)
+    a.text_is ∙ (ap (λ (z : List ℕ). head_line m ++ (numbered qstr_line 0 m.qstrs ++ (numbered object_line 0 m.objects ++ z))) (one_text m (codes_of m) a.codes_text b.codes_text a.are_codes b.are_codes) ∙ sym b.text_is)
 
 pub some_listing : (m : Module) → IsModule m → (text : List ℕ) × IsListing m text
 some_listing m is =

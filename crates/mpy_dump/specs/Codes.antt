@@ -1,11 +1,11 @@
--- The codes of a module in preorder, and what is written for each.
-use Rattle.std.specs.Prelude.{◌≡◌, ℕ, ◌+◌, List, [], ◌∷◌, ◌++◌, length, All, codes, decimal, slice_index}
+-- What is written for the codes of a module.
+use Rattle.std.specs.Prelude.{◌≡◌, ℕ, List, [], ◌∷◌, ◌++◌, length, All, codes, decimal, slice_index}
 use Rattle.std.specs.List.{flat_map}
 use Rattle.bc_ops.specs.Listing.{Piece, IsPiece, joined}
 use Rattle.bc_prelude.specs.declared.prelude.Prelude.{Prelude}
 use Rattle.bc_prelude.specs.Prelude.{Begins}
-use Rattle.mpy_tree.specs.declared.raw.RawCode.{RawCode, RawCode-F}
-use Rattle.mpy_tree.specs.declared.raw.RawCode.TheFolds.{fold-RawCode}
+use Rattle.mpy_tree.specs.declared.raw.RawCode.{RawCode}
+use Rattle.mpy_tree.specs.Codes.{Placed, codes_to}
 use Rattle.mpy_tree.specs.Raw.{Module}
 use Rattle.mpy_tree.specs.File.{Many}
 use Rattle.mpy_dump.specs.declared.path.Path.{Path, fold-Path}
@@ -20,28 +20,6 @@ path_step (Path-F.Child above place) = above.now ++ place ∷ []
 -- the places on the way from the outermost code to one, the first of them first
 abbrev pub places : Path → List ℕ
 places = fold-Path (List ℕ) path_step
-
--- a code's own bytes and its path
-pub record Placed : Type 0 where
-  pub path : List ℕ
-  pub bytes : List ℕ
-
--- own bytes with the path of their code
-abbrev pub placed : List ℕ → List ℕ → Placed
-placed path bytes = record { path = path; bytes = bytes }
-
--- the codes in children, by what each gives for its path, where the first has the place that is given
-abbrev pub in_children : List ℕ → ℕ → List (List ℕ → List Placed) → List Placed
-in_children path place [] = []
-in_children path place (child ∷ children) = child (path ++ place ∷ []) ++ in_children path (place + 1) children
-
--- a code, and then those in it
-abbrev pub preorder_step : RawCode-F (List ℕ → List Placed) → List ℕ → List Placed
-preorder_step code path = placed path code.bytes ∷ in_children path 0 code.children
-
--- a code with this path, then those in it, each before those in it
-abbrev pub preorder : RawCode → List ℕ → List Placed
-preorder = fold-RawCode (List ℕ → List Placed) preorder_step
 
 -- the outermost code is 0, and a dot stands in front of each place
 abbrev pub path_text : List ℕ → List ℕ
@@ -69,6 +47,11 @@ pub record IsCodeText (m : Module) (text : List ℕ) (code : Placed) : Type 0 wh
   pub text_is : text ≡ code_line m code.path (slice_index begins.indexes 0) prelude (length code.bytes)
       ++ instr_lines m begins.lines 0 pieces
 
--- what is written for a code with this path and for those in it, in preorder
-abbrev pub AreCodesText : Module → List ℕ → RawCode → List ℕ → Type 0
-AreCodesText m path code text = Many (IsCodeText m) text (preorder code path)
+-- what is written for own bytes with the path of their code, whatever the numbers of its children
+abbrev pub IsOwnText : Module → List ℕ → List ℕ → List ℕ → Type 0
+IsOwnText m path bytes text =
+    (children : List ℕ) → IsCodeText m text (record { path = path; bytes = bytes; children = children })
+
+-- what is written for a code with this path and for those in it, to that number of levels, whatever the number of the code
+abbrev pub AreCodesText : Module → ℕ → List ℕ → RawCode → List ℕ → Type 0
+AreCodesText m levels path code text = (number : ℕ) → Many (IsCodeText m) text (codes_to levels path number code)

@@ -1,5 +1,4 @@
 pub mod Codes
-pub mod Cursor
 pub mod Instructions
 pub mod Listing
 pub mod Numbered

@@ -3,11 +3,13 @@ use Rattle.std.specs.Prelude.{◌≡◌, ℕ, List, [], ◌++◌, length, codes,
 use Rattle.mpy_tree.specs.declared.module.Constant.{Constant}
 use Rattle.mpy_tree.specs.declared.raw.Qstr.{Qstr}
 use Rattle.mpy_tree.specs.declared.raw.Qstr.TheVariants.{Static, Own}
+use Rattle.mpy_tree.specs.Codes.{codes_of}
+use Rattle.mpy_tree.specs.File.{Many}
 use Rattle.mpy_tree.specs.Raw.{Module, text_of}
 use Rattle.mpy_dump.specs.Numbered.{numbered}
 use Rattle.mpy_dump.specs.Texts.{name_text}
 use Rattle.mpy_dump.specs.Objects.{object_text}
-use Rattle.mpy_dump.specs.Codes.{AreCodesText}
+use Rattle.mpy_dump.specs.Codes.{IsCodeText}
 
 -- the format's version and architecture, the small-integer bits, and how long the tables are
 abbrev pub head_line : Module → List ℕ
@@ -33,5 +35,5 @@ object_line n object = (codes "object " ++ (decimal n ++ codes " ")) ++ (object_
 -- the first line, the table of texts, that of objects, and the codes in preorder
 pub record IsListing (m : Module) (text : List ℕ) : Type 0 where
   pub codes_text : List ℕ
-  pub are_codes : AreCodesText m [] m.code codes_text
+  pub are_codes : Many (IsCodeText m) codes_text (codes_of m)
   pub text_is : text ≡ head_line m ++ (numbered qstr_line 0 m.qstrs ++ (numbered object_line 0 m.objects ++ codes_text))

@@ -1,5 +1,5 @@
 -- Texts of a few bytes, and what is listed by them.
-use Rattle.std.specs.Prelude.{◌≡◌, ℕ, ◌+◌, ◌/◌, ◌%◌, ◌<◌, List, [], ◌∷◌, take, length, decimal, slice_index_or, slice_set}
+use Rattle.std.specs.Prelude.{◌≡◌, ℕ, ◌+◌, ◌/◌, ◌%◌, ◌<◌, ◌≤◌, List, [], ◌∷◌, ◌++◌, take, length, codes, decimal, slice_index_or, slice_set}
 use Rattle.bc_ops.specs.declared.instr.Instr.{Instr}
 use Rattle.bc_ops.specs.Code.{Spells}
 use Rattle.mpy_tree.specs.Raw.{Module}
@@ -41,3 +41,9 @@ ArePairs m tails = (place : ℕ) (other : Short) → place < 5120 → IsTail m (
 pub record AreTails (m : Module) (tails : Tails) : Type 0 where
   pub singles : AreSingles m tails.singles
   pub pairs : ArePairs m tails.pairs
+
+-- the line of the instruction that ends at the offset ends with these bytes and a number of at most five digits
+pub record IsJumpEnd (end : ℕ) (instr : Instr) (bytes : List ℕ) (len target : ℕ) : Type 0 where
+  pub short : len ≤ 32
+  pub few : target < 100000
+  pub text : (m : Module) → instr_tail m end instr ≡ take len bytes ++ (decimal target ++ codes "\n")

@@ -1,10 +1,9 @@
 //! The codes of a module in preorder.
 
-ghost use Rattle.std.specs.Prelude.{◌≡◌, ◌≤◌, ℕ, List, length, slice_index};
-ghost use Rattle.bc_prelude.specs.Prelude.{Begins};
+ghost use Rattle.std.specs.Prelude.{◌≤◌, ℕ, List, length};
 ghost use Rattle.mpy_tree.specs.File.{IsOwnCode, IsCode};
 ghost use Rattle.mpy_dump.specs.Codes as specs;
-ghost use Rattle.mpy_dump.specs.Codes.{placed, places, IsCodeText, AreCodesText};
+ghost use Rattle.mpy_dump.specs.Codes.{places, IsOwnText, AreCodesText};
 ghost use Rattle.mpy_dump.specs.Puts.{Puts};
 ghost use Rattle.mpy_dump.specs.Short.{AreTails};
 
@@ -14,43 +13,11 @@ use crate::path::{Path, put_path};
 use crate::pen::Pen;
 use crate::put::{digits, put, put_all};
 use crate::tails::{Tails, tails_of};
-use bc_prelude::{Prelude, read_prelude};
+use bc_prelude::{Prelude, first_index, parts_of};
 use itoa::Buffer;
-use mpy_base::limits::MAX_CODE_BYTES;
-use mpy_base::read_vuint;
+use mpy_base::limits::{MAX_CODE_BYTES, MAX_DEPTH};
 use mpy_io::{Failed, Sink};
 use mpy_tree::{RawCode, RawModule};
-
-/// The parts of a code's own bytes.
-#[derive(Clone, Copy)]
-struct Parts<'a> {
-    prelude: Prelude,
-    name: u32,
-    table: &'a [u8],
-    instructions: &'a [u8],
-}
-
-/// Takes a code's own bytes apart.
-fn parts_of(bytes: &[u8]) -> Parts<'_>
-    requires { (texts : ℕ) × IsOwnCode texts bytes.now }
-    ensures { (begins : Begins bytes.now result.prelude) × (result.name ≡ slice_index begins.indexes 0)
-        × (result.table.now ≡ begins.lines) × (result.instructions.now ≡ begins.instructions) }
-{
-    let Ok(prelude) = read_prelude(bytes) else {
-        unreachable!();
-    };
-    let Ok((name, _)) = read_vuint(bytes, prelude.info_at) else {
-        unreachable!();
-    };
-    let (front, instructions) = bytes.split_at(prelude.code_at);
-    let (_, table) = front.split_at(prelude.lines_at);
-    Parts {
-        prelude,
-        name,
-        table,
-        instructions,
-    }
-}
 
 /// Puts the numbers of a code of `size` bytes.
 fn put_numbers<S: Sink>(out: &mut S, prelude: &Prelude, size: usize) -> Result<(), Failed>
@@ -81,22 +48,23 @@ fn put_numbers<S: Sink>(out: &mut S, prelude: &Prelude, size: usize) -> Result<(
     )
 }
 
-/// Puts the line of a code of `size` bytes.
+/// Puts the line of a code of `size` bytes, whose name has the number `name`.
 fn put_line<S: Sink>(
     out: &mut S,
     module: &RawModule,
     path: &Path<'_>,
-    parts: &Parts<'_>,
+    name: u32,
+    prelude: &Prelude,
     size: usize,
 ) -> Result<(), Failed>
     ensures { Puts S.told S.count out.old out.new
-        (specs.code_line module.now (places path.now) parts.now.name parts.now.prelude size) result }
+        (specs.code_line module.now (places path.now) name prelude.now size) result }
 {
     put(out, b"code ")?;
     put_path(out, path)?;
     put(out, b" ")?;
-    put_name_at(out, module, parts.name)?;
-    put_numbers(out, &parts.prelude, size)
+    put_name_at(out, module, name)?;
+    put_numbers(out, prelude, size)
 }
 
 /// Puts the lines of a code without those in it.
@@ -111,15 +79,16 @@ fn put_code<S: Sink>(
     requires tails { AreTails module.now tails.now }
     requires own { (texts : ℕ) × IsOwnCode texts bytes.now }
     requires short { length bytes.now ≤ MAX_CODE_BYTES }
-    ensures { (text : List ℕ) × IsCodeText module.now text (placed (places path.now) bytes.now)
+    ensures { (text : List ℕ) × IsOwnText module.now (places path.now) bytes.now text
         × Puts S.told S.count out.old out.new text result }
 {
     let parts = parts_of(bytes);
-    put_line(out, module, path, &parts, bytes.len())?;
-    put_instrs(out, pen, module, tails, parts.table, parts.instructions)
+    let name = first_index(parts.names);
+    put_line(out, module, path, name, &parts.prelude, bytes.len())?;
+    put_instrs(out, pen, module, tails, parts.lines, parts.instructions)
 }
 
-/// Puts the lines of a code, and of those in it.
+/// Puts the lines of a code, and of those in it, which have at most `levels` levels together.
 fn put_nest<'a, S: Sink>(
     out: &mut S,
     pen: &mut Pen,
@@ -127,15 +96,17 @@ fn put_nest<'a, S: Sink>(
     tails: &Tails,
     path: &'a Path<'a>,
     code: &'a RawCode,
+    levels: usize,
 ) -> Result<(), Failed>
     requires tails { AreTails module.now tails.now }
-    requires nests { (levels : ℕ) × (texts : ℕ) × (text : List ℕ) × IsCode levels texts text code.now }
-    ensures { (text : List ℕ) × AreCodesText module.now (places path.now) code.now text
+    requires nests { (texts : ℕ) × (text : List ℕ) × IsCode levels texts text code.now }
+    ensures { (text : List ℕ) × AreCodesText module.now levels (places path.now) code.now text
         × Puts S.told S.count out.old out.new text result }
 {
     put_code(out, pen, module, tails, path, code.bytes.bytes())?;
     for (place, child) in code.children.as_slice().iter().enumerate() {
-        put_nest(out, pen, module, tails, &Path::Child(path, place), child)?;
+        let below = Path::Child(path, place);
+        put_nest(out, pen, module, tails, &below, child, levels - 1)?;
     }
     Ok(())
 }
@@ -147,11 +118,11 @@ pub(crate) fn put_codes<'a, S: Sink>(
     path: &'a Path<'a>,
     code: &'a RawCode,
 ) -> Result<(), Failed>
-    requires { (levels : ℕ) × (texts : ℕ) × (text : List ℕ) × IsCode levels texts text code.now }
-    ensures { (text : List ℕ) × AreCodesText module.now (places path.now) code.now text
+    requires { (texts : ℕ) × (text : List ℕ) × IsCode MAX_DEPTH texts text code.now }
+    ensures { (text : List ℕ) × AreCodesText module.now MAX_DEPTH (places path.now) code.now text
         × Puts S.told S.count out.old out.new text result }
 {
     let mut pen = Pen::new();
     let tails = tails_of(&mut pen, module);
-    put_nest(out, &mut pen, module, &tails, path, code)
+    put_nest(out, &mut pen, module, &tails, path, code, MAX_DEPTH)
 }

@@ -10,14 +10,15 @@ ghost use Rattle.mpy_dump.specs.Reads.{Stands, IsRead, GathersEnd};
 ghost use Rattle.mpy_dump.specs.Short.{IsHead, AreTails};
 ghost use Rattle.mpy_dump.specs.Puts.{Puts};
 
-use crate::cursor::{advance, start};
 use crate::head::{Head, count_up, head_of, set_line};
+use crate::jumps::jump_end;
 use crate::names::put_name_at;
 use crate::operations::{binary_name, binary_sign, operation_name, unary_sign};
 use crate::pen::{Pen, hand_over, make_room};
 use crate::put::{digits, put, put_all, put_number};
 use crate::tails::{Tails, pair_at};
 use bc_ops::{Instr, decode_at};
+use bc_prelude::Place;
 use itoa::Buffer;
 use mpy_base::limits::MAX_CODE_BYTES;
 use mpy_io::{Failed, Sink};
@@ -123,6 +124,28 @@ fn gather_tail<S: Sink>(
     put_tail(out, module, end, instr)
 }
 
+/// Gathers the same; the end of a jump's line mostly in two parts.
+#[inline(always)]
+fn gather_instr<S: Sink>(
+    out: &mut S,
+    pen: &mut Pen,
+    module: &RawModule,
+    end: usize,
+    instr: Instr,
+) -> Result<(), Failed>
+    requires room { length pen.old.text + 64 ≤ 4096 }
+    requires short { end ≤ MAX_CODE_BYTES }
+    ensures { Gathers S.told S.count out.old out.new pen.old.text (specs.instr_tail module.now end instr)
+        pen.new.text result }
+{
+    let Some(((name, len), target)) = jump_end(end, instr) else {
+        return gather_tail(out, pen, module, end, instr);
+    };
+    pen.add_front(name, len);
+    pen.add_number(target);
+    Ok(())
+}
+
 /// Gathers the end of the line of the instruction at `at`, which is moved behind it.
 #[inline(never)]
 fn gather_read<S: Sink>(
@@ -133,6 +156,7 @@ fn gather_read<S: Sink>(
     at: &mut usize,
 ) -> Result<(), Failed>
     requires decodes { Stands code.now at.old }
+    requires room { length pen.old.text + 64 ≤ 4096 }
     requires short { length code.now ≤ MAX_CODE_BYTES }
     ensures { GathersEnd S.told S.count out.old out.new module.now code.now at.old at.new pen.old.text pen.new.text result }
 {
@@ -140,7 +164,7 @@ fn gather_read<S: Sink>(
         unreachable!();
     };
     *at = end;
-    gather_tail(out, pen, module, end, instr)
+    gather_instr(out, pen, module, end, instr)
 }
 
 /// Gathers the end of the line of the instruction at `at`, which is moved behind it: that which is kept for its two bytes, where one is.
@@ -155,7 +179,7 @@ fn gather_pair<S: Sink>(
 ) -> Result<(), Failed>
     requires tails { AreTails module.now tails.now }
     requires decodes { Stands code.now at.old }
-    requires room { length pen.old.text + 32 ≤ 4096 }
+    requires room { length pen.old.text + 64 ≤ 4096 }
     requires short { length code.now ≤ MAX_CODE_BYTES }
     ensures { GathersEnd S.told S.count out.old out.new module.now code.now at.old at.new pen.old.text pen.new.text result }
 {
@@ -184,7 +208,7 @@ fn gather_end<S: Sink>(
 ) -> Result<(), Failed>
     requires tails { AreTails module.now tails.now }
     requires decodes { Stands code.now at.old }
-    requires room { length pen.old.text + 32 ≤ 4096 }
+    requires room { length pen.old.text + 64 ≤ 4096 }
     requires short { length code.now ≤ MAX_CODE_BYTES }
     ensures { GathersEnd S.told S.count out.old out.new module.now code.now at.old at.new pen.old.text pen.new.text result }
 {
@@ -239,11 +263,11 @@ pub(crate) fn put_instrs<S: Sink>(
         × Puts S.told S.count out.old out.new (specs.instr_lines module.now table.now 0 pieces) result }
 {
     pen.cut(0);
-    let mut place = start(table);
+    let mut place = Place::start();
     let mut head = head_of(0, place.line);
     let mut at = 0;
     while at < code.len() {
-        place = advance(table, place, at as u32);
+        place = place.advance(table, at as u32);
         set_line(&mut head, at as u32, place.line);
         let from = at;
         gather_line(out, pen, module, tails, &head, code, &mut at)?;

@@ -2,9 +2,9 @@
 #![tactic(auto)]
 
 mod codes;
-mod cursor;
 mod head;
 mod instructions;
+mod jumps;
 mod names;
 mod objects;
 mod operations;

@@ -1,6 +1,6 @@
 //! Bytes that are gathered, so that one put takes many lines.
 
-ghost use Rattle.std.specs.Prelude.{◌≡◌, ◌≤◌, ◌+◌, ◌++◌, [], length, take, Some, ◌<◌, OnOk, OnErr, IsOk, is_err};
+ghost use Rattle.std.specs.Prelude.{◌≡◌, ◌≤◌, ◌+◌, ◌++◌, [], length, take, Some, ◌<◌, OnOk, OnErr, IsOk, is_err, codes, decimal};
 ghost use Rattle.mpy_io.specs.Count.{Counts};
 ghost use Rattle.mpy_io.specs.Told.{AppendsFront};
 ghost use Rattle.mpy_dump.specs.Pen.{Gathers};
@@ -10,12 +10,33 @@ ghost use Rattle.mpy_dump.specs.Short.{short_text, begins};
 use crate::head::Head;
 use crate::put::put;
 use crate::short::{SHORT_BYTES, Short};
+use itoa::write_digits;
 use mpy_io::{Failed, Sink};
 use std::marker::Model;
 use std::simd::u8x32;
 
 /// How many bytes a pen holds at most.
 pub(crate) const PEN_BYTES: usize = 4096;
+
+/// How many digits a number has, which are five at most.
+#[inline(always)]
+fn digits_of(n: u32) -> usize
+    requires { n < 100000 }
+    ensures is { result ≡ length (decimal n) }
+    ensures few { result ≤ 5 }
+{
+    if n >= 10_000 {
+        5
+    } else if n >= 1_000 {
+        4
+    } else if n >= 100 {
+        3
+    } else if n >= 10 {
+        2
+    } else {
+        1
+    }
+}
 
 /// Gathers bytes. As a sink it fails where a piece finds no room, and then stays as it was.
 #[derive(Drop)]
@@ -82,6 +103,18 @@ impl Pen {
         self.len = start + piece.len;
     }
 
+    /// Adds the first `len` bytes of an array, for which there is room.
+    #[inline(always)]
+    pub(crate) fn add_front(&mut self, bytes: &[u8; SHORT_BYTES], len: usize)
+        requires few { len ≤ 32 }
+        requires room { length self.old.text + 32 ≤ 4096 }
+        ensures { self.new.text ≡ self.old.text ++ take len bytes.now }
+    {
+        let start = self.len;
+        u8x32::from_slice(bytes).copy_to_slice(&mut self.bytes[start..start + SHORT_BYTES]);
+        self.len = start + len;
+    }
+
     /// Adds what a line begins with, for which there is room.
     #[inline(always)]
     pub(crate) fn add_head(&mut self, head: &Head)
@@ -92,6 +125,19 @@ impl Pen {
         let start = self.len;
         self.add(&head.text);
         self.bytes[start + head.last] = head.digit;
+    }
+
+    /// Adds a number of at most five digits and the end of a line, for which there is room.
+    #[inline(always)]
+    pub(crate) fn add_number(&mut self, n: u32)
+        requires few { n < 100000 }
+        requires room { length self.old.text + 32 ≤ 4096 }
+        ensures { self.new.text ≡ self.old.text ++ (decimal n ++ codes "\n") }
+    {
+        let end = self.len + digits_of(n);
+        write_digits(u64::from(n), &mut self.bytes, end);
+        self.bytes[end] = b'\n';
+        self.len = end + 1;
     }
 }
 
@@ -139,13 +185,13 @@ pub(crate) fn hand_over<S: Sink>(out: &mut S, pen: &mut Pen) -> Result<(), Faile
     result
 }
 
-/// Makes room for two short texts.
+/// Makes room for three short texts.
 #[inline(always)]
 pub(crate) fn make_room<S: Sink>(out: &mut S, pen: &mut Pen) -> Result<(), Failed>
     ensures gathers { Gathers S.told S.count out.old out.new pen.old.text [] pen.new.text result }
-    ensures room { OnOk result (length pen.new.text + 64 ≤ 4096) }
+    ensures room { OnOk result (length pen.new.text + 96 ≤ 4096) }
 {
-    if pen.len() + 2 * SHORT_BYTES > PEN_BYTES {
+    if pen.len() + 3 * SHORT_BYTES > PEN_BYTES {
         return hand_over(out, pen);
     }
     Ok(())

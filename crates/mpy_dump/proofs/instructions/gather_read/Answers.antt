@@ -12,8 +12,11 @@ unreachable-requires g c =
     let s = c.requires.decodes in
     c.in_default.not-Ok _ (c.decode_at.ensures.only s.piece.text s.behind s.piece.instr s.spelled s.is)
 
-pub gather_tail-requires : goal.gather_tail-requires
-gather_tail-requires g c =
+pub gather_instr-requires-clause-room : goal.gather_instr-requires-clause-room
+gather_instr-requires-clause-room g c = c.requires.room
+
+pub gather_instr-requires-clause-short : goal.gather_instr-requires-clause-short
+gather_instr-requires-clause-short g c =
     let f = c.in-Ok.ensures.found in
     let within = stands_within c.args.code.now c.args.at.now c.requires.decodes in
     omega (arith, f.4, length-drop c.args.at.now c.args.code.now, ap length f.3, length-append f.0 f.1, within, c.requires.short)
@@ -24,6 +27,6 @@ returns g c =
       c.in-Ok.end,
       c.in-Ok.instr,
       record { text = f.0; behind = f.1; spells = f.2; is = f.3; ends = f.4 },
-      on_ok c.gather_tail.result refl,
-      c.gather_tail.ensures,
+      on_ok c.gather_instr.result refl,
+      c.gather_instr.ensures,
     )

@@ -13,7 +13,7 @@ pub loop-at-init : goal.loop-at-init
 loop-at-init g c = record {
   walk = walk_begins _ _ _ _ c.args.module.now c.args.table.now c.args.code.now c.requires.decodes.0 c.cut.ensures c.requires.decodes.1 c.requires.decodes.2;
   within = omega arith;
-  place = c.start-place.ensures.place;
+  place = c.start-place.ensures.place c.args.table.now;
   ahead = omega (arith, c.start-place.ensures.passed);
   head = c.head_of-head.ensures.is;
 }

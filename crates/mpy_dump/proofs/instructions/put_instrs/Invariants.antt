@@ -1,5 +1,5 @@
 use Rattle.std.proofs.Common.{◌-◌, ◌≤◌, length}
-use Rattle.mpy_dump.specs.Cursor.{IsPlace}
+use Rattle.bc_prelude.specs.Cursor.{IsPlace}
 use Rattle.mpy_dump.specs.Short.{IsHead}
 use Rattle.mpy_dump.proofs.Pieces.{Walk}
 use Rattle.mpy_dump.proofs.instructions.put_instrs.Given as goal

@@ -1,9 +1,10 @@
 use Rattle.std.proofs.Common.{◌++◌, [], refl, sym, ap, subst}
+use Rattle.mpy_base.specs.declared.limits.TheConstants.{MAX_DEPTH}
 use Rattle.mpy_dump.specs.Numbered.{numbered}
 use Rattle.mpy_dump.specs.Codes.{AreCodesText}
 use Rattle.mpy_dump.specs.Listing.{qstr_line, object_line}
 use Rattle.mpy_dump.proofs.Paths.{places_Outermost}
-use Rattle.mpy_dump.proofs.Trees.{Nests, module_nests, module_exists}
+use Rattle.mpy_dump.proofs.Trees.{Fits, module_fits, module_exists}
 use Rattle.mpy_dump.proofs.Putting.{begin, step, stop, last, puts_is}
 use Rattle.mpy_dump.proofs.whole.listing.Goals as goal
 
@@ -42,16 +43,17 @@ returns-in_err-put_objects g c =
     )
 
 pub put_codes-requires : goal.put_codes-requires
-put_codes-requires g c = subst Nests (sym c.code.ensures) (module_nests c.args.module.now c.module_law.ensures)
+put_codes-requires g c = subst (Fits MAX_DEPTH) (sym c.code.ensures) (module_fits c.args.module.now c.module_law.ensures)
 
 pub returns : goal.returns
 returns g c =
     let m = c.args.module.now in
     let q = c.put_codes.ensures in
     let behind = numbered object_line 0 m.objects ++ q.0 in
-    let outermost = subst (λ path. AreCodesText m path c.code.result.now q.0) places_Outermost q.1 in (
+    let outermost = subst (λ path. AreCodesText m MAX_DEPTH path c.code.result.now q.0) places_Outermost q.1 in
+    let are = subst (λ code. AreCodesText m MAX_DEPTH [] code q.0) c.code.ensures outermost in (
       _,
-      record { codes_text = q.0; are_codes = subst (λ code. AreCodesText m [] code q.0) c.code.ensures outermost; text_is = refl },
+      record { codes_text = q.0; are_codes = are 0; text_is = refl },
       last c.put_codes.result (step q.0
           (step behind (step (numbered qstr_line 0 m.qstrs ++ behind) (begin _ _ _ _) c.in_ok-put_head.ensures)
           (puts_is (ap (numbered qstr_line 0) c.qstrs.ensures) c.in_ok-put_qstrs.ensures))
