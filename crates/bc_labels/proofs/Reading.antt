@@ -1,5 +1,5 @@
 -- The instructions of items may be written.
-use Rattle.std.proofs.Common.{◌≡◌, ℕ, zero, suc, ◌+◌, ◌<◌, ◌≤◌, Bool, true, false, List, [], ◌∷◌, ◌++◌, length, All, ℤ, refl, ap, sym, subst, ◌∙◌, add-one, arith}
+use Rattle.std.proofs.Common.{◌≡◌, ℕ, zero, suc, ◌<◌, ◌≤◌, Bool, true, false, List, [], ◌∷◌, length, All, ℤ, refl, ap, sym, subst, ◌∙◌, arith}
 use Rattle.std.specs.List.{flat_map}
 use Rattle.std.proofs.lemmas.List.{append-nil, length-append}
 use Rattle.std.proofs.lemmas.List.Concat.{flat_map-append}
@@ -50,14 +50,6 @@ is_code items bytes sound f = record {
   bytes_are = f.bytes_are;
   encodable = encodable_to items f.widths (length items) sound f.fewest.short_fit f.wide_fit (omega arith);
 }
-
--- the bytes of one item more
-pub written : (items : List Labelled) (widths : List Bool) (i : ℕ) (z : ℤ) (out new : List ℕ) → z ≡ offset items widths i → out ≡ flat_map spelling (instrs_to items widths i) → new ≡ out ++ flat_map spelling (instr_of (item_at items i) z (width_at widths i)) → new ≡ flat_map spelling (instrs_to items widths (i + 1))
-written items widths i z out new is so_far more =
-    let all : flat_map spelling (instrs_to items widths (suc i)) ≡ flat_map spelling (instrs_to items widths i) ++ flat_map spelling (instr_of (item_at items i) (offset items widths i) (width_at widths i)) =
-    flat_map-append spelling (instrs_to items widths i) (instr_of (item_at items i) (offset items widths i) (width_at widths i)) in
-    rw (add-one i) (more ∙ (ap (λ (y : ℤ). out ++ flat_map spelling (instr_of (item_at items i) y (width_at widths i))) is
-    ∙ (ap (λ (xs : List ℕ). xs ++ flat_map spelling (instr_of (item_at items i) (offset items widths i) (width_at widths i))) so_far ∙ sym all)))
 
 -- the bytes of an item are as many as its size, and those in front of it as many as its place
 length-instr : (item : Labelled) (z : ℤ) (wide : Bool) → length (flat_map spelling (instr_of item z wide)) ≡ size_of item wide

@@ -1,10 +1,9 @@
 -- The item that a label is.
-use Rattle.std.proofs.Common.{◌≡◌, ℕ, zero, suc, ◌+◌, ◌<◌, Bool, true, false, not, cond, List, [], ◌∷◌, length, get_or, refl, ap, sym, ◌∙◌, inl, inr, ◌⊎◌, Option, Some, eqb, arith, eq-eqb}
+use Rattle.std.proofs.Common.{◌≡◌, ℕ, zero, suc, ◌+◌, ◌<◌, Bool, true, false, not, cond, List, [], ◌∷◌, length, get_or, refl, ap, sym, ◌∙◌, ◌⊎◌, arith, eq-eqb}
 use Rattle.std.specs.List.{count_by, position_or_len}
-use Rattle.std.proofs.lemmas.List.Sums.{sum_by-cons, passes_at_first}
-use Rattle.std.proofs.lemmas.Bool.{eqb-true, ne_eqb}
+use Rattle.std.proofs.lemmas.List.Sums.{sum_by-cons}
 use Rattle.bc_labels.specs.declared.labelled.Labelled.{Labelled}
-use Rattle.bc_labels.specs.declared.labelled.Labelled.TheVariants.{At, Plain, Jump, Unwind}
+use Rattle.bc_labels.specs.declared.labelled.Labelled.TheVariants.{At}
 use Rattle.bc_labels.specs.Labels.{is_label, label_item, StandsOnce}
 use Rattle.bc_labels.specs.Places.{item_at}
 
@@ -60,12 +59,6 @@ one_there p [] e = absurd (omega (arith, e))
 one_there p (x ∷ xs) e =
     within_by (p x) (position_or_len p xs) (count_by p xs) (length xs) (sym (count_cons p x xs) ∙ e) (one_there p xs)
 
-label_is : (label : ℕ) (item : Labelled) → is_label label item ≡ true → item ≡ At label
-label_is label (At other) e = ap At (sym (eqb-true label other e))
-label_is label (Plain instr) e = cc
-label_is label (Jump op other) e = cc
-label_is label (Unwind other byte) e = cc
-
 is_label-At : (label : ℕ) (item : Labelled) → item ≡ At label → is_label label item ≡ true
 is_label-At label item e = ap (is_label label) e ∙ eq-eqb label label refl
 
@@ -74,29 +67,3 @@ stands items label k once within e = only_one (is_label label) items k (At 0) on
 
 pub label_within : (items : List Labelled) (label : ℕ) → StandsOnce items label → label_item items label < length items
 label_within items label once = one_there (is_label label) items once
-
-pub label_there : (items : List Labelled) (label : ℕ) → StandsOnce items label → item_at items (label_item items label) ≡ At label
-label_there items label once = label_is label _ (passes_at_first (is_label label) items (At 0) (label_within items label once))
-
--- a label in front of the next item stands before an item that is none
-pub before : (items : List Labelled) (label k i : ℕ) → k < i + 1 → ((l : ℕ) → item_at items i ≡ At l → ⊥) → item_at items k ≡ At label → k < i
-before items label k i h none is =
-    elim (last_or_before k i h) [ inl there ↦ there | inr last ↦ absurd (none label (ap (item_at items) (sym last) ∙ is)) ]
-
-at_inj : (a b : ℕ) → At a ≡ At b → a ≡ b
-at_inj a b e = cc
-
--- what is found of a label, where another is noted at the item
-pub note : (items : List Labelled) (label other k i : ℕ) (known : Option ℕ) → StandsOnce items label → k < i + 1 → i < length items → item_at items i ≡ At other → item_at items k ≡ At label → (k < i → known ≡ Some k) → cond (eqb other label) (Some i) known ≡ Some k
-note items label other k i known once h within here is earlier =
-    elim (last_or_before k i h) [
-      | inl there ↦
-          let apart : other ≡ label → ⊥ = λ same.
-          let second : label_item items label ≡ i = stands items label i once within (here ∙ ap At same) in
-          let first : label_item items label ≡ k = stands items label k once (omega arith) is in
-          absurd (omega arith) in
-          ap (λ b. cond b (Some i) known) (ne_eqb other label apart) ∙ earlier there
-      | inr last ↦
-          let same : other ≡ label = at_inj other label (sym here ∙ (ap (item_at items) (sym last) ∙ is)) in
-          ap (λ b. cond b (Some i) known) (eq-eqb other label same) ∙ ap Some (sym last)
-    ]

@@ -1,5 +1,5 @@
 -- The counts of short offsets, and a round that makes one offset wide.
-use Rattle.std.proofs.Common.{◌≡◌, ◌⊎◌, ℕ, zero, suc, ◌+◌, ◌<◌, ◌≤◌, Bool, true, false, not, cond, List, [], ◌∷◌, length, set, replicate, ◌^◌, ℤ, w64, to_z, of_z, refl, sym, subst, ◌∙◌, inl, inr, arith}
+use Rattle.std.proofs.Common.{◌≡◌, ◌⊎◌, ℕ, zero, suc, ◌+◌, ◌<◌, ◌≤◌, Bool, true, false, not, cond, List, [], ◌∷◌, length, set, ◌^◌, ℤ, w64, to_z, of_z, refl, sym, subst, ◌∙◌, inl, inr, arith}
 use Rattle.std.proofs.lemmas.List.Sums.{sum_by-cons}
 use Rattle.std.proofs.lemmas.List.{length-set, get_or-set_other}
 use Rattle.std.proofs.lemmas.Bool.{cases_eq, both_ways}
@@ -24,11 +24,6 @@ shorts-set (true ∷ widths) zero h e = cc
 shorts-set (false ∷ widths) zero h e = omega (arith, shorts_cons true widths, shorts_cons false widths)
 shorts-set (w ∷ widths) (suc i) h e =
     omega (arith, shorts_cons w widths, shorts_cons w (set widths i true), shorts-set widths i (omega arith) e)
-
-pub none_wide : (n i : ℕ) → width_at (replicate n false) i ≡ true → ⊥
-none_wide zero i e = cc
-none_wide (suc n) zero e = cc
-none_wide (suc n) (suc i) e = none_wide n i e
 
 -- what a round has made of the widths in front of an item
 pub record IsWidened (items : List Labelled) (old now : List Bool) (wider : Bool) (i : ℕ) : Type 0 where

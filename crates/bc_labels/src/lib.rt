@@ -1,11 +1,8 @@
-//! Instructions whose jumps name labels, laid out as bytes with the fewest wide offsets.
+//! Instructions whose jumps name labels: what their layout with the fewest wide offsets is.
 #![tactic(auto)]
 
-mod bytes;
 mod labelled;
-mod labels;
-mod places;
-mod widths;
+mod law;
 
-pub use bytes::{layout, layout_law};
-pub use labelled::{Labelled, LayoutFault};
+pub use labelled::Labelled;
+pub use law::layout_law;

@@ -36,7 +36,8 @@ use Rattle.mpy_writer.proofs.Spelled.{many_spelled}
 use Rattle.merge_codes.specs.Joined.{IsJoined}
 use Rattle.merge_codes.specs.Moved.{text_at, IsMovedTree}
 use Rattle.merge_codes.proofs.Sound.{numbered}
-use Rattle.merge_codes.proofs.Trees.{Nests, children, whole, kept_code, verified_child}
+use Rattle.mpy_tree.proofs.Codes.{Nests, children, whole}
+use Rattle.merge_codes.proofs.Trees.{kept_code, verified_child}
 use Rattle.mpy_merge.specs.Merged.{NestsWithin}
 use Rattle.mpy_merge.proofs.Once.{same}
 
@@ -196,11 +197,11 @@ module _ (tables : Tables) (fit : TablesFit tables) (base : ℕ) (m merged : Mod
   names_kept [] h = tt
   names_kept (n ∷ ns) h = (joined.texts_there n h.0, names_kept ns h.1)
 
-  pub part_kept : (levels : ℕ) (raw moved : RawCode) → Nests levels (length m.qstrs) raw → AreVerified m raw → IsMovedTree levels tables base m raw moved → Kept (length merged.qstrs) levels moved
+  pub part_kept : (levels : ℕ) (raw moved : RawCode) → Nests (length m.qstrs) levels raw → AreVerified m raw → IsMovedTree levels tables base m raw moved → Kept (length merged.qstrs) levels moved
   unfolding IsMovedTree
   part_kept zero raw moved nests verified h = absurd h
   part_kept (suc levels) raw moved nests verified h =
-      let w = whole (suc levels) (length m.qstrs) raw nests in
+      let w = whole (length m.qstrs) (suc levels) raw nests in
       let below : w.below ≡ levels = omega (arith, w.levels_are) in
       let k = kept_code m (suc levels) raw nests (verified [] raw refl) in
       let o = h.0 in
@@ -209,8 +210,8 @@ module _ (tables : Tables) (fit : TablesFit tables) (base : ℕ) (m merged : Mod
       let s = same (out-RawCode raw).bytes k.prelude c.prelude k.begins c.begins in
       let within : AllByRecursion (λ (n : ℕ). n < length m.qstrs) c.begins.indexes = subst (AllByRecursion (λ (n : ℕ). n < length m.qstrs)) s.indexes (recursion_from_All (λ (n : ℕ). n < length m.qstrs) k.begins.indexes k.names) in
       let there : AllByRecursion (Contains tables.texts.texts) ((out-Code o.code).name ∷ (out-Code o.code).args) = subst (AllByRecursion (Contains tables.texts.texts)) (sym c.names) (names_kept c.begins.indexes within) in
-      let all = each_there (λ r. Nests levels (length m.qstrs) r × AreVerified m r) (children raw) (λ n r at. (subst (λ l. Nests l (length m.qstrs) r) below (w.each n r at), verified_child m raw r n verified at)) in
-      let inside = zip_all (IsMovedTree levels tables base m) (λ r. Nests levels (length m.qstrs) r × AreVerified m r) (Kept (length merged.qstrs) levels) (λ x y tree p. part_kept levels x y p.0 p.1 tree) (children raw) (children moved) h.1 all in
+      let all = each_there (λ r. Nests (length m.qstrs) levels r × AreVerified m r) (children raw) (λ n r at. (subst (λ l. Nests (length m.qstrs) l r) below (w.each n r at), verified_child m raw r n verified at)) in
+      let inside = zip_all (IsMovedTree levels tables base m) (λ r. Nests (length m.qstrs) levels r × AreVerified m r) (Kept (length merged.qstrs) levels) (λ x y tree p. part_kept levels x y p.0 p.1 tree) (children raw) (children moved) h.1 all in
       let own = own_code tables fit o.code (out-RawCode moved).bytes o.is_own sound merged joined.qstrs_are there in
       let size = zip_length (IsMovedTree levels tables base m) (children raw) (children moved) h.1 in
       let few_children = w.few in

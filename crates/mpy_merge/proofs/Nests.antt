@@ -8,12 +8,10 @@ use Rattle.mpy_tree.specs.declared.raw.RawCode.{RawCode, out-RawCode}
 use Rattle.mpy_tree.specs.File.{header_of}
 use Rattle.mpy_tree.specs.Raw.{Module}
 use Rattle.mpy_tree.specs.Canonical.{has_some, children_bytes, code_bytes}
+use Rattle.mpy_tree.proofs.Codes.{children}
 use Rattle.mpy_writer.specs.declared.tables.Tables.{Tables}
 use Rattle.merge_codes.specs.Moved.{IsMovedTree}
 use Rattle.mpy_merge.specs.Merged.{AreMoved, NestsWithin}
-
-abbrev pub children : RawCode → List RawCode
-children code = (out-RawCode code).children
 
 pub none_nests : (levels : ℕ) (code : RawCode) → levels ≡ 0 → NestsWithin levels code → ⊥
 unfolding NestsWithin

@@ -19,13 +19,13 @@ use Rattle.mpy_tree.specs.declared.module.Item.TheVariants as items
 use Rattle.mpy_tree.specs.declared.module.Code.{Code, Code-F, out-Code, roll-Code, roll-out-Code}
 use Rattle.mpy_tree.specs.declared.raw.RawCode.{RawCode, RawCode-F, out-RawCode, roll-RawCode, roll-out-RawCode}
 use Rattle.mpy_tree.specs.Raw.{Module}
-use Rattle.bc_verify.specs.Path.{code_at}
+use Rattle.mpy_tree.specs.Codes.{code_at}
 use Rattle.mpy_writer.specs.declared.tables.Tables.{Tables}
 use Rattle.mpy_writer.specs.File.{labelled, IsOwn, IsBig}
 use Rattle.mpy_writer.proofs.Faults.{same_own}
 use Rattle.merge_codes.specs.Far.{IsFarOwn, HasFarCode}
 use Rattle.merge_codes.specs.Moved.{text_at, IsMovedItem, IsMovedCode, IsMovedOwn, IsMovedTree}
-use Rattle.merge_codes.proofs.Places.{instructions_at, lines_at, names_at}
+use Rattle.bc_prelude.proofs.Pieces.{instructions_at, lines_at, names_at}
 
 -- lists beside others
 -- ===================

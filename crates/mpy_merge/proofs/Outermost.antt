@@ -1,5 +1,5 @@
 -- The outermost code of a merged file may be written, and is short.
-use Rattle.std.proofs.Common.{◌≡◌, ℕ, zero, suc, ◌+◌, ◌-◌, ◌*◌, ◌/◌, ◌%◌, ◌<◌, ◌≤◌, ◌^◌, Bool, true, false, cond, eqb, ltb, List, [], ◌∷◌, ◌++◌, length, map, All, codes, ℤ, refl, sym, ap, subst, ◌∙◌, append_assoc, replicate, arith, length-append}
+use Rattle.std.proofs.Common.{◌≡◌, ℕ, zero, suc, ◌+◌, ◌-◌, ◌*◌, ◌/◌, ◌%◌, ◌<◌, ◌≤◌, Bool, true, false, cond, eqb, List, [], ◌∷◌, ◌++◌, length, map, All, codes, ℤ, refl, sym, ap, subst, ◌∙◌, append_assoc, replicate, arith, length-append}
 use Rattle.std.specs.List.{flat_map, zip, AllByRecursion}
 use Rattle.std.proofs.lemmas.List.{length-map, append-nil}
 use Rattle.std.proofs.lemmas.List.Concat.{flat_map-append}
@@ -33,7 +33,7 @@ use Rattle.mpy_writer.specs.declared.fault.WriteFault.{WriteFault}
 use Rattle.mpy_writer.specs.declared.fault.WriteFault.TheVariants.{TooManyNames, TooFar, TooBig}
 use Rattle.mpy_writer.specs.Tables.{text_number}
 use Rattle.mpy_writer.specs.Writable.{IsText, IsNumberedItem, NeverFall, IsNumberedCode}
-use Rattle.mpy_writer.specs.File.{item_of, label_at, labelled_from, labelled, signature_of, indexes_of, lines_of, IsOwn, IsBig, IsCodeFault}
+use Rattle.mpy_writer.specs.File.{item_of, labelled_from, labelled, signature_of, indexes_of, lines_of, IsOwn, IsBig, IsCodeFault}
 use Rattle.mpy_writer.proofs.Lists.{together}
 use Rattle.mpy_writer.proofs.Samples.{text_by, pops, loads_none, returns_value}
 use Rattle.mpy_merge.specs.Merged.{calls, outer_items, outer_code}
@@ -150,25 +150,13 @@ module _ (tables : Tables) where
   items_brief : (n : ℕ) → n ≤ 1000 → AllByRecursion IsBriefItem (outer_items n)
   items_brief n le = together IsBriefItem (calls 0 n) _ (calls_brief 0 n (omega (arith, le))) (omega arith, (omega arith, tt))
 
-  label_brief : (at : ℕ) → AllByRecursion IsBrief (label_at at)
-  label_brief at = by (ltb at (2 ^ 32)) where
-    by : (b : Bool) → AllByRecursion IsBrief (cond b (labels.At at ∷ []) [])
-    by true = (tt, tt)
-    by false = tt
-
-  one_label : (at : ℕ) → length (label_at at) ≤ 1
-  one_label at = by (ltb at (2 ^ 32)) where
-    by : (b : Bool) → length (cond b (labels.At at ∷ []) []) ≤ 1
-    by true = omega arith
-    by false = omega arith
-
   all_brief : (at : ℕ) (xs : List Item) → AllByRecursion IsBriefItem xs → AllByRecursion IsBrief (labelled_from tables at xs)
   all_brief at [] h = tt
-  all_brief at (x ∷ xs) h = together IsBrief (label_at at) _ (label_brief at) (h.0, all_brief (at + 1) xs h.1)
+  all_brief at (x ∷ xs) h = (tt, (h.0, all_brief (at + 1) xs h.1))
 
   twice : (at : ℕ) (xs : List Item) → length (labelled_from tables at xs) ≤ 2 * length xs
   twice at [] = omega arith
-  twice at (x ∷ xs) = omega (arith, length-append (label_at at) (item_of tables x ∷ labelled_from tables (at + 1) xs), one_label at, twice (at + 1) xs)
+  twice at (x ∷ xs) = omega (arith, twice (at + 1) xs)
 
 brief_at : (xs : List Labelled) (i : ℕ) → AllByRecursion IsBrief xs → IsBrief (item_at xs i)
 brief_at [] i h = tt

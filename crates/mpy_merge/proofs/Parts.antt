@@ -11,7 +11,7 @@ use Rattle.mpy_tree.specs.Canonical.{code_bytes}
 use Rattle.mpy_writer.specs.declared.tables.Tables.{Tables}
 use Rattle.merge_codes.specs.Far.{HasFarCode}
 use Rattle.merge_codes.specs.Moved.{IsMovedTree}
-use Rattle.merge_codes.proofs.Trees.{get_at}
+use Rattle.mpy_tree.proofs.Codes.{get_at}
 use Rattle.mpy_merge.specs.Faults.{IsFarAt, IsFirstFarIn}
 use Rattle.mpy_merge.specs.Merged.{all_objects, AreMoved}
 use Rattle.mpy_merge.proofs.Once.{near_tree}

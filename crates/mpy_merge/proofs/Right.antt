@@ -38,7 +38,7 @@ use Rattle.merge_codes.specs.Joined.{IsJoined}
 use Rattle.merge_codes.specs.Moved.{entry_text, text_at, IsMovedTree}
 use Rattle.merge_codes.proofs.Reading.{tree_moved}
 use Rattle.merge_codes.proofs.Texts.{text_fine, entries_fine}
-use Rattle.merge_codes.proofs.Trees.{Nests}
+use Rattle.mpy_tree.proofs.Codes.{Nests}
 use Rattle.mpy_merge.specs.Merged.{texts_of, texts_used, all_objects, calls, outer_items, outer_code, AreMoved, merged_module}
 use Rattle.mpy_merge.specs.Ends.{IsMergedFile}
 use Rattle.mpy_merge.proofs.Ended.{count_parts}
@@ -111,7 +111,7 @@ module _ (lines_law : LinesLaw) (tables : Tables) (fit : TablesFit tables) (merg
   few_here : (before : List Constant) (m : Module) (ms : List Module) → Behind before (m ∷ ms) → length before + length m.objects ≤ MAX_TABLE
   few_here before m ms b = let few = b.few in omega (arith, few, length-append m.objects (all_objects ms))
 
-  nests_here : (base : ℕ) (m : Module) (part : RawCode) → IsModule m → IsMovedTree 31 tables base m m.code part → Nests 31 (length m.qstrs) m.code
+  nests_here : (base : ℕ) (m : Module) (part : RawCode) → IsModule m → IsMovedTree 31 tables base m m.code part → Nests (length m.qstrs) 31 m.code
   nests_here base m part is tree = (is.1.code, lower_code 31 (length m.qstrs) is.1.code m.code is.1.is_code (tree_nests tables base m 31 m.code part tree))
 
   base_next : (base : ℕ) (before : List Constant) (m : Module) → base ≡ length before → base + length m.objects ≡ length (before ++ m.objects)

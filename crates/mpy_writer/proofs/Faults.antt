@@ -7,17 +7,19 @@ use Rattle.mpy_base.specs.declared.refused.Refused.{Refused}
 use Rattle.mpy_base.specs.declared.refused.Refused.TheVariants as refusals
 use Rattle.mpy_base.specs.declared.limits.TheConstants.{MAX_CODE_BYTES, MAX_FILE_BYTES}
 use Rattle.qstr_pool.specs.Pool.{Texts}
-use Rattle.bc_labels.specs.Choice.{IsLayout, instrs_of, laid_out}
+use Rattle.bc_labels.specs.Choice.{instrs_of, laid_out}
 use Rattle.bc_labels.proofs.Fewest.{one_choice, never_both}
 use Rattle.mpy_tree.specs.FirstUse.{FirstUsed}
 use Rattle.mpy_tree.specs.declared.module.Code.{Code, out-Code}
 use Rattle.mpy_tree.specs.declared.module.ModuleCode.{ModuleCode}
+use Rattle.mpy_writer.specs.declared.layout.Layout.{Layout}
 use Rattle.mpy_writer.specs.declared.tables.Tables.{Tables}
 use Rattle.mpy_writer.specs.declared.fault.WriteFault.{WriteFault}
 use Rattle.mpy_writer.specs.declared.fault.WriteFault.TheVariants.{TooManyNames, TooFar, TooBig}
 use Rattle.mpy_writer.specs.Codes.{codes}
 use Rattle.mpy_writer.specs.Tables.{IsTable, AreTables, TablesFit, spelled}
 use Rattle.mpy_writer.specs.File.{labelled, indexes_of, signature_of, lines_of, own_bytes, IsOwn, IsWritten, front_bytes, heads, SomeFar, SomeBig, HasManyNames, HasFarJump, HasBigCode, IsBigFile, FirstFault}
+use Rattle.mpy_writer.specs.Layouts.{IsLaidOut}
 use Rattle.mpy_writer.specs.Ends.{IsFile, Ends}
 use Rattle.mpy_writer.specs.Outcome.{FaultIs, no_texts, all_interned, PassesTable}
 use Rattle.mpy_writer.specs.Codes as used
@@ -103,25 +105,25 @@ not_many m tables are fit many =
       | inr past ↦ omega (arith, past, few_objects, ap (λ (t : Tables). length t.objects.texts) same)
     ]
 
-pub not_far : (m : ModuleCode) (tables : Tables) (layouts : List (List ℕ)) → AreTables m tables → AllZip (λ code bytes. IsLayout (labelled tables code) bytes) (codes m) layouts → HasFarJump m → ⊥
+pub not_far : (m : ModuleCode) (tables : Tables) (layouts : List Layout) → AreTables m tables → AllZip (λ code layout. IsLaidOut (labelled tables code) layout) (codes m) layouts → HasFarJump m → ⊥
 not_far m tables layouts are zip jump =
     let same = same_tables m jump.tables tables jump.are_tables are in
     let far = subst (λ (t : Tables). SomeFar t (codes m)) same jump.far in
-    let at = beside (λ code bytes. IsLayout (labelled tables code) bytes) (λ _. Unit {0}) (codes m) layouts far.0 zip (anything layouts) far.1 in
-    never_both (labelled tables far.0) at.0 at.1 far.2
+    let at = beside (λ code layout. IsLaidOut (labelled tables code) layout) (λ _. Unit {0}) (codes m) layouts far.0 zip (anything layouts) far.1 in
+    never_both (labelled tables far.0) at.0.bytes.items at.1.bytes far.2
 
 pub far_jump : (m : ModuleCode) (tables : Tables) (f : WriteFault) → AreTables m tables → TablesFit tables → (f ≡ TooFar) × SomeFar tables (codes m) → FirstFault m f
 far_jump m tables f are fit h =
     let far : HasFarJump m = record { tables = tables; are_tables = are; far = h.1 } in
     subst (FirstFault m) (sym h.0) (not_many m tables are fit, far)
 
-pub big_code : (m : ModuleCode) (tables : Tables) (layouts : List (List ℕ)) (f : WriteFault) → AreTables m tables → TablesFit tables → AllZip (λ code bytes. IsLayout (labelled tables code) bytes) (codes m) layouts
+pub big_code : (m : ModuleCode) (tables : Tables) (layouts : List Layout) (f : WriteFault) → AreTables m tables → TablesFit tables → AllZip (λ code layout. IsLaidOut (labelled tables code) layout) (codes m) layouts
     → (f ≡ TooBig) × SomeBig tables (codes m) → FirstFault m f
 big_code m tables layouts f are fit zip h =
     let big : HasBigCode m = record { tables = tables; are_tables = are; big = h.1 } in
     subst (FirstFault m) (sym h.0) (not_many m tables are fit, not_far m tables layouts are zip, inl big)
 
-pub big_file : (m : ModuleCode) (tables : Tables) (layouts : List (List ℕ)) (bytes : List ℕ) → AreTables m tables → TablesFit tables → AllZip (λ code bytes. IsLayout (labelled tables code) bytes) (codes m) layouts
+pub big_file : (m : ModuleCode) (tables : Tables) (layouts : List Layout) (bytes : List ℕ) → AreTables m tables → TablesFit tables → AllZip (λ code layout. IsLaidOut (labelled tables code) layout) (codes m) layouts
     → IsWritten m bytes → MAX_FILE_BYTES < length bytes → FirstFault m TooBig
 big_file m tables layouts bytes are fit zip written past =
     let big : IsBigFile m = record { bytes = bytes; is_written = written; big = past } in
@@ -206,10 +208,10 @@ pub far_fault : {A : Type 0} (m : ModuleCode) (bytes_of : A → List ℕ) (table
 far_fault m bytes_of tables cs r y e are tables_are fit is same h =
     exit_ends m bytes_of (λ f. (f ≡ TooFar) × SomeFar tables (codes m)) r y e is same (subst (λ ds. FaultIs e (λ f. (f ≡ TooFar) × SomeFar tables ds)) are h) (λ f k. far_jump m tables f tables_are fit k)
 
-abbrev pub AreLaidOut : Tables → List Code → List (List ℕ) → Type 0
-AreLaidOut tables cs layouts = AllZip (λ code bytes. IsLayout (labelled tables code) bytes) cs layouts
+abbrev pub AreLaidOut : Tables → List Code → List Layout → Type 0
+AreLaidOut tables cs layouts = AllZip (λ code layout. IsLaidOut (labelled tables code) layout) cs layouts
 
-pub big_fault : {A : Type 0} (m : ModuleCode) (bytes_of : A → List ℕ) (tables : Tables) (cs ds : List Code) (layouts : List (List ℕ)) (r : Result A (Refused WriteFault)) (y e : Refused WriteFault) → cs ≡ codes m → ds ≡ codes m → AreTables m tables → TablesFit tables → AreLaidOut tables ds layouts
+pub big_fault : {A : Type 0} (m : ModuleCode) (bytes_of : A → List ℕ) (tables : Tables) (cs ds : List Code) (layouts : List Layout) (r : Result A (Refused WriteFault)) (y e : Refused WriteFault) → cs ≡ codes m → ds ≡ codes m → AreTables m tables → TablesFit tables → AreLaidOut tables ds layouts
     → r ≡ Err y → y ≡ e → FaultIs e (λ f. (f ≡ TooBig) × SomeBig tables cs) → Ends m bytes_of r
 big_fault m bytes_of tables cs ds layouts r y e are also tables_are fit laid is same h =
     let all = subst (λ xs. AreLaidOut tables xs layouts) also laid in
@@ -233,7 +235,7 @@ a_file m tables cs start out are tables_are fit front w short =
     let all = subst (λ ds. AreWritten tables ds start out) are w in
     record { written = is_written m tables start out tables_are front all; fit = fit; short_codes = all.2; short = short }
 
-pub a_big_file : (m : ModuleCode) (tables : Tables) (cs ds : List Code) (layouts : List (List ℕ)) (start out : List ℕ) → cs ≡ codes m → ds ≡ codes m → AreTables m tables → TablesFit tables → AreLaidOut tables ds layouts → start ≡ front_bytes tables → AreWritten tables cs start out → MAX_FILE_BYTES < length out
+pub a_big_file : (m : ModuleCode) (tables : Tables) (cs ds : List Code) (layouts : List Layout) (start out : List ℕ) → cs ≡ codes m → ds ≡ codes m → AreTables m tables → TablesFit tables → AreLaidOut tables ds layouts → start ≡ front_bytes tables → AreWritten tables cs start out → MAX_FILE_BYTES < length out
     → FirstFault m TooBig
 a_big_file m tables cs ds layouts start out are also tables_are fit laid front w past =
     big_file m tables layouts out tables_are fit (subst (λ xs. AreLaidOut tables xs layouts) also laid) (is_written m tables start out tables_are front (subst (λ xs. AreWritten tables xs start out) are w)) past

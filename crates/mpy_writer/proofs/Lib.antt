@@ -16,5 +16,4 @@ pub mod Steps
 pub mod Texts
 pub mod Trees
 pub mod Uses
-pub mod Walked
 pub mod Whole

@@ -100,17 +100,14 @@ zip_get R (a ∷ xs) [] i x y zip lt = absurd zip
 zip_get R (a ∷ xs) (b ∷ ys) zero x y zip lt = zip.0
 zip_get R (a ∷ xs) (b ∷ ys) (suc i) x y zip lt = zip_get R xs ys i x y zip.1 (omega (arith, lt))
 
-pub zip_seen_at : {X Y W B : Type 0} (R : Y → B → Type 0) (g : X → Y) (h : W → B) (xs : List X) (ws : List W) (i : ℕ) (x : X) (w : W) → AllZip R (map g xs) (map h ws) → i < length xs → x ≡ get_or xs i x → w ≡ get_or ws i w → R (g x) (h w)
-zip_seen_at R g h xs ws i x w zip lt is at =
+pub zip_seen_at : {X Y B : Type 0} (R : Y → B → Type 0) (g : X → Y) (xs : List X) (ys : List B) (i : ℕ) (x : X) (y : B) → AllZip R (map g xs) ys → i < length xs → x ≡ get_or xs i x → y ≡ get_or ys i y → R (g x) y
+zip_seen_at R g xs ys i x y zip lt is at =
     let size = length-map xs g in
-    let other = length-map ws h in
-    let same = zip_length R (map g xs) (map h ws) zip in
     let left : get_or (map g xs) i (g x) ≡ g x = get_or-map g xs i x (g x) lt ∙ ap g (sym is) in
-    let right : get_or (map h ws) i (h w) ≡ h w = get_or-map h ws i w (h w) (omega (arith, lt, size, other, same)) ∙ ap h (sym at) in
-    subst (λ y. R y (h w)) left (subst (R (get_or (map g xs) i (g x))) right (zip_get R (map g xs) (map h ws) i (g x) (h w) zip (omega (arith, lt, size))))
+    subst (λ z. R z y) left (subst (R (get_or (map g xs) i (g x))) (sym at) (zip_get R (map g xs) ys i (g x) y zip (omega (arith, lt, size))))
 
-pub as_long : {X Y W B : Type 0} (R : Y → B → Type 0) (g : X → Y) (h : W → B) (xs : List X) (ws : List W) → AllZip R (map g xs) (map h ws) → length xs ≡ length ws
-as_long R g h xs ws zip = sym (length-map xs g) ∙ (zip_length R (map g xs) (map h ws) zip ∙ length-map ws h)
+pub as_long : {X Y B : Type 0} (R : Y → B → Type 0) (g : X → Y) (xs : List X) (ys : List B) → AllZip R (map g xs) ys → length xs ≡ length ys
+as_long R g xs ys zip = sym (length-map xs g) ∙ zip_length R (map g xs) ys zip
 
 pub seen_there : {X Y : Type 0} (g : X → Y) (xs : List X) (i : ℕ) (x : X) → i < length xs → x ≡ get_or xs i x → Contains (map g xs) (g x)
 seen_there g xs i x lt is = let size = length-map xs g in (i, omega (arith, lt, size), get_or-map g xs i x (g x) lt ∙ ap g (sym is))

@@ -1,13 +1,11 @@
 -- How a code's own bytes are made.
-use Rattle.std.proofs.Common.{◌≡◌, ℕ, suc, ◌+◌, ◌<◌, ◌≤◌, Bool, true, false, cond, eqb, List, [], ◌∷◌, ◌++◌, length, drop, get_or, map, refl, sym, ap, ap₂, ◌∙◌, append_assoc, arith}
-use Rattle.std.specs.List.{zip}
+use Rattle.std.proofs.Common.{◌≡◌, ℕ, suc, ◌+◌, ◌<◌, ◌≤◌, Bool, true, false, cond, eqb, List, [], ◌∷◌, ◌++◌, length, drop, get_or, All, refl, sym, ap, ap₂, ◌∙◌, append_assoc, arith}
+use Rattle.std.specs.List.{zip, flat_map, AllByRecursion}
 use Rattle.std.proofs.lemmas.List.{append-nil, length-append, drop_more, drop_all}
+use Rattle.std.proofs.lemmas.List.Elements.{All-from_recursion}
 use Rattle.std.proofs.lemmas.Bool.{eq-eqb, ne_eqb}
 use Rattle.bc_ops.specs.declared.instr.Instr.{Instr}
-use Rattle.bc_ops.specs.declared.listing.Item.{Item}
 use Rattle.bc_ops.specs.Code.{spelling}
-use Rattle.bc_ops.specs.Listing.{Lists}
-use Rattle.bc_ops.proofs.Lists.{one_listing}
 use Rattle.bc_labels.specs.Choice.{IsLayout, instrs_of}
 use Rattle.bc_prelude.specs.declared.signature.Signature.{Signature}
 use Rattle.bc_prelude.specs.Signature as signatures
@@ -22,28 +20,30 @@ use Rattle.mpy_writer.specs.Tables.{TablesFit}
 use Rattle.mpy_writer.specs.Writable.{IsNumberedCode}
 use Rattle.mpy_writer.specs.File.{labelled, signature_of, indexes_of, lines_of, own_bytes, IsOwn, IsBig}
 use Rattle.mpy_writer.proofs.Bodies.{instructions}
-use Rattle.mpy_writer.proofs.Labelled.{list_item}
 use Rattle.mpy_writer.proofs.LineTables.{rises_from, rises_changes}
 
 length-offsets : (at : ℕ) (xs : List Instr) → length (offsets at xs) ≡ length xs
 length-offsets at [] = refl
 length-offsets at (x ∷ xs) = ap suc (length-offsets (at + length (spelling x)) xs)
 
--- the instructions of a layout, each with its offset
-abbrev HasLines : List ℕ → ℕ → Type 0
-HasLines bytes count = (items : List Item) × (os : List ℕ) × Lists bytes items os × (length os ≡ count)
+offsets_within : (at end : ℕ) (xs : List Instr) → at + length (flat_map spelling xs) ≤ end → AllByRecursion (λ o. o ≤ end) (offsets at xs)
+offsets_within at end [] le = tt
+offsets_within at end (x ∷ xs) le =
+    let size = length-append (spelling x) (flat_map spelling xs) in
+    (omega (arith, le), offsets_within (at + length (spelling x)) end xs (omega (arith, le, size)))
 
 module _ (tables : Tables) (code : Code) (bytes : List ℕ) (layout : IsLayout (labelled tables code) bytes) where
   abbrev pub made : List Instr
   made = instrs_of (labelled tables code) layout.widths
 
-  pub lists : TablesFit tables → IsNumberedCode code → Lists bytes (map (list_item tables) (out-Code code).instrs) (offsets 0 made)
-  lists fit sound = let facts = instructions tables code bytes layout fit sound in record { is_list = facts.list; offsets_are = sym facts.starts_are }
+  -- each instruction has a start and a line
+  pub a_start_each : TablesFit tables → IsNumberedCode code → length (offsets 0 made) ≡ length (out-Code code).lines
+  a_start_each fit sound = let facts = instructions tables code bytes layout fit sound in length-offsets 0 made ∙ (facts.count ∙ sym sound.a_line_each)
 
-  pub has_lines : TablesFit tables → IsNumberedCode code → HasLines bytes (length (out-Code code).lines)
-  has_lines fit sound =
-      let facts = instructions tables code bytes layout fit sound in
-      (_, offsets 0 made, lists fit sound, length-offsets 0 made ∙ (facts.count ∙ sym sound.a_line_each))
+  pub starts_within : (end : ℕ) → length bytes ≤ end → All (λ start. start ≤ end) (offsets 0 made)
+  starts_within end le =
+      let size = ap length layout.bytes_are in
+      All-from_recursion (λ start. start ≤ end) (offsets 0 made) (offsets_within 0 end made (omega (arith, le, size)))
 
   pub rises : IsNumberedCode code → Rises (changes 1 (zip (offsets 0 made) (out-Code code).lines))
   rises sound = rises_changes 0 1 (zip (offsets 0 made) (out-Code code).lines) (rises_from 0 0 1 made (out-Code code).lines (omega arith) sound.lines)
@@ -74,9 +74,6 @@ assembled zero_own signed sized informed own info sig names lines bytes n a b c 
     whole ∙ (append_assoc (sig ++ sizes.spelling (length names + length lines)) (names ++ lines) bytes
     ∙ (append_assoc sig (sizes.spelling (length names + length lines)) ((names ++ lines) ++ bytes)
     ∙ ap (λ (z : List ℕ). sig ++ (sizes.spelling (length names + length lines) ++ z)) (append_assoc names lines bytes)))
-
-pub as_many : (bytes : List ℕ) (items : List Item) (os : List ℕ) (count : ℕ) → Lists bytes items os → HasLines bytes count → length os ≡ count
-as_many bytes items os count l h = ap length (one_listing bytes items h.0 os h.1 l h.2).1 ∙ h.3
 
 -- the changes of lines, one instruction after the other
 zip_more : (os ls : List ℕ) (i : ℕ) → i < length os → i < length ls → zip (drop i os) (drop i ls) ≡ (get_or os i 0, get_or ls i 0) ∷ zip (drop (i + 1) os) (drop (i + 1) ls)

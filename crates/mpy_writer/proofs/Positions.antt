@@ -1,5 +1,5 @@
 -- Items by their positions, and the same items with a label in front of each.
-use Rattle.std.proofs.Common.{◌≡◌, ℕ, zero, suc, ◌+◌, ◌*◌, ◌<◌, ◌≤◌, ◌^◌, Bool, true, false, List, [], ◌∷◌, ◌++◌, length, get_or, set, All, ℤ, pos, ◌-ℤ◌, refl, sym, ap, ap₂, subst, ◌∙◌, ◌⊎◌, inl, inr, arith, add-one}
+use Rattle.std.proofs.Common.{◌≡◌, ℕ, zero, suc, ◌+◌, ◌*◌, ◌<◌, ◌≤◌, Bool, true, false, List, [], ◌∷◌, ◌++◌, length, get_or, set, All, ℤ, pos, ◌-ℤ◌, refl, sym, ap, ap₂, subst, ◌∙◌, ◌⊎◌, inl, inr, arith, add-one}
 use Rattle.std.specs.List.{flat_map, AllByRecursion}
 use Rattle.std.proofs.lemmas.List.{append-nil, length-append, get_or-map}
 use Rattle.std.proofs.lemmas.List.Concat.{flat_map-append}
@@ -14,17 +14,19 @@ use Rattle.bc_labels.specs.declared.labelled.Labelled.TheVariants.{At, Plain, Ju
 use Rattle.bc_labels.specs.Labels.{StandsOnce, target_of, label_item}
 use Rattle.bc_labels.specs.Labels as labels
 use Rattle.bc_labels.specs.Places.{item_at, width_at, offset_size, size_of, place, places_to, offset}
-use Rattle.bc_labels.specs.Choice.{instr_of, instrs_to}
+use Rattle.bc_labels.specs.Choice.{instr_of, instrs_to, instrs_of}
+use Rattle.bc_labels.proofs.Reading.{length-instrs}
 use Rattle.bc_labels.proofs.Standing.{stands}
 use Rattle.bc_labels.proofs.Sizes.{size_bound, get_or-places_to, length-places_to}
 use Rattle.mpy_tree.specs.declared.module.Item.{Item}
 use Rattle.mpy_tree.specs.declared.module.Item.TheVariants as items
+use Rattle.mpy_tree.specs.Canonical.{offsets}
 use Rattle.mpy_writer.specs.declared.tables.Tables.{Tables}
 use Rattle.mpy_writer.specs.File.{item_of, labelled_from}
 use Rattle.mpy_writer.specs.Positions.{position_of, IsPlaced, numbered, drafted_to, starts_of, spread}
 use Rattle.mpy_writer.specs.Tables.{TablesFit, object_number, spelled}
 use Rattle.mpy_writer.specs.Writable.{IsNumberedItem}
-use Rattle.mpy_writer.proofs.Labelled.{once, opened, object_form}
+use Rattle.mpy_writer.proofs.Labelled.{once, object_form}
 use Rattle.mpy_writer.proofs.Numbers.{number_small}
 
 -- an item stands behind the label of its position
@@ -134,6 +136,19 @@ length-instr (Jump op label) z false = refl
 length-instr (Unwind label byte) z true = refl
 length-instr (Unwind label byte) z false = refl
 
+-- the instructions of a list start behind those of another
+offsets-append : (at : ℕ) (a b : List Instr) → offsets at (a ++ b) ≡ offsets at a ++ offsets (at + length (flat_map spelling a)) b
+offsets-append at [] b = ap (λ (n : ℕ). offsets n b) (omega arith)
+offsets-append at (x ∷ a) b =
+    let next : at + length (spelling x) + length (flat_map spelling a) ≡ at + length (flat_map spelling (x ∷ a)) = omega (arith, length-append (spelling x) (flat_map spelling a)) in
+    ap (λ (ns : List ℕ). at ∷ ns) (offsets-append (at + length (spelling x)) a b ∙ ap (λ (n : ℕ). offsets (at + length (spelling x)) a ++ offsets n b) next)
+
+one_offset : (count at : ℕ) (it : Labelled) (z : ℤ) (wide : Bool) → IsPlaced count it → offsets at (instr_of it z wide) ≡ at ∷ []
+one_offset count at (At label) z wide placed = absurd placed
+one_offset count at (Plain instr) z wide placed = refl
+one_offset count at (Jump op q) z wide placed = refl
+one_offset count at (Unwind q byte) z wide placed = refl
+
 pub length-drafted : (xs : List Labelled) (i : ℕ) → length (drafted_to xs i) ≡ place xs [] i
 length-drafted xs zero = refl
 length-drafted xs (suc i) =
@@ -141,29 +156,21 @@ length-drafted xs (suc i) =
     omega (arith, length-append (drafted_to xs i) here, length-drafted xs i, length-instr (item_at xs i) (pos 0) false)
 
 module _ (tables : Tables) where
-  label_before : (at p : ℕ) (ys : List Item) → p < length ys → at + length ys ≤ 2 ^ 32 → item_at (labelled_from tables at ys) (double p) ≡ At (at + p)
-  label_before at p [] lt few = absurd (omega (arith, lt))
-  label_before at zero (y ∷ ys) lt few =
-      let next : at ≡ at + 0 = omega arith in
-      ap (λ (all : List Labelled). item_at all 0) (opened tables at y ys (omega (arith, few))) ∙ ap At next
-  label_before at (suc p) (y ∷ ys) lt few =
-      let next : at + 1 + p ≡ at + suc p = omega arith in
-      ap (λ (all : List Labelled). item_at all (suc (suc (double p)))) (opened tables at y ys (omega (arith, few)))
-      ∙ (label_before (at + 1) p ys (omega (arith, lt)) (omega (arith, few)) ∙ ap At next)
+  label_before : (at p : ℕ) (ys : List Item) → p < length ys → item_at (labelled_from tables at ys) (double p) ≡ At (at + p)
+  label_before at p [] lt = absurd (omega (arith, lt))
+  label_before at zero (y ∷ ys) lt = let next : at ≡ at + 0 = omega arith in ap At next
+  label_before at (suc p) (y ∷ ys) lt = let next : at + 1 + p ≡ at + suc p = omega arith in label_before (at + 1) p ys (omega (arith, lt)) ∙ ap At next
 
-  item_behind : (at p : ℕ) (ys : List Item) → p < length ys → at + length ys ≤ 2 ^ 32 → item_at (labelled_from tables at ys) (suc (double p)) ≡ item_at (numbered tables ys) p
-  item_behind at p [] lt few = absurd (omega (arith, lt))
-  item_behind at zero (y ∷ ys) lt few = ap (λ (all : List Labelled). item_at all 1) (opened tables at y ys (omega (arith, few)))
-  item_behind at (suc p) (y ∷ ys) lt few =
-      ap (λ (all : List Labelled). item_at all (suc (suc (suc (double p))))) (opened tables at y ys (omega (arith, few)))
-      ∙ item_behind (at + 1) p ys (omega (arith, lt)) (omega (arith, few))
+  item_behind : (at p : ℕ) (ys : List Item) → p < length ys → item_at (labelled_from tables at ys) (suc (double p)) ≡ item_at (numbered tables ys) p
+  item_behind at p [] lt = absurd (omega (arith, lt))
+  item_behind at zero (y ∷ ys) lt = refl
+  item_behind at (suc p) (y ∷ ys) lt = item_behind (at + 1) p ys (omega (arith, lt))
 
-  length-labelled : (at : ℕ) (ys : List Item) → at + length ys ≤ 2 ^ 32 → length (labelled_from tables at ys) ≡ double (length ys)
-  length-labelled at [] few = refl
-  length-labelled at (y ∷ ys) few =
-      ap length (opened tables at y ys (omega (arith, few))) ∙ ap (λ (n : ℕ). suc (suc n)) (length-labelled (at + 1) ys (omega (arith, few)))
+  length-labelled : (at : ℕ) (ys : List Item) → length (labelled_from tables at ys) ≡ double (length ys)
+  length-labelled at [] = refl
+  length-labelled at (y ∷ ys) = ap (λ (n : ℕ). suc (suc n)) (length-labelled (at + 1) ys)
 
-  module _ (ys : List Item) (few : length ys ≤ 2 ^ 29) where
+  module _ (ys : List Item) where
     abbrev pub all : List Labelled
     all = labelled_from tables 0 ys
 
@@ -171,18 +178,18 @@ module _ (tables : Tables) where
     xs = numbered tables ys
 
     pub whole : length all ≡ double (length ys)
-    whole = length-labelled 0 ys (omega (arith, few))
+    whole = length-labelled 0 ys
 
     pub label_is : (p : ℕ) → p < length ys → item_at all (double p) ≡ At p
-    label_is p lt = label_before 0 p ys lt (omega (arith, few)) ∙ ap At (omega arith)
+    label_is p lt = label_before 0 p ys lt ∙ ap At (omega arith)
 
     pub item_is : (p : ℕ) → p < length ys → item_at all (suc (double p)) ≡ item_at xs p
-    item_is p lt = item_behind 0 p ys lt (omega (arith, few))
+    item_is p lt = item_behind 0 p ys lt
 
     -- a jump goes to the label of the position that it names
     label_found : (q : ℕ) → q < length ys → label_item all q ≡ double q
     label_found q lt =
-        let stands_once : StandsOnce all q = once tables q 0 ys (omega arith) (omega (arith, lt)) (omega (arith, lt, few)) in
+        let stands_once : StandsOnce all q = once tables q 0 ys (omega arith) (omega (arith, lt)) in
         stands all q (double q) stands_once (omega (arith, whole, double_is q, double_is (length ys), lt)) (label_is q lt)
 
     module _ (ws : List Bool) where
@@ -208,9 +215,8 @@ module _ (tables : Tables) where
       target_is (Unwind q byte) placed = ap (place all (spread ws)) (label_found q placed) ∙ place_is q (omega (arith, placed))
 
       -- the instruction of one item more
-      pub laid_more : (p : ℕ) → p < length ys → flat_map spelling (instrs_to all (spread ws) (double (p + 1)))
-          ≡ flat_map spelling (instrs_to all (spread ws) (double p)) ++ flat_map spelling (instr_of (item_at xs p) (offset all (spread ws) (suc (double p))) (width_at ws p))
-      laid_more p lt =
+      instrs_more : (p : ℕ) → p < length ys → instrs_to all (spread ws) (double (suc p)) ≡ instrs_to all (spread ws) (double p) ++ instr_of (item_at xs p) (offset all (spread ws) (suc (double p))) (width_at ws p)
+      instrs_more p lt =
           let o = offset all (spread ws) (double p) in
           let w = width_at (spread ws) (double p) in
           let none : instr_of (item_at all (double p)) o w ≡ [] = ap (λ (it : Labelled). instr_of it o w) (label_is p lt) in
@@ -219,9 +225,14 @@ module _ (tables : Tables) where
           let next = offset all (spread ws) (suc (double p)) in
           let here : instr_of (item_at all (suc (double p))) next (width_at (spread ws) (suc (double p))) ≡ instr_of (item_at xs p) next (width_at ws p) =
           ap₂ (λ (it : Labelled) (wide : Bool). instr_of it next wide) (item_is p lt) (width_item ws p) in
+          ap₂ (λ (a b : List Instr). a ++ b) front here
+
+      pub laid_more : (p : ℕ) → p < length ys → flat_map spelling (instrs_to all (spread ws) (double (p + 1)))
+          ≡ flat_map spelling (instrs_to all (spread ws) (double p)) ++ flat_map spelling (instr_of (item_at xs p) (offset all (spread ws) (suc (double p))) (width_at ws p))
+      laid_more p lt =
           ap (λ (n : ℕ). flat_map spelling (instrs_to all (spread ws) (double n))) (add-one p)
-          ∙ (ap₂ (λ (a b : List Instr). flat_map spelling (a ++ b)) front here
-          ∙ flat_map-append spelling (instrs_to all (spread ws) (double p)) (instr_of (item_at xs p) next (width_at ws p)))
+          ∙ (ap (flat_map spelling) (instrs_more p lt)
+          ∙ flat_map-append spelling (instrs_to all (spread ws) (double p)) (instr_of (item_at xs p) (offset all (spread ws) (suc (double p))) (width_at ws p)))
 
     module _ (fit : TablesFit tables) (sound : All (IsNumberedItem (length ys)) ys) where
       -- where the items start
@@ -233,6 +244,28 @@ module _ (tables : Tables) where
 
       pub start_is : (ws : List Bool) (starts : List ℕ) (i d : ℕ) → starts ≡ starts_of tables ys ws → i < length ys → get_or starts i d ≡ place xs ws i
       start_is ws starts i d are lt = ap (λ (ps : List ℕ). get_or ps i d) are ∙ get_or-places_to xs ws (length ys) i d lt
+
+      pub starts_near : (ws : List Bool) (starts : List ℕ) → starts ≡ starts_of tables ys ws → All (λ start. start ≤ 6 * length starts) starts
+      starts_near ws starts are i d lt =
+          let size : length starts ≡ length ys = ap length are ∙ length-places_to xs ws (length ys) in
+          let within : i < length ys = omega (arith, lt, size) in
+          omega (arith, within, size, start_is ws starts i d are within, near ws i (omega (arith, within)))
+
+      -- the items start where their instructions do
+      offsets_to : (ws : List Bool) (p : ℕ) → p ≤ length ys → places_to xs ws p ≡ offsets 0 (instrs_to all (spread ws) (double p))
+      offsets_to ws zero le = refl
+      offsets_to ws (suc p) le =
+          let lt : p < length ys = omega (arith, le) in
+          let front = instrs_to all (spread ws) (double p) in
+          let here = instr_of (item_at xs p) (offset all (spread ws) (suc (double p))) (width_at ws p) in
+          let size : 0 + length (flat_map spelling front) ≡ place xs ws p = omega (arith, length-instrs all (spread ws) (double p), place_is ws p (omega (arith, lt))) in
+          let one = one_offset (length ys) (place xs ws p) (item_at xs p) (offset all (spread ws) (suc (double p))) (width_at ws p) (placed_at tables fit ys sound p lt) in
+          ap₂ (λ (a b : List ℕ). a ++ b) (offsets_to ws p (omega (arith, lt))) (sym one)
+          ∙ (ap (λ (n : ℕ). offsets 0 front ++ offsets n here) (sym size)
+          ∙ (sym (offsets-append 0 front here) ∙ ap (offsets 0) (sym (instrs_more ws p lt))))
+
+      pub starts_are : (ws : List Bool) → starts_of tables ys ws ≡ offsets 0 (instrs_of all (spread ws))
+      starts_are ws = offsets_to ws (length ys) (omega arith) ∙ ap (λ (n : ℕ). offsets 0 (instrs_to all (spread ws) n)) (sym whole)
 
       pub named : (i : ℕ) → i < length ys → position_of (item_at xs i) < length ys
       named i lt = position_within (length ys) (item_at xs i) (placed_at tables fit ys sound i lt) (omega (arith, lt))

@@ -1,5 +1,5 @@
 -- Rounds that make offsets wide, and the bytes of items with their offsets.
-use Rattle.std.proofs.Common.{◌≡◌, ℕ, zero, suc, ◌+◌, ◌-◌, ◌<◌, ◌≤◌, ◌^◌, Bool, true, false, List, [], ◌∷◌, ◌++◌, length, get_or, set, take, drop, replicate, All, ℤ, pos, refl, sym, ap, ap₂, subst, ◌∙◌, inl, inr, arith, add-one, append_assoc}
+use Rattle.std.proofs.Common.{◌≡◌, ℕ, zero, suc, ◌+◌, ◌-◌, ◌<◌, ◌≤◌, Bool, true, false, List, [], ◌∷◌, ◌++◌, length, get_or, set, take, drop, replicate, All, ℤ, pos, refl, sym, ap, ap₂, subst, ◌∙◌, inl, inr, arith, add-one, append_assoc}
 use Rattle.std.specs.Prelude.{IsTrue}
 use Rattle.std.specs.List.{flat_map, between}
 use Rattle.std.proofs.lemmas.Int.{ints}
@@ -18,16 +18,21 @@ use Rattle.bc_labels.specs.declared.labelled.Labelled.{Labelled}
 use Rattle.bc_labels.specs.declared.labelled.Labelled.TheVariants.{At}
 use Rattle.bc_labels.specs.Labels.{HasOffset, signed_of}
 use Rattle.bc_labels.specs.Labels as labels
-use Rattle.bc_labels.specs.Places.{item_at, width_at, size_of, place, offset}
-use Rattle.bc_labels.specs.Choice.{FitsAt, ShortFit, IsUnfit, IsRound, IsNeeded, IsFewest, IsLayout, IsTooFar, instr_of, instrs_to}
+use Rattle.bc_labels.specs.Places.{item_at, width_at, size_of, place, places_to, offset}
+use Rattle.bc_labels.specs.Choice.{FitsAt, ShortFit, IsUnfit, IsRound, IsNeeded, IsFewest, IsLayout, IsTooFar, instr_of, instrs_to, instrs_of}
+use Rattle.bc_labels.proofs.Fewest.{one_choice}
 use Rattle.bc_labels.proofs.Widening.{IsWidened, kept, widened, unfit, far}
 use Rattle.mpy_tree.specs.declared.module.Item.{Item}
 use Rattle.mpy_tree.specs.declared.module.Item.TheVariants as items
+use Rattle.mpy_tree.specs.Canonical.{offsets}
+use Rattle.mpy_writer.specs.declared.layout.Layout.{Layout}
 use Rattle.mpy_writer.specs.declared.tables.Tables.{Tables}
 use Rattle.mpy_writer.specs.File.{item_of, labelled_from}
-use Rattle.mpy_writer.specs.Positions.{is_jump, position_in, signed_in, jump_in, short_size, position_of, numbered, drafted_to, drafted, OnlyJumps, spread}
+use Rattle.mpy_writer.specs.Positions.{is_jump, position_in, signed_in, jump_in, short_size, position_of, numbered, drafted_to, drafted, starts_of, OnlyJumps, spread}
+use Rattle.mpy_writer.specs.Layouts.{IsLaidOut}
+use Rattle.mpy_writer.specs.Tables.{TablesFit}
 use Rattle.mpy_writer.specs.Writable.{IsNumberedItem}
-use Rattle.mpy_writer.proofs.Positions.{double, double_is, halved, width_item, length-spread, spread-set, same_instr, length-drafted, whole, label_is, item_is, laid_more}
+use Rattle.mpy_writer.proofs.Positions.{double, double_is, halved, width_item, length-spread, spread-set, same_instr, length-drafted, whole, label_is, item_is, laid_more, starts_are}
 
 -- an item is a jump as the same with numbers is
 pub jumps_same : (tables : Tables) (y : Item) → labels.is_jump (item_of tables y) ≡ is_jump y
@@ -65,6 +70,13 @@ size_is tables (items.Named op text) some = absurd (omega (arith, some))
 size_is tables (items.Object object) some = absurd (omega (arith, some))
 size_is tables (items.Jump op position) some = (refl, refl)
 size_is tables (items.Unwind position byte) some = (refl, refl)
+
+pub few_sizes : (y : Item) → short_size y ≤ 3
+few_sizes (items.Plain instr) = omega arith
+few_sizes (items.Named op text) = omega arith
+few_sizes (items.Object object) = omega arith
+few_sizes (items.Jump op position) = omega arith
+few_sizes (items.Unwind position byte) = omega arith
 
 pub no_size : (y : Item) → short_size y ≤ 0 → is_jump y ≡ false
 no_size (items.Plain instr) none = refl
@@ -106,15 +118,29 @@ none_wide (suc n) (suc (suc i)) e = none_wide n i e
 pub none_wide_item : (n i : ℕ) → width_at (replicate n false) i ≡ true → ⊥
 none_wide_item n i e = none_wide n (suc (double i)) (width_item (replicate n false) i ∙ e)
 
-module _ (tables : Tables) (ys : List Item) (few : length ys ≤ 2 ^ 29) where
+-- no width is that of an offset in one byte
+narrow_width : (n i : ℕ) → width_at [] i ≡ width_at (replicate n false) i
+narrow_width zero i = refl
+narrow_width (suc n) zero = refl
+narrow_width (suc n) (suc i) = narrow_width n i
+
+narrow_place : (xs : List Labelled) (n i : ℕ) → place xs [] i ≡ place xs (replicate n false) i
+narrow_place xs n zero = refl
+narrow_place xs n (suc i) = ap₂ (λ (at : ℕ) (wide : Bool). at + size_of (item_at xs i) wide) (narrow_place xs n i) (narrow_width n i)
+
+pub narrow_places : (xs : List Labelled) (n i : ℕ) → places_to xs [] i ≡ places_to xs (replicate n false) i
+narrow_places xs n zero = refl
+narrow_places xs n (suc i) = ap₂ (λ (ps : List ℕ) (p : ℕ). ps ++ p ∷ []) (narrow_places xs n i) (narrow_place xs n i)
+
+module _ (tables : Tables) (ys : List Item) where
   abbrev pub labelled : List Labelled
   labelled = labelled_from tables 0 ys
 
   within : (i : ℕ) → i < length ys → suc (double i) < length labelled
-  within i lt = omega (arith, lt, whole tables ys few, double_is i, double_is (length ys))
+  within i lt = omega (arith, lt, whole tables ys, double_is i, double_is (length ys))
 
   item_there : (i : ℕ) (y : Item) → i < length ys → item_at (numbered tables ys) i ≡ item_of tables y → item_at labelled (suc (double i)) ≡ item_of tables y
-  item_there i y lt is = item_is tables ys few i lt ∙ is
+  item_there i y lt is = item_is tables ys i lt ∙ is
 
   -- what the test of an item says of the same with numbers
   with_numbers : (i : ℕ) (y : Item) (w : Bool) (z : ℤ) → i < length ys → item_at (numbered tables ys) i ≡ item_of tables y → (is_jump y ≡ true → Fits (signed_in y) w z)
@@ -146,7 +172,7 @@ module _ (tables : Tables) (ys : List Item) (few : length ys ≤ 2 ^ 29) where
   -- a round goes over a label and over the item behind it
   over_label : (old now : List Bool) (wider : Bool) (i : ℕ) → i < length ys → IsWidened labelled (spread old) (spread now) wider (double i) → IsWidened labelled (spread old) (spread now) wider (suc (double i))
   over_label old now wider i lt known =
-      let none_here : labels.is_jump (item_at labelled (double i)) ≡ false = ap labels.is_jump (label_is tables ys few i lt) in
+      let none_here : labels.is_jump (item_at labelled (double i)) ≡ false = ap labels.is_jump (label_is tables ys i lt) in
       subst (IsWidened labelled (spread old) (spread now) wider) (add-one (double i)) (kept labelled (spread old) (spread now) wider (double i) known (λ jumps _. absurd cc))
 
   next_is : (i : ℕ) → suc (double i) + 1 ≡ double (i + 1)
@@ -176,14 +202,14 @@ module _ (tables : Tables) (ys : List Item) (few : length ys ≤ 2 ^ 29) where
         | inl was ↦ only i (sym (width_item old i) ∙ was)
         | inr h ↦
             let inside = h.within in
-            let lt : i < length ys = omega (arith, inside, whole tables ys few, double_is i, double_is (length ys)) in
-            sym (ap labels.is_jump (item_is tables ys few i lt)) ∙ h.jumps
+            let lt : i < length ys = omega (arith, inside, whole tables ys, double_is i, double_is (length ys)) in
+            sym (ap labels.is_jump (item_is tables ys i lt)) ∙ h.jumps
       ]
 
   pub fewest_is : (old new : List Bool) → new ≡ old → length old ≡ length ys → ShortFit labelled (spread old) → IsNeeded labelled (spread old) → IsFewest labelled (spread new)
   fewest_is old new same size fit need =
       subst (λ (ws : List Bool). IsFewest labelled (spread ws)) (sym same)
-      (record { sized = length-spread old ∙ (ap double size ∙ sym (whole tables ys few)); short_fit = fit; needed = need })
+      (record { sized = length-spread old ∙ (ap double size ∙ sym (whole tables ys)); short_fit = fit; needed = need })
 
   -- the bytes of the first `i` items
   abbrev pub laid_to : List Bool → ℕ → List ℕ
@@ -201,7 +227,7 @@ module _ (tables : Tables) (ys : List Item) (few : length ys ≤ 2 ^ 29) where
       ap (λ (n : ℕ). out ++ drop from (drafted_to xs n)) (add-one i)
       ∙ (ap (λ (bytes : List ℕ). out ++ bytes) (drop-append-le from (drafted_to xs i) here le)
       ∙ (sym (append_assoc out (drop from (drafted_to xs i)) here)
-      ∙ (ap₂ (λ (a b : List ℕ). a ++ b) so_far (flat_same ws i lt flat) ∙ sym (laid_more tables ys few ws i lt))))
+      ∙ (ap₂ (λ (a b : List ℕ). a ++ b) so_far (flat_same ws i lt flat) ∙ sym (laid_more tables ys ws i lt))))
 
   -- the text in front of an item
   drafted_front : (n k : ℕ) → (rest : List ℕ) × (drafted_to (numbered tables ys) (n + k) ≡ drafted_to (numbered tables ys) n ++ rest)
@@ -252,7 +278,7 @@ module _ (tables : Tables) (ys : List Item) (few : length ys ≤ 2 ^ 29) where
       jump_is tables y z w jumps ∙ (ap (λ (it : Labelled). instr_of it z w) (sym is) ∙ ap₂ (λ (o : ℤ) (wide : Bool). instr_of (item_at xs i) o wide) z_is w_is) in
       ap (λ (bytes : List ℕ). new ++ bytes) (drop_all to (drafted_to xs (i + 1)) past)
       ∙ (append-nil new
-      ∙ (more ∙ (ap₂ (λ (a : List ℕ) (b : List Instr). a ++ flat_map spelling b) (ap (λ (bytes : List ℕ). out ++ bytes) front_eq ∙ so_far) here ∙ sym (laid_more tables ys few ws i lt))))
+      ∙ (more ∙ (ap₂ (λ (a : List ℕ) (b : List Instr). a ++ flat_map spelling b) (ap (λ (bytes : List ℕ). out ++ bytes) front_eq ∙ so_far) here ∙ sym (laid_more tables ys ws i lt))))
 
   pub size_next : (i : ℕ) (y : Item) → item_at (numbered tables ys) i ≡ item_of tables y → 0 < short_size y → length (drafted_to (numbered tables ys) (i + 1)) ≡ place (numbered tables ys) [] i + short_size y
   size_next i y is some =
@@ -264,11 +290,11 @@ module _ (tables : Tables) (ys : List Item) (few : length ys ≤ 2 ^ 29) where
   pub all_fit : (ws : List Bool) (wide : Bool) → ((p : ℕ) → p < length ys → labels.is_jump (item_at labelled (suc (double p))) ≡ true → width_at ws p ≡ wide → FitsAt labelled (spread ws) (suc (double p)) wide)
       → (k : ℕ) → k < length labelled → labels.is_jump (item_at labelled k) ≡ true → width_at (spread ws) k ≡ wide → FitsAt labelled (spread ws) k wide
   all_fit ws wide fits k lt jumps width =
-      let half = halved (length ys) k (omega (arith, lt, whole tables ys few)) in
+      let half = halved (length ys) k (omega (arith, lt, whole tables ys)) in
       let p = half.0 in
       elim half.2 [
         | inl even ↦
-            let none : labels.is_jump (item_at labelled k) ≡ false = ap (λ (n : ℕ). labels.is_jump (item_at labelled n)) even ∙ ap labels.is_jump (label_is tables ys few p half.1) in
+            let none : labels.is_jump (item_at labelled k) ≡ false = ap (λ (n : ℕ). labels.is_jump (item_at labelled n)) even ∙ ap labels.is_jump (label_is tables ys p half.1) in
             absurd cc
         | inr odd ↦
             subst (λ (n : ℕ). FitsAt labelled (spread ws) n wide) (sym odd)
@@ -276,11 +302,18 @@ module _ (tables : Tables) (ys : List Item) (few : length ys ≤ 2 ^ 29) where
       ]
 
   pub laid_out : (ws : List Bool) (bytes : List ℕ) → bytes ≡ laid_to ws (length ys) → bytes ≡ flat_map spelling (instrs_to labelled (spread ws) (length labelled))
-  laid_out ws bytes is = is ∙ ap (λ (n : ℕ). flat_map spelling (instrs_to labelled (spread ws) n)) (sym (whole tables ys few))
+  laid_out ws bytes is = is ∙ ap (λ (n : ℕ). flat_map spelling (instrs_to labelled (spread ws) n)) (sym (whole tables ys))
 
   pub layout_is : (ws : List Bool) (bytes : List ℕ) → IsFewest labelled (spread ws) → ((p : ℕ) → p < length ys → labels.is_jump (item_at labelled (suc (double p))) ≡ true → width_at ws p ≡ true → FitsAt labelled (spread ws) (suc (double p)) true)
       → bytes ≡ laid_to ws (length ys) → IsLayout labelled bytes
   layout_is ws bytes fewest fits is = record { widths = spread ws; fewest = fewest; wide_fit = all_fit ws true fits; bytes_are = laid_out ws bytes is }
+
+  -- and where they start
+  pub laid_out_is : TablesFit tables → All (IsNumberedItem (length ys)) ys → (ws : List Bool) (layout : Layout) → IsFewest labelled (spread ws) → layout.starts.items ≡ starts_of tables ys ws → IsLayout labelled layout.bytes.items → IsLaidOut labelled layout
+  laid_out_is fit sound ws layout fewest starts bytes = record {
+    bytes = bytes;
+    starts = starts ∙ (starts_are tables ys fit sound ws ∙ ap (λ (vs : List Bool). offsets 0 (instrs_of labelled vs)) (one_choice labelled (spread ws) bytes.widths fewest bytes.fewest));
+  }
 
   -- items of which none is a jump
   module _ (none : All (λ (y : Item). is_jump y ≡ false) ys) where
@@ -298,15 +331,19 @@ module _ (tables : Tables) (ys : List Item) (few : length ys ≤ 2 ^ 29) where
     same_bytes (suc p) le =
         let lt : p < length ys = omega (arith, le) in
         ap₂ (λ (a b : List ℕ). a ++ b) (same_bytes p (omega (arith, le))) (flat_same short p lt (flat_at p lt))
-        ∙ (sym (laid_more tables ys few short p lt) ∙ ap (laid_to short) (add-one p))
+        ∙ (sym (laid_more tables ys short p lt) ∙ ap (laid_to short) (add-one p))
 
     no_jump : (p : ℕ) → p < length ys → labels.is_jump (item_at labelled (suc (double p))) ≡ true → ⊥
-    no_jump p lt jumps = let none_here : labels.is_jump (item_at labelled (suc (double p))) ≡ false = ap labels.is_jump (item_is tables ys few p lt) ∙ flat_at p lt in cc
+    no_jump p lt jumps = let none_here : labels.is_jump (item_at labelled (suc (double p))) ≡ false = ap labels.is_jump (item_is tables ys p lt) ∙ flat_at p lt in cc
 
-    pub straight : (bytes : List ℕ) → bytes ≡ drafted tables ys → IsLayout labelled bytes
-    straight bytes is =
-        layout_is short bytes (record {
-          sized = length-spread short ∙ (ap double (length-replicate (length ys) false) ∙ sym (whole tables ys few));
-          short_fit = all_fit short false (λ p lt jumps _. absurd (no_jump p lt jumps));
-          needed = λ other _ i wide. absurd (none_wide (length ys) i wide);
-        }) (λ p lt jumps _. absurd (no_jump p lt jumps)) (is ∙ same_bytes (length ys) (omega arith))
+    short_fewest : IsFewest labelled (spread short)
+    short_fewest = record {
+      sized = length-spread short ∙ (ap double (length-replicate (length ys) false) ∙ sym (whole tables ys));
+      short_fit = all_fit short false (λ p lt jumps _. absurd (no_jump p lt jumps));
+      needed = λ other _ i wide. absurd (none_wide (length ys) i wide);
+    }
+
+    pub straight : TablesFit tables → All (IsNumberedItem (length ys)) ys → (layout : Layout) → layout.bytes.items ≡ drafted tables ys → layout.starts.items ≡ starts_of tables ys [] → IsLaidOut labelled layout
+    straight fit sound layout bytes starts =
+        laid_out_is fit sound short layout short_fewest (starts ∙ narrow_places (numbered tables ys) (length ys) (length ys))
+        (layout_is short layout.bytes.items short_fewest (λ p lt jumps _. absurd (no_jump p lt jumps)) (bytes ∙ same_bytes (length ys) (omega arith)))

@@ -1,5 +1,5 @@
 -- The file of a module.
-use Rattle.std.specs.Prelude.{◌≡◌, ◌⊎◌, ℕ, ◌+◌, ◌<◌, ◌^◌, List, [], ◌∷◌, ◌++◌, length, map, Contains, Bool, true, false, nat_lt, if◌then◌else◌, Option, Some, None}
+use Rattle.std.specs.Prelude.{◌≡◌, ◌⊎◌, ℕ, ◌+◌, ◌<◌, List, [], ◌∷◌, ◌++◌, length, map, Contains, Bool, true, false, Option, Some, None}
 use Rattle.std.specs.List.{AllZip, concat, flat_map, zip}
 use Rattle.mpy_base.specs.Vuint.{vuint}
 use Rattle.mpy_base.specs.declared.limits.TheConstants.{MAX_FILE_BYTES, MAX_TABLE, MAX_CODE_BYTES}
@@ -40,15 +40,11 @@ item_of tables (items.Object object) = labels.Plain (instrs.Num LoadConstObj (ob
 item_of tables (items.Jump op position) = labels.Jump op position
 item_of tables (items.Unwind position byte) = labels.Unwind position byte
 
--- the label of an instruction is its position. No jump names one that takes more than 32 bits.
-abbrev pub label_at : ℕ → List Labelled
-label_at position = if nat_lt position (2 ^ 32) then labels.At position ∷ [] else []
-
--- the items with their labels, from such a position on
+-- the items, each behind the label of its position, from such a position on
 abbrev pub labelled_from : Tables → ℕ → List Item → List Labelled
 labelled_from tables position [] = []
 labelled_from tables position (item ∷ items) =
-    label_at position ++ (item_of tables item ∷ labelled_from tables (position + 1) items)
+    labels.At position ∷ (item_of tables item ∷ labelled_from tables (position + 1) items)
 
 -- the items of a code with their labels
 abbrev pub labelled : Tables → Code → List Labelled

@@ -1,25 +1,36 @@
 //! Instructions where each offset is 0 and takes one byte.
 
-ghost use Rattle.std.specs.Prelude.{◌≡◌, ◌≤◌, ◌^◌, ◌++◌, [], length, flat_map, All, false, pos, IfOk, OnOk};
+ghost use Rattle.std.specs.Prelude.{◌≡◌, ◌++◌, [], length, flat_map, All, false, pos, IfOk, OnOk};
 ghost use Rattle.bc_ops.specs.Code.{spelling};
 ghost use Rattle.bc_labels.specs.Choice.{instr_of};
 ghost use Rattle.mpy_writer.specs.File.{item_of};
 ghost use Rattle.mpy_writer.specs.Positions.{drafted, starts_of};
+ghost use Rattle.mpy_writer.specs.Tables as numbers;
 ghost use Rattle.mpy_writer.specs.Tables.{TablesFit};
-ghost use Rattle.mpy_writer.specs.Writable.{IsNumberedItem};
+ghost use Rattle.mpy_writer.specs.Writable.{IsFine, IsNumberedItem};
 
-use crate::labels::object_number;
+use crate::object::object_text;
 use crate::tables::Tables;
 use bc_ops::{Instr, Op, encode};
 use mpy_base::NoMemory;
-use mpy_tree::Item;
+use mpy_base::limits::MAX_DEPTH;
+use mpy_tree::{Constant, Item};
 use std::alloc::Global;
 
 /// The bytes of items, and where each starts.
 #[derive(Drop)]
 pub(crate) struct Draft {
     pub text: Vec<u8>,
-    pub starts: Vec<u32>,
+    pub starts: Vec<usize>,
+}
+
+/// The number of the object, and 0 of one that has none.
+fn object_number(alloc: Global, tables: &Tables, object: &Constant) -> Result<u32, NoMemory>
+    requires { IsFine MAX_DEPTH object.now }
+    ensures { IfOk result (λ n. n ≡ numbers.object_number tables.now object.now) }
+{
+    let text = object_text(alloc, object)?;
+    Ok(tables.objects.find(&text).unwrap_or(0))
 }
 
 /// Adds the bytes of an item.
@@ -64,15 +75,13 @@ fn write_draft(
 pub(crate) fn make_draft(alloc: Global, tables: &Tables, items: &[Item]) -> Result<Draft, NoMemory>
     requires fit { TablesFit tables.now }
     requires sound { All (IsNumberedItem (length items.now)) items.now }
-    requires few { length items.now ≤ 2 ^ 29 }
     ensures text { IfOk result (λ draft. draft.text.items ≡ drafted tables.now items.now) }
     ensures starts { IfOk result (λ draft. draft.starts.items ≡ starts_of tables.now items.now []) }
 {
     let mut text = Vec::with_capacity(alloc, items.len())?;
     let mut starts = Vec::with_capacity(alloc, items.len())?;
     for item in items {
-        let start = text.len() as u32;
-        starts.push(start)?;
+        starts.push(text.len())?;
         write_draft(alloc, &mut text, tables, item, items.len())?;
     }
     Ok(Draft { text, starts })

@@ -1,6 +1,6 @@
 //! Items that name other items by their positions.
 
-ghost use Rattle.std.specs.Prelude.{◌≡◌, ◌↔◌, ◌+◌, ◌<◌, ◌++◌, length, slice_index, flat_map, All, false, true, pos, ◌+ℤ◌, ◌-ℤ◌, ◌≤ℤ◌, ◌<ℤ◌, IsTrue, OnOk};
+ghost use Rattle.std.specs.Prelude.{◌≡◌, ◌↔◌, ◌+◌, ◌*◌, ◌<◌, ◌≤◌, ◌++◌, length, slice_index, flat_map, All, false, true, pos, ◌+ℤ◌, ◌-ℤ◌, ◌≤ℤ◌, ◌<ℤ◌, IsTrue, OnOk};
 ghost use Rattle.bc_ops.specs.Code.{spelling, IsEncodable};
 ghost use Rattle.bc_ops.specs.Offset as offsets;
 ghost use Rattle.bc_labels.specs.Places as places;
@@ -61,12 +61,13 @@ fn offset_size(wide: bool) -> usize
 }
 
 /// The offset from the end of an item's own to another item.
-pub(crate) fn offset(starts: &[u32], from: usize, to: usize, wide: bool) -> i64
+pub(crate) fn offset(starts: &[usize], from: usize, to: usize, wide: bool) -> i64
     requires from { from < length starts.now }
     requires to { to < length starts.now }
+    requires near { All (λ start. start ≤ 6 * length starts.now) starts.now }
     ensures { result ≡ pos (slice_index starts.now to) -ℤ pos (slice_index starts.now from + 1 + places.offset_size wide) }
 {
-    let end = starts[from] as usize + 1 + offset_size(wide);
+    let end = starts[from] + 1 + offset_size(wide);
     starts[to] as i64 - end as i64
 }
 

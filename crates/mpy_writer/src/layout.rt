@@ -1,9 +1,10 @@
 //! Instructions with the fewest wide offsets.
 
-ghost use Rattle.std.specs.Prelude.{◌≡◌, ◌≤◌, ◌^◌, [], length, drop, All, IfOk};
+ghost use Rattle.std.specs.Prelude.{◌≡◌, ◌≤◌, [], length, drop, All, IfOk};
 ghost use Rattle.std.specs.List.{between};
 ghost use Rattle.bc_labels.specs.Choice.{IsLayout, IsTooFar, IsFewest};
 ghost use Rattle.mpy_writer.specs.File.{labelled_from};
+ghost use Rattle.mpy_writer.specs.Layouts.{IsLaidOut};
 ghost use Rattle.mpy_writer.specs.Outcome.{IfFault};
 ghost use Rattle.mpy_writer.specs.Positions.{drafted, starts_of, spread};
 ghost use Rattle.mpy_writer.specs.Tables.{TablesFit};
@@ -17,6 +18,13 @@ use crate::widths::settle;
 use mpy_base::Refused;
 use mpy_tree::Item;
 use std::alloc::Global;
+
+/// The bytes of instructions, and where each starts.
+#[derive(Drop)]
+pub(crate) struct Layout {
+    pub bytes: Vec<u8>,
+    pub starts: Vec<usize>,
+}
 
 /// The bytes from one place to another.
 fn part(bytes: &[u8], from: usize, to: usize) -> &[u8]
@@ -41,12 +49,11 @@ fn fill(
     tables: &Tables,
     items: &[Item],
     draft: &Draft,
-    starts: &[u32],
+    starts: &[usize],
     widths: &[bool],
 ) -> Result<Vec<u8>, Refused<WriteFault>>
     requires fit { TablesFit tables.now }
     requires sound { All (IsNumberedItem (length items.now)) items.now }
-    requires few { length items.now ≤ 2 ^ 29 }
     requires text { draft.now.text.items ≡ drafted tables.now items.now }
     requires short { draft.now.starts.items ≡ starts_of tables.now items.now [] }
     requires sized { length widths.now ≡ length items.now }
@@ -66,7 +73,7 @@ fn fill(
             if !fits(item, widths[i], offset) {
                 return Err(Refused::Fault(WriteFault::TooFar));
             }
-            let start = short[i] as usize;
+            let start = short[i];
             let front = part(text, from, start);
             add_jump(&mut out, front, item, offset, widths[i])?;
             from = start + size;
@@ -82,37 +89,39 @@ fn with_jumps(
     tables: &Tables,
     items: &[Item],
     draft: &Draft,
-) -> Result<Vec<u8>, Refused<WriteFault>>
+) -> Result<Layout, Refused<WriteFault>>
     requires fit { TablesFit tables.now }
     requires sound { All (IsNumberedItem (length items.now)) items.now }
-    requires few { length items.now ≤ 2 ^ 29 }
     requires text { draft.now.text.items ≡ drafted tables.now items.now }
     requires short { draft.now.starts.items ≡ starts_of tables.now items.now [] }
-    ensures ok { IfOk result (λ bytes. IsLayout (labelled_from tables.now 0 items.now) bytes.items) }
+    ensures ok { IfOk result (IsLaidOut (labelled_from tables.now 0 items.now)) }
     ensures fault { IfFault result (λ fault. (fault ≡ WriteFault.TooFar) × IsTooFar (labelled_from tables.now 0 items.now)) }
 {
-    let mut starts = Vec::with_capacity(alloc, items.len())?;
+    let mut starts = Vec::from_slice(alloc, &draft.starts)?;
     let mut widths = vec![in alloc; false; items.len()]?;
     settle(tables, items, &draft.starts, &mut starts, &mut widths)?;
-    fill(alloc, tables, items, draft, &starts, &widths)
+    let bytes = fill(alloc, tables, items, draft, &starts, &widths)?;
+    Ok(Layout { bytes, starts })
 }
 
-/// The bytes of the instructions, each jump with the offset of the item that it names.
+/// The layout of the instructions, each jump with the offset of the item that it names.
 pub(crate) fn by_positions(
     alloc: Global,
     tables: &Tables,
     items: &[Item],
-) -> Result<Vec<u8>, Refused<WriteFault>>
+) -> Result<Layout, Refused<WriteFault>>
     requires fit { TablesFit tables.now }
     requires sound { All (IsNumberedItem (length items.now)) items.now }
-    requires few { length items.now ≤ 2 ^ 29 }
-    ensures ok { IfOk result (λ bytes. IsLayout (labelled_from tables.now 0 items.now) bytes.items) }
+    ensures ok { IfOk result (IsLaidOut (labelled_from tables.now 0 items.now)) }
     ensures fault { IfFault result (λ fault. (fault ≡ WriteFault.TooFar) × IsTooFar (labelled_from tables.now 0 items.now)) }
 {
     let draft = make_draft(alloc, tables, items)?;
     if has_jumps(items) {
         with_jumps(alloc, tables, items, &draft)
     } else {
-        Ok(draft.text)
+        Ok(Layout {
+            bytes: draft.text,
+            starts: draft.starts,
+        })
     }
 }

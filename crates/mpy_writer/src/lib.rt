@@ -7,7 +7,6 @@ mod draft;
 mod fault;
 mod file;
 mod jumps;
-mod labels;
 mod layout;
 mod object;
 mod tables;

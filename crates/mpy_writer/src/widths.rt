@@ -1,6 +1,6 @@
 //! The choice of widths with the fewest wide offsets.
 
-ghost use Rattle.std.specs.Prelude.{◌≡◌, ◌+◌, ◌<◌, ◌≤◌, ◌^◌, [], length, All, false, IsTrue, OnOk};
+ghost use Rattle.std.specs.Prelude.{◌≡◌, ◌+◌, ◌<◌, [], length, All, false, IsTrue, OnOk};
 ghost use Rattle.bc_labels.specs.Places.{offset_size};
 ghost use Rattle.bc_labels.specs.Choice.{ShortFit, IsNeeded, IsFewest, IsRound, shorts};
 ghost use Rattle.mpy_writer.specs.File.{labelled_from};
@@ -14,7 +14,7 @@ use mpy_base::NoMemory;
 use mpy_tree::Item;
 
 /// The bytes that a wide offset has more than another.
-fn growth(wide: bool) -> u32
+fn growth(wide: bool) -> usize
     ensures { result + 1 ≡ offset_size wide }
 {
     if wide { 1 } else { 0 }
@@ -22,15 +22,14 @@ fn growth(wide: bool) -> u32
 
 /// Finds where the items of the tables start with these widths, of which `short` says where they start with none wide.
 fn measure(
-    starts: &mut Vec<u32>,
+    starts: &mut Vec<usize>,
     tables: &Tables,
     items: &[Item],
-    short: &[u32],
+    short: &[usize],
     widths: &[bool],
 ) -> Result<(), NoMemory>
     requires fit { TablesFit tables.now }
     requires sound { All (IsNumberedItem (length items.now)) items.now }
-    requires few { length items.now ≤ 2 ^ 29 }
     requires short { short.now ≡ starts_of tables.now items.now [] }
     requires sized { length widths.now ≡ length items.now }
     requires only { OnlyJumps (numbered tables.now items.now) widths.now }
@@ -47,10 +46,9 @@ fn measure(
 }
 
 /// Makes each offset wide that doesn't fit one byte where the items start there, and says whether there was one.
-fn widen(tables: &Tables, items: &[Item], starts: &[u32], widths: &mut [bool]) -> bool
+fn widen(tables: &Tables, items: &[Item], starts: &[usize], widths: &mut [bool]) -> bool
     requires fit { TablesFit tables.now }
     requires sound { All (IsNumberedItem (length items.now)) items.now }
-    requires few { length items.now ≤ 2 ^ 29 }
     requires sized { length widths.old ≡ length items.now }
     requires starts { starts.now ≡ starts_of tables.now items.now widths.old }
     ensures sized { length widths.new ≡ length widths.old }
@@ -69,26 +67,25 @@ fn widen(tables: &Tables, items: &[Item], starts: &[u32], widths: &mut [bool]) -
     wider
 }
 
-/// Makes the offsets wide that have to be, and finds where the items start.
+/// Makes the offsets wide that have to be, and keeps with them where the items start.
 pub(crate) fn settle(
     tables: &Tables,
     items: &[Item],
-    short: &[u32],
-    starts: &mut Vec<u32>,
+    short: &[usize],
+    starts: &mut Vec<usize>,
     widths: &mut [bool],
 ) -> Result<(), NoMemory>
     requires fit { TablesFit tables.now }
     requires sound { All (IsNumberedItem (length items.now)) items.now }
-    requires few { length items.now ≤ 2 ^ 29 }
     requires short { short.now ≡ starts_of tables.now items.now [] }
     requires sized { length widths.old ≡ length items.now }
     requires only { OnlyJumps (numbered tables.now items.now) widths.old }
     requires needed { IsNeeded (labelled_from tables.now 0 items.now) (spread widths.old) }
+    requires starts { starts.old.items ≡ starts_of tables.now items.now widths.old }
     ensures sized { OnOk result (length widths.new ≡ length items.now) }
     ensures fewest { OnOk result (IsFewest (labelled_from tables.now 0 items.now) (spread widths.new)) }
     ensures starts { OnOk result (starts.new.items ≡ starts_of tables.now items.now widths.new) }
 {
-    measure(starts, tables, items, short, widths)?;
     'rounds: while widen(tables, items, starts, widths) {
         measure(starts, tables, items, short, widths)?;
     }

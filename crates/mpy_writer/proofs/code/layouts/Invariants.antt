@@ -1,9 +1,10 @@
 use Rattle.std.proofs.Common.{map, take}
 use Rattle.std.specs.List.{AllZip}
-use Rattle.bc_labels.specs.Choice.{IsLayout}
 use Rattle.mpy_writer.specs.File.{labelled}
+use Rattle.mpy_writer.specs.Layouts.{IsLaidOut}
 use Rattle.mpy_writer.proofs.code.layouts.Given as goal
 
+-- the layouts so far
 abbrev pub invariant-loop-code : goal.invariant-loop-code
 invariant-loop-code l =
-    AllZip (λ code bytes. IsLayout (labelled l.tables code) bytes) (take l.code-index (map (λ c. c.now) l.codes)) (map (λ bytes. bytes.items) l.all.items)
+    AllZip (λ code layout. IsLaidOut (labelled l.tables code) layout) (take l.code-index (map (λ c. c.now) l.codes)) l.all.items

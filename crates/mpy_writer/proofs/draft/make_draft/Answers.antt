@@ -1,20 +1,8 @@
 use Rattle.std.proofs.Common.{[], length, ap, ◌∙◌, arith}
 use Rattle.mpy_writer.specs.File.{item_of}
 use Rattle.mpy_writer.specs.Positions.{numbered}
-use Rattle.mpy_writer.proofs.Positions.{seen_item, near, length-drafted, started_more, drafted_more}
+use Rattle.mpy_writer.proofs.Positions.{seen_item, length-drafted, started_more, drafted_more}
 use Rattle.mpy_writer.proofs.draft.make_draft.Goals as goal
-
-pub overflow_cast-start : goal.overflow_cast-start
-overflow_cast-start c =
-    let tables = c.args.tables.now in
-    let items = c.args.items.now in
-    let i = c.loop-item.item-index in
-    let lt = c.loop-item-test.true in
-    let few = c.requires.few in
-    let size = ap length c.loop-item.invariant.text ∙ length-drafted (numbered tables items) i in
-    let len = c.len-start.ensures in
-    let kept = c.loop-item.text.ok.0 in
-    omega (arith, lt, few, size, len, kept, near tables items few c.requires.fit c.requires.sound [] i (omega (arith, lt)))
 
 pub loop-item-preserved : goal.loop-item-preserved
 loop-item-preserved c =
@@ -24,9 +12,9 @@ loop-item-preserved c =
     let xs = numbered tables items in
     let is = seen_item tables items i c.item-item.result c.loop-item-test.true c.item-item.is in
     let size = ap length c.loop-item.invariant.text ∙ length-drafted xs i in
-    let len = c.len-start.ensures in
+    let len = c.len.ensures in
     let kept = c.loop-item.text.ok.0 in
     record {
       text = drafted_more xs i (item_of tables c.item-item.result) c.loop-item.text.items c.write_draft.new.out.items is c.loop-item.invariant.text c.in_ok-write_draft.ensures;
-      starts = started_more xs [] i c.len-start.result c.loop-item.starts.items c.push.new.self.items c.loop-item.invariant.starts (omega (arith, len, kept, size)) c.in_ok-push.ensures.items;
+      starts = started_more xs [] i c.len.result c.loop-item.starts.items c.push.new.self.items c.loop-item.invariant.starts (omega (arith, len, kept, size)) c.in_ok-push.ensures.items;
     }

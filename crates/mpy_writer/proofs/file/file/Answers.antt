@@ -33,7 +33,7 @@ returns-in_err-write_codes c =
     let first = codes_are (λ x. x.now) c.new-codes.result.items c.add_codes.new.codes.items c.deref.result.now (codes c.args.tree.now) c.in_ok-add_codes.ensures c.new-codes.ensures.items c.deref.ensures.value in
     let tables = c.in_ok-tables.tables in
     let are = these_tables c.args.tree.now tables (map (λ x. x.now) c.deref.result.now) first c.in_ok-tables.ensures.texts c.in_ok-tables.ensures.objects in
-    big_fault c.args.tree.now (λ v. v.items) tables (map (λ x. x.now) c.deref-3.result.now) (map (λ x. x.now) c.deref-2.result.now) (map (λ v. v.items) c.in_ok-layouts.layouts.items) _ _ _ (codes_are (λ x. x.now) c.new-codes.result.items c.add_codes.new.codes.items c.deref-3.result.now (codes c.args.tree.now) c.in_ok-add_codes.ensures c.new-codes.ensures.items c.deref-3.ensures.value) (codes_are (λ x. x.now) c.new-codes.result.items c.add_codes.new.codes.items c.deref-2.result.now (codes c.args.tree.now) c.in_ok-add_codes.ensures c.new-codes.ensures.items c.deref-2.ensures.value) are c.in_ok-tables.ensures.fit c.in_ok-layouts.ensures.ok p.1 p.2
+    big_fault c.args.tree.now (λ v. v.items) tables (map (λ x. x.now) c.deref-3.result.now) (map (λ x. x.now) c.deref-2.result.now) c.in_ok-layouts.layouts.items _ _ _ (codes_are (λ x. x.now) c.new-codes.result.items c.add_codes.new.codes.items c.deref-3.result.now (codes c.args.tree.now) c.in_ok-add_codes.ensures c.new-codes.ensures.items c.deref-3.ensures.value) (codes_are (λ x. x.now) c.new-codes.result.items c.add_codes.new.codes.items c.deref-2.result.now (codes c.args.tree.now) c.in_ok-add_codes.ensures c.new-codes.ensures.items c.deref-2.ensures.value) are c.in_ok-tables.ensures.fit c.in_ok-layouts.ensures.ok p.1 p.2
     c.in_err-write_codes.ensures.fault
 
 pub returns-then-len-gt-MAX_FILE_BYTES : goal.returns-then-len-gt-MAX_FILE_BYTES
@@ -44,7 +44,7 @@ returns-then-len-gt-MAX_FILE_BYTES c =
     let len = c.len.ensures in
     let past = c.if-len-gt-MAX_FILE_BYTES.true in
     let size = c.write_codes.new.out.ok.0 in
-    a_big_file c.args.tree.now tables (map (λ x. x.now) c.deref-3.result.now) (map (λ x. x.now) c.deref-2.result.now) (map (λ v. v.items) c.in_ok-layouts.layouts.items) c.in_ok-out.out.items c.write_codes.new.out.items (codes_are (λ x. x.now) c.new-codes.result.items c.add_codes.new.codes.items c.deref-3.result.now (codes c.args.tree.now) c.in_ok-add_codes.ensures c.new-codes.ensures.items c.deref-3.ensures.value) (codes_are (λ x. x.now) c.new-codes.result.items c.add_codes.new.codes.items c.deref-2.result.now (codes c.args.tree.now) c.in_ok-add_codes.ensures c.new-codes.ensures.items c.deref-2.ensures.value) are c.in_ok-tables.ensures.fit
+    a_big_file c.args.tree.now tables (map (λ x. x.now) c.deref-3.result.now) (map (λ x. x.now) c.deref-2.result.now) c.in_ok-layouts.layouts.items c.in_ok-out.out.items c.write_codes.new.out.items (codes_are (λ x. x.now) c.new-codes.result.items c.add_codes.new.codes.items c.deref-3.result.now (codes c.args.tree.now) c.in_ok-add_codes.ensures c.new-codes.ensures.items c.deref-3.ensures.value) (codes_are (λ x. x.now) c.new-codes.result.items c.add_codes.new.codes.items c.deref-2.result.now (codes c.args.tree.now) c.in_ok-add_codes.ensures c.new-codes.ensures.items c.deref-2.ensures.value) are c.in_ok-tables.ensures.fit
     c.in_ok-layouts.ensures.ok c.in_ok-out.ensures c.in_ok-write_codes.ensures.ok (omega (arith, len, past, size))
 
 pub returns : goal.returns

@@ -15,10 +15,9 @@ overflow_add-start c =
     let items = c.args.items.now in
     let i = c.loop-i.i in
     let lt = c.loop-i-test.true in
-    let few = c.requires.few in
     let grown = c.loop-i.invariant.grown in
-    let start = start_is tables items few c.requires.fit c.requires.sound [] c.args.short.now i 0 c.requires.short lt in
-    omega (arith, lt, few, grown, start, near tables items few c.requires.fit c.requires.sound c.args.widths.now i (omega (arith, lt)))
+    let start = start_is tables items c.requires.fit c.requires.sound [] c.args.short.now i 0 c.requires.short lt in
+    omega (arith, lt, grown, start, as_many tables items [] c.args.short.now c.requires.short, near tables items c.requires.fit c.requires.sound c.args.widths.now i (omega (arith, lt)))
 
 pub overflow_add-grown : goal.overflow_add-grown
 overflow_add-grown c =
@@ -26,11 +25,10 @@ overflow_add-grown c =
     let items = c.args.items.now in
     let i = c.loop-i.i in
     let lt = c.loop-i-test.true in
-    let few = c.requires.few in
     let grown = c.loop-i.invariant.grown in
     let more = grown_size (item_at (numbered tables items) i) (width_at c.args.widths.now i) c.growth-grown.result (c.requires.only i) c.growth-grown.ensures in
     let next : place (numbered tables items) c.args.widths.now (suc i) ≡ place (numbered tables items) c.args.widths.now i + size_of (item_at (numbered tables items) i) (width_at c.args.widths.now i) = refl in
-    omega (arith, lt, few, grown, more, next, near tables items few c.requires.fit c.requires.sound c.args.widths.now (suc i) (omega (arith, lt)))
+    omega (arith, lt, grown, more, next, as_many tables items [] c.args.short.now c.requires.short, near tables items c.requires.fit c.requires.sound c.args.widths.now (suc i) (omega (arith, lt)))
 
 pub loop-i-preserved : goal.loop-i-preserved
 loop-i-preserved c =
@@ -41,7 +39,7 @@ loop-i-preserved c =
     let i = c.loop-i.i in
     let lt = c.loop-i-test.true in
     let grown = c.loop-i.invariant.grown in
-    let start = start_is tables items c.requires.few c.requires.fit c.requires.sound [] c.args.short.now i 0 c.requires.short lt in
+    let start = start_is tables items c.requires.fit c.requires.sound [] c.args.short.now i 0 c.requires.short lt in
     let more = grown_size (item_at xs i) (width_at ws i) c.growth-grown.result (c.requires.only i) c.growth-grown.ensures in
     record {
       starts = started_more xs ws i _ c.loop-i.starts.items c.push.new.self.items c.loop-i.invariant.starts (omega (arith, grown, start)) c.in_ok-push.ensures.items;

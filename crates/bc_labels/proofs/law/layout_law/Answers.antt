@@ -1,7 +1,7 @@
 use Rattle.bc_labels.proofs.Fewest.{one_choice, one_layout, never_both}
 use Rattle.bc_labels.proofs.Positions.{is_list}
 use Rattle.bc_labels.proofs.Reading.{is_code, length-instrs}
-use Rattle.bc_labels.proofs.bytes.layout_law.Goals as goal
+use Rattle.bc_labels.proofs.law.layout_law.Goals as goal
 
 pub returns-clause-places : goal.returns-clause-places
 returns-clause-places c = length-instrs
