@@ -1,3 +1,2 @@
 pub use Rattle.image_over.proofs as image_over_lemmas
-mod Held
 mod Found

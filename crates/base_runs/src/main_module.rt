@@ -2,58 +2,18 @@
 
 ghost use Rattle.std.specs.Prelude.{◌≡◌, ◌⊎◌, ℕ, Ok, Err, IfOk, IfErr, Some};
 ghost use Rattle.mpy_tree.specs.Raw.{Module};
-ghost use Rattle.mpy_tree.specs.File.{IsModule};
-ghost use Rattle.bc_library.specs.Shelf.{Shelf, module_at};
+ghost use Rattle.bc_library.specs.Shelf.{Shelf};
 ghost use Rattle.library_files.specs.Ends.{HoldsModules};
 ghost use Rattle.image_base.specs.Base.{IsOpened};
 ghost use Rattle.image_runs.specs.declared.fault.MainFault.{MainFault as Fault};
 ghost use Rattle.image_runs.specs.Main.{FaultIs, IsMainAt};
 ghost use Rattle.base_runs.specs.Main.{HoldsMainOn, RefusesMainOn};
 
-use bc_library::{Library, Member, library_law, modules_law};
+use bc_library::{Library, Member, modules_law};
 use image_over::open_on;
-use image_runs::MainFault;
-use mpy_base::limits::MAX_MODULES;
-use mpy_base::{NoMemory, Refused, Text};
-use mpy_tree::module_law;
+use image_runs::{MainFault, no_main};
+use mpy_base::Refused;
 use std::alloc::Global;
-
-/// The module of the number, if there is one, is one that a file may hold.
-fn file_law(library: &Library, number: u32)
-    ensures { (m : Module) → module_at library.now number ≡ Some m → IsModule m }
-{
-    if let Some(verified) = library.module(number) {
-        module_law(verified.module());
-    }
-}
-
-/// Each module of a library is one that a file may hold.
-fn files_law(library: &Library)
-    ensures { (i : ℕ) (m : Module) → module_at library.now i ≡ Some m → IsModule m }
-{
-    library_law(library);
-    for number in 0..MAX_MODULES as u32 {
-        file_law(library, number);
-    }
-}
-
-/// What holds of the modules of a library.
-fn holds_law(library: &Library)
-    ensures { HoldsModules library.now }
-{
-    files_law(library);
-    modules_law(library);
-}
-
-/// The fault of images without a module of this name.
-fn no_main(alloc: Global, main: &[u8]) -> Refused<MainFault>
-    ensures { (result ≡ Refused.Fault (Fault.NoMain main.now)) ⊎ (result ≡ Refused.NoMemory) }
-{
-    match Text::new(alloc, main) {
-        Ok(main) => Refused::Fault(MainFault::NoMain(main)),
-        Err(NoMemory) => Refused::NoMemory,
-    }
-}
 
 /// Opens an image over the library below, as a library of the modules of both, and tells the number of its module of this name, which
 /// may stand in either: the main one.
@@ -82,7 +42,7 @@ pub fn image_library_on(
             Refused::NoMemory => return Err(Refused::NoMemory),
         },
     };
-    holds_law(&library);
+    modules_law(&library);
     match library.find(main) {
         Some(Member::Module(place)) => Ok((library, place)),
         Some(Member::Refused) => unreachable!(),

@@ -5,9 +5,9 @@ use Rattle.mpy_tree.specs.declared.raw.RawCode.{RawCode, out-RawCode}
 use Rattle.mpy_tree.specs.Raw.{Module}
 use Rattle.bc_prelude.specs.declared.prelude.Prelude.{Prelude}
 use Rattle.bc_prelude.specs.Prelude.{Begins}
-use Rattle.bc_verify.specs.Path.{code_at}
+use Rattle.mpy_tree.specs.Codes.{code_at}
 use Rattle.bc_prelude.proofs.Preludes.{same_prelude}
-use Rattle.bc_verify.proofs.Trees.{children}
+use Rattle.mpy_tree.proofs.Codes.{children, and_then_some}
 use Rattle.std.proofs.lemmas.Option.{slice_get_within, slice_get-map}
 use Rattle.qstr_pool.specs.Pool.{Texts}
 use Rattle.bc_library.specs.declared.library.Loaded.{Loaded}
@@ -93,14 +93,10 @@ next_child root child n s e t f here a b =
     joined (HasBelow root n) (HasPrelude child) (HasBelow root (n + 1)) s e t f a b
     (below_parts root child n here) (below_more root n) (λ p h. within n child (omega arith) here h)
 
-down : {A B : Type 0} (o : Option A) (f : A → Option B) (y : B) → option_and_then f o ≡ Some y → (x : A) × (o ≡ Some x) × (f x ≡ Some y)
-down None f y e = absurd cc
-down (Some x) f y e = (x, refl, e)
-
 by_path : (root : RawCode) (n : ℕ) → length (children root) ≤ n → (path : List ℕ) (code : RawCode) (p : Prelude) → code_at path root ≡ Some code → Begins (out-RawCode code).bytes p → HasBelow root n p
 by_path root n le [] code p e b = let same : root ≡ code = cc in itself (subst (λ z. Begins (out-RawCode z).bytes p) (sym same) b)
 by_path root n le (k ∷ path) code p e b =
-    let s = down (slice_get (children root) k) (code_at path) code e in
+    let s = and_then_some (slice_get (children root) k) (code_at path) code e in
     let lt = slice_get_within (children root) k s.0 s.1 in
     within k s.0 (omega (arith, lt, le)) s.1 (record { path = path; code = code; is = s.2; begins = b })
 

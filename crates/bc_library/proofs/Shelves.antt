@@ -14,6 +14,7 @@ use Rattle.qstr_pool.specs.Pool.{Texts}
 use Rattle.qstr_pool.proofs.Places.{position-map, absent}
 use Rattle.bc_verify.specs.Verified.{IsVerified}
 use Rattle.mpy_tree.specs.declared.raw.Qstr.{Qstr}
+use Rattle.mpy_tree.specs.File.{IsModule}
 use Rattle.mpy_tree.specs.Raw as raw
 use Rattle.mpy_tree.specs.Raw.{Module}
 use Rattle.bc_library.specs.declared.fault.LibFault.{LibFault}
@@ -150,10 +151,11 @@ with_further modules refused pool longer name m k lib b room verified fresh = re
               parts = was.parts;
               title = title_kept pool (texts_of name m) longer l.name l.title b.pool_is was.title;
               fine = was.fine;
+              is_module = was.is_module;
               verified = was.verified;
             }
         | last f g ↦
-            let here : IsLoaded longer (length modules) (loaded_of k m) = record { title = subst (λ (t : List ℕ). IsTitle longer t k.title) (sym b.name_is) b.title; numbers = b.numbers; values = b.values; parts = b.parts; fine = b.fine; verified = verified } in
+            let here : IsLoaded longer (length modules) (loaded_of k m) = record { title = subst (λ (t : List ℕ). IsTitle longer t k.title) (sym b.name_is) b.title; numbers = b.numbers; values = b.values; parts = b.parts; fine = b.fine; is_module = b.is_module; verified = verified } in
             subst (λ n. IsLoaded longer n l) (sym f) (subst (IsLoaded longer (length modules)) g here)
       ];
   distinct = λ i j x y e f same.
@@ -238,16 +240,23 @@ seen_distinct modules refused pool shelf is lib i k a b e f same =
     let y = kept_by modules k b (ap (λ (ns : List Named). slice_get ns k) (sym all) ∙ f) in
     lib.distinct i k x.loaded y.loaded x.there y.there (ap (λ (n : Named). n.name) x.is ∙ (same ∙ sym (ap (λ (n : Named). n.name) y.is)))
 
-pub seen_verified : (modules : List Loaded) (refused : List (List ℕ)) (pool : Texts) (shelf : Shelf) → shelf_of modules refused pool ≡ shelf → IsLibrary modules refused pool
-    → (i : ℕ) (m : Module) → module_at shelf i ≡ Some m → IsVerified m
-seen_verified modules refused pool shelf is lib i m e = by (slice_get (map named modules) i) refl (ap (λ (s : Shelf). module_at s i) is ∙ e)
+-- a fact that is kept of each module holds of each that is seen
+seen_each : (P : Module → Type 0) (modules : List Loaded) (refused : List (List ℕ)) (pool : Texts) (shelf : Shelf) → shelf_of modules refused pool ≡ shelf → ((i : ℕ) (l : Loaded) → slice_get modules i ≡ Some l → P l.«module»)
+    → (i : ℕ) (m : Module) → module_at shelf i ≡ Some m → P m
+seen_each P modules refused pool shelf is each i m e = by (slice_get (map named modules) i) refl (ap (λ (s : Shelf). module_at s i) is ∙ e)
   where
-    by : (o : Option Named) → slice_get (map named modules) i ≡ o → option_and_then (λ (n : Named). Some n.held) o ≡ Some m → IsVerified m
+    by : (o : Option Named) → slice_get (map named modules) i ≡ o → option_and_then (λ (n : Named). Some n.held) o ≡ Some m → P m
     by None f g = absurd cc
     by (Some n) f g =
         let x = kept_by modules i n f in
         let same : x.loaded.«module» ≡ m = ap (λ (n : Named). n.held) x.is ∙ cc in
-        subst IsVerified same (lib.loaded i x.loaded x.there).verified
+        subst P same (each i x.loaded x.there)
+
+pub seen_files : (modules : List Loaded) (refused : List (List ℕ)) (pool : Texts) (shelf : Shelf) → shelf_of modules refused pool ≡ shelf → IsLibrary modules refused pool → (i : ℕ) (m : Module) → module_at shelf i ≡ Some m → IsModule m
+seen_files modules refused pool shelf is lib = seen_each IsModule modules refused pool shelf is (λ i l e. (lib.loaded i l e).is_module)
+
+pub seen_verified : (modules : List Loaded) (refused : List (List ℕ)) (pool : Texts) (shelf : Shelf) → shelf_of modules refused pool ≡ shelf → IsLibrary modules refused pool → (i : ℕ) (m : Module) → module_at shelf i ≡ Some m → IsVerified m
+seen_verified modules refused pool shelf is lib = seen_each IsVerified modules refused pool shelf is (λ i l e. (lib.loaded i l e).verified)
 
 -- titles
 -- ======

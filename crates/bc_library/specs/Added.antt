@@ -2,6 +2,7 @@
 use Rattle.std.specs.Prelude.{◌≡◌, ℕ, List}
 use Rattle.mpy_base.specs.declared.limits.TheConstants.{MAX_DEPTH}
 use Rattle.qstr_pool.specs.Pool.{Texts}
+use Rattle.mpy_tree.specs.File.{IsModule}
 use Rattle.mpy_tree.specs.Raw.{Module}
 use Rattle.bc_library.specs.declared.library.Brought.{Brought}
 use Rattle.bc_library.specs.Constants.{constants_of, values_from}
@@ -20,3 +21,4 @@ pub record IsBrought (pool : Texts) (i : ℕ) (name : List ℕ) (m : Module) (lo
   pub values : k.values ≡ values_from i 0 m.objects
   pub parts : k.parts.items ≡ parts_from i 0 (constants_of m)
   pub fine : Each (Fine MAX_DEPTH) m.objects
+  pub is_module : IsModule m

@@ -1,6 +1,7 @@
 -- What a library keeps of its modules.
 use Rattle.std.specs.Prelude.{◌≡◌, ℕ, ◌+◌, ◌≤◌, List, length, map, Some, slice_get}
 use Rattle.mpy_base.specs.declared.limits.TheConstants.{MAX_DEPTH, MAX_MODULES}
+use Rattle.mpy_tree.specs.File.{IsModule}
 use Rattle.qstr_pool.specs.Pool.{Texts}
 use Rattle.bc_library.specs.declared.library.Loaded.{Loaded}
 use Rattle.bc_library.specs.Constants.{constants_of, values_from}
@@ -20,6 +21,7 @@ pub record IsLoaded (pool : Texts) (i : ℕ) (l : Loaded) : Type 0 where
   pub values : l.values ≡ values_from i 0 l.«module».objects
   pub parts : l.parts.items ≡ parts_from i 0 (constants_of l.«module»)
   pub fine : Each (Fine MAX_DEPTH) l.«module».objects
+  pub is_module : IsModule l.«module»
   pub verified : IsVerified l.«module»
 
 -- what is kept of a library: its pool, each of its modules, and names that differ

@@ -2,6 +2,7 @@
 
 ghost use Rattle.std.specs.Prelude.{◌≡◌, ℕ, ◌+◌, ◌≤◌, List, length, Some, slice_get};
 ghost use Rattle.mpy_base.specs.declared.limits.TheConstants.{MAX_MODULES};
+ghost use Rattle.mpy_tree.specs.File.{IsModule};
 ghost use Rattle.mpy_tree.specs.Raw.{Module};
 ghost use Rattle.bc_verify.specs.Verified.{IsVerified};
 ghost use Rattle.bc_library.specs.Shelf.{Named, module_at};
@@ -21,10 +22,11 @@ pub fn library_law(lib: &Library)
     pool_law(&lib.pool);
 }
 
-/// What holds of the modules of every library: no two have one name, and each is verified.
+/// What holds of the modules of every library: no two have one name, each is one that a file may hold, and each is verified.
 pub fn modules_law(lib: &Library)
     ensures distinct { (i k : ℕ) (a b : Named) → slice_get lib.now.modules i ≡ Some a → slice_get lib.now.modules k ≡ Some b
         → a.name ≡ b.name → i ≡ k }
+    ensures files { (i : ℕ) (m : Module) → module_at lib.now i ≡ Some m → IsModule m }
     ensures verified { (i : ℕ) (m : Module) → module_at lib.now i ≡ Some m → IsVerified m }
 {
     let _ = &lib.modules;

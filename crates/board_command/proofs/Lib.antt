@@ -1,3 +1,2 @@
-mod Held
 pub mod Ending
 pub mod Meaning

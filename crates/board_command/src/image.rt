@@ -12,8 +12,7 @@ ghost use Rattle.board_meaning.specs.vm_programs.Programs.{IsRunnable};
 ghost use Rattle.command_files.specs.Opened.{failed_in};
 ghost use Rattle.board_command.specs.Images.{HoldsImage, RefusesImage, library_below};
 
-use crate::runnable::runnable_law;
-use bc_library::Library;
+use bc_library::{Library, modules_law};
 use command_files::{Ending, read_file};
 use frozen_programs::MainFault;
 use image_grammar::ImageFault;
@@ -63,7 +62,7 @@ pub(crate) fn image_library<F: Folder>(
     };
     match opened(alloc, below, &bytes) {
         Ok(library) => {
-            runnable_law(&library);
+            modules_law(&library);
             Ok(library)
         }
         Err(Refused::Fault(fault)) => Err(Ending::Unopened(MainFault::Image(fault))),

@@ -4,7 +4,6 @@
 mod image;
 mod laws;
 mod plan;
-mod runnable;
 mod running;
 
 pub use board_meaning::tasks_law;

@@ -34,3 +34,10 @@ pub returns-in-None-clause-only : goal.returns-in-None-clause-only
 returns-in-None-clause-only c = λ shelf place h.
     let none : None ≡ member_of c.in-Ok.library c.args.main.now = sym c.in-None.is ∙ c.find.ensures in
     absurd (lacking_only c.args.below c.args.bytes.now c.args.main.now c.in-Ok.library c.in-Ok.ensures.only none shelf place h)
+
+pub returns-in-Some-Module-clause-holds : goal.returns-in-Some-Module-clause-holds
+returns-in-Some-Module-clause-holds c = record {
+  distinct = c.modules_law.ensures.distinct;
+  are_modules = c.modules_law.ensures.files;
+  are_verified = c.modules_law.ensures.verified;
+}

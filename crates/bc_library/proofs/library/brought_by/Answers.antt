@@ -55,6 +55,7 @@ returns-clause-brought c =
       parts = subst (λ (os : List Constant). c.add_objects.new.parts.items ≡ parts_from c.args.number 0 (flat_map preorder os)) objects
           (subst (λ bs. c.add_objects.new.parts.items ≡ bs ++ parts_from c.args.number (length bs) (flat_map preorder c.objects.result.now)) none c.in_ok-values.ensures.parts);
       fine = fine_objects c.args.raw.now c.module_law.ensures;
+      is_module = c.module_law.ensures;
     }
 
 pub returns-clause-fits : goal.returns-clause-fits

@@ -1,6 +1,6 @@
 use Rattle.std.proofs.Common.{◌≡◌, ◌+◌, Some, sym, ap, subst, ◌∙◌, arith}
 use Rattle.std.specs.Prelude.{slice_get, max}
-use Rattle.bc_verify.proofs.Trees.{get_at}
+use Rattle.mpy_tree.proofs.Codes.{get_at}
 use Rattle.mpy_tree.specs.declared.raw.RawCode.{RawCode}
 use Rattle.mpy_tree.specs.Raw.{Module}
 use Rattle.bc_library.specs.Greatest.{IsGreatestIn, HasPrelude}
