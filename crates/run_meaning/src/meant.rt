@@ -4,7 +4,8 @@ ghost use Rattle.std.specs.Prelude.{◌≡◌, ℕ, List, Ok, Option, Some};
 ghost use Rattle.mpy_base.specs.declared.room.Room.{Room};
 ghost use Rattle.mpy_io.specs.Files.{FileOf};
 ghost use Rattle.mpy_io.specs.Ports.{PortView};
-ghost use Rattle.py_meaning.specs.Program.{Program, Units};
+ghost use Rattle.mpy_tree.specs.Raw.{Module};
+ghost use Rattle.py_meaning.specs.Program.{Program, Unit, Units};
 ghost use Rattle.file_commands.specs.Cross.{Crosses};
 ghost use Rattle.file_commands.specs.mpy_endings.declared.ending.Ending.TheVariants.{Done};
 ghost use Rattle.program_sources.specs.Sources.{IsProgramOfSources};
@@ -12,9 +13,10 @@ ghost use Rattle.run_commands.specs.Base.{base_of};
 ghost use Rattle.run_commands.specs.declared.ready.Ready.{Ready};
 ghost use Rattle.image_commands.specs.Freeze.{Freezes};
 ghost use Rattle.run_meaning.specs.GoMeant.{GoMeans, HoldsCrossed};
-ghost use Rattle.run_meaning.specs.Made.{HoldMade, MakesOfSource, MakesOfUnits};
+ghost use Rattle.run_meaning.specs.Made.{HoldsMade, HoldMade, MakesOfSource, MakesOfUnits};
 ghost use Rattle.run_meaning.specs.Meant.{HoldsBuilt, HoldsImage, HoldsProgram, RunMeans};
 ghost use Rattle.file_commands.specs.Merge.{Merges};
+ghost use Rattle.file_commands.specs.command_files.Opened.{HoldsModule};
 ghost use Rattle.file_commands.specs.command_files.Outside.{Outside};
 ghost use Rattle.run_commands.specs.Ready.{GoLibrary, RunLibrary};
 ghost use Rattle.run_commands.specs.Run.{EndsRun};
@@ -77,7 +79,8 @@ pub fn image_holds_law()
 }
 
 /// What `cross` writes is made of the source that it compiles, what `merge` writes of the units that its files are made of, and what
-/// `freeze` writes is the image of the manifest's sources.
+/// `freeze` writes is the image of the manifest's sources. A file that `cross` and `merge` made is one of a verified module, so that no
+/// command refuses it.
 pub fn makes_law()
     ensures cross { (level : ℕ) (files : FileOf) (name stored written : List ℕ) (new : Option FileOf)
         → Crosses level name stored written (Some files) new Done → MakesOfSource level files name stored written new }
@@ -85,6 +88,9 @@ pub fn makes_law()
         → HoldMade files names units → Merges names written (Some files) new place Done → MakesOfUnits units written new }
     ensures freeze { (manifest written : List ℕ) (files : FileOf) (new : Option FileOf) → Freezes manifest written (Some files) new Done
         → (now : FileOf) × (new ≡ Some now) × HoldsImage files now manifest written }
+    ensures verified { (files : FileOf) (name : List ℕ) (unit : Unit) → HoldsMade files name unit
+        → (m : Module) × HoldsModule (Some files) name m }
 {
     crossed_law();
+    built_files::made_law();
 }

@@ -10,3 +10,8 @@ returns-clause-merge c = of_units
 
 pub returns-clause-freeze : goal.returns-clause-freeze
 returns-clause-freeze c = made_image
+
+pub returns-clause-verified : goal.returns-clause-verified
+returns-clause-verified c files name unit made =
+    let file = c.made_law.ensures.file unit made.bytes made.built in
+    (file.0, record { bytes = made.bytes; holds = made.there; file = file.1; verified = c.made_law.ensures.verified unit made.bytes file.0 made.built file.1 })
