@@ -98,7 +98,15 @@ op_action ops.RaiseLast n = Raise 0
 op_action ops.RaiseObj n = Raise 1
 op_action ops.LoadFast n = straight 0 [] 1 []
 op_action ops.StoreFast n = straight 1 [] 0 []
-op_action _ n = none
+op_action ops.Jump n = none
+op_action ops.PopJumpIfTrue n = none
+op_action ops.PopJumpIfFalse n = none
+op_action ops.JumpIfTrueOrPop n = none
+op_action ops.JumpIfFalseOrPop n = none
+op_action ops.SetupExcept n = none
+op_action ops.SetupFinally n = none
+op_action ops.PopExceptJump n = none
+op_action ops.ForIter n = none
 
 -- a value on top of an iterator that stays, or a jump without it
 abbrev pub next_item : ℕ → Action

@@ -21,53 +21,85 @@ iterator_if false = []
 unfoldable pub takes : Action → List Want
 takes (Straight wants given) = wants
 takes (Branch wants given there to) = wants
+takes (Jump to) = []
+takes (Setup handler is_finally) = []
+takes (PopExcept to) = []
 takes EndFinally = wants.Cause ∷ []
 takes (Unwind to count takes_it) = iterator_if takes_it
 takes Return = wants.Value ∷ []
 takes (Raise count) = values_on count []
-takes _ = []
 
 -- what is given where the flow goes on to the next instruction
 unfoldable pub gives : Action → List Give
 gives (Straight wants given) = given
 gives (Branch wants given there to) = given
-gives _ = []
+gives (Jump to) = []
+gives (Setup handler is_finally) = []
+gives (PopExcept to) = []
+gives EndFinally = []
+gives (Unwind to count takes_it) = []
+gives Return = []
+gives (Raise count) = []
 
 -- what is given where the flow jumps
 unfoldable pub gives_there : Action → List Give
+gives_there (Straight wants given) = []
 gives_there (Branch wants given there to) = there
-gives_there _ = []
+gives_there (Jump to) = []
+gives_there (Setup handler is_finally) = []
+gives_there (PopExcept to) = []
+gives_there EndFinally = []
+gives_there (Unwind to count takes_it) = []
+gives_there Return = []
+gives_there (Raise count) = []
 
 -- does the flow go on to the next instruction?
 unfoldable pub falls : Action → Bool
+falls (Straight wants given) = true
+falls (Branch wants given there to) = true
 falls (Jump to) = false
+falls (Setup handler is_finally) = true
 falls (PopExcept to) = false
+falls EndFinally = true
 falls (Unwind to count takes_it) = false
 falls Return = false
 falls (Raise count) = false
-falls _ = true
 
 -- the position where the flow jumps, if it does
 unfoldable pub target : Action → Option ℕ
+target (Straight wants given) = None
 target (Branch wants given there to) = Some to
 target (Jump to) = Some to
+target (Setup handler is_finally) = None
 target (PopExcept to) = Some to
+target EndFinally = None
 target (Unwind to count takes_it) = Some to
-target _ = None
+target Return = None
+target (Raise count) = None
 
 -- what it does with the entries
 unfoldable pub change : Action → Change
+change (Straight wants given) = Keep
+change (Branch wants given there to) = Keep
+change (Jump to) = Keep
 change (Setup handler is_finally) = Push handler is_finally
 change (PopExcept to) = DropExcept
 change EndFinally = DropActive
 change (Unwind to count takes_it) = Leave count
-change _ = Keep
+change Return = Keep
+change (Raise count) = Keep
 
 -- how many of `n` entries it leaves, from the top: it runs the finallys among these
 unfoldable pub runs : Action → ℕ → ℕ
-runs Return n = n
+runs (Straight wants given) n = 0
+runs (Branch wants given there to) n = 0
+runs (Jump to) n = 0
+runs (Setup handler is_finally) n = 0
+runs (PopExcept to) n = 0
+runs EndFinally n = 0
 runs (Unwind to count takes_it) n = count
-runs _ n = 0
+runs Return n = n
+runs (Raise count) n = 0
 
 -- all but the top entry
 abbrev pub rest_of : List Entry → List Entry
@@ -107,8 +139,11 @@ asks (Leave k) es = nat_le k (length es)
 
 -- the height of the top entry that remains: the entries that are left are gone
 abbrev pub floor_of : Change → List Entry → ℕ
+floor_of Keep es = floor es
+floor_of (Push h last) es = floor es
+floor_of DropExcept es = floor es
+floor_of DropActive es = floor es
 floor_of (Leave k) es = floor (drop k es)
-floor_of _ es = floor es
 
 -- how many of `n` slots remain once the `k` topmost entries are left, each with a cut to its height
 abbrev pub lowest : ℕ → List Entry → ℕ → ℕ
@@ -118,14 +153,19 @@ lowest (suc k) (e ∷ es) n = lowest k es (min e.height n)
 
 -- how many of `n` slots it works on, from below
 abbrev pub left : Change → List Entry → ℕ → ℕ
+left Keep es n = n
+left (Push h last) es n = n
+left DropExcept es n = n
+left DropActive es n = n
 left (Leave k) es n = lowest k es n
-left _ es n = n
 
 -- where an entry is dropped, its height is what is left
 abbrev pub leaves : Change → List Entry → ℕ → Bool
+leaves Keep es n = true
+leaves (Push h last) es n = true
 leaves DropExcept es n = nat_eq n (floor es)
 leaves DropActive es n = nat_eq n (floor es)
-leaves _ es n = true
+leaves (Leave k) es n = true
 
 -- where the slots of an edge come from: the next instruction's, the jump's, or those of a handler, by its entry's height and
 -- whether it is a finally's

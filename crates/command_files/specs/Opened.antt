@@ -23,10 +23,20 @@ pub record IsUnverifiedFile (bytes : List ℕ) (fault : VerifyFault) : Type 0 wh
 -- what reading and verifying bytes gives: the module, or what keeps it from being verified
 abbrev pub Opens : List ℕ → Result Module Ending → Type 0
 Opens bytes (Ok m) = IsFile bytes m × IsVerified m
+Opens bytes (Err Done) = ⊥
+Opens bytes (Err (Unaccepted fault)) = ⊥
 Opens bytes (Err (Unread fault)) = FirstFault bytes fault
 Opens bytes (Err (Unverified fault)) = IsUnverifiedFile bytes fault
+Opens bytes (Err (Unmerged fault)) = ⊥
+Opens bytes (Err (Unopened fault)) = ⊥
+Opens bytes (Err (Unfrozen fault)) = ⊥
+Opens bytes (Err (Unboarded fault)) = ⊥
+Opens bytes (Err (Stopped stop)) = ⊥
+Opens bytes (Err ReadFault) = ⊥
+Opens bytes (Err WriteFault) = ⊥
+Opens bytes (Err Unwritten) = ⊥
 Opens bytes (Err NoMemory) = Unit {0}
-Opens bytes (Err _) = ⊥
+Opens bytes (Err Absent) = ⊥
 
 -- the file under the name is one of this verified module
 pub record HoldsModule (files : Option FileOf) (name : List ℕ) (m : Module) : Type 0 where

@@ -1,13 +1,13 @@
 -- What checking a file by its name does.
-use Rattle.std.specs.Prelude.{◌≡◌, ℕ, ◌++◌, ◌^◌, ◌-◌, min, List, Option, Some, None, codes, decimal, Result, Ok, Err}
+use Rattle.std.specs.Prelude.{◌≡◌, ℕ, ◌++◌, ◌^◌, ◌-◌, min, List, length, Option, Some, None, codes, decimal, Result, Ok, Err}
 use Rattle.std.specs.Io.KnownBytes.{Appends, Keeps}
-use Rattle.mpy_base.specs.declared.limits.TheConstants.{MAX_DEPTH}
 use Rattle.mpy_io.specs.Files.{FileOf}
 use Rattle.mpy_io.specs.Told.{AppendsFront}
 use Rattle.mpy_tree.specs.Raw.{Module}
+use Rattle.mpy_tree.specs.Codes.{codes_of}
 use Rattle.mpy_tree.specs.File.{IsFile}
 use Rattle.mpy_reader.specs.Reading.{FirstFault}
-use Rattle.bc_verify.specs.Verified.{IsVerified, codes_in}
+use Rattle.bc_verify.specs.Verified.{IsVerified}
 use Rattle.command_files.specs.mpy_endings.declared.ending.Ending.{Ending}
 use Rattle.command_files.specs.mpy_endings.declared.ending.Ending.TheVariants.{Done, Unaccepted, Unread, Unverified, Unmerged, Unopened, Unfrozen, Unboarded, Stopped, ReadFault, WriteFault, Unwritten, NoMemory, Absent}
 use Rattle.command_files.specs.Folder.{MayHold}
@@ -15,7 +15,7 @@ use Rattle.command_files.specs.Opened.{IsUnverifiedFile}
 
 -- how many codes a module has, where they are fewer than 2^64
 abbrev pub count_of : Module → ℕ
-count_of m = min (codes_in MAX_DEPTH m.code) (2 ^ 64 - 1)
+count_of m = min (length (codes_of m)) (2 ^ 64 - 1)
 
 -- the bytes are a file of a verified module with `count` codes
 pub record IsVerifiedFile (bytes : List ℕ) (count : ℕ) : Type 0 where
@@ -27,10 +27,20 @@ pub record IsVerifiedFile (bytes : List ℕ) (count : ℕ) : Type 0 where
 -- What reading and verifying bytes gives: how many codes there are, or what keeps them from being verified.
 abbrev pub Judges : List ℕ → Result ℕ Ending → Type 0
 Judges bytes (Ok count) = IsVerifiedFile bytes count
+Judges bytes (Err Done) = ⊥
+Judges bytes (Err (Unaccepted fault)) = ⊥
 Judges bytes (Err (Unread fault)) = FirstFault bytes fault
 Judges bytes (Err (Unverified fault)) = IsUnverifiedFile bytes fault
+Judges bytes (Err (Unmerged fault)) = ⊥
+Judges bytes (Err (Unopened fault)) = ⊥
+Judges bytes (Err (Unfrozen fault)) = ⊥
+Judges bytes (Err (Unboarded fault)) = ⊥
+Judges bytes (Err (Stopped stop)) = ⊥
+Judges bytes (Err ReadFault) = ⊥
+Judges bytes (Err WriteFault) = ⊥
+Judges bytes (Err Unwritten) = ⊥
 Judges bytes (Err NoMemory) = Unit {0}
-Judges bytes (Err _) = ⊥
+Judges bytes (Err Absent) = ⊥
 
 -- the line of a verified file
 abbrev pub verified_line : ℕ → List ℕ
