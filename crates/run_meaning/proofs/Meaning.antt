@@ -22,7 +22,7 @@ use Rattle.mpy_headline.specs.Meant.{RanAsMeant, CutShortAsMeant, EndsAsMeant}
 use Rattle.built_files.specs.Built.{IsBuilt, IsBuiltProgram}
 use Rattle.file_commands.specs.mpy_endings.declared.ending.Ending.{Ending}
 use Rattle.file_commands.specs.mpy_endings.declared.ending.Ending.TheVariants.{Done, Unaccepted, Unread, Unverified, Unmerged, Unopened, Unfrozen, Unboarded, Stopped, ReadFault, WriteFault, Unwritten, NoMemory, Absent}
-use Rattle.frozen_programs.specs.image_runs.declared.fault.MainFault.TheVariants as mains
+use Rattle.file_commands.specs.command_files.image_runs.declared.fault.MainFault.TheVariants as mains
 use Rattle.file_commands.specs.mpy_endings.declared.ending.Stop.TheVariants as stops
 use Rattle.run_commands.specs.Base.{base_of}
 use Rattle.file_commands.specs.mpy_endings.Ending.{status_of}
