@@ -1,5 +1,5 @@
 -- Commands over the library of a base, or over one of no entries where no base is ordered.
-use Rattle.std.specs.Prelude.{◌≡◌, ◌⊎◌, ℕ, List, [], Option, Some, None, IsSome, slice_index_or}
+use Rattle.std.specs.Prelude.{◌≡◌, ◌⊎◌, ℕ, List, [], Option, Some, None, slice_index_or}
 use Rattle.bc_library.specs.Shelf.{Shelf, no_entries}
 use Rattle.image_base.specs.Base.{IsOpened}
 use Rattle.run_meaning.specs.command_files.Over.{EndsAtBase, WentOver}
@@ -15,10 +15,11 @@ abbrev pub library_below : Option Shelf → Shelf
 library_below None = no_entries
 library_below (Some below) = below
 
--- only where a base is ordered there is its library, on which images may lie
-abbrev pub MayLieBelow : (base : Option ℕ) → Option Shelf → Type 0
-MayLieBelow base None = Unit {0}
-MayLieBelow base (Some below) = IsSome base × IsOpened below
+-- there is the library of a base, on which images may lie, only where a base is ordered
+abbrev pub MayLieBelow : Option Shelf → (base : Option ℕ) → Type 0
+MayLieBelow None base = Unit {0}
+MayLieBelow (Some below) None = ⊥
+MayLieBelow (Some below) (Some at) = IsOpened below
 
 module _ (call : Call) where
   -- the base of this name isn't opened, and nothing was done but to say so

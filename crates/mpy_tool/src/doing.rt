@@ -36,7 +36,7 @@ fn freeze_below<F: Folder>(
     written: &str,
     folder: &mut F,
 ) -> Ending
-    requires { MayLieBelow base below }
+    requires { MayLieBelow below base }
     ensures went { Freezes (spec.image_version base) (library_below below) manifest.now written.now (F.files folder.old) (F.files folder.new) result }
     ensures folder_counts { Counts (F.count folder.old) (F.count folder.new) (is_folder_fault result) }
     ensures prints_nothing { is_out_fault result ≡ false }
@@ -115,7 +115,7 @@ fn ran<F: Folder, S: Sink>(
 ) -> Ended
     requires level { order.level ≤ 3 }
     requires no_run { calls_ports order.command ≡ false }
-    requires below { MayLieBelow order.base below }
+    requires below { MayLieBelow below order.base }
     ensures went { DoesBy order (texts words.now) (library_below below) order.command
         (F.files folder.old) (F.files folder.new) (S.told out.old) (S.told out.new) result.place result.ending }
     ensures folder_counts { Counts (F.count folder.old) (F.count folder.new) (is_folder_fault result.ending) }
@@ -148,7 +148,7 @@ fn done<F: Folder, S: Sink>(
 ) -> Ended
     requires level { order.level ≤ 3 }
     requires no_run { calls_ports order.command ≡ false }
-    requires below { MayLieBelow order.base below }
+    requires below { MayLieBelow below order.base }
     ensures went { DoesBy order (texts words.now) (library_below below) order.command
         (F.files folder.old) (F.files folder.new) (S.told out.old) (S.told out.new) result.place result.ending }
     ensures flushed { result.ending ≡ Done → S.held out.new ≡ [] }
@@ -182,7 +182,7 @@ pub(crate) fn do_order<F: Folder, S: Sink, P: Port, E: Sink>(
 ) -> u8
     requires level { order.level ≤ 3 }
     requires no_run { calls_ports order.command ≡ false }
-    requires below { MayLieBelow order.base below }
+    requires below { MayLieBelow below order.base }
     ensures ended { let call = call_of F.Folder S.Sink P.Port E.Sink words.now outside.old outside.new result in
         Finishes order call (library_below below) order.command }
     ensures ports { outside.new.ports ≡ outside.old.ports }

@@ -57,7 +57,7 @@ fn library_of<F: Folder>(
 ) -> Result<Ready, Ending>
     requires level { order.level ≤ 3 }
     requires runs { runs_library order.command ≡ true }
-    requires below { MayLieBelow order.base below }
+    requires below { MayLieBelow below order.base }
     ensures comes { let given = texts words.now in
         LibraryBy order given (library_below below) order.command (F.files folder.old) (first_name given) result }
     ensures there { IfOk result (λ ready. (m : Module) × IsMainAt ready.main ready.place m ready.library) }
@@ -92,7 +92,7 @@ pub(crate) fn run_order<F: Folder, S: Sink, P: Port, E: Sink>(
 ) -> u8
     requires level { order.level ≤ 3 }
     requires runs { runs_library order.command ≡ true }
-    requires below { MayLieBelow order.base below }
+    requires below { MayLieBelow below order.base }
     ensures ended { let call = call_of F.Folder S.Sink P.Port E.Sink words.now outside.old outside.new result in
         RunsBy order call (library_below below) order.command }
     ensures flushed { result ≡ 0 → S.held outside.new.out ≡ [] }

@@ -7,7 +7,11 @@ use Rattle.mpy_endings.specs.Ending.{is_folder_fault}
 use Rattle.mpy_tool.specs.Below.{image_version, library_below}
 use Rattle.mpy_tool.specs.Order.{ChangesBy}
 use Rattle.mpy_tool.proofs.Alone.{freeze_did, board_did, freeze_changed}
+use Rattle.mpy_tool.proofs.Under.{is_opened}
 use Rattle.mpy_tool.proofs.doing.ran.Goals as goal
+
+pub board_below-requires : goal.board_below-requires
+board_below-requires g c = is_opened c.args.below c.args.order.base c.requires.below
 
 pub returns-in-Freeze-clause-went : goal.returns-in-Freeze-clause-went
 returns-in-Freeze-clause-went g c =

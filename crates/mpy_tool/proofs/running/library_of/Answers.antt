@@ -4,7 +4,11 @@ use Rattle.mpy_words.specs.Words.{first_name, main_name}
 use Rattle.run_commands.specs.Ready.{GoLibrary, RunLibrary}
 use Rattle.mpy_tool.specs.Below.{library_below}
 use Rattle.mpy_tool.specs.Doing.{LibraryBy}
+use Rattle.mpy_tool.proofs.Under.{is_opened}
 use Rattle.mpy_tool.proofs.running.library_of.Goals as goal
+
+pub ready_below-requires : goal.ready_below-requires
+ready_below-requires g c = is_opened c.args.below c.args.order.base c.requires.below
 
 pub returns-in-Go-clause-comes : goal.returns-in-Go-clause-comes
 returns-in-Go-clause-comes g c =
