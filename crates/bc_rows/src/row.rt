@@ -5,12 +5,12 @@ ghost use Rattle.mpy_base.specs.Vuint.{Spells};
 ghost use Rattle.mpy_base.specs.declared.limits.TheConstants.{MAX_CODE_BYTES};
 ghost use Rattle.bc_library.specs.Shelf.{entry_at, table_text};
 ghost use Rattle.bc_library.specs.Texts.{text_numbered};
-ghost use Rattle.bc_flow.specs.Code as flow;
+ghost use Rattle.bc_library.specs.bc_flow.Code as flow;
 ghost use Rattle.bc_rows.specs.Made.{AreIndexes, IsOwnCodeIn};
 ghost use Rattle.bc_rows.specs.Rows.{IsRowOf};
 
 use bc_library::Library;
-use bc_ops::{Instr, Item, Op, items_of};
+use bc_machine::bc_ops::{Instr, Item, Op, items_of};
 use bc_prelude::parts_of;
 use mpy_base::{Items, NoMemory, read_vuint};
 use std::alloc::Global;
@@ -80,7 +80,7 @@ fn texts_of(
 }
 
 /// One more than the local that the instruction names, or 0.
-#[tactic(auto, unfolding(bc_flow::specs::Code::item_locals))]
+#[tactic(auto, unfolding(bc_library::specs::bc_flow::Code::item_locals))]
 fn local_of(item: Item) -> usize
     ensures { result ≡ flow.item_locals item }
 {

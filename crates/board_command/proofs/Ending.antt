@@ -4,9 +4,9 @@ use Rattle.std.specs.Io.KnownBytes.{Keeps}
 use Rattle.std.proofs.KnownBytes.{Appends-kept}
 use Rattle.mpy_base.specs.declared.limits.TheConstants.{MAX_TASKS}
 use Rattle.mpy_io.specs.Files.{FileOf}
-use Rattle.bc_library.specs.Shelf.{Shelf}
+use Rattle.image_open.specs.bc_library.Shelf.{Shelf}
 use Rattle.board_meaning.specs.vm_states.Means.{Program}
-use Rattle.board_meaning.specs.vm_programs.Programs.{IsProgramOf}
+use Rattle.board_meaning.specs.vm_starting.Programs.{IsProgramOf}
 use Rattle.board_plan.specs.declared.plan.Plan.{Plan}
 use Rattle.board_meaning.specs.board_tasks.Opened.{first_missing}
 use Rattle.board_meaning.specs.board_files.declared.stop.BoardStop.{BoardStop}

@@ -2,9 +2,9 @@
 use Rattle.std.specs.Prelude.{◌≡◌, ◌⊎◌, ℕ, ◌<◌, List, length, Option, Some, None}
 use Rattle.mpy_io.specs.Files.{FileOf}
 use Rattle.std.specs.Io.KnownBytes.{Keeps}
-use Rattle.bc_library.specs.Shelf.{Shelf}
+use Rattle.image_open.specs.bc_library.Shelf.{Shelf}
 use Rattle.board_meaning.specs.vm_states.Means.{Program}
-use Rattle.board_meaning.specs.vm_programs.Programs.{IsProgramOf, IsRunnable}
+use Rattle.board_meaning.specs.vm_starting.Programs.{IsProgramOf, IsRunnable}
 use Rattle.board_plan.specs.declared.plan.Plan.{Plan}
 use Rattle.board_meaning.specs.board_tasks.Opened.{first_missing}
 use Rattle.board_meaning.specs.board_files.Files.{KeepsOthers}

@@ -3,8 +3,8 @@
 ghost use Rattle.std.specs.Prelude.{◌≡◌, ◌<◌, ◌≤◌, ℕ, List, [], Err, None, Some, IfOk, OnOk, length};
 ghost use Rattle.mpy_base.specs.declared.limits.TheConstants.{MAX_TASKS};
 ghost use Rattle.mpy_io.specs.Count.{Counts};
-ghost use Rattle.board_tasks.specs.vm_states.Means.{Program};
-ghost use Rattle.board_tasks.specs.vm_programs.Programs.{IsProgramOf, IsRunnable};
+ghost use Rattle.vm_starting.specs.vm_states.Means.{Program};
+ghost use Rattle.vm_starting.specs.Programs.{IsProgramOf, IsRunnable};
 ghost use Rattle.board_tasks.specs.Opened.{AreOpened, first_missing};
 ghost use Rattle.board_tasks.specs.Turns.{AreRuns};
 ghost use Rattle.board_files.specs.Files.{KeepsOthers, StopsWithin, is_folder_fault, is_out_fault, is_unwritten};
@@ -15,13 +15,13 @@ use crate::files::begin_files;
 use crate::stop::{BoardStop, OutputStop, SummaryStop};
 use crate::summary::summarize;
 use crate::turns::make_turns;
-use bc_library::Library;
-use bc_rows::Rows;
 use board_plan::{Plan, Task};
 use board_tasks::{Board, BoardFault, stands_law};
 use mpy_base::{NoMemory, Refused};
 use mpy_io::{Folder, Sink};
 use std::alloc::Global;
+use vm_starting::bc_library::Library;
+use vm_starting::bc_rows::Rows;
 
 /// The board of a plan's tasks.
 fn open_board(

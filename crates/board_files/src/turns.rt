@@ -3,8 +3,8 @@
 ghost use Rattle.std.specs.Prelude.{◌≡◌, ◌+◌, ◌<◌, ◌≤◌, ◌^◌, ℕ, All, OnOk, length};
 ghost use Rattle.mpy_base.specs.declared.limits.TheConstants.{MAX_TASKS};
 ghost use Rattle.mpy_io.specs.Count.{Counts};
-ghost use Rattle.board_tasks.specs.vm_states.Means.{Program};
-ghost use Rattle.board_tasks.specs.vm_programs.Programs.{IsProgramOf};
+ghost use Rattle.vm_starting.specs.vm_states.Means.{Program};
+ghost use Rattle.vm_starting.specs.Programs.{IsProgramOf};
 ghost use Rattle.board_plan.specs.Plans.{all_steps};
 ghost use Rattle.board_tasks.specs.Turns.{AreRuns};
 ghost use Rattle.board_files.specs.Files.{KeepsOthers, StopsWithin, is_unwritten};
@@ -12,12 +12,12 @@ ghost use Rattle.board_files.specs.Runs.{Goes, GoesBy, PaidWithin};
 
 use crate::files::append_output;
 use crate::stop::OutputStop;
-use bc_library::Library;
-use bc_rows::Rows;
 use board_plan::Turn;
 use board_tasks::{Board, TurnEnd, stands_law};
 use mpy_io::{Folder, MemSink};
 use std::alloc::Global;
+use vm_starting::bc_library::Library;
+use vm_starting::bc_rows::Rows;
 
 /// The steps that a task makes before its output goes to its file.
 const PART_STEPS: u64 = 1_000_000;

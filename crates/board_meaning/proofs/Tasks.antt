@@ -4,13 +4,13 @@ use Rattle.std.specs.Prelude.{slice_get}
 use Rattle.std.proofs.lemmas.Option.{slice_get_within}
 use Rattle.mpy_base.specs.World.{PortState}
 use Rattle.mpy_io.specs.Files.{FileOf}
-use Rattle.bc_library.specs.Shelf.{Shelf}
+use Rattle.board_files.specs.bc_library.Shelf.{Shelf}
 use Rattle.py_meaning.specs.Program.{Program}
 use Rattle.bc_machine.specs.Machine.{run}
-use Rattle.program_runs.specs.vm_states.Means as machine
-use Rattle.program_runs.specs.vm_programs.Programs.{IsProgramOf}
-use Rattle.program_runs.specs.Runs.{MeansRun}
-use Rattle.program_runs.specs.Units.{AreUnits}
+use Rattle.board_files.specs.vm_states.Means as machine
+use Rattle.meant_runs.specs.vm_starting.Programs.{IsProgramOf}
+use Rattle.meant_runs.specs.Runs.{MeansRun}
+use Rattle.meant_runs.specs.Units.{AreUnits}
 use Rattle.board_plan.specs.declared.plan.Plan.{Plan}
 use Rattle.board_plan.specs.declared.plan.Task.{Task}
 use Rattle.board_files.specs.board_tasks.Schedules.{total}

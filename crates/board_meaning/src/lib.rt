@@ -3,6 +3,6 @@
 
 mod laws;
 
-pub use board_files::{BoardStop, run_board};
+pub use board_files;
 pub use laws::tasks_law;
-pub use program_runs::program_law;
+pub use meant_runs::vm_starting;

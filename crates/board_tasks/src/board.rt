@@ -4,8 +4,8 @@ ghost use Rattle.std.specs.Prelude.{◌≡◌, ℕ, ◌<◌, ◌≤◌, List, If
 ghost use Rattle.mpy_base.specs.declared.limits.TheConstants.{MAX_TASKS};
 ghost use Rattle.mpy_base.specs.declared.refused.Refused.TheVariants as refused;
 ghost use Rattle.mpy_io.specs.Count.{Counts};
-ghost use Rattle.bc_library.specs.Shelf.{Shelf};
-ghost use Rattle.vm_machine.specs.vm_programs.Programs.{IsRunnable};
+ghost use Rattle.vm_machine.specs.bc_library.Shelf.{Shelf};
+ghost use Rattle.vm_machine.specs.vm_starting.Programs.{IsRunnable};
 ghost use Rattle.board_tasks.specs.declared.turning.TaskRun.{TaskRun};
 ghost use Rattle.board_tasks.specs.Opened.{AreOpened, first_missing};
 ghost use Rattle.board_tasks.specs.Ends.{HasEnd, IsRoomOf, is_write_fault};
@@ -14,14 +14,14 @@ ghost use Rattle.board_tasks.specs.Turns.{AreRuns, IsCountable, TurnsOne};
 use crate::ending::{TaskEnd, TurnEnd};
 use crate::opening::{BoardFault, first_missing, open_tasks};
 use crate::turning::TaskRun;
-use bc_library::Library;
-use bc_rows::Rows;
 use board_plan::Task;
 use mpy_base::limits::MAX_TASKS;
 use mpy_base::{Refused, Room, Text};
 use mpy_io::Sink;
 use std::alloc::Global;
 use std::marker::Model;
+use vm_machine::bc_library::Library;
+use vm_machine::bc_rows::Rows;
 
 /// The runs of tasks on one library, each with an arena, frames and modules of its own and without ports. All its memory is taken
 /// where it is opened.

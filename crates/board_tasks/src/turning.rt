@@ -2,21 +2,22 @@
 
 ghost use Rattle.std.specs.Prelude.{◌≡◌, ◌+◌, ◌<◌, ◌≤◌, ◌^◌, MatchBool};
 ghost use Rattle.mpy_io.specs.Count.{Counts};
-ghost use Rattle.bc_library.specs.Shelf.{Shelf};
+ghost use Rattle.vm_machine.specs.bc_library.Shelf.{Shelf};
 ghost use Rattle.vm_machine.specs.Machine.{IsVm};
 ghost use Rattle.board_tasks.specs.Ends.{GoesOn, HasEnd, IsOver, is_write_fault};
 ghost use Rattle.board_tasks.specs.Turns.{TurnsSo};
 
 use crate::ending::{TaskEnd, TurnEnd};
-use arena_objects::exc_parts;
-use bc_library::Library;
-use bc_machine::{prefix_law, runs_law};
-use bc_outputs::output_law;
-use bc_rows::Rows;
+use arena_heap::exc_parts;
 use mpy_io::{Failed, ScriptPort, Sink};
 use port_set::PortSet;
 use std::alloc::Global;
-use vm_machine::{End, Vm, run};
+use vm_frames::bc_machine::{output_law, prefix_law, runs_law};
+use vm_machine::bc_library::Library;
+use vm_machine::bc_rows::Rows;
+use vm_machine::frame_exits::End;
+use vm_machine::run;
+use vm_machine::vm_starting::Vm;
 
 /// The run of a task.
 #[derive(Drop)]

@@ -4,7 +4,7 @@ use Rattle.std.proofs.lemmas.Bool.{ltb-true}
 use Rattle.std.proofs.lemmas.List.Elements.{All-map}
 use Rattle.mpy_base.specs.declared.source.SourceFault.{SourceFault}
 use Rattle.mpy_io.specs.Files.{FileOf}
-use Rattle.mpy_tree.specs.File.{IsAscii}
+use Rattle.mpy_writer.specs.mpy_tree.File.{IsAscii}
 use Rattle.command_files.specs.mpy_compile.Compiled.{CompilesTo}
 use Rattle.command_files.specs.mpy_compile.Compiled as made
 use Rattle.command_files.specs.mpy_endings.declared.ending.Ending.{Ending}

@@ -1,4 +1,3 @@
-pub use Rattle.command_files.proofs as command_files_lemmas
 pub mod Checked
 pub mod Crossed
 pub mod Merged

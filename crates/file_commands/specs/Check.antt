@@ -3,9 +3,9 @@ use Rattle.std.specs.Prelude.{◌≡◌, ℕ, ◌++◌, ◌^◌, ◌-◌, min, L
 use Rattle.std.specs.Io.KnownBytes.{Appends, Keeps}
 use Rattle.mpy_io.specs.Files.{FileOf}
 use Rattle.mpy_io.specs.Told.{AppendsFront}
-use Rattle.mpy_tree.specs.Raw.{Module}
-use Rattle.mpy_tree.specs.Codes.{codes_of}
-use Rattle.mpy_tree.specs.File.{IsFile}
+use Rattle.mpy_writer.specs.mpy_tree.Raw.{Module}
+use Rattle.mpy_writer.specs.mpy_tree.Codes.{codes_of}
+use Rattle.mpy_writer.specs.mpy_tree.File.{IsFile}
 use Rattle.mpy_reader.specs.Reading.{FirstFault}
 use Rattle.bc_verify.specs.Verified.{IsVerified}
 use Rattle.command_files.specs.mpy_endings.declared.ending.Ending.{Ending}

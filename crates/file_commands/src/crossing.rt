@@ -9,7 +9,9 @@ ghost use Rattle.file_commands.specs.Cross.{Crosses};
 ghost use Rattle.command_files.specs.mpy_endings.declared.ending.Ending.{Ending};
 ghost use Rattle.command_files.specs.mpy_endings.Ending.{IsSettled, is_folder_fault, is_out_fault};
 
-use command_files::{Ending, compile, compile_law, stored_name};
+use command_files::mpy_compile::{compile, compile_law};
+use command_files::mpy_endings::Ending;
+use command_files::source_files::stored_name;
 use mpy_base::{NoMemory, Refused, SourceFault};
 use mpy_io::{Failed, Folder, ReadFault};
 use std::alloc::Global;

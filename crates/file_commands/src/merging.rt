@@ -6,9 +6,11 @@ ghost use Rattle.command_files.specs.mpy_endings.Ending.{is_folder_fault, is_out
 ghost use Rattle.file_commands.specs.Merge.{HoldModules, IsFirstRefused, Merges};
 
 use bc_verify::Verified;
-use command_files::{Ended, Ending, merge, opened};
+use command_files::mpy_endings::{Ended, Ending};
+use command_files::opened;
 use mpy_base::Refused;
 use mpy_io::{Failed, Folder};
+use mpy_merge::merge;
 use std::alloc::Global;
 
 /// The verified modules of the files of these names, or the first that isn't one of such.

@@ -6,21 +6,21 @@ use Rattle.std.proofs.lemmas.List.Elements.{All-nil, All-cons, All-head, All-tai
 use Rattle.mpy_base.specs.declared.refused.Refused.{Refused}
 use Rattle.mpy_base.specs.declared.refused.Refused.TheVariants as refused
 use Rattle.mpy_io.specs.Files.{FileOf}
-use Rattle.mpy_tree.specs.File.{IsAscii}
-use Rattle.bc_verify.specs.Verified.{IsVerified}
+use Rattle.image_open.specs.mpy_tree.File.{IsAscii}
+use Rattle.image_open.specs.bc_verify.Verified.{IsVerified}
 use Rattle.manifest_lines.specs.declared.entry.Entry.{Entry}
 use Rattle.manifest_files.specs.declared.fault.ManifestFault.{ManifestFault}
 use Rattle.manifest_files.specs.Answers.{is_read_fault}
 use Rattle.manifest_files.specs.Entries.{IsFault}
 use Rattle.manifest_files.specs.Plain.{IsPlain}
-use Rattle.bc_library.specs.Shelf.{Shelf}
-use Rattle.image_base.specs.Base.{base_of}
+use Rattle.image_open.specs.bc_library.Shelf.{Shelf}
+use Rattle.manifest_files.specs.image_grammar.Base.{base_of}
 use Rattle.image_open.specs.Opens.{Opens, with_entries}
 use Rattle.image_freeze.specs.declared.named.Named.{Named}
 use Rattle.image_freeze.specs.Fronts.{front_of}
 use Rattle.image_freeze.specs.Frozen.{entries_of, image_bytes}
-use Rattle.frozen_faults.specs.declared.fault.SourcesFault.{SourcesFault}
-use Rattle.frozen_faults.specs.Faults.{FaultIs, of_manifest}
+use Rattle.manifest_files.specs.declared.frozen_fault.SourcesFault.{SourcesFault}
+use Rattle.manifest_files.specs.FrozenFaults.{FaultIs, of_manifest}
 use Rattle.frozen_files.specs.Frozen.{HoldsFrozen}
 use Rattle.frozen_files.specs.Sources.{MayList, RefusesManifest, HoldsSource, HoldsSources, RefusesEntry, IsFirstRefused, RefusesSource, RefusesSources}
 use Rattle.frozen_files.proofs.Lists.{zip_push, take_next, parts_at, take_all}

@@ -3,16 +3,16 @@ use Rattle.std.specs.Prelude.{◌≡◌, ℕ, List, Option, Result, Ok, Err, Vec
 use Rattle.std.specs.declared.alloc.Global.{Global}
 use Rattle.mpy_base.specs.declared.refused.Refused.{Refused}
 use Rattle.mpy_io.specs.Files.{FileOf}
-use Rattle.bc_library.specs.Shelf.{Shelf}
-use Rattle.image_grammar.specs.declared.fault.ImageFault.{ImageFault}
-use Rattle.image_base.specs.Base.{base_of}
+use Rattle.image_open.specs.bc_library.Shelf.{Shelf}
+use Rattle.manifest_files.specs.image_grammar.declared.fault.ImageFault.{ImageFault}
+use Rattle.manifest_files.specs.image_grammar.Base.{base_of}
 use Rattle.image_open.specs.Opens.{Opens, with_entries}
 use Rattle.image_freeze.specs.declared.named.Named.{Named}
 use Rattle.image_freeze.specs.Fronts.{front_of}
 use Rattle.image_freeze.specs.Frozen.{FreezeFault, entries_of, image_bytes}
-use Rattle.frozen_faults.specs.declared.fault.FrozenFault.{FrozenFault}
-use Rattle.frozen_faults.specs.declared.fault.FrozenFault.TheVariants.{Sources, Image}
-use Rattle.frozen_faults.specs.Faults.{FaultIs}
+use Rattle.manifest_files.specs.declared.frozen_fault.FrozenFault.{FrozenFault}
+use Rattle.manifest_files.specs.declared.frozen_fault.FrozenFault.TheVariants.{Sources, Image}
+use Rattle.manifest_files.specs.FrozenFaults.{FaultIs}
 use Rattle.frozen_files.specs.Sources.{HoldsSources, RefusesSources}
 
 -- in this version, over the library below

@@ -1,7 +1,8 @@
 pub use Rattle.image_freeze.specs as image_freeze
 pub use Rattle.source_files.specs as source_files
+pub use Rattle.source_files.specs.emit_module
+pub use Rattle.source_files.specs.library_files
 pub use Rattle.source_files.specs.mpy_compile
-pub use Rattle.frozen_faults.specs.Faults
 pub mod Sources
 pub mod Frozen
 pub mod Given

@@ -2,15 +2,15 @@
 
 ghost use Rattle.std.specs.Prelude.{◌≡◌, []};
 ghost use Rattle.mpy_io.specs.Count.{Counts};
-ghost use Rattle.image_base.specs.Base.{base_of};
+ghost use Rattle.manifest_files.specs.image_grammar.Base.{base_of};
 ghost use Rattle.image_freeze.specs.Fronts.{MayLieOver};
-ghost use Rattle.frozen_faults.specs.Faults.{failed_by, is_read_failure};
+ghost use Rattle.manifest_files.specs.FrozenFaults.{failed_by, is_read_failure};
 ghost use Rattle.frozen_files.specs.Frozen.{Freezes};
 
 use crate::sources::read_sources;
-use bc_library::Library;
-use frozen_faults::FrozenFault;
 use image_freeze::freeze;
+use image_open::bc_library::Library;
+use manifest_files::FrozenFault;
 use mpy_base::Refused;
 use mpy_io::Folder;
 use std::alloc::Global;

@@ -1,7 +1,7 @@
 -- What writing an image does to other files.
 use Rattle.std.proofs.Common.{List, ℕ, Option}
 use Rattle.mpy_io.specs.Files.{FileOf}
-use Rattle.bc_library.specs.Shelf.{Shelf}
+use Rattle.image_grammar.specs.bc_library.Shelf.{Shelf}
 use Rattle.command_files.specs.mpy_endings.declared.ending.Ending.{Ending}
 use Rattle.command_files.specs.mpy_endings.declared.ending.Ending.TheVariants.{Done, Unaccepted, Unread, Unverified, Unmerged, Unopened, Unfrozen, Unboarded, Stopped, ReadFault, WriteFault, Unwritten, NoMemory, Absent}
 use Rattle.command_files.specs.Folder.{ChangesOnly}

@@ -8,14 +8,14 @@ use Rattle.image_grammar.specs.declared.fault.ImageFault.{ImageFault}
 use Rattle.image_grammar.specs.declared.fault.ImageFault.TheVariants.{BadHeader, Truncated, BadNumber, BadModule, Twice, Trailing, TooBig, BadBase}
 use Rattle.image_grammar.specs.Image.{Differ}
 use Rattle.image_grammar.specs.Opening.{FirstFault, names_of, nothing_below}
-use Rattle.image_migrate.specs.image_freeze.Frozen.{FreezeFault, IsTooBig, IsTwice, second_front}
-use Rattle.image_migrate.specs.declared.fault.MigrateFault.{MigrateFault}
-use Rattle.image_migrate.specs.declared.fault.MigrateFault.TheVariants.{Opening, Freezing}
-use Rattle.image_migrate.specs.Migrated.{IsImageOf}
+use Rattle.frozen_files.specs.image_freeze.Frozen.{FreezeFault, IsTooBig, IsTwice, second_front}
+use Rattle.frozen_files.specs.image_freeze.declared.fault.MigrateFault.{MigrateFault}
+use Rattle.frozen_files.specs.image_freeze.declared.fault.MigrateFault.TheVariants.{Opening, Freezing}
+use Rattle.frozen_files.specs.image_freeze.Migrated.{IsImageOf}
 use Rattle.command_files.specs.mpy_endings.declared.ending.Ending.{Ending}
 use Rattle.command_files.specs.mpy_endings.declared.ending.Ending.TheVariants.{Done, Unaccepted, Unread, Unverified, Unmerged, Unopened, Unfrozen, Unboarded, Stopped, ReadFault, WriteFault, Unwritten, NoMemory, Absent}
 use Rattle.command_files.specs.image_runs.declared.fault.MainFault.TheVariants as mains
-use Rattle.frozen_faults.specs.declared.fault.FrozenFault.TheVariants as frozen
+use Rattle.manifest_files.specs.declared.frozen_fault.FrozenFault.TheVariants as frozen
 use Rattle.command_files.specs.Folder.{ChangesOnly, MayHold}
 use Rattle.command_files.proofs.Others.{same_only, became_only, front_only}
 use Rattle.image_commands.specs.Migrate.{Migrates, refused_end}

@@ -1,4 +1,3 @@
-pub use Rattle.command_files.specs as command_files
-pub use Rattle.frozen_files.specs as frozen_files
+pub use Rattle.image_grammar.specs as image_grammar
 pub mod Freeze
 pub mod Migrate

@@ -3,16 +3,16 @@ use Rattle.std.specs.Prelude.{◌≡◌, ℕ, List, Option, Some, None}
 use Rattle.mpy_base.specs.declared.refused.Refused.{Refused}
 use Rattle.mpy_base.specs.declared.refused.Refused.TheVariants as refusals
 use Rattle.mpy_io.specs.Files.{FileOf, Becomes, BecomesFront}
-use Rattle.bc_library.specs.Shelf.{no_entries}
+use Rattle.image_grammar.specs.bc_library.Shelf.{no_entries}
 use Rattle.image_grammar.specs.declared.entry.Entry.{Entry}
 use Rattle.image_grammar.specs.declared.fault.ImageFault.TheVariants.{TooBig}
 use Rattle.image_grammar.specs.Opening.{nothing_below}
-use Rattle.image_migrate.specs.image_freeze.Frozen.{IsTooBig, second_front}
-use Rattle.image_migrate.specs.declared.fault.MigrateFault.{MigrateFault}
-use Rattle.image_migrate.specs.declared.fault.MigrateFault.TheVariants.{Opening, Freezing}
-use Rattle.image_migrate.specs.Migrated.{IsImageOf, Migrates as MigratesTo}
+use Rattle.frozen_files.specs.image_freeze.Frozen.{IsTooBig, second_front}
+use Rattle.frozen_files.specs.image_freeze.declared.fault.MigrateFault.{MigrateFault}
+use Rattle.frozen_files.specs.image_freeze.declared.fault.MigrateFault.TheVariants.{Opening, Freezing}
+use Rattle.frozen_files.specs.image_freeze.Migrated.{IsImageOf, Migrates as MigratesTo}
 use Rattle.command_files.specs.image_runs.declared.fault.MainFault.TheVariants as mains
-use Rattle.frozen_faults.specs.declared.fault.FrozenFault.TheVariants as frozen
+use Rattle.manifest_files.specs.declared.frozen_fault.FrozenFault.TheVariants as frozen
 use Rattle.command_files.specs.mpy_endings.declared.ending.Ending.{Ending}
 use Rattle.command_files.specs.mpy_endings.declared.ending.Ending.TheVariants.{Done, Unaccepted, Unread, Unverified, Unmerged, Unopened, Unfrozen, Unboarded, Stopped, ReadFault, WriteFault, Unwritten, NoMemory, Absent}
 use Rattle.command_files.specs.Folder.{MayHold, IsNotRead}

@@ -3,13 +3,13 @@
 ghost use Rattle.std.specs.Prelude.{◌≡◌, [], false};
 ghost use Rattle.mpy_io.specs.Count.{Counts};
 ghost use Rattle.command_files.specs.mpy_endings.Ending.{is_folder_fault, is_out_fault};
-ghost use Rattle.image_base.specs.Base.{base_of};
+ghost use Rattle.image_grammar.specs.Base.{base_of};
 ghost use Rattle.frozen_files.specs.image_freeze.Fronts.{MayLieOver};
 ghost use Rattle.image_commands.specs.Freeze.{Freezes};
 
-use bc_library::Library;
-use command_files::Ending;
+use command_files::mpy_endings::Ending;
 use frozen_files::freeze_files;
+use image_grammar::bc_library::Library;
 use mpy_base::Refused;
 use mpy_io::{Failed, Folder};
 use std::alloc::Global;

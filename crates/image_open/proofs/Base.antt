@@ -4,16 +4,16 @@ use Rattle.std.specs.List.{AllByRecursion, flat_map}
 use Rattle.std.proofs.lemmas.Grind.{flat_map-append}
 use Rattle.std.proofs.lemmas.List.Elements.{All-append, All-from_recursion}
 use Rattle.mpy_base.specs.declared.limits.TheConstants.{MAX_IMAGE_BYTES, MAX_TABLE}
-use Rattle.mpy_tree.specs.File.{Many}
+use Rattle.image_grammar.specs.mpy_tree.File.{Many}
 use Rattle.qstr_pool.specs.declared.table.TheConstants.{FIRST_OWN}
 use Rattle.qstr_pool.specs.Pool.{Texts}
-use Rattle.bc_library.specs.Shelf.{Named, Shelf, no_entries}
-use Rattle.bc_library.specs.Texts.{texts_of, with_texts}
-use Rattle.bc_library.proofs.Pools.{same_first, with_append}
+use Rattle.image_grammar.specs.bc_library.Shelf.{Named, Shelf, no_entries}
+use Rattle.image_grammar.specs.bc_library.Texts.{texts_of, with_texts}
+use Rattle.image_grammar.proofs.bc_library_lemmas.Pools.{same_first, with_append}
 use Rattle.image_grammar.specs.declared.entry.Entry.{Entry}
 use Rattle.image_grammar.specs.Image.{IsImage, IsOwnText, texts_used}
 use Rattle.image_grammar.specs.Opening.{pool_below}
-use Rattle.image_base.specs.Base.{IsOpened, base_of}
+use Rattle.image_grammar.specs.Base.{IsOpened, base_of}
 use Rattle.image_open.specs.Opens.{named, Opens, with_entries}
 
 -- the texts that modules bring

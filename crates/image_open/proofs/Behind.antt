@@ -7,14 +7,14 @@ use Rattle.std.proofs.lemmas.List.{append-nil, length-map, map-append, take_more
 use Rattle.std.proofs.lemmas.List.Elements.{All-append, All-push}
 use Rattle.std.proofs.lemmas.Option.{slice_get_within, get_or_from_slice_get}
 use Rattle.mpy_base.specs.declared.limits.TheConstants.{MAX_MODULES, MAX_TABLE}
-use Rattle.mpy_tree.specs.Raw.{Module}
+use Rattle.image_grammar.specs.mpy_tree.Raw.{Module}
 use Rattle.qstr_pool.specs.Pool.{Texts}
-use Rattle.bc_library.specs.Shelf.{Named, Shelf, module_at, names, no_entries}
-use Rattle.bc_library.specs.Texts.{IsPlain, texts_of, with_texts}
+use Rattle.image_grammar.specs.bc_library.Shelf.{Named, Shelf, module_at, names, no_entries}
+use Rattle.image_grammar.specs.bc_library.Texts.{IsPlain, texts_of, with_texts}
 use Rattle.image_grammar.specs.declared.entry.Entry.{Entry}
 use Rattle.image_grammar.specs.Image.{Differ, texts_used}
 use Rattle.image_grammar.specs.Opening.{names_of}
-use Rattle.image_base.specs.Base.{IsOpened}
+use Rattle.image_grammar.specs.Base.{IsOpened}
 use Rattle.image_open.specs.Opens.{named, shelf_of, with_entries}
 use Rattle.image_open.proofs.Base.{texts_in, used_is, with_more}
 

@@ -1,6 +1,11 @@
+pub use Rattle.image_grammar.proofs as image_grammar_lemmas
+pub use Rattle.image_grammar.proofs.bc_library_lemmas
+pub use Rattle.image_grammar.proofs.mpy_reader_lemmas
+pub use Rattle.qstr_pool.proofs as qstr_pool_lemmas
 pub mod Base
 pub mod Behind
 pub mod Below
+pub mod Copies
 pub mod Found
 pub mod Named
 pub mod Opened

@@ -4,14 +4,14 @@ use Rattle.std.specs.Prelude.{All, IsTrue}
 use Rattle.std.proofs.lemmas.List.{length-map}
 use Rattle.mpy_base.specs.declared.limits.TheConstants.{MAX_MODULES, MAX_TABLE}
 use Rattle.qstr_pool.specs.Pool.{Texts, all_differ}
-use Rattle.bc_verify.specs.Verified.{IsVerified}
-use Rattle.bc_library.specs.Own.{IsOwnPool}
-use Rattle.bc_library.specs.Shelf.{Named, Shelf, names}
-use Rattle.bc_library.specs.Texts.{IsPlain, with_texts}
+use Rattle.image_grammar.specs.bc_verify.Verified.{IsVerified}
+use Rattle.image_grammar.specs.bc_library.Own.{IsOwnPool}
+use Rattle.image_grammar.specs.bc_library.Shelf.{Named, Shelf, names}
+use Rattle.image_grammar.specs.bc_library.Texts.{IsPlain, with_texts}
 use Rattle.image_grammar.specs.declared.entry.Entry.{Entry}
 use Rattle.image_grammar.specs.Image.{Differ, IsImage, texts_used}
 use Rattle.image_grammar.specs.Opening.{image, names_of, pool_below}
-use Rattle.image_base.specs.Base.{IsOpened, base_of}
+use Rattle.image_grammar.specs.Base.{IsOpened, base_of}
 use Rattle.image_open.specs.Opens.{with_entries}
 use Rattle.image_open.proofs.Uses.{IsProper}
 use Rattle.image_open.proofs.Whole.{image_found}

@@ -5,14 +5,14 @@ use Rattle.mpy_base.specs.declared.limits.TheConstants.{MAX_MODULES}
 use Rattle.mpy_base.specs.declared.refused.Refused.{Refused}
 use Rattle.mpy_base.specs.declared.refused.Refused.TheVariants as refusals
 use Rattle.qstr_pool.specs.Pool.{all_differ}
-use Rattle.bc_library.specs.Own.{IsOwnPool}
-use Rattle.bc_library.specs.Shelf.{Shelf}
+use Rattle.image_grammar.specs.bc_library.Own.{IsOwnPool}
+use Rattle.image_grammar.specs.bc_library.Shelf.{Shelf}
 use Rattle.image_grammar.specs.declared.entry.Entry.{Entry}
 use Rattle.image_grammar.specs.declared.fault.ImageFault.{ImageFault}
 use Rattle.image_grammar.specs.Opening.{image, pool_below}
 use Rattle.image_grammar.specs.Steps.{Fails}
 use Rattle.image_grammar.proofs.Inversion.{done, ok_is}
-use Rattle.image_base.specs.Base.{IsOpened, base_of}
+use Rattle.image_grammar.specs.Base.{IsOpened, base_of}
 use Rattle.image_open.specs.Opens.{Opens, with_entries, Ended, opened, faulty, starved}
 use Rattle.image_open.proofs.Single.{image_single}
 use Rattle.image_open.proofs.Written.{image_read}

@@ -3,12 +3,12 @@ use Rattle.std.proofs.Common.{◌≡◌, ℕ, ◌+◌, ◌≤◌, List, [], ◌�
 use Rattle.std.proofs.lemmas.List.{length-map}
 use Rattle.mpy_base.specs.declared.limits.TheConstants.{MAX_MODULES, MAX_TABLE}
 use Rattle.qstr_pool.specs.Pool.{Texts}
-use Rattle.bc_library.specs.Shelf.{Named, Shelf, names, no_entries}
-use Rattle.bc_library.specs.Texts.{with_texts}
+use Rattle.image_grammar.specs.bc_library.Shelf.{Named, Shelf, names, no_entries}
+use Rattle.image_grammar.specs.bc_library.Texts.{with_texts}
 use Rattle.image_grammar.specs.Image.{texts_used}
 use Rattle.image_grammar.specs.Opening.{pool_below}
 use Rattle.image_grammar.proofs.Inversion.{ok_is}
-use Rattle.image_base.specs.Base.{base_of}
+use Rattle.image_grammar.specs.Base.{base_of}
 use Rattle.image_open.specs.Opens.{IsOpenedOf, Opens, named, with_entries}
 use Rattle.image_open.proofs.Base.{pool_is}
 use Rattle.image_open.proofs.Single.{image_single}

@@ -2,14 +2,14 @@
 use Rattle.std.specs.Prelude.{◌≡◌, ℕ, List, [], ◌∷◌, ◌++◌, map, All, Result, Ok, Err}
 use Rattle.mpy_base.specs.declared.refused.Refused.{Refused}
 use Rattle.mpy_base.specs.declared.refused.Refused.TheVariants as refusals
-use Rattle.bc_verify.specs.Verified.{IsVerified}
-use Rattle.bc_library.specs.Shelf.{Named, Shelf, no_entries}
-use Rattle.bc_library.specs.Texts.{with_texts}
+use Rattle.image_grammar.specs.bc_verify.Verified.{IsVerified}
+use Rattle.image_grammar.specs.bc_library.Shelf.{Named, Shelf, no_entries}
+use Rattle.image_grammar.specs.bc_library.Texts.{with_texts}
 use Rattle.image_grammar.specs.declared.entry.Entry.{Entry}
 use Rattle.image_grammar.specs.declared.fault.ImageFault.{ImageFault}
 use Rattle.image_grammar.specs.Image.{IsImage, texts_used}
 use Rattle.image_grammar.specs.Opening.{image}
-use Rattle.image_base.specs.Base.{base_of}
+use Rattle.image_grammar.specs.Base.{base_of}
 
 -- a module of an image with its name
 abbrev pub named : Entry → Named

@@ -2,19 +2,18 @@
 
 ghost use Rattle.std.specs.Prelude.{◌≡◌, ◌+◌, ◌≤◌, ◌++◌, length, map, All, IfOk, OnOk};
 ghost use Rattle.mpy_base.specs.declared.limits.TheConstants.{MAX_MODULES, MAX_TABLE};
-ghost use Rattle.bc_library.specs.Shelf.{names};
-ghost use Rattle.bc_library.specs.Texts.{IsPlain};
-ghost use Rattle.image_base.specs.Base.{IsOpened};
+ghost use Rattle.image_grammar.specs.bc_library.Shelf.{names};
+ghost use Rattle.image_grammar.specs.bc_library.Texts.{IsPlain};
+ghost use Rattle.image_grammar.specs.Base.{IsOpened};
 ghost use Rattle.image_grammar.specs.Image.{Differ};
 ghost use Rattle.image_grammar.specs.Opening.{names_of};
 ghost use Rattle.image_open.specs.Opens.{named, with_entries};
 
+use crate::modules::copy_module;
 use crate::shelving::shelve;
-use bc_library::{Library, library_law, modules_law};
-use bc_verify::{Verified, verified_law, verify};
-use image_base::name_of;
-use image_grammar::Entry;
-use module_copies::copy_module;
+use image_grammar::bc_library::{Library, library_law, modules_law};
+use image_grammar::bc_verify::{Verified, verified_law, verify};
+use image_grammar::{Entry, name_of};
 use mpy_base::limits::MAX_MODULES;
 use mpy_base::{Items, NoMemory, Refused, Text};
 use std::alloc::Global;

@@ -1,10 +1,10 @@
 //! What is read of an image, its grammar, and the library that it is opened as.
 
 ghost use Rattle.std.specs.Prelude.{◌≡◌, ◌≤◌, All, List, Some, ℕ, Ok, length};
-ghost use Rattle.bc_library.specs.Shelf.{Shelf, no_entries};
-ghost use Rattle.bc_library.specs.Texts.{text_numbered};
-ghost use Rattle.bc_verify.specs.Verified.{IsVerified};
-ghost use Rattle.image_base.specs.Base.{IsOpened, base_of};
+ghost use Rattle.image_grammar.specs.bc_library.Shelf.{Shelf, no_entries};
+ghost use Rattle.image_grammar.specs.bc_library.Texts.{text_numbered};
+ghost use Rattle.image_grammar.specs.bc_verify.Verified.{IsVerified};
+ghost use Rattle.image_grammar.specs.Base.{IsOpened, base_of};
 ghost use Rattle.image_grammar.specs.declared.entry.Entry.{Entry};
 ghost use Rattle.image_grammar.specs.declared.fault.ImageFault.{ImageFault};
 ghost use Rattle.image_grammar.specs.Image.{IsImage};

@@ -2,17 +2,17 @@
 
 ghost use Rattle.std.specs.Prelude.{◌≡◌, ◌⊎◌, IfOk, IsTrue, Ok, Err};
 ghost use Rattle.qstr_pool.specs.Pool.{all_differ};
-ghost use Rattle.bc_library.specs.Own.{IsOwnPool};
-ghost use Rattle.bc_library.specs.Shelf.{Shelf};
+ghost use Rattle.image_grammar.specs.bc_library.Own.{IsOwnPool};
+ghost use Rattle.image_grammar.specs.bc_library.Shelf.{Shelf};
 ghost use Rattle.image_grammar.specs.declared.fault.ImageFault.{ImageFault};
 ghost use Rattle.image_grammar.specs.Opening.{FirstFault, pool_below};
-ghost use Rattle.image_base.specs.Base.{IsOpened, base_of};
+ghost use Rattle.image_grammar.specs.Base.{IsOpened, base_of};
 ghost use Rattle.image_open.specs.Opens.{Ended, Opens};
 
 use crate::copies::together;
 use crate::image::read_image;
-use bc_library::{Library, library_law};
 use image_grammar::ImageFault;
+use image_grammar::bc_library::{Library, library_law};
 use mpy_base::Refused;
 use std::alloc::Global;
 

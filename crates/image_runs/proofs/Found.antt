@@ -8,13 +8,13 @@ use Rattle.std.proofs.lemmas.Option.{slice_get-get_or, slice_get-map}
 use Rattle.std.proofs.lemmas.Slice.Eq.{bytes_eq-Decides}
 use Rattle.mpy_base.specs.declared.refused.Refused.{Refused}
 use Rattle.mpy_base.specs.declared.refused.Refused.TheVariants as refused
-use Rattle.mpy_tree.specs.Raw.{Module}
-use Rattle.bc_library.specs.declared.fault.Member.{Member}
-use Rattle.bc_library.specs.declared.fault.Member.TheVariants as members
-use Rattle.bc_library.specs.Shelf.{Named, Shelf, member_by, member_of, names}
-use Rattle.image_base.specs.Base.{IsOpened, base_of}
-use Rattle.image_grammar.specs.declared.fault.ImageFault.{ImageFault}
-use Rattle.image_grammar.specs.Opening.{FirstFault}
+use Rattle.image_open.specs.mpy_tree.Raw.{Module}
+use Rattle.image_open.specs.bc_library.declared.fault.Member.{Member}
+use Rattle.image_open.specs.bc_library.declared.fault.Member.TheVariants as members
+use Rattle.image_open.specs.bc_library.Shelf.{Named, Shelf, member_by, member_of, names}
+use Rattle.image_open.specs.image_grammar.Base.{IsOpened, base_of}
+use Rattle.image_open.specs.image_grammar.declared.fault.ImageFault.{ImageFault}
+use Rattle.image_open.specs.image_grammar.Opening.{FirstFault}
 use Rattle.image_open.specs.Opens.{Opens}
 use Rattle.image_runs.specs.declared.fault.MainFault.{MainFault}
 use Rattle.image_runs.specs.declared.fault.MainFault.TheVariants.{Image, NoMain}

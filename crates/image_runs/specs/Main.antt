@@ -2,11 +2,11 @@
 use Rattle.std.specs.Prelude.{◌≡◌, ℕ, List, Some, None, slice_get}
 use Rattle.mpy_base.specs.declared.refused.Refused.{Refused}
 use Rattle.mpy_base.specs.declared.refused.Refused.TheVariants as refused
-use Rattle.mpy_tree.specs.Raw.{Module}
-use Rattle.bc_library.specs.declared.fault.Member.TheVariants as members
-use Rattle.bc_library.specs.Shelf.{Shelf, member_of}
-use Rattle.image_grammar.specs.Opening.{FirstFault}
-use Rattle.image_base.specs.Base.{base_of}
+use Rattle.image_open.specs.mpy_tree.Raw.{Module}
+use Rattle.image_open.specs.bc_library.declared.fault.Member.TheVariants as members
+use Rattle.image_open.specs.bc_library.Shelf.{Shelf, member_of}
+use Rattle.image_open.specs.image_grammar.Opening.{FirstFault}
+use Rattle.image_open.specs.image_grammar.Base.{base_of}
 use Rattle.image_open.specs.Opens.{Opens}
 use Rattle.image_runs.specs.declared.fault.MainFault.{MainFault}
 use Rattle.image_runs.specs.declared.fault.MainFault.TheVariants.{Image, NoMain}

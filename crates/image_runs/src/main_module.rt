@@ -1,15 +1,15 @@
 //! Opening an image for a run.
 
 ghost use Rattle.std.specs.Prelude.{◌≡◌, ◌⊎◌, ℕ, None, Ok, Err, IfOk, IfErr, Some};
-ghost use Rattle.mpy_tree.specs.Raw.{Module};
-ghost use Rattle.bc_library.specs.Shelf.{Shelf, member_of};
+ghost use Rattle.image_open.specs.mpy_tree.Raw.{Module};
+ghost use Rattle.image_open.specs.bc_library.Shelf.{Shelf, member_of};
 ghost use Rattle.library_files.specs.Ends.{HoldsModules};
-ghost use Rattle.image_base.specs.Base.{IsOpened};
+ghost use Rattle.image_open.specs.image_grammar.Base.{IsOpened};
 ghost use Rattle.image_runs.specs.declared.fault.MainFault.{MainFault as Fault};
 ghost use Rattle.image_runs.specs.Main.{FaultIs, HoldsMain, IsMainAt, RefusesMain};
 
 use crate::fault::MainFault;
-use bc_library::{Library, Member, modules_law};
+use image_open::bc_library::{Library, Member, modules_law};
 use image_open::open_image;
 use mpy_base::{NoMemory, Refused, Text};
 use std::alloc::Global;

@@ -5,8 +5,8 @@ use Rattle.std.proofs.lemmas.List.{reverse-reverse}
 use Rattle.mpy_base.specs.declared.refused.Refused.{Refused}
 use Rattle.mpy_base.specs.declared.refused.Refused.TheVariants as refused
 use Rattle.mpy_io.specs.Files.{FileOf}
-use Rattle.mpy_tree.specs.File.{IsModule}
-use Rattle.mpy_tree.specs.Raw.{Module}
+use Rattle.mpy_reader.specs.mpy_tree.File.{IsModule}
+use Rattle.mpy_reader.specs.mpy_tree.Raw.{Module}
 use Rattle.bc_library.specs.Shelf.{Named, Shelf, no_entries, with_module, module_at}
 use Rattle.library_files.specs.declared.entry.Entry.TheVariants as entries
 use Rattle.library_files.specs.declared.limit.Limit.{Limit}

@@ -6,8 +6,8 @@ use Rattle.mpy_base.specs.declared.limits.TheConstants.{MAX_MODULES}
 use Rattle.mpy_base.specs.declared.refused.Refused.{Refused}
 use Rattle.mpy_base.specs.declared.refused.Refused.TheVariants.{Fault, NoMemory}
 use Rattle.mpy_io.specs.Files.{FileOf}
-use Rattle.mpy_tree.specs.File.{IsModule}
-use Rattle.mpy_tree.specs.Raw.{Module}
+use Rattle.mpy_reader.specs.mpy_tree.File.{IsModule}
+use Rattle.mpy_reader.specs.mpy_tree.Raw.{Module}
 use Rattle.pkg_paths.specs.Plain.{IsPlain}
 use Rattle.qstr_pool.specs.Pool.{Texts, interned}
 use Rattle.bc_library.specs.declared.fault.LibFault.{LibFault}

@@ -1,5 +1,6 @@
+pub use Rattle.vm_frames.specs.bc_machine
+pub use Rattle.vm_machine.specs.bc_library
+pub use Rattle.vm_machine.specs.vm_starting
 pub use Rattle.vm_machine.specs.vm_states
-pub use Rattle.vm_machine.specs.vm_programs
-pub use Rattle.vm_reports.specs as vm_reports
 pub mod Runs
 pub mod Reports

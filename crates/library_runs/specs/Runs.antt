@@ -9,16 +9,16 @@ use Rattle.mpy_io.specs.Ports.{PortView}
 use Rattle.mpy_io.specs.Told.{AppendsFront}
 use Rattle.port_set.specs.Calls.{Tell}
 use Rattle.port_set.specs.Counts.{RoseBeyond}
-use Rattle.bc_library.specs.Shelf.{Shelf}
-use Rattle.py_effects.specs.Ends as plain
-use Rattle.py_effects.specs.Ends.{End, Run, end_report, new_world}
+use Rattle.vm_machine.specs.bc_library.Shelf.{Shelf}
+use Rattle.vm_frames.specs.py_effects.Ends as plain
+use Rattle.vm_frames.specs.py_effects.Ends.{End, Run, end_report, new_world}
 use Rattle.py_values.specs.Shown.{PlainHeap}
-use Rattle.bc_machine.specs.Library.{Name}
-use Rattle.bc_machine.specs.Machine.{run, start}
-use Rattle.bc_outputs.specs.Behind.{behind}
-use Rattle.vm_reports.specs.Rooms.{room_line}
+use Rattle.vm_frames.specs.bc_machine.Library.{Name}
+use Rattle.vm_frames.specs.bc_machine.Machine.{run, start}
+use Rattle.vm_frames.specs.bc_machine.Behind.{behind}
+use Rattle.prim_outputs.specs.Rooms.{room_line}
 use Rattle.vm_machine.specs.vm_states.Means.{Program}
-use Rattle.vm_machine.specs.vm_programs.Programs.{IsProgramOf}
+use Rattle.vm_machine.specs.vm_starting.Programs.{IsProgramOf}
 use Rattle.vm_machine.specs.vm_starting.declared.opening.Vm.{Vm}
 use Rattle.vm_machine.specs.Machine.{machine_of}
 use Rattle.vm_machine.specs.Running.{Outside, Strays}

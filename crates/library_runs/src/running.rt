@@ -3,21 +3,22 @@
 ghost use Rattle.std.specs.Prelude.{◌≡◌, ◌<◌, [], List, ℕ, false, length, map, Some, slice_get};
 ghost use Rattle.mpy_io.specs.Count.{Counts};
 ghost use Rattle.port_set.specs.Counts.{CountsKeep};
-ghost use Rattle.bc_library.specs.Shelf.{Named};
-ghost use Rattle.vm_machine.specs.vm_programs.Programs.{IsRunnable};
+ghost use Rattle.vm_machine.specs.bc_library.Shelf.{Named};
+ghost use Rattle.vm_machine.specs.vm_starting.Programs.{IsRunnable};
 ghost use Rattle.library_runs.specs.declared.ending.RunEnd.{RunEnd as End};
 ghost use Rattle.library_runs.specs.Runs.{RunsAs, Says, IsOver, is_write_fault, sight, speaks};
 
 use crate::ending::RunEnd;
 use crate::reporting::say_end;
-use bc_library::Library;
-use bc_outputs::{output_law, put_law};
-use bc_rows::Rows;
 use mpy_base::{NoMemory, Room};
 use mpy_io::{Failed, Port, Sink};
 use port_set::PortSet;
 use std::alloc::Global;
-use vm_machine::{Cache, open, program_law, run_kept};
+use vm_frames::bc_machine::{output_law, put_law};
+use vm_machine::bc_library::Library;
+use vm_machine::bc_rows::Rows;
+use vm_machine::vm_starting::{Cache, program_law};
+use vm_machine::{open, run_kept};
 
 /// Runs the library's module of this number as the main one, in an arena of this room, for these steps at most. What was printed
 /// is handed on before anything is said.

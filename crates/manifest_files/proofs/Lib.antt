@@ -1,6 +1,6 @@
-pub mod Said
+mod Examples
 pub mod Goes
 pub mod Names
-pub mod Tells
 mod Plain
-mod Examples
+pub mod Said
+pub mod Tells

@@ -5,9 +5,10 @@ mod adding;
 mod collecting;
 mod fault;
 mod following;
+mod frozen_fault;
 mod inner;
 mod reading;
 
 pub use collecting::{collect, entries_law};
 pub use fault::ManifestFault;
-pub use manifest_lines::Entry;
+pub use frozen_fault::{FrozenFault, SourcesFault, of_manifest};

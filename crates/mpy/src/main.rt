@@ -6,8 +6,7 @@ mod streams;
 
 use crate::help::{put_all, text_of};
 use crate::streams::{Asking, Gathered, Gathering, gathered};
-use mpy_disk::Disk;
-use mpy_io::{Failed, InputPort, OutSink, Sink};
+use mpy_io::{Disk, Failed, InputPort, OutSink, Sink};
 use mpy_tool::{Outside, mpy};
 use port_set::PortSet;
 use std::alloc::Global;

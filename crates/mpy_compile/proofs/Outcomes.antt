@@ -5,11 +5,11 @@ use Rattle.std.specs.declared.alloc.Global.{Global}
 use Rattle.mpy_base.specs.declared.refused.Refused.{Refused}
 use Rattle.mpy_base.specs.declared.refused.Refused.TheVariants.{Fault, NoMemory}
 use Rattle.mpy_base.specs.declared.source.SourceFault.{SourceFault}
-use Rattle.mpy_tree.specs.declared.module.ModuleCode.{ModuleCode}
-use Rattle.py_source.specs.declared.source.Accepted.{Accepted}
-use Rattle.py_source.specs.Source as sources
-use Rattle.emit_written.specs.emit_module.First.{IsFirstFault}
-use Rattle.emit_written.specs.emit_module.Module.{source_of}
+use Rattle.mpy_writer.specs.mpy_tree.declared.module.ModuleCode.{ModuleCode}
+use Rattle.emit_module.specs.py_source.declared.source.Accepted.{Accepted}
+use Rattle.emit_module.specs.py_source.Source as sources
+use Rattle.emit_module.specs.First.{IsFirstFault}
+use Rattle.emit_module.specs.Module.{source_of}
 use Rattle.mpy_compile.specs.Compiled.{IsCompiled, Files, Compiles}
 
 module _ (level : ℕ) (source stored : List ℕ) where

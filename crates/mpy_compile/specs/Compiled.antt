@@ -5,18 +5,18 @@ use Rattle.mpy_base.specs.declared.refused.Refused.{Refused}
 use Rattle.mpy_base.specs.declared.refused.Refused.TheVariants as refused
 use Rattle.mpy_base.specs.declared.source.SourceFault.{SourceFault}
 use Rattle.mpy_base.specs.Fault.{too_long}
-use Rattle.mpy_tree.specs.declared.module.ModuleCode.{ModuleCode}
-use Rattle.mpy_tree.specs.Canonical.{Canonical}
-use Rattle.mpy_tree.specs.FirstUse.{InFirstUse}
-use Rattle.mpy_tree.specs.Resolved.{ReadsAs}
+use Rattle.mpy_writer.specs.mpy_tree.declared.module.ModuleCode.{ModuleCode}
+use Rattle.mpy_writer.specs.mpy_tree.Canonical.{Canonical}
+use Rattle.mpy_writer.specs.mpy_tree.FirstUse.{InFirstUse}
+use Rattle.mpy_writer.specs.mpy_tree.Resolved.{ReadsAs}
 use Rattle.mpy_writer.specs.declared.fault.WriteFault.{WriteFault}
 use Rattle.mpy_writer.specs.File.{IsWritten, FirstFault}
-use Rattle.mpy_fits.specs.Texts.{module_fits, TextsFit}
-use Rattle.py_source.specs.declared.source.Accepted.{Accepted}
-use Rattle.py_source.specs.Source as sources
-use Rattle.emit_written.specs.emit_module.First.{AreWithin}
-use Rattle.emit_written.specs.emit_module.First as texts
-use Rattle.emit_written.specs.emit_module.Module.{source_of, IsTranslated}
+use Rattle.mpy_compile.specs.Texts.{module_fits, TextsFit}
+use Rattle.emit_module.specs.py_source.declared.source.Accepted.{Accepted}
+use Rattle.emit_module.specs.py_source.Source as sources
+use Rattle.emit_module.specs.First.{AreWithin}
+use Rattle.emit_module.specs.First as texts
+use Rattle.emit_module.specs.Module.{source_of, IsTranslated}
 
 -- ---- the file of a module
 

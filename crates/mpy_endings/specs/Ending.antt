@@ -2,11 +2,11 @@
 use Rattle.std.specs.Prelude.{◌≡◌, ℕ, Bool, true, false}
 use Rattle.image_runs.specs.declared.fault.MainFault.{MainFault}
 use Rattle.image_runs.specs.declared.fault.MainFault.TheVariants as mains
-use Rattle.frozen_faults.specs.declared.fault.SourcesFault.{SourcesFault}
-use Rattle.frozen_faults.specs.declared.fault.SourcesFault.TheVariants as sources
-use Rattle.frozen_faults.specs.declared.fault.FrozenFault.{FrozenFault}
-use Rattle.frozen_faults.specs.declared.fault.FrozenFault.TheVariants as frozen
-use Rattle.frozen_faults.specs.Faults.{is_read_failure}
+use Rattle.manifest_files.specs.declared.frozen_fault.SourcesFault.{SourcesFault}
+use Rattle.manifest_files.specs.declared.frozen_fault.SourcesFault.TheVariants as sources
+use Rattle.manifest_files.specs.declared.frozen_fault.FrozenFault.{FrozenFault}
+use Rattle.manifest_files.specs.declared.frozen_fault.FrozenFault.TheVariants as frozen
+use Rattle.manifest_files.specs.FrozenFaults.{is_read_failure}
 use Rattle.mpy_endings.specs.declared.ending.Ending.{Ending}
 use Rattle.mpy_endings.specs.declared.ending.Ending.TheVariants.{Done, Unaccepted, Unread, Unverified, Unmerged, Unopened, Unfrozen, Unboarded, Stopped, ReadFault, WriteFault, Unwritten, NoMemory, Absent}
 use Rattle.mpy_endings.specs.declared.ending.BoardFault.{BoardFault}

@@ -6,8 +6,8 @@ use Rattle.mpy_base.specs.declared.source.SourceFault.{SourceFault}
 use Rattle.mpy_base.specs.Source.{number_of, name_of}
 use Rattle.mpy_io.specs.Count.{Rose}
 use Rattle.mpy_io.specs.Told.{AppendsFront}
-use Rattle.mpy_reader.specs.declared.fault.FileFault.{FileFault}
-use Rattle.mpy_reader.specs.Fault as file
+use Rattle.library_files.specs.mpy_reader.declared.fault.FileFault.{FileFault}
+use Rattle.library_files.specs.mpy_reader.Fault as file
 use Rattle.bc_verify.specs.declared.fault.VerifyFault.{VerifyFault}
 use Rattle.bc_verify.specs.Rule as rule
 use Rattle.mpy_merge.specs.declared.fault.MergeFault.{MergeFault}
@@ -19,10 +19,10 @@ use Rattle.image_grammar.specs.declared.fault.ImageFault.{ImageFault}
 use Rattle.image_grammar.specs.Fault as image
 use Rattle.image_runs.specs.declared.fault.MainFault.{MainFault}
 use Rattle.image_runs.specs.declared.fault.MainFault.TheVariants as mains
-use Rattle.frozen_faults.specs.declared.fault.SourcesFault.{SourcesFault}
-use Rattle.frozen_faults.specs.declared.fault.SourcesFault.TheVariants as sources
-use Rattle.frozen_faults.specs.declared.fault.FrozenFault.{FrozenFault}
-use Rattle.frozen_faults.specs.declared.fault.FrozenFault.TheVariants as frozen
+use Rattle.manifest_files.specs.declared.frozen_fault.SourcesFault.{SourcesFault}
+use Rattle.manifest_files.specs.declared.frozen_fault.SourcesFault.TheVariants as sources
+use Rattle.manifest_files.specs.declared.frozen_fault.FrozenFault.{FrozenFault}
+use Rattle.manifest_files.specs.declared.frozen_fault.FrozenFault.TheVariants as frozen
 use Rattle.board_plan.specs.declared.plan.PlanFault.{PlanFault}
 use Rattle.board_plan.specs.declared.plan.PlanFault.TheVariants as plans
 use Rattle.mpy_words.specs.declared.order.WordFault.{WordFault}

@@ -9,8 +9,6 @@ mod put;
 mod words;
 
 pub use ending::{BoardFault, Ended, Ending, Stop};
-pub use image_runs::{MainFault, image_library};
 pub use line::{say_ending, say_words};
-pub use mpy_merge::merge;
 pub use put::put_three;
 pub use words::{file_names, main_name, source_name, word_at};

@@ -1,7 +1,7 @@
 //! The line that is said at the end of a command.
 
 ghost use Rattle.std.specs.Prelude.{◌≡◌, ◌++◌, true, map, string_bytes, codes, decimal};
-ghost use Rattle.mpy_reader.specs.Fault as file;
+ghost use Rattle.library_files.specs.mpy_reader.Fault as file;
 ghost use Rattle.bc_verify.specs.Rule as rules;
 ghost use Rattle.mpy_merge.specs.Numbers as merges;
 ghost use Rattle.mpy_endings.specs.Ending.{is_stop_said, is_said};
@@ -16,10 +16,10 @@ use crate::words::word_at;
 use bc_verify::{Rule, VerifyFault};
 use itoa::Buffer;
 use library_files::Limit;
+use library_files::mpy_reader::FileFault;
 use mpy_base::SourceFault;
 use mpy_io::{Failed, Sink};
 use mpy_merge::MergeFault;
-use mpy_reader::FileFault;
 use mpy_words::WordFault;
 
 /// What is said of a fault of the words.

@@ -13,6 +13,7 @@ mod mem_sink;
 mod out_sink;
 mod place;
 mod port;
+mod real_disk;
 mod script_port;
 mod sink;
 
@@ -24,5 +25,6 @@ pub use mem_folder::MemFolder;
 pub use mem_sink::MemSink;
 pub use out_sink::OutSink;
 pub use port::Port;
+pub use real_disk::Disk;
 pub use script_port::ScriptPort;
 pub use sink::Sink;

@@ -2,25 +2,25 @@
 use Rattle.std.proofs.Common.{◌≡◌, ℕ, List, Option, Some, None, sym, ap, subst, ◌∙◌}
 use Rattle.std.specs.Io.KnownBytes.{Keeps}
 use Rattle.mpy_io.specs.Files.{FileOf}
-use Rattle.bc_library.specs.Shelf.{Shelf}
-use Rattle.source_files.specs.Sources.{stored}
+use Rattle.image_grammar.specs.bc_library.Shelf.{Shelf}
+use Rattle.meant_commands.specs.source_files.Sources.{stored}
 use Rattle.mpy_words.specs.declared.order.Command.{Command}
 use Rattle.mpy_words.specs.declared.order.Command.TheVariants.{Check, Dump, Cross, Merge, Freeze, Migrate, Board}
 use Rattle.mpy_words.specs.declared.order.Order.{Order}
 use Rattle.mpy_words.specs.Words.{first_name, second_name, source_name, file_names}
-use Rattle.mpy_endings.specs.declared.ending.Ending.{Ending}
-use Rattle.mpy_endings.specs.Line.{place_in}
-use Rattle.run_meaning.specs.command_files.Folder.{ChangesOnly}
-use Rattle.run_meaning.specs.file_commands.Check.{Checks}
-use Rattle.run_meaning.specs.file_commands.Cross.{Crosses}
-use Rattle.run_meaning.specs.file_commands.Dump.{Dumps}
-use Rattle.run_meaning.specs.file_commands.Merge.{Merges}
-use Rattle.run_meaning.proofs.file_commands_lemmas.Crossed.{crosses_only}
-use Rattle.run_meaning.proofs.file_commands_lemmas.Merged.{merges_only}
-use Rattle.run_meaning.specs.image_commands.Freeze.{Freezes}
-use Rattle.run_meaning.specs.image_commands.Migrate.{Migrates}
-use Rattle.run_meaning.proofs.image_commands_lemmas.Freezing.{freezes_only}
-use Rattle.run_meaning.proofs.image_commands_lemmas.Migrating.{migrates_only}
+use Rattle.meant_commands.specs.mpy_endings.declared.ending.Ending.{Ending}
+use Rattle.meant_commands.specs.mpy_endings.Line.{place_in}
+use Rattle.board_command.specs.command_files.Folder.{ChangesOnly}
+use Rattle.meant_commands.specs.file_commands.Check.{Checks}
+use Rattle.meant_commands.specs.file_commands.Cross.{Crosses}
+use Rattle.meant_commands.specs.file_commands.Dump.{Dumps}
+use Rattle.meant_commands.specs.file_commands.Merge.{Merges}
+use Rattle.meant_commands.proofs.file_commands_lemmas.Crossed.{crosses_only}
+use Rattle.meant_commands.proofs.file_commands_lemmas.Merged.{merges_only}
+use Rattle.meant_commands.specs.image_commands.Freeze.{Freezes}
+use Rattle.meant_commands.specs.image_commands.Migrate.{Migrates}
+use Rattle.meant_commands.proofs.image_commands_lemmas.Freezing.{freezes_only}
+use Rattle.meant_commands.proofs.image_commands_lemmas.Migrating.{migrates_only}
 use Rattle.board_command.specs.Boards.{Boards}
 use Rattle.mpy_tool.specs.Below.{image_version}
 use Rattle.mpy_tool.specs.Doing.{DoesBy}

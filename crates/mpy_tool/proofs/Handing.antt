@@ -3,14 +3,14 @@ use Rattle.std.proofs.Common.{ℕ, List, Option, Some, None}
 use Rattle.std.specs.Io.KnownBytes.{Keeps}
 use Rattle.std.proofs.KnownBytes.{Appends-kept, Keeps-trans}
 use Rattle.mpy_io.specs.Files.{FileOf}
-use Rattle.bc_library.specs.Shelf.{Shelf}
+use Rattle.image_grammar.specs.bc_library.Shelf.{Shelf}
 use Rattle.mpy_words.specs.declared.order.Command.{Command}
 use Rattle.mpy_words.specs.declared.order.Command.TheVariants.{Go, Check, Dump, Cross, Merge, Freeze, Migrate, Run, Board, Stress}
 use Rattle.mpy_words.specs.declared.order.Order.{Order}
 use Rattle.mpy_words.specs.Words.{first_name, second_name}
-use Rattle.mpy_endings.specs.declared.ending.Ending.TheVariants.{Done, WriteFault}
-use Rattle.run_meaning.specs.file_commands.Check.{verified_line}
-use Rattle.run_meaning.proofs.file_commands_lemmas.HandedOn.{checks_cut, dumps_cut}
+use Rattle.meant_commands.specs.mpy_endings.declared.ending.Ending.TheVariants.{Done, WriteFault}
+use Rattle.meant_commands.specs.file_commands.Check.{verified_line}
+use Rattle.meant_commands.proofs.file_commands_lemmas.HandedOn.{checks_cut, dumps_cut}
 use Rattle.board_command.proofs.Ending.{unflushed}
 use Rattle.mpy_tool.specs.Doing.{DoesBy}
 use Rattle.mpy_tool.proofs.Flushing.{flushed}

@@ -1,9 +1,9 @@
 -- The library that a command lies over.
 use Rattle.std.proofs.Common.{◌≡◌, ℕ, Option, Some, None, refl, sym, ap, subst, inl, inr}
 use Rattle.std.specs.Prelude.{IfSome}
-use Rattle.bc_library.specs.Shelf.{Shelf, names}
-use Rattle.image_base.specs.Base.{IsOpened, base_of}
-use Rattle.run_meaning.specs.image_commands.frozen_files.image_freeze.Fronts.{MayLieOver}
+use Rattle.image_grammar.specs.bc_library.Shelf.{Shelf, names}
+use Rattle.image_grammar.specs.Base.{IsOpened, base_of}
+use Rattle.meant_commands.specs.image_freeze.Fronts.{MayLieOver}
 use Rattle.mpy_words.specs.declared.order.Command.{Command}
 use Rattle.mpy_words.specs.declared.order.Command.TheVariants.{Go, Check, Dump, Cross, Merge, Freeze, Migrate, Run, Board, Stress}
 use Rattle.mpy_tool.specs.Below.{MayLieBelow, image_version, library_below}

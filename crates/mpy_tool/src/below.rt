@@ -1,12 +1,12 @@
 //! The libraries that commands lie over.
 
 ghost use Rattle.std.specs.Prelude.{◌≡◌, IfOk, IfSome};
-ghost use Rattle.image_base.specs.Base.{IsOpened};
+ghost use Rattle.image_grammar.specs.Base.{IsOpened};
 ghost use Rattle.mpy_tool.specs.Below as spec;
 ghost use Rattle.mpy_tool.specs.Below.{library_below};
 
-use bc_library::Library;
-use image_open::over_law;
+use board_command::image_open::over_law;
+use image_grammar::bc_library::Library;
 use mpy_base::NoMemory;
 use std::alloc::Global;
 

@@ -3,13 +3,13 @@
 ghost use Rattle.std.specs.Prelude.{◌≡◌, ◌≤◌, [], true, false, IfSome};
 ghost use Rattle.mpy_base.specs.declared.limits.TheConstants.{MAX_TASKS};
 ghost use Rattle.mpy_io.specs.Count.{Counts};
-ghost use Rattle.image_base.specs.Base.{IsOpened};
-ghost use Rattle.bc_library.specs.Shelf.{Shelf};
-ghost use Rattle.mpy_endings.specs.declared.ending.Ending.TheVariants.{Done};
-ghost use Rattle.mpy_endings.specs.Ending.{is_folder_fault, is_out_fault};
+ghost use Rattle.image_grammar.specs.Base.{IsOpened};
+ghost use Rattle.image_grammar.specs.bc_library.Shelf.{Shelf};
+ghost use Rattle.meant_commands.specs.mpy_endings.declared.ending.Ending.TheVariants.{Done};
+ghost use Rattle.meant_commands.specs.mpy_endings.Ending.{is_folder_fault, is_out_fault};
 ghost use Rattle.board_command.specs.board_files.Files.{KeepsOthers};
 ghost use Rattle.board_command.specs.Boards.{Boards};
-ghost use Rattle.run_meaning.specs.image_commands.Freeze.{Freezes};
+ghost use Rattle.meant_commands.specs.image_commands.Freeze.{Freezes};
 ghost use Rattle.mpy_tool.specs.Below as spec;
 ghost use Rattle.mpy_tool.specs.Below.{MayLieBelow, library_below};
 ghost use Rattle.mpy_tool.specs.Call.{call_of, texts};
@@ -18,13 +18,14 @@ ghost use Rattle.mpy_tool.specs.Order.{calls_ports, stands_alone, ChangesBy};
 
 use crate::below::{image_version, or_nothing, release};
 use crate::outside::Outside;
-use bc_library::Library;
 use board_command::board;
+use image_grammar::bc_library::Library;
+use meant_commands::file_commands::{check, cross, dump, merge_files};
+use meant_commands::image_commands::{freeze, migrate};
+use meant_commands::mpy_endings::{Ended, Ending, file_names, say_ending, source_name, word_at};
 use mpy_base::NoMemory;
-use mpy_endings::{Ended, Ending, file_names, say_ending, source_name, word_at};
 use mpy_io::{Failed, Folder, Port, Sink};
 use mpy_words::{Command, Order};
-use run_meaning::{check, cross, dump, freeze, merge_files, migrate};
 use std::alloc::Global;
 
 /// Writes the image of the sources of the manifest of this name, over the library of a base, if one is ordered.

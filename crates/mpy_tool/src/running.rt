@@ -4,12 +4,12 @@ ghost use Rattle.std.specs.Prelude.{◌≡◌, ◌≤◌, [], true, IfSome, IfOk
 ghost use Rattle.mpy_io.specs.Count.{Counts};
 ghost use Rattle.mpy_tree.specs.Raw.{Module};
 ghost use Rattle.library_files.specs.Ends.{HoldsModules};
-ghost use Rattle.image_base.specs.Base.{IsOpened};
+ghost use Rattle.image_grammar.specs.Base.{IsOpened};
 ghost use Rattle.image_runs.specs.Main.{IsMainAt};
 ghost use Rattle.mpy_words.specs.Words.{first_name};
-ghost use Rattle.run_meaning.specs.command_files.Opened.{failed_in};
-ghost use Rattle.run_commands.specs.Run.{IsUnloaded};
-ghost use Rattle.run_commands.specs.Ready.{RunLibrary};
+ghost use Rattle.board_command.specs.command_files.Opened.{failed_in};
+ghost use Rattle.meant_commands.specs.run_commands.Run.{IsUnloaded};
+ghost use Rattle.meant_commands.specs.run_commands.Ready.{RunLibrary};
 ghost use Rattle.mpy_tool.specs.Below.{MayLieBelow, library_below};
 ghost use Rattle.mpy_tool.specs.Call.{call_of, texts};
 ghost use Rattle.mpy_tool.specs.Doing.{LibraryBy, RunsBy};
@@ -17,12 +17,12 @@ ghost use Rattle.mpy_tool.specs.Order.{runs_library};
 
 use crate::below::{or_nothing, release};
 use crate::outside::Outside;
-use bc_library::Library;
+use image_grammar::bc_library::Library;
+use meant_commands::mpy_endings::{Ending, main_name, say_ending, word_at};
+use meant_commands::run_commands::{Ready, run_loaded, run_ready, source_ready};
 use mpy_base::{NoMemory, Room};
-use mpy_endings::{Ending, main_name, say_ending, word_at};
 use mpy_io::{Folder, Port, Sink};
 use mpy_words::{Command, Order};
-use run_commands::{Ready, run_loaded, run_ready, source_ready};
 use std::alloc::Global;
 
 /// The library of the file of this name, an image over the library of a base, if one is ordered, or what keeps it from being run.

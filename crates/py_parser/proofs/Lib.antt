@@ -1,3 +1,4 @@
+pub use Rattle.py_nest.proofs as py_nest_lemmas
 pub mod Below
 pub mod Sounder
 pub mod Stops

@@ -7,7 +7,7 @@ use Rattle.mpy_base.specs.Fault.{too_long}
 use Rattle.mpy_io.specs.declared.fault.ReadFault.{ReadFault as FolderFault}
 use Rattle.mpy_io.specs.declared.fault.ReadFault.TheVariants.{TooLong}
 use Rattle.mpy_io.specs.Files.{FileOf, Reads}
-use Rattle.mpy_tree.specs.Raw.{Module}
+use Rattle.bc_library.specs.mpy_tree.Raw.{Module}
 use Rattle.bc_library.specs.Shelf.{Shelf}
 use Rattle.library_files.specs.declared.limit.LoadFault.{LoadFault}
 use Rattle.library_files.specs.declared.limit.LoadFault.TheVariants as faults

@@ -9,15 +9,15 @@ use Rattle.mpy_io.specs.Count.{Counts}
 use Rattle.mpy_io.specs.declared.fault.Failed.{Failed}
 use Rattle.mpy_io.specs.Files.{FileOf}
 use Rattle.mpy_io.specs.Ports.{PortView}
-use Rattle.mpy_tree.specs.Raw.{Module}
+use Rattle.bc_library.specs.mpy_tree.Raw.{Module}
 use Rattle.bc_library.specs.Shelf.{Shelf}
 use Rattle.library_files.specs.declared.limit.LoadFault.{LoadFault}
 use Rattle.library_files.specs.declared.limit.LoadFault.TheVariants as faults
 use Rattle.library_files.specs.Ends.{EndsIn, FailsInBase, is_failed}
 use Rattle.library_files.specs.Loads.{Loading, LoadsFrom}
 use Rattle.command_files.specs.image_runs.declared.fault.MainFault.TheVariants as mains
-use Rattle.frozen_faults.specs.declared.fault.SourcesFault.TheVariants as sources
-use Rattle.frozen_faults.specs.declared.fault.FrozenFault.TheVariants as frozen
+use Rattle.manifest_files.specs.declared.frozen_fault.SourcesFault.TheVariants as sources
+use Rattle.manifest_files.specs.declared.frozen_fault.FrozenFault.TheVariants as frozen
 use Rattle.library_runs.specs.declared.ending.RunEnd.{RunEnd}
 use Rattle.library_runs.specs.declared.ending.RunEnd.TheVariants as ends
 use Rattle.library_runs.specs.Runs.{Sight, IsOver, RunsAs, is_write_fault, sight, speaks}

@@ -1,7 +1,7 @@
 -- Which library a source has.
 use Rattle.std.specs.Prelude.{ℕ, List, Contains, Option, Some, None, IfSome, Result, Ok, Err}
 use Rattle.mpy_io.specs.Files.{FileOf}
-use Rattle.mpy_tree.specs.Raw.{Module}
+use Rattle.bc_library.specs.mpy_tree.Raw.{Module}
 use Rattle.bc_library.specs.Shelf.{Shelf}
 use Rattle.pkg_paths.specs.Plain.{IsPlain}
 use Rattle.pkg_paths.specs.Paths.{candidates}

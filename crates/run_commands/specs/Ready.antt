@@ -1,9 +1,9 @@
 -- Which library a command has, and its main module.
 use Rattle.std.specs.Prelude.{◌≡◌, ℕ, Bool, true, false, List, [], ◌∷◌, length, ◌==◌, ◌&&◌, Option, Some, Result, Ok, Err}
 use Rattle.mpy_io.specs.Files.{FileOf}
-use Rattle.mpy_tree.specs.Raw.{Module}
-use Rattle.mpy_tree.specs.File.{IsFile}
-use Rattle.bc_verify.specs.Verified.{IsVerified}
+use Rattle.bc_library.specs.mpy_tree.Raw.{Module}
+use Rattle.bc_library.specs.mpy_tree.File.{IsFile}
+use Rattle.bc_library.specs.bc_verify.Verified.{IsVerified}
 use Rattle.bc_library.specs.Shelf.{Shelf}
 use Rattle.library_files.specs.Loads.{main_name}
 use Rattle.command_files.specs.image_runs.Main.{HoldsMain, RefusesMain}

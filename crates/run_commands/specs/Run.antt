@@ -5,9 +5,9 @@ use Rattle.mpy_base.specs.declared.room.Room.{Room}
 use Rattle.mpy_io.specs.Count.{Counts}
 use Rattle.mpy_io.specs.Files.{FileOf}
 use Rattle.mpy_io.specs.Ports.{PortView}
-use Rattle.mpy_tree.specs.Raw.{Module}
-use Rattle.mpy_tree.specs.File.{IsFile}
-use Rattle.bc_verify.specs.Verified.{IsVerified}
+use Rattle.bc_library.specs.mpy_tree.Raw.{Module}
+use Rattle.bc_library.specs.mpy_tree.File.{IsFile}
+use Rattle.bc_library.specs.bc_verify.Verified.{IsVerified}
 use Rattle.bc_library.specs.Shelf.{Shelf}
 use Rattle.mpy_base.specs.declared.refused.Refused.{Refused}
 use Rattle.mpy_base.specs.declared.refused.Refused.TheVariants as refused

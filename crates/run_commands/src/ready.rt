@@ -2,15 +2,16 @@
 
 ghost use Rattle.std.specs.Prelude.{◌≡◌, Ok, Err, IfOk, IfErr};
 ghost use Rattle.command_files.specs.mpy_endings.declared.ending.Ending.TheVariants.{NoMemory as WithoutMemory};
-ghost use Rattle.mpy_tree.specs.Raw.{Module};
+ghost use Rattle.bc_library.specs.mpy_tree.Raw.{Module};
 ghost use Rattle.command_files.specs.image_runs.Main.{IsMainAt};
 ghost use Rattle.library_files.specs.Ends.{BeginsWith, HoldsModules};
 ghost use Rattle.library_files.specs.Loads.{main_name};
-ghost use Rattle.image_base.specs.Base.{IsOpened};
+ghost use Rattle.manifest_files.specs.image_grammar.Base.{IsOpened};
 ghost use Rattle.run_commands.specs.Ready.{ImageStart, IsFirst};
 
 use bc_library::Library;
-use command_files::{Ending, image_library};
+use command_files::image_runs::image_library;
+use command_files::mpy_endings::Ending;
 use mpy_base::{NoMemory, Refused, Text};
 use std::alloc::Global;
 

@@ -5,9 +5,9 @@ use Rattle.mpy_base.specs.declared.refused.NoMemory.{NoMemory}
 use Rattle.mpy_base.specs.declared.limits.TheConstants.{MAX_READ_BYTES}
 use Rattle.mpy_base.specs.declared.source.SourceFault.{SourceFault}
 use Rattle.mpy_base.specs.Fault.{too_long}
-use Rattle.mpy_tree.specs.File.{IsFile}
-use Rattle.mpy_tree.specs.Raw.{Module}
-use Rattle.bc_verify.specs.Verified.{IsVerified}
+use Rattle.mpy_reader.specs.mpy_tree.File.{IsFile}
+use Rattle.mpy_reader.specs.mpy_tree.Raw.{Module}
+use Rattle.bc_library.specs.bc_verify.Verified.{IsVerified}
 use Rattle.mpy_compile.specs.Compiled.{CompilesTo, IsFault}
 use Rattle.library_files.specs.Comes.{IsVerifiedFile}
 use Rattle.source_files.specs.Sources.{stored, IsModuleOf}

@@ -1,19 +1,19 @@
 //! The module of a source.
 
 ghost use Rattle.std.specs.Prelude.{◌≡◌, ◌≤◌, IfOk};
-ghost use Rattle.mpy_tree.specs.Raw.{Module};
-ghost use Rattle.bc_verify.specs.Verified.{IsVerified};
+ghost use Rattle.mpy_reader.specs.mpy_tree.Raw.{Module};
+ghost use Rattle.bc_library.specs.bc_verify.Verified.{IsVerified};
 ghost use Rattle.mpy_compile.specs.Compiled.{Compiles};
 ghost use Rattle.library_files.specs.Comes.{IsVerifiedFile};
 ghost use Rattle.source_files.specs.Sources.{GivesModule, stored};
 
 use crate::laws::compiled_law;
 use crate::name::stored_name;
-use bc_verify::{Verified, verify};
+use bc_library::bc_verify::{Verified, verify};
 use mpy_base::{NoMemory, Refused, SourceFault};
 use mpy_compile::compile;
+use mpy_reader::mpy_tree::RawModule;
 use mpy_reader::read;
-use mpy_tree::RawModule;
 use std::alloc::Global;
 
 /// The file of the source of this path.

@@ -1,15 +1,16 @@
 //! Runs of a program, in parts and as a whole.
 
 ghost use Rattle.std.specs.Prelude.{◌≡◌, ◌<◌, length, IfOk, IfSome};
-ghost use Rattle.mpy_tree.specs.Raw.{Module};
+ghost use Rattle.mpy_reader.specs.mpy_tree.Raw.{Module};
 ghost use Rattle.library_files.specs.Ends.{BeginsWith, HoldsModules};
-ghost use Rattle.vm_machine.specs.vm_programs.Programs.{IsRunnable};
+ghost use Rattle.vm_machine.specs.vm_starting.Programs.{IsRunnable};
 ghost use Rattle.vm_machine.specs.Machine.{IsVm};
 
 use crate::program::Program;
-use bc_library::Library;
 use bc_rows::Rows;
-use bc_verify::{Verified, verify};
+use bc_rows::bc_library::Library;
+use bc_rows::bc_verify::{Verified, verify};
+use frame_exits::End;
 use library_files::load;
 use mpy_base::{NoMemory, Refused, Room};
 use mpy_io::{Failed, Folder, MemFolder, MemSink, Port, ReadFault, ScriptPort, Sink};
@@ -17,7 +18,8 @@ use mpy_reader::read;
 use port_set::PortSet;
 use std::alloc::Global;
 use std::mem;
-use vm_machine::{End, Vm, open, run, used};
+use vm_machine::vm_starting::Vm;
+use vm_machine::{open, run, used};
 
 /// The greatest count of steps that are paid on an instruction, for which a run goes on.
 const MOST_PAID: u64 = 1 << 62;

@@ -15,7 +15,7 @@ use Rattle.run_commands.specs.declared.ready.Ready.{Ready}
 use Rattle.run_commands.specs.Ready.{GoLibrary}
 use Rattle.run_commands.specs.Run.{EndsRun, IsUnloaded, sight_in}
 use Rattle.run_commands.proofs.Running.{not_loaded, unloaded_quiet}
-use Rattle.stress_source.specs.Source.{stress_text}
+use Rattle.stress_command.specs.Source.{stress_text}
 use Rattle.stress_command.specs.Stress.{EndsStress, HasCodes, beside, front_lines, sinks, stress_files, stress_name}
 
 -- a count that stays, where the call didn't fail

@@ -2,7 +2,7 @@
 
 ghost use Rattle.std.specs.Prelude.{◌≡◌, ◌≤◌, ◌++◌, ℕ, [], length, decimal, map, Option, Some, Ok};
 ghost use Rattle.mpy_io.specs.Files.{FileOf};
-ghost use Rattle.mpy_tree.specs.Raw.{Module};
+ghost use Rattle.bc_library.specs.mpy_tree.Raw.{Module};
 ghost use Rattle.run_commands.specs.image_runs.Main.{IsMainAt};
 ghost use Rattle.library_files.specs.Ends.{HoldsModules};
 ghost use Rattle.run_commands.specs.mpy_endings.declared.ending.Ending.TheVariants.{WriteFault};
@@ -10,7 +10,7 @@ ghost use Rattle.run_commands.specs.mpy_endings.Ending.{status_of};
 ghost use Rattle.run_commands.specs.mpy_endings.Line.{Puts, Says, line_of};
 ghost use Rattle.run_commands.specs.Ready.{GoLibrary};
 ghost use Rattle.run_commands.specs.Run.{EndsRun};
-ghost use Rattle.stress_source.specs.Source.{stress_text};
+ghost use Rattle.stress_command.specs.Source.{stress_text};
 ghost use Rattle.stress_command.specs.Stress.{EndsStress, front_lines, most_assignments, sinks, stress_files, stress_name};
 
 use crate::making::{NAME, codes_of, made_ready};
@@ -18,7 +18,8 @@ use itoa::Buffer;
 use mpy_base::Room;
 use mpy_io::{Failed, Port, Sink};
 use port_set::PortSet;
-use run_commands::{Ending, Ready, put_three, run_loaded, say_ending};
+use run_commands::mpy_endings::{Ending, put_three, say_ending};
+use run_commands::{Ready, run_loaded};
 use std::alloc::Global;
 
 /// Puts a number between two pieces of a line.

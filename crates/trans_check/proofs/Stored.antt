@@ -3,8 +3,8 @@ use Rattle.std.proofs.Common.{◌≡◌, ℕ, zero, suc, ◌-◌, ◌<◌, ◌�
 use Rattle.std.specs.Prelude.{◌&&◌, if◌then◌else◌, nat_lt}
 use Rattle.std.proofs.lemmas.Bool.{le-ltb, ltb-true}
 use Rattle.std.proofs.lemmas.List.Elements.{All-nil, All-cons}
-use Rattle.qstr_pool.specs.Static.{static_texts, static_text_of}
-use Rattle.qstr_pool.specs.declared.table.TheConstants.{STATIC_COUNT}
+use Rattle.mpy_tree.specs.qstr_pool.Static.{static_texts, static_text_of}
+use Rattle.mpy_tree.specs.qstr_pool.declared.table.TheConstants.{STATIC_COUNT}
 use Rattle.mpy_tree.specs.declared.raw.Qstr.{Qstr}
 use Rattle.mpy_tree.specs.declared.raw.Qstr.TheVariants.{Static, Own}
 use Rattle.mpy_tree.specs.File.{IsAscii, Many, IsQstr, IsModule}

@@ -3,21 +3,21 @@
 
 ghost use Rattle.std.specs.Prelude.{◌≡◌, ◌≤◌, ℕ, List, Option};
 ghost use Rattle.mpy_base.specs.World.{PortState};
-ghost use Rattle.mpy_tree.specs.Raw as raw;
-ghost use Rattle.mpy_tree.specs.Resolved.{ResolvedModule, Resolves};
-ghost use Rattle.bc_flow.specs.Code as flow;
-ghost use Rattle.bc_flow.specs.Verified.{Verified};
-ghost use Rattle.bc_machine.specs.Library.{Name, module_of};
-ghost use Rattle.bc_machine.specs.Machine.{run};
+ghost use Rattle.bc_scheme.specs.mpy_tree.Raw as raw;
+ghost use Rattle.bc_scheme.specs.mpy_tree.Resolved.{ResolvedModule, Resolves};
+ghost use Rattle.bc_progress.specs.bc_flow.Code as flow;
+ghost use Rattle.bc_progress.specs.bc_flow.Verified.{Verified};
+ghost use Rattle.bc_scheme.specs.bc_machine.Library.{Name, module_of};
+ghost use Rattle.bc_scheme.specs.bc_machine.Machine.{run};
 ghost use Rattle.bc_verify.specs.Verified.{IsVerified};
-ghost use Rattle.bc_verified.specs.Verified.{IsVerifiedTree};
+ghost use Rattle.bc_resolved.specs.Verified.{IsVerifiedTree};
 ghost use Rattle.py_tree.specs.declared.stmt.Module.{Module};
-ghost use Rattle.bc_translation.specs.Translation.{Translates};
+ghost use Rattle.bc_scheme.specs.Translation.{Translates};
 ghost use Rattle.tr_source.specs.Accepted.{source_of, IsAccepted};
 ghost use Rattle.trans_parts.specs.Comparing.{FitsTree};
 ghost use Rattle.trans_laws.specs.Alike.{AlikeModule, AllAlike, library_of};
 
-use bc_verified::raw_law;
+use bc_resolved::raw_law;
 use tr_source::accepted_law;
 
 /// Modules that are the same but for the slots and handler entries of their codes are one module to the machine, and libraries of

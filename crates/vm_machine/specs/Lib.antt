@@ -1,8 +1,8 @@
-pub use Rattle.vm_cache.specs.vm_states
+pub use Rattle.bc_library.specs as bc_library
+pub use Rattle.state_steps.specs.frame_exits
+pub use Rattle.state_steps.specs.frame_moves
 pub use Rattle.vm_starting.specs as vm_starting
-pub use Rattle.vm_starting.specs.vm_programs
-pub use Rattle.vm_hot.specs.vm_unwinding
-pub use Rattle.vm_cache.specs.vm_step
+pub use Rattle.vm_starting.specs.vm_states
 pub mod Acting
 pub mod Forms
 pub mod Machine

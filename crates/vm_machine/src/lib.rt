@@ -11,8 +11,8 @@ mod paying;
 mod running;
 mod stepping;
 
+pub use bc_library;
 pub use opening::{open, used};
 pub use running::{run, run_kept};
-pub use vm_cache::Cache;
-pub use vm_hot::End;
-pub use vm_starting::{Vm, program_law};
+pub use state_steps::{bc_rows, frame_exits};
+pub use vm_starting;

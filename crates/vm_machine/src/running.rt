@@ -3,17 +3,16 @@
 ghost use Rattle.std.specs.Prelude.{◌≡◌, ◌+◌, ◌<◌, ◌≤◌, ◌^◌, map, IfOk, OnErr, is_err};
 ghost use Rattle.mpy_io.specs.Count.{Counts};
 ghost use Rattle.port_set.specs.Counts.{CountsKeep};
-ghost use Rattle.vm_cache.specs.Kept.{AreFetched};
+ghost use Rattle.vm_starting.specs.Kept.{AreFetched};
 ghost use Rattle.vm_machine.specs.Machine.{IsVm};
 ghost use Rattle.vm_machine.specs.Running.{Runs, RunsToFailure};
 
 use crate::stepping::{advance, advance_kept};
 use bc_library::Library;
-use bc_rows::Rows;
 use mpy_io::{Failed, Port, Sink};
 use port_set::PortSet;
-use vm_cache::Cache;
-use vm_starting::Vm;
+use state_steps::bc_rows::Rows;
+use vm_starting::{Cache, Vm};
 
 /// The run of the library for these steps more, or up to its end (`Vm::end`). A run in parts is one run: what is paid on the
 /// running instruction stays in `Vm::paid`. Where the sink fails, it goes no further. It takes no memory.

@@ -3,12 +3,12 @@
 ghost use Rattle.std.specs.Prelude.{◌≡◌, ◌+◌, ◌<◌, ◌≤◌, ◌^◌, map, IfOk, OnErr, None, is_err};
 ghost use Rattle.mpy_io.specs.Count.{Counts};
 ghost use Rattle.port_set.specs.Counts.{CountsKeep};
-ghost use Rattle.vm_cache.specs.vm_fetching.declared.instruction.Instruction.TheVariants as fetched_as;
-ghost use Rattle.vm_cache.specs.vm_states.Means.{Program};
-ghost use Rattle.vm_kept.specs.vm_calling.Taken.{CallsValue, IsTaken};
+ghost use Rattle.state_steps.specs.vm_fetching.declared.instruction.Instruction.TheVariants as fetched_as;
+ghost use Rattle.vm_starting.specs.vm_states.Means.{Program};
+ghost use Rattle.state_steps.specs.state_calls.Taken.{CallsValue, IsTaken};
 ghost use Rattle.vm_kept.specs.Kept.{HoldsKept};
-ghost use Rattle.vm_starting.specs.vm_programs.Programs.{IsProgramOf};
-ghost use Rattle.vm_cache.specs.Kept.{AreFetched};
+ghost use Rattle.vm_starting.specs.Programs.{IsProgramOf};
+ghost use Rattle.vm_starting.specs.Kept.{AreFetched};
 ghost use Rattle.vm_machine.specs.Acting.{Called, HasFetched, Stepped};
 ghost use Rattle.vm_machine.specs.Forms.{HasForm, IsNoCall};
 ghost use Rattle.vm_machine.specs.Machine.{IsVm};
@@ -20,13 +20,15 @@ use crate::fetching::{fetch_at, fetch_kept, row_of};
 use crate::forms::{Form, call_in, form_of};
 use crate::paying::{steps_before, visits_of};
 use bc_library::Library;
-use bc_rows::{Row, Rows};
 use mpy_io::{Failed, Port, Sink};
 use port_set::PortSet;
-use vm_cache::{Cache, Fetched, NumberOp};
-use vm_kept::{gives_law, methods_law, raises_law, step_law, take_call, visits_call_on};
-use vm_running::call;
-use vm_starting::{Invocation, Vm};
+use state_steps::bc_rows::{Row, Rows};
+use state_steps::call;
+use state_steps::state_calls::{take_call, visits_call_on};
+use state_steps::vm_fetching::{Fetched, NumberOp};
+use vm_kept::{gives_law, methods_law, raises_law, step_law};
+use vm_starting::frame_calls::Invocation;
+use vm_starting::{Cache, Vm};
 
 /// Steps of an instruction of this form, which is no call.
 #[tactic(none)]

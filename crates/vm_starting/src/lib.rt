@@ -1,12 +1,22 @@
 //! How a run begins: its memory, and the main module, over frames and an arena.
 #![tactic(auto)]
 
+mod cache;
+mod cached;
+mod codes;
 mod names;
 mod opening;
+mod places;
+mod programs;
 mod starting;
 
+pub use cache::Cache;
+pub use cached::{cache_law, row_law};
+pub use frame_calls;
 pub use names::names_law;
 pub use opening::Vm;
+pub use places::Places;
+pub use programs::{code_law, program_law};
 pub use starting::{MAIN, NAME, start_main};
-pub use vm_invoking::Invocation;
-pub use vm_programs::program_law;
+pub use vm_states;
+pub use vm_states::{bc_library, bc_rows};

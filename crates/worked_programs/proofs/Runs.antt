@@ -1,37 +1,35 @@
 -- Worked programs, computed.
-use Rattle.bc_ops.specs.declared.instr.Instr.TheVariants as instrs
-use Rattle.bc_ops.specs.declared.instr.Op.TheVariants as ops
-use Rattle.bc_ops.specs.declared.listing.Target.TheVariants.{Position}
-use Rattle.mpy_base.specs.Val.{Val, Nil, Truth, Int, Str}
+use Rattle.bc_scheme.specs.bc_ops.declared.instr.Instr.TheVariants as instrs
+use Rattle.bc_scheme.specs.bc_ops.declared.instr.Op.TheVariants as ops
+use Rattle.bc_scheme.specs.bc_ops.declared.listing.Target.TheVariants.{Position}
+use Rattle.mpy_base.specs.Val.{Val, Nil, Truth, Int, Str, Vals, Fixed, Empty, Built, At}
 use Rattle.mpy_base.specs.Weights.{used}
-use Rattle.mpy_base.specs.World.{PortState}
-use Rattle.py_meaning.specs.Meaning.{meaning}
-use Rattle.py_meaning.specs.Tree.{Expr, Constant, Named, Unary, Not, Binary, And, Or, Compare, Cond, TupleOf, ListOf, DictOf, Attr, Index, Call, Method, Exprs, NoExpr, More, Links, Last, Link, Pairs, NoPair, Pair, Keys, NoKey, Key, Target, ToName, ToAttr, ToIndex, ToEach, Targets, Only, Then, Stmt, Do, Assign, AugName, AugAttr, AugIndex, Delete, Pass, Break, Continue, ReturnNone, Return, Reraise, Raise, Assert, AssertWith, Import, From, If, While, For, Try, Finally, TryFinally, Def, Block, End, Next, Branches, Else, Case, Handlers, NoHandler, Any, On, OnAs}
-use Rattle.py_primitives.specs.Order.{order}
-use Rattle.py_primitives.specs.Texts.{str_of, repr_of}
+use Rattle.mpy_base.specs.World.{PortState, Object, ListObject, TupleObject, TextObject, DictObject, FunctionObject, ExceptionObject, MethodObject, RangeObject, ModuleObject}
+use Rattle.bc_scheme.specs.py_meaning.Meaning.{meaning}
+use Rattle.bc_scheme.specs.py_meaning.Tree.{Expr, Constant, Named, Unary, Not, Binary, And, Or, Compare, Cond, TupleOf, ListOf, DictOf, Attr, Index, Call, Method, Exprs, NoExpr, More, Links, Last, Link, Pairs, NoPair, Pair, Keys, NoKey, Key, Target, ToName, ToAttr, ToIndex, ToEach, Targets, Only, Then, Stmt, Do, Assign, AugName, AugAttr, AugIndex, Delete, Pass, Break, Continue, ReturnNone, Return, Reraise, Raise, Assert, AssertWith, Import, From, If, While, For, Try, Finally, TryFinally, Def, Block, End, Next, Branches, Else, Case, Handlers, NoHandler, Any, On, OnAs}
+use Rattle.bc_scheme.specs.py_primitives.Order.{order}
+use Rattle.bc_scheme.specs.py_primitives.Texts.{str_of, repr_of}
 use Rattle.py_tree.specs.declared.expr.BinaryOp.TheVariants as binaries
 use Rattle.py_tree.specs.declared.expr.CompareOp.TheVariants as compares
 use Rattle.py_tree.specs.declared.expr.UnaryOp.TheVariants as unaries
 use Rattle.py_tree.specs.declared.stmt.Alias.{Alias}
-use Rattle.py_values.specs.Equality.{equal}
-use Rattle.py_values.specs.Power.{power}
-use Rattle.py_values.specs.Small.{checked}
+use Rattle.bc_scheme.specs.py_values.Equality.{equal}
+use Rattle.bc_scheme.specs.py_values.Power.{power}
+use Rattle.bc_scheme.specs.py_values.Small.{checked}
 use Rattle.std.specs.Fmt.{digits}
 use Rattle.std.specs.List.{flat_map}
 use Rattle.std.specs.Str.{bytes_eq}
 use Rattle.mpy_base.specs.Kind.{kind_name}
-use Rattle.py_values.specs.Names.{builtin_name}
-use Rattle.mpy_base.specs.World.{Object, ListObject, TupleObject, TextObject, DictObject, FunctionObject, ExceptionObject, MethodObject, RangeObject, ModuleObject}
-use Rattle.mpy_base.specs.Val.{Vals, Fixed, Empty, Built, At}
+use Rattle.bc_scheme.specs.py_values.Names.{builtin_name}
 use Rattle.mpy_base.specs.Val as W
 use Rattle.std.proofs.Common.{◌≡◌, ℕ, ℤ, Bool, length, ◌++◌, List, [], ◌∷◌, Option, Some, None, codes, refl, true, false, pos, negsuc}
-use Rattle.py_effects.specs.Ends.{Run, Open, Memory, report}
-use Rattle.py_meaning.specs.Program.{Source, Unit, Single, Merge, Units, Part, Parts, Program}
-use Rattle.py_meaning.specs.Program as P
-use Rattle.mpy_tree.specs.Resolved.{Resolved, plain, named, object, jump, unwind, lines_of, Body, Tree, node, Trees, no_more, more}
-use Rattle.bc_machine.specs.Library as L
-use Rattle.bc_machine.specs.Library.{module_of}
-use Rattle.bc_machine.specs.Machine.{run}
+use Rattle.bc_scheme.specs.py_effects.Ends.{Run, Open, Memory, report}
+use Rattle.bc_scheme.specs.py_meaning.Program.{Source, Unit, Single, Merge, Units, Part, Parts, Program}
+use Rattle.bc_scheme.specs.py_meaning.Program as P
+use Rattle.bc_scheme.specs.mpy_tree.Resolved.{Resolved, plain, named, object, jump, unwind, lines_of, Body, Tree, node, Trees, no_more, more}
+use Rattle.bc_scheme.specs.bc_machine.Library as L
+use Rattle.bc_scheme.specs.bc_machine.Library.{module_of}
+use Rattle.bc_scheme.specs.bc_machine.Machine.{run}
 
 abbrev alias : List ℕ → Option (List ℕ) → Alias
 alias name bound = record { name = name; bound = bound }

@@ -1,19 +1,19 @@
 -- Translations of small sources, derived.
 use Rattle.std.proofs.Common.{◌≡◌, ℕ, ℤ, List, [], ◌∷◌, Option, Some, None, codes, refl, true, false, pos, negsuc}
 use Rattle.mpy_base.specs.Val.{Val, Nil, Truth, Int, Str}
-use Rattle.bc_ops.specs.declared.instr.Op.TheVariants as ops
-use Rattle.bc_ops.specs.declared.instr.Instr.TheVariants as instrs
-use Rattle.bc_ops.specs.declared.listing.Target.TheVariants.{Position}
-use Rattle.mpy_tree.specs.Resolved.{lines_of, Resolved, plain, named, object, jump, unwind, Body, Tree, node, Trees, no_more, more, ResolvedModule}
+use Rattle.bc_scheme.specs.bc_ops.declared.instr.Op.TheVariants as ops
+use Rattle.bc_scheme.specs.bc_ops.declared.instr.Instr.TheVariants as instrs
+use Rattle.bc_scheme.specs.bc_ops.declared.listing.Target.TheVariants.{Position}
+use Rattle.bc_scheme.specs.mpy_tree.Resolved.{lines_of, Resolved, plain, named, object, jump, unwind, Body, Tree, node, Trees, no_more, more, ResolvedModule}
 use Rattle.py_tree.specs.declared.stmt.Alias.{Alias}
 use Rattle.py_tree.specs.declared.expr.UnaryOp.TheVariants as unaries
 use Rattle.py_tree.specs.declared.expr.BinaryOp.TheVariants as binaries
 use Rattle.py_tree.specs.declared.expr.CompareOp.TheVariants as compares
-use Rattle.py_meaning.specs.Tree.{Expr, Constant, Named, Unary, Not, Binary, And, Or, Compare, Cond, TupleOf, ListOf, DictOf, Attr, Index, Call, Method, Exprs, NoExpr, More, Links, Last, Link, Pairs, NoPair, Pair, Keys, NoKey, Key, Target, ToName, ToAttr, ToIndex, ToEach, Targets, Only, Then, Stmt, Do, Assign, AugName, AugAttr, AugIndex, Delete, Pass, Break, Continue, ReturnNone, Return, Reraise, Raise, Assert, AssertWith, Import, From, If, While, For, Try, Finally, TryFinally, Def, Block, End, Next, Branches, Else, Case, Handlers, NoHandler, Any, On, OnAs}
-use Rattle.py_meaning.specs.Program.{Source}
-use Rattle.bc_translation.specs.Expressions.{literal, name, one, «not», two, «and», «or», compare, chain, cond, tuple, items, dict, attr, index, call, method, no_expr, next, no_operand, operand, last, link, no_pair, pair, no_key, key, straight, negated}
-use Rattle.bc_translation.specs.Statements.{to_name, to_attr, to_index, to_each, one_store, next_store, one_assign, next_assign, gone_name, gone_index, one_gone, next_gone, no_part, part, no_import, imported, no_text, text, no_name, taken, jumped, popped, unwound, bare, with_defaults, «do», assign, aug_name, aug_attr, aug_index, delete, pass, «break», «continue», return_none, «return», reraise, raise, no_assert, no_assert_with, assert, assert_with, «import», from, «if», «while», «for», «try», finally, try_finally, def, no_stmt, stmt, «else», last_branch, branch, «except», no_clause, any, on, on_as}
-use Rattle.bc_translation.specs.Translation.{Translates}
+use Rattle.bc_scheme.specs.py_meaning.Tree.{Expr, Constant, Named, Unary, Not, Binary, And, Or, Compare, Cond, TupleOf, ListOf, DictOf, Attr, Index, Call, Method, Exprs, NoExpr, More, Links, Last, Link, Pairs, NoPair, Pair, Keys, NoKey, Key, Target, ToName, ToAttr, ToIndex, ToEach, Targets, Only, Then, Stmt, Do, Assign, AugName, AugAttr, AugIndex, Delete, Pass, Break, Continue, ReturnNone, Return, Reraise, Raise, Assert, AssertWith, Import, From, If, While, For, Try, Finally, TryFinally, Def, Block, End, Next, Branches, Else, Case, Handlers, NoHandler, Any, On, OnAs}
+use Rattle.bc_scheme.specs.py_meaning.Program.{Source}
+use Rattle.bc_scheme.specs.Expressions.{literal, name, one, «not», two, «and», «or», compare, chain, cond, tuple, items, dict, attr, index, call, method, no_expr, next, no_operand, operand, last, link, no_pair, pair, no_key, key, straight, negated}
+use Rattle.bc_scheme.specs.Statements.{to_name, to_attr, to_index, to_each, one_store, next_store, one_assign, next_assign, gone_name, gone_index, one_gone, next_gone, no_part, part, no_import, imported, no_text, text, no_name, taken, jumped, popped, unwound, bare, with_defaults, «do», assign, aug_name, aug_attr, aug_index, delete, pass, «break», «continue», return_none, «return», reraise, raise, no_assert, no_assert_with, assert, assert_with, «import», from, «if», «while», «for», «try», finally, try_finally, def, no_stmt, stmt, «else», last_branch, branch, «except», no_clause, any, on, on_as}
+use Rattle.bc_scheme.specs.Translation.{Translates}
 
 abbrev alias : List ℕ → Option (List ℕ) → Alias
 alias x y = record { name = x; bound = y }

@@ -1,5 +1,5 @@
 use Rattle.std.proofs.Common.{◌∷◌}
-use Rattle.frozen_programs.specs.Programs.{IsProgramOf}
+use Rattle.meant_files.specs.Programs.{IsProgramOf}
 use Rattle.board_command.proofs.Meaning.{OfImages, image_programs, tasks_mean}
 use Rattle.board_command.proofs.laws.board_means_law.Goals as goal
 

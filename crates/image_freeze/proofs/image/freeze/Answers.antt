@@ -1,11 +1,11 @@
 use Rattle.std.proofs.Common.{◌≡◌, ℕ, List, All, Result, Ok, Err, Vec, Global, refl}
 use Rattle.std.specs.Prelude.{IfOk}
 use Rattle.mpy_base.specs.declared.refused.Refused.{Refused}
-use Rattle.image_grammar.specs.declared.fault.ImageFault.{ImageFault}
-use Rattle.image_grammar.specs.declared.entry.Entry.{Entry}
-use Rattle.image_grammar.specs.Image.{IsImage}
-use Rattle.image_grammar.specs.Opening.{Base}
-use Rattle.image_base.specs.Base.{base_of}
+use Rattle.image_open.specs.image_grammar.declared.fault.ImageFault.{ImageFault}
+use Rattle.image_open.specs.image_grammar.declared.entry.Entry.{Entry}
+use Rattle.image_open.specs.image_grammar.Image.{IsImage}
+use Rattle.image_open.specs.image_grammar.Opening.{Base}
+use Rattle.image_open.specs.image_grammar.Base.{base_of}
 use Rattle.image_open.specs.Opens.{Opens, with_entries}
 use Rattle.image_freeze.specs.Ends.{Ends}
 use Rattle.image_freeze.specs.Fronts.{front_of}

@@ -1,5 +1,5 @@
 use Rattle.std.proofs.Common.{sym, ap, subst}
-use Rattle.bc_library.specs.Texts.{IsPlain}
+use Rattle.image_grammar.specs.bc_library.Texts.{IsPlain}
 use Rattle.image_grammar.specs.declared.entry.Entry.{Entry}
 use Rattle.image_open.proofs.Behind.{module_there, next_copied}
 use Rattle.image_open.proofs.copies.copies.Goals as goal

@@ -1,5 +1,5 @@
 use Rattle.std.proofs.Common.{◌≡◌, Ok, Err}
-use Rattle.image_base.specs.Base.{base_of}
+use Rattle.image_grammar.specs.Base.{base_of}
 use Rattle.image_grammar.proofs.Inversion.{done, ok_is}
 use Rattle.image_open.proofs.Results.{failed}
 use Rattle.image_open.proofs.Single.{image_single}

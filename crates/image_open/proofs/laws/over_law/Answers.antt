@@ -1,7 +1,7 @@
 use Rattle.std.proofs.Common.{◌≡◌, Some, sym, subst}
-use Rattle.bc_library.specs.Shelf.{Shelf}
-use Rattle.bc_library.specs.Texts.{text_numbered}
-use Rattle.bc_library.proofs.Pools.{kept}
+use Rattle.image_grammar.specs.bc_library.Shelf.{Shelf}
+use Rattle.image_grammar.specs.bc_library.Texts.{text_numbered}
+use Rattle.image_grammar.proofs.bc_library_lemmas.Pools.{kept}
 use Rattle.image_grammar.specs.Image.{texts_used}
 use Rattle.image_open.proofs.Base.{opened_again}
 use Rattle.image_open.proofs.Below.{nothing_opened}

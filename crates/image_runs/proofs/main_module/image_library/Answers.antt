@@ -1,6 +1,6 @@
 use Rattle.std.proofs.Common.{◌≡◌, Some, None, inl, sym, ap, ◌∙◌}
-use Rattle.bc_library.specs.declared.fault.Member.TheVariants as members
-use Rattle.bc_library.specs.Shelf.{member_of}
+use Rattle.image_open.specs.bc_library.declared.fault.Member.TheVariants as members
+use Rattle.image_open.specs.bc_library.Shelf.{member_of}
 use Rattle.image_runs.proofs.Found.{main_at, found_only, found_no_fault, lacking_only, unopened_only, unopened_fault}
 use Rattle.image_runs.proofs.main_module.image_library.Goals as goal
 

@@ -1,6 +1,6 @@
 use Rattle.std.proofs.Common.{List, ℕ, refl, sym, ap, subst, ◌∙◌}
 use Rattle.qstr_pool.specs.Pool.{Texts}
-use Rattle.mpy_tree.specs.File.{IsModule}
+use Rattle.mpy_reader.specs.mpy_tree.File.{IsModule}
 use Rattle.library_files.specs.declared.entry.Entry.TheVariants as entries
 use Rattle.library_files.specs.Steps.{AddsImports, AreShort}
 use Rattle.library_files.proofs.Whole.{is_begun, not_begun}

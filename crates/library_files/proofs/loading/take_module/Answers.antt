@@ -1,5 +1,5 @@
 use Rattle.std.proofs.Common.{subst}
-use Rattle.mpy_tree.specs.File.{IsModule}
+use Rattle.mpy_reader.specs.mpy_tree.File.{IsModule}
 use Rattle.library_files.specs.Imports.{Imports}
 use Rattle.library_files.proofs.Taken.{module_adds, module_steps}
 use Rattle.library_files.proofs.loading.take_module.Goals as goal

@@ -1,7 +1,7 @@
 use Rattle.std.proofs.Common.{◌≡◌, ℕ, List, ap, sym, subst}
 use Rattle.mpy_words.specs.Words.{first_name}
-use Rattle.run_commands.specs.Run.{room_of}
-use Rattle.run_commands.proofs.Running.{says_run, ends_run, status_zero}
+use Rattle.meant_commands.specs.run_commands.Run.{room_of}
+use Rattle.meant_commands.proofs.run_commands_lemmas.Running.{says_run, ends_run, status_zero}
 use Rattle.mpy_tool.specs.Call.{call_of}
 use Rattle.mpy_tool.specs.Below.{library_below}
 use Rattle.mpy_tool.specs.Doing.{LibraryBy}

@@ -1,6 +1,6 @@
 use Rattle.std.proofs.Common.{refl}
 use Rattle.std.proofs.KnownBytes.{Keeps-refl}
-use Rattle.bc_library.specs.Shelf.{Shelf}
+use Rattle.image_grammar.specs.bc_library.Shelf.{Shelf}
 use Rattle.mpy_tool.specs.Call.{call_of}
 use Rattle.mpy_tool.specs.Doing.{ActsBy}
 use Rattle.mpy_tool.specs.Order.{base_by}

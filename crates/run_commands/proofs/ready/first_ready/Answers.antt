@@ -1,6 +1,6 @@
 use Rattle.std.proofs.Common.{Result, subst}
 use Rattle.std.specs.Prelude.{IfOk}
-use Rattle.mpy_tree.specs.Raw.{Module}
+use Rattle.bc_library.specs.mpy_tree.Raw.{Module}
 use Rattle.bc_library.specs.Shelf.{Shelf}
 use Rattle.library_files.specs.Ends.{BeginsWith}
 use Rattle.command_files.specs.mpy_endings.declared.ending.Ending.{Ending}

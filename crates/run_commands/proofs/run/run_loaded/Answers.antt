@@ -1,7 +1,7 @@
 use Rattle.std.proofs.Common.{◌≡◌, [], Result, refl, sym, subst}
 use Rattle.std.specs.Prelude.{IfOk, IfErr}
 use Rattle.std.proofs.lemmas.Option.{slice_get_within}
-use Rattle.mpy_tree.specs.Raw.{Module}
+use Rattle.bc_library.specs.mpy_tree.Raw.{Module}
 use Rattle.command_files.specs.image_runs.Main.{IsMainAt}
 use Rattle.library_files.specs.Ends.{HoldsModules}
 use Rattle.library_runs.specs.declared.ending.RunEnd.TheVariants as ends

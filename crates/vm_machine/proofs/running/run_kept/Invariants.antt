@@ -1,5 +1,5 @@
 use Rattle.std.specs.Prelude.{map}
-use Rattle.vm_cache.specs.Kept.{AreFetched}
+use Rattle.vm_starting.specs.Kept.{AreFetched}
 use Rattle.vm_machine.proofs.Runs.{RanSoFar}
 use Rattle.vm_machine.proofs.running.run_kept.Given as goal
 

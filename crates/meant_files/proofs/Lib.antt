@@ -1,0 +1,16 @@
+mod Came
+mod Crossed
+mod Examples
+mod Follows
+mod Holds
+pub mod Libraries
+mod Loaded
+mod Made
+pub mod Matched
+mod Merged
+mod One
+pub mod Places
+mod Quiet
+mod SourcesHold
+mod Statements
+mod Trees

@@ -1,0 +1,5 @@
+pub use Rattle.library_runs.specs.vm_starting
+pub use Rattle.library_runs.specs.vm_states
+pub mod Meant
+pub mod Runs
+pub mod Units

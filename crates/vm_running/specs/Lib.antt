@@ -1,4 +1,0 @@
-pub mod Calling
-pub mod Comes
-pub mod Leaves
-pub mod Values
