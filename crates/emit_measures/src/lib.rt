@@ -7,7 +7,7 @@ mod expr_heights;
 mod expr_lengths;
 mod faults;
 mod imports;
-mod numbers;
+mod number_lengths;
 mod statement_heights;
 mod statement_lengths;
 mod target_heights;

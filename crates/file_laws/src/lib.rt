@@ -2,9 +2,9 @@
 #![tactic(auto)]
 
 mod canonical;
-mod cuts;
+mod cut_files;
 mod image_cuts;
 
 pub use canonical::canonical_law;
-pub use cuts::{cut_law, suffix_law};
+pub use cut_files::{cut_law, suffix_law};
 pub use image_cuts::{cut_image, image_with_suffix};

@@ -7,7 +7,7 @@ mod codes;
 mod names;
 mod opening;
 mod places;
-mod programs;
+mod shown_program;
 mod starting;
 
 pub use cache::Cache;
@@ -16,7 +16,7 @@ pub use frame_calls;
 pub use names::names_law;
 pub use opening::Vm;
 pub use places::Places;
-pub use programs::{code_law, program_law};
+pub use shown_program::{code_law, program_law};
 pub use starting::{MAIN, NAME, start_main};
 pub use vm_states;
 pub use vm_states::{bc_library, bc_rows};
