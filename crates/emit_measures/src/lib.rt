@@ -1,4 +1,5 @@
-//! How tall the code of a text gets, how many handler entries it holds, and whether it passes a limit.
+//! What the code of a text comes to, counted on its tree: its height, its handler entries, its bytes and the
+//! locals that it names, and whether these pass a limit.
 #![tactic(auto)]
 
 mod counts;

@@ -1,4 +1,4 @@
-//! Canonical files, of which a module has one.
+//! Laws of files that no command uses: canonical ones, and those that are cut off or have bytes after them.
 #![tactic(auto)]
 
 mod canonical;

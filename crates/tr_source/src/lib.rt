@@ -1,4 +1,5 @@
-//! An accepted source keeps what translations ask of it.
+//! What an accepted source keeps and spells, and laws of its translation: that it is verified, and that there
+//! is one.
 #![tactic(auto)]
 
 mod asked;

@@ -1,4 +1,5 @@
-//! How a run begins: its memory, and the main module, over frames and an arena.
+//! How a run begins: the program that the machine runs for a library of files, what was fetched of its codes,
+//! the run's memory, and the main module.
 #![tactic(auto)]
 
 mod cache;

@@ -1,4 +1,5 @@
-//! Calls that run a library of files, and what an instruction that is fetched finds on them.
+//! Calls that run a program over an arena: what an instruction that is fetched finds on them, and how they
+//! stay so.
 #![tactic(auto)]
 
 mod call_tops;
