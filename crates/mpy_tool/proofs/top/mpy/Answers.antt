@@ -1,3 +1,4 @@
+use Rattle.meant_commands.proofs.mpy_endings_lemmas.Statuses.{not_two}
 use Rattle.mpy_tool.specs.Call.{call_of}
 use Rattle.mpy_tool.proofs.Acting.{go_ordered, check_ordered, dump_ordered, cross_ordered, merge_ordered, freeze_ordered, migrate_ordered, run_ordered, board_ordered, stress_ordered, go_means_ordered, run_means_ordered, stress_means_ordered}
 use Rattle.mpy_tool.proofs.top.mpy.Goals as goal
@@ -66,3 +67,6 @@ pub returns-in-Ok-clause-stress_means : goal.returns-in-Ok-clause-stress_means
 returns-in-Ok-clause-stress_means g c =
     let call = call_of g.F.Folder g.S.Sink g.P.Port g.E.Sink c.args.words.now c.args.outside.now c.obey.new.outside c.obey.result in
     stress_means_ordered c.in-Ok.order call c.go_means_law.ensures c.in-Ok.ensures.order c.obey.ensures.ended
+
+pub returns-in-Err-clause-flushed : goal.returns-in-Err-clause-flushed
+returns-in-Err-clause-flushed g c = λ s. absurd (not_two s)
