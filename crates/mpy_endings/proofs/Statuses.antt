@@ -1,5 +1,6 @@
--- The endings whose status is that of a run.
-use Rattle.std.proofs.Common.{◌≡◌, ◌⊎◌, inl, inr, ℕ, refl, subst}
+-- The endings whose status is that of a run, and those that leave the counts of faults.
+use Rattle.std.proofs.Common.{◌≡◌, ◌⊎◌, inl, inr, ℕ, false, refl, subst, ◌∙◌}
+use Rattle.mpy_io.specs.Count.{Counts}
 use Rattle.image_runs.specs.declared.fault.MainFault.TheVariants as mains
 use Rattle.manifest_files.specs.declared.frozen_fault.SourcesFault.TheVariants as sources
 use Rattle.manifest_files.specs.declared.frozen_fault.FrozenFault.TheVariants as frozen
@@ -7,7 +8,7 @@ use Rattle.mpy_endings.specs.declared.ending.BoardFault.TheVariants as boards
 use Rattle.mpy_endings.specs.declared.ending.Ending.{Ending}
 use Rattle.mpy_endings.specs.declared.ending.Ending.TheVariants.{Done, Unaccepted, Unread, Unverified, Unmerged, Unopened, Unfrozen, Unboarded, Stopped, ReadFault, WriteFault, Unwritten, NoMemory, Absent}
 use Rattle.mpy_endings.specs.declared.ending.Stop.TheVariants.{Past, LibraryFault, LibraryUnaccepted, Raised, Memory, Steps}
-use Rattle.mpy_endings.specs.Ending.{IsRunStatus, status_of}
+use Rattle.mpy_endings.specs.Ending.{IsRunStatus, is_folder_fault, is_out_fault, status_of}
 
 pub not_run : (n : ℕ) → (n ≡ 0 → ⊥) → (n ≡ 1 → ⊥) → (n ≡ 5 → ⊥) → (n ≡ 6 → ⊥) → IsRunStatus n → ⊥
 not_run n a b c d (inl e) = a e
@@ -78,3 +79,57 @@ none_run P done raised memory steps ending h s = elim (run_ended ending s) [
   | inr (inr (inl e)) ↦ memory (subst P e h)
   | inr (inr (inr e)) ↦ steps e.0 (subst P e.1 h)
 ]
+
+-- counts of faults
+-- ================
+
+quiet_folder : (ending : Ending) → (status_of ending ≡ 7 → ⊥) → (status_of ending ≡ 8 → ⊥) → is_folder_fault ending ≡ false
+quiet_folder Done a b = refl
+quiet_folder (Unaccepted fault) a b = refl
+quiet_folder (Unread fault) a b = refl
+quiet_folder (Unverified fault) a b = refl
+quiet_folder (Unmerged fault) a b = refl
+quiet_folder (Unopened fault) a b = refl
+quiet_folder (Unfrozen (frozen.Sources (sources.Manifest fault))) a b = refl
+quiet_folder (Unfrozen (frozen.Sources (sources.Absent name))) a b = refl
+quiet_folder (Unfrozen (frozen.Sources (sources.Unaccepted name fault))) a b = refl
+quiet_folder (Unfrozen (frozen.Sources (sources.Unread name))) a b = absurd (a refl)
+quiet_folder (Unfrozen (frozen.Image fault)) a b = refl
+quiet_folder (Unboarded (boards.Plan fault)) a b = refl
+quiet_folder (Unboarded (boards.NoModule name)) a b = refl
+quiet_folder (Unboarded (boards.Unwritten task)) a b = absurd (b refl)
+quiet_folder (Stopped (Past limit)) a b = refl
+quiet_folder (Stopped (LibraryFault path)) a b = absurd (a refl)
+quiet_folder (Stopped (LibraryUnaccepted source)) a b = refl
+quiet_folder (Stopped Raised) a b = refl
+quiet_folder (Stopped Memory) a b = refl
+quiet_folder (Stopped (Steps count)) a b = refl
+quiet_folder ReadFault a b = absurd (a refl)
+quiet_folder WriteFault a b = refl
+quiet_folder Unwritten a b = absurd (b refl)
+quiet_folder NoMemory a b = refl
+quiet_folder Absent a b = refl
+
+quiet_out : (ending : Ending) → (status_of ending ≡ 8 → ⊥) → is_out_fault ending ≡ false
+quiet_out Done b = refl
+quiet_out (Unaccepted fault) b = refl
+quiet_out (Unread fault) b = refl
+quiet_out (Unverified fault) b = refl
+quiet_out (Unmerged fault) b = refl
+quiet_out (Unopened fault) b = refl
+quiet_out (Unfrozen fault) b = refl
+quiet_out (Unboarded fault) b = refl
+quiet_out (Stopped stop) b = refl
+quiet_out ReadFault b = refl
+quiet_out WriteFault b = absurd (b refl)
+quiet_out Unwritten b = refl
+quiet_out NoMemory b = refl
+quiet_out Absent b = refl
+
+-- with a status other than 7 and 8 neither count rose
+module _ (ending : Ending) (status : ℕ) (is : status ≡ status_of ending) (unread : status ≡ 7 → ⊥) (unwritten : status ≡ 8 → ⊥) where
+  pub folder_stays : (old new : ℕ) → Counts old new (is_folder_fault ending) → new ≡ old
+  folder_stays old new h = subst (Counts old new) (quiet_folder ending (λ e. unread (is ∙ e)) (λ e. unwritten (is ∙ e))) h
+
+  pub out_stays : (old new : ℕ) → Counts old new (is_out_fault ending) → new ≡ old
+  out_stays old new h = subst (Counts old new) (quiet_out ending (λ e. unwritten (is ∙ e))) h

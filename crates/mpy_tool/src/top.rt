@@ -21,7 +21,7 @@ ghost use Rattle.meant_commands.specs.image_commands.Migrate.{Migrates};
 ghost use Rattle.board_command.specs.Boards.{Boards};
 ghost use Rattle.stress_command.specs.Stress.{EndsStress};
 ghost use Rattle.mpy_tool.specs.Below.{Based, MayLieBelow, image_version, library_below};
-ghost use Rattle.mpy_tool.specs.Call.{call_of, texts, Orders, OrdersOne, OrdersTwo, Shows, ShowsPorts};
+ghost use Rattle.mpy_tool.specs.Call.{call_of, texts, LeavesCounts, Orders, OrdersOne, OrdersTwo, Shows, ShowsPorts};
 ghost use Rattle.mpy_tool.specs.Doing.{ActsBy, ObeysBy};
 ghost use Rattle.mpy_tool.specs.Making.{StressMeans};
 ghost use Rattle.mpy_tool.specs.Order.{RefusesWords, base_by, calls_ports, calls_ports_in, makes_source, runs_library, ChangesBy, ChangesIn};
@@ -249,6 +249,10 @@ pub fn mpy<F: Folder, S: Sink, P: Port, E: Sink>(
 
     // Only go, run and stress call ports.
     ensures ports { calls_ports_in (order_of (texts words.now)) ≡ false → outside.new.ports ≡ outside.old.ports }
+
+    // With a status other than 7 and 8 no call of the folder and of the output's sink failed.
+    ensures counts { let call = call_of F.Folder S.Sink P.Port E.Sink words.now outside.old outside.new result in
+        LeavesCounts call }
 
     // With status 0, and with 1, 5 and 6 of a run, nothing of what is printed is held back.
     ensures flushed { IsRunStatus result → S.held outside.new.out ≡ [] }
