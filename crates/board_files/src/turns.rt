@@ -1,14 +1,14 @@
 //! Turns whose output goes to files.
 
-ghost use Rattle.std.specs.Prelude.{◌≡◌, ◌+◌, ◌<◌, ◌≤◌, ◌^◌, ℕ, All, OnOk, length};
+ghost use Rattle.std.specs.Prelude.{◌≡◌, ◌+◌, ◌<◌, ◌≤◌, ◌^◌, ℕ, All, IfErr, OnOk, length};
 ghost use Rattle.mpy_base.specs.declared.limits.TheConstants.{MAX_TASKS};
 ghost use Rattle.mpy_io.specs.Count.{Counts};
 ghost use Rattle.vm_starting.specs.vm_states.Means.{Program};
 ghost use Rattle.vm_starting.specs.Programs.{IsProgramOf};
 ghost use Rattle.board_plan.specs.Plans.{all_steps};
 ghost use Rattle.board_tasks.specs.Turns.{AreRuns};
-ghost use Rattle.board_files.specs.Files.{KeepsOthers, StopsWithin, is_unwritten};
-ghost use Rattle.board_files.specs.Runs.{Goes, GoesBy, PaidWithin};
+ghost use Rattle.board_files.specs.Files.{KeepsOthers, StopsWithin, cut_of, is_unwritten};
+ghost use Rattle.board_files.specs.Runs.{Goes, GoesBy, PaidWithin, StopsBy, StopsIn};
 
 use crate::files::append_output;
 use crate::stop::OutputStop;
@@ -41,6 +41,7 @@ fn make_part<F: Folder>(
     ensures as_many { length board.new ≡ length board.old }
     ensures paid { (paid : ℕ) → PaidWithin board.old paid → PaidWithin board.new (paid + steps) }
     ensures goes { OnOk result ((p : Program) → IsProgramOf library.now p → Goes p task steps board.old board.new (F.files folder.old) (F.files folder.new)) }
+    ensures stopped { IfErr result (λ stop. (p : Program) → IsProgramOf library.now p → StopsIn p task steps (cut_of stop) board.old (F.files folder.old) (F.files folder.new)) }
     ensures others { KeepsOthers (length board.old) (F.files folder.old) (F.files folder.new) }
     ensures within { StopsWithin (length board.old) result }
     ensures counts { Counts (F.count folder.old) (F.count folder.new) (is_unwritten result) }
@@ -73,6 +74,7 @@ fn make_turn<F: Folder>(
     ensures as_many { length board.new ≡ length board.old }
     ensures paid { (paid : ℕ) → PaidWithin board.old paid → PaidWithin board.new (paid + turn.steps) }
     ensures goes { OnOk result ((p : Program) → IsProgramOf library.now p → Goes p turn.task turn.steps board.old board.new (F.files folder.old) (F.files folder.new)) }
+    ensures stopped { IfErr result (λ stop. (p : Program) → IsProgramOf library.now p → StopsIn p turn.task turn.steps (cut_of stop) board.old (F.files folder.old) (F.files folder.new)) }
     ensures others { KeepsOthers (length board.old) (F.files folder.old) (F.files folder.new) }
     ensures within { StopsWithin (length board.old) result }
     ensures counts { Counts (F.count folder.old) (F.count folder.new) (is_unwritten result) }
@@ -104,6 +106,7 @@ pub(crate) fn make_turns<F: Folder>(
     ensures runs { AreRuns library.now board.new }
     ensures as_many { length board.new ≡ length board.old }
     ensures goes { OnOk result ((p : Program) → IsProgramOf library.now p → GoesBy p turns.now board.old board.new (F.files folder.old) (F.files folder.new)) }
+    ensures stopped { IfErr result (λ stop. (p : Program) → IsProgramOf library.now p → StopsBy p turns.now (cut_of stop) board.old (F.files folder.old) (F.files folder.new)) }
     ensures others { KeepsOthers (length board.old) (F.files folder.old) (F.files folder.new) }
     ensures within { StopsWithin (length board.old) result }
     ensures counts { Counts (F.count folder.old) (F.count folder.new) (is_unwritten result) }
