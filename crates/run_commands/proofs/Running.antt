@@ -23,7 +23,7 @@ use Rattle.library_runs.specs.declared.ending.RunEnd.TheVariants as ends
 use Rattle.library_runs.specs.Runs.{Sight, IsOver, RunsAs, is_write_fault, sight, speaks}
 use Rattle.command_files.specs.mpy_endings.declared.ending.BoardFault.TheVariants as boards
 use Rattle.command_files.specs.mpy_endings.declared.ending.Ending.{Ending}
-use Rattle.command_files.specs.mpy_endings.declared.ending.Ending.TheVariants.{Done, Unaccepted, Unread, Unverified, Unmerged, Unopened, Unfrozen, Unboarded, Stopped, ReadFault, WriteFault, Unwritten, NoMemory, Absent}
+use Rattle.command_files.specs.mpy_endings.declared.ending.Ending.TheVariants.{Done, Unaccepted, Unread, Unverified, Unmerged, Unopened, Unfrozen, Unboarded, Different, Stopped, ReadFault, WriteFault, Unwritten, NoMemory, Absent}
 use Rattle.command_files.specs.mpy_endings.declared.ending.Stop.TheVariants.{Past, LibraryFault, LibraryUnaccepted, Raised, Memory, Steps}
 use Rattle.run_commands.specs.Base.{base_of}
 use Rattle.command_files.specs.mpy_endings.Ending.{is_folder_fault, is_out_fault, is_said, status_of}
@@ -56,6 +56,7 @@ refuses_library files name (Unmerged fault) h = absurd h
 refuses_library files name (Unopened fault) h = absurd h
 refuses_library files name (Unfrozen fault) h = absurd h
 refuses_library files name (Unboarded fault) h = absurd h
+refuses_library files name (Different difference) h = absurd h
 refuses_library files name (Stopped stop) h = absurd h
 refuses_library files name ReadFault h = tt
 refuses_library files name WriteFault h = absurd h
@@ -95,6 +96,7 @@ refused_unloaded files name (Unmerged fault) h = absurd h
 refused_unloaded files name (Unopened fault) h = absurd h
 refused_unloaded files name (Unfrozen fault) h = absurd h
 refused_unloaded files name (Unboarded fault) h = absurd h
+refused_unloaded files name (Different difference) h = absurd h
 refused_unloaded files name (Stopped (Past limit)) h = tt
 refused_unloaded files name (Stopped (LibraryFault path)) h = tt
 refused_unloaded files name (Stopped (LibraryUnaccepted source)) h = absurd h
@@ -144,6 +146,7 @@ module _ (Comes : Result Ready Ending → Type 0) (room : Room) (steps : ℕ) (o
   not_loaded (Unopened fault) u h e s = (h, untouched e s)
   not_loaded (Unfrozen fault) u h e s = absurd u
   not_loaded (Unboarded fault) u h e s = absurd u
+  not_loaded (Different difference) u h e s = absurd u
   not_loaded (Stopped (Past limit)) u h e s = (h, untouched e s)
   not_loaded (Stopped (LibraryFault path)) u h e s = (h, untouched e s)
   not_loaded (Stopped (LibraryUnaccepted source)) u h e s = (h, untouched e s)
@@ -166,6 +169,7 @@ module _ (Comes : Result Ready Ending → Type 0) (room : Room) (steps : ℕ) (o
   unsaid (Unopened fault) r e = r.1.says
   unsaid (Unfrozen fault) r e = absurd r
   unsaid (Unboarded fault) r e = absurd r
+  unsaid (Different difference) r e = absurd r
   unsaid (Stopped (Past limit)) r e = r.1.says
   unsaid (Stopped (LibraryFault path)) r e = r.1.says
   unsaid (Stopped (LibraryUnaccepted source)) r e = r.1.says
@@ -189,6 +193,7 @@ module _ (Comes : Result Ready Ending → Type 0) (room : Room) (steps : ℕ) (o
     runs_known (Unopened fault) r = (known (Err (Unopened fault)) r.0, r.1)
     runs_known (Unfrozen fault) r = absurd r
     runs_known (Unboarded fault) r = absurd r
+    runs_known (Different difference) r = absurd r
     runs_known (Stopped (Past limit)) r = (known (Err (Stopped (Past limit))) r.0, r.1)
     runs_known (Stopped (LibraryFault path)) r = (known (Err (Stopped (LibraryFault path))) r.0, r.1)
     runs_known (Stopped (LibraryUnaccepted source)) r = (known (Err (Stopped (LibraryUnaccepted source))) r.0, r.1)
@@ -242,6 +247,7 @@ unloaded_quiet (Unmerged fault) h = refl
 unloaded_quiet (Unopened fault) h = refl
 unloaded_quiet (Unfrozen fault) h = refl
 unloaded_quiet (Unboarded fault) h = refl
+unloaded_quiet (Different difference) h = refl
 unloaded_quiet (Stopped stop) h = refl
 unloaded_quiet ReadFault h = refl
 unloaded_quiet WriteFault h = absurd h
@@ -280,6 +286,7 @@ said_line name (Unmerged fault) e = absurd cc
 said_line name (Unopened fault) e = absurd cc
 said_line name (Unfrozen fault) e = absurd cc
 said_line name (Unboarded fault) e = absurd cc
+said_line name (Different difference) e = absurd cc
 said_line name (Stopped (Past limit)) e = absurd cc
 said_line name (Stopped (LibraryFault path)) e = absurd cc
 said_line name (Stopped (LibraryUnaccepted source)) e = absurd cc
@@ -316,6 +323,7 @@ status_zero (Unfrozen (frozen.Image fault)) e = absurd cc
 status_zero (Unboarded (boards.Plan fault)) e = absurd cc
 status_zero (Unboarded (boards.NoModule name)) e = absurd cc
 status_zero (Unboarded (boards.Unwritten task)) e = absurd cc
+status_zero (Different difference) e = absurd cc
 status_zero (Stopped (Past limit)) e = absurd cc
 status_zero (Stopped (LibraryFault path)) e = absurd cc
 status_zero (Stopped (LibraryUnaccepted source)) e = absurd cc
