@@ -15,7 +15,7 @@ use Rattle.board_meaning.specs.board_files.Files.{KeepsOthers}
 use Rattle.board_meaning.specs.board_files.Stopped.{HasStoppedIn}
 use Rattle.board_meaning.specs.board_files.Summaries.{HasRunIn, HasRunFrontIn}
 use Rattle.command_files.specs.mpy_endings.declared.ending.Ending.{Ending}
-use Rattle.command_files.specs.mpy_endings.declared.ending.Ending.TheVariants.{Done, Unaccepted, Unread, Unverified, Unmerged, Unopened, Unfrozen, Unboarded, Stopped, ReadFault, WriteFault, Unwritten, NoMemory, Absent}
+use Rattle.command_files.specs.mpy_endings.declared.ending.Ending.TheVariants.{Done, Unaccepted, Unread, Unverified, Unmerged, Unopened, Unfrozen, Unboarded, Different, Stopped, ReadFault, WriteFault, Unwritten, NoMemory, Absent}
 use Rattle.command_files.specs.mpy_endings.declared.ending.BoardFault.TheVariants as boards
 use Rattle.command_files.specs.Images.{HoldsImage}
 use Rattle.board_command.specs.Plans.{RefusesPlan}
@@ -42,6 +42,7 @@ module _ (below : Shelf) (image plan_name : List ℕ) (old new : Option FileOf) 
   plan_refused shelf (Unboarded (boards.Plan fault)) e opened h = (inr (shelf, opened, h, refl), untouched e)
   plan_refused shelf (Unboarded (boards.NoModule name)) e opened h = absurd h
   plan_refused shelf (Unboarded (boards.Unwritten task)) e opened h = absurd h
+  plan_refused shelf (Different difference) e opened h = absurd h
   plan_refused shelf (Stopped stop) e opened h = absurd h
   plan_refused shelf ReadFault e opened h = (inr (shelf, opened, h, refl), untouched e)
   plan_refused shelf WriteFault e opened h = absurd h

@@ -11,7 +11,7 @@ use Rattle.board_meaning.specs.board_files.Files.{KeepsOthers}
 use Rattle.board_meaning.specs.board_files.Stopped.{HasStoppedIn}
 use Rattle.board_meaning.specs.board_files.Summaries.{HasRunIn, HasRunFrontIn}
 use Rattle.command_files.specs.mpy_endings.declared.ending.Ending.{Ending}
-use Rattle.command_files.specs.mpy_endings.declared.ending.Ending.TheVariants.{Done, Unaccepted, Unread, Unverified, Unmerged, Unopened, Unfrozen, Unboarded, Stopped, ReadFault, WriteFault, Unwritten, NoMemory, Absent}
+use Rattle.command_files.specs.mpy_endings.declared.ending.Ending.TheVariants.{Done, Unaccepted, Unread, Unverified, Unmerged, Unopened, Unfrozen, Unboarded, Different, Stopped, ReadFault, WriteFault, Unwritten, NoMemory, Absent}
 use Rattle.command_files.specs.mpy_endings.declared.ending.BoardFault.TheVariants as boards
 use Rattle.command_files.specs.Images.{HoldsImage, RefusesImage}
 use Rattle.board_command.specs.Plans.{HoldsPlan, RefusesPlan}
@@ -72,6 +72,7 @@ module _ (below : Shelf) (image plan_name : List ℕ) (old new : Option FileOf) 
       (shelf : Shelf) × (plan : Plan) × Holds below image plan_name old shelf plan × (first_missing shelf plan.tasks ≡ Some name) × (place ≡ 2)
       × Untouched old new before behind
   Boards place (Unboarded (boards.Unwritten task)) = Started (λ shelf plan. (task < length plan.tasks) × Stops shelf plan (Some task))
+  Boards place (Different difference) = ⊥
   Boards place (Stopped stop) = ⊥
   Boards place ReadFault = Refused place ReadFault
   -- the summary, or what was held back before, wasn't handed on

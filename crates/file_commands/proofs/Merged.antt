@@ -9,7 +9,7 @@ use Rattle.mpy_merge.specs.declared.fault.MergeFault.{MergeFault}
 use Rattle.mpy_io.specs.Files.{FileOf}
 use Rattle.mpy_writer.specs.mpy_tree.Raw.{Module}
 use Rattle.command_files.specs.mpy_endings.declared.ending.Ending.{Ending}
-use Rattle.command_files.specs.mpy_endings.declared.ending.Ending.TheVariants.{Done, Unaccepted, Unread, Unverified, Unmerged, Unopened, Unfrozen, Unboarded, Stopped, ReadFault, WriteFault, Unwritten, NoMemory, Absent}
+use Rattle.command_files.specs.mpy_endings.declared.ending.Ending.TheVariants.{Done, Unaccepted, Unread, Unverified, Unmerged, Unopened, Unfrozen, Unboarded, Different, Stopped, ReadFault, WriteFault, Unwritten, NoMemory, Absent}
 use Rattle.command_files.specs.Folder.{ChangesOnly}
 use Rattle.command_files.specs.mpy_endings.Ending.{is_out_fault}
 use Rattle.command_files.specs.Opened.{Refuses}
@@ -27,6 +27,7 @@ refusal files name (Unmerged fault) h = refl
 refusal files name (Unopened fault) h = refl
 refusal files name (Unfrozen fault) h = refl
 refusal files name (Unboarded fault) h = refl
+refusal files name (Different difference) h = refl
 refusal files name (Stopped stop) h = refl
 refusal files name ReadFault h = refl
 refusal files name WriteFault h = absurd h
@@ -46,6 +47,7 @@ refused_merges names written old new place (Unmerged fault) r same = absurd r.re
 refused_merges names written old new place (Unopened fault) r same = absurd r.refused
 refused_merges names written old new place (Unfrozen fault) r same = absurd r.refused
 refused_merges names written old new place (Unboarded fault) r same = absurd r.refused
+refused_merges names written old new place (Different difference) r same = absurd r.refused
 refused_merges names written old new place (Stopped stop) r same = absurd r.refused
 refused_merges names written old new place ReadFault r same = (r, same)
 refused_merges names written old new place WriteFault r same = absurd r.refused
@@ -63,6 +65,7 @@ merges_only names written old new place (Unmerged fault) h = same_only old new w
 merges_only names written old new place (Unopened fault) h = absurd h
 merges_only names written old new place (Unfrozen fault) h = absurd h
 merges_only names written old new place (Unboarded fault) h = absurd h
+merges_only names written old new place (Different difference) h = absurd h
 merges_only names written old new place (Stopped stop) h = absurd h
 merges_only names written old new place ReadFault h = same_only old new written h.1
 merges_only names written old new place WriteFault h = became_only old new written h.0 h.2

@@ -20,7 +20,7 @@ use crate::below::{image_version, or_nothing, release};
 use crate::outside::Outside;
 use board_command::board;
 use image_grammar::bc_library::Library;
-use meant_commands::file_commands::{check, cross, dump, merge_files};
+use meant_commands::file_commands::{check, check_as, cross, dump, merge_files};
 use meant_commands::image_commands::{freeze, migrate};
 use meant_commands::mpy_endings::{Ended, Ending, file_names, say_ending, source_name, word_at};
 use mpy_base::NoMemory;
@@ -92,6 +92,10 @@ fn ran_alone<F: Folder, S: Sink>(
     let name = word_at(words, 1);
     match order.command {
         Command::Check => Ended::of_two(check(alloc, name, folder, out)),
+        Command::CheckAs => {
+            let file = word_at(words, 2);
+            check_as(alloc, order.level, name, file, folder, out)
+        }
         Command::Dump => Ended::of_two(dump(alloc, name, folder, out)),
         Command::Cross => {
             let stored = source_name(words, order.stored_name);
@@ -130,7 +134,12 @@ fn ran<F: Folder, S: Sink>(
             Ended::of_two(freeze_below(alloc, order.base, below, name, written, folder))
         }
         Command::Board => board_below(alloc, below, name, word_at(words, 2), folder, out),
-        Command::Check | Command::Dump | Command::Cross | Command::Merge | Command::Migrate => {
+        Command::Check
+        | Command::CheckAs
+        | Command::Dump
+        | Command::Cross
+        | Command::Merge
+        | Command::Migrate => {
             release(below);
             ran_alone(order, alloc, words, folder, out)
         }

@@ -77,7 +77,8 @@ fn library_of<F: Folder>(
             let main = main_name(words, order.main_name);
             ready_below(alloc, below, name, main, folder)
         }
-        Command::Check | Command::Dump | Command::Cross | Command::Merge => unreachable!(),
+        Command::Check | Command::CheckAs | Command::Dump => unreachable!(),
+        Command::Cross | Command::Merge => unreachable!(),
         Command::Freeze | Command::Migrate => unreachable!(),
         Command::Board | Command::Stress => unreachable!(),
     }

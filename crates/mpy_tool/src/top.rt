@@ -9,6 +9,7 @@ ghost use Rattle.meant_commands.specs.mpy_endings.Ending.{IsRunStatus, status_of
 ghost use Rattle.meant_commands.specs.mpy_endings.Line.{Says, line_of};
 ghost use Rattle.board_command.specs.command_files.Outside.{Ends, EndsAt, Writes, WritesOf};
 ghost use Rattle.meant_commands.specs.file_commands.Check.{Checks};
+ghost use Rattle.meant_commands.specs.file_commands.CheckAs.{ChecksAs};
 ghost use Rattle.meant_commands.specs.file_commands.Cross.{Crosses};
 ghost use Rattle.meant_commands.specs.file_commands.Dump.{Dumps};
 ghost use Rattle.meant_commands.specs.file_commands.Merge.{Merges};
@@ -50,7 +51,8 @@ fn runs(command: Command) -> bool
 {
     match command {
         Command::Go | Command::Run => true,
-        Command::Check | Command::Dump | Command::Cross | Command::Merge => false,
+        Command::Check | Command::CheckAs | Command::Dump => false,
+        Command::Cross | Command::Merge => false,
         Command::Freeze | Command::Migrate | Command::Board | Command::Stress => false,
     }
 }
@@ -62,7 +64,8 @@ fn makes(command: Command) -> bool
     match command {
         Command::Stress => true,
         Command::Go | Command::Run => false,
-        Command::Check | Command::Dump | Command::Cross | Command::Merge => false,
+        Command::Check | Command::CheckAs | Command::Dump => false,
+        Command::Cross | Command::Merge => false,
         Command::Freeze | Command::Migrate | Command::Board => false,
     }
 }
@@ -73,7 +76,8 @@ fn base_place(order: Order) -> Option<usize>
 {
     match order.command {
         Command::Freeze | Command::Run | Command::Board => order.base,
-        Command::Go | Command::Check | Command::Dump | Command::Cross => None,
+        Command::Go | Command::Check | Command::CheckAs | Command::Dump => None,
+        Command::Cross => None,
         Command::Merge | Command::Migrate | Command::Stress => None,
     }
 }
@@ -187,6 +191,12 @@ pub fn mpy<F: Folder, S: Sink, P: Port, E: Sink>(
     // check FILE: how many codes are verified is printed, or what keeps the file from it is said.
     ensures check { let call = call_of F.Folder S.Sink P.Port E.Sink words.now outside.old outside.new result in
         OrdersOne call commands.Check (λ order file. Shows call (Ends Checks file)) }
+
+    // check SRC FILE: how many codes the file has is printed where it is a translation of the source at the level that is ordered, whoever
+    // made it, or what differs first, or keeps them from being compared, is said.
+    ensures check_as { let call = call_of F.Folder S.Sink P.Port E.Sink words.now outside.old outside.new result in
+        OrdersTwo call commands.CheckAs (λ order src file.
+        Shows call (EndsAt (λ old new before behind. ChecksAs order.level old src file before behind) call.words)) }
 
     // dump FILE: what the file holds is listed, or what keeps it from being read is said.
     ensures dump { let call = call_of F.Folder S.Sink P.Port E.Sink words.now outside.old outside.new result in

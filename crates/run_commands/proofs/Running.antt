@@ -19,7 +19,7 @@ use Rattle.library_runs.specs.declared.ending.RunEnd.{RunEnd}
 use Rattle.library_runs.specs.declared.ending.RunEnd.TheVariants as ends
 use Rattle.library_runs.specs.Runs.{Sight, IsOver, RunsAs, is_write_fault, sight, speaks}
 use Rattle.command_files.specs.mpy_endings.declared.ending.Ending.{Ending}
-use Rattle.command_files.specs.mpy_endings.declared.ending.Ending.TheVariants.{Done, Unaccepted, Unread, Unverified, Unmerged, Unopened, Unfrozen, Unboarded, Stopped, ReadFault, WriteFault, Unwritten, NoMemory, Absent}
+use Rattle.command_files.specs.mpy_endings.declared.ending.Ending.TheVariants.{Done, Unaccepted, Unread, Unverified, Unmerged, Unopened, Unfrozen, Unboarded, Different, Stopped, ReadFault, WriteFault, Unwritten, NoMemory, Absent}
 use Rattle.command_files.specs.mpy_endings.declared.ending.Stop.TheVariants.{Past, LibraryFault, LibraryUnaccepted, Raised, Memory, Steps}
 use Rattle.run_commands.specs.Base.{base_of}
 use Rattle.command_files.specs.mpy_endings.Ending.{IsRunStatus, is_folder_fault, is_out_fault, is_said, status_of}
@@ -53,6 +53,7 @@ refuses_library files name (Unmerged fault) h = absurd h
 refuses_library files name (Unopened fault) h = absurd h
 refuses_library files name (Unfrozen fault) h = absurd h
 refuses_library files name (Unboarded fault) h = absurd h
+refuses_library files name (Different difference) h = absurd h
 refuses_library files name (Stopped stop) h = absurd h
 refuses_library files name ReadFault h = tt
 refuses_library files name WriteFault h = absurd h
@@ -92,6 +93,7 @@ refused_unloaded files name (Unmerged fault) h = absurd h
 refused_unloaded files name (Unopened fault) h = absurd h
 refused_unloaded files name (Unfrozen fault) h = absurd h
 refused_unloaded files name (Unboarded fault) h = absurd h
+refused_unloaded files name (Different difference) h = absurd h
 refused_unloaded files name (Stopped (Past limit)) h = tt
 refused_unloaded files name (Stopped (LibraryFault path)) h = tt
 refused_unloaded files name (Stopped (LibraryUnaccepted source)) h = absurd h
@@ -141,6 +143,7 @@ module _ (Comes : Result Ready Ending → Type 0) (room : Room) (steps : ℕ) (o
   not_loaded (Unopened fault) u h e s = (h, untouched e s)
   not_loaded (Unfrozen fault) u h e s = absurd u
   not_loaded (Unboarded fault) u h e s = absurd u
+  not_loaded (Different difference) u h e s = absurd u
   not_loaded (Stopped (Past limit)) u h e s = (h, untouched e s)
   not_loaded (Stopped (LibraryFault path)) u h e s = (h, untouched e s)
   not_loaded (Stopped (LibraryUnaccepted source)) u h e s = (h, untouched e s)
@@ -163,6 +166,7 @@ module _ (Comes : Result Ready Ending → Type 0) (room : Room) (steps : ℕ) (o
   unsaid (Unopened fault) r e = r.1.says
   unsaid (Unfrozen fault) r e = absurd r
   unsaid (Unboarded fault) r e = absurd r
+  unsaid (Different difference) r e = absurd r
   unsaid (Stopped (Past limit)) r e = r.1.says
   unsaid (Stopped (LibraryFault path)) r e = r.1.says
   unsaid (Stopped (LibraryUnaccepted source)) r e = r.1.says
@@ -186,6 +190,7 @@ module _ (Comes : Result Ready Ending → Type 0) (room : Room) (steps : ℕ) (o
     runs_known (Unopened fault) r = (known (Err (Unopened fault)) r.0, r.1)
     runs_known (Unfrozen fault) r = absurd r
     runs_known (Unboarded fault) r = absurd r
+    runs_known (Different difference) r = absurd r
     runs_known (Stopped (Past limit)) r = (known (Err (Stopped (Past limit))) r.0, r.1)
     runs_known (Stopped (LibraryFault path)) r = (known (Err (Stopped (LibraryFault path))) r.0, r.1)
     runs_known (Stopped (LibraryUnaccepted source)) r = (known (Err (Stopped (LibraryUnaccepted source))) r.0, r.1)
@@ -239,6 +244,7 @@ unloaded_quiet (Unmerged fault) h = refl
 unloaded_quiet (Unopened fault) h = refl
 unloaded_quiet (Unfrozen fault) h = refl
 unloaded_quiet (Unboarded fault) h = refl
+unloaded_quiet (Different difference) h = refl
 unloaded_quiet (Stopped stop) h = refl
 unloaded_quiet ReadFault h = refl
 unloaded_quiet WriteFault h = absurd h
@@ -286,6 +292,7 @@ said_line name (Unmerged fault) e = absurd cc
 said_line name (Unopened fault) e = absurd cc
 said_line name (Unfrozen fault) e = absurd cc
 said_line name (Unboarded fault) e = absurd cc
+said_line name (Different difference) e = absurd cc
 said_line name (Stopped (Past limit)) e = absurd cc
 said_line name (Stopped (LibraryFault path)) e = absurd cc
 said_line name (Stopped (LibraryUnaccepted source)) e = absurd cc

@@ -1,7 +1,7 @@
 use Rattle.std.proofs.Common.{refl}
 use Rattle.meant_commands.proofs.mpy_endings_lemmas.Statuses.{not_two}
 use Rattle.mpy_tool.specs.Call.{call_of}
-use Rattle.mpy_tool.proofs.Acting.{go_ordered, check_ordered, dump_ordered, cross_ordered, merge_ordered, freeze_ordered, migrate_ordered, run_ordered, board_ordered, stress_ordered, go_means_ordered, run_means_ordered, stress_means_ordered}
+use Rattle.mpy_tool.proofs.Acting.{go_ordered, check_ordered, check_as_ordered, dump_ordered, cross_ordered, merge_ordered, freeze_ordered, migrate_ordered, run_ordered, board_ordered, stress_ordered, go_means_ordered, run_means_ordered, stress_means_ordered}
 use Rattle.mpy_tool.proofs.Counting.{obeys_stay}
 use Rattle.mpy_tool.proofs.top.mpy.Goals as goal
 
@@ -14,6 +14,11 @@ pub returns-in-Ok-clause-check : goal.returns-in-Ok-clause-check
 returns-in-Ok-clause-check g c =
     let call = call_of g.F.Folder g.S.Sink g.P.Port g.E.Sink c.args.words.now c.args.outside.now c.obey.new.outside c.obey.result in
     check_ordered c.in-Ok.order call c.in-Ok.ensures.order c.obey.ensures.ended
+
+pub returns-in-Ok-clause-check_as : goal.returns-in-Ok-clause-check_as
+returns-in-Ok-clause-check_as g c =
+    let call = call_of g.F.Folder g.S.Sink g.P.Port g.E.Sink c.args.words.now c.args.outside.now c.obey.new.outside c.obey.result in
+    check_as_ordered c.in-Ok.order call c.in-Ok.ensures.order c.obey.ensures.ended
 
 pub returns-in-Ok-clause-dump : goal.returns-in-Ok-clause-dump
 returns-in-Ok-clause-dump g c =
