@@ -3,6 +3,7 @@
 ghost use Rattle.std.specs.Prelude.{◌≡◌, ◌<◌, ◌≤◌, ℕ, List, [], Err, None, Some, IfErr, IfOk, OnOk, length};
 ghost use Rattle.mpy_base.specs.declared.limits.TheConstants.{MAX_TASKS};
 ghost use Rattle.mpy_io.specs.Count.{Counts};
+ghost use Rattle.vm_starting.specs.Kept.{AreFetched};
 ghost use Rattle.vm_starting.specs.vm_states.Means.{Program};
 ghost use Rattle.vm_starting.specs.Programs.{IsProgramOf, IsRunnable};
 ghost use Rattle.board_tasks.specs.Opened.{AreOpened, first_missing};
@@ -21,6 +22,7 @@ use board_tasks::{Board, BoardFault, stands_law};
 use mpy_base::{NoMemory, Refused};
 use mpy_io::{Folder, Sink};
 use std::alloc::Global;
+use vm_starting::Cache;
 use vm_starting::bc_library::Library;
 use vm_starting::bc_rows::Rows;
 
@@ -53,12 +55,14 @@ fn write_output<F: Folder>(
     alloc: Global,
     library: &Library,
     rows: &Rows<'_>,
+    cache: &mut Cache,
     plan: &Plan,
     board: &mut Board,
     folder: &mut F,
 ) -> Result<(), OutputStop>
     requires opened { AreOpened library.now plan.now.tasks board.old }
     requires rows { rows.now ≡ library.now }
+    requires kept { AreFetched library.now cache.old }
     requires can_run { CanRun plan.now }
     ensures written { OnOk result ((p : Program) → IsProgramOf library.now p → Written p plan.now board.old board.new (F.files folder.old) (F.files folder.new)) }
     ensures stopped { IfErr result (λ stop. (p : Program) → IsProgramOf library.now p → HasStoppedIn p plan.now (cut_of stop) (F.files folder.old) (F.files folder.new)) }
@@ -71,7 +75,7 @@ fn write_output<F: Folder>(
     stands_law();
     let count = plan.tasks.len() as u32;
     match begin_files(alloc, count, folder) {
-        Ok(()) => make_turns(alloc, board, library, rows, plan.turns.as_slice(), folder),
+        Ok(()) => make_turns(alloc, board, library, rows, cache, plan.turns.as_slice(), folder),
         Err(stop) => Err(stop),
     }
 }
@@ -81,6 +85,7 @@ fn run_turns<F: Folder, S: Sink>(
     alloc: Global,
     library: &Library,
     rows: &Rows<'_>,
+    cache: &mut Cache,
     plan: &Plan,
     board: &mut Board,
     folder: &mut F,
@@ -88,6 +93,7 @@ fn run_turns<F: Folder, S: Sink>(
 ) -> Result<(), BoardStop>
     requires opened { AreOpened library.now plan.now.tasks board.old }
     requires rows { rows.now ≡ library.now }
+    requires kept { AreFetched library.now cache.old }
     requires can_run { CanRun plan.now }
     ensures ran { OnOk result ((p : Program) → IsProgramOf library.now p → HasRunIn p plan.now (F.files folder.old) (F.files folder.new) (S.told out.old) (S.told out.new)) }
     ensures flushed { OnOk result (S.held out.new ≡ []) }
@@ -105,7 +111,7 @@ fn run_turns<F: Folder, S: Sink>(
     ensures out_counts { Counts (S.count out.old) (S.count out.new) (is_out_fault result) }
 {
     stands_law();
-    match write_output(alloc, library, rows, plan, board, folder) {
+    match write_output(alloc, library, rows, cache, plan, board, folder) {
         Ok(()) => match summarize(alloc, board, out) {
             Ok(()) => Ok(()),
             Err(SummaryStop::WriteFault) => Err(BoardStop::WriteFault),
@@ -157,10 +163,14 @@ pub fn run_board<F: Folder, S: Sink>(
         Ok(rows) => rows,
         Err(NoMemory) => return Err(BoardStop::NoMemory),
     };
+    let mut cache = match Cache::new(alloc, library, &rows) {
+        Ok(cache) => cache,
+        Err(NoMemory) => return Err(BoardStop::NoMemory),
+    };
     match open_board(alloc, library, &rows, plan.tasks.as_slice()) {
         Ok(board) => {
             let mut board = board;
-            run_turns(alloc, library, &rows, plan, &mut board, folder, out)
+            run_turns(alloc, library, &rows, &mut cache, plan, &mut board, folder, out)
         }
         Err(stop) => Err(stop),
     }

@@ -29,6 +29,7 @@ parts-preserved g c =
           (g.F.Folder.files c.args.folder.now) (g.F.Folder.files c.parts.folder) (g.F.Folder.files c.make_part.new.folder) within c.parts.invariant.0
           c.make_part.ensures.runs c.make_part.ensures.as_many c.make_part.ensures.paid c.in_ok-make_part.ensures.goes c.make_part.ensures.others,
       c.in_ok-make_part.ensures.counts ∙ c.parts.invariant.1,
+      c.make_part.ensures.kept,
     )
 
 pub returns-clause-paid : goal.returns-clause-paid

@@ -11,7 +11,7 @@ use Rattle.board_files.proofs.Loops.{no_turns, more_turns, next_countable, next_
 use Rattle.board_files.proofs.turns.make_turns.Goals as goal
 
 pub more-init : goal.more-init
-more-init g c = (no_turns c.args.library.now c.args.turns.now c.args.board.now (g.F.Folder.files c.args.folder.now) c.requires.runs c.requires.unpaid c.requires.countable c.requires.there, refl)
+more-init g c = (no_turns c.args.library.now c.args.turns.now c.args.board.now (g.F.Folder.files c.args.folder.now) c.requires.runs c.requires.unpaid c.requires.countable c.requires.there, refl, c.requires.kept)
 
 pub make_turn-requires-clause-there : goal.make_turn-requires-clause-there
 make_turn-requires-clause-there g c =
@@ -27,6 +27,7 @@ more-preserved g c = (
       (g.F.Folder.files c.args.folder.now) (g.F.Folder.files c.more.folder) (g.F.Folder.files c.make_turn.new.folder) c.in-Some.ensures.cases.0 c.more.invariant.0
       c.make_turn.ensures.runs c.make_turn.ensures.as_many c.make_turn.ensures.paid c.in_ok-make_turn.ensures.goes c.make_turn.ensures.others,
   c.in_ok-make_turn.ensures.counts ∙ c.more.invariant.1,
+  c.make_turn.ensures.kept,
 )
 
 pub returns-clause-goes : goal.returns-clause-goes
