@@ -1,4 +1,5 @@
-//! Files of units, as they are compiled and merged.
+//! The program that files and images hold which compiling, merging and freezing made, and what their run
+//! means.
 #![tactic(auto)]
 
 mod built;

@@ -1,4 +1,4 @@
-//! The file of a source.
+//! The file of a source: which sources have one, and that their modules may be written.
 #![tactic(auto)]
 
 mod compiling;

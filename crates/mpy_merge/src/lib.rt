@@ -1,4 +1,5 @@
-//! The merge of verified modules: one file whose outermost code calls theirs in order.
+//! The merge of verified modules: their codes with the numbers of one file, whose outermost code calls theirs
+//! in order.
 #![tactic(auto)]
 
 mod code_names;
