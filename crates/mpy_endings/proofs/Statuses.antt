@@ -6,7 +6,7 @@ use Rattle.manifest_files.specs.declared.frozen_fault.SourcesFault.TheVariants a
 use Rattle.manifest_files.specs.declared.frozen_fault.FrozenFault.TheVariants as frozen
 use Rattle.mpy_endings.specs.declared.ending.BoardFault.TheVariants as boards
 use Rattle.mpy_endings.specs.declared.ending.Ending.{Ending}
-use Rattle.mpy_endings.specs.declared.ending.Ending.TheVariants.{Done, Unaccepted, Unread, Unverified, Unmerged, Unopened, Unfrozen, Unboarded, Stopped, ReadFault, WriteFault, Unwritten, NoMemory, Absent}
+use Rattle.mpy_endings.specs.declared.ending.Ending.TheVariants.{Done, Unaccepted, Unread, Unverified, Unmerged, Unopened, Unfrozen, Unboarded, Different, Stopped, ReadFault, WriteFault, Unwritten, NoMemory, Absent}
 use Rattle.mpy_endings.specs.declared.ending.Stop.TheVariants.{Past, LibraryFault, LibraryUnaccepted, Raised, Memory, Steps}
 use Rattle.mpy_endings.specs.Ending.{IsRunStatus, is_folder_fault, is_out_fault, status_of}
 
@@ -40,6 +40,9 @@ ten s = not_run 10 (λ e. absurd cc) (λ e. absurd cc) (λ e. absurd cc) (λ e. 
 eleven : IsRunStatus 11 → ⊥
 eleven s = not_run 11 (λ e. absurd cc) (λ e. absurd cc) (λ e. absurd cc) (λ e. absurd cc) s
 
+twelve : IsRunStatus 12 → ⊥
+twelve s = not_run 12 (λ e. absurd cc) (λ e. absurd cc) (λ e. absurd cc) (λ e. absurd cc) s
+
 -- such an ending is that of a run which was made
 pub run_ended : (ending : Ending) → IsRunStatus (status_of ending)
     → (ending ≡ Done) ⊎ (ending ≡ Stopped Raised) ⊎ (ending ≡ Stopped Memory) ⊎ ((count : ℕ) × (ending ≡ Stopped (Steps count)))
@@ -58,6 +61,7 @@ run_ended (Unfrozen (frozen.Image fault)) s = absurd (eleven s)
 run_ended (Unboarded (boards.Plan fault)) s = absurd (eleven s)
 run_ended (Unboarded (boards.NoModule name)) s = absurd (eleven s)
 run_ended (Unboarded (boards.Unwritten task)) s = absurd (not_eight s)
+run_ended (Different difference) s = absurd (twelve s)
 run_ended (Stopped (Past limit)) s = absurd (eleven s)
 run_ended (Stopped (LibraryFault path)) s = absurd (seven s)
 run_ended (Stopped (LibraryUnaccepted source)) s = absurd (three s)
@@ -98,6 +102,7 @@ quiet_folder (Unfrozen (frozen.Image fault)) a b = refl
 quiet_folder (Unboarded (boards.Plan fault)) a b = refl
 quiet_folder (Unboarded (boards.NoModule name)) a b = refl
 quiet_folder (Unboarded (boards.Unwritten task)) a b = absurd (b refl)
+quiet_folder (Different difference) a b = refl
 quiet_folder (Stopped (Past limit)) a b = refl
 quiet_folder (Stopped (LibraryFault path)) a b = absurd (a refl)
 quiet_folder (Stopped (LibraryUnaccepted source)) a b = refl
@@ -119,6 +124,7 @@ quiet_out (Unmerged fault) b = refl
 quiet_out (Unopened fault) b = refl
 quiet_out (Unfrozen fault) b = refl
 quiet_out (Unboarded fault) b = refl
+quiet_out (Different difference) b = refl
 quiet_out (Stopped stop) b = refl
 quiet_out ReadFault b = refl
 quiet_out WriteFault b = absurd (b refl)

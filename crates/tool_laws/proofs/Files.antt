@@ -6,7 +6,7 @@ use Rattle.mpy_writer.specs.mpy_tree.Raw.{Module}
 use Rattle.mpy_writer.specs.mpy_tree.File.{IsFile}
 use Rattle.mpy_dump.specs.Listing.{IsListing}
 use Rattle.command_files.specs.mpy_endings.declared.ending.Ending.{Ending}
-use Rattle.command_files.specs.mpy_endings.declared.ending.Ending.TheVariants.{Done, Unaccepted, Unread, Unverified, Unmerged, Unopened, Unfrozen, Unboarded, Stopped, ReadFault, WriteFault, Unwritten, NoMemory, Absent}
+use Rattle.command_files.specs.mpy_endings.declared.ending.Ending.TheVariants.{Done, Unaccepted, Unread, Unverified, Unmerged, Unopened, Unfrozen, Unboarded, Different, Stopped, ReadFault, WriteFault, Unwritten, NoMemory, Absent}
 use Rattle.command_files.specs.mpy_endings.Ending.{IsSettled}
 use Rattle.command_files.specs.Opened.{HoldsModule}
 use Rattle.file_commands.specs.Check.{Checks, HoldsVerified, count_of, verified_line}
@@ -39,6 +39,7 @@ checked files name before after (Unmerged fault) s p = absurd p
 checked files name before after (Unopened fault) s p = absurd p
 checked files name before after (Unfrozen fault) s p = absurd p
 checked files name before after (Unboarded fault) s p = absurd p
+checked files name before after (Different difference) s p = absurd p
 checked files name before after (Stopped stop) s p = absurd p
 checked files name before after ReadFault s p = absurd s
 checked files name before after WriteFault s p = absurd s
@@ -87,6 +88,7 @@ dumped files name before after (Unmerged fault) s p = absurd p
 dumped files name before after (Unopened fault) s p = absurd p
 dumped files name before after (Unfrozen fault) s p = absurd p
 dumped files name before after (Unboarded fault) s p = absurd p
+dumped files name before after (Different difference) s p = absurd p
 dumped files name before after (Stopped stop) s p = absurd p
 dumped files name before after ReadFault s p = absurd s
 dumped files name before after WriteFault s p = absurd s

@@ -7,7 +7,7 @@ use Rattle.mpy_merge.specs.declared.fault.MergeFault.{MergeFault}
 use Rattle.mpy_merge.specs.Faults.{FirstFault}
 use Rattle.mpy_merge.proofs.Once.{one_beside}
 use Rattle.command_files.specs.mpy_endings.declared.ending.Ending.{Ending}
-use Rattle.command_files.specs.mpy_endings.declared.ending.Ending.TheVariants.{Done, Unaccepted, Unread, Unverified, Unmerged, Unopened, Unfrozen, Unboarded, Stopped, ReadFault, WriteFault, Unwritten, NoMemory, Absent}
+use Rattle.command_files.specs.mpy_endings.declared.ending.Ending.TheVariants.{Done, Unaccepted, Unread, Unverified, Unmerged, Unopened, Unfrozen, Unboarded, Different, Stopped, ReadFault, WriteFault, Unwritten, NoMemory, Absent}
 use Rattle.command_files.specs.mpy_endings.Ending.{IsSettled}
 use Rattle.command_files.specs.Opened.{HoldsModule, Refuses}
 use Rattle.file_commands.specs.Merge.{HoldMerged, HoldModules, HoldUnmerged, IsFirstRefused, Merges}
@@ -84,6 +84,7 @@ module _ (laws : FileLaws) (files : FileOf) (names : List (List ℕ)) where
   merged_so written after place (Unopened fault) s p = absurd p
   merged_so written after place (Unfrozen fault) s p = absurd p
   merged_so written after place (Unboarded fault) s p = absurd p
+  merged_so written after place (Different difference) s p = absurd p
   merged_so written after place (Stopped stop) s p = absurd p
   merged_so written after place ReadFault s p = absurd s
   merged_so written after place WriteFault s p = absurd s

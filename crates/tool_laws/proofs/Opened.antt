@@ -8,7 +8,7 @@ use Rattle.mpy_reader.specs.Reading.{FirstFault}
 use Rattle.bc_verify.specs.declared.fault.VerifyFault.{VerifyFault}
 use Rattle.bc_verify.specs.Verified.{IsVerified, IsFirstFault}
 use Rattle.command_files.specs.mpy_endings.declared.ending.Ending.{Ending}
-use Rattle.command_files.specs.mpy_endings.declared.ending.Ending.TheVariants.{Done, Unaccepted, Unread, Unverified, Unmerged, Unopened, Unfrozen, Unboarded, Stopped, ReadFault, WriteFault, Unwritten, NoMemory, Absent}
+use Rattle.command_files.specs.mpy_endings.declared.ending.Ending.TheVariants.{Done, Unaccepted, Unread, Unverified, Unmerged, Unopened, Unfrozen, Unboarded, Different, Stopped, ReadFault, WriteFault, Unwritten, NoMemory, Absent}
 use Rattle.command_files.specs.mpy_endings.Ending.{IsSettled}
 use Rattle.command_files.specs.Opened.{HoldsModule, Refuses}
 use Rattle.tool_laws.specs.Laws.{FileLaws}
@@ -53,6 +53,7 @@ refused_of files name (Unmerged fault) s p = absurd p
 refused_of files name (Unopened fault) s p = absurd p
 refused_of files name (Unfrozen fault) s p = absurd p
 refused_of files name (Unboarded fault) s p = absurd p
+refused_of files name (Different difference) s p = absurd p
 refused_of files name (Stopped stop) s p = absurd p
 refused_of files name ReadFault s p = absurd s
 refused_of files name WriteFault s p = absurd p
