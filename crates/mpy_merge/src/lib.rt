@@ -15,6 +15,7 @@ mod outer;
 mod top;
 mod tree;
 
+pub use bc_resolved;
 pub use fault::{MAX_PARTS, MergeFault};
 pub use law::moved_law;
 pub use moved::{entry_text, text_at};
