@@ -33,6 +33,8 @@ pub record TellsLeast (code : RawCode) (states : List State) : Type 0 where
   pub says : Says (out-RawCode code).bytes body offsets
   pub holds : flow.Holds (flow_of body) (flow.at (table_of states))
   pub least : flow.IsLeastOf (flow_of body) (flow.at (table_of states))
+  -- a walk comes to them: so they are the least whatever room the code says that it has for slots and entries
+  pub reached : flow.Reached (flow_of body) (table_of states)
 
 -- all codes of a tree are verified
 abbrev pub AreVerified : Module → RawCode → Type 0

@@ -12,7 +12,7 @@ use Rattle.board_meaning.specs.board_files.Summaries.{HasRunIn, HasRunFrontIn}
 use Rattle.command_files.specs.mpy_endings.declared.ending.Ending.{Ending}
 use Rattle.command_files.specs.mpy_endings.declared.ending.Ending.TheVariants.{Done, Unaccepted, Unread, Unverified, Unmerged, Unopened, Unfrozen, Unboarded, Stopped, ReadFault, WriteFault, Unwritten, NoMemory, Absent}
 use Rattle.command_files.specs.mpy_endings.declared.ending.BoardFault.TheVariants as boards
-use Rattle.board_command.specs.Images.{HoldsImage, RefusesImage}
+use Rattle.command_files.specs.Images.{HoldsImage, RefusesImage}
 use Rattle.board_command.specs.Plans.{HoldsPlan, RefusesPlan}
 
 -- no file was written, and nothing printed

@@ -5,5 +5,7 @@ pub use Rattle.source_files.specs as source_files
 pub use Rattle.source_files.specs.mpy_compile
 pub mod Folder
 pub mod Opened
+pub mod Images
 pub mod Source
 pub mod Outside
+pub mod Over

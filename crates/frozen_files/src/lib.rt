@@ -7,5 +7,5 @@ mod sources;
 
 pub use freezing::freeze_files;
 pub use frozen_faults::{FrozenFault, SourcesFault};
-pub use image_freeze::{freeze_law, freeze_on};
+pub use image_freeze::freeze_law;
 pub use sources::read_sources;

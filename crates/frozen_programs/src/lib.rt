@@ -1,47 +1,61 @@
-//! Programs of images that are frozen of a manifest's sources.
+//! Programs of the sources of manifests, whose images lie one over another.
 #![tactic(auto)]
 
-ghost use Rattle.std.specs.Prelude.{ℕ, List, Some};
+ghost use Rattle.std.specs.Prelude.{◌≡◌, ℕ, List, [], Some, map};
 ghost use Rattle.mpy_base.specs.World.{PortState};
-ghost use Rattle.mpy_io.specs.Files.{FileOf};
-ghost use Rattle.bc_library.specs.Shelf.{Shelf};
+ghost use Rattle.bc_library.specs.declared.fault.Member.TheVariants as members;
+ghost use Rattle.bc_library.specs.Shelf.{Shelf, member_of, no_entries};
 ghost use Rattle.bc_machine.specs.Machine.{run};
+ghost use Rattle.image_grammar.specs.Image.{Differ};
+ghost use Rattle.image_migrate.specs.Migrated.{Migrates};
 ghost use Rattle.unit_files.specs.vm_states.Means as machine;
-ghost use Rattle.unit_files.specs.vm_programs.Programs.{IsProgramOf};
+ghost use Rattle.unit_files.specs.vm_programs.Programs.{IsProgramOf as IsMachineOf};
 ghost use Rattle.py_meaning.specs.Program.{Program};
 ghost use Rattle.unit_files.specs.program_runs.Units.{AreUnits};
 ghost use Rattle.frozen_files.specs.Frozen.{HoldsFrozen};
-ghost use Rattle.image_runs.specs.Main.{HoldsMain};
-ghost use Rattle.frozen_programs.specs.Programs.{IsProgramOfManifest, MeansManifest};
+ghost use Rattle.frozen_programs.specs.Programs.{IsImageOfSources, IsLibraryOf, IsProgramOf, MeansManifests, Sources};
 
 use frozen_files::freeze_law;
-use image_open::image_law;
+use image_open::over_law;
 use manifest_files::entries_law;
 use unit_files::runs_law;
 
-/// The image of a manifest's sources, where it has a module of the name `main`: the sources have a program of which that is the main
-/// unit, and the library that the image is opened as has its units.
+/// The image that is frozen of a manifest's sources over a library is one of them, and so is what an image of them over nothing is
+/// migrated to.
 pub fn frozen_law()
-    ensures program { (files : FileOf) (manifest bytes main : List ℕ) (shelf : Shelf) (place : ℕ) → HoldsFrozen (Some files) manifest bytes
-        → HoldsMain bytes main shelf place → (program : Program) × IsProgramOfManifest files manifest main program }
-    ensures units { (files : FileOf) (manifest bytes main : List ℕ) (shelf : Shelf) (place : ℕ) → HoldsFrozen (Some files) manifest bytes
-        → HoldsMain bytes main shelf place → (program : Program) → IsProgramOfManifest files manifest main program → AreUnits program shelf }
+    ensures frozen { (version : ℕ) (below : Shelf) (sources : Sources) (bytes : List ℕ)
+        → HoldsFrozen version below (Some sources.files) sources.manifest bytes → IsImageOfSources below sources bytes }
+    ensures migrated { (sources : Sources) (bytes out : List ℕ) → IsImageOfSources no_entries sources bytes → Migrates bytes out
+        → IsImageOfSources no_entries sources out }
+{
+    over_law();
+}
+
+/// The library that images of manifests' sources are opened as, where it has a module of the name `main`: the sources have a program of
+/// which that is the main unit, and the library has its units. No two of these have one name.
+pub fn images_law()
+    ensures program { (all : List Sources) (main : List ℕ) (shelf : Shelf) (place : ℕ) → IsLibraryOf all shelf
+        → member_of shelf main ≡ Some (members.Module place) → (program : Program) × IsProgramOf all main program }
+    ensures units { (all : List Sources) (main : List ℕ) (shelf : Shelf) → IsLibraryOf all shelf → (program : Program)
+        → IsProgramOf all main program → AreUnits program shelf }
+    ensures differ { (all : List Sources) (main : List ℕ) (shelf : Shelf) → IsLibraryOf all shelf → (program : Program)
+        → IsProgramOf all main program → Differ [] (map (λ entry. entry.0) program.entries) }
 {
     crossed_law();
     entries_law();
     freeze_law();
-    image_law();
+    over_law();
 }
 
 /// The run of that module, with any room and ports and for any number of steps, says what the sources mean.
 pub fn means_law()
-    ensures { (files : FileOf) (manifest image main : List ℕ) (shelf : Shelf) (place : ℕ) (p : machine.Program) → HoldsFrozen (Some files) manifest image
-        → HoldsMain image main shelf place → IsProgramOf shelf p → (cells bytes : ℕ) (ports : List PortState) (n : ℕ)
-        → MeansManifest files manifest main cells bytes ports n (run p.library main cells bytes ports n) }
+    ensures { (all : List Sources) (main : List ℕ) (shelf : Shelf) (place : ℕ) (p : machine.Program) → IsLibraryOf all shelf
+        → member_of shelf main ≡ Some (members.Module place) → IsMachineOf shelf p
+        → (cells bytes : ℕ) (ports : List PortState) (n : ℕ)
+        → MeansManifests all main cells bytes ports n (run p.library main cells bytes ports n) }
 {
-    frozen_law();
+    images_law();
     runs_law();
 }
 
-pub use image_runs::MainFault;
 pub use unit_files::{crossed_law, program_law};

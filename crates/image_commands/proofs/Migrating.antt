@@ -12,12 +12,12 @@ use Rattle.image_migrate.specs.image_freeze.Frozen.{FreezeFault, IsTooBig, IsTwi
 use Rattle.image_migrate.specs.declared.fault.MigrateFault.{MigrateFault}
 use Rattle.image_migrate.specs.declared.fault.MigrateFault.TheVariants.{Opening, Freezing}
 use Rattle.image_migrate.specs.Migrated.{IsImageOf}
-use Rattle.base_library.specs.mpy_endings.declared.ending.Ending.{Ending}
-use Rattle.base_library.specs.mpy_endings.declared.ending.Ending.TheVariants.{Done, Unaccepted, Unread, Unverified, Unmerged, Unopened, Unfrozen, Unboarded, Stopped, ReadFault, WriteFault, Unwritten, NoMemory, Absent}
-use Rattle.base_library.specs.image_runs.declared.fault.MainFault.TheVariants as mains
+use Rattle.command_files.specs.mpy_endings.declared.ending.Ending.{Ending}
+use Rattle.command_files.specs.mpy_endings.declared.ending.Ending.TheVariants.{Done, Unaccepted, Unread, Unverified, Unmerged, Unopened, Unfrozen, Unboarded, Stopped, ReadFault, WriteFault, Unwritten, NoMemory, Absent}
+use Rattle.command_files.specs.image_runs.declared.fault.MainFault.TheVariants as mains
 use Rattle.frozen_faults.specs.declared.fault.FrozenFault.TheVariants as frozen
-use Rattle.base_library.specs.command_files.Folder.{ChangesOnly, MayHold}
-use Rattle.base_library.proofs.command_files_lemmas.Others.{same_only, became_only, front_only}
+use Rattle.command_files.specs.Folder.{ChangesOnly, MayHold}
+use Rattle.command_files.proofs.Others.{same_only, became_only, front_only}
 use Rattle.image_commands.specs.Migrate.{Migrates, refused_end}
 
 -- modules of an image have different names, so they can only be too big for another one

@@ -1,4 +1,4 @@
-pub use Rattle.base_library.specs as base_library
+pub use Rattle.command_files.specs as command_files
 pub use Rattle.frozen_files.specs as frozen_files
 pub mod Freeze
 pub mod Migrate

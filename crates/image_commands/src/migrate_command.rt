@@ -2,10 +2,10 @@
 
 ghost use Rattle.std.specs.Prelude.{◌≡◌, false};
 ghost use Rattle.mpy_io.specs.Count.{Counts};
-ghost use Rattle.base_library.specs.mpy_endings.Ending.{is_folder_fault, is_out_fault};
+ghost use Rattle.command_files.specs.mpy_endings.Ending.{is_folder_fault, is_out_fault};
 ghost use Rattle.image_commands.specs.Migrate.{Migrates, refused_end};
 
-use base_library::{Ending, MainFault, read_file};
+use command_files::{Ending, MainFault, read_file};
 use frozen_faults::FrozenFault;
 use image_migrate::{MigrateFault, migrate_image};
 use mpy_base::Refused;

@@ -10,6 +10,6 @@ mod names;
 mod objects;
 mod texts;
 
-pub use image::{freeze, freeze_on};
+pub use image::freeze;
 pub use laws::freeze_law;
 pub use named::Named;

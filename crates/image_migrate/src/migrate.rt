@@ -12,7 +12,7 @@ ghost use Rattle.image_migrate.specs.Migrated.{IsImageOf, IsTold, Migrates};
 
 use crate::fault::MigrateFault;
 use bc_library::Library;
-use image_freeze::{Named, freeze_on};
+use image_freeze::{Named, freeze};
 use image_grammar::Entry;
 use image_open::read_image;
 use module_copies::copy_module;
@@ -60,7 +60,7 @@ fn write(alloc: Global, entries: &[Entry]) -> Result<Vec<u8>, Refused<MigrateFau
 {
     let nothing = Library::new(alloc)?;
     let modules = copy_entries(alloc, entries)?;
-    match freeze_on(alloc, &nothing, &modules) {
+    match freeze(alloc, 2, &nothing, &modules) {
         Ok(out) => Ok(out),
         Err(Refused::Fault(fault)) => Err(Refused::Fault(MigrateFault::Freezing(fault))),
         Err(Refused::NoMemory) => Err(Refused::NoMemory),

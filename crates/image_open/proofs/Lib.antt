@@ -1,3 +1,5 @@
+pub mod Base
+pub mod Behind
 pub mod Below
 pub mod Found
 pub mod Named
@@ -7,6 +9,7 @@ pub mod Put
 pub mod Results
 pub mod Shelves
 pub mod Single
+pub mod Sound
 pub mod Taken
 pub mod Told
 pub mod Turns

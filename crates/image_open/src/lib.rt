@@ -1,6 +1,7 @@
-//! Images opened as libraries.
+//! Images opened as libraries, one over another.
 #![tactic(auto)]
 
+mod copies;
 mod entry;
 mod image;
 mod laws;
@@ -8,6 +9,5 @@ mod opening;
 mod shelving;
 
 pub use image::read_image;
-pub use laws::image_law;
+pub use laws::{image_law, over_law};
 pub use opening::open_image;
-pub use shelving::shelve;

@@ -30,7 +30,7 @@ fn put(alloc: Global, lib: &mut Library, entry: Entry) -> Result<(), NoMemory>
 }
 
 /// The library of the modules, for whose names and texts there is room.
-pub fn shelve(alloc: Global, entries: Items<Entry>) -> Result<Library, NoMemory>
+pub(crate) fn shelve(alloc: Global, entries: Items<Entry>) -> Result<Library, NoMemory>
     requires differ { Differ [] (names_of entries) }
     requires few { length entries ≤ MAX_MODULES }
     requires fit { length (with_texts no_entries.pool (texts_used entries)).texts ≤ MAX_TABLE }

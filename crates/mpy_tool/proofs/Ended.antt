@@ -15,10 +15,10 @@ use Rattle.run_meaning.specs.file_commands.Check.{Checks}
 use Rattle.run_meaning.specs.file_commands.Cross.{Crosses}
 use Rattle.run_meaning.specs.file_commands.Dump.{Dumps}
 use Rattle.run_meaning.specs.file_commands.Merge.{Merges}
+use Rattle.run_meaning.specs.image_commands.Freeze.{Freezes}
 use Rattle.run_meaning.specs.image_commands.Migrate.{Migrates}
 use Rattle.board_command.specs.Boards.{Boards}
-use Rattle.board_command.specs.Images.{library_below}
-use Rattle.mpy_tool.specs.Below.{FreezesBelow}
+use Rattle.mpy_tool.specs.Below.{image_version}
 use Rattle.mpy_tool.specs.Call.{Call, Shows}
 use Rattle.mpy_tool.specs.Doing.{Finishes}
 
@@ -76,7 +76,7 @@ module _ (words : List (List ℕ)) (old new : Outside) where
 -- each command's own form
 -- =======================
 
-module _ (order : Order) (call : Call) (below : Option Shelf) where
+module _ (order : Order) (call : Call) (below : Shelf) where
   pub checked : Finishes order call below Check → Shows call (Ends Checks (first_name call.words))
   checked h = record {
     ending = h.ending;
@@ -108,7 +108,7 @@ module _ (order : Order) (call : Call) (below : Option Shelf) where
     says = named_in call.words call.old call.new h.place h.ending h.went.2 h.says;
   }
 
-  pub frozen : Finishes order call below Freeze → Shows call (Writes (FreezesBelow below (first_name call.words) (second_name call.words)) (first_name call.words) (second_name call.words))
+  pub frozen : Finishes order call below Freeze → Shows call (Writes (Freezes (image_version order.base) below (first_name call.words) (second_name call.words)) (first_name call.words) (second_name call.words))
   frozen h = record {
     ending = h.ending;
     status_is = h.status_is;
@@ -142,7 +142,7 @@ module _ (order : Order) (call : Call) (below : Option Shelf) where
     says = h.says;
   }
 
-  pub boarded : Finishes order call below Board → Shows call (EndsAt (Boards (library_below below) (first_name call.words) (second_name call.words)) call.words)
+  pub boarded : Finishes order call below Board → Shows call (EndsAt (Boards below (first_name call.words) (second_name call.words)) call.words)
   boarded h = record {
     ending = h.ending;
     place = h.place;

@@ -11,17 +11,11 @@ use Rattle.mpy_words.specs.Words.{first_name, second_name}
 use Rattle.mpy_endings.specs.declared.ending.Ending.TheVariants.{Done, WriteFault}
 use Rattle.run_meaning.specs.file_commands.Check.{verified_line}
 use Rattle.run_meaning.proofs.file_commands_lemmas.HandedOn.{checks_cut, dumps_cut}
-use Rattle.board_command.specs.Images.{library_below}
 use Rattle.board_command.proofs.Ending.{unflushed}
-use Rattle.mpy_tool.specs.Below.{FreezesBelow}
 use Rattle.mpy_tool.specs.Doing.{DoesBy}
 use Rattle.mpy_tool.proofs.Flushing.{flushed}
 
-freezes_cut : (below : Option Shelf) (manifest written : List ℕ) (old new : Option FileOf) → FreezesBelow below manifest written old new Done → FreezesBelow below manifest written old new WriteFault
-freezes_cut None manifest written old new p = p
-freezes_cut (Some below) manifest written old new p = p
-
-module _ (order : Order) (words : List (List ℕ)) (below : Option Shelf) (old new : Option FileOf) (a b c : Option (List ℕ)) (place : ℕ) (q : Keeps b c) where
+module _ (order : Order) (words : List (List ℕ)) (below : Shelf) (old new : Option FileOf) (a b c : Option (List ℕ)) (place : ℕ) (q : Keeps b c) where
   -- what was held back is told already
   pub handed_on : (command : Command) → DoesBy order words below command old new a b place Done → DoesBy order words below command old new a c place Done
   handed_on Go p = absurd p
@@ -33,7 +27,7 @@ module _ (order : Order) (words : List (List ℕ)) (below : Option Shelf) (old n
   handed_on Migrate p = (p.0, Keeps-trans a b c p.1 q, p.2)
   handed_on Run p = absurd p
   handed_on Stress p = absurd p
-  handed_on Board p = flushed (library_below below) (first_name words) (second_name words) old new a b c place q p
+  handed_on Board p = flushed below (first_name words) (second_name words) old new a b c place q p
 
   pub held_back : (command : Command) → DoesBy order words below command old new a b place Done → DoesBy order words below command old new a c place WriteFault
   held_back Go p = absurd p
@@ -41,8 +35,8 @@ module _ (order : Order) (words : List (List ℕ)) (below : Option Shelf) (old n
   held_back Dump p = (dumps_cut old (first_name words) a b c q p.0, p.1)
   held_back Cross p = (p.0, Keeps-trans a b c p.1 q, p.2)
   held_back Merge p = (p.0, Keeps-trans a b c p.1 q)
-  held_back Freeze p = (freezes_cut below (first_name words) (second_name words) old new p.0, Keeps-trans a b c p.1 q, p.2)
+  held_back Freeze p = (p.0, Keeps-trans a b c p.1 q, p.2)
   held_back Migrate p = (p.0, Keeps-trans a b c p.1 q, p.2)
   held_back Run p = absurd p
   held_back Stress p = absurd p
-  held_back Board p = unflushed (library_below below) (first_name words) (second_name words) old new a b c place q p
+  held_back Board p = unflushed below (first_name words) (second_name words) old new a b c place q p

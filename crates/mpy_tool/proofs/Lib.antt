@@ -1,4 +1,5 @@
 pub mod Ended
+pub mod Under
 mod Flushing
 pub mod Handing
 pub mod Alone

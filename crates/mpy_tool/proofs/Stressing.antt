@@ -8,8 +8,8 @@ use Rattle.mpy_endings.specs.declared.ending.Ending.TheVariants.{Done, Unaccepte
 use Rattle.mpy_endings.specs.declared.ending.Stop.TheVariants.{Past, LibraryFault, LibraryUnaccepted, Raised, Memory, Steps}
 use Rattle.mpy_endings.specs.Ending.{status_of}
 use Rattle.run_meaning.specs.command_files.Outside.{Outside}
-use Rattle.base_commands.specs.run_commands.Ready.{GoLibrary}
-use Rattle.base_commands.specs.run_commands.Run.{EndsRun, IsUnloaded}
+use Rattle.run_commands.specs.Ready.{GoLibrary}
+use Rattle.run_commands.specs.Run.{EndsRun, IsUnloaded}
 use Rattle.run_meaning.specs.GoMeant.{GoMeans}
 use Rattle.run_meaning.specs.Meant.{IsRunStatus}
 use Rattle.stress_command.specs.Stress.{EndsStress, Ran, beside, stress_name}

@@ -1,9 +1,9 @@
 //! The tool: the top call, which does what words order.
 #![tactic(auto)]
 
+mod below;
 mod doing;
 mod outside;
-mod releasing;
 mod running;
 mod top;
 

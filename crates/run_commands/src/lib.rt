@@ -13,4 +13,4 @@ pub use command_files::{
 };
 pub use go::source_ready;
 pub use ready::Ready;
-pub use run::{begins_image, file_ready, run_loaded, run_ready};
+pub use run::{run_loaded, run_ready};

@@ -11,6 +11,7 @@ ghost use Rattle.command_files.specs.mpy_endings.Ending.{is_folder_fault, is_out
 ghost use Rattle.command_files.specs.image_runs.Main.{IsMainAt};
 ghost use Rattle.command_files.specs.Folder.{MayHold};
 ghost use Rattle.command_files.specs.Opened.{failed_in};
+ghost use Rattle.image_base.specs.Base.{IsOpened};
 ghost use Rattle.run_commands.specs.Ready as starts;
 ghost use Rattle.run_commands.specs.Ready.{FirstOf, OpensMain, RunLibrary};
 ghost use Rattle.run_commands.specs.Run as spec;
@@ -29,7 +30,7 @@ use port_set::PortSet;
 use std::alloc::Global;
 
 /// Whether bytes begin as those of an image.
-pub fn begins_image(bytes: &[u8]) -> bool
+fn begins_image(bytes: &[u8]) -> bool
     ensures { result ≡ starts.begins_image bytes.now }
 {
     match bytes {
@@ -88,7 +89,7 @@ fn file_library<F: Folder>(
 }
 
 /// The library of the file of this name, which has these bytes, with its first module as the main one, or what keeps it from being run.
-pub fn file_ready<F: Folder>(
+fn file_ready<F: Folder>(
     alloc: Global,
     name: &str,
     bytes: &[u8],
@@ -110,15 +111,17 @@ pub fn file_ready<F: Folder>(
     first_ready(loaded, first)
 }
 
-/// The library of the file of this name, as an image whose module of the name `main` is run, where its bytes begin as one. Or what
-/// keeps it from being run.
+/// The library of the file of this name: as an image over the library below, whose module of the name `main` is run, where its bytes
+/// begin as one, and else of the file's own folder. Or what keeps it from being run.
 pub fn run_ready<F: Folder>(
     alloc: Global,
+    below: &Library,
     name: &str,
     main: &str,
     folder: &mut F,
 ) -> Result<Ready, Ending>
-    ensures comes { RunLibrary main.now (F.files folder.old) name.now result }
+    requires { IsOpened below.now }
+    ensures comes { RunLibrary below.now main.now (F.files folder.old) name.now result }
     ensures there { IfOk result (λ ready. (m : Module) × IsMainAt ready.main ready.place m ready.library) }
     ensures holds { IfOk result (λ ready. HoldsModules ready.library) }
     ensures unloaded { IfErr result IsUnloaded }
@@ -130,7 +133,7 @@ pub fn run_ready<F: Folder>(
         Err(ending) => return Err(ending),
     };
     if begins_image(&bytes) {
-        return image_ready(alloc, &bytes, main.as_bytes());
+        return image_ready(alloc, below, &bytes, main.as_bytes());
     }
     file_ready(alloc, name, &bytes, folder)
 }

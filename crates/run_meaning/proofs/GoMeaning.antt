@@ -131,10 +131,10 @@ module _ (law : (sources files : FileOf) (base path : List ℕ) (level : ℕ) (s
       by_some : {a b : List ℕ} → Some a ≡ Some b → a ≡ b
       by_some e = cc
 
-  pub holds_crossed : (sources files : FileOf) (path name main : List ℕ) (level : ℕ) (program : Program) → HoldsCrossed sources files path name level
-      → IsProgramOfSources sources (base_of name) path level program → HoldsProgram (RunLibrary main) (Some files) name program
-  holds_crossed sources files path name main level program h is =
-      file_holds files name main program (crossed_library sources files path name level program h is)
+  pub holds_crossed : (sources files : FileOf) (path name main : List ℕ) (level : ℕ) (below : Shelf) (program : Program) → HoldsCrossed sources files path name level
+      → IsProgramOfSources sources (base_of name) path level program → HoldsProgram (RunLibrary below main) (Some files) name program
+  holds_crossed sources files path name main level below program h is =
+      file_holds below files name main program (crossed_library sources files path name level program h is)
       (λ bytes there. let same : h.bytes ≡ bytes = by_some (sym h.written ∙ there) in subst (λ (b : List ℕ). (m : Module) × IsFile b m) same (h.compiles.file.reads.reads.0, h.compiles.file.reads.reads.1))
     where
       by_some : {a b : List ℕ} → Some a ≡ Some b → a ≡ b

@@ -22,7 +22,7 @@ use Rattle.mpy_headline.specs.Meant.{RanAsMeant, CutShortAsMeant, EndsAsMeant}
 use Rattle.built_files.specs.Built.{IsBuilt, IsBuiltProgram}
 use Rattle.file_commands.specs.mpy_endings.declared.ending.Ending.{Ending}
 use Rattle.file_commands.specs.mpy_endings.declared.ending.Ending.TheVariants.{Done, Unaccepted, Unread, Unverified, Unmerged, Unopened, Unfrozen, Unboarded, Stopped, ReadFault, WriteFault, Unwritten, NoMemory, Absent}
-use Rattle.frozen_programs.specs.image_runs.declared.fault.MainFault.TheVariants as mains
+use Rattle.file_commands.specs.command_files.image_runs.declared.fault.MainFault.TheVariants as mains
 use Rattle.file_commands.specs.mpy_endings.declared.ending.Stop.TheVariants as stops
 use Rattle.run_commands.specs.Base.{base_of}
 use Rattle.file_commands.specs.mpy_endings.Ending.{status_of}
@@ -174,13 +174,13 @@ begins_other : (bytes rest : List ℕ) → bytes ≡ 0x4d ∷ 6 ∷ rest → beg
 begins_other bytes rest e h = let same : begins_image (0x4d ∷ 6 ∷ rest) ≡ true = subst (λ (z : List ℕ). begins_image z ≡ true) e h in cc
 
 -- where the file under the name is one of a module, the run of its library is that of a file
-pub file_holds : (files : FileOf) (name main : List ℕ) (program : Program)
+pub file_holds : (below : Shelf) (files : FileOf) (name main : List ℕ) (program : Program)
     → ((shelf : Shelf) → FileLibrary (Some files) name (Ok shelf) → (program.main_name ≡ main_name) × AreUnits program shelf)
     → ((bytes : List ℕ) → files name ≡ Some bytes → (m : Module) × IsFile bytes m)
-    → HoldsProgram (RunLibrary main) (Some files) name program
-file_holds files name main program known is_file ready (not_read ending h e) = absurd cc
-file_holds files name main program known is_file ready (of_file bytes there other h) = let k = known ready.library h.0 in (k.0 ∙ sym h.1.main_is, k.1)
-file_holds files name main program known is_file ready (of_image bytes there begins h) =
+    → HoldsProgram (RunLibrary below main) (Some files) name program
+file_holds below files name main program known is_file ready (not_read ending h e) = absurd cc
+file_holds below files name main program known is_file ready (of_file bytes there other h) = let k = known ready.library h.0 in (k.0 ∙ sym h.1.main_is, k.1)
+file_holds below files name main program known is_file ready (of_image bytes there begins h) =
     let file = is_file bytes there in
     absurd (begins_other bytes _ file.1.spelling.text_is begins)
 
@@ -198,7 +198,7 @@ module _ (is_file : (unit : Unit) (bytes : List ℕ) → IsBuilt unit bytes → 
       let from = subst (λ (size : ℕ). LoadsFrom files (base_of name) loads.main size (Loaded shelf)) size_is loads.loads in
       ((built.built shelf loads).main_name_is, law files (base_of name) built.bytes loads.main shelf program is_main from (built.built shelf loads))
 
-  pub holds_built : (files : FileOf) (name main : List ℕ) (program : Program) → HoldsBuilt files name program → HoldsProgram (RunLibrary main) (Some files) name program
-  holds_built files name main program built =
-      file_holds files name main program (built_library files name program built)
+  pub holds_built : (below : Shelf) (files : FileOf) (name main : List ℕ) (program : Program) → HoldsBuilt files name program → HoldsProgram (RunLibrary below main) (Some files) name program
+  holds_built below files name main program built =
+      file_holds below files name main program (built_library files name program built)
       (λ bytes there. let same : built.bytes ≡ bytes = by_some (sym built.there ∙ there) in subst (λ (b : List ℕ). (m : Module) × IsFile b m) same (is_file program.main built.bytes built.main))

@@ -16,7 +16,6 @@ use Rattle.py_meaning.specs.Meaning.{meaning}
 use Rattle.mpy_headline.specs.vm_reports.Rooms.{room_line}
 use Rattle.mpy_headline.specs.program_runs.Units.{AreUnits}
 use Rattle.mpy_headline.specs.program_runs.Runs.{MeansRun}
-use Rattle.image_commands.specs.frozen_files.Frozen.{HoldsFrozen}
 use Rattle.library_files.specs.Loads.{Loaded}
 use Rattle.built_files.specs.Built.{IsBuilt, IsBuiltProgram}
 use Rattle.file_commands.specs.mpy_endings.declared.ending.Ending.{Ending}
@@ -42,12 +41,6 @@ pub record HoldsBuilt (files : FileOf) (name : List ℕ) (program : Program) : T
   pub there : files name ≡ Some bytes
   pub main : IsBuilt program.main bytes
   pub built : (shelf : Shelf) → LoadsOf (Some files) name (Loaded shelf) → IsBuiltProgram files (base_of name) bytes shelf program
-
--- The file of the name `image` is the image of the sources of a manifest, which may lie in another folder.
-pub record HoldsImage (sources files : FileOf) (manifest image : List ℕ) : Type 0 where
-  pub bytes : List ℕ
-  pub frozen : HoldsFrozen (Some sources) manifest bytes
-  pub written : files image ≡ Some bytes
 
 -- the statuses of a run that was made up to its end, or for all its steps
 abbrev pub IsRunStatus : ℕ → Type 0

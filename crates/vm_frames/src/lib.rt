@@ -6,5 +6,6 @@ mod frames;
 mod moves;
 mod slot;
 
+pub use frame::Frame;
 pub use frames::Frames;
 pub use slot::{Entry, Role, Slot};

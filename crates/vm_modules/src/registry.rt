@@ -1,6 +1,6 @@
 //! The registered modules.
 
-ghost use Rattle.std.specs.Prelude.{◌≡◌, ◌<◌, ◌≤◌, [], length, map, filter, not, bytes_eq, IfOk};
+ghost use Rattle.std.specs.Prelude.{◌≡◌, ◌^◌, ◌<◌, ◌≤◌, [], length, map, filter, not, bytes_eq, IfOk};
 ghost use Rattle.std.specs.Option.{option_map};
 ghost use Rattle.std.specs.Vec.{vec_capacity};
 ghost use Rattle.mpy_base.specs.Val.{PlainWorld};
@@ -64,11 +64,20 @@ impl Modules {
     }
 
     /// Registers a module behind the others.
-    pub(crate) fn register(&mut self, name: u32, object: ModuleNo)
+    pub fn register(&mut self, name: u32, object: ModuleNo)
         requires { length self.old.entries < self.old.room }
         ensures { self.new ≡ with_entry self.old (record { name = name; object = object }) }
     {
         let _ = self.entries.push(Entry { name, object });
+    }
+
+    /// The registered modules in the order of registering.
+    pub fn entries(&self) -> &[Entry]
+        ensures are { result.now ≡ self.now.entries }
+        ensures few { length result.now < 2 ^ 32 }
+    {
+        let _room = self.room;
+        &self.entries
     }
 
     /// The first registered module of this name.

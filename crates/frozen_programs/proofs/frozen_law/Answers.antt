@@ -1,17 +1,8 @@
-use Rattle.frozen_programs.proofs.Matched.{Below, program, units}
+use Rattle.frozen_programs.proofs.Libraries.{migrated}
 use Rattle.frozen_programs.proofs.frozen_law.Goals as goal
 
-pub returns : goal.returns
-returns c =
-    let b : Below = record {
-      reading = c.crossed_law.ensures.reading;
-      unit = c.crossed_law.ensures.unit;
-      resolves = c.freeze_law.ensures.resolves;
-      one_answer = c.entries_law.ensures.one;
-      one_image = c.image_law.ensures.one_image;
-      read = c.image_law.ensures.read;
-    } in
-    record {
-      program = λ files manifest bytes main shelf place h k. program b files manifest bytes main shelf place h k;
-      units = λ files manifest bytes main shelf place h k. units b files manifest bytes main shelf place h k;
-    }
+pub returns-clause-frozen : goal.returns-clause-frozen
+returns-clause-frozen c version below sources bytes h = record { modules = h.modules; held = h.sources; opens = h.opens }
+
+pub returns-clause-migrated : goal.returns-clause-migrated
+returns-clause-migrated c = migrated c.over_law.ensures.one_library

@@ -28,4 +28,5 @@ returns c =
       says = subst (λ z. Says z (body_of d.code) d.offsets.items) c.bytes.ensures c.in_ok-decoded.ensures;
       holds = rw c.in-Ok.is at c.in_ok-states.ensures.holds;
       least = rw c.in-Ok.is at c.in_ok-states.ensures.least;
+      reached = rw c.in-Ok.is at c.in_ok-states.ensures.reached;
     }

@@ -1,4 +1,4 @@
-use Rattle.std.proofs.Common.{Result, Err, Vec, Global, ℕ, map, ap, ◌∙◌}
+use Rattle.std.proofs.Common.{Result, Err, Vec, Global, ℕ, map, refl, ap, ◌∙◌, inr}
 use Rattle.std.proofs.lemmas.Result.{err_from_is_err_and}
 use Rattle.mpy_base.specs.declared.refused.Refused.{Refused}
 use Rattle.bc_library.specs.Shelf.{Shelf}
@@ -19,11 +19,14 @@ returns-in_err-modules c =
     let p = err_from_is_err_and c.from_residual-in_err-modules.result c.from_residual-in_err-modules.ensures.1 in
     write_starved c.args.entries.now (λ (v : Vec ℕ Global). v.items) _ _ p.1 p.2
 
-pub freeze_on-requires-clause-alone : goal.freeze_on-requires-clause-alone
-freeze_on-requires-clause-alone c = ap (λ (z : Shelf). z.refused) c.in_ok-nothing.ensures
+pub freeze-requires-clause-version : goal.freeze-requires-clause-version
+freeze-requires-clause-version c = inr refl
 
-pub freeze_on-requires-clause-ascii : goal.freeze_on-requires-clause-ascii
-freeze_on-requires-clause-ascii c = names_ascii c.deref.result.now c.args.entries.now (ap (map copied) c.deref.ensures.value ∙ c.in_ok-modules.ensures) c.requires.plain
+pub freeze-requires-clause-alone : goal.freeze-requires-clause-alone
+freeze-requires-clause-alone c = ap (λ (z : Shelf). z.refused) c.in_ok-nothing.ensures
+
+pub freeze-requires-clause-ascii : goal.freeze-requires-clause-ascii
+freeze-requires-clause-ascii c = names_ascii c.deref.result.now c.args.entries.now (ap (map copied) c.deref.ensures.value ∙ c.in_ok-modules.ensures) c.requires.plain
 
 pub returns-in-Ok : goal.returns-in-Ok
 returns-in-Ok c =

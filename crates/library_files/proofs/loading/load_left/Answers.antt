@@ -14,6 +14,7 @@ loop-name-init g c = record {
   leaving = leaving_begun (NameComesTo (g.R.Reader.ending c.args.reader.now) (g.R.Reader.comes c.args.reader.now) c.args.base.now) (g.F.Folder.files c.args.folder.now) c.args.begun.now c.args.left.items (adds_none c.args.begun.now.library) c.requires.short;
   same = refl;
   still = refl;
+  absent = c.requires.absent;
 }
 
 pub import-requires-clause-short : goal.import-requires-clause-short
@@ -54,6 +55,7 @@ loop-name-preserved g c =
           c.in-Ok.ensures.step;
       same = c.in-Ok.ensures.same ∙ l.invariant.same;
       still = c.in-Ok.ensures.cause ∙ l.invariant.still;
+      absent = c.in-Ok.ensures.absent;
     }
 
 pub loop-name-smaller : goal.loop-name-smaller
@@ -75,3 +77,6 @@ returns-clause-same g c = c.loop-name.invariant.same
 
 pub returns-clause-cause : goal.returns-clause-cause
 returns-clause-cause g c = c.loop-name.invariant.still
+
+pub returns-clause-absent : goal.returns-clause-absent
+returns-clause-absent g c = c.loop-name.invariant.absent

@@ -1,5 +1,5 @@
 use Rattle.std.proofs.Common.{◌≡◌, ℕ, subst}
-use Rattle.base_commands.proofs.run_commands_lemmas.Running.{status_zero}
+use Rattle.run_commands.proofs.Running.{status_zero}
 use Rattle.mpy_tool.specs.Call.{call_of}
 use Rattle.mpy_tool.proofs.Ended.{said_at}
 use Rattle.mpy_tool.proofs.doing.do_order.Goals as goal

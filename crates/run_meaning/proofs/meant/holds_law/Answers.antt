@@ -2,4 +2,4 @@ use Rattle.run_meaning.proofs.Meaning.{holds_built}
 use Rattle.run_meaning.proofs.meant.holds_law.Goals as goal
 
 pub returns : goal.returns
-returns c files name main program built = holds_built c.made_law.ensures.file c.built_law.ensures files name main program built
+returns c files name main below program built = holds_built c.made_law.ensures.file c.built_law.ensures below files name main program built

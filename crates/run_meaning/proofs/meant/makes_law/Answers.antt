@@ -1,5 +1,5 @@
 use Rattle.run_meaning.proofs.Making.{of_source, of_units}
-use Rattle.run_meaning.proofs.ImageMeaning.{made_image}
+use Rattle.run_meaning.proofs.ImageMeaning.{made_image, migrated_image}
 use Rattle.run_meaning.proofs.meant.makes_law.Goals as goal
 
 pub returns-clause-cross : goal.returns-clause-cross
@@ -9,7 +9,10 @@ pub returns-clause-merge : goal.returns-clause-merge
 returns-clause-merge c = of_units
 
 pub returns-clause-freeze : goal.returns-clause-freeze
-returns-clause-freeze c = made_image
+returns-clause-freeze c = made_image c.frozen_law.ensures.frozen
+
+pub returns-clause-migrate : goal.returns-clause-migrate
+returns-clause-migrate c = migrated_image c.frozen_law.ensures.migrated
 
 pub returns-clause-verified : goal.returns-clause-verified
 returns-clause-verified c files name unit made =

@@ -3,7 +3,7 @@ use Rattle.run_meaning.proofs.Meaning.{run_means}
 use Rattle.run_meaning.proofs.meant.run_means_law.Goals as goal
 
 pub returns-clause-run : goal.returns-clause-run
-returns-clause-run c main = run_means c.meant_law.ensures (RunLibrary main)
+returns-clause-run c below main = run_means c.meant_law.ensures (RunLibrary below main)
 
 pub returns-clause-source : goal.returns-clause-source
 returns-clause-source c level = run_means c.meant_law.ensures (GoLibrary level)
