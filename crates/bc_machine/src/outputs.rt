@@ -11,7 +11,7 @@ ghost use Rattle.bc_machine.specs.Step.{step};
 ghost use Rattle.bc_machine.specs.Machine.{start, steps, run, run_of};
 ghost use Rattle.bc_machine.specs.Behind.{behind, state_behind, run_behind};
 
-use crate::runs::{prefix_law, runs_law};
+use crate::running::{prefix_law, runs_law};
 
 /// In a world in which something was printed before, a run begins, goes on and ends as it does otherwise, and its output stands
 /// behind that.

@@ -1,4 +1,5 @@
-//! Files' modules have trees, and the machine runs their trees alone.
+//! Files' modules have trees, which the machine runs alone; the verifier's rules of a tree, of its bytes and of
+//! the machine's module.
 #![tactic(auto)]
 
 mod resolved;

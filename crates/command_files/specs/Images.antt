@@ -8,7 +8,7 @@ use Rattle.image_open.specs.image_grammar.Base.{base_of}
 use Rattle.image_open.specs.Opens.{Opens}
 use Rattle.image_runs.specs.declared.fault.MainFault.TheVariants as mains
 use Rattle.mpy_endings.specs.declared.ending.Ending.{Ending}
-use Rattle.mpy_endings.specs.declared.ending.Ending.TheVariants.{Done, Unaccepted, Unread, Unverified, Unmerged, Unopened, Unfrozen, Unboarded, Stopped, ReadFault, WriteFault, Unwritten, NoMemory, Absent}
+use Rattle.mpy_endings.specs.declared.ending.Ending.TheVariants.{Done, Unaccepted, Unread, Unverified, Unmerged, Unopened, Unfrozen, Unboarded, Different, Stopped, ReadFault, WriteFault, Unwritten, NoMemory, Absent}
 use Rattle.command_files.specs.Folder.{MayHold, IsNotRead}
 
 -- the file under the name is an image over the library below of the library's further modules
@@ -34,6 +34,7 @@ RefusesImage below files name (Unopened (mains.Image fault)) = HoldsNoImage belo
 RefusesImage below files name (Unopened (mains.NoMain main)) = ⊥
 RefusesImage below files name (Unfrozen fault) = ⊥
 RefusesImage below files name (Unboarded fault) = ⊥
+RefusesImage below files name (Different difference) = ⊥
 RefusesImage below files name (Stopped stop) = ⊥
 RefusesImage below files name ReadFault = IsNotRead files name ReadFault
 RefusesImage below files name WriteFault = ⊥

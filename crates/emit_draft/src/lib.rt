@@ -1,4 +1,5 @@
-//! Code in the making: instructions whose jumps name labels, and the names that they are made for.
+//! Code in the making: instructions whose jumps name labels, the names that they are made for, and the
+//! codes of a module that drafts become.
 #![tactic(auto)]
 
 mod children;

@@ -9,7 +9,7 @@ ghost use Rattle.emit_measures.specs.Wide.{wide_int};
 ghost use Rattle.emit_measures.specs.Lengths.{name_length as name_wide, comparison_length as comparison_wide, expr_length as expr_wide, exprs_length as exprs_wide, pairs_length as pairs_wide, keys_length as keys_wide};
 ghost use Rattle.emit_measures.specs.Rows.{links_wide};
 
-use crate::numbers::{both, plus, three};
+use crate::number_lengths::{both, plus, three};
 use mpy_base::Text;
 use py_tree::{CompareOp, Expr};
 

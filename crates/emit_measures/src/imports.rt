@@ -8,7 +8,7 @@ ghost use Rattle.emit_measures.specs.Lengths.{imports_length as imports_wide, ta
 ghost use Rattle.emit_measures.specs.Rows.{alias_wide, dot_wide, reads_wide};
 
 use crate::expr_lengths::name_length;
-use crate::numbers::plus;
+use crate::number_lengths::plus;
 use mpy_base::Text;
 use py_tree::Alias;
 

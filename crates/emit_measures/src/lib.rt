@@ -1,4 +1,5 @@
-//! How tall the code of a text gets, how many handler entries it holds, and whether it passes a limit.
+//! What the code of a text comes to, counted on its tree: its height, its handler entries, its bytes and the
+//! locals that it names, and whether these pass a limit.
 #![tactic(auto)]
 
 mod counts;
@@ -7,7 +8,7 @@ mod expr_heights;
 mod expr_lengths;
 mod faults;
 mod imports;
-mod numbers;
+mod number_lengths;
 mod statement_heights;
 mod statement_lengths;
 mod target_heights;

@@ -12,7 +12,7 @@ ghost use Rattle.emit_measures.specs.Lengths.{exit_length as exit_wide, expr_len
 
 use crate::expr_lengths::{expr_length, name_length, row_length};
 use crate::imports::{imports_length, taken_length};
-use crate::numbers::{both, plus, three};
+use crate::number_lengths::{both, plus, three};
 use crate::target_lengths::{assign_length, augmented_length, deletes_length, store_length};
 use mpy_base::Text;
 use py_tree::{Branch, Expr, Handler, Param, Stmt, StmtKind};

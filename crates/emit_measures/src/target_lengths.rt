@@ -9,7 +9,7 @@ ghost use Rattle.emit_measures.specs.Lengths.{store_length as store_wide, stores
 ghost use Rattle.emit_measures.specs.Rows.{doubled_wide};
 
 use crate::expr_lengths::{expr_length, name_length};
-use crate::numbers::{both, plus, three};
+use crate::number_lengths::{both, plus, three};
 use mpy_base::Text;
 use py_tree::{Expr, Target};
 

@@ -1,4 +1,4 @@
-//! The code of statements with bodies, and of whole texts.
+//! The code of statements, with bodies and without, and of whole texts.
 #![tactic(auto)]
 
 mod assertions;

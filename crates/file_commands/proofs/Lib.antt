@@ -1,4 +1,5 @@
 pub mod Checked
+mod CheckedAs
 pub mod Crossed
 pub mod Merged
 pub mod HandedOn

@@ -2,3 +2,5 @@ pub mod Check
 pub mod Dump
 pub mod Cross
 pub mod Merge
+pub mod Texts
+pub mod CheckAs

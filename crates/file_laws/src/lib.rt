@@ -1,10 +1,10 @@
-//! Canonical files, of which a module has one.
+//! Laws of files that no command uses: canonical ones, and those that are cut off or have bytes after them.
 #![tactic(auto)]
 
 mod canonical;
-mod cuts;
+mod cut_files;
 mod image_cuts;
 
 pub use canonical::canonical_law;
-pub use cuts::{cut_law, suffix_law};
+pub use cut_files::{cut_law, suffix_law};
 pub use image_cuts::{cut_image, image_with_suffix};

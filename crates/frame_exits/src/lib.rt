@@ -1,4 +1,4 @@
-//! Raises, returns, and what finallys keep, over frames and an arena.
+//! Ways out of a code, over frames and an arena: raises, returns, what finallys keep, and imports.
 #![tactic(auto)]
 
 mod beginning;

@@ -3,7 +3,7 @@ use Rattle.std.proofs.Common.{List, ℕ, Option}
 use Rattle.mpy_io.specs.Files.{FileOf}
 use Rattle.image_grammar.specs.bc_library.Shelf.{Shelf}
 use Rattle.command_files.specs.mpy_endings.declared.ending.Ending.{Ending}
-use Rattle.command_files.specs.mpy_endings.declared.ending.Ending.TheVariants.{Done, Unaccepted, Unread, Unverified, Unmerged, Unopened, Unfrozen, Unboarded, Stopped, ReadFault, WriteFault, Unwritten, NoMemory, Absent}
+use Rattle.command_files.specs.mpy_endings.declared.ending.Ending.TheVariants.{Done, Unaccepted, Unread, Unverified, Unmerged, Unopened, Unfrozen, Unboarded, Different, Stopped, ReadFault, WriteFault, Unwritten, NoMemory, Absent}
 use Rattle.command_files.specs.Folder.{ChangesOnly}
 use Rattle.image_commands.specs.Freeze.{Freezes}
 use Rattle.command_files.proofs.Others.{same_only, became_only, front_only}
@@ -18,6 +18,7 @@ module _ (version : ℕ) (below : Shelf) (manifest written : List ℕ) (old new 
   freezes_only (Unopened fault) h = absurd h
   freezes_only (Unfrozen fault) h = same_only old new written h.1
   freezes_only (Unboarded fault) h = absurd h
+  freezes_only (Different difference) h = absurd h
   freezes_only (Stopped stop) h = absurd h
   freezes_only ReadFault h = absurd h
   freezes_only WriteFault h = became_only old new written h.0 h.2

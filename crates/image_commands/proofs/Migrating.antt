@@ -13,7 +13,7 @@ use Rattle.frozen_files.specs.image_freeze.declared.fault.MigrateFault.{MigrateF
 use Rattle.frozen_files.specs.image_freeze.declared.fault.MigrateFault.TheVariants.{Opening, Freezing}
 use Rattle.frozen_files.specs.image_freeze.Migrated.{IsImageOf}
 use Rattle.command_files.specs.mpy_endings.declared.ending.Ending.{Ending}
-use Rattle.command_files.specs.mpy_endings.declared.ending.Ending.TheVariants.{Done, Unaccepted, Unread, Unverified, Unmerged, Unopened, Unfrozen, Unboarded, Stopped, ReadFault, WriteFault, Unwritten, NoMemory, Absent}
+use Rattle.command_files.specs.mpy_endings.declared.ending.Ending.TheVariants.{Done, Unaccepted, Unread, Unverified, Unmerged, Unopened, Unfrozen, Unboarded, Different, Stopped, ReadFault, WriteFault, Unwritten, NoMemory, Absent}
 use Rattle.command_files.specs.image_runs.declared.fault.MainFault.TheVariants as mains
 use Rattle.manifest_files.specs.declared.frozen_fault.FrozenFault.TheVariants as frozen
 use Rattle.command_files.specs.Folder.{ChangesOnly, MayHold}
@@ -73,6 +73,7 @@ migrates_only name written old new (Unopened (mains.NoMain main)) h = absurd h
 migrates_only name written old new (Unfrozen (frozen.Sources fault)) h = absurd h
 migrates_only name written old new (Unfrozen (frozen.Image fault)) h = same_only old new written h.2
 migrates_only name written old new (Unboarded fault) h = absurd h
+migrates_only name written old new (Different difference) h = absurd h
 migrates_only name written old new (Stopped stop) h = absurd h
 migrates_only name written old new ReadFault h = same_only old new written h
 migrates_only name written old new WriteFault h = became_only old new written h.0 h.2

@@ -4,7 +4,7 @@ use Rattle.mpy_io.specs.Files.{FileOf, Becomes, BecomesFront}
 use Rattle.image_grammar.specs.bc_library.Shelf.{Shelf}
 use Rattle.frozen_files.specs.Frozen.{HoldsFrozen, RefusesFrozen}
 use Rattle.command_files.specs.mpy_endings.declared.ending.Ending.{Ending}
-use Rattle.command_files.specs.mpy_endings.declared.ending.Ending.TheVariants.{Done, Unaccepted, Unread, Unverified, Unmerged, Unopened, Unfrozen, Unboarded, Stopped, ReadFault, WriteFault, Unwritten, NoMemory, Absent}
+use Rattle.command_files.specs.mpy_endings.declared.ending.Ending.TheVariants.{Done, Unaccepted, Unread, Unverified, Unmerged, Unopened, Unfrozen, Unboarded, Different, Stopped, ReadFault, WriteFault, Unwritten, NoMemory, Absent}
 
 -- in this version, over the library below
 module _ (version : ℕ) (below : Shelf) (manifest written : List ℕ) (old new : Option FileOf) where
@@ -19,6 +19,7 @@ module _ (version : ℕ) (below : Shelf) (manifest written : List ℕ) (old new 
   Freezes (Unopened fault) = ⊥
   Freezes (Unfrozen fault) = RefusesFrozen version below old manifest fault × (new ≡ old)
   Freezes (Unboarded fault) = ⊥
+  Freezes (Different difference) = ⊥
   Freezes (Stopped stop) = ⊥
   Freezes ReadFault = ⊥
   -- nothing was printed, but what the sink held before wasn't handed on

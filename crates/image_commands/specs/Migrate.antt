@@ -14,7 +14,7 @@ use Rattle.frozen_files.specs.image_freeze.Migrated.{IsImageOf, Migrates as Migr
 use Rattle.command_files.specs.image_runs.declared.fault.MainFault.TheVariants as mains
 use Rattle.manifest_files.specs.declared.frozen_fault.FrozenFault.TheVariants as frozen
 use Rattle.command_files.specs.mpy_endings.declared.ending.Ending.{Ending}
-use Rattle.command_files.specs.mpy_endings.declared.ending.Ending.TheVariants.{Done, Unaccepted, Unread, Unverified, Unmerged, Unopened, Unfrozen, Unboarded, Stopped, ReadFault, WriteFault, Unwritten, NoMemory, Absent}
+use Rattle.command_files.specs.mpy_endings.declared.ending.Ending.TheVariants.{Done, Unaccepted, Unread, Unverified, Unmerged, Unopened, Unfrozen, Unboarded, Different, Stopped, ReadFault, WriteFault, Unwritten, NoMemory, Absent}
 use Rattle.command_files.specs.Folder.{MayHold, IsNotRead}
 use Rattle.command_files.specs.Images.{HoldsNoImage}
 
@@ -50,6 +50,7 @@ Migrates name written old new (Unopened (mains.NoMain main)) = ⊥
 Migrates name written old new (Unfrozen (frozen.Sources fault)) = ⊥
 Migrates name written old new (Unfrozen (frozen.Image fault)) = (fault ≡ TooBig) × HoldsTooBig old name × (new ≡ old)
 Migrates name written old new (Unboarded fault) = ⊥
+Migrates name written old new (Different difference) = ⊥
 Migrates name written old new (Stopped stop) = ⊥
 Migrates name written old new ReadFault = new ≡ old
 -- nothing was printed, but what the sink held before wasn't handed on

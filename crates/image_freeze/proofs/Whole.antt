@@ -30,7 +30,7 @@ use Rattle.image_open.proofs.bc_library_lemmas.Pools.{with_append}
 use Rattle.image_open.specs.image_grammar.declared.entry.Entry.{Entry}
 use Rattle.image_open.specs.image_grammar.Image.{Differ, IsEntry, IsFront, IsImage, IsNamed, IsOwnText, texts_used}
 use Rattle.image_open.specs.image_grammar.Opening.{Base, entry_of, names_of, number_in, pool_below}
-use Rattle.image_open.proofs.image_grammar_lemmas.Texts.{static_few}
+use Rattle.image_open.proofs.image_grammar_lemmas.BaseTexts.{static_few}
 use Rattle.image_open.proofs.Found.{numbered_is, static_from_one}
 use Rattle.image_open.proofs.Turns.{has_number}
 use Rattle.image_open.proofs.Uses.{IsProper}

@@ -1,4 +1,4 @@
-//! Modules written as an image.
+//! Modules written as an image, and images written once more in version 2.
 #![tactic(auto)]
 
 mod codes;

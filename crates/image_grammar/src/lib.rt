@@ -1,4 +1,5 @@
-//! The grammar of images of named modules, and its texts read from bytes.
+//! The grammar of images of named modules, its texts read from bytes, and the library that an image may lie
+//! over.
 #![tactic(auto)]
 
 mod base;

@@ -31,7 +31,7 @@ use Rattle.image_grammar.specs.Image.{IsEntry, IsNamed, Differ, texts_used}
 use Rattle.image_grammar.specs.Opening.{Base, count, own_text, pool_below, table, IsUse, used_with, use_at, number_in, use_part, names_of, name, qstr_of, qstr, qstr_table, module_of, entry_of, raw, held, entry, none_opened, modules}
 use Rattle.image_grammar.proofs.Inversion.{bind_ok, judge_ok, ok_is, ok_parts, Keeps, times_keeps, Many-push}
 use Rattle.image_grammar.proofs.Fine.{use_found}
-use Rattle.image_grammar.proofs.Texts.{static_few}
+use Rattle.image_grammar.proofs.BaseTexts.{static_few}
 use Rattle.image_open.proofs.Pools.{TextsRead, none_read, text_step}
 use Rattle.image_open.proofs.Uses.{IsProper, Used, used_further}
 

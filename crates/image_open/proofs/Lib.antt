@@ -5,8 +5,8 @@ pub use Rattle.qstr_pool.proofs as qstr_pool_lemmas
 pub mod Base
 pub mod Behind
 pub mod Below
-pub mod Copies
 pub mod Found
+pub mod ModuleCopies
 pub mod Named
 pub mod Opened
 pub mod Pools

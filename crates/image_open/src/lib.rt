@@ -1,4 +1,4 @@
-//! Images opened as libraries, one over another.
+//! Images opened over what lies below, and modules copied.
 #![tactic(auto)]
 
 mod codes;

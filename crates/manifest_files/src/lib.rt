@@ -1,4 +1,4 @@
-//! Manifests: the sources that they name.
+//! Manifests: the sources that they name, and why these have no image.
 #![tactic(auto)]
 
 mod adding;

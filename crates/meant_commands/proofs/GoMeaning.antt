@@ -15,13 +15,13 @@ use Rattle.meant_files.specs.source_files.Sources.{stored}
 use Rattle.meant_files.specs.Sources.{IsProgramOfSources}
 use Rattle.meant_files.specs.Libraries.{IsOfSources, IsOfFiles}
 use Rattle.mpy_endings.specs.declared.ending.Ending.{Ending}
-use Rattle.mpy_endings.specs.declared.ending.Ending.TheVariants.{Done, Unaccepted, Unread, Unverified, Unmerged, Unopened, Unfrozen, Unboarded, Stopped, ReadFault, WriteFault, Unwritten, NoMemory, Absent}
+use Rattle.mpy_endings.specs.declared.ending.Ending.TheVariants.{Done, Unaccepted, Unread, Unverified, Unmerged, Unopened, Unfrozen, Unboarded, Different, Stopped, ReadFault, WriteFault, Unwritten, NoMemory, Absent}
 use Rattle.mpy_endings.specs.declared.ending.Stop.TheVariants as stops
 use Rattle.run_commands.specs.Base.{base_of}
-use Rattle.mpy_endings.specs.Ending.{status_of}
+use Rattle.mpy_endings.specs.Ending.{status_of, IsRunStatus}
 use Rattle.run_commands.specs.Go.{SourceLoadsOf}
 use Rattle.run_commands.specs.Ready.{GoLibrary, RunLibrary}
-use Rattle.meant_commands.specs.Meant.{IsRunStatus, HoldsProgram, RunMeans}
+use Rattle.meant_commands.specs.Meant.{HoldsProgram, RunMeans}
 use Rattle.meant_commands.specs.GoMeant.{MeansSources, GoMeans, HoldsCrossed}
 use Rattle.run_commands.specs.command_files.Outside.{Outside}
 use Rattle.run_commands.specs.Run.{FileLibrary, Runs, EndsRun, sight_in}
@@ -83,6 +83,7 @@ module _ (o : OfSources) (level : ℕ) (room : Room) (steps : ℕ) (name : List 
   program_by files said (Unopened fault) is h made = absurd h.0
   program_by files said (Unfrozen fault) is h made = absurd h
   program_by files said (Unboarded fault) is h made = absurd h
+  program_by files said (Different difference) is h made = absurd h
   program_by files said ReadFault is h made = none files 7 (λ e. absurd cc) (λ e. absurd cc) (λ e. absurd cc) (λ e. absurd cc) (λ e. absurd cc) is made
   program_by files said Unwritten is h made = absurd h
   program_by files said NoMemory is h made = none files 9 (λ e. absurd cc) (λ e. absurd cc) (λ e. absurd cc) (λ e. absurd cc) (λ e. absurd cc) is made

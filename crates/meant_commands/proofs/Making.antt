@@ -1,13 +1,15 @@
--- What writing files makes.
-use Rattle.std.proofs.Common.{◌≡◌, ℕ, List, [], ◌∷◌, Option, Some, sym, subst, ◌∙◌}
+-- What writing files makes, and what checking them tells.
+use Rattle.std.proofs.Common.{◌≡◌, ℕ, List, [], ◌∷◌, Option, Some, refl, sym, subst, ◌∙◌}
 use Rattle.mpy_io.specs.Files.{FileOf}
 use Rattle.bc_library.specs.mpy_tree.File.{IsFile}
 use Rattle.bc_library.specs.mpy_tree.Raw.{Module}
 use Rattle.py_meaning.specs.Program.{Source, Unit, Units, Part, Parts}
 use Rattle.meant_files.specs.mpy_compile.Compiled.{CompilesTo}
+use Rattle.meant_files.specs.mpy_compile.Checked.{IsTranslation}
 use Rattle.meant_files.specs.Readings.{IsReading}
-use Rattle.meant_files.specs.Built.{crossed, merged, AreBuilt, last, next}
+use Rattle.meant_files.specs.Built.{crossed, checked, merged, AreBuilt, last, next}
 use Rattle.mpy_endings.specs.declared.ending.Ending.TheVariants.{Done}
+use Rattle.file_commands.specs.CheckAs.{ChecksAs}
 use Rattle.file_commands.specs.Cross.{Crosses}
 use Rattle.run_commands.specs.command_files.Opened.{HoldsModule}
 use Rattle.file_commands.specs.Merge.{HoldModules, Merges}
@@ -29,6 +31,24 @@ of_source reads level files name stored written new h =
       new_is = became.1;
       made = record { bytes = bytes; there = became.2.here; built = crossed level compiled.source stored bytes reading.0 compiled.compiles reading.1 };
     }
+
+pub of_checked : ((level : ℕ) (text bytes : List ℕ) (t : IsTranslation level text bytes) → (source : Source) × IsReading level text t.have.source source)
+    → (level : ℕ) (files : FileOf) (name file : List ℕ) (before behind : Option (List ℕ)) (place : ℕ) → ChecksAs level (Some files) name file before behind place Done
+    → (stored : List ℕ) × MakesOfSource level files name stored file (Some files)
+of_checked reads level files name file before behind place h =
+    let held = h.1 in
+    let reading = reads level held.text held.bytes held.is in (
+      held.is.have.source,
+      record {
+        text = held.text;
+        there = held.has_source;
+        source = reading.0;
+        is_reading = reading.1;
+        now = files;
+        new_is = refl;
+        made = record { bytes = held.bytes; there = held.has_file; built = checked level held.text held.bytes reading.0 held.is reading.1 };
+      },
+    )
 
 by_some : {a b : List ℕ} → Some a ≡ Some b → a ≡ b
 by_some e = cc

@@ -21,16 +21,16 @@ use Rattle.library_runs.specs.Runs.{Sight, RunsAs, end_of, said_of}
 use Rattle.meant_files.specs.meant_runs.Meant.{RanAsMeant, CutShortAsMeant, EndsAsMeant}
 use Rattle.meant_files.specs.Built.{IsBuilt, IsBuiltProgram}
 use Rattle.mpy_endings.specs.declared.ending.Ending.{Ending}
-use Rattle.mpy_endings.specs.declared.ending.Ending.TheVariants.{Done, Unaccepted, Unread, Unverified, Unmerged, Unopened, Unfrozen, Unboarded, Stopped, ReadFault, WriteFault, Unwritten, NoMemory, Absent}
+use Rattle.mpy_endings.specs.declared.ending.Ending.TheVariants.{Done, Unaccepted, Unread, Unverified, Unmerged, Unopened, Unfrozen, Unboarded, Different, Stopped, ReadFault, WriteFault, Unwritten, NoMemory, Absent}
 use Rattle.image_runs.specs.declared.fault.MainFault.TheVariants as mains
 use Rattle.mpy_endings.specs.declared.ending.Stop.TheVariants as stops
 use Rattle.run_commands.specs.Base.{base_of}
-use Rattle.mpy_endings.specs.Ending.{status_of}
+use Rattle.mpy_endings.specs.Ending.{IsRunStatus, status_of}
 use Rattle.mpy_endings.specs.Line.{Says, line_of}
 use Rattle.run_commands.specs.command_files.Outside.{Outside}
 use Rattle.run_commands.specs.Ready.{RunLibrary, not_read, of_file, of_image, begins_image}
 use Rattle.run_commands.specs.Run.{FileLibrary, RanLibrary, Runs, EndsRun, ending_of, sight_in}
-use Rattle.meant_commands.specs.Meant.{HoldsBuilt, HoldsProgram, IsRunStatus, DoesAsMeant, Libraries, RunMeans, end_status, end_text}
+use Rattle.meant_commands.specs.Meant.{HoldsBuilt, HoldsProgram, DoesAsMeant, Libraries, RunMeans, end_status, end_text}
 
 -- ends
 -- ====
@@ -152,6 +152,7 @@ module _ (law : MeantLaw) (Comes : Libraries) (program : Program) (room : Room) 
   meant_by (Unopened (mains.NoMain main)) is says h = none 10 (λ e. absurd cc) (λ e. absurd cc) (λ e. absurd cc) (λ e. absurd cc) (λ e. absurd cc) is
   meant_by (Unfrozen fault) is says h = absurd h
   meant_by (Unboarded fault) is says h = absurd h
+  meant_by (Different difference) is says h = absurd h
   meant_by ReadFault is says h = none 7 (λ e. absurd cc) (λ e. absurd cc) (λ e. absurd cc) (λ e. absurd cc) (λ e. absurd cc) is
   meant_by WriteFault is says h = ran ends.WriteFault (cut is) h
   meant_by Unwritten is says h = absurd h

@@ -5,7 +5,7 @@ use Rattle.py_meaning.specs.Program.{Source, Unit, Single, Merge, Units, Part, P
 use Rattle.meant_files.specs.Readings.{IsReading}
 use Rattle.meant_files.specs.Built.{IsBuilt}
 
--- the file under the name is made of the unit, by compiling and merging
+-- the file under the name is made of the unit, by compiling and merging, or is a translation of its source, whoever made it
 pub record HoldsMade (files : FileOf) (name : List ℕ) (unit : Unit) : Type 0 where
   pub bytes : List ℕ
   pub there : files name ≡ Some bytes

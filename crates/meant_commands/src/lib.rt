@@ -1,4 +1,5 @@
-//! What runs say of their programs: the headline, over the commands that make files and those that run them.
+//! What commands mean: runs of files and images say of their programs what these mean, and loading and running end
+//! in one way.
 #![tactic(auto)]
 
 mod going;

@@ -7,6 +7,7 @@ ghost use Rattle.mpy_io.specs.Ports.{PortView};
 ghost use Rattle.bc_library.specs.mpy_tree.Raw.{Module};
 ghost use Rattle.bc_library.specs.Shelf.{Shelf, no_entries};
 ghost use Rattle.py_meaning.specs.Program.{Program, Unit, Units};
+ghost use Rattle.file_commands.specs.CheckAs.{ChecksAs};
 ghost use Rattle.file_commands.specs.Cross.{Crosses};
 ghost use Rattle.mpy_endings.specs.declared.ending.Ending.TheVariants.{Done};
 ghost use Rattle.meant_files.specs.Sources.{IsProgramOfSources};
@@ -26,7 +27,7 @@ ghost use Rattle.run_commands.specs.Run.{EndsRun};
 ghost use Rattle.meant_files.specs.Programs.{HoldsImageOf, IsLibraryOf, IsProgramOf, Sources};
 
 use meant_files::meant_runs::meant_law;
-use meant_files::{crossed_law, files_law, frozen_law, images_law, sources_law};
+use meant_files::{checked_law, crossed_law, files_law, frozen_law, images_law, sources_law};
 
 /// A run of a file or an image, over whichever library, and of a source, does as each program means whose units its library has.
 pub fn run_means_law()
@@ -59,7 +60,7 @@ pub fn crossed_holds_law()
     files_law();
 }
 
-/// Files that `cross` and `merge` made hold the program of the sources that they were made of.
+/// Files that `cross` and `merge` made, or that are translations, hold the program of the sources that they were made of.
 pub fn holds_law()
     ensures { (files : FileOf) (name main : List ℕ) (below : Shelf) (program : Program) → HoldsBuilt files name program
         → HoldsProgram (RunLibrary below main) (Some files) name program }
@@ -85,13 +86,16 @@ pub fn image_holds_law()
     images_law();
 }
 
-/// What `cross` writes is made of the source that it compiles, and what `merge` writes of the units that its files are made of. What
-/// `freeze` writes is an image of the manifest's sources over the library below, and the other images of the folder stay; what `migrate`
-/// writes of an image of sources over nothing is one, too. A file that `cross` and `merge` made is one of a verified module, so that no
-/// command refuses it.
+/// What `cross` writes is made of the source that it compiles, and so is a file that `check` finds to be a translation, whoever made it;
+/// what `merge` writes is made of the units that its files are made of. What `freeze` writes is an image of the manifest's sources over the
+/// library below, and the other images of the folder stay; what `migrate` writes of an image of sources over nothing is one, too. A file
+/// that is made of a unit is one of a verified module, so that no command refuses it.
 pub fn makes_law()
     ensures cross { (level : ℕ) (files : FileOf) (name stored written : List ℕ) (new : Option FileOf)
         → Crosses level name stored written (Some files) new Done → MakesOfSource level files name stored written new }
+    ensures check { (level : ℕ) (files : FileOf) (name file : List ℕ) (before behind : Option (List ℕ)) (place : ℕ)
+        → ChecksAs level (Some files) name file before behind place Done
+        → (stored : List ℕ) × MakesOfSource level files name stored file (Some files) }
     ensures merge { (files : FileOf) (names : List (List ℕ)) (written : List ℕ) (new : Option FileOf) (place : ℕ) (units : Units)
         → HoldMade files names units → Merges names written (Some files) new place Done → MakesOfUnits units written new }
     ensures freeze { (version : ℕ) (below : Shelf) (sources : Sources) (written : List ℕ) (new : Option FileOf)
@@ -105,6 +109,7 @@ pub fn makes_law()
         → (m : Module) × HoldsModule (Some files) name m }
 {
     crossed_law();
+    checked_law();
     meant_files::made_law();
     frozen_law();
 }

@@ -18,6 +18,7 @@ use Rattle.tr_source.specs.Accepted.{IsAccepted}
 use Rattle.frozen_files.specs.emit_module.First.{AreWithin}
 use Rattle.frozen_files.specs.emit_module.Module.{IsResolved}
 use Rattle.frozen_files.specs.mpy_compile.Compiled.{CompilesTo}
+use Rattle.meant_runs.proofs.trans_laws_lemmas.Itself.{fits_itself}
 use Rattle.meant_runs.specs.Units.{IsUnitFile}
 use Rattle.meant_files.specs.Readings.{IsReading}
 
@@ -39,10 +40,10 @@ module _ (b : Below) (level : ℕ) (text stored bytes : List ℕ) (c : CompilesT
   abbrev accepted : Accepted
   accepted = c.compiled.accepted
 
-  resolves : (m : raw.Module) → IsFile bytes m → Resolves m read
+  pub resolves : (m : raw.Module) → IsFile bytes m → Resolves m read
   resolves m is = subst (λ (held : raw.Module). Resolves held read) (b.one_file bytes c.file.reads.reads.0 m c.file.reads.reads.1 is) c.file.reads.reads.2
 
-  translates : Translates (source_of stored level accepted.tree) read
+  pub translates : Translates (source_of stored level accepted.tree) read
   translates =
       let same = b.one_tree c.whole c.compiled.translated.resolved read c.compiled.translated.is (record { source = c.file.reads.source; code = c.file.reads.code }) in
       subst (Translates (source_of stored level accepted.tree)) same c.compiled.translated.translates
@@ -51,15 +52,23 @@ module _ (b : Below) (level : ℕ) (text stored bytes : List ℕ) (c : CompilesT
   unit_file m source is reading =
       let same : accepted ≡ reading.accepted = b.one_reading level text accepted reading.accepted c.compiled.is reading.is_accepted in
       let source_is : source_of stored level accepted.tree ≡ source = ap (λ (a : Accepted). source_of stored level a.tree) same ∙ sym reading.source_is in
-      record { tree = read; resolves = resolves m is; is_module = translated (subst (λ (s : Source). Translates s read) source_is translates) }
+      record {
+        tree = read;
+        resolves = resolves m is;
+        want = read;
+        is_module = translated (subst (λ (s : Source). Translates s read) source_is translates);
+        stored = refl;
+        fits = fits_itself read.code;
+      }
 
   pub reading : (source : Source) × IsReading level text stored source
   reading = (source_of stored level accepted.tree, record { accepted = accepted; is_accepted = c.compiled.is; source_is = refl })
 
+  pub is_accepted : IsAccepted level accepted.tree
+  is_accepted = b.within stored level accepted.tree (b.formed level text accepted c.compiled.is) (b.faultless level text accepted c.compiled.is) c.compiled.within
+
   pub is_verified : (m : raw.Module) → IsFile bytes m → IsVerified m
-  is_verified m is =
-      let kept = b.within stored level accepted.tree (b.formed level text accepted c.compiled.is) (b.faultless level text accepted c.compiled.is) c.compiled.within in
-      b.verified stored level accepted.tree read m kept translates (resolves m is)
+  is_verified m is = b.verified stored level accepted.tree read m is_accepted translates (resolves m is)
 
   pub file_there : (m : raw.Module) × IsFile bytes m
   file_there = (c.file.reads.reads.0, c.file.reads.reads.1)

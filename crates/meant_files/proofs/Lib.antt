@@ -1,6 +1,8 @@
 mod Came
+mod Checked
 mod Crossed
 mod Examples
+mod Fitting
 mod Follows
 mod Holds
 pub mod Libraries

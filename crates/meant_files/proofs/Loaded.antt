@@ -24,6 +24,8 @@ use Rattle.meant_files.specs.Imported.{source_imports}
 use Rattle.frozen_files.specs.source_files.Sources.{stored}
 use Rattle.meant_files.specs.Sources.{HoldsSource, imports_with, with_source, LoadsSources, IsProgramOfSources}
 use Rattle.meant_files.specs.Sources as sources
+use Rattle.meant_runs.specs.trans_parts.Comparing.{FitsTree}
+use Rattle.meant_files.proofs.Fitting.{same_imports}
 use Rattle.meant_files.proofs.SourcesHold.{Agree, grown, fresh, there, none_yet, entry_stays}
 
 both : {A : Type 0} (P : A → Type 0) (xs ys : List A) → AllByRecursion P xs → AllByRecursion P ys → AllByRecursion P (xs ++ ys)
@@ -37,10 +39,12 @@ pub record Below : Type 0 where
 
 -- the imports of a source's file
 file_imports : Below → (source : Source) (m : Module) (names : List Name) → IsUnitFile (Single source) m → Imports m names → names ≡ source_imports source
-file_imports b source m names is i = by is.tree is.resolves is.is_module
+file_imports b source m names is i = by is.want is.is_module is.fits
   where
-    by : (tree : ResolvedModule) → Resolves m tree → IsModuleOf (Single source) tree → names ≡ source_imports source
-    by tree resolves (translated t) = i.names_are ∙ ap (λ (r : ResolvedModule). imports_of r.code) (b.one_tree m i.tree tree i.resolves resolves) ∙ b.imports source tree t
+    by : (want : ResolvedModule) → IsModuleOf (Single source) want → FitsTree want.code is.tree.code → names ≡ source_imports source
+    by want (translated t) fits =
+        i.names_are ∙ ap (λ (r : ResolvedModule). imports_of r.code) (b.one_tree m i.tree is.tree i.resolves is.resolves)
+        ∙ sym (same_imports want.code is.tree.code fits) ∙ b.imports source want t
 
 module _ (of_sources : FileOf) (base : List ℕ) (level : ℕ) where
   -- what a name comes to among the sources, where it comes to an entry of the library

@@ -44,7 +44,14 @@ modules_of modules = map named (entries_of modules)
 
 module _ (b : Below) where
   frozen_unit : (unit : Unit) (m : Module) → IsUnitFile unit m → IsUnitFile unit (frozen m)
-  frozen_unit unit m h = record { tree = h.tree; resolves = b.resolves m h.tree h.resolves; is_module = h.is_module }
+  frozen_unit unit m h = record {
+    tree = h.tree;
+    resolves = b.resolves m h.tree h.resolves;
+    want = h.want;
+    is_module = h.is_module;
+    stored = h.stored;
+    fits = h.fits;
+  }
 
   module _ (files : FileOf) where
     unit_file : (entry : manifests.Entry) (m : Named) (text : List ℕ) (source : Source) → HoldsSource (Some files) entry m → files entry.path ≡ Some text → IsReading entry.opt text entry.source source → IsUnitFile (Single source) (frozen m.held)

@@ -1,4 +1,4 @@
--- Files that compiling and merging make of a program's units.
+-- Files of a program's units: those that compiling and merging make, and those that are translations, whoever made them.
 use Rattle.std.specs.Prelude.{◌≡◌, ◌≢◌, ℕ, List, [], ◌∷◌, Option, Some, None, IsSome, codes}
 use Rattle.mpy_io.specs.Files.{FileOf}
 use Rattle.bc_scheme.specs.mpy_tree.Raw.{Module}
@@ -9,6 +9,7 @@ use Rattle.image_open.specs.bc_library.Shelf.{Shelf, member_of}
 use Rattle.bc_scheme.specs.py_meaning.Tree.{Name}
 use Rattle.bc_scheme.specs.py_meaning.Program.{Source, Unit, Single, Merge, Units, Part, Parts, Entry, Runs, Refused, Program, entry_in}
 use Rattle.frozen_files.specs.mpy_compile.Compiled.{CompilesTo}
+use Rattle.frozen_files.specs.mpy_compile.Checked.{IsTranslation}
 use Rattle.mpy_merge.specs.AsMerge.{ReadsAsMerge}
 use Rattle.meant_files.specs.Readings.{IsReading}
 use Rattle.frozen_files.specs.library_files.Comes.{IsVerifiedFile, ending}
@@ -18,6 +19,9 @@ mutual
   pub data IsBuilt : Unit → (bytes : List ℕ) → Type 0 where
     -- a source compiles to them
     crossed : (level : ℕ) (text stored bytes : List ℕ) (source : Source) → CompilesTo level text stored bytes → IsReading level text stored source
+        → IsBuilt (Single source) bytes
+    -- they are a translation of a source, whoever made them
+    checked : (level : ℕ) (text bytes : List ℕ) (source : Source) (t : IsTranslation level text bytes) → IsReading level text t.have.source source
         → IsBuilt (Single source) bytes
     -- the modules of files that are made of the parts are merged to them
     merged : (units : Units) (modules : List Module) (bytes : List ℕ) → AreBuilt units modules → ReadsAsMerge modules bytes → IsBuilt (Merge units) bytes

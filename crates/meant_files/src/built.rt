@@ -1,4 +1,4 @@
-//! Files that compiling and merging make, and the libraries that they load to.
+//! Files of units, and the libraries that they load to.
 
 ghost use Rattle.std.specs.Prelude.{ℕ, List, length};
 ghost use Rattle.mpy_io.specs.Files.{FileOf};
@@ -11,13 +11,13 @@ ghost use Rattle.frozen_files.specs.library_files.Loads.{Loaded, LoadsFrom};
 ghost use Rattle.meant_runs.specs.Units.{IsUnitFile, AreUnits};
 ghost use Rattle.meant_files.specs.Built.{IsBuilt, IsBuiltProgram};
 
-use crate::units::{crossed_law, merged_law};
+use crate::units::{checked_law, crossed_law, merged_law};
 use bc_resolved::{file_law as texts_law, raw_law, resolves_law, tree_law};
 use image_open::mpy_reader::file_law;
 use tr_source::merge_law;
 
-/// What is made of a unit, by compiling and merging, is a file of the unit, and verified, so that nothing that reads and verifies
-/// files refuses it.
+/// What is made of a unit, by compiling and merging, or is a translation of its source, is a file of the unit, and verified, so that
+/// nothing that reads and verifies files refuses it.
 pub fn made_law()
     ensures file { (unit : Unit) (bytes : List ℕ) → IsBuilt unit bytes → (m : Module) × IsFile bytes m }
     ensures verified { (unit : Unit) (bytes : List ℕ) (m : Module) → IsBuilt unit bytes → IsFile bytes m → IsVerified m }
@@ -30,6 +30,7 @@ pub fn made_law()
     merge_law();
     file_law();
     crossed_law();
+    checked_law();
     merged_law();
 }
 

@@ -1,4 +1,5 @@
-//! Files of units, as they are compiled and merged.
+//! The program that files and images hold which compiling, merging and freezing made, and what their run
+//! means.
 #![tactic(auto)]
 
 mod built;
@@ -11,4 +12,4 @@ pub use frozen::{frozen_law, images_law, means_law};
 pub use frozen_files::mpy_compile;
 pub use laws::{files_law, imports_law, program_law, sources_law, sources_mean_law};
 pub use meant_runs;
-pub use units::{crossed_law, merged_law};
+pub use units::{checked_law, crossed_law, merged_law};

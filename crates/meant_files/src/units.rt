@@ -6,6 +6,7 @@ ghost use Rattle.bc_scheme.specs.mpy_tree.Raw.{Module};
 ghost use Rattle.bc_verify.specs.Verified.{IsVerified};
 ghost use Rattle.bc_scheme.specs.py_meaning.Program.{Source, Single, Merge, Units};
 ghost use Rattle.frozen_files.specs.mpy_compile.Compiled.{CompilesTo};
+ghost use Rattle.frozen_files.specs.mpy_compile.Checked.{IsTranslation};
 ghost use Rattle.mpy_merge.specs.AsMerge.{ReadsAsMerge};
 ghost use Rattle.meant_runs.specs.Units.{IsUnitFile, AreUnitFiles};
 ghost use Rattle.meant_files.specs.Readings.{IsReading};
@@ -14,6 +15,7 @@ use bc_resolved::resolves_law;
 use frozen_files::emit_module::resolved_law;
 use frozen_files::mpy_compile::within_law;
 use image_open::mpy_reader::file_law;
+use meant_runs::trans_laws::fitting_law;
 use py_source::{accepted_law, asked_law};
 use tr_source::compiled_law;
 
@@ -34,6 +36,26 @@ pub fn crossed_law()
     asked_law();
     within_law();
     compiled_law();
+}
+
+/// A file that is a translation of a source, whoever made it, is one of the unit that the source is read as under the name that the
+/// file stores. Its module is verified.
+pub fn checked_law()
+    ensures reading { (level : ℕ) (text bytes : List ℕ) (t : IsTranslation level text bytes)
+        → (source : Source) × IsReading level text t.have.source source }
+    ensures file { (level : ℕ) (text bytes : List ℕ) → IsTranslation level text bytes → (m : Module) × IsFile bytes m }
+    ensures verified { (level : ℕ) (text bytes : List ℕ) (m : Module) → IsTranslation level text bytes → IsFile bytes m → IsVerified m }
+    ensures unit { (level : ℕ) (text bytes : List ℕ) (t : IsTranslation level text bytes) (source : Source) (m : Module)
+        → IsReading level text t.have.source source → IsFile bytes m → IsUnitFile (Single source) m }
+{
+    file_law();
+    resolved_law();
+    resolves_law();
+    accepted_law();
+    asked_law();
+    within_law();
+    compiled_law();
+    fitting_law();
 }
 
 /// What is read as the merge of units' files is a file of the merged unit. The units may be merges themselves.

@@ -7,12 +7,17 @@ use Rattle.library_runs.specs.bc_library.Shelf.{Shelf, member_of, module_at}
 use Rattle.bc_scheme.specs.py_meaning.Tree.{Name}
 use Rattle.bc_scheme.specs.py_meaning.Program.{Unit, Units, Part, Parts, Entry, Runs, Refused, Program, entry_in}
 use Rattle.bc_scheme.specs.Link.{IsModuleOf}
+use Rattle.trans_laws.specs.trans_parts.Comparing.{FitsTree}
 
--- the file's module resolves to the unit's tree: the translation of its source, or the merge of its parts' trees
+-- the file's module resolves to a tree that fits the unit's: the translation of its source, or the merge of its parts' trees. So it is
+-- that tree, but for slots and handler entries, of which it may have more
 pub record IsUnitFile (unit : Unit) (file : Module) : Type 0 where
   pub tree : ResolvedModule
   pub resolves : Resolves file tree
-  pub is_module : IsModuleOf unit tree
+  pub want : ResolvedModule
+  pub is_module : IsModuleOf unit want
+  pub stored : want.source ≡ tree.source
+  pub fits : FitsTree want.code tree.code
 
 -- files of the units of a merge, one for each, in order
 abbrev pub AreUnitFiles : Units → List Module → Type 0

@@ -7,3 +7,4 @@ mod runs;
 pub use headline::meant_law;
 pub use library_runs::vm_starting;
 pub use runs::{links_law, runs_law};
+pub use trans_laws;

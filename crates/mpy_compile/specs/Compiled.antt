@@ -34,12 +34,6 @@ pub record IsFileFault (whole : ModuleCode) (fault : SourceFault) : Type 0 where
   pub past : (module_fits whole ≡ false) ⊎ ((refused : WriteFault) × FirstFault whole refused)
   pub is : fault ≡ too_long
 
--- what is made of a module; want of memory says nothing
-abbrev pub Files : ModuleCode → Result (Vec ℕ Global) (Refused SourceFault) → Type 0
-Files whole (Ok file) = IsFileOf whole file.items
-Files whole (Err (refused.Fault fault)) = IsFileFault whole fault
-Files whole (Err refused.NoMemory) = Unit {0}
-
 -- ---- sources
 
 -- the source is accepted at the level, no text of it passes a limit, and under the stored name the module translates it
@@ -73,8 +67,17 @@ pub record HasFileFault (level : ℕ) (source stored : List ℕ) (fault : Source
 abbrev pub IsFault : (level : ℕ) (source stored : List ℕ) → SourceFault → Type 0
 IsFault level source stored fault = sources.IsFirstFault level source fault ⊎ (HasCodeFault level source stored fault ⊎ HasFileFault level source stored fault)
 
--- what compiling a source under a stored name gives: its file, or its first fault; want of memory says nothing
+-- why a source has no file: its first fault; want of memory says nothing
+abbrev pub Refuses : (level : ℕ) (source stored : List ℕ) → Refused SourceFault → Type 0
+Refuses level source stored (refused.Fault fault) = IsFault level source stored fault
+Refuses level source stored refused.NoMemory = Unit {0}
+
+-- what compiling a source under a stored name gives: its file, or its first fault
 abbrev pub Compiles : (level : ℕ) (source stored : List ℕ) → Result (Vec ℕ Global) (Refused SourceFault) → Type 0
 Compiles level source stored (Ok file) = CompilesTo level source stored file.items
-Compiles level source stored (Err (refused.Fault fault)) = IsFault level source stored fault
-Compiles level source stored (Err refused.NoMemory) = Unit {0}
+Compiles level source stored (Err refusal) = Refuses level source stored refusal
+
+-- what compiling it to a module gives: the module, where it has a file, or the first fault
+abbrev pub CompilesModule : (level : ℕ) (source stored : List ℕ) → Result ModuleCode (Refused SourceFault) → Type 0
+CompilesModule level source stored (Ok whole) = (bytes : List ℕ) × IsCompiled level source stored whole × IsFileOf whole bytes
+CompilesModule level source stored (Err refusal) = Refuses level source stored refusal

@@ -7,7 +7,8 @@ ghost use Rattle.mpy_writer.specs.mpy_tree.declared.module.ModuleCode.{ModuleCod
 ghost use Rattle.mpy_writer.specs.mpy_tree.File.{IsAscii};
 ghost use Rattle.mpy_writer.specs.Writable.{IsShallow, IsWritable};
 ghost use Rattle.mpy_compile.specs.Texts.{TextsFit};
-ghost use Rattle.mpy_compile.specs.Compiled.{IsCompiled, CompilesTo, IsFault, Compiles, Files};
+ghost use Rattle.mpy_compile.specs.Compiled.{IsCompiled, CompilesTo, IsFault, Compiles, CompilesModule};
+ghost use Rattle.mpy_compile.specs.Made.{Files, Makes};
 
 use crate::fits::texts_fit;
 use crate::within::{module_law, within_law};
@@ -19,19 +20,50 @@ use mpy_writer::mpy_tree::ModuleCode;
 use mpy_writer::{write, write_law};
 use std::alloc::Global;
 
-/// The file of a module, where it passes no limit of files.
-fn file_of(alloc: Global, whole: &ModuleCode) -> Result<Vec<u8>, Refused<SourceFault>>
-    requires shallow { IsShallow MAX_DEPTH whole.now.code }
-    requires writable { TextsFit whole.now → IsWritable whole.now }
-    ensures { Files whole.now result }
+/// A module and its file.
+#[derive(Drop)]
+struct Made {
+    whole: ModuleCode,
+    file: Vec<u8>,
+}
+
+/// A module with its file, where it passes no limit of files.
+fn filed(alloc: Global, whole: ModuleCode) -> Result<Made, Refused<SourceFault>>
+    requires shallow { IsShallow MAX_DEPTH whole.code }
+    requires writable { TextsFit whole → IsWritable whole }
+    ensures { Files whole result }
 {
-    if !texts_fit(whole) {
+    if !texts_fit(&whole) {
         return Err(Refused::Fault(SourceFault::too_long(alloc)));
     }
-    match write(alloc, whole) {
-        Ok(file) => Ok(file),
+    match write(alloc, &whole) {
+        Ok(file) => Ok(Made { whole, file }),
         Err(Refused::Fault(_)) => Err(Refused::Fault(SourceFault::too_long(alloc))),
         Err(Refused::NoMemory) => Err(Refused::NoMemory),
+    }
+}
+
+/// The module of a source at a level under a stored name, with its file, or the first fault of the source, of its code or of the
+/// file as a whole.
+fn compiled(
+    alloc: Global,
+    source: &[u8],
+    level: u8,
+    stored: &[u8],
+) -> Result<Made, Refused<SourceFault>>
+    requires level_is { level ≤ 3 }
+    requires name_is { IsAscii stored.now }
+    ensures { Makes level source.now stored.now result }
+{
+    asked_law();
+    written_law();
+    let accepted = match read_source(alloc, level, source) {
+        Ok(accepted) => accepted,
+        Err(refusal) => return Err(refusal),
+    };
+    match emit(alloc, level, stored, &accepted) {
+        Ok(whole) => filed(alloc, whole),
+        Err(refusal) => Err(refusal),
     }
 }
 
@@ -47,14 +79,31 @@ pub fn compile(
     requires name_is { IsAscii stored.now }
     ensures { Compiles level source.now stored.now result }
 {
-    asked_law();
-    written_law();
-    let accepted = match read_source(alloc, level, source) {
-        Ok(accepted) => accepted,
-        Err(refusal) => return Err(refusal),
-    };
-    match emit(alloc, level, stored, &accepted) {
-        Ok(whole) => file_of(alloc, &whole),
+    match compiled(alloc, source, level, stored) {
+        Ok(made) => {
+            let Made { whole: _, file } = made;
+            Ok(file)
+        }
+        Err(refusal) => Err(refusal),
+    }
+}
+
+/// The module of a source at a level under a stored name, or the fault for which `compile` gives no file.
+pub fn compiled_module(
+    alloc: Global,
+    source: &[u8],
+    level: u8,
+    stored: &[u8],
+) -> Result<ModuleCode, Refused<SourceFault>>
+    requires level_is { level ≤ 3 }
+    requires name_is { IsAscii stored.now }
+    ensures { CompilesModule level source.now stored.now result }
+{
+    match compiled(alloc, source, level, stored) {
+        Ok(made) => {
+            let Made { whole, file: _ } = made;
+            Ok(whole)
+        }
         Err(refusal) => Err(refusal),
     }
 }

@@ -1,4 +1,4 @@
-//! The file of a source.
+//! The file of a source: which sources have one, and that their modules may be written.
 #![tactic(auto)]
 
 mod compiling;
@@ -6,7 +6,7 @@ mod fits;
 mod within;
 mod written;
 
-pub use compiling::{compile, compile_law};
+pub use compiling::{compile, compile_law, compiled_module};
 pub use emit_module;
 pub use emit_module::{py_source, tr_source};
 pub use fits::texts_fit;

@@ -9,6 +9,7 @@ ghost use Rattle.mpy_endings.specs.Line as spec;
 ghost use Rattle.mpy_endings.specs.Line.{Puts, words_line, source_line, file_line, tag_text, path_text, verify_line, merge_line, stop_line, line_of};
 
 use crate::boards::say_board;
+use crate::differing::say_difference;
 use crate::ending::{Ending, Stop};
 use crate::freezing::{say_frozen, say_main};
 use crate::put::{gap, put, put_head, put_named, put_three, put_two};
@@ -140,7 +141,7 @@ fn put_path<E: Sink>(say: &mut E, path: &[usize]) -> Result<(), Failed>
 }
 
 /// Puts which code it is by its path.
-fn put_code<E: Sink>(say: &mut E, path: &[usize]) -> Result<(), Failed>
+pub(crate) fn put_code<E: Sink>(say: &mut E, path: &[usize]) -> Result<(), Failed>
     ensures { Puts (E.told say.old) (E.told say.new) (E.count say.old) (E.count say.new)
         (codes " code " ++ path_text path.now) result }
 {
@@ -245,6 +246,7 @@ pub fn say_ending<E: Sink>(say: &mut E, name: &str, ending: &Ending) -> Result<(
         Ending::Unopened(fault) => say_main(say, name, fault),
         Ending::Unfrozen(fault) => say_frozen(say, name, fault),
         Ending::Unboarded(fault) => say_board(say, name, fault),
+        Ending::Different(difference) => say_difference(say, name, difference),
         Ending::Stopped(stop) => say_stop(say, stop),
         Ending::ReadFault => put_named(say, b"mpy: read fault", name.as_bytes()),
         Ending::WriteFault => put(say, b"mpy: write fault out\n"),

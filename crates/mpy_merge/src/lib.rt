@@ -1,4 +1,5 @@
-//! The merge of verified modules: one file whose outermost code calls theirs in order.
+//! The merge of verified modules: their codes with the numbers of one file, whose outermost code calls theirs
+//! in order.
 #![tactic(auto)]
 
 mod code_names;
@@ -14,6 +15,7 @@ mod outer;
 mod top;
 mod tree;
 
+pub use bc_resolved;
 pub use fault::{MAX_PARTS, MergeFault};
 pub use law::moved_law;
 pub use moved::{entry_text, text_at};

@@ -6,13 +6,14 @@ use Rattle.mpy_io.specs.Files.{FileOf}
 use Rattle.image_grammar.specs.bc_library.Shelf.{Shelf, no_entries}
 use Rattle.meant_commands.specs.source_files.Sources.{stored}
 use Rattle.mpy_words.specs.declared.order.Command.{Command}
-use Rattle.mpy_words.specs.declared.order.Command.TheVariants.{Go, Check, Dump, Cross, Merge, Freeze, Migrate, Run, Board, Stress}
+use Rattle.mpy_words.specs.declared.order.Command.TheVariants.{Go, Check, CheckAs, Dump, Cross, Merge, Freeze, Migrate, Run, Board, Stress}
 use Rattle.mpy_words.specs.declared.order.Order.{Order}
 use Rattle.mpy_words.specs.Words.{Outcome, order_of, first_name, second_name, source_name, main_name, file_names}
 use Rattle.board_command.specs.board_files.Files.{KeepsOthers}
 use Rattle.board_command.specs.command_files.Outside.{Ends, EndsAt, Writes, WritesOf}
 use Rattle.board_command.proofs.command_files_lemmas.Others.{same_only}
 use Rattle.meant_commands.specs.file_commands.Check.{Checks}
+use Rattle.meant_commands.specs.file_commands.CheckAs.{ChecksAs}
 use Rattle.meant_commands.specs.file_commands.Cross.{Crosses}
 use Rattle.meant_commands.specs.file_commands.Dump.{Dumps}
 use Rattle.meant_commands.specs.file_commands.Merge.{Merges}
@@ -33,7 +34,7 @@ use Rattle.mpy_tool.specs.Doing.{Finishes, RunsBy, ActsBy, ObeysBy}
 use Rattle.mpy_tool.specs.Order.{ChangesBy, calls_ports, makes_source, runs_library}
 use Rattle.mpy_tool.specs.Making.{StressMeans}
 use Rattle.mpy_tool.proofs.Stressing.{GoLaw, stress_means}
-use Rattle.mpy_tool.proofs.Ended.{checked, dumped, crossed, merged, frozen, migrated, boarded}
+use Rattle.mpy_tool.proofs.Ended.{checked, checked_as, dumped, crossed, merged, frozen, migrated, boarded}
 
 -- where no file changed
 -- =====================
@@ -45,6 +46,7 @@ same_others count (Some file) new e = (file, e, λ name apart. refl)
 pub same_changes : (words : List (List ℕ)) (command : Command) (old new : Option FileOf) → new ≡ old → ChangesBy words command old new
 same_changes words Go old new e = e
 same_changes words Check old new e = e
+same_changes words CheckAs old new e = e
 same_changes words Dump old new e = e
 same_changes words Cross old new e = same_only old new (second_name words) e
 same_changes words Merge old new e = same_only old new (first_name words) e
@@ -65,6 +67,7 @@ module _ (order : Order) (call : Call) where
   pub acts_run : (below : Shelf) (command : Command) → runs_library command ≡ true → RunsBy order call below command → ActsBy order call below command
   acts_run below Go e h = h
   acts_run below Check e h = absurd cc
+  acts_run below CheckAs e h = absurd cc
   acts_run below Dump e h = absurd cc
   acts_run below Cross e h = absurd cc
   acts_run below Merge e h = absurd cc
@@ -77,6 +80,7 @@ module _ (order : Order) (call : Call) where
   pub acts_do : (below : Shelf) (command : Command) → calls_ports command ≡ false → Finishes order call below command → ActsBy order call below command
   acts_do below Go e h = absurd cc
   acts_do below Check e h = h
+  acts_do below CheckAs e h = h
   acts_do below Dump e h = h
   acts_do below Cross e h = h
   acts_do below Merge e h = h
@@ -89,6 +93,7 @@ module _ (order : Order) (call : Call) where
   pub acts_make : (below : Shelf) (command : Command) → makes_source command ≡ true → ShowsPorts call (EndsStress order.seed order.count (room_of order) order.steps) → ActsBy order call below command
   acts_make below Go e h = absurd cc
   acts_make below Check e h = absurd cc
+  acts_make below CheckAs e h = absurd cc
   acts_make below Dump e h = absurd cc
   acts_make below Cross e h = absurd cc
   acts_make below Merge e h = absurd cc
@@ -158,6 +163,14 @@ module _ (order : Order) (call : Call) where
   check_ordered is h =
       ordered Check (λ o. Shows call (Ends Checks (first_name call.words))) is
       (λ e. checked order call no_entries (as_command Check e h))
+
+  pub check_as_ordered : Ok order ≡ order_of call.words → Obeyed order.command
+      → OrdersTwo call CheckAs (λ o src file. Shows call (EndsAt (λ old new before behind. ChecksAs o.level old src file before behind) call.words))
+  check_as_ordered is h =
+      let src = first_name call.words in
+      let file = second_name call.words in
+      ordered CheckAs (λ o. Shows call (EndsAt (λ old new before behind. ChecksAs o.level old src file before behind) call.words)) is
+      (λ e. checked_as order call None (as_command CheckAs e h))
 
   pub dump_ordered : Ok order ≡ order_of call.words → Obeyed order.command → OrdersOne call Dump (λ o file. Shows call (Ends Dumps file))
   dump_ordered is h =

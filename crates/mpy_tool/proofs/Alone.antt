@@ -5,13 +5,14 @@ use Rattle.mpy_io.specs.Files.{FileOf}
 use Rattle.image_grammar.specs.bc_library.Shelf.{Shelf}
 use Rattle.meant_commands.specs.source_files.Sources.{stored}
 use Rattle.mpy_words.specs.declared.order.Command.{Command}
-use Rattle.mpy_words.specs.declared.order.Command.TheVariants.{Check, Dump, Cross, Merge, Freeze, Migrate, Board}
+use Rattle.mpy_words.specs.declared.order.Command.TheVariants.{Check, CheckAs, Dump, Cross, Merge, Freeze, Migrate, Board}
 use Rattle.mpy_words.specs.declared.order.Order.{Order}
 use Rattle.mpy_words.specs.Words.{first_name, second_name, source_name, file_names}
 use Rattle.meant_commands.specs.mpy_endings.declared.ending.Ending.{Ending}
 use Rattle.meant_commands.specs.mpy_endings.Line.{place_in}
 use Rattle.board_command.specs.command_files.Folder.{ChangesOnly}
 use Rattle.meant_commands.specs.file_commands.Check.{Checks}
+use Rattle.meant_commands.specs.file_commands.CheckAs.{ChecksAs}
 use Rattle.meant_commands.specs.file_commands.Cross.{Crosses}
 use Rattle.meant_commands.specs.file_commands.Dump.{Dumps}
 use Rattle.meant_commands.specs.file_commands.Merge.{Merges}
@@ -36,6 +37,11 @@ module _ (order : Order) (words : List (List ℕ)) (below : Shelf) (command : Co
   pub check_did : (result : Ending) (name : List ℕ) → command ≡ Check → name ≡ first_name words → ending ≡ result → place ≡ place_in result → Checks old name result before behind → Did command
   check_did result name e n r p h =
       subst Did (sym e) (subst (λ (x : Ending). Checks old (first_name words) x before behind) (sym r) (subst (λ (m : List ℕ). Checks old m result before behind) n h), placed result r p)
+
+  pub check_as_did : (source file : List ℕ) → command ≡ CheckAs → source ≡ first_name words → file ≡ second_name words → ChecksAs order.level old source file before behind place ending → Did command
+  check_as_did source file e n w h =
+      let one = subst (λ (m : List ℕ). ChecksAs order.level old m file before behind place ending) n h in
+      subst Did (sym e) (subst (λ (m : List ℕ). ChecksAs order.level old (first_name words) m before behind place ending) w one)
 
   pub dump_did : (result : Ending) (name : List ℕ) → command ≡ Dump → name ≡ first_name words → ending ≡ result → place ≡ place_in result → Dumps old name result before behind → Did command
   dump_did result name e n r p h =

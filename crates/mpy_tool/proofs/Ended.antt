@@ -3,15 +3,16 @@ use Rattle.std.proofs.Common.{◌≡◌, ℕ, List, [], Option, Result, get_or, 
 use Rattle.mpy_io.specs.declared.fault.Failed.{Failed}
 use Rattle.image_grammar.specs.bc_library.Shelf.{Shelf}
 use Rattle.meant_commands.specs.source_files.Sources.{stored}
-use Rattle.mpy_words.specs.declared.order.Command.TheVariants.{Check, Dump, Cross, Merge, Freeze, Migrate, Board}
+use Rattle.mpy_words.specs.declared.order.Command.TheVariants.{Check, CheckAs, Dump, Cross, Merge, Freeze, Migrate, Board}
 use Rattle.mpy_words.specs.declared.order.Order.{Order}
 use Rattle.mpy_words.specs.Words.{first_name, second_name, source_name, file_names}
 use Rattle.meant_commands.specs.mpy_endings.declared.ending.Ending.{Ending}
-use Rattle.meant_commands.specs.mpy_endings.declared.ending.Ending.TheVariants.{Done, Unaccepted, Unread, Unverified, Unmerged, Unopened, Unfrozen, Unboarded, Stopped, ReadFault, WriteFault, Unwritten, NoMemory, Absent}
+use Rattle.meant_commands.specs.mpy_endings.declared.ending.Ending.TheVariants.{Done, Unaccepted, Unread, Unverified, Unmerged, Unopened, Unfrozen, Unboarded, Different, Stopped, ReadFault, WriteFault, Unwritten, NoMemory, Absent}
 use Rattle.meant_commands.specs.mpy_endings.Line.{Puts, Says, line_of, name_in, place_in}
 use Rattle.meant_commands.proofs.mpy_endings_lemmas.Said.{says_from}
 use Rattle.board_command.specs.command_files.Outside.{Outside, Ends, EndsAt, Writes, WritesOf}
 use Rattle.meant_commands.specs.file_commands.Check.{Checks}
+use Rattle.meant_commands.specs.file_commands.CheckAs.{ChecksAs}
 use Rattle.meant_commands.specs.file_commands.Cross.{Crosses}
 use Rattle.meant_commands.specs.file_commands.Dump.{Dumps}
 use Rattle.meant_commands.specs.file_commands.Merge.{Merges}
@@ -32,6 +33,7 @@ name_read read written (Unmerged fault) h = refl
 name_read read written (Unopened fault) h = refl
 name_read read written (Unfrozen fault) h = refl
 name_read read written (Unboarded fault) h = refl
+name_read read written (Different difference) h = refl
 name_read read written (Stopped stop) h = refl
 name_read read written ReadFault h = refl
 name_read read written WriteFault h = refl
@@ -49,6 +51,7 @@ word_named words (Unmerged fault) = refl
 word_named words (Unopened fault) = refl
 word_named words (Unfrozen fault) = refl
 word_named words (Unboarded fault) = refl
+word_named words (Different difference) = refl
 word_named words (Stopped stop) = refl
 word_named words ReadFault = refl
 word_named words WriteFault = refl
@@ -85,6 +88,18 @@ module _ (order : Order) (call : Call) (below : Shelf) where
     folder_counts = h.folder_counts;
     out_counts = h.out_counts;
     says = named_first call.words call.old call.new h.place h.ending h.went.1 (λ e. subst (λ (x : Ending). Checks call.old.files (first_name call.words) x call.old.out call.new.out) e h.went.0) h.says;
+  }
+
+  pub checked_as : Finishes order call below CheckAs
+      → Shows call (EndsAt (λ old new before behind. ChecksAs order.level old (first_name call.words) (second_name call.words) before behind) call.words)
+  checked_as h = record {
+    ending = h.ending;
+    place = h.place;
+    status_is = h.status_is;
+    went = h.went;
+    folder_counts = h.folder_counts;
+    out_counts = h.out_counts;
+    says = h.says;
   }
 
   pub dumped : Finishes order call below Dump → Shows call (Ends Dumps (first_name call.words))

@@ -4,7 +4,7 @@ use Rattle.std.specs.Io.KnownBytes.{Keeps}
 use Rattle.mpy_io.specs.Files.{FileOf}
 use Rattle.image_grammar.specs.bc_library.Shelf.{Shelf}
 use Rattle.mpy_words.specs.declared.order.Command.{Command}
-use Rattle.mpy_words.specs.declared.order.Command.TheVariants.{Go, Check, Dump, Cross, Merge, Freeze, Migrate, Run, Board, Stress}
+use Rattle.mpy_words.specs.declared.order.Command.TheVariants.{Go, Check, CheckAs, Dump, Cross, Merge, Freeze, Migrate, Run, Board, Stress}
 use Rattle.mpy_words.specs.declared.order.Order.{Order}
 use Rattle.mpy_words.specs.Words.{first_name, second_name, source_name, main_name, file_names}
 use Rattle.meant_commands.specs.source_files.Sources.{stored}
@@ -12,6 +12,7 @@ use Rattle.meant_commands.specs.mpy_endings.declared.ending.Ending.{Ending}
 use Rattle.meant_commands.specs.mpy_endings.Line.{place_in}
 use Rattle.board_command.specs.command_files.Outside.{EndsAt}
 use Rattle.meant_commands.specs.file_commands.Check.{Checks}
+use Rattle.meant_commands.specs.file_commands.CheckAs.{ChecksAs}
 use Rattle.meant_commands.specs.file_commands.Cross.{Crosses}
 use Rattle.meant_commands.specs.file_commands.Dump.{Dumps}
 use Rattle.meant_commands.specs.file_commands.Merge.{Merges}
@@ -32,6 +33,7 @@ module _ (order : Order) (words : List (List ℕ)) (below : Shelf) where
   abbrev pub DoesBy : Command → (old new : Option FileOf) → (before behind : Option (List ℕ)) → (place : ℕ) → Ending → Type 0
   DoesBy Go old new before behind place ending = ⊥
   DoesBy Check old new before behind place ending = Checks old (first_name words) ending before behind × (place ≡ place_in ending)
+  DoesBy CheckAs old new before behind place ending = ChecksAs order.level old (first_name words) (second_name words) before behind place ending
   DoesBy Dump old new before behind place ending = Dumps old (first_name words) ending before behind × (place ≡ place_in ending)
   DoesBy Cross old new before behind place ending =
       Crosses order.level (first_name words) (stored (source_name words order.stored_name)) (second_name words) old new ending × Keeps before behind × (place ≡ place_in ending)
@@ -51,6 +53,7 @@ module _ (order : Order) (words : List (List ℕ)) (below : Shelf) where
   abbrev pub LibraryBy : Command → Libraries
   LibraryBy Go = GoLibrary order.level
   LibraryBy Check = no_library
+  LibraryBy CheckAs = no_library
   LibraryBy Dump = no_library
   LibraryBy Cross = no_library
   LibraryBy Merge = no_library
@@ -74,6 +77,7 @@ module _ (order : Order) (call : Call) (below : Shelf) where
   abbrev pub ActsBy : Command → Type 0
   ActsBy Go = RunsBy Go
   ActsBy Check = Finishes Check
+  ActsBy CheckAs = Finishes CheckAs
   ActsBy Dump = Finishes Dump
   ActsBy Cross = Finishes Cross
   ActsBy Merge = Finishes Merge

@@ -6,7 +6,7 @@ ghost use Rattle.mpy_io.specs.Count.{Counts};
 ghost use Rattle.image_grammar.specs.Base.{IsOpened};
 ghost use Rattle.image_grammar.specs.bc_library.Shelf.{Shelf};
 ghost use Rattle.meant_commands.specs.mpy_endings.declared.ending.Ending.TheVariants.{Done};
-ghost use Rattle.meant_commands.specs.mpy_endings.Ending.{is_folder_fault, is_out_fault};
+ghost use Rattle.meant_commands.specs.mpy_endings.Ending.{IsRunStatus, is_folder_fault, is_out_fault};
 ghost use Rattle.board_command.specs.board_files.Files.{KeepsOthers};
 ghost use Rattle.board_command.specs.Boards.{Boards};
 ghost use Rattle.meant_commands.specs.image_commands.Freeze.{Freezes};
@@ -20,7 +20,7 @@ use crate::below::{image_version, or_nothing, release};
 use crate::outside::Outside;
 use board_command::board;
 use image_grammar::bc_library::Library;
-use meant_commands::file_commands::{check, cross, dump, merge_files};
+use meant_commands::file_commands::{check, check_as, cross, dump, merge_files};
 use meant_commands::image_commands::{freeze, migrate};
 use meant_commands::mpy_endings::{Ended, Ending, file_names, say_ending, source_name, word_at};
 use mpy_base::NoMemory;
@@ -92,6 +92,10 @@ fn ran_alone<F: Folder, S: Sink>(
     let name = word_at(words, 1);
     match order.command {
         Command::Check => Ended::of_two(check(alloc, name, folder, out)),
+        Command::CheckAs => {
+            let file = word_at(words, 2);
+            check_as(alloc, order.level, name, file, folder, out)
+        }
         Command::Dump => Ended::of_two(dump(alloc, name, folder, out)),
         Command::Cross => {
             let stored = source_name(words, order.stored_name);
@@ -130,7 +134,12 @@ fn ran<F: Folder, S: Sink>(
             Ended::of_two(freeze_below(alloc, order.base, below, name, written, folder))
         }
         Command::Board => board_below(alloc, below, name, word_at(words, 2), folder, out),
-        Command::Check | Command::Dump | Command::Cross | Command::Merge | Command::Migrate => {
+        Command::Check
+        | Command::CheckAs
+        | Command::Dump
+        | Command::Cross
+        | Command::Merge
+        | Command::Migrate => {
             release(below);
             ran_alone(order, alloc, words, folder, out)
         }
@@ -187,7 +196,7 @@ pub(crate) fn do_order<F: Folder, S: Sink, P: Port, E: Sink>(
     ensures ended { let call = call_of F.Folder S.Sink P.Port E.Sink words.now outside.old outside.new result in
         Finishes order call (library_below below) order.command }
     ensures ports { outside.new.ports ≡ outside.old.ports }
-    ensures flushed { result ≡ 0 → S.held outside.new.out ≡ [] }
+    ensures flushed { IsRunStatus result → S.held outside.new.out ≡ [] }
     ensures files { ChangesBy (texts words.now) order.command (F.files outside.old.folder) (F.files outside.new.folder) }
 {
     let ended = done(

@@ -5,10 +5,11 @@ ghost use Rattle.mpy_words.specs.declared.order.Command.TheVariants as commands;
 ghost use Rattle.mpy_words.specs.Given.{most_count};
 ghost use Rattle.mpy_words.specs.Words.{order_of, source_name, main_name, file_names};
 ghost use Rattle.meant_commands.specs.source_files.Sources.{stored};
-ghost use Rattle.meant_commands.specs.mpy_endings.Ending.{status_of};
+ghost use Rattle.meant_commands.specs.mpy_endings.Ending.{IsRunStatus, status_of};
 ghost use Rattle.meant_commands.specs.mpy_endings.Line.{Says, line_of};
 ghost use Rattle.board_command.specs.command_files.Outside.{Ends, EndsAt, Writes, WritesOf};
 ghost use Rattle.meant_commands.specs.file_commands.Check.{Checks};
+ghost use Rattle.meant_commands.specs.file_commands.CheckAs.{ChecksAs};
 ghost use Rattle.meant_commands.specs.file_commands.Cross.{Crosses};
 ghost use Rattle.meant_commands.specs.file_commands.Dump.{Dumps};
 ghost use Rattle.meant_commands.specs.file_commands.Merge.{Merges};
@@ -21,7 +22,7 @@ ghost use Rattle.meant_commands.specs.image_commands.Migrate.{Migrates};
 ghost use Rattle.board_command.specs.Boards.{Boards};
 ghost use Rattle.stress_command.specs.Stress.{EndsStress};
 ghost use Rattle.mpy_tool.specs.Below.{Based, MayLieBelow, image_version, library_below};
-ghost use Rattle.mpy_tool.specs.Call.{call_of, texts, Orders, OrdersOne, OrdersTwo, Shows, ShowsPorts};
+ghost use Rattle.mpy_tool.specs.Call.{call_of, texts, LeavesCounts, Orders, OrdersOne, OrdersTwo, Shows, ShowsPorts};
 ghost use Rattle.mpy_tool.specs.Doing.{ActsBy, ObeysBy};
 ghost use Rattle.mpy_tool.specs.Making.{StressMeans};
 ghost use Rattle.mpy_tool.specs.Order.{RefusesWords, base_by, calls_ports, calls_ports_in, makes_source, runs_library, ChangesBy, ChangesIn};
@@ -50,7 +51,8 @@ fn runs(command: Command) -> bool
 {
     match command {
         Command::Go | Command::Run => true,
-        Command::Check | Command::Dump | Command::Cross | Command::Merge => false,
+        Command::Check | Command::CheckAs | Command::Dump => false,
+        Command::Cross | Command::Merge => false,
         Command::Freeze | Command::Migrate | Command::Board | Command::Stress => false,
     }
 }
@@ -62,7 +64,8 @@ fn makes(command: Command) -> bool
     match command {
         Command::Stress => true,
         Command::Go | Command::Run => false,
-        Command::Check | Command::Dump | Command::Cross | Command::Merge => false,
+        Command::Check | Command::CheckAs | Command::Dump => false,
+        Command::Cross | Command::Merge => false,
         Command::Freeze | Command::Migrate | Command::Board => false,
     }
 }
@@ -73,7 +76,8 @@ fn base_place(order: Order) -> Option<usize>
 {
     match order.command {
         Command::Freeze | Command::Run | Command::Board => order.base,
-        Command::Go | Command::Check | Command::Dump | Command::Cross => None,
+        Command::Go | Command::Check | Command::CheckAs | Command::Dump => None,
+        Command::Cross => None,
         Command::Merge | Command::Migrate | Command::Stress => None,
     }
 }
@@ -88,7 +92,7 @@ fn make<F: Folder, S: Sink, P: Port, E: Sink>(
     requires count { order.count ≤ most_count }
     ensures ended { let call = call_of F.Folder S.Sink P.Port E.Sink [] outside.old outside.new result in
         ShowsPorts call (EndsStress order.seed order.count (room_of order) order.steps) }
-    ensures flushed { result ≡ 0 → S.held outside.new.out ≡ [] }
+    ensures flushed { IsRunStatus result → S.held outside.new.out ≡ [] }
     ensures files { F.files outside.new.folder ≡ F.files outside.old.folder }
 {
     release(below);
@@ -122,7 +126,7 @@ fn act<F: Folder, S: Sink, P: Port, E: Sink>(
     ensures ended { let call = call_of F.Folder S.Sink P.Port E.Sink words.now outside.old outside.new result in
         ActsBy order call (library_below below) order.command }
     ensures ports { calls_ports order.command ≡ false → outside.new.ports ≡ outside.old.ports }
-    ensures flushed { result ≡ 0 → S.held outside.new.out ≡ [] }
+    ensures flushed { IsRunStatus result → S.held outside.new.out ≡ [] }
     ensures files { ChangesBy (texts words.now) order.command (F.files outside.old.folder) (F.files outside.new.folder) }
 {
     if runs(order.command) {
@@ -155,7 +159,7 @@ fn obey<F: Folder, S: Sink, P: Port, E: Sink>(
     ensures ended { let call = call_of F.Folder S.Sink P.Port E.Sink words.now outside.old outside.new result in
         ObeysBy order call order.command }
     ensures ports { calls_ports order.command ≡ false → outside.new.ports ≡ outside.old.ports }
-    ensures flushed { result ≡ 0 → S.held outside.new.out ≡ [] }
+    ensures flushed { IsRunStatus result → S.held outside.new.out ≡ [] }
     ensures files { ChangesBy (texts words.now) order.command (F.files outside.old.folder) (F.files outside.new.folder) }
 {
     let Some(at) = base_place(order) else {
@@ -187,6 +191,12 @@ pub fn mpy<F: Folder, S: Sink, P: Port, E: Sink>(
     // check FILE: how many codes are verified is printed, or what keeps the file from it is said.
     ensures check { let call = call_of F.Folder S.Sink P.Port E.Sink words.now outside.old outside.new result in
         OrdersOne call commands.Check (λ order file. Shows call (Ends Checks file)) }
+
+    // check SRC FILE: how many codes the file has is printed where it is a translation of the source at the level that is ordered, whoever
+    // made it, or what differs first, or keeps them from being compared, is said.
+    ensures check_as { let call = call_of F.Folder S.Sink P.Port E.Sink words.now outside.old outside.new result in
+        OrdersTwo call commands.CheckAs (λ order src file.
+        Shows call (EndsAt (λ old new before behind. ChecksAs order.level old src file before behind) call.words)) }
 
     // dump FILE: what the file holds is listed, or what keeps it from being read is said.
     ensures dump { let call = call_of F.Folder S.Sink P.Port E.Sink words.now outside.old outside.new result in
@@ -250,8 +260,12 @@ pub fn mpy<F: Folder, S: Sink, P: Port, E: Sink>(
     // Only go, run and stress call ports.
     ensures ports { calls_ports_in (order_of (texts words.now)) ≡ false → outside.new.ports ≡ outside.old.ports }
 
-    // With status 0 nothing of what is printed is held back.
-    ensures flushed { result ≡ 0 → S.held outside.new.out ≡ [] }
+    // With a status other than 7 and 8 no call of the folder and of the output's sink failed.
+    ensures counts { let call = call_of F.Folder S.Sink P.Port E.Sink words.now outside.old outside.new result in
+        LeavesCounts call }
+
+    // With status 0, and with 1, 5 and 6 of a run, nothing of what is printed is held back.
+    ensures flushed { IsRunStatus result → S.held outside.new.out ≡ [] }
 
     // No command but cross, merge, freeze, migrate and board changes a file, and these none but FILE, OUT and the files of the tasks.
     ensures files { let call = call_of F.Folder S.Sink P.Port E.Sink words.now outside.old outside.new result in

@@ -16,7 +16,7 @@ use Rattle.library_files.specs.Loads as loads
 use Rattle.library_files.specs.Loads.{Loading}
 use Rattle.command_files.specs.source_files.Sources.{stored, source_ending, IsModuleOf, SourceComesTo, LoadsFromSources}
 use Rattle.command_files.specs.mpy_endings.declared.ending.Ending.{Ending}
-use Rattle.command_files.specs.mpy_endings.declared.ending.Ending.TheVariants.{Done, Unaccepted, Unread, Unverified, Unmerged, Unopened, Unfrozen, Unboarded, Stopped, ReadFault, WriteFault, Unwritten, NoMemory, Absent}
+use Rattle.command_files.specs.mpy_endings.declared.ending.Ending.TheVariants.{Done, Unaccepted, Unread, Unverified, Unmerged, Unopened, Unfrozen, Unboarded, Different, Stopped, ReadFault, WriteFault, Unwritten, NoMemory, Absent}
 use Rattle.command_files.specs.mpy_endings.declared.ending.Stop.TheVariants.{Past, LibraryFault, LibraryUnaccepted, Raised, Memory, Steps}
 use Rattle.run_commands.specs.Base.{base_of}
 use Rattle.command_files.specs.Folder.{MayHold}
@@ -75,6 +75,7 @@ sources_unloaded level files name (Unmerged fault) h = absurd h
 sources_unloaded level files name (Unopened fault) h = absurd h
 sources_unloaded level files name (Unfrozen fault) h = absurd h
 sources_unloaded level files name (Unboarded fault) h = absurd h
+sources_unloaded level files name (Different difference) h = absurd h
 sources_unloaded level files name (Stopped (Past limit)) h = tt
 sources_unloaded level files name (Stopped (LibraryFault path)) h = tt
 sources_unloaded level files name (Stopped (LibraryUnaccepted source)) h = tt

@@ -4,7 +4,7 @@ use Rattle.std.specs.Prelude.{IfOk, IfErr}
 use Rattle.mpy_io.specs.Files.{FileOf}
 use Rattle.bc_library.specs.Shelf.{Shelf}
 use Rattle.command_files.specs.mpy_endings.declared.ending.Ending.{Ending}
-use Rattle.command_files.specs.mpy_endings.declared.ending.Ending.TheVariants.{Done, Unaccepted, Unread, Unverified, Unmerged, Unopened, Unfrozen, Unboarded, Stopped, ReadFault, WriteFault, Unwritten, NoMemory, Absent}
+use Rattle.command_files.specs.mpy_endings.declared.ending.Ending.TheVariants.{Done, Unaccepted, Unread, Unverified, Unmerged, Unopened, Unfrozen, Unboarded, Different, Stopped, ReadFault, WriteFault, Unwritten, NoMemory, Absent}
 use Rattle.command_files.specs.mpy_endings.Ending.{is_folder_fault}
 use Rattle.run_commands.specs.declared.ready.Ready.{Ready}
 use Rattle.command_files.specs.Folder.{MayHold, IsNotRead}
@@ -24,6 +24,7 @@ unread_unloaded files name (Unmerged fault) h = absurd h
 unread_unloaded files name (Unopened fault) h = absurd h
 unread_unloaded files name (Unfrozen fault) h = absurd h
 unread_unloaded files name (Unboarded fault) h = absurd h
+unread_unloaded files name (Different difference) h = absurd h
 unread_unloaded files name (Stopped stop) h = absurd h
 unread_unloaded files name ReadFault h = tt
 unread_unloaded files name WriteFault h = absurd h
@@ -61,6 +62,7 @@ module _ (below : Shelf) (main bytes : List ℕ) where
   image_refused (Unopened fault) h = (tt, refl)
   image_refused (Unfrozen fault) h = absurd h
   image_refused (Unboarded fault) h = absurd h
+  image_refused (Different difference) h = absurd h
   image_refused (Stopped stop) h = absurd h
   image_refused ReadFault h = absurd h
   image_refused WriteFault h = absurd h

@@ -8,7 +8,7 @@ use Rattle.bc_library.specs.Shelf.{Shelf}
 use Rattle.library_files.specs.Loads.{main_name}
 use Rattle.command_files.specs.image_runs.Main.{HoldsMain, RefusesMain}
 use Rattle.command_files.specs.mpy_endings.declared.ending.Ending.{Ending}
-use Rattle.command_files.specs.mpy_endings.declared.ending.Ending.TheVariants.{Done, Unaccepted, Unread, Unverified, Unmerged, Unopened, Unfrozen, Unboarded, Stopped, ReadFault, WriteFault, Unwritten, NoMemory, Absent}
+use Rattle.command_files.specs.mpy_endings.declared.ending.Ending.TheVariants.{Done, Unaccepted, Unread, Unverified, Unmerged, Unopened, Unfrozen, Unboarded, Different, Stopped, ReadFault, WriteFault, Unwritten, NoMemory, Absent}
 use Rattle.run_commands.specs.declared.ready.Ready.{Ready}
 use Rattle.command_files.specs.Folder.{MayHold, IsNotRead}
 use Rattle.run_commands.specs.Go.{SourceLibrary}
@@ -55,6 +55,7 @@ ImageStart below main bytes (Err (Unverified fault)) = ⊥
 ImageStart below main bytes (Err (Unmerged fault)) = ⊥
 ImageStart below main bytes (Err (Unfrozen fault)) = ⊥
 ImageStart below main bytes (Err (Unboarded fault)) = ⊥
+ImageStart below main bytes (Err (Different difference)) = ⊥
 ImageStart below main bytes (Err (Stopped stop)) = ⊥
 ImageStart below main bytes (Err ReadFault) = ⊥
 ImageStart below main bytes (Err WriteFault) = ⊥

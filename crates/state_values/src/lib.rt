@@ -1,4 +1,5 @@
-//! Instructions of a program that runs over an arena, from what was fetched to the calls and the heap behind.
+//! Instructions of a program that runs over an arena which act on values and frames, and leave the running
+//! call running.
 #![tactic(auto)]
 
 mod attributes;

@@ -1,4 +1,5 @@
-//! The command `stress`: a made source that is run, behind two lines that tell how large it is.
+//! The command `stress`: a made source of a given length, that is run after two lines that tell how large
+//! it is.
 #![tactic(auto)]
 
 mod draws;

@@ -1,14 +1,15 @@
-//! An accepted source keeps what translations ask of it.
+//! What an accepted source keeps and spells, and laws of its translation: that it is verified, and that there
+//! is one.
 #![tactic(auto)]
 
-mod sources;
+mod asked;
 mod spelled;
-mod texts;
+mod text_names;
 mod undotted;
 mod verified;
 
-pub use sources::{accepted_law, compiled_law, limits_law, unit_law};
+pub use asked::{accepted_law, compiled_law, limits_law, unit_law};
 pub use spelled::spelled_law;
-pub use texts::texts_law;
+pub use text_names::texts_law;
 pub use undotted::undotted_law;
 pub use verified::{merge_law, own_law, unique_law, verified_law};

@@ -34,10 +34,10 @@ pub fn stored_source(module: &RawModule) -> &[u8]
     ensures ascii { IsAscii result.now }
 {
     module_law(module);
-    let Some(name) = name_at(module, 0) else {
-        unreachable!();
-    };
-    name
+    match name_at(module, 0) {
+        Some(name) => name,
+        None => unreachable!(),
+    }
 }
 
 /// Does the number lead to the text?

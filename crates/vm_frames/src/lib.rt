@@ -1,4 +1,5 @@
-//! The frames of the machine: a stack of calls with their locals, slots and handler entries, in memory that is taken once.
+//! The frames of the machine: a stack of calls with their locals, slots and handler entries, in memory that
+//! is taken once. Their moves are those of the machine.
 #![tactic(auto)]
 
 mod frame;

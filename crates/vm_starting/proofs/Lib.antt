@@ -3,11 +3,11 @@ mod Empty
 mod Found
 mod Keeping
 mod Lasts
-mod Names
 mod Never
 mod Offsets
 mod OneRow
 mod Openings
+mod ProgramNames
 mod Programs
 mod Texts
 mod Titles

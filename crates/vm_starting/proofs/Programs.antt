@@ -19,7 +19,7 @@ use Rattle.vm_states.specs.frame_moves.Shown.{Tables}
 use Rattle.vm_states.specs.Means.{Program, IsMeant, Means}
 use Rattle.vm_starting.specs.Programs.{IsRunnable, stored_of, FindsAll, FitsGreatest, IsProgramOf}
 use Rattle.vm_starting.proofs.Offsets.{Once, code_of_module, offsets_of, starts_are}
-use Rattle.vm_starting.proofs.Names.{stored_in, IsEntryFor, IsHeld, finds, module_stored, refused_stored, none_stored, held_stored, module_named}
+use Rattle.vm_starting.proofs.ProgramNames.{stored_in, IsEntryFor, IsHeld, finds, module_stored, refused_stored, none_stored, held_stored, module_named}
 
 abbrev name_by : Option Named → Name
 name_by None = []

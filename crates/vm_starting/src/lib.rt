@@ -1,4 +1,5 @@
-//! How a run begins: its memory, and the main module, over frames and an arena.
+//! How a run begins: the program that the machine runs for a library of files, what was fetched of its codes,
+//! the run's memory, and the main module.
 #![tactic(auto)]
 
 mod cache;
@@ -7,7 +8,7 @@ mod codes;
 mod names;
 mod opening;
 mod places;
-mod programs;
+mod shown_program;
 mod starting;
 
 pub use cache::Cache;
@@ -16,7 +17,7 @@ pub use frame_calls;
 pub use names::names_law;
 pub use opening::Vm;
 pub use places::Places;
-pub use programs::{code_law, program_law};
+pub use shown_program::{code_law, program_law};
 pub use starting::{MAIN, NAME, start_main};
 pub use vm_states;
 pub use vm_states::{bc_library, bc_rows};

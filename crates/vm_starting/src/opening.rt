@@ -18,7 +18,7 @@ ghost use Rattle.vm_states.specs.frame_exits.declared.ends.End.TheVariants as en
 ghost use Rattle.vm_starting.specs.Opened.{HasMemory, IsBegun, IsFresh, state_in};
 ghost use Rattle.vm_starting.specs.Titles.{AreTitles};
 
-use crate::programs::{code_law, program_law};
+use crate::shown_program::{code_law, program_law};
 use crate::starting::start_main;
 use frame_calls::arena_heap::{Arena, Value};
 use frame_calls::prim_modules::Modules;

@@ -13,7 +13,7 @@ ghost use Rattle.vm_states.specs.Running.{HasRooms};
 ghost use Rattle.vm_states.specs.State.{IsState};
 ghost use Rattle.vm_starting.specs.Starting.{Begins, IsMain, started_of};
 
-use crate::programs::code_law;
+use crate::shown_program::code_law;
 use frame_calls::arena_heap::{Arena, StrNo};
 use frame_calls::prim_faults::Stop;
 use frame_calls::prim_modules::{Modules, make_module};

@@ -19,8 +19,8 @@ ghost use Rattle.vm_states.specs.Means.{Program, Means};
 ghost use Rattle.vm_states.specs.Ready.{IsFetched, IsReady, item_at};
 ghost use Rattle.vm_states.specs.Running.{IsOfModule, IsRunning};
 
+use crate::call_tops::tops_law;
 use crate::standing::standing_law;
-use crate::tops::tops_law;
 use bc_progress::{progress_law, room_law};
 use frame_exits::vm_frames::placed_law;
 use vm_fetching::bc_rows::rows_law;

@@ -1,6 +1,6 @@
 use Rattle.std.proofs.Common.{◌≤◌, length, refl, arith}
 use Rattle.mpy_base.specs.declared.limits.TheConstants.{MAX_TABLE}
-use Rattle.image_grammar.proofs.Texts.{all_taken, next_taken, none_at, none_taken, taken_own}
+use Rattle.image_grammar.proofs.BaseTexts.{all_taken, next_taken, none_at, none_taken, taken_own}
 use Rattle.image_grammar.proofs.base.copy_texts.Goals as goal
 
 pub loop-place-init : goal.loop-place-init

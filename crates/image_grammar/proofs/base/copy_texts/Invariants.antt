@@ -1,4 +1,4 @@
-use Rattle.image_grammar.proofs.Texts.{TakenTo}
+use Rattle.image_grammar.proofs.BaseTexts.{TakenTo}
 use Rattle.image_grammar.proofs.base.copy_texts.Given as goal
 
 abbrev pub invariant-loop-place : goal.invariant-loop-place

@@ -1,6 +1,6 @@
 use Rattle.std.proofs.Common.{refl}
 use Rattle.mpy_base.specs.declared.limits.TheConstants.{MAX_TABLE}
-use Rattle.image_grammar.proofs.Texts.{none_at, some_at}
+use Rattle.image_grammar.proofs.BaseTexts.{none_at, some_at}
 use Rattle.image_grammar.proofs.base.has_many_texts.Goals as goal
 
 pub returns-in-Some-clause-many : goal.returns-in-Some-clause-many

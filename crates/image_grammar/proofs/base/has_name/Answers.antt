@@ -1,4 +1,4 @@
-use Rattle.image_grammar.proofs.Names.{found_none, found_some}
+use Rattle.image_grammar.proofs.BaseNames.{found_none, found_some}
 use Rattle.image_grammar.proofs.base.has_name.Goals as goal
 
 pub returns-in-Some : goal.returns-in-Some

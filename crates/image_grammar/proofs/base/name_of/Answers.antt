@@ -1,6 +1,6 @@
 use Rattle.std.proofs.Common.{refl, ◌∙◌}
 use Rattle.bc_library.specs.Texts.{text_numbered}
-use Rattle.image_grammar.proofs.Names.{copied_is, titled}
+use Rattle.image_grammar.proofs.BaseNames.{copied_is, titled}
 use Rattle.image_grammar.proofs.base.name_of.Goals as goal
 
 pub returns-clause-name : goal.returns-clause-name

@@ -1,7 +1,7 @@
 use Rattle.std.proofs.Common.{◌≡◌, ◌-◌, ◌<◌, ℕ, List, length, get_or, ap₂, subst, ◌∙◌, arith}
 use Rattle.image_grammar.specs.mpy_tree.declared.raw.RawCode.{RawCode, roll-RawCode, roll-out-RawCode}
 use Rattle.image_grammar.proofs.mpy_tree_lemmas.Codes.{Nests, whole, children}
-use Rattle.image_open.proofs.Copies.{all_copied, at_place, next_copied}
+use Rattle.image_open.proofs.ModuleCopies.{all_copied, at_place, next_copied}
 use Rattle.image_open.proofs.codes.+copy_code.Goals as goal
 
 pub overflow_sub-levels : goal.overflow_sub-levels

@@ -1,5 +1,5 @@
 use Rattle.std.proofs.Common.{arith}
-use Rattle.image_open.proofs.Copies.{all_copied, next_copied}
+use Rattle.image_open.proofs.ModuleCopies.{all_copied, next_copied}
 use Rattle.image_open.proofs.modules.copy_qstrs.Goals as goal
 
 pub loop-qstr-preserved : goal.loop-qstr-preserved

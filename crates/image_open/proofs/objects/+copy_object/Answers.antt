@@ -4,7 +4,7 @@ use Rattle.image_grammar.specs.mpy_tree.declared.module.Constant.TheVariants as 
 use Rattle.image_grammar.specs.bc_library.Constants.{items_in}
 use Rattle.image_grammar.specs.bc_library.Fine.{Fine}
 use Rattle.image_grammar.proofs.bc_library_lemmas.Preorders.{below, is_tuple}
-use Rattle.image_open.proofs.Copies.{all_copied, at_place, next_copied}
+use Rattle.image_open.proofs.ModuleCopies.{all_copied, at_place, next_copied}
 use Rattle.image_open.proofs.objects.+copy_object.Goals as goal
 
 pub overflow_sub-levels : goal.overflow_sub-levels

@@ -1,5 +1,5 @@
 use Rattle.std.proofs.Common.{arith}
-use Rattle.image_open.proofs.Copies.{all_copied, at_place, next_copied}
+use Rattle.image_open.proofs.ModuleCopies.{all_copied, at_place, next_copied}
 use Rattle.image_open.proofs.objects.copy_objects.Goals as goal
 
 pub copy_object-requires : goal.copy_object-requires

@@ -1,9 +1,12 @@
-use Rattle.meant_commands.proofs.Making.{of_source, of_units}
+use Rattle.meant_commands.proofs.Making.{of_source, of_checked, of_units}
 use Rattle.meant_commands.proofs.ImageMeaning.{made_image, migrated_image}
 use Rattle.meant_commands.proofs.meant.makes_law.Goals as goal
 
 pub returns-clause-cross : goal.returns-clause-cross
 returns-clause-cross c = of_source c.crossed_law.ensures.reading
+
+pub returns-clause-check : goal.returns-clause-check
+returns-clause-check c = of_checked c.checked_law.ensures.reading
 
 pub returns-clause-merge : goal.returns-clause-merge
 returns-clause-merge c = of_units

@@ -1,15 +1,4 @@
-use Rattle.std.proofs.Common.{Err, ap}
-use Rattle.mpy_compile.proofs.Outcomes.{source_refused, filed}
 use Rattle.mpy_compile.proofs.compiling.compile.Goals as goal
 
-pub emit-requires : goal.emit-requires
-emit-requires c = (c.args.source.now, c.in-Ok.ensures.found)
-
-pub returns-in-Err : goal.returns-in-Err
-returns-in-Err c = source_refused c.args.level c.args.source.now c.args.stored.now c.in-Err.refusal (λ fault e. c.in-Err.ensures.fault fault (ap Err e))
-
-pub returns-in-Ok-emit : goal.returns-in-Ok-emit
-returns-in-Ok-emit c =
-    filed c.args.level c.args.source.now c.args.stored.now c.in-Ok-emit.whole
-    (record { accepted = c.in-Ok.accepted; is = c.in-Ok.ensures.found; within = c.in-Ok-emit.ensures.within; translated = c.in-Ok-emit.ensures.translates })
-    c.file_of.result c.file_of.ensures
+pub returns-in-Ok : goal.returns-in-Ok
+returns-in-Ok c = record { whole = c.in-Ok.made.whole; compiled = c.in-Ok.ensures.0; file = c.in-Ok.ensures.1 }

@@ -1,4 +1,4 @@
-use Rattle.std.proofs.Common.{◌≡◌, ℕ, List, Some, None, sym, subst, ◌∙◌}
+use Rattle.std.proofs.Common.{◌≡◌, Some, None, sym, subst, ◌∙◌}
 use Rattle.mpy_tree.specs.File.{IsAscii}
 use Rattle.trans_check.proofs.Stored.{stored}
 use Rattle.trans_check.proofs.names.stored_source.Goals as goal
