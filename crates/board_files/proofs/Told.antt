@@ -64,7 +64,7 @@ on_err (Err e) P Q f h = f h
 -- all runs
 -- ========
 
-run_at : (runs : List TaskRun) (i : ℕ) → i < length runs → (run : TaskRun) × (slice_get runs i ≡ Some run)
+pub run_at : (runs : List TaskRun) (i : ℕ) → i < length runs → (run : TaskRun) × (slice_get runs i ≡ Some run)
 run_at [] i h = absurd (omega (arith, h))
 run_at (r ∷ runs) zero h = (r, refl)
 run_at (r ∷ runs) (suc i) h = run_at runs i (omega (arith, h))

@@ -6,3 +6,4 @@ pub mod Runs
 pub mod Summaries
 pub mod Lines
 pub mod Written
+pub mod Stopped

@@ -3,6 +3,7 @@
 ghost use Rattle.std.specs.Prelude.{◌≡◌, ◌+◌, ◌<◌, ◌≤◌, ◌^◌, MatchBool};
 ghost use Rattle.mpy_io.specs.Count.{Counts};
 ghost use Rattle.vm_machine.specs.bc_library.Shelf.{Shelf};
+ghost use Rattle.vm_machine.specs.vm_starting.Kept.{AreFetched};
 ghost use Rattle.vm_machine.specs.Machine.{IsVm};
 ghost use Rattle.board_tasks.specs.Ends.{GoesOn, HasEnd, IsOver, is_write_fault};
 ghost use Rattle.board_tasks.specs.Turns.{TurnsSo};
@@ -17,7 +18,7 @@ use vm_machine::bc_library::Library;
 use vm_machine::bc_rows::Rows;
 use vm_machine::frame_exits::End;
 use vm_machine::run;
-use vm_machine::vm_starting::Vm;
+use vm_machine::vm_starting::{Cache, Vm};
 
 /// The run of a task.
 #[derive(Drop)]
@@ -60,17 +61,20 @@ impl TaskRun {
         alloc: Global,
         library: &Library,
         rows: &Rows<'_>,
+        cache: &mut Cache,
         steps: u64,
         out: &mut S,
     ) -> TurnEnd
         requires vm { IsVm library.now self.old.vm }
         requires rows { rows.now ≡ library.now }
         requires countable { self.old.vm.paid + steps < 2 ^ 64 }
+        requires kept { AreFetched library.now cache.old }
         ensures vm { IsVm library.now self.new.vm }
         ensures turns { TurnsSo library.now steps self.old self.new (S.told out.old) (S.told out.new) result }
         ensures over { result ≡ TurnEnd.Over → out.new ≡ out.old }
         ensures counts { Counts (S.count out.old) (S.count out.new) (is_write_fault result) }
         ensures paid { self.new.vm.paid ≤ self.old.vm.paid + steps }
+        ensures kept { AreFetched library.now cache.new }
     {
         if self.is_over() {
             return TurnEnd::Over;
@@ -79,7 +83,7 @@ impl TaskRun {
         prefix_law();
         runs_law();
         let mut ports: PortSet<ScriptPort> = PortSet::new(Vec::new(alloc));
-        match run(&mut self.vm, library, rows, out, &mut ports, steps) {
+        match run(&mut self.vm, library, rows, cache, out, &mut ports, steps) {
             Ok(()) => TurnEnd::Went,
             Err(Failed) => {
                 self.failed = true;

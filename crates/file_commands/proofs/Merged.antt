@@ -1,7 +1,11 @@
 -- Files that are read as verified modules, and what a merge of them does.
-use Rattle.std.proofs.Common.{◌≡◌, ◌+◌, ◌<◌, false, List, ℕ, Option, String, length, map, take, get_or, string_bytes, refl, subst, arith}
+use Rattle.std.proofs.Common.{◌≡◌, ◌⊎◌, inl, inr, ◌+◌, ◌<◌, false, Result, Ok, Err, List, ℕ, Option, String, length, map, take, get_or, string_bytes, refl, subst, arith}
 use Rattle.std.specs.declared.alloc.Global.{Global}
+use Rattle.std.specs.Prelude.{IfOk}
 use Rattle.std.proofs.lemmas.List.{length-map}
+use Rattle.mpy_base.specs.declared.refused.Refused.{Refused}
+use Rattle.mpy_base.specs.declared.refused.Refused.TheVariants as refusals
+use Rattle.mpy_merge.specs.declared.fault.MergeFault.{MergeFault}
 use Rattle.mpy_io.specs.Files.{FileOf}
 use Rattle.mpy_writer.specs.mpy_tree.Raw.{Module}
 use Rattle.command_files.specs.mpy_endings.declared.ending.Ending.{Ending}
@@ -80,3 +84,9 @@ first_refused files words at word modules ending lt is before h = record {
   before = before;
   refused = subst (λ (n : List ℕ). Refuses files n ending) (word_at words at word lt is) h;
 }
+
+-- what is merged has no fault
+pub never_both : {A : Type 0} (r : Result A (Refused MergeFault)) (P : MergeFault → Type 0) → ((fault : MergeFault) → P fault → (r ≡ Err (refusals.Fault fault)) ⊎ (r ≡ Err refusals.NoMemory))
+    → IfOk r (λ x. (fault : MergeFault) → P fault → ⊥)
+never_both (Ok x) P told = λ fault h. elim (told fault h) [ inl e ↦ cc | inr e ↦ cc ]
+never_both (Err e) P told = tt

@@ -28,10 +28,11 @@ pub record IsFirstRefused (files : Option FileOf) (names : List (List ℕ)) (pla
   pub before : HoldModules files (take at names) modules
   pub refused : Refuses files (slice_index_or names at []) ending
 
--- the bytes are the merged file of the modules of the files, which is read as the merge of their trees
+-- the bytes are the merged file of the modules of the files, which have no fault, and are read as the merge of their trees
 pub record HoldMerged (files : Option FileOf) (names : List (List ℕ)) (bytes : List ℕ) : Type 0 where
   pub modules : List Module
   pub hold : HoldModules files names modules
+  pub unmerged : (fault : MergeFault) → merges.FirstFault modules fault → ⊥
   pub merged : IsMerged modules bytes
   pub reads : ReadsAsMerge modules bytes
 

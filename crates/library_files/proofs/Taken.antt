@@ -105,10 +105,6 @@ pub same_remembers : {P : Type 0} (result : Result (Unit {0}) (Refused LoadFault
 same_remembers (Ok done) same = same
 same_remembers (Err e) same = tt
 
-pub absent_steps : (old new : Begun) (found : List (List ℕ)) (result : Result (Unit {0}) (Refused LoadFault)) → new.library ≡ old.library → OnOk result (Step old.library new.library found found)
-absent_steps old new found (Ok done) same = subst (λ (s : Shelf). Step old.library s found found) (sym same) (no_step old.library found)
-absent_steps old new found (Err e) same = tt
-
 pub none_adds : (entry : Entry) (found : List (List ℕ)) (result : Result (Unit {0}) (Refused LoadFault)) → entry ≡ entries.Absent → OnOk result (AddsImports entry found found)
 none_adds entry found (Ok done) is = absent_adds entry found is
 none_adds entry found (Err e) is = tt
@@ -153,6 +149,10 @@ grow_both a b c x y z ab bc (inr e) (inr f) = inr (omega (arith, e, f))
 
 pub no_step : (shelf : Shelf) (names : List (List ℕ)) → Step shelf shelf names names
 no_step shelf names = record { adds = adds_none shelf; fewer = omega arith; grows = inl refl; short = λ short. short }
+
+pub absent_steps : (old new : Begun) (found : List (List ℕ)) (result : Result (Unit {0}) (Refused LoadFault)) → new.library ≡ old.library → OnOk result (Step old.library new.library found found)
+absent_steps old new found (Ok done) same = subst (λ (s : Shelf). Step old.library s found found) (sym same) (no_step old.library found)
+absent_steps old new found (Err e) same = tt
 
 pub both_steps : (a b c : Shelf) (x y z : List (List ℕ)) → Step a b x y → Step b c y z → Step a c x z
 both_steps a b c x y z first second = record {

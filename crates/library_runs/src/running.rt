@@ -18,7 +18,7 @@ use vm_frames::bc_machine::{output_law, put_law};
 use vm_machine::bc_library::Library;
 use vm_machine::bc_rows::Rows;
 use vm_machine::vm_starting::{Cache, program_law};
-use vm_machine::{open, run_kept};
+use vm_machine::{open, run};
 
 /// Runs the library's module of this number as the main one, in an arena of this room, for these steps at most. What was printed
 /// is handed on before anything is said.
@@ -58,7 +58,7 @@ pub fn run_library<S: Sink, P: Port, E: Sink>(
         Ok(cache) => cache,
         Err(NoMemory) => return RunEnd::NoMemory,
     };
-    match run_kept(&mut vm, library, &rows, &mut cache, out, ports, steps) {
+    match run(&mut vm, library, &rows, &mut cache, out, ports, steps) {
         Ok(()) => {}
         Err(Failed) => return RunEnd::WriteFault,
     }

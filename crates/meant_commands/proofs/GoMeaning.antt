@@ -18,10 +18,10 @@ use Rattle.mpy_endings.specs.declared.ending.Ending.{Ending}
 use Rattle.mpy_endings.specs.declared.ending.Ending.TheVariants.{Done, Unaccepted, Unread, Unverified, Unmerged, Unopened, Unfrozen, Unboarded, Different, Stopped, ReadFault, WriteFault, Unwritten, NoMemory, Absent}
 use Rattle.mpy_endings.specs.declared.ending.Stop.TheVariants as stops
 use Rattle.run_commands.specs.Base.{base_of}
-use Rattle.mpy_endings.specs.Ending.{status_of}
+use Rattle.mpy_endings.specs.Ending.{status_of, IsRunStatus}
 use Rattle.run_commands.specs.Go.{SourceLoadsOf}
 use Rattle.run_commands.specs.Ready.{GoLibrary, RunLibrary}
-use Rattle.meant_commands.specs.Meant.{IsRunStatus, HoldsProgram, RunMeans}
+use Rattle.meant_commands.specs.Meant.{HoldsProgram, RunMeans}
 use Rattle.meant_commands.specs.GoMeant.{MeansSources, GoMeans, HoldsCrossed}
 use Rattle.run_commands.specs.command_files.Outside.{Outside}
 use Rattle.run_commands.specs.Run.{FileLibrary, Runs, EndsRun, sight_in}

@@ -25,12 +25,12 @@ use Rattle.mpy_endings.specs.declared.ending.Ending.TheVariants.{Done, Unaccepte
 use Rattle.image_runs.specs.declared.fault.MainFault.TheVariants as mains
 use Rattle.mpy_endings.specs.declared.ending.Stop.TheVariants as stops
 use Rattle.run_commands.specs.Base.{base_of}
-use Rattle.mpy_endings.specs.Ending.{status_of}
+use Rattle.mpy_endings.specs.Ending.{IsRunStatus, status_of}
 use Rattle.mpy_endings.specs.Line.{Says, line_of}
 use Rattle.run_commands.specs.command_files.Outside.{Outside}
 use Rattle.run_commands.specs.Ready.{RunLibrary, not_read, of_file, of_image, begins_image}
 use Rattle.run_commands.specs.Run.{FileLibrary, RanLibrary, Runs, EndsRun, ending_of, sight_in}
-use Rattle.meant_commands.specs.Meant.{HoldsBuilt, HoldsProgram, IsRunStatus, DoesAsMeant, Libraries, RunMeans, end_status, end_text}
+use Rattle.meant_commands.specs.Meant.{HoldsBuilt, HoldsProgram, DoesAsMeant, Libraries, RunMeans, end_status, end_text}
 
 -- ends
 -- ====

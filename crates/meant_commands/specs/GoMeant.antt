@@ -12,7 +12,8 @@ use Rattle.meant_files.specs.source_files.Sources.{stored}
 use Rattle.meant_files.specs.Sources.{IsProgramOfSources}
 use Rattle.meant_files.specs.Libraries.{AreCrossed}
 use Rattle.run_commands.specs.Base.{base_of}
-use Rattle.meant_commands.specs.Meant.{IsRunStatus, DoesAsMeant}
+use Rattle.mpy_endings.specs.Ending.{IsRunStatus}
+use Rattle.meant_commands.specs.Meant.{DoesAsMeant}
 use Rattle.run_commands.specs.command_files.Outside.{Outside}
 
 -- Where a library was run, the source of this name and those that it asks for in its folder have a program at the level. The run does as

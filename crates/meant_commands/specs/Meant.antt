@@ -1,5 +1,5 @@
 -- What a run says of the program whose units its library has.
-use Rattle.std.specs.Prelude.{◌≡◌, ◌⊎◌, ℕ, ◌≤◌, List, [], ◌++◌, Option, Some, Result, Ok, codes, decimal}
+use Rattle.std.specs.Prelude.{◌≡◌, ℕ, ◌≤◌, List, [], ◌++◌, Option, Some, Result, Ok, codes, decimal}
 use Rattle.std.specs.Io.KnownBytes.{Appends}
 use Rattle.mpy_base.specs.declared.room.Room.{Room}
 use Rattle.mpy_base.specs.World.{PortState}
@@ -21,6 +21,7 @@ use Rattle.meant_files.specs.Built.{IsBuilt, IsBuiltProgram}
 use Rattle.mpy_endings.specs.declared.ending.Ending.{Ending}
 use Rattle.run_commands.specs.declared.ready.Ready.{Ready}
 use Rattle.run_commands.specs.Base.{base_of}
+use Rattle.mpy_endings.specs.Ending.{IsRunStatus}
 use Rattle.mpy_endings.specs.Line.{Says}
 use Rattle.run_commands.specs.command_files.Outside.{Outside}
 use Rattle.run_commands.specs.Run.{LoadsOf}
@@ -41,10 +42,6 @@ pub record HoldsBuilt (files : FileOf) (name : List ℕ) (program : Program) : T
   pub there : files name ≡ Some bytes
   pub main : IsBuilt program.main bytes
   pub built : (shelf : Shelf) → LoadsOf (Some files) name (Loaded shelf) → IsBuiltProgram files (base_of name) bytes shelf program
-
--- the statuses of a run that was made up to its end, or for all its steps
-abbrev pub IsRunStatus : ℕ → Type 0
-IsRunStatus status = (status ≡ 0) ⊎ (status ≡ 1) ⊎ (status ≡ 5) ⊎ (status ≡ 6)
 
 -- the status of a run that ended so. One that is open was stopped by its steps
 abbrev pub end_status : End → ℕ

@@ -1,5 +1,5 @@
 -- How a command ended: its status, which count of faults rose, and whether the ending is determined.
-use Rattle.std.specs.Prelude.{◌≡◌, ℕ, Bool, true, false}
+use Rattle.std.specs.Prelude.{◌≡◌, ◌⊎◌, ℕ, Bool, true, false}
 use Rattle.image_runs.specs.declared.fault.MainFault.{MainFault}
 use Rattle.image_runs.specs.declared.fault.MainFault.TheVariants as mains
 use Rattle.manifest_files.specs.declared.frozen_fault.SourcesFault.{SourcesFault}
@@ -63,6 +63,10 @@ status_of (Unfrozen fault) = frozen_status fault
 status_of (Unboarded fault) = board_status fault
 status_of (Different difference) = 12
 status_of (Stopped stop) = stop_status stop
+
+-- the statuses of a run that was made up to its end, or for all its steps
+abbrev pub IsRunStatus : ℕ → Type 0
+IsRunStatus status = (status ≡ 0) ⊎ (status ≡ 1) ⊎ (status ≡ 5) ⊎ (status ≡ 6)
 
 -- whether the folder's count of faults rose
 abbrev pub is_read_stop : Stop → Bool

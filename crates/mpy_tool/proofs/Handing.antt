@@ -1,5 +1,5 @@
 -- A command that was done, and whose text was handed on, or couldn't be.
-use Rattle.std.proofs.Common.{ℕ, List, Option, Some, None}
+use Rattle.std.proofs.Common.{◌≡◌, inl, inr, ℕ, List, Option, Some, None, subst}
 use Rattle.std.specs.Io.KnownBytes.{Keeps}
 use Rattle.std.proofs.KnownBytes.{Appends-kept, Keeps-trans}
 use Rattle.mpy_io.specs.Files.{FileOf}
@@ -8,7 +8,12 @@ use Rattle.mpy_words.specs.declared.order.Command.{Command}
 use Rattle.mpy_words.specs.declared.order.Command.TheVariants.{Go, Check, CheckAs, Dump, Cross, Merge, Freeze, Migrate, Run, Board, Stress}
 use Rattle.mpy_words.specs.declared.order.Order.{Order}
 use Rattle.mpy_words.specs.Words.{first_name, second_name}
-use Rattle.meant_commands.specs.mpy_endings.declared.ending.Ending.TheVariants.{Done, WriteFault}
+use Rattle.meant_commands.specs.mpy_endings.declared.ending.Ending.{Ending}
+use Rattle.meant_commands.specs.mpy_endings.declared.ending.Ending.TheVariants.{Done, Stopped, WriteFault}
+use Rattle.meant_commands.specs.mpy_endings.declared.ending.Stop.{Stop}
+use Rattle.meant_commands.specs.mpy_endings.declared.ending.Stop.TheVariants.{Raised, Memory, Steps}
+use Rattle.meant_commands.specs.mpy_endings.Ending.{IsRunStatus, status_of}
+use Rattle.meant_commands.proofs.mpy_endings_lemmas.Statuses.{run_ended}
 use Rattle.meant_commands.specs.file_commands.Check.{verified_line}
 use Rattle.meant_commands.specs.file_commands.CheckAs.{translation_line}
 use Rattle.meant_commands.proofs.file_commands_lemmas.HandedOn.{checks_cut, checks_as_cut, dumps_cut}
@@ -43,3 +48,28 @@ module _ (order : Order) (words : List (List ℕ)) (below : Shelf) (old new : Op
   held_back Run p = absurd p
   held_back Stress p = absurd p
   held_back Board p = unflushed below (first_name words) (second_name words) old new a b c place q p
+
+module _ (order : Order) (words : List (List ℕ)) (below : Shelf) (old new : Option FileOf) (before behind : Option (List ℕ)) (place : ℕ) where
+  -- none of these stops as a run does
+  not_stopped : (command : Command) (stop : Stop) → DoesBy order words below command old new before behind place (Stopped stop) → ⊥
+  not_stopped Go stop p = p
+  not_stopped Check stop p = p.0
+  not_stopped Dump stop p = p.0
+  not_stopped Cross stop p = p.0
+  not_stopped Merge stop p = p.0
+  not_stopped Freeze stop p = p.0
+  not_stopped Migrate stop p = p.0
+  not_stopped Run stop p = p
+  not_stopped Stress stop p = p
+  not_stopped Board stop p = p
+
+  -- with the status of a run it is done
+  pub done_of : (command : Command) (ending : Ending) → DoesBy order words below command old new before behind place ending → IsRunStatus (status_of ending) → ending ≡ Done
+  done_of command ending p s =
+      let At = λ (e : Ending). DoesBy order words below command old new before behind place e in
+      elim (run_ended ending s) [
+        | inl e ↦ e
+        | inr (inl e) ↦ absurd (not_stopped command Raised (subst At e p))
+        | inr (inr (inl e)) ↦ absurd (not_stopped command Memory (subst At e p))
+        | inr (inr (inr e)) ↦ absurd (not_stopped command (Steps e.0) (subst At e.1 p))
+      ]

@@ -5,3 +5,4 @@ pub mod Handing
 pub mod Alone
 pub mod Stressing
 pub mod Acting
+pub mod Counting

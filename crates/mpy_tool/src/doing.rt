@@ -6,7 +6,7 @@ ghost use Rattle.mpy_io.specs.Count.{Counts};
 ghost use Rattle.image_grammar.specs.Base.{IsOpened};
 ghost use Rattle.image_grammar.specs.bc_library.Shelf.{Shelf};
 ghost use Rattle.meant_commands.specs.mpy_endings.declared.ending.Ending.TheVariants.{Done};
-ghost use Rattle.meant_commands.specs.mpy_endings.Ending.{is_folder_fault, is_out_fault};
+ghost use Rattle.meant_commands.specs.mpy_endings.Ending.{IsRunStatus, is_folder_fault, is_out_fault};
 ghost use Rattle.board_command.specs.board_files.Files.{KeepsOthers};
 ghost use Rattle.board_command.specs.Boards.{Boards};
 ghost use Rattle.meant_commands.specs.image_commands.Freeze.{Freezes};
@@ -196,7 +196,7 @@ pub(crate) fn do_order<F: Folder, S: Sink, P: Port, E: Sink>(
     ensures ended { let call = call_of F.Folder S.Sink P.Port E.Sink words.now outside.old outside.new result in
         Finishes order call (library_below below) order.command }
     ensures ports { outside.new.ports ≡ outside.old.ports }
-    ensures flushed { result ≡ 0 → S.held outside.new.out ≡ [] }
+    ensures flushed { IsRunStatus result → S.held outside.new.out ≡ [] }
     ensures files { ChangesBy (texts words.now) order.command (F.files outside.old.folder) (F.files outside.new.folder) }
 {
     let ended = done(

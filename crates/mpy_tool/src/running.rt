@@ -7,6 +7,7 @@ ghost use Rattle.library_files.specs.Ends.{HoldsModules};
 ghost use Rattle.image_grammar.specs.Base.{IsOpened};
 ghost use Rattle.image_runs.specs.Main.{IsMainAt};
 ghost use Rattle.mpy_words.specs.Words.{first_name};
+ghost use Rattle.meant_commands.specs.mpy_endings.Ending.{IsRunStatus};
 ghost use Rattle.board_command.specs.command_files.Opened.{failed_in};
 ghost use Rattle.meant_commands.specs.run_commands.Run.{IsUnloaded};
 ghost use Rattle.meant_commands.specs.run_commands.Ready.{RunLibrary};
@@ -96,7 +97,7 @@ pub(crate) fn run_order<F: Folder, S: Sink, P: Port, E: Sink>(
     requires below { MayLieBelow below order.base }
     ensures ended { let call = call_of F.Folder S.Sink P.Port E.Sink words.now outside.old outside.new result in
         RunsBy order call (library_below below) order.command }
-    ensures flushed { result ≡ 0 → S.held outside.new.out ≡ [] }
+    ensures flushed { IsRunStatus result → S.held outside.new.out ≡ [] }
     ensures files { F.files outside.new.folder ≡ F.files outside.old.folder }
 {
     let name = word_at(words, 1);

@@ -5,7 +5,7 @@ ghost use Rattle.mpy_words.specs.declared.order.Command.TheVariants as commands;
 ghost use Rattle.mpy_words.specs.Given.{most_count};
 ghost use Rattle.mpy_words.specs.Words.{order_of, source_name, main_name, file_names};
 ghost use Rattle.meant_commands.specs.source_files.Sources.{stored};
-ghost use Rattle.meant_commands.specs.mpy_endings.Ending.{status_of};
+ghost use Rattle.meant_commands.specs.mpy_endings.Ending.{IsRunStatus, status_of};
 ghost use Rattle.meant_commands.specs.mpy_endings.Line.{Says, line_of};
 ghost use Rattle.board_command.specs.command_files.Outside.{Ends, EndsAt, Writes, WritesOf};
 ghost use Rattle.meant_commands.specs.file_commands.Check.{Checks};
@@ -22,7 +22,7 @@ ghost use Rattle.meant_commands.specs.image_commands.Migrate.{Migrates};
 ghost use Rattle.board_command.specs.Boards.{Boards};
 ghost use Rattle.stress_command.specs.Stress.{EndsStress};
 ghost use Rattle.mpy_tool.specs.Below.{Based, MayLieBelow, image_version, library_below};
-ghost use Rattle.mpy_tool.specs.Call.{call_of, texts, Orders, OrdersOne, OrdersTwo, Shows, ShowsPorts};
+ghost use Rattle.mpy_tool.specs.Call.{call_of, texts, LeavesCounts, Orders, OrdersOne, OrdersTwo, Shows, ShowsPorts};
 ghost use Rattle.mpy_tool.specs.Doing.{ActsBy, ObeysBy};
 ghost use Rattle.mpy_tool.specs.Making.{StressMeans};
 ghost use Rattle.mpy_tool.specs.Order.{RefusesWords, base_by, calls_ports, calls_ports_in, makes_source, runs_library, ChangesBy, ChangesIn};
@@ -92,7 +92,7 @@ fn make<F: Folder, S: Sink, P: Port, E: Sink>(
     requires count { order.count ≤ most_count }
     ensures ended { let call = call_of F.Folder S.Sink P.Port E.Sink [] outside.old outside.new result in
         ShowsPorts call (EndsStress order.seed order.count (room_of order) order.steps) }
-    ensures flushed { result ≡ 0 → S.held outside.new.out ≡ [] }
+    ensures flushed { IsRunStatus result → S.held outside.new.out ≡ [] }
     ensures files { F.files outside.new.folder ≡ F.files outside.old.folder }
 {
     release(below);
@@ -126,7 +126,7 @@ fn act<F: Folder, S: Sink, P: Port, E: Sink>(
     ensures ended { let call = call_of F.Folder S.Sink P.Port E.Sink words.now outside.old outside.new result in
         ActsBy order call (library_below below) order.command }
     ensures ports { calls_ports order.command ≡ false → outside.new.ports ≡ outside.old.ports }
-    ensures flushed { result ≡ 0 → S.held outside.new.out ≡ [] }
+    ensures flushed { IsRunStatus result → S.held outside.new.out ≡ [] }
     ensures files { ChangesBy (texts words.now) order.command (F.files outside.old.folder) (F.files outside.new.folder) }
 {
     if runs(order.command) {
@@ -159,7 +159,7 @@ fn obey<F: Folder, S: Sink, P: Port, E: Sink>(
     ensures ended { let call = call_of F.Folder S.Sink P.Port E.Sink words.now outside.old outside.new result in
         ObeysBy order call order.command }
     ensures ports { calls_ports order.command ≡ false → outside.new.ports ≡ outside.old.ports }
-    ensures flushed { result ≡ 0 → S.held outside.new.out ≡ [] }
+    ensures flushed { IsRunStatus result → S.held outside.new.out ≡ [] }
     ensures files { ChangesBy (texts words.now) order.command (F.files outside.old.folder) (F.files outside.new.folder) }
 {
     let Some(at) = base_place(order) else {
@@ -260,8 +260,12 @@ pub fn mpy<F: Folder, S: Sink, P: Port, E: Sink>(
     // Only go, run and stress call ports.
     ensures ports { calls_ports_in (order_of (texts words.now)) ≡ false → outside.new.ports ≡ outside.old.ports }
 
-    // With status 0 nothing of what is printed is held back.
-    ensures flushed { result ≡ 0 → S.held outside.new.out ≡ [] }
+    // With a status other than 7 and 8 no call of the folder and of the output's sink failed.
+    ensures counts { let call = call_of F.Folder S.Sink P.Port E.Sink words.now outside.old outside.new result in
+        LeavesCounts call }
+
+    // With status 0, and with 1, 5 and 6 of a run, nothing of what is printed is held back.
+    ensures flushed { IsRunStatus result → S.held outside.new.out ≡ [] }
 
     // No command but cross, merge, freeze, migrate and board changes a file, and these none but FILE, OUT and the files of the tasks.
     ensures files { let call = call_of F.Folder S.Sink P.Port E.Sink words.now outside.old outside.new result in

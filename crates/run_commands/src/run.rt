@@ -6,8 +6,7 @@ ghost use Rattle.mpy_io.specs.Count.{Counts};
 ghost use Rattle.library_files.specs.Ends.{BeginsWith, HoldsModules};
 ghost use Rattle.bc_library.specs.mpy_tree.Raw.{Module};
 ghost use Rattle.command_files.specs.mpy_endings.Line.{Says};
-ghost use Rattle.command_files.specs.mpy_endings.declared.ending.Ending.TheVariants.{Done};
-ghost use Rattle.command_files.specs.mpy_endings.Ending.{is_folder_fault, is_out_fault, is_said};
+ghost use Rattle.command_files.specs.mpy_endings.Ending.{IsRunStatus, is_folder_fault, is_out_fault, is_said, status_of};
 ghost use Rattle.command_files.specs.image_runs.Main.{IsMainAt};
 ghost use Rattle.command_files.specs.Folder.{MayHold};
 ghost use Rattle.command_files.specs.Opened.{failed_in};
@@ -170,7 +169,7 @@ pub fn run_loaded<S: Sink, P: Port, E: Sink>(
     ensures went { (said : List ℕ)
         × Runs (λ ready. ready ≡ loaded) room steps (sight S.told P.seen out.old ports.old) (sight S.told P.seen out.new ports.new) said result
         × Says (E.told say.old) (E.told say.new) (E.count say.old) (E.count say.new) said }
-    ensures flushed { result ≡ Done → S.held out.new ≡ [] }
+    ensures flushed { IsRunStatus (status_of result) → S.held out.new ≡ [] }
     ensures silent { is_said result ≡ false → say.new ≡ say.old }
     ensures reads { failed_in loaded ≡ is_folder_fault result }
     ensures out_counts { Counts (S.count out.old) (S.count out.new) (is_out_fault result) }

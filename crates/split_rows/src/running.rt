@@ -3,6 +3,7 @@
 ghost use Rattle.std.specs.Prelude.{◌≡◌, ◌<◌, length, IfOk, IfSome};
 ghost use Rattle.mpy_reader.specs.mpy_tree.Raw.{Module};
 ghost use Rattle.library_files.specs.Ends.{BeginsWith, HoldsModules};
+ghost use Rattle.vm_machine.specs.vm_starting.Kept.{AreFetched};
 ghost use Rattle.vm_machine.specs.vm_starting.Programs.{IsRunnable};
 ghost use Rattle.vm_machine.specs.Machine.{IsVm};
 
@@ -18,7 +19,7 @@ use mpy_reader::read;
 use port_set::PortSet;
 use std::alloc::Global;
 use std::mem;
-use vm_machine::vm_starting::Vm;
+use vm_machine::vm_starting::{Cache, Vm};
 use vm_machine::{open, run, used};
 
 /// The greatest count of steps that are paid on an instruction, for which a run goes on.
@@ -77,6 +78,7 @@ fn go_on<S: Sink, P: Port>(
     vm: &mut Vm,
     library: &Library,
     rows: &Rows<'_>,
+    cache: &mut Cache,
     out: &mut S,
     ports: &mut PortSet<P>,
     part: u32,
@@ -84,6 +86,7 @@ fn go_on<S: Sink, P: Port>(
 ) -> Result<u32, Failed>
     requires vm { IsVm library.now vm.old }
     requires rows { rows.now ≡ library.now }
+    requires kept { AreFetched library.now cache.old }
     ensures vm { IsVm library.now vm.new }
 {
     let mut parts = 0;
@@ -91,7 +94,7 @@ fn go_on<S: Sink, P: Port>(
         if vm.end.is_some() || vm.paid > MOST_PAID {
             return Ok(parts);
         }
-        run(vm, library, rows, out, ports, part as u64)?;
+        run(vm, library, rows, cache, out, ports, part as u64)?;
         parts += 1;
     }
     Ok(parts)
@@ -114,8 +117,9 @@ fn outcome_of(
     let mut ports = program.ports(alloc)?;
     let mut out = MemSink::new(alloc, Vec::new(alloc));
     let mut vm = open(alloc, library, rows, 0, program.room)?;
-    let begun = run(&mut vm, library, rows, &mut out, &mut ports, first as u64);
-    let went = go_on(&mut vm, library, rows, &mut out, &mut ports, part, most);
+    let mut cache = Cache::new(alloc, library, rows)?;
+    let begun = run(&mut vm, library, rows, &mut cache, &mut out, &mut ports, first as u64);
+    let went = go_on(&mut vm, library, rows, &mut cache, &mut out, &mut ports, part, most);
     let (Ok(()), Ok(parts)) = (begun, went) else {
         return Ok(None);
     };

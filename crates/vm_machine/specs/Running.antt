@@ -1,7 +1,9 @@
 -- What a run of the machine does, with a sink for the output and ports.
-use Rattle.std.specs.Prelude.{◌≡◌, ◌⊎◌, ◌<◌, ℕ, List, ◌++◌, Option, Some, None, true}
+use Rattle.std.specs.Prelude.{◌≡◌, ◌⊎◌, ◌<◌, ◌≤◌, ℕ, ◌+◌, List, ◌++◌, Option, Some, None, Result, IfOk, OnErr, is_err, true}
 use Rattle.mpy_base.specs.Val.{PlainWorld}
+use Rattle.mpy_io.specs.Count.{Counts}
 use Rattle.mpy_io.specs.Ports.{PortView}
+use Rattle.mpy_io.specs.declared.fault.Failed.{Failed as SinkFault}
 use Rattle.port_set.specs.Calls.{Tell}
 use Rattle.port_set.specs.Counts.{CountsKeep}
 use Rattle.bc_library.specs.Shelf.{Shelf}
@@ -22,7 +24,7 @@ use Rattle.state_steps.specs.state_calls.Called as called
 use Rattle.state_steps.specs.state_calls.Taken.{IsTaken}
 use Rattle.vm_starting.specs.Programs.{IsProgramOf}
 use Rattle.vm_starting.specs.declared.opening.Vm.{Vm}
-use Rattle.vm_machine.specs.Machine.{machine_of, world_in}
+use Rattle.vm_machine.specs.Machine.{IsVm, machine_of, world_in}
 
 -- the sink of the output, and the ports
 pub record Outside (S : Type 0) : Type 0 where
@@ -94,3 +96,15 @@ module _ {S : Type 0} (told : S → Option (List ℕ)) where
     -- fails that the machine's doesn't
     abbrev pub RunsToFailure : (count : S → ℕ) → Type 0
     RunsToFailure count = (p : Program) → IsProgramOf shelf p → (w : PlainWorld) → Agree before w → SinkFails p old w count most behind ⊎ Strays p old w most before.ports behind.ports
+
+-- The machine has taken some of these steps, one at least, and in each program of the library they are its run's; where it pays for
+-- visits it has paid no more than it took. Where the sink failed it stands at that put, with what was paid before. It runs the
+-- library again, the sink's count of faults rose exactly where it failed, and no port's count fell
+pub record Advances {S : Type 0} (told : S → Option (List ℕ)) (count : S → ℕ) (shelf : Shelf) (old new : Vm) (before behind : Outside S) (most : ℕ) (result : Result ℕ SinkFault) : Type 0 where
+  pub vm : IsVm shelf new
+  pub runs : IfOk result (λ taken. Runs told shelf old before behind taken new)
+  pub failed : OnErr result (RunsToFailure told shelf old before behind most count)
+  pub taken : IfOk result (λ taken. (0 < taken) × (taken ≤ most) × (new.paid ≤ old.paid + taken))
+  pub paid : OnErr result (new.paid ≡ old.paid)
+  pub counts : Counts (count before.out) (count behind.out) (is_err result)
+  pub faults : CountsKeep before.ports behind.ports

@@ -1,2 +1,5 @@
-mod Runs
-mod Translations
+mod Telling
+mod Expressions
+mod Handlers
+mod Rooms
+mod Modules

@@ -46,7 +46,9 @@ returns-clause-went g c =
       missing = λ lacked e. let m = c.run_board.ensures.missing lacked e in (m.0, ap files m.1, ap told m.2);
       unwritten = λ task e. let u = c.run_board.ensures.unwritten task e in (u.0, u.1, ap told u.2);
       unput = c.run_board.ensures.unput;
+      cut = c.run_board.ensures.cut;
       starved = λ e. ap told (c.run_board.ensures.starved e);
+      short = c.run_board.ensures.short;
       others = c.run_board.ensures.others;
     } in
     let ended = run_ended below c.args.image.now name old new before behind shelf plan ran holds

@@ -1,7 +1,8 @@
 use Rattle.std.proofs.Common.{◌≡◌, ℕ, List, ap, sym, subst}
 use Rattle.mpy_words.specs.Words.{first_name}
+use Rattle.meant_commands.specs.mpy_endings.Ending.{IsRunStatus}
 use Rattle.meant_commands.specs.run_commands.Run.{room_of}
-use Rattle.meant_commands.proofs.run_commands_lemmas.Running.{says_run, ends_run, status_zero}
+use Rattle.meant_commands.proofs.run_commands_lemmas.Running.{says_run, ends_run}
 use Rattle.mpy_tool.specs.Call.{call_of}
 use Rattle.mpy_tool.specs.Below.{library_below}
 use Rattle.mpy_tool.specs.Doing.{LibraryBy}
@@ -23,4 +24,4 @@ returns-clause-ended g c =
     c.status.ensures c.word_at-name.ensures (subst (λ (n : List ℕ). Comes call.old.files n c.library_of-loaded.result) (sym c.word_at-name.ensures) c.library_of-loaded.ensures.comes) c.library_of-loaded.ensures.counts c.run_loaded-ending.ensures.reads c.run_loaded-ending.ensures.out_counts says
 
 pub returns-clause-flushed : goal.returns-clause-flushed
-returns-clause-flushed g c = λ e. c.run_loaded-ending.ensures.flushed (status_zero c.run_loaded-ending.result (subst (λ (n : ℕ). n ≡ 0) c.status.ensures e))
+returns-clause-flushed g c = λ s. c.run_loaded-ending.ensures.flushed (subst IsRunStatus c.status.ensures s)

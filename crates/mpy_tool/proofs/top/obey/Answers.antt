@@ -1,6 +1,9 @@
-use Rattle.std.proofs.Common.{refl}
+use Rattle.std.proofs.Common.{refl, subst}
 use Rattle.std.proofs.KnownBytes.{Keeps-refl}
-use Rattle.image_grammar.specs.bc_library.Shelf.{Shelf}
+use Rattle.image_grammar.specs.bc_library.Shelf.{Shelf, no_entries}
+use Rattle.meant_commands.specs.mpy_endings.Ending.{IsRunStatus}
+use Rattle.meant_commands.proofs.mpy_endings_lemmas.Statuses.{none_run}
+use Rattle.board_command.specs.command_files.Images.{RefusesImage}
 use Rattle.mpy_tool.specs.Call.{call_of}
 use Rattle.mpy_tool.specs.Doing.{ActsBy}
 use Rattle.mpy_tool.specs.Order.{base_by}
@@ -36,3 +39,8 @@ returns-in-Err-clause-ended g c =
       says = c.say_refused.ensures.says;
     })
     refl
+
+pub returns-in-Err-clause-flushed : goal.returns-in-Err-clause-flushed
+returns-in-Err-clause-flushed g c = λ s.
+    let Refused = RefusesImage no_entries (g.F.Folder.files c.args.outside.now.folder) c.word_at-base.result.now in
+    absurd (none_run Refused (λ p. p) (λ p. p) (λ p. p) (λ count p. p) c.in-Err.ending c.in-Err.ensures.refused (subst IsRunStatus c.say_refused.ensures.status s))
