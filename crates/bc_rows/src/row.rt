@@ -80,7 +80,7 @@ fn texts_of(
 }
 
 /// One more than the local that the instruction names, or 0.
-#[tactic(auto, unfolding(bc_library::specs::bc_flow::Code::item_locals))]
+#[tactic(auto, unfolding(bc_flow::specs::Code::item_locals))]
 fn local_of(item: Item) -> usize
     ensures { result ≡ flow.item_locals item }
 {

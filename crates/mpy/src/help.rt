@@ -159,13 +159,19 @@ const LOOK: [Help; 2] = [
     Help {
         name: "check",
         lines: "  mpy check main.mpy            is it verified? prints `verified N`
+  mpy check main.py main.mpy    is it a translation of main.py?
 ",
         text: "usage: mpy check FILE
+       mpy check SRC FILE [-O N]
 
 Reads the file FILE, verifies its module, and prints `verified N`, where N is
-how many codes it has. No file is written.
+how many codes it has. With SRC: tells whether FILE, whoever made it, is a
+translation of the source SRC, and prints `translation N`; else the first part
+that differs is said, and the status is 12. No file is written.
 
-example: mpy check examples/sensor.mpy
+  -O N  level of optimization at which SRC is translated, 0 to 3 (0)
+
+example: mpy check examples/sensor.py examples/sensor.mpy
 ",
     },
     Help {
@@ -188,12 +194,13 @@ const TAIL: &str = "
 each with its value: mpy go main.py -O 2 --steps 50000
 What a command writes is overwritten without asking.
 
-status  0 done                     6 the arena's room was too small
-        1 an uncaught exception    7 a read failed
-        2 wrong words              8 a write failed
-        3 a source is refused      9 out of memory
-        4 a file is refused       10 a file or main module is absent
-        5 all steps were taken    11 merge, manifest, image, plan or library
+status  0 done                     7 a read failed
+        1 an uncaught exception    8 a write failed
+        2 wrong words              9 out of memory
+        3 a source is refused     10 a file or main module is absent
+        4 a file is refused       11 merge, manifest, image, plan or library
+        5 all steps were taken    12 a file is no translation of the source
+        6 the room was too small
 docs/MESSAGES.md has each line that is said, docs/LANGUAGE.md the language.
 ";
 

@@ -39,7 +39,7 @@ use Rattle.mpy_tool.proofs.Ended.{checked, checked_as, dumped, crossed, merged, 
 -- where no file changed
 -- =====================
 
-same_others : (count : ℕ) (old new : Option FileOf) → new ≡ old → KeepsOthers count old new
+pub same_others : (count : ℕ) (old new : Option FileOf) → new ≡ old → KeepsOthers count old new
 same_others count None new e = tt
 same_others count (Some file) new e = (file, e, λ name apart. refl)
 

@@ -1,7 +1,8 @@
 -- The library that a command lies over.
-use Rattle.std.proofs.Common.{◌≡◌, ℕ, Option, Some, None, refl, sym, ap, subst, inl, inr}
-use Rattle.std.specs.Prelude.{IfSome}
-use Rattle.image_grammar.specs.bc_library.Shelf.{Shelf, names}
+use Rattle.std.proofs.Common.{◌≡◌, ℕ, Option, Some, None, Result, Ok, Err, refl, sym, ap, subst, inl, inr}
+use Rattle.std.specs.Prelude.{IfOk, IfSome}
+use Rattle.mpy_base.specs.declared.refused.NoMemory.{NoMemory}
+use Rattle.image_grammar.specs.bc_library.Shelf.{Shelf, names, no_entries}
 use Rattle.image_grammar.specs.Base.{IsOpened, base_of}
 use Rattle.meant_commands.specs.image_freeze.Fronts.{MayLieOver}
 use Rattle.mpy_words.specs.declared.order.Command.{Command}
@@ -13,6 +14,17 @@ pub is_opened : (below : Option Shelf) (base : Option ℕ) → MayLieBelow below
 is_opened None base h = tt
 is_opened (Some below) None h = absurd h
 is_opened (Some below) (Some at) h = h
+
+-- of a base, or of none
+pub base_below : (below : Option Shelf) (library : Shelf) → below ≡ Some library → library ≡ library_below below
+base_below below library e = sym (ap library_below e)
+
+pub none_below : (below : Option Shelf) (r : Result Shelf NoMemory) → below ≡ None → IfOk r (λ l. l ≡ no_entries) → IfOk r (λ l. l ≡ library_below below)
+none_below below r e h = subst (λ (b : Option Shelf). IfOk r (λ l. l ≡ library_below b)) (sym e) h
+
+pub none_opened : (r : Result Shelf NoMemory) → IsOpened no_entries → IfOk r (λ l. l ≡ no_entries) → IfOk r IsOpened
+none_opened (Ok l) is h = subst IsOpened (sym h) is
+none_opened (Err e) is h = tt
 
 -- the version goes with it
 pub may_lie : (below : Option Shelf) (base : Option ℕ) (library : Shelf) → MayLieBelow below base → library ≡ library_below below → MayLieOver (base_of library) (image_version base)

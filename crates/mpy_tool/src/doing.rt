@@ -69,7 +69,10 @@ fn board_below<F: Folder, S: Sink>(
 {
     match or_nothing(alloc, below) {
         Ok(below) => board(alloc, &below, image, plan, folder, out),
-        Err(NoMemory) => Ended::of_two(Ending::NoMemory),
+        Err(NoMemory) => Ended {
+            ending: Ending::NoMemory,
+            place: 1,
+        },
     }
 }
 

@@ -8,7 +8,7 @@ use itoa::Buffer;
 use prim_builtins::prim_walks::Pen;
 
 /// Writes a piece.
-#[tactic(auto, using(prim_builtins::proofs::prim_walks_lemmas::PenSteps::wrote_piece))]
+#[tactic(auto, using(prim_walks::proofs::PenSteps::wrote_piece))]
 pub(crate) fn write<P: Pen>(pen: &mut P, piece: &[u8])
     requires ascii { All (λ b. b < 128) piece.now }
     ensures { Wrote P.Takes pen.old piece.now pen.new }

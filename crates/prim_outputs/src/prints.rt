@@ -42,7 +42,7 @@ fn all_end<C: Constants>(arena: &Arena, consts: &C, args: &[Value]) -> bool
 }
 
 /// What stands in front of a text: nothing in front of the first.
-#[tactic(auto, using(prim_builtins::proofs::prim_walks_lemmas::PenSteps::wrote_nothing, prim_builtins::proofs::prim_walks_lemmas::PenSteps::wrote_piece, crate::proofs::Fronts::front_is))]
+#[tactic(auto, using(prim_walks::proofs::PenSteps::wrote_nothing, prim_walks::proofs::PenSteps::wrote_piece, crate::proofs::Fronts::front_is))]
 fn put_separator<P: Pen>(pen: &mut P, sep: &[u8], at: usize)
     requires ascii { All (λ b. b < 128) sep.now }
     ensures { Wrote P.Takes pen.old (in_front sep.now at) pen.new }

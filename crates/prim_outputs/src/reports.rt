@@ -92,7 +92,7 @@ fn write_arguments<P: Pen, C: Constants>(arena: &Arena, consts: &C, args: Value,
 }
 
 /// Writes the name of a kind.
-#[tactic(auto, using(prim_builtins::proofs::prim_walks_lemmas::AsciiNames::kind_ascii))]
+#[tactic(auto, using(prim_walks::proofs::AsciiNames::kind_ascii))]
 fn write_kind<P: Pen>(pen: &mut P, kind: Kind)
     ensures { Wrote P.Takes pen.old (kind_name kind) pen.new }
 {

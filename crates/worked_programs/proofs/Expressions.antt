@@ -80,7 +80,7 @@ hi_translates = record {
 
 hi_tells : Tells (alone hi_source) (only hi_module) (room 2000 2000) [] 5 7 (record { output = codes "hi\n"; report = []; cells = 19 })
 unfolding checked equal order str_of repr_of digits power
-hi_tells = record { meaning = refl; machine = refl; same = refl; open = refl; waits = refl }
+hi_tells = record { means = refl; runs = refl; same = refl; one_turn_less = refl; one_step_less = refl }
 
 -- a sum past the small integers
 -- =============================
@@ -144,7 +144,7 @@ overflow_translates = record {
 
 overflow_tells : Tells (alone overflow_source) (only overflow_module) (room 2000 2000) [] 6 4 (record { output = []; report = codes "Traceback (most recent call last):\n  File \"a.py\", line 1, in <module>\nOverflowError: small int overflow\n"; cells = 29 })
 unfolding checked equal order str_of repr_of digits power
-overflow_tells = record { meaning = refl; machine = refl; same = refl; open = refl; waits = refl }
+overflow_tells = record { means = refl; runs = refl; same = refl; one_turn_less = refl; one_step_less = refl }
 
 -- the operand in the middle is evaluated once
 -- ===========================================
@@ -260,7 +260,7 @@ middle_translates = record {
 
 middle_tells : Tells (alone middle_source) (only middle_module) (room 2000 2000) [] 19 27 (record { output = codes "f\nTrue\n"; report = []; cells = 23 })
 unfolding checked equal order str_of repr_of digits power
-middle_tells = record { meaning = refl; machine = refl; same = refl; open = refl; waits = refl }
+middle_tells = record { means = refl; runs = refl; same = refl; one_turn_less = refl; one_step_less = refl }
 
 -- a parameter with a default
 -- ==========================
@@ -369,7 +369,7 @@ defaults_translates = record {
 
 defaults_tells : Tells (alone defaults_source) (only defaults_module) (room 2000 2000) [] 22 27 (record { output = codes "6 12\n"; report = []; cells = 25 })
 unfolding checked equal order str_of repr_of digits power
-defaults_tells = record { meaning = refl; machine = refl; same = refl; open = refl; waits = refl }
+defaults_tells = record { means = refl; runs = refl; same = refl; one_turn_less = refl; one_step_less = refl }
 
 -- arguments by name, and one that is given twice
 -- ==============================================
@@ -485,7 +485,7 @@ bound_twice_translates = record {
 
 bound_twice_tells : Tells (alone bound_twice_source) (only bound_twice_module) (room 2000 2000) [] 19 26 (record { output = codes "0 1\n"; report = codes "Traceback (most recent call last):\n  File \"a.py\", line 4, in <module>\nTypeError: function got multiple values for argument 'a'\n"; cells = 35 })
 unfolding checked equal order str_of repr_of digits power
-bound_twice_tells = record { meaning = refl; machine = refl; same = refl; open = refl; waits = refl }
+bound_twice_tells = record { means = refl; runs = refl; same = refl; one_turn_less = refl; one_step_less = refl }
 
 -- keyword arguments of print
 -- ==========================
@@ -552,7 +552,7 @@ print_keywords_translates = record {
 
 print_keywords_tells : Tells (alone print_keywords_source) (only print_keywords_module) (room 2000 2000) [] 9 13 (record { output = codes "a-b!\n"; report = []; cells = 19 })
 unfolding checked equal order str_of repr_of digits power
-print_keywords_tells = record { meaning = refl; machine = refl; same = refl; open = refl; waits = refl }
+print_keywords_tells = record { means = refl; runs = refl; same = refl; one_turn_less = refl; one_step_less = refl }
 
 -- an assertion at level 0
 -- =======================
@@ -623,7 +623,7 @@ assert_at_0_translates = record {
 
 assert_at_0_tells : Tells (alone assert_at_0_source) (only assert_at_0_module) (room 2000 2000) [] 3 6 (record { output = []; report = codes "Traceback (most recent call last):\n  File \"a.py\", line 1, in <module>\nAssertionError: no\n"; cells = 27 })
 unfolding checked equal order str_of repr_of digits power
-assert_at_0_tells = record { meaning = refl; machine = refl; same = refl; open = refl; waits = refl }
+assert_at_0_tells = record { means = refl; runs = refl; same = refl; one_turn_less = refl; one_step_less = refl }
 
 -- an assertion at level 1, which is none
 -- ======================================
@@ -688,4 +688,4 @@ assert_at_1_translates = record {
 
 assert_at_1_tells : Tells (alone assert_at_1_source) (only assert_at_1_module) (room 2000 2000) [] 6 7 (record { output = codes "False\n"; report = []; cells = 19 })
 unfolding checked equal order str_of repr_of digits power
-assert_at_1_tells = record { meaning = refl; machine = refl; same = refl; open = refl; waits = refl }
+assert_at_1_tells = record { means = refl; runs = refl; same = refl; one_turn_less = refl; one_step_less = refl }

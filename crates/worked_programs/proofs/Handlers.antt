@@ -133,7 +133,7 @@ none_active_translates = record {
 
 none_active_tells : Tells (alone none_active_source) (only none_active_module) (room 2000 2000) [] 11 14 (record { output = []; report = codes "Traceback (most recent call last):\n  File \"a.py\", line 2, in g\nRuntimeError: no active exception to reraise\n"; cells = 43 })
 unfolding checked equal order str_of repr_of digits power
-none_active_tells = record { meaning = refl; machine = refl; same = refl; open = refl; waits = refl }
+none_active_tells = record { means = refl; runs = refl; same = refl; one_turn_less = refl; one_step_less = refl }
 
 -- a break in a last part replaces the exception
 -- =============================================
@@ -230,7 +230,7 @@ break_ends_translates = record {
 
 break_ends_tells : Tells (alone break_ends_source) (only break_ends_module) (room 2000 2000) [] 22 23 (record { output = codes "0\nend\n"; report = []; cells = 33 })
 unfolding checked equal order str_of repr_of digits power
-break_ends_tells = record { meaning = refl; machine = refl; same = refl; open = refl; waits = refl }
+break_ends_tells = record { means = refl; runs = refl; same = refl; one_turn_less = refl; one_step_less = refl }
 
 -- a continue in a last part drops the return
 -- ==========================================
@@ -355,7 +355,7 @@ continue_ends_translates = record {
 
 continue_ends_tells : Tells (alone continue_ends_source) (only continue_ends_module) (room 2000 2000) [] 25 29 (record { output = codes "9\n"; report = []; cells = 27 })
 unfolding checked equal order str_of repr_of digits power
-continue_ends_tells = record { meaning = refl; machine = refl; same = refl; open = refl; waits = refl }
+continue_ends_tells = record { means = refl; runs = refl; same = refl; one_turn_less = refl; one_step_less = refl }
 
 -- the name of a clause is gone behind it
 -- ======================================
@@ -450,7 +450,7 @@ clause_name_translates = record {
 
 clause_name_tells : Tells (alone clause_name_source) (only clause_name_module) (room 2000 2000) [] 16 24 (record { output = codes "divide by zero\n"; report = codes "Traceback (most recent call last):\n  File \"a.py\", line 5, in <module>\nNameError: name 'e' isn't defined\n"; cells = 39 })
 unfolding checked equal order str_of repr_of digits power
-clause_name_tells = record { meaning = refl; machine = refl; same = refl; open = refl; waits = refl }
+clause_name_tells = record { means = refl; runs = refl; same = refl; one_turn_less = refl; one_step_less = refl }
 
 -- a call past the depth raises at its caller
 -- ==========================================
@@ -552,4 +552,4 @@ deep_translates = record {
 
 deep_tells : Tells (alone deep_source) (only deep_module) (room 2000 2000) [] 383 320 (record { output = []; report = codes "Traceback (most recent call last):\n  File \"a.py\", line 2, in f\nRuntimeError: maximum recursion depth exceeded\n"; cells = 33 })
 unfolding checked equal order str_of repr_of digits power
-deep_tells = record { meaning = refl; machine = refl; same = refl; open = refl; waits = refl }
+deep_tells = record { means = refl; runs = refl; same = refl; one_turn_less = refl; one_step_less = refl }

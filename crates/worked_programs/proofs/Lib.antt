@@ -1,3 +1,4 @@
+mod Numbers
 mod Telling
 mod Expressions
 mod Handlers

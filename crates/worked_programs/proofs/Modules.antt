@@ -250,7 +250,7 @@ circle_b_translates = record {
 
 circle_tells : Tells (program (Single circle_m_source) ((codes "a", P.Runs (Single circle_a_source)) ∷ (codes "b", P.Runs (Single circle_b_source)) ∷ [])) (library circle_m_module (holds (codes "a") circle_a_module ∷ holds (codes "b") circle_b_module ∷ [])) (room 2000 2000) [] 36 57 (record { output = codes "1\n'module' object has no attribute 'y'\nm\n"; report = []; cells = 67 })
 unfolding checked equal order str_of repr_of digits power
-circle_tells = record { meaning = refl; machine = refl; same = refl; open = refl; waits = refl }
+circle_tells = record { means = refl; runs = refl; same = refl; one_turn_less = refl; one_step_less = refl }
 
 -- three parts in one namespace
 -- ============================
@@ -481,7 +481,7 @@ three_translates = record {
 
 merged_tells : Tells (program (Merge (Parts (Single one_source) (Parts (Single two_source) (Part (Single three_source))))) []) (only (merge_of one_module (two_module ∷ three_module ∷ []))) (room 2000 2000) [] 13 29 (record { output = codes "2\n"; report = []; cells = 39 })
 unfolding checked equal order str_of repr_of digits power
-merged_tells = record { meaning = refl; machine = refl; same = refl; open = refl; waits = refl }
+merged_tells = record { means = refl; runs = refl; same = refl; one_turn_less = refl; one_step_less = refl }
 
 -- a module that raises is imported anew
 -- =====================================
@@ -628,7 +628,7 @@ twice_a_translates = record {
 
 twice_tells : Tells (program (Single twice_m_source) ((codes "a", P.Runs (Single twice_a_source)) ∷ [])) (library twice_m_module (holds (codes "a") twice_a_module ∷ [])) (room 2000 2000) [] 25 29 (record { output = codes "x\nx\n"; report = codes "Traceback (most recent call last):\n  File \"a.py\", line 2, in <module>\nValueError: invalid syntax for integer with base 10\n"; cells = 77 })
 unfolding checked equal order str_of repr_of digits power
-twice_tells = record { meaning = refl; machine = refl; same = refl; open = refl; waits = refl }
+twice_tells = record { means = refl; runs = refl; same = refl; one_turn_less = refl; one_step_less = refl }
 
 -- a module that was refused
 -- =========================
@@ -690,7 +690,7 @@ refused_translates = record {
 
 refused_tells : Tells (program (Single refused_source) ((codes "a", P.Refused) ∷ [])) (library refused_module ((codes "a", L.Refused) ∷ [])) (room 2000 2000) [] 2 3 (record { output = []; report = codes "Traceback (most recent call last):\n  File \"m.py\", line 1, in <module>\nValueError: incompatible .mpy file\n"; cells = 29 })
 unfolding checked equal order str_of repr_of digits power
-refused_tells = record { meaning = refl; machine = refl; same = refl; open = refl; waits = refl }
+refused_tells = record { means = refl; runs = refl; same = refl; one_turn_less = refl; one_step_less = refl }
 
 -- a module that a package lacks
 -- =============================
@@ -860,4 +860,4 @@ package_p_q_translates = record {
 
 no_part_tells : Tells (program (Single package_a_source) ((codes "p", P.Runs (Single package_p_source)) ∷ (codes "p.q", P.Runs (Single package_p_q_source)) ∷ [])) (library package_a_module (holds (codes "p") package_p_module ∷ holds (codes "p.q") package_p_q_module ∷ [])) (room 2000 2000) [] 9 11 (record { output = codes "p\n"; report = codes "Traceback (most recent call last):\n  File \"a.py\", line 1, in <module>\nImportError: no module named 'p.z'\n"; cells = 48 })
 unfolding checked equal order str_of repr_of digits power
-no_part_tells = record { meaning = refl; machine = refl; same = refl; open = refl; waits = refl }
+no_part_tells = record { means = refl; runs = refl; same = refl; one_turn_less = refl; one_step_less = refl }

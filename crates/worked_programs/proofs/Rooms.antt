@@ -95,14 +95,14 @@ list_translates = record {
 
 fits_tells : Tells (alone list_source) (only list_module) (room 26 0) [] 19 20 (record { output = codes "a\n[1, 2, 3]\n"; report = []; cells = 26 })
 unfolding checked equal order str_of repr_of digits power
-fits_tells = record { meaning = refl; machine = refl; same = refl; open = refl; waits = refl }
+fits_tells = record { means = refl; runs = refl; same = refl; one_turn_less = refl; one_step_less = refl }
 
 -- one cell less
 -- =============
 
 full_tells : Tells (alone list_source) (only list_module) (room 25 0) [] 10 9 (record { output = codes "a\n"; report = []; cells = 19 })
 unfolding checked equal order str_of repr_of digits power
-full_tells = record { meaning = refl; machine = refl; same = refl; open = refl; waits = refl }
+full_tells = record { means = refl; runs = refl; same = refl; one_turn_less = refl; one_step_less = refl }
 
 full_memory : (meaning (alone list_source) 25 0 [] 10).end ≡ Memory (record { asked = 7; used = 19; size = 25; bytes = false })
 unfolding checked equal order str_of repr_of digits power
@@ -197,11 +197,11 @@ port_translates = record {
 
 port_works_tells : Tells (alone port_source) (only port_module) (room 2000 2000) ((script ((pos 41) ∷ []) [] ∷ [])) 21 27 (record { output = codes "None\n"; report = []; cells = 19 })
 unfolding checked equal order str_of repr_of digits power
-port_works_tells = record { meaning = refl; machine = refl; same = refl; open = refl; waits = refl }
+port_works_tells = record { means = refl; runs = refl; same = refl; one_turn_less = refl; one_step_less = refl }
 
 -- the same port, whose second call fails
 -- ======================================
 
 port_fails_second_tells : Tells (alone port_source) (only port_module) (room 2000 2000) ((script ((pos 41) ∷ []) (1 ∷ []) ∷ [])) 14 16 (record { output = []; report = codes "Traceback (most recent call last):\n  File \"a.py\", line 3, in <module>\nOSError: 5\n"; cells = 27 })
 unfolding checked equal order str_of repr_of digits power
-port_fails_second_tells = record { meaning = refl; machine = refl; same = refl; open = refl; waits = refl }
+port_fails_second_tells = record { means = refl; runs = refl; same = refl; one_turn_less = refl; one_step_less = refl }

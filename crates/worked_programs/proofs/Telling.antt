@@ -1,5 +1,6 @@
 -- What a worked program tells.
-use Rattle.std.proofs.Common.{◌≡◌, ◌-◌, ℕ, ℤ, List, [], ◌∷◌, Option, codes}
+use Rattle.std.proofs.Common.{◌≡◌, ◌-◌, ℕ, ℤ, List, [], ◌∷◌, Option, codes, true}
+use Rattle.std.specs.Str.{bytes_eq}
 use Rattle.mpy_base.specs.declared.room.Room.{Room}
 use Rattle.mpy_base.specs.Weights.{used}
 use Rattle.mpy_base.specs.World.{PortState}
@@ -11,6 +12,7 @@ use Rattle.bc_scheme.specs.py_meaning.Program.{Source, Unit, Single, Program}
 use Rattle.bc_scheme.specs.py_meaning.Program as programs
 use Rattle.bc_scheme.specs.bc_machine.Library.{Library, Holds, Entry, module_of}
 use Rattle.bc_scheme.specs.bc_machine.Machine.{run}
+use Rattle.worked_programs.proofs.Numbers.{of_run}
 
 -- a name that is imported, and the one that it is bound to
 abbrev pub alias : List ℕ → Option (List ℕ) → Alias
@@ -52,8 +54,8 @@ told run = record { output = run.world.output; report = report run; cells = used
 -- In this room, with these ports, the program means this in so many turns, and the library runs to this in so many steps. They come to
 -- one world, object by object, and one turn or one step less is open
 pub record Tells (p : Program) (l : Library) (r : Room) (ports : List PortState) (turns steps : ℕ) (expected : Told) : Type 0 where
-  pub meaning : told (meaning p r.cells r.bytes ports turns) ≡ expected
-  pub machine : told (run l (codes "__main__") r.cells r.bytes ports steps) ≡ expected
-  pub same : (meaning p r.cells r.bytes ports turns).world ≡ (run l (codes "__main__") r.cells r.bytes ports steps).world
-  pub open : (meaning p r.cells r.bytes ports (turns - 1)).end ≡ Open
-  pub waits : (run l (codes "__main__") r.cells r.bytes ports (steps - 1)).end ≡ Open
+  pub means : told (meaning p r.cells r.bytes ports turns) ≡ expected
+  pub runs : told (run l (codes "__main__") r.cells r.bytes ports steps) ≡ expected
+  pub same : bytes_eq (of_run (meaning p r.cells r.bytes ports turns)) (of_run (run l (codes "__main__") r.cells r.bytes ports steps)) ≡ true
+  pub one_turn_less : (meaning p r.cells r.bytes ports (turns - 1)).end ≡ Open
+  pub one_step_less : (run l (codes "__main__") r.cells r.bytes ports (steps - 1)).end ≡ Open
