@@ -121,7 +121,7 @@ module _ (level : ℕ) (files : Option FileOf) (source file : List ℕ) (told : 
         abbrev pub wanted : ResolvedModule
         wanted = made.reads.tree
 
-        compares : Compares level text bytes wanted tree
+        abbrev compares : Compares level text bytes wanted tree
         compares = record {
           own = own;
           compiles = record { whole = whole; compiled = compiled; file = made };

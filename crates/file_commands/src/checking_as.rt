@@ -56,7 +56,7 @@ fn source_text<F: Folder>(
 
 /// How many codes the file has, where its module is a translation of the source of this text, or what keeps it from that, with the
 /// place of the word that the line names.
-fn compared(alloc: Global, level: u8, text: &[u8], have: &RawModule) -> Result<u64, Ended>
+fn codes_compared(alloc: Global, level: u8, text: &[u8], have: &RawModule) -> Result<u64, Ended>
     requires { level ≤ 3 }
     ensures same { IfOk result (λ count. (files : Option FileOf) (source file bytes : List ℕ) → MayHold files source (Some text.now)
         → MayHold files file (Some bytes) → IsFile bytes have.now → HoldsTranslation level files source file count) }
@@ -123,7 +123,7 @@ fn translation(alloc: Global, level: u8, text: Option<Vec<u8>>, bytes: &[u8]) ->
     };
     module_law(&have);
     match text {
-        Some(text) => compared(alloc, level, &text, &have),
+        Some(text) => codes_compared(alloc, level, &text, &have),
         None => Err(Ended {
             ending: Ending::Unaccepted(SourceFault::too_long(alloc)),
             place: SOURCE,

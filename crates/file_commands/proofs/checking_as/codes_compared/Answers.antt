@@ -7,7 +7,7 @@ use Rattle.mpy_writer.specs.mpy_tree.Codes.{codes_to}
 use Rattle.command_files.specs.mpy_compile.Compiled.{IsCompiled}
 use Rattle.file_commands.specs.Check.{count_of}
 use Rattle.file_commands.proofs.CheckedAs.{named, refused_as, unaccepted, same, different}
-use Rattle.file_commands.proofs.checking_as.compared.Goals as goal
+use Rattle.file_commands.proofs.checking_as.codes_compared.Goals as goal
 
 pub returns-in-Err-Fault-clause-refused : goal.returns-in-Err-Fault-clause-refused
 returns-in-Err-Fault-clause-refused c files source file bytes told has holds is =
