@@ -3,7 +3,7 @@ use Rattle.std.proofs.lemmas.Result.{err_from_is_err_and}
 use Rattle.image_open.specs.Opens.{opened}
 use Rattle.image_open.proofs.Opened.{entries_differ, few_entries, plain, texts_fit}
 use Rattle.image_open.proofs.Results.{known, passed_on, refused_end}
-use Rattle.image_open.proofs.opening.opened.Goals as goal
+use Rattle.image_open.proofs.opening.read_library.Goals as goal
 
 pub returns-in_err-entries-clause-ends : goal.returns-in_err-entries-clause-ends
 returns-in_err-entries-clause-ends c =
