@@ -10,7 +10,8 @@ returns-in-Err-Fault-clause-only c = λ shelf place h.
 
 pub returns-in-Err-Fault-clause-fault : goal.returns-in-Err-Fault-clause-fault
 returns-in-Err-Fault-clause-fault c =
-    unopened_fault c.args.below.now c.args.bytes.now c.args.main.now c.in-Err-Fault.field-0 c.in-Err-Fault.fault c.in-Err-Fault.field-0-is c.in-Err-Fault.ensures.only c.in-Err-Fault.ensures.fault
+    rw c.in-Err-Fault.field-0-is
+    (unopened_fault c.args.below.now c.args.bytes.now c.args.main.now c.in-Err-Fault.field-0 c.in-Err-Fault.fault c.in-Err-Fault.field-0-is c.in-Err-Fault.ensures.only c.in-Err-Fault.ensures.fault)
 
 pub returns-in-Some-Module-clause-there : goal.returns-in-Some-Module-clause-there
 returns-in-Some-Module-clause-there c =
