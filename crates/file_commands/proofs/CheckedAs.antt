@@ -1,6 +1,6 @@
 -- How a check of a file against a source ends.
-use Rattle.std.proofs.Common.{◌≡◌, [], ℕ, List, Option, Some, None, inl, inr, refl, sym, subst, ◌∙◌}
-use Rattle.std.specs.Prelude.{Vec}
+use Rattle.std.proofs.Common.{◌≡◌, [], ℕ, List, Option, Some, None, Result, Ok, Err, inl, inr, refl, sym, subst, ◌∙◌}
+use Rattle.std.specs.Prelude.{Vec, IfErr}
 use Rattle.std.specs.declared.alloc.Global.{Global}
 use Rattle.std.proofs.KnownBytes.{Keeps-refl}
 use Rattle.mpy_base.specs.declared.refused.Refused.{Refused}
@@ -20,6 +20,7 @@ use Rattle.trans_check.specs.declared.comparing.Compared.TheVariants.{Same, Diff
 use Rattle.trans_check.specs.Says.{Says}
 use Rattle.command_files.specs.mpy_compile.Compiled.{IsFileOf, IsCompiled, IsFault, Refuses}
 use Rattle.command_files.specs.mpy_compile.Checked.{Compares}
+use Rattle.command_files.specs.mpy_endings.declared.ending.Ended.{Ended}
 use Rattle.command_files.specs.mpy_endings.declared.ending.Ending.{Ending}
 use Rattle.command_files.specs.mpy_endings.declared.ending.Ending.TheVariants.{Done, Unaccepted, Unread, Unverified, Unmerged, Unopened, Unfrozen, Unboarded, Different, Stopped, ReadFault, WriteFault, Unwritten, NoMemory, Absent}
 use Rattle.command_files.specs.Folder.{MayHold, IsNotRead}
@@ -55,6 +56,16 @@ named tree_of m is stored e =
 pub refused_as : (level : ℕ) (text stored name : List ℕ) (r : Refused SourceFault) (fault : SourceFault) → r ≡ refused.Fault fault → stored ≡ name → Refuses level text stored r → IsFault level text name fault
 refused_as level text stored name r fault e n h =
     subst (λ (s : List ℕ). IsFault level text s fault) n (subst (λ (x : Refused SourceFault). Refuses level text stored x) e h)
+
+-- what keeps a text from being the source of a file's module keeps the source from it that has the text
+pub refused_by : (level : ℕ) (r : Result ℕ Ended) (text : Option (Vec ℕ Global)) (own : Vec ℕ Global) (lent bytes : List ℕ) (m : Module) → text ≡ Some own → lent ≡ own.items → IsFile bytes m
+    → IfErr r (λ ended. (files : Option FileOf) (source file bs : List ℕ) (told : Option (List ℕ)) → MayHold files source (Some lent) → MayHold files file (Some bs) → IsFile bs m
+    → ChecksAs level files source file told told ended.place ended.ending)
+    → IfErr r (λ ended. (files : Option FileOf) (source file : List ℕ) (told : Option (List ℕ)) → HoldsText files source text → MayHold files file (Some bytes)
+    → ChecksAs level files source file told told ended.place ended.ending)
+refused_by level (Ok count) text own lent bytes m e l is h = tt
+refused_by level (Err ended) text own lent bytes m e l is h = λ files source file told has holds.
+    h files source file bytes told (subst (λ (bs : List ℕ). MayHold files source (Some bs)) (sym l) (subst (HoldsText files source) e has)) holds is
 
 module _ (level : ℕ) (files : Option FileOf) (source file : List ℕ) (told : Option (List ℕ)) where
   abbrev EndedSo : ℕ → Ending → Type 0

@@ -20,14 +20,14 @@ returns-in-Ok-put_translation-clause-went g c =
     let has = held files (g.F.Folder.files c.source_text.new.folder) c.args.file.now c.in-Ok-read_file.bytes.items c.deref.result.now c.in-Ok.ensures.files c.deref.ensures.value c.in-Ok-read_file.ensures.read in
     (c.in-Ok-translation.codes, c.in-Ok-translation.ensures.same files c.args.source.now c.args.file.now c.in-Ok.ensures.found has, c.in-Ok-put_translation.ensures.0)
 
-pub returns-in-Err-put_translation-clause-went : goal.returns-in-Err-put_translation-clause-went
-returns-in-Err-put_translation-clause-went g c =
+pub returns-in-Ok-translation-clause-went : goal.returns-in-Ok-translation-clause-went
+returns-in-Ok-translation-clause-went g c =
     let files = g.F.Folder.files c.args.folder.now in
     let has = held files (g.F.Folder.files c.source_text.new.folder) c.args.file.now c.in-Ok-read_file.bytes.items c.deref.result.now c.in-Ok.ensures.files c.deref.ensures.value c.in-Ok-read_file.ensures.read in
     (c.in-Ok-translation.codes, c.in-Ok-translation.ensures.same files c.args.source.now c.args.file.now c.in-Ok.ensures.found has, c.in-Err-put_translation.ensures.0)
 
-pub returns-in-Err-translation-clause-went : goal.returns-in-Err-translation-clause-went
-returns-in-Err-translation-clause-went g c =
+pub returns-clause-went : goal.returns-clause-went
+returns-clause-went g c =
     let files = g.F.Folder.files c.args.folder.now in
     let has = held files (g.F.Folder.files c.source_text.new.folder) c.args.file.now c.in-Ok-read_file.bytes.items c.deref.result.now c.in-Ok.ensures.files c.deref.ensures.value c.in-Ok-read_file.ensures.read in
     c.in-Err-translation.ensures.refused files c.args.source.now c.args.file.now (g.S.Sink.told c.args.out.now) c.in-Ok.ensures.found has

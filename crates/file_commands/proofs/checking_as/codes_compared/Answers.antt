@@ -13,9 +13,8 @@ pub returns-in-Err-Fault-clause-refused : goal.returns-in-Err-Fault-clause-refus
 returns-in-Err-Fault-clause-refused c files source file bytes told has holds is =
     let own = named c.resolves_law.ensures.tree c.args.have.now c.module_law.ensures c.stored_source.result.now c.stored_source.ensures.named in
     let fault = c.in-Err-Fault.fault in
-    let e : c.in-Err-Fault.field-0 ≡ refused.Fault fault = cc in
-    unaccepted c.args.level files source file told bytes holds c.args.have.now is own.tree own.resolves c.args.text.now has fault
-    (refused_as c.args.level c.args.text.now c.stored_source.result.now own.tree.source c.in-Err-Fault.field-0 fault e own.name c.in-Err-Fault.ensures)
+    let accepted_not = refused_as c.args.level c.args.text.now c.stored_source.result.now own.tree.source c.in-Err-Fault.field-0 fault c.in-Err-Fault.field-0-is own.name c.in-Err-Fault.ensures in
+    rw c.in-Err-Fault.field-0-is (unaccepted c.args.level files source file told bytes holds c.args.have.now is own.tree own.resolves c.args.text.now has fault accepted_not)
 
 pub returns-in-Ok-Same-clause-same : goal.returns-in-Ok-Same-clause-same
 returns-in-Ok-Same-clause-same c files source file bytes has holds is =
