@@ -1,3 +1,3 @@
 pub mod Opened
-pub mod Files
-pub mod Merging
+pub mod Singles
+pub mod Merges

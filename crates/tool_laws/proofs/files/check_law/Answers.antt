@@ -1,4 +1,4 @@
-use Rattle.tool_laws.proofs.Files.{check_done, one_check, one_checked_text}
+use Rattle.tool_laws.proofs.Singles.{check_done, one_check, one_checked_text}
 use Rattle.tool_laws.proofs.files.check_law.Goals as goal
 
 pub returns : goal.returns

@@ -1,4 +1,4 @@
-use Rattle.tool_laws.proofs.Files.{dump_done, one_dump, one_dumped_text}
+use Rattle.tool_laws.proofs.Singles.{dump_done, one_dump, one_dumped_text}
 use Rattle.tool_laws.proofs.files.dump_law.Goals as goal
 
 pub returns : goal.returns

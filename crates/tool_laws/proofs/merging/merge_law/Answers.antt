@@ -1,4 +1,4 @@
-use Rattle.tool_laws.proofs.Merging.{merge_done, one_merge}
+use Rattle.tool_laws.proofs.Merges.{merge_done, one_merge}
 use Rattle.tool_laws.proofs.merging.merge_law.Goals as goal
 
 pub returns : goal.returns
