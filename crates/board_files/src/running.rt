@@ -75,7 +75,15 @@ fn write_output<F: Folder>(
     stands_law();
     let count = plan.tasks.len() as u32;
     match begin_files(alloc, count, folder) {
-        Ok(()) => make_turns(alloc, board, library, rows, cache, plan.turns.as_slice(), folder),
+        Ok(()) => make_turns(
+            alloc,
+            board,
+            library,
+            rows,
+            cache,
+            plan.turns.as_slice(),
+            folder,
+        ),
         Err(stop) => Err(stop),
     }
 }
@@ -170,7 +178,9 @@ pub fn run_board<F: Folder, S: Sink>(
     match open_board(alloc, library, &rows, plan.tasks.as_slice()) {
         Ok(board) => {
             let mut board = board;
-            run_turns(alloc, library, &rows, &mut cache, plan, &mut board, folder, out)
+            run_turns(
+                alloc, library, &rows, &mut cache, plan, &mut board, folder, out,
+            )
         }
         Err(stop) => Err(stop),
     }

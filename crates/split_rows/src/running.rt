@@ -118,8 +118,18 @@ fn outcome_of(
     let mut out = MemSink::new(alloc, Vec::new(alloc));
     let mut vm = open(alloc, library, rows, 0, program.room)?;
     let mut cache = Cache::new(alloc, library, rows)?;
-    let begun = run(&mut vm, library, rows, &mut cache, &mut out, &mut ports, first as u64);
-    let went = go_on(&mut vm, library, rows, &mut cache, &mut out, &mut ports, part, most);
+    let begun = run(
+        &mut vm,
+        library,
+        rows,
+        &mut cache,
+        &mut out,
+        &mut ports,
+        first as u64,
+    );
+    let went = go_on(
+        &mut vm, library, rows, &mut cache, &mut out, &mut ports, part, most,
+    );
     let (Ok(()), Ok(parts)) = (begun, went) else {
         return Ok(None);
     };

@@ -14,6 +14,5 @@ mod stepping;
 pub use bc_library;
 pub use opening::{open, used};
 pub use running::run;
-pub use state_steps::bc_rows;
-pub use state_steps::frame_exits;
+pub use state_steps::{bc_rows, frame_exits};
 pub use vm_starting;
