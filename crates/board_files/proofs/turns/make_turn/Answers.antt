@@ -1,4 +1,4 @@
-use Rattle.std.proofs.Common.{◌≡◌, ◌≤◌, Result, Err, sym, subst, ◌∙◌, arith}
+use Rattle.std.proofs.Common.{◌≡◌, ◌≤◌, Result, Err, refl, sym, subst, ◌∙◌, arith}
 use Rattle.std.specs.Prelude.{IfErr}
 use Rattle.std.proofs.lemmas.Result.{err_from_is_err_and}
 use Rattle.vm_starting.specs.vm_states.Means.{Program}
@@ -7,8 +7,12 @@ use Rattle.board_files.specs.declared.stop.OutputStop.{OutputStop}
 use Rattle.board_files.specs.Files.{cut_of}
 use Rattle.board_files.specs.Runs.{StopsIn}
 use Rattle.board_files.proofs.Stopping.{part_stops}
-use Rattle.board_files.proofs.Loops.{more_made, all_made, whole_paid, part_countable, some_paid}
+use Rattle.board_files.proofs.Loops.{none_made, more_made, all_made, whole_paid, part_countable, some_paid}
 use Rattle.board_files.proofs.turns.make_turn.Goals as goal
+
+pub parts-init : goal.parts-init
+parts-init g c =
+    (none_made c.args.library.now c.args.turn.task c.args.turn.steps c.args.board.now (g.F.Folder.files c.args.folder.now) c.requires.runs, refl, c.requires.kept)
 
 pub make_part-requires-clause-paid : goal.make_part-requires-clause-paid
 make_part-requires-clause-paid g c =
