@@ -9,7 +9,7 @@ pub loop-turn-init : goal.loop-turn-init
 unfolding arguments
 loop-turn-init g c = record {
   reads = first_of (search rules, grind (arith, common_steps));
-  later = first_of (search rules, grind (arith, common_steps))
+  later = first_of (search rules, grind (arith, common_steps));
 }
 
 pub returns-then-not-begins_test : goal.returns-then-not-begins_test
@@ -36,7 +36,7 @@ loop-turn-preserved g c = record {
   reads =
       let e = one_more (λ n. arguments_from (expr c.args.self.now.depth) n c.loop-turn.given (input_of c.loop-turn.tokens)) _ c.loop-turn._turn c.loop-turn-test.true c.loop-turn.invariant.reads in
       first_of (search rules, grind (arith, common_steps));
-  later = first_of (search rules, grind (arith, common_steps))
+  later = first_of (search rules, grind (arith, common_steps));
 }
 
 pub returns : goal.returns
