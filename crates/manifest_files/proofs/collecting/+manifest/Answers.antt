@@ -4,7 +4,7 @@ use Rattle.mpy_io.specs.Files.{FileOf}
 use Rattle.manifest_files.specs.declared.fault.ManifestFault.TheVariants.{Deep}
 use Rattle.manifest_files.specs.Answers.{Follows, LinesOf, Tells}
 use Rattle.manifest_files.specs.Entries.{Says, LineSays, line_saying}
-use Rattle.manifest_files.specs.Quiet.{AreQuiet}
+use Rattle.manifest_files.specs.Quiet.{AreQuiet, IsQuiet}
 use Rattle.manifest_files.proofs.Passing.{here_too, lines_lead, line_leads, inner_leads, passed_over, kept_now}
 use Rattle.manifest_files.proofs.Tells.{if_some, if_some_both, refuses, too_deep, unread, line_gave_up, line_went_on, lines_told, whole_told}
 use Rattle.manifest_files.proofs.collecting.+manifest.Goals as goal
@@ -104,4 +104,4 @@ one_line-once-requires-clause-over g t c =
 pub once-returns-then-is_known-clause-told : goal.once-returns-then-is_known-clause-told
 once-returns-then-is_known-clause-told g t c =
     passed_over (g.F.Folder.files c.args.folder.now) c.args.left c.args.opened.now.items c.args.name.now c.args.entries.now.items c.args.quiet.now.entries c.is_known.result
-    (λ files h yes. ?) c.if-is_known.true c.requires.known c.requires.over
+    (λ files h yes. subst (IsQuiet files c.args.left) c.as_bytes.ensures.value (c.is_known.ensures files h yes)) c.if-is_known.true c.requires.known c.requires.over
