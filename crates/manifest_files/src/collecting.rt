@@ -160,7 +160,16 @@ fn manifest<F: Folder>(
         Err(refused) => return Err(refused),
     };
     opened.push(this)?;
-    match all_lines(alloc, folder, left - 1, opened, name, &lines, quiet, entries) {
+    match all_lines(
+        alloc,
+        folder,
+        left - 1,
+        opened,
+        name,
+        &lines,
+        quiet,
+        entries,
+    ) {
         Ok(()) => {}
         Err(refused) => return Err(refused),
     }
@@ -188,7 +197,15 @@ pub fn collect<F: Folder>(
     let mut opened = Vec::new(alloc);
     let mut quiet = IndexMap::new(alloc);
     let mut entries = Vec::new(alloc);
-    match manifest(alloc, folder, MAX_OPEN, &mut opened, name, &mut quiet, &mut entries) {
+    match manifest(
+        alloc,
+        folder,
+        MAX_OPEN,
+        &mut opened,
+        name,
+        &mut quiet,
+        &mut entries,
+    ) {
         Ok(()) => Ok(entries),
         Err(refused) => Err(refused),
     }
