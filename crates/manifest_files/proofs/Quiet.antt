@@ -4,6 +4,7 @@ use Rattle.std.specs.List.{list_all}
 use Rattle.std.specs.Map.{lookup}
 use Rattle.std.specs.Str.{bytes_eq}
 use Rattle.std.specs.declared.alloc.Global.{Global}
+use Rattle.std.proofs.lemmas.Bool.{leb-true}
 use Rattle.std.proofs.lemmas.List.{length_push}
 use Rattle.std.proofs.lemmas.List.Elements.{All-nil, All-cons, All-head, All-tail, All-contains, Contains-get_or}
 use Rattle.std.proofs.lemmas.Slice.Eq.{bytes_eq-Decides}
@@ -25,7 +26,7 @@ nothing_more : (P Q : List ℕ → Type 0) (saying : Saying) → ((inner : List 
 nothing_more P Q (Itself said) each n = n
 nothing_more P Q (Another inner) each n = each inner n
 
-pub more_quiet : (files : FileOf) (less left : ℕ) (name : List ℕ) → less ≤ left → IsQuiet files less name → IsQuiet files left name
+more_quiet : (files : FileOf) (less left : ℕ) (name : List ℕ) → less ≤ left → IsQuiet files less name → IsQuiet files left name
 more_quiet files zero left name l q = absurd q
 more_quiet files (suc less) zero name l q = absurd (omega (arith, l))
 more_quiet files (suc less) (suc left) name l q =
@@ -217,7 +218,7 @@ quiet_now files left opened name said before after s e l =
 abbrev Kept : Type 0
 Kept = List (Vec ℕ Global × ℕ)
 
-pub known : (files : FileOf) (name : List ℕ) (left : ℕ) (kept : Kept) → lookup (λ key. bytes_eq name key.items) kept ≡ Some left → AreQuiet files kept → IsQuiet files left name
+known : (files : FileOf) (name : List ℕ) (left : ℕ) (kept : Kept) → lookup (λ key. bytes_eq name key.items) kept ≡ Some left → AreQuiet files kept → IsQuiet files left name
 known files name left [] e h = absurd cc
 known files name left (one ∷ kept) e h = by (bytes_eq name one.0.items) refl e (λ f. known files name left kept f h.1)
   where
@@ -228,6 +229,9 @@ known files name left (one ∷ kept) e h = by (bytes_eq name one.0.items) refl e
         let number : one.1 ≡ left = cc in
         subst (λ (z : ℕ). IsQuiet files z name) number (subst (IsQuiet files one.1) (sym same) h.0)
     by false is f more = more f
+
+pub known_less : (files : FileOf) (name : List ℕ) (left less : ℕ) (kept : Kept) → Some less ≡ lookup (λ key. bytes_eq name key.items) kept → AreQuiet files kept → nat_le less left ≡ true → IsQuiet files left name
+known_less files name left less kept e h is = more_quiet files less left name (leb-true less left is) (known files name less kept (sym e) h)
 
 pub keep_one : (files : FileOf) (key : Vec ℕ Global) (left : ℕ) (kept : Kept) → IsQuiet files left key.items → AreQuiet files kept → AreQuiet files (insert_entry (λ x y. bytes_eq x.items y.items) kept key left)
 keep_one files key left [] q h = (q, tt)
