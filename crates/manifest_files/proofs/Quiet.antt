@@ -153,17 +153,15 @@ order_says : (files : FileOf) (left : ℕ) (opened : List (List ℕ)) (name : Li
     → ((inner : List ℕ) → order_saying [] name number order ≡ Another inner → AllInclude files opened inner)
     → IsNothing (IsQuiet files left) (order_saying [] name number order) → IsSaid (Says files left opened) (order_saying opened name number order) []
 order_says files left opened name number None each over n = sym n
-order_says files left opened name number (Some (Include path)) each over n = by (is_ascii path) (is_open opened inner) refl over n
+order_says files left opened name number (Some (Include path)) each over n = by (folder_of name ++ path) (is_ascii path) (is_open opened (folder_of name ++ path)) refl over n
   where
-    abbrev inner : List ℕ
-    inner = folder_of name ++ path
-    by : (a b : Bool) → is_open opened inner ≡ b
+    by : (inner : List ℕ) (a b : Bool) → is_open opened inner ≡ b
         → ((other : List ℕ) → (if a then Another inner else faulty (BadCall name number)) ≡ Another other → AllInclude files opened other)
         → IsNothing (IsQuiet files left) (if a then Another inner else faulty (BadCall name number))
         → IsSaid (Says files left opened) (if a then (if b then faulty (Loop inner) else Another inner) else faulty (BadCall name number)) []
-    by true true is reach h = let itself = reach inner refl inner is in absurd (no_circle files left left itself.0 inner (omega arith) h itself.1)
-    by true false is reach h = each inner h (reach inner refl)
-    by false b is reach h = sym h
+    by inner true true is reach h = let itself = reach inner refl inner is in absurd (no_circle files left left itself.0 inner (omega arith) h itself.1)
+    by inner true false is reach h = each inner h (reach inner refl)
+    by inner false b is reach h = sym h
 order_says files left opened name number (Some (Freeze entries)) each over n = by (list_all is_plain entries) n
   where
     by : (a : Bool) → IsNothing (IsQuiet files left) (if a then Itself (map (said_entry (folder_of name)) entries) else faulty (BadCall name number))
