@@ -4,6 +4,7 @@ use Rattle.std.specs.List.{list_all}
 use Rattle.std.specs.Map.{lookup}
 use Rattle.std.specs.Str.{bytes_eq}
 use Rattle.std.specs.declared.alloc.Global.{Global}
+use Rattle.std.proofs.lemmas.Bool.{leb-true}
 use Rattle.std.proofs.lemmas.List.{length_push}
 use Rattle.std.proofs.lemmas.List.Elements.{All-nil, All-cons, All-head, All-tail, All-contains, Contains-get_or}
 use Rattle.std.proofs.lemmas.Slice.Eq.{bytes_eq-Decides}
@@ -25,7 +26,7 @@ nothing_more : (P Q : List ℕ → Type 0) (saying : Saying) → ((inner : List 
 nothing_more P Q (Itself said) each n = n
 nothing_more P Q (Another inner) each n = each inner n
 
-pub more_quiet : (files : FileOf) (less left : ℕ) (name : List ℕ) → less ≤ left → IsQuiet files less name → IsQuiet files left name
+more_quiet : (files : FileOf) (less left : ℕ) (name : List ℕ) → less ≤ left → IsQuiet files less name → IsQuiet files left name
 more_quiet files zero left name l q = absurd q
 more_quiet files (suc less) zero name l q = absurd (omega (arith, l))
 more_quiet files (suc less) (suc left) name l q =
@@ -152,17 +153,15 @@ order_says : (files : FileOf) (left : ℕ) (opened : List (List ℕ)) (name : Li
     → ((inner : List ℕ) → order_saying [] name number order ≡ Another inner → AllInclude files opened inner)
     → IsNothing (IsQuiet files left) (order_saying [] name number order) → IsSaid (Says files left opened) (order_saying opened name number order) []
 order_says files left opened name number None each over n = sym n
-order_says files left opened name number (Some (Include path)) each over n = by (is_ascii path) (is_open opened inner) refl over n
+order_says files left opened name number (Some (Include path)) each over n = by (folder_of name ++ path) (is_ascii path) (is_open opened (folder_of name ++ path)) refl over n
   where
-    abbrev inner : List ℕ
-    inner = folder_of name ++ path
-    by : (a b : Bool) → is_open opened inner ≡ b
+    by : (inner : List ℕ) (a b : Bool) → is_open opened inner ≡ b
         → ((other : List ℕ) → (if a then Another inner else faulty (BadCall name number)) ≡ Another other → AllInclude files opened other)
         → IsNothing (IsQuiet files left) (if a then Another inner else faulty (BadCall name number))
         → IsSaid (Says files left opened) (if a then (if b then faulty (Loop inner) else Another inner) else faulty (BadCall name number)) []
-    by true true is reach h = let itself = reach inner refl inner is in absurd (no_circle files left left itself.0 inner (omega arith) h itself.1)
-    by true false is reach h = each inner h (reach inner refl)
-    by false b is reach h = sym h
+    by inner true true is reach h = let itself = reach inner refl inner is in absurd (no_circle files left left itself.0 inner (omega arith) h itself.1)
+    by inner true false is reach h = each inner h (reach inner refl)
+    by inner false b is reach h = sym h
 order_says files left opened name number (Some (Freeze entries)) each over n = by (list_all is_plain entries) n
   where
     by : (a : Bool) → IsNothing (IsQuiet files left) (if a then Itself (map (said_entry (folder_of name)) entries) else faulty (BadCall name number))
@@ -217,7 +216,7 @@ quiet_now files left opened name said before after s e l =
 abbrev Kept : Type 0
 Kept = List (Vec ℕ Global × ℕ)
 
-pub known : (files : FileOf) (name : List ℕ) (left : ℕ) (kept : Kept) → lookup (λ key. bytes_eq name key.items) kept ≡ Some left → AreQuiet files kept → IsQuiet files left name
+known : (files : FileOf) (name : List ℕ) (left : ℕ) (kept : Kept) → lookup (λ key. bytes_eq name key.items) kept ≡ Some left → AreQuiet files kept → IsQuiet files left name
 known files name left [] e h = absurd cc
 known files name left (one ∷ kept) e h = by (bytes_eq name one.0.items) refl e (λ f. known files name left kept f h.1)
   where
@@ -228,6 +227,9 @@ known files name left (one ∷ kept) e h = by (bytes_eq name one.0.items) refl e
         let number : one.1 ≡ left = cc in
         subst (λ (z : ℕ). IsQuiet files z name) number (subst (IsQuiet files one.1) (sym same) h.0)
     by false is f more = more f
+
+pub known_less : (files : FileOf) (name : List ℕ) (left less : ℕ) (kept : Kept) → Some less ≡ lookup (λ key. bytes_eq name key.items) kept → AreQuiet files kept → nat_le less left ≡ true → IsQuiet files left name
+known_less files name left less kept e h is = more_quiet files less left name (leb-true less left is) (known files name less kept (sym e) h)
 
 pub keep_one : (files : FileOf) (key : Vec ℕ Global) (left : ℕ) (kept : Kept) → IsQuiet files left key.items → AreQuiet files kept → AreQuiet files (insert_entry (λ x y. bytes_eq x.items y.items) kept key left)
 keep_one files key left [] q h = (q, tt)

@@ -105,3 +105,8 @@ pub once-returns-then-is_known-clause-told : goal.once-returns-then-is_known-cla
 once-returns-then-is_known-clause-told g t c =
     passed_over (g.F.Folder.files c.args.folder.now) c.args.left c.args.opened.now.items c.args.name.now c.args.entries.now.items c.args.quiet.now.entries c.is_known.result
     (λ files h yes. subst (IsQuiet files c.args.left) c.as_bytes.ensures.value (c.is_known.ensures files h yes)) c.if-is_known.true c.requires.known c.requires.over
+
+pub once-returns-clause-kept : goal.once-returns-clause-kept
+once-returns-clause-kept g t c =
+    kept_now (g.F.Folder.files c.args.folder.now) c.args.left c.args.opened.now.items c.args.name.now c.args.entries.now.items c.manifest.new.entries.items c.manifest.new.quiet.entries c.keep.new.quiet.entries
+    (λ files h is. c.in_ok-keep.ensures files h (subst (IsQuiet files c.args.left) (sym c.as_bytes-2.ensures.value) is)) (omega arith) c.in-Ok.ensures.told c.in-Ok.ensures.kept
