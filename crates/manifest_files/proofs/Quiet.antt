@@ -96,9 +96,14 @@ says_nothing files (suc left) opened name s =
     by : (file : Option (List ℕ)) → files name ≡ file → FileSays (AreSaid (LineSays files left (opened ++ name ∷ []) name)) name file []
         → ((inner : List ℕ) → Says files left (opened ++ name ∷ []) inner [] → IsQuiet files left inner) → IsQuiet files (suc left) name
     by None e f each = absurd cc
-    by (Some bytes) e f each =
-        (bytes, f.0, e, f.1, all_nothing (LineSays files left (opened ++ name ∷ []) name) (λ line. IsNothing (IsQuiet files left) (line_saying [] name line))
-        (λ line h. nothing_of (Says files left (opened ++ name ∷ [])) (IsQuiet files left) each (line_saying [] name line) (none_open (Says files left (opened ++ name ∷ [])) (opened ++ name ∷ []) name line.number line.order h)) f.0 f.2)
+    by (Some bytes) e f each = (
+      bytes,
+      f.0,
+      e,
+      f.1,
+      all_nothing (LineSays files left (opened ++ name ∷ []) name) (λ line. IsNothing (IsQuiet files left) (line_saying [] name line))
+          (λ line h. nothing_of (Says files left (opened ++ name ∷ [])) (IsQuiet files left) each (line_saying [] name line) (none_open (Says files left (opened ++ name ∷ [])) (opened ++ name ∷ []) name line.number line.order h)) f.0 f.2,
+    )
 
 -- ---- what is open
 
@@ -180,11 +185,14 @@ pub quiet_says : (files : FileOf) (left : ℕ) (opened : List (List ℕ)) (name 
 quiet_says files zero opened name q over = absurd q
 quiet_says files (suc left) opened name q over =
     let now = opened ++ name ∷ [] in
-    subst (λ (z : Option (List ℕ)). FileSays (AreSaid (LineSays files left now name)) name z []) (sym q.2)
-    (q.1, q.3, all_silent (LineSays files left now name) q.1 (λ k d lt.
-    let line = get_or q.1 k d in
-    order_says files left now name line.number line.order (λ inner h its. quiet_says files left now inner h its)
-    (λ inner e. all_further files opened name inner over (q.0, q.1, line, q.2, q.3, Contains-get_or q.1 k d lt, e)) (q.4 k d lt)))
+    subst (λ (z : Option (List ℕ)). FileSays (AreSaid (LineSays files left now name)) name z []) (sym q.2) (
+      q.1,
+      q.3,
+      all_silent (LineSays files left now name) q.1 (λ k d lt.
+          let line = get_or q.1 k d in
+          order_says files left now name line.number line.order (λ inner h its. quiet_says files left now inner h its)
+          (λ inner e. all_further files opened name inner over (q.0, q.1, line, q.2, q.3, Contains-get_or q.1 k d lt, e)) (q.4 k d lt)),
+    )
 
 -- ---- what adds nothing
 
