@@ -54,7 +54,13 @@ fn replace_file<R: Files + Alloc>(
         // a file that may not be written may not be replaced either
         File::options().write(true).open(rt, path)?;
     }
-    let (beside, file) = create_beside(rt, folder)?;
+    let (beside, file) = match create_beside(rt, folder) {
+        Err(error) if found.is_some() && error.kind() == ErrorKind::PermissionDenied => {
+            // the folder takes no new file: this one is written as it stands
+            return fs::write(rt, path, bytes);
+        }
+        made => made?,
+    };
     let mut done = fill(rt, beside.as_str(), file, found, bytes);
     if done.is_ok() {
         done = fs::rename(rt, beside.as_str(), path);
