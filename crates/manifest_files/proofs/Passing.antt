@@ -63,8 +63,8 @@ inner_leads (Some files) opened these name line before mid inner text are is f h
 pub passed_over : (o : Option FileOf) (left : ℕ) (opened : List (List ℕ)) (name : List ℕ) (before : List Entry) (kept : Kept) (b : Bool)
     → ((files : FileOf) → AreQuiet files kept → b ≡ true → IsQuiet files left name) → b ≡ true
     → IfSome o (λ files. AreQuiet files kept) → IfSome o (λ files. AllInclude files opened name) → IfSome o (λ files. Tells (Says files left opened name) before (Ok tt) before)
-passed_over None left opened name before kept b is yes h over = tt
-passed_over (Some files) left opened name before kept b is yes h over = ([], quiet_says files left opened name (is files h yes) over, refl)
+passed_over None left opened name before kept b each is h over = tt
+passed_over (Some files) left opened name before kept b each is h over = ([], quiet_says files left opened name (each files h is) over, refl)
 
 pub kept_now : (o : Option FileOf) (left : ℕ) (opened : List (List ℕ)) (name : List ℕ) (before after : List Entry) (old new : Kept)
     → ((files : FileOf) → AreQuiet files old → IsQuiet files left name → AreQuiet files new) → length after ≡ length before

@@ -145,7 +145,7 @@ none_aside opened name inner number (Some (Freeze entries)) e = e
 none_aside opened name inner number (Some Nothing) e = e
 none_aside opened name inner number (Some (Require wanted)) e = e
 
-lead_on : (files : FileOf) (opened : List (List ℕ)) (name bytes : List ℕ) (lines : List Line) → files name ≡ Some bytes → AreLines bytes lines → AllInclude files opened name → All (LeadsOn files (opened ++ name ∷ []) name) lines
+pub lead_on : (files : FileOf) (opened : List (List ℕ)) (name bytes : List ℕ) (lines : List Line) → files name ≡ Some bytes → AreLines bytes lines → AllInclude files opened name → All (LeadsOn files (opened ++ name ∷ []) name) lines
 lead_on files opened name bytes lines file are over = λ k d lt inner e.
     let line = get_or lines k d in
     all_further files opened name inner over
@@ -205,7 +205,7 @@ grown (Ok entry ∷ said) before after e =
     by : (b c : Bool)
         → and_then (if b then Err (Twice entry.«module») else (if c then Ok (before ++ entry ∷ []) else Err TooMany)) (λ more. entries_after more said) ≡ Ok after
         → (entries_after (before ++ entry ∷ []) said ≡ Ok after → length after ≡ length (before ++ entry ∷ []) + length said)
-        → length after ≡ length before + length (entry ∷ said)
+        → length after ≡ length before + suc (length said)
     by true c f more = absurd cc
     by false true f more = let l = more f in let p = length_push before entry in omega (arith, l, p)
     by false false f more = absurd cc
