@@ -1,11 +1,11 @@
 -- What is known of quiet manifests, at each point of a collection, of a folder that may tell its files.
-use Rattle.std.proofs.Common.{◌≡◌, ℕ, ◌<◌, Bool, true, false, true≢false, List, [], ◌∷◌, ◌++◌, length, get_or, All, Option, Some, None, IfSome, Ok, Vec, refl, ap, sym, ◌∙◌, subst, arith}
+use Rattle.std.proofs.Common.{◌≡◌, ℕ, ◌<◌, Bool, true, true≢false, List, [], ◌∷◌, ◌++◌, length, get_or, All, Option, Some, None, IfSome, Ok, Vec, refl, ap, sym, ◌∙◌, subst}
 use Rattle.std.specs.declared.alloc.Global.{Global}
 use Rattle.mpy_io.specs.Files.{FileOf}
 use Rattle.manifest_lines.specs.declared.entry.Entry.{Entry}
 use Rattle.manifest_lines.specs.declared.manifest.Line.{Line}
 use Rattle.manifest_files.specs.Answers.{Follows, LinesOf, Tells}
-use Rattle.manifest_files.specs.Entries.{Said, Saying, Itself, Another, line_saying, Says, entries_after}
+use Rattle.manifest_files.specs.Entries.{Saying, Itself, Another, line_saying, Says}
 use Rattle.manifest_files.specs.Quiet.{IsQuiet, AllInclude, LeadsOn, AreQuiet}
 use Rattle.manifest_files.proofs.Quiet.{lead_on, quiet_says, quiet_now}
 
