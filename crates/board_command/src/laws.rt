@@ -5,7 +5,7 @@ ghost use Rattle.mpy_io.specs.Files.{FileOf};
 ghost use Rattle.image_open.specs.bc_library.Shelf.{Shelf};
 ghost use Rattle.board_plan.specs.declared.plan.Plan.{Plan};
 ghost use Rattle.meant_files.specs.Programs.{HoldsImageOf, IsLibraryOf, IsProgramOf, Sources};
-ghost use Rattle.command_files.specs.mpy_endings.declared.ending.Ending.TheVariants.{Done};
+ghost use Rattle.mpy_endings.specs.declared.ending.Ending.TheVariants.{Done};
 ghost use Rattle.board_command.specs.Boards.{Boards};
 ghost use Rattle.board_command.specs.Meant.{MeansTasks};
 ghost use Rattle.board_command.specs.Plans.{HoldsPlan};

@@ -4,9 +4,9 @@ ghost use Rattle.std.specs.Prelude.{◌≡◌, []};
 ghost use Rattle.mpy_base.specs.declared.limits.TheConstants.{MAX_TASKS};
 ghost use Rattle.mpy_io.specs.Count.{Counts};
 ghost use Rattle.image_open.specs.image_grammar.Base.{IsOpened};
-ghost use Rattle.board_meaning.specs.board_files.Files.{KeepsOthers};
-ghost use Rattle.command_files.specs.mpy_endings.declared.ending.Ending.TheVariants.{Done};
-ghost use Rattle.command_files.specs.mpy_endings.Ending.{is_folder_fault, is_out_fault};
+ghost use Rattle.board_files.specs.Files.{KeepsOthers};
+ghost use Rattle.mpy_endings.specs.declared.ending.Ending.TheVariants.{Done};
+ghost use Rattle.mpy_endings.specs.Ending.{is_folder_fault, is_out_fault};
 ghost use Rattle.board_command.specs.Boards.{Boards};
 ghost use Rattle.board_command.specs.Ends as spec;
 

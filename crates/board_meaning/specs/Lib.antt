@@ -1,5 +1,1 @@
-pub use Rattle.board_files.specs as board_files
-pub use Rattle.board_files.specs.board_tasks
-pub use Rattle.board_files.specs.vm_states
-pub use Rattle.meant_runs.specs.vm_starting
 pub mod Meant

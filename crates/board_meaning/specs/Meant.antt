@@ -6,7 +6,7 @@ use Rattle.py_meaning.specs.Program.{Program}
 use Rattle.meant_runs.specs.Runs.{MeansRun}
 use Rattle.board_plan.specs.declared.plan.Plan.{Plan}
 use Rattle.board_plan.specs.declared.plan.Task.{Task}
-use Rattle.board_files.specs.board_tasks.Schedules.{total}
+use Rattle.board_tasks.specs.Schedules.{total}
 use Rattle.board_files.specs.Files.{out_name}
 use Rattle.board_files.specs.Summaries.{SaysRun}
 

@@ -2,10 +2,10 @@
 
 ghost use Rattle.std.specs.Prelude.{◌≡◌, ℕ, List, Option, Some, slice_get};
 ghost use Rattle.mpy_io.specs.Files.{FileOf};
-ghost use Rattle.board_files.specs.bc_library.Shelf.{Shelf};
+ghost use Rattle.vm_starting.specs.bc_library.Shelf.{Shelf};
 ghost use Rattle.py_meaning.specs.Program.{Program};
-ghost use Rattle.board_files.specs.vm_states.Means as machine;
-ghost use Rattle.meant_runs.specs.vm_starting.Programs.{IsProgramOf};
+ghost use Rattle.vm_starting.specs.vm_states.Means as machine;
+ghost use Rattle.vm_starting.specs.Programs.{IsProgramOf};
 ghost use Rattle.meant_runs.specs.Units.{AreUnits};
 ghost use Rattle.board_plan.specs.declared.plan.Plan.{Plan};
 ghost use Rattle.board_plan.specs.declared.plan.Task.{Task};

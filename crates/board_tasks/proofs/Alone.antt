@@ -11,10 +11,10 @@ use Rattle.vm_frames.specs.bc_machine.Machine.{run_of, steps}
 use Rattle.vm_frames.specs.bc_machine.Growth.{world_of}
 use Rattle.vm_frames.specs.bc_machine.Behind.{behind, state_behind}
 use Rattle.vm_frames.specs.Calls.{Call}
-use Rattle.vm_machine.specs.frame_exits.declared.ends.End.{End}
-use Rattle.vm_machine.specs.frame_moves.Shown.{running_of}
-use Rattle.vm_machine.specs.vm_states.Means.{Program}
-use Rattle.vm_machine.specs.vm_starting.declared.opening.Vm.{Vm}
+use Rattle.state_calls.specs.frame_exits.declared.ends.End.{End}
+use Rattle.state_calls.specs.frame_moves.Shown.{running_of}
+use Rattle.vm_starting.specs.vm_states.Means.{Program}
+use Rattle.vm_starting.specs.declared.opening.Vm.{Vm}
 use Rattle.vm_machine.specs.Machine.{paid_state, world_in, machine_of}
 use Rattle.board_tasks.specs.Alone.{alone}
 

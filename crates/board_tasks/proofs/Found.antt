@@ -5,8 +5,8 @@ use Rattle.std.specs.List.{list_any}
 use Rattle.std.specs.Str.{bytes_eq}
 use Rattle.std.proofs.lemmas.Slice.Eq.{bytes_eq-Decides}
 use Rattle.std.proofs.lemmas.List.Quantifiers.{position-Some}
-use Rattle.vm_machine.specs.bc_library.declared.fault.Member.{Member}
-use Rattle.vm_machine.specs.bc_library.Shelf.{Shelf, Named, names, member_by, member_of}
+use Rattle.bc_library.specs.declared.fault.Member.{Member}
+use Rattle.bc_library.specs.Shelf.{Shelf, Named, names, member_by, member_of}
 use Rattle.board_plan.specs.declared.plan.Task.{Task}
 use Rattle.board_tasks.specs.Opened.{number_by, number_of, missing_by, first_missing}
 

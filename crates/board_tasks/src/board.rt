@@ -4,9 +4,9 @@ ghost use Rattle.std.specs.Prelude.{◌≡◌, ℕ, ◌<◌, ◌≤◌, List, If
 ghost use Rattle.mpy_base.specs.declared.limits.TheConstants.{MAX_TASKS};
 ghost use Rattle.mpy_base.specs.declared.refused.Refused.TheVariants as refused;
 ghost use Rattle.mpy_io.specs.Count.{Counts};
-ghost use Rattle.vm_machine.specs.bc_library.Shelf.{Shelf};
-ghost use Rattle.vm_machine.specs.vm_starting.Kept.{AreFetched};
-ghost use Rattle.vm_machine.specs.vm_starting.Programs.{IsRunnable};
+ghost use Rattle.bc_library.specs.Shelf.{Shelf};
+ghost use Rattle.vm_starting.specs.Kept.{AreFetched};
+ghost use Rattle.vm_starting.specs.Programs.{IsRunnable};
 ghost use Rattle.board_tasks.specs.declared.turning.TaskRun.{TaskRun};
 ghost use Rattle.board_tasks.specs.Opened.{AreOpened, first_missing};
 ghost use Rattle.board_tasks.specs.Ends.{HasEnd, IsRoomOf, is_write_fault};

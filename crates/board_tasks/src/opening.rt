@@ -2,7 +2,7 @@
 
 ghost use Rattle.std.specs.Prelude.{◌≡◌, IfOk, IsSome, None, option_map};
 ghost use Rattle.board_tasks.specs.Opened.{AreOpened, IsOpened, first_missing, number_of};
-ghost use Rattle.vm_machine.specs.vm_starting.Programs.{IsRunnable};
+ghost use Rattle.vm_starting.specs.Programs.{IsRunnable};
 
 use crate::turning::TaskRun;
 use board_plan::Task;

@@ -2,8 +2,8 @@
 
 ghost use Rattle.std.specs.Prelude.{◌≡◌, ◌+◌, ◌<◌, ◌≤◌, ◌^◌, MatchBool};
 ghost use Rattle.mpy_io.specs.Count.{Counts};
-ghost use Rattle.vm_machine.specs.bc_library.Shelf.{Shelf};
-ghost use Rattle.vm_machine.specs.vm_starting.Kept.{AreFetched};
+ghost use Rattle.bc_library.specs.Shelf.{Shelf};
+ghost use Rattle.vm_starting.specs.Kept.{AreFetched};
 ghost use Rattle.vm_machine.specs.Machine.{IsVm};
 ghost use Rattle.board_tasks.specs.Ends.{GoesOn, HasEnd, IsOver, is_write_fault};
 ghost use Rattle.board_tasks.specs.Turns.{TurnsSo};

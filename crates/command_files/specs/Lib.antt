@@ -1,7 +1,3 @@
-pub use Rattle.image_runs.specs as image_runs
-pub use Rattle.mpy_endings.specs as mpy_endings
-pub use Rattle.source_files.specs as source_files
-pub use Rattle.source_files.specs.mpy_compile
 pub mod Folder
 pub mod Opened
 pub mod Images

@@ -18,11 +18,11 @@ use Rattle.trans_check.specs.trans_parts.declared.part.What.{What}
 use Rattle.trans_check.specs.declared.comparing.Compared.{Compared}
 use Rattle.trans_check.specs.declared.comparing.Compared.TheVariants.{Same, Differs}
 use Rattle.trans_check.specs.Says.{Says}
-use Rattle.command_files.specs.mpy_compile.Compiled.{IsFileOf, IsCompiled, IsFault, Refuses}
-use Rattle.command_files.specs.mpy_compile.Checked.{Compares}
-use Rattle.command_files.specs.mpy_endings.declared.ending.Ended.{Ended}
-use Rattle.command_files.specs.mpy_endings.declared.ending.Ending.{Ending}
-use Rattle.command_files.specs.mpy_endings.declared.ending.Ending.TheVariants.{Done, Unaccepted, Unread, Unverified, Unmerged, Unopened, Unfrozen, Unboarded, Different, Stopped, ReadFault, WriteFault, Unwritten, NoMemory, Absent}
+use Rattle.mpy_compile.specs.Compiled.{IsFileOf, IsCompiled, IsFault, Refuses}
+use Rattle.mpy_compile.specs.Checked.{Compares}
+use Rattle.mpy_endings.specs.declared.ending.Ended.{Ended}
+use Rattle.mpy_endings.specs.declared.ending.Ending.{Ending}
+use Rattle.mpy_endings.specs.declared.ending.Ending.TheVariants.{Done, Unaccepted, Unread, Unverified, Unmerged, Unopened, Unfrozen, Unboarded, Different, Stopped, ReadFault, WriteFault, Unwritten, NoMemory, Absent}
 use Rattle.command_files.specs.Folder.{MayHold, IsNotRead}
 use Rattle.command_files.specs.Source.{HoldsFaulty}
 use Rattle.command_files.proofs.Long.{not_read, long_faulty}

@@ -2,9 +2,9 @@
 
 ghost use Rattle.std.specs.Prelude.{◌≡◌};
 ghost use Rattle.mpy_io.specs.Count.{Counts};
-ghost use Rattle.command_files.specs.mpy_endings.Ending.{is_folder_fault, is_out_fault};
+ghost use Rattle.mpy_endings.specs.Ending.{is_folder_fault, is_out_fault};
 ghost use Rattle.file_commands.specs.Check.{Judges, Checks, verified_line};
-ghost use Rattle.command_files.specs.mpy_endings.Line.{Puts};
+ghost use Rattle.mpy_endings.specs.Line.{Puts};
 
 use command_files::mpy_endings::{Ending, put_three};
 use command_files::{read_file, verified};

@@ -5,8 +5,8 @@ ghost use Rattle.mpy_io.specs.Count.{Counts};
 ghost use Rattle.mpy_io.specs.Files.{FileOf};
 ghost use Rattle.mpy_writer.specs.mpy_tree.File.{IsFile};
 ghost use Rattle.command_files.specs.Folder.{MayHold};
-ghost use Rattle.command_files.specs.mpy_endings.Ending.{is_folder_fault, is_out_fault};
-ghost use Rattle.command_files.specs.mpy_endings.Line.{Puts};
+ghost use Rattle.mpy_endings.specs.Ending.{is_folder_fault, is_out_fault};
+ghost use Rattle.mpy_endings.specs.Line.{Puts};
 ghost use Rattle.file_commands.specs.CheckAs.{HoldsTranslation, ChecksAs, translation_line};
 ghost use Rattle.file_commands.specs.Texts.{HoldsText};
 

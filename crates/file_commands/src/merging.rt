@@ -5,7 +5,7 @@ ghost use Rattle.mpy_io.specs.Count.{Counts};
 ghost use Rattle.mpy_merge.specs.AsMerge.{ReadsAsMerge};
 ghost use Rattle.mpy_merge.specs.Faults.{FirstFault};
 ghost use Rattle.mpy_merge.specs.Merged.{IsMerged};
-ghost use Rattle.command_files.specs.mpy_endings.Ending.{is_folder_fault, is_out_fault};
+ghost use Rattle.mpy_endings.specs.Ending.{is_folder_fault, is_out_fault};
 ghost use Rattle.file_commands.specs.Merge.{HoldModules, IsFirstRefused, Merges};
 
 use bc_verify::Verified;

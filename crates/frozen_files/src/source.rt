@@ -3,7 +3,7 @@
 ghost use Rattle.std.specs.Prelude.{◌≡◌, IfOk, IfErr, IsUtf8};
 ghost use Rattle.mpy_io.specs.Count.{Counts};
 ghost use Rattle.image_open.specs.mpy_tree.Raw.{Module};
-ghost use Rattle.source_files.specs.library_files.Comes.{IsVerifiedFile};
+ghost use Rattle.library_files.specs.Comes.{IsVerifiedFile};
 ghost use Rattle.manifest_files.specs.Plain.{IsPlain};
 ghost use Rattle.manifest_files.specs.FrozenFaults.{FaultIs, failed_by, is_read_fault};
 ghost use Rattle.frozen_files.specs.Given.{GivesModule};

@@ -2,9 +2,9 @@
 
 ghost use Rattle.std.specs.Prelude.{◌≡◌, [], false};
 ghost use Rattle.mpy_io.specs.Count.{Counts};
-ghost use Rattle.command_files.specs.mpy_endings.Ending.{is_folder_fault, is_out_fault};
+ghost use Rattle.mpy_endings.specs.Ending.{is_folder_fault, is_out_fault};
 ghost use Rattle.image_grammar.specs.Base.{base_of};
-ghost use Rattle.frozen_files.specs.image_freeze.Fronts.{MayLieOver};
+ghost use Rattle.image_freeze.specs.Fronts.{MayLieOver};
 ghost use Rattle.image_commands.specs.Freeze.{Freezes};
 
 use command_files::mpy_endings::Ending;

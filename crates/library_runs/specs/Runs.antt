@@ -9,7 +9,7 @@ use Rattle.mpy_io.specs.Ports.{PortView}
 use Rattle.mpy_io.specs.Told.{AppendsFront}
 use Rattle.port_set.specs.Calls.{Tell}
 use Rattle.port_set.specs.Counts.{RoseBeyond}
-use Rattle.vm_machine.specs.bc_library.Shelf.{Shelf}
+use Rattle.bc_library.specs.Shelf.{Shelf}
 use Rattle.vm_frames.specs.py_effects.Ends as plain
 use Rattle.vm_frames.specs.py_effects.Ends.{End, Run, end_report, new_world}
 use Rattle.vm_frames.specs.py_effects.Growth.{Starts}
@@ -18,9 +18,9 @@ use Rattle.vm_frames.specs.bc_machine.Library.{Name}
 use Rattle.vm_frames.specs.bc_machine.Machine.{run, start}
 use Rattle.vm_frames.specs.bc_machine.Behind.{behind}
 use Rattle.prim_outputs.specs.Rooms.{room_line}
-use Rattle.vm_machine.specs.vm_states.Means.{Program}
-use Rattle.vm_machine.specs.vm_starting.Programs.{IsProgramOf}
-use Rattle.vm_machine.specs.vm_starting.declared.opening.Vm.{Vm}
+use Rattle.vm_starting.specs.vm_states.Means.{Program}
+use Rattle.vm_starting.specs.Programs.{IsProgramOf}
+use Rattle.vm_starting.specs.declared.opening.Vm.{Vm}
 use Rattle.vm_machine.specs.Machine.{machine_of}
 use Rattle.vm_machine.specs.Running.{Outside, Strays}
 use Rattle.library_runs.specs.declared.ending.RunEnd.{RunEnd}

@@ -3,8 +3,8 @@
 ghost use Rattle.std.specs.Prelude.{◌≡◌, ◌<◌, [], List, ℕ, false, length, map, Some, slice_get};
 ghost use Rattle.mpy_io.specs.Count.{Counts};
 ghost use Rattle.port_set.specs.Counts.{CountsKeep};
-ghost use Rattle.vm_machine.specs.bc_library.Shelf.{Named};
-ghost use Rattle.vm_machine.specs.vm_starting.Programs.{IsRunnable};
+ghost use Rattle.bc_library.specs.Shelf.{Named};
+ghost use Rattle.vm_starting.specs.Programs.{IsRunnable};
 ghost use Rattle.library_runs.specs.declared.ending.RunEnd.{RunEnd as End};
 ghost use Rattle.library_runs.specs.Runs.{RunsAs, Says, IsOver, is_write_fault, sight, speaks};
 

@@ -6,12 +6,12 @@ use Rattle.mpy_io.specs.Files.{FileOf}
 use Rattle.mpy_io.specs.Ports.{PortView}
 use Rattle.bc_library.specs.Shelf.{Shelf}
 use Rattle.py_meaning.specs.Program.{Program}
-use Rattle.meant_files.specs.meant_runs.Units.{AreUnits}
-use Rattle.meant_files.specs.mpy_compile.Compiled.{CompilesTo}
+use Rattle.meant_runs.specs.Units.{AreUnits}
+use Rattle.mpy_compile.specs.Compiled.{CompilesTo}
 use Rattle.bc_library.specs.mpy_tree.File.{IsFile}
 use Rattle.bc_library.specs.mpy_tree.Raw.{Module}
 use Rattle.library_files.specs.Loads.{Loaded, main_name}
-use Rattle.meant_files.specs.source_files.Sources.{stored}
+use Rattle.source_files.specs.Sources.{stored}
 use Rattle.meant_files.specs.Sources.{IsProgramOfSources}
 use Rattle.meant_files.specs.Libraries.{IsOfSources, IsOfFiles}
 use Rattle.mpy_endings.specs.declared.ending.Ending.{Ending}
@@ -23,7 +23,7 @@ use Rattle.run_commands.specs.Go.{SourceLoadsOf}
 use Rattle.run_commands.specs.Ready.{GoLibrary, RunLibrary}
 use Rattle.meant_commands.specs.Meant.{HoldsProgram, RunMeans}
 use Rattle.meant_commands.specs.GoMeant.{MeansSources, GoMeans, HoldsCrossed}
-use Rattle.run_commands.specs.command_files.Outside.{Outside}
+use Rattle.command_files.specs.Outside.{Outside}
 use Rattle.run_commands.specs.Run.{FileLibrary, Runs, EndsRun, sight_in}
 use Rattle.meant_commands.proofs.Meaning.{file_holds}
 

@@ -5,16 +5,16 @@ use Rattle.mpy_io.specs.Files.{FileOf}
 use Rattle.bc_library.specs.declared.fault.Member.TheVariants as members
 use Rattle.bc_library.specs.Shelf.{Shelf, member_of, no_entries}
 use Rattle.py_meaning.specs.Program.{Program}
-use Rattle.meant_files.specs.meant_runs.Units.{AreUnits}
-use Rattle.image_commands.specs.image_grammar.Image.{IsFront, IsImage}
-use Rattle.image_commands.specs.image_grammar.Opening.{Base}
-use Rattle.image_commands.specs.image_grammar.declared.entry.Entry.{Entry}
-use Rattle.meant_files.specs.image_open.Opens.{Opens}
-use Rattle.meant_files.specs.image_freeze.Migrated.{Migrates as MigratesTo}
-use Rattle.meant_files.specs.frozen_files.Frozen.{HoldsFrozen}
+use Rattle.meant_runs.specs.Units.{AreUnits}
+use Rattle.image_grammar.specs.Image.{IsFront, IsImage}
+use Rattle.image_grammar.specs.Opening.{Base}
+use Rattle.image_grammar.specs.declared.entry.Entry.{Entry}
+use Rattle.image_open.specs.Opens.{Opens}
+use Rattle.image_freeze.specs.Migrated.{Migrates as MigratesTo}
+use Rattle.frozen_files.specs.Frozen.{HoldsFrozen}
 use Rattle.meant_files.specs.Programs.{HoldsImageOf, IsImageOfSources, IsLibraryOf, IsProgramOf, Sources}
 use Rattle.mpy_endings.specs.declared.ending.Ending.TheVariants.{Done}
-use Rattle.run_commands.specs.command_files.Images.{HoldsImage}
+use Rattle.command_files.specs.Images.{HoldsImage}
 use Rattle.image_runs.specs.Main.{HoldsMain}
 use Rattle.run_commands.specs.declared.ready.Ready.{Ready}
 use Rattle.image_commands.specs.Freeze.{Freezes}

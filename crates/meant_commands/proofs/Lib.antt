@@ -1,7 +1,3 @@
-pub use Rattle.file_commands.proofs as file_commands_lemmas
-pub use Rattle.image_commands.proofs as image_commands_lemmas
-pub use Rattle.mpy_endings.proofs as mpy_endings_lemmas
-pub use Rattle.run_commands.proofs as run_commands_lemmas
 pub mod GoMeaning
 pub mod ImageMeaning
 pub mod Making

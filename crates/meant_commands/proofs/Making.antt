@@ -4,14 +4,14 @@ use Rattle.mpy_io.specs.Files.{FileOf}
 use Rattle.bc_library.specs.mpy_tree.File.{IsFile}
 use Rattle.bc_library.specs.mpy_tree.Raw.{Module}
 use Rattle.py_meaning.specs.Program.{Source, Unit, Units, Part, Parts}
-use Rattle.meant_files.specs.mpy_compile.Compiled.{CompilesTo}
-use Rattle.meant_files.specs.mpy_compile.Checked.{IsTranslation}
+use Rattle.mpy_compile.specs.Compiled.{CompilesTo}
+use Rattle.mpy_compile.specs.Checked.{IsTranslation}
 use Rattle.meant_files.specs.Readings.{IsReading}
 use Rattle.meant_files.specs.Built.{crossed, checked, merged, AreBuilt, last, next}
 use Rattle.mpy_endings.specs.declared.ending.Ending.TheVariants.{Done}
 use Rattle.file_commands.specs.CheckAs.{ChecksAs}
 use Rattle.file_commands.specs.Cross.{Crosses}
-use Rattle.run_commands.specs.command_files.Opened.{HoldsModule}
+use Rattle.command_files.specs.Opened.{HoldsModule}
 use Rattle.file_commands.specs.Merge.{HoldModules, Merges}
 use Rattle.meant_commands.specs.Made.{HoldsMade, HoldMade, MakesOfSource, MakesOfUnits}
 

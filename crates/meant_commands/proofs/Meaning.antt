@@ -13,12 +13,12 @@ use Rattle.py_values.specs.Shown.{PlainHeap}
 use Rattle.py_effects.specs.Ends.{End, Open, Ended, Raised, Memory, end_report}
 use Rattle.py_meaning.specs.Program.{Unit, Program}
 use Rattle.prim_outputs.specs.Rooms.{room_line}
-use Rattle.meant_files.specs.meant_runs.Units.{AreUnits}
+use Rattle.meant_runs.specs.Units.{AreUnits}
 use Rattle.library_files.specs.Loads.{Loaded, LoadsFrom, main_name}
 use Rattle.library_runs.specs.declared.ending.RunEnd.{RunEnd}
 use Rattle.library_runs.specs.declared.ending.RunEnd.TheVariants as ends
 use Rattle.library_runs.specs.Runs.{Sight, RunsAs, end_of, said_of}
-use Rattle.meant_files.specs.meant_runs.Meant.{RanAsMeant, CutShortAsMeant, EndsAsMeant}
+use Rattle.meant_runs.specs.Meant.{RanAsMeant, CutShortAsMeant, EndsAsMeant}
 use Rattle.meant_files.specs.Built.{IsBuilt, IsBuiltProgram}
 use Rattle.mpy_endings.specs.declared.ending.Ending.{Ending}
 use Rattle.mpy_endings.specs.declared.ending.Ending.TheVariants.{Done, Unaccepted, Unread, Unverified, Unmerged, Unopened, Unfrozen, Unboarded, Different, Stopped, ReadFault, WriteFault, Unwritten, NoMemory, Absent}
@@ -27,7 +27,7 @@ use Rattle.mpy_endings.specs.declared.ending.Stop.TheVariants as stops
 use Rattle.run_commands.specs.Base.{base_of}
 use Rattle.mpy_endings.specs.Ending.{IsRunStatus, status_of}
 use Rattle.mpy_endings.specs.Line.{Says, line_of}
-use Rattle.run_commands.specs.command_files.Outside.{Outside}
+use Rattle.command_files.specs.Outside.{Outside}
 use Rattle.run_commands.specs.Ready.{RunLibrary, not_read, of_file, of_image, begins_image}
 use Rattle.run_commands.specs.Run.{FileLibrary, RanLibrary, Runs, EndsRun, ending_of, sight_in}
 use Rattle.meant_commands.specs.Meant.{HoldsBuilt, HoldsProgram, DoesAsMeant, Libraries, RunMeans, end_status, end_text}

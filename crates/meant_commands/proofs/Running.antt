@@ -5,9 +5,9 @@ use Rattle.mpy_base.specs.declared.room.Room.{Room}
 use Rattle.mpy_base.specs.World.{PortState}
 use Rattle.port_set.specs.Counts.{AreAccounted}
 use Rattle.bc_library.specs.Shelf.{Shelf}
-use Rattle.library_runs.specs.bc_machine.Library.{Name}
-use Rattle.library_runs.specs.vm_states.Means.{Program}
-use Rattle.library_runs.specs.vm_starting.Programs.{IsProgramOf}
+use Rattle.vm_frames.specs.bc_machine.Library.{Name}
+use Rattle.vm_starting.specs.vm_states.Means.{Program}
+use Rattle.vm_starting.specs.Programs.{IsProgramOf}
 use Rattle.library_runs.specs.declared.ending.RunEnd.{RunEnd}
 use Rattle.library_runs.specs.declared.ending.RunEnd.TheVariants as ends
 use Rattle.library_runs.specs.Runs.{Sight, IsOver, Ran, EndsSo, RunsAs, RunsSo}

@@ -6,7 +6,7 @@ use Rattle.mpy_io.specs.Ports.{PortView}
 use Rattle.port_set.specs.Calls.{Tell}
 use Rattle.port_set.specs.Counts.{AreAccounted}
 use Rattle.bc_library.specs.Shelf.{Shelf}
-use Rattle.library_runs.specs.bc_machine.Library.{Name}
+use Rattle.vm_frames.specs.bc_machine.Library.{Name}
 use Rattle.library_runs.specs.declared.ending.RunEnd.{RunEnd}
 use Rattle.library_runs.specs.Runs.{Sight, IsOver, RunsAs}
 

@@ -7,14 +7,14 @@ use Rattle.mpy_io.specs.Ports.{PortView}
 use Rattle.port_set.specs.Calls.{Tell}
 use Rattle.port_set.specs.Counts.{AreAccounted}
 use Rattle.py_meaning.specs.Program.{Program}
-use Rattle.meant_files.specs.mpy_compile.Compiled.{CompilesTo}
-use Rattle.meant_files.specs.source_files.Sources.{stored}
+use Rattle.mpy_compile.specs.Compiled.{CompilesTo}
+use Rattle.source_files.specs.Sources.{stored}
 use Rattle.meant_files.specs.Sources.{IsProgramOfSources}
 use Rattle.meant_files.specs.Libraries.{AreCrossed}
 use Rattle.run_commands.specs.Base.{base_of}
 use Rattle.mpy_endings.specs.Ending.{IsRunStatus}
 use Rattle.meant_commands.specs.Meant.{DoesAsMeant}
-use Rattle.run_commands.specs.command_files.Outside.{Outside}
+use Rattle.command_files.specs.Outside.{Outside}
 
 -- Where a library was run, the source of this name and those that it asks for in its folder have a program at the level. The run does as
 -- this program means, of which there is one, in this room and for these steps, where the sink of the output and the ports tell what they

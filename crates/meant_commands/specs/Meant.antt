@@ -14,8 +14,8 @@ use Rattle.py_effects.specs.Ends.{End, Open, Ended, Raised, Memory, Run, end_rep
 use Rattle.py_meaning.specs.Program.{Program}
 use Rattle.py_meaning.specs.Meaning.{meaning}
 use Rattle.prim_outputs.specs.Rooms.{room_line}
-use Rattle.meant_files.specs.meant_runs.Units.{AreUnits}
-use Rattle.meant_files.specs.meant_runs.Runs.{MeansRun}
+use Rattle.meant_runs.specs.Units.{AreUnits}
+use Rattle.meant_runs.specs.Runs.{MeansRun}
 use Rattle.library_files.specs.Loads.{Loaded}
 use Rattle.meant_files.specs.Built.{IsBuilt, IsBuiltProgram}
 use Rattle.mpy_endings.specs.declared.ending.Ending.{Ending}
@@ -23,7 +23,7 @@ use Rattle.run_commands.specs.declared.ready.Ready.{Ready}
 use Rattle.run_commands.specs.Base.{base_of}
 use Rattle.mpy_endings.specs.Ending.{IsRunStatus}
 use Rattle.mpy_endings.specs.Line.{Says}
-use Rattle.run_commands.specs.command_files.Outside.{Outside}
+use Rattle.command_files.specs.Outside.{Outside}
 use Rattle.run_commands.specs.Run.{LoadsOf}
 
 -- what the files of a folder come to as a library with a main module, of the file under a name: these, or why it isn't loaded

@@ -5,11 +5,11 @@ ghost use Rattle.mpy_base.specs.declared.room.Room.{Room};
 ghost use Rattle.mpy_io.specs.Files.{FileOf};
 ghost use Rattle.bc_library.specs.mpy_tree.Raw.{Module};
 ghost use Rattle.bc_library.specs.Shelf.{Shelf};
-ghost use Rattle.library_runs.specs.bc_machine.Library.{Name};
+ghost use Rattle.vm_frames.specs.bc_machine.Library.{Name};
 ghost use Rattle.library_files.specs.Loads.{Loading};
 ghost use Rattle.library_runs.specs.declared.ending.RunEnd.{RunEnd};
 ghost use Rattle.library_runs.specs.Runs.{Sight};
-ghost use Rattle.meant_files.specs.source_files.Sources.{IsModuleOf, LoadsFromSources};
+ghost use Rattle.source_files.specs.Sources.{IsModuleOf, LoadsFromSources};
 ghost use Rattle.meant_commands.specs.Alike.{Tells, IsWholeRun, AreAlike};
 
 use library_files::imports_law;

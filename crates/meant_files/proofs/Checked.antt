@@ -10,9 +10,9 @@ use Rattle.bc_scheme.specs.py_meaning.Program.{Source, Single}
 use Rattle.bc_scheme.specs.py_meaning.Meaning.{source_of}
 use Rattle.bc_scheme.specs.Link.{translated}
 use Rattle.bc_scheme.specs.Translation.{Translates}
-use Rattle.meant_runs.specs.trans_parts.Comparing.{FitsTree}
+use Rattle.trans_laws.specs.trans_parts.Comparing.{FitsTree}
 use Rattle.tr_source.specs.Accepted.{IsAccepted}
-use Rattle.frozen_files.specs.mpy_compile.Checked.{IsTranslation}
+use Rattle.mpy_compile.specs.Checked.{IsTranslation}
 use Rattle.meant_runs.specs.Units.{IsUnitFile}
 use Rattle.meant_files.specs.Readings.{IsReading}
 use Rattle.meant_files.proofs.Crossed as crossed

@@ -15,10 +15,10 @@ use Rattle.bc_scheme.specs.py_meaning.Meaning.{source_of}
 use Rattle.bc_scheme.specs.Link.{translated}
 use Rattle.bc_scheme.specs.Translation.{Translates}
 use Rattle.tr_source.specs.Accepted.{IsAccepted}
-use Rattle.frozen_files.specs.emit_module.First.{AreWithin}
-use Rattle.frozen_files.specs.emit_module.Module.{IsResolved}
-use Rattle.frozen_files.specs.mpy_compile.Compiled.{CompilesTo}
-use Rattle.meant_runs.proofs.trans_laws_lemmas.Itself.{fits_itself}
+use Rattle.mpy_compile.specs.emit_module.First.{AreWithin}
+use Rattle.mpy_compile.specs.emit_module.Module.{IsResolved}
+use Rattle.mpy_compile.specs.Compiled.{CompilesTo}
+use Rattle.trans_laws.proofs.Itself.{fits_itself}
 use Rattle.meant_runs.specs.Units.{IsUnitFile}
 use Rattle.meant_files.specs.Readings.{IsReading}
 

@@ -6,7 +6,7 @@ use Rattle.mpy_io.specs.Files.{FileOf}
 use Rattle.bc_scheme.specs.py_meaning.Tree.{Name, Import, From, If, Def, NoExpr, Block, End, Next, Case, Else, Constant}
 use Rattle.mpy_base.specs.Val.{Nil}
 use Rattle.bc_scheme.specs.py_meaning.Program.{Source, Single, Entry, Runs}
-use Rattle.frozen_files.specs.source_files.Sources.{stored}
+use Rattle.source_files.specs.Sources.{stored}
 use Rattle.meant_files.specs.Readings.{IsReading}
 use Rattle.meant_files.specs.Imported.{source_imports}
 use Rattle.meant_files.specs.Sources.{LoadsSources, ends, next, known, taken}

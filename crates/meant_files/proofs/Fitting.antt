@@ -2,8 +2,8 @@
 use Rattle.std.proofs.Common.{◌≡◌, ℕ, List, ◌++◌, refl, ap, ap₂}
 use Rattle.std.specs.List.{filter_map}
 use Rattle.bc_scheme.specs.mpy_tree.Resolved.{Resolved, Tree, node, Trees, no_more, more}
-use Rattle.frozen_files.specs.library_files.Imports.{import_of, imports_of, imports_of_all}
-use Rattle.meant_runs.specs.trans_parts.Comparing.{FitsTree, FitTrees}
+use Rattle.library_files.specs.Imports.{import_of, imports_of, imports_of_all}
+use Rattle.trans_laws.specs.trans_parts.Comparing.{FitsTree, FitTrees}
 
 abbrev joined : List (List ℕ) → List (List ℕ) → List (List ℕ)
 joined own others = own ++ others

@@ -12,13 +12,13 @@ use Rattle.bc_verify.specs.Verified.{IsVerified}
 use Rattle.image_open.specs.bc_library.Shelf.{Shelf}
 use Rattle.bc_scheme.specs.py_meaning.Tree.{Name}
 use Rattle.bc_scheme.specs.py_meaning.Program.{Source, Single, Program}
-use Rattle.frozen_files.specs.mpy_compile.Compiled.{CompilesTo}
-use Rattle.frozen_files.specs.library_files.declared.entry.Entry as loading
-use Rattle.frozen_files.specs.library_files.declared.entry.Entry.TheVariants as entries
-use Rattle.frozen_files.specs.library_files.Asked.{asked_for}
-use Rattle.frozen_files.specs.library_files.Comes.{FileComesTo, ModuleFiles, ComesTo, ending}
-use Rattle.frozen_files.specs.source_files.Sources.{stored, IsModuleOf, SourceComesTo}
-use Rattle.frozen_files.specs.source_files.Sources as compiled
+use Rattle.mpy_compile.specs.Compiled.{CompilesTo}
+use Rattle.library_files.specs.declared.entry.Entry as loading
+use Rattle.library_files.specs.declared.entry.Entry.TheVariants as entries
+use Rattle.library_files.specs.Asked.{asked_for}
+use Rattle.library_files.specs.Comes.{FileComesTo, ModuleFiles, ComesTo, ending}
+use Rattle.source_files.specs.Sources.{stored, IsModuleOf, SourceComesTo}
+use Rattle.source_files.specs.Sources as compiled
 use Rattle.meant_files.specs.Readings.{IsReading}
 use Rattle.meant_runs.specs.Units.{IsUnitFile, AreUnits}
 use Rattle.meant_files.specs.Imported.{source_imports}

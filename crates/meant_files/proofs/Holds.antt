@@ -11,10 +11,10 @@ use Rattle.image_open.specs.bc_library.declared.fault.Member.{Member}
 use Rattle.image_open.specs.bc_library.declared.fault.Member.TheVariants as members
 use Rattle.image_open.specs.bc_library.Shelf.{Shelf, no_entries, member_of, module_at}
 use Rattle.bc_scheme.specs.py_meaning.Program.{Unit, Entry, Runs, Refused, Program, entry_in}
-use Rattle.frozen_files.specs.library_files.declared.entry.Entry.TheVariants as entries
-use Rattle.frozen_files.specs.library_files.declared.limit.Limit.{Limit}
-use Rattle.frozen_files.specs.library_files.Comes.{ComesTo, FileComesTo, ModuleFiles, ending}
-use Rattle.frozen_files.specs.library_files.Loads.{Loaded, LoadsBy, LoadsFrom, limit_of, main_name}
+use Rattle.library_files.specs.declared.entry.Entry.TheVariants as entries
+use Rattle.library_files.specs.declared.limit.Limit.{Limit}
+use Rattle.library_files.specs.Comes.{ComesTo, FileComesTo, ModuleFiles, ending}
+use Rattle.library_files.specs.Loads.{Loaded, LoadsBy, LoadsFrom, limit_of, main_name}
 use Rattle.meant_runs.specs.Units.{IsUnitFile, HasUnit, HasEntry, AreUnits}
 use Rattle.meant_files.specs.Built.{IsBuilt, IsBuiltEntry, IsBuiltProgram}
 use Rattle.meant_files.proofs.Came.{Came, CameAs, came}

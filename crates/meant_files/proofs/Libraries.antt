@@ -10,10 +10,10 @@ use Rattle.meant_runs.specs.Units.{AreUnits}
 use Rattle.manifest_files.specs.image_grammar.declared.entry.Entry as images
 use Rattle.manifest_files.specs.image_grammar.Image.{Differ}
 use Rattle.manifest_files.specs.image_grammar.Opening.{names_of}
-use Rattle.frozen_files.specs.image_freeze.Migrated.{Migrates}
+use Rattle.image_freeze.specs.Migrated.{Migrates}
 use Rattle.image_open.specs.Opens.{named, IsOpenedOf, Opens, with_entries}
 use Rattle.image_open.proofs.Behind.{differ_join}
-use Rattle.frozen_files.specs.image_freeze.Frozen.{entries_of}
+use Rattle.image_freeze.specs.Frozen.{entries_of}
 use Rattle.meant_files.specs.Programs.{AreRead, IsImageOfSources, IsLibraryOf, IsProgramOf, Sources}
 use Rattle.meant_files.proofs.Places.{Matched, has_in, has_unit}
 use Rattle.meant_files.proofs.Matched.{Below, matched, matched_join, modules_of, names_same, read_as, sourced, units_of}

@@ -10,21 +10,21 @@ use Rattle.bc_scheme.specs.py_meaning.Tree.{Name}
 use Rattle.bc_scheme.specs.py_meaning.Program.{Source, Single, Entry, Runs, entry_in, Program}
 use Rattle.bc_scheme.specs.Link.{IsModuleOf, translated}
 use Rattle.bc_scheme.specs.Translation.{Translates}
-use Rattle.frozen_files.specs.library_files.declared.entry.Entry as loading
-use Rattle.frozen_files.specs.library_files.declared.entry.Entry.TheVariants as entries
-use Rattle.frozen_files.specs.library_files.declared.limit.Limit.{Limit}
-use Rattle.frozen_files.specs.library_files.Imports.{Imports, imports_of}
-use Rattle.frozen_files.specs.library_files.Asked.{asked_for}
-use Rattle.frozen_files.specs.library_files.Comes.{OfNames}
-use Rattle.frozen_files.specs.library_files.Loads.{Loading, Loaded, Past, Unaccepted, Loads, main_name, limit_of, LoadsBy, LoadsWith}
-use Rattle.frozen_files.specs.library_files.Loads as files
+use Rattle.library_files.specs.declared.entry.Entry as loading
+use Rattle.library_files.specs.declared.entry.Entry.TheVariants as entries
+use Rattle.library_files.specs.declared.limit.Limit.{Limit}
+use Rattle.library_files.specs.Imports.{Imports, imports_of}
+use Rattle.library_files.specs.Asked.{asked_for}
+use Rattle.library_files.specs.Comes.{OfNames}
+use Rattle.library_files.specs.Loads.{Loading, Loaded, Past, Unaccepted, Loads, main_name, limit_of, LoadsBy, LoadsWith}
+use Rattle.library_files.specs.Loads as files
 use Rattle.meant_files.specs.Readings.{IsReading}
 use Rattle.meant_runs.specs.Units.{IsUnitFile, HasEntry, AreUnits}
 use Rattle.meant_files.specs.Imported.{source_imports}
-use Rattle.frozen_files.specs.source_files.Sources.{stored}
+use Rattle.source_files.specs.Sources.{stored}
 use Rattle.meant_files.specs.Sources.{HoldsSource, imports_with, with_source, LoadsSources, IsProgramOfSources}
 use Rattle.meant_files.specs.Sources as sources
-use Rattle.meant_runs.specs.trans_parts.Comparing.{FitsTree}
+use Rattle.trans_laws.specs.trans_parts.Comparing.{FitsTree}
 use Rattle.meant_files.proofs.Fitting.{same_imports}
 use Rattle.meant_files.proofs.SourcesHold.{Agree, grown, fresh, there, none_yet, entry_stays}
 

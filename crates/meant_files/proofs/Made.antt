@@ -9,8 +9,8 @@ use Rattle.bc_resolved.specs.Known.{HasTexts}
 use Rattle.bc_resolved.specs.Verified.{IsVerifiedTree, AllVerifiedTrees}
 use Rattle.bc_scheme.specs.Merge.{merge_of}
 use Rattle.bc_scheme.specs.py_meaning.Program.{Source, Unit, Single, Merge, Units, Part, Parts}
-use Rattle.frozen_files.specs.mpy_compile.Compiled.{CompilesTo}
-use Rattle.frozen_files.specs.mpy_compile.Checked.{IsTranslation}
+use Rattle.mpy_compile.specs.Compiled.{CompilesTo}
+use Rattle.mpy_compile.specs.Checked.{IsTranslation}
 use Rattle.mpy_merge.specs.AsMerge.{ReadsAsMerge}
 use Rattle.meant_runs.specs.Units.{IsUnitFile, AreUnitFiles}
 use Rattle.meant_files.specs.Readings.{IsReading}

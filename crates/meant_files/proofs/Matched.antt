@@ -9,14 +9,14 @@ use Rattle.image_open.specs.bc_library.Shelf as shelves
 use Rattle.image_open.specs.bc_library.Shelf.{Shelf}
 use Rattle.bc_scheme.specs.py_meaning.Tree.{Name}
 use Rattle.bc_scheme.specs.py_meaning.Program.{Source, Unit, Single, Entry, Runs, Program, entry_in}
-use Rattle.frozen_files.specs.mpy_compile.Compiled.{CompilesTo}
+use Rattle.mpy_compile.specs.Compiled.{CompilesTo}
 use Rattle.meant_files.specs.Readings.{IsReading}
 use Rattle.meant_runs.specs.Units.{IsUnitFile, HasUnit, HasEntry, AreUnits}
 use Rattle.manifest_lines.specs.declared.entry.Entry as manifests
 use Rattle.manifest_files.specs.Entries.{Answer, IsAnswer, AreEntries}
 use Rattle.image_open.specs.Opens.{named, IsOpenedOf, Opens}
-use Rattle.frozen_files.specs.image_freeze.declared.named.Named.{Named}
-use Rattle.frozen_files.specs.image_freeze.Frozen.{entries_of, frozen}
+use Rattle.image_freeze.specs.declared.named.Named.{Named}
+use Rattle.image_freeze.specs.Frozen.{entries_of, frozen}
 use Rattle.frozen_files.specs.Sources.{HoldsSource}
 use Rattle.meant_files.specs.Programs.{AreSources, IsSourceOf, Sources}
 use Rattle.meant_files.proofs.Places.{Matched, has_in, has_entry}

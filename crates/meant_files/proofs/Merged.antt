@@ -7,7 +7,7 @@ use Rattle.bc_scheme.specs.mpy_tree.Resolved.{instrs_of, line_numbers, Trees, Re
 use Rattle.bc_scheme.specs.py_meaning.Program.{Unit, Merge, Units, Part, Parts}
 use Rattle.bc_scheme.specs.Link.{merged, AreModulesOf, last_unit, next_unit}
 use Rattle.bc_scheme.specs.Merge.{outer_body, trees_of, merge_of}
-use Rattle.meant_runs.specs.trans_parts.Comparing.{AllServe, parts, count_of, single, FitsTree, FitTrees}
+use Rattle.trans_laws.specs.trans_parts.Comparing.{AllServe, parts, count_of, single, FitsTree, FitTrees}
 use Rattle.mpy_merge.specs.AsMerge.{ReadsAsMerge}
 use Rattle.meant_runs.specs.Units.{IsUnitFile, AreUnitFiles}
 

@@ -8,10 +8,10 @@ use Rattle.py_source.specs.Source.{IsAccepted}
 use Rattle.bc_scheme.specs.py_meaning.Tree.{Name}
 use Rattle.bc_scheme.specs.py_meaning.Program.{Source, Unit, Single, Entry, Runs, entry_in, Program}
 use Rattle.bc_scheme.specs.py_meaning.Meaning.{source_of}
-use Rattle.frozen_files.specs.library_files.Asked.{asked_for}
+use Rattle.library_files.specs.Asked.{asked_for}
 use Rattle.meant_files.specs.Readings.{IsReading}
 use Rattle.meant_files.specs.Imported.{source_imports}
-use Rattle.frozen_files.specs.source_files.Sources.{stored}
+use Rattle.source_files.specs.Sources.{stored}
 use Rattle.meant_files.specs.Sources.{HoldsSource, imports_with, with_source, LoadsSources, ends, next, known, taken, IsProgramOfSources}
 
 some_is : {A : Type 0} (a b : A) → Some a ≡ Some b → a ≡ b

@@ -11,8 +11,8 @@ use Rattle.bc_scheme.specs.bc_machine.Library.{Code, Line, Names, item_of, line_
 use Rattle.bc_scheme.specs.Context.{Context}
 use Rattle.bc_scheme.specs.Translation.{StandsCode, StandAll, Translates}
 use Rattle.meant_files.specs.Imported.{imports, source_imports}
-use Rattle.frozen_files.specs.library_files.Imports as held
-use Rattle.frozen_files.specs.library_files.Imports.{import_of}
+use Rattle.library_files.specs.Imports as held
+use Rattle.library_files.specs.Imports.{import_of}
 use Rattle.meant_files.proofs.Quiet.{imported_by, imported, Quiet, ◌>>◌, quiet}
 use Rattle.meant_files.proofs.Statements.{of_block}
 

@@ -8,11 +8,11 @@ use Rattle.pkg_paths.specs.Paths.{candidates}
 use Rattle.image_open.specs.bc_library.Shelf.{Shelf, member_of}
 use Rattle.bc_scheme.specs.py_meaning.Tree.{Name}
 use Rattle.bc_scheme.specs.py_meaning.Program.{Source, Unit, Single, Merge, Units, Part, Parts, Entry, Runs, Refused, Program, entry_in}
-use Rattle.frozen_files.specs.mpy_compile.Compiled.{CompilesTo}
-use Rattle.frozen_files.specs.mpy_compile.Checked.{IsTranslation}
+use Rattle.mpy_compile.specs.Compiled.{CompilesTo}
+use Rattle.mpy_compile.specs.Checked.{IsTranslation}
 use Rattle.mpy_merge.specs.AsMerge.{ReadsAsMerge}
 use Rattle.meant_files.specs.Readings.{IsReading}
-use Rattle.frozen_files.specs.library_files.Comes.{IsVerifiedFile, ending}
+use Rattle.library_files.specs.Comes.{IsVerifiedFile, ending}
 
 mutual
   -- the bytes are made of the unit

@@ -7,11 +7,11 @@ use Rattle.pkg_paths.specs.Paths.{candidates}
 use Rattle.image_open.specs.bc_library.Shelf.{Shelf}
 use Rattle.bc_scheme.specs.py_meaning.Tree.{Name}
 use Rattle.bc_scheme.specs.py_meaning.Program.{Source}
-use Rattle.frozen_files.specs.mpy_compile.Compiled.{CompilesTo}
-use Rattle.frozen_files.specs.library_files.Asked.{asked_for}
-use Rattle.frozen_files.specs.library_files.Comes.{ending}
-use Rattle.frozen_files.specs.library_files.Loads.{Loaded, LoadsFrom}
-use Rattle.frozen_files.specs.source_files.Sources.{stored, IsModuleOf, LoadsFromSources}
+use Rattle.mpy_compile.specs.Compiled.{CompilesTo}
+use Rattle.library_files.specs.Asked.{asked_for}
+use Rattle.library_files.specs.Comes.{ending}
+use Rattle.library_files.specs.Loads.{Loaded, LoadsFrom}
+use Rattle.source_files.specs.Sources.{stored, IsModuleOf, LoadsFromSources}
 use Rattle.meant_files.specs.Readings.{IsReading}
 use Rattle.meant_files.specs.Imported.{source_imports}
 use Rattle.meant_files.specs.Sources.{source_file, HoldsSource}

@@ -5,8 +5,8 @@ use Rattle.mpy_base.specs.World.{PortState}
 use Rattle.mpy_io.specs.Files.{FileOf}
 use Rattle.image_open.specs.bc_library.Shelf.{Shelf, no_entries}
 use Rattle.image_open.specs.Opens.{Opens, with_entries}
-use Rattle.frozen_files.specs.image_freeze.declared.named.Named.{Named}
-use Rattle.frozen_files.specs.image_freeze.Frozen.{entries_of}
+use Rattle.image_freeze.specs.declared.named.Named.{Named}
+use Rattle.image_freeze.specs.Frozen.{entries_of}
 use Rattle.frozen_files.specs.Sources.{HoldsSources}
 use Rattle.manifest_lines.specs.declared.entry.Entry as manifests
 use Rattle.manifest_files.specs.Entries.{AreEntries}

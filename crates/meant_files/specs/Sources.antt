@@ -7,8 +7,8 @@ use Rattle.pkg_paths.specs.Finds.{NamedFile, first_there}
 use Rattle.bc_scheme.specs.py_effects.Ends.{Run}
 use Rattle.bc_scheme.specs.py_meaning.Tree.{Name}
 use Rattle.bc_scheme.specs.py_meaning.Program.{Source, Single, Entry, Runs, entry_in, Program}
-use Rattle.frozen_files.specs.library_files.Asked.{asked_for}
-use Rattle.frozen_files.specs.source_files.Sources.{stored, source_ending}
+use Rattle.library_files.specs.Asked.{asked_for}
+use Rattle.source_files.specs.Sources.{stored, source_ending}
 use Rattle.meant_files.specs.Readings.{IsReading}
 use Rattle.meant_runs.specs.Runs.{MeansRun}
 use Rattle.meant_files.specs.Imported.{source_imports}

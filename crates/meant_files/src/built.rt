@@ -7,7 +7,7 @@ ghost use Rattle.bc_scheme.specs.mpy_tree.Raw.{Module};
 ghost use Rattle.bc_verify.specs.Verified.{IsVerified};
 ghost use Rattle.image_open.specs.bc_library.Shelf.{Shelf};
 ghost use Rattle.bc_scheme.specs.py_meaning.Program.{Unit, Program};
-ghost use Rattle.frozen_files.specs.library_files.Loads.{Loaded, LoadsFrom};
+ghost use Rattle.library_files.specs.Loads.{Loaded, LoadsFrom};
 ghost use Rattle.meant_runs.specs.Units.{IsUnitFile, AreUnits};
 ghost use Rattle.meant_files.specs.Built.{IsBuilt, IsBuiltProgram};
 

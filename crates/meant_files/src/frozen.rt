@@ -6,9 +6,9 @@ ghost use Rattle.image_open.specs.bc_library.declared.fault.Member.TheVariants a
 ghost use Rattle.image_open.specs.bc_library.Shelf.{Shelf, member_of, no_entries};
 ghost use Rattle.bc_scheme.specs.bc_machine.Machine.{run};
 ghost use Rattle.manifest_files.specs.image_grammar.Image.{Differ};
-ghost use Rattle.frozen_files.specs.image_freeze.Migrated.{Migrates};
-ghost use Rattle.meant_runs.specs.vm_states.Means as machine;
-ghost use Rattle.meant_runs.specs.vm_starting.Programs.{IsProgramOf as IsMachineOf};
+ghost use Rattle.image_freeze.specs.Migrated.{Migrates};
+ghost use Rattle.vm_starting.specs.vm_states.Means as machine;
+ghost use Rattle.vm_starting.specs.Programs.{IsProgramOf as IsMachineOf};
 ghost use Rattle.bc_scheme.specs.py_meaning.Program.{Program};
 ghost use Rattle.meant_runs.specs.Units.{AreUnits};
 ghost use Rattle.frozen_files.specs.Frozen.{HoldsFrozen};

@@ -12,9 +12,9 @@ use Rattle.bc_scheme.specs.py_meaning.Outcomes.{e_then, e_given, e_turns}
 use Rattle.bc_scheme.specs.py_meaning.Imports.{part_place}
 use Rattle.bc_scheme.specs.py_meaning.Meaning as meanings
 use Rattle.bc_scheme.specs.py_meaning.Meaning.{main_run, meaning}
-use Rattle.library_runs.specs.bc_machine.Library.{Name, Code, Library, code_at}
-use Rattle.library_runs.specs.bc_machine.Machine as machines
-use Rattle.library_runs.specs.bc_machine.Machine.{begun, opened, run}
+use Rattle.vm_frames.specs.bc_machine.Library.{Name, Code, Library, code_at}
+use Rattle.vm_frames.specs.bc_machine.Machine as machines
+use Rattle.vm_frames.specs.bc_machine.Machine.{begun, opened, run}
 use Rattle.bc_scheme.specs.Correct.{IsOpen, IsBehind}
 use Rattle.sim_stmt.proofs.Whole.{module_still}
 

@@ -1,4 +1,3 @@
-pub use Rattle.trans_laws.proofs as trans_laws_lemmas
 mod Early
 mod Links
 mod Means

@@ -7,8 +7,8 @@ use Rattle.bc_scheme.specs.py_effects.Ends.{Run, is_over}
 use Rattle.bc_scheme.specs.py_effects.Growth.{Prints}
 use Rattle.bc_scheme.specs.py_meaning.Program.{Program}
 use Rattle.bc_scheme.specs.py_meaning.Meaning.{meaning}
-use Rattle.library_runs.specs.bc_machine.Library.{Library}
-use Rattle.library_runs.specs.bc_machine.Machine.{run}
+use Rattle.vm_frames.specs.bc_machine.Library.{Library}
+use Rattle.vm_frames.specs.bc_machine.Machine.{run}
 use Rattle.bc_scheme.specs.Correct.{HasEnded, IsOpen, IsBehind, Behaves}
 use Rattle.meant_runs.specs.Runs.{turns_within, EndsAs, IsStopped, MeansRun}
 use Rattle.meant_runs.proofs.Early.{open_or_over}

@@ -4,13 +4,13 @@ use Rattle.mpy_base.specs.declared.room.Room.{Room}
 use Rattle.mpy_base.specs.World.{PortState}
 use Rattle.mpy_io.specs.Told.{AppendsFront}
 use Rattle.port_set.specs.Calls.{Tell}
-use Rattle.library_runs.specs.bc_library.Shelf.{Shelf}
+use Rattle.bc_library.specs.Shelf.{Shelf}
 use Rattle.bc_scheme.specs.py_effects.Ends.{End, Open, Ended, Raised, Memory, Run}
 use Rattle.bc_scheme.specs.py_meaning.Program.{Program}
 use Rattle.bc_scheme.specs.py_meaning.Meaning.{meaning}
-use Rattle.library_runs.specs.bc_machine.Machine.{run}
-use Rattle.library_runs.specs.vm_states.Means as machine
-use Rattle.library_runs.specs.vm_starting.Programs.{IsProgramOf}
+use Rattle.vm_frames.specs.bc_machine.Machine.{run}
+use Rattle.vm_starting.specs.vm_states.Means as machine
+use Rattle.vm_starting.specs.Programs.{IsProgramOf}
 use Rattle.meant_runs.specs.Runs.{MeansRun}
 use Rattle.library_runs.specs.declared.ending.RunEnd.{RunEnd}
 use Rattle.library_runs.specs.declared.ending.RunEnd.TheVariants as ends

@@ -2,8 +2,8 @@
 use Rattle.std.specs.Prelude.{◌≡◌, ℕ, List, [], ◌∷◌, Option, Some, None, codes}
 use Rattle.bc_scheme.specs.mpy_tree.Raw.{Module}
 use Rattle.bc_scheme.specs.mpy_tree.Resolved.{ResolvedModule, Resolves}
-use Rattle.library_runs.specs.bc_library.declared.fault.Member.TheVariants as members
-use Rattle.library_runs.specs.bc_library.Shelf.{Shelf, member_of, module_at}
+use Rattle.bc_library.specs.declared.fault.Member.TheVariants as members
+use Rattle.bc_library.specs.Shelf.{Shelf, member_of, module_at}
 use Rattle.bc_scheme.specs.py_meaning.Tree.{Name}
 use Rattle.bc_scheme.specs.py_meaning.Program.{Unit, Units, Part, Parts, Entry, Runs, Refused, Program, entry_in}
 use Rattle.bc_scheme.specs.Link.{IsModuleOf}

@@ -5,7 +5,7 @@ ghost use Rattle.mpy_base.specs.declared.room.Room.{Room};
 ghost use Rattle.mpy_base.specs.World.{PortState};
 ghost use Rattle.port_set.specs.Calls.{Tell};
 ghost use Rattle.port_set.specs.Counts.{AreAccounted};
-ghost use Rattle.library_runs.specs.bc_library.Shelf.{Shelf};
+ghost use Rattle.bc_library.specs.Shelf.{Shelf};
 ghost use Rattle.bc_scheme.specs.py_meaning.Program.{Program};
 ghost use Rattle.meant_runs.specs.Units.{AreUnits};
 ghost use Rattle.library_runs.specs.declared.ending.RunEnd.{RunEnd};

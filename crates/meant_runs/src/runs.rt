@@ -2,15 +2,15 @@
 
 ghost use Rattle.std.specs.Prelude.{◌≡◌, ℕ, List};
 ghost use Rattle.mpy_base.specs.World.{PortState};
-ghost use Rattle.library_runs.specs.bc_library.Shelf.{Shelf};
-ghost use Rattle.library_runs.specs.bc_machine.Library.{Name, Library};
-ghost use Rattle.library_runs.specs.bc_machine.Machine.{run};
+ghost use Rattle.bc_library.specs.Shelf.{Shelf};
+ghost use Rattle.vm_frames.specs.bc_machine.Library.{Name, Library};
+ghost use Rattle.vm_frames.specs.bc_machine.Machine.{run};
 ghost use Rattle.bc_scheme.specs.py_meaning.Program.{Program};
 ghost use Rattle.bc_scheme.specs.py_meaning.Meaning.{meaning};
 ghost use Rattle.bc_scheme.specs.Link.{Links};
 ghost use Rattle.bc_scheme.specs.Correct.{IsOpen, IsBehind, Behaves};
-ghost use Rattle.library_runs.specs.vm_states.Means as machine;
-ghost use Rattle.library_runs.specs.vm_starting.Programs.{IsProgramOf};
+ghost use Rattle.vm_starting.specs.vm_states.Means as machine;
+ghost use Rattle.vm_starting.specs.Programs.{IsProgramOf};
 ghost use Rattle.meant_runs.specs.Units.{AreUnits};
 ghost use Rattle.meant_runs.specs.Runs.{MeansRun};
 

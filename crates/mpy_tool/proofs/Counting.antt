@@ -4,8 +4,8 @@ use Rattle.image_grammar.specs.bc_library.Shelf.{Shelf, no_entries}
 use Rattle.mpy_words.specs.declared.order.Command.{Command}
 use Rattle.mpy_words.specs.declared.order.Command.TheVariants.{Go, Check, Dump, Cross, Merge, Freeze, Migrate, Run, Board, Stress}
 use Rattle.mpy_words.specs.declared.order.Order.{Order}
-use Rattle.meant_commands.specs.run_commands.Run.{room_of}
-use Rattle.meant_commands.proofs.mpy_endings_lemmas.Statuses.{folder_stays, out_stays}
+use Rattle.run_commands.specs.Run.{room_of}
+use Rattle.mpy_endings.proofs.Statuses.{folder_stays, out_stays}
 use Rattle.stress_command.specs.Stress.{EndsStress}
 use Rattle.mpy_tool.specs.Below.{Based}
 use Rattle.mpy_tool.specs.Call.{Call, LeavesCounts, ShowsPorts}

@@ -6,8 +6,8 @@ use Rattle.mpy_io.specs.Files.{FileOf}
 use Rattle.image_grammar.specs.bc_library.Shelf.{Shelf}
 use Rattle.vm_states.specs.Means.{Program}
 use Rattle.board_plan.specs.declared.plan.Plan.{Plan}
-use Rattle.board_command.specs.board_files.Summaries.{HasRunIn}
-use Rattle.meant_commands.specs.mpy_endings.declared.ending.Ending.TheVariants.{Done}
+use Rattle.board_files.specs.Summaries.{HasRunIn}
+use Rattle.mpy_endings.specs.declared.ending.Ending.TheVariants.{Done}
 use Rattle.board_command.specs.Boards.{Boards}
 
 run_flushed : (p : Program) (plan : Plan) (old new : Option FileOf) (before behind last : Option (List ℕ)) → Keeps behind last → HasRunIn p plan old new before behind → HasRunIn p plan old new before last

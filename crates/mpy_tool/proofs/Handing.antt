@@ -8,15 +8,15 @@ use Rattle.mpy_words.specs.declared.order.Command.{Command}
 use Rattle.mpy_words.specs.declared.order.Command.TheVariants.{Go, Check, CheckAs, Dump, Cross, Merge, Freeze, Migrate, Run, Board, Stress}
 use Rattle.mpy_words.specs.declared.order.Order.{Order}
 use Rattle.mpy_words.specs.Words.{first_name, second_name}
-use Rattle.meant_commands.specs.mpy_endings.declared.ending.Ending.{Ending}
-use Rattle.meant_commands.specs.mpy_endings.declared.ending.Ending.TheVariants.{Done, Stopped, WriteFault}
-use Rattle.meant_commands.specs.mpy_endings.declared.ending.Stop.{Stop}
-use Rattle.meant_commands.specs.mpy_endings.declared.ending.Stop.TheVariants.{Raised, Memory, Steps}
-use Rattle.meant_commands.specs.mpy_endings.Ending.{IsRunStatus, status_of}
-use Rattle.meant_commands.proofs.mpy_endings_lemmas.Statuses.{run_ended}
-use Rattle.meant_commands.specs.file_commands.Check.{verified_line}
-use Rattle.meant_commands.specs.file_commands.CheckAs.{translation_line}
-use Rattle.meant_commands.proofs.file_commands_lemmas.HandedOn.{checks_cut, checks_as_cut, dumps_cut}
+use Rattle.mpy_endings.specs.declared.ending.Ending.{Ending}
+use Rattle.mpy_endings.specs.declared.ending.Ending.TheVariants.{Done, Stopped, WriteFault}
+use Rattle.mpy_endings.specs.declared.ending.Stop.{Stop}
+use Rattle.mpy_endings.specs.declared.ending.Stop.TheVariants.{Raised, Memory, Steps}
+use Rattle.mpy_endings.specs.Ending.{IsRunStatus, status_of}
+use Rattle.mpy_endings.proofs.Statuses.{run_ended}
+use Rattle.file_commands.specs.Check.{verified_line}
+use Rattle.file_commands.specs.CheckAs.{translation_line}
+use Rattle.file_commands.proofs.HandedOn.{checks_cut, checks_as_cut, dumps_cut}
 use Rattle.board_command.proofs.Ending.{unflushed}
 use Rattle.mpy_tool.specs.Doing.{DoesBy}
 use Rattle.mpy_tool.proofs.Flushing.{flushed}

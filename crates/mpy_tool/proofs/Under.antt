@@ -4,7 +4,7 @@ use Rattle.std.specs.Prelude.{IfOk, IfSome}
 use Rattle.mpy_base.specs.declared.refused.NoMemory.{NoMemory}
 use Rattle.image_grammar.specs.bc_library.Shelf.{Shelf, names, no_entries}
 use Rattle.image_grammar.specs.Base.{IsOpened, base_of}
-use Rattle.meant_commands.specs.image_freeze.Fronts.{MayLieOver}
+use Rattle.image_freeze.specs.Fronts.{MayLieOver}
 use Rattle.mpy_words.specs.declared.order.Command.{Command}
 use Rattle.mpy_words.specs.declared.order.Command.TheVariants.{Go, Check, Dump, Cross, Merge, Freeze, Migrate, Run, Board, Stress}
 use Rattle.mpy_tool.specs.Below.{MayLieBelow, image_version, library_below}

@@ -6,7 +6,7 @@ ghost use Rattle.bc_library.specs.mpy_tree.Raw.{Module};
 ghost use Rattle.library_files.specs.Ends.{BeginsWith, HoldsModules};
 ghost use Rattle.run_commands.specs.Go.{HoldsSource, RefusesSources, SourceLibrary};
 ghost use Rattle.command_files.specs.Opened.{failed_in};
-ghost use Rattle.command_files.specs.image_runs.Main.{IsMainAt};
+ghost use Rattle.image_runs.specs.Main.{IsMainAt};
 ghost use Rattle.run_commands.specs.Ready.{GoLibrary};
 ghost use Rattle.run_commands.specs.Run.{IsUnloaded};
 

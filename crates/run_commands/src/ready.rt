@@ -1,9 +1,9 @@
 //! Libraries that are ready to be run.
 
 ghost use Rattle.std.specs.Prelude.{◌≡◌, Ok, Err, IfOk, IfErr};
-ghost use Rattle.command_files.specs.mpy_endings.declared.ending.Ending.TheVariants.{NoMemory as WithoutMemory};
+ghost use Rattle.mpy_endings.specs.declared.ending.Ending.TheVariants.{NoMemory as WithoutMemory};
 ghost use Rattle.bc_library.specs.mpy_tree.Raw.{Module};
-ghost use Rattle.command_files.specs.image_runs.Main.{IsMainAt};
+ghost use Rattle.image_runs.specs.Main.{IsMainAt};
 ghost use Rattle.library_files.specs.Ends.{BeginsWith, HoldsModules};
 ghost use Rattle.library_files.specs.Loads.{main_name};
 ghost use Rattle.manifest_files.specs.image_grammar.Base.{IsOpened};

@@ -5,9 +5,9 @@ ghost use Rattle.std.specs.Prelude.{◌≡◌, List, ℕ, [], Some, false, IfOk,
 ghost use Rattle.mpy_io.specs.Count.{Counts};
 ghost use Rattle.library_files.specs.Ends.{BeginsWith, HoldsModules};
 ghost use Rattle.bc_library.specs.mpy_tree.Raw.{Module};
-ghost use Rattle.command_files.specs.mpy_endings.Line.{Says};
-ghost use Rattle.command_files.specs.mpy_endings.Ending.{IsRunStatus, is_folder_fault, is_out_fault, is_said, status_of};
-ghost use Rattle.command_files.specs.image_runs.Main.{IsMainAt};
+ghost use Rattle.mpy_endings.specs.Line.{Says};
+ghost use Rattle.mpy_endings.specs.Ending.{IsRunStatus, is_folder_fault, is_out_fault, is_said, status_of};
+ghost use Rattle.image_runs.specs.Main.{IsMainAt};
 ghost use Rattle.command_files.specs.Folder.{MayHold};
 ghost use Rattle.command_files.specs.Opened.{failed_in};
 ghost use Rattle.manifest_files.specs.image_grammar.Base.{IsOpened};

@@ -3,8 +3,8 @@
 ghost use Rattle.std.specs.Prelude.{◌≡◌, ◌<◌, length, IfOk, IfSome};
 ghost use Rattle.mpy_reader.specs.mpy_tree.Raw.{Module};
 ghost use Rattle.library_files.specs.Ends.{BeginsWith, HoldsModules};
-ghost use Rattle.vm_machine.specs.vm_starting.Kept.{AreFetched};
-ghost use Rattle.vm_machine.specs.vm_starting.Programs.{IsRunnable};
+ghost use Rattle.vm_starting.specs.Kept.{AreFetched};
+ghost use Rattle.vm_starting.specs.Programs.{IsRunnable};
 ghost use Rattle.vm_machine.specs.Machine.{IsVm};
 
 use crate::program::Program;

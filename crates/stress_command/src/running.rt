@@ -3,11 +3,11 @@
 ghost use Rattle.std.specs.Prelude.{◌≡◌, ◌≤◌, ◌++◌, ℕ, [], length, decimal, map, Option, Some, Ok};
 ghost use Rattle.mpy_io.specs.Files.{FileOf};
 ghost use Rattle.bc_library.specs.mpy_tree.Raw.{Module};
-ghost use Rattle.run_commands.specs.image_runs.Main.{IsMainAt};
+ghost use Rattle.image_runs.specs.Main.{IsMainAt};
 ghost use Rattle.library_files.specs.Ends.{HoldsModules};
-ghost use Rattle.run_commands.specs.mpy_endings.declared.ending.Ending.TheVariants.{WriteFault};
-ghost use Rattle.run_commands.specs.mpy_endings.Ending.{IsRunStatus, status_of};
-ghost use Rattle.run_commands.specs.mpy_endings.Line.{Puts, Says, line_of};
+ghost use Rattle.mpy_endings.specs.declared.ending.Ending.TheVariants.{WriteFault};
+ghost use Rattle.mpy_endings.specs.Ending.{IsRunStatus, status_of};
+ghost use Rattle.mpy_endings.specs.Line.{Puts, Says, line_of};
 ghost use Rattle.run_commands.specs.Ready.{GoLibrary};
 ghost use Rattle.run_commands.specs.Run.{EndsRun};
 ghost use Rattle.stress_command.specs.Source.{stress_text};

@@ -6,9 +6,9 @@ use Rattle.mpy_writer.specs.mpy_tree.Raw.{Module}
 use Rattle.mpy_merge.specs.declared.fault.MergeFault.{MergeFault}
 use Rattle.mpy_merge.specs.Faults.{FirstFault}
 use Rattle.mpy_merge.proofs.Once.{one_beside}
-use Rattle.command_files.specs.mpy_endings.declared.ending.Ending.{Ending}
-use Rattle.command_files.specs.mpy_endings.declared.ending.Ending.TheVariants.{Done, Unaccepted, Unread, Unverified, Unmerged, Unopened, Unfrozen, Unboarded, Different, Stopped, ReadFault, WriteFault, Unwritten, NoMemory, Absent}
-use Rattle.command_files.specs.mpy_endings.Ending.{IsSettled}
+use Rattle.mpy_endings.specs.declared.ending.Ending.{Ending}
+use Rattle.mpy_endings.specs.declared.ending.Ending.TheVariants.{Done, Unaccepted, Unread, Unverified, Unmerged, Unopened, Unfrozen, Unboarded, Different, Stopped, ReadFault, WriteFault, Unwritten, NoMemory, Absent}
+use Rattle.mpy_endings.specs.Ending.{IsSettled}
 use Rattle.command_files.specs.Opened.{HoldsModule, Refuses}
 use Rattle.file_commands.specs.Merge.{HoldMerged, HoldModules, HoldUnmerged, IsFirstRefused, Merges}
 use Rattle.tool_laws.specs.Laws.{FileLaws}

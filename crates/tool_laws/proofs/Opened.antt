@@ -7,9 +7,9 @@ use Rattle.mpy_reader.specs.declared.fault.FileFault.{FileFault}
 use Rattle.mpy_reader.specs.Reading.{FirstFault}
 use Rattle.bc_verify.specs.declared.fault.VerifyFault.{VerifyFault}
 use Rattle.bc_verify.specs.Verified.{IsVerified, IsFirstFault}
-use Rattle.command_files.specs.mpy_endings.declared.ending.Ending.{Ending}
-use Rattle.command_files.specs.mpy_endings.declared.ending.Ending.TheVariants.{Done, Unaccepted, Unread, Unverified, Unmerged, Unopened, Unfrozen, Unboarded, Different, Stopped, ReadFault, WriteFault, Unwritten, NoMemory, Absent}
-use Rattle.command_files.specs.mpy_endings.Ending.{IsSettled}
+use Rattle.mpy_endings.specs.declared.ending.Ending.{Ending}
+use Rattle.mpy_endings.specs.declared.ending.Ending.TheVariants.{Done, Unaccepted, Unread, Unverified, Unmerged, Unopened, Unfrozen, Unboarded, Different, Stopped, ReadFault, WriteFault, Unwritten, NoMemory, Absent}
+use Rattle.mpy_endings.specs.Ending.{IsSettled}
 use Rattle.command_files.specs.Opened.{HoldsModule, Refuses}
 use Rattle.tool_laws.specs.Laws.{FileLaws}
 

@@ -5,9 +5,9 @@ use Rattle.mpy_io.specs.Files.{FileOf}
 use Rattle.mpy_writer.specs.mpy_tree.Raw.{Module}
 use Rattle.mpy_writer.specs.mpy_tree.File.{IsFile}
 use Rattle.mpy_dump.specs.Listing.{IsListing}
-use Rattle.command_files.specs.mpy_endings.declared.ending.Ending.{Ending}
-use Rattle.command_files.specs.mpy_endings.declared.ending.Ending.TheVariants.{Done, Unaccepted, Unread, Unverified, Unmerged, Unopened, Unfrozen, Unboarded, Different, Stopped, ReadFault, WriteFault, Unwritten, NoMemory, Absent}
-use Rattle.command_files.specs.mpy_endings.Ending.{IsSettled}
+use Rattle.mpy_endings.specs.declared.ending.Ending.{Ending}
+use Rattle.mpy_endings.specs.declared.ending.Ending.TheVariants.{Done, Unaccepted, Unread, Unverified, Unmerged, Unopened, Unfrozen, Unboarded, Different, Stopped, ReadFault, WriteFault, Unwritten, NoMemory, Absent}
+use Rattle.mpy_endings.specs.Ending.{IsSettled}
 use Rattle.command_files.specs.Opened.{HoldsModule}
 use Rattle.file_commands.specs.Check.{Checks, HoldsVerified, count_of, verified_line}
 use Rattle.file_commands.specs.Dump.{Dumps, HoldsListed}

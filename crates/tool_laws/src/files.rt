@@ -2,7 +2,7 @@
 
 ghost use Rattle.std.specs.Prelude.{◌≡◌, ℕ, List, Option, Some};
 ghost use Rattle.mpy_io.specs.Files.{FileOf};
-ghost use Rattle.command_files.specs.mpy_endings.declared.ending.Ending.TheVariants.{Done};
+ghost use Rattle.mpy_endings.specs.declared.ending.Ending.TheVariants.{Done};
 ghost use Rattle.file_commands.specs.Check.{Checks, HoldsVerified};
 ghost use Rattle.file_commands.specs.Dump.{Dumps, HoldsListed};
 ghost use Rattle.tool_laws.specs.Once.{EndOnce, IsDone};

@@ -19,15 +19,15 @@ use Rattle.prim_modules.specs.declared.makings.Made.{Made}
 use Rattle.prim_modules.specs.Effects.{IsMaking}
 use Rattle.prim_modules.specs.Registry.{Registry, with_entry}
 use Rattle.vm_frames.specs.Calls.{Call, Calls}
-use Rattle.state_steps.specs.frame_exits.declared.ends.End.{End}
-use Rattle.state_steps.specs.frame_exits.declared.ends.End.TheVariants as ends
-use Rattle.state_steps.specs.frame_exits.declared.ends.After.TheVariants as afters
-use Rattle.state_steps.specs.frame_exits.Known.{IsKnownAfter}
+use Rattle.state_calls.specs.frame_exits.declared.ends.End.{End}
+use Rattle.state_calls.specs.frame_exits.declared.ends.End.TheVariants as ends
+use Rattle.state_calls.specs.frame_exits.declared.ends.After.TheVariants as afters
+use Rattle.state_calls.specs.frame_exits.Known.{IsKnownAfter}
 use Rattle.vm_starting.specs.vm_states.Means.{Program}
 use Rattle.vm_starting.specs.vm_states.Running.{IsRunning}
 use Rattle.vm_starting.specs.vm_states.State.{IsState}
 use Rattle.vm_kept.specs.Kept.{HoldsKept}
-use Rattle.state_steps.specs.state_exits.Modules.{AreRegistered}
+use Rattle.state_exits.specs.Modules.{AreRegistered}
 use Rattle.vm_starting.specs.Programs.{IsProgramOf, IsRunnable}
 use Rattle.vm_starting.specs.declared.opening.Vm.{Vm}
 use Rattle.vm_starting.specs.Opened.{HasMemory, IsBegun, state_in}

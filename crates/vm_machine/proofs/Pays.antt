@@ -15,23 +15,23 @@ use Rattle.vm_frames.specs.bc_machine.State as states
 use Rattle.vm_frames.specs.bc_machine.State.{State, Running}
 use Rattle.vm_frames.specs.bc_machine.Step as step
 use Rattle.vm_frames.specs.bc_ops.declared.instr.Instr.TheVariants as instrs
-use Rattle.state_steps.specs.bc_rows.declared.row.Row.{Row}
+use Rattle.state_calls.specs.bc_rows.declared.row.Row.{Row}
 use Rattle.prim_faults.specs.prim_walks.Plain.{plain_pair}
 use Rattle.vm_frames.specs.declared.slot.Slot.{Slot}
 use Rattle.vm_frames.specs.declared.slot.Slot.TheVariants as slots
 use Rattle.vm_frames.specs.Calls.{Call, Calls}
 use Rattle.vm_frames.specs.Views.{slots_of, starts_of, frame_of}
-use Rattle.state_steps.specs.frame_moves.Shown.{Tables, value_of, view_of, running_of, step_of}
-use Rattle.state_steps.specs.frame_moves.Outcomes.{world_of}
-use Rattle.state_steps.specs.frame_values.Operations as operations
-use Rattle.state_steps.specs.state_values.Operators.{value_in, visits_over, visits_binary}
-use Rattle.state_steps.specs.prim_calls.Callees.{plain_callee}
-use Rattle.state_steps.specs.vm_fetching.declared.instruction.Fetched.{Fetched}
-use Rattle.state_steps.specs.vm_fetching.declared.instruction.Instruction.{Instruction}
-use Rattle.state_steps.specs.vm_fetching.declared.instruction.Instruction.TheVariants as fetched
-use Rattle.state_steps.specs.vm_fetching.declared.operations.NumberOp.{NumberOp}
-use Rattle.state_steps.specs.vm_fetching.Operations.{number_op}
-use Rattle.state_steps.specs.vm_fetching.Shows.{item_of_fetched}
+use Rattle.state_calls.specs.frame_moves.Shown.{Tables, value_of, view_of, running_of, step_of}
+use Rattle.state_calls.specs.frame_moves.Outcomes.{world_of}
+use Rattle.state_calls.specs.frame_values.Operations as operations
+use Rattle.state_values.specs.Operators.{value_in, visits_over, visits_binary}
+use Rattle.state_calls.specs.prim_calls.Callees.{plain_callee}
+use Rattle.state_calls.specs.vm_fetching.declared.instruction.Fetched.{Fetched}
+use Rattle.state_calls.specs.vm_fetching.declared.instruction.Instruction.{Instruction}
+use Rattle.state_calls.specs.vm_fetching.declared.instruction.Instruction.TheVariants as fetched
+use Rattle.state_calls.specs.vm_fetching.declared.operations.NumberOp.{NumberOp}
+use Rattle.state_calls.specs.vm_fetching.Operations.{number_op}
+use Rattle.state_calls.specs.vm_fetching.Shows.{item_of_fetched}
 use Rattle.vm_starting.specs.frame_calls.declared.calling.Invocation.{Invocation}
 use Rattle.vm_starting.specs.frame_calls.Invoking.{visits_of, calling_of, Invokes}
 use Rattle.vm_starting.specs.frame_calls.Layouts.{Layout, tables_of}
@@ -39,8 +39,8 @@ use Rattle.vm_starting.specs.frame_calls.Operands.{Given}
 use Rattle.vm_starting.specs.vm_states.Means.{Program}
 use Rattle.vm_starting.specs.vm_states.Ready.{IsReady}
 use Rattle.vm_starting.specs.vm_states.Acting.{stepped}
-use Rattle.state_steps.specs.state_calls.Called.{visits}
-use Rattle.state_steps.specs.state_calls.Taken.{IsTaken}
+use Rattle.state_calls.specs.Called.{visits}
+use Rattle.state_calls.specs.Taken.{IsTaken}
 use Rattle.vm_starting.specs.Programs.{IsProgramOf}
 use Rattle.state_steps.specs.Values.{value_visits}
 use Rattle.vm_machine.proofs.Machines.{in_program}

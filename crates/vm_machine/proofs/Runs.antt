@@ -8,8 +8,8 @@ use Rattle.port_set.proofs.Counting.{counts_same, counts_on}
 use Rattle.bc_library.specs.Shelf.{Shelf}
 use Rattle.vm_frames.specs.bc_machine.Machine.{steps}
 use Rattle.vm_frames.specs.bc_machine.State.{State}
-use Rattle.state_steps.specs.frame_exits.declared.ends.End.{End}
-use Rattle.state_steps.specs.frame_exits.Ends.{end_of}
+use Rattle.state_calls.specs.frame_exits.declared.ends.End.{End}
+use Rattle.state_calls.specs.frame_exits.Ends.{end_of}
 use Rattle.vm_starting.specs.vm_states.Means.{Program}
 use Rattle.vm_starting.specs.declared.opening.Vm.{Vm}
 use Rattle.vm_machine.specs.Acting.{Stepped}

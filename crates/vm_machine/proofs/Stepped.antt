@@ -10,17 +10,17 @@ use Rattle.bc_library.specs.Shelf.{Shelf}
 use Rattle.vm_frames.specs.bc_machine.Machine.{steps}
 use Rattle.vm_frames.specs.bc_machine.State.{State}
 use Rattle.vm_frames.specs.bc_machine.Step.{step}
-use Rattle.state_steps.specs.bc_rows.declared.row.Row.{Row}
+use Rattle.state_calls.specs.bc_rows.declared.row.Row.{Row}
 use Rattle.prim_modules.specs.Registry.{Registry}
 use Rattle.vm_frames.specs.Calls.{Calls}
-use Rattle.state_steps.specs.frame_moves.Shown.{running_of}
-use Rattle.state_steps.specs.frame_moves.Outcomes.{world_of}
-use Rattle.state_steps.specs.frame_exits.declared.ends.End.{End}
-use Rattle.state_steps.specs.frame_exits.Ends.{with_modules, state_of}
-use Rattle.state_steps.specs.vm_fetching.declared.instruction.Fetched.{Fetched}
+use Rattle.state_calls.specs.frame_moves.Shown.{running_of}
+use Rattle.state_calls.specs.frame_moves.Outcomes.{world_of}
+use Rattle.state_calls.specs.frame_exits.declared.ends.End.{End}
+use Rattle.state_calls.specs.frame_exits.Ends.{with_modules, state_of}
+use Rattle.state_calls.specs.vm_fetching.declared.instruction.Fetched.{Fetched}
 use Rattle.vm_starting.specs.vm_states.Means.{Program, Means}
 use Rattle.vm_kept.specs.Kept.{HoldsKept}
-use Rattle.state_steps.specs.state_exits.Running.{stepped_with}
+use Rattle.state_exits.specs.Running.{stepped_with}
 use Rattle.vm_starting.specs.Programs.{IsProgramOf}
 use Rattle.state_steps.specs.Values.{value_visits}
 use Rattle.vm_starting.specs.declared.opening.Vm.{Vm}

@@ -2,11 +2,11 @@
 
 ghost use Rattle.std.specs.Prelude.{◌≡◌};
 ghost use Rattle.bc_library.specs.Constants.{items_at, text_at};
-ghost use Rattle.state_steps.specs.vm_fetching.declared.instruction.Instruction.TheVariants as fetched_as;
-ghost use Rattle.state_steps.specs.vm_fetching.declared.operations.NumberOp.TheVariants as number_ops;
-ghost use Rattle.state_steps.specs.vm_fetching.declared.operations.PlainOp.TheVariants as plain_ops;
-ghost use Rattle.state_steps.specs.state_exits.Importing.{fetched_import};
-ghost use Rattle.state_steps.specs.state_exits.Running.{fetched_plain};
+ghost use Rattle.state_calls.specs.vm_fetching.declared.instruction.Instruction.TheVariants as fetched_as;
+ghost use Rattle.state_calls.specs.vm_fetching.declared.operations.NumberOp.TheVariants as number_ops;
+ghost use Rattle.state_calls.specs.vm_fetching.declared.operations.PlainOp.TheVariants as plain_ops;
+ghost use Rattle.state_exits.specs.Importing.{fetched_import};
+ghost use Rattle.state_exits.specs.Running.{fetched_plain};
 ghost use Rattle.state_steps.specs.Leaves.{LeavesCall};
 ghost use Rattle.state_steps.specs.Values.{ActsOnValues, value_visits};
 ghost use Rattle.vm_machine.specs.Acting.{Acted, HasFetched};

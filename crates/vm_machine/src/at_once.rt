@@ -1,7 +1,7 @@
 //! Instructions that are carried out at once, one after another.
 
 ghost use Rattle.std.specs.Prelude.{◌≡◌, ◌<◌, ◌≤◌, None, true};
-ghost use Rattle.state_steps.specs.bc_rows.declared.row.Row.{Row as CodeRow};
+ghost use Rattle.state_calls.specs.bc_rows.declared.row.Row.{Row as CodeRow};
 ghost use Rattle.vm_starting.specs.Kept.{AreFetched};
 ghost use Rattle.vm_machine.specs.Acting.{AreFetchedIn, HasFetched, Stepped};
 ghost use Rattle.vm_machine.specs.Machine.{IsVm};

@@ -1,7 +1,7 @@
 //! The instruction that the machine stands at.
 
 ghost use Rattle.std.specs.Prelude.{◌≡◌, ◌<◌, None, IfSome, length, true};
-ghost use Rattle.state_steps.specs.bc_rows.declared.row.Row.{Row as CodeRow};
+ghost use Rattle.state_calls.specs.bc_rows.declared.row.Row.{Row as CodeRow};
 ghost use Rattle.vm_starting.specs.Kept.{AreFetched};
 ghost use Rattle.vm_machine.specs.Machine.{IsVm};
 ghost use Rattle.vm_machine.specs.Acting.{AreFetchedIn, HasFetched};

@@ -3,8 +3,8 @@
 ghost use Rattle.std.specs.Prelude.{◌≡◌, ℕ, false, IfSome, IfNone};
 ghost use Rattle.prim_faults.specs.arena_heap.declared.value.StrNo.TheVariants as strs;
 ghost use Rattle.bc_library.specs.Shelf.{Shelf};
-ghost use Rattle.state_steps.specs.vm_fetching.declared.instruction.Instruction.TheVariants as fetched;
-ghost use Rattle.state_steps.specs.vm_fetching.Shows.{TextIsThere};
+ghost use Rattle.state_calls.specs.vm_fetching.declared.instruction.Instruction.TheVariants as fetched;
+ghost use Rattle.state_calls.specs.vm_fetching.Shows.{TextIsThere};
 ghost use Rattle.vm_machine.specs.Forms.{HasForm, IsNoCall, MakesNoVisits};
 
 use prim_faults::arena_heap::StrNo;

@@ -3,9 +3,9 @@
 ghost use Rattle.std.specs.Prelude.{◌≡◌, ◌+◌, ◌<◌, ◌≤◌, ◌^◌, map, None, is_err};
 ghost use Rattle.mpy_io.specs.Count.{Counts};
 ghost use Rattle.port_set.specs.Counts.{CountsKeep};
-ghost use Rattle.state_steps.specs.vm_fetching.declared.instruction.Instruction.TheVariants as fetched_as;
+ghost use Rattle.state_calls.specs.vm_fetching.declared.instruction.Instruction.TheVariants as fetched_as;
 ghost use Rattle.vm_starting.specs.vm_states.Means.{Program};
-ghost use Rattle.state_steps.specs.state_calls.Taken.{CallsValue, IsTaken};
+ghost use Rattle.state_calls.specs.Taken.{CallsValue, IsTaken};
 ghost use Rattle.vm_kept.specs.Kept.{HoldsKept};
 ghost use Rattle.vm_starting.specs.Programs.{IsProgramOf};
 ghost use Rattle.vm_starting.specs.Kept.{AreFetched};

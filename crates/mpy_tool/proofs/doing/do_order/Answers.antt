@@ -1,5 +1,5 @@
 use Rattle.std.proofs.Common.{map, string_bytes, subst}
-use Rattle.meant_commands.specs.mpy_endings.Ending.{IsRunStatus}
+use Rattle.mpy_endings.specs.Ending.{IsRunStatus}
 use Rattle.mpy_tool.specs.Below.{library_below}
 use Rattle.mpy_tool.specs.Call.{call_of}
 use Rattle.mpy_tool.proofs.Ended.{said_at}

@@ -1,5 +1,5 @@
 use Rattle.std.proofs.Common.{map, string_bytes, subst}
-use Rattle.meant_commands.specs.mpy_endings.declared.ending.Ending.{Ending}
+use Rattle.mpy_endings.specs.declared.ending.Ending.{Ending}
 use Rattle.mpy_tool.specs.Below.{library_below}
 use Rattle.mpy_tool.specs.Doing.{DoesBy}
 use Rattle.mpy_tool.proofs.Handing.{handed_on, held_back}

@@ -2,8 +2,8 @@ use Rattle.std.proofs.Common.{map, string_bytes, sym, subst}
 use Rattle.std.proofs.KnownBytes.{Keeps-refl}
 use Rattle.mpy_io.specs.Count.{Counts}
 use Rattle.mpy_words.specs.declared.order.Command.{Command}
-use Rattle.meant_commands.specs.mpy_endings.declared.ending.Ending.{Ending}
-use Rattle.meant_commands.specs.mpy_endings.Ending.{is_folder_fault}
+use Rattle.mpy_endings.specs.declared.ending.Ending.{Ending}
+use Rattle.mpy_endings.specs.Ending.{is_folder_fault}
 use Rattle.mpy_tool.specs.Below.{image_version, library_below}
 use Rattle.mpy_tool.specs.Order.{ChangesBy}
 use Rattle.mpy_tool.proofs.Alone.{freeze_did, board_did, freeze_changed}

@@ -1,9 +1,9 @@
 use Rattle.std.proofs.Common.{map, string_bytes, sym, subst}
 use Rattle.std.proofs.KnownBytes.{Keeps-refl}
 use Rattle.mpy_io.specs.Count.{Counts}
-use Rattle.meant_commands.specs.source_files.Sources.{stored}
-use Rattle.meant_commands.specs.mpy_endings.declared.ending.Ending.{Ending}
-use Rattle.meant_commands.specs.mpy_endings.Ending.{is_folder_fault, is_out_fault}
+use Rattle.source_files.specs.Sources.{stored}
+use Rattle.mpy_endings.specs.declared.ending.Ending.{Ending}
+use Rattle.mpy_endings.specs.Ending.{is_folder_fault, is_out_fault}
 use Rattle.mpy_tool.proofs.Acting.{same_changes}
 use Rattle.mpy_tool.proofs.Alone.{check_did, check_as_did, dump_did, cross_did, merge_did, migrate_did, cross_changed, merge_changed, migrate_changed}
 use Rattle.mpy_tool.proofs.doing.ran_alone.Goals as goal

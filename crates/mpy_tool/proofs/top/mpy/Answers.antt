@@ -1,5 +1,5 @@
 use Rattle.std.proofs.Common.{refl}
-use Rattle.meant_commands.proofs.mpy_endings_lemmas.Statuses.{not_two}
+use Rattle.mpy_endings.proofs.Statuses.{not_two}
 use Rattle.mpy_tool.specs.Call.{call_of}
 use Rattle.mpy_tool.proofs.Acting.{go_ordered, check_ordered, check_as_ordered, dump_ordered, cross_ordered, merge_ordered, freeze_ordered, migrate_ordered, run_ordered, board_ordered, stress_ordered, go_means_ordered, run_means_ordered, stress_means_ordered}
 use Rattle.mpy_tool.proofs.Counting.{obeys_stay}

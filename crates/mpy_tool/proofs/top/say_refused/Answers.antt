@@ -1,5 +1,5 @@
-use Rattle.meant_commands.specs.mpy_endings.Line.{line_of}
-use Rattle.meant_commands.proofs.mpy_endings_lemmas.Said.{says_from}
+use Rattle.mpy_endings.specs.Line.{line_of}
+use Rattle.mpy_endings.proofs.Said.{says_from}
 use Rattle.mpy_tool.proofs.top.say_refused.Goals as goal
 
 pub returns-clause-says : goal.returns-clause-says

@@ -1,5 +1,5 @@
 use Rattle.std.specs.Prelude.{◌-◌}
-use Rattle.vm_machine.specs.vm_starting.Kept.{AreFetched}
+use Rattle.vm_starting.specs.Kept.{AreFetched}
 use Rattle.vm_machine.specs.Machine.{IsVm}
 use Rattle.split_rows.proofs.running.go_on.Given as goal
 
