@@ -11,8 +11,8 @@ ghost use Rattle.board_command.specs.Meant.{MeansTasks};
 ghost use Rattle.board_command.specs.Plans.{HoldsPlan};
 
 use board_meaning::tasks_law;
-use board_meaning::vm_starting::program_law;
 use meant_files::images_law;
+use vm_starting::program_law;
 
 /// Where the image of the name `image` is that of a manifest's sources, over a library of images of manifests' sources, each task of a
 /// plan that is run on it prints and ends as the program of all these sources means whose main unit is the task's module: without

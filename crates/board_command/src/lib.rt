@@ -5,7 +5,5 @@ mod laws;
 mod plan;
 mod running;
 
-pub use command_files;
-pub use image_open;
 pub use laws::board_means_law;
 pub use running::board;

@@ -11,7 +11,7 @@ ghost use Rattle.board_command.specs.Boards.{Boards};
 ghost use Rattle.board_command.specs.Ends as spec;
 
 use crate::plan::planned;
-use board_meaning::board_files::{BoardStop, run_board};
+use board_files::{BoardStop, run_board};
 use command_files::mpy_endings::{BoardFault, Ended, Ending};
 use command_files::open_image_file;
 use image_open::bc_library::{Library, modules_law};

@@ -3,6 +3,4 @@
 
 mod laws;
 
-pub use board_files;
 pub use laws::tasks_law;
-pub use meant_runs::vm_starting;

@@ -15,15 +15,15 @@ ghost use Rattle.board_tasks.specs.Turns.{AreRuns, IsCountable, TurnsOne};
 use crate::ending::{TaskEnd, TurnEnd};
 use crate::opening::{BoardFault, first_missing, open_tasks};
 use crate::turning::TaskRun;
+use bc_library::Library;
 use board_plan::Task;
 use mpy_base::limits::MAX_TASKS;
 use mpy_base::{Refused, Room, Text};
 use mpy_io::Sink;
+use state_steps::bc_rows::Rows;
 use std::alloc::Global;
 use std::marker::Model;
-use vm_machine::bc_library::Library;
-use vm_machine::bc_rows::Rows;
-use vm_machine::vm_starting::Cache;
+use vm_starting::Cache;
 
 /// The runs of tasks on one library, each with an arena, frames and modules of its own and without ports. All its memory is taken
 /// where it is opened.

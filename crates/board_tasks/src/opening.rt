@@ -5,13 +5,13 @@ ghost use Rattle.board_tasks.specs.Opened.{AreOpened, IsOpened, first_missing, n
 ghost use Rattle.vm_starting.specs.Programs.{IsRunnable};
 
 use crate::turning::TaskRun;
+use bc_library::{Library, Member};
 use board_plan::Task;
 use mpy_base::{NoMemory, Text};
+use state_steps::bc_rows::Rows;
 use std::alloc::Global;
-use vm_machine::bc_library::{Library, Member};
-use vm_machine::bc_rows::Rows;
 use vm_machine::open;
-use vm_machine::vm_starting::program_law;
+use vm_starting::program_law;
 
 /// Why tasks have no board.
 #[derive(Debug, Drop)]

@@ -10,15 +10,15 @@ ghost use Rattle.board_tasks.specs.Turns.{TurnsSo};
 
 use crate::ending::{TaskEnd, TurnEnd};
 use arena_heap::exc_parts;
+use bc_library::Library;
 use mpy_io::{Failed, ScriptPort, Sink};
 use port_set::PortSet;
+use state_steps::bc_rows::Rows;
+use state_steps::frame_exits::End;
 use std::alloc::Global;
 use vm_frames::bc_machine::{output_law, prefix_law, runs_law};
-use vm_machine::bc_library::Library;
-use vm_machine::bc_rows::Rows;
-use vm_machine::frame_exits::End;
 use vm_machine::run;
-use vm_machine::vm_starting::{Cache, Vm};
+use vm_starting::{Cache, Vm};
 
 /// The run of a task.
 #[derive(Drop)]

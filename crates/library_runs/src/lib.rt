@@ -9,5 +9,3 @@ mod running;
 pub use ending::RunEnd;
 pub use laws::accounted_law;
 pub use running::run_library;
-pub use vm_frames::bc_machine;
-pub use vm_machine::vm_starting;

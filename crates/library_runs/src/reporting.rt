@@ -6,11 +6,11 @@ ghost use Rattle.library_runs.specs.Reports.{answer_of, said_by};
 ghost use Rattle.library_runs.specs.Runs.{Says, speaks};
 
 use crate::ending::RunEnd;
+use bc_library::Library;
 use mpy_io::Sink;
 use prim_outputs::{put_no_room, put_report};
-use vm_machine::bc_library::Library;
-use vm_machine::frame_exits::End;
-use vm_machine::vm_starting::Vm;
+use state_steps::frame_exits::End;
+use vm_starting::Vm;
 
 /// Says of a run that is over how it ended, where an exception or want of room ended it. A put that fails changes nothing else.
 pub(crate) fn say_end<E: Sink>(vm: &Vm, library: &Library, say: &mut E) -> RunEnd

@@ -10,15 +10,15 @@ ghost use Rattle.library_runs.specs.Runs.{RunsAs, Says, IsOver, is_write_fault, 
 
 use crate::ending::RunEnd;
 use crate::reporting::say_end;
+use bc_library::Library;
 use mpy_base::{NoMemory, Room};
 use mpy_io::{Failed, Port, Sink};
 use port_set::PortSet;
+use state_steps::bc_rows::Rows;
 use std::alloc::Global;
 use vm_frames::bc_machine::{output_law, put_law};
-use vm_machine::bc_library::Library;
-use vm_machine::bc_rows::Rows;
-use vm_machine::vm_starting::{Cache, program_law};
 use vm_machine::{open, run};
+use vm_starting::{Cache, program_law};
 
 /// Runs the library's module of this number as the main one, in an arena of this room, for these steps at most. What was printed
 /// is handed on before anything is said.

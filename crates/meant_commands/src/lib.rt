@@ -5,12 +5,7 @@
 mod going;
 mod meant;
 
-pub use file_commands;
 pub use going::{run_law, sources_law};
-pub use image_commands;
 pub use meant::{
     crossed_holds_law, go_means_law, holds_law, image_holds_law, makes_law, run_means_law,
 };
-pub use meant_files::meant_runs;
-pub use mpy_endings;
-pub use run_commands;

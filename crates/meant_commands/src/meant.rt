@@ -26,8 +26,8 @@ ghost use Rattle.run_commands.specs.Ready.{GoLibrary, RunLibrary};
 ghost use Rattle.run_commands.specs.Run.{EndsRun};
 ghost use Rattle.meant_files.specs.Programs.{HoldsImageOf, IsLibraryOf, IsProgramOf, Sources};
 
-use meant_files::meant_runs::meant_law;
 use meant_files::{checked_law, crossed_law, files_law, frozen_law, images_law, sources_law};
+use meant_runs::meant_law;
 
 /// A run of a file or an image, over whichever library, and of a source, does as each program means whose units its library has.
 pub fn run_means_law()

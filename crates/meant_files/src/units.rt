@@ -15,9 +15,9 @@ use bc_resolved::resolves_law;
 use frozen_files::emit_module::resolved_law;
 use frozen_files::mpy_compile::within_law;
 use image_open::mpy_reader::file_law;
-use meant_runs::trans_laws::fitting_law;
 use py_source::{accepted_law, asked_law};
 use tr_source::compiled_law;
+use trans_laws::fitting_law;
 
 /// What a source compiles to under a stored name is a file, and one of the unit that the source is read as. Its module is
 /// verified, so that nothing that reads and verifies files refuses it.

@@ -5,6 +5,4 @@ mod headline;
 mod runs;
 
 pub use headline::meant_law;
-pub use library_runs::vm_starting;
 pub use runs::{links_law, runs_law};
-pub use trans_laws;

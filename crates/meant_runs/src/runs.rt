@@ -16,9 +16,9 @@ ghost use Rattle.meant_runs.specs.Runs.{MeansRun};
 
 use bc_resolved::resolves_law;
 use bc_scheme::py_meaning::{ended_law, prefix_law};
-use library_runs::bc_machine::{ended_law as machine_ended_law, prefix_law as machine_prefix_law};
-use library_runs::vm_starting::program_law;
 use sim_stmt::behaves_law;
+use vm_frames::bc_machine::{ended_law as machine_ended_law, prefix_law as machine_prefix_law};
+use vm_starting::program_law;
 
 /// The machine's library of a library of a program's files has the program's modules.
 pub fn links_law()

@@ -19,11 +19,11 @@ ghost use Rattle.mpy_tool.specs.Order.{runs_library};
 use crate::below::{or_nothing, release};
 use crate::outside::Outside;
 use image_grammar::bc_library::Library;
-use meant_commands::mpy_endings::{Ending, main_name, say_ending, word_at};
-use meant_commands::run_commands::{Ready, run_loaded, run_ready, source_ready};
 use mpy_base::{NoMemory, Room};
+use mpy_endings::{Ending, main_name, say_ending, word_at};
 use mpy_io::{Folder, Port, Sink};
 use mpy_words::{Command, Order};
+use run_commands::{Ready, run_loaded, run_ready, source_ready};
 use std::alloc::Global;
 
 /// The library of the file of this name, an image over the library of a base, if one is ordered, or what keeps it from being run.

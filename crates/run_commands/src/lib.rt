@@ -7,7 +7,6 @@ mod ready;
 mod run;
 
 pub use base::base_of;
-pub use command_files::mpy_endings;
 pub use go::source_ready;
 pub use ready::Ready;
 pub use run::{run_loaded, run_ready};

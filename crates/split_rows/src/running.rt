@@ -19,8 +19,8 @@ use mpy_reader::read;
 use port_set::PortSet;
 use std::alloc::Global;
 use std::mem;
-use vm_machine::vm_starting::{Cache, Vm};
 use vm_machine::{open, run, used};
+use vm_starting::{Cache, Vm};
 
 /// The greatest count of steps that are paid on an instruction, for which a run goes on.
 const MOST_PAID: u64 = 1 << 62;

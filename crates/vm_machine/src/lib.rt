@@ -11,8 +11,5 @@ mod paying;
 mod running;
 mod stepping;
 
-pub use bc_library;
 pub use opening::{open, used};
 pub use running::run;
-pub use state_steps::{bc_rows, frame_exits};
-pub use vm_starting;
