@@ -1,6 +1,7 @@
 -- How a run of a library of files ends, and what is seen of it.
 use Rattle.std.specs.Prelude.{◌≡◌, ◌⊎◌, ℕ, ◌+◌, ◌<◌, ◌≤◌, List, [], ◌++◌, map, Bool, true, false, Option, Some}
 use Rattle.std.specs.Io.KnownBytes.{Appends}
+use Rattle.mpy_base.specs.declared.room.NoRoom.{NoRoom}
 use Rattle.mpy_base.specs.declared.room.Room.{Room}
 use Rattle.mpy_base.specs.Val.{PlainWorld}
 use Rattle.mpy_base.specs.World.{PortState}
@@ -80,7 +81,7 @@ is_write_fault ends.NoMemory = false
 abbrev pub IsSaid : RunEnd → List ℕ → Type 0
 IsSaid ends.Ended said = said ≡ []
 IsSaid ends.Raised said = (heap : PlainHeap) × (x : ℕ) × (said ≡ end_report heap (plain.Raised x))
-IsSaid ends.Memory said = (room : Room) × (said ≡ room_line room)
+IsSaid ends.Memory said = (room : NoRoom) × (said ≡ room_line room)
 IsSaid ends.Limit said = said ≡ []
 IsSaid ends.WriteFault said = said ≡ []
 IsSaid ends.NoMemory said = said ≡ []
