@@ -28,13 +28,13 @@ returns-in-Err-Unwritten-clause-cut g c = λ task e p is.
     subst (λ (n : ℕ). HasStoppedIn p c.args.plan.now (Some n) old new) same
     (subst (λ (stop : OutputStop). HasStoppedIn p c.args.plan.now (cut_of stop) old new) c.in-Err-Unwritten.field-0-is (c.in-Err-Unwritten.ensures.stopped p is))
 
-pub returns-in-Err-NoMemory-clause-short : goal.returns-in-Err-NoMemory-clause-short
-returns-in-Err-NoMemory-clause-short g c = λ e p is.
+pub returns-in-Err-NoMemory-summarize-clause-short : goal.returns-in-Err-NoMemory-summarize-clause-short
+returns-in-Err-NoMemory-summarize-clause-short g c = λ e p is.
     whole_stops c.stands_law.ensures.starts c.args.library.now c.args.plan.now c.args.board.now c.requires.opened c.stands_law.ensures.output c.write_output.new.board
     (g.F.Folder.files c.args.folder.now) (g.F.Folder.files c.write_output.new.folder) p is (c.in-Ok.ensures.written p is)
 
-pub returns-in-Err-NoMemory-2-clause-short : goal.returns-in-Err-NoMemory-2-clause-short
-returns-in-Err-NoMemory-2-clause-short g c = λ e p is.
+pub returns-in-Err-NoMemory-clause-short : goal.returns-in-Err-NoMemory-clause-short
+returns-in-Err-NoMemory-clause-short g c = λ e p is.
     let old = g.F.Folder.files c.args.folder.now in
     let new = g.F.Folder.files c.write_output.new.folder in
-    subst (λ (stop : OutputStop). HasStoppedIn p c.args.plan.now (cut_of stop) old new) c.in-Err-NoMemory-2.field-0-is (c.in-Err-NoMemory-2.ensures.stopped p is)
+    subst (λ (stop : OutputStop). HasStoppedIn p c.args.plan.now (cut_of stop) old new) c.in-Err-NoMemory.field-0-is (c.in-Err-NoMemory.ensures.stopped p is)

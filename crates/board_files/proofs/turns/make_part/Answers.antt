@@ -21,5 +21,5 @@ returns-in-Went-clause-stopped g c =
     (ap (λ (s : SinkState). s.bytes) c.new-out.ensures) c.bytes.ensures c.in-Went.ensures.turns c.requires.few (g.F.Folder.files c.args.folder.now) (g.F.Folder.files c.append_output.new.folder)
     c.append_output.result c.append_output.ensures.cut c.append_output.ensures.starved
 
-pub returns-in-WriteFault-clause-stopped : goal.returns-in-WriteFault-clause-stopped
-returns-in-WriteFault-clause-stopped g c = λ p is. starved_stops c.stands_law.ensures.output p c.args.task c.args.steps c.args.board.now (g.F.Folder.files c.args.folder.now)
+pub returns-clause-stopped : goal.returns-clause-stopped
+returns-clause-stopped g c = λ p is. starved_stops c.stands_law.ensures.output p c.args.task c.args.steps c.args.board.now (g.F.Folder.files c.args.folder.now)
