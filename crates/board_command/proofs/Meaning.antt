@@ -8,7 +8,7 @@ use Rattle.image_open.specs.bc_library.declared.fault.Member.TheVariants as memb
 use Rattle.image_open.specs.bc_library.Shelf.{Shelf, member_of}
 use Rattle.py_meaning.specs.Program.{Program}
 use Rattle.vm_starting.specs.vm_states.Means as machine
-use Rattle.vm_starting.specs.Programs.{IsProgramOf, IsRunnable}
+use Rattle.vm_starting.specs.Programs.{IsProgramOf as IsOfShelf, IsRunnable}
 use Rattle.meant_runs.specs.Units.{AreUnits}
 use Rattle.image_open.specs.Opens.{Opens}
 use Rattle.board_plan.specs.declared.plan.Plan.{Plan}
@@ -54,7 +54,7 @@ by_some e = cc
 
 -- what the law of the runs of plans says
 abbrev pub RunsMean : Type 0
-RunsMean = (shelf : Shelf) (p : machine.Program) (plan : Plan) (old new : FileOf) (before behind : Option (List ℕ)) (number : ℕ) (task : Task) (program : Program) → IsProgramOf shelf p
+RunsMean = (shelf : Shelf) (p : machine.Program) (plan : Plan) (old new : FileOf) (before behind : Option (List ℕ)) (number : ℕ) (task : Task) (program : Program) → IsOfShelf shelf p
     → (ran : HasRun p plan old new before behind) → slice_get plan.tasks number ≡ Some task → AreUnits program shelf → program.main_name ≡ task.«module»
     → RanAsMeant program plan number task new ran.summarizes.lines
 
@@ -64,7 +64,7 @@ pub record HasPrograms (IsProgram : (main : List ℕ) → Program → Type 0) (s
   pub units : (main : List ℕ) (place : ℕ) → member_of shelf main ≡ Some (members.Module place) → (program : Program) → IsProgram main program
       → (program.main_name ≡ main) × AreUnits program shelf
 
-module _ (mean : RunsMean) (exists : (shelf : Shelf) → IsRunnable shelf → (p : machine.Program) × IsProgramOf shelf p) where
+module _ (mean : RunsMean) (exists : (shelf : Shelf) → IsRunnable shelf → (p : machine.Program) × IsOfShelf shelf p) where
   -- over any library below
   pub tasks_mean : (IsProgram : (main : List ℕ) → Program → Type 0) (below : Shelf) (image plan_name : List ℕ) (files : FileOf) (new : Option FileOf) (before behind : Option (List ℕ)) (place : ℕ)
       → ((shelf : Shelf) → HoldsImage below (Some files) image shelf → HasPrograms IsProgram shelf) → Boards below image plan_name (Some files) new before behind place Done
@@ -92,7 +92,7 @@ module _ (mean : RunsMean) (exists : (shelf : Shelf) → IsRunnable shelf → (p
       main : (number : ℕ) (task : Task) → slice_get plan.tasks number ≡ Some task → (at : ℕ) × (member_of shelf task.«module» ≡ Some (members.Module at))
       main number task at = module_of shelf plan.tasks can.modules number task at
 
-      p : (p : machine.Program) × IsProgramOf shelf p
+      p : (p : machine.Program) × IsOfShelf shelf p
       p = exists shelf can.holds.runnable
 
       run : (now : FileOf) × (new ≡ Some now) × HasRun p.0 plan files now before behind
