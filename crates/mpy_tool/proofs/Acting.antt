@@ -170,7 +170,7 @@ module _ (order : Order) (call : Call) where
       let src = first_name call.words in
       let file = second_name call.words in
       ordered CheckAs (λ o. Shows call (EndsAt (λ old new before behind. ChecksAs o.level old src file before behind) call.words)) is
-      (λ e. checked_as order call None (as_command CheckAs e h))
+      (λ e. checked_as order call no_entries (as_command CheckAs e h))
 
   pub dump_ordered : Ok order ≡ order_of call.words → Obeyed order.command → OrdersOne call Dump (λ o file. Shows call (Ends Dumps file))
   dump_ordered is h =

@@ -2,7 +2,7 @@
 use Rattle.std.proofs.Common.{ℕ, Option, Some, None, inl, inr}
 use Rattle.image_grammar.specs.bc_library.Shelf.{Shelf, no_entries}
 use Rattle.mpy_words.specs.declared.order.Command.{Command}
-use Rattle.mpy_words.specs.declared.order.Command.TheVariants.{Go, Check, Dump, Cross, Merge, Freeze, Migrate, Run, Board, Stress}
+use Rattle.mpy_words.specs.declared.order.Command.TheVariants.{Go, Check, CheckAs, Dump, Cross, Merge, Freeze, Migrate, Run, Board, Stress}
 use Rattle.mpy_words.specs.declared.order.Order.{Order}
 use Rattle.run_commands.specs.Run.{room_of}
 use Rattle.mpy_endings.proofs.Statuses.{folder_stays, out_stays}
@@ -39,6 +39,7 @@ module _ (order : Order) (call : Call) (below : Shelf) where
   acts_stay : (command : Command) → ActsBy order call below command → LeavesCounts call
   acts_stay Go h = run_stays Go h
   acts_stay Check h = finish_stays Check h
+  acts_stay CheckAs h = finish_stays CheckAs h
   acts_stay Dump h = finish_stays Dump h
   acts_stay Cross h = finish_stays Cross h
   acts_stay Merge h = finish_stays Merge h
@@ -51,7 +52,7 @@ module _ (order : Order) (call : Call) (below : Shelf) where
 pub obeys_stay : (order : Order) (call : Call) (command : Command) → ObeysBy order call command → LeavesCounts call
 obeys_stay order call command h = by (base_by command order.base) h where
   by : (base : Option ℕ) → Based call base (λ below. ActsBy order call below command) → LeavesCounts call
-  by None h = acts_stay order call no_entries command h
+  by None h unread unwritten = acts_stay order call no_entries command h unread unwritten
   by (Some at) (inl h) unread unwritten =
       (folder_stays h.0.ending call.status h.0.status_is unread unwritten call.old.folder_faults call.new.folder_faults h.0.folder_counts, h.0.out_counts)
   by (Some at) (inr h) unread unwritten = acts_stay order call h.below command h.went unread unwritten

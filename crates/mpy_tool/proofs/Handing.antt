@@ -54,6 +54,7 @@ module _ (order : Order) (words : List (List ℕ)) (below : Shelf) (old new : Op
   not_stopped : (command : Command) (stop : Stop) → DoesBy order words below command old new before behind place (Stopped stop) → ⊥
   not_stopped Go stop p = p
   not_stopped Check stop p = p.0
+  not_stopped CheckAs stop p = elim p [ ]
   not_stopped Dump stop p = p.0
   not_stopped Cross stop p = p.0
   not_stopped Merge stop p = p.0

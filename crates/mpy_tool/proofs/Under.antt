@@ -6,7 +6,7 @@ use Rattle.image_grammar.specs.bc_library.Shelf.{Shelf, names, no_entries}
 use Rattle.image_grammar.specs.Base.{IsOpened, base_of}
 use Rattle.image_freeze.specs.Fronts.{MayLieOver}
 use Rattle.mpy_words.specs.declared.order.Command.{Command}
-use Rattle.mpy_words.specs.declared.order.Command.TheVariants.{Go, Check, Dump, Cross, Merge, Freeze, Migrate, Run, Board, Stress}
+use Rattle.mpy_words.specs.declared.order.Command.TheVariants.{Go, Check, CheckAs, Dump, Cross, Merge, Freeze, Migrate, Run, Board, Stress}
 use Rattle.mpy_tool.specs.Below.{MayLieBelow, image_version, library_below}
 use Rattle.mpy_tool.specs.Order.{base_by}
 
@@ -37,6 +37,7 @@ may_lie (Some below) (Some at) library h e = inr refl
 pub base_there : (command : Command) (base : Option ℕ) (at : ℕ) (below : Shelf) → Some at ≡ base_by command base → IsOpened below → MayLieBelow (Some below) base
 base_there Go base at below e is = absurd cc
 base_there Check base at below e is = absurd cc
+base_there CheckAs base at below e is = absurd cc
 base_there Dump base at below e is = absurd cc
 base_there Cross base at below e is = absurd cc
 base_there Merge base at below e is = absurd cc

@@ -11,8 +11,8 @@ use Rattle.mpy_tool.proofs.Acting.{acts_again, over_base, at_base}
 use Rattle.mpy_tool.proofs.Under.{base_there}
 use Rattle.mpy_tool.proofs.top.obey.Goals as goal
 
-pub act-in-Ok-requires-clause-below : goal.act-in-Ok-requires-clause-below
-act-in-Ok-requires-clause-below g c = base_there c.args.order.command c.args.order.base c.in-Some.at c.in-Ok.below c.in-Some.ensures c.in-Ok.ensures.opened
+pub act-requires-in-Ok-clause-below : goal.act-requires-in-Ok-clause-below
+act-requires-in-Ok-clause-below g c = base_there c.args.order.command c.args.order.base c.in-Some.at c.in-Ok.below c.in-Some.ensures c.in-Ok.ensures.opened
 
 pub returns-in-Ok-clause-ended : goal.returns-in-Ok-clause-ended
 returns-in-Ok-clause-ended g c =
