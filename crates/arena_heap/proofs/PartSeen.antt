@@ -2,7 +2,7 @@
 use Rattle.std.proofs.Common.{ℕ, suc, ◌+◌, ◌<◌, ◌≤◌, ◌≡◌, List, [], ◌∷◌, length, Option, Some, None, get_or, set, refl, sym, ◌∙◌, ap, subst, arith, le_refl, get_or-set_same, get_or-set_other}
 use Rattle.std.proofs.Math.Path.{ap₂}
 use Rattle.std.specs.List.{All}
-use Rattle.std.specs.Option.{IfSome, option_map}
+use Rattle.std.specs.Option.{IfSome, MatchOption, option_map}
 use Rattle.std.specs.Vec.{vec_capacity}
 use Rattle.std.proofs.lemmas.List.{get_or_default}
 use Rattle.mpy_base.specs.declared.kind.Kind.{Kind}
@@ -13,9 +13,9 @@ use Rattle.arena_heap.specs.declared.value.Value.TheVariants as values
 use Rattle.arena_heap.specs.declared.value.DictNo.{DictNo}
 use Rattle.arena_heap.specs.declared.cells.Cell.{Cell}
 use Rattle.arena_heap.specs.declared.cells.Cell.TheVariants as variants
-use Rattle.mpy_base.specs.World.{Heap, FunctionObject, ExceptionObject, MethodObject, ModuleObject, ADict, AnException, AModule, IsA, object, placed, named, with_place, with_names}
-use Rattle.arena_heap.specs.Values.{ArenaObject, Leads, held, IsFormed}
-use Rattle.arena_heap.specs.Cells.{blank, value_of, dict_number, dict_in, place_in, kind_at, heads, first, size, part, decode, read, heap_of, In, Holds, IsArena}
+use Rattle.mpy_base.specs.World.{Heap, FunctionObject, ExceptionObject, MethodObject, ModuleObject, ADict, AnException, AModule, IsA, kind_of, object, placed, named, with_place, with_names}
+use Rattle.arena_heap.specs.Values.{ArenaObject, BeginsAt, Leads, held, IsFormed}
+use Rattle.arena_heap.specs.Cells.{blank, value_of, dict_number, dict_in, place_in, kind_at, head_of, heads, object_in, first, size, part, decode, read, heap_of, In, Holds, IsArena}
 use Rattle.arena_heap.proofs.Regions.{length-part, get_or-part}
 use Rattle.arena_heap.proofs.Frame.{holds_plain}
 use Rattle.arena_heap.proofs.ListCells.{part-set}
@@ -159,3 +159,16 @@ module _ (a : Inside) {h : Heap Value ℕ} (i : Invariant a) (e : seen a ≡ h) 
       let inside = behind a i n (variants.ModuleHead name) head in
       let at_x = read_part a.cells.items n 0 1 (n + 1) x (omega arith) (omega arith) (omega arith) ex in
       seen_object a e n head ∙ (ap (λ (p : Cell). Some (ModuleObject name (dict_in p))) at_x ∙ ap (λ (k : Option ℕ). Some (ModuleObject name k)) (sym e0))
+
+-- the object that begins at a cell that was read
+pub seen_begins : (a : Inside) {h : Heap Value ℕ} → seen a ≡ h → (n : ℕ) (c : Cell) → get_or a.cells.items n blank ≡ c → MatchOption (object_in c n) (object h.objects n ≡ None) (BeginsAt h.objects n)
+seen_begins a e n (variants.ListHead r) q = (refl, ap kind_of (seen_object a e n (ap head_of q)))
+seen_begins a e n (variants.DictHead r) q = (refl, ap kind_of (seen_object a e n (ap head_of q)))
+seen_begins a e n (variants.TupleHead k) q = (refl, ap kind_of (seen_object a e n (ap head_of q)))
+seen_begins a e n (variants.TextHead t) q = (refl, ap kind_of (seen_object a e n (ap head_of q)))
+seen_begins a e n (variants.FunHead name m code) q = (refl, ap kind_of (seen_object a e n (ap head_of q)))
+seen_begins a e n (variants.ExcHead kind) q = (refl, ap kind_of (seen_object a e n (ap head_of q)))
+seen_begins a e n (variants.MethodHead method) q = (refl, ap kind_of (seen_object a e n (ap head_of q)))
+seen_begins a e n (variants.RangeHead start stop step) q = (refl, ap kind_of (seen_object a e n (ap head_of q)))
+seen_begins a e n (variants.ModuleHead name) q = (refl, ap kind_of (seen_object a e n (ap head_of q)))
+seen_begins a e n _ q = seen_object a e n (ap head_of q)

@@ -5,6 +5,8 @@ use Rattle.arena_heap.specs.declared.value.Value.{Value}
 use Rattle.arena_heap.specs.declared.value.Value.TheVariants as values
 use Rattle.arena_heap.specs.declared.value.StrNo.TheVariants as strs
 use Rattle.arena_heap.specs.declared.value.TextNo.{TextNo}
+use Rattle.arena_heap.specs.declared.value.ObjectNo.{ObjectNo}
+use Rattle.arena_heap.specs.declared.value.ObjectNo.TheVariants as numbers
 use Rattle.arena_heap.specs.declared.cells.Cell.{Cell}
 use Rattle.arena_heap.specs.declared.cells.Cell.TheVariants as cells
 use Rattle.mpy_base.specs.World.{ListObject, TupleObject, TextObject, DictObject, FunctionObject, ExceptionObject, MethodObject, RangeObject, ModuleObject, Heap, ObjectKind, AList, ATuple, AText, ADict, AFunction, AnException, AMethod, ARange, AModule}
@@ -69,6 +71,19 @@ kind_at (cells.MethodHead method) = Some AMethod
 kind_at (cells.RangeHead start stop step) = Some ARange
 kind_at (cells.ModuleHead name) = Some AModule
 kind_at _ = None
+
+-- the number of the object that the cell at this place is the first of
+abbrev pub object_in : Cell → ℕ → Option ObjectNo
+object_in (cells.ListHead r) n = Some (numbers.List (record { cell = n }))
+object_in (cells.DictHead r) n = Some (numbers.Dict (record { cell = n }))
+object_in (cells.TupleHead k) n = Some (numbers.Tuple (record { cell = n }))
+object_in (cells.TextHead t) n = Some (numbers.Text (record { cell = n }))
+object_in (cells.FunHead name module_no code) n = Some (numbers.Fun (record { cell = n }))
+object_in (cells.ExcHead kind) n = Some (numbers.Exc (record { cell = n }))
+object_in (cells.MethodHead method) n = Some (numbers.Method (record { cell = n }))
+object_in (cells.RangeHead start stop step) n = Some (numbers.Range (record { cell = n }))
+object_in (cells.ModuleHead name) n = Some (numbers.Module (record { cell = n }))
+object_in _ n = None
 
 -- the cell, where it is a head
 abbrev pub head_of : Cell → Cell

@@ -1,9 +1,11 @@
 -- What the values and objects of an arena keep.
-use Rattle.std.specs.Prelude.{◌≢◌, ℕ, ℤ, pos, neg_ℤ, ◌^◌, ◌<◌, ◌≤◌, ◌≤ℤ◌, ◌<ℤ◌, length, List, [], ◌∷◌, ◌++◌, Option, Some, None, map, All}
+use Rattle.std.specs.Prelude.{◌≡◌, ◌≢◌, ℕ, ℤ, pos, neg_ℤ, ◌^◌, ◌<◌, ◌≤◌, ◌≤ℤ◌, ◌<ℤ◌, length, List, [], ◌∷◌, ◌++◌, Option, Some, None, map, All}
 use Rattle.mpy_base.specs.declared.builtin.Builtin.{Builtin}
 use Rattle.mpy_base.specs.declared.builtin.Builtin.TheVariants as builtins
 use Rattle.arena_heap.specs.declared.value.Value.{Value}
 use Rattle.arena_heap.specs.declared.value.Value.TheVariants as values
+use Rattle.arena_heap.specs.declared.value.ObjectNo.{ObjectNo}
+use Rattle.arena_heap.specs.declared.value.ObjectNo.TheVariants as numbers
 use Rattle.mpy_base.specs.World.{Object, ListObject, TupleObject, TextObject, DictObject, FunctionObject, ExceptionObject, MethodObject, RangeObject, ModuleObject, Objects, ObjectKind, AList, ATuple, AText, ADict, AFunction, AnException, AMethod, ARange, AModule, object, IsA}
 
 -- an object of an arena: it has these values, and names by number
@@ -135,3 +137,15 @@ HasFew (Some (ListObject items room)) = length items < 2 ^ 32
 HasFew (Some (TupleObject items)) = length items < 2 ^ 32
 HasFew (Some (DictObject pairs room)) = length pairs < 2 ^ 32
 HasFew _ = Unit {0}
+
+-- the object that begins at a cell has this number, and is of its kind
+abbrev pub BeginsAt : Objects Value ℕ → ℕ → ObjectNo → Type 0
+BeginsAt objects n (numbers.List l) = (l.cell ≡ n) × IsA objects AList l.cell
+BeginsAt objects n (numbers.Dict d) = (d.cell ≡ n) × IsA objects ADict d.cell
+BeginsAt objects n (numbers.Tuple t) = (t.cell ≡ n) × IsA objects ATuple t.cell
+BeginsAt objects n (numbers.Text t) = (t.cell ≡ n) × IsA objects AText t.cell
+BeginsAt objects n (numbers.Fun f) = (f.cell ≡ n) × IsA objects AFunction f.cell
+BeginsAt objects n (numbers.Exc e) = (e.cell ≡ n) × IsA objects AnException e.cell
+BeginsAt objects n (numbers.Method m) = (m.cell ≡ n) × IsA objects AMethod m.cell
+BeginsAt objects n (numbers.Range r) = (r.cell ≡ n) × IsA objects ARange r.cell
+BeginsAt objects n (numbers.Module m) = (m.cell ≡ n) × IsA objects AModule m.cell

@@ -69,6 +69,14 @@ impl Arena {
         self.scratch = Some(scratch);
     }
 
+    /// The room that there is.
+    pub fn room(&self) -> Room
+        ensures cells { result.cells ≡ self.now.cell_size }
+        ensures bytes { result.bytes ≡ self.now.byte_size }
+    {
+        self.room
+    }
+
     /// The room used.
     pub fn used(&self) -> Room
         ensures cells { result.cells ≡ used self.now }

@@ -1,11 +1,11 @@
 //! What a cell of an arena holds.
 
 ghost use Rattle.std.specs.Prelude.{◌≡◌, option_map};
-ghost use Rattle.arena_heap.specs.Cells.{cell_of, value_of, dict_number, dict_in, place_in, first_link, next_link};
+ghost use Rattle.arena_heap.specs.Cells.{cell_of, value_of, dict_number, dict_in, object_in, place_in, first_link, next_link};
 
 use crate::value::{
-    ConstNo, DictNo, ExcNo, FunNo, ListNo, MethodNo, ModuleNo, RangeNo, StrNo, TextNo, TupleNo,
-    Value,
+    ConstNo, DictNo, ExcNo, FunNo, ListNo, MethodNo, ModuleNo, ObjectNo, RangeNo, StrNo, TextNo,
+    TupleNo, Value,
 };
 use mpy_base::{Builtin, Kind};
 
@@ -113,6 +113,24 @@ impl Cell {
             Cell::Module(m) => Value::Module(m),
             Cell::Built(b) => Value::Built(b),
             _ => Value::None,
+        }
+    }
+
+    /// The object whose first cell this is, at its place, if it is one.
+    pub(crate) fn object(self, cell: u32) -> Option<ObjectNo>
+        ensures { result ≡ object_in self cell }
+    {
+        match self {
+            Cell::ListHead(_) => Some(ObjectNo::List(ListNo { cell })),
+            Cell::DictHead(_) => Some(ObjectNo::Dict(DictNo { cell })),
+            Cell::TupleHead(_) => Some(ObjectNo::Tuple(TupleNo { cell })),
+            Cell::TextHead(_) => Some(ObjectNo::Text(TextNo { cell })),
+            Cell::FunHead { .. } => Some(ObjectNo::Fun(FunNo { cell })),
+            Cell::ExcHead(_) => Some(ObjectNo::Exc(ExcNo { cell })),
+            Cell::MethodHead(_) => Some(ObjectNo::Method(MethodNo { cell })),
+            Cell::RangeHead { .. } => Some(ObjectNo::Range(RangeNo { cell })),
+            Cell::ModuleHead(_) => Some(ObjectNo::Module(ModuleNo { cell })),
+            _ => None,
         }
     }
 

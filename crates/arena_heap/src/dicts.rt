@@ -25,6 +25,14 @@ pub fn dict_len(arena: &Arena, d: DictNo) -> u32
     dict_region(&arena.cells, d.cell).len
 }
 
+/// For how many pairs a dict has room.
+pub fn dict_room(arena: &Arena, d: DictNo) -> u32
+    requires { IsA arena.now.objects ADict d.cell }
+    ensures { result ≡ room_at arena.now d.cell }
+{
+    dict_region(&arena.cells, d.cell).room
+}
+
 /// The pair at a place: its key and its value.
 pub fn dict_at(arena: &Arena, d: DictNo, at: u32) -> Option<(Value, Value)>
     requires { IsA arena.now.objects ADict d.cell }

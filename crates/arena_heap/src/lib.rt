@@ -19,17 +19,19 @@ pub use arena::Arena;
 pub use constants::Constants;
 pub use dicts::{
     dict_at, dict_before, dict_last, dict_last_text, dict_len, dict_push, dict_remove_at,
-    dict_set_at,
+    dict_room, dict_set_at,
 };
 pub use lists::{
-    list_append, list_at, list_insert, list_len, list_pop, list_set, put_in_list, reserve_list,
+    list_append, list_at, list_insert, list_len, list_pop, list_room, list_set, put_in_list,
+    reserve_list,
 };
 pub use parts::{
-    exc_parts, exc_place, fun_parts, method_parts, module_names, module_parts, range_parts,
+    exc_parts, exc_place, fun_parts, method_parts, module_names, module_parts, object_at,
+    range_parts,
 };
 pub use texts::{made_text, text_fill};
 pub use tuples::{tuple_at, tuple_fill, tuple_len};
 pub use value::{
-    ConstNo, DictNo, ExcNo, FunNo, ListNo, MethodNo, ModuleNo, RangeNo, StrNo, TextNo, TupleNo,
-    Value,
+    ConstNo, DictNo, ExcNo, FunNo, ListNo, MethodNo, ModuleNo, ObjectNo, RangeNo, StrNo, TextNo,
+    TupleNo, Value,
 };

@@ -35,6 +35,14 @@ pub fn list_len(arena: &Arena, l: ListNo) -> u32
     list_region(&arena.cells, l.cell).len
 }
 
+/// For how many items a list has room.
+pub fn list_room(arena: &Arena, l: ListNo) -> u32
+    requires { IsA arena.now.objects AList l.cell }
+    ensures { result ≡ room_at arena.now l.cell }
+{
+    list_region(&arena.cells, l.cell).room
+}
+
 /// The item at a place.
 pub fn list_at(arena: &Arena, l: ListNo, at: u32) -> Option<Value>
     requires { IsA arena.now.objects AList l.cell }

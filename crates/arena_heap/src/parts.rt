@@ -1,14 +1,23 @@
 //! The parts of functions, exceptions, bound methods, ranges and modules.
 
-ghost use Rattle.std.specs.Prelude.{◌≡◌, ◌≢◌, pos, Some, IfSome, option_map};
+ghost use Rattle.std.specs.Prelude.{◌≡◌, ◌≢◌, ◌<◌, pos, None, Some, IfSome, MatchOption, option_map};
 ghost use Rattle.mpy_base.specs.World.{FunctionObject, ExceptionObject, MethodObject, RangeObject, ModuleObject, ADict, AFunction, AnException, AMethod, ARange, AModule, IsA, Later, object, with_place, with_names};
-ghost use Rattle.arena_heap.specs.Values.{Leads, IsSmall, IsTuple, IsDefaults, IsMethodOf};
+ghost use Rattle.mpy_base.specs.Weights.{used};
+ghost use Rattle.arena_heap.specs.Values.{BeginsAt, Leads, IsSmall, IsTuple, IsDefaults, IsMethodOf};
 
 use crate::arena::Arena;
 use crate::cells::Cell;
 use crate::heads::{bound_method, exc_kind, fun_head, module_name, range_head};
-use crate::value::{DictNo, ExcNo, FunNo, MethodNo, ModuleNo, RangeNo, Value};
+use crate::value::{DictNo, ExcNo, FunNo, MethodNo, ModuleNo, ObjectNo, RangeNo, Value};
 use mpy_base::{Builtin, Kind};
+
+/// The object that begins at a cell, or None where none does.
+pub fn object_at(arena: &Arena, cell: u32) -> Option<ObjectNo>
+    requires { cell < used arena.now }
+    ensures { MatchOption result (object arena.now.objects cell ≡ None) (BeginsAt arena.now.objects cell) }
+{
+    arena.cells[cell as usize].object(cell)
+}
 
 /// The numbers of a function's name, its module and its code, then its namespace and its defaults.
 pub fn fun_parts(arena: &Arena, f: FunNo) -> (u32, u32, u32, DictNo, Value)

@@ -93,3 +93,17 @@ pub enum Value {
     Module(ModuleNo),
     Built(Builtin),
 }
+
+/// The number of an object, by its kind.
+#[derive(Clone, Copy, Debug, PartialEq, Eq)]
+pub enum ObjectNo {
+    List(ListNo),
+    Dict(DictNo),
+    Tuple(TupleNo),
+    Text(TextNo),
+    Fun(FunNo),
+    Exc(ExcNo),
+    Method(MethodNo),
+    Range(RangeNo),
+    Module(ModuleNo),
+}

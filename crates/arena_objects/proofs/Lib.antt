@@ -1,3 +1,4 @@
+pub use Rattle.arena_heap.proofs as arena_heap_lemmas
 mod IterableExamples
 pub mod AfterSet
 pub mod Numbered

@@ -9,11 +9,7 @@ mod keys;
 mod ranges;
 mod strs;
 
-pub use arena_heap::{
-    dict_at, dict_len, exc_parts, exc_place, fun_parts, list_append, list_at, list_insert,
-    list_len, list_pop, list_set, method_parts, module_names, module_parts, range_parts, text_fill,
-    tuple_at, tuple_fill, tuple_len,
-};
+pub use arena_heap;
 pub use dicts::{dict_delete, dict_get, dict_set};
 pub use extend::{item_at, item_count, list_extend, make_byte, make_texts};
 pub use ranges::{range_count, range_number};

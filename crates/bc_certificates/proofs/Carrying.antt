@@ -2,9 +2,9 @@
 use Rattle.std.proofs.Common.{◌≡◌, ℕ, zero, suc, Bool, true, false, List, ◌++◌, length, map, Option, Some, None, refl, sym, ap, subst, ◌∙◌, append_assoc}
 use Rattle.std.proofs.lemmas.List.{map-append}
 use Rattle.std.specs.Prelude.{IfSome}
-use Rattle.bc_shapes.specs.declared.shape.Entry.{Entry}
-use Rattle.bc_shapes.specs.Shape.{At, Under}
-use Rattle.bc_shapes.proofs.Joins.{under_refl}
+use Rattle.bc_flow.specs.bc_shapes.declared.shape.Entry.{Entry}
+use Rattle.bc_flow.specs.bc_shapes.Shape.{At, Under}
+use Rattle.bc_flow.proofs.bc_shapes_lemmas.Joins.{under_refl}
 use Rattle.bc_flow.specs.Action.{Action}
 use Rattle.bc_flow.specs.Code.{Code}
 use Rattle.bc_flow.specs.Edges.{Way, Edge, ways, next_way, jump_way, raise_ways, run_ways, edge_of, edges, behind, change, target, runs}

@@ -1,2 +1,3 @@
+pub use Rattle.bc_flow.proofs as bc_flow_lemmas
 pub mod Carrying
 pub mod Checks

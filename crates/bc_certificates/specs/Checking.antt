@@ -1,9 +1,9 @@
 -- What a check of rows finds out of one position.
 use Rattle.std.specs.Prelude.{◌≡◌, ℕ, zero, suc, true, ◌&&◌, List, length, map, Option, None, IfSome, nat_le, option_map, Bool}
-use Rattle.bc_shapes.specs.declared.shape.Shape.{Shape}
-use Rattle.bc_shapes.specs.declared.shape.Entry.{Entry}
-use Rattle.bc_shapes.specs.Shape.{At, Under}
-use Rattle.bc_shapes.specs.Views.{at_of}
+use Rattle.bc_flow.specs.bc_shapes.declared.shape.Shape.{Shape}
+use Rattle.bc_flow.specs.bc_shapes.declared.shape.Entry.{Entry}
+use Rattle.bc_flow.specs.bc_shapes.Shape.{At, Under}
+use Rattle.bc_flow.specs.bc_shapes.Views.{at_of}
 use Rattle.bc_flow.specs.Action.{Action}
 use Rattle.bc_flow.specs.Code.{Code}
 use Rattle.bc_flow.specs.Edges.{Edge, asks, behind, change, edges_marked, is_marked, finds, room, stays}

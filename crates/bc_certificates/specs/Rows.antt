@@ -1,7 +1,7 @@
 -- Certificates of verified code: rows for the positions where edges meet. The positions between have what they carry.
 use Rattle.std.specs.Prelude.{◌≡◌, ℕ, zero, suc, Bool, true, false, ◌&&◌, List, [], ◌∷◌, ◌++◌, length, map, Option, Some, None, IfSome, nat_lt, slice_get}
-use Rattle.bc_shapes.specs.declared.shape.Entry.{Entry}
-use Rattle.bc_shapes.specs.Shape.{At, Under}
+use Rattle.bc_flow.specs.bc_shapes.declared.shape.Entry.{Entry}
+use Rattle.bc_flow.specs.bc_shapes.Shape.{At, Under}
 use Rattle.bc_flow.specs.Action.{Action}
 use Rattle.bc_flow.specs.Code.{Code}
 use Rattle.bc_flow.specs.Edges.{Way, Next, Edge, edge_of, arrive, behind, change, falls, target, runs, jump_way, raise_ways, run_ways, holds, finds, room, stays}

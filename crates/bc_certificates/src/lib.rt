@@ -9,6 +9,7 @@ mod checking;
 mod searching;
 mod spreading;
 
+pub use bc_flow;
 pub use checking::check;
 pub use searching::{certified, search};
 

@@ -3,7 +3,7 @@
 
 ghost use Rattle.std.specs.Prelude.{◌≡◌, ◌<◌, IfOk, length};
 ghost use Rattle.std.specs.Bool.{OnTrue};
-ghost use Rattle.bc_shapes.specs.Views.{at_of};
+ghost use Rattle.bc_flow.specs.bc_shapes.Views.{at_of};
 ghost use Rattle.bc_flow.specs.Code.{code_of};
 ghost use Rattle.bc_flow.specs.Edges as edges_specs;
 ghost use Rattle.bc_flow.specs.Verified.{Verified};
@@ -11,12 +11,12 @@ ghost use Rattle.bc_flow.specs.Views.{action_of};
 
 use crate::checking::check;
 use crate::spreading::spread;
+use bc_flow::bc_shapes::{Kind, Shape, Span, below, join, union};
 use bc_flow::{
-    Action, Code, Edge, Kind, Shape, action_at, base, change_of, copy, entries_behind, falls,
-    jump_edge, next_edge, nothing, raise_edge, run_count, run_edge, same_entries,
+    Action, Code, Edge, action_at, base, change_of, copy, entries_behind, falls, jump_edge,
+    next_edge, nothing, raise_edge, run_count, run_edge, same_entries,
 };
 use bc_ops::{Item, Target};
-use bc_shapes::{Span, below, join, union};
 use mpy_base::NoMemory;
 use std::alloc::Global;
 use std::cmp::Reverse;

@@ -1,3 +1,4 @@
+pub use Rattle.bc_shapes.proofs as bc_shapes_lemmas
 pub mod Decides
 pub mod Few
 pub mod Fronts

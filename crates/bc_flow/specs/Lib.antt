@@ -1,3 +1,4 @@
+pub use Rattle.bc_shapes.specs as bc_shapes
 pub mod Action
 pub mod Code
 pub mod Edges

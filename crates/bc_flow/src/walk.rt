@@ -12,7 +12,7 @@ ghost use Rattle.bc_flow.specs.Code.{Code as SpecCode, code_of};
 ghost use Rattle.bc_flow.specs.declared.code.Code.{Code as RustCode};
 ghost use Rattle.bc_flow.specs.Machine.{NeverStuck};
 ghost use Rattle.bc_flow.specs.Verified as specs;
-ghost use Rattle.bc_flow.specs.Verified.{Verified, Holds, FirstFault, IsLeast, IsLeastOf, IsPending, Decides, Assigned, Table, at, done_at, seen};
+ghost use Rattle.bc_flow.specs.Verified.{Verified, Holds, FirstFault, IsLeast, IsLeastOf, IsPending, Decides, Reached, Assigned, Table, at, done_at, seen};
 ghost use Rattle.bc_flow.specs.Judged.{Judges};
 ghost use Rattle.bc_flow.specs.Queue.{Queued};
 ghost use Rattle.bc_flow.specs.Spans.{EachOutside, IsClear, Keeps, Outside, Remembers, Since, StillHolds, updated};
@@ -587,6 +587,7 @@ pub fn flow(alloc: Global, code: &Code) -> Result<Result<Vec<State>, Fault>, NoM
     // What is found meets the rules along all edges, and lies below all else that does.
     ensures holds { IfOk result (λ r. IfOk r (λ v. Holds (code_of code.now) (at (table_of v.items)))) }
     ensures least { IfOk result (λ r. IfOk r (λ v. IsLeastOf (code_of code.now) (at (table_of v.items)))) }
+    ensures reached { IfOk result (λ r. IfOk r (λ v. Reached (code_of code.now) (table_of v.items))) }
 
     // A fault is the first, and then nothing meets the rules.
     ensures faults { IfOk result (λ r. IfErr r (λ f. FirstFault (code_of code.now) f.rule f.position)) }

@@ -1,4 +1,7 @@
+pub mod Arrival
 pub mod Fewest
+pub mod Order
+pub mod Pieces
 pub mod Positions
 pub mod Reading
 pub mod Sizes

@@ -2,3 +2,4 @@ pub mod Choice
 pub mod Labels
 pub mod Listed
 pub mod Places
+pub mod Positions

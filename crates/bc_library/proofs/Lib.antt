@@ -1,3 +1,4 @@
+pub use Rattle.bc_verify.proofs as bc_verify_lemmas
 mod Examples
 pub mod Files
 pub mod Objectless

@@ -11,13 +11,13 @@ use Rattle.std.proofs.lemmas.List.Folds.{list_any_at}
 use Rattle.std.proofs.lemmas.Option.{slice_get_within, slice_get-get_or, get_or_from_slice_get}
 use Rattle.std.proofs.lemmas.Slice.Eq.{bytes_eq-Decides}
 use Rattle.mpy_base.specs.declared.limits.TheConstants.{MAX_TABLE}
-use Rattle.qstr_pool.specs.declared.table.TheConstants.{FIRST_OWN, STATIC_COUNT}
-use Rattle.qstr_pool.specs.Pool.{Texts, text_of, number_of, interned, first_texts, all_differ, IsOneToOne}
-use Rattle.qstr_pool.specs.Static.{static_texts, static_pool, static_text_of, static_number_of}
-use Rattle.qstr_pool.proofs.Places.{absent}
-use Rattle.mpy_tree.specs.declared.raw.Qstr.{Qstr}
-use Rattle.mpy_tree.specs.declared.raw.Qstr.TheVariants.{Static, Own}
-use Rattle.mpy_tree.specs.Raw as raw
+use Rattle.bc_verify.specs.qstr_pool.declared.table.TheConstants.{FIRST_OWN, STATIC_COUNT}
+use Rattle.bc_verify.specs.qstr_pool.Pool.{Texts, text_of, number_of, interned, first_texts, all_differ, IsOneToOne}
+use Rattle.bc_verify.specs.qstr_pool.Static.{static_texts, static_pool, static_text_of, static_number_of}
+use Rattle.bc_verify.proofs.qstr_pool_lemmas.Places.{absent}
+use Rattle.bc_verify.specs.mpy_tree.declared.raw.Qstr.{Qstr}
+use Rattle.bc_verify.specs.mpy_tree.declared.raw.Qstr.TheVariants.{Static, Own}
+use Rattle.bc_verify.specs.mpy_tree.Raw as raw
 use Rattle.bc_library.specs.Fine.{FineQstr}
 use Rattle.bc_library.specs.Texts.{AreNumbers, Extends, text_numbered, with_text, with_texts}
 

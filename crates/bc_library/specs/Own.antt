@@ -1,8 +1,8 @@
 -- The pool of a library.
 use Rattle.std.specs.Prelude.{◌≡◌, ℕ, List, None}
-use Rattle.qstr_pool.specs.declared.table.TheConstants.{FIRST_OWN}
-use Rattle.qstr_pool.specs.Pool.{Texts}
-use Rattle.qstr_pool.specs.Static.{static_number_of}
+use Rattle.bc_verify.specs.qstr_pool.declared.table.TheConstants.{FIRST_OWN}
+use Rattle.bc_verify.specs.qstr_pool.Pool.{Texts}
+use Rattle.bc_verify.specs.qstr_pool.Static.{static_number_of}
 use Rattle.bc_library.specs.Fine.{Each}
 use Rattle.bc_library.specs.Texts.{IsPlain}
 

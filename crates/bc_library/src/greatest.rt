@@ -1,13 +1,13 @@
 //! The greatest numbers of slots and of handler entries of codes.
 
 ghost use Rattle.std.specs.Prelude.{◌≡◌, ℕ, ◌<◌, ◌≤◌, List, Some};
-ghost use Rattle.mpy_tree.specs.declared.raw.RawCode.{RawCode};
-ghost use Rattle.mpy_tree.specs.File.{IsCode};
-ghost use Rattle.bc_prelude.specs.declared.prelude.Prelude.{Prelude};
+ghost use Rattle.bc_verify.specs.mpy_tree.declared.raw.RawCode.{RawCode};
+ghost use Rattle.bc_verify.specs.mpy_tree.File.{IsCode};
+ghost use Rattle.bc_verify.specs.bc_prelude.declared.prelude.Prelude.{Prelude};
 ghost use Rattle.bc_library.specs.Greatest.{HasPrelude, IsGreatestIn};
 
-use bc_prelude::parts_of;
-use mpy_tree::RawCode;
+use bc_verify::bc_prelude::parts_of;
+use bc_verify::mpy_tree::RawCode;
 
 /// The greatest of a code and of those in it, in `levels` levels of codes at most.
 pub(crate) fn greatest_in(code: &RawCode, levels: usize) -> (u32, u32)

@@ -4,7 +4,7 @@ ghost use Rattle.std.specs.Prelude.{◌≡◌, ◌↔◌, ℕ, ◌^◌, ◌<◌,
 ghost use Rattle.std.specs.List.{list_any};
 ghost use Rattle.std.specs.Str.{bytes_eq};
 ghost use Rattle.mpy_base.specs.declared.refused.Refused.TheVariants as refused;
-ghost use Rattle.qstr_pool.specs.Full.{pool_full};
+ghost use Rattle.bc_verify.specs.qstr_pool.Full.{pool_full};
 ghost use Rattle.bc_library.specs.Added.{IsBrought};
 ghost use Rattle.bc_library.specs.Constants.{object_value};
 ghost use Rattle.bc_library.specs.Greatest.{IsGreatestIn, ShelfHas};
@@ -18,11 +18,11 @@ use crate::greatest::greatest_in;
 use crate::parts::{Part, add_objects};
 use crate::texts::{Title, take_name, take_table};
 use arena_heap::Value;
+use bc_verify::mpy_tree::{RawModule, module_law};
+use bc_verify::qstr_pool::{FIRST_OWN, Full, Pool, pool_law, static_law};
 use bc_verify::{Verified, verified_law};
 use mpy_base::limits::{MAX_DEPTH, MAX_MODULES, MAX_TABLE};
 use mpy_base::{Items, NoMemory, Refused, Text};
-use mpy_tree::{RawModule, module_law};
-use qstr_pool::{FIRST_OWN, Full, Pool, pool_law, static_law};
 use std::alloc::{AllocFailed, Global};
 use std::marker::Model;
 
@@ -50,8 +50,8 @@ pub struct Library {
 
 impl Model for Library {
     ghost use Rattle.std.specs.Coded.{codes};
-    ghost use Rattle.mpy_tree.specs.contracts.module.Constant as constants;
-    ghost use Rattle.mpy_tree.specs.contracts.raw.RawCode as raw_codes;
+    ghost use Rattle.bc_verify.specs.mpy_tree.contracts.module.Constant as constants;
+    ghost use Rattle.bc_verify.specs.mpy_tree.contracts.raw.RawCode as raw_codes;
     ghost use Rattle.bc_library.specs.Own.{IsOwnPool};
     ghost use Rattle.bc_library.specs.Shelf.{Shelf};
 

@@ -4,16 +4,18 @@ ghost use Rattle.std.specs.Prelude.{◌≡◌, ℕ, ◌<◌, ◌≤◌, List, []
 ghost use Rattle.std.specs.List.{filter_map};
 ghost use Rattle.std.specs.Option.{option_to_list};
 ghost use Rattle.mpy_base.specs.declared.refused.Refused.TheVariants as refused;
-ghost use Rattle.qstr_pool.specs.Full.{pool_full};
-ghost use Rattle.qstr_pool.specs.Pool.{text_of};
-ghost use Rattle.mpy_tree.specs.Raw as raw;
+ghost use Rattle.bc_verify.specs.qstr_pool.Full.{pool_full};
+ghost use Rattle.bc_verify.specs.qstr_pool.Pool.{text_of};
+ghost use Rattle.bc_verify.specs.mpy_tree.Raw as raw;
 ghost use Rattle.bc_library.specs.Fine.{Each, FineQstr};
 ghost use Rattle.bc_library.specs.Texts.{AreNumbers, Extends, IsTitle, last_part, text_numbered, with_text, with_texts};
 
+use bc_verify::mpy_tree::Qstr;
+use bc_verify::qstr_pool::{
+    FIRST_OWN, Full, Pool, pool_law, static_law, static_number, static_text,
+};
 use mpy_base::Refused;
 use mpy_base::limits::MAX_TABLE;
-use mpy_tree::Qstr;
-use qstr_pool::{FIRST_OWN, Full, Pool, pool_law, static_law, static_number, static_text};
 use std::alloc::Global;
 
 /// The numbers of the texts of a module's name and of its last part, which is the whole name where it has no dot.

@@ -63,6 +63,6 @@ unsigned_in k (negsuc n) = 128 ^ (k + 1) - 1 - n
 abbrev pub spelled_in : ℕ → ℕ → List ℕ
 spelled_in k n = groups_above k (n / 128) ++ (n % 128) ∷ []
 
--- the shortest spelling
+-- the groups of a number, as few as it takes: the shortest spelling of a small one
 unfoldable pub signed : ℤ → List ℕ
 signed z = spelled_in (high_size (magnitude z)) (unsigned_in (high_size (magnitude z)) z)

@@ -16,3 +16,4 @@ pub use instr::{Instr, Op};
 pub use listing::{Item, Target, listing_law};
 pub use offset::offset_fits;
 pub use parting::{Listed, items_of};
+pub use signed::{read_signed, signed_law, write_signed};

@@ -1,8 +1,8 @@
 //! Signed numbers: seven bits a byte, the most significant group first, in two's complement.
 
-ghost use Rattle.std.specs.Prelude.{◌≡◌, ℕ, ◌+◌, ◌^◌, ◌<◌, ◌≤◌, ◌++◌, OnOk, OnErr};
+ghost use Rattle.std.specs.Prelude.{◌≡◌, ℕ, ◌+◌, ◌^◌, ◌<◌, ◌≤◌, List, ◌++◌, ℤ, OnOk, OnErr};
 ghost use Rattle.bc_ops.specs.Signed as specs;
-ghost use Rattle.bc_ops.specs.Signed.{IsSmall, magnitude, high_size, unsigned_in, spelled_in, signed};
+ghost use Rattle.bc_ops.specs.Signed.{IsSmall, Spells, magnitude, high_size, unsigned_in, spelled_in, signed};
 ghost use Rattle.bc_ops.specs.Reading.{ReadsGroups, ReadsSigned};
 
 use crate::decoding::CodeFault;
@@ -68,7 +68,7 @@ fn with_sign(first: u8, len: usize, value: u64) -> i64
 }
 
 /// The number in front of the bytes, and how many of them it takes.
-pub(crate) fn read_signed(bytes: &[u8]) -> Result<(i32, usize), CodeFault>
+pub fn read_signed(bytes: &[u8]) -> Result<(i32, usize), CodeFault>
     ensures { ReadsSigned bytes.now result }
 {
     let (value, len) = read_groups(bytes)?;
@@ -117,9 +117,8 @@ fn write_groups(out: &mut Vec<u8>, n: u64, high: usize) -> Result<(), NoMemory>
     Ok(())
 }
 
-/// Adds the shortest spelling of the number. An `Err` leaves `out` as it was.
-pub(crate) fn write_signed(out: &mut Vec<u8>, n: i32) -> Result<(), NoMemory>
-    requires { IsSmall n }
+/// Adds the groups of the number, its shortest spelling where it is small. An `Err` leaves `out` as it was.
+pub fn write_signed(out: &mut Vec<u8>, n: i32) -> Result<(), NoMemory>
     ensures ok { OnOk result (out.new.items ≡ out.old.items ++ signed n) }
     ensures err { OnErr result (out.new.items ≡ out.old.items) }
 {
@@ -133,3 +132,9 @@ pub(crate) fn write_signed(out: &mut Vec<u8>, n: i32) -> Result<(), NoMemory>
         write_groups(out, u64::from(above), high)
     }
 }
+
+/// What is written is a spelling, and bytes begin with one number at most.
+pub fn signed_law()
+    ensures spells { (z : ℤ) → IsSmall z → Spells (signed z) z }
+    ensures one_number { (a b x y : List ℕ) (m n : ℤ) → Spells a m → Spells b n → a ++ x ≡ b ++ y → (a ≡ b) × (m ≡ n) }
+{}

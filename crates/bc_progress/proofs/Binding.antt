@@ -4,14 +4,14 @@ use Rattle.std.specs.Prelude.{Result, Ok, Err, nat_lt, slice_set, position, byte
 use Rattle.std.proofs.lemmas.Bool.{ltb-false}
 use Rattle.std.proofs.lemmas.List.{length-map, length-replicate}
 use Rattle.mpy_base.specs.Val.{Val, PlainWorld}
-use Rattle.py_values.specs.Shown.{PlainHeap, Shown, Nothing, Number, Text, Tuple, Items, Pairs, Range, Other, shown}
-use Rattle.py_primitives.specs.Faults.{Fault, WrongCount, UnpacksMore, UnpacksFewer}
-use Rattle.py_primitives.specs.Outcome.{Outcome, Stop, Raises, Full, raises, gives, go_on_with, followed_by, making_text, making_texts}
-use Rattle.py_primitives.specs.Iterables.{shown_items, over_items, kept_items}
-use Rattle.py_primitives.specs.Uses.{unpack}
-use Rattle.py_effects.specs.Effect.{Effect, on_heap, Place, Given, Gives, Throws, Fills, Fails, Thrown, Filled, failed, given_answer, given, fault_at}
-use Rattle.py_effects.specs.Names.{Locals}
-use Rattle.py_effects.specs.Calling.{Keys, first_slots, filled, into_slot, one_key, with_keys, default_items, with_defaults, last_slots, complete, empty_slots, all_filled, bound, bind}
+use Rattle.bc_machine.specs.py_values.Shown.{PlainHeap, Shown, Nothing, Number, Text, Tuple, Items, Pairs, Range, Other, shown}
+use Rattle.bc_machine.specs.py_primitives.Faults.{Fault, WrongCount, UnpacksMore, UnpacksFewer}
+use Rattle.bc_machine.specs.py_primitives.Outcome.{Outcome, Stop, Raises, Full, raises, gives, go_on_with, followed_by, making_text, making_texts}
+use Rattle.bc_machine.specs.py_primitives.Iterables.{shown_items, over_items, kept_items}
+use Rattle.bc_machine.specs.py_primitives.Uses.{unpack}
+use Rattle.bc_machine.specs.py_effects.Effect.{Effect, on_heap, Place, Given, Gives, Throws, Fills, Fails, Thrown, Filled, failed, given_answer, given, fault_at}
+use Rattle.bc_machine.specs.py_effects.Names.{Locals}
+use Rattle.bc_machine.specs.py_effects.Calling.{Keys, first_slots, filled, into_slot, one_key, with_keys, default_items, with_defaults, last_slots, complete, empty_slots, all_filled, bound, bind}
 
 pub length-slice_set : {A : Type 0} (xs : List A) (n : ℕ) (x : A) → length (slice_set xs n x) ≡ length xs
 length-slice_set [] n x = refl
@@ -146,6 +146,6 @@ pub bind_count : (place : Place) (w w1 : PlainWorld) (params : List (List ℕ)) 
     → given place (bind w params count defaults args keys) ≡ Gives slots w1 → length slots ≡ length params
 bind_count place w w1 params count defaults args keys slots e = by (bound w.heap params count defaults args keys) (bound_sized w.heap params count defaults args keys) e
   where
-    by : (r : Result Locals Fault) → Sized (length params) r → given place (elim r [ Ok found ↦ Rattle.py_effects.specs.Effect.does found w | Err fault ↦ Rattle.py_effects.specs.Effect.faults fault w ]) ≡ Gives slots w1 → length slots ≡ length params
+    by : (r : Result Locals Fault) → Sized (length params) r → given place (elim r [ Ok found ↦ Rattle.bc_machine.specs.py_effects.Effect.does found w | Err fault ↦ Rattle.bc_machine.specs.py_effects.Effect.faults fault w ]) ≡ Gives slots w1 → length slots ≡ length params
     by (Ok found) s e = sym (ap length (ok_is found slots (answer_is place w w1 (Ok found) slots e))) ∙ s
     by (Err fault) s e = absurd (cc (answer_is place w w1 (Err (Raises fault)) slots e))

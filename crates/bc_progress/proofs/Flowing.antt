@@ -2,10 +2,10 @@
 use Rattle.std.proofs.Common.{◌≡◌, ℕ, suc, ◌+◌, ◌-◌, ◌≤◌, List, [], drop, length, Bool, true, false, ◌&&◌, Some, refl, sym, ◌∙◌, subst, arith, if◌then◌else◌, length-drop}
 use Rattle.std.specs.Prelude.{slice_get, nat_le}
 use Rattle.std.proofs.lemmas.Bool.{leb-true, and_parts}
-use Rattle.bc_shapes.specs.declared.kinds.Want.{Want}
-use Rattle.bc_shapes.specs.declared.kinds.Give.{Give}
-use Rattle.bc_shapes.specs.declared.shape.Entry.{Entry}
-use Rattle.bc_shapes.specs.Shape.{At, fits, takes as values_on}
+use Rattle.bc_flow.specs.bc_shapes.declared.kinds.Want.{Want}
+use Rattle.bc_flow.specs.bc_shapes.declared.kinds.Give.{Give}
+use Rattle.bc_flow.specs.bc_shapes.declared.shape.Entry.{Entry}
+use Rattle.bc_flow.specs.bc_shapes.Shape.{At, fits, takes as values_on}
 use Rattle.bc_flow.specs.Action.{Action, Straight, Branch, Jump, Return, Raise}
 use Rattle.bc_flow.specs.Code.{Code}
 use Rattle.bc_flow.specs.Edges.{takes, gives, falls, target, gives_there, floor, finds, change, base, left, deep}

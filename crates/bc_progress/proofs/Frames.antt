@@ -3,8 +3,8 @@ use Rattle.std.proofs.Common.{◌≡◌, ℕ, suc, ◌+◌, ◌-◌, ◌≤◌, 
 use Rattle.std.specs.Prelude.{slice_get}
 use Rattle.std.proofs.lemmas.List.{drop-drop}
 use Rattle.mpy_base.specs.Val.{Val, PlainWorld}
-use Rattle.bc_shapes.specs.declared.kinds.Kind.TheVariants as kinds
-use Rattle.bc_shapes.specs.declared.kinds.Give.TheVariants.{New}
+use Rattle.bc_flow.specs.bc_shapes.declared.kinds.Kind.TheVariants as kinds
+use Rattle.bc_flow.specs.bc_shapes.declared.kinds.Give.TheVariants.{New}
 use Rattle.bc_flow.specs.Action.{Straight}
 use Rattle.bc_flow.specs.Edges.{change, takes}
 use Rattle.bc_flow.specs.Verified.{Holds as Meets}
@@ -12,8 +12,8 @@ use Rattle.bc_flow.specs.Machine as flow
 use Rattle.bc_flow.specs.Machine.{Stack}
 use Rattle.bc_flow.proofs.Runs.{fits_floor}
 use Rattle.bc_flow.proofs.Sound.{Fits as Heights}
-use Rattle.py_effects.specs.Effect.{Place, Given, Gives, Throws, Fills, Fails, Thrown, Filled, given}
-use Rattle.py_effects.specs.Modules.{store_module}
+use Rattle.bc_machine.specs.py_effects.Effect.{Place, Given, Gives, Throws, Fills, Fails, Thrown, Filled, given}
+use Rattle.bc_machine.specs.py_effects.Modules.{store_module}
 use Rattle.bc_machine.specs.Library.{Name, Code, Module, Holds, Entry, Library, entry_in, module_in, code_in, code_at}
 use Rattle.bc_machine.specs.State.{Value, Role, Main, Called, Imported, Frame, State, Running, cut, abandoned, throw_in, throw_out, throw, fail, on_given, give}
 use Rattle.bc_progress.specs.Slots.{Facts, value, ShowsAllIn, more, flow_entry}

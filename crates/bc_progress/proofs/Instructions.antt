@@ -6,30 +6,30 @@ use Rattle.std.proofs.lemmas.List.{drop-drop}
 use Rattle.mpy_base.specs.Val.{Val, Nil, Str, PlainWorld}
 use Rattle.mpy_base.specs.World.{DictObject}
 use Rattle.mpy_base.specs.Weights.{room_for}
-use Rattle.bc_ops.specs.declared.form.Form.{Form}
-use Rattle.bc_ops.specs.declared.form.Form.TheVariants as forms
-use Rattle.bc_ops.specs.declared.instr.Op.{Op}
-use Rattle.bc_ops.specs.declared.instr.Op.TheVariants as ops
-use Rattle.bc_ops.specs.declared.instr.Instr.TheVariants as instrs
-use Rattle.bc_ops.specs.Table.{code_of, form_of, name_form, number_form, jump_form, plain_form, short_form}
-use Rattle.bc_ops.specs.Code.{TakesNumber}
-use Rattle.bc_shapes.specs.declared.kinds.Kind.TheVariants as kinds
-use Rattle.bc_shapes.specs.declared.kinds.Want.{Want}
-use Rattle.bc_shapes.specs.declared.kinds.Want.TheVariants as wants
-use Rattle.bc_shapes.specs.declared.kinds.Give.{Give}
-use Rattle.bc_shapes.specs.declared.kinds.Give.TheVariants.{New, Again}
-use Rattle.bc_shapes.specs.Shape.{takes, gives as gives_values}
+use Rattle.bc_machine.specs.bc_ops.declared.form.Form.{Form}
+use Rattle.bc_machine.specs.bc_ops.declared.form.Form.TheVariants as forms
+use Rattle.bc_machine.specs.bc_ops.declared.instr.Op.{Op}
+use Rattle.bc_machine.specs.bc_ops.declared.instr.Op.TheVariants as ops
+use Rattle.bc_machine.specs.bc_ops.declared.instr.Instr.TheVariants as instrs
+use Rattle.bc_machine.specs.bc_ops.Table.{code_of, form_of, name_form, number_form, jump_form, plain_form, short_form}
+use Rattle.bc_machine.specs.bc_ops.Code.{TakesNumber}
+use Rattle.bc_flow.specs.bc_shapes.declared.kinds.Kind.TheVariants as kinds
+use Rattle.bc_flow.specs.bc_shapes.declared.kinds.Want.{Want}
+use Rattle.bc_flow.specs.bc_shapes.declared.kinds.Want.TheVariants as wants
+use Rattle.bc_flow.specs.bc_shapes.declared.kinds.Give.{Give}
+use Rattle.bc_flow.specs.bc_shapes.declared.kinds.Give.TheVariants.{New, Again}
+use Rattle.bc_flow.specs.bc_shapes.Shape.{takes, gives as gives_values}
 use Rattle.bc_flow.specs.Action.{Action, Straight, op_action, arguments}
 use Rattle.bc_flow.specs.Machine as flow
 use Rattle.bc_flow.specs.Machine.{Stack, give_slot}
-use Rattle.py_values.specs.Shown.{shown}
-use Rattle.py_primitives.specs.Faults.{TooDeep, NoModule, IncompatibleFile, RelativeImport, BadDefaults}
-use Rattle.py_primitives.specs.Outcome.{making, making_tuple, making_list}
-use Rattle.py_primitives.specs.Uses.{Attribute, Found, Method, Absent, attribute, no_attribute, get_attr, set_attr, unpack}
-use Rattle.py_effects.specs.Effect.{on_heap, Place, Given, Gives, Throws, Fills, given}
-use Rattle.py_effects.specs.Names.{Looked, Bound, Free, looked_up, load_global, store_global, delete_global, load_local, with_local, without_local, load_method, import_from}
-use Rattle.py_effects.specs.Calling.{callee_of, call_method}
-use Rattle.py_effects.specs.Modules.{Made, make_function, has_items, make_module, prefixes, module_named}
+use Rattle.bc_machine.specs.py_values.Shown.{shown}
+use Rattle.bc_machine.specs.py_primitives.Faults.{TooDeep, NoModule, IncompatibleFile, RelativeImport, BadDefaults}
+use Rattle.bc_machine.specs.py_primitives.Outcome.{making, making_tuple, making_list}
+use Rattle.bc_machine.specs.py_primitives.Uses.{Attribute, Found, Method, Absent, attribute, no_attribute, get_attr, set_attr, unpack}
+use Rattle.bc_machine.specs.py_effects.Effect.{on_heap, Place, Given, Gives, Throws, Fills, given}
+use Rattle.bc_machine.specs.py_effects.Names.{Looked, Bound, Free, looked_up, load_global, store_global, delete_global, load_local, with_local, without_local, load_method, import_from}
+use Rattle.bc_machine.specs.py_effects.Calling.{callee_of, call_method}
+use Rattle.bc_machine.specs.py_effects.Modules.{Made, make_function, has_items, make_module, prefixes, module_named}
 use Rattle.bc_machine.specs.Library.{Name, Plain, Code, Module, Holds, Refused, Entry, Library, entry_in, code_at}
 use Rattle.bc_machine.specs.State.{Slot, Value, Null, Imported, Frame, State}
 use Rattle.bc_machine.specs.Parts.{has_depth, looked_on, is_zero, first_absent}

@@ -1,14 +1,14 @@
 -- What the instructions of a code are to its flow.
 use Rattle.std.proofs.Common.{◌≡◌, ℕ, zero, suc, true, List, [], ◌∷◌, ◌++◌, map, replicate, Some, refl, subst}
 use Rattle.std.specs.Prelude.{slice_get}
-use Rattle.bc_ops.specs.declared.instr.Op.{Op}
-use Rattle.bc_ops.specs.declared.instr.Op.TheVariants as ops
-use Rattle.bc_ops.specs.declared.instr.Instr.{Instr}
-use Rattle.bc_ops.specs.declared.instr.Instr.TheVariants as instrs
-use Rattle.bc_shapes.specs.declared.kinds.Kind.TheVariants as kinds
-use Rattle.bc_shapes.specs.declared.kinds.Want.{Want}
-use Rattle.bc_shapes.specs.declared.kinds.Give.TheVariants.{New}
-use Rattle.bc_shapes.specs.Shape.{takes}
+use Rattle.bc_machine.specs.bc_ops.declared.instr.Op.{Op}
+use Rattle.bc_machine.specs.bc_ops.declared.instr.Op.TheVariants as ops
+use Rattle.bc_machine.specs.bc_ops.declared.instr.Instr.{Instr}
+use Rattle.bc_machine.specs.bc_ops.declared.instr.Instr.TheVariants as instrs
+use Rattle.bc_flow.specs.bc_shapes.declared.kinds.Kind.TheVariants as kinds
+use Rattle.bc_flow.specs.bc_shapes.declared.kinds.Want.{Want}
+use Rattle.bc_flow.specs.bc_shapes.declared.kinds.Give.TheVariants.{New}
+use Rattle.bc_flow.specs.bc_shapes.Shape.{takes}
 use Rattle.bc_flow.specs.Action.{Action, op_action, jump_action, instr_action}
 use Rattle.bc_flow.proofs.Going.{all_fine, gives_fine}
 use Rattle.bc_flow.proofs.Never.{GivesNoCause}

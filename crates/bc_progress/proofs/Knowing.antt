@@ -11,14 +11,14 @@ use Rattle.mpy_base.specs.World.{Object, ListObject, TupleObject, TextObject, Di
 use Rattle.mpy_base.specs.Weights.{used, does_fit, cells_of, bytes_of, more_cells, with_made}
 use Rattle.mpy_base.specs.Val.{Val, Nil, Truth, Int, Str, Fixed, Empty, Built, At, PlainWorld}
 use Rattle.mpy_base.proofs.Worlds.{later_place}
-use Rattle.py_values.specs.Shown.{PlainHeap}
-use Rattle.py_primitives.specs.Builtins.{named, list_methods, dict_methods, str_methods}
-use Rattle.py_primitives.specs.Faults.{Fault, NotAnException, NothingToRaise, fault_kind, fault_value}
-use Rattle.py_primitives.specs.Operators.{named_kind, raised_kind, exception_kind}
-use Rattle.py_primitives.specs.Outcome.{Stop, Raises, Full, Outcome, gives, is_full, go_on_with, making, making_text, making_tuple, making_exception, fault_argument, making_fault}
-use Rattle.py_primitives.specs.Uses.{Attribute, Found, Method, Absent, found_method, found_value, object_attribute, attribute}
-use Rattle.py_effects.specs.Effect.{Effect, Place, Given, Gives, Throws, Fills, Fails, Thrown, Filled, failed, raised_new, fault_at, given_answer, given}
-use Rattle.py_effects.specs.Names.{raise_by, raise_value, raise_again}
+use Rattle.bc_machine.specs.py_values.Shown.{PlainHeap}
+use Rattle.bc_machine.specs.py_primitives.Builtins.{named, list_methods, dict_methods, str_methods}
+use Rattle.bc_machine.specs.py_primitives.Faults.{Fault, NotAnException, NothingToRaise, fault_kind, fault_value}
+use Rattle.bc_machine.specs.py_primitives.Operators.{named_kind, raised_kind, exception_kind}
+use Rattle.bc_machine.specs.py_primitives.Outcome.{Stop, Raises, Full, Outcome, gives, is_full, go_on_with, making, making_text, making_tuple, making_exception, fault_argument, making_fault}
+use Rattle.bc_machine.specs.py_primitives.Uses.{Attribute, Found, Method, Absent, found_method, found_value, object_attribute, attribute}
+use Rattle.bc_machine.specs.py_effects.Effect.{Effect, Place, Given, Gives, Throws, Fills, Fails, Thrown, Filled, failed, raised_new, fault_at, given_answer, given}
+use Rattle.bc_machine.specs.py_effects.Names.{raise_by, raise_value, raise_again}
 use Rattle.bc_machine.specs.Library.{Library}
 use Rattle.bc_machine.specs.State.{Role, Main, Called, Imported, Entry, Frame, State, remark, abandoned, throw_in, throw_out, throw}
 use Rattle.bc_machine.specs.Operations.{kept_of}

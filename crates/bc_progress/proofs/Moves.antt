@@ -2,7 +2,7 @@
 use Rattle.std.proofs.Common.{◌≡◌, ℕ, zero, suc, ◌≤◌, List, [], ◌∷◌, map, drop, length, Bool, true, false, Some, refl, sym, ap, subst, arith, if◌then◌else◌}
 use Rattle.std.proofs.lemmas.List.Elements.{All-cons, All-tail}
 use Rattle.mpy_base.specs.Val.{Val, At, PlainWorld}
-use Rattle.bc_shapes.specs.declared.shape.Entry.{Entry as FlowEntry}
+use Rattle.bc_flow.specs.bc_shapes.declared.shape.Entry.{Entry as FlowEntry}
 use Rattle.bc_flow.specs.Action.{iterator}
 use Rattle.bc_flow.specs.Code as flows
 use Rattle.bc_flow.specs.Verified.{Assigned}

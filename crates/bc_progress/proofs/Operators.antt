@@ -1,8 +1,8 @@
 -- The numbers of operators that a file has are operators of the machine.
 use Rattle.std.proofs.Common.{◌≡◌, ℕ, zero, suc, ◌+◌, ◌<◌, Option, Some, None, refl, subst, arith}
-use Rattle.bc_ops.specs.declared.form.Form.TheVariants as forms
-use Rattle.bc_ops.specs.declared.instr.Instr.TheVariants as instrs
-use Rattle.bc_ops.specs.Table.{form_of, short_form}
+use Rattle.bc_machine.specs.bc_ops.declared.form.Form.TheVariants as forms
+use Rattle.bc_machine.specs.bc_ops.declared.instr.Instr.TheVariants as instrs
+use Rattle.bc_machine.specs.bc_ops.Table.{form_of, short_form}
 use Rattle.bc_machine.specs.Operations.{operator_at, unary_at}
 
 abbrev IsThere : {A : Type 0} → Option A → Type 0

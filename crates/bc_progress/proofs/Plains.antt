@@ -4,17 +4,17 @@ use Rattle.std.specs.Prelude.{nat_lt, nat_le}
 use Rattle.std.proofs.lemmas.Bool.{false≢true}
 use Rattle.std.proofs.lemmas.List.Elements.{All-cons, All-tail}
 use Rattle.mpy_base.specs.Val.{Val, Nil, Truth, PlainWorld}
-use Rattle.bc_ops.specs.declared.form.Form.{Form}
-use Rattle.bc_ops.specs.declared.form.Form.TheVariants as forms
-use Rattle.bc_ops.specs.declared.instr.Op.{Op}
-use Rattle.bc_ops.specs.declared.instr.Op.TheVariants as ops
-use Rattle.bc_ops.specs.declared.instr.Instr.TheVariants as instrs
-use Rattle.bc_ops.specs.Table.{code_of, form_of, name_form, number_form, jump_form, plain_form, short_form}
-use Rattle.bc_shapes.specs.declared.kinds.Kind.TheVariants as kinds
-use Rattle.bc_shapes.specs.declared.kinds.Want.TheVariants as wants
-use Rattle.bc_shapes.specs.declared.kinds.Give.{Give}
-use Rattle.bc_shapes.specs.declared.kinds.Give.TheVariants.{New, Again}
-use Rattle.bc_shapes.specs.declared.shape.Entry.{Entry as FlowEntry}
+use Rattle.bc_machine.specs.bc_ops.declared.form.Form.{Form}
+use Rattle.bc_machine.specs.bc_ops.declared.form.Form.TheVariants as forms
+use Rattle.bc_machine.specs.bc_ops.declared.instr.Op.{Op}
+use Rattle.bc_machine.specs.bc_ops.declared.instr.Op.TheVariants as ops
+use Rattle.bc_machine.specs.bc_ops.declared.instr.Instr.TheVariants as instrs
+use Rattle.bc_machine.specs.bc_ops.Table.{code_of, form_of, name_form, number_form, jump_form, plain_form, short_form}
+use Rattle.bc_flow.specs.bc_shapes.declared.kinds.Kind.TheVariants as kinds
+use Rattle.bc_flow.specs.bc_shapes.declared.kinds.Want.TheVariants as wants
+use Rattle.bc_flow.specs.bc_shapes.declared.kinds.Give.{Give}
+use Rattle.bc_flow.specs.bc_shapes.declared.kinds.Give.TheVariants.{New, Again}
+use Rattle.bc_flow.specs.bc_shapes.declared.shape.Entry.{Entry as FlowEntry}
 use Rattle.bc_flow.specs.Action.{Action, Setup, PopExcept, EndFinally, Unwind, Return, op_action, jump_action, iterator}
 use Rattle.bc_flow.specs.Edges.{change, takes, floor}
 use Rattle.bc_flow.specs.Machine as flow
@@ -22,11 +22,11 @@ use Rattle.bc_flow.specs.Machine.{Stack, St, is_wanted, all_wanted}
 use Rattle.bc_flow.proofs.Never.{Good}
 use Rattle.bc_flow.proofs.Runs.{fits_floor}
 use Rattle.bc_flow.proofs.Sound.{Fits as Heights, cut_push}
-use Rattle.py_values.specs.Shown.{truth}
-use Rattle.py_primitives.specs.Iterables.{use_iter, item_of, length_of}
-use Rattle.py_primitives.specs.Uses.{get_item, set_item, delete_item}
-use Rattle.py_effects.specs.Effect.{on_heap, Place}
-use Rattle.py_effects.specs.Names.{store_pair, raise_value, raise_again}
+use Rattle.bc_machine.specs.py_values.Shown.{truth}
+use Rattle.bc_machine.specs.py_primitives.Iterables.{use_iter, item_of, length_of}
+use Rattle.bc_machine.specs.py_primitives.Uses.{get_item, set_item, delete_item}
+use Rattle.bc_machine.specs.py_effects.Effect.{on_heap, Place}
+use Rattle.bc_machine.specs.py_effects.Names.{store_pair, raise_value, raise_again}
 use Rattle.bc_machine.specs.Library.{Library}
 use Rattle.bc_machine.specs.State as states
 use Rattle.bc_machine.specs.State.{Slot, Value, Null, Iter, Frame, State, cut, resume, leave, abandoned, go}

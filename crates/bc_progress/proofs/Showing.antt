@@ -3,11 +3,11 @@ use Rattle.std.proofs.Common.{◌≡◌, ℕ, zero, suc, ◌+◌, ◌-◌, ◌�
 use Rattle.std.proofs.lemmas.Bool.{and_parts, false≢true}
 use Rattle.mpy_base.specs.declared.builtin.Builtin.{Builtin}
 use Rattle.mpy_base.specs.Val.{Val, Nil, Built, At}
-use Rattle.bc_shapes.specs.declared.kinds.Kind.TheVariants as kinds
-use Rattle.bc_shapes.specs.declared.kinds.Want.{Want}
-use Rattle.bc_shapes.specs.declared.kinds.Want.TheVariants as wants
-use Rattle.bc_shapes.specs.declared.kinds.Give.TheVariants.{New}
-use Rattle.bc_shapes.specs.Shape.{takes}
+use Rattle.bc_flow.specs.bc_shapes.declared.kinds.Kind.TheVariants as kinds
+use Rattle.bc_flow.specs.bc_shapes.declared.kinds.Want.{Want}
+use Rattle.bc_flow.specs.bc_shapes.declared.kinds.Want.TheVariants as wants
+use Rattle.bc_flow.specs.bc_shapes.declared.kinds.Give.TheVariants.{New}
+use Rattle.bc_flow.specs.bc_shapes.Shape.{takes}
 use Rattle.bc_flow.specs.Action.{iterator}
 use Rattle.bc_flow.specs.Machine as flow
 use Rattle.bc_flow.specs.Machine.{Stack, is_wanted, all_wanted, give_slot}

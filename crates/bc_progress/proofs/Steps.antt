@@ -4,23 +4,23 @@ use Rattle.std.specs.Prelude.{slice_get, nat_lt}
 use Rattle.std.proofs.lemmas.List.{length-replicate}
 use Rattle.std.proofs.lemmas.List.Elements.{All-nil}
 use Rattle.mpy_base.specs.Val.{Val, Nil, PlainWorld}
-use Rattle.bc_shapes.specs.declared.kinds.Kind.TheVariants as kinds
-use Rattle.bc_shapes.specs.declared.kinds.Want.{Want}
-use Rattle.bc_shapes.specs.declared.kinds.Want.TheVariants as wants
-use Rattle.bc_shapes.specs.declared.kinds.Give.{Give}
-use Rattle.bc_shapes.specs.declared.kinds.Give.TheVariants.{New}
-use Rattle.bc_shapes.specs.declared.shape.Entry.{Entry as FlowEntry}
+use Rattle.bc_flow.specs.bc_shapes.declared.kinds.Kind.TheVariants as kinds
+use Rattle.bc_flow.specs.bc_shapes.declared.kinds.Want.{Want}
+use Rattle.bc_flow.specs.bc_shapes.declared.kinds.Want.TheVariants as wants
+use Rattle.bc_flow.specs.bc_shapes.declared.kinds.Give.{Give}
+use Rattle.bc_flow.specs.bc_shapes.declared.kinds.Give.TheVariants.{New}
+use Rattle.bc_flow.specs.bc_shapes.declared.shape.Entry.{Entry as FlowEntry}
 use Rattle.bc_flow.specs.Action.{Action, Straight, Branch}
 use Rattle.bc_flow.specs.Code as flows
 use Rattle.bc_flow.specs.Verified.{Assigned, Holds as Meets}
 use Rattle.bc_flow.specs.Machine as flow
 use Rattle.bc_flow.specs.Machine.{Stack, all_wanted, given}
 use Rattle.bc_flow.proofs.Never.{Good, start_good}
-use Rattle.py_primitives.specs.Faults.{Fault, TooDeep}
-use Rattle.py_effects.specs.Effect as effects
-use Rattle.py_effects.specs.Effect.{Effect, Place, Given, Gives, Fails, fault_at}
-use Rattle.py_effects.specs.Names.{Locals}
-use Rattle.py_effects.specs.Calling.{Keys, Function, Callee, Runs, Acts, bind}
+use Rattle.bc_machine.specs.py_primitives.Faults.{Fault, TooDeep}
+use Rattle.bc_machine.specs.py_effects.Effect as effects
+use Rattle.bc_machine.specs.py_effects.Effect.{Effect, Place, Given, Gives, Fails, fault_at}
+use Rattle.bc_machine.specs.py_effects.Names.{Locals}
+use Rattle.bc_machine.specs.py_effects.Calling.{Keys, Function, Callee, Runs, Acts, bind}
 use Rattle.bc_machine.specs.Library.{Name, Code, Module, Holds, Entry, Library, entry_in, module_in, code_in, code_at}
 use Rattle.bc_machine.specs.State.{Slot, Value, Role, Called, Frame, State, go, fail}
 use Rattle.bc_machine.specs.Parts.{new_frame, has_depth}

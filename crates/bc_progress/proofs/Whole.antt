@@ -2,14 +2,14 @@
 use Rattle.std.proofs.Common.{◌≡◌, ℕ, zero, suc, ◌<◌, List, [], ◌∷◌, length, length-drop, map, drop, Option, Some, None, refl, sym, ap, ◌∙◌, subst, arith}
 use Rattle.std.specs.Prelude.{codes}
 use Rattle.mpy_base.specs.Val.{Val, Int, PlainWorld}
-use Rattle.bc_ops.specs.declared.instr.Op.TheVariants as ops
-use Rattle.bc_ops.specs.declared.instr.Instr.{Instr}
-use Rattle.bc_ops.specs.declared.instr.Instr.TheVariants as instrs
-use Rattle.bc_shapes.specs.declared.kinds.Kind.TheVariants as kinds
-use Rattle.bc_shapes.specs.declared.kinds.Give.TheVariants.{New}
+use Rattle.bc_machine.specs.bc_ops.declared.instr.Op.TheVariants as ops
+use Rattle.bc_machine.specs.bc_ops.declared.instr.Instr.{Instr}
+use Rattle.bc_machine.specs.bc_ops.declared.instr.Instr.TheVariants as instrs
+use Rattle.bc_flow.specs.bc_shapes.declared.kinds.Kind.TheVariants as kinds
+use Rattle.bc_flow.specs.bc_shapes.declared.kinds.Give.TheVariants.{New}
 use Rattle.bc_flow.specs.Action.{Action, op_action, instr_action}
-use Rattle.py_effects.specs.Effect.{on_heap, Place, Given, Gives, Throws, Fills, given}
-use Rattle.py_effects.specs.Modules.{Made, make_module}
+use Rattle.bc_machine.specs.py_effects.Effect.{on_heap, Place, Given, Gives, Throws, Fills, given}
+use Rattle.bc_machine.specs.py_effects.Modules.{Made, make_module}
 use Rattle.bc_machine.specs.Library.{Name, Item, Plain, Names, Loads, Jumps, Unwinds, Line, Code, Module, Holds, Refused, Entry, Library, entry_in, module_in, code_at}
 use Rattle.bc_machine.specs.State.{Value, Main, Frame, State, Running, Halted, Stuck}
 use Rattle.bc_machine.specs.Operations.{unary_at, operator_at}

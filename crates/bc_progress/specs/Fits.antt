@@ -1,8 +1,8 @@
 -- States of a verified library: each frame is as the plan of its code has it at its position.
 use Rattle.std.specs.Prelude.{◌≡◌, ◌+◌, ◌≤◌, List, [], ◌∷◌, length, map, drop, Some, slice_get}
-use Rattle.bc_shapes.specs.declared.kinds.Kind.TheVariants as kinds
-use Rattle.bc_shapes.specs.declared.kinds.Want.{Want}
-use Rattle.bc_shapes.specs.declared.kinds.Give.TheVariants.{New}
+use Rattle.bc_flow.specs.bc_shapes.declared.kinds.Kind.TheVariants as kinds
+use Rattle.bc_flow.specs.bc_shapes.declared.kinds.Want.{Want}
+use Rattle.bc_flow.specs.bc_shapes.declared.kinds.Give.TheVariants.{New}
 use Rattle.bc_flow.specs.Action.{Straight}
 use Rattle.bc_flow.specs.Machine.{Stack, Run}
 use Rattle.bc_flow.proofs.Never.{Good}

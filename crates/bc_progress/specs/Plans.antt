@@ -1,10 +1,10 @@
 -- Verified libraries: each code has an assignment of slots and entries to its positions that meets the rules.
 use Rattle.std.specs.Prelude.{◌≡◌, ℕ, ◌<◌, ◌≤◌, ◌%◌, nat_le, Bool, List, length, map, Some, slice_get}
-use Rattle.bc_ops.specs.declared.form.Form.TheVariants as forms
-use Rattle.bc_ops.specs.declared.instr.Op.TheVariants as ops
-use Rattle.bc_ops.specs.declared.instr.Instr.TheVariants as instrs
-use Rattle.bc_ops.specs.Table.{code_of, form_of}
-use Rattle.bc_ops.specs.Code.{IsEncodable}
+use Rattle.bc_machine.specs.bc_ops.declared.form.Form.TheVariants as forms
+use Rattle.bc_machine.specs.bc_ops.declared.instr.Op.TheVariants as ops
+use Rattle.bc_machine.specs.bc_ops.declared.instr.Instr.TheVariants as instrs
+use Rattle.bc_machine.specs.bc_ops.Table.{code_of, form_of}
+use Rattle.bc_machine.specs.bc_ops.Code.{IsEncodable}
 use Rattle.bc_flow.specs.Action.{Action, Unwind, instr_action, op_action, jump_action}
 use Rattle.bc_flow.specs.Code as flow
 use Rattle.bc_flow.specs.Verified.{Assigned, Holds as Meets}

@@ -2,7 +2,7 @@
 use Rattle.std.specs.Prelude.{ℕ, Bool, List, [], ◌∷◌, Some, None, IfSome, All}
 use Rattle.mpy_base.specs.declared.builtin.Builtin.{Builtin}
 use Rattle.mpy_base.specs.Val.{Val, Nil, Built, At}
-use Rattle.bc_shapes.specs.declared.shape.Entry.{Entry as FlowEntry}
+use Rattle.bc_flow.specs.bc_shapes.declared.shape.Entry.{Entry as FlowEntry}
 use Rattle.bc_flow.specs.Machine as flow
 use Rattle.bc_flow.specs.Machine.{Stack}
 use Rattle.bc_machine.specs.State.{Slot, Value, Null, Object, Iter, KeptReturn, KeptJump, Entry}

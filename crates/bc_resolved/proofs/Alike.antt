@@ -1,10 +1,10 @@
 -- What resolves alike is one to the machine.
 use Rattle.std.proofs.Common.{◌≡◌, ℕ, List, [], ◌∷◌, sym, ap, ◌∙◌}
 use Rattle.mpy_base.specs.World.{PortState}
-use Rattle.mpy_tree.specs.Raw as raw
-use Rattle.mpy_tree.specs.Resolved.{ResolvedModule, Resolves}
-use Rattle.bc_machine.specs.Library.{Name, Module, Entry, Holds, Library, module_of}
-use Rattle.bc_machine.specs.Machine.{run}
+use Rattle.bc_verify.specs.mpy_tree.Raw as raw
+use Rattle.bc_verify.specs.mpy_tree.Resolved.{ResolvedModule, Resolves}
+use Rattle.bc_progress.specs.bc_machine.Library.{Name, Module, Entry, Holds, Library, module_of}
+use Rattle.bc_progress.specs.bc_machine.Machine.{run}
 use Rattle.bc_resolved.specs.Stored.{Stored, Kept, Refused, IsMachineModule, IsEntryOf, IsLibraryOf, ResolveAlike, AreAlike, AllAlike}
 
 module _ (one : (m : raw.Module) (a b : ResolvedModule) → Resolves m a → Resolves m b → a ≡ b) where

@@ -1,3 +1,9 @@
-pub mod Trees
 pub mod Alike
+pub mod Codes
+pub mod InBytes
 pub mod Libraries
+pub mod Raw
+pub mod Regular
+pub mod Spelled
+pub mod Trees
+pub mod Unraw

@@ -1,12 +1,12 @@
 -- The machine's library of one of files.
 use Rattle.std.proofs.Common.{◌≡◌, ℕ, Bool, true, false, List, [], ◌∷◌, Option, Some, None, refl, sym, ap, ◌∙◌, subst, if◌then◌else◌}
 use Rattle.std.specs.Prelude.{bytes_eq}
-use Rattle.mpy_tree.specs.Raw as raw
-use Rattle.mpy_tree.specs.File.{IsModule}
-use Rattle.mpy_tree.specs.Resolved.{ResolvedModule, Resolves}
+use Rattle.bc_verify.specs.mpy_tree.Raw as raw
+use Rattle.bc_verify.specs.mpy_tree.File.{IsModule}
+use Rattle.bc_verify.specs.mpy_tree.Resolved.{ResolvedModule, Resolves}
 use Rattle.bc_verify.specs.Verified.{IsVerified}
-use Rattle.bc_machine.specs.Library as libraries
-use Rattle.bc_machine.specs.Library.{Name, Module, Entry, Holds, Library, entry_in, module_in, module_of}
+use Rattle.bc_progress.specs.bc_machine.Library as libraries
+use Rattle.bc_progress.specs.bc_machine.Library.{Name, Module, Entry, Holds, Library, entry_in, module_in, module_of}
 use Rattle.bc_progress.specs.Plans.{Plan, IsVerifiedModule, AreVerified}
 use Rattle.bc_resolved.specs.Stored.{Stored, Kept, Refused, IsEntryOf, IsLibraryOf, OfModule, AllModules, IsVerifiedFile}
 

@@ -4,13 +4,13 @@ use Rattle.std.specs.List.{AllByRecursion}
 use Rattle.std.proofs.lemmas.List.{length-map}
 use Rattle.std.proofs.lemmas.List.Elements.{recursion_from_All}
 use Rattle.mpy_base.specs.declared.limits.TheConstants.{MAX_DEPTH}
-use Rattle.bc_ops.specs.Listing.{Piece, starts, items_at}
-use Rattle.bc_prelude.specs.Lines.{line_of}
-use Rattle.mpy_tree.specs.declared.raw.RawCode.{RawCode, out-RawCode, out-roll-RawCode}
-use Rattle.mpy_tree.specs.Raw.{Module}
-use Rattle.mpy_tree.specs.File.{Many, IsOwnCode, AreChildren, IsCode, IsModule}
-use Rattle.mpy_tree.specs.Resolved.{Body, lines_of, Tree, node, Trees, no_more, more, ResolvedModule, name_at, resolved, IsBody, ResolvesCode, ResolveCodes, Resolves}
-use Rattle.mpy_tree.proofs.Lines.{items_in, numbers_in}
+use Rattle.bc_progress.specs.bc_ops.Listing.{Piece, starts, items_at}
+use Rattle.bc_verify.specs.bc_prelude.Lines.{line_of}
+use Rattle.bc_verify.specs.mpy_tree.declared.raw.RawCode.{RawCode, out-RawCode, out-roll-RawCode}
+use Rattle.bc_verify.specs.mpy_tree.Raw.{Module}
+use Rattle.bc_verify.specs.mpy_tree.File.{Many, IsOwnCode, AreChildren, IsCode, IsModule}
+use Rattle.bc_verify.specs.mpy_tree.Resolved.{Body, lines_of, Tree, node, Trees, no_more, more, ResolvedModule, name_at, resolved, IsBody, ResolvesCode, ResolveCodes, Resolves}
+use Rattle.bc_verify.proofs.mpy_tree_lemmas.Lines.{items_in, numbers_in}
 
 count_starts : (at : ℕ) (pieces : List Piece) → length (starts at pieces) ≡ length pieces
 count_starts at [] = refl

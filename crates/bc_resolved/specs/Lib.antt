@@ -1,1 +1,5 @@
+pub mod Known
+pub mod Operands
+pub mod Rooms
 pub mod Stored
+pub mod Verified

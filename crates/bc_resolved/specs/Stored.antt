@@ -1,11 +1,11 @@
 -- Libraries as files hold them, and what the machine runs for each.
 use Rattle.std.specs.Prelude.{◌≡◌, List, [], ◌∷◌}
-use Rattle.mpy_tree.specs.Raw as raw
-use Rattle.mpy_tree.specs.File.{IsModule}
-use Rattle.mpy_tree.specs.Resolved.{ResolvedModule, Resolves}
+use Rattle.bc_verify.specs.mpy_tree.Raw as raw
+use Rattle.bc_verify.specs.mpy_tree.File.{IsModule}
+use Rattle.bc_verify.specs.mpy_tree.Resolved.{ResolvedModule, Resolves}
 use Rattle.bc_verify.specs.Verified.{IsVerified}
-use Rattle.bc_machine.specs.Library as libraries
-use Rattle.bc_machine.specs.Library.{Name, Module, Entry, Holds, Library, module_of}
+use Rattle.bc_progress.specs.bc_machine.Library as libraries
+use Rattle.bc_progress.specs.bc_machine.Library.{Name, Module, Entry, Holds, Library, module_of}
 
 -- the machine's module of a module that a file holds: that of its tree
 pub record IsMachineModule (m : raw.Module) (machine : Module) : Type 0 where

@@ -1,46 +1,9 @@
-//! Files' modules have trees, and the machine runs their trees alone.
+//! Files' modules have trees, which the machine runs alone; the verifier's rules of a tree, of its bytes and of
+//! the machine's module.
 #![tactic(auto)]
 
-ghost use Rattle.std.specs.Prelude.{◌≡◌, ℕ, List};
-ghost use Rattle.mpy_base.specs.World.{PortState};
-ghost use Rattle.mpy_tree.specs.File.{IsModule};
-ghost use Rattle.mpy_tree.specs.Raw as raw;
-ghost use Rattle.mpy_tree.specs.Resolved.{ResolvedModule, Resolves};
-ghost use Rattle.bc_machine.specs.Library.{Name, Module, Library};
-ghost use Rattle.bc_machine.specs.Machine.{run};
-ghost use Rattle.bc_progress.specs.Plans.{IsVerifiedLibrary};
-ghost use Rattle.bc_resolved.specs.Stored.{Stored, IsMachineModule, IsLibraryOf, ResolveAlike, AllAlike, AllModules, IsVerifiedFile};
+mod resolved;
+mod verified;
 
-use bc_progress::library_law;
-use bc_verified::{file_law, module_law};
-use mpy_tree::resolving_law;
-
-/// Each module that a file holds resolves to a tree, and to one alone.
-pub fn resolves_law()
-    ensures tree { (m : raw.Module) → IsModule m → (tree : ResolvedModule) × Resolves m tree }
-    ensures one { (m : raw.Module) (a b : ResolvedModule) → Resolves m a → Resolves m b → a ≡ b }
-{
-    file_law();
-    resolving_law();
-}
-
-/// Modules that resolve alike are one module to the machine, and libraries of such run alike.
-pub fn alike_law()
-    ensures modules { (a b : raw.Module) (x y : Module) → ResolveAlike a b → IsMachineModule a x → IsMachineModule b y → x ≡ y }
-    ensures libraries { (first second : List (Name × Stored)) (x y : Library) → AllAlike first second → IsLibraryOf first x → IsLibraryOf second y → x ≡ y }
-    ensures runs { (first second : List (Name × Stored)) (x y : Library) → AllAlike first second → IsLibraryOf first x → IsLibraryOf second y
-        → (name : Name) (cells bytes : ℕ) (ports : List PortState) (n : ℕ) → run x name cells bytes ports n ≡ run y name cells bytes ports n }
-{
-    resolving_law();
-}
-
-/// A library of files is a library of the machine, and a verified one where each of its modules is verified.
-pub fn stored_law()
-    ensures library { (stored : List (Name × Stored)) → AllModules IsModule stored → (library : Library) × IsLibraryOf stored library }
-    ensures verified { (stored : List (Name × Stored)) (library : Library) → AllModules IsVerifiedFile stored → IsLibraryOf stored library
-        → IsVerifiedLibrary library }
-{
-    resolves_law();
-    module_law();
-    library_law();
-}
+pub use resolved::{alike_law, resolves_law, stored_law};
+pub use verified::{file_law, module_law, raw_law, tree_law};

@@ -2,8 +2,8 @@
 use Rattle.std.proofs.Common.{◌≡◌, ℕ, zero, suc, refl, ◌+◌, ◌<◌, List, [], ◌∷◌, ◌++◌, length, take, get_or, sym, ap, ◌∙◌, arith}
 use Rattle.std.specs.Prelude.{max}
 use Rattle.std.proofs.lemmas.List.{take_more}
-use Rattle.bc_ops.specs.declared.listing.Item.{Item}
-use Rattle.bc_flow.specs.Code.{item_locals, locals}
+use Rattle.bc_machine.specs.bc_ops.declared.listing.Item.{Item}
+use Rattle.bc_library.specs.bc_flow.Code.{item_locals, locals}
 
 other_way : (m n : ℕ) → max m n ≡ max n m
 other_way m n = omega arith

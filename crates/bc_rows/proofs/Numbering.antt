@@ -3,10 +3,10 @@ use Rattle.std.proofs.Common.{◌≡◌, ℕ, zero, suc, ◌+◌, ◌-◌, ◌<�
 use Rattle.std.specs.Prelude.{slice_get, slice_set}
 use Rattle.std.proofs.lemmas.List.{append-nil, take_more, take_all, length-take-le}
 use Rattle.mpy_base.specs.declared.limits.TheConstants.{MAX_DEPTH}
-use Rattle.mpy_tree.specs.declared.raw.RawCode.{RawCode, out-RawCode}
-use Rattle.mpy_tree.specs.Raw.{Module}
-use Rattle.mpy_tree.specs.Codes.{Placed, Within, codes_by, numbers_by, codes_to, codes_of}
-use Rattle.mpy_tree.proofs.Codes.{children, Nests, whole, codes_open}
+use Rattle.bc_machine.specs.mpy_tree.declared.raw.RawCode.{RawCode, out-RawCode}
+use Rattle.bc_machine.specs.mpy_tree.Raw.{Module}
+use Rattle.bc_machine.specs.mpy_tree.Codes.{Placed, Within, codes_by, numbers_by, codes_to, codes_of}
+use Rattle.bc_machine.proofs.mpy_tree_lemmas.Codes.{children, Nests, whole, codes_open}
 use Rattle.bc_library.specs.Shelf.{Shelf}
 use Rattle.bc_rows.specs.declared.row.Row.{Row}
 use Rattle.bc_rows.specs.Made.{IsCodeIn, AreRows, Adds, with_children}

@@ -4,16 +4,16 @@ use Rattle.std.specs.Prelude.{IsSome, slice_get, is_some, slice_index_or, remove
 use Rattle.std.specs.List.{AllByRecursion}
 use Rattle.std.proofs.lemmas.List.{length-map}
 use Rattle.std.proofs.lemmas.List.Elements.{recursion_from_All}
-use Rattle.bc_ops.specs.declared.listing.Item.{Item}
-use Rattle.bc_ops.specs.Listing.{IsListOf}
+use Rattle.bc_machine.specs.bc_ops.declared.listing.Item.{Item}
+use Rattle.bc_machine.specs.bc_ops.Listing.{IsListOf}
 use Rattle.bc_prelude.specs.declared.prelude.Prelude.{Prelude}
 use Rattle.bc_prelude.specs.Prelude.{Begins, HasParts}
 use Rattle.bc_prelude.specs.Names.{AreNames}
 use Rattle.bc_prelude.proofs.Indexes.{same_indexes}
 use Rattle.bc_prelude.proofs.Pieces.{names_at, lines_at, instructions_at}
 use Rattle.bc_prelude.proofs.Preludes.{same_prelude}
-use Rattle.mpy_tree.specs.declared.raw.Qstr.{Qstr}
-use Rattle.mpy_tree.specs.Raw.{Module}
+use Rattle.bc_machine.specs.mpy_tree.declared.raw.Qstr.{Qstr}
+use Rattle.bc_machine.specs.mpy_tree.Raw.{Module}
 use Rattle.bc_library.specs.Shelf.{Shelf, module_at, entry_at}
 use Rattle.bc_rows.specs.Made.{AreIndexes, IsOwnCodeIn}
 

@@ -4,33 +4,33 @@ use Rattle.std.specs.Prelude.{slice_get, max, option_and_then, unwrap_or}
 use Rattle.std.proofs.lemmas.List.{length-map}
 use Rattle.std.proofs.lemmas.Option.{slice_get-map}
 use Rattle.mpy_base.specs.declared.limits.TheConstants.{MAX_DEPTH}
-use Rattle.bc_ops.specs.declared.instr.Op.{Op}
-use Rattle.bc_ops.specs.declared.instr.Op.TheVariants as ops
-use Rattle.bc_ops.specs.declared.instr.Instr.{Instr}
-use Rattle.bc_ops.specs.declared.instr.Instr.TheVariants as instrs
-use Rattle.bc_ops.specs.declared.listing.Item.{Item}
-use Rattle.bc_ops.specs.declared.listing.Item.TheVariants as listed
-use Rattle.bc_ops.specs.Listing as listing
-use Rattle.bc_ops.specs.Listing.{Lists, starts}
-use Rattle.bc_ops.proofs.Lists.{one_listing}
+use Rattle.bc_machine.specs.bc_ops.declared.instr.Op.{Op}
+use Rattle.bc_machine.specs.bc_ops.declared.instr.Op.TheVariants as ops
+use Rattle.bc_machine.specs.bc_ops.declared.instr.Instr.{Instr}
+use Rattle.bc_machine.specs.bc_ops.declared.instr.Instr.TheVariants as instrs
+use Rattle.bc_machine.specs.bc_ops.declared.listing.Item.{Item}
+use Rattle.bc_machine.specs.bc_ops.declared.listing.Item.TheVariants as listed
+use Rattle.bc_machine.specs.bc_ops.Listing as listing
+use Rattle.bc_machine.specs.bc_ops.Listing.{Lists, starts}
+use Rattle.bc_machine.proofs.bc_ops_lemmas.Lists.{one_listing}
 use Rattle.bc_prelude.specs.declared.prelude.Prelude.{Prelude}
 use Rattle.bc_prelude.specs.Lines as tables
-use Rattle.bc_offsets.specs.Positions.{CodeList, Listed, Starts, Reads, position_in}
-use Rattle.mpy_tree.specs.declared.raw.RawCode.{RawCode}
-use Rattle.mpy_tree.specs.Raw as raw
-use Rattle.mpy_tree.specs.declared.module.Constant.{Constant}
-use Rattle.mpy_tree.specs.Values.{value_of}
-use Rattle.mpy_tree.specs.Codes.{Placed, codes_by, numbers_by, codes_to, codes_of}
-use Rattle.mpy_tree.proofs.Codes.{children, Nests, EachNests, whole, module_nests}
-use Rattle.mpy_tree.specs.Resolved as trees
-use Rattle.mpy_tree.specs.File.{IsModule}
-use Rattle.mpy_tree.specs.Resolved.{Resolved, ResolvedLine, Body, instrs_of, line_numbers, Tree, node, Trees, no_more, more, ResolvedModule, name_at, resolved, IsBody, ResolvesCode, ResolveCodes, Resolves}
+use Rattle.bc_labels.specs.Positions.{CodeList, Listed, Starts, Reads, position_in}
+use Rattle.bc_machine.specs.mpy_tree.declared.raw.RawCode.{RawCode}
+use Rattle.bc_machine.specs.mpy_tree.Raw as raw
+use Rattle.bc_machine.specs.mpy_tree.declared.module.Constant.{Constant}
+use Rattle.bc_machine.specs.mpy_tree.Values.{value_of}
+use Rattle.bc_machine.specs.mpy_tree.Codes.{Placed, codes_by, numbers_by, codes_to, codes_of}
+use Rattle.bc_machine.proofs.mpy_tree_lemmas.Codes.{children, Nests, EachNests, whole, module_nests}
+use Rattle.bc_machine.specs.mpy_tree.Resolved as trees
+use Rattle.bc_machine.specs.mpy_tree.File.{IsModule}
+use Rattle.bc_machine.specs.mpy_tree.Resolved.{Resolved, ResolvedLine, Body, instrs_of, line_numbers, Tree, node, Trees, no_more, more, ResolvedModule, name_at, resolved, IsBody, ResolvesCode, ResolveCodes, Resolves}
 use Rattle.bc_library.specs.Shelf.{Shelf, module_at, table_text}
 use Rattle.bc_library.specs.Texts.{text_numbered}
 use Rattle.bc_machine.specs.Library as machine
 use Rattle.bc_machine.specs.Library.{Code, Line, code_of, codes_from, size_of, sizes_of, numbers_from, module_of}
 use Rattle.bc_rows.specs.declared.row.Row.{Row}
-use Rattle.bc_flow.specs.Code.{item_locals, locals}
+use Rattle.bc_library.specs.bc_flow.Code.{item_locals, locals}
 use Rattle.bc_rows.specs.Rows.{IsRowOf, IsRow}
 use Rattle.bc_rows.specs.Runs.{RunsAs, line_at}
 use Rattle.bc_rows.proofs.Preludes.{SameParts, same_parts}

@@ -7,9 +7,9 @@ use Rattle.std.proofs.lemmas.Bool.Decides.{nat_tests}
 use Rattle.qstr_pool.specs.declared.table.TheConstants.{FIRST_OWN}
 use Rattle.qstr_pool.specs.Pool.{Texts, text_of}
 use Rattle.qstr_pool.specs.Static.{static_text_of}
-use Rattle.mpy_tree.specs.Raw.{Module}
-use Rattle.mpy_tree.specs.File.{IsModule}
-use Rattle.mpy_tree.specs.Codes.{Placed, codes_of}
+use Rattle.bc_machine.specs.mpy_tree.Raw.{Module}
+use Rattle.bc_machine.specs.mpy_tree.File.{IsModule}
+use Rattle.bc_machine.specs.mpy_tree.Codes.{Placed, codes_of}
 use Rattle.bc_library.specs.Shelf.{Shelf, Named, names, module_at, member_by, member_of}
 use Rattle.bc_library.specs.Texts.{text_numbered}
 use Rattle.bc_rows.specs.declared.row.Row.{Row}

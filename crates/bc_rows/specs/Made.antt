@@ -1,10 +1,10 @@
 -- Rows as they are made, and the tables that are kept.
 use Rattle.std.specs.Prelude.{◌≡◌, ℕ, ◌<◌, ◌≤◌, ◌^◌, List, [], ◌∷◌, ◌++◌, length, Option, Some, None, IsSome, slice_get}
 use Rattle.std.specs.List.{AllByRecursion}
-use Rattle.mpy_tree.specs.declared.raw.RawCode.{RawCode}
-use Rattle.mpy_tree.specs.Raw.{Module}
-use Rattle.mpy_tree.specs.Codes.{Placed, codes_of}
-use Rattle.mpy_tree.specs.File.{IsOwnCode, IsCode, IsModule}
+use Rattle.bc_machine.specs.mpy_tree.declared.raw.RawCode.{RawCode}
+use Rattle.bc_machine.specs.mpy_tree.Raw.{Module}
+use Rattle.bc_machine.specs.mpy_tree.Codes.{Placed, codes_of}
+use Rattle.bc_machine.specs.mpy_tree.File.{IsOwnCode, IsCode, IsModule}
 use Rattle.bc_prelude.specs.Names.{AreNames}
 use Rattle.bc_library.specs.declared.fault.Member.{Member}
 use Rattle.bc_library.specs.declared.fault.Member.TheVariants as members

@@ -3,9 +3,9 @@ use Rattle.std.specs.Prelude.{◌≡◌, ℕ, ◌∷◌, ◌<◌, ◌^◌, lengt
 use Rattle.std.specs.Str.{bytes_eq}
 use Rattle.bc_prelude.specs.declared.prelude.Prelude.{Prelude}
 use Rattle.bc_prelude.specs.Prelude.{Begins}
-use Rattle.bc_flow.specs.Code.{locals}
-use Rattle.bc_offsets.specs.Positions.{CodeList, Listed}
-use Rattle.mpy_tree.specs.Codes.{Placed}
+use Rattle.bc_library.specs.bc_flow.Code.{locals}
+use Rattle.bc_labels.specs.Positions.{CodeList, Listed}
+use Rattle.bc_machine.specs.mpy_tree.Codes.{Placed}
 use Rattle.bc_library.specs.Shelf.{Shelf, names, table_text}
 use Rattle.bc_library.specs.Texts.{text_numbered}
 use Rattle.bc_rows.specs.declared.row.Row.{Row}

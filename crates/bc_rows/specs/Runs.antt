@@ -1,12 +1,12 @@
 -- A row, and the code that the machine runs for it.
 use Rattle.std.specs.Prelude.{◌≡◌, ℕ, List, length, map, Some, slice_get}
-use Rattle.bc_ops.specs.declared.instr.Instr.{Instr}
-use Rattle.bc_ops.specs.declared.listing.Item.{Item}
-use Rattle.bc_ops.specs.Listing.{item}
+use Rattle.bc_machine.specs.bc_ops.declared.instr.Instr.{Instr}
+use Rattle.bc_machine.specs.bc_ops.declared.listing.Item.{Item}
+use Rattle.bc_machine.specs.bc_ops.Listing.{item}
 use Rattle.bc_prelude.specs.Lines as tables
-use Rattle.bc_offsets.specs.Positions.{CodeList, Listed, Starts, Reads, position_in}
-use Rattle.mpy_tree.specs.Raw as raw
-use Rattle.mpy_tree.specs.Resolved.{resolved}
+use Rattle.bc_labels.specs.Positions.{CodeList, Listed, Starts, Reads, position_in}
+use Rattle.bc_machine.specs.mpy_tree.Raw as raw
+use Rattle.bc_machine.specs.mpy_tree.Resolved.{resolved}
 use Rattle.bc_library.specs.Shelf.{Shelf}
 use Rattle.bc_library.specs.Texts.{text_numbered}
 use Rattle.bc_machine.specs.Library.{Code, Line, item_of}

@@ -1,8 +1,8 @@
 //! The rows of the codes of a module.
 
 ghost use Rattle.std.specs.Prelude.{◌≡◌, ◌<◌, ℕ, List, length, IfOk, OnOk, Some, slice_get, slice_set};
-ghost use Rattle.mpy_tree.specs.File.{IsModule};
-ghost use Rattle.mpy_tree.specs.Codes.{codes_to, codes_of};
+ghost use Rattle.bc_machine.specs.mpy_tree.File.{IsModule};
+ghost use Rattle.bc_machine.specs.mpy_tree.Codes.{codes_to, codes_of};
 ghost use Rattle.bc_library.specs.Shelf.{module_at, table_text};
 ghost use Rattle.bc_library.specs.Texts.{text_numbered};
 ghost use Rattle.bc_rows.specs.declared.row.Row.{Row};
@@ -10,9 +10,9 @@ ghost use Rattle.bc_rows.specs.Made.{Adds, AreRows, IsCodeIn, with_children};
 
 use crate::row::{Row, own_row};
 use bc_library::Library;
+use bc_machine::mpy_tree::{RawCode, RawModule, module_law};
 use mpy_base::limits::MAX_DEPTH;
 use mpy_base::{Items, NoMemory};
-use mpy_tree::{RawCode, RawModule, module_law};
 use std::alloc::Global;
 
 /// The number of the next row. A table of 2^32 rows is answered as want of memory.

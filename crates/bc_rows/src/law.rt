@@ -1,10 +1,10 @@
 //! What the machine runs for a row.
 
 ghost use Rattle.std.specs.Prelude.{◌≡◌, ℕ, Some, length, slice_get};
-ghost use Rattle.mpy_tree.specs.File.{IsModule};
-ghost use Rattle.mpy_tree.specs.Raw as raw;
-ghost use Rattle.mpy_tree.specs.Codes.{codes_of};
-ghost use Rattle.mpy_tree.specs.Resolved.{ResolvedModule, Resolves};
+ghost use Rattle.bc_machine.specs.mpy_tree.File.{IsModule};
+ghost use Rattle.bc_machine.specs.mpy_tree.Raw as raw;
+ghost use Rattle.bc_machine.specs.mpy_tree.Codes.{codes_of};
+ghost use Rattle.bc_machine.specs.mpy_tree.Resolved.{ResolvedModule, Resolves};
 ghost use Rattle.bc_library.specs.Shelf.{Shelf, module_at};
 ghost use Rattle.bc_library.specs.Texts.{text_numbered};
 ghost use Rattle.bc_machine.specs.Library.{Code, module_of};

@@ -5,12 +5,12 @@ ghost use Rattle.mpy_base.specs.Vuint.{Spells};
 ghost use Rattle.mpy_base.specs.declared.limits.TheConstants.{MAX_CODE_BYTES};
 ghost use Rattle.bc_library.specs.Shelf.{entry_at, table_text};
 ghost use Rattle.bc_library.specs.Texts.{text_numbered};
-ghost use Rattle.bc_flow.specs.Code as flow;
+ghost use Rattle.bc_library.specs.bc_flow.Code as flow;
 ghost use Rattle.bc_rows.specs.Made.{AreIndexes, IsOwnCodeIn};
 ghost use Rattle.bc_rows.specs.Rows.{IsRowOf};
 
 use bc_library::Library;
-use bc_ops::{Instr, Item, Op, items_of};
+use bc_machine::bc_ops::{Instr, Item, Op, items_of};
 use bc_prelude::parts_of;
 use mpy_base::{Items, NoMemory, read_vuint};
 use std::alloc::Global;

@@ -1,8 +1,8 @@
 //! The rows of a library.
 
 ghost use Rattle.std.specs.Prelude.{◌≡◌, ℕ, ◌≤◌, ◌<◌, ◌^◌, length, None, Some, IfOk, IfNone, IfSome, option_copied, slice_get};
-ghost use Rattle.mpy_tree.specs.File.{IsModule};
-ghost use Rattle.mpy_tree.specs.Raw.{Module};
+ghost use Rattle.bc_machine.specs.mpy_tree.File.{IsModule};
+ghost use Rattle.bc_machine.specs.mpy_tree.Raw.{Module};
 ghost use Rattle.bc_library.specs.Shelf.{module_at};
 ghost use Rattle.bc_rows.specs.Codes.{code_numbered};
 ghost use Rattle.bc_rows.specs.Made.{AreNamed, AreTables, module_in};
@@ -10,7 +10,7 @@ ghost use Rattle.bc_rows.specs.Rows.{IsRow, module_named};
 
 use crate::codes::rows_of;
 use crate::row::Row;
-use arena_heap::{Constants, StrNo};
+use bc_library::arena_heap::{Constants, StrNo};
 use bc_library::{Library, Member, library_law};
 use mpy_base::limits::MAX_MODULES;
 use mpy_base::{Items, NoMemory};
@@ -28,8 +28,8 @@ pub struct Rows<'a> {
 
 impl<'a> Model for Rows<'a> {
     ghost use Rattle.std.specs.Coded.{codes};
-    ghost use Rattle.mpy_tree.specs.contracts.module.Constant as constants;
-    ghost use Rattle.mpy_tree.specs.contracts.raw.RawCode as raw_codes;
+    ghost use Rattle.bc_machine.specs.mpy_tree.contracts.module.Constant as constants;
+    ghost use Rattle.bc_machine.specs.mpy_tree.contracts.raw.RawCode as raw_codes;
     ghost use Rattle.bc_library.specs.Shelf.{Shelf};
 
     ghost Value = { Shelf };

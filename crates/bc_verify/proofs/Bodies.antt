@@ -1,12 +1,12 @@
 -- What a code's own bytes say, once.
 use Rattle.std.proofs.Common.{◌≡◌, ◌≤◌, ℕ, List, length, drop, refl, sym, ap, subst, ◌∙◌, arith, length-drop}
-use Rattle.bc_ops.specs.declared.listing.Item.{Item}
-use Rattle.bc_ops.specs.Listing.{Lists, starts}
-use Rattle.bc_ops.proofs.Lists.{one_listing}
-use Rattle.bc_prelude.specs.declared.prelude.Prelude.{Prelude}
-use Rattle.bc_prelude.specs.Prelude.{Begins}
-use Rattle.bc_prelude.proofs.Pieces.{instructions_at}
-use Rattle.bc_prelude.proofs.Preludes.{same_prelude}
+use Rattle.mpy_tree.specs.bc_ops.declared.listing.Item.{Item}
+use Rattle.mpy_tree.specs.bc_ops.Listing.{Lists, starts}
+use Rattle.mpy_tree.proofs.bc_ops_lemmas.Lists.{one_listing}
+use Rattle.mpy_tree.specs.bc_prelude.declared.prelude.Prelude.{Prelude}
+use Rattle.mpy_tree.specs.bc_prelude.Prelude.{Begins}
+use Rattle.mpy_tree.proofs.bc_prelude_lemmas.Pieces.{instructions_at}
+use Rattle.mpy_tree.proofs.bc_prelude_lemmas.Preludes.{same_prelude}
 use Rattle.mpy_tree.specs.File.{IsOwnCode}
 use Rattle.bc_verify.specs.Body.{Body, Says}
 

@@ -1,12 +1,12 @@
 -- What a code's own bytes say.
 use Rattle.std.specs.Prelude.{◌≡◌, ℕ, List, length, map}
-use Rattle.bc_ops.specs.declared.listing.Item.{Item}
-use Rattle.bc_ops.specs.Listing.{Lists}
-use Rattle.bc_prelude.specs.declared.prelude.Prelude.{Prelude}
-use Rattle.bc_prelude.specs.Prelude.{Begins}
-use Rattle.bc_flow.specs.declared.code.Code.{Code as RustCode}
-use Rattle.bc_flow.specs.Action.{action}
-use Rattle.bc_flow.specs.Code.{Code, locals}
+use Rattle.mpy_tree.specs.bc_ops.declared.listing.Item.{Item}
+use Rattle.mpy_tree.specs.bc_ops.Listing.{Lists}
+use Rattle.mpy_tree.specs.bc_prelude.declared.prelude.Prelude.{Prelude}
+use Rattle.mpy_tree.specs.bc_prelude.Prelude.{Begins}
+use Rattle.bc_certificates.specs.bc_flow.declared.code.Code.{Code as RustCode}
+use Rattle.bc_certificates.specs.bc_flow.Action.{action}
+use Rattle.bc_certificates.specs.bc_flow.Code.{Code, locals}
 
 -- the instructions, and the numbers of the prelude
 pub record Body : Type 0 where

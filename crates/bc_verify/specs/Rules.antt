@@ -1,11 +1,11 @@
 -- The rules on each instruction of a code.
 use Rattle.std.specs.Prelude.{◌≡◌, ℕ, ◌<◌, ◌≤◌, length, Some, slice_get}
 use Rattle.mpy_base.specs.declared.limits.TheConstants.{MAX_ITEMS}
-use Rattle.bc_ops.specs.declared.instr.Op.TheVariants as ops
-use Rattle.bc_ops.specs.declared.instr.Instr.TheVariants as instrs
-use Rattle.bc_ops.specs.declared.listing.Item.{Item}
-use Rattle.bc_ops.specs.declared.listing.Item.TheVariants.{Plain}
-use Rattle.bc_flow.specs.Code.{LeavesCode, item_locals, named}
+use Rattle.mpy_tree.specs.bc_ops.declared.instr.Op.TheVariants as ops
+use Rattle.mpy_tree.specs.bc_ops.declared.instr.Instr.TheVariants as instrs
+use Rattle.mpy_tree.specs.bc_ops.declared.listing.Item.{Item}
+use Rattle.mpy_tree.specs.bc_ops.declared.listing.Item.TheVariants.{Plain}
+use Rattle.bc_certificates.specs.bc_flow.Code.{LeavesCode, item_locals, named}
 use Rattle.mpy_tree.specs.Raw.{Module}
 use Rattle.bc_verify.specs.declared.fault.Rule.{Rule}
 use Rattle.bc_verify.specs.declared.fault.Rule.TheVariants as rules

@@ -2,10 +2,10 @@
 use Rattle.std.specs.Prelude.{◌≡◌, ◌⊎◌, ℕ, List, ◌∷◌, length, Some, slice_index}
 use Rattle.mpy_tree.specs.declared.raw.RawCode.{RawCode, out-RawCode}
 use Rattle.mpy_tree.specs.Raw.{Module}
-use Rattle.bc_flow.specs.declared.code.Rule.{Rule as FlowRule}
-use Rattle.bc_flow.specs.declared.walk.State.{State}
-use Rattle.bc_flow.specs.Verified as flow
-use Rattle.bc_flow.specs.Views.{table_of}
+use Rattle.bc_certificates.specs.bc_flow.declared.code.Rule.{Rule as FlowRule}
+use Rattle.bc_certificates.specs.bc_flow.declared.walk.State.{State}
+use Rattle.bc_certificates.specs.bc_flow.Verified as flow
+use Rattle.bc_certificates.specs.bc_flow.Views.{table_of}
 use Rattle.bc_verify.specs.declared.fault.Rule.{Rule}
 use Rattle.bc_verify.specs.declared.fault.VerifyFault.{VerifyFault}
 use Rattle.bc_verify.specs.Body.{Body, Says, flow_of}
@@ -33,6 +33,8 @@ pub record TellsLeast (code : RawCode) (states : List State) : Type 0 where
   pub says : Says (out-RawCode code).bytes body offsets
   pub holds : flow.Holds (flow_of body) (flow.at (table_of states))
   pub least : flow.IsLeastOf (flow_of body) (flow.at (table_of states))
+  -- a walk comes to them: so they are the least whatever room the code says that it has for slots and entries
+  pub reached : flow.Reached (flow_of body) (table_of states)
 
 -- all codes of a tree are verified
 abbrev pub AreVerified : Module → RawCode → Type 0

@@ -9,4 +9,7 @@ mod verified;
 
 pub use code::shapes;
 pub use fault::{Rule, VerifyFault};
-pub use verified::{Verified, codes_law, one_fault, order, verified_law, verify};
+pub use mpy_tree;
+pub use mpy_tree::{bc_prelude, qstr_pool};
+pub use tree::count;
+pub use verified::{Verified, codes_law, known_verified, one_fault, order, verified_law, verify};

@@ -59,7 +59,7 @@ pub(crate) fn tree_fault(
 }
 
 /// How many codes there are in the first `levels` levels, or 2^64 - 1 where there are more.
-pub(crate) fn count(code: &RawCode, levels: usize) -> u64
+pub fn count(code: &RawCode, levels: usize) -> u64
     ensures { result ≡ min (length (codes_to levels [] 0 code.now)) (2 ^ 64 - 1) }
 {
     if levels == 0 {

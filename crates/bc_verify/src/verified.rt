@@ -1,11 +1,11 @@
-//! Verified modules: the type that only `verify` makes, and the verifier itself.
+//! Verified modules, and the verifier itself.
 
 ghost use Rattle.std.specs.Prelude.{◌≡◌, IfOk, IfErr, OnOk, IfSome, IfNone, ℕ, List, Some, ◌≤◌, length, min, ◌-◌, ◌^◌};
 ghost use Rattle.mpy_base.specs.declared.refused.Refused.TheVariants as refused;
 ghost use Rattle.mpy_tree.specs.declared.raw.RawCode.{RawCode, out-RawCode};
 ghost use Rattle.mpy_tree.specs.File.{IsModule};
 ghost use Rattle.mpy_tree.specs.Raw.{Module};
-ghost use Rattle.bc_flow.specs.Verified.{Decides};
+ghost use Rattle.bc_certificates.specs.bc_flow.Verified.{Decides};
 ghost use Rattle.bc_verify.specs.Body.{Body, flow_of};
 ghost use Rattle.mpy_tree.specs.Codes.{code_at, codes_of};
 ghost use Rattle.bc_verify.specs.declared.fault.VerifyFault.{VerifyFault};
@@ -19,7 +19,7 @@ use mpy_tree::{RawModule, module_law};
 use std::alloc::Global;
 use std::marker::Model;
 
-/// A module that is verified. `verify` alone makes one.
+/// A module that is verified. `verify` makes one after its check, and `known_verified` where it is known before.
 #[derive(Drop)]
 pub struct Verified {
     module: RawModule,
@@ -91,6 +91,14 @@ pub fn verify(alloc: Global, raw: RawModule) -> Result<Verified, (Refused<Verify
         Ok(Some(fault)) => Err((Refused::Fault(fault), raw)),
         Err(NoMemory) => Err((Refused::NoMemory, raw)),
     }
+}
+
+/// Holds a module that is known to be verified, as one that was just written, at no cost: nothing is checked or copied.
+pub fn known_verified(raw: RawModule) -> Verified
+    requires { IsVerified raw }
+    ensures { result ≡ raw }
+{
+    Verified { module: raw }
 }
 
 /// What holds of every module that is held as verified.

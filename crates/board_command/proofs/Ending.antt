@@ -4,19 +4,20 @@ use Rattle.std.specs.Io.KnownBytes.{Keeps}
 use Rattle.std.proofs.KnownBytes.{Appends-kept}
 use Rattle.mpy_base.specs.declared.limits.TheConstants.{MAX_TASKS}
 use Rattle.mpy_io.specs.Files.{FileOf}
-use Rattle.bc_library.specs.Shelf.{Shelf}
-use Rattle.board_meaning.specs.vm_states.Means.{Program}
-use Rattle.board_meaning.specs.vm_programs.Programs.{IsProgramOf}
+use Rattle.image_open.specs.bc_library.Shelf.{Shelf}
+use Rattle.vm_starting.specs.vm_states.Means.{Program}
+use Rattle.vm_starting.specs.Programs.{IsProgramOf}
 use Rattle.board_plan.specs.declared.plan.Plan.{Plan}
-use Rattle.board_meaning.specs.board_tasks.Opened.{first_missing}
-use Rattle.board_meaning.specs.board_files.declared.stop.BoardStop.{BoardStop}
-use Rattle.board_meaning.specs.board_files.declared.stop.BoardStop.TheVariants as stops
-use Rattle.board_meaning.specs.board_files.Files.{KeepsOthers}
-use Rattle.board_meaning.specs.board_files.Summaries.{HasRunIn, HasRunFrontIn}
-use Rattle.command_files.specs.mpy_endings.declared.ending.Ending.{Ending}
-use Rattle.command_files.specs.mpy_endings.declared.ending.Ending.TheVariants.{Done, Unaccepted, Unread, Unverified, Unmerged, Unopened, Unfrozen, Unboarded, Stopped, ReadFault, WriteFault, Unwritten, NoMemory, Absent}
-use Rattle.command_files.specs.mpy_endings.declared.ending.BoardFault.TheVariants as boards
-use Rattle.board_command.specs.Images.{HoldsImage}
+use Rattle.board_tasks.specs.Opened.{first_missing}
+use Rattle.board_files.specs.declared.stop.BoardStop.{BoardStop}
+use Rattle.board_files.specs.declared.stop.BoardStop.TheVariants as stops
+use Rattle.board_files.specs.Files.{KeepsOthers}
+use Rattle.board_files.specs.Stopped.{HasStoppedIn}
+use Rattle.board_files.specs.Summaries.{HasRunIn, HasRunFrontIn}
+use Rattle.mpy_endings.specs.declared.ending.Ending.{Ending}
+use Rattle.mpy_endings.specs.declared.ending.Ending.TheVariants.{Done, Unaccepted, Unread, Unverified, Unmerged, Unopened, Unfrozen, Unboarded, Different, Stopped, ReadFault, WriteFault, Unwritten, NoMemory, Absent}
+use Rattle.mpy_endings.specs.declared.ending.BoardFault.TheVariants as boards
+use Rattle.command_files.specs.Images.{HoldsImage}
 use Rattle.board_command.specs.Plans.{RefusesPlan}
 use Rattle.board_command.specs.Boards.{Boards, Holds, Untouched}
 use Rattle.board_command.specs.Ends.{ending_of}
@@ -41,6 +42,7 @@ module _ (below : Shelf) (image plan_name : List ℕ) (old new : Option FileOf) 
   plan_refused shelf (Unboarded (boards.Plan fault)) e opened h = (inr (shelf, opened, h, refl), untouched e)
   plan_refused shelf (Unboarded (boards.NoModule name)) e opened h = absurd h
   plan_refused shelf (Unboarded (boards.Unwritten task)) e opened h = absurd h
+  plan_refused shelf (Different difference) e opened h = absurd h
   plan_refused shelf (Stopped stop) e opened h = absurd h
   plan_refused shelf ReadFault e opened h = (inr (shelf, opened, h, refl), untouched e)
   plan_refused shelf WriteFault e opened h = absurd h
@@ -58,7 +60,9 @@ pub record Told (shelf : Shelf) (plan : Plan) (old new : Option FileOf) (before 
   pub missing : (name : List ℕ) → ran ≡ Err (stops.NoModule name) → (first_missing shelf plan.tasks ≡ Some name) × (new ≡ old) × (behind ≡ before)
   pub unwritten : (task : ℕ) → ran ≡ Err (stops.Unwritten task) → (task < length plan.tasks) × (first_missing shelf plan.tasks ≡ None) × (behind ≡ before)
   pub unput : ran ≡ Err stops.WriteFault → (first_missing shelf plan.tasks ≡ None) × ((p : Program) → IsProgramOf shelf p → HasRunFrontIn p plan old new before behind)
+  pub cut : (task : ℕ) → ran ≡ Err (stops.Unwritten task) → (p : Program) → IsProgramOf shelf p → HasStoppedIn p plan (Some task) old new
   pub starved : ran ≡ Err stops.NoMemory → behind ≡ before
+  pub short : ran ≡ Err stops.NoMemory → (p : Program) → IsProgramOf shelf p → HasStoppedIn p plan None old new
   pub others : KeepsOthers (length plan.tasks) old new
 
 keeps : (before behind : Option (List ℕ)) → behind ≡ before → Keeps before behind
@@ -70,11 +74,11 @@ run_ended below image plan_name old new before behind shelf plan (Ok done) holds
 run_ended below image plan_name old new before behind shelf plan (Err (stops.NoModule name)) holds t =
     let m = t.missing name refl in (shelf, plan, holds, m.0, refl, record { files = m.1; prints = keeps before behind m.2 })
 run_ended below image plan_name old new before behind shelf plan (Err (stops.Unwritten task)) holds t =
-    let u = t.unwritten task refl in (shelf, plan, record { holds = holds; modules = u.1 }, (u.0, t.others, keeps before behind u.2))
+    let u = t.unwritten task refl in (shelf, plan, record { holds = holds; modules = u.1 }, (u.0, record { outputs = t.cut task refl; others = t.others; prints = keeps before behind u.2 }))
 run_ended below image plan_name old new before behind shelf plan (Err stops.WriteFault) holds t =
     let u = t.unput refl in (shelf, plan, record { holds = holds; modules = u.0 }, u.1)
 run_ended below image plan_name old new before behind shelf plan (Err stops.NoMemory) holds t =
-    inr (shelf, plan, holds, t.others, keeps before behind (t.starved refl))
+    inr (shelf, plan, holds, record { outputs = t.short refl; others = t.others; prints = keeps before behind (t.starved refl) })
 
 -- no file but those of sixteen tasks
 pub others_within : (count : ℕ) (old new : Option FileOf) → count ≤ MAX_TASKS → KeepsOthers count old new → KeepsOthers MAX_TASKS old new

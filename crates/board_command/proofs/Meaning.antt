@@ -1,28 +1,25 @@
--- What the tasks of an image of a manifest's sources say of these.
+-- What the tasks of an image of manifests' sources say of these.
 use Rattle.std.proofs.Common.{◌≡◌, ℕ, zero, suc, List, [], ◌∷◌, Option, Some, None, refl, sym, ap, subst, ◌∙◌}
 use Rattle.std.specs.Prelude.{slice_get}
 use Rattle.std.specs.Io.KnownBytes.{Appends}
 use Rattle.mpy_io.specs.Files.{FileOf}
-use Rattle.bc_library.specs.declared.fault.Member.{Member}
-use Rattle.bc_library.specs.declared.fault.Member.TheVariants as members
-use Rattle.bc_library.specs.Shelf.{Shelf, member_of, no_entries}
+use Rattle.image_open.specs.bc_library.declared.fault.Member.{Member}
+use Rattle.image_open.specs.bc_library.declared.fault.Member.TheVariants as members
+use Rattle.image_open.specs.bc_library.Shelf.{Shelf, member_of}
 use Rattle.py_meaning.specs.Program.{Program}
-use Rattle.board_meaning.specs.vm_states.Means as machine
-use Rattle.board_meaning.specs.vm_programs.Programs.{IsProgramOf, IsRunnable}
-use Rattle.board_meaning.specs.program_runs.Units.{AreUnits}
+use Rattle.vm_starting.specs.vm_states.Means as machine
+use Rattle.vm_starting.specs.Programs.{IsProgramOf as IsOfShelf, IsRunnable}
+use Rattle.meant_runs.specs.Units.{AreUnits}
 use Rattle.image_open.specs.Opens.{Opens}
-use Rattle.image_open.specs.OpensOn.{OpensOn}
-use Rattle.frozen_programs.specs.image_runs.Main.{HoldsMain}
 use Rattle.board_plan.specs.declared.plan.Plan.{Plan}
 use Rattle.board_plan.specs.declared.plan.Task.{Task}
-use Rattle.board_meaning.specs.board_tasks.Opened.{first_missing, missing_by, number_by, number_of}
-use Rattle.board_meaning.specs.board_files.Summaries.{HasRun}
+use Rattle.board_tasks.specs.Opened.{first_missing, missing_by, number_by, number_of}
+use Rattle.board_files.specs.Summaries.{HasRun}
 use Rattle.board_meaning.specs.Meant.{RanAsMeant}
-use Rattle.frozen_programs.specs.frozen_files.Frozen.{HoldsFrozen}
-use Rattle.frozen_programs.specs.Programs.{IsProgramOfManifest}
-use Rattle.command_files.specs.mpy_endings.declared.ending.Ending.TheVariants.{Done}
+use Rattle.meant_files.specs.Programs.{HoldsImageOf, IsLibraryOf, IsProgramOf, Sources}
+use Rattle.mpy_endings.specs.declared.ending.Ending.TheVariants.{Done}
 use Rattle.board_command.specs.Boards.{Boards}
-use Rattle.board_command.specs.Images.{HoldsImage}
+use Rattle.command_files.specs.Images.{HoldsImage}
 use Rattle.board_command.specs.Meant.{MeansTasks}
 use Rattle.board_command.specs.Plans.{HoldsPlan}
 
@@ -52,15 +49,12 @@ module_of shelf (first ∷ tasks) all (suc number) task at =
 -- the image
 -- =========
 
-over_nothing : (bytes : List ℕ) (shelf : Shelf) → OpensOn no_entries bytes shelf → Opens bytes shelf
-over_nothing bytes shelf h = record { entries = h.entries; is_image = h.is_image; verified = h.verified; shelf_is = h.shelf_is }
-
 by_some : {a b : List ℕ} → Some a ≡ Some b → a ≡ b
 by_some e = cc
 
 -- what the law of the runs of plans says
 abbrev pub RunsMean : Type 0
-RunsMean = (shelf : Shelf) (p : machine.Program) (plan : Plan) (old new : FileOf) (before behind : Option (List ℕ)) (number : ℕ) (task : Task) (program : Program) → IsProgramOf shelf p
+RunsMean = (shelf : Shelf) (p : machine.Program) (plan : Plan) (old new : FileOf) (before behind : Option (List ℕ)) (number : ℕ) (task : Task) (program : Program) → IsOfShelf shelf p
     → (ran : HasRun p plan old new before behind) → slice_get plan.tasks number ≡ Some task → AreUnits program shelf → program.main_name ≡ task.«module»
     → RanAsMeant program plan number task new ran.summarizes.lines
 
@@ -70,7 +64,7 @@ pub record HasPrograms (IsProgram : (main : List ℕ) → Program → Type 0) (s
   pub units : (main : List ℕ) (place : ℕ) → member_of shelf main ≡ Some (members.Module place) → (program : Program) → IsProgram main program
       → (program.main_name ≡ main) × AreUnits program shelf
 
-module _ (mean : RunsMean) (exists : (shelf : Shelf) → IsRunnable shelf → (p : machine.Program) × IsProgramOf shelf p) where
+module _ (mean : RunsMean) (exists : (shelf : Shelf) → IsRunnable shelf → (p : machine.Program) × IsOfShelf shelf p) where
   -- over any library below
   pub tasks_mean : (IsProgram : (main : List ℕ) → Program → Type 0) (below : Shelf) (image plan_name : List ℕ) (files : FileOf) (new : Option FileOf) (before behind : Option (List ℕ)) (place : ℕ)
       → ((shelf : Shelf) → HoldsImage below (Some files) image shelf → HasPrograms IsProgram shelf) → Boards below image plan_name (Some files) new before behind place Done
@@ -98,27 +92,25 @@ module _ (mean : RunsMean) (exists : (shelf : Shelf) → IsRunnable shelf → (p
       main : (number : ℕ) (task : Task) → slice_get plan.tasks number ≡ Some task → (at : ℕ) × (member_of shelf task.«module» ≡ Some (members.Module at))
       main number task at = module_of shelf plan.tasks can.modules number task at
 
-      p : (p : machine.Program) × IsProgramOf shelf p
+      p : (p : machine.Program) × IsOfShelf shelf p
       p = exists shelf can.holds.runnable
 
       run : (now : FileOf) × (new ≡ Some now) × HasRun p.0 plan files now before behind
       run = went p.0 p.1
 
--- what is known of images of manifests
-pub record OfManifests : Type 0 where
-  pub program : (files : FileOf) (manifest bytes main : List ℕ) (shelf : Shelf) (place : ℕ) → HoldsFrozen (Some files) manifest bytes → HoldsMain bytes main shelf place
-      → (program : Program) × IsProgramOfManifest files manifest main program
-  pub units : (files : FileOf) (manifest bytes main : List ℕ) (shelf : Shelf) (place : ℕ) → HoldsFrozen (Some files) manifest bytes → HoldsMain bytes main shelf place
-      → (program : Program) → IsProgramOfManifest files manifest main program → AreUnits program shelf
+-- what is known of the libraries of images
+pub record OfImages : Type 0 where
+  pub program : (all : List Sources) (main : List ℕ) (shelf : Shelf) (place : ℕ) → IsLibraryOf all shelf → member_of shelf main ≡ Some (members.Module place) → (program : Program) × IsProgramOf all main program
+  pub units : (all : List Sources) (main : List ℕ) (shelf : Shelf) → IsLibraryOf all shelf → (program : Program) → IsProgramOf all main program → AreUnits program shelf
 
-pub frozen_programs : OfManifests → (sources files : FileOf) (manifest image bytes : List ℕ) → HoldsFrozen (Some sources) manifest bytes → files image ≡ Some bytes
-    → (shelf : Shelf) → HoldsImage no_entries (Some files) image shelf → HasPrograms (IsProgramOfManifest sources manifest) shelf
-frozen_programs o sources files manifest image bytes made there shelf h = record {
-  program = λ main place found. o.program sources manifest bytes main shelf place made (record { opens = opened; found = found });
-  units = λ main place found program its. (its.main_name_is, o.units sources manifest bytes main shelf place made (record { opens = opened; found = found }) program its);
+pub image_programs : OfImages → (all : List Sources) (sources : Sources) (below : Shelf) (files : FileOf) (image : List ℕ) → IsLibraryOf all below → HoldsImageOf below sources files image
+    → (shelf : Shelf) → HoldsImage below (Some files) image shelf → HasPrograms (IsProgramOf (sources ∷ all)) shelf
+image_programs o all sources below files image is made shelf h = record {
+  program = λ main place found. o.program (sources ∷ all) main shelf place library found;
+  units = λ main place found program its. (its.main_name_is, o.units (sources ∷ all) main shelf library program its);
 }
   where
-    opened : Opens bytes shelf
-    opened =
-        let same : h.bytes ≡ bytes = by_some (sym h.holds ∙ there) in
-        over_nothing bytes shelf (subst (λ (b : List ℕ). OpensOn no_entries b shelf) same h.opens)
+    library : IsLibraryOf (sources ∷ all) shelf
+    library =
+        let same : h.bytes ≡ made.bytes = by_some (sym h.holds ∙ made.written) in
+        (below, made.bytes, is, made.is, subst (λ (b : List ℕ). Opens below b shelf) same h.opens)

@@ -2,17 +2,18 @@
 use Rattle.std.specs.Prelude.{◌≡◌, ◌⊎◌, ℕ, ◌<◌, List, length, Option, Some, None}
 use Rattle.mpy_io.specs.Files.{FileOf}
 use Rattle.std.specs.Io.KnownBytes.{Keeps}
-use Rattle.bc_library.specs.Shelf.{Shelf}
-use Rattle.board_meaning.specs.vm_states.Means.{Program}
-use Rattle.board_meaning.specs.vm_programs.Programs.{IsProgramOf, IsRunnable}
+use Rattle.image_open.specs.bc_library.Shelf.{Shelf}
+use Rattle.vm_starting.specs.vm_states.Means.{Program}
+use Rattle.vm_starting.specs.Programs.{IsProgramOf, IsRunnable}
 use Rattle.board_plan.specs.declared.plan.Plan.{Plan}
-use Rattle.board_meaning.specs.board_tasks.Opened.{first_missing}
-use Rattle.board_meaning.specs.board_files.Files.{KeepsOthers}
-use Rattle.board_meaning.specs.board_files.Summaries.{HasRunIn, HasRunFrontIn}
-use Rattle.command_files.specs.mpy_endings.declared.ending.Ending.{Ending}
-use Rattle.command_files.specs.mpy_endings.declared.ending.Ending.TheVariants.{Done, Unaccepted, Unread, Unverified, Unmerged, Unopened, Unfrozen, Unboarded, Stopped, ReadFault, WriteFault, Unwritten, NoMemory, Absent}
-use Rattle.command_files.specs.mpy_endings.declared.ending.BoardFault.TheVariants as boards
-use Rattle.board_command.specs.Images.{HoldsImage, RefusesImage}
+use Rattle.board_tasks.specs.Opened.{first_missing}
+use Rattle.board_files.specs.Files.{KeepsOthers}
+use Rattle.board_files.specs.Stopped.{HasStoppedIn}
+use Rattle.board_files.specs.Summaries.{HasRunIn, HasRunFrontIn}
+use Rattle.mpy_endings.specs.declared.ending.Ending.{Ending}
+use Rattle.mpy_endings.specs.declared.ending.Ending.TheVariants.{Done, Unaccepted, Unread, Unverified, Unmerged, Unopened, Unfrozen, Unboarded, Different, Stopped, ReadFault, WriteFault, Unwritten, NoMemory, Absent}
+use Rattle.mpy_endings.specs.declared.ending.BoardFault.TheVariants as boards
+use Rattle.command_files.specs.Images.{HoldsImage, RefusesImage}
 use Rattle.board_command.specs.Plans.{HoldsPlan, RefusesPlan}
 
 -- no file was written, and nothing printed
@@ -50,6 +51,13 @@ module _ (below : Shelf) (image plan_name : List ℕ) (old new : Option FileOf) 
   abbrev pub Started : (Shelf → Plan → Type 0) → Type 0
   Started Went = (shelf : Shelf) × (plan : Plan) × CanStart below image plan_name old shelf plan × Went shelf plan
 
+  -- The run of the tasks stopped, at the file of the task `cut`, or for want of memory where that is None. The file of each task has what
+  -- its run printed so far, that of `cut` a front of it. No other file changed, and nothing was printed
+  pub record Stops (shelf : Shelf) (plan : Plan) (cut : Option ℕ) : Type 0 where
+    pub outputs : (p : Program) → IsProgramOf shelf p → HasStoppedIn p plan cut old new
+    pub others : KeepsOthers (length plan.tasks) old new
+    pub prints : Keeps before behind
+
   -- the command on an image and a plan ended so, where the line names the word at the place
   abbrev pub Boards : (place : ℕ) → Ending → Type 0
   Boards place Done = Started (λ shelf plan. (p : Program) → IsProgramOf shelf p → HasRunIn p plan old new before behind)
@@ -63,7 +71,8 @@ module _ (below : Shelf) (image plan_name : List ℕ) (old new : Option FileOf) 
   Boards place (Unboarded (boards.NoModule name)) =
       (shelf : Shelf) × (plan : Plan) × Holds below image plan_name old shelf plan × (first_missing shelf plan.tasks ≡ Some name) × (place ≡ 2)
       × Untouched old new before behind
-  Boards place (Unboarded (boards.Unwritten task)) = Started (λ shelf plan. (task < length plan.tasks) × KeepsOthers (length plan.tasks) old new × Keeps before behind)
+  Boards place (Unboarded (boards.Unwritten task)) = Started (λ shelf plan. (task < length plan.tasks) × Stops shelf plan (Some task))
+  Boards place (Different difference) = ⊥
   Boards place (Stopped stop) = ⊥
   Boards place ReadFault = Refused place ReadFault
   -- the summary, or what was held back before, wasn't handed on
@@ -71,5 +80,5 @@ module _ (below : Shelf) (image plan_name : List ℕ) (old new : Option FileOf) 
   Boards place Unwritten = ⊥
   Boards place NoMemory =
       Untouched old new before behind
-      ⊎ ((shelf : Shelf) × (plan : Plan) × Holds below image plan_name old shelf plan × KeepsOthers (length plan.tasks) old new × Keeps before behind)
+      ⊎ ((shelf : Shelf) × (plan : Plan) × Holds below image plan_name old shelf plan × Stops shelf plan None)
   Boards place Absent = Refused place Absent

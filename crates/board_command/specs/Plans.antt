@@ -7,9 +7,9 @@ use Rattle.board_plan.specs.declared.plan.PlanFault.{PlanFault}
 use Rattle.board_plan.specs.declared.plan.PlanFault.TheVariants.{BadLine}
 use Rattle.board_plan.specs.Lines.{lines_of}
 use Rattle.board_plan.specs.Plans.{IsPlan, HasFault}
-use Rattle.command_files.specs.mpy_endings.declared.ending.Ending.{Ending}
-use Rattle.command_files.specs.mpy_endings.declared.ending.Ending.TheVariants.{Done, Unaccepted, Unread, Unverified, Unmerged, Unopened, Unfrozen, Unboarded, Stopped, ReadFault, WriteFault, Unwritten, NoMemory, Absent}
-use Rattle.command_files.specs.mpy_endings.declared.ending.BoardFault.TheVariants as boards
+use Rattle.mpy_endings.specs.declared.ending.Ending.{Ending}
+use Rattle.mpy_endings.specs.declared.ending.Ending.TheVariants.{Done, Unaccepted, Unread, Unverified, Unmerged, Unopened, Unfrozen, Unboarded, Different, Stopped, ReadFault, WriteFault, Unwritten, NoMemory, Absent}
+use Rattle.mpy_endings.specs.declared.ending.BoardFault.TheVariants as boards
 use Rattle.command_files.specs.Folder.{MayHold}
 
 -- the lines of the file under the name are the plan
@@ -40,6 +40,7 @@ RefusesPlan files name (Unfrozen fault) = ⊥
 RefusesPlan files name (Unboarded (boards.Plan fault)) = HoldsNoPlan files name fault ⊎ ((fault ≡ BadLine 1) × IsTooLong files name)
 RefusesPlan files name (Unboarded (boards.NoModule «module»)) = ⊥
 RefusesPlan files name (Unboarded (boards.Unwritten task)) = ⊥
+RefusesPlan files name (Different difference) = ⊥
 RefusesPlan files name (Stopped stop) = ⊥
 RefusesPlan files name ReadFault = Unit {0}
 RefusesPlan files name WriteFault = ⊥

@@ -1,22 +1,20 @@
 //! The command `board`: image and plan are read, the tasks run by turns, and the summary is put.
 
 ghost use Rattle.std.specs.Prelude.{◌≡◌, []};
-ghost use Rattle.std.specs.Option.{ForSome};
 ghost use Rattle.mpy_base.specs.declared.limits.TheConstants.{MAX_TASKS};
 ghost use Rattle.mpy_io.specs.Count.{Counts};
-ghost use Rattle.image_base.specs.Base.{IsOpened};
-ghost use Rattle.board_meaning.specs.board_files.Files.{KeepsOthers};
-ghost use Rattle.command_files.specs.mpy_endings.declared.ending.Ending.TheVariants.{Done};
-ghost use Rattle.command_files.specs.mpy_endings.Ending.{is_folder_fault, is_out_fault};
-ghost use Rattle.board_command.specs.Images.{library_below};
+ghost use Rattle.image_open.specs.image_grammar.Base.{IsOpened};
+ghost use Rattle.board_files.specs.Files.{KeepsOthers};
+ghost use Rattle.mpy_endings.specs.declared.ending.Ending.TheVariants.{Done};
+ghost use Rattle.mpy_endings.specs.Ending.{is_folder_fault, is_out_fault};
 ghost use Rattle.board_command.specs.Boards.{Boards};
 ghost use Rattle.board_command.specs.Ends as spec;
 
-use crate::image::image_library;
 use crate::plan::planned;
-use bc_library::Library;
-use board_meaning::{BoardStop, run_board};
-use command_files::{BoardFault, Ended, Ending};
+use board_files::{BoardStop, run_board};
+use command_files::mpy_endings::{BoardFault, Ended, Ending};
+use command_files::open_image_file;
+use image_open::bc_library::{Library, modules_law};
 use mpy_io::{Folder, Sink};
 use std::alloc::Global;
 
@@ -44,25 +42,25 @@ fn ending_of(ran: Result<(), BoardStop>) -> Ended
     }
 }
 
-/// Runs the tasks of the plan of this name by turns on the image of this name, which is opened over the library below, if there is one.
+/// Runs the tasks of the plan of this name by turns on the image of this name, which is opened over the library below.
 /// The output of the task with the number N goes to the file `N.out`, and a line for each task to `out` at the end.
 pub fn board<F: Folder, S: Sink>(
     alloc: Global,
-    below: Option<Library>,
+    below: &Library,
     image: &str,
     plan: &str,
     folder: &mut F,
     out: &mut S,
 ) -> Ended
-    requires below { ForSome below IsOpened }
-    ensures went { Boards (library_below below) image.now plan.now (F.files folder.old) (F.files folder.new) (S.told out.old) (S.told out.new)
+    requires { IsOpened below.now }
+    ensures went { Boards below.now image.now plan.now (F.files folder.old) (F.files folder.new) (S.told out.old) (S.told out.new)
         result.place result.ending }
     ensures flushed { result.ending ≡ Done → S.held out.new ≡ [] }
     ensures files { KeepsOthers MAX_TASKS (F.files folder.old) (F.files folder.new) }
     ensures folder_counts { Counts (F.count folder.old) (F.count folder.new) (is_folder_fault result.ending) }
     ensures out_counts { Counts (S.count out.old) (S.count out.new) (is_out_fault result.ending) }
 {
-    let library = match image_library(alloc, below, image, folder) {
+    let library = match open_image_file(alloc, below, image, folder) {
         Ok(library) => library,
         Err(ending) => {
             return Ended {
@@ -71,6 +69,7 @@ pub fn board<F: Folder, S: Sink>(
             };
         }
     };
+    modules_law(&library);
     let plan = match planned(alloc, plan, folder) {
         Ok(plan) => plan,
         Err(ending) => {

@@ -1,14 +1,14 @@
 -- Tasks go further, and their files with them.
-use Rattle.std.proofs.Common.{◌≡◌, ◌≢◌, inl, inr, ℕ, zero, suc, ◌+◌, ◌<◌, ◌≤◌, ◌^◌, ◌==◌, Bool, true, false, List, [], ◌∷◌, ◌++◌, length, set, Option, Some, None, IsSome, Result, Ok, Err, OnOk, if◌then◌else◌, refl, sym, ap, subst, ◌∙◌, append-nil, eqb-true, lit<, arith}
+use Rattle.std.proofs.Common.{◌≡◌, ◌≢◌, inl, inr, ℕ, zero, suc, ◌+◌, ◌<◌, ◌≤◌, ◌^◌, ◌==◌, Bool, true, false, List, [], ◌∷◌, ◌++◌, length, set, Option, Some, None, IsSome, Result, Ok, Err, OnOk, if◌then◌else◌, refl, sym, ap, subst, ◌∙◌, append_assoc, append-nil, eqb-true, lit<, arith}
 use Rattle.std.specs.Prelude.{All, slice_get}
 use Rattle.std.proofs.lemmas.Bool.{eqb-false}
 use Rattle.std.proofs.lemmas.List.Elements.{All-nil, All-cons, All-set, All-weaker}
 use Rattle.std.proofs.lemmas.Option.{slice_get_within, get_or_from_slice_get}
 use Rattle.mpy_base.specs.declared.limits.TheConstants.{MAX_TASKS}
 use Rattle.mpy_io.specs.Files.{FileOf, AppendsFile, appended}
-use Rattle.bc_library.specs.Shelf.{Shelf}
-use Rattle.board_tasks.specs.vm_states.Means.{Program}
-use Rattle.board_tasks.specs.vm_programs.Programs.{IsProgramOf}
+use Rattle.vm_starting.specs.bc_library.Shelf.{Shelf}
+use Rattle.vm_starting.specs.vm_states.Means.{Program}
+use Rattle.vm_starting.specs.Programs.{IsProgramOf}
 use Rattle.board_plan.specs.declared.plan.Task.{Task}
 use Rattle.board_plan.specs.declared.plan.Turn.{Turn}
 use Rattle.board_tasks.specs.declared.ending.TurnEnd.{TurnEnd}
@@ -53,13 +53,13 @@ as_many old new number run e = ap (λ (runs : List TaskRun). length runs) e ∙ 
 -- =====
 
 -- the file of a task has more, and those of other tasks are what they were
-record FileGoes (number : ℕ) (printed : List ℕ) (file : FileOf) (behind : Option FileOf) : Type 0 where
-  now : FileOf
-  told : behind ≡ Some now
-  here : (old : List ℕ) → file (out_name number) ≡ Some old → now (out_name number) ≡ Some (old ++ printed)
-  others : (i : ℕ) → i < 2 ^ 64 → number ≢ i → now (out_name i) ≡ file (out_name i)
+pub record FileGoes (number : ℕ) (printed : List ℕ) (file : FileOf) (behind : Option FileOf) : Type 0 where
+  pub now : FileOf
+  pub told : behind ≡ Some now
+  pub here : (old : List ℕ) → file (out_name number) ≡ Some old → now (out_name number) ≡ Some (old ++ printed)
+  pub others : (i : ℕ) → i < 2 ^ 64 → number ≢ i → now (out_name i) ≡ file (out_name i)
 
-file_goes : (number : ℕ) (printed : List ℕ) (before behind : Option FileOf) (file : FileOf) → number < 2 ^ 64 → before ≡ Some file → Adds before behind (out_name number) printed → FileGoes number printed file behind
+pub file_goes : (number : ℕ) (printed : List ℕ) (before behind : Option FileOf) (file : FileOf) → number < 2 ^ 64 → before ≡ Some file → Adds before behind (out_name number) printed → FileGoes number printed file behind
 file_goes number printed before behind file small told (inl a) =
     let b = subst (λ (o : Option FileOf). AppendsFile o behind (out_name number) printed) told a in
     record {
@@ -159,7 +159,7 @@ same_steps p tasks f g runs files same h = record {
   each = λ i task run at there. subst (λ (n : ℕ). HasOutput p task n run (h.file (out_name i))) (same i) (h.each i task run at there);
 }
 
-its_sum : (b : Bool) (m n k : ℕ) → (if b then n else 0) + ((if b then m else 0) + k) ≡ (if b then m + n else 0) + k
+pub its_sum : (b : Bool) (m n k : ℕ) → (if b then n else 0) + ((if b then m else 0) + k) ≡ (if b then m + n else 0) + k
 its_sum true m n k = omega arith
 its_sum false m n k = omega arith
 
@@ -188,14 +188,34 @@ paid_on old new number steps paid was is here others more within =
 -- schedules
 -- =========
 
+swap_sum : (a b c : ℕ) → a + (b + c) ≡ b + (a + c)
+swap_sum a b c = omega arith
+
+-- the steps of a task with one more turn
+pub total_more : (turns : List Turn) (turn : Turn) (i : ℕ) → total (turns ++ turn ∷ []) i ≡ (if turn.task == i then turn.steps else 0) + total turns i
+total_more [] turn i = refl
+total_more (t ∷ turns) turn i =
+    ap (λ (n : ℕ). (if t.task == i then t.steps else 0) + n) (total_more turns turn i)
+    ∙ swap_sum (if t.task == i then t.steps else 0) (if turn.task == i then turn.steps else 0) (total turns i)
+
 -- the turns but these were made
 pub record Reaches (p : Program) (turns rest : List Turn) (old now : List TaskRun) (before behind : Option FileOf) : Type 0 where
   pub steps_of : ℕ → ℕ
   pub goes : (tasks : List Task) → HaveOutputs p tasks (λ (number : ℕ). 0) old before → HaveOutputs p tasks steps_of now behind
   pub left : (i : ℕ) → total turns i ≡ steps_of i + total rest i
+  pub done : List Turn
+  pub split : turns ≡ done ++ rest
+  pub are : (i : ℕ) → steps_of i ≡ total done i
 
 pub reaches_none : (p : Program) (turns : List Turn) (runs : List TaskRun) (files : Option FileOf) → Reaches p turns turns runs runs files files
-reaches_none p turns runs files = record { steps_of = λ number. 0; goes = λ tasks h. h; left = λ i. omega arith }
+reaches_none p turns runs files = record {
+  steps_of = λ number. 0;
+  goes = λ tasks h. h;
+  left = λ i. omega arith;
+  done = [];
+  split = refl;
+  are = λ i. refl;
+}
 
 its_left : (b : Bool) (n done rest : ℕ) → done + ((if b then n else 0) + rest) ≡ ((if b then n else 0) + done) + rest
 its_left true n done rest = omega arith
@@ -206,6 +226,9 @@ reaches_on p turns turn rest a b c x y z r goes = record {
   steps_of = with_steps turn.task turn.steps r.steps_of;
   goes = λ tasks h. goes tasks r.steps_of (r.goes tasks h);
   left = λ i. r.left i ∙ its_left (turn.task == i) turn.steps (r.steps_of i) (total rest i);
+  done = r.done ++ turn ∷ [];
+  split = r.split ∙ sym (append_assoc r.done (turn ∷ []) rest);
+  are = λ i. ap (λ (n : ℕ). (if turn.task == i then turn.steps else 0) + n) (r.are i) ∙ sym (total_more r.done turn i);
 }
 
 pub reaches_all : (p : Program) (turns : List Turn) (a b : List TaskRun) (x y : Option FileOf) → Reaches p turns [] a b x y → GoesBy p turns a b x y

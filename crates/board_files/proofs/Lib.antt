@@ -3,3 +3,4 @@ pub mod Others
 pub mod Holding
 pub mod Told
 pub mod Loops
+pub mod Stopping

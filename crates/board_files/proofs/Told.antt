@@ -8,9 +8,9 @@ use Rattle.std.proofs.lemmas.Option.{slice_get_within}
 use Rattle.mpy_base.specs.declared.room.Room.{Room}
 use Rattle.mpy_io.specs.Files.{FileOf}
 use Rattle.mpy_io.specs.Told.{AppendsFront}
-use Rattle.bc_library.specs.Shelf.{Shelf}
-use Rattle.board_tasks.specs.vm_states.Means.{Program}
-use Rattle.board_tasks.specs.vm_programs.Programs.{IsProgramOf}
+use Rattle.vm_starting.specs.bc_library.Shelf.{Shelf}
+use Rattle.vm_starting.specs.vm_states.Means.{Program}
+use Rattle.vm_starting.specs.Programs.{IsProgramOf}
 use Rattle.board_plan.specs.declared.plan.Plan.{Plan}
 use Rattle.board_plan.specs.declared.plan.Task.{Task}
 use Rattle.board_tasks.specs.declared.ending.TaskEnd.{TaskEnd}
@@ -64,7 +64,7 @@ on_err (Err e) P Q f h = f h
 -- all runs
 -- ========
 
-run_at : (runs : List TaskRun) (i : ℕ) → i < length runs → (run : TaskRun) × (slice_get runs i ≡ Some run)
+pub run_at : (runs : List TaskRun) (i : ℕ) → i < length runs → (run : TaskRun) × (slice_get runs i ≡ Some run)
 run_at [] i h = absurd (omega (arith, h))
 run_at (r ∷ runs) zero h = (r, refl)
 run_at (r ∷ runs) (suc i) h = run_at runs i (omega (arith, h))

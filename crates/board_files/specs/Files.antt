@@ -1,5 +1,5 @@
 -- The files of the tasks' output.
-use Rattle.std.specs.Prelude.{◌≡◌, ◌≢◌, ◌⊎◌, ℕ, ◌<◌, Bool, true, false, List, [], ◌++◌, Option, Some, IfSome, Result, Ok, Err, codes, decimal}
+use Rattle.std.specs.Prelude.{◌≡◌, ◌≢◌, ◌⊎◌, ℕ, ◌<◌, Bool, true, false, List, [], ◌++◌, Option, Some, None, IfSome, Result, Ok, Err, codes, decimal}
 use Rattle.mpy_io.specs.Files.{FileOf, AppendsFile}
 use Rattle.board_files.specs.declared.stop.BoardStop.{BoardStop}
 use Rattle.board_files.specs.declared.stop.BoardStop.TheVariants as stops
@@ -27,6 +27,11 @@ AreEmpty count old new = IfSome old (λ file. (now : FileOf) × (new ≡ Some no
 -- these bytes were added to the file, or there were none
 abbrev pub Adds : (old new : Option FileOf) → (name bytes : List ℕ) → Type 0
 Adds old new name bytes = AppendsFile old new name bytes ⊎ ((bytes ≡ []) × (new ≡ old))
+
+-- the number of the task whose file wasn't written, or None where memory ran out
+abbrev pub cut_of : OutputStop → Option ℕ
+cut_of (outputs.Unwritten task) = Some task
+cut_of outputs.NoMemory = None
 
 -- did the folder fail, so that a task's file wasn't written?
 abbrev pub is_unwritten : Result (Unit {0}) OutputStop → Bool

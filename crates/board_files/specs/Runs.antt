@@ -1,13 +1,14 @@
 -- Tasks whose output goes to files.
 use Rattle.std.specs.Prelude.{◌≡◌, ℕ, ◌+◌, ◌≤◌, ◌==◌, List, length, All, Option, Some, slice_get, if◌then◌else◌}
 use Rattle.mpy_io.specs.Files.{FileOf}
-use Rattle.board_tasks.specs.vm_states.Means.{Program}
+use Rattle.vm_starting.specs.vm_states.Means.{Program}
 use Rattle.board_plan.specs.declared.plan.Task.{Task}
 use Rattle.board_plan.specs.declared.plan.Turn.{Turn}
 use Rattle.board_tasks.specs.declared.turning.TaskRun.{TaskRun}
 use Rattle.board_tasks.specs.Schedules.{total}
 use Rattle.board_tasks.specs.Turns.{Stands}
 use Rattle.board_files.specs.Files.{out_name}
+use Rattle.board_files.specs.Stopped.{AreMade, HavePrinted}
 
 -- the task's machine stands where its run alone comes to behind these steps, and the file has what that run has printed
 pub record HasOutput (p : Program) (task : Task) (steps : ℕ) (run : TaskRun) (content : Option (List ℕ)) : Type 0 where
@@ -35,6 +36,21 @@ Goes p number steps old new before behind =
 abbrev pub GoesBy : Program → List Turn → (old new : List TaskRun) → (before behind : Option FileOf) → Type 0
 GoesBy p turns old new before behind =
     (tasks : List Task) → HaveOutputs p tasks (λ number. 0) old before → HaveOutputs p tasks (total turns) new behind
+
+-- the files are told, and have what the tasks' runs printed in these steps, up to where it stopped
+abbrev pub HaveStopped : Program → List Task → (steps_of : ℕ → ℕ) → (cut : Option ℕ) → Option FileOf → Type 0
+HaveStopped p tasks steps_of cut files = (file : FileOf) × (files ≡ Some file) × HavePrinted p tasks steps_of cut file
+
+-- it stopped within these steps of the task of this number
+abbrev pub StopsIn : Program → (number steps : ℕ) → (cut : Option ℕ) → (old : List TaskRun) → (before behind : Option FileOf) → Type 0
+StopsIn p number steps cut old before behind =
+    (tasks : List Task) (steps_of : ℕ → ℕ) → HaveOutputs p tasks steps_of old before
+    → (made : ℕ) × (made ≤ steps) × HaveStopped p tasks (with_steps number made steps_of) cut behind
+
+-- it stopped within these turns, which begin at the start of each task
+abbrev pub StopsBy : Program → List Turn → (cut : Option ℕ) → (old : List TaskRun) → (before behind : Option FileOf) → Type 0
+StopsBy p turns cut old before behind =
+    (tasks : List Task) → HaveOutputs p tasks (λ number. 0) old before → (made : List Turn) × AreMade turns made × HaveStopped p tasks (total made) cut behind
 
 -- no machine has paid more steps on its running instruction
 abbrev pub PaidWithin : List TaskRun → (most : ℕ) → Type 0

@@ -1,10 +1,11 @@
 //! The files of the tasks' output.
 
-ghost use Rattle.std.specs.Prelude.{◌≡◌, ◌<◌, [], IfOk, OnOk, string_bytes};
+ghost use Rattle.std.specs.Prelude.{◌≡◌, ◌<◌, [], Err, IfErr, IfOk, OnOk, string_bytes};
 ghost use Rattle.mpy_io.specs.Count.{Counts};
-ghost use Rattle.mpy_io.specs.Files.{Becomes};
+ghost use Rattle.mpy_io.specs.Files.{AppendsFileFront, Becomes, BecomesFront};
 ghost use Rattle.board_files.specs.Files as spec;
-ghost use Rattle.board_files.specs.Files.{Adds, AreEmpty, KeepsOthers, StopsWithin, is_unwritten};
+ghost use Rattle.board_files.specs.Files.{Adds, AreEmpty, KeepsOthers, StopsWithin, cut_of, is_unwritten};
+ghost use Rattle.board_files.specs.Stopped.{HasBegunIn, IsAt};
 
 use crate::stop::OutputStop;
 use itoa::Buffer;
@@ -31,6 +32,7 @@ fn begin_file<F: Folder>(
 ) -> Result<(), OutputStop>
     requires { task < count }
     ensures begun { OnOk result (Becomes (F.files folder.old) (F.files folder.new) (spec.out_name task) []) }
+    ensures cut { IfErr result (λ stop. IsAt (cut_of stop) task × BecomesFront (F.files folder.old) (F.files folder.new) (spec.out_name task) []) }
     ensures others { KeepsOthers count (F.files folder.old) (F.files folder.new) }
     ensures within { StopsWithin count result }
     ensures counts { Counts (F.count folder.old) (F.count folder.new) (is_unwritten result) }
@@ -49,6 +51,7 @@ pub(crate) fn begin_files<F: Folder>(
     folder: &mut F,
 ) -> Result<(), OutputStop>
     ensures begun { OnOk result (AreEmpty count (F.files folder.old) (F.files folder.new)) }
+    ensures stopped { IfErr result (λ stop. HasBegunIn count (cut_of stop) (F.files folder.old) (F.files folder.new)) }
     ensures others { KeepsOthers count (F.files folder.old) (F.files folder.new) }
     ensures within { StopsWithin count result }
     ensures counts { Counts (F.count folder.old) (F.count folder.new) (is_unwritten result) }
@@ -69,6 +72,8 @@ pub(crate) fn append_output<F: Folder>(
 ) -> Result<(), OutputStop>
     requires { task < count }
     ensures appended { OnOk result (Adds (F.files folder.old) (F.files folder.new) (spec.out_name task) bytes.now) }
+    ensures cut { IfErr result (λ stop. IsAt (cut_of stop) task × AppendsFileFront (F.files folder.old) (F.files folder.new) (spec.out_name task) bytes.now) }
+    ensures starved { result ≡ Err OutputStop.NoMemory → F.files folder.new ≡ F.files folder.old }
     ensures others { KeepsOthers count (F.files folder.old) (F.files folder.new) }
     ensures within { StopsWithin count result }
     ensures counts { Counts (F.count folder.old) (F.count folder.new) (is_unwritten result) }

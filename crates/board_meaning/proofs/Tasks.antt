@@ -4,16 +4,16 @@ use Rattle.std.specs.Prelude.{slice_get}
 use Rattle.std.proofs.lemmas.Option.{slice_get_within}
 use Rattle.mpy_base.specs.World.{PortState}
 use Rattle.mpy_io.specs.Files.{FileOf}
-use Rattle.bc_library.specs.Shelf.{Shelf}
+use Rattle.vm_starting.specs.bc_library.Shelf.{Shelf}
 use Rattle.py_meaning.specs.Program.{Program}
 use Rattle.bc_machine.specs.Machine.{run}
-use Rattle.program_runs.specs.vm_states.Means as machine
-use Rattle.program_runs.specs.vm_programs.Programs.{IsProgramOf}
-use Rattle.program_runs.specs.Runs.{MeansRun}
-use Rattle.program_runs.specs.Units.{AreUnits}
+use Rattle.vm_starting.specs.vm_states.Means as machine
+use Rattle.vm_starting.specs.Programs.{IsProgramOf}
+use Rattle.meant_runs.specs.Runs.{MeansRun}
+use Rattle.meant_runs.specs.Units.{AreUnits}
 use Rattle.board_plan.specs.declared.plan.Plan.{Plan}
 use Rattle.board_plan.specs.declared.plan.Task.{Task}
-use Rattle.board_files.specs.board_tasks.Schedules.{total}
+use Rattle.board_tasks.specs.Schedules.{total}
 use Rattle.board_files.specs.Summaries.{HasRun, run_in}
 use Rattle.board_meaning.specs.Meant.{RanAsMeant}
 

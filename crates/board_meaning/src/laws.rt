@@ -2,17 +2,17 @@
 
 ghost use Rattle.std.specs.Prelude.{◌≡◌, ℕ, List, Option, Some, slice_get};
 ghost use Rattle.mpy_io.specs.Files.{FileOf};
-ghost use Rattle.bc_library.specs.Shelf.{Shelf};
+ghost use Rattle.vm_starting.specs.bc_library.Shelf.{Shelf};
 ghost use Rattle.py_meaning.specs.Program.{Program};
-ghost use Rattle.program_runs.specs.vm_states.Means as machine;
-ghost use Rattle.program_runs.specs.vm_programs.Programs.{IsProgramOf};
-ghost use Rattle.program_runs.specs.Units.{AreUnits};
+ghost use Rattle.vm_starting.specs.vm_states.Means as machine;
+ghost use Rattle.vm_starting.specs.Programs.{IsProgramOf};
+ghost use Rattle.meant_runs.specs.Units.{AreUnits};
 ghost use Rattle.board_plan.specs.declared.plan.Plan.{Plan};
 ghost use Rattle.board_plan.specs.declared.plan.Task.{Task};
 ghost use Rattle.board_files.specs.Summaries.{HasRun};
 ghost use Rattle.board_meaning.specs.Meant.{RanAsMeant};
 
-use program_runs::runs_law;
+use meant_runs::runs_law;
 
 /// Where the library has the units of a program whose main module is a task's, that task prints and ends as the program means, without
 /// ports, in the task's room and with the total of its own steps: whatever the other tasks do.

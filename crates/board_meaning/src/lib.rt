@@ -3,6 +3,4 @@
 
 mod laws;
 
-pub use board_files::{BoardStop, run_board};
 pub use laws::tasks_law;
-pub use program_runs::program_law;

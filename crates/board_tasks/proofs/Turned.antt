@@ -10,19 +10,18 @@ use Rattle.mpy_io.specs.Told.{AppendsFront}
 use Rattle.port_set.specs.Calls.{Tell}
 use Rattle.port_set.specs.Counts.{CountsKeep, RoseBeyond}
 use Rattle.port_set.proofs.Counting.{beyond_within}
-use Rattle.py_effects.specs.Growth.{Starts}
+use Rattle.vm_frames.specs.py_effects.Growth.{Starts}
 use Rattle.bc_library.specs.Shelf.{Shelf}
-use Rattle.bc_machine.specs.Library.{Library}
-use Rattle.bc_machine.specs.State.{State}
-use Rattle.bc_machine.specs.Step.{step}
-use Rattle.bc_machine.specs.Machine.{run_of, steps}
-use Rattle.bc_machine.specs.Machine.{steps as runs_in}
-use Rattle.bc_outputs.specs.Behind.{state_behind}
+use Rattle.vm_frames.specs.bc_machine.Library.{Library}
+use Rattle.vm_frames.specs.bc_machine.State.{State}
+use Rattle.vm_frames.specs.bc_machine.Step.{step}
+use Rattle.vm_frames.specs.bc_machine.Machine.{run_of, steps, steps as runs_in}
+use Rattle.vm_frames.specs.bc_machine.Behind.{state_behind}
 use Rattle.vm_frames.specs.Calls.{Call}
-use Rattle.vm_machine.specs.vm_step.Shown.{running_of}
-use Rattle.vm_machine.specs.vm_states.Means.{Program}
-use Rattle.vm_machine.specs.vm_programs.Programs.{IsProgramOf}
-use Rattle.vm_machine.specs.vm_starting.declared.opening.Vm.{Vm}
+use Rattle.state_calls.specs.frame_moves.Shown.{running_of}
+use Rattle.vm_starting.specs.vm_states.Means.{Program}
+use Rattle.vm_starting.specs.Programs.{IsProgramOf}
+use Rattle.vm_starting.specs.declared.opening.Vm.{Vm}
 use Rattle.vm_machine.specs.Machine.{world_in, machine_of}
 use Rattle.vm_machine.specs.Running.{Outside, Agree, RunsFor, Strays, SinkFails, Runs, RunsToFailure}
 use Rattle.board_tasks.specs.Alone.{alone}

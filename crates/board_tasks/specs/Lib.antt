@@ -1,5 +1,3 @@
-pub use Rattle.vm_machine.specs.vm_states
-pub use Rattle.vm_machine.specs.vm_programs
 pub mod Ends
 pub mod Alone
 pub mod Opened

@@ -5,7 +5,8 @@ ghost use Rattle.mpy_base.specs.declared.limits.TheConstants.{MAX_TASKS};
 ghost use Rattle.mpy_base.specs.declared.refused.Refused.TheVariants as refused;
 ghost use Rattle.mpy_io.specs.Count.{Counts};
 ghost use Rattle.bc_library.specs.Shelf.{Shelf};
-ghost use Rattle.vm_machine.specs.vm_programs.Programs.{IsRunnable};
+ghost use Rattle.vm_starting.specs.Kept.{AreFetched};
+ghost use Rattle.vm_starting.specs.Programs.{IsRunnable};
 ghost use Rattle.board_tasks.specs.declared.turning.TaskRun.{TaskRun};
 ghost use Rattle.board_tasks.specs.Opened.{AreOpened, first_missing};
 ghost use Rattle.board_tasks.specs.Ends.{HasEnd, IsRoomOf, is_write_fault};
@@ -15,13 +16,14 @@ use crate::ending::{TaskEnd, TurnEnd};
 use crate::opening::{BoardFault, first_missing, open_tasks};
 use crate::turning::TaskRun;
 use bc_library::Library;
-use bc_rows::Rows;
 use board_plan::Task;
 use mpy_base::limits::MAX_TASKS;
 use mpy_base::{Refused, Room, Text};
 use mpy_io::Sink;
+use state_steps::bc_rows::Rows;
 use std::alloc::Global;
 use std::marker::Model;
+use vm_starting::Cache;
 
 /// The runs of tasks on one library, each with an arena, frames and modules of its own and without ports. All its memory is taken
 /// where it is opened.
@@ -76,10 +78,12 @@ impl Board {
     }
 
     /// A turn of these steps for a task, which puts what they print. A turn of a task that has ended does nothing. It takes no memory.
+    /// One cache of the library serves all tasks: what a task fetched isn't fetched again by another.
     pub fn turn<S: Sink>(
         &mut self,
         library: &Library,
         rows: &Rows<'_>,
+        cache: &mut Cache,
         task: u32,
         steps: u64,
         out: &mut S,
@@ -88,13 +92,15 @@ impl Board {
         requires rows { rows.now ≡ library.now }
         requires there { task < length self.old }
         requires countable { IsCountable self.old task steps }
+        requires kept { AreFetched library.now cache.old }
         ensures runs { AreRuns library.now self.new }
         ensures turns { TurnsOne library.now task steps self.old self.new (S.told out.old) (S.told out.new) result }
         ensures over { result ≡ TurnEnd.Over → (self.new ≡ self.old) × (out.new ≡ out.old) }
         ensures counts { Counts (S.count out.old) (S.count out.new) (is_write_fault result) }
+        ensures kept { AreFetched library.now cache.new }
     {
         let alloc = self.alloc;
-        self.runs[task as usize].turn(alloc, library, rows, steps, out)
+        self.runs[task as usize].turn(alloc, library, rows, cache, steps, out)
     }
 
     /// How a task ended, None where it goes on.

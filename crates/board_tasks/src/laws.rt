@@ -3,10 +3,10 @@
 ghost use Rattle.std.specs.Prelude.{◌≡◌, ◌+◌, ℕ, List, [], Option, Some, IsSome, slice_get};
 ghost use Rattle.mpy_base.specs.declared.room.Room.{Room};
 ghost use Rattle.bc_library.specs.Shelf.{Shelf};
-ghost use Rattle.bc_machine.specs.Library.{Library};
-ghost use Rattle.bc_machine.specs.Machine.{steps};
-ghost use Rattle.vm_machine.specs.vm_states.Means.{Program};
-ghost use Rattle.vm_machine.specs.vm_programs.Programs.{IsProgramOf};
+ghost use Rattle.vm_frames.specs.bc_machine.Library.{Library};
+ghost use Rattle.vm_frames.specs.bc_machine.Machine.{steps};
+ghost use Rattle.vm_starting.specs.vm_states.Means.{Program};
+ghost use Rattle.vm_starting.specs.Programs.{IsProgramOf};
 ghost use Rattle.board_plan.specs.declared.plan.Task.{Task};
 ghost use Rattle.board_plan.specs.declared.plan.Turn.{Turn};
 ghost use Rattle.board_tasks.specs.declared.ending.TaskEnd.{TaskEnd};
@@ -18,7 +18,7 @@ ghost use Rattle.board_tasks.specs.Opened.{IsOpened};
 ghost use Rattle.board_tasks.specs.Schedules.{board_run, total};
 ghost use Rattle.board_tasks.specs.Turns.{IsMade, Stands, StandsOn, TurnsSo};
 
-use bc_machine::{ended_law, runs_law};
+use vm_frames::bc_machine::{ended_law, runs_law};
 
 /// Behind every schedule the machine of each task stands where its own run comes to, alone, for the total of its own steps.
 pub fn board_law()

@@ -3,20 +3,22 @@
 ghost use Rattle.std.specs.Prelude.{◌≡◌, ◌+◌, ◌<◌, ◌≤◌, ◌^◌, MatchBool};
 ghost use Rattle.mpy_io.specs.Count.{Counts};
 ghost use Rattle.bc_library.specs.Shelf.{Shelf};
+ghost use Rattle.vm_starting.specs.Kept.{AreFetched};
 ghost use Rattle.vm_machine.specs.Machine.{IsVm};
 ghost use Rattle.board_tasks.specs.Ends.{GoesOn, HasEnd, IsOver, is_write_fault};
 ghost use Rattle.board_tasks.specs.Turns.{TurnsSo};
 
 use crate::ending::{TaskEnd, TurnEnd};
-use arena_objects::exc_parts;
+use arena_heap::exc_parts;
 use bc_library::Library;
-use bc_machine::{prefix_law, runs_law};
-use bc_outputs::output_law;
-use bc_rows::Rows;
 use mpy_io::{Failed, ScriptPort, Sink};
 use port_set::PortSet;
+use state_steps::bc_rows::Rows;
+use state_steps::frame_exits::End;
 use std::alloc::Global;
-use vm_machine::{End, Vm, run};
+use vm_frames::bc_machine::{output_law, prefix_law, runs_law};
+use vm_machine::run;
+use vm_starting::{Cache, Vm};
 
 /// The run of a task.
 #[derive(Drop)]
@@ -59,17 +61,20 @@ impl TaskRun {
         alloc: Global,
         library: &Library,
         rows: &Rows<'_>,
+        cache: &mut Cache,
         steps: u64,
         out: &mut S,
     ) -> TurnEnd
         requires vm { IsVm library.now self.old.vm }
         requires rows { rows.now ≡ library.now }
         requires countable { self.old.vm.paid + steps < 2 ^ 64 }
+        requires kept { AreFetched library.now cache.old }
         ensures vm { IsVm library.now self.new.vm }
         ensures turns { TurnsSo library.now steps self.old self.new (S.told out.old) (S.told out.new) result }
         ensures over { result ≡ TurnEnd.Over → out.new ≡ out.old }
         ensures counts { Counts (S.count out.old) (S.count out.new) (is_write_fault result) }
         ensures paid { self.new.vm.paid ≤ self.old.vm.paid + steps }
+        ensures kept { AreFetched library.now cache.new }
     {
         if self.is_over() {
             return TurnEnd::Over;
@@ -78,7 +83,7 @@ impl TaskRun {
         prefix_law();
         runs_law();
         let mut ports: PortSet<ScriptPort> = PortSet::new(Vec::new(alloc));
-        match run(&mut self.vm, library, rows, out, &mut ports, steps) {
+        match run(&mut self.vm, library, rows, cache, out, &mut ports, steps) {
             Ok(()) => TurnEnd::Went,
             Err(Failed) => {
                 self.failed = true;

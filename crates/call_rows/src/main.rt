@@ -3,13 +3,10 @@
 #![tactic(auto)]
 
 mod codes;
-mod exprs;
 mod numbers;
 mod spelling;
-mod stmts;
 mod streams;
 mod tokens;
-mod trees;
 
 use crate::spelling::{from_hex, from_text};
 use std::alloc::{AllocError, Global};

@@ -1,7 +1,6 @@
 //! Tokens of sources, what these begin with, and the locals of functions.
 
 use crate::spelling::to_text;
-use crate::trees::trees;
 use mpy_base::{Refused, SourceFault, Text};
 use py_parser::parse;
 use py_scopes::{NameSlots, scopes};
@@ -164,7 +163,6 @@ pub(crate) fn of_text(
         "int" => number(alloc, text)?,
         "tokens" => all_tokens(alloc, text)?,
         "locals" => locals(alloc, text)?,
-        "trees" => trees(alloc, text)?,
         _ => return Ok(None),
     };
     Ok(Some(answer))

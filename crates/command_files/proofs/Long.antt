@@ -7,10 +7,10 @@ use Rattle.source_files.specs.Sources.{stored}
 use Rattle.mpy_base.specs.declared.limits.TheConstants.{MAX_READ_BYTES, MAX_FILE_BYTES, MAX_SOURCE_BYTES}
 use Rattle.mpy_io.specs.declared.fault.ReadFault.{ReadFault as FolderFault}
 use Rattle.mpy_io.specs.declared.fault.ReadFault.TheVariants.{TooLong}
-use Rattle.mpy_reader.specs.declared.fault.FileFault.TheVariants.{TooBig}
-use Rattle.mpy_reader.specs.Reading.{FirstFault, file, stops}
+use Rattle.image_open.specs.mpy_reader.declared.fault.FileFault.TheVariants.{TooBig}
+use Rattle.image_open.specs.mpy_reader.Reading.{FirstFault, file, stops}
 use Rattle.mpy_endings.specs.declared.ending.Ending.{Ending}
-use Rattle.mpy_endings.specs.declared.ending.Ending.TheVariants.{Done, Unaccepted, Unread, Unverified, Unmerged, Unopened, Unfrozen, Unboarded, Stopped, ReadFault, WriteFault, Unwritten, NoMemory, Absent}
+use Rattle.mpy_endings.specs.declared.ending.Ending.TheVariants.{Done, Unaccepted, Unread, Unverified, Unmerged, Unopened, Unfrozen, Unboarded, Different, Stopped, ReadFault, WriteFault, Unwritten, NoMemory, Absent}
 use Rattle.command_files.specs.Folder.{MayHold, IsNotRead}
 use Rattle.command_files.specs.Opened.{Refuses}
 use Rattle.mpy_base.specs.Fault.{too_long}
@@ -40,6 +40,7 @@ not_read files name (Unmerged fault) h = absurd h
 not_read files name (Unopened fault) h = absurd h
 not_read files name (Unfrozen fault) h = absurd h
 not_read files name (Unboarded fault) h = absurd h
+not_read files name (Different difference) h = absurd h
 not_read files name (Stopped stop) h = absurd h
 not_read files name ReadFault h = tt
 not_read files name WriteFault h = absurd h
@@ -49,7 +50,7 @@ not_read files name Absent h = h
 
 -- ---- a source that is too long to be read
 
-long_faulty : (level : ℕ) (files : Option FileOf) (name stored : List ℕ) → IfSome files (λ file. (bytes : List ℕ) × (file name ≡ Some bytes) × (MAX_READ_BYTES < length bytes)) → HoldsFaulty level files name stored too_long
+pub long_faulty : (level : ℕ) (files : Option FileOf) (name stored : List ℕ) → IfSome files (λ file. (bytes : List ℕ) × (file name ≡ Some bytes) × (MAX_READ_BYTES < length bytes)) → HoldsFaulty level files name stored too_long
 long_faulty level None name stored h =
     let long = some_long MAX_SOURCE_BYTES in
     record { source = long.0; holds = tt; is = inl (inl (inl (long.1, refl))) }

@@ -2,9 +2,9 @@
 use Rattle.std.proofs.Common.{◌≡◌, false, List, ℕ, Option, Some, Result, Ok, Err, refl}
 use Rattle.std.specs.Prelude.{IfOk, IfErr}
 use Rattle.mpy_io.specs.Files.{FileOf}
-use Rattle.mpy_tree.specs.Raw.{Module}
+use Rattle.image_open.specs.mpy_tree.Raw.{Module}
 use Rattle.mpy_endings.specs.declared.ending.Ending.{Ending}
-use Rattle.mpy_endings.specs.declared.ending.Ending.TheVariants.{Done, Unaccepted, Unread, Unverified, Unmerged, Unopened, Unfrozen, Unboarded, Stopped, ReadFault, WriteFault, Unwritten, NoMemory, Absent}
+use Rattle.mpy_endings.specs.declared.ending.Ending.TheVariants.{Done, Unaccepted, Unread, Unverified, Unmerged, Unopened, Unfrozen, Unboarded, Different, Stopped, ReadFault, WriteFault, Unwritten, NoMemory, Absent}
 use Rattle.command_files.specs.Folder.{MayHold}
 use Rattle.mpy_endings.specs.Ending.{is_folder_fault}
 use Rattle.command_files.specs.Opened.{Opens, HoldsModule, Refuses, failed_in}
@@ -23,6 +23,7 @@ refused_by files name bytes (Unmerged fault) holds h = absurd h
 refused_by files name bytes (Unopened fault) holds h = absurd h
 refused_by files name bytes (Unfrozen fault) holds h = absurd h
 refused_by files name bytes (Unboarded fault) holds h = absurd h
+refused_by files name bytes (Different difference) holds h = absurd h
 refused_by files name bytes (Stopped stop) holds h = absurd h
 refused_by files name bytes ReadFault holds h = absurd h
 refused_by files name bytes WriteFault holds h = absurd h
@@ -43,6 +44,7 @@ still bytes (Unmerged fault) h = refl
 still bytes (Unopened fault) h = refl
 still bytes (Unfrozen fault) h = absurd h
 still bytes (Unboarded fault) h = absurd h
+still bytes (Different difference) h = absurd h
 still bytes (Stopped stop) h = absurd h
 still bytes ReadFault h = absurd h
 still bytes WriteFault h = refl

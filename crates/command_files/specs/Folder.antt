@@ -2,9 +2,9 @@
 use Rattle.std.specs.Prelude.{◌≡◌, ℕ, List, Option, IfSome, ◌≢◌, Some, None, ◌<◌, length}
 use Rattle.mpy_io.specs.Files.{FileOf}
 use Rattle.mpy_endings.specs.declared.ending.Ending.{Ending}
-use Rattle.mpy_endings.specs.declared.ending.Ending.TheVariants.{Done, Unaccepted, Unread, Unverified, Unmerged, Unopened, Unfrozen, Unboarded, Stopped, ReadFault, WriteFault, Unwritten, NoMemory, Absent}
+use Rattle.mpy_endings.specs.declared.ending.Ending.TheVariants.{Done, Unaccepted, Unread, Unverified, Unmerged, Unopened, Unfrozen, Unboarded, Different, Stopped, ReadFault, WriteFault, Unwritten, NoMemory, Absent}
 use Rattle.mpy_base.specs.declared.limits.TheConstants.{MAX_READ_BYTES}
-use Rattle.mpy_reader.specs.declared.fault.FileFault.TheVariants.{TooBig}
+use Rattle.image_open.specs.mpy_reader.declared.fault.FileFault.TheVariants.{TooBig}
 
 -- a folder that tells its files has this under the name
 abbrev pub MayHold : Option FileOf → List ℕ → Option (List ℕ) → Type 0
@@ -27,6 +27,7 @@ IsNotRead files name (Unmerged fault) = ⊥
 IsNotRead files name (Unopened fault) = ⊥
 IsNotRead files name (Unfrozen fault) = ⊥
 IsNotRead files name (Unboarded fault) = ⊥
+IsNotRead files name (Different difference) = ⊥
 IsNotRead files name (Stopped stop) = ⊥
 IsNotRead files name WriteFault = ⊥
 IsNotRead files name Unwritten = ⊥

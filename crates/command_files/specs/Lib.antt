@@ -1,9 +1,6 @@
-pub use Rattle.mpy_endings.specs as mpy_endings
-pub use Rattle.mpy_endings.specs.image_runs
-pub use Rattle.mpy_endings.specs.mpy_merge
-pub use Rattle.source_files.specs as source_files
-pub use Rattle.source_files.specs.mpy_compile
 pub mod Folder
 pub mod Opened
+pub mod Images
 pub mod Source
 pub mod Outside
+pub mod Over

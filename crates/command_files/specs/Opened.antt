@@ -1,13 +1,13 @@
 -- Files of verified modules, and why a file is none.
 use Rattle.std.specs.Prelude.{ℕ, ◌-◌, List, Option, Some, None, Result, Ok, Err, Bool, false}
 use Rattle.mpy_io.specs.Files.{FileOf}
-use Rattle.mpy_tree.specs.Raw.{Module}
-use Rattle.mpy_tree.specs.File.{IsFile}
-use Rattle.mpy_reader.specs.Reading.{FirstFault}
-use Rattle.bc_verify.specs.declared.fault.VerifyFault.{VerifyFault}
-use Rattle.bc_verify.specs.Verified.{IsVerified, IsFirstFault}
+use Rattle.image_open.specs.mpy_tree.Raw.{Module}
+use Rattle.image_open.specs.mpy_tree.File.{IsFile}
+use Rattle.image_open.specs.mpy_reader.Reading.{FirstFault}
+use Rattle.image_open.specs.bc_verify.declared.fault.VerifyFault.{VerifyFault}
+use Rattle.image_open.specs.bc_verify.Verified.{IsVerified, IsFirstFault}
 use Rattle.mpy_endings.specs.declared.ending.Ending.{Ending}
-use Rattle.mpy_endings.specs.declared.ending.Ending.TheVariants.{Done, Unaccepted, Unread, Unverified, Unmerged, Unopened, Unfrozen, Unboarded, Stopped, ReadFault, WriteFault, Unwritten, NoMemory, Absent}
+use Rattle.mpy_endings.specs.declared.ending.Ending.TheVariants.{Done, Unaccepted, Unread, Unverified, Unmerged, Unopened, Unfrozen, Unboarded, Different, Stopped, ReadFault, WriteFault, Unwritten, NoMemory, Absent}
 use Rattle.command_files.specs.Folder.{MayHold}
 use Rattle.mpy_endings.specs.Ending.{is_folder_fault}
 
@@ -31,6 +31,7 @@ Opens bytes (Err (Unmerged fault)) = ⊥
 Opens bytes (Err (Unopened fault)) = ⊥
 Opens bytes (Err (Unfrozen fault)) = ⊥
 Opens bytes (Err (Unboarded fault)) = ⊥
+Opens bytes (Err (Different difference)) = ⊥
 Opens bytes (Err (Stopped stop)) = ⊥
 Opens bytes (Err ReadFault) = ⊥
 Opens bytes (Err WriteFault) = ⊥
@@ -55,6 +56,7 @@ Refuses files name (Unmerged fault) = ⊥
 Refuses files name (Unopened fault) = ⊥
 Refuses files name (Unfrozen fault) = ⊥
 Refuses files name (Unboarded fault) = ⊥
+Refuses files name (Different difference) = ⊥
 Refuses files name (Stopped stop) = ⊥
 Refuses files name ReadFault = Unit {0}
 Refuses files name WriteFault = ⊥

@@ -1,4 +1,9 @@
-pub mod Lists
-pub mod Steps
+pub mod Counting
 pub mod Emits
 pub mod Items
+pub mod Lengths
+pub mod Lists
+pub mod Making
+pub mod Nesting
+pub mod Rolling
+pub mod Steps

@@ -1,14 +1,14 @@
 //! The instructions of names.
 
 ghost use Rattle.std.specs.Prelude.{◌≡◌, IfOk, nat_lt, if◌then◌else◌};
-ghost use Rattle.bc_ops.specs.declared.instr.Instr.TheVariants as instrs;
-ghost use Rattle.bc_translation.specs.Context.{loads, stores, deletes};
+ghost use Rattle.bc_scheme.specs.bc_ops.declared.instr.Instr.TheVariants as instrs;
+ghost use Rattle.bc_scheme.specs.Context.{loads, stores, deletes};
 ghost use Rattle.emit_draft.specs.declared.draft.DraftItem.TheVariants as drafts;
 ghost use Rattle.emit_draft.specs.Emits.{IsItem};
 
 use crate::draft::DraftItem;
 use crate::scope::Scope;
-use bc_ops::{Instr, Op};
+use bc_scheme::bc_ops::{Instr, Op};
 use mpy_base::{NoMemory, Text};
 use std::alloc::Global;
 

@@ -4,4 +4,5 @@
 mod expr;
 mod puts;
 
+pub use emit_draft;
 pub use expr::emit_expr;

@@ -2,13 +2,13 @@
 
 ghost use Rattle.std.specs.Prelude.{◌≡◌, OnOk};
 ghost use Rattle.mpy_base.specs.Val.{Str};
-ghost use Rattle.bc_translation.specs.Context.{loads, constant};
+ghost use Rattle.bc_scheme.specs.Context.{loads, constant};
 ghost use Rattle.emit_draft.specs.Draft.{Puts};
 ghost use Rattle.emit_draft.specs.declared.draft.DraftItem.TheVariants as drafts;
 ghost use Rattle.emit_draft.specs.declared.scope.Scope.{Scope as Names};
 ghost use Rattle.emit_expr.specs.Emits.{PutsAs, EmitsC};
 
-use bc_ops::{Instr, Op};
+use bc_scheme::bc_ops::{Instr, Op};
 use emit_draft::{Draft, DraftItem, Scope, comparing_number, is_negated, load_name};
 use mpy_base::{NoMemory, Text};
 use py_tree::CompareOp;

@@ -4,21 +4,21 @@ use Rattle.std.specs.Prelude.{Result, Ok, Err, IfOk, IfErr, OnOk, IfNone, IfSome
 use Rattle.mpy_base.specs.declared.source.SourceFault.{SourceFault}
 use Rattle.mpy_base.specs.declared.refused.Refused.{Refused}
 use Rattle.mpy_base.specs.declared.refused.Refused.TheVariants.{Fault, NoMemory}
-use Rattle.mpy_tree.specs.declared.module.Code.{out-Code}
+use Rattle.mpy_writer.specs.mpy_tree.declared.module.Code.{out-Code}
 use Rattle.py_tree.specs.declared.stmt.Param.{Param}
 use Rattle.py_tree.specs.declared.stmt.Stmt as stmts
 use Rattle.py_meaning.specs.Tree.{Name, count, Function, Block, End}
 use Rattle.py_meaning.specs.Plain.{Part, defaults_of, numbered}
 use Rattle.py_meaning.specs.Program.{Source, Text, or_none}
-use Rattle.emit_draft.specs.declared.draft.Draft.{Draft}
-use Rattle.emit_draft.specs.declared.scope.Scope.{Scope}
-use Rattle.emit_counts.specs.Lengths.{text_length}
-use Rattle.emit_lengths.specs.Faults.{HasTextLength}
-use Rattle.emit_limits.specs.declared.faults.Measures.{Measures}
-use Rattle.emit_limits.specs.Limits.{saturated}
-use Rattle.emit_limits.specs.Faults.{fault_of, IsMeasured}
-use Rattle.bc_translation.specs.Heights.{tall_block, held_in}
-use Rattle.emit_code.specs.Finished.{Names, IsFinished}
+use Rattle.emit_stmt.specs.emit_draft.declared.draft.Draft.{Draft}
+use Rattle.emit_stmt.specs.emit_draft.declared.scope.Scope.{Scope}
+use Rattle.emit_measures.specs.Lengths.{text_length}
+use Rattle.emit_measures.specs.TextLengths.{HasTextLength}
+use Rattle.emit_measures.specs.declared.faults.Measures.{Measures}
+use Rattle.emit_measures.specs.Limits.{saturated}
+use Rattle.emit_measures.specs.Faults.{fault_of, IsMeasured}
+use Rattle.emit_measures.specs.bc_scheme.Heights.{tall_block, held_in}
+use Rattle.emit_stmt.specs.emit_draft.Finished.{Names, IsFinished}
 use Rattle.emit_stmt.specs.Parts.{plain_block}
 use Rattle.emit_stmt.specs.Text.{EmitsText}
 use Rattle.emit_module.specs.declared.own.Place.{Place}

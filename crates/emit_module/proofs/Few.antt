@@ -4,17 +4,17 @@ use Rattle.std.specs.Prelude.{min, nat_lt, if◌then◌else◌}
 use Rattle.std.proofs.lemmas.Bool.{ltb-false}
 use Rattle.mpy_base.specs.declared.source.SourceCode.{SourceCode}
 use Rattle.mpy_base.specs.declared.source.SourceCode.TheVariants.{TooLong, StateTooBig}
-use Rattle.bc_ops.specs.declared.instr.Op.{Op}
-use Rattle.bc_ops.specs.declared.instr.Op.TheVariants as ops
-use Rattle.bc_ops.specs.declared.instr.Instr.{Instr}
-use Rattle.bc_ops.specs.declared.instr.Instr.TheVariants as instrs
+use Rattle.bc_machine.specs.bc_ops.declared.instr.Op.{Op}
+use Rattle.bc_machine.specs.bc_ops.declared.instr.Op.TheVariants as ops
+use Rattle.bc_machine.specs.bc_ops.declared.instr.Instr.{Instr}
+use Rattle.bc_machine.specs.bc_ops.declared.instr.Instr.TheVariants as instrs
 use Rattle.bc_machine.specs.Library.{Item, Plain, Names, Loads, Jumps, Unwinds}
-use Rattle.emit_counts.specs.Wide.{wide_number, wide_int, wide_instr, wide_item, wide_length}
-use Rattle.emit_draft.specs.declared.draft.DraftLine.{DraftLine}
-use Rattle.emit_draft.specs.Draft.{Labels}
-use Rattle.emit_draft.specs.Emits.{item_at, line_at}
-use Rattle.emit_limits.specs.declared.faults.Measures.{Measures}
-use Rattle.emit_limits.specs.Faults.{is_big_state, fault_of}
+use Rattle.emit_measures.specs.Wide.{wide_number, wide_int, wide_instr, wide_item, wide_length}
+use Rattle.emit_stmt.specs.emit_draft.declared.draft.DraftLine.{DraftLine}
+use Rattle.emit_stmt.specs.emit_draft.Draft.{Labels}
+use Rattle.emit_stmt.specs.emit_draft.Emits.{item_at, line_at}
+use Rattle.emit_measures.specs.declared.faults.Measures.{Measures}
+use Rattle.emit_measures.specs.Faults.{is_big_state, fault_of}
 use Rattle.emit_module.specs.Own.{HasLength}
 use Rattle.emit_module.proofs.Limiting.{not_crowded}
 

@@ -5,12 +5,12 @@ use Rattle.std.proofs.lemmas.List.{drop_all}
 use Rattle.mpy_base.specs.declared.source.SourceFault.{SourceFault}
 use Rattle.mpy_base.specs.declared.refused.Refused.{Refused}
 use Rattle.mpy_base.specs.declared.refused.Refused.TheVariants.{Fault, NoMemory}
-use Rattle.mpy_tree.specs.declared.module.Code.{Code}
+use Rattle.mpy_writer.specs.mpy_tree.declared.module.Code.{Code}
 use Rattle.py_tree.specs.declared.stmt.Branch.{Branch}
 use Rattle.py_meaning.specs.Tree.{Name, Else, End}
 use Rattle.py_meaning.specs.Plain.{part}
 use Rattle.py_meaning.specs.Program.{Source}
-use Rattle.emit_expr.proofs.Rows.{drop_item}
+use Rattle.emit_stmt.proofs.emit_expr_lemmas.Rows.{drop_item}
 use Rattle.emit_module.specs.declared.walk.Children.{Children}
 use Rattle.emit_module.specs.Walk as w
 use Rattle.emit_module.specs.Walk.{Forest, bare, grow, beside, size, Grows, no_code, with_code, AreFine, Breaks, here, inside, behind, IsWalked, Walks, WalksAll, WalksFront}

@@ -3,16 +3,16 @@ use Rattle.std.proofs.Common.{◌≡◌, ℕ, ◌+◌, List, [], ◌∷◌, leng
 use Rattle.std.specs.Prelude.{max}
 use Rattle.py_meaning.specs.Tree.{Block}
 use Rattle.py_meaning.specs.Program.{Text}
-use Rattle.mpy_tree.specs.Resolved.{Resolved, plain, named, object, jump, unwind, ResolvedLine, instrs_of}
+use Rattle.mpy_writer.specs.mpy_tree.Resolved.{Resolved, plain, named, object, jump, unwind, ResolvedLine, instrs_of}
 use Rattle.bc_machine.specs.Library.{Code, code_of, item_of, line_of, local_of, locals_of}
-use Rattle.bc_translation.specs.Context.{Context}
-use Rattle.emit_counts.specs.Named.{local_in, locals_in, HasOwnLocals, TakesUndotted}
-use Rattle.emit_counts.specs.Stands.{IsCodeOf}
-use Rattle.emit_draft.specs.declared.draft.Draft.{Draft}
-use Rattle.emit_draft.specs.declared.scope.Scope.{Scope}
-use Rattle.emit_code.specs.declared.codes.CodeHead.{CodeHead}
-use Rattle.emit_code.specs.declared.codes.CodeLines.{CodeLines}
-use Rattle.emit_code.specs.Finished.{body_of}
+use Rattle.emit_measures.specs.bc_scheme.Context.{Context}
+use Rattle.emit_measures.specs.Named.{local_in, locals_in, HasOwnLocals, TakesUndotted}
+use Rattle.emit_measures.specs.Stands.{IsCodeOf}
+use Rattle.emit_stmt.specs.emit_draft.declared.draft.Draft.{Draft}
+use Rattle.emit_stmt.specs.emit_draft.declared.scope.Scope.{Scope}
+use Rattle.emit_stmt.specs.emit_draft.declared.codes.CodeHead.{CodeHead}
+use Rattle.emit_stmt.specs.emit_draft.declared.codes.CodeLines.{CodeLines}
+use Rattle.emit_stmt.specs.emit_draft.Finished.{body_of}
 use Rattle.emit_stmt.specs.Parts.{plain_block}
 use Rattle.emit_stmt.specs.Children.{made, AreChildren}
 use Rattle.emit_stmt.specs.Text.{StandsText}

@@ -7,17 +7,17 @@ use Rattle.mpy_base.specs.declared.refused.Refused.TheVariants.{Fault, NoMemory}
 use Rattle.py_meaning.specs.Tree.{Block}
 use Rattle.py_meaning.specs.Plain.{Part}
 use Rattle.py_meaning.specs.Program.{Source, Text}
-use Rattle.bc_translation.specs.Translation.{own}
-use Rattle.emit_counts.specs.Lengths.{text_length}
-use Rattle.emit_counts.specs.Wide.{wide_length}
-use Rattle.emit_draft.specs.declared.draft.Draft.{Draft}
-use Rattle.emit_draft.specs.declared.scope.Scope.{Scope}
-use Rattle.emit_draft.specs.Draft.{Labels}
-use Rattle.emit_draft.specs.Emits.{line_at}
-use Rattle.emit_limits.specs.declared.faults.Measures.{Measures}
-use Rattle.emit_limits.specs.Limits.{saturated}
-use Rattle.emit_limits.specs.Faults.{fault_of}
-use Rattle.emit_code.specs.Children.{starts, sizes, AllCount}
+use Rattle.emit_measures.specs.bc_scheme.Translation.{own}
+use Rattle.emit_measures.specs.Lengths.{text_length}
+use Rattle.emit_measures.specs.Wide.{wide_length}
+use Rattle.emit_stmt.specs.emit_draft.declared.draft.Draft.{Draft}
+use Rattle.emit_stmt.specs.emit_draft.declared.scope.Scope.{Scope}
+use Rattle.emit_stmt.specs.emit_draft.Draft.{Labels}
+use Rattle.emit_stmt.specs.emit_draft.Emits.{line_at}
+use Rattle.emit_measures.specs.declared.faults.Measures.{Measures}
+use Rattle.emit_measures.specs.Limits.{saturated}
+use Rattle.emit_measures.specs.Faults.{fault_of}
+use Rattle.emit_stmt.specs.emit_draft.Children.{starts, sizes, AllCount}
 use Rattle.emit_stmt.specs.Text.{EmitsText}
 use Rattle.emit_module.specs.Counted.{HasLength, on_draft, on_tree, AreCounted, IsFine, IsBroken}
 use Rattle.emit_module.specs.First.{Site, AreCounts, IsWithin, HasFault, AllWithin, no_text, one_within, FirstFault, later, AreWithin, IsFirstFault}

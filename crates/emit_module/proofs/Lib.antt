@@ -1,3 +1,4 @@
+pub use Rattle.tr_source.proofs as tr_source_lemmas
 pub mod Coding
 pub mod Few
 pub mod Fewer

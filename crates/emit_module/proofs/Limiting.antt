@@ -5,9 +5,9 @@ use Rattle.std.proofs.lemmas.Bool.{ltb-false}
 use Rattle.mpy_base.specs.declared.source.SourceCode.{SourceCode}
 use Rattle.mpy_base.specs.declared.source.SourceCode.TheVariants.{TooLong, StateTooBig}
 use Rattle.py_meaning.specs.Program.{Text}
-use Rattle.bc_translation.specs.Heights.{tall_block, held_in}
-use Rattle.emit_limits.specs.declared.faults.Measures.{Measures}
-use Rattle.emit_limits.specs.Faults.{is_big_state, fault_of, IsMeasured}
+use Rattle.emit_measures.specs.bc_scheme.Heights.{tall_block, held_in}
+use Rattle.emit_measures.specs.declared.faults.Measures.{Measures}
+use Rattle.emit_measures.specs.Faults.{is_big_state, fault_of, IsMeasured}
 
 left_false : (a b : Bool) → (a || b) ≡ false → a ≡ false
 left_false true b e = e

@@ -5,19 +5,19 @@ use Rattle.py_meaning.specs.Tree.{Block, Function, functions}
 use Rattle.py_meaning.specs.Plain.{Part}
 use Rattle.py_meaning.specs.Program.{Text}
 use Rattle.bc_machine.specs.Library.{Code}
-use Rattle.bc_translation.specs.Context.{Context, IsChild}
-use Rattle.bc_translation.specs.Translation.{own}
-use Rattle.emit_counts.specs.Lengths.{text_length}
-use Rattle.emit_counts.specs.Stands.{IsCodeOf}
-use Rattle.emit_counts.specs.Wide.{wide_item, wide_length}
-use Rattle.emit_draft.specs.declared.draft.Draft.{Draft}
-use Rattle.emit_draft.specs.declared.draft.DraftItem.{DraftItem}
-use Rattle.emit_draft.specs.declared.draft.DraftItem.TheVariants as drafts
-use Rattle.emit_draft.specs.declared.draft.DraftLine.{DraftLine}
-use Rattle.emit_draft.specs.declared.scope.Scope.{Scope}
-use Rattle.emit_draft.specs.Draft.{Labels}
-use Rattle.emit_draft.specs.Emits.{item_at, line_at}
-use Rattle.emit_code.specs.Children.{starts, sizes}
+use Rattle.emit_measures.specs.bc_scheme.Context.{Context, IsChild}
+use Rattle.emit_measures.specs.bc_scheme.Translation.{own}
+use Rattle.emit_measures.specs.Lengths.{text_length}
+use Rattle.emit_measures.specs.Stands.{IsCodeOf}
+use Rattle.emit_measures.specs.Wide.{wide_item, wide_length}
+use Rattle.emit_stmt.specs.emit_draft.declared.draft.Draft.{Draft}
+use Rattle.emit_stmt.specs.emit_draft.declared.draft.DraftItem.{DraftItem}
+use Rattle.emit_stmt.specs.emit_draft.declared.draft.DraftItem.TheVariants as drafts
+use Rattle.emit_stmt.specs.emit_draft.declared.draft.DraftLine.{DraftLine}
+use Rattle.emit_stmt.specs.emit_draft.declared.scope.Scope.{Scope}
+use Rattle.emit_stmt.specs.emit_draft.Draft.{Labels}
+use Rattle.emit_stmt.specs.emit_draft.Emits.{item_at, line_at}
+use Rattle.emit_stmt.specs.emit_draft.Children.{starts, sizes}
 use Rattle.emit_stmt.specs.Children.{Made, made, AreChildren}
 use Rattle.emit_stmt.specs.Text.{EmitsText, StandsText}
 use Rattle.emit_module.specs.Found.{IsDefined}

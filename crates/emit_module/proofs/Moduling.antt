@@ -4,10 +4,10 @@ use Rattle.std.specs.Prelude.{slice_get, Ok, Err}
 use Rattle.mpy_base.specs.declared.source.SourceFault.{SourceFault}
 use Rattle.mpy_base.specs.declared.refused.Refused.{Refused}
 use Rattle.mpy_base.specs.declared.refused.Refused.TheVariants.{Fault, NoMemory}
-use Rattle.mpy_tree.specs.declared.module.Code as codes
-use Rattle.mpy_tree.specs.declared.module.Code.{out-Code}
-use Rattle.mpy_tree.specs.declared.module.ModuleCode.{ModuleCode}
-use Rattle.mpy_tree.specs.Resolved.{ResolvedLine, Body, Tree, Trees, node, no_more, more, ResolvedModule, IsBodyOf, IsTreeOf, AreTreesOf}
+use Rattle.mpy_writer.specs.mpy_tree.declared.module.Code as codes
+use Rattle.mpy_writer.specs.mpy_tree.declared.module.Code.{out-Code}
+use Rattle.mpy_writer.specs.mpy_tree.declared.module.ModuleCode.{ModuleCode}
+use Rattle.mpy_writer.specs.mpy_tree.Resolved.{ResolvedLine, Body, Tree, Trees, node, no_more, more, ResolvedModule, IsBodyOf, IsTreeOf, AreTreesOf}
 use Rattle.py_tree.specs.declared.stmt.Module.{Module}
 use Rattle.py_tree.specs.declared.stmt.Stmt as stmts
 use Rattle.py_meaning.specs.Tree.{Name, Block, Function, functions}
@@ -15,10 +15,10 @@ use Rattle.py_scopes.specs.Scopes.{slots_of}
 use Rattle.py_meaning.specs.Plain.{Part, plain_tree}
 use Rattle.py_meaning.specs.Program.{Source, Text, module_text, function_texts, source_texts}
 use Rattle.bc_machine.specs.Library.{Code, code_of, numbers_from, codes_of}
-use Rattle.bc_translation.specs.Translation.{own, StandAll, HaveStates, bodies_of}
-use Rattle.emit_draft.specs.declared.scope.Scope.{Scope}
-use Rattle.emit_code.specs.Finished.{Names, body_of}
-use Rattle.emit_code.specs.Children.{starts, sizes, AllCount}
+use Rattle.emit_measures.specs.bc_scheme.Translation.{own, StandAll, HaveStates, bodies_of}
+use Rattle.emit_stmt.specs.emit_draft.declared.scope.Scope.{Scope}
+use Rattle.emit_stmt.specs.emit_draft.Finished.{Names, body_of}
+use Rattle.emit_stmt.specs.emit_draft.Children.{starts, sizes, AllCount}
 use Rattle.emit_stmt.specs.Parts.{plain_block}
 use Rattle.emit_module.specs.declared.own.Place.{Place}
 use Rattle.emit_module.specs.declared.own.OwnCode.{OwnCode}

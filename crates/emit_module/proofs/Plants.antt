@@ -3,7 +3,7 @@ use Rattle.std.proofs.Common.{◌≡◌, ℕ, zero, suc, ◌+◌, List, [], ◌�
 use Rattle.std.specs.Prelude.{slice_get}
 use Rattle.py_meaning.specs.Tree.{Name, count, Stmt, If, While, For, Try, Finally, TryFinally, Def, Block, End, Next, Branches, Else, Case, Handlers, NoHandler, Any, On, OnAs, Function, functions, functions_in, functions_of, functions_by}
 use Rattle.py_meaning.specs.Program.{Source, Text, or_none, function_text, function_texts}
-use Rattle.emit_code.specs.Children.{sizes, sizes_in, sizes_of, sizes_by}
+use Rattle.emit_stmt.specs.emit_draft.Children.{sizes, sizes_in, sizes_of, sizes_by}
 use Rattle.emit_module.specs.First.{Site, sites, sites_in, sites_of, sites_by}
 use Rattle.emit_module.specs.Walk.{Forest, bare, grow, beside, size, planted, planted_in, planted_of, planted_by, text_at}
 

@@ -5,12 +5,12 @@ use Rattle.std.proofs.lemmas.Bool.Decides.{nat_tests}
 use Rattle.std.proofs.lemmas.List.Elements.{All-nil, All-cons}
 use Rattle.mpy_base.specs.declared.source.SourceCode.{SourceCode}
 use Rattle.mpy_base.specs.declared.source.SourceCode.TheVariants.{TooLong, StateTooBig}
-use Rattle.mpy_tree.specs.declared.module.Code.{Code, out-Code}
-use Rattle.mpy_tree.specs.declared.module.ModuleCode.{ModuleCode}
+use Rattle.mpy_writer.specs.mpy_tree.declared.module.Code.{Code, out-Code}
+use Rattle.mpy_writer.specs.mpy_tree.declared.module.ModuleCode.{ModuleCode}
 use Rattle.mpy_writer.specs.Writable.{IsShallow}
 use Rattle.py_meaning.specs.Program.{Source, Text}
-use Rattle.emit_limits.specs.declared.faults.Measures.{Measures}
-use Rattle.emit_limits.specs.Faults.{is_big_state, fault_of}
+use Rattle.emit_measures.specs.declared.faults.Measures.{Measures}
+use Rattle.emit_measures.specs.Faults.{is_big_state, fault_of}
 use Rattle.emit_module.specs.First.{Site}
 use Rattle.emit_module.specs.Counted.{IsFine}
 use Rattle.emit_module.specs.declared.own.OwnCode.{OwnCode}

@@ -4,15 +4,15 @@ use Rattle.std.specs.Prelude.{slice_get}
 use Rattle.py_meaning.specs.Tree.{Block}
 use Rattle.py_meaning.specs.Program.{Text}
 use Rattle.bc_machine.specs.Library.{Code, code_of}
-use Rattle.bc_translation.specs.Context.{Context, IsChild}
-use Rattle.bc_translation.specs.Translation.{own, StandsCode}
-use Rattle.emit_draft.specs.declared.draft.Draft.{Draft}
-use Rattle.emit_draft.specs.declared.scope.Scope.{Scope}
-use Rattle.emit_draft.specs.Emits.{line_at}
-use Rattle.emit_code.specs.declared.codes.CodeHead.{CodeHead}
-use Rattle.emit_code.specs.declared.codes.CodeLines.{CodeLines}
-use Rattle.emit_code.specs.Finished.{body_of}
-use Rattle.emit_code.specs.Finished as codes
+use Rattle.emit_measures.specs.bc_scheme.Context.{Context, IsChild}
+use Rattle.emit_measures.specs.bc_scheme.Translation.{own, StandsCode}
+use Rattle.emit_stmt.specs.emit_draft.declared.draft.Draft.{Draft}
+use Rattle.emit_stmt.specs.emit_draft.declared.scope.Scope.{Scope}
+use Rattle.emit_stmt.specs.emit_draft.Emits.{line_at}
+use Rattle.emit_stmt.specs.emit_draft.declared.codes.CodeHead.{CodeHead}
+use Rattle.emit_stmt.specs.emit_draft.declared.codes.CodeLines.{CodeLines}
+use Rattle.emit_stmt.specs.emit_draft.Finished.{body_of}
+use Rattle.emit_stmt.specs.emit_draft.Finished as codes
 use Rattle.emit_stmt.specs.Parts.{plain_block}
 use Rattle.emit_stmt.specs.Children.{Made, number_of, made, AreChildren}
 use Rattle.emit_stmt.specs.Text.{StandsText}

@@ -1,25 +1,25 @@
 -- The trees of codes, and that they stand for their texts.
 use Rattle.std.proofs.Common.{◌≡◌, ℕ, zero, suc, ◌+◌, Bool, false, List, [], ◌∷◌, ◌++◌, length, map, Some, refl, sym, ap, ◌∙◌, subst, arith}
 use Rattle.std.specs.Prelude.{slice_get}
-use Rattle.mpy_tree.specs.declared.module.Code as codes
-use Rattle.mpy_tree.specs.declared.module.Code.{out-Code}
-use Rattle.mpy_tree.specs.Resolved.{Trees, node, no_more, more, IsTreeOf, AreTreesOf}
+use Rattle.mpy_writer.specs.mpy_tree.declared.module.Code as codes
+use Rattle.mpy_writer.specs.mpy_tree.declared.module.Code.{out-Code}
+use Rattle.mpy_writer.specs.mpy_tree.Resolved.{Trees, node, no_more, more, IsTreeOf, AreTreesOf}
 use Rattle.py_meaning.specs.Tree.{Block, Function, functions}
 use Rattle.py_meaning.specs.Program.{Source, Text}
 use Rattle.bc_machine.specs.Library.{Code, code_of, size_of, sizes_of, numbers_from, codes_of}
-use Rattle.bc_translation.specs.Translation.{own, StandsCode, StandAll, bodies_of, HaveStates}
-use Rattle.emit_counts.specs.Named.{HasOwnLocals, AllHaveOwnLocals, TakesUndotted}
-use Rattle.emit_draft.specs.declared.draft.Draft.{Draft}
-use Rattle.emit_draft.specs.declared.scope.Scope.{Scope}
-use Rattle.emit_code.specs.declared.codes.CodeHead.{CodeHead}
-use Rattle.emit_code.specs.declared.codes.CodeLines.{CodeLines}
-use Rattle.emit_code.specs.Finished.{IsFinished, IsCodeOf, body_of}
-use Rattle.emit_code.specs.Children.{starts, sizes, AllCount, tree_sizes}
+use Rattle.emit_measures.specs.bc_scheme.Translation.{own, StandsCode, StandAll, bodies_of, HaveStates}
+use Rattle.emit_measures.specs.Named.{HasOwnLocals, AllHaveOwnLocals, TakesUndotted}
+use Rattle.emit_stmt.specs.emit_draft.declared.draft.Draft.{Draft}
+use Rattle.emit_stmt.specs.emit_draft.declared.scope.Scope.{Scope}
+use Rattle.emit_stmt.specs.emit_draft.declared.codes.CodeHead.{CodeHead}
+use Rattle.emit_stmt.specs.emit_draft.declared.codes.CodeLines.{CodeLines}
+use Rattle.emit_stmt.specs.emit_draft.Finished.{IsFinished, IsCodeOf, body_of}
+use Rattle.emit_stmt.specs.emit_draft.Children.{starts, sizes, AllCount, tree_sizes}
 use Rattle.emit_stmt.specs.Children.{Made, made}
 use Rattle.emit_module.specs.Found.{IsDefined}
 use Rattle.emit_module.specs.Own.{IsWritten, IsJoined}
 use Rattle.emit_module.specs.Joined.{HasChildren}
-use Rattle.emit_names.specs.Texts.{AllTakeUndotted}
+use Rattle.tr_source.specs.Texts.{AllTakeUndotted}
 use Rattle.emit_module.specs.Walk.{Forest, size, text_at, Grows, no_code, with_code}
 use Rattle.emit_module.proofs.Plants.{flat, tops, texts_at, length_flat, lists}
 

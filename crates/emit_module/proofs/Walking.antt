@@ -16,13 +16,13 @@ use Rattle.py_tree.specs.declared.stmt.StmtKind.TheOpen.{StmtKind-F}
 use Rattle.py_tree.specs.declared.stmt.Target as aims
 use Rattle.py_meaning.specs.Tree.{Name, Expr, Target, ToName, ToAttr, ToIndex, ToEach, Targets, Stmt, Assign, Delete, Pass, ReturnNone, Return, Reraise, Raise, Assert, AssertWith, Finally, TryFinally, Block, Branches, Else, Handlers}
 use Rattle.py_meaning.specs.Plain.{Part, Clause, part, also, chain, plain_expr, plain_target, targets, from_targets, augmented, on_option, numbered, handler_of}
-use Rattle.emit_stmt.specs.emit_simple.Plain.{plain_kind, is_simple_layer, is_simple}
-use Rattle.emit_stmt.proofs.emit_simple_lemmas.Plains.{Layer, layer_part, layer_is}
+use Rattle.emit_stmt.specs.Plain.{plain_kind, is_simple_layer, is_simple}
+use Rattle.emit_stmt.proofs.Plains.{Layer, layer_part, layer_is}
 use Rattle.emit_stmt.specs.Parts.{plain_block, plain_branch, plain_handlers, if_part, while_part, for_part, try_part}
 use Rattle.emit_stmt.proofs.Layers.{stmt_is, branch_is, handler_is, if_is, while_is, for_is, try_is, finally_is, def_is, bare_is, handled_is}
 use Rattle.emit_module.specs.declared.walk.Children.{Children}
 use Rattle.emit_module.specs.Walk.{Forest, bare, beside, planted, planted_in, planted_of, planted_by, WalksAll, WalksFront, front_defs}
-use Rattle.emit_expr.proofs.Rows.{drop_item}
+use Rattle.emit_stmt.proofs.emit_expr_lemmas.Rows.{drop_item}
 use Rattle.emit_module.proofs.Forests.{beside_bare, beside_assoc, walked_none, walks_then, walks_left, walks_as, all_as, Splits, Begins, begins_by, IsFirst, IsBegun, SoFar, front_taken}
 
 -- ---- the first of a row

@@ -4,15 +4,15 @@ use Rattle.mpy_base.specs.declared.source.SourceFault.{SourceFault}
 use Rattle.py_meaning.specs.Tree.{Block}
 use Rattle.py_meaning.specs.Plain.{Part}
 use Rattle.py_meaning.specs.Program.{Text}
-use Rattle.emit_counts.specs.Lengths.{text_length}
-use Rattle.emit_draft.specs.declared.draft.Draft.{Draft}
-use Rattle.emit_draft.specs.declared.scope.Scope.{Scope}
-use Rattle.emit_draft.specs.Draft.{Labels}
-use Rattle.emit_draft.specs.Emits.{line_at}
-use Rattle.emit_limits.specs.declared.faults.Measures.{Measures}
-use Rattle.emit_limits.specs.Limits.{saturated}
-use Rattle.emit_limits.specs.Faults.{fault_of, IsMeasured}
-use Rattle.emit_code.specs.Wide.{wide_length}
+use Rattle.emit_measures.specs.Lengths.{text_length}
+use Rattle.emit_stmt.specs.emit_draft.declared.draft.Draft.{Draft}
+use Rattle.emit_stmt.specs.emit_draft.declared.scope.Scope.{Scope}
+use Rattle.emit_stmt.specs.emit_draft.Draft.{Labels}
+use Rattle.emit_stmt.specs.emit_draft.Emits.{line_at}
+use Rattle.emit_measures.specs.declared.faults.Measures.{Measures}
+use Rattle.emit_measures.specs.Limits.{saturated}
+use Rattle.emit_measures.specs.Faults.{fault_of, IsMeasured}
+use Rattle.emit_stmt.specs.emit_draft.Wide.{wide_length}
 use Rattle.emit_stmt.specs.Crowded.{crowded_block}
 use Rattle.emit_stmt.specs.Text.{EmitsText}
 use Rattle.emit_module.specs.First.{Site}

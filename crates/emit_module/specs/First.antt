@@ -3,10 +3,10 @@ use Rattle.std.specs.Prelude.{◌≡◌, ℕ, suc, List, [], ◌∷◌, ◌++◌
 use Rattle.mpy_base.specs.declared.source.SourceFault.{SourceFault}
 use Rattle.py_meaning.specs.Tree.{Stmt, If, While, For, Try, Finally, TryFinally, Def, Block, End, Next, Branches, Else, Case, Handlers, NoHandler, Any, On, OnAs}
 use Rattle.py_meaning.specs.Program.{Source, Text, source_texts}
-use Rattle.emit_counts.specs.Lengths.{text_length}
-use Rattle.emit_limits.specs.declared.faults.Measures.{Measures}
-use Rattle.emit_limits.specs.Limits.{saturated}
-use Rattle.emit_limits.specs.Faults.{fault_of, IsMeasured}
+use Rattle.emit_measures.specs.Lengths.{text_length}
+use Rattle.emit_measures.specs.declared.faults.Measures.{Measures}
+use Rattle.emit_measures.specs.Limits.{saturated}
+use Rattle.emit_measures.specs.Faults.{fault_of, IsMeasured}
 use Rattle.emit_stmt.specs.Crowded.{crowded_block}
 
 -- where a text stands: the line of its `def`, and how many functions stand around it, itself among them

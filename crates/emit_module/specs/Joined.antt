@@ -2,7 +2,7 @@
 use Rattle.std.specs.Prelude.{◌≡◌, ℕ, ◌+◌, List, map, Some, slice_get}
 use Rattle.py_meaning.specs.Program.{Text}
 use Rattle.bc_machine.specs.Library.{Code}
-use Rattle.bc_translation.specs.Translation.{own}
+use Rattle.emit_measures.specs.bc_scheme.Translation.{own}
 use Rattle.emit_stmt.specs.Children.{Made, made}
 use Rattle.emit_module.specs.Own.{IsFound}
 

@@ -1,5 +1,10 @@
+pub use Rattle.emit_measures.specs as emit_measures
+pub use Rattle.emit_measures.specs.bc_scheme
 pub use Rattle.emit_stmt.specs as emit_stmt
-pub use Rattle.emit_stmt.specs.emit_simple
+pub use Rattle.emit_stmt.specs.emit_draft
+pub use Rattle.emit_stmt.specs.emit_expr
+pub use Rattle.py_source.specs as py_source
+pub use Rattle.tr_source.specs as tr_source
 pub mod Counted
 pub mod First
 pub mod Found

@@ -1,13 +1,13 @@
 -- The module of a source.
 use Rattle.std.specs.Prelude.{◌≡◌, ℕ}
-use Rattle.mpy_tree.specs.declared.module.ModuleCode.{ModuleCode}
-use Rattle.mpy_tree.specs.Resolved.{ResolvedModule, IsTreeOf}
+use Rattle.mpy_writer.specs.mpy_tree.declared.module.ModuleCode.{ModuleCode}
+use Rattle.mpy_writer.specs.mpy_tree.Resolved.{ResolvedModule, IsTreeOf}
 use Rattle.py_tree.specs.declared.stmt.Module.{Module}
 use Rattle.py_scopes.specs.Scopes.{slots_of}
 use Rattle.py_meaning.specs.Tree.{Name}
 use Rattle.py_meaning.specs.Plain.{plain_tree}
 use Rattle.py_meaning.specs.Program.{Source}
-use Rattle.bc_translation.specs.Translation.{Translates}
+use Rattle.emit_measures.specs.bc_scheme.Translation.{Translates}
 
 -- the source of a parser's tree, by its stored name
 abbrev pub source_of : (file : Name) (level : ℕ) → Module → Source

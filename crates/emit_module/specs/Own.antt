@@ -6,21 +6,21 @@ use Rattle.mpy_base.specs.declared.refused.Refused.TheVariants.{Fault, NoMemory}
 use Rattle.py_tree.specs.declared.stmt.Stmt.{Stmt}
 use Rattle.py_meaning.specs.Program.{Text}
 use Rattle.bc_machine.specs.Library.{Code}
-use Rattle.bc_translation.specs.Heights.{tall_block, held_in}
-use Rattle.bc_translation.specs.Translation.{own}
-use Rattle.emit_counts.specs.Lengths.{text_length}
-use Rattle.emit_draft.specs.declared.draft.Draft.{Draft}
-use Rattle.emit_draft.specs.declared.draft.DraftLine.{DraftLine}
-use Rattle.emit_draft.specs.declared.scope.Scope.{Scope}
-use Rattle.emit_draft.specs.Draft.{Labels}
-use Rattle.emit_draft.specs.Emits.{line_at}
-use Rattle.emit_limits.specs.declared.faults.Measures.{Measures}
-use Rattle.emit_limits.specs.Limits.{saturated}
-use Rattle.emit_limits.specs.Faults.{fault_of, IsMeasured}
-use Rattle.emit_code.specs.declared.codes.CodeHead.{CodeHead}
-use Rattle.emit_code.specs.declared.codes.CodeLines.{CodeLines}
-use Rattle.emit_code.specs.Finished.{IsFinished}
-use Rattle.emit_code.specs.Wide.{wide_length}
+use Rattle.emit_measures.specs.bc_scheme.Heights.{tall_block, held_in}
+use Rattle.emit_measures.specs.bc_scheme.Translation.{own}
+use Rattle.emit_measures.specs.Lengths.{text_length}
+use Rattle.emit_stmt.specs.emit_draft.declared.draft.Draft.{Draft}
+use Rattle.emit_stmt.specs.emit_draft.declared.draft.DraftLine.{DraftLine}
+use Rattle.emit_stmt.specs.emit_draft.declared.scope.Scope.{Scope}
+use Rattle.emit_stmt.specs.emit_draft.Draft.{Labels}
+use Rattle.emit_stmt.specs.emit_draft.Emits.{line_at}
+use Rattle.emit_measures.specs.declared.faults.Measures.{Measures}
+use Rattle.emit_measures.specs.Limits.{saturated}
+use Rattle.emit_measures.specs.Faults.{fault_of, IsMeasured}
+use Rattle.emit_stmt.specs.emit_draft.declared.codes.CodeHead.{CodeHead}
+use Rattle.emit_stmt.specs.emit_draft.declared.codes.CodeLines.{CodeLines}
+use Rattle.emit_stmt.specs.emit_draft.Finished.{IsFinished}
+use Rattle.emit_stmt.specs.emit_draft.Wide.{wide_length}
 use Rattle.emit_stmt.specs.Parts.{plain_block}
 use Rattle.emit_stmt.specs.Children.{Made, made}
 use Rattle.emit_stmt.specs.Text.{EmitsText}

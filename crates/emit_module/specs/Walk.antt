@@ -3,20 +3,20 @@ use Rattle.std.specs.Prelude.{◌≡◌, ℕ, suc, ◌+◌, max, Bool, false, Li
 use Rattle.mpy_base.specs.declared.source.SourceFault.{SourceFault}
 use Rattle.mpy_base.specs.declared.refused.Refused.{Refused}
 use Rattle.mpy_base.specs.declared.refused.Refused.TheVariants.{Fault, NoMemory}
-use Rattle.mpy_tree.specs.declared.module.Code.{Code, out-Code}
-use Rattle.mpy_tree.specs.declared.module.ModuleCode.{ModuleCode}
+use Rattle.mpy_writer.specs.mpy_tree.declared.module.Code.{Code, out-Code}
+use Rattle.mpy_writer.specs.mpy_tree.declared.module.ModuleCode.{ModuleCode}
 use Rattle.py_tree.specs.declared.stmt.Branch.{Branch}
 use Rattle.py_tree.specs.declared.stmt.Param.{Param}
 use Rattle.py_tree.specs.declared.stmt.Stmt as stmts
 use Rattle.py_meaning.specs.Tree.{Name, count, Function, Stmt, If, While, For, Try, Finally, TryFinally, Def, Block, End, Next, Branches, Else, Case, Handlers, NoHandler, Any, On, OnAs}
 use Rattle.py_meaning.specs.Plain.{Part, chain, defaults_of}
 use Rattle.py_meaning.specs.Program.{Source, Text, or_none, module_name, function_text}
-use Rattle.bc_translation.specs.Heights.{tall_block, held_in}
-use Rattle.emit_draft.specs.declared.draft.Draft.{Draft}
-use Rattle.emit_draft.specs.declared.scope.Scope.{Scope}
-use Rattle.emit_code.specs.declared.codes.CodeHead.{CodeHead}
-use Rattle.emit_code.specs.declared.codes.CodeLines.{CodeLines}
-use Rattle.emit_code.specs.Finished.{IsFinished, IsCodeOf}
+use Rattle.emit_measures.specs.bc_scheme.Heights.{tall_block, held_in}
+use Rattle.emit_stmt.specs.emit_draft.declared.draft.Draft.{Draft}
+use Rattle.emit_stmt.specs.emit_draft.declared.scope.Scope.{Scope}
+use Rattle.emit_stmt.specs.emit_draft.declared.codes.CodeHead.{CodeHead}
+use Rattle.emit_stmt.specs.emit_draft.declared.codes.CodeLines.{CodeLines}
+use Rattle.emit_stmt.specs.emit_draft.Finished.{IsFinished, IsCodeOf}
 use Rattle.emit_stmt.specs.Parts.{plain_block, plain_branch}
 use Rattle.emit_stmt.specs.Text.{EmitsText}
 use Rattle.emit_module.specs.declared.own.Place.{Place}

@@ -3,18 +3,18 @@
 ghost use Rattle.std.specs.Prelude.{ℕ, List};
 ghost use Rattle.py_meaning.specs.Program.{Text};
 ghost use Rattle.bc_machine.specs.Library.{Code, code_of as machine_code};
-ghost use Rattle.emit_counts.specs.Named.{HasOwnLocals, TakesUndotted};
-ghost use Rattle.emit_draft.specs.declared.draft.Draft.{Draft};
-ghost use Rattle.emit_draft.specs.declared.scope.Scope.{Scope};
-ghost use Rattle.emit_code.specs.declared.codes.CodeHead.{CodeHead};
-ghost use Rattle.emit_code.specs.declared.codes.CodeLines.{CodeLines};
-ghost use Rattle.emit_code.specs.Finished.{body_of};
+ghost use Rattle.emit_measures.specs.Named.{HasOwnLocals, TakesUndotted};
+ghost use Rattle.emit_stmt.specs.emit_draft.declared.draft.Draft.{Draft};
+ghost use Rattle.emit_stmt.specs.emit_draft.declared.scope.Scope.{Scope};
+ghost use Rattle.emit_stmt.specs.emit_draft.declared.codes.CodeHead.{CodeHead};
+ghost use Rattle.emit_stmt.specs.emit_draft.declared.codes.CodeLines.{CodeLines};
+ghost use Rattle.emit_stmt.specs.emit_draft.Finished.{body_of};
 ghost use Rattle.emit_module.specs.Own.{IsWritten, IsJoined};
 ghost use Rattle.emit_module.specs.Joined.{HasChildren};
 
-use emit_code::tree_law;
-use emit_counts::locals_law;
+use emit_measures::locals_law;
 use emit_stmt::children_law;
+use emit_stmt::emit_draft::tree_law;
 
 /// The finished code of a text's draft names all locals of the text, where these are its parameters and names that it
 /// binds itself, and its children are the codes of the text's own functions.

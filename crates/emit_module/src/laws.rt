@@ -2,26 +2,26 @@
 
 ghost use Rattle.std.specs.Prelude.{◌≡◌, ℕ, List, Some, slice_get};
 ghost use Rattle.mpy_base.specs.declared.source.SourceFault.{SourceFault};
-ghost use Rattle.mpy_tree.specs.declared.module.ModuleCode.{ModuleCode};
-ghost use Rattle.mpy_tree.specs.Resolved.{ResolvedModule};
+ghost use Rattle.mpy_writer.specs.mpy_tree.declared.module.ModuleCode.{ModuleCode};
+ghost use Rattle.mpy_writer.specs.mpy_tree.Resolved.{ResolvedModule};
 ghost use Rattle.py_meaning.specs.Tree.{Block, functions};
 ghost use Rattle.py_meaning.specs.Program.{Source, Text};
 ghost use Rattle.bc_machine.specs.Library.{Code, code_of as machine_code};
-ghost use Rattle.bc_translation.specs.Translation.{own, StandsCode};
-ghost use Rattle.emit_draft.specs.declared.draft.Draft.{Draft};
-ghost use Rattle.emit_draft.specs.declared.scope.Scope.{Scope};
-ghost use Rattle.emit_code.specs.declared.codes.CodeHead.{CodeHead};
-ghost use Rattle.emit_code.specs.declared.codes.CodeLines.{CodeLines};
-ghost use Rattle.emit_code.specs.Finished.{body_of};
-ghost use Rattle.emit_code.specs.Children.{starts, sizes};
+ghost use Rattle.emit_measures.specs.bc_scheme.Translation.{own, StandsCode};
+ghost use Rattle.emit_stmt.specs.emit_draft.declared.draft.Draft.{Draft};
+ghost use Rattle.emit_stmt.specs.emit_draft.declared.scope.Scope.{Scope};
+ghost use Rattle.emit_stmt.specs.emit_draft.declared.codes.CodeHead.{CodeHead};
+ghost use Rattle.emit_stmt.specs.emit_draft.declared.codes.CodeLines.{CodeLines};
+ghost use Rattle.emit_stmt.specs.emit_draft.Finished.{body_of};
+ghost use Rattle.emit_stmt.specs.emit_draft.Children.{starts, sizes};
 ghost use Rattle.emit_stmt.specs.Children.{Made, made};
 ghost use Rattle.emit_module.specs.First.{AreWithin, IsFirstFault};
 ghost use Rattle.emit_module.specs.Found.{IsDefined, AllBegin};
 ghost use Rattle.emit_module.specs.Module.{IsResolved};
 ghost use Rattle.emit_module.specs.Own.{IsWritten, IsJoined};
 
-use emit_code::tree_law;
 use emit_stmt::children_law;
+use emit_stmt::emit_draft::tree_law;
 
 /// The finished code of a text's draft stands for the text among all codes of its module, where its children are the
 /// codes of the text's own functions.

@@ -3,17 +3,17 @@
 ghost use Rattle.std.specs.Prelude.{◌≡◌, ℕ, false, map};
 ghost use Rattle.py_meaning.specs.Tree.{Block};
 ghost use Rattle.py_meaning.specs.Plain.{Part};
-ghost use Rattle.bc_translation.specs.Translation.{own};
-ghost use Rattle.emit_counts.specs.Lengths.{text_length};
-ghost use Rattle.emit_counts.specs.Wide.{wide_length};
-ghost use Rattle.emit_draft.specs.declared.draft.Draft.{Draft};
-ghost use Rattle.emit_draft.specs.declared.scope.Scope.{Scope};
-ghost use Rattle.emit_draft.specs.Draft.{Labels};
-ghost use Rattle.emit_draft.specs.Emits.{line_at};
-ghost use Rattle.emit_code.specs.Children.{starts, sizes};
+ghost use Rattle.emit_measures.specs.bc_scheme.Translation.{own};
+ghost use Rattle.emit_measures.specs.Lengths.{text_length};
+ghost use Rattle.emit_measures.specs.Wide.{wide_length};
+ghost use Rattle.emit_stmt.specs.emit_draft.declared.draft.Draft.{Draft};
+ghost use Rattle.emit_stmt.specs.emit_draft.declared.scope.Scope.{Scope};
+ghost use Rattle.emit_stmt.specs.emit_draft.Draft.{Labels};
+ghost use Rattle.emit_stmt.specs.emit_draft.Emits.{line_at};
+ghost use Rattle.emit_stmt.specs.emit_draft.Children.{starts, sizes};
 ghost use Rattle.emit_stmt.specs.Text.{EmitsText};
 
-use emit_counts::lengths_law;
+use emit_measures::lengths_law;
 use emit_stmt::children_law;
 
 /// The draft of a text has the wide length that is counted on the text's tree, where it isn't crowded. The numbers of

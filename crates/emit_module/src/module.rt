@@ -17,16 +17,15 @@ use crate::lengths::draft_length_law;
 use crate::own::{OwnCode, Place};
 use crate::text::text_code;
 use crate::walk::{Children, emit_defs};
-use emit_code::{CodeHead, code_of, module_scope, numbers_law, tree_law};
-use emit_counts::own_locals_law;
-use emit_names::texts_law;
+use emit_measures::own_locals_law;
+use emit_stmt::emit_draft::{CodeHead, code_of, module_scope, numbers_law, tree_law};
 use mpy_base::{Items, NoMemory, Refused, SourceFault, Text};
-use mpy_tree::ModuleCode;
-use py_names::undotted_law;
+use mpy_writer::mpy_tree::ModuleCode;
 use py_scopes::NameSlots;
 use py_source::{Accepted, asked_law};
 use py_tree::Stmt;
 use std::alloc::Global;
+use tr_source::{texts_law, undotted_law};
 
 /// The codes of the functions of a source.
 fn functions(

@@ -2,20 +2,18 @@
 
 ghost use Rattle.std.specs.Prelude.{◌≡◌, ◌+◌, ℕ, max, map, true, false, None, IfOk, IfErr};
 ghost use Rattle.py_meaning.specs.Program.{Text as TextOf};
-ghost use Rattle.emit_counts.specs.Lengths.{text_length as length_of_text};
-ghost use Rattle.emit_draft.specs.Draft.{Labels};
-ghost use Rattle.emit_draft.specs.Emits.{line_at};
-ghost use Rattle.emit_limits.specs.Limits.{saturated};
-ghost use Rattle.emit_limits.specs.Faults.{fault_of};
-ghost use Rattle.emit_code.specs.Wide.{wide_length as wide_of};
+ghost use Rattle.emit_measures.specs.Lengths.{text_length as length_of_text};
+ghost use Rattle.emit_stmt.specs.emit_draft.Draft.{Labels};
+ghost use Rattle.emit_stmt.specs.emit_draft.Emits.{line_at};
+ghost use Rattle.emit_measures.specs.Limits.{saturated};
+ghost use Rattle.emit_measures.specs.Faults.{fault_of};
+ghost use Rattle.emit_stmt.specs.emit_draft.Wide.{wide_length as wide_of};
 ghost use Rattle.emit_stmt.specs.Parts.{plain_block};
-ghost use Rattle.emit_code.specs.Finished.{IsFinished};
+ghost use Rattle.emit_stmt.specs.emit_draft.Finished.{IsFinished};
 ghost use Rattle.emit_module.specs.Own.{HasLength, IsTextOf, IsCounted, IsOwn, IsRefused};
 
-use emit_code::{CodeLines, finish, wide_length};
-use emit_draft::{Draft, Scope};
-use emit_lengths::text_length;
-use emit_limits::{Measures, block_entries, block_height, within_law};
+use emit_measures::{Measures, block_entries, block_height, text_length, within_law};
+use emit_stmt::emit_draft::{CodeLines, Draft, Scope, finish, wide_length};
 use mpy_base::{NoMemory, Refused, SourceFault, Text};
 use py_tree::Stmt;
 use std::alloc::Global;

@@ -4,19 +4,19 @@ ghost use Rattle.std.specs.Prelude.{◌≡◌, ◌+◌, ◌^◌, ◌<◌, ◌≤
 ghost use Rattle.py_tree.specs.declared.stmt.Stmt.{out-Stmt};
 ghost use Rattle.py_meaning.specs.Plain.{numbered};
 ghost use Rattle.py_meaning.specs.Program.{Text as TextOf, or_none};
-ghost use Rattle.emit_lengths.specs.Faults.{HasTextLength};
-ghost use Rattle.emit_limits.specs.declared.faults.Measures.{Measures};
-ghost use Rattle.emit_limits.specs.Faults.{fault_of, IsMeasured};
-ghost use Rattle.emit_stmt.specs.emit_simple.Plain.{plain_kind};
+ghost use Rattle.emit_measures.specs.TextLengths.{HasTextLength};
+ghost use Rattle.emit_measures.specs.declared.faults.Measures.{Measures};
+ghost use Rattle.emit_measures.specs.Faults.{fault_of, IsMeasured};
+ghost use Rattle.emit_stmt.specs.Plain.{plain_kind};
 ghost use Rattle.emit_stmt.specs.Parts.{plain_block, plain_handlers};
 ghost use Rattle.emit_module.specs.Walk.{planted, planted_in, planted_by, front_defs, WalksAll, WalksFront, WalksBody, CodesFunction, IsPut};
 
 use crate::own::{OwnCode, Place};
 use crate::text::{head_of, text_code};
-use emit_code::{code_of, function_scope};
-use emit_lengths::many_locals_fault;
+use emit_measures::many_locals_fault;
+use emit_stmt::emit_draft::{code_of, function_scope};
 use mpy_base::{Items, NoMemory, Refused, SourceFault, Text};
-use mpy_tree::Code;
+use mpy_writer::mpy_tree::Code;
 use py_scopes::NameSlots;
 use py_tree::{Branch, Handler, Param, Stmt, StmtKind};
 use std::alloc::Global;

@@ -1,6 +1,6 @@
 -- Children of parts in a row.
 use Rattle.std.proofs.Common.{◌≡◌, ℕ, suc, ◌+◌, List, [], ◌∷◌, ◌++◌, length, subst, arith}
-use Rattle.bc_translation.specs.Context.{Context}
+use Rattle.emit_expr.specs.bc_scheme.Context.{Context}
 use Rattle.emit_stmt.specs.Children.{Made, AreChildren, no_child, child}
 
 pub front : {c : Context} {i : ℕ} (xs ys : List Made) → AreChildren c i (xs ++ ys) → AreChildren c i xs

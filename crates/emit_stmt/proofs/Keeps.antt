@@ -2,18 +2,18 @@
 use Rattle.std.proofs.Common.{◌≡◌, ℕ, suc, ◌≤◌, Bool, true, false, List, [], ◌∷◌, ◌++◌, length, map, Option, Some, None, refl, sym, ap, ◌∙◌, subst, arith, append_assoc, append-nil}
 use Rattle.std.specs.Prelude.{slice_get, ◌||◌}
 use Rattle.bc_machine.specs.Library.{Item, Line}
-use Rattle.bc_translation.specs.Context.{Context, Behind, line_in, line_before}
-use Rattle.emit_draft.specs.declared.draft.Draft.{Draft}
-use Rattle.emit_draft.specs.declared.draft.DraftItem.{DraftItem}
-use Rattle.emit_draft.specs.declared.draft.DraftLine.{DraftLine}
-use Rattle.emit_draft.specs.declared.scope.Scope.{Scope}
-use Rattle.emit_draft.specs.Draft.{Labels, Adds, Binds}
-use Rattle.emit_draft.specs.Emits.{label_at, item_at, line_at, After, Grown, Emits, IsItem}
-use Rattle.emit_draft.proofs.Lists.{or_false, left_false, right_false, get_mapped, or_then}
-use Rattle.emit_draft.proofs.Steps.{grown_on, after_grown, one_longer, free_added, free_on}
-use Rattle.emit_draft.proofs.Emits.{label_before, bind_after}
-use Rattle.emit_simple.specs.declared.jumps.Loop.{Loop}
-use Rattle.emit_simple.specs.Crowded.{passes_entries}
+use Rattle.emit_expr.specs.bc_scheme.Context.{Context, Behind, line_in, line_before}
+use Rattle.emit_expr.specs.emit_draft.declared.draft.Draft.{Draft}
+use Rattle.emit_expr.specs.emit_draft.declared.draft.DraftItem.{DraftItem}
+use Rattle.emit_expr.specs.emit_draft.declared.draft.DraftLine.{DraftLine}
+use Rattle.emit_expr.specs.emit_draft.declared.scope.Scope.{Scope}
+use Rattle.emit_expr.specs.emit_draft.Draft.{Labels, Adds, Binds}
+use Rattle.emit_expr.specs.emit_draft.Emits.{label_at, item_at, line_at, After, Grown, Emits, IsItem}
+use Rattle.emit_expr.proofs.emit_draft_lemmas.Lists.{or_false, left_false, right_false, get_mapped, or_then}
+use Rattle.emit_expr.proofs.emit_draft_lemmas.Steps.{grown_on, after_grown, one_longer, free_added, free_on}
+use Rattle.emit_expr.proofs.emit_draft_lemmas.Emits.{label_before, bind_after}
+use Rattle.emit_stmt.specs.declared.jumps.Loop.{Loop}
+use Rattle.emit_stmt.specs.SimpleCrowded.{passes_entries}
 use Rattle.emit_stmt.specs.Steps.{last_line, PutsBehind, IsBehind, behind, Deepens, deeper_loop}
 
 -- ---- the line of the instruction before

@@ -14,10 +14,10 @@ use Rattle.py_tree.specs.declared.stmt.StmtKind.TheOpen.{StmtKind-F}
 use Rattle.py_tree.specs.declared.stmt.StmtKind.TheFolds.{fold-roll-Branch, fold-roll-Handler, fold-roll-Stmt}
 use Rattle.py_meaning.specs.Tree.{Name, Expr, Target, Targets, Stmt, If, Pass, ReturnNone, Return, Reraise, Raise, Assert, AssertWith, Finally, TryFinally, Block, End, Next, Branches, Else, Case, Handlers}
 use Rattle.py_meaning.specs.Plain.{Part, Clause, part, also, plain_expr, plain_target, plain_stmt, targets, from_targets, augmented, on_option, numbered, handler_of, kind_step, branch_step, handler_step, stmt_step}
-use Rattle.bc_translation.specs.Statements.{is_over}
-use Rattle.emit_simple.specs.Crowded.{crowded_simple}
-use Rattle.emit_simple.specs.Plain.{plain_kind, is_simple_layer, is_simple}
-use Rattle.emit_simple.proofs.Plains.{Layer, layer_part, plain_is, layer_is}
+use Rattle.emit_expr.specs.bc_scheme.Statements.{is_over}
+use Rattle.emit_stmt.specs.SimpleCrowded.{crowded_simple}
+use Rattle.emit_stmt.specs.Plain.{plain_kind, is_simple_layer, is_simple}
+use Rattle.emit_stmt.proofs.Plains.{Layer, layer_part, plain_is, layer_is}
 use Rattle.emit_stmt.specs.Parts.{plain_block, plain_branch, plain_handler, plain_branches, plain_handlers, if_part, while_part, for_part, try_part, finally_part}
 use Rattle.emit_stmt.specs.Children.{made_in}
 use Rattle.emit_stmt.specs.Crowded.{crowded_stmt}

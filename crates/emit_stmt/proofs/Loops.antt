@@ -1,27 +1,27 @@
 -- The code of loops, from that of their parts.
 use Rattle.std.proofs.Common.{◌≡◌, ℕ, suc, ◌+◌, ◌≤◌, Bool, true, false, ◌++◌, length, refl, sym, ap, ◌∙◌, subst, arith, length-append}
 use Rattle.std.specs.Prelude.{◌||◌}
-use Rattle.bc_ops.specs.declared.instr.Op.TheVariants as ops
-use Rattle.bc_ops.specs.declared.instr.Instr.TheVariants as instrs
+use Rattle.bc_machine.specs.bc_ops.declared.instr.Op.TheVariants as ops
+use Rattle.bc_machine.specs.bc_ops.declared.instr.Instr.TheVariants as instrs
 use Rattle.bc_machine.specs.Library.{Jumps}
 use Rattle.py_meaning.specs.Tree.{Expr, Target, While, For, Block}
 use Rattle.py_meaning.specs.Plain.{Part, part, also}
-use Rattle.bc_translation.specs.Context.{Context, Has, Behind, plain}
-use Rattle.bc_translation.specs.Expressions.{StandsE}
-use Rattle.bc_translation.specs.Statements as stands
-use Rattle.bc_translation.specs.Statements.{Around, StandsT, StandsB, StandsS}
-use Rattle.emit_draft.specs.declared.draft.Draft.{Draft}
-use Rattle.emit_draft.specs.declared.draft.DraftItem.TheVariants as drafts
-use Rattle.emit_draft.specs.declared.scope.Scope.{Scope}
-use Rattle.emit_draft.specs.Draft.{Puts, Adds, Binds}
-use Rattle.emit_draft.specs.Emits.{label_at, Emits, IsPut, put}
-use Rattle.emit_draft.proofs.Steps.{free_added}
-use Rattle.emit_draft.proofs.Emits.{no_emits, put_emits, then_emits, put_after, label_after, bind_after, as_emits, size_emits}
+use Rattle.emit_expr.specs.bc_scheme.Context.{Context, Has, Behind, plain}
+use Rattle.emit_expr.specs.bc_scheme.Expressions.{StandsE}
+use Rattle.emit_expr.specs.bc_scheme.Statements as stands
+use Rattle.emit_expr.specs.bc_scheme.Statements.{Around, StandsT, StandsB, StandsS}
+use Rattle.emit_expr.specs.emit_draft.declared.draft.Draft.{Draft}
+use Rattle.emit_expr.specs.emit_draft.declared.draft.DraftItem.TheVariants as drafts
+use Rattle.emit_expr.specs.emit_draft.declared.scope.Scope.{Scope}
+use Rattle.emit_expr.specs.emit_draft.Draft.{Puts, Adds, Binds}
+use Rattle.emit_expr.specs.emit_draft.Emits.{label_at, Emits, IsPut, put}
+use Rattle.emit_expr.proofs.emit_draft_lemmas.Steps.{free_added}
+use Rattle.emit_expr.proofs.emit_draft_lemmas.Emits.{no_emits, put_emits, then_emits, put_after, label_after, bind_after, as_emits, size_emits}
 use Rattle.emit_expr.specs.Crowded.{crowded}
 use Rattle.emit_expr.specs.Emits.{EmitsE}
-use Rattle.emit_simple.specs.declared.jumps.Loop.{Loop}
-use Rattle.emit_simple.specs.Crowded.{crowded_target}
-use Rattle.emit_simple.specs.Emits.{around_of, EmitsT}
+use Rattle.emit_stmt.specs.declared.jumps.Loop.{Loop}
+use Rattle.emit_stmt.specs.SimpleCrowded.{crowded_target}
+use Rattle.emit_stmt.specs.SimpleEmits.{around_of, EmitsT}
 use Rattle.emit_stmt.specs.Children.{made, AreChildren}
 use Rattle.emit_stmt.specs.Crowded.{crowded_block}
 use Rattle.emit_stmt.specs.Steps.{PutsBehind, IsBehind, behind}

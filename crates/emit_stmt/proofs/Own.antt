@@ -3,8 +3,8 @@ use Rattle.std.proofs.Common.{◌≡◌, ℕ, suc, ◌+◌, List, [], ◌∷◌,
 use Rattle.std.specs.Prelude.{slice_get}
 use Rattle.std.proofs.lemmas.List.{map-append}
 use Rattle.py_meaning.specs.Tree.{Stmt, If, While, For, Try, Finally, TryFinally, Def, Block, End, Next, Branches, Else, Case, Handlers, NoHandler, Any, On, OnAs}
-use Rattle.bc_translation.specs.Context.{Context, IsChild}
-use Rattle.bc_translation.specs.Translation.{own, own_in, own_of, own_by}
+use Rattle.emit_expr.specs.bc_scheme.Context.{Context, IsChild}
+use Rattle.emit_expr.specs.bc_scheme.Translation.{own, own_in, own_of, own_by}
 use Rattle.emit_stmt.specs.Children.{Made, number_of, made, made_in, made_of, made_by, AreChildren, no_child, child}
 
 joined : (xs ys : List Made) (ms ns : List ℕ) → ms ≡ map number_of xs → ns ≡ map number_of ys → ms ++ ns ≡ map number_of (xs ++ ys)

@@ -1,27 +1,27 @@
 -- Statements, branches and clauses in a row: what stands so far, and what the rest will stand behind.
 use Rattle.std.proofs.Common.{◌≡◌, ℕ, suc, ◌+◌, ◌≤◌, Bool, true, false, ◌++◌, length, Option, Some, None, refl, sym, ap, ◌∙◌, subst, arith, length-append}
 use Rattle.std.specs.Prelude.{◌||◌}
-use Rattle.bc_ops.specs.declared.instr.Op.TheVariants as ops
-use Rattle.bc_ops.specs.declared.instr.Instr.TheVariants as instrs
+use Rattle.bc_machine.specs.bc_ops.declared.instr.Op.TheVariants as ops
+use Rattle.bc_machine.specs.bc_ops.declared.instr.Instr.TheVariants as instrs
 use Rattle.bc_machine.specs.Library.{Name, Jumps}
 use Rattle.py_tree.specs.declared.expr.Expr as trees
 use Rattle.py_meaning.specs.Tree.{Expr, Stmt, If, Block, End, Next, Branches, Else, Case, Handlers, NoHandler, Any}
 use Rattle.py_meaning.specs.Plain.{Part, part, also, plain_expr, handler_of}
-use Rattle.bc_translation.specs.Context.{Context, Has, plain}
-use Rattle.bc_translation.specs.Expressions.{StandsE}
-use Rattle.bc_translation.specs.Statements as stands
-use Rattle.bc_translation.specs.Statements.{Around, StandsS, StandsB, StandsI, StandsH, is_over}
-use Rattle.emit_draft.specs.declared.draft.Draft.{Draft}
-use Rattle.emit_draft.specs.declared.draft.DraftItem.TheVariants as drafts
-use Rattle.emit_draft.specs.declared.scope.Scope.{Scope}
-use Rattle.emit_draft.specs.Draft.{Labels, Puts, Adds, Binds}
-use Rattle.emit_draft.specs.Emits.{label_at, Emits, IsPut, put}
-use Rattle.emit_draft.proofs.Lists.{or_false}
-use Rattle.emit_draft.proofs.Emits.{no_emits, put_emits, then_emits, more_emits, put_after, as_emits, size_emits}
+use Rattle.emit_expr.specs.bc_scheme.Context.{Context, Has, plain}
+use Rattle.emit_expr.specs.bc_scheme.Expressions.{StandsE}
+use Rattle.emit_expr.specs.bc_scheme.Statements as stands
+use Rattle.emit_expr.specs.bc_scheme.Statements.{Around, StandsS, StandsB, StandsI, StandsH, is_over}
+use Rattle.emit_expr.specs.emit_draft.declared.draft.Draft.{Draft}
+use Rattle.emit_expr.specs.emit_draft.declared.draft.DraftItem.TheVariants as drafts
+use Rattle.emit_expr.specs.emit_draft.declared.scope.Scope.{Scope}
+use Rattle.emit_expr.specs.emit_draft.Draft.{Labels, Puts, Adds, Binds}
+use Rattle.emit_expr.specs.emit_draft.Emits.{label_at, Emits, IsPut, put}
+use Rattle.emit_expr.proofs.emit_draft_lemmas.Lists.{or_false}
+use Rattle.emit_expr.proofs.emit_draft_lemmas.Emits.{no_emits, put_emits, then_emits, more_emits, put_after, as_emits, size_emits}
 use Rattle.emit_expr.specs.Crowded.{crowded}
 use Rattle.emit_expr.specs.Emits.{EmitsE}
-use Rattle.emit_simple.specs.declared.jumps.Loop.{Loop}
-use Rattle.emit_simple.specs.Emits.{around_of}
+use Rattle.emit_stmt.specs.declared.jumps.Loop.{Loop}
+use Rattle.emit_stmt.specs.SimpleEmits.{around_of}
 use Rattle.emit_stmt.specs.Children.{made, made_in, made_of, made_by, AreChildren}
 use Rattle.emit_stmt.specs.Crowded.{crowded_block, crowded_stmt, crowded_branches, crowded_handlers}
 use Rattle.emit_stmt.specs.Steps.{PutsBehind, IsBehind, behind}

@@ -2,19 +2,19 @@
 use Rattle.std.proofs.Common.{◌≡◌, ℕ, false, [], length, map, sym, ap, ◌∙◌, subst, append-nil}
 use Rattle.std.specs.Prelude.{◌||◌}
 use Rattle.std.proofs.lemmas.List.{length-map}
-use Rattle.bc_ops.specs.declared.instr.Op.TheVariants as ops
-use Rattle.bc_ops.specs.declared.instr.Instr.TheVariants as instrs
+use Rattle.bc_machine.specs.bc_ops.declared.instr.Op.TheVariants as ops
+use Rattle.bc_machine.specs.bc_ops.declared.instr.Instr.TheVariants as instrs
 use Rattle.py_meaning.specs.Tree.{Block}
 use Rattle.py_meaning.specs.Plain.{Part}
-use Rattle.bc_translation.specs.Context.{Context, plain}
-use Rattle.bc_translation.specs.Statements.{Around, StandsB}
-use Rattle.emit_draft.specs.declared.draft.Draft.{Draft}
-use Rattle.emit_draft.specs.declared.draft.DraftItem.TheVariants as drafts
-use Rattle.emit_draft.specs.declared.scope.Scope.{Scope}
-use Rattle.emit_draft.specs.Draft.{Adds, Binds}
-use Rattle.emit_draft.specs.Emits.{label_at, line_at, After}
-use Rattle.emit_draft.proofs.Lists.{or_false}
-use Rattle.emit_simple.specs.declared.jumps.Loop.{Loop}
+use Rattle.emit_expr.specs.bc_scheme.Context.{Context, plain}
+use Rattle.emit_expr.specs.bc_scheme.Statements.{Around, StandsB}
+use Rattle.emit_expr.specs.emit_draft.declared.draft.Draft.{Draft}
+use Rattle.emit_expr.specs.emit_draft.declared.draft.DraftItem.TheVariants as drafts
+use Rattle.emit_expr.specs.emit_draft.declared.scope.Scope.{Scope}
+use Rattle.emit_expr.specs.emit_draft.Draft.{Adds, Binds}
+use Rattle.emit_expr.specs.emit_draft.Emits.{label_at, line_at, After}
+use Rattle.emit_expr.proofs.emit_draft_lemmas.Lists.{or_false}
+use Rattle.emit_stmt.specs.declared.jumps.Loop.{Loop}
 use Rattle.emit_stmt.specs.Children.{made, AreChildren}
 use Rattle.emit_stmt.specs.Crowded.{crowded_block}
 use Rattle.emit_stmt.specs.Steps.{PutsBehind, IsBehind, behind}

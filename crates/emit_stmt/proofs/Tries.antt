@@ -2,29 +2,29 @@
 use Rattle.std.proofs.Common.{◌≡◌, ℕ, suc, ◌+◌, ◌≤◌, Bool, false, ◌++◌, length, Option, Some, None, sym, ap, ◌∙◌, subst, arith, length-append}
 use Rattle.std.specs.Prelude.{slice_get, ◌||◌}
 use Rattle.std.proofs.lemmas.Option.{slice_get_within}
-use Rattle.bc_ops.specs.declared.instr.Op.TheVariants as ops
-use Rattle.bc_ops.specs.declared.instr.Instr.TheVariants as instrs
+use Rattle.bc_machine.specs.bc_ops.declared.instr.Op.TheVariants as ops
+use Rattle.bc_machine.specs.bc_ops.declared.instr.Instr.TheVariants as instrs
 use Rattle.bc_machine.specs.Library.{Name, Jumps}
 use Rattle.py_tree.specs.declared.expr.Expr as trees
 use Rattle.py_meaning.specs.Tree.{Expr, Stmt, Try, Finally, TryFinally, Block, Handlers}
 use Rattle.py_meaning.specs.Plain.{Part, part, also, plain_expr, handler_of}
-use Rattle.bc_translation.specs.Context.{Context, Has, Behind, plain, stores, deletes, matching}
-use Rattle.bc_translation.specs.Expressions.{StandsE}
-use Rattle.bc_translation.specs.Statements as stands
-use Rattle.bc_translation.specs.Statements.{Around, deeper, StandsB, StandsS, StandsX, StandsH}
-use Rattle.emit_draft.specs.declared.draft.Draft.{Draft}
-use Rattle.emit_draft.specs.declared.draft.DraftItem.{DraftItem}
-use Rattle.emit_draft.specs.declared.draft.DraftItem.TheVariants as drafts
-use Rattle.emit_draft.specs.declared.scope.Scope.{Scope}
-use Rattle.emit_draft.specs.Draft.{Labels, Puts, Adds, Binds}
-use Rattle.emit_draft.specs.Emits.{label_at, Emits, IsPut, put, IsItem}
-use Rattle.emit_draft.proofs.Lists.{or_false, or_assoc}
-use Rattle.emit_draft.proofs.Emits.{put_emits, then_emits, put_after, as_emits, size_emits, bind_after}
+use Rattle.emit_expr.specs.bc_scheme.Context.{Context, Has, Behind, plain, stores, deletes, matching}
+use Rattle.emit_expr.specs.bc_scheme.Expressions.{StandsE}
+use Rattle.emit_expr.specs.bc_scheme.Statements as stands
+use Rattle.emit_expr.specs.bc_scheme.Statements.{Around, deeper, StandsB, StandsS, StandsX, StandsH}
+use Rattle.emit_expr.specs.emit_draft.declared.draft.Draft.{Draft}
+use Rattle.emit_expr.specs.emit_draft.declared.draft.DraftItem.{DraftItem}
+use Rattle.emit_expr.specs.emit_draft.declared.draft.DraftItem.TheVariants as drafts
+use Rattle.emit_expr.specs.emit_draft.declared.scope.Scope.{Scope}
+use Rattle.emit_expr.specs.emit_draft.Draft.{Labels, Puts, Adds, Binds}
+use Rattle.emit_expr.specs.emit_draft.Emits.{label_at, Emits, IsPut, put, IsItem}
+use Rattle.emit_expr.proofs.emit_draft_lemmas.Lists.{or_false, or_assoc}
+use Rattle.emit_expr.proofs.emit_draft_lemmas.Emits.{put_emits, then_emits, put_after, as_emits, size_emits, bind_after}
 use Rattle.emit_expr.specs.Crowded.{crowded}
 use Rattle.emit_expr.specs.Emits.{EmitsE, PutsAs}
-use Rattle.emit_simple.specs.declared.jumps.Loop.{Loop}
-use Rattle.emit_simple.specs.Crowded.{passes_entries}
-use Rattle.emit_simple.specs.Emits.{around_of}
+use Rattle.emit_stmt.specs.declared.jumps.Loop.{Loop}
+use Rattle.emit_stmt.specs.SimpleCrowded.{passes_entries}
+use Rattle.emit_stmt.specs.SimpleEmits.{around_of}
 use Rattle.emit_stmt.specs.Children.{made, made_in, made_by, AreChildren}
 use Rattle.emit_stmt.specs.Crowded.{crowded_block, crowded_stmt, crowded_handlers}
 use Rattle.emit_stmt.specs.Steps.{PutsBehind, IsBehind, behind, Deepens, deeper_loop, IsMatch, match, IsGone, gone, StandsMatched, unnamed, named, StandsLast, stands_last, EmitsMatch, EmitsGone}

@@ -2,8 +2,8 @@
 use Rattle.std.proofs.Common.{◌≡◌, ℕ, ◌+◌, ◌≤◌, Bool, true, List, [], ◌∷◌, length, drop, Option, Some, None, refl, sym, ap, ◌∙◌, subst, arith, length-drop}
 use Rattle.std.specs.Prelude.{◌↔◌, IsTrue, slice_get, Result, Ok, Err, IfOk}
 use Rattle.std.proofs.lemmas.List.{drop_all}
-use Rattle.bc_ops.specs.declared.instr.Op.TheVariants as ops
-use Rattle.bc_ops.specs.declared.instr.Instr.TheVariants as instrs
+use Rattle.bc_machine.specs.bc_ops.declared.instr.Op.TheVariants as ops
+use Rattle.bc_machine.specs.bc_ops.declared.instr.Instr.TheVariants as instrs
 use Rattle.py_tree.specs.declared.expr.Expr as trees
 use Rattle.py_tree.specs.declared.stmt.Branch.{Branch, out-Branch}
 use Rattle.py_tree.specs.declared.stmt.Handler.{Handler, out-Handler}
@@ -13,16 +13,16 @@ use Rattle.py_tree.specs.declared.stmt.Stmt.{out-Stmt}
 use Rattle.py_tree.specs.declared.stmt.StmtKind.{StmtKind}
 use Rattle.py_meaning.specs.Tree.{Name, Exprs, count, Stmt, Block, Next, Branches, Else, Case, Handlers}
 use Rattle.py_meaning.specs.Plain.{Part, Clause, part, also, plain_expr, numbered, defaults_of, handler_of}
-use Rattle.bc_translation.specs.Context.{Context, IsChild}
-use Rattle.bc_translation.specs.Statements.{StandsS}
-use Rattle.emit_draft.specs.declared.draft.Draft.{Draft}
-use Rattle.emit_draft.specs.declared.draft.DraftItem.TheVariants as drafts
-use Rattle.emit_draft.specs.declared.scope.Scope.{Scope}
-use Rattle.emit_draft.specs.Draft.{Puts}
-use Rattle.emit_draft.proofs.Emits.{as_emits, size_emits}
-use Rattle.emit_simple.specs.declared.jumps.Loop.{Loop}
-use Rattle.emit_simple.specs.Plain.{plain_kind, is_simple}
-use Rattle.emit_simple.specs.Emits.{around_of, EmitsS, EmitsDef}
+use Rattle.emit_expr.specs.bc_scheme.Context.{Context, IsChild}
+use Rattle.emit_expr.specs.bc_scheme.Statements.{StandsS}
+use Rattle.emit_expr.specs.emit_draft.declared.draft.Draft.{Draft}
+use Rattle.emit_expr.specs.emit_draft.declared.draft.DraftItem.TheVariants as drafts
+use Rattle.emit_expr.specs.emit_draft.declared.scope.Scope.{Scope}
+use Rattle.emit_expr.specs.emit_draft.Draft.{Puts}
+use Rattle.emit_expr.proofs.emit_draft_lemmas.Emits.{as_emits, size_emits}
+use Rattle.emit_stmt.specs.declared.jumps.Loop.{Loop}
+use Rattle.emit_stmt.specs.Plain.{plain_kind, is_simple}
+use Rattle.emit_stmt.specs.SimpleEmits.{around_of, EmitsS, EmitsDef}
 use Rattle.emit_stmt.specs.Parts.{plain_block, plain_branches, plain_handlers}
 use Rattle.emit_stmt.specs.Children.{made_in, AreChildren, child}
 use Rattle.emit_stmt.specs.Steps.{PutsBehind, EmitsGone}

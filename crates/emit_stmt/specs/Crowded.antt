@@ -2,7 +2,7 @@
 use Rattle.std.specs.Prelude.{ℕ, suc, Bool, false, ◌||◌}
 use Rattle.py_meaning.specs.Tree.{Stmt, If, While, For, Try, Finally, TryFinally, Block, End, Next, Branches, Else, Case, Handlers, NoHandler, Any, On, OnAs}
 use Rattle.emit_expr.specs.Crowded.{crowded}
-use Rattle.emit_simple.specs.Crowded.{crowded_target, crowded_simple, passes_entries}
+use Rattle.emit_stmt.specs.SimpleCrowded.{crowded_target, crowded_simple, passes_entries}
 
 -- entries are those held in the loop around. Where a body holds one more, a jump must be able to name them all
 abbrev mutual

@@ -4,14 +4,14 @@ use Rattle.std.specs.Prelude.{◌≡◌, ◌≤◌, ℕ, suc, ◌+◌, Bool, fal
 use Rattle.py_tree.specs.declared.expr.Expr as trees
 use Rattle.py_meaning.specs.Tree.{Name, Expr, Stmt, Block, Branches, Case, Handlers}
 use Rattle.py_meaning.specs.Plain.{Part, plain_expr, handler_of}
-use Rattle.bc_translation.specs.Statements.{StandsS, StandsB, StandsI, StandsH, is_over}
-use Rattle.emit_draft.specs.declared.draft.Draft.{Draft}
-use Rattle.emit_draft.specs.declared.scope.Scope.{Scope}
-use Rattle.emit_draft.specs.Emits.{label_at, Emits}
+use Rattle.emit_expr.specs.bc_scheme.Statements.{StandsS, StandsB, StandsI, StandsH, is_over}
+use Rattle.emit_expr.specs.emit_draft.declared.draft.Draft.{Draft}
+use Rattle.emit_expr.specs.emit_draft.declared.scope.Scope.{Scope}
+use Rattle.emit_expr.specs.emit_draft.Emits.{label_at, Emits}
 use Rattle.emit_expr.specs.Crowded.{crowded}
-use Rattle.emit_simple.specs.declared.jumps.Loop.{Loop}
-use Rattle.emit_simple.specs.Crowded.{passes_entries}
-use Rattle.emit_simple.specs.Emits.{around_of}
+use Rattle.emit_stmt.specs.declared.jumps.Loop.{Loop}
+use Rattle.emit_stmt.specs.SimpleCrowded.{passes_entries}
+use Rattle.emit_stmt.specs.SimpleEmits.{around_of}
 use Rattle.emit_stmt.specs.Children.{made, made_in, made_by, AreChildren}
 use Rattle.emit_stmt.specs.Crowded.{crowded_block, crowded_stmt, crowded_handlers}
 use Rattle.emit_stmt.specs.Steps.{StandsMatched, StandsLast}

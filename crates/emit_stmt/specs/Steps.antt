@@ -1,19 +1,19 @@
 -- What stands behind a body, in clauses, and one entry more in a loop.
 use Rattle.std.specs.Prelude.{◌≡◌, ℕ, suc, false, ◌||◌, List, [], ◌∷◌, ◌++◌, Option, Some, None, length}
-use Rattle.bc_ops.specs.declared.instr.Op.TheVariants as ops
+use Rattle.bc_machine.specs.bc_ops.declared.instr.Op.TheVariants as ops
 use Rattle.bc_machine.specs.Library.{Name, Item, Jumps}
 use Rattle.py_meaning.specs.Tree.{Expr, Block}
-use Rattle.bc_translation.specs.Context.{Context, Has, Behind, plain, stores, deletes, matching}
-use Rattle.bc_translation.specs.Expressions.{StandsE}
-use Rattle.bc_translation.specs.Statements.{Around, deeper, StandsB}
-use Rattle.emit_draft.specs.declared.draft.Draft.{Draft}
-use Rattle.emit_draft.specs.declared.draft.DraftItem.{DraftItem}
-use Rattle.emit_draft.specs.declared.draft.DraftLine.{DraftLine}
-use Rattle.emit_draft.specs.declared.scope.Scope.{Scope}
-use Rattle.emit_draft.specs.Emits.{label_at, Emits}
+use Rattle.emit_expr.specs.bc_scheme.Context.{Context, Has, Behind, plain, stores, deletes, matching}
+use Rattle.emit_expr.specs.bc_scheme.Expressions.{StandsE}
+use Rattle.emit_expr.specs.bc_scheme.Statements.{Around, deeper, StandsB}
+use Rattle.emit_expr.specs.emit_draft.declared.draft.Draft.{Draft}
+use Rattle.emit_expr.specs.emit_draft.declared.draft.DraftItem.{DraftItem}
+use Rattle.emit_expr.specs.emit_draft.declared.draft.DraftLine.{DraftLine}
+use Rattle.emit_expr.specs.emit_draft.declared.scope.Scope.{Scope}
+use Rattle.emit_expr.specs.emit_draft.Emits.{label_at, Emits}
 use Rattle.emit_expr.specs.Crowded.{crowded}
-use Rattle.emit_simple.specs.declared.jumps.Loop.{Loop}
-use Rattle.emit_simple.specs.Crowded.{passes_entries}
+use Rattle.emit_stmt.specs.declared.jumps.Loop.{Loop}
+use Rattle.emit_stmt.specs.SimpleCrowded.{passes_entries}
 
 -- ---- steps of a draft
 

@@ -1,13 +1,13 @@
 -- The whole code of a module or a function.
 use Rattle.std.specs.Prelude.{◌≡◌, ℕ, suc, false, length, map}
-use Rattle.bc_ops.specs.declared.instr.Op.TheVariants as ops
+use Rattle.bc_machine.specs.bc_ops.declared.instr.Op.TheVariants as ops
 use Rattle.py_meaning.specs.Tree.{Block}
 use Rattle.py_meaning.specs.Plain.{Part}
-use Rattle.bc_translation.specs.Context.{Context, Behind, plain}
-use Rattle.bc_translation.specs.Statements.{StandsB}
-use Rattle.emit_draft.specs.declared.draft.Draft.{Draft}
-use Rattle.emit_draft.specs.declared.scope.Scope.{Scope}
-use Rattle.emit_draft.specs.Emits.{line_at, Reads}
+use Rattle.emit_expr.specs.bc_scheme.Context.{Context, Behind, plain}
+use Rattle.emit_expr.specs.bc_scheme.Statements.{StandsB}
+use Rattle.emit_expr.specs.emit_draft.declared.draft.Draft.{Draft}
+use Rattle.emit_expr.specs.emit_draft.declared.scope.Scope.{Scope}
+use Rattle.emit_expr.specs.emit_draft.Emits.{line_at, Reads}
 use Rattle.emit_stmt.specs.Children.{made, AreChildren}
 use Rattle.emit_stmt.specs.Crowded.{crowded_block}
 

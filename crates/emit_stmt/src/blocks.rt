@@ -4,15 +4,19 @@ ghost use Rattle.std.specs.Prelude.{◌≡◌, ℕ, ◌+◌, ◌^◌, ◌<◌, S
 ghost use Rattle.py_tree.specs.declared.stmt.Branch.{out-Branch};
 ghost use Rattle.py_tree.specs.declared.stmt.Stmt.{out-Stmt};
 ghost use Rattle.py_meaning.specs.Plain.{plain_expr};
-ghost use Rattle.emit_simple.specs.Plain.{plain_kind};
+ghost use Rattle.emit_stmt.specs.Plain.{plain_kind};
 ghost use Rattle.emit_stmt.specs.Parts.{plain_block, plain_handlers, if_part, while_part, for_part, try_part, finally_part};
 ghost use Rattle.emit_stmt.specs.Emits.{EmitsB, EmitsP, EmitsCase, EmitsH, EmitsClause, EmitsMatched, EmitsLast};
 
+use crate::defs::emit_def;
+use crate::jumps::Loop;
+use crate::puts::put_store;
+use crate::simple::emit_simple;
 use crate::steps::{deepen, is_over, put_behind, put_exit, put_gone, put_match};
-use bc_ops::{Instr, Op};
-use emit_draft::{Draft, DraftItem, Scope};
+use crate::targets::emit_target;
+use bc_machine::bc_ops::{Instr, Op};
+use emit_expr::emit_draft::{Draft, DraftItem, Scope};
 use emit_expr::emit_expr;
-use emit_simple::{Loop, emit_def, emit_simple, emit_target, put_store};
 use mpy_base::{NoMemory, Text};
 use py_tree::{Branch, Expr, Handler, Stmt, StmtKind, Target};
 use std::alloc::Global;

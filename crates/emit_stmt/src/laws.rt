@@ -2,8 +2,8 @@
 
 ghost use Rattle.std.specs.Prelude.{◌≡◌, ℕ, ◌+◌, List, map, Some, slice_get};
 ghost use Rattle.py_meaning.specs.Tree.{Block};
-ghost use Rattle.bc_translation.specs.Context.{Context, IsChild};
-ghost use Rattle.bc_translation.specs.Translation.{own as own_numbers};
+ghost use Rattle.emit_expr.specs.bc_scheme.Context.{Context, IsChild};
+ghost use Rattle.emit_expr.specs.bc_scheme.Translation.{own as own_numbers};
 ghost use Rattle.emit_stmt.specs.Children.{Made, number_of, made, AreChildren};
 
 /// The functions that a block's code asks for are those of its own numbers. They are a code's children where these have

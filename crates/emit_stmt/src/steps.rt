@@ -1,15 +1,15 @@
 //! What stands behind a body, and one entry more in a loop.
 
 ghost use Rattle.std.specs.Prelude.{◌≡◌, ◌↔◌, true, false, IsTrue, OnOk};
-ghost use Rattle.bc_ops.specs.declared.instr.Op.TheVariants as ops;
-ghost use Rattle.emit_draft.specs.declared.draft.DraftItem.TheVariants as drafts;
+ghost use Rattle.bc_machine.specs.bc_ops.declared.instr.Op.TheVariants as ops;
+ghost use Rattle.emit_expr.specs.emit_draft.declared.draft.DraftItem.TheVariants as drafts;
 ghost use Rattle.py_meaning.specs.Plain.{plain_expr};
 ghost use Rattle.emit_stmt.specs.Steps.{last_line, PutsBehind, Deepens, EmitsMatch, EmitsGone};
 
-use bc_ops::{Instr, Op};
-use emit_draft::{Draft, DraftItem, DraftLine, Scope, delete_name, store_name};
+use crate::jumps::Loop;
+use bc_machine::bc_ops::{Instr, Op};
+use emit_expr::emit_draft::{Draft, DraftItem, DraftLine, Scope, delete_name, store_name};
 use emit_expr::emit_expr;
-use emit_simple::Loop;
 use mpy_base::NoMemory;
 use py_tree::Expr;
 use std::alloc::Global;

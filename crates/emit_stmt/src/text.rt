@@ -5,10 +5,10 @@ ghost use Rattle.emit_stmt.specs.Parts.{plain_block};
 ghost use Rattle.emit_stmt.specs.Text.{EmitsText};
 
 use crate::blocks::emit_block;
+use crate::jumps::Loop;
 use crate::steps::put_behind;
-use bc_ops::{Instr, Op};
-use emit_draft::{Draft, DraftItem, Scope};
-use emit_simple::Loop;
+use bc_machine::bc_ops::{Instr, Op};
+use emit_expr::emit_draft::{Draft, DraftItem, Scope};
 use mpy_base::NoMemory;
 use py_tree::Stmt;
 use std::alloc::Global;

@@ -2,8 +2,8 @@
 use Rattle.std.proofs.Common.{ℕ, List, Option, Err}
 use Rattle.std.proofs.KnownBytes.{Keeps-refl}
 use Rattle.mpy_io.specs.Files.{FileOf}
-use Rattle.command_files.specs.mpy_endings.declared.ending.Ending.{Ending}
-use Rattle.command_files.specs.mpy_endings.declared.ending.Ending.TheVariants.{Done, Unaccepted, Unread, Unverified, Unmerged, Unopened, Unfrozen, Unboarded, Stopped, ReadFault, WriteFault, Unwritten, NoMemory, Absent}
+use Rattle.mpy_endings.specs.declared.ending.Ending.{Ending}
+use Rattle.mpy_endings.specs.declared.ending.Ending.TheVariants.{Done, Unaccepted, Unread, Unverified, Unmerged, Unopened, Unfrozen, Unboarded, Different, Stopped, ReadFault, WriteFault, Unwritten, NoMemory, Absent}
 use Rattle.command_files.specs.Folder.{IsNotRead}
 use Rattle.command_files.specs.Opened.{Opens}
 use Rattle.command_files.proofs.Long.{not_read}
@@ -20,6 +20,7 @@ judged_from bytes (Unmerged fault) h = absurd h
 judged_from bytes (Unopened fault) h = absurd h
 judged_from bytes (Unfrozen fault) h = absurd h
 judged_from bytes (Unboarded fault) h = absurd h
+judged_from bytes (Different difference) h = absurd h
 judged_from bytes (Stopped stop) h = absurd h
 judged_from bytes ReadFault h = absurd h
 judged_from bytes WriteFault h = absurd h
@@ -36,6 +37,7 @@ not_checked files name (Unmerged fault) told h = absurd h
 not_checked files name (Unopened fault) told h = absurd h
 not_checked files name (Unfrozen fault) told h = absurd h
 not_checked files name (Unboarded fault) told h = absurd h
+not_checked files name (Different difference) told h = absurd h
 not_checked files name (Stopped stop) told h = absurd h
 not_checked files name ReadFault told h = Keeps-refl told
 not_checked files name WriteFault told h = absurd h
@@ -52,6 +54,7 @@ not_dumped files name (Unmerged fault) told h = absurd h
 not_dumped files name (Unopened fault) told h = absurd h
 not_dumped files name (Unfrozen fault) told h = absurd h
 not_dumped files name (Unboarded fault) told h = absurd h
+not_dumped files name (Different difference) told h = absurd h
 not_dumped files name (Stopped stop) told h = absurd h
 not_dumped files name ReadFault told h = Keeps-refl told
 not_dumped files name WriteFault told h = absurd h

@@ -4,14 +4,14 @@ use Rattle.std.proofs.lemmas.Bool.{ltb-true}
 use Rattle.std.proofs.lemmas.List.Elements.{All-map}
 use Rattle.mpy_base.specs.declared.source.SourceFault.{SourceFault}
 use Rattle.mpy_io.specs.Files.{FileOf}
-use Rattle.mpy_tree.specs.File.{IsAscii}
-use Rattle.command_files.specs.mpy_compile.Compiled.{CompilesTo}
-use Rattle.command_files.specs.mpy_compile.Compiled as made
-use Rattle.command_files.specs.mpy_endings.declared.ending.Ending.{Ending}
-use Rattle.command_files.specs.mpy_endings.declared.ending.Ending.TheVariants.{Done, Unaccepted, Unread, Unverified, Unmerged, Unopened, Unfrozen, Unboarded, Stopped, ReadFault, WriteFault, Unwritten, NoMemory, Absent}
-use Rattle.command_files.specs.mpy_endings.Ending.{IsSettled}
+use Rattle.mpy_writer.specs.mpy_tree.File.{IsAscii}
+use Rattle.mpy_compile.specs.Compiled.{CompilesTo}
+use Rattle.mpy_compile.specs.Compiled as made
+use Rattle.mpy_endings.specs.declared.ending.Ending.{Ending}
+use Rattle.mpy_endings.specs.declared.ending.Ending.TheVariants.{Done, Unaccepted, Unread, Unverified, Unmerged, Unopened, Unfrozen, Unboarded, Different, Stopped, ReadFault, WriteFault, Unwritten, NoMemory, Absent}
+use Rattle.mpy_endings.specs.Ending.{IsSettled}
 use Rattle.file_commands.specs.Cross.{Crosses}
-use Rattle.command_files.specs.source_files.Sources.{ascii_of, stored}
+use Rattle.source_files.specs.Sources.{ascii_of, stored}
 
 -- ---- one ending
 
@@ -28,6 +28,7 @@ Judged Good Bad file name (Unmerged fault) = ⊥
 Judged Good Bad file name (Unopened fault) = ⊥
 Judged Good Bad file name (Unfrozen fault) = ⊥
 Judged Good Bad file name (Unboarded fault) = ⊥
+Judged Good Bad file name (Different difference) = ⊥
 Judged Good Bad file name (Stopped stop) = ⊥
 Judged Good Bad file name ReadFault = ⊥
 Judged Good Bad file name WriteFault = ⊥
@@ -55,6 +56,7 @@ one_judged Good Bad apart one file name (Unmerged f) b p q = absurd p
 one_judged Good Bad apart one file name (Unopened f) b p q = absurd p
 one_judged Good Bad apart one file name (Unfrozen f) b p q = absurd p
 one_judged Good Bad apart one file name (Unboarded f) b p q = absurd p
+one_judged Good Bad apart one file name (Different difference) b p q = absurd p
 one_judged Good Bad apart one file name (Stopped s) b p q = absurd p
 one_judged Good Bad apart one file name ReadFault b p q = absurd p
 one_judged Good Bad apart one file name WriteFault b p q = absurd p
@@ -66,6 +68,7 @@ one_judged Good Bad apart one file name Done (Unmerged g) p q = absurd q
 one_judged Good Bad apart one file name Done (Unopened g) p q = absurd q
 one_judged Good Bad apart one file name Done (Unfrozen g) p q = absurd q
 one_judged Good Bad apart one file name Done (Unboarded g) p q = absurd q
+one_judged Good Bad apart one file name Done (Different difference) p q = absurd q
 one_judged Good Bad apart one file name Done (Stopped t) p q = absurd q
 one_judged Good Bad apart one file name Done ReadFault p q = absurd q
 one_judged Good Bad apart one file name Done WriteFault p q = absurd q
@@ -77,6 +80,7 @@ one_judged Good Bad apart one file name (Unaccepted f) (Unmerged g) p q = absurd
 one_judged Good Bad apart one file name (Unaccepted f) (Unopened g) p q = absurd q
 one_judged Good Bad apart one file name (Unaccepted f) (Unfrozen g) p q = absurd q
 one_judged Good Bad apart one file name (Unaccepted f) (Unboarded g) p q = absurd q
+one_judged Good Bad apart one file name (Unaccepted f) (Different difference) p q = absurd q
 one_judged Good Bad apart one file name (Unaccepted f) (Stopped t) p q = absurd q
 one_judged Good Bad apart one file name (Unaccepted f) ReadFault p q = absurd q
 one_judged Good Bad apart one file name (Unaccepted f) WriteFault p q = absurd q
@@ -88,6 +92,7 @@ one_judged Good Bad apart one file name Absent (Unmerged g) p q = absurd q
 one_judged Good Bad apart one file name Absent (Unopened g) p q = absurd q
 one_judged Good Bad apart one file name Absent (Unfrozen g) p q = absurd q
 one_judged Good Bad apart one file name Absent (Unboarded g) p q = absurd q
+one_judged Good Bad apart one file name Absent (Different difference) p q = absurd q
 one_judged Good Bad apart one file name Absent (Stopped t) p q = absurd q
 one_judged Good Bad apart one file name Absent ReadFault p q = absurd q
 one_judged Good Bad apart one file name Absent WriteFault p q = absurd q
@@ -111,6 +116,7 @@ crosses_judged level file name kept written (Unmerged fault) new s p = absurd p
 crosses_judged level file name kept written (Unopened fault) new s p = absurd p
 crosses_judged level file name kept written (Unfrozen fault) new s p = absurd p
 crosses_judged level file name kept written (Unboarded fault) new s p = absurd p
+crosses_judged level file name kept written (Different difference) new s p = absurd p
 crosses_judged level file name kept written (Stopped stop) new s p = absurd p
 crosses_judged level file name kept written ReadFault new s p = absurd s
 crosses_judged level file name kept written WriteFault new s p = absurd s

@@ -5,8 +5,9 @@ use Rattle.std.specs.Io.KnownBytes.{Appends, Keeps}
 use Rattle.std.proofs.KnownBytes.{Appends-kept}
 use Rattle.mpy_io.specs.Files.{FileOf}
 use Rattle.mpy_io.specs.Told.{AppendsFront}
-use Rattle.command_files.specs.mpy_endings.declared.ending.Ending.TheVariants.{Done, WriteFault}
+use Rattle.mpy_endings.specs.declared.ending.Ending.TheVariants.{Done, WriteFault}
 use Rattle.file_commands.specs.Check.{Checks, verified_line}
+use Rattle.file_commands.specs.CheckAs.{ChecksAs, translation_line}
 use Rattle.file_commands.specs.Cross.{Crosses}
 use Rattle.file_commands.specs.Dump.{Dumps}
 
@@ -15,6 +16,9 @@ all_is_front a b c text q p = record { front = text; rest = []; parts = sym (app
 
 pub checks_cut : (files : Option FileOf) (name : List ℕ) (a b c : Option (List ℕ)) → Keeps b c → Checks files name Done a b → Checks files name WriteFault a c
 checks_cut files name a b c q p = (p.0, p.1, all_is_front a b c (verified_line p.0) q p.2)
+
+pub checks_as_cut : (level : ℕ) (files : Option FileOf) (source file : List ℕ) (a b c : Option (List ℕ)) (place : ℕ) → Keeps b c → ChecksAs level files source file a b place Done → ChecksAs level files source file a c place WriteFault
+checks_as_cut level files source file a b c place q p = (p.0, p.1, all_is_front a b c (translation_line p.0) q p.2)
 
 pub dumps_cut : (files : Option FileOf) (name : List ℕ) (a b c : Option (List ℕ)) → Keeps b c → Dumps files name Done a b → Dumps files name WriteFault a c
 dumps_cut files name a b c q p = (p.0, p.1, all_is_front a b c p.0 q p.2)

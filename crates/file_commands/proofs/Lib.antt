@@ -1,5 +1,5 @@
-pub use Rattle.command_files.proofs as command_files_lemmas
 pub mod Checked
+mod CheckedAs
 pub mod Crossed
 pub mod Merged
 pub mod HandedOn

@@ -1,17 +1,21 @@
 -- Files that are read as verified modules, and what a merge of them does.
-use Rattle.std.proofs.Common.{◌≡◌, ◌+◌, ◌<◌, false, List, ℕ, Option, String, length, map, take, get_or, string_bytes, refl, subst, arith}
+use Rattle.std.proofs.Common.{◌≡◌, ◌⊎◌, inl, inr, ◌+◌, ◌<◌, false, Result, Ok, Err, List, ℕ, Option, String, length, map, take, get_or, string_bytes, refl, subst, arith}
 use Rattle.std.specs.declared.alloc.Global.{Global}
+use Rattle.std.specs.Prelude.{IfOk}
 use Rattle.std.proofs.lemmas.List.{length-map}
+use Rattle.mpy_base.specs.declared.refused.Refused.{Refused}
+use Rattle.mpy_base.specs.declared.refused.Refused.TheVariants as refusals
+use Rattle.mpy_merge.specs.declared.fault.MergeFault.{MergeFault}
 use Rattle.mpy_io.specs.Files.{FileOf}
-use Rattle.mpy_tree.specs.Raw.{Module}
-use Rattle.command_files.specs.mpy_endings.declared.ending.Ending.{Ending}
-use Rattle.command_files.specs.mpy_endings.declared.ending.Ending.TheVariants.{Done, Unaccepted, Unread, Unverified, Unmerged, Unopened, Unfrozen, Unboarded, Stopped, ReadFault, WriteFault, Unwritten, NoMemory, Absent}
+use Rattle.mpy_writer.specs.mpy_tree.Raw.{Module}
+use Rattle.mpy_endings.specs.declared.ending.Ending.{Ending}
+use Rattle.mpy_endings.specs.declared.ending.Ending.TheVariants.{Done, Unaccepted, Unread, Unverified, Unmerged, Unopened, Unfrozen, Unboarded, Different, Stopped, ReadFault, WriteFault, Unwritten, NoMemory, Absent}
 use Rattle.command_files.specs.Folder.{ChangesOnly}
-use Rattle.command_files.specs.mpy_endings.Ending.{is_out_fault}
+use Rattle.mpy_endings.specs.Ending.{is_out_fault}
 use Rattle.command_files.specs.Opened.{Refuses}
 use Rattle.file_commands.specs.Merge.{HoldModules, IsFirstRefused, Merges}
 use Rattle.command_files.proofs.Others.{same_only, became_only, front_only}
-use Rattle.command_files.proofs.mpy_endings_lemmas.Said.{word_at}
+use Rattle.mpy_endings.proofs.Said.{word_at}
 
 -- a refusal of one of the files ends the merge, and changes none
 refusal : (files : Option FileOf) (name : List ℕ) (ending : Ending) → Refuses files name ending → is_out_fault ending ≡ false
@@ -23,6 +27,7 @@ refusal files name (Unmerged fault) h = refl
 refusal files name (Unopened fault) h = refl
 refusal files name (Unfrozen fault) h = refl
 refusal files name (Unboarded fault) h = refl
+refusal files name (Different difference) h = refl
 refusal files name (Stopped stop) h = refl
 refusal files name ReadFault h = refl
 refusal files name WriteFault h = absurd h
@@ -42,6 +47,7 @@ refused_merges names written old new place (Unmerged fault) r same = absurd r.re
 refused_merges names written old new place (Unopened fault) r same = absurd r.refused
 refused_merges names written old new place (Unfrozen fault) r same = absurd r.refused
 refused_merges names written old new place (Unboarded fault) r same = absurd r.refused
+refused_merges names written old new place (Different difference) r same = absurd r.refused
 refused_merges names written old new place (Stopped stop) r same = absurd r.refused
 refused_merges names written old new place ReadFault r same = (r, same)
 refused_merges names written old new place WriteFault r same = absurd r.refused
@@ -59,6 +65,7 @@ merges_only names written old new place (Unmerged fault) h = same_only old new w
 merges_only names written old new place (Unopened fault) h = absurd h
 merges_only names written old new place (Unfrozen fault) h = absurd h
 merges_only names written old new place (Unboarded fault) h = absurd h
+merges_only names written old new place (Different difference) h = absurd h
 merges_only names written old new place (Stopped stop) h = absurd h
 merges_only names written old new place ReadFault h = same_only old new written h.1
 merges_only names written old new place WriteFault h = became_only old new written h.0 h.2
@@ -77,3 +84,9 @@ first_refused files words at word modules ending lt is before h = record {
   before = before;
   refused = subst (λ (n : List ℕ). Refuses files n ending) (word_at words at word lt is) h;
 }
+
+-- what is merged has no fault
+pub never_both : {A : Type 0} (r : Result A (Refused MergeFault)) (P : MergeFault → Type 0) → ((fault : MergeFault) → P fault → (r ≡ Err (refusals.Fault fault)) ⊎ (r ≡ Err refusals.NoMemory))
+    → IfOk r (λ x. (fault : MergeFault) → P fault → ⊥)
+never_both (Ok x) P told = λ fault h. elim (told fault h) [ inl e ↦ cc | inr e ↦ cc ]
+never_both (Err e) P told = tt

@@ -3,13 +3,13 @@ use Rattle.std.specs.Prelude.{◌≡◌, ℕ, ◌++◌, ◌^◌, ◌-◌, min, L
 use Rattle.std.specs.Io.KnownBytes.{Appends, Keeps}
 use Rattle.mpy_io.specs.Files.{FileOf}
 use Rattle.mpy_io.specs.Told.{AppendsFront}
-use Rattle.mpy_tree.specs.Raw.{Module}
-use Rattle.mpy_tree.specs.Codes.{codes_of}
-use Rattle.mpy_tree.specs.File.{IsFile}
+use Rattle.mpy_writer.specs.mpy_tree.Raw.{Module}
+use Rattle.mpy_writer.specs.mpy_tree.Codes.{codes_of}
+use Rattle.mpy_writer.specs.mpy_tree.File.{IsFile}
 use Rattle.mpy_reader.specs.Reading.{FirstFault}
 use Rattle.bc_verify.specs.Verified.{IsVerified}
-use Rattle.command_files.specs.mpy_endings.declared.ending.Ending.{Ending}
-use Rattle.command_files.specs.mpy_endings.declared.ending.Ending.TheVariants.{Done, Unaccepted, Unread, Unverified, Unmerged, Unopened, Unfrozen, Unboarded, Stopped, ReadFault, WriteFault, Unwritten, NoMemory, Absent}
+use Rattle.mpy_endings.specs.declared.ending.Ending.{Ending}
+use Rattle.mpy_endings.specs.declared.ending.Ending.TheVariants.{Done, Unaccepted, Unread, Unverified, Unmerged, Unopened, Unfrozen, Unboarded, Different, Stopped, ReadFault, WriteFault, Unwritten, NoMemory, Absent}
 use Rattle.command_files.specs.Folder.{MayHold}
 use Rattle.command_files.specs.Opened.{IsUnverifiedFile}
 
@@ -35,6 +35,7 @@ Judges bytes (Err (Unmerged fault)) = ⊥
 Judges bytes (Err (Unopened fault)) = ⊥
 Judges bytes (Err (Unfrozen fault)) = ⊥
 Judges bytes (Err (Unboarded fault)) = ⊥
+Judges bytes (Err (Different difference)) = ⊥
 Judges bytes (Err (Stopped stop)) = ⊥
 Judges bytes (Err ReadFault) = ⊥
 Judges bytes (Err WriteFault) = ⊥
@@ -62,6 +63,7 @@ Checks files name (Unmerged fault) old new = ⊥
 Checks files name (Unopened fault) old new = ⊥
 Checks files name (Unfrozen fault) old new = ⊥
 Checks files name (Unboarded fault) old new = ⊥
+Checks files name (Different difference) old new = ⊥
 Checks files name (Stopped stop) old new = ⊥
 Checks files name ReadFault old new = Keeps old new
 Checks files name WriteFault old new = (count : ℕ) × HoldsVerified files name count × AppendsFront old new (verified_line count)

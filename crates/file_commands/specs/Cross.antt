@@ -1,9 +1,9 @@
 -- What writing the file of a source does.
 use Rattle.std.specs.Prelude.{◌≡◌, ℕ, List, Option, Some, None}
 use Rattle.mpy_io.specs.Files.{FileOf, Becomes, BecomesFront}
-use Rattle.command_files.specs.mpy_compile.Compiled.{CompilesTo}
-use Rattle.command_files.specs.mpy_endings.declared.ending.Ending.{Ending}
-use Rattle.command_files.specs.mpy_endings.declared.ending.Ending.TheVariants.{Done, Unaccepted, Unread, Unverified, Unmerged, Unopened, Unfrozen, Unboarded, Stopped, ReadFault, WriteFault, Unwritten, NoMemory, Absent}
+use Rattle.mpy_compile.specs.Compiled.{CompilesTo}
+use Rattle.mpy_endings.specs.declared.ending.Ending.{Ending}
+use Rattle.mpy_endings.specs.declared.ending.Ending.TheVariants.{Done, Unaccepted, Unread, Unverified, Unmerged, Unopened, Unfrozen, Unboarded, Different, Stopped, ReadFault, WriteFault, Unwritten, NoMemory, Absent}
 use Rattle.command_files.specs.Folder.{MayHold}
 use Rattle.command_files.specs.Source.{HoldsFaulty}
 
@@ -24,6 +24,7 @@ Crosses level name stored written old new (Unmerged fault) = ⊥
 Crosses level name stored written old new (Unopened fault) = ⊥
 Crosses level name stored written old new (Unfrozen fault) = ⊥
 Crosses level name stored written old new (Unboarded fault) = ⊥
+Crosses level name stored written old new (Different difference) = ⊥
 Crosses level name stored written old new (Stopped stop) = ⊥
 Crosses level name stored written old new ReadFault = new ≡ old
 -- nothing was printed, but what the sink held before wasn't handed on

@@ -2,13 +2,13 @@
 use Rattle.std.specs.Prelude.{◌≡◌, ℕ, ◌+◌, ◌<◌, List, [], length, take, Option, slice_index_or}
 use Rattle.std.specs.List.{AllZip}
 use Rattle.mpy_io.specs.Files.{FileOf, Becomes, BecomesFront}
-use Rattle.mpy_tree.specs.Raw.{Module}
-use Rattle.command_files.specs.mpy_merge.declared.fault.MergeFault.{MergeFault}
-use Rattle.command_files.specs.mpy_merge.Faults as merges
-use Rattle.command_files.specs.mpy_merge.AsMerge.{ReadsAsMerge}
-use Rattle.command_files.specs.mpy_merge.Merged.{IsMerged}
-use Rattle.command_files.specs.mpy_endings.declared.ending.Ending.{Ending}
-use Rattle.command_files.specs.mpy_endings.declared.ending.Ending.TheVariants.{Done, Unaccepted, Unread, Unverified, Unmerged, Unopened, Unfrozen, Unboarded, Stopped, ReadFault, WriteFault, Unwritten, NoMemory, Absent}
+use Rattle.mpy_writer.specs.mpy_tree.Raw.{Module}
+use Rattle.mpy_merge.specs.declared.fault.MergeFault.{MergeFault}
+use Rattle.mpy_merge.specs.Faults as merges
+use Rattle.mpy_merge.specs.AsMerge.{ReadsAsMerge}
+use Rattle.mpy_merge.specs.Merged.{IsMerged}
+use Rattle.mpy_endings.specs.declared.ending.Ending.{Ending}
+use Rattle.mpy_endings.specs.declared.ending.Ending.TheVariants.{Done, Unaccepted, Unread, Unverified, Unmerged, Unopened, Unfrozen, Unboarded, Different, Stopped, ReadFault, WriteFault, Unwritten, NoMemory, Absent}
 use Rattle.command_files.specs.Opened.{HoldsModule, Refuses}
 
 -- several files
@@ -28,10 +28,11 @@ pub record IsFirstRefused (files : Option FileOf) (names : List (List ℕ)) (pla
   pub before : HoldModules files (take at names) modules
   pub refused : Refuses files (slice_index_or names at []) ending
 
--- the bytes are the merged file of the modules of the files, which is read as the merge of their trees
+-- the bytes are the merged file of the modules of the files, which have no fault, and are read as the merge of their trees
 pub record HoldMerged (files : Option FileOf) (names : List (List ℕ)) (bytes : List ℕ) : Type 0 where
   pub modules : List Module
   pub hold : HoldModules files names modules
+  pub unmerged : (fault : MergeFault) → merges.FirstFault modules fault → ⊥
   pub merged : IsMerged modules bytes
   pub reads : ReadsAsMerge modules bytes
 
@@ -52,6 +53,7 @@ Merges names written old new place (Unmerged fault) = HoldUnmerged old names fau
 Merges names written old new place (Unopened fault) = ⊥
 Merges names written old new place (Unfrozen fault) = ⊥
 Merges names written old new place (Unboarded fault) = ⊥
+Merges names written old new place (Different difference) = ⊥
 Merges names written old new place (Stopped stop) = ⊥
 Merges names written old new place ReadFault = IsFirstRefused old names place ReadFault × (new ≡ old)
 -- nothing was printed, but what the sink held before wasn't handed on

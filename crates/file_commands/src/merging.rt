@@ -1,14 +1,19 @@
 //! The command `merge`: files are read and verified one after another, and their merged file is written.
 
-ghost use Rattle.std.specs.Prelude.{◌≡◌, map, string_bytes, false, IfOk, IfErr};
+ghost use Rattle.std.specs.Prelude.{◌≡◌, map, string_bytes, false, Err, IfOk, IfErr};
 ghost use Rattle.mpy_io.specs.Count.{Counts};
-ghost use Rattle.command_files.specs.mpy_endings.Ending.{is_folder_fault, is_out_fault};
+ghost use Rattle.mpy_merge.specs.AsMerge.{ReadsAsMerge};
+ghost use Rattle.mpy_merge.specs.Faults.{FirstFault};
+ghost use Rattle.mpy_merge.specs.Merged.{IsMerged};
+ghost use Rattle.mpy_endings.specs.Ending.{is_folder_fault, is_out_fault};
 ghost use Rattle.file_commands.specs.Merge.{HoldModules, IsFirstRefused, Merges};
 
 use bc_verify::Verified;
-use command_files::{Ended, Ending, merge, opened};
+use command_files::mpy_endings::{Ended, Ending};
+use command_files::opened;
 use mpy_base::Refused;
 use mpy_io::{Failed, Folder};
+use mpy_merge::{MergeFault, merge};
 use std::alloc::Global;
 
 /// The verified modules of the files of these names, or the first that isn't one of such.
@@ -44,6 +49,16 @@ fn all_opened<F: Folder>(
     Ok(modules)
 }
 
+/// The merged file of verified modules, which have no fault then, or the fault that comes first.
+fn merge_all(alloc: Global, modules: &[Verified]) -> Result<Vec<u8>, Refused<MergeFault>>
+    ensures merged { IfOk result (λ bytes. IsMerged modules.now bytes.items) }
+    ensures reads { IfOk result (λ bytes. ReadsAsMerge modules.now bytes.items) }
+    ensures unmerged { IfOk result (λ bytes. (fault : MergeFault) → FirstFault modules.now fault → ⊥) }
+    ensures first { (fault : MergeFault) → result ≡ Err (Refused.Fault fault) → FirstFault modules.now fault }
+{
+    merge(alloc, modules)
+}
+
 /// Writes the merged file of the files of these names.
 pub fn merge_files<F: Folder>(
     alloc: Global,
@@ -59,7 +74,7 @@ pub fn merge_files<F: Folder>(
         Ok(modules) => modules,
         Err(ended) => return ended,
     };
-    match merge(alloc, &modules) {
+    match merge_all(alloc, &modules) {
         Ok(bytes) => match folder.write(written, &bytes) {
             Ok(()) => Ended {
                 ending: Ending::Done,

@@ -9,14 +9,14 @@ use Rattle.mpy_base.specs.Fault.{too_long}
 use Rattle.mpy_io.specs.declared.fault.ReadFault.{ReadFault}
 use Rattle.mpy_io.specs.declared.fault.ReadFault.TheVariants as reads
 use Rattle.mpy_io.specs.Files.{FileOf, Reads}
-use Rattle.mpy_tree.specs.Raw.{Module}
-use Rattle.source_files.specs.mpy_compile.Compiled.{Compiles, CompilesTo, IsFault}
+use Rattle.image_open.specs.mpy_tree.Raw.{Module}
+use Rattle.mpy_compile.specs.Compiled.{Compiles, CompilesTo, IsFault}
 use Rattle.library_files.specs.Comes.{IsVerifiedFile}
 use Rattle.manifest_lines.specs.declared.entry.Entry.{Entry}
 use Rattle.image_freeze.specs.declared.named.Named.{Named}
-use Rattle.frozen_faults.specs.declared.fault.SourcesFault.{SourcesFault}
-use Rattle.frozen_faults.specs.declared.fault.SourcesFault.TheVariants.{Manifest, Absent, Unaccepted, Unread}
-use Rattle.frozen_faults.specs.Faults.{FaultIs}
+use Rattle.manifest_files.specs.declared.frozen_fault.SourcesFault.{SourcesFault}
+use Rattle.manifest_files.specs.declared.frozen_fault.SourcesFault.TheVariants.{Manifest, Absent, Unaccepted, Unread}
+use Rattle.manifest_files.specs.FrozenFaults.{FaultIs}
 use Rattle.frozen_files.specs.Sources.{MayHold, IsModuleOf, HoldsSource, IsFaulty, RefusesEntry}
 
 -- the module of the file that was compiled

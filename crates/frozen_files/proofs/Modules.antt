@@ -6,19 +6,21 @@ use Rattle.std.proofs.lemmas.List.Elements.{All-nil, All-cons, All-head, All-tai
 use Rattle.mpy_base.specs.declared.refused.Refused.{Refused}
 use Rattle.mpy_base.specs.declared.refused.Refused.TheVariants as refused
 use Rattle.mpy_io.specs.Files.{FileOf}
-use Rattle.mpy_tree.specs.File.{IsAscii}
-use Rattle.bc_verify.specs.Verified.{IsVerified}
+use Rattle.image_open.specs.mpy_tree.File.{IsAscii}
+use Rattle.image_open.specs.bc_verify.Verified.{IsVerified}
 use Rattle.manifest_lines.specs.declared.entry.Entry.{Entry}
 use Rattle.manifest_files.specs.declared.fault.ManifestFault.{ManifestFault}
 use Rattle.manifest_files.specs.Answers.{is_read_fault}
 use Rattle.manifest_files.specs.Entries.{IsFault}
 use Rattle.manifest_files.specs.Plain.{IsPlain}
-use Rattle.image_grammar.specs.Opening.{nothing_below}
-use Rattle.image_open.specs.Opens.{Opens, shelf_of}
+use Rattle.image_open.specs.bc_library.Shelf.{Shelf}
+use Rattle.manifest_files.specs.image_grammar.Base.{base_of}
+use Rattle.image_open.specs.Opens.{Opens, with_entries}
 use Rattle.image_freeze.specs.declared.named.Named.{Named}
-use Rattle.image_freeze.specs.Frozen.{entries_of, first_front, image_bytes}
-use Rattle.frozen_faults.specs.declared.fault.SourcesFault.{SourcesFault}
-use Rattle.frozen_faults.specs.Faults.{FaultIs, of_manifest}
+use Rattle.image_freeze.specs.Fronts.{front_of}
+use Rattle.image_freeze.specs.Frozen.{entries_of, image_bytes}
+use Rattle.manifest_files.specs.declared.frozen_fault.SourcesFault.{SourcesFault}
+use Rattle.manifest_files.specs.FrozenFaults.{FaultIs, of_manifest}
 use Rattle.frozen_files.specs.Frozen.{HoldsFrozen}
 use Rattle.frozen_files.specs.Sources.{MayList, RefusesManifest, HoldsSource, HoldsSources, RefusesEntry, IsFirstRefused, RefusesSource, RefusesSources}
 use Rattle.frozen_files.proofs.Lists.{zip_push, take_next, parts_at, take_all}
@@ -95,13 +97,14 @@ refuses_manifest files manifest refused.NoMemory h = tt
 -- the image
 -- =========
 
-pub is_frozen : (files : Option FileOf) (manifest : List ℕ) (modules given : List Named) (bytes : List ℕ) → given ≡ modules → HoldsSources files manifest modules → bytes ≡ image_bytes first_front nothing_below (entries_of given)
-    → (All (λ m. IsVerified m.held) given → Opens bytes (shelf_of (entries_of given))) → HoldsFrozen files manifest bytes
-is_frozen files manifest modules given bytes same sources written opens =
+pub is_frozen : (version : ℕ) (below : Shelf) (files : Option FileOf) (manifest : List ℕ) (modules given : List Named) (bytes : List ℕ) → given ≡ modules → HoldsSources files manifest modules
+    → bytes ≡ image_bytes (front_of version (base_of below)) (base_of below) (entries_of given)
+    → (All (λ m. IsVerified m.held) given → Opens below bytes (with_entries below (entries_of given))) → HoldsFrozen version below files manifest bytes
+is_frozen version below files manifest modules given bytes same sources written opens =
     let verified = all_verified files sources.entries modules sources.sources in
     record {
       modules = modules;
       sources = sources;
-      bytes_are = subst (λ (ms : List Named). bytes ≡ image_bytes first_front nothing_below (entries_of ms)) same written;
-      opens = subst (λ (ms : List Named). Opens bytes (shelf_of (entries_of ms))) same (opens (subst (All (λ m. IsVerified m.held)) (sym same) verified));
+      bytes_are = subst (λ (ms : List Named). bytes ≡ image_bytes (front_of version (base_of below)) (base_of below) (entries_of ms)) same written;
+      opens = subst (λ (ms : List Named). Opens below bytes (with_entries below (entries_of ms))) same (opens (subst (All (λ m. IsVerified m.held)) (sym same) verified));
     }

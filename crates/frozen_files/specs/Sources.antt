@@ -3,17 +3,17 @@ use Rattle.std.specs.Prelude.{◌≡◌, ◌⊎◌, ℕ, false, List, ◌∷◌,
 use Rattle.std.specs.List.{AllZip}
 use Rattle.mpy_base.specs.declared.source.SourceFault.{SourceFault}
 use Rattle.mpy_io.specs.Files.{FileOf}
-use Rattle.mpy_tree.specs.Raw.{Module}
-use Rattle.source_files.specs.mpy_compile.Compiled.{CompilesTo, IsFault}
+use Rattle.image_open.specs.mpy_tree.Raw.{Module}
+use Rattle.mpy_compile.specs.Compiled.{CompilesTo, IsFault}
 use Rattle.library_files.specs.Comes.{IsVerifiedFile}
 use Rattle.manifest_lines.specs.declared.entry.Entry.{Entry}
 use Rattle.manifest_files.specs.declared.fault.ManifestFault.{ManifestFault}
 use Rattle.manifest_files.specs.Answers.{is_read_fault}
 use Rattle.manifest_files.specs.Entries as manifests
 use Rattle.image_freeze.specs.declared.named.Named.{Named}
-use Rattle.frozen_faults.specs.declared.fault.SourcesFault.{SourcesFault}
-use Rattle.frozen_faults.specs.declared.fault.SourcesFault.TheVariants.{Manifest, Absent, Unaccepted, Unread}
-use Rattle.frozen_faults.specs.Faults.{of_manifest}
+use Rattle.manifest_files.specs.declared.frozen_fault.SourcesFault.{SourcesFault}
+use Rattle.manifest_files.specs.declared.frozen_fault.SourcesFault.TheVariants.{Manifest, Absent, Unaccepted, Unread}
+use Rattle.manifest_files.specs.FrozenFaults.{of_manifest}
 
 -- a folder that tells its files has this under the name
 abbrev pub MayHold : Option FileOf → List ℕ → Option (List ℕ) → Type 0

@@ -6,6 +6,6 @@ mod source;
 mod sources;
 
 pub use freezing::freeze_files;
-pub use frozen_faults::{FrozenFault, SourcesFault};
-pub use image_freeze::{freeze_law, freeze_on};
+pub use image_freeze;
+pub use source_files::{emit_module, mpy_compile};
 pub use sources::read_sources;

@@ -3,15 +3,15 @@
 ghost use Rattle.std.specs.Prelude.{◌≡◌, All, IfOk, IfErr};
 ghost use Rattle.std.specs.List.{AllZip};
 ghost use Rattle.mpy_io.specs.Count.{Counts};
-ghost use Rattle.mpy_tree.specs.File.{IsAscii};
+ghost use Rattle.image_open.specs.mpy_tree.File.{IsAscii};
 ghost use Rattle.manifest_files.specs.Plain.{IsPlain};
-ghost use Rattle.frozen_faults.specs.Faults.{FaultIs, failed_by, is_read_fault};
+ghost use Rattle.manifest_files.specs.FrozenFaults.{FaultIs, failed_by, is_read_fault};
 ghost use Rattle.frozen_files.specs.Sources.{MayList, RefusesManifest, HoldsSource, HoldsSources, IsFirstRefused, RefusesSources};
 
 use crate::source::source_module;
-use frozen_faults::{SourcesFault, of_manifest};
 use image_freeze::Named;
-use manifest_files::{Entry, collect};
+use manifest_files::{SourcesFault, collect, of_manifest};
+use manifest_lines::Entry;
 use mpy_base::Refused;
 use mpy_io::Folder;
 use std::alloc::Global;

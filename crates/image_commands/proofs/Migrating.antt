@@ -8,16 +8,16 @@ use Rattle.image_grammar.specs.declared.fault.ImageFault.{ImageFault}
 use Rattle.image_grammar.specs.declared.fault.ImageFault.TheVariants.{BadHeader, Truncated, BadNumber, BadModule, Twice, Trailing, TooBig, BadBase}
 use Rattle.image_grammar.specs.Image.{Differ}
 use Rattle.image_grammar.specs.Opening.{FirstFault, names_of, nothing_below}
-use Rattle.image_migrate.specs.image_freeze.Frozen.{FreezeFault, IsTooBig, IsTwice, second_front}
-use Rattle.image_migrate.specs.declared.fault.MigrateFault.{MigrateFault}
-use Rattle.image_migrate.specs.declared.fault.MigrateFault.TheVariants.{Opening, Freezing}
-use Rattle.image_migrate.specs.Migrated.{IsImageOf}
-use Rattle.base_library.specs.mpy_endings.declared.ending.Ending.{Ending}
-use Rattle.base_library.specs.mpy_endings.declared.ending.Ending.TheVariants.{Done, Unaccepted, Unread, Unverified, Unmerged, Unopened, Unfrozen, Unboarded, Stopped, ReadFault, WriteFault, Unwritten, NoMemory, Absent}
-use Rattle.base_library.specs.image_runs.declared.fault.MainFault.TheVariants as mains
-use Rattle.frozen_faults.specs.declared.fault.FrozenFault.TheVariants as frozen
-use Rattle.base_library.specs.command_files.Folder.{ChangesOnly, MayHold}
-use Rattle.base_library.proofs.command_files_lemmas.Others.{same_only, became_only, front_only}
+use Rattle.image_freeze.specs.Frozen.{FreezeFault, IsTooBig, IsTwice, second_front}
+use Rattle.image_freeze.specs.declared.fault.MigrateFault.{MigrateFault}
+use Rattle.image_freeze.specs.declared.fault.MigrateFault.TheVariants.{Opening, Freezing}
+use Rattle.image_freeze.specs.Migrated.{IsImageOf}
+use Rattle.mpy_endings.specs.declared.ending.Ending.{Ending}
+use Rattle.mpy_endings.specs.declared.ending.Ending.TheVariants.{Done, Unaccepted, Unread, Unverified, Unmerged, Unopened, Unfrozen, Unboarded, Different, Stopped, ReadFault, WriteFault, Unwritten, NoMemory, Absent}
+use Rattle.image_runs.specs.declared.fault.MainFault.TheVariants as mains
+use Rattle.manifest_files.specs.declared.frozen_fault.FrozenFault.TheVariants as frozen
+use Rattle.command_files.specs.Folder.{ChangesOnly, MayHold}
+use Rattle.command_files.proofs.Others.{same_only, became_only, front_only}
 use Rattle.image_commands.specs.Migrate.{Migrates, refused_end}
 
 -- modules of an image have different names, so they can only be too big for another one
@@ -73,6 +73,7 @@ migrates_only name written old new (Unopened (mains.NoMain main)) h = absurd h
 migrates_only name written old new (Unfrozen (frozen.Sources fault)) h = absurd h
 migrates_only name written old new (Unfrozen (frozen.Image fault)) h = same_only old new written h.2
 migrates_only name written old new (Unboarded fault) h = absurd h
+migrates_only name written old new (Different difference) h = absurd h
 migrates_only name written old new (Stopped stop) h = absurd h
 migrates_only name written old new ReadFault h = same_only old new written h
 migrates_only name written old new WriteFault h = became_only old new written h.0 h.2

@@ -3,19 +3,20 @@ use Rattle.std.specs.Prelude.{◌≡◌, ℕ, List, Option, Some, None}
 use Rattle.mpy_base.specs.declared.refused.Refused.{Refused}
 use Rattle.mpy_base.specs.declared.refused.Refused.TheVariants as refusals
 use Rattle.mpy_io.specs.Files.{FileOf, Becomes, BecomesFront}
+use Rattle.image_grammar.specs.bc_library.Shelf.{no_entries}
 use Rattle.image_grammar.specs.declared.entry.Entry.{Entry}
 use Rattle.image_grammar.specs.declared.fault.ImageFault.TheVariants.{TooBig}
 use Rattle.image_grammar.specs.Opening.{nothing_below}
-use Rattle.image_migrate.specs.image_freeze.Frozen.{IsTooBig, second_front}
-use Rattle.image_migrate.specs.declared.fault.MigrateFault.{MigrateFault}
-use Rattle.image_migrate.specs.declared.fault.MigrateFault.TheVariants.{Opening, Freezing}
-use Rattle.image_migrate.specs.Migrated.{IsImageOf, Migrates as MigratesTo}
-use Rattle.base_library.specs.image_runs.declared.fault.MainFault.TheVariants as mains
-use Rattle.frozen_faults.specs.declared.fault.FrozenFault.TheVariants as frozen
-use Rattle.base_library.specs.mpy_endings.declared.ending.Ending.{Ending}
-use Rattle.base_library.specs.mpy_endings.declared.ending.Ending.TheVariants.{Done, Unaccepted, Unread, Unverified, Unmerged, Unopened, Unfrozen, Unboarded, Stopped, ReadFault, WriteFault, Unwritten, NoMemory, Absent}
-use Rattle.base_library.specs.command_files.Folder.{MayHold, IsNotRead}
-use Rattle.base_library.specs.Base.{HoldsNoImage}
+use Rattle.image_freeze.specs.Frozen.{IsTooBig, second_front}
+use Rattle.image_freeze.specs.declared.fault.MigrateFault.{MigrateFault}
+use Rattle.image_freeze.specs.declared.fault.MigrateFault.TheVariants.{Opening, Freezing}
+use Rattle.image_freeze.specs.Migrated.{IsImageOf, Migrates as MigratesTo}
+use Rattle.image_runs.specs.declared.fault.MainFault.TheVariants as mains
+use Rattle.manifest_files.specs.declared.frozen_fault.FrozenFault.TheVariants as frozen
+use Rattle.mpy_endings.specs.declared.ending.Ending.{Ending}
+use Rattle.mpy_endings.specs.declared.ending.Ending.TheVariants.{Done, Unaccepted, Unread, Unverified, Unmerged, Unopened, Unfrozen, Unboarded, Different, Stopped, ReadFault, WriteFault, Unwritten, NoMemory, Absent}
+use Rattle.command_files.specs.Folder.{MayHold, IsNotRead}
+use Rattle.command_files.specs.Images.{HoldsNoImage}
 
 -- the bytes are the image of version 2 of the modules of the image under the name, which lies over nothing
 pub record HoldsMigrated (files : Option FileOf) (name out : List ℕ) : Type 0 where
@@ -44,11 +45,12 @@ Migrates name written old new (Unaccepted fault) = ⊥
 Migrates name written old new (Unread fault) = IsNotRead old name (Unread fault) × (new ≡ old)
 Migrates name written old new (Unverified fault) = ⊥
 Migrates name written old new (Unmerged fault) = ⊥
-Migrates name written old new (Unopened (mains.Image fault)) = HoldsNoImage old name fault × (new ≡ old)
+Migrates name written old new (Unopened (mains.Image fault)) = HoldsNoImage no_entries old name fault × (new ≡ old)
 Migrates name written old new (Unopened (mains.NoMain main)) = ⊥
 Migrates name written old new (Unfrozen (frozen.Sources fault)) = ⊥
 Migrates name written old new (Unfrozen (frozen.Image fault)) = (fault ≡ TooBig) × HoldsTooBig old name × (new ≡ old)
 Migrates name written old new (Unboarded fault) = ⊥
+Migrates name written old new (Different difference) = ⊥
 Migrates name written old new (Stopped stop) = ⊥
 Migrates name written old new ReadFault = new ≡ old
 -- nothing was printed, but what the sink held before wasn't handed on

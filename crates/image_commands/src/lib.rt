@@ -4,6 +4,5 @@
 mod freeze_command;
 mod migrate_command;
 
-pub use base_library::base_library;
 pub use freeze_command::freeze;
 pub use migrate_command::migrate;

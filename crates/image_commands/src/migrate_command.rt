@@ -2,12 +2,14 @@
 
 ghost use Rattle.std.specs.Prelude.{◌≡◌, false};
 ghost use Rattle.mpy_io.specs.Count.{Counts};
-ghost use Rattle.base_library.specs.mpy_endings.Ending.{is_folder_fault, is_out_fault};
+ghost use Rattle.mpy_endings.specs.Ending.{is_folder_fault, is_out_fault};
 ghost use Rattle.image_commands.specs.Migrate.{Migrates, refused_end};
 
-use base_library::{Ending, MainFault, read_file};
-use frozen_faults::FrozenFault;
-use image_migrate::{MigrateFault, migrate_image};
+use command_files::image_runs::MainFault;
+use command_files::mpy_endings::Ending;
+use command_files::read_file;
+use frozen_files::image_freeze::{MigrateFault, migrate_image};
+use manifest_files::FrozenFault;
 use mpy_base::Refused;
 use mpy_io::{Failed, Folder};
 use std::alloc::Global;

@@ -10,17 +10,17 @@ use Rattle.bc_ops.specs.declared.instr.Instr.{Instr}
 use Rattle.bc_ops.specs.declared.instr.Instr.TheVariants as instrs
 use Rattle.bc_ops.specs.declared.listing.Item.{Item}
 use Rattle.bc_ops.specs.declared.listing.Item.TheVariants as listed
-use Rattle.mpy_tree.specs.declared.raw.Qstr.{Qstr}
-use Rattle.mpy_tree.specs.declared.raw.RawCode.{RawCode, out-RawCode}
-use Rattle.mpy_tree.specs.Raw as raws
-use Rattle.mpy_tree.specs.Raw.{Module}
-use Rattle.mpy_tree.specs.Resolved.{Body, IsBody, Resolved, ResolvedModule, ResolveCodes, Resolves, ResolvesCode, Tree, Trees, name_at, named_at, named, no_more, more, node, plain, resolved, resolved_instr}
-use Rattle.bc_verify.specs.declared.fault.Rule.{Rule}
-use Rattle.bc_verify.specs.declared.fault.Rule.TheVariants as rules
-use Rattle.bc_verify.specs.Body as bodies
-use Rattle.bc_verify.specs.Rules.{Breaks, IsMissing, KeepsAll}
-use Rattle.bc_verify.specs.Verified.{AreVerified, IsVerified, IsVerifiedCode}
-use Rattle.image_grammar.specs.declared.entry.Entry.{Entry}
+use Rattle.mpy_writer.specs.mpy_tree.declared.raw.Qstr.{Qstr}
+use Rattle.mpy_writer.specs.mpy_tree.declared.raw.RawCode.{RawCode, out-RawCode}
+use Rattle.mpy_writer.specs.mpy_tree.Raw as raws
+use Rattle.mpy_writer.specs.mpy_tree.Raw.{Module}
+use Rattle.mpy_writer.specs.mpy_tree.Resolved.{Body, IsBody, Resolved, ResolvedModule, ResolveCodes, Resolves, ResolvesCode, Tree, Trees, name_at, named_at, named, no_more, more, node, plain, resolved, resolved_instr}
+use Rattle.image_open.specs.bc_verify.declared.fault.Rule.{Rule}
+use Rattle.image_open.specs.bc_verify.declared.fault.Rule.TheVariants as rules
+use Rattle.image_open.specs.bc_verify.Body as bodies
+use Rattle.image_open.specs.bc_verify.Rules.{Breaks, IsMissing, KeepsAll}
+use Rattle.image_open.specs.bc_verify.Verified.{AreVerified, IsVerified, IsVerifiedCode}
+use Rattle.image_open.specs.image_grammar.declared.entry.Entry.{Entry}
 use Rattle.image_freeze.specs.declared.named.Named.{Named}
 use Rattle.image_freeze.specs.Frozen.{entries_of, frozen, frozen_qstr}
 use Rattle.image_freeze.proofs.Pools.{same_text}

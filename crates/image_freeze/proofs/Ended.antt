@@ -7,13 +7,13 @@ use Rattle.mpy_base.specs.declared.refused.Refused.{Refused}
 use Rattle.mpy_base.specs.declared.refused.Refused.TheVariants as refusals
 use Rattle.mpy_base.specs.declared.limits.TheConstants.{MAX_DEPTH, MAX_IMAGE_BYTES, MAX_MODULES, MAX_TABLE}
 use Rattle.qstr_pool.specs.Pool.{Texts}
-use Rattle.mpy_tree.specs.Canonical.{code_bytes, object_bytes}
-use Rattle.bc_library.proofs.Pools.{longer}
-use Rattle.image_grammar.specs.declared.entry.Entry.{Entry}
-use Rattle.image_grammar.specs.declared.fault.ImageFault.{ImageFault}
-use Rattle.image_grammar.specs.declared.fault.ImageFault.TheVariants.{BadHeader, Truncated, BadNumber, BadModule, Twice, Trailing, TooBig, BadBase}
-use Rattle.image_grammar.specs.Image.{Differ, texts_used}
-use Rattle.image_grammar.specs.Opening.{Base, entry_of, names_of, pool_below}
+use Rattle.mpy_writer.specs.mpy_tree.Canonical.{code_bytes, object_bytes}
+use Rattle.image_open.proofs.bc_library_lemmas.Pools.{longer}
+use Rattle.image_open.specs.image_grammar.declared.entry.Entry.{Entry}
+use Rattle.image_open.specs.image_grammar.declared.fault.ImageFault.{ImageFault}
+use Rattle.image_open.specs.image_grammar.declared.fault.ImageFault.TheVariants.{BadHeader, Truncated, BadNumber, BadModule, Twice, Trailing, TooBig, BadBase}
+use Rattle.image_open.specs.image_grammar.Image.{Differ, texts_used}
+use Rattle.image_open.specs.image_grammar.Opening.{Base, entry_of, names_of, pool_below}
 use Rattle.image_freeze.specs.declared.named.Named.{Named}
 use Rattle.image_freeze.specs.Ends.{Ends, IsFrozen}
 use Rattle.image_freeze.specs.Frozen.{FreezeFault, IsTooBig, IsTwice, entries_of, entry_bytes, frozen, image_bytes, number_bytes, own_bytes, parts_of, pool_of, text_number}

@@ -2,7 +2,7 @@
 use Rattle.std.proofs.Common.{◌≡◌, Result, Ok, Err, IfOk, OnOk, sym, ap, subst, ◌∙◌}
 use Rattle.mpy_base.specs.declared.refused.Refused.{Refused}
 use Rattle.mpy_base.specs.declared.refused.Refused.TheVariants as refusals
-use Rattle.image_grammar.specs.declared.fault.ImageFault.{ImageFault}
+use Rattle.image_open.specs.image_grammar.declared.fault.ImageFault.{ImageFault}
 use Rattle.image_freeze.specs.Uses.{FaultIs, IfFault}
 
 -- a fault of which more is known

@@ -4,10 +4,10 @@ use Rattle.std.proofs.lemmas.List.{length-map}
 use Rattle.mpy_base.specs.declared.limits.TheConstants.{MAX_MODULES, MAX_TABLE}
 use Rattle.mpy_base.specs.Vuint.{vuint}
 use Rattle.mpy_base.proofs.Groups.{vuint_spells}
-use Rattle.bc_library.specs.Shelf.{Named, Shelf, names}
-use Rattle.image_grammar.specs.Image.{IsFront}
-use Rattle.image_grammar.specs.Opening.{Base}
-use Rattle.image_base.specs.Base.{base_of}
+use Rattle.image_open.specs.bc_library.Shelf.{Named, Shelf, names}
+use Rattle.image_open.specs.image_grammar.Image.{IsFront}
+use Rattle.image_open.specs.image_grammar.Opening.{Base}
+use Rattle.image_open.specs.image_grammar.Base.{base_of}
 use Rattle.image_freeze.specs.Fronts.{MayLieOver, front_of}
 
 abbrev pub start_of : ℕ → List ℕ

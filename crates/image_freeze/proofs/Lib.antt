@@ -1,12 +1,14 @@
+pub mod Alike
+pub mod Ended
 pub mod Exits
 pub mod Fronts
 pub mod Loops
+pub mod Migrated
 pub mod Parts
 pub mod Pools
+pub mod Same
 pub mod Shapes
-pub mod Twice
 pub mod Trees
+pub mod Twice
 pub mod Uses
 pub mod Whole
-pub mod Ended
-pub mod Alike

@@ -8,14 +8,14 @@ use Rattle.mpy_base.specs.declared.limits.TheConstants.{MAX_DEPTH}
 use Rattle.mpy_base.specs.Vuint.{vuint}
 use Rattle.qstr_pool.specs.Pool.{Texts, number_of}
 use Rattle.qstr_pool.specs.Static.{static_number_of}
-use Rattle.mpy_tree.specs.declared.module.Constant.{Constant}
-use Rattle.mpy_tree.specs.declared.raw.RawCode.{RawCode}
-use Rattle.mpy_tree.specs.declared.raw.Qstr.{Qstr}
-use Rattle.mpy_tree.specs.declared.raw.Qstr.TheVariants.{Static, Own}
-use Rattle.mpy_tree.specs.Raw.{Module}
-use Rattle.mpy_tree.specs.Canonical.{code_bytes, object_bytes}
+use Rattle.mpy_writer.specs.mpy_tree.declared.module.Constant.{Constant}
+use Rattle.mpy_writer.specs.mpy_tree.declared.raw.RawCode.{RawCode}
+use Rattle.mpy_writer.specs.mpy_tree.declared.raw.Qstr.{Qstr}
+use Rattle.mpy_writer.specs.mpy_tree.declared.raw.Qstr.TheVariants.{Static, Own}
+use Rattle.mpy_writer.specs.mpy_tree.Raw.{Module}
+use Rattle.mpy_writer.specs.mpy_tree.Canonical.{code_bytes, object_bytes}
 use Rattle.mpy_writer.specs.File.{entry_of as qstr_by}
-use Rattle.image_grammar.specs.Opening.{entry_of}
+use Rattle.image_open.specs.image_grammar.Opening.{entry_of}
 use Rattle.image_freeze.specs.declared.named.Named.{Named}
 use Rattle.image_freeze.specs.Frozen.{entries_of, entry_bytes, body_bytes, frozen, frozen_qstr, number_bytes, own_bytes, parts_of, qstr_number, text_number}
 

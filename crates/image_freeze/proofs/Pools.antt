@@ -15,20 +15,20 @@ use Rattle.qstr_pool.specs.declared.table.TheConstants.{FIRST_OWN, STATIC_COUNT}
 use Rattle.qstr_pool.specs.Pool.{Texts, interned, number_of, text_of}
 use Rattle.qstr_pool.specs.Static.{static_number_of, static_pool, static_text_of}
 use Rattle.qstr_pool.proofs.Pools.{one_to_one}
-use Rattle.mpy_tree.specs.declared.raw.Qstr.{Qstr}
-use Rattle.mpy_tree.specs.declared.raw.Qstr.TheVariants.{Static, Own}
-use Rattle.mpy_tree.specs.Raw as raws
-use Rattle.mpy_tree.specs.Raw.{Module}
-use Rattle.mpy_tree.specs.File.{IsAscii, IsModule}
+use Rattle.mpy_writer.specs.mpy_tree.declared.raw.Qstr.{Qstr}
+use Rattle.mpy_writer.specs.mpy_tree.declared.raw.Qstr.TheVariants.{Static, Own}
+use Rattle.mpy_writer.specs.mpy_tree.Raw as raws
+use Rattle.mpy_writer.specs.mpy_tree.Raw.{Module}
+use Rattle.mpy_writer.specs.mpy_tree.File.{IsAscii, IsModule}
 use Rattle.mpy_writer.specs.File.{entry_of, qstr_of}
 use Rattle.mpy_writer.proofs.Lists.{together}
-use Rattle.bc_library.specs.Fine.{FineQstr}
-use Rattle.bc_library.specs.Own.{IsOwnPool}
-use Rattle.bc_library.specs.Texts.{IsPlain, last_part, text_numbered, texts_of, with_text, with_texts}
-use Rattle.bc_library.proofs.Files.{fine_qstrs}
-use Rattle.bc_library.proofs.Pools.{same_first, text_there, with_append, with_own, with_static}
-use Rattle.image_grammar.specs.Image.{IsOwnText, texts_used}
-use Rattle.image_grammar.specs.Opening.{Base, number_in, pool_below}
+use Rattle.image_open.specs.bc_library.Fine.{FineQstr}
+use Rattle.image_open.specs.bc_library.Own.{IsOwnPool}
+use Rattle.image_open.specs.bc_library.Texts.{IsPlain, last_part, text_numbered, texts_of, with_text, with_texts}
+use Rattle.image_open.proofs.bc_library_lemmas.Files.{fine_qstrs}
+use Rattle.image_open.proofs.bc_library_lemmas.Pools.{same_first, text_there, with_append, with_own, with_static}
+use Rattle.image_open.specs.image_grammar.Image.{IsOwnText, texts_used}
+use Rattle.image_open.specs.image_grammar.Opening.{Base, number_in, pool_below}
 use Rattle.image_open.proofs.Found.{numbered_is}
 use Rattle.image_open.proofs.Turns.{begins}
 use Rattle.image_open.proofs.Uses.{IsProper, place_of}

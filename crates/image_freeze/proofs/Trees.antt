@@ -5,13 +5,13 @@ use Rattle.std.specs.List.{flat_map, AllByRecursion}
 use Rattle.mpy_base.specs.Vuint.{vuint}
 use Rattle.mpy_base.specs.declared.limits.TheConstants.{MAX_CODE_BYTES, MAX_TABLE}
 use Rattle.mpy_base.proofs.Groups.{vuint_spells}
-use Rattle.mpy_tree.specs.declared.raw.RawCode.{RawCode, out-RawCode, roll-RawCode, roll-out-RawCode}
-use Rattle.mpy_tree.specs.File.{header_of, AreChildren, IsCode}
-use Rattle.mpy_tree.specs.Canonical.{has_some, children_bytes, code_bytes}
+use Rattle.mpy_writer.specs.mpy_tree.declared.raw.RawCode.{RawCode, out-RawCode, roll-RawCode, roll-out-RawCode}
+use Rattle.mpy_writer.specs.mpy_tree.File.{header_of, AreChildren, IsCode}
+use Rattle.mpy_writer.specs.mpy_tree.Canonical.{has_some, children_bytes, code_bytes}
 use Rattle.mpy_writer.proofs.Spelled.{many_spelled}
-use Rattle.merge_codes.specs.Heads.{head_of}
-use Rattle.mpy_tree.proofs.Codes.{Nests, children, whole, get_at}
-use Rattle.merge_codes.proofs.Trees.{head_is}
+use Rattle.mpy_merge.specs.Heads.{head_of}
+use Rattle.mpy_writer.proofs.mpy_tree_lemmas.Codes.{Nests, children, whole, get_at}
+use Rattle.mpy_merge.proofs.Trees.{head_is}
 use Rattle.image_freeze.proofs.Loops.{each_of, added_all}
 
 -- it is spelled so

@@ -8,9 +8,9 @@ use Rattle.std.proofs.lemmas.List.{append-nil, at_drop_more, take_more}
 use Rattle.std.proofs.lemmas.List.Elements.{Contains-append_left, Contains-append_right, Contains-append_cases}
 use Rattle.std.proofs.lemmas.List.Folds.{list_any_at}
 use Rattle.std.proofs.lemmas.Slice.Eq.{bytes_eq-Decides}
-use Rattle.bc_library.specs.Shelf.{Shelf, names}
-use Rattle.image_grammar.specs.Image.{Differ}
-use Rattle.image_grammar.proofs.Steps.{not_true}
+use Rattle.image_open.specs.bc_library.Shelf.{Shelf, names}
+use Rattle.image_open.specs.image_grammar.Image.{Differ}
+use Rattle.image_open.proofs.image_grammar_lemmas.Steps.{not_true}
 use Rattle.image_freeze.specs.declared.named.Named.{Named}
 use Rattle.image_freeze.specs.Frozen.{IsTwice}
 

@@ -6,11 +6,11 @@ use Rattle.std.proofs.lemmas.List.{at_drop_more}
 use Rattle.mpy_base.specs.declared.refused.Refused.{Refused}
 use Rattle.mpy_base.specs.declared.limits.TheConstants.{MAX_TABLE}
 use Rattle.qstr_pool.specs.Pool.{Texts}
-use Rattle.mpy_tree.specs.declared.raw.Qstr.{Qstr}
-use Rattle.mpy_tree.specs.Raw as raws
-use Rattle.bc_library.specs.Texts.{last_part, with_text, with_texts}
-use Rattle.bc_library.proofs.Pools.{longer, with_append}
-use Rattle.image_grammar.specs.declared.fault.ImageFault.{ImageFault}
+use Rattle.mpy_writer.specs.mpy_tree.declared.raw.Qstr.{Qstr}
+use Rattle.mpy_writer.specs.mpy_tree.Raw as raws
+use Rattle.image_open.specs.bc_library.Texts.{last_part, with_text, with_texts}
+use Rattle.image_open.proofs.bc_library_lemmas.Pools.{longer, with_append}
+use Rattle.image_open.specs.image_grammar.declared.fault.ImageFault.{ImageFault}
 use Rattle.image_freeze.specs.Uses.{FaultIs, IfFault, PassesTable}
 use Rattle.image_freeze.proofs.Exits.{exit}
 

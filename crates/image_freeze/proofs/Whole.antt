@@ -11,26 +11,26 @@ use Rattle.qstr_pool.specs.declared.table.TheConstants.{FIRST_OWN, STATIC_COUNT}
 use Rattle.qstr_pool.specs.Pool.{Texts, number_of, text_of}
 use Rattle.qstr_pool.specs.Static.{static_number_of}
 use Rattle.qstr_pool.proofs.Pools.{one_to_one}
-use Rattle.mpy_tree.specs.declared.module.Constant.{Constant}
-use Rattle.mpy_tree.specs.declared.raw.Qstr.{Qstr}
-use Rattle.mpy_tree.specs.declared.raw.Qstr.TheVariants.{Static, Own}
-use Rattle.mpy_tree.specs.declared.raw.RawCode.{RawCode}
-use Rattle.mpy_tree.specs.Raw as raws
-use Rattle.mpy_tree.specs.Raw.{Module}
-use Rattle.mpy_tree.specs.Canonical.{code_bytes, object_bytes}
-use Rattle.mpy_tree.specs.File.{IsAscii, IsCode, IsModule, IsObject}
-use Rattle.mpy_reader.specs.Body.{IsBody}
+use Rattle.mpy_writer.specs.mpy_tree.declared.module.Constant.{Constant}
+use Rattle.mpy_writer.specs.mpy_tree.declared.raw.Qstr.{Qstr}
+use Rattle.mpy_writer.specs.mpy_tree.declared.raw.Qstr.TheVariants.{Static, Own}
+use Rattle.mpy_writer.specs.mpy_tree.declared.raw.RawCode.{RawCode}
+use Rattle.mpy_writer.specs.mpy_tree.Raw as raws
+use Rattle.mpy_writer.specs.mpy_tree.Raw.{Module}
+use Rattle.mpy_writer.specs.mpy_tree.Canonical.{code_bytes, object_bytes}
+use Rattle.mpy_writer.specs.mpy_tree.File.{IsAscii, IsCode, IsModule, IsObject}
+use Rattle.image_open.specs.mpy_reader.Body.{IsBody}
 use Rattle.mpy_writer.specs.File.{entry_of as qstr_by}
 use Rattle.mpy_writer.specs.Writable.{IsFine}
 use Rattle.mpy_writer.proofs.Lists.{all_of}
 use Rattle.mpy_writer.proofs.Spelled.{many_spelled, object_spelled}
-use Rattle.bc_library.specs.Fine.{FineQstr}
-use Rattle.bc_library.specs.Texts.{last_part, text_numbered, texts_of, with_text, with_texts}
-use Rattle.bc_library.proofs.Pools.{with_append}
-use Rattle.image_grammar.specs.declared.entry.Entry.{Entry}
-use Rattle.image_grammar.specs.Image.{Differ, IsEntry, IsFront, IsImage, IsNamed, IsOwnText, texts_used}
-use Rattle.image_grammar.specs.Opening.{Base, entry_of, names_of, number_in, pool_below}
-use Rattle.image_base.proofs.Texts.{static_few}
+use Rattle.image_open.specs.bc_library.Fine.{FineQstr}
+use Rattle.image_open.specs.bc_library.Texts.{last_part, text_numbered, texts_of, with_text, with_texts}
+use Rattle.image_open.proofs.bc_library_lemmas.Pools.{with_append}
+use Rattle.image_open.specs.image_grammar.declared.entry.Entry.{Entry}
+use Rattle.image_open.specs.image_grammar.Image.{Differ, IsEntry, IsFront, IsImage, IsNamed, IsOwnText, texts_used}
+use Rattle.image_open.specs.image_grammar.Opening.{Base, entry_of, names_of, number_in, pool_below}
+use Rattle.image_open.proofs.image_grammar_lemmas.BaseTexts.{static_few}
 use Rattle.image_open.proofs.Found.{numbered_is, static_from_one}
 use Rattle.image_open.proofs.Turns.{has_number}
 use Rattle.image_open.proofs.Uses.{IsProper}

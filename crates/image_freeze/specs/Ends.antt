@@ -2,10 +2,10 @@
 use Rattle.std.specs.Prelude.{◌≡◌, ℕ, ◌+◌, ◌≤◌, List, length, Result, Ok, Err}
 use Rattle.mpy_base.specs.declared.refused.Refused.{Refused}
 use Rattle.mpy_base.specs.declared.limits.TheConstants.{MAX_IMAGE_BYTES, MAX_MODULES, MAX_TABLE}
-use Rattle.image_grammar.specs.declared.entry.Entry.{Entry}
-use Rattle.image_grammar.specs.declared.fault.ImageFault.{ImageFault}
-use Rattle.image_grammar.specs.Image.{Differ}
-use Rattle.image_grammar.specs.Opening.{Base, names_of}
+use Rattle.image_open.specs.image_grammar.declared.entry.Entry.{Entry}
+use Rattle.image_open.specs.image_grammar.declared.fault.ImageFault.{ImageFault}
+use Rattle.image_open.specs.image_grammar.Image.{Differ}
+use Rattle.image_open.specs.image_grammar.Opening.{Base, names_of}
 use Rattle.image_freeze.specs.Frozen.{FreezeFault, image_bytes, pool_of}
 use Rattle.image_freeze.specs.Uses.{FaultIs}
 

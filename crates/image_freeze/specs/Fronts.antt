@@ -1,6 +1,6 @@
 -- The front of an image by its version.
 use Rattle.std.specs.Prelude.{◌≡◌, ◌⊎◌, ℕ, List, [], ◌==◌, if◌then◌else◌}
-use Rattle.image_grammar.specs.Opening.{Base}
+use Rattle.image_open.specs.image_grammar.Opening.{Base}
 use Rattle.image_freeze.specs.Frozen.{first_front, second_front}
 
 -- the front of an image of that version

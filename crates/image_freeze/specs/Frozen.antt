@@ -4,17 +4,17 @@ use Rattle.std.specs.List.{flat_map}
 use Rattle.mpy_base.specs.declared.limits.TheConstants.{MAX_DEPTH, MAX_IMAGE_BYTES, MAX_MODULES, MAX_TABLE}
 use Rattle.mpy_base.specs.Vuint.{vuint}
 use Rattle.qstr_pool.specs.Pool.{Texts}
-use Rattle.mpy_tree.specs.declared.raw.Qstr.{Qstr}
-use Rattle.mpy_tree.specs.declared.raw.Qstr.TheVariants.{Static, Own}
-use Rattle.mpy_tree.specs.Raw.{Module}
-use Rattle.mpy_tree.specs.Canonical.{code_bytes, object_bytes}
+use Rattle.mpy_writer.specs.mpy_tree.declared.raw.Qstr.{Qstr}
+use Rattle.mpy_writer.specs.mpy_tree.declared.raw.Qstr.TheVariants.{Static, Own}
+use Rattle.mpy_writer.specs.mpy_tree.Raw.{Module}
+use Rattle.mpy_writer.specs.mpy_tree.Canonical.{code_bytes, object_bytes}
 use Rattle.mpy_writer.specs.File.{qstr_of}
-use Rattle.bc_library.specs.Texts.{with_texts}
-use Rattle.image_grammar.specs.declared.entry.Entry.{Entry}
-use Rattle.image_grammar.specs.declared.fault.ImageFault.{ImageFault}
-use Rattle.image_grammar.specs.declared.fault.ImageFault.TheVariants.{BadHeader, Truncated, BadNumber, BadModule, Twice, Trailing, TooBig, BadBase}
-use Rattle.image_grammar.specs.Image.{Differ, texts_used}
-use Rattle.image_grammar.specs.Opening.{Base, entry_of, names_of, number_in, pool_below}
+use Rattle.image_open.specs.bc_library.Texts.{with_texts}
+use Rattle.image_open.specs.image_grammar.declared.entry.Entry.{Entry}
+use Rattle.image_open.specs.image_grammar.declared.fault.ImageFault.{ImageFault}
+use Rattle.image_open.specs.image_grammar.declared.fault.ImageFault.TheVariants.{BadHeader, Truncated, BadNumber, BadModule, Twice, Trailing, TooBig, BadBase}
+use Rattle.image_open.specs.image_grammar.Image.{Differ, texts_used}
+use Rattle.image_open.specs.image_grammar.Opening.{Base, entry_of, names_of, number_in, pool_below}
 use Rattle.image_freeze.specs.declared.named.Named.{Named}
 
 -- a module as an image holds it: a text that every file may name has its number, and small integers have 31 bits

@@ -4,9 +4,9 @@ use Rattle.mpy_base.specs.declared.refused.Refused.{Refused}
 use Rattle.mpy_base.specs.declared.refused.Refused.TheVariants as refused
 use Rattle.mpy_base.specs.declared.limits.TheConstants.{MAX_TABLE}
 use Rattle.qstr_pool.specs.Pool.{Texts}
-use Rattle.bc_library.specs.Texts.{with_texts}
-use Rattle.image_grammar.specs.declared.fault.ImageFault.{ImageFault}
-use Rattle.image_grammar.specs.declared.fault.ImageFault.TheVariants.{TooBig}
+use Rattle.image_open.specs.bc_library.Texts.{with_texts}
+use Rattle.image_open.specs.image_grammar.declared.fault.ImageFault.{ImageFault}
+use Rattle.image_open.specs.image_grammar.declared.fault.ImageFault.TheVariants.{TooBig}
 
 -- a fault of the call is such a one
 abbrev pub FaultIs : Refused ImageFault → (ImageFault → Type 0) → Type 0

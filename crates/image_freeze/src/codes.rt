@@ -1,12 +1,12 @@
 //! Codes as an image has them.
 
 ghost use Rattle.std.specs.Prelude.{◌≡◌, ◌++◌, ℕ, List, OnOk};
-ghost use Rattle.mpy_tree.specs.Canonical.{code_bytes};
-ghost use Rattle.mpy_tree.specs.File.{IsCode};
+ghost use Rattle.mpy_writer.specs.mpy_tree.Canonical.{code_bytes};
+ghost use Rattle.mpy_writer.specs.mpy_tree.File.{IsCode};
 
-use merge_codes::write_head;
 use mpy_base::NoMemory;
-use mpy_tree::RawCode;
+use mpy_merge::write_head;
+use mpy_writer::mpy_tree::RawCode;
 
 /// Adds a code and those in it, of at most `levels` levels, each with the bytes that it has.
 pub(crate) fn write_tree(out: &mut Vec<u8>, code: &RawCode, levels: usize) -> Result<(), NoMemory>

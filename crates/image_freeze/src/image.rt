@@ -1,30 +1,27 @@
-//! Images of modules, made over nothing or over a library.
+//! Images of modules, made over a library.
 
 ghost use Rattle.std.specs.Prelude.{◌≡◌, ◌⊎◌, ◌+◌, ◌<◌, ◌≤◌, ◌^◌, ◌++◌, [], length, drop, map, All, IfOk, OnOk, Err};
 ghost use Rattle.mpy_base.specs.declared.limits.TheConstants.{MAX_IMAGE_BYTES, MAX_MODULES, MAX_TABLE};
 ghost use Rattle.mpy_base.specs.Vuint.{vuint};
 ghost use Rattle.qstr_pool.specs.declared.table.TheConstants.{FIRST_OWN};
-ghost use Rattle.mpy_tree.specs.File.{IsAscii, IsModule};
+ghost use Rattle.mpy_writer.specs.mpy_tree.File.{IsAscii, IsModule};
 ghost use Rattle.mpy_writer.specs.Writable.{IsFine};
-ghost use Rattle.bc_verify.specs.Verified.{IsVerified};
-ghost use Rattle.bc_library.specs.Shelf.{names};
-ghost use Rattle.image_base.specs.Base.{base_of};
-ghost use Rattle.image_grammar.specs.Image.{Differ, IsImage};
-ghost use Rattle.image_grammar.specs.Opening.{nothing_below};
-ghost use Rattle.image_open.specs.Opens.{Opens, shelf_of};
-ghost use Rattle.image_open.specs.OpensOn.{OpensOn, with_entries};
+ghost use Rattle.image_open.specs.bc_verify.Verified.{IsVerified};
+ghost use Rattle.image_open.specs.bc_library.Shelf.{names};
+ghost use Rattle.image_open.specs.image_grammar.Base.{base_of};
+ghost use Rattle.image_open.specs.image_grammar.Image.{Differ, IsImage};
+ghost use Rattle.image_open.specs.Opens.{Opens, with_entries};
 ghost use Rattle.image_freeze.specs.Ends.{Ends};
 ghost use Rattle.image_freeze.specs.Fronts.{MayLieOver, front_of};
-ghost use Rattle.image_freeze.specs.Frozen.{FreezeFault, entries_of, first_front, image_bytes, parts_of, second_front};
+ghost use Rattle.image_freeze.specs.Frozen.{FreezeFault, entries_of, image_bytes, parts_of};
 
 use crate::modules::{modules_law, write_modules};
 use crate::named::Named;
 use crate::names::{first_twice, twice};
 use crate::objects::objects_are_short;
 use crate::texts::{make_pool, texts_are_short, texts_below, write_texts};
-use bc_library::{Library, library_law};
-use image_base::count_modules;
-use image_grammar::ImageFault;
+use image_open::bc_library::{Library, library_law};
+use image_open::image_grammar::{ImageFault, count_modules};
 use mpy_base::limits::{MAX_DEPTH, MAX_IMAGE_BYTES, MAX_MODULES};
 use mpy_base::{NoMemory, Refused, write_vuint};
 use qstr_pool::{Pool, pool_law};
@@ -156,62 +153,33 @@ fn image_or_fault(
     }
 }
 
-/// The image of modules over nothing, or its fault.
-fn first_image(alloc: Global, modules: &[Named]) -> Result<Vec<u8>, Refused<ImageFault>>
-    requires ascii { All (λ m. IsAscii m.name) modules.now }
-    requires read { All (λ m. IsModule m.held) modules.now }
-    ensures ends { Ends first_front nothing_below (entries_of modules.now) (λ bytes. bytes.items) result }
-    ensures image { IfOk result (λ bytes. IsImage nothing_below (entries_of modules.now) bytes.items) }
-{
-    let nothing = Library::new(alloc)?;
-    image_or_fault(alloc, 1, &nothing, modules)
-}
-
-/// Writes modules as an image of version 1 that lies over nothing. They needn't be verified.
-pub fn freeze(alloc: Global, modules: &[Named]) -> Result<Vec<u8>, Refused<ImageFault>>
-    requires ascii { All (λ m. IsAscii m.name) modules.now }
-
-    // The bytes are an image of the modules, where each text that every file may name has its number, and are opened as
-    // the library of these if they are verified.
-    ensures written { IfOk result (λ bytes. bytes.items ≡ image_bytes first_front nothing_below (entries_of modules.now)) }
-    ensures image { IfOk result (λ bytes. IsImage nothing_below (entries_of modules.now) bytes.items) }
-    ensures opens { All (λ m. IsVerified m.held) modules.now
-        → IfOk result (λ bytes. Opens bytes.items (shelf_of (entries_of modules.now))) }
-
-    // A fault comes exactly where there is one, unless memory runs out.
-    ensures first { (fault : ImageFault) → result ≡ Err (Refused.Fault fault)
-        → FreezeFault first_front nothing_below (entries_of modules.now) fault }
-    ensures fault { (fault : ImageFault) → FreezeFault first_front nothing_below (entries_of modules.now) fault
-        → (result ≡ Err (Refused.Fault fault)) ⊎ (result ≡ Err Refused.NoMemory) }
-{
-    modules_law(modules);
-    first_image(alloc, modules)
-}
-
-/// Writes modules as an image of version 2 over the library, of whose texts they use the numbers. They needn't be verified.
-pub fn freeze_on(
+/// Writes modules as an image over the library, of whose texts they use the numbers: of version 1 over a library of no texts and
+/// modules, or of version 2. They needn't be verified.
+pub fn freeze(
     alloc: Global,
+    version: u8,
     below: &Library,
     modules: &[Named],
 ) -> Result<Vec<u8>, Refused<ImageFault>>
+    requires version { MayLieOver (base_of below.now) version }
     requires alone { below.now.refused ≡ [] }
     requires ascii { All (λ m. IsAscii m.name) modules.now }
 
-    // The bytes are an image of the modules over the library, and are opened over it as the library of its modules and
-    // these if they are verified.
+    // The bytes are an image of the modules over the library, where each text that every file may name has its number, and are
+    // opened over it as the library of its modules and these if they are verified.
     ensures written { IfOk result (λ bytes. bytes.items
-        ≡ image_bytes (second_front (base_of below.now)) (base_of below.now) (entries_of modules.now)) }
+        ≡ image_bytes (front_of version (base_of below.now)) (base_of below.now) (entries_of modules.now)) }
     ensures image { IfOk result (λ bytes. IsImage (base_of below.now) (entries_of modules.now) bytes.items) }
     ensures opens { All (λ m. IsVerified m.held) modules.now
-        → IfOk result (λ bytes. OpensOn below.now bytes.items (with_entries below.now (entries_of modules.now))) }
+        → IfOk result (λ bytes. Opens below.now bytes.items (with_entries below.now (entries_of modules.now))) }
 
     // A fault comes exactly where there is one, unless memory runs out.
     ensures first { (fault : ImageFault) → result ≡ Err (Refused.Fault fault)
-        → FreezeFault (second_front (base_of below.now)) (base_of below.now) (entries_of modules.now) fault }
+        → FreezeFault (front_of version (base_of below.now)) (base_of below.now) (entries_of modules.now) fault }
     ensures fault { (fault : ImageFault)
-        → FreezeFault (second_front (base_of below.now)) (base_of below.now) (entries_of modules.now) fault
+        → FreezeFault (front_of version (base_of below.now)) (base_of below.now) (entries_of modules.now) fault
         → (result ≡ Err (Refused.Fault fault)) ⊎ (result ≡ Err Refused.NoMemory) }
 {
     modules_law(modules);
-    image_or_fault(alloc, 2, below, modules)
+    image_or_fault(alloc, version, below, modules)
 }

@@ -4,15 +4,14 @@ ghost use Rattle.std.specs.Prelude.{◌≡◌, ◌↔◌, ◌⊎◌, [], ◌++�
 ghost use Rattle.std.specs.List.{list_any};
 ghost use Rattle.std.specs.Str.{bytes_eq};
 ghost use Rattle.mpy_base.specs.declared.refused.Refused.TheVariants as refused;
-ghost use Rattle.image_grammar.specs.declared.fault.ImageFault.TheVariants as faults;
-ghost use Rattle.bc_library.specs.Shelf.{names};
-ghost use Rattle.image_grammar.specs.Image.{Differ};
+ghost use Rattle.image_open.specs.image_grammar.declared.fault.ImageFault.TheVariants as faults;
+ghost use Rattle.image_open.specs.bc_library.Shelf.{names};
+ghost use Rattle.image_open.specs.image_grammar.Image.{Differ};
 ghost use Rattle.image_freeze.specs.Frozen.{IsTwice};
 
 use crate::named::Named;
-use bc_library::Library;
-use image_base::has_name;
-use image_grammar::ImageFault;
+use image_open::bc_library::Library;
+use image_open::image_grammar::{ImageFault, has_name};
 use mpy_base::{Refused, Text};
 use std::alloc::Global;
 

@@ -2,13 +2,13 @@
 
 ghost use Rattle.std.specs.Prelude.{◌≡◌, ◌<◌, ℕ, List, length, All, false, IsTrue};
 ghost use Rattle.std.specs.List.{flat_map};
-ghost use Rattle.mpy_tree.specs.Canonical.{object_bytes};
-ghost use Rattle.mpy_tree.specs.File.{IsModule, IsObject};
+ghost use Rattle.mpy_writer.specs.mpy_tree.Canonical.{object_bytes};
+ghost use Rattle.mpy_writer.specs.mpy_tree.File.{IsModule, IsObject};
 ghost use Rattle.mpy_writer.specs.Writable.{IsFine};
 
 use crate::named::Named;
 use mpy_base::limits::{MAX_DEPTH, MAX_IMAGE_BYTES};
-use mpy_tree::Constant;
+use mpy_writer::mpy_tree::Constant;
 
 /// Tells whether no text in an object, of at most `levels` levels of tuples, is longer than an image may be.
 fn is_short(object: &Constant, levels: usize) -> bool

@@ -15,11 +15,11 @@ use Rattle.mpy_base.specs.Vuint.{Spells, vuint}
 use Rattle.mpy_base.proofs.Groups as groups
 use Rattle.qstr_pool.specs.declared.table.TheConstants.{STATIC_COUNT, FIRST_OWN}
 use Rattle.qstr_pool.specs.Pool.{Texts}
-use Rattle.mpy_tree.specs.declared.raw.Qstr.{Qstr}
-use Rattle.mpy_tree.specs.declared.raw.Qstr.TheVariants.{Static, Own}
-use Rattle.mpy_tree.specs.declared.module.Constant.{Constant}
-use Rattle.mpy_tree.specs.declared.raw.RawCode.{RawCode}
-use Rattle.mpy_tree.specs.File.{Many, IsQstr, IsCode, IsModule}
+use Rattle.mpy_reader.specs.mpy_tree.declared.raw.Qstr.{Qstr}
+use Rattle.mpy_reader.specs.mpy_tree.declared.raw.Qstr.TheVariants.{Static, Own}
+use Rattle.mpy_reader.specs.mpy_tree.declared.module.Constant.{Constant}
+use Rattle.mpy_reader.specs.mpy_tree.declared.raw.RawCode.{RawCode}
+use Rattle.mpy_reader.specs.mpy_tree.File.{Many, IsQstr, IsCode, IsModule}
 use Rattle.mpy_reader.specs.Body.{IsBody}
 use Rattle.mpy_reader.proofs.Bodies.{body_found}
 use Rattle.bc_library.proofs.Pools.{below_first, from_first_own, text_there}

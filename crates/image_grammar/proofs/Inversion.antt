@@ -1,7 +1,7 @@
 -- What was read step by step.
 use Rattle.std.proofs.Common.{◌≡◌, ◌⊎◌, ℕ, zero, suc, ◌+◌, Bool, true, false, List, [], ◌∷◌, ◌++◌, Result, Ok, Err, refl, sym, ap, subst, ◌∙◌, append_assoc, inl, inr, arith}
 use Rattle.std.proofs.lemmas.List.{append-nil}
-use Rattle.mpy_tree.specs.File.{Many}
+use Rattle.mpy_reader.specs.mpy_tree.File.{Many}
 use Rattle.image_grammar.specs.declared.fault.ImageFault.{ImageFault}
 use Rattle.image_grammar.specs.Steps.{Reading, Field, Bind, goes_on, stops, judge, choose, times}
 

@@ -3,7 +3,7 @@ use Rattle.std.specs.Prelude.{◌≡◌, ℕ, ◌≤◌, List, length, All}
 use Rattle.mpy_base.specs.declared.limits.TheConstants.{MAX_IMAGE_BYTES}
 use Rattle.qstr_pool.specs.declared.table.TheConstants.{FIRST_OWN}
 use Rattle.qstr_pool.specs.Pool.{Texts}
-use Rattle.mpy_tree.specs.File.{IsAscii}
+use Rattle.mpy_reader.specs.mpy_tree.File.{IsAscii}
 
 -- ASCII, and no longer than an image
 pub record IsFineText (text : List ℕ) : Type 0 where

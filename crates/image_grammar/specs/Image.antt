@@ -5,9 +5,9 @@ use Rattle.mpy_base.specs.declared.limits.TheConstants.{MAX_IMAGE_BYTES, MAX_MOD
 use Rattle.mpy_base.specs.Vuint.{Spells}
 use Rattle.qstr_pool.specs.declared.table.TheConstants.{STATIC_COUNT}
 use Rattle.qstr_pool.specs.Pool.{Texts, text_of}
-use Rattle.mpy_tree.specs.declared.raw.Qstr.{Qstr}
-use Rattle.mpy_tree.specs.declared.raw.Qstr.TheVariants.{Static, Own}
-use Rattle.mpy_tree.specs.File.{Many, IsAscii}
+use Rattle.mpy_reader.specs.mpy_tree.declared.raw.Qstr.{Qstr}
+use Rattle.mpy_reader.specs.mpy_tree.declared.raw.Qstr.TheVariants.{Static, Own}
+use Rattle.mpy_reader.specs.mpy_tree.File.{Many, IsAscii}
 use Rattle.mpy_reader.specs.Body.{IsBody}
 use Rattle.bc_library.specs.Texts.{text_numbered, texts_of, with_texts}
 use Rattle.image_grammar.specs.declared.entry.Entry.{Entry}

@@ -7,16 +7,16 @@ use Rattle.mpy_base.specs.Vuint.{Spells, EndsInside, PassesForm}
 use Rattle.qstr_pool.specs.declared.table.TheConstants.{FIRST_OWN}
 use Rattle.qstr_pool.specs.Pool.{Texts, number_of}
 use Rattle.qstr_pool.specs.Static.{static_number_of}
-use Rattle.mpy_tree.specs.declared.module.Constant.{Constant}
-use Rattle.mpy_tree.specs.declared.raw.Qstr.{Qstr}
-use Rattle.mpy_tree.specs.declared.raw.Qstr.TheVariants as qstrs
-use Rattle.mpy_tree.specs.declared.raw.RawCode.{RawCode}
-use Rattle.mpy_tree.specs.Raw.{Module}
+use Rattle.mpy_reader.specs.mpy_tree.declared.module.Constant.{Constant}
+use Rattle.mpy_reader.specs.mpy_tree.declared.raw.Qstr.{Qstr}
+use Rattle.mpy_reader.specs.mpy_tree.declared.raw.Qstr.TheVariants as qstrs
+use Rattle.mpy_reader.specs.mpy_tree.declared.raw.RawCode.{RawCode}
+use Rattle.mpy_reader.specs.mpy_tree.Raw.{Module}
 use Rattle.mpy_reader.specs.declared.fault.FileFault.{FileFault}
 use Rattle.mpy_reader.specs.declared.fault.FileFault.TheVariants as files
 use Rattle.mpy_reader.specs.Reading.{IsText}
 use Rattle.mpy_reader.specs.Body as bodies
-use Rattle.bc_verify.specs.Verified.{IsVerified}
+use Rattle.bc_library.specs.bc_verify.Verified.{IsVerified}
 use Rattle.bc_library.specs.Texts.{text_numbered, last_part}
 use Rattle.image_grammar.specs.declared.entry.Entry.{Entry}
 use Rattle.image_grammar.specs.declared.entry.Opened.{Opened}

@@ -1,14 +1,21 @@
-//! The grammar of images of named modules, and its texts read from bytes.
+//! The grammar of images of named modules, its texts read from bytes, and the library that an image may lie
+//! over.
 #![tactic(auto)]
 
+mod base;
 mod entry;
 mod fault;
 mod field;
 mod names;
 mod texts;
 
+pub use base::{copy_texts, count_modules, has_name, name_of};
+pub use bc_library;
+pub use bc_library::bc_verify;
 pub use entry::{Entry, Opened};
 pub use fault::ImageFault;
 pub use field::{Field, count, number};
+pub use mpy_reader;
+pub use mpy_reader::mpy_tree;
 pub use names::{Table, qstr_table, use_of, use_part};
 pub use texts::table;

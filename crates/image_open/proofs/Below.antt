@@ -8,11 +8,11 @@ use Rattle.std.specs.List.{AllByRecursion}
 use Rattle.mpy_base.specs.declared.limits.TheConstants.{MAX_IMAGE_BYTES}
 use Rattle.qstr_pool.specs.declared.table.TheConstants.{FIRST_OWN}
 use Rattle.qstr_pool.specs.Pool.{Texts}
-use Rattle.bc_library.specs.Own.{IsOwnPool}
-use Rattle.bc_library.specs.Shelf.{Named, Shelf, names, no_entries}
+use Rattle.image_grammar.specs.bc_library.Own.{IsOwnPool}
+use Rattle.image_grammar.specs.bc_library.Shelf.{Named, Shelf, names, no_entries}
 use Rattle.image_grammar.specs.Fine.{IsFinePool, IsFineText}
 use Rattle.image_grammar.specs.Opening.{Base, pool_below}
-use Rattle.image_base.specs.Base.{IsOpened, base_of}
+use Rattle.image_grammar.specs.Base.{IsOpened, base_of}
 use Rattle.image_open.specs.Counts.{AreCounts}
 
 pub names_count : (below : Shelf) (count : ℕ) → count ≡ length below.modules → count ≡ length (names below)

@@ -9,21 +9,21 @@ use Rattle.std.proofs.lemmas.List.Elements.{filter_map-append, All-nil, All-push
 use Rattle.std.proofs.lemmas.Grind.{flat_map-append}
 use Rattle.mpy_base.specs.declared.limits.TheConstants.{MAX_MODULES, MAX_TABLE}
 use Rattle.mpy_base.specs.Vuint.{Spells}
-use Rattle.mpy_tree.specs.File.{Many}
-use Rattle.mpy_tree.specs.Raw as raws
-use Rattle.mpy_tree.specs.Raw.{Module}
-use Rattle.mpy_tree.specs.declared.raw.Qstr.{Qstr}
-use Rattle.mpy_tree.specs.declared.raw.Qstr.TheVariants.{Static, Own}
-use Rattle.mpy_reader.specs.Body.{IsBody}
-use Rattle.mpy_reader.proofs.Bodies.{body_found}
-use Rattle.bc_verify.specs.Verified.{IsVerified}
+use Rattle.image_grammar.specs.mpy_tree.File.{Many}
+use Rattle.image_grammar.specs.mpy_tree.Raw as raws
+use Rattle.image_grammar.specs.mpy_tree.Raw.{Module}
+use Rattle.image_grammar.specs.mpy_tree.declared.raw.Qstr.{Qstr}
+use Rattle.image_grammar.specs.mpy_tree.declared.raw.Qstr.TheVariants.{Static, Own}
+use Rattle.image_grammar.specs.mpy_reader.Body.{IsBody}
+use Rattle.image_grammar.proofs.mpy_reader_lemmas.Bodies.{body_found}
+use Rattle.image_grammar.specs.bc_verify.Verified.{IsVerified}
 use Rattle.qstr_pool.specs.declared.table.TheConstants.{FIRST_OWN, STATIC_COUNT}
 use Rattle.qstr_pool.specs.Pool.{Texts, number_of}
 use Rattle.qstr_pool.specs.Static.{static_pool, static_text_of, static_number_of}
 use Rattle.qstr_pool.proofs.Pools.{one_to_one}
-use Rattle.bc_library.proofs.Own.{plain_numbered}
-use Rattle.bc_library.specs.Texts.{IsPlain, text_numbered, last_part, with_text, with_texts, texts_of}
-use Rattle.bc_library.proofs.Pools.{with_append, below_first, from_first_own, static_numbered, pool_numbered}
+use Rattle.image_grammar.proofs.bc_library_lemmas.Own.{plain_numbered}
+use Rattle.image_grammar.specs.bc_library.Texts.{IsPlain, text_numbered, last_part, with_text, with_texts, texts_of}
+use Rattle.image_grammar.proofs.bc_library_lemmas.Pools.{with_append, below_first, from_first_own, static_numbered, pool_numbered}
 use Rattle.image_grammar.specs.declared.entry.Entry.{Entry}
 use Rattle.image_grammar.specs.declared.entry.Opened.{Opened}
 use Rattle.image_grammar.specs.declared.names.Table.{Table}
@@ -31,7 +31,7 @@ use Rattle.image_grammar.specs.Image.{IsEntry, IsNamed, Differ, texts_used}
 use Rattle.image_grammar.specs.Opening.{Base, count, own_text, pool_below, table, IsUse, used_with, use_at, number_in, use_part, names_of, name, qstr_of, qstr, qstr_table, module_of, entry_of, raw, held, entry, none_opened, modules}
 use Rattle.image_grammar.proofs.Inversion.{bind_ok, judge_ok, ok_is, ok_parts, Keeps, times_keeps, Many-push}
 use Rattle.image_grammar.proofs.Fine.{use_found}
-use Rattle.image_base.proofs.Texts.{static_few}
+use Rattle.image_grammar.proofs.BaseTexts.{static_few}
 use Rattle.image_open.proofs.Pools.{TextsRead, none_read, text_step}
 use Rattle.image_open.proofs.Uses.{IsProper, Used, used_further}
 

@@ -4,7 +4,7 @@ use Rattle.std.specs.Prelude.{◌↔◌, Contains, IsTrue}
 use Rattle.std.specs.List.{list_any}
 use Rattle.std.specs.Str.{bytes_eq}
 use Rattle.std.proofs.lemmas.List.Elements.{Contains-append_left, Contains-append_right, Contains-append_cases}
-use Rattle.bc_library.specs.Shelf.{Shelf, names}
+use Rattle.image_grammar.specs.bc_library.Shelf.{Shelf, names}
 use Rattle.image_grammar.specs.declared.entry.Entry.{Entry}
 use Rattle.image_grammar.specs.Opening.{names_of}
 use Rattle.image_grammar.proofs.Fine.{named_there, not_named}

@@ -5,11 +5,11 @@ use Rattle.std.specs.List.{list_any}
 use Rattle.std.specs.Str.{bytes_eq}
 use Rattle.std.proofs.lemmas.List.{append-nil}
 use Rattle.std.proofs.lemmas.Slice.Eq.{bytes_eq-Decides}
-use Rattle.mpy_tree.specs.File.{Many}
+use Rattle.image_grammar.specs.mpy_tree.File.{Many}
 use Rattle.qstr_pool.specs.Pool.{Texts, all_differ}
 use Rattle.qstr_pool.proofs.Places.{absent}
-use Rattle.bc_library.specs.Own.{IsOwnText}
-use Rattle.bc_library.specs.Texts.{IsPlain}
+use Rattle.image_grammar.specs.bc_library.Own.{IsOwnText}
+use Rattle.image_grammar.specs.bc_library.Texts.{IsPlain}
 use Rattle.image_grammar.specs.Image as image
 use Rattle.image_grammar.specs.Opening.{Base, IsNew, with_last, own_text, pool_below}
 use Rattle.image_grammar.proofs.Fine.{own_text_found}

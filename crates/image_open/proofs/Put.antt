@@ -2,11 +2,11 @@
 use Rattle.std.proofs.Common.{◌≡◌, ◌<◌, ◌≤◌, ℕ, List, length, Option, Some, None, arith}
 use Rattle.std.specs.Prelude.{IsSome}
 use Rattle.mpy_base.specs.declared.limits.TheConstants.{MAX_TABLE}
-use Rattle.mpy_tree.specs.Raw.{Module}
-use Rattle.bc_library.specs.declared.fault.LibFault.{LibFault}
-use Rattle.bc_library.specs.declared.fault.LibFault.TheVariants.{Names, TooMany, Twice}
-use Rattle.bc_library.specs.Shelf.{IsFull, Shelf, member_of, with_module}
-use Rattle.bc_library.proofs.Shelves.{not_there}
+use Rattle.image_grammar.specs.mpy_tree.Raw.{Module}
+use Rattle.image_grammar.specs.bc_library.declared.fault.LibFault.{LibFault}
+use Rattle.image_grammar.specs.bc_library.declared.fault.LibFault.TheVariants.{Names, TooMany, Twice}
+use Rattle.image_grammar.specs.bc_library.Shelf.{IsFull, Shelf, member_of, with_module}
+use Rattle.image_grammar.proofs.bc_library_lemmas.Shelves.{not_there}
 
 -- what a call tells that has a fault
 pub record Tells (shelf : Shelf) (name : List ℕ) (m : Module) (told : Option LibFault) : Type 0 where

@@ -10,9 +10,9 @@ use Rattle.std.proofs.lemmas.Option.{slice_get_within, get_or_from_slice_get}
 use Rattle.mpy_base.specs.declared.limits.TheConstants.{MAX_MODULES, MAX_TABLE}
 use Rattle.qstr_pool.specs.Pool.{Texts}
 use Rattle.qstr_pool.proofs.Places.{found}
-use Rattle.bc_library.specs.Shelf.{Named, Shelf, IsFull, member_of, member_by, no_entries, names, with_module}
-use Rattle.bc_library.specs.Texts.{IsPlain, texts_of, with_texts}
-use Rattle.bc_library.proofs.Pools.{with_append, longer}
+use Rattle.image_grammar.specs.bc_library.Shelf.{Named, Shelf, IsFull, member_of, member_by, no_entries, names, with_module}
+use Rattle.image_grammar.specs.bc_library.Texts.{IsPlain, texts_of, with_texts}
+use Rattle.image_grammar.proofs.bc_library_lemmas.Pools.{with_append, longer}
 use Rattle.image_grammar.specs.declared.entry.Entry.{Entry}
 use Rattle.image_grammar.specs.Image.{Differ, texts_used}
 use Rattle.image_grammar.specs.Opening.{names_of}

@@ -2,14 +2,14 @@
 use Rattle.std.proofs.Common.{◌≡◌, ℕ, zero, suc, ◌+◌, Bool, true, false, eqb, List, [], ◌∷◌, ◌++◌, length, take, drop, Option, Some, None, Result, Ok, Err, refl, sym, ap, subst, ◌∙◌, inl, inr}
 use Rattle.std.proofs.lemmas.List.{append_cancel_left, append_cancel_right, take_at, drop_at}
 use Rattle.mpy_base.proofs.Groups as groups
-use Rattle.mpy_tree.specs.declared.module.Constant.{Constant}
-use Rattle.mpy_tree.specs.declared.raw.RawCode.{RawCode}
-use Rattle.mpy_reader.specs.declared.fault.FileFault.{FileFault}
-use Rattle.mpy_reader.specs.declared.fault.FileFault.TheVariants as files
-use Rattle.mpy_reader.specs.Reading.{IsText}
-use Rattle.mpy_reader.specs.Body as bodies
-use Rattle.mpy_reader.proofs.Bodies.{body_single as file_body_single}
-use Rattle.bc_library.specs.Texts.{last_part}
+use Rattle.image_grammar.specs.mpy_tree.declared.module.Constant.{Constant}
+use Rattle.image_grammar.specs.mpy_tree.declared.raw.RawCode.{RawCode}
+use Rattle.image_grammar.specs.mpy_reader.declared.fault.FileFault.{FileFault}
+use Rattle.image_grammar.specs.mpy_reader.declared.fault.FileFault.TheVariants as files
+use Rattle.image_grammar.specs.mpy_reader.Reading.{IsText}
+use Rattle.image_grammar.specs.mpy_reader.Body as bodies
+use Rattle.image_grammar.proofs.mpy_reader_lemmas.Bodies.{body_single as file_body_single}
+use Rattle.image_grammar.specs.bc_library.Texts.{last_part}
 use Rattle.qstr_pool.specs.Pool.{Texts}
 use Rattle.image_grammar.specs.declared.entry.Opened.{Opened}
 use Rattle.image_grammar.specs.declared.fault.ImageFault.{ImageFault}

@@ -1,26 +1,25 @@
 -- What is spelled of an image is read.
 use Rattle.std.proofs.Common.{◌≡◌, ℕ, ◌<◌, ◌≤◌, Bool, true, false, cond, nat_lt, List, [], ◌∷◌, ◌++◌, length, Option, Some, None, Result, Ok, refl, sym, ap, ap₂, subst, ◌∙◌, append_assoc, inl, inr, arith}
 use Rattle.std.specs.Prelude.{Contains}
-use Rattle.std.specs.List.{filter_map, cons_option}
+use Rattle.std.specs.List.{filter_map, cons_option, AllByRecursion}
 use Rattle.std.specs.Option.{option_to_list}
 use Rattle.std.proofs.lemmas.List.{append-nil, length_push, map-append}
-use Rattle.std.specs.List.{AllByRecursion}
 use Rattle.std.proofs.lemmas.Bool.Decides.{nat_tests}
 use Rattle.mpy_base.specs.declared.limits.TheConstants.{MAX_TABLE}
 use Rattle.mpy_base.specs.Vuint.{Spells}
-use Rattle.mpy_tree.specs.File.{Many}
-use Rattle.mpy_tree.specs.Raw as raws
-use Rattle.mpy_tree.specs.Raw.{Module}
-use Rattle.mpy_tree.specs.declared.raw.Qstr.{Qstr}
-use Rattle.mpy_tree.specs.declared.raw.Qstr.TheVariants.{Static, Own}
-use Rattle.mpy_reader.specs.Body.{IsBody}
-use Rattle.mpy_reader.proofs.Bodies.{body_read}
+use Rattle.image_grammar.specs.mpy_tree.File.{Many}
+use Rattle.image_grammar.specs.mpy_tree.Raw as raws
+use Rattle.image_grammar.specs.mpy_tree.Raw.{Module}
+use Rattle.image_grammar.specs.mpy_tree.declared.raw.Qstr.{Qstr}
+use Rattle.image_grammar.specs.mpy_tree.declared.raw.Qstr.TheVariants.{Static, Own}
+use Rattle.image_grammar.specs.mpy_reader.Body.{IsBody}
+use Rattle.image_grammar.proofs.mpy_reader_lemmas.Bodies.{body_read}
 use Rattle.qstr_pool.specs.declared.table.TheConstants.{FIRST_OWN, STATIC_COUNT}
 use Rattle.qstr_pool.specs.Pool.{Texts}
 use Rattle.qstr_pool.specs.Static.{static_text_of}
-use Rattle.bc_verify.specs.Verified.{IsVerified}
-use Rattle.bc_library.specs.Texts.{text_numbered, last_part, with_text, with_texts, texts_of}
-use Rattle.bc_library.proofs.Pools.{with_append, below_first, from_first_own, entry_there}
+use Rattle.image_grammar.specs.bc_verify.Verified.{IsVerified}
+use Rattle.image_grammar.specs.bc_library.Texts.{text_numbered, last_part, with_text, with_texts, texts_of}
+use Rattle.image_grammar.proofs.bc_library_lemmas.Pools.{with_append, below_first, from_first_own, entry_there}
 use Rattle.image_grammar.specs.declared.entry.Entry.{Entry}
 use Rattle.image_grammar.specs.declared.entry.Opened.{Opened}
 use Rattle.image_grammar.specs.declared.names.Table.{Table}

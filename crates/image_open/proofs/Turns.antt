@@ -13,8 +13,8 @@ use Rattle.qstr_pool.specs.declared.table.TheConstants.{FIRST_OWN}
 use Rattle.qstr_pool.specs.Pool.{Texts, number_of, interned, all_differ}
 use Rattle.qstr_pool.specs.Static.{static_number_of}
 use Rattle.qstr_pool.proofs.Places.{absent}
-use Rattle.bc_library.specs.Texts.{text_numbered, with_text, with_texts}
-use Rattle.bc_library.proofs.Pools.{Grown, same, grown, grows, with_own}
+use Rattle.image_grammar.specs.bc_library.Texts.{text_numbered, with_text, with_texts}
+use Rattle.image_grammar.proofs.bc_library_lemmas.Pools.{Grown, same, grown, grows, with_own}
 use Rattle.image_grammar.specs.Opening.{IsUse, number_in}
 use Rattle.image_open.proofs.Uses.{IsProper, Used, below_or_from, place_of, is_there}
 

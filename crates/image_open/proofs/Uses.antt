@@ -12,9 +12,9 @@ use Rattle.qstr_pool.specs.declared.table.TheConstants.{FIRST_OWN}
 use Rattle.qstr_pool.specs.Pool.{Texts, interned, all_differ}
 use Rattle.qstr_pool.specs.Static.{static_pool, static_number_of}
 use Rattle.qstr_pool.proofs.Pools.{one_to_one}
-use Rattle.bc_library.specs.Own.{IsOwnPool}
-use Rattle.bc_library.specs.Texts.{text_numbered, with_text}
-use Rattle.bc_library.proofs.Pools.{Copied, next_copied, with_static, with_own, below_first, from_first_own, text_there}
+use Rattle.image_grammar.specs.bc_library.Own.{IsOwnPool}
+use Rattle.image_grammar.specs.bc_library.Texts.{text_numbered, with_text}
+use Rattle.image_grammar.proofs.bc_library_lemmas.Pools.{Copied, next_copied, with_static, with_own, below_first, from_first_own, text_there}
 use Rattle.image_grammar.specs.Opening.{IsUse, used_with}
 
 -- a pool of texts that are no static ones, each once

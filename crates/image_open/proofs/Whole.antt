@@ -5,11 +5,11 @@ use Rattle.std.proofs.lemmas.Bool.{eqb-true, eqb-false}
 use Rattle.std.proofs.lemmas.List.{append-nil, take_at}
 use Rattle.mpy_base.specs.declared.limits.TheConstants.{MAX_MODULES, MAX_TABLE}
 use Rattle.mpy_base.specs.Vuint.{Spells}
-use Rattle.mpy_tree.specs.File.{Many}
+use Rattle.image_grammar.specs.mpy_tree.File.{Many}
 use Rattle.qstr_pool.specs.Pool.{Texts}
-use Rattle.bc_verify.specs.Verified.{IsVerified}
-use Rattle.bc_library.specs.Texts.{IsPlain, with_texts}
-use Rattle.bc_library.proofs.Pools.{all_copied}
+use Rattle.image_grammar.specs.bc_verify.Verified.{IsVerified}
+use Rattle.image_grammar.specs.bc_library.Texts.{IsPlain, with_texts}
+use Rattle.image_grammar.proofs.bc_library_lemmas.Pools.{all_copied}
 use Rattle.image_grammar.specs.declared.entry.Entry.{Entry}
 use Rattle.image_grammar.specs.Image.{IsOwnText, IsNamed, IsImage, IsFront, Differ, texts_used}
 use Rattle.image_grammar.specs.Opening.{Base, nothing_below, pool_below, names_of, IsHeader, counts_below, nothing_is_below, base, parts, image}

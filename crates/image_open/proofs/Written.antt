@@ -8,14 +8,14 @@ use Rattle.std.proofs.lemmas.List.Elements.{recursion_from_All}
 use Rattle.std.proofs.lemmas.List.Folds.{list_any-append}
 use Rattle.std.proofs.lemmas.Slice.Eq.{bytes_eq-Decides}
 use Rattle.mpy_base.specs.declared.limits.TheConstants.{MAX_IMAGE_BYTES}
-use Rattle.mpy_tree.specs.File.{Many}
+use Rattle.image_grammar.specs.mpy_tree.File.{Many}
 use Rattle.qstr_pool.specs.declared.table.TheConstants.{FIRST_OWN}
 use Rattle.qstr_pool.specs.Pool.{Texts, all_differ}
 use Rattle.qstr_pool.specs.Static.{static_number_of}
 use Rattle.qstr_pool.proofs.Places.{present}
-use Rattle.bc_verify.specs.Verified.{IsVerified}
-use Rattle.bc_library.specs.Texts.{IsPlain, with_text, with_texts}
-use Rattle.bc_library.proofs.Pools.{with_static, with_own, same_first}
+use Rattle.image_grammar.specs.bc_verify.Verified.{IsVerified}
+use Rattle.image_grammar.specs.bc_library.Texts.{IsPlain, with_text, with_texts}
+use Rattle.image_grammar.proofs.bc_library_lemmas.Pools.{with_static, with_own, same_first}
 use Rattle.image_grammar.specs.declared.entry.Entry.{Entry}
 use Rattle.image_grammar.specs.declared.fault.ImageFault.{ImageFault}
 use Rattle.image_grammar.specs.declared.fault.ImageFault.TheVariants.{Trailing}

@@ -5,25 +5,25 @@ ghost use Rattle.std.specs.List.{list_any};
 ghost use Rattle.std.specs.Str.{bytes_eq};
 ghost use Rattle.mpy_base.specs.declared.limits.TheConstants.{MAX_MODULES};
 ghost use Rattle.mpy_base.specs.declared.refused.Refused.TheVariants as refused;
-ghost use Rattle.bc_library.specs.Shelf.{names};
-ghost use Rattle.bc_verify.specs.Verified.{IsVerified};
-ghost use Rattle.image_base.specs.Base.{base_of};
+ghost use Rattle.image_grammar.specs.bc_library.Shelf.{names};
+ghost use Rattle.image_grammar.specs.bc_verify.Verified.{IsVerified};
+ghost use Rattle.image_grammar.specs.Base.{base_of};
 ghost use Rattle.image_grammar.specs.Opening as opening;
 ghost use Rattle.image_grammar.specs.Opening.{names_of};
 ghost use Rattle.image_grammar.specs.Fine.{IsFinePool};
 ghost use Rattle.image_grammar.specs.Steps.{Gives, judge, times};
 ghost use Rattle.image_grammar.specs.declared.fault.ImageFault.TheVariants as faults;
 
-use bc_library::{Library, library_law};
-use bc_verify::{Verified, verify};
-use image_base::{count_modules, has_name};
+use image_grammar::bc_library::{Library, library_law};
+use image_grammar::bc_verify::{Verified, verify};
+use image_grammar::mpy_reader::{FileFault, ModuleBody, read_body};
+use image_grammar::mpy_tree::RawModule;
 use image_grammar::{
-    Entry, Field, ImageFault, Opened, Table, count, number, qstr_table, use_of, use_part,
+    Entry, Field, ImageFault, Opened, Table, count, count_modules, has_name, number, qstr_table,
+    use_of, use_part,
 };
 use mpy_base::limits::MAX_MODULES;
 use mpy_base::{Items, Refused, Text};
-use mpy_reader::{FileFault, ModuleBody, read_body};
-use mpy_tree::RawModule;
 use qstr_pool::Pool;
 use std::alloc::Global;
 

@@ -2,14 +2,14 @@
 
 ghost use Rattle.std.specs.Prelude.{◌≡◌, ◌+◌, ◌≤◌, [], length, All, None, IfOk, OnOk};
 ghost use Rattle.mpy_base.specs.declared.limits.TheConstants.{MAX_MODULES, MAX_TABLE};
-ghost use Rattle.bc_library.specs.Shelf.{IsFull, member_of, no_entries, with_module};
-ghost use Rattle.bc_library.specs.Texts.{IsPlain, with_texts};
+ghost use Rattle.image_grammar.specs.bc_library.Shelf.{IsFull, member_of, no_entries, with_module};
+ghost use Rattle.image_grammar.specs.bc_library.Texts.{IsPlain, with_texts};
 ghost use Rattle.image_grammar.specs.Image.{Differ, texts_used};
 ghost use Rattle.image_grammar.specs.Opening.{names_of};
 ghost use Rattle.image_open.specs.Opens.{shelf_of};
 
-use bc_library::Library;
 use image_grammar::Entry;
+use image_grammar::bc_library::Library;
 use mpy_base::{Items, NoMemory, Refused};
 use std::alloc::Global;
 
@@ -30,7 +30,7 @@ fn put(alloc: Global, lib: &mut Library, entry: Entry) -> Result<(), NoMemory>
 }
 
 /// The library of the modules, for whose names and texts there is room.
-pub fn shelve(alloc: Global, entries: Items<Entry>) -> Result<Library, NoMemory>
+pub(crate) fn shelve(alloc: Global, entries: Items<Entry>) -> Result<Library, NoMemory>
     requires differ { Differ [] (names_of entries) }
     requires few { length entries ≤ MAX_MODULES }
     requires fit { length (with_texts no_entries.pool (texts_used entries)).texts ≤ MAX_TABLE }

@@ -5,4 +5,4 @@ mod fault;
 mod main_module;
 
 pub use fault::MainFault;
-pub use main_module::{image_library, no_main};
+pub use main_module::image_library;

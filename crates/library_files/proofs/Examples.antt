@@ -4,9 +4,9 @@ use Rattle.std.specs.Prelude.{◌++◌, Some, None, if◌then◌else◌}
 use Rattle.std.specs.Str.{bytes_eq}
 use Rattle.bc_ops.specs.declared.instr.Op.TheVariants as ops
 use Rattle.bc_ops.specs.declared.instr.Instr.TheVariants as instrs
-use Rattle.mpy_tree.specs.Resolved.{Resolved, plain, named, Body, node, no_more, more}
+use Rattle.mpy_reader.specs.mpy_tree.Resolved.{Resolved, plain, named, Body, node, no_more, more}
 use Rattle.mpy_io.specs.Files.{FileOf}
-use Rattle.mpy_tree.specs.Raw.{Module}
+use Rattle.mpy_reader.specs.mpy_tree.Raw.{Module}
 use Rattle.bc_library.specs.Shelf.{no_entries, with_refused}
 use Rattle.library_files.specs.declared.entry.Entry.TheVariants as entries
 use Rattle.library_files.specs.Asked.{asked_for}

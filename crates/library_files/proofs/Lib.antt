@@ -6,6 +6,7 @@ pub mod Once
 pub mod Short
 pub mod Plain
 pub mod Taken
+pub mod Absent
 pub mod Asks
 pub mod Whole
 mod Examples

@@ -3,8 +3,8 @@ use Rattle.std.proofs.Common.{◌≡◌, ℕ, List, [], ◌∷◌, ◌++◌, Opt
 use Rattle.std.specs.Prelude.{IsSome}
 use Rattle.mpy_base.specs.declared.source.SourceFault.{SourceFault}
 use Rattle.mpy_io.specs.Files.{FileOf}
-use Rattle.mpy_tree.specs.Raw.{Module}
-use Rattle.mpy_tree.specs.File.{IsFile}
+use Rattle.mpy_reader.specs.mpy_tree.Raw.{Module}
+use Rattle.mpy_reader.specs.mpy_tree.File.{IsFile}
 use Rattle.pkg_paths.specs.Finds.{NamedFile, first_there}
 use Rattle.pkg_paths.specs.Paths.{candidates}
 use Rattle.bc_library.specs.declared.fault.Member.{Member}

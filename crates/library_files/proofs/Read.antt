@@ -4,10 +4,10 @@ use Rattle.mpy_base.specs.declared.refused.Refused.{Refused}
 use Rattle.mpy_base.specs.declared.refused.Refused.TheVariants as refused
 use Rattle.mpy_base.specs.declared.limits.TheConstants.{MAX_READ_BYTES}
 use Rattle.mpy_base.specs.declared.source.SourceFault.{SourceFault}
-use Rattle.mpy_tree.specs.Raw.{Module}
-use Rattle.mpy_tree.specs.File.{IsFile}
+use Rattle.mpy_reader.specs.mpy_tree.Raw.{Module}
+use Rattle.mpy_reader.specs.mpy_tree.File.{IsFile}
 use Rattle.mpy_reader.specs.declared.fault.FileFault.{FileFault}
-use Rattle.bc_verify.specs.Verified.{IsVerified}
+use Rattle.bc_library.specs.bc_verify.Verified.{IsVerified}
 use Rattle.library_files.specs.declared.entry.Entry.{Entry}
 use Rattle.library_files.specs.declared.entry.Entry.TheVariants as entries
 use Rattle.library_files.specs.Comes.{Answers, BytesComeTo, ModuleComesTo}

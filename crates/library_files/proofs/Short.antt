@@ -7,14 +7,14 @@ use Rattle.bc_ops.specs.declared.instr.Instr.{Instr}
 use Rattle.bc_ops.specs.declared.instr.Instr.TheVariants as instrs
 use Rattle.bc_ops.specs.declared.listing.Item.{Item}
 use Rattle.bc_ops.specs.declared.listing.Item.TheVariants as listed
-use Rattle.mpy_tree.specs.declared.module.Constant.{Constant}
-use Rattle.mpy_tree.specs.declared.raw.Qstr.{Qstr}
-use Rattle.mpy_tree.specs.declared.raw.Qstr.TheVariants.{Static, Own}
-use Rattle.mpy_tree.specs.declared.raw.RawCode.{RawCode, out-RawCode}
-use Rattle.mpy_tree.specs.File.{IsModule}
-use Rattle.mpy_tree.specs.Raw.{Module, text_of}
-use Rattle.mpy_tree.specs.Values.{value_of}
-use Rattle.mpy_tree.specs.Resolved.{plain, named, object, resolved, resolved_instr, name_at, Body, Tree, node, Trees, no_more, more, IsBody, ResolvesCode, ResolveCodes}
+use Rattle.mpy_reader.specs.mpy_tree.declared.module.Constant.{Constant}
+use Rattle.mpy_reader.specs.mpy_tree.declared.raw.Qstr.{Qstr}
+use Rattle.mpy_reader.specs.mpy_tree.declared.raw.Qstr.TheVariants.{Static, Own}
+use Rattle.mpy_reader.specs.mpy_tree.declared.raw.RawCode.{RawCode, out-RawCode}
+use Rattle.mpy_reader.specs.mpy_tree.File.{IsModule}
+use Rattle.mpy_reader.specs.mpy_tree.Raw.{Module, text_of}
+use Rattle.mpy_reader.specs.mpy_tree.Values.{value_of}
+use Rattle.mpy_reader.specs.mpy_tree.Resolved.{plain, named, object, resolved, resolved_instr, name_at, Body, Tree, node, Trees, no_more, more, IsBody, ResolvesCode, ResolveCodes}
 use Rattle.qstr_pool.specs.declared.table.TheConstants.{FIRST_OWN}
 use Rattle.qstr_pool.specs.Pool.{Texts}
 use Rattle.bc_library.specs.Fine.{Each, FineQstr}

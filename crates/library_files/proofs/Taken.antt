@@ -7,8 +7,8 @@ use Rattle.std.proofs.lemmas.List.{append-nil}
 use Rattle.mpy_base.specs.declared.limits.TheConstants.{MAX_MODULES}
 use Rattle.mpy_base.specs.declared.refused.Refused.{Refused}
 use Rattle.mpy_base.specs.declared.refused.Refused.TheVariants as refused
-use Rattle.mpy_tree.specs.File.{IsModule}
-use Rattle.mpy_tree.specs.Raw.{Module}
+use Rattle.mpy_reader.specs.mpy_tree.File.{IsModule}
+use Rattle.mpy_reader.specs.mpy_tree.Raw.{Module}
 use Rattle.bc_library.specs.Shelf.{Named, Shelf, with_module, with_refused}
 use Rattle.library_files.specs.declared.entry.Entry.{Entry}
 use Rattle.library_files.specs.declared.entry.Entry.TheVariants as entries
@@ -21,7 +21,7 @@ use Rattle.library_files.specs.Imports.{Imports}
 use Rattle.library_files.specs.Comes.{OfFiles}
 use Rattle.library_files.specs.Ends.{is_failed, FailsAmong}
 use Rattle.library_files.specs.Loads.{has_place, limit_within, limit_of}
-use Rattle.library_files.specs.Steps.{AddsImports, AddsModules, AreShort, Step, Takes, places_left}
+use Rattle.library_files.specs.Steps.{AddsImports, AddsModules, AreShort, Remembers, Step, Takes, places_left}
 use Rattle.library_files.proofs.Short.{short_both, imports_short}
 
 -- what holds of a step that took an entry
@@ -93,17 +93,25 @@ absent_takes begun name entry is = subst (λ (e : Entry). Takes begun begun name
 pub absent_adds : (entry : Entry) (found : List (List ℕ)) → entry ≡ entries.Absent → AddsImports entry found found
 absent_adds entry found is = subst (λ (e : Entry). AddsImports e found found) (sym is) ([], refl, sym (append-nil found))
 
-pub refused_takes : (old new : Begun) (name : List ℕ) (entry : Entry) (result : Result (Unit {0}) (Refused LoadFault)) → entry ≡ entries.Refused → Takes old new name entries.Refused result
+pub entry_takes : (old new : Begun) (name : List ℕ) (entry same : Entry) (result : Result (Unit {0}) (Refused LoadFault)) → entry ≡ same → Takes old new name same result
     → Takes old new name entry result
-refused_takes old new name entry result is takes = subst (λ (e : Entry). Takes old new name e result) (sym is) takes
+entry_takes old new name entry same result is takes = subst (λ (e : Entry). Takes old new name e result) (sym is) takes
+
+pub entry_remembers : (old new : Begun) (name : List ℕ) (entry same : Entry) (result : Result (Unit {0}) (Refused LoadFault)) → entry ≡ same
+    → OnOk result (Remembers old.absent new.absent name same) → OnOk result (Remembers old.absent new.absent name entry)
+entry_remembers old new name entry same result is remembers = subst (λ (e : Entry). OnOk result (Remembers old.absent new.absent name e)) (sym is) remembers
+
+pub same_remembers : {P : Type 0} (result : Result (Unit {0}) (Refused LoadFault)) → P → OnOk result P
+same_remembers (Ok done) same = same
+same_remembers (Err e) same = tt
+
+pub none_adds : (entry : Entry) (found : List (List ℕ)) (result : Result (Unit {0}) (Refused LoadFault)) → entry ≡ entries.Absent → OnOk result (AddsImports entry found found)
+none_adds entry found (Ok done) is = absent_adds entry found is
+none_adds entry found (Err e) is = tt
 
 pub refused_adds : (entry : Entry) (found : List (List ℕ)) (result : Result (Unit {0}) (Refused LoadFault)) → entry ≡ entries.Refused → OnOk result (AddsImports entry found found)
 refused_adds entry found (Ok done) is = subst (λ (e : Entry). AddsImports e found found) (sym is) ([], refl, sym (append-nil found))
 refused_adds entry found (Err e) is = tt
-
-pub held_takes : (old new : Begun) (name : List ℕ) (entry : Entry) (m : Module) (more : ℕ) (result : Result (Unit {0}) (Refused LoadFault)) → entry ≡ entries.Held m more
-    → Takes old new name (entries.Held m more) result → Takes old new name entry result
-held_takes old new name entry m more result is takes = subst (λ (e : Entry). Takes old new name e result) (sym is) takes
 
 pub held_adds : (entry : Entry) (m : Module) (more : ℕ) (before after : List (List ℕ)) (result : Result (Unit {0}) (Refused LoadFault)) → entry ≡ entries.Held m more
     → OnOk result (AddsImports (entries.Held m more) before after) → OnOk result (AddsImports entry before after)
@@ -141,6 +149,10 @@ grow_both a b c x y z ab bc (inr e) (inr f) = inr (omega (arith, e, f))
 
 pub no_step : (shelf : Shelf) (names : List (List ℕ)) → Step shelf shelf names names
 no_step shelf names = record { adds = adds_none shelf; fewer = omega arith; grows = inl refl; short = λ short. short }
+
+pub absent_steps : (old new : Begun) (found : List (List ℕ)) (result : Result (Unit {0}) (Refused LoadFault)) → new.library ≡ old.library → OnOk result (Step old.library new.library found found)
+absent_steps old new found (Ok done) same = subst (λ (s : Shelf). Step old.library s found found) (sym same) (no_step old.library found)
+absent_steps old new found (Err e) same = tt
 
 pub both_steps : (a b c : Shelf) (x y z : List (List ℕ)) → Step a b x y → Step b c y z → Step a c x z
 both_steps a b c x y z first second = record {

@@ -7,11 +7,11 @@ use Rattle.bc_ops.specs.Listing.{Lists}
 use Rattle.bc_ops.proofs.Lists.{one_list}
 use Rattle.bc_prelude.specs.declared.prelude.Prelude.{Prelude}
 use Rattle.bc_prelude.specs.Prelude.{Begins}
-use Rattle.bc_verify.proofs.Bodies.{same_instructions}
+use Rattle.bc_library.proofs.bc_verify_lemmas.Bodies.{same_instructions}
 use Rattle.bc_prelude.proofs.Preludes.{same_prelude}
-use Rattle.mpy_tree.specs.declared.raw.RawCode.{RawCode, out-RawCode}
-use Rattle.mpy_tree.specs.Raw.{Module}
-use Rattle.mpy_tree.specs.Resolved.{Body, Tree, node, Trees, no_more, more, resolved, IsBody, ResolvesCode, ResolveCodes}
+use Rattle.mpy_reader.specs.mpy_tree.declared.raw.RawCode.{RawCode, out-RawCode}
+use Rattle.mpy_reader.specs.mpy_tree.Raw.{Module}
+use Rattle.mpy_reader.specs.mpy_tree.Resolved.{Body, Tree, node, Trees, no_more, more, resolved, IsBody, ResolvesCode, ResolveCodes}
 use Rattle.library_files.specs.Imports.{import_of, own_imports, imports_of, imports_of_all}
 
 abbrev pub import_at : Module → Item → Option (List ℕ)

@@ -5,8 +5,8 @@ use Rattle.std.proofs.lemmas.List.{reverse-reverse}
 use Rattle.mpy_base.specs.declared.refused.Refused.{Refused}
 use Rattle.mpy_base.specs.declared.refused.Refused.TheVariants as refused
 use Rattle.mpy_io.specs.Files.{FileOf}
-use Rattle.mpy_tree.specs.File.{IsModule}
-use Rattle.mpy_tree.specs.Raw.{Module}
+use Rattle.mpy_reader.specs.mpy_tree.File.{IsModule}
+use Rattle.mpy_reader.specs.mpy_tree.Raw.{Module}
 use Rattle.bc_library.specs.Shelf.{Named, Shelf, no_entries, with_module, module_at}
 use Rattle.library_files.specs.declared.entry.Entry.TheVariants as entries
 use Rattle.library_files.specs.declared.limit.Limit.{Limit}
@@ -32,12 +32,13 @@ module _ (main : Module) (size : ℕ) (first begun : Begun) (name : List ℕ) (e
       (subst (λ (s : Shelf). limit_of s first.size name (entries.Held main size) ≡ o) empty is))
 
   pub is_begun : (found left : List (List ℕ)) → IsModule main → Takes first begun name (entries.Held main size) (Ok tt) → AddsImports (entries.Held main size) [] found
-      → AreShort found → left ≡ reverse found → IsBegun main size begun left
-  is_begun found left held takes adds short is = record {
+      → AreShort found → left ≡ reverse found → begun.absent.texts ≡ [] → IsBegun main size begun left
+  is_begun found left held takes adds short is forgotten = record {
     within = from_empty None takes.0;
     library_is = subst (λ (z : List ℕ). begun.library ≡ with_module no_entries z main) named
         (subst (λ (s : Shelf). begun.library ≡ with_module s name main) empty takes.1);
     size_is = omega (arith, takes.2, none);
+    absent_is = forgotten;
     imports = subst (Imports main) (sym (ap reverse is ∙ (reverse-reverse found ∙ adds.2))) adds.1;
     held = held;
     short = subst AreShort (sym is) (reverse_short found short);

@@ -4,9 +4,9 @@ use Rattle.mpy_base.specs.declared.refused.Refused.{Refused}
 use Rattle.mpy_base.specs.declared.refused.Refused.TheVariants.{Fault, NoMemory}
 use Rattle.mpy_base.specs.declared.source.SourceFault.{SourceFault}
 use Rattle.mpy_io.specs.Files.{FileOf}
-use Rattle.mpy_tree.specs.Raw.{Module}
-use Rattle.mpy_tree.specs.File.{IsFile}
-use Rattle.bc_verify.specs.Verified.{IsVerified}
+use Rattle.mpy_reader.specs.mpy_tree.Raw.{Module}
+use Rattle.mpy_reader.specs.mpy_tree.File.{IsFile}
+use Rattle.bc_library.specs.bc_verify.Verified.{IsVerified}
 use Rattle.pkg_paths.specs.Paths.{candidates}
 use Rattle.pkg_paths.specs.Finds.{NamedFile, first_there}
 use Rattle.library_files.specs.declared.entry.Entry.{Entry}

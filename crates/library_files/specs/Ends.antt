@@ -2,9 +2,9 @@
 use Rattle.std.specs.Prelude.{◌≡◌, ℕ, Bool, true, false, List, Contains, Some, Result, Ok, Err, slice_get, ⊤}
 use Rattle.mpy_base.specs.declared.refused.Refused.{Refused}
 use Rattle.mpy_base.specs.declared.refused.Refused.TheVariants.{Fault, NoMemory}
-use Rattle.mpy_tree.specs.File.{IsModule}
-use Rattle.mpy_tree.specs.Raw.{Module}
-use Rattle.bc_verify.specs.Verified.{IsVerified}
+use Rattle.mpy_reader.specs.mpy_tree.File.{IsModule}
+use Rattle.mpy_reader.specs.mpy_tree.Raw.{Module}
+use Rattle.bc_library.specs.bc_verify.Verified.{IsVerified}
 use Rattle.pkg_paths.specs.Plain.{IsPlain}
 use Rattle.pkg_paths.specs.Paths.{candidates}
 use Rattle.bc_library.specs.Shelf.{Named, Shelf, module_at}

@@ -2,8 +2,8 @@
 use Rattle.std.specs.Prelude.{◌≡◌, ℕ, List, [], ◌++◌, Option, Some, None}
 use Rattle.std.specs.List.{filter_map}
 use Rattle.bc_ops.specs.declared.instr.Op.TheVariants as ops
-use Rattle.mpy_tree.specs.Raw.{Module}
-use Rattle.mpy_tree.specs.Resolved.{Resolved, named, Body, instrs_of, Tree, node, Trees, no_more, more, ResolvedModule, Resolves}
+use Rattle.mpy_reader.specs.mpy_tree.Raw.{Module}
+use Rattle.mpy_reader.specs.mpy_tree.Resolved.{Resolved, named, Body, instrs_of, Tree, node, Trees, no_more, more, ResolvedModule, Resolves}
 
 -- the name that an instruction imports, if it is an import
 abbrev pub import_of : Resolved → Option (List ℕ)

@@ -1,3 +1,4 @@
+pub use Rattle.mpy_reader.specs as mpy_reader
 pub mod Imports
 pub mod Comes
 pub mod Search

@@ -2,7 +2,7 @@
 use Rattle.std.specs.Prelude.{◌≡◌, ℕ, ◌+◌, Bool, List, [], ◌∷◌, ◌++◌, length, codes, Option, Some, None, IsSome, Ok, Err, nat_lt, if◌then◌else◌}
 use Rattle.mpy_base.specs.declared.limits.TheConstants.{MAX_MODULES, MAX_TABLE}
 use Rattle.mpy_io.specs.Files.{FileOf}
-use Rattle.mpy_tree.specs.Raw.{Module}
+use Rattle.mpy_reader.specs.mpy_tree.Raw.{Module}
 use Rattle.bc_library.specs.Shelf.{Shelf, no_entries, with_module, with_refused, member_of}
 use Rattle.library_files.specs.declared.entry.Entry.{Entry}
 use Rattle.library_files.specs.declared.entry.Entry.TheVariants as entries

@@ -1,13 +1,15 @@
 -- What the steps of loading do.
-use Rattle.std.specs.Prelude.{◌≡◌, ◌⊎◌, ℕ, ◌+◌, ◌-◌, ◌^◌, ◌<◌, ◌≤◌, List, [], ◌∷◌, ◌++◌, length, reverse, Vec, Some, None, Result, Ok, Err, ⊤}
+use Rattle.std.specs.Prelude.{◌≡◌, ◌⊎◌, ℕ, ◌+◌, ◌-◌, ◌^◌, ◌<◌, ◌≤◌, List, [], ◌∷◌, ◌++◌, length, reverse, Vec, Option, Some, None, IfSome, Result, Ok, Err, ⊤}
 use Rattle.std.specs.List.{AllByRecursion}
 use Rattle.std.specs.declared.alloc.Global.{Global}
 use Rattle.mpy_base.specs.declared.limits.TheConstants.{MAX_MODULES}
 use Rattle.mpy_base.specs.declared.refused.Refused.{Refused}
 use Rattle.mpy_base.specs.declared.refused.Refused.TheVariants.{Fault, NoMemory}
-use Rattle.mpy_tree.specs.File.{IsModule}
-use Rattle.mpy_tree.specs.Raw.{Module}
+use Rattle.mpy_io.specs.Files.{FileOf}
+use Rattle.mpy_reader.specs.mpy_tree.File.{IsModule}
+use Rattle.mpy_reader.specs.mpy_tree.Raw.{Module}
 use Rattle.pkg_paths.specs.Plain.{IsPlain}
+use Rattle.qstr_pool.specs.Pool.{Texts, interned}
 use Rattle.bc_library.specs.declared.fault.LibFault.{LibFault}
 use Rattle.bc_library.specs.declared.fault.LibFault.TheVariants as lib
 use Rattle.bc_library.specs.Shelf.{Named, Shelf, no_entries, with_module}
@@ -34,6 +36,20 @@ Takes old new name entry (Err (Fault (Past limit))) = limit_of old.library old.s
 Takes old new name entry (Err (Fault (Failed failed))) = ⊥
 Takes old new name entry (Err (Fault (Unaccepted source))) = ⊥
 Takes old new name entry (Err NoMemory) = ⊤
+
+-- a name that is absent may be remembered; another entry leaves those that are as they were
+abbrev pub Remembers : (old new : Texts) → (name : List ℕ) → Entry → Type 0
+Remembers old new name entries.Absent = (new ≡ old) ⊎ (new ≡ interned old name)
+Remembers old new name entries.Refused = new ≡ old
+Remembers old new name (entries.Held m size) = new ≡ old
+
+-- each of the names is absent
+abbrev pub AreAbsent : OfNames → List (List ℕ) → Type 0
+AreAbsent Comes names = AllByRecursion (λ name. Comes name (Ok entries.Absent)) names
+
+-- each of the names is absent from a folder that tells its files
+abbrev pub AreKnownAbsent : (FileOf → OfNames) → Option FileOf → List (List ℕ) → Type 0
+AreKnownAbsent Of told names = IfSome told (λ files. AreAbsent (Of files) names)
 
 -- what a library's fault of a name that wasn't there comes to
 abbrev pub LimitComesTo : Refused LibFault → Refused LoadFault → Type 0
@@ -113,11 +129,18 @@ pub record Step (old new : Shelf) (before after : List (List ℕ)) : Type 0 wher
 -- the beginning
 -- =============
 
+-- no module is loaded, and no name was absent
+pub record IsNothing (begun : Begun) : Type 0 where
+  pub library_is : begun.library ≡ no_entries
+  pub size_is : begun.size ≡ 0
+  pub absent_is : begun.absent.texts ≡ []
+
 -- the library of the main module alone, and the names that it imports, from the last to the first
 pub record IsBegun (main : Module) (size : ℕ) (begun : Begun) (left : List (List ℕ)) : Type 0 where
   pub within : limit_of no_entries 0 main_name (entries.Held main size) ≡ None
   pub library_is : begun.library ≡ with_module no_entries main_name main
   pub size_is : begun.size ≡ size
+  pub absent_is : begun.absent.texts ≡ []
   pub imports : Imports main (reverse left)
   pub held : IsModule main
   pub short : AreShort left

@@ -5,19 +5,19 @@ ghost use Rattle.std.specs.List.{filter_map};
 ghost use Rattle.std.specs.Option.{option_copied};
 ghost use Rattle.bc_ops.specs.Listing.{IsListOf};
 ghost use Rattle.mpy_base.specs.declared.limits.TheConstants.{MAX_CODE_BYTES};
-ghost use Rattle.mpy_tree.specs.declared.raw.RawCode.{out-RawCode};
-ghost use Rattle.mpy_tree.specs.File.{IsCode};
-ghost use Rattle.mpy_tree.specs.Raw as raw;
-ghost use Rattle.mpy_tree.specs.Raw.{Module};
-ghost use Rattle.mpy_tree.specs.Resolved as resolved;
-ghost use Rattle.mpy_tree.specs.Resolved.{Body, Tree, IsBody, ResolvesCode};
+ghost use Rattle.mpy_reader.specs.mpy_tree.declared.raw.RawCode.{out-RawCode};
+ghost use Rattle.mpy_reader.specs.mpy_tree.File.{IsCode};
+ghost use Rattle.mpy_reader.specs.mpy_tree.Raw as raw;
+ghost use Rattle.mpy_reader.specs.mpy_tree.Raw.{Module};
+ghost use Rattle.mpy_reader.specs.mpy_tree.Resolved as resolved;
+ghost use Rattle.mpy_reader.specs.mpy_tree.Resolved.{Body, Tree, IsBody, ResolvesCode};
 ghost use Rattle.library_files.specs.Imports.{Imports, import_of, own_imports, imports_of};
 
 use bc_ops::{Instr, Item, Op, items_of};
 use bc_prelude::parts_of;
 use bc_resolved::resolves_law;
 use mpy_base::{NoMemory, Text};
-use mpy_tree::{Qstr, RawCode, RawModule, module_law};
+use mpy_reader::mpy_tree::{Qstr, RawCode, RawModule, module_law};
 use qstr_pool::static_text;
 use std::alloc::Global;
 

@@ -2,7 +2,7 @@
 
 ghost use Rattle.std.specs.Prelude.{◌≡◌, ℕ, List};
 ghost use Rattle.mpy_io.specs.Files.{FileOf};
-ghost use Rattle.mpy_tree.specs.Raw.{Module};
+ghost use Rattle.mpy_reader.specs.mpy_tree.Raw.{Module};
 ghost use Rattle.library_files.specs.Loads.{Loading, LoadsFrom};
 
 use crate::imports::imports_law;

@@ -4,13 +4,13 @@ ghost use Rattle.std.specs.Prelude.{◌≡◌, ◌≢◌, ℕ, ◌^◌, ◌<◌,
 ghost use Rattle.mpy_base.specs.declared.refused.Refused.TheVariants as refusals;
 ghost use Rattle.mpy_io.specs.Count.{Counts};
 ghost use Rattle.pkg_paths.specs.Plain.{IsPlain};
-ghost use Rattle.bc_library.specs.Shelf.{member_of, no_entries};
+ghost use Rattle.bc_library.specs.Shelf.{member_of};
 ghost use Rattle.library_files.specs.declared.entry.Entry.TheVariants as entries;
 ghost use Rattle.library_files.specs.Asked.{asked_for};
 ghost use Rattle.library_files.specs.Comes.{NameComesTo};
 ghost use Rattle.library_files.specs.Ends.{BeginsWith, EndsIn, FailsAmong, FailsInBase, HoldsModules, is_failed};
 ghost use Rattle.library_files.specs.Loads.{Loads, LoadsFrom, LoadsWith};
-ghost use Rattle.library_files.specs.Steps.{AddsImports, AddsModules, AreAsked, AreModules, AreShort, Asks, AsksAll, AsksFound, BeginsBy, LimitComesTo, LoadsLeft, Step, Takes};
+ghost use Rattle.library_files.specs.Steps.{AddsImports, AddsModules, AreAsked, AreKnownAbsent, AreModules, AreShort, Asks, AsksAll, AsksFound, BeginsBy, IsNothing, LimitComesTo, LoadsLeft, Remembers, Step, Takes};
 
 use crate::asked::asked_names;
 use crate::entry::Entry;
@@ -19,18 +19,20 @@ use crate::limit::{Limit, LoadFault, MAX_LIBRARY_BYTES};
 use crate::module_files::ModuleFiles;
 use crate::reader::Reader;
 use crate::search::entry_of;
+use bc_library::bc_verify::Verified;
 use bc_library::{LibFault, Library, modules_law};
-use bc_verify::Verified;
 use mpy_base::{NoMemory, Refused, Text};
 use mpy_io::Folder;
-use mpy_tree::module_law;
+use mpy_reader::mpy_tree::module_law;
+use qstr_pool::Pool;
 use std::alloc::Global;
 
-/// A library that is being loaded, and how many bytes the files of its modules have together.
+/// A library that is being loaded, how many bytes the files of its modules have together, and the names that were absent.
 #[derive(Drop)]
 struct Begun {
     library: Library,
     size: usize,
+    absent: Pool,
 }
 
 /// Why nothing is loaded where a library doesn't take an entry of a name that wasn't there.
@@ -57,7 +59,8 @@ fn add_module(
     requires name_is { IsPlain name.now }
     requires short { length name.now < 2 ^ 31 }
     requires fresh { member_of begun.old.library name.now ≡ None }
-    ensures { Takes begun.old begun.new name.now (entries.Held verified bytes) result }
+    ensures takes { Takes begun.old begun.new name.now (entries.Held verified bytes) result }
+    ensures absent { begun.new.absent ≡ begun.old.absent }
 {
     match begun.library.add(alloc, name, verified) {
         Ok(()) => {
@@ -77,11 +80,25 @@ fn add_refused(alloc: Global, begun: &mut Begun, name: &[u8]) -> Result<(), Refu
     requires name_is { IsPlain name.now }
     requires short { length name.now < 2 ^ 31 }
     requires fresh { member_of begun.old.library name.now ≡ None }
-    ensures { Takes begun.old begun.new name.now entries.Refused result }
+    ensures takes { Takes begun.old begun.new name.now entries.Refused result }
+    ensures absent { begun.new.absent ≡ begun.old.absent }
 {
     match begun.library.add_refused(alloc, name) {
         Ok(()) => Ok(()),
         Err(refused) => Err(limit_fault(refused)),
+    }
+}
+
+/// Remembers that no file has the name, as long as there is room for one more such name.
+fn take_absent(alloc: Global, begun: &mut Begun, name: &[u8]) -> Result<(), Refused<LoadFault>>
+    ensures takes { Takes begun.old begun.new name.now entries.Absent result }
+    ensures remembers { OnOk result (Remembers begun.old.absent begun.new.absent name.now entries.Absent) }
+    ensures same { begun.new.library ≡ begun.old.library }
+{
+    match begun.absent.intern(alloc, name) {
+        Ok(_) => Ok(()),
+        Err(Refused::Fault(_)) => Ok(()),
+        Err(Refused::NoMemory) => Err(Refused::NoMemory),
     }
 }
 
@@ -100,6 +117,7 @@ fn take_module(
     ensures takes { Takes begun.old begun.new name.now (entries.Held verified bytes) result }
     ensures imports { OnOk result (AddsImports (entries.Held verified bytes) found.old.items found.new.items) }
     ensures step { OnOk result (Step begun.old.library begun.new.library found.old.items found.new.items) }
+    ensures absent { begun.new.absent ≡ begun.old.absent }
 {
     let raw = verified.module();
     module_law(raw);
@@ -123,15 +141,16 @@ fn take_entry(
     ensures takes { Takes begun.old begun.new name.now entry result }
     ensures imports { OnOk result (AddsImports entry found.old.items found.new.items) }
     ensures step { OnOk result (Step begun.old.library begun.new.library found.old.items found.new.items) }
+    ensures remembers { OnOk result (Remembers begun.old.absent begun.new.absent name.now entry) }
 {
     match entry {
-        Entry::Absent => Ok(()),
+        Entry::Absent => take_absent(alloc, begun, name),
         Entry::Refused => add_refused(alloc, begun, name),
         Entry::Held(verified, bytes) => take_module(alloc, begun, name, verified, bytes, found),
     }
 }
 
-/// Reads the file of a name that the library doesn't have.
+/// Reads the file of a name that the library doesn't have, and that isn't known to be absent.
 fn read_asked<R: Reader, F: Folder>(
     alloc: Global,
     reader: &R,
@@ -145,9 +164,11 @@ fn read_asked<R: Reader, F: Folder>(
     requires name_is { IsPlain name.now }
     requires short { length name.now < 2 ^ 31 }
     requires fresh { member_of begun.old.library name.now ≡ None }
+    requires absent { AreKnownAbsent (NameComesTo (R.ending reader.now) (R.comes reader.now) base.now) (F.files folder.old) begun.old.absent.texts }
     ensures loads { IfSome (F.files folder.old)
         (λ files. Asks (NameComesTo (R.ending reader.now) (R.comes reader.now) base.now files) begun.old begun.new name.now found.old.items found.new.items result) }
     ensures step { OnOk result (Step begun.old.library begun.new.library found.old.items found.new.items) }
+    ensures absent { OnOk result (AreKnownAbsent (NameComesTo (R.ending reader.now) (R.comes reader.now) base.now) (F.files folder.new) begun.new.absent.texts) }
     ensures same { F.files folder.new ≡ F.files folder.old }
     ensures at { FailsAmong (R.ending reader.now) (R.comes reader.now) base.now result }
     ensures cause { Counts (F.count folder.old) (F.count folder.new) (is_failed result) }
@@ -158,7 +179,36 @@ fn read_asked<R: Reader, F: Folder>(
     }
 }
 
-/// Asks for a name: its file is read unless the library has it.
+/// Asks for a name that the library doesn't have: its file is read unless it is known to be absent.
+fn ask_unknown<R: Reader, F: Folder>(
+    alloc: Global,
+    reader: &R,
+    folder: &mut F,
+    base: &[u8],
+    name: &[u8],
+    begun: &mut Begun,
+    found: &mut Vec<Text>,
+) -> Result<(), Refused<LoadFault>>
+    requires base_is { IsUtf8 base.now }
+    requires name_is { IsPlain name.now }
+    requires short { length name.now < 2 ^ 31 }
+    requires fresh { member_of begun.old.library name.now ≡ None }
+    requires absent { AreKnownAbsent (NameComesTo (R.ending reader.now) (R.comes reader.now) base.now) (F.files folder.old) begun.old.absent.texts }
+    ensures loads { IfSome (F.files folder.old)
+        (λ files. Asks (NameComesTo (R.ending reader.now) (R.comes reader.now) base.now files) begun.old begun.new name.now found.old.items found.new.items result) }
+    ensures step { OnOk result (Step begun.old.library begun.new.library found.old.items found.new.items) }
+    ensures absent { OnOk result (AreKnownAbsent (NameComesTo (R.ending reader.now) (R.comes reader.now) base.now) (F.files folder.new) begun.new.absent.texts) }
+    ensures same { F.files folder.new ≡ F.files folder.old }
+    ensures at { FailsAmong (R.ending reader.now) (R.comes reader.now) base.now result }
+    ensures cause { Counts (F.count folder.old) (F.count folder.new) (is_failed result) }
+{
+    match begun.absent.find(name) {
+        Some(_) => Ok(()),
+        None => read_asked(alloc, reader, folder, base, name, begun, found),
+    }
+}
+
+/// Asks for a name: its file is read unless the library has it, or it is known to be absent.
 fn ask<R: Reader, F: Folder>(
     alloc: Global,
     reader: &R,
@@ -171,16 +221,18 @@ fn ask<R: Reader, F: Folder>(
     requires base_is { IsUtf8 base.now }
     requires name_is { IsPlain name.now }
     requires short { length name.now < 2 ^ 31 }
+    requires absent { AreKnownAbsent (NameComesTo (R.ending reader.now) (R.comes reader.now) base.now) (F.files folder.old) begun.old.absent.texts }
     ensures loads { IfSome (F.files folder.old)
         (λ files. Asks (NameComesTo (R.ending reader.now) (R.comes reader.now) base.now files) begun.old begun.new name.now found.old.items found.new.items result) }
     ensures step { OnOk result (Step begun.old.library begun.new.library found.old.items found.new.items) }
+    ensures absent { OnOk result (AreKnownAbsent (NameComesTo (R.ending reader.now) (R.comes reader.now) base.now) (F.files folder.new) begun.new.absent.texts) }
     ensures same { F.files folder.new ≡ F.files folder.old }
     ensures at { FailsAmong (R.ending reader.now) (R.comes reader.now) base.now result }
     ensures cause { Counts (F.count folder.old) (F.count folder.new) (is_failed result) }
 {
     match begun.library.find(name) {
         Some(_) => Ok(()),
-        None => read_asked(alloc, reader, folder, base, name, begun, found),
+        None => ask_unknown(alloc, reader, folder, base, name, begun, found),
     }
 }
 
@@ -196,9 +248,11 @@ fn ask_all<R: Reader, F: Folder>(
 ) -> Result<(), Refused<LoadFault>>
     requires base_is { IsUtf8 base.now }
     requires names_are { AreAsked names.now }
+    requires absent { AreKnownAbsent (NameComesTo (R.ending reader.now) (R.comes reader.now) base.now) (F.files folder.old) begun.old.absent.texts }
     ensures loads { IfSome (F.files folder.old)
         (λ files. AsksAll (NameComesTo (R.ending reader.now) (R.comes reader.now) base.now files) begun.old begun.new names.now found.old.items found.new.items result) }
     ensures step { OnOk result (Step begun.old.library begun.new.library found.old.items found.new.items) }
+    ensures absent { OnOk result (AreKnownAbsent (NameComesTo (R.ending reader.now) (R.comes reader.now) base.now) (F.files folder.new) begun.new.absent.texts) }
     ensures same { F.files folder.new ≡ F.files folder.old }
     ensures at { FailsAmong (R.ending reader.now) (R.comes reader.now) base.now result }
     ensures cause { Counts (F.count folder.old) (F.count folder.new) (is_failed result) }
@@ -223,8 +277,10 @@ fn ask_found<R: Reader, F: Folder>(
 ) -> Result<Vec<Text>, Refused<LoadFault>>
     requires base_is { IsUtf8 base.now }
     requires names_are { AreAsked names.now }
+    requires absent { AreKnownAbsent (NameComesTo (R.ending reader.now) (R.comes reader.now) base.now) (F.files folder.old) begun.old.absent.texts }
     ensures loads { IfSome (F.files folder.old) (λ files. AsksFound (NameComesTo (R.ending reader.now) (R.comes reader.now) base.now files) begun.old begun.new names.now result) }
     ensures step { IfOk result (λ found. Step begun.old.library begun.new.library [] found.items) }
+    ensures absent { OnOk result (AreKnownAbsent (NameComesTo (R.ending reader.now) (R.comes reader.now) base.now) (F.files folder.new) begun.new.absent.texts) }
     ensures same { F.files folder.new ≡ F.files folder.old }
     ensures at { FailsAmong (R.ending reader.now) (R.comes reader.now) base.now result }
     ensures cause { Counts (F.count folder.old) (F.count folder.new) (is_failed result) }
@@ -247,9 +303,11 @@ fn import<R: Reader, F: Folder>(
 ) -> Result<Vec<Text>, Refused<LoadFault>>
     requires base_is { IsUtf8 base.now }
     requires short { length name.now < 2 ^ 31 }
+    requires absent { AreKnownAbsent (NameComesTo (R.ending reader.now) (R.comes reader.now) base.now) (F.files folder.old) begun.old.absent.texts }
     ensures loads { IfSome (F.files folder.old)
         (λ files. AsksFound (NameComesTo (R.ending reader.now) (R.comes reader.now) base.now files) begun.old begun.new (asked_for name.now) result) }
     ensures step { IfOk result (λ found. Step begun.old.library begun.new.library [] found.items) }
+    ensures absent { OnOk result (AreKnownAbsent (NameComesTo (R.ending reader.now) (R.comes reader.now) base.now) (F.files folder.new) begun.new.absent.texts) }
     ensures same { F.files folder.new ≡ F.files folder.old }
     ensures at { FailsAmong (R.ending reader.now) (R.comes reader.now) base.now result }
     ensures cause { Counts (F.count folder.old) (F.count folder.new) (is_failed result) }
@@ -280,8 +338,10 @@ fn load_left<R: Reader, F: Folder>(
 ) -> Result<(), Refused<LoadFault>>
     requires base_is { IsUtf8 base.now }
     requires short { AreShort left.items }
+    requires absent { AreKnownAbsent (NameComesTo (R.ending reader.now) (R.comes reader.now) base.now) (F.files folder.old) begun.old.absent.texts }
     ensures loads { IfSome (F.files folder.old) (λ files. LoadsLeft (NameComesTo (R.ending reader.now) (R.comes reader.now) base.now files) begun.old begun.new (reverse left.items) result) }
     ensures adds { OnOk result (AddsModules begun.old.library begun.new.library) }
+    ensures absent { OnOk result (AreKnownAbsent (NameComesTo (R.ending reader.now) (R.comes reader.now) base.now) (F.files folder.new) begun.new.absent.texts) }
     ensures same { F.files folder.new ≡ F.files folder.old }
     ensures at { FailsAmong (R.ending reader.now) (R.comes reader.now) base.now result }
     ensures cause { Counts (F.count folder.old) (F.count folder.new) (is_failed result) }
@@ -306,18 +366,30 @@ fn reversed(mut found: Vec<Text>) -> Vec<Text>
     found
 }
 
+/// No module is loaded yet, and no name was absent.
+fn nothing(alloc: Global) -> Result<Begun, NoMemory>
+    ensures { IfOk result IsNothing }
+{
+    let library = Library::new(alloc)?;
+    let absent = Pool::new(alloc, 0)?;
+    Ok(Begun {
+        library,
+        size: 0,
+        absent,
+    })
+}
+
 /// Puts the main module into the library, and gives the names that it imports, from the last to the first.
 fn take_main(
     alloc: Global,
-    library: Library,
+    mut begun: Begun,
     main: Verified,
     size: usize,
 ) -> Result<(Begun, Vec<Text>), Refused<LoadFault>>
-    requires { library ≡ no_entries }
+    requires { IsNothing begun }
     ensures { BeginsBy main size result }
 {
     module_law(main.module());
-    let mut begun = Begun { library, size: 0 };
     let mut imports = Vec::new(alloc);
     match take_module(alloc, &mut begun, b"__main__", main, size, &mut imports) {
         Ok(()) => Ok((begun, reversed(imports))),
@@ -333,8 +405,8 @@ fn begin(
 ) -> Result<(Begun, Vec<Text>), Refused<LoadFault>>
     ensures { BeginsBy main size result }
 {
-    match Library::new(alloc) {
-        Ok(library) => take_main(alloc, library, main, size),
+    match nothing(alloc) {
+        Ok(begun) => take_main(alloc, begun, main, size),
         Err(NoMemory) => Err(Refused::NoMemory),
     }
 }
@@ -351,6 +423,7 @@ fn load_all<R: Reader, F: Folder>(
     requires base_is { IsUtf8 base.now }
     requires short { AreShort left.items }
     requires held { AreModules begun.library.modules }
+    requires absent { AreKnownAbsent (NameComesTo (R.ending reader.now) (R.comes reader.now) base.now) (F.files folder.old) begun.absent.texts }
     ensures loaded { IfSome (F.files folder.old)
         (λ files. EndsIn (Loads (NameComesTo (R.ending reader.now) (R.comes reader.now) base.now files) begun.library begun.size [] (reverse left.items) []) result) }
     ensures adds { IfOk result (AddsModules begun.library) }
@@ -361,7 +434,11 @@ fn load_all<R: Reader, F: Folder>(
 {
     match load_left(alloc, reader, folder, base, left, &mut begun) {
         Ok(()) => {
-            let Begun { library, size: _ } = begun;
+            let Begun {
+                library,
+                size: _,
+                absent: _,
+            } = begun;
             modules_law(&library);
             Ok(library)
         }
@@ -371,7 +448,7 @@ fn load_all<R: Reader, F: Folder>(
 
 /// Loads the library of a main module, whose file has `size` bytes, from the files of a folder as the reader reads them.
 /// The base folder stands in front of their names as it is: with its `/`, or empty. Each name that is asked for takes two
-/// reads at most.
+/// reads at most, and is read once, also where no file has it: up to 65,535 absent names are remembered.
 pub fn load_by<R: Reader, F: Folder>(
     alloc: Global,
     reader: &R,

@@ -1,5 +1,6 @@
 -- What a machine that has run says of the run of its library.
-use Rattle.std.proofs.Common.{◌≡◌, ◌⊎◌, inl, inr, ℕ, ◌+◌, ◌≤◌, ◌<◌, List, [], ◌∷◌, ◌++◌, Bool, true, false, Option, Some, None, refl, sym, ap, subst, ◌∙◌, append_assoc, append-nil, arith}
+use Rattle.std.proofs.Common.{◌≡◌, ◌⊎◌, inl, inr, ℕ, ◌+◌, ◌≤◌, ◌<◌, List, [], ◌∷◌, ◌++◌, Bool, true, false, Option, Some, None, refl, sym, ap, subst, ◌∙◌, append_assoc, append-nil, add-one, zero, suc, arith}
+use Rattle.std.proofs.lemmas.List.{append_cancel_left}
 use Rattle.std.specs.Io.KnownBytes.{Appends, Keeps}
 use Rattle.std.proofs.KnownBytes.{Appends-kept, Appends-trans}
 use Rattle.mpy_base.specs.declared.room.Room.{Room}
@@ -10,28 +11,27 @@ use Rattle.mpy_io.specs.Told.{AppendsFront}
 use Rattle.port_set.specs.Calls.{Tell}
 use Rattle.port_set.specs.Counts.{AreAccounted}
 use Rattle.port_set.proofs.Counting.{beyond_within, none_beyond}
-use Rattle.py_effects.specs.Ends as plain
-use Rattle.py_effects.specs.Ends.{Run, new_world, end_report}
-use Rattle.py_effects.specs.Growth.{Starts}
+use Rattle.vm_frames.specs.py_effects.Ends as plain
+use Rattle.vm_frames.specs.py_effects.Ends.{Run, new_world, end_report}
+use Rattle.vm_frames.specs.py_effects.Growth.{Starts}
 use Rattle.bc_library.specs.Constants.{items_at, text_at}
 use Rattle.bc_library.specs.Shelf.{Named, Shelf}
-use Rattle.bc_machine.specs.Library.{Name, Library}
-use Rattle.bc_machine.specs.State.{State}
-use Rattle.bc_machine.specs.Step.{step}
-use Rattle.bc_machine.specs.Machine.{start, steps, run, run_of}
-use Rattle.bc_outputs.specs.Behind.{behind, state_behind, run_behind}
+use Rattle.vm_frames.specs.bc_machine.Library.{Name, Library}
+use Rattle.vm_frames.specs.bc_machine.State.{State}
+use Rattle.vm_frames.specs.bc_machine.Step.{step}
+use Rattle.vm_frames.specs.bc_machine.Machine.{start, steps, run, run_of}
+use Rattle.vm_frames.specs.bc_machine.Behind.{behind, state_behind, run_behind}
 use Rattle.vm_frames.specs.Calls.{Call}
-use Rattle.vm_machine.specs.vm_step.Shown.{Tables, running_of}
-use Rattle.vm_walks.specs.Plain.{plain_heap}
-use Rattle.vm_reports.specs.vm_outputs.Prints.{Puts}
-use Rattle.vm_machine.specs.vm_unwinding.declared.ends.End.{End}
-use Rattle.vm_machine.specs.vm_unwinding.declared.ends.End.TheVariants as stops
-use Rattle.vm_machine.specs.vm_states.Means.{Program}
-use Rattle.vm_machine.specs.vm_programs.Programs.{IsProgramOf}
-use Rattle.vm_machine.specs.vm_starting.declared.opening.Vm.{Vm}
+use Rattle.state_calls.specs.frame_moves.Shown.{Tables, running_of}
+use Rattle.prim_walks.specs.Plain.{plain_heap}
+use Rattle.prim_outputs.specs.Prints.{Puts}
+use Rattle.state_calls.specs.frame_exits.declared.ends.End.{End}
+use Rattle.state_calls.specs.frame_exits.declared.ends.End.TheVariants as stops
+use Rattle.vm_starting.specs.vm_states.Means.{Program}
+use Rattle.vm_starting.specs.Programs.{IsProgramOf}
+use Rattle.vm_starting.specs.declared.opening.Vm.{Vm}
 use Rattle.vm_machine.specs.Machine.{paid_state, world_in, machine_of}
-use Rattle.vm_machine.specs.Running.{Outside, Agree, RunsFor, Strays, SinkFails, RunsToFailure}
-use Rattle.vm_machine.specs.Running.{Runs as MachineRuns}
+use Rattle.vm_machine.specs.Running.{Outside, Agree, RunsFor, Strays, SinkFails, RunsToFailure, Runs as MachineRuns}
 use Rattle.std.specs.Prelude.{slice_get}
 use Rattle.library_runs.specs.declared.ending.RunEnd.{RunEnd}
 use Rattle.library_runs.specs.declared.ending.RunEnd.TheVariants as ends
@@ -49,8 +49,8 @@ puts_said told count old new false text p = inl (p.whole refl, p.cause)
 pub end_is_said : (shelf : Shelf) (vm : Vm) (end : Option End) → IsSaid (answer_of end) (said_by shelf vm end)
 end_is_said shelf vm None = refl
 end_is_said shelf vm (Some stops.Ended) = refl
-end_is_said shelf vm (Some (stops.Raised x)) = tt
-end_is_said shelf vm (Some (stops.Memory room)) = tt
+end_is_said shelf vm (Some (stops.Raised x)) = (plain_heap (text_at shelf) (items_at shelf) vm.arena, x.cell, refl)
+end_is_said shelf vm (Some (stops.Memory room)) = (room, refl)
 
 pub end_is_over : (end : Option End) → IsOver (answer_of end)
 end_is_over None = tt
@@ -99,6 +99,11 @@ module _ (p : Program) where
   heap_is shelf is vm w =
       let same = is.means.constants in
       ap (λ texts. plain_heap texts p.tables.tuples vm.arena) same.texts ∙ ap (λ tuples. plain_heap (text_at p.shelf) tuples vm.arena) same.tuples
+
+-- the last step of some
+steps_last : (library : Library) (n : ℕ) (s : State) → steps library (suc n) s ≡ step library (steps library n s)
+steps_last library zero s = refl
+steps_last library (suc n) s = steps_last library n (step library s)
 
 -- what the laws of outputs say
 abbrev StartsBehind : Type 0
@@ -178,7 +183,22 @@ module _ (starts_behind : StartsBehind) (runs_behind : RunsBehind) (put_stands :
     taken = n;
     within = grind arith;
     told = subst (λ (views : List PortView). Tell views (r n).world.ports) (sym same) (told_then n new seen x);
+    more = [];
+    added = subst (λ (out : List ℕ). Appends old.out now.out out) (sym (append-nil (r n).world.output))
+        (Appends-kept old.out (told seen.out) now.out (r n).world.output (added n new old.out seen e x) kept);
+    next = inl refl;
   }
+
+  -- what is printed behind the next step
+  one_more : (n : ℕ) (text before front rest : List ℕ) → (run_of (step p.library (steps p.library n (start p.library name here)))).world.output ≡ (printed ++ before) ++ text → text ≡ front ++ rest
+      → (r (n + 1)).world.output ≡ (before ++ front) ++ rest
+  one_more n text before front rest next parts =
+      let whole : printed ++ (r (suc n)).world.output ≡ (printed ++ before) ++ text =
+      sym (ap (λ (x : Run). x.world.output) (runs_behind p.library name room.cells room.bytes ports (suc n) printed))
+      ∙ (ap (λ (s : State). (run_of s).world.output) (steps_last p.library n (start p.library name here)) ∙ next) in
+      ap (λ (k : ℕ). (r k).world.output) (add-one n)
+      ∙ (append_cancel_left printed (r (suc n)).world.output (before ++ text) (whole ∙ append_assoc printed before text)
+      ∙ (ap (λ (t : List ℕ). before ++ t) parts ∙ sym (append_assoc before front rest)))
 
   -- the sink failed in a put
   pub cut : (count : S → ℕ) (most : ℕ) (old : Sight) (seen : Outside S) → old.out ≡ Some printed → SinkFails told p vm here count most seen
@@ -204,6 +224,9 @@ module _ (starts_behind : StartsBehind) (runs_behind : RunsBehind) (put_stands :
         taken = f.taken;
         within = omega (arith, f.within);
         told = subst (λ (views : List PortView). Tell views (r f.taken).world.ports) (sym f.ports) (told_then f.taken f.there f.between x);
+        more = part.front;
+        added = Appends-trans old.out (told f.between.out) (told seen.out) before part.front (added f.taken f.there old.out f.between e x) part.added;
+        next = inr (f.within, (part.rest, one_more f.taken f.text before part.front part.rest (next ∙ ap (λ (out : List ℕ). out ++ f.text) (ap (λ (w : PlainWorld). w.output) (world_is f.taken f.there x.after x.steps))) part.parts));
       }
 
   -- a port strayed

@@ -1,6 +1,7 @@
 -- How a run of a library of files ends, and what is seen of it.
-use Rattle.std.specs.Prelude.{◌≡◌, ◌⊎◌, ℕ, ◌≤◌, List, [], map, Bool, true, false, Option, Some}
+use Rattle.std.specs.Prelude.{◌≡◌, ◌⊎◌, ℕ, ◌+◌, ◌<◌, ◌≤◌, List, [], ◌++◌, map, Bool, true, false, Option, Some}
 use Rattle.std.specs.Io.KnownBytes.{Appends}
+use Rattle.mpy_base.specs.declared.room.NoRoom.{NoRoom}
 use Rattle.mpy_base.specs.declared.room.Room.{Room}
 use Rattle.mpy_base.specs.Val.{PlainWorld}
 use Rattle.mpy_base.specs.World.{PortState}
@@ -10,16 +11,17 @@ use Rattle.mpy_io.specs.Told.{AppendsFront}
 use Rattle.port_set.specs.Calls.{Tell}
 use Rattle.port_set.specs.Counts.{RoseBeyond}
 use Rattle.bc_library.specs.Shelf.{Shelf}
-use Rattle.py_effects.specs.Ends as plain
-use Rattle.py_effects.specs.Ends.{End, Run, end_report, new_world}
+use Rattle.vm_frames.specs.py_effects.Ends as plain
+use Rattle.vm_frames.specs.py_effects.Ends.{End, Run, end_report, new_world}
+use Rattle.vm_frames.specs.py_effects.Growth.{Starts}
 use Rattle.py_values.specs.Shown.{PlainHeap}
-use Rattle.bc_machine.specs.Library.{Name}
-use Rattle.bc_machine.specs.Machine.{run, start}
-use Rattle.bc_outputs.specs.Behind.{behind}
-use Rattle.vm_reports.specs.Rooms.{room_line}
-use Rattle.vm_machine.specs.vm_states.Means.{Program}
-use Rattle.vm_machine.specs.vm_programs.Programs.{IsProgramOf}
-use Rattle.vm_machine.specs.vm_starting.declared.opening.Vm.{Vm}
+use Rattle.vm_frames.specs.bc_machine.Library.{Name}
+use Rattle.vm_frames.specs.bc_machine.Machine.{run, start}
+use Rattle.vm_frames.specs.bc_machine.Behind.{behind}
+use Rattle.prim_outputs.specs.Rooms.{room_line}
+use Rattle.vm_starting.specs.vm_states.Means.{Program}
+use Rattle.vm_starting.specs.Programs.{IsProgramOf}
+use Rattle.vm_starting.specs.declared.opening.Vm.{Vm}
 use Rattle.vm_machine.specs.Machine.{machine_of}
 use Rattle.vm_machine.specs.Running.{Outside, Strays}
 use Rattle.library_runs.specs.declared.ending.RunEnd.{RunEnd}
@@ -75,11 +77,11 @@ is_write_fault ends.Limit = false
 is_write_fault ends.WriteFault = true
 is_write_fault ends.NoMemory = false
 
--- only these two say something
+-- only these two say something: the report of an exception, and the numbers of a room
 abbrev pub IsSaid : RunEnd → List ℕ → Type 0
 IsSaid ends.Ended said = said ≡ []
-IsSaid ends.Raised said = Unit {0}
-IsSaid ends.Memory said = Unit {0}
+IsSaid ends.Raised said = (heap : PlainHeap) × (x : ℕ) × (said ≡ end_report heap (plain.Raised x))
+IsSaid ends.Memory said = (room : NoRoom) × (said ≡ room_line room)
 IsSaid ends.Limit said = said ≡ []
 IsSaid ends.WriteFault said = said ≡ []
 IsSaid ends.NoMemory said = said ≡ []
@@ -97,12 +99,16 @@ module _ (p : Program) (name : Name) (room : Room) (steps : ℕ) (ports : List P
     pub output : Appends old.out new.out (run_for steps).world.output
     pub told : Tell new.ports (run_for steps).world.ports
 
-  -- the sink failed: a front of its output was added, and the ports tell those that it had behind some step
+  -- The sink failed: a front of its output was added, all that was printed behind some step, and a front of what the next one prints. The
+  -- ports tell those that it had behind that step.
   pub record CutShort (old new : Sight) : Type 0 where
     pub output : AppendsFront old.out new.out (run_for steps).world.output
     pub taken : ℕ
     pub within : taken ≤ steps
     pub told : Tell new.ports (run_for taken).world.ports
+    pub more : List ℕ
+    pub added : Appends old.out new.out ((run_for taken).world.output ++ more)
+    pub next : (more ≡ []) ⊎ ((taken < steps) × Starts ((run_for taken).world.output ++ more) (run_for (taken + 1)).world.output)
 
   -- the world in which it begins behind what was printed
   abbrev pub begins_in : List ℕ → PlainWorld

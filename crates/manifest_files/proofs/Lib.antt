@@ -1,6 +1,8 @@
-pub mod Said
+mod Examples
 pub mod Goes
 pub mod Names
-pub mod Tells
+pub mod Passing
 mod Plain
-mod Examples
+pub mod Quiet
+pub mod Said
+pub mod Tells

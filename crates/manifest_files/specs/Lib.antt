@@ -1,4 +1,7 @@
-pub mod Faults
-pub mod Entries
+pub use Rattle.image_grammar.specs as image_grammar
 pub mod Answers
+pub mod Entries
+pub mod Faults
+pub mod FrozenFaults
 pub mod Plain
+pub mod Quiet

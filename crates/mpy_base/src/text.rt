@@ -3,13 +3,18 @@
 ghost use Rattle.std.specs.Prelude.{◌≡◌, [], IfOk};
 
 use crate::NoMemory;
+use smallvec::SmallVec;
 use std::alloc::Global;
 use std::marker::Model;
 
-/// Bytes that contracts see as their list, so that two texts with the same bytes are one.
+/// The longest text that takes no memory of its own, in bytes.
+const IN_PLACE: usize = 24;
+
+/// Bytes that contracts see as their list, so that two texts with the same bytes are one. Texts of up to 24 bytes, as most
+/// names are, stand in place; longer ones take a block.
 #[derive(Debug, Drop)]
 pub struct Text {
-    bytes: Vec<u8>,
+    bytes: SmallVec<u8, IN_PLACE>,
 }
 
 impl Model for Text {
@@ -26,7 +31,7 @@ impl Text {
         ensures { result ≡ [] }
     {
         Text {
-            bytes: Vec::new(alloc),
+            bytes: SmallVec::new(alloc),
         }
     }
 
@@ -35,7 +40,7 @@ impl Text {
         ensures { IfOk result (λ text. text ≡ bytes.now) }
     {
         Ok(Text {
-            bytes: Vec::from_slice(alloc, bytes)?,
+            bytes: SmallVec::from_slice(alloc, bytes)?,
         })
     }
 
@@ -43,6 +48,6 @@ impl Text {
     pub fn bytes(&self) -> &[u8]
         ensures { result.now ≡ self.now }
     {
-        &self.bytes
+        self.bytes.as_slice()
     }
 }

@@ -36,16 +36,6 @@ fn put_line(to: &mut Vec<u8>, line: &str) -> Result<(), AllocError> {
     Ok(())
 }
 
-/// A text as often as the number in front of it says, each with the end.
-fn put_often(to: &mut Vec<u8>, counted: &str, end: &str) -> Result<(), AllocError> {
-    let (count, text) = counted.split_once(" ").unwrap_or(("0", ""));
-    for _turn in 0..count.parse::<usize>().unwrap_or(0) {
-        to.extend_from_slice(text.as_bytes())?;
-        to.extend_from_slice(end.as_bytes())?;
-    }
-    Ok(())
-}
-
 /// The value of a hexadecimal digit.
 fn digit_of(byte: u8) -> u8 {
     if byte < b'a' {
@@ -69,23 +59,11 @@ fn put_bytes(to: &mut Vec<u8>, digits: &str) -> Result<(), AllocError> {
     Ok(())
 }
 
-/// Bytes as often as the number in front of them says.
-fn put_bytes_often(to: &mut Vec<u8>, counted: &str) -> Result<(), AllocError> {
-    let (count, digits) = counted.split_once(" ").unwrap_or(("0", ""));
-    for _turn in 0..count.parse::<usize>().unwrap_or(0) {
-        put_bytes(to, digits)?;
-    }
-    Ok(())
-}
-
-/// Puts what a line with this tag has: a line, a text, bytes in hexadecimal, or one of these so often.
+/// Puts what a line with this tag has: a line, a text, or bytes in hexadecimal.
 pub fn put(to: &mut Vec<u8>, tag: &str, rest: &str) -> Result<(), AllocError> {
     match tag {
         "|" | ">" | "-" => put_line(to, rest),
-        "." | "+" => to.extend_from_slice(rest.as_bytes()),
-        "*" => put_often(to, rest, "\n"),
-        "~" => put_often(to, rest, ""),
-        "y" => put_bytes_often(to, rest),
+        "+" => to.extend_from_slice(rest.as_bytes()),
         _ => put_bytes(to, rest),
     }
 }

@@ -1,18 +1,18 @@
 -- A source compiles to one module, or has one first fault.
 use Rattle.std.proofs.Common.{◌≡◌, inl, inr, ℕ, true, false, List, sym, subst, ◌∙◌}
 use Rattle.mpy_base.specs.declared.source.SourceFault.{SourceFault}
-use Rattle.mpy_tree.specs.declared.module.ModuleCode.{ModuleCode}
+use Rattle.mpy_writer.specs.mpy_tree.declared.module.ModuleCode.{ModuleCode}
 use Rattle.mpy_writer.specs.File.{IsWritten}
-use Rattle.mpy_fits.specs.Texts.{module_fits}
+use Rattle.mpy_compile.specs.Texts.{module_fits}
 use Rattle.py_tree.specs.declared.stmt.Module.{Module}
 use Rattle.py_tree.specs.Formed.{IsFormed}
 use Rattle.py_scopes.specs.Scopes.{IsFaultless}
-use Rattle.py_source.specs.declared.source.Accepted.{Accepted}
-use Rattle.py_source.specs.Source as sources
+use Rattle.emit_module.specs.py_source.declared.source.Accepted.{Accepted}
+use Rattle.emit_module.specs.py_source.Source as sources
 use Rattle.py_meaning.specs.Program.{Source}
-use Rattle.emit_written.specs.tr_source.Accepted.{IsAccepted}
-use Rattle.emit_written.specs.emit_module.First.{AreWithin, IsFirstFault}
-use Rattle.emit_written.specs.emit_module.Module.{source_of, IsTranslated}
+use Rattle.emit_module.specs.tr_source.Accepted.{IsAccepted}
+use Rattle.emit_module.specs.First.{AreWithin, IsFirstFault}
+use Rattle.emit_module.specs.Module.{source_of, IsTranslated}
 use Rattle.mpy_compile.specs.Compiled.{IsFileOf, IsFileFault, IsCompiled, CompilesTo, HasCodeFault, IsFault}
 
 -- what the crates below say

@@ -5,18 +5,18 @@ use Rattle.mpy_base.specs.declared.refused.Refused.{Refused}
 use Rattle.mpy_base.specs.declared.refused.Refused.TheVariants as refused
 use Rattle.mpy_base.specs.declared.source.SourceFault.{SourceFault}
 use Rattle.mpy_base.specs.Fault.{too_long}
-use Rattle.mpy_tree.specs.declared.module.ModuleCode.{ModuleCode}
-use Rattle.mpy_tree.specs.Canonical.{Canonical}
-use Rattle.mpy_tree.specs.FirstUse.{InFirstUse}
-use Rattle.mpy_tree.specs.Resolved.{ReadsAs}
+use Rattle.mpy_writer.specs.mpy_tree.declared.module.ModuleCode.{ModuleCode}
+use Rattle.mpy_writer.specs.mpy_tree.Canonical.{Canonical}
+use Rattle.mpy_writer.specs.mpy_tree.FirstUse.{InFirstUse}
+use Rattle.mpy_writer.specs.mpy_tree.Resolved.{ReadsAs}
 use Rattle.mpy_writer.specs.declared.fault.WriteFault.{WriteFault}
 use Rattle.mpy_writer.specs.File.{IsWritten, FirstFault}
-use Rattle.mpy_fits.specs.Texts.{module_fits, TextsFit}
-use Rattle.py_source.specs.declared.source.Accepted.{Accepted}
-use Rattle.py_source.specs.Source as sources
-use Rattle.emit_written.specs.emit_module.First.{AreWithin}
-use Rattle.emit_written.specs.emit_module.First as texts
-use Rattle.emit_written.specs.emit_module.Module.{source_of, IsTranslated}
+use Rattle.mpy_compile.specs.Texts.{module_fits, TextsFit}
+use Rattle.emit_module.specs.py_source.declared.source.Accepted.{Accepted}
+use Rattle.emit_module.specs.py_source.Source as sources
+use Rattle.emit_module.specs.First.{AreWithin}
+use Rattle.emit_module.specs.First as texts
+use Rattle.emit_module.specs.Module.{source_of, IsTranslated}
 
 -- ---- the file of a module
 
@@ -33,12 +33,6 @@ pub record IsFileOf (whole : ModuleCode) (bytes : List ℕ) : Type 0 where
 pub record IsFileFault (whole : ModuleCode) (fault : SourceFault) : Type 0 where
   pub past : (module_fits whole ≡ false) ⊎ ((refused : WriteFault) × FirstFault whole refused)
   pub is : fault ≡ too_long
-
--- what is made of a module; want of memory says nothing
-abbrev pub Files : ModuleCode → Result (Vec ℕ Global) (Refused SourceFault) → Type 0
-Files whole (Ok file) = IsFileOf whole file.items
-Files whole (Err (refused.Fault fault)) = IsFileFault whole fault
-Files whole (Err refused.NoMemory) = Unit {0}
 
 -- ---- sources
 
@@ -73,8 +67,17 @@ pub record HasFileFault (level : ℕ) (source stored : List ℕ) (fault : Source
 abbrev pub IsFault : (level : ℕ) (source stored : List ℕ) → SourceFault → Type 0
 IsFault level source stored fault = sources.IsFirstFault level source fault ⊎ (HasCodeFault level source stored fault ⊎ HasFileFault level source stored fault)
 
--- what compiling a source under a stored name gives: its file, or its first fault; want of memory says nothing
+-- why a source has no file: its first fault; want of memory says nothing
+abbrev pub Refuses : (level : ℕ) (source stored : List ℕ) → Refused SourceFault → Type 0
+Refuses level source stored (refused.Fault fault) = IsFault level source stored fault
+Refuses level source stored refused.NoMemory = Unit {0}
+
+-- what compiling a source under a stored name gives: its file, or its first fault
 abbrev pub Compiles : (level : ℕ) (source stored : List ℕ) → Result (Vec ℕ Global) (Refused SourceFault) → Type 0
 Compiles level source stored (Ok file) = CompilesTo level source stored file.items
-Compiles level source stored (Err (refused.Fault fault)) = IsFault level source stored fault
-Compiles level source stored (Err refused.NoMemory) = Unit {0}
+Compiles level source stored (Err refusal) = Refuses level source stored refusal
+
+-- what compiling it to a module gives: the module, where it has a file, or the first fault
+abbrev pub CompilesModule : (level : ℕ) (source stored : List ℕ) → Result ModuleCode (Refused SourceFault) → Type 0
+CompilesModule level source stored (Ok whole) = (bytes : List ℕ) × IsCompiled level source stored whole × IsFileOf whole bytes
+CompilesModule level source stored (Err refusal) = Refuses level source stored refusal

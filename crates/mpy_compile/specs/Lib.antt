@@ -1,3 +1,7 @@
-pub use Rattle.emit_written.specs.emit_module
-pub use Rattle.emit_written.specs.tr_source
+pub use Rattle.emit_module.specs as emit_module
+pub use Rattle.emit_module.specs.py_source
+pub use Rattle.emit_module.specs.tr_source
+pub mod Checked
 pub mod Compiled
+pub mod Made
+pub mod Texts

@@ -1,76 +1,14 @@
-//! The file of a source.
+//! The file of a source: which sources have one, and that their modules may be written.
 #![tactic(auto)]
 
-ghost use Rattle.std.specs.Prelude.{◌≡◌, ◌≤◌, ℕ, List, IfOk};
-ghost use Rattle.mpy_base.specs.declared.limits.TheConstants.{MAX_DEPTH};
-ghost use Rattle.mpy_base.specs.declared.source.SourceFault.{SourceFault as Fault};
-ghost use Rattle.mpy_tree.specs.declared.module.ModuleCode.{ModuleCode as Whole};
-ghost use Rattle.mpy_tree.specs.File.{IsAscii};
-ghost use Rattle.mpy_writer.specs.Writable.{IsShallow, IsWritable};
-ghost use Rattle.mpy_fits.specs.Texts.{TextsFit};
-ghost use Rattle.mpy_compile.specs.Compiled.{IsCompiled, CompilesTo, IsFault, Compiles, Files};
+mod compiling;
+mod fits;
+mod within;
+mod written;
 
-use emit_written::{emit, faults_law, module_law, written_law};
-use mpy_base::{Refused, SourceFault};
-use mpy_fits::texts_fit;
-use mpy_tree::ModuleCode;
-use mpy_writer::{write, write_law};
-use py_source::{accepted_law, asked_law, read_source};
-use std::alloc::Global;
-
-/// The file of a module, where it passes no limit of files.
-fn file_of(alloc: Global, whole: &ModuleCode) -> Result<Vec<u8>, Refused<SourceFault>>
-    requires shallow { IsShallow MAX_DEPTH whole.now.code }
-    requires writable { TextsFit whole.now → IsWritable whole.now }
-    ensures { Files whole.now result }
-{
-    if !texts_fit(whole) {
-        return Err(Refused::Fault(SourceFault::too_long(alloc)));
-    }
-    match write(alloc, whole) {
-        Ok(file) => Ok(file),
-        Err(Refused::Fault(_)) => Err(Refused::Fault(SourceFault::too_long(alloc))),
-        Err(Refused::NoMemory) => Err(Refused::NoMemory),
-    }
-}
-
-/// The file of a source at a level, which stores the source's name, or the first fault of the source, of its code or of the file
-/// as a whole.
-pub fn compile(
-    alloc: Global,
-    source: &[u8],
-    level: u8,
-    stored: &[u8],
-) -> Result<Vec<u8>, Refused<SourceFault>>
-    requires level_is { level ≤ 3 }
-    requires name_is { IsAscii stored.now }
-    ensures { Compiles level source.now stored.now result }
-{
-    asked_law();
-    written_law();
-    let accepted = match read_source(alloc, level, source) {
-        Ok(accepted) => accepted,
-        Err(refusal) => return Err(refusal),
-    };
-    match emit(alloc, level, stored, &accepted) {
-        Ok(whole) => file_of(alloc, &whole),
-        Err(refusal) => Err(refusal),
-    }
-}
-
-/// A source compiles to one module and one file at most, or has one first fault, and never both.
-pub fn compile_law()
-    ensures one { (level : ℕ) (source stored : List ℕ) (m n : Whole) → IsCompiled level source stored m → IsCompiled level source stored n → m ≡ n }
-    ensures one_file { (level : ℕ) (source stored a b : List ℕ) → CompilesTo level source stored a → CompilesTo level source stored b → a ≡ b }
-    ensures one_fault { (level : ℕ) (source stored : List ℕ) (f g : Fault) → IsFault level source stored f → IsFault level source stored g → f ≡ g }
-    ensures not_both { (level : ℕ) (source stored bytes : List ℕ) (fault : Fault) → CompilesTo level source stored bytes → IsFault level source stored fault → ⊥ }
-{
-    asked_law();
-    accepted_law();
-    within_law();
-    module_law();
-    faults_law();
-    write_law();
-}
-
-pub use emit_written::{compiled_law, resolved_law, within_law};
+pub use compiling::{compile, compile_law, compiled_module};
+pub use emit_module;
+pub use emit_module::{py_source, tr_source};
+pub use fits::texts_fit;
+pub use within::{module_law, within_law};
+pub use written::written_law;

@@ -1,11 +1,11 @@
 -- What a code's own bytes say.
 use Rattle.std.proofs.Common.{◌≡◌, ℕ, List, ◌++◌, length, drop, get_or, refl, sym, ap, ◌∙◌}
 use Rattle.std.specs.Prelude.{All}
-use Rattle.bc_ops.specs.Listing.{Piece, IsPiece, joined}
-use Rattle.bc_prelude.specs.declared.prelude.Prelude.{Prelude}
-use Rattle.bc_prelude.specs.Prelude.{Begins}
-use Rattle.bc_prelude.proofs.Pieces.{instructions_at}
-use Rattle.bc_prelude.proofs.Preludes.{same_prelude}
+use Rattle.mpy_tree.specs.bc_ops.Listing.{Piece, IsPiece, joined}
+use Rattle.mpy_tree.specs.bc_prelude.declared.prelude.Prelude.{Prelude}
+use Rattle.mpy_tree.specs.bc_prelude.Prelude.{Begins}
+use Rattle.mpy_tree.proofs.bc_prelude_lemmas.Pieces.{instructions_at}
+use Rattle.mpy_tree.proofs.bc_prelude_lemmas.Preludes.{same_prelude}
 use Rattle.mpy_tree.specs.File.{IsOwnCode}
 use Rattle.mpy_tree.specs.Raw.{Module}
 use Rattle.mpy_dump.specs.Codes.{IsOwnText, code_line}

@@ -2,8 +2,8 @@
 use Rattle.std.proofs.Common.{◌≡◌, [], ◌∷◌, ◌++◌, refl}
 use Rattle.std.specs.Prelude.{codes, pos, negsuc, true, false}
 use Rattle.std.specs.Fmt.{digits}
-use Rattle.bc_ops.specs.declared.instr.Op.TheVariants as ops
-use Rattle.bc_ops.specs.declared.instr.Instr.TheVariants as instrs
+use Rattle.mpy_tree.specs.bc_ops.declared.instr.Op.TheVariants as ops
+use Rattle.mpy_tree.specs.bc_ops.declared.instr.Instr.TheVariants as instrs
 use Rattle.mpy_tree.specs.declared.raw.Qstr.TheVariants.{Static, Own}
 use Rattle.mpy_tree.specs.declared.raw.RawCode.{roll-RawCode}
 use Rattle.mpy_tree.specs.Raw.{Module}

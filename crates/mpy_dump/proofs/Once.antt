@@ -3,15 +3,15 @@ use Rattle.std.proofs.Common.{◌≡◌, ℕ, ◌+◌, List, [], ◌∷◌, ◌+
 use Rattle.std.specs.List.{AllByRecursion}
 use Rattle.std.proofs.lemmas.List.{append_cancel_left, drop_at}
 use Rattle.std.proofs.lemmas.List.Elements.{recursion_from_All}
-use Rattle.bc_ops.specs.declared.instr.Instr.{Instr}
-use Rattle.bc_ops.specs.Listing.{Piece, IsPiece, joined}
-use Rattle.bc_ops.proofs.Law.{one_instruction}
-use Rattle.bc_prelude.specs.declared.prelude.Prelude.{Prelude}
-use Rattle.bc_prelude.specs.Prelude.{Begins}
-use Rattle.bc_prelude.specs.Lines.{line_of}
-use Rattle.bc_prelude.proofs.Pieces.{instructions_at, lines_at}
-use Rattle.bc_prelude.proofs.Preludes.{same_prelude}
-use Rattle.bc_prelude.proofs.Indexes.{same_indexes}
+use Rattle.mpy_tree.specs.bc_ops.declared.instr.Instr.{Instr}
+use Rattle.mpy_tree.specs.bc_ops.Listing.{Piece, IsPiece, joined}
+use Rattle.mpy_tree.proofs.bc_ops_lemmas.Law.{one_instruction}
+use Rattle.mpy_tree.specs.bc_prelude.declared.prelude.Prelude.{Prelude}
+use Rattle.mpy_tree.specs.bc_prelude.Prelude.{Begins}
+use Rattle.mpy_tree.specs.bc_prelude.Lines.{line_of}
+use Rattle.mpy_tree.proofs.bc_prelude_lemmas.Pieces.{instructions_at, lines_at}
+use Rattle.mpy_tree.proofs.bc_prelude_lemmas.Preludes.{same_prelude}
+use Rattle.mpy_tree.proofs.bc_prelude_lemmas.Indexes.{same_indexes}
 use Rattle.mpy_tree.specs.Codes.{Placed, codes_of}
 use Rattle.mpy_tree.specs.Raw.{Module}
 use Rattle.mpy_tree.specs.File.{Many, IsModule}

@@ -5,10 +5,10 @@ use Rattle.std.specs.List.{AllByRecursion}
 use Rattle.std.proofs.lemmas.List.{append-nil, length-drop, drop-drop, drop_all}
 use Rattle.std.proofs.Math.Seq.{drop-append_seam}
 use Rattle.std.proofs.lemmas.List.Elements.{recursion_from_All}
-use Rattle.bc_ops.specs.declared.instr.Instr.{Instr}
-use Rattle.bc_ops.specs.Listing.{Piece, IsPiece, joined}
-use Rattle.bc_ops.proofs.Law.{one_instruction}
-use Rattle.bc_prelude.specs.Lines.{line_of}
+use Rattle.mpy_tree.specs.bc_ops.declared.instr.Instr.{Instr}
+use Rattle.mpy_tree.specs.bc_ops.Listing.{Piece, IsPiece, joined}
+use Rattle.mpy_tree.proofs.bc_ops_lemmas.Law.{one_instruction}
+use Rattle.mpy_tree.specs.bc_prelude.Lines.{line_of}
 use Rattle.mpy_tree.specs.Raw.{Module}
 use Rattle.mpy_dump.specs.Instructions.{head_text, instr_tail, instr_line, instr_lines}
 use Rattle.mpy_dump.specs.Reads.{Stands, IsRead}

@@ -1,9 +1,9 @@
 -- What is written for the codes of a module.
 use Rattle.std.specs.Prelude.{◌≡◌, ℕ, List, [], ◌∷◌, ◌++◌, length, All, codes, decimal, slice_index}
 use Rattle.std.specs.List.{flat_map}
-use Rattle.bc_ops.specs.Listing.{Piece, IsPiece, joined}
-use Rattle.bc_prelude.specs.declared.prelude.Prelude.{Prelude}
-use Rattle.bc_prelude.specs.Prelude.{Begins}
+use Rattle.mpy_tree.specs.bc_ops.Listing.{Piece, IsPiece, joined}
+use Rattle.mpy_tree.specs.bc_prelude.declared.prelude.Prelude.{Prelude}
+use Rattle.mpy_tree.specs.bc_prelude.Prelude.{Begins}
 use Rattle.mpy_tree.specs.declared.raw.RawCode.{RawCode}
 use Rattle.mpy_tree.specs.Codes.{Placed, codes_to}
 use Rattle.mpy_tree.specs.Raw.{Module}

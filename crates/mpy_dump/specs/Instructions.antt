@@ -1,10 +1,10 @@
 -- The lines of a code's instructions.
 use Rattle.std.specs.Prelude.{ℕ, ◌+◌, ◌-◌, List, [], ◌∷◌, ◌++◌, Option, Some, None, length, codes, decimal, pos, ◌+ℤ◌}
 use Rattle.std.specs.Fmt.{signed_decimal}
-use Rattle.bc_ops.specs.declared.instr.Instr.{Instr}
-use Rattle.bc_ops.specs.declared.instr.Instr.TheVariants.{Plain, Name, Num, Int, Jump, Unwind, Unary, Binary}
-use Rattle.bc_ops.specs.Listing.{Piece}
-use Rattle.bc_prelude.specs.Lines.{line_of}
+use Rattle.mpy_tree.specs.bc_ops.declared.instr.Instr.{Instr}
+use Rattle.mpy_tree.specs.bc_ops.declared.instr.Instr.TheVariants.{Plain, Name, Num, Int, Jump, Unwind, Unary, Binary}
+use Rattle.mpy_tree.specs.bc_ops.Listing.{Piece}
+use Rattle.mpy_tree.specs.bc_prelude.Lines.{line_of}
 use Rattle.mpy_tree.specs.Raw.{Module}
 use Rattle.mpy_tree.specs.Resolved.{name_at}
 use Rattle.mpy_dump.specs.Texts.{name_text}

@@ -1,7 +1,7 @@
 -- The names of operations and the signs of operators.
 use Rattle.std.specs.Prelude.{ℕ, List, [], ◌∷◌, codes, nat_le, ◌&&◌, slice_index_or, if◌then◌else◌}
-use Rattle.bc_ops.specs.declared.instr.Op.{Op}
-use Rattle.bc_ops.specs.declared.instr.Op.TheVariants.{LoadConstString, LoadName, LoadGlobal, LoadAttr, LoadMethod, StoreName, StoreGlobal, StoreAttr, DeleteName, DeleteGlobal, ImportName, ImportFrom, LoadConstObj, LoadFastN, StoreFastN, DeleteFast, BuildTuple, BuildList, BuildMap, UnpackSequence, MakeFunction, MakeFunctionDefargs, CallFunction, CallMethod, Jump, PopJumpIfTrue, PopJumpIfFalse, JumpIfTrueOrPop, JumpIfFalseOrPop, SetupExcept, SetupFinally, PopExceptJump, ForIter, LoadConstFalse, LoadConstNone, LoadConstTrue, LoadNull, LoadSubscr, StoreSubscr, DupTop, DupTopTwo, PopTop, RotTwo, RotThree, EndFinally, GetIterStack, StoreMap, ReturnValue, RaiseLast, RaiseObj, LoadFast, StoreFast}
+use Rattle.mpy_tree.specs.bc_ops.declared.instr.Op.{Op}
+use Rattle.mpy_tree.specs.bc_ops.declared.instr.Op.TheVariants.{LoadConstString, LoadName, LoadGlobal, LoadAttr, LoadMethod, StoreName, StoreGlobal, StoreAttr, DeleteName, DeleteGlobal, ImportName, ImportFrom, LoadConstObj, LoadFastN, StoreFastN, DeleteFast, BuildTuple, BuildList, BuildMap, UnpackSequence, MakeFunction, MakeFunctionDefargs, CallFunction, CallMethod, Jump, PopJumpIfTrue, PopJumpIfFalse, JumpIfTrueOrPop, JumpIfFalseOrPop, SetupExcept, SetupFinally, PopExceptJump, ForIter, LoadConstFalse, LoadConstNone, LoadConstTrue, LoadNull, LoadSubscr, StoreSubscr, DupTop, DupTopTwo, PopTop, RotTwo, RotThree, EndFinally, GetIterStack, StoreMap, ReturnValue, RaiseLast, RaiseObj, LoadFast, StoreFast}
 
 -- the name of an operation: MicroPython's own
 abbrev pub operation_name : Op → List ℕ

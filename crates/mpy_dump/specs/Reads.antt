@@ -1,8 +1,8 @@
 -- An instruction that stands in a code.
 use Rattle.std.specs.Prelude.{◌≡◌, ℕ, ◌+◌, List, ◌++◌, length, drop, Option, Result, OnOk}
-use Rattle.bc_ops.specs.declared.instr.Instr.{Instr}
-use Rattle.bc_ops.specs.Code.{Spells}
-use Rattle.bc_ops.specs.Listing.{Piece, IsPiece}
+use Rattle.mpy_tree.specs.bc_ops.declared.instr.Instr.{Instr}
+use Rattle.mpy_tree.specs.bc_ops.Code.{Spells}
+use Rattle.mpy_tree.specs.bc_ops.Listing.{Piece, IsPiece}
 use Rattle.mpy_io.specs.declared.fault.Failed.{Failed}
 use Rattle.mpy_tree.specs.Raw.{Module}
 use Rattle.mpy_dump.specs.Instructions.{instr_tail}

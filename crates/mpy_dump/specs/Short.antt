@@ -1,7 +1,7 @@
 -- Texts of a few bytes, and what is listed by them.
 use Rattle.std.specs.Prelude.{◌≡◌, ℕ, ◌+◌, ◌/◌, ◌%◌, ◌<◌, ◌≤◌, List, [], ◌∷◌, ◌++◌, take, length, codes, decimal, slice_index_or, slice_set}
-use Rattle.bc_ops.specs.declared.instr.Instr.{Instr}
-use Rattle.bc_ops.specs.Code.{Spells}
+use Rattle.mpy_tree.specs.bc_ops.declared.instr.Instr.{Instr}
+use Rattle.mpy_tree.specs.bc_ops.Code.{Spells}
 use Rattle.mpy_tree.specs.Raw.{Module}
 use Rattle.mpy_dump.specs.declared.short.Short.{Short}
 use Rattle.mpy_dump.specs.declared.head.Head.{Head}

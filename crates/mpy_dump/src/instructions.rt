@@ -2,8 +2,8 @@
 
 ghost use Rattle.std.specs.Prelude.{◌≡◌, ◌++◌, ◌≤◌, ◌+◌, ℕ, List, OnOk, All, length, codes, decimal};
 ghost use Rattle.std.specs.Fmt.{signed_decimal};
-ghost use Rattle.bc_ops.specs.Listing.{Piece, IsPiece, joined};
-ghost use Rattle.bc_ops.specs.declared.instr.Instr.{Instr};
+ghost use Rattle.mpy_tree.specs.bc_ops.Listing.{Piece, IsPiece, joined};
+ghost use Rattle.mpy_tree.specs.bc_ops.declared.instr.Instr.{Instr};
 ghost use Rattle.mpy_dump.specs.Instructions as specs;
 ghost use Rattle.mpy_dump.specs.Pen.{Gathers};
 ghost use Rattle.mpy_dump.specs.Reads.{Stands, IsRead, GathersEnd};
@@ -17,12 +17,12 @@ use crate::operations::{binary_name, binary_sign, operation_name, unary_sign};
 use crate::pen::{Pen, hand_over, make_room};
 use crate::put::{digits, put, put_all, put_number};
 use crate::tails::{Tails, pair_at};
-use bc_ops::{Instr, decode_at};
-use bc_prelude::Place;
 use itoa::Buffer;
 use mpy_base::limits::MAX_CODE_BYTES;
 use mpy_io::{Failed, Sink};
 use mpy_tree::RawModule;
+use mpy_tree::bc_ops::{Instr, decode_at};
+use mpy_tree::bc_prelude::Place;
 
 /// The name of an instruction, as it is listed.
 fn instr_name(instr: Instr) -> &'static [u8]

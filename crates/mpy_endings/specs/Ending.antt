@@ -1,14 +1,14 @@
 -- How a command ended: its status, which count of faults rose, and whether the ending is determined.
-use Rattle.std.specs.Prelude.{◌≡◌, ℕ, Bool, true, false}
+use Rattle.std.specs.Prelude.{◌≡◌, ◌⊎◌, ℕ, Bool, true, false}
 use Rattle.image_runs.specs.declared.fault.MainFault.{MainFault}
 use Rattle.image_runs.specs.declared.fault.MainFault.TheVariants as mains
-use Rattle.frozen_faults.specs.declared.fault.SourcesFault.{SourcesFault}
-use Rattle.frozen_faults.specs.declared.fault.SourcesFault.TheVariants as sources
-use Rattle.frozen_faults.specs.declared.fault.FrozenFault.{FrozenFault}
-use Rattle.frozen_faults.specs.declared.fault.FrozenFault.TheVariants as frozen
-use Rattle.frozen_faults.specs.Faults.{is_read_failure}
+use Rattle.manifest_files.specs.declared.frozen_fault.SourcesFault.{SourcesFault}
+use Rattle.manifest_files.specs.declared.frozen_fault.SourcesFault.TheVariants as sources
+use Rattle.manifest_files.specs.declared.frozen_fault.FrozenFault.{FrozenFault}
+use Rattle.manifest_files.specs.declared.frozen_fault.FrozenFault.TheVariants as frozen
+use Rattle.manifest_files.specs.FrozenFaults.{is_read_failure}
 use Rattle.mpy_endings.specs.declared.ending.Ending.{Ending}
-use Rattle.mpy_endings.specs.declared.ending.Ending.TheVariants.{Done, Unaccepted, Unread, Unverified, Unmerged, Unopened, Unfrozen, Unboarded, Stopped, ReadFault, WriteFault, Unwritten, NoMemory, Absent}
+use Rattle.mpy_endings.specs.declared.ending.Ending.TheVariants.{Done, Unaccepted, Unread, Unverified, Unmerged, Unopened, Unfrozen, Unboarded, Different, Stopped, ReadFault, WriteFault, Unwritten, NoMemory, Absent}
 use Rattle.mpy_endings.specs.declared.ending.BoardFault.{BoardFault}
 use Rattle.mpy_endings.specs.declared.ending.BoardFault.TheVariants as boards
 use Rattle.mpy_endings.specs.declared.ending.Stop.{Stop}
@@ -61,7 +61,12 @@ status_of (Unmerged fault) = 11
 status_of (Unopened fault) = main_status fault
 status_of (Unfrozen fault) = frozen_status fault
 status_of (Unboarded fault) = board_status fault
+status_of (Different difference) = 12
 status_of (Stopped stop) = stop_status stop
+
+-- the statuses of a run that was made up to its end, or for all its steps
+abbrev pub IsRunStatus : ℕ → Type 0
+IsRunStatus status = (status ≡ 0) ⊎ (status ≡ 1) ⊎ (status ≡ 5) ⊎ (status ≡ 6)
 
 -- whether the folder's count of faults rose
 abbrev pub is_read_stop : Stop → Bool
@@ -88,6 +93,7 @@ is_folder_fault (Unmerged fault) = false
 is_folder_fault (Unopened fault) = false
 is_folder_fault (Unfrozen fault) = is_read_failure fault
 is_folder_fault (Unboarded fault) = is_output_fault fault
+is_folder_fault (Different difference) = false
 is_folder_fault (Stopped stop) = is_read_stop stop
 is_folder_fault ReadFault = true
 is_folder_fault WriteFault = false
@@ -105,6 +111,7 @@ is_out_fault (Unmerged fault) = false
 is_out_fault (Unopened fault) = false
 is_out_fault (Unfrozen fault) = false
 is_out_fault (Unboarded fault) = false
+is_out_fault (Different difference) = false
 is_out_fault (Stopped stop) = false
 is_out_fault ReadFault = false
 is_out_fault WriteFault = true
@@ -131,6 +138,7 @@ is_said (Unmerged fault) = false
 is_said (Unopened fault) = false
 is_said (Unfrozen fault) = false
 is_said (Unboarded fault) = false
+is_said (Different difference) = false
 is_said (Stopped stop) = is_stop_said stop
 is_said ReadFault = false
 is_said WriteFault = false
@@ -157,6 +165,7 @@ IsSettled (Unmerged fault) = Unit {0}
 IsSettled (Unopened fault) = Unit {0}
 IsSettled (Unfrozen fault) = is_read_failure fault ≡ false
 IsSettled (Unboarded fault) = is_output_fault fault ≡ false
+IsSettled (Different difference) = Unit {0}
 IsSettled (Stopped stop) = IsSettledStop stop
 IsSettled ReadFault = ⊥
 IsSettled WriteFault = ⊥

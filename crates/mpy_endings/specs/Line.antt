@@ -6,8 +6,8 @@ use Rattle.mpy_base.specs.declared.source.SourceFault.{SourceFault}
 use Rattle.mpy_base.specs.Source.{number_of, name_of}
 use Rattle.mpy_io.specs.Count.{Rose}
 use Rattle.mpy_io.specs.Told.{AppendsFront}
-use Rattle.mpy_reader.specs.declared.fault.FileFault.{FileFault}
-use Rattle.mpy_reader.specs.Fault as file
+use Rattle.library_files.specs.mpy_reader.declared.fault.FileFault.{FileFault}
+use Rattle.library_files.specs.mpy_reader.Fault as file
 use Rattle.bc_verify.specs.declared.fault.VerifyFault.{VerifyFault}
 use Rattle.bc_verify.specs.Rule as rule
 use Rattle.mpy_merge.specs.declared.fault.MergeFault.{MergeFault}
@@ -19,17 +19,19 @@ use Rattle.image_grammar.specs.declared.fault.ImageFault.{ImageFault}
 use Rattle.image_grammar.specs.Fault as image
 use Rattle.image_runs.specs.declared.fault.MainFault.{MainFault}
 use Rattle.image_runs.specs.declared.fault.MainFault.TheVariants as mains
-use Rattle.frozen_faults.specs.declared.fault.SourcesFault.{SourcesFault}
-use Rattle.frozen_faults.specs.declared.fault.SourcesFault.TheVariants as sources
-use Rattle.frozen_faults.specs.declared.fault.FrozenFault.{FrozenFault}
-use Rattle.frozen_faults.specs.declared.fault.FrozenFault.TheVariants as frozen
+use Rattle.manifest_files.specs.declared.frozen_fault.SourcesFault.{SourcesFault}
+use Rattle.manifest_files.specs.declared.frozen_fault.SourcesFault.TheVariants as sources
+use Rattle.manifest_files.specs.declared.frozen_fault.FrozenFault.{FrozenFault}
+use Rattle.manifest_files.specs.declared.frozen_fault.FrozenFault.TheVariants as frozen
 use Rattle.board_plan.specs.declared.plan.PlanFault.{PlanFault}
 use Rattle.board_plan.specs.declared.plan.PlanFault.TheVariants as plans
+use Rattle.trans_parts.specs.Names as part
 use Rattle.mpy_words.specs.declared.order.WordFault.{WordFault}
 use Rattle.mpy_words.specs.declared.order.WordFault.TheVariants.{NoCommand, Unknown, MissingName, MissingValue, BadNumber, Twice}
 use Rattle.mpy_words.specs.Command.{name_of as word_name, spelling_of}
 use Rattle.mpy_endings.specs.declared.ending.Ending.{Ending}
-use Rattle.mpy_endings.specs.declared.ending.Ending.TheVariants.{Done, Unaccepted, Unread, Unverified, Unmerged, Unopened, Unfrozen, Unboarded, Stopped, ReadFault, WriteFault, Unwritten, NoMemory, Absent}
+use Rattle.mpy_endings.specs.declared.ending.Ending.TheVariants.{Done, Unaccepted, Unread, Unverified, Unmerged, Unopened, Unfrozen, Unboarded, Different, Stopped, ReadFault, WriteFault, Unwritten, NoMemory, Absent}
+use Rattle.mpy_endings.specs.declared.ending.Difference.{Difference}
 use Rattle.mpy_endings.specs.declared.ending.BoardFault.{BoardFault}
 use Rattle.mpy_endings.specs.declared.ending.BoardFault.TheVariants as boards
 use Rattle.mpy_endings.specs.declared.ending.Stop.{Stop}
@@ -101,6 +103,14 @@ verify_line name fault =
     ++ (decimal (rule.number_of fault.rule) ++ codes " " ++ rule.name_of fault.rule)
     ++ (codes " code " ++ path_text fault.path)
     ++ (codes " offset " ++ decimal fault.offset ++ codes "\n")
+
+-- where the file of this name differs first from its source: the code, the part, and the position in it
+abbrev pub difference_line : List ℕ → Difference → List ℕ
+difference_line name difference =
+    (codes "mpy: " ++ name ++ codes ": differs")
+    ++ (codes " code " ++ path_text difference.path)
+    ++ (codes " " ++ part.name_of difference.what ++ codes " ")
+    ++ (decimal difference.at ++ codes "\n")
 
 -- what keeps modules from being merged: no file of its own
 abbrev pub merge_line : MergeFault → List ℕ
@@ -223,6 +233,7 @@ line_of name (Unmerged fault) = merge_line fault
 line_of name (Unopened fault) = main_line name fault
 line_of name (Unfrozen fault) = frozen_line name fault
 line_of name (Unboarded fault) = board_line name fault
+line_of name (Different difference) = difference_line name difference
 line_of name (Stopped stop) = stop_line stop
 line_of name ReadFault = named_line (codes "mpy: read fault") name
 line_of name WriteFault = codes "mpy: write fault out\n"
@@ -240,6 +251,7 @@ name_in read written (Unmerged fault) = read
 name_in read written (Unopened fault) = read
 name_in read written (Unfrozen fault) = read
 name_in read written (Unboarded fault) = read
+name_in read written (Different difference) = read
 name_in read written (Stopped stop) = read
 name_in read written ReadFault = read
 name_in read written WriteFault = read
@@ -257,6 +269,7 @@ place_in (Unmerged fault) = 1
 place_in (Unopened fault) = 1
 place_in (Unfrozen fault) = 1
 place_in (Unboarded fault) = 1
+place_in (Different difference) = 1
 place_in (Stopped stop) = 1
 place_in ReadFault = 1
 place_in WriteFault = 1

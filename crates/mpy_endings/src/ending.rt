@@ -7,12 +7,13 @@ ghost use Rattle.mpy_endings.specs.Line.{place_in};
 
 use bc_verify::VerifyFault;
 use board_plan::PlanFault;
-use frozen_faults::{FrozenFault, SourcesFault};
 use image_runs::MainFault;
+use library_files::mpy_reader::FileFault;
 use library_files::{Limit, UnacceptedSource};
-use mpy_base::{SourceFault, Text};
+use manifest_files::{FrozenFault, SourcesFault};
+use mpy_base::{Items, SourceFault, Text};
 use mpy_merge::MergeFault;
-use mpy_reader::FileFault;
+use trans_parts::What;
 
 /// What keeps a file or a source from being run to its end.
 #[derive(Debug, Drop)]
@@ -99,6 +100,16 @@ fn board_status(fault: &BoardFault) -> u8
     }
 }
 
+/// Where a file differs first from its source.
+#[derive(Debug, Drop)]
+pub struct Difference {
+    /// The path of the code: 0 for the outermost, and for each level below the place among the children.
+    pub path: Items<usize>,
+    pub what: What,
+    /// The first position where two lists differ, 0 in what is no list.
+    pub at: usize,
+}
+
 /// How a command ended.
 #[derive(Debug, Drop)]
 pub enum Ending {
@@ -118,6 +129,8 @@ pub enum Ending {
     Unfrozen(FrozenFault),
     /// The board didn't run its plan.
     Unboarded(BoardFault),
+    /// The file is read, the source accepted, and the file is no translation of the source.
+    Different(Difference),
     /// The file is verified, or the source accepted, and wasn't run to its end.
     Stopped(Stop),
     /// The folder failed to read the file.
@@ -141,6 +154,7 @@ impl Ending {
             Ending::Done | Ending::Unaccepted(_) | Ending::Unread(_) | Ending::Unverified(_) => 1,
             Ending::Unmerged(_) | Ending::Stopped(_) | Ending::ReadFault => 1,
             Ending::Unopened(_) | Ending::Unfrozen(_) | Ending::Unboarded(_) => 1,
+            Ending::Different(_) => 1,
             Ending::WriteFault | Ending::NoMemory | Ending::Absent => 1,
         }
     }
@@ -161,6 +175,7 @@ impl Ending {
             Ending::Unopened(fault) => main_status(fault),
             Ending::Unfrozen(fault) => frozen_status(fault),
             Ending::Unboarded(fault) => board_status(fault),
+            Ending::Different(_) => 12,
             Ending::Stopped(stop) => stop.status(),
         }
     }

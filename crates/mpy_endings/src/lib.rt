@@ -2,15 +2,14 @@
 #![tactic(auto)]
 
 mod boards;
+mod differing;
 mod ending;
 mod freezing;
 mod line;
 mod put;
 mod words;
 
-pub use ending::{BoardFault, Ended, Ending, Stop};
-pub use image_runs::{MainFault, image_library};
+pub use ending::{BoardFault, Difference, Ended, Ending, Stop};
 pub use line::{say_ending, say_words};
-pub use mpy_merge::merge;
 pub use put::put_three;
 pub use words::{file_names, main_name, source_name, word_at};

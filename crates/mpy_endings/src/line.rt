@@ -1,7 +1,7 @@
 //! The line that is said at the end of a command.
 
 ghost use Rattle.std.specs.Prelude.{◌≡◌, ◌++◌, true, map, string_bytes, codes, decimal};
-ghost use Rattle.mpy_reader.specs.Fault as file;
+ghost use Rattle.library_files.specs.mpy_reader.Fault as file;
 ghost use Rattle.bc_verify.specs.Rule as rules;
 ghost use Rattle.mpy_merge.specs.Numbers as merges;
 ghost use Rattle.mpy_endings.specs.Ending.{is_stop_said, is_said};
@@ -9,6 +9,7 @@ ghost use Rattle.mpy_endings.specs.Line as spec;
 ghost use Rattle.mpy_endings.specs.Line.{Puts, words_line, source_line, file_line, tag_text, path_text, verify_line, merge_line, stop_line, line_of};
 
 use crate::boards::say_board;
+use crate::differing::say_difference;
 use crate::ending::{Ending, Stop};
 use crate::freezing::{say_frozen, say_main};
 use crate::put::{gap, put, put_head, put_named, put_three, put_two};
@@ -16,10 +17,10 @@ use crate::words::word_at;
 use bc_verify::{Rule, VerifyFault};
 use itoa::Buffer;
 use library_files::Limit;
+use library_files::mpy_reader::FileFault;
 use mpy_base::SourceFault;
 use mpy_io::{Failed, Sink};
 use mpy_merge::MergeFault;
-use mpy_reader::FileFault;
 use mpy_words::WordFault;
 
 /// What is said of a fault of the words.
@@ -140,7 +141,7 @@ fn put_path<E: Sink>(say: &mut E, path: &[usize]) -> Result<(), Failed>
 }
 
 /// Puts which code it is by its path.
-fn put_code<E: Sink>(say: &mut E, path: &[usize]) -> Result<(), Failed>
+pub(crate) fn put_code<E: Sink>(say: &mut E, path: &[usize]) -> Result<(), Failed>
     ensures { Puts (E.told say.old) (E.told say.new) (E.count say.old) (E.count say.new)
         (codes " code " ++ path_text path.now) result }
 {
@@ -245,6 +246,7 @@ pub fn say_ending<E: Sink>(say: &mut E, name: &str, ending: &Ending) -> Result<(
         Ending::Unopened(fault) => say_main(say, name, fault),
         Ending::Unfrozen(fault) => say_frozen(say, name, fault),
         Ending::Unboarded(fault) => say_board(say, name, fault),
+        Ending::Different(difference) => say_difference(say, name, difference),
         Ending::Stopped(stop) => say_stop(say, stop),
         Ending::ReadFault => put_named(say, b"mpy: read fault", name.as_bytes()),
         Ending::WriteFault => put(say, b"mpy: write fault out\n"),

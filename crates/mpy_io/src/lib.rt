@@ -13,8 +13,10 @@ mod mem_sink;
 mod out_sink;
 mod place;
 mod port;
+mod real_disk;
 mod script_port;
 mod sink;
+mod whole_file;
 
 pub use disk::DiskFolder;
 pub use fault::{Failed, ReadFault};
@@ -24,5 +26,6 @@ pub use mem_folder::MemFolder;
 pub use mem_sink::MemSink;
 pub use out_sink::OutSink;
 pub use port::Port;
+pub use real_disk::Disk;
 pub use script_port::ScriptPort;
 pub use sink::Sink;

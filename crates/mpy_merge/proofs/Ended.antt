@@ -4,17 +4,17 @@ use Rattle.std.proofs.lemmas.Bool.{cases_order}
 use Rattle.mpy_base.specs.declared.refused.Refused.{Refused}
 use Rattle.mpy_base.specs.declared.refused.Refused.TheVariants as refusals
 use Rattle.mpy_base.specs.declared.limits.TheConstants.{MAX_TABLE}
-use Rattle.qstr_pool.specs.Pool.{Texts}
-use Rattle.mpy_tree.specs.declared.raw.RawCode.{RawCode}
-use Rattle.mpy_tree.specs.Raw.{Module}
-use Rattle.mpy_tree.specs.Canonical.{file_bytes}
+use Rattle.mpy_writer.specs.qstr_pool.Pool.{Texts}
+use Rattle.mpy_writer.specs.mpy_tree.declared.raw.RawCode.{RawCode}
+use Rattle.mpy_writer.specs.mpy_tree.Raw.{Module}
+use Rattle.mpy_writer.specs.mpy_tree.Canonical.{file_bytes}
 use Rattle.mpy_writer.specs.declared.tables.Tables.{Tables}
 use Rattle.mpy_writer.specs.File.{IsOwn}
 use Rattle.mpy_writer.specs.Tables.{IsTable, TablesFit}
 use Rattle.mpy_writer.proofs.Faults.{same_own}
 use Rattle.mpy_writer.proofs.Uses.{one_table}
-use Rattle.merge_codes.specs.Far.{HasFarCode}
-use Rattle.merge_codes.specs.Moved.{IsMovedTree}
+use Rattle.mpy_merge.specs.Far.{HasFarCode}
+use Rattle.mpy_merge.specs.Moved.{IsMovedTree}
 use Rattle.mpy_merge.specs.declared.fault.MergeFault.{MergeFault}
 use Rattle.mpy_merge.specs.declared.fault.MergeFault.TheVariants.{Empty, TooManyNames, TooMany, TooFar, TooBig}
 use Rattle.mpy_merge.specs.Merged.{AreTables, texts_used, all_objects, outer_code, AreMoved, NestsWithin, IsMerged, merged_module}

@@ -7,15 +7,15 @@ use Rattle.mpy_base.specs.Vuint.{vuint}
 use Rattle.mpy_base.specs.declared.refused.Refused.{Refused}
 use Rattle.mpy_base.specs.declared.refused.Refused.TheVariants as refusals
 use Rattle.mpy_base.specs.declared.limits.TheConstants.{MAX_TABLE, MAX_DEPTH, MAX_FILE_BYTES}
-use Rattle.mpy_tree.specs.declared.raw.RawCode.{roll-RawCode}
-use Rattle.mpy_tree.specs.Raw.{Module}
-use Rattle.mpy_tree.specs.Canonical.{qstr_bytes, code_bytes, file_bytes}
+use Rattle.mpy_writer.specs.mpy_tree.declared.raw.RawCode.{roll-RawCode}
+use Rattle.mpy_writer.specs.mpy_tree.Raw.{Module}
+use Rattle.mpy_writer.specs.mpy_tree.Canonical.{qstr_bytes, code_bytes, file_bytes}
 use Rattle.mpy_writer.specs.declared.tables.Tables.{Tables}
 use Rattle.mpy_writer.specs.File.{qstr_of}
 use Rattle.mpy_writer.specs.Tables.{TablesFit, spelled}
 use Rattle.mpy_writer.specs.Writable.{IsFine}
-use Rattle.merge_codes.specs.Heads.{head_of}
-use Rattle.merge_codes.proofs.Trees.{head_is}
+use Rattle.mpy_merge.specs.Heads.{head_of}
+use Rattle.mpy_merge.proofs.Trees.{head_is}
 use Rattle.mpy_merge.specs.declared.fault.MergeFault.{MergeFault}
 use Rattle.mpy_merge.specs.declared.fault.MergeFault.TheVariants.{TooManyNames, TooFar, TooBig}
 use Rattle.mpy_merge.specs.declared.fault.TheConstants.{MAX_PARTS}

@@ -7,22 +7,22 @@ use Rattle.std.proofs.lemmas.List.Elements.{All-from_recursion, recursion_from_A
 use Rattle.mpy_base.specs.Vuint.{vuint}
 use Rattle.mpy_base.specs.declared.limits.TheConstants.{MAX_TABLE, MAX_CODE_BYTES}
 use Rattle.mpy_base.proofs.Groups.{vuint_spells}
-use Rattle.bc_ops.specs.declared.instr.Instr.{Instr}
+use Rattle.bc_scheme.specs.bc_ops.declared.instr.Instr.{Instr}
 use Rattle.bc_labels.specs.Choice.{instrs_of}
-use Rattle.bc_prelude.specs.Lines.{Rises, table_of, line_of, line_among}
-use Rattle.bc_prelude.specs.Prelude.{Begins}
-use Rattle.bc_prelude.specs.Signature as signatures
-use Rattle.bc_prelude.specs.Size as sizes
-use Rattle.bc_prelude.specs.Names as names
-use Rattle.bc_prelude.proofs.Written.{signature_spells, size_spells}
-use Rattle.bc_prelude.proofs.Indexes.{names_spelled}
-use Rattle.mpy_tree.specs.declared.module.Code.{Code, out-Code}
-use Rattle.mpy_tree.specs.declared.raw.RawCode.{RawCode, RawCode-F, out-RawCode, out-roll-RawCode, roll-out-RawCode}
-use Rattle.mpy_tree.specs.File.{header_of, Many, AreChildren, IsOwnCode, IsCode, IsModule}
-use Rattle.mpy_tree.specs.Raw.{Module}
-use Rattle.mpy_tree.specs.Canonical.{has_some, children_bytes, code_bytes, IsCanonicalCode, AllCodes}
-use Rattle.mpy_tree.specs.Resolved as trees
-use Rattle.mpy_tree.specs.Resolved.{Body, line_numbers, resolved, IsBody}
+use Rattle.bc_verify.specs.bc_prelude.Lines.{Rises, table_of, line_of, line_among}
+use Rattle.bc_verify.specs.bc_prelude.Prelude.{Begins}
+use Rattle.bc_verify.specs.bc_prelude.Signature as signatures
+use Rattle.bc_verify.specs.bc_prelude.Size as sizes
+use Rattle.bc_verify.specs.bc_prelude.Names as names
+use Rattle.bc_verify.proofs.bc_prelude_lemmas.Written.{signature_spells, size_spells}
+use Rattle.bc_verify.proofs.bc_prelude_lemmas.Indexes.{names_spelled}
+use Rattle.mpy_writer.specs.mpy_tree.declared.module.Code.{Code, out-Code}
+use Rattle.mpy_writer.specs.mpy_tree.declared.raw.RawCode.{RawCode, RawCode-F, out-RawCode, out-roll-RawCode, roll-out-RawCode}
+use Rattle.mpy_writer.specs.mpy_tree.File.{header_of, Many, AreChildren, IsOwnCode, IsCode, IsModule}
+use Rattle.mpy_writer.specs.mpy_tree.Raw.{Module}
+use Rattle.mpy_writer.specs.mpy_tree.Canonical.{has_some, children_bytes, code_bytes, IsCanonicalCode, AllCodes}
+use Rattle.mpy_writer.specs.mpy_tree.Resolved as trees
+use Rattle.mpy_writer.specs.mpy_tree.Resolved.{Body, line_numbers, resolved, IsBody}
 use Rattle.bc_verify.specs.Verified.{AreVerified}
 use Rattle.mpy_writer.specs.declared.tables.Tables.{Tables}
 use Rattle.mpy_writer.specs.Tables.{TablesFit, text_number}
@@ -33,11 +33,11 @@ use Rattle.mpy_writer.proofs.Labelled.{list_item}
 use Rattle.mpy_writer.proofs.Bodies.{instructions, prelude_of, writable, canonical, names_there, indexes_within, lines_read}
 use Rattle.mpy_writer.proofs.Lists.{zip_all, zip_length}
 use Rattle.mpy_writer.proofs.Spelled.{many_spelled}
-use Rattle.merge_codes.specs.Joined.{IsJoined}
-use Rattle.merge_codes.specs.Moved.{text_at, IsMovedTree}
-use Rattle.merge_codes.proofs.Sound.{numbered}
-use Rattle.mpy_tree.proofs.Codes.{Nests, children, whole}
-use Rattle.merge_codes.proofs.Trees.{kept_code, verified_child}
+use Rattle.mpy_merge.specs.Joined.{IsJoined}
+use Rattle.mpy_merge.specs.Moved.{text_at, IsMovedTree}
+use Rattle.mpy_merge.proofs.Sound.{numbered}
+use Rattle.mpy_writer.proofs.mpy_tree_lemmas.Codes.{Nests, children, whole}
+use Rattle.mpy_merge.proofs.Trees.{kept_code, verified_child}
 use Rattle.mpy_merge.specs.Merged.{NestsWithin}
 use Rattle.mpy_merge.proofs.Once.{same}
 

@@ -2,14 +2,14 @@
 use Rattle.std.proofs.Common.{ℕ, List, [], ◌∷◌, All, arith}
 use Rattle.std.specs.List.{AllZip, AllByRecursion}
 use Rattle.std.proofs.lemmas.List.Elements.{recursion_from_All}
-use Rattle.mpy_tree.specs.Canonical.{Canonical}
-use Rattle.mpy_tree.specs.File.{IsModule, IsFile}
-use Rattle.mpy_tree.specs.Raw.{Module}
-use Rattle.mpy_tree.specs.Resolved.{ResolvedModule, Resolves}
+use Rattle.mpy_writer.specs.mpy_tree.Canonical.{Canonical}
+use Rattle.mpy_writer.specs.mpy_tree.File.{IsModule, IsFile}
+use Rattle.mpy_writer.specs.mpy_tree.Raw.{Module}
+use Rattle.mpy_writer.specs.mpy_tree.Resolved.{ResolvedModule, Resolves}
 use Rattle.bc_verify.specs.Verified.{IsVerified}
-use Rattle.bc_verified.specs.Known.{HasTexts}
-use Rattle.bc_verified.specs.Verified.{IsVerifiedTree, AllVerifiedTrees}
-use Rattle.bc_translation.specs.Merge.{merge_of}
+use Rattle.bc_resolved.specs.Known.{HasTexts}
+use Rattle.bc_resolved.specs.Verified.{IsVerifiedTree, AllVerifiedTrees}
+use Rattle.bc_scheme.specs.Merge.{merge_of}
 use Rattle.mpy_merge.specs.Ends.{IsMergedFile}
 use Rattle.mpy_merge.specs.Merged.{IsMerged}
 use Rattle.mpy_merge.specs.AsMerge.{ReadsAsMerge}

@@ -2,11 +2,17 @@ pub mod Ended
 pub mod Filed
 pub mod Held
 pub mod Laws
+pub mod Made
 pub mod Nests
 pub mod Once
 pub mod Outermost
 pub mod Parts
+pub mod Places
+pub mod Reading
 pub mod Right
 pub mod Shapes
+pub mod Sound
 pub mod Tabled
+pub mod Texts
+pub mod Trees
 pub mod Uses

@@ -4,13 +4,13 @@ use Rattle.std.specs.List.{flat_map, AllZip, AllByRecursion}
 use Rattle.std.proofs.lemmas.List.{take_more, take_all}
 use Rattle.std.proofs.lemmas.List.Elements.{All-get_or, All-from_recursion, recursion_from_All}
 use Rattle.mpy_base.specs.Vuint.{vuint}
-use Rattle.mpy_tree.specs.declared.raw.RawCode.{RawCode, out-RawCode}
-use Rattle.mpy_tree.specs.File.{header_of}
-use Rattle.mpy_tree.specs.Raw.{Module}
-use Rattle.mpy_tree.specs.Canonical.{has_some, children_bytes, code_bytes}
-use Rattle.mpy_tree.proofs.Codes.{children}
+use Rattle.mpy_writer.specs.mpy_tree.declared.raw.RawCode.{RawCode, out-RawCode}
+use Rattle.mpy_writer.specs.mpy_tree.File.{header_of}
+use Rattle.mpy_writer.specs.mpy_tree.Raw.{Module}
+use Rattle.mpy_writer.specs.mpy_tree.Canonical.{has_some, children_bytes, code_bytes}
+use Rattle.mpy_writer.proofs.mpy_tree_lemmas.Codes.{children}
 use Rattle.mpy_writer.specs.declared.tables.Tables.{Tables}
-use Rattle.merge_codes.specs.Moved.{IsMovedTree}
+use Rattle.mpy_merge.specs.Moved.{IsMovedTree}
 use Rattle.mpy_merge.specs.Merged.{AreMoved, NestsWithin}
 
 pub none_nests : (levels : ℕ) (code : RawCode) → levels ≡ 0 → NestsWithin levels code → ⊥

@@ -2,30 +2,30 @@
 use Rattle.std.proofs.Common.{◌≡◌, ◌⊎◌, ℕ, zero, suc, List, [], ◌∷◌, ◌++◌, length, map, take, drop, Option, Some, None, slice_get, refl, sym, ap, ap₂, subst, ◌∙◌, inl, inr, arith}
 use Rattle.std.specs.Prelude.{option_and_then}
 use Rattle.std.specs.List.{AllZip}
-use Rattle.bc_ops.specs.declared.listing.Target.TheVariants.{Position}
-use Rattle.bc_ops.specs.declared.listing.Item as listings
-use Rattle.bc_ops.specs.declared.listing.Item.TheVariants as listed
-use Rattle.bc_ops.specs.Listing.{Lists}
-use Rattle.bc_ops.proofs.Lists.{one_listing}
+use Rattle.bc_scheme.specs.bc_ops.declared.listing.Target.TheVariants.{Position}
+use Rattle.bc_scheme.specs.bc_ops.declared.listing.Item as listings
+use Rattle.bc_scheme.specs.bc_ops.declared.listing.Item.TheVariants as listed
+use Rattle.bc_scheme.specs.bc_ops.Listing.{Lists}
+use Rattle.bc_scheme.proofs.bc_ops_lemmas.Lists.{one_listing}
 use Rattle.bc_labels.specs.Choice.{IsTooFar}
 use Rattle.bc_labels.proofs.Fewest.{never_both}
-use Rattle.bc_prelude.specs.declared.prelude.Prelude.{Prelude}
-use Rattle.bc_prelude.specs.Prelude.{Begins}
-use Rattle.bc_prelude.specs.Lines.{line_of}
-use Rattle.bc_prelude.proofs.Preludes.{same_prelude}
-use Rattle.bc_prelude.proofs.Indexes.{same_indexes}
-use Rattle.mpy_tree.specs.declared.module.Item.{Item}
-use Rattle.mpy_tree.specs.declared.module.Item.TheVariants as items
-use Rattle.mpy_tree.specs.declared.module.Code.{Code, Code-F, out-Code, roll-Code, roll-out-Code}
-use Rattle.mpy_tree.specs.declared.raw.RawCode.{RawCode, RawCode-F, out-RawCode, roll-RawCode, roll-out-RawCode}
-use Rattle.mpy_tree.specs.Raw.{Module}
-use Rattle.mpy_tree.specs.Codes.{code_at}
+use Rattle.bc_verify.specs.bc_prelude.declared.prelude.Prelude.{Prelude}
+use Rattle.bc_verify.specs.bc_prelude.Prelude.{Begins}
+use Rattle.bc_verify.specs.bc_prelude.Lines.{line_of}
+use Rattle.bc_verify.proofs.bc_prelude_lemmas.Preludes.{same_prelude}
+use Rattle.bc_verify.proofs.bc_prelude_lemmas.Indexes.{same_indexes}
+use Rattle.mpy_writer.specs.mpy_tree.declared.module.Item.{Item}
+use Rattle.mpy_writer.specs.mpy_tree.declared.module.Item.TheVariants as items
+use Rattle.mpy_writer.specs.mpy_tree.declared.module.Code.{Code, Code-F, out-Code, roll-Code, roll-out-Code}
+use Rattle.mpy_writer.specs.mpy_tree.declared.raw.RawCode.{RawCode, RawCode-F, out-RawCode, roll-RawCode, roll-out-RawCode}
+use Rattle.mpy_writer.specs.mpy_tree.Raw.{Module}
+use Rattle.mpy_writer.specs.mpy_tree.Codes.{code_at}
 use Rattle.mpy_writer.specs.declared.tables.Tables.{Tables}
 use Rattle.mpy_writer.specs.File.{labelled, IsOwn, IsBig}
 use Rattle.mpy_writer.proofs.Faults.{same_own}
-use Rattle.merge_codes.specs.Far.{IsFarOwn, HasFarCode}
-use Rattle.merge_codes.specs.Moved.{text_at, IsMovedItem, IsMovedCode, IsMovedOwn, IsMovedTree}
-use Rattle.bc_prelude.proofs.Pieces.{instructions_at, lines_at, names_at}
+use Rattle.mpy_merge.specs.Far.{IsFarOwn, HasFarCode}
+use Rattle.mpy_merge.specs.Moved.{text_at, IsMovedItem, IsMovedCode, IsMovedOwn, IsMovedTree}
+use Rattle.bc_verify.proofs.bc_prelude_lemmas.Pieces.{instructions_at, lines_at, names_at}
 
 -- lists beside others
 -- ===================

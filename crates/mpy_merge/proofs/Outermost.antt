@@ -7,27 +7,27 @@ use Rattle.std.proofs.lemmas.List.Elements.{All-from_recursion, All-nil}
 use Rattle.mpy_base.specs.declared.limits.TheConstants.{MAX_CODE_BYTES, MAX_STATE, MAX_HANDLERS, MAX_ARGUMENTS, MAX_TABLE}
 use Rattle.mpy_base.specs.Vuint.{vuint, high_groups}
 use Rattle.mpy_base.proofs.Groups.{length-high_groups}
-use Rattle.bc_ops.specs.declared.form.Form.{Form}
-use Rattle.bc_ops.specs.declared.form.Form.TheVariants as forms
-use Rattle.bc_ops.specs.declared.instr.Op.TheVariants as ops
-use Rattle.bc_ops.specs.declared.instr.Instr.TheVariants as instrs
-use Rattle.bc_ops.specs.Table.{code_of, form_of, number_form}
-use Rattle.bc_ops.specs.Code.{spelling, number_bytes, TakesNumber}
+use Rattle.bc_scheme.specs.bc_ops.declared.form.Form.{Form}
+use Rattle.bc_scheme.specs.bc_ops.declared.form.Form.TheVariants as forms
+use Rattle.bc_scheme.specs.bc_ops.declared.instr.Op.TheVariants as ops
+use Rattle.bc_scheme.specs.bc_ops.declared.instr.Instr.TheVariants as instrs
+use Rattle.bc_scheme.specs.bc_ops.Table.{code_of, form_of, number_form}
+use Rattle.bc_scheme.specs.bc_ops.Code.{spelling, number_bytes, TakesNumber}
 use Rattle.bc_labels.specs.declared.labelled.Labelled.{Labelled}
 use Rattle.bc_labels.specs.declared.labelled.Labelled.TheVariants as labels
 use Rattle.bc_labels.specs.Labels.{is_jump}
 use Rattle.bc_labels.specs.Places.{item_at, width_at, offset}
 use Rattle.bc_labels.specs.Choice.{instr_of, instrs_to, instrs_of, IsTooFar}
-use Rattle.bc_prelude.specs.declared.signature.Signature.{Signature}
-use Rattle.bc_prelude.specs.Signature as signatures
-use Rattle.bc_prelude.specs.Size as sizes
-use Rattle.bc_prelude.specs.Names as names
-use Rattle.bc_prelude.specs.Lines.{table_of}
-use Rattle.bc_prelude.proofs.Written.{signature_last, size_last}
-use Rattle.mpy_tree.specs.declared.module.Item.{Item}
-use Rattle.mpy_tree.specs.declared.module.Item.TheVariants as items
-use Rattle.mpy_tree.specs.declared.module.Code.{Code, Code-F, out-Code, out-roll-Code}
-use Rattle.mpy_tree.specs.Canonical.{changes, offsets}
+use Rattle.bc_verify.specs.bc_prelude.declared.signature.Signature.{Signature}
+use Rattle.bc_verify.specs.bc_prelude.Signature as signatures
+use Rattle.bc_verify.specs.bc_prelude.Size as sizes
+use Rattle.bc_verify.specs.bc_prelude.Names as names
+use Rattle.bc_verify.specs.bc_prelude.Lines.{table_of}
+use Rattle.bc_verify.proofs.bc_prelude_lemmas.Written.{signature_last, size_last}
+use Rattle.mpy_writer.specs.mpy_tree.declared.module.Item.{Item}
+use Rattle.mpy_writer.specs.mpy_tree.declared.module.Item.TheVariants as items
+use Rattle.mpy_writer.specs.mpy_tree.declared.module.Code.{Code, Code-F, out-Code, out-roll-Code}
+use Rattle.mpy_writer.specs.mpy_tree.Canonical.{changes, offsets}
 use Rattle.mpy_writer.specs.declared.tables.Tables.{Tables}
 use Rattle.mpy_writer.specs.declared.fault.WriteFault.{WriteFault}
 use Rattle.mpy_writer.specs.declared.fault.WriteFault.TheVariants.{TooManyNames, TooFar, TooBig}

@@ -4,14 +4,14 @@ use Rattle.std.specs.List.{flat_map}
 use Rattle.std.proofs.lemmas.List.{append-nil, take_more, take_all}
 use Rattle.std.proofs.lemmas.List.Concat.{flat_map-append}
 use Rattle.mpy_base.specs.declared.limits.TheConstants.{MAX_TABLE}
-use Rattle.mpy_tree.specs.declared.module.Constant.{Constant}
-use Rattle.mpy_tree.specs.declared.raw.RawCode.{RawCode}
-use Rattle.mpy_tree.specs.Raw.{Module}
-use Rattle.mpy_tree.specs.Canonical.{code_bytes}
+use Rattle.mpy_writer.specs.mpy_tree.declared.module.Constant.{Constant}
+use Rattle.mpy_writer.specs.mpy_tree.declared.raw.RawCode.{RawCode}
+use Rattle.mpy_writer.specs.mpy_tree.Raw.{Module}
+use Rattle.mpy_writer.specs.mpy_tree.Canonical.{code_bytes}
 use Rattle.mpy_writer.specs.declared.tables.Tables.{Tables}
-use Rattle.merge_codes.specs.Far.{HasFarCode}
-use Rattle.merge_codes.specs.Moved.{IsMovedTree}
-use Rattle.mpy_tree.proofs.Codes.{get_at}
+use Rattle.mpy_merge.specs.Far.{HasFarCode}
+use Rattle.mpy_merge.specs.Moved.{IsMovedTree}
+use Rattle.mpy_writer.proofs.mpy_tree_lemmas.Codes.{get_at}
 use Rattle.mpy_merge.specs.Faults.{IsFarAt, IsFirstFarIn}
 use Rattle.mpy_merge.specs.Merged.{all_objects, AreMoved}
 use Rattle.mpy_merge.proofs.Once.{near_tree}

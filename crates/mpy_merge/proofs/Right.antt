@@ -7,21 +7,21 @@ use Rattle.std.proofs.lemmas.List.Elements.{All-from_recursion, recursion_from_A
 use Rattle.mpy_base.specs.Vuint.{vuint}
 use Rattle.mpy_base.specs.declared.limits.TheConstants.{MAX_TABLE, MAX_CODE_BYTES, MAX_DEPTH}
 use Rattle.mpy_base.proofs.Groups.{vuint_spells}
-use Rattle.bc_ops.specs.declared.instr.Op.TheVariants as ops
-use Rattle.bc_ops.specs.declared.instr.Instr.TheVariants as instrs
-use Rattle.mpy_tree.specs.declared.module.Constant.{Constant}
-use Rattle.mpy_tree.specs.declared.module.Item.{Item}
-use Rattle.mpy_tree.specs.declared.module.Item.TheVariants as items
-use Rattle.mpy_tree.specs.declared.module.Code.{Code, Code-F, out-Code}
-use Rattle.mpy_tree.specs.declared.raw.Qstr.{Qstr}
-use Rattle.mpy_tree.specs.declared.raw.RawCode.{RawCode, RawCode-F, out-RawCode, out-roll-RawCode}
-use Rattle.mpy_tree.specs.File.{IsQstr, IsObject, IsOwnCode, IsCode, IsModule, IsFile}
-use Rattle.mpy_tree.specs.Raw.{Module, text_of}
-use Rattle.mpy_tree.specs.Canonical.{qstr_bytes, IsNamed, code_bytes, IsCanonicalCode, AllCodes, Canonical}
-use Rattle.mpy_tree.specs.FirstUse.{FirstUsed}
-use Rattle.mpy_tree.specs.Resolved.{Resolved, ResolvedLine, ResolvedModule, instrs_of, line_numbers, resolved, resolved_item, IsBody, ResolveCodes, Resolves}
-use Rattle.bc_translation.specs.Merge as merges
-use Rattle.bc_translation.specs.Merge.{outer_instrs, on_line_1, outer_body, trees_of, merge_of}
+use Rattle.bc_scheme.specs.bc_ops.declared.instr.Op.TheVariants as ops
+use Rattle.bc_scheme.specs.bc_ops.declared.instr.Instr.TheVariants as instrs
+use Rattle.mpy_writer.specs.mpy_tree.declared.module.Constant.{Constant}
+use Rattle.mpy_writer.specs.mpy_tree.declared.module.Item.{Item}
+use Rattle.mpy_writer.specs.mpy_tree.declared.module.Item.TheVariants as items
+use Rattle.mpy_writer.specs.mpy_tree.declared.module.Code.{Code, Code-F, out-Code}
+use Rattle.mpy_writer.specs.mpy_tree.declared.raw.Qstr.{Qstr}
+use Rattle.mpy_writer.specs.mpy_tree.declared.raw.RawCode.{RawCode, RawCode-F, out-RawCode, out-roll-RawCode}
+use Rattle.mpy_writer.specs.mpy_tree.File.{IsQstr, IsObject, IsOwnCode, IsCode, IsModule, IsFile}
+use Rattle.mpy_writer.specs.mpy_tree.Raw.{Module, text_of}
+use Rattle.mpy_writer.specs.mpy_tree.Canonical.{qstr_bytes, IsNamed, code_bytes, IsCanonicalCode, AllCodes, Canonical}
+use Rattle.mpy_writer.specs.mpy_tree.FirstUse.{FirstUsed}
+use Rattle.mpy_writer.specs.mpy_tree.Resolved.{Resolved, ResolvedLine, ResolvedModule, instrs_of, line_numbers, resolved, resolved_item, IsBody, ResolveCodes, Resolves}
+use Rattle.bc_scheme.specs.Merge as merges
+use Rattle.bc_scheme.specs.Merge.{outer_instrs, on_line_1, outer_body, trees_of, merge_of}
 use Rattle.bc_verify.specs.Verified.{IsVerified}
 use Rattle.mpy_writer.specs.declared.tables.Tables.{Tables}
 use Rattle.mpy_writer.specs.Tables.{TablesFit, spelled}
@@ -34,11 +34,11 @@ use Rattle.mpy_writer.proofs.Numbers.{used_there}
 use Rattle.mpy_writer.proofs.Spelled.{many_spelled, object_spelled}
 use Rattle.mpy_writer.proofs.Texts.{entry_is}
 use Rattle.mpy_writer.proofs.Whole.{entries}
-use Rattle.merge_codes.specs.Joined.{IsJoined}
-use Rattle.merge_codes.specs.Moved.{entry_text, text_at, IsMovedTree}
-use Rattle.merge_codes.proofs.Reading.{tree_moved}
-use Rattle.merge_codes.proofs.Texts.{text_fine, entries_fine}
-use Rattle.mpy_tree.proofs.Codes.{Nests}
+use Rattle.mpy_merge.specs.Joined.{IsJoined}
+use Rattle.mpy_merge.specs.Moved.{entry_text, text_at, IsMovedTree}
+use Rattle.mpy_merge.proofs.Reading.{tree_moved}
+use Rattle.mpy_merge.proofs.Texts.{text_fine, entries_fine}
+use Rattle.mpy_writer.proofs.mpy_tree_lemmas.Codes.{Nests}
 use Rattle.mpy_merge.specs.Merged.{texts_of, texts_used, all_objects, calls, outer_items, outer_code, AreMoved, merged_module}
 use Rattle.mpy_merge.specs.Ends.{IsMergedFile}
 use Rattle.mpy_merge.proofs.Ended.{count_parts}

@@ -4,12 +4,12 @@ use Rattle.std.specs.List.{flat_map, AllByRecursion}
 use Rattle.std.proofs.lemmas.List.Elements.{All-from_recursion}
 use Rattle.mpy_base.specs.Vuint.{vuint}
 use Rattle.mpy_base.specs.declared.limits.TheConstants.{MAX_FILE_BYTES, MAX_DEPTH}
-use Rattle.mpy_tree.specs.declared.module.Constant.{Constant, out-Constant}
-use Rattle.mpy_tree.specs.declared.module.Constant.TheOpen.{Constant-F}
-use Rattle.mpy_tree.specs.declared.module.Constant.TheVariants as constants
-use Rattle.mpy_tree.specs.File.{Many, IsAscii, IsSmall, IsAtom, IsObject, IsModule}
-use Rattle.mpy_tree.specs.Raw.{Module}
-use Rattle.mpy_tree.specs.Canonical.{object_by, object_bytes}
+use Rattle.mpy_writer.specs.mpy_tree.declared.module.Constant.{Constant, out-Constant}
+use Rattle.mpy_writer.specs.mpy_tree.declared.module.Constant.TheOpen.{Constant-F}
+use Rattle.mpy_writer.specs.mpy_tree.declared.module.Constant.TheVariants as constants
+use Rattle.mpy_writer.specs.mpy_tree.File.{Many, IsAscii, IsSmall, IsAtom, IsObject, IsModule}
+use Rattle.mpy_writer.specs.mpy_tree.Raw.{Module}
+use Rattle.mpy_writer.specs.mpy_tree.Canonical.{object_by, object_bytes}
 use Rattle.mpy_writer.specs.Writable.{IsAtomBy, IsFineBy, IsFine}
 use Rattle.mpy_writer.proofs.Objects.{none_is, false_is, true_is, str_is, int_is, tuple_is, tuple_bytes}
 

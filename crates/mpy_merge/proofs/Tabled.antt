@@ -4,8 +4,8 @@ use Rattle.std.specs.List.{flat_map, AllByRecursion}
 use Rattle.std.proofs.lemmas.List.{append-nil, at_drop_more, take_all}
 use Rattle.std.proofs.lemmas.List.Concat.{flat_map-append}
 use Rattle.std.proofs.lemmas.List.Elements.{All-from_recursion, recursion_from_All}
-use Rattle.mpy_tree.specs.declared.module.Constant.{Constant}
-use Rattle.mpy_tree.specs.Raw.{Module}
+use Rattle.mpy_writer.specs.mpy_tree.declared.module.Constant.{Constant}
+use Rattle.mpy_writer.specs.mpy_tree.Raw.{Module}
 use Rattle.mpy_writer.specs.Tables.{spelled}
 use Rattle.mpy_writer.proofs.Lists.{together, parted}
 use Rattle.mpy_merge.specs.Merged.{all_objects}

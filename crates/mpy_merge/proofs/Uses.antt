@@ -4,9 +4,9 @@ use Rattle.std.specs.List.{flat_map}
 use Rattle.std.proofs.lemmas.List.{get_or-map, length-map}
 use Rattle.std.proofs.lemmas.List.Elements.{All-from_recursion, recursion_from_All}
 use Rattle.mpy_base.specs.declared.limits.TheConstants.{MAX_TABLE}
-use Rattle.qstr_pool.specs.Pool.{Texts}
-use Rattle.mpy_tree.specs.File.{IsModule}
-use Rattle.mpy_tree.specs.Raw.{Module}
+use Rattle.mpy_writer.specs.qstr_pool.Pool.{Texts}
+use Rattle.mpy_writer.specs.mpy_tree.File.{IsModule}
+use Rattle.mpy_writer.specs.mpy_tree.Raw.{Module}
 use Rattle.mpy_writer.specs.declared.tables.Tables.{Tables}
 use Rattle.mpy_writer.specs.Outcome.{all_interned, no_texts}
 use Rattle.mpy_writer.specs.Tables.{IsTable, TablesFit}
@@ -14,7 +14,7 @@ use Rattle.mpy_writer.specs.Writable.{IsText}
 use Rattle.mpy_writer.proofs.Faults.{table_made}
 use Rattle.mpy_writer.proofs.Lists.{next}
 use Rattle.mpy_writer.proofs.Whole.{entries}
-use Rattle.merge_codes.specs.Moved.{text_at}
+use Rattle.mpy_merge.specs.Moved.{text_at}
 use Rattle.mpy_merge.specs.Faults.{HasManyNames}
 use Rattle.mpy_merge.specs.Merged.{texts_of, texts_used, all_objects, AreTables}
 use Rattle.mpy_merge.proofs.Right.{used_fine}

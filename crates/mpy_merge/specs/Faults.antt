@@ -1,12 +1,12 @@
 -- Why modules have no merged file.
 use Rattle.std.specs.Prelude.{◌≡◌, ◌⊎◌, ℕ, ◌+◌, ◌<◌, List, [], length, take, Some, slice_get}
 use Rattle.mpy_base.specs.declared.limits.TheConstants.{MAX_TABLE, MAX_FILE_BYTES}
-use Rattle.mpy_tree.specs.Raw.{Module}
+use Rattle.mpy_writer.specs.mpy_tree.Raw.{Module}
 use Rattle.mpy_writer.specs.declared.tables.Tables.{Tables}
 use Rattle.mpy_merge.specs.declared.fault.MergeFault.{MergeFault}
 use Rattle.mpy_merge.specs.declared.fault.MergeFault.TheVariants.{Empty, TooManyNames, TooMany, TooFar, TooBig}
 use Rattle.mpy_merge.specs.declared.fault.TheConstants.{MAX_PARTS}
-use Rattle.merge_codes.specs.Far.{HasFarCode}
+use Rattle.mpy_merge.specs.Far.{HasFarCode}
 use Rattle.mpy_merge.specs.Merged.{AreTables, all_objects, IsMerged, NestsWithin}
 
 -- a code of the module at the place has a jump that reaches too far, or too many bytes, with its objects behind those of the modules

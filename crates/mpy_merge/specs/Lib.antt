@@ -1,6 +1,11 @@
 pub mod AsMerge
 pub mod Ends
+pub mod Far
 pub mod Faults
+pub mod Heads
+pub mod Joined
+pub mod Kept
 pub mod Merged
+pub mod Moved
 pub mod Numbers
 pub mod Written

@@ -2,20 +2,20 @@
 use Rattle.std.specs.Prelude.{◌≡◌, ℕ, zero, suc, ◌+◌, ◌≤◌, List, [], ◌∷◌, ◌++◌, length, map, All, codes}
 use Rattle.std.specs.List.{flat_map}
 use Rattle.mpy_base.specs.declared.limits.TheConstants.{MAX_CODE_BYTES}
-use Rattle.bc_ops.specs.declared.instr.Op.TheVariants as ops
-use Rattle.bc_ops.specs.declared.instr.Instr.TheVariants as instrs
-use Rattle.mpy_tree.specs.declared.module.Constant.{Constant}
-use Rattle.mpy_tree.specs.declared.module.Item.{Item}
-use Rattle.mpy_tree.specs.declared.module.Item.TheVariants.{Plain}
-use Rattle.mpy_tree.specs.declared.module.Code.{Code, roll-Code}
-use Rattle.mpy_tree.specs.declared.raw.RawCode.{RawCode, out-RawCode, roll-RawCode}
-use Rattle.mpy_tree.specs.Raw.{Module}
-use Rattle.mpy_tree.specs.Canonical.{file_bytes}
+use Rattle.bc_scheme.specs.bc_ops.declared.instr.Op.TheVariants as ops
+use Rattle.bc_scheme.specs.bc_ops.declared.instr.Instr.TheVariants as instrs
+use Rattle.mpy_writer.specs.mpy_tree.declared.module.Constant.{Constant}
+use Rattle.mpy_writer.specs.mpy_tree.declared.module.Item.{Item}
+use Rattle.mpy_writer.specs.mpy_tree.declared.module.Item.TheVariants.{Plain}
+use Rattle.mpy_writer.specs.mpy_tree.declared.module.Code.{Code, roll-Code}
+use Rattle.mpy_writer.specs.mpy_tree.declared.raw.RawCode.{RawCode, out-RawCode, roll-RawCode}
+use Rattle.mpy_writer.specs.mpy_tree.Raw.{Module}
+use Rattle.mpy_writer.specs.mpy_tree.Canonical.{file_bytes}
 use Rattle.mpy_writer.specs.declared.tables.Tables.{Tables}
 use Rattle.mpy_writer.specs.Outcome.{no_texts}
 use Rattle.mpy_writer.specs.Tables.{IsTable}
 use Rattle.mpy_writer.specs.File.{IsOwn, qstr_of}
-use Rattle.merge_codes.specs.Moved.{entry_text, text_at, IsMovedTree}
+use Rattle.mpy_merge.specs.Moved.{entry_text, text_at, IsMovedTree}
 
 -- tables
 -- ======

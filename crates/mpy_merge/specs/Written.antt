@@ -3,14 +3,14 @@ use Rattle.std.specs.Prelude.{◌≡◌, ℕ, ◌≤◌, List, ◌∷◌, ◌++�
 use Rattle.std.specs.List.{flat_map}
 use Rattle.mpy_base.specs.Vuint.{vuint}
 use Rattle.mpy_base.specs.declared.limits.TheConstants.{MAX_CODE_BYTES, MAX_DEPTH}
-use Rattle.mpy_tree.specs.declared.module.Constant.{Constant}
-use Rattle.mpy_tree.specs.declared.raw.RawCode.{RawCode}
-use Rattle.mpy_tree.specs.Raw.{Module}
-use Rattle.mpy_tree.specs.Canonical.{qstr_bytes, code_bytes}
+use Rattle.mpy_writer.specs.mpy_tree.declared.module.Constant.{Constant}
+use Rattle.mpy_writer.specs.mpy_tree.declared.raw.RawCode.{RawCode}
+use Rattle.mpy_writer.specs.mpy_tree.Raw.{Module}
+use Rattle.mpy_writer.specs.mpy_tree.Canonical.{qstr_bytes, code_bytes}
 use Rattle.mpy_writer.specs.declared.tables.Tables.{Tables}
 use Rattle.mpy_writer.specs.File.{IsOwn, qstr_of}
 use Rattle.mpy_writer.specs.Tables.{spelled}
-use Rattle.merge_codes.specs.Heads.{head_of}
+use Rattle.mpy_merge.specs.Heads.{head_of}
 use Rattle.mpy_merge.specs.Merged.{outer_code, AreMoved}
 
 -- the bytes in front of the codes

@@ -2,12 +2,12 @@
 
 ghost use Rattle.std.specs.Prelude.{◌≡◌, ◌++◌, ◌+◌, ◌<◌, ◌≤◌, ◌↔◌, ℕ, List, length, All, false, IsTrue, IfOk, OnOk};
 ghost use Rattle.std.specs.List.{flat_map};
-ghost use Rattle.mpy_tree.specs.declared.raw.RawCode.{RawCode};
-ghost use Rattle.mpy_tree.specs.Canonical.{code_bytes};
-ghost use Rattle.mpy_tree.specs.Raw.{Module};
+ghost use Rattle.mpy_writer.specs.mpy_tree.declared.raw.RawCode.{RawCode};
+ghost use Rattle.mpy_writer.specs.mpy_tree.Canonical.{code_bytes};
+ghost use Rattle.mpy_writer.specs.mpy_tree.Raw.{Module};
 ghost use Rattle.mpy_writer.specs.Tables.{TablesFit};
-ghost use Rattle.merge_codes.specs.Far.{HasFarCode};
-ghost use Rattle.merge_codes.specs.Moved.{IsMovedTree};
+ghost use Rattle.mpy_merge.specs.Far.{HasFarCode};
+ghost use Rattle.mpy_merge.specs.Moved.{IsMovedTree};
 ghost use Rattle.mpy_merge.specs.Ends.{IfFault};
 ghost use Rattle.mpy_merge.specs.Faults.{IsFirstFarIn, IsDeep};
 ghost use Rattle.mpy_merge.specs.Merged.{AreMoved, NestsWithin, all_objects};
@@ -15,12 +15,12 @@ ghost use Rattle.mpy_merge.specs.Written.{AreCodes};
 
 use crate::fault::{MAX_PARTS, MergeFault};
 use crate::outer::outer_own;
+use crate::tree::{write_head, write_tree};
 use bc_verify::{Verified, verified_law};
-use merge_codes::{write_head, write_tree};
 use mpy_base::Refused;
 use mpy_base::limits::{MAX_DEPTH, MAX_TABLE};
-use mpy_tree::{RawCode, module_law};
 use mpy_writer::Tables;
+use mpy_writer::mpy_tree::{RawCode, module_law};
 use std::alloc::Global;
 
 /// Adds the code of the module at the place, and those in it, with their numbers moved.

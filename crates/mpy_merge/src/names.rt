@@ -2,23 +2,23 @@
 
 ghost use Rattle.std.specs.Prelude.{◌≡◌, ◌<◌, ◌≤◌, length, map, nat_le, All, OnOk, IfOk};
 ghost use Rattle.std.specs.List.{flat_map};
-ghost use Rattle.mpy_tree.specs.File.{IsModule};
+ghost use Rattle.mpy_writer.specs.mpy_tree.File.{IsModule};
 ghost use Rattle.mpy_writer.specs.Outcome.{IfFault, all_interned, PassesTable, no_texts};
 ghost use Rattle.mpy_writer.specs.Tables.{TablesFit};
 ghost use Rattle.mpy_writer.specs.Writable.{IsText};
 ghost use Rattle.mpy_merge.specs.Ends as ends;
 ghost use Rattle.mpy_merge.specs.Faults.{HasManyNames};
 ghost use Rattle.mpy_merge.specs.Merged.{texts_of, texts_used, all_objects, AreTables};
-ghost use Rattle.merge_codes.specs.Moved as specs;
+ghost use Rattle.mpy_merge.specs.Moved as specs;
 
 use crate::fault::MergeFault;
+use crate::moved::{entry_text, text_at};
 use bc_verify::Verified;
-use merge_codes::{entry_text, text_at};
 use mpy_base::Refused;
 use mpy_base::limits::MAX_TABLE;
-use mpy_tree::Qstr;
+use mpy_writer::mpy_tree::Qstr;
+use mpy_writer::qstr_pool::{Pool, pool_law};
 use mpy_writer::{Tables, WriteFault, use_text};
-use qstr_pool::{Pool, pool_law};
 use std::alloc::Global;
 
 /// Uses the texts of a table.

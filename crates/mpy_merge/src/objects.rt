@@ -2,8 +2,8 @@
 
 ghost use Rattle.std.specs.Prelude.{◌≡◌, ◌≤◌, ◌<◌, ◌++◌, ℕ, List, length, All, false, IsTrue, OnOk};
 ghost use Rattle.std.specs.List.{flat_map};
-ghost use Rattle.mpy_tree.specs.Canonical.{object_bytes};
-ghost use Rattle.mpy_tree.specs.File.{IsObject};
+ghost use Rattle.mpy_writer.specs.mpy_tree.Canonical.{object_bytes};
+ghost use Rattle.mpy_writer.specs.mpy_tree.File.{IsObject};
 ghost use Rattle.mpy_writer.specs.Tables.{spelled};
 ghost use Rattle.mpy_writer.specs.Writable.{IsFine};
 ghost use Rattle.mpy_merge.specs.Merged.{all_objects};
@@ -11,7 +11,7 @@ ghost use Rattle.mpy_merge.specs.Merged.{all_objects};
 use bc_verify::Verified;
 use mpy_base::NoMemory;
 use mpy_base::limits::{MAX_DEPTH, MAX_FILE_BYTES, MAX_TABLE};
-use mpy_tree::{Constant, module_law};
+use mpy_writer::mpy_tree::{Constant, module_law};
 use mpy_writer::write_constants;
 use std::alloc::Global;
 

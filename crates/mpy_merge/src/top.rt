@@ -2,22 +2,21 @@
 
 ghost use Rattle.std.specs.Prelude.{◌≡◌, ◌⊎◌, IfOk, Err};
 ghost use Rattle.bc_verify.specs.Verified.{IsVerified};
-ghost use Rattle.mpy_tree.specs.Canonical.{Canonical};
-ghost use Rattle.mpy_tree.specs.File.{IsFile};
-ghost use Rattle.mpy_tree.specs.Raw.{Module};
+ghost use Rattle.mpy_writer.specs.mpy_tree.Canonical.{Canonical};
+ghost use Rattle.mpy_writer.specs.mpy_tree.File.{IsFile};
+ghost use Rattle.mpy_writer.specs.mpy_tree.Raw.{Module};
 ghost use Rattle.mpy_merge.specs.AsMerge.{ReadsAsMerge};
 ghost use Rattle.mpy_merge.specs.Faults.{FirstFault};
 ghost use Rattle.mpy_merge.specs.Merged.{IsMerged};
 
 use crate::fault::MergeFault;
 use crate::file::{file_or_fault, modules_law};
-use bc_prelude::lines_law;
-use bc_resolved::resolves_law;
-use bc_verified::{file_law, raw_law, tree_law};
+use bc_resolved::{file_law, raw_law, resolves_law, tree_law};
 use bc_verify::Verified;
+use bc_verify::bc_prelude::lines_law;
 use mpy_base::Refused;
 use std::alloc::Global;
-use tr_verified::merge_law;
+use tr_source::merge_law;
 
 /// The merged file of verified modules, or the fault that comes first.
 pub fn merge(alloc: Global, modules: &[Verified]) -> Result<Vec<u8>, Refused<MergeFault>>

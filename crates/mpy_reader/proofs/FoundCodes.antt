@@ -6,13 +6,13 @@ use Rattle.std.proofs.lemmas.List.{append-nil}
 use Rattle.std.proofs.lemmas.List.Elements.{All-from_recursion}
 use Rattle.mpy_base.specs.Vuint.{Spells}
 use Rattle.mpy_base.specs.declared.limits.TheConstants.{MAX_TABLE, MAX_CODE_BYTES, MAX_DEPTH}
-use Rattle.bc_prelude.specs.declared.prelude.Prelude.{Prelude}
-use Rattle.bc_prelude.specs.declared.signature.Signature.{Signature}
-use Rattle.bc_prelude.specs.Signature.{IsSignature}
-use Rattle.bc_prelude.specs.Size.{IsSize}
-use Rattle.bc_prelude.specs.Names.{AreNames}
-use Rattle.bc_ops.specs.declared.listing.Item.{Item}
-use Rattle.bc_ops.specs.Listing.{IsListOf}
+use Rattle.mpy_tree.specs.bc_prelude.declared.prelude.Prelude.{Prelude}
+use Rattle.mpy_tree.specs.bc_prelude.declared.signature.Signature.{Signature}
+use Rattle.mpy_tree.specs.bc_prelude.Signature.{IsSignature}
+use Rattle.mpy_tree.specs.bc_prelude.Size.{IsSize}
+use Rattle.mpy_tree.specs.bc_prelude.Names.{AreNames}
+use Rattle.mpy_tree.specs.bc_ops.declared.listing.Item.{Item}
+use Rattle.mpy_tree.specs.bc_ops.Listing.{IsListOf}
 use Rattle.mpy_tree.specs.declared.raw.RawCode.{RawCode, roll-RawCode}
 use Rattle.mpy_tree.specs.Raw.{Module}
 use Rattle.mpy_tree.specs.File.{Many, IsQstr, IsObject, IsOwnCode, header_of, AreChildren, IsElement, IsCode, IsSpelling, IsFile}

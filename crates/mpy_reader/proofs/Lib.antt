@@ -1,3 +1,4 @@
+pub use Rattle.mpy_tree.proofs as mpy_tree_lemmas
 pub mod Bodies
 pub mod Codes
 pub mod Files

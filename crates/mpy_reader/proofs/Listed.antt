@@ -5,11 +5,11 @@ use Rattle.std.specs.List.{AllByRecursion}
 use Rattle.std.proofs.lemmas.List.{append-nil, append_cancel_left, drop-drop, nil_from_length}
 use Rattle.std.proofs.Math.Seq.{drop-append_seam}
 use Rattle.std.proofs.lemmas.List.Elements.{recursion_from_All, All-nil, All-push}
-use Rattle.bc_ops.specs.declared.instr.Instr.{Instr}
-use Rattle.bc_ops.specs.declared.listing.Item.{Item}
-use Rattle.bc_ops.specs.Code.{Spells}
-use Rattle.bc_ops.specs.Listing.{Piece, IsPiece, joined, starts, items_at, IsListOf}
-use Rattle.bc_ops.proofs.Law.{one_instruction}
+use Rattle.mpy_tree.specs.bc_ops.declared.instr.Instr.{Instr}
+use Rattle.mpy_tree.specs.bc_ops.declared.listing.Item.{Item}
+use Rattle.mpy_tree.specs.bc_ops.Code.{Spells}
+use Rattle.mpy_tree.specs.bc_ops.Listing.{Piece, IsPiece, joined, starts, items_at, IsListOf}
+use Rattle.mpy_tree.proofs.bc_ops_lemmas.Law.{one_instruction}
 
 -- the bytes up to a place are instructions
 pub record Listed (bytes : List ℕ) (at : ℕ) : Type 0 where

@@ -3,12 +3,12 @@ use Rattle.std.proofs.Common.{◌≡◌, ◌⊎◌, ℕ, zero, suc, ◌+◌, ◌
 use Rattle.std.proofs.lemmas.List.{append_cancel_left, append_cancel_right, take_at, drop_at}
 use Rattle.std.specs.Str.Parse.{digits_value}
 use Rattle.mpy_base.proofs.Groups as groups
-use Rattle.bc_prelude.specs.declared.signature.Signature.{Signature}
-use Rattle.bc_prelude.specs.Signature.{IsSignature}
-use Rattle.bc_prelude.specs.Size.{IsSize, SizeEnds, HasCells}
-use Rattle.bc_prelude.proofs.Chains.{one_chain}
-use Rattle.bc_prelude.proofs.Signatures.{signature_found, signature_big, same_signature}
-use Rattle.bc_prelude.proofs.Sizes.{size_found}
+use Rattle.mpy_tree.specs.bc_prelude.declared.signature.Signature.{Signature}
+use Rattle.mpy_tree.specs.bc_prelude.Signature.{IsSignature}
+use Rattle.mpy_tree.specs.bc_prelude.Size.{IsSize, SizeEnds, HasCells}
+use Rattle.mpy_tree.proofs.bc_prelude_lemmas.Chains.{one_chain}
+use Rattle.mpy_tree.proofs.bc_prelude_lemmas.Signatures.{signature_found, signature_big, same_signature}
+use Rattle.mpy_tree.proofs.bc_prelude_lemmas.Sizes.{size_found}
 use Rattle.mpy_tree.specs.declared.module.Constant.{Constant}
 use Rattle.mpy_tree.specs.declared.raw.RawCode.{RawCode}
 use Rattle.mpy_tree.specs.File.{IsDecimal}

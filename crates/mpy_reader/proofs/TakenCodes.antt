@@ -5,9 +5,9 @@ use Rattle.std.proofs.lemmas.List.{append-nil}
 use Rattle.std.proofs.lemmas.List.Elements.{recursion_from_All}
 use Rattle.mpy_base.specs.Vuint.{Spells}
 use Rattle.mpy_base.specs.declared.limits.TheConstants.{MAX_CODE_BYTES, MAX_DEPTH}
-use Rattle.bc_prelude.specs.Names.{AreNames}
-use Rattle.bc_prelude.specs.Size.{IsSize}
-use Rattle.bc_prelude.specs.Prelude.{signature_in}
+use Rattle.mpy_tree.specs.bc_prelude.Names.{AreNames}
+use Rattle.mpy_tree.specs.bc_prelude.Size.{IsSize}
+use Rattle.mpy_tree.specs.bc_prelude.Prelude.{signature_in}
 use Rattle.mpy_tree.specs.declared.raw.RawCode.{RawCode}
 use Rattle.mpy_tree.specs.Raw.{Module}
 use Rattle.mpy_tree.specs.File.{Many, IsQstr, IsObject, IsOwnCode, header_of, AreChildren, IsElement, IsCode, IsSpelling, IsFile}

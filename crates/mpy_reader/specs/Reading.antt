@@ -5,13 +5,13 @@ use Rattle.mpy_base.specs.declared.refused.Refused.{Refused}
 use Rattle.mpy_base.specs.declared.refused.Refused.TheVariants as refused
 use Rattle.mpy_base.specs.declared.limits.TheConstants.{MAX_FILE_BYTES, MAX_TABLE, MAX_CODE_BYTES, MAX_DEPTH}
 use Rattle.mpy_base.specs.Vuint.{Spells, EndsInside, PassesForm}
-use Rattle.bc_ops.specs.declared.listing.Item.{Item}
-use Rattle.bc_ops.specs.Listing.{IsListOf}
-use Rattle.bc_prelude.specs.declared.signature.Signature.{Signature}
-use Rattle.bc_prelude.specs.Chain.{HasNoEnd}
-use Rattle.bc_prelude.specs.Signature.{IsSignature, SignaturePasses, SignatureOutside}
-use Rattle.bc_prelude.specs.Size.{IsSize, SizeEnds, HasCells}
-use Rattle.qstr_pool.specs.declared.table.TheConstants.{STATIC_COUNT}
+use Rattle.mpy_tree.specs.bc_ops.declared.listing.Item.{Item}
+use Rattle.mpy_tree.specs.bc_ops.Listing.{IsListOf}
+use Rattle.mpy_tree.specs.bc_prelude.declared.signature.Signature.{Signature}
+use Rattle.mpy_tree.specs.bc_prelude.Chain.{HasNoEnd}
+use Rattle.mpy_tree.specs.bc_prelude.Signature.{IsSignature, SignaturePasses, SignatureOutside}
+use Rattle.mpy_tree.specs.bc_prelude.Size.{IsSize, SizeEnds, HasCells}
+use Rattle.mpy_tree.specs.qstr_pool.declared.table.TheConstants.{STATIC_COUNT}
 use Rattle.mpy_tree.specs.declared.module.Constant.{Constant}
 use Rattle.mpy_tree.specs.declared.module.Constant.TheVariants as constants
 use Rattle.mpy_tree.specs.declared.raw.Qstr.{Qstr}

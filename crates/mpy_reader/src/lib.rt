@@ -13,3 +13,4 @@ mod qstr;
 pub use body::{ModuleBody, body_law, read_body};
 pub use fault::FileFault;
 pub use file::{file_law, read};
+pub use mpy_tree;

@@ -3,48 +3,50 @@ use Rattle.std.proofs.Common.{◌≡◌, ℕ, true, false, List, [], Option, Som
 use Rattle.std.specs.Prelude.{IfOk}
 use Rattle.mpy_base.specs.declared.limits.TheConstants.{MAX_TASKS}
 use Rattle.mpy_io.specs.Files.{FileOf}
-use Rattle.bc_library.specs.Shelf.{Shelf}
+use Rattle.image_grammar.specs.bc_library.Shelf.{Shelf, no_entries}
 use Rattle.source_files.specs.Sources.{stored}
 use Rattle.mpy_words.specs.declared.order.Command.{Command}
-use Rattle.mpy_words.specs.declared.order.Command.TheVariants.{Go, Check, Dump, Cross, Merge, Freeze, Migrate, Run, Board, Stress}
+use Rattle.mpy_words.specs.declared.order.Command.TheVariants.{Go, Check, CheckAs, Dump, Cross, Merge, Freeze, Migrate, Run, Board, Stress}
 use Rattle.mpy_words.specs.declared.order.Order.{Order}
 use Rattle.mpy_words.specs.Words.{Outcome, order_of, first_name, second_name, source_name, main_name, file_names}
-use Rattle.board_command.specs.board_files.Files.{KeepsOthers}
-use Rattle.run_meaning.specs.command_files.Outside.{Ends, EndsAt, Writes, WritesOf}
-use Rattle.run_meaning.proofs.command_files_lemmas.Others.{same_only}
-use Rattle.run_meaning.specs.file_commands.Check.{Checks}
-use Rattle.run_meaning.specs.file_commands.Cross.{Crosses}
-use Rattle.run_meaning.specs.file_commands.Dump.{Dumps}
-use Rattle.run_meaning.specs.file_commands.Merge.{Merges}
-use Rattle.base_commands.specs.run_commands.Ready.{GoLibrary}
-use Rattle.base_commands.specs.run_commands.Run.{EndsRun, room_of}
-use Rattle.run_meaning.specs.GoMeant.{GoMeans}
-use Rattle.run_meaning.specs.Meant.{Libraries, RunMeans}
-use Rattle.run_meaning.proofs.Meaning.{MeantLaw, run_means}
-use Rattle.run_meaning.specs.image_commands.Migrate.{Migrates}
-use Rattle.base_library.specs.Base.{HoldsBase}
-use Rattle.base_library.specs.Over.{EndsAtBase}
+use Rattle.board_files.specs.Files.{KeepsOthers}
+use Rattle.command_files.specs.Outside.{Ends, EndsAt, Writes, WritesOf}
+use Rattle.command_files.proofs.Others.{same_only}
+use Rattle.file_commands.specs.Check.{Checks}
+use Rattle.file_commands.specs.CheckAs.{ChecksAs}
+use Rattle.file_commands.specs.Cross.{Crosses}
+use Rattle.file_commands.specs.Dump.{Dumps}
+use Rattle.file_commands.specs.Merge.{Merges}
+use Rattle.run_commands.specs.Ready.{GoLibrary, RunLibrary}
+use Rattle.run_commands.specs.Run.{EndsRun, room_of}
+use Rattle.meant_commands.specs.GoMeant.{GoMeans}
+use Rattle.meant_commands.specs.Meant.{Libraries, RunMeans}
+use Rattle.meant_commands.proofs.Meaning.{MeantLaw, run_means}
+use Rattle.image_commands.specs.Freeze.{Freezes}
+use Rattle.image_commands.specs.Migrate.{Migrates}
+use Rattle.command_files.specs.Images.{HoldsImage}
+use Rattle.command_files.specs.Over.{EndsAtBase}
 use Rattle.board_command.specs.Boards.{Boards}
-use Rattle.board_command.specs.Images.{library_below}
 use Rattle.stress_command.specs.Stress.{EndsStress}
 use Rattle.mpy_tool.specs.Call.{Call, Orders, OrdersOne, OrdersTwo, Shows, ShowsPorts}
-use Rattle.mpy_tool.specs.Below.{FreezesBelow, RunLibraryBelow, Based}
+use Rattle.mpy_tool.specs.Below.{Based, image_version}
 use Rattle.mpy_tool.specs.Doing.{Finishes, RunsBy, ActsBy, ObeysBy}
 use Rattle.mpy_tool.specs.Order.{ChangesBy, calls_ports, makes_source, runs_library}
 use Rattle.mpy_tool.specs.Making.{StressMeans}
 use Rattle.mpy_tool.proofs.Stressing.{GoLaw, stress_means}
-use Rattle.mpy_tool.proofs.Ended.{checked, dumped, crossed, merged, frozen, migrated, boarded}
+use Rattle.mpy_tool.proofs.Ended.{checked, checked_as, dumped, crossed, merged, frozen, migrated, boarded}
 
 -- where no file changed
 -- =====================
 
-same_others : (count : ℕ) (old new : Option FileOf) → new ≡ old → KeepsOthers count old new
+pub same_others : (count : ℕ) (old new : Option FileOf) → new ≡ old → KeepsOthers count old new
 same_others count None new e = tt
 same_others count (Some file) new e = (file, e, λ name apart. refl)
 
 pub same_changes : (words : List (List ℕ)) (command : Command) (old new : Option FileOf) → new ≡ old → ChangesBy words command old new
 same_changes words Go old new e = e
 same_changes words Check old new e = e
+same_changes words CheckAs old new e = e
 same_changes words Dump old new e = e
 same_changes words Cross old new e = same_only old new (second_name words) e
 same_changes words Merge old new e = same_only old new (first_name words) e
@@ -62,9 +64,10 @@ pub quiet : (command : Command) → runs_library command ≡ false → makes_sou
 quiet command r m = rw r m
 
 module _ (order : Order) (call : Call) where
-  pub acts_run : (below : Option Shelf) (command : Command) → runs_library command ≡ true → RunsBy order call below command → ActsBy order call below command
+  pub acts_run : (below : Shelf) (command : Command) → runs_library command ≡ true → RunsBy order call below command → ActsBy order call below command
   acts_run below Go e h = h
   acts_run below Check e h = absurd cc
+  acts_run below CheckAs e h = absurd cc
   acts_run below Dump e h = absurd cc
   acts_run below Cross e h = absurd cc
   acts_run below Merge e h = absurd cc
@@ -74,9 +77,10 @@ module _ (order : Order) (call : Call) where
   acts_run below Board e h = absurd cc
   acts_run below Stress e h = absurd cc
 
-  pub acts_do : (below : Option Shelf) (command : Command) → calls_ports command ≡ false → Finishes order call below command → ActsBy order call below command
+  pub acts_do : (below : Shelf) (command : Command) → calls_ports command ≡ false → Finishes order call below command → ActsBy order call below command
   acts_do below Go e h = absurd cc
   acts_do below Check e h = h
+  acts_do below CheckAs e h = h
   acts_do below Dump e h = h
   acts_do below Cross e h = h
   acts_do below Merge e h = h
@@ -86,9 +90,10 @@ module _ (order : Order) (call : Call) where
   acts_do below Board e h = h
   acts_do below Stress e h = absurd cc
 
-  pub acts_make : (below : Option Shelf) (command : Command) → makes_source command ≡ true → ShowsPorts call (EndsStress order.seed order.count (room_of order) order.steps) → ActsBy order call below command
+  pub acts_make : (below : Shelf) (command : Command) → makes_source command ≡ true → ShowsPorts call (EndsStress order.seed order.count (room_of order) order.steps) → ActsBy order call below command
   acts_make below Go e h = absurd cc
   acts_make below Check e h = absurd cc
+  acts_make below CheckAs e h = absurd cc
   acts_make below Dump e h = absurd cc
   acts_make below Cross e h = absurd cc
   acts_make below Merge e h = absurd cc
@@ -103,7 +108,7 @@ module _ (order : Order) (call : Call) where
   from files faults = record call { old = record call.old { files = files; folder_faults = faults } }
 
   -- what was done behind the reading of a base, which changes no file and adds no fault
-  pub acts_again : (below : Option Shelf) (command : Command) (files : Option FileOf) (faults : ℕ) → files ≡ call.old.files → faults ≡ call.old.folder_faults
+  pub acts_again : (below : Shelf) (command : Command) (files : Option FileOf) (faults : ℕ) → files ≡ call.old.files → faults ≡ call.old.folder_faults
       → ActsBy order (from files faults) below command → ActsBy order call below command
   acts_again below command files faults same_files same_faults h =
       subst (λ (f : Option FileOf). ActsBy order (from f call.old.folder_faults) below command) same_files
@@ -112,23 +117,23 @@ module _ (order : Order) (call : Call) where
   -- over a base
   -- ===========
 
-  pub over_none : (base : Option ℕ) (Went : Option Shelf → Type 0) → None ≡ base → Went None → Based call base Went
+  pub over_none : (base : Option ℕ) (Went : Shelf → Type 0) → None ≡ base → Went no_entries → Based call base Went
   over_none base Went e h = subst (λ (b : Option ℕ). Based call b Went) e h
 
-  pub over_base : (base : Option ℕ) (Went : Option Shelf → Type 0) (at : ℕ) (name : List ℕ) (below : Shelf) → Some at ≡ base → name ≡ get_or call.words at []
-      → HoldsBase call.old.files name below → Went (Some below) → Based call base Went
+  pub over_base : (base : Option ℕ) (Went : Shelf → Type 0) (at : ℕ) (name : List ℕ) (below : Shelf) → Some at ≡ base → name ≡ get_or call.words at []
+      → HoldsImage no_entries call.old.files name below → Went below → Based call base Went
   over_base base Went at name below e n holds h =
-      subst (λ (b : Option ℕ). Based call b Went) e (inr (record { below = below; holds = subst (λ (x : List ℕ). HoldsBase call.old.files x below) n holds; went = h }))
+      subst (λ (b : Option ℕ). Based call b Went) e (inr (record { below = below; holds = subst (λ (x : List ℕ). HoldsImage no_entries call.old.files x below) n holds; went = h }))
 
-  pub at_base : (base : Option ℕ) (Went : Option Shelf → Type 0) (at : ℕ) (name : List ℕ) → Some at ≡ base → name ≡ get_or call.words at [] → Shows call (EndsAtBase name)
+  pub at_base : (base : Option ℕ) (Went : Shelf → Type 0) (at : ℕ) (name : List ℕ) → Some at ≡ base → name ≡ get_or call.words at [] → Shows call (EndsAtBase name)
       → call.ports_new ≡ call.ports_old → Based call base Went
   at_base base Went at name e n h same =
       subst (λ (b : Option ℕ). Based call b Went) e (inl (subst (λ (x : List ℕ). Shows call (EndsAtBase x)) n h, same))
 
-  pub based_map : (base : Option ℕ) (P Q : Option Shelf → Type 0) → ((below : Option Shelf) → P below → Q below) → Based call base P → Based call base Q
-  based_map None P Q f h = f None h
+  pub based_map : (base : Option ℕ) (P Q : Shelf → Type 0) → ((below : Shelf) → P below → Q below) → Based call base P → Based call base Q
+  based_map None P Q f h = f no_entries h
   based_map (Some at) P Q f (inl h) = inl h
-  based_map (Some at) P Q f (inr h) = inr (record { below = h.below; holds = h.holds; went = f (Some h.below) h.went })
+  based_map (Some at) P Q f (inr h) = inr (record { below = h.below; holds = h.holds; went = f h.below h.went })
 
   -- each command, of what the words order
   -- =====================================
@@ -157,12 +162,20 @@ module _ (order : Order) (call : Call) where
   pub check_ordered : Ok order ≡ order_of call.words → Obeyed order.command → OrdersOne call Check (λ o file. Shows call (Ends Checks file))
   check_ordered is h =
       ordered Check (λ o. Shows call (Ends Checks (first_name call.words))) is
-      (λ e. checked order call None (as_command Check e h))
+      (λ e. checked order call no_entries (as_command Check e h))
+
+  pub check_as_ordered : Ok order ≡ order_of call.words → Obeyed order.command
+      → OrdersTwo call CheckAs (λ o src file. Shows call (EndsAt (λ old new before behind. ChecksAs o.level old src file before behind) call.words))
+  check_as_ordered is h =
+      let src = first_name call.words in
+      let file = second_name call.words in
+      ordered CheckAs (λ o. Shows call (EndsAt (λ old new before behind. ChecksAs o.level old src file before behind) call.words)) is
+      (λ e. checked_as order call no_entries (as_command CheckAs e h))
 
   pub dump_ordered : Ok order ≡ order_of call.words → Obeyed order.command → OrdersOne call Dump (λ o file. Shows call (Ends Dumps file))
   dump_ordered is h =
       ordered Dump (λ o. Shows call (Ends Dumps (first_name call.words))) is
-      (λ e. dumped order call None (as_command Dump e h))
+      (λ e. dumped order call no_entries (as_command Dump e h))
 
   pub cross_ordered : Ok order ≡ order_of call.words → Obeyed order.command
       → OrdersTwo call Cross (λ o src file. Shows call (Writes (Crosses o.level src (stored (source_name call.words o.stored_name)) file) src file))
@@ -170,22 +183,22 @@ module _ (order : Order) (call : Call) where
       let src = first_name call.words in
       let file = second_name call.words in
       ordered Cross (λ o. Shows call (Writes (Crosses o.level src (stored (source_name call.words o.stored_name)) file) src file)) is
-      (λ e. crossed order call None (as_command Cross e h))
+      (λ e. crossed order call no_entries (as_command Cross e h))
 
   pub merge_ordered : Ok order ≡ order_of call.words → Obeyed order.command
       → OrdersOne call Merge (λ o out. Shows call (WritesOf (Merges (file_names call.words) out) call.words))
   merge_ordered is h =
       ordered Merge (λ o. Shows call (WritesOf (Merges (file_names call.words) (first_name call.words)) call.words)) is
-      (λ e. merged order call None (as_command Merge e h))
+      (λ e. merged order call no_entries (as_command Merge e h))
 
   pub freeze_ordered : Ok order ≡ order_of call.words → Obeyed order.command
-      → OrdersTwo call Freeze (λ o manifest out. Based call o.base (λ below. Shows call (Writes (FreezesBelow below manifest out) manifest out)))
+      → OrdersTwo call Freeze (λ o manifest out. Based call o.base (λ below. Shows call (Writes (Freezes (image_version o.base) below manifest out) manifest out)))
   freeze_ordered is h =
       let manifest = first_name call.words in
       let out = second_name call.words in
-      let Frozen = λ (below : Option Shelf). Shows call (Writes (FreezesBelow below manifest out) manifest out) in
-      ordered Freeze (λ o. Based call o.base Frozen) is
-      (λ e. based_map order.base (λ below. ActsBy order call below Freeze) Frozen (λ below. frozen order call below) (as_command Freeze e h))
+      let Frozen = λ (base : Option ℕ) (below : Shelf). Shows call (Writes (Freezes (image_version base) below manifest out) manifest out) in
+      ordered Freeze (λ o. Based call o.base (Frozen o.base)) is
+      (λ e. based_map order.base (λ below. ActsBy order call below Freeze) (Frozen order.base) (λ below. frozen order call below) (as_command Freeze e h))
 
   pub migrate_ordered : Ok order ≡ order_of call.words → Obeyed order.command
       → OrdersTwo call Migrate (λ o image out. Shows call (Writes (Migrates image out) image out))
@@ -193,22 +206,22 @@ module _ (order : Order) (call : Call) where
       let image = first_name call.words in
       let out = second_name call.words in
       ordered Migrate (λ o. Shows call (Writes (Migrates image out) image out)) is
-      (λ e. migrated order call None (as_command Migrate e h))
+      (λ e. migrated order call no_entries (as_command Migrate e h))
 
   pub run_ordered : Ok order ≡ order_of call.words → Obeyed order.command
       → OrdersOne call Run (λ o file. Based call o.base (λ below.
-      ShowsPorts call (EndsRun (RunLibraryBelow below (main_name call.words o.main_name)) (room_of o) o.steps file)))
+      ShowsPorts call (EndsRun (RunLibrary below (main_name call.words o.main_name)) (room_of o) o.steps file)))
   run_ordered is h =
       ordered Run (λ o. Based call o.base (λ below.
-      ShowsPorts call (EndsRun (RunLibraryBelow below (main_name call.words o.main_name)) (room_of o) o.steps (first_name call.words)))) is
+      ShowsPorts call (EndsRun (RunLibrary below (main_name call.words o.main_name)) (room_of o) o.steps (first_name call.words)))) is
       (λ e. as_command Run e h)
 
   pub board_ordered : Ok order ≡ order_of call.words → Obeyed order.command
-      → OrdersTwo call Board (λ o image plan. Based call o.base (λ below. Shows call (EndsAt (Boards (library_below below) image plan) call.words)))
+      → OrdersTwo call Board (λ o image plan. Based call o.base (λ below. Shows call (EndsAt (Boards below image plan) call.words)))
   board_ordered is h =
       let image = first_name call.words in
       let plan = second_name call.words in
-      let Boarded = λ (below : Option Shelf). Shows call (EndsAt (Boards (library_below below) image plan) call.words) in
+      let Boarded = λ (below : Shelf). Shows call (EndsAt (Boards below image plan) call.words) in
       ordered Board (λ o. Based call o.base Boarded) is
       (λ e. based_map order.base (λ below. ActsBy order call below Board) Boarded (λ below. boarded order call below) (as_command Board e h))
 
@@ -227,11 +240,11 @@ module _ (order : Order) (call : Call) where
 
   pub run_means_ordered : MeantLaw → Ok order ≡ order_of call.words → Obeyed order.command
       → OrdersOne call Run (λ o file. Based call o.base (λ below.
-      ShowsPorts call (RunMeans (RunLibraryBelow below (main_name call.words o.main_name)) (room_of o) o.steps file)))
+      ShowsPorts call (RunMeans (RunLibrary below (main_name call.words o.main_name)) (room_of o) o.steps file)))
   run_means_ordered law is h =
       let file = first_name call.words in
-      let Comes = λ (below : Option Shelf). RunLibraryBelow below (main_name call.words order.main_name) in
-      ordered Run (λ o. Based call o.base (λ below. ShowsPorts call (RunMeans (RunLibraryBelow below (main_name call.words o.main_name)) (room_of o) o.steps file))) is
+      let Comes = λ (below : Shelf). RunLibrary below (main_name call.words order.main_name) in
+      ordered Run (λ o. Based call o.base (λ below. ShowsPorts call (RunMeans (RunLibrary below (main_name call.words o.main_name)) (room_of o) o.steps file))) is
       (λ e. based_map order.base (λ below. Ran (Comes below)) (λ below. Means (Comes below))
       (λ below. run_means law (Comes below) (room_of order) order.steps file call.old call.new call.ports_old call.ports_new call.status) (as_command Run e h))
 

@@ -1,39 +1,33 @@
 -- What single commands did, as the order says it.
 use Rattle.std.proofs.Common.{◌≡◌, ℕ, List, Option, Some, None, sym, ap, subst, ◌∙◌}
-use Rattle.std.specs.Option.{ForSome}
-use Rattle.std.specs.Prelude.{IfSome}
 use Rattle.std.specs.Io.KnownBytes.{Keeps}
 use Rattle.mpy_io.specs.Files.{FileOf}
-use Rattle.bc_library.specs.Shelf.{Shelf}
+use Rattle.image_grammar.specs.bc_library.Shelf.{Shelf}
 use Rattle.source_files.specs.Sources.{stored}
 use Rattle.mpy_words.specs.declared.order.Command.{Command}
-use Rattle.mpy_words.specs.declared.order.Command.TheVariants.{Check, Dump, Cross, Merge, Freeze, Migrate, Board}
+use Rattle.mpy_words.specs.declared.order.Command.TheVariants.{Check, CheckAs, Dump, Cross, Merge, Freeze, Migrate, Board}
 use Rattle.mpy_words.specs.declared.order.Order.{Order}
 use Rattle.mpy_words.specs.Words.{first_name, second_name, source_name, file_names}
 use Rattle.mpy_endings.specs.declared.ending.Ending.{Ending}
 use Rattle.mpy_endings.specs.Line.{place_in}
-use Rattle.run_meaning.specs.command_files.Folder.{ChangesOnly}
-use Rattle.run_meaning.specs.file_commands.Check.{Checks}
-use Rattle.run_meaning.specs.file_commands.Cross.{Crosses}
-use Rattle.run_meaning.specs.file_commands.Dump.{Dumps}
-use Rattle.run_meaning.specs.file_commands.Merge.{Merges}
-use Rattle.run_meaning.proofs.file_commands_lemmas.Crossed.{crosses_only}
-use Rattle.run_meaning.proofs.file_commands_lemmas.Merged.{merges_only}
-use Rattle.run_meaning.specs.image_commands.Migrate.{Migrates}
-use Rattle.run_meaning.proofs.image_commands_lemmas.Freezing.{freezes_only}
-use Rattle.run_meaning.proofs.image_commands_lemmas.Migrating.{migrates_only}
-use Rattle.base_commands.proofs.Freezing.{freezes_on_only}
+use Rattle.command_files.specs.Folder.{ChangesOnly}
+use Rattle.file_commands.specs.Check.{Checks}
+use Rattle.file_commands.specs.CheckAs.{ChecksAs}
+use Rattle.file_commands.specs.Cross.{Crosses}
+use Rattle.file_commands.specs.Dump.{Dumps}
+use Rattle.file_commands.specs.Merge.{Merges}
+use Rattle.file_commands.proofs.Crossed.{crosses_only}
+use Rattle.file_commands.proofs.Merged.{merges_only}
+use Rattle.image_commands.specs.Freeze.{Freezes}
+use Rattle.image_commands.specs.Migrate.{Migrates}
+use Rattle.image_commands.proofs.Freezing.{freezes_only}
+use Rattle.image_commands.proofs.Migrating.{migrates_only}
 use Rattle.board_command.specs.Boards.{Boards}
-use Rattle.board_command.specs.Images.{library_below}
-use Rattle.mpy_tool.specs.Below.{FreezesBelow}
+use Rattle.mpy_tool.specs.Below.{image_version}
 use Rattle.mpy_tool.specs.Doing.{DoesBy}
 use Rattle.mpy_tool.specs.Order.{ChangesBy}
 
-pub for_some : (P : Shelf → Type 0) (o : Option Shelf) → IfSome o P → ForSome o P
-for_some P None h = λ x e. absurd cc
-for_some P (Some y) h = λ x e. let same : y ≡ x = cc in subst P same h
-
-module _ (order : Order) (words : List (List ℕ)) (below : Option Shelf) (command : Command) (old new : Option FileOf) (before behind : Option (List ℕ)) (place : ℕ) (ending : Ending) where
+module _ (order : Order) (words : List (List ℕ)) (below : Shelf) (command : Command) (old new : Option FileOf) (before behind : Option (List ℕ)) (place : ℕ) (ending : Ending) where
   abbrev Did : Command → Type 0
   Did c = DoesBy order words below c old new before behind place ending
 
@@ -43,6 +37,11 @@ module _ (order : Order) (words : List (List ℕ)) (below : Option Shelf) (comma
   pub check_did : (result : Ending) (name : List ℕ) → command ≡ Check → name ≡ first_name words → ending ≡ result → place ≡ place_in result → Checks old name result before behind → Did command
   check_did result name e n r p h =
       subst Did (sym e) (subst (λ (x : Ending). Checks old (first_name words) x before behind) (sym r) (subst (λ (m : List ℕ). Checks old m result before behind) n h), placed result r p)
+
+  pub check_as_did : (source file : List ℕ) → command ≡ CheckAs → source ≡ first_name words → file ≡ second_name words → ChecksAs order.level old source file before behind place ending → Did command
+  check_as_did source file e n w h =
+      let one = subst (λ (m : List ℕ). ChecksAs order.level old m file before behind place ending) n h in
+      subst Did (sym e) (subst (λ (m : List ℕ). ChecksAs order.level old (first_name words) m before behind place ending) w one)
 
   pub dump_did : (result : Ending) (name : List ℕ) → command ≡ Dump → name ≡ first_name words → ending ≡ result → place ≡ place_in result → Dumps old name result before behind → Did command
   dump_did result name e n r p h =
@@ -62,11 +61,11 @@ module _ (order : Order) (words : List (List ℕ)) (below : Option Shelf) (comma
       subst Did (sym e) (subst (λ (m : List ℕ). Merges (file_names words) m old new place ending) w (subst (λ (ns : List (List ℕ)). Merges ns written old new place ending) n h), k)
 
   pub freeze_did : (result : Ending) (name written : List ℕ) → command ≡ Freeze → name ≡ first_name words → written ≡ second_name words → ending ≡ result → place ≡ place_in result
-      → FreezesBelow below name written old new result → Keeps before behind → Did command
+      → Freezes (image_version order.base) below name written old new result → Keeps before behind → Did command
   freeze_did result name written e n w r p h k =
-      let one = subst (λ (m : List ℕ). FreezesBelow below m written old new result) n h in
-      let two = subst (λ (m : List ℕ). FreezesBelow below (first_name words) m old new result) w one in
-      subst Did (sym e) (subst (λ (x : Ending). FreezesBelow below (first_name words) (second_name words) old new x) (sym r) two, k, placed result r p)
+      let one = subst (λ (m : List ℕ). Freezes (image_version order.base) below m written old new result) n h in
+      let two = subst (λ (m : List ℕ). Freezes (image_version order.base) below (first_name words) m old new result) w one in
+      subst Did (sym e) (subst (λ (x : Ending). Freezes (image_version order.base) below (first_name words) (second_name words) old new x) (sym r) two, k, placed result r p)
 
   pub migrate_did : (result : Ending) (name written : List ℕ) → command ≡ Migrate → name ≡ first_name words → written ≡ second_name words → ending ≡ result → place ≡ place_in result
       → Migrates name written old new result → Keeps before behind → Did command
@@ -75,10 +74,10 @@ module _ (order : Order) (words : List (List ℕ)) (below : Option Shelf) (comma
       let two = subst (λ (m : List ℕ). Migrates (first_name words) m old new result) w one in
       subst Did (sym e) (subst (λ (x : Ending). Migrates (first_name words) (second_name words) old new x) (sym r) two, k, placed result r p)
 
-  pub board_did : (image plan : List ℕ) → command ≡ Board → image ≡ first_name words → plan ≡ second_name words → Boards (library_below below) image plan old new before behind place ending → Did command
+  pub board_did : (image plan : List ℕ) → command ≡ Board → image ≡ first_name words → plan ≡ second_name words → Boards below image plan old new before behind place ending → Did command
   board_did image plan e n w h =
-      let one = subst (λ (m : List ℕ). Boards (library_below below) m plan old new before behind place ending) n h in
-      subst Did (sym e) (subst (λ (m : List ℕ). Boards (library_below below) (first_name words) m old new before behind place ending) w one)
+      let one = subst (λ (m : List ℕ). Boards below m plan old new before behind place ending) n h in
+      subst Did (sym e) (subst (λ (m : List ℕ). Boards below (first_name words) m old new before behind place ending) w one)
 
 -- what was changed
 -- ================
@@ -93,12 +92,8 @@ module _ (words : List (List ℕ)) (command : Command) (old new : Option FileOf)
   pub merge_changed : (names : List (List ℕ)) (written : List ℕ) (place : ℕ) (result : Ending) → command ≡ Merge → written ≡ first_name words → Merges names written old new place result → ChangedSo command
   merge_changed names written place result e w h = subst ChangedSo (sym e) (subst (ChangesOnly old new) w (merges_only names written old new place result h))
 
-  freezes_below_only : (below : Option Shelf) (name written : List ℕ) (result : Ending) → FreezesBelow below name written old new result → ChangesOnly old new written
-  freezes_below_only None name written result h = freezes_only name written old new result h
-  freezes_below_only (Some below) name written result h = freezes_on_only below name written old new result h
-
-  pub freeze_changed : (below : Option Shelf) (name written : List ℕ) (result : Ending) → command ≡ Freeze → written ≡ second_name words → FreezesBelow below name written old new result → ChangedSo command
-  freeze_changed below name written result e w h = subst ChangedSo (sym e) (subst (ChangesOnly old new) w (freezes_below_only below name written result h))
+  pub freeze_changed : (version : ℕ) (below : Shelf) (name written : List ℕ) (result : Ending) → command ≡ Freeze → written ≡ second_name words → Freezes version below name written old new result → ChangedSo command
+  freeze_changed version below name written result e w h = subst ChangedSo (sym e) (subst (ChangesOnly old new) w (freezes_only version below name written old new result h))
 
   pub migrate_changed : (name written : List ℕ) (result : Ending) → command ≡ Migrate → written ≡ second_name words → Migrates name written old new result → ChangedSo command
   migrate_changed name written result e w h = subst ChangedSo (sym e) (subst (ChangesOnly old new) w (migrates_only name written old new result h))

@@ -1,24 +1,25 @@
 -- How an order that runs no library ended, by its command.
 use Rattle.std.proofs.Common.{◌≡◌, ℕ, List, [], Option, Result, get_or, ap, subst, ◌∙◌, refl}
 use Rattle.mpy_io.specs.declared.fault.Failed.{Failed}
-use Rattle.bc_library.specs.Shelf.{Shelf}
+use Rattle.image_grammar.specs.bc_library.Shelf.{Shelf}
 use Rattle.source_files.specs.Sources.{stored}
-use Rattle.mpy_words.specs.declared.order.Command.TheVariants.{Check, Dump, Cross, Merge, Freeze, Migrate, Board}
+use Rattle.mpy_words.specs.declared.order.Command.TheVariants.{Check, CheckAs, Dump, Cross, Merge, Freeze, Migrate, Board}
 use Rattle.mpy_words.specs.declared.order.Order.{Order}
 use Rattle.mpy_words.specs.Words.{first_name, second_name, source_name, file_names}
 use Rattle.mpy_endings.specs.declared.ending.Ending.{Ending}
-use Rattle.mpy_endings.specs.declared.ending.Ending.TheVariants.{Done, Unaccepted, Unread, Unverified, Unmerged, Unopened, Unfrozen, Unboarded, Stopped, ReadFault, WriteFault, Unwritten, NoMemory, Absent}
+use Rattle.mpy_endings.specs.declared.ending.Ending.TheVariants.{Done, Unaccepted, Unread, Unverified, Unmerged, Unopened, Unfrozen, Unboarded, Different, Stopped, ReadFault, WriteFault, Unwritten, NoMemory, Absent}
 use Rattle.mpy_endings.specs.Line.{Puts, Says, line_of, name_in, place_in}
 use Rattle.mpy_endings.proofs.Said.{says_from}
-use Rattle.run_meaning.specs.command_files.Outside.{Outside, Ends, EndsAt, Writes, WritesOf}
-use Rattle.run_meaning.specs.file_commands.Check.{Checks}
-use Rattle.run_meaning.specs.file_commands.Cross.{Crosses}
-use Rattle.run_meaning.specs.file_commands.Dump.{Dumps}
-use Rattle.run_meaning.specs.file_commands.Merge.{Merges}
-use Rattle.run_meaning.specs.image_commands.Migrate.{Migrates}
+use Rattle.command_files.specs.Outside.{Outside, Ends, EndsAt, Writes, WritesOf}
+use Rattle.file_commands.specs.Check.{Checks}
+use Rattle.file_commands.specs.CheckAs.{ChecksAs}
+use Rattle.file_commands.specs.Cross.{Crosses}
+use Rattle.file_commands.specs.Dump.{Dumps}
+use Rattle.file_commands.specs.Merge.{Merges}
+use Rattle.image_commands.specs.Freeze.{Freezes}
+use Rattle.image_commands.specs.Migrate.{Migrates}
 use Rattle.board_command.specs.Boards.{Boards}
-use Rattle.board_command.specs.Images.{library_below}
-use Rattle.mpy_tool.specs.Below.{FreezesBelow}
+use Rattle.mpy_tool.specs.Below.{image_version}
 use Rattle.mpy_tool.specs.Call.{Call, Shows}
 use Rattle.mpy_tool.specs.Doing.{Finishes}
 
@@ -32,6 +33,7 @@ name_read read written (Unmerged fault) h = refl
 name_read read written (Unopened fault) h = refl
 name_read read written (Unfrozen fault) h = refl
 name_read read written (Unboarded fault) h = refl
+name_read read written (Different difference) h = refl
 name_read read written (Stopped stop) h = refl
 name_read read written ReadFault h = refl
 name_read read written WriteFault h = refl
@@ -49,6 +51,7 @@ word_named words (Unmerged fault) = refl
 word_named words (Unopened fault) = refl
 word_named words (Unfrozen fault) = refl
 word_named words (Unboarded fault) = refl
+word_named words (Different difference) = refl
 word_named words (Stopped stop) = refl
 word_named words ReadFault = refl
 word_named words WriteFault = refl
@@ -76,7 +79,7 @@ module _ (words : List (List ℕ)) (old new : Outside) where
 -- each command's own form
 -- =======================
 
-module _ (order : Order) (call : Call) (below : Option Shelf) where
+module _ (order : Order) (call : Call) (below : Shelf) where
   pub checked : Finishes order call below Check → Shows call (Ends Checks (first_name call.words))
   checked h = record {
     ending = h.ending;
@@ -85,6 +88,18 @@ module _ (order : Order) (call : Call) (below : Option Shelf) where
     folder_counts = h.folder_counts;
     out_counts = h.out_counts;
     says = named_first call.words call.old call.new h.place h.ending h.went.1 (λ e. subst (λ (x : Ending). Checks call.old.files (first_name call.words) x call.old.out call.new.out) e h.went.0) h.says;
+  }
+
+  pub checked_as : Finishes order call below CheckAs
+      → Shows call (EndsAt (λ old new before behind. ChecksAs order.level old (first_name call.words) (second_name call.words) before behind) call.words)
+  checked_as h = record {
+    ending = h.ending;
+    place = h.place;
+    status_is = h.status_is;
+    went = h.went;
+    folder_counts = h.folder_counts;
+    out_counts = h.out_counts;
+    says = h.says;
   }
 
   pub dumped : Finishes order call below Dump → Shows call (Ends Dumps (first_name call.words))
@@ -108,7 +123,7 @@ module _ (order : Order) (call : Call) (below : Option Shelf) where
     says = named_in call.words call.old call.new h.place h.ending h.went.2 h.says;
   }
 
-  pub frozen : Finishes order call below Freeze → Shows call (Writes (FreezesBelow below (first_name call.words) (second_name call.words)) (first_name call.words) (second_name call.words))
+  pub frozen : Finishes order call below Freeze → Shows call (Writes (Freezes (image_version order.base) below (first_name call.words) (second_name call.words)) (first_name call.words) (second_name call.words))
   frozen h = record {
     ending = h.ending;
     status_is = h.status_is;
@@ -142,7 +157,7 @@ module _ (order : Order) (call : Call) (below : Option Shelf) where
     says = h.says;
   }
 
-  pub boarded : Finishes order call below Board → Shows call (EndsAt (Boards (library_below below) (first_name call.words) (second_name call.words)) call.words)
+  pub boarded : Finishes order call below Board → Shows call (EndsAt (Boards below (first_name call.words) (second_name call.words)) call.words)
   boarded h = record {
     ending = h.ending;
     place = h.place;

@@ -4,14 +4,13 @@ use Rattle.mpy_base.specs.declared.room.Room.{Room}
 use Rattle.mpy_io.specs.Ports.{PortView}
 use Rattle.image_runs.specs.declared.fault.MainFault.TheVariants as mains
 use Rattle.mpy_endings.specs.declared.ending.Ending.{Ending}
-use Rattle.mpy_endings.specs.declared.ending.Ending.TheVariants.{Done, Unaccepted, Unread, Unverified, Unmerged, Unopened, Unfrozen, Unboarded, Stopped, ReadFault, WriteFault, Unwritten, NoMemory, Absent}
+use Rattle.mpy_endings.specs.declared.ending.Ending.TheVariants.{Done, Unaccepted, Unread, Unverified, Unmerged, Unopened, Unfrozen, Unboarded, Different, Stopped, ReadFault, WriteFault, Unwritten, NoMemory, Absent}
 use Rattle.mpy_endings.specs.declared.ending.Stop.TheVariants.{Past, LibraryFault, LibraryUnaccepted, Raised, Memory, Steps}
-use Rattle.mpy_endings.specs.Ending.{status_of}
-use Rattle.run_meaning.specs.command_files.Outside.{Outside}
-use Rattle.base_commands.specs.run_commands.Ready.{GoLibrary}
-use Rattle.base_commands.specs.run_commands.Run.{EndsRun, IsUnloaded}
-use Rattle.run_meaning.specs.GoMeant.{GoMeans}
-use Rattle.run_meaning.specs.Meant.{IsRunStatus}
+use Rattle.mpy_endings.specs.Ending.{status_of, IsRunStatus}
+use Rattle.command_files.specs.Outside.{Outside}
+use Rattle.run_commands.specs.Ready.{GoLibrary}
+use Rattle.run_commands.specs.Run.{EndsRun, IsUnloaded}
+use Rattle.meant_commands.specs.GoMeant.{GoMeans}
 use Rattle.stress_command.specs.Stress.{EndsStress, Ran, beside, stress_name}
 use Rattle.mpy_tool.specs.Making.{MeansMade, StressMeans}
 
@@ -40,6 +39,7 @@ unloaded_not (Unopened (mains.Image fault)) u h = not_running 4 (λ e. absurd cc
 unloaded_not (Unopened (mains.NoMain main)) u h = not_running 10 (λ e. absurd cc) (λ e. absurd cc) (λ e. absurd cc) (λ e. absurd cc) (λ e. absurd cc) h
 unloaded_not (Unfrozen fault) u h = absurd u
 unloaded_not (Unboarded fault) u h = absurd u
+unloaded_not (Different difference) u h = absurd u
 unloaded_not (Stopped (Past limit)) u h = not_running 11 (λ e. absurd cc) (λ e. absurd cc) (λ e. absurd cc) (λ e. absurd cc) (λ e. absurd cc) h
 unloaded_not (Stopped (LibraryFault path)) u h = not_running 7 (λ e. absurd cc) (λ e. absurd cc) (λ e. absurd cc) (λ e. absurd cc) (λ e. absurd cc) h
 unloaded_not (Stopped (LibraryUnaccepted source)) u h = not_running 3 (λ e. absurd cc) (λ e. absurd cc) (λ e. absurd cc) (λ e. absurd cc) (λ e. absurd cc) h

@@ -1,5 +1,5 @@
 -- A call of the tool: its words, and what the outside tells before and behind it.
-use Rattle.std.specs.Prelude.{◌≡◌, ℕ, List, map, String, string_bytes, IfOk}
+use Rattle.std.specs.Prelude.{◌≡◌, ◌≢◌, ℕ, List, map, String, string_bytes, IfOk}
 use Rattle.std.specs.declared.alloc.Global.{Global}
 use Rattle.mpy_io.specs.Ports.{PortView}
 use Rattle.mpy_io.specs.declared.folder.Folder as folders
@@ -8,7 +8,7 @@ use Rattle.mpy_io.specs.declared.sink.Sink as sinks
 use Rattle.mpy_words.specs.declared.order.Command.{Command}
 use Rattle.mpy_words.specs.declared.order.Order.{Order}
 use Rattle.mpy_words.specs.Words.{order_of, first_name, second_name}
-use Rattle.run_meaning.specs.command_files.Outside.{Outside as Told, seen}
+use Rattle.command_files.specs.Outside.{Outside as Told, seen}
 use Rattle.mpy_tool.specs.declared.outside.Outside.{Outside}
 
 -- the words, what the folder, the sinks and the ports tell before the call and behind it, and the exit status
@@ -60,3 +60,8 @@ module _ (call : Call) where
   -- and so with what the ports tell
   abbrev pub ShowsPorts : ((old new : Told) → (ports_old ports_new : List PortView) → (status : ℕ) → Type 0) → Type 0
   ShowsPorts Relates = Relates call.old call.new call.ports_old call.ports_new call.status
+
+  -- with a status other than 7 and 8 neither the folder's count of faults nor that of the output's sink rose
+  abbrev pub LeavesCounts : Type 0
+  LeavesCounts =
+      call.status ≢ 7 → call.status ≢ 8 → (call.new.folder_faults ≡ call.old.folder_faults) × (call.new.out_faults ≡ call.old.out_faults)

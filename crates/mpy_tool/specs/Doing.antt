@@ -2,45 +2,47 @@
 use Rattle.std.specs.Prelude.{◌≡◌, ℕ, List, Option}
 use Rattle.std.specs.Io.KnownBytes.{Keeps}
 use Rattle.mpy_io.specs.Files.{FileOf}
-use Rattle.bc_library.specs.Shelf.{Shelf}
+use Rattle.image_grammar.specs.bc_library.Shelf.{Shelf}
 use Rattle.mpy_words.specs.declared.order.Command.{Command}
-use Rattle.mpy_words.specs.declared.order.Command.TheVariants.{Go, Check, Dump, Cross, Merge, Freeze, Migrate, Run, Board, Stress}
+use Rattle.mpy_words.specs.declared.order.Command.TheVariants.{Go, Check, CheckAs, Dump, Cross, Merge, Freeze, Migrate, Run, Board, Stress}
 use Rattle.mpy_words.specs.declared.order.Order.{Order}
 use Rattle.mpy_words.specs.Words.{first_name, second_name, source_name, main_name, file_names}
 use Rattle.source_files.specs.Sources.{stored}
 use Rattle.mpy_endings.specs.declared.ending.Ending.{Ending}
 use Rattle.mpy_endings.specs.Line.{place_in}
-use Rattle.run_meaning.specs.command_files.Outside.{EndsAt}
-use Rattle.run_meaning.specs.file_commands.Check.{Checks}
-use Rattle.run_meaning.specs.file_commands.Cross.{Crosses}
-use Rattle.run_meaning.specs.file_commands.Dump.{Dumps}
-use Rattle.run_meaning.specs.file_commands.Merge.{Merges}
-use Rattle.base_commands.specs.run_commands.Ready.{GoLibrary}
-use Rattle.base_commands.specs.run_commands.Run.{EndsRun, room_of}
-use Rattle.run_meaning.specs.Meant.{Libraries}
-use Rattle.run_meaning.specs.image_commands.Migrate.{Migrates}
-use Rattle.board_command.specs.Images.{library_below}
+use Rattle.command_files.specs.Outside.{EndsAt}
+use Rattle.file_commands.specs.Check.{Checks}
+use Rattle.file_commands.specs.CheckAs.{ChecksAs}
+use Rattle.file_commands.specs.Cross.{Crosses}
+use Rattle.file_commands.specs.Dump.{Dumps}
+use Rattle.file_commands.specs.Merge.{Merges}
+use Rattle.run_commands.specs.Ready.{GoLibrary, RunLibrary}
+use Rattle.run_commands.specs.Run.{EndsRun, room_of}
+use Rattle.meant_commands.specs.Meant.{Libraries}
+use Rattle.image_commands.specs.Freeze.{Freezes}
+use Rattle.image_commands.specs.Migrate.{Migrates}
 use Rattle.board_command.specs.Boards.{Boards}
 use Rattle.stress_command.specs.Stress.{EndsStress}
 use Rattle.mpy_tool.specs.Call.{Call, Shows, ShowsPorts}
-use Rattle.mpy_tool.specs.Below.{FreezesBelow, RunLibraryBelow, Based}
+use Rattle.mpy_tool.specs.Below.{Based, image_version}
 use Rattle.mpy_tool.specs.Order.{base_by}
 
-module _ (order : Order) (words : List (List ℕ)) (below : Option Shelf) where
+module _ (order : Order) (words : List (List ℕ)) (below : Shelf) where
   -- What a command that runs nothing did, with what in the folder and on the output before and behind it, and how it ended, with the
   -- place of the word that its line names.
   abbrev pub DoesBy : Command → (old new : Option FileOf) → (before behind : Option (List ℕ)) → (place : ℕ) → Ending → Type 0
   DoesBy Go old new before behind place ending = ⊥
   DoesBy Check old new before behind place ending = Checks old (first_name words) ending before behind × (place ≡ place_in ending)
+  DoesBy CheckAs old new before behind place ending = ChecksAs order.level old (first_name words) (second_name words) before behind place ending
   DoesBy Dump old new before behind place ending = Dumps old (first_name words) ending before behind × (place ≡ place_in ending)
   DoesBy Cross old new before behind place ending =
       Crosses order.level (first_name words) (stored (source_name words order.stored_name)) (second_name words) old new ending × Keeps before behind × (place ≡ place_in ending)
   DoesBy Merge old new before behind place ending = Merges (file_names words) (first_name words) old new place ending × Keeps before behind
   DoesBy Freeze old new before behind place ending =
-      FreezesBelow below (first_name words) (second_name words) old new ending × Keeps before behind × (place ≡ place_in ending)
+      Freezes (image_version order.base) below (first_name words) (second_name words) old new ending × Keeps before behind × (place ≡ place_in ending)
   DoesBy Migrate old new before behind place ending = Migrates (first_name words) (second_name words) old new ending × Keeps before behind × (place ≡ place_in ending)
   DoesBy Run old new before behind place ending = ⊥
-  DoesBy Board old new before behind place ending = Boards (library_below below) (first_name words) (second_name words) old new before behind place ending
+  DoesBy Board old new before behind place ending = Boards below (first_name words) (second_name words) old new before behind place ending
   DoesBy Stress old new before behind place ending = ⊥
 
   -- there is no library, whatever the files
@@ -51,17 +53,18 @@ module _ (order : Order) (words : List (List ℕ)) (below : Option Shelf) where
   abbrev pub LibraryBy : Command → Libraries
   LibraryBy Go = GoLibrary order.level
   LibraryBy Check = no_library
+  LibraryBy CheckAs = no_library
   LibraryBy Dump = no_library
   LibraryBy Cross = no_library
   LibraryBy Merge = no_library
   LibraryBy Freeze = no_library
   LibraryBy Migrate = no_library
-  LibraryBy Run = RunLibraryBelow below (main_name words order.main_name)
+  LibraryBy Run = RunLibrary below (main_name words order.main_name)
   LibraryBy Board = no_library
   LibraryBy Stress = no_library
 
--- over the library below, or over nothing
-module _ (order : Order) (call : Call) (below : Option Shelf) where
+-- over the library below
+module _ (order : Order) (call : Call) (below : Shelf) where
   -- how a command ended that runs nothing
   abbrev pub Finishes : Command → Type 0
   Finishes command = Shows call (EndsAt (DoesBy order call.words below command) call.words)
@@ -74,6 +77,7 @@ module _ (order : Order) (call : Call) (below : Option Shelf) where
   abbrev pub ActsBy : Command → Type 0
   ActsBy Go = RunsBy Go
   ActsBy Check = Finishes Check
+  ActsBy CheckAs = Finishes CheckAs
   ActsBy Dump = Finishes Dump
   ActsBy Cross = Finishes Cross
   ActsBy Merge = Finishes Merge

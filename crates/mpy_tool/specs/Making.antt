@@ -3,9 +3,9 @@ use Rattle.std.specs.Prelude.{◌≡◌, ◌⊎◌, ℕ, List, Option}
 use Rattle.std.specs.Io.KnownBytes.{Appends}
 use Rattle.mpy_base.specs.declared.room.Room.{Room}
 use Rattle.mpy_io.specs.Ports.{PortView}
-use Rattle.run_meaning.specs.command_files.Outside.{Outside}
-use Rattle.run_meaning.specs.GoMeant.{GoMeans}
-use Rattle.run_meaning.specs.Meant.{IsRunStatus}
+use Rattle.command_files.specs.Outside.{Outside}
+use Rattle.meant_commands.specs.GoMeant.{GoMeans}
+use Rattle.mpy_endings.specs.Ending.{IsRunStatus}
 use Rattle.stress_command.specs.Stress.{HasLibrary, Unprinted, beside, lines, stress_name}
 
 -- The lines of the source of this seed and this count were printed, and behind them it did as the program of this source means.

@@ -4,13 +4,13 @@ use Rattle.std.specs.Io.KnownBytes.{Keeps}
 use Rattle.mpy_base.specs.declared.limits.TheConstants.{MAX_TASKS}
 use Rattle.mpy_io.specs.Files.{FileOf}
 use Rattle.mpy_words.specs.declared.order.Command.{Command}
-use Rattle.mpy_words.specs.declared.order.Command.TheVariants.{Go, Check, Dump, Cross, Merge, Freeze, Migrate, Run, Board, Stress}
+use Rattle.mpy_words.specs.declared.order.Command.TheVariants.{Go, Check, CheckAs, Dump, Cross, Merge, Freeze, Migrate, Run, Board, Stress}
 use Rattle.mpy_words.specs.declared.order.WordFault.{WordFault}
 use Rattle.mpy_words.specs.Words.{Outcome, first_name, second_name}
 use Rattle.mpy_endings.specs.Line.{Says, words_line}
-use Rattle.board_command.specs.board_files.Files.{KeepsOthers}
-use Rattle.run_meaning.specs.command_files.Folder.{ChangesOnly}
-use Rattle.run_meaning.specs.command_files.Outside.{Outside}
+use Rattle.board_files.specs.Files.{KeepsOthers}
+use Rattle.command_files.specs.Folder.{ChangesOnly}
+use Rattle.command_files.specs.Outside.{Outside}
 
 -- words of no order end with status 2, and nothing is done but to say so
 pub record RefusesWords (words : List (List ℕ)) (fault : WordFault) (old new : Outside) (status : ℕ) : Type 0 where
@@ -24,6 +24,7 @@ pub record RefusesWords (words : List (List ℕ)) (fault : WordFault) (old new :
 abbrev pub ChangesBy : List (List ℕ) → Command → (old new : Option FileOf) → Type 0
 ChangesBy words Go old new = new ≡ old
 ChangesBy words Check old new = new ≡ old
+ChangesBy words CheckAs old new = new ≡ old
 ChangesBy words Dump old new = new ≡ old
 ChangesBy words Cross old new = ChangesOnly old new (second_name words)
 ChangesBy words Merge old new = ChangesOnly old new (first_name words)
@@ -42,6 +43,7 @@ ChangesIn words (Ok order) old new = ChangesBy words order.command old new
 abbrev pub runs_library : Command → Bool
 runs_library Go = true
 runs_library Check = false
+runs_library CheckAs = false
 runs_library Dump = false
 runs_library Cross = false
 runs_library Merge = false
@@ -55,6 +57,7 @@ runs_library Stress = false
 abbrev pub makes_source : Command → Bool
 makes_source Go = false
 makes_source Check = false
+makes_source CheckAs = false
 makes_source Dump = false
 makes_source Cross = false
 makes_source Merge = false
@@ -77,6 +80,7 @@ calls_ports_in (Ok order) = calls_ports order.command
 abbrev pub stands_alone : Command → Bool
 stands_alone Go = false
 stands_alone Check = true
+stands_alone CheckAs = true
 stands_alone Dump = true
 stands_alone Cross = true
 stands_alone Merge = true
@@ -90,6 +94,7 @@ stands_alone Stress = false
 abbrev pub base_by : Command → Option ℕ → Option ℕ
 base_by Go base = None
 base_by Check base = None
+base_by CheckAs base = None
 base_by Dump base = None
 base_by Cross base = None
 base_by Merge base = None

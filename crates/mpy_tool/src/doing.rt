@@ -1,43 +1,78 @@
 //! Orders that run nothing.
 
-ghost use Rattle.std.specs.Prelude.{◌≡◌, ◌≤◌, [], true, false, Option, IfSome};
+ghost use Rattle.std.specs.Prelude.{◌≡◌, ◌≤◌, [], true, false, IfSome};
+ghost use Rattle.mpy_base.specs.declared.limits.TheConstants.{MAX_TASKS};
 ghost use Rattle.mpy_io.specs.Count.{Counts};
-ghost use Rattle.image_base.specs.Base.{IsOpened};
-ghost use Rattle.bc_library.specs.Shelf.{Shelf};
+ghost use Rattle.image_grammar.specs.Base.{IsOpened};
+ghost use Rattle.image_grammar.specs.bc_library.Shelf.{Shelf};
 ghost use Rattle.mpy_endings.specs.declared.ending.Ending.TheVariants.{Done};
-ghost use Rattle.mpy_endings.specs.Ending.{is_folder_fault, is_out_fault};
-ghost use Rattle.mpy_tool.specs.Below.{FreezesBelow};
+ghost use Rattle.mpy_endings.specs.Ending.{IsRunStatus, is_folder_fault, is_out_fault};
+ghost use Rattle.board_files.specs.Files.{KeepsOthers};
+ghost use Rattle.board_command.specs.Boards.{Boards};
+ghost use Rattle.image_commands.specs.Freeze.{Freezes};
+ghost use Rattle.mpy_tool.specs.Below as spec;
+ghost use Rattle.mpy_tool.specs.Below.{MayLieBelow, library_below};
 ghost use Rattle.mpy_tool.specs.Call.{call_of, texts};
 ghost use Rattle.mpy_tool.specs.Doing.{DoesBy, Finishes};
 ghost use Rattle.mpy_tool.specs.Order.{calls_ports, stands_alone, ChangesBy};
 
+use crate::below::{image_version, or_nothing, release};
 use crate::outside::Outside;
-use crate::releasing::release;
-use base_commands::freeze_on;
-use bc_library::Library;
 use board_command::board;
+use file_commands::{check, check_as, cross, dump, merge_files};
+use image_commands::{freeze, migrate};
+use image_grammar::bc_library::Library;
+use mpy_base::NoMemory;
 use mpy_endings::{Ended, Ending, file_names, say_ending, source_name, word_at};
 use mpy_io::{Failed, Folder, Port, Sink};
 use mpy_words::{Command, Order};
-use run_meaning::{check, cross, dump, freeze, merge_files, migrate};
 use std::alloc::Global;
 
-/// Writes the image of the sources of the manifest of this name, over the library below, if there is one.
+/// Writes the image of the sources of the manifest of this name, over the library of a base, if one is ordered.
 fn freeze_below<F: Folder>(
     alloc: Global,
+    base: Option<usize>,
     below: Option<Library>,
     manifest: &str,
     written: &str,
     folder: &mut F,
 ) -> Ending
-    requires below { IfSome below IsOpened }
-    ensures went { FreezesBelow below manifest.now written.now (F.files folder.old) (F.files folder.new) result }
+    requires { MayLieBelow below base }
+    ensures went { Freezes (spec.image_version base) (library_below below) manifest.now written.now (F.files folder.old) (F.files folder.new) result }
     ensures folder_counts { Counts (F.count folder.old) (F.count folder.new) (is_folder_fault result) }
     ensures prints_nothing { is_out_fault result ≡ false }
 {
-    match below {
-        None => freeze(alloc, manifest, written, folder),
-        Some(below) => freeze_on(alloc, &below, manifest, written, folder),
+    match or_nothing(alloc, below) {
+        Ok(below) => {
+            let version = image_version(base);
+            freeze(alloc, version, &below, manifest, written, folder)
+        }
+        Err(NoMemory) => Ending::NoMemory,
+    }
+}
+
+/// Runs the tasks of a plan on an image, over the library of a base, if one is ordered.
+fn board_below<F: Folder, S: Sink>(
+    alloc: Global,
+    below: Option<Library>,
+    image: &str,
+    plan: &str,
+    folder: &mut F,
+    out: &mut S,
+) -> Ended
+    requires { IfSome below IsOpened }
+    ensures went { Boards (library_below below) image.now plan.now (F.files folder.old) (F.files folder.new) (S.told out.old) (S.told out.new)
+        result.place result.ending }
+    ensures files { KeepsOthers MAX_TASKS (F.files folder.old) (F.files folder.new) }
+    ensures folder_counts { Counts (F.count folder.old) (F.count folder.new) (is_folder_fault result.ending) }
+    ensures out_counts { Counts (S.count out.old) (S.count out.new) (is_out_fault result.ending) }
+{
+    match or_nothing(alloc, below) {
+        Ok(below) => board(alloc, &below, image, plan, folder, out),
+        Err(NoMemory) => Ended {
+            ending: Ending::NoMemory,
+            place: 1,
+        },
     }
 }
 
@@ -51,7 +86,7 @@ fn ran_alone<F: Folder, S: Sink>(
 ) -> Ended
     requires level { order.level ≤ 3 }
     requires alone { stands_alone order.command ≡ true }
-    ensures went { (below : Option Shelf) → DoesBy order (texts words.now) below order.command
+    ensures went { (below : Shelf) → DoesBy order (texts words.now) below order.command
         (F.files folder.old) (F.files folder.new) (S.told out.old) (S.told out.new) result.place result.ending }
     ensures folder_counts { Counts (F.count folder.old) (F.count folder.new) (is_folder_fault result.ending) }
     ensures out_counts { Counts (S.count out.old) (S.count out.new) (is_out_fault result.ending) }
@@ -60,6 +95,10 @@ fn ran_alone<F: Folder, S: Sink>(
     let name = word_at(words, 1);
     match order.command {
         Command::Check => Ended::of_two(check(alloc, name, folder, out)),
+        Command::CheckAs => {
+            let file = word_at(words, 2);
+            check_as(alloc, order.level, name, file, folder, out)
+        }
         Command::Dump => Ended::of_two(dump(alloc, name, folder, out)),
         Command::Cross => {
             let stored = source_name(words, order.stored_name);
@@ -73,7 +112,7 @@ fn ran_alone<F: Folder, S: Sink>(
     }
 }
 
-/// Does what is ordered, over the library below, and may leave some of what is printed in the sink.
+/// Does what is ordered, over the library of a base, if one is ordered, and may leave some of what is printed in the sink.
 fn ran<F: Folder, S: Sink>(
     order: Order,
     alloc: Global,
@@ -84,8 +123,8 @@ fn ran<F: Folder, S: Sink>(
 ) -> Ended
     requires level { order.level ≤ 3 }
     requires no_run { calls_ports order.command ≡ false }
-    requires below { IfSome below IsOpened }
-    ensures went { DoesBy order (texts words.now) below order.command
+    requires below { MayLieBelow below order.base }
+    ensures went { DoesBy order (texts words.now) (library_below below) order.command
         (F.files folder.old) (F.files folder.new) (S.told out.old) (S.told out.new) result.place result.ending }
     ensures folder_counts { Counts (F.count folder.old) (F.count folder.new) (is_folder_fault result.ending) }
     ensures out_counts { Counts (S.count out.old) (S.count out.new) (is_out_fault result.ending) }
@@ -95,10 +134,15 @@ fn ran<F: Folder, S: Sink>(
     match order.command {
         Command::Freeze => {
             let written = word_at(words, 2);
-            Ended::of_two(freeze_below(alloc, below, name, written, folder))
+            Ended::of_two(freeze_below(alloc, order.base, below, name, written, folder))
         }
-        Command::Board => board(alloc, below, name, word_at(words, 2), folder, out),
-        Command::Check | Command::Dump | Command::Cross | Command::Merge | Command::Migrate => {
+        Command::Board => board_below(alloc, below, name, word_at(words, 2), folder, out),
+        Command::Check
+        | Command::CheckAs
+        | Command::Dump
+        | Command::Cross
+        | Command::Merge
+        | Command::Migrate => {
             release(below);
             ran_alone(order, alloc, words, folder, out)
         }
@@ -106,7 +150,7 @@ fn ran<F: Folder, S: Sink>(
     }
 }
 
-/// Does what is ordered, over the library below, and hands on what is printed.
+/// Does what is ordered, over the library of a base, if one is ordered, and hands on what is printed.
 fn done<F: Folder, S: Sink>(
     order: Order,
     alloc: Global,
@@ -117,8 +161,8 @@ fn done<F: Folder, S: Sink>(
 ) -> Ended
     requires level { order.level ≤ 3 }
     requires no_run { calls_ports order.command ≡ false }
-    requires below { IfSome below IsOpened }
-    ensures went { DoesBy order (texts words.now) below order.command
+    requires below { MayLieBelow below order.base }
+    ensures went { DoesBy order (texts words.now) (library_below below) order.command
         (F.files folder.old) (F.files folder.new) (S.told out.old) (S.told out.new) result.place result.ending }
     ensures flushed { result.ending ≡ Done → S.held out.new ≡ [] }
     ensures folder_counts { Counts (F.count folder.old) (F.count folder.new) (is_folder_fault result.ending) }
@@ -141,7 +185,7 @@ fn done<F: Folder, S: Sink>(
     }
 }
 
-/// Does what is ordered, over the library below, says how it ended, and answers the exit status.
+/// Does what is ordered, over the library of a base, if one is ordered, says how it ended, and answers the exit status.
 pub(crate) fn do_order<F: Folder, S: Sink, P: Port, E: Sink>(
     order: Order,
     alloc: Global,
@@ -151,11 +195,11 @@ pub(crate) fn do_order<F: Folder, S: Sink, P: Port, E: Sink>(
 ) -> u8
     requires level { order.level ≤ 3 }
     requires no_run { calls_ports order.command ≡ false }
-    requires below { IfSome below IsOpened }
+    requires below { MayLieBelow below order.base }
     ensures ended { let call = call_of F.Folder S.Sink P.Port E.Sink words.now outside.old outside.new result in
-        Finishes order call below order.command }
+        Finishes order call (library_below below) order.command }
     ensures ports { outside.new.ports ≡ outside.old.ports }
-    ensures flushed { result ≡ 0 → S.held outside.new.out ≡ [] }
+    ensures flushed { IsRunStatus result → S.held outside.new.out ≡ [] }
     ensures files { ChangesBy (texts words.now) order.command (F.files outside.old.folder) (F.files outside.new.folder) }
 {
     let ended = done(

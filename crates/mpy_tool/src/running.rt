@@ -4,27 +4,29 @@ ghost use Rattle.std.specs.Prelude.{◌≡◌, ◌≤◌, [], true, IfSome, IfOk
 ghost use Rattle.mpy_io.specs.Count.{Counts};
 ghost use Rattle.mpy_tree.specs.Raw.{Module};
 ghost use Rattle.library_files.specs.Ends.{HoldsModules};
-ghost use Rattle.image_base.specs.Base.{IsOpened};
+ghost use Rattle.image_grammar.specs.Base.{IsOpened};
 ghost use Rattle.image_runs.specs.Main.{IsMainAt};
 ghost use Rattle.mpy_words.specs.Words.{first_name};
-ghost use Rattle.run_meaning.specs.command_files.Opened.{failed_in};
-ghost use Rattle.base_commands.specs.run_commands.Run.{IsUnloaded};
-ghost use Rattle.mpy_tool.specs.Below.{RunLibraryBelow};
+ghost use Rattle.mpy_endings.specs.Ending.{IsRunStatus};
+ghost use Rattle.command_files.specs.Opened.{failed_in};
+ghost use Rattle.run_commands.specs.Run.{IsUnloaded};
+ghost use Rattle.run_commands.specs.Ready.{RunLibrary};
+ghost use Rattle.mpy_tool.specs.Below.{MayLieBelow, library_below};
 ghost use Rattle.mpy_tool.specs.Call.{call_of, texts};
 ghost use Rattle.mpy_tool.specs.Doing.{LibraryBy, RunsBy};
 ghost use Rattle.mpy_tool.specs.Order.{runs_library};
 
+use crate::below::{or_nothing, release};
 use crate::outside::Outside;
-use crate::releasing::release;
-use base_commands::{Ready, run_loaded, run_ready, run_ready_on, source_ready};
-use bc_library::Library;
-use mpy_base::Room;
+use image_grammar::bc_library::Library;
+use mpy_base::{NoMemory, Room};
 use mpy_endings::{Ending, main_name, say_ending, word_at};
 use mpy_io::{Folder, Port, Sink};
 use mpy_words::{Command, Order};
+use run_commands::{Ready, run_loaded, run_ready, source_ready};
 use std::alloc::Global;
 
-/// The library of the file of this name, an image over the library below, if there is one, or what keeps it from being run.
+/// The library of the file of this name, an image over the library of a base, if one is ordered, or what keeps it from being run.
 fn ready_below<F: Folder>(
     alloc: Global,
     below: Option<Library>,
@@ -32,17 +34,17 @@ fn ready_below<F: Folder>(
     main: &str,
     folder: &mut F,
 ) -> Result<Ready, Ending>
-    requires below { IfSome below IsOpened }
-    ensures comes { RunLibraryBelow below main.now (F.files folder.old) name.now result }
+    requires { IfSome below IsOpened }
+    ensures comes { RunLibrary (library_below below) main.now (F.files folder.old) name.now result }
     ensures there { IfOk result (λ ready. (m : Module) × IsMainAt ready.main ready.place m ready.library) }
     ensures holds { IfOk result (λ ready. HoldsModules ready.library) }
     ensures unloaded { IfErr result IsUnloaded }
     ensures counts { Counts (F.count folder.old) (F.count folder.new) (failed_in result) }
     ensures files { F.files folder.new ≡ F.files folder.old }
 {
-    match below {
-        None => run_ready(alloc, name, main, folder),
-        Some(below) => run_ready_on(alloc, below, name, main, folder),
+    match or_nothing(alloc, below) {
+        Ok(below) => run_ready(alloc, &below, name, main, folder),
+        Err(NoMemory) => Err(Ending::NoMemory),
     }
 }
 
@@ -56,9 +58,9 @@ fn library_of<F: Folder>(
 ) -> Result<Ready, Ending>
     requires level { order.level ≤ 3 }
     requires runs { runs_library order.command ≡ true }
-    requires below { IfSome below IsOpened }
+    requires below { MayLieBelow below order.base }
     ensures comes { let given = texts words.now in
-        LibraryBy order given below order.command (F.files folder.old) (first_name given) result }
+        LibraryBy order given (library_below below) order.command (F.files folder.old) (first_name given) result }
     ensures there { IfOk result (λ ready. (m : Module) × IsMainAt ready.main ready.place m ready.library) }
     ensures holds { IfOk result (λ ready. HoldsModules ready.library) }
     ensures unloaded { IfErr result IsUnloaded }
@@ -75,13 +77,14 @@ fn library_of<F: Folder>(
             let main = main_name(words, order.main_name);
             ready_below(alloc, below, name, main, folder)
         }
-        Command::Check | Command::Dump | Command::Cross | Command::Merge => unreachable!(),
+        Command::Check | Command::CheckAs | Command::Dump => unreachable!(),
+        Command::Cross | Command::Merge => unreachable!(),
         Command::Freeze | Command::Migrate => unreachable!(),
         Command::Board | Command::Stress => unreachable!(),
     }
 }
 
-/// Runs the library that is ordered, over the library below, says how that ended, and answers the exit status.
+/// Runs the library that is ordered, over the library of a base, if one is ordered, says how that ended, and answers the exit status.
 pub(crate) fn run_order<F: Folder, S: Sink, P: Port, E: Sink>(
     order: Order,
     alloc: Global,
@@ -91,10 +94,10 @@ pub(crate) fn run_order<F: Folder, S: Sink, P: Port, E: Sink>(
 ) -> u8
     requires level { order.level ≤ 3 }
     requires runs { runs_library order.command ≡ true }
-    requires below { IfSome below IsOpened }
+    requires below { MayLieBelow below order.base }
     ensures ended { let call = call_of F.Folder S.Sink P.Port E.Sink words.now outside.old outside.new result in
-        RunsBy order call below order.command }
-    ensures flushed { result ≡ 0 → S.held outside.new.out ≡ [] }
+        RunsBy order call (library_below below) order.command }
+    ensures flushed { IsRunStatus result → S.held outside.new.out ≡ [] }
     ensures files { F.files outside.new.folder ≡ F.files outside.old.folder }
 {
     let name = word_at(words, 1);

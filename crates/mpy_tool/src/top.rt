@@ -1,43 +1,44 @@
 //! The top call.
 
-ghost use Rattle.std.specs.Prelude.{◌≡◌, ◌≤◌, [], false, IfErr, IfSome};
-ghost use Rattle.image_base.specs.Base.{IsOpened};
+ghost use Rattle.std.specs.Prelude.{◌≡◌, ◌≤◌, [], false, IfErr};
 ghost use Rattle.mpy_words.specs.declared.order.Command.TheVariants as commands;
 ghost use Rattle.mpy_words.specs.Given.{most_count};
 ghost use Rattle.mpy_words.specs.Words.{order_of, source_name, main_name, file_names};
 ghost use Rattle.source_files.specs.Sources.{stored};
-ghost use Rattle.mpy_endings.specs.Ending.{status_of};
+ghost use Rattle.mpy_endings.specs.Ending.{IsRunStatus, status_of};
 ghost use Rattle.mpy_endings.specs.Line.{Says, line_of};
-ghost use Rattle.run_meaning.specs.command_files.Outside.{Ends, EndsAt, Writes, WritesOf};
-ghost use Rattle.run_meaning.specs.file_commands.Check.{Checks};
-ghost use Rattle.run_meaning.specs.file_commands.Cross.{Crosses};
-ghost use Rattle.run_meaning.specs.file_commands.Dump.{Dumps};
-ghost use Rattle.run_meaning.specs.file_commands.Merge.{Merges};
-ghost use Rattle.base_commands.specs.run_commands.Ready.{GoLibrary};
-ghost use Rattle.base_commands.specs.run_commands.Run.{EndsRun, room_of};
-ghost use Rattle.run_meaning.specs.GoMeant.{GoMeans};
-ghost use Rattle.run_meaning.specs.Meant.{RunMeans};
-ghost use Rattle.run_meaning.specs.image_commands.Migrate.{Migrates};
-ghost use Rattle.board_command.specs.Images.{library_below};
+ghost use Rattle.command_files.specs.Outside.{Ends, EndsAt, Writes, WritesOf};
+ghost use Rattle.file_commands.specs.Check.{Checks};
+ghost use Rattle.file_commands.specs.CheckAs.{ChecksAs};
+ghost use Rattle.file_commands.specs.Cross.{Crosses};
+ghost use Rattle.file_commands.specs.Dump.{Dumps};
+ghost use Rattle.file_commands.specs.Merge.{Merges};
+ghost use Rattle.run_commands.specs.Ready.{GoLibrary, RunLibrary};
+ghost use Rattle.run_commands.specs.Run.{EndsRun, room_of};
+ghost use Rattle.meant_commands.specs.GoMeant.{GoMeans};
+ghost use Rattle.meant_commands.specs.Meant.{RunMeans};
+ghost use Rattle.image_commands.specs.Freeze.{Freezes};
+ghost use Rattle.image_commands.specs.Migrate.{Migrates};
 ghost use Rattle.board_command.specs.Boards.{Boards};
 ghost use Rattle.stress_command.specs.Stress.{EndsStress};
-ghost use Rattle.mpy_tool.specs.Below.{Based, FreezesBelow, RunLibraryBelow};
-ghost use Rattle.mpy_tool.specs.Call.{call_of, texts, Orders, OrdersOne, OrdersTwo, Shows, ShowsPorts};
+ghost use Rattle.mpy_tool.specs.Below.{Based, MayLieBelow, image_version, library_below};
+ghost use Rattle.mpy_tool.specs.Call.{call_of, texts, LeavesCounts, Orders, OrdersOne, OrdersTwo, Shows, ShowsPorts};
 ghost use Rattle.mpy_tool.specs.Doing.{ActsBy, ObeysBy};
 ghost use Rattle.mpy_tool.specs.Making.{StressMeans};
 ghost use Rattle.mpy_tool.specs.Order.{RefusesWords, base_by, calls_ports, calls_ports_in, makes_source, runs_library, ChangesBy, ChangesIn};
 
+use crate::below::release;
 use crate::doing::do_order;
 use crate::outside::Outside;
-use crate::releasing::release;
 use crate::running::run_order;
-use base_library::base_library;
-use bc_library::Library;
+use command_files::open_base;
+use image_grammar::bc_library::Library;
+use meant_commands::go_means_law;
+use meant_runs::meant_law;
 use mpy_base::Room;
 use mpy_endings::{Ending, say_ending, say_words, word_at};
 use mpy_io::{Folder, Port, Sink};
 use mpy_words::{Command, Order, order_of};
-use run_meaning::{go_means_law, meant_law};
 use std::alloc::Global;
 use stress_command::stress;
 
@@ -50,7 +51,8 @@ fn runs(command: Command) -> bool
 {
     match command {
         Command::Go | Command::Run => true,
-        Command::Check | Command::Dump | Command::Cross | Command::Merge => false,
+        Command::Check | Command::CheckAs | Command::Dump => false,
+        Command::Cross | Command::Merge => false,
         Command::Freeze | Command::Migrate | Command::Board | Command::Stress => false,
     }
 }
@@ -62,7 +64,8 @@ fn makes(command: Command) -> bool
     match command {
         Command::Stress => true,
         Command::Go | Command::Run => false,
-        Command::Check | Command::Dump | Command::Cross | Command::Merge => false,
+        Command::Check | Command::CheckAs | Command::Dump => false,
+        Command::Cross | Command::Merge => false,
         Command::Freeze | Command::Migrate | Command::Board => false,
     }
 }
@@ -73,7 +76,8 @@ fn base_place(order: Order) -> Option<usize>
 {
     match order.command {
         Command::Freeze | Command::Run | Command::Board => order.base,
-        Command::Go | Command::Check | Command::Dump | Command::Cross => None,
+        Command::Go | Command::Check | Command::CheckAs | Command::Dump => None,
+        Command::Cross => None,
         Command::Merge | Command::Migrate | Command::Stress => None,
     }
 }
@@ -88,7 +92,7 @@ fn make<F: Folder, S: Sink, P: Port, E: Sink>(
     requires count { order.count ≤ most_count }
     ensures ended { let call = call_of F.Folder S.Sink P.Port E.Sink [] outside.old outside.new result in
         ShowsPorts call (EndsStress order.seed order.count (room_of order) order.steps) }
-    ensures flushed { result ≡ 0 → S.held outside.new.out ≡ [] }
+    ensures flushed { IsRunStatus result → S.held outside.new.out ≡ [] }
     ensures files { F.files outside.new.folder ≡ F.files outside.old.folder }
 {
     release(below);
@@ -108,7 +112,7 @@ fn make<F: Folder, S: Sink, P: Port, E: Sink>(
     )
 }
 
-/// Does what is ordered, over the library below, and answers the exit status.
+/// Does what is ordered, over the library of a base, if one is ordered, and answers the exit status.
 fn act<F: Folder, S: Sink, P: Port, E: Sink>(
     order: Order,
     alloc: Global,
@@ -118,11 +122,11 @@ fn act<F: Folder, S: Sink, P: Port, E: Sink>(
 ) -> u8
     requires level { order.level ≤ 3 }
     requires count { order.count ≤ most_count }
-    requires below { IfSome below IsOpened }
+    requires below { MayLieBelow below order.base }
     ensures ended { let call = call_of F.Folder S.Sink P.Port E.Sink words.now outside.old outside.new result in
-        ActsBy order call below order.command }
+        ActsBy order call (library_below below) order.command }
     ensures ports { calls_ports order.command ≡ false → outside.new.ports ≡ outside.old.ports }
-    ensures flushed { result ≡ 0 → S.held outside.new.out ≡ [] }
+    ensures flushed { IsRunStatus result → S.held outside.new.out ≡ [] }
     ensures files { ChangesBy (texts words.now) order.command (F.files outside.old.folder) (F.files outside.new.folder) }
 {
     if runs(order.command) {
@@ -155,14 +159,14 @@ fn obey<F: Folder, S: Sink, P: Port, E: Sink>(
     ensures ended { let call = call_of F.Folder S.Sink P.Port E.Sink words.now outside.old outside.new result in
         ObeysBy order call order.command }
     ensures ports { calls_ports order.command ≡ false → outside.new.ports ≡ outside.old.ports }
-    ensures flushed { result ≡ 0 → S.held outside.new.out ≡ [] }
+    ensures flushed { IsRunStatus result → S.held outside.new.out ≡ [] }
     ensures files { ChangesBy (texts words.now) order.command (F.files outside.old.folder) (F.files outside.new.folder) }
 {
     let Some(at) = base_place(order) else {
         return act(order, alloc, words, None, outside);
     };
     let base = word_at(words, at);
-    match base_library(alloc, base, &mut outside.folder) {
+    match open_base(alloc, base, &mut outside.folder) {
         Ok(below) => act(order, alloc, words, Some(below), outside),
         Err(ending) => say_refused(base, ending, &mut outside.say),
     }
@@ -188,6 +192,12 @@ pub fn mpy<F: Folder, S: Sink, P: Port, E: Sink>(
     ensures check { let call = call_of F.Folder S.Sink P.Port E.Sink words.now outside.old outside.new result in
         OrdersOne call commands.Check (λ order file. Shows call (Ends Checks file)) }
 
+    // check SRC FILE: how many codes the file has is printed where it is a translation of the source at the level that is ordered, whoever
+    // made it, or what differs first, or keeps them from being compared, is said.
+    ensures check_as { let call = call_of F.Folder S.Sink P.Port E.Sink words.now outside.old outside.new result in
+        OrdersTwo call commands.CheckAs (λ order src file.
+        Shows call (EndsAt (λ old new before behind. ChecksAs order.level old src file before behind) call.words)) }
+
     // dump FILE: what the file holds is listed, or what keeps it from being read is said.
     ensures dump { let call = call_of F.Folder S.Sink P.Port E.Sink words.now outside.old outside.new result in
         OrdersOne call commands.Dump (λ order file. Shows call (Ends Dumps file)) }
@@ -206,7 +216,7 @@ pub fn mpy<F: Folder, S: Sink, P: Port, E: Sink>(
     // printed, or what kept it from that is said.
     ensures freeze { let call = call_of F.Folder S.Sink P.Port E.Sink words.now outside.old outside.new result in
         OrdersTwo call commands.Freeze (λ order manifest out. Based call order.base (λ below.
-        Shows call (Writes (FreezesBelow below manifest out) manifest out))) }
+        Shows call (Writes (Freezes (image_version order.base) below manifest out) manifest out))) }
 
     // migrate IN OUT: OUT becomes the image in version 2, and nothing is printed, or what kept it from that is said.
     ensures migrate { let call = call_of F.Folder S.Sink P.Port E.Sink words.now outside.old outside.new result in
@@ -218,13 +228,13 @@ pub fn mpy<F: Folder, S: Sink, P: Port, E: Sink>(
     ensures run { let call = call_of F.Folder S.Sink P.Port E.Sink words.now outside.old outside.new result in
         OrdersOne call commands.Run (λ order file. Based call order.base (λ below.
         let main = main_name call.words order.main_name in
-        ShowsPorts call (EndsRun (RunLibraryBelow below main) (room_of order) order.steps file))) }
+        ShowsPorts call (EndsRun (RunLibrary below main) (room_of order) order.steps file))) }
 
     // board IMAGE PLAN: the tasks of the plan are run by turns on the image, over the base that is ordered, if one is; the output of
     // each goes to its file, and a line for each is printed; or what kept them from that is said.
     ensures board { let call = call_of F.Folder S.Sink P.Port E.Sink words.now outside.old outside.new result in
         OrdersTwo call commands.Board (λ order image plan. Based call order.base (λ below.
-        Shows call (EndsAt (Boards (library_below below) image plan) call.words))) }
+        Shows call (EndsAt (Boards below image plan) call.words))) }
 
     // stress SEED COUNT: how long the made source is and how many codes it has are printed, and then it is run as go runs a source;
     // or what kept it from that is said.
@@ -240,7 +250,7 @@ pub fn mpy<F: Folder, S: Sink, P: Port, E: Sink>(
     ensures run_means { let call = call_of F.Folder S.Sink P.Port E.Sink words.now outside.old outside.new result in
         OrdersOne call commands.Run (λ order file. Based call order.base (λ below.
         let main = main_name call.words order.main_name in
-        ShowsPorts call (RunMeans (RunLibraryBelow below main) (room_of order) order.steps file))) }
+        ShowsPorts call (RunMeans (RunLibrary below main) (room_of order) order.steps file))) }
 
     // With the status of a run, stress printed its lines, and behind them it printed and ended as the made source means, as go does.
     ensures stress_means { let call = call_of F.Folder S.Sink P.Port E.Sink words.now outside.old outside.new result in
@@ -250,8 +260,12 @@ pub fn mpy<F: Folder, S: Sink, P: Port, E: Sink>(
     // Only go, run and stress call ports.
     ensures ports { calls_ports_in (order_of (texts words.now)) ≡ false → outside.new.ports ≡ outside.old.ports }
 
-    // With status 0 nothing of what is printed is held back.
-    ensures flushed { result ≡ 0 → S.held outside.new.out ≡ [] }
+    // With a status other than 7 and 8 no call of the folder and of the output's sink failed.
+    ensures counts { let call = call_of F.Folder S.Sink P.Port E.Sink words.now outside.old outside.new result in
+        LeavesCounts call }
+
+    // With status 0, and with 1, 5 and 6 of a run, nothing of what is printed is held back.
+    ensures flushed { IsRunStatus result → S.held outside.new.out ≡ [] }
 
     // No command but cross, merge, freeze, migrate and board changes a file, and these none but FILE, OUT and the files of the tasks.
     ensures files { let call = call_of F.Folder S.Sink P.Port E.Sink words.now outside.old outside.new result in

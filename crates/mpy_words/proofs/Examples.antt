@@ -1,7 +1,7 @@
 -- The orders and the first faults of small words.
 use Rattle.std.proofs.Common.{◌≡◌, ℕ, [], ◌∷◌, Option, Some, None, Ok, Err, codes, refl}
 use Rattle.mpy_words.specs.declared.order.Command.{Command}
-use Rattle.mpy_words.specs.declared.order.Command.TheVariants.{Go, Cross, Merge, Freeze, Migrate, Run, Board, Stress}
+use Rattle.mpy_words.specs.declared.order.Command.TheVariants.{Go, CheckAs, Cross, Merge, Freeze, Migrate, Run, Board, Stress}
 use Rattle.mpy_words.specs.declared.order.Named.TheVariants.{Source, File, Input, Output, Manifest, Plan, Count}
 use Rattle.mpy_words.specs.declared.order.Setting.TheVariants.{Level, StoredName, MainName, Base, Cells, Steps}
 use Rattle.mpy_words.specs.declared.order.WordFault.TheVariants.{NoCommand, Unknown, MissingName, MissingValue, BadNumber, Twice}
@@ -39,6 +39,38 @@ go_alone = refl
 check_with_option : order_of (codes "check" ∷ codes "a" ∷ codes "-O" ∷ codes "1" ∷ []) ≡ Err (Unknown 2)
 unfolding settings named past_files value_of
 check_with_option = refl
+
+check_alone : order_of (codes "check" ∷ []) ≡ Err (MissingName File)
+unfolding settings named past_files value_of
+check_alone = refl
+
+check_without_names : order_of (codes "check" ∷ codes "-O" ∷ codes "1" ∷ []) ≡ Err (Unknown 1)
+unfolding settings named past_files value_of
+check_without_names = refl
+
+check_as : order_of (codes "check" ∷ codes "a" ∷ codes "b" ∷ []) ≡ ordered CheckAs 0 None
+unfolding settings named past_files value_of
+check_as = refl
+
+check_as_at_level : order_of (codes "check" ∷ codes "a" ∷ codes "b" ∷ codes "-O" ∷ codes "2" ∷ []) ≡ ordered CheckAs 2 None
+unfolding settings named past_files value_of
+check_as_at_level = refl
+
+check_as_level_too_high : order_of (codes "check" ∷ codes "a" ∷ codes "b" ∷ codes "-O" ∷ codes "4" ∷ []) ≡ Err (BadNumber 4)
+unfolding settings named past_files value_of
+check_as_level_too_high = refl
+
+check_as_without_level : order_of (codes "check" ∷ codes "a" ∷ codes "b" ∷ codes "-O" ∷ []) ≡ Err (MissingValue Level)
+unfolding settings named past_files value_of
+check_as_without_level = refl
+
+check_as_surplus : order_of (codes "check" ∷ codes "a" ∷ codes "b" ∷ codes "x" ∷ []) ≡ Err (Unknown 3)
+unfolding settings named past_files value_of
+check_as_surplus = refl
+
+check_as_option_of_runs : order_of (codes "check" ∷ codes "a" ∷ codes "b" ∷ codes "--cells" ∷ codes "9" ∷ []) ≡ Err (Unknown 3)
+unfolding settings named past_files value_of
+check_as_option_of_runs = refl
 
 go_at_level : order_of (codes "go" ∷ codes "a" ∷ codes "-O" ∷ codes "3" ∷ []) ≡ ordered Go 3 None
 unfolding settings named past_files value_of

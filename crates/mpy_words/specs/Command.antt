@@ -1,7 +1,7 @@
 -- The commands, the words that each names, and its options.
 use Rattle.std.specs.Prelude.{ℕ, Bool, true, false, List, [], ◌∷◌, Option, Some, None, codes, bytes_eq, if◌then◌else◌}
 use Rattle.mpy_words.specs.declared.order.Command.{Command}
-use Rattle.mpy_words.specs.declared.order.Command.TheVariants.{Go, Check, Dump, Cross, Merge, Freeze, Migrate, Run, Board, Stress}
+use Rattle.mpy_words.specs.declared.order.Command.TheVariants.{Go, Check, CheckAs, Dump, Cross, Merge, Freeze, Migrate, Run, Board, Stress}
 use Rattle.mpy_words.specs.declared.order.Named.{Named}
 use Rattle.mpy_words.specs.declared.order.Named.TheVariants.{Source, File, Input, Output, Manifest, Image, Plan, Seed, Count}
 use Rattle.mpy_words.specs.declared.order.Setting.{Setting}
@@ -47,6 +47,7 @@ command_of word =
 abbrev pub names_of : Command → List Named
 names_of Go = Source ∷ []
 names_of Check = File ∷ []
+names_of CheckAs = Source ∷ File ∷ []
 names_of Dump = File ∷ []
 names_of Cross = Source ∷ File ∷ []
 names_of Merge = Output ∷ []
@@ -60,6 +61,7 @@ names_of Stress = Seed ∷ Count ∷ []
 abbrev pub takes_files : Command → Bool
 takes_files Go = false
 takes_files Check = false
+takes_files CheckAs = false
 takes_files Dump = false
 takes_files Cross = false
 takes_files Merge = true
@@ -94,6 +96,7 @@ base_setting_of word = if bytes_eq word (codes "--base") then Some Base else Non
 abbrev pub setting_of : Command → List ℕ → Option Setting
 setting_of Go word = if bytes_eq word (codes "-O") then Some Level else run_setting_of word
 setting_of Check word = None
+setting_of CheckAs word = if bytes_eq word (codes "-O") then Some Level else None
 setting_of Dump word = None
 setting_of Merge word = None
 setting_of Freeze word = base_setting_of word

@@ -1,6 +1,7 @@
 -- The order of words, the program's own name left out.
-use Rattle.std.specs.Prelude.{ℕ, ◌-◌, Bool, false, ◌&&◌, List, [], ◌∷◌, length, drop, Option, Some, None, codes, ◌==◌, if◌then◌else◌, slice_index_or, Result, Ok, Err}
+use Rattle.std.specs.Prelude.{ℕ, ◌-◌, Bool, false, ◌&&◌, ◌||◌, List, [], ◌∷◌, length, drop, Option, Some, None, codes, ◌==◌, if◌then◌else◌, slice_index_or, Result, Ok, Err}
 use Rattle.mpy_words.specs.declared.order.Command.{Command}
+use Rattle.mpy_words.specs.declared.order.Command.TheVariants.{Go, Check, CheckAs, Dump, Cross, Merge, Freeze, Migrate, Run, Board, Stress}
 use Rattle.mpy_words.specs.declared.order.Named.{Named}
 use Rattle.mpy_words.specs.declared.order.Setting.{Setting}
 use Rattle.mpy_words.specs.declared.order.Order.{Order}
@@ -93,9 +94,22 @@ named count c given (wanted ∷ more) (word ∷ words) =
     if begins_with_dash word then lacking count c wanted word words
     else valued count (word ∷ words) (with_name given wanted word) (λ given. named count c given more words)
 
+-- the check that these words ask for: that of a source and a file where two words name files
+abbrev pub check_of : List (List ℕ) → Command
+check_of [] = Check
+check_of (file ∷ []) = Check
+check_of (source ∷ file ∷ words) = if begins_with_dash source || begins_with_dash file then Check else CheckAs
+
+-- the command of a first word with these behind it
+abbrev pub command_in : Command → List (List ℕ) → Command
+command_in Check words = check_of words
+command_in c words = c
+
 abbrev pub of_command : ℕ → Option Command → List (List ℕ) → Outcome
 of_command count None words = Err (Unknown 0)
-of_command count (Some c) words = named count c none_given (names_of c) words
+of_command count (Some c) words =
+    let command = command_in c words in
+    named count command none_given (names_of command) words
 
 -- the order, or the first fault from left to right
 abbrev pub order_of : List (List ℕ) → Outcome

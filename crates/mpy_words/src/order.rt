@@ -10,6 +10,8 @@ pub enum Command {
     Go,
     /// `check FILE`
     Check,
+    /// `check SRC FILE`
+    CheckAs,
     /// `dump FILE`
     Dump,
     /// `cross SRC FILE`

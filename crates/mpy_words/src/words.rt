@@ -53,7 +53,7 @@ fn setting(command: Command, word: &str) -> Option<Setting>
 {
     match command {
         Command::Go if word == "-O" => Some(Setting::Level),
-        Command::Cross if word == "-O" => Some(Setting::Level),
+        Command::CheckAs | Command::Cross if word == "-O" => Some(Setting::Level),
         Command::Cross if word == "-s" => Some(Setting::StoredName),
         Command::Run if word == "-m" => Some(Setting::MainName),
         Command::Run if word == "--base" => Some(Setting::Base),
@@ -70,7 +70,7 @@ fn names(command: Command) -> &'static [Named]
     match command {
         Command::Go => &[Named::Source],
         Command::Check | Command::Dump | Command::Run => &[Named::File],
-        Command::Cross => &[Named::Source, Named::File],
+        Command::CheckAs | Command::Cross => &[Named::Source, Named::File],
         Command::Merge => &[Named::Output],
         Command::Freeze => &[Named::Manifest, Named::Output],
         Command::Migrate => &[Named::Input, Named::Output],
@@ -93,7 +93,7 @@ fn takes_files(command: Command) -> bool
     ensures { result ≡ commands.takes_files command }
 {
     match command {
-        Command::Go | Command::Check | Command::Dump | Command::Cross => false,
+        Command::Go | Command::Check | Command::CheckAs | Command::Dump | Command::Cross => false,
         Command::Merge => true,
         Command::Freeze | Command::Migrate | Command::Run | Command::Board => false,
         Command::Stress => false,
@@ -207,6 +207,33 @@ fn named(count: usize, command: Command, words: &[String]) -> Result<Order, Word
     settings(count, command, given, behind_files(command, rest))
 }
 
+/// The check that these words ask for: that of a source and a file where two words name files.
+fn check_of(words: &[String]) -> Command
+    ensures { result ≡ spec.check_of (map string_bytes words.now) }
+{
+    let Some((source, behind)) = words.split_first() else {
+        return Command::Check;
+    };
+    let Some((file, _)) = behind.split_first() else {
+        return Command::Check;
+    };
+    if begins_with_dash(source.as_str()) || begins_with_dash(file.as_str()) {
+        Command::Check
+    } else {
+        Command::CheckAs
+    }
+}
+
+/// The command of a first word with these behind it.
+fn command_in(command: Command, words: &[String]) -> Command
+    ensures { result ≡ spec.command_in command (map string_bytes words.now) }
+{
+    match command {
+        Command::Check => check_of(words),
+        _ => command,
+    }
+}
+
 /// The order that words give, the program's own name left out.
 pub fn order_of(words: &[String]) -> Result<Order, WordFault>
     ensures order { result ≡ spec.order_of (map string_bytes words.now) }
@@ -236,7 +263,7 @@ pub fn order_of(words: &[String]) -> Result<Order, WordFault>
         return Err(WordFault::NoCommand);
     };
     match command(first.as_str()) {
-        Some(command) => named(words.len(), command, behind),
+        Some(command) => named(words.len(), command_in(command, behind), behind),
         None => Err(WordFault::Unknown(0)),
     }
 }

@@ -6,24 +6,24 @@ use Rattle.std.proofs.lemmas.List.{length-append, length-map, get_or-map}
 use Rattle.std.proofs.lemmas.List.Elements.{All-from_recursion, recursion_from_All}
 use Rattle.std.proofs.lemmas.Option.{slice_get-map, slice_get_within}
 use Rattle.mpy_base.specs.declared.limits.TheConstants.{MAX_DEPTH}
-use Rattle.bc_ops.specs.declared.instr.Op.TheVariants.{LoadConstObj}
-use Rattle.bc_ops.specs.declared.instr.Instr.{Instr}
-use Rattle.bc_ops.specs.declared.instr.Instr.TheVariants as instrs
-use Rattle.bc_ops.specs.Code.{spelling, IsEncodable}
-use Rattle.bc_ops.specs.Listing.{Piece, IsPiece, joined, starts, items_at, IsListOf, Lists}
-use Rattle.bc_ops.proofs.Law as laws
-use Rattle.bc_ops.proofs.Lists.{one_listing}
+use Rattle.mpy_tree.specs.bc_ops.declared.instr.Op.TheVariants.{LoadConstObj}
+use Rattle.mpy_tree.specs.bc_ops.declared.instr.Instr.{Instr}
+use Rattle.mpy_tree.specs.bc_ops.declared.instr.Instr.TheVariants as instrs
+use Rattle.mpy_tree.specs.bc_ops.Code.{spelling, IsEncodable}
+use Rattle.mpy_tree.specs.bc_ops.Listing.{Piece, IsPiece, joined, starts, items_at, IsListOf, Lists}
+use Rattle.mpy_tree.proofs.bc_ops_lemmas.Law as laws
+use Rattle.mpy_tree.proofs.bc_ops_lemmas.Lists.{one_listing}
 use Rattle.bc_labels.specs.Choice.{IsLayout, instrs_of}
 use Rattle.bc_labels.proofs.Reading.{encodable_to}
 use Rattle.bc_labels.proofs.Positions.{is_list}
-use Rattle.bc_prelude.specs.declared.prelude.Prelude.{Prelude}
-use Rattle.bc_prelude.specs.Signature as signatures
-use Rattle.bc_prelude.specs.Size as sizes
-use Rattle.bc_prelude.specs.Names as names
-use Rattle.bc_prelude.specs.Prelude.{Begins, front_of}
-use Rattle.bc_prelude.specs.Lines.{Rises, table_of, line_of, line_among}
-use Rattle.bc_prelude.proofs.Written.{signature_spells, size_spells}
-use Rattle.bc_prelude.proofs.Indexes.{names_spelled}
+use Rattle.mpy_tree.specs.bc_prelude.declared.prelude.Prelude.{Prelude}
+use Rattle.mpy_tree.specs.bc_prelude.Signature as signatures
+use Rattle.mpy_tree.specs.bc_prelude.Size as sizes
+use Rattle.mpy_tree.specs.bc_prelude.Names as names
+use Rattle.mpy_tree.specs.bc_prelude.Prelude.{Begins, front_of}
+use Rattle.mpy_tree.specs.bc_prelude.Lines.{Rises, table_of, line_of, line_among}
+use Rattle.mpy_tree.proofs.bc_prelude_lemmas.Written.{signature_spells, size_spells}
+use Rattle.mpy_tree.proofs.bc_prelude_lemmas.Indexes.{names_spelled}
 use Rattle.mpy_tree.specs.declared.module.Constant.{Constant}
 use Rattle.mpy_tree.specs.declared.module.Item.{Item}
 use Rattle.mpy_tree.specs.declared.module.Item.TheVariants as items

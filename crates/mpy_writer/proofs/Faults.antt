@@ -6,7 +6,7 @@ use Rattle.std.proofs.lemmas.List.Elements.{recursion_from_All}
 use Rattle.mpy_base.specs.declared.refused.Refused.{Refused}
 use Rattle.mpy_base.specs.declared.refused.Refused.TheVariants as refusals
 use Rattle.mpy_base.specs.declared.limits.TheConstants.{MAX_CODE_BYTES, MAX_FILE_BYTES}
-use Rattle.qstr_pool.specs.Pool.{Texts}
+use Rattle.mpy_tree.specs.qstr_pool.Pool.{Texts}
 use Rattle.bc_labels.specs.Choice.{instrs_of, laid_out}
 use Rattle.bc_labels.proofs.Fewest.{one_choice, never_both}
 use Rattle.mpy_tree.specs.FirstUse.{FirstUsed}
@@ -25,7 +25,7 @@ use Rattle.mpy_writer.specs.Outcome.{FaultIs, no_texts, all_interned, PassesTabl
 use Rattle.mpy_writer.specs.Codes as used
 use Rattle.mpy_writer.proofs.Steps.{failed}
 use Rattle.mpy_writer.proofs.Uses.{one_table, made}
-use Rattle.bc_prelude.specs.Names as names
+use Rattle.mpy_tree.specs.bc_prelude.Names as names
 
 same_table : (used : List (List ℕ)) (a b : Texts) → IsTable used a → IsTable used b → a ≡ b
 same_table used a b h k = ap₂ (λ (n : ℕ) (ts : List (List ℕ)). record { first = n; texts = ts }) (h.first ∙ sym k.first) (one_table [] used a.texts b.texts h.texts k.texts)

@@ -4,15 +4,15 @@ use Rattle.std.specs.List.{flat_map, count_by, before_first, prefix_len, AllByRe
 use Rattle.std.proofs.lemmas.Bool.{lt-ltb, cases_eq, ne_eqb, eq-eqb}
 use Rattle.std.proofs.lemmas.List.Sums.{sum_by-cons}
 use Rattle.std.proofs.lemmas.List.Elements.{All-from_recursion, recursion_from_All}
-use Rattle.bc_ops.specs.declared.form.Form.{Form}
-use Rattle.bc_ops.specs.declared.form.Form.TheVariants as forms
-use Rattle.bc_ops.specs.declared.instr.Op.TheVariants.{LoadConstObj}
-use Rattle.bc_ops.specs.declared.instr.Instr.TheVariants as instrs
-use Rattle.bc_ops.specs.declared.listing.Target.TheVariants.{Position, Offset}
-use Rattle.bc_ops.specs.declared.listing.Item as listings
-use Rattle.bc_ops.specs.declared.listing.Item.TheVariants as listing
-use Rattle.bc_ops.specs.Table.{code_of, form_of, number_form}
-use Rattle.bc_ops.specs.Code.{TakesNumber}
+use Rattle.mpy_tree.specs.bc_ops.declared.form.Form.{Form}
+use Rattle.mpy_tree.specs.bc_ops.declared.form.Form.TheVariants as forms
+use Rattle.mpy_tree.specs.bc_ops.declared.instr.Op.TheVariants.{LoadConstObj}
+use Rattle.mpy_tree.specs.bc_ops.declared.instr.Instr.TheVariants as instrs
+use Rattle.mpy_tree.specs.bc_ops.declared.listing.Target.TheVariants.{Position, Offset}
+use Rattle.mpy_tree.specs.bc_ops.declared.listing.Item as listings
+use Rattle.mpy_tree.specs.bc_ops.declared.listing.Item.TheVariants as listing
+use Rattle.mpy_tree.specs.bc_ops.Table.{code_of, form_of, number_form}
+use Rattle.mpy_tree.specs.bc_ops.Code.{TakesNumber}
 use Rattle.bc_labels.specs.declared.labelled.Labelled.{Labelled}
 use Rattle.bc_labels.specs.declared.labelled.Labelled.TheVariants.{At}
 use Rattle.bc_labels.specs.Labels.{is_label, StandsOnce, IsSound}

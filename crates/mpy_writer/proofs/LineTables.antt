@@ -2,9 +2,9 @@
 use Rattle.std.proofs.Common.{◌≡◌, ℕ, suc, ◌+◌, ◌<◌, ◌≤◌, Bool, true, false, cond, eqb, List, [], ◌∷◌, length, map, refl, sym, ap, subst, ◌∙◌, arith}
 use Rattle.std.specs.List.{zip, AllByRecursion}
 use Rattle.std.proofs.lemmas.Bool.{lt-ltb, le-ltb, eqb-true}
-use Rattle.bc_ops.specs.declared.instr.Instr.{Instr}
-use Rattle.bc_ops.specs.Code.{spelling}
-use Rattle.bc_prelude.specs.Lines.{RisesFrom, line_among}
+use Rattle.mpy_tree.specs.bc_ops.declared.instr.Instr.{Instr}
+use Rattle.mpy_tree.specs.bc_ops.Code.{spelling}
+use Rattle.mpy_tree.specs.bc_prelude.Lines.{RisesFrom, line_among}
 use Rattle.mpy_tree.specs.Canonical.{changes, offsets}
 use Rattle.mpy_writer.specs.Writable.{NeverFall}
 

@@ -9,8 +9,8 @@ use Rattle.std.proofs.lemmas.List.Quantifiers.{position-Some}
 use Rattle.mpy_base.specs.declared.limits.TheConstants.{MAX_TABLE}
 use Rattle.std.proofs.lemmas.Bool.{le-ltb}
 use Rattle.std.proofs.lemmas.Option.{slice_get-get_or}
-use Rattle.qstr_pool.specs.Pool.{Texts, number_of, text_of}
-use Rattle.qstr_pool.proofs.Places.{found, absent}
+use Rattle.mpy_tree.specs.qstr_pool.Pool.{Texts, number_of, text_of}
+use Rattle.mpy_tree.proofs.qstr_pool_lemmas.Places.{found, absent}
 use Rattle.mpy_tree.specs.FirstUse.{FirstUsed}
 use Rattle.mpy_writer.specs.Tables.{Fits}
 use Rattle.mpy_writer.proofs.Uses.{not_there}

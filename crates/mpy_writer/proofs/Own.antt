@@ -4,14 +4,14 @@ use Rattle.std.specs.List.{zip, flat_map, AllByRecursion}
 use Rattle.std.proofs.lemmas.List.{append-nil, length-append, drop_more, drop_all}
 use Rattle.std.proofs.lemmas.List.Elements.{All-from_recursion}
 use Rattle.std.proofs.lemmas.Bool.{eq-eqb, ne_eqb}
-use Rattle.bc_ops.specs.declared.instr.Instr.{Instr}
-use Rattle.bc_ops.specs.Code.{spelling}
+use Rattle.mpy_tree.specs.bc_ops.declared.instr.Instr.{Instr}
+use Rattle.mpy_tree.specs.bc_ops.Code.{spelling}
 use Rattle.bc_labels.specs.Choice.{IsLayout, instrs_of}
-use Rattle.bc_prelude.specs.declared.signature.Signature.{Signature}
-use Rattle.bc_prelude.specs.Signature as signatures
-use Rattle.bc_prelude.specs.Size as sizes
-use Rattle.bc_prelude.specs.Names as names
-use Rattle.bc_prelude.specs.Lines.{Rises, table_of}
+use Rattle.mpy_tree.specs.bc_prelude.declared.signature.Signature.{Signature}
+use Rattle.mpy_tree.specs.bc_prelude.Signature as signatures
+use Rattle.mpy_tree.specs.bc_prelude.Size as sizes
+use Rattle.mpy_tree.specs.bc_prelude.Names as names
+use Rattle.mpy_tree.specs.bc_prelude.Lines.{Rises, table_of}
 use Rattle.mpy_base.specs.declared.limits.TheConstants.{MAX_CODE_BYTES}
 use Rattle.mpy_tree.specs.declared.module.Code.{Code, out-Code}
 use Rattle.mpy_tree.specs.Canonical.{changes, offsets}

@@ -4,11 +4,11 @@ use Rattle.std.specs.List.{flat_map, AllByRecursion}
 use Rattle.std.proofs.lemmas.List.{append-nil, length-append, get_or-map}
 use Rattle.std.proofs.lemmas.List.Concat.{flat_map-append}
 use Rattle.std.proofs.lemmas.List.Elements.{recursion_from_All}
-use Rattle.bc_ops.specs.declared.form.Form.{Form}
-use Rattle.bc_ops.specs.declared.form.Form.TheVariants as forms
-use Rattle.bc_ops.specs.declared.instr.Op.TheVariants.{LoadConstObj}
-use Rattle.bc_ops.specs.declared.instr.Instr.{Instr}
-use Rattle.bc_ops.specs.Code.{spelling, TakesNumber}
+use Rattle.mpy_tree.specs.bc_ops.declared.form.Form.{Form}
+use Rattle.mpy_tree.specs.bc_ops.declared.form.Form.TheVariants as forms
+use Rattle.mpy_tree.specs.bc_ops.declared.instr.Op.TheVariants.{LoadConstObj}
+use Rattle.mpy_tree.specs.bc_ops.declared.instr.Instr.{Instr}
+use Rattle.mpy_tree.specs.bc_ops.Code.{spelling, TakesNumber}
 use Rattle.bc_labels.specs.declared.labelled.Labelled.{Labelled}
 use Rattle.bc_labels.specs.declared.labelled.Labelled.TheVariants.{At, Plain, Jump, Unwind}
 use Rattle.bc_labels.specs.Labels.{StandsOnce, target_of, label_item}

@@ -9,7 +9,7 @@ use Rattle.mpy_base.specs.Vuint.{vuint}
 use Rattle.mpy_base.specs.declared.limits.TheConstants.{MAX_CODE_BYTES, MAX_DEPTH}
 use Rattle.mpy_base.specs.Val.{Val}
 use Rattle.mpy_base.proofs.Groups.{vuint_spells}
-use Rattle.bc_prelude.specs.Lines.{Rises, table_of, line_of, line_among}
+use Rattle.mpy_tree.specs.bc_prelude.Lines.{Rises, table_of, line_of, line_among}
 use Rattle.mpy_tree.specs.declared.module.Item.{Item}
 use Rattle.mpy_tree.specs.declared.module.Item.TheVariants as items
 use Rattle.mpy_tree.specs.declared.module.Code.{Code, out-Code}

@@ -6,14 +6,14 @@ use Rattle.std.proofs.lemmas.Int.{ints}
 use Rattle.std.proofs.lemmas.List.{append-nil, length-append, get_or-map, take-append-le, drop-append-le, take_all, drop_all, length-replicate}
 use Rattle.std.proofs.lemmas.List.Elements.{All-nil, All-cons, All-get_or}
 use Rattle.std.proofs.lemmas.Slice.{between_is}
-use Rattle.bc_ops.specs.declared.form.Form.{Form}
-use Rattle.bc_ops.specs.declared.form.Form.TheVariants as forms
-use Rattle.bc_ops.specs.declared.instr.Op.{Op}
-use Rattle.bc_ops.specs.declared.instr.Instr.{Instr}
-use Rattle.bc_ops.specs.declared.instr.Instr.TheVariants as instrs
-use Rattle.bc_ops.specs.Table.{code_of, form_of}
-use Rattle.bc_ops.specs.Offset.{Fits}
-use Rattle.bc_ops.specs.Code.{is_signed, spelling, TakesOffset, IsEncodable}
+use Rattle.mpy_tree.specs.bc_ops.declared.form.Form.{Form}
+use Rattle.mpy_tree.specs.bc_ops.declared.form.Form.TheVariants as forms
+use Rattle.mpy_tree.specs.bc_ops.declared.instr.Op.{Op}
+use Rattle.mpy_tree.specs.bc_ops.declared.instr.Instr.{Instr}
+use Rattle.mpy_tree.specs.bc_ops.declared.instr.Instr.TheVariants as instrs
+use Rattle.mpy_tree.specs.bc_ops.Table.{code_of, form_of}
+use Rattle.mpy_tree.specs.bc_ops.Offset.{Fits}
+use Rattle.mpy_tree.specs.bc_ops.Code.{is_signed, spelling, TakesOffset, IsEncodable}
 use Rattle.bc_labels.specs.declared.labelled.Labelled.{Labelled}
 use Rattle.bc_labels.specs.declared.labelled.Labelled.TheVariants.{At}
 use Rattle.bc_labels.specs.Labels.{HasOffset, signed_of}

@@ -4,11 +4,11 @@ use Rattle.std.specs.List.{flat_map, list_all, AllByRecursion}
 use Rattle.std.proofs.lemmas.Bool.{ltb-true}
 use Rattle.std.proofs.lemmas.List.Elements.{All-from_recursion, All-nil}
 use Rattle.std.proofs.lemmas.Int.{ints}
-use Rattle.bc_ops.specs.declared.form.Form.TheVariants as forms
-use Rattle.bc_ops.specs.declared.instr.Op.{Op}
-use Rattle.bc_ops.specs.declared.instr.Op.TheVariants as ops
-use Rattle.bc_ops.specs.declared.instr.Instr.TheVariants as instrs
-use Rattle.bc_ops.specs.Table.{code_of, form_of, name_form, number_form, plain_form}
+use Rattle.mpy_tree.specs.bc_ops.declared.form.Form.TheVariants as forms
+use Rattle.mpy_tree.specs.bc_ops.declared.instr.Op.{Op}
+use Rattle.mpy_tree.specs.bc_ops.declared.instr.Op.TheVariants as ops
+use Rattle.mpy_tree.specs.bc_ops.declared.instr.Instr.TheVariants as instrs
+use Rattle.mpy_tree.specs.bc_ops.Table.{code_of, form_of, name_form, number_form, plain_form}
 use Rattle.mpy_tree.specs.declared.module.Constant.TheVariants as constants
 use Rattle.mpy_tree.specs.declared.module.Item.{Item}
 use Rattle.mpy_tree.specs.declared.module.Item.TheVariants as items

@@ -5,9 +5,9 @@ use Rattle.std.proofs.lemmas.Bool.{le-ltb}
 use Rattle.std.proofs.lemmas.Option.{slice_get_within}
 use Rattle.mpy_base.specs.Vuint.{vuint}
 use Rattle.mpy_base.proofs.Groups.{vuint_spells}
-use Rattle.qstr_pool.specs.Pool.{Texts, number_of, text_of}
-use Rattle.qstr_pool.specs.Static.{static_pool, static_number_of}
-use Rattle.qstr_pool.proofs.Places.{found}
+use Rattle.mpy_tree.specs.qstr_pool.Pool.{Texts, number_of, text_of}
+use Rattle.mpy_tree.specs.qstr_pool.Static.{static_pool, static_number_of}
+use Rattle.mpy_tree.proofs.qstr_pool_lemmas.Places.{found}
 use Rattle.mpy_tree.specs.declared.raw.Qstr.{Qstr}
 use Rattle.mpy_tree.specs.Raw as raws
 use Rattle.mpy_tree.specs.File.{IsQstr}

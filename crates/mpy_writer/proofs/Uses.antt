@@ -9,8 +9,8 @@ use Rattle.std.proofs.lemmas.List.Folds.{list_any_at}
 use Rattle.std.proofs.lemmas.Slice.Eq.{bytes_eq-Decides}
 use Rattle.mpy_base.specs.declared.refused.Refused.{Refused}
 use Rattle.mpy_base.specs.declared.limits.TheConstants.{MAX_TABLE}
-use Rattle.qstr_pool.specs.Pool.{Texts, number_of, interned}
-use Rattle.qstr_pool.proofs.Places.{absent}
+use Rattle.mpy_tree.specs.qstr_pool.Pool.{Texts, number_of, interned}
+use Rattle.mpy_tree.proofs.qstr_pool_lemmas.Places.{absent}
 use Rattle.mpy_tree.specs.FirstUse.{FirstUsed}
 use Rattle.mpy_writer.specs.declared.fault.WriteFault.{WriteFault}
 use Rattle.mpy_writer.specs.Outcome.{FaultIs, IfFault, all_interned, PassesTable}

@@ -3,18 +3,18 @@ use Rattle.std.specs.Prelude.{◌≡◌, ◌⊎◌, ℕ, ◌+◌, ◌<◌, List,
 use Rattle.std.specs.List.{AllZip, concat, flat_map, zip}
 use Rattle.mpy_base.specs.Vuint.{vuint}
 use Rattle.mpy_base.specs.declared.limits.TheConstants.{MAX_FILE_BYTES, MAX_TABLE, MAX_CODE_BYTES}
-use Rattle.bc_ops.specs.declared.instr.Op.TheVariants.{LoadConstObj}
-use Rattle.bc_ops.specs.declared.instr.Instr.{Instr}
-use Rattle.bc_ops.specs.declared.instr.Instr.TheVariants as instrs
+use Rattle.mpy_tree.specs.bc_ops.declared.instr.Op.TheVariants.{LoadConstObj}
+use Rattle.mpy_tree.specs.bc_ops.declared.instr.Instr.{Instr}
+use Rattle.mpy_tree.specs.bc_ops.declared.instr.Instr.TheVariants as instrs
 use Rattle.bc_labels.specs.declared.labelled.Labelled.{Labelled}
 use Rattle.bc_labels.specs.declared.labelled.Labelled.TheVariants as labels
 use Rattle.bc_labels.specs.Choice.{IsLayout, IsTooFar, instrs_of}
-use Rattle.bc_prelude.specs.declared.signature.Signature.{Signature}
-use Rattle.bc_prelude.specs.Signature as signatures
-use Rattle.bc_prelude.specs.Size as sizes
-use Rattle.bc_prelude.specs.Names as names
-use Rattle.bc_prelude.specs.Lines.{table_of}
-use Rattle.qstr_pool.specs.Static.{static_number_of}
+use Rattle.mpy_tree.specs.bc_prelude.declared.signature.Signature.{Signature}
+use Rattle.mpy_tree.specs.bc_prelude.Signature as signatures
+use Rattle.mpy_tree.specs.bc_prelude.Size as sizes
+use Rattle.mpy_tree.specs.bc_prelude.Names as names
+use Rattle.mpy_tree.specs.bc_prelude.Lines.{table_of}
+use Rattle.mpy_tree.specs.qstr_pool.Static.{static_number_of}
 use Rattle.mpy_tree.specs.declared.module.Item.{Item}
 use Rattle.mpy_tree.specs.declared.module.Item.TheVariants as items
 use Rattle.mpy_tree.specs.declared.module.Code.{Code, out-Code}

@@ -1,3 +1,5 @@
+pub use Rattle.mpy_tree.specs as mpy_tree
+pub use Rattle.mpy_tree.specs.qstr_pool
 pub mod Codes
 pub mod Ends
 pub mod File

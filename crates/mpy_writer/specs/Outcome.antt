@@ -3,7 +3,7 @@ use Rattle.std.specs.Prelude.{◌≡◌, ℕ, ◌<◌, List, [], length, fold, R
 use Rattle.mpy_base.specs.declared.refused.Refused.{Refused}
 use Rattle.mpy_base.specs.declared.refused.Refused.TheVariants as refused
 use Rattle.mpy_base.specs.declared.limits.TheConstants.{MAX_TABLE}
-use Rattle.qstr_pool.specs.Pool.{Texts, interned}
+use Rattle.mpy_tree.specs.qstr_pool.Pool.{Texts, interned}
 use Rattle.mpy_writer.specs.declared.fault.WriteFault.{WriteFault}
 use Rattle.mpy_writer.specs.declared.fault.WriteFault.TheVariants.{TooManyNames}
 

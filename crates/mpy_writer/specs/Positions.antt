@@ -1,10 +1,10 @@
 -- Items laid out by their positions, without labels.
 use Rattle.std.specs.Prelude.{◌≡◌, ℕ, zero, suc, ◌<◌, List, [], ◌∷◌, ◌++◌, length, map, Bool, true, false, ℤ, pos}
 use Rattle.std.specs.List.{flat_map}
-use Rattle.bc_ops.specs.declared.instr.Instr.{Instr}
-use Rattle.bc_ops.specs.declared.instr.Instr.TheVariants as instrs
-use Rattle.bc_ops.specs.Table.{code_of, form_of}
-use Rattle.bc_ops.specs.Code.{spelling, is_signed, IsEncodable}
+use Rattle.mpy_tree.specs.bc_ops.declared.instr.Instr.{Instr}
+use Rattle.mpy_tree.specs.bc_ops.declared.instr.Instr.TheVariants as instrs
+use Rattle.mpy_tree.specs.bc_ops.Table.{code_of, form_of}
+use Rattle.mpy_tree.specs.bc_ops.Code.{spelling, is_signed, IsEncodable}
 use Rattle.bc_labels.specs.declared.labelled.Labelled.{Labelled}
 use Rattle.bc_labels.specs.declared.labelled.Labelled.TheVariants as labels
 use Rattle.bc_labels.specs.Labels.{HasNoOffset, HasOffset}

@@ -1,7 +1,7 @@
 -- The tables of a module, and the numbers that they give.
 use Rattle.std.specs.Prelude.{◌≡◌, ℕ, ◌≤◌, List, [], length, map, unwrap_or}
 use Rattle.mpy_base.specs.declared.limits.TheConstants.{MAX_TABLE, MAX_DEPTH}
-use Rattle.qstr_pool.specs.Pool.{Texts, number_of}
+use Rattle.mpy_tree.specs.qstr_pool.Pool.{Texts, number_of}
 use Rattle.mpy_tree.specs.declared.module.Constant.{Constant}
 use Rattle.mpy_tree.specs.declared.module.ModuleCode.{ModuleCode}
 use Rattle.mpy_tree.specs.Canonical.{object_bytes}

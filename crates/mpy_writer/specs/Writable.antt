@@ -1,12 +1,12 @@
 -- Modules that may be written.
 use Rattle.std.specs.Prelude.{◌≡◌, ℕ, zero, suc, ◌*◌, ◌^◌, ◌<◌, ◌≤◌, List, [], ◌∷◌, length, All}
 use Rattle.mpy_base.specs.declared.limits.TheConstants.{MAX_TABLE, MAX_DEPTH, MAX_STATE, MAX_HANDLERS, MAX_ARGUMENTS}
-use Rattle.bc_ops.specs.declared.form.Form.TheVariants as forms
-use Rattle.bc_ops.specs.declared.instr.Op.TheVariants.{LoadConstObj}
-use Rattle.bc_ops.specs.declared.instr.Instr.{Instr}
-use Rattle.bc_ops.specs.declared.instr.Instr.TheVariants as instrs
-use Rattle.bc_ops.specs.Table.{code_of, form_of}
-use Rattle.bc_ops.specs.Code.{IsEncodable}
+use Rattle.mpy_tree.specs.bc_ops.declared.form.Form.TheVariants as forms
+use Rattle.mpy_tree.specs.bc_ops.declared.instr.Op.TheVariants.{LoadConstObj}
+use Rattle.mpy_tree.specs.bc_ops.declared.instr.Instr.{Instr}
+use Rattle.mpy_tree.specs.bc_ops.declared.instr.Instr.TheVariants as instrs
+use Rattle.mpy_tree.specs.bc_ops.Table.{code_of, form_of}
+use Rattle.mpy_tree.specs.bc_ops.Code.{IsEncodable}
 use Rattle.bc_labels.specs.Labels.{HasNoOffset, HasOffset}
 use Rattle.mpy_tree.specs.declared.module.Constant.{Constant, out-Constant}
 use Rattle.mpy_tree.specs.declared.module.Constant.TheOpen.{Constant-F}

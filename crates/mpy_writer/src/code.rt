@@ -3,7 +3,7 @@
 ghost use Rattle.std.specs.Prelude.{◌≡◌, ◌++◌, ◌≤◌, ℕ, List, length, map, All, IfOk, OnOk};
 ghost use Rattle.std.specs.List.{AllZip, zip};
 ghost use Rattle.bc_labels.specs.Choice.{IsTooFar};
-ghost use Rattle.bc_prelude.specs.Names.{spelling};
+ghost use Rattle.mpy_tree.specs.bc_prelude.Names.{spelling};
 ghost use Rattle.mpy_tree.specs.Canonical.{changes};
 ghost use Rattle.mpy_writer.specs.File.{labelled, IsOwn, IsBig, IsCodeFault, SomeFar, SomeBig, indexes_of, signature_of, head_bytes, heads};
 ghost use Rattle.mpy_writer.specs.Layouts.{IsLaidOut};
@@ -14,10 +14,10 @@ ghost use Rattle.mpy_writer.specs.Writable.{IsNumberedCode};
 use crate::fault::WriteFault;
 use crate::layout::{Layout, by_positions};
 use crate::tables::Tables;
-use bc_prelude::{Signature, write_lines, write_signature, write_size};
 use mpy_base::limits::MAX_CODE_BYTES;
 use mpy_base::{NoMemory, Refused, write_vuint};
 use mpy_tree::Code;
+use mpy_tree::bc_prelude::{Signature, write_lines, write_signature, write_size};
 use std::alloc::Global;
 
 /// The layout of a code's instructions.

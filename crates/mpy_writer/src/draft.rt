@@ -1,7 +1,7 @@
 //! Instructions where each offset is 0 and takes one byte.
 
 ghost use Rattle.std.specs.Prelude.{◌≡◌, ◌++◌, [], length, flat_map, All, false, pos, IfOk, OnOk};
-ghost use Rattle.bc_ops.specs.Code.{spelling};
+ghost use Rattle.mpy_tree.specs.bc_ops.Code.{spelling};
 ghost use Rattle.bc_labels.specs.Choice.{instr_of};
 ghost use Rattle.mpy_writer.specs.File.{item_of};
 ghost use Rattle.mpy_writer.specs.Positions.{drafted, starts_of};
@@ -11,9 +11,9 @@ ghost use Rattle.mpy_writer.specs.Writable.{IsFine, IsNumberedItem};
 
 use crate::object::object_text;
 use crate::tables::Tables;
-use bc_ops::{Instr, Op, encode};
 use mpy_base::NoMemory;
 use mpy_base::limits::MAX_DEPTH;
+use mpy_tree::bc_ops::{Instr, Op, encode};
 use mpy_tree::{Constant, Item};
 use std::alloc::Global;
 

@@ -1,16 +1,16 @@
 //! Items that name other items by their positions.
 
 ghost use Rattle.std.specs.Prelude.{◌≡◌, ◌↔◌, ◌+◌, ◌*◌, ◌<◌, ◌≤◌, ◌++◌, length, slice_index, flat_map, All, false, true, pos, ◌+ℤ◌, ◌-ℤ◌, ◌≤ℤ◌, ◌<ℤ◌, IsTrue, OnOk};
-ghost use Rattle.bc_ops.specs.Code.{spelling, IsEncodable};
-ghost use Rattle.bc_ops.specs.Offset as offsets;
+ghost use Rattle.mpy_tree.specs.bc_ops.Code.{spelling, IsEncodable};
+ghost use Rattle.mpy_tree.specs.bc_ops.Offset as offsets;
 ghost use Rattle.bc_labels.specs.Places as places;
 ghost use Rattle.mpy_tree.specs.declared.module.Item.{Item};
 ghost use Rattle.mpy_writer.specs.Positions as specs;
 ghost use Rattle.mpy_writer.specs.Positions.{jump_in};
 
-use bc_ops::{Instr, encode, offset_fits};
 use mpy_base::NoMemory;
 use mpy_tree::Item;
+use mpy_tree::bc_ops::{Instr, encode, offset_fits};
 
 /// Does the item name another?
 fn is_jump(item: &Item) -> bool

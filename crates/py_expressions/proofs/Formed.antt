@@ -15,8 +15,7 @@ use Rattle.py_tree.specs.declared.stmt.Target.{Target, out-Target}
 use Rattle.py_tree.specs.Formed as tree
 use Rattle.py_tree.specs.Formed.{is_ascii, expr_formed, target_formed, is_single, is_gone}
 use Rattle.py_tree.proofs.Formed.{both, pair_formed, compared_formed, key_formed, formed_None, formed_True, formed_False, formed_Int, formed_Str, formed_Name, formed_Unary, formed_Binary, formed_Not, formed_Cond, formed_Attr, formed_Index, formed_Tuple, formed_List, formed_And, formed_Or, formed_Compare, formed_Dict, formed_Call, formed_name, formed_attribute, formed_index, formed_unpack, name_is, attribute_is, index_is}
-use Rattle.py_tokens.specs.Formed.{token_formed}
-use Rattle.py_tokens.specs.Formed.{is_number as token_number}
+use Rattle.py_tokens.specs.Formed.{token_formed, is_number as token_number}
 use Rattle.py_expressions.specs.Input.{at}
 use Rattle.py_expressions.specs.Reading.{tuple_of, compared, joined}
 use Rattle.py_expressions.specs.Grammar.{Strings, no_string, string, strings_text, strings_tree}

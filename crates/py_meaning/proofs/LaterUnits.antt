@@ -2,7 +2,7 @@
 use Rattle.std.proofs.Common.{ℕ, suc, ◌+◌, ◌≤◌}
 use Rattle.std.specs.Prelude.{[]}
 use Rattle.mpy_base.specs.Val.{Val, Nil, PlainWorld}
-use Rattle.py_primitives.specs.Faults.{TooDeep}
+use Rattle.py_effects.specs.py_primitives.Faults.{TooDeep}
 use Rattle.py_effects.specs.Effect.{fault_at}
 use Rattle.py_effects.specs.Modules.{make_function}
 use Rattle.py_effects.proofs.Prints.{prints}

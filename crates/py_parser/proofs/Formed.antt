@@ -16,7 +16,7 @@ use Rattle.py_tree.specs.Formed.{has_one, is_ascii, expr_formed, target_formed, 
 use Rattle.py_tree.proofs.Formed.{both}
 use Rattle.py_tree.proofs.Statements as stmts
 use Rattle.py_tree.proofs.Statements.{block_formed, option_block}
-use Rattle.py_tokens.specs.Formed.{token_formed}
+use Rattle.py_tokens.specs.Formed.{token_formed, FormedFrom, AreFormed}
 use Rattle.py_expressions.specs.Input.{at}
 use Rattle.py_expressions.specs.Grammar as e
 use Rattle.py_expressions.specs.Targets as t
@@ -34,7 +34,6 @@ use Rattle.py_parser.specs.declared.clause.Stage.TheVariants.{Branches, Loop, Tr
 use Rattle.py_parser.specs.declared.clause.Parts.{Parts}
 use Rattle.py_parser.specs.Clauses as clauses
 use Rattle.py_parser.specs.Clauses.{may_follow, may_end, first_stage, behind, branch_of, handler_of, no_parts, with_clause, kind_of, param_names, params_fit}
-use Rattle.py_tokens.specs.Formed.{FormedFrom, AreFormed}
 use Rattle.py_parser.specs.Grammar as g
 use Rattle.py_parser.proofs.Names.{is_new_any}
 

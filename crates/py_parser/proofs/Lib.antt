@@ -1,3 +1,4 @@
+pub use Rattle.py_nest.proofs as py_nest_lemmas
 pub mod Below
 pub mod Sounder
 pub mod Stops
@@ -8,6 +9,7 @@ pub mod Headers
 pub mod Whole
 pub mod Tails
 pub mod Names
+pub mod Differ
 pub mod Made
 pub mod Parses
 pub mod Formed

@@ -1,3 +1,4 @@
+pub use Rattle.py_nest.specs as py_nest
 pub mod Clauses
 pub mod Grammar
 pub mod Productions

@@ -1,3 +1,4 @@
+pub use Rattle.py_values.proofs as py_values_lemmas
 mod CallExamples
 mod PrimitiveExamples
 pub mod CallTable

@@ -10,11 +10,10 @@ use Rattle.py_values.specs.Small.{checked}
 use Rattle.py_values.specs.Shown.{PlainHeap}
 use Rattle.py_values.specs.Equality.{equal}
 use Rattle.py_primitives.specs.Texts.{quoted, str_of, repr_of}
-use Rattle.py_primitives.specs.Order.{order}
+use Rattle.py_primitives.specs.Order.{order, Below}
 use Rattle.py_primitives.specs.Faults.{fault_kind, fault_text, NoModule, RelativeImport, IncompatibleFile, BadDefaults, WrongCount, NoKeywords, Unsupported, Arithmetic, OutOfRange, NotAnIndex, NoCode, NoKey}
 use Rattle.py_primitives.specs.Outcome.{Raises, Full, gives, raises, making_fault}
 use Rattle.py_primitives.specs.Operators.{binary, in_place, op_contains, op_is, op_match, op_order, Add, FloorDivide, Multiply}
-use Rattle.py_primitives.specs.Order.{Below}
 use Rattle.py_primitives.specs.Uses.{get_item}
 use Rattle.py_primitives.specs.Calls.{call}
 use Rattle.py_primitives.specs.Methods.{call_method, pieces_between, words_of}

@@ -1,3 +1,4 @@
+pub use Rattle.py_values.specs as py_values
 pub mod Builtins
 pub mod Calls
 pub mod Faults

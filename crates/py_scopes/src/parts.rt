@@ -2,8 +2,7 @@
 
 ghost use Rattle.std.specs.Prelude.{◌≡◌, ◌++◌, OnOk, map};
 ghost use Rattle.std.specs.List.{flat_map};
-ghost use Rattle.py_scopes.specs.Events.{at, acts_of, acts_of_option, target_acts, bound_by, import_acts, optional_name};
-ghost use Rattle.py_scopes.specs.Events.{first_part as first_name};
+ghost use Rattle.py_scopes.specs.Events.{at, acts_of, acts_of_option, target_acts, bound_by, import_acts, optional_name, first_part as first_name};
 ghost use Rattle.py_scopes.specs.declared.event.Act.TheVariants as acts;
 
 use crate::event::{Act, Event};

@@ -7,9 +7,9 @@ use Rattle.mpy_base.specs.declared.source.SourceFault.{SourceFault}
 use Rattle.py_tokens.specs.declared.token.Token.{Token}
 use Rattle.py_tree.specs.declared.stmt.Module.{Module}
 use Rattle.py_tree.specs.declared.stmt.Stmt.{Stmt}
-use Rattle.py_nest.specs.Nest.{nest, Nests, IsTooDeep}
-use Rattle.py_nest.specs.declared.nest.TheConstants.{MAX_NEST}
-use Rattle.py_nest.proofs.Shortest.{nests_more, nests_all, too_deep}
+use Rattle.py_parser.specs.py_nest.Nest.{nest, Nests, IsTooDeep}
+use Rattle.py_parser.specs.py_nest.declared.nest.TheConstants.{MAX_NEST}
+use Rattle.py_parser.proofs.py_nest_lemmas.Shortest.{nests_more, nests_all, too_deep}
 use Rattle.py_expressions.specs.Input.{Outcome}
 use Rattle.py_statements.specs.Reading.{line_at}
 use Rattle.py_parser.specs.Grammar.{IsTree}

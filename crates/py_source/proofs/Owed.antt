@@ -7,7 +7,7 @@ use Rattle.mpy_base.specs.declared.refused.Refused.TheVariants as refused
 use Rattle.py_tokens.specs.declared.token.Token.{Token}
 use Rattle.py_tokens.specs.Tokens as tokens
 use Rattle.py_tree.specs.declared.stmt.Module.{Module}
-use Rattle.py_nest.specs.Nest.{Nests}
+use Rattle.py_parser.specs.py_nest.Nest.{Nests}
 use Rattle.py_parser.specs.Grammar.{IsTree}
 use Rattle.py_parser.specs.Parsed as parsed
 use Rattle.py_scopes.specs.Scopes as names

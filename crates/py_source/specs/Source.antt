@@ -3,7 +3,7 @@ use Rattle.std.specs.Prelude.{◌≡◌, ◌⊎◌, ℕ, List}
 use Rattle.mpy_base.specs.declared.source.SourceFault.{SourceFault}
 use Rattle.py_tokens.specs.declared.token.Token.{Token}
 use Rattle.py_tokens.specs.Tokens as tokens
-use Rattle.py_nest.specs.Nest.{Nests}
+use Rattle.py_parser.specs.py_nest.Nest.{Nests}
 use Rattle.py_tree.specs.declared.stmt.Module.{Module}
 use Rattle.py_parser.specs.Grammar.{IsTree}
 use Rattle.py_parser.specs.Parsed as parser

@@ -7,7 +7,7 @@ ghost use Rattle.py_tokens.specs.declared.token.Token.{Token};
 ghost use Rattle.py_tokens.specs.Tokens.{IsTokens};
 ghost use Rattle.py_tree.specs.declared.stmt.Module.{Module as Tree};
 ghost use Rattle.py_tree.specs.Formed.{IsFormed};
-ghost use Rattle.py_nest.specs.Nest.{Nests};
+ghost use Rattle.py_parser.specs.py_nest.Nest.{Nests};
 ghost use Rattle.py_parser.specs.Grammar.{IsTree};
 ghost use Rattle.py_parser.specs.Parsed.{IsFault};
 ghost use Rattle.py_scopes.specs.Scopes as names;

@@ -188,12 +188,26 @@ fn texts() -> &'static [&'static [u8]]
     &STATIC_TEXTS
 }
 
+/// Is it this text? Most others are told apart by their lengths and first bytes.
+#[inline(always)]
+fn is_same(text: &[u8], known: &[u8]) -> bool
+    ensures { result ≡ bytes_eq text.now known.now }
+{
+    if text.len() != known.len() {
+        return false;
+    }
+    if !text.is_empty() && text[0] != known[0] {
+        return false;
+    }
+    text == known
+}
+
 /// The place of the first of the texts that is this one.
 fn place_of(texts: &[&[u8]], text: &[u8]) -> Option<usize>
     ensures place { result ≡ position (λ known. bytes_eq text.now known.now) texts.now }
     ensures within { IfSome result (λ place. place < length texts.now) }
 {
-    texts.iter().position(|known| text == *known)
+    texts.iter().position(|known| is_same(text, known))
 }
 
 /// The text of the number. Numbers count from 1.

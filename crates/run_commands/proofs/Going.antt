@@ -7,17 +7,17 @@ use Rattle.mpy_base.specs.Fault.{too_long}
 use Rattle.mpy_io.specs.declared.fault.ReadFault.{ReadFault as FolderFault}
 use Rattle.mpy_io.specs.declared.fault.ReadFault.TheVariants.{TooLong}
 use Rattle.mpy_io.specs.Files.{FileOf, Reads}
-use Rattle.mpy_tree.specs.Raw.{Module}
+use Rattle.bc_library.specs.mpy_tree.Raw.{Module}
 use Rattle.bc_library.specs.Shelf.{Shelf}
 use Rattle.library_files.specs.declared.limit.LoadFault.{LoadFault}
 use Rattle.library_files.specs.declared.limit.LoadFault.TheVariants as faults
 use Rattle.library_files.specs.Ends.{EndsIn, FailsAmong}
 use Rattle.library_files.specs.Loads as loads
 use Rattle.library_files.specs.Loads.{Loading}
-use Rattle.command_files.specs.source_files.Sources.{stored, source_ending, IsModuleOf, SourceComesTo, LoadsFromSources}
-use Rattle.command_files.specs.mpy_endings.declared.ending.Ending.{Ending}
-use Rattle.command_files.specs.mpy_endings.declared.ending.Ending.TheVariants.{Done, Unaccepted, Unread, Unverified, Unmerged, Unopened, Unfrozen, Unboarded, Stopped, ReadFault, WriteFault, Unwritten, NoMemory, Absent}
-use Rattle.command_files.specs.mpy_endings.declared.ending.Stop.TheVariants.{Past, LibraryFault, LibraryUnaccepted, Raised, Memory, Steps}
+use Rattle.source_files.specs.Sources.{stored, source_ending, IsModuleOf, SourceComesTo, LoadsFromSources}
+use Rattle.mpy_endings.specs.declared.ending.Ending.{Ending}
+use Rattle.mpy_endings.specs.declared.ending.Ending.TheVariants.{Done, Unaccepted, Unread, Unverified, Unmerged, Unopened, Unfrozen, Unboarded, Different, Stopped, ReadFault, WriteFault, Unwritten, NoMemory, Absent}
+use Rattle.mpy_endings.specs.declared.ending.Stop.TheVariants.{Past, LibraryFault, LibraryUnaccepted, Raised, Memory, Steps}
 use Rattle.run_commands.specs.Base.{base_of}
 use Rattle.command_files.specs.Folder.{MayHold}
 use Rattle.run_commands.specs.Go.{HoldsSource, SourceLoadsOf, RefusesSources}
@@ -75,6 +75,7 @@ sources_unloaded level files name (Unmerged fault) h = absurd h
 sources_unloaded level files name (Unopened fault) h = absurd h
 sources_unloaded level files name (Unfrozen fault) h = absurd h
 sources_unloaded level files name (Unboarded fault) h = absurd h
+sources_unloaded level files name (Different difference) h = absurd h
 sources_unloaded level files name (Stopped (Past limit)) h = tt
 sources_unloaded level files name (Stopped (LibraryFault path)) h = tt
 sources_unloaded level files name (Stopped (LibraryUnaccepted source)) h = tt

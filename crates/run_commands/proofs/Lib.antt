@@ -1,5 +1,3 @@
-pub use Rattle.command_files.proofs.mpy_endings_lemmas
-pub use Rattle.command_files.proofs as command_files_lemmas
 pub mod Bases
 pub mod Running
 pub mod Going

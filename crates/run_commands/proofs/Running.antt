@@ -9,32 +9,29 @@ use Rattle.mpy_io.specs.Count.{Counts}
 use Rattle.mpy_io.specs.declared.fault.Failed.{Failed}
 use Rattle.mpy_io.specs.Files.{FileOf}
 use Rattle.mpy_io.specs.Ports.{PortView}
-use Rattle.mpy_tree.specs.Raw.{Module}
+use Rattle.bc_library.specs.mpy_tree.Raw.{Module}
 use Rattle.bc_library.specs.Shelf.{Shelf}
 use Rattle.library_files.specs.declared.limit.LoadFault.{LoadFault}
 use Rattle.library_files.specs.declared.limit.LoadFault.TheVariants as faults
 use Rattle.library_files.specs.Ends.{EndsIn, FailsInBase, is_failed}
 use Rattle.library_files.specs.Loads.{Loading, LoadsFrom}
-use Rattle.command_files.specs.image_runs.declared.fault.MainFault.TheVariants as mains
-use Rattle.frozen_faults.specs.declared.fault.SourcesFault.TheVariants as sources
-use Rattle.frozen_faults.specs.declared.fault.FrozenFault.TheVariants as frozen
 use Rattle.library_runs.specs.declared.ending.RunEnd.{RunEnd}
 use Rattle.library_runs.specs.declared.ending.RunEnd.TheVariants as ends
 use Rattle.library_runs.specs.Runs.{Sight, IsOver, RunsAs, is_write_fault, sight, speaks}
-use Rattle.command_files.specs.mpy_endings.declared.ending.BoardFault.TheVariants as boards
-use Rattle.command_files.specs.mpy_endings.declared.ending.Ending.{Ending}
-use Rattle.command_files.specs.mpy_endings.declared.ending.Ending.TheVariants.{Done, Unaccepted, Unread, Unverified, Unmerged, Unopened, Unfrozen, Unboarded, Stopped, ReadFault, WriteFault, Unwritten, NoMemory, Absent}
-use Rattle.command_files.specs.mpy_endings.declared.ending.Stop.TheVariants.{Past, LibraryFault, LibraryUnaccepted, Raised, Memory, Steps}
+use Rattle.mpy_endings.specs.declared.ending.Ending.{Ending}
+use Rattle.mpy_endings.specs.declared.ending.Ending.TheVariants.{Done, Unaccepted, Unread, Unverified, Unmerged, Unopened, Unfrozen, Unboarded, Different, Stopped, ReadFault, WriteFault, Unwritten, NoMemory, Absent}
+use Rattle.mpy_endings.specs.declared.ending.Stop.TheVariants.{Past, LibraryFault, LibraryUnaccepted, Raised, Memory, Steps}
 use Rattle.run_commands.specs.Base.{base_of}
-use Rattle.command_files.specs.mpy_endings.Ending.{is_folder_fault, is_out_fault, is_said, status_of}
+use Rattle.mpy_endings.specs.Ending.{IsRunStatus, is_folder_fault, is_out_fault, is_said, status_of}
 use Rattle.command_files.specs.Folder.{MayHold}
-use Rattle.command_files.specs.mpy_endings.Line.{Puts, Says, line_of}
+use Rattle.mpy_endings.specs.Line.{Puts, Says, line_of}
 use Rattle.command_files.specs.Opened.{Opens, Refuses, failed_in}
 use Rattle.run_commands.specs.declared.ready.Ready.{Ready}
 use Rattle.command_files.specs.Outside.{Outside}
 use Rattle.run_commands.specs.Ready.{OpensMain}
 use Rattle.run_commands.specs.Run.{HoldsMain, LoadsOf, RefusesLibrary, IsUnloaded, Untouched, Runs, EndsRun, sight_in, load_end, ending_of}
-use Rattle.command_files.proofs.mpy_endings_lemmas.Said.{says_from}
+use Rattle.mpy_endings.proofs.Said.{says_from}
+use Rattle.mpy_endings.proofs.Statuses.{none_run, not_eight, not_nine}
 use Rattle.command_files.proofs.Verifying.{opened_err}
 
 -- the main file
@@ -56,6 +53,7 @@ refuses_library files name (Unmerged fault) h = absurd h
 refuses_library files name (Unopened fault) h = absurd h
 refuses_library files name (Unfrozen fault) h = absurd h
 refuses_library files name (Unboarded fault) h = absurd h
+refuses_library files name (Different difference) h = absurd h
 refuses_library files name (Stopped stop) h = absurd h
 refuses_library files name ReadFault h = tt
 refuses_library files name WriteFault h = absurd h
@@ -95,6 +93,7 @@ refused_unloaded files name (Unmerged fault) h = absurd h
 refused_unloaded files name (Unopened fault) h = absurd h
 refused_unloaded files name (Unfrozen fault) h = absurd h
 refused_unloaded files name (Unboarded fault) h = absurd h
+refused_unloaded files name (Different difference) h = absurd h
 refused_unloaded files name (Stopped (Past limit)) h = tt
 refused_unloaded files name (Stopped (LibraryFault path)) h = tt
 refused_unloaded files name (Stopped (LibraryUnaccepted source)) h = absurd h
@@ -144,6 +143,7 @@ module _ (Comes : Result Ready Ending → Type 0) (room : Room) (steps : ℕ) (o
   not_loaded (Unopened fault) u h e s = (h, untouched e s)
   not_loaded (Unfrozen fault) u h e s = absurd u
   not_loaded (Unboarded fault) u h e s = absurd u
+  not_loaded (Different difference) u h e s = absurd u
   not_loaded (Stopped (Past limit)) u h e s = (h, untouched e s)
   not_loaded (Stopped (LibraryFault path)) u h e s = (h, untouched e s)
   not_loaded (Stopped (LibraryUnaccepted source)) u h e s = (h, untouched e s)
@@ -166,6 +166,7 @@ module _ (Comes : Result Ready Ending → Type 0) (room : Room) (steps : ℕ) (o
   unsaid (Unopened fault) r e = r.1.says
   unsaid (Unfrozen fault) r e = absurd r
   unsaid (Unboarded fault) r e = absurd r
+  unsaid (Different difference) r e = absurd r
   unsaid (Stopped (Past limit)) r e = r.1.says
   unsaid (Stopped (LibraryFault path)) r e = r.1.says
   unsaid (Stopped (LibraryUnaccepted source)) r e = r.1.says
@@ -189,6 +190,7 @@ module _ (Comes : Result Ready Ending → Type 0) (room : Room) (steps : ℕ) (o
     runs_known (Unopened fault) r = (known (Err (Unopened fault)) r.0, r.1)
     runs_known (Unfrozen fault) r = absurd r
     runs_known (Unboarded fault) r = absurd r
+    runs_known (Different difference) r = absurd r
     runs_known (Stopped (Past limit)) r = (known (Err (Stopped (Past limit))) r.0, r.1)
     runs_known (Stopped (LibraryFault path)) r = (known (Err (Stopped (LibraryFault path))) r.0, r.1)
     runs_known (Stopped (LibraryUnaccepted source)) r = (known (Err (Stopped (LibraryUnaccepted source))) r.0, r.1)
@@ -242,6 +244,7 @@ unloaded_quiet (Unmerged fault) h = refl
 unloaded_quiet (Unopened fault) h = refl
 unloaded_quiet (Unfrozen fault) h = refl
 unloaded_quiet (Unboarded fault) h = refl
+unloaded_quiet (Different difference) h = refl
 unloaded_quiet (Stopped stop) h = refl
 unloaded_quiet ReadFault h = refl
 unloaded_quiet WriteFault h = absurd h
@@ -249,8 +252,17 @@ unloaded_quiet Unwritten h = refl
 unloaded_quiet NoMemory h = refl
 unloaded_quiet Absent h = refl
 
-pub unloaded_undone : (ending : Ending) → IsUnloaded ending → ending ≡ Done → ⊥
-unloaded_undone ending h e = subst IsUnloaded e h
+pub unloaded_unrun : (ending : Ending) → IsUnloaded ending → IsRunStatus (status_of ending) → ⊥
+unloaded_unrun ending h s = none_run IsUnloaded (λ p. p) (λ p. p) (λ p. p) (λ count p. p) ending h s
+
+-- a run with the status of one was made
+pub run_over : (end : RunEnd) (steps : ℕ) (ending : Ending) → ending ≡ ending_of end steps → IsRunStatus (status_of ending) → IsOver end
+run_over ends.Ended steps ending is s = tt
+run_over ends.Raised steps ending is s = tt
+run_over ends.Memory steps ending is s = tt
+run_over ends.Limit steps ending is s = tt
+run_over ends.WriteFault steps ending is s = not_eight (subst (λ (e : Ending). IsRunStatus (status_of e)) is s)
+run_over ends.NoMemory steps ending is s = not_nine (subst (λ (e : Ending). IsRunStatus (status_of e)) is s)
 
 -- what is said
 -- ============
@@ -280,6 +292,7 @@ said_line name (Unmerged fault) e = absurd cc
 said_line name (Unopened fault) e = absurd cc
 said_line name (Unfrozen fault) e = absurd cc
 said_line name (Unboarded fault) e = absurd cc
+said_line name (Different difference) e = absurd cc
 said_line name (Stopped (Past limit)) e = absurd cc
 said_line name (Stopped (LibraryFault path)) e = absurd cc
 said_line name (Stopped (LibraryUnaccepted source)) e = absurd cc
@@ -298,35 +311,6 @@ pub said_all : (a b c : Option (List ℕ)) (k l m : ℕ) (name said : List ℕ) 
     → Says a c k m (said ++ line_of name ending)
 said_all a b c k l m name said ending r none same s p =
     by_said (is_said ending) a b c k l m said (line_of name ending) r none (λ e. ((same e).0, (same e).1, said_line name ending e)) s p
-
--- only what is done has status 0
-pub status_zero : (ending : Ending) → status_of ending ≡ 0 → ending ≡ Done
-status_zero Done e = refl
-status_zero (Unaccepted fault) e = absurd cc
-status_zero (Unread fault) e = absurd cc
-status_zero (Unverified fault) e = absurd cc
-status_zero (Unmerged fault) e = absurd cc
-status_zero (Unopened (mains.Image fault)) e = absurd cc
-status_zero (Unopened (mains.NoMain name)) e = absurd cc
-status_zero (Unfrozen (frozen.Sources (sources.Manifest fault))) e = absurd cc
-status_zero (Unfrozen (frozen.Sources (sources.Absent name))) e = absurd cc
-status_zero (Unfrozen (frozen.Sources (sources.Unaccepted name fault))) e = absurd cc
-status_zero (Unfrozen (frozen.Sources (sources.Unread name))) e = absurd cc
-status_zero (Unfrozen (frozen.Image fault)) e = absurd cc
-status_zero (Unboarded (boards.Plan fault)) e = absurd cc
-status_zero (Unboarded (boards.NoModule name)) e = absurd cc
-status_zero (Unboarded (boards.Unwritten task)) e = absurd cc
-status_zero (Stopped (Past limit)) e = absurd cc
-status_zero (Stopped (LibraryFault path)) e = absurd cc
-status_zero (Stopped (LibraryUnaccepted source)) e = absurd cc
-status_zero (Stopped Raised) e = absurd cc
-status_zero (Stopped Memory) e = absurd cc
-status_zero (Stopped (Steps count)) e = absurd cc
-status_zero ReadFault e = absurd cc
-status_zero WriteFault e = absurd cc
-status_zero Unwritten e = absurd cc
-status_zero NoMemory e = absurd cc
-status_zero Absent e = absurd cc
 
 -- where neither the sink nor the ports changed, they tell the same
 pub same_sight : {S P : Type 0} (told : S → Option (List ℕ)) (seen : P → PortView) (a b : S) (ps qs : List P) → b ≡ a → qs ≡ ps → sight told seen b qs ≡ sight told seen a ps

@@ -3,9 +3,9 @@ use Rattle.std.proofs.Common.{◌≡◌, ℕ, Bool, true, false, List, Option, S
 use Rattle.std.specs.Prelude.{IfOk, IfErr}
 use Rattle.mpy_io.specs.Files.{FileOf}
 use Rattle.bc_library.specs.Shelf.{Shelf}
-use Rattle.command_files.specs.mpy_endings.declared.ending.Ending.{Ending}
-use Rattle.command_files.specs.mpy_endings.declared.ending.Ending.TheVariants.{Done, Unaccepted, Unread, Unverified, Unmerged, Unopened, Unfrozen, Unboarded, Stopped, ReadFault, WriteFault, Unwritten, NoMemory, Absent}
-use Rattle.command_files.specs.mpy_endings.Ending.{is_folder_fault}
+use Rattle.mpy_endings.specs.declared.ending.Ending.{Ending}
+use Rattle.mpy_endings.specs.declared.ending.Ending.TheVariants.{Done, Unaccepted, Unread, Unverified, Unmerged, Unopened, Unfrozen, Unboarded, Different, Stopped, ReadFault, WriteFault, Unwritten, NoMemory, Absent}
+use Rattle.mpy_endings.specs.Ending.{is_folder_fault}
 use Rattle.run_commands.specs.declared.ready.Ready.{Ready}
 use Rattle.command_files.specs.Folder.{MayHold, IsNotRead}
 use Rattle.command_files.specs.Opened.{failed_in}
@@ -24,6 +24,7 @@ unread_unloaded files name (Unmerged fault) h = absurd h
 unread_unloaded files name (Unopened fault) h = absurd h
 unread_unloaded files name (Unfrozen fault) h = absurd h
 unread_unloaded files name (Unboarded fault) h = absurd h
+unread_unloaded files name (Different difference) h = absurd h
 unread_unloaded files name (Stopped stop) h = absurd h
 unread_unloaded files name ReadFault h = tt
 unread_unloaded files name WriteFault h = absurd h
@@ -51,36 +52,37 @@ first_unloaded loaded (Err ending) h err = subst (λ (r : Result Shelf Ending). 
 -- an image
 -- ========
 
-image_refused : (main bytes : List ℕ) (ending : Ending) → ImageStart main bytes (Err ending) → IsUnloaded ending × (is_folder_fault ending ≡ false)
-image_refused main bytes Done h = absurd h
-image_refused main bytes (Unaccepted fault) h = absurd h
-image_refused main bytes (Unread fault) h = absurd h
-image_refused main bytes (Unverified fault) h = absurd h
-image_refused main bytes (Unmerged fault) h = absurd h
-image_refused main bytes (Unopened fault) h = (tt, refl)
-image_refused main bytes (Unfrozen fault) h = absurd h
-image_refused main bytes (Unboarded fault) h = absurd h
-image_refused main bytes (Stopped stop) h = absurd h
-image_refused main bytes ReadFault h = absurd h
-image_refused main bytes WriteFault h = absurd h
-image_refused main bytes Unwritten h = absurd h
-image_refused main bytes NoMemory h = (tt, refl)
-image_refused main bytes Absent h = absurd h
+module _ (below : Shelf) (main bytes : List ℕ) where
+  image_refused : (ending : Ending) → ImageStart below main bytes (Err ending) → IsUnloaded ending × (is_folder_fault ending ≡ false)
+  image_refused Done h = absurd h
+  image_refused (Unaccepted fault) h = absurd h
+  image_refused (Unread fault) h = absurd h
+  image_refused (Unverified fault) h = absurd h
+  image_refused (Unmerged fault) h = absurd h
+  image_refused (Unopened fault) h = (tt, refl)
+  image_refused (Unfrozen fault) h = absurd h
+  image_refused (Unboarded fault) h = absurd h
+  image_refused (Different difference) h = absurd h
+  image_refused (Stopped stop) h = absurd h
+  image_refused ReadFault h = absurd h
+  image_refused WriteFault h = absurd h
+  image_refused Unwritten h = absurd h
+  image_refused NoMemory h = (tt, refl)
+  image_refused Absent h = absurd h
 
-pub image_unloaded : (main bytes : List ℕ) (result : Result Ready Ending) → ImageStart main bytes result → IfErr result IsUnloaded
-image_unloaded main bytes (Ok ready) h = tt
-image_unloaded main bytes (Err ending) h = (image_refused main bytes ending h).0
+  pub image_unloaded : (result : Result Ready Ending) → ImageStart below main bytes result → IfErr result IsUnloaded
+  image_unloaded (Ok ready) h = tt
+  image_unloaded (Err ending) h = (image_refused ending h).0
 
-pub image_counted : (main bytes : List ℕ) (result : Result Ready Ending) → ImageStart main bytes result → failed_in result ≡ false
-image_counted main bytes (Ok ready) h = refl
-image_counted main bytes (Err ending) h = (image_refused main bytes ending h).1
+  pub image_counted : (result : Result Ready Ending) → ImageStart below main bytes result → failed_in result ≡ false
+  image_counted (Ok ready) h = refl
+  image_counted (Err ending) h = (image_refused ending h).1
 
-pub image_run : (main word : List ℕ) (files : Option FileOf) (name bytes read : List ℕ) (begins : Bool) (result : Result Ready Ending) → read ≡ bytes → word ≡ main → MayHold files name (Some bytes)
-    → begins ≡ begins_image read → begins ≡ true → ImageStart word read result → RunLibrary main files name result
-image_run main word files name bytes read begins result e f holds is true_is h =
-    of_image bytes holds (sym (is ∙ ap begins_image e) ∙ true_is)
-    (subst (λ (m : List ℕ). ImageStart m bytes result) f (subst (λ (b : List ℕ). ImageStart word b result) e h))
+module _ (below : Shelf) (main : List ℕ) (files : Option FileOf) (name bytes read : List ℕ) (begins : Bool) (result : Result Ready Ending) where
+  pub image_run : (word : List ℕ) → read ≡ bytes → word ≡ main → MayHold files name (Some bytes) → begins ≡ begins_image read → begins ≡ true → ImageStart below word read result → RunLibrary below main files name result
+  image_run word e f holds is true_is h =
+      of_image bytes holds (sym (is ∙ ap begins_image e) ∙ true_is)
+      (subst (λ (m : List ℕ). ImageStart below m bytes result) f (subst (λ (b : List ℕ). ImageStart below word b result) e h))
 
-pub file_run : (main : List ℕ) (files : Option FileOf) (name bytes read : List ℕ) (begins : Bool) (result : Result Ready Ending) → read ≡ bytes → MayHold files name (Some bytes)
-    → begins ≡ begins_image read → begins ≡ false → FirstOf (FileLibrary files name) result → RunLibrary main files name result
-file_run main files name bytes read begins result e holds is false_is h = of_file bytes holds (sym (is ∙ ap begins_image e) ∙ false_is) h
+  pub file_run : read ≡ bytes → MayHold files name (Some bytes) → begins ≡ begins_image read → begins ≡ false → FirstOf (FileLibrary files name) result → RunLibrary below main files name result
+  file_run e holds is false_is h = of_file bytes holds (sym (is ∙ ap begins_image e) ∙ false_is) h

@@ -1,18 +1,18 @@
 -- Which library a source has.
 use Rattle.std.specs.Prelude.{ℕ, List, Contains, Option, Some, None, IfSome, Result, Ok, Err}
 use Rattle.mpy_io.specs.Files.{FileOf}
-use Rattle.mpy_tree.specs.Raw.{Module}
+use Rattle.bc_library.specs.mpy_tree.Raw.{Module}
 use Rattle.bc_library.specs.Shelf.{Shelf}
 use Rattle.pkg_paths.specs.Plain.{IsPlain}
 use Rattle.pkg_paths.specs.Paths.{candidates}
-use Rattle.command_files.specs.mpy_compile.Compiled.{IsFault}
+use Rattle.mpy_compile.specs.Compiled.{IsFault}
 use Rattle.library_files.specs.declared.limit.UnacceptedSource.{UnacceptedSource}
 use Rattle.library_files.specs.Loads as loads
 use Rattle.library_files.specs.Loads.{Loading, Loaded}
-use Rattle.command_files.specs.source_files.Sources.{stored, source_ending, IsModuleOf, LoadsFromSources}
-use Rattle.command_files.specs.mpy_endings.declared.ending.Ending.{Ending}
-use Rattle.command_files.specs.mpy_endings.declared.ending.Ending.TheVariants.{Done, Unaccepted, Unread, Unverified, Unmerged, Unopened, Unfrozen, Unboarded, Stopped, ReadFault, WriteFault, Unwritten, NoMemory, Absent}
-use Rattle.command_files.specs.mpy_endings.declared.ending.Stop.TheVariants.{Past, LibraryFault, LibraryUnaccepted, Raised, Memory, Steps}
+use Rattle.source_files.specs.Sources.{stored, source_ending, IsModuleOf, LoadsFromSources}
+use Rattle.mpy_endings.specs.declared.ending.Ending.{Ending}
+use Rattle.mpy_endings.specs.declared.ending.Ending.TheVariants.{Done, Unaccepted, Unread, Unverified, Unmerged, Unopened, Unfrozen, Unboarded, Different, Stopped, ReadFault, WriteFault, Unwritten, NoMemory, Absent}
+use Rattle.mpy_endings.specs.declared.ending.Stop.TheVariants.{Past, LibraryFault, LibraryUnaccepted, Raised, Memory, Steps}
 use Rattle.run_commands.specs.Base.{base_of}
 use Rattle.command_files.specs.Source.{HoldsFaulty}
 use Rattle.command_files.specs.Folder.{MayHold}
@@ -50,6 +50,7 @@ RefusesSources level files name (Unmerged fault) = ⊥
 RefusesSources level files name (Unopened fault) = ⊥
 RefusesSources level files name (Unfrozen fault) = ⊥
 RefusesSources level files name (Unboarded fault) = ⊥
+RefusesSources level files name (Different difference) = ⊥
 RefusesSources level files name (Stopped (Past limit)) = SourceLoadsOf level files name (loads.Past limit)
 RefusesSources level files name (Stopped (LibraryFault path)) = IsOfSources name path
 RefusesSources level files name (Stopped (LibraryUnaccepted source)) = SourceLoadsOf level files name (loads.Unaccepted source) × IsFaultyOf level name source

@@ -1,14 +1,14 @@
 -- Which library a command has, and its main module.
 use Rattle.std.specs.Prelude.{◌≡◌, ℕ, Bool, true, false, List, [], ◌∷◌, length, ◌==◌, ◌&&◌, Option, Some, Result, Ok, Err}
 use Rattle.mpy_io.specs.Files.{FileOf}
-use Rattle.mpy_tree.specs.Raw.{Module}
-use Rattle.mpy_tree.specs.File.{IsFile}
-use Rattle.bc_verify.specs.Verified.{IsVerified}
+use Rattle.bc_library.specs.mpy_tree.Raw.{Module}
+use Rattle.bc_library.specs.mpy_tree.File.{IsFile}
+use Rattle.bc_library.specs.bc_verify.Verified.{IsVerified}
 use Rattle.bc_library.specs.Shelf.{Shelf}
 use Rattle.library_files.specs.Loads.{main_name}
-use Rattle.command_files.specs.image_runs.Main.{HoldsMain, RefusesMain}
-use Rattle.command_files.specs.mpy_endings.declared.ending.Ending.{Ending}
-use Rattle.command_files.specs.mpy_endings.declared.ending.Ending.TheVariants.{Done, Unaccepted, Unread, Unverified, Unmerged, Unopened, Unfrozen, Unboarded, Stopped, ReadFault, WriteFault, Unwritten, NoMemory, Absent}
+use Rattle.image_runs.specs.Main.{HoldsMain, RefusesMain}
+use Rattle.mpy_endings.specs.declared.ending.Ending.{Ending}
+use Rattle.mpy_endings.specs.declared.ending.Ending.TheVariants.{Done, Unaccepted, Unread, Unverified, Unmerged, Unopened, Unfrozen, Unboarded, Different, Stopped, ReadFault, WriteFault, Unwritten, NoMemory, Absent}
 use Rattle.run_commands.specs.declared.ready.Ready.{Ready}
 use Rattle.command_files.specs.Folder.{MayHold, IsNotRead}
 use Rattle.run_commands.specs.Go.{SourceLibrary}
@@ -43,27 +43,28 @@ begins_image [] = false
 begins_image (first ∷ []) = false
 begins_image (first ∷ second ∷ rest) = first == 0x4d && second == 0x49
 
--- the library of an image with the main module of this name, or what keeps it from being run
-abbrev pub ImageStart : (main bytes : List ℕ) → Result Ready Ending → Type 0
-ImageStart main bytes (Ok ready) = HoldsMain bytes main ready.library ready.place × (ready.main ≡ main)
-ImageStart main bytes (Err (Unopened fault)) = RefusesMain bytes main fault
-ImageStart main bytes (Err NoMemory) = Unit {0}
-ImageStart main bytes (Err Done) = ⊥
-ImageStart main bytes (Err (Unaccepted fault)) = ⊥
-ImageStart main bytes (Err (Unread fault)) = ⊥
-ImageStart main bytes (Err (Unverified fault)) = ⊥
-ImageStart main bytes (Err (Unmerged fault)) = ⊥
-ImageStart main bytes (Err (Unfrozen fault)) = ⊥
-ImageStart main bytes (Err (Unboarded fault)) = ⊥
-ImageStart main bytes (Err (Stopped stop)) = ⊥
-ImageStart main bytes (Err ReadFault) = ⊥
-ImageStart main bytes (Err WriteFault) = ⊥
-ImageStart main bytes (Err Unwritten) = ⊥
-ImageStart main bytes (Err Absent) = ⊥
+-- the library of an image over the library below with the main module of this name, of either, or what keeps it from being run
+abbrev pub ImageStart : (below : Shelf) → (main bytes : List ℕ) → Result Ready Ending → Type 0
+ImageStart below main bytes (Ok ready) = HoldsMain below bytes main ready.library ready.place × (ready.main ≡ main)
+ImageStart below main bytes (Err (Unopened fault)) = RefusesMain below bytes main fault
+ImageStart below main bytes (Err NoMemory) = Unit {0}
+ImageStart below main bytes (Err Done) = ⊥
+ImageStart below main bytes (Err (Unaccepted fault)) = ⊥
+ImageStart below main bytes (Err (Unread fault)) = ⊥
+ImageStart below main bytes (Err (Unverified fault)) = ⊥
+ImageStart below main bytes (Err (Unmerged fault)) = ⊥
+ImageStart below main bytes (Err (Unfrozen fault)) = ⊥
+ImageStart below main bytes (Err (Unboarded fault)) = ⊥
+ImageStart below main bytes (Err (Different difference)) = ⊥
+ImageStart below main bytes (Err (Stopped stop)) = ⊥
+ImageStart below main bytes (Err ReadFault) = ⊥
+ImageStart below main bytes (Err WriteFault) = ⊥
+ImageStart below main bytes (Err Unwritten) = ⊥
+ImageStart below main bytes (Err Absent) = ⊥
 
--- the library of the file under the name: of an image where its bytes begin as one, with the main module of that name, and else of a
--- file. Or what keeps it from being run
-pub data RunLibrary (main : List ℕ) (files : Option FileOf) (name : List ℕ) (answer : Result Ready Ending) : Type 0 where
-  not_read : (ending : Ending) → IsNotRead files name ending → answer ≡ Err ending → RunLibrary main files name answer
-  of_file : (bytes : List ℕ) → MayHold files name (Some bytes) → begins_image bytes ≡ false → FirstOf (FileLibrary files name) answer → RunLibrary main files name answer
-  of_image : (bytes : List ℕ) → MayHold files name (Some bytes) → begins_image bytes ≡ true → ImageStart main bytes answer → RunLibrary main files name answer
+-- the library of the file under the name: of an image over the library below where its bytes begin as one, with the main module of that
+-- name, and else of a file, which has no use for what lies below. Or what keeps it from being run
+pub data RunLibrary (below : Shelf) (main : List ℕ) (files : Option FileOf) (name : List ℕ) (answer : Result Ready Ending) : Type 0 where
+  not_read : (ending : Ending) → IsNotRead files name ending → answer ≡ Err ending → RunLibrary below main files name answer
+  of_file : (bytes : List ℕ) → MayHold files name (Some bytes) → begins_image bytes ≡ false → FirstOf (FileLibrary files name) answer → RunLibrary below main files name answer
+  of_image : (bytes : List ℕ) → MayHold files name (Some bytes) → begins_image bytes ≡ true → ImageStart below main bytes answer → RunLibrary below main files name answer

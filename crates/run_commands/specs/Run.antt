@@ -5,9 +5,9 @@ use Rattle.mpy_base.specs.declared.room.Room.{Room}
 use Rattle.mpy_io.specs.Count.{Counts}
 use Rattle.mpy_io.specs.Files.{FileOf}
 use Rattle.mpy_io.specs.Ports.{PortView}
-use Rattle.mpy_tree.specs.Raw.{Module}
-use Rattle.mpy_tree.specs.File.{IsFile}
-use Rattle.bc_verify.specs.Verified.{IsVerified}
+use Rattle.bc_library.specs.mpy_tree.Raw.{Module}
+use Rattle.bc_library.specs.mpy_tree.File.{IsFile}
+use Rattle.bc_library.specs.bc_verify.Verified.{IsVerified}
 use Rattle.bc_library.specs.Shelf.{Shelf}
 use Rattle.mpy_base.specs.declared.refused.Refused.{Refused}
 use Rattle.mpy_base.specs.declared.refused.Refused.TheVariants as refused
@@ -22,14 +22,14 @@ use Rattle.library_runs.specs.declared.ending.RunEnd.{RunEnd}
 use Rattle.library_runs.specs.declared.ending.RunEnd.TheVariants as ends
 use Rattle.library_runs.specs.Runs.{Sight, RunsAs}
 use Rattle.mpy_words.specs.declared.order.Order.{Order}
-use Rattle.command_files.specs.mpy_endings.declared.ending.Ending.{Ending}
-use Rattle.command_files.specs.mpy_endings.declared.ending.Ending.TheVariants.{Done, Unaccepted, Unread, Unverified, Unmerged, Unopened, Unfrozen, Unboarded, Stopped, ReadFault, WriteFault, Unwritten, NoMemory, Absent}
-use Rattle.command_files.specs.mpy_endings.declared.ending.Stop.TheVariants.{Past, LibraryFault, LibraryUnaccepted, Raised, Memory, Steps}
+use Rattle.mpy_endings.specs.declared.ending.Ending.{Ending}
+use Rattle.mpy_endings.specs.declared.ending.Ending.TheVariants.{Done, Unaccepted, Unread, Unverified, Unmerged, Unopened, Unfrozen, Unboarded, Different, Stopped, ReadFault, WriteFault, Unwritten, NoMemory, Absent}
+use Rattle.mpy_endings.specs.declared.ending.Stop.TheVariants.{Past, LibraryFault, LibraryUnaccepted, Raised, Memory, Steps}
 use Rattle.run_commands.specs.declared.ready.Ready.{Ready}
 use Rattle.run_commands.specs.Base.{base_of}
-use Rattle.command_files.specs.mpy_endings.Ending.{is_folder_fault, is_out_fault, status_of}
+use Rattle.mpy_endings.specs.Ending.{is_folder_fault, is_out_fault, status_of}
 use Rattle.command_files.specs.Folder.{MayHold}
-use Rattle.command_files.specs.mpy_endings.Line.{Says, line_of}
+use Rattle.mpy_endings.specs.Line.{Says, line_of}
 use Rattle.command_files.specs.Opened.{Refuses}
 use Rattle.command_files.specs.Outside.{Outside}
 
@@ -65,6 +65,7 @@ RefusesLibrary files name (Unmerged fault) = ⊥
 RefusesLibrary files name (Unopened fault) = ⊥
 RefusesLibrary files name (Unfrozen fault) = ⊥
 RefusesLibrary files name (Unboarded fault) = ⊥
+RefusesLibrary files name (Different difference) = ⊥
 RefusesLibrary files name (Stopped (Past limit)) = LoadsOf files name (loads.Past limit)
 RefusesLibrary files name (Stopped (LibraryFault path)) = IsOfLibrary name path
 RefusesLibrary files name (Stopped (LibraryUnaccepted source)) = ⊥
@@ -111,6 +112,7 @@ IsUnloaded (Unmerged fault) = ⊥
 IsUnloaded (Unopened fault) = Unit {0}
 IsUnloaded (Unfrozen fault) = ⊥
 IsUnloaded (Unboarded fault) = ⊥
+IsUnloaded (Different difference) = ⊥
 IsUnloaded (Stopped (Past limit)) = Unit {0}
 IsUnloaded (Stopped (LibraryFault path)) = Unit {0}
 IsUnloaded (Stopped (LibraryUnaccepted source)) = Unit {0}
@@ -149,6 +151,7 @@ module _ (Comes : Result Ready Ending → Type 0) (room : Room) (steps : ℕ) (o
   Runs (Unopened fault) = NotLoaded (Unopened fault)
   Runs (Unfrozen fault) = ⊥
   Runs (Unboarded fault) = ⊥
+  Runs (Different difference) = ⊥
   Runs (Stopped (Past limit)) = NotLoaded (Stopped (Past limit))
   Runs (Stopped (LibraryFault path)) = NotLoaded (Stopped (LibraryFault path))
   Runs (Stopped (LibraryUnaccepted source)) = NotLoaded (Stopped (LibraryUnaccepted source))

@@ -2,11 +2,11 @@
 
 ghost use Rattle.std.specs.Prelude.{◌≡◌, ◌≤◌, IfOk, IfErr};
 ghost use Rattle.mpy_io.specs.Count.{Counts};
-ghost use Rattle.mpy_tree.specs.Raw.{Module};
+ghost use Rattle.bc_library.specs.mpy_tree.Raw.{Module};
 ghost use Rattle.library_files.specs.Ends.{BeginsWith, HoldsModules};
 ghost use Rattle.run_commands.specs.Go.{HoldsSource, RefusesSources, SourceLibrary};
 ghost use Rattle.command_files.specs.Opened.{failed_in};
-ghost use Rattle.command_files.specs.image_runs.Main.{IsMainAt};
+ghost use Rattle.image_runs.specs.Main.{IsMainAt};
 ghost use Rattle.run_commands.specs.Ready.{GoLibrary};
 ghost use Rattle.run_commands.specs.Run.{IsUnloaded};
 
@@ -14,8 +14,9 @@ use crate::base::base_of;
 use crate::ready::{Ready, first_ready, main_text};
 use crate::run::load_ending;
 use bc_library::Library;
-use bc_verify::Verified;
-use command_files::{Ending, load_sources, source_module};
+use bc_library::bc_verify::Verified;
+use command_files::mpy_endings::Ending;
+use command_files::source_files::{load_sources, source_module};
 use mpy_base::{Refused, SourceFault};
 use mpy_io::{Folder, ReadFault};
 use std::alloc::Global;

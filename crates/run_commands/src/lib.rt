@@ -7,10 +7,6 @@ mod ready;
 mod run;
 
 pub use base::base_of;
-pub use command_files::{
-    BoardFault, Ended, Ending, Stop, file_names, main_name, put_three, read_file, say_ending,
-    say_words, source_name, word_at,
-};
 pub use go::source_ready;
 pub use ready::Ready;
-pub use run::{begins_image, file_ready, run_loaded, run_ready};
+pub use run::{run_loaded, run_ready};

@@ -1,15 +1,17 @@
 //! Libraries that are ready to be run.
 
 ghost use Rattle.std.specs.Prelude.{◌≡◌, Ok, Err, IfOk, IfErr};
-ghost use Rattle.command_files.specs.mpy_endings.declared.ending.Ending.TheVariants.{NoMemory as WithoutMemory};
-ghost use Rattle.mpy_tree.specs.Raw.{Module};
-ghost use Rattle.command_files.specs.image_runs.Main.{IsMainAt};
+ghost use Rattle.mpy_endings.specs.declared.ending.Ending.TheVariants.{NoMemory as WithoutMemory};
+ghost use Rattle.bc_library.specs.mpy_tree.Raw.{Module};
+ghost use Rattle.image_runs.specs.Main.{IsMainAt};
 ghost use Rattle.library_files.specs.Ends.{BeginsWith, HoldsModules};
 ghost use Rattle.library_files.specs.Loads.{main_name};
+ghost use Rattle.manifest_files.specs.image_grammar.Base.{IsOpened};
 ghost use Rattle.run_commands.specs.Ready.{ImageStart, IsFirst};
 
 use bc_library::Library;
-use command_files::{Ending, image_library};
+use command_files::image_runs::image_library;
+use command_files::mpy_endings::Ending;
 use mpy_base::{NoMemory, Refused, Text};
 use std::alloc::Global;
 
@@ -54,9 +56,15 @@ pub(crate) fn first_ready(loaded: Result<Library, Ending>, main: Text) -> Result
     }
 }
 
-/// The library of an image and its module of this name, or what keeps it from being run.
-pub(crate) fn image_ready(alloc: Global, bytes: &[u8], main: &[u8]) -> Result<Ready, Ending>
-    ensures start { ImageStart main.now bytes.now result }
+/// The library of an image over the library below and the module of this name, of either, or what keeps it from being run.
+pub(crate) fn image_ready(
+    alloc: Global,
+    below: &Library,
+    bytes: &[u8],
+    main: &[u8],
+) -> Result<Ready, Ending>
+    requires { IsOpened below.now }
+    ensures start { ImageStart below.now main.now bytes.now result }
     ensures there { IfOk result (λ ready. (m : Module) × IsMainAt ready.main ready.place m ready.library) }
     ensures holds { IfOk result (λ ready. HoldsModules ready.library) }
 {
@@ -64,7 +72,7 @@ pub(crate) fn image_ready(alloc: Global, bytes: &[u8], main: &[u8]) -> Result<Re
         Ok(name) => name,
         Err(NoMemory) => return Err(Ending::NoMemory),
     };
-    match image_library(alloc, bytes, main) {
+    match image_library(alloc, below, bytes, main) {
         Ok((library, place)) => Ok(Ready {
             library,
             place,

@@ -4,13 +4,13 @@ ghost use Rattle.library_runs.specs.Runs.{sight};
 ghost use Rattle.std.specs.Prelude.{◌≡◌, List, ℕ, [], Some, false, IfOk, IfErr};
 ghost use Rattle.mpy_io.specs.Count.{Counts};
 ghost use Rattle.library_files.specs.Ends.{BeginsWith, HoldsModules};
-ghost use Rattle.mpy_tree.specs.Raw.{Module};
-ghost use Rattle.command_files.specs.mpy_endings.Line.{Says};
-ghost use Rattle.command_files.specs.mpy_endings.declared.ending.Ending.TheVariants.{Done};
-ghost use Rattle.command_files.specs.mpy_endings.Ending.{is_folder_fault, is_out_fault, is_said};
-ghost use Rattle.command_files.specs.image_runs.Main.{IsMainAt};
+ghost use Rattle.bc_library.specs.mpy_tree.Raw.{Module};
+ghost use Rattle.mpy_endings.specs.Line.{Says};
+ghost use Rattle.mpy_endings.specs.Ending.{IsRunStatus, is_folder_fault, is_out_fault, is_said, status_of};
+ghost use Rattle.image_runs.specs.Main.{IsMainAt};
 ghost use Rattle.command_files.specs.Folder.{MayHold};
 ghost use Rattle.command_files.specs.Opened.{failed_in};
+ghost use Rattle.manifest_files.specs.image_grammar.Base.{IsOpened};
 ghost use Rattle.run_commands.specs.Ready as starts;
 ghost use Rattle.run_commands.specs.Ready.{FirstOf, OpensMain, RunLibrary};
 ghost use Rattle.run_commands.specs.Run as spec;
@@ -19,8 +19,9 @@ ghost use Rattle.run_commands.specs.Run.{FileLibrary, IsUnloaded, Runs};
 use crate::base::base_of;
 use crate::ready::{Ready, first_ready, image_ready, main_text};
 use bc_library::Library;
-use bc_verify::Verified;
-use command_files::{Ending, Stop, read_file, verified};
+use bc_library::bc_verify::Verified;
+use command_files::mpy_endings::{Ending, Stop};
+use command_files::{read_file, verified};
 use library_files::{LoadFault, load};
 use library_runs::{RunEnd, run_library};
 use mpy_base::{Refused, Room};
@@ -29,7 +30,7 @@ use port_set::PortSet;
 use std::alloc::Global;
 
 /// Whether bytes begin as those of an image.
-pub fn begins_image(bytes: &[u8]) -> bool
+fn begins_image(bytes: &[u8]) -> bool
     ensures { result ≡ starts.begins_image bytes.now }
 {
     match bytes {
@@ -88,7 +89,7 @@ fn file_library<F: Folder>(
 }
 
 /// The library of the file of this name, which has these bytes, with its first module as the main one, or what keeps it from being run.
-pub fn file_ready<F: Folder>(
+fn file_ready<F: Folder>(
     alloc: Global,
     name: &str,
     bytes: &[u8],
@@ -110,15 +111,17 @@ pub fn file_ready<F: Folder>(
     first_ready(loaded, first)
 }
 
-/// The library of the file of this name, as an image whose module of the name `main` is run, where its bytes begin as one. Or what
-/// keeps it from being run.
+/// The library of the file of this name: as an image over the library below, whose module of the name `main` is run, where its bytes
+/// begin as one, and else of the file's own folder. Or what keeps it from being run.
 pub fn run_ready<F: Folder>(
     alloc: Global,
+    below: &Library,
     name: &str,
     main: &str,
     folder: &mut F,
 ) -> Result<Ready, Ending>
-    ensures comes { RunLibrary main.now (F.files folder.old) name.now result }
+    requires { IsOpened below.now }
+    ensures comes { RunLibrary below.now main.now (F.files folder.old) name.now result }
     ensures there { IfOk result (λ ready. (m : Module) × IsMainAt ready.main ready.place m ready.library) }
     ensures holds { IfOk result (λ ready. HoldsModules ready.library) }
     ensures unloaded { IfErr result IsUnloaded }
@@ -130,7 +133,7 @@ pub fn run_ready<F: Folder>(
         Err(ending) => return Err(ending),
     };
     if begins_image(&bytes) {
-        return image_ready(alloc, &bytes, main.as_bytes());
+        return image_ready(alloc, below, &bytes, main.as_bytes());
     }
     file_ready(alloc, name, &bytes, folder)
 }
@@ -166,7 +169,7 @@ pub fn run_loaded<S: Sink, P: Port, E: Sink>(
     ensures went { (said : List ℕ)
         × Runs (λ ready. ready ≡ loaded) room steps (sight S.told P.seen out.old ports.old) (sight S.told P.seen out.new ports.new) said result
         × Says (E.told say.old) (E.told say.new) (E.count say.old) (E.count say.new) said }
-    ensures flushed { result ≡ Done → S.held out.new ≡ [] }
+    ensures flushed { IsRunStatus (status_of result) → S.held out.new ≡ [] }
     ensures silent { is_said result ≡ false → say.new ≡ say.old }
     ensures reads { failed_in loaded ≡ is_folder_fault result }
     ensures out_counts { Counts (S.count out.old) (S.count out.new) (is_out_fault result) }

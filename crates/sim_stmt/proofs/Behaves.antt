@@ -4,26 +4,26 @@ use Rattle.std.proofs.lemmas.Bool.{cases_lt}
 use Rattle.mpy_base.specs.World.{PortState}
 use Rattle.mpy_base.specs.Val.{Val, PlainWorld}
 use Rattle.std.specs.Prelude.{List, Some}
-use Rattle.py_effects.specs.Effect.{Place, Given, Gives, Throws, Fills, given}
-use Rattle.py_effects.specs.Growth.{Prints}
-use Rattle.py_effects.specs.Modules.{Made, make_module}
-use Rattle.py_effects.specs.Ends.{End, Open, Ended, Raised, Memory, new_world}
-use Rattle.py_meaning.specs.Program.{Program, first_file, registered_main}
-use Rattle.py_meaning.specs.Outcomes.{Out, EVal, EExc, EOpen, EFull, e_then, e_given, e_turns, e_does}
-use Rattle.py_meaning.specs.Imports.{part_place, run_unit}
-use Rattle.py_meaning.specs.Meaning as meanings
-use Rattle.py_meaning.specs.Meaning.{sem, main_run, meaning}
-use Rattle.bc_machine.specs.Library.{Code, Library, code_at}
-use Rattle.bc_machine.specs.State.{Main, State, Running, Halted, Stuck}
-use Rattle.bc_machine.specs.Machine as machines
-use Rattle.bc_machine.specs.Machine.{steps, begun, opened, start, run}
-use Rattle.bc_machine.specs.Growth.{world_of}
-use Rattle.bc_machine.proofs.Laws as laws
-use Rattle.bc_machine.proofs.Laws.{steps_print, run_fits, start_names}
-use Rattle.bc_translation.specs.Correct.{HasEnded, IsOpen, IsBehind, Behaves}
-use Rattle.sim_expr.proofs.Rooms.{start_room}
-use Rattle.sim_expr.proofs.Goes.{InOrder, Reaches}
-use Rattle.sim_expr.proofs.Lands.{IsGoing, left}
+use Rattle.bc_scheme.specs.py_effects.Effect.{Place, Given, Gives, Throws, Fills, given}
+use Rattle.bc_scheme.specs.py_effects.Growth.{Prints}
+use Rattle.bc_scheme.specs.py_effects.Modules.{Made, make_module}
+use Rattle.bc_scheme.specs.py_effects.Ends.{End, Open, Ended, Raised, Memory, new_world}
+use Rattle.bc_scheme.specs.py_meaning.Program.{Program, first_file, registered_main}
+use Rattle.bc_scheme.specs.py_meaning.Outcomes.{Out, EVal, EExc, EOpen, EFull, e_then, e_given, e_turns, e_does}
+use Rattle.bc_scheme.specs.py_meaning.Imports.{part_place, run_unit}
+use Rattle.bc_scheme.specs.py_meaning.Meaning as meanings
+use Rattle.bc_scheme.specs.py_meaning.Meaning.{sem, main_run, meaning}
+use Rattle.bc_scheme.specs.bc_machine.Library.{Code, Library, code_at}
+use Rattle.bc_scheme.specs.bc_machine.State.{Main, State, Running, Halted, Stuck}
+use Rattle.bc_scheme.specs.bc_machine.Machine as machines
+use Rattle.bc_scheme.specs.bc_machine.Machine.{steps, begun, opened, start, run}
+use Rattle.bc_scheme.specs.bc_machine.Growth.{world_of}
+use Rattle.bc_scheme.proofs.bc_machine_lemmas.Laws as laws
+use Rattle.bc_scheme.proofs.bc_machine_lemmas.Laws.{steps_print, run_fits, start_names}
+use Rattle.bc_scheme.specs.Correct.{HasEnded, IsOpen, IsBehind, Behaves}
+use Rattle.sim_stmt.proofs.Rooms.{start_room}
+use Rattle.sim_stmt.proofs.Goes.{InOrder, Reaches}
+use Rattle.sim_stmt.proofs.Lands.{IsGoing, left}
 use Rattle.sim_stmt.proofs.Blocks.{IsUnit, Coded, Started}
 use Rattle.sim_stmt.proofs.Stmts.{sims}
 use Rattle.sim_stmt.proofs.Units.{LandsU, unit_sim}
@@ -122,7 +122,7 @@ module _ (library : Library) (K : ℕ) (s : State) where
   only_by n (EFull f t1 w) g h = ended_now n (EFull f t1 w) (Memory f) w g.by refl g.lands h
 
   not_open : (t n : ℕ) (r : Out Val) → Followed t r → HasEnded (meanings.run_of r) → 16 * t + 16 ≤ n → IsOpen (machines.run_of (steps library n s)) → ⊥
-  not_open t n r g h le o = h (sym (ap (λ (u : Rattle.py_effects.specs.Ends.Run). u.end) (ends_by t n r g h le)) ∙ o)
+  not_open t n r g h le o = h (sym (ap (λ (u : Rattle.bc_scheme.specs.py_effects.Ends.Run). u.end) (ends_by t n r g h le)) ∙ o)
 
   open_by : (t n : ℕ) (r : Out Val) → Followed t r → IsOpen (machines.run_of (steps library n s)) → 16 * t + 16 ≤ n → IsOpen (meanings.run_of r) × IsBehind (meanings.run_of r) (machines.run_of (steps library n s))
   open_by t n (EVal v t1 w) g o le = absurd (not_open t n (EVal v t1 w) g ended_is le o)

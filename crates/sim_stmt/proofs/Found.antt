@@ -8,11 +8,11 @@ use Rattle.mpy_base.specs.World.{ListObject, TupleObject, TextObject, DictObject
 use Rattle.mpy_base.specs.Weights.{dict_growth, grown_room, with_pairs}
 use Rattle.mpy_base.specs.Val.{Val, Nil, Truth, Int, Str, Fixed, Empty, Built, At, PlainWorld}
 use Rattle.mpy_base.proofs.Worlds.{object_nones}
-use Rattle.py_values.specs.Shown.{PlainHeap, shown_object}
-use Rattle.py_values.specs.Keys.{shown_key, key_of, is_same_key, has_key, value_of_key, with_key}
-use Rattle.py_values.proofs.KeyPairs.{set_is_found}
-use Rattle.py_effects.specs.Names.{Locals, local_at, named_in}
-use Rattle.py_effects.proofs.HeapSteps.{Obj}
+use Rattle.bc_scheme.specs.py_values.Shown.{PlainHeap, shown_object}
+use Rattle.bc_scheme.specs.py_values.Keys.{shown_key, key_of, is_same_key, has_key, value_of_key, with_key}
+use Rattle.bc_scheme.proofs.py_values_lemmas.KeyPairs.{set_is_found}
+use Rattle.bc_scheme.specs.py_effects.Names.{Locals, local_at, named_in}
+use Rattle.bc_scheme.proofs.py_effects_lemmas.HeapSteps.{Obj}
 
 -- ---- locals
 

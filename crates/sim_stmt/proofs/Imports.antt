@@ -6,43 +6,43 @@ use Rattle.mpy_base.specs.declared.limits.TheConstants.{MAX_CALLS}
 use Rattle.mpy_base.specs.World.{Object, TupleObject, names_of, object}
 use Rattle.mpy_base.specs.Weights.{does_fit, with_made, used, cells_of, bytes_of}
 use Rattle.mpy_base.specs.Val.{Val, Nil, Int, Str, At, PlainWorld}
-use Rattle.bc_ops.specs.declared.instr.Op.TheVariants as ops
-use Rattle.bc_ops.specs.declared.instr.Instr.TheVariants as instrs
-use Rattle.py_primitives.specs.Faults.{TooDeep, NoModule, IncompatibleFile}
-use Rattle.py_values.specs.Shown.{PlainHeap}
-use Rattle.py_primitives.specs.Outcome.{gives, is_full, making_tuple}
-use Rattle.py_primitives.specs.Uses.{get_attr}
+use Rattle.bc_scheme.specs.bc_ops.declared.instr.Op.TheVariants as ops
+use Rattle.bc_scheme.specs.bc_ops.declared.instr.Instr.TheVariants as instrs
+use Rattle.bc_scheme.specs.py_primitives.Faults.{TooDeep, NoModule, IncompatibleFile}
+use Rattle.bc_scheme.specs.py_values.Shown.{PlainHeap}
+use Rattle.bc_scheme.specs.py_primitives.Outcome.{gives, is_full, making_tuple}
+use Rattle.bc_scheme.specs.py_primitives.Uses.{get_attr}
 use Rattle.py_tree.specs.declared.stmt.Alias.{Alias}
-use Rattle.py_effects.specs.Effect.{Place, on_heap, does, given, fault_at}
-use Rattle.py_effects.specs.Names.{Locals, import_from}
-use Rattle.py_effects.specs.Modules.{Made, make_module, store_module, stored_in, stored_under, forget_module, registered_as, is_port, outer_name, last_part, module_named, prefixes, prefixes_from, parts_of, first_of}
-use Rattle.py_effects.specs.Growth.{IsRegistered}
-use Rattle.py_meaning.specs.Tree.{Name}
-use Rattle.py_meaning.specs.Program as programs
-use Rattle.py_meaning.specs.Program.{Program, Unit, Runs, Refused, first_file}
-use Rattle.py_meaning.specs.Outcomes.{Out, EVal, EExc, EOpen, EFull, SOut, SDone, SOpen, SFull, Normal, Broke, Continued, Returned, Raised, e_turns, e_then, e_given, e_does, e_fails, e_choose}
-use Rattle.py_meaning.specs.Frames as meanings
-use Rattle.py_meaning.specs.Frames.{place_at}
-use Rattle.py_meaning.specs.Imports.{end_module, begin_unit, begin_entry, is_there, begin_all, part_turns, import_name}
-use Rattle.py_meaning.specs.Statements.{bound_name, from_name, read_parts, last_of, read_all, import_one, imports, import_names, imports_from}
-use Rattle.py_meaning.specs.Meaning.{sem}
-use Rattle.py_meaning.specs.Bounds.{world_e}
-use Rattle.py_meaning.proofs.GrowStmts.{not_there}
-use Rattle.bc_machine.specs.Library as libraries
-use Rattle.bc_machine.specs.Library.{Item, Plain, Names, Holds, Library, entry_in, code_in, module_in}
-use Rattle.bc_machine.specs.State.{Slot, Value, Imported, Frame, State, Running, remark, go, on_given}
-use Rattle.bc_machine.specs.Parts.{has_depth, new_frame, first_absent}
-use Rattle.bc_machine.specs.Operations as operations
-use Rattle.bc_machine.specs.Step as steps
-use Rattle.bc_machine.specs.Step.{item_step, paying}
-use Rattle.bc_machine.proofs.Laws.{not_main}
-use Rattle.bc_translation.specs.Context.{Has, plain, number, stores}
-use Rattle.bc_translation.specs.Statements.{Around, StandsR, no_part, part, StandsM, no_import, imported, StandsN, no_text, text, StandsF, no_name, taken}
-use Rattle.sim_expr.proofs.Goes.{Goes, g_here, g_open, g_wide, g_turn, g_step, g_map, g_bind, g_then, g_never, g_order}
-use Rattle.sim_expr.proofs.Base.{Site, at, Sited, stepped, Quiet, quiet_in, Fits}
-use Rattle.sim_expr.proofs.Lands.{valued, left, if_value, Falls, falls_here, falls_over, GoesO, o_wide, o_bind, o_given, o_fails, o_does, o_gives, o_prim, o_goes}
-use Rattle.sim_expr.proofs.Operands.{pushed, pushed_is, values_of, below_of}
-use Rattle.sim_expr.proofs.Exprs.{fits_one}
+use Rattle.bc_scheme.specs.py_effects.Effect.{Place, on_heap, does, given, fault_at}
+use Rattle.bc_scheme.specs.py_effects.Names.{Locals, import_from}
+use Rattle.bc_scheme.specs.py_effects.Modules.{Made, make_module, store_module, stored_in, stored_under, forget_module, registered_as, is_port, outer_name, last_part, module_named, prefixes, prefixes_from, parts_of, first_of}
+use Rattle.bc_scheme.specs.py_effects.Growth.{IsRegistered}
+use Rattle.bc_scheme.specs.py_meaning.Tree.{Name}
+use Rattle.bc_scheme.specs.py_meaning.Program as programs
+use Rattle.bc_scheme.specs.py_meaning.Program.{Program, Unit, Runs, Refused, first_file}
+use Rattle.bc_scheme.specs.py_meaning.Outcomes.{Out, EVal, EExc, EOpen, EFull, SOut, SDone, SOpen, SFull, Normal, Broke, Continued, Returned, Raised, e_turns, e_then, e_given, e_does, e_fails, e_choose}
+use Rattle.bc_scheme.specs.py_meaning.Frames as meanings
+use Rattle.bc_scheme.specs.py_meaning.Frames.{place_at}
+use Rattle.bc_scheme.specs.py_meaning.Imports.{end_module, begin_unit, begin_entry, is_there, begin_all, part_turns, import_name}
+use Rattle.bc_scheme.specs.py_meaning.Statements.{bound_name, from_name, read_parts, last_of, read_all, import_one, imports, import_names, imports_from}
+use Rattle.bc_scheme.specs.py_meaning.Meaning.{sem}
+use Rattle.bc_scheme.specs.py_meaning.Bounds.{world_e}
+use Rattle.bc_scheme.proofs.py_meaning_lemmas.GrowStmts.{not_there}
+use Rattle.bc_scheme.specs.bc_machine.Library as libraries
+use Rattle.bc_scheme.specs.bc_machine.Library.{Item, Plain, Names, Holds, Library, entry_in, code_in, module_in}
+use Rattle.bc_scheme.specs.bc_machine.State.{Slot, Value, Imported, Frame, State, Running, remark, go, on_given}
+use Rattle.bc_scheme.specs.bc_machine.Parts.{has_depth, new_frame, first_absent}
+use Rattle.bc_scheme.specs.bc_machine.Operations as operations
+use Rattle.bc_scheme.specs.bc_machine.Step as steps
+use Rattle.bc_scheme.specs.bc_machine.Step.{item_step, paying}
+use Rattle.bc_scheme.proofs.bc_machine_lemmas.Laws.{not_main}
+use Rattle.bc_scheme.specs.Context.{Has, plain, number, stores}
+use Rattle.bc_scheme.specs.Statements.{Around, StandsR, no_part, part, StandsM, no_import, imported, StandsN, no_text, text, StandsF, no_name, taken}
+use Rattle.sim_stmt.proofs.Goes.{Goes, g_here, g_open, g_wide, g_turn, g_step, g_map, g_bind, g_then, g_never, g_order}
+use Rattle.sim_stmt.proofs.Base.{Site, at, Sited, stepped, Quiet, quiet_in, Fits}
+use Rattle.sim_stmt.proofs.Lands.{valued, left, if_value, Falls, falls_here, falls_over, GoesO, o_wide, o_bind, o_given, o_fails, o_does, o_gives, o_prim, o_goes}
+use Rattle.sim_stmt.proofs.Operands.{pushed, pushed_is, values_of, below_of}
+use Rattle.sim_stmt.proofs.Exprs.{fits_one}
 use Rattle.sim_stmt.proofs.Ends.{GoesS, GoesT, passed, Tells, tells_does, TellsAnswer, s_use_bind, t_use_bind, t_bind, s_store_bind, t_turned, s_goes}
 use Rattle.sim_stmt.proofs.Sizes.{isize, r_le, m_le, n_le, f_le}
 use Rattle.sim_stmt.proofs.Stores.{Any, tells_any, sinks_over, store_name_sim}

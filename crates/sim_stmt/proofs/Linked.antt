@@ -5,21 +5,21 @@ use Rattle.std.specs.Option.{option_map}
 use Rattle.std.proofs.lemmas.Slice.Eq.{bytes_eq-Decides}
 use Rattle.std.proofs.lemmas.Option.{slice_get-map}
 use Rattle.std.proofs.lemmas.List.{length-append, map-append}
-use Rattle.bc_ops.specs.declared.instr.Op.TheVariants as ops
-use Rattle.bc_ops.specs.declared.instr.Instr.TheVariants as instrs
+use Rattle.bc_scheme.specs.bc_ops.declared.instr.Op.TheVariants as ops
+use Rattle.bc_scheme.specs.bc_ops.declared.instr.Instr.TheVariants as instrs
 use Rattle.mpy_base.specs.World.{PortState}
-use Rattle.mpy_tree.specs.Resolved.{Resolved, plain, Tree, node, Trees, no_more, more, ResolvedModule}
-use Rattle.bc_machine.specs.Library as libraries
-use Rattle.bc_machine.specs.Library.{Line, line_of, Code, Library, Holds, module_in, code_in, code_at, size_of, sizes_of, numbers_from, codes_from, codes_of, module_of}
-use Rattle.py_meaning.specs.Tree.{Name, Function, functions}
-use Rattle.py_meaning.specs.Program as programs
-use Rattle.py_meaning.specs.Program.{Source, Unit, Single, Merge, Units, Part, Parts, Runs, Refused, Program, Text, Content, OfText, OfParts, first_file, first_file_of, module_text, function_texts, source_texts, contents, contents_of, entry_in, unit_in, unit_of, content_at}
-use Rattle.bc_translation.specs.Statements.{StandsB}
-use Rattle.bc_translation.specs.Translation.{own, StandsCode, StandAll, Translates}
-use Rattle.bc_translation.specs.Merge.{calls, on_line_1, outer_body, trees_of, merge_of}
-use Rattle.bc_translation.specs.Link.{IsModuleOf, translated, merged, AreModulesOf, last_unit, next_unit, IsEntryOf, Links}
-use Rattle.bc_translation.specs.Correct.{Behaves}
-use Rattle.sim_expr.proofs.Base.{shifted}
+use Rattle.bc_scheme.specs.mpy_tree.Resolved.{Resolved, plain, Tree, node, Trees, no_more, more, ResolvedModule}
+use Rattle.bc_scheme.specs.bc_machine.Library as libraries
+use Rattle.bc_scheme.specs.bc_machine.Library.{Line, line_of, Code, Library, Holds, module_in, code_in, code_at, size_of, sizes_of, numbers_from, codes_from, codes_of, module_of}
+use Rattle.bc_scheme.specs.py_meaning.Tree.{Name, Function, functions}
+use Rattle.bc_scheme.specs.py_meaning.Program as programs
+use Rattle.bc_scheme.specs.py_meaning.Program.{Source, Unit, Single, Merge, Units, Part, Parts, Runs, Refused, Program, Text, Content, OfText, OfParts, first_file, first_file_of, module_text, function_texts, source_texts, contents, contents_of, entry_in, unit_in, unit_of, content_at}
+use Rattle.bc_scheme.specs.Statements.{StandsB}
+use Rattle.bc_scheme.specs.Translation.{own, StandsCode, StandAll, Translates}
+use Rattle.bc_scheme.specs.Merge.{calls, on_line_1, outer_body, trees_of, merge_of}
+use Rattle.bc_scheme.specs.Link.{IsModuleOf, translated, merged, AreModulesOf, last_unit, next_unit, IsEntryOf, Links}
+use Rattle.bc_scheme.specs.Correct.{Behaves}
+use Rattle.sim_stmt.proofs.Base.{shifted}
 use Rattle.sim_stmt.proofs.Sizes.{bsize}
 use Rattle.sim_stmt.proofs.Blocks.{IsText, IsCall, AreCalls, IsOuter, IsUnit, AreUnits, IsCode, Coded, head_of, StartsUnit, IsStart, Started}
 use Rattle.sim_stmt.proofs.Behaves.{behaves}

@@ -4,26 +4,26 @@ use Rattle.std.specs.Prelude.{position, bytes_eq, nat_lt}
 use Rattle.mpy_base.specs.World.{ADict, IsA, pairs_at}
 use Rattle.mpy_base.specs.Weights.{does_fit, dict_growth, with_pairs}
 use Rattle.mpy_base.specs.Val.{Val, Nil, Str, At, PlainWorld}
-use Rattle.bc_ops.specs.declared.instr.Op.TheVariants as ops
-use Rattle.py_values.specs.Keys.{with_key}
-use Rattle.py_primitives.specs.Outcome.{gives, is_full}
-use Rattle.py_effects.specs.Effect.{Place, on_heap}
-use Rattle.py_effects.specs.Names.{Locals, local_at, assigned, named_in, store_global, deleted_global, delete_global, with_local, without_local}
-use Rattle.py_meaning.specs.Tree.{Name}
-use Rattle.py_meaning.specs.Program.{Program}
-use Rattle.py_meaning.specs.Outcomes.{Done, Normal, Broke, Continued, Returned, Raised, SOut, SDone, s_use, s_after, on_normal, e_does}
-use Rattle.py_meaning.specs.Frames.{place_at, stored, deleted}
-use Rattle.py_meaning.specs.Statements.{unnamed}
-use Rattle.py_meaning.specs.Meaning.{sem}
-use Rattle.bc_machine.specs.Library.{Names, Jumps, Library}
-use Rattle.bc_machine.specs.State.{Slot, Value, Frame, Running, remark}
-use Rattle.bc_machine.specs.Step as steps
-use Rattle.bc_machine.specs.Step.{item_step, step}
-use Rattle.bc_translation.specs.Context.{Behind, plain, number, store_by, stores, delete_by, deletes as deletion}
-use Rattle.bc_translation.specs.Statements.{Around, deeper}
-use Rattle.sim_expr.proofs.Goes.{g_here, g_wide, g_step, g_order}
-use Rattle.sim_expr.proofs.Base.{Site, at, Sited, sited_with, stepped_behind, place_behind, quiet_in, quiet_active, Fits, went}
-use Rattle.sim_expr.proofs.Exprs.{SimE}
+use Rattle.bc_scheme.specs.bc_ops.declared.instr.Op.TheVariants as ops
+use Rattle.bc_scheme.specs.py_values.Keys.{with_key}
+use Rattle.bc_scheme.specs.py_primitives.Outcome.{gives, is_full}
+use Rattle.bc_scheme.specs.py_effects.Effect.{Place, on_heap}
+use Rattle.bc_scheme.specs.py_effects.Names.{Locals, local_at, assigned, named_in, store_global, deleted_global, delete_global, with_local, without_local}
+use Rattle.bc_scheme.specs.py_meaning.Tree.{Name}
+use Rattle.bc_scheme.specs.py_meaning.Program.{Program}
+use Rattle.bc_scheme.specs.py_meaning.Outcomes.{Done, Normal, Broke, Continued, Returned, Raised, SOut, SDone, s_use, s_after, on_normal, e_does}
+use Rattle.bc_scheme.specs.py_meaning.Frames.{place_at, stored, deleted}
+use Rattle.bc_scheme.specs.py_meaning.Statements.{unnamed}
+use Rattle.bc_scheme.specs.py_meaning.Meaning.{sem}
+use Rattle.bc_scheme.specs.bc_machine.Library.{Names, Jumps, Library}
+use Rattle.bc_scheme.specs.bc_machine.State.{Slot, Value, Frame, Running, remark}
+use Rattle.bc_scheme.specs.bc_machine.Step as steps
+use Rattle.bc_scheme.specs.bc_machine.Step.{item_step, step}
+use Rattle.bc_scheme.specs.Context.{Behind, plain, number, store_by, stores, delete_by, deletes as deletion}
+use Rattle.bc_scheme.specs.Statements.{Around, deeper}
+use Rattle.sim_stmt.proofs.Goes.{g_here, g_wide, g_step, g_order}
+use Rattle.sim_stmt.proofs.Base.{Site, at, Sited, sited_with, stepped_behind, place_behind, quiet_in, quiet_active, Fits, went}
+use Rattle.sim_stmt.proofs.Exprs.{SimE}
 use Rattle.sim_stmt.proofs.Ends.{GoesS, state_of, s_wide, s_bind, s_of_store, b_goes}
 use Rattle.sim_stmt.proofs.Sizes.{bsize, b_le, Below, within}
 use Rattle.sim_stmt.proofs.Stores.{SimT, store_short, store_module, store_name_sim}

@@ -2,25 +2,25 @@
 use Rattle.std.proofs.Common.{◌≡◌, ℕ, zero, suc, List, [], ◌∷◌, ◌++◌, Bool, true, false, ◌||◌, Option, Some, None, refl, ap, ◌∙◌}
 use Rattle.std.specs.Prelude.{Result, Ok, Err, cond, is_some}
 use Rattle.mpy_base.specs.Val.{Val, PlainWorld}
-use Rattle.py_primitives.specs.Outcome.{Stop, Raises, Full}
-use Rattle.py_primitives.specs.Faults.{TooDeep, NoModule, IncompatibleFile}
-use Rattle.py_effects.specs.Effect.{Place, Fails, Thrown, Filled, failed, fault_at, given, given_answer}
-use Rattle.py_effects.specs.Modules.{Made, make_module, store_module, registered_as, is_port}
-use Rattle.py_effects.specs.Growth.{IsRegistered, NamesKept, Growth}
-use Rattle.py_effects.proofs.NamesStay.{made_registered, registrations}
-use Rattle.py_meaning.specs.Tree.{Name}
-use Rattle.py_meaning.specs.Program as programs
-use Rattle.py_meaning.specs.Program.{Entry, Runs, Refused, Program, first_file}
-use Rattle.py_meaning.specs.Outcomes.{Out, EVal, EExc, EOpen, EFull, e_turns, e_then, e_given, e_fails, e_does, e_choose}
-use Rattle.py_meaning.specs.Frames.{Frame, Exec, has_depth}
-use Rattle.py_meaning.specs.Imports.{run_unit, end_module, begin_unit, begin_entry}
-use Rattle.py_meaning.specs.Meaning.{sem}
-use Rattle.py_meaning.specs.Bounds.{world_e, GrowS}
-use Rattle.py_meaning.proofs.Grow.{grow_does}
-use Rattle.py_meaning.proofs.GrowUnits.{grow_unit}
-use Rattle.py_meaning.proofs.GrowStmts.{grow_entry}
-use Rattle.py_meaning.proofs.Growing.{growing}
-use Rattle.bc_machine.specs.Parts.{first_absent}
+use Rattle.bc_scheme.specs.py_primitives.Outcome.{Stop, Raises, Full}
+use Rattle.bc_scheme.specs.py_primitives.Faults.{TooDeep, NoModule, IncompatibleFile}
+use Rattle.bc_scheme.specs.py_effects.Effect.{Place, Fails, Thrown, Filled, failed, fault_at, given, given_answer}
+use Rattle.bc_scheme.specs.py_effects.Modules.{Made, make_module, store_module, registered_as, is_port}
+use Rattle.bc_scheme.specs.py_effects.Growth.{IsRegistered, NamesKept, Growth}
+use Rattle.bc_scheme.proofs.py_effects_lemmas.NamesStay.{made_registered, registrations}
+use Rattle.bc_scheme.specs.py_meaning.Tree.{Name}
+use Rattle.bc_scheme.specs.py_meaning.Program as programs
+use Rattle.bc_scheme.specs.py_meaning.Program.{Entry, Runs, Refused, Program, first_file}
+use Rattle.bc_scheme.specs.py_meaning.Outcomes.{Out, EVal, EExc, EOpen, EFull, e_turns, e_then, e_given, e_fails, e_does, e_choose}
+use Rattle.bc_scheme.specs.py_meaning.Frames.{Frame, Exec, has_depth}
+use Rattle.bc_scheme.specs.py_meaning.Imports.{run_unit, end_module, begin_unit, begin_entry}
+use Rattle.bc_scheme.specs.py_meaning.Meaning.{sem}
+use Rattle.bc_scheme.specs.py_meaning.Bounds.{world_e, GrowS}
+use Rattle.bc_scheme.proofs.py_meaning_lemmas.Grow.{grow_does}
+use Rattle.bc_scheme.proofs.py_meaning_lemmas.GrowUnits.{grow_unit}
+use Rattle.bc_scheme.proofs.py_meaning_lemmas.GrowStmts.{grow_entry}
+use Rattle.bc_scheme.proofs.py_meaning_lemmas.Growing.{growing}
+use Rattle.bc_scheme.specs.bc_machine.Parts.{first_absent}
 
 -- ---- the first name that is absent
 

@@ -6,33 +6,33 @@ use Rattle.mpy_base.specs.declared.limits.TheConstants.{MAX_CALLS}
 use Rattle.mpy_base.specs.World.{Object, FunctionObject, object}
 use Rattle.mpy_base.specs.Weights.{does_fit, with_made, more_cells, used, cells_of, bytes_of}
 use Rattle.mpy_base.specs.Val.{Val, Nil, At, PlainWorld}
-use Rattle.bc_ops.specs.declared.instr.Op.TheVariants as ops
-use Rattle.py_values.specs.Shown.{PlainHeap}
-use Rattle.py_primitives.specs.Faults.{TooDeep}
-use Rattle.py_primitives.specs.Outcome.{gives, is_full}
-use Rattle.py_effects.specs.Effect.{Place, on_heap, fault_at}
-use Rattle.py_effects.specs.Names.{Locals}
-use Rattle.py_effects.specs.Calling as calling
-use Rattle.py_effects.specs.Calling.{Runs, callee_of, callee_object, bind}
-use Rattle.py_effects.specs.Modules.{make_function}
-use Rattle.py_effects.specs.Ends.{Memory}
-use Rattle.py_meaning.specs.Tree.{Name}
-use Rattle.py_meaning.specs.Program as programs
-use Rattle.py_meaning.specs.Program.{Program, Source, Single, Merge, Units, Part, Parts, size, module_name, module_text}
-use Rattle.py_meaning.specs.Outcomes.{Out, EVal, EExc, EOpen, EFull, Done, Normal, Broke, Continued, Returned, Raised, SOut, SDone, SOpen, SFull, from_body, call_done, e_then, e_does, e_fails, e_choose}
-use Rattle.py_meaning.specs.Imports.{unit_frame, part_place, call_part, run_unit, run_parts}
-use Rattle.py_meaning.specs.Meaning.{sem}
-use Rattle.bc_machine.specs.Library.{Code, Module, Library, code_at}
-use Rattle.bc_machine.specs.State as states
-use Rattle.bc_machine.specs.State.{Slot, Value, Role, Called, Frame, State, Running, Halted, remark, abandoned, give, throw_out}
-use Rattle.bc_machine.specs.Parts.{has_depth, new_frame}
-use Rattle.bc_machine.specs.Step as steps
-use Rattle.bc_machine.specs.Step.{item_step, child_of, step}
-use Rattle.bc_translation.specs.Context.{Behind, plain, number}
-use Rattle.bc_translation.specs.Statements.{Around}
-use Rattle.sim_expr.proofs.Goes.{Goes, g_here, g_wide, g_step, g_pay, g_map, g_bind, g_then}
-use Rattle.sim_expr.proofs.Base.{Site, at, Sited, stepped, stepped_behind, went}
-use Rattle.sim_expr.proofs.Lands.{IsGoing, valued, left, if_value, Falls, GoesO, o_wide, o_bind, o_turned, o_gives, o_goes, o_fails}
+use Rattle.bc_scheme.specs.bc_ops.declared.instr.Op.TheVariants as ops
+use Rattle.bc_scheme.specs.py_values.Shown.{PlainHeap}
+use Rattle.bc_scheme.specs.py_primitives.Faults.{TooDeep}
+use Rattle.bc_scheme.specs.py_primitives.Outcome.{gives, is_full}
+use Rattle.bc_scheme.specs.py_effects.Effect.{Place, on_heap, fault_at}
+use Rattle.bc_scheme.specs.py_effects.Names.{Locals}
+use Rattle.bc_scheme.specs.py_effects.Calling as calling
+use Rattle.bc_scheme.specs.py_effects.Calling.{Runs, callee_of, callee_object, bind}
+use Rattle.bc_scheme.specs.py_effects.Modules.{make_function}
+use Rattle.bc_scheme.specs.py_effects.Ends.{Memory}
+use Rattle.bc_scheme.specs.py_meaning.Tree.{Name}
+use Rattle.bc_scheme.specs.py_meaning.Program as programs
+use Rattle.bc_scheme.specs.py_meaning.Program.{Program, Source, Single, Merge, Units, Part, Parts, size, module_name, module_text}
+use Rattle.bc_scheme.specs.py_meaning.Outcomes.{Out, EVal, EExc, EOpen, EFull, Done, Normal, Broke, Continued, Returned, Raised, SOut, SDone, SOpen, SFull, from_body, call_done, e_then, e_does, e_fails, e_choose}
+use Rattle.bc_scheme.specs.py_meaning.Imports.{unit_frame, part_place, call_part, run_unit, run_parts}
+use Rattle.bc_scheme.specs.py_meaning.Meaning.{sem}
+use Rattle.bc_scheme.specs.bc_machine.Library.{Code, Module, Library, code_at}
+use Rattle.bc_scheme.specs.bc_machine.State as states
+use Rattle.bc_scheme.specs.bc_machine.State.{Slot, Value, Role, Called, Frame, State, Running, Halted, remark, abandoned, give, throw_out}
+use Rattle.bc_scheme.specs.bc_machine.Parts.{has_depth, new_frame}
+use Rattle.bc_scheme.specs.bc_machine.Step as steps
+use Rattle.bc_scheme.specs.bc_machine.Step.{item_step, child_of, step}
+use Rattle.bc_scheme.specs.Context.{Behind, plain, number}
+use Rattle.bc_scheme.specs.Statements.{Around}
+use Rattle.sim_stmt.proofs.Goes.{Goes, g_here, g_wide, g_step, g_pay, g_map, g_bind, g_then}
+use Rattle.sim_stmt.proofs.Base.{Site, at, Sited, stepped, stepped_behind, went}
+use Rattle.sim_stmt.proofs.Lands.{IsGoing, valued, left, if_value, Falls, GoesO, o_wide, o_bind, o_turned, o_gives, o_goes, o_fails}
 use Rattle.sim_stmt.proofs.Ends.{GoesS, state_of, if_normal}
 use Rattle.sim_stmt.proofs.Sizes.{bsize}
 use Rattle.sim_stmt.proofs.Blocks.{IsText, text_lines, text_name, text_locals, text_children, OnLine1, IsCall, AreCalls, IsOuter, IsUnit, AreUnits, IsHead, head_of, SimS, b_sim}
@@ -255,7 +255,7 @@ module _ (program : Program) (library : Library) (K : ℕ) (some : 1 ≤ K) (n :
               (o_gives library K (λ fv. Value fv ∷ []) outer 1 p (number ops.MakeFunction index) env [] [] t1 w (make_function w module_name name child names Nil) some s is.make refl (falls [] []) (λ paid. make_is paid w))
               (λ fv t2 w2 made l2. entered_sim u goes fv t2 w2 made (omega (arith, l1, l2, le)) (nat_lt depth MAX_CALLS) same))))
 
-      sited_outer : (is_code : code_at library name base ≡ Some code) → Rattle.bc_machine.specs.Library.module_in (Rattle.bc_machine.specs.Library.entry_in library name) ≡ Some m → m.file ≡ file → code.name ≡ module_name → depth ≡ suc (length frames) → Sited library outer
+      sited_outer : (is_code : code_at library name base ≡ Some code) → Rattle.bc_scheme.specs.bc_machine.Library.module_in (Rattle.bc_scheme.specs.bc_machine.Library.entry_in library name) ≡ Some m → m.file ≡ file → code.name ≡ module_name → depth ≡ suc (length frames) → Sited library outer
       sited_outer is_code is_m file_is name_is deep = record {
         of_module = is_m;
         of_code = is_code;

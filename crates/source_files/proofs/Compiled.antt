@@ -1,16 +1,16 @@
 -- The file of a source is that of a verified module.
 use Rattle.std.proofs.Common.{◌≡◌, ℕ, List, subst}
-use Rattle.mpy_tree.specs.declared.module.ModuleCode.{ModuleCode}
-use Rattle.mpy_tree.specs.Raw as raw
-use Rattle.mpy_tree.specs.Resolved.{ResolvedModule, Resolves}
-use Rattle.bc_verify.specs.Verified.{IsVerified}
+use Rattle.mpy_reader.specs.mpy_tree.declared.module.ModuleCode.{ModuleCode}
+use Rattle.mpy_reader.specs.mpy_tree.Raw as raw
+use Rattle.mpy_reader.specs.mpy_tree.Resolved.{ResolvedModule, Resolves}
+use Rattle.bc_library.specs.bc_verify.Verified.{IsVerified}
 use Rattle.py_tree.specs.declared.stmt.Module.{Module}
 use Rattle.py_tree.specs.Formed.{IsFormed}
 use Rattle.py_scopes.specs.Scopes.{IsFaultless}
-use Rattle.py_source.specs.declared.source.Accepted.{Accepted}
-use Rattle.py_source.specs.Source as sources
-use Rattle.py_meaning.specs.Meaning.{source_of}
-use Rattle.bc_translation.specs.Translation.{Translates}
+use Rattle.mpy_compile.specs.py_source.declared.source.Accepted.{Accepted}
+use Rattle.mpy_compile.specs.py_source.Source as sources
+use Rattle.bc_scheme.specs.py_meaning.Meaning.{source_of}
+use Rattle.bc_scheme.specs.Translation.{Translates}
 use Rattle.mpy_compile.specs.tr_source.Accepted.{IsAccepted}
 use Rattle.mpy_compile.specs.emit_module.First.{AreWithin}
 use Rattle.mpy_compile.specs.emit_module.Module.{IsResolved}

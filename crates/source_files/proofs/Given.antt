@@ -1,20 +1,17 @@
 -- What a source gives.
-use Rattle.std.proofs.Common.{◌≡◌, ◌<◌, ℕ, List, length, Result, Ok, Err, inl, refl, sym, ap, subst, ◌∙◌, arith}
-use Rattle.std.specs.Prelude.{IfOk}
-use Rattle.mpy_base.specs.declared.refused.NoMemory.{NoMemory}
+use Rattle.std.proofs.Common.{◌≡◌, ◌<◌, ℕ, List, length, inl, sym, subst, arith}
 use Rattle.mpy_base.specs.declared.limits.TheConstants.{MAX_READ_BYTES}
 use Rattle.mpy_base.specs.declared.source.SourceFault.{SourceFault}
 use Rattle.mpy_base.specs.Fault.{too_long}
-use Rattle.mpy_tree.specs.File.{IsFile}
-use Rattle.mpy_tree.specs.Raw.{Module}
-use Rattle.bc_verify.specs.Verified.{IsVerified}
+use Rattle.mpy_reader.specs.mpy_tree.File.{IsFile}
+use Rattle.mpy_reader.specs.mpy_tree.Raw.{Module}
+use Rattle.bc_library.specs.bc_verify.Verified.{IsVerified}
 use Rattle.mpy_compile.specs.Compiled.{CompilesTo, IsFault}
 use Rattle.library_files.specs.Comes.{IsVerifiedFile}
 use Rattle.source_files.specs.Sources.{stored, IsModuleOf}
 
-pub verified_as : (bytes : List ℕ) (raw : Module) (r : Result Module NoMemory) → IsFile bytes raw → IsVerified raw → IfOk r (λ v. v ≡ raw) → IfOk r (IsVerifiedFile bytes)
-verified_as bytes raw (Ok v) file verified same = record { file = subst (IsFile bytes) (sym same) file; verified = subst IsVerified (sym same) verified }
-verified_as bytes raw (Err e) file verified same = tt
+pub verified_as : (bytes : List ℕ) (raw made : Module) → IsFile bytes raw → IsVerified raw → made ≡ raw → IsVerifiedFile bytes made
+verified_as bytes raw made file verified same = record { file = subst (IsFile bytes) (sym same) file; verified = subst IsVerified (sym same) verified }
 
 pub module_of : (level : ℕ) (path source file bytes : List ℕ) (m : Module) (size : ℕ) → bytes ≡ file → CompilesTo level source (stored path) file → IsVerifiedFile bytes m → size ≡ length file
     → IsModuleOf level path source m size

@@ -2,7 +2,7 @@
 use Rattle.std.proofs.Common.{◌≡◌, ◌<◌, ℕ, Bool, true, false, if◌then◌else◌, ltb, get_or, List, refl, arith}
 use Rattle.std.proofs.lemmas.Bool.{ltb-true}
 use Rattle.std.proofs.lemmas.List.Elements.{All-map}
-use Rattle.mpy_tree.specs.File.{IsAscii}
+use Rattle.mpy_reader.specs.mpy_tree.File.{IsAscii}
 use Rattle.source_files.specs.Sources.{ascii_of, stored}
 
 one_or_other : (b : Bool) (byte : ℕ) → ltb byte 128 ≡ b → (if b then byte else 63) < 128

@@ -1,2 +1,1 @@
-pub use Rattle.mpy_compile.specs as mpy_compile
 pub mod Sources

@@ -4,7 +4,7 @@ use Rattle.mpy_base.specs.declared.refused.Refused.{Refused}
 use Rattle.mpy_base.specs.declared.refused.Refused.TheVariants.{Fault, NoMemory}
 use Rattle.mpy_base.specs.declared.source.SourceFault.{SourceFault}
 use Rattle.mpy_io.specs.Files.{FileOf}
-use Rattle.mpy_tree.specs.Raw.{Module}
+use Rattle.mpy_reader.specs.mpy_tree.Raw.{Module}
 use Rattle.mpy_compile.specs.Compiled.{CompilesTo, IsFault}
 use Rattle.library_files.specs.declared.entry.Entry.{Entry}
 use Rattle.library_files.specs.declared.entry.Entry.TheVariants as entries

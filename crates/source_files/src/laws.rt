@@ -1,13 +1,13 @@
 //! What sources compile to.
 
 ghost use Rattle.std.specs.Prelude.{ℕ, List};
-ghost use Rattle.mpy_tree.specs.Raw.{Module};
+ghost use Rattle.mpy_reader.specs.mpy_tree.Raw.{Module};
 ghost use Rattle.mpy_compile.specs.Compiled.{CompilesTo};
 ghost use Rattle.library_files.specs.Comes.{IsVerifiedFile};
 
-use mpy_compile::{resolved_law, within_law};
-use py_source::asked_law;
-use tr_source;
+use mpy_compile::emit_module::resolved_law;
+use mpy_compile::py_source::asked_law;
+use mpy_compile::{tr_source, within_law};
 
 /// What a source compiles to is a file of a verified module.
 pub fn compiled_law()
@@ -16,5 +16,5 @@ pub fn compiled_law()
     asked_law();
     resolved_law();
     within_law();
-    mpy_compile::compiled_law();
+    mpy_compile::tr_source::compiled_law();
 }

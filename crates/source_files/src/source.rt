@@ -1,19 +1,17 @@
 //! The module of a source.
 
 ghost use Rattle.std.specs.Prelude.{◌≡◌, ◌≤◌, IfOk};
-ghost use Rattle.mpy_tree.specs.Raw.{Module};
-ghost use Rattle.bc_verify.specs.Verified.{IsVerified};
+ghost use Rattle.mpy_reader.specs.mpy_tree.Raw.{Module};
 ghost use Rattle.mpy_compile.specs.Compiled.{Compiles};
 ghost use Rattle.library_files.specs.Comes.{IsVerifiedFile};
 ghost use Rattle.source_files.specs.Sources.{GivesModule, stored};
 
 use crate::laws::compiled_law;
 use crate::name::stored_name;
-use bc_verify::{Verified, verify};
+use bc_library::bc_verify::{Verified, known_verified};
 use mpy_base::{NoMemory, Refused, SourceFault};
 use mpy_compile::compile;
 use mpy_reader::read;
-use mpy_tree::RawModule;
 use std::alloc::Global;
 
 /// The file of the source of this path.
@@ -32,25 +30,13 @@ fn source_file(
     }
 }
 
-/// The verified module of a module that is one.
-fn verified_raw(alloc: Global, raw: RawModule) -> Result<Verified, NoMemory>
-    requires { IsVerified raw }
-    ensures { IfOk result (λ verified. verified ≡ raw) }
-{
-    match verify(alloc, raw) {
-        Ok(verified) => Ok(verified),
-        Err((Refused::Fault(_), _)) => unreachable!(),
-        Err((Refused::NoMemory, _)) => Err(NoMemory),
-    }
-}
-
 /// The module of a file that is one of a verified module.
 fn verified_of(alloc: Global, bytes: &[u8]) -> Result<Verified, NoMemory>
     requires { (m : Module) × IsVerifiedFile bytes.now m }
     ensures { IfOk result (IsVerifiedFile bytes.now) }
 {
     match read(alloc, bytes) {
-        Ok(raw) => verified_raw(alloc, raw),
+        Ok(raw) => Ok(known_verified(raw)),
         Err(Refused::Fault(_)) => unreachable!(),
         Err(Refused::NoMemory) => Err(NoMemory),
     }

@@ -1,15 +1,17 @@
 //! Runs of a program, in parts and as a whole.
 
 ghost use Rattle.std.specs.Prelude.{◌≡◌, ◌<◌, length, IfOk, IfSome};
-ghost use Rattle.mpy_tree.specs.Raw.{Module};
+ghost use Rattle.mpy_reader.specs.mpy_tree.Raw.{Module};
 ghost use Rattle.library_files.specs.Ends.{BeginsWith, HoldsModules};
-ghost use Rattle.vm_machine.specs.vm_programs.Programs.{IsRunnable};
+ghost use Rattle.vm_starting.specs.Kept.{AreFetched};
+ghost use Rattle.vm_starting.specs.Programs.{IsRunnable};
 ghost use Rattle.vm_machine.specs.Machine.{IsVm};
 
 use crate::program::Program;
-use bc_library::Library;
 use bc_rows::Rows;
-use bc_verify::{Verified, verify};
+use bc_rows::bc_library::Library;
+use bc_rows::bc_verify::{Verified, verify};
+use frame_exits::End;
 use library_files::load;
 use mpy_base::{NoMemory, Refused, Room};
 use mpy_io::{Failed, Folder, MemFolder, MemSink, Port, ReadFault, ScriptPort, Sink};
@@ -17,7 +19,8 @@ use mpy_reader::read;
 use port_set::PortSet;
 use std::alloc::Global;
 use std::mem;
-use vm_machine::{End, Vm, open, run, used};
+use vm_machine::{open, run, used};
+use vm_starting::{Cache, Vm};
 
 /// The greatest count of steps that are paid on an instruction, for which a run goes on.
 const MOST_PAID: u64 = 1 << 62;
@@ -75,6 +78,7 @@ fn go_on<S: Sink, P: Port>(
     vm: &mut Vm,
     library: &Library,
     rows: &Rows<'_>,
+    cache: &mut Cache,
     out: &mut S,
     ports: &mut PortSet<P>,
     part: u32,
@@ -82,6 +86,7 @@ fn go_on<S: Sink, P: Port>(
 ) -> Result<u32, Failed>
     requires vm { IsVm library.now vm.old }
     requires rows { rows.now ≡ library.now }
+    requires kept { AreFetched library.now cache.old }
     ensures vm { IsVm library.now vm.new }
 {
     let mut parts = 0;
@@ -89,7 +94,7 @@ fn go_on<S: Sink, P: Port>(
         if vm.end.is_some() || vm.paid > MOST_PAID {
             return Ok(parts);
         }
-        run(vm, library, rows, out, ports, part as u64)?;
+        run(vm, library, rows, cache, out, ports, part as u64)?;
         parts += 1;
     }
     Ok(parts)
@@ -112,8 +117,19 @@ fn outcome_of(
     let mut ports = program.ports(alloc)?;
     let mut out = MemSink::new(alloc, Vec::new(alloc));
     let mut vm = open(alloc, library, rows, 0, program.room)?;
-    let begun = run(&mut vm, library, rows, &mut out, &mut ports, first as u64);
-    let went = go_on(&mut vm, library, rows, &mut out, &mut ports, part, most);
+    let mut cache = Cache::new(alloc, library, rows)?;
+    let begun = run(
+        &mut vm,
+        library,
+        rows,
+        &mut cache,
+        &mut out,
+        &mut ports,
+        first as u64,
+    );
+    let went = go_on(
+        &mut vm, library, rows, &mut cache, &mut out, &mut ports, part, most,
+    );
     let (Ok(()), Ok(parts)) = (begun, went) else {
         return Ok(None);
     };

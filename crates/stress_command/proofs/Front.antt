@@ -6,16 +6,16 @@ use Rattle.mpy_io.specs.Count.{Counts, Rose}
 use Rattle.mpy_io.specs.Files.{FileOf}
 use Rattle.mpy_io.specs.Ports.{PortView}
 use Rattle.mpy_io.specs.Told.{AppendsFront}
-use Rattle.run_commands.specs.mpy_endings.declared.ending.Ending.{Ending}
-use Rattle.run_commands.specs.mpy_endings.declared.ending.Ending.TheVariants.{WriteFault}
-use Rattle.run_commands.specs.mpy_endings.Ending.{is_folder_fault, is_out_fault, status_of}
-use Rattle.run_commands.specs.mpy_endings.Line.{Says, line_of}
-use Rattle.run_commands.specs.command_files.Outside.{Outside}
+use Rattle.mpy_endings.specs.declared.ending.Ending.{Ending}
+use Rattle.mpy_endings.specs.declared.ending.Ending.TheVariants.{WriteFault}
+use Rattle.mpy_endings.specs.Ending.{is_folder_fault, is_out_fault, status_of}
+use Rattle.mpy_endings.specs.Line.{Says, line_of}
+use Rattle.command_files.specs.Outside.{Outside}
 use Rattle.run_commands.specs.declared.ready.Ready.{Ready}
 use Rattle.run_commands.specs.Ready.{GoLibrary}
 use Rattle.run_commands.specs.Run.{EndsRun, IsUnloaded, sight_in}
 use Rattle.run_commands.proofs.Running.{not_loaded, unloaded_quiet}
-use Rattle.stress_source.specs.Source.{stress_text}
+use Rattle.stress_command.specs.Source.{stress_text}
 use Rattle.stress_command.specs.Stress.{EndsStress, HasCodes, beside, front_lines, sinks, stress_files, stress_name}
 
 -- a count that stays, where the call didn't fail

@@ -1,3 +1,4 @@
-pub use Rattle.run_commands.proofs.mpy_endings_lemmas
-pub mod Made
+mod Examples
 pub mod Front
+pub mod Made
+pub mod Puts

@@ -1,5 +1,3 @@
-pub use Rattle.run_commands.specs.mpy_endings
-pub use Rattle.run_commands.specs.image_runs
-pub use Rattle.run_commands.specs.source_files
-pub use Rattle.run_commands.specs.vm_states
+pub mod Draws
+pub mod Source
 pub mod Stress

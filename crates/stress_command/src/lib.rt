@@ -1,11 +1,11 @@
-//! The command `stress`: a made source that is run, behind two lines that tell how large it is.
+//! The command `stress`: a made source of a given length, that is run after two lines that tell how large
+//! it is.
 #![tactic(auto)]
 
+mod draws;
 mod making;
 mod running;
+mod source;
 
-pub use run_commands::{
-    BoardFault, Ended, Ending, Stop, file_names, main_name, say_ending, say_words, source_name,
-    word_at,
-};
 pub use running::stress;
+pub use source::stress_source;

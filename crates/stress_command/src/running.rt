@@ -2,23 +2,24 @@
 
 ghost use Rattle.std.specs.Prelude.{◌≡◌, ◌≤◌, ◌++◌, ℕ, [], length, decimal, map, Option, Some, Ok};
 ghost use Rattle.mpy_io.specs.Files.{FileOf};
-ghost use Rattle.mpy_tree.specs.Raw.{Module};
-ghost use Rattle.run_commands.specs.image_runs.Main.{IsMainAt};
+ghost use Rattle.bc_library.specs.mpy_tree.Raw.{Module};
+ghost use Rattle.image_runs.specs.Main.{IsMainAt};
 ghost use Rattle.library_files.specs.Ends.{HoldsModules};
-ghost use Rattle.run_commands.specs.mpy_endings.declared.ending.Ending.TheVariants.{WriteFault};
-ghost use Rattle.run_commands.specs.mpy_endings.Ending.{status_of};
-ghost use Rattle.run_commands.specs.mpy_endings.Line.{Puts, Says, line_of};
+ghost use Rattle.mpy_endings.specs.declared.ending.Ending.TheVariants.{WriteFault};
+ghost use Rattle.mpy_endings.specs.Ending.{IsRunStatus, status_of};
+ghost use Rattle.mpy_endings.specs.Line.{Puts, Says, line_of};
 ghost use Rattle.run_commands.specs.Ready.{GoLibrary};
 ghost use Rattle.run_commands.specs.Run.{EndsRun};
-ghost use Rattle.stress_source.specs.Source.{stress_text};
+ghost use Rattle.stress_command.specs.Source.{stress_text};
 ghost use Rattle.stress_command.specs.Stress.{EndsStress, front_lines, most_assignments, sinks, stress_files, stress_name};
 
 use crate::making::{NAME, codes_of, made_ready};
+use command_files::mpy_endings::{Ending, put_three, say_ending};
 use itoa::Buffer;
 use mpy_base::Room;
 use mpy_io::{Failed, Port, Sink};
 use port_set::PortSet;
-use run_commands::{Ending, Ready, put_three, run_loaded, say_ending};
+use run_commands::{Ready, run_loaded};
 use std::alloc::Global;
 
 /// Puts a number between two pieces of a line.
@@ -63,7 +64,7 @@ fn run_ready<S: Sink, P: Port, E: Sink>(
         (sinks faults (S.told out.old) (S.count out.old) (E.told say.old) (E.count say.old) (Some (stress_files seed count)))
         (sinks faults (S.told out.new) (S.count out.new) (E.told say.new) (E.count say.new) files)
         (map P.seen ports.old) (map P.seen ports.new) result }
-    ensures flushed { result ≡ 0 → S.held out.new ≡ [] }
+    ensures flushed { IsRunStatus result → S.held out.new ≡ [] }
 {
     let ending = run_loaded(alloc, Ok(ready), room, steps, out, ports, say);
     let _ = say_ending(say, NAME, &ending);
@@ -97,7 +98,7 @@ fn run_made<S: Sink, P: Port, E: Sink>(
         (sinks faults (S.told out.old) (S.count out.old) (E.told say.old) (E.count say.old) files)
         (sinks faults (S.told out.new) (S.count out.new) (E.told say.new) (E.count say.new) files)
         (map P.seen ports.old) (map P.seen ports.new) result }
-    ensures flushed { result ≡ 0 → S.held out.new ≡ [] }
+    ensures flushed { IsRunStatus result → S.held out.new ≡ [] }
 {
     let number = codes_of(&ready);
     match put_front(out, bytes, number) {
@@ -123,7 +124,7 @@ pub fn stress<S: Sink, P: Port, E: Sink>(
         (sinks faults (S.told out.old) (S.count out.old) (E.told say.old) (E.count say.old) files)
         (sinks faults (S.told out.new) (S.count out.new) (E.told say.new) (E.count say.new) files)
         (map P.seen ports.old) (map P.seen ports.new) result }
-    ensures flushed { result ≡ 0 → S.held out.new ≡ [] }
+    ensures flushed { IsRunStatus result → S.held out.new ≡ [] }
 {
     match made_ready(alloc, seed, count) {
         Ok((bytes, ready)) => run_made(alloc, bytes, ready, room, steps, out, say, ports),

@@ -1,11 +1,11 @@
 -- Sources and what a reference says of them.
 use Rattle.std.proofs.Common.{◌≡◌, List, [], ◌∷◌, codes, map, refl, pos}
 use Rattle.mpy_base.specs.Val.{Int, Str}
-use Rattle.bc_ops.specs.declared.instr.Op.TheVariants as ops
-use Rattle.bc_ops.specs.declared.instr.Instr.TheVariants as instrs
-use Rattle.bc_ops.specs.declared.listing.Target.TheVariants.{Position}
-use Rattle.mpy_tree.specs.Resolved.{Resolved, plain, named, object, jump, unwind, Body}
-use Rattle.py_meaning.specs.Tree.{Constant, Named, DictOf, Call, NoExpr, More, NoPair, Pair, NoKey, Key, ToName, Only, Assign, Assert, Return, Def, Block, End, Next}
+use Rattle.bc_scheme.specs.bc_ops.declared.instr.Op.TheVariants as ops
+use Rattle.bc_scheme.specs.bc_ops.declared.instr.Instr.TheVariants as instrs
+use Rattle.bc_scheme.specs.bc_ops.declared.listing.Target.TheVariants.{Position}
+use Rattle.bc_scheme.specs.mpy_tree.Resolved.{Resolved, plain, named, object, jump, unwind, Body}
+use Rattle.bc_scheme.specs.py_meaning.Tree.{Constant, Named, DictOf, Call, NoExpr, More, NoPair, Pair, NoKey, Key, ToName, Only, Assign, Assert, Return, Def, Block, End, Next}
 use Rattle.tr_source.specs.Nested.{nested}
 use Rattle.tr_source.specs.Within.{most_arguments, most_pairs}
 use Rattle.tr_source.specs.Short.{wide_length}

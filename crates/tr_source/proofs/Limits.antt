@@ -1,12 +1,12 @@
 -- The limits of the texts of a source.
 use Rattle.std.proofs.Common.{ℕ, List, [], ◌∷◌}
 use Rattle.py_tree.specs.declared.stmt.Module.{Module}
-use Rattle.py_meaning.specs.Tree.{Name, Function, functions}
-use Rattle.py_meaning.specs.Plain.{plain_tree}
-use Rattle.py_meaning.specs.Program.{Text, source_texts, function_text, function_texts}
+use Rattle.bc_scheme.specs.py_meaning.Tree.{Name, Function, functions}
+use Rattle.bc_scheme.specs.py_meaning.Plain.{plain_tree}
+use Rattle.bc_scheme.specs.py_meaning.Program.{Text, source_texts, function_text, function_texts}
 use Rattle.py_scopes.specs.Scopes.{slots_of}
-use Rattle.py_functions.specs.Params.{HasSlots, AllHaveSlots}
-use Rattle.tr_verified.specs.Limits.{IsLimited, AllLimited}
+use Rattle.bc_scheme.specs.py_meaning.Params.{HasSlots, AllHaveSlots}
+use Rattle.tr_source.specs.Limits.{IsLimited, AllLimited}
 use Rattle.tr_source.specs.Within.{IsWithin, AllWithin}
 use Rattle.tr_source.specs.Accepted.{source_of}
 use Rattle.tr_source.proofs.Widths.{block_wide}

@@ -1,13 +1,13 @@
 -- The modules of units of accepted sources.
 use Rattle.std.proofs.Common.{◌≡◌, ℕ, List, ◌∷◌, refl, ap, ◌∙◌, subst}
-use Rattle.mpy_tree.specs.Resolved.{ResolvedModule}
+use Rattle.bc_scheme.specs.mpy_tree.Resolved.{ResolvedModule}
 use Rattle.py_tree.specs.declared.stmt.Module.{Module}
-use Rattle.py_meaning.specs.Tree.{Name}
-use Rattle.py_meaning.specs.Program.{Source, Unit, Single, Merge, Units, Part, Parts}
-use Rattle.bc_translation.specs.Translation.{Translates}
-use Rattle.bc_translation.specs.Merge.{merge_of}
-use Rattle.bc_translation.specs.Link.{IsModuleOf, translated, merged, AreModulesOf, last_unit, next_unit}
-use Rattle.bc_verified.specs.Verified.{IsVerifiedTree, AllVerifiedTrees}
+use Rattle.bc_scheme.specs.py_meaning.Tree.{Name}
+use Rattle.bc_scheme.specs.py_meaning.Program.{Source, Unit, Single, Merge, Units, Part, Parts}
+use Rattle.bc_scheme.specs.Translation.{Translates}
+use Rattle.bc_scheme.specs.Merge.{merge_of}
+use Rattle.bc_scheme.specs.Link.{IsModuleOf, translated, merged, AreModulesOf, last_unit, next_unit}
+use Rattle.bc_resolved.specs.Verified.{IsVerifiedTree, AllVerifiedTrees}
 use Rattle.tr_source.specs.Accepted.{source_of, IsAccepted}
 use Rattle.tr_source.specs.Units.{IsAcceptedSource, IsAcceptedUnit, AreAcceptedUnits}
 

@@ -4,9 +4,9 @@ use Rattle.mpy_base.specs.declared.limits.TheConstants.{MAX_DEPTH}
 use Rattle.py_tree.specs.declared.stmt.Module.{Module}
 use Rattle.py_tree.specs.Formed.{IsFormed}
 use Rattle.py_scopes.specs.Scopes.{slots_of, IsFaultless}
-use Rattle.py_meaning.specs.Tree.{Name}
-use Rattle.py_meaning.specs.Plain.{plain_tree}
-use Rattle.py_meaning.specs.Program.{Source, source_texts}
+use Rattle.bc_scheme.specs.py_meaning.Tree.{Name}
+use Rattle.bc_scheme.specs.py_meaning.Plain.{plain_tree}
+use Rattle.bc_scheme.specs.py_meaning.Program.{Source, source_texts}
 use Rattle.tr_source.specs.Nested.{nested}
 use Rattle.tr_source.specs.Within.{AllWithin}
 

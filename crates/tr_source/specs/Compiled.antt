@@ -1,9 +1,9 @@
 -- What a source is compiled to.
 use Rattle.std.specs.Prelude.{ℕ}
 use Rattle.py_tree.specs.declared.stmt.Module.{Module}
-use Rattle.py_meaning.specs.Tree.{Name}
-use Rattle.mpy_tree.specs.Resolved.{ResolvedModule}
-use Rattle.bc_translation.specs.Translation.{Translates}
+use Rattle.bc_scheme.specs.py_meaning.Tree.{Name}
+use Rattle.bc_scheme.specs.mpy_tree.Resolved.{ResolvedModule}
+use Rattle.bc_scheme.specs.Translation.{Translates}
 use Rattle.tr_source.specs.Accepted.{source_of, IsAccepted}
 use Rattle.tr_source.specs.Short.{IsShort}
 

@@ -1,6 +1,13 @@
-pub mod Nested
-pub mod Within
 pub mod Accepted
-pub mod Units
-pub mod Short
 pub mod Compiled
+pub mod Greatest
+pub mod Limits
+pub mod Names
+pub mod Nested
+pub mod Numbered
+pub mod Short
+pub mod Spelled
+pub mod Texts
+pub mod Units
+pub mod Widest
+pub mod Within

@@ -2,20 +2,20 @@
 use Rattle.std.specs.Prelude.{◌≡◌, ℕ, ◌≤◌, List, All, map, ℤ, pos, negsuc, true, nat_lt, if◌then◌else◌}
 use Rattle.std.specs.List.{sum}
 use Rattle.mpy_base.specs.declared.limits.TheConstants.{MAX_DEPTH, MAX_WIDE_LENGTH}
-use Rattle.bc_ops.specs.declared.instr.Op.{Op}
-use Rattle.bc_ops.specs.declared.instr.Op.TheVariants as ops
-use Rattle.bc_ops.specs.declared.instr.Instr.{Instr}
-use Rattle.bc_ops.specs.declared.instr.Instr.TheVariants as instrs
-use Rattle.bc_ops.specs.declared.listing.Item.{Item}
-use Rattle.bc_ops.specs.Listing.{IsListOf}
-use Rattle.bc_prelude.specs.declared.prelude.Prelude.{Prelude}
-use Rattle.bc_prelude.specs.Prelude.{Begins}
-use Rattle.mpy_tree.specs.Raw.{Module}
-use Rattle.mpy_tree.specs.File.{IsFile}
-use Rattle.mpy_tree.specs.Resolved.{Resolved, plain, named, object, jump, unwind, Body, instrs_of, ResolvedModule, Resolves}
-use Rattle.mpy_tree.specs.Canonical.{AllCodes, Canonical}
-use Rattle.mpy_tree.specs.FirstUse.{InFirstUse}
-use Rattle.bc_translation.specs.Translation.{bodies}
+use Rattle.bc_scheme.specs.bc_ops.declared.instr.Op.{Op}
+use Rattle.bc_scheme.specs.bc_ops.declared.instr.Op.TheVariants as ops
+use Rattle.bc_scheme.specs.bc_ops.declared.instr.Instr.{Instr}
+use Rattle.bc_scheme.specs.bc_ops.declared.instr.Instr.TheVariants as instrs
+use Rattle.bc_scheme.specs.bc_ops.declared.listing.Item.{Item}
+use Rattle.bc_scheme.specs.bc_ops.Listing.{IsListOf}
+use Rattle.bc_verify.specs.bc_prelude.declared.prelude.Prelude.{Prelude}
+use Rattle.bc_verify.specs.bc_prelude.Prelude.{Begins}
+use Rattle.bc_scheme.specs.mpy_tree.Raw.{Module}
+use Rattle.bc_scheme.specs.mpy_tree.File.{IsFile}
+use Rattle.bc_scheme.specs.mpy_tree.Resolved.{Resolved, plain, named, object, jump, unwind, Body, instrs_of, ResolvedModule, Resolves}
+use Rattle.bc_scheme.specs.mpy_tree.Canonical.{AllCodes, Canonical}
+use Rattle.bc_scheme.specs.mpy_tree.FirstUse.{InFirstUse}
+use Rattle.bc_scheme.specs.Translation.{bodies}
 
 -- the wide length: a byte for each instruction, three for the number of an operand, five for an integer, two for an offset, and
 -- one for an unwinding byte. What stands inside the first byte takes no other

@@ -1,74 +1,15 @@
-//! An accepted source keeps what translations ask of it.
+//! What an accepted source keeps and spells, and laws of its translation: that it is verified, and that there
+//! is one.
 #![tactic(auto)]
 
-ghost use Rattle.std.specs.Prelude.{◌≡◌, ℕ, []};
-ghost use Rattle.mpy_tree.specs.Raw as raw;
-ghost use Rattle.mpy_tree.specs.Resolved.{ResolvedModule, Resolves};
-ghost use Rattle.py_tree.specs.declared.stmt.Module.{Module};
-ghost use Rattle.py_meaning.specs.Tree.{Name};
-ghost use Rattle.py_meaning.specs.Program.{Unit, source_texts};
-ghost use Rattle.bc_translation.specs.Link.{IsModuleOf};
-ghost use Rattle.bc_translation.specs.Translation.{Translates};
-ghost use Rattle.bc_verify.specs.Verified.{IsVerified};
-ghost use Rattle.bc_machine.specs.Library.{module_of};
-ghost use Rattle.bc_progress.specs.Plans.{Plan, IsVerifiedModule};
-ghost use Rattle.bc_verified.specs.Verified.{IsVerifiedTree};
-ghost use Rattle.tr_verified.specs.Limits.{SourceLimited};
-ghost use Rattle.tr_verified.specs.Numbered.{SourceNumbered};
-ghost use Rattle.tr_source.specs.Within.{AllWithin};
-ghost use Rattle.tr_source.specs.Accepted.{source_of, IsAccepted};
-ghost use Rattle.tr_source.specs.Units.{IsAcceptedUnit};
-ghost use Rattle.tr_source.specs.Compiled.{IsCompiled};
+mod asked;
+mod spelled;
+mod text_names;
+mod undotted;
+mod verified;
 
-use bc_verified::{module_law, raw_law};
-use py_functions::{numbers_law, params_law};
-use tr_verified::{merge_law, unique_law, verified_law};
-
-/// An accepted source keeps the limits under every name, and wherever its codes begin. Its functions have numbers of their own.
-pub fn limits_law()
-    ensures within { (file : Name) (level base : ℕ) (tree : Module) → IsAccepted level tree
-        → AllWithin (source_texts file (source_of file level tree) base) }
-    ensures named { (file : Name) (level base : ℕ) (tree : Module) → AllWithin (source_texts file (source_of file level tree) base)
-        → AllWithin (source_texts [] (source_of [] level tree) 0) }
-    ensures limited { (file : Name) (level : ℕ) (tree : Module) → IsAccepted level tree → SourceLimited (source_of file level tree) }
-    ensures numbered { (file : Name) (level : ℕ) (tree : Module) → IsAccepted level tree → SourceNumbered (source_of file level tree) }
-{
-    numbers_law();
-    params_law();
-}
-
-/// A translation of an accepted source is verified, and there is one at most.
-pub fn accepted_law()
-    ensures verified { (file : Name) (level : ℕ) (tree : Module) (m : ResolvedModule) → IsAccepted level tree
-        → Translates (source_of file level tree) m → IsVerifiedTree m }
-    ensures one { (file : Name) (level : ℕ) (tree : Module) (m n : ResolvedModule) → IsAccepted level tree
-        → Translates (source_of file level tree) m → Translates (source_of file level tree) n → m ≡ n }
-{
-    limits_law();
-    verified_law();
-    unique_law();
-}
-
-/// The module of a unit of accepted sources, merged or not, is verified, and there is one at most.
-pub fn unit_law()
-    ensures verified { (unit : Unit) (m : ResolvedModule) → IsAcceptedUnit unit → IsModuleOf unit m → IsVerifiedTree m }
-    ensures one { (unit : Unit) (m n : ResolvedModule) → IsAcceptedUnit unit → IsModuleOf unit m → IsModuleOf unit n → m ≡ n }
-{
-    accepted_law();
-    merge_law();
-}
-
-/// What a file holds of a translation of an accepted source is verified, and so is the machine's module of what a source is
-/// compiled to.
-pub fn compiled_law()
-    ensures file { (file : Name) (level : ℕ) (tree : Module) (m : ResolvedModule) (held : raw.Module) → IsAccepted level tree
-        → Translates (source_of file level tree) m → Resolves held m → IsVerified held }
-    ensures machine { (file : Name) (level : ℕ) (tree : Module) (m : ResolvedModule) → IsCompiled file level tree m
-        → (plans : ℕ → Plan) × IsVerifiedModule plans (module_of m) }
-    ensures one { (file : Name) (level : ℕ) (tree : Module) (m n : ResolvedModule) → IsCompiled file level tree m
-        → IsCompiled file level tree n → m ≡ n }
-{
-    accepted_law();
-    raw_law();
-    module_law();
-}
+pub use asked::{accepted_law, compiled_law, limits_law, unit_law};
+pub use spelled::spelled_law;
+pub use text_names::texts_law;
+pub use undotted::undotted_law;
+pub use verified::{merge_law, own_law, unique_law, verified_law};

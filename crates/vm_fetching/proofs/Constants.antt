@@ -5,22 +5,22 @@ use Rattle.std.specs.List.{flat_map}
 use Rattle.std.proofs.lemmas.List.{append-nil}
 use Rattle.mpy_base.specs.declared.limits.TheConstants.{MAX_DEPTH}
 use Rattle.mpy_base.specs.Val.{Val, Vals, Then, Fixed}
-use Rattle.arena_heap.specs.declared.value.Value.{Value}
-use Rattle.arena_heap.specs.declared.value.StrNo.TheVariants as strs
-use Rattle.arena_objects.specs.Iterables.{or_nothing}
-use Rattle.mpy_tree.specs.declared.module.Constant.{Constant, out-Constant, roll-Constant, roll-out-Constant}
-use Rattle.mpy_tree.specs.declared.module.Constant.TheOpen.{Constant-F}
-use Rattle.mpy_tree.specs.declared.module.Constant.TheFolds.{fold-roll-Constant}
-use Rattle.mpy_tree.specs.Raw.{Module}
-use Rattle.mpy_tree.specs.File.{IsModule}
-use Rattle.mpy_tree.specs.Values.{value_of, constant_step, tuple_value, vals_of}
-use Rattle.bc_library.specs.Constants.{constants_of, items_in, bytes_in, preorder, numbered, value_by, values_from, constant_at, items_at, text_at, object_value}
-use Rattle.bc_library.specs.Fine.{Each, Fine}
-use Rattle.bc_library.specs.Shelf.{Shelf, module_at}
-use Rattle.bc_library.proofs.Files.{fine_objects}
-use Rattle.bc_library.proofs.Preorders.{below, leaf, opened}
-use Rattle.bc_library.proofs.Told.{told_items, value_at}
-use Rattle.vm_walks.specs.Plain.{vals_from, fixed_of, plain_by, fixed_within, plain}
+use Rattle.frame_moves.specs.arena_heap.declared.value.Value.{Value}
+use Rattle.frame_moves.specs.arena_heap.declared.value.StrNo.TheVariants as strs
+use Rattle.frame_moves.specs.arena_objects.Iterables.{or_nothing}
+use Rattle.bc_rows.specs.mpy_tree.declared.module.Constant.{Constant, out-Constant, roll-Constant, roll-out-Constant}
+use Rattle.bc_rows.specs.mpy_tree.declared.module.Constant.TheOpen.{Constant-F}
+use Rattle.bc_rows.specs.mpy_tree.declared.module.Constant.TheFolds.{fold-roll-Constant}
+use Rattle.bc_rows.specs.mpy_tree.Raw.{Module}
+use Rattle.bc_rows.specs.mpy_tree.File.{IsModule}
+use Rattle.bc_rows.specs.mpy_tree.Values.{value_of, constant_step, tuple_value, vals_of}
+use Rattle.bc_rows.specs.bc_library.Constants.{constants_of, items_in, bytes_in, preorder, numbered, value_by, values_from, constant_at, items_at, text_at, object_value}
+use Rattle.bc_rows.specs.bc_library.Fine.{Each, Fine}
+use Rattle.bc_rows.specs.bc_library.Shelf.{Shelf, module_at}
+use Rattle.bc_rows.proofs.bc_library_lemmas.Files.{fine_objects}
+use Rattle.bc_rows.proofs.bc_library_lemmas.Preorders.{below, leaf, opened}
+use Rattle.bc_rows.proofs.bc_library_lemmas.Told.{told_items, value_at}
+use Rattle.frame_moves.specs.prim_walks.Plain.{vals_from, fixed_of, plain_by, fixed_within, plain}
 
 drop_further : (all front behind : List Constant) (p : ℕ) → drop p all ≡ front ++ behind → drop (p + length front) all ≡ behind
 drop_further all [] behind p e = ap (λ n. drop n all) (omega arith) ∙ e

@@ -2,19 +2,19 @@
 use Rattle.std.proofs.Common.{◌≡◌, Bool, true, false, ℕ, zero, suc, ◌<◌, ◌≤◌, List, [], ◌∷◌, Some, refl, sym, ap, subst, ◌∙◌, arith}
 use Rattle.std.specs.Prelude.{slice_get, option_and_then, nat_lt}
 use Rattle.std.proofs.lemmas.Bool.{ltb-true, ltb-false}
-use Rattle.bc_ops.specs.declared.listing.Item.{Item}
-use Rattle.bc_ops.specs.Listing.{Lists}
-use Rattle.bc_ops.proofs.Lists.{one_listing}
-use Rattle.bc_flow.specs.Code.{item_locals, locals}
-use Rattle.mpy_tree.specs.Raw.{Module}
-use Rattle.mpy_tree.specs.Codes.{codes_of, IsPlaced}
-use Rattle.mpy_tree.proofs.Codes.{some_is, module_placed}
-use Rattle.bc_verify.specs.declared.fault.Rule.{Rule}
-use Rattle.bc_verify.specs.Body.{Body, Says}
-use Rattle.bc_verify.specs.Rules.{Breaks, KeepsAll}
-use Rattle.bc_verify.specs.Verified.{children_of}
-use Rattle.bc_library.specs.Shelf.{Shelf, module_at}
-use Rattle.bc_offsets.specs.Positions.{CodeList, Listed}
+use Rattle.frame_moves.specs.bc_ops.declared.listing.Item.{Item}
+use Rattle.frame_moves.specs.bc_ops.Listing.{Lists}
+use Rattle.frame_moves.proofs.bc_ops_lemmas.Lists.{one_listing}
+use Rattle.bc_rows.specs.bc_flow.Code.{item_locals, locals}
+use Rattle.bc_rows.specs.mpy_tree.Raw.{Module}
+use Rattle.bc_rows.specs.mpy_tree.Codes.{codes_of, IsPlaced}
+use Rattle.bc_rows.proofs.mpy_tree_lemmas.Codes.{some_is, module_placed}
+use Rattle.bc_rows.specs.bc_verify.declared.fault.Rule.{Rule}
+use Rattle.bc_rows.specs.bc_verify.Body.{Body, Says}
+use Rattle.bc_rows.specs.bc_verify.Rules.{Breaks, KeepsAll}
+use Rattle.bc_rows.specs.bc_verify.Verified.{children_of}
+use Rattle.bc_rows.specs.bc_library.Shelf.{Shelf, module_at}
+use Rattle.frame_moves.specs.bc_labels.Positions.{CodeList, Listed}
 use Rattle.bc_rows.specs.declared.row.Row.{Row}
 use Rattle.bc_rows.proofs.Preludes.{SameParts, same_parts}
 use Rattle.vm_fetching.specs.Fetches.{IsVerifiedRow}

@@ -1,4 +1,5 @@
-pub use Rattle.vm_step.proofs as vm_step_lemmas
+pub use Rattle.bc_rows.proofs as bc_rows_lemmas
+pub use Rattle.frame_moves.proofs as frame_moves_lemmas
 mod Constants
 mod Kept
 mod Operating

@@ -1,13 +1,13 @@
 -- An operation of a form is one of its kind.
 use Rattle.std.proofs.Common.{◌≡◌, ℕ, Bool, true, false, refl, sym, ap}
 use Rattle.std.proofs.lemmas.Bool.{false≢true}
-use Rattle.bc_ops.specs.declared.form.Form.{Form}
-use Rattle.bc_ops.specs.declared.form.Form.TheVariants as forms
-use Rattle.bc_ops.specs.declared.instr.Op.{Op}
-use Rattle.bc_ops.specs.declared.instr.Op.TheVariants as ops
-use Rattle.bc_ops.specs.declared.instr.Instr.TheVariants as instrs
-use Rattle.bc_ops.specs.Code.{TakesNumber}
-use Rattle.bc_ops.specs.Table.{code_of, form_of, name_form, number_form, jump_form, plain_form, short_form}
+use Rattle.frame_moves.specs.bc_ops.declared.form.Form.{Form}
+use Rattle.frame_moves.specs.bc_ops.declared.form.Form.TheVariants as forms
+use Rattle.frame_moves.specs.bc_ops.declared.instr.Op.{Op}
+use Rattle.frame_moves.specs.bc_ops.declared.instr.Op.TheVariants as ops
+use Rattle.frame_moves.specs.bc_ops.declared.instr.Instr.TheVariants as instrs
+use Rattle.frame_moves.specs.bc_ops.Code.{TakesNumber}
+use Rattle.frame_moves.specs.bc_ops.Table.{code_of, form_of, name_form, number_form, jump_form, plain_form, short_form}
 
 abbrev is_plain : Form → Bool
 is_plain (forms.Whole (instrs.Plain op)) = true

@@ -2,12 +2,12 @@
 use Rattle.std.proofs.Common.{◌≡◌, ℕ, zero, suc, ◌+◌, ◌<◌, Bool, true, false, List, [], ◌∷◌, ◌++◌, length, drop, Some, Result, Ok, refl, sym, ap, ◌∙◌, subst, arith, if◌then◌else◌}
 use Rattle.std.proofs.lemmas.Bool.{eqb-true, ltb-true, ltb-false}
 use Rattle.std.specs.Prelude.{nat_eq, nat_lt, slice_get}
-use Rattle.bc_ops.specs.declared.instr.Instr.{Instr}
-use Rattle.bc_ops.specs.declared.decoding.CodeFault.{CodeFault}
-use Rattle.bc_ops.specs.Code.{Spells}
-use Rattle.bc_offsets.specs.Positions.{CodeList, Listed, position_in, Starts, Stands}
-use Rattle.bc_offsets.proofs.Order.{each}
-use Rattle.bc_offsets.proofs.Pieces.{one, stands, within}
+use Rattle.frame_moves.specs.bc_ops.declared.instr.Instr.{Instr}
+use Rattle.frame_moves.specs.bc_ops.declared.decoding.CodeFault.{CodeFault}
+use Rattle.frame_moves.specs.bc_ops.Code.{Spells}
+use Rattle.frame_moves.specs.bc_labels.Positions.{CodeList, Listed, position_in, Starts, Stands}
+use Rattle.frame_moves.proofs.bc_labels_lemmas.Order.{each}
+use Rattle.frame_moves.proofs.bc_labels_lemmas.Pieces.{one, stands, within}
 
 bool_false : (b : Bool) → (b ≡ true → ⊥) → b ≡ false
 bool_false true h = absurd (h refl)

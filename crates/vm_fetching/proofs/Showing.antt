@@ -1,38 +1,38 @@
 -- What is fetched is what the machine has for the item.
 use Rattle.std.proofs.Common.{◌≡◌, ℕ, ℤ, pos, ◌+ℤ◌, ◌-◌, ◌<◌, ◌≤◌, Bool, List, length, Option, Some, refl, sym, ap, subst, ◌∙◌, arith}
 use Rattle.std.specs.Prelude.{IsSome, is_some, unwrap_or, option_map}
-use Rattle.bc_ops.specs.declared.form.Form.{Form}
-use Rattle.bc_ops.specs.declared.form.Form.TheVariants as forms
-use Rattle.bc_ops.specs.declared.instr.Op.{Op}
-use Rattle.bc_ops.specs.declared.instr.Op.TheVariants as ops
-use Rattle.bc_ops.specs.declared.instr.Instr.{Instr}
-use Rattle.bc_ops.specs.declared.instr.Instr.TheVariants as instrs
-use Rattle.bc_ops.specs.declared.listing.Target.{Target}
-use Rattle.bc_ops.specs.declared.listing.Target.TheVariants.{Position, Offset}
-use Rattle.bc_ops.specs.declared.listing.Item.TheVariants as items
-use Rattle.bc_ops.specs.Code.{TakesOffset}
-use Rattle.bc_ops.specs.Listing.{target}
-use Rattle.bc_ops.specs.Signed.{IsSmall}
-use Rattle.bc_ops.specs.Table.{code_of, form_of}
-use Rattle.bc_flow.specs.Code.{item_locals, IsOutside}
-use Rattle.arena_heap.specs.declared.value.Value.{Value}
-use Rattle.arena_heap.specs.declared.value.StrNo.{StrNo}
-use Rattle.arena_heap.specs.declared.value.StrNo.TheVariants as strs
-use Rattle.arena_heap.specs.declared.value.ConstNo.{ConstNo}
-use Rattle.arena_objects.specs.Iterables.{or_nothing}
-use Rattle.mpy_tree.specs.Raw.{Module}
-use Rattle.mpy_tree.specs.File.{IsModule}
-use Rattle.mpy_tree.specs.Resolved.{plain, named, resolved_instr, name_at}
-use Rattle.mpy_tree.specs.Values.{value_of}
-use Rattle.bc_verify.specs.declared.fault.Rule.TheVariants as rules
-use Rattle.bc_library.specs.Constants.{object_value, text_at}
-use Rattle.bc_library.specs.Shelf.{Shelf, module_at, entry_at, table_text}
-use Rattle.bc_offsets.specs.Positions.{CodeList, Listed, Starts, Reads, position_in}
-use Rattle.bc_machine.specs.Library as machine
+use Rattle.frame_moves.specs.bc_ops.declared.form.Form.{Form}
+use Rattle.frame_moves.specs.bc_ops.declared.form.Form.TheVariants as forms
+use Rattle.frame_moves.specs.bc_ops.declared.instr.Op.{Op}
+use Rattle.frame_moves.specs.bc_ops.declared.instr.Op.TheVariants as ops
+use Rattle.frame_moves.specs.bc_ops.declared.instr.Instr.{Instr}
+use Rattle.frame_moves.specs.bc_ops.declared.instr.Instr.TheVariants as instrs
+use Rattle.frame_moves.specs.bc_ops.declared.listing.Target.{Target}
+use Rattle.frame_moves.specs.bc_ops.declared.listing.Target.TheVariants.{Position, Offset}
+use Rattle.frame_moves.specs.bc_ops.declared.listing.Item.TheVariants as items
+use Rattle.frame_moves.specs.bc_ops.Code.{TakesOffset}
+use Rattle.frame_moves.specs.bc_ops.Listing.{target}
+use Rattle.frame_moves.specs.bc_ops.Signed.{IsSmall}
+use Rattle.frame_moves.specs.bc_ops.Table.{code_of, form_of}
+use Rattle.bc_rows.specs.bc_flow.Code.{item_locals, IsOutside}
+use Rattle.frame_moves.specs.arena_heap.declared.value.Value.{Value}
+use Rattle.frame_moves.specs.arena_heap.declared.value.StrNo.{StrNo}
+use Rattle.frame_moves.specs.arena_heap.declared.value.StrNo.TheVariants as strs
+use Rattle.frame_moves.specs.arena_heap.declared.value.ConstNo.{ConstNo}
+use Rattle.frame_moves.specs.arena_objects.Iterables.{or_nothing}
+use Rattle.bc_rows.specs.mpy_tree.Raw.{Module}
+use Rattle.bc_rows.specs.mpy_tree.File.{IsModule}
+use Rattle.bc_rows.specs.mpy_tree.Resolved.{plain, named, resolved_instr, name_at}
+use Rattle.bc_rows.specs.mpy_tree.Values.{value_of}
+use Rattle.bc_rows.specs.bc_verify.declared.fault.Rule.TheVariants as rules
+use Rattle.bc_rows.specs.bc_library.Constants.{object_value, text_at}
+use Rattle.bc_rows.specs.bc_library.Shelf.{Shelf, module_at, entry_at, table_text}
+use Rattle.frame_moves.specs.bc_labels.Positions.{CodeList, Listed, Starts, Reads, position_in}
+use Rattle.frame_moves.specs.bc_machine.Library as machine
 use Rattle.bc_rows.specs.declared.row.Row.{Row}
-use Rattle.vm_walks.specs.Plain as plains
-use Rattle.vm_step.specs.Shown.{Tables, text_of}
-use Rattle.vm_step.specs.Shown as stepping
+use Rattle.frame_moves.specs.prim_walks.Plain as plains
+use Rattle.frame_moves.specs.Shown.{Tables, text_of}
+use Rattle.frame_moves.specs.Shown as stepping
 use Rattle.vm_fetching.specs.declared.operations.PlainOp.{PlainOp}
 use Rattle.vm_fetching.specs.declared.operations.NumberOp.{NumberOp}
 use Rattle.vm_fetching.specs.declared.operations.NumberOp.TheVariants as numbers
@@ -180,7 +180,7 @@ module _ (shelf : Shelf) (i : ℕ) (row : Row) (v : IsVerifiedRow shelf i row) (
         ap (λ (f : StrNo → Option (List ℕ)). plains.plain f tables.tuples x) of.texts
         ∙ (ap (λ (g : ConstNo → Option (List Value)). plains.plain (text_at shelf) g x) of.tuples ∙ plain_object shelf i m there n c.0 x is_module c.1 e) in
         record {
-          item_is = ap (λ z. machine.item_of (length l.items) (unwrap_or (option_map (λ constant. Rattle.mpy_tree.specs.Resolved.object (value_of constant)) z) (plain (instrs.Num ops.LoadConstObj n)))) c.1
+          item_is = ap (λ z. machine.item_of (length l.items) (unwrap_or (option_map (λ constant. Rattle.bc_rows.specs.mpy_tree.Resolved.object (value_of constant)) z) (plain (instrs.Num ops.LoadConstObj n)))) c.1
               ∙ ap machine.Loads (sym value);
           target = tt;
           local = tt;

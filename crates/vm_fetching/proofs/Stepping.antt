@@ -3,14 +3,14 @@ use Rattle.std.proofs.Common.{◌≡◌, ℕ, suc, List, ◌∷◌, map, Option,
 use Rattle.std.specs.Prelude.{slice_get}
 use Rattle.mpy_base.specs.Val.{PlainWorld}
 use Rattle.bc_prelude.specs.Lines as lines
-use Rattle.bc_offsets.specs.Positions.{CodeList, position_in}
-use Rattle.bc_library.specs.Shelf.{Shelf}
-use Rattle.bc_machine.specs.Library.{Line, Code, Module, Library, entry_in, module_in, code_in}
-use Rattle.bc_machine.specs.Step.{run_line, line_at, step}
+use Rattle.frame_moves.specs.bc_labels.Positions.{CodeList, position_in}
+use Rattle.bc_rows.specs.bc_library.Shelf.{Shelf}
+use Rattle.frame_moves.specs.bc_machine.Library.{Line, Code, Module, Library, entry_in, module_in, code_in}
+use Rattle.frame_moves.specs.bc_machine.Step.{run_line, line_at, step}
 use Rattle.bc_rows.specs.declared.row.Row.{Row}
-use Rattle.vm_frames.specs.Calls.{Call}
-use Rattle.vm_moves.specs.Views.{frame_of}
-use Rattle.vm_step.specs.Shown.{Tables, IsNext, view_of, running_of, step_of}
+use Rattle.frame_moves.specs.vm_frames.Calls.{Call}
+use Rattle.frame_moves.specs.vm_frames.Views.{frame_of}
+use Rattle.frame_moves.specs.Shown.{Tables, IsNext, view_of, running_of, step_of}
 use Rattle.vm_fetching.specs.declared.instruction.Fetched.{Fetched}
 use Rattle.vm_fetching.specs.Fetches.{Fetches}
 use Rattle.vm_fetching.specs.Shows.{item_of_fetched}

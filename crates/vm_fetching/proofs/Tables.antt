@@ -2,9 +2,9 @@
 use Rattle.std.proofs.Common.{ℕ, ◌≤◌, length, ap, arith}
 use Rattle.mpy_base.specs.declared.limits.TheConstants.{MAX_CODE_BYTES}
 use Rattle.bc_prelude.proofs.Pieces.{parts_short}
-use Rattle.mpy_tree.specs.declared.raw.RawCode.{out-RawCode}
-use Rattle.bc_verify.proofs.Trees as trees
-use Rattle.bc_library.specs.Shelf.{Shelf}
+use Rattle.bc_rows.specs.mpy_tree.declared.raw.RawCode.{out-RawCode}
+use Rattle.bc_rows.proofs.bc_verify_lemmas.Trees as trees
+use Rattle.bc_rows.specs.bc_library.Shelf.{Shelf}
 use Rattle.bc_rows.specs.declared.row.Row.{Row}
 use Rattle.vm_fetching.specs.Fetches.{IsVerifiedRow}
 use Rattle.vm_fetching.proofs.Kept.{row_path}

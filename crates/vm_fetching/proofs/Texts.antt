@@ -1,13 +1,13 @@
 -- The text of a name.
 use Rattle.std.proofs.Common.{◌≡◌, ℕ, ◌<◌, List, length, Option, Some, None, refl, ap, ◌∙◌}
 use Rattle.std.specs.Prelude.{slice_get, option_and_then, IsSome, is_some}
-use Rattle.mpy_tree.specs.Raw as raw
-use Rattle.mpy_tree.specs.Raw.{Module}
-use Rattle.mpy_tree.specs.File.{IsModule}
-use Rattle.mpy_tree.specs.Resolved.{name_at}
-use Rattle.bc_library.specs.Shelf.{Shelf, module_at, entry_at, table_text}
-use Rattle.bc_library.proofs.Files.{fine_qstrs}
-use Rattle.bc_library.proofs.Pools as pools
+use Rattle.bc_rows.specs.mpy_tree.Raw as raw
+use Rattle.bc_rows.specs.mpy_tree.Raw.{Module}
+use Rattle.bc_rows.specs.mpy_tree.File.{IsModule}
+use Rattle.bc_rows.specs.mpy_tree.Resolved.{name_at}
+use Rattle.bc_rows.specs.bc_library.Shelf.{Shelf, module_at, entry_at, table_text}
+use Rattle.bc_rows.proofs.bc_library_lemmas.Files.{fine_qstrs}
+use Rattle.bc_rows.proofs.bc_library_lemmas.Pools as pools
 use Rattle.vm_fetching.proofs.Constants.{at_index}
 
 pub entry_there : (shelf : Shelf) (i : ℕ) (m : Module) (n : ℕ) → module_at shelf i ≡ Some m → n < length m.qstrs → IsSome (entry_at shelf i n)

@@ -1,16 +1,16 @@
 -- What is fetched at an offset of a row.
 use Rattle.std.specs.Prelude.{◌≡◌, ℕ, suc, ◌<◌, length, Some, slice_get}
 use Rattle.bc_prelude.specs.Lines as tables
-use Rattle.bc_offsets.specs.Positions.{CodeList, Starts, position_in}
-use Rattle.mpy_tree.specs.Raw.{Module}
-use Rattle.mpy_tree.specs.File.{IsModule}
-use Rattle.bc_verify.specs.Verified.{IsVerified}
-use Rattle.bc_library.specs.Constants.{items_at, text_at}
-use Rattle.bc_library.specs.Shelf.{Shelf, module_at}
-use Rattle.bc_machine.specs.Library.{Code}
+use Rattle.frame_moves.specs.bc_labels.Positions.{CodeList, Starts, position_in}
+use Rattle.bc_rows.specs.mpy_tree.Raw.{Module}
+use Rattle.bc_rows.specs.mpy_tree.File.{IsModule}
+use Rattle.bc_rows.specs.bc_verify.Verified.{IsVerified}
+use Rattle.bc_rows.specs.bc_library.Constants.{items_at, text_at}
+use Rattle.bc_rows.specs.bc_library.Shelf.{Shelf, module_at}
+use Rattle.frame_moves.specs.bc_machine.Library.{Code}
 use Rattle.bc_rows.specs.declared.row.Row.{Row}
 use Rattle.bc_rows.specs.Rows.{IsRow}
-use Rattle.vm_step.specs.Shown.{Tables}
+use Rattle.frame_moves.specs.Shown.{Tables}
 use Rattle.vm_fetching.specs.declared.instruction.Fetched.{Fetched}
 use Rattle.vm_fetching.specs.Shows.{item_of_fetched, TargetStarts, LocalIsWithin, TextIsThere, ConstantIsThere}
 

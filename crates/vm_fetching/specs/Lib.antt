@@ -1,5 +1,7 @@
-pub use Rattle.vm_step.specs.vm_raising
-pub use Rattle.vm_step.specs as vm_step
+pub use Rattle.bc_rows.specs as bc_rows
+pub use Rattle.bc_rows.specs.bc_verify
+pub use Rattle.bc_rows.specs.mpy_tree
+pub use Rattle.frame_moves.specs as frame_moves
 pub mod Fetches
 pub mod Numbered
 pub mod Operations

@@ -1,10 +1,10 @@
 -- Instructions with a number: an object of the module's table, or the operation with its number.
 use Rattle.std.specs.Prelude.{◌≡◌, ℕ, Some}
-use Rattle.bc_ops.specs.declared.instr.Op.{Op}
-use Rattle.bc_ops.specs.declared.instr.Op.TheVariants as ops
-use Rattle.arena_heap.specs.declared.value.Value.{Value}
-use Rattle.bc_library.specs.Constants.{object_value}
-use Rattle.bc_library.specs.Shelf.{Shelf}
+use Rattle.frame_moves.specs.bc_ops.declared.instr.Op.{Op}
+use Rattle.frame_moves.specs.bc_ops.declared.instr.Op.TheVariants as ops
+use Rattle.frame_moves.specs.arena_heap.declared.value.Value.{Value}
+use Rattle.bc_rows.specs.bc_library.Constants.{object_value}
+use Rattle.bc_rows.specs.bc_library.Shelf.{Shelf}
 use Rattle.vm_fetching.specs.declared.operations.NumberOp.{NumberOp}
 use Rattle.vm_fetching.specs.declared.instruction.Instruction.{Instruction}
 use Rattle.vm_fetching.specs.declared.instruction.Instruction.TheVariants as fetched

@@ -1,6 +1,6 @@
 -- Operations of one kind among all.
-use Rattle.bc_ops.specs.declared.instr.Op.{Op}
-use Rattle.bc_ops.specs.declared.instr.Op.TheVariants as ops
+use Rattle.frame_moves.specs.bc_ops.declared.instr.Op.{Op}
+use Rattle.frame_moves.specs.bc_ops.declared.instr.Op.TheVariants as ops
 use Rattle.vm_fetching.specs.declared.operations.PlainOp.{PlainOp}
 use Rattle.vm_fetching.specs.declared.operations.PlainOp.TheVariants as plain_ops
 use Rattle.vm_fetching.specs.declared.operations.NumberOp.{NumberOp}

@@ -1,20 +1,20 @@
 -- What is fetched, as the machine's items.
 use Rattle.std.specs.Prelude.{◌≡◌, ℕ, ◌<◌, List, length, Some, IsSome}
-use Rattle.bc_ops.specs.declared.instr.Instr.{Instr}
-use Rattle.bc_ops.specs.declared.instr.Instr.TheVariants as instrs
-use Rattle.bc_ops.specs.Listing.{item}
-use Rattle.bc_ops.specs.Signed.{IsSmall}
-use Rattle.bc_offsets.specs.Positions.{CodeList, Starts, position_in}
-use Rattle.mpy_tree.specs.Raw.{Module}
-use Rattle.mpy_tree.specs.Resolved.{resolved}
-use Rattle.arena_heap.specs.declared.value.StrNo.{StrNo}
-use Rattle.arena_heap.specs.declared.value.StrNo.TheVariants as strs
-use Rattle.bc_library.specs.Constants.{object_value, text_at}
-use Rattle.bc_library.specs.Shelf.{Shelf}
-use Rattle.bc_machine.specs.Library as machine
-use Rattle.bc_machine.specs.Library.{Item}
+use Rattle.frame_moves.specs.bc_ops.declared.instr.Instr.{Instr}
+use Rattle.frame_moves.specs.bc_ops.declared.instr.Instr.TheVariants as instrs
+use Rattle.frame_moves.specs.bc_ops.Listing.{item}
+use Rattle.frame_moves.specs.bc_ops.Signed.{IsSmall}
+use Rattle.frame_moves.specs.bc_labels.Positions.{CodeList, Starts, position_in}
+use Rattle.bc_rows.specs.mpy_tree.Raw.{Module}
+use Rattle.bc_rows.specs.mpy_tree.Resolved.{resolved}
+use Rattle.frame_moves.specs.arena_heap.declared.value.StrNo.{StrNo}
+use Rattle.frame_moves.specs.arena_heap.declared.value.StrNo.TheVariants as strs
+use Rattle.bc_rows.specs.bc_library.Constants.{object_value, text_at}
+use Rattle.bc_rows.specs.bc_library.Shelf.{Shelf}
+use Rattle.frame_moves.specs.bc_machine.Library as machine
+use Rattle.frame_moves.specs.bc_machine.Library.{Item}
 use Rattle.bc_rows.specs.declared.row.Row.{Row}
-use Rattle.vm_step.specs.Shown.{Tables, text_of, value_of}
+use Rattle.frame_moves.specs.Shown.{Tables, text_of, value_of}
 use Rattle.vm_fetching.specs.declared.operations.NumberOp.{NumberOp}
 use Rattle.vm_fetching.specs.declared.operations.NumberOp.TheVariants as numbers
 use Rattle.vm_fetching.specs.declared.instruction.Instruction.{Instruction}

@@ -1,15 +1,15 @@
 //! The instruction at an offset.
 
 ghost use Rattle.std.specs.Prelude.{◌≡◌, ℕ, suc, ◌<◌, ◌^◌, Some, IsSome, length};
-ghost use Rattle.bc_ops.specs.Code.{TakesNumber};
-ghost use Rattle.bc_ops.specs.Table.{code_of, form_of};
-ghost use Rattle.mpy_tree.specs.Raw.{Module};
-ghost use Rattle.bc_library.specs.Constants.{object_value};
-ghost use Rattle.bc_library.specs.Shelf.{module_at};
-ghost use Rattle.bc_machine.specs.Library.{Code};
-ghost use Rattle.bc_offsets.specs.Positions.{CodeList, Listed, Starts, Reads, position_in};
+ghost use Rattle.frame_moves.specs.bc_ops.Code.{TakesNumber};
+ghost use Rattle.frame_moves.specs.bc_ops.Table.{code_of, form_of};
+ghost use Rattle.bc_rows.specs.mpy_tree.Raw.{Module};
+ghost use Rattle.bc_rows.specs.bc_library.Constants.{object_value};
+ghost use Rattle.bc_rows.specs.bc_library.Shelf.{module_at};
+ghost use Rattle.frame_moves.specs.bc_machine.Library.{Code};
+ghost use Rattle.frame_moves.specs.bc_labels.Positions.{CodeList, Listed, Starts, Reads, position_in};
 ghost use Rattle.bc_rows.specs.Runs.{RunsAs};
-ghost use Rattle.vm_step.specs.Shown.{Tables};
+ghost use Rattle.frame_moves.specs.Shown.{Tables};
 ghost use Rattle.vm_fetching.specs.Fetches.{AreOf, IsVerifiedRow, Fetches};
 ghost use Rattle.vm_fetching.specs.Numbered.{IsNumbered};
 ghost use Rattle.vm_fetching.specs.Shows.{Shows};
@@ -17,10 +17,10 @@ ghost use Rattle.vm_fetching.specs.Shows.{Shows};
 use crate::instruction::{Fetched, Instruction};
 use crate::looking::{object_of, text_of};
 use crate::operations::{jump_op, name_op, number_op, plain_op};
-use bc_library::Library;
-use bc_offsets::jump_target;
-use bc_ops::{Instr, Op, decode_at};
 use bc_rows::Row;
+use bc_rows::bc_library::Library;
+use frame_moves::bc_labels::jump_target;
+use frame_moves::bc_ops::{Instr, Op, decode_at};
 
 /// The instruction that starts at the offset, and the offset that it ends at.
 #[inline(always)]

@@ -3,7 +3,7 @@
 ghost use Rattle.std.specs.Prelude.{◌≡◌, ℕ, ◌≤◌, length};
 ghost use Rattle.mpy_base.specs.declared.limits.TheConstants.{MAX_CODE_BYTES};
 ghost use Rattle.bc_prelude.specs.Lines as tables;
-ghost use Rattle.bc_library.specs.Shelf.{Shelf};
+ghost use Rattle.bc_rows.specs.bc_library.Shelf.{Shelf};
 ghost use Rattle.vm_fetching.specs.Fetches.{IsVerifiedRow};
 
 use bc_prelude::line_at;

@@ -1,13 +1,13 @@
 //! Operations by what they have behind their byte.
 
 ghost use Rattle.std.specs.Prelude.{◌≡◌, ℕ, Bool, IfSome, IfNone};
-ghost use Rattle.bc_ops.specs.declared.form.Form.TheVariants as forms;
-ghost use Rattle.bc_ops.specs.declared.instr.Instr.TheVariants as instrs;
-ghost use Rattle.bc_ops.specs.Code.{TakesNumber};
-ghost use Rattle.bc_ops.specs.Table.{code_of, form_of};
+ghost use Rattle.frame_moves.specs.bc_ops.declared.form.Form.TheVariants as forms;
+ghost use Rattle.frame_moves.specs.bc_ops.declared.instr.Instr.TheVariants as instrs;
+ghost use Rattle.frame_moves.specs.bc_ops.Code.{TakesNumber};
+ghost use Rattle.frame_moves.specs.bc_ops.Table.{code_of, form_of};
 ghost use Rattle.vm_fetching.specs.Operations as operations;
 
-use bc_ops::Op;
+use frame_moves::bc_ops::Op;
 
 /// An operation without an operand.
 #[derive(Clone, Copy, Debug, PartialEq, Eq)]

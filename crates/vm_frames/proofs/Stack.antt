@@ -1,11 +1,13 @@
 -- The calls of a stack whose frames change.
-use Rattle.std.proofs.Common.{◌≡◌, ℕ, zero, suc, ◌+◌, ◌-◌, ◌<◌, ◌≤◌, List, [], ◌∷◌, length, get_or, refl, sym, ap, ◌∙◌, subst, arith}
+use Rattle.std.proofs.Common.{◌≡◌, ℕ, zero, suc, ◌+◌, ◌-◌, ◌<◌, ◌≤◌, List, [], ◌∷◌, length, get_or, reverse, Some, refl, sym, ap, ◌∙◌, subst, arith}
 use Rattle.std.proofs.Math.ListN.{set}
-use Rattle.std.proofs.lemmas.List.{get_or-set_same, get_or-set_other, get_or_default}
+use Rattle.std.specs.Prelude.{slice_get}
+use Rattle.std.proofs.lemmas.List.{get_or-set_same, get_or-set_other, get_or_default, get_or-reverse, length-reverse}
+use Rattle.std.proofs.lemmas.Option.{slice_get-get_or}
 use Rattle.std.specs.Vec.{with_item}
 use Rattle.vm_frames.specs.Calls.{Call, Calls, OfRunning, change_first, on_running}
 use Rattle.vm_frames.specs.Held.{Held, with_call}
-use Rattle.vm_frames.specs.Stacked.{no_frame, calls_in, calls_of, IsFrames}
+use Rattle.vm_frames.specs.Stacked.{no_call, no_frame, calls_in, calls_of, IsFrames}
 use Rattle.vm_frames.specs.declared.frames.Frames.TheInside.{Inside}
 
 pub length_calls : (xs : List Held) (d : ℕ) → length (calls_in xs d) ≡ d
@@ -69,3 +71,28 @@ at_running P f old x inv e some at p =
     let h : f.depth - 1 < length xs = omega (arith, some, deep, inv.all, inv.deep) in
     let here : OfRunning P (calls_in xs (suc (f.depth - 1))) = subst (λ (z : Held). P z.call) (at ∙ get_or_default xs (f.depth - 1) x no_frame h) p in
     subst (λ (z : Calls). OfRunning P z.calls) e (subst (λ (z : ℕ). OfRunning P (calls_in xs z)) (sym k) here)
+
+-- the calls, the outermost first, are those of the frames from the lowest on
+at_calls : (xs : List Held) (d j : ℕ) → j < d → get_or (calls_in xs d) j no_call ≡ (get_or xs (d - 1 - j) no_frame).call
+at_calls xs zero j lt = absurd (omega (arith, lt))
+at_calls xs (suc d) zero lt = let e : d ≡ suc d - 1 - 0 = omega arith in ap (λ (n : ℕ). (get_or xs n no_frame).call) e
+at_calls xs (suc d) (suc j) lt =
+    let e : d - 1 - j ≡ suc d - 1 - suc j = omega arith in
+    at_calls xs d j (omega (arith, lt)) ∙ ap (λ (n : ℕ). (get_or xs n no_frame).call) e
+
+pub frame_at : (f : Inside) (old : Calls) (i : ℕ) (x : Held) → IsFrames f → calls_of f ≡ old → i < length old.calls → x ≡ get_or f.frames.items i x → slice_get (reverse old.calls) i ≡ Some x.call
+frame_at f old i x inv e lt is =
+    let xs = f.frames.items in
+    let deep = depth_is f old e in
+    let cs = calls_in xs f.depth in
+    let len = length_calls xs f.depth in
+    let turned = length-reverse cs in
+    let within : i < length (reverse cs) = omega (arith, lt, deep, len, turned) in
+    let inside : i < length cs = omega (arith, lt, deep, len) in
+    let here : length cs - 1 - i < f.depth = omega (arith, inside, len) in
+    let back : f.depth - 1 - (length cs - 1 - i) ≡ i = omega (arith, inside, len) in
+    let there : i < length xs = omega (arith, lt, deep, inv.all, inv.deep) in
+    ap (λ (z : Calls). slice_get (reverse z.calls) i) (sym e)
+    ∙ (slice_get-get_or (reverse cs) i no_call within
+    ∙ ap (λ (c : Call). Some c) (get_or-reverse cs i no_call inside ∙ (at_calls xs f.depth (length cs - 1 - i) here
+    ∙ (ap (λ (n : ℕ). (get_or xs n no_frame).call) back ∙ ap (λ (z : Held). z.call) (sym (is ∙ get_or_default xs i x no_frame there))))))

@@ -1,6 +1,6 @@
 //! One frame: the memory of one call, with its locals, slots and handler entries in vectors of a fixed room.
 
-ghost use Rattle.std.specs.Prelude.{◌≡◌, ℕ, ◌+◌, ◌-◌, ◌<◌, ◌≤◌, List, [], ◌∷◌, length, drop, Option, Some, None, IfOk, IfSome, option_and_then, slice_get, slice_set, slice_index_or, map, replicate, reverse, take};
+ghost use Rattle.std.specs.Prelude.{◌≡◌, ℕ, ◌+◌, ◌-◌, ◌^◌, ◌<◌, ◌≤◌, List, [], ◌∷◌, length, drop, Option, Some, None, IfOk, IfSome, option_and_then, slice_get, slice_set, slice_index_or, map, replicate, reverse, take};
 ghost use Rattle.std.specs.Vec.{vec_capacity};
 ghost use Rattle.arena_heap.specs.declared.value.Value.{Value as Item};
 ghost use Rattle.vm_frames.specs.Calls.{Call};
@@ -107,6 +107,31 @@ impl Frame {
         ensures names { result.2 ≡ self.now.call.names }
     {
         (self.module_number, self.code, self.names)
+    }
+
+    /// Its locals.
+    pub fn locals(&self) -> &[Option<Value>]
+        ensures are { result.now ≡ self.now.call.locals }
+        ensures few { length result.now < 2 ^ 32 }
+    {
+        &self.locals
+    }
+
+    /// Its slots, the lowest first.
+    pub fn slots(&self) -> &[Slot]
+        ensures are { result.now ≡ reverse self.now.call.slots }
+        ensures few { length result.now < 2 ^ 32 }
+    {
+        &self.slots[..self.height as usize]
+    }
+
+    /// Its entries, the outermost first.
+    pub fn entries(&self) -> &[Entry]
+        ensures are { result.now ≡ reverse self.now.call.entries }
+        ensures few { length result.now < 2 ^ 32 }
+    {
+        let _room = self.entry_room;
+        &self.entries
     }
 
     /// What its end does.

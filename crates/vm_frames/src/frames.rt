@@ -1,6 +1,6 @@
 //! The stack of frames.
 
-ghost use Rattle.std.specs.Prelude.{◌≡◌, ℕ, ◌^◌, ◌<◌, ◌≤◌, List, [], ◌∷◌, length, drop, Option, Some, None, false, IfOk, All, slice_get, slice_set, replicate};
+ghost use Rattle.std.specs.Prelude.{◌≡◌, ℕ, ◌^◌, ◌<◌, ◌≤◌, List, [], ◌∷◌, length, drop, reverse, Option, Some, None, false, IfOk, All, slice_get, slice_set, replicate};
 ghost use Rattle.mpy_base.specs.declared.limits.TheConstants.{MAX_CALLS as LIMIT};
 ghost use Rattle.vm_frames.specs.Calls.{Call, Calls, OfRunning, on_running};
 ghost use Rattle.vm_frames.specs.Held.{HasRoom};
@@ -8,7 +8,7 @@ ghost use Rattle.vm_frames.specs.Moves.{raised, unwound, CanUnwind, kept_in};
 
 use crate::frame::Frame;
 use crate::moves;
-use crate::slot::{Role, Slot};
+use crate::slot::{Entry, Role, Slot};
 use arena_heap::{DictNo, ExcNo, Value};
 use mpy_base::NoMemory;
 use mpy_base::limits::MAX_CALLS;
@@ -73,6 +73,14 @@ impl Frames {
         ensures { result ≡ length self.now.calls }
     {
         self.depth as u32
+    }
+
+    /// The frame of a call, the outermost first.
+    pub fn frame(&self, i: u32) -> &Frame
+        requires { i < length self.now.calls }
+        ensures { slice_get (reverse self.now.calls) i ≡ Some result.now.call }
+    {
+        &self.frames[i as usize]
     }
 
     /// Begins a call of a code, with empty locals.
@@ -199,6 +207,16 @@ impl Frames {
     {
         let top = self.depth - 1;
         self.frames[top].setup(handler, finally);
+    }
+
+    /// An entry more, innermost.
+    pub fn add_entry(&mut self, entry: Entry)
+        requires room { OfRunning (λ c. length c.entries < self.old.entry_room) self.old.calls }
+        requires low { entry.height < self.old.slot_room }
+        ensures { self.new ≡ on_running (λ c. record c { entries = entry ∷ c.entries }) self.old }
+    {
+        let top = self.depth - 1;
+        self.frames[top].add_entry(entry);
     }
 
     /// Drops its innermost entry.

@@ -1,10 +1,17 @@
-//! The frames of the machine: a stack of calls with their locals, slots and handler entries, in memory that is taken once.
+//! The frames of the machine: a stack of calls with their locals, slots and handler entries, in memory that
+//! is taken once. Their moves are those of the machine.
 #![tactic(auto)]
 
 mod frame;
 mod frames;
 mod moves;
+mod placed;
 mod slot;
 
+pub use bc_labels;
+pub use bc_machine;
+pub use bc_machine::bc_ops;
+pub use frame::Frame;
 pub use frames::Frames;
+pub use placed::{moves_law, placed_law};
 pub use slot::{Entry, Role, Slot};

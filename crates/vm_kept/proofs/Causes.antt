@@ -5,14 +5,14 @@ use Rattle.std.proofs.lemmas.List.{length-map}
 use Rattle.std.proofs.lemmas.Option.{same_Some, slice_get_within}
 use Rattle.mpy_base.specs.World.{ObjectKind, AList, ATuple, AText, ADict, AFunction, AnException, AMethod, ARange, AModule, Objects, object, kind_of, IsA}
 use Rattle.mpy_base.specs.Val.{Val, Nil, At}
-use Rattle.arena_heap.specs.declared.value.Value.{Value}
-use Rattle.arena_heap.specs.declared.value.Value.TheVariants as values
-use Rattle.arena_heap.specs.declared.value.StrNo.{StrNo}
-use Rattle.arena_heap.specs.declared.value.ConstNo.{ConstNo}
-use Rattle.arena_heap.specs.declared.value.ExcNo.{ExcNo}
-use Rattle.arena_heap.specs.Values.{Leads}
-use Rattle.bc_shapes.specs.declared.shape.Entry.{Entry as FlowEntry}
-use Rattle.bc_shapes.specs.Shape.{At as Shape}
+use Rattle.state_calls.specs.arena_heap.declared.value.Value.{Value}
+use Rattle.state_calls.specs.arena_heap.declared.value.Value.TheVariants as values
+use Rattle.state_calls.specs.arena_heap.declared.value.StrNo.{StrNo}
+use Rattle.state_calls.specs.arena_heap.declared.value.ConstNo.{ConstNo}
+use Rattle.state_calls.specs.arena_heap.declared.value.ExcNo.{ExcNo}
+use Rattle.state_calls.specs.arena_heap.Values.{Leads}
+use Rattle.bc_flow.specs.bc_shapes.declared.shape.Entry.{Entry as FlowEntry}
+use Rattle.bc_flow.specs.bc_shapes.Shape.{At as Shape}
 use Rattle.bc_ops.specs.declared.instr.Op.TheVariants as ops
 use Rattle.bc_ops.specs.declared.instr.Instr.TheVariants as instrs
 use Rattle.bc_flow.specs.Action.{EndFinally, op_action, instr_action}
@@ -23,16 +23,16 @@ use Rattle.bc_flow.specs.Machine.{Stack, St}
 use Rattle.bc_flow.proofs.Going.{Here}
 use Rattle.bc_flow.proofs.Never.{Good, end_height}
 use Rattle.bc_flow.proofs.Sound.{Fits as Heights, stands-length, Sound, CanUnwind}
-use Rattle.bc_machine.specs.Library.{Line, Library, Plain}
-use Rattle.bc_machine.specs.State as states
-use Rattle.bc_machine.specs.State.{Frame}
-use Rattle.bc_progress.specs.Slots.{Facts, ShowsIn, value, nothing, exception, null, kept_return, kept_jump, iterator1, iterator2, iterator3, iterator4, ShowsAllIn, none, more, bound, free, flow_entry}
-use Rattle.bc_progress.specs.Plans.{Plans, Follows, action_of, flow_of}
-use Rattle.bc_progress.specs.Fits.{StandsIn}
-use Rattle.bc_progress.proofs.Flowing.{acts}
-use Rattle.bc_progress.proofs.Frames.{meets}
-use Rattle.bc_progress.proofs.Items.{fine}
-use Rattle.vm_walks.specs.Plain.{fixed_of, fixed_within, plain}
+use Rattle.state_calls.specs.bc_machine.Library.{Line, Library, Plain}
+use Rattle.state_calls.specs.bc_machine.State as states
+use Rattle.state_calls.specs.bc_machine.State.{Frame}
+use Rattle.state_calls.specs.bc_progress.Slots.{Facts, ShowsIn, value, nothing, exception, null, kept_return, kept_jump, iterator1, iterator2, iterator3, iterator4, ShowsAllIn, none, more, bound, free, flow_entry}
+use Rattle.state_calls.specs.bc_progress.Plans.{Plans, Follows, action_of, flow_of}
+use Rattle.state_calls.specs.bc_progress.Fits.{StandsIn}
+use Rattle.state_calls.proofs.bc_progress_lemmas.Flowing.{acts}
+use Rattle.state_calls.proofs.bc_progress_lemmas.Frames.{meets}
+use Rattle.state_calls.proofs.bc_progress_lemmas.Items.{fine}
+use Rattle.state_calls.specs.prim_walks.Plain.{fixed_of, fixed_within, plain}
 use Rattle.vm_kept.proofs.Plain.{get_map}
 
 -- where a kept jump goes, the code has an instruction

@@ -6,31 +6,31 @@ use Rattle.std.proofs.lemmas.List.Elements.{All-head}
 use Rattle.std.proofs.lemmas.Option.{same_Some}
 use Rattle.mpy_base.specs.World.{AnException, Objects, IsA}
 use Rattle.mpy_base.specs.Val.{Val, Nil, At}
-use Rattle.arena_heap.specs.declared.value.Value.{Value}
-use Rattle.bc_offsets.specs.Positions.{Starts, position_in}
-use Rattle.bc_machine.specs.Library.{Code}
-use Rattle.bc_machine.specs.State as states
-use Rattle.bc_machine.specs.State.{Frame}
-use Rattle.bc_progress.specs.Fits.{StandsIn}
-use Rattle.bc_progress.specs.Known.{facts_of}
-use Rattle.bc_rows.specs.declared.row.Row.{Row}
-use Rattle.vm_standing.specs.OnTop as tops
-use Rattle.vm_standing.specs.OnTop.{IsCause, Ending}
-use Rattle.vm_faults.specs.Faults.{IsKnown}
-use Rattle.vm_frames.specs.declared.slot.Slot.{Slot}
-use Rattle.vm_frames.specs.declared.slot.Slot.TheVariants as slots
-use Rattle.vm_frames.specs.Calls.{Call, Calls, OfRunning}
-use Rattle.vm_moves.specs.Views.{slot_of, slots_of, starts_of, frame_of}
-use Rattle.vm_leaving.specs.vm_step.Shown.{view_of, value_of, IsTop}
-use Rattle.vm_leaving.specs.vm_unwinding.declared.causes.Cause.{Cause}
-use Rattle.vm_leaving.specs.vm_unwinding.declared.causes.Cause.TheVariants as causes
-use Rattle.vm_leaving.specs.vm_unwinding.Causes.{cause_slot}
-use Rattle.vm_leaving.specs.vm_fetching.declared.operations.PlainOp.TheVariants as plain_ops
-use Rattle.vm_leaving.specs.vm_states.Means.{Program, Means}
-use Rattle.vm_leaving.specs.vm_states.Ready.{IsReady}
-use Rattle.vm_leaving.specs.vm_known.State.{IsKnownSlot, IsKnownCall, IsState}
-use Rattle.vm_leaving.specs.Keeping.{TargetStarts, KeepsCause}
-use Rattle.vm_leaving.specs.Running.{fetched_plain}
+use Rattle.state_calls.specs.arena_heap.declared.value.Value.{Value}
+use Rattle.state_calls.specs.bc_labels.Positions.{Starts, position_in}
+use Rattle.state_calls.specs.bc_machine.Library.{Code}
+use Rattle.state_calls.specs.bc_machine.State as states
+use Rattle.state_calls.specs.bc_machine.State.{Frame}
+use Rattle.state_calls.specs.bc_progress.Fits.{StandsIn}
+use Rattle.state_calls.specs.bc_progress.Known.{facts_of}
+use Rattle.state_calls.specs.bc_rows.declared.row.Row.{Row}
+use Rattle.state_calls.specs.vm_states.OnTop as tops
+use Rattle.state_calls.specs.vm_states.OnTop.{IsCause, Ending}
+use Rattle.state_calls.specs.prim_faults.Faults.{IsKnown}
+use Rattle.state_calls.specs.vm_frames.declared.slot.Slot.{Slot}
+use Rattle.state_calls.specs.vm_frames.declared.slot.Slot.TheVariants as slots
+use Rattle.state_calls.specs.vm_frames.Calls.{Call, Calls, OfRunning}
+use Rattle.state_calls.specs.vm_frames.Views.{slot_of, slots_of, starts_of, frame_of}
+use Rattle.state_calls.specs.frame_moves.Shown.{view_of, value_of, IsTop}
+use Rattle.state_calls.specs.frame_exits.declared.causes.Cause.{Cause}
+use Rattle.state_calls.specs.frame_exits.declared.causes.Cause.TheVariants as causes
+use Rattle.state_calls.specs.frame_exits.Causes.{cause_slot}
+use Rattle.state_calls.specs.vm_fetching.declared.operations.PlainOp.TheVariants as plain_ops
+use Rattle.state_calls.specs.vm_states.Means.{Program, Means}
+use Rattle.state_calls.specs.vm_states.Ready.{IsReady}
+use Rattle.state_calls.specs.vm_states.State.{IsKnownSlot, IsKnownCall, IsState}
+use Rattle.state_exits.specs.Keeping.{TargetStarts, KeepsCause}
+use Rattle.state_exits.specs.Running.{fetched_plain}
 use Rattle.vm_kept.specs.Kept.{KeepCalls, HoldsKept}
 use Rattle.vm_kept.proofs.Causes as kept
 

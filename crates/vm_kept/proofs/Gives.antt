@@ -5,44 +5,44 @@ use Rattle.std.proofs.lemmas.List.{drop-map}
 use Rattle.std.proofs.lemmas.Option.{same_Some}
 use Rattle.mpy_base.specs.World.{Objects, Heap, Later}
 use Rattle.mpy_base.specs.Val.{PlainWorld}
-use Rattle.bc_shapes.specs.declared.kinds.Kind.TheVariants as kinds
-use Rattle.bc_shapes.specs.declared.kinds.Give.TheVariants.{New}
-use Rattle.bc_shapes.specs.declared.kinds.Want.{Want}
-use Rattle.bc_shapes.specs.declared.kinds.Want.TheVariants as wants
-use Rattle.bc_shapes.specs.Shape.{takes}
+use Rattle.bc_flow.specs.bc_shapes.declared.kinds.Kind.TheVariants as kinds
+use Rattle.bc_flow.specs.bc_shapes.declared.kinds.Give.TheVariants.{New}
+use Rattle.bc_flow.specs.bc_shapes.declared.kinds.Want.{Want}
+use Rattle.bc_flow.specs.bc_shapes.declared.kinds.Want.TheVariants as wants
+use Rattle.bc_flow.specs.bc_shapes.Shape.{takes}
 use Rattle.bc_ops.specs.declared.instr.Instr.TheVariants as instrs
 use Rattle.bc_flow.specs.Action.{Straight, op_action, instr_action, arguments}
 use Rattle.bc_flow.specs.Machine as flow
-use Rattle.arena_heap.specs.declared.value.Value.{Value}
+use Rattle.state_calls.specs.arena_heap.declared.value.Value.{Value}
 use Rattle.py_effects.specs.Effect.{Place}
-use Rattle.bc_offsets.specs.Positions.{position_in}
-use Rattle.bc_machine.specs.Library.{Code, Line}
-use Rattle.bc_machine.specs.State as states
-use Rattle.bc_machine.specs.State.{State, Frame, Running, go}
-use Rattle.bc_progress.specs.Slots.{Facts, value, ShowsAllIn, more}
-use Rattle.bc_progress.specs.Plans.{action_of, flow_of}
-use Rattle.bc_progress.specs.Fits.{StandsIn, BelowIn, FitsIn}
-use Rattle.bc_progress.specs.Known.{facts_of}
-use Rattle.bc_progress.proofs.Showing.{shows_drop, takes-length}
-use Rattle.bc_progress.proofs.Knowing.{own_covered}
-use Rattle.bc_progress.proofs.Steps.{straight, nexts}
-use Rattle.bc_progress.proofs.Others.{stands_more, below_more, objects_more}
-use Rattle.bc_rows.specs.declared.row.Row.{Row}
-use Rattle.vm_frames.specs.declared.slot.Slot.TheVariants as slots
-use Rattle.vm_frames.specs.Calls.{Call, Calls, change_first, on_running}
-use Rattle.vm_moves.specs.Views.{slot_of, slots_of, starts_of, position_of, frame_of}
-use Rattle.vm_leaving.specs.vm_step.Shown.{IsNext, view_of, value_of, running_of}
-use Rattle.vm_leaving.proofs.vm_step_lemmas.Stepping.{goes_to}
-use Rattle.vm_leaving.specs.vm_fetching.declared.operations.NumberOp.{NumberOp}
-use Rattle.vm_leaving.specs.vm_fetching.declared.operations.NumberOp.TheVariants as number_ops
-use Rattle.vm_leaving.specs.vm_fetching.Operations.{number_op}
-use Rattle.vm_leaving.specs.vm_fetching.declared.instruction.Fetched.{Fetched}
-use Rattle.vm_leaving.specs.vm_fetching.declared.instruction.Instruction.TheVariants as fetched
-use Rattle.vm_calling.specs.vm_invoking.Operands.{operands_count}
-use Rattle.vm_calling.specs.vm_invoking.Putting.{with_value}
-use Rattle.vm_leaving.specs.vm_states.Means.{Program, Means}
-use Rattle.vm_leaving.specs.vm_states.Ready.{IsReady}
-use Rattle.vm_calling.specs.Taken.{CallsValue, callee_slots}
+use Rattle.state_calls.specs.bc_labels.Positions.{position_in}
+use Rattle.state_calls.specs.bc_machine.Library.{Code, Line}
+use Rattle.state_calls.specs.bc_machine.State as states
+use Rattle.state_calls.specs.bc_machine.State.{State, Frame, Running, go}
+use Rattle.state_calls.specs.bc_progress.Slots.{Facts, value, ShowsAllIn, more}
+use Rattle.state_calls.specs.bc_progress.Plans.{action_of, flow_of}
+use Rattle.state_calls.specs.bc_progress.Fits.{StandsIn, BelowIn, FitsIn}
+use Rattle.state_calls.specs.bc_progress.Known.{facts_of}
+use Rattle.state_calls.proofs.bc_progress_lemmas.Showing.{shows_drop, takes-length}
+use Rattle.state_calls.proofs.bc_progress_lemmas.Knowing.{own_covered}
+use Rattle.state_calls.proofs.bc_progress_lemmas.Steps.{straight, nexts}
+use Rattle.state_calls.proofs.bc_progress_lemmas.Others.{stands_more, below_more, objects_more}
+use Rattle.state_calls.specs.bc_rows.declared.row.Row.{Row}
+use Rattle.state_calls.specs.vm_frames.declared.slot.Slot.TheVariants as slots
+use Rattle.state_calls.specs.vm_frames.Calls.{Call, Calls, change_first, on_running}
+use Rattle.state_calls.specs.vm_frames.Views.{slot_of, slots_of, starts_of, position_of, frame_of}
+use Rattle.state_calls.specs.frame_moves.Shown.{IsNext, view_of, value_of, running_of}
+use Rattle.state_calls.proofs.frame_moves_lemmas.Stepping.{goes_to}
+use Rattle.state_calls.specs.vm_fetching.declared.operations.NumberOp.{NumberOp}
+use Rattle.state_calls.specs.vm_fetching.declared.operations.NumberOp.TheVariants as number_ops
+use Rattle.state_calls.specs.vm_fetching.Operations.{number_op}
+use Rattle.state_calls.specs.vm_fetching.declared.instruction.Fetched.{Fetched}
+use Rattle.state_calls.specs.vm_fetching.declared.instruction.Instruction.TheVariants as fetched
+use Rattle.state_calls.specs.frame_calls.Operands.{operands_count}
+use Rattle.state_calls.specs.frame_calls.Putting.{with_value}
+use Rattle.state_calls.specs.vm_states.Means.{Program, Means}
+use Rattle.state_calls.specs.vm_states.Ready.{IsReady}
+use Rattle.state_calls.specs.Taken.{CallsValue, callee_slots}
 use Rattle.vm_kept.specs.Kept.{KeepCalls, HoldsKept}
 use Rattle.vm_kept.proofs.Plain.{get_map, to_plain}
 use Rattle.vm_kept.proofs.Steps.{plain_of, first_later, kept_in}

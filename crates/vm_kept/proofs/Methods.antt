@@ -6,26 +6,26 @@ use Rattle.std.proofs.lemmas.List.Elements.{All-head}
 use Rattle.mpy_base.specs.declared.builtin.Builtin.{Builtin}
 use Rattle.mpy_base.specs.World.{ObjectKind, AList, ATuple, AText, ADict, AFunction, AnException, AMethod, ARange, AModule, Objects, object, kind_of, IsA}
 use Rattle.mpy_base.specs.Val.{Val, Built}
-use Rattle.arena_heap.specs.declared.value.Value.{Value}
-use Rattle.arena_heap.specs.declared.value.Value.TheVariants as values
-use Rattle.arena_heap.specs.declared.value.StrNo.{StrNo}
-use Rattle.arena_heap.specs.declared.value.ConstNo.{ConstNo}
-use Rattle.arena_heap.specs.Values.{IsMethodOf, Leads}
-use Rattle.py_primitives.specs.Builtins.{named, list_methods, dict_methods, str_methods}
+use Rattle.state_calls.specs.arena_heap.declared.value.Value.{Value}
+use Rattle.state_calls.specs.arena_heap.declared.value.Value.TheVariants as values
+use Rattle.state_calls.specs.arena_heap.declared.value.StrNo.{StrNo}
+use Rattle.state_calls.specs.arena_heap.declared.value.ConstNo.{ConstNo}
+use Rattle.state_calls.specs.arena_heap.Values.{IsMethodOf, Leads}
+use Rattle.py_effects.specs.py_primitives.Builtins.{named, list_methods, dict_methods, str_methods}
 use Rattle.bc_flow.specs.Machine as flow
 use Rattle.bc_flow.specs.Machine.{Stack}
-use Rattle.bc_machine.specs.State as states
-use Rattle.bc_progress.specs.Slots.{Facts, ShowsIn, value, nothing, exception, null, kept_return, kept_jump, iterator1, iterator2, iterator3, iterator4, ShowsAllIn, none, more, bound, free}
-use Rattle.bc_progress.specs.Known.{KindHas, HasMethod, facts_of}
-use Rattle.vm_walks.specs.Plain.{fixed_of, fixed_within, plain}
-use Rattle.vm_frames.specs.declared.slot.Slot.{Slot}
-use Rattle.vm_frames.specs.declared.slot.Slot.TheVariants as slots
-use Rattle.vm_frames.specs.Calls.{Call, Calls, OfRunning}
-use Rattle.vm_moves.specs.Views.{slot_of, starts_of}
-use Rattle.vm_leaving.specs.vm_step.Shown.{view_of, value_of}
-use Rattle.vm_leaving.specs.vm_states.Means.{Program}
-use Rattle.vm_leaving.specs.vm_known.State.{IsKnownSlot, IsKnownCall, IsState}
-use Rattle.vm_calling.specs.Taken.{HasMethods}
+use Rattle.state_calls.specs.bc_machine.State as states
+use Rattle.state_calls.specs.bc_progress.Slots.{Facts, ShowsIn, value, nothing, exception, null, kept_return, kept_jump, iterator1, iterator2, iterator3, iterator4, ShowsAllIn, none, more, bound, free}
+use Rattle.state_calls.specs.bc_progress.Known.{KindHas, HasMethod, facts_of}
+use Rattle.state_calls.specs.prim_walks.Plain.{fixed_of, fixed_within, plain}
+use Rattle.state_calls.specs.vm_frames.declared.slot.Slot.{Slot}
+use Rattle.state_calls.specs.vm_frames.declared.slot.Slot.TheVariants as slots
+use Rattle.state_calls.specs.vm_frames.Calls.{Call, Calls, OfRunning}
+use Rattle.state_calls.specs.vm_frames.Views.{slot_of, starts_of}
+use Rattle.state_calls.specs.frame_moves.Shown.{view_of, value_of}
+use Rattle.state_calls.specs.vm_states.Means.{Program}
+use Rattle.state_calls.specs.vm_states.State.{IsKnownSlot, IsKnownCall, IsState}
+use Rattle.state_calls.specs.Taken.{HasMethods}
 use Rattle.vm_kept.specs.Kept.{KeepCalls, HoldsKept}
 use Rattle.vm_kept.proofs.Plain.{get_map, all_get}
 

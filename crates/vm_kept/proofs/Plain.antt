@@ -4,12 +4,12 @@ use Rattle.std.specs.Prelude.{slice_get}
 use Rattle.std.proofs.lemmas.List.Elements.{All-head, All-tail}
 use Rattle.std.proofs.lemmas.Option.{same_Some}
 use Rattle.mpy_base.specs.World.{ListObject, TupleObject, TextObject, DictObject, FunctionObject, ExceptionObject, MethodObject, RangeObject, ModuleObject, ObjectKind, Objects, object, kind_of, IsA}
-use Rattle.arena_heap.specs.declared.value.Value.{Value}
-use Rattle.arena_heap.specs.declared.value.StrNo.{StrNo}
-use Rattle.arena_heap.specs.declared.value.ConstNo.{ConstNo}
-use Rattle.arena_heap.specs.Values.{ArenaObject}
-use Rattle.vm_walks.specs.Plain.{plain_object}
-use Rattle.vm_walks.proofs.PlainValues.{object_plain}
+use Rattle.state_calls.specs.arena_heap.declared.value.Value.{Value}
+use Rattle.state_calls.specs.arena_heap.declared.value.StrNo.{StrNo}
+use Rattle.state_calls.specs.arena_heap.declared.value.ConstNo.{ConstNo}
+use Rattle.state_calls.specs.arena_heap.Values.{ArenaObject}
+use Rattle.state_calls.specs.prim_walks.Plain.{plain_object}
+use Rattle.state_calls.proofs.prim_walks_lemmas.PlainValues.{object_plain}
 
 pub get_map : {A B : Type 0} (f : A → B) (xs : List A) (i : ℕ) (x : A) → slice_get xs i ≡ Some x → slice_get (map f xs) i ≡ Some (f x)
 get_map f [] i x e = cc

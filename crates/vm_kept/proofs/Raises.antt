@@ -2,24 +2,24 @@
 use Rattle.std.proofs.Common.{◌≡◌, ℕ, List, [], ◌∷◌, map, sym, ap, ◌∙◌, subst}
 use Rattle.mpy_base.specs.World.{Heap, Later}
 use Rattle.mpy_base.specs.Val.{PlainWorld}
-use Rattle.arena_heap.specs.declared.value.Value.{Value}
-use Rattle.py_primitives.specs.Outcome as primitives
+use Rattle.state_calls.specs.arena_heap.declared.value.Value.{Value}
+use Rattle.py_effects.specs.py_primitives.Outcome as primitives
 use Rattle.py_effects.specs.Effect.{Place, Fails}
-use Rattle.bc_progress.specs.Slots.{Facts}
-use Rattle.bc_progress.specs.Known.{facts_of, objects_of}
-use Rattle.bc_progress.proofs.Knowing.{Covers, FitsBehind, ThrowsKnown, fault_known, own_covered}
-use Rattle.bc_progress.proofs.Frames.{fails_fit}
-use Rattle.bc_progress.proofs.Others.{stands_more, below_more, objects_more}
-use Rattle.vm_faults.specs.declared.stop.Stop.{Stop}
-use Rattle.vm_faults.specs.Outcomes.{plain_stop}
-use Rattle.vm_leaving.specs.vm_raising.Places.{stopped_at}
-use Rattle.vm_modules.specs.Registry.{Registry}
-use Rattle.vm_frames.specs.Calls.{Call, Calls}
-use Rattle.vm_moves.specs.Views.{frame_of}
-use Rattle.vm_leaving.specs.vm_step.Shown.{view_of, running_of}
-use Rattle.vm_leaving.specs.vm_step.Outcomes.{world_of, failing_of, stopping_of}
-use Rattle.vm_leaving.specs.vm_unwinding.Ends.{with_modules}
-use Rattle.vm_leaving.specs.vm_states.Means.{Program, Means}
+use Rattle.state_calls.specs.bc_progress.Slots.{Facts}
+use Rattle.state_calls.specs.bc_progress.Known.{facts_of, objects_of}
+use Rattle.state_calls.proofs.bc_progress_lemmas.Knowing.{Covers, FitsBehind, ThrowsKnown, fault_known, own_covered}
+use Rattle.state_calls.proofs.bc_progress_lemmas.Frames.{fails_fit}
+use Rattle.state_calls.proofs.bc_progress_lemmas.Others.{stands_more, below_more, objects_more}
+use Rattle.state_calls.specs.prim_faults.declared.stop.Stop.{Stop}
+use Rattle.state_calls.specs.prim_faults.Outcomes.{plain_stop}
+use Rattle.prim_raising.specs.Places.{stopped_at}
+use Rattle.state_calls.specs.prim_modules.Registry.{Registry}
+use Rattle.state_calls.specs.vm_frames.Calls.{Call, Calls}
+use Rattle.state_calls.specs.vm_frames.Views.{frame_of}
+use Rattle.state_calls.specs.frame_moves.Shown.{view_of, running_of}
+use Rattle.state_calls.specs.frame_moves.Outcomes.{world_of, failing_of, stopping_of}
+use Rattle.state_calls.specs.frame_exits.Ends.{with_modules}
+use Rattle.state_calls.specs.vm_states.Means.{Program, Means}
 use Rattle.vm_kept.specs.Kept.{KeepCalls, HoldsKept}
 use Rattle.vm_kept.proofs.Plain.{to_plain}
 use Rattle.vm_kept.proofs.Steps.{plain_of, running_objects, first_later, kept_in}

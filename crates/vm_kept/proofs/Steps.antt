@@ -3,29 +3,29 @@ use Rattle.std.proofs.Common.{◌≡◌, ℕ, List, [], ◌∷◌, map, Some, re
 use Rattle.std.proofs.lemmas.List.Elements.{All-nil}
 use Rattle.mpy_base.specs.World.{Heap, Objects, Later}
 use Rattle.mpy_base.specs.Val.{Val, PlainWorld}
-use Rattle.arena_heap.specs.declared.value.Value.{Value}
+use Rattle.state_calls.specs.arena_heap.declared.value.Value.{Value}
 use Rattle.bc_flow.specs.Machine.{Stack}
-use Rattle.bc_machine.specs.Library.{Name, Module, Holds, Library, entry_in}
-use Rattle.bc_machine.specs.Machine.{start}
-use Rattle.bc_machine.specs.State as states
-use Rattle.bc_machine.specs.State.{State, Role, Main, Called, Imported, Frame}
-use Rattle.bc_machine.specs.Step.{step}
-use Rattle.bc_progress.specs.Slots.{Facts, ShowsAll, ShowsAllIn, none, more, bound, free, KeepIn}
-use Rattle.bc_progress.specs.Plans.{Plans, Follows}
-use Rattle.bc_progress.specs.Fits.{Stands, Below, StandsIn, BelowIn, FitsIn}
-use Rattle.bc_progress.specs.Known.{facts_of, objects_of, FitsKnown}
-use Rattle.bc_progress.proofs.Knowing.{K}
-use Rattle.bc_progress.proofs.Others.{fits_more, stands_more, below_more, objects_more}
-use Rattle.vm_walks.specs.Plain.{plain_object}
-use Rattle.vm_modules.specs.Registry.{Registry}
-use Rattle.vm_frames.specs.Calls.{Call, Calls}
-use Rattle.vm_moves.specs.Views.{slots_of, entries_of, starts_of, position_of, frame_of}
-use Rattle.vm_leaving.specs.vm_step.Shown.{view_of, running_of}
-use Rattle.vm_leaving.specs.vm_step.Outcomes.{world_of}
-use Rattle.vm_leaving.specs.vm_unwinding.Ends.{with_modules}
-use Rattle.vm_leaving.specs.vm_states.Means.{Program, Means}
-use Rattle.vm_leaving.specs.vm_states.Running.{FitCalls, IsRunning}
-use Rattle.vm_leaving.specs.Running.{stepped_with}
+use Rattle.state_calls.specs.bc_machine.Library.{Name, Module, Holds, Library, entry_in}
+use Rattle.state_calls.specs.bc_machine.Machine.{start}
+use Rattle.state_calls.specs.bc_machine.State as states
+use Rattle.state_calls.specs.bc_machine.State.{State, Role, Main, Called, Imported, Frame}
+use Rattle.state_calls.specs.bc_machine.Step.{step}
+use Rattle.state_calls.specs.bc_progress.Slots.{Facts, ShowsAll, ShowsAllIn, none, more, bound, free, KeepIn}
+use Rattle.state_calls.specs.bc_progress.Plans.{Plans, Follows}
+use Rattle.state_calls.specs.bc_progress.Fits.{Stands, Below, StandsIn, BelowIn, FitsIn}
+use Rattle.state_calls.specs.bc_progress.Known.{facts_of, objects_of, FitsKnown}
+use Rattle.state_calls.proofs.bc_progress_lemmas.Knowing.{K}
+use Rattle.state_calls.proofs.bc_progress_lemmas.Others.{fits_more, stands_more, below_more, objects_more}
+use Rattle.state_calls.specs.prim_walks.Plain.{plain_object}
+use Rattle.state_calls.specs.prim_modules.Registry.{Registry}
+use Rattle.state_calls.specs.vm_frames.Calls.{Call, Calls}
+use Rattle.state_calls.specs.vm_frames.Views.{slots_of, entries_of, starts_of, position_of, frame_of}
+use Rattle.state_calls.specs.frame_moves.Shown.{view_of, running_of}
+use Rattle.state_calls.specs.frame_moves.Outcomes.{world_of}
+use Rattle.state_calls.specs.frame_exits.Ends.{with_modules}
+use Rattle.state_calls.specs.vm_states.Means.{Program, Means}
+use Rattle.state_calls.specs.vm_states.Running.{FitCalls, IsRunning}
+use Rattle.state_exits.specs.Running.{stepped_with}
 use Rattle.vm_kept.specs.Kept.{KeepCalls, HoldsKept}
 use Rattle.vm_kept.proofs.Plain.{to_plain, from_plain}
 

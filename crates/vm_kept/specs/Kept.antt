@@ -1,13 +1,13 @@
 -- What the calls of a program keep: exceptions and methods that the objects of its arena have.
 use Rattle.std.specs.Prelude.{ℕ, List, [], ◌∷◌, map}
 use Rattle.mpy_base.specs.World.{Objects}
-use Rattle.arena_heap.specs.declared.value.Value.{Value}
-use Rattle.bc_progress.specs.Fits.{StandsIn, BelowIn}
-use Rattle.bc_progress.specs.Known.{facts_of}
-use Rattle.vm_frames.specs.Calls.{Call, Calls}
-use Rattle.vm_moves.specs.Views.{frame_of}
-use Rattle.vm_leaving.specs.vm_step.Shown.{view_of}
-use Rattle.vm_leaving.specs.vm_states.Means.{Program}
+use Rattle.state_calls.specs.arena_heap.declared.value.Value.{Value}
+use Rattle.state_calls.specs.bc_progress.Fits.{StandsIn, BelowIn}
+use Rattle.state_calls.specs.bc_progress.Known.{facts_of}
+use Rattle.state_calls.specs.vm_frames.Calls.{Call, Calls}
+use Rattle.state_calls.specs.vm_frames.Views.{frame_of}
+use Rattle.state_calls.specs.frame_moves.Shown.{view_of}
+use Rattle.state_calls.specs.vm_states.Means.{Program}
 
 module _ (p : Program) (objects : Objects Value ℕ) where
   -- the first of the calls stands at an instruction, and the others wait, as the plans have it. An exception that a handler finds

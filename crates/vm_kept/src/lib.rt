@@ -5,32 +5,32 @@
 ghost use Rattle.std.specs.Prelude.{◌≡◌, ℕ, ◌+◌, [], ◌∷◌, Some};
 ghost use Rattle.mpy_base.specs.World.{Objects, Heap, Later};
 ghost use Rattle.mpy_base.specs.Val.{PlainWorld};
-ghost use Rattle.arena_heap.specs.declared.value.Value.{Value};
+ghost use Rattle.state_calls.specs.arena_heap.declared.value.Value.{Value};
 ghost use Rattle.py_effects.specs.Effect.{Place};
-ghost use Rattle.vm_faults.specs.declared.stop.Stop.{Stop};
-ghost use Rattle.bc_machine.specs.Library.{Name, Module, Holds, entry_in};
-ghost use Rattle.bc_machine.specs.Machine.{start};
-ghost use Rattle.bc_rows.specs.declared.row.Row.{Row};
-ghost use Rattle.vm_modules.specs.Registry.{Registry};
-ghost use Rattle.vm_frames.specs.Calls.{Call, Calls, OfRunning, on_running};
-ghost use Rattle.vm_leaving.specs.vm_step.Shown.{running_of};
-ghost use Rattle.vm_leaving.specs.vm_step.Outcomes.{world_of, stopping_of};
-ghost use Rattle.vm_leaving.specs.vm_unwinding.Ends.{with_modules};
-ghost use Rattle.vm_leaving.specs.vm_fetching.declared.operations.NumberOp.{NumberOp};
-ghost use Rattle.vm_leaving.specs.vm_fetching.declared.operations.PlainOp.TheVariants as plain_ops;
-ghost use Rattle.vm_leaving.specs.vm_fetching.declared.instruction.Instruction.TheVariants as fetched;
-ghost use Rattle.vm_calling.specs.vm_invoking.Operands.{operands_count};
-ghost use Rattle.vm_calling.specs.vm_invoking.Putting.{with_value};
-ghost use Rattle.vm_leaving.specs.vm_states.Means.{Program, Means};
-ghost use Rattle.vm_leaving.specs.vm_states.Running.{IsRunning};
-ghost use Rattle.vm_leaving.specs.vm_states.Ready.{IsReady};
-ghost use Rattle.vm_leaving.specs.vm_known.State.{IsState};
-ghost use Rattle.vm_leaving.specs.Keeping.{KeepsCause};
-ghost use Rattle.vm_leaving.specs.Running.{fetched_plain, stepped_with};
-ghost use Rattle.vm_calling.specs.Taken.{HasMethods, CallsValue, callee_slots};
+ghost use Rattle.state_calls.specs.prim_faults.declared.stop.Stop.{Stop};
+ghost use Rattle.state_calls.specs.bc_machine.Library.{Name, Module, Holds, entry_in};
+ghost use Rattle.state_calls.specs.bc_machine.Machine.{start};
+ghost use Rattle.state_calls.specs.bc_rows.declared.row.Row.{Row};
+ghost use Rattle.state_calls.specs.prim_modules.Registry.{Registry};
+ghost use Rattle.state_calls.specs.vm_frames.Calls.{Call, Calls, OfRunning, on_running};
+ghost use Rattle.state_calls.specs.frame_moves.Shown.{running_of};
+ghost use Rattle.state_calls.specs.frame_moves.Outcomes.{world_of, stopping_of};
+ghost use Rattle.state_calls.specs.frame_exits.Ends.{with_modules};
+ghost use Rattle.state_calls.specs.vm_fetching.declared.operations.NumberOp.{NumberOp};
+ghost use Rattle.state_calls.specs.vm_fetching.declared.operations.PlainOp.TheVariants as plain_ops;
+ghost use Rattle.state_calls.specs.vm_fetching.declared.instruction.Instruction.TheVariants as fetched;
+ghost use Rattle.state_calls.specs.frame_calls.Operands.{operands_count};
+ghost use Rattle.state_calls.specs.frame_calls.Putting.{with_value};
+ghost use Rattle.state_calls.specs.vm_states.Means.{Program, Means};
+ghost use Rattle.state_calls.specs.vm_states.Running.{IsRunning};
+ghost use Rattle.state_calls.specs.vm_states.Ready.{IsReady};
+ghost use Rattle.state_calls.specs.vm_states.State.{IsState};
+ghost use Rattle.state_exits.specs.Keeping.{KeepsCause};
+ghost use Rattle.state_exits.specs.Running.{fetched_plain, stepped_with};
+ghost use Rattle.state_calls.specs.Taken.{HasMethods, CallsValue, callee_slots};
 ghost use Rattle.vm_kept.specs.Kept.{HoldsKept};
 
-use bc_progress::known_law;
+use state_calls::bc_progress::known_law;
 
 /// Calls that have begun keep nothing yet: where the machine's start of a module comes to them, and where there is one call,
 /// without slots and entries.
@@ -84,6 +84,3 @@ pub fn methods_law()
     ensures { (p : Program) (objects : Objects Value ℕ) (s : Calls) → IsState p objects s → HoldsKept p objects s
         → OfRunning (λ c. HasMethods c.slots) s.calls }
 {}
-
-pub use vm_calling::{take_call, visits_call_on};
-pub use vm_leaving::registered_law;

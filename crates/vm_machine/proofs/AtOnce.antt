@@ -2,31 +2,31 @@
 use Rattle.std.proofs.Common.{◌≡◌, ℕ, ◌+◌, ◌-◌, ◌≤◌, List, [], ◌∷◌, Option, None, Ok, refl, sym, ap, ap₂, subst, ◌∙◌, arith}
 use Rattle.mpy_base.specs.World.{Heap}
 use Rattle.mpy_base.specs.Val.{PlainWorld}
-use Rattle.arena_heap.specs.declared.value.Value.{Value}
+use Rattle.prim_faults.specs.arena_heap.declared.value.Value.{Value}
 use Rattle.bc_library.specs.Constants.{items_at, text_at}
 use Rattle.bc_library.specs.Shelf.{Shelf}
-use Rattle.bc_machine.specs.Machine.{steps}
-use Rattle.bc_machine.specs.State.{State}
-use Rattle.bc_machine.specs.Step.{step}
-use Rattle.bc_rows.specs.declared.row.Row.{Row}
-use Rattle.py_effects.specs.Ends.{new_world}
-use Rattle.vm_modules.specs.Registry.{Registry}
+use Rattle.vm_frames.specs.bc_machine.Machine.{steps}
+use Rattle.vm_frames.specs.bc_machine.State.{State}
+use Rattle.vm_frames.specs.bc_machine.Step.{step}
+use Rattle.state_calls.specs.bc_rows.declared.row.Row.{Row}
+use Rattle.vm_frames.specs.py_effects.Ends.{new_world}
+use Rattle.prim_modules.specs.Registry.{Registry}
 use Rattle.vm_frames.specs.Calls.{Call, Calls, OfRunning}
-use Rattle.vm_cache.specs.vm_step.Shown.{running_of}
-use Rattle.vm_cache.specs.vm_step.Outcomes.{world_of}
-use Rattle.vm_hot.specs.vm_unwinding.declared.ends.End.{End}
-use Rattle.vm_hot.specs.vm_unwinding.Ends.{with_modules, state_of}
-use Rattle.vm_cache.specs.vm_fetching.declared.instruction.Fetched.{Fetched}
-use Rattle.vm_cache.specs.vm_states.Means.{Program}
-use Rattle.vm_starting.specs.vm_known.State.{IsState}
+use Rattle.state_calls.specs.frame_moves.Shown.{running_of}
+use Rattle.state_calls.specs.frame_moves.Outcomes.{world_of}
+use Rattle.state_calls.specs.frame_exits.declared.ends.End.{End}
+use Rattle.state_calls.specs.frame_exits.Ends.{with_modules, state_of}
+use Rattle.state_calls.specs.vm_fetching.declared.instruction.Fetched.{Fetched}
+use Rattle.vm_starting.specs.vm_states.Means.{Program}
+use Rattle.vm_starting.specs.vm_states.State.{IsState}
 use Rattle.vm_kept.specs.Kept.{HoldsKept}
-use Rattle.vm_kept.specs.vm_calling.Runs.{IsFetchedAt}
-use Rattle.vm_kept.specs.vm_leaving.Modules.{AreRegistered}
-use Rattle.vm_kept.specs.vm_leaving.Running.{IsRun, stepped_with}
-use Rattle.vm_hot.specs.vm_operating.Keeping.{ActsKeeping}
-use Rattle.vm_starting.specs.vm_programs.Programs.{IsProgramOf}
-use Rattle.vm_running.specs.Comes.{ComesOn}
-use Rattle.vm_cache.specs.Kept.{IsFetchedOf}
+use Rattle.state_calls.specs.Runs.{IsFetchedAt}
+use Rattle.state_exits.specs.Modules.{AreRegistered}
+use Rattle.state_exits.specs.Running.{IsRun, stepped_with}
+use Rattle.state_values.specs.Keeping.{ActsKeeping}
+use Rattle.vm_starting.specs.Programs.{IsProgramOf}
+use Rattle.state_steps.specs.Comes.{ComesOn}
+use Rattle.vm_starting.specs.Kept.{IsFetchedOf}
 use Rattle.vm_starting.specs.declared.opening.Vm.{Vm}
 use Rattle.vm_machine.specs.Acting.{Acted, HasFetched, SameMemory, Stepped}
 use Rattle.vm_machine.specs.Machine.{IsVm, machine_of, paid_state, world_in}

@@ -1,33 +1,33 @@
 -- What the machine's instruction finds that was fetched.
 use Rattle.std.proofs.Common.{◌≡◌, ℕ, List, Option, ap, sym, subst, ◌∙◌, arith}
 use Rattle.std.specs.Prelude.{◌<◌, ◌^◌, min}
-use Rattle.arena_heap.specs.declared.value.StrNo.{StrNo}
-use Rattle.arena_heap.specs.declared.value.ConstNo.{ConstNo}
+use Rattle.prim_faults.specs.arena_heap.declared.value.StrNo.{StrNo}
+use Rattle.prim_faults.specs.arena_heap.declared.value.ConstNo.{ConstNo}
 use Rattle.mpy_base.specs.World.{Heap}
-use Rattle.arena_heap.specs.declared.value.Value.{Value}
+use Rattle.prim_faults.specs.arena_heap.declared.value.Value.{Value}
 use Rattle.bc_library.specs.Constants.{items_at, text_at}
 use Rattle.bc_library.specs.Shelf.{Shelf}
-use Rattle.bc_rows.specs.declared.row.Row.{Row}
-use Rattle.vm_modules.specs.Registry.{Registry}
+use Rattle.state_calls.specs.bc_rows.declared.row.Row.{Row}
+use Rattle.prim_modules.specs.Registry.{Registry}
 use Rattle.vm_frames.specs.Calls.{Call, Calls}
-use Rattle.vm_hot.specs.vm_unwinding.declared.ends.End.{End}
-use Rattle.vm_hot.specs.vm_unwinding.declared.names.ModuleName.{ModuleName}
-use Rattle.vm_cache.specs.vm_fetching.declared.instruction.Fetched.{Fetched}
-use Rattle.vm_cache.specs.vm_fetching.declared.instruction.Instruction.{Instruction}
-use Rattle.vm_cache.specs.vm_fetching.Fetches.{IsVerifiedRow}
-use Rattle.vm_starting.specs.vm_invoking.Operands.{Given}
-use Rattle.vm_cache.specs.vm_states.Means.{Program, Means}
-use Rattle.vm_cache.specs.vm_states.Ready.{IsReady}
-use Rattle.vm_starting.specs.vm_known.Acting.{Tells, RunsOver}
-use Rattle.vm_starting.specs.vm_known.State.{IsState}
-use Rattle.vm_kept.specs.vm_leaving.Modules.{AreNames, AreRegistered}
-use Rattle.vm_kept.specs.vm_leaving.Running.{RunsWith, RunsOn}
-use Rattle.vm_kept.specs.vm_calling.Runs.{RunsWithin}
-use Rattle.vm_starting.specs.vm_programs.Programs.{IsProgramOf}
-use Rattle.vm_running.specs.Comes.{ComesOn}
+use Rattle.state_calls.specs.frame_exits.declared.ends.End.{End}
+use Rattle.state_calls.specs.frame_exits.declared.names.ModuleName.{ModuleName}
+use Rattle.state_calls.specs.vm_fetching.declared.instruction.Fetched.{Fetched}
+use Rattle.state_calls.specs.vm_fetching.declared.instruction.Instruction.{Instruction}
+use Rattle.state_calls.specs.vm_fetching.Fetches.{IsVerifiedRow}
+use Rattle.vm_starting.specs.frame_calls.Operands.{Given}
+use Rattle.vm_starting.specs.vm_states.Means.{Program, Means}
+use Rattle.vm_starting.specs.vm_states.Ready.{IsReady}
+use Rattle.vm_starting.specs.vm_states.Acting.{Tells, RunsOver}
+use Rattle.vm_starting.specs.vm_states.State.{IsState}
+use Rattle.state_exits.specs.Modules.{AreNames, AreRegistered}
+use Rattle.state_exits.specs.Running.{RunsWith, RunsOn}
+use Rattle.state_calls.specs.Runs.{RunsWithin}
+use Rattle.vm_starting.specs.Programs.{IsProgramOf}
+use Rattle.state_steps.specs.Comes.{ComesOn}
 use Rattle.vm_starting.specs.declared.opening.Vm.{Vm}
 use Rattle.vm_machine.proofs.Texts.{few_slots}
-use Rattle.vm_running.specs.Values.{value_visits}
+use Rattle.state_steps.specs.Values.{value_visits}
 use Rattle.vm_machine.specs.Acting.{HasFetched, Acted}
 use Rattle.vm_machine.specs.Machine.{IsVm}
 use Rattle.vm_machine.proofs.Machines.{tells, vm_holding}

@@ -7,28 +7,28 @@ use Rattle.mpy_base.specs.declared.room.Room.{Room}
 use Rattle.mpy_base.specs.Val.{PlainWorld}
 use Rattle.mpy_base.specs.Weights.{empty}
 use Rattle.mpy_base.specs.World.{Heap, Objects}
-use Rattle.arena_heap.specs.declared.value.Value.{Value}
-use Rattle.arena_objects.specs.Keys.{AllTold}
-use Rattle.arena_objects.specs.Iterables.{or_nothing}
+use Rattle.prim_faults.specs.arena_heap.declared.value.Value.{Value}
+use Rattle.prim_faults.specs.arena_objects.Keys.{AllTold}
+use Rattle.prim_faults.specs.arena_objects.Iterables.{or_nothing}
 use Rattle.bc_library.specs.Constants.{items_at, text_at}
 use Rattle.bc_library.specs.Shelf.{Shelf}
-use Rattle.py_effects.specs.Heaps.{Formed}
-use Rattle.py_effects.specs.Modules.{make_module}
-use Rattle.vm_walks.specs.Plain.{plain_name, plain_heap}
-use Rattle.vm_modules.specs.declared.makings.Made.{Made}
-use Rattle.vm_modules.specs.Effects.{IsMaking}
-use Rattle.vm_modules.specs.Registry.{Registry, with_entry}
+use Rattle.vm_frames.specs.py_effects.Heaps.{Formed}
+use Rattle.vm_frames.specs.py_effects.Modules.{make_module}
+use Rattle.prim_faults.specs.prim_walks.Plain.{plain_name, plain_heap}
+use Rattle.prim_modules.specs.declared.makings.Made.{Made}
+use Rattle.prim_modules.specs.Effects.{IsMaking}
+use Rattle.prim_modules.specs.Registry.{Registry, with_entry}
 use Rattle.vm_frames.specs.Calls.{Call, Calls}
-use Rattle.vm_hot.specs.vm_unwinding.declared.ends.End.{End}
-use Rattle.vm_hot.specs.vm_unwinding.declared.ends.End.TheVariants as ends
-use Rattle.vm_hot.specs.vm_unwinding.declared.ends.After.TheVariants as afters
-use Rattle.vm_hot.specs.vm_unwinding.Known.{IsKnownAfter}
-use Rattle.vm_cache.specs.vm_states.Means.{Program}
-use Rattle.vm_cache.specs.vm_states.Running.{IsRunning}
-use Rattle.vm_starting.specs.vm_known.State.{IsState}
+use Rattle.state_calls.specs.frame_exits.declared.ends.End.{End}
+use Rattle.state_calls.specs.frame_exits.declared.ends.End.TheVariants as ends
+use Rattle.state_calls.specs.frame_exits.declared.ends.After.TheVariants as afters
+use Rattle.state_calls.specs.frame_exits.Known.{IsKnownAfter}
+use Rattle.vm_starting.specs.vm_states.Means.{Program}
+use Rattle.vm_starting.specs.vm_states.Running.{IsRunning}
+use Rattle.vm_starting.specs.vm_states.State.{IsState}
 use Rattle.vm_kept.specs.Kept.{HoldsKept}
-use Rattle.vm_kept.specs.vm_leaving.Modules.{AreRegistered}
-use Rattle.vm_starting.specs.vm_programs.Programs.{IsProgramOf, IsRunnable}
+use Rattle.state_exits.specs.Modules.{AreRegistered}
+use Rattle.vm_starting.specs.Programs.{IsProgramOf, IsRunnable}
 use Rattle.vm_starting.specs.declared.opening.Vm.{Vm}
 use Rattle.vm_starting.specs.Opened.{HasMemory, IsBegun, state_in}
 use Rattle.vm_starting.specs.Starting.{main_call}

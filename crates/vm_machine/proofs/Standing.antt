@@ -1,24 +1,24 @@
 -- The instruction that the first of the calls stands at.
 use Rattle.std.proofs.Common.{◌≡◌, ℕ, ◌<◌, List, [], ◌∷◌, length, Option, Some, None, refl, sym, ap, subst, arith}
 use Rattle.std.specs.Prelude.{IsSome, All}
-use Rattle.arena_heap.specs.declared.value.StrNo.TheVariants as strs
+use Rattle.prim_faults.specs.arena_heap.declared.value.StrNo.TheVariants as strs
 use Rattle.bc_library.specs.Shelf.{Shelf}
-use Rattle.bc_offsets.specs.Positions.{CodeList, Listed, Starts}
-use Rattle.bc_rows.specs.declared.row.Row.{Row}
-use Rattle.bc_rows.specs.Codes.{code_numbered}
-use Rattle.bc_rows.specs.Rows.{IsRow}
+use Rattle.vm_frames.specs.bc_labels.Positions.{CodeList, Listed, Starts}
+use Rattle.state_calls.specs.bc_rows.declared.row.Row.{Row}
+use Rattle.state_calls.specs.bc_rows.Codes.{code_numbered}
+use Rattle.state_calls.specs.bc_rows.Rows.{IsRow}
 use Rattle.vm_frames.specs.Calls.{Call, Calls, OfRunning}
-use Rattle.vm_hot.specs.vm_unwinding.declared.names.ModuleName.{ModuleName}
-use Rattle.vm_hot.specs.vm_unwinding.Left.{HasLast}
-use Rattle.vm_hot.specs.vm_unwinding.Names.{AreTablesOf}
-use Rattle.vm_cache.specs.vm_fetching.declared.instruction.Fetched.{Fetched}
-use Rattle.vm_cache.specs.vm_fetching.Fetches.{IsVerifiedRow}
-use Rattle.vm_cache.specs.vm_states.Means.{Program, Means}
-use Rattle.vm_cache.specs.vm_states.Ready.{IsFetched, IsReady}
-use Rattle.vm_cache.specs.vm_states.Running.{FitCalls, IsRunning}
-use Rattle.vm_kept.specs.vm_leaving.Modules.{AreNames}
-use Rattle.vm_kept.specs.vm_calling.Runs.{IsFetchedAt}
-use Rattle.vm_starting.specs.vm_programs.Programs.{IsProgramOf}
+use Rattle.state_calls.specs.frame_exits.declared.names.ModuleName.{ModuleName}
+use Rattle.state_calls.specs.frame_exits.Left.{HasLast}
+use Rattle.state_calls.specs.frame_exits.Names.{AreTablesOf}
+use Rattle.state_calls.specs.vm_fetching.declared.instruction.Fetched.{Fetched}
+use Rattle.state_calls.specs.vm_fetching.Fetches.{IsVerifiedRow}
+use Rattle.vm_starting.specs.vm_states.Means.{Program, Means}
+use Rattle.vm_starting.specs.vm_states.Ready.{IsFetched, IsReady}
+use Rattle.vm_starting.specs.vm_states.Running.{FitCalls, IsRunning}
+use Rattle.state_exits.specs.Modules.{AreNames}
+use Rattle.state_calls.specs.Runs.{IsFetchedAt}
+use Rattle.vm_starting.specs.Programs.{IsProgramOf}
 use Rattle.vm_starting.specs.declared.opening.Vm.{Vm}
 use Rattle.vm_starting.specs.Titles.{AreTitles}
 use Rattle.vm_machine.specs.Acting.{HasFetched}

@@ -3,26 +3,26 @@ use Rattle.std.proofs.Common.{◌≡◌, ℕ, suc, ◌+◌, ◌-◌, ◌<◌, �
 use Rattle.std.specs.Prelude.{min}
 use Rattle.mpy_base.specs.World.{Heap, Later}
 use Rattle.mpy_base.specs.Val.{PlainWorld}
-use Rattle.arena_heap.specs.declared.value.Value.{Value}
-use Rattle.py_effects.specs.Ends.{new_world}
+use Rattle.prim_faults.specs.arena_heap.declared.value.Value.{Value}
+use Rattle.vm_frames.specs.py_effects.Ends.{new_world}
 use Rattle.bc_library.specs.Constants.{items_at, text_at}
 use Rattle.bc_library.specs.Shelf.{Shelf}
-use Rattle.bc_machine.specs.Machine.{steps}
-use Rattle.bc_machine.specs.State.{State}
-use Rattle.bc_machine.specs.Step.{step}
-use Rattle.bc_rows.specs.declared.row.Row.{Row}
-use Rattle.vm_modules.specs.Registry.{Registry}
+use Rattle.vm_frames.specs.bc_machine.Machine.{steps}
+use Rattle.vm_frames.specs.bc_machine.State.{State}
+use Rattle.vm_frames.specs.bc_machine.Step.{step}
+use Rattle.state_calls.specs.bc_rows.declared.row.Row.{Row}
+use Rattle.prim_modules.specs.Registry.{Registry}
 use Rattle.vm_frames.specs.Calls.{Calls}
-use Rattle.vm_cache.specs.vm_step.Shown.{running_of}
-use Rattle.vm_cache.specs.vm_step.Outcomes.{world_of}
-use Rattle.vm_hot.specs.vm_unwinding.declared.ends.End.{End}
-use Rattle.vm_hot.specs.vm_unwinding.Ends.{with_modules, state_of}
-use Rattle.vm_cache.specs.vm_fetching.declared.instruction.Fetched.{Fetched}
-use Rattle.vm_cache.specs.vm_states.Means.{Program, Means}
+use Rattle.state_calls.specs.frame_moves.Shown.{running_of}
+use Rattle.state_calls.specs.frame_moves.Outcomes.{world_of}
+use Rattle.state_calls.specs.frame_exits.declared.ends.End.{End}
+use Rattle.state_calls.specs.frame_exits.Ends.{with_modules, state_of}
+use Rattle.state_calls.specs.vm_fetching.declared.instruction.Fetched.{Fetched}
+use Rattle.vm_starting.specs.vm_states.Means.{Program, Means}
 use Rattle.vm_kept.specs.Kept.{HoldsKept}
-use Rattle.vm_kept.specs.vm_leaving.Running.{stepped_with}
-use Rattle.vm_starting.specs.vm_programs.Programs.{IsProgramOf}
-use Rattle.vm_running.specs.Values.{value_visits}
+use Rattle.state_exits.specs.Running.{stepped_with}
+use Rattle.vm_starting.specs.Programs.{IsProgramOf}
+use Rattle.state_steps.specs.Values.{value_visits}
 use Rattle.vm_starting.specs.declared.opening.Vm.{Vm}
 use Rattle.vm_machine.specs.Acting.{HasFetched, Acted, Stepped}
 use Rattle.vm_machine.specs.Machine.{machine_of, world_in}

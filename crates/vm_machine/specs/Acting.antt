@@ -3,22 +3,22 @@ use Rattle.std.specs.Prelude.{◌≡◌, ◌+◌, ◌≤◌, ℕ, List, length, 
 use Rattle.mpy_base.specs.Val.{PlainWorld}
 use Rattle.mpy_io.specs.declared.fault.Failed.{Failed as SinkFault}
 use Rattle.bc_library.specs.Shelf.{Shelf}
-use Rattle.bc_machine.specs.Machine.{steps}
-use Rattle.bc_rows.specs.declared.row.Row.{Row}
-use Rattle.vm_starting.specs.vm_calls.Calls.{Seen}
-use Rattle.vm_starting.specs.vm_calls.declared.callees.Callee.{Callee}
+use Rattle.vm_frames.specs.bc_machine.Machine.{steps}
+use Rattle.state_calls.specs.bc_rows.declared.row.Row.{Row}
+use Rattle.state_calls.specs.prim_calls.Calls.{Seen}
+use Rattle.state_calls.specs.prim_calls.declared.callees.Callee.{Callee}
 use Rattle.vm_frames.specs.Calls.{OfRunning}
-use Rattle.vm_hot.specs.vm_unwinding.declared.ends.End.{End}
-use Rattle.vm_cache.specs.vm_fetching.declared.instruction.Fetched.{Fetched}
-use Rattle.vm_cache.specs.vm_fetching.Fetches.{IsVerifiedRow}
-use Rattle.vm_cache.specs.Kept.{IsFetchedOf, place_in}
-use Rattle.vm_cache.specs.vm_states.Means.{Program}
-use Rattle.vm_cache.specs.vm_states.Ready.{IsReady}
-use Rattle.vm_kept.specs.vm_leaving.Modules.{AreNames}
-use Rattle.vm_kept.specs.vm_calling.Runs.{IsFetchedAt}
-use Rattle.vm_starting.specs.vm_programs.Programs.{IsProgramOf}
-use Rattle.vm_running.specs.Calling.{CallsOn}
-use Rattle.vm_running.specs.Comes.{ComesOn}
+use Rattle.state_calls.specs.frame_exits.declared.ends.End.{End}
+use Rattle.state_calls.specs.vm_fetching.declared.instruction.Fetched.{Fetched}
+use Rattle.state_calls.specs.vm_fetching.Fetches.{IsVerifiedRow}
+use Rattle.vm_starting.specs.Kept.{IsFetchedOf, place_in}
+use Rattle.vm_starting.specs.vm_states.Means.{Program}
+use Rattle.vm_starting.specs.vm_states.Ready.{IsReady}
+use Rattle.state_exits.specs.Modules.{AreNames}
+use Rattle.state_calls.specs.Runs.{IsFetchedAt}
+use Rattle.vm_starting.specs.Programs.{IsProgramOf}
+use Rattle.state_steps.specs.Calling.{CallsOn}
+use Rattle.state_steps.specs.Comes.{ComesOn}
 use Rattle.vm_starting.specs.declared.opening.Vm.{Vm}
 use Rattle.vm_machine.specs.Machine.{IsVm, machine_of}
 use Rattle.vm_machine.specs.Running.{Outside}

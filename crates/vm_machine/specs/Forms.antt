@@ -1,19 +1,19 @@
 -- Instructions by what carries them out.
 use Rattle.std.specs.Prelude.{◌≡◌, ℕ, List, Option}
 use Rattle.mpy_base.specs.World.{Heap}
-use Rattle.arena_heap.specs.declared.value.Value.{Value}
-use Rattle.arena_heap.specs.declared.value.StrNo.{StrNo}
-use Rattle.arena_heap.specs.declared.value.ConstNo.{ConstNo}
-use Rattle.arena_heap.specs.declared.value.StrNo.TheVariants as strs
-use Rattle.vm_cache.specs.vm_fetching.declared.instruction.Instruction.{Instruction}
-use Rattle.vm_cache.specs.vm_fetching.declared.instruction.Instruction.TheVariants as fetched
-use Rattle.vm_cache.specs.vm_fetching.declared.operations.PlainOp.TheVariants as plain_ops
-use Rattle.vm_cache.specs.vm_fetching.declared.operations.NumberOp.TheVariants as number_ops
-use Rattle.vm_cache.specs.vm_fetching.declared.operations.NameOp.TheVariants as name_ops
+use Rattle.prim_faults.specs.arena_heap.declared.value.Value.{Value}
+use Rattle.prim_faults.specs.arena_heap.declared.value.StrNo.{StrNo}
+use Rattle.prim_faults.specs.arena_heap.declared.value.ConstNo.{ConstNo}
+use Rattle.prim_faults.specs.arena_heap.declared.value.StrNo.TheVariants as strs
+use Rattle.state_calls.specs.vm_fetching.declared.instruction.Instruction.{Instruction}
+use Rattle.state_calls.specs.vm_fetching.declared.instruction.Instruction.TheVariants as fetched
+use Rattle.state_calls.specs.vm_fetching.declared.operations.PlainOp.TheVariants as plain_ops
+use Rattle.state_calls.specs.vm_fetching.declared.operations.NumberOp.TheVariants as number_ops
+use Rattle.state_calls.specs.vm_fetching.declared.operations.NameOp.TheVariants as name_ops
 use Rattle.vm_frames.specs.Calls.{Call}
-use Rattle.vm_kept.specs.vm_calling.Taken.{CallsValue}
-use Rattle.vm_running.specs.Leaves.{LeavesCall}
-use Rattle.vm_running.specs.Values.{ActsOnValues, value_visits}
+use Rattle.state_calls.specs.Taken.{CallsValue}
+use Rattle.state_steps.specs.Leaves.{LeavesCall}
+use Rattle.state_steps.specs.Values.{ActsOnValues, value_visits}
 use Rattle.vm_machine.specs.declared.forms.Form.{Form}
 use Rattle.vm_machine.specs.declared.forms.Form.TheVariants as forms
 

@@ -1,28 +1,30 @@
 -- What a run of the machine does, with a sink for the output and ports.
-use Rattle.std.specs.Prelude.{◌≡◌, ◌⊎◌, ◌<◌, ℕ, List, ◌++◌, Option, Some, None, true}
+use Rattle.std.specs.Prelude.{◌≡◌, ◌⊎◌, ◌<◌, ◌≤◌, ℕ, ◌+◌, List, ◌++◌, Option, Some, None, Result, IfOk, OnErr, is_err, true}
 use Rattle.mpy_base.specs.Val.{PlainWorld}
+use Rattle.mpy_io.specs.Count.{Counts}
 use Rattle.mpy_io.specs.Ports.{PortView}
+use Rattle.mpy_io.specs.declared.fault.Failed.{Failed as SinkFault}
 use Rattle.port_set.specs.Calls.{Tell}
 use Rattle.port_set.specs.Counts.{CountsKeep}
 use Rattle.bc_library.specs.Shelf.{Shelf}
-use Rattle.bc_machine.specs.Machine.{steps}
-use Rattle.bc_machine.specs.Step.{step}
-use Rattle.bc_rows.specs.declared.row.Row.{Row}
-use Rattle.vm_starting.specs.vm_outputs.Prints.{Puts}
+use Rattle.vm_frames.specs.bc_machine.Machine.{steps}
+use Rattle.vm_frames.specs.bc_machine.Step.{step}
+use Rattle.state_calls.specs.bc_rows.declared.row.Row.{Row}
+use Rattle.vm_starting.specs.prim_outputs.Prints.{Puts}
 use Rattle.vm_frames.specs.Calls.{Call}
-use Rattle.vm_cache.specs.vm_step.Shown.{running_of}
-use Rattle.vm_hot.specs.vm_unwinding.Ends.{with_modules}
-use Rattle.vm_cache.specs.vm_fetching.declared.operations.NumberOp.{NumberOp}
-use Rattle.vm_cache.specs.vm_fetching.declared.instruction.Instruction.TheVariants as fetched
-use Rattle.vm_starting.specs.vm_invoking.declared.calling.Invocation.{Invocation}
-use Rattle.vm_starting.specs.vm_invoking.Operands.{Given}
-use Rattle.vm_cache.specs.vm_states.Means.{Program}
-use Rattle.vm_cache.specs.vm_states.Ready.{IsReady}
-use Rattle.vm_kept.specs.vm_calling.Called as called
-use Rattle.vm_kept.specs.vm_calling.Taken.{IsTaken}
-use Rattle.vm_starting.specs.vm_programs.Programs.{IsProgramOf}
+use Rattle.state_calls.specs.frame_moves.Shown.{running_of}
+use Rattle.state_calls.specs.frame_exits.Ends.{with_modules}
+use Rattle.state_calls.specs.vm_fetching.declared.operations.NumberOp.{NumberOp}
+use Rattle.state_calls.specs.vm_fetching.declared.instruction.Instruction.TheVariants as fetched
+use Rattle.vm_starting.specs.frame_calls.declared.calling.Invocation.{Invocation}
+use Rattle.vm_starting.specs.frame_calls.Operands.{Given}
+use Rattle.vm_starting.specs.vm_states.Means.{Program}
+use Rattle.vm_starting.specs.vm_states.Ready.{IsReady}
+use Rattle.state_calls.specs.Called as called
+use Rattle.state_calls.specs.Taken.{IsTaken}
+use Rattle.vm_starting.specs.Programs.{IsProgramOf}
 use Rattle.vm_starting.specs.declared.opening.Vm.{Vm}
-use Rattle.vm_machine.specs.Machine.{machine_of, world_in}
+use Rattle.vm_machine.specs.Machine.{IsVm, machine_of, world_in}
 
 -- the sink of the output, and the ports
 pub record Outside (S : Type 0) : Type 0 where
@@ -94,3 +96,15 @@ module _ {S : Type 0} (told : S → Option (List ℕ)) where
     -- fails that the machine's doesn't
     abbrev pub RunsToFailure : (count : S → ℕ) → Type 0
     RunsToFailure count = (p : Program) → IsProgramOf shelf p → (w : PlainWorld) → Agree before w → SinkFails p old w count most behind ⊎ Strays p old w most before.ports behind.ports
+
+-- The machine has taken some of these steps, one at least, and in each program of the library they are its run's; where it pays for
+-- visits it has paid no more than it took. Where the sink failed it stands at that put, with what was paid before. It runs the
+-- library again, the sink's count of faults rose exactly where it failed, and no port's count fell
+pub record Advances {S : Type 0} (told : S → Option (List ℕ)) (count : S → ℕ) (shelf : Shelf) (old new : Vm) (before behind : Outside S) (most : ℕ) (result : Result ℕ SinkFault) : Type 0 where
+  pub vm : IsVm shelf new
+  pub runs : IfOk result (λ taken. Runs told shelf old before behind taken new)
+  pub failed : OnErr result (RunsToFailure told shelf old before behind most count)
+  pub taken : IfOk result (λ taken. (0 < taken) × (taken ≤ most) × (new.paid ≤ old.paid + taken))
+  pub paid : OnErr result (new.paid ≡ old.paid)
+  pub counts : Counts (count before.out) (count behind.out) (is_err result)
+  pub faults : CountsKeep before.ports behind.ports

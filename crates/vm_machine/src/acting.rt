@@ -2,23 +2,23 @@
 
 ghost use Rattle.std.specs.Prelude.{◌≡◌};
 ghost use Rattle.bc_library.specs.Constants.{items_at, text_at};
-ghost use Rattle.vm_cache.specs.vm_fetching.declared.instruction.Instruction.TheVariants as fetched_as;
-ghost use Rattle.vm_cache.specs.vm_fetching.declared.operations.NumberOp.TheVariants as number_ops;
-ghost use Rattle.vm_cache.specs.vm_fetching.declared.operations.PlainOp.TheVariants as plain_ops;
-ghost use Rattle.vm_kept.specs.vm_leaving.Importing.{fetched_import};
-ghost use Rattle.vm_kept.specs.vm_leaving.Running.{fetched_plain};
-ghost use Rattle.vm_running.specs.Leaves.{LeavesCall};
-ghost use Rattle.vm_running.specs.Values.{ActsOnValues, value_visits};
+ghost use Rattle.state_calls.specs.vm_fetching.declared.instruction.Instruction.TheVariants as fetched_as;
+ghost use Rattle.state_calls.specs.vm_fetching.declared.operations.NumberOp.TheVariants as number_ops;
+ghost use Rattle.state_calls.specs.vm_fetching.declared.operations.PlainOp.TheVariants as plain_ops;
+ghost use Rattle.state_exits.specs.Importing.{fetched_import};
+ghost use Rattle.state_exits.specs.Running.{fetched_plain};
+ghost use Rattle.state_steps.specs.Leaves.{LeavesCall};
+ghost use Rattle.state_steps.specs.Values.{ActsOnValues, value_visits};
 ghost use Rattle.vm_machine.specs.Acting.{Acted, HasFetched};
 ghost use Rattle.vm_machine.specs.Forms.{HasForm, IsNoCall};
 
 use crate::forms::Form;
-use arena_heap::StrNo;
 use bc_library::Library;
-use bc_rows::{Row, Rows};
-use vm_cache::{Fetched, PlainOp};
+use prim_faults::arena_heap::StrNo;
+use state_steps::bc_rows::{Row, Rows};
+use state_steps::vm_fetching::{Fetched, PlainOp};
+use state_steps::{finish, import, leave, make, make_with, operate};
 use vm_kept::cause_law;
-use vm_running::{finish, import, leave, make, make_with, operate};
 use vm_starting::{NAME, Vm};
 
 /// Carries out an instruction on values.

@@ -1,8 +1,8 @@
 //! Instructions that are carried out at once, one after another.
 
 ghost use Rattle.std.specs.Prelude.{◌≡◌, ◌<◌, ◌≤◌, None, true};
-ghost use Rattle.bc_rows.specs.declared.row.Row.{Row as CodeRow};
-ghost use Rattle.vm_cache.specs.Kept.{AreFetched};
+ghost use Rattle.state_calls.specs.bc_rows.declared.row.Row.{Row as CodeRow};
+ghost use Rattle.vm_starting.specs.Kept.{AreFetched};
 ghost use Rattle.vm_machine.specs.Acting.{AreFetchedIn, HasFetched, Stepped};
 ghost use Rattle.vm_machine.specs.Machine.{IsVm};
 
@@ -10,11 +10,12 @@ use crate::acting::act;
 use crate::fetching::{fetch_in, fetch_kept, row_of};
 use crate::forms::unpaid_form;
 use bc_library::Library;
-use bc_rows::Rows;
-use vm_cache::{Cache, Fetched, Places};
-use vm_hot::{act_at_once, store_at_once};
-use vm_kept::{registered_law, step_law};
-use vm_starting::{Vm, program_law};
+use state_steps::bc_rows::Rows;
+use state_steps::state_exits::registered_law;
+use state_steps::vm_fetching::Fetched;
+use vm_at_once::{act_at_once, store_at_once};
+use vm_kept::step_law;
+use vm_starting::{Cache, Places, Vm, program_law};
 
 /// The instruction that was fetched, if it is no call and makes no visits. It answers how many steps were taken: none where it is
 /// left.

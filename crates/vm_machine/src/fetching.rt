@@ -1,22 +1,19 @@
 //! The instruction that the machine stands at.
 
 ghost use Rattle.std.specs.Prelude.{◌≡◌, ◌<◌, None, IfSome, length, true};
-ghost use Rattle.bc_rows.specs.declared.row.Row.{Row as CodeRow};
-ghost use Rattle.vm_cache.specs.Kept.{AreFetched};
+ghost use Rattle.state_calls.specs.bc_rows.declared.row.Row.{Row as CodeRow};
+ghost use Rattle.vm_starting.specs.Kept.{AreFetched};
 ghost use Rattle.vm_machine.specs.Machine.{IsVm};
 ghost use Rattle.vm_machine.specs.Acting.{AreFetchedIn, HasFetched};
 
 use bc_library::Library;
-use bc_rows::{Row, Rows};
-use vm_cache::{Cache, Fetched, Places, cache_law, fetch, ready_law, row_law};
-use vm_starting::{Vm, names_law, program_law};
+use state_steps::bc_rows::{Row, Rows};
+use state_steps::vm_fetching::{Fetched, fetch};
+use vm_starting::vm_states::ready_law;
+use vm_starting::{Cache, Places, Vm, cache_law, names_law, program_law, row_law};
 
 /// What is fetched for the running call, and the row of its code. It takes no memory.
-pub(crate) fn fetch_at<'b, 'a>(
-    vm: &Vm,
-    library: &Library,
-    rows: &'b Rows<'a>,
-) -> (&'b Row<'a>, Fetched)
+fn fetch_at<'b, 'a>(vm: &Vm, library: &Library, rows: &'b Rows<'a>) -> (&'b Row<'a>, Fetched)
     requires vm { IsVm library.now vm.now }
     requires rows { rows.now ≡ library.now }
     requires goes_on { vm.now.end ≡ None }

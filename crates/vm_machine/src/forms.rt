@@ -1,14 +1,14 @@
 //! Instructions by what carries them out.
 
 ghost use Rattle.std.specs.Prelude.{◌≡◌, ℕ, false, IfSome, IfNone};
-ghost use Rattle.arena_heap.specs.declared.value.StrNo.TheVariants as strs;
+ghost use Rattle.prim_faults.specs.arena_heap.declared.value.StrNo.TheVariants as strs;
 ghost use Rattle.bc_library.specs.Shelf.{Shelf};
-ghost use Rattle.vm_cache.specs.vm_fetching.declared.instruction.Instruction.TheVariants as fetched;
-ghost use Rattle.vm_cache.specs.vm_fetching.Shows.{TextIsThere};
+ghost use Rattle.state_calls.specs.vm_fetching.declared.instruction.Instruction.TheVariants as fetched;
+ghost use Rattle.state_calls.specs.vm_fetching.Shows.{TextIsThere};
 ghost use Rattle.vm_machine.specs.Forms.{HasForm, IsNoCall, MakesNoVisits};
 
-use arena_heap::StrNo;
-use vm_cache::{Instruction, NameOp, NumberOp, PlainOp};
+use prim_faults::arena_heap::StrNo;
+use state_steps::vm_fetching::{Instruction, NameOp, NumberOp, PlainOp};
 
 /// What carries out an instruction.
 #[derive(Clone, Copy, Debug, PartialEq, Eq)]

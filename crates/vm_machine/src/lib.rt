@@ -12,7 +12,4 @@ mod running;
 mod stepping;
 
 pub use opening::{open, used};
-pub use running::{run, run_kept};
-pub use vm_cache::Cache;
-pub use vm_hot::End;
-pub use vm_starting::{Vm, program_law};
+pub use running::run;

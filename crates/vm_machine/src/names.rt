@@ -6,8 +6,8 @@ ghost use Rattle.vm_starting.specs.Titles.{AreTitles};
 use bc_library::{Library, library_law};
 use mpy_base::NoMemory;
 use mpy_base::limits::MAX_MODULES;
+use state_steps::frame_exits::ModuleName;
 use std::alloc::Global;
-use vm_hot::ModuleName;
 
 /// The names of the library's modules, in the order of their numbers.
 pub(crate) fn module_names(alloc: Global, library: &Library) -> Result<Vec<ModuleName>, NoMemory>

@@ -2,13 +2,13 @@
 
 ghost use Rattle.std.specs.Prelude.{◌≡◌, ◌<◌, ◌≤◌, ◌+◌, ◌-◌, ◌^◌, min, IfSome, IfNone};
 ghost use Rattle.bc_library.specs.Constants.{items_at, text_at};
-ghost use Rattle.vm_running.specs.Values.{value_visits};
+ghost use Rattle.state_steps.specs.Values.{value_visits};
 ghost use Rattle.vm_machine.specs.Acting.{HasFetched};
 
 use bc_library::Library;
-use bc_rows::Row;
-use vm_cache::{Fetched, Instruction};
-use vm_hot::visits_binary_op;
+use state_steps::bc_rows::Row;
+use state_steps::state_values::visits_binary_op;
+use state_steps::vm_fetching::{Fetched, Instruction};
 use vm_starting::Vm;
 
 /// How many visits the instruction makes, which is no call, up to `most`. It goes no further.

@@ -1,32 +1,34 @@
 //! Steps of the machine.
 
-ghost use Rattle.std.specs.Prelude.{◌≡◌, ◌+◌, ◌<◌, ◌≤◌, ◌^◌, map, IfOk, OnErr, None, is_err};
+ghost use Rattle.std.specs.Prelude.{◌≡◌, ◌+◌, ◌<◌, ◌≤◌, ◌^◌, map, None, is_err};
 ghost use Rattle.mpy_io.specs.Count.{Counts};
 ghost use Rattle.port_set.specs.Counts.{CountsKeep};
-ghost use Rattle.vm_cache.specs.vm_fetching.declared.instruction.Instruction.TheVariants as fetched_as;
-ghost use Rattle.vm_cache.specs.vm_states.Means.{Program};
-ghost use Rattle.vm_kept.specs.vm_calling.Taken.{CallsValue, IsTaken};
+ghost use Rattle.state_calls.specs.vm_fetching.declared.instruction.Instruction.TheVariants as fetched_as;
+ghost use Rattle.vm_starting.specs.vm_states.Means.{Program};
+ghost use Rattle.state_calls.specs.Taken.{CallsValue, IsTaken};
 ghost use Rattle.vm_kept.specs.Kept.{HoldsKept};
-ghost use Rattle.vm_starting.specs.vm_programs.Programs.{IsProgramOf};
-ghost use Rattle.vm_cache.specs.Kept.{AreFetched};
+ghost use Rattle.vm_starting.specs.Programs.{IsProgramOf};
+ghost use Rattle.vm_starting.specs.Kept.{AreFetched};
 ghost use Rattle.vm_machine.specs.Acting.{Called, HasFetched, Stepped};
 ghost use Rattle.vm_machine.specs.Forms.{HasForm, IsNoCall};
 ghost use Rattle.vm_machine.specs.Machine.{IsVm};
-ghost use Rattle.vm_machine.specs.Running.{Runs, RunsToFailure};
+ghost use Rattle.vm_machine.specs.Running.{Advances};
 
 use crate::acting::act;
 use crate::at_once::run_at_once;
-use crate::fetching::{fetch_at, fetch_kept, row_of};
+use crate::fetching::{fetch_kept, row_of};
 use crate::forms::{Form, call_in, form_of};
 use crate::paying::{steps_before, visits_of};
 use bc_library::Library;
-use bc_rows::{Row, Rows};
 use mpy_io::{Failed, Port, Sink};
 use port_set::PortSet;
-use vm_cache::{Cache, Fetched, NumberOp};
-use vm_kept::{gives_law, methods_law, raises_law, step_law, take_call, visits_call_on};
-use vm_running::call;
-use vm_starting::{Invocation, Vm};
+use state_steps::bc_rows::{Row, Rows};
+use state_steps::call;
+use state_steps::state_calls::{take_call, visits_call_on};
+use state_steps::vm_fetching::{Fetched, NumberOp};
+use vm_kept::{gives_law, methods_law, raises_law, step_law};
+use vm_starting::frame_calls::Invocation;
+use vm_starting::{Cache, Vm};
 
 /// Steps of an instruction of this form, which is no call.
 #[tactic(none)]
@@ -137,13 +139,8 @@ fn step_call<S: Sink, P: Port>(
     requires rows { rows.now ≡ library.now }
     requires some { 0 < most }
     requires countable { vm.old.paid + most < 2 ^ 64 }
-    ensures vm { IsVm library.now vm.new }
-    ensures runs { IfOk result (λ taken. Runs S.told library.now vm.old (record { out = out.old; ports = map P.seen ports.old }) (record { out = out.new; ports = map P.seen ports.new }) taken vm.new) }
-    ensures failed { OnErr result (RunsToFailure S.told library.now vm.old (record { out = out.old; ports = map P.seen ports.old }) (record { out = out.new; ports = map P.seen ports.new }) most S.count) }
-    ensures taken { IfOk result (λ taken. (0 < taken) × (taken ≤ most) × (vm.new.paid ≤ vm.old.paid + taken)) }
-    ensures paid { OnErr result (vm.new.paid ≡ vm.old.paid) }
-    ensures counts { Counts (S.count out.old) (S.count out.new) (is_err result) }
-    ensures faults { CountsKeep (map P.seen ports.old) (map P.seen ports.new) }
+    ensures { Advances S.told S.count library.now vm.old vm.new
+        (record { out = out.old; ports = map P.seen ports.old }) (record { out = out.new; ports = map P.seen ports.new }) most result }
 {
     methods_law();
     let invocation = take_call(
@@ -192,13 +189,8 @@ fn step_on<S: Sink, P: Port>(
     requires rows { rows.now ≡ library.now }
     requires some { 0 < most }
     requires countable { vm.old.paid + most < 2 ^ 64 }
-    ensures vm { IsVm library.now vm.new }
-    ensures runs { IfOk result (λ taken. Runs S.told library.now vm.old (record { out = out.old; ports = map P.seen ports.old }) (record { out = out.new; ports = map P.seen ports.new }) taken vm.new) }
-    ensures failed { OnErr result (RunsToFailure S.told library.now vm.old (record { out = out.old; ports = map P.seen ports.old }) (record { out = out.new; ports = map P.seen ports.new }) most S.count) }
-    ensures taken { IfOk result (λ taken. (0 < taken) × (taken ≤ most) × (vm.new.paid ≤ vm.old.paid + taken)) }
-    ensures paid { OnErr result (vm.new.paid ≡ vm.old.paid) }
-    ensures counts { Counts (S.count out.old) (S.count out.new) (is_err result) }
-    ensures faults { CountsKeep (map P.seen ports.old) (map P.seen ports.new) }
+    ensures { Advances S.told S.count library.now vm.old vm.new
+        (record { out = out.old; ports = map P.seen ports.old }) (record { out = out.new; ports = map P.seen ports.new }) most result }
 {
     let form = form_of(fetched.instruction);
     match call_in(form) {
@@ -224,62 +216,6 @@ fn step<S: Sink, P: Port>(
     vm: &mut Vm,
     library: &Library,
     rows: &Rows<'_>,
-    out: &mut S,
-    ports: &mut PortSet<P>,
-    most: u64,
-) -> Result<u64, Failed>
-    requires vm { IsVm library.now vm.old }
-    requires rows { rows.now ≡ library.now }
-    requires goes_on { vm.old.end ≡ None }
-    requires some { 0 < most }
-    requires countable { vm.old.paid + most < 2 ^ 64 }
-    ensures vm { IsVm library.now vm.new }
-    ensures runs { IfOk result (λ taken. Runs S.told library.now vm.old (record { out = out.old; ports = map P.seen ports.old }) (record { out = out.new; ports = map P.seen ports.new }) taken vm.new) }
-    ensures failed { OnErr result (RunsToFailure S.told library.now vm.old (record { out = out.old; ports = map P.seen ports.old }) (record { out = out.new; ports = map P.seen ports.new }) most S.count) }
-    ensures taken { IfOk result (λ taken. (0 < taken) × (taken ≤ most) × (vm.new.paid ≤ vm.old.paid + taken)) }
-    ensures paid { OnErr result (vm.new.paid ≡ vm.old.paid) }
-    ensures counts { Counts (S.count out.old) (S.count out.new) (is_err result) }
-    ensures faults { CountsKeep (map P.seen ports.old) (map P.seen ports.new) }
-{
-    let (row, fetched) = fetch_at(vm, library, rows);
-    step_on(vm, library, rows, out, ports, row, fetched, most)
-}
-
-/// One instruction, or the rest of the steps that it costs, or `most` of them; where the run has ended all of the steps, which do
-/// nothing. How many steps were taken.
-#[tactic(none)]
-pub(crate) fn advance<S: Sink, P: Port>(
-    vm: &mut Vm,
-    library: &Library,
-    rows: &Rows<'_>,
-    out: &mut S,
-    ports: &mut PortSet<P>,
-    most: u64,
-) -> Result<u64, Failed>
-    requires vm { IsVm library.now vm.old }
-    requires rows { rows.now ≡ library.now }
-    requires some { 0 < most }
-    requires countable { vm.old.paid + most < 2 ^ 64 }
-    ensures vm { IsVm library.now vm.new }
-    ensures runs { IfOk result (λ taken. Runs S.told library.now vm.old (record { out = out.old; ports = map P.seen ports.old }) (record { out = out.new; ports = map P.seen ports.new }) taken vm.new) }
-    ensures failed { OnErr result (RunsToFailure S.told library.now vm.old (record { out = out.old; ports = map P.seen ports.old }) (record { out = out.new; ports = map P.seen ports.new }) most S.count) }
-    ensures taken { IfOk result (λ taken. (0 < taken) × (taken ≤ most) × (vm.new.paid ≤ vm.old.paid + taken)) }
-    ensures paid { OnErr result (vm.new.paid ≡ vm.old.paid) }
-    ensures counts { Counts (S.count out.old) (S.count out.new) (is_err result) }
-    ensures faults { CountsKeep (map P.seen ports.old) (map P.seen ports.new) }
-{
-    match vm.end {
-        Some(_end) => Ok(most),
-        None => step(vm, library, rows, out, ports, most),
-    }
-}
-
-/// One instruction, or the rest of the steps that it costs, or `most` of them, where what was fetched is kept. How many steps were taken.
-#[tactic(none)]
-fn step_kept<S: Sink, P: Port>(
-    vm: &mut Vm,
-    library: &Library,
-    rows: &Rows<'_>,
     cache: &mut Cache,
     out: &mut S,
     ports: &mut PortSet<P>,
@@ -291,13 +227,8 @@ fn step_kept<S: Sink, P: Port>(
     requires some { 0 < most }
     requires countable { vm.old.paid + most < 2 ^ 64 }
     requires kept { AreFetched library.now cache.old }
-    ensures vm { IsVm library.now vm.new }
-    ensures runs { IfOk result (λ taken. Runs S.told library.now vm.old (record { out = out.old; ports = map P.seen ports.old }) (record { out = out.new; ports = map P.seen ports.new }) taken vm.new) }
-    ensures failed { OnErr result (RunsToFailure S.told library.now vm.old (record { out = out.old; ports = map P.seen ports.old }) (record { out = out.new; ports = map P.seen ports.new }) most S.count) }
-    ensures taken { IfOk result (λ taken. (0 < taken) × (taken ≤ most) × (vm.new.paid ≤ vm.old.paid + taken)) }
-    ensures paid { OnErr result (vm.new.paid ≡ vm.old.paid) }
-    ensures counts { Counts (S.count out.old) (S.count out.new) (is_err result) }
-    ensures faults { CountsKeep (map P.seen ports.old) (map P.seen ports.new) }
+    ensures advances { Advances S.told S.count library.now vm.old vm.new
+        (record { out = out.old; ports = map P.seen ports.old }) (record { out = out.new; ports = map P.seen ports.new }) most result }
     ensures kept { AreFetched library.now cache.new }
 {
     let fetched = fetch_kept(vm, library, rows, cache);
@@ -305,8 +236,8 @@ fn step_kept<S: Sink, P: Port>(
     step_on(vm, library, rows, out, ports, row, fetched, most)
 }
 
-/// One instruction, or the rest of the steps that it costs, or `most` of them, where what was fetched is kept; where the run has ended
-/// all of the steps, which do nothing. How many steps were taken.
+/// One instruction, or the rest of the steps that it costs, or `most` of them; where the run has ended all of the steps, which do
+/// nothing. How many steps were taken.
 #[tactic(none)]
 fn go<S: Sink, P: Port>(
     vm: &mut Vm,
@@ -322,25 +253,20 @@ fn go<S: Sink, P: Port>(
     requires some { 0 < most }
     requires countable { vm.old.paid + most < 2 ^ 64 }
     requires kept { AreFetched library.now cache.old }
-    ensures vm { IsVm library.now vm.new }
-    ensures runs { IfOk result (λ taken. Runs S.told library.now vm.old (record { out = out.old; ports = map P.seen ports.old }) (record { out = out.new; ports = map P.seen ports.new }) taken vm.new) }
-    ensures failed { OnErr result (RunsToFailure S.told library.now vm.old (record { out = out.old; ports = map P.seen ports.old }) (record { out = out.new; ports = map P.seen ports.new }) most S.count) }
-    ensures taken { IfOk result (λ taken. (0 < taken) × (taken ≤ most) × (vm.new.paid ≤ vm.old.paid + taken)) }
-    ensures paid { OnErr result (vm.new.paid ≡ vm.old.paid) }
-    ensures counts { Counts (S.count out.old) (S.count out.new) (is_err result) }
-    ensures faults { CountsKeep (map P.seen ports.old) (map P.seen ports.new) }
+    ensures advances { Advances S.told S.count library.now vm.old vm.new
+        (record { out = out.old; ports = map P.seen ports.old }) (record { out = out.new; ports = map P.seen ports.new }) most result }
     ensures kept { AreFetched library.now cache.new }
 {
     match vm.end {
         Some(_end) => Ok(most),
-        None => step_kept(vm, library, rows, cache, out, ports, most),
+        None => step(vm, library, rows, cache, out, ports, most),
     }
 }
 
 /// Instructions without visits one after another, and then one that takes its steps; and where the run has ended all of the steps, which
 /// do nothing. How many steps were taken.
 #[tactic(none)]
-pub(crate) fn advance_kept<S: Sink, P: Port>(
+pub(crate) fn advance<S: Sink, P: Port>(
     vm: &mut Vm,
     library: &Library,
     rows: &Rows<'_>,
@@ -354,13 +280,8 @@ pub(crate) fn advance_kept<S: Sink, P: Port>(
     requires some { 0 < most }
     requires countable { vm.old.paid + most < 2 ^ 64 }
     requires kept { AreFetched library.now cache.old }
-    ensures vm { IsVm library.now vm.new }
-    ensures runs { IfOk result (λ taken. Runs S.told library.now vm.old (record { out = out.old; ports = map P.seen ports.old }) (record { out = out.new; ports = map P.seen ports.new }) taken vm.new) }
-    ensures failed { OnErr result (RunsToFailure S.told library.now vm.old (record { out = out.old; ports = map P.seen ports.old }) (record { out = out.new; ports = map P.seen ports.new }) most S.count) }
-    ensures taken { IfOk result (λ taken. (0 < taken) × (taken ≤ most) × (vm.new.paid ≤ vm.old.paid + taken)) }
-    ensures paid { OnErr result (vm.new.paid ≡ vm.old.paid) }
-    ensures counts { Counts (S.count out.old) (S.count out.new) (is_err result) }
-    ensures faults { CountsKeep (map P.seen ports.old) (map P.seen ports.new) }
+    ensures advances { Advances S.told S.count library.now vm.old vm.new
+        (record { out = out.old; ports = map P.seen ports.old }) (record { out = out.new; ports = map P.seen ports.new }) most result }
     ensures kept { AreFetched library.now cache.new }
 {
     let taken = run_at_once(vm, library, rows, cache, most);

@@ -6,49 +6,49 @@ use Rattle.std.proofs.lemmas.List.Elements.{All-nil, All-cons}
 use Rattle.mpy_base.specs.declared.room.NoRoom.{NoRoom}
 use Rattle.mpy_base.specs.World.{Heap, Objects}
 use Rattle.mpy_base.specs.Val.{PlainWorld}
-use Rattle.arena_heap.specs.declared.value.Value.{Value}
-use Rattle.arena_heap.specs.declared.value.StrNo.{StrNo}
-use Rattle.arena_heap.specs.declared.value.ConstNo.{ConstNo}
-use Rattle.arena_objects.specs.Keys.{AllTold}
-use Rattle.arena_objects.specs.Iterables.{or_nothing}
-use Rattle.mpy_tree.specs.Raw as raw
-use Rattle.bc_library.specs.Constants.{items_at, text_at}
-use Rattle.bc_library.specs.Shelf.{Shelf, Named, module_at}
-use Rattle.bc_offsets.specs.Positions.{CodeList, Listed}
-use Rattle.py_primitives.specs.Outcome as primitives
+use Rattle.frame_calls.specs.arena_heap.declared.value.Value.{Value}
+use Rattle.frame_calls.specs.arena_heap.declared.value.StrNo.{StrNo}
+use Rattle.frame_calls.specs.arena_heap.declared.value.ConstNo.{ConstNo}
+use Rattle.frame_calls.specs.arena_objects.Keys.{AllTold}
+use Rattle.frame_calls.specs.arena_objects.Iterables.{or_nothing}
+use Rattle.bc_verify.specs.mpy_tree.Raw as raw
+use Rattle.vm_states.specs.bc_library.Constants.{items_at, text_at}
+use Rattle.vm_states.specs.bc_library.Shelf.{Shelf, Named, module_at}
+use Rattle.frame_calls.specs.bc_labels.Positions.{CodeList, Listed}
+use Rattle.py_effects.specs.py_primitives.Outcome as primitives
 use Rattle.py_effects.specs.Effect.{Place, given_answer}
 use Rattle.py_effects.specs.Modules as plain
 use Rattle.py_effects.specs.Modules.{make_module}
 use Rattle.py_effects.specs.Ends.{Memory}
-use Rattle.bc_machine.specs.Library.{Name, Code, Module, Entry, Holds, Refused, Library, entry_in, code_at, code_in, module_in}
-use Rattle.bc_machine.specs.State as states
-use Rattle.bc_machine.specs.State.{State, Running, Halted, Main}
-use Rattle.bc_machine.specs.Parts.{new_frame}
-use Rattle.bc_machine.specs.Machine.{start, opened, begun}
-use Rattle.bc_progress.specs.Plans.{Plans, Follows}
-use Rattle.bc_progress.specs.Fits.{Fits}
-use Rattle.vm_faults.specs.declared.fault.Fault.{Fault}
-use Rattle.vm_faults.specs.Faults.{IsKnown}
-use Rattle.vm_faults.specs.declared.stop.Stop.{Stop}
-use Rattle.vm_faults.specs.declared.stop.Stop.TheVariants as stops
-use Rattle.arena_heap.specs.declared.value.DictNo.{DictNo}
-use Rattle.vm_frames.specs.declared.slot.Role.{Role}
-use Rattle.vm_frames.specs.declared.slot.Role.TheVariants as roles
-use Rattle.vm_frames.specs.Calls.{Call, Calls}
-use Rattle.vm_modules.specs.declared.makings.Made.{Made}
-use Rattle.vm_modules.specs.Registry.{Registry}
-use Rattle.vm_modules.specs.Effects.{IsMaking, AreMade, made_answer, world_with}
-use Rattle.vm_moves.specs.Views.{View, role_of, locals_of, starts_of, frame_of}
-use Rattle.vm_moves.specs.Placed.{IsPlaced}
-use Rattle.vm_invoking.specs.vm_step.Shown.{view_of, running_of}
-use Rattle.vm_invoking.specs.vm_step.Outcomes.{world_of}
-use Rattle.vm_known.specs.vm_unwinding.Ends.{with_modules}
-use Rattle.vm_known.specs.vm_unwinding.Known as known
-use Rattle.vm_programs.specs.vm_states.Means.{Program, Means}
-use Rattle.vm_programs.specs.vm_states.Running.{FitCalls, HasRooms, IsOfModule}
-use Rattle.vm_known.specs.State.{IsKnownCall, IsState}
-use Rattle.vm_programs.specs.Codes.{IsCodeOf}
-use Rattle.vm_walks.specs.Plain.{plain_name, plain_heap}
+use Rattle.frame_calls.specs.bc_machine.Library.{Name, Code, Module, Entry, Holds, Refused, Library, entry_in, code_at, code_in, module_in}
+use Rattle.frame_calls.specs.bc_machine.State as states
+use Rattle.frame_calls.specs.bc_machine.State.{State, Running, Halted, Main}
+use Rattle.frame_calls.specs.bc_machine.Parts.{new_frame}
+use Rattle.frame_calls.specs.bc_machine.Machine.{start, opened, begun}
+use Rattle.vm_states.specs.bc_progress.Plans.{Plans, Follows}
+use Rattle.vm_states.specs.bc_progress.Fits.{Fits}
+use Rattle.frame_calls.specs.prim_faults.declared.fault.Fault.{Fault}
+use Rattle.frame_calls.specs.prim_faults.Faults.{IsKnown}
+use Rattle.frame_calls.specs.prim_faults.declared.stop.Stop.{Stop}
+use Rattle.frame_calls.specs.prim_faults.declared.stop.Stop.TheVariants as stops
+use Rattle.frame_calls.specs.arena_heap.declared.value.DictNo.{DictNo}
+use Rattle.vm_states.specs.vm_frames.declared.slot.Role.{Role}
+use Rattle.vm_states.specs.vm_frames.declared.slot.Role.TheVariants as roles
+use Rattle.vm_states.specs.vm_frames.Calls.{Call, Calls}
+use Rattle.frame_calls.specs.prim_modules.declared.makings.Made.{Made}
+use Rattle.frame_calls.specs.prim_modules.Registry.{Registry}
+use Rattle.frame_calls.specs.prim_modules.Effects.{IsMaking, AreMade, made_answer, world_with}
+use Rattle.vm_states.specs.vm_frames.Views.{View, role_of, locals_of, starts_of, frame_of}
+use Rattle.vm_states.specs.vm_frames.Placed.{IsPlaced}
+use Rattle.vm_states.specs.frame_moves.Shown.{view_of, running_of}
+use Rattle.vm_states.specs.frame_moves.Outcomes.{world_of}
+use Rattle.vm_states.specs.frame_exits.Ends.{with_modules}
+use Rattle.vm_states.specs.frame_exits.Known as known
+use Rattle.vm_states.specs.Means.{Program, Means}
+use Rattle.vm_states.specs.Running.{FitCalls, HasRooms, IsOfModule}
+use Rattle.vm_states.specs.State.{IsKnownCall, IsState}
+use Rattle.vm_starting.specs.Codes.{IsCodeOf}
+use Rattle.frame_calls.specs.prim_walks.Plain.{plain_name, plain_heap}
 use Rattle.vm_starting.proofs.Never.{make_never}
 use Rattle.vm_starting.proofs.Texts.{main_text}
 use Rattle.vm_starting.specs.Starting.{IsMain, main_call}

@@ -7,7 +7,7 @@ use Rattle.std.specs.List.{slice_split, onto_first}
 use Rattle.std.specs.Option.{option_or}
 use Rattle.py_effects.specs.Modules.{first_of}
 use Rattle.py_effects.specs.Modules as modules
-use Rattle.bc_library.specs.Texts.{last_part}
+use Rattle.vm_states.specs.bc_library.Texts.{last_part}
 use Rattle.vm_starting.specs.Titles.{last_of}
 
 -- the last of the parts

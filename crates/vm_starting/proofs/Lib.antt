@@ -1,6 +1,13 @@
 mod Begun
+mod Empty
+mod Found
+mod Keeping
 mod Lasts
 mod Never
+mod Offsets
+mod OneRow
 mod Openings
+mod ProgramNames
+mod Programs
 mod Texts
 mod Titles

@@ -5,30 +5,30 @@ use Rattle.std.proofs.lemmas.List.Elements.{All-nil}
 use Rattle.mpy_base.specs.declared.limits.TheConstants.{MAX_DEPTH}
 use Rattle.mpy_base.specs.World.{Heap, PortState}
 use Rattle.mpy_base.specs.Weights.{empty}
-use Rattle.arena_heap.specs.declared.value.Value.{Value}
-use Rattle.arena_heap.specs.declared.value.StrNo.{StrNo}
-use Rattle.arena_heap.specs.declared.value.ConstNo.{ConstNo}
-use Rattle.arena_heap.specs.Constants.{IsTold}
-use Rattle.arena_objects.specs.Keys.{AllTold}
-use Rattle.bc_prelude.specs.declared.prelude.Prelude.{Prelude}
-use Rattle.mpy_tree.specs.Raw.{Module}
-use Rattle.bc_library.specs.Greatest.{ShelfHas, IsGreatestIn}
-use Rattle.bc_library.specs.Shelf.{Shelf, Named}
-use Rattle.bc_machine.specs.Library.{Name}
-use Rattle.bc_rows.specs.declared.row.Row.{Row}
-use Rattle.mpy_tree.specs.Codes.{Placed, codes_of}
-use Rattle.mpy_tree.proofs.Codes.{own_place, codes_open}
-use Rattle.bc_rows.specs.Codes.{code_numbered}
-use Rattle.bc_rows.specs.Rows.{IsRow}
+use Rattle.frame_calls.specs.arena_heap.declared.value.Value.{Value}
+use Rattle.frame_calls.specs.arena_heap.declared.value.StrNo.{StrNo}
+use Rattle.frame_calls.specs.arena_heap.declared.value.ConstNo.{ConstNo}
+use Rattle.frame_calls.specs.arena_heap.Constants.{IsTold}
+use Rattle.frame_calls.specs.arena_objects.Keys.{AllTold}
+use Rattle.bc_verify.specs.bc_prelude.declared.prelude.Prelude.{Prelude}
+use Rattle.bc_verify.specs.mpy_tree.Raw.{Module}
+use Rattle.vm_states.specs.bc_library.Greatest.{ShelfHas, IsGreatestIn}
+use Rattle.vm_states.specs.bc_library.Shelf.{Shelf, Named}
+use Rattle.frame_calls.specs.bc_machine.Library.{Name}
+use Rattle.vm_states.specs.bc_rows.declared.row.Row.{Row}
+use Rattle.bc_verify.specs.mpy_tree.Codes.{Placed, codes_of}
+use Rattle.bc_verify.proofs.mpy_tree_lemmas.Codes.{own_place, codes_open}
+use Rattle.vm_states.specs.bc_rows.Codes.{code_numbered}
+use Rattle.vm_states.specs.bc_rows.Rows.{IsRow}
 use Rattle.py_effects.specs.Ends.{new_world}
-use Rattle.vm_frames.specs.Calls.{Calls}
-use Rattle.vm_modules.specs.Registry.{Registry}
-use Rattle.vm_invoking.specs.vm_step.Outcomes.{world_of}
-use Rattle.vm_known.specs.vm_unwinding.Ends.{with_modules}
-use Rattle.vm_programs.specs.vm_states.Means.{Program}
-use Rattle.vm_programs.specs.vm_states.Running.{HasRooms}
-use Rattle.vm_programs.specs.Codes.{IsCodeOf}
-use Rattle.vm_programs.specs.Programs.{IsProgramOf}
+use Rattle.vm_states.specs.vm_frames.Calls.{Calls}
+use Rattle.frame_calls.specs.prim_modules.Registry.{Registry}
+use Rattle.vm_states.specs.frame_moves.Outcomes.{world_of}
+use Rattle.vm_states.specs.frame_exits.Ends.{with_modules}
+use Rattle.vm_states.specs.Means.{Program}
+use Rattle.vm_states.specs.Running.{HasRooms}
+use Rattle.vm_starting.specs.Codes.{IsCodeOf}
+use Rattle.vm_starting.specs.Programs.{IsProgramOf}
 use Rattle.vm_starting.specs.Starting.{IsMain}
 
 -- slots

@@ -1,10 +1,10 @@
 -- Texts that every library has.
 use Rattle.std.proofs.Common.{◌≡◌, Some, refl}
 use Rattle.std.specs.Prelude.{codes}
-use Rattle.arena_heap.specs.declared.value.StrNo.TheVariants as strs
-use Rattle.bc_library.specs.Shelf.{Shelf}
-use Rattle.bc_library.specs.Constants.{text_at}
-use Rattle.bc_library.specs.Texts.{text_numbered}
+use Rattle.frame_calls.specs.arena_heap.declared.value.StrNo.TheVariants as strs
+use Rattle.vm_states.specs.bc_library.Shelf.{Shelf}
+use Rattle.vm_states.specs.bc_library.Constants.{text_at}
+use Rattle.vm_states.specs.bc_library.Texts.{text_numbered}
 
 pub main_text : (shelf : Shelf) → text_at shelf (strs.Pool 21) ≡ Some (codes "__main__")
 unfolding text_numbered

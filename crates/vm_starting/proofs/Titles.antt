@@ -3,16 +3,16 @@ use Rattle.std.proofs.Common.{◌≡◌, ℕ, zero, suc, ◌≤◌, List, [], �
 use Rattle.std.specs.Prelude.{slice_get, is_some, IsSome}
 use Rattle.std.proofs.lemmas.List.Elements.{All-nil, All-cons}
 use Rattle.std.proofs.lemmas.Option.{slice_get_within}
-use Rattle.arena_heap.specs.declared.value.StrNo.{StrNo}
-use Rattle.arena_heap.specs.declared.value.StrNo.TheVariants as strs
-use Rattle.arena_objects.specs.Iterables.{or_nothing}
+use Rattle.frame_calls.specs.arena_heap.declared.value.StrNo.{StrNo}
+use Rattle.frame_calls.specs.arena_heap.declared.value.StrNo.TheVariants as strs
+use Rattle.frame_calls.specs.arena_objects.Iterables.{or_nothing}
 use Rattle.py_effects.specs.Modules as modules
-use Rattle.bc_library.specs.Shelf.{Shelf, Named}
-use Rattle.vm_walks.specs.Plain.{plain_name}
-use Rattle.vm_known.specs.vm_unwinding.declared.names.ModuleName.{ModuleName}
-use Rattle.vm_known.specs.vm_unwinding.Left.{HasLast}
-use Rattle.vm_known.specs.vm_unwinding.Names.{AreTablesOf}
-use Rattle.vm_programs.specs.vm_states.Means.{Program, Means}
+use Rattle.vm_states.specs.bc_library.Shelf.{Shelf, Named}
+use Rattle.frame_calls.specs.prim_walks.Plain.{plain_name}
+use Rattle.vm_states.specs.frame_exits.declared.names.ModuleName.{ModuleName}
+use Rattle.vm_states.specs.frame_exits.Left.{HasLast}
+use Rattle.vm_states.specs.frame_exits.Names.{AreTablesOf}
+use Rattle.vm_states.specs.Means.{Program, Means}
 use Rattle.vm_starting.specs.Titles.{AreTitles}
 use Rattle.vm_starting.proofs.Lasts.{last_is}
 

@@ -1,8 +1,10 @@
-pub use Rattle.vm_known.specs as vm_known
-pub use Rattle.vm_programs.specs as vm_programs
-pub use Rattle.vm_invoking.specs.vm_calls
-pub use Rattle.vm_invoking.specs.vm_outputs
-pub use Rattle.vm_invoking.specs as vm_invoking
+pub use Rattle.frame_calls.specs as frame_calls
+pub use Rattle.frame_calls.specs.prim_outputs
+pub use Rattle.vm_states.specs as vm_states
+pub use Rattle.vm_states.specs.bc_library
+pub mod Codes
+pub mod Kept
 pub mod Opened
+pub mod Programs
 pub mod Starting
 pub mod Titles

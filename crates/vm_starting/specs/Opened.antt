@@ -4,13 +4,13 @@ use Rattle.mpy_base.specs.declared.limits.TheConstants.{MAX_MODULES}
 use Rattle.mpy_base.specs.declared.room.Room.{Room}
 use Rattle.mpy_base.specs.Val.{PlainWorld}
 use Rattle.mpy_base.specs.Weights.{empty}
-use Rattle.bc_library.specs.Greatest.{IsGreatestIn, ShelfHas}
-use Rattle.bc_library.specs.Shelf.{Shelf}
-use Rattle.bc_machine.specs.State.{State}
-use Rattle.vm_modules.specs.Registry.{Registry}
-use Rattle.vm_invoking.specs.vm_step.Outcomes.{world_of}
-use Rattle.vm_known.specs.vm_unwinding.Ends.{with_modules, state_of}
-use Rattle.vm_programs.specs.vm_states.Means.{Program}
+use Rattle.vm_states.specs.bc_library.Greatest.{IsGreatestIn, ShelfHas}
+use Rattle.vm_states.specs.bc_library.Shelf.{Shelf}
+use Rattle.frame_calls.specs.bc_machine.State.{State}
+use Rattle.frame_calls.specs.prim_modules.Registry.{Registry}
+use Rattle.vm_states.specs.frame_moves.Outcomes.{world_of}
+use Rattle.vm_states.specs.frame_exits.Ends.{with_modules, state_of}
+use Rattle.vm_states.specs.Means.{Program}
 use Rattle.vm_starting.specs.declared.opening.Vm.{Vm}
 use Rattle.vm_starting.specs.Starting.{Begins}
 use Rattle.vm_starting.specs.Titles.{AreTitles}

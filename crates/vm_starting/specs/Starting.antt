@@ -3,23 +3,23 @@ use Rattle.std.specs.Prelude.{◌≡◌, ℕ, List, [], ◌∷◌, replicate, No
 use Rattle.mpy_base.specs.declared.room.NoRoom.{NoRoom}
 use Rattle.mpy_base.specs.Val.{PlainWorld}
 use Rattle.mpy_base.specs.World.{Heap}
-use Rattle.arena_heap.specs.declared.value.Value.{Value}
-use Rattle.bc_library.specs.Constants.{items_at, text_at}
-use Rattle.bc_library.specs.Shelf.{Shelf}
-use Rattle.bc_machine.specs.Library.{Name}
-use Rattle.bc_machine.specs.State.{State, Halted}
+use Rattle.frame_calls.specs.arena_heap.declared.value.Value.{Value}
+use Rattle.vm_states.specs.bc_library.Constants.{items_at, text_at}
+use Rattle.vm_states.specs.bc_library.Shelf.{Shelf}
+use Rattle.frame_calls.specs.bc_machine.Library.{Name}
+use Rattle.frame_calls.specs.bc_machine.State.{State, Halted}
 use Rattle.py_effects.specs.Ends.{Memory}
 use Rattle.py_effects.specs.Modules.{make_module}
-use Rattle.bc_rows.specs.declared.row.Row.{Row}
-use Rattle.bc_rows.specs.Rows.{IsRow}
-use Rattle.vm_frames.specs.declared.slot.Role.TheVariants as roles
-use Rattle.vm_frames.specs.Calls.{Call}
-use Rattle.vm_walks.specs.Plain.{plain_name}
-use Rattle.vm_modules.specs.declared.makings.Made.{Made}
-use Rattle.vm_modules.specs.Effects.{IsMaking}
-use Rattle.vm_modules.specs.Registry.{Registry, with_entry}
-use Rattle.vm_invoking.specs.vm_step.Shown.{running_of}
-use Rattle.vm_programs.specs.vm_states.Means.{Program}
+use Rattle.vm_states.specs.bc_rows.declared.row.Row.{Row}
+use Rattle.vm_states.specs.bc_rows.Rows.{IsRow}
+use Rattle.vm_states.specs.vm_frames.declared.slot.Role.TheVariants as roles
+use Rattle.vm_states.specs.vm_frames.Calls.{Call}
+use Rattle.frame_calls.specs.prim_walks.Plain.{plain_name}
+use Rattle.frame_calls.specs.prim_modules.declared.makings.Made.{Made}
+use Rattle.frame_calls.specs.prim_modules.Effects.{IsMaking}
+use Rattle.frame_calls.specs.prim_modules.Registry.{Registry, with_entry}
+use Rattle.vm_states.specs.frame_moves.Shown.{running_of}
+use Rattle.vm_states.specs.Means.{Program}
 use Rattle.vm_starting.specs.declared.starting.TheConstants.{MAIN}
 
 -- the module with this name has this number, and its code 0 these locals

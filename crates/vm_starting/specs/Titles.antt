@@ -1,9 +1,9 @@
 -- The names of a library's modules, by the numbers of their texts.
 use Rattle.std.specs.Prelude.{◌≡◌, ℕ, List, length, Some, slice_get, unwrap_or}
-use Rattle.bc_library.specs.Shelf.{Shelf, Named}
-use Rattle.bc_library.specs.Texts.{last_part, text_numbered}
-use Rattle.qstr_pool.specs.Pool.{Texts}
-use Rattle.vm_known.specs.vm_unwinding.declared.names.ModuleName.{ModuleName}
+use Rattle.vm_states.specs.bc_library.Shelf.{Shelf, Named}
+use Rattle.vm_states.specs.bc_library.Texts.{last_part, text_numbered}
+use Rattle.bc_verify.specs.qstr_pool.Pool.{Texts}
+use Rattle.vm_states.specs.frame_exits.declared.names.ModuleName.{ModuleName}
 
 -- what stands behind the last dot of a name, or the whole name where it has no dot
 abbrev pub last_of : List ℕ → List ℕ

@@ -1,11 +1,11 @@
 //! The names of a library's modules.
 
 ghost use Rattle.std.specs.Prelude.{List, IsSome, All};
-ghost use Rattle.arena_heap.specs.declared.value.StrNo.TheVariants as strs;
-ghost use Rattle.vm_known.specs.vm_unwinding.declared.names.ModuleName.{ModuleName as NameNumbers};
-ghost use Rattle.vm_known.specs.vm_unwinding.Left.{HasLast};
-ghost use Rattle.vm_known.specs.vm_unwinding.Names.{AreTablesOf};
-ghost use Rattle.vm_programs.specs.vm_states.Means.{Program, Means};
+ghost use Rattle.frame_calls.specs.arena_heap.declared.value.StrNo.TheVariants as strs;
+ghost use Rattle.vm_states.specs.frame_exits.declared.names.ModuleName.{ModuleName as NameNumbers};
+ghost use Rattle.vm_states.specs.frame_exits.Left.{HasLast};
+ghost use Rattle.vm_states.specs.frame_exits.Names.{AreTablesOf};
+ghost use Rattle.vm_states.specs.Means.{Program, Means};
 ghost use Rattle.vm_starting.specs.Titles.{AreTitles};
 
 /// What the names of modules say of a program of the library: they are those of its tables, and their texts and those of their

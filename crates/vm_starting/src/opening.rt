@@ -3,33 +3,33 @@
 ghost use Rattle.std.specs.Prelude.{◌≡◌, ◌<◌, ◌≤◌, ℕ, List, IfOk, IfSome, None, length};
 ghost use Rattle.mpy_base.specs.declared.room.NoRoom.{NoRoom};
 ghost use Rattle.mpy_base.specs.World.{PortState};
-ghost use Rattle.arena_objects.specs.Keys.{AllTold};
-ghost use Rattle.bc_library.specs.Constants.{items_at, text_at};
-ghost use Rattle.bc_library.specs.Greatest.{IsGreatestIn, ShelfHas};
-ghost use Rattle.bc_machine.specs.Library.{Name};
-ghost use Rattle.bc_machine.specs.Machine.{start};
-ghost use Rattle.bc_rows.specs.declared.row.Row.{Row as CodeRow};
-ghost use Rattle.bc_rows.specs.Rows.{IsRow};
+ghost use Rattle.frame_calls.specs.arena_objects.Keys.{AllTold};
+ghost use Rattle.vm_states.specs.bc_library.Constants.{items_at, text_at};
+ghost use Rattle.vm_states.specs.bc_library.Greatest.{IsGreatestIn, ShelfHas};
+ghost use Rattle.frame_calls.specs.bc_machine.Library.{Name};
+ghost use Rattle.frame_calls.specs.bc_machine.Machine.{start};
+ghost use Rattle.vm_states.specs.bc_rows.declared.row.Row.{Row as CodeRow};
+ghost use Rattle.vm_states.specs.bc_rows.Rows.{IsRow};
 ghost use Rattle.py_effects.specs.Ends.{new_world};
-ghost use Rattle.vm_programs.specs.vm_states.Means.{Program};
-ghost use Rattle.vm_known.specs.State.{IsState};
-ghost use Rattle.vm_programs.specs.Programs.{IsProgramOf, IsRunnable};
-ghost use Rattle.vm_known.specs.vm_unwinding.declared.ends.End.TheVariants as ends;
+ghost use Rattle.vm_states.specs.Means.{Program};
+ghost use Rattle.vm_states.specs.State.{IsState};
+ghost use Rattle.vm_starting.specs.Programs.{IsProgramOf, IsRunnable};
+ghost use Rattle.vm_states.specs.frame_exits.declared.ends.End.TheVariants as ends;
 ghost use Rattle.vm_starting.specs.Opened.{HasMemory, IsBegun, IsFresh, state_in};
 ghost use Rattle.vm_starting.specs.Titles.{AreTitles};
 
+use crate::shown_program::{code_law, program_law};
 use crate::starting::start_main;
-use arena_heap::{Arena, Value};
-use bc_library::Library;
-use bc_rows::Rows;
+use frame_calls::arena_heap::{Arena, Value};
+use frame_calls::prim_modules::Modules;
+use frame_calls::{Bindings, Operands};
 use mpy_base::limits::MAX_MODULES;
 use mpy_base::{NoMemory, Room};
 use std::alloc::Global;
-use vm_frames::Frames;
-use vm_invoking::{Bindings, Operands};
-use vm_known::{End, ModuleName};
-use vm_modules::Modules;
-use vm_programs::{code_law, program_law};
+use vm_states::bc_library::Library;
+use vm_states::bc_rows::Rows;
+use vm_states::frame_exits::{End, ModuleName};
+use vm_states::vm_frames::Frames;
 
 /// What a run of a library keeps. All its memory is taken where it is opened.
 #[derive(Drop)]

@@ -2,26 +2,25 @@
 
 ghost use Rattle.std.specs.Prelude.{◌≡◌, ◌<◌, ◌≤◌, [], length, OnOk, IfOk};
 ghost use Rattle.mpy_base.specs.Val.{PlainWorld};
-ghost use Rattle.arena_objects.specs.Keys.{AllTold};
-ghost use Rattle.bc_library.specs.Constants.{items_at, text_at};
-ghost use Rattle.bc_machine.specs.Library.{Name};
-ghost use Rattle.bc_machine.specs.Machine.{start};
-ghost use Rattle.vm_invoking.specs.vm_step.Outcomes.{world_of};
-ghost use Rattle.vm_known.specs.vm_unwinding.Ends.{with_modules};
-ghost use Rattle.vm_programs.specs.vm_states.Means.{Program, Means};
-ghost use Rattle.vm_programs.specs.vm_states.Running.{HasRooms};
-ghost use Rattle.vm_known.specs.State.{IsState};
+ghost use Rattle.frame_calls.specs.arena_objects.Keys.{AllTold};
+ghost use Rattle.vm_states.specs.bc_library.Constants.{items_at, text_at};
+ghost use Rattle.frame_calls.specs.bc_machine.Library.{Name};
+ghost use Rattle.frame_calls.specs.bc_machine.Machine.{start};
+ghost use Rattle.vm_states.specs.frame_moves.Outcomes.{world_of};
+ghost use Rattle.vm_states.specs.frame_exits.Ends.{with_modules};
+ghost use Rattle.vm_states.specs.Means.{Program, Means};
+ghost use Rattle.vm_states.specs.Running.{HasRooms};
+ghost use Rattle.vm_states.specs.State.{IsState};
 ghost use Rattle.vm_starting.specs.Starting.{Begins, IsMain, started_of};
 
-use arena_heap::{Arena, StrNo};
-use bc_library::Library;
-use bc_progress::start_law;
+use crate::shown_program::code_law;
+use frame_calls::arena_heap::{Arena, StrNo};
+use frame_calls::prim_faults::Stop;
+use frame_calls::prim_modules::{Modules, make_module};
 use mpy_base::NoRoom;
-use vm_faults::Stop;
-use vm_frames::{Frames, Role};
-use vm_modules::{Modules, make_module};
-use vm_moves::{moves_law, placed_law};
-use vm_programs::code_law;
+use vm_states::bc_library::Library;
+use vm_states::bc_progress::start_law;
+use vm_states::vm_frames::{Frames, Role, moves_law, placed_law};
 
 /// The number of the text `__main__`, which every library has.
 pub const MAIN: u32 = 21;

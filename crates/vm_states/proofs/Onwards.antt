@@ -2,19 +2,19 @@
 use Rattle.std.proofs.Common.{◌≡◌, ℕ, List, [], ◌∷◌, Option, All, sym, ap, subst, ◌∙◌, arith}
 use Rattle.std.proofs.lemmas.List.Elements.{All-cons, All-head, All-tail}
 use Rattle.mpy_base.specs.Val.{PlainWorld}
-use Rattle.arena_heap.specs.declared.value.Value.{Value}
-use Rattle.bc_offsets.specs.Positions.{Starts}
-use Rattle.bc_machine.specs.Library.{Library}
-use Rattle.bc_machine.specs.State.{State}
-use Rattle.bc_machine.specs.Step.{step}
+use Rattle.frame_exits.specs.arena_heap.declared.value.Value.{Value}
+use Rattle.frame_exits.specs.bc_labels.Positions.{Starts}
+use Rattle.bc_progress.specs.bc_machine.Library.{Library}
+use Rattle.bc_progress.specs.bc_machine.State.{State}
+use Rattle.bc_progress.specs.bc_machine.Step.{step}
 use Rattle.bc_progress.specs.Plans.{Plans, Follows}
 use Rattle.bc_progress.specs.Fits.{Fits}
-use Rattle.vm_frames.specs.declared.slot.Slot.{Slot}
-use Rattle.vm_frames.specs.Calls.{Call, Calls, change_first, on_running}
-use Rattle.vm_moves.specs.Placed.{IsPlaced}
-use Rattle.vm_moves.specs.Views.{View, starts_of}
-use Rattle.vm_fetching.specs.vm_step.Shown.{view_of, running_of, step_of}
-use Rattle.bc_rows.specs.declared.row.Row.{Row}
+use Rattle.frame_exits.specs.vm_frames.declared.slot.Slot.{Slot}
+use Rattle.frame_exits.specs.vm_frames.Calls.{Call, Calls, change_first, on_running}
+use Rattle.frame_exits.specs.vm_frames.Placed.{IsPlaced}
+use Rattle.frame_exits.specs.vm_frames.Views.{View, starts_of}
+use Rattle.vm_fetching.specs.frame_moves.Shown.{view_of, running_of, step_of}
+use Rattle.vm_fetching.specs.bc_rows.declared.row.Row.{Row}
 use Rattle.vm_fetching.specs.declared.instruction.Fetched.{Fetched}
 use Rattle.vm_states.specs.Means.{Program, Means}
 use Rattle.vm_states.specs.Ready.{item_at, IsReady}

@@ -3,33 +3,33 @@ use Rattle.std.proofs.Common.{◌≡◌, ℕ, zero, suc, ◌<◌, List, [], ◌�
 use Rattle.std.specs.Prelude.{IsSome, slice_get, option_and_then}
 use Rattle.std.proofs.lemmas.List.Elements.{All-head}
 use Rattle.mpy_base.specs.Val.{PlainWorld}
-use Rattle.mpy_tree.specs.File.{IsModule}
-use Rattle.mpy_tree.specs.Raw as raw
-use Rattle.mpy_tree.specs.Resolved.{ResolvedModule, Resolves}
-use Rattle.mpy_tree.specs.Codes.{codes_of}
+use Rattle.vm_fetching.specs.mpy_tree.File.{IsModule}
+use Rattle.vm_fetching.specs.mpy_tree.Raw as raw
+use Rattle.vm_fetching.specs.mpy_tree.Resolved.{ResolvedModule, Resolves}
+use Rattle.vm_fetching.specs.mpy_tree.Codes.{codes_of}
 use Rattle.bc_prelude.specs.Lines as lines
-use Rattle.bc_offsets.specs.Positions.{CodeList, Listed, Starts, position_in}
-use Rattle.bc_offsets.proofs.Order.{each}
-use Rattle.bc_library.specs.Shelf.{Shelf, Named, module_at}
-use Rattle.bc_library.specs.Texts.{text_numbered}
-use Rattle.py_effects.specs.Effect.{Place}
-use Rattle.bc_machine.specs.Library.{Code, Line, Module, Holds, Library, entry_in, module_in, code_in, module_of}
-use Rattle.bc_machine.specs.State.{Frame}
-use Rattle.bc_machine.specs.Step.{step}
+use Rattle.frame_exits.specs.bc_labels.Positions.{CodeList, Listed, Starts, position_in}
+use Rattle.frame_exits.proofs.bc_labels_lemmas.Order.{each}
+use Rattle.frame_exits.specs.bc_library.Shelf.{Shelf, Named, module_at}
+use Rattle.frame_exits.specs.bc_library.Texts.{text_numbered}
+use Rattle.bc_progress.specs.py_effects.Effect.{Place}
+use Rattle.bc_progress.specs.bc_machine.Library.{Code, Line, Module, Holds, Library, entry_in, module_in, code_in, module_of}
+use Rattle.bc_progress.specs.bc_machine.State.{Frame}
+use Rattle.bc_progress.specs.bc_machine.Step.{step}
 use Rattle.bc_progress.specs.Plans.{Plans, Follows}
 use Rattle.bc_progress.specs.Fits.{Stands, IsWithin}
-use Rattle.bc_rows.specs.declared.row.Row.{Row}
-use Rattle.bc_rows.specs.Codes.{code_numbered}
-use Rattle.bc_rows.specs.Rows.{IsRow}
-use Rattle.bc_rows.specs.Runs.{RunsAs}
-use Rattle.vm_frames.specs.Calls.{Call, Calls}
-use Rattle.vm_moves.specs.Placed.{IsPlaced}
-use Rattle.vm_moves.specs.Views.{frame_of}
-use Rattle.vm_fetching.specs.vm_step.Shown.{Tables, IsNext, view_of, running_of, step_of}
+use Rattle.vm_fetching.specs.bc_rows.declared.row.Row.{Row}
+use Rattle.vm_fetching.specs.bc_rows.Codes.{code_numbered}
+use Rattle.vm_fetching.specs.bc_rows.Rows.{IsRow}
+use Rattle.vm_fetching.specs.bc_rows.Runs.{RunsAs}
+use Rattle.frame_exits.specs.vm_frames.Calls.{Call, Calls}
+use Rattle.frame_exits.specs.vm_frames.Placed.{IsPlaced}
+use Rattle.frame_exits.specs.vm_frames.Views.{frame_of}
+use Rattle.vm_fetching.specs.frame_moves.Shown.{Tables, IsNext, view_of, running_of, step_of}
 use Rattle.vm_fetching.specs.declared.instruction.Fetched.{Fetched}
 use Rattle.vm_fetching.specs.Fetches.{IsVerifiedRow, Fetches}
 use Rattle.vm_fetching.specs.Shows.{item_of_fetched, TargetStarts, LocalIsWithin}
-use Rattle.vm_standing.specs.Finds.{Finds, GoesOn}
+use Rattle.vm_states.specs.Finds.{Finds, GoesOn}
 use Rattle.vm_states.specs.Means.{Program, IsMeant, Means}
 use Rattle.vm_states.specs.Ready.{IsFetched, item_at, IsReady}
 use Rattle.vm_states.specs.Running.{FitCalls, IsOfModule, IsRunning}

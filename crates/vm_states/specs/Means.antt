@@ -1,18 +1,18 @@
 -- What the machine runs for a library of files: its library, its tables and its plans.
 use Rattle.std.specs.Prelude.{◌≡◌, ℕ, Some, None, slice_get}
-use Rattle.mpy_tree.specs.File.{IsModule}
-use Rattle.mpy_tree.specs.Resolved.{ResolvedModule, Resolves}
-use Rattle.bc_verify.specs.Verified.{IsVerified}
-use Rattle.bc_offsets.specs.Positions.{CodeList, Listed}
-use Rattle.bc_library.specs.declared.fault.Member.TheVariants as members
-use Rattle.bc_library.specs.Shelf.{Shelf, Named, member_of}
-use Rattle.bc_machine.specs.Library as machine
-use Rattle.bc_machine.specs.Library.{Name, Holds, Library, entry_in, module_of}
+use Rattle.vm_fetching.specs.mpy_tree.File.{IsModule}
+use Rattle.vm_fetching.specs.mpy_tree.Resolved.{ResolvedModule, Resolves}
+use Rattle.vm_fetching.specs.bc_verify.Verified.{IsVerified}
+use Rattle.frame_exits.specs.bc_labels.Positions.{CodeList, Listed}
+use Rattle.frame_exits.specs.bc_library.declared.fault.Member.TheVariants as members
+use Rattle.frame_exits.specs.bc_library.Shelf.{Shelf, Named, member_of}
+use Rattle.bc_progress.specs.bc_machine.Library as machine
+use Rattle.bc_progress.specs.bc_machine.Library.{Name, Holds, Library, entry_in, module_of}
 use Rattle.bc_progress.specs.Plans.{Plans, Follows}
-use Rattle.bc_rows.specs.declared.row.Row.{Row}
-use Rattle.bc_rows.specs.Rows.{IsRow}
+use Rattle.vm_fetching.specs.bc_rows.declared.row.Row.{Row}
+use Rattle.vm_fetching.specs.bc_rows.Rows.{IsRow}
 use Rattle.vm_fetching.specs.Fetches.{AreOf}
-use Rattle.vm_fetching.specs.vm_step.Shown.{Tables}
+use Rattle.vm_fetching.specs.frame_moves.Shown.{Tables}
 
 -- a library of files, the machine's library, what numbers stand for, and how each code is verified
 pub record Program : Type 0 where

@@ -1,20 +1,20 @@
 -- What a fetched instruction finds on the running call.
 use Rattle.std.specs.Prelude.{◌≡◌, ℕ, ◌<◌, ◌≤◌, List, ◌∷◌, length, Some, slice_get}
 use Rattle.mpy_base.specs.Val.{PlainWorld}
-use Rattle.bc_offsets.specs.Positions.{CodeList, Listed, Starts}
+use Rattle.frame_exits.specs.bc_labels.Positions.{CodeList, Listed, Starts}
 use Rattle.bc_prelude.specs.Lines as lines
-use Rattle.mpy_tree.specs.Raw as raw
-use Rattle.bc_library.specs.Shelf.{Shelf, module_at}
-use Rattle.bc_library.specs.Texts.{text_numbered}
-use Rattle.py_effects.specs.Effect.{Place}
-use Rattle.bc_machine.specs.Library.{Code, Item, Line, code_at}
-use Rattle.bc_machine.specs.Step.{step}
-use Rattle.bc_rows.specs.declared.row.Row.{Row}
-use Rattle.bc_rows.specs.Runs.{RunsAs}
-use Rattle.vm_frames.specs.Calls.{Call, Calls}
-use Rattle.vm_moves.specs.Views.{starts_of, position_of, frame_of}
-use Rattle.vm_fetching.specs.vm_step.Shown.{Tables, IsNext, view_of, running_of, step_of}
-use Rattle.vm_standing.specs.Finds.{Finds, GoesOn}
+use Rattle.vm_fetching.specs.mpy_tree.Raw as raw
+use Rattle.frame_exits.specs.bc_library.Shelf.{Shelf, module_at}
+use Rattle.frame_exits.specs.bc_library.Texts.{text_numbered}
+use Rattle.bc_progress.specs.py_effects.Effect.{Place}
+use Rattle.bc_progress.specs.bc_machine.Library.{Code, Item, Line, code_at}
+use Rattle.bc_progress.specs.bc_machine.Step.{step}
+use Rattle.vm_fetching.specs.bc_rows.declared.row.Row.{Row}
+use Rattle.vm_fetching.specs.bc_rows.Runs.{RunsAs}
+use Rattle.frame_exits.specs.vm_frames.Calls.{Call, Calls}
+use Rattle.frame_exits.specs.vm_frames.Views.{starts_of, position_of, frame_of}
+use Rattle.vm_fetching.specs.frame_moves.Shown.{Tables, IsNext, view_of, running_of, step_of}
+use Rattle.vm_states.specs.Finds.{Finds, GoesOn}
 use Rattle.vm_fetching.specs.declared.instruction.Fetched.{Fetched}
 use Rattle.vm_fetching.specs.Fetches.{AreOf, Fetches}
 use Rattle.vm_fetching.specs.Shows.{item_of_fetched, TargetStarts, LocalIsWithin, TextIsThere, ConstantIsThere}

@@ -1,11 +1,11 @@
 -- Calls that run a program.
 use Rattle.std.specs.Prelude.{◌≡◌, ℕ, ◌<◌, ◌≤◌, List, [], ◌∷◌, length, map, Some, All}
-use Rattle.bc_machine.specs.Library.{Name, Code, code_at}
+use Rattle.bc_progress.specs.bc_machine.Library.{Name, Code, code_at}
 use Rattle.bc_progress.specs.Fits.{Stands, Below}
-use Rattle.vm_frames.specs.Calls.{Call, Calls}
-use Rattle.vm_moves.specs.Placed.{IsPlaced}
-use Rattle.vm_moves.specs.Views.{frame_of}
-use Rattle.vm_fetching.specs.vm_step.Shown.{view_of}
+use Rattle.frame_exits.specs.vm_frames.Calls.{Call, Calls}
+use Rattle.frame_exits.specs.vm_frames.Placed.{IsPlaced}
+use Rattle.frame_exits.specs.vm_frames.Views.{frame_of}
+use Rattle.vm_fetching.specs.frame_moves.Shown.{view_of}
 use Rattle.vm_states.specs.Means.{Program}
 
 module _ (p : Program) where

@@ -1,12 +1,21 @@
-//! Calls that run a library of files, and what an instruction that is fetched finds on them.
+//! Calls that run a program over an arena: what an instruction that is fetched finds on them, and how they
+//! stay so.
 #![tactic(auto)]
 
-mod law;
+mod call_tops;
+mod known;
+mod ready;
+mod standing;
 
-pub use law::{keeps_law, ready_law};
-pub use vm_fetching::{
-    Fetched, Instruction, JumpOp, NameOp, NumberOp, PlainOp, dup_top, dup_top_two, fetch, jump,
-    jump_if_false_or_pop, jump_if_true_or_pop, line_of, load_false, load_int, load_none, load_null,
-    load_object, load_text, load_true, pop_except_jump, pop_jump_if_false, pop_jump_if_true,
-    pop_top, rot_three, rot_two, setup_except, setup_finally, step_law, store_fast, unwind_jump,
-};
+pub use bc_ops;
+pub use bc_progress;
+pub use bc_progress::bc_machine;
+pub use call_tops::tops_law;
+pub use frame_exits;
+pub use frame_exits::{bc_library, vm_frames};
+pub use frame_values;
+pub use known::known_law;
+pub use ready::{keeps_law, ready_law};
+pub use standing::{locals_law, standing_law};
+pub use vm_fetching;
+pub use vm_fetching::{bc_rows, frame_moves};

@@ -1,2 +1,6 @@
-mod Runs
-mod Translations
+mod Numbers
+mod Telling
+mod Expressions
+mod Handlers
+mod Rooms
+mod Modules

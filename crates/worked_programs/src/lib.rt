@@ -1,3 +1,3 @@
-//! Worked programs, computed: the meaning of their sources, the run of their modules, and why those are the sources' translations.
+//! Worked programs: their sources and modules, why these are the sources' translations, and what both come to.
 //! The expected values are those of a reference.
 #![tactic(auto)]

@@ -1,5 +1,4 @@
-use Rattle.std.proofs.Common.{arith, ℕ, ◌+◌, ◌-◌, ◌<◌, ◌≡◌, List, sym, ◌∙◌, subst}
-use Rattle.std.proofs.Common.{take, drop}
+use Rattle.std.proofs.Common.{arith, ℕ, ◌+◌, ◌-◌, ◌<◌, ◌≡◌, List, sym, ◌∙◌, subst, take, drop}
 use Rattle.std.proofs.Math.Path.{ap₂}
 use Rattle.std.specs.List.{All}
 use Rattle.mpy_base.specs.World.{AText}

@@ -1,7 +1,7 @@
 use Rattle.std.proofs.Common.{◌≡◌, length, arith, rules}
 use Rattle.std.proofs.lemmas.Bool.{OnTrue_at}
 use Rattle.std.proofs.lemmas.List.{length-map}
-use Rattle.bc_shapes.specs.Views.{at_of}
+use Rattle.bc_flow.specs.bc_shapes.Views.{at_of}
 use Rattle.bc_flow.specs.Action.{action}
 use Rattle.bc_flow.specs.Code.{code_of}
 use Rattle.bc_certificates.specs.Rows.{at_if}

@@ -1,4 +1,4 @@
-use Rattle.bc_shapes.specs.Views.{at_of}
+use Rattle.bc_flow.specs.bc_shapes.Views.{at_of}
 use Rattle.bc_flow.specs.Code.{code_of}
 use Rattle.bc_certificates.specs.Rows.{at_if}
 use Rattle.bc_certificates.specs.Checking.{rows_of}

@@ -1,6 +1,6 @@
 use Rattle.std.proofs.Common.{◌≡◌, ◌∙◌, ap, sym, suc, length, Some, None, rules}
 use Rattle.std.proofs.lemmas.Bool.{OnTrue_at}
-use Rattle.bc_shapes.specs.Views.{at_of}
+use Rattle.bc_flow.specs.bc_shapes.Views.{at_of}
 use Rattle.bc_flow.specs.Code.{code_of}
 use Rattle.bc_flow.specs.Edges.{edge_of, arrive, Next}
 use Rattle.bc_flow.specs.Views.{action_of, behind_of, edge_of_rust}

@@ -1,6 +1,6 @@
 use Rattle.std.proofs.Common.{◌∙◌, sym, subst}
-use Rattle.bc_shapes.specs.Shape.{Under}
-use Rattle.bc_shapes.specs.Views.{at_of}
+use Rattle.bc_flow.specs.bc_shapes.Shape.{Under}
+use Rattle.bc_flow.specs.bc_shapes.Views.{at_of}
 use Rattle.bc_flow.specs.Views.{edge_of_rust}
 use Rattle.bc_certificates.specs.Checking.{rows_of}
 use Rattle.bc_certificates.proofs.Checks.{lead_one}

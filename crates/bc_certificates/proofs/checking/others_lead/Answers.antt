@@ -1,6 +1,6 @@
 use Rattle.std.proofs.Common.{◌≡◌, ◌∙◌, ap, refl, subst, length, map, rules}
 use Rattle.std.proofs.lemmas.Bool.{OnTrue_at}
-use Rattle.bc_shapes.specs.Views.{at_of}
+use Rattle.bc_flow.specs.bc_shapes.Views.{at_of}
 use Rattle.bc_flow.specs.Edges.{edge_of, run_ways, runs}
 use Rattle.bc_flow.specs.Views.{action_of, behind_of}
 use Rattle.bc_certificates.specs.Checking.{Lead, rows_of}

@@ -1,6 +1,6 @@
 use Rattle.std.proofs.Common.{◌≡◌, ◌-◌, sym, arith, subst, map, drop}
 use Rattle.std.proofs.lemmas.Bool.{OnTrue_at}
-use Rattle.bc_shapes.specs.Views.{at_of}
+use Rattle.bc_flow.specs.bc_shapes.Views.{at_of}
 use Rattle.bc_flow.specs.Edges.{edge_of, run_ways}
 use Rattle.bc_flow.proofs.Loops.{runs_end}
 use Rattle.bc_certificates.specs.Checking.{Lead, rows_of}

@@ -1,5 +1,5 @@
 use Rattle.std.proofs.Common.{◌-◌, ◌≤◌, map, drop}
-use Rattle.bc_shapes.specs.Views.{at_of}
+use Rattle.bc_flow.specs.bc_shapes.Views.{at_of}
 use Rattle.bc_flow.specs.Action.{Action}
 use Rattle.bc_flow.specs.Edges.{run_ways, edge_of}
 use Rattle.bc_certificates.specs.Checking.{Lead, rows_of}

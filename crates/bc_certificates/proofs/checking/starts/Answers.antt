@@ -1,7 +1,7 @@
 use Rattle.std.proofs.Common.{subst}
 use Rattle.std.proofs.lemmas.Bool.{OnTrue_from}
-use Rattle.bc_shapes.specs.Shape.{Under}
-use Rattle.bc_shapes.specs.Views.{at_of}
+use Rattle.bc_flow.specs.bc_shapes.Shape.{Under}
+use Rattle.bc_flow.specs.bc_shapes.Views.{at_of}
 use Rattle.bc_certificates.specs.Checking.{Begins, rows_of}
 use Rattle.bc_certificates.proofs.Checks.{begins_at}
 use Rattle.bc_certificates.proofs.checking.starts.Goals as goal

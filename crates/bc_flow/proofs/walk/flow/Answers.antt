@@ -7,6 +7,7 @@ use Rattle.bc_flow.specs.Views.{table_of}
 use Rattle.bc_flow.proofs.Queues.{start_queued}
 use Rattle.bc_flow.specs.Code.{code_of}
 use Rattle.bc_flow.proofs.Spans.{empty_none, remembers_anew, remembers_none}
+use Rattle.bc_flow.proofs.Decides.{comes_reached}
 use Rattle.bc_flow.proofs.Walks as walks
 use Rattle.bc_flow.proofs.walk.flow.Goals as goal
 
@@ -77,3 +78,6 @@ returns-clause-holds c =
 
 pub returns-clause-least : goal.returns-clause-least
 returns-clause-least c b h = walks.ends_least c.args.code.now (table_of c.loop-p.states.items) c.loop-p.invariant.comes b h
+
+pub returns-clause-reached : goal.returns-clause-reached
+returns-clause-reached c = comes_reached _ _ c.loop-p.invariant.comes

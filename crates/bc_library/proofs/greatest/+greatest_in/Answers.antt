@@ -1,7 +1,7 @@
 use Rattle.std.proofs.Common.{◌≡◌, ◌+◌, ◌-◌, length, Some, sym, ap, subst, arith}
 use Rattle.std.specs.Prelude.{slice_get, max}
-use Rattle.bc_prelude.specs.Prelude.{Begins}
-use Rattle.mpy_tree.proofs.Codes.{Nests, children, whole, get_at}
+use Rattle.bc_verify.specs.bc_prelude.Prelude.{Begins}
+use Rattle.bc_verify.proofs.mpy_tree_lemmas.Codes.{Nests, children, whole, get_at}
 use Rattle.bc_library.specs.Greatest.{IsGreatestIn}
 use Rattle.bc_library.proofs.Preludes.{HasBelow, first_code, next_child, all_children}
 use Rattle.bc_library.proofs.greatest.+greatest_in.Goals as goal

@@ -1,6 +1,6 @@
 use Rattle.std.proofs.Common.{◌≡◌, ℕ, List, Some, length, sym, ap, subst, ◌∙◌, arith}
 use Rattle.std.proofs.lemmas.List.{length-map}
-use Rattle.qstr_pool.specs.Pool.{Texts}
+use Rattle.bc_verify.specs.qstr_pool.Pool.{Texts}
 use Rattle.bc_library.specs.Kept.{named}
 use Rattle.bc_library.specs.Shelf.{Shelf}
 use Rattle.bc_library.specs.Texts.{text_numbered}

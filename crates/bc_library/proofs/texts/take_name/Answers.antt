@@ -2,9 +2,9 @@ use Rattle.std.proofs.Common.{◌≡◌, List, ℕ, [], ◌∷◌, Err, Option, 
 use Rattle.std.specs.Option.{option_to_list}
 use Rattle.std.proofs.lemmas.Result.{err_from_is_err_and}
 use Rattle.mpy_base.specs.declared.refused.Refused.TheVariants as refused
-use Rattle.qstr_pool.specs.Full.{pool_full}
+use Rattle.bc_verify.specs.qstr_pool.Full.{pool_full}
 use Rattle.std.specs.Prelude.{unwrap_or}
-use Rattle.qstr_pool.specs.Pool.{Texts}
+use Rattle.bc_verify.specs.qstr_pool.Pool.{Texts}
 use Rattle.bc_library.specs.Texts.{last_part, text_numbered, with_text}
 use Rattle.bc_library.proofs.Pools.{kept, longer, same_first, extends_by, extends_same, on_err}
 use Rattle.bc_library.proofs.texts.take_name.Goals as goal

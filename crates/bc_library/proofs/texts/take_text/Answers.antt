@@ -1,9 +1,9 @@
 use Rattle.std.proofs.Common.{◌≡◌, ◌≤◌, Err, Some, sym, ap, subst, ◌∙◌, arith}
 use Rattle.std.proofs.lemmas.Result.{err_from_is_err_and}
 use Rattle.mpy_base.specs.declared.refused.Refused.TheVariants as refused
-use Rattle.qstr_pool.specs.Full.{pool_full}
-use Rattle.qstr_pool.specs.Pool.{Texts, number_of}
-use Rattle.qstr_pool.specs.declared.table.TheConstants.{FIRST_OWN}
+use Rattle.bc_verify.specs.qstr_pool.Full.{pool_full}
+use Rattle.bc_verify.specs.qstr_pool.Pool.{Texts, number_of}
+use Rattle.bc_verify.specs.qstr_pool.declared.table.TheConstants.{FIRST_OWN}
 use Rattle.bc_library.specs.Texts.{text_numbered}
 use Rattle.bc_library.proofs.Pools.{static_numbered, pool_numbered, with_static, with_own, overflows}
 use Rattle.bc_library.proofs.texts.take_text.Goals.{in-Some, in-None+in_ok-number-in-None}

@@ -3,11 +3,11 @@ use Rattle.std.specs.Prelude.{slice_get, slice_set}
 use Rattle.std.proofs.Math.ListN.{length-set}
 use Rattle.bc_rows.specs.declared.row.Row.{Row}
 use Rattle.mpy_base.specs.declared.limits.TheConstants.{MAX_CODE_BYTES}
-use Rattle.mpy_tree.specs.declared.raw.RawCode.{RawCode}
-use Rattle.mpy_tree.specs.File.{IsOwnCode}
+use Rattle.bc_machine.specs.mpy_tree.declared.raw.RawCode.{RawCode}
+use Rattle.bc_machine.specs.mpy_tree.File.{IsOwnCode}
 use Rattle.bc_rows.specs.Made.{with_children}
 use Rattle.bc_rows.specs.Rows.{IsRowOf}
-use Rattle.mpy_tree.proofs.Codes.{children, whole, get_at}
+use Rattle.bc_machine.proofs.mpy_tree_lemmas.Codes.{children, whole, get_at}
 use Rattle.bc_rows.proofs.Numbering.{child_of, own_of, Added, none_added, one_more, all_added, row_at, place_in, front_is}
 use Rattle.bc_rows.proofs.codes.+add_code.Goals as goal
 

@@ -1,5 +1,5 @@
 use Rattle.std.proofs.Common.{◌-◌, ℕ, List, take}
-use Rattle.mpy_tree.proofs.Codes.{children}
+use Rattle.bc_machine.proofs.mpy_tree_lemmas.Codes.{children}
 use Rattle.bc_rows.proofs.Numbering.{Added}
 use Rattle.bc_rows.proofs.codes.+add_code.Given as goal
 

@@ -1,6 +1,6 @@
 use Rattle.std.proofs.Common.{◌≡◌, [], true, false, length, sym, subst, arith}
 use Rattle.mpy_base.specs.declared.limits.TheConstants.{MAX_DEPTH}
-use Rattle.mpy_tree.specs.File.{IsCode}
+use Rattle.bc_machine.specs.mpy_tree.File.{IsCode}
 use Rattle.bc_rows.proofs.Numbering.{all_rows}
 use Rattle.bc_rows.proofs.Preludes.{entry_there}
 use Rattle.bc_rows.proofs.codes.rows_of.Goals as goal

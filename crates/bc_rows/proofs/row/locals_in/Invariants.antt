@@ -1,5 +1,5 @@
 use Rattle.std.proofs.Common.{◌≡◌, take}
-use Rattle.bc_flow.specs.Code.{locals}
+use Rattle.bc_library.specs.bc_flow.Code.{locals}
 use Rattle.bc_rows.proofs.row.locals_in.Given as goal
 
 abbrev pub invariant-loop-item : goal.invariant-loop-item

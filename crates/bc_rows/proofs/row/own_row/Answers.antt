@@ -1,6 +1,6 @@
 use Rattle.std.proofs.Common.{◌∙◌, ◌∷◌, length, map, refl, ap, arith}
 use Rattle.bc_library.specs.Texts.{text_numbered}
-use Rattle.bc_flow.specs.Code.{locals}
+use Rattle.bc_library.specs.bc_flow.Code.{locals}
 use Rattle.bc_prelude.proofs.Pieces.{parts_short}
 use Rattle.bc_rows.proofs.Preludes.{indexes_of, list_of, few_args, some_first, first_out}
 use Rattle.bc_rows.proofs.row.own_row.Goals as goal

@@ -1,7 +1,7 @@
 use Rattle.std.proofs.Common.{sym, subst, ◌∙◌, ◌≤◌, length, arith, rules}
 use Rattle.mpy_base.specs.declared.limits.TheConstants.{MAX_CODE_BYTES}
-use Rattle.bc_prelude.proofs.Preludes.{same_prelude}
-use Rattle.bc_ops.specs.Listing.{IsListOf, Lists}
+use Rattle.mpy_tree.proofs.bc_prelude_lemmas.Preludes.{same_prelude}
+use Rattle.mpy_tree.specs.bc_ops.Listing.{IsListOf, Lists}
 use Rattle.bc_verify.proofs.Bodies.{same_instructions, instructions_short}
 use Rattle.bc_verify.proofs.code.read_code.Goals as goal
 

@@ -1,6 +1,6 @@
 use Rattle.std.proofs.Common.{◌≡◌, sym, subst}
 use Rattle.mpy_tree.specs.declared.raw.RawCode.{out-RawCode}
-use Rattle.bc_flow.specs.Verified as flow
+use Rattle.bc_certificates.specs.bc_flow.Verified as flow
 use Rattle.bc_verify.specs.Body.{Says, body_of, flow_of}
 use Rattle.bc_verify.proofs.Bodies.{one_body}
 use Rattle.bc_verify.proofs.code.shapes.Goals as goal
@@ -28,4 +28,5 @@ returns c =
       says = subst (λ z. Says z (body_of d.code) d.offsets.items) c.bytes.ensures c.in_ok-decoded.ensures;
       holds = rw c.in-Ok.is at c.in_ok-states.ensures.holds;
       least = rw c.in-Ok.is at c.in_ok-states.ensures.least;
+      reached = rw c.in-Ok.is at c.in_ok-states.ensures.reached;
     }

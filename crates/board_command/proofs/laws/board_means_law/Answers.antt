@@ -1,10 +1,10 @@
-use Rattle.bc_library.specs.Shelf.{no_entries}
-use Rattle.frozen_programs.specs.Programs.{IsProgramOfManifest}
-use Rattle.board_command.proofs.Meaning.{OfManifests, frozen_programs, tasks_mean}
+use Rattle.std.proofs.Common.{◌∷◌}
+use Rattle.meant_files.specs.Programs.{IsProgramOf}
+use Rattle.board_command.proofs.Meaning.{OfImages, image_programs, tasks_mean}
 use Rattle.board_command.proofs.laws.board_means_law.Goals as goal
 
 pub returns : goal.returns
-returns c sources files manifest image bytes plan_name new before behind place made there =
-    let o : OfManifests = record { program = c.frozen_law.ensures.program; units = c.frozen_law.ensures.units } in
-    tasks_mean c.tasks_law.ensures c.program_law.ensures.exists (IsProgramOfManifest sources manifest) no_entries image plan_name files new before behind place
-    (frozen_programs o sources files manifest image bytes made there)
+returns c all sources below files image plan_name new before behind place is made =
+    let o : OfImages = record { program = c.images_law.ensures.program; units = c.images_law.ensures.units } in
+    tasks_mean c.tasks_law.ensures c.program_law.ensures.exists (IsProgramOf (sources ∷ all)) below image plan_name files new before behind place
+    (image_programs o all sources below files image is made)

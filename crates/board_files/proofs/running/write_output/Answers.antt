@@ -1,9 +1,10 @@
 use Rattle.std.proofs.Common.{ℕ, ◌<◌, ◌≤◌, List, length, All, sym, subst, ◌∙◌}
 use Rattle.mpy_base.specs.declared.limits.TheConstants.{MAX_TASKS}
 use Rattle.board_plan.specs.declared.plan.Turn.{Turn}
-use Rattle.board_files.specs.Files.{KeepsOthers, StopsWithin}
+use Rattle.board_files.specs.Files.{AreEmpty, KeepsOthers, StopsWithin, cut_of}
 use Rattle.board_files.proofs.Holding.{opened_many, opened_runs, opened_unpaid}
 use Rattle.board_files.proofs.Others.{others_on}
+use Rattle.board_files.proofs.Stopping.{begun_stops, made_stops}
 use Rattle.board_files.proofs.running.write_output.Goals as goal
 
 pub make_turns-requires-clause-runs : goal.make_turns-requires-clause-runs
@@ -44,3 +45,13 @@ returns-in-Err-clause-few g c =
 pub returns-in-Ok-clause-within : goal.returns-in-Ok-clause-within
 returns-in-Ok-clause-within g c =
     subst (λ (n : ℕ). StopsWithin n c.make_turns.result) (opened_many c.args.library.now c.args.plan.now.tasks c.args.board.now c.requires.opened) c.make_turns.ensures.within
+
+pub returns-in-Ok-clause-stopped : goal.returns-in-Ok-clause-stopped
+returns-in-Ok-clause-stopped g c =
+    let files = g.F.Folder.files in
+    made_stops c.stands_law.ensures.starts c.args.library.now c.args.plan.now c.args.board.now c.requires.opened c.as_slice.result.now (files c.args.folder.now) (files c.begin_files.new.folder) (files c.make_turns.new.folder) c.make_turns.result
+    c.as_slice.ensures (subst (λ (n : ℕ). AreEmpty n (files c.args.folder.now) (files c.begin_files.new.folder)) c.len-count.ensures c.in-Ok.ensures.begun) c.make_turns.ensures.stopped
+
+pub returns-in-Err-clause-stopped : goal.returns-in-Err-clause-stopped
+returns-in-Err-clause-stopped g c = λ p is.
+    begun_stops p c.args.plan.now (cut_of c.in-Err.stop) c.len-count.result (g.F.Folder.files c.args.folder.now) (g.F.Folder.files c.begin_files.new.folder) c.len-count.ensures c.in-Err.ensures.stopped

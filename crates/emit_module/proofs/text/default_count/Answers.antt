@@ -3,7 +3,7 @@ use Rattle.std.specs.Prelude.{is_some}
 use Rattle.std.specs.List.{count_by}
 use Rattle.std.proofs.lemmas.List.Sums.{length-filter}
 use Rattle.py_tree.specs.declared.stmt.Param.{Param}
-use Rattle.emit_stmt.proofs.emit_simple_lemmas.DefForms.{given_count}
+use Rattle.emit_stmt.proofs.DefForms.{given_count}
 use Rattle.emit_module.proofs.text.default_count.Goals as goal
 
 pub returns-clause-number : goal.returns-clause-number

@@ -8,8 +8,8 @@ use Rattle.emit_module.proofs.Sizes.{branch_less, handler_less, if_below, while_
 use Rattle.py_tree.specs.declared.stmt.Stmt.{out-Stmt}
 use Rattle.py_tree.specs.declared.stmt.StmtKind.TheVariants as s
 use Rattle.std.specs.Prelude.{Ok, Err}
-use Rattle.emit_expr.proofs.Rows.{filled_items}
-use Rattle.emit_stmt.proofs.emit_simple_lemmas.Plains.{simple_by}
+use Rattle.emit_stmt.proofs.emit_expr_lemmas.Rows.{filled_items}
+use Rattle.emit_stmt.proofs.Plains.{simple_by}
 use Rattle.py_tree.specs.declared.stmt.Branch.{out-Branch}
 use Rattle.py_tree.specs.declared.stmt.Handler.{out-Handler}
 use Rattle.py_meaning.specs.Tree.{Else, End}

@@ -4,8 +4,8 @@ use Rattle.py_tree.specs.declared.stmt.Handler.{out-Handler}
 use Rattle.py_tree.specs.declared.stmt.Stmt.{out-Stmt}
 use Rattle.emit_expr.proofs.Rows.{drop_item, empty_slice, filled_slice}
 use Rattle.py_meaning.specs.Plain.{numbered}
-use Rattle.emit_simple.specs.Plain.{plain_kind}
-use Rattle.emit_simple.proofs.Plains.{simple_by}
+use Rattle.emit_stmt.specs.Plain.{plain_kind}
+use Rattle.emit_stmt.proofs.Plains.{simple_by}
 use Rattle.emit_stmt.specs.Parts.{plain_block, plain_handlers, if_part}
 use Rattle.emit_stmt.proofs.Layers.{if_is, def_is, bare_is, handled_is}
 use Rattle.emit_stmt.proofs.Loops.{while_top, while_emits, for_top, for_emits, loop_held}

@@ -1,6 +1,6 @@
 use Rattle.std.proofs.Common.{List, ℕ, sym, subst, ◌∙◌}
-use Rattle.mpy_tree.specs.File.{IsAscii}
-use Rattle.mpy_tree.specs.Raw.{Module}
+use Rattle.image_open.specs.mpy_tree.File.{IsAscii}
+use Rattle.image_open.specs.mpy_tree.Raw.{Module}
 use Rattle.library_files.specs.Comes.{IsVerifiedFile}
 use Rattle.frozen_files.proofs.Given.{module_of, not_compiled}
 use Rattle.frozen_files.proofs.source.compiled.Goals as goal

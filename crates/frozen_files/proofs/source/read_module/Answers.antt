@@ -1,5 +1,5 @@
 use Rattle.std.proofs.Common.{subst}
-use Rattle.bc_verify.specs.Verified.{IsVerified}
+use Rattle.image_open.specs.bc_verify.Verified.{IsVerified}
 use Rattle.library_files.proofs.Read.{same_read, not_read}
 use Rattle.frozen_files.proofs.source.read_module.Goals as goal
 

@@ -1,6 +1,6 @@
 use Rattle.std.proofs.Common.{◌++◌, ◌∷◌, [], Option, sym, subst, ◌∙◌}
 use Rattle.mpy_io.specs.Files.{FileOf}
-use Rattle.frozen_faults.specs.Faults.{FaultIs}
+use Rattle.manifest_files.specs.FrozenFaults.{FaultIs}
 use Rattle.frozen_files.specs.Sources.{HoldsSource, RefusesEntry}
 use Rattle.frozen_files.proofs.Modules.{grown, one_more, first_refused, all_seen}
 use Rattle.frozen_files.proofs.sources.modules.Goals as goal

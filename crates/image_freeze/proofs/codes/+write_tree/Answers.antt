@@ -1,9 +1,9 @@
 use Rattle.std.proofs.Common.{◌≡◌, ◌-◌, ◌<◌, ◌≤◌, ◌++◌, ℕ, List, length, get_or, refl, sym, ap, subst, ◌∙◌, arith}
 use Rattle.std.specs.List.{flat_map}
 use Rattle.mpy_base.specs.declared.limits.TheConstants.{MAX_CODE_BYTES}
-use Rattle.mpy_tree.specs.declared.raw.RawCode.{RawCode}
-use Rattle.mpy_tree.specs.Canonical.{code_bytes}
-use Rattle.mpy_tree.proofs.Codes.{Nests, children, whole, get_at}
+use Rattle.mpy_writer.specs.mpy_tree.declared.raw.RawCode.{RawCode}
+use Rattle.mpy_writer.specs.mpy_tree.Canonical.{code_bytes}
+use Rattle.mpy_writer.proofs.mpy_tree_lemmas.Codes.{Nests, children, whole, get_at}
 use Rattle.image_freeze.proofs.Loops.{added_all, added_more}
 use Rattle.image_freeze.proofs.Trees.{tree_written}
 use Rattle.image_freeze.proofs.codes.+write_tree.Goals as goal

@@ -1,6 +1,6 @@
 use Rattle.std.proofs.Common.{◌≡◌, ◌-◌, ◌++◌, drop}
 use Rattle.std.specs.List.{flat_map}
-use Rattle.mpy_tree.specs.Canonical.{code_bytes}
+use Rattle.mpy_writer.specs.mpy_tree.Canonical.{code_bytes}
 use Rattle.image_freeze.proofs.codes.+write_tree.Given as goal
 
 abbrev pub decreases-write_tree : goal.decreases-write_tree

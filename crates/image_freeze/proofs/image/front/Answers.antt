@@ -1,6 +1,6 @@
 use Rattle.std.proofs.Common.{◌≡◌, ℕ, List, Vec, Global, arith}
 use Rattle.std.proofs.lemmas.Bool.{ne_eqb}
-use Rattle.image_base.specs.Base.{base_of}
+use Rattle.image_open.specs.image_grammar.Base.{base_of}
 use Rattle.image_freeze.specs.Fronts.{front_of}
 use Rattle.image_freeze.proofs.Exits.{if_ok_more}
 use Rattle.image_freeze.proofs.Fronts.{front_first, front_second, names_count}

@@ -4,14 +4,14 @@ use Rattle.std.proofs.lemmas.Result.{err_from_is_err_and}
 use Rattle.mpy_base.specs.declared.limits.TheConstants.{MAX_IMAGE_BYTES, MAX_MODULES, MAX_TABLE}
 use Rattle.qstr_pool.specs.declared.table.TheConstants.{FIRST_OWN}
 use Rattle.qstr_pool.specs.Pool.{Texts}
-use Rattle.bc_library.specs.Shelf.{Shelf, names}
-use Rattle.bc_library.specs.Texts.{with_texts}
-use Rattle.bc_library.proofs.Pools.{longer, same_first}
-use Rattle.image_grammar.specs.declared.fault.ImageFault.{ImageFault}
-use Rattle.image_grammar.specs.declared.fault.ImageFault.TheVariants.{TooBig}
-use Rattle.image_grammar.specs.Image.{texts_used}
-use Rattle.image_grammar.specs.Opening.{Base, pool_below}
-use Rattle.image_base.specs.Base.{base_of}
+use Rattle.image_open.specs.bc_library.Shelf.{Shelf, names}
+use Rattle.image_open.specs.bc_library.Texts.{with_texts}
+use Rattle.image_open.proofs.bc_library_lemmas.Pools.{longer, same_first}
+use Rattle.image_open.specs.image_grammar.declared.fault.ImageFault.{ImageFault}
+use Rattle.image_open.specs.image_grammar.declared.fault.ImageFault.TheVariants.{TooBig}
+use Rattle.image_open.specs.image_grammar.Image.{texts_used}
+use Rattle.image_open.specs.image_grammar.Opening.{Base, pool_below}
+use Rattle.image_open.specs.image_grammar.Base.{base_of}
 use Rattle.image_open.proofs.Uses.{IsProper}
 use Rattle.image_freeze.specs.declared.named.Named.{Named}
 use Rattle.image_freeze.specs.Fronts.{front_of}

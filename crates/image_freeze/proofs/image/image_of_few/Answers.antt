@@ -1,6 +1,6 @@
 use Rattle.std.proofs.Common.{◌+◌, ◌≤◌, length, arith}
-use Rattle.bc_library.specs.Shelf.{names}
-use Rattle.image_base.specs.Base.{base_of}
+use Rattle.image_open.specs.bc_library.Shelf.{names}
+use Rattle.image_open.specs.image_grammar.Base.{base_of}
 use Rattle.image_freeze.specs.Fronts.{front_of}
 use Rattle.image_freeze.proofs.Ended.{many_modules}
 use Rattle.image_freeze.proofs.Fronts.{names_count}

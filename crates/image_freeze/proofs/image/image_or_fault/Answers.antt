@@ -1,4 +1,4 @@
-use Rattle.image_base.specs.Base.{base_of}
+use Rattle.image_open.specs.image_grammar.Base.{base_of}
 use Rattle.image_freeze.specs.Fronts.{front_of}
 use Rattle.image_freeze.proofs.Ended.{twice_ends}
 use Rattle.image_freeze.proofs.image.image_or_fault.Goals as goal

@@ -1,4 +1,4 @@
-use Rattle.mpy_tree.specs.File.{IsModule}
+use Rattle.mpy_writer.specs.mpy_tree.File.{IsModule}
 use Rattle.image_freeze.specs.declared.named.Named.{Named}
 use Rattle.image_freeze.proofs.Loops.{all_taken, taken_more}
 use Rattle.image_freeze.proofs.modules.modules_law.Goals as goal

@@ -1,5 +1,5 @@
 use Rattle.std.proofs.Common.{All, take}
-use Rattle.mpy_tree.specs.File.{IsModule}
+use Rattle.mpy_writer.specs.mpy_tree.File.{IsModule}
 use Rattle.image_freeze.specs.declared.named.Named.{Named}
 use Rattle.image_freeze.proofs.modules.modules_law.Given as goal
 

@@ -1,6 +1,6 @@
 use Rattle.std.proofs.Common.{◌≡◌, ◌≤◌, ◌++◌, ℕ, List, length, sym, ap, subst, ◌∙◌}
 use Rattle.mpy_base.specs.declared.limits.TheConstants.{MAX_TABLE}
-use Rattle.mpy_tree.specs.declared.raw.Qstr.{Qstr}
+use Rattle.mpy_writer.specs.mpy_tree.declared.raw.Qstr.{Qstr}
 use Rattle.image_freeze.specs.Frozen.{text_number}
 use Rattle.image_freeze.proofs.Exits.{on_ok_more}
 use Rattle.image_freeze.proofs.Parts.{module_written}

@@ -2,7 +2,7 @@ use Rattle.std.proofs.Common.{◌++◌, ◌≡◌, List, ℕ, All, sym, ap, subs
 use Rattle.std.specs.List.{flat_map}
 use Rattle.std.proofs.lemmas.List.Elements.{All-get_or}
 use Rattle.mpy_base.specs.declared.limits.TheConstants.{MAX_DEPTH}
-use Rattle.mpy_tree.specs.File.{IsModule}
+use Rattle.mpy_writer.specs.mpy_tree.File.{IsModule}
 use Rattle.mpy_writer.specs.Writable.{IsFine}
 use Rattle.image_freeze.specs.declared.named.Named.{Named}
 use Rattle.image_freeze.proofs.Loops.{added_all, added_more}

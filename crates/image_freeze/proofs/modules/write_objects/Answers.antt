@@ -2,7 +2,7 @@ use Rattle.std.proofs.Common.{◌++◌, ℕ, length, ap, ◌∙◌, arith}
 use Rattle.std.specs.List.{flat_map}
 use Rattle.mpy_base.specs.declared.limits.TheConstants.{MAX_DEPTH}
 use Rattle.mpy_base.specs.Vuint.{vuint}
-use Rattle.mpy_tree.specs.Canonical.{object_bytes}
+use Rattle.mpy_writer.specs.mpy_tree.Canonical.{object_bytes}
 use Rattle.image_freeze.proofs.Exits.{on_ok_more}
 use Rattle.image_freeze.proofs.Parts.{two}
 use Rattle.image_freeze.proofs.modules.write_objects.Goals as goal

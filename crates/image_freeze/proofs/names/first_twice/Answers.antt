@@ -1,7 +1,7 @@
 use Rattle.std.proofs.Common.{◌≡◌, ◌<◌, ◌++◌, ℕ, Bool, true, false, List, length, get_or, take, sym, ap, subst, arith}
 use Rattle.std.specs.Prelude.{Contains}
-use Rattle.bc_library.specs.Shelf.{names}
-use Rattle.image_grammar.proofs.Steps.{not_true}
+use Rattle.image_open.specs.bc_library.Shelf.{names}
+use Rattle.image_open.proofs.image_grammar_lemmas.Steps.{not_true}
 use Rattle.image_freeze.specs.declared.named.Named.{Named}
 use Rattle.image_freeze.specs.Frozen.{IsTwice}
 use Rattle.image_freeze.proofs.Twice.{count_names, name_at, none_walked, source_names, take_names, twice_here, walked_more}

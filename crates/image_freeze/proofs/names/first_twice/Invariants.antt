@@ -1,4 +1,4 @@
-use Rattle.bc_library.specs.Shelf.{names}
+use Rattle.image_open.specs.bc_library.Shelf.{names}
 use Rattle.image_freeze.proofs.Twice.{Walked, source_names}
 use Rattle.image_freeze.proofs.names.first_twice.Given as goal
 

@@ -2,7 +2,7 @@ use Rattle.std.proofs.Common.{◌≡◌, ◌-◌, ◌<◌, List, length, get_or,
 use Rattle.std.proofs.lemmas.Bool.{leb-true, leb-false}
 use Rattle.std.proofs.lemmas.List.Elements.{All-get_or}
 use Rattle.mpy_base.specs.declared.limits.TheConstants.{MAX_IMAGE_BYTES}
-use Rattle.mpy_tree.specs.declared.module.Constant.{Constant}
+use Rattle.mpy_writer.specs.mpy_tree.declared.module.Constant.{Constant}
 use Rattle.mpy_writer.specs.Writable.{IsFine}
 use Rattle.image_freeze.proofs.Loops.{taken_more, all_taken}
 use Rattle.image_freeze.proofs.Shapes.{IsObjectOf, none_fine, false_fine, true_fine, int_fine, str_fine, tuple_in, tuple_fine, str_long, tuple_long}

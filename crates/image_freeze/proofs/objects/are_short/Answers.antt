@@ -1,10 +1,9 @@
 use Rattle.std.proofs.Common.{sym, subst, arith}
 use Rattle.std.proofs.lemmas.List.Elements.{All-get_or}
 use Rattle.mpy_base.specs.declared.limits.TheConstants.{MAX_DEPTH}
-use Rattle.mpy_tree.specs.Canonical.{object_bytes}
+use Rattle.mpy_writer.specs.mpy_tree.Canonical.{object_bytes}
 use Rattle.mpy_writer.specs.Writable.{IsFine}
-use Rattle.image_freeze.proofs.Loops.{taken_more, all_taken}
-use Rattle.image_freeze.proofs.Loops.{one_of_all}
+use Rattle.image_freeze.proofs.Loops.{taken_more, all_taken, one_of_all}
 use Rattle.image_freeze.proofs.Shapes.{IsObjectOf}
 use Rattle.image_freeze.proofs.objects.are_short.Goals as goal
 

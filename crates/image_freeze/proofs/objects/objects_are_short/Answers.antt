@@ -2,9 +2,9 @@ use Rattle.std.proofs.Common.{◌<◌, List, length, All, sym, subst, arith}
 use Rattle.std.specs.List.{flat_map}
 use Rattle.std.proofs.lemmas.List.Elements.{All-get_or}
 use Rattle.mpy_base.specs.declared.limits.TheConstants.{MAX_DEPTH, MAX_IMAGE_BYTES}
-use Rattle.mpy_tree.specs.declared.module.Constant.{Constant}
-use Rattle.mpy_tree.specs.Canonical.{object_bytes}
-use Rattle.mpy_tree.specs.File.{IsModule}
+use Rattle.mpy_writer.specs.mpy_tree.declared.module.Constant.{Constant}
+use Rattle.mpy_writer.specs.mpy_tree.Canonical.{object_bytes}
+use Rattle.mpy_writer.specs.mpy_tree.File.{IsModule}
 use Rattle.mpy_writer.specs.Writable.{IsFine}
 use Rattle.image_freeze.specs.declared.named.Named.{Named}
 use Rattle.image_freeze.proofs.Ended.{objects_of}

@@ -1,6 +1,6 @@
 use Rattle.std.proofs.Common.{◌≡◌, drop}
 use Rattle.std.specs.Option.{option_copied, option_or}
-use Rattle.bc_library.specs.Texts.{last_part}
+use Rattle.image_open.specs.bc_library.Texts.{last_part}
 use Rattle.image_freeze.proofs.texts.last_part.Given as goal
 
 abbrev pub invariant-loop-at : goal.invariant-loop-at

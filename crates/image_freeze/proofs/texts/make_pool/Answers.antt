@@ -1,7 +1,7 @@
 use Rattle.std.proofs.Common.{◌≡◌, List, ℕ, sym, ap, subst, ◌∙◌}
 use Rattle.std.proofs.lemmas.Result.{err_from_is_err_and}
-use Rattle.bc_library.specs.Texts.{with_texts}
-use Rattle.image_grammar.specs.Image.{texts_used}
+use Rattle.image_open.specs.bc_library.Texts.{with_texts}
+use Rattle.image_open.specs.image_grammar.Image.{texts_used}
 use Rattle.image_freeze.specs.Frozen.{entries_of}
 use Rattle.image_freeze.specs.Uses.{PassesTable}
 use Rattle.image_freeze.proofs.Exits.{exit}

@@ -2,8 +2,8 @@ use Rattle.std.proofs.Common.{[], ◌∷◌, refl}
 use Rattle.std.specs.Option.{option_copied, option_to_list}
 use Rattle.std.specs.List.{filter_map}
 use Rattle.std.proofs.lemmas.Result.{err_from_is_err_and}
-use Rattle.mpy_tree.specs.Raw as raws
-use Rattle.bc_library.specs.Texts.{last_part}
+use Rattle.mpy_writer.specs.mpy_tree.Raw as raws
+use Rattle.image_open.specs.bc_library.Texts.{last_part}
 use Rattle.image_freeze.specs.Uses.{PassesTable}
 use Rattle.image_freeze.proofs.Exits.{exit, if_fault_more, on_ok_more}
 use Rattle.image_freeze.proofs.Uses.{ModuleUsed, all_of, name_passes, part_passes, table_passes, table_used}

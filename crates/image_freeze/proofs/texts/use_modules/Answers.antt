@@ -1,7 +1,7 @@
 use Rattle.std.proofs.Common.{◌+◌, drop, refl}
 use Rattle.std.proofs.lemmas.Result.{err_from_is_err_and}
 use Rattle.mpy_writer.proofs.Lists.{next_of}
-use Rattle.bc_library.specs.Texts.{texts_of}
+use Rattle.image_open.specs.bc_library.Texts.{texts_of}
 use Rattle.image_freeze.specs.declared.named.Named.{Named}
 use Rattle.image_freeze.proofs.Pools.{raw_texts}
 use Rattle.image_freeze.proofs.Uses.{exit_passing, goes_on}

@@ -1,6 +1,6 @@
 use Rattle.std.proofs.Common.{◌≡◌, drop}
 use Rattle.std.specs.List.{flat_map}
-use Rattle.bc_library.specs.Texts.{texts_of, with_texts}
+use Rattle.image_open.specs.bc_library.Texts.{texts_of, with_texts}
 use Rattle.image_freeze.proofs.Pools.{raw_texts}
 use Rattle.image_freeze.proofs.texts.use_modules.Given as goal
 

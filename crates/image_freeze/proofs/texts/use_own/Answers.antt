@@ -1,7 +1,7 @@
 use Rattle.std.proofs.Common.{ℕ, Result, Err, refl, ap, ◌∙◌}
 use Rattle.mpy_base.specs.declared.refused.Refused.{Refused}
 use Rattle.qstr_pool.specs.declared.pool.Full.{Full}
-use Rattle.bc_library.proofs.Pools.{overflows, with_own}
+use Rattle.image_open.proofs.bc_library_lemmas.Pools.{overflows, with_own}
 use Rattle.image_freeze.proofs.texts.use_own.Goals as goal
 
 pub returns-in-Ok-clause-ok : goal.returns-in-Ok-clause-ok

@@ -2,7 +2,7 @@ use Rattle.std.proofs.Common.{◌+◌, drop, sym}
 use Rattle.std.specs.List.{filter_map}
 use Rattle.std.specs.Option.{option_copied, option_to_list}
 use Rattle.std.proofs.lemmas.Result.{err_from_is_err_and}
-use Rattle.mpy_tree.specs.Raw as raws
+use Rattle.mpy_writer.specs.mpy_tree.Raw as raws
 use Rattle.image_freeze.proofs.Uses.{exit_passing, goes_on, next_entry}
 use Rattle.image_freeze.proofs.texts.use_table.Goals as goal
 

@@ -1,7 +1,7 @@
 use Rattle.std.proofs.Common.{◌≡◌, drop}
 use Rattle.std.specs.List.{filter_map}
-use Rattle.mpy_tree.specs.Raw as raws
-use Rattle.bc_library.specs.Texts.{with_texts}
+use Rattle.mpy_writer.specs.mpy_tree.Raw as raws
+use Rattle.image_open.specs.bc_library.Texts.{with_texts}
 use Rattle.image_freeze.proofs.texts.use_table.Given as goal
 
 abbrev pub invariant-loop-qstr : goal.invariant-loop-qstr

@@ -1,5 +1,5 @@
 use Rattle.std.proofs.Common.{sym}
-use Rattle.bc_library.proofs.Pools.{with_static}
+use Rattle.image_open.proofs.bc_library_lemmas.Pools.{with_static}
 use Rattle.image_freeze.proofs.texts.use_text.Goals as goal
 
 pub returns-in-Some-clause-ok : goal.returns-in-Some-clause-ok

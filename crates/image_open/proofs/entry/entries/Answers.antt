@@ -3,7 +3,7 @@ use Rattle.std.proofs.lemmas.Result.{err_from_is_err_and}
 use Rattle.image_grammar.specs.Opening.{entry}
 use Rattle.image_grammar.proofs.Fine.{entries_grow}
 use Rattle.image_grammar.proofs.Times.{starts, goes_further, ended, exit_further}
-use Rattle.image_base.specs.Base.{base_of}
+use Rattle.image_grammar.specs.Base.{base_of}
 use Rattle.image_open.proofs.entry.entries.Goals as goal
 
 pub returns-in_err-rest : goal.returns-in_err-rest

@@ -1,7 +1,7 @@
 use Rattle.std.proofs.Common.{◌≡◌, ◌-◌, length}
 use Rattle.image_grammar.specs.Opening.{entry, none_opened}
 use Rattle.image_grammar.proofs.Times.{Reaches}
-use Rattle.image_base.specs.Base.{base_of}
+use Rattle.image_grammar.specs.Base.{base_of}
 use Rattle.image_open.proofs.entry.entries.Given as goal
 
 abbrev pub invariant-loop : goal.invariant-loop

@@ -1,6 +1,6 @@
 use Rattle.std.proofs.Common.{ap}
 use Rattle.std.proofs.lemmas.Result.{err_from_is_err_and}
-use Rattle.mpy_tree.specs.Raw.{Module}
+use Rattle.image_grammar.specs.mpy_tree.Raw.{Module}
 use Rattle.image_grammar.specs.Opening.{held}
 use Rattle.image_grammar.specs.Steps.{goes_on}
 use Rattle.image_grammar.proofs.Inversion.{read}

@@ -1,6 +1,6 @@
 use Rattle.std.proofs.Common.{ℕ, Ok, ap, subst, arith}
 use Rattle.std.proofs.lemmas.Result.{err_from_is_err_and}
-use Rattle.mpy_tree.specs.Raw.{Module}
+use Rattle.image_grammar.specs.mpy_tree.Raw.{Module}
 use Rattle.image_grammar.specs.Opening.{body, raw}
 use Rattle.image_grammar.specs.Steps.{Fails, goes_on}
 use Rattle.image_grammar.proofs.Fine.{qstr_table_fine, raw_module}

@@ -2,7 +2,7 @@ use Rattle.std.proofs.Common.{refl, sym}
 use Rattle.image_grammar.specs.Opening.{nothing_is_below}
 use Rattle.image_grammar.proofs.Steps.{judged, unjudged, not_true}
 use Rattle.image_open.proofs.Below.{counts_none, none_counts}
-use Rattle.image_base.specs.Base.{base_of}
+use Rattle.image_grammar.specs.Base.{base_of}
 use Rattle.image_open.proofs.image.nothing_is_below.Goals as goal
 
 pub returns-then-not-are_counts : goal.returns-then-not-are_counts

@@ -2,7 +2,7 @@ use Rattle.std.proofs.Common.{◌≡◌, ◌∙◌, ℕ, List, Err, ap, sym, sub
 use Rattle.std.specs.Prelude.{IsTrue}
 use Rattle.std.proofs.lemmas.Result.{err_from_is_err_and}
 use Rattle.qstr_pool.specs.Pool.{Texts, all_differ}
-use Rattle.bc_library.specs.Own.{IsOwnPool}
+use Rattle.image_grammar.specs.bc_library.Own.{IsOwnPool}
 use Rattle.image_grammar.proofs.Steps.{no_memory}
 use Rattle.image_open.proofs.image.read_image.Goals as goal
 

@@ -1,5 +1,4 @@
-use Rattle.std.proofs.Common.{ℕ, Err, ap, arith}
-use Rattle.std.proofs.Common.{Result}
+use Rattle.std.proofs.Common.{ℕ, Err, ap, arith, Result}
 use Rattle.mpy_base.specs.declared.refused.Refused.{Refused}
 use Rattle.qstr_pool.specs.Pool.{Texts}
 use Rattle.qstr_pool.specs.declared.pool.Full.{Full}

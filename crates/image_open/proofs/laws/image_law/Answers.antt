@@ -1,9 +1,10 @@
 use Rattle.std.proofs.Common.{◌≡◌, Ok, Err}
-use Rattle.image_grammar.specs.Opening.{nothing_below}
+use Rattle.image_grammar.specs.Base.{base_of}
 use Rattle.image_grammar.proofs.Inversion.{done, ok_is}
 use Rattle.image_open.proofs.Results.{failed}
 use Rattle.image_open.proofs.Single.{image_single}
-use Rattle.image_open.proofs.Whole.{nothing_proper, opened_found}
+use Rattle.image_open.proofs.Sound.{below_proper, is_sound}
+use Rattle.image_open.proofs.Whole.{image_found}
 use Rattle.image_open.proofs.Written.{image_read}
 use Rattle.image_open.proofs.laws.image_law.Goals as goal
 
@@ -17,7 +18,11 @@ pub returns-clause-not_both : goal.returns-clause-not_both
 returns-clause-not_both c = λ below bytes entries fault h k. let e : done entries ≡ failed fault = (image_single below bytes).same (Ok entries) (Err fault) h k in cc
 
 pub returns-clause-found : goal.returns-clause-found
-returns-clause-found c = λ bytes entries h. let s = opened_found bytes entries h in (s.0, s.1)
+returns-clause-found c = λ images below bytes entries is h.
+    let sound = is_sound images below is in
+    let s = image_found (base_of below) bytes entries (below_proper below sound) sound.few_texts sound.few_names h in
+    (s.0, s.1)
 
 pub returns-clause-read : goal.returns-clause-read
-returns-clause-read c = λ bytes entries is verified. image_read nothing_below bytes entries nothing_proper is verified
+returns-clause-read c = λ images below bytes entries is image verified.
+    image_read (base_of below) bytes entries (below_proper below (is_sound images below is)) image verified

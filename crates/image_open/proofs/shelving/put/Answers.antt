@@ -1,6 +1,6 @@
 use Rattle.std.proofs.Common.{◌≡◌, ◌<◌, ◌≤◌, ◌^◌, ℕ, List, length, All, Some, sym, ap, subst, ◌∙◌}
 use Rattle.mpy_base.specs.declared.limits.TheConstants.{MAX_TABLE}
-use Rattle.bc_library.specs.Shelf.{fault_in, fault_of, member_of, with_module}
+use Rattle.image_grammar.specs.bc_library.Shelf.{fault_in, fault_of, member_of, with_module}
 use Rattle.image_open.proofs.Put.{Tells, none_told}
 use Rattle.image_open.proofs.shelving.put.Goals as goal
 

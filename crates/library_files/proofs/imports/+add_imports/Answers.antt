@@ -1,8 +1,8 @@
 use Rattle.std.proofs.Common.{◌≡◌, ◌<◌, ◌≤◌, get_or, length, sym, ap, subst, arith, rules}
 use Rattle.mpy_base.specs.declared.limits.TheConstants.{MAX_CODE_BYTES}
-use Rattle.mpy_tree.specs.declared.raw.RawCode.{the_lemmas}
-use Rattle.mpy_tree.specs.Resolved.{IsBody}
-use Rattle.mpy_tree.proofs.Codes.{whole, get_at}
+use Rattle.mpy_reader.specs.mpy_tree.declared.raw.RawCode.{the_lemmas}
+use Rattle.mpy_reader.specs.mpy_tree.Resolved.{IsBody}
+use Rattle.mpy_reader.proofs.mpy_tree_lemmas.Codes.{whole, get_at}
 use Rattle.library_files.proofs.Walks.{body_there, own_reached, child_there, child_reached, all_reached}
 use Rattle.library_files.proofs.imports.+add_imports.Goals as goal
 

@@ -1,6 +1,6 @@
 use Rattle.std.proofs.Common.{refl, sym, subst}
 use Rattle.std.proofs.lemmas.Result.{on_ok_weaker}
-use Rattle.mpy_tree.specs.Resolved.{ResolvesCode}
+use Rattle.mpy_reader.specs.mpy_tree.Resolved.{ResolvesCode}
 use Rattle.library_files.specs.Imports.{imports_of}
 use Rattle.library_files.proofs.imports.add_names.Goals as goal
 

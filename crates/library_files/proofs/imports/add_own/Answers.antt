@@ -3,7 +3,7 @@ use Rattle.std.proofs.lemmas.Result.{on_ok_weaker}
 use Rattle.bc_ops.specs.Listing.{IsListOf, Lists}
 use Rattle.bc_prelude.proofs.Pieces.{parts_short}
 use Rattle.bc_prelude.proofs.Preludes.{same_prelude}
-use Rattle.bc_verify.proofs.Bodies.{same_instructions}
+use Rattle.bc_library.proofs.bc_verify_lemmas.Bodies.{same_instructions}
 use Rattle.library_files.proofs.Walks.{body_imports, item_imports}
 use Rattle.library_files.proofs.imports.add_own.Goals as goal
 

@@ -12,6 +12,7 @@ loop-asked-init g c = record {
   asking = asking_begun (NameComesTo (g.R.Reader.ending c.args.reader.now) (g.R.Reader.comes c.args.reader.now) c.args.base.now) (g.F.Folder.files c.args.folder.now) c.args.begun.now c.args.names.now c.args.found.now.items;
   same = refl;
   still = refl;
+  absent = c.requires.absent;
 }
 
 pub ask-requires-clause-name_is : goal.ask-requires-clause-name_is
@@ -45,6 +46,7 @@ loop-asked-preserved g c =
           l.invariant.same (first_left c.args.names.now l.asked-index c.asked-item.result c.bytes.result.now c.loop-asked-test.true c.asked-item.is c.bytes.ensures) l.invariant.asking c.in-Ok.ensures.loads c.in-Ok.ensures.step;
       same = c.in-Ok.ensures.same ∙ l.invariant.same;
       still = c.in-Ok.ensures.cause ∙ l.invariant.still;
+      absent = c.in-Ok.ensures.absent;
     }
 
 pub returns-clause-loads : goal.returns-clause-loads
@@ -61,3 +63,6 @@ returns-clause-same g c = c.loop-asked.invariant.same
 
 pub returns-clause-cause : goal.returns-clause-cause
 returns-clause-cause g c = c.loop-asked.invariant.still
+
+pub returns-clause-absent : goal.returns-clause-absent
+returns-clause-absent g c = c.loop-asked.invariant.absent

@@ -1,5 +1,5 @@
 use Rattle.std.proofs.Common.{subst}
-use Rattle.mpy_tree.specs.File.{IsModule}
+use Rattle.mpy_reader.specs.mpy_tree.File.{IsModule}
 use Rattle.library_files.specs.Imports.{Imports}
 use Rattle.library_files.proofs.Taken.{module_adds, module_steps}
 use Rattle.library_files.proofs.loading.take_module.Goals as goal
@@ -11,5 +11,5 @@ pub returns-in-Ok-clause-step : goal.returns-in-Ok-clause-step
 returns-in-Ok-clause-step c =
     let imports = c.in-Ok.ensures in
     module_steps c.args.begun.now c.add_module.new.begun c.args.name.now c.args.verified c.args.bytes _ _ c.add_module.result
-    (subst IsModule c.module-raw.ensures c.module_law.ensures) c.add_module.ensures
+    (subst IsModule c.module-raw.ensures c.module_law.ensures) c.add_module.ensures.takes
     (imports.0, subst (λ m. Imports m imports.0) c.module-raw.ensures imports.1, imports.2)

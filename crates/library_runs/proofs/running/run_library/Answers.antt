@@ -7,14 +7,14 @@ use Rattle.library_runs.specs.Runs.{RunsAs, sight}
 use Rattle.library_runs.proofs.Ended.{end_is_said, cut_in_all, over_in_all, unflushed_in_all}
 use Rattle.library_runs.proofs.running.run_library.Goals as goal
 
-pub returns-in-Err-run_kept-clause-runs : goal.returns-in-Err-run_kept-clause-runs
-returns-in-Err-run_kept-clause-runs g c = λ n at. (
+pub returns-in-Err-run-clause-runs : goal.returns-in-Err-run-clause-runs
+returns-in-Err-run-clause-runs g c = λ n at. (
   [],
   record {
     program = c.program_law.ensures.exists c.args.library.now c.requires.runnable;
     is_said = refl;
     runs = cut_in_all c.output_law.ensures.starts c.output_law.ensures.runs c.put_law.ensures g.S.Sink.told c.args.library.now c.args.main n at c.args.room c.args.steps c.in-Ok-open.vm c.in-Ok-open.ensures.starts
-        (record { out = c.args.out.now; ports = map g.P.Port.seen c.args.ports.now }) (record { out = c.run_kept.new.out; ports = map g.P.Port.seen c.run_kept.new.ports }) g.S.Sink.count [] c.in-Err-run_kept.ensures.failed;
+        (record { out = c.args.out.now; ports = map g.P.Port.seen c.args.ports.now }) (record { out = c.run.new.out; ports = map g.P.Port.seen c.run.new.ports }) g.S.Sink.count [] c.in-Err-run.ensures.failed;
   },
   inl (Appends-nil (g.E.Sink.told c.args.say.now), refl),
 )
@@ -22,15 +22,15 @@ returns-in-Err-run_kept-clause-runs g c = λ n at. (
 pub returns-in-Ok-flush-clause-runs : goal.returns-in-Ok-flush-clause-runs
 returns-in-Ok-flush-clause-runs g c = λ n at.
     let shelf = c.args.library.now in
-    let vm = c.run_kept.new.vm in
+    let vm = c.run.new.vm in
     let old = sight g.S.Sink.told g.P.Port.seen c.args.out.now c.args.ports.now in
-    let new = sight g.S.Sink.told g.P.Port.seen c.flush.new.self c.run_kept.new.ports in (
+    let new = sight g.S.Sink.told g.P.Port.seen c.flush.new.self c.run.new.ports in (
       said_by shelf vm vm.end,
       subst (λ (end : RunEnd). RunsAs shelf n.name c.args.room c.args.steps old new end (said_by shelf vm vm.end)) (sym c.say_end.ensures.end) (record {
         program = c.program_law.ensures.exists shelf c.requires.runnable;
         is_said = end_is_said shelf vm vm.end;
         runs = over_in_all c.output_law.ensures.starts c.output_law.ensures.runs c.put_law.ensures g.S.Sink.told shelf c.args.main n at c.args.room c.args.steps c.in-Ok-open.vm c.in-Ok-open.ensures.starts
-            (record { out = c.args.out.now; ports = map g.P.Port.seen c.args.ports.now }) (record { out = c.run_kept.new.out; ports = map g.P.Port.seen c.run_kept.new.ports }) vm c.in-Ok-run_kept.ensures.runs (g.S.Sink.told c.flush.new.self) c.flush.ensures.same;
+            (record { out = c.args.out.now; ports = map g.P.Port.seen c.args.ports.now }) (record { out = c.run.new.out; ports = map g.P.Port.seen c.run.new.ports }) vm c.in-Ok-run.ensures.runs (g.S.Sink.told c.flush.new.self) c.flush.ensures.same;
       }),
       c.say_end.ensures.said,
     )
@@ -42,19 +42,19 @@ returns-clause-runs g c = λ n at. (
     program = c.program_law.ensures.exists c.args.library.now c.requires.runnable;
     is_said = refl;
     runs = unflushed_in_all c.output_law.ensures.starts c.output_law.ensures.runs c.put_law.ensures g.S.Sink.told c.args.library.now c.args.main n at c.args.room c.args.steps c.in-Ok-open.vm c.in-Ok-open.ensures.starts
-        (record { out = c.args.out.now; ports = map g.P.Port.seen c.args.ports.now }) (record { out = c.run_kept.new.out; ports = map g.P.Port.seen c.run_kept.new.ports }) c.run_kept.new.vm c.in-Ok-run_kept.ensures.runs (g.S.Sink.told c.flush.new.self) c.flush.ensures.same [];
+        (record { out = c.args.out.now; ports = map g.P.Port.seen c.args.ports.now }) (record { out = c.run.new.out; ports = map g.P.Port.seen c.run.new.ports }) c.run.new.vm c.in-Ok-run.ensures.runs (g.S.Sink.told c.flush.new.self) c.flush.ensures.same [];
   },
   inl (Appends-nil (g.E.Sink.told c.args.say.now), refl),
 )
 
-pub returns-in-Err-run_kept-clause-faults : goal.returns-in-Err-run_kept-clause-faults
-returns-in-Err-run_kept-clause-faults g c = c.run_kept.ensures.faults
+pub returns-in-Err-run-clause-faults : goal.returns-in-Err-run-clause-faults
+returns-in-Err-run-clause-faults g c = c.run.ensures.faults
 
 pub returns-in-Ok-flush-clause-faults : goal.returns-in-Ok-flush-clause-faults
-returns-in-Ok-flush-clause-faults g c = c.run_kept.ensures.faults
+returns-in-Ok-flush-clause-faults g c = c.run.ensures.faults
 
 pub returns-clause-faults : goal.returns-clause-faults
-returns-clause-faults g c = c.run_kept.ensures.faults
+returns-clause-faults g c = c.run.ensures.faults
 
 pub returns-in-Err-open-clause-faults : goal.returns-in-Err-open-clause-faults
 returns-in-Err-open-clause-faults g c = counts_same (map g.P.Port.seen c.args.ports.now)

@@ -1,6 +1,6 @@
 use Rattle.std.proofs.Common.{◌++◌, length, get_or, refl, sym, ap, subst, ◌∙◌, arith}
-use Rattle.bc_prelude.specs.Names.{AreNames}
-use Rattle.bc_prelude.proofs.Pieces.{parts_short}
+use Rattle.mpy_tree.specs.bc_prelude.Names.{AreNames}
+use Rattle.mpy_tree.proofs.bc_prelude_lemmas.Pieces.{parts_short}
 use Rattle.mpy_dump.specs.Codes.{places, code_line}
 use Rattle.mpy_dump.specs.Instructions.{instr_lines}
 use Rattle.mpy_dump.proofs.Bodies.{decodes}

@@ -1,5 +1,5 @@
 use Rattle.std.proofs.Common.{◌-◌, ◌≤◌, length}
-use Rattle.bc_prelude.specs.Cursor.{IsPlace}
+use Rattle.mpy_tree.specs.bc_prelude.Cursor.{IsPlace}
 use Rattle.mpy_dump.specs.Short.{IsHead}
 use Rattle.mpy_dump.proofs.Pieces.{Walk}
 use Rattle.mpy_dump.proofs.instructions.put_instrs.Given as goal

@@ -1,7 +1,7 @@
 use Rattle.std.proofs.Common.{◌≡◌, ◌-◌, ◌<◌, true, false, length, List, get_or, refl, sym, ap, subst, ◌∙◌, arith}
-use Rattle.mpy_tree.specs.declared.raw.RawCode.{RawCode}
+use Rattle.mpy_writer.specs.mpy_tree.declared.raw.RawCode.{RawCode}
 use Rattle.mpy_merge.specs.Merged.{NestsWithin}
-use Rattle.mpy_tree.proofs.Codes.{children}
+use Rattle.mpy_writer.proofs.mpy_tree_lemmas.Codes.{children}
 use Rattle.mpy_merge.proofs.Nests.{none_nests, nests_by, taken_more, all_taken, nests_at}
 use Rattle.mpy_merge.proofs.codes.+nests_within.Goals as goal
 

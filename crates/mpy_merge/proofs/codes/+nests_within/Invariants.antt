@@ -1,6 +1,6 @@
 use Rattle.std.proofs.Common.{◌-◌, All, take}
 use Rattle.mpy_merge.specs.Merged.{NestsWithin}
-use Rattle.mpy_tree.proofs.Codes.{children}
+use Rattle.mpy_writer.proofs.mpy_tree_lemmas.Codes.{children}
 use Rattle.mpy_merge.proofs.codes.+nests_within.Given as goal
 
 abbrev pub decreases-nests_within : goal.decreases-nests_within

@@ -1,6 +1,6 @@
 use Rattle.std.proofs.Common.{◌≡◌, true, false, sym, subst, ap, ◌∙◌}
-use Rattle.mpy_tree.specs.Raw.{Module}
-use Rattle.mpy_tree.proofs.Codes.{get_at}
+use Rattle.mpy_writer.specs.mpy_tree.Raw.{Module}
+use Rattle.mpy_writer.proofs.mpy_tree_lemmas.Codes.{get_at}
 use Rattle.mpy_merge.specs.Merged.{NestsWithin}
 use Rattle.mpy_merge.proofs.Nests.{taken_more, all_taken}
 use Rattle.mpy_merge.proofs.codes.all_nest.Goals as goal

@@ -1,12 +1,12 @@
 use Rattle.std.proofs.Common.{◌+◌, ◌≤◌, length, refl, sym, subst}
 use Rattle.mpy_base.specs.declared.limits.TheConstants.{MAX_TABLE, MAX_DEPTH}
-use Rattle.mpy_tree.specs.declared.raw.RawCode.{RawCode}
-use Rattle.mpy_tree.specs.File.{IsCode}
-use Rattle.mpy_tree.specs.Raw.{Module}
+use Rattle.mpy_writer.specs.mpy_tree.declared.raw.RawCode.{RawCode}
+use Rattle.mpy_writer.specs.mpy_tree.File.{IsCode}
+use Rattle.mpy_writer.specs.mpy_tree.Raw.{Module}
 use Rattle.bc_verify.specs.Verified.{AreVerified}
 use Rattle.mpy_writer.specs.Outcome.{FaultIs}
-use Rattle.merge_codes.specs.Far.{HasFarCode}
-use Rattle.merge_codes.specs.Moved.{IsMovedTree}
+use Rattle.mpy_merge.specs.Far.{HasFarCode}
+use Rattle.mpy_merge.specs.Moved.{IsMovedTree}
 use Rattle.mpy_merge.proofs.codes.write_part.Goals as goal
 
 pub write_tree-requires-clause-few : goal.write_tree-requires-clause-few

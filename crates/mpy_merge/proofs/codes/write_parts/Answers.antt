@@ -1,8 +1,8 @@
 use Rattle.std.proofs.Common.{◌≡◌, ◌+◌, ℕ, length, refl, ap, ◌∙◌, arith}
 use Rattle.std.proofs.lemmas.Result.{err_from_is_err_and}
 use Rattle.mpy_base.specs.declared.limits.TheConstants.{MAX_DEPTH}
-use Rattle.mpy_tree.specs.Raw.{Module}
-use Rattle.merge_codes.specs.Far.{HasFarCode}
+use Rattle.mpy_writer.specs.mpy_tree.Raw.{Module}
+use Rattle.mpy_merge.specs.Far.{HasFarCode}
 use Rattle.mpy_merge.specs.declared.fault.MergeFault.TheVariants.{TooFar}
 use Rattle.mpy_merge.specs.Faults.{IsFirstFarIn}
 use Rattle.mpy_merge.proofs.Filed.{exit}

@@ -1,5 +1,5 @@
 use Rattle.std.proofs.Common.{subst}
-use Rattle.mpy_tree.specs.File.{IsModule}
+use Rattle.mpy_writer.specs.mpy_tree.File.{IsModule}
 use Rattle.bc_verify.specs.Verified.{IsVerified}
 use Rattle.mpy_merge.proofs.Nests.{taken_more, all_taken}
 use Rattle.mpy_merge.proofs.file.modules_law.Goals as goal

@@ -1,5 +1,5 @@
 use Rattle.std.proofs.Common.{All, take}
-use Rattle.mpy_tree.specs.File.{IsModule}
+use Rattle.mpy_writer.specs.mpy_tree.File.{IsModule}
 use Rattle.bc_verify.specs.Verified.{IsVerified}
 use Rattle.mpy_merge.proofs.file.modules_law.Given as goal
 

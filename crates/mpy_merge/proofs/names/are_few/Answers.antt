@@ -1,7 +1,7 @@
 use Rattle.std.proofs.Common.{◌+◌, ◌<◌, length, sym, ap, ◌∙◌, arith}
 use Rattle.std.proofs.lemmas.Bool.{lt-leb}
 use Rattle.mpy_base.specs.declared.limits.TheConstants.{MAX_TABLE}
-use Rattle.mpy_tree.specs.Raw.{Module}
+use Rattle.mpy_writer.specs.mpy_tree.Raw.{Module}
 use Rattle.mpy_merge.specs.Merged.{all_objects}
 use Rattle.mpy_merge.proofs.Parts.{objects_more, front_few}
 use Rattle.mpy_merge.proofs.names.are_few.Goals as goal

@@ -2,7 +2,7 @@ use Rattle.std.proofs.Common.{◌≡◌, Result, Ok, length, refl, sym, subst, �
 use Rattle.std.proofs.lemmas.Bool.{leb-false}
 use Rattle.mpy_base.specs.declared.limits.TheConstants.{MAX_TABLE}
 use Rattle.mpy_base.specs.declared.refused.NoMemory.{NoMemory}
-use Rattle.qstr_pool.specs.Pool.{Texts}
+use Rattle.mpy_writer.specs.qstr_pool.Pool.{Texts}
 use Rattle.mpy_writer.specs.Outcome.{FaultIs, PassesTable, no_texts}
 use Rattle.mpy_merge.specs.Merged.{texts_used, all_objects}
 use Rattle.mpy_merge.proofs.Uses.{tables_are, tables_fit, tables_fine, many_texts, many_objects}

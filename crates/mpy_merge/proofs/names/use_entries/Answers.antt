@@ -1,6 +1,6 @@
 use Rattle.std.proofs.Common.{◌+◌, [], ◌∷◌, map, drop}
 use Rattle.std.proofs.lemmas.Result.{err_from_is_err_and}
-use Rattle.merge_codes.specs.Moved.{entry_text}
+use Rattle.mpy_merge.specs.Moved.{entry_text}
 use Rattle.mpy_writer.proofs.Uses.{goes_on, exit_passing}
 use Rattle.mpy_merge.proofs.Uses.{next_mapped}
 use Rattle.mpy_merge.proofs.names.use_entries.Goals as goal

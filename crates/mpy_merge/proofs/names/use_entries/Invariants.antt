@@ -1,6 +1,6 @@
 use Rattle.std.proofs.Common.{◌≡◌, drop, map}
 use Rattle.mpy_writer.specs.Outcome.{all_interned}
-use Rattle.merge_codes.specs.Moved.{entry_text}
+use Rattle.mpy_merge.specs.Moved.{entry_text}
 use Rattle.mpy_merge.proofs.names.use_entries.Given as goal
 
 abbrev pub invariant-loop-entry : goal.invariant-loop-entry

@@ -1,8 +1,8 @@
 use Rattle.std.proofs.Common.{◌+◌, drop, map, sym, ap, ◌∙◌}
-use Rattle.mpy_tree.specs.Raw.{Module}
+use Rattle.mpy_writer.specs.mpy_tree.Raw.{Module}
 use Rattle.std.specs.List.{flat_map}
 use Rattle.std.proofs.lemmas.Result.{err_from_is_err_and}
-use Rattle.merge_codes.specs.Moved.{entry_text}
+use Rattle.mpy_merge.specs.Moved.{entry_text}
 use Rattle.mpy_writer.proofs.Lists.{next_of}
 use Rattle.mpy_writer.proofs.Uses.{goes_on, exit_passing}
 use Rattle.mpy_merge.specs.Merged.{texts_of}

@@ -1,8 +1,8 @@
 use Rattle.std.proofs.Common.{◌<◌, List, length, All, sym, ap, subst, ◌∙◌, arith}
 use Rattle.std.specs.List.{flat_map}
 use Rattle.mpy_base.specs.declared.limits.TheConstants.{MAX_DEPTH, MAX_FILE_BYTES}
-use Rattle.mpy_tree.specs.declared.module.Constant.{Constant}
-use Rattle.mpy_tree.specs.Raw.{Module}
+use Rattle.mpy_writer.specs.mpy_tree.declared.module.Constant.{Constant}
+use Rattle.mpy_writer.specs.mpy_tree.Raw.{Module}
 use Rattle.mpy_writer.specs.Tables.{spelled}
 use Rattle.mpy_writer.specs.Writable.{IsFine}
 use Rattle.mpy_merge.proofs.Shapes.{IsObjectOf, module_objects}

@@ -1,5 +1,5 @@
 use Rattle.std.proofs.Common.{ap, ◌∙◌, arith}
-use Rattle.mpy_tree.specs.Raw.{Module}
+use Rattle.mpy_writer.specs.mpy_tree.Raw.{Module}
 use Rattle.mpy_merge.proofs.Parts.{few_more}
 use Rattle.mpy_merge.proofs.objects.count_objects.Goals as goal
 

@@ -1,6 +1,6 @@
 use Rattle.std.proofs.Common.{All, sym, ap, subst, ◌∙◌}
 use Rattle.mpy_base.specs.declared.limits.TheConstants.{MAX_DEPTH}
-use Rattle.mpy_tree.specs.Raw.{Module}
+use Rattle.mpy_writer.specs.mpy_tree.Raw.{Module}
 use Rattle.mpy_writer.specs.Writable.{IsFine}
 use Rattle.mpy_merge.proofs.Tabled.{objects_in}
 use Rattle.mpy_merge.proofs.objects.write_objects.Goals as goal

@@ -1,6 +1,6 @@
 use Rattle.std.proofs.Common.{◌≡◌, ℕ, List, length, replicate, map, ap, ◌∙◌, arith}
-use Rattle.mpy_tree.specs.declared.module.Item.{Item}
-use Rattle.mpy_tree.specs.declared.module.Code.{Code, Code-F, roll-Code}
+use Rattle.mpy_writer.specs.mpy_tree.declared.module.Item.{Item}
+use Rattle.mpy_writer.specs.mpy_tree.declared.module.Code.{Code, Code-F, roll-Code}
 use Rattle.mpy_merge.proofs.Once.{same_fields}
 use Rattle.mpy_merge.proofs.Outermost.{fields, ones}
 use Rattle.mpy_merge.proofs.outer.outer_code.Goals as goal

@@ -1,5 +1,5 @@
 use Rattle.std.proofs.Common.{sym, subst}
-use Rattle.mpy_tree.specs.declared.module.Code.{Code}
+use Rattle.mpy_writer.specs.mpy_tree.declared.module.Code.{Code}
 use Rattle.mpy_writer.specs.File.{IsCodeFault}
 use Rattle.mpy_writer.specs.Outcome.{FaultIs}
 use Rattle.mpy_writer.specs.Writable.{IsNumberedCode}

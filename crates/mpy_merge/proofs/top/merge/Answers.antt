@@ -1,9 +1,9 @@
 use Rattle.std.proofs.Common.{ℕ, List, Result, Ok, Err, Vec, Global}
 use Rattle.std.specs.Prelude.{IfOk, All}
 use Rattle.mpy_base.specs.declared.refused.Refused.{Refused}
-use Rattle.mpy_tree.specs.Canonical.{Canonical}
-use Rattle.mpy_tree.specs.File.{IsModule, IsFile}
-use Rattle.mpy_tree.specs.Raw.{Module}
+use Rattle.mpy_writer.specs.mpy_tree.Canonical.{Canonical}
+use Rattle.mpy_writer.specs.mpy_tree.File.{IsModule, IsFile}
+use Rattle.mpy_writer.specs.mpy_tree.Raw.{Module}
 use Rattle.bc_verify.specs.Verified.{IsVerified}
 use Rattle.mpy_merge.specs.declared.fault.MergeFault.{MergeFault}
 use Rattle.mpy_merge.specs.AsMerge.{ReadsAsMerge}

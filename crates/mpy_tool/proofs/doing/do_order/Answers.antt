@@ -1,7 +1,9 @@
-use Rattle.std.proofs.Common.{◌≡◌, ℕ, subst}
-use Rattle.base_commands.proofs.run_commands_lemmas.Running.{status_zero}
+use Rattle.std.proofs.Common.{map, string_bytes, subst}
+use Rattle.mpy_endings.specs.Ending.{IsRunStatus}
+use Rattle.mpy_tool.specs.Below.{library_below}
 use Rattle.mpy_tool.specs.Call.{call_of}
 use Rattle.mpy_tool.proofs.Ended.{said_at}
+use Rattle.mpy_tool.proofs.Handing.{done_of}
 use Rattle.mpy_tool.proofs.doing.do_order.Goals as goal
 
 pub returns-clause-ended : goal.returns-clause-ended
@@ -18,4 +20,8 @@ returns-clause-ended g c =
     }
 
 pub returns-clause-flushed : goal.returns-clause-flushed
-returns-clause-flushed g c = λ e. c.done-ended.ensures.flushed (status_zero c.done-ended.result.ending (subst (λ (n : ℕ). n ≡ 0) c.status.ensures e))
+returns-clause-flushed g c = λ s.
+    let files = g.F.Folder.files in
+    let told = g.S.Sink.told in
+    c.done-ended.ensures.flushed (done_of c.args.order (map string_bytes c.args.words.now) (library_below c.args.below) (files c.args.outside.now.folder) (files c.done-ended.new.folder)
+    (told c.args.outside.now.out) (told c.done-ended.new.out) c.done-ended.result.place c.args.order.command c.done-ended.result.ending c.done-ended.ensures.went (subst IsRunStatus c.status.ensures s))

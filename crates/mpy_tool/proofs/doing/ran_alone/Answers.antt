@@ -5,7 +5,7 @@ use Rattle.source_files.specs.Sources.{stored}
 use Rattle.mpy_endings.specs.declared.ending.Ending.{Ending}
 use Rattle.mpy_endings.specs.Ending.{is_folder_fault, is_out_fault}
 use Rattle.mpy_tool.proofs.Acting.{same_changes}
-use Rattle.mpy_tool.proofs.Alone.{check_did, dump_did, cross_did, merge_did, migrate_did, cross_changed, merge_changed, migrate_changed}
+use Rattle.mpy_tool.proofs.Alone.{check_did, check_as_did, dump_did, cross_did, merge_did, migrate_did, cross_changed, merge_changed, migrate_changed}
 use Rattle.mpy_tool.proofs.doing.ran_alone.Goals as goal
 
 pub returns-in-Check-clause-went : goal.returns-in-Check-clause-went
@@ -24,6 +24,15 @@ returns-in-Check-clause-folder_counts g c =
 pub returns-in-Check-clause-out_counts : goal.returns-in-Check-clause-out_counts
 returns-in-Check-clause-out_counts g c =
     subst (λ (x : Ending). Counts (g.S.Sink.count c.args.out.now) (g.S.Sink.count c.check.new.out) (is_out_fault x)) (sym c.of_two.ensures.ending) c.check.ensures.out_counts
+
+pub returns-in-CheckAs-clause-went : goal.returns-in-CheckAs-clause-went
+returns-in-CheckAs-clause-went g c = λ below.
+    check_as_did c.args.order (map string_bytes c.args.words.now) below c.args.order.command (g.F.Folder.files c.args.folder.now) (g.F.Folder.files c.check_as.new.folder) (g.S.Sink.told c.args.out.now) (g.S.Sink.told c.check_as.new.out) c.check_as.result.place c.check_as.result.ending c.word_at-name.result.now c.word_at-file.result.now
+    c.in-CheckAs.is c.word_at-name.ensures c.word_at-file.ensures c.check_as.ensures.went
+
+pub returns-in-CheckAs-clause-files : goal.returns-in-CheckAs-clause-files
+returns-in-CheckAs-clause-files g c =
+    same_changes (map string_bytes c.args.words.now) c.args.order.command (g.F.Folder.files c.args.folder.now) (g.F.Folder.files c.check_as.new.folder) c.check_as.ensures.files
 
 pub returns-in-Dump-clause-went : goal.returns-in-Dump-clause-went
 returns-in-Dump-clause-went g c = λ below.

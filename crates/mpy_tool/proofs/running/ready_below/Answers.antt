@@ -1,12 +1,12 @@
-use Rattle.std.proofs.Common.{Option, sym, subst}
-use Rattle.bc_library.specs.Shelf.{Shelf}
-use Rattle.mpy_tool.specs.Below.{RunLibraryBelow}
+use Rattle.std.proofs.Common.{refl, subst}
+use Rattle.image_grammar.specs.bc_library.Shelf.{Shelf}
+use Rattle.mpy_endings.specs.declared.ending.Ending.TheVariants.{NoMemory}
+use Rattle.run_commands.specs.Ready.{RunLibrary, not_read}
 use Rattle.mpy_tool.proofs.running.ready_below.Goals as goal
 
-pub returns-in-None-clause-comes : goal.returns-in-None-clause-comes
-returns-in-None-clause-comes g c =
-    subst (λ (below : Option Shelf). RunLibraryBelow below c.args.main.now (g.F.Folder.files c.args.folder.now) c.args.name.now c.run_ready.result) (sym c.in-None.is) c.run_ready.ensures.comes
+pub returns-in-Ok-clause-comes : goal.returns-in-Ok-clause-comes
+returns-in-Ok-clause-comes g c =
+    subst (λ (below : Shelf). RunLibrary below c.args.main.now (g.F.Folder.files c.args.folder.now) c.args.name.now c.run_ready.result) c.in-Ok.ensures.below c.run_ready.ensures.comes
 
-pub returns-in-Some-clause-comes : goal.returns-in-Some-clause-comes
-returns-in-Some-clause-comes g c =
-    subst (λ (below : Option Shelf). RunLibraryBelow below c.args.main.now (g.F.Folder.files c.args.folder.now) c.args.name.now c.run_ready_on.result) (sym c.in-Some.is) c.run_ready_on.ensures.comes
+pub returns-in-Err-clause-comes : goal.returns-in-Err-clause-comes
+returns-in-Err-clause-comes g c = not_read NoMemory tt refl

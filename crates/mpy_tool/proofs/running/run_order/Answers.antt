@@ -1,8 +1,10 @@
 use Rattle.std.proofs.Common.{◌≡◌, ℕ, List, ap, sym, subst}
 use Rattle.mpy_words.specs.Words.{first_name}
-use Rattle.base_commands.specs.run_commands.Run.{room_of}
-use Rattle.base_commands.proofs.run_commands_lemmas.Running.{says_run, ends_run, status_zero}
+use Rattle.mpy_endings.specs.Ending.{IsRunStatus}
+use Rattle.run_commands.specs.Run.{room_of}
+use Rattle.run_commands.proofs.Running.{says_run, ends_run}
 use Rattle.mpy_tool.specs.Call.{call_of}
+use Rattle.mpy_tool.specs.Below.{library_below}
 use Rattle.mpy_tool.specs.Doing.{LibraryBy}
 use Rattle.mpy_tool.proofs.running.run_order.Goals as goal
 
@@ -13,7 +15,7 @@ returns-clause-ended g c =
     let room = room_of c.args.order in
     let ending = c.run_loaded-ending.result in
     let ran = c.run_loaded-ending.ensures.went in
-    let Comes = LibraryBy c.args.order call.words c.args.below c.args.order.command in
+    let Comes = LibraryBy c.args.order call.words (library_below c.args.below) c.args.order.command in
     let says = says_run room c.args.order.steps call.old call.new call.ports_old call.ports_new c.library_of-loaded.result ending ran.0 ran.1 (g.E.Sink.told c.run_loaded-ending.new.say) (g.E.Sink.count c.run_loaded-ending.new.say) c.word_at-name.result.now c.say_ending.result
     (λ e. (ap g.E.Sink.told (c.run_loaded-ending.ensures.silent e), ap g.E.Sink.count (c.run_loaded-ending.ensures.silent e)))
     (λ e. (ap g.E.Sink.told (c.say_ending.ensures.said e), ap g.E.Sink.count (c.say_ending.ensures.said e)))
@@ -22,4 +24,4 @@ returns-clause-ended g c =
     c.status.ensures c.word_at-name.ensures (subst (λ (n : List ℕ). Comes call.old.files n c.library_of-loaded.result) (sym c.word_at-name.ensures) c.library_of-loaded.ensures.comes) c.library_of-loaded.ensures.counts c.run_loaded-ending.ensures.reads c.run_loaded-ending.ensures.out_counts says
 
 pub returns-clause-flushed : goal.returns-clause-flushed
-returns-clause-flushed g c = λ e. c.run_loaded-ending.ensures.flushed (status_zero c.run_loaded-ending.result (subst (λ (n : ℕ). n ≡ 0) c.status.ensures e))
+returns-clause-flushed g c = λ s. c.run_loaded-ending.ensures.flushed (subst IsRunStatus c.status.ensures s)

@@ -1,4 +1,5 @@
 use Rattle.std.proofs.Common.{sym, ◌∙◌}
+use Rattle.mpy_tool.specs.Below.{library_below}
 use Rattle.mpy_tool.specs.Call.{call_of, texts}
 use Rattle.mpy_tool.proofs.Acting.{acts_run, acts_do, acts_make, quiet, same_changes}
 use Rattle.mpy_tool.proofs.top.act.Goals as goal
@@ -6,7 +7,7 @@ use Rattle.mpy_tool.proofs.top.act.Goals as goal
 pub returns-then-runs-clause-ended : goal.returns-then-runs-clause-ended
 returns-then-runs-clause-ended g c =
     let call = call_of g.F.Folder g.S.Sink g.P.Port g.E.Sink c.args.words.now c.args.outside.now c.run_order.new.outside c.run_order.result in
-    acts_run c.args.order call c.args.below c.args.order.command (sym c.runs.ensures ∙ c.if-runs.true) c.run_order.ensures.ended
+    acts_run c.args.order call (library_below c.args.below) c.args.order.command (sym c.runs.ensures ∙ c.if-runs.true) c.run_order.ensures.ended
 
 pub returns-then-runs-clause-files : goal.returns-then-runs-clause-files
 returns-then-runs-clause-files g c =
@@ -15,7 +16,7 @@ returns-then-runs-clause-files g c =
 pub returns-then-makes-clause-ended : goal.returns-then-makes-clause-ended
 returns-then-makes-clause-ended g c =
     let call = call_of g.F.Folder g.S.Sink g.P.Port g.E.Sink c.args.words.now c.args.outside.now c.make.new.outside c.make.result in
-    acts_make c.args.order call c.args.below c.args.order.command (sym c.makes.ensures ∙ c.if-makes.true) c.make.ensures.ended
+    acts_make c.args.order call (library_below c.args.below) c.args.order.command (sym c.makes.ensures ∙ c.if-makes.true) c.make.ensures.ended
 
 pub returns-then-makes-clause-files : goal.returns-then-makes-clause-files
 returns-then-makes-clause-files g c =
@@ -27,5 +28,5 @@ do_order-requires-clause-no_run g c = quiet c.args.order.command (sym c.runs.ens
 pub returns-clause-ended : goal.returns-clause-ended
 returns-clause-ended g c =
     let call = call_of g.F.Folder g.S.Sink g.P.Port g.E.Sink c.args.words.now c.args.outside.now c.do_order.new.outside c.do_order.result in
-    acts_do c.args.order call c.args.below c.args.order.command
+    acts_do c.args.order call (library_below c.args.below) c.args.order.command
     (quiet c.args.order.command (sym c.runs.ensures ∙ c.if-runs.false) (sym c.makes.ensures ∙ c.if-makes.false)) c.do_order.ensures.ended

@@ -1,5 +1,8 @@
+use Rattle.std.proofs.Common.{refl}
+use Rattle.mpy_endings.proofs.Statuses.{not_two}
 use Rattle.mpy_tool.specs.Call.{call_of}
-use Rattle.mpy_tool.proofs.Acting.{go_ordered, check_ordered, dump_ordered, cross_ordered, merge_ordered, freeze_ordered, migrate_ordered, run_ordered, board_ordered, stress_ordered, go_means_ordered, run_means_ordered, stress_means_ordered}
+use Rattle.mpy_tool.proofs.Acting.{go_ordered, check_ordered, check_as_ordered, dump_ordered, cross_ordered, merge_ordered, freeze_ordered, migrate_ordered, run_ordered, board_ordered, stress_ordered, go_means_ordered, run_means_ordered, stress_means_ordered}
+use Rattle.mpy_tool.proofs.Counting.{obeys_stay}
 use Rattle.mpy_tool.proofs.top.mpy.Goals as goal
 
 pub returns-in-Ok-clause-go : goal.returns-in-Ok-clause-go
@@ -11,6 +14,11 @@ pub returns-in-Ok-clause-check : goal.returns-in-Ok-clause-check
 returns-in-Ok-clause-check g c =
     let call = call_of g.F.Folder g.S.Sink g.P.Port g.E.Sink c.args.words.now c.args.outside.now c.obey.new.outside c.obey.result in
     check_ordered c.in-Ok.order call c.in-Ok.ensures.order c.obey.ensures.ended
+
+pub returns-in-Ok-clause-check_as : goal.returns-in-Ok-clause-check_as
+returns-in-Ok-clause-check_as g c =
+    let call = call_of g.F.Folder g.S.Sink g.P.Port g.E.Sink c.args.words.now c.args.outside.now c.obey.new.outside c.obey.result in
+    check_as_ordered c.in-Ok.order call c.in-Ok.ensures.order c.obey.ensures.ended
 
 pub returns-in-Ok-clause-dump : goal.returns-in-Ok-clause-dump
 returns-in-Ok-clause-dump g c =
@@ -66,3 +74,14 @@ pub returns-in-Ok-clause-stress_means : goal.returns-in-Ok-clause-stress_means
 returns-in-Ok-clause-stress_means g c =
     let call = call_of g.F.Folder g.S.Sink g.P.Port g.E.Sink c.args.words.now c.args.outside.now c.obey.new.outside c.obey.result in
     stress_means_ordered c.in-Ok.order call c.go_means_law.ensures c.in-Ok.ensures.order c.obey.ensures.ended
+
+pub returns-in-Err-clause-flushed : goal.returns-in-Err-clause-flushed
+returns-in-Err-clause-flushed g c = λ s. absurd (not_two s)
+
+pub returns-in-Ok-clause-counts : goal.returns-in-Ok-clause-counts
+returns-in-Ok-clause-counts g c =
+    let call = call_of g.F.Folder g.S.Sink g.P.Port g.E.Sink c.args.words.now c.args.outside.now c.obey.new.outside c.obey.result in
+    obeys_stay c.in-Ok.order call c.in-Ok.order.command c.obey.ensures.ended
+
+pub returns-in-Err-clause-counts : goal.returns-in-Err-clause-counts
+returns-in-Err-clause-counts g c = λ unread unwritten. (refl, refl)

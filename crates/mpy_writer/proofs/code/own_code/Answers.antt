@@ -1,7 +1,7 @@
 use Rattle.std.proofs.Common.{◌≤◌, ◌++◌, ℕ, List, length, All, refl, sym, ap, ap₂, subst, ◌∙◌, arith}
 use Rattle.std.specs.List.{zip}
 use Rattle.mpy_base.specs.declared.limits.TheConstants.{MAX_CODE_BYTES}
-use Rattle.bc_prelude.specs.Lines.{Rises}
+use Rattle.mpy_tree.specs.bc_prelude.Lines.{Rises}
 use Rattle.mpy_tree.specs.Canonical.{changes}
 use Rattle.mpy_writer.proofs.Own.{a_start_each, starts_within, rises, is_big, made_own}
 use Rattle.mpy_writer.proofs.code.own_code.Goals as goal

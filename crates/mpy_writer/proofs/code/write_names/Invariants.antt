@@ -1,5 +1,5 @@
 use Rattle.std.proofs.Common.{◌≡◌, ◌++◌, map, drop}
-use Rattle.bc_prelude.specs.Names.{spelling}
+use Rattle.mpy_tree.specs.bc_prelude.Names.{spelling}
 use Rattle.mpy_writer.specs.Tables.{text_number}
 use Rattle.mpy_writer.proofs.code.write_names.Given as goal
 

@@ -1,7 +1,7 @@
 use Rattle.std.proofs.Common.{◌≡◌, ℕ, List, Result, Ok, Err, Vec, Global}
 use Rattle.std.specs.Prelude.{IfOk}
 use Rattle.mpy_base.specs.declared.refused.Refused.{Refused}
-use Rattle.bc_prelude.specs.Lines.{Rises, table_of, line_of, line_among}
+use Rattle.mpy_tree.specs.bc_prelude.Lines.{Rises, table_of, line_of, line_among}
 use Rattle.mpy_tree.specs.declared.module.ModuleCode.{ModuleCode}
 use Rattle.mpy_tree.specs.Canonical.{Canonical}
 use Rattle.mpy_tree.specs.FirstUse.{InFirstUse}

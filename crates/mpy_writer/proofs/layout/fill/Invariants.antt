@@ -1,5 +1,5 @@
 use Rattle.std.proofs.Common.{◌≡◌, ◌++◌, ◌≤◌, ◌<◌, ℕ, suc, length, drop, true, flat_map}
-use Rattle.bc_ops.specs.Code.{spelling}
+use Rattle.mpy_tree.specs.bc_ops.Code.{spelling}
 use Rattle.bc_labels.specs.Labels.{is_jump}
 use Rattle.bc_labels.specs.Places.{item_at, width_at}
 use Rattle.bc_labels.specs.Choice.{FitsAt, instrs_to}

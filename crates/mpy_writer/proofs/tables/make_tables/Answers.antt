@@ -1,6 +1,6 @@
 use Rattle.std.proofs.Common.{◌≡◌, ◌∷◌, Result, Ok, map, ap, ◌∙◌}
 use Rattle.std.specs.List.{flat_map}
-use Rattle.qstr_pool.specs.Pool.{Texts}
+use Rattle.mpy_tree.specs.qstr_pool.Pool.{Texts}
 use Rattle.mpy_base.specs.declared.refused.NoMemory.{NoMemory}
 use Rattle.mpy_writer.specs.Outcome.{no_texts}
 use Rattle.mpy_writer.specs.Codes.{texts_in, objects_in}

@@ -1,6 +1,6 @@
 use Rattle.std.proofs.Common.{ℕ, Result, Err, refl, ap}
 use Rattle.mpy_base.specs.declared.refused.Refused.{Refused}
-use Rattle.qstr_pool.specs.declared.pool.Full.{Full}
+use Rattle.mpy_tree.specs.qstr_pool.declared.pool.Full.{Full}
 use Rattle.mpy_writer.proofs.Uses.{no_room}
 use Rattle.mpy_writer.proofs.tables.use_text.Goals as goal
 

@@ -1,15 +1,15 @@
 use Rattle.std.proofs.Common.{◌≡◌, [], Result, refl, sym, subst}
 use Rattle.std.specs.Prelude.{IfOk, IfErr}
 use Rattle.std.proofs.lemmas.Option.{slice_get_within}
-use Rattle.mpy_tree.specs.Raw.{Module}
-use Rattle.command_files.specs.image_runs.Main.{IsMainAt}
+use Rattle.bc_library.specs.mpy_tree.Raw.{Module}
+use Rattle.image_runs.specs.Main.{IsMainAt}
 use Rattle.library_files.specs.Ends.{HoldsModules}
 use Rattle.library_runs.specs.declared.ending.RunEnd.TheVariants as ends
 use Rattle.library_runs.specs.Runs.{sight}
-use Rattle.command_files.specs.mpy_endings.declared.ending.Ending.{Ending}
+use Rattle.mpy_endings.specs.declared.ending.Ending.{Ending}
 use Rattle.run_commands.specs.declared.ready.Ready.{Ready}
 use Rattle.run_commands.specs.Run.{IsUnloaded, Runs}
-use Rattle.run_commands.proofs.Running.{ran_library, not_loaded, same_sight, says_nothing}
+use Rattle.run_commands.proofs.Running.{ran_library, not_loaded, run_over, same_sight, says_nothing, unloaded_unrun}
 use Rattle.run_commands.proofs.run.run_loaded.Goals as goal
 
 pub run_library-end-requires-clause-runnable : goal.run_library-end-requires-clause-runnable
@@ -39,3 +39,10 @@ pub run_library-end-requires-clause-there : goal.run_library-end-requires-clause
 run_library-end-requires-clause-there g c =
     let first = subst (λ (r : Result Ready Ending). IfOk r (λ ready. (m : Module) × IsMainAt ready.main ready.place m ready.library)) c.in-Ok.is c.requires.there in
     slice_get_within c.in-Ok.ready.library.modules c.in-Ok.ready.place (record { name = c.in-Ok.ready.main; held = first.0 }) first.1
+
+pub returns-in-Ok-clause-flushed : goal.returns-in-Ok-clause-flushed
+returns-in-Ok-clause-flushed g c = λ s. c.run_library-end.ensures.flushed (run_over c.run_library-end.result c.args.steps c.ending_of.result c.ending_of.ensures s)
+
+pub returns-in-Err-clause-flushed : goal.returns-in-Err-clause-flushed
+returns-in-Err-clause-flushed g c = λ s.
+    absurd (unloaded_unrun c.in-Err.ending (subst (λ (r : Result Ready Ending). IfErr r IsUnloaded) c.in-Err.is c.requires.unloaded) s)

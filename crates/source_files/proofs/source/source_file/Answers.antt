@@ -1,5 +1,5 @@
 use Rattle.std.proofs.Common.{sym, subst, ◌∙◌}
-use Rattle.mpy_tree.specs.File.{IsAscii}
+use Rattle.mpy_reader.specs.mpy_tree.File.{IsAscii}
 use Rattle.source_files.proofs.Names.{stored_is_ascii}
 use Rattle.source_files.proofs.source.source_file.Goals as goal
 

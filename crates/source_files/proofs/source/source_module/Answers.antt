@@ -1,5 +1,5 @@
 use Rattle.std.proofs.Common.{List, ℕ, ap, length, refl, sym, subst}
-use Rattle.mpy_tree.specs.Raw.{Module}
+use Rattle.mpy_reader.specs.mpy_tree.Raw.{Module}
 use Rattle.library_files.specs.Comes.{IsVerifiedFile}
 use Rattle.source_files.specs.Sources.{stored}
 use Rattle.source_files.proofs.Given.{module_of}

@@ -1,19 +1,19 @@
 use Rattle.std.proofs.Common.{sym, subst}
-use Rattle.bc_verify.specs.Verified.{IsVerified}
+use Rattle.bc_library.specs.bc_verify.Verified.{IsVerified}
 use Rattle.library_files.proofs.Read.{same_read, not_read}
 use Rattle.source_files.proofs.Given.{verified_as}
 use Rattle.source_files.proofs.source.verified_of.Goals as goal
 
-pub verified_raw-requires : goal.verified_raw-requires
-verified_raw-requires c =
+pub known_verified-requires : goal.known_verified-requires
+known_verified-requires c =
     let m = c.requires.0 in
     subst IsVerified (same_read c.read.result c.in-Ok.raw m c.in-Ok.is (c.read.ensures.only m c.requires.1.file)) c.requires.1.verified
 
 pub returns-in-Ok : goal.returns-in-Ok
 returns-in-Ok c =
     let m = c.requires.0 in
-    verified_as c.args.bytes.now c.in-Ok.raw c.verified_raw.result c.in-Ok.ensures.found
-    (subst IsVerified (same_read c.read.result c.in-Ok.raw m c.in-Ok.is (c.read.ensures.only m c.requires.1.file)) c.requires.1.verified) c.verified_raw.ensures
+    verified_as c.args.bytes.now c.in-Ok.raw c.known_verified.result c.in-Ok.ensures.found
+    (subst IsVerified (same_read c.read.result c.in-Ok.raw m c.in-Ok.is (c.read.ensures.only m c.requires.1.file)) c.requires.1.verified) c.known_verified.ensures
 
 pub unreachable-requires : goal.unreachable-requires
 unreachable-requires c =

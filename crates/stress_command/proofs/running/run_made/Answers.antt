@@ -1,4 +1,6 @@
-use Rattle.std.proofs.Common.{map}
+use Rattle.std.proofs.Common.{map, subst}
+use Rattle.mpy_endings.specs.Ending.{IsRunStatus}
+use Rattle.mpy_endings.proofs.Statuses.{not_eight}
 use Rattle.stress_command.proofs.Front.{cut_short, ran}
 use Rattle.stress_command.proofs.running.run_made.Goals as goal
 
@@ -15,3 +17,6 @@ returns-in-Err-clause-ended g c seed count faults files length_is comes =
     (g.S.Sink.told c.args.out.now) (g.S.Sink.told c.put_front.new.out) (g.S.Sink.told c.put_front.new.out) (g.S.Sink.count c.args.out.now) (g.S.Sink.count c.put_front.new.out) (g.S.Sink.count c.put_front.new.out)
     (g.E.Sink.told c.args.say.now) (g.E.Sink.told c.say_unprinted.new.say) (g.E.Sink.count c.args.say.now) (g.E.Sink.count c.say_unprinted.new.say)
     (map g.P.Port.seen c.args.ports.now) c.say_unprinted.result c.say_unprinted.ensures.status c.in-Err.ensures c.say_unprinted.ensures.says
+
+pub returns-in-Err-clause-flushed : goal.returns-in-Err-clause-flushed
+returns-in-Err-clause-flushed g c = λ s. absurd (not_eight (subst IsRunStatus c.say_unprinted.ensures.status s))

@@ -1,6 +1,7 @@
 use Rattle.std.proofs.Common.{◌≡◌, ℕ, Some, Ok, map, ap, refl, subst}
+use Rattle.mpy_endings.specs.Ending.{IsRunStatus}
 use Rattle.run_commands.specs.Ready.{GoLibrary}
-use Rattle.run_commands.proofs.Running.{says_run, ends_run, status_zero}
+use Rattle.run_commands.proofs.Running.{says_run, ends_run}
 use Rattle.stress_command.specs.Stress.{sinks, stress_files, stress_name}
 use Rattle.stress_command.proofs.running.run_ready.Goals as goal
 
@@ -20,4 +21,4 @@ returns-clause-ended g c seed count faults files comes =
     c.status.ensures refl comes refl c.run_loaded-ending.ensures.reads c.run_loaded-ending.ensures.out_counts says
 
 pub returns-clause-flushed : goal.returns-clause-flushed
-returns-clause-flushed g c = λ e. c.run_loaded-ending.ensures.flushed (status_zero c.run_loaded-ending.result (subst (λ (n : ℕ). n ≡ 0) c.status.ensures e))
+returns-clause-flushed g c = λ s. c.run_loaded-ending.ensures.flushed (subst IsRunStatus c.status.ensures s)

@@ -1,5 +1,6 @@
-use Rattle.std.proofs.Common.{◌≡◌, ℕ, map, refl, subst}
-use Rattle.run_commands.proofs.Running.{status_zero, unloaded_undone}
+use Rattle.std.proofs.Common.{map, refl, subst}
+use Rattle.mpy_endings.specs.Ending.{IsRunStatus}
+use Rattle.run_commands.proofs.Running.{unloaded_unrun}
 use Rattle.stress_command.specs.Stress.{sinks}
 use Rattle.stress_command.proofs.Front.{no_library}
 use Rattle.stress_command.proofs.running.stress.Goals as goal
@@ -15,5 +16,4 @@ returns-in-Err-clause-ended g c faults files =
     (map g.P.Port.seen c.args.ports.now) c.say_refused.result c.in-Err.ending c.in-Err.ensures.refused c.in-Err.ensures.unloaded c.in-Err.ensures.reads c.say_refused.ensures.status refl refl refl c.say_refused.ensures.says
 
 pub returns-in-Err-clause-flushed : goal.returns-in-Err-clause-flushed
-returns-in-Err-clause-flushed g c = λ e.
-    absurd (unloaded_undone c.in-Err.ending c.in-Err.ensures.unloaded (status_zero c.in-Err.ending (subst (λ (n : ℕ). n ≡ 0) c.say_refused.ensures.status e)))
+returns-in-Err-clause-flushed g c = λ s. absurd (unloaded_unrun c.in-Err.ending c.in-Err.ensures.unloaded (subst IsRunStatus c.say_refused.ensures.status s))

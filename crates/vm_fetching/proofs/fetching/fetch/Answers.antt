@@ -1,7 +1,7 @@
 use Rattle.std.proofs.Common.{◌∙◌, ap, subst, Some, ℕ, suc, ◌<◌}
 use Rattle.bc_prelude.specs.Lines as tables
-use Rattle.bc_offsets.specs.Positions.{position_in}
-use Rattle.bc_machine.specs.Library.{Line, Item}
+use Rattle.frame_moves.specs.bc_labels.Positions.{position_in}
+use Rattle.frame_moves.specs.bc_machine.Library.{Line, Item}
 use Rattle.vm_fetching.proofs.fetching.fetch.Goals as goal
 
 pub read_at-instr-requires-clause-short : goal.read_at-instr-requires-clause-short

@@ -1,5 +1,5 @@
 use Rattle.std.proofs.Common.{arith}
-use Rattle.bc_offsets.proofs.Pieces.{found, reads, within}
+use Rattle.frame_moves.proofs.bc_labels_lemmas.Pieces.{found, reads, within}
 use Rattle.vm_fetching.proofs.Reading.{next_at}
 use Rattle.vm_fetching.proofs.fetching.read_at.Goals as goal
 

@@ -1,10 +1,10 @@
 use Rattle.std.proofs.Common.{◌∙◌, ℤ, pos, ◌+ℤ◌, ◌-◌, refl, sym, ap, subst, rules, SFits, w32}
 use Rattle.std.proofs.lemmas.Int.{to_z-of_z}
-use Rattle.bc_ops.specs.declared.instr.Instr.{Instr}
-use Rattle.bc_ops.specs.Code.{IsEncodable}
-use Rattle.bc_ops.specs.Listing.{target}
-use Rattle.bc_ops.specs.Table.{code_of, form_of}
-use Rattle.bc_offsets.specs.Positions.{Reads}
+use Rattle.frame_moves.specs.bc_ops.declared.instr.Instr.{Instr}
+use Rattle.frame_moves.specs.bc_ops.Code.{IsEncodable}
+use Rattle.frame_moves.specs.bc_ops.Listing.{target}
+use Rattle.frame_moves.specs.bc_ops.Table.{code_of, form_of}
+use Rattle.frame_moves.specs.bc_labels.Positions.{Reads}
 use Rattle.vm_fetching.specs.declared.instruction.Instruction.TheVariants as fetched
 use Rattle.vm_fetching.specs.Shows.{Shows}
 use Rattle.vm_fetching.proofs.Showing as showing

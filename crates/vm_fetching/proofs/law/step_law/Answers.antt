@@ -1,5 +1,5 @@
 use Rattle.std.proofs.Common.{ap, List, ℕ}
-use Rattle.bc_offsets.specs.Positions.{position_in}
+use Rattle.frame_moves.specs.bc_labels.Positions.{position_in}
 use Rattle.vm_fetching.proofs.Stepping.{steps_as, next_is}
 use Rattle.vm_fetching.proofs.law.step_law.Goals as goal
 

@@ -1,5 +1,5 @@
 use Rattle.std.specs.Prelude.{◌-◌}
-use Rattle.vm_cache.specs.Kept.{AreFetched}
+use Rattle.vm_starting.specs.Kept.{AreFetched}
 use Rattle.vm_machine.proofs.AtOnce.{AtOnceSoFar}
 use Rattle.vm_machine.proofs.at_once.run_at_once.Given as goal
 

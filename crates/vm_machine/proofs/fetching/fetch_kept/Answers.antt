@@ -1,5 +1,5 @@
 use Rattle.std.proofs.Common.{sym, subst, ◌∙◌}
-use Rattle.vm_cache.specs.Kept.{AreFetched}
+use Rattle.vm_starting.specs.Kept.{AreFetched}
 use Rattle.vm_machine.proofs.AtOnce.{read_of}
 use Rattle.vm_machine.proofs.Standing as fetching
 use Rattle.vm_machine.proofs.fetching.fetch_kept.Goals as goal

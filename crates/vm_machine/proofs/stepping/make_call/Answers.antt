@@ -1,5 +1,5 @@
 use Rattle.std.proofs.Common.{None, refl, arith}
-use Rattle.vm_running.specs.Calling.{Went}
+use Rattle.state_steps.specs.Calling.{Went}
 use Rattle.vm_machine.proofs.Called.{at_call}
 use Rattle.vm_machine.proofs.Fetched.{few, in_program, in_ready, runs_with}
 use Rattle.vm_machine.proofs.Moves.{Laws, went_kept}

@@ -1,8 +1,8 @@
 use Rattle.std.proofs.Common.{◌≡◌, ◌+◌, [], refl, arith}
 use Rattle.std.specs.Prelude.{map}
 use Rattle.port_set.proofs.Counting.{counts_same}
-use Rattle.py_effects.specs.Ends.{new_world}
-use Rattle.vm_hot.specs.vm_unwinding.Ends.{with_modules}
+use Rattle.vm_frames.specs.py_effects.Ends.{new_world}
+use Rattle.state_calls.specs.frame_exits.Ends.{with_modules}
 use Rattle.vm_machine.proofs.Called.{at_call, call_paid, call_made, vm_called, call_failed, vm_failed}
 use Rattle.vm_machine.proofs.Fetched.{fetched_holding, runs_within}
 use Rattle.vm_machine.proofs.Machines.{vm_paid}
@@ -59,74 +59,41 @@ make_call-requires-clause-rows g c = c.requires.rows
 pub make_call-requires-clause-taken : goal.make_call-requires-clause-taken
 make_call-requires-clause-taken g c = c.take_call-invocation.ensures.taken
 
-pub returns-in-None-clause-vm : goal.returns-in-None-clause-vm
-returns-in-None-clause-vm g c = vm_paid c.args.library.now (record c.args.vm.now { operands = c.take_call-invocation.new.operands }) (c.args.vm.now.paid + c.args.most) (fetched_holding c.args.library.now c.args.vm.now c.args.row.now (at_call c.args.op c.args.number c.args.end) c.requires.fetched c.take_call-invocation.new.operands c.take_call-invocation.ensures.room).is_vm
-
-pub returns-in-None-clause-runs : goal.returns-in-None-clause-runs
-returns-in-None-clause-runs g c =
-    from_other g.S.Sink.told (record c.args.vm.now { operands = c.take_call-invocation.new.operands }) c.args.vm.now (λ p w. refl) c.args.library.now (record { out = c.args.out.now; ports = map g.P.Port.seen c.args.ports.now }) (record { out = c.args.out.now; ports = map g.P.Port.seen c.args.ports.now }) c.args.most (record c.args.vm.now { operands = c.take_call-invocation.new.operands; paid = c.args.vm.now.paid + c.args.most }) (call_paid g.S.Sink.told g.S.Sink.count c.args.library.now c.args.row.now c.args.op c.args.number c.args.end (record c.args.vm.now { operands = c.take_call-invocation.new.operands }) (fetched_holding c.args.library.now c.args.vm.now c.args.row.now (at_call c.args.op c.args.number c.args.end) c.requires.fetched c.take_call-invocation.new.operands c.take_call-invocation.ensures.room) c.take_call-invocation.result c.take_call-invocation.ensures.taken c.args.most c.visits_call_on-due.result (λ p w of. c.visits_call_on-due.ensures p (with_modules p.tables w c.args.vm.now.modules) of.means of.shelf_is) (record { out = c.args.out.now; ports = map g.P.Port.seen c.args.ports.now }) c.in-None.ensures.none)
-
-pub returns-in-None-clause-failed : goal.returns-in-None-clause-failed
-returns-in-None-clause-failed g c = tt
-
-pub returns-in-None-clause-taken : goal.returns-in-None-clause-taken
-returns-in-None-clause-taken g c = (c.requires.some, omega arith, omega arith)
-
-pub returns-in-None-clause-paid : goal.returns-in-None-clause-paid
-returns-in-None-clause-paid g c = tt
-
-pub returns-in-None-clause-counts : goal.returns-in-None-clause-counts
-returns-in-None-clause-counts g c = refl
-
-pub returns-in-Ok-clause-vm : goal.returns-in-Ok-clause-vm
-returns-in-Ok-clause-vm g c = vm_called g.S.Sink.told g.S.Sink.count c.args.library.now c.args.row.now c.args.op c.args.number c.args.end (record c.args.vm.now { operands = c.take_call-invocation.new.operands }) (fetched_holding c.args.library.now c.args.vm.now c.args.row.now (at_call c.args.op c.args.number c.args.end) c.requires.fetched c.take_call-invocation.new.operands c.take_call-invocation.ensures.room) c.take_call-invocation.result c.take_call-invocation.ensures.taken c.args.most c.visits_call_on-due.result (λ p w of. c.visits_call_on-due.ensures p (with_modules p.tables w c.args.vm.now.modules) of.means of.shelf_is) c.in-Some.before c.in-Some.ensures.before.0 c.in-Some.ensures.before.1 c.make_call.new.vm (record { out = c.args.out.now; ports = map g.P.Port.seen c.args.ports.now }) (record { out = c.make_call.new.out; ports = map g.P.Port.seen c.make_call.new.ports }) c.in-Ok.ensures.called c.in-Ok.ensures.kept
-
-pub returns-in-Ok-clause-runs : goal.returns-in-Ok-clause-runs
-returns-in-Ok-clause-runs g c =
-    from_other g.S.Sink.told (record c.args.vm.now { operands = c.take_call-invocation.new.operands }) c.args.vm.now (λ p w. refl) c.args.library.now (record { out = c.args.out.now; ports = map g.P.Port.seen c.args.ports.now }) (record { out = c.make_call.new.out; ports = map g.P.Port.seen c.make_call.new.ports }) (c.in-Some.before + 1) (record c.make_call.new.vm { paid = 0 }) (call_made g.S.Sink.told g.S.Sink.count c.args.library.now c.args.row.now c.args.op c.args.number c.args.end (record c.args.vm.now { operands = c.take_call-invocation.new.operands }) (fetched_holding c.args.library.now c.args.vm.now c.args.row.now (at_call c.args.op c.args.number c.args.end) c.requires.fetched c.take_call-invocation.new.operands c.take_call-invocation.ensures.room) c.take_call-invocation.result c.take_call-invocation.ensures.taken c.args.most c.visits_call_on-due.result (λ p w of. c.visits_call_on-due.ensures p (with_modules p.tables w c.args.vm.now.modules) of.means of.shelf_is) c.in-Some.before c.in-Some.ensures.before.0 c.in-Some.ensures.before.1 c.make_call.new.vm (record { out = c.args.out.now; ports = map g.P.Port.seen c.args.ports.now }) (record { out = c.make_call.new.out; ports = map g.P.Port.seen c.make_call.new.ports }) c.in-Ok.ensures.called)
-
-pub returns-in-Ok-clause-failed : goal.returns-in-Ok-clause-failed
-returns-in-Ok-clause-failed g c = tt
-
-pub returns-in-Ok-clause-taken : goal.returns-in-Ok-clause-taken
-returns-in-Ok-clause-taken g c = let lt = c.in-Some.ensures.before.1 in (omega arith, omega (arith, lt), omega arith)
-
-pub returns-in-Ok-clause-paid : goal.returns-in-Ok-clause-paid
-returns-in-Ok-clause-paid g c = tt
-
-pub returns-in-Ok-clause-counts : goal.returns-in-Ok-clause-counts
-returns-in-Ok-clause-counts g c = c.in-Ok.ensures.counts
-
-pub returns-in-Err-clause-vm : goal.returns-in-Err-clause-vm
-returns-in-Err-clause-vm g c = vm_failed g.S.Sink.told g.S.Sink.count c.args.library.now c.args.row.now c.args.op c.args.number c.args.end (record c.args.vm.now { operands = c.take_call-invocation.new.operands }) (fetched_holding c.args.library.now c.args.vm.now c.args.row.now (at_call c.args.op c.args.number c.args.end) c.requires.fetched c.take_call-invocation.new.operands c.take_call-invocation.ensures.room) c.take_call-invocation.result c.take_call-invocation.ensures.taken c.args.most c.visits_call_on-due.result (λ p w of. c.visits_call_on-due.ensures p (with_modules p.tables w c.args.vm.now.modules) of.means of.shelf_is) c.in-Some.before c.in-Some.ensures.before.0 c.in-Some.ensures.before.1 c.make_call.new.vm (record { out = c.args.out.now; ports = map g.P.Port.seen c.args.ports.now }) (record { out = c.make_call.new.out; ports = map g.P.Port.seen c.make_call.new.ports }) c.in-Err.failed c.in-Err.ensures.called c.in-Err.ensures.kept
-
-pub returns-in-Err-clause-runs : goal.returns-in-Err-clause-runs
-returns-in-Err-clause-runs g c = tt
-
-pub returns-in-Err-clause-failed : goal.returns-in-Err-clause-failed
-returns-in-Err-clause-failed g c =
-    failed_other g.S.Sink.told (record c.args.vm.now { operands = c.take_call-invocation.new.operands }) c.args.vm.now (λ p w. refl) g.S.Sink.count c.args.library.now (record { out = c.args.out.now; ports = map g.P.Port.seen c.args.ports.now }) (record { out = c.make_call.new.out; ports = map g.P.Port.seen c.make_call.new.ports }) c.args.most (call_failed g.S.Sink.told g.S.Sink.count c.args.library.now c.args.row.now c.args.op c.args.number c.args.end (record c.args.vm.now { operands = c.take_call-invocation.new.operands }) (fetched_holding c.args.library.now c.args.vm.now c.args.row.now (at_call c.args.op c.args.number c.args.end) c.requires.fetched c.take_call-invocation.new.operands c.take_call-invocation.ensures.room) c.take_call-invocation.result c.take_call-invocation.ensures.taken c.args.most c.visits_call_on-due.result (λ p w of. c.visits_call_on-due.ensures p (with_modules p.tables w c.args.vm.now.modules) of.means of.shelf_is) c.in-Some.before c.in-Some.ensures.before.0 c.in-Some.ensures.before.1 c.make_call.new.vm (record { out = c.args.out.now; ports = map g.P.Port.seen c.args.ports.now }) (record { out = c.make_call.new.out; ports = map g.P.Port.seen c.make_call.new.ports }) c.in-Err.failed c.in-Err.ensures.called)
-
-pub returns-in-Err-clause-taken : goal.returns-in-Err-clause-taken
-returns-in-Err-clause-taken g c = tt
-
-pub returns-in-Err-clause-paid : goal.returns-in-Err-clause-paid
-returns-in-Err-clause-paid g c = c.in-Err.ensures.called.paid
-
-pub returns-in-Err-clause-counts : goal.returns-in-Err-clause-counts
-returns-in-Err-clause-counts g c = c.in-Err.ensures.counts
-
 pub overflow_add-bound : goal.overflow_add-bound
 overflow_add-bound g c = omega (arith, c.requires.countable)
 
 pub overflow_add-taken : goal.overflow_add-taken
 overflow_add-taken g c = omega (arith, c.in-Some.ensures.before.1, c.ranges.most)
 
-pub returns-in-None-clause-faults : goal.returns-in-None-clause-faults
-returns-in-None-clause-faults g c = counts_same (map g.P.Port.seen c.args.ports.now)
+pub returns-in-None : goal.returns-in-None
+returns-in-None g c = record {
+  vm = vm_paid c.args.library.now (record c.args.vm.now { operands = c.take_call-invocation.new.operands }) (c.args.vm.now.paid + c.args.most) (fetched_holding c.args.library.now c.args.vm.now c.args.row.now (at_call c.args.op c.args.number c.args.end) c.requires.fetched c.take_call-invocation.new.operands c.take_call-invocation.ensures.room).is_vm;
+  runs = from_other g.S.Sink.told (record c.args.vm.now { operands = c.take_call-invocation.new.operands }) c.args.vm.now (λ p w. refl) c.args.library.now (record { out = c.args.out.now; ports = map g.P.Port.seen c.args.ports.now }) (record { out = c.args.out.now; ports = map g.P.Port.seen c.args.ports.now }) c.args.most (record c.args.vm.now { operands = c.take_call-invocation.new.operands; paid = c.args.vm.now.paid + c.args.most }) (call_paid g.S.Sink.told g.S.Sink.count c.args.library.now c.args.row.now c.args.op c.args.number c.args.end (record c.args.vm.now { operands = c.take_call-invocation.new.operands }) (fetched_holding c.args.library.now c.args.vm.now c.args.row.now (at_call c.args.op c.args.number c.args.end) c.requires.fetched c.take_call-invocation.new.operands c.take_call-invocation.ensures.room) c.take_call-invocation.result c.take_call-invocation.ensures.taken c.args.most c.visits_call_on-due.result (λ p w of. c.visits_call_on-due.ensures p (with_modules p.tables w c.args.vm.now.modules) of.means of.shelf_is) (record { out = c.args.out.now; ports = map g.P.Port.seen c.args.ports.now }) c.in-None.ensures.none);
+  failed = tt;
+  taken = (c.requires.some, omega arith, omega arith);
+  paid = tt;
+  counts = refl;
+  faults = counts_same (map g.P.Port.seen c.args.ports.now);
+}
 
-pub returns-in-Ok-clause-faults : goal.returns-in-Ok-clause-faults
-returns-in-Ok-clause-faults g c = c.make_call.ensures.faults
+pub returns-in-Ok : goal.returns-in-Ok
+returns-in-Ok g c = record {
+  vm = vm_called g.S.Sink.told g.S.Sink.count c.args.library.now c.args.row.now c.args.op c.args.number c.args.end (record c.args.vm.now { operands = c.take_call-invocation.new.operands }) (fetched_holding c.args.library.now c.args.vm.now c.args.row.now (at_call c.args.op c.args.number c.args.end) c.requires.fetched c.take_call-invocation.new.operands c.take_call-invocation.ensures.room) c.take_call-invocation.result c.take_call-invocation.ensures.taken c.args.most c.visits_call_on-due.result (λ p w of. c.visits_call_on-due.ensures p (with_modules p.tables w c.args.vm.now.modules) of.means of.shelf_is) c.in-Some.before c.in-Some.ensures.before.0 c.in-Some.ensures.before.1 c.make_call.new.vm (record { out = c.args.out.now; ports = map g.P.Port.seen c.args.ports.now }) (record { out = c.make_call.new.out; ports = map g.P.Port.seen c.make_call.new.ports }) c.in-Ok.ensures.called c.in-Ok.ensures.kept;
+  runs = from_other g.S.Sink.told (record c.args.vm.now { operands = c.take_call-invocation.new.operands }) c.args.vm.now (λ p w. refl) c.args.library.now (record { out = c.args.out.now; ports = map g.P.Port.seen c.args.ports.now }) (record { out = c.make_call.new.out; ports = map g.P.Port.seen c.make_call.new.ports }) (c.in-Some.before + 1) (record c.make_call.new.vm { paid = 0 }) (call_made g.S.Sink.told g.S.Sink.count c.args.library.now c.args.row.now c.args.op c.args.number c.args.end (record c.args.vm.now { operands = c.take_call-invocation.new.operands }) (fetched_holding c.args.library.now c.args.vm.now c.args.row.now (at_call c.args.op c.args.number c.args.end) c.requires.fetched c.take_call-invocation.new.operands c.take_call-invocation.ensures.room) c.take_call-invocation.result c.take_call-invocation.ensures.taken c.args.most c.visits_call_on-due.result (λ p w of. c.visits_call_on-due.ensures p (with_modules p.tables w c.args.vm.now.modules) of.means of.shelf_is) c.in-Some.before c.in-Some.ensures.before.0 c.in-Some.ensures.before.1 c.make_call.new.vm (record { out = c.args.out.now; ports = map g.P.Port.seen c.args.ports.now }) (record { out = c.make_call.new.out; ports = map g.P.Port.seen c.make_call.new.ports }) c.in-Ok.ensures.called);
+  failed = tt;
+  taken = (let lt = c.in-Some.ensures.before.1 in (omega arith, omega (arith, lt), omega arith));
+  paid = tt;
+  counts = c.in-Ok.ensures.counts;
+  faults = c.make_call.ensures.faults;
+}
 
-pub returns-in-Err-clause-faults : goal.returns-in-Err-clause-faults
-returns-in-Err-clause-faults g c = c.make_call.ensures.faults
+pub returns-in-Err : goal.returns-in-Err
+returns-in-Err g c = record {
+  vm = vm_failed g.S.Sink.told g.S.Sink.count c.args.library.now c.args.row.now c.args.op c.args.number c.args.end (record c.args.vm.now { operands = c.take_call-invocation.new.operands }) (fetched_holding c.args.library.now c.args.vm.now c.args.row.now (at_call c.args.op c.args.number c.args.end) c.requires.fetched c.take_call-invocation.new.operands c.take_call-invocation.ensures.room) c.take_call-invocation.result c.take_call-invocation.ensures.taken c.args.most c.visits_call_on-due.result (λ p w of. c.visits_call_on-due.ensures p (with_modules p.tables w c.args.vm.now.modules) of.means of.shelf_is) c.in-Some.before c.in-Some.ensures.before.0 c.in-Some.ensures.before.1 c.make_call.new.vm (record { out = c.args.out.now; ports = map g.P.Port.seen c.args.ports.now }) (record { out = c.make_call.new.out; ports = map g.P.Port.seen c.make_call.new.ports }) c.in-Err.failed c.in-Err.ensures.called c.in-Err.ensures.kept;
+  runs = tt;
+  failed = failed_other g.S.Sink.told (record c.args.vm.now { operands = c.take_call-invocation.new.operands }) c.args.vm.now (λ p w. refl) g.S.Sink.count c.args.library.now (record { out = c.args.out.now; ports = map g.P.Port.seen c.args.ports.now }) (record { out = c.make_call.new.out; ports = map g.P.Port.seen c.make_call.new.ports }) c.args.most (call_failed g.S.Sink.told g.S.Sink.count c.args.library.now c.args.row.now c.args.op c.args.number c.args.end (record c.args.vm.now { operands = c.take_call-invocation.new.operands }) (fetched_holding c.args.library.now c.args.vm.now c.args.row.now (at_call c.args.op c.args.number c.args.end) c.requires.fetched c.take_call-invocation.new.operands c.take_call-invocation.ensures.room) c.take_call-invocation.result c.take_call-invocation.ensures.taken c.args.most c.visits_call_on-due.result (λ p w of. c.visits_call_on-due.ensures p (with_modules p.tables w c.args.vm.now.modules) of.means of.shelf_is) c.in-Some.before c.in-Some.ensures.before.0 c.in-Some.ensures.before.1 c.make_call.new.vm (record { out = c.args.out.now; ports = map g.P.Port.seen c.args.ports.now }) (record { out = c.make_call.new.out; ports = map g.P.Port.seen c.make_call.new.ports }) c.in-Err.failed c.in-Err.ensures.called);
+  taken = tt;
+  paid = c.in-Err.ensures.called.paid;
+  counts = c.in-Err.ensures.counts;
+  faults = c.make_call.ensures.faults;
+}

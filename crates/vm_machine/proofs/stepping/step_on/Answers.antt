@@ -1,52 +1,14 @@
 use Rattle.std.proofs.Common.{refl, subst}
 use Rattle.std.specs.Prelude.{map}
 use Rattle.port_set.proofs.Counting.{counts_same}
-use Rattle.vm_cache.specs.vm_fetching.declared.instruction.Instruction.TheVariants as fetched
+use Rattle.state_calls.specs.vm_fetching.declared.instruction.Instruction.TheVariants as fetched
 use Rattle.vm_machine.specs.Forms.{HasForm}
 use Rattle.vm_machine.proofs.Fetched.{at_form}
 use Rattle.vm_machine.proofs.Runs.{stepped_runs}
 use Rattle.vm_machine.proofs.stepping.step_on.Goals as goal
 
 pub form_of-form-requires : goal.form_of-form-requires
-form_of-form-requires g c =
-    let h = c.requires.fetched in (h.program.shelf, (h.ready h.program h.is_program).text)
-
-pub returns-in-Some-clause-vm : goal.returns-in-Some-clause-vm
-returns-in-Some-clause-vm g c = c.step_call.ensures.vm
-
-pub returns-in-Some-clause-runs : goal.returns-in-Some-clause-runs
-returns-in-Some-clause-runs g c = c.step_call.ensures.runs
-
-pub returns-in-Some-clause-failed : goal.returns-in-Some-clause-failed
-returns-in-Some-clause-failed g c = c.step_call.ensures.failed
-
-pub returns-in-Some-clause-taken : goal.returns-in-Some-clause-taken
-returns-in-Some-clause-taken g c = c.step_call.ensures.taken
-
-pub returns-in-Some-clause-paid : goal.returns-in-Some-clause-paid
-returns-in-Some-clause-paid g c = c.step_call.ensures.paid
-
-pub returns-in-Some-clause-counts : goal.returns-in-Some-clause-counts
-returns-in-Some-clause-counts g c = c.step_call.ensures.counts
-
-pub returns-in-None-clause-vm : goal.returns-in-None-clause-vm
-returns-in-None-clause-vm g c = c.step_act.ensures.stepped.vm
-
-pub returns-in-None-clause-runs : goal.returns-in-None-clause-runs
-returns-in-None-clause-runs g c =
-    stepped_runs g.S.Sink.told c.args.library.now c.args.vm.now c.step_act.new.vm (record { out = c.args.out.now; ports = map g.P.Port.seen c.args.ports.now }) c.step_act.result c.step_act.ensures.stepped
-
-pub returns-in-None-clause-failed : goal.returns-in-None-clause-failed
-returns-in-None-clause-failed g c = tt
-
-pub returns-in-None-clause-taken : goal.returns-in-None-clause-taken
-returns-in-None-clause-taken g c = (c.step_act.ensures.some, c.step_act.ensures.few, c.step_act.ensures.stepped.paid)
-
-pub returns-in-None-clause-paid : goal.returns-in-None-clause-paid
-returns-in-None-clause-paid g c = tt
-
-pub returns-in-None-clause-counts : goal.returns-in-None-clause-counts
-returns-in-None-clause-counts g c = refl
+form_of-form-requires g c = let h = c.requires.fetched in (h.program.shelf, (h.ready h.program h.is_program).text)
 
 pub step_call-requires-clause-calls : goal.step_call-requires-clause-calls
 step_call-requires-clause-calls g c = (subst (HasForm c.args.fetched.instruction) c.in-Some.ensures.some c.form_of-form.ensures).1
@@ -83,8 +45,16 @@ step_act-requires-clause-some g c = c.requires.some
 pub step_act-requires-clause-countable : goal.step_act-requires-clause-countable
 step_act-requires-clause-countable g c = c.requires.countable
 
-pub returns-in-Some-clause-faults : goal.returns-in-Some-clause-faults
-returns-in-Some-clause-faults g c = c.step_call.ensures.faults
+pub returns-in-Some : goal.returns-in-Some
+returns-in-Some g c = c.step_call.ensures
 
-pub returns-in-None-clause-faults : goal.returns-in-None-clause-faults
-returns-in-None-clause-faults g c = counts_same (map g.P.Port.seen c.args.ports.now)
+pub returns-in-None : goal.returns-in-None
+returns-in-None g c = record {
+  vm = c.step_act.ensures.stepped.vm;
+  runs = stepped_runs g.S.Sink.told c.args.library.now c.args.vm.now c.step_act.new.vm (record { out = c.args.out.now; ports = map g.P.Port.seen c.args.ports.now }) c.step_act.result c.step_act.ensures.stepped;
+  failed = tt;
+  taken = (c.step_act.ensures.some, c.step_act.ensures.few, c.step_act.ensures.stepped.paid);
+  paid = tt;
+  counts = refl;
+  faults = counts_same (map g.P.Port.seen c.args.ports.now);
+}

@@ -1,6 +1,6 @@
 use Rattle.std.proofs.Common.{sym, subst, arith}
-use Rattle.bc_library.specs.Shelf.{Shelf}
-use Rattle.bc_rows.specs.Rows.{IsRow}
+use Rattle.vm_states.specs.bc_library.Shelf.{Shelf}
+use Rattle.vm_states.specs.bc_rows.Rows.{IsRow}
 use Rattle.vm_starting.proofs.Openings.{code_there, locals_few}
 use Rattle.vm_starting.proofs.opening.main_locals.Goals as goal
 

@@ -1,10 +1,10 @@
 use Rattle.std.proofs.Common.{◌≡◌, List, [], ◌∷◌, Ok, Err, sym, ap, ◌∙◌}
 use Rattle.std.specs.Prelude.{is_some}
-use Rattle.vm_frames.specs.Calls.{Call, Calls}
-use Rattle.vm_modules.specs.Registry.{Registry}
-use Rattle.vm_invoking.specs.vm_step.Shown.{running_of}
-use Rattle.vm_invoking.specs.vm_step.Outcomes.{world_of}
-use Rattle.vm_known.specs.vm_unwinding.Ends.{with_modules}
+use Rattle.vm_states.specs.vm_frames.Calls.{Call, Calls}
+use Rattle.frame_calls.specs.prim_modules.Registry.{Registry}
+use Rattle.vm_states.specs.frame_moves.Shown.{running_of}
+use Rattle.vm_states.specs.frame_moves.Outcomes.{world_of}
+use Rattle.vm_states.specs.frame_exits.Ends.{with_modules}
 use Rattle.vm_starting.specs.Starting.{main_call}
 use Rattle.vm_starting.proofs.Texts.{main_text, name_text}
 use Rattle.vm_starting.proofs.Begun as begun

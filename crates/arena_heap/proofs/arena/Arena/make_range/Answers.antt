@@ -1,5 +1,4 @@
-use Rattle.std.proofs.Common.{ℤ, ◌≡◌, List, ◌∷◌, ◌++◌, Some, None, sym, ◌∙◌, ap, subst, replicate, arith, le_refl}
-use Rattle.std.proofs.Common.{w32}
+use Rattle.std.proofs.Common.{ℤ, ◌≡◌, List, ◌∷◌, ◌++◌, Some, None, sym, ◌∙◌, ap, subst, replicate, arith, le_refl, w32}
 use Rattle.std.proofs.Math.Path.{ap₂}
 use Rattle.std.proofs.lemmas.Int.{to_z-of_z}
 use Rattle.arena_heap.specs.declared.value.Value.TheVariants as values

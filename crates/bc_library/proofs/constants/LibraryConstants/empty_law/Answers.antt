@@ -1,5 +1,5 @@
 use Rattle.std.proofs.Common.{◌≡◌, ℕ, List, [], Option, Some, refl}
-use Rattle.qstr_pool.specs.Pool.{Texts}
+use Rattle.bc_verify.specs.qstr_pool.Pool.{Texts}
 use Rattle.bc_library.specs.Texts.{text_numbered}
 use Rattle.bc_library.proofs.constants.LibraryConstants.empty_law.Goals as goal
 

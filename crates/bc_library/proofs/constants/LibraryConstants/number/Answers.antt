@@ -1,6 +1,6 @@
 use Rattle.std.proofs.Common.{ℕ, ◌≡◌, List, Option, Some, None, ap, subst}
 use Rattle.std.specs.Prelude.{IfSome, IfNone}
-use Rattle.qstr_pool.specs.Pool.{Texts}
+use Rattle.bc_verify.specs.qstr_pool.Pool.{Texts}
 use Rattle.bc_library.specs.Shelf.{Shelf}
 use Rattle.bc_library.specs.Texts.{text_numbered}
 use Rattle.bc_library.proofs.constants.LibraryConstants.number.Goals as goal

@@ -3,15 +3,15 @@ use Rattle.std.specs.Prelude.{IfSome}
 use Rattle.mpy_base.specs.declared.room.NoRoom.{NoRoom}
 use Rattle.mpy_base.specs.Val.{PlainWorld}
 use Rattle.mpy_base.specs.World.{Heap}
-use Rattle.arena_heap.specs.declared.value.Value.{Value}
-use Rattle.bc_machine.specs.Library.{Name}
-use Rattle.bc_machine.specs.Machine.{start}
+use Rattle.frame_calls.specs.arena_heap.declared.value.Value.{Value}
+use Rattle.frame_calls.specs.bc_machine.Library.{Name}
+use Rattle.frame_calls.specs.bc_machine.Machine.{start}
 use Rattle.py_effects.specs.Ends.{new_world}
-use Rattle.vm_frames.specs.Calls.{Calls}
-use Rattle.vm_invoking.specs.vm_step.Outcomes.{world_of}
-use Rattle.vm_known.specs.vm_unwinding.declared.ends.End.{End}
-use Rattle.vm_known.specs.vm_unwinding.declared.ends.End.TheVariants as ends
-use Rattle.vm_known.specs.vm_unwinding.Ends.{with_modules, state_of}
+use Rattle.vm_states.specs.vm_frames.Calls.{Calls}
+use Rattle.vm_states.specs.frame_moves.Outcomes.{world_of}
+use Rattle.vm_states.specs.frame_exits.declared.ends.End.{End}
+use Rattle.vm_states.specs.frame_exits.declared.ends.End.TheVariants as ends
+use Rattle.vm_states.specs.frame_exits.Ends.{with_modules, state_of}
 use Rattle.vm_starting.specs.Starting.{Begins}
 use Rattle.vm_starting.proofs.Openings.{rooms, main_in, fresh_world}
 use Rattle.vm_starting.proofs.opening.Vm.open.Goals as goal

@@ -1,1 +1,0 @@
-pub use Rattle.command_files.proofs as command_files_lemmas

@@ -1,2 +1,0 @@
-mod Libraries
-mod Both

@@ -1,2 +1,0 @@
-pub use Rattle.image_runs.specs as image_runs
-pub mod Main

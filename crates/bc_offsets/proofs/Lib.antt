@@ -1,3 +1,0 @@
-pub mod Arrival
-pub mod Order
-pub mod Pieces

@@ -1,6 +1,0 @@
-pub mod InBytes
-pub mod Regular
-pub mod Raw
-pub mod Unraw
-pub mod Spelled
-pub mod Codes

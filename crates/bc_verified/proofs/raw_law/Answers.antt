@@ -1,5 +1,0 @@
-use Rattle.bc_verified.proofs.Raw.{module_verified}
-use Rattle.bc_verified.proofs.raw_law.Goals as goal
-
-pub returns : goal.returns
-returns c m tree r v = module_verified m tree r v

@@ -1,4 +1,0 @@
-pub mod Operands
-pub mod Verified
-pub mod Known
-pub mod Rooms

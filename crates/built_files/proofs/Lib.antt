@@ -1,3 +1,0 @@
-mod Made
-mod Came
-mod Holds

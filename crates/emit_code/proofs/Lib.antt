@@ -1,5 +1,0 @@
-pub mod Making
-pub mod Lengths
-pub mod Counting
-pub mod Rolling
-pub mod Nesting

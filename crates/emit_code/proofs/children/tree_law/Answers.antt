@@ -1,5 +1,0 @@
-use Rattle.emit_code.proofs.Nesting.{nested, nested_lines, nested_numbers}
-use Rattle.emit_code.proofs.children.tree_law.Goals as goal
-
-pub returns : goal.returns
-returns c = record { tree = nested; lines = nested_lines; children = nested_numbers }

@@ -1,5 +1,0 @@
-use Rattle.emit_code.proofs.Making.{has_body, body_reads}
-use Rattle.emit_code.proofs.codes.body_law.Goals as goal
-
-pub returns : goal.returns
-returns c = record { body = has_body; reads = body_reads }

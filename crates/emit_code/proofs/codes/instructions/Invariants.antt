@@ -1,6 +1,0 @@
-use Rattle.std.proofs.Common.{take}
-use Rattle.emit_code.specs.Finished.{AreMade}
-use Rattle.emit_code.proofs.codes.instructions.Given as goal
-
-abbrev pub invariant-loop-line : goal.invariant-loop-line
-invariant-loop-line l = AreMade l.labels (take l.line-index l.lines) l.items

@@ -1,5 +1,0 @@
-use Rattle.emit_counts.proofs.Texts.{wide_is}
-use Rattle.emit_counts.proofs.lengths_law.Goals as goal
-
-pub returns : goal.returns
-returns c = wide_is

@@ -1,4 +1,0 @@
-pub mod Wide
-pub mod Lengths
-pub mod Named
-pub mod Stands

@@ -1,7 +1,0 @@
-use Rattle.std.proofs.Common.{drop}
-use Rattle.emit_lengths.proofs.Sums.{Summed}
-use Rattle.emit_lengths.proofs.Names.{reads_in}
-use Rattle.emit_lengths.proofs.imports.reads_length.Given as goal
-
-abbrev pub invariant-loop-byte : goal.invariant-loop-byte
-invariant-loop-byte l = Summed reads_in l.name (drop l.byte-index l.name) l.length

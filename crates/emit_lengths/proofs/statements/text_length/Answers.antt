@@ -1,4 +1,0 @@
-use Rattle.emit_lengths.proofs.statements.text_length.Goals as goal
-
-pub returns : goal.returns
-returns c n = c.plus.ensures _ (c.block_length.ensures n)

@@ -1,7 +1,0 @@
-use Rattle.std.proofs.Common.{◌∙◌, ◌+◌}
-use Rattle.emit_limits.proofs.Numbers.{two, plus}
-use Rattle.emit_limits.proofs.Rows.{top}
-use Rattle.emit_limits.proofs.exprs.over.Goals as goal
-
-pub returns : goal.returns
-returns c a b e f = c.max.ensures ∙ two top a (1 + b) _ _ e (c.saturating_add.ensures ∙ plus top 1 b _ f)

@@ -1,0 +1,9 @@
+pub use Rattle.bc_scheme.specs as bc_scheme
+pub mod Faults
+pub mod Lengths
+pub mod Limits
+pub mod Named
+pub mod Rows
+pub mod Stands
+pub mod TextLengths
+pub mod Wide

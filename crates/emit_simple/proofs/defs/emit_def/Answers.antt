@@ -1,5 +1,0 @@
-use Rattle.emit_simple.proofs.DefForms.{def_emits}
-use Rattle.emit_simple.proofs.defs.emit_def.Goals as goal
-
-pub returns : goal.returns
-returns c number = def_emits number c.in_ok-emit_making.ensures c.in_ok-put_store.ensures

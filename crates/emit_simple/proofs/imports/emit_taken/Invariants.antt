@@ -1,7 +1,0 @@
-use Rattle.std.proofs.Common.{false, drop}
-use Rattle.emit_simple.proofs.Rows.{Builds}
-use Rattle.emit_simple.proofs.ImportForms.{Taken}
-use Rattle.emit_simple.proofs.imports.emit_taken.Given as goal
-
-abbrev pub invariant-loop-alias : goal.invariant-loop-alias
-invariant-loop-alias l = Builds (λ a. false) (Taken l.line) l.initial.draft l.draft l.scope (drop l.alias-index l.names) l.names

@@ -1,6 +1,0 @@
-use Rattle.bc_translation.specs.Context.{stores}
-use Rattle.emit_expr.proofs.Forms.{puts_name}
-use Rattle.emit_simple.proofs.puts.put_store.Goals as goal
-
-pub returns : goal.returns
-returns c = puts_name (λ k. stores k c.args.name.now) c.in_ok-put.ensures c.in_ok-item.ensures

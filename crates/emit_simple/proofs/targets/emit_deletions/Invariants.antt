@@ -1,7 +1,0 @@
-use Rattle.std.proofs.Common.{drop}
-use Rattle.emit_simple.proofs.Rows.{Builds}
-use Rattle.emit_simple.proofs.StoreForms.{gone_crowds, Gone}
-use Rattle.emit_simple.proofs.targets.emit_deletions.Given as goal
-
-abbrev pub invariant-loop-target : goal.invariant-loop-target
-invariant-loop-target l = Builds gone_crowds (Gone l.line) l.initial.draft l.draft l.scope (drop l.target-index l.targets) l.targets

@@ -1,0 +1,6 @@
+use Rattle.emit_expr.specs.bc_scheme.Context.{stores}
+use Rattle.emit_expr.proofs.Forms.{puts_name}
+use Rattle.emit_stmt.proofs.puts.put_store.Goals as goal
+
+pub returns : goal.returns
+returns c = puts_name (λ k. stores k c.args.name.now) c.in_ok-put.ensures c.in_ok-item.ensures

@@ -1,2 +1,0 @@
-pub use Rattle.emit_module.specs as emit_module
-pub use Rattle.tr_source.specs as tr_source

@@ -1,8 +1,0 @@
-use Rattle.file_cuts.proofs.Files.{cut_header, cut_truncated}
-use Rattle.file_cuts.proofs.cut_law.Goals as goal
-
-pub returns-clause-header : goal.returns-clause-header
-returns-clause-header c = cut_header
-
-pub returns-clause-truncated : goal.returns-clause-truncated
-returns-clause-truncated c = cut_truncated

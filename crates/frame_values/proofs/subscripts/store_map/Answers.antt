@@ -1,0 +1,47 @@
+use Rattle.std.proofs.Common.{◌≡◌, Some, slice_get}
+use Rattle.frame_moves.specs.bc_ops.declared.instr.Op.TheVariants as ops
+use Rattle.frame_moves.specs.bc_ops.declared.instr.Instr.TheVariants as instrs
+use Rattle.prim_names.specs.arena_heap.declared.value.Value.{Value}
+use Rattle.prim_names.specs.prim_faults.Sights.{world_over}
+use Rattle.frame_moves.specs.vm_frames.declared.slot.Slot.TheVariants as slots
+use Rattle.frame_moves.specs.vm_frames.Calls.{Call}
+use Rattle.frame_moves.specs.vm_frames.Views.{starts_of, frame_of}
+use Rattle.frame_moves.specs.bc_machine.Library.{Plain}
+use Rattle.frame_moves.specs.Shown.{view_of}
+use Rattle.frame_moves.proofs.Stepping.{both}
+use Rattle.frame_values.specs.Effects.{tables_of}
+use Rattle.frame_values.specs.Slots.{without}
+use Rattle.frame_values.proofs.Items as items
+use Rattle.frame_values.proofs.Settling.{of_effect, takes_steps, changed, leaves}
+use Rattle.frame_values.proofs.subscripts.store_map.Goals as goal
+
+pub returns-clause-steps : goal.returns-clause-steps
+returns-clause-steps g c =
+    let texts = g.C.Constants.text_of c.args.consts.now in
+    let tuples = g.C.Constants.items_of c.args.consts.now in
+    let before = c.args.arena.now in
+    let old = c.args.frames.now in
+    takes_steps texts tuples c.args.end 2 before c.store_pair-given.new.arena old c.take.new.frames c.take.result c.store_pair-given.result 0 _
+    (of_effect texts tuples before c.store_pair-given.new.arena c.store_pair-given.result _ c.store_pair-given.ensures)
+    (Plain (instrs.Plain ops.StoreMap)) (λ (d : Call). (slice_get d.slots 0 ≡ Some (slots.Value c.value_at-key.result)) × ((slice_get d.slots 1 ≡ Some (slots.Value c.value_at-v.result)) × (slice_get d.slots 2 ≡ Some (slots.Value c.value_at-dict.result)))) (both (λ (d : Call). slice_get d.slots 0 ≡ Some (slots.Value c.value_at-key.result)) (λ (d : Call). (slice_get d.slots 1 ≡ Some (slots.Value c.value_at-v.result)) × (slice_get d.slots 2 ≡ Some (slots.Value c.value_at-dict.result))) old.calls (c.value_at-key.ensures.there) (both (λ (d : Call). slice_get d.slots 1 ≡ Some (slots.Value c.value_at-v.result)) (λ (d : Call). slice_get d.slots 2 ≡ Some (slots.Value c.value_at-dict.result)) old.calls (c.value_at-v.ensures.there) (c.value_at-dict.ensures.there)))
+    (λ layout library place paid d frames w h.
+    let view = view_of (tables_of texts tuples layout) in
+    items.store_map view (starts_of view d) library place paid (frame_of view d) frames (world_over texts tuples w before) d.slots c.value_at-key.result c.value_at-v.result c.value_at-dict.result h.0 h.1.0 h.1.1)
+    c.take.ensures
+
+pub returns-clause-moved : goal.returns-clause-moved
+returns-clause-moved g c =
+    let texts = g.C.Constants.text_of c.args.consts.now in
+    let tuples = g.C.Constants.items_of c.args.consts.now in
+    let before = c.args.arena.now in
+    let old = c.args.frames.now in
+    changed texts tuples (without c.args.end 2) old c.take.new.frames c.take.result c.store_pair-given.result c.take.ensures
+
+pub returns-clause-leaves : goal.returns-clause-leaves
+returns-clause-leaves g c =
+    let texts = g.C.Constants.text_of c.args.consts.now in
+    let tuples = g.C.Constants.items_of c.args.consts.now in
+    let before = c.args.arena.now in
+    let old = c.args.frames.now in
+    leaves texts tuples (λ (v : Value). without c.args.end 2) old c.take.new.frames c.take.result before c.store_pair-given.new.arena c.store_pair-given.result 0 _
+    (of_effect texts tuples before c.store_pair-given.new.arena c.store_pair-given.result _ c.store_pair-given.ensures) c.take.ensures

@@ -1,0 +1,4 @@
+pub mod Effects
+pub mod Operations
+pub mod Settled
+pub mod Slots

@@ -1,5 +1,0 @@
-use Rattle.image_base.proofs.Texts.{TakenTo}
-use Rattle.image_base.proofs.base.copy_texts.Given as goal
-
-abbrev pub invariant-loop-place : goal.invariant-loop-place
-invariant-loop-place l = TakenTo l.lib.pool l.place l.pool

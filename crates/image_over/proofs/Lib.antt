@@ -1,4 +1,0 @@
-pub mod Base
-pub mod Behind
-pub mod Opened
-pub mod Results

@@ -1,6 +1,0 @@
-use Rattle.std.proofs.Common.{◌≡◌, ◌++◌, length}
-use Rattle.std.specs.Vec.Iter.{into_iter_items, into_iter_len}
-use Rattle.image_over.proofs.copies.append.Given as goal
-
-abbrev pub invariant-loop-entry : goal.invariant-loop-entry
-invariant-loop-entry l = (l.entries.items ++ into_iter_items l.entry-iterator ≡ l.initial.entries.items ++ into_iter_items l.initial.entry-iterator) × (into_iter_len l.entry-iterator ≡ length (into_iter_items l.entry-iterator))

@@ -1,5 +1,0 @@
-use Rattle.image_over.proofs.Behind.{Copied}
-use Rattle.image_over.proofs.copies.copies.Given as goal
-
-abbrev pub invariant-loop-number : goal.invariant-loop-number
-invariant-loop-number l = Copied l.lib.modules l.number l.entries.items

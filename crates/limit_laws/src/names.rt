@@ -1,0 +1,10 @@
+//! The names that every file may give by number.
+
+ghost use Rattle.std.specs.Prelude.{◌≡◌};
+ghost use Rattle.qstr_pool.specs.Static.{static_texts};
+ghost use Rattle.limit_laws.specs.Names.{known_names};
+
+/// The table of names has those that are written out, in their order.
+pub fn names_law()
+    ensures { static_texts ≡ known_names }
+{}

@@ -1,0 +1,6 @@
+pub mod GoMeaning
+pub mod ImageMeaning
+pub mod Making
+pub mod Meaning
+pub mod Running
+pub mod Sources

@@ -1,0 +1,4 @@
+pub mod Alike
+pub mod GoMeant
+pub mod Made
+pub mod Meant

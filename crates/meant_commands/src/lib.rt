@@ -1,0 +1,11 @@
+//! What commands mean: runs of files and images say of their programs what these mean, and loading and running end
+//! in one way.
+#![tactic(auto)]
+
+mod going;
+mod meant;
+
+pub use going::{run_law, sources_law};
+pub use meant::{
+    crossed_holds_law, go_means_law, holds_law, image_holds_law, makes_law, run_means_law,
+};

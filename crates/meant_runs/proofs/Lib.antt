@@ -1,0 +1,4 @@
+mod Early
+mod Links
+mod Means
+mod Meant

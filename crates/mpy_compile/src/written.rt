@@ -1,0 +1,31 @@
+//! The module of a source may be written.
+
+ghost use Rattle.std.specs.Prelude.{ℕ};
+ghost use Rattle.mpy_base.specs.declared.limits.TheConstants.{MAX_DEPTH};
+ghost use Rattle.mpy_writer.specs.mpy_tree.declared.module.ModuleCode.{ModuleCode};
+ghost use Rattle.mpy_writer.specs.mpy_tree.File.{IsAscii};
+ghost use Rattle.mpy_writer.specs.Writable.{IsShallow, IsWritable};
+ghost use Rattle.mpy_compile.specs.Texts.{TextsFit};
+ghost use Rattle.py_tree.specs.declared.stmt.Module.{Module};
+ghost use Rattle.py_tree.specs.Formed.{IsFormed};
+ghost use Rattle.py_scopes.specs.Scopes.{IsFaultless};
+ghost use Rattle.py_meaning.specs.Tree.{Name};
+ghost use Rattle.emit_module.specs.First.{AreWithin};
+ghost use Rattle.emit_module.specs.Module.{source_of, IsTranslated};
+
+use crate::within::{module_law, within_law};
+use emit_module::emit_measures::lengths_law;
+use emit_module::tr_source::{limits_law, spelled_law};
+
+/// The module of an accepted source of whose texts none passes a limit is one that may be written, where its stored name is ASCII,
+/// no text in it is longer than a file, and its codes nest no deeper than a file's.
+pub fn written_law()
+    ensures { (file : Name) (level : ℕ) (tree : Module) (whole : ModuleCode) → IsFormed tree → IsFaultless tree → AreWithin (source_of file level tree)
+        → IsTranslated (source_of file level tree) whole → IsAscii file → IsShallow MAX_DEPTH whole.code → TextsFit whole → IsWritable whole }
+{
+    lengths_law();
+    within_law();
+    module_law();
+    spelled_law();
+    limits_law();
+}

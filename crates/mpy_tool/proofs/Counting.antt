@@ -1,0 +1,58 @@
+-- Calls that failed are told by the status.
+use Rattle.std.proofs.Common.{ℕ, Option, Some, None, inl, inr}
+use Rattle.image_grammar.specs.bc_library.Shelf.{Shelf, no_entries}
+use Rattle.mpy_words.specs.declared.order.Command.{Command}
+use Rattle.mpy_words.specs.declared.order.Command.TheVariants.{Go, Check, CheckAs, Dump, Cross, Merge, Freeze, Migrate, Run, Board, Stress}
+use Rattle.mpy_words.specs.declared.order.Order.{Order}
+use Rattle.run_commands.specs.Run.{room_of}
+use Rattle.mpy_endings.proofs.Statuses.{folder_stays, out_stays}
+use Rattle.stress_command.specs.Stress.{EndsStress}
+use Rattle.mpy_tool.specs.Below.{Based}
+use Rattle.mpy_tool.specs.Call.{Call, LeavesCounts, ShowsPorts}
+use Rattle.mpy_tool.specs.Doing.{ActsBy, Finishes, RunsBy, ObeysBy}
+use Rattle.mpy_tool.specs.Order.{base_by}
+
+module _ (order : Order) (call : Call) (below : Shelf) where
+  finish_stays : (command : Command) → Finishes order call below command → LeavesCounts call
+  finish_stays command h unread unwritten = (
+    folder_stays h.ending call.status h.status_is unread unwritten call.old.folder_faults call.new.folder_faults h.folder_counts,
+    out_stays h.ending call.status h.status_is unread unwritten call.old.out_faults call.new.out_faults h.out_counts,
+  )
+
+  run_stays : (command : Command) → RunsBy order call below command → LeavesCounts call
+  run_stays command h unread unwritten = (
+    folder_stays h.ending call.status h.status_is unread unwritten call.old.folder_faults call.new.folder_faults h.folder_counts,
+    out_stays h.ending call.status h.status_is unread unwritten call.old.out_faults call.new.out_faults h.out_counts,
+  )
+
+  stress_stays : ShowsPorts call (EndsStress order.seed order.count (room_of order) order.steps) → LeavesCounts call
+  stress_stays (inl h) unread unwritten = (
+    folder_stays h.goes.ending call.status h.goes.status_is unread unwritten call.old.folder_faults call.new.folder_faults h.goes.folder_counts,
+    out_stays h.goes.ending call.status h.goes.status_is unread unwritten call.old.out_faults call.new.out_faults h.goes.out_counts,
+  )
+  stress_stays (inr (inl h)) unread unwritten = absurd (unwritten h.status_is)
+  stress_stays (inr (inr h)) unread unwritten = (
+    folder_stays h.goes.ending call.status h.goes.status_is unread unwritten call.old.folder_faults call.new.folder_faults h.goes.folder_counts,
+    out_stays h.goes.ending call.status h.goes.status_is unread unwritten call.old.out_faults call.new.out_faults h.goes.out_counts,
+  )
+
+  acts_stay : (command : Command) → ActsBy order call below command → LeavesCounts call
+  acts_stay Go h = run_stays Go h
+  acts_stay Check h = finish_stays Check h
+  acts_stay CheckAs h = finish_stays CheckAs h
+  acts_stay Dump h = finish_stays Dump h
+  acts_stay Cross h = finish_stays Cross h
+  acts_stay Merge h = finish_stays Merge h
+  acts_stay Freeze h = finish_stays Freeze h
+  acts_stay Migrate h = finish_stays Migrate h
+  acts_stay Run h = run_stays Run h
+  acts_stay Board h = finish_stays Board h
+  acts_stay Stress h = stress_stays h
+
+pub obeys_stay : (order : Order) (call : Call) (command : Command) → ObeysBy order call command → LeavesCounts call
+obeys_stay order call command h = by (base_by command order.base) h where
+  by : (base : Option ℕ) → Based call base (λ below. ActsBy order call below command) → LeavesCounts call
+  by None h unread unwritten = acts_stay order call no_entries command h unread unwritten
+  by (Some at) (inl h) unread unwritten =
+      (folder_stays h.0.ending call.status h.0.status_is unread unwritten call.old.folder_faults call.new.folder_faults h.0.folder_counts, h.0.out_counts)
+  by (Some at) (inr h) unread unwritten = acts_stay order call h.below command h.went unread unwritten

@@ -1,0 +1,13 @@
+pub mod Bound
+pub mod BuiltinNames
+pub mod CallFamilies
+pub mod Callable
+pub mod DefaultSteps
+pub mod FamilyEffects
+pub mod FreeBuiltins
+pub mod FreeMethods
+pub mod FreeOutcomes
+pub mod Judged
+pub mod KeywordSlots
+pub mod MethodNames
+pub mod Values

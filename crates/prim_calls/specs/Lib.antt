@@ -1,0 +1,5 @@
+pub mod Binding
+pub mod Callees
+pub mod Calls
+pub mod Families
+pub mod Slots

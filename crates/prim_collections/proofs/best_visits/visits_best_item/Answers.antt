@@ -1,0 +1,32 @@
+use Rattle.std.proofs.Common.{◌≡◌, min, true, false, sym, ap, ◌∙◌, arith}
+use Rattle.mpy_base.specs.Val.{Val}
+use Rattle.prim_builtins.specs.py_primitives.Outcome.{Outcome}
+use Rattle.prim_builtins.specs.prim_walks.Plain.{plain_heap}
+use Rattle.prim_collections.specs.Collected.{is_str, is_iterable}
+use Rattle.prim_collections.specs.Best.{plain_extreme}
+use Rattle.prim_collections.proofs.BestOutcomes.{items_searched, other_searched}
+use Rattle.prim_collections.proofs.best_visits.visits_best_item.Goals as goal
+
+pub returns-then-is_iterable : goal.returns-then-is_iterable
+returns-then-is_iterable g c =
+    let texts = g.C.Constants.text_of c.args.consts.now in
+    let tuples = g.C.Constants.items_of c.args.consts.now in
+    let h = c.args.arena.now in
+    let heap = plain_heap texts tuples h in
+    let sign = plain_extreme c.args.extreme in
+    let v = c.args.over in
+    let iterable : is_iterable v ≡ true = sym c.is_iterable.ensures ∙ c.if-is_iterable.true in
+    let other : is_str v ≡ false = sym c.is_str.ensures ∙ c.if-is_str.false in
+    c.visits_best_value.ensures ∙ ap (λ (o : Outcome Val). min o.visits c.args.most) (sym (items_searched texts tuples h sign v c.requires.leads iterable other c.items_law.ensures.nested))
+
+pub returns-else-is_iterable : goal.returns-else-is_iterable
+returns-else-is_iterable g c =
+    let texts = g.C.Constants.text_of c.args.consts.now in
+    let tuples = g.C.Constants.items_of c.args.consts.now in
+    let h = c.args.arena.now in
+    let heap = plain_heap texts tuples h in
+    let sign = plain_extreme c.args.extreme in
+    let v = c.args.over in
+    let absent : is_iterable v ≡ false = sym c.is_iterable.ensures ∙ c.if-is_iterable.false in
+    let none = other_searched texts tuples h sign v c.requires.leads absent in
+    omega (arith, none)

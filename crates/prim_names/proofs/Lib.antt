@@ -1,0 +1,4 @@
+pub use Rattle.prim_methods.proofs.prim_assignments_lemmas
+pub mod Namespaces
+pub mod Stores
+pub mod StaticNames

@@ -1,0 +1,16 @@
+//! Names over an arena: globals and built-ins, locals, attributes of method calls and imports, displays and their pairs.
+#![tactic(auto)]
+
+mod attributes;
+mod builtins;
+mod displays;
+mod globals;
+mod locals;
+mod pairs;
+
+pub use attributes::{Looked, import_from, load_method};
+pub use displays::{make_dict, make_list};
+pub use globals::{delete_global, load_global, store_global};
+pub use locals::assigned;
+pub use pairs::store_pair;
+pub use prim_methods::{arena_heap, arena_objects, prim_assignments, prim_faults, prim_walks};

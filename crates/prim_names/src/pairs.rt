@@ -1,0 +1,28 @@
+//! Pairs of dicts that are made.
+
+ghost use Rattle.std.specs.Prelude.{[], ◌∷◌};
+ghost use Rattle.py_effects.specs.Names.{store_pair as stores};
+ghost use Rattle.prim_methods.specs.prim_faults.Sights.{under};
+ghost use Rattle.prim_raising.specs.Worlds.{Stands, HasEffect};
+
+use prim_methods::arena_heap::{Arena, Constants, Value};
+use prim_methods::prim_assignments::set_item;
+use prim_methods::prim_faults::{Fault, Stop, type_of};
+use prim_methods::prim_operators::{Container, container_of};
+
+/// Sets a pair of the dict that is made. Any other value is a fault.
+pub fn store_pair<C: Constants>(
+    arena: &mut Arena,
+    consts: &C,
+    object: Value,
+    key: Value,
+    v: Value,
+) -> Result<Value, Stop>
+    requires { under C.Constants consts.now Stands arena.old (object ∷ key ∷ v ∷ []) }
+    ensures { under C.Constants consts.now HasEffect arena.old arena.new result (λ w see. stores w (see.value object) (see.value key) (see.value v)) }
+{
+    match container_of(arena, object) {
+        Container::Dict(_) => set_item(arena, consts, object, key, v),
+        _ => Err(Stop::Raises(Fault::NotAssignable(type_of(arena, object)))),
+    }
+}

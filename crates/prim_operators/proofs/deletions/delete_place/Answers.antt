@@ -1,0 +1,68 @@
+use Rattle.std.proofs.Common.{◌≡◌, ℕ, ◌<◌, List, map, length, get_or, Option, Some, sym, ap, ◌∙◌, subst, arith}
+use Rattle.std.specs.Prelude.{OnSome}
+use Rattle.std.specs.List.{remove}
+use Rattle.std.proofs.lemmas.Option.{slice_get-get_or}
+use Rattle.mpy_base.specs.World.{Heap, ListObject, AList, items_at, room_at, with_list, object}
+use Rattle.mpy_base.specs.Val.{Val, Nil}
+use Rattle.prim_faults.specs.arena_heap.declared.value.Value.{Value}
+use Rattle.prim_faults.specs.arena_heap.declared.value.Value.TheVariants as values
+use Rattle.prim_faults.specs.arena_heap.Constants.{IsTold}
+use Rattle.prim_faults.specs.arena_objects.Keys.{AllTold}
+use Rattle.prim_faults.proofs.arena_objects_lemmas.Gifts.{given_list}
+use Rattle.prim_faults.proofs.arena_objects_lemmas.Tolds.{held_list}
+use Rattle.prim_faults.specs.py_values.Shown.{PlainHeap}
+use Rattle.prim_faults.specs.py_primitives.Outcome.{Outcome, gives}
+use Rattle.prim_faults.specs.prim_walks.Plain.{plain, plain_heap}
+use Rattle.prim_faults.proofs.Heaps.{list_put}
+use Rattle.prim_faults.proofs.Outcomes.{answered, raises_outcome}
+use Rattle.prim_operators.proofs.ItemFills.{told_put}
+use Rattle.prim_operators.proofs.ItemsShown.{length_plain}
+use Rattle.prim_operators.proofs.Removals.{map_remove, all_remove}
+use Rattle.prim_operators.proofs.deletions.delete_place.Goals as goal
+
+pub place_of-requires-clause-leads : goal.place_of-requires-clause-leads
+place_of-requires-clause-leads g c = record { meets = c.requires.list; small = tt }
+
+pub items_law-requires-clause-leads : goal.items_law-requires-clause-leads
+items_law-requires-clause-leads g c = record { meets = c.requires.list; small = tt }
+
+pub overflow_cast-at : goal.overflow_cast-at
+overflow_cast-at g c =
+    let texts = g.C.Constants.text_of c.args.consts.now in
+    let tuples = g.C.Constants.items_of c.args.consts.now in
+    let h = c.args.arena.now in
+    let heap = plain_heap texts tuples h in
+    let count = length_plain texts tuples h (values.List c.args.l) tt (record { meets = c.requires.list; small = tt }) tt in
+    omega (arith, c.in-Ok.ensures.within, count, c.items_law.ensures.few)
+
+pub returns-in-Ok : goal.returns-in-Ok
+returns-in-Ok g c =
+    let texts = g.C.Constants.text_of c.args.consts.now in
+    let tuples = g.C.Constants.items_of c.args.consts.now in
+    let h = c.args.arena.now in
+    let heap = plain_heap texts tuples h in
+    let l = c.args.l.cell in
+    let at = c.in-Ok.at in
+    let items = items_at h l in
+    let new = c.list_pop-item.new.arena in
+    let count = length_plain texts tuples h (values.List c.args.l) tt (record { meets = c.requires.list; small = tt }) tt ∙ ap (λ (xs : List Value). length xs) (given_list (object h.objects l) c.requires.list) in
+    let within : at < length items = omega (arith, c.in-Ok.ensures.within, count) in
+    let got : c.list_pop-item.result ≡ Some (get_or items at values.None) = c.list_pop-item.ensures.item ∙ slice_get-get_or items at values.None within in
+    let popped : new ≡ with_list h l (remove items at) = subst (λ (o : Option Value). OnSome o (new ≡ with_list h l (remove items at))) got c.list_pop-item.ensures.popped in
+    let told = told_put texts tuples h l AList c.requires.list c.requires.all_told (ListObject (remove items at) (room_at h l))
+    (all_remove (IsTold texts tuples) items at (held_list (IsTold texts tuples) (object h.objects l) c.requires.list (c.requires.all_told.told l))) in
+    let behind : with_list heap l (remove (map (plain texts tuples) items) at) ≡ plain_heap texts tuples new =
+    ap (λ (xs : List Val). with_list heap l xs) (sym (map_remove (plain texts tuples) items at)) ∙ (sym (list_put texts tuples h l (remove items at)) ∙ sym (ap (plain_heap texts tuples) popped)) in
+    let next : ℕ → Outcome Val = λ k. gives Nil (with_list heap l (remove (map (plain texts tuples) items) k)) in
+    answered texts tuples h new values.None _ c.list_pop-item.ensures.later (subst (λ (w : Heap Value ℕ). AllTold texts tuples w.objects) (sym popped) told) (record { meets = tt; small = tt }) tt
+    (c.in-Ok.ensures.place.follows next ∙ ap (λ (w : PlainHeap). gives Nil w) behind)
+
+pub returns-in-Err : goal.returns-in-Err
+returns-in-Err g c =
+    let texts = g.C.Constants.text_of c.args.consts.now in
+    let tuples = g.C.Constants.items_of c.args.consts.now in
+    let h = c.args.arena.now in
+    let heap = plain_heap texts tuples h in
+    let l = c.args.l.cell in
+    let next : ℕ → Outcome Val = λ k. gives Nil (with_list heap l (remove (map (plain texts tuples) (items_at h l)) k)) in
+    raises_outcome texts tuples h c.in-Err.fault _ c.requires.all_told c.in-Err.ensures.fault.known (c.in-Err.ensures.fault.follows next)

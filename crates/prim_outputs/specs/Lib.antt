@@ -1,0 +1,5 @@
+pub mod Ends
+pub mod PortCalls
+pub mod Prints
+pub mod Reports
+pub mod Rooms

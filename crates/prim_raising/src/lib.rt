@@ -1,0 +1,10 @@
+//! Raising over an arena: the exceptions of faults are made, and each exception that is raised gets its place.
+#![tactic(auto)]
+
+mod makings;
+mod place;
+mod raising;
+mod texts;
+
+pub use place::Place;
+pub use raising::{fault_at, raise_value, stop_at};

@@ -1,0 +1,12 @@
+use Rattle.std.proofs.Common.{refl}
+use Rattle.mpy_base.specs.declared.builtin.Builtin.TheVariants as builtins
+use Rattle.prim_builtins.specs.py_primitives.Calls.{Exactly}
+use Rattle.prim_builtins.proofs.Calls.{refused}
+use Rattle.prim_types.proofs.dicts.call_dict.Goals as goal
+
+pub returns-in-Err : goal.returns-in-Err
+returns-in-Err g c =
+    let texts = g.C.Constants.text_of c.args.consts.now in
+    let tuples = g.C.Constants.items_of c.args.consts.now in
+    let h = c.args.arena.now in
+    refused texts tuples h c.args.args.now c.args.keys.now builtins.Dict (Exactly 0) c.in-Err.fault c.requires.all_told c.in-Err.ensures.refused refl

@@ -1,0 +1,10 @@
+pub use Rattle.prim_builtins.specs.arena_heap
+pub use Rattle.prim_builtins.specs.arena_objects
+pub use Rattle.prim_builtins.specs.prim_faults
+pub use Rattle.prim_builtins.specs.prim_operators
+pub use Rattle.prim_builtins.specs.prim_walks
+pub use Rattle.prim_builtins.specs.py_primitives
+pub use Rattle.prim_builtins.specs.py_values
+pub mod Members
+pub mod Texts
+pub mod Types

@@ -1,0 +1,20 @@
+pub use Rattle.arena_objects.proofs as arena_objects_lemmas
+pub use Rattle.arena_objects.proofs.arena_heap_lemmas
+pub use Rattle.py_primitives.proofs.py_values_lemmas
+pub mod AsciiNames
+pub mod ContainSteps
+pub mod EqualSteps
+pub mod FoundKeys
+pub mod FoundPairs
+pub mod Identities
+pub mod LeafTexts
+pub mod OneSteps
+pub mod OrderSteps
+pub mod PenSteps
+pub mod PlainOrders
+pub mod PlainValues
+pub mod RangeTests
+pub mod RunSteps
+pub mod TextParts
+pub mod TextSteps
+pub mod WholeTexts

@@ -1,4 +1,0 @@
-mod Runs
-mod Translations
-mod MoreRuns
-mod MoreTranslations

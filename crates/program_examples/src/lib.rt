@@ -1,3 +1,0 @@
-//! Programs of every form, computed: the meaning of their sources, the run of their modules, and why those are the sources'
-//! translations. The expected values are those of a reference.
-#![tactic(auto)]

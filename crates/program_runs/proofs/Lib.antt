@@ -1,3 +1,0 @@
-mod Links
-mod Early
-mod Means

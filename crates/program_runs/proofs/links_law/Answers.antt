@@ -1,9 +1,0 @@
-use Rattle.std.proofs.Common.{subst}
-use Rattle.bc_library.specs.Shelf.{Shelf}
-use Rattle.vm_programs.specs.Programs.{FindsAll}
-use Rattle.program_runs.proofs.Links.{links}
-use Rattle.program_runs.proofs.links_law.Goals as goal
-
-pub returns : goal.returns
-returns c shelf p program is units =
-    links c.resolves_law.ensures.one shelf p.library (subst (λ (s : Shelf). FindsAll s p.library) is.shelf_is (c.program_law.ensures.finds p is.means)) program units

@@ -1,5 +1,0 @@
-use Rattle.program_sources.proofs.Trees.{of_source}
-use Rattle.program_sources.proofs.laws.imports_law.Goals as goal
-
-pub returns : goal.returns
-returns c source m t = of_source source m t

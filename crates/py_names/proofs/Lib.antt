@@ -1,4 +1,0 @@
-pub mod Tokens
-pub mod Layers
-pub mod Statements
-pub mod Sources

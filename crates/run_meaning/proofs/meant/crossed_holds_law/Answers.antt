@@ -1,5 +1,0 @@
-use Rattle.run_meaning.proofs.GoMeaning.{holds_crossed}
-use Rattle.run_meaning.proofs.meant.crossed_holds_law.Goals as goal
-
-pub returns : goal.returns
-returns c sources files path name main level program holds is = holds_crossed c.files_law.ensures.units sources files path name main level program holds is

@@ -1,5 +1,0 @@
-use Rattle.run_meaning.proofs.Meaning.{holds_built}
-use Rattle.run_meaning.proofs.meant.holds_law.Goals as goal
-
-pub returns : goal.returns
-returns c files name main program built = holds_built c.made_law.ensures.file c.built_law.ensures files name main program built

@@ -1,9 +1,0 @@
-use Rattle.run_commands.specs.Ready.{GoLibrary, RunLibrary}
-use Rattle.run_meaning.proofs.Meaning.{run_means}
-use Rattle.run_meaning.proofs.meant.run_means_law.Goals as goal
-
-pub returns-clause-run : goal.returns-clause-run
-returns-clause-run c main = run_means c.meant_law.ensures (RunLibrary main)
-
-pub returns-clause-source : goal.returns-clause-source
-returns-clause-source c level = run_means c.meant_law.ensures (GoLibrary level)

@@ -1,0 +1,5 @@
+mod Binary
+pub mod Changes
+mod Least
+mod Rooms
+pub mod Seen

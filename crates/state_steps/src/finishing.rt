@@ -1,0 +1,40 @@
+//! The ends of finallys.
+
+ghost use Rattle.std.specs.Prelude.{◌≡◌};
+ghost use Rattle.state_calls.specs.bc_rows.declared.row.Row.{Row as CodeRow};
+ghost use Rattle.state_calls.specs.prim_faults.Sights.{under};
+ghost use Rattle.state_calls.specs.vm_fetching.declared.operations.PlainOp.TheVariants as plain_ops;
+ghost use Rattle.state_values.specs.vm_states.Means.{Program};
+ghost use Rattle.state_exits.specs.Keeping.{KeepsCause};
+ghost use Rattle.state_exits.specs.Running.{fetched_plain, RunsWith};
+ghost use Rattle.state_steps.specs.Comes.{ComesOnBehind};
+
+use state_calls::arena_heap::{Arena, Constants};
+use state_calls::bc_rows::Rows;
+use state_calls::frame_exits::{End, ModuleName};
+use state_calls::prim_modules::Modules;
+use state_exits::end_finally_on;
+use state_values::bc_library::Library;
+use state_values::vm_frames::Frames;
+
+/// END_FINALLY, that was fetched for the running call: it goes on with what the finally kept. It answers how the run ends, if it
+/// does. It makes no visits.
+#[tactic(none)]
+pub fn finish<C: Constants>(
+    frames: &mut Frames,
+    arena: &mut Arena,
+    consts: &C,
+    library: &Library,
+    rows: &Rows<'_>,
+    modules: &mut Modules,
+    names: &[ModuleName],
+    end: u32,
+) -> Option<End>
+    requires runs { (row : CodeRow) × (h : under C.Constants consts.now RunsWith names.now library.now arena.old modules.old frames.old row (fetched_plain plain_ops.EndFinally end)) × KeepsCause h.runs.program frames.old }
+    requires rows { rows.now ≡ library.now }
+    ensures comes { (p : Program) (row : CodeRow) → p.shelf ≡ library.now → KeepsCause p frames.old → under C.Constants consts.now (ComesOnBehind p) names.now row (fetched_plain plain_ops.EndFinally end) 0 arena.old arena.new modules.old modules.new frames.old frames.new result }
+    ensures rooms { frames.new ≡ record frames.old { calls = frames.new.calls } }
+    ensures registry { modules.new.room ≡ modules.old.room }
+{
+    end_finally_on(frames, arena, consts, library, rows, modules, names, end)
+}

@@ -1,0 +1,15 @@
+pub use Rattle.vm_states.proofs.frame_moves_lemmas
+pub use Rattle.vm_states.proofs.frame_values_lemmas
+mod Collecting
+mod Constancy
+mod Doing
+mod Ending
+mod Finding
+mod Iterating
+mod Lacking
+mod Moves
+mod Shapes
+mod Shifting
+mod Stores
+mod Testing
+mod Visiting

@@ -1,0 +1,21 @@
+use Rattle.std.proofs.Common.{false}
+use Rattle.vm_states.specs.vm_fetching.declared.instruction.Instruction.TheVariants as fetched
+use Rattle.vm_states.specs.vm_fetching.declared.operations.JumpOp.TheVariants as jump_ops
+use Rattle.state_values.proofs.Finding as finding
+use Rattle.state_values.proofs.Shifting as shifting
+use Rattle.state_values.proofs.moving.setup_except.Goals as goal
+
+pub begin_except-requires : goal.begin_except-requires
+begin_except-requires g c = record { runs = finding.runs c.requires.runs }
+
+pub returns : goal.returns
+returns g c =
+    let texts = g.C.Constants.text_of c.args._consts.now in
+    let tuples = g.C.Constants.items_of c.args._consts.now in
+    let heap = c.args._arena.now in
+    let old = c.args.frames.now in
+    let new = c.begin_except.new.frames in
+    record {
+      acts = c.acting_law.ensures.moves texts tuples (record { instruction = fetched.Jump jump_ops.SetupExcept c.args.handler; end = c.args.end }) heap old new c.begin_except.ensures.goes
+          (shifting.set_up_on texts tuples heap.objects old new c.args.end c.args.handler false c.begin_except.ensures.moved);
+    }

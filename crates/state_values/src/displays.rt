@@ -1,0 +1,86 @@
+//! Displays, and sequences that are unpacked. Values are on their way in memory that the caller lends, a place for each.
+
+ghost use Rattle.std.specs.Prelude.{◌≡◌, length};
+ghost use Rattle.prim_names.specs.prim_faults.Sights.{under};
+ghost use Rattle.vm_states.specs.vm_fetching.declared.instruction.Instruction.TheVariants as fetched;
+ghost use Rattle.vm_states.specs.vm_fetching.declared.operations.NumberOp.TheVariants as number_ops;
+ghost use Rattle.vm_states.specs.Acting.{RunsOver};
+ghost use Rattle.state_values.specs.Keeping.{ActsKeeping};
+
+use crate::law::acting_law;
+use prim_names::arena_heap::{Arena, Constants, Value};
+use prim_names::prim_faults::Stop;
+use vm_states::tops_law;
+use vm_states::vm_frames::Frames;
+
+/// BUILD_TUPLE, where a place is lent for each item.
+pub(crate) fn build_tuple<C: Constants>(
+    frames: &mut Frames,
+    arena: &mut Arena,
+    consts: &C,
+    items: &mut [Value],
+    n: u32,
+    end: u32,
+) -> Result<(), Stop>
+    requires places { length items.old ≡ n }
+    requires runs { under C.Constants consts.now RunsOver arena.old frames.old (record { instruction = fetched.Number number_ops.BuildTuple n; end = end }) }
+    ensures acts { under C.Constants consts.now ActsKeeping (record { instruction = fetched.Number number_ops.BuildTuple n; end = end }) 0 arena.old arena.new frames.old frames.new result }
+{
+    acting_law();
+    tops_law();
+    let _ = n;
+    vm_states::frame_values::build_tuple(frames, arena, consts, items, end)
+}
+
+/// BUILD_LIST, where a place is lent for each item.
+pub(crate) fn build_list<C: Constants>(
+    frames: &mut Frames,
+    arena: &mut Arena,
+    consts: &C,
+    items: &mut [Value],
+    n: u32,
+    end: u32,
+) -> Result<(), Stop>
+    requires places { length items.old ≡ n }
+    requires runs { under C.Constants consts.now RunsOver arena.old frames.old (record { instruction = fetched.Number number_ops.BuildList n; end = end }) }
+    ensures acts { under C.Constants consts.now ActsKeeping (record { instruction = fetched.Number number_ops.BuildList n; end = end }) 0 arena.old arena.new frames.old frames.new result }
+{
+    acting_law();
+    tops_law();
+    let _ = n;
+    vm_states::frame_values::build_list(frames, arena, consts, items, end)
+}
+
+/// BUILD_MAP, with room for a number of pairs.
+pub(crate) fn build_map<C: Constants>(
+    frames: &mut Frames,
+    arena: &mut Arena,
+    consts: &C,
+    pairs: u32,
+    end: u32,
+) -> Result<(), Stop>
+    requires runs { under C.Constants consts.now RunsOver arena.old frames.old (record { instruction = fetched.Number number_ops.BuildMap pairs; end = end }) }
+    ensures acts { under C.Constants consts.now ActsKeeping (record { instruction = fetched.Number number_ops.BuildMap pairs; end = end }) 0 arena.old arena.new frames.old frames.new result }
+{
+    acting_law();
+    vm_states::frame_values::build_map(frames, arena, consts, pairs, end)
+}
+
+/// UNPACK_SEQUENCE, where a place is lent for each item.
+pub(crate) fn unpack_sequence<C: Constants>(
+    frames: &mut Frames,
+    arena: &mut Arena,
+    consts: &C,
+    items: &mut [Value],
+    n: u32,
+    end: u32,
+) -> Result<(), Stop>
+    requires places { length items.old ≡ n }
+    requires runs { under C.Constants consts.now RunsOver arena.old frames.old (record { instruction = fetched.Number number_ops.UnpackSequence n; end = end }) }
+    ensures acts { under C.Constants consts.now ActsKeeping (record { instruction = fetched.Number number_ops.UnpackSequence n; end = end }) 0 arena.old arena.new frames.old frames.new result }
+{
+    acting_law();
+    tops_law();
+    let _ = n;
+    vm_states::frame_values::unpack_sequence(frames, arena, consts, items, end)
+}

@@ -1,0 +1,46 @@
+//! Operations on iterators, as they were fetched for calls of a program.
+
+ghost use Rattle.vm_states.specs.vm_fetching.declared.instruction.Instruction.TheVariants as fetched;
+ghost use Rattle.prim_names.specs.prim_faults.Sights.{under};
+ghost use Rattle.vm_states.specs.vm_fetching.declared.operations.JumpOp.TheVariants as jump_ops;
+ghost use Rattle.vm_states.specs.vm_fetching.declared.operations.PlainOp.TheVariants as plain_ops;
+ghost use Rattle.state_values.specs.Moving.{fetched_plain};
+ghost use Rattle.vm_states.specs.Acting.{RunsOver};
+ghost use Rattle.state_values.specs.Keeping.{ActsKeeping};
+
+use crate::law::acting_law;
+use prim_names::arena_heap::{Arena, Constants};
+use prim_names::prim_faults::Stop;
+use vm_states::tops_law;
+use vm_states::vm_frames::Frames;
+
+/// GET_ITER_STACK.
+pub(crate) fn get_iter_stack<C: Constants>(
+    frames: &mut Frames,
+    arena: &Arena,
+    consts: &C,
+    end: u32,
+) -> Result<(), Stop>
+    requires runs { under C.Constants consts.now RunsOver arena.now frames.old (fetched_plain plain_ops.GetIterStack end) }
+    ensures acts { under C.Constants consts.now ActsKeeping (fetched_plain plain_ops.GetIterStack end) 0 arena.now arena.now frames.old frames.new result }
+{
+    acting_law();
+    tops_law();
+    vm_states::frame_values::get_iter_stack(frames, arena, consts, end)
+}
+
+/// FOR_ITER.
+pub(crate) fn for_iter<C: Constants>(
+    frames: &mut Frames,
+    arena: &mut Arena,
+    consts: &C,
+    target: u32,
+    end: u32,
+) -> Result<(), Stop>
+    requires runs { under C.Constants consts.now RunsOver arena.old frames.old (record { instruction = fetched.Jump jump_ops.ForIter target; end = end }) }
+    ensures acts { under C.Constants consts.now ActsKeeping (record { instruction = fetched.Jump jump_ops.ForIter target; end = end }) 0 arena.old arena.new frames.old frames.new result }
+{
+    acting_law();
+    tops_law();
+    vm_states::frame_values::for_iter(frames, arena, consts, target, end)
+}

@@ -1,0 +1,36 @@
+//! Instructions of a program that runs over an arena which act on values and frames, and leave the running
+//! call running.
+#![tactic(auto)]
+
+mod attributes;
+mod branching;
+mod constants;
+mod displays;
+mod iterators;
+mod jumping;
+mod law;
+mod loading;
+mod locals;
+mod moving;
+mod names;
+mod operating;
+mod operators;
+mod slot_moves;
+mod storing;
+mod subscripts;
+
+pub use branching::jump_by;
+pub use constants::constants_law;
+pub use jumping::{begin_except, begin_finally, end_except, jump_on, jump_out};
+pub use law::acting_law;
+pub use loading::{load_constant, load_small, load_str};
+pub use moving::{
+    jump, load_int, load_object, load_text, move_on, store_fast, store_fast_n, unwind_jump,
+};
+pub use operating::{attribute_on, jump_to, name_on, number_on, plain_on};
+pub use operators::{binary_op, unary_op, visits_binary_op};
+pub use prim_names;
+pub use slot_moves::move_slots;
+pub use storing::store_local;
+pub use vm_states;
+pub use vm_states::{bc_library, frame_values, vm_fetching, vm_frames};

@@ -1,0 +1,201 @@
+//! Instructions that move frames alone, over an arena that stays.
+
+ghost use Rattle.vm_states.specs.vm_fetching.declared.instruction.Instruction.TheVariants as fetched;
+ghost use Rattle.prim_names.specs.prim_faults.Sights.{under};
+ghost use Rattle.vm_states.specs.vm_fetching.declared.operations.JumpOp.TheVariants as jump_ops;
+ghost use Rattle.vm_states.specs.vm_fetching.declared.operations.NameOp.TheVariants as name_ops;
+ghost use Rattle.vm_states.specs.vm_fetching.declared.operations.NumberOp.TheVariants as number_ops;
+ghost use Rattle.state_values.specs.Moving.{MovesSlots, fetched_plain};
+ghost use Rattle.vm_states.specs.Acting.{RunsOver};
+ghost use Rattle.state_values.specs.Keeping.{ActsKeeping};
+
+use crate::jumping::{begin_except, begin_finally, end_except, jump_on, jump_out};
+use crate::law::acting_law;
+use crate::loading::{load_constant, load_small, load_str};
+use crate::slot_moves::move_slots;
+use crate::storing::store_local;
+use prim_names::arena_heap::{Arena, Constants, StrNo, Value};
+use prim_names::prim_faults::Stop;
+use vm_states::tops_law;
+use vm_states::vm_fetching::{NumberOp, PlainOp};
+use vm_states::vm_frames::Frames;
+
+/// An operation that moves slots alone.
+pub fn move_on<C: Constants>(
+    frames: &mut Frames,
+    _arena: &Arena,
+    _consts: &C,
+    op: PlainOp,
+    end: u32,
+) -> Result<(), Stop>
+    requires moves { MovesSlots op }
+    requires runs { under C.Constants _consts.now RunsOver _arena.now frames.old (fetched_plain op end) }
+    ensures acts { under C.Constants _consts.now ActsKeeping (fetched_plain op end) 0 _arena.now _arena.now frames.old frames.new result }
+{
+    acting_law();
+    move_slots(frames, op, end);
+    Ok(())
+}
+
+/// STORE_FAST in one byte.
+pub fn store_fast<C: Constants>(
+    frames: &mut Frames,
+    _arena: &Arena,
+    _consts: &C,
+    n: u32,
+    end: u32,
+) -> Result<(), Stop>
+    requires runs { under C.Constants _consts.now RunsOver _arena.now frames.old (record { instruction = fetched.Number number_ops.StoreFast n; end = end }) }
+    ensures acts { under C.Constants _consts.now ActsKeeping (record { instruction = fetched.Number number_ops.StoreFast n; end = end }) 0 _arena.now _arena.now frames.old frames.new result }
+{
+    acting_law();
+    tops_law();
+    store_local(frames, NumberOp::StoreFast, n, end);
+    Ok(())
+}
+
+/// STORE_FAST in more bytes.
+pub fn store_fast_n<C: Constants>(
+    frames: &mut Frames,
+    _arena: &Arena,
+    _consts: &C,
+    n: u32,
+    end: u32,
+) -> Result<(), Stop>
+    requires runs { under C.Constants _consts.now RunsOver _arena.now frames.old (record { instruction = fetched.Number number_ops.StoreFastN n; end = end }) }
+    ensures acts { under C.Constants _consts.now ActsKeeping (record { instruction = fetched.Number number_ops.StoreFastN n; end = end }) 0 _arena.now _arena.now frames.old frames.new result }
+{
+    acting_law();
+    tops_law();
+    store_local(frames, NumberOp::StoreFastN, n, end);
+    Ok(())
+}
+
+/// A small integer.
+pub fn load_int<C: Constants>(
+    frames: &mut Frames,
+    _arena: &Arena,
+    _consts: &C,
+    n: i32,
+    end: u32,
+) -> Result<(), Stop>
+    requires runs { under C.Constants _consts.now RunsOver _arena.now frames.old (record { instruction = fetched.Int n; end = end }) }
+    ensures acts { under C.Constants _consts.now ActsKeeping (record { instruction = fetched.Int n; end = end }) 0 _arena.now _arena.now frames.old frames.new result }
+{
+    acting_law();
+    load_small(frames, n, end);
+    Ok(())
+}
+
+/// A constant text.
+pub fn load_text<C: Constants>(
+    frames: &mut Frames,
+    _arena: &Arena,
+    _consts: &C,
+    text: StrNo,
+    end: u32,
+) -> Result<(), Stop>
+    requires runs { under C.Constants _consts.now RunsOver _arena.now frames.old (record { instruction = fetched.Name name_ops.LoadConstString text; end = end }) }
+    ensures acts { under C.Constants _consts.now ActsKeeping (record { instruction = fetched.Name name_ops.LoadConstString text; end = end }) 0 _arena.now _arena.now frames.old frames.new result }
+{
+    acting_law();
+    load_str(frames, text, end);
+    Ok(())
+}
+
+/// A constant of the module.
+pub fn load_object<C: Constants>(
+    frames: &mut Frames,
+    _arena: &Arena,
+    _consts: &C,
+    v: Value,
+    end: u32,
+) -> Result<(), Stop>
+    requires runs { under C.Constants _consts.now RunsOver _arena.now frames.old (record { instruction = fetched.Object v; end = end }) }
+    ensures acts { under C.Constants _consts.now ActsKeeping (record { instruction = fetched.Object v; end = end }) 0 _arena.now _arena.now frames.old frames.new result }
+{
+    acting_law();
+    load_constant(frames, v, end);
+    Ok(())
+}
+
+/// JUMP.
+pub fn jump<C: Constants>(
+    frames: &mut Frames,
+    _arena: &Arena,
+    _consts: &C,
+    target: u32,
+    end: u32,
+) -> Result<(), Stop>
+    requires runs { under C.Constants _consts.now RunsOver _arena.now frames.old (record { instruction = fetched.Jump jump_ops.Jump target; end = end }) }
+    ensures acts { under C.Constants _consts.now ActsKeeping (record { instruction = fetched.Jump jump_ops.Jump target; end = end }) 0 _arena.now _arena.now frames.old frames.new result }
+{
+    acting_law();
+    jump_on(frames, target, end);
+    Ok(())
+}
+
+/// SETUP_EXCEPT.
+pub(crate) fn setup_except<C: Constants>(
+    frames: &mut Frames,
+    _arena: &Arena,
+    _consts: &C,
+    handler: u32,
+    end: u32,
+) -> Result<(), Stop>
+    requires runs { under C.Constants _consts.now RunsOver _arena.now frames.old (record { instruction = fetched.Jump jump_ops.SetupExcept handler; end = end }) }
+    ensures acts { under C.Constants _consts.now ActsKeeping (record { instruction = fetched.Jump jump_ops.SetupExcept handler; end = end }) 0 _arena.now _arena.now frames.old frames.new result }
+{
+    acting_law();
+    begin_except(frames, handler, end);
+    Ok(())
+}
+
+/// SETUP_FINALLY.
+pub(crate) fn setup_finally<C: Constants>(
+    frames: &mut Frames,
+    _arena: &Arena,
+    _consts: &C,
+    handler: u32,
+    end: u32,
+) -> Result<(), Stop>
+    requires runs { under C.Constants _consts.now RunsOver _arena.now frames.old (record { instruction = fetched.Jump jump_ops.SetupFinally handler; end = end }) }
+    ensures acts { under C.Constants _consts.now ActsKeeping (record { instruction = fetched.Jump jump_ops.SetupFinally handler; end = end }) 0 _arena.now _arena.now frames.old frames.new result }
+{
+    acting_law();
+    begin_finally(frames, handler, end);
+    Ok(())
+}
+
+/// POP_EXCEPT_JUMP.
+pub(crate) fn pop_except_jump<C: Constants>(
+    frames: &mut Frames,
+    _arena: &Arena,
+    _consts: &C,
+    target: u32,
+    end: u32,
+) -> Result<(), Stop>
+    requires runs { under C.Constants _consts.now RunsOver _arena.now frames.old (record { instruction = fetched.Jump jump_ops.PopExceptJump target; end = end }) }
+    ensures acts { under C.Constants _consts.now ActsKeeping (record { instruction = fetched.Jump jump_ops.PopExceptJump target; end = end }) 0 _arena.now _arena.now frames.old frames.new result }
+{
+    acting_law();
+    end_except(frames, target, end);
+    Ok(())
+}
+
+/// UNWIND_JUMP.
+pub fn unwind_jump<C: Constants>(
+    frames: &mut Frames,
+    _arena: &Arena,
+    _consts: &C,
+    target: u32,
+    byte: u8,
+    end: u32,
+) -> Result<(), Stop>
+    requires runs { under C.Constants _consts.now RunsOver _arena.now frames.old (record { instruction = fetched.Unwind target byte; end = end }) }
+    ensures acts { under C.Constants _consts.now ActsKeeping (record { instruction = fetched.Unwind target byte; end = end }) 0 _arena.now _arena.now frames.old frames.new result }
+{
+    acting_law();
+    jump_out(frames, target, byte, end);
+    Ok(())
+}

@@ -1,0 +1,18 @@
+//! The names that a source takes from modules.
+
+ghost use Rattle.std.specs.Prelude.{◌≡◌, ℕ, List, true};
+ghost use Rattle.py_tokens.specs.declared.token.Token.{Token};
+ghost use Rattle.py_tokens.specs.Formed.{AreFormed};
+ghost use Rattle.py_tokens.specs.Tokens.{IsTokens};
+ghost use Rattle.py_tree.specs.declared.stmt.Module.{Module as Tree};
+ghost use Rattle.py_parser.specs.Grammar.{IsTree};
+ghost use Rattle.py_source.specs.declared.source.Accepted.{Accepted as Found};
+ghost use Rattle.py_source.specs.Source.{IsAccepted};
+ghost use Rattle.tr_source.specs.Names.{tokens_undotted, TakesUndotted};
+
+/// No name among the tokens of a source has a dot, and so none has that its tree takes from a module by `from`.
+pub fn undotted_law()
+    ensures tokens { (level : ℕ) (source : List ℕ) (list : List Token) → IsTokens level source list → tokens_undotted list ≡ true }
+    ensures tree { (list : List Token) (tree : Tree) → AreFormed list → tokens_undotted list ≡ true → IsTree list tree → TakesUndotted tree }
+    ensures source { (level : ℕ) (source : List ℕ) (accepted : Found) → IsAccepted level source accepted → TakesUndotted accepted.tree }
+{}

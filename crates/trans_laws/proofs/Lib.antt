@@ -1,0 +1,5 @@
+pub mod Alike
+mod Examples
+pub mod Fitting
+pub mod Flow
+pub mod Itself

@@ -1,5 +1,0 @@
-use Rattle.unit_files.proofs.Merged.{unit_file}
-use Rattle.unit_files.proofs.merged_law.Goals as goal
-
-pub returns : goal.returns
-returns c units files bytes m h r is = unit_file c.resolves_law.ensures.one c.file_law.ensures.one_module units files bytes m h r is

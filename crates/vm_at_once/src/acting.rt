@@ -1,0 +1,122 @@
+//! Instructions by their forms.
+
+ghost use Rattle.std.specs.Prelude.{◌≡◌, Ok, true, false};
+ghost use Rattle.prim_assignments.specs.prim_faults.Sights.{under};
+ghost use Rattle.state_values.specs.vm_fetching.declared.instruction.Instruction.TheVariants as fetched;
+ghost use Rattle.state_values.specs.Moving.{fetched_plain};
+ghost use Rattle.state_values.specs.vm_states.Acting.{RunsOver};
+ghost use Rattle.state_values.specs.Keeping.{ActsKeeping};
+ghost use Rattle.vm_at_once.specs.AtOnce.{ActsAtOnce};
+
+use crate::doing::done;
+use crate::items::{load_item, store_item};
+use crate::jumps::jump_at_once;
+use crate::locals::local_at_once;
+use crate::names::name_at_once;
+use crate::operators::binary_at_once;
+use prim_assignments::arena_heap::{Arena, Constants};
+use state_values::vm_fetching::{Fetched, Instruction, PlainOp};
+use state_values::vm_frames::Frames;
+use state_values::{load_int, load_object, move_on, unary_op};
+
+/// An operation without an operand: those that move slots alone are carried out.
+#[inline(always)]
+fn plain_at_once<C: Constants>(
+    frames: &mut Frames,
+    arena: &Arena,
+    consts: &C,
+    op: PlainOp,
+    end: u32,
+) -> Option<u64>
+    requires runs { under C.Constants consts.now RunsOver arena.now frames.old (fetched_plain op end) }
+    ensures { under C.Constants consts.now ActsAtOnce (fetched_plain op end) arena.now frames.old frames.new result }
+{
+    match op {
+        PlainOp::LoadConstFalse => done(move_on(frames, arena, consts, op, end)),
+        PlainOp::LoadConstNone => done(move_on(frames, arena, consts, op, end)),
+        PlainOp::LoadConstTrue => done(move_on(frames, arena, consts, op, end)),
+        PlainOp::LoadNull => done(move_on(frames, arena, consts, op, end)),
+        PlainOp::DupTop => done(move_on(frames, arena, consts, op, end)),
+        PlainOp::DupTopTwo => done(move_on(frames, arena, consts, op, end)),
+        PlainOp::PopTop => done(move_on(frames, arena, consts, op, end)),
+        PlainOp::RotTwo => done(move_on(frames, arena, consts, op, end)),
+        PlainOp::RotThree => done(move_on(frames, arena, consts, op, end)),
+        PlainOp::LoadSubscr => load_item(frames, arena, consts, end),
+        PlainOp::StoreSubscr
+        | PlainOp::EndFinally
+        | PlainOp::GetIterStack
+        | PlainOp::StoreMap
+        | PlainOp::ReturnValue
+        | PlainOp::RaiseLast
+        | PlainOp::RaiseObj => None,
+    }
+}
+
+/// Carries out what was fetched for the running call, if it changes that call alone and comes to no stop: constants, locals,
+/// names that are looked up, moves of slots, items of lists, jumps, iterators over lists and ranges, operators over one value, and over
+/// two small integers. It answers the visits
+/// that it makes; None where it is left.
+#[inline(always)]
+pub fn act_at_once<C: Constants>(
+    frames: &mut Frames,
+    arena: &Arena,
+    consts: &C,
+    fetched: Fetched,
+) -> Option<u64>
+    requires runs { under C.Constants consts.now RunsOver arena.now frames.old fetched }
+    ensures acts { under C.Constants consts.now ActsAtOnce fetched arena.now frames.old frames.new result }
+{
+    let end = fetched.end;
+    match fetched.instruction {
+        Instruction::Plain(op) => plain_at_once(frames, arena, consts, op, end),
+        Instruction::Number(op, n) => local_at_once(frames, arena, consts, op, n, end),
+        Instruction::Int(n) => done(load_int(frames, arena, consts, n, end)),
+        Instruction::Unary(number) => done(unary_op(frames, arena, consts, number, end)),
+        Instruction::Binary(number) => binary_at_once(frames, arena, consts, number, end),
+        Instruction::Name(op, text) => name_at_once(frames, arena, consts, op, text, end),
+        Instruction::Object(v) => done(load_object(frames, arena, consts, v, end)),
+        Instruction::Jump(op, target) => jump_at_once(frames, arena, consts, op, target, end),
+        Instruction::Unwind {
+            target: _target,
+            byte: _byte,
+        } => None,
+    }
+}
+
+/// An operation without an operand: one that sets an item is carried out.
+#[inline(always)]
+fn store_plain<C: Constants>(
+    frames: &mut Frames,
+    arena: &mut Arena,
+    consts: &C,
+    op: PlainOp,
+    end: u32,
+) -> bool
+    requires runs { under C.Constants consts.now RunsOver arena.old frames.old (fetched_plain op end) }
+    ensures done { result ≡ true → under C.Constants consts.now ActsKeeping (fetched_plain op end) 0 arena.old arena.new frames.old frames.new (Ok tt) }
+    ensures left { result ≡ false → (frames.new ≡ frames.old) × (arena.new ≡ arena.old) }
+{
+    match op {
+        PlainOp::StoreSubscr => store_item(frames, arena, consts, end),
+        _ => false,
+    }
+}
+
+/// Carries out what was fetched for the running call, if it sets an item of a list at a small integer that counts from its front.
+/// Whether it was done.
+#[inline(always)]
+pub fn store_at_once<C: Constants>(
+    frames: &mut Frames,
+    arena: &mut Arena,
+    consts: &C,
+    fetched: Fetched,
+) -> bool
+    requires runs { under C.Constants consts.now RunsOver arena.old frames.old fetched }
+    ensures done { result ≡ true → under C.Constants consts.now ActsKeeping fetched 0 arena.old arena.new frames.old frames.new (Ok tt) }
+    ensures left { result ≡ false → (frames.new ≡ frames.old) × (arena.new ≡ arena.old) }
+{
+    match fetched.instruction {
+        Instruction::Plain(op) => store_plain(frames, arena, consts, op, fetched.end),
+        _ => false,
+    }
+}

@@ -1,0 +1,111 @@
+//! Locals that are loaded and stored.
+
+ghost use Rattle.std.specs.Prelude.{◌<◌, length};
+ghost use Rattle.bc_progress.specs.bc_ops.declared.instr.Op.TheVariants as ops;
+ghost use Rattle.bc_progress.specs.bc_ops.declared.instr.Instr.TheVariants as instrs;
+ghost use Rattle.bc_progress.specs.bc_machine.Library.{Plain};
+ghost use Rattle.prim_assignments.specs.prim_faults.Sights.{under, TellsAll};
+ghost use Rattle.state_values.specs.vm_frames.Calls.{OfRunning};
+ghost use Rattle.state_values.specs.vm_fetching.declared.instruction.Instruction.TheVariants as fetched;
+ghost use Rattle.state_values.specs.vm_fetching.declared.operations.NumberOp.TheVariants as number_ops;
+ghost use Rattle.state_values.specs.frame_values.Effects.{Steps, Leaves};
+ghost use Rattle.state_values.specs.frame_values.Slots.{Puts, HasLocal, with_value};
+ghost use Rattle.state_values.specs.vm_states.Acting.{RunsOver};
+ghost use Rattle.vm_at_once.specs.AtOnce.{ActsAtOnce};
+
+use crate::doing::{done, go_with};
+use prim_assignments::arena_heap::{Arena, Constants};
+use prim_assignments::prim_faults::Stop;
+use state_values::prim_names::assigned;
+use state_values::vm_fetching::NumberOp;
+use state_values::vm_frames::{Frames, Slot};
+use state_values::{acting_law, store_fast, store_fast_n};
+
+/// LOAD_FAST, in one byte or in more, as `state_values::load_fast` does it.
+#[inline(always)]
+fn load<C: Constants>(
+    frames: &mut Frames,
+    arena: &Arena,
+    consts: &C,
+    n: u32,
+    end: u32,
+) -> Result<(), Stop>
+    requires room { OfRunning (λ c. length c.slots < frames.old.slot_room) frames.old.calls }
+    requires local { under C.Constants consts.now HasLocal arena.now.objects n frames.old.calls }
+    requires all_told { TellsAll C.Constants consts.now arena.now }
+    ensures short { under C.Constants consts.now Steps (Plain (instrs.Num ops.LoadFast n)) 0 end arena.now arena.now frames.old.calls frames.new.calls result }
+    ensures long { under C.Constants consts.now Steps (Plain (instrs.Num ops.LoadFastN n)) 0 end arena.now arena.now frames.old.calls frames.new.calls result }
+    ensures moved { under C.Constants consts.now Puts arena.now.objects (with_value end 0) frames.old frames.new result }
+    ensures leaves { under C.Constants consts.now Leaves arena.now arena.now result }
+{
+    let local = frames.local(n);
+    match assigned(arena, consts, local) {
+        Ok(v) => {
+            go_with(frames, Slot::Value(v), end);
+            Ok(())
+        }
+        Err(stop) => Err(stop),
+    }
+}
+
+/// LOAD_FAST in one byte.
+#[inline(always)]
+fn load_short<C: Constants>(
+    frames: &mut Frames,
+    arena: &Arena,
+    consts: &C,
+    n: u32,
+    end: u32,
+) -> Option<u64>
+    requires runs { under C.Constants consts.now RunsOver arena.now frames.old (record { instruction = fetched.Number number_ops.LoadFast n; end = end }) }
+    ensures { under C.Constants consts.now ActsAtOnce (record { instruction = fetched.Number number_ops.LoadFast n; end = end }) arena.now frames.old frames.new result }
+{
+    acting_law();
+    done(load(frames, arena, consts, n, end))
+}
+
+/// LOAD_FAST in more bytes.
+#[inline(always)]
+fn load_long<C: Constants>(
+    frames: &mut Frames,
+    arena: &Arena,
+    consts: &C,
+    n: u32,
+    end: u32,
+) -> Option<u64>
+    requires runs { under C.Constants consts.now RunsOver arena.now frames.old (record { instruction = fetched.Number number_ops.LoadFastN n; end = end }) }
+    ensures { under C.Constants consts.now ActsAtOnce (record { instruction = fetched.Number number_ops.LoadFastN n; end = end }) arena.now frames.old frames.new result }
+{
+    acting_law();
+    done(load(frames, arena, consts, n, end))
+}
+
+/// An operation with a number: those on locals are carried out, but the deletion.
+#[inline(always)]
+pub(crate) fn local_at_once<C: Constants>(
+    frames: &mut Frames,
+    arena: &Arena,
+    consts: &C,
+    op: NumberOp,
+    n: u32,
+    end: u32,
+) -> Option<u64>
+    requires runs { under C.Constants consts.now RunsOver arena.now frames.old (record { instruction = fetched.Number op n; end = end }) }
+    ensures { under C.Constants consts.now ActsAtOnce (record { instruction = fetched.Number op n; end = end }) arena.now frames.old frames.new result }
+{
+    match op {
+        NumberOp::LoadFast => load_short(frames, arena, consts, n, end),
+        NumberOp::LoadFastN => load_long(frames, arena, consts, n, end),
+        NumberOp::StoreFast => done(store_fast(frames, arena, consts, n, end)),
+        NumberOp::StoreFastN => done(store_fast_n(frames, arena, consts, n, end)),
+        NumberOp::DeleteFast
+        | NumberOp::BuildTuple
+        | NumberOp::BuildList
+        | NumberOp::BuildMap
+        | NumberOp::UnpackSequence
+        | NumberOp::MakeFunction
+        | NumberOp::MakeFunctionDefargs
+        | NumberOp::CallFunction
+        | NumberOp::CallMethod => None,
+    }
+}

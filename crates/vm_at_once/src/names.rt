@@ -1,0 +1,74 @@
+//! Names of modules that are looked up, and texts.
+
+ghost use Rattle.state_values.specs.vm_fetching.declared.instruction.Instruction.TheVariants as fetched;
+ghost use Rattle.prim_assignments.specs.prim_faults.Sights.{under};
+ghost use Rattle.state_values.specs.vm_fetching.declared.operations.NameOp.TheVariants as name_ops;
+ghost use Rattle.state_values.specs.vm_states.Acting.{RunsOver};
+ghost use Rattle.vm_at_once.specs.AtOnce.{ActsAtOnce};
+
+use crate::doing::done;
+use prim_assignments::arena_heap::{Arena, Constants, StrNo};
+use state_values::vm_fetching::NameOp;
+use state_values::vm_frames::Frames;
+use state_values::{acting_law, load_text};
+
+/// LOAD_NAME.
+#[inline(always)]
+fn load_name<C: Constants>(
+    frames: &mut Frames,
+    arena: &Arena,
+    consts: &C,
+    name: StrNo,
+    end: u32,
+) -> Option<u64>
+    requires runs { under C.Constants consts.now RunsOver arena.now frames.old (record { instruction = fetched.Name name_ops.LoadName name; end = end }) }
+    ensures { under C.Constants consts.now ActsAtOnce (record { instruction = fetched.Name name_ops.LoadName name; end = end }) arena.now frames.old frames.new result }
+{
+    acting_law();
+    done(state_values::frame_values::load_name(frames, arena, consts, name, end))
+}
+
+/// LOAD_GLOBAL.
+#[inline(always)]
+fn load_global<C: Constants>(
+    frames: &mut Frames,
+    arena: &Arena,
+    consts: &C,
+    name: StrNo,
+    end: u32,
+) -> Option<u64>
+    requires runs { under C.Constants consts.now RunsOver arena.now frames.old (record { instruction = fetched.Name name_ops.LoadGlobal name; end = end }) }
+    ensures { under C.Constants consts.now ActsAtOnce (record { instruction = fetched.Name name_ops.LoadGlobal name; end = end }) arena.now frames.old frames.new result }
+{
+    acting_law();
+    done(state_values::frame_values::load_name(frames, arena, consts, name, end))
+}
+
+/// A text that is loaded, or what has a name of the running call's module.
+#[inline(always)]
+pub(crate) fn name_at_once<C: Constants>(
+    frames: &mut Frames,
+    arena: &Arena,
+    consts: &C,
+    op: NameOp,
+    text: StrNo,
+    end: u32,
+) -> Option<u64>
+    requires runs { under C.Constants consts.now RunsOver arena.now frames.old (record { instruction = fetched.Name op text; end = end }) }
+    ensures { under C.Constants consts.now ActsAtOnce (record { instruction = fetched.Name op text; end = end }) arena.now frames.old frames.new result }
+{
+    match op {
+        NameOp::LoadConstString => done(load_text(frames, arena, consts, text, end)),
+        NameOp::LoadName => load_name(frames, arena, consts, text, end),
+        NameOp::LoadGlobal => load_global(frames, arena, consts, text, end),
+        NameOp::StoreName
+        | NameOp::StoreGlobal
+        | NameOp::DeleteName
+        | NameOp::DeleteGlobal
+        | NameOp::LoadAttr
+        | NameOp::LoadMethod
+        | NameOp::StoreAttr
+        | NameOp::ImportName
+        | NameOp::ImportFrom => None,
+    }
+}

@@ -1,3 +1,0 @@
-mod Empty
-mod Keeping
-mod OneRow

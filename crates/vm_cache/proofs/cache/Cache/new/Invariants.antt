@@ -1,6 +1,0 @@
-use Rattle.std.specs.Prelude.{All}
-use Rattle.vm_cache.specs.Kept.{is_empty}
-use Rattle.vm_cache.proofs.cache.Cache.new.Given as goal
-
-abbrev pub invariant-loop-number : goal.invariant-loop-number
-invariant-loop-number l = All (All is_empty) l.modules.items

@@ -1,5 +1,0 @@
-use Rattle.vm_cache.proofs.OneRow.{fetched_too}
-use Rattle.vm_cache.proofs.law.row_law.Goals as goal
-
-pub returns : goal.returns
-returns c shelf i k at fetched row of is = fetched_too shelf i k at of.row row fetched of.is_row is of.is_fetched

@@ -1,6 +1,0 @@
-use Rattle.std.proofs.Common.{◌≡◌, take, length}
-use Rattle.vm_calls.specs.Slots.{first_values}
-use Rattle.vm_calls.proofs.slots.put_arguments.Given as goal
-
-abbrev pub invariant-loop-at : goal.invariant-loop-at
-invariant-loop-at l = take l.at l.slots ≡ take l.at (first_values (length l.initial.slots) l.args)

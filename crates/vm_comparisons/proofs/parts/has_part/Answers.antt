@@ -1,6 +1,0 @@
-use Rattle.std.proofs.Common.{◌∙◌}
-use Rattle.vm_comparisons.proofs.TextParts.{part_found}
-use Rattle.vm_comparisons.proofs.parts.has_part.Goals as goal
-
-pub returns : goal.returns
-returns c = c.is_some.ensures ∙ part_found c.args.part.now c.args.bytes.now c.find.result c.find.ensures

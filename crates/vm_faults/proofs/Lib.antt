@@ -1,4 +1,0 @@
-pub mod Heaps
-pub mod Outcomes
-pub mod TypeNames
-pub mod Wordings

@@ -1,4 +1,0 @@
-pub mod Faults
-pub mod Outcomes
-pub mod Pieces
-pub mod Types

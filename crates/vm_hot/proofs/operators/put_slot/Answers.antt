@@ -1,6 +1,0 @@
-use Rattle.std.proofs.Common.{arith}
-use Rattle.vm_operating.proofs.vm_instructions_lemmas.Calls.{put_some}
-use Rattle.vm_hot.proofs.operators.put_slot.Goals as goal
-
-pub returns : goal.returns
-returns c = put_some c.args.slot 2 c.args.frames.now c.pop.new.self c.set_slot.new.self (omega arith) c.requires c.pop.ensures.rest c.set_slot.ensures

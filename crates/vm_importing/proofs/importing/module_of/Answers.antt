@@ -1,8 +1,0 @@
-use Rattle.vm_importing.specs.Importing.{registered, port}
-use Rattle.vm_importing.proofs.importing.module_of.Goals as goal
-
-pub returns-in-Some-clause-is : goal.returns-in-Some-clause-is
-returns-in-Some-clause-is g c = registered c.in-Some.m
-
-pub returns-in-None-clause-is : goal.returns-in-None-clause-is
-returns-in-None-clause-is g c = port

@@ -1,9 +1,0 @@
-pub mod DictHalves
-pub mod DictValues
-pub mod ItemPops
-pub mod ListFills
-pub mod ListPuts
-pub mod MethodCalls
-pub mod PairMakings
-pub mod Stopped
-pub mod Visits

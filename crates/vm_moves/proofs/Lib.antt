@@ -1,4 +1,0 @@
-mod Begins
-mod Lists
-mod Stays
-mod Walks

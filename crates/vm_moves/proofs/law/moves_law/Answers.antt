@@ -1,7 +1,0 @@
-use Rattle.vm_moves.proofs.Lists as lists
-use Rattle.vm_moves.proofs.Walks as walks
-use Rattle.vm_moves.proofs.Begins.{begins}
-use Rattle.vm_moves.proofs.law.moves_law.Goals as goal
-
-pub returns : goal.returns
-returns c = record { goes = lists.goes; raises = walks.raises; returns = walks.returns; jumps = walks.jumps; begins = begins; keeps = lists.keeps }

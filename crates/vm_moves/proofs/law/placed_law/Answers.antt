@@ -1,5 +1,0 @@
-use Rattle.vm_moves.proofs.Stays as stays
-use Rattle.vm_moves.proofs.law.placed_law.Goals as goal
-
-pub returns : goal.returns
-returns c = record { goes = stays.goes; sets_up = stays.sets_up; drops = stays.drops; raises = stays.raises; returns = stays.returns; jumps = stays.jumps; begins = stays.begins }

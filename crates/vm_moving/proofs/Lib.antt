@@ -1,3 +1,0 @@
-pub use Rattle.vm_states.proofs.vm_step_lemmas
-mod Moves
-mod Stores

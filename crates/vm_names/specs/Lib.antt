@@ -1,2 +1,0 @@
-pub use Rattle.vm_raising.specs as vm_raising
-pub mod Looks

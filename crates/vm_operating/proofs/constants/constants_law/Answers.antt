@@ -1,8 +1,0 @@
-use Rattle.vm_operating.proofs.Constancy as constancy
-use Rattle.vm_operating.proofs.constants.constants_law.Goals as goal
-
-pub returns-clause-object : goal.returns-clause-object
-returns-clause-object c = constancy.object_known
-
-pub returns-clause-int : goal.returns-clause-int
-returns-clause-int c = constancy.int_known

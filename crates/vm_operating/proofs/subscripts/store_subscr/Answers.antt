@@ -1,5 +1,0 @@
-use Rattle.vm_operating.proofs.Finding as finding
-use Rattle.vm_operating.proofs.subscripts.store_subscr.Goals as goal
-
-pub lacks_third-requires : goal.lacks_third-requires
-lacks_third-requires g c = (finding.stored c.requires.runs c.tops_law.ensures.stored c.requires.runs.ready.finds).2

@@ -1,7 +1,0 @@
-use Rattle.std.proofs.Common.{sym, subst}
-use Rattle.mpy_base.specs.declared.builtin.Builtin.{Builtin}
-use Rattle.vm_operators.specs.Attributes.{IsBuiltAttribute}
-use Rattle.vm_operators.proofs.attributes.built_attribute.Goals as goal
-
-pub returns-in-Port : goal.returns-in-Port
-returns-in-Port c = subst (λ (b : Builtin). IsBuiltAttribute b c.args.name.now c.port_attribute.result) (sym c.in-Port.is) c.port_attribute.ensures

@@ -1,8 +1,0 @@
-pub mod Fronts
-pub mod Named
-pub mod PortArguments
-pub mod PortNumbers
-pub mod PortRefusals
-pub mod PortsTold
-pub mod Putting
-pub mod Walked

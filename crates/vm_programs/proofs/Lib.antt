@@ -1,4 +1,0 @@
-mod Found
-mod Names
-mod Offsets
-mod Programs

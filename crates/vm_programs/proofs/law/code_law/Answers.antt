@@ -1,7 +1,0 @@
-use Rattle.vm_programs.proofs.Found.{code_for, module_of_row}
-use Rattle.vm_programs.proofs.law.code_law.Goals as goal
-
-pub returns : goal.returns
-returns c p i k row means is =
-    let n = module_of_row p i k row is in
-    code_for p i n.0 n.1 means c.offsets_law.ensures.each c.offsets_law.ensures.within c.rows_law.ensures.runs k row is

@@ -1,9 +1,0 @@
-use Rattle.std.proofs.Common.{sym}
-use Rattle.vm_walks.proofs.PenSteps.{wrote_as}
-use Rattle.vm_reports.proofs.ReportTexts.{other_text}
-use Rattle.vm_reports.proofs.reports.write_sole.Goals as goal
-
-pub returns-in_default : goal.returns-in_default
-returns-in_default g c =
-    let d = c.in_default in
-    wrote_as c.write-in_default.ensures (sym (other_text (g.C.Constants.text_of c.args.consts.now) (g.C.Constants.items_of c.args.consts.now) c.args.arena.now c.args.v d.not-None d.not-Bool d.not-Int d.not-Str d.not-Text c.requires.leads))

@@ -1,5 +1,0 @@
-mod Bounds
-mod Flow
-mod Items
-mod Onward
-mod Tops

@@ -1,5 +1,0 @@
-pub mod Changing
-pub mod Locals
-pub mod Stepping
-pub mod Testing
-pub mod Turning

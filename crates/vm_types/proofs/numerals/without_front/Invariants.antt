@@ -1,9 +1,0 @@
-use Rattle.std.proofs.Common.{◌≡◌, length}
-use Rattle.py_primitives.specs.Calls.{without_blanks}
-use Rattle.vm_types.proofs.numerals.without_front.Given as goal
-
-abbrev pub invariant-more : goal.invariant-more
-invariant-more l = without_blanks l.bytes ≡ without_blanks l.rest
-
-abbrev pub decreases-more : goal.decreases-more
-decreases-more l = length l.rest
