@@ -9,7 +9,6 @@ mod keys;
 mod ranges;
 mod strs;
 
-pub use arena_heap;
 pub use dicts::{dict_delete, dict_get, dict_set};
 pub use extend::{item_at, item_count, list_extend, make_byte, make_texts};
 pub use ranges::{range_count, range_number};

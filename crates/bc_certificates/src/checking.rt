@@ -12,12 +12,12 @@ ghost use Rattle.bc_certificates.specs.Rows as specs;
 ghost use Rattle.bc_certificates.specs.Rows.{Certifies, Keeps, at_if, brought, or_else, row};
 ghost use Rattle.bc_certificates.specs.Checking.{Begins, Falls, Lead, Stands, rows_of};
 
-use bc_flow::bc_shapes::{Entry, Kind, Shape, below, under};
 use bc_flow::{
     Action, Code, Edge, action_at, are_marked, base, change_of, copy, entries_behind, falls, finds,
     fits_entries, jump_edge, locals, next_edge, nothing, raise_edge, room, run_count, run_edge,
     stays,
 };
+use bc_shapes::{Entry, Kind, Shape, below, under};
 use mpy_base::NoMemory;
 use std::alloc::Global;
 use std::mem;

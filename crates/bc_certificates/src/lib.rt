@@ -9,7 +9,6 @@ mod checking;
 mod searching;
 mod spreading;
 
-pub use bc_flow;
 pub use checking::check;
 pub use searching::{certified, search};
 

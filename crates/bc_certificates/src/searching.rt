@@ -11,12 +11,12 @@ ghost use Rattle.bc_flow.specs.Views.{action_of};
 
 use crate::checking::check;
 use crate::spreading::spread;
-use bc_flow::bc_shapes::{Kind, Shape, Span, below, join, union};
 use bc_flow::{
     Action, Code, Edge, action_at, base, change_of, copy, entries_behind, falls, jump_edge,
     next_edge, nothing, raise_edge, run_count, run_edge, same_entries,
 };
 use bc_ops::{Item, Target};
+use bc_shapes::{Kind, Shape, Span, below, join, union};
 use mpy_base::NoMemory;
 use std::alloc::Global;
 use std::cmp::Reverse;

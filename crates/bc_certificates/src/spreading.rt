@@ -4,11 +4,11 @@
 ghost use Rattle.std.specs.Prelude.{◌<◌, length};
 
 use crate::searching::{Mark, mark_at, take_row};
-use bc_flow::bc_shapes::{Entry, Give, Gives, Kind, Shape, Span};
 use bc_flow::{
     Action, Change, Code, Edge, action_at, base, change_of, entries_behind, falls, gives,
     gives_there, left, next_edge, nothing, run_count, takes, target,
 };
+use bc_shapes::{Entry, Give, Gives, Kind, Shape, Span};
 use mpy_base::NoMemory;
 use std::alloc::Global;
 use std::mem;

@@ -11,7 +11,7 @@ use crate::library::{Library, Loaded, loaded_at};
 use crate::parts::Part;
 use crate::texts::known_number;
 use arena_heap::{ConstNo, Constants, StrNo, Value};
-use bc_verify::qstr_pool::{FIRST_OWN, Pool, static_text};
+use qstr_pool::{FIRST_OWN, Pool, static_text};
 
 /// What is kept of a constant.
 fn part_at(modules: &[Loaded], c: ConstNo) -> Option<&Part>

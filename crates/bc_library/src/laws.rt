@@ -9,7 +9,7 @@ ghost use Rattle.bc_library.specs.Shelf.{Named, module_at};
 ghost use Rattle.bc_library.specs.Texts.{text_numbered};
 
 use crate::library::Library;
-use bc_verify::qstr_pool::{FIRST_OWN, pool_law, static_law};
+use qstr_pool::{FIRST_OWN, pool_law, static_law};
 
 /// What holds of every library: it has few entries, and a text has one number in all its modules.
 pub fn library_law(lib: &Library)

@@ -9,8 +9,6 @@ mod library;
 mod parts;
 mod texts;
 
-pub use arena_heap;
-pub use bc_verify;
 pub use fault::{LibFault, Member};
 pub use laws::{library_law, modules_law};
 pub use library::Library;

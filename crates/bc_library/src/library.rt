@@ -18,11 +18,11 @@ use crate::greatest::greatest_in;
 use crate::parts::{Part, add_objects};
 use crate::texts::{Title, take_name, take_table};
 use arena_heap::Value;
-use bc_verify::mpy_tree::{RawModule, module_law};
-use bc_verify::qstr_pool::{FIRST_OWN, Full, Pool, pool_law, static_law};
 use bc_verify::{Verified, verified_law};
 use mpy_base::limits::{MAX_DEPTH, MAX_MODULES, MAX_TABLE};
 use mpy_base::{Items, NoMemory, Refused, Text};
+use mpy_tree::{RawModule, module_law};
+use qstr_pool::{FIRST_OWN, Full, Pool, pool_law, static_law};
 use std::alloc::{AllocFailed, Global};
 use std::marker::Model;
 

@@ -57,6 +57,3 @@ pub fn room_law()
 pub fn library_law()
     ensures { (library : Library) → AreVerified library → IsVerifiedLibrary library }
 {}
-
-pub use bc_machine;
-pub use bc_machine::py_values;

@@ -12,7 +12,7 @@ ghost use Rattle.bc_resolved.specs.Stored.{Stored, IsMachineModule, IsLibraryOf,
 
 use crate::verified::{file_law, module_law};
 use bc_progress::library_law;
-use bc_verify::mpy_tree::resolving_law;
+use mpy_tree::resolving_law;
 
 /// Each module that a file holds resolves to a tree, and to one alone.
 pub fn resolves_law()

@@ -6,8 +6,6 @@ mod law;
 mod row;
 mod rows;
 
-pub use bc_library;
-pub use bc_library::bc_verify;
 pub use law::rows_law;
 pub use row::Row;
 pub use rows::Rows;

@@ -10,7 +10,7 @@ ghost use Rattle.bc_rows.specs.Made.{AreIndexes, IsOwnCodeIn};
 ghost use Rattle.bc_rows.specs.Rows.{IsRowOf};
 
 use bc_library::Library;
-use bc_machine::bc_ops::{Instr, Item, Op, items_of};
+use bc_ops::{Instr, Item, Op, items_of};
 use bc_prelude::parts_of;
 use mpy_base::{Items, NoMemory, read_vuint};
 use std::alloc::Global;

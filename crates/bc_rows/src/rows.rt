@@ -10,7 +10,7 @@ ghost use Rattle.bc_rows.specs.Rows.{IsRow, module_named};
 
 use crate::codes::rows_of;
 use crate::row::Row;
-use bc_library::arena_heap::{Constants, StrNo};
+use arena_heap::{Constants, StrNo};
 use bc_library::{Library, Member, library_law};
 use mpy_base::limits::MAX_MODULES;
 use mpy_base::{Items, NoMemory};

@@ -9,6 +9,3 @@ ghost use Rattle.bc_scheme.specs.Merge.{merge_of};
 pub fn merge_law()
     ensures { (m : ResolvedModule) (ms : List ResolvedModule) → (merge_of m ms).source ≡ m.source }
 {}
-
-pub use bc_machine::{bc_ops, mpy_tree};
-pub use py_meaning;

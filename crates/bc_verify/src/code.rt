@@ -12,12 +12,12 @@ ghost use Rattle.bc_certificates.specs.bc_flow.Code.{code_of};
 
 use crate::fault::Rule;
 use crate::instruction::{Broken, first_broken, of_flow_rule};
-use bc_certificates::bc_flow::{Code, State, flow};
 use bc_certificates::certified;
+use bc_flow::{Code, State, flow};
+use bc_ops::items_of;
+use bc_prelude::parts_of;
 use mpy_base::NoMemory;
 use mpy_base::limits::MAX_CODE_BYTES;
-use mpy_tree::bc_ops::items_of;
-use mpy_tree::bc_prelude::parts_of;
 use mpy_tree::{RawCode, RawModule};
 use std::alloc::Global;
 

@@ -7,9 +7,9 @@ ghost use Rattle.bc_verify.specs.Rule.{of_flow};
 ghost use Rattle.bc_verify.specs.Rules.{IsMissing, Breaks, KeepsAll, IsFirstBroken};
 
 use crate::fault::Rule;
-use bc_certificates::bc_flow::{Code, Rule as FlowRule, fault_of};
+use bc_flow::{Code, Rule as FlowRule, fault_of};
+use bc_ops::{Instr, Item, Op};
 use mpy_tree::RawModule;
-use mpy_tree::bc_ops::{Instr, Item, Op};
 
 /// A rule that a code breaks, and the position where.
 #[derive(Clone, Copy)]

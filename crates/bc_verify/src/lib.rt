@@ -9,7 +9,5 @@ mod verified;
 
 pub use code::shapes;
 pub use fault::{Rule, VerifyFault};
-pub use mpy_tree;
-pub use mpy_tree::{bc_prelude, qstr_pool};
 pub use tree::count;
 pub use verified::{Verified, codes_law, known_verified, one_fault, order, verified_law, verify};

@@ -7,8 +7,8 @@ ghost use Rattle.command_files.specs.Opened.{failed_in};
 ghost use Rattle.board_command.specs.Plans.{HoldsPlan, RefusesPlan};
 
 use board_plan::{Plan, PlanFault, plan_law, read_plan};
-use command_files::mpy_endings::{BoardFault, Ending};
 use mpy_base::Refused;
+use mpy_endings::{BoardFault, Ending};
 use mpy_io::{Folder, ReadFault};
 use std::alloc::Global;
 

@@ -11,10 +11,10 @@ ghost use Rattle.board_command.specs.Boards.{Boards};
 ghost use Rattle.board_command.specs.Ends as spec;
 
 use crate::plan::planned;
+use bc_library::{Library, modules_law};
 use board_files::{BoardStop, run_board};
-use command_files::mpy_endings::{BoardFault, Ended, Ending};
 use command_files::open_image_file;
-use image_open::bc_library::{Library, modules_law};
+use mpy_endings::{BoardFault, Ended, Ending};
 use mpy_io::{Folder, Sink};
 use std::alloc::Global;
 

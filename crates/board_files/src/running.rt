@@ -17,14 +17,14 @@ use crate::files::begin_files;
 use crate::stop::{BoardStop, OutputStop, SummaryStop};
 use crate::summary::summarize;
 use crate::turns::make_turns;
+use bc_library::Library;
+use bc_rows::Rows;
 use board_plan::{Plan, Task};
 use board_tasks::{Board, BoardFault, stands_law};
 use mpy_base::{NoMemory, Refused};
 use mpy_io::{Folder, Sink};
 use std::alloc::Global;
 use vm_starting::Cache;
-use vm_starting::bc_library::Library;
-use vm_starting::bc_rows::Rows;
 
 /// The board of a plan's tasks.
 fn open_board(

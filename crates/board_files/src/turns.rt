@@ -13,13 +13,13 @@ ghost use Rattle.board_files.specs.Runs.{Goes, GoesBy, PaidWithin, StopsBy, Stop
 
 use crate::files::append_output;
 use crate::stop::OutputStop;
+use bc_library::Library;
+use bc_rows::Rows;
 use board_plan::Turn;
 use board_tasks::{Board, TurnEnd, stands_law};
 use mpy_io::{Folder, MemSink};
 use std::alloc::Global;
 use vm_starting::Cache;
-use vm_starting::bc_library::Library;
-use vm_starting::bc_rows::Rows;
 
 /// The steps that a task makes before its output goes to its file.
 const PART_STEPS: u64 = 1_000_000;

@@ -18,7 +18,7 @@ ghost use Rattle.board_tasks.specs.Opened.{IsOpened};
 ghost use Rattle.board_tasks.specs.Schedules.{board_run, total};
 ghost use Rattle.board_tasks.specs.Turns.{IsMade, Stands, StandsOn, TurnsSo};
 
-use vm_frames::bc_machine::{ended_law, runs_law};
+use bc_machine::{ended_law, runs_law};
 
 /// Behind every schedule the machine of each task stands where its own run comes to, alone, for the total of its own steps.
 pub fn board_law()

@@ -6,9 +6,9 @@ ghost use Rattle.vm_starting.specs.Programs.{IsRunnable};
 
 use crate::turning::TaskRun;
 use bc_library::{Library, Member};
+use bc_rows::Rows;
 use board_plan::Task;
 use mpy_base::{NoMemory, Text};
-use state_steps::bc_rows::Rows;
 use std::alloc::Global;
 use vm_machine::open;
 use vm_starting::program_law;

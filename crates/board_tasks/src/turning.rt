@@ -11,12 +11,12 @@ ghost use Rattle.board_tasks.specs.Turns.{TurnsSo};
 use crate::ending::{TaskEnd, TurnEnd};
 use arena_heap::exc_parts;
 use bc_library::Library;
+use bc_machine::{output_law, prefix_law, runs_law};
+use bc_rows::Rows;
+use frame_exits::End;
 use mpy_io::{Failed, ScriptPort, Sink};
 use port_set::PortSet;
-use state_steps::bc_rows::Rows;
-use state_steps::frame_exits::End;
 use std::alloc::Global;
-use vm_frames::bc_machine::{output_law, prefix_law, runs_law};
 use vm_machine::run;
 use vm_starting::{Cache, Vm};
 

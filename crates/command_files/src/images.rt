@@ -8,7 +8,7 @@ ghost use Rattle.command_files.specs.Images.{HoldsImage, RefusesImage};
 ghost use Rattle.command_files.specs.Opened.{failed_in};
 
 use crate::reading::read_file;
-use image_open::bc_library::Library;
+use bc_library::Library;
 use image_open::{open_image, over_law};
 use image_runs::MainFault;
 use mpy_base::{NoMemory, Refused};

@@ -5,11 +5,11 @@ ghost use Rattle.mpy_io.specs.Count.{Counts};
 ghost use Rattle.command_files.specs.Opened.{Opens, HoldsModule, Refuses, failed_in};
 
 use crate::reading::read_file;
-use image_open::bc_verify::{Verified, verify};
-use image_open::mpy_reader::read;
+use bc_verify::{Verified, verify};
 use mpy_base::Refused;
 use mpy_endings::Ending;
 use mpy_io::Folder;
+use mpy_reader::read;
 use std::alloc::Global;
 
 /// The verified module of a file's bytes, or what keeps it from being one.

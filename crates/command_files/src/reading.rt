@@ -6,9 +6,9 @@ ghost use Rattle.mpy_io.specs.Count.{Counts};
 ghost use Rattle.command_files.specs.Folder.{MayHold, IsNotRead};
 ghost use Rattle.command_files.specs.Opened.{failed_in};
 
-use image_open::mpy_reader::FileFault;
 use mpy_endings::Ending;
 use mpy_io::{Folder, ReadFault};
+use mpy_reader::FileFault;
 use std::alloc::Global;
 
 /// The bytes of the file of this name, or why it isn't read.

@@ -11,8 +11,8 @@ ghost use Rattle.emit_draft.specs.declared.codes.CodeLines.{CodeLines as Lines};
 ghost use Rattle.emit_draft.specs.Finished.{AreSmall, IsMade, AreMade, line_number, IsFinished, IsCodeOf, body_of};
 
 use crate::draft::{Draft, DraftItem, DraftLine};
-use bc_scheme::mpy_tree::{Code, Constant, Item};
 use mpy_base::{Items, NoMemory, Text};
+use mpy_tree::{Code, Constant, Item};
 use std::alloc::Global;
 
 /// What a code has beside its instructions and its children.

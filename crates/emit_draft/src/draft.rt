@@ -3,7 +3,7 @@
 ghost use Rattle.std.specs.Prelude.{◌≡◌, ◌+◌, ◌*◌, [], false, length, OnOk, IfOk, Some, None, slice_get};
 ghost use Rattle.emit_draft.specs.Places.{AreWithin};
 
-use bc_scheme::bc_ops::{Instr, Op};
+use bc_ops::{Instr, Op};
 use mpy_base::limits::{MAX_ARGUMENTS, MAX_ITEMS};
 use mpy_base::{Items, NoMemory, Text};
 use std::alloc::Global;

@@ -8,7 +8,7 @@ ghost use Rattle.emit_draft.specs.Emits.{IsItem};
 
 use crate::draft::DraftItem;
 use crate::scope::Scope;
-use bc_scheme::bc_ops::{Instr, Op};
+use bc_ops::{Instr, Op};
 use mpy_base::{NoMemory, Text};
 use std::alloc::Global;
 

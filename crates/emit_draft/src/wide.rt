@@ -6,7 +6,7 @@ ghost use Rattle.emit_draft.specs.Emits.{item_at, line_at};
 ghost use Rattle.emit_draft.specs.Wide.{wide_instr as wide_of, wide_item as wide_in, wide_length as wide_all};
 
 use crate::draft::{Draft, DraftItem};
-use bc_scheme::bc_ops::{Instr, Op};
+use bc_ops::{Instr, Op};
 
 /// How many bytes an instruction takes with its operand at its longest.
 fn wide_instr(instr: Instr) -> usize

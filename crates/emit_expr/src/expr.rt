@@ -5,7 +5,7 @@ ghost use Rattle.bc_scheme.specs.py_meaning.Plain.{plain_expr, exprs, operands, 
 ghost use Rattle.emit_expr.specs.Emits.{EmitsE, EmitsEs, EmitsLinks, EmitsD, EmitsK, EmitsCallee, joins, plain_links, plain_pairs, plain_keys};
 
 use crate::puts::{put_comparison, put_load, put_named, put_str};
-use bc_scheme::bc_ops::{Instr, Op};
+use bc_ops::{Instr, Op};
 use emit_draft::{Draft, DraftItem, Scope, arithmetic_number, unary_number};
 use mpy_base::{NoMemory, Text};
 use py_tree::{CompareOp, Expr};

@@ -4,5 +4,4 @@
 mod expr;
 mod puts;
 
-pub use emit_draft;
 pub use expr::emit_expr;

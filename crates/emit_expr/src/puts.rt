@@ -8,7 +8,7 @@ ghost use Rattle.emit_draft.specs.declared.draft.DraftItem.TheVariants as drafts
 ghost use Rattle.emit_draft.specs.declared.scope.Scope.{Scope as Names};
 ghost use Rattle.emit_expr.specs.Emits.{PutsAs, EmitsC};
 
-use bc_scheme::bc_ops::{Instr, Op};
+use bc_ops::{Instr, Op};
 use emit_draft::{Draft, DraftItem, Scope, comparing_number, is_negated, load_name};
 use mpy_base::{NoMemory, Text};
 use py_tree::CompareOp;

@@ -12,7 +12,7 @@ ghost use Rattle.emit_measures.specs.Named.{locals_in, HasOwnLocals, AllHaveOwnL
 ghost use Rattle.emit_measures.specs.Stands.{IsCodeOf};
 ghost use Rattle.emit_measures.specs.Wide.{wide_length};
 
-use bc_scheme::py_meaning::{params_law, slots_law};
+use py_meaning::{params_law, slots_law};
 
 /// In a faultless tree each local of a function is a parameter or is bound by the function itself.
 pub fn own_locals_law()

@@ -12,9 +12,9 @@ ghost use Rattle.emit_stmt.specs.emit_draft.Finished.{body_of};
 ghost use Rattle.emit_module.specs.Own.{IsWritten, IsJoined};
 ghost use Rattle.emit_module.specs.Joined.{HasChildren};
 
+use emit_draft::tree_law;
 use emit_measures::locals_law;
 use emit_stmt::children_law;
-use emit_stmt::emit_draft::tree_law;
 
 /// The finished code of a text's draft names all locals of the text, where these are its parameters and names that it
 /// binds itself, and its children are the codes of the text's own functions.

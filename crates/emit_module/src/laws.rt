@@ -20,8 +20,8 @@ ghost use Rattle.emit_module.specs.Found.{IsDefined, AllBegin};
 ghost use Rattle.emit_module.specs.Module.{IsResolved};
 ghost use Rattle.emit_module.specs.Own.{IsWritten, IsJoined};
 
+use emit_draft::tree_law;
 use emit_stmt::children_law;
-use emit_stmt::emit_draft::tree_law;
 
 /// The finished code of a text's draft stands for the text among all codes of its module, where its children are the
 /// codes of the text's own functions.

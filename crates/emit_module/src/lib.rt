@@ -9,11 +9,8 @@ mod own;
 mod text;
 mod walk;
 
-pub use emit_measures;
 pub use joined::joined_law;
 pub use laws::{faults_law, functions_law, resolved_law, stands_law};
 pub use lengths::draft_length_law;
 pub use module::emit;
 pub use own::{OwnCode, Place, own_code};
-pub use py_source;
-pub use tr_source;

@@ -12,8 +12,8 @@ ghost use Rattle.emit_stmt.specs.Parts.{plain_block};
 ghost use Rattle.emit_stmt.specs.emit_draft.Finished.{IsFinished};
 ghost use Rattle.emit_module.specs.Own.{HasLength, IsTextOf, IsCounted, IsOwn, IsRefused};
 
+use emit_draft::{CodeLines, Draft, Scope, finish, wide_length};
 use emit_measures::{Measures, block_entries, block_height, text_length, within_law};
-use emit_stmt::emit_draft::{CodeLines, Draft, Scope, finish, wide_length};
 use mpy_base::{NoMemory, Refused, SourceFault, Text};
 use py_tree::Stmt;
 use std::alloc::Global;

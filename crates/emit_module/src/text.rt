@@ -10,7 +10,7 @@ ghost use Rattle.emit_module.specs.Own.{IsTextOf};
 ghost use Rattle.emit_module.specs.Walk.{CodesText, IsHeadOf};
 
 use crate::own::{OwnCode, Place, own_code};
-use emit_stmt::emit_draft::{CodeHead, Scope};
+use emit_draft::{CodeHead, Scope};
 use emit_stmt::emit_text;
 use mpy_base::{Items, NoMemory, Refused, SourceFault, Text};
 use py_tree::{Param, Stmt};

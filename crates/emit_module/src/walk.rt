@@ -13,10 +13,10 @@ ghost use Rattle.emit_module.specs.Walk.{planted, planted_in, planted_by, front_
 
 use crate::own::{OwnCode, Place};
 use crate::text::{head_of, text_code};
+use emit_draft::{code_of, function_scope};
 use emit_measures::many_locals_fault;
-use emit_stmt::emit_draft::{code_of, function_scope};
 use mpy_base::{Items, NoMemory, Refused, SourceFault, Text};
-use mpy_writer::mpy_tree::Code;
+use mpy_tree::Code;
 use py_scopes::NameSlots;
 use py_tree::{Branch, Handler, Param, Stmt, StmtKind};
 use std::alloc::Global;

@@ -7,8 +7,8 @@ ghost use Rattle.emit_stmt.specs.declared.jumps.Loop.{Loop as Around};
 ghost use Rattle.emit_stmt.specs.SimpleEmits.{EmitsS};
 
 use crate::puts::{put_named, put_plain};
-use bc_machine::bc_ops::{Instr, Op};
-use emit_expr::emit_draft::{Draft, DraftItem, Scope};
+use bc_ops::{Instr, Op};
+use emit_draft::{Draft, DraftItem, Scope};
 use emit_expr::emit_expr;
 use mpy_base::NoMemory;
 use py_tree::Expr;

@@ -12,8 +12,8 @@ ghost use Rattle.emit_stmt.specs.SimpleEmits.{EmitsS};
 
 use crate::puts::{put_load, put_named, put_plain, put_store};
 use crate::targets::emit_target;
-use bc_machine::bc_ops::{Instr, Op};
-use emit_expr::emit_draft::{Draft, DraftItem, Scope, arithmetic_number};
+use bc_ops::{Instr, Op};
+use emit_draft::{Draft, DraftItem, Scope, arithmetic_number};
 use emit_expr::emit_expr;
 use mpy_base::NoMemory;
 use py_tree::{BinaryOp, Expr, Target};

@@ -7,8 +7,8 @@ ghost use Rattle.emit_expr.specs.Emits.{EmitsEs};
 ghost use Rattle.emit_stmt.specs.SimpleEmits.{EmitsMaking, EmitsDef};
 
 use crate::puts::{put_plain, put_store};
-use bc_machine::bc_ops::{Instr, Op};
-use emit_expr::emit_draft::{Draft, DraftItem, Scope};
+use bc_ops::{Instr, Op};
+use emit_draft::{Draft, DraftItem, Scope};
 use emit_expr::emit_expr;
 use mpy_base::NoMemory;
 use py_tree::{Expr, Param};

@@ -7,8 +7,8 @@ ghost use Rattle.emit_stmt.specs.declared.jumps.Loop.{Loop as Around};
 ghost use Rattle.emit_stmt.specs.SimpleEmits.{EmitsS};
 
 use crate::puts::put_plain;
-use bc_machine::bc_ops::Op;
-use emit_expr::emit_draft::{Draft, Scope};
+use bc_ops::Op;
+use emit_draft::{Draft, Scope};
 use emit_expr::emit_expr;
 use mpy_base::NoMemory;
 use py_tree::Expr;

@@ -9,8 +9,8 @@ ghost use Rattle.emit_stmt.specs.declared.jumps.Loop.{Loop as Around};
 ghost use Rattle.emit_stmt.specs.SimpleEmits.{EmitsR, EmitsM, EmitsN, EmitsF, EmitsS};
 
 use crate::puts::{put_named, put_plain, put_store};
-use bc_machine::bc_ops::{Instr, Op};
-use emit_expr::emit_draft::{Draft, DraftItem, Scope};
+use bc_ops::{Instr, Op};
+use emit_draft::{Draft, DraftItem, Scope};
 use mpy_base::NoMemory;
 use py_tree::Alias;
 use std::alloc::{AllocError, Global};

@@ -5,8 +5,8 @@ ghost use Rattle.emit_expr.specs.emit_draft.declared.scope.Scope.{Scope as Names
 ghost use Rattle.emit_stmt.specs.SimpleEmits.{EmitsJ};
 
 use crate::puts::put_plain;
-use bc_machine::bc_ops::Op;
-use emit_expr::emit_draft::{Draft, DraftItem};
+use bc_ops::Op;
+use emit_draft::{Draft, DraftItem};
 use mpy_base::NoMemory;
 
 /// The loop around. Where there is none, both labels are the code's end.

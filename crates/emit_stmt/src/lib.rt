@@ -17,7 +17,6 @@ mod text;
 
 pub use blocks::emit_block;
 pub use defs::emit_def;
-pub use emit_expr::emit_draft;
 pub use jumps::Loop;
 pub use laws::children_law;
 pub use puts::{put_delete, put_store};

@@ -7,8 +7,8 @@ ghost use Rattle.emit_expr.specs.emit_draft.Draft.{Puts};
 ghost use Rattle.emit_expr.specs.emit_draft.declared.draft.DraftItem.TheVariants as drafts;
 ghost use Rattle.emit_expr.specs.Emits.{PutsAs};
 
-use bc_machine::bc_ops::{Instr, Op};
-use emit_expr::emit_draft::{Draft, DraftItem, Scope, delete_name, load_name, store_name};
+use bc_ops::{Instr, Op};
+use emit_draft::{Draft, DraftItem, Scope, delete_name, load_name, store_name};
 use mpy_base::{NoMemory, Text};
 use std::alloc::Global;
 

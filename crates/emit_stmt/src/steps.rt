@@ -7,8 +7,8 @@ ghost use Rattle.py_meaning.specs.Plain.{plain_expr};
 ghost use Rattle.emit_stmt.specs.Steps.{last_line, PutsBehind, Deepens, EmitsMatch, EmitsGone};
 
 use crate::jumps::Loop;
-use bc_machine::bc_ops::{Instr, Op};
-use emit_expr::emit_draft::{Draft, DraftItem, DraftLine, Scope, delete_name, store_name};
+use bc_ops::{Instr, Op};
+use emit_draft::{Draft, DraftItem, DraftLine, Scope, delete_name, store_name};
 use emit_expr::emit_expr;
 use mpy_base::NoMemory;
 use py_tree::Expr;

@@ -7,8 +7,8 @@ ghost use Rattle.emit_stmt.specs.declared.jumps.Loop.{Loop as Around};
 ghost use Rattle.emit_stmt.specs.SimpleEmits.{EmitsT, EmitsG, EmitsS};
 
 use crate::puts::{put_delete, put_named, put_plain, put_store};
-use bc_machine::bc_ops::Op;
-use emit_expr::emit_draft::{Draft, Scope};
+use bc_ops::Op;
+use emit_draft::{Draft, Scope};
 use emit_expr::emit_expr;
 use mpy_base::NoMemory;
 use py_tree::Target;

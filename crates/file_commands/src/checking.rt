@@ -6,9 +6,9 @@ ghost use Rattle.mpy_endings.specs.Ending.{is_folder_fault, is_out_fault};
 ghost use Rattle.file_commands.specs.Check.{Judges, Checks, verified_line};
 ghost use Rattle.mpy_endings.specs.Line.{Puts};
 
-use command_files::mpy_endings::{Ending, put_three};
 use command_files::{read_file, verified};
 use itoa::Buffer;
+use mpy_endings::{Ending, put_three};
 use mpy_io::{Failed, Folder, Sink};
 use std::alloc::Global;
 

@@ -10,17 +10,17 @@ ghost use Rattle.mpy_endings.specs.Line.{Puts};
 ghost use Rattle.file_commands.specs.CheckAs.{HoldsTranslation, ChecksAs, translation_line};
 ghost use Rattle.file_commands.specs.Texts.{HoldsText};
 
+use bc_resolved::resolves_law;
 use bc_verify::count;
-use command_files::mpy_compile::compiled_module;
-use command_files::mpy_endings::{Difference, Ended, Ending, put_three};
 use command_files::read_file;
 use itoa::Buffer;
 use mpy_base::limits::MAX_DEPTH;
 use mpy_base::{NoMemory, Refused, SourceFault};
+use mpy_compile::compiled_module;
+use mpy_endings::{Difference, Ended, Ending, put_three};
 use mpy_io::{Failed, Folder, Sink};
-use mpy_merge::bc_resolved::resolves_law;
 use mpy_reader::read;
-use mpy_writer::mpy_tree::{RawModule, module_law};
+use mpy_tree::{RawModule, module_law};
 use std::alloc::Global;
 use trans_check::{Compared, compare, stored_source};
 

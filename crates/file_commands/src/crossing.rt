@@ -9,11 +9,11 @@ ghost use Rattle.file_commands.specs.Cross.{Crosses};
 ghost use Rattle.mpy_endings.specs.declared.ending.Ending.{Ending};
 ghost use Rattle.mpy_endings.specs.Ending.{IsSettled, is_folder_fault, is_out_fault};
 
-use command_files::mpy_compile::{compile, compile_law};
-use command_files::mpy_endings::Ending;
-use command_files::source_files::stored_name;
 use mpy_base::{NoMemory, Refused, SourceFault};
+use mpy_compile::{compile, compile_law};
+use mpy_endings::Ending;
 use mpy_io::{Failed, Folder, ReadFault};
+use source_files::stored_name;
 use std::alloc::Global;
 
 /// The file of a source, which stores its name.

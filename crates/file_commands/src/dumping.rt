@@ -5,10 +5,10 @@ ghost use Rattle.mpy_io.specs.Count.{Counts};
 ghost use Rattle.file_commands.specs.Dump.{Dumps};
 ghost use Rattle.mpy_endings.specs.Ending.{is_folder_fault, is_out_fault};
 
-use command_files::mpy_endings::Ending;
 use command_files::read_file;
 use mpy_base::Refused;
 use mpy_dump::listing;
+use mpy_endings::Ending;
 use mpy_io::{Failed, Folder, Sink};
 use mpy_reader::read;
 use std::alloc::Global;

@@ -9,9 +9,9 @@ ghost use Rattle.mpy_endings.specs.Ending.{is_folder_fault, is_out_fault};
 ghost use Rattle.file_commands.specs.Merge.{HoldModules, IsFirstRefused, Merges};
 
 use bc_verify::Verified;
-use command_files::mpy_endings::{Ended, Ending};
 use command_files::opened;
 use mpy_base::Refused;
+use mpy_endings::{Ended, Ending};
 use mpy_io::{Failed, Folder};
 use mpy_merge::{MergeFault, merge};
 use std::alloc::Global;

@@ -6,8 +6,8 @@ ghost use Rattle.mpy_writer.specs.mpy_tree.Resolved.{ResolvedModule, Reads, Read
 ghost use Rattle.mpy_writer.specs.File.{IsWritten};
 ghost use Rattle.file_laws.specs.Canonical.{IsCanonical};
 
-use image_open::mpy_reader::file_law;
-use mpy_writer::mpy_tree::resolving_law;
+use mpy_reader::file_law;
+use mpy_tree::resolving_law;
 use mpy_writer::write_law;
 
 /// Two canonical files that are read as one module are equal.

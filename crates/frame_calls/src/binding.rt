@@ -9,10 +9,10 @@ ghost use Rattle.prim_calls.specs.Binding.{name_text, IsBound, IsKnownBound};
 ghost use Rattle.frame_calls.specs.Known.{AreKnown};
 
 use crate::operands::{Operands, add};
-use frame_moves::arena_heap::{Arena, Constants, StrNo, Value};
-use frame_moves::prim_faults::Fault;
+use arena_heap::{Arena, Constants, StrNo, Value};
 use mpy_base::NoMemory;
 use prim_calls::{Parameters, bind};
+use prim_faults::Fault;
 use std::alloc::Global;
 use std::marker::Model;
 

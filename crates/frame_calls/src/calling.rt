@@ -21,9 +21,9 @@ ghost use Rattle.frame_calls.specs.Layouts.{Layout, tables_of};
 ghost use Rattle.frame_calls.specs.Operands.{running_slots, args_in, keys_in, operands_count as operands_of};
 
 use crate::operands::{slot_at, value_at, value_of};
-use frame_moves::arena_heap::{Arena, Constants, Value};
-use frame_moves::vm_frames::{Frames, Slot};
+use arena_heap::{Arena, Constants, Value};
 use prim_calls::{Callee, callee_of};
+use vm_frames::{Frames, Slot};
 
 /// A call that an instruction makes: what is called, and how many slots it takes with its operands.
 #[derive(Clone, Copy, Debug, PartialEq, Eq)]

@@ -27,11 +27,11 @@ ghost use Rattle.frame_calls.specs.Putting.{IsKnownStop, with_value};
 use crate::binding::{Bindings, FunctionCode};
 use crate::operands::Operands;
 use crate::putting::{drop_slots, put_over};
-use frame_moves::arena_heap::{Arena, Constants, Value};
-use frame_moves::prim_faults::{Fault, Stop};
-use frame_moves::vm_frames::{Frames, Role, moves_law, placed_law};
+use arena_heap::{Arena, Constants, Value};
 use mpy_base::limits::MAX_CALLS;
 use prim_calls::Function;
+use prim_faults::{Fault, Stop};
+use vm_frames::{Frames, Role, moves_law, placed_law};
 
 /// Is there depth for one call more?
 fn has_depth(frames: &Frames) -> bool

@@ -8,7 +8,7 @@ ghost use Rattle.frame_calls.specs.Invoking.{visits_of};
 ghost use Rattle.frame_calls.specs.Known.{AreKnown};
 
 use crate::operands::Operands;
-use frame_moves::arena_heap::{Arena, Constants};
+use arena_heap::{Arena, Constants};
 use prim_calls::{Callee, visits_call_builtin, visits_call_method};
 
 /// How many visits a call of this callee with these operands makes, up to `most`. It goes no further.

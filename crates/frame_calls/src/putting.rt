@@ -4,9 +4,9 @@ ghost use Rattle.std.specs.Prelude.{◌≡◌, ◌<◌, ◌≤◌, length, drop}
 ghost use Rattle.frame_moves.specs.vm_frames.Calls.{OfRunning, on_running};
 ghost use Rattle.frame_calls.specs.Putting.{with_value, put_in, done_of};
 
-use frame_moves::arena_heap::Value;
-use frame_moves::prim_faults::Stop;
-use frame_moves::vm_frames::{Frames, Slot};
+use arena_heap::Value;
+use prim_faults::Stop;
+use vm_frames::{Frames, Slot};
 
 /// The topmost slots are dropped.
 pub(crate) fn drop_slots(frames: &mut Frames, count: u32)

@@ -22,10 +22,10 @@ ghost use Rattle.frame_exits.specs.Beginning.{IsOutermost, HasImported};
 ghost use Rattle.frame_exits.specs.declared.names.ModuleName.{ModuleName as NameNumbers};
 
 use crate::names::ModuleName;
-use frame_moves::arena_heap::{Arena, Constants, StrNo};
-use frame_moves::prim_faults::Stop;
-use frame_moves::vm_frames::{Frames, Role, moves_law, placed_law};
+use arena_heap::{Arena, Constants, StrNo};
+use prim_faults::Stop;
 use prim_modules::{Modules, make_module};
+use vm_frames::{Frames, Role, moves_law, placed_law};
 
 /// The number of the text of a module's name.
 fn name_of(names: &[ModuleName], number: u32) -> ModuleName

@@ -4,8 +4,8 @@ ghost use Rattle.std.specs.Prelude.{◌≡◌};
 ghost use Rattle.frame_moves.specs.vm_frames.declared.slot.Slot.TheVariants as slots;
 ghost use Rattle.frame_exits.specs.Causes.{KeepsCause, IsCause, cause_slot};
 
-use frame_moves::arena_heap::{ExcNo, Value};
-use frame_moves::vm_frames::Slot;
+use arena_heap::{ExcNo, Value};
+use vm_frames::Slot;
 
 /// What a finally goes on with at its end.
 #[derive(Clone, Copy, Debug, PartialEq, Eq)]

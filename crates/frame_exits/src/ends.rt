@@ -1,6 +1,6 @@
 //! How runs end, and where they are.
 
-use frame_moves::arena_heap::{ExcNo, Value};
+use arena_heap::{ExcNo, Value};
 use mpy_base::NoRoom;
 
 /// How a run ends.

@@ -30,9 +30,9 @@ use crate::ends::After;
 use crate::names::ModuleName;
 use crate::returning::leave;
 use crate::throwing::fail;
-use frame_moves::arena_heap::{Arena, Constants, ExcNo};
-use frame_moves::vm_frames::{Frames, Slot, moves_law, placed_law};
+use arena_heap::{Arena, Constants, ExcNo};
 use prim_modules::Modules;
+use vm_frames::{Frames, Slot, moves_law, placed_law};
 
 /// Throws the exception on at the end of a finally.
 fn throw_on<C: Constants>(

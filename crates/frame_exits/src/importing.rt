@@ -14,12 +14,12 @@ ghost use Rattle.frame_exits.specs.Importing.{AreOperands, IsImport, IsBeginning
 
 use crate::operands::{is_zero, value_at};
 use crate::prefixes::{first_absent, first_len};
+use arena_heap::{Constants, StrNo, Value};
 use bc_library::{Library, Member};
-use frame_moves::arena_heap::{Constants, StrNo, Value};
-use frame_moves::vm_frames::Frames;
 use mpy_base::Builtin;
 use mpy_base::limits::MAX_CALLS;
 use prim_modules::Modules;
+use vm_frames::Frames;
 
 /// Why an import fails before a module begins.
 #[derive(Clone, Copy, Debug, PartialEq, Eq)]

@@ -15,12 +15,10 @@ mod refusing;
 mod returning;
 mod throwing;
 
-pub use bc_library;
 pub use beginning::begin_import;
 pub use causes::Cause;
 pub use ends::{After, End};
 pub use finishing::end_finally;
-pub use frame_moves::vm_frames;
 pub use importing::{Import, Refusal, import_name};
 pub use names::ModuleName;
 pub use putting::put_import;

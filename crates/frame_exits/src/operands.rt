@@ -10,8 +10,8 @@ ghost use Rattle.frame_moves.specs.py_values.Shown.{PlainHeap, shown};
 ghost use Rattle.frame_moves.specs.bc_machine.Parts.{is_zero as is_zero_in};
 ghost use Rattle.frame_moves.specs.prim_walks.Plain.{plain};
 
-use frame_moves::arena_heap::Value;
-use frame_moves::vm_frames::{Frames, Slot};
+use arena_heap::Value;
+use vm_frames::{Frames, Slot};
 
 /// The value in a slot that holds one, counted from the top.
 pub(crate) fn value_at(frames: &Frames, i: u32) -> Value

@@ -8,7 +8,7 @@ ghost use Rattle.frame_moves.specs.bc_machine.Parts.{first_absent as first_absen
 ghost use Rattle.frame_moves.specs.prim_faults.Sights.{under};
 ghost use Rattle.prim_modules.specs.Registry.{plain_modules};
 
-use frame_moves::arena_heap::Constants;
+use arena_heap::Constants;
 use prim_modules::Modules;
 
 /// Whether a module of this name is there without an import: it is registered, or it is `port`.

@@ -13,8 +13,8 @@ ghost use Rattle.frame_moves.specs.Stacks.{gone};
 ghost use Rattle.frame_exits.specs.declared.importing.Import.TheVariants as imports;
 ghost use Rattle.frame_exits.specs.Importing.{AreOperands, IsImport};
 
-use frame_moves::arena_heap::Value;
-use frame_moves::vm_frames::{Frames, Slot};
+use arena_heap::Value;
+use vm_frames::{Frames, Slot};
 
 /// The import gives a module, which goes in the place of its operands. The call goes on at `end`, behind its instruction.
 pub fn put_import(frames: &mut Frames, v: Value, end: u32)

@@ -21,11 +21,11 @@ ghost use Rattle.frame_exits.specs.Thrown.{HasThrown};
 use crate::ends::End;
 use crate::names::ModuleName;
 use crate::throwing::fail;
-use frame_moves::arena_heap::{Arena, Constants};
-use frame_moves::prim_faults::{Fault, Stop};
-use frame_moves::prim_raising::{Place, raise_value, stop_at};
-use frame_moves::vm_frames::{Frames, Slot, moves_law};
+use arena_heap::{Arena, Constants};
+use prim_faults::{Fault, Stop};
 use prim_modules::Modules;
+use prim_raising::{Place, raise_value, stop_at};
+use vm_frames::{Frames, Slot, moves_law};
 
 /// A stop at the running call's instruction: the exception of a fault, which gets the place, is thrown through the calls, or
 /// want of room ends the run. It answers how the run ends, if it does; else the calls run. It goes through each call once,

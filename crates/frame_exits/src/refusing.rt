@@ -22,8 +22,8 @@ ghost use Rattle.frame_moves.specs.prim_faults.declared.stop.Stop.TheVariants as
 ghost use Rattle.frame_exits.specs.Importing.{AreOperands, IsImport, StandsFor, refusal_fault};
 
 use crate::importing::Refusal;
-use frame_moves::arena_heap::StrNo;
-use frame_moves::prim_faults::{Fault, Stop};
+use arena_heap::StrNo;
+use prim_faults::{Fault, Stop};
 
 /// The fault of an import of the name.
 fn fault_of(name: u32, refusal: Refusal) -> Fault

@@ -36,11 +36,11 @@ ghost use Rattle.frame_exits.specs.Left.{HasLast, left, leaving_of, receiving_of
 
 use crate::ends::{After, End};
 use crate::names::{ModuleName, name_of};
-use frame_moves::arena_heap::{Arena, Constants, ModuleNo, StrNo, Value};
-use frame_moves::prim_faults::Stop;
-use frame_moves::vm_frames::{Frames, Role, Slot, moves_law, placed_law};
+use arena_heap::{Arena, Constants, ModuleNo, StrNo, Value};
 use mpy_base::NoRoom;
+use prim_faults::Stop;
 use prim_modules::{Modules, store_module};
+use vm_frames::{Frames, Role, Slot, moves_law, placed_law};
 
 /// The want of room that a stop is where nothing is raised.
 fn want_of(stop: Stop) -> NoRoom

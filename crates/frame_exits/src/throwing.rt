@@ -16,11 +16,11 @@ ghost use Rattle.frame_exits.specs.Thrown.{throwing_of, thrown, thrown_out, fail
 
 use crate::ends::End;
 use crate::names::{ModuleName, name_of};
-use frame_moves::arena_heap::{Constants, ExcNo, StrNo};
-use frame_moves::prim_faults::name_bytes;
-use frame_moves::vm_frames::{Frames, Role, moves_law, placed_law};
+use arena_heap::{Constants, ExcNo, StrNo};
 use mpy_base::NoRoom;
+use prim_faults::name_bytes;
 use prim_modules::Modules;
+use vm_frames::{Frames, Role, moves_law, placed_law};
 
 /// A call of the module that ends with this role is left by a raise: a module that it imports is forgotten.
 fn abandon<C: Constants>(

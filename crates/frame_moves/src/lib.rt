@@ -14,11 +14,6 @@ pub use jumping::{
     jump, jump_if_false_or_pop, jump_if_true_or_pop, pop_jump_if_false, pop_jump_if_true,
 };
 pub use loading::{load_false, load_int, load_none, load_null, load_object, load_text, load_true};
-pub use prim_faults;
-pub use prim_faults::{arena_heap, prim_walks};
-pub use prim_raising;
 pub use stacking::{dup_top, dup_top_two, pop_top, rot_three, rot_two};
 pub use storing::store_fast;
 pub use unwinding::unwind_jump;
-pub use vm_frames;
-pub use vm_frames::{bc_labels, bc_ops};

@@ -12,7 +12,7 @@ ghost use Rattle.frame_moves.specs.Shown.{Tables, Steps, IsNext, value_of, text_
 ghost use Rattle.frame_moves.specs.Stacks.{gone};
 
 use crate::going::go_with;
-use prim_faults::arena_heap::{StrNo, Value};
+use arena_heap::{StrNo, Value};
 use vm_frames::{Frames, Slot};
 
 /// LOAD_CONST_NONE.

@@ -10,12 +10,12 @@ ghost use Rattle.frame_values.specs.Effects.{Steps, Leaves};
 ghost use Rattle.frame_values.specs.Slots.{HasKnown, Puts, PutsLooked, Changes, with_value, without};
 
 use crate::slots::{put, put_looked, take, value_at};
-use frame_moves::vm_frames::Frames;
-use prim_names::arena_heap::{Arena, Constants, StrNo};
-use prim_names::prim_assignments::set_attr;
-use prim_names::prim_faults::Stop;
+use arena_heap::{Arena, Constants, StrNo};
+use prim_assignments::set_attr;
+use prim_faults::Stop;
 use prim_names::{import_from as imported_from, load_method as method_of};
-use prim_types::prim_operators::get_attr;
+use prim_operators::get_attr;
+use vm_frames::Frames;
 
 /// LOAD_ATTR.
 pub fn load_attr<C: Constants>(

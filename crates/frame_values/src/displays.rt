@@ -12,12 +12,12 @@ ghost use Rattle.frame_values.specs.Settled.{Settles};
 
 use crate::slots::{put, value_at};
 use crate::values::{gather, put_values};
-use frame_moves::vm_frames::Frames;
-use prim_names::arena_heap::{Arena, Constants, Value};
-use prim_names::prim_assignments::unpack;
-use prim_names::prim_faults::Stop;
+use arena_heap::{Arena, Constants, Value};
+use prim_assignments::unpack;
+use prim_faults::Stop;
 use prim_names::{make_dict, make_list};
 use prim_types::make_tuple;
+use vm_frames::Frames;
 
 /// BUILD_TUPLE, of as many items as the caller lends values for.
 pub fn build_tuple<C: Constants>(

@@ -17,12 +17,12 @@ ghost use Rattle.frame_values.specs.Slots.{HasKnown, HasIterator, IsIterator, wi
 
 use crate::slots::{drop_slots, value_at};
 use crate::values::{begin_iterator, put_item};
-use frame_moves::vm_frames::{Frames, Slot};
-use prim_names::arena_heap::{Arena, Constants, Value};
-use prim_names::arena_objects::{item_count, text_bytes};
-use prim_names::prim_faults::Stop;
-use prim_names::prim_walks::truth;
-use prim_types::prim_operators::{item_of, items_law, length_of, use_iter};
+use arena_heap::{Arena, Constants, Value};
+use arena_objects::{item_count, text_bytes};
+use prim_faults::Stop;
+use prim_operators::{item_of, items_law, length_of, use_iter};
+use prim_walks::truth;
+use vm_frames::{Frames, Slot};
 
 /// The truth of the top value, by which the tests jump.
 pub fn top_truth<C: Constants>(frames: &Frames, arena: &Arena, consts: &C) -> bool

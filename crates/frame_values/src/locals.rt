@@ -10,10 +10,10 @@ ghost use Rattle.frame_values.specs.Effects.{Steps, Leaves};
 ghost use Rattle.frame_values.specs.Slots.{Puts, HasLocal, Changes, with_value, with_empty};
 
 use crate::slots::{empty, local_at, put};
-use frame_moves::vm_frames::Frames;
-use prim_names::arena_heap::{Arena, Constants};
+use arena_heap::{Arena, Constants};
+use prim_faults::Stop;
 use prim_names::assigned;
-use prim_names::prim_faults::Stop;
+use vm_frames::Frames;
 
 /// LOAD_FAST, in one byte or in more.
 pub fn load_fast<C: Constants>(

@@ -11,10 +11,10 @@ ghost use Rattle.frame_values.specs.Effects.{Steps, Leaves};
 ghost use Rattle.frame_values.specs.Slots.{HasKnown, Puts, Changes, with_value, without};
 
 use crate::slots::{put, take, value_at};
-use frame_moves::vm_frames::Frames;
-use prim_names::arena_heap::{Arena, Constants, StrNo};
-use prim_names::prim_faults::Stop;
+use arena_heap::{Arena, Constants, StrNo};
+use prim_faults::Stop;
 use prim_names::{delete_global, load_global, store_global};
+use vm_frames::Frames;
 
 /// LOAD_NAME and LOAD_GLOBAL.
 pub fn load_name<C: Constants>(

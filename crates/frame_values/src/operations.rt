@@ -7,7 +7,7 @@ ghost use Rattle.prim_types.specs.prim_operators.Operators.{plain_operator};
 ghost use Rattle.frame_values.specs.Operations.{meaning_of_one, meaning_of_two};
 
 use prim_comparisons::Sign;
-use prim_types::prim_operators::{Operator, UnaryOperator};
+use prim_operators::{Operator, UnaryOperator};
 
 /// An operator with one operand.
 #[derive(Clone, Copy)]

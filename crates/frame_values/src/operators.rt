@@ -15,16 +15,16 @@ ghost use Rattle.frame_values.specs.Slots.{HasValue, HasKnown, Puts, with_value}
 
 use crate::operations::{OneOperand, TwoOperands, one_operand, two_operands};
 use crate::slots::{put, value_at};
-use frame_moves::vm_frames::Frames;
+use arena_heap::{Arena, Constants, Value};
+use prim_assignments::{inplace_add, visits_inplace_add};
 use prim_comparisons::{
     op_contains, op_eq, op_is, op_ne, op_order, visits_op_contains, visits_op_eq, visits_op_ne,
     visits_op_order,
 };
-use prim_names::arena_heap::{Arena, Constants, Value};
-use prim_names::prim_assignments::{inplace_add, visits_inplace_add};
-use prim_names::prim_faults::Stop;
+use prim_faults::Stop;
+use prim_operators::{Operator, binary, unary, unary_not};
 use prim_types::op_match;
-use prim_types::prim_operators::{Operator, binary, unary, unary_not};
+use vm_frames::Frames;
 
 /// What an operation on one value gives.
 fn one_value<C: Constants>(

@@ -7,10 +7,10 @@ ghost use Rattle.frame_moves.specs.vm_frames.Calls.{OfRunning, on_running};
 ghost use Rattle.frame_values.specs.Slots.{HasKnown, HasLocal, HasValue, looked_over, with_empty, with_looked, with_value, without};
 ghost use Rattle.frame_values.specs.Settled.{Settles};
 
-use frame_moves::vm_frames::{Frames, Slot};
+use arena_heap::{Arena, Constants, Value};
+use prim_faults::Stop;
 use prim_names::Looked;
-use prim_names::arena_heap::{Arena, Constants, Value};
-use prim_names::prim_faults::Stop;
+use vm_frames::{Frames, Slot};
 
 /// The value in a slot, counted from the top.
 pub(crate) fn value_at<C: Constants>(

@@ -8,12 +8,12 @@ ghost use Rattle.frame_values.specs.Effects.{Steps, Leaves};
 ghost use Rattle.frame_values.specs.Slots.{HasKnown, HasNull, Puts, Changes, with_value, without};
 
 use crate::slots::{put, take, value_at};
-use frame_moves::vm_frames::Frames;
-use prim_names::arena_heap::{Arena, Constants};
-use prim_names::prim_assignments::set_item;
-use prim_names::prim_faults::Stop;
+use arena_heap::{Arena, Constants};
+use prim_assignments::set_item;
+use prim_faults::Stop;
 use prim_names::store_pair;
-use prim_types::prim_operators::{delete_item, get_item};
+use prim_operators::{delete_item, get_item};
+use vm_frames::Frames;
 
 /// LOAD_SUBSCR.
 pub fn load_subscr<C: Constants>(

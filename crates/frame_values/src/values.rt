@@ -8,9 +8,9 @@ ghost use Rattle.frame_values.specs.Slots.{HasKnown, HasValue, with_values, with
 ghost use Rattle.frame_values.specs.Settled.{Settles};
 
 use crate::slots::{put_slot, value_at};
-use frame_moves::vm_frames::{Frames, Slot};
-use prim_names::arena_heap::{Arena, Constants, Value};
-use prim_names::prim_faults::Stop;
+use arena_heap::{Arena, Constants, Value};
+use prim_faults::Stop;
+use vm_frames::{Frames, Slot};
 
 /// The values of the topmost slots, the lowest first.
 pub(crate) fn gather<C: Constants>(frames: &Frames, arena: &Arena, consts: &C, items: &mut [Value])

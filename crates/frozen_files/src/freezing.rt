@@ -8,8 +8,8 @@ ghost use Rattle.manifest_files.specs.FrozenFaults.{failed_by, is_read_failure};
 ghost use Rattle.frozen_files.specs.Frozen.{Freezes};
 
 use crate::sources::read_sources;
+use bc_library::Library;
 use image_freeze::freeze;
-use image_open::bc_library::Library;
 use manifest_files::FrozenFault;
 use mpy_base::Refused;
 use mpy_io::Folder;

@@ -6,6 +6,4 @@ mod source;
 mod sources;
 
 pub use freezing::freeze_files;
-pub use image_freeze;
-pub use source_files::{emit_module, mpy_compile};
 pub use sources::read_sources;

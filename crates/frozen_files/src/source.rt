@@ -10,14 +10,14 @@ ghost use Rattle.frozen_files.specs.Given.{GivesModule};
 ghost use Rattle.frozen_files.specs.Sources.{HoldsSource, RefusesEntry};
 
 use image_freeze::Named;
-use image_open::mpy_reader::read;
-use image_open::mpy_tree::RawModule;
 use manifest_files::SourcesFault;
 use manifest_lines::Entry;
 use mpy_base::{NoMemory, Refused, SourceFault, Text};
+use mpy_compile::compile;
 use mpy_io::{Folder, ReadFault};
+use mpy_reader::read;
+use mpy_tree::RawModule;
 use source_files::compiled_law;
-use source_files::mpy_compile::compile;
 use std::alloc::Global;
 use std::str::from_utf8;
 

@@ -7,10 +7,10 @@ ghost use Rattle.image_grammar.specs.Base.{base_of};
 ghost use Rattle.image_freeze.specs.Fronts.{MayLieOver};
 ghost use Rattle.image_commands.specs.Freeze.{Freezes};
 
-use command_files::mpy_endings::Ending;
+use bc_library::Library;
 use frozen_files::freeze_files;
-use image_grammar::bc_library::Library;
 use mpy_base::Refused;
+use mpy_endings::Ending;
 use mpy_io::{Failed, Folder};
 use std::alloc::Global;
 

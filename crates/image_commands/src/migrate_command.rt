@@ -5,12 +5,12 @@ ghost use Rattle.mpy_io.specs.Count.{Counts};
 ghost use Rattle.mpy_endings.specs.Ending.{is_folder_fault, is_out_fault};
 ghost use Rattle.image_commands.specs.Migrate.{Migrates, refused_end};
 
-use command_files::image_runs::MainFault;
-use command_files::mpy_endings::Ending;
 use command_files::read_file;
-use frozen_files::image_freeze::{MigrateFault, migrate_image};
+use image_freeze::{MigrateFault, migrate_image};
+use image_runs::MainFault;
 use manifest_files::FrozenFault;
 use mpy_base::Refused;
+use mpy_endings::Ending;
 use mpy_io::{Failed, Folder};
 use std::alloc::Global;
 

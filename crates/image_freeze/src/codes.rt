@@ -6,7 +6,7 @@ ghost use Rattle.mpy_writer.specs.mpy_tree.File.{IsCode};
 
 use mpy_base::NoMemory;
 use mpy_merge::write_head;
-use mpy_writer::mpy_tree::RawCode;
+use mpy_tree::RawCode;
 
 /// Adds a code and those in it, of at most `levels` levels, each with the bytes that it has.
 pub(crate) fn write_tree(out: &mut Vec<u8>, code: &RawCode, levels: usize) -> Result<(), NoMemory>

@@ -1,6 +1,6 @@
 //! Why an image isn't migrated.
 
-use image_open::image_grammar::ImageFault;
+use image_grammar::ImageFault;
 
 /// Why an image isn't migrated.
 #[derive(Debug, Drop)]

@@ -16,7 +16,7 @@ use crate::codes::write_tree;
 use crate::named::Named;
 use mpy_base::limits::MAX_DEPTH;
 use mpy_base::{NoMemory, write_vuint};
-use mpy_writer::mpy_tree::{Constant, Qstr, RawModule, module_law};
+use mpy_tree::{Constant, Qstr, RawModule, module_law};
 use mpy_writer::write_constants;
 use qstr_pool::{Pool, static_number};
 use std::alloc::Global;

@@ -1,7 +1,7 @@
 //! Modules that are to be in an image.
 
 use mpy_base::Text;
-use mpy_writer::mpy_tree::RawModule;
+use mpy_tree::RawModule;
 
 /// A module that is to be in an image, and its name there.
 #[derive(Drop)]

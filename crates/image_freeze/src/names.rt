@@ -10,8 +10,8 @@ ghost use Rattle.image_open.specs.image_grammar.Image.{Differ};
 ghost use Rattle.image_freeze.specs.Frozen.{IsTwice};
 
 use crate::named::Named;
-use image_open::bc_library::Library;
-use image_open::image_grammar::{ImageFault, has_name};
+use bc_library::Library;
+use image_grammar::{ImageFault, has_name};
 use mpy_base::{Refused, Text};
 use std::alloc::Global;
 

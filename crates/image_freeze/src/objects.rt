@@ -8,7 +8,7 @@ ghost use Rattle.mpy_writer.specs.Writable.{IsFine};
 
 use crate::named::Named;
 use mpy_base::limits::{MAX_DEPTH, MAX_IMAGE_BYTES};
-use mpy_writer::mpy_tree::Constant;
+use mpy_tree::Constant;
 
 /// Tells whether no text in an object, of at most `levels` levels of tuples, is longer than an image may be.
 fn is_short(object: &Constant, levels: usize) -> bool

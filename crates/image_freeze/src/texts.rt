@@ -17,11 +17,11 @@ ghost use Rattle.image_freeze.specs.Frozen.{entries_of, own_bytes};
 ghost use Rattle.image_freeze.specs.Uses.{IfFault, PassesTable};
 
 use crate::named::Named;
-use image_open::bc_library::Library;
-use image_open::image_grammar::{ImageFault, copy_texts};
+use bc_library::Library;
+use image_grammar::{ImageFault, copy_texts};
 use mpy_base::limits::MAX_IMAGE_BYTES;
 use mpy_base::{NoMemory, Refused, write_vuint};
-use mpy_writer::mpy_tree::Qstr;
+use mpy_tree::Qstr;
 use qstr_pool::{FIRST_OWN, Pool, pool_law, static_number, static_text};
 use std::alloc::Global;
 

@@ -8,7 +8,7 @@ ghost use Rattle.bc_library.specs.Own.{IsOwnPool};
 ghost use Rattle.bc_library.specs.Shelf.{names, no_entries};
 ghost use Rattle.bc_library.specs.Texts.{IsPlain};
 
-use bc_library::arena_heap::{Constants, StrNo};
+use arena_heap::{Constants, StrNo};
 use bc_library::{Library, library_law};
 use mpy_base::limits::{MAX_MODULES, MAX_TABLE};
 use mpy_base::{NoMemory, Refused};

@@ -10,12 +10,8 @@ mod names;
 mod texts;
 
 pub use base::{copy_texts, count_modules, has_name, name_of};
-pub use bc_library;
-pub use bc_library::bc_verify;
 pub use entry::{Entry, Opened};
 pub use fault::ImageFault;
 pub use field::{Field, count, number};
-pub use mpy_reader;
-pub use mpy_reader::mpy_tree;
 pub use names::{Table, qstr_table, use_of, use_part};
 pub use texts::table;

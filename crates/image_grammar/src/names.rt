@@ -13,7 +13,7 @@ use crate::fault::ImageFault;
 use crate::field::{Field, count, number};
 use mpy_base::limits::MAX_TABLE;
 use mpy_base::{Items, Refused, Text};
-use mpy_reader::mpy_tree::Qstr;
+use mpy_tree::Qstr;
 use qstr_pool::{FIRST_OWN, Pool, static_number, static_text};
 use std::alloc::Global;
 

@@ -3,8 +3,8 @@
 ghost use Rattle.std.specs.Prelude.{◌≡◌, ℕ, List, IfOk};
 ghost use Rattle.image_grammar.specs.mpy_tree.File.{IsCode};
 
-use image_grammar::mpy_tree::RawCode;
 use mpy_base::{Items, NoMemory, Text};
+use mpy_tree::RawCode;
 use std::alloc::Global;
 
 /// A copy of a code and of those in it, of at most `levels` levels.

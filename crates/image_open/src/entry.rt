@@ -14,16 +14,16 @@ ghost use Rattle.image_grammar.specs.Fine.{IsFinePool};
 ghost use Rattle.image_grammar.specs.Steps.{Gives, judge, times};
 ghost use Rattle.image_grammar.specs.declared.fault.ImageFault.TheVariants as faults;
 
-use image_grammar::bc_library::{Library, library_law};
-use image_grammar::bc_verify::{Verified, verify};
-use image_grammar::mpy_reader::{FileFault, ModuleBody, read_body};
-use image_grammar::mpy_tree::RawModule;
+use bc_library::{Library, library_law};
+use bc_verify::{Verified, verify};
 use image_grammar::{
     Entry, Field, ImageFault, Opened, Table, count, count_modules, has_name, number, qstr_table,
     use_of, use_part,
 };
 use mpy_base::limits::MAX_MODULES;
 use mpy_base::{Items, Refused, Text};
+use mpy_reader::{FileFault, ModuleBody, read_body};
+use mpy_tree::RawModule;
 use qstr_pool::Pool;
 use std::alloc::Global;
 

@@ -12,8 +12,6 @@ mod opening;
 mod shelving;
 
 pub use image::read_image;
-pub use image_grammar;
-pub use image_grammar::{bc_library, bc_verify, mpy_reader, mpy_tree};
 pub use laws::{image_law, over_law};
 pub use modules::copy_module;
 pub use opening::open_image;

@@ -4,9 +4,9 @@ ghost use Rattle.std.specs.Prelude.{◌≡◌, IfOk};
 
 use crate::codes::copy_code;
 use crate::objects::copy_objects;
-use image_grammar::mpy_tree::{Qstr, RawModule, module_law};
 use mpy_base::limits::MAX_DEPTH;
 use mpy_base::{Items, NoMemory, Text};
+use mpy_tree::{Qstr, RawModule, module_law};
 use std::alloc::Global;
 
 /// The copy of an entry of a table of texts.

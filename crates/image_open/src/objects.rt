@@ -3,8 +3,8 @@
 ghost use Rattle.std.specs.Prelude.{◌≡◌, IfOk};
 ghost use Rattle.image_grammar.specs.bc_library.Fine.{Each, Fine};
 
-use image_grammar::mpy_tree::Constant;
 use mpy_base::{Items, NoMemory, Text};
+use mpy_tree::Constant;
 use std::alloc::Global;
 
 /// A copy of an object, of at most `levels` levels of tuples.

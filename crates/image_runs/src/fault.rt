@@ -1,6 +1,6 @@
 //! Why an image has no main module.
 
-use image_open::image_grammar::ImageFault;
+use image_grammar::ImageFault;
 use mpy_base::Text;
 
 /// Why there is no main module.

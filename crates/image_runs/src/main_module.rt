@@ -9,7 +9,7 @@ ghost use Rattle.image_runs.specs.declared.fault.MainFault.{MainFault as Fault};
 ghost use Rattle.image_runs.specs.Main.{FaultIs, HoldsMain, IsMainAt, RefusesMain};
 
 use crate::fault::MainFault;
-use image_open::bc_library::{Library, Member, modules_law};
+use bc_library::{Library, Member, modules_law};
 use image_open::open_image;
 use mpy_base::{NoMemory, Refused, Text};
 use std::alloc::Global;

@@ -1,6 +1,6 @@
 //! What a name comes to.
 
-use bc_library::bc_verify::Verified;
+use bc_verify::Verified;
 
 /// What a name comes to.
 #[derive(Drop)]

@@ -17,7 +17,7 @@ use bc_ops::{Instr, Item, Op, items_of};
 use bc_prelude::parts_of;
 use bc_resolved::resolves_law;
 use mpy_base::{NoMemory, Text};
-use mpy_reader::mpy_tree::{Qstr, RawCode, RawModule, module_law};
+use mpy_tree::{Qstr, RawCode, RawModule, module_law};
 use qstr_pool::static_text;
 use std::alloc::Global;
 

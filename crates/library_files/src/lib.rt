@@ -18,6 +18,5 @@ pub use laws::loads_law;
 pub use limit::{FailedRead, Limit, LoadFault, MAX_LIBRARY_BYTES, UnacceptedSource};
 pub use loading::{load, load_by};
 pub use module_files::ModuleFiles;
-pub use mpy_reader;
 pub use reader::Reader;
 pub use search::entry_of;

@@ -19,11 +19,11 @@ use crate::limit::{Limit, LoadFault, MAX_LIBRARY_BYTES};
 use crate::module_files::ModuleFiles;
 use crate::reader::Reader;
 use crate::search::entry_of;
-use bc_library::bc_verify::Verified;
 use bc_library::{LibFault, Library, modules_law};
+use bc_verify::Verified;
 use mpy_base::{NoMemory, Refused, Text};
 use mpy_io::Folder;
-use mpy_reader::mpy_tree::module_law;
+use mpy_tree::module_law;
 use qstr_pool::Pool;
 use std::alloc::Global;
 

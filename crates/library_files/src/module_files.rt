@@ -5,10 +5,10 @@ ghost use Rattle.library_files.specs.Comes.{Answers, BytesComeTo, ModuleComesTo}
 
 use crate::entry::Entry;
 use crate::reader::Reader;
-use bc_library::bc_verify::verify;
+use bc_verify::verify;
 use mpy_base::{Refused, SourceFault};
-use mpy_reader::mpy_tree::RawModule;
 use mpy_reader::read;
+use mpy_tree::RawModule;
 use std::alloc::Global;
 
 /// What the module of a file of this size comes to.

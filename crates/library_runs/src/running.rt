@@ -11,12 +11,12 @@ ghost use Rattle.library_runs.specs.Runs.{RunsAs, Says, IsOver, is_write_fault, 
 use crate::ending::RunEnd;
 use crate::reporting::say_end;
 use bc_library::Library;
+use bc_machine::{output_law, put_law};
+use bc_rows::Rows;
 use mpy_base::{NoMemory, Room};
 use mpy_io::{Failed, Port, Sink};
 use port_set::PortSet;
-use state_steps::bc_rows::Rows;
 use std::alloc::Global;
-use vm_frames::bc_machine::{output_law, put_law};
 use vm_machine::{open, run};
 use vm_starting::{Cache, program_law};
 

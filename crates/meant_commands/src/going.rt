@@ -12,10 +12,10 @@ ghost use Rattle.library_runs.specs.Runs.{Sight};
 ghost use Rattle.source_files.specs.Sources.{IsModuleOf, LoadsFromSources};
 ghost use Rattle.meant_commands.specs.Alike.{Tells, IsWholeRun, AreAlike};
 
-use frozen_files::mpy_compile::compile_law;
 use library_files::imports_law;
-use library_files::mpy_reader::file_law;
 use library_runs::accounted_law;
+use mpy_compile::compile_law;
+use mpy_reader::file_law;
 
 /// A source has one module of one size at most, and from a main module and sources loading ends in one way.
 pub fn sources_law()

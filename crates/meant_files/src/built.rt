@@ -13,7 +13,7 @@ ghost use Rattle.meant_files.specs.Built.{IsBuilt, IsBuiltProgram};
 
 use crate::units::{checked_law, crossed_law, merged_law};
 use bc_resolved::{file_law as texts_law, raw_law, resolves_law, tree_law};
-use image_open::mpy_reader::file_law;
+use mpy_reader::file_law;
 use tr_source::merge_law;
 
 /// What is made of a unit, by compiling and merging, or is a translation of its source, is a file of the unit, and verified, so that

@@ -15,7 +15,7 @@ ghost use Rattle.frozen_files.specs.Frozen.{HoldsFrozen};
 ghost use Rattle.meant_files.specs.Programs.{IsImageOfSources, IsLibraryOf, IsProgramOf, MeansManifests, Sources};
 
 use crate::units::crossed_law;
-use frozen_files::image_freeze::freeze_law;
+use image_freeze::freeze_law;
 use image_open::over_law;
 use manifest_files::entries_law;
 use meant_runs::runs_law;

@@ -12,9 +12,9 @@ ghost use Rattle.meant_runs.specs.Units.{IsUnitFile, AreUnitFiles};
 ghost use Rattle.meant_files.specs.Readings.{IsReading};
 
 use bc_resolved::resolves_law;
-use frozen_files::emit_module::resolved_law;
-use frozen_files::mpy_compile::within_law;
-use image_open::mpy_reader::file_law;
+use emit_module::resolved_law;
+use mpy_compile::within_law;
+use mpy_reader::file_law;
 use py_source::{accepted_law, asked_law};
 use tr_source::compiled_law;
 use trans_laws::fitting_law;

@@ -14,10 +14,10 @@ ghost use Rattle.vm_starting.specs.Programs.{IsProgramOf};
 ghost use Rattle.meant_runs.specs.Units.{AreUnits};
 ghost use Rattle.meant_runs.specs.Runs.{MeansRun};
 
+use bc_machine::{ended_law as machine_ended_law, prefix_law as machine_prefix_law};
 use bc_resolved::resolves_law;
-use bc_scheme::py_meaning::{ended_law, prefix_law};
+use py_meaning::{ended_law, prefix_law};
 use sim_stmt::behaves_law;
-use vm_frames::bc_machine::{ended_law as machine_ended_law, prefix_law as machine_prefix_law};
 use vm_starting::program_law;
 
 /// The machine's library of a library of a program's files has the program's modules.

@@ -13,11 +13,11 @@ ghost use Rattle.mpy_compile.specs.Made.{Files, Makes};
 use crate::fits::texts_fit;
 use crate::within::{module_law, within_law};
 use crate::written::written_law;
-use emit_module::py_source::{accepted_law, asked_law, read_source};
 use emit_module::{emit, faults_law};
 use mpy_base::{Refused, SourceFault};
-use mpy_writer::mpy_tree::ModuleCode;
+use mpy_tree::ModuleCode;
 use mpy_writer::{write, write_law};
+use py_source::{accepted_law, asked_law, read_source};
 use std::alloc::Global;
 
 /// A module and its file.

@@ -9,7 +9,7 @@ ghost use Rattle.mpy_compile.specs.Texts as spec;
 
 use mpy_base::Text;
 use mpy_base::limits::{MAX_DEPTH, MAX_FILE_BYTES};
-use mpy_writer::mpy_tree::{Code, Constant, Item, ModuleCode};
+use mpy_tree::{Code, Constant, Item, ModuleCode};
 
 /// Is the text no longer than a file?
 fn text_fits(text: &Text) -> bool

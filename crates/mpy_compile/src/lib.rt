@@ -7,8 +7,6 @@ mod within;
 mod written;
 
 pub use compiling::{compile, compile_law, compiled_module};
-pub use emit_module;
-pub use emit_module::{py_source, tr_source};
 pub use fits::texts_fit;
 pub use within::{module_law, within_law};
 pub use written::written_law;

@@ -11,8 +11,8 @@ ghost use Rattle.emit_module.specs.Module.{source_of, IsTranslated};
 ghost use Rattle.bc_resolved.specs.Verified.{IsVerifiedTree};
 ghost use Rattle.emit_module.specs.tr_source.Accepted.{IsAccepted};
 
-use emit_module::emit_measures::within_law as text_law;
-use emit_module::tr_source::{accepted_law, limits_law};
+use emit_measures::within_law as text_law;
+use tr_source::{accepted_law, limits_law};
 
 /// A formed and faultless tree of whose texts none passes a limit is one that translations ask for.
 pub fn within_law()

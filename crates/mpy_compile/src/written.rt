@@ -14,8 +14,8 @@ ghost use Rattle.emit_module.specs.First.{AreWithin};
 ghost use Rattle.emit_module.specs.Module.{source_of, IsTranslated};
 
 use crate::within::{module_law, within_law};
-use emit_module::emit_measures::lengths_law;
-use emit_module::tr_source::{limits_law, spelled_law};
+use emit_measures::lengths_law;
+use tr_source::{limits_law, spelled_law};
 
 /// The module of an accepted source of whose texts none passes a limit is one that may be written, where its stored name is ASCII,
 /// no text in it is longer than a file, and its codes nest no deeper than a file's.

@@ -13,10 +13,10 @@ use crate::path::{Path, put_path};
 use crate::pen::Pen;
 use crate::put::{digits, put, put_all};
 use crate::tails::{Tails, tails_of};
+use bc_prelude::{Prelude, first_index, parts_of};
 use itoa::Buffer;
 use mpy_base::limits::{MAX_CODE_BYTES, MAX_DEPTH};
 use mpy_io::{Failed, Sink};
-use mpy_tree::bc_prelude::{Prelude, first_index, parts_of};
 use mpy_tree::{RawCode, RawModule};
 
 /// Puts the numbers of a code of `size` bytes.

@@ -17,12 +17,12 @@ use crate::operations::{binary_name, binary_sign, operation_name, unary_sign};
 use crate::pen::{Pen, hand_over, make_room};
 use crate::put::{digits, put, put_all, put_number};
 use crate::tails::{Tails, pair_at};
+use bc_ops::{Instr, decode_at};
+use bc_prelude::Place;
 use itoa::Buffer;
 use mpy_base::limits::MAX_CODE_BYTES;
 use mpy_io::{Failed, Sink};
 use mpy_tree::RawModule;
-use mpy_tree::bc_ops::{Instr, decode_at};
-use mpy_tree::bc_prelude::Place;
 
 /// The name of an instruction, as it is listed.
 fn instr_name(instr: Instr) -> &'static [u8]

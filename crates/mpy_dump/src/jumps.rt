@@ -5,8 +5,8 @@ ghost use Rattle.mpy_dump.specs.Operations.{operation_name};
 ghost use Rattle.mpy_dump.specs.Short.{IsJumpEnd};
 
 use crate::short::SHORT_BYTES;
+use bc_ops::{Instr, Op};
 use mpy_base::limits::MAX_CODE_BYTES;
-use mpy_tree::bc_ops::{Instr, Op};
 
 /// A text that is the front of an array.
 type Front = (&'static [u8; SHORT_BYTES], usize);

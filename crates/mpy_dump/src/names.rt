@@ -11,8 +11,8 @@ use crate::put::{digits, put_all};
 use crate::texts::put_name;
 use itoa::Buffer;
 use mpy_io::{Failed, Sink};
-use mpy_tree::qstr_pool::static_text;
 use mpy_tree::{Qstr, RawModule};
+use qstr_pool::static_text;
 
 /// The text of an entry.
 pub(crate) fn text_of(qstr: &Qstr) -> Option<&[u8]>

@@ -3,7 +3,7 @@
 ghost use Rattle.std.specs.Prelude.{◌≡◌, [], map, slice_index_or};
 ghost use Rattle.mpy_dump.specs.Operations as specs;
 
-use mpy_tree::bc_ops::Op;
+use bc_ops::Op;
 
 /// The name of an operation.
 pub(crate) fn operation_name(op: Op) -> &'static [u8]

@@ -7,8 +7,8 @@ ghost use Rattle.mpy_dump.specs.Short.{short_text, two_bytes, IsTail, AreSingles
 use crate::instructions::put_tail;
 use crate::pen::Pen;
 use crate::short::{SHORT_BYTES, Short};
+use bc_ops::{Instr, decode_at};
 use mpy_tree::RawModule;
-use mpy_tree::bc_ops::{Instr, decode_at};
 
 /// How many bytes there are.
 const BYTES: usize = 256;

@@ -8,11 +8,11 @@ ghost use Rattle.mpy_endings.specs.Line.{place_in};
 use bc_verify::VerifyFault;
 use board_plan::PlanFault;
 use image_runs::MainFault;
-use library_files::mpy_reader::FileFault;
 use library_files::{Limit, UnacceptedSource};
 use manifest_files::{FrozenFault, SourcesFault};
 use mpy_base::{Items, SourceFault, Text};
 use mpy_merge::MergeFault;
+use mpy_reader::FileFault;
 use trans_parts::What;
 
 /// What keeps a file or a source from being run to its end.

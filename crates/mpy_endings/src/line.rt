@@ -17,10 +17,10 @@ use crate::words::word_at;
 use bc_verify::{Rule, VerifyFault};
 use itoa::Buffer;
 use library_files::Limit;
-use library_files::mpy_reader::FileFault;
 use mpy_base::SourceFault;
 use mpy_io::{Failed, Sink};
 use mpy_merge::MergeFault;
+use mpy_reader::FileFault;
 use mpy_words::WordFault;
 
 /// What is said of a fault of the words.

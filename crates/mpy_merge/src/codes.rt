@@ -19,8 +19,8 @@ use crate::tree::{write_head, write_tree};
 use bc_verify::{Verified, verified_law};
 use mpy_base::Refused;
 use mpy_base::limits::{MAX_DEPTH, MAX_TABLE};
+use mpy_tree::{RawCode, module_law};
 use mpy_writer::Tables;
-use mpy_writer::mpy_tree::{RawCode, module_law};
 use std::alloc::Global;
 
 /// Adds the code of the module at the place, and those in it, with their numbers moved.

@@ -15,9 +15,9 @@ use crate::objects::{all_short, count_objects, write_objects};
 use bc_verify::{Verified, verified_law};
 use mpy_base::limits::{MAX_DEPTH, MAX_FILE_BYTES, MAX_TABLE};
 use mpy_base::{NoMemory, Refused, write_vuint};
-use mpy_writer::mpy_tree::module_law;
-use mpy_writer::qstr_pool::{Pool, pool_law};
+use mpy_tree::module_law;
 use mpy_writer::write_texts;
+use qstr_pool::{Pool, pool_law};
 use std::alloc::Global;
 
 /// What holds of each of the modules.

@@ -11,7 +11,7 @@ ghost use Rattle.mpy_writer.specs.Tables.{TablesFit};
 ghost use Rattle.mpy_merge.specs.Joined.{IsJoined};
 ghost use Rattle.mpy_merge.specs.Moved.{IsMovedTree};
 
-use bc_verify::bc_prelude::lines_law;
+use bc_prelude::lines_law;
 use mpy_base::limits::MAX_TABLE;
 
 /// What is written for a code of a module, and for those in it, is read as the same tree.

@@ -15,7 +15,6 @@ mod outer;
 mod top;
 mod tree;
 
-pub use bc_resolved;
 pub use fault::{MAX_PARTS, MergeFault};
 pub use law::moved_law;
 pub use moved::{entry_text, text_at};

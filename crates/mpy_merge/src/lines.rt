@@ -4,7 +4,7 @@ ghost use Rattle.std.specs.Prelude.{◌≡◌, ◌≤◌, length, map, All, IfOk
 ghost use Rattle.std.specs.List.Sorted.{IsStrictlyIncreasing};
 ghost use Rattle.bc_verify.specs.bc_prelude.Lines.{line_of};
 
-use bc_verify::bc_prelude::Place;
+use bc_prelude::Place;
 use mpy_base::NoMemory;
 use mpy_base::limits::MAX_CODE_BYTES;
 use std::alloc::Global;

@@ -14,13 +14,13 @@ ghost use Rattle.mpy_merge.specs.Kept.{IsKept, IsKeptCode, NamesThere, GoesTo};
 
 use crate::code_names::indexes_of;
 use crate::lines::lines_at;
-use bc_scheme::bc_ops::{Instr, Op, Target, items_of};
-use bc_verify::bc_prelude::parts_of;
+use bc_ops::{Instr, Op, Target, items_of};
+use bc_prelude::parts_of;
 use mpy_base::limits::{MAX_CODE_BYTES, MAX_TABLE};
 use mpy_base::{Items, NoMemory, Text};
+use mpy_tree::{Code, Item, Qstr, RawModule};
 use mpy_writer::Tables;
-use mpy_writer::mpy_tree::{Code, Item, Qstr, RawModule};
-use mpy_writer::qstr_pool::static_text;
+use qstr_pool::static_text;
 use std::alloc::Global;
 
 /// The text of an entry, if it has one.

@@ -16,9 +16,9 @@ use crate::moved::{entry_text, text_at};
 use bc_verify::Verified;
 use mpy_base::Refused;
 use mpy_base::limits::MAX_TABLE;
-use mpy_writer::mpy_tree::Qstr;
-use mpy_writer::qstr_pool::{Pool, pool_law};
+use mpy_tree::Qstr;
 use mpy_writer::{Tables, WriteFault, use_text};
+use qstr_pool::{Pool, pool_law};
 use std::alloc::Global;
 
 /// Uses the texts of a table.

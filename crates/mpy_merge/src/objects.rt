@@ -11,7 +11,7 @@ ghost use Rattle.mpy_merge.specs.Merged.{all_objects};
 use bc_verify::Verified;
 use mpy_base::NoMemory;
 use mpy_base::limits::{MAX_DEPTH, MAX_FILE_BYTES, MAX_TABLE};
-use mpy_writer::mpy_tree::{Constant, module_law};
+use mpy_tree::{Constant, module_law};
 use mpy_writer::write_constants;
 use std::alloc::Global;
 

@@ -7,10 +7,10 @@ ghost use Rattle.mpy_merge.specs.Merged as specs;
 ghost use Rattle.mpy_merge.specs.Merged.{calls, outer_items};
 
 use crate::fault::MAX_PARTS;
-use bc_scheme::bc_ops::{Instr, Op};
+use bc_ops::{Instr, Op};
 use mpy_base::limits::MAX_CODE_BYTES;
 use mpy_base::{Items, NoMemory, Refused, Text};
-use mpy_writer::mpy_tree::{Code, Item};
+use mpy_tree::{Code, Item};
 use mpy_writer::{Tables, write_code};
 use std::alloc::Global;
 

@@ -11,9 +11,9 @@ ghost use Rattle.mpy_merge.specs.Merged.{IsMerged};
 
 use crate::fault::MergeFault;
 use crate::file::{file_or_fault, modules_law};
+use bc_prelude::lines_law;
 use bc_resolved::{file_law, raw_law, resolves_law, tree_law};
 use bc_verify::Verified;
-use bc_verify::bc_prelude::lines_law;
 use mpy_base::Refused;
 use std::alloc::Global;
 use tr_source::merge_law;

@@ -15,7 +15,7 @@ ghost use Rattle.mpy_merge.specs.Moved.{IsMovedOwn, IsMovedTree};
 use crate::moved::moved_code;
 use mpy_base::limits::{MAX_CODE_BYTES, MAX_TABLE};
 use mpy_base::{NoMemory, Refused, write_vuint};
-use mpy_writer::mpy_tree::{RawCode, RawModule, module_law};
+use mpy_tree::{RawCode, RawModule, module_law};
 use mpy_writer::{Tables, WriteFault, write_code};
 use std::alloc::Global;
 

@@ -13,4 +13,3 @@ mod qstr;
 pub use body::{ModuleBody, body_law, read_body};
 pub use fault::FileFault;
 pub use file::{file_law, read};
-pub use mpy_tree;

@@ -6,9 +6,9 @@ ghost use Rattle.mpy_reader.specs.Reading.{Gives, Holds};
 
 use crate::fault::FileFault;
 use crate::field::Field;
+use bc_ops::decode_at;
+use bc_prelude::{PreludeFault, Signature, read_signature, read_size};
 use mpy_base::{Refused, VuintFault, read_vuint};
-use mpy_tree::bc_ops::decode_at;
-use mpy_tree::bc_prelude::{PreludeFault, Signature, read_signature, read_size};
 
 /// Reads the signature of a prelude.
 fn signature(code: &[u8]) -> Field<'_, Signature>

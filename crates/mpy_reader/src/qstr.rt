@@ -8,7 +8,7 @@ use crate::fault::FileFault;
 use crate::field::{Field, number, text};
 use mpy_base::{Items, Refused};
 use mpy_tree::Qstr;
-use mpy_tree::qstr_pool::STATIC_COUNT;
+use qstr_pool::STATIC_COUNT;
 use std::alloc::Global;
 
 /// The entry that names a text by its number.

@@ -5,7 +5,7 @@ ghost use Rattle.image_grammar.specs.Base.{IsOpened};
 ghost use Rattle.mpy_tool.specs.Below as spec;
 ghost use Rattle.mpy_tool.specs.Below.{library_below};
 
-use image_grammar::bc_library::Library;
+use bc_library::Library;
 use image_open::over_law;
 use mpy_base::NoMemory;
 use std::alloc::Global;

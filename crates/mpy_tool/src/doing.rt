@@ -18,10 +18,10 @@ ghost use Rattle.mpy_tool.specs.Order.{calls_ports, stands_alone, ChangesBy};
 
 use crate::below::{image_version, or_nothing, release};
 use crate::outside::Outside;
+use bc_library::Library;
 use board_command::board;
 use file_commands::{check, check_as, cross, dump, merge_files};
 use image_commands::{freeze, migrate};
-use image_grammar::bc_library::Library;
 use mpy_base::NoMemory;
 use mpy_endings::{Ended, Ending, file_names, say_ending, source_name, word_at};
 use mpy_io::{Failed, Folder, Port, Sink};

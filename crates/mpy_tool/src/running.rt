@@ -18,7 +18,7 @@ ghost use Rattle.mpy_tool.specs.Order.{runs_library};
 
 use crate::below::{or_nothing, release};
 use crate::outside::Outside;
-use image_grammar::bc_library::Library;
+use bc_library::Library;
 use mpy_base::{NoMemory, Room};
 use mpy_endings::{Ending, main_name, say_ending, word_at};
 use mpy_io::{Folder, Port, Sink};

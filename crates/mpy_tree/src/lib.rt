@@ -4,8 +4,5 @@
 mod module;
 mod raw;
 
-pub use bc_ops;
-pub use bc_prelude;
 pub use module::{Code, Constant, Item, ModuleCode};
-pub use qstr_pool;
 pub use raw::{Qstr, RawCode, RawModule, module_law, preorder_law, resolving_law};

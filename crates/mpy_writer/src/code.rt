@@ -14,10 +14,10 @@ ghost use Rattle.mpy_writer.specs.Writable.{IsNumberedCode};
 use crate::fault::WriteFault;
 use crate::layout::{Layout, by_positions};
 use crate::tables::Tables;
+use bc_prelude::{Signature, write_lines, write_signature, write_size};
 use mpy_base::limits::MAX_CODE_BYTES;
 use mpy_base::{NoMemory, Refused, write_vuint};
 use mpy_tree::Code;
-use mpy_tree::bc_prelude::{Signature, write_lines, write_signature, write_size};
 use std::alloc::Global;
 
 /// The layout of a code's instructions.

@@ -11,9 +11,9 @@ ghost use Rattle.mpy_writer.specs.Writable.{IsFine, IsNumberedItem};
 
 use crate::object::object_text;
 use crate::tables::Tables;
+use bc_ops::{Instr, Op, encode};
 use mpy_base::NoMemory;
 use mpy_base::limits::MAX_DEPTH;
-use mpy_tree::bc_ops::{Instr, Op, encode};
 use mpy_tree::{Constant, Item};
 use std::alloc::Global;
 

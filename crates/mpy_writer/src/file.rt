@@ -19,11 +19,11 @@ use crate::code::{layouts, write_codes};
 use crate::codes::add_codes;
 use crate::fault::WriteFault;
 use crate::tables::{Tables, make_tables};
+use bc_prelude::lines_law;
 use mpy_base::limits::{MAX_DEPTH, MAX_FILE_BYTES};
 use mpy_base::{NoMemory, Refused, write_vuint};
 use mpy_tree::ModuleCode;
-use mpy_tree::bc_prelude::lines_law;
-use mpy_tree::qstr_pool::{Pool, static_number};
+use qstr_pool::{Pool, static_number};
 use std::alloc::Global;
 
 /// Adds an entry of the table of texts.

@@ -8,9 +8,9 @@ ghost use Rattle.mpy_tree.specs.declared.module.Item.{Item};
 ghost use Rattle.mpy_writer.specs.Positions as specs;
 ghost use Rattle.mpy_writer.specs.Positions.{jump_in};
 
+use bc_ops::{Instr, encode, offset_fits};
 use mpy_base::NoMemory;
 use mpy_tree::Item;
-use mpy_tree::bc_ops::{Instr, encode, offset_fits};
 
 /// Does the item name another?
 fn is_jump(item: &Item) -> bool

@@ -15,7 +15,5 @@ mod widths;
 pub use code::write_code;
 pub use fault::WriteFault;
 pub use file::{code_law, write, write_law, write_texts};
-pub use mpy_tree;
-pub use mpy_tree::qstr_pool;
 pub use object::write_constants;
 pub use tables::{Tables, use_text};

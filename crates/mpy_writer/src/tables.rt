@@ -10,8 +10,8 @@ ghost use Rattle.mpy_writer.specs.Writable.{IsNumberedCode};
 use crate::fault::WriteFault;
 use crate::object::object_text;
 use mpy_base::{Refused, Text};
-use mpy_tree::qstr_pool::{Pool, pool_law};
 use mpy_tree::{Code, Item};
+use qstr_pool::{Pool, pool_law};
 use std::alloc::Global;
 
 /// The texts of a file, and its objects as they are written, each with its number.

@@ -8,8 +8,8 @@ ghost use Rattle.prim_operators.specs.py_primitives.Uses.{set_attr as set_attr_o
 ghost use Rattle.prim_operators.specs.prim_faults.Sights.{Tells, TellsAll, Does};
 
 use crate::pairs::put_pair;
-use prim_operators::arena_heap::{Arena, Constants, ModuleNo, StrNo, Value, module_parts};
-use prim_operators::prim_faults::{Fault, Stop, type_of};
+use arena_heap::{Arena, Constants, ModuleNo, StrNo, Value, module_parts};
+use prim_faults::{Fault, Stop, type_of};
 
 /// Sets a name of a module's namespace, where one is set.
 fn set_name<C: Constants>(

@@ -7,9 +7,9 @@ ghost use Rattle.prim_operators.specs.py_primitives.Iterables.{items_in};
 ghost use Rattle.prim_operators.specs.py_primitives.Operators.{extend as extend_of};
 ghost use Rattle.prim_operators.specs.prim_faults.Sights.{sight, Tells, TellsAll, Does, CountsUpTo};
 
-use prim_operators::arena_heap::{Arena, Constants, ListNo, Value};
-use prim_operators::arena_objects::list_extend;
-use prim_operators::prim_faults::Stop;
+use arena_heap::{Arena, Constants, ListNo, Value};
+use arena_objects::list_extend;
+use prim_faults::Stop;
 use prim_operators::{items_law, length_of, use_iter};
 
 /// Puts the items of what is an iterable behind those of a list.

@@ -5,8 +5,8 @@ ghost use Rattle.prim_operators.specs.py_primitives.Operators.{Add, in_place};
 ghost use Rattle.prim_operators.specs.prim_faults.Sights.{Tells, TellsAll, Does, CountsUpTo};
 
 use crate::extensions::{extend_list, visits_extend};
-use prim_operators::arena_heap::{Arena, Constants, Value};
-use prim_operators::prim_faults::Stop;
+use arena_heap::{Arena, Constants, Value};
+use prim_faults::Stop;
 use prim_operators::{Operator, binary};
 
 /// `+` in place, by which a list takes the items of any iterable.

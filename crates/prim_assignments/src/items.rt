@@ -10,8 +10,8 @@ ghost use Rattle.prim_operators.specs.py_primitives.Uses.{at_place, put_pair as 
 ghost use Rattle.prim_operators.specs.prim_faults.Sights.{Tells, TellsAll, Does};
 
 use crate::pairs::put_pair;
-use prim_operators::arena_heap::{Arena, Constants, DictNo, ListNo, Value, list_set};
-use prim_operators::prim_faults::{Fault, SpecialMethod, Stop, is_key, type_of};
+use arena_heap::{Arena, Constants, DictNo, ListNo, Value, list_set};
+use prim_faults::{Fault, SpecialMethod, Stop, is_key, type_of};
 use prim_operators::{Container, container_of, items_law, place_of};
 
 /// Sets the value of what may be a key.

@@ -12,6 +12,4 @@ pub use attributes::set_attr;
 pub use extensions::{extend_list, visits_extend};
 pub use in_place::{inplace_add, visits_inplace_add};
 pub use items::set_item;
-pub use prim_operators;
-pub use prim_operators::{arena_heap, arena_objects, prim_faults, prim_walks};
 pub use unpacking::unpack;

@@ -5,9 +5,9 @@ ghost use Rattle.prim_operators.specs.arena_heap.Values.{Leads, IsKey};
 ghost use Rattle.prim_operators.specs.py_primitives.Uses.{put_pair as put_pair_of};
 ghost use Rattle.prim_operators.specs.prim_faults.Sights.{Tells, TellsAll, Does};
 
-use prim_operators::arena_heap::{Arena, Constants, DictNo, Value};
-use prim_operators::arena_objects::dict_set;
-use prim_operators::prim_faults::Stop;
+use arena_heap::{Arena, Constants, DictNo, Value};
+use arena_objects::dict_set;
+use prim_faults::Stop;
 
 /// Sets the value of a key. A new key may ask for the next room.
 pub(crate) fn put_pair<C: Constants>(

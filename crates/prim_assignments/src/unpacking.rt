@@ -8,9 +8,9 @@ ghost use Rattle.prim_operators.specs.py_primitives.Uses.{unpack as unpack_of};
 ghost use Rattle.prim_operators.specs.prim_faults.Sights.{sight, Tells, TellsAll, KnowsAll};
 ghost use Rattle.prim_assignments.specs.Slots.{FillsSlots};
 
-use prim_operators::arena_heap::{Arena, Constants, TextNo, Value};
-use prim_operators::arena_objects::{item_at, item_count, make_texts, text_bytes};
-use prim_operators::prim_faults::{Fault, Stop};
+use arena_heap::{Arena, Constants, TextNo, Value};
+use arena_objects::{item_at, item_count, make_texts, text_bytes};
+use prim_faults::{Fault, Stop};
 use prim_operators::{items_law, use_iter};
 
 /// Puts texts into the slots, from the first.

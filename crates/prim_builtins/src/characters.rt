@@ -9,9 +9,9 @@ ghost use Rattle.prim_operators.specs.prim_faults.Sights.{calling, TellsAll, Kno
 
 use crate::arguments::one_argument;
 use crate::numbers::number_of;
-use prim_operators::arena_heap::{Arena, Constants, Value};
-use prim_operators::arena_objects::make_byte;
-use prim_operators::prim_faults::{Fault, Stop};
+use arena_heap::{Arena, Constants, Value};
+use arena_objects::make_byte;
+use prim_faults::{Fault, Stop};
 
 /// The byte that has this code, if it is one below 0x80.
 fn ascii_code(z: i32) -> Option<u8>

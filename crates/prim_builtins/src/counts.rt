@@ -5,9 +5,9 @@ ghost use Rattle.prim_operators.specs.py_values.Small.{checked};
 ghost use Rattle.prim_operators.specs.py_primitives.Operators.{gives_number};
 ghost use Rattle.prim_operators.specs.Changeless.{IsAnswerOf};
 
-use prim_operators::arena_heap::Value;
-use prim_operators::prim_faults::{Fault, Stop};
-use prim_operators::py_values::NumFault;
+use arena_heap::Value;
+use prim_faults::{Fault, Stop};
+use py_values::NumFault;
 
 /// The greatest small int, 2^30 - 1.
 const GREATEST: usize = 1_073_741_823;

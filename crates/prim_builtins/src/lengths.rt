@@ -9,10 +9,10 @@ ghost use Rattle.prim_operators.specs.prim_faults.Sights.{calling, Tells, TellsA
 
 use crate::arguments::one_argument;
 use crate::counts::gives_count;
-use prim_operators::arena_heap::{Arena, Constants, Value};
+use arena_heap::{Arena, Constants, Value};
+use prim_faults::{Fault, Stop, type_of};
 use prim_operators::length_of;
-use prim_operators::prim_faults::{Fault, Stop, type_of};
-use prim_operators::prim_walks::{Look, look_at};
+use prim_walks::{Look, look_at};
 
 /// `len` of one value.
 fn len_of<C: Constants>(arena: &Arena, consts: &C, v: Value) -> Result<Value, Stop>

@@ -18,7 +18,5 @@ pub use lengths::call_len;
 pub use magnitudes::call_abs;
 pub use numbers::number_of;
 pub use ordinals::call_ord;
-pub use prim_operators;
-pub use prim_operators::{arena_heap, arena_objects, prim_faults, prim_walks, py_values};
 pub use ranges::call_range;
 pub use truths::call_bool;

@@ -9,8 +9,8 @@ ghost use Rattle.prim_operators.specs.prim_faults.Sights.{calling, TellsAll, Kno
 use crate::arguments::one_argument;
 use crate::counts::gives_count;
 use crate::numbers::number_of;
-use prim_operators::arena_heap::{Arena, Constants, Value};
-use prim_operators::prim_faults::Stop;
+use arena_heap::{Arena, Constants, Value};
+use prim_faults::Stop;
 
 /// `abs` of one value.
 fn abs_of<C: Constants>(arena: &Arena, _consts: &C, v: Value) -> Result<Value, Stop>

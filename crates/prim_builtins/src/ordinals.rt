@@ -9,9 +9,9 @@ ghost use Rattle.prim_operators.specs.prim_faults.Sights.{calling, Tells, TellsA
 ghost use Rattle.prim_operators.specs.Changeless.{IsAnswerOf};
 
 use crate::arguments::one_argument;
-use prim_operators::arena_heap::{Arena, Constants, Value};
-use prim_operators::prim_faults::{Fault, Stop};
-use prim_operators::prim_walks::{Look, look_at};
+use arena_heap::{Arena, Constants, Value};
+use prim_faults::{Fault, Stop};
+use prim_walks::{Look, look_at};
 
 /// The code of a str of one byte.
 fn code_of(bytes: &[u8]) -> Result<Value, Stop>

@@ -11,8 +11,8 @@ ghost use Rattle.prim_builtins.specs.Bounds.{given_by, BoundsLead};
 
 use crate::arguments::only_between;
 use crate::numbers::number_of;
-use prim_operators::arena_heap::{Arena, Constants, Value};
-use prim_operators::prim_faults::{Fault, Stop};
+use arena_heap::{Arena, Constants, Value};
+use prim_faults::{Fault, Stop};
 
 /// What a range is called with.
 #[derive(Clone, Copy)]

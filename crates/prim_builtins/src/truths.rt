@@ -9,9 +9,9 @@ ghost use Rattle.prim_operators.specs.py_primitives.Outcome.{gives};
 ghost use Rattle.prim_operators.specs.prim_faults.Sights.{calling, Tells, TellsAll, KnowsAll, Does};
 
 use crate::arguments::one_argument;
-use prim_operators::arena_heap::{Arena, Constants, Value};
-use prim_operators::prim_faults::Stop;
-use prim_operators::prim_walks::truth;
+use arena_heap::{Arena, Constants, Value};
+use prim_faults::Stop;
+use prim_walks::truth;
 
 /// `bool` of one value.
 fn truth_of<C: Constants>(arena: &Arena, consts: &C, v: Value) -> Result<Value, Stop>

@@ -9,8 +9,8 @@ ghost use Rattle.prim_calls.specs.Binding.{name_text, plain_slots, AreKnown, IsB
 use crate::defaults::put_defaults;
 use crate::keywords::put_keywords;
 use crate::slots::{empty_slots, put_arguments};
-use prim_methods::arena_heap::{Arena, Constants, StrNo, Value};
-use prim_methods::prim_faults::Fault;
+use arena_heap::{Arena, Constants, StrNo, Value};
+use prim_faults::Fault;
 
 /// The parameters of a function: their names, for how many of the last its code has defaults, and the function's defaults.
 #[derive(Clone, Copy)]

@@ -8,13 +8,13 @@ ghost use Rattle.prim_types.specs.py_primitives.Calls.{Exactly, Between, counts_
 ghost use Rattle.prim_methods.specs.prim_faults.Sights.{calling, TellsAll, KnowsAll, Does};
 ghost use Rattle.prim_calls.specs.Families.{IsOnHeap, IsUnbound};
 
+use arena_heap::{Arena, Constants, Value};
 use mpy_base::Builtin;
-use prim_collections::{call_list, call_max, call_min, call_tuple};
-use prim_methods::arena_heap::{Arena, Constants, Value};
-use prim_methods::prim_faults::Stop;
-use prim_types::prim_builtins::{
+use prim_builtins::{
     call_abs, call_bool, call_chr, call_len, call_ord, call_range, only_between, only_so_many,
 };
+use prim_collections::{call_list, call_max, call_min, call_tuple};
+use prim_faults::Stop;
 use prim_types::{call_dict, call_int, call_isinstance, call_kind, call_repr, call_str};
 
 /// A built-in that only judges how many arguments it is given.

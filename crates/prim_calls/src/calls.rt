@@ -8,11 +8,11 @@ ghost use Rattle.prim_methods.specs.prim_faults.Sights.{under, TellsAll, KnowsAl
 ghost use Rattle.prim_calls.specs.Calls.{IsCall, IsKnownCall, as_call, as_print};
 
 use crate::builtins::call_on_heap;
+use arena_heap::{Arena, Constants, Value};
 use mpy_base::Builtin;
 use mpy_io::{Failed, Port, Sink};
 use port_set::PortSet;
-use prim_methods::arena_heap::{Arena, Constants, Value};
-use prim_methods::prim_faults::{Fault, Stop, ValueType};
+use prim_faults::{Fault, Stop, ValueType};
 use prim_outputs::{PrintStop, call_port_count, call_port_get, call_port_put, call_print};
 
 /// Why a call of a built-in gives no value.

@@ -8,9 +8,9 @@ ghost use Rattle.prim_methods.specs.prim_faults.Sights.{under, sight, TellsAll, 
 ghost use Rattle.prim_calls.specs.Binding.{plain_slot, plain_slots, AreKnown};
 
 use crate::slots::slot_at;
-use prim_methods::arena_heap::{Arena, Constants, Value};
-use prim_methods::arena_objects::item_at;
-use prim_methods::prim_walks::{Look, look_at};
+use arena_heap::{Arena, Constants, Value};
+use arena_objects::item_at;
+use prim_walks::{Look, look_at};
 
 /// The default at a place. What is no tuple has none.
 fn default_at<C: Constants>(arena: &Arena, consts: &C, defaults: Value, at: u32) -> Option<Value>

@@ -10,9 +10,9 @@ ghost use Rattle.prim_methods.specs.prim_faults.Sights.{under, sight, Knows, Kno
 ghost use Rattle.prim_calls.specs.Binding.{name_text, plain_slots, AreKnown, plain_bound, IsKnownBound};
 
 use crate::slots::slot_at;
-use prim_methods::arena_heap::{Arena, Constants, StrNo, Value};
-use prim_methods::arena_objects::text_bytes;
-use prim_methods::prim_faults::{Fault, name_bytes};
+use arena_heap::{Arena, Constants, StrNo, Value};
+use arena_objects::text_bytes;
+use prim_faults::{Fault, name_bytes};
 
 /// Whether a parameter has this name.
 fn is_named<C: Constants>(consts: &C, param: StrNo, name: &[u8]) -> bool

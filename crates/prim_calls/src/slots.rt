@@ -3,7 +3,7 @@
 ghost use Rattle.std.specs.Prelude.{◌≡◌, ◌<◌, ◌≤◌, length, Some, slice_get};
 ghost use Rattle.prim_calls.specs.Slots.{first_values, count_empty};
 
-use prim_methods::arena_heap::Value;
+use arena_heap::Value;
 
 /// The argument at a place, if there is one.
 fn argument_at(args: &[Value], at: usize) -> Option<Value>

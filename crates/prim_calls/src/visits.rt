@@ -7,9 +7,9 @@ ghost use Rattle.prim_types.specs.py_primitives.Methods.{call_method as call_met
 ghost use Rattle.py_effects.specs.Calling.{call_builtin as call_builtin_in};
 ghost use Rattle.prim_methods.specs.prim_faults.Sights.{sight, TellsAll, Knows, KnowsAll, KnowsPairs, CountsUpTo, world_over};
 
+use arena_heap::{Arena, Constants, Value};
 use mpy_base::Builtin;
 use prim_collections::{visits_call_list, visits_call_max, visits_call_min, visits_call_tuple};
-use prim_methods::arena_heap::{Arena, Constants, Value};
 use prim_methods::{
     visits_call_dict_items, visits_call_dict_keys, visits_call_dict_values, visits_call_list_extend,
 };

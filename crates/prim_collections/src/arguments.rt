@@ -5,9 +5,9 @@ ghost use Rattle.prim_builtins.specs.py_primitives.Calls.{AtLeast, Between};
 ghost use Rattle.prim_builtins.specs.Arguments.{IsRefusal};
 ghost use Rattle.prim_collections.specs.Collected.{AreOptional};
 
-use prim_builtins::arena_heap::Value;
+use arena_heap::Value;
 use prim_builtins::only_between;
-use prim_builtins::prim_faults::Fault;
+use prim_faults::Fault;
 
 /// The only argument, where there is one.
 pub(crate) fn optional_argument(

@@ -18,10 +18,10 @@ use crate::extreme::Extreme;
 use crate::iterables::{is_iterable, is_str};
 use crate::letters::spelled_bytes;
 use crate::searches::best;
-use prim_builtins::arena_heap::{Arena, Constants, Value};
+use arena_heap::{Arena, Constants, Value};
 use prim_builtins::letter;
-use prim_builtins::prim_faults::{Fault, Stop, type_of};
-use prim_builtins::prim_operators::items_law;
+use prim_faults::{Fault, Stop, type_of};
+use prim_operators::items_law;
 
 /// The best of values, which is one of them.
 fn best_value<C: Constants>(

@@ -16,8 +16,8 @@ use crate::candidates::{Candidates, candidate_count};
 use crate::extreme::Extreme;
 use crate::iterables::{is_iterable, is_str, kept_count};
 use crate::searches::visits_best;
-use prim_builtins::arena_heap::{Arena, Constants, Value};
-use prim_builtins::prim_operators::items_law;
+use arena_heap::{Arena, Constants, Value};
+use prim_operators::items_law;
 
 fn visits_best_value<C: Constants>(
     arena: &Arena,

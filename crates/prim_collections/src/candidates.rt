@@ -4,8 +4,8 @@ ghost use Rattle.std.specs.Prelude.{◌≡◌, ◌<◌, length, slice_index_or};
 ghost use Rattle.prim_builtins.specs.prim_faults.Sights.{under, TellsAll, Knows};
 ghost use Rattle.prim_collections.specs.Best.{values_of, AreKnown};
 
-use prim_builtins::arena_heap::{Arena, Constants, Value};
-use prim_builtins::arena_objects::{item_at, item_count};
+use arena_heap::{Arena, Constants, Value};
+use arena_objects::{item_at, item_count};
 
 /// The items of an iterable that is no str, or the arguments of a call.
 #[derive(Clone, Copy)]

@@ -5,8 +5,8 @@ ghost use Rattle.prim_builtins.specs.arena_heap.Values.{Leads};
 ghost use Rattle.prim_builtins.specs.prim_faults.Sights.{under, Tells};
 ghost use Rattle.prim_collections.specs.Collected.{is_iterable as iterates, is_str as is_some_str, is_tuple as is_some_tuple, kept_length};
 
-use prim_builtins::arena_heap::{Arena, Constants, Value};
-use prim_builtins::arena_objects::{item_count, text_bytes};
+use arena_heap::{Arena, Constants, Value};
+use arena_objects::{item_count, text_bytes};
 
 /// Has a value items?
 pub(crate) fn is_iterable(v: Value) -> bool

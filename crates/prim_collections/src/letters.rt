@@ -5,8 +5,8 @@ ghost use Rattle.prim_builtins.specs.arena_heap.Values.{Leads};
 ghost use Rattle.prim_builtins.specs.arena_objects.Iterables.{spelled};
 ghost use Rattle.prim_builtins.specs.prim_faults.Sights.{Tells};
 
-use prim_builtins::arena_heap::{Arena, Constants, Value};
-use prim_builtins::arena_objects::text_bytes;
+use arena_heap::{Arena, Constants, Value};
+use arena_objects::text_bytes;
 
 /// The bytes of a str, and none of another value.
 pub(crate) fn spelled_bytes<'a, C: Constants>(arena: &'a Arena, consts: &'a C, v: Value) -> &'a [u8]

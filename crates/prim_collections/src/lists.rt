@@ -11,10 +11,10 @@ ghost use Rattle.prim_collections.specs.Collected.{is_iterable as iterates};
 
 use crate::arguments::optional_argument;
 use crate::iterables::{is_iterable, kept_count};
-use prim_builtins::arena_heap::{Arena, Constants, Value};
-use prim_builtins::arena_objects::list_extend;
-use prim_builtins::prim_faults::{Fault, Stop, type_of};
-use prim_builtins::prim_operators::{items_law, length_of};
+use arena_heap::{Arena, Constants, Value};
+use arena_objects::list_extend;
+use prim_faults::{Fault, Stop, type_of};
+use prim_operators::{items_law, length_of};
 
 fn empty_list<C: Constants>(arena: &mut Arena, _consts: &C) -> Result<Value, Stop>
     requires all_told { TellsAll C.Constants _consts.now arena.old }

@@ -9,8 +9,8 @@ ghost use Rattle.prim_collections.specs.Best.{plain_extreme, best_among, values_
 
 use crate::candidates::{Candidates, candidate, candidate_count};
 use crate::extreme::Extreme;
-use prim_builtins::arena_heap::{Arena, Constants, Value};
-use prim_builtins::prim_walks::{Unordered, order, visits_order};
+use arena_heap::{Arena, Constants, Value};
+use prim_walks::{Unordered, order, visits_order};
 use std::cmp::Ordering;
 
 /// The better of a value and the best so far.

@@ -13,10 +13,10 @@ ghost use Rattle.prim_collections.specs.Collected.{is_iterable as iterates, kept
 
 use crate::arguments::optional_argument;
 use crate::iterables::{is_iterable, is_str, is_tuple, kept_count};
-use prim_builtins::arena_heap::{Arena, Constants, TextNo, TupleNo, Value, tuple_fill};
-use prim_builtins::arena_objects::{item_at, make_texts};
-use prim_builtins::prim_faults::{Fault, Stop, type_of};
-use prim_builtins::prim_operators::{items_law, length_of};
+use arena_heap::{Arena, Constants, TextNo, TupleNo, Value, tuple_fill};
+use arena_objects::{item_at, make_texts};
+use prim_faults::{Fault, Stop, type_of};
+use prim_operators::{items_law, length_of};
 
 /// What is kept of an item of an iterable. Those of a str are texts of two cells each, from the first.
 fn kept_item<C: Constants>(

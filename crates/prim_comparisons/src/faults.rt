@@ -4,7 +4,7 @@ ghost use Rattle.prim_faults.specs.arena_heap.Values.{Leads};
 ghost use Rattle.prim_faults.specs.Faults.{method_text};
 ghost use Rattle.prim_comparisons.specs.Operands.{IsUnsupported};
 
-use prim_faults::arena_heap::{Arena, Value};
+use arena_heap::{Arena, Value};
 use prim_faults::{Fault, SpecialMethod, type_of};
 
 /// The fault that the operator of this method takes no such operands.

@@ -14,10 +14,10 @@ ghost use Rattle.prim_faults.specs.Sights.{Tells, TellsAll, Does, CountsUpTo};
 use crate::faults::unsupported;
 use crate::parts::has_part;
 use crate::ranges::has_number;
-use prim_faults::arena_heap::{Arena, Constants, DictNo, Value};
-use prim_faults::arena_objects::dict_get;
-use prim_faults::prim_walks::{Look, contains, look_at, visits_contains};
+use arena_heap::{Arena, Constants, DictNo, Value};
+use arena_objects::dict_get;
 use prim_faults::{Fault, SpecialMethod, Stop, is_key, type_of};
+use prim_walks::{Look, contains, look_at, visits_contains};
 
 /// Whether a list or tuple has an item that equals a value.
 fn has_item<C: Constants>(arena: &Arena, consts: &C, v: Value, over: Value) -> Result<Value, Stop>

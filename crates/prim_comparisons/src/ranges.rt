@@ -6,8 +6,8 @@ ghost use Rattle.prim_faults.specs.arena_heap.Values.{Leads, IsSmall};
 ghost use Rattle.prim_faults.specs.py_primitives.Operators.{is_in_range as is_number_of};
 ghost use Rattle.prim_comparisons.specs.Operands.{DecidesNumber};
 
-use prim_faults::arena_heap::{Arena, Value};
-use prim_faults::arena_objects::{range_count, range_number};
+use arena_heap::{Arena, Value};
+use arena_objects::{range_count, range_number};
 
 fn is_one_number(a: i32, b: i32) -> bool
     ensures { result ≡ int_eq a b }

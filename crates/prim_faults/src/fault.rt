@@ -2,8 +2,8 @@
 
 use crate::method::SpecialMethod;
 use crate::types::ValueType;
-use prim_walks::arena_heap::{StrNo, Value};
-use prim_walks::py_values::NumFault;
+use arena_heap::{StrNo, Value};
+use py_values::NumFault;
 
 /// A fault that a primitive or the machine raises. Names that a program may make are strs of the arena.
 #[derive(Clone, Copy, Debug, PartialEq, Eq)]

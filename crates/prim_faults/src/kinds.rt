@@ -6,7 +6,7 @@ ghost use Rattle.prim_faults.specs.Faults.{IsKindOf};
 
 use crate::fault::Fault;
 use mpy_base::Kind;
-use prim_walks::py_values::NumFault;
+use py_values::NumFault;
 
 /// The kind of exception that a fault of arithmetic is.
 fn number_kind(fault: NumFault) -> Kind

@@ -18,8 +18,6 @@ pub use fault::Fault;
 pub use keys::is_key;
 pub use kinds::fault_kind;
 pub use method::SpecialMethod;
-pub use prim_walks;
-pub use prim_walks::{arena_heap, arena_objects, py_values};
 pub use seen_names::name_bytes;
 pub use stop::Stop;
 pub use texts::{fault_byte, fault_len};

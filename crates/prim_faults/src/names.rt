@@ -5,8 +5,8 @@ ghost use Rattle.prim_walks.specs.arena_objects.Iterables.{or_nothing, spelled};
 ghost use Rattle.prim_faults.specs.Faults.{IsKnownFault, IsKnownStr, IsPrefix, name_in};
 
 use crate::fault::Fault;
-use prim_walks::arena_heap::{Arena, Constants, StrNo, Value};
-use prim_walks::arena_objects::text_bytes;
+use arena_heap::{Arena, Constants, StrNo, Value};
+use arena_objects::text_bytes;
 
 /// The bytes of a constant name.
 fn constant_name<C: Constants>(consts: &C, name: StrNo) -> &[u8]

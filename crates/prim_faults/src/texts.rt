@@ -8,7 +8,7 @@ use crate::fault::Fault;
 use crate::names::fault_name;
 use crate::piece::{pieces_byte, pieces_len};
 use crate::wording::wording;
-use prim_walks::arena_heap::{Arena, Constants};
+use arena_heap::{Arena, Constants};
 
 /// How many bytes a fault's text has.
 pub fn fault_len<C: Constants>(arena: &Arena, consts: &C, fault: Fault) -> usize

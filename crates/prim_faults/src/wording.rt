@@ -11,7 +11,7 @@ use crate::fault::Fault;
 use crate::method::SpecialMethod;
 use crate::piece::Piece;
 use crate::types::ValueType;
-use prim_walks::py_values::NumFault;
+use py_values::NumFault;
 
 /// The piece without a byte.
 const NOTHING: Piece = Piece::Text("");

@@ -9,9 +9,9 @@ ghost use Rattle.prim_assignments.specs.prim_faults.Sights.{calling_method, Tell
 
 use crate::objects::list_number;
 use crate::puts::put_item;
-use prim_assignments::arena_heap::{Arena, Constants, ListNo, Value, list_len};
-use prim_assignments::prim_faults::Stop;
+use arena_heap::{Arena, Constants, ListNo, Value, list_len};
 use prim_builtins::one_argument;
+use prim_faults::Stop;
 
 fn append<C: Constants>(arena: &mut Arena, consts: &C, l: ListNo, v: Value) -> Result<Value, Stop>
     requires list { IsA arena.old.objects AList l.cell }

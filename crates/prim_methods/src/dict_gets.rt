@@ -11,10 +11,10 @@ ghost use Rattle.prim_builtins.specs.py_primitives.Methods.{get_or as value_or};
 ghost use Rattle.prim_assignments.specs.prim_faults.Sights.{calling_method, Tells, TellsAll, KnowsAll, Does};
 
 use crate::objects::dict_number;
-use prim_assignments::arena_heap::{Arena, Constants, DictNo, Value};
-use prim_assignments::arena_objects::dict_get;
-use prim_assignments::prim_faults::{Fault, SpecialMethod, Stop, is_key, type_of};
+use arena_heap::{Arena, Constants, DictNo, Value};
+use arena_objects::dict_get;
 use prim_builtins::only_between;
+use prim_faults::{Fault, SpecialMethod, Stop, is_key, type_of};
 
 /// The value of a key, and else the first of the other arguments, if there is one.
 fn get<C: Constants>(

@@ -11,12 +11,12 @@ ghost use Rattle.prim_assignments.specs.prim_faults.Sights.{calling_method, Tell
 ghost use Rattle.prim_methods.specs.PairTuples.{with_tuples, tuples_from, TupleRefused};
 
 use crate::objects::dict_number;
-use mpy_base::NoRoom;
-use prim_assignments::arena_heap::{
+use arena_heap::{
     Arena, Constants, DictNo, ListNo, TupleNo, Value, dict_at, dict_len, put_in_list, tuple_fill,
 };
-use prim_assignments::prim_faults::Stop;
+use mpy_base::NoRoom;
 use prim_builtins::only_so_many;
+use prim_faults::Stop;
 
 /// Makes a tuple of two values.
 fn make_pair(arena: &mut Arena, key: Value, v: Value) -> Result<(), NoRoom>

@@ -10,11 +10,11 @@ ghost use Rattle.prim_builtins.specs.py_primitives.Operators.{extend as extend_i
 ghost use Rattle.prim_assignments.specs.prim_faults.Sights.{calling_method, Tells, TellsAll, KnowsAll, Does, CountsUpTo};
 
 use crate::objects::list_number;
-use prim_assignments::arena_heap::{Arena, Constants, ListNo, Value};
+use arena_heap::{Arena, Constants, ListNo, Value};
 use prim_assignments::extend_list;
-use prim_assignments::prim_faults::Stop;
-use prim_assignments::prim_operators::length_of;
 use prim_builtins::one_argument;
+use prim_faults::Stop;
+use prim_operators::length_of;
 
 /// Extends a list, and gives None.
 fn extend_only<C: Constants>(

@@ -9,11 +9,9 @@ ghost use Rattle.prim_assignments.specs.prim_faults.Sights.{calling_method, Tell
 ghost use Rattle.prim_methods.specs.Halves.{half_of};
 
 use crate::objects::dict_number;
-use prim_assignments::arena_heap::{
-    Arena, Constants, DictNo, ListNo, Value, dict_at, dict_len, put_in_list,
-};
-use prim_assignments::prim_faults::Stop;
+use arena_heap::{Arena, Constants, DictNo, ListNo, Value, dict_at, dict_len, put_in_list};
 use prim_builtins::only_so_many;
+use prim_faults::Stop;
 
 /// What a dict gives of each pair.
 #[derive(Clone, Copy)]

@@ -10,9 +10,9 @@ ghost use Rattle.prim_assignments.specs.prim_faults.Sights.{calling_method, Tell
 
 use crate::objects::list_number;
 use crate::puts::put_item;
-use prim_assignments::arena_heap::{Arena, Constants, ListNo, Value, list_len};
-use prim_assignments::prim_faults::Stop;
+use arena_heap::{Arena, Constants, ListNo, Value, list_len};
 use prim_builtins::{number_of, only_so_many};
+use prim_faults::Stop;
 
 /// The place in front of which an index puts an item. A negative one counts from the end.
 fn place_before(len: u32, index: i32) -> u32

@@ -22,5 +22,3 @@ pub use halves::{
 };
 pub use inserts::call_list_insert;
 pub use pops::call_list_pop;
-pub use prim_assignments;
-pub use prim_assignments::{arena_heap, arena_objects, prim_faults, prim_operators, prim_walks};

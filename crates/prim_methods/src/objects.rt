@@ -3,7 +3,7 @@
 ghost use Rattle.std.specs.Prelude.{◌≡◌};
 ghost use Rattle.prim_assignments.specs.arena_heap.Values.{IsList, IsDict};
 
-use prim_assignments::arena_heap::{DictNo, ListNo, Value};
+use arena_heap::{DictNo, ListNo, Value};
 
 /// The number of a list.
 pub(crate) fn list_number(object: Value) -> ListNo

@@ -9,10 +9,10 @@ ghost use Rattle.prim_builtins.specs.py_primitives.Methods.{pop as pop_in, pop_f
 ghost use Rattle.prim_assignments.specs.prim_faults.Sights.{calling_method, TellsAll, KnowsAll, Does};
 
 use crate::objects::list_number;
-use prim_assignments::arena_heap::{Arena, Constants, ListNo, Value, list_len, list_pop};
-use prim_assignments::prim_faults::{Fault, Stop};
-use prim_assignments::prim_operators::{items_law, place_of};
+use arena_heap::{Arena, Constants, ListNo, Value, list_len, list_pop};
 use prim_builtins::{number_of, only_between};
+use prim_faults::{Fault, Stop};
+use prim_operators::{items_law, place_of};
 
 /// Takes out the item that a number names.
 fn pop_from<C: Constants>(

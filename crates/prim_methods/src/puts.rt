@@ -6,8 +6,8 @@ ghost use Rattle.prim_assignments.specs.arena_heap.Values.{Leads};
 ghost use Rattle.prim_builtins.specs.py_primitives.Methods.{put_items};
 ghost use Rattle.prim_assignments.specs.prim_faults.Sights.{Tells, TellsAll, Does};
 
-use prim_assignments::arena_heap::{Arena, Constants, ListNo, Value, list_insert};
-use prim_assignments::prim_faults::Stop;
+use arena_heap::{Arena, Constants, ListNo, Value, list_insert};
+use prim_faults::Stop;
 
 /// Puts a value in front of a place of a list, or behind all items.
 pub(crate) fn put_item<C: Constants>(

@@ -1,6 +1,6 @@
 //! Entries of the registered modules.
 
-use prim_assignments::arena_heap::ModuleNo;
+use arena_heap::ModuleNo;
 
 /// A registered module: the number of its name, and its object.
 #[derive(Clone, Copy, Debug, PartialEq, Eq)]

@@ -13,11 +13,9 @@ ghost use Rattle.prim_assignments.specs.prim_faults.Sights.{sight, TellsAll, Kno
 ghost use Rattle.prim_modules.specs.Effects.{IsEffect, IsMade, IsMaking, AreMade, as_value, registry_after};
 
 use crate::registry::Modules;
-use prim_assignments::arena_heap::{
-    Arena, Constants, DictNo, ModuleNo, StrNo, Value, module_names,
-};
-use prim_assignments::prim_faults::Stop;
+use arena_heap::{Arena, Constants, DictNo, ModuleNo, StrNo, Value, module_names};
 use prim_assignments::set_attr;
+use prim_faults::Stop;
 
 /// What a function has: the numbers of its name, of its module's name and of its code, the namespace of its module, and
 /// its defaults.

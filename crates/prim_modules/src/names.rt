@@ -3,8 +3,8 @@
 ghost use Rattle.std.specs.Prelude.{◌≡◌, bytes_eq};
 ghost use Rattle.prim_assignments.specs.prim_faults.Sights.{sight};
 
-use prim_assignments::arena_heap::{Constants, StrNo};
-use prim_assignments::prim_faults::name_bytes;
+use arena_heap::{Constants, StrNo};
+use prim_faults::name_bytes;
 
 /// Whether a name has this text.
 pub(crate) fn is_named<C: Constants>(consts: &C, name: u32, text: &[u8]) -> bool

@@ -10,8 +10,8 @@ ghost use Rattle.prim_modules.specs.Registry.{plain_entry, plain_modules, with_e
 
 use crate::entry::Entry;
 use crate::names::is_named;
+use arena_heap::{Constants, ModuleNo, Value};
 use mpy_base::{Builtin, NoMemory};
-use prim_assignments::arena_heap::{Constants, ModuleNo, Value};
 use std::alloc::Global;
 use std::marker::Model;
 

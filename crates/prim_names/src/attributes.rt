@@ -6,10 +6,10 @@ ghost use Rattle.prim_methods.specs.prim_faults.Sights.{under};
 ghost use Rattle.prim_raising.specs.Worlds.{Stands, HasEffect};
 ghost use Rattle.prim_names.specs.Looks.{Looks};
 
+use arena_heap::{Arena, Constants, StrNo, Value};
 use mpy_base::Builtin;
-use prim_methods::arena_heap::{Arena, Constants, StrNo, Value};
-use prim_methods::prim_faults::{Fault, Stop, type_of};
-use prim_methods::prim_operators::{Attribute, attribute_of, bind_method};
+use prim_faults::{Fault, Stop, type_of};
+use prim_operators::{Attribute, attribute_of, bind_method};
 
 /// What a method call begins with: a method and its object, or any value.
 #[derive(Clone, Copy, Debug, PartialEq, Eq)]

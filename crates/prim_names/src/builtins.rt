@@ -9,9 +9,9 @@ ghost use Rattle.py_effects.specs.py_values.Names.{builtin_name as name_of};
 ghost use Rattle.py_effects.specs.py_primitives.Builtins.{named as first_named, globals as all_globals, global_named as builtin_of_name};
 
 use crate::globals::name_bytes;
+use arena_heap::{Constants, StrNo};
 use mpy_base::{Builtin, Kind};
-use prim_methods::arena_heap::{Constants, StrNo};
-use prim_methods::prim_walks::builtin_name;
+use prim_walks::builtin_name;
 
 /// What names can mean that no namespace has, in the order in which a name is looked for.
 const GLOBALS: [Builtin; 39] = [

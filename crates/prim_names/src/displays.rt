@@ -8,8 +8,8 @@ ghost use Rattle.py_effects.specs.py_primitives.Outcome.{making, making_list};
 ghost use Rattle.prim_methods.specs.prim_faults.Sights.{under, Does};
 ghost use Rattle.prim_raising.specs.Worlds.{Stands};
 
-use prim_methods::arena_heap::{Arena, Constants, ListNo, Value, put_in_list};
-use prim_methods::prim_faults::Stop;
+use arena_heap::{Arena, Constants, ListNo, Value, put_in_list};
+use prim_faults::Stop;
 
 /// The item at a place.
 fn item_at(items: &[Value], at: usize) -> Value

@@ -9,10 +9,10 @@ ghost use Rattle.prim_methods.specs.prim_faults.Sights.{under};
 ghost use Rattle.prim_raising.specs.Worlds.{Stands, HasEffect};
 
 use crate::builtins::global_of;
-use prim_methods::arena_heap::{Arena, Constants, DictNo, StrNo, Value};
-use prim_methods::arena_objects::{dict_delete, dict_get};
-use prim_methods::prim_assignments::set_item;
-use prim_methods::prim_faults::{Fault, Stop};
+use arena_heap::{Arena, Constants, DictNo, StrNo, Value};
+use arena_objects::{dict_delete, dict_get};
+use prim_assignments::set_item;
+use prim_faults::{Fault, Stop};
 
 /// The bytes of a name.
 pub(crate) fn name_bytes<C: Constants>(consts: &C, name: StrNo) -> &[u8]

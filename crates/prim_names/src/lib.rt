@@ -13,4 +13,3 @@ pub use displays::{make_dict, make_list};
 pub use globals::{delete_global, load_global, store_global};
 pub use locals::assigned;
 pub use pairs::store_pair;
-pub use prim_methods::{arena_heap, arena_objects, prim_assignments, prim_faults, prim_walks};

@@ -6,8 +6,8 @@ ghost use Rattle.py_effects.specs.Names.{assigned as is_assigned};
 ghost use Rattle.prim_methods.specs.prim_faults.Sights.{under, Knows};
 ghost use Rattle.prim_raising.specs.Worlds.{Stands, HasEffect};
 
-use prim_methods::arena_heap::{Arena, Constants, Value};
-use prim_methods::prim_faults::{Fault, Stop};
+use arena_heap::{Arena, Constants, Value};
+use prim_faults::{Fault, Stop};
 
 /// The value of a local, which is a fault where its slot is empty.
 pub fn assigned<C: Constants>(

@@ -5,10 +5,10 @@ ghost use Rattle.py_effects.specs.Names.{store_pair as stores};
 ghost use Rattle.prim_methods.specs.prim_faults.Sights.{under};
 ghost use Rattle.prim_raising.specs.Worlds.{Stands, HasEffect};
 
-use prim_methods::arena_heap::{Arena, Constants, Value};
-use prim_methods::prim_assignments::set_item;
-use prim_methods::prim_faults::{Fault, Stop, type_of};
-use prim_methods::prim_operators::{Container, container_of};
+use arena_heap::{Arena, Constants, Value};
+use prim_assignments::set_item;
+use prim_faults::{Fault, Stop, type_of};
+use prim_operators::{Container, container_of};
 
 /// Sets a pair of the dict that is made. Any other value is a fault.
 pub fn store_pair<C: Constants>(

@@ -10,9 +10,9 @@ ghost use Rattle.prim_faults.specs.py_primitives.Uses.{attribute as attribute_in
 ghost use Rattle.prim_faults.specs.Sights.{under, sight, Tells, TellsAll, Does};
 ghost use Rattle.prim_operators.specs.Attributes.{plain_attribute, IsKnownAttribute, IsMethodsAttribute, IsArgsAttribute, IsBuiltAttribute};
 
+use arena_heap::{Arena, Constants, ModuleNo, StrNo, Value, exc_parts, module_parts};
+use arena_objects::dict_get;
 use mpy_base::Builtin;
-use prim_faults::arena_heap::{Arena, Constants, ModuleNo, StrNo, Value, exc_parts, module_parts};
-use prim_faults::arena_objects::dict_get;
 use prim_faults::{Fault, Stop, name_bytes, type_of};
 
 /// What an attribute of a value is: a value, a method of the value's type, or nothing.

@@ -13,8 +13,8 @@ ghost use Rattle.prim_faults.specs.Sights.{Tells, TellsAll, Does};
 use crate::containers::{Container, container_of};
 use crate::indexes::place_of;
 use crate::items::items_law;
-use prim_faults::arena_heap::{Arena, Constants, DictNo, ListNo, Value, list_pop};
-use prim_faults::arena_objects::dict_delete;
+use arena_heap::{Arena, Constants, DictNo, ListNo, Value, list_pop};
+use arena_objects::dict_delete;
 use prim_faults::{Fault, SpecialMethod, Stop, is_key, type_of};
 
 /// Deletes the pair of a key.

@@ -13,7 +13,7 @@ use crate::keys::get_key;
 use crate::lengths::length_of;
 use crate::operand::number_of;
 use crate::places::place_at;
-use prim_faults::arena_heap::{Arena, Constants, Value};
+use arena_heap::{Arena, Constants, Value};
 use prim_faults::{Fault, Stop, type_of};
 
 /// The place that an index names, or the fault.

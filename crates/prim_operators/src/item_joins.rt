@@ -7,8 +7,8 @@ ghost use Rattle.prim_faults.specs.Sights.{under, TellsAll, Does};
 ghost use Rattle.prim_operators.specs.Sources.{source_items, AreKnown, AreElsewhere};
 
 use crate::sources::{Source, items_len, source_item};
+use arena_heap::{Arena, Constants, ListNo, TupleNo, Value, put_in_list, tuple_fill};
 use prim_faults::Stop;
-use prim_faults::arena_heap::{Arena, Constants, ListNo, TupleNo, Value, put_in_list, tuple_fill};
 
 /// Fills a tuple with the items of values.
 fn fill_tuple<C: Constants>(arena: &mut Arena, consts: &C, t: TupleNo, count: u32, source: Source)

@@ -7,8 +7,8 @@ ghost use Rattle.prim_faults.specs.Sights.{under, TellsAll, Does};
 ghost use Rattle.prim_operators.specs.Sources.{source_bytes, AreStrs, IsApart};
 
 use crate::sources::{Source, byte_at, bytes_len};
+use arena_heap::{Arena, Constants, StrNo, TextNo, Value, text_fill};
 use prim_faults::Stop;
-use prim_faults::arena_heap::{Arena, Constants, StrNo, TextNo, Value, text_fill};
 
 /// Writes the bytes of strs to a text of their length.
 fn fill_text<C: Constants>(arena: &mut Arena, consts: &C, t: TextNo, count: u32, source: Source)

@@ -7,8 +7,8 @@ ghost use Rattle.prim_faults.specs.py_primitives.Outcome.{gives};
 ghost use Rattle.prim_faults.specs.py_primitives.Uses.{of_key};
 ghost use Rattle.prim_faults.specs.Sights.{Tells, TellsAll, Does};
 
-use prim_faults::arena_heap::{Arena, Constants, DictNo, Value};
-use prim_faults::arena_objects::dict_get;
+use arena_heap::{Arena, Constants, DictNo, Value};
+use arena_objects::dict_get;
 use prim_faults::{Fault, SpecialMethod, Stop, is_key, type_of};
 
 /// The value of a key.

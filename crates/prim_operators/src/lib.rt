@@ -28,6 +28,4 @@ pub use lengths::length_of;
 pub use one_operand::{unary, unary_not};
 pub use operand::number_of;
 pub use operators::{Operator, UnaryOperator};
-pub use prim_faults;
-pub use prim_faults::{arena_heap, arena_objects, prim_walks, py_values};
 pub use two_operands::binary;

@@ -6,9 +6,9 @@ ghost use Rattle.prim_operators.specs.Operators.{plain_operator, plain_unary};
 ghost use Rattle.prim_operators.specs.Changeless.{IsAnswerOf};
 
 use crate::operators::{Operator, UnaryOperator};
-use prim_faults::arena_heap::Value;
-use prim_faults::py_values::{NumFault, SmallInt};
+use arena_heap::Value;
 use prim_faults::{Fault, Stop};
+use py_values::{NumFault, SmallInt};
 
 /// What an operator gives of one number.
 pub(crate) fn unary_answer(op: UnaryOperator, n: SmallInt) -> Result<SmallInt, NumFault>

@@ -8,9 +8,9 @@ ghost use Rattle.prim_operators.specs.Operators.{plain_unary};
 use crate::numbers::{gives_number, unary_answer};
 use crate::operand::number_of;
 use crate::operators::UnaryOperator;
-use prim_faults::arena_heap::{Arena, Constants, Value};
-use prim_faults::prim_walks::truth;
+use arena_heap::{Arena, Constants, Value};
 use prim_faults::{Fault, Stop, type_of};
+use prim_walks::truth;
 
 /// `+`, `-` or `~` of a value.
 pub fn unary<C: Constants>(

@@ -4,8 +4,8 @@ ghost use Rattle.std.specs.Prelude.{◌≡◌};
 ghost use Rattle.prim_faults.specs.arena_heap.Values.{HasSmall};
 ghost use Rattle.prim_operators.specs.Operands.{number_in};
 
-use prim_faults::arena_heap::Value;
-use prim_faults::py_values::SmallInt;
+use arena_heap::Value;
+use py_values::SmallInt;
 
 /// The number that a value counts as, if it does.
 pub fn number_of(v: Value) -> Option<SmallInt>

@@ -4,8 +4,8 @@ ghost use Rattle.prim_faults.specs.arena_heap.Values.{Leads};
 ghost use Rattle.prim_operators.specs.Pairs.{IsOperand, IsOperands};
 
 use crate::operand::number_of;
-use prim_faults::arena_heap::{Arena, Value};
-use prim_faults::py_values::SmallInt;
+use arena_heap::{Arena, Value};
+use py_values::SmallInt;
 
 /// Strs, tuples and lists, which are joined and repeated.
 #[derive(Clone, Copy)]

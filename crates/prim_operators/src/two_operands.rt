@@ -15,9 +15,9 @@ use crate::numbers::{gives_number, number_answer};
 use crate::operands::{Operands, Shape, operands_of};
 use crate::operators::Operator;
 use crate::sources::Source;
-use prim_faults::arena_heap::{Arena, Constants, Value};
-use prim_faults::py_values::SmallInt;
+use arena_heap::{Arena, Constants, Value};
 use prim_faults::{Fault, Stop, type_of};
+use py_values::SmallInt;
 
 /// A new str, tuple or list of these.
 fn make_shaped<C: Constants>(

@@ -9,8 +9,8 @@ ghost use Rattle.prim_builtins.specs.prim_faults.Sights.{under, sight, Tells, Kn
 ghost use Rattle.prim_outputs.specs.Ends.{AreStrs, IsKnownFound, given_as, nothing_given, plain_ends, plain_found};
 
 use crate::strs::str_of;
-use prim_builtins::arena_heap::{Arena, Constants, Value};
-use prim_builtins::prim_faults::Fault;
+use arena_heap::{Arena, Constants, Value};
+use prim_faults::Fault;
 
 /// What stands between the texts and behind them, where it is given.
 #[derive(Clone, Copy)]

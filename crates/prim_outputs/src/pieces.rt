@@ -5,7 +5,7 @@ ghost use Rattle.std.specs.Fmt.{decimal, signed_decimal};
 ghost use Rattle.prim_builtins.specs.prim_walks.Pens.{Wrote};
 
 use itoa::Buffer;
-use prim_builtins::prim_walks::Pen;
+use prim_walks::Pen;
 
 /// Writes a piece.
 #[tactic(auto, using(prim_walks::proofs::PenSteps::wrote_piece))]

@@ -12,12 +12,12 @@ ghost use Rattle.prim_builtins.specs.prim_faults.Sights.{sight, KnowsAll, KnowsA
 ghost use Rattle.prim_builtins.specs.prim_operators.Operands.{number_in};
 ghost use Rattle.prim_outputs.specs.PortCalls.{DoesPorts, DoesTold, Failed, FailsListed, FailsPorts, IsFailure, calling_port, IsNoCall, IsNumberAnswer, IsPortAnswer, IsPortOutcome, IsTaken, called_number, get_at, put_at};
 
+use arena_heap::{Arena, Constants, Value};
 use mpy_io::Port;
 use port_set::{PortFault, PortSet};
-use prim_builtins::arena_heap::{Arena, Constants, Value};
-use prim_builtins::prim_faults::{Fault, Stop};
-use prim_builtins::py_values::NumFault;
 use prim_builtins::{number_of, one_argument, only_so_many};
+use prim_faults::{Fault, Stop};
+use py_values::NumFault;
 
 /// The place that a number names, if it is one.
 fn place_of(z: i32) -> Option<usize>

@@ -3,7 +3,7 @@
 ghost use Rattle.std.specs.Prelude.{◌≡◌, false};
 
 use mpy_io::Sink;
-use prim_builtins::prim_walks::Pen;
+use prim_walks::Pen;
 
 /// Puts the pieces of texts, up to the first that fails.
 #[derive(Drop)]

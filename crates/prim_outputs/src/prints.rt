@@ -13,11 +13,11 @@ ghost use Rattle.prim_outputs.specs.Prints.{Puts, PutsOn, in_front, DoesPrint, s
 
 use crate::keywords::{Given, given_by};
 use crate::printer::Printer;
+use arena_heap::{Arena, Constants, Value};
+use arena_objects::text_bytes;
 use mpy_io::{Failed, Sink};
-use prim_builtins::arena_heap::{Arena, Constants, Value};
-use prim_builtins::arena_objects::text_bytes;
-use prim_builtins::prim_faults::Fault;
-use prim_builtins::prim_walks::{Pen, text_len, visits_text, write_text};
+use prim_faults::Fault;
+use prim_walks::{Pen, text_len, visits_text, write_text};
 
 /// Why `print` gives no value.
 #[derive(Clone, Copy, Debug, PartialEq, Eq)]

@@ -15,12 +15,12 @@ ghost use Rattle.prim_outputs.specs.Reports.{first_lines};
 
 use crate::pieces::{write, write_number, write_small};
 use crate::report_printer::Printer;
+use arena_heap::{Arena, Constants, ExcNo, StrNo, Value, exc_parts};
+use arena_objects::{item_at, text_bytes};
 use mpy_base::Kind;
 use mpy_io::{Failed, Sink};
-use prim_builtins::arena_heap::{Arena, Constants, ExcNo, StrNo, Value, exc_parts};
-use prim_builtins::arena_objects::{item_at, text_bytes};
-use prim_builtins::prim_faults::name_bytes;
-use prim_builtins::prim_walks::{Look, Pen, look_at};
+use prim_faults::name_bytes;
+use prim_walks::{Look, Pen, look_at};
 
 /// Writes the first two lines of a report, by the place where its exception was raised.
 fn write_place<P: Pen, C: Constants>(consts: &C, file: u32, line: u32, name: u32, pen: &mut P)

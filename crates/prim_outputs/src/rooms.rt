@@ -9,7 +9,7 @@ use crate::pieces::{write, write_number};
 use crate::report_printer::Printer;
 use mpy_base::NoRoom;
 use mpy_io::{Failed, Sink};
-use prim_builtins::prim_walks::Pen;
+use prim_walks::Pen;
 
 /// What a making asked for, with what ends its line.
 fn unit_text(bytes: bool) -> &'static [u8]

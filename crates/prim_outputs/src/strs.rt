@@ -7,8 +7,8 @@ ghost use Rattle.prim_builtins.specs.py_values.Shown.{shown};
 ghost use Rattle.prim_builtins.specs.py_primitives.Methods.{str_in};
 ghost use Rattle.prim_builtins.specs.prim_faults.Sights.{sight, Tells};
 
-use prim_builtins::arena_heap::{Arena, Constants, Value};
-use prim_builtins::arena_objects::text_bytes;
+use arena_heap::{Arena, Constants, Value};
+use arena_objects::text_bytes;
 
 /// The bytes of a str. Other values have none.
 pub(crate) fn str_of<'a, C: Constants>(

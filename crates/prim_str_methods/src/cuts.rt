@@ -7,8 +7,8 @@ ghost use Rattle.prim_builtins.specs.prim_faults.Sights.{under, KnowsStr};
 ghost use Rattle.prim_builtins.specs.prim_operators.Sources.{IsOtherThan};
 ghost use Rattle.prim_str_methods.specs.Parts.{IsCut, cut_bytes, written};
 
-use prim_builtins::arena_heap::{Arena, Constants, TextNo, Value, text_fill};
-use prim_builtins::arena_objects::text_bytes;
+use arena_heap::{Arena, Constants, TextNo, Value, text_fill};
+use arena_objects::text_bytes;
 
 /// The bytes of a str from a place on.
 #[derive(Clone, Copy)]

@@ -11,12 +11,12 @@ ghost use Rattle.prim_builtins.specs.prim_faults.Sights.{calling_method, Tells, 
 ghost use Rattle.prim_builtins.specs.prim_operators.Changeless.{IsAnswerOf};
 
 use crate::arguments::no_str;
+use arena_heap::{Arena, Constants, Value};
+use arena_objects::text_bytes;
 use memchr::memmem;
-use prim_builtins::arena_heap::{Arena, Constants, Value};
-use prim_builtins::arena_objects::text_bytes;
-use prim_builtins::prim_faults::Stop;
-use prim_builtins::prim_walks::{Look, look_at};
 use prim_builtins::{gives_count, one_argument};
+use prim_faults::Stop;
+use prim_walks::{Look, look_at};
 
 /// The first place of the part, or -1 where it stands nowhere.
 fn place_in(bytes: &[u8], part: &[u8]) -> Result<Value, Stop>

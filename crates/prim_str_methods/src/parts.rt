@@ -10,9 +10,9 @@ ghost use Rattle.prim_builtins.specs.prim_operators.Sources.{IsOtherThan};
 ghost use Rattle.prim_str_methods.specs.Parts.{strs_of, parts_in, cut_bytes, IsCut};
 
 use crate::cuts::{Cut, str_len};
-use prim_builtins::arena_heap::{Arena, Constants, Value};
-use prim_builtins::arena_objects::{item_at, item_count};
-use prim_builtins::prim_operators::items_law;
+use arena_heap::{Arena, Constants, Value};
+use arena_objects::{item_at, item_count};
+use prim_operators::items_law;
 
 /// Whether a value is a str.
 pub(crate) fn is_str(v: Value) -> bool

@@ -7,9 +7,9 @@ ghost use Rattle.prim_builtins.specs.prim_faults.Sights.{under, KnowsStr};
 ghost use Rattle.prim_str_methods.specs.Pieces.{between, IsSpan, IsSplit, IsPiece, pieces_from};
 
 use crate::cuts::Cut;
+use arena_heap::{Arena, Constants, Value};
+use arena_objects::text_bytes;
 use memchr::memmem;
-use prim_builtins::arena_heap::{Arena, Constants, Value};
-use prim_builtins::arena_objects::text_bytes;
 
 /// How a str is split: into words, or by a separator.
 #[derive(Clone, Copy)]

@@ -15,12 +15,10 @@ use crate::arguments::no_str;
 use crate::cuts::{Cut, put_cut, str_len};
 use crate::parts::is_str;
 use crate::pieces::{Split, next_piece};
+use arena_heap::{Arena, Constants, ListNo, StrNo, TextNo, Value, list_len, put_in_list};
 use mpy_base::NoRoom;
-use prim_builtins::arena_heap::{
-    Arena, Constants, ListNo, StrNo, TextNo, Value, list_len, put_in_list,
-};
 use prim_builtins::only_between;
-use prim_builtins::prim_faults::{Fault, Stop};
+use prim_faults::{Fault, Stop};
 
 /// How many pieces a str has.
 fn count_pieces<C: Constants>(arena: &Arena, consts: &C, object: Value, split: Split) -> u64

@@ -11,11 +11,11 @@ ghost use Rattle.prim_builtins.specs.py_primitives.Methods.{of_str};
 ghost use Rattle.prim_builtins.specs.prim_faults.Sights.{calling_method, Tells, TellsAll, KnowsAll, Does};
 
 use crate::arguments::no_str;
-use prim_builtins::arena_heap::{Arena, Constants, Value};
-use prim_builtins::arena_objects::text_bytes;
+use arena_heap::{Arena, Constants, Value};
+use arena_objects::text_bytes;
 use prim_builtins::one_argument;
-use prim_builtins::prim_faults::Stop;
-use prim_builtins::prim_walks::{Look, look_at};
+use prim_faults::Stop;
+use prim_walks::{Look, look_at};
 
 /// Whether the bytes begin with the part.
 fn begins_with(bytes: &[u8], part: &[u8]) -> bool

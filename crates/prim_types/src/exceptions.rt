@@ -12,9 +12,9 @@ ghost use Rattle.prim_builtins.specs.prim_walks.Plain.{plain, plain_pair, plain_
 ghost use Rattle.prim_builtins.specs.prim_faults.Faults.{IsKnown};
 ghost use Rattle.prim_builtins.specs.prim_faults.Outcomes.{IsOutcome};
 
+use arena_heap::{Arena, Constants, TupleNo, Value, tuple_fill};
 use mpy_base::Kind;
-use prim_builtins::arena_heap::{Arena, Constants, TupleNo, Value, tuple_fill};
-use prim_builtins::prim_faults::{Fault, Stop};
+use prim_faults::{Fault, Stop};
 
 fn argument_at(args: &[Value], at: usize) -> Value
     requires { at < length args.now }

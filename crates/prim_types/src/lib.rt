@@ -15,6 +15,4 @@ pub use exceptions::{call_kind, make_tuple};
 pub use instances::call_isinstance;
 pub use matches::op_match;
 pub use numerals::call_int;
-pub use prim_builtins;
-pub use prim_builtins::{arena_heap, arena_objects, prim_faults, prim_operators};
 pub use texts::{call_repr, call_str, visits_call_repr, visits_call_str};

@@ -6,8 +6,8 @@ ghost use Rattle.prim_builtins.specs.arena_heap.Constants.{IsTold};
 ghost use Rattle.prim_builtins.specs.arena_objects.Keys.{AllTold};
 ghost use Rattle.prim_types.specs.Members.{members_in};
 
-use prim_builtins::arena_heap::{Arena, Constants, Value};
-use prim_builtins::arena_objects::{item_at, item_count};
+use arena_heap::{Arena, Constants, Value};
+use arena_objects::{item_at, item_count};
 
 /// How many members a value has.
 pub(crate) fn member_count<C: Constants>(arena: &Arena, consts: &C, v: Value) -> u32

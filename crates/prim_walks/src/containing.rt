@@ -11,7 +11,7 @@ ghost use Rattle.prim_walks.specs.Runs.{run};
 
 use crate::budget::{Budget, Halt};
 use crate::equality::equal_values;
-use arena_objects::arena_heap::{Arena, Constants, Value};
+use arena_heap::{Arena, Constants, Value};
 use arena_objects::{item_at, item_count};
 use mpy_base::limits::MAX_WALK_DEPTH;
 

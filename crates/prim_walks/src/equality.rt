@@ -13,7 +13,7 @@ ghost use Rattle.prim_walks.specs.Runs.{run};
 use crate::budget::{Budget, Halt};
 use crate::meeting::{Meeting, meet};
 use crate::pairs::pair_at;
-use arena_objects::arena_heap::{Arena, Constants, DictNo, Value, dict_len};
+use arena_heap::{Arena, Constants, DictNo, Value, dict_len};
 use arena_objects::{dict_get, item_at};
 use mpy_base::limits::MAX_WALK_DEPTH;
 

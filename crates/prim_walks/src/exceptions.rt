@@ -12,7 +12,7 @@ ghost use Rattle.prim_walks.specs.Plain.{plain, plain_heap};
 ghost use Rattle.prim_walks.specs.Leaves.{IsRaised};
 
 use crate::look::look_at;
-use arena_objects::arena_heap::{Arena, Constants, ExcNo, Value, exc_parts};
+use arena_heap::{Arena, Constants, ExcNo, Value, exc_parts};
 use mpy_base::Kind;
 
 /// The kind of an exception and its arguments.

@@ -10,7 +10,7 @@ ghost use Rattle.prim_walks.specs.Plain.{plain};
 ghost use Rattle.prim_walks.specs.Numbers.{number_in};
 
 use crate::names::builtin_name;
-use arena_objects::arena_heap::Value;
+use arena_heap::Value;
 use mpy_base::Builtin;
 
 /// The number of the object that a value leads to, if it does.

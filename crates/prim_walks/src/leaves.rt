@@ -15,7 +15,7 @@ use crate::names::builtin_name;
 use crate::pen::Pen;
 use crate::pieces::{put, put_number, put_str, put_three};
 use crate::ranges::is_one_number;
-use arena_objects::arena_heap::{
+use arena_heap::{
     Arena, Constants, FunNo, ModuleNo, RangeNo, StrNo, Value, fun_parts, module_parts, range_parts,
 };
 use arena_objects::text_bytes;

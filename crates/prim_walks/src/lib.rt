@@ -26,8 +26,6 @@ mod tuples;
 mod writer;
 mod writing;
 
-pub use arena_objects;
-pub use arena_objects::arena_heap;
 pub use containing::{contains, visits_contains};
 pub use equality::{equal, visits_equal};
 pub use look::{Look, look_at};
@@ -36,6 +34,5 @@ pub use ones::is_one;
 pub use orders::{Unordered, order, visits_order};
 pub use parts::TextPart;
 pub use pen::Pen;
-pub use py_primitives::py_values;
 pub use texts::{text_len, text_part, visits_text, whole_text, write_text};
 pub use truths::truth;

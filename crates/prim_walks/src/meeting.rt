@@ -13,7 +13,7 @@ ghost use Rattle.prim_walks.specs.Meetings.{met, IsMeeting};
 use crate::identity::is_same;
 use crate::look::{Look, look_at};
 use crate::ranges::{is_one_number, is_same_range};
-use arena_objects::arena_heap::{Arena, Constants, DictNo, Value, dict_len};
+use arena_heap::{Arena, Constants, DictNo, Value, dict_len};
 
 /// What a look at two values leaves to be compared.
 #[derive(Clone, Copy)]

@@ -17,7 +17,7 @@ ghost use Rattle.prim_walks.specs.Plain.{plain, plain_heap};
 use crate::identity::is_same;
 use crate::look::{Look, look_at};
 use crate::ranges::is_one_number;
-use arena_objects::arena_heap::{Arena, Constants, Value};
+use arena_heap::{Arena, Constants, Value};
 use arena_objects::item_count;
 
 fn is_one_truth(x: bool, b: Value) -> bool

@@ -15,7 +15,7 @@ ghost use Rattle.prim_walks.specs.Runs.{run};
 use crate::budget::{Budget, Halt};
 use crate::equality::equal_values;
 use crate::ranking::{Ranking, rank};
-use arena_objects::arena_heap::{Arena, Constants, Value};
+use arena_heap::{Arena, Constants, Value};
 use arena_objects::item_at;
 use mpy_base::limits::MAX_WALK_DEPTH;
 use std::cmp::Ordering;

@@ -6,7 +6,7 @@ ghost use Rattle.arena_objects.specs.arena_heap.Values.{Leads, IsKey};
 ghost use Rattle.arena_objects.specs.arena_heap.Constants.{IsTold};
 ghost use Rattle.arena_objects.specs.Keys.{AllTold};
 
-use arena_objects::arena_heap::{Arena, Constants, DictNo, Value, dict_at};
+use arena_heap::{Arena, Constants, DictNo, Value, dict_at};
 
 /// The pair of a dict at a place.
 pub(crate) fn pair_at<C: Constants>(arena: &Arena, consts: &C, d: DictNo, at: u32) -> (Value, Value)

@@ -12,7 +12,7 @@ ghost use Rattle.prim_walks.specs.Plain.{plain, plain_heap};
 ghost use Rattle.prim_walks.specs.Orders.{ranked, IsRanking};
 
 use crate::look::{Look, look_at};
-use arena_objects::arena_heap::{Arena, Constants, Value};
+use arena_heap::{Arena, Constants, Value};
 use std::cmp::Ordering;
 
 /// What a look at two values tells of their order.

@@ -11,7 +11,7 @@ ghost use Rattle.prim_walks.specs.Leaves.{end_of_tuple};
 ghost use Rattle.prim_walks.specs.Plain.{plain, plain_heap};
 
 use crate::look::look_at;
-use arena_objects::arena_heap::{Arena, Constants, Value};
+use arena_heap::{Arena, Constants, Value};
 use arena_objects::item_count;
 
 /// What stands behind the `count` items of a tuple: a lone one has a comma.

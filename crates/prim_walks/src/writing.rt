@@ -19,7 +19,7 @@ use crate::pairs::pair_at;
 use crate::pen::Pen;
 use crate::pieces::{put, put_separator};
 use crate::tuples::tuple_end;
-use arena_objects::arena_heap::{Arena, Constants, DictNo, ExcNo, Value, dict_len};
+use arena_heap::{Arena, Constants, DictNo, ExcNo, Value, dict_len};
 use arena_objects::{item_at, item_count};
 
 /// Writes a value, no deeper than this, within the budget: its str where it is raw, and else its repr.

@@ -5,4 +5,3 @@
 mod laws;
 
 pub use laws::{making_law, names_law, order_law};
-pub use py_values;

@@ -14,11 +14,11 @@ use crate::base::base_of;
 use crate::ready::{Ready, first_ready, main_text};
 use crate::run::load_ending;
 use bc_library::Library;
-use bc_library::bc_verify::Verified;
-use command_files::mpy_endings::Ending;
-use command_files::source_files::{load_sources, source_module};
+use bc_verify::Verified;
 use mpy_base::{Refused, SourceFault};
+use mpy_endings::Ending;
 use mpy_io::{Folder, ReadFault};
+use source_files::{load_sources, source_module};
 use std::alloc::Global;
 
 /// The verified module of the source of this name at a level and how many bytes its file has, or what keeps it from being one.

@@ -10,9 +10,9 @@ ghost use Rattle.manifest_files.specs.image_grammar.Base.{IsOpened};
 ghost use Rattle.run_commands.specs.Ready.{ImageStart, IsFirst};
 
 use bc_library::Library;
-use command_files::image_runs::image_library;
-use command_files::mpy_endings::Ending;
+use image_runs::image_library;
 use mpy_base::{NoMemory, Refused, Text};
+use mpy_endings::Ending;
 use std::alloc::Global;
 
 /// A library and its main module.

@@ -5,9 +5,9 @@ ghost use Rattle.mpy_reader.specs.mpy_tree.Raw.{Module};
 ghost use Rattle.mpy_compile.specs.Compiled.{CompilesTo};
 ghost use Rattle.library_files.specs.Comes.{IsVerifiedFile};
 
-use mpy_compile::emit_module::resolved_law;
-use mpy_compile::py_source::asked_law;
+use emit_module::resolved_law;
 use mpy_compile::{tr_source, within_law};
+use py_source::asked_law;
 
 /// What a source compiles to is a file of a verified module.
 pub fn compiled_law()

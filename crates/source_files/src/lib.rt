@@ -8,7 +8,5 @@ mod source;
 
 pub use laws::compiled_law;
 pub use loading::{Sources, load_sources};
-pub use mpy_compile;
-pub use mpy_compile::emit_module;
 pub use name::stored_name;
 pub use source::source_module;

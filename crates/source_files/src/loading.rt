@@ -7,7 +7,7 @@ ghost use Rattle.source_files.specs.Sources.{LoadsFromSources, SourceComesTo, so
 
 use crate::source::source_module;
 use bc_library::Library;
-use bc_library::bc_verify::Verified;
+use bc_verify::Verified;
 use library_files::{Entry, LoadFault, Reader, load_by};
 use mpy_base::{Refused, SourceFault};
 use mpy_io::Folder;

@@ -8,7 +8,7 @@ ghost use Rattle.source_files.specs.Sources.{GivesModule, stored};
 
 use crate::laws::compiled_law;
 use crate::name::stored_name;
-use bc_library::bc_verify::{Verified, known_verified};
+use bc_verify::{Verified, known_verified};
 use mpy_base::{NoMemory, Refused, SourceFault};
 use mpy_compile::compile;
 use mpy_reader::read;

@@ -8,9 +8,9 @@ ghost use Rattle.vm_starting.specs.Programs.{IsRunnable};
 ghost use Rattle.vm_machine.specs.Machine.{IsVm};
 
 use crate::program::Program;
+use bc_library::Library;
 use bc_rows::Rows;
-use bc_rows::bc_library::Library;
-use bc_rows::bc_verify::{Verified, verify};
+use bc_verify::{Verified, verify};
 use frame_exits::End;
 use library_files::load;
 use mpy_base::{NoMemory, Refused, Room};

@@ -15,16 +15,16 @@ ghost use Rattle.state_calls.specs.Runs.{IsFetchedAt, RunsWithin, RunsAgain};
 ghost use Rattle.state_calls.specs.Taken.{CallsValue, Keeps, IsTaken};
 
 use crate::entering::call_code;
-use frame_calls::arena_heap::Arena;
-use frame_calls::prim_calls::{CallStop, Callee};
-use frame_calls::prim_faults::Stop;
+use arena_heap::Arena;
+use bc_library::Library;
+use bc_rows::{Rows, rows_law};
 use frame_calls::{Bindings, Invocation, Operands, act_builtin, act_method, refuse_call};
 use mpy_io::{Port, Sink};
 use port_set::PortSet;
-use vm_states::bc_library::Library;
-use vm_states::bc_rows::{Rows, rows_law};
-use vm_states::vm_fetching::NumberOp;
-use vm_states::vm_frames::Frames;
+use prim_calls::{CallStop, Callee};
+use prim_faults::Stop;
+use vm_fetching::NumberOp;
+use vm_frames::Frames;
 use vm_states::{keeps_law, known_law};
 
 /// A stop as that of a call.

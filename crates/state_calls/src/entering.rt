@@ -10,15 +10,15 @@ ghost use Rattle.state_calls.specs.Runs.{RunsWithin, RunsAgain};
 ghost use Rattle.state_calls.specs.Taken.{CallsValue, Keeps, IsTaken};
 
 use crate::finding::code_of;
-use frame_calls::arena_heap::Arena;
-use frame_calls::prim_calls::Function;
-use frame_calls::prim_faults::Stop;
+use arena_heap::Arena;
+use bc_library::Library;
+use bc_progress::room_law;
+use bc_rows::{Rows, rows_law};
 use frame_calls::{Bindings, FunctionCode, Invocation, Operands, run_function, skip_function};
-use vm_states::bc_library::Library;
-use vm_states::bc_progress::room_law;
-use vm_states::bc_rows::{Rows, rows_law};
-use vm_states::vm_fetching::NumberOp;
-use vm_states::vm_frames::Frames;
+use prim_calls::Function;
+use prim_faults::Stop;
+use vm_fetching::NumberOp;
+use vm_frames::Frames;
 use vm_states::{keeps_law, known_law};
 
 /// A function is called: its code is entered, or the call gives None where the library doesn't have the code.

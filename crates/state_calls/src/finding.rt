@@ -7,12 +7,12 @@ ghost use Rattle.vm_states.specs.frame_exits.declared.names.ModuleName.{ModuleNa
 ghost use Rattle.state_calls.specs.Children.{HasChildIn, IsChildIn};
 ghost use Rattle.state_calls.specs.Codes.{module_of_name, LacksCode};
 
+use arena_heap::{Constants, StrNo};
+use bc_library::Library;
+use bc_rows::{Row, Rows};
 use frame_calls::Child;
-use frame_calls::arena_heap::{Constants, StrNo};
-use frame_calls::prim_calls::Function;
-use vm_states::bc_library::Library;
-use vm_states::bc_rows::{Row, Rows};
-use vm_states::frame_exits::ModuleName;
+use frame_exits::ModuleName;
+use prim_calls::Function;
 
 /// The row of a code that is there.
 fn row_at<'b, 'a>(rows: &'b Rows<'a>, module_number: u32, code: u32) -> &'b Row<'a>

@@ -8,8 +8,5 @@ mod making;
 mod taking;
 
 pub use calling::call_on;
-pub use frame_calls;
-pub use frame_calls::{arena_heap, prim_calls, prim_faults, prim_modules};
 pub use making::{make_function, make_function_with};
 pub use taking::{take_call, visits_call_on};
-pub use vm_states::{bc_progress, bc_rows, frame_exits, vm_fetching};

@@ -8,12 +8,12 @@ ghost use Rattle.state_calls.specs.Runs.{RunsIn, ActsIn};
 ghost use Rattle.state_calls.specs.Taken.{Keeps};
 
 use crate::finding::child_in;
-use frame_calls::arena_heap::Arena;
-use frame_calls::prim_faults::Stop;
-use vm_states::bc_library::Library;
-use vm_states::bc_rows::{Rows, rows_law};
-use vm_states::frame_exits::ModuleName;
-use vm_states::vm_frames::Frames;
+use arena_heap::Arena;
+use bc_library::Library;
+use bc_rows::{Rows, rows_law};
+use frame_exits::ModuleName;
+use prim_faults::Stop;
+use vm_frames::Frames;
 use vm_states::{keeps_law, known_law, tops_law};
 
 /// MAKE_FUNCTION, where it was fetched for the running call: a function of the child with the number, without defaults. Where it

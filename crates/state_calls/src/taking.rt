@@ -13,13 +13,13 @@ ghost use Rattle.state_calls.specs.Called.{visits};
 ghost use Rattle.state_calls.specs.Runs.{RunsWithin};
 ghost use Rattle.state_calls.specs.Taken.{CallsValue, HasMethods, IsTaken};
 
-use frame_calls::arena_heap::Arena;
+use arena_heap::Arena;
+use bc_library::Library;
+use bc_progress::room_law;
 use frame_calls::{Invocation, Operands, call_function, call_method, visits_call};
-use vm_states::bc_library::Library;
-use vm_states::bc_progress::room_law;
+use vm_fetching::NumberOp;
+use vm_frames::Frames;
 use vm_states::tops_law;
-use vm_states::vm_fetching::NumberOp;
-use vm_states::vm_frames::Frames;
 
 /// CALL_FUNCTION or CALL_METHOD, where it was fetched for the running call: what it calls. Its operands are copied. It changes
 /// nothing else, and takes no memory.

@@ -9,14 +9,14 @@ ghost use Rattle.state_exits.specs.Keeping.{KeepsCause};
 ghost use Rattle.state_exits.specs.Running.{fetched_plain, RunsWith, RunsOnBehind};
 
 use crate::returning::settle;
-use prim_faults::arena_heap::{Arena, Constants};
+use arena_heap::{Arena, Constants};
+use bc_library::Library;
+use bc_machine::sound_law;
+use bc_progress::progress_law;
+use bc_rows::Rows;
+use frame_exits::{End, ModuleName, end_finally};
 use prim_modules::Modules;
-use vm_states::bc_library::Library;
-use vm_states::bc_machine::sound_law;
-use vm_states::bc_progress::progress_law;
-use vm_states::bc_rows::Rows;
-use vm_states::frame_exits::{End, ModuleName, end_finally};
-use vm_states::vm_frames::Frames;
+use vm_frames::Frames;
 use vm_states::{keeps_law, tops_law};
 
 /// END_FINALLY, where it was fetched for the running call, which goes on with what the finally kept: at `end`, behind the

@@ -15,17 +15,15 @@ ghost use Rattle.vm_states.specs.Means.{Program};
 ghost use Rattle.state_exits.specs.Running.{RunsWith};
 ghost use Rattle.state_exits.specs.Importing.{fetched_import, ImportsBehind};
 
+use arena_heap::{Arena, Constants, StrNo};
+use bc_library::Library;
+use bc_machine::sound_law;
+use bc_progress::room_law;
+use bc_rows::{Rows, rows_law};
+use frame_exits::{Import, ModuleName, begin_import, import_name, put_import, refuse_import};
 use prim_faults::Stop;
-use prim_faults::arena_heap::{Arena, Constants, StrNo};
 use prim_modules::Modules;
-use vm_states::bc_library::Library;
-use vm_states::bc_machine::sound_law;
-use vm_states::bc_progress::room_law;
-use vm_states::bc_rows::{Rows, rows_law};
-use vm_states::frame_exits::{
-    Import, ModuleName, begin_import, import_name, put_import, refuse_import,
-};
-use vm_states::vm_frames::Frames;
+use vm_frames::Frames;
 use vm_states::{keeps_law, known_law, standing_law, tops_law};
 
 /// The locals of the outermost code of a module, which are fewer than 2^32.

@@ -19,7 +19,7 @@ ghost use Rattle.vm_states.specs.State.{IsState};
 ghost use Rattle.state_exits.specs.Modules.{AreRegistered};
 ghost use Rattle.state_exits.specs.Running.{stepped_with};
 
-use vm_states::bc_machine::sound_law;
+use bc_machine::sound_law;
 
 /// The registered modules are a program's again behind a step of its calls that registers and forgets none, whatever it does to
 /// the heap; and so the main module is the only one where it was made and registered first.

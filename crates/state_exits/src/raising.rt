@@ -14,15 +14,15 @@ ghost use Rattle.vm_states.specs.Acting.{Tells};
 ghost use Rattle.state_exits.specs.Modules.{AreNames};
 ghost use Rattle.state_exits.specs.Running.{fetched_plain, place_at, RunsAt, RunsOnBehind, StopsOn};
 
+use arena_heap::{Arena, Constants};
+use bc_machine::sound_law;
+use bc_rows::Row;
+use frame_exits::{End, ModuleName, raise, raise_last, raise_obj};
 use prim_faults::Stop;
-use prim_faults::arena_heap::{Arena, Constants};
 use prim_modules::Modules;
 use prim_raising::Place;
-use vm_states::bc_machine::sound_law;
-use vm_states::bc_rows::Row;
-use vm_states::frame_exits::{End, ModuleName, raise, raise_last, raise_obj};
-use vm_states::vm_fetching::line_of;
-use vm_states::vm_frames::Frames;
+use vm_fetching::line_of;
+use vm_frames::Frames;
 use vm_states::{keeps_law, tops_law};
 
 /// The place of the running call's instruction, in the row of its code. It walks through the row's line table.

@@ -15,15 +15,15 @@ ghost use Rattle.vm_states.specs.Means.{Program, Means};
 ghost use Rattle.state_exits.specs.Running.{fetched_plain, RunsWith, RunsOnBehind};
 ghost use Rattle.state_exits.specs.Waiting.{IsWaiting, IsSettling, Settles};
 
-use prim_faults::arena_heap::{Arena, Constants, Value};
+use arena_heap::{Arena, Constants, Value};
+use bc_library::Library;
+use bc_machine::sound_law;
+use bc_progress::{progress_law, room_law};
+use bc_rows::{Rows, rows_law};
+use frame_exits::{After, End, ModuleName, receive, return_value};
 use prim_modules::Modules;
-use vm_states::bc_library::Library;
-use vm_states::bc_machine::sound_law;
-use vm_states::bc_progress::{progress_law, room_law};
-use vm_states::bc_rows::{Rows, rows_law};
-use vm_states::frame_exits::{After, End, ModuleName, receive, return_value};
-use vm_states::vm_fetching::{fetch, step_law};
-use vm_states::vm_frames::{Frames, placed_law};
+use vm_fetching::{fetch, step_law};
+use vm_frames::{Frames, placed_law};
 use vm_states::{keeps_law, standing_law, tops_law};
 
 /// The call that waits takes the value of the one that it made, and goes on behind its instruction, which is fetched again.

@@ -12,19 +12,19 @@ ghost use Rattle.state_calls.specs.Taken.{CallsValue, IsTaken};
 ghost use Rattle.state_exits.specs.Running.{RunsWith};
 ghost use Rattle.state_steps.specs.Calling.{end_in, CallsOnBehind, WentBehind};
 
+use arena_heap::Arena;
+use bc_library::Library;
+use bc_rows::{Row, Rows};
+use frame_calls::{Bindings, Invocation, Operands};
+use frame_exits::{End, ModuleName};
 use mpy_io::{Failed, Port, Sink};
 use port_set::PortSet;
-use state_calls::arena_heap::Arena;
-use state_calls::bc_rows::{Row, Rows};
+use prim_calls::CallStop;
+use prim_modules::Modules;
 use state_calls::call_on;
-use state_calls::frame_calls::{Bindings, Invocation, Operands};
-use state_calls::frame_exits::{End, ModuleName};
-use state_calls::prim_calls::CallStop;
-use state_calls::prim_modules::Modules;
-use state_calls::vm_fetching::NumberOp;
 use state_exits::{registered_law, stop_on};
-use state_values::bc_library::Library;
-use state_values::vm_frames::Frames;
+use vm_fetching::NumberOp;
+use vm_frames::Frames;
 
 /// CALL_FUNCTION or CALL_METHOD, that was fetched for the running call, of this row, and taken by `state_calls::take_call`, where its
 /// visits are paid; where it stops, the stop is raised at its place. It answers how the run ends, if it does. Where the sink

@@ -9,13 +9,13 @@ ghost use Rattle.state_exits.specs.Keeping.{KeepsCause};
 ghost use Rattle.state_exits.specs.Running.{fetched_plain, RunsWith};
 ghost use Rattle.state_steps.specs.Comes.{ComesOnBehind};
 
-use state_calls::arena_heap::{Arena, Constants};
-use state_calls::bc_rows::Rows;
-use state_calls::frame_exits::{End, ModuleName};
-use state_calls::prim_modules::Modules;
+use arena_heap::{Arena, Constants};
+use bc_library::Library;
+use bc_rows::Rows;
+use frame_exits::{End, ModuleName};
+use prim_modules::Modules;
 use state_exits::end_finally_on;
-use state_values::bc_library::Library;
-use state_values::vm_frames::Frames;
+use vm_frames::Frames;
 
 /// END_FINALLY, that was fetched for the running call: it goes on with what the finally kept. It answers how the run ends, if it
 /// does. It makes no visits.

@@ -7,13 +7,13 @@ ghost use Rattle.state_exits.specs.Importing.{fetched_import};
 ghost use Rattle.state_exits.specs.Running.{RunsWith};
 ghost use Rattle.state_steps.specs.Comes.{ComesOnBehind};
 
-use state_calls::arena_heap::{Arena, Constants, StrNo};
-use state_calls::bc_rows::{Row, Rows};
-use state_calls::frame_exits::{End, ModuleName};
-use state_calls::prim_modules::Modules;
+use arena_heap::{Arena, Constants, StrNo};
+use bc_library::Library;
+use bc_rows::{Row, Rows};
+use frame_exits::{End, ModuleName};
+use prim_modules::Modules;
 use state_exits::{import_on, stop_on};
-use state_values::bc_library::Library;
-use state_values::vm_frames::Frames;
+use vm_frames::Frames;
 
 /// IMPORT_NAME of the text with the number, that was fetched for the running call, of this row; where it stops, the stop is raised
 /// at its place. It answers how the run ends, if it does. `key` is the text `__name__`.

@@ -6,14 +6,14 @@ ghost use Rattle.state_values.specs.vm_states.Means.{Program};
 ghost use Rattle.state_exits.specs.Running.{fetched_plain, RunsWith, RunsOnBehind};
 ghost use Rattle.state_steps.specs.Leaves.{LeavesCall};
 
-use state_calls::arena_heap::{Arena, Constants};
-use state_calls::bc_rows::{Row, Rows};
-use state_calls::frame_exits::{End, ModuleName};
-use state_calls::prim_modules::Modules;
-use state_calls::vm_fetching::PlainOp;
+use arena_heap::{Arena, Constants};
+use bc_library::Library;
+use bc_rows::{Row, Rows};
+use frame_exits::{End, ModuleName};
+use prim_modules::Modules;
 use state_exits::{raise_again_on, raise_on, return_on};
-use state_values::bc_library::Library;
-use state_values::vm_frames::Frames;
+use vm_fetching::PlainOp;
+use vm_frames::Frames;
 
 /// A return or a raise that was fetched for the running call, of this row. It answers how the run ends, if it does. It makes no
 /// visits.

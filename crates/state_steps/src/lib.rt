@@ -13,8 +13,4 @@ pub use finishing::finish;
 pub use imports::import;
 pub use leaving::leave;
 pub use making::{make, make_with};
-pub use state_calls;
-pub use state_calls::{bc_rows, frame_exits, vm_fetching};
-pub use state_exits;
-pub use state_values;
 pub use values::operate;

@@ -8,14 +8,14 @@ ghost use Rattle.state_values.specs.vm_states.Means.{Program};
 ghost use Rattle.state_exits.specs.Running.{RunsWith};
 ghost use Rattle.state_steps.specs.Comes.{ComesOnBehind};
 
-use state_calls::arena_heap::Arena;
-use state_calls::bc_rows::{Row, Rows};
-use state_calls::frame_exits::{End, ModuleName};
-use state_calls::prim_modules::Modules;
+use arena_heap::Arena;
+use bc_library::Library;
+use bc_rows::{Row, Rows};
+use frame_exits::{End, ModuleName};
+use prim_modules::Modules;
 use state_calls::{make_function, make_function_with};
 use state_exits::{registered_law, stop_on};
-use state_values::bc_library::Library;
-use state_values::vm_frames::Frames;
+use vm_frames::Frames;
 
 /// MAKE_FUNCTION of the child with the number, that was fetched for the running call, of this row: a function without defaults.
 /// Where it stops, the stop is raised at its place. It answers how the run ends, if it does. It makes no visits.

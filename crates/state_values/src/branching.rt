@@ -13,15 +13,13 @@ ghost use Rattle.state_values.specs.Keeping.{ActsKeeping};
 ghost use Rattle.state_values.specs.Tests.{IsTest, tested};
 
 use crate::law::acting_law;
-use prim_names::arena_heap::{Arena, Constants};
-use prim_names::prim_faults::Stop;
-use vm_states::frame_moves::{
-    jump_if_false_or_pop, jump_if_true_or_pop, pop_jump_if_false, pop_jump_if_true,
-};
-use vm_states::frame_values::top_truth;
+use arena_heap::{Arena, Constants};
+use frame_moves::{jump_if_false_or_pop, jump_if_true_or_pop, pop_jump_if_false, pop_jump_if_true};
+use frame_values::top_truth;
+use prim_faults::Stop;
+use vm_fetching::JumpOp;
+use vm_frames::Frames;
 use vm_states::tops_law;
-use vm_states::vm_fetching::JumpOp;
-use vm_states::vm_frames::Frames;
 
 /// The jump, where the truth of the top value is given.
 pub fn jump_by(frames: &mut Frames, op: JumpOp, truth: bool, target: u32, end: u32)

@@ -8,10 +8,10 @@ ghost use Rattle.vm_states.specs.Acting.{RunsOver};
 ghost use Rattle.state_values.specs.Keeping.{ActsKeeping};
 
 use crate::law::acting_law;
-use prim_names::arena_heap::{Arena, Constants, Value};
-use prim_names::prim_faults::Stop;
+use arena_heap::{Arena, Constants, Value};
+use prim_faults::Stop;
+use vm_frames::Frames;
 use vm_states::tops_law;
-use vm_states::vm_frames::Frames;
 
 /// BUILD_TUPLE, where a place is lent for each item.
 pub(crate) fn build_tuple<C: Constants>(

@@ -9,10 +9,10 @@ ghost use Rattle.vm_states.specs.Acting.{RunsOver};
 ghost use Rattle.state_values.specs.Keeping.{ActsKeeping};
 
 use crate::law::acting_law;
-use prim_names::arena_heap::{Arena, Constants};
-use prim_names::prim_faults::Stop;
+use arena_heap::{Arena, Constants};
+use prim_faults::Stop;
+use vm_frames::Frames;
 use vm_states::tops_law;
-use vm_states::vm_frames::Frames;
 
 /// GET_ITER_STACK.
 pub(crate) fn get_iter_stack<C: Constants>(

@@ -8,8 +8,8 @@ ghost use Rattle.vm_states.specs.vm_fetching.declared.instruction.Instruction.Th
 ghost use Rattle.vm_states.specs.vm_fetching.declared.operations.JumpOp.TheVariants as jump_ops;
 ghost use Rattle.state_values.specs.Moving.{Runs, GoesBehind};
 
-use vm_states::frame_moves::{jump, pop_except_jump, setup_except, setup_finally, unwind_jump};
-use vm_states::vm_frames::{Frames, placed_law};
+use frame_moves::{jump, pop_except_jump, setup_except, setup_finally, unwind_jump};
+use vm_frames::{Frames, placed_law};
 use vm_states::{keeps_law, tops_law};
 
 /// JUMP, where it was fetched for the running call.

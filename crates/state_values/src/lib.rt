@@ -29,8 +29,5 @@ pub use moving::{
 };
 pub use operating::{attribute_on, jump_to, name_on, number_on, plain_on};
 pub use operators::{binary_op, unary_op, visits_binary_op};
-pub use prim_names;
 pub use slot_moves::move_slots;
 pub use storing::store_local;
-pub use vm_states;
-pub use vm_states::{bc_library, frame_values, vm_fetching, vm_frames};

@@ -9,10 +9,10 @@ ghost use Rattle.vm_states.specs.vm_fetching.declared.instruction.Instruction.Th
 ghost use Rattle.vm_states.specs.vm_fetching.declared.operations.NameOp.TheVariants as name_ops;
 ghost use Rattle.state_values.specs.Moving.{Runs, GoesBehind};
 
-use prim_names::arena_heap::{StrNo, Value};
-use vm_states::frame_moves::{load_int, load_object, load_text};
+use arena_heap::{StrNo, Value};
+use frame_moves::{load_int, load_object, load_text};
+use vm_frames::Frames;
 use vm_states::keeps_law;
-use vm_states::vm_frames::Frames;
 
 /// A small integer, where its instruction was fetched for the running call.
 pub fn load_small(frames: &mut Frames, n: i32, end: u32)

@@ -7,9 +7,9 @@ ghost use Rattle.vm_states.specs.Acting.{RunsOver};
 ghost use Rattle.state_values.specs.Keeping.{ActsKeeping};
 
 use crate::law::acting_law;
-use prim_names::arena_heap::{Arena, Constants};
-use prim_names::prim_faults::Stop;
-use vm_states::vm_frames::Frames;
+use arena_heap::{Arena, Constants};
+use prim_faults::Stop;
+use vm_frames::Frames;
 
 /// LOAD_FAST in one byte.
 pub(crate) fn load_fast<C: Constants>(

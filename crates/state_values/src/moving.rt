@@ -14,11 +14,11 @@ use crate::law::acting_law;
 use crate::loading::{load_constant, load_small, load_str};
 use crate::slot_moves::move_slots;
 use crate::storing::store_local;
-use prim_names::arena_heap::{Arena, Constants, StrNo, Value};
-use prim_names::prim_faults::Stop;
+use arena_heap::{Arena, Constants, StrNo, Value};
+use prim_faults::Stop;
+use vm_fetching::{NumberOp, PlainOp};
+use vm_frames::Frames;
 use vm_states::tops_law;
-use vm_states::vm_fetching::{NumberOp, PlainOp};
-use vm_states::vm_frames::Frames;
 
 /// An operation that moves slots alone.
 pub fn move_on<C: Constants>(

@@ -7,10 +7,10 @@ ghost use Rattle.vm_states.specs.Acting.{RunsOver};
 ghost use Rattle.state_values.specs.Keeping.{ActsKeeping};
 
 use crate::law::acting_law;
-use prim_names::arena_heap::{Arena, Constants, StrNo};
-use prim_names::prim_faults::Stop;
+use arena_heap::{Arena, Constants, StrNo};
+use prim_faults::Stop;
+use vm_frames::Frames;
 use vm_states::tops_law;
-use vm_states::vm_frames::Frames;
 
 /// LOAD_NAME.
 pub(crate) fn load_name<C: Constants>(

@@ -19,11 +19,11 @@ use crate::moving::{
 };
 use crate::names::{delete_global, delete_name, load_global, load_name, store_global, store_name};
 use crate::subscripts::{load_subscr, store_map, store_subscr};
-use prim_names::arena_heap::{Arena, Constants, StrNo, Value};
-use prim_names::prim_faults::Stop;
+use arena_heap::{Arena, Constants, StrNo, Value};
+use prim_faults::Stop;
+use vm_fetching::{JumpOp, NameOp, NumberOp, PlainOp};
+use vm_frames::Frames;
 use vm_states::tops_law;
-use vm_states::vm_fetching::{JumpOp, NameOp, NumberOp, PlainOp};
-use vm_states::vm_frames::Frames;
 
 /// An operation without an operand: on constants, slots, items and iterators. It makes no visits.
 pub fn plain_on<C: Constants>(

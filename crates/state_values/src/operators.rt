@@ -8,10 +8,10 @@ ghost use Rattle.state_values.specs.Keeping.{ActsKeeping};
 ghost use Rattle.state_values.specs.Operators.{visits_binary};
 
 use crate::law::acting_law;
-use prim_names::arena_heap::{Arena, Constants};
-use prim_names::prim_faults::Stop;
+use arena_heap::{Arena, Constants};
+use prim_faults::Stop;
+use vm_frames::Frames;
 use vm_states::tops_law;
-use vm_states::vm_frames::Frames;
 
 /// UNARY_OP.
 pub fn unary_op<C: Constants>(

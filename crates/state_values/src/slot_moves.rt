@@ -11,11 +11,11 @@ ghost use Rattle.vm_states.specs.vm_fetching.Operations.{plain_op};
 ghost use Rattle.state_values.specs.Moving.{MovesSlots, moved_slots, fetched_plain, Runs, GoesBehind};
 ghost use Rattle.state_values.specs.Needs.{Needs};
 
-use vm_states::frame_moves::{
+use frame_moves::{
     dup_top, dup_top_two, load_false, load_none, load_null, load_true, pop_top, rot_three, rot_two,
 };
-use vm_states::vm_fetching::PlainOp;
-use vm_states::vm_frames::Frames;
+use vm_fetching::PlainOp;
+use vm_frames::Frames;
 use vm_states::{keeps_law, tops_law};
 
 /// The operation, by what it needs.

@@ -9,9 +9,9 @@ ghost use Rattle.vm_states.specs.vm_fetching.declared.instruction.Instruction.Th
 ghost use Rattle.state_values.specs.Moving.{Runs, GoesBehind};
 ghost use Rattle.state_values.specs.Storing.{StoresLocal};
 
-use vm_states::frame_moves::store_fast;
-use vm_states::vm_fetching::NumberOp;
-use vm_states::vm_frames::Frames;
+use frame_moves::store_fast;
+use vm_fetching::NumberOp;
+use vm_frames::Frames;
 use vm_states::{keeps_law, tops_law};
 
 /// STORE_FAST, in one byte or in more, where it was fetched for the running call.

@@ -11,10 +11,10 @@ ghost use Rattle.state_values.specs.Keeping.{ActsKeeping};
 ghost use Rattle.state_values.specs.Operands.{HasOperand, is_null as is_null_slot};
 
 use crate::law::acting_law;
-use prim_names::arena_heap::{Arena, Constants};
-use prim_names::prim_faults::Stop;
+use arena_heap::{Arena, Constants};
+use prim_faults::Stop;
+use vm_frames::{Frames, Slot};
 use vm_states::tops_law;
-use vm_states::vm_frames::{Frames, Slot};
 
 /// LOAD_SUBSCR.
 pub(crate) fn load_subscr<C: Constants>(

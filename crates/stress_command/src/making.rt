@@ -14,8 +14,8 @@ ghost use Rattle.run_commands.specs.Run.{IsUnloaded};
 ghost use Rattle.stress_command.specs.Stress.{HasCodes, most_assignments, stress_files, stress_name};
 
 use crate::source::stress_source;
-use command_files::mpy_endings::Ending;
 use mpy_base::NoMemory;
+use mpy_endings::Ending;
 use mpy_io::{Folder, MemFolder};
 use run_commands::{Ready, source_ready};
 use std::alloc::Global;

@@ -14,9 +14,9 @@ ghost use Rattle.stress_command.specs.Source.{stress_text};
 ghost use Rattle.stress_command.specs.Stress.{EndsStress, front_lines, most_assignments, sinks, stress_files, stress_name};
 
 use crate::making::{NAME, codes_of, made_ready};
-use command_files::mpy_endings::{Ending, put_three, say_ending};
 use itoa::Buffer;
 use mpy_base::Room;
+use mpy_endings::{Ending, put_three, say_ending};
 use mpy_io::{Failed, Port, Sink};
 use port_set::PortSet;
 use run_commands::{Ready, run_loaded};

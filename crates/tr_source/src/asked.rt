@@ -21,7 +21,7 @@ ghost use Rattle.tr_source.specs.Compiled.{IsCompiled};
 
 use crate::verified::{merge_law, unique_law, verified_law};
 use bc_resolved::{module_law, raw_law};
-use bc_scheme::py_meaning::{numbers_law, params_law};
+use py_meaning::{numbers_law, params_law};
 
 /// An accepted source keeps the limits under every name, and wherever its codes begin. Its functions have numbers of their own.
 pub fn limits_law()

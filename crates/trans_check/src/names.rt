@@ -8,8 +8,8 @@ ghost use Rattle.mpy_tree.specs.Resolved as resolved;
 ghost use Rattle.trans_parts.specs.Comparing.{DifferAt};
 
 use mpy_base::Text;
-use mpy_tree::qstr_pool::static_text;
 use mpy_tree::{Qstr, RawModule, module_law};
+use qstr_pool::static_text;
 
 /// The text of an entry.
 fn text_of(qstr: &Qstr) -> Option<&[u8]>

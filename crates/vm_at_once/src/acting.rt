@@ -14,10 +14,10 @@ use crate::jumps::jump_at_once;
 use crate::locals::local_at_once;
 use crate::names::name_at_once;
 use crate::operators::binary_at_once;
-use prim_assignments::arena_heap::{Arena, Constants};
-use state_values::vm_fetching::{Fetched, Instruction, PlainOp};
-use state_values::vm_frames::Frames;
+use arena_heap::{Arena, Constants};
 use state_values::{load_int, load_object, move_on, unary_op};
+use vm_fetching::{Fetched, Instruction, PlainOp};
+use vm_frames::Frames;
 
 /// An operation without an operand: those that move slots alone are carried out.
 #[inline(always)]

@@ -5,8 +5,8 @@ ghost use Rattle.state_values.specs.vm_frames.Calls.{OfRunning, on_running};
 ghost use Rattle.state_values.specs.frame_moves.Stacks.{gone};
 ghost use Rattle.vm_at_once.specs.AtOnce.{visits_done};
 
-use prim_assignments::prim_faults::Stop;
-use state_values::vm_frames::{Frames, Slot};
+use prim_faults::Stop;
+use vm_frames::{Frames, Slot};
 
 /// No visits, where it came to no stop.
 #[inline(always)]

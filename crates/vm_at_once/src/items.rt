@@ -18,10 +18,10 @@ ghost use Rattle.state_values.specs.Keeping.{ActsKeeping};
 ghost use Rattle.vm_at_once.specs.AtOnce.{ActsAtOnce};
 
 use crate::operators::put;
-use prim_assignments::arena_heap::{Arena, Constants, ListNo, Value, list_at, list_len, list_set};
+use arena_heap::{Arena, Constants, ListNo, Value, list_at, list_len, list_set};
 use state_values::acting_law;
-use state_values::vm_frames::{Frames, Slot};
-use state_values::vm_states::tops_law;
+use vm_frames::{Frames, Slot};
+use vm_states::tops_law;
 
 /// The two topmost slots, where they are a list and, on top, a whole number.
 #[inline(always)]

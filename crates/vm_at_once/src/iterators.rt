@@ -15,11 +15,11 @@ ghost use Rattle.state_values.specs.vm_states.Acting.{RunsOver};
 ghost use Rattle.vm_at_once.specs.AtOnce.{ActsAtOnce};
 
 use crate::doing::go_with;
-use prim_assignments::arena_heap::{Arena, Constants, Value};
-use prim_assignments::arena_objects::{item_at, item_count};
+use arena_heap::{Arena, Constants, Value};
+use arena_objects::{item_at, item_count};
 use state_values::acting_law;
-use state_values::vm_frames::{Frames, Slot};
-use state_values::vm_states::tops_law;
+use vm_frames::{Frames, Slot};
+use vm_states::tops_law;
 
 /// What the iterator on top goes over, and its place.
 #[inline(always)]

@@ -8,11 +8,11 @@ ghost use Rattle.vm_at_once.specs.AtOnce.{ActsAtOnce};
 
 use crate::doing::done;
 use crate::iterators::iterate;
-use prim_assignments::arena_heap::{Arena, Constants, Value};
-use state_values::vm_fetching::JumpOp;
-use state_values::vm_frames::{Frames, Slot};
-use state_values::vm_states::tops_law;
+use arena_heap::{Arena, Constants, Value};
 use state_values::{acting_law, jump, jump_by};
+use vm_fetching::JumpOp;
+use vm_frames::{Frames, Slot};
+use vm_states::tops_law;
 
 /// A jump that tests the top value, where that is a bool.
 #[inline(always)]

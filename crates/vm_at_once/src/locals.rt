@@ -14,12 +14,12 @@ ghost use Rattle.state_values.specs.vm_states.Acting.{RunsOver};
 ghost use Rattle.vm_at_once.specs.AtOnce.{ActsAtOnce};
 
 use crate::doing::{done, go_with};
-use prim_assignments::arena_heap::{Arena, Constants};
-use prim_assignments::prim_faults::Stop;
-use state_values::prim_names::assigned;
-use state_values::vm_fetching::NumberOp;
-use state_values::vm_frames::{Frames, Slot};
+use arena_heap::{Arena, Constants};
+use prim_faults::Stop;
+use prim_names::assigned;
 use state_values::{acting_law, store_fast, store_fast_n};
+use vm_fetching::NumberOp;
+use vm_frames::{Frames, Slot};
 
 /// LOAD_FAST, in one byte or in more, as `state_values::load_fast` does it.
 #[inline(always)]

@@ -7,10 +7,10 @@ ghost use Rattle.state_values.specs.vm_states.Acting.{RunsOver};
 ghost use Rattle.vm_at_once.specs.AtOnce.{ActsAtOnce};
 
 use crate::doing::done;
-use prim_assignments::arena_heap::{Arena, Constants, StrNo};
-use state_values::vm_fetching::NameOp;
-use state_values::vm_frames::Frames;
+use arena_heap::{Arena, Constants, StrNo};
 use state_values::{acting_law, load_text};
+use vm_fetching::NameOp;
+use vm_frames::Frames;
 
 /// LOAD_NAME.
 #[inline(always)]

@@ -6,7 +6,7 @@ ghost use Rattle.mpy_base.specs.Val.{Truth, Int};
 ghost use Rattle.prim_assignments.specs.arena_heap.Values.{IsSmall};
 ghost use Rattle.vm_at_once.specs.Numbers.{Gives, Computes};
 
-use bc_progress::py_values::{NumFault, SmallInt};
+use py_values::{NumFault, SmallInt};
 use std::cmp::Ordering;
 
 /// Are the numbers the same?

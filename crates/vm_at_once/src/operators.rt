@@ -11,10 +11,10 @@ ghost use Rattle.vm_at_once.specs.AtOnce.{ActsAtOnce};
 ghost use Rattle.vm_at_once.specs.Numbers.{IsAnswer};
 
 use crate::numbers::{compare, compute};
-use prim_assignments::arena_heap::{Arena, Constants, Value};
-use state_values::vm_frames::{Frames, Slot};
-use state_values::vm_states::tops_law;
+use arena_heap::{Arena, Constants, Value};
 use state_values::{acting_law, constants_law};
+use vm_frames::{Frames, Slot};
+use vm_states::tops_law;
 
 /// The two topmost slots, where they are integers: the lower one is the left operand.
 #[inline(always)]

@@ -1,7 +1,7 @@
 //! What is fetched: an instruction with the numbers of its library, in place of those of its module.
 
 use crate::operations::{JumpOp, NameOp, NumberOp, PlainOp};
-use frame_moves::arena_heap::{StrNo, Value};
+use arena_heap::{StrNo, Value};
 
 /// An instruction with the numbers of its library: a text, an object and the offset that it jumps to.
 #[derive(Clone, Copy, Debug, PartialEq, Eq)]

@@ -8,9 +8,7 @@ mod lines;
 mod looking;
 mod operations;
 
-pub use bc_rows;
 pub use fetching::fetch;
-pub use frame_moves;
 pub use instruction::{Fetched, Instruction};
 pub use law::step_law;
 pub use lines::line_of;

@@ -5,8 +5,8 @@ ghost use Rattle.bc_rows.specs.bc_library.Constants.{object_value, text_at};
 ghost use Rattle.bc_rows.specs.bc_library.Shelf.{entry_at, table_text};
 ghost use Rattle.vm_fetching.specs.Shows.{IsPooled};
 
-use bc_rows::bc_library::Library;
-use frame_moves::arena_heap::{StrNo, Value};
+use arena_heap::{StrNo, Value};
+use bc_library::Library;
 
 /// The text of the module's table that has the number.
 #[inline(always)]

@@ -7,7 +7,7 @@ ghost use Rattle.frame_moves.specs.bc_ops.Code.{TakesNumber};
 ghost use Rattle.frame_moves.specs.bc_ops.Table.{code_of, form_of};
 ghost use Rattle.vm_fetching.specs.Operations as operations;
 
-use frame_moves::bc_ops::Op;
+use bc_ops::Op;
 
 /// An operation without an operand.
 #[derive(Clone, Copy, Debug, PartialEq, Eq)]

@@ -8,9 +8,6 @@ mod moves;
 mod placed;
 mod slot;
 
-pub use bc_labels;
-pub use bc_machine;
-pub use bc_machine::bc_ops;
 pub use frame::Frame;
 pub use frames::Frames;
 pub use placed::{moves_law, placed_law};

@@ -30,7 +30,7 @@ ghost use Rattle.state_exits.specs.Running.{fetched_plain, stepped_with};
 ghost use Rattle.state_calls.specs.Taken.{HasMethods, CallsValue, callee_slots};
 ghost use Rattle.vm_kept.specs.Kept.{HoldsKept};
 
-use state_calls::bc_progress::known_law;
+use bc_progress::known_law;
 
 /// Calls that have begun keep nothing yet: where the machine's start of a module comes to them, and where there is one call,
 /// without slots and entries.

@@ -13,11 +13,11 @@ ghost use Rattle.vm_machine.specs.Acting.{Acted, HasFetched};
 ghost use Rattle.vm_machine.specs.Forms.{HasForm, IsNoCall};
 
 use crate::forms::Form;
+use arena_heap::StrNo;
 use bc_library::Library;
-use prim_faults::arena_heap::StrNo;
-use state_steps::bc_rows::{Row, Rows};
-use state_steps::vm_fetching::{Fetched, PlainOp};
+use bc_rows::{Row, Rows};
 use state_steps::{finish, import, leave, make, make_with, operate};
+use vm_fetching::{Fetched, PlainOp};
 use vm_kept::cause_law;
 use vm_starting::{NAME, Vm};
 

@@ -10,10 +10,10 @@ use crate::acting::act;
 use crate::fetching::{fetch_in, fetch_kept, row_of};
 use crate::forms::unpaid_form;
 use bc_library::Library;
-use state_steps::bc_rows::Rows;
-use state_steps::state_exits::registered_law;
-use state_steps::vm_fetching::Fetched;
+use bc_rows::Rows;
+use state_exits::registered_law;
 use vm_at_once::{act_at_once, store_at_once};
+use vm_fetching::Fetched;
 use vm_kept::step_law;
 use vm_starting::{Cache, Places, Vm, program_law};
 

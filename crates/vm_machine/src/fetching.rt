@@ -7,10 +7,10 @@ ghost use Rattle.vm_machine.specs.Machine.{IsVm};
 ghost use Rattle.vm_machine.specs.Acting.{AreFetchedIn, HasFetched};
 
 use bc_library::Library;
-use state_steps::bc_rows::{Row, Rows};
-use state_steps::vm_fetching::{Fetched, fetch};
-use vm_starting::vm_states::ready_law;
+use bc_rows::{Row, Rows};
+use vm_fetching::{Fetched, fetch};
 use vm_starting::{Cache, Places, Vm, cache_law, names_law, program_law, row_law};
+use vm_states::ready_law;
 
 /// What is fetched for the running call, and the row of its code. It takes no memory.
 fn fetch_at<'b, 'a>(vm: &Vm, library: &Library, rows: &'b Rows<'a>) -> (&'b Row<'a>, Fetched)

@@ -7,8 +7,8 @@ ghost use Rattle.state_calls.specs.vm_fetching.declared.instruction.Instruction.
 ghost use Rattle.state_calls.specs.vm_fetching.Shows.{TextIsThere};
 ghost use Rattle.vm_machine.specs.Forms.{HasForm, IsNoCall, MakesNoVisits};
 
-use prim_faults::arena_heap::StrNo;
-use state_steps::vm_fetching::{Instruction, NameOp, NumberOp, PlainOp};
+use arena_heap::StrNo;
+use vm_fetching::{Instruction, NameOp, NumberOp, PlainOp};
 
 /// What carries out an instruction.
 #[derive(Clone, Copy, Debug, PartialEq, Eq)]

@@ -4,9 +4,9 @@ ghost use Rattle.std.specs.Prelude.{IfOk};
 ghost use Rattle.vm_starting.specs.Titles.{AreTitles};
 
 use bc_library::{Library, library_law};
+use frame_exits::ModuleName;
 use mpy_base::NoMemory;
 use mpy_base::limits::MAX_MODULES;
-use state_steps::frame_exits::ModuleName;
 use std::alloc::Global;
 
 /// The names of the library's modules, in the order of their numbers.

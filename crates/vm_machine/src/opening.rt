@@ -12,9 +12,9 @@ ghost use Rattle.vm_machine.specs.Machine.{IsVm, machine_of};
 
 use crate::names::module_names;
 use bc_library::{Library, library_law};
+use bc_rows::Rows;
 use mpy_base::{NoMemory, Room};
-use state_steps::bc_rows::Rows;
-use state_steps::state_exits::registered_law;
+use state_exits::registered_law;
 use std::alloc::Global;
 use vm_kept::begins_law;
 use vm_starting::Vm;

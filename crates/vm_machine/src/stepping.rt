@@ -20,14 +20,14 @@ use crate::fetching::{fetch_kept, row_of};
 use crate::forms::{Form, call_in, form_of};
 use crate::paying::{steps_before, visits_of};
 use bc_library::Library;
+use bc_rows::{Row, Rows};
+use frame_calls::Invocation;
 use mpy_io::{Failed, Port, Sink};
 use port_set::PortSet;
-use state_steps::bc_rows::{Row, Rows};
+use state_calls::{take_call, visits_call_on};
 use state_steps::call;
-use state_steps::state_calls::{take_call, visits_call_on};
-use state_steps::vm_fetching::{Fetched, NumberOp};
+use vm_fetching::{Fetched, NumberOp};
 use vm_kept::{gives_law, methods_law, raises_law, step_law};
-use vm_starting::frame_calls::Invocation;
 use vm_starting::{Cache, Vm};
 
 /// Steps of an instruction of this form, which is no call.

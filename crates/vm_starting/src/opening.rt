@@ -20,16 +20,16 @@ ghost use Rattle.vm_starting.specs.Titles.{AreTitles};
 
 use crate::shown_program::{code_law, program_law};
 use crate::starting::start_main;
-use frame_calls::arena_heap::{Arena, Value};
-use frame_calls::prim_modules::Modules;
+use arena_heap::{Arena, Value};
+use bc_library::Library;
+use bc_rows::Rows;
 use frame_calls::{Bindings, Operands};
+use frame_exits::{End, ModuleName};
 use mpy_base::limits::MAX_MODULES;
 use mpy_base::{NoMemory, Room};
+use prim_modules::Modules;
 use std::alloc::Global;
-use vm_states::bc_library::Library;
-use vm_states::bc_rows::Rows;
-use vm_states::frame_exits::{End, ModuleName};
-use vm_states::vm_frames::Frames;
+use vm_frames::Frames;
 
 /// What a run of a library keeps. All its memory is taken where it is opened.
 #[derive(Drop)]

@@ -14,13 +14,13 @@ ghost use Rattle.vm_states.specs.State.{IsState};
 ghost use Rattle.vm_starting.specs.Starting.{Begins, IsMain, started_of};
 
 use crate::shown_program::code_law;
-use frame_calls::arena_heap::{Arena, StrNo};
-use frame_calls::prim_faults::Stop;
-use frame_calls::prim_modules::{Modules, make_module};
+use arena_heap::{Arena, StrNo};
+use bc_library::Library;
+use bc_progress::start_law;
 use mpy_base::NoRoom;
-use vm_states::bc_library::Library;
-use vm_states::bc_progress::start_law;
-use vm_states::vm_frames::{Frames, Role, moves_law, placed_law};
+use prim_faults::Stop;
+use prim_modules::{Modules, make_module};
+use vm_frames::{Frames, Role, moves_law, placed_law};
 
 /// The number of the text `__main__`, which every library has.
 pub const MAIN: u32 = 21;

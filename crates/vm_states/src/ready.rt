@@ -22,9 +22,9 @@ ghost use Rattle.vm_states.specs.Running.{IsOfModule, IsRunning};
 use crate::call_tops::tops_law;
 use crate::standing::standing_law;
 use bc_progress::{progress_law, room_law};
-use frame_exits::vm_frames::placed_law;
-use vm_fetching::bc_rows::rows_law;
+use bc_rows::rows_law;
 use vm_fetching::step_law;
+use vm_frames::placed_law;
 
 /// Of calls that run a program: the first one's code has a row, which is verified; an instruction starts at the call's offset;
 /// and what is fetched there is ready.
