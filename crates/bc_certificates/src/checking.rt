@@ -17,8 +17,7 @@ use bc_flow::{
     fits_entries, jump_edge, locals, next_edge, nothing, raise_edge, room, run_count, run_edge,
     stays,
 };
-use bc_shapes::{Entry, Kind, Shape, below, under};
-use mpy_base::NoMemory;
+use bc_shapes::{Entry, Kind, NoMemory, Shape, below, under};
 use std::alloc::Global;
 use std::mem;
 

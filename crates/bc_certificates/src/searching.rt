@@ -16,8 +16,7 @@ use bc_flow::{
     next_edge, nothing, raise_edge, run_count, run_edge, same_entries,
 };
 use bc_ops::{Item, Target};
-use bc_shapes::{Kind, Shape, Span, below, join, union};
-use mpy_base::NoMemory;
+use bc_shapes::{Kind, NoMemory, Shape, Span, below, join, union};
 use std::alloc::Global;
 use std::cmp::Reverse;
 use std::collections::BinaryHeap;

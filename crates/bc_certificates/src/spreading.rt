@@ -8,8 +8,7 @@ use bc_flow::{
     Action, Change, Code, Edge, action_at, base, change_of, entries_behind, falls, gives,
     gives_there, left, next_edge, nothing, run_count, takes, target,
 };
-use bc_shapes::{Entry, Give, Gives, Kind, Shape, Span};
-use mpy_base::NoMemory;
+use bc_shapes::{Entry, Give, Gives, Kind, NoMemory, Shape, Span};
 use std::alloc::Global;
 use std::mem;
 
