@@ -25,7 +25,7 @@ into : List Kind → Entry → List Entry → Edge
 into ks e es = record { to = e.handler; at = record { slots = pushed e.is_finally (drop (length ks - e.height) ks); entries = (way_in e es).entries } }
 
 into_is : (i : Action) (x : At) (e : Entry) (es : List Entry) → edge_of i x (way_in e es) ≡ into x.slots e es
-unfolding slots_of, into
+unfolding slots_of into
 into_is i x e es = refl
 
 -- each entry that isn't active leads to a row
@@ -167,7 +167,7 @@ leads_one a e (also l rest) = l
 module _ (code : Code) (rows : Rows) (each : (p : ℕ) (x : At) → carried code rows p ≡ Some x → Raises rows p x) where
   -- the entries below the topmost one that isn't active lead, since they do from its handler
   below_top : (b : ℕ) → ((q : ℕ) (y : At) → carried code rows q ≡ Some y → waiting y.entries < b → Lies rows y.slots y.entries) → (ks : List Kind) (n p : ℕ) (e : Entry) (es : List Entry) → waiting (e ∷ es) ≤ b → n ≤ length ks → ordered n p (e ∷ es) ≡ true → e.active ≡ false → Lead rows (into ks e es ∷ []) → Lies rows ks es
-  unfolding Lies, into, waiting
+  unfolding Lies into waiting
   below_top b ih ks n p e es few le o t l =
       let parts = and_parts (stands_on n p e) (ordered e.height (last_handler p e) es) o in
       let own = and_parts (nat_le e.height n) (e.active || nat_lt p e.handler) parts.0 in

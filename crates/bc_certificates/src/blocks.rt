@@ -40,15 +40,18 @@ pub(crate) struct Block {
     pub meets: bool,
     pub behind_setup: bool,
     pub reached: bool,
-    pub visited: bool,
     /// How many slots it begins with.
     pub height: usize,
     /// The topmost entry that it begins with.
     pub entry: usize,
     /// The entry that its last instruction pushes, once it was visited.
     pub made: usize,
-    /// How many slots, from the lowest one, it leaves alone.
-    pub low: usize,
+}
+
+/// The edges that leave a block, once it was visited.
+#[derive(Clone, Copy)]
+pub(crate) struct Exits {
+    pub visited: bool,
     pub next: Exit,
     pub jump: Exit,
     pub raise: Exit,
@@ -68,6 +71,7 @@ pub(crate) struct Watched {
 #[derive(Drop)]
 pub(crate) struct Walk {
     pub blocks: Vec<Block>,
+    pub exits: Vec<Exits>,
     /// The block that begins at a position, if one does.
     pub numbers: Vec<usize>,
     pub nodes: Vec<Node>,
@@ -85,7 +89,7 @@ pub(crate) struct Walk {
 }
 
 /// An edge to no block.
-pub(crate) fn no_exit() -> Exit {
+fn no_exit() -> Exit {
     Exit { to: NONE, limit: 0 }
 }
 
@@ -96,11 +100,16 @@ pub(crate) fn block_from(position: usize, meets: bool, behind_setup: bool) -> Bl
         meets,
         behind_setup,
         reached: false,
-        visited: false,
         height: 0,
         entry: NONE,
         made: NONE,
-        low: 0,
+    }
+}
+
+/// The edges of a block that wasn't visited.
+pub(crate) fn no_exits() -> Exits {
+    Exits {
+        visited: false,
         next: no_exit(),
         jump: no_exit(),
         raise: no_exit(),
@@ -121,6 +130,22 @@ pub(crate) fn block_at(walk: &Walk, b: usize) -> Block {
 pub(crate) fn put_block(walk: &mut Walk, b: usize, block: Block) {
     if b < walk.blocks.len() {
         walk.blocks[b] = block;
+    }
+}
+
+/// The edges that leave a block.
+pub(crate) fn exits_at(walk: &Walk, b: usize) -> Exits {
+    if b < walk.exits.len() {
+        walk.exits[b]
+    } else {
+        no_exits()
+    }
+}
+
+/// Puts the edges that leave a block.
+pub(crate) fn put_exits(walk: &mut Walk, b: usize, exits: Exits) {
+    if b < walk.exits.len() {
+        walk.exits[b] = exits;
     }
 }
 
@@ -263,9 +288,10 @@ fn push_clear(list: &mut Vec<u64>, count: usize) -> Result<(), NoMemory> {
     Ok(())
 }
 
-/// Adds that many groups of open slots to the rows.
-fn push_rows(walk: &mut Walk, count: usize) -> Result<(), NoMemory> {
-    for _i in 0..count {
+/// Makes room for that many groups of each row, where there is less.
+pub(crate) fn make_room(walk: &mut Walk, groups: usize) -> Result<(), NoMemory> {
+    let room = groups.min(MOST).saturating_mul(walk.blocks.len());
+    for _i in walk.open.len()..room {
         walk.open.push(all_open().open)?;
         walk.firm.push(all_open().firm)?;
     }
@@ -276,6 +302,7 @@ fn push_rows(walk: &mut Walk, count: usize) -> Result<(), NoMemory> {
 fn empty_walk(alloc: Global) -> Walk {
     Walk {
         blocks: Vec::new(alloc),
+        exits: Vec::new(alloc),
         numbers: Vec::new(alloc),
         nodes: Vec::new(alloc),
         watched: Vec::new(alloc),
@@ -296,6 +323,7 @@ fn push_blocks(alloc: Global, code: &Code, walk: &mut Walk) -> Result<(), NoMemo
             walk.numbers.push(walk.blocks.len())?;
             walk.blocks
                 .push(block_from(p, begin.meets, begin.behind_setup))?;
+            walk.exits.push(no_exits())?;
         } else {
             walk.numbers.push(NONE)?;
         }
@@ -303,7 +331,7 @@ fn push_blocks(alloc: Global, code: &Code, walk: &mut Walk) -> Result<(), NoMemo
     Ok(())
 }
 
-/// A walk that no block was reached by, where rows have room for the code's slots.
+/// A walk that has come to no block.
 pub(crate) fn start(alloc: Global, code: &Code) -> Result<Walk, NoMemory> {
     let mut walk = empty_walk(alloc);
     push_blocks(alloc, code, &mut walk)?;
@@ -311,7 +339,6 @@ pub(crate) fn start(alloc: Global, code: &Code) -> Result<Walk, NoMemory> {
     let groups = groups_of(code.n_state).min(MOST);
     push_clear(&mut walk.changed, blocks)?;
     push_clear(&mut walk.pending, blocks / SIZE + 1)?;
-    push_rows(&mut walk, blocks.saturating_mul(groups))?;
     for _g in 0..groups {
         walk.slots.push(all_open())?;
     }

@@ -3,9 +3,10 @@
 ghost use Rattle.std.specs.Prelude.{◌<◌, length};
 
 use crate::blocks::{
-    Block, Exit, Walk, block_at, groups_of, place, put_block, put_row_group, row_group,
+    Block, Exit, Walk, block_at, groups_of, make_room, place, put_block, put_row_group, row_group,
 };
 use crate::groups::{Group, MOST, Open, SIZE, below, bit, group_at, only_slots};
+use mpy_base::NoMemory;
 
 /// Puts a block among those that wait for a visit.
 pub(crate) fn wait(walk: &mut Walk, b: usize) {
@@ -95,7 +96,14 @@ fn same_lists(walk: &Walk, one: usize, other: usize) -> bool {
 }
 
 /// Makes the lowest slots of the walk the row of a block that an edge comes to first.
-fn put_row(walk: &mut Walk, b: usize, block: Block, height: usize, entry: usize) {
+fn put_row(
+    walk: &mut Walk,
+    b: usize,
+    block: Block,
+    height: usize,
+    entry: usize,
+) -> Result<(), NoMemory> {
+    make_room(walk, groups_of(height))?;
     let mut first = block;
     first.reached = true;
     first.height = height;
@@ -106,6 +114,7 @@ fn put_row(walk: &mut Walk, b: usize, block: Block, height: usize, entry: usize)
         put_row_group(walk, g, b, come);
     }
     wait(walk, b);
+    Ok(())
 }
 
 /// Lets the lowest slots of the walk arrive at a block's row.
@@ -123,19 +132,24 @@ fn meet_row(walk: &mut Walk, b: usize, height: usize) -> bool {
 }
 
 /// Lets the lowest `height` slots of the walk arrive at a block with these entries, and tells whether they may.
-pub(crate) fn arrive(walk: &mut Walk, b: usize, height: usize, entry: usize) -> bool {
+pub(crate) fn arrive(
+    walk: &mut Walk,
+    b: usize,
+    height: usize,
+    entry: usize,
+) -> Result<bool, NoMemory> {
     if b >= walk.blocks.len() {
-        return false;
+        return Ok(false);
     }
     let block = block_at(walk, b);
     if !block.reached {
-        put_row(walk, b, block, height, entry);
-        return true;
+        put_row(walk, b, block, height, entry)?;
+        return Ok(true);
     }
     if block.height != height || !same_lists(walk, block.entry, entry) {
-        return false;
+        return Ok(false);
     }
-    meet_row(walk, b, height)
+    Ok(meet_row(walk, b, height))
 }
 
 /// Lets the slots of a block's row that changed arrive where they pass unchanged, and tells whether they may.

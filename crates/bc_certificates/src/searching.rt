@@ -6,7 +6,7 @@ ghost use Rattle.std.specs.Bool.{OnTrue};
 ghost use Rattle.bc_flow.specs.Code.{code_of};
 ghost use Rattle.bc_flow.specs.Verified.{Verified};
 
-use crate::blocks::{Block, NONE, Walk, block_at, groups_of, row_group, start};
+use crate::blocks::{Block, Exits, NONE, Walk, block_at, exits_at, groups_of, row_group, start};
 use crate::checking::check;
 use crate::groups::{Group, SIZE, below, bit, kind_of, only_kind};
 use crate::passing::{arrive, pass, take_changes};
@@ -36,9 +36,9 @@ fn has_moved(walk: &mut Walk, b: usize, i: usize) -> bool {
 }
 
 /// Has any of the slots that a block watches changed since it was walked?
-fn any_moved(walk: &mut Walk, b: usize, block: Block) -> bool {
+fn any_moved(walk: &mut Walk, b: usize, exits: Exits) -> bool {
     let mut any = false;
-    for i in block.watched.from..block.watched.to {
+    for i in exits.watched.from..exits.watched.to {
         if has_moved(walk, b, i) {
             any = true;
         }
@@ -48,14 +48,14 @@ fn any_moved(walk: &mut Walk, b: usize, block: Block) -> bool {
 
 /// Visits a block: the first time, and where a slot that it moves changed, it is walked; else what changed passes along its edges.
 fn visit(code: &Code, walk: &mut Walk, lists: &mut Lists, b: usize) -> Result<bool, NoMemory> {
-    let block = block_at(walk, b);
+    let exits = exits_at(walk, b);
     let changed = take_changes(walk, b);
-    if !block.visited || any_moved(walk, b, block) {
+    if !exits.visited || any_moved(walk, b, exits) {
         return walk_block(code, walk, lists, b);
     }
-    Ok(pass(walk, b, block.raise, changed)
-        && pass(walk, b, block.jump, changed)
-        && pass(walk, b, block.next, changed))
+    Ok(pass(walk, b, exits.raise, changed)
+        && pass(walk, b, exits.jump, changed)
+        && pass(walk, b, exits.next, changed))
 }
 
 /// The first block from that number on that waits for a visit.
@@ -202,7 +202,7 @@ pub fn search(alloc: Global, code: &Code) -> Result<Option<Vec<Option<Shape>>>, 
         return Ok(Some(first_row(alloc)?));
     }
     let mut walk = start(alloc, code)?;
-    if !arrive(&mut walk, 0, 0, NONE) {
+    if !arrive(&mut walk, 0, 0, NONE)? {
         return Ok(None);
     }
     if !visit_all(alloc, code, &mut walk)? {

@@ -3,7 +3,8 @@
 ghost use Rattle.std.specs.Prelude.{◌<◌, length};
 
 use crate::blocks::{
-    Exit, NONE, Node, Walk, Watched, block_at, groups_of, number_at, put_block, row_group,
+    Exit, NONE, Node, Walk, Watched, block_at, exits_at, groups_of, number_at, put_block, put_exits,
+    row_group,
 };
 use crate::groups::{MOST, SIZE, bit, group_at, kind_at, put_group, put_kind, put_values};
 use crate::passing::arrive;
@@ -153,14 +154,20 @@ fn fits(code: &Code, height: usize) -> bool {
 }
 
 /// Goes along an edge of the block, and tells it, if the slots may arrive there.
-fn leave(code: &Code, walk: &mut Walk, to: usize, height: usize, point: Point) -> Option<Exit> {
-    if !fits(code, height) || !arrive(walk, to, height, point.entry) {
-        return None;
+fn leave(
+    code: &Code,
+    walk: &mut Walk,
+    to: usize,
+    height: usize,
+    point: Point,
+) -> Result<Option<Exit>, NoMemory> {
+    if !fits(code, height) || !arrive(walk, to, height, point.entry)? {
+        return Ok(None);
     }
-    Some(Exit {
+    Ok(Some(Exit {
         to,
         limit: point.low.min(height),
-    })
+    }))
 }
 
 /// The topmost entry that isn't active at a position, or none.
@@ -179,14 +186,14 @@ fn raised(walk: &Walk, position: usize, entry: usize) -> usize {
 }
 
 /// Goes along the edge from a block's first position to the handler of an entry.
-fn leave_raised(code: &Code, walk: &mut Walk, entry: usize) -> Option<Exit> {
+fn leave_raised(code: &Code, walk: &mut Walk, entry: usize) -> Result<Option<Exit>, NoMemory> {
     if entry >= walk.nodes.len() {
-        return None;
+        return Ok(None);
     }
     let node = walk.nodes[entry];
     let height = node.height.saturating_add(1);
     if !fits(code, height) {
-        return None;
+        return Ok(None);
     }
     let kept = group_at(&walk.slots, node.height / SIZE);
     let first = if node.is_finally {
@@ -196,34 +203,34 @@ fn leave_raised(code: &Code, walk: &mut Walk, entry: usize) -> Option<Exit> {
     };
     put_kind(&mut walk.slots, node.height, first);
     let to = number_at(&walk.numbers, node.handler);
-    let fine = arrive(walk, to, height, entry);
+    let fine = arrive(walk, to, height, entry)?;
     put_group(&mut walk.slots, node.height / SIZE, kept);
     if !fine {
-        return None;
+        return Ok(None);
     }
-    Some(Exit {
+    Ok(Some(Exit {
         to,
         limit: node.height,
-    })
+    }))
 }
 
 /// Goes to the handler that a raise at the block's first position runs, if an entry was pushed just before.
-fn walk_raise(code: &Code, walk: &mut Walk, b: usize) -> bool {
-    let mut block = block_at(walk, b);
+fn walk_raise(code: &Code, walk: &mut Walk, b: usize) -> Result<bool, NoMemory> {
+    let block = block_at(walk, b);
     if !block.behind_setup {
-        return true;
+        return Ok(true);
     }
     let entry = raised(walk, block.position, block.entry);
     if entry == NONE {
-        return true;
+        return Ok(true);
     }
-    match leave_raised(code, walk, entry) {
-        None => false,
+    match leave_raised(code, walk, entry)? {
+        None => Ok(false),
         Some(exit) => {
-            block = block_at(walk, b);
-            block.raise = exit;
-            put_block(walk, b, block);
-            true
+            let mut exits = exits_at(walk, b);
+            exits.raise = exit;
+            put_exits(walk, b, exits);
+            Ok(true)
         }
     }
 }
@@ -332,17 +339,16 @@ fn walk_jump(
         return Ok(true);
     };
     let height = put_given(walk, point.height, there, gives_there(action).values);
-    let mut block = block_at(walk, b);
-    if !block.visited {
-        watch_moved(walk, b, block.watched.from, point.low, height)?;
+    let mut exits = exits_at(walk, b);
+    if !exits.visited {
+        watch_moved(walk, b, exits.watched.from, point.low, height)?;
     }
     let to = number_at(&walk.numbers, position);
-    match leave(code, walk, to, height, point) {
+    match leave(code, walk, to, height, point)? {
         None => Ok(false),
         Some(exit) => {
-            block = block_at(walk, b);
-            block.jump = exit;
-            put_block(walk, b, block);
+            exits.jump = exit;
+            put_exits(walk, b, exits);
             Ok(true)
         }
     }
@@ -367,16 +373,15 @@ fn walk_next(
     if to == NONE {
         return Ok(Turn::GoesOn);
     }
-    let mut block = block_at(walk, b);
-    if !block.visited {
-        watch_moved(walk, b, block.watched.from, point.low, height)?;
+    let mut exits = exits_at(walk, b);
+    if !exits.visited {
+        watch_moved(walk, b, exits.watched.from, point.low, height)?;
     }
-    match leave(code, walk, to, height, *point) {
+    match leave(code, walk, to, height, *point)? {
         None => Ok(Turn::Refused),
         Some(exit) => {
-            block = block_at(walk, b);
-            block.next = exit;
-            put_block(walk, b, block);
+            exits.next = exit;
+            put_exits(walk, b, exits);
             Ok(Turn::Ends)
         }
     }
@@ -414,29 +419,32 @@ fn step(
     Ok(turn)
 }
 
-/// Notes that a block was visited.
+/// Notes that a block was visited. What both its edges take to one block, the jump takes alone.
 fn note_visit(walk: &mut Walk, b: usize) {
-    let mut block = block_at(walk, b);
-    if !block.visited {
-        block.watched = Span {
-            from: block.watched.from,
+    let mut exits = exits_at(walk, b);
+    if !exits.visited {
+        exits.watched = Span {
+            from: exits.watched.from,
             to: walk.watched.len(),
         };
-        block.visited = true;
-        put_block(walk, b, block);
+        exits.visited = true;
     }
+    if exits.next.to == exits.jump.to && exits.next.limit <= exits.jump.limit {
+        exits.next.to = NONE;
+    }
+    put_exits(walk, b, exits);
 }
 
 /// Begins the list of the slots that a block watches, where it is visited first.
 fn begin_watch(walk: &mut Walk, b: usize) {
-    let mut block = block_at(walk, b);
-    if !block.visited {
+    let mut exits = exits_at(walk, b);
+    if !exits.visited {
         let count = walk.watched.len();
-        block.watched = Span {
+        exits.watched = Span {
             from: count,
             to: count,
         };
-        put_block(walk, b, block);
+        put_exits(walk, b, exits);
     }
 }
 
@@ -450,7 +458,7 @@ pub(crate) fn walk_block(
     begin_watch(walk, b);
     let block = block_at(walk, b);
     load(walk, b, block.height);
-    if !walk_raise(code, walk, b) {
+    if !walk_raise(code, walk, b)? {
         return Ok(false);
     }
     let mut point = Point {
