@@ -102,7 +102,6 @@ unfolding into
 lead_lower rows ks ys e es h l = record { marked = l.marked; each = by l.each }
   where
     by : Each (row rows) (into ys e es ∷ []) → Each (row rows) (into ks e es ∷ [])
-    unfolding into
     by (also m rest) = also (record {
       at = m.at;
       is = m.is;
