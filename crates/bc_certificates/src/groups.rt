@@ -173,6 +173,10 @@ pub(crate) fn put_values(groups: &mut Vec<Group>, from: usize, to: usize) {
     for g in from / SIZE..to / SIZE + 1 {
         let slots = below(g, to) & (below(g, from) ^ u64::MAX);
         let old = group_at(groups, g);
-        put_group(groups, g, with_slots(old, of_kind(Kind::Value, slots), slots));
+        put_group(
+            groups,
+            g,
+            with_slots(old, of_kind(Kind::Value, slots), slots),
+        );
     }
 }

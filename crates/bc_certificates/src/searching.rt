@@ -53,9 +53,11 @@ fn visit(code: &Code, walk: &mut Walk, lists: &mut Lists, b: usize) -> Result<bo
     if !exits.visited || any_moved(walk, b, exits) {
         return walk_block(code, walk, lists, b);
     }
-    Ok(pass(walk, b, exits.raise, changed)
-        && pass(walk, b, exits.jump, changed)
-        && pass(walk, b, exits.next, changed))
+    Ok(
+        pass(walk, b, exits.raise, changed)
+            && pass(walk, b, exits.jump, changed)
+            && pass(walk, b, exits.next, changed),
+    )
 }
 
 /// The first block from that number on that waits for a visit.
@@ -67,7 +69,10 @@ fn waiting_from(pending: &[u64], from: usize) -> Option<usize> {
             word = word & (u64::MAX << (from % SIZE));
         }
         if word != 0 {
-            return Some(w.saturating_mul(SIZE).saturating_add(word.trailing_zeros() as usize));
+            return Some(
+                w.saturating_mul(SIZE)
+                    .saturating_add(word.trailing_zeros() as usize),
+            );
         }
     }
     None

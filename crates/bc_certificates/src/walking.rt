@@ -3,8 +3,8 @@
 ghost use Rattle.std.specs.Prelude.{◌<◌, length};
 
 use crate::blocks::{
-    Exit, NONE, Node, Walk, Watched, block_at, exits_at, groups_of, number_at, put_block, put_exits,
-    row_group,
+    Exit, NONE, Node, Walk, Watched, block_at, exits_at, groups_of, number_at, put_block,
+    put_exits, row_group,
 };
 use crate::groups::{MOST, SIZE, bit, group_at, kind_at, put_group, put_kind, put_values};
 use crate::passing::arrive;
