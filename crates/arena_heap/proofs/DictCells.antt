@@ -10,8 +10,8 @@ use Rattle.arena_heap.specs.declared.value.Value.{Value}
 use Rattle.arena_heap.specs.declared.cells.Cell.{Cell}
 use Rattle.arena_heap.specs.declared.cells.Region.{Region}
 use Rattle.arena_heap.specs.declared.cells.Cell.TheVariants.{DictHead}
-use Rattle.mpy_base.specs.World.{DictObject}
-use Rattle.mpy_base.specs.Weights.{IsRoom}
+use Rattle.qstr_pool.specs.mpy_base.World.{DictObject}
+use Rattle.qstr_pool.specs.mpy_base.Weights.{IsRoom}
 use Rattle.arena_heap.specs.Values.{ArenaObject}
 use Rattle.arena_heap.specs.Dicts.{with_value}
 use Rattle.arena_heap.specs.Cells.{blank, cell_of, value_of, head_of, heads, first, size, byte_first, byte_size, Full, part, pair_in, pairs_in, read, In, Kept, IsBelow, AreLinked, Links, Linked, AreAllLinked, texts_in, Relinked, Holds}

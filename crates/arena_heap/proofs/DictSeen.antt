@@ -13,10 +13,10 @@ use Rattle.arena_heap.specs.declared.cells.Cell.{Cell}
 use Rattle.arena_heap.specs.declared.cells.Cell.TheVariants.{DictHead}
 use Rattle.arena_heap.specs.declared.cells.Cell.TheVariants as variants
 use Rattle.arena_heap.specs.declared.cells.Region.{Region}
-use Rattle.mpy_base.specs.World.{Heap, DictObject, ADict, AText, IsA, object, text_of, text_at, kind_of, pairs_of, room_of, pairs_at, room_at, with_object, with_dict, Later}
-use Rattle.mpy_base.specs.Weights.{Fits, with_used, dict_growth, grown_room, room_for, with_dict_room, with_pairs}
-use Rattle.mpy_base.proofs.Worlds.{is_within, object_grown, later_grown}
-use Rattle.mpy_base.proofs.Rooms.{room_is, room_positive}
+use Rattle.qstr_pool.specs.mpy_base.World.{Heap, DictObject, ADict, AText, IsA, object, text_of, text_at, kind_of, pairs_of, room_of, pairs_at, room_at, with_object, with_dict, Later}
+use Rattle.qstr_pool.specs.mpy_base.Weights.{Fits, with_used, dict_growth, grown_room, room_for, with_dict_room, with_pairs}
+use Rattle.qstr_pool.proofs.mpy_base_lemmas.Worlds.{is_within, object_grown, later_grown}
+use Rattle.qstr_pool.proofs.mpy_base_lemmas.Rooms.{room_is, room_positive}
 use Rattle.arena_heap.specs.Values.{ArenaObject, Leads, IsKey, held, IsFormed}
 use Rattle.arena_heap.specs.Dicts.{with_value}
 use Rattle.arena_heap.specs.Links.{IsLast, bucket_of, buckets_at, text_end, with_key}

@@ -6,11 +6,11 @@ use Rattle.std.proofs.lemmas.List.FromFn.{length-map-range_with_len, get_or-map-
 use Rattle.std.proofs.lemmas.Bool.{cases_eq, cases_lt, cond-true, cond-false, le-leb, lt-leb}
 use Rattle.arena_heap.specs.declared.value.Value.{Value}
 use Rattle.arena_heap.specs.declared.cells.Cell.{Cell}
-use Rattle.mpy_base.specs.World.{object}
+use Rattle.qstr_pool.specs.mpy_base.World.{object}
 use Rattle.arena_heap.specs.Values.{ArenaObject}
 use Rattle.arena_heap.specs.declared.cells.Cell.TheVariants.{DictHead}
 use Rattle.arena_heap.specs.Cells.{blank, cell_of, head_of, heads, first, size, byte_first, byte_size, Full, part, decode, read, object_at, objects_of, In, Apart, Kept, AreLinked, IsBelow, pairs_in, Links, texts_in, Linked, AreAllLinked, Holds}
-use Rattle.mpy_base.proofs.Worlds.{object_nones}
+use Rattle.qstr_pool.proofs.mpy_base_lemmas.Worlds.{object_nones}
 use Rattle.arena_heap.specs.Links.{without_text}
 use Rattle.arena_heap.proofs.CellValues.{head_of-cell_of}
 use Rattle.std.specs.List.{All}

@@ -3,10 +3,10 @@ use Rattle.std.proofs.Common.{ℕ, ◌≤◌, ◌≡◌, List, ◌++◌, length,
 use Rattle.std.proofs.lemmas.List.{set-set}
 use Rattle.std.proofs.lemmas.Bool.{cases_lt}
 use Rattle.arena_heap.specs.declared.value.Value.{Value}
-use Rattle.mpy_base.specs.World.{Heap, ListObject, AList, IsA, Later, object, items_of, room_of, items_at, room_at, with_list, with_object}
-use Rattle.mpy_base.specs.Weights.{with_used, list_growth, grown_room, with_items, with_list_room}
-use Rattle.mpy_base.proofs.Rooms.{room_is}
-use Rattle.mpy_base.proofs.Worlds.{is_within, later_grown, object_grown}
+use Rattle.qstr_pool.specs.mpy_base.World.{Heap, ListObject, AList, IsA, Later, object, items_of, room_of, items_at, room_at, with_list, with_object}
+use Rattle.qstr_pool.specs.mpy_base.Weights.{with_used, list_growth, grown_room, with_items, with_list_room}
+use Rattle.qstr_pool.proofs.mpy_base_lemmas.Rooms.{room_is}
+use Rattle.qstr_pool.proofs.mpy_base_lemmas.Worlds.{is_within, later_grown, object_grown}
 use Rattle.arena_heap.specs.Values.{ArenaObject}
 use Rattle.arena_heap.proofs.ListSeen.{kept_room, next_room}
 

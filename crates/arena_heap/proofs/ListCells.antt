@@ -10,8 +10,8 @@ use Rattle.arena_heap.specs.declared.value.Value.{Value}
 use Rattle.arena_heap.specs.declared.cells.Cell.{Cell}
 use Rattle.arena_heap.specs.declared.cells.Region.{Region}
 use Rattle.arena_heap.specs.declared.cells.Cell.TheVariants.{ListHead, DictHead}
-use Rattle.mpy_base.specs.World.{ListObject}
-use Rattle.mpy_base.specs.Weights.{IsRoom}
+use Rattle.qstr_pool.specs.mpy_base.World.{ListObject}
+use Rattle.qstr_pool.specs.mpy_base.Weights.{IsRoom}
 use Rattle.arena_heap.specs.Values.{ArenaObject}
 use Rattle.arena_heap.specs.Cells.{blank, value_of, head_of, heads, first, byte_size, byte_first, size, Full, part, cell_of, read, In, Kept, Holds}
 use Rattle.arena_heap.proofs.Regions.{length-part, get_or-part}

@@ -11,9 +11,9 @@ use Rattle.arena_heap.specs.declared.value.Value.TheVariants as values
 use Rattle.arena_heap.specs.declared.cells.Cell.{Cell}
 use Rattle.arena_heap.specs.declared.cells.Cell.TheVariants.{ListHead}
 use Rattle.arena_heap.specs.declared.cells.Region.{Region}
-use Rattle.mpy_base.specs.World.{Heap, ListObject, AList, IsA, object, kind_of, items_of, room_of, items_at, room_at, with_object, with_list}
-use Rattle.mpy_base.specs.Weights.{Fits, IsRoom, room_for, with_used, list_growth, grown_room, with_list_room}
-use Rattle.mpy_base.proofs.Rooms.{room_is}
+use Rattle.qstr_pool.specs.mpy_base.World.{Heap, ListObject, AList, IsA, object, kind_of, items_of, room_of, items_at, room_at, with_object, with_list}
+use Rattle.qstr_pool.specs.mpy_base.Weights.{Fits, IsRoom, room_for, with_used, list_growth, grown_room, with_list_room}
+use Rattle.qstr_pool.proofs.mpy_base_lemmas.Rooms.{room_is}
 use Rattle.arena_heap.specs.Values.{ArenaObject, Leads, held}
 use Rattle.arena_heap.specs.Cells.{blank, value_of, heads, part, heap_of, Holds, IsArena}
 use Rattle.arena_heap.proofs.Views.{fits_is}

@@ -3,15 +3,15 @@ use Rattle.std.proofs.Common.{ℕ, zero, suc, add-one, ◌+◌, ◌-◌, ◌*◌
 use Rattle.std.proofs.lemmas.List.{get_or_append_left, get_or-append_right, get_or_past, set_at, length-replicate, get_or-replicate, drop_at, take_all, append_assoc, append-nil, length_push}
 use Rattle.std.proofs.lemmas.List.FromFn.{length-map-range_with_len}
 use Rattle.std.proofs.lemmas.Bool.{cases_lt}
-use Rattle.mpy_base.specs.declared.kind.Kind.{Kind}
-use Rattle.mpy_base.specs.declared.builtin.Builtin.{Builtin}
+use Rattle.qstr_pool.specs.mpy_base.declared.kind.Kind.{Kind}
+use Rattle.qstr_pool.specs.mpy_base.declared.builtin.Builtin.{Builtin}
 use Rattle.arena_heap.specs.declared.value.Value.{Value}
 use Rattle.arena_heap.specs.declared.value.Value.TheVariants as values
 use Rattle.arena_heap.specs.declared.value.DictNo.{DictNo}
 use Rattle.arena_heap.specs.declared.cells.Cell.{Cell}
 use Rattle.arena_heap.specs.declared.cells.Cell.TheVariants as variants
-use Rattle.mpy_base.specs.World.{ListObject, TupleObject, TextObject, DictObject, FunctionObject, ExceptionObject, MethodObject, RangeObject, ModuleObject}
-use Rattle.mpy_base.specs.Weights.{more_cells, IsRoom}
+use Rattle.qstr_pool.specs.mpy_base.World.{ListObject, TupleObject, TextObject, DictObject, FunctionObject, ExceptionObject, MethodObject, RangeObject, ModuleObject}
+use Rattle.qstr_pool.specs.mpy_base.Weights.{more_cells, IsRoom}
 use Rattle.arena_heap.specs.Values.{ArenaObject}
 use Rattle.arena_heap.specs.Cells.{blank, cell_of, value_of, head_of, heads, first, size, byte_first, byte_size, Full, part, decode, read, In, first_link, pair_in, AreLinked, Links, Linked, AreAllLinked, texts_in, Holds}
 use Rattle.arena_heap.proofs.Chains.{chained_none}

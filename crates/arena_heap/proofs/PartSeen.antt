@@ -5,15 +5,15 @@ use Rattle.std.specs.List.{All}
 use Rattle.std.specs.Option.{IfSome, MatchOption, option_map}
 use Rattle.std.specs.Vec.{vec_capacity}
 use Rattle.std.proofs.lemmas.List.{get_or_default}
-use Rattle.mpy_base.specs.declared.kind.Kind.{Kind}
-use Rattle.mpy_base.specs.declared.builtin.Builtin.{Builtin}
+use Rattle.qstr_pool.specs.mpy_base.declared.kind.Kind.{Kind}
+use Rattle.qstr_pool.specs.mpy_base.declared.builtin.Builtin.{Builtin}
 use Rattle.arena_heap.specs.declared.arena.Arena.TheInside.{Inside}
 use Rattle.arena_heap.specs.declared.value.Value.{Value}
 use Rattle.arena_heap.specs.declared.value.Value.TheVariants as values
 use Rattle.arena_heap.specs.declared.value.DictNo.{DictNo}
 use Rattle.arena_heap.specs.declared.cells.Cell.{Cell}
 use Rattle.arena_heap.specs.declared.cells.Cell.TheVariants as variants
-use Rattle.mpy_base.specs.World.{Heap, FunctionObject, ExceptionObject, MethodObject, ModuleObject, ADict, AnException, AModule, IsA, kind_of, object, placed, named, with_place, with_names}
+use Rattle.qstr_pool.specs.mpy_base.World.{Heap, FunctionObject, ExceptionObject, MethodObject, ModuleObject, ADict, AnException, AModule, IsA, kind_of, object, placed, named, with_place, with_names}
 use Rattle.arena_heap.specs.Values.{ArenaObject, BeginsAt, Leads, held, IsFormed}
 use Rattle.arena_heap.specs.Cells.{blank, value_of, dict_number, dict_in, place_in, kind_at, head_of, heads, object_in, first, size, part, decode, read, heap_of, In, Holds, IsArena}
 use Rattle.arena_heap.proofs.Regions.{length-part, get_or-part}

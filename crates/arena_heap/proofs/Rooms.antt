@@ -6,8 +6,8 @@ use Rattle.arena_heap.specs.declared.arena.Arena.TheInside.{Inside}
 use Rattle.arena_heap.specs.declared.value.Value.{Value}
 use Rattle.arena_heap.specs.declared.cells.Cell.{Cell}
 use Rattle.arena_heap.specs.declared.cells.Cell.TheVariants as cells
-use Rattle.mpy_base.specs.World.{Heap, object}
-use Rattle.mpy_base.specs.Weights.{Fits}
+use Rattle.qstr_pool.specs.mpy_base.World.{Heap, object}
+use Rattle.qstr_pool.specs.mpy_base.Weights.{Fits}
 use Rattle.arena_heap.specs.Values.{IsWithinRoom, HasFew}
 use Rattle.arena_heap.specs.Cells.{heads, first, size, part, decode, Full, value_of, pair_in}
 use Rattle.arena_heap.proofs.Frame.{object_is}

@@ -7,9 +7,9 @@ use Rattle.std.proofs.lemmas.List.{length-replicate}
 use Rattle.arena_heap.specs.declared.arena.Arena.TheInside.{Inside}
 use Rattle.arena_heap.specs.declared.value.Value.{Value}
 use Rattle.arena_heap.specs.declared.cells.Cell.{Cell}
-use Rattle.mpy_base.specs.World.{Heap, ObjectKind, IsA, object, kind_of, with_object}
-use Rattle.mpy_base.proofs.Worlds.{later_append}
-use Rattle.mpy_base.specs.Weights.{Fits, used, with_used, with_made, Made, cells_of, more_cells, bytes_of}
+use Rattle.qstr_pool.specs.mpy_base.World.{Heap, ObjectKind, IsA, object, kind_of, with_object}
+use Rattle.qstr_pool.proofs.mpy_base_lemmas.Worlds.{later_append}
+use Rattle.qstr_pool.specs.mpy_base.Weights.{Fits, used, with_used, with_made, Made, cells_of, more_cells, bytes_of}
 use Rattle.arena_heap.specs.Values.{ArenaObject, Leads, Sound, held, IsFormed}
 use Rattle.arena_heap.specs.Cells.{heads, read, kind_at, objects_of, heap_of, Holds, IsArena}
 use Rattle.arena_heap.proofs.Frame.{length-objects, length_held, object_is}

@@ -5,8 +5,8 @@ use Rattle.std.proofs.lemmas.List.Elements.{All-weaker, All-nil, All-cons}
 use Rattle.std.proofs.lemmas.Bool.{cases_eq, cases_lt}
 use Rattle.std.specs.List.{All}
 use Rattle.arena_heap.specs.declared.value.Value.{Value}
-use Rattle.mpy_base.specs.World.{ObjectKind, object, kind_of, IsA, Later}
-use Rattle.mpy_base.proofs.Worlds.{object_nones, later_append, later_set}
+use Rattle.qstr_pool.specs.mpy_base.World.{ObjectKind, object, kind_of, IsA, Later}
+use Rattle.qstr_pool.proofs.mpy_base_lemmas.Worlds.{object_nones, later_append, later_set}
 use Rattle.arena_heap.specs.Values.{ArenaObject, needs, Meets, Leads, held, IsFormed, Sound}
 
 meets_later : {obs obs' : List (Option ArenaObject)} → Later obs obs' → (o : Option (ObjectKind × ℕ)) → Meets obs o → Meets obs' o

@@ -10,7 +10,7 @@ use Rattle.arena_heap.specs.declared.value.Value.TheVariants as values
 use Rattle.arena_heap.specs.declared.cells.Cell.{Cell}
 use Rattle.arena_heap.specs.declared.cells.Span.{Span}
 use Rattle.arena_heap.specs.declared.cells.Cell.TheVariants.{TupleHead, TextHead, DictHead}
-use Rattle.mpy_base.specs.World.{Heap, TupleObject, TextObject, ATuple, AText, IsA, object, items_of, text_of, items_at, text_at, with_tuple, with_text}
+use Rattle.qstr_pool.specs.mpy_base.World.{Heap, TupleObject, TextObject, ATuple, AText, IsA, object, items_of, text_of, items_at, text_at, with_tuple, with_text}
 use Rattle.arena_heap.specs.Values.{ArenaObject, Leads, held, IsFormed}
 use Rattle.arena_heap.specs.Cells.{blank, cell_of, value_of, kind_at, heads, first, size, byte_first, byte_size, part, read, heap_of, In, Kept, Holds, IsArena}
 use Rattle.arena_heap.specs.Links.{without_text}

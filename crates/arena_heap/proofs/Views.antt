@@ -5,9 +5,9 @@ use Rattle.std.proofs.lemmas.Bool.{le-leb, lt-leb, cond-true, cond-false, cases_
 use Rattle.arena_heap.specs.declared.value.Value.{Value}
 use Rattle.arena_heap.specs.declared.cells.Cell.{Cell}
 use Rattle.arena_heap.specs.declared.cells.Cell.TheVariants as variants
-use Rattle.mpy_base.specs.World.{Heap, ObjectKind, kind_of, IsA}
-use Rattle.mpy_base.specs.Weights.{Fits, no_room, used}
-use Rattle.mpy_base.proofs.Worlds.{is_within}
+use Rattle.qstr_pool.specs.mpy_base.World.{Heap, ObjectKind, kind_of, IsA}
+use Rattle.qstr_pool.specs.mpy_base.Weights.{Fits, no_room, used}
+use Rattle.qstr_pool.proofs.mpy_base_lemmas.Worlds.{is_within}
 use Rattle.arena_heap.specs.Cells.{heads, read, kind_at, objects_of, heap_of}
 use Rattle.arena_heap.proofs.Frame.{length-objects, object_is}
 

@@ -9,8 +9,8 @@ use Rattle.arena_heap.specs.declared.value.ObjectNo.{ObjectNo}
 use Rattle.arena_heap.specs.declared.value.ObjectNo.TheVariants as numbers
 use Rattle.arena_heap.specs.declared.cells.Cell.{Cell}
 use Rattle.arena_heap.specs.declared.cells.Cell.TheVariants as cells
-use Rattle.mpy_base.specs.World.{ListObject, TupleObject, TextObject, DictObject, FunctionObject, ExceptionObject, MethodObject, RangeObject, ModuleObject, Heap, ObjectKind, AList, ATuple, AText, ADict, AFunction, AnException, AMethod, ARange, AModule}
-use Rattle.mpy_base.specs.Weights.{IsRoom}
+use Rattle.qstr_pool.specs.mpy_base.World.{ListObject, TupleObject, TextObject, DictObject, FunctionObject, ExceptionObject, MethodObject, RangeObject, ModuleObject, Heap, ObjectKind, AList, ATuple, AText, ADict, AFunction, AnException, AMethod, ARange, AModule}
+use Rattle.qstr_pool.specs.mpy_base.Weights.{IsRoom}
 use Rattle.arena_heap.specs.declared.cells.Region.{Region}
 use Rattle.arena_heap.specs.Values.{ArenaObject, Sound}
 use Rattle.arena_heap.specs.Links.{bucket_of, AreChained}

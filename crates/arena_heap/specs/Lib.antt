@@ -1,3 +1,4 @@
+pub use Rattle.qstr_pool.specs as qstr_pool
 pub mod Cells
 pub mod Constants
 pub mod Dicts

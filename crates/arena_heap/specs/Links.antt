@@ -3,7 +3,7 @@ use Rattle.std.specs.Prelude.{ℕ, suc, max, Option, Some, None, nat_le, if◌th
 use Rattle.arena_heap.specs.declared.value.Value.{Value}
 use Rattle.arena_heap.specs.declared.value.Value.TheVariants as values
 use Rattle.arena_heap.specs.declared.value.StrNo.TheVariants as strs
-use Rattle.mpy_base.specs.World.{Heap, pairs_at, room_at, text_at}
+use Rattle.qstr_pool.specs.mpy_base.World.{Heap, pairs_at, room_at, text_at}
 
 -- numbers that follow one another are spread
 unfoldable pub spread : ℕ → ℕ

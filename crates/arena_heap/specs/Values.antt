@@ -1,12 +1,12 @@
 -- What the values and objects of an arena keep.
 use Rattle.std.specs.Prelude.{◌≡◌, ◌≢◌, ℕ, ℤ, pos, neg_ℤ, ◌^◌, ◌<◌, ◌≤◌, ◌≤ℤ◌, ◌<ℤ◌, length, List, [], ◌∷◌, ◌++◌, Option, Some, None, map, All}
-use Rattle.mpy_base.specs.declared.builtin.Builtin.{Builtin}
-use Rattle.mpy_base.specs.declared.builtin.Builtin.TheVariants as builtins
+use Rattle.qstr_pool.specs.mpy_base.declared.builtin.Builtin.{Builtin}
+use Rattle.qstr_pool.specs.mpy_base.declared.builtin.Builtin.TheVariants as builtins
 use Rattle.arena_heap.specs.declared.value.Value.{Value}
 use Rattle.arena_heap.specs.declared.value.Value.TheVariants as values
 use Rattle.arena_heap.specs.declared.value.ObjectNo.{ObjectNo}
 use Rattle.arena_heap.specs.declared.value.ObjectNo.TheVariants as numbers
-use Rattle.mpy_base.specs.World.{Object, ListObject, TupleObject, TextObject, DictObject, FunctionObject, ExceptionObject, MethodObject, RangeObject, ModuleObject, Objects, ObjectKind, AList, ATuple, AText, ADict, AFunction, AnException, AMethod, ARange, AModule, object, IsA}
+use Rattle.qstr_pool.specs.mpy_base.World.{Object, ListObject, TupleObject, TextObject, DictObject, FunctionObject, ExceptionObject, MethodObject, RangeObject, ModuleObject, Objects, ObjectKind, AList, ATuple, AText, ADict, AFunction, AnException, AMethod, ARange, AModule, object, IsA}
 
 -- an object of an arena: it has these values, and names by number
 abbrev pub ArenaObject : Type 0

@@ -1,12 +1,12 @@
 //! The arena, and what fits it.
 
 ghost use Rattle.std.specs.Prelude.{◌≡◌, ℕ, ◌^◌, ◌<◌, IfOk, IfErr, OnOk, OnErr};
-ghost use Rattle.mpy_base.specs.World.{object};
-ghost use Rattle.mpy_base.specs.Weights.{empty, used, Fits, no_room};
+ghost use Rattle.qstr_pool.specs.mpy_base.World.{object};
+ghost use Rattle.qstr_pool.specs.mpy_base.Weights.{empty, used, Fits, no_room};
 ghost use Rattle.arena_heap.specs.Values.{Sound, IsWithinRoom, HasFew};
 
 use crate::cells::Cell;
-use mpy_base::{NoMemory, NoRoom, Room};
+use qstr_pool::{NoMemory, NoRoom, Room};
 use std::alloc::Global;
 use std::marker::Model;
 
@@ -26,7 +26,7 @@ pub struct Arena {
 impl Model for Arena {
     ghost use Rattle.std.specs.Prelude.{ℕ};
     ghost use Rattle.std.specs.Vec.{vec_capacity};
-    ghost use Rattle.mpy_base.specs.World.{Heap};
+    ghost use Rattle.qstr_pool.specs.mpy_base.World.{Heap};
     ghost use Rattle.arena_heap.specs.declared.value.Value.{Value as Item};
     ghost use Rattle.arena_heap.specs.Cells.{heap_of, IsArena};
 

@@ -7,7 +7,7 @@ use crate::value::{
     ConstNo, DictNo, ExcNo, FunNo, ListNo, MethodNo, ModuleNo, ObjectNo, RangeNo, StrNo, TextNo,
     TupleNo, Value,
 };
-use mpy_base::{Builtin, Kind};
+use qstr_pool::{Builtin, Kind};
 
 /// Where the items of a list or the pairs of a dict lie. A pair has three cells.
 #[derive(Clone, Copy, Debug)]

@@ -2,8 +2,8 @@
 
 ghost use Rattle.std.specs.Prelude.{◌≡◌, ◌+◌, ◌%◌, ◌<◌, length, ◌++◌, ◌∷◌, [], Some, IfErr, OnOk, IfSome, slice_get};
 ghost use Rattle.std.specs.List.{remove};
-ghost use Rattle.mpy_base.specs.World.{ADict, IsA, Later, pairs_at, room_at, text_at, with_dict};
-ghost use Rattle.mpy_base.specs.Weights.{Fits, Refused, dict_growth, with_dict_room, with_pairs};
+ghost use Rattle.qstr_pool.specs.mpy_base.World.{ADict, IsA, Later, pairs_at, room_at, text_at, with_dict};
+ghost use Rattle.qstr_pool.specs.mpy_base.Weights.{Fits, Refused, dict_growth, with_dict_room, with_pairs};
 ghost use Rattle.arena_heap.specs.Values.{Leads, IsKey};
 ghost use Rattle.arena_heap.specs.Dicts.{with_value};
 ghost use Rattle.arena_heap.specs.Links.{IsLast, text_code, bucket_of, buckets_at};
@@ -15,7 +15,7 @@ use crate::keys::with_key;
 use crate::links::{bucket_of, link, link_all, text_bucket};
 use crate::lists::move_cells;
 use crate::value::{DictNo, Value};
-use mpy_base::NoRoom;
+use qstr_pool::NoRoom;
 
 /// How many pairs a dict has.
 pub fn dict_len(arena: &Arena, d: DictNo) -> u32

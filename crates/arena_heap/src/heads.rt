@@ -1,11 +1,11 @@
 //! The first cells of objects, read by their kinds.
 
 ghost use Rattle.std.specs.Prelude.{◌≡◌, ◌<◌, length, Some};
-ghost use Rattle.mpy_base.specs.World.{AList, ATuple, AText, ADict, AFunction, AnException, AMethod, ARange, AModule};
+ghost use Rattle.qstr_pool.specs.mpy_base.World.{AList, ATuple, AText, ADict, AFunction, AnException, AMethod, ARange, AModule};
 ghost use Rattle.arena_heap.specs.Cells.{heads, kind_at};
 
 use crate::cells::{Cell, Region, Span};
-use mpy_base::{Builtin, Kind};
+use qstr_pool::{Builtin, Kind};
 
 /// Where a list's items lie.
 pub(crate) fn list_region(cells: &Vec<Cell>, at: u32) -> Region

@@ -3,8 +3,8 @@
 ghost use Rattle.std.specs.Prelude.{◌≡◌, ◌+◌, ◌<◌, ◌≤◌, ◌↔◌, length, ◌++◌, ◌∷◌, [], replicate, IfErr, OnOk, IsSome, IfSome, OnSome, IfNone, insert, slice_get, slice_set, vec_len};
 ghost use Rattle.std.specs.List.{remove};
 ghost use Rattle.std.specs.Vec.{vec_capacity};
-ghost use Rattle.mpy_base.specs.World.{AList, IsA, Later, items_at, room_at, with_list};
-ghost use Rattle.mpy_base.specs.Weights.{Fits, Refused, list_growth, with_list_room, with_items};
+ghost use Rattle.qstr_pool.specs.mpy_base.World.{AList, IsA, Later, items_at, room_at, with_list};
+ghost use Rattle.qstr_pool.specs.mpy_base.Weights.{Fits, Refused, list_growth, with_list_room, with_items};
 ghost use Rattle.arena_heap.specs.Values.{Leads};
 ghost use Rattle.arena_heap.specs.Cells.{part, blank};
 
@@ -12,7 +12,7 @@ use crate::arena::Arena;
 use crate::cells::{Cell, Region};
 use crate::heads::list_region;
 use crate::value::{ListNo, Value};
-use mpy_base::NoRoom;
+use qstr_pool::NoRoom;
 
 /// Copies the `len` cells from `start` on behind all others, with `rest` blank cells behind the copy.
 pub(crate) fn move_cells(cells: &mut Vec<Cell>, start: u32, len: u32, rest: u32)

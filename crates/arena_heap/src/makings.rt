@@ -2,8 +2,8 @@
 
 ghost use Rattle.std.specs.Prelude.{◌≡◌, ◌≢◌, ℕ, pos, suc, ◌+◌, ◌*◌, ◌<◌, ◌≤◌, length, [], ◌∷◌, ◌++◌, replicate, None, IfOk, IfErr, OnErr, vec_len};
 ghost use Rattle.std.specs.Vec.{vec_capacity};
-ghost use Rattle.mpy_base.specs.World.{ListObject, TupleObject, TextObject, DictObject, FunctionObject, ExceptionObject, MethodObject, RangeObject, ModuleObject, AList, ATuple, AText, ADict, AFunction, AnException, AMethod, ARange, AModule, IsA, Later};
-ghost use Rattle.mpy_base.specs.Weights.{room_for, Fits, Made, Refused, no_room};
+ghost use Rattle.qstr_pool.specs.mpy_base.World.{ListObject, TupleObject, TextObject, DictObject, FunctionObject, ExceptionObject, MethodObject, RangeObject, ModuleObject, AList, ATuple, AText, ADict, AFunction, AnException, AMethod, ARange, AModule, IsA, Later};
+ghost use Rattle.qstr_pool.specs.mpy_base.Weights.{room_for, Fits, Made, Refused, no_room};
 ghost use Rattle.arena_heap.specs.Values.{Leads, IsSmall, IsTuple, IsDefaults, IsMethodOf};
 ghost use Rattle.arena_heap.specs.Cells.{blank};
 
@@ -12,7 +12,7 @@ use crate::cells::{Cell, Region, Span};
 use crate::value::{
     DictNo, ExcNo, FunNo, ListNo, MethodNo, ModuleNo, RangeNo, TextNo, TupleNo, Value,
 };
-use mpy_base::{Builtin, Kind, NoRoom, room_for};
+use qstr_pool::{Builtin, Kind, NoRoom, room_for};
 
 /// Takes the head of an object, some of its parts, and `more` blank cells.
 pub(crate) fn take_cells(cells: &mut Vec<Cell>, head: Cell, parts: &[Cell], more: u32)

@@ -1,15 +1,15 @@
 //! The parts of functions, exceptions, bound methods, ranges and modules.
 
 ghost use Rattle.std.specs.Prelude.{◌≡◌, ◌≢◌, ◌<◌, pos, None, Some, IfSome, MatchOption, option_map};
-ghost use Rattle.mpy_base.specs.World.{FunctionObject, ExceptionObject, MethodObject, RangeObject, ModuleObject, ADict, AFunction, AnException, AMethod, ARange, AModule, IsA, Later, object, with_place, with_names};
-ghost use Rattle.mpy_base.specs.Weights.{used};
+ghost use Rattle.qstr_pool.specs.mpy_base.World.{FunctionObject, ExceptionObject, MethodObject, RangeObject, ModuleObject, ADict, AFunction, AnException, AMethod, ARange, AModule, IsA, Later, object, with_place, with_names};
+ghost use Rattle.qstr_pool.specs.mpy_base.Weights.{used};
 ghost use Rattle.arena_heap.specs.Values.{BeginsAt, Leads, IsSmall, IsTuple, IsDefaults, IsMethodOf};
 
 use crate::arena::Arena;
 use crate::cells::Cell;
 use crate::heads::{bound_method, exc_kind, fun_head, module_name, range_head};
 use crate::value::{DictNo, ExcNo, FunNo, MethodNo, ModuleNo, ObjectNo, RangeNo, Value};
-use mpy_base::{Builtin, Kind};
+use qstr_pool::{Builtin, Kind};
 
 /// The object that begins at a cell, or None where none does.
 pub fn object_at(arena: &Arena, cell: u32) -> Option<ObjectNo>

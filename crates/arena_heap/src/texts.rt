@@ -1,7 +1,7 @@
 //! Calls on texts that were made.
 
 ghost use Rattle.std.specs.Prelude.{◌≡◌, ◌<◌, ◌^◌, length, slice_set, All};
-ghost use Rattle.mpy_base.specs.World.{AText, IsA, Later, text_at, with_text};
+ghost use Rattle.qstr_pool.specs.mpy_base.World.{AText, IsA, Later, text_at, with_text};
 
 use crate::arena::Arena;
 use crate::heads::text_span;

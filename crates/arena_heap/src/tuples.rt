@@ -1,7 +1,7 @@
 //! Calls on tuples that were made: length and items by place. A tuple's items are set while it is made, and stay.
 
 ghost use Rattle.std.specs.Prelude.{◌≡◌, ◌<◌, length, IfSome, slice_get, slice_set};
-ghost use Rattle.mpy_base.specs.World.{ATuple, IsA, Later, items_at, with_tuple};
+ghost use Rattle.qstr_pool.specs.mpy_base.World.{ATuple, IsA, Later, items_at, with_tuple};
 ghost use Rattle.arena_heap.specs.Values.{Leads};
 
 use crate::arena::Arena;

@@ -1,6 +1,6 @@
 //! The values of a run, and the numbers of objects that they hold.
 
-use mpy_base::Builtin;
+use qstr_pool::Builtin;
 
 /// A list's number, which is its first cell.
 #[derive(Clone, Copy, Debug, PartialEq, Eq)]

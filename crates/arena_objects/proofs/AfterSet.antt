@@ -10,9 +10,9 @@ use Rattle.std.proofs.lemmas.Option.{slice_get-get_or}
 use Rattle.arena_heap.specs.declared.value.Value.{Value}
 use Rattle.arena_heap.specs.declared.value.Value.TheVariants as values
 use Rattle.arena_heap.specs.declared.value.StrNo.{StrNo}
-use Rattle.mpy_base.specs.World.{Heap, DictObject, ADict, IsA, object, kind_of, text_of, text_at, pairs_of, pairs_at, with_dict, room_at}
-use Rattle.mpy_base.specs.Weights.{with_pairs, dict_growth, grown_room}
-use Rattle.mpy_base.proofs.Worlds.{object_nones, is_within, object_pairs}
+use Rattle.py_values.specs.mpy_base.World.{Heap, DictObject, ADict, IsA, object, kind_of, text_of, text_at, pairs_of, pairs_at, with_dict, room_at}
+use Rattle.py_values.specs.mpy_base.Weights.{with_pairs, dict_growth, grown_room}
+use Rattle.py_values.proofs.mpy_base_lemmas.Worlds.{object_nones, is_within, object_pairs}
 use Rattle.arena_heap.specs.Values.{ArenaObject}
 use Rattle.arena_heap.specs.Dicts.{with_value}
 use Rattle.arena_objects.specs.Keys.{key_of, key_in, StandsAt, Lacks, IsValueOf, KeepsOthers, IsDistinct}

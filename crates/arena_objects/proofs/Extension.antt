@@ -8,9 +8,9 @@ use Rattle.arena_heap.specs.declared.value.Value.{Value}
 use Rattle.arena_heap.specs.declared.value.Value.TheVariants as values
 use Rattle.arena_heap.specs.declared.value.StrNo.{StrNo}
 use Rattle.arena_heap.specs.declared.value.ConstNo.{ConstNo}
-use Rattle.mpy_base.specs.World.{Heap, ListObject, AList, AText, IsA, Later, object, kind_of, items_of, room_of, text_of, items_at, room_at, with_list}
-use Rattle.mpy_base.specs.Weights.{Fits, used, list_growth, grown_room, with_list_room}
-use Rattle.mpy_base.proofs.Worlds.{is_within, later_later, later_list}
+use Rattle.py_values.specs.mpy_base.World.{Heap, ListObject, AList, AText, IsA, Later, object, kind_of, items_of, room_of, text_of, items_at, room_at, with_list}
+use Rattle.py_values.specs.mpy_base.Weights.{Fits, used, list_growth, grown_room, with_list_room}
+use Rattle.py_values.proofs.mpy_base_lemmas.Worlds.{is_within, later_later, later_list}
 use Rattle.arena_heap.proofs.Growths.{reserved_later, reserved_items, reserved_room, room_grows}
 use Rattle.arena_heap.specs.Values.{ArenaObject, Leads}
 use Rattle.arena_heap.specs.Constants.{IsTold}

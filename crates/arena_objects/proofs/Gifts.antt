@@ -13,8 +13,8 @@ use Rattle.arena_heap.specs.declared.value.Value.TheVariants as values
 use Rattle.arena_heap.specs.declared.value.RangeNo.{RangeNo}
 use Rattle.arena_heap.specs.declared.value.StrNo.{StrNo}
 use Rattle.arena_heap.specs.declared.value.ConstNo.{ConstNo}
-use Rattle.mpy_base.specs.World.{Heap, ListObject, DictObject, RangeObject, AList, ADict, IsA, object, kind_of, items_of, room_of, text_of, pairs_of, items_at, room_at, with_list}
-use Rattle.mpy_base.proofs.Worlds.{is_within}
+use Rattle.py_values.specs.mpy_base.World.{Heap, ListObject, DictObject, RangeObject, AList, ADict, IsA, object, kind_of, items_of, room_of, text_of, pairs_of, items_at, room_at, with_list}
+use Rattle.py_values.proofs.mpy_base_lemmas.Worlds.{is_within}
 use Rattle.arena_heap.specs.Values.{ArenaObject, Leads}
 use Rattle.py_values.specs.Shown.{range_len}
 use Rattle.arena_objects.specs.Iterables.{range_numbers, given, items_in, spelled, texts_from}

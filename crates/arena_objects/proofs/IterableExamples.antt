@@ -4,8 +4,8 @@ use Rattle.arena_heap.specs.declared.value.Value.{Value}
 use Rattle.arena_heap.specs.declared.value.Value.TheVariants as values
 use Rattle.arena_heap.specs.declared.value.StrNo.{StrNo}
 use Rattle.arena_heap.specs.declared.value.ConstNo.{ConstNo}
-use Rattle.mpy_base.specs.World.{Heap, ListObject, TextObject, DictObject, items_at, text_at}
-use Rattle.mpy_base.specs.Weights.{empty, used, with_made}
+use Rattle.py_values.specs.mpy_base.World.{Heap, ListObject, TextObject, DictObject, items_at, text_at}
+use Rattle.py_values.specs.mpy_base.Weights.{empty, used, with_made}
 use Rattle.arena_objects.specs.Iterables.{range_numbers, given, extended}
 
 -- range(0, 5, 2) has 0, 2 and 4

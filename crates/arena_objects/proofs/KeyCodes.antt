@@ -6,7 +6,7 @@ use Rattle.arena_heap.specs.declared.value.Value.{Value}
 use Rattle.arena_heap.specs.declared.value.Value.TheVariants as values
 use Rattle.arena_heap.specs.declared.value.StrNo.{StrNo}
 use Rattle.arena_heap.specs.declared.value.StrNo.TheVariants as strs
-use Rattle.mpy_base.specs.World.{Heap, pairs_at, room_at, text_at}
+use Rattle.py_values.specs.mpy_base.World.{Heap, pairs_at, room_at, text_at}
 use Rattle.arena_heap.specs.Links.{spread, text_code, code_of, bucket_of}
 use Rattle.arena_objects.specs.Keys.{key_of, key_in}
 use Rattle.arena_objects.specs.Found.{FirstFrom, HasKey, HasKeyIn, HasKeyNamed, least}

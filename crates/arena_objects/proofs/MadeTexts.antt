@@ -7,9 +7,9 @@ use Rattle.std.proofs.lemmas.List.Elements.{All-nil}
 use Rattle.arena_heap.specs.declared.value.Value.{Value}
 use Rattle.arena_heap.specs.declared.value.StrNo.{StrNo}
 use Rattle.arena_heap.specs.declared.value.ConstNo.{ConstNo}
-use Rattle.mpy_base.specs.World.{Heap, TextObject, AText, IsA, Later, object, kind_of, text_of, text_at, with_text}
-use Rattle.mpy_base.specs.Weights.{Made, Fits, used, with_made}
-use Rattle.mpy_base.proofs.Worlds.{later_append, later_later, later_same}
+use Rattle.py_values.specs.mpy_base.World.{Heap, TextObject, AText, IsA, Later, object, kind_of, text_of, text_at, with_text}
+use Rattle.py_values.specs.mpy_base.Weights.{Made, Fits, used, with_made}
+use Rattle.py_values.proofs.mpy_base_lemmas.Worlds.{later_append, later_later, later_same}
 use Rattle.arena_heap.specs.Values.{ArenaObject}
 use Rattle.arena_heap.specs.Constants.{IsTold}
 use Rattle.arena_objects.specs.Keys.{AllTold}

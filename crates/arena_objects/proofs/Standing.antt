@@ -3,7 +3,7 @@ use Rattle.std.proofs.Common.{ℕ, ◌≡◌, List, length, Option, Some, None, 
 use Rattle.std.specs.Option.{IfSome, IfNone}
 use Rattle.arena_heap.specs.declared.value.Value.{Value}
 use Rattle.arena_heap.specs.declared.value.StrNo.{StrNo}
-use Rattle.mpy_base.specs.World.{Heap, pairs_at, room_at, text_at}
+use Rattle.py_values.specs.mpy_base.World.{Heap, pairs_at, room_at, text_at}
 use Rattle.arena_heap.specs.Links.{bucket_of}
 use Rattle.py_values.specs.Keys.{PlainKey}
 use Rattle.arena_objects.specs.Keys.{key_of, key_in, StandsAt, Lacks}

@@ -8,9 +8,9 @@ use Rattle.std.proofs.lemmas.Bool.{cases_eq, cases_lt}
 use Rattle.arena_heap.specs.declared.value.Value.{Value}
 use Rattle.arena_heap.specs.declared.value.StrNo.{StrNo}
 use Rattle.arena_heap.specs.declared.value.ConstNo.{ConstNo}
-use Rattle.mpy_base.specs.World.{Heap, ListObject, TupleObject, DictObject, AList, ATuple, ADict, IsA, object, kind_of, items_of, items_at, pairs_of, pairs_at, room_at, with_list, with_dict}
-use Rattle.mpy_base.specs.Weights.{Made, more_cells, with_made, with_pairs, with_list_room, list_growth, dict_growth, grown_room}
-use Rattle.mpy_base.proofs.Worlds.{object_nones, is_within}
+use Rattle.py_values.specs.mpy_base.World.{Heap, ListObject, TupleObject, DictObject, AList, ATuple, ADict, IsA, object, kind_of, items_of, items_at, pairs_of, pairs_at, room_at, with_list, with_dict}
+use Rattle.py_values.specs.mpy_base.Weights.{Made, more_cells, with_made, with_pairs, with_list_room, list_growth, dict_growth, grown_room}
+use Rattle.py_values.proofs.mpy_base_lemmas.Worlds.{object_nones, is_within}
 use Rattle.arena_heap.specs.Values.{ArenaObject, held}
 use Rattle.arena_heap.specs.Constants.{IsTold}
 use Rattle.arena_heap.specs.Dicts.{with_value}

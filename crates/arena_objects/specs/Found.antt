@@ -1,6 +1,6 @@
 -- The first place of a dict's pairs where something holds.
 use Rattle.std.specs.Prelude.{◌≡◌, ℕ, ◌<◌, ◌≤◌, min, List, Option, Some, None}
-use Rattle.mpy_base.specs.World.{Heap, pairs_at, room_at, text_at}
+use Rattle.py_values.specs.mpy_base.World.{Heap, pairs_at, room_at, text_at}
 use Rattle.arena_heap.specs.declared.value.Value.{Value}
 use Rattle.arena_heap.specs.declared.value.Value.TheVariants as values
 use Rattle.arena_heap.specs.declared.value.StrNo.{StrNo}

@@ -1,13 +1,13 @@
 -- What iterables give, and what a list takes of them.
 use Rattle.std.specs.Prelude.{ℕ, ℤ, pos, ◌+◌, ◌*◌, ◌<◌, ◌+ℤ◌, ◌*ℤ◌, ◌⊎◌, List, [], ◌∷◌, ◌++◌, length, map, take, fold, Option, Some, None}
 use Rattle.std.specs.List.{range_with_len}
-use Rattle.mpy_base.specs.declared.room.NoRoom.{NoRoom}
+use Rattle.py_values.specs.mpy_base.declared.room.NoRoom.{NoRoom}
 use Rattle.arena_heap.specs.declared.value.Value.{Value}
 use Rattle.arena_heap.specs.declared.value.Value.TheVariants as values
 use Rattle.arena_heap.specs.declared.value.StrNo.{StrNo}
 use Rattle.arena_heap.specs.declared.value.ConstNo.{ConstNo}
-use Rattle.mpy_base.specs.World.{ListObject, TupleObject, TextObject, DictObject, RangeObject, Heap, object, items_at, with_list}
-use Rattle.mpy_base.specs.Weights.{used, Fits, Refused, with_made, list_growth, with_list_room}
+use Rattle.py_values.specs.mpy_base.World.{ListObject, TupleObject, TextObject, DictObject, RangeObject, Heap, object, items_at, with_list}
+use Rattle.py_values.specs.mpy_base.Weights.{used, Fits, Refused, with_made, list_growth, with_list_room}
 use Rattle.arena_heap.specs.Values.{ArenaObject}
 use Rattle.arena_objects.specs.Keys.{bytes_of}
 use Rattle.py_values.specs.Shown.{range_len}

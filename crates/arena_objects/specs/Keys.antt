@@ -6,7 +6,7 @@ use Rattle.arena_heap.specs.declared.value.Value.TheVariants as values
 use Rattle.arena_heap.specs.declared.value.StrNo.{StrNo}
 use Rattle.arena_heap.specs.declared.value.ConstNo.{ConstNo}
 use Rattle.py_values.specs.Keys.{PlainKey, NoneKey, NumberKey, TextKey}
-use Rattle.mpy_base.specs.World.{Heap, Objects, object, pairs_at, text_at}
+use Rattle.py_values.specs.mpy_base.World.{Heap, Objects, object, pairs_at, text_at}
 use Rattle.arena_heap.specs.Values.{held}
 use Rattle.arena_heap.specs.Constants.{IsTold}
 

@@ -2,8 +2,8 @@
 
 ghost use Rattle.std.specs.Prelude.{◌≡◌, ℕ, ◌+◌, ◌∷◌, ◌++◌, [], length, IfSome, IfNone, OnOk, OnErr, IfErr};
 ghost use Rattle.std.specs.List.{remove};
-ghost use Rattle.mpy_base.specs.World.{ADict, IsA, Later, pairs_at, with_dict};
-ghost use Rattle.mpy_base.specs.Weights.{Fits, Refused, dict_growth, with_pairs};
+ghost use Rattle.py_values.specs.mpy_base.World.{ADict, IsA, Later, pairs_at, with_dict};
+ghost use Rattle.py_values.specs.mpy_base.Weights.{Fits, Refused, dict_growth, with_pairs};
 ghost use Rattle.arena_heap.specs.Values.{Leads, IsKey};
 ghost use Rattle.arena_heap.specs.Constants.{IsTold};
 ghost use Rattle.arena_heap.specs.Dicts.{with_value};
@@ -13,7 +13,7 @@ use crate::finding::place_of;
 use arena_heap::{
     Arena, Constants, DictNo, Value, dict_at, dict_push, dict_remove_at, dict_set_at,
 };
-use mpy_base::NoRoom;
+use py_values::NoRoom;
 
 /// The value of a key.
 pub fn dict_get<C: Constants>(arena: &Arena, consts: &C, d: DictNo, key: Value) -> Option<Value>

@@ -1,8 +1,8 @@
 //! Lists that take the items of an iterable.
 
 ghost use Rattle.std.specs.Prelude.{◌≡◌, ℕ, ◌+◌, ◌*◌, ◌^◌, ◌<◌, ◌≤◌, ◌∷◌, ◌++◌, [], length, slice_get, IfOk, IfErr, OnOk, OnErr, All};
-ghost use Rattle.mpy_base.specs.World.{TextObject, AList, AText, IsA, Later, items_at, room_at, with_list};
-ghost use Rattle.mpy_base.specs.Weights.{Fits, Made, Refused, list_growth};
+ghost use Rattle.py_values.specs.mpy_base.World.{TextObject, AList, AText, IsA, Later, items_at, room_at, with_list};
+ghost use Rattle.py_values.specs.mpy_base.Weights.{Fits, Made, Refused, list_growth};
 ghost use Rattle.arena_heap.specs.Values.{Leads};
 ghost use Rattle.arena_heap.specs.Constants.{IsTold};
 ghost use Rattle.arena_objects.specs.Keys.{AllTold};
@@ -14,7 +14,7 @@ use arena_heap::{
     Arena, Constants, ListNo, TextNo, Value, dict_at, dict_len, list_at, list_len, put_in_list,
     range_parts, reserve_list, text_fill, tuple_at, tuple_len,
 };
-use mpy_base::NoRoom;
+use py_values::NoRoom;
 
 /// How many items an iterable has. A str has none yet.
 pub fn item_count<C: Constants>(arena: &Arena, consts: &C, from: Value) -> u32

@@ -1,7 +1,7 @@
 //! Where a dict has a key.
 
 ghost use Rattle.std.specs.Prelude.{◌≡◌, ℕ, ◌%◌, ◌<◌, ◌≤◌, ◌↔◌, length, Some, IsTrue, IfSome, IfNone};
-ghost use Rattle.mpy_base.specs.World.{ADict, IsA, pairs_at, room_at, text_at};
+ghost use Rattle.py_values.specs.mpy_base.World.{ADict, IsA, pairs_at, room_at, text_at};
 ghost use Rattle.arena_heap.specs.Values.{Leads, IsKey};
 ghost use Rattle.arena_heap.specs.Constants.{IsTold};
 ghost use Rattle.arena_heap.specs.Links.{IsLast, buckets_at, bucket_of, text_code};

@@ -1,4 +1,5 @@
 pub use Rattle.bc_shapes.proofs as bc_shapes_lemmas
+pub use Rattle.bc_shapes.proofs.mpy_base_lemmas
 pub mod Decides
 pub mod Few
 pub mod Fronts

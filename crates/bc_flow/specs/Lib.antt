@@ -1,4 +1,5 @@
 pub use Rattle.bc_shapes.specs as bc_shapes
+pub use Rattle.bc_shapes.specs.mpy_base
 pub mod Action
 pub mod Code
 pub mod Edges

@@ -7,7 +7,7 @@ ghost use Rattle.bc_flow.specs.Rules.{IsOnInstruction};
 
 use crate::action::arguments;
 use bc_ops::{Instr, Item, Op, Target};
-use mpy_base::limits::MAX_ITEMS;
+use bc_shapes::limits::MAX_ITEMS;
 
 /// A code as the list of its instructions.
 #[derive(Debug, Drop)]

@@ -11,8 +11,7 @@ ghost use Rattle.bc_flow.specs.Views.{action_of, edge_of_rust, behind_of, option
 
 use crate::action::Action;
 use crate::code::Code;
-use bc_shapes::{Entry, Give, Gives, Kind, Shape, Slots, Takes, Want, below};
-use mpy_base::NoMemory;
+use bc_shapes::{Entry, Give, Gives, Kind, NoMemory, Shape, Slots, Takes, Want, below};
 use std::alloc::Global;
 
 /// What an instruction does with the entries.

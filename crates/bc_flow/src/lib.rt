@@ -8,6 +8,7 @@ mod rules;
 mod walk;
 
 pub use action::{Action, action_at};
+pub use bc_ops::{Instr, Item, Op, items_of};
 pub use code::{Code, Fault, Rule, fault_of, locals};
 pub use edges::{
     Behind, Change, Edge, change_of, entries_behind, falls, gives, gives_there, jump_edge,

@@ -8,7 +8,7 @@ use Rattle.bc_ops.specs.declared.instr.Instr.{Instr}
 use Rattle.bc_ops.specs.Table.{form_of}
 use Rattle.bc_ops.specs.Code.{Operand, Spells, spelling}
 use Rattle.bc_ops.proofs.Law.{spelled}
-use Rattle.mpy_base.specs.Vuint.{Groups}
+use Rattle.bc_ops.specs.mpy_base.Vuint.{Groups}
 use Rattle.bc_labels.specs.declared.labelled.Labelled.{Labelled}
 use Rattle.bc_labels.specs.declared.labelled.Labelled.TheVariants.{At, Plain, Jump, Unwind}
 use Rattle.bc_labels.specs.Labels.{IsSound, HasNoOffset}

@@ -1,5 +1,6 @@
 pub use Rattle.bc_verify.specs as bc_verify
 pub use Rattle.bc_verify.specs.bc_flow
+pub use Rattle.bc_verify.specs.bc_shapes
 pub use Rattle.bc_verify.specs.mpy_tree
 pub mod Added
 pub mod Constants

@@ -6,8 +6,7 @@ ghost use Rattle.bc_verify.specs.mpy_tree.File.{IsCode};
 ghost use Rattle.bc_verify.specs.bc_prelude.declared.prelude.Prelude.{Prelude};
 ghost use Rattle.bc_library.specs.Greatest.{HasPrelude, IsGreatestIn};
 
-use bc_prelude::parts_of;
-use mpy_tree::RawCode;
+use bc_verify::{RawCode, parts_of};
 
 /// The greatest of a code and of those in it, in `levels` levels of codes at most.
 pub(crate) fn greatest_in(code: &RawCode, levels: usize) -> (u32, u32)

@@ -9,6 +9,7 @@ mod library;
 mod parts;
 mod texts;
 
+pub use bc_verify::{Verified, verify};
 pub use fault::{LibFault, Member};
 pub use laws::{library_law, modules_law};
 pub use library::Library;

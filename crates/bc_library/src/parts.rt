@@ -8,9 +8,9 @@ ghost use Rattle.bc_library.specs.Fine.{Each, Fine};
 ghost use Rattle.bc_library.specs.Parts.{own_part_by, parts_from};
 
 use arena_heap::{ConstNo, StrNo, Value};
+use bc_verify::Constant;
 use mpy_base::limits::MAX_DEPTH;
 use mpy_base::{Items, NoMemory, Text};
-use mpy_tree::Constant;
 use std::alloc::Global;
 
 /// What is kept of a constant.

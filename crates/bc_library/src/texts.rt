@@ -10,9 +10,9 @@ ghost use Rattle.bc_verify.specs.mpy_tree.Raw as raw;
 ghost use Rattle.bc_library.specs.Fine.{Each, FineQstr};
 ghost use Rattle.bc_library.specs.Texts.{AreNumbers, Extends, IsTitle, last_part, text_numbered, with_text, with_texts};
 
+use bc_verify::Qstr;
 use mpy_base::Refused;
 use mpy_base::limits::MAX_TABLE;
-use mpy_tree::Qstr;
 use qstr_pool::{FIRST_OWN, Full, Pool, pool_law, static_law, static_number, static_text};
 use std::alloc::Global;
 

@@ -1,10 +1,10 @@
 -- What effects do in a world in which something was printed before.
 use Rattle.std.proofs.Common.{◌≡◌, ℕ, List, [], ◌∷◌, Option, Some, None, Result, Ok, Err, refl, ap, ◌∙◌, append_assoc}
-use Rattle.mpy_base.specs.declared.builtin.Builtin.{Builtin}
-use Rattle.mpy_base.specs.declared.builtin.Builtin.TheVariants as builtins
-use Rattle.mpy_base.specs.declared.kind.Kind.{Kind}
-use Rattle.mpy_base.specs.World.{ExceptionObject, names_of, object}
-use Rattle.mpy_base.specs.Val.{Val, Nil, Empty, At, PlainWorld}
+use Rattle.mpy_tree.specs.mpy_base.declared.builtin.Builtin.{Builtin}
+use Rattle.mpy_tree.specs.mpy_base.declared.builtin.Builtin.TheVariants as builtins
+use Rattle.mpy_tree.specs.mpy_base.declared.kind.Kind.{Kind}
+use Rattle.mpy_tree.specs.mpy_base.World.{ExceptionObject, names_of, object}
+use Rattle.mpy_tree.specs.mpy_base.Val.{Val, Nil, Empty, At, PlainWorld}
 use Rattle.py_effects.specs.py_values.Shown.{Shown, Pairs, shown}
 use Rattle.py_effects.specs.py_primitives.Builtins.{global_named}
 use Rattle.py_effects.specs.py_primitives.Faults.{Fault, NotAnException, NothingToRaise}

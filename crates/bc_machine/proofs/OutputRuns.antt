@@ -1,7 +1,7 @@
 -- Whole runs in a world in which something was printed before, and a step that puts a text.
 use Rattle.std.proofs.Common.{◌≡◌, ℕ, ◌+◌, ◌<◌, ◌≤◌, List, ◌++◌, sym, ap, ◌∙◌, append_assoc, arith}
 use Rattle.std.proofs.lemmas.List.{append_cancel_left}
-use Rattle.mpy_base.specs.World.{PortState}
+use Rattle.mpy_tree.specs.mpy_base.World.{PortState}
 use Rattle.py_effects.specs.Ends.{Run, new_world}
 use Rattle.py_effects.specs.Growth.{Starts, Prints}
 use Rattle.bc_machine.specs.Library.{Name, Library}

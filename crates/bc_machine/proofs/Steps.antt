@@ -1,9 +1,9 @@
 -- The machine's moves and steps in a world in which something was printed before.
 use Rattle.std.proofs.Common.{◌≡◌, ℕ, zero, suc, List, [], ◌∷◌, drop, Bool, true, false, ◌||◌, Option, Some, None, cond, refl, ap, ◌∙◌}
 use Rattle.std.specs.Prelude.{nat_lt, nat_le, is_some, slice_get, ◌%◌, codes}
-use Rattle.mpy_base.specs.World.{Object as HeapObject, FunctionObject, MethodObject, DictObject, object}
-use Rattle.mpy_base.specs.Val.{Val, Nil, Built, At, PlainWorld}
-use Rattle.mpy_base.specs.Weights.{room_for}
+use Rattle.mpy_tree.specs.mpy_base.World.{Object as HeapObject, FunctionObject, MethodObject, DictObject, object}
+use Rattle.mpy_tree.specs.mpy_base.Val.{Val, Nil, Built, At, PlainWorld}
+use Rattle.mpy_tree.specs.mpy_base.Weights.{room_for}
 use Rattle.mpy_tree.specs.bc_ops.declared.instr.Op.{Op}
 use Rattle.mpy_tree.specs.bc_ops.declared.instr.Op.TheVariants as ops
 use Rattle.mpy_tree.specs.bc_ops.declared.instr.Instr.{Instr}

@@ -1,6 +1,6 @@
 -- Runs in a world in which something was printed before.
 use Rattle.std.specs.Prelude.{ℕ, List, ◌++◌}
-use Rattle.mpy_base.specs.Val.{PlainWorld}
+use Rattle.mpy_tree.specs.mpy_base.Val.{PlainWorld}
 use Rattle.py_effects.specs.Ends.{Run}
 use Rattle.bc_machine.specs.State.{State, Running, Halted, Stuck}
 

@@ -1,8 +1,8 @@
 //! The machine doesn't read what was printed.
 
 ghost use Rattle.std.specs.Prelude.{◌≡◌, ◌<◌, ◌++◌, ℕ, List};
-ghost use Rattle.mpy_base.specs.Val.{PlainWorld};
-ghost use Rattle.mpy_base.specs.World.{PortState};
+ghost use Rattle.mpy_tree.specs.mpy_base.Val.{PlainWorld};
+ghost use Rattle.mpy_tree.specs.mpy_base.World.{PortState};
 ghost use Rattle.py_effects.specs.Ends.{new_world};
 ghost use Rattle.py_effects.specs.Growth.{Starts};
 ghost use Rattle.bc_machine.specs.Library.{Name, Library};

@@ -1,8 +1,8 @@
 //! The machine that runs modules: states, and one case for each instruction.
 
 ghost use Rattle.std.specs.Prelude.{◌≡◌, ◌≤◌, ℕ, ◌+◌, List, true};
-ghost use Rattle.mpy_base.specs.World.{PortState};
-ghost use Rattle.mpy_base.specs.Val.{PlainWorld};
+ghost use Rattle.mpy_tree.specs.mpy_base.World.{PortState};
+ghost use Rattle.mpy_tree.specs.mpy_base.Val.{PlainWorld};
 ghost use Rattle.py_effects.specs.Ends.{End, is_over, new_world};
 ghost use Rattle.py_effects.specs.Growth.{Prints};
 ghost use Rattle.py_effects.specs.Heaps.{Sound, WorldFollows, NamesStand};

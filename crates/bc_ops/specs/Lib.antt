@@ -1,3 +1,4 @@
+pub use Rattle.mpy_base.specs as mpy_base
 pub mod Code
 pub mod Listing
 pub mod Offset

@@ -3,7 +3,7 @@ use Rattle.std.proofs.Common.{◌≡◌, ℕ, zero, suc, ◌-◌, ◌≤◌, Lis
 use Rattle.std.specs.Prelude.{Result, Ok, Err, nat_lt, slice_set, position, bytes_eq}
 use Rattle.std.proofs.lemmas.Bool.{ltb-false}
 use Rattle.std.proofs.lemmas.List.{length-map, length-replicate}
-use Rattle.mpy_base.specs.Val.{Val, PlainWorld}
+use Rattle.bc_machine.specs.mpy_base.Val.{Val, PlainWorld}
 use Rattle.bc_machine.specs.py_values.Shown.{PlainHeap, Shown, Nothing, Number, Text, Tuple, Items, Pairs, Range, Other, shown}
 use Rattle.bc_machine.specs.py_primitives.Faults.{Fault, WrongCount, UnpacksMore, UnpacksFewer}
 use Rattle.bc_machine.specs.py_primitives.Outcome.{Outcome, Stop, Raises, Full, raises, gives, go_on_with, followed_by, making_text, making_texts}

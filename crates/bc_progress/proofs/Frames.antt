@@ -2,7 +2,7 @@
 use Rattle.std.proofs.Common.{◌≡◌, ℕ, suc, ◌+◌, ◌-◌, ◌≤◌, List, [], ◌∷◌, map, drop, length, Option, Some, None, refl, ap, ◌∙◌, subst, arith, length-drop}
 use Rattle.std.specs.Prelude.{slice_get}
 use Rattle.std.proofs.lemmas.List.{drop-drop}
-use Rattle.mpy_base.specs.Val.{Val, PlainWorld}
+use Rattle.bc_machine.specs.mpy_base.Val.{Val, PlainWorld}
 use Rattle.bc_flow.specs.bc_shapes.declared.kinds.Kind.TheVariants as kinds
 use Rattle.bc_flow.specs.bc_shapes.declared.kinds.Give.TheVariants.{New}
 use Rattle.bc_flow.specs.Action.{Straight}

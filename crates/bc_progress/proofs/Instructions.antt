@@ -3,9 +3,9 @@ use Rattle.std.proofs.Common.{◌≡◌, ℕ, suc, ◌+◌, ◌*◌, ◌/◌, �
 use Rattle.std.specs.Prelude.{slice_get}
 use Rattle.std.proofs.lemmas.Bool.{false≢true}
 use Rattle.std.proofs.lemmas.List.{drop-drop}
-use Rattle.mpy_base.specs.Val.{Val, Nil, Str, PlainWorld}
-use Rattle.mpy_base.specs.World.{DictObject}
-use Rattle.mpy_base.specs.Weights.{room_for}
+use Rattle.bc_machine.specs.mpy_base.Val.{Val, Nil, Str, PlainWorld}
+use Rattle.bc_machine.specs.mpy_base.World.{DictObject}
+use Rattle.bc_machine.specs.mpy_base.Weights.{room_for}
 use Rattle.bc_machine.specs.bc_ops.declared.form.Form.{Form}
 use Rattle.bc_machine.specs.bc_ops.declared.form.Form.TheVariants as forms
 use Rattle.bc_machine.specs.bc_ops.declared.instr.Op.{Op}

@@ -4,13 +4,13 @@ use Rattle.std.specs.Prelude.{IfSome}
 use Rattle.std.specs.List.{cons_option}
 use Rattle.std.proofs.lemmas.List.{get_or-append_right}
 use Rattle.std.proofs.lemmas.List.Elements.{All-nil, All-cons, All-head, All-tail}
-use Rattle.mpy_base.specs.declared.builtin.Builtin.{Builtin}
-use Rattle.mpy_base.specs.declared.builtin.Builtin.TheVariants as builtins
-use Rattle.mpy_base.specs.declared.kind.Kind.{Kind}
-use Rattle.mpy_base.specs.World.{Object, ListObject, TupleObject, TextObject, DictObject, FunctionObject, ExceptionObject, MethodObject, RangeObject, ModuleObject, AnException, Objects, object, kind_of, IsA, with_place}
-use Rattle.mpy_base.specs.Weights.{used, does_fit, cells_of, bytes_of, more_cells, with_made}
-use Rattle.mpy_base.specs.Val.{Val, Nil, Truth, Int, Str, Fixed, Empty, Built, At, PlainWorld}
-use Rattle.mpy_base.proofs.Worlds.{later_place}
+use Rattle.bc_machine.specs.mpy_base.declared.builtin.Builtin.{Builtin}
+use Rattle.bc_machine.specs.mpy_base.declared.builtin.Builtin.TheVariants as builtins
+use Rattle.bc_machine.specs.mpy_base.declared.kind.Kind.{Kind}
+use Rattle.bc_machine.specs.mpy_base.World.{Object, ListObject, TupleObject, TextObject, DictObject, FunctionObject, ExceptionObject, MethodObject, RangeObject, ModuleObject, AnException, Objects, object, kind_of, IsA, with_place}
+use Rattle.bc_machine.specs.mpy_base.Weights.{used, does_fit, cells_of, bytes_of, more_cells, with_made}
+use Rattle.bc_machine.specs.mpy_base.Val.{Val, Nil, Truth, Int, Str, Fixed, Empty, Built, At, PlainWorld}
+use Rattle.bc_machine.proofs.mpy_base_lemmas.Worlds.{later_place}
 use Rattle.bc_machine.specs.py_values.Shown.{PlainHeap}
 use Rattle.bc_machine.specs.py_primitives.Builtins.{named, list_methods, dict_methods, str_methods}
 use Rattle.bc_machine.specs.py_primitives.Faults.{Fault, NotAnException, NothingToRaise, fault_kind, fault_value}

@@ -1,4 +1,5 @@
 pub use Rattle.bc_flow.proofs as bc_flow_lemmas
+pub use Rattle.bc_flow.proofs.bc_shapes_lemmas
 pub use Rattle.bc_machine.proofs.bc_ops_lemmas
 pub mod Flowing
 pub mod Showing

@@ -1,7 +1,7 @@
 -- The machine's moves keep what fits: raises, returns, and jumps out of handlers.
 use Rattle.std.proofs.Common.{◌≡◌, ℕ, zero, suc, ◌≤◌, List, [], ◌∷◌, map, drop, length, Bool, true, false, Some, refl, sym, ap, subst, arith, if◌then◌else◌}
 use Rattle.std.proofs.lemmas.List.Elements.{All-cons, All-tail}
-use Rattle.mpy_base.specs.Val.{Val, At, PlainWorld}
+use Rattle.bc_machine.specs.mpy_base.Val.{Val, At, PlainWorld}
 use Rattle.bc_flow.specs.bc_shapes.declared.shape.Entry.{Entry as FlowEntry}
 use Rattle.bc_flow.specs.Action.{iterator}
 use Rattle.bc_flow.specs.Code as flows

@@ -2,9 +2,9 @@
 use Rattle.std.proofs.Common.{◌≡◌, ℕ, List, [], ◌∷◌, drop, length, Option, Some, None, refl, sym, subst}
 use Rattle.std.specs.Prelude.{IfSome}
 use Rattle.std.proofs.lemmas.List.Elements.{All-nil, All-cons, All-head, All-tail}
-use Rattle.mpy_base.specs.declared.builtin.Builtin.{Builtin}
-use Rattle.mpy_base.specs.World.{ObjectKind, AnException, Objects, object, kind_of, IsA}
-use Rattle.mpy_base.specs.Val.{Val, Nil, Truth, Int, Str, Fixed, Empty, Built, At}
+use Rattle.bc_machine.specs.mpy_base.declared.builtin.Builtin.{Builtin}
+use Rattle.bc_machine.specs.mpy_base.World.{ObjectKind, AnException, Objects, object, kind_of, IsA}
+use Rattle.bc_machine.specs.mpy_base.Val.{Val, Nil, Truth, Int, Str, Fixed, Empty, Built, At}
 use Rattle.bc_flow.specs.Machine as flow
 use Rattle.bc_flow.specs.Machine.{Stack}
 use Rattle.bc_machine.specs.Library.{Library}

@@ -3,7 +3,7 @@ use Rattle.std.proofs.Common.{◌≡◌, ℕ, suc, ◌-◌, ◌%◌, ◌≤◌, 
 use Rattle.std.specs.Prelude.{nat_lt, nat_le}
 use Rattle.std.proofs.lemmas.Bool.{false≢true}
 use Rattle.std.proofs.lemmas.List.Elements.{All-cons, All-tail}
-use Rattle.mpy_base.specs.Val.{Val, Nil, Truth, PlainWorld}
+use Rattle.bc_machine.specs.mpy_base.Val.{Val, Nil, Truth, PlainWorld}
 use Rattle.bc_machine.specs.bc_ops.declared.form.Form.{Form}
 use Rattle.bc_machine.specs.bc_ops.declared.form.Form.TheVariants as forms
 use Rattle.bc_machine.specs.bc_ops.declared.instr.Op.{Op}

@@ -1,8 +1,8 @@
 -- Slots that lie on top, and what is below.
 use Rattle.std.proofs.Common.{◌≡◌, ℕ, zero, suc, ◌+◌, ◌-◌, ◌≤◌, List, [], ◌∷◌, ◌++◌, map, drop, length, replicate, true, false, Some, None, refl, sym, ap, ◌∙◌, subst, arith}
 use Rattle.std.proofs.lemmas.Bool.{and_parts, false≢true}
-use Rattle.mpy_base.specs.declared.builtin.Builtin.{Builtin}
-use Rattle.mpy_base.specs.Val.{Val, Nil, Built, At}
+use Rattle.bc_machine.specs.mpy_base.declared.builtin.Builtin.{Builtin}
+use Rattle.bc_machine.specs.mpy_base.Val.{Val, Nil, Built, At}
 use Rattle.bc_flow.specs.bc_shapes.declared.kinds.Kind.TheVariants as kinds
 use Rattle.bc_flow.specs.bc_shapes.declared.kinds.Want.{Want}
 use Rattle.bc_flow.specs.bc_shapes.declared.kinds.Want.TheVariants as wants

@@ -3,7 +3,7 @@ use Rattle.std.proofs.Common.{◌≡◌, ℕ, zero, suc, ◌-◌, ◌<◌, ◌�
 use Rattle.std.specs.Prelude.{slice_get, nat_lt}
 use Rattle.std.proofs.lemmas.List.{length-replicate}
 use Rattle.std.proofs.lemmas.List.Elements.{All-nil}
-use Rattle.mpy_base.specs.Val.{Val, Nil, PlainWorld}
+use Rattle.bc_machine.specs.mpy_base.Val.{Val, Nil, PlainWorld}
 use Rattle.bc_flow.specs.bc_shapes.declared.kinds.Kind.TheVariants as kinds
 use Rattle.bc_flow.specs.bc_shapes.declared.kinds.Want.{Want}
 use Rattle.bc_flow.specs.bc_shapes.declared.kinds.Want.TheVariants as wants

@@ -1,7 +1,7 @@
 -- A step keeps what fits, and so does a run.
 use Rattle.std.proofs.Common.{◌≡◌, ℕ, zero, suc, ◌<◌, List, [], ◌∷◌, length, length-drop, map, drop, Option, Some, None, refl, sym, ap, ◌∙◌, subst, arith}
 use Rattle.std.specs.Prelude.{codes}
-use Rattle.mpy_base.specs.Val.{Val, Int, PlainWorld}
+use Rattle.bc_machine.specs.mpy_base.Val.{Val, Int, PlainWorld}
 use Rattle.bc_machine.specs.bc_ops.declared.instr.Op.TheVariants as ops
 use Rattle.bc_machine.specs.bc_ops.declared.instr.Instr.{Instr}
 use Rattle.bc_machine.specs.bc_ops.declared.instr.Instr.TheVariants as instrs

@@ -1,7 +1,7 @@
 -- What the slots and handler entries of a frame are in the flow of its code.
 use Rattle.std.specs.Prelude.{ℕ, Bool, List, [], ◌∷◌, Some, None, IfSome, All}
-use Rattle.mpy_base.specs.declared.builtin.Builtin.{Builtin}
-use Rattle.mpy_base.specs.Val.{Val, Nil, Built, At}
+use Rattle.bc_machine.specs.mpy_base.declared.builtin.Builtin.{Builtin}
+use Rattle.bc_machine.specs.mpy_base.Val.{Val, Nil, Built, At}
 use Rattle.bc_flow.specs.bc_shapes.declared.shape.Entry.{Entry as FlowEntry}
 use Rattle.bc_flow.specs.Machine as flow
 use Rattle.bc_flow.specs.Machine.{Stack}

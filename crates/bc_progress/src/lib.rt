@@ -2,8 +2,8 @@
 #![tactic(auto)]
 
 ghost use Rattle.std.specs.Prelude.{◌≡◌, ℕ, List, Some};
-ghost use Rattle.mpy_base.specs.World.{Objects, Later};
-ghost use Rattle.mpy_base.specs.Val.{Val, PlainWorld};
+ghost use Rattle.bc_machine.specs.mpy_base.World.{Objects, Later};
+ghost use Rattle.bc_machine.specs.mpy_base.Val.{Val, PlainWorld};
 ghost use Rattle.bc_machine.specs.Library.{Name, Module, Holds, Library, entry_in};
 ghost use Rattle.bc_machine.specs.State.{Frame, State, Stuck};
 ghost use Rattle.bc_machine.specs.Step.{step};

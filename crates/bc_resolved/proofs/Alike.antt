@@ -1,6 +1,6 @@
 -- What resolves alike is one to the machine.
 use Rattle.std.proofs.Common.{◌≡◌, ℕ, List, [], ◌∷◌, sym, ap, ◌∙◌}
-use Rattle.mpy_base.specs.World.{PortState}
+use Rattle.bc_progress.specs.mpy_base.World.{PortState}
 use Rattle.bc_verify.specs.mpy_tree.Raw as raw
 use Rattle.bc_verify.specs.mpy_tree.Resolved.{ResolvedModule, Resolves}
 use Rattle.bc_progress.specs.bc_machine.Library.{Name, Module, Entry, Holds, Library, module_of}

@@ -2,7 +2,7 @@
 use Rattle.std.proofs.Common.{◌≡◌, ℕ, zero, suc, ◌+◌, ◌<◌, ◌≤◌, max, List, [], ◌∷◌, length, map, Option, Some, None, refl, sym, ap, ap₂, ◌∙◌, subst, arith, zero-le, slice_get, option_map, option_and_then, unwrap_or, inl, inr}
 use Rattle.std.proofs.lemmas.List.{length-map}
 use Rattle.std.proofs.lemmas.Option.{slice_get-map, slice_get_past, slice_get_cases}
-use Rattle.mpy_base.specs.declared.limits.TheConstants.{MAX_ITEMS}
+use Rattle.bc_progress.specs.mpy_base.declared.limits.TheConstants.{MAX_ITEMS}
 use Rattle.bc_progress.specs.bc_ops.declared.instr.Op.{Op}
 use Rattle.bc_progress.specs.bc_ops.declared.instr.Op.TheVariants as ops
 use Rattle.bc_progress.specs.bc_ops.declared.instr.Instr.TheVariants as instrs

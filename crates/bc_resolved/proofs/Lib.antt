@@ -1,3 +1,4 @@
+pub use Rattle.bc_progress.proofs.bc_shapes_lemmas
 pub mod Alike
 pub mod Codes
 pub mod InBytes

@@ -3,7 +3,7 @@ use Rattle.std.proofs.Common.{◌≡◌, ℕ, zero, suc, ◌+◌, ◌<◌, Bool,
 use Rattle.std.specs.List.{AllByRecursion}
 use Rattle.std.proofs.lemmas.List.{length-map}
 use Rattle.std.proofs.lemmas.List.Elements.{recursion_from_All}
-use Rattle.mpy_base.specs.declared.limits.TheConstants.{MAX_DEPTH}
+use Rattle.bc_progress.specs.mpy_base.declared.limits.TheConstants.{MAX_DEPTH}
 use Rattle.bc_progress.specs.bc_ops.Listing.{Piece, starts, items_at}
 use Rattle.bc_verify.specs.bc_prelude.Lines.{line_of}
 use Rattle.bc_verify.specs.mpy_tree.declared.raw.RawCode.{RawCode, out-RawCode, out-roll-RawCode}

@@ -1,6 +1,6 @@
 -- The rules on an instruction of the machine alone.
 use Rattle.std.specs.Prelude.{ℕ, ◌≤◌, ◌<◌}
-use Rattle.mpy_base.specs.declared.limits.TheConstants.{MAX_ITEMS}
+use Rattle.bc_progress.specs.mpy_base.declared.limits.TheConstants.{MAX_ITEMS}
 use Rattle.bc_progress.specs.bc_ops.declared.instr.Op.TheVariants as ops
 use Rattle.bc_progress.specs.bc_ops.declared.instr.Instr.TheVariants as instrs
 use Rattle.bc_progress.specs.bc_ops.declared.listing.Item.TheVariants as items

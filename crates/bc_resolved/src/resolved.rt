@@ -1,7 +1,7 @@
 //! Files' modules have trees, and the machine runs their trees alone.
 
 ghost use Rattle.std.specs.Prelude.{◌≡◌, ℕ, List};
-ghost use Rattle.mpy_base.specs.World.{PortState};
+ghost use Rattle.bc_progress.specs.mpy_base.World.{PortState};
 ghost use Rattle.bc_verify.specs.mpy_tree.File.{IsModule};
 ghost use Rattle.bc_verify.specs.mpy_tree.Raw as raw;
 ghost use Rattle.bc_verify.specs.mpy_tree.Resolved.{ResolvedModule, Resolves};
@@ -12,7 +12,7 @@ ghost use Rattle.bc_resolved.specs.Stored.{Stored, IsMachineModule, IsLibraryOf,
 
 use crate::verified::{file_law, module_law};
 use bc_progress::library_law;
-use mpy_tree::resolving_law;
+use bc_verify::resolving_law;
 
 /// Each module that a file holds resolves to a tree, and to one alone.
 pub fn resolves_law()

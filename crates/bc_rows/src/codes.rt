@@ -10,9 +10,9 @@ ghost use Rattle.bc_rows.specs.Made.{Adds, AreRows, IsCodeIn, with_children};
 
 use crate::row::{Row, own_row};
 use bc_library::Library;
+use bc_machine::{RawCode, RawModule, module_law};
 use mpy_base::limits::MAX_DEPTH;
 use mpy_base::{Items, NoMemory};
-use mpy_tree::{RawCode, RawModule, module_law};
 use std::alloc::Global;
 
 /// The number of the next row. A table of 2^32 rows is answered as want of memory.

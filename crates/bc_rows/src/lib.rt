@@ -6,6 +6,7 @@ mod law;
 mod row;
 mod rows;
 
+pub use bc_library::Library;
 pub use law::rows_law;
 pub use row::Row;
 pub use rows::Rows;

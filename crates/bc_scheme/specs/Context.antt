@@ -1,15 +1,15 @@
 -- What a pattern of instructions stands in: one function's code, and what its names are.
 use Rattle.std.specs.Prelude.{◌≡◌, ℕ, zero, suc, ◌+◌, List, length, Bool, true, false, Option, Some, None, nat_eq, nat_lt, nat_le, position, bytes_eq, slice_get, if◌then◌else◌}
-use Rattle.mpy_base.specs.Val.{Val, Nil, Truth, Int, Str}
+use Rattle.bc_machine.specs.mpy_base.Val.{Val, Nil, Truth, Int, Str}
 use Rattle.bc_machine.specs.bc_ops.declared.instr.Op.{Op}
 use Rattle.bc_machine.specs.bc_ops.declared.instr.Op.TheVariants as ops
 use Rattle.bc_machine.specs.bc_ops.declared.instr.Instr.TheVariants as instrs
-use Rattle.py_tree.specs.declared.expr.UnaryOp.{UnaryOp}
-use Rattle.py_tree.specs.declared.expr.UnaryOp.TheVariants as unaries
-use Rattle.py_tree.specs.declared.expr.BinaryOp.{BinaryOp}
-use Rattle.py_tree.specs.declared.expr.BinaryOp.TheVariants as binaries
-use Rattle.py_tree.specs.declared.expr.CompareOp.{CompareOp}
-use Rattle.py_tree.specs.declared.expr.CompareOp.TheVariants as compares
+use Rattle.py_meaning.specs.py_tree.declared.expr.UnaryOp.{UnaryOp}
+use Rattle.py_meaning.specs.py_tree.declared.expr.UnaryOp.TheVariants as unaries
+use Rattle.py_meaning.specs.py_tree.declared.expr.BinaryOp.{BinaryOp}
+use Rattle.py_meaning.specs.py_tree.declared.expr.BinaryOp.TheVariants as binaries
+use Rattle.py_meaning.specs.py_tree.declared.expr.CompareOp.{CompareOp}
+use Rattle.py_meaning.specs.py_tree.declared.expr.CompareOp.TheVariants as compares
 use Rattle.bc_machine.specs.Library.{Name, Item, Plain, Names, Loads, Line, Code}
 
 -- is_module tells the text of a module from that of a function

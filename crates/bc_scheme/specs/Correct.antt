@@ -1,6 +1,6 @@
 -- What it is for a library to run as its program means.
 use Rattle.std.specs.Prelude.{◌≡◌, ◌≤◌, ℕ, ◌+◌, ◌*◌, List, ◌++◌}
-use Rattle.mpy_base.specs.World.{PortState}
+use Rattle.bc_machine.specs.mpy_base.World.{PortState}
 use Rattle.bc_machine.specs.py_effects.Ends.{Run, Open}
 use Rattle.bc_machine.specs.Library.{Library}
 use Rattle.bc_machine.specs.Machine.{run}

@@ -1,12 +1,12 @@
 -- The patterns of expressions: `StandsE c line p e q` says that the code of e stands from position p up to q.
 use Rattle.std.specs.Prelude.{◌≡◌, ℕ, suc, ◌+◌, ◌*◌, true, false, nat_lt}
-use Rattle.mpy_base.specs.Val.{Val}
+use Rattle.bc_machine.specs.mpy_base.Val.{Val}
 use Rattle.bc_machine.specs.bc_ops.declared.instr.Op.{Op}
 use Rattle.bc_machine.specs.bc_ops.declared.instr.Op.TheVariants as ops
 use Rattle.bc_machine.specs.bc_ops.declared.instr.Instr.TheVariants as instrs
-use Rattle.py_tree.specs.declared.expr.UnaryOp.{UnaryOp}
-use Rattle.py_tree.specs.declared.expr.BinaryOp.{BinaryOp}
-use Rattle.py_tree.specs.declared.expr.CompareOp.{CompareOp}
+use Rattle.py_meaning.specs.py_tree.declared.expr.UnaryOp.{UnaryOp}
+use Rattle.py_meaning.specs.py_tree.declared.expr.BinaryOp.{BinaryOp}
+use Rattle.py_meaning.specs.py_tree.declared.expr.CompareOp.{CompareOp}
 use Rattle.bc_machine.specs.Library.{Name, Plain, Names, Jumps}
 use Rattle.py_meaning.specs.Tree.{Expr, Constant, Named, Unary, Not, Binary, And, Or, Compare, Cond, TupleOf, ListOf, DictOf, Attr, Index, Call, Method, Exprs, NoExpr, More, Links, Last, Link, Pairs, NoPair, Pair, Keys, NoKey, Key, count, pair_count, key_count}
 use Rattle.bc_scheme.specs.Context.{Context, Has, plain, number, loads, constant, unary_number, negation, comparing, is_negated, binary}

@@ -2,8 +2,8 @@
 use Rattle.std.specs.Prelude.{◌≡◌, ℕ, suc, ◌+◌, List, [], ◌∷◌, length, Bool, true, false, Some, pos, slice_get, codes, nat_lt}
 use Rattle.bc_machine.specs.bc_ops.declared.instr.Op.TheVariants as ops
 use Rattle.bc_machine.specs.bc_ops.declared.instr.Instr.TheVariants as instrs
-use Rattle.py_tree.specs.declared.expr.BinaryOp.{BinaryOp}
-use Rattle.py_tree.specs.declared.stmt.Alias.{Alias}
+use Rattle.py_meaning.specs.py_tree.declared.expr.BinaryOp.{BinaryOp}
+use Rattle.py_meaning.specs.py_tree.declared.stmt.Alias.{Alias}
 use Rattle.bc_machine.specs.py_effects.Modules.{parts_of}
 use Rattle.bc_machine.specs.Library.{Name, Plain, Names, Jumps, Unwinds}
 use Rattle.py_meaning.specs.Tree.{Expr, Exprs, NoExpr, More, count, Target, ToName, ToAttr, ToIndex, ToEach, Targets, Only, Then, target_count, Stmt, Do, Assign, AugName, AugAttr, AugIndex, Delete, Pass, Break, Continue, ReturnNone, Return, Reraise, Raise, Assert, AssertWith, Import, From, If, While, For, Try, Finally, TryFinally, Def, Block, End, Next, Branches, Else, Case, Handlers, NoHandler, Any, On, OnAs}

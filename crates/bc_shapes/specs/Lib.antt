@@ -1,3 +1,4 @@
+pub use Rattle.mpy_base.specs as mpy_base
 pub mod Joins
 pub mod Partly
 pub mod Shape

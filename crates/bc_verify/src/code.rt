@@ -13,12 +13,10 @@ ghost use Rattle.bc_certificates.specs.bc_flow.Code.{code_of};
 use crate::fault::Rule;
 use crate::instruction::{Broken, first_broken, of_flow_rule};
 use bc_certificates::certified;
-use bc_flow::{Code, State, flow};
-use bc_ops::items_of;
-use bc_prelude::parts_of;
+use bc_flow::{Code, State, flow, items_of};
 use mpy_base::NoMemory;
 use mpy_base::limits::MAX_CODE_BYTES;
-use mpy_tree::{RawCode, RawModule};
+use mpy_tree::{RawCode, RawModule, parts_of};
 use std::alloc::Global;
 
 /// A code, and the offset that each of its instructions starts at.

@@ -7,8 +7,7 @@ ghost use Rattle.bc_verify.specs.Rule.{of_flow};
 ghost use Rattle.bc_verify.specs.Rules.{IsMissing, Breaks, KeepsAll, IsFirstBroken};
 
 use crate::fault::Rule;
-use bc_flow::{Code, Rule as FlowRule, fault_of};
-use bc_ops::{Instr, Item, Op};
+use bc_flow::{Code, Instr, Item, Op, Rule as FlowRule, fault_of};
 use mpy_tree::RawModule;
 
 /// A rule that a code breaks, and the position where.

@@ -4,19 +4,19 @@ use Rattle.std.specs.Io.KnownBytes.{Keeps}
 use Rattle.std.proofs.KnownBytes.{Appends-kept}
 use Rattle.mpy_base.specs.declared.limits.TheConstants.{MAX_TASKS}
 use Rattle.mpy_io.specs.Files.{FileOf}
-use Rattle.image_open.specs.bc_library.Shelf.{Shelf}
-use Rattle.vm_starting.specs.vm_states.Means.{Program}
-use Rattle.vm_starting.specs.Programs.{IsProgramOf}
+use Rattle.meant_files.specs.image_open.bc_library.Shelf.{Shelf}
+use Rattle.board_meaning.specs.vm_starting.vm_states.Means.{Program}
+use Rattle.board_meaning.specs.vm_starting.Programs.{IsProgramOf}
 use Rattle.board_plan.specs.declared.plan.Plan.{Plan}
-use Rattle.board_tasks.specs.Opened.{first_missing}
-use Rattle.board_files.specs.declared.stop.BoardStop.{BoardStop}
-use Rattle.board_files.specs.declared.stop.BoardStop.TheVariants as stops
-use Rattle.board_files.specs.Files.{KeepsOthers}
-use Rattle.board_files.specs.Stopped.{HasStoppedIn}
-use Rattle.board_files.specs.Summaries.{HasRunIn, HasRunFrontIn}
-use Rattle.mpy_endings.specs.declared.ending.Ending.{Ending}
-use Rattle.mpy_endings.specs.declared.ending.Ending.TheVariants.{Done, Unaccepted, Unread, Unverified, Unmerged, Unopened, Unfrozen, Unboarded, Different, Stopped, ReadFault, WriteFault, Unwritten, NoMemory, Absent}
-use Rattle.mpy_endings.specs.declared.ending.BoardFault.TheVariants as boards
+use Rattle.board_meaning.specs.board_tasks.Opened.{first_missing}
+use Rattle.board_meaning.specs.board_files.declared.stop.BoardStop.{BoardStop}
+use Rattle.board_meaning.specs.board_files.declared.stop.BoardStop.TheVariants as stops
+use Rattle.board_meaning.specs.board_files.Files.{KeepsOthers}
+use Rattle.board_meaning.specs.board_files.Stopped.{HasStoppedIn}
+use Rattle.board_meaning.specs.board_files.Summaries.{HasRunIn, HasRunFrontIn}
+use Rattle.command_files.specs.mpy_endings.declared.ending.Ending.{Ending}
+use Rattle.command_files.specs.mpy_endings.declared.ending.Ending.TheVariants.{Done, Unaccepted, Unread, Unverified, Unmerged, Unopened, Unfrozen, Unboarded, Different, Stopped, ReadFault, WriteFault, Unwritten, NoMemory, Absent}
+use Rattle.command_files.specs.mpy_endings.declared.ending.BoardFault.TheVariants as boards
 use Rattle.command_files.specs.Images.{HoldsImage}
 use Rattle.board_command.specs.Plans.{RefusesPlan}
 use Rattle.board_command.specs.Boards.{Boards, Holds, Untouched}

@@ -1,2 +1,3 @@
+pub use Rattle.command_files.proofs as command_files_lemmas
 pub mod Ending
 pub mod Meaning

@@ -3,21 +3,21 @@ use Rattle.std.proofs.Common.{◌≡◌, ℕ, zero, suc, List, [], ◌∷◌, Op
 use Rattle.std.specs.Prelude.{slice_get}
 use Rattle.std.specs.Io.KnownBytes.{Appends}
 use Rattle.mpy_io.specs.Files.{FileOf}
-use Rattle.image_open.specs.bc_library.declared.fault.Member.{Member}
-use Rattle.image_open.specs.bc_library.declared.fault.Member.TheVariants as members
-use Rattle.image_open.specs.bc_library.Shelf.{Shelf, member_of}
-use Rattle.py_meaning.specs.Program.{Program}
-use Rattle.vm_starting.specs.vm_states.Means as machine
-use Rattle.vm_starting.specs.Programs.{IsProgramOf as IsOfShelf, IsRunnable}
-use Rattle.meant_runs.specs.Units.{AreUnits}
-use Rattle.image_open.specs.Opens.{Opens}
+use Rattle.meant_files.specs.image_open.bc_library.declared.fault.Member.{Member}
+use Rattle.meant_files.specs.image_open.bc_library.declared.fault.Member.TheVariants as members
+use Rattle.meant_files.specs.image_open.bc_library.Shelf.{Shelf, member_of}
+use Rattle.meant_files.specs.py_meaning.Program.{Program}
+use Rattle.board_meaning.specs.vm_starting.vm_states.Means as machine
+use Rattle.board_meaning.specs.vm_starting.Programs.{IsProgramOf as IsOfShelf, IsRunnable}
+use Rattle.meant_files.specs.meant_runs.Units.{AreUnits}
+use Rattle.meant_files.specs.image_open.Opens.{Opens}
 use Rattle.board_plan.specs.declared.plan.Plan.{Plan}
 use Rattle.board_plan.specs.declared.plan.Task.{Task}
-use Rattle.board_tasks.specs.Opened.{first_missing, missing_by, number_by, number_of}
-use Rattle.board_files.specs.Summaries.{HasRun}
+use Rattle.board_meaning.specs.board_tasks.Opened.{first_missing, missing_by, number_by, number_of}
+use Rattle.board_meaning.specs.board_files.Summaries.{HasRun}
 use Rattle.board_meaning.specs.Meant.{RanAsMeant}
 use Rattle.meant_files.specs.Programs.{HoldsImageOf, IsLibraryOf, IsProgramOf, Sources}
-use Rattle.mpy_endings.specs.declared.ending.Ending.TheVariants.{Done}
+use Rattle.command_files.specs.mpy_endings.declared.ending.Ending.TheVariants.{Done}
 use Rattle.board_command.specs.Boards.{Boards}
 use Rattle.command_files.specs.Images.{HoldsImage}
 use Rattle.board_command.specs.Meant.{MeansTasks}

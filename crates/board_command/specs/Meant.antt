@@ -3,7 +3,7 @@ use Rattle.std.specs.Prelude.{◌≡◌, ℕ, List, length, Option, Some, slice_
 use Rattle.std.specs.List.{concat}
 use Rattle.std.specs.Io.KnownBytes.{Appends}
 use Rattle.mpy_io.specs.Files.{FileOf}
-use Rattle.py_meaning.specs.Program.{Program}
+use Rattle.meant_files.specs.py_meaning.Program.{Program}
 use Rattle.board_plan.specs.declared.plan.Plan.{Plan}
 use Rattle.board_plan.specs.declared.plan.Task.{Task}
 use Rattle.board_meaning.specs.Meant.{RanAsMeant}

@@ -2,17 +2,16 @@
 
 ghost use Rattle.std.specs.Prelude.{◌≡◌, ℕ, List, ◌∷◌, Option, Some};
 ghost use Rattle.mpy_io.specs.Files.{FileOf};
-ghost use Rattle.image_open.specs.bc_library.Shelf.{Shelf};
+ghost use Rattle.meant_files.specs.image_open.bc_library.Shelf.{Shelf};
 ghost use Rattle.board_plan.specs.declared.plan.Plan.{Plan};
 ghost use Rattle.meant_files.specs.Programs.{HoldsImageOf, IsLibraryOf, IsProgramOf, Sources};
-ghost use Rattle.mpy_endings.specs.declared.ending.Ending.TheVariants.{Done};
+ghost use Rattle.command_files.specs.mpy_endings.declared.ending.Ending.TheVariants.{Done};
 ghost use Rattle.board_command.specs.Boards.{Boards};
 ghost use Rattle.board_command.specs.Meant.{MeansTasks};
 ghost use Rattle.board_command.specs.Plans.{HoldsPlan};
 
-use board_meaning::tasks_law;
+use board_meaning::{program_law, tasks_law};
 use meant_files::images_law;
-use vm_starting::program_law;
 
 /// Where the image of the name `image` is that of a manifest's sources, over a library of images of manifests' sources, each task of a
 /// plan that is run on it prints and ends as the program of all these sources means whose main unit is the task's module: without

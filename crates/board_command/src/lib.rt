@@ -5,5 +5,7 @@ mod laws;
 mod plan;
 mod running;
 
+pub use command_files::open_base;
 pub use laws::board_means_law;
+pub use meant_files::meant_law;
 pub use running::board;

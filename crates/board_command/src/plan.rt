@@ -2,13 +2,13 @@
 
 ghost use Rattle.std.specs.Prelude.{◌≡◌, IfErr, IfOk};
 ghost use Rattle.mpy_io.specs.Count.{Counts};
-ghost use Rattle.board_files.specs.Summaries.{CanRun};
+ghost use Rattle.board_meaning.specs.board_files.Summaries.{CanRun};
 ghost use Rattle.command_files.specs.Opened.{failed_in};
 ghost use Rattle.board_command.specs.Plans.{HoldsPlan, RefusesPlan};
 
 use board_plan::{Plan, PlanFault, plan_law, read_plan};
+use command_files::{BoardFault, Ending};
 use mpy_base::Refused;
-use mpy_endings::{BoardFault, Ending};
 use mpy_io::{Folder, ReadFault};
 use std::alloc::Global;
 

@@ -6,9 +6,9 @@ use Rattle.std.proofs.lemmas.List.Elements.{All-nil, All-cons, All-set, All-weak
 use Rattle.std.proofs.lemmas.Option.{slice_get_within, get_or_from_slice_get}
 use Rattle.mpy_base.specs.declared.limits.TheConstants.{MAX_TASKS}
 use Rattle.mpy_io.specs.Files.{FileOf, AppendsFile, appended}
-use Rattle.vm_starting.specs.bc_library.Shelf.{Shelf}
-use Rattle.vm_starting.specs.vm_states.Means.{Program}
-use Rattle.vm_starting.specs.Programs.{IsProgramOf}
+use Rattle.board_tasks.specs.vm_starting.bc_library.Shelf.{Shelf}
+use Rattle.board_tasks.specs.vm_starting.vm_states.Means.{Program}
+use Rattle.board_tasks.specs.vm_starting.Programs.{IsProgramOf}
 use Rattle.board_plan.specs.declared.plan.Task.{Task}
 use Rattle.board_plan.specs.declared.plan.Turn.{Turn}
 use Rattle.board_tasks.specs.declared.ending.TurnEnd.{TurnEnd}

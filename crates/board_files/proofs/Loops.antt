@@ -2,9 +2,9 @@
 use Rattle.std.proofs.Common.{◌≡◌, ℕ, ◌+◌, ◌-◌, ◌<◌, ◌≤◌, ◌^◌, List, [], ◌∷◌, length, All, Option, refl, ap, subst, ◌∙◌, arith}
 use Rattle.std.proofs.lemmas.List.Elements.{All-head, All-rest, All-weaker}
 use Rattle.mpy_io.specs.Files.{FileOf}
-use Rattle.vm_starting.specs.bc_library.Shelf.{Shelf}
-use Rattle.vm_starting.specs.vm_states.Means.{Program}
-use Rattle.vm_starting.specs.Programs.{IsProgramOf}
+use Rattle.board_tasks.specs.vm_starting.bc_library.Shelf.{Shelf}
+use Rattle.board_tasks.specs.vm_starting.vm_states.Means.{Program}
+use Rattle.board_tasks.specs.vm_starting.Programs.{IsProgramOf}
 use Rattle.board_plan.specs.declared.plan.Turn.{Turn}
 use Rattle.board_plan.specs.Plans.{all_steps}
 use Rattle.board_tasks.specs.declared.turning.TaskRun.{TaskRun}

@@ -5,9 +5,9 @@ use Rattle.std.proofs.lemmas.Bool.{eqb-false}
 use Rattle.std.proofs.lemmas.Option.{slice_get_within}
 use Rattle.mpy_base.specs.declared.limits.TheConstants.{MAX_TASKS}
 use Rattle.mpy_io.specs.Files.{FileOf, Sets, Becomes, BecomesFront, AppendsFile, AppendsFileFront}
-use Rattle.vm_starting.specs.bc_library.Shelf.{Shelf}
-use Rattle.vm_starting.specs.vm_states.Means.{Program}
-use Rattle.vm_starting.specs.Programs.{IsProgramOf}
+use Rattle.board_tasks.specs.vm_starting.bc_library.Shelf.{Shelf}
+use Rattle.board_tasks.specs.vm_starting.vm_states.Means.{Program}
+use Rattle.board_tasks.specs.vm_starting.Programs.{IsProgramOf}
 use Rattle.board_plan.specs.declared.plan.Plan.{Plan}
 use Rattle.board_plan.specs.declared.plan.Task.{Task}
 use Rattle.board_plan.specs.declared.plan.Turn.{Turn}

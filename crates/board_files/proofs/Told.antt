@@ -8,9 +8,9 @@ use Rattle.std.proofs.lemmas.Option.{slice_get_within}
 use Rattle.mpy_base.specs.declared.room.Room.{Room}
 use Rattle.mpy_io.specs.Files.{FileOf}
 use Rattle.mpy_io.specs.Told.{AppendsFront}
-use Rattle.vm_starting.specs.bc_library.Shelf.{Shelf}
-use Rattle.vm_starting.specs.vm_states.Means.{Program}
-use Rattle.vm_starting.specs.Programs.{IsProgramOf}
+use Rattle.board_tasks.specs.vm_starting.bc_library.Shelf.{Shelf}
+use Rattle.board_tasks.specs.vm_starting.vm_states.Means.{Program}
+use Rattle.board_tasks.specs.vm_starting.Programs.{IsProgramOf}
 use Rattle.board_plan.specs.declared.plan.Plan.{Plan}
 use Rattle.board_plan.specs.declared.plan.Task.{Task}
 use Rattle.board_tasks.specs.declared.ending.TaskEnd.{TaskEnd}

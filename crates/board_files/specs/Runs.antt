@@ -1,7 +1,7 @@
 -- Tasks whose output goes to files.
 use Rattle.std.specs.Prelude.{◌≡◌, ℕ, ◌+◌, ◌≤◌, ◌==◌, List, length, All, Option, Some, slice_get, if◌then◌else◌}
 use Rattle.mpy_io.specs.Files.{FileOf}
-use Rattle.vm_starting.specs.vm_states.Means.{Program}
+use Rattle.board_tasks.specs.vm_starting.vm_states.Means.{Program}
 use Rattle.board_plan.specs.declared.plan.Task.{Task}
 use Rattle.board_plan.specs.declared.plan.Turn.{Turn}
 use Rattle.board_tasks.specs.declared.turning.TaskRun.{TaskRun}

@@ -1,7 +1,7 @@
 -- What the files of the tasks hold where the run of a plan stopped: at a file that wasn't written, or for want of memory.
 use Rattle.std.specs.Prelude.{◌≡◌, ◌≢◌, ◌⊎◌, ℕ, ◌<◌, ◌≤◌, List, [], ◌∷◌, ◌++◌, length, Option, Some, None, IfSome, slice_get}
 use Rattle.mpy_io.specs.Files.{FileOf}
-use Rattle.vm_starting.specs.vm_states.Means.{Program}
+use Rattle.board_tasks.specs.vm_starting.vm_states.Means.{Program}
 use Rattle.board_plan.specs.declared.plan.Plan.{Plan}
 use Rattle.board_plan.specs.declared.plan.Task.{Task}
 use Rattle.board_plan.specs.declared.plan.Turn.{Turn}

@@ -7,8 +7,8 @@ use Rattle.mpy_base.specs.declared.room.Room.{Room}
 use Rattle.mpy_base.specs.Kind.{kind_name}
 use Rattle.mpy_io.specs.Files.{FileOf}
 use Rattle.mpy_io.specs.Told.{AppendsFront}
-use Rattle.py_effects.specs.Ends.{Run}
-use Rattle.vm_starting.specs.vm_states.Means.{Program}
+use Rattle.board_tasks.specs.py_effects.Ends.{Run}
+use Rattle.board_tasks.specs.vm_starting.vm_states.Means.{Program}
 use Rattle.board_plan.specs.declared.plan.Plan.{Plan}
 use Rattle.board_plan.specs.declared.plan.Task.{Task}
 use Rattle.board_tasks.specs.declared.ending.TaskEnd.{TaskEnd}

@@ -1,7 +1,7 @@
 -- What the turns of a plan leave in the files of the tasks.
 use Rattle.std.specs.Prelude.{List, length, Option}
 use Rattle.mpy_io.specs.Files.{FileOf}
-use Rattle.vm_starting.specs.vm_states.Means.{Program}
+use Rattle.board_tasks.specs.vm_starting.vm_states.Means.{Program}
 use Rattle.board_plan.specs.declared.plan.Plan.{Plan}
 use Rattle.board_tasks.specs.declared.turning.TaskRun.{TaskRun}
 use Rattle.board_files.specs.Files.{AreEmpty}

@@ -7,5 +7,6 @@ mod stop;
 mod summary;
 mod turns;
 
+pub use board_tasks::program_law;
 pub use running::run_board;
 pub use stop::BoardStop;

@@ -3,9 +3,9 @@
 ghost use Rattle.std.specs.Prelude.{◌≡◌, ◌<◌, ◌≤◌, ℕ, List, [], Err, None, Some, IfErr, IfOk, OnOk, length};
 ghost use Rattle.mpy_base.specs.declared.limits.TheConstants.{MAX_TASKS};
 ghost use Rattle.mpy_io.specs.Count.{Counts};
-ghost use Rattle.vm_starting.specs.Kept.{AreFetched};
-ghost use Rattle.vm_starting.specs.vm_states.Means.{Program};
-ghost use Rattle.vm_starting.specs.Programs.{IsProgramOf, IsRunnable};
+ghost use Rattle.board_tasks.specs.vm_starting.Kept.{AreFetched};
+ghost use Rattle.board_tasks.specs.vm_starting.vm_states.Means.{Program};
+ghost use Rattle.board_tasks.specs.vm_starting.Programs.{IsProgramOf, IsRunnable};
 ghost use Rattle.board_tasks.specs.Opened.{AreOpened, first_missing};
 ghost use Rattle.board_tasks.specs.Turns.{AreRuns};
 ghost use Rattle.board_files.specs.Files.{KeepsOthers, StopsWithin, cut_of, is_folder_fault, is_out_fault, is_unwritten};
@@ -20,11 +20,10 @@ use crate::turns::make_turns;
 use bc_library::Library;
 use bc_rows::Rows;
 use board_plan::{Plan, Task};
-use board_tasks::{Board, BoardFault, stands_law};
+use board_tasks::{Board, BoardFault, Cache, stands_law};
 use mpy_base::{NoMemory, Refused};
 use mpy_io::{Folder, Sink};
 use std::alloc::Global;
-use vm_starting::Cache;
 
 /// The board of a plan's tasks.
 fn open_board(

@@ -7,7 +7,7 @@ ghost use Rattle.mpy_base.specs.declared.limits.TheConstants.{MAX_TASKS};
 ghost use Rattle.mpy_io.specs.Count.{Counts};
 ghost use Rattle.mpy_io.specs.Told.{AppendsFront};
 ghost use Rattle.board_tasks.specs.Turns.{AreRuns};
-ghost use Rattle.vm_starting.specs.bc_library.Shelf.{Shelf};
+ghost use Rattle.board_tasks.specs.vm_starting.bc_library.Shelf.{Shelf};
 ghost use Rattle.board_files.specs.Files.{is_unput};
 ghost use Rattle.board_files.specs.Summaries as spec;
 ghost use Rattle.board_files.specs.Lines.{PutsLines, TellRuns, TellsRun};

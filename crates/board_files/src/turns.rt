@@ -3,9 +3,9 @@
 ghost use Rattle.std.specs.Prelude.{◌≡◌, ◌+◌, ◌<◌, ◌≤◌, ◌^◌, ℕ, All, IfErr, OnOk, length};
 ghost use Rattle.mpy_base.specs.declared.limits.TheConstants.{MAX_TASKS};
 ghost use Rattle.mpy_io.specs.Count.{Counts};
-ghost use Rattle.vm_starting.specs.Kept.{AreFetched};
-ghost use Rattle.vm_starting.specs.vm_states.Means.{Program};
-ghost use Rattle.vm_starting.specs.Programs.{IsProgramOf};
+ghost use Rattle.board_tasks.specs.vm_starting.Kept.{AreFetched};
+ghost use Rattle.board_tasks.specs.vm_starting.vm_states.Means.{Program};
+ghost use Rattle.board_tasks.specs.vm_starting.Programs.{IsProgramOf};
 ghost use Rattle.board_plan.specs.Plans.{all_steps};
 ghost use Rattle.board_tasks.specs.Turns.{AreRuns};
 ghost use Rattle.board_files.specs.Files.{KeepsOthers, StopsWithin, cut_of, is_unwritten};
@@ -16,10 +16,9 @@ use crate::stop::OutputStop;
 use bc_library::Library;
 use bc_rows::Rows;
 use board_plan::Turn;
-use board_tasks::{Board, TurnEnd, stands_law};
+use board_tasks::{Board, Cache, TurnEnd, stands_law};
 use mpy_io::{Folder, MemSink};
 use std::alloc::Global;
-use vm_starting::Cache;
 
 /// The steps that a task makes before its output goes to its file.
 const PART_STEPS: u64 = 1_000_000;

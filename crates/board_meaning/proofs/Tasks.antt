@@ -2,18 +2,18 @@
 use Rattle.std.proofs.Common.{◌≡◌, ℕ, zero, suc, ◌<◌, List, [], ◌∷◌, length, Option, Some, refl, subst, arith}
 use Rattle.std.specs.Prelude.{slice_get}
 use Rattle.std.proofs.lemmas.Option.{slice_get_within}
-use Rattle.mpy_base.specs.World.{PortState}
-use Rattle.mpy_io.specs.Files.{FileOf}
-use Rattle.vm_starting.specs.bc_library.Shelf.{Shelf}
-use Rattle.py_meaning.specs.Program.{Program}
-use Rattle.bc_machine.specs.Machine.{run}
-use Rattle.vm_starting.specs.vm_states.Means as machine
-use Rattle.vm_starting.specs.Programs.{IsProgramOf}
+use Rattle.meant_runs.specs.mpy_base.World.{PortState}
+use Rattle.meant_runs.specs.mpy_io.Files.{FileOf}
+use Rattle.board_files.specs.vm_starting.bc_library.Shelf.{Shelf}
+use Rattle.meant_runs.specs.py_meaning.Program.{Program}
+use Rattle.meant_runs.specs.bc_machine.Machine.{run}
+use Rattle.board_files.specs.vm_starting.vm_states.Means as machine
+use Rattle.board_files.specs.vm_starting.Programs.{IsProgramOf}
 use Rattle.meant_runs.specs.Runs.{MeansRun}
 use Rattle.meant_runs.specs.Units.{AreUnits}
-use Rattle.board_plan.specs.declared.plan.Plan.{Plan}
-use Rattle.board_plan.specs.declared.plan.Task.{Task}
-use Rattle.board_tasks.specs.Schedules.{total}
+use Rattle.board_files.specs.board_plan.declared.plan.Plan.{Plan}
+use Rattle.board_files.specs.board_plan.declared.plan.Task.{Task}
+use Rattle.board_files.specs.board_tasks.Schedules.{total}
 use Rattle.board_files.specs.Summaries.{HasRun, run_in}
 use Rattle.board_meaning.specs.Meant.{RanAsMeant}
 

@@ -1,12 +1,12 @@
 -- What the run of a task says of the program of its module.
 use Rattle.std.specs.Prelude.{◌≡◌, ℕ, List, [], Some, slice_get}
-use Rattle.mpy_io.specs.Files.{FileOf}
-use Rattle.bc_machine.specs.py_effects.Ends.{Run}
-use Rattle.py_meaning.specs.Program.{Program}
+use Rattle.meant_runs.specs.mpy_io.Files.{FileOf}
+use Rattle.meant_runs.specs.bc_machine.py_effects.Ends.{Run}
+use Rattle.meant_runs.specs.py_meaning.Program.{Program}
 use Rattle.meant_runs.specs.Runs.{MeansRun}
-use Rattle.board_plan.specs.declared.plan.Plan.{Plan}
-use Rattle.board_plan.specs.declared.plan.Task.{Task}
-use Rattle.board_tasks.specs.Schedules.{total}
+use Rattle.board_files.specs.board_plan.declared.plan.Plan.{Plan}
+use Rattle.board_files.specs.board_plan.declared.plan.Task.{Task}
+use Rattle.board_files.specs.board_tasks.Schedules.{total}
 use Rattle.board_files.specs.Files.{out_name}
 use Rattle.board_files.specs.Summaries.{SaysRun}
 

@@ -1,14 +1,14 @@
 //! What the runs of tasks mean.
 
 ghost use Rattle.std.specs.Prelude.{◌≡◌, ℕ, List, Option, Some, slice_get};
-ghost use Rattle.mpy_io.specs.Files.{FileOf};
-ghost use Rattle.vm_starting.specs.bc_library.Shelf.{Shelf};
-ghost use Rattle.py_meaning.specs.Program.{Program};
-ghost use Rattle.vm_starting.specs.vm_states.Means as machine;
-ghost use Rattle.vm_starting.specs.Programs.{IsProgramOf};
+ghost use Rattle.meant_runs.specs.mpy_io.Files.{FileOf};
+ghost use Rattle.board_files.specs.vm_starting.bc_library.Shelf.{Shelf};
+ghost use Rattle.meant_runs.specs.py_meaning.Program.{Program};
+ghost use Rattle.board_files.specs.vm_starting.vm_states.Means as machine;
+ghost use Rattle.board_files.specs.vm_starting.Programs.{IsProgramOf};
 ghost use Rattle.meant_runs.specs.Units.{AreUnits};
-ghost use Rattle.board_plan.specs.declared.plan.Plan.{Plan};
-ghost use Rattle.board_plan.specs.declared.plan.Task.{Task};
+ghost use Rattle.board_files.specs.board_plan.declared.plan.Plan.{Plan};
+ghost use Rattle.board_files.specs.board_plan.declared.plan.Task.{Task};
 ghost use Rattle.board_files.specs.Summaries.{HasRun};
 ghost use Rattle.board_meaning.specs.Meant.{RanAsMeant};
 

@@ -3,4 +3,5 @@
 
 mod laws;
 
+pub use board_files::{BoardStop, program_law, run_board};
 pub use laws::tasks_law;

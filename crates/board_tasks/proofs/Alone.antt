@@ -3,18 +3,18 @@ use Rattle.std.proofs.Common.{◌≡◌, ◌⊎◌, inl, inr, ℕ, zero, suc, �
 use Rattle.std.specs.Prelude.{slice_get}
 use Rattle.mpy_base.specs.Val.{PlainWorld}
 use Rattle.mpy_base.specs.World.{PortState}
-use Rattle.vm_frames.specs.py_effects.Growth.{Prints, Starts}
-use Rattle.vm_frames.specs.bc_machine.Library.{Library}
-use Rattle.vm_frames.specs.bc_machine.State.{State, Running, Halted, Stuck}
-use Rattle.vm_frames.specs.bc_machine.Step.{step}
-use Rattle.vm_frames.specs.bc_machine.Machine.{run_of, steps}
-use Rattle.vm_frames.specs.bc_machine.Growth.{world_of}
-use Rattle.vm_frames.specs.bc_machine.Behind.{behind, state_behind}
-use Rattle.vm_frames.specs.Calls.{Call}
-use Rattle.state_calls.specs.frame_exits.declared.ends.End.{End}
-use Rattle.state_calls.specs.frame_moves.Shown.{running_of}
-use Rattle.vm_starting.specs.vm_states.Means.{Program}
-use Rattle.vm_starting.specs.declared.opening.Vm.{Vm}
+use Rattle.vm_machine.specs.vm_frames.py_effects.Growth.{Prints, Starts}
+use Rattle.vm_machine.specs.vm_frames.bc_machine.Library.{Library}
+use Rattle.vm_machine.specs.vm_frames.bc_machine.State.{State, Running, Halted, Stuck}
+use Rattle.vm_machine.specs.vm_frames.bc_machine.Step.{step}
+use Rattle.vm_machine.specs.vm_frames.bc_machine.Machine.{run_of, steps}
+use Rattle.vm_machine.specs.vm_frames.bc_machine.Growth.{world_of}
+use Rattle.vm_machine.specs.vm_frames.bc_machine.Behind.{behind, state_behind}
+use Rattle.vm_machine.specs.vm_frames.Calls.{Call}
+use Rattle.vm_machine.specs.state_calls.frame_exits.declared.ends.End.{End}
+use Rattle.vm_machine.specs.state_calls.frame_moves.Shown.{running_of}
+use Rattle.vm_machine.specs.vm_starting.vm_states.Means.{Program}
+use Rattle.vm_machine.specs.vm_starting.declared.opening.Vm.{Vm}
 use Rattle.vm_machine.specs.Machine.{paid_state, world_in, machine_of}
 use Rattle.board_tasks.specs.Alone.{alone}
 

@@ -9,17 +9,17 @@ use Rattle.std.proofs.lemmas.Option.{slice_get-map}
 use Rattle.mpy_base.specs.declared.room.Room.{Room}
 use Rattle.mpy_base.specs.Val.{PlainWorld}
 use Rattle.arena_heap.specs.Values.{ArenaObject}
-use Rattle.vm_frames.specs.py_effects.Ends.{End, Run}
+use Rattle.vm_machine.specs.vm_frames.py_effects.Ends.{End, Run}
 use Rattle.bc_library.specs.Shelf.{Shelf}
-use Rattle.vm_frames.specs.bc_machine.Library.{Library}
-use Rattle.vm_frames.specs.bc_machine.State.{State, Running, Halted, Stuck}
-use Rattle.vm_frames.specs.bc_machine.Machine.{run_of, steps}
-use Rattle.vm_frames.specs.Calls.{Call}
-use Rattle.prim_walks.specs.Plain.{plain_object}
-use Rattle.state_calls.specs.frame_exits.declared.ends.End.{End as Stop}
-use Rattle.vm_starting.specs.vm_states.Means.{Program}
-use Rattle.vm_starting.specs.Programs.{IsProgramOf}
-use Rattle.vm_starting.specs.declared.opening.Vm.{Vm}
+use Rattle.vm_machine.specs.vm_frames.bc_machine.Library.{Library}
+use Rattle.vm_machine.specs.vm_frames.bc_machine.State.{State, Running, Halted, Stuck}
+use Rattle.vm_machine.specs.vm_frames.bc_machine.Machine.{run_of, steps}
+use Rattle.vm_machine.specs.vm_frames.Calls.{Call}
+use Rattle.vm_machine.specs.prim_walks.Plain.{plain_object}
+use Rattle.vm_machine.specs.state_calls.frame_exits.declared.ends.End.{End as Stop}
+use Rattle.vm_machine.specs.vm_starting.vm_states.Means.{Program}
+use Rattle.vm_machine.specs.vm_starting.Programs.{IsProgramOf}
+use Rattle.vm_machine.specs.vm_starting.declared.opening.Vm.{Vm}
 use Rattle.vm_machine.specs.Machine.{paid_state, world_in, machine_of}
 use Rattle.board_plan.specs.declared.plan.Task.{Task}
 use Rattle.board_plan.specs.declared.plan.Turn.{Turn}

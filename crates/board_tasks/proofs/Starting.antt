@@ -5,12 +5,12 @@ use Rattle.std.specs.Prelude.{slice_get}
 use Rattle.mpy_base.specs.declared.room.Room.{Room}
 use Rattle.mpy_base.specs.World.{PortState}
 use Rattle.bc_library.specs.Shelf.{Shelf, Named}
-use Rattle.vm_frames.specs.bc_machine.Library.{Name}
-use Rattle.vm_frames.specs.bc_machine.Machine.{start}
-use Rattle.vm_frames.specs.py_effects.Ends.{new_world}
-use Rattle.vm_starting.specs.vm_states.Means.{Program}
-use Rattle.vm_starting.specs.Programs.{IsProgramOf}
-use Rattle.vm_starting.specs.declared.opening.Vm.{Vm}
+use Rattle.vm_machine.specs.vm_frames.bc_machine.Library.{Name}
+use Rattle.vm_machine.specs.vm_frames.bc_machine.Machine.{start}
+use Rattle.vm_machine.specs.vm_frames.py_effects.Ends.{new_world}
+use Rattle.vm_machine.specs.vm_starting.vm_states.Means.{Program}
+use Rattle.vm_machine.specs.vm_starting.Programs.{IsProgramOf}
+use Rattle.vm_machine.specs.vm_starting.declared.opening.Vm.{Vm}
 use Rattle.vm_machine.specs.Machine.{IsVm, machine_of}
 use Rattle.board_plan.specs.declared.plan.Task.{Task}
 use Rattle.board_tasks.specs.declared.turning.TaskRun.{TaskRun}

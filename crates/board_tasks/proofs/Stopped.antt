@@ -10,15 +10,15 @@ use Rattle.arena_heap.specs.declared.value.ExcNo.{ExcNo}
 use Rattle.arena_heap.specs.declared.value.StrNo.{StrNo}
 use Rattle.arena_heap.specs.declared.value.ConstNo.{ConstNo}
 use Rattle.arena_heap.specs.Values.{ArenaObject}
-use Rattle.vm_frames.specs.py_effects.Ends as plain
-use Rattle.vm_frames.specs.py_effects.Ends.{End}
-use Rattle.vm_frames.specs.bc_machine.Machine.{run_of}
-use Rattle.vm_frames.specs.Calls.{Call}
-use Rattle.prim_walks.specs.Plain.{plain, plain_name, plain_object, plain_heap}
-use Rattle.state_calls.specs.frame_exits.declared.ends.End.{End as Stop}
-use Rattle.state_calls.specs.frame_exits.declared.ends.End.TheVariants as stops
-use Rattle.vm_starting.specs.vm_states.Means.{Program}
-use Rattle.vm_starting.specs.declared.opening.Vm.{Vm}
+use Rattle.vm_machine.specs.vm_frames.py_effects.Ends as plain
+use Rattle.vm_machine.specs.vm_frames.py_effects.Ends.{End}
+use Rattle.vm_machine.specs.vm_frames.bc_machine.Machine.{run_of}
+use Rattle.vm_machine.specs.vm_frames.Calls.{Call}
+use Rattle.vm_machine.specs.prim_walks.Plain.{plain, plain_name, plain_object, plain_heap}
+use Rattle.vm_machine.specs.state_calls.frame_exits.declared.ends.End.{End as Stop}
+use Rattle.vm_machine.specs.state_calls.frame_exits.declared.ends.End.TheVariants as stops
+use Rattle.vm_machine.specs.vm_starting.vm_states.Means.{Program}
+use Rattle.vm_machine.specs.vm_starting.declared.opening.Vm.{Vm}
 use Rattle.vm_machine.specs.Machine.{paid_state, world_in, machine_of}
 use Rattle.board_tasks.specs.declared.ending.TaskEnd.{TaskEnd}
 use Rattle.board_tasks.specs.declared.ending.TaskEnd.TheVariants as ends

@@ -10,18 +10,18 @@ use Rattle.mpy_io.specs.Told.{AppendsFront}
 use Rattle.port_set.specs.Calls.{Tell}
 use Rattle.port_set.specs.Counts.{CountsKeep, RoseBeyond}
 use Rattle.port_set.proofs.Counting.{beyond_within}
-use Rattle.vm_frames.specs.py_effects.Growth.{Starts}
+use Rattle.vm_machine.specs.vm_frames.py_effects.Growth.{Starts}
 use Rattle.bc_library.specs.Shelf.{Shelf}
-use Rattle.vm_frames.specs.bc_machine.Library.{Library}
-use Rattle.vm_frames.specs.bc_machine.State.{State}
-use Rattle.vm_frames.specs.bc_machine.Step.{step}
-use Rattle.vm_frames.specs.bc_machine.Machine.{run_of, steps, steps as runs_in}
-use Rattle.vm_frames.specs.bc_machine.Behind.{state_behind}
-use Rattle.vm_frames.specs.Calls.{Call}
-use Rattle.state_calls.specs.frame_moves.Shown.{running_of}
-use Rattle.vm_starting.specs.vm_states.Means.{Program}
-use Rattle.vm_starting.specs.Programs.{IsProgramOf}
-use Rattle.vm_starting.specs.declared.opening.Vm.{Vm}
+use Rattle.vm_machine.specs.vm_frames.bc_machine.Library.{Library}
+use Rattle.vm_machine.specs.vm_frames.bc_machine.State.{State}
+use Rattle.vm_machine.specs.vm_frames.bc_machine.Step.{step}
+use Rattle.vm_machine.specs.vm_frames.bc_machine.Machine.{run_of, steps, steps as runs_in}
+use Rattle.vm_machine.specs.vm_frames.bc_machine.Behind.{state_behind}
+use Rattle.vm_machine.specs.vm_frames.Calls.{Call}
+use Rattle.vm_machine.specs.state_calls.frame_moves.Shown.{running_of}
+use Rattle.vm_machine.specs.vm_starting.vm_states.Means.{Program}
+use Rattle.vm_machine.specs.vm_starting.Programs.{IsProgramOf}
+use Rattle.vm_machine.specs.vm_starting.declared.opening.Vm.{Vm}
 use Rattle.vm_machine.specs.Machine.{world_in, machine_of}
 use Rattle.vm_machine.specs.Running.{Outside, Agree, RunsFor, Strays, SinkFails, Runs, RunsToFailure}
 use Rattle.board_tasks.specs.Alone.{alone}

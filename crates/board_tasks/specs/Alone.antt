@@ -1,10 +1,10 @@
 -- The run of a task alone, without ports.
 use Rattle.std.specs.Prelude.{◌≡◌, ℕ, List, []}
 use Rattle.mpy_base.specs.Val.{PlainWorld}
-use Rattle.vm_frames.specs.py_effects.Ends.{Run, new_world}
-use Rattle.vm_frames.specs.bc_machine.Library.{Library}
-use Rattle.vm_frames.specs.bc_machine.State.{State}
-use Rattle.vm_frames.specs.bc_machine.Machine.{run, start}
+use Rattle.vm_machine.specs.vm_frames.py_effects.Ends.{Run, new_world}
+use Rattle.vm_machine.specs.vm_frames.bc_machine.Library.{Library}
+use Rattle.vm_machine.specs.vm_frames.bc_machine.State.{State}
+use Rattle.vm_machine.specs.vm_frames.bc_machine.Machine.{run, start}
 use Rattle.board_plan.specs.declared.plan.Task.{Task}
 
 -- the machine at the start of the task's module

@@ -4,10 +4,10 @@ use Rattle.mpy_base.specs.declared.kind.Kind.{Kind}
 use Rattle.mpy_base.specs.declared.room.Room.{Room}
 use Rattle.mpy_base.specs.Weights.{used}
 use Rattle.mpy_base.specs.World.{Heap, ExceptionObject, object}
-use Rattle.vm_frames.specs.py_effects.Ends as plain
-use Rattle.vm_frames.specs.py_effects.Ends.{End, Run}
-use Rattle.state_calls.specs.frame_exits.declared.ends.End.{End as Stop}
-use Rattle.state_calls.specs.frame_exits.declared.ends.End.TheVariants as stops
+use Rattle.vm_machine.specs.vm_frames.py_effects.Ends as plain
+use Rattle.vm_machine.specs.vm_frames.py_effects.Ends.{End, Run}
+use Rattle.vm_machine.specs.state_calls.frame_exits.declared.ends.End.{End as Stop}
+use Rattle.vm_machine.specs.state_calls.frame_exits.declared.ends.End.TheVariants as stops
 use Rattle.board_tasks.specs.declared.ending.TaskEnd.{TaskEnd}
 use Rattle.board_tasks.specs.declared.ending.TaskEnd.TheVariants as ends
 use Rattle.board_tasks.specs.declared.ending.TurnEnd.{TurnEnd}

@@ -1,8 +1,8 @@
 -- Schedules: the turns of tasks, one behind the other.
 use Rattle.std.specs.Prelude.{ℕ, ◌+◌, ◌==◌, List, [], ◌∷◌, map, Option, Some, None, slice_get, slice_set, if◌then◌else◌}
-use Rattle.vm_frames.specs.bc_machine.Library.{Library}
-use Rattle.vm_frames.specs.bc_machine.State.{State, Running, Halted, Stuck}
-use Rattle.vm_frames.specs.bc_machine.Machine.{steps}
+use Rattle.vm_machine.specs.vm_frames.bc_machine.Library.{Library}
+use Rattle.vm_machine.specs.vm_frames.bc_machine.State.{State, Running, Halted, Stuck}
+use Rattle.vm_machine.specs.vm_frames.bc_machine.Machine.{steps}
 use Rattle.board_plan.specs.declared.plan.Task.{Task}
 use Rattle.board_plan.specs.declared.plan.Turn.{Turn}
 use Rattle.board_tasks.specs.Alone.{start_of}

@@ -3,10 +3,10 @@ use Rattle.std.specs.Prelude.{◌≡◌, ◌⊎◌, ℕ, ◌+◌, ◌^◌, ◌<�
 use Rattle.std.specs.Io.KnownBytes.{Appends}
 use Rattle.mpy_io.specs.Told.{AppendsFront}
 use Rattle.bc_library.specs.Shelf.{Shelf}
-use Rattle.vm_frames.specs.bc_machine.Machine.{run_of, steps}
-use Rattle.vm_starting.specs.vm_states.Means.{Program}
-use Rattle.vm_starting.specs.Programs.{IsProgramOf}
-use Rattle.vm_starting.specs.declared.opening.Vm.{Vm}
+use Rattle.vm_machine.specs.vm_frames.bc_machine.Machine.{run_of, steps}
+use Rattle.vm_machine.specs.vm_starting.vm_states.Means.{Program}
+use Rattle.vm_machine.specs.vm_starting.Programs.{IsProgramOf}
+use Rattle.vm_machine.specs.vm_starting.declared.opening.Vm.{Vm}
 use Rattle.vm_machine.specs.Machine.{IsVm, machine_of}
 use Rattle.board_plan.specs.declared.plan.Task.{Task}
 use Rattle.board_tasks.specs.declared.ending.TurnEnd.{TurnEnd}

@@ -5,8 +5,8 @@ ghost use Rattle.mpy_base.specs.declared.limits.TheConstants.{MAX_TASKS};
 ghost use Rattle.mpy_base.specs.declared.refused.Refused.TheVariants as refused;
 ghost use Rattle.mpy_io.specs.Count.{Counts};
 ghost use Rattle.bc_library.specs.Shelf.{Shelf};
-ghost use Rattle.vm_starting.specs.Kept.{AreFetched};
-ghost use Rattle.vm_starting.specs.Programs.{IsRunnable};
+ghost use Rattle.vm_machine.specs.vm_starting.Kept.{AreFetched};
+ghost use Rattle.vm_machine.specs.vm_starting.Programs.{IsRunnable};
 ghost use Rattle.board_tasks.specs.declared.turning.TaskRun.{TaskRun};
 ghost use Rattle.board_tasks.specs.Opened.{AreOpened, first_missing};
 ghost use Rattle.board_tasks.specs.Ends.{HasEnd, IsRoomOf, is_write_fault};
@@ -23,7 +23,7 @@ use mpy_base::{Refused, Room, Text};
 use mpy_io::Sink;
 use std::alloc::Global;
 use std::marker::Model;
-use vm_starting::Cache;
+use vm_machine::Cache;
 
 /// The runs of tasks on one library, each with an arena, frames and modules of its own and without ports. All its memory is taken
 /// where it is opened.

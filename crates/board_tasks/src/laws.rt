@@ -3,10 +3,10 @@
 ghost use Rattle.std.specs.Prelude.{◌≡◌, ◌+◌, ℕ, List, [], Option, Some, IsSome, slice_get};
 ghost use Rattle.mpy_base.specs.declared.room.Room.{Room};
 ghost use Rattle.bc_library.specs.Shelf.{Shelf};
-ghost use Rattle.vm_frames.specs.bc_machine.Library.{Library};
-ghost use Rattle.vm_frames.specs.bc_machine.Machine.{steps};
-ghost use Rattle.vm_starting.specs.vm_states.Means.{Program};
-ghost use Rattle.vm_starting.specs.Programs.{IsProgramOf};
+ghost use Rattle.vm_machine.specs.vm_frames.bc_machine.Library.{Library};
+ghost use Rattle.vm_machine.specs.vm_frames.bc_machine.Machine.{steps};
+ghost use Rattle.vm_machine.specs.vm_starting.vm_states.Means.{Program};
+ghost use Rattle.vm_machine.specs.vm_starting.Programs.{IsProgramOf};
 ghost use Rattle.board_plan.specs.declared.plan.Task.{Task};
 ghost use Rattle.board_plan.specs.declared.plan.Turn.{Turn};
 ghost use Rattle.board_tasks.specs.declared.ending.TaskEnd.{TaskEnd};

@@ -12,3 +12,4 @@ pub use ending::{TaskEnd, TurnEnd};
 pub use laws::{board_law, stands_law};
 pub use opening::BoardFault;
 pub use turning::TaskRun;
+pub use vm_machine::{Cache, program_law};

@@ -2,7 +2,7 @@
 
 ghost use Rattle.std.specs.Prelude.{◌≡◌, IfOk, IsSome, None, option_map};
 ghost use Rattle.board_tasks.specs.Opened.{AreOpened, IsOpened, first_missing, number_of};
-ghost use Rattle.vm_starting.specs.Programs.{IsRunnable};
+ghost use Rattle.vm_machine.specs.vm_starting.Programs.{IsRunnable};
 
 use crate::turning::TaskRun;
 use bc_library::{Library, Member};
@@ -10,8 +10,7 @@ use bc_rows::Rows;
 use board_plan::Task;
 use mpy_base::{NoMemory, Text};
 use std::alloc::Global;
-use vm_machine::open;
-use vm_starting::program_law;
+use vm_machine::{open, program_law};
 
 /// Why tasks have no board.
 #[derive(Debug, Drop)]

@@ -3,7 +3,7 @@
 ghost use Rattle.std.specs.Prelude.{◌≡◌, ◌+◌, ◌<◌, ◌≤◌, ◌^◌, MatchBool};
 ghost use Rattle.mpy_io.specs.Count.{Counts};
 ghost use Rattle.bc_library.specs.Shelf.{Shelf};
-ghost use Rattle.vm_starting.specs.Kept.{AreFetched};
+ghost use Rattle.vm_machine.specs.vm_starting.Kept.{AreFetched};
 ghost use Rattle.vm_machine.specs.Machine.{IsVm};
 ghost use Rattle.board_tasks.specs.Ends.{GoesOn, HasEnd, IsOver, is_write_fault};
 ghost use Rattle.board_tasks.specs.Turns.{TurnsSo};
@@ -17,8 +17,7 @@ use frame_exits::End;
 use mpy_io::{Failed, ScriptPort, Sink};
 use port_set::PortSet;
 use std::alloc::Global;
-use vm_machine::run;
-use vm_starting::{Cache, Vm};
+use vm_machine::{Cache, Vm, run};
 
 /// The run of a task.
 #[derive(Drop)]

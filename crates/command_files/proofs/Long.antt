@@ -7,8 +7,8 @@ use Rattle.source_files.specs.Sources.{stored}
 use Rattle.mpy_base.specs.declared.limits.TheConstants.{MAX_READ_BYTES, MAX_FILE_BYTES, MAX_SOURCE_BYTES}
 use Rattle.mpy_io.specs.declared.fault.ReadFault.{ReadFault as FolderFault}
 use Rattle.mpy_io.specs.declared.fault.ReadFault.TheVariants.{TooLong}
-use Rattle.image_open.specs.mpy_reader.declared.fault.FileFault.TheVariants.{TooBig}
-use Rattle.image_open.specs.mpy_reader.Reading.{FirstFault, file, stops}
+use Rattle.mpy_endings.specs.image_open.mpy_reader.declared.fault.FileFault.TheVariants.{TooBig}
+use Rattle.mpy_endings.specs.image_open.mpy_reader.Reading.{FirstFault, file, stops}
 use Rattle.mpy_endings.specs.declared.ending.Ending.{Ending}
 use Rattle.mpy_endings.specs.declared.ending.Ending.TheVariants.{Done, Unaccepted, Unread, Unverified, Unmerged, Unopened, Unfrozen, Unboarded, Different, Stopped, ReadFault, WriteFault, Unwritten, NoMemory, Absent}
 use Rattle.command_files.specs.Folder.{MayHold, IsNotRead}

@@ -4,7 +4,7 @@ use Rattle.mpy_io.specs.Files.{FileOf}
 use Rattle.mpy_endings.specs.declared.ending.Ending.{Ending}
 use Rattle.mpy_endings.specs.declared.ending.Ending.TheVariants.{Done, Unaccepted, Unread, Unverified, Unmerged, Unopened, Unfrozen, Unboarded, Different, Stopped, ReadFault, WriteFault, Unwritten, NoMemory, Absent}
 use Rattle.mpy_base.specs.declared.limits.TheConstants.{MAX_READ_BYTES}
-use Rattle.image_open.specs.mpy_reader.declared.fault.FileFault.TheVariants.{TooBig}
+use Rattle.mpy_endings.specs.image_open.mpy_reader.declared.fault.FileFault.TheVariants.{TooBig}
 
 -- a folder that tells its files has this under the name
 abbrev pub MayHold : Option FileOf → List ℕ → Option (List ℕ) → Type 0

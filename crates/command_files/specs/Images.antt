@@ -1,12 +1,12 @@
 -- The library of an image file over a library below, or what keeps it from being one.
 use Rattle.std.specs.Prelude.{ℕ, List, Option, Some}
 use Rattle.mpy_io.specs.Files.{FileOf}
-use Rattle.image_open.specs.bc_library.Shelf.{Shelf}
-use Rattle.image_open.specs.image_grammar.declared.fault.ImageFault.{ImageFault}
-use Rattle.image_open.specs.image_grammar.Opening.{FirstFault}
-use Rattle.image_open.specs.image_grammar.Base.{base_of}
-use Rattle.image_open.specs.Opens.{Opens}
-use Rattle.image_runs.specs.declared.fault.MainFault.TheVariants as mains
+use Rattle.mpy_endings.specs.image_open.bc_library.Shelf.{Shelf}
+use Rattle.mpy_endings.specs.image_open.image_grammar.declared.fault.ImageFault.{ImageFault}
+use Rattle.mpy_endings.specs.image_open.image_grammar.Opening.{FirstFault}
+use Rattle.mpy_endings.specs.image_open.image_grammar.Base.{base_of}
+use Rattle.mpy_endings.specs.image_open.Opens.{Opens}
+use Rattle.mpy_endings.specs.image_runs.declared.fault.MainFault.TheVariants as mains
 use Rattle.mpy_endings.specs.declared.ending.Ending.{Ending}
 use Rattle.mpy_endings.specs.declared.ending.Ending.TheVariants.{Done, Unaccepted, Unread, Unverified, Unmerged, Unopened, Unfrozen, Unboarded, Different, Stopped, ReadFault, WriteFault, Unwritten, NoMemory, Absent}
 use Rattle.command_files.specs.Folder.{MayHold, IsNotRead}

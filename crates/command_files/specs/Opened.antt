@@ -1,11 +1,11 @@
 -- Files of verified modules, and why a file is none.
 use Rattle.std.specs.Prelude.{ℕ, ◌-◌, List, Option, Some, None, Result, Ok, Err, Bool, false}
 use Rattle.mpy_io.specs.Files.{FileOf}
-use Rattle.image_open.specs.mpy_tree.Raw.{Module}
-use Rattle.image_open.specs.mpy_tree.File.{IsFile}
-use Rattle.image_open.specs.mpy_reader.Reading.{FirstFault}
-use Rattle.image_open.specs.bc_verify.declared.fault.VerifyFault.{VerifyFault}
-use Rattle.image_open.specs.bc_verify.Verified.{IsVerified, IsFirstFault}
+use Rattle.mpy_endings.specs.image_open.mpy_tree.Raw.{Module}
+use Rattle.mpy_endings.specs.image_open.mpy_tree.File.{IsFile}
+use Rattle.mpy_endings.specs.image_open.mpy_reader.Reading.{FirstFault}
+use Rattle.mpy_endings.specs.image_open.bc_verify.declared.fault.VerifyFault.{VerifyFault}
+use Rattle.mpy_endings.specs.image_open.bc_verify.Verified.{IsVerified, IsFirstFault}
 use Rattle.mpy_endings.specs.declared.ending.Ending.{Ending}
 use Rattle.mpy_endings.specs.declared.ending.Ending.TheVariants.{Done, Unaccepted, Unread, Unverified, Unmerged, Unopened, Unfrozen, Unboarded, Different, Stopped, ReadFault, WriteFault, Unwritten, NoMemory, Absent}
 use Rattle.command_files.specs.Folder.{MayHold}

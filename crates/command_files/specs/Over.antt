@@ -3,7 +3,7 @@ use Rattle.std.specs.Prelude.{◌≡◌, ℕ, List, Option}
 use Rattle.std.specs.Io.KnownBytes.{Keeps}
 use Rattle.mpy_io.specs.Count.{Counts}
 use Rattle.mpy_io.specs.Files.{FileOf}
-use Rattle.image_open.specs.bc_library.Shelf.{Shelf, no_entries}
+use Rattle.mpy_endings.specs.image_open.bc_library.Shelf.{Shelf, no_entries}
 use Rattle.mpy_endings.specs.declared.ending.Ending.{Ending}
 use Rattle.mpy_endings.specs.Ending.{is_folder_fault, status_of}
 use Rattle.mpy_endings.specs.Line.{Says, line_of}

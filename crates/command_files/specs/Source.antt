@@ -2,7 +2,7 @@
 use Rattle.std.specs.Prelude.{ℕ, List, Option, Some}
 use Rattle.mpy_base.specs.declared.source.SourceFault.{SourceFault}
 use Rattle.mpy_io.specs.Files.{FileOf}
-use Rattle.mpy_compile.specs.Compiled.{IsFault}
+use Rattle.source_files.specs.mpy_compile.Compiled.{IsFault}
 use Rattle.command_files.specs.Folder.{MayHold}
 
 -- the source that the folder has under the name has this first fault

@@ -2,17 +2,15 @@
 
 ghost use Rattle.std.specs.Prelude.{◌≡◌, IfErr, IfOk};
 ghost use Rattle.mpy_io.specs.Count.{Counts};
-ghost use Rattle.image_open.specs.bc_library.Shelf.{no_entries};
-ghost use Rattle.image_open.specs.image_grammar.Base.{IsOpened};
+ghost use Rattle.mpy_endings.specs.image_open.bc_library.Shelf.{no_entries};
+ghost use Rattle.mpy_endings.specs.image_open.image_grammar.Base.{IsOpened};
 ghost use Rattle.command_files.specs.Images.{HoldsImage, RefusesImage};
 ghost use Rattle.command_files.specs.Opened.{failed_in};
 
 use crate::reading::read_file;
 use bc_library::Library;
-use image_open::{open_image, over_law};
-use image_runs::MainFault;
 use mpy_base::{NoMemory, Refused};
-use mpy_endings::Ending;
+use mpy_endings::{Ending, MainFault, open_image, over_law};
 use mpy_io::Folder;
 use std::alloc::Global;
 

@@ -6,5 +6,11 @@ mod opening;
 mod reading;
 
 pub use images::{open_base, open_image_file};
+pub use mpy_endings::{
+    BoardFault, Difference, Ended, Ending, Stop, image_library, put_three, say_ending,
+};
 pub use opening::{opened, verified};
 pub use reading::read_file;
+pub use source_files::{
+    compile, compile_law, compiled_module, load_sources, source_module, stored_name,
+};

@@ -1,9 +1,9 @@
 -- The functions of each part have the numbers from its first one on, one behind another.
 use Rattle.std.proofs.Common.{◌≡◌, ℕ, suc, ◌+◌, Bool, true, false, List, [], ◌∷◌, ◌++◌, length, length-append, refl, sym, ap, ap₂, subst, ◌∙◌, arith}
-use Rattle.bc_scheme.specs.py_meaning.Tree as tree
-use Rattle.bc_scheme.specs.py_meaning.Tree.{Function, functions, functions_in, functions_of, functions_by}
-use Rattle.bc_scheme.specs.py_meaning.Plain as plain
-use Rattle.bc_scheme.specs.Translation.{own, own_in, own_of, own_by}
+use Rattle.emit_measures.specs.bc_scheme.py_meaning.Tree as tree
+use Rattle.emit_measures.specs.bc_scheme.py_meaning.Tree.{Function, functions, functions_in, functions_of, functions_by}
+use Rattle.emit_measures.specs.bc_scheme.py_meaning.Plain as plain
+use Rattle.emit_measures.specs.bc_scheme.Translation.{own, own_in, own_of, own_by}
 use Rattle.emit_draft.specs.Children.{starts, sizes, sizes_in, sizes_of, sizes_by, AllCount}
 
 -- ---- rows of numbers

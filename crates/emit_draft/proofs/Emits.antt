@@ -1,9 +1,9 @@
 -- Code that stands, one part behind another.
 use Rattle.std.proofs.Common.{◌≡◌, ℕ, ◌≤◌, Bool, false, length, Some, None, refl, sym, ap, ◌∙◌, subst}
 use Rattle.std.specs.Prelude.{slice_get, ◌||◌}
-use Rattle.bc_scheme.specs.bc_ops.declared.instr.Op.{Op}
-use Rattle.bc_scheme.specs.bc_ops.declared.instr.Instr.TheVariants.{Num}
-use Rattle.bc_scheme.specs.Context.{Context, number}
+use Rattle.emit_measures.specs.bc_scheme.bc_ops.declared.instr.Op.{Op}
+use Rattle.emit_measures.specs.bc_scheme.bc_ops.declared.instr.Instr.TheVariants.{Num}
+use Rattle.emit_measures.specs.bc_scheme.Context.{Context, number}
 use Rattle.emit_draft.specs.declared.draft.Draft.{Draft}
 use Rattle.emit_draft.specs.declared.draft.DraftItem.{DraftItem}
 use Rattle.emit_draft.specs.declared.draft.DraftItem.TheVariants.{Plain}

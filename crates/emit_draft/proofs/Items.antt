@@ -1,10 +1,10 @@
 -- The instruction of a name.
 use Rattle.std.proofs.Common.{◌≡◌, ℕ, List, Option, Some, None, sym, ap, ◌∙◌}
 use Rattle.std.specs.Prelude.{if◌then◌else◌}
-use Rattle.bc_scheme.specs.bc_ops.declared.instr.Op.{Op}
-use Rattle.bc_scheme.specs.bc_ops.declared.instr.Instr.TheVariants.{Num}
-use Rattle.bc_scheme.specs.bc_machine.Library.{Item, Names}
-use Rattle.bc_scheme.specs.Context.{Context, number}
+use Rattle.emit_measures.specs.bc_scheme.bc_ops.declared.instr.Op.{Op}
+use Rattle.emit_measures.specs.bc_scheme.bc_ops.declared.instr.Instr.TheVariants.{Num}
+use Rattle.emit_measures.specs.bc_scheme.bc_machine.Library.{Item, Names}
+use Rattle.emit_measures.specs.bc_scheme.Context.{Context, number}
 use Rattle.emit_draft.specs.declared.draft.DraftItem.{DraftItem}
 use Rattle.emit_draft.specs.declared.draft.DraftItem.TheVariants.{Plain, Named}
 use Rattle.emit_draft.specs.declared.scope.Scope.{Scope}

@@ -2,14 +2,14 @@
 use Rattle.std.proofs.Common.{◌≡◌, ◌<◌, ℕ, suc, ◌+◌, List, [], ◌∷◌, ◌++◌, length, map, take, get_or, refl, sym, ap, ap₂, subst, ◌∙◌, arith}
 use Rattle.std.proofs.lemmas.List.{length-map, take_more}
 use Rattle.mpy_base.specs.Val.{Val, Str}
-use Rattle.bc_scheme.specs.mpy_tree.declared.module.Item.{Item}
-use Rattle.bc_scheme.specs.mpy_tree.declared.module.Constant.TheVariants as consts
-use Rattle.bc_scheme.specs.mpy_tree.declared.module.Constant.TheOpen.{Constant-F}
-use Rattle.bc_scheme.specs.mpy_tree.declared.module.Constant.TheFolds.{fold-roll-Constant}
-use Rattle.bc_scheme.specs.mpy_tree.Values.{value_of, constant_step}
-use Rattle.bc_scheme.specs.mpy_tree.Resolved.{Body, IsBodyOf, Resolved, ResolvedLine, instrs_of, line_numbers, resolved_item, lines_of}
-use Rattle.bc_scheme.specs.mpy_tree.declared.module.Code.{Code}
-use Rattle.bc_scheme.specs.bc_machine.Library.{Line, line_of}
+use Rattle.emit_measures.specs.bc_scheme.mpy_tree.declared.module.Item.{Item}
+use Rattle.emit_measures.specs.bc_scheme.mpy_tree.declared.module.Constant.TheVariants as consts
+use Rattle.emit_measures.specs.bc_scheme.mpy_tree.declared.module.Constant.TheOpen.{Constant-F}
+use Rattle.emit_measures.specs.bc_scheme.mpy_tree.declared.module.Constant.TheFolds.{fold-roll-Constant}
+use Rattle.emit_measures.specs.bc_scheme.mpy_tree.Values.{value_of, constant_step}
+use Rattle.emit_measures.specs.bc_scheme.mpy_tree.Resolved.{Body, IsBodyOf, Resolved, ResolvedLine, instrs_of, line_numbers, resolved_item, lines_of}
+use Rattle.emit_measures.specs.bc_scheme.mpy_tree.declared.module.Code.{Code}
+use Rattle.emit_measures.specs.bc_scheme.bc_machine.Library.{Line, line_of}
 use Rattle.emit_draft.specs.declared.draft.Draft.{Draft}
 use Rattle.emit_draft.specs.declared.draft.DraftLine.{DraftLine}
 use Rattle.emit_draft.specs.Draft.{Labels}

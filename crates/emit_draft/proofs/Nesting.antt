@@ -1,10 +1,10 @@
 -- Codes with their children.
 use Rattle.std.proofs.Common.{◌≡◌, ℕ, suc, ◌+◌, List, [], ◌∷◌, length, map, refl, sym, ap, ap₂, subst, ◌∙◌, arith}
-use Rattle.bc_scheme.specs.mpy_tree.declared.module.Code.{Code}
-use Rattle.bc_scheme.specs.mpy_tree.Resolved.{Trees, no_more, more, node, IsTreeOf, AreTreesOf}
-use Rattle.bc_scheme.specs.bc_machine.Library.{size_of, numbers_from, code_of}
-use Rattle.bc_scheme.specs.py_meaning.Tree.{Block}
-use Rattle.bc_scheme.specs.Translation.{own}
+use Rattle.emit_measures.specs.bc_scheme.mpy_tree.declared.module.Code.{Code}
+use Rattle.emit_measures.specs.bc_scheme.mpy_tree.Resolved.{Trees, no_more, more, node, IsTreeOf, AreTreesOf}
+use Rattle.emit_measures.specs.bc_scheme.bc_machine.Library.{size_of, numbers_from, code_of}
+use Rattle.emit_measures.specs.bc_scheme.py_meaning.Tree.{Block}
+use Rattle.emit_measures.specs.bc_scheme.Translation.{own}
 use Rattle.emit_draft.specs.declared.draft.Draft.{Draft}
 use Rattle.emit_draft.specs.Emits.{line_at}
 use Rattle.emit_draft.specs.declared.codes.CodeHead.{CodeHead}

@@ -14,10 +14,10 @@ use Rattle.py_tree.specs.declared.stmt.StmtKind.TheOpen.{StmtKind-F, Stmt-F, Bra
 use Rattle.py_tree.specs.declared.stmt.StmtKind.TheFolds.{fold-StmtKind, fold-Branch, fold-Handler, fold-roll-StmtKind, fold-roll-Branch, fold-roll-Handler, fold-roll-Stmt, ind-Stmt}
 use Rattle.py_tree.specs.Formed as formed
 use Rattle.py_tree.specs.declared.expr.BinaryOp.{BinaryOp}
-use Rattle.bc_scheme.specs.py_meaning.Tree as tree
-use Rattle.bc_scheme.specs.py_meaning.Tree.{Name, Function, functions, functions_in}
-use Rattle.bc_scheme.specs.py_meaning.Plain as plain
-use Rattle.bc_scheme.specs.Translation.{own, own_in}
+use Rattle.emit_measures.specs.bc_scheme.py_meaning.Tree as tree
+use Rattle.emit_measures.specs.bc_scheme.py_meaning.Tree.{Name, Function, functions, functions_in}
+use Rattle.emit_measures.specs.bc_scheme.py_meaning.Plain as plain
+use Rattle.emit_measures.specs.bc_scheme.Translation.{own, own_in}
 use Rattle.emit_draft.specs.Children.{starts, sizes, sizes_in, AllCount}
 use Rattle.emit_draft.proofs.Counting.{Counts, empty, joined, moved, recast, defined, StmtIs, BlockCounts, KindCounts, StmtCounts, BranchesCount, BranchCounts, HandlersCount, ClauseCounts, two_blocks, tried, tried_last}
 

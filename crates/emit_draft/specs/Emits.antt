@@ -1,8 +1,8 @@
 -- What stands in the code that a draft becomes.
 use Rattle.std.specs.Prelude.{◌≡◌, ℕ, suc, ◌<◌, ◌≤◌, Bool, false, ◌||◌, List, ◌++◌, length, map, Option, Some, None, slice_get}
 use Rattle.mpy_base.specs.Val.{Str}
-use Rattle.bc_scheme.specs.bc_machine.Library.{Item, Plain, Names, Loads, Jumps, Unwinds, Line}
-use Rattle.bc_scheme.specs.Context.{Context, Has}
+use Rattle.emit_measures.specs.bc_scheme.bc_machine.Library.{Item, Plain, Names, Loads, Jumps, Unwinds, Line}
+use Rattle.emit_measures.specs.bc_scheme.Context.{Context, Has}
 use Rattle.emit_draft.specs.declared.draft.Draft.{Draft}
 use Rattle.emit_draft.specs.declared.draft.DraftItem.{DraftItem}
 use Rattle.emit_draft.specs.declared.draft.DraftItem.TheVariants as drafts

@@ -1,9 +1,9 @@
 -- A draft as the instructions of a code, and a code of its parts.
 use Rattle.std.specs.Prelude.{◌≡◌, ◌<◌, ◌^◌, ℕ, Bool, List, [], ◌∷◌, length, map, Some, slice_get}
-use Rattle.bc_scheme.specs.mpy_tree.declared.module.Code.{Code, out-Code}
-use Rattle.bc_scheme.specs.mpy_tree.declared.module.Item.{Item}
-use Rattle.bc_scheme.specs.mpy_tree.Resolved.{Body, resolved_item, lines_of}
-use Rattle.bc_scheme.specs.bc_machine.Library.{Name, item_of, line_of}
+use Rattle.emit_measures.specs.bc_scheme.mpy_tree.declared.module.Code.{Code, out-Code}
+use Rattle.emit_measures.specs.bc_scheme.mpy_tree.declared.module.Item.{Item}
+use Rattle.emit_measures.specs.bc_scheme.mpy_tree.Resolved.{Body, resolved_item, lines_of}
+use Rattle.emit_measures.specs.bc_scheme.bc_machine.Library.{Name, item_of, line_of}
 use Rattle.emit_draft.specs.declared.draft.Draft.{Draft}
 use Rattle.emit_draft.specs.declared.draft.DraftItem.{DraftItem}
 use Rattle.emit_draft.specs.declared.draft.DraftLine.{DraftLine}

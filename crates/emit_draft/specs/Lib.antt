@@ -1,3 +1,6 @@
+pub use Rattle.emit_measures.specs.bc_machine
+pub use Rattle.emit_measures.specs.bc_scheme
+pub use Rattle.emit_measures.specs.py_meaning
 pub mod Children
 pub mod Draft
 pub mod Emits

@@ -1,7 +1,7 @@
 -- The wide length of a code.
 use Rattle.std.specs.Prelude.{ℕ, List}
-use Rattle.bc_scheme.specs.bc_ops.declared.instr.Instr.{Instr}
-use Rattle.bc_scheme.specs.bc_machine.Library.{Item, Line}
+use Rattle.emit_measures.specs.bc_scheme.bc_ops.declared.instr.Instr.{Instr}
+use Rattle.emit_measures.specs.bc_scheme.bc_machine.Library.{Item, Line}
 use Rattle.emit_measures.specs.Wide as counts
 
 -- the bytes of an instruction with its operand at its longest

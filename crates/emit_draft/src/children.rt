@@ -3,12 +3,12 @@
 ghost use Rattle.std.specs.Prelude.{◌≡◌, ℕ, suc, ◌+◌, List, map};
 ghost use Rattle.py_tree.specs.declared.stmt.Module.{Module};
 ghost use Rattle.py_tree.specs.Formed.{IsFormed};
-ghost use Rattle.bc_scheme.specs.mpy_tree.declared.module.Code.{Code};
-ghost use Rattle.bc_scheme.specs.mpy_tree.Resolved.{Trees, node, IsTreeOf, AreTreesOf};
-ghost use Rattle.bc_scheme.specs.bc_machine.Library.{code_of, numbers_from};
-ghost use Rattle.bc_scheme.specs.py_meaning.Tree.{Block, functions};
-ghost use Rattle.bc_scheme.specs.py_meaning.Plain.{plain_tree};
-ghost use Rattle.bc_scheme.specs.Translation.{own};
+ghost use Rattle.emit_measures.specs.bc_scheme.mpy_tree.declared.module.Code.{Code};
+ghost use Rattle.emit_measures.specs.bc_scheme.mpy_tree.Resolved.{Trees, node, IsTreeOf, AreTreesOf};
+ghost use Rattle.emit_measures.specs.bc_scheme.bc_machine.Library.{code_of, numbers_from};
+ghost use Rattle.emit_measures.specs.bc_scheme.py_meaning.Tree.{Block, functions};
+ghost use Rattle.emit_measures.specs.bc_scheme.py_meaning.Plain.{plain_tree};
+ghost use Rattle.emit_measures.specs.bc_scheme.Translation.{own};
 ghost use Rattle.emit_draft.specs.declared.draft.Draft.{Draft};
 ghost use Rattle.emit_draft.specs.Emits.{line_at};
 ghost use Rattle.emit_draft.specs.declared.codes.CodeHead.{CodeHead};

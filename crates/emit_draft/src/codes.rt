@@ -1,9 +1,9 @@
 //! A draft as a code.
 
 ghost use Rattle.std.specs.Prelude.{◌≡◌, ◌<◌, ◌^◌, List, length, map, IfOk};
-ghost use Rattle.bc_scheme.specs.mpy_tree.declared.module.Code.{Code as CodeTree};
-ghost use Rattle.bc_scheme.specs.mpy_tree.Resolved.{Body, IsBodyOf};
-ghost use Rattle.bc_scheme.specs.bc_machine.Library.{line_of};
+ghost use Rattle.emit_measures.specs.bc_scheme.mpy_tree.declared.module.Code.{Code as CodeTree};
+ghost use Rattle.emit_measures.specs.bc_scheme.mpy_tree.Resolved.{Body, IsBodyOf};
+ghost use Rattle.emit_measures.specs.bc_scheme.bc_machine.Library.{line_of};
 ghost use Rattle.emit_draft.specs.declared.draft.Draft.{Draft as DraftOf};
 ghost use Rattle.emit_draft.specs.Emits.{label_at, line_at};
 ghost use Rattle.emit_draft.specs.declared.codes.CodeHead.{CodeHead as Head};

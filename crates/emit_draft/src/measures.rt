@@ -1,8 +1,8 @@
 //! What is counted of a text.
 
 ghost use Rattle.std.specs.Prelude.{◌≡◌, ℕ, ◌-◌, ◌^◌, min, length, map};
-ghost use Rattle.bc_scheme.specs.py_meaning.Plain.{plain_stmt, block};
-ghost use Rattle.bc_scheme.specs.py_meaning.Program.{Text};
+ghost use Rattle.emit_measures.specs.bc_scheme.py_meaning.Plain.{plain_stmt, block};
+ghost use Rattle.emit_measures.specs.bc_scheme.py_meaning.Program.{Text};
 ghost use Rattle.emit_draft.specs.Draft.{Labels};
 ghost use Rattle.emit_draft.specs.Emits.{line_at};
 ghost use Rattle.emit_measures.specs.Faults.{IsMeasured};

@@ -1,8 +1,8 @@
 //! The instructions of names.
 
 ghost use Rattle.std.specs.Prelude.{◌≡◌, IfOk, nat_lt, if◌then◌else◌};
-ghost use Rattle.bc_scheme.specs.bc_ops.declared.instr.Instr.TheVariants as instrs;
-ghost use Rattle.bc_scheme.specs.Context.{loads, stores, deletes};
+ghost use Rattle.emit_measures.specs.bc_scheme.bc_ops.declared.instr.Instr.TheVariants as instrs;
+ghost use Rattle.emit_measures.specs.bc_scheme.Context.{loads, stores, deletes};
 ghost use Rattle.emit_draft.specs.declared.draft.DraftItem.TheVariants as drafts;
 ghost use Rattle.emit_draft.specs.Emits.{IsItem};
 

@@ -1,7 +1,7 @@
 //! The numbers of operators.
 
 ghost use Rattle.std.specs.Prelude.{◌≡◌, ◌<◌};
-ghost use Rattle.bc_scheme.specs.Context.{unary_number as unary_of, comparing, is_negated as negated, arithmetic};
+ghost use Rattle.emit_measures.specs.bc_scheme.Context.{unary_number as unary_of, comparing, is_negated as negated, arithmetic};
 
 use py_tree::{BinaryOp, CompareOp, UnaryOp};
 

@@ -1,7 +1,7 @@
 //! The names of the codes of a source.
 
 ghost use Rattle.std.specs.Prelude.{◌≡◌, ◌<◌, [], length, true, false, slice_get, IfOk, IfSome, IfNone};
-ghost use Rattle.bc_scheme.specs.py_meaning.Program.{or_none};
+ghost use Rattle.emit_measures.specs.bc_scheme.py_meaning.Program.{or_none};
 ghost use Rattle.emit_draft.specs.Finished.{Names};
 
 use crate::scope::Scope;

@@ -1,8 +1,8 @@
 -- How many parts a plain tree has.
 use Rattle.std.proofs.Common.{◌≡◌, suc, List, [], ◌∷◌, length, map, refl, ap}
 use Rattle.py_tree.specs.declared.expr.Expr as trees
-use Rattle.bc_scheme.specs.py_meaning.Tree.{Name, count, pair_count, key_count}
-use Rattle.bc_scheme.specs.py_meaning.Plain.{plain_expr, exprs, pairs_of, keys_of}
+use Rattle.emit_draft.specs.bc_scheme.py_meaning.Tree.{Name, count, pair_count, key_count}
+use Rattle.emit_draft.specs.bc_scheme.py_meaning.Plain.{plain_expr, exprs, pairs_of, keys_of}
 use Rattle.emit_expr.specs.Emits.{plain_pairs, plain_keys}
 
 pub count_plain : (xs : List trees.Expr) → count (exprs (map plain_expr xs)) ≡ length xs

@@ -3,18 +3,18 @@ use Rattle.std.proofs.Common.{◌≡◌, ℕ, suc, ◌+◌, ◌*◌, ◌<◌, �
 use Rattle.std.specs.Prelude.{slice_get, ◌||◌, Result, Ok, Err, OnOk, if◌then◌else◌}
 use Rattle.std.proofs.lemmas.Bool.{ltb-false, lt-ltb, le-leb, lt-leb}
 use Rattle.mpy_base.specs.Val.{Val, Str}
-use Rattle.bc_scheme.specs.bc_ops.declared.instr.Op.{Op}
-use Rattle.bc_scheme.specs.bc_ops.declared.instr.Op.TheVariants as ops
-use Rattle.bc_scheme.specs.bc_ops.declared.instr.Instr.TheVariants as instrs
-use Rattle.bc_scheme.specs.bc_machine.Library.{Item, Plain, Names, Loads, Jumps}
+use Rattle.emit_draft.specs.bc_scheme.bc_ops.declared.instr.Op.{Op}
+use Rattle.emit_draft.specs.bc_scheme.bc_ops.declared.instr.Op.TheVariants as ops
+use Rattle.emit_draft.specs.bc_scheme.bc_ops.declared.instr.Instr.TheVariants as instrs
+use Rattle.emit_draft.specs.bc_scheme.bc_machine.Library.{Item, Plain, Names, Loads, Jumps}
 use Rattle.py_tree.specs.declared.expr.UnaryOp.{UnaryOp}
 use Rattle.py_tree.specs.declared.expr.BinaryOp.{BinaryOp}
 use Rattle.py_tree.specs.declared.expr.CompareOp.{CompareOp}
-use Rattle.bc_scheme.specs.py_meaning.Tree.{Name, Expr, Constant, Named, Unary, Not, Binary, And, Or, Compare, Cond, TupleOf, ListOf, DictOf, Attr, Index, Call, Method, Exprs, Pairs, Keys, count, pair_count, key_count}
-use Rattle.bc_scheme.specs.py_meaning.Plain.{call_of, compares}
-use Rattle.bc_scheme.specs.Context.{Context, Has, plain, number, loads, constant, unary_number, negation, comparing, is_negated, arithmetic, binary}
-use Rattle.bc_scheme.specs.Expressions as stands
-use Rattle.bc_scheme.specs.Expressions.{StandsE, StandsEs, StandsC, StandsD, StandsK}
+use Rattle.emit_draft.specs.bc_scheme.py_meaning.Tree.{Name, Expr, Constant, Named, Unary, Not, Binary, And, Or, Compare, Cond, TupleOf, ListOf, DictOf, Attr, Index, Call, Method, Exprs, Pairs, Keys, count, pair_count, key_count}
+use Rattle.emit_draft.specs.bc_scheme.py_meaning.Plain.{call_of, compares}
+use Rattle.emit_draft.specs.bc_scheme.Context.{Context, Has, plain, number, loads, constant, unary_number, negation, comparing, is_negated, arithmetic, binary}
+use Rattle.emit_draft.specs.bc_scheme.Expressions as stands
+use Rattle.emit_draft.specs.bc_scheme.Expressions.{StandsE, StandsEs, StandsC, StandsD, StandsK}
 use Rattle.emit_draft.specs.declared.draft.Draft.{Draft}
 use Rattle.emit_draft.specs.declared.draft.DraftItem.{DraftItem}
 use Rattle.emit_draft.specs.declared.draft.DraftItem.TheVariants as drafts

@@ -1,13 +1,13 @@
 -- Links of a comparison, in a list and in a row.
 use Rattle.std.proofs.Common.{◌≡◌, ℕ, List, [], ◌∷◌, ◌++◌, refl, sym, ap, ◌∙◌, subst}
 use Rattle.std.specs.Prelude.{◌||◌}
-use Rattle.bc_scheme.specs.bc_ops.declared.instr.Op.TheVariants as ops
+use Rattle.emit_draft.specs.bc_scheme.bc_ops.declared.instr.Op.TheVariants as ops
 use Rattle.py_tree.specs.declared.expr.CompareOp.{CompareOp}
-use Rattle.bc_scheme.specs.bc_machine.Library.{Jumps}
-use Rattle.bc_scheme.specs.py_meaning.Tree.{Expr, Compare, Links, Last, Link}
-use Rattle.bc_scheme.specs.py_meaning.Plain.{links, compares}
-use Rattle.bc_scheme.specs.Context.{Context, Has, plain}
-use Rattle.bc_scheme.specs.Expressions.{StandsE, StandsC, StandsL, last, link, compare, chain}
+use Rattle.emit_draft.specs.bc_scheme.bc_machine.Library.{Jumps}
+use Rattle.emit_draft.specs.bc_scheme.py_meaning.Tree.{Expr, Compare, Links, Last, Link}
+use Rattle.emit_draft.specs.bc_scheme.py_meaning.Plain.{links, compares}
+use Rattle.emit_draft.specs.bc_scheme.Context.{Context, Has, plain}
+use Rattle.emit_draft.specs.bc_scheme.Expressions.{StandsE, StandsC, StandsL, last, link, compare, chain}
 use Rattle.emit_draft.specs.Emits.{IsPut, put}
 use Rattle.emit_draft.proofs.Lists.{or_false, or_assoc}
 use Rattle.emit_expr.specs.Crowded.{crowded, crowded_links, crowded_in}

@@ -9,8 +9,8 @@ use Rattle.py_tree.specs.declared.expr.Expr.{roll-Expr, out-Expr, roll-out-Expr}
 use Rattle.py_tree.specs.declared.expr.Expr.TheOpen.{Expr-F}
 use Rattle.py_tree.specs.declared.expr.Expr.TheVariants as ex
 use Rattle.py_tree.specs.declared.expr.Expr.TheFolds.{fold-roll-Expr}
-use Rattle.bc_scheme.specs.py_meaning.Tree.{Name, Expr, Constant, Named, Unary, Not, Binary, And, Or, Compare, Cond, TupleOf, ListOf, DictOf, Attr, Index, Call, Method, Exprs, Keys}
-use Rattle.bc_scheme.specs.py_meaning.Plain.{expr_step, plain_expr, exprs, operands, compares, pairs_of, keys_of, call_of}
+use Rattle.emit_draft.specs.bc_scheme.py_meaning.Tree.{Name, Expr, Constant, Named, Unary, Not, Binary, And, Or, Compare, Cond, TupleOf, ListOf, DictOf, Attr, Index, Call, Method, Exprs, Keys}
+use Rattle.emit_draft.specs.bc_scheme.py_meaning.Plain.{expr_step, plain_expr, exprs, operands, compares, pairs_of, keys_of, call_of}
 use Rattle.emit_expr.specs.Emits.{plain_links, plain_pairs, plain_keys}
 
 pub plain_None : plain_expr ex.None ≡ Constant Nil

@@ -5,18 +5,18 @@ use Rattle.std.proofs.Math.Seq.{drop-cons}
 use Rattle.std.proofs.lemmas.Bool.{eqb-true, eq-eqb}
 use Rattle.std.proofs.lemmas.List.{drop_all, map-append}
 use Rattle.std.proofs.lemmas.Option.{slice_get_within}
-use Rattle.bc_scheme.specs.bc_ops.declared.instr.Op.{Op}
-use Rattle.bc_scheme.specs.bc_ops.declared.instr.Op.TheVariants as ops
-use Rattle.bc_scheme.specs.bc_ops.declared.instr.Instr.TheVariants as instrs
-use Rattle.bc_scheme.specs.bc_machine.Library.{Names, Jumps}
+use Rattle.emit_draft.specs.bc_scheme.bc_ops.declared.instr.Op.{Op}
+use Rattle.emit_draft.specs.bc_scheme.bc_ops.declared.instr.Op.TheVariants as ops
+use Rattle.emit_draft.specs.bc_scheme.bc_ops.declared.instr.Instr.TheVariants as instrs
+use Rattle.emit_draft.specs.bc_scheme.bc_machine.Library.{Names, Jumps}
 use Rattle.mpy_base.specs.Val.{Nil}
 use Rattle.py_tree.specs.declared.expr.CompareOp.{CompareOp}
-use Rattle.bc_scheme.specs.py_meaning.Tree.{Name, Expr, Constant, Exprs, NoExpr, More, Links, Last, Pairs, NoPair, Pair, Keys, NoKey, Key}
+use Rattle.emit_draft.specs.bc_scheme.py_meaning.Tree.{Name, Expr, Constant, Exprs, NoExpr, More, Links, Last, Pairs, NoPair, Pair, Keys, NoKey, Key}
 use Rattle.py_tree.specs.declared.expr.Expr as trees
-use Rattle.bc_scheme.specs.py_meaning.Plain.{plain_expr, exprs, operands, pairs_of, keys_of, compares}
-use Rattle.bc_scheme.specs.Context.{Context, plain}
-use Rattle.bc_scheme.specs.Expressions as stands
-use Rattle.bc_scheme.specs.Expressions.{StandsE, StandsEs, StandsO, StandsL, StandsD, StandsK}
+use Rattle.emit_draft.specs.bc_scheme.py_meaning.Plain.{plain_expr, exprs, operands, pairs_of, keys_of, compares}
+use Rattle.emit_draft.specs.bc_scheme.Context.{Context, plain}
+use Rattle.emit_draft.specs.bc_scheme.Expressions as stands
+use Rattle.emit_draft.specs.bc_scheme.Expressions.{StandsE, StandsEs, StandsO, StandsL, StandsD, StandsK}
 use Rattle.emit_draft.specs.declared.draft.Draft.{Draft}
 use Rattle.emit_draft.specs.declared.draft.DraftItem.TheVariants as drafts
 use Rattle.emit_draft.specs.declared.scope.Scope.{Scope}

@@ -1,14 +1,14 @@
 -- Which code stands between the ends of two drafts.
 use Rattle.std.specs.Prelude.{◌≡◌, ℕ, suc, ◌+◌, ◌*◌, true, false, List, length, map, nat_lt}
-use Rattle.bc_scheme.specs.bc_ops.declared.instr.Op.{Op}
-use Rattle.bc_scheme.specs.bc_ops.declared.instr.Op.TheVariants as ops
-use Rattle.bc_scheme.specs.bc_machine.Library.{Item}
+use Rattle.emit_draft.specs.bc_scheme.bc_ops.declared.instr.Op.{Op}
+use Rattle.emit_draft.specs.bc_scheme.bc_ops.declared.instr.Op.TheVariants as ops
+use Rattle.emit_draft.specs.bc_scheme.bc_machine.Library.{Item}
 use Rattle.py_tree.specs.declared.expr.CompareOp.{CompareOp}
 use Rattle.py_tree.specs.declared.expr.Expr as trees
-use Rattle.bc_scheme.specs.py_meaning.Tree.{Name, Expr, And, Or, Exprs, Pairs, Keys, count, key_count}
-use Rattle.bc_scheme.specs.py_meaning.Plain.{plain_expr, compares, call_of}
-use Rattle.bc_scheme.specs.Context.{Context, Has, number}
-use Rattle.bc_scheme.specs.Expressions.{StandsE, StandsEs, StandsC, StandsD, StandsK}
+use Rattle.emit_draft.specs.bc_scheme.py_meaning.Tree.{Name, Expr, And, Or, Exprs, Pairs, Keys, count, key_count}
+use Rattle.emit_draft.specs.bc_scheme.py_meaning.Plain.{plain_expr, compares, call_of}
+use Rattle.emit_draft.specs.bc_scheme.Context.{Context, Has, number}
+use Rattle.emit_draft.specs.bc_scheme.Expressions.{StandsE, StandsEs, StandsC, StandsD, StandsK}
 use Rattle.emit_draft.specs.declared.draft.Draft.{Draft}
 use Rattle.emit_draft.specs.declared.scope.Scope.{Scope}
 use Rattle.emit_draft.specs.Emits.{Emits, IsPut}

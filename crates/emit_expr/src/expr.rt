@@ -1,7 +1,7 @@
 //! Expressions, and parts of them in a row.
 
 ghost use Rattle.std.specs.Prelude.{◌≡◌, List, map, OnOk, IfOk};
-ghost use Rattle.bc_scheme.specs.py_meaning.Plain.{plain_expr, exprs, operands, pairs_of, keys_of};
+ghost use Rattle.emit_draft.specs.bc_scheme.py_meaning.Plain.{plain_expr, exprs, operands, pairs_of, keys_of};
 ghost use Rattle.emit_expr.specs.Emits.{EmitsE, EmitsEs, EmitsLinks, EmitsD, EmitsK, EmitsCallee, joins, plain_links, plain_pairs, plain_keys};
 
 use crate::puts::{put_comparison, put_load, put_named, put_str};

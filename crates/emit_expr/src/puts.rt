@@ -2,7 +2,7 @@
 
 ghost use Rattle.std.specs.Prelude.{◌≡◌, OnOk};
 ghost use Rattle.mpy_base.specs.Val.{Str};
-ghost use Rattle.bc_scheme.specs.Context.{loads, constant};
+ghost use Rattle.emit_draft.specs.bc_scheme.Context.{loads, constant};
 ghost use Rattle.emit_draft.specs.Draft.{Puts};
 ghost use Rattle.emit_draft.specs.declared.draft.DraftItem.TheVariants as drafts;
 ghost use Rattle.emit_draft.specs.declared.scope.Scope.{Scope as Names};

@@ -1,3 +1,5 @@
+pub use Rattle.bc_scheme.proofs as bc_scheme_lemmas
+pub use Rattle.py_tree.proofs as py_tree_lemmas
 pub mod Exprs
 pub mod Faulty
 pub mod LayerHeights

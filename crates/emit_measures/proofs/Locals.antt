@@ -7,9 +7,9 @@ use Rattle.std.proofs.lemmas.List.Folds.{list_any-append}
 use Rattle.std.proofs.lemmas.Option.{slice_get_within, cond_some}
 use Rattle.std.proofs.lemmas.Slice.Eq.{bytes_eq-Decides}
 use Rattle.py_tree.specs.declared.stmt.Module.{Module}
-use Rattle.py_scopes.specs.Names.{has, firsts}
-use Rattle.py_scopes.specs.Scopes.{slots_of}
-use Rattle.py_scopes.proofs.Tables.{has-kept}
+use Rattle.bc_scheme.specs.py_scopes.Names.{has, firsts}
+use Rattle.bc_scheme.specs.py_scopes.Scopes.{slots_of}
+use Rattle.bc_scheme.proofs.py_scopes_lemmas.Tables.{has-kept}
 use Rattle.bc_scheme.specs.py_meaning.Tree.{Name, Function, functions}
 use Rattle.bc_scheme.specs.py_meaning.Plain.{plain_tree}
 use Rattle.bc_scheme.specs.py_meaning.Program.{Source, function_texts, source_texts}

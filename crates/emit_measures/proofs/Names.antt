@@ -8,7 +8,7 @@ use Rattle.std.proofs.lemmas.List.{take_all}
 use Rattle.std.proofs.lemmas.Option.{cond_some}
 use Rattle.py_tree.specs.declared.stmt.Alias.{Alias}
 use Rattle.bc_scheme.specs.py_effects.Modules.{parts_of, first_of}
-use Rattle.py_scopes.specs.Events.{first_part}
+use Rattle.bc_scheme.specs.py_scopes.Events.{first_part}
 use Rattle.bc_scheme.specs.py_meaning.Tree.{Name}
 use Rattle.bc_scheme.specs.py_meaning.Statements.{bound_name, from_name, read_parts}
 use Rattle.emit_measures.specs.Limits.{saturated}

@@ -5,7 +5,7 @@ use Rattle.std.specs.List.{onto_first}
 use Rattle.std.proofs.lemmas.Bool.Decides.{eqb_tells}
 use Rattle.py_tree.specs.declared.stmt.Alias.{Alias}
 use Rattle.bc_scheme.specs.py_effects.Modules.{parts_of, first_of}
-use Rattle.py_scopes.specs.Events.{first_part, bound_by}
+use Rattle.bc_scheme.specs.py_scopes.Events.{first_part, bound_by}
 use Rattle.bc_scheme.specs.py_meaning.Tree.{Name, Expr, Target, Targets}
 use Rattle.bc_scheme.specs.py_meaning.Statements.{bound_name, from_name, read_parts}
 use Rattle.bc_scheme.specs.py_meaning.Imported.{is_undotted}

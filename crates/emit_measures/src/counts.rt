@@ -3,7 +3,7 @@
 ghost use Rattle.std.specs.Prelude.{◌≡◌, ℕ, length};
 ghost use Rattle.py_tree.specs.declared.stmt.Module.{Module};
 ghost use Rattle.py_tree.specs.Formed.{IsFormed};
-ghost use Rattle.py_scopes.specs.Scopes.{slots_of, IsFaultless};
+ghost use Rattle.bc_scheme.specs.py_scopes.Scopes.{slots_of, IsFaultless};
 ghost use Rattle.bc_scheme.specs.py_meaning.Plain.{plain_tree};
 ghost use Rattle.bc_scheme.specs.py_meaning.Program.{Source, Text, source_texts};
 ghost use Rattle.bc_scheme.specs.Context.{Context};
@@ -12,7 +12,7 @@ ghost use Rattle.emit_measures.specs.Named.{locals_in, HasOwnLocals, AllHaveOwnL
 ghost use Rattle.emit_measures.specs.Stands.{IsCodeOf};
 ghost use Rattle.emit_measures.specs.Wide.{wide_length};
 
-use py_meaning::{params_law, slots_law};
+use bc_scheme::{params_law, slots_law};
 
 /// In a faultless tree each local of a function is a parameter or is bound by the function itself.
 pub fn own_locals_law()

@@ -7,9 +7,9 @@ use Rattle.mpy_base.specs.declared.refused.Refused.TheVariants.{Fault, NoMemory}
 use Rattle.mpy_writer.specs.mpy_tree.declared.module.Code.{out-Code}
 use Rattle.py_tree.specs.declared.stmt.Param.{Param}
 use Rattle.py_tree.specs.declared.stmt.Stmt as stmts
-use Rattle.py_meaning.specs.Tree.{Name, count, Function, Block, End}
-use Rattle.py_meaning.specs.Plain.{Part, defaults_of, numbered}
-use Rattle.py_meaning.specs.Program.{Source, Text, or_none}
+use Rattle.tr_source.specs.py_meaning.Tree.{Name, count, Function, Block, End}
+use Rattle.tr_source.specs.py_meaning.Plain.{Part, defaults_of, numbered}
+use Rattle.tr_source.specs.py_meaning.Program.{Source, Text, or_none}
 use Rattle.emit_stmt.specs.emit_draft.declared.draft.Draft.{Draft}
 use Rattle.emit_stmt.specs.emit_draft.declared.scope.Scope.{Scope}
 use Rattle.emit_measures.specs.Lengths.{text_length}

@@ -4,11 +4,11 @@ use Rattle.std.specs.Prelude.{min, nat_lt, if◌then◌else◌}
 use Rattle.std.proofs.lemmas.Bool.{ltb-false}
 use Rattle.mpy_base.specs.declared.source.SourceCode.{SourceCode}
 use Rattle.mpy_base.specs.declared.source.SourceCode.TheVariants.{TooLong, StateTooBig}
-use Rattle.bc_machine.specs.bc_ops.declared.instr.Op.{Op}
-use Rattle.bc_machine.specs.bc_ops.declared.instr.Op.TheVariants as ops
-use Rattle.bc_machine.specs.bc_ops.declared.instr.Instr.{Instr}
-use Rattle.bc_machine.specs.bc_ops.declared.instr.Instr.TheVariants as instrs
-use Rattle.bc_machine.specs.Library.{Item, Plain, Names, Loads, Jumps, Unwinds}
+use Rattle.tr_source.specs.bc_machine.bc_ops.declared.instr.Op.{Op}
+use Rattle.tr_source.specs.bc_machine.bc_ops.declared.instr.Op.TheVariants as ops
+use Rattle.tr_source.specs.bc_machine.bc_ops.declared.instr.Instr.{Instr}
+use Rattle.tr_source.specs.bc_machine.bc_ops.declared.instr.Instr.TheVariants as instrs
+use Rattle.tr_source.specs.bc_machine.Library.{Item, Plain, Names, Loads, Jumps, Unwinds}
 use Rattle.emit_measures.specs.Wide.{wide_number, wide_int, wide_instr, wide_item, wide_length}
 use Rattle.emit_stmt.specs.emit_draft.declared.draft.DraftLine.{DraftLine}
 use Rattle.emit_stmt.specs.emit_draft.Draft.{Labels}

@@ -11,8 +11,8 @@ use Rattle.py_tree.specs.declared.stmt.StmtKind.TheOpen.{StmtKind-F, Stmt-F, Bra
 use Rattle.py_tree.specs.declared.stmt.StmtKind.TheFolds.{fold-StmtKind, fold-Branch, fold-Handler, fold-roll-StmtKind, fold-roll-Branch, fold-roll-Handler, fold-roll-Stmt, ind-Stmt}
 use Rattle.py_tree.specs.Formed as formed
 use Rattle.py_tree.proofs.Defs.{sum_cons}
-use Rattle.py_meaning.specs.Tree as tree
-use Rattle.py_meaning.specs.Plain as plain
+use Rattle.tr_source.specs.py_meaning.Tree as tree
+use Rattle.tr_source.specs.py_meaning.Plain as plain
 
 abbrev P : Type 0
 P = plain.Part tree.Stmt

@@ -1,7 +1,7 @@
 -- The functions that a text defines itself, among all of its functions.
 use Rattle.std.proofs.Common.{◌≡◌, ℕ, zero, suc, ◌+◌, List, [], ◌∷◌, ◌++◌, length, map, Some, refl, sym, ap, ◌∙◌, subst, arith, append_assoc, append-nil}
 use Rattle.std.specs.Prelude.{slice_get}
-use Rattle.py_meaning.specs.Tree.{Stmt, If, While, For, Try, Finally, TryFinally, Def, Block, End, Next, Branches, Else, Case, Handlers, NoHandler, Any, On, OnAs, Function, functions, functions_in, functions_of, functions_by, count}
+use Rattle.tr_source.specs.py_meaning.Tree.{Stmt, If, While, For, Try, Finally, TryFinally, Def, Block, End, Next, Branches, Else, Case, Handlers, NoHandler, Any, On, OnAs, Function, functions, functions_in, functions_of, functions_by, count}
 use Rattle.emit_measures.specs.bc_scheme.Translation.{own}
 use Rattle.emit_stmt.specs.emit_draft.Children.{starts, sizes, sizes_in, sizes_of, sizes_by}
 use Rattle.emit_stmt.specs.Children.{Made, number_of, made, made_in, made_of, made_by}

@@ -7,9 +7,9 @@ use Rattle.mpy_base.specs.declared.refused.Refused.{Refused}
 use Rattle.mpy_base.specs.declared.refused.Refused.TheVariants.{Fault, NoMemory}
 use Rattle.mpy_writer.specs.mpy_tree.declared.module.Code.{Code}
 use Rattle.py_tree.specs.declared.stmt.Branch.{Branch}
-use Rattle.py_meaning.specs.Tree.{Name, Else, End}
-use Rattle.py_meaning.specs.Plain.{part}
-use Rattle.py_meaning.specs.Program.{Source}
+use Rattle.tr_source.specs.py_meaning.Tree.{Name, Else, End}
+use Rattle.tr_source.specs.py_meaning.Plain.{part}
+use Rattle.tr_source.specs.py_meaning.Program.{Source}
 use Rattle.emit_stmt.proofs.emit_expr_lemmas.Rows.{drop_item}
 use Rattle.emit_module.specs.declared.walk.Children.{Children}
 use Rattle.emit_module.specs.Walk as w

@@ -1,10 +1,10 @@
 -- The code of a text names its locals.
 use Rattle.std.proofs.Common.{◌≡◌, ℕ, ◌+◌, List, [], ◌∷◌, length, map, refl, sym, ap, ap₂, ◌∙◌, subst}
 use Rattle.std.specs.Prelude.{max}
-use Rattle.py_meaning.specs.Tree.{Block}
-use Rattle.py_meaning.specs.Program.{Text}
+use Rattle.tr_source.specs.py_meaning.Tree.{Block}
+use Rattle.tr_source.specs.py_meaning.Program.{Text}
 use Rattle.mpy_writer.specs.mpy_tree.Resolved.{Resolved, plain, named, object, jump, unwind, ResolvedLine, instrs_of}
-use Rattle.bc_machine.specs.Library.{Code, code_of, item_of, line_of, local_of, locals_of}
+use Rattle.tr_source.specs.bc_machine.Library.{Code, code_of, item_of, line_of, local_of, locals_of}
 use Rattle.emit_measures.specs.bc_scheme.Context.{Context}
 use Rattle.emit_measures.specs.Named.{local_in, locals_in, HasOwnLocals, TakesUndotted}
 use Rattle.emit_measures.specs.Stands.{IsCodeOf}

@@ -4,9 +4,9 @@ use Rattle.std.specs.Prelude.{Result, Ok, Err, IfOk, IfErr, ◌⊎◌}
 use Rattle.mpy_base.specs.declared.source.SourceFault.{SourceFault}
 use Rattle.mpy_base.specs.declared.refused.Refused.{Refused}
 use Rattle.mpy_base.specs.declared.refused.Refused.TheVariants.{Fault, NoMemory}
-use Rattle.py_meaning.specs.Tree.{Block}
-use Rattle.py_meaning.specs.Plain.{Part}
-use Rattle.py_meaning.specs.Program.{Source, Text}
+use Rattle.tr_source.specs.py_meaning.Tree.{Block}
+use Rattle.tr_source.specs.py_meaning.Plain.{Part}
+use Rattle.tr_source.specs.py_meaning.Program.{Source, Text}
 use Rattle.emit_measures.specs.bc_scheme.Translation.{own}
 use Rattle.emit_measures.specs.Lengths.{text_length}
 use Rattle.emit_measures.specs.Wide.{wide_length}

@@ -4,7 +4,7 @@ use Rattle.std.specs.Prelude.{max, min, ◌||◌, nat_lt, nat_le, if◌then◌el
 use Rattle.std.proofs.lemmas.Bool.{ltb-false}
 use Rattle.mpy_base.specs.declared.source.SourceCode.{SourceCode}
 use Rattle.mpy_base.specs.declared.source.SourceCode.TheVariants.{TooLong, StateTooBig}
-use Rattle.py_meaning.specs.Program.{Text}
+use Rattle.tr_source.specs.py_meaning.Program.{Text}
 use Rattle.emit_measures.specs.bc_scheme.Heights.{tall_block, held_in}
 use Rattle.emit_measures.specs.declared.faults.Measures.{Measures}
 use Rattle.emit_measures.specs.Faults.{is_big_state, fault_of, IsMeasured}

@@ -1,10 +1,10 @@
 -- The wide length of a draft, from its text's tree: its code stands in a context that has a code for each function.
 use Rattle.std.proofs.Common.{◌≡◌, ℕ, zero, suc, ◌+◌, false, List, [], ◌∷◌, ◌++◌, map, replicate, Some, None, refl, sym, ap, ap₂, ◌∙◌, arith}
 use Rattle.std.specs.Prelude.{slice_get}
-use Rattle.py_meaning.specs.Tree.{Block, Function, functions}
-use Rattle.py_meaning.specs.Plain.{Part}
-use Rattle.py_meaning.specs.Program.{Text}
-use Rattle.bc_machine.specs.Library.{Code}
+use Rattle.tr_source.specs.py_meaning.Tree.{Block, Function, functions}
+use Rattle.tr_source.specs.py_meaning.Plain.{Part}
+use Rattle.tr_source.specs.py_meaning.Program.{Text}
+use Rattle.tr_source.specs.bc_machine.Library.{Code}
 use Rattle.emit_measures.specs.bc_scheme.Context.{Context, IsChild}
 use Rattle.emit_measures.specs.bc_scheme.Translation.{own}
 use Rattle.emit_measures.specs.Lengths.{text_length}

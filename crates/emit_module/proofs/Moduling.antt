@@ -10,11 +10,11 @@ use Rattle.mpy_writer.specs.mpy_tree.declared.module.ModuleCode.{ModuleCode}
 use Rattle.mpy_writer.specs.mpy_tree.Resolved.{ResolvedLine, Body, Tree, Trees, node, no_more, more, ResolvedModule, IsBodyOf, IsTreeOf, AreTreesOf}
 use Rattle.py_tree.specs.declared.stmt.Module.{Module}
 use Rattle.py_tree.specs.declared.stmt.Stmt as stmts
-use Rattle.py_meaning.specs.Tree.{Name, Block, Function, functions}
+use Rattle.tr_source.specs.py_meaning.Tree.{Name, Block, Function, functions}
 use Rattle.py_scopes.specs.Scopes.{slots_of}
-use Rattle.py_meaning.specs.Plain.{Part, plain_tree}
-use Rattle.py_meaning.specs.Program.{Source, Text, module_text, function_texts, source_texts}
-use Rattle.bc_machine.specs.Library.{Code, code_of, numbers_from, codes_of}
+use Rattle.tr_source.specs.py_meaning.Plain.{Part, plain_tree}
+use Rattle.tr_source.specs.py_meaning.Program.{Source, Text, module_text, function_texts, source_texts}
+use Rattle.tr_source.specs.bc_machine.Library.{Code, code_of, numbers_from, codes_of}
 use Rattle.emit_measures.specs.bc_scheme.Translation.{own, StandAll, HaveStates, bodies_of}
 use Rattle.emit_stmt.specs.emit_draft.declared.scope.Scope.{Scope}
 use Rattle.emit_stmt.specs.emit_draft.Finished.{Names, body_of}

@@ -1,8 +1,8 @@
 -- The functions of a text as a forest and as lists.
 use Rattle.std.proofs.Common.{◌≡◌, ℕ, zero, suc, ◌+◌, List, [], ◌∷◌, ◌++◌, length, drop, refl, sym, ap, ap₂, ◌∙◌, arith, append_assoc, append-nil, length-append}
 use Rattle.std.specs.Prelude.{slice_get}
-use Rattle.py_meaning.specs.Tree.{Name, count, Stmt, If, While, For, Try, Finally, TryFinally, Def, Block, End, Next, Branches, Else, Case, Handlers, NoHandler, Any, On, OnAs, Function, functions, functions_in, functions_of, functions_by}
-use Rattle.py_meaning.specs.Program.{Source, Text, or_none, function_text, function_texts}
+use Rattle.tr_source.specs.py_meaning.Tree.{Name, count, Stmt, If, While, For, Try, Finally, TryFinally, Def, Block, End, Next, Branches, Else, Case, Handlers, NoHandler, Any, On, OnAs, Function, functions, functions_in, functions_of, functions_by}
+use Rattle.tr_source.specs.py_meaning.Program.{Source, Text, or_none, function_text, function_texts}
 use Rattle.emit_stmt.specs.emit_draft.Children.{sizes, sizes_in, sizes_of, sizes_by}
 use Rattle.emit_module.specs.First.{Site, sites, sites_in, sites_of, sites_by}
 use Rattle.emit_module.specs.Walk.{Forest, bare, grow, beside, size, planted, planted_in, planted_of, planted_by, text_at}

@@ -8,7 +8,7 @@ use Rattle.mpy_base.specs.declared.source.SourceCode.TheVariants.{TooLong, State
 use Rattle.mpy_writer.specs.mpy_tree.declared.module.Code.{Code, out-Code}
 use Rattle.mpy_writer.specs.mpy_tree.declared.module.ModuleCode.{ModuleCode}
 use Rattle.mpy_writer.specs.Writable.{IsShallow}
-use Rattle.py_meaning.specs.Program.{Source, Text}
+use Rattle.tr_source.specs.py_meaning.Program.{Source, Text}
 use Rattle.emit_measures.specs.declared.faults.Measures.{Measures}
 use Rattle.emit_measures.specs.Faults.{is_big_state, fault_of}
 use Rattle.emit_module.specs.First.{Site}

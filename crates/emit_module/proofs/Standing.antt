@@ -1,9 +1,9 @@
 -- The code of a text, from its draft.
 use Rattle.std.proofs.Common.{◌≡◌, ℕ, ◌+◌, Bool, List, [], ◌∷◌, map, Some, refl, sym, ap, ◌∙◌, subst}
 use Rattle.std.specs.Prelude.{slice_get}
-use Rattle.py_meaning.specs.Tree.{Block}
-use Rattle.py_meaning.specs.Program.{Text}
-use Rattle.bc_machine.specs.Library.{Code, code_of}
+use Rattle.tr_source.specs.py_meaning.Tree.{Block}
+use Rattle.tr_source.specs.py_meaning.Program.{Text}
+use Rattle.tr_source.specs.bc_machine.Library.{Code, code_of}
 use Rattle.emit_measures.specs.bc_scheme.Context.{Context, IsChild}
 use Rattle.emit_measures.specs.bc_scheme.Translation.{own, StandsCode}
 use Rattle.emit_stmt.specs.emit_draft.declared.draft.Draft.{Draft}

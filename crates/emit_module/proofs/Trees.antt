@@ -4,9 +4,9 @@ use Rattle.std.specs.Prelude.{slice_get}
 use Rattle.mpy_writer.specs.mpy_tree.declared.module.Code as codes
 use Rattle.mpy_writer.specs.mpy_tree.declared.module.Code.{out-Code}
 use Rattle.mpy_writer.specs.mpy_tree.Resolved.{Trees, node, no_more, more, IsTreeOf, AreTreesOf}
-use Rattle.py_meaning.specs.Tree.{Block, Function, functions}
-use Rattle.py_meaning.specs.Program.{Source, Text}
-use Rattle.bc_machine.specs.Library.{Code, code_of, size_of, sizes_of, numbers_from, codes_of}
+use Rattle.tr_source.specs.py_meaning.Tree.{Block, Function, functions}
+use Rattle.tr_source.specs.py_meaning.Program.{Source, Text}
+use Rattle.tr_source.specs.bc_machine.Library.{Code, code_of, size_of, sizes_of, numbers_from, codes_of}
 use Rattle.emit_measures.specs.bc_scheme.Translation.{own, StandsCode, StandAll, bodies_of, HaveStates}
 use Rattle.emit_measures.specs.Named.{HasOwnLocals, AllHaveOwnLocals, TakesUndotted}
 use Rattle.emit_stmt.specs.emit_draft.declared.draft.Draft.{Draft}

@@ -14,8 +14,8 @@ use Rattle.py_tree.specs.declared.stmt.StmtKind.{StmtKind, out-StmtKind}
 use Rattle.py_tree.specs.declared.stmt.StmtKind.TheVariants as s
 use Rattle.py_tree.specs.declared.stmt.StmtKind.TheOpen.{StmtKind-F}
 use Rattle.py_tree.specs.declared.stmt.Target as aims
-use Rattle.py_meaning.specs.Tree.{Name, Expr, Target, ToName, ToAttr, ToIndex, ToEach, Targets, Stmt, Assign, Delete, Pass, ReturnNone, Return, Reraise, Raise, Assert, AssertWith, Finally, TryFinally, Block, Branches, Else, Handlers}
-use Rattle.py_meaning.specs.Plain.{Part, Clause, part, also, chain, plain_expr, plain_target, targets, from_targets, augmented, on_option, numbered, handler_of}
+use Rattle.tr_source.specs.py_meaning.Tree.{Name, Expr, Target, ToName, ToAttr, ToIndex, ToEach, Targets, Stmt, Assign, Delete, Pass, ReturnNone, Return, Reraise, Raise, Assert, AssertWith, Finally, TryFinally, Block, Branches, Else, Handlers}
+use Rattle.tr_source.specs.py_meaning.Plain.{Part, Clause, part, also, chain, plain_expr, plain_target, targets, from_targets, augmented, on_option, numbered, handler_of}
 use Rattle.emit_stmt.specs.Plain.{plain_kind, is_simple_layer, is_simple}
 use Rattle.emit_stmt.proofs.Plains.{Layer, layer_part, layer_is}
 use Rattle.emit_stmt.specs.Parts.{plain_block, plain_branch, plain_handlers, if_part, while_part, for_part, try_part}

@@ -1,9 +1,9 @@
 -- What is counted of a text while its code is made: its wide length is that of its draft, or that of its tree.
 use Rattle.std.specs.Prelude.{◌≡◌, ℕ, false, [], map, Some, None}
 use Rattle.mpy_base.specs.declared.source.SourceFault.{SourceFault}
-use Rattle.py_meaning.specs.Tree.{Block}
-use Rattle.py_meaning.specs.Plain.{Part}
-use Rattle.py_meaning.specs.Program.{Text}
+use Rattle.tr_source.specs.py_meaning.Tree.{Block}
+use Rattle.tr_source.specs.py_meaning.Plain.{Part}
+use Rattle.tr_source.specs.py_meaning.Program.{Text}
 use Rattle.emit_measures.specs.Lengths.{text_length}
 use Rattle.emit_stmt.specs.emit_draft.declared.draft.Draft.{Draft}
 use Rattle.emit_stmt.specs.emit_draft.declared.scope.Scope.{Scope}

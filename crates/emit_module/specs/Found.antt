@@ -1,6 +1,6 @@
 -- The functions that a text defines itself, among all of its functions.
 use Rattle.std.specs.Prelude.{◌≡◌, ℕ, ◌+◌, List, [], ◌∷◌, ◌++◌, Some, slice_get}
-use Rattle.py_meaning.specs.Tree.{Function, functions}
+use Rattle.tr_source.specs.py_meaning.Tree.{Function, functions}
 use Rattle.emit_stmt.specs.Children.{Made}
 
 -- the function stands among these, of which the first one has the number n

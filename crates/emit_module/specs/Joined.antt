@@ -1,7 +1,7 @@
 -- The children of a text's code.
 use Rattle.std.specs.Prelude.{◌≡◌, ℕ, ◌+◌, List, map, Some, slice_get}
-use Rattle.py_meaning.specs.Program.{Text}
-use Rattle.bc_machine.specs.Library.{Code}
+use Rattle.tr_source.specs.py_meaning.Program.{Text}
+use Rattle.tr_source.specs.bc_machine.Library.{Code}
 use Rattle.emit_measures.specs.bc_scheme.Translation.{own}
 use Rattle.emit_stmt.specs.Children.{Made, made}
 use Rattle.emit_module.specs.Own.{IsFound}

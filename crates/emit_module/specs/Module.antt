@@ -4,9 +4,9 @@ use Rattle.mpy_writer.specs.mpy_tree.declared.module.ModuleCode.{ModuleCode}
 use Rattle.mpy_writer.specs.mpy_tree.Resolved.{ResolvedModule, IsTreeOf}
 use Rattle.py_tree.specs.declared.stmt.Module.{Module}
 use Rattle.py_scopes.specs.Scopes.{slots_of}
-use Rattle.py_meaning.specs.Tree.{Name}
-use Rattle.py_meaning.specs.Plain.{plain_tree}
-use Rattle.py_meaning.specs.Program.{Source}
+use Rattle.tr_source.specs.py_meaning.Tree.{Name}
+use Rattle.tr_source.specs.py_meaning.Plain.{plain_tree}
+use Rattle.tr_source.specs.py_meaning.Program.{Source}
 use Rattle.emit_measures.specs.bc_scheme.Translation.{Translates}
 
 -- the source of a parser's tree, by its stored name

@@ -4,8 +4,8 @@ use Rattle.mpy_base.specs.declared.source.SourceFault.{SourceFault}
 use Rattle.mpy_base.specs.declared.refused.Refused.{Refused}
 use Rattle.mpy_base.specs.declared.refused.Refused.TheVariants.{Fault, NoMemory}
 use Rattle.py_tree.specs.declared.stmt.Stmt.{Stmt}
-use Rattle.py_meaning.specs.Program.{Text}
-use Rattle.bc_machine.specs.Library.{Code}
+use Rattle.tr_source.specs.py_meaning.Program.{Text}
+use Rattle.tr_source.specs.bc_machine.Library.{Code}
 use Rattle.emit_measures.specs.bc_scheme.Heights.{tall_block, held_in}
 use Rattle.emit_measures.specs.bc_scheme.Translation.{own}
 use Rattle.emit_measures.specs.Lengths.{text_length}

@@ -8,9 +8,9 @@ use Rattle.mpy_writer.specs.mpy_tree.declared.module.ModuleCode.{ModuleCode}
 use Rattle.py_tree.specs.declared.stmt.Branch.{Branch}
 use Rattle.py_tree.specs.declared.stmt.Param.{Param}
 use Rattle.py_tree.specs.declared.stmt.Stmt as stmts
-use Rattle.py_meaning.specs.Tree.{Name, count, Function, Stmt, If, While, For, Try, Finally, TryFinally, Def, Block, End, Next, Branches, Else, Case, Handlers, NoHandler, Any, On, OnAs}
-use Rattle.py_meaning.specs.Plain.{Part, chain, defaults_of}
-use Rattle.py_meaning.specs.Program.{Source, Text, or_none, module_name, function_text}
+use Rattle.tr_source.specs.py_meaning.Tree.{Name, count, Function, Stmt, If, While, For, Try, Finally, TryFinally, Def, Block, End, Next, Branches, Else, Case, Handlers, NoHandler, Any, On, OnAs}
+use Rattle.tr_source.specs.py_meaning.Plain.{Part, chain, defaults_of}
+use Rattle.tr_source.specs.py_meaning.Program.{Source, Text, or_none, module_name, function_text}
 use Rattle.emit_measures.specs.bc_scheme.Heights.{tall_block, held_in}
 use Rattle.emit_stmt.specs.emit_draft.declared.draft.Draft.{Draft}
 use Rattle.emit_stmt.specs.emit_draft.declared.scope.Scope.{Scope}

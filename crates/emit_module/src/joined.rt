@@ -1,8 +1,8 @@
 //! Which locals the code of a text names.
 
 ghost use Rattle.std.specs.Prelude.{ℕ, List};
-ghost use Rattle.py_meaning.specs.Program.{Text};
-ghost use Rattle.bc_machine.specs.Library.{Code, code_of as machine_code};
+ghost use Rattle.tr_source.specs.py_meaning.Program.{Text};
+ghost use Rattle.tr_source.specs.bc_machine.Library.{Code, code_of as machine_code};
 ghost use Rattle.emit_measures.specs.Named.{HasOwnLocals, TakesUndotted};
 ghost use Rattle.emit_stmt.specs.emit_draft.declared.draft.Draft.{Draft};
 ghost use Rattle.emit_stmt.specs.emit_draft.declared.scope.Scope.{Scope};

@@ -1,8 +1,8 @@
 //! How long the code of a text is.
 
 ghost use Rattle.std.specs.Prelude.{◌≡◌, ℕ, false, map};
-ghost use Rattle.py_meaning.specs.Tree.{Block};
-ghost use Rattle.py_meaning.specs.Plain.{Part};
+ghost use Rattle.tr_source.specs.py_meaning.Tree.{Block};
+ghost use Rattle.tr_source.specs.py_meaning.Plain.{Part};
 ghost use Rattle.emit_measures.specs.bc_scheme.Translation.{own};
 ghost use Rattle.emit_measures.specs.Lengths.{text_length};
 ghost use Rattle.emit_measures.specs.Wide.{wide_length};

@@ -14,3 +14,4 @@ pub use laws::{faults_law, functions_law, resolved_law, stands_law};
 pub use lengths::draft_length_law;
 pub use module::emit;
 pub use own::{OwnCode, Place, own_code};
+pub use tr_source::{accepted_law, limits_law, spelled_law};

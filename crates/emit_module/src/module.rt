@@ -5,7 +5,7 @@ ghost use Rattle.mpy_base.specs.declared.refused.Refused.TheVariants as refused;
 ghost use Rattle.mpy_base.specs.declared.limits.TheConstants.{MAX_DEPTH};
 ghost use Rattle.mpy_base.specs.declared.source.SourceFault.{SourceFault as Fault};
 ghost use Rattle.mpy_writer.specs.Writable.{IsShallow};
-ghost use Rattle.py_source.specs.Source.{IsAccepted};
+ghost use Rattle.tr_source.specs.py_source.Source.{IsAccepted};
 ghost use Rattle.emit_stmt.specs.Parts.{plain_block};
 ghost use Rattle.emit_module.specs.First.{AreWithin, IsFirstFault};
 ghost use Rattle.emit_module.specs.Module.{source_of, IsTranslated};
@@ -22,10 +22,9 @@ use emit_measures::own_locals_law;
 use mpy_base::{Items, NoMemory, Refused, SourceFault, Text};
 use mpy_tree::ModuleCode;
 use py_scopes::NameSlots;
-use py_source::{Accepted, asked_law};
 use py_tree::Stmt;
 use std::alloc::Global;
-use tr_source::{texts_law, undotted_law};
+use tr_source::{Accepted, asked_law, texts_law, undotted_law};
 
 /// The codes of the functions of a source.
 fn functions(

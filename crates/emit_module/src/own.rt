@@ -1,7 +1,7 @@
 //! What is counted of a text, and its own code or its fault.
 
 ghost use Rattle.std.specs.Prelude.{◌≡◌, ◌+◌, ℕ, max, map, true, false, None, IfOk, IfErr};
-ghost use Rattle.py_meaning.specs.Program.{Text as TextOf};
+ghost use Rattle.tr_source.specs.py_meaning.Program.{Text as TextOf};
 ghost use Rattle.emit_measures.specs.Lengths.{text_length as length_of_text};
 ghost use Rattle.emit_stmt.specs.emit_draft.Draft.{Labels};
 ghost use Rattle.emit_stmt.specs.emit_draft.Emits.{line_at};

@@ -2,9 +2,9 @@
 
 ghost use Rattle.std.specs.Prelude.{◌≡◌, ◌^◌, ◌<◌, ◌≤◌, length, map, IfOk};
 ghost use Rattle.py_tree.specs.declared.stmt.Param.{Param as ParamOf};
-ghost use Rattle.py_meaning.specs.Tree.{count};
-ghost use Rattle.py_meaning.specs.Plain.{defaults_of};
-ghost use Rattle.py_meaning.specs.Program.{Text as TextOf};
+ghost use Rattle.tr_source.specs.py_meaning.Tree.{count};
+ghost use Rattle.tr_source.specs.py_meaning.Plain.{defaults_of};
+ghost use Rattle.tr_source.specs.py_meaning.Program.{Text as TextOf};
 ghost use Rattle.emit_stmt.specs.Parts.{plain_block};
 ghost use Rattle.emit_module.specs.Own.{IsTextOf};
 ghost use Rattle.emit_module.specs.Walk.{CodesText, IsHeadOf};

@@ -2,8 +2,8 @@
 
 ghost use Rattle.std.specs.Prelude.{◌≡◌, ◌+◌, ◌^◌, ◌<◌, ◌≤◌, ℕ, [], length, Some, slice_get, OnOk, IfOk};
 ghost use Rattle.py_tree.specs.declared.stmt.Stmt.{out-Stmt};
-ghost use Rattle.py_meaning.specs.Plain.{numbered};
-ghost use Rattle.py_meaning.specs.Program.{Text as TextOf, or_none};
+ghost use Rattle.tr_source.specs.py_meaning.Plain.{numbered};
+ghost use Rattle.tr_source.specs.py_meaning.Program.{Text as TextOf, or_none};
 ghost use Rattle.emit_measures.specs.TextLengths.{HasTextLength};
 ghost use Rattle.emit_measures.specs.declared.faults.Measures.{Measures};
 ghost use Rattle.emit_measures.specs.Faults.{fault_of, IsMeasured};

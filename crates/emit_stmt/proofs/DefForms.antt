@@ -1,13 +1,13 @@
 -- The code of functions' defaults and stores, from that of their parts.
 use Rattle.std.proofs.Common.{◌≡◌, ℕ, suc, ◌+◌, Bool, true, false, List, [], ◌∷◌, length, Option, Some, None, refl, sym, ap, ◌∙◌, subst, arith}
 use Rattle.std.specs.Prelude.{slice_get, ◌||◌, filter, is_some, if◌then◌else◌}
-use Rattle.bc_machine.specs.bc_ops.declared.instr.Op.TheVariants as ops
-use Rattle.bc_machine.specs.bc_ops.declared.instr.Instr.TheVariants as instrs
-use Rattle.bc_machine.specs.Library.{Name}
+use Rattle.emit_expr.specs.bc_machine.bc_ops.declared.instr.Op.TheVariants as ops
+use Rattle.emit_expr.specs.bc_machine.bc_ops.declared.instr.Instr.TheVariants as instrs
+use Rattle.emit_expr.specs.bc_machine.Library.{Name}
 use Rattle.py_tree.specs.declared.expr.Expr as trees
 use Rattle.py_tree.specs.declared.stmt.Param.{Param}
-use Rattle.py_meaning.specs.Tree.{Expr, Exprs, NoExpr, More, Def, Block, count}
-use Rattle.py_meaning.specs.Plain.{plain_expr, on_option, defaults_of}
+use Rattle.emit_expr.specs.py_meaning.Tree.{Expr, Exprs, NoExpr, More, Def, Block, count}
+use Rattle.emit_expr.specs.py_meaning.Plain.{plain_expr, on_option, defaults_of}
 use Rattle.emit_expr.specs.bc_scheme.Context.{Context, IsChild, plain, number, stores}
 use Rattle.emit_expr.specs.bc_scheme.Expressions.{StandsEs, no_expr, next}
 use Rattle.emit_expr.specs.bc_scheme.Statements as stands

@@ -6,13 +6,13 @@ use Rattle.std.proofs.lemmas.Bool.{eq-eqb}
 use Rattle.std.proofs.lemmas.List.{length-map}
 use Rattle.std.proofs.lemmas.List.Splits.{length-slice_split}
 use Rattle.std.proofs.lemmas.Bool.Decides.{eqb_tells}
-use Rattle.bc_machine.specs.bc_ops.declared.instr.Op.TheVariants as ops
-use Rattle.bc_machine.specs.bc_ops.declared.instr.Instr.TheVariants as instrs
-use Rattle.bc_machine.specs.Library.{Name, Plain, Names}
-use Rattle.bc_machine.specs.py_effects.Modules.{parts_of, first_of}
+use Rattle.emit_expr.specs.bc_machine.bc_ops.declared.instr.Op.TheVariants as ops
+use Rattle.emit_expr.specs.bc_machine.bc_ops.declared.instr.Instr.TheVariants as instrs
+use Rattle.emit_expr.specs.bc_machine.Library.{Name, Plain, Names}
+use Rattle.emit_expr.specs.bc_machine.py_effects.Modules.{parts_of, first_of}
 use Rattle.py_tree.specs.declared.stmt.Alias.{Alias}
-use Rattle.py_meaning.specs.Tree.{Import, From}
-use Rattle.py_meaning.specs.Statements.{bound_name, from_name, read_parts}
+use Rattle.emit_expr.specs.py_meaning.Tree.{Import, From}
+use Rattle.emit_expr.specs.py_meaning.Statements.{bound_name, from_name, read_parts}
 use Rattle.emit_expr.specs.bc_scheme.Context.{Context, Has, plain, number, stores}
 use Rattle.emit_expr.specs.bc_scheme.Statements as stands
 use Rattle.emit_expr.specs.bc_scheme.Statements.{Around, StandsR, StandsM, StandsN, StandsF, StandsS}

@@ -1,7 +1,7 @@
 -- What each step of a statement's code keeps of a draft, and what stands in the code behind it.
 use Rattle.std.proofs.Common.{◌≡◌, ℕ, suc, ◌≤◌, Bool, true, false, List, [], ◌∷◌, ◌++◌, length, map, Option, Some, None, refl, sym, ap, ◌∙◌, subst, arith, append_assoc, append-nil}
 use Rattle.std.specs.Prelude.{slice_get, ◌||◌}
-use Rattle.bc_machine.specs.Library.{Item, Line}
+use Rattle.emit_expr.specs.bc_machine.Library.{Item, Line}
 use Rattle.emit_expr.specs.bc_scheme.Context.{Context, Behind, line_in, line_before}
 use Rattle.emit_expr.specs.emit_draft.declared.draft.Draft.{Draft}
 use Rattle.emit_expr.specs.emit_draft.declared.draft.DraftItem.{DraftItem}

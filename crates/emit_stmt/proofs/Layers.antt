@@ -12,8 +12,8 @@ use Rattle.py_tree.specs.declared.stmt.StmtKind.{StmtKind, out-StmtKind}
 use Rattle.py_tree.specs.declared.stmt.StmtKind.TheVariants as s
 use Rattle.py_tree.specs.declared.stmt.StmtKind.TheOpen.{StmtKind-F}
 use Rattle.py_tree.specs.declared.stmt.StmtKind.TheFolds.{fold-roll-Branch, fold-roll-Handler, fold-roll-Stmt}
-use Rattle.py_meaning.specs.Tree.{Name, Expr, Target, Targets, Stmt, If, Pass, ReturnNone, Return, Reraise, Raise, Assert, AssertWith, Finally, TryFinally, Block, End, Next, Branches, Else, Case, Handlers}
-use Rattle.py_meaning.specs.Plain.{Part, Clause, part, also, plain_expr, plain_target, plain_stmt, targets, from_targets, augmented, on_option, numbered, handler_of, kind_step, branch_step, handler_step, stmt_step}
+use Rattle.emit_expr.specs.py_meaning.Tree.{Name, Expr, Target, Targets, Stmt, If, Pass, ReturnNone, Return, Reraise, Raise, Assert, AssertWith, Finally, TryFinally, Block, End, Next, Branches, Else, Case, Handlers}
+use Rattle.emit_expr.specs.py_meaning.Plain.{Part, Clause, part, also, plain_expr, plain_target, plain_stmt, targets, from_targets, augmented, on_option, numbered, handler_of, kind_step, branch_step, handler_step, stmt_step}
 use Rattle.emit_expr.specs.bc_scheme.Statements.{is_over}
 use Rattle.emit_stmt.specs.SimpleCrowded.{crowded_simple}
 use Rattle.emit_stmt.specs.Plain.{plain_kind, is_simple_layer, is_simple}
@@ -95,10 +95,10 @@ plain_from make [] h = record { none = refl; same = λ level entries. refl }
 plain_from make (t ∷ ts) h = h (targets t ts)
 
 plain_augmented : (t : Target) (op : _) (e : Expr) → IsPlain (augmented t op e)
-plain_augmented (Rattle.py_meaning.specs.Tree.ToName name) op e = record { none = refl; same = λ level entries. refl }
-plain_augmented (Rattle.py_meaning.specs.Tree.ToAttr x name) op e = record { none = refl; same = λ level entries. refl }
-plain_augmented (Rattle.py_meaning.specs.Tree.ToIndex x y) op e = record { none = refl; same = λ level entries. refl }
-plain_augmented (Rattle.py_meaning.specs.Tree.ToEach ts) op e = record { none = refl; same = λ level entries. refl }
+plain_augmented (Rattle.emit_expr.specs.py_meaning.Tree.ToName name) op e = record { none = refl; same = λ level entries. refl }
+plain_augmented (Rattle.emit_expr.specs.py_meaning.Tree.ToAttr x name) op e = record { none = refl; same = λ level entries. refl }
+plain_augmented (Rattle.emit_expr.specs.py_meaning.Tree.ToIndex x y) op e = record { none = refl; same = λ level entries. refl }
+plain_augmented (Rattle.emit_expr.specs.py_meaning.Tree.ToEach ts) op e = record { none = refl; same = λ level entries. refl }
 
 plain_option : (none : Stmt) (some : Expr → Stmt) (x : Option trees.Expr) → IsPlain none → ((e : Expr) → IsPlain (some e)) → IsPlain (on_option none some x)
 plain_option none some None h k = h
@@ -106,9 +106,9 @@ plain_option none some (Some x) h k = k (plain_expr x)
 
 plain_layer : (layer : Layer) (n : ℕ) → is_simple_layer layer ≡ true → IsPlain ((layer_part layer).make n)
 plain_layer (StmtKind-F.Expr x) n e = record { none = refl; same = λ level entries. refl }
-plain_layer (StmtKind-F.Assign ts x) n e = plain_from (λ us. Rattle.py_meaning.specs.Tree.Assign us (plain_expr x)) (map plain_target ts) (λ us. record { none = refl; same = λ level entries. refl })
+plain_layer (StmtKind-F.Assign ts x) n e = plain_from (λ us. Rattle.emit_expr.specs.py_meaning.Tree.Assign us (plain_expr x)) (map plain_target ts) (λ us. record { none = refl; same = λ level entries. refl })
 plain_layer (StmtKind-F.Aug t op x) n e = plain_augmented (plain_target t) op (plain_expr x)
-plain_layer (StmtKind-F.Del ts) n e = plain_from Rattle.py_meaning.specs.Tree.Delete (map plain_target ts) (λ us. record { none = refl; same = λ level entries. refl })
+plain_layer (StmtKind-F.Del ts) n e = plain_from Rattle.emit_expr.specs.py_meaning.Tree.Delete (map plain_target ts) (λ us. record { none = refl; same = λ level entries. refl })
 plain_layer StmtKind-F.Pass n e = record { none = refl; same = λ level entries. refl }
 plain_layer StmtKind-F.Break n e = record { none = refl; same = λ level entries. refl }
 plain_layer StmtKind-F.Continue n e = record { none = refl; same = λ level entries. refl }

@@ -1,11 +1,11 @@
 -- The code of loops, from that of their parts.
 use Rattle.std.proofs.Common.{◌≡◌, ℕ, suc, ◌+◌, ◌≤◌, Bool, true, false, ◌++◌, length, refl, sym, ap, ◌∙◌, subst, arith, length-append}
 use Rattle.std.specs.Prelude.{◌||◌}
-use Rattle.bc_machine.specs.bc_ops.declared.instr.Op.TheVariants as ops
-use Rattle.bc_machine.specs.bc_ops.declared.instr.Instr.TheVariants as instrs
-use Rattle.bc_machine.specs.Library.{Jumps}
-use Rattle.py_meaning.specs.Tree.{Expr, Target, While, For, Block}
-use Rattle.py_meaning.specs.Plain.{Part, part, also}
+use Rattle.emit_expr.specs.bc_machine.bc_ops.declared.instr.Op.TheVariants as ops
+use Rattle.emit_expr.specs.bc_machine.bc_ops.declared.instr.Instr.TheVariants as instrs
+use Rattle.emit_expr.specs.bc_machine.Library.{Jumps}
+use Rattle.emit_expr.specs.py_meaning.Tree.{Expr, Target, While, For, Block}
+use Rattle.emit_expr.specs.py_meaning.Plain.{Part, part, also}
 use Rattle.emit_expr.specs.bc_scheme.Context.{Context, Has, Behind, plain}
 use Rattle.emit_expr.specs.bc_scheme.Expressions.{StandsE}
 use Rattle.emit_expr.specs.bc_scheme.Statements as stands

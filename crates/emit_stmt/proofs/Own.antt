@@ -2,7 +2,7 @@
 use Rattle.std.proofs.Common.{◌≡◌, ℕ, suc, ◌+◌, List, [], ◌∷◌, ◌++◌, length, map, Some, refl, sym, ap, ◌∙◌, subst, arith, append_assoc, length-append}
 use Rattle.std.specs.Prelude.{slice_get}
 use Rattle.std.proofs.lemmas.List.{map-append}
-use Rattle.py_meaning.specs.Tree.{Stmt, If, While, For, Try, Finally, TryFinally, Def, Block, End, Next, Branches, Else, Case, Handlers, NoHandler, Any, On, OnAs}
+use Rattle.emit_expr.specs.py_meaning.Tree.{Stmt, If, While, For, Try, Finally, TryFinally, Def, Block, End, Next, Branches, Else, Case, Handlers, NoHandler, Any, On, OnAs}
 use Rattle.emit_expr.specs.bc_scheme.Context.{Context, IsChild}
 use Rattle.emit_expr.specs.bc_scheme.Translation.{own, own_in, own_of, own_by}
 use Rattle.emit_stmt.specs.Children.{Made, number_of, made, made_in, made_of, made_by, AreChildren, no_child, child}

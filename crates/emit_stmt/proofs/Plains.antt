@@ -14,8 +14,8 @@ use Rattle.py_tree.specs.declared.stmt.Target as aims
 use Rattle.py_tree.specs.declared.stmt.Target.TheVariants as aim
 use Rattle.py_tree.specs.declared.stmt.Target.TheOpen.{Target-F}
 use Rattle.py_tree.specs.declared.stmt.Target.TheFolds.{fold-roll-Target}
-use Rattle.py_meaning.specs.Tree.{Expr, Target, ToName, ToAttr, ToIndex, ToEach, Targets, Stmt, Assign, Delete, Pass, ReturnNone, Return, Reraise, Raise, Assert, AssertWith, Block, Branches}
-use Rattle.py_meaning.specs.Plain.{plain_expr, target_step, plain_target, targets, from_targets, augmented, on_option, Part, Clause, kind_step, branch_step, handler_step, stmt_step, plain_stmt}
+use Rattle.emit_expr.specs.py_meaning.Tree.{Expr, Target, ToName, ToAttr, ToIndex, ToEach, Targets, Stmt, Assign, Delete, Pass, ReturnNone, Return, Reraise, Raise, Assert, AssertWith, Block, Branches}
+use Rattle.emit_expr.specs.py_meaning.Plain.{plain_expr, target_step, plain_target, targets, from_targets, augmented, on_option, Part, Clause, kind_step, branch_step, handler_step, stmt_step, plain_stmt}
 use Rattle.emit_expr.specs.bc_scheme.Translation.{own_in}
 use Rattle.emit_stmt.specs.Plain.{plain_kind, is_simple_layer, is_simple}
 

@@ -1,12 +1,12 @@
 -- Statements, branches and clauses in a row: what stands so far, and what the rest will stand behind.
 use Rattle.std.proofs.Common.{◌≡◌, ℕ, suc, ◌+◌, ◌≤◌, Bool, true, false, ◌++◌, length, Option, Some, None, refl, sym, ap, ◌∙◌, subst, arith, length-append}
 use Rattle.std.specs.Prelude.{◌||◌}
-use Rattle.bc_machine.specs.bc_ops.declared.instr.Op.TheVariants as ops
-use Rattle.bc_machine.specs.bc_ops.declared.instr.Instr.TheVariants as instrs
-use Rattle.bc_machine.specs.Library.{Name, Jumps}
+use Rattle.emit_expr.specs.bc_machine.bc_ops.declared.instr.Op.TheVariants as ops
+use Rattle.emit_expr.specs.bc_machine.bc_ops.declared.instr.Instr.TheVariants as instrs
+use Rattle.emit_expr.specs.bc_machine.Library.{Name, Jumps}
 use Rattle.py_tree.specs.declared.expr.Expr as trees
-use Rattle.py_meaning.specs.Tree.{Expr, Stmt, If, Block, End, Next, Branches, Else, Case, Handlers, NoHandler, Any}
-use Rattle.py_meaning.specs.Plain.{Part, part, also, plain_expr, handler_of}
+use Rattle.emit_expr.specs.py_meaning.Tree.{Expr, Stmt, If, Block, End, Next, Branches, Else, Case, Handlers, NoHandler, Any}
+use Rattle.emit_expr.specs.py_meaning.Plain.{Part, part, also, plain_expr, handler_of}
 use Rattle.emit_expr.specs.bc_scheme.Context.{Context, Has, plain}
 use Rattle.emit_expr.specs.bc_scheme.Expressions.{StandsE}
 use Rattle.emit_expr.specs.bc_scheme.Statements as stands

@@ -2,7 +2,7 @@
 use Rattle.std.proofs.Common.{◌≡◌, ℕ, zero, suc, ◌+◌, ◌<◌, ◌≤◌, Bool, true, false, List, [], ◌∷◌, length, drop, get_or, add-one, arith, refl, sym, ap, ◌∙◌, subst}
 use Rattle.std.specs.Prelude.{◌||◌, ◌↔◌, IsTrue}
 use Rattle.std.proofs.lemmas.List.{drop_all}
-use Rattle.bc_machine.specs.bc_ops.declared.instr.Op.TheVariants as ops
+use Rattle.emit_expr.specs.bc_machine.bc_ops.declared.instr.Op.TheVariants as ops
 use Rattle.emit_expr.specs.bc_scheme.Context.{Context}
 use Rattle.emit_expr.specs.emit_draft.declared.draft.Draft.{Draft}
 use Rattle.emit_expr.specs.emit_draft.declared.scope.Scope.{Scope}

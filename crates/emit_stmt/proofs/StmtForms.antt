@@ -2,13 +2,13 @@
 use Rattle.std.proofs.Common.{◌≡◌, ℕ, zero, suc, ◌+◌, ◌<◌, ◌≤◌, Bool, true, false, List, [], ◌∷◌, map, Some, None, refl, sym, ap, ◌∙◌, subst, arith, codes, nat_lt}
 use Rattle.std.specs.Prelude.{slice_get, ◌||◌}
 use Rattle.std.proofs.lemmas.Bool.{lt-ltb, le-ltb}
-use Rattle.bc_machine.specs.bc_ops.declared.instr.Op.TheVariants as ops
-use Rattle.bc_machine.specs.bc_ops.declared.instr.Instr.TheVariants as instrs
-use Rattle.bc_machine.specs.Library.{Names, Jumps, Unwinds}
+use Rattle.emit_expr.specs.bc_machine.bc_ops.declared.instr.Op.TheVariants as ops
+use Rattle.emit_expr.specs.bc_machine.bc_ops.declared.instr.Instr.TheVariants as instrs
+use Rattle.emit_expr.specs.bc_machine.Library.{Names, Jumps, Unwinds}
 use Rattle.py_tree.specs.declared.expr.BinaryOp.{BinaryOp}
 use Rattle.py_tree.specs.declared.stmt.Target as aims
-use Rattle.py_meaning.specs.Tree.{Name, Expr, ToName, ToEach, Stmt, Do, AugName, AugAttr, AugIndex, Pass, Break, Continue, ReturnNone, Return, Reraise, Raise, Assert, AssertWith}
-use Rattle.py_meaning.specs.Plain.{plain_target, from_targets, augmented}
+use Rattle.emit_expr.specs.py_meaning.Tree.{Name, Expr, ToName, ToEach, Stmt, Do, AugName, AugAttr, AugIndex, Pass, Break, Continue, ReturnNone, Return, Reraise, Raise, Assert, AssertWith}
+use Rattle.emit_expr.specs.py_meaning.Plain.{plain_target, from_targets, augmented}
 use Rattle.emit_expr.specs.bc_scheme.Context.{Context, Has, plain, number, loads, stores, arithmetic, in_place}
 use Rattle.emit_expr.specs.bc_scheme.Expressions.{StandsE}
 use Rattle.emit_expr.specs.bc_scheme.Statements as stands

@@ -1,12 +1,12 @@
 -- The code of stores and of deletions, from that of their parts.
 use Rattle.std.proofs.Common.{◌≡◌, ℕ, suc, Bool, true, false, List, [], ◌∷◌, ◌++◌, length, map, refl, sym, ap, ◌∙◌, subst, arith}
 use Rattle.std.specs.Prelude.{◌||◌}
-use Rattle.bc_machine.specs.bc_ops.declared.instr.Op.TheVariants as ops
-use Rattle.bc_machine.specs.bc_ops.declared.instr.Instr.TheVariants as instrs
-use Rattle.bc_machine.specs.Library.{Names}
+use Rattle.emit_expr.specs.bc_machine.bc_ops.declared.instr.Op.TheVariants as ops
+use Rattle.emit_expr.specs.bc_machine.bc_ops.declared.instr.Instr.TheVariants as instrs
+use Rattle.emit_expr.specs.bc_machine.Library.{Names}
 use Rattle.py_tree.specs.declared.stmt.Target as aims
-use Rattle.py_meaning.specs.Tree.{Name, Expr, Target, ToName, ToAttr, ToIndex, ToEach, Targets, target_count, Stmt, Assign, Delete, Pass}
-use Rattle.py_meaning.specs.Plain.{plain_target, targets, from_targets}
+use Rattle.emit_expr.specs.py_meaning.Tree.{Name, Expr, Target, ToName, ToAttr, ToIndex, ToEach, Targets, target_count, Stmt, Assign, Delete, Pass}
+use Rattle.emit_expr.specs.py_meaning.Plain.{plain_target, targets, from_targets}
 use Rattle.emit_expr.specs.bc_scheme.Context.{Context, Has, plain, number, stores, deletes}
 use Rattle.emit_expr.specs.bc_scheme.Expressions.{StandsE}
 use Rattle.emit_expr.specs.bc_scheme.Statements as stands

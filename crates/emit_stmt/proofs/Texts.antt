@@ -2,10 +2,10 @@
 use Rattle.std.proofs.Common.{◌≡◌, ℕ, false, [], length, map, sym, ap, ◌∙◌, subst, append-nil}
 use Rattle.std.specs.Prelude.{◌||◌}
 use Rattle.std.proofs.lemmas.List.{length-map}
-use Rattle.bc_machine.specs.bc_ops.declared.instr.Op.TheVariants as ops
-use Rattle.bc_machine.specs.bc_ops.declared.instr.Instr.TheVariants as instrs
-use Rattle.py_meaning.specs.Tree.{Block}
-use Rattle.py_meaning.specs.Plain.{Part}
+use Rattle.emit_expr.specs.bc_machine.bc_ops.declared.instr.Op.TheVariants as ops
+use Rattle.emit_expr.specs.bc_machine.bc_ops.declared.instr.Instr.TheVariants as instrs
+use Rattle.emit_expr.specs.py_meaning.Tree.{Block}
+use Rattle.emit_expr.specs.py_meaning.Plain.{Part}
 use Rattle.emit_expr.specs.bc_scheme.Context.{Context, plain}
 use Rattle.emit_expr.specs.bc_scheme.Statements.{Around, StandsB}
 use Rattle.emit_expr.specs.emit_draft.declared.draft.Draft.{Draft}

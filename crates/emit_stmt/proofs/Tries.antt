@@ -2,12 +2,12 @@
 use Rattle.std.proofs.Common.{◌≡◌, ℕ, suc, ◌+◌, ◌≤◌, Bool, false, ◌++◌, length, Option, Some, None, sym, ap, ◌∙◌, subst, arith, length-append}
 use Rattle.std.specs.Prelude.{slice_get, ◌||◌}
 use Rattle.std.proofs.lemmas.Option.{slice_get_within}
-use Rattle.bc_machine.specs.bc_ops.declared.instr.Op.TheVariants as ops
-use Rattle.bc_machine.specs.bc_ops.declared.instr.Instr.TheVariants as instrs
-use Rattle.bc_machine.specs.Library.{Name, Jumps}
+use Rattle.emit_expr.specs.bc_machine.bc_ops.declared.instr.Op.TheVariants as ops
+use Rattle.emit_expr.specs.bc_machine.bc_ops.declared.instr.Instr.TheVariants as instrs
+use Rattle.emit_expr.specs.bc_machine.Library.{Name, Jumps}
 use Rattle.py_tree.specs.declared.expr.Expr as trees
-use Rattle.py_meaning.specs.Tree.{Expr, Stmt, Try, Finally, TryFinally, Block, Handlers}
-use Rattle.py_meaning.specs.Plain.{Part, part, also, plain_expr, handler_of}
+use Rattle.emit_expr.specs.py_meaning.Tree.{Expr, Stmt, Try, Finally, TryFinally, Block, Handlers}
+use Rattle.emit_expr.specs.py_meaning.Plain.{Part, part, also, plain_expr, handler_of}
 use Rattle.emit_expr.specs.bc_scheme.Context.{Context, Has, Behind, plain, stores, deletes, matching}
 use Rattle.emit_expr.specs.bc_scheme.Expressions.{StandsE}
 use Rattle.emit_expr.specs.bc_scheme.Statements as stands

@@ -2,8 +2,8 @@
 use Rattle.std.proofs.Common.{◌≡◌, ℕ, ◌+◌, ◌≤◌, Bool, true, List, [], ◌∷◌, length, drop, Option, Some, None, refl, sym, ap, ◌∙◌, subst, arith, length-drop}
 use Rattle.std.specs.Prelude.{◌↔◌, IsTrue, slice_get, Result, Ok, Err, IfOk}
 use Rattle.std.proofs.lemmas.List.{drop_all}
-use Rattle.bc_machine.specs.bc_ops.declared.instr.Op.TheVariants as ops
-use Rattle.bc_machine.specs.bc_ops.declared.instr.Instr.TheVariants as instrs
+use Rattle.emit_expr.specs.bc_machine.bc_ops.declared.instr.Op.TheVariants as ops
+use Rattle.emit_expr.specs.bc_machine.bc_ops.declared.instr.Instr.TheVariants as instrs
 use Rattle.py_tree.specs.declared.expr.Expr as trees
 use Rattle.py_tree.specs.declared.stmt.Branch.{Branch, out-Branch}
 use Rattle.py_tree.specs.declared.stmt.Handler.{Handler, out-Handler}
@@ -11,8 +11,8 @@ use Rattle.py_tree.specs.declared.stmt.Param.{Param}
 use Rattle.py_tree.specs.declared.stmt.Stmt as stmts
 use Rattle.py_tree.specs.declared.stmt.Stmt.{out-Stmt}
 use Rattle.py_tree.specs.declared.stmt.StmtKind.{StmtKind}
-use Rattle.py_meaning.specs.Tree.{Name, Exprs, count, Stmt, Block, Next, Branches, Else, Case, Handlers}
-use Rattle.py_meaning.specs.Plain.{Part, Clause, part, also, plain_expr, numbered, defaults_of, handler_of}
+use Rattle.emit_expr.specs.py_meaning.Tree.{Name, Exprs, count, Stmt, Block, Next, Branches, Else, Case, Handlers}
+use Rattle.emit_expr.specs.py_meaning.Plain.{Part, Clause, part, also, plain_expr, numbered, defaults_of, handler_of}
 use Rattle.emit_expr.specs.bc_scheme.Context.{Context, IsChild}
 use Rattle.emit_expr.specs.bc_scheme.Statements.{StandsS}
 use Rattle.emit_expr.specs.emit_draft.declared.draft.Draft.{Draft}

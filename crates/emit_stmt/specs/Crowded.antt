@@ -1,6 +1,6 @@
 -- What has more members than its instruction can name, in statements with bodies.
 use Rattle.std.specs.Prelude.{ℕ, suc, Bool, false, ◌||◌}
-use Rattle.py_meaning.specs.Tree.{Stmt, If, While, For, Try, Finally, TryFinally, Block, End, Next, Branches, Else, Case, Handlers, NoHandler, Any, On, OnAs}
+use Rattle.emit_expr.specs.py_meaning.Tree.{Stmt, If, While, For, Try, Finally, TryFinally, Block, End, Next, Branches, Else, Case, Handlers, NoHandler, Any, On, OnAs}
 use Rattle.emit_expr.specs.Crowded.{crowded}
 use Rattle.emit_stmt.specs.SimpleCrowded.{crowded_target, crowded_simple, passes_entries}
 

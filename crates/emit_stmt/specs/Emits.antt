@@ -2,8 +2,8 @@
 -- first one on, and the code's children from an index up to another are its own functions.
 use Rattle.std.specs.Prelude.{◌≡◌, ◌≤◌, ℕ, suc, ◌+◌, Bool, false, ◌||◌, length, Option, Some, None}
 use Rattle.py_tree.specs.declared.expr.Expr as trees
-use Rattle.py_meaning.specs.Tree.{Name, Expr, Stmt, Block, Branches, Case, Handlers}
-use Rattle.py_meaning.specs.Plain.{Part, plain_expr, handler_of}
+use Rattle.emit_expr.specs.py_meaning.Tree.{Name, Expr, Stmt, Block, Branches, Case, Handlers}
+use Rattle.emit_expr.specs.py_meaning.Plain.{Part, plain_expr, handler_of}
 use Rattle.emit_expr.specs.bc_scheme.Statements.{StandsS, StandsB, StandsI, StandsH, is_over}
 use Rattle.emit_expr.specs.emit_draft.declared.draft.Draft.{Draft}
 use Rattle.emit_expr.specs.emit_draft.declared.scope.Scope.{Scope}

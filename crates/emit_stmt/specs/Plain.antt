@@ -6,8 +6,8 @@ use Rattle.py_tree.specs.declared.stmt.Stmt as stmts
 use Rattle.py_tree.specs.declared.stmt.StmtKind.{StmtKind, out-StmtKind}
 use Rattle.py_tree.specs.declared.stmt.StmtKind.TheOpen.{StmtKind-F}
 use Rattle.py_tree.specs.declared.stmt.StmtKind.TheFolds.{fold-StmtKind}
-use Rattle.py_meaning.specs.Tree.{Stmt, Block, Branches}
-use Rattle.py_meaning.specs.Plain.{Part, Clause, kind_step, branch_step, handler_step, stmt_step}
+use Rattle.emit_expr.specs.py_meaning.Tree.{Stmt, Block, Branches}
+use Rattle.emit_expr.specs.py_meaning.Plain.{Part, Clause, kind_step, branch_step, handler_step, stmt_step}
 
 -- what a statement is read as, its line apart
 abbrev pub plain_kind : StmtKind → Part Stmt

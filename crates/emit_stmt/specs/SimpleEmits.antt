@@ -1,8 +1,8 @@
 -- Which code of a statement stands between the ends of two drafts.
 use Rattle.std.specs.Prelude.{◌≡◌, ℕ, ◌+◌, Bool, false, List, ◌∷◌, length, Some, slice_get}
 use Rattle.py_tree.specs.declared.stmt.Alias.{Alias}
-use Rattle.bc_machine.specs.Library.{Name}
-use Rattle.py_meaning.specs.Tree.{Target, Stmt, Def, Exprs, Block, count}
+use Rattle.emit_expr.specs.bc_machine.Library.{Name}
+use Rattle.emit_expr.specs.py_meaning.Tree.{Target, Stmt, Def, Exprs, Block, count}
 use Rattle.emit_expr.specs.bc_scheme.Context.{IsChild}
 use Rattle.emit_expr.specs.bc_scheme.Statements.{Around, StandsT, StandsG, StandsR, StandsM, StandsN, StandsF, StandsJ, StandsDef, StandsS}
 use Rattle.emit_expr.specs.emit_draft.declared.draft.Draft.{Draft}

@@ -1,8 +1,8 @@
 -- What stands behind a body, in clauses, and one entry more in a loop.
 use Rattle.std.specs.Prelude.{◌≡◌, ℕ, suc, false, ◌||◌, List, [], ◌∷◌, ◌++◌, Option, Some, None, length}
-use Rattle.bc_machine.specs.bc_ops.declared.instr.Op.TheVariants as ops
-use Rattle.bc_machine.specs.Library.{Name, Item, Jumps}
-use Rattle.py_meaning.specs.Tree.{Expr, Block}
+use Rattle.emit_expr.specs.bc_machine.bc_ops.declared.instr.Op.TheVariants as ops
+use Rattle.emit_expr.specs.bc_machine.Library.{Name, Item, Jumps}
+use Rattle.emit_expr.specs.py_meaning.Tree.{Expr, Block}
 use Rattle.emit_expr.specs.bc_scheme.Context.{Context, Has, Behind, plain, stores, deletes, matching}
 use Rattle.emit_expr.specs.bc_scheme.Expressions.{StandsE}
 use Rattle.emit_expr.specs.bc_scheme.Statements.{Around, deeper, StandsB}

@@ -1,8 +1,8 @@
 -- The whole code of a module or a function.
 use Rattle.std.specs.Prelude.{◌≡◌, ℕ, suc, false, length, map}
-use Rattle.bc_machine.specs.bc_ops.declared.instr.Op.TheVariants as ops
-use Rattle.py_meaning.specs.Tree.{Block}
-use Rattle.py_meaning.specs.Plain.{Part}
+use Rattle.emit_expr.specs.bc_machine.bc_ops.declared.instr.Op.TheVariants as ops
+use Rattle.emit_expr.specs.py_meaning.Tree.{Block}
+use Rattle.emit_expr.specs.py_meaning.Plain.{Part}
 use Rattle.emit_expr.specs.bc_scheme.Context.{Context, Behind, plain}
 use Rattle.emit_expr.specs.bc_scheme.Statements.{StandsB}
 use Rattle.emit_expr.specs.emit_draft.declared.draft.Draft.{Draft}

@@ -1,8 +1,8 @@
 //! Assertions, which have no code from level 1 of optimization on.
 
 ghost use Rattle.std.specs.Prelude.{OnOk};
-ghost use Rattle.py_meaning.specs.Tree.{Assert, AssertWith};
-ghost use Rattle.py_meaning.specs.Plain.{plain_expr, on_option};
+ghost use Rattle.emit_expr.specs.py_meaning.Tree.{Assert, AssertWith};
+ghost use Rattle.emit_expr.specs.py_meaning.Plain.{plain_expr, on_option};
 ghost use Rattle.emit_stmt.specs.declared.jumps.Loop.{Loop as Around};
 ghost use Rattle.emit_stmt.specs.SimpleEmits.{EmitsS};
 

@@ -1,12 +1,12 @@
 //! Assignments to one or more targets, and those with an operator.
 
 ghost use Rattle.std.specs.Prelude.{map, OnOk};
-ghost use Rattle.bc_machine.specs.bc_ops.declared.instr.Instr.TheVariants as instrs;
+ghost use Rattle.emit_expr.specs.bc_machine.bc_ops.declared.instr.Instr.TheVariants as instrs;
 ghost use Rattle.emit_expr.specs.bc_scheme.Context.{arithmetic};
 ghost use Rattle.emit_expr.specs.emit_draft.Draft.{Puts};
 ghost use Rattle.emit_expr.specs.emit_draft.declared.draft.DraftItem.TheVariants as drafts;
-ghost use Rattle.py_meaning.specs.Tree.{Assign, AugName, AugAttr, AugIndex, Pass};
-ghost use Rattle.py_meaning.specs.Plain.{plain_expr, plain_target, from_targets, augmented};
+ghost use Rattle.emit_expr.specs.py_meaning.Tree.{Assign, AugName, AugAttr, AugIndex, Pass};
+ghost use Rattle.emit_expr.specs.py_meaning.Plain.{plain_expr, plain_target, from_targets, augmented};
 ghost use Rattle.emit_stmt.specs.declared.jumps.Loop.{Loop as Around};
 ghost use Rattle.emit_stmt.specs.SimpleEmits.{EmitsS};
 

@@ -3,7 +3,7 @@
 ghost use Rattle.std.specs.Prelude.{◌≡◌, ℕ, ◌+◌, ◌^◌, ◌<◌, Some, None, IfOk, slice_get};
 ghost use Rattle.py_tree.specs.declared.stmt.Branch.{out-Branch};
 ghost use Rattle.py_tree.specs.declared.stmt.Stmt.{out-Stmt};
-ghost use Rattle.py_meaning.specs.Plain.{plain_expr};
+ghost use Rattle.emit_expr.specs.py_meaning.Plain.{plain_expr};
 ghost use Rattle.emit_stmt.specs.Plain.{plain_kind};
 ghost use Rattle.emit_stmt.specs.Parts.{plain_block, plain_handlers, if_part, while_part, for_part, try_part, finally_part};
 ghost use Rattle.emit_stmt.specs.Emits.{EmitsB, EmitsP, EmitsCase, EmitsH, EmitsClause, EmitsMatched, EmitsLast};

@@ -1,8 +1,8 @@
 //! Functions, without their bodies.
 
 ghost use Rattle.std.specs.Prelude.{◌≡◌, ℕ, OnOk};
-ghost use Rattle.py_meaning.specs.Tree.{NoExpr, More, count};
-ghost use Rattle.py_meaning.specs.Plain.{on_option, defaults_of};
+ghost use Rattle.emit_expr.specs.py_meaning.Tree.{NoExpr, More, count};
+ghost use Rattle.emit_expr.specs.py_meaning.Plain.{on_option, defaults_of};
 ghost use Rattle.emit_expr.specs.Emits.{EmitsEs};
 ghost use Rattle.emit_stmt.specs.SimpleEmits.{EmitsMaking, EmitsDef};
 

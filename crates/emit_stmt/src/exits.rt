@@ -1,8 +1,8 @@
 //! Ends of a function or of a run.
 
 ghost use Rattle.std.specs.Prelude.{OnOk};
-ghost use Rattle.py_meaning.specs.Tree.{ReturnNone, Return, Reraise, Raise};
-ghost use Rattle.py_meaning.specs.Plain.{on_option};
+ghost use Rattle.emit_expr.specs.py_meaning.Tree.{ReturnNone, Return, Reraise, Raise};
+ghost use Rattle.emit_expr.specs.py_meaning.Plain.{on_option};
 ghost use Rattle.emit_stmt.specs.declared.jumps.Loop.{Loop as Around};
 ghost use Rattle.emit_stmt.specs.SimpleEmits.{EmitsS};
 

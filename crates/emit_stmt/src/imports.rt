@@ -2,8 +2,8 @@
 
 ghost use Rattle.std.specs.Prelude.{◌≡◌, ◌==◌, map, OnOk, IfOk};
 ghost use Rattle.std.specs.List.{slice_split};
-ghost use Rattle.py_meaning.specs.Tree.{Import, From};
-ghost use Rattle.py_meaning.specs.Statements.{from_name};
+ghost use Rattle.emit_expr.specs.py_meaning.Tree.{Import, From};
+ghost use Rattle.emit_expr.specs.py_meaning.Statements.{from_name};
 ghost use Rattle.emit_expr.specs.emit_draft.declared.scope.Scope.{Scope as Names};
 ghost use Rattle.emit_stmt.specs.declared.jumps.Loop.{Loop as Around};
 ghost use Rattle.emit_stmt.specs.SimpleEmits.{EmitsR, EmitsM, EmitsN, EmitsF, EmitsS};

@@ -1,7 +1,7 @@
 //! The functions of a text, by their numbers and as children.
 
 ghost use Rattle.std.specs.Prelude.{◌≡◌, ℕ, ◌+◌, List, map, Some, slice_get};
-ghost use Rattle.py_meaning.specs.Tree.{Block};
+ghost use Rattle.emit_expr.specs.py_meaning.Tree.{Block};
 ghost use Rattle.emit_expr.specs.bc_scheme.Context.{Context, IsChild};
 ghost use Rattle.emit_expr.specs.bc_scheme.Translation.{own as own_numbers};
 ghost use Rattle.emit_stmt.specs.Children.{Made, number_of, made, AreChildren};

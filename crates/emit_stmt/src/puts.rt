@@ -1,7 +1,7 @@
 //! Single instructions that statements put, and the loads, stores and deletions of names.
 
 ghost use Rattle.std.specs.Prelude.{OnOk};
-ghost use Rattle.bc_machine.specs.bc_ops.declared.instr.Instr.TheVariants as instrs;
+ghost use Rattle.emit_expr.specs.bc_machine.bc_ops.declared.instr.Instr.TheVariants as instrs;
 ghost use Rattle.emit_expr.specs.bc_scheme.Context.{loads, stores, deletes};
 ghost use Rattle.emit_expr.specs.emit_draft.Draft.{Puts};
 ghost use Rattle.emit_expr.specs.emit_draft.declared.draft.DraftItem.TheVariants as drafts;

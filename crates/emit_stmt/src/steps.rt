@@ -1,9 +1,9 @@
 //! What stands behind a body, and one entry more in a loop.
 
 ghost use Rattle.std.specs.Prelude.{◌≡◌, ◌↔◌, true, false, IsTrue, OnOk};
-ghost use Rattle.bc_machine.specs.bc_ops.declared.instr.Op.TheVariants as ops;
+ghost use Rattle.emit_expr.specs.bc_machine.bc_ops.declared.instr.Op.TheVariants as ops;
 ghost use Rattle.emit_expr.specs.emit_draft.declared.draft.DraftItem.TheVariants as drafts;
-ghost use Rattle.py_meaning.specs.Plain.{plain_expr};
+ghost use Rattle.emit_expr.specs.py_meaning.Plain.{plain_expr};
 ghost use Rattle.emit_stmt.specs.Steps.{last_line, PutsBehind, Deepens, EmitsMatch, EmitsGone};
 
 use crate::jumps::Loop;

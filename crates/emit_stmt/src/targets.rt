@@ -1,8 +1,8 @@
 //! Stores of the topmost value into targets, and deletions.
 
 ghost use Rattle.std.specs.Prelude.{[], map, OnOk};
-ghost use Rattle.py_meaning.specs.Tree.{ToName, ToEach, Pass, Delete};
-ghost use Rattle.py_meaning.specs.Plain.{plain_target, from_targets};
+ghost use Rattle.emit_expr.specs.py_meaning.Tree.{ToName, ToEach, Pass, Delete};
+ghost use Rattle.emit_expr.specs.py_meaning.Plain.{plain_target, from_targets};
 ghost use Rattle.emit_stmt.specs.declared.jumps.Loop.{Loop as Around};
 ghost use Rattle.emit_stmt.specs.SimpleEmits.{EmitsT, EmitsG, EmitsS};
 

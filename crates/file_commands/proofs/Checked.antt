@@ -2,8 +2,8 @@
 use Rattle.std.proofs.Common.{ℕ, List, Option, Err}
 use Rattle.std.proofs.KnownBytes.{Keeps-refl}
 use Rattle.mpy_io.specs.Files.{FileOf}
-use Rattle.mpy_endings.specs.declared.ending.Ending.{Ending}
-use Rattle.mpy_endings.specs.declared.ending.Ending.TheVariants.{Done, Unaccepted, Unread, Unverified, Unmerged, Unopened, Unfrozen, Unboarded, Different, Stopped, ReadFault, WriteFault, Unwritten, NoMemory, Absent}
+use Rattle.command_files.specs.mpy_endings.declared.ending.Ending.{Ending}
+use Rattle.command_files.specs.mpy_endings.declared.ending.Ending.TheVariants.{Done, Unaccepted, Unread, Unverified, Unmerged, Unopened, Unfrozen, Unboarded, Different, Stopped, ReadFault, WriteFault, Unwritten, NoMemory, Absent}
 use Rattle.command_files.specs.Folder.{IsNotRead}
 use Rattle.command_files.specs.Opened.{Opens}
 use Rattle.command_files.proofs.Long.{not_read}

@@ -8,21 +8,21 @@ use Rattle.mpy_base.specs.declared.refused.Refused.TheVariants as refused
 use Rattle.mpy_base.specs.declared.source.SourceFault.{SourceFault}
 use Rattle.mpy_base.specs.Fault.{too_long}
 use Rattle.mpy_io.specs.Files.{FileOf}
-use Rattle.mpy_writer.specs.mpy_tree.declared.module.ModuleCode.{ModuleCode}
-use Rattle.mpy_writer.specs.mpy_tree.File.{IsModule, IsFile}
-use Rattle.mpy_writer.specs.mpy_tree.Raw.{Module}
-use Rattle.mpy_writer.specs.mpy_tree.Resolved.{ResolvedModule, Resolves, name_at}
+use Rattle.command_files.specs.mpy_writer.mpy_tree.declared.module.ModuleCode.{ModuleCode}
+use Rattle.command_files.specs.mpy_writer.mpy_tree.File.{IsModule, IsFile}
+use Rattle.command_files.specs.mpy_writer.mpy_tree.Raw.{Module}
+use Rattle.command_files.specs.mpy_writer.mpy_tree.Resolved.{ResolvedModule, Resolves, name_at}
 use Rattle.mpy_reader.specs.declared.fault.FileFault.{FileFault}
 use Rattle.mpy_reader.specs.Reading.{FirstFault}
 use Rattle.trans_check.specs.trans_parts.declared.part.What.{What}
 use Rattle.trans_check.specs.declared.comparing.Compared.{Compared}
 use Rattle.trans_check.specs.declared.comparing.Compared.TheVariants.{Same, Differs}
 use Rattle.trans_check.specs.Says.{Says}
-use Rattle.mpy_compile.specs.Compiled.{IsFileOf, IsCompiled, IsFault, Refuses}
-use Rattle.mpy_compile.specs.Checked.{Compares}
-use Rattle.mpy_endings.specs.declared.ending.Ended.{Ended}
-use Rattle.mpy_endings.specs.declared.ending.Ending.{Ending}
-use Rattle.mpy_endings.specs.declared.ending.Ending.TheVariants.{Done, Unaccepted, Unread, Unverified, Unmerged, Unopened, Unfrozen, Unboarded, Different, Stopped, ReadFault, WriteFault, Unwritten, NoMemory, Absent}
+use Rattle.command_files.specs.mpy_compile.Compiled.{IsFileOf, IsCompiled, IsFault, Refuses}
+use Rattle.command_files.specs.mpy_compile.Checked.{Compares}
+use Rattle.command_files.specs.mpy_endings.declared.ending.Ended.{Ended}
+use Rattle.command_files.specs.mpy_endings.declared.ending.Ending.{Ending}
+use Rattle.command_files.specs.mpy_endings.declared.ending.Ending.TheVariants.{Done, Unaccepted, Unread, Unverified, Unmerged, Unopened, Unfrozen, Unboarded, Different, Stopped, ReadFault, WriteFault, Unwritten, NoMemory, Absent}
 use Rattle.command_files.specs.Folder.{MayHold, IsNotRead}
 use Rattle.command_files.specs.Source.{HoldsFaulty}
 use Rattle.command_files.proofs.Long.{not_read, long_faulty}

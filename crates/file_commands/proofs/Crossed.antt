@@ -1,11 +1,11 @@
 -- What a command that writes a file does to the others, and a source that is too long to be read.
 use Rattle.std.proofs.Common.{◌≡◌, ℕ, List, Option, Some, subst}
 use Rattle.mpy_io.specs.Files.{FileOf, Becomes, BecomesFront}
-use Rattle.mpy_endings.specs.declared.ending.Ending.{Ending}
-use Rattle.mpy_endings.specs.declared.ending.Ending.TheVariants.{Done, Unaccepted, Unread, Unverified, Unmerged, Unopened, Unfrozen, Unboarded, Different, Stopped, ReadFault, WriteFault, Unwritten, NoMemory, Absent}
+use Rattle.command_files.specs.mpy_endings.declared.ending.Ending.{Ending}
+use Rattle.command_files.specs.mpy_endings.declared.ending.Ending.TheVariants.{Done, Unaccepted, Unread, Unverified, Unmerged, Unopened, Unfrozen, Unboarded, Different, Stopped, ReadFault, WriteFault, Unwritten, NoMemory, Absent}
 use Rattle.file_commands.specs.Cross.{HoldsCompiled, Crosses}
 use Rattle.command_files.specs.Folder.{ChangesOnly, MayHold}
-use Rattle.mpy_compile.specs.Compiled.{CompilesTo}
+use Rattle.command_files.specs.mpy_compile.Compiled.{CompilesTo}
 use Rattle.command_files.proofs.Others.{same_only, became_only, front_only}
 
 pub crosses_only : (level : ℕ) (name stored written : List ℕ) (old new : Option FileOf) (ending : Ending) → Crosses level name stored written old new ending → ChangesOnly old new written

@@ -4,14 +4,14 @@ use Rattle.std.proofs.lemmas.Bool.{ltb-true}
 use Rattle.std.proofs.lemmas.List.Elements.{All-map}
 use Rattle.mpy_base.specs.declared.source.SourceFault.{SourceFault}
 use Rattle.mpy_io.specs.Files.{FileOf}
-use Rattle.mpy_writer.specs.mpy_tree.File.{IsAscii}
-use Rattle.mpy_compile.specs.Compiled.{CompilesTo}
-use Rattle.mpy_compile.specs.Compiled as made
-use Rattle.mpy_endings.specs.declared.ending.Ending.{Ending}
-use Rattle.mpy_endings.specs.declared.ending.Ending.TheVariants.{Done, Unaccepted, Unread, Unverified, Unmerged, Unopened, Unfrozen, Unboarded, Different, Stopped, ReadFault, WriteFault, Unwritten, NoMemory, Absent}
-use Rattle.mpy_endings.specs.Ending.{IsSettled}
+use Rattle.command_files.specs.mpy_writer.mpy_tree.File.{IsAscii}
+use Rattle.command_files.specs.mpy_compile.Compiled.{CompilesTo}
+use Rattle.command_files.specs.mpy_compile.Compiled as made
+use Rattle.command_files.specs.mpy_endings.declared.ending.Ending.{Ending}
+use Rattle.command_files.specs.mpy_endings.declared.ending.Ending.TheVariants.{Done, Unaccepted, Unread, Unverified, Unmerged, Unopened, Unfrozen, Unboarded, Different, Stopped, ReadFault, WriteFault, Unwritten, NoMemory, Absent}
+use Rattle.command_files.specs.mpy_endings.Ending.{IsSettled}
 use Rattle.file_commands.specs.Cross.{Crosses}
-use Rattle.source_files.specs.Sources.{ascii_of, stored}
+use Rattle.command_files.specs.source_files.Sources.{ascii_of, stored}
 
 -- ---- one ending
 

@@ -5,7 +5,7 @@ use Rattle.std.specs.Io.KnownBytes.{Appends, Keeps}
 use Rattle.std.proofs.KnownBytes.{Appends-kept}
 use Rattle.mpy_io.specs.Files.{FileOf}
 use Rattle.mpy_io.specs.Told.{AppendsFront}
-use Rattle.mpy_endings.specs.declared.ending.Ending.TheVariants.{Done, WriteFault}
+use Rattle.command_files.specs.mpy_endings.declared.ending.Ending.TheVariants.{Done, WriteFault}
 use Rattle.file_commands.specs.Check.{Checks, verified_line}
 use Rattle.file_commands.specs.CheckAs.{ChecksAs, translation_line}
 use Rattle.file_commands.specs.Cross.{Crosses}

@@ -1,3 +1,4 @@
+pub use Rattle.mpy_merge.proofs as mpy_merge_lemmas
 pub mod Checked
 mod CheckedAs
 pub mod Crossed

@@ -7,15 +7,15 @@ use Rattle.mpy_base.specs.declared.refused.Refused.{Refused}
 use Rattle.mpy_base.specs.declared.refused.Refused.TheVariants as refusals
 use Rattle.mpy_merge.specs.declared.fault.MergeFault.{MergeFault}
 use Rattle.mpy_io.specs.Files.{FileOf}
-use Rattle.mpy_writer.specs.mpy_tree.Raw.{Module}
-use Rattle.mpy_endings.specs.declared.ending.Ending.{Ending}
-use Rattle.mpy_endings.specs.declared.ending.Ending.TheVariants.{Done, Unaccepted, Unread, Unverified, Unmerged, Unopened, Unfrozen, Unboarded, Different, Stopped, ReadFault, WriteFault, Unwritten, NoMemory, Absent}
+use Rattle.command_files.specs.mpy_writer.mpy_tree.Raw.{Module}
+use Rattle.command_files.specs.mpy_endings.declared.ending.Ending.{Ending}
+use Rattle.command_files.specs.mpy_endings.declared.ending.Ending.TheVariants.{Done, Unaccepted, Unread, Unverified, Unmerged, Unopened, Unfrozen, Unboarded, Different, Stopped, ReadFault, WriteFault, Unwritten, NoMemory, Absent}
 use Rattle.command_files.specs.Folder.{ChangesOnly}
-use Rattle.mpy_endings.specs.Ending.{is_out_fault}
+use Rattle.command_files.specs.mpy_endings.Ending.{is_out_fault}
 use Rattle.command_files.specs.Opened.{Refuses}
 use Rattle.file_commands.specs.Merge.{HoldModules, IsFirstRefused, Merges}
 use Rattle.command_files.proofs.Others.{same_only, became_only, front_only}
-use Rattle.mpy_endings.proofs.Said.{word_at}
+use Rattle.command_files.proofs.mpy_endings_lemmas.Said.{word_at}
 
 -- a refusal of one of the files ends the merge, and changes none
 refusal : (files : Option FileOf) (name : List ℕ) (ending : Ending) → Refuses files name ending → is_out_fault ending ≡ false

@@ -3,13 +3,13 @@ use Rattle.std.specs.Prelude.{◌≡◌, ℕ, ◌++◌, ◌^◌, ◌-◌, min, L
 use Rattle.std.specs.Io.KnownBytes.{Appends, Keeps}
 use Rattle.mpy_io.specs.Files.{FileOf}
 use Rattle.mpy_io.specs.Told.{AppendsFront}
-use Rattle.mpy_writer.specs.mpy_tree.Raw.{Module}
-use Rattle.mpy_writer.specs.mpy_tree.Codes.{codes_of}
-use Rattle.mpy_writer.specs.mpy_tree.File.{IsFile}
+use Rattle.command_files.specs.mpy_writer.mpy_tree.Raw.{Module}
+use Rattle.command_files.specs.mpy_writer.mpy_tree.Codes.{codes_of}
+use Rattle.command_files.specs.mpy_writer.mpy_tree.File.{IsFile}
 use Rattle.mpy_reader.specs.Reading.{FirstFault}
 use Rattle.bc_verify.specs.Verified.{IsVerified}
-use Rattle.mpy_endings.specs.declared.ending.Ending.{Ending}
-use Rattle.mpy_endings.specs.declared.ending.Ending.TheVariants.{Done, Unaccepted, Unread, Unverified, Unmerged, Unopened, Unfrozen, Unboarded, Different, Stopped, ReadFault, WriteFault, Unwritten, NoMemory, Absent}
+use Rattle.command_files.specs.mpy_endings.declared.ending.Ending.{Ending}
+use Rattle.command_files.specs.mpy_endings.declared.ending.Ending.TheVariants.{Done, Unaccepted, Unread, Unverified, Unmerged, Unopened, Unfrozen, Unboarded, Different, Stopped, ReadFault, WriteFault, Unwritten, NoMemory, Absent}
 use Rattle.command_files.specs.Folder.{MayHold}
 use Rattle.command_files.specs.Opened.{IsUnverifiedFile}
 

@@ -4,12 +4,12 @@ use Rattle.std.specs.Io.KnownBytes.{Appends, Keeps}
 use Rattle.mpy_base.specs.declared.source.SourceFault.{SourceFault}
 use Rattle.mpy_io.specs.Files.{FileOf}
 use Rattle.mpy_io.specs.Told.{AppendsFront}
-use Rattle.mpy_writer.specs.mpy_tree.Resolved.{ResolvedModule, Reads}
+use Rattle.command_files.specs.mpy_writer.mpy_tree.Resolved.{ResolvedModule, Reads}
 use Rattle.mpy_reader.specs.Reading.{FirstFault}
-use Rattle.mpy_compile.specs.Checked.{IsTranslation, DiffersFirst}
-use Rattle.mpy_endings.specs.declared.ending.Difference.{Difference}
-use Rattle.mpy_endings.specs.declared.ending.Ending.{Ending}
-use Rattle.mpy_endings.specs.declared.ending.Ending.TheVariants.{Done, Unaccepted, Unread, Unverified, Unmerged, Unopened, Unfrozen, Unboarded, Different, Stopped, ReadFault, WriteFault, Unwritten, NoMemory, Absent}
+use Rattle.command_files.specs.mpy_compile.Checked.{IsTranslation, DiffersFirst}
+use Rattle.command_files.specs.mpy_endings.declared.ending.Difference.{Difference}
+use Rattle.command_files.specs.mpy_endings.declared.ending.Ending.{Ending}
+use Rattle.command_files.specs.mpy_endings.declared.ending.Ending.TheVariants.{Done, Unaccepted, Unread, Unverified, Unmerged, Unopened, Unfrozen, Unboarded, Different, Stopped, ReadFault, WriteFault, Unwritten, NoMemory, Absent}
 use Rattle.command_files.specs.Folder.{MayHold}
 use Rattle.command_files.specs.Source.{HoldsFaulty}
 use Rattle.file_commands.specs.Check.{count_of}

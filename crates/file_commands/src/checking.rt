@@ -2,13 +2,12 @@
 
 ghost use Rattle.std.specs.Prelude.{◌≡◌};
 ghost use Rattle.mpy_io.specs.Count.{Counts};
-ghost use Rattle.mpy_endings.specs.Ending.{is_folder_fault, is_out_fault};
+ghost use Rattle.command_files.specs.mpy_endings.Ending.{is_folder_fault, is_out_fault};
 ghost use Rattle.file_commands.specs.Check.{Judges, Checks, verified_line};
-ghost use Rattle.mpy_endings.specs.Line.{Puts};
+ghost use Rattle.command_files.specs.mpy_endings.Line.{Puts};
 
-use command_files::{read_file, verified};
+use command_files::{Ending, put_three, read_file, verified};
 use itoa::Buffer;
-use mpy_endings::{Ending, put_three};
 use mpy_io::{Failed, Folder, Sink};
 use std::alloc::Global;
 

@@ -3,21 +3,19 @@
 ghost use Rattle.std.specs.Prelude.{◌≡◌, ◌≤◌, ℕ, List, Option, Some, false, IfOk, IfErr};
 ghost use Rattle.mpy_io.specs.Count.{Counts};
 ghost use Rattle.mpy_io.specs.Files.{FileOf};
-ghost use Rattle.mpy_writer.specs.mpy_tree.File.{IsFile};
+ghost use Rattle.command_files.specs.mpy_writer.mpy_tree.File.{IsFile};
 ghost use Rattle.command_files.specs.Folder.{MayHold};
-ghost use Rattle.mpy_endings.specs.Ending.{is_folder_fault, is_out_fault};
-ghost use Rattle.mpy_endings.specs.Line.{Puts};
+ghost use Rattle.command_files.specs.mpy_endings.Ending.{is_folder_fault, is_out_fault};
+ghost use Rattle.command_files.specs.mpy_endings.Line.{Puts};
 ghost use Rattle.file_commands.specs.CheckAs.{HoldsTranslation, ChecksAs, translation_line};
 ghost use Rattle.file_commands.specs.Texts.{HoldsText};
 
 use bc_resolved::resolves_law;
 use bc_verify::count;
-use command_files::read_file;
+use command_files::{Difference, Ended, Ending, compiled_module, put_three, read_file};
 use itoa::Buffer;
 use mpy_base::limits::MAX_DEPTH;
 use mpy_base::{NoMemory, Refused, SourceFault};
-use mpy_compile::compiled_module;
-use mpy_endings::{Difference, Ended, Ending, put_three};
 use mpy_io::{Failed, Folder, Sink};
 use mpy_reader::read;
 use mpy_tree::{RawModule, module_law};

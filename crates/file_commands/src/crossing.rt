@@ -3,17 +3,15 @@
 ghost use Rattle.std.specs.Prelude.{◌≡◌, ◌≤◌, ℕ, List, Option, Some, false};
 ghost use Rattle.mpy_io.specs.Files.{FileOf};
 ghost use Rattle.mpy_io.specs.Count.{Counts};
-ghost use Rattle.mpy_compile.specs.Compiled.{Compiles};
-ghost use Rattle.source_files.specs.Sources.{stored};
+ghost use Rattle.command_files.specs.mpy_compile.Compiled.{Compiles};
+ghost use Rattle.command_files.specs.source_files.Sources.{stored};
 ghost use Rattle.file_commands.specs.Cross.{Crosses};
-ghost use Rattle.mpy_endings.specs.declared.ending.Ending.{Ending};
-ghost use Rattle.mpy_endings.specs.Ending.{IsSettled, is_folder_fault, is_out_fault};
+ghost use Rattle.command_files.specs.mpy_endings.declared.ending.Ending.{Ending};
+ghost use Rattle.command_files.specs.mpy_endings.Ending.{IsSettled, is_folder_fault, is_out_fault};
 
+use command_files::{Ending, compile, compile_law, stored_name};
 use mpy_base::{NoMemory, Refused, SourceFault};
-use mpy_compile::{compile, compile_law};
-use mpy_endings::Ending;
 use mpy_io::{Failed, Folder, ReadFault};
-use source_files::stored_name;
 use std::alloc::Global;
 
 /// The file of a source, which stores its name.

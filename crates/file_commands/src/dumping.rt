@@ -3,12 +3,11 @@
 ghost use Rattle.std.specs.Prelude.{◌≡◌};
 ghost use Rattle.mpy_io.specs.Count.{Counts};
 ghost use Rattle.file_commands.specs.Dump.{Dumps};
-ghost use Rattle.mpy_endings.specs.Ending.{is_folder_fault, is_out_fault};
+ghost use Rattle.command_files.specs.mpy_endings.Ending.{is_folder_fault, is_out_fault};
 
-use command_files::read_file;
+use command_files::{Ending, read_file};
 use mpy_base::Refused;
 use mpy_dump::listing;
-use mpy_endings::Ending;
 use mpy_io::{Failed, Folder, Sink};
 use mpy_reader::read;
 use std::alloc::Global;

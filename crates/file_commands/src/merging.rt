@@ -5,13 +5,12 @@ ghost use Rattle.mpy_io.specs.Count.{Counts};
 ghost use Rattle.mpy_merge.specs.AsMerge.{ReadsAsMerge};
 ghost use Rattle.mpy_merge.specs.Faults.{FirstFault};
 ghost use Rattle.mpy_merge.specs.Merged.{IsMerged};
-ghost use Rattle.mpy_endings.specs.Ending.{is_folder_fault, is_out_fault};
+ghost use Rattle.command_files.specs.mpy_endings.Ending.{is_folder_fault, is_out_fault};
 ghost use Rattle.file_commands.specs.Merge.{HoldModules, IsFirstRefused, Merges};
 
 use bc_verify::Verified;
-use command_files::opened;
+use command_files::{Ended, Ending, opened};
 use mpy_base::Refused;
-use mpy_endings::{Ended, Ending};
 use mpy_io::{Failed, Folder};
 use mpy_merge::{MergeFault, merge};
 use std::alloc::Global;

@@ -1,9 +1,9 @@
 -- A tree is that of one module.
 use Rattle.std.proofs.Common.{◌≡◌, ℕ, List, [], ◌∷◌, map, refl, sym, ap, ap₂, ◌∙◌}
-use Rattle.mpy_base.specs.Val.{Val}
-use Rattle.bc_ops.specs.declared.instr.Op.{Op}
-use Rattle.bc_ops.specs.declared.instr.Instr.{Instr}
-use Rattle.bc_ops.specs.declared.listing.Target.TheVariants.{Position}
+use Rattle.image_open.specs.mpy_base.Val.{Val}
+use Rattle.mpy_tree.specs.bc_ops.declared.instr.Op.{Op}
+use Rattle.mpy_tree.specs.bc_ops.declared.instr.Instr.{Instr}
+use Rattle.mpy_tree.specs.bc_ops.declared.listing.Target.TheVariants.{Position}
 use Rattle.mpy_writer.specs.mpy_tree.declared.module.Item.{Item}
 use Rattle.mpy_writer.specs.mpy_tree.declared.module.Item.TheVariants as items
 use Rattle.mpy_writer.specs.mpy_tree.declared.module.Code.{Code, out-Code, roll-Code, roll-out-Code}

@@ -1,7 +1,7 @@
 -- A file that is cut off, and one with bytes behind it.
 use Rattle.std.proofs.Common.{◌≡◌, ◌≢◌, ℕ, ◌<◌, ◌≤◌, List, [], ◌∷◌, ◌++◌, length, Ok, refl, sym, ap, subst, ◌∙◌, inl, arith, length-append}
 use Rattle.std.proofs.lemmas.List.{append-nil}
-use Rattle.mpy_base.specs.declared.limits.TheConstants.{MAX_FILE_BYTES}
+use Rattle.image_open.specs.mpy_base.declared.limits.TheConstants.{MAX_FILE_BYTES}
 use Rattle.mpy_writer.specs.mpy_tree.Raw.{Module}
 use Rattle.mpy_writer.specs.mpy_tree.File.{IsFile}
 use Rattle.image_open.specs.mpy_reader.declared.fault.FileFault.TheVariants.{BadHeader, Truncated, Trailing, TooBig}

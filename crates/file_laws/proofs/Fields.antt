@@ -2,9 +2,9 @@
 use Rattle.std.proofs.Common.{◌≡◌, ◌≢◌, ℕ, zero, suc, ◌+◌, ◌/◌, ◌%◌, ◌<◌, ◌≤◌, Bool, true, false, eqb, List, [], ◌∷◌, ◌++◌, length, take, All, Ok, Err, refl, sym, ap, subst, ◌∙◌, inl, inr, arith, length-append}
 use Rattle.std.proofs.lemmas.List.{append-nil, take_at}
 use Rattle.std.proofs.lemmas.List.Elements.{All-take}
-use Rattle.mpy_base.specs.Vuint.{HasMore, Groups, EndsInside}
-use Rattle.mpy_base.specs.declared.limits.TheConstants.{MAX_TABLE, MAX_CODE_BYTES, MAX_DEPTH}
-use Rattle.qstr_pool.specs.declared.table.TheConstants.{STATIC_COUNT}
+use Rattle.image_open.specs.mpy_base.Vuint.{HasMore, Groups, EndsInside}
+use Rattle.image_open.specs.mpy_base.declared.limits.TheConstants.{MAX_TABLE, MAX_CODE_BYTES, MAX_DEPTH}
+use Rattle.mpy_writer.specs.qstr_pool.declared.table.TheConstants.{STATIC_COUNT}
 use Rattle.mpy_writer.specs.mpy_tree.declared.module.Constant.{Constant}
 use Rattle.mpy_writer.specs.mpy_tree.declared.module.Constant.TheVariants as constants
 use Rattle.mpy_writer.specs.mpy_tree.declared.raw.Qstr.{Qstr}

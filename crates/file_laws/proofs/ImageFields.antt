@@ -3,9 +3,9 @@ use Rattle.std.proofs.Common.{◌≡◌, ◌≢◌, ℕ, zero, suc, ◌+◌, ◌
 use Rattle.std.specs.Prelude.{Contains}
 use Rattle.std.proofs.lemmas.List.{append-nil, take_at}
 use Rattle.std.proofs.lemmas.List.Elements.{All-take}
-use Rattle.mpy_base.specs.Vuint.{HasMore, Groups, EndsInside}
-use Rattle.mpy_base.specs.declared.limits.TheConstants.{MAX_DEPTH, MAX_MODULES, MAX_TABLE}
-use Rattle.qstr_pool.specs.Pool.{Texts}
+use Rattle.image_open.specs.mpy_base.Vuint.{HasMore, Groups, EndsInside}
+use Rattle.image_open.specs.mpy_base.declared.limits.TheConstants.{MAX_DEPTH, MAX_MODULES, MAX_TABLE}
+use Rattle.mpy_writer.specs.qstr_pool.Pool.{Texts}
 use Rattle.mpy_writer.specs.mpy_tree.declared.module.Constant.{Constant}
 use Rattle.mpy_writer.specs.mpy_tree.declared.raw.RawCode.{RawCode}
 use Rattle.mpy_writer.specs.mpy_tree.Raw.{Module}

@@ -1,7 +1,7 @@
 -- An image that is cut off, and one with bytes behind it.
 use Rattle.std.proofs.Common.{◌≡◌, ◌≢◌, ℕ, ◌+◌, ◌<◌, ◌≤◌, List, [], ◌∷◌, ◌++◌, length, Ok, Err, refl, sym, ap, subst, ◌∙◌, arith, length-append}
 use Rattle.std.specs.Prelude.{All}
-use Rattle.mpy_base.specs.declared.limits.TheConstants.{MAX_IMAGE_BYTES}
+use Rattle.image_open.specs.mpy_base.declared.limits.TheConstants.{MAX_IMAGE_BYTES}
 use Rattle.image_open.specs.bc_verify.Verified.{IsVerified}
 use Rattle.image_open.specs.image_grammar.declared.entry.Entry.{Entry}
 use Rattle.image_open.specs.image_grammar.declared.fault.ImageFault.TheVariants.{BadHeader, TooBig, Trailing, Truncated}

@@ -1,6 +1,6 @@
 -- What images may lie over.
 use Rattle.std.specs.Prelude.{IsTrue}
-use Rattle.qstr_pool.specs.Pool.{all_differ}
+use Rattle.mpy_writer.specs.qstr_pool.Pool.{all_differ}
 use Rattle.image_open.specs.bc_library.Own.{IsOwnPool}
 use Rattle.image_open.specs.image_grammar.Opening.{Base, pool_below}
 

@@ -1,7 +1,7 @@
 //! What is said of an image that is cut off, or that has bytes behind it.
 
 ghost use Rattle.std.specs.Prelude.{◌≢◌, ◌++◌, ◌<◌, ◌≤◌, All, List, [], ℕ, length};
-ghost use Rattle.mpy_base.specs.declared.limits.TheConstants.{MAX_IMAGE_BYTES};
+ghost use Rattle.image_open.specs.mpy_base.declared.limits.TheConstants.{MAX_IMAGE_BYTES};
 ghost use Rattle.image_open.specs.bc_verify.Verified.{IsVerified};
 ghost use Rattle.image_open.specs.image_grammar.declared.entry.Entry.{Entry};
 ghost use Rattle.image_open.specs.image_grammar.declared.fault.ImageFault.TheVariants.{BadHeader, TooBig, Trailing, Truncated};

@@ -26,10 +26,10 @@ use Rattle.frame_moves.specs.prim_faults.declared.stop.Stop.{Stop}
 use Rattle.frame_moves.specs.prim_faults.declared.stop.Stop.TheVariants as stops
 use Rattle.frame_moves.specs.prim_faults.Faults.{plain_fault}
 use Rattle.frame_moves.specs.prim_faults.Outcomes.{plain_answer, IsOutcome}
-use Rattle.prim_outputs.specs.declared.prints.PrintStop.{PrintStop}
-use Rattle.prim_outputs.specs.declared.prints.PrintStop.TheVariants as print_stops
-use Rattle.prim_outputs.specs.Prints.{Puts, IsPrint}
-use Rattle.prim_outputs.specs.PortCalls.{IsPortOutcome}
+use Rattle.prim_calls.specs.prim_outputs.declared.prints.PrintStop.{PrintStop}
+use Rattle.prim_calls.specs.prim_outputs.declared.prints.PrintStop.TheVariants as print_stops
+use Rattle.prim_calls.specs.prim_outputs.Prints.{Puts, IsPrint}
+use Rattle.prim_calls.specs.prim_outputs.PortCalls.{IsPortOutcome}
 use Rattle.frame_moves.specs.prim_faults.Sights.{world_over}
 use Rattle.prim_calls.specs.declared.calls.CallStop.{CallStop}
 use Rattle.prim_calls.specs.declared.calls.CallStop.TheVariants as calls

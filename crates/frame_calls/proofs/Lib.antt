@@ -1,7 +1,7 @@
 pub use Rattle.frame_moves.proofs.bc_labels_lemmas
 pub use Rattle.frame_moves.proofs.prim_walks_lemmas
 pub use Rattle.prim_calls.proofs as prim_calls_lemmas
-pub use Rattle.prim_outputs.proofs as prim_outputs_lemmas
+pub use Rattle.prim_calls.proofs.prim_outputs_lemmas
 pub mod Answering
 pub mod Builtins
 pub mod BuiltActs

@@ -16,7 +16,7 @@ use Rattle.frame_moves.specs.prim_walks.Plain.{plain_pair}
 use Rattle.frame_moves.specs.prim_faults.declared.fault.Fault.TheVariants as faults
 use Rattle.frame_moves.specs.prim_faults.declared.stop.Stop.{Stop}
 use Rattle.frame_moves.specs.prim_faults.declared.stop.Stop.TheVariants as stops
-use Rattle.prim_outputs.specs.Prints.{Puts}
+use Rattle.prim_calls.specs.prim_outputs.Prints.{Puts}
 use Rattle.prim_calls.specs.Calls.{Seen, IsCall}
 use Rattle.prim_calls.specs.declared.calls.CallStop.{CallStop}
 use Rattle.prim_calls.specs.declared.calls.CallStop.TheVariants as calls

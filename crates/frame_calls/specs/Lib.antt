@@ -5,8 +5,8 @@ pub use Rattle.frame_moves.specs.bc_machine
 pub use Rattle.frame_moves.specs.prim_faults
 pub use Rattle.frame_moves.specs.prim_walks
 pub use Rattle.prim_calls.specs as prim_calls
+pub use Rattle.prim_calls.specs.prim_outputs
 pub use Rattle.prim_modules.specs as prim_modules
-pub use Rattle.prim_outputs.specs as prim_outputs
 pub mod Binding
 pub mod Built
 pub mod Children

@@ -26,12 +26,12 @@ ghost use Rattle.frame_calls.specs.Putting.{IsKnownStop, Puts, Leaves, put_in, d
 use crate::operands::Operands;
 use crate::putting::{put_given, put_over};
 use arena_heap::{Arena, Constants, Value};
+use frame_moves::Frames;
 use mpy_base::Builtin;
 use mpy_io::{Port, Sink};
 use port_set::PortSet;
 use prim_calls::{CallStop, call_builtin, call_method};
-use prim_faults::{Fault, Stop, ValueType};
-use vm_frames::Frames;
+use prim_modules::{Fault, Stop, ValueType};
 
 /// A method of an object is called. Its value goes in the place of the slots that the call takes.
 pub fn act_method<C: Constants>(

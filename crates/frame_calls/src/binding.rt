@@ -12,7 +12,7 @@ use crate::operands::{Operands, add};
 use arena_heap::{Arena, Constants, StrNo, Value};
 use mpy_base::NoMemory;
 use prim_calls::{Parameters, bind};
-use prim_faults::Fault;
+use prim_modules::Fault;
 use std::alloc::Global;
 use std::marker::Model;
 

@@ -22,8 +22,8 @@ ghost use Rattle.frame_calls.specs.Operands.{running_slots, args_in, keys_in, op
 
 use crate::operands::{slot_at, value_at, value_of};
 use arena_heap::{Arena, Constants, Value};
+use frame_moves::{Frames, Slot};
 use prim_calls::{Callee, callee_of};
-use vm_frames::{Frames, Slot};
 
 /// A call that an instruction makes: what is called, and how many slots it takes with its operands.
 #[derive(Clone, Copy, Debug, PartialEq, Eq)]

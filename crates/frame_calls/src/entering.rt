@@ -28,10 +28,10 @@ use crate::binding::{Bindings, FunctionCode};
 use crate::operands::Operands;
 use crate::putting::{drop_slots, put_over};
 use arena_heap::{Arena, Constants, Value};
+use frame_moves::{Frames, Role, moves_law, placed_law};
 use mpy_base::limits::MAX_CALLS;
 use prim_calls::Function;
-use prim_faults::{Fault, Stop};
-use vm_frames::{Frames, Role, moves_law, placed_law};
+use prim_modules::{Fault, Stop};
 
 /// Is there depth for one call more?
 fn has_depth(frames: &Frames) -> bool

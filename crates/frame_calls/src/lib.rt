@@ -17,3 +17,4 @@ pub use entering::{run_function, skip_function};
 pub use making::{Child, make_function, make_function_with};
 pub use operands::Operands;
 pub use paying::visits_call;
+pub use prim_calls::{CallStop, Callee, Function};

@@ -21,10 +21,9 @@ ghost use Rattle.frame_calls.specs.Putting.{Puts, Leaves};
 use crate::operands::value_at;
 use crate::putting::{push_given, put_given};
 use arena_heap::{Arena, Constants, DictNo, Value};
-use prim_faults::{Fault, Stop};
-use prim_modules::NewFunction;
+use frame_moves::Frames;
+use prim_modules::{Fault, NewFunction, Stop};
 use prim_walks::{Look, look_at};
-use vm_frames::Frames;
 
 /// A code that a function is made of: the numbers of its name, of its module's name and of itself in its module, and for how
 /// many of its last parameters a function of it has defaults.

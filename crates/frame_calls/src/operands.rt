@@ -10,10 +10,10 @@ ghost use Rattle.frame_calls.specs.Known.{IsKnownSlot, AreKnown};
 ghost use Rattle.frame_calls.specs.Operands.{running_slots, value_in, values_in, paired, args_in, keys_in, operands_count};
 
 use arena_heap::Value;
+use frame_moves::{Frames, Slot};
 use mpy_base::NoMemory;
 use std::alloc::Global;
 use std::marker::Model;
-use vm_frames::{Frames, Slot};
 
 /// The operands of a call: its positional arguments, and its keyword arguments with their names. Their memory is taken once.
 #[derive(Drop)]

@@ -5,8 +5,8 @@ ghost use Rattle.frame_moves.specs.vm_frames.Calls.{OfRunning, on_running};
 ghost use Rattle.frame_calls.specs.Putting.{with_value, put_in, done_of};
 
 use arena_heap::Value;
-use prim_faults::Stop;
-use vm_frames::{Frames, Slot};
+use frame_moves::{Frames, Slot};
+use prim_modules::Stop;
 
 /// The topmost slots are dropped.
 pub(crate) fn drop_slots(frames: &mut Frames, count: u32)

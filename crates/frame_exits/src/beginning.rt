@@ -23,9 +23,8 @@ ghost use Rattle.frame_exits.specs.declared.names.ModuleName.{ModuleName as Name
 
 use crate::names::ModuleName;
 use arena_heap::{Arena, Constants, StrNo};
-use prim_faults::Stop;
-use prim_modules::{Modules, make_module};
-use vm_frames::{Frames, Role, moves_law, placed_law};
+use frame_moves::{Frames, Role, moves_law, placed_law};
+use prim_modules::{Modules, Stop, make_module};
 
 /// The number of the text of a module's name.
 fn name_of(names: &[ModuleName], number: u32) -> ModuleName

@@ -5,7 +5,7 @@ ghost use Rattle.frame_moves.specs.vm_frames.declared.slot.Slot.TheVariants as s
 ghost use Rattle.frame_exits.specs.Causes.{KeepsCause, IsCause, cause_slot};
 
 use arena_heap::{ExcNo, Value};
-use vm_frames::Slot;
+use frame_moves::Slot;
 
 /// What a finally goes on with at its end.
 #[derive(Clone, Copy, Debug, PartialEq, Eq)]

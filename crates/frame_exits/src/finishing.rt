@@ -31,8 +31,8 @@ use crate::names::ModuleName;
 use crate::returning::leave;
 use crate::throwing::fail;
 use arena_heap::{Arena, Constants, ExcNo};
+use frame_moves::{Frames, Slot, moves_law, placed_law};
 use prim_modules::Modules;
-use vm_frames::{Frames, Slot, moves_law, placed_law};
 
 /// Throws the exception on at the end of a finally.
 fn throw_on<C: Constants>(

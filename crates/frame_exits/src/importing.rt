@@ -16,10 +16,10 @@ use crate::operands::{is_zero, value_at};
 use crate::prefixes::{first_absent, first_len};
 use arena_heap::{Constants, StrNo, Value};
 use bc_library::{Library, Member};
+use frame_moves::Frames;
 use mpy_base::Builtin;
 use mpy_base::limits::MAX_CALLS;
 use prim_modules::Modules;
-use vm_frames::Frames;
 
 /// Why an import fails before a module begins.
 #[derive(Clone, Copy, Debug, PartialEq, Eq)]

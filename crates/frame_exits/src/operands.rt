@@ -11,7 +11,7 @@ ghost use Rattle.frame_moves.specs.bc_machine.Parts.{is_zero as is_zero_in};
 ghost use Rattle.frame_moves.specs.prim_walks.Plain.{plain};
 
 use arena_heap::Value;
-use vm_frames::{Frames, Slot};
+use frame_moves::{Frames, Slot};
 
 /// The value in a slot that holds one, counted from the top.
 pub(crate) fn value_at(frames: &Frames, i: u32) -> Value

@@ -14,7 +14,7 @@ ghost use Rattle.frame_exits.specs.declared.importing.Import.TheVariants as impo
 ghost use Rattle.frame_exits.specs.Importing.{AreOperands, IsImport};
 
 use arena_heap::Value;
-use vm_frames::{Frames, Slot};
+use frame_moves::{Frames, Slot};
 
 /// The import gives a module, which goes in the place of its operands. The call goes on at `end`, behind its instruction.
 pub fn put_import(frames: &mut Frames, v: Value, end: u32)

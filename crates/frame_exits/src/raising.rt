@@ -22,10 +22,8 @@ use crate::ends::End;
 use crate::names::ModuleName;
 use crate::throwing::fail;
 use arena_heap::{Arena, Constants};
-use prim_faults::{Fault, Stop};
-use prim_modules::Modules;
-use prim_raising::{Place, raise_value, stop_at};
-use vm_frames::{Frames, Slot, moves_law};
+use frame_moves::{Frames, Place, Slot, moves_law, raise_value, stop_at};
+use prim_modules::{Fault, Modules, Stop};
 
 /// A stop at the running call's instruction: the exception of a fault, which gets the place, is thrown through the calls, or
 /// want of room ends the run. It answers how the run ends, if it does; else the calls run. It goes through each call once,

@@ -23,7 +23,7 @@ ghost use Rattle.frame_exits.specs.Importing.{AreOperands, IsImport, StandsFor, 
 
 use crate::importing::Refusal;
 use arena_heap::StrNo;
-use prim_faults::{Fault, Stop};
+use prim_modules::{Fault, Stop};
 
 /// The fault of an import of the name.
 fn fault_of(name: u32, refusal: Refusal) -> Fault

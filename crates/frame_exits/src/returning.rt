@@ -37,10 +37,9 @@ ghost use Rattle.frame_exits.specs.Left.{HasLast, left, leaving_of, receiving_of
 use crate::ends::{After, End};
 use crate::names::{ModuleName, name_of};
 use arena_heap::{Arena, Constants, ModuleNo, StrNo, Value};
+use frame_moves::{Frames, Role, Slot, moves_law, placed_law};
 use mpy_base::NoRoom;
-use prim_faults::Stop;
-use prim_modules::{Modules, store_module};
-use vm_frames::{Frames, Role, Slot, moves_law, placed_law};
+use prim_modules::{Modules, Stop, store_module};
 
 /// The want of room that a stop is where nothing is raised.
 fn want_of(stop: Stop) -> NoRoom

@@ -17,10 +17,9 @@ ghost use Rattle.frame_exits.specs.Thrown.{throwing_of, thrown, thrown_out, fail
 use crate::ends::End;
 use crate::names::{ModuleName, name_of};
 use arena_heap::{Constants, ExcNo, StrNo};
+use frame_moves::{Frames, Role, moves_law, placed_law};
 use mpy_base::NoRoom;
-use prim_faults::name_bytes;
-use prim_modules::Modules;
-use vm_frames::{Frames, Role, moves_law, placed_law};
+use prim_modules::{Modules, name_bytes};
 
 /// A call of the module that ends with this role is left by a raise: a module that it imports is forgotten.
 fn abandon<C: Constants>(

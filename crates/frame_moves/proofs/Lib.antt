@@ -1,7 +1,9 @@
-pub use Rattle.prim_faults.proofs.arena_heap_lemmas
-pub use Rattle.prim_faults.proofs.prim_walks_lemmas
+pub use Rattle.prim_raising.proofs.mpy_base_lemmas
+pub use Rattle.prim_raising.proofs.prim_faults_lemmas.arena_heap_lemmas
+pub use Rattle.prim_raising.proofs.prim_faults_lemmas.prim_walks_lemmas
 pub use Rattle.vm_frames.proofs.bc_labels_lemmas
 pub use Rattle.vm_frames.proofs.bc_ops_lemmas
+pub use Rattle.vm_frames.proofs.mpy_tree_lemmas
 pub mod Changing
 pub mod Locals
 pub mod Stepping

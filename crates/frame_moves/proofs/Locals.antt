@@ -1,9 +1,9 @@
 -- A local gets the top value.
 use Rattle.std.proofs.Common.{◌≡◌, ℕ, suc, List, [], ◌∷◌, drop, Some, slice_get, slice_set, refl, ap, ◌∙◌}
-use Rattle.mpy_base.specs.Val.{PlainWorld}
+use Rattle.prim_raising.specs.mpy_base.Val.{PlainWorld}
 use Rattle.vm_frames.specs.py_effects.Effect.{Place}
 use Rattle.vm_frames.specs.bc_ops.declared.instr.Op.TheVariants as ops
-use Rattle.prim_faults.specs.arena_heap.declared.value.Value.{Value}
+use Rattle.prim_raising.specs.prim_faults.arena_heap.declared.value.Value.{Value}
 use Rattle.vm_frames.specs.declared.slot.Slot.{Slot}
 use Rattle.vm_frames.specs.declared.slot.Slot.TheVariants as slots
 use Rattle.vm_frames.specs.Calls.{Call, Calls, on_running}

@@ -1,6 +1,6 @@
 -- A step of the machine on calls whose running one goes on.
 use Rattle.std.proofs.Common.{◌≡◌, ℕ, suc, List, [], ◌∷◌, map, refl, sym, ap, ◌∙◌}
-use Rattle.mpy_base.specs.Val.{PlainWorld}
+use Rattle.prim_raising.specs.mpy_base.Val.{PlainWorld}
 use Rattle.vm_frames.specs.py_effects.Effect.{Place}
 use Rattle.vm_frames.specs.declared.slot.Slot.{Slot}
 use Rattle.vm_frames.specs.declared.slot.Entry.{Entry}

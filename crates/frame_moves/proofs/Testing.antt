@@ -2,12 +2,12 @@
 use Rattle.std.proofs.Common.{◌≡◌, ℕ, zero, suc, ◌<◌, List, [], ◌∷◌, map, length, drop, Bool, true, false, not, Option, Some, None, slice_get, slice_set, refl, sym, ap, ◌∙◌, subst, arith, if◌then◌else◌}
 use Rattle.std.proofs.lemmas.Option.{none-some, same_Some}
 use Rattle.std.specs.Option.{option_map}
-use Rattle.mpy_base.specs.Val.{Val, PlainWorld}
-use Rattle.prim_faults.specs.py_values.Shown.{truth}
+use Rattle.prim_raising.specs.mpy_base.Val.{Val, PlainWorld}
+use Rattle.prim_raising.specs.prim_faults.py_values.Shown.{truth}
 use Rattle.vm_frames.specs.py_effects.Effect.{Place}
 use Rattle.vm_frames.specs.bc_ops.declared.instr.Op.{Op}
 use Rattle.vm_frames.specs.bc_ops.declared.instr.Op.TheVariants as ops
-use Rattle.prim_faults.specs.arena_heap.declared.value.Value.{Value}
+use Rattle.prim_raising.specs.prim_faults.arena_heap.declared.value.Value.{Value}
 use Rattle.vm_frames.specs.declared.slot.Slot.{Slot}
 use Rattle.vm_frames.specs.declared.slot.Slot.TheVariants as slots
 use Rattle.vm_frames.specs.declared.slot.Entry.{Entry}

@@ -1,7 +1,7 @@
 -- Slots that move: what frames do, and what the machine does.
 use Rattle.std.proofs.Common.{◌≡◌, ℕ, suc, ◌<◌, List, [], ◌∷◌, length, drop, Some, slice_get, slice_set, refl, sym, ap, ◌∙◌, arith}
 use Rattle.std.proofs.lemmas.Option.{none-some, same_Some}
-use Rattle.mpy_base.specs.Val.{PlainWorld}
+use Rattle.prim_raising.specs.mpy_base.Val.{PlainWorld}
 use Rattle.vm_frames.specs.py_effects.Effect.{Place}
 use Rattle.vm_frames.specs.bc_ops.declared.instr.Op.TheVariants as ops
 use Rattle.vm_frames.specs.declared.slot.Slot.{Slot}

@@ -1,11 +1,11 @@
 -- What an instruction comes to that may raise, over an arena: the calls go on, or they fail at the instruction's place.
 use Rattle.std.specs.Prelude.{◌≡◌, ℕ, suc, ◌<◌, ◌≤◌, List, [], ◌∷◌, map, Result, Ok, Err}
-use Rattle.mpy_base.specs.World.{Heap}
-use Rattle.mpy_base.specs.Val.{PlainWorld}
-use Rattle.prim_faults.specs.arena_heap.declared.value.Value.{Value}
-use Rattle.prim_faults.specs.declared.stop.Stop.{Stop}
-use Rattle.prim_faults.specs.Outcomes.{plain_stop}
-use Rattle.prim_faults.specs.Sights.{world_over}
+use Rattle.prim_raising.specs.mpy_base.World.{Heap}
+use Rattle.prim_raising.specs.mpy_base.Val.{PlainWorld}
+use Rattle.prim_raising.specs.prim_faults.arena_heap.declared.value.Value.{Value}
+use Rattle.prim_raising.specs.prim_faults.declared.stop.Stop.{Stop}
+use Rattle.prim_raising.specs.prim_faults.Outcomes.{plain_stop}
+use Rattle.prim_raising.specs.prim_faults.Sights.{world_over}
 use Rattle.prim_raising.specs.Places.{stopped_at}
 use Rattle.vm_frames.specs.Calls.{Call}
 use Rattle.vm_frames.specs.Views.{frame_of}

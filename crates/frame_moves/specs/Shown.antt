@@ -1,13 +1,13 @@
 -- Calls as the machine's state, and what it is to do a step of the machine on them.
 use Rattle.std.specs.Prelude.{◌≡◌, ℕ, suc, List, [], ◌∷◌, map, Bool, Option, Some, refl, slice_get}
-use Rattle.mpy_base.specs.Val.{Val, PlainWorld}
-use Rattle.prim_faults.specs.py_values.Shown.{truth}
+use Rattle.prim_raising.specs.mpy_base.Val.{Val, PlainWorld}
+use Rattle.prim_raising.specs.prim_faults.py_values.Shown.{truth}
 use Rattle.vm_frames.specs.py_effects.Effect.{Place}
-use Rattle.prim_faults.specs.arena_heap.declared.value.Value.{Value}
-use Rattle.prim_faults.specs.arena_heap.declared.value.StrNo.{StrNo}
-use Rattle.prim_faults.specs.arena_heap.declared.value.ConstNo.{ConstNo}
-use Rattle.prim_faults.specs.arena_objects.Iterables.{or_nothing}
-use Rattle.prim_faults.specs.prim_walks.Plain.{plain}
+use Rattle.prim_raising.specs.prim_faults.arena_heap.declared.value.Value.{Value}
+use Rattle.prim_raising.specs.prim_faults.arena_heap.declared.value.StrNo.{StrNo}
+use Rattle.prim_raising.specs.prim_faults.arena_heap.declared.value.ConstNo.{ConstNo}
+use Rattle.prim_raising.specs.prim_faults.arena_objects.Iterables.{or_nothing}
+use Rattle.prim_raising.specs.prim_faults.prim_walks.Plain.{plain}
 use Rattle.vm_frames.specs.declared.slot.Slot.{Slot}
 use Rattle.vm_frames.specs.declared.slot.Slot.TheVariants as slots
 use Rattle.vm_frames.specs.Calls.{Call, OfRunning}

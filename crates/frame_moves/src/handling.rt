@@ -1,7 +1,7 @@
 //! Handlers that are set up and left.
 
 ghost use Rattle.std.specs.Prelude.{◌≡◌, ◌<◌, ℕ, length, drop, true, false};
-ghost use Rattle.mpy_base.specs.Val.{PlainWorld};
+ghost use Rattle.prim_raising.specs.mpy_base.Val.{PlainWorld};
 ghost use Rattle.vm_frames.specs.bc_ops.declared.instr.Op.TheVariants as ops;
 ghost use Rattle.vm_frames.specs.Calls.{OfRunning, on_running};
 ghost use Rattle.vm_frames.specs.bc_machine.Library.{Jumps};

@@ -1,10 +1,10 @@
 //! Instructions that put one slot more on top.
 
 ghost use Rattle.std.specs.Prelude.{◌≡◌, ◌<◌, ◌∷◌, true, false, length};
-ghost use Rattle.mpy_base.specs.Val.{PlainWorld};
+ghost use Rattle.prim_raising.specs.mpy_base.Val.{PlainWorld};
 ghost use Rattle.vm_frames.specs.bc_ops.declared.instr.Op.TheVariants as ops;
 ghost use Rattle.vm_frames.specs.bc_ops.declared.instr.Instr.TheVariants as instrs;
-ghost use Rattle.prim_faults.specs.arena_heap.declared.value.Value.TheVariants as values;
+ghost use Rattle.prim_raising.specs.prim_faults.arena_heap.declared.value.Value.TheVariants as values;
 ghost use Rattle.vm_frames.specs.declared.slot.Slot.TheVariants as slots;
 ghost use Rattle.vm_frames.specs.Calls.{OfRunning, on_running};
 ghost use Rattle.vm_frames.specs.bc_machine.Library.{Plain, Names, Loads};
@@ -12,8 +12,7 @@ ghost use Rattle.frame_moves.specs.Shown.{Tables, Steps, IsNext, value_of, text_
 ghost use Rattle.frame_moves.specs.Stacks.{gone};
 
 use crate::going::go_with;
-use arena_heap::{StrNo, Value};
-use vm_frames::{Frames, Slot};
+use vm_frames::{Frames, Slot, StrNo, Value};
 
 /// LOAD_CONST_NONE.
 pub fn load_none(frames: &mut Frames, end: u32)

@@ -1,7 +1,7 @@
 //! Instructions that move slots alone.
 
 ghost use Rattle.std.specs.Prelude.{◌≡◌, ◌<◌, suc, length, drop};
-ghost use Rattle.mpy_base.specs.Val.{PlainWorld};
+ghost use Rattle.prim_raising.specs.mpy_base.Val.{PlainWorld};
 ghost use Rattle.vm_frames.specs.bc_ops.declared.instr.Op.TheVariants as ops;
 ghost use Rattle.vm_frames.specs.bc_ops.declared.instr.Instr.TheVariants as instrs;
 ghost use Rattle.vm_frames.specs.Calls.{OfRunning, on_running};

@@ -1,10 +1,10 @@
 //! A local gets a value.
 
 ghost use Rattle.std.specs.Prelude.{◌≡◌, ◌<◌, Some, length, drop, slice_set};
-ghost use Rattle.mpy_base.specs.Val.{PlainWorld};
+ghost use Rattle.prim_raising.specs.mpy_base.Val.{PlainWorld};
 ghost use Rattle.vm_frames.specs.bc_ops.declared.instr.Op.TheVariants as ops;
 ghost use Rattle.vm_frames.specs.bc_ops.declared.instr.Instr.TheVariants as instrs;
-ghost use Rattle.prim_faults.specs.arena_heap.declared.value.Value.{Value as Item};
+ghost use Rattle.prim_raising.specs.prim_faults.arena_heap.declared.value.Value.{Value as Item};
 ghost use Rattle.vm_frames.specs.declared.slot.Slot.TheVariants as slots;
 ghost use Rattle.vm_frames.specs.Calls.{OfRunning, on_running};
 ghost use Rattle.vm_frames.specs.bc_machine.Library.{Plain};

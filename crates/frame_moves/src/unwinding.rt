@@ -1,7 +1,7 @@
 //! Jumps and returns out of handlers.
 
 ghost use Rattle.std.specs.Prelude.{◌≡◌, ◌≤◌, ◌%◌, ℕ, length, nat_le};
-ghost use Rattle.mpy_base.specs.Val.{PlainWorld};
+ghost use Rattle.prim_raising.specs.mpy_base.Val.{PlainWorld};
 ghost use Rattle.vm_frames.specs.Calls.{OfRunning, on_running};
 ghost use Rattle.vm_frames.specs.Moves.{jumped};
 ghost use Rattle.vm_frames.specs.Placed.{IsPlaced};

@@ -1,10 +1,10 @@
 -- An instruction of the machine that is an effect, from what its primitive answers.
 use Rattle.std.proofs.Common.{◌≡◌, ℕ, suc, ◌<◌, ◌≤◌, List, [], ◌∷◌, map, Bool, Result, Ok, Err, refl, sym, ap, ◌∙◌, arith}
 use Rattle.std.proofs.lemmas.Bool.{lt-ltb, le-ltb}
-use Rattle.mpy_base.specs.World.{Heap}
-use Rattle.mpy_base.specs.Val.{PlainWorld}
+use Rattle.frame_moves.specs.mpy_base.World.{Heap}
+use Rattle.frame_moves.specs.mpy_base.Val.{PlainWorld}
 use Rattle.prim_names.specs.arena_heap.declared.value.Value.{Value}
-use Rattle.prim_types.specs.py_primitives.Outcome as primitives
+use Rattle.prim_names.specs.prim_types.py_primitives.Outcome as primitives
 use Rattle.frame_moves.specs.py_effects.Effect.{Effect, Place, Fails, Thrown, Filled, failed, given_answer, fault_at}
 use Rattle.prim_names.specs.prim_faults.declared.stop.Stop.{Stop}
 use Rattle.prim_names.specs.prim_faults.Outcomes.{plain_stop}

@@ -1,16 +1,16 @@
 -- Displays, and sequences that are unpacked.
 use Rattle.std.proofs.Common.{◌≡◌, ℕ, zero, suc, ◌-◌, ◌<◌, ◌≤◌, List, [], ◌∷◌, ◌++◌, length, map, drop, Option, Some, Result, Ok, Err, slice_get, refl, sym, ap, ◌∙◌, subst, arith}
 use Rattle.std.proofs.lemmas.List.{drop-map}
-use Rattle.mpy_base.specs.World.{Heap, Objects}
-use Rattle.mpy_base.specs.Val.{Val, PlainWorld}
+use Rattle.frame_moves.specs.mpy_base.World.{Heap, Objects}
+use Rattle.frame_moves.specs.mpy_base.Val.{Val, PlainWorld}
 use Rattle.prim_names.specs.arena_heap.declared.value.Value.{Value}
 use Rattle.prim_names.specs.arena_heap.declared.value.StrNo.{StrNo}
 use Rattle.prim_names.specs.arena_heap.declared.value.ConstNo.{ConstNo}
 use Rattle.frame_moves.specs.bc_ops.declared.instr.Op.TheVariants as ops
 use Rattle.frame_moves.specs.bc_ops.declared.instr.Instr.TheVariants as instrs
-use Rattle.prim_types.specs.py_values.Shown.{PlainHeap}
-use Rattle.prim_types.specs.py_primitives.Outcome.{Outcome}
-use Rattle.prim_types.specs.py_primitives.Uses.{unpack}
+use Rattle.prim_names.specs.prim_types.py_values.Shown.{PlainHeap}
+use Rattle.prim_names.specs.prim_types.py_primitives.Outcome.{Outcome}
+use Rattle.prim_names.specs.prim_types.py_primitives.Uses.{unpack}
 use Rattle.frame_moves.specs.py_effects.Effect.{Place, on_heap}
 use Rattle.prim_names.specs.prim_walks.Plain.{plain, plain_heap}
 use Rattle.prim_names.specs.prim_faults.declared.stop.Stop.{Stop}

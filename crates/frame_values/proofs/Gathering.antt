@@ -3,14 +3,14 @@ use Rattle.std.proofs.Common.{◌≡◌, ℕ, zero, suc, ◌+◌, ◌-◌, ◌<�
 use Rattle.std.specs.List.{All}
 use Rattle.std.proofs.lemmas.Option.{slice_get-get_or, slice_get_within, same_Some}
 use Rattle.std.proofs.lemmas.List.{get_or-reverse, get_or-take, get_or-map, length-reverse, length-take-le, length-map, length-set, ext_get_or}
-use Rattle.mpy_base.specs.World.{Objects}
-use Rattle.mpy_base.specs.Val.{Nil}
+use Rattle.frame_moves.specs.mpy_base.World.{Objects}
+use Rattle.frame_moves.specs.mpy_base.Val.{Nil}
 use Rattle.prim_names.specs.arena_heap.declared.value.Value.{Value}
 use Rattle.prim_names.specs.arena_heap.declared.value.Value.TheVariants as values
 use Rattle.prim_names.specs.arena_heap.declared.value.StrNo.{StrNo}
 use Rattle.prim_names.specs.arena_heap.declared.value.ConstNo.{ConstNo}
 use Rattle.prim_names.specs.prim_faults.Faults.{IsKnown}
-use Rattle.prim_types.proofs.prim_operators_lemmas.ItemFills.{read_value}
+use Rattle.prim_names.proofs.prim_types_lemmas.prim_operators_lemmas.ItemFills.{read_value}
 use Rattle.frame_moves.specs.vm_frames.declared.slot.Slot.{Slot}
 use Rattle.frame_moves.specs.vm_frames.declared.slot.Slot.TheVariants as slots
 use Rattle.frame_moves.specs.vm_frames.Calls.{Call}

@@ -1,11 +1,11 @@
 -- What the machine's instructions do, by the slots that they take.
 use Rattle.std.proofs.Common.{◌≡◌, ℕ, List, [], ◌∷◌, drop, Some, slice_get, refl, sym, subst, zero, suc, map, ap}
 use Rattle.std.proofs.lemmas.Option.{none-some, same_Some}
-use Rattle.mpy_base.specs.Val.{Val, PlainWorld}
+use Rattle.frame_moves.specs.mpy_base.Val.{Val, PlainWorld}
 use Rattle.prim_names.specs.arena_heap.declared.value.Value.{Value}
 use Rattle.frame_moves.specs.bc_ops.declared.instr.Op.{Op}
 use Rattle.frame_moves.specs.bc_ops.declared.instr.Op.TheVariants as ops
-use Rattle.prim_types.specs.py_primitives.Uses.{get_item, set_item, delete_item, get_attr, set_attr}
+use Rattle.prim_names.specs.prim_types.py_primitives.Uses.{get_item, set_item, delete_item, get_attr, set_attr}
 use Rattle.frame_moves.specs.py_effects.Effect.{Effect, on_heap, Place}
 use Rattle.frame_moves.specs.py_effects.Names.{store_global, import_from, store_pair}
 use Rattle.frame_moves.specs.vm_frames.declared.slot.Slot.{Slot}

@@ -3,16 +3,16 @@ use Rattle.std.proofs.Common.{◌≡◌, ℕ, suc, ◌<◌, ◌≤◌, List, [],
 use Rattle.std.specs.Prelude.{nat_lt, IsSome}
 use Rattle.std.proofs.lemmas.Bool.{lt-ltb, le-ltb}
 use Rattle.std.proofs.lemmas.Option.{same_Some}
-use Rattle.mpy_base.specs.World.{Heap}
-use Rattle.mpy_base.specs.Val.{Val, PlainWorld}
+use Rattle.frame_moves.specs.mpy_base.World.{Heap}
+use Rattle.frame_moves.specs.mpy_base.Val.{Val, PlainWorld}
 use Rattle.prim_names.specs.arena_heap.declared.value.Value.{Value}
 use Rattle.prim_names.specs.arena_heap.declared.value.Value.TheVariants as values
 use Rattle.prim_names.specs.arena_heap.declared.value.StrNo.{StrNo}
 use Rattle.prim_names.specs.arena_heap.declared.value.ConstNo.{ConstNo}
 use Rattle.frame_moves.specs.bc_ops.declared.instr.Op.TheVariants as ops
 use Rattle.frame_moves.specs.bc_ops.declared.instr.Instr.TheVariants as instrs
-use Rattle.prim_types.specs.py_values.Shown.{PlainHeap, Shown, Text, Tuple, Items, Pairs, Range, shown, truth}
-use Rattle.prim_types.specs.py_primitives.Iterables.{use_iter, item_of, length_of, shown_length, shown_items, items_in}
+use Rattle.prim_names.specs.prim_types.py_values.Shown.{PlainHeap, Shown, Text, Tuple, Items, Pairs, Range, shown, truth}
+use Rattle.prim_names.specs.prim_types.py_primitives.Iterables.{use_iter, item_of, length_of, shown_length, shown_items, items_in}
 use Rattle.frame_moves.specs.py_effects.Effect.{Place, on_heap}
 use Rattle.prim_names.specs.prim_walks.Plain.{plain, plain_heap}
 use Rattle.prim_names.specs.prim_faults.declared.stop.Stop.{Stop}

@@ -1,3 +1,4 @@
+pub use Rattle.prim_comparisons.proofs as prim_comparisons_lemmas
 pub mod Acting
 pub mod Calls
 pub mod Displaying

@@ -1,8 +1,8 @@
 -- What method calls begin with: from what is looked up to what the instruction does.
 use Rattle.std.proofs.Common.{◌≡◌, ℕ, suc, List, drop, Option, Some, Result, Ok, Err, slice_get, refl, sym, subst}
-use Rattle.mpy_base.specs.World.{Heap}
-use Rattle.mpy_base.specs.Val.{PlainWorld}
-use Rattle.mpy_base.proofs.Worlds.{later_same}
+use Rattle.frame_moves.specs.mpy_base.World.{Heap}
+use Rattle.frame_moves.specs.mpy_base.Val.{PlainWorld}
+use Rattle.frame_moves.proofs.mpy_base_lemmas.Worlds.{later_same}
 use Rattle.prim_names.specs.arena_heap.declared.value.Value.{Value}
 use Rattle.prim_names.specs.arena_heap.declared.value.StrNo.{StrNo}
 use Rattle.prim_names.specs.arena_heap.declared.value.ConstNo.{ConstNo}

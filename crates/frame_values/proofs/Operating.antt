@@ -3,11 +3,11 @@ use Rattle.std.proofs.Common.{◌≡◌, ℕ, zero, suc, ◌+◌, ◌-◌, ◌�
 use Rattle.std.specs.Prelude.{option_and_then}
 use Rattle.std.specs.Option.{option_map}
 use Rattle.std.proofs.lemmas.Option.{none-some}
-use Rattle.mpy_base.specs.Val.{Val, PlainWorld}
+use Rattle.frame_moves.specs.mpy_base.Val.{Val, PlainWorld}
 use Rattle.prim_names.specs.arena_heap.declared.value.Value.{Value}
-use Rattle.prim_types.specs.py_values.Shown.{PlainHeap}
-use Rattle.prim_types.specs.py_primitives.Operators.{in_place, binary}
-use Rattle.prim_types.specs.py_primitives.Outcome.{Outcome}
+use Rattle.prim_names.specs.prim_types.py_values.Shown.{PlainHeap}
+use Rattle.prim_names.specs.prim_types.py_primitives.Operators.{in_place, binary}
+use Rattle.prim_names.specs.prim_types.py_primitives.Outcome.{Outcome}
 use Rattle.frame_moves.specs.py_effects.Effect.{Place, on_heap}
 use Rattle.frame_moves.specs.vm_frames.declared.slot.Slot.{Slot}
 use Rattle.frame_moves.specs.vm_frames.declared.slot.Slot.TheVariants as slots
@@ -15,9 +15,9 @@ use Rattle.frame_moves.specs.vm_frames.Views.{View, slots_of}
 use Rattle.frame_moves.specs.bc_machine.Library.{Library}
 use Rattle.frame_moves.specs.bc_machine.State as states
 use Rattle.frame_moves.specs.bc_machine.Step as step
-use Rattle.prim_types.specs.prim_operators.declared.operators.Operator.{Operator}
-use Rattle.prim_types.specs.prim_operators.declared.operators.Operator.TheVariants as operators
-use Rattle.prim_types.specs.prim_operators.Operators.{plain_operator, plain_unary}
+use Rattle.prim_names.specs.prim_types.prim_operators.declared.operators.Operator.{Operator}
+use Rattle.prim_names.specs.prim_types.prim_operators.declared.operators.Operator.TheVariants as operators
+use Rattle.prim_names.specs.prim_types.prim_operators.Operators.{plain_operator, plain_unary}
 use Rattle.frame_moves.specs.bc_machine.Operations.{TwoValued, comparisons, arithmetic, two_valued, operator_at, unary_at}
 use Rattle.frame_values.specs.declared.operations.TwoOperands.{TwoOperands}
 use Rattle.frame_values.specs.declared.operations.TwoOperands.TheVariants as twos

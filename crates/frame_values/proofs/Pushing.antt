@@ -4,7 +4,7 @@ use Rattle.std.proofs.lemmas.Option.{slice_get_within}
 use Rattle.std.proofs.lemmas.List.{drop_more, drop_all, length-drop, length-map, length-append}
 use Rattle.prim_names.specs.arena_heap.declared.value.Value.{Value}
 use Rattle.prim_names.specs.arena_heap.declared.value.Value.TheVariants as values
-use Rattle.prim_types.proofs.prim_operators_lemmas.ItemFills.{read_value}
+use Rattle.prim_names.proofs.prim_types_lemmas.prim_operators_lemmas.ItemFills.{read_value}
 use Rattle.frame_moves.specs.vm_frames.declared.slot.Slot.TheVariants as slots
 use Rattle.frame_moves.specs.vm_frames.Calls.{Call, Calls, OfRunning, on_running}
 use Rattle.frame_moves.proofs.Stepping.{weaker}

@@ -1,13 +1,13 @@
 -- From what a primitive gives to what the instruction does, where its value is put or not.
 use Rattle.std.proofs.Common.{◌≡◌, ℕ, suc, List, ◌∷◌, drop, Option, Result, Ok, Err, sym, ap, subst}
-use Rattle.mpy_base.specs.World.{Heap, Later}
-use Rattle.mpy_base.specs.Val.{Val, PlainWorld}
+use Rattle.frame_moves.specs.mpy_base.World.{Heap, Later}
+use Rattle.frame_moves.specs.mpy_base.Val.{Val, PlainWorld}
 use Rattle.prim_names.specs.arena_heap.declared.value.Value.{Value}
 use Rattle.prim_names.specs.arena_heap.declared.value.StrNo.{StrNo}
 use Rattle.prim_names.specs.arena_heap.declared.value.ConstNo.{ConstNo}
 use Rattle.prim_names.specs.arena_objects.Keys.{AllTold}
-use Rattle.prim_types.specs.py_values.Shown.{PlainHeap}
-use Rattle.prim_types.specs.py_primitives.Outcome.{Outcome}
+use Rattle.prim_names.specs.prim_types.py_values.Shown.{PlainHeap}
+use Rattle.prim_names.specs.prim_types.py_primitives.Outcome.{Outcome}
 use Rattle.frame_moves.specs.py_effects.Effect.{Effect, on_heap, Place}
 use Rattle.prim_names.specs.prim_walks.Plain.{plain, plain_heap}
 use Rattle.prim_names.specs.prim_faults.declared.stop.Stop.{Stop}

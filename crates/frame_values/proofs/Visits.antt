@@ -2,19 +2,19 @@
 use Rattle.std.proofs.Common.{◌≡◌, ℕ, ℤ, List, [], ◌∷◌, ◌++◌, length, map, Bool, true, false, cond, Option, Some, None, Result, Ok, Err, refl, arith}
 use Rattle.std.specs.Prelude.{is_some, codes, nat_lt, slice_index}
 use Rattle.std.specs.List.{repeat}
-use Rattle.mpy_base.specs.World.{Object, ListObject, TupleObject, TextObject, MethodObject, ModuleObject, object}
-use Rattle.mpy_base.specs.Weights.{used, does_fit, cells_of, bytes_of, with_made, room_for}
-use Rattle.mpy_base.specs.Val.{Val, Str, At}
-use Rattle.prim_types.specs.py_values.declared.small_int.NumFault.{NumFault}
-use Rattle.prim_types.specs.py_values.Shown.{PlainHeap, Shown, Number, Text, Pairs, Items, Tuple, Range, at_least_zero, shown}
-use Rattle.prim_types.specs.py_values.Names.{type_name}
-use Rattle.prim_types.specs.py_values.Keys.{key_of, value_of_key}
-use Rattle.prim_types.specs.py_primitives.Faults.{UnsupportedOne}
-use Rattle.prim_types.specs.py_primitives.Outcome.{Outcome, Stop, gives, raises, is_full, go_on_with, followed_by, making, making_text, making_tuple, making_list, making_texts}
-use Rattle.prim_types.specs.py_primitives.Iterables.{shown_item, over_items, items_in, kept_items, use_iter, item_of, place_at, length_of}
-use Rattle.prim_types.specs.py_primitives.Operators as operators
-use Rattle.prim_types.specs.py_primitives.Operators.{Operator, UnaryOperator, gives_number, binary_shown, binary, unary_shown, unary, unary_answer, number_answer, with_key_of, match_kinds, op_match, exception_kind, all_of, named_kind, members}
-use Rattle.prim_types.specs.py_primitives.Uses.{Attribute, Found, Method, Absent, attribute, gives_attribute, get_attr, set_in, set_attr, at_found, at_shown, at_place, at_key, of_key, shown_at, get_item, set_shown, set_item, delete_shown, delete_item, unpack_items, unpack}
+use Rattle.frame_moves.specs.mpy_base.World.{Object, ListObject, TupleObject, TextObject, MethodObject, ModuleObject, object}
+use Rattle.frame_moves.specs.mpy_base.Weights.{used, does_fit, cells_of, bytes_of, with_made, room_for}
+use Rattle.frame_moves.specs.mpy_base.Val.{Val, Str, At}
+use Rattle.prim_names.specs.prim_types.py_values.declared.small_int.NumFault.{NumFault}
+use Rattle.prim_names.specs.prim_types.py_values.Shown.{PlainHeap, Shown, Number, Text, Pairs, Items, Tuple, Range, at_least_zero, shown}
+use Rattle.prim_names.specs.prim_types.py_values.Names.{type_name}
+use Rattle.prim_names.specs.prim_types.py_values.Keys.{key_of, value_of_key}
+use Rattle.prim_names.specs.prim_types.py_primitives.Faults.{UnsupportedOne}
+use Rattle.prim_names.specs.prim_types.py_primitives.Outcome.{Outcome, Stop, gives, raises, is_full, go_on_with, followed_by, making, making_text, making_tuple, making_list, making_texts}
+use Rattle.prim_names.specs.prim_types.py_primitives.Iterables.{shown_item, over_items, items_in, kept_items, use_iter, item_of, place_at, length_of}
+use Rattle.prim_names.specs.prim_types.py_primitives.Operators as operators
+use Rattle.prim_names.specs.prim_types.py_primitives.Operators.{Operator, UnaryOperator, gives_number, binary_shown, binary, unary_shown, unary, unary_answer, number_answer, with_key_of, match_kinds, op_match, exception_kind, all_of, named_kind, members}
+use Rattle.prim_names.specs.prim_types.py_primitives.Uses.{Attribute, Found, Method, Absent, attribute, gives_attribute, get_attr, set_in, set_attr, at_found, at_shown, at_place, at_key, of_key, shown_at, get_item, set_shown, set_item, delete_shown, delete_item, unpack_items, unpack}
 use Rattle.prim_names.proofs.Stores.{put_visits}
 
 either_free : {A : Type 0} (b : Bool) (x y : Outcome A) → x.visits ≡ 0 → y.visits ≡ 0 → (cond b x y).visits ≡ 0

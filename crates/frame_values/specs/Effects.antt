@@ -1,6 +1,6 @@
 -- What an instruction does that may raise, where the texts and tuples of constants are given.
 use Rattle.std.specs.Prelude.{ℕ, List, Option, Result, Ok, Err}
-use Rattle.mpy_base.specs.World.{Heap, Objects, Later}
+use Rattle.frame_moves.specs.mpy_base.World.{Heap, Objects, Later}
 use Rattle.prim_names.specs.arena_heap.declared.value.Value.{Value}
 use Rattle.prim_names.specs.arena_heap.declared.value.StrNo.{StrNo}
 use Rattle.prim_names.specs.arena_heap.declared.value.ConstNo.{ConstNo}

@@ -1,10 +1,10 @@
 -- Operators by their numbers, as the machine has them.
 use Rattle.std.specs.Prelude.{ℕ, Option, Some, None}
-use Rattle.mpy_base.specs.Val.{Val}
-use Rattle.prim_types.specs.py_values.Shown.{PlainHeap}
-use Rattle.prim_types.specs.py_primitives.Operators.{op_eq, op_ne, op_order, op_contains, op_is, op_match, in_place, binary, unary, unary_not}
-use Rattle.prim_types.specs.py_primitives.Outcome.{Outcome}
-use Rattle.prim_types.specs.prim_operators.Operators.{plain_operator, plain_unary}
+use Rattle.frame_moves.specs.mpy_base.Val.{Val}
+use Rattle.prim_names.specs.prim_types.py_values.Shown.{PlainHeap}
+use Rattle.prim_names.specs.prim_types.py_primitives.Operators.{op_eq, op_ne, op_order, op_contains, op_is, op_match, in_place, binary, unary, unary_not}
+use Rattle.prim_names.specs.prim_types.py_primitives.Outcome.{Outcome}
+use Rattle.prim_names.specs.prim_types.prim_operators.Operators.{plain_operator, plain_unary}
 use Rattle.prim_comparisons.specs.Signs.{plain_sign}
 use Rattle.frame_moves.specs.bc_machine.Operations.{TwoValued}
 use Rattle.frame_values.specs.declared.operations.OneOperand.{OneOperand}

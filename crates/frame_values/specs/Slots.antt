@@ -1,6 +1,6 @@
 -- What instructions take from the slots of the running call and put there, counted from the top.
 use Rattle.std.specs.Prelude.{◌≡◌, ℕ, List, ◌∷◌, ◌++◌, length, map, drop, Option, Some, None, IfSome, All, Result, Ok, Err, slice_get, slice_set}
-use Rattle.mpy_base.specs.World.{Objects}
+use Rattle.frame_moves.specs.mpy_base.World.{Objects}
 use Rattle.prim_names.specs.arena_heap.declared.value.Value.{Value}
 use Rattle.prim_names.specs.arena_heap.declared.value.Value.TheVariants as values
 use Rattle.prim_names.specs.arena_heap.declared.value.StrNo.{StrNo}

@@ -11,11 +11,9 @@ ghost use Rattle.frame_values.specs.Slots.{HasKnown, Puts, PutsLooked, Changes, 
 
 use crate::slots::{put, put_looked, take, value_at};
 use arena_heap::{Arena, Constants, StrNo};
-use prim_assignments::set_attr;
-use prim_faults::Stop;
-use prim_names::{import_from as imported_from, load_method as method_of};
-use prim_operators::get_attr;
-use vm_frames::Frames;
+use frame_moves::Frames;
+use prim_names::{import_from as imported_from, load_method as method_of, set_attr};
+use prim_operators::{Stop, get_attr};
 
 /// LOAD_ATTR.
 pub fn load_attr<C: Constants>(

@@ -13,11 +13,9 @@ ghost use Rattle.frame_values.specs.Settled.{Settles};
 use crate::slots::{put, value_at};
 use crate::values::{gather, put_values};
 use arena_heap::{Arena, Constants, Value};
-use prim_assignments::unpack;
-use prim_faults::Stop;
-use prim_names::{make_dict, make_list};
-use prim_types::make_tuple;
-use vm_frames::Frames;
+use frame_moves::Frames;
+use prim_names::{make_dict, make_list, make_tuple, unpack};
+use prim_operators::Stop;
 
 /// BUILD_TUPLE, of as many items as the caller lends values for.
 pub fn build_tuple<C: Constants>(

@@ -1,12 +1,12 @@
 //! Iterators, and the truth of values.
 
 ghost use Rattle.std.specs.Prelude.{◌≡◌, ℕ, ◌+◌, ◌<◌, ◌≤◌, length, suc, IsSome, Ok};
-ghost use Rattle.mpy_base.specs.Val.{PlainWorld};
+ghost use Rattle.frame_moves.specs.mpy_base.Val.{PlainWorld};
 ghost use Rattle.frame_moves.specs.bc_ops.declared.instr.Op.TheVariants as ops;
 ghost use Rattle.frame_moves.specs.bc_ops.declared.instr.Instr.TheVariants as instrs;
 ghost use Rattle.prim_names.specs.arena_heap.declared.value.Value.{Value as Item};
 ghost use Rattle.prim_names.specs.arena_heap.Values.{Leads};
-ghost use Rattle.prim_types.specs.py_primitives.Iterables.{items_in, length_of as length_in};
+ghost use Rattle.prim_names.specs.prim_types.py_primitives.Iterables.{items_in, length_of as length_in};
 ghost use Rattle.prim_names.specs.prim_faults.Sights.{under, sight, Tells, TellsAll};
 ghost use Rattle.frame_moves.specs.vm_frames.Calls.{OfRunning, on_running};
 ghost use Rattle.frame_moves.specs.bc_machine.Library.{Plain, Jumps};
@@ -18,11 +18,10 @@ ghost use Rattle.frame_values.specs.Slots.{HasKnown, HasIterator, IsIterator, wi
 use crate::slots::{drop_slots, value_at};
 use crate::values::{begin_iterator, put_item};
 use arena_heap::{Arena, Constants, Value};
-use arena_objects::{item_count, text_bytes};
-use prim_faults::Stop;
-use prim_operators::{item_of, items_law, length_of, use_iter};
-use prim_walks::truth;
-use vm_frames::{Frames, Slot};
+use frame_moves::{Frames, Slot};
+use prim_operators::{
+    Stop, item_count, item_of, items_law, length_of, text_bytes, truth, use_iter,
+};
 
 /// The truth of the top value, by which the tests jump.
 pub fn top_truth<C: Constants>(frames: &Frames, arena: &Arena, consts: &C) -> bool

@@ -11,9 +11,9 @@ ghost use Rattle.frame_values.specs.Slots.{Puts, HasLocal, Changes, with_value, 
 
 use crate::slots::{empty, local_at, put};
 use arena_heap::{Arena, Constants};
-use prim_faults::Stop;
+use frame_moves::Frames;
 use prim_names::assigned;
-use vm_frames::Frames;
+use prim_operators::Stop;
 
 /// LOAD_FAST, in one byte or in more.
 pub fn load_fast<C: Constants>(

@@ -1,7 +1,7 @@
 //! Instructions on the names of the running call's module.
 
 ghost use Rattle.std.specs.Prelude.{◌<◌, length, IsSome};
-ghost use Rattle.mpy_base.specs.World.{ADict, IsA};
+ghost use Rattle.frame_moves.specs.mpy_base.World.{ADict, IsA};
 ghost use Rattle.frame_moves.specs.bc_ops.declared.instr.Op.TheVariants as ops;
 ghost use Rattle.prim_names.specs.arena_objects.Iterables.{or_nothing};
 ghost use Rattle.frame_moves.specs.vm_frames.Calls.{OfRunning};
@@ -12,9 +12,9 @@ ghost use Rattle.frame_values.specs.Slots.{HasKnown, Puts, Changes, with_value, 
 
 use crate::slots::{put, take, value_at};
 use arena_heap::{Arena, Constants, StrNo};
-use prim_faults::Stop;
+use frame_moves::Frames;
 use prim_names::{delete_global, load_global, store_global};
-use vm_frames::Frames;
+use prim_operators::Stop;
 
 /// LOAD_NAME and LOAD_GLOBAL.
 pub fn load_name<C: Constants>(

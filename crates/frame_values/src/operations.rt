@@ -3,7 +3,7 @@
 ghost use Rattle.std.specs.Prelude.{◌≡◌, ◌<◌, Some, slice_get};
 ghost use Rattle.std.specs.Option.{option_map};
 ghost use Rattle.frame_moves.specs.bc_machine.Operations.{comparisons, arithmetic as operators_of, operator_at, unary_at};
-ghost use Rattle.prim_types.specs.prim_operators.Operators.{plain_operator};
+ghost use Rattle.prim_names.specs.prim_types.prim_operators.Operators.{plain_operator};
 ghost use Rattle.frame_values.specs.Operations.{meaning_of_one, meaning_of_two};
 
 use prim_comparisons::Sign;

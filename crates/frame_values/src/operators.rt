@@ -4,9 +4,9 @@ ghost use Rattle.std.specs.Prelude.{◌≡◌, min, IsSome};
 ghost use Rattle.frame_moves.specs.bc_ops.declared.instr.Instr.TheVariants as instrs;
 ghost use Rattle.prim_names.specs.arena_heap.declared.value.Value.{Value as Item};
 ghost use Rattle.prim_names.specs.arena_heap.Values.{Leads};
-ghost use Rattle.prim_types.specs.py_primitives.Operators.{in_place as in_place_of};
+ghost use Rattle.prim_names.specs.prim_types.py_primitives.Operators.{in_place as in_place_of};
 ghost use Rattle.prim_names.specs.prim_faults.Sights.{under, sight, Tells, TellsAll, Does};
-ghost use Rattle.prim_types.specs.prim_operators.Operators.{plain_operator};
+ghost use Rattle.prim_names.specs.prim_types.prim_operators.Operators.{plain_operator};
 ghost use Rattle.frame_moves.specs.bc_machine.Library.{Plain};
 ghost use Rattle.frame_moves.specs.bc_machine.Operations.{unary_at, operator_at};
 ghost use Rattle.frame_values.specs.Effects.{Steps, Leaves};
@@ -16,15 +16,13 @@ ghost use Rattle.frame_values.specs.Slots.{HasValue, HasKnown, Puts, with_value}
 use crate::operations::{OneOperand, TwoOperands, one_operand, two_operands};
 use crate::slots::{put, value_at};
 use arena_heap::{Arena, Constants, Value};
-use prim_assignments::{inplace_add, visits_inplace_add};
+use frame_moves::Frames;
 use prim_comparisons::{
     op_contains, op_eq, op_is, op_ne, op_order, visits_op_contains, visits_op_eq, visits_op_ne,
     visits_op_order,
 };
-use prim_faults::Stop;
-use prim_operators::{Operator, binary, unary, unary_not};
-use prim_types::op_match;
-use vm_frames::Frames;
+use prim_names::{inplace_add, op_match, visits_inplace_add};
+use prim_operators::{Operator, Stop, binary, unary, unary_not};
 
 /// What an operation on one value gives.
 fn one_value<C: Constants>(

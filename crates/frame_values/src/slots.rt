@@ -8,9 +8,9 @@ ghost use Rattle.frame_values.specs.Slots.{HasKnown, HasLocal, HasValue, looked_
 ghost use Rattle.frame_values.specs.Settled.{Settles};
 
 use arena_heap::{Arena, Constants, Value};
-use prim_faults::Stop;
+use frame_moves::{Frames, Slot};
 use prim_names::Looked;
-use vm_frames::{Frames, Slot};
+use prim_operators::Stop;
 
 /// The value in a slot, counted from the top.
 pub(crate) fn value_at<C: Constants>(

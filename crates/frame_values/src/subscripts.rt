@@ -9,11 +9,9 @@ ghost use Rattle.frame_values.specs.Slots.{HasKnown, HasNull, Puts, Changes, wit
 
 use crate::slots::{put, take, value_at};
 use arena_heap::{Arena, Constants};
-use prim_assignments::set_item;
-use prim_faults::Stop;
-use prim_names::store_pair;
-use prim_operators::{delete_item, get_item};
-use vm_frames::Frames;
+use frame_moves::Frames;
+use prim_names::{set_item, store_pair};
+use prim_operators::{Stop, delete_item, get_item};
 
 /// LOAD_SUBSCR.
 pub fn load_subscr<C: Constants>(

@@ -9,8 +9,8 @@ ghost use Rattle.frame_values.specs.Settled.{Settles};
 
 use crate::slots::{put_slot, value_at};
 use arena_heap::{Arena, Constants, Value};
-use prim_faults::Stop;
-use vm_frames::{Frames, Slot};
+use frame_moves::{Frames, Slot};
+use prim_operators::Stop;
 
 /// The values of the topmost slots, the lowest first.
 pub(crate) fn gather<C: Constants>(frames: &Frames, arena: &Arena, consts: &C, items: &mut [Value])

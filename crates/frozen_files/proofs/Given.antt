@@ -9,9 +9,9 @@ use Rattle.mpy_base.specs.Fault.{too_long}
 use Rattle.mpy_io.specs.declared.fault.ReadFault.{ReadFault}
 use Rattle.mpy_io.specs.declared.fault.ReadFault.TheVariants as reads
 use Rattle.mpy_io.specs.Files.{FileOf, Reads}
-use Rattle.image_open.specs.mpy_tree.Raw.{Module}
-use Rattle.mpy_compile.specs.Compiled.{Compiles, CompilesTo, IsFault}
-use Rattle.library_files.specs.Comes.{IsVerifiedFile}
+use Rattle.image_freeze.specs.image_open.mpy_tree.Raw.{Module}
+use Rattle.source_files.specs.mpy_compile.Compiled.{Compiles, CompilesTo, IsFault}
+use Rattle.source_files.specs.library_files.Comes.{IsVerifiedFile}
 use Rattle.manifest_lines.specs.declared.entry.Entry.{Entry}
 use Rattle.image_freeze.specs.declared.named.Named.{Named}
 use Rattle.manifest_files.specs.declared.frozen_fault.SourcesFault.{SourcesFault}

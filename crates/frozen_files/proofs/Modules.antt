@@ -6,16 +6,16 @@ use Rattle.std.proofs.lemmas.List.Elements.{All-nil, All-cons, All-head, All-tai
 use Rattle.mpy_base.specs.declared.refused.Refused.{Refused}
 use Rattle.mpy_base.specs.declared.refused.Refused.TheVariants as refused
 use Rattle.mpy_io.specs.Files.{FileOf}
-use Rattle.image_open.specs.mpy_tree.File.{IsAscii}
-use Rattle.image_open.specs.bc_verify.Verified.{IsVerified}
+use Rattle.image_freeze.specs.image_open.mpy_tree.File.{IsAscii}
+use Rattle.image_freeze.specs.image_open.bc_verify.Verified.{IsVerified}
 use Rattle.manifest_lines.specs.declared.entry.Entry.{Entry}
 use Rattle.manifest_files.specs.declared.fault.ManifestFault.{ManifestFault}
 use Rattle.manifest_files.specs.Answers.{is_read_fault}
 use Rattle.manifest_files.specs.Entries.{IsFault}
 use Rattle.manifest_files.specs.Plain.{IsPlain}
-use Rattle.image_open.specs.bc_library.Shelf.{Shelf}
+use Rattle.image_freeze.specs.image_open.bc_library.Shelf.{Shelf}
 use Rattle.manifest_files.specs.image_grammar.Base.{base_of}
-use Rattle.image_open.specs.Opens.{Opens, with_entries}
+use Rattle.image_freeze.specs.image_open.Opens.{Opens, with_entries}
 use Rattle.image_freeze.specs.declared.named.Named.{Named}
 use Rattle.image_freeze.specs.Fronts.{front_of}
 use Rattle.image_freeze.specs.Frozen.{entries_of, image_bytes}

@@ -3,10 +3,10 @@ use Rattle.std.specs.Prelude.{◌≡◌, ℕ, List, Option, Result, Ok, Err, Vec
 use Rattle.std.specs.declared.alloc.Global.{Global}
 use Rattle.mpy_base.specs.declared.refused.Refused.{Refused}
 use Rattle.mpy_io.specs.Files.{FileOf}
-use Rattle.image_open.specs.bc_library.Shelf.{Shelf}
+use Rattle.image_freeze.specs.image_open.bc_library.Shelf.{Shelf}
 use Rattle.manifest_files.specs.image_grammar.declared.fault.ImageFault.{ImageFault}
 use Rattle.manifest_files.specs.image_grammar.Base.{base_of}
-use Rattle.image_open.specs.Opens.{Opens, with_entries}
+use Rattle.image_freeze.specs.image_open.Opens.{Opens, with_entries}
 use Rattle.image_freeze.specs.declared.named.Named.{Named}
 use Rattle.image_freeze.specs.Fronts.{front_of}
 use Rattle.image_freeze.specs.Frozen.{FreezeFault, entries_of, image_bytes}

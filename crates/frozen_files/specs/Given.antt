@@ -2,8 +2,8 @@
 use Rattle.std.specs.Prelude.{ℕ, List, Result, Ok, Err}
 use Rattle.mpy_base.specs.declared.refused.Refused.{Refused}
 use Rattle.mpy_base.specs.declared.source.SourceFault.{SourceFault}
-use Rattle.image_open.specs.mpy_tree.Raw.{Module}
-use Rattle.mpy_compile.specs.Compiled.{IsFault}
+use Rattle.image_freeze.specs.image_open.mpy_tree.Raw.{Module}
+use Rattle.source_files.specs.mpy_compile.Compiled.{IsFault}
 use Rattle.manifest_lines.specs.declared.entry.Entry.{Entry}
 use Rattle.manifest_files.specs.FrozenFaults.{FaultIs}
 use Rattle.frozen_files.specs.Sources.{IsModuleOf}

@@ -3,9 +3,9 @@ use Rattle.std.specs.Prelude.{◌≡◌, ◌⊎◌, ℕ, false, List, ◌∷◌,
 use Rattle.std.specs.List.{AllZip}
 use Rattle.mpy_base.specs.declared.source.SourceFault.{SourceFault}
 use Rattle.mpy_io.specs.Files.{FileOf}
-use Rattle.image_open.specs.mpy_tree.Raw.{Module}
-use Rattle.mpy_compile.specs.Compiled.{CompilesTo, IsFault}
-use Rattle.library_files.specs.Comes.{IsVerifiedFile}
+use Rattle.image_freeze.specs.image_open.mpy_tree.Raw.{Module}
+use Rattle.source_files.specs.mpy_compile.Compiled.{CompilesTo, IsFault}
+use Rattle.source_files.specs.library_files.Comes.{IsVerifiedFile}
 use Rattle.manifest_lines.specs.declared.entry.Entry.{Entry}
 use Rattle.manifest_files.specs.declared.fault.ManifestFault.{ManifestFault}
 use Rattle.manifest_files.specs.Answers.{is_read_fault}

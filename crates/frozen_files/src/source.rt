@@ -2,8 +2,8 @@
 
 ghost use Rattle.std.specs.Prelude.{◌≡◌, IfOk, IfErr, IsUtf8};
 ghost use Rattle.mpy_io.specs.Count.{Counts};
-ghost use Rattle.image_open.specs.mpy_tree.Raw.{Module};
-ghost use Rattle.library_files.specs.Comes.{IsVerifiedFile};
+ghost use Rattle.image_freeze.specs.image_open.mpy_tree.Raw.{Module};
+ghost use Rattle.source_files.specs.library_files.Comes.{IsVerifiedFile};
 ghost use Rattle.manifest_files.specs.Plain.{IsPlain};
 ghost use Rattle.manifest_files.specs.FrozenFaults.{FaultIs, failed_by, is_read_fault};
 ghost use Rattle.frozen_files.specs.Given.{GivesModule};
@@ -13,11 +13,10 @@ use image_freeze::Named;
 use manifest_files::SourcesFault;
 use manifest_lines::Entry;
 use mpy_base::{NoMemory, Refused, SourceFault, Text};
-use mpy_compile::compile;
 use mpy_io::{Folder, ReadFault};
 use mpy_reader::read;
 use mpy_tree::RawModule;
-use source_files::compiled_law;
+use source_files::{compile, compiled_law};
 use std::alloc::Global;
 use std::str::from_utf8;
 

@@ -3,7 +3,7 @@
 ghost use Rattle.std.specs.Prelude.{◌≡◌, All, IfOk, IfErr};
 ghost use Rattle.std.specs.List.{AllZip};
 ghost use Rattle.mpy_io.specs.Count.{Counts};
-ghost use Rattle.image_open.specs.mpy_tree.File.{IsAscii};
+ghost use Rattle.image_freeze.specs.image_open.mpy_tree.File.{IsAscii};
 ghost use Rattle.manifest_files.specs.Plain.{IsPlain};
 ghost use Rattle.manifest_files.specs.FrozenFaults.{FaultIs, failed_by, is_read_fault};
 ghost use Rattle.frozen_files.specs.Sources.{MayList, RefusesManifest, HoldsSource, HoldsSources, IsFirstRefused, RefusesSources};

@@ -1,9 +1,9 @@
 -- What writing an image does to other files.
 use Rattle.std.proofs.Common.{List, ℕ, Option}
 use Rattle.mpy_io.specs.Files.{FileOf}
-use Rattle.image_grammar.specs.bc_library.Shelf.{Shelf}
-use Rattle.mpy_endings.specs.declared.ending.Ending.{Ending}
-use Rattle.mpy_endings.specs.declared.ending.Ending.TheVariants.{Done, Unaccepted, Unread, Unverified, Unmerged, Unopened, Unfrozen, Unboarded, Different, Stopped, ReadFault, WriteFault, Unwritten, NoMemory, Absent}
+use Rattle.manifest_files.specs.image_grammar.bc_library.Shelf.{Shelf}
+use Rattle.command_files.specs.mpy_endings.declared.ending.Ending.{Ending}
+use Rattle.command_files.specs.mpy_endings.declared.ending.Ending.TheVariants.{Done, Unaccepted, Unread, Unverified, Unmerged, Unopened, Unfrozen, Unboarded, Different, Stopped, ReadFault, WriteFault, Unwritten, NoMemory, Absent}
 use Rattle.command_files.specs.Folder.{ChangesOnly}
 use Rattle.image_commands.specs.Freeze.{Freezes}
 use Rattle.command_files.proofs.Others.{same_only, became_only, front_only}

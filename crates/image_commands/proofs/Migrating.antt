@@ -3,17 +3,17 @@ use Rattle.std.proofs.Common.{◌≡◌, ℕ, List, [], ◌∷◌, ◌++◌, inl
 use Rattle.mpy_base.specs.declared.refused.Refused.{Refused}
 use Rattle.mpy_base.specs.declared.refused.Refused.TheVariants as refusals
 use Rattle.mpy_io.specs.Files.{FileOf}
-use Rattle.image_grammar.specs.declared.entry.Entry.{Entry}
-use Rattle.image_grammar.specs.declared.fault.ImageFault.{ImageFault}
-use Rattle.image_grammar.specs.declared.fault.ImageFault.TheVariants.{BadHeader, Truncated, BadNumber, BadModule, Twice, Trailing, TooBig, BadBase}
-use Rattle.image_grammar.specs.Image.{Differ}
-use Rattle.image_grammar.specs.Opening.{FirstFault, names_of, nothing_below}
-use Rattle.image_freeze.specs.Frozen.{FreezeFault, IsTooBig, IsTwice, second_front}
-use Rattle.image_freeze.specs.declared.fault.MigrateFault.{MigrateFault}
-use Rattle.image_freeze.specs.declared.fault.MigrateFault.TheVariants.{Opening, Freezing}
-use Rattle.image_freeze.specs.Migrated.{IsImageOf}
-use Rattle.mpy_endings.specs.declared.ending.Ending.{Ending}
-use Rattle.mpy_endings.specs.declared.ending.Ending.TheVariants.{Done, Unaccepted, Unread, Unverified, Unmerged, Unopened, Unfrozen, Unboarded, Different, Stopped, ReadFault, WriteFault, Unwritten, NoMemory, Absent}
+use Rattle.manifest_files.specs.image_grammar.declared.entry.Entry.{Entry}
+use Rattle.manifest_files.specs.image_grammar.declared.fault.ImageFault.{ImageFault}
+use Rattle.manifest_files.specs.image_grammar.declared.fault.ImageFault.TheVariants.{BadHeader, Truncated, BadNumber, BadModule, Twice, Trailing, TooBig, BadBase}
+use Rattle.manifest_files.specs.image_grammar.Image.{Differ}
+use Rattle.manifest_files.specs.image_grammar.Opening.{FirstFault, names_of, nothing_below}
+use Rattle.frozen_files.specs.image_freeze.Frozen.{FreezeFault, IsTooBig, IsTwice, second_front}
+use Rattle.frozen_files.specs.image_freeze.declared.fault.MigrateFault.{MigrateFault}
+use Rattle.frozen_files.specs.image_freeze.declared.fault.MigrateFault.TheVariants.{Opening, Freezing}
+use Rattle.frozen_files.specs.image_freeze.Migrated.{IsImageOf}
+use Rattle.command_files.specs.mpy_endings.declared.ending.Ending.{Ending}
+use Rattle.command_files.specs.mpy_endings.declared.ending.Ending.TheVariants.{Done, Unaccepted, Unread, Unverified, Unmerged, Unopened, Unfrozen, Unboarded, Different, Stopped, ReadFault, WriteFault, Unwritten, NoMemory, Absent}
 use Rattle.image_runs.specs.declared.fault.MainFault.TheVariants as mains
 use Rattle.manifest_files.specs.declared.frozen_fault.FrozenFault.TheVariants as frozen
 use Rattle.command_files.specs.Folder.{ChangesOnly, MayHold}

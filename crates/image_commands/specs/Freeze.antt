@@ -1,10 +1,10 @@
 -- What writing the image of a manifest's sources does.
 use Rattle.std.specs.Prelude.{◌≡◌, ℕ, List, Option}
 use Rattle.mpy_io.specs.Files.{FileOf, Becomes, BecomesFront}
-use Rattle.image_grammar.specs.bc_library.Shelf.{Shelf}
+use Rattle.manifest_files.specs.image_grammar.bc_library.Shelf.{Shelf}
 use Rattle.frozen_files.specs.Frozen.{HoldsFrozen, RefusesFrozen}
-use Rattle.mpy_endings.specs.declared.ending.Ending.{Ending}
-use Rattle.mpy_endings.specs.declared.ending.Ending.TheVariants.{Done, Unaccepted, Unread, Unverified, Unmerged, Unopened, Unfrozen, Unboarded, Different, Stopped, ReadFault, WriteFault, Unwritten, NoMemory, Absent}
+use Rattle.command_files.specs.mpy_endings.declared.ending.Ending.{Ending}
+use Rattle.command_files.specs.mpy_endings.declared.ending.Ending.TheVariants.{Done, Unaccepted, Unread, Unverified, Unmerged, Unopened, Unfrozen, Unboarded, Different, Stopped, ReadFault, WriteFault, Unwritten, NoMemory, Absent}
 
 -- in this version, over the library below
 module _ (version : ℕ) (below : Shelf) (manifest written : List ℕ) (old new : Option FileOf) where

@@ -1,2 +1,3 @@
+pub use Rattle.frozen_files.specs.mpy_compile
 pub mod Freeze
 pub mod Migrate

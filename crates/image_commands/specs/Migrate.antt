@@ -3,18 +3,18 @@ use Rattle.std.specs.Prelude.{◌≡◌, ℕ, List, Option, Some, None}
 use Rattle.mpy_base.specs.declared.refused.Refused.{Refused}
 use Rattle.mpy_base.specs.declared.refused.Refused.TheVariants as refusals
 use Rattle.mpy_io.specs.Files.{FileOf, Becomes, BecomesFront}
-use Rattle.image_grammar.specs.bc_library.Shelf.{no_entries}
-use Rattle.image_grammar.specs.declared.entry.Entry.{Entry}
-use Rattle.image_grammar.specs.declared.fault.ImageFault.TheVariants.{TooBig}
-use Rattle.image_grammar.specs.Opening.{nothing_below}
-use Rattle.image_freeze.specs.Frozen.{IsTooBig, second_front}
-use Rattle.image_freeze.specs.declared.fault.MigrateFault.{MigrateFault}
-use Rattle.image_freeze.specs.declared.fault.MigrateFault.TheVariants.{Opening, Freezing}
-use Rattle.image_freeze.specs.Migrated.{IsImageOf, Migrates as MigratesTo}
+use Rattle.manifest_files.specs.image_grammar.bc_library.Shelf.{no_entries}
+use Rattle.manifest_files.specs.image_grammar.declared.entry.Entry.{Entry}
+use Rattle.manifest_files.specs.image_grammar.declared.fault.ImageFault.TheVariants.{TooBig}
+use Rattle.manifest_files.specs.image_grammar.Opening.{nothing_below}
+use Rattle.frozen_files.specs.image_freeze.Frozen.{IsTooBig, second_front}
+use Rattle.frozen_files.specs.image_freeze.declared.fault.MigrateFault.{MigrateFault}
+use Rattle.frozen_files.specs.image_freeze.declared.fault.MigrateFault.TheVariants.{Opening, Freezing}
+use Rattle.frozen_files.specs.image_freeze.Migrated.{IsImageOf, Migrates as MigratesTo}
 use Rattle.image_runs.specs.declared.fault.MainFault.TheVariants as mains
 use Rattle.manifest_files.specs.declared.frozen_fault.FrozenFault.TheVariants as frozen
-use Rattle.mpy_endings.specs.declared.ending.Ending.{Ending}
-use Rattle.mpy_endings.specs.declared.ending.Ending.TheVariants.{Done, Unaccepted, Unread, Unverified, Unmerged, Unopened, Unfrozen, Unboarded, Different, Stopped, ReadFault, WriteFault, Unwritten, NoMemory, Absent}
+use Rattle.command_files.specs.mpy_endings.declared.ending.Ending.{Ending}
+use Rattle.command_files.specs.mpy_endings.declared.ending.Ending.TheVariants.{Done, Unaccepted, Unread, Unverified, Unmerged, Unopened, Unfrozen, Unboarded, Different, Stopped, ReadFault, WriteFault, Unwritten, NoMemory, Absent}
 use Rattle.command_files.specs.Folder.{MayHold, IsNotRead}
 use Rattle.command_files.specs.Images.{HoldsNoImage}
 

@@ -2,15 +2,15 @@
 
 ghost use Rattle.std.specs.Prelude.{◌≡◌, [], false};
 ghost use Rattle.mpy_io.specs.Count.{Counts};
-ghost use Rattle.mpy_endings.specs.Ending.{is_folder_fault, is_out_fault};
-ghost use Rattle.image_grammar.specs.Base.{base_of};
-ghost use Rattle.image_freeze.specs.Fronts.{MayLieOver};
+ghost use Rattle.command_files.specs.mpy_endings.Ending.{is_folder_fault, is_out_fault};
+ghost use Rattle.manifest_files.specs.image_grammar.Base.{base_of};
+ghost use Rattle.frozen_files.specs.image_freeze.Fronts.{MayLieOver};
 ghost use Rattle.image_commands.specs.Freeze.{Freezes};
 
 use bc_library::Library;
+use command_files::Ending;
 use frozen_files::freeze_files;
 use mpy_base::Refused;
-use mpy_endings::Ending;
 use mpy_io::{Failed, Folder};
 use std::alloc::Global;
 

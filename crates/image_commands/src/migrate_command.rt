@@ -2,15 +2,14 @@
 
 ghost use Rattle.std.specs.Prelude.{◌≡◌, false};
 ghost use Rattle.mpy_io.specs.Count.{Counts};
-ghost use Rattle.mpy_endings.specs.Ending.{is_folder_fault, is_out_fault};
+ghost use Rattle.command_files.specs.mpy_endings.Ending.{is_folder_fault, is_out_fault};
 ghost use Rattle.image_commands.specs.Migrate.{Migrates, refused_end};
 
-use command_files::read_file;
-use image_freeze::{MigrateFault, migrate_image};
+use command_files::{Ending, read_file};
+use frozen_files::{MigrateFault, migrate_image};
 use image_runs::MainFault;
 use manifest_files::FrozenFault;
 use mpy_base::Refused;
-use mpy_endings::Ending;
 use mpy_io::{Failed, Folder};
 use std::alloc::Global;
 

@@ -4,12 +4,12 @@ use Rattle.std.specs.Prelude.{slice_get, option_and_then, option_map, unwrap_or}
 use Rattle.std.specs.List.{AllByRecursion}
 use Rattle.std.proofs.lemmas.List.{length-map}
 use Rattle.std.proofs.lemmas.List.Elements.{All-from_recursion, recursion_from_All}
-use Rattle.bc_ops.specs.declared.instr.Op.{Op}
-use Rattle.bc_ops.specs.declared.instr.Op.TheVariants as ops
-use Rattle.bc_ops.specs.declared.instr.Instr.{Instr}
-use Rattle.bc_ops.specs.declared.instr.Instr.TheVariants as instrs
-use Rattle.bc_ops.specs.declared.listing.Item.{Item}
-use Rattle.bc_ops.specs.declared.listing.Item.TheVariants as listed
+use Rattle.mpy_tree.specs.bc_ops.declared.instr.Op.{Op}
+use Rattle.mpy_tree.specs.bc_ops.declared.instr.Op.TheVariants as ops
+use Rattle.mpy_tree.specs.bc_ops.declared.instr.Instr.{Instr}
+use Rattle.mpy_tree.specs.bc_ops.declared.instr.Instr.TheVariants as instrs
+use Rattle.mpy_tree.specs.bc_ops.declared.listing.Item.{Item}
+use Rattle.mpy_tree.specs.bc_ops.declared.listing.Item.TheVariants as listed
 use Rattle.mpy_writer.specs.mpy_tree.declared.raw.Qstr.{Qstr}
 use Rattle.mpy_writer.specs.mpy_tree.declared.raw.RawCode.{RawCode, out-RawCode}
 use Rattle.mpy_writer.specs.mpy_tree.Raw as raws

@@ -1,6 +1,6 @@
 //! The modules of an image.
 
-use bc_verify::Verified;
+use bc_library::Verified;
 use mpy_base::{Items, Text};
 
 /// A module of an image and its name.

@@ -10,6 +10,7 @@ mod names;
 mod texts;
 
 pub use base::{copy_texts, count_modules, has_name, name_of};
+pub use bc_library::{Library, library_law, modules_law};
 pub use entry::{Entry, Opened};
 pub use fault::ImageFault;
 pub use field::{Field, count, number};

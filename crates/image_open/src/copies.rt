@@ -11,9 +11,8 @@ ghost use Rattle.image_open.specs.Opens.{named, with_entries};
 
 use crate::modules::copy_module;
 use crate::shelving::shelve;
-use bc_library::{Library, library_law, modules_law};
 use bc_verify::{Verified, known_verified, verified_law};
-use image_grammar::{Entry, name_of};
+use image_grammar::{Entry, Library, library_law, modules_law, name_of};
 use mpy_base::limits::MAX_MODULES;
 use mpy_base::{Items, NoMemory, Text};
 use std::alloc::Global;

@@ -14,11 +14,10 @@ ghost use Rattle.image_grammar.specs.Fine.{IsFinePool};
 ghost use Rattle.image_grammar.specs.Steps.{Gives, judge, times};
 ghost use Rattle.image_grammar.specs.declared.fault.ImageFault.TheVariants as faults;
 
-use bc_library::{Library, library_law};
 use bc_verify::{Verified, verify};
 use image_grammar::{
-    Entry, Field, ImageFault, Opened, Table, count, count_modules, has_name, number, qstr_table,
-    use_of, use_part,
+    Entry, Field, ImageFault, Library, Opened, Table, count, count_modules, has_name, library_law,
+    number, qstr_table, use_of, use_part,
 };
 use mpy_base::limits::MAX_MODULES;
 use mpy_base::{Items, Refused, Text};

@@ -12,8 +12,7 @@ ghost use Rattle.image_open.specs.Counts.{AreCounts};
 ghost use Rattle.image_grammar.specs.Steps.{Gives};
 
 use crate::entry::modules;
-use bc_library::Library;
-use image_grammar::{Entry, Field, ImageFault, copy_texts, count_modules, number, table};
+use image_grammar::{Entry, Field, ImageFault, Library, copy_texts, count_modules, number, table};
 use mpy_base::limits::MAX_IMAGE_BYTES;
 use mpy_base::{Items, NoMemory, Refused};
 use qstr_pool::{Pool, pool_law};

@@ -12,6 +12,7 @@ mod opening;
 mod shelving;
 
 pub use image::read_image;
+pub use image_grammar::ImageFault;
 pub use laws::{image_law, over_law};
 pub use modules::copy_module;
 pub use opening::open_image;

@@ -11,8 +11,7 @@ ghost use Rattle.image_open.specs.Opens.{Ended, Opens};
 
 use crate::copies::together;
 use crate::image::read_image;
-use bc_library::{Library, library_law};
-use image_grammar::ImageFault;
+use image_grammar::{ImageFault, Library, library_law};
 use mpy_base::Refused;
 use std::alloc::Global;
 

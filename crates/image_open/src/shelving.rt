@@ -8,8 +8,7 @@ ghost use Rattle.image_grammar.specs.Image.{Differ, texts_used};
 ghost use Rattle.image_grammar.specs.Opening.{names_of};
 ghost use Rattle.image_open.specs.Opens.{shelf_of};
 
-use bc_library::Library;
-use image_grammar::Entry;
+use image_grammar::{Entry, Library};
 use mpy_base::{Items, NoMemory, Refused};
 use std::alloc::Global;
 

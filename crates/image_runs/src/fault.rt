@@ -1,6 +1,6 @@
 //! Why an image has no main module.
 
-use image_grammar::ImageFault;
+use image_open::ImageFault;
 use mpy_base::Text;
 
 /// Why there is no main module.

@@ -1,4 +1,6 @@
+pub use Rattle.bc_library.specs as bc_library
 pub use Rattle.mpy_reader.specs as mpy_reader
+pub use Rattle.pkg_paths.specs as pkg_paths
 pub mod Imports
 pub mod Comes
 pub mod Search

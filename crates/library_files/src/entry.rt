@@ -1,6 +1,6 @@
 //! What a name comes to.
 
-use bc_verify::Verified;
+use bc_library::Verified;
 
 /// What a name comes to.
 #[derive(Drop)]

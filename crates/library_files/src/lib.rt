@@ -12,6 +12,7 @@ mod reader;
 mod search;
 
 pub use asked::asked_names;
+pub use bc_library::Library;
 pub use entry::Entry;
 pub use imports::{imported_names, imports_law};
 pub use laws::loads_law;

@@ -5,7 +5,7 @@ ghost use Rattle.library_files.specs.Comes.{Answers, BytesComeTo, ModuleComesTo}
 
 use crate::entry::Entry;
 use crate::reader::Reader;
-use bc_verify::verify;
+use bc_library::verify;
 use mpy_base::{Refused, SourceFault};
 use mpy_reader::read;
 use mpy_tree::RawModule;

@@ -11,25 +11,25 @@ use Rattle.mpy_io.specs.Told.{AppendsFront}
 use Rattle.port_set.specs.Calls.{Tell}
 use Rattle.port_set.specs.Counts.{AreAccounted}
 use Rattle.port_set.proofs.Counting.{beyond_within, none_beyond}
-use Rattle.vm_frames.specs.py_effects.Ends as plain
-use Rattle.vm_frames.specs.py_effects.Ends.{Run, new_world, end_report}
-use Rattle.vm_frames.specs.py_effects.Growth.{Starts}
+use Rattle.vm_machine.specs.vm_frames.py_effects.Ends as plain
+use Rattle.vm_machine.specs.vm_frames.py_effects.Ends.{Run, new_world, end_report}
+use Rattle.vm_machine.specs.vm_frames.py_effects.Growth.{Starts}
 use Rattle.bc_library.specs.Constants.{items_at, text_at}
 use Rattle.bc_library.specs.Shelf.{Named, Shelf}
-use Rattle.vm_frames.specs.bc_machine.Library.{Name, Library}
-use Rattle.vm_frames.specs.bc_machine.State.{State}
-use Rattle.vm_frames.specs.bc_machine.Step.{step}
-use Rattle.vm_frames.specs.bc_machine.Machine.{start, steps, run, run_of}
-use Rattle.vm_frames.specs.bc_machine.Behind.{behind, state_behind, run_behind}
-use Rattle.vm_frames.specs.Calls.{Call}
-use Rattle.state_calls.specs.frame_moves.Shown.{Tables, running_of}
-use Rattle.prim_walks.specs.Plain.{plain_heap}
+use Rattle.vm_machine.specs.vm_frames.bc_machine.Library.{Name, Library}
+use Rattle.vm_machine.specs.vm_frames.bc_machine.State.{State}
+use Rattle.vm_machine.specs.vm_frames.bc_machine.Step.{step}
+use Rattle.vm_machine.specs.vm_frames.bc_machine.Machine.{start, steps, run, run_of}
+use Rattle.vm_machine.specs.vm_frames.bc_machine.Behind.{behind, state_behind, run_behind}
+use Rattle.vm_machine.specs.vm_frames.Calls.{Call}
+use Rattle.vm_machine.specs.state_calls.frame_moves.Shown.{Tables, running_of}
+use Rattle.vm_machine.specs.prim_walks.Plain.{plain_heap}
 use Rattle.prim_outputs.specs.Prints.{Puts}
-use Rattle.state_calls.specs.frame_exits.declared.ends.End.{End}
-use Rattle.state_calls.specs.frame_exits.declared.ends.End.TheVariants as stops
-use Rattle.vm_starting.specs.vm_states.Means.{Program}
-use Rattle.vm_starting.specs.Programs.{IsProgramOf}
-use Rattle.vm_starting.specs.declared.opening.Vm.{Vm}
+use Rattle.vm_machine.specs.state_calls.frame_exits.declared.ends.End.{End}
+use Rattle.vm_machine.specs.state_calls.frame_exits.declared.ends.End.TheVariants as stops
+use Rattle.vm_machine.specs.vm_starting.vm_states.Means.{Program}
+use Rattle.vm_machine.specs.vm_starting.Programs.{IsProgramOf}
+use Rattle.vm_machine.specs.vm_starting.declared.opening.Vm.{Vm}
 use Rattle.vm_machine.specs.Machine.{paid_state, world_in, machine_of}
 use Rattle.vm_machine.specs.Running.{Outside, Agree, RunsFor, Strays, SinkFails, RunsToFailure, Runs as MachineRuns}
 use Rattle.std.specs.Prelude.{slice_get}

@@ -1,13 +1,13 @@
 -- What a machine that has stopped says.
 use Rattle.std.specs.Prelude.{ℕ, List, [], Option, Some, None}
-use Rattle.vm_frames.specs.py_effects.Ends.{Raised, end_report}
+use Rattle.vm_machine.specs.vm_frames.py_effects.Ends.{Raised, end_report}
 use Rattle.bc_library.specs.Constants.{items_at, text_at}
 use Rattle.bc_library.specs.Shelf.{Shelf}
-use Rattle.prim_walks.specs.Plain.{plain_heap}
-use Rattle.state_calls.specs.frame_exits.declared.ends.End.{End}
-use Rattle.state_calls.specs.frame_exits.declared.ends.End.TheVariants as stops
+use Rattle.vm_machine.specs.prim_walks.Plain.{plain_heap}
+use Rattle.vm_machine.specs.state_calls.frame_exits.declared.ends.End.{End}
+use Rattle.vm_machine.specs.state_calls.frame_exits.declared.ends.End.TheVariants as stops
 use Rattle.prim_outputs.specs.Rooms.{room_line}
-use Rattle.vm_starting.specs.declared.opening.Vm.{Vm}
+use Rattle.vm_machine.specs.vm_starting.declared.opening.Vm.{Vm}
 use Rattle.library_runs.specs.declared.ending.RunEnd.{RunEnd}
 use Rattle.library_runs.specs.declared.ending.RunEnd.TheVariants as ends
 

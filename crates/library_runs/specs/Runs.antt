@@ -11,17 +11,17 @@ use Rattle.mpy_io.specs.Told.{AppendsFront}
 use Rattle.port_set.specs.Calls.{Tell}
 use Rattle.port_set.specs.Counts.{RoseBeyond}
 use Rattle.bc_library.specs.Shelf.{Shelf}
-use Rattle.vm_frames.specs.py_effects.Ends as plain
-use Rattle.vm_frames.specs.py_effects.Ends.{End, Run, end_report, new_world}
-use Rattle.vm_frames.specs.py_effects.Growth.{Starts}
-use Rattle.py_values.specs.Shown.{PlainHeap}
-use Rattle.vm_frames.specs.bc_machine.Library.{Name}
-use Rattle.vm_frames.specs.bc_machine.Machine.{run, start}
-use Rattle.vm_frames.specs.bc_machine.Behind.{behind}
+use Rattle.vm_machine.specs.vm_frames.py_effects.Ends as plain
+use Rattle.vm_machine.specs.vm_frames.py_effects.Ends.{End, Run, end_report, new_world}
+use Rattle.vm_machine.specs.vm_frames.py_effects.Growth.{Starts}
+use Rattle.bc_machine.specs.py_values.Shown.{PlainHeap}
+use Rattle.vm_machine.specs.vm_frames.bc_machine.Library.{Name}
+use Rattle.vm_machine.specs.vm_frames.bc_machine.Machine.{run, start}
+use Rattle.vm_machine.specs.vm_frames.bc_machine.Behind.{behind}
 use Rattle.prim_outputs.specs.Rooms.{room_line}
-use Rattle.vm_starting.specs.vm_states.Means.{Program}
-use Rattle.vm_starting.specs.Programs.{IsProgramOf}
-use Rattle.vm_starting.specs.declared.opening.Vm.{Vm}
+use Rattle.vm_machine.specs.vm_starting.vm_states.Means.{Program}
+use Rattle.vm_machine.specs.vm_starting.Programs.{IsProgramOf}
+use Rattle.vm_machine.specs.vm_starting.declared.opening.Vm.{Vm}
 use Rattle.vm_machine.specs.Machine.{machine_of}
 use Rattle.vm_machine.specs.Running.{Outside, Strays}
 use Rattle.library_runs.specs.declared.ending.RunEnd.{RunEnd}

@@ -5,8 +5,8 @@ ghost use Rattle.mpy_base.specs.declared.room.Room.{Room};
 ghost use Rattle.mpy_base.specs.World.{PortState};
 ghost use Rattle.port_set.specs.Counts.{AreAccounted};
 ghost use Rattle.bc_library.specs.Shelf.{Shelf};
-ghost use Rattle.vm_frames.specs.bc_machine.Library.{Name};
-ghost use Rattle.vm_starting.specs.vm_states.Means.{Program};
+ghost use Rattle.vm_machine.specs.vm_frames.bc_machine.Library.{Name};
+ghost use Rattle.vm_machine.specs.vm_starting.vm_states.Means.{Program};
 ghost use Rattle.library_runs.specs.declared.ending.RunEnd.{RunEnd};
 ghost use Rattle.library_runs.specs.Runs.{RunsAs, RunsSo, Sight, Strayed};
 

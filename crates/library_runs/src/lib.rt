@@ -9,3 +9,4 @@ mod running;
 pub use ending::RunEnd;
 pub use laws::accounted_law;
 pub use running::run_library;
+pub use vm_machine::program_law;

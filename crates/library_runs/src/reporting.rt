@@ -7,10 +7,9 @@ ghost use Rattle.library_runs.specs.Runs.{Says, speaks};
 
 use crate::ending::RunEnd;
 use bc_library::Library;
-use frame_exits::End;
 use mpy_io::Sink;
 use prim_outputs::{put_no_room, put_report};
-use vm_starting::Vm;
+use vm_machine::{End, Vm};
 
 /// Says of a run that is over how it ended, where an exception or want of room ended it. A put that fails changes nothing else.
 pub(crate) fn say_end<E: Sink>(vm: &Vm, library: &Library, say: &mut E) -> RunEnd

@@ -4,7 +4,7 @@ ghost use Rattle.std.specs.Prelude.{◌≡◌, ◌<◌, [], List, ℕ, false, le
 ghost use Rattle.mpy_io.specs.Count.{Counts};
 ghost use Rattle.port_set.specs.Counts.{CountsKeep};
 ghost use Rattle.bc_library.specs.Shelf.{Named};
-ghost use Rattle.vm_starting.specs.Programs.{IsRunnable};
+ghost use Rattle.vm_machine.specs.vm_starting.Programs.{IsRunnable};
 ghost use Rattle.library_runs.specs.declared.ending.RunEnd.{RunEnd as End};
 ghost use Rattle.library_runs.specs.Runs.{RunsAs, Says, IsOver, is_write_fault, sight, speaks};
 
@@ -12,13 +12,11 @@ use crate::ending::RunEnd;
 use crate::reporting::say_end;
 use bc_library::Library;
 use bc_machine::{output_law, put_law};
-use bc_rows::Rows;
 use mpy_base::{NoMemory, Room};
 use mpy_io::{Failed, Port, Sink};
 use port_set::PortSet;
 use std::alloc::Global;
-use vm_machine::{open, run};
-use vm_starting::{Cache, program_law};
+use vm_machine::{Cache, Rows, open, program_law, run};
 
 /// Runs the library's module of this number as the main one, in an arena of this room, for these steps at most. What was printed
 /// is handed on before anything is said.

@@ -1,7 +1,7 @@
 //! The names that every file may give by number.
 
 ghost use Rattle.std.specs.Prelude.{◌≡◌};
-ghost use Rattle.qstr_pool.specs.Static.{static_texts};
+ghost use Rattle.mpy_merge.specs.qstr_pool.Static.{static_texts};
 ghost use Rattle.limit_laws.specs.Names.{known_names};
 
 /// The table of names has those that are written out, in their order.

@@ -13,3 +13,4 @@ mod reading;
 pub use collecting::{collect, entries_law};
 pub use fault::ManifestFault;
 pub use frozen_fault::{FrozenFault, SourcesFault, of_manifest};
+pub use image_grammar::ImageFault;

@@ -1,29 +1,29 @@
 -- What the run of a source that has ended says of the program of the sources.
 use Rattle.std.proofs.Common.{◌≡◌, ◌⊎◌, inl, inr, ℕ, List, Option, Some, None, refl, sym, subst, ◌∙◌}
 use Rattle.std.specs.Prelude.{Ok, IfSome}
-use Rattle.mpy_base.specs.declared.room.Room.{Room}
-use Rattle.mpy_io.specs.Files.{FileOf}
-use Rattle.mpy_io.specs.Ports.{PortView}
-use Rattle.bc_library.specs.Shelf.{Shelf}
-use Rattle.py_meaning.specs.Program.{Program}
-use Rattle.meant_runs.specs.Units.{AreUnits}
-use Rattle.mpy_compile.specs.Compiled.{CompilesTo}
-use Rattle.bc_library.specs.mpy_tree.File.{IsFile}
-use Rattle.bc_library.specs.mpy_tree.Raw.{Module}
+use Rattle.meant_files.specs.mpy_base.declared.room.Room.{Room}
+use Rattle.meant_files.specs.mpy_io.Files.{FileOf}
+use Rattle.meant_files.specs.mpy_io.Ports.{PortView}
+use Rattle.library_files.specs.bc_library.Shelf.{Shelf}
+use Rattle.meant_files.specs.py_meaning.Program.{Program}
+use Rattle.meant_files.specs.meant_runs.Units.{AreUnits}
+use Rattle.image_commands.specs.mpy_compile.Compiled.{CompilesTo}
+use Rattle.library_files.specs.bc_library.mpy_tree.File.{IsFile}
+use Rattle.library_files.specs.bc_library.mpy_tree.Raw.{Module}
 use Rattle.library_files.specs.Loads.{Loaded, main_name}
-use Rattle.source_files.specs.Sources.{stored}
+use Rattle.meant_files.specs.source_files.Sources.{stored}
 use Rattle.meant_files.specs.Sources.{IsProgramOfSources}
 use Rattle.meant_files.specs.Libraries.{IsOfSources, IsOfFiles}
-use Rattle.mpy_endings.specs.declared.ending.Ending.{Ending}
-use Rattle.mpy_endings.specs.declared.ending.Ending.TheVariants.{Done, Unaccepted, Unread, Unverified, Unmerged, Unopened, Unfrozen, Unboarded, Different, Stopped, ReadFault, WriteFault, Unwritten, NoMemory, Absent}
-use Rattle.mpy_endings.specs.declared.ending.Stop.TheVariants as stops
+use Rattle.run_commands.specs.mpy_endings.declared.ending.Ending.{Ending}
+use Rattle.run_commands.specs.mpy_endings.declared.ending.Ending.TheVariants.{Done, Unaccepted, Unread, Unverified, Unmerged, Unopened, Unfrozen, Unboarded, Different, Stopped, ReadFault, WriteFault, Unwritten, NoMemory, Absent}
+use Rattle.run_commands.specs.mpy_endings.declared.ending.Stop.TheVariants as stops
 use Rattle.run_commands.specs.Base.{base_of}
-use Rattle.mpy_endings.specs.Ending.{status_of, IsRunStatus}
+use Rattle.run_commands.specs.mpy_endings.Ending.{status_of, IsRunStatus}
 use Rattle.run_commands.specs.Go.{SourceLoadsOf}
 use Rattle.run_commands.specs.Ready.{GoLibrary, RunLibrary}
 use Rattle.meant_commands.specs.Meant.{HoldsProgram, RunMeans}
 use Rattle.meant_commands.specs.GoMeant.{MeansSources, GoMeans, HoldsCrossed}
-use Rattle.command_files.specs.Outside.{Outside}
+use Rattle.run_commands.specs.command_files.Outside.{Outside}
 use Rattle.run_commands.specs.Run.{FileLibrary, Runs, EndsRun, sight_in}
 use Rattle.meant_commands.proofs.Meaning.{file_holds}
 

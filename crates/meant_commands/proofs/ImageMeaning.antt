@@ -1,21 +1,21 @@
 -- What the runs of images of manifests' sources say of their programs.
 use Rattle.std.proofs.Common.{◌≡◌, ℕ, true, false, List, ◌∷◌, ◌++◌, Option, Some, Ok, inl, inr, refl, sym, ap, subst, ◌∙◌}
 use Rattle.std.specs.Prelude.{◌≢◌}
-use Rattle.mpy_io.specs.Files.{FileOf}
-use Rattle.bc_library.specs.declared.fault.Member.TheVariants as members
-use Rattle.bc_library.specs.Shelf.{Shelf, member_of, no_entries}
-use Rattle.py_meaning.specs.Program.{Program}
-use Rattle.meant_runs.specs.Units.{AreUnits}
-use Rattle.image_grammar.specs.Image.{IsFront, IsImage}
-use Rattle.image_grammar.specs.Opening.{Base}
-use Rattle.image_grammar.specs.declared.entry.Entry.{Entry}
-use Rattle.image_open.specs.Opens.{Opens}
-use Rattle.image_freeze.specs.Migrated.{Migrates as MigratesTo}
-use Rattle.frozen_files.specs.Frozen.{HoldsFrozen}
+use Rattle.meant_files.specs.mpy_io.Files.{FileOf}
+use Rattle.library_files.specs.bc_library.declared.fault.Member.TheVariants as members
+use Rattle.library_files.specs.bc_library.Shelf.{Shelf, member_of, no_entries}
+use Rattle.meant_files.specs.py_meaning.Program.{Program}
+use Rattle.meant_files.specs.meant_runs.Units.{AreUnits}
+use Rattle.meant_files.specs.image_grammar.Image.{IsFront, IsImage}
+use Rattle.meant_files.specs.image_grammar.Opening.{Base}
+use Rattle.meant_files.specs.image_grammar.declared.entry.Entry.{Entry}
+use Rattle.meant_files.specs.image_open.Opens.{Opens}
+use Rattle.meant_files.specs.image_freeze.Migrated.{Migrates as MigratesTo}
+use Rattle.meant_files.specs.frozen_files.Frozen.{HoldsFrozen}
 use Rattle.meant_files.specs.Programs.{HoldsImageOf, IsImageOfSources, IsLibraryOf, IsProgramOf, Sources}
-use Rattle.mpy_endings.specs.declared.ending.Ending.TheVariants.{Done}
-use Rattle.command_files.specs.Images.{HoldsImage}
-use Rattle.image_runs.specs.Main.{HoldsMain}
+use Rattle.run_commands.specs.mpy_endings.declared.ending.Ending.TheVariants.{Done}
+use Rattle.run_commands.specs.command_files.Images.{HoldsImage}
+use Rattle.run_commands.specs.image_runs.Main.{HoldsMain}
 use Rattle.run_commands.specs.declared.ready.Ready.{Ready}
 use Rattle.image_commands.specs.Freeze.{Freezes}
 use Rattle.image_commands.specs.Migrate.{Migrates}

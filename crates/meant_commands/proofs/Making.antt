@@ -1,17 +1,17 @@
 -- What writing files makes, and what checking them tells.
 use Rattle.std.proofs.Common.{◌≡◌, ℕ, List, [], ◌∷◌, Option, Some, refl, sym, subst, ◌∙◌}
-use Rattle.mpy_io.specs.Files.{FileOf}
-use Rattle.bc_library.specs.mpy_tree.File.{IsFile}
-use Rattle.bc_library.specs.mpy_tree.Raw.{Module}
-use Rattle.py_meaning.specs.Program.{Source, Unit, Units, Part, Parts}
-use Rattle.mpy_compile.specs.Compiled.{CompilesTo}
-use Rattle.mpy_compile.specs.Checked.{IsTranslation}
+use Rattle.meant_files.specs.mpy_io.Files.{FileOf}
+use Rattle.library_files.specs.bc_library.mpy_tree.File.{IsFile}
+use Rattle.library_files.specs.bc_library.mpy_tree.Raw.{Module}
+use Rattle.meant_files.specs.py_meaning.Program.{Source, Unit, Units, Part, Parts}
+use Rattle.image_commands.specs.mpy_compile.Compiled.{CompilesTo}
+use Rattle.image_commands.specs.mpy_compile.Checked.{IsTranslation}
 use Rattle.meant_files.specs.Readings.{IsReading}
 use Rattle.meant_files.specs.Built.{crossed, checked, merged, AreBuilt, last, next}
-use Rattle.mpy_endings.specs.declared.ending.Ending.TheVariants.{Done}
+use Rattle.run_commands.specs.mpy_endings.declared.ending.Ending.TheVariants.{Done}
 use Rattle.file_commands.specs.CheckAs.{ChecksAs}
 use Rattle.file_commands.specs.Cross.{Crosses}
-use Rattle.command_files.specs.Opened.{HoldsModule}
+use Rattle.run_commands.specs.command_files.Opened.{HoldsModule}
 use Rattle.file_commands.specs.Merge.{HoldModules, Merges}
 use Rattle.meant_commands.specs.Made.{HoldsMade, HoldMade, MakesOfSource, MakesOfUnits}
 

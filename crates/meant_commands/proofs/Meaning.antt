@@ -1,33 +1,33 @@
 -- What a run that has ended says of its program.
 use Rattle.std.proofs.Common.{◌≡◌, inl, inr, ℕ, true, List, ◌∷◌, ◌++◌, Ok, Some, refl, sym, ap, subst, ◌∙◌, append-nil, length}
-use Rattle.mpy_base.specs.declared.room.Room.{Room}
-use Rattle.mpy_base.specs.World.{PortState}
-use Rattle.mpy_io.specs.Files.{FileOf}
-use Rattle.mpy_io.specs.Ports.{PortView}
-use Rattle.bc_library.specs.mpy_tree.File.{IsFile}
-use Rattle.bc_library.specs.mpy_tree.Raw.{Module}
-use Rattle.port_set.specs.Calls.{Tell}
-use Rattle.port_set.specs.Counts.{AreAccounted}
-use Rattle.bc_library.specs.Shelf.{Shelf}
-use Rattle.py_values.specs.Shown.{PlainHeap}
-use Rattle.py_effects.specs.Ends.{End, Open, Ended, Raised, Memory, end_report}
-use Rattle.py_meaning.specs.Program.{Unit, Program}
-use Rattle.prim_outputs.specs.Rooms.{room_line}
-use Rattle.meant_runs.specs.Units.{AreUnits}
+use Rattle.meant_files.specs.mpy_base.declared.room.Room.{Room}
+use Rattle.meant_files.specs.mpy_base.World.{PortState}
+use Rattle.meant_files.specs.mpy_io.Files.{FileOf}
+use Rattle.meant_files.specs.mpy_io.Ports.{PortView}
+use Rattle.library_files.specs.bc_library.mpy_tree.File.{IsFile}
+use Rattle.library_files.specs.bc_library.mpy_tree.Raw.{Module}
+use Rattle.meant_files.specs.port_set.Calls.{Tell}
+use Rattle.meant_files.specs.port_set.Counts.{AreAccounted}
+use Rattle.library_files.specs.bc_library.Shelf.{Shelf}
+use Rattle.meant_files.specs.py_values.Shown.{PlainHeap}
+use Rattle.meant_files.specs.py_effects.Ends.{End, Open, Ended, Raised, Memory, end_report}
+use Rattle.meant_files.specs.py_meaning.Program.{Unit, Program}
+use Rattle.meant_files.specs.prim_outputs.Rooms.{room_line}
+use Rattle.meant_files.specs.meant_runs.Units.{AreUnits}
 use Rattle.library_files.specs.Loads.{Loaded, LoadsFrom, main_name}
-use Rattle.library_runs.specs.declared.ending.RunEnd.{RunEnd}
-use Rattle.library_runs.specs.declared.ending.RunEnd.TheVariants as ends
-use Rattle.library_runs.specs.Runs.{Sight, RunsAs, end_of, said_of}
-use Rattle.meant_runs.specs.Meant.{RanAsMeant, CutShortAsMeant, EndsAsMeant}
+use Rattle.run_commands.specs.library_runs.declared.ending.RunEnd.{RunEnd}
+use Rattle.run_commands.specs.library_runs.declared.ending.RunEnd.TheVariants as ends
+use Rattle.run_commands.specs.library_runs.Runs.{Sight, RunsAs, end_of, said_of}
+use Rattle.meant_files.specs.meant_runs.Meant.{RanAsMeant, CutShortAsMeant, EndsAsMeant}
 use Rattle.meant_files.specs.Built.{IsBuilt, IsBuiltProgram}
-use Rattle.mpy_endings.specs.declared.ending.Ending.{Ending}
-use Rattle.mpy_endings.specs.declared.ending.Ending.TheVariants.{Done, Unaccepted, Unread, Unverified, Unmerged, Unopened, Unfrozen, Unboarded, Different, Stopped, ReadFault, WriteFault, Unwritten, NoMemory, Absent}
-use Rattle.image_runs.specs.declared.fault.MainFault.TheVariants as mains
-use Rattle.mpy_endings.specs.declared.ending.Stop.TheVariants as stops
+use Rattle.run_commands.specs.mpy_endings.declared.ending.Ending.{Ending}
+use Rattle.run_commands.specs.mpy_endings.declared.ending.Ending.TheVariants.{Done, Unaccepted, Unread, Unverified, Unmerged, Unopened, Unfrozen, Unboarded, Different, Stopped, ReadFault, WriteFault, Unwritten, NoMemory, Absent}
+use Rattle.run_commands.specs.image_runs.declared.fault.MainFault.TheVariants as mains
+use Rattle.run_commands.specs.mpy_endings.declared.ending.Stop.TheVariants as stops
 use Rattle.run_commands.specs.Base.{base_of}
-use Rattle.mpy_endings.specs.Ending.{IsRunStatus, status_of}
-use Rattle.mpy_endings.specs.Line.{Says, line_of}
-use Rattle.command_files.specs.Outside.{Outside}
+use Rattle.run_commands.specs.mpy_endings.Ending.{IsRunStatus, status_of}
+use Rattle.run_commands.specs.mpy_endings.Line.{Says, line_of}
+use Rattle.run_commands.specs.command_files.Outside.{Outside}
 use Rattle.run_commands.specs.Ready.{RunLibrary, not_read, of_file, of_image, begins_image}
 use Rattle.run_commands.specs.Run.{FileLibrary, RanLibrary, Runs, EndsRun, ending_of, sight_in}
 use Rattle.meant_commands.specs.Meant.{HoldsBuilt, HoldsProgram, DoesAsMeant, Libraries, RunMeans, end_status, end_text}

@@ -1,16 +1,16 @@
 -- Two whole runs of one library that begin alike are alike.
 use Rattle.std.proofs.Common.{◌≡◌, ℕ, ◌++◌, List, Option, Some, None, sym, ap, ◌∙◌}
 use Rattle.std.specs.Io.KnownBytes.{Appends}
-use Rattle.mpy_base.specs.declared.room.Room.{Room}
-use Rattle.mpy_base.specs.World.{PortState}
-use Rattle.port_set.specs.Counts.{AreAccounted}
-use Rattle.bc_library.specs.Shelf.{Shelf}
-use Rattle.vm_frames.specs.bc_machine.Library.{Name}
-use Rattle.vm_starting.specs.vm_states.Means.{Program}
-use Rattle.vm_starting.specs.Programs.{IsProgramOf}
-use Rattle.library_runs.specs.declared.ending.RunEnd.{RunEnd}
-use Rattle.library_runs.specs.declared.ending.RunEnd.TheVariants as ends
-use Rattle.library_runs.specs.Runs.{Sight, IsOver, Ran, EndsSo, RunsAs, RunsSo}
+use Rattle.meant_files.specs.mpy_base.declared.room.Room.{Room}
+use Rattle.meant_files.specs.mpy_base.World.{PortState}
+use Rattle.meant_files.specs.port_set.Counts.{AreAccounted}
+use Rattle.library_files.specs.bc_library.Shelf.{Shelf}
+use Rattle.meant_files.specs.vm_frames.bc_machine.Library.{Name}
+use Rattle.meant_files.specs.vm_starting.vm_states.Means.{Program}
+use Rattle.meant_files.specs.vm_starting.Programs.{IsProgramOf}
+use Rattle.run_commands.specs.library_runs.declared.ending.RunEnd.{RunEnd}
+use Rattle.run_commands.specs.library_runs.declared.ending.RunEnd.TheVariants as ends
+use Rattle.run_commands.specs.library_runs.Runs.{Sight, IsOver, Ran, EndsSo, RunsAs, RunsSo}
 use Rattle.meant_commands.specs.Alike.{Tells, IsWholeRun, AreAlike}
 
 -- known bytes that grew by a text

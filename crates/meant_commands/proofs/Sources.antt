@@ -1,12 +1,12 @@
 -- Loading from sources ends in one way.
 use Rattle.std.proofs.Common.{◌≡◌, ℕ, List, length, Option, Some, None, Result, Ok, Err, sym, ap, ap₂, subst, ◌∙◌}
-use Rattle.mpy_base.specs.declared.source.SourceFault.{SourceFault}
-use Rattle.mpy_io.specs.Files.{FileOf}
-use Rattle.bc_library.specs.mpy_tree.Raw.{Module}
-use Rattle.bc_library.specs.mpy_tree.File.{IsFile}
-use Rattle.pkg_paths.specs.Finds.{NamedFile, first_there}
-use Rattle.pkg_paths.specs.Paths.{candidates}
-use Rattle.mpy_compile.specs.Compiled.{CompilesTo, IsFault}
+use Rattle.meant_files.specs.mpy_base.declared.source.SourceFault.{SourceFault}
+use Rattle.meant_files.specs.mpy_io.Files.{FileOf}
+use Rattle.library_files.specs.bc_library.mpy_tree.Raw.{Module}
+use Rattle.library_files.specs.bc_library.mpy_tree.File.{IsFile}
+use Rattle.meant_files.specs.pkg_paths.Finds.{NamedFile, first_there}
+use Rattle.meant_files.specs.pkg_paths.Paths.{candidates}
+use Rattle.image_commands.specs.mpy_compile.Compiled.{CompilesTo, IsFault}
 use Rattle.library_files.specs.declared.entry.Entry.{Entry}
 use Rattle.library_files.specs.declared.entry.Entry.TheVariants as entries
 use Rattle.library_files.specs.declared.limit.UnacceptedSource.{UnacceptedSource}
@@ -14,7 +14,7 @@ use Rattle.library_files.specs.Comes.{FileComesTo}
 use Rattle.library_files.specs.Imports.{Imports}
 use Rattle.library_files.specs.Loads.{Loading}
 use Rattle.library_files.proofs.Once.{with_once}
-use Rattle.source_files.specs.Sources.{IsModuleOf, SourceComesTo, source_ending, stored, ComesToSource, LoadsFromSources}
+use Rattle.meant_files.specs.source_files.Sources.{IsModuleOf, SourceComesTo, source_ending, stored, ComesToSource, LoadsFromSources}
 
 -- what the crates below say
 pub record Below : Type 0 where

@@ -1,14 +1,14 @@
 -- Runs of a library that are alike.
 use Rattle.std.specs.Prelude.{◌≡◌, ℕ, List, map, Some}
-use Rattle.mpy_base.specs.declared.room.Room.{Room}
-use Rattle.mpy_base.specs.World.{PortState}
-use Rattle.mpy_io.specs.Ports.{PortView}
-use Rattle.port_set.specs.Calls.{Tell}
-use Rattle.port_set.specs.Counts.{AreAccounted}
-use Rattle.bc_library.specs.Shelf.{Shelf}
-use Rattle.vm_frames.specs.bc_machine.Library.{Name}
-use Rattle.library_runs.specs.declared.ending.RunEnd.{RunEnd}
-use Rattle.library_runs.specs.Runs.{Sight, IsOver, RunsAs}
+use Rattle.meant_files.specs.mpy_base.declared.room.Room.{Room}
+use Rattle.meant_files.specs.mpy_base.World.{PortState}
+use Rattle.meant_files.specs.mpy_io.Ports.{PortView}
+use Rattle.meant_files.specs.port_set.Calls.{Tell}
+use Rattle.meant_files.specs.port_set.Counts.{AreAccounted}
+use Rattle.library_files.specs.bc_library.Shelf.{Shelf}
+use Rattle.meant_files.specs.vm_frames.bc_machine.Library.{Name}
+use Rattle.run_commands.specs.library_runs.declared.ending.RunEnd.{RunEnd}
+use Rattle.run_commands.specs.library_runs.Runs.{Sight, IsOver, RunsAs}
 
 -- the sink of the output tells what was printed, and each port its contents
 pub record Tells (sight : Sight) : Type 0 where

@@ -1,20 +1,20 @@
 -- What the run of a source says of the program of the sources.
 use Rattle.std.specs.Prelude.{◌≡◌, ◌⊎◌, ℕ, List, Some, IfSome}
-use Rattle.mpy_base.specs.declared.room.Room.{Room}
-use Rattle.mpy_base.specs.World.{PortState}
-use Rattle.mpy_io.specs.Files.{FileOf}
-use Rattle.mpy_io.specs.Ports.{PortView}
-use Rattle.port_set.specs.Calls.{Tell}
-use Rattle.port_set.specs.Counts.{AreAccounted}
-use Rattle.py_meaning.specs.Program.{Program}
-use Rattle.mpy_compile.specs.Compiled.{CompilesTo}
-use Rattle.source_files.specs.Sources.{stored}
+use Rattle.meant_files.specs.mpy_base.declared.room.Room.{Room}
+use Rattle.meant_files.specs.mpy_base.World.{PortState}
+use Rattle.meant_files.specs.mpy_io.Files.{FileOf}
+use Rattle.meant_files.specs.mpy_io.Ports.{PortView}
+use Rattle.meant_files.specs.port_set.Calls.{Tell}
+use Rattle.meant_files.specs.port_set.Counts.{AreAccounted}
+use Rattle.meant_files.specs.py_meaning.Program.{Program}
+use Rattle.image_commands.specs.mpy_compile.Compiled.{CompilesTo}
+use Rattle.meant_files.specs.source_files.Sources.{stored}
 use Rattle.meant_files.specs.Sources.{IsProgramOfSources}
 use Rattle.meant_files.specs.Libraries.{AreCrossed}
 use Rattle.run_commands.specs.Base.{base_of}
-use Rattle.mpy_endings.specs.Ending.{IsRunStatus}
+use Rattle.run_commands.specs.mpy_endings.Ending.{IsRunStatus}
 use Rattle.meant_commands.specs.Meant.{DoesAsMeant}
-use Rattle.command_files.specs.Outside.{Outside}
+use Rattle.run_commands.specs.command_files.Outside.{Outside}
 
 -- Where a library was run, the source of this name and those that it asks for in its folder have a program at the level. The run does as
 -- this program means, of which there is one, in this room and for these steps, where the sink of the output and the ports tell what they

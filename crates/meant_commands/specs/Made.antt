@@ -1,7 +1,7 @@
 -- Files that are made of a program's units.
 use Rattle.std.specs.Prelude.{◌≡◌, ℕ, List, [], ◌∷◌, Option, Some}
-use Rattle.mpy_io.specs.Files.{FileOf}
-use Rattle.py_meaning.specs.Program.{Source, Unit, Single, Merge, Units, Part, Parts}
+use Rattle.meant_files.specs.mpy_io.Files.{FileOf}
+use Rattle.meant_files.specs.py_meaning.Program.{Source, Unit, Single, Merge, Units, Part, Parts}
 use Rattle.meant_files.specs.Readings.{IsReading}
 use Rattle.meant_files.specs.Built.{IsBuilt}
 

@@ -1,29 +1,29 @@
 -- What a run says of the program whose units its library has.
 use Rattle.std.specs.Prelude.{◌≡◌, ℕ, ◌≤◌, List, [], ◌++◌, Option, Some, Result, Ok, codes, decimal}
 use Rattle.std.specs.Io.KnownBytes.{Appends}
-use Rattle.mpy_base.specs.declared.room.Room.{Room}
-use Rattle.mpy_base.specs.World.{PortState}
-use Rattle.mpy_io.specs.Files.{FileOf}
-use Rattle.mpy_io.specs.Ports.{PortView}
-use Rattle.mpy_io.specs.Told.{AppendsFront}
-use Rattle.port_set.specs.Calls.{Tell}
-use Rattle.port_set.specs.Counts.{AreAccounted}
-use Rattle.bc_library.specs.Shelf.{Shelf}
-use Rattle.py_values.specs.Shown.{PlainHeap}
-use Rattle.py_effects.specs.Ends.{End, Open, Ended, Raised, Memory, Run, end_report}
-use Rattle.py_meaning.specs.Program.{Program}
-use Rattle.py_meaning.specs.Meaning.{meaning}
-use Rattle.prim_outputs.specs.Rooms.{room_line}
-use Rattle.meant_runs.specs.Units.{AreUnits}
-use Rattle.meant_runs.specs.Runs.{MeansRun}
+use Rattle.meant_files.specs.mpy_base.declared.room.Room.{Room}
+use Rattle.meant_files.specs.mpy_base.World.{PortState}
+use Rattle.meant_files.specs.mpy_io.Files.{FileOf}
+use Rattle.meant_files.specs.mpy_io.Ports.{PortView}
+use Rattle.meant_files.specs.mpy_io.Told.{AppendsFront}
+use Rattle.meant_files.specs.port_set.Calls.{Tell}
+use Rattle.meant_files.specs.port_set.Counts.{AreAccounted}
+use Rattle.library_files.specs.bc_library.Shelf.{Shelf}
+use Rattle.meant_files.specs.py_values.Shown.{PlainHeap}
+use Rattle.meant_files.specs.py_effects.Ends.{End, Open, Ended, Raised, Memory, Run, end_report}
+use Rattle.meant_files.specs.py_meaning.Program.{Program}
+use Rattle.meant_files.specs.py_meaning.Meaning.{meaning}
+use Rattle.meant_files.specs.prim_outputs.Rooms.{room_line}
+use Rattle.meant_files.specs.meant_runs.Units.{AreUnits}
+use Rattle.meant_files.specs.meant_runs.Runs.{MeansRun}
 use Rattle.library_files.specs.Loads.{Loaded}
 use Rattle.meant_files.specs.Built.{IsBuilt, IsBuiltProgram}
-use Rattle.mpy_endings.specs.declared.ending.Ending.{Ending}
+use Rattle.run_commands.specs.mpy_endings.declared.ending.Ending.{Ending}
 use Rattle.run_commands.specs.declared.ready.Ready.{Ready}
 use Rattle.run_commands.specs.Base.{base_of}
-use Rattle.mpy_endings.specs.Ending.{IsRunStatus}
-use Rattle.mpy_endings.specs.Line.{Says}
-use Rattle.command_files.specs.Outside.{Outside}
+use Rattle.run_commands.specs.mpy_endings.Ending.{IsRunStatus}
+use Rattle.run_commands.specs.mpy_endings.Line.{Says}
+use Rattle.run_commands.specs.command_files.Outside.{Outside}
 use Rattle.run_commands.specs.Run.{LoadsOf}
 
 -- what the files of a folder come to as a library with a main module, of the file under a name: these, or why it isn't loaded

@@ -1,21 +1,21 @@
 //! Loading from sources and running a library end in one way.
 
 ghost use Rattle.std.specs.Prelude.{◌≡◌, ℕ, List};
-ghost use Rattle.mpy_base.specs.declared.room.Room.{Room};
-ghost use Rattle.mpy_io.specs.Files.{FileOf};
-ghost use Rattle.bc_library.specs.mpy_tree.Raw.{Module};
-ghost use Rattle.bc_library.specs.Shelf.{Shelf};
-ghost use Rattle.vm_frames.specs.bc_machine.Library.{Name};
+ghost use Rattle.meant_files.specs.mpy_base.declared.room.Room.{Room};
+ghost use Rattle.meant_files.specs.mpy_io.Files.{FileOf};
+ghost use Rattle.library_files.specs.bc_library.mpy_tree.Raw.{Module};
+ghost use Rattle.library_files.specs.bc_library.Shelf.{Shelf};
+ghost use Rattle.meant_files.specs.vm_frames.bc_machine.Library.{Name};
 ghost use Rattle.library_files.specs.Loads.{Loading};
-ghost use Rattle.library_runs.specs.declared.ending.RunEnd.{RunEnd};
-ghost use Rattle.library_runs.specs.Runs.{Sight};
-ghost use Rattle.source_files.specs.Sources.{IsModuleOf, LoadsFromSources};
+ghost use Rattle.run_commands.specs.library_runs.declared.ending.RunEnd.{RunEnd};
+ghost use Rattle.run_commands.specs.library_runs.Runs.{Sight};
+ghost use Rattle.meant_files.specs.source_files.Sources.{IsModuleOf, LoadsFromSources};
 ghost use Rattle.meant_commands.specs.Alike.{Tells, IsWholeRun, AreAlike};
 
+use image_commands::compile_law;
 use library_files::imports_law;
-use library_runs::accounted_law;
-use mpy_compile::compile_law;
 use mpy_reader::file_law;
+use run_commands::accounted_law;
 
 /// A source has one module of one size at most, and from a main module and sources loading ends in one way.
 pub fn sources_law()

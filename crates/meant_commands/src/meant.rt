@@ -1,15 +1,15 @@
 //! What a run says of its program.
 
 ghost use Rattle.std.specs.Prelude.{◌≡◌, ◌≢◌, ℕ, List, ◌∷◌, Ok, Option, Some};
-ghost use Rattle.mpy_base.specs.declared.room.Room.{Room};
-ghost use Rattle.mpy_io.specs.Files.{FileOf};
-ghost use Rattle.mpy_io.specs.Ports.{PortView};
-ghost use Rattle.bc_library.specs.mpy_tree.Raw.{Module};
-ghost use Rattle.bc_library.specs.Shelf.{Shelf, no_entries};
-ghost use Rattle.py_meaning.specs.Program.{Program, Unit, Units};
+ghost use Rattle.meant_files.specs.mpy_base.declared.room.Room.{Room};
+ghost use Rattle.meant_files.specs.mpy_io.Files.{FileOf};
+ghost use Rattle.meant_files.specs.mpy_io.Ports.{PortView};
+ghost use Rattle.library_files.specs.bc_library.mpy_tree.Raw.{Module};
+ghost use Rattle.library_files.specs.bc_library.Shelf.{Shelf, no_entries};
+ghost use Rattle.meant_files.specs.py_meaning.Program.{Program, Unit, Units};
 ghost use Rattle.file_commands.specs.CheckAs.{ChecksAs};
 ghost use Rattle.file_commands.specs.Cross.{Crosses};
-ghost use Rattle.mpy_endings.specs.declared.ending.Ending.TheVariants.{Done};
+ghost use Rattle.run_commands.specs.mpy_endings.declared.ending.Ending.TheVariants.{Done};
 ghost use Rattle.meant_files.specs.Sources.{IsProgramOfSources};
 ghost use Rattle.run_commands.specs.Base.{base_of};
 ghost use Rattle.run_commands.specs.declared.ready.Ready.{Ready};
@@ -19,15 +19,16 @@ ghost use Rattle.meant_commands.specs.GoMeant.{GoMeans, HoldsCrossed};
 ghost use Rattle.meant_commands.specs.Made.{HoldsMade, HoldMade, MakesOfSource, MakesOfUnits};
 ghost use Rattle.meant_commands.specs.Meant.{HoldsBuilt, HoldsProgram, RunMeans};
 ghost use Rattle.file_commands.specs.Merge.{Merges};
-ghost use Rattle.command_files.specs.Images.{HoldsImage};
-ghost use Rattle.command_files.specs.Opened.{HoldsModule};
-ghost use Rattle.command_files.specs.Outside.{Outside};
+ghost use Rattle.run_commands.specs.command_files.Images.{HoldsImage};
+ghost use Rattle.run_commands.specs.command_files.Opened.{HoldsModule};
+ghost use Rattle.run_commands.specs.command_files.Outside.{Outside};
 ghost use Rattle.run_commands.specs.Ready.{GoLibrary, RunLibrary};
 ghost use Rattle.run_commands.specs.Run.{EndsRun};
 ghost use Rattle.meant_files.specs.Programs.{HoldsImageOf, IsLibraryOf, IsProgramOf, Sources};
 
-use meant_files::{checked_law, crossed_law, files_law, frozen_law, images_law, sources_law};
-use meant_runs::meant_law;
+use meant_files::{
+    checked_law, crossed_law, files_law, frozen_law, images_law, meant_law, sources_law,
+};
 
 /// A run of a file or an image, over whichever library, and of a source, does as each program means whose units its library has.
 pub fn run_means_law()

@@ -8,15 +8,15 @@ use Rattle.std.proofs.lemmas.List.{length-map, map-append}
 use Rattle.std.proofs.lemmas.List.Folds.{position_or_len_push}
 use Rattle.std.proofs.lemmas.Bool.Decides.{nat_tests}
 use Rattle.image_open.proofs.qstr_pool_lemmas.Places.{pushed, absent}
-use Rattle.bc_scheme.specs.mpy_tree.Raw.{Module}
+use Rattle.tr_source.specs.bc_scheme.mpy_tree.Raw.{Module}
 use Rattle.image_open.specs.bc_library.declared.fault.Member.{Member}
 use Rattle.image_open.specs.bc_library.declared.fault.Member.TheVariants as members
 use Rattle.image_open.specs.bc_library.Shelf.{Shelf, Named, names, no_entries, with_module, with_refused, member_by, member_of, module_at}
-use Rattle.library_files.specs.declared.entry.Entry.{Entry}
-use Rattle.library_files.specs.declared.entry.Entry.TheVariants as entries
-use Rattle.library_files.specs.Comes.{OfNames}
-use Rattle.library_files.specs.Asked.{asked_for}
-use Rattle.library_files.specs.Loads.{Loading, Loaded, Loads, ends, next, known, unaccepted, past, taken, with_entry, size_with, main_name}
+use Rattle.frozen_files.specs.library_files.declared.entry.Entry.{Entry}
+use Rattle.frozen_files.specs.library_files.declared.entry.Entry.TheVariants as entries
+use Rattle.frozen_files.specs.library_files.Comes.{OfNames}
+use Rattle.frozen_files.specs.library_files.Asked.{asked_for}
+use Rattle.frozen_files.specs.library_files.Loads.{Loading, Loaded, Loads, ends, next, known, unaccepted, past, taken, with_entry, size_with, main_name}
 
 -- names
 -- =====

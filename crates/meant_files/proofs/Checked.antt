@@ -1,18 +1,18 @@
 -- A file that is a translation of a source is the file of the unit that its text is read as.
 use Rattle.std.proofs.Common.{◌≡◌, ℕ, List, refl, sym, ap, ◌∙◌, subst}
-use Rattle.bc_scheme.specs.mpy_tree.File.{IsFile}
-use Rattle.bc_scheme.specs.mpy_tree.Raw as raw
-use Rattle.bc_scheme.specs.mpy_tree.Resolved.{ResolvedModule, Resolves}
-use Rattle.bc_verify.specs.Verified.{IsVerified}
-use Rattle.py_tree.specs.declared.stmt.Module.{Module}
+use Rattle.tr_source.specs.bc_scheme.mpy_tree.File.{IsFile}
+use Rattle.tr_source.specs.bc_scheme.mpy_tree.Raw as raw
+use Rattle.tr_source.specs.bc_scheme.mpy_tree.Resolved.{ResolvedModule, Resolves}
+use Rattle.bc_resolved.specs.bc_verify.Verified.{IsVerified}
+use Rattle.tr_source.specs.py_tree.declared.stmt.Module.{Module}
 use Rattle.py_source.specs.declared.source.Accepted.{Accepted}
-use Rattle.bc_scheme.specs.py_meaning.Program.{Source, Single}
-use Rattle.bc_scheme.specs.py_meaning.Meaning.{source_of}
-use Rattle.bc_scheme.specs.Link.{translated}
-use Rattle.bc_scheme.specs.Translation.{Translates}
-use Rattle.trans_laws.specs.trans_parts.Comparing.{FitsTree}
+use Rattle.tr_source.specs.bc_scheme.py_meaning.Program.{Source, Single}
+use Rattle.tr_source.specs.bc_scheme.py_meaning.Meaning.{source_of}
+use Rattle.tr_source.specs.bc_scheme.Link.{translated}
+use Rattle.tr_source.specs.bc_scheme.Translation.{Translates}
+use Rattle.meant_runs.specs.trans_laws.trans_parts.Comparing.{FitsTree}
 use Rattle.tr_source.specs.Accepted.{IsAccepted}
-use Rattle.mpy_compile.specs.Checked.{IsTranslation}
+use Rattle.frozen_files.specs.mpy_compile.Checked.{IsTranslation}
 use Rattle.meant_runs.specs.Units.{IsUnitFile}
 use Rattle.meant_files.specs.Readings.{IsReading}
 use Rattle.meant_files.proofs.Crossed as crossed

@@ -2,11 +2,11 @@
 use Rattle.std.proofs.Common.{◌≡◌, ℕ, List, [], ◌∷◌, codes, refl}
 use Rattle.std.specs.Prelude.{Some, None, if◌then◌else◌}
 use Rattle.std.specs.Str.{bytes_eq}
-use Rattle.mpy_io.specs.Files.{FileOf}
-use Rattle.bc_scheme.specs.py_meaning.Tree.{Name, Import, From, If, Def, NoExpr, Block, End, Next, Case, Else, Constant}
-use Rattle.mpy_base.specs.Val.{Nil}
-use Rattle.bc_scheme.specs.py_meaning.Program.{Source, Single, Entry, Runs}
-use Rattle.source_files.specs.Sources.{stored}
+use Rattle.meant_runs.specs.mpy_io.Files.{FileOf}
+use Rattle.tr_source.specs.bc_scheme.py_meaning.Tree.{Name, Import, From, If, Def, NoExpr, Block, End, Next, Case, Else, Constant}
+use Rattle.meant_runs.specs.mpy_base.Val.{Nil}
+use Rattle.tr_source.specs.bc_scheme.py_meaning.Program.{Source, Single, Entry, Runs}
+use Rattle.frozen_files.specs.source_files.Sources.{stored}
 use Rattle.meant_files.specs.Readings.{IsReading}
 use Rattle.meant_files.specs.Imported.{source_imports}
 use Rattle.meant_files.specs.Sources.{LoadsSources, ends, next, known, taken}

@@ -1,9 +1,9 @@
 -- A tree imports what one that it fits imports.
 use Rattle.std.proofs.Common.{◌≡◌, ℕ, List, ◌++◌, refl, ap, ap₂}
 use Rattle.std.specs.List.{filter_map}
-use Rattle.bc_scheme.specs.mpy_tree.Resolved.{Resolved, Tree, node, Trees, no_more, more}
-use Rattle.library_files.specs.Imports.{import_of, imports_of, imports_of_all}
-use Rattle.trans_laws.specs.trans_parts.Comparing.{FitsTree, FitTrees}
+use Rattle.tr_source.specs.bc_scheme.mpy_tree.Resolved.{Resolved, Tree, node, Trees, no_more, more}
+use Rattle.frozen_files.specs.library_files.Imports.{import_of, imports_of, imports_of_all}
+use Rattle.meant_runs.specs.trans_laws.trans_parts.Comparing.{FitsTree, FitTrees}
 
 abbrev joined : List (List ℕ) → List (List ℕ) → List (List ℕ)
 joined own others = own ++ others

@@ -3,22 +3,22 @@ use Rattle.std.proofs.Common.{◌≡◌, ℕ, List, [], ◌∷◌, Option, Some,
 use Rattle.std.specs.Prelude.{⊤, Contains, Ok}
 use Rattle.std.specs.List.{AllByRecursion}
 use Rattle.std.proofs.lemmas.List.Elements.{All-contains_itself, recursion_from_All}
-use Rattle.mpy_io.specs.Files.{FileOf}
-use Rattle.pkg_paths.specs.Finds.{NamedFile, first_there}
-use Rattle.pkg_paths.specs.Paths.{candidates}
-use Rattle.bc_scheme.specs.mpy_tree.File.{IsFile}
-use Rattle.bc_scheme.specs.mpy_tree.Raw.{Module}
-use Rattle.bc_verify.specs.Verified.{IsVerified}
+use Rattle.meant_runs.specs.mpy_io.Files.{FileOf}
+use Rattle.frozen_files.specs.pkg_paths.Finds.{NamedFile, first_there}
+use Rattle.frozen_files.specs.pkg_paths.Paths.{candidates}
+use Rattle.tr_source.specs.bc_scheme.mpy_tree.File.{IsFile}
+use Rattle.tr_source.specs.bc_scheme.mpy_tree.Raw.{Module}
+use Rattle.bc_resolved.specs.bc_verify.Verified.{IsVerified}
 use Rattle.image_open.specs.bc_library.Shelf.{Shelf}
-use Rattle.bc_scheme.specs.py_meaning.Tree.{Name}
-use Rattle.bc_scheme.specs.py_meaning.Program.{Source, Single, Program}
-use Rattle.mpy_compile.specs.Compiled.{CompilesTo}
-use Rattle.library_files.specs.declared.entry.Entry as loading
-use Rattle.library_files.specs.declared.entry.Entry.TheVariants as entries
-use Rattle.library_files.specs.Asked.{asked_for}
-use Rattle.library_files.specs.Comes.{FileComesTo, ModuleFiles, ComesTo, ending}
-use Rattle.source_files.specs.Sources.{stored, IsModuleOf, SourceComesTo}
-use Rattle.source_files.specs.Sources as compiled
+use Rattle.tr_source.specs.bc_scheme.py_meaning.Tree.{Name}
+use Rattle.tr_source.specs.bc_scheme.py_meaning.Program.{Source, Single, Program}
+use Rattle.frozen_files.specs.mpy_compile.Compiled.{CompilesTo}
+use Rattle.frozen_files.specs.library_files.declared.entry.Entry as loading
+use Rattle.frozen_files.specs.library_files.declared.entry.Entry.TheVariants as entries
+use Rattle.frozen_files.specs.library_files.Asked.{asked_for}
+use Rattle.frozen_files.specs.library_files.Comes.{FileComesTo, ModuleFiles, ComesTo, ending}
+use Rattle.frozen_files.specs.source_files.Sources.{stored, IsModuleOf, SourceComesTo}
+use Rattle.frozen_files.specs.source_files.Sources as compiled
 use Rattle.meant_files.specs.Readings.{IsReading}
 use Rattle.meant_runs.specs.Units.{IsUnitFile, AreUnits}
 use Rattle.meant_files.specs.Imported.{source_imports}

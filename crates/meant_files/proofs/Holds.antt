@@ -1,20 +1,20 @@
 -- The library that files of a program load to has the program's units.
 use Rattle.std.proofs.Common.{◌≡◌, ℕ, List, length, Option, Some, None, Ok, refl, sym, subst}
 use Rattle.std.specs.Prelude.{IsSome}
-use Rattle.mpy_io.specs.Files.{FileOf}
-use Rattle.bc_scheme.specs.mpy_tree.File.{IsFile}
-use Rattle.bc_scheme.specs.mpy_tree.Raw.{Module}
-use Rattle.bc_verify.specs.Verified.{IsVerified}
-use Rattle.pkg_paths.specs.Finds.{NamedFile, first_there}
-use Rattle.pkg_paths.specs.Paths.{candidates}
+use Rattle.meant_runs.specs.mpy_io.Files.{FileOf}
+use Rattle.tr_source.specs.bc_scheme.mpy_tree.File.{IsFile}
+use Rattle.tr_source.specs.bc_scheme.mpy_tree.Raw.{Module}
+use Rattle.bc_resolved.specs.bc_verify.Verified.{IsVerified}
+use Rattle.frozen_files.specs.pkg_paths.Finds.{NamedFile, first_there}
+use Rattle.frozen_files.specs.pkg_paths.Paths.{candidates}
 use Rattle.image_open.specs.bc_library.declared.fault.Member.{Member}
 use Rattle.image_open.specs.bc_library.declared.fault.Member.TheVariants as members
 use Rattle.image_open.specs.bc_library.Shelf.{Shelf, no_entries, member_of, module_at}
-use Rattle.bc_scheme.specs.py_meaning.Program.{Unit, Entry, Runs, Refused, Program, entry_in}
-use Rattle.library_files.specs.declared.entry.Entry.TheVariants as entries
-use Rattle.library_files.specs.declared.limit.Limit.{Limit}
-use Rattle.library_files.specs.Comes.{ComesTo, FileComesTo, ModuleFiles, ending}
-use Rattle.library_files.specs.Loads.{Loaded, LoadsBy, LoadsFrom, limit_of, main_name}
+use Rattle.tr_source.specs.bc_scheme.py_meaning.Program.{Unit, Entry, Runs, Refused, Program, entry_in}
+use Rattle.frozen_files.specs.library_files.declared.entry.Entry.TheVariants as entries
+use Rattle.frozen_files.specs.library_files.declared.limit.Limit.{Limit}
+use Rattle.frozen_files.specs.library_files.Comes.{ComesTo, FileComesTo, ModuleFiles, ending}
+use Rattle.frozen_files.specs.library_files.Loads.{Loaded, LoadsBy, LoadsFrom, limit_of, main_name}
 use Rattle.meant_runs.specs.Units.{IsUnitFile, HasUnit, HasEntry, AreUnits}
 use Rattle.meant_files.specs.Built.{IsBuilt, IsBuiltEntry, IsBuiltProgram}
 use Rattle.meant_files.proofs.Came.{Came, CameAs, came}

@@ -4,16 +4,16 @@ use Rattle.std.proofs.lemmas.List.{map-append}
 use Rattle.image_open.specs.bc_library.declared.fault.Member.TheVariants as members
 use Rattle.image_open.specs.bc_library.Shelf as shelves
 use Rattle.image_open.specs.bc_library.Shelf.{Shelf, member_of, names, no_entries}
-use Rattle.bc_scheme.specs.py_meaning.Tree.{Name}
-use Rattle.bc_scheme.specs.py_meaning.Program.{Entry, Program, entry_in}
+use Rattle.tr_source.specs.bc_scheme.py_meaning.Tree.{Name}
+use Rattle.tr_source.specs.bc_scheme.py_meaning.Program.{Entry, Program, entry_in}
 use Rattle.meant_runs.specs.Units.{AreUnits}
 use Rattle.manifest_files.specs.image_grammar.declared.entry.Entry as images
 use Rattle.manifest_files.specs.image_grammar.Image.{Differ}
 use Rattle.manifest_files.specs.image_grammar.Opening.{names_of}
-use Rattle.image_freeze.specs.Migrated.{Migrates}
+use Rattle.frozen_files.specs.image_freeze.Migrated.{Migrates}
 use Rattle.image_open.specs.Opens.{named, IsOpenedOf, Opens, with_entries}
 use Rattle.image_open.proofs.Behind.{differ_join}
-use Rattle.image_freeze.specs.Frozen.{entries_of}
+use Rattle.frozen_files.specs.image_freeze.Frozen.{entries_of}
 use Rattle.meant_files.specs.Programs.{AreRead, IsImageOfSources, IsLibraryOf, IsProgramOf, Sources}
 use Rattle.meant_files.proofs.Places.{Matched, has_in, has_unit}
 use Rattle.meant_files.proofs.Matched.{Below, matched, matched_join, modules_of, names_same, read_as, sourced, units_of}

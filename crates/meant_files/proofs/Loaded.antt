@@ -2,29 +2,29 @@
 use Rattle.std.proofs.Common.{◌≡◌, ℕ, ◌+◌, List, [], ◌∷◌, ◌++◌, Option, Some, None, codes, refl, sym, ap, ◌∙◌, subst}
 use Rattle.std.specs.Prelude.{⊤, IsSome, Ok}
 use Rattle.std.specs.List.{AllByRecursion}
-use Rattle.mpy_io.specs.Files.{FileOf}
-use Rattle.bc_scheme.specs.mpy_tree.Raw.{Module}
-use Rattle.bc_scheme.specs.mpy_tree.Resolved.{ResolvedModule, Resolves}
+use Rattle.meant_runs.specs.mpy_io.Files.{FileOf}
+use Rattle.tr_source.specs.bc_scheme.mpy_tree.Raw.{Module}
+use Rattle.tr_source.specs.bc_scheme.mpy_tree.Resolved.{ResolvedModule, Resolves}
 use Rattle.image_open.specs.bc_library.Shelf.{Shelf, no_entries, with_module}
-use Rattle.bc_scheme.specs.py_meaning.Tree.{Name}
-use Rattle.bc_scheme.specs.py_meaning.Program.{Source, Single, Entry, Runs, entry_in, Program}
-use Rattle.bc_scheme.specs.Link.{IsModuleOf, translated}
-use Rattle.bc_scheme.specs.Translation.{Translates}
-use Rattle.library_files.specs.declared.entry.Entry as loading
-use Rattle.library_files.specs.declared.entry.Entry.TheVariants as entries
-use Rattle.library_files.specs.declared.limit.Limit.{Limit}
-use Rattle.library_files.specs.Imports.{Imports, imports_of}
-use Rattle.library_files.specs.Asked.{asked_for}
-use Rattle.library_files.specs.Comes.{OfNames}
-use Rattle.library_files.specs.Loads.{Loading, Loaded, Past, Unaccepted, Loads, main_name, limit_of, LoadsBy, LoadsWith}
-use Rattle.library_files.specs.Loads as files
+use Rattle.tr_source.specs.bc_scheme.py_meaning.Tree.{Name}
+use Rattle.tr_source.specs.bc_scheme.py_meaning.Program.{Source, Single, Entry, Runs, entry_in, Program}
+use Rattle.tr_source.specs.bc_scheme.Link.{IsModuleOf, translated}
+use Rattle.tr_source.specs.bc_scheme.Translation.{Translates}
+use Rattle.frozen_files.specs.library_files.declared.entry.Entry as loading
+use Rattle.frozen_files.specs.library_files.declared.entry.Entry.TheVariants as entries
+use Rattle.frozen_files.specs.library_files.declared.limit.Limit.{Limit}
+use Rattle.frozen_files.specs.library_files.Imports.{Imports, imports_of}
+use Rattle.frozen_files.specs.library_files.Asked.{asked_for}
+use Rattle.frozen_files.specs.library_files.Comes.{OfNames}
+use Rattle.frozen_files.specs.library_files.Loads.{Loading, Loaded, Past, Unaccepted, Loads, main_name, limit_of, LoadsBy, LoadsWith}
+use Rattle.frozen_files.specs.library_files.Loads as files
 use Rattle.meant_files.specs.Readings.{IsReading}
 use Rattle.meant_runs.specs.Units.{IsUnitFile, HasEntry, AreUnits}
 use Rattle.meant_files.specs.Imported.{source_imports}
-use Rattle.source_files.specs.Sources.{stored}
+use Rattle.frozen_files.specs.source_files.Sources.{stored}
 use Rattle.meant_files.specs.Sources.{HoldsSource, imports_with, with_source, LoadsSources, IsProgramOfSources}
 use Rattle.meant_files.specs.Sources as sources
-use Rattle.trans_laws.specs.trans_parts.Comparing.{FitsTree}
+use Rattle.meant_runs.specs.trans_laws.trans_parts.Comparing.{FitsTree}
 use Rattle.meant_files.proofs.Fitting.{same_imports}
 use Rattle.meant_files.proofs.SourcesHold.{Agree, grown, fresh, there, none_yet, entry_stays}
 

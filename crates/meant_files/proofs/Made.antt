@@ -1,17 +1,17 @@
 -- Files that are made of units.
 use Rattle.std.proofs.Common.{◌≡◌, ℕ, List, [], ◌∷◌, refl, subst}
 use Rattle.std.specs.List.{AllZip, AllByRecursion}
-use Rattle.bc_scheme.specs.mpy_tree.File.{IsModule, IsFile}
-use Rattle.bc_scheme.specs.mpy_tree.Raw.{Module}
-use Rattle.bc_scheme.specs.mpy_tree.Resolved.{ResolvedModule, Resolves}
-use Rattle.bc_verify.specs.Verified.{IsVerified}
+use Rattle.tr_source.specs.bc_scheme.mpy_tree.File.{IsModule, IsFile}
+use Rattle.tr_source.specs.bc_scheme.mpy_tree.Raw.{Module}
+use Rattle.tr_source.specs.bc_scheme.mpy_tree.Resolved.{ResolvedModule, Resolves}
+use Rattle.bc_resolved.specs.bc_verify.Verified.{IsVerified}
 use Rattle.bc_resolved.specs.Known.{HasTexts}
 use Rattle.bc_resolved.specs.Verified.{IsVerifiedTree, AllVerifiedTrees}
-use Rattle.bc_scheme.specs.Merge.{merge_of}
-use Rattle.bc_scheme.specs.py_meaning.Program.{Source, Unit, Single, Merge, Units, Part, Parts}
-use Rattle.mpy_compile.specs.Compiled.{CompilesTo}
-use Rattle.mpy_compile.specs.Checked.{IsTranslation}
-use Rattle.mpy_merge.specs.AsMerge.{ReadsAsMerge}
+use Rattle.tr_source.specs.bc_scheme.Merge.{merge_of}
+use Rattle.tr_source.specs.bc_scheme.py_meaning.Program.{Source, Unit, Single, Merge, Units, Part, Parts}
+use Rattle.frozen_files.specs.mpy_compile.Compiled.{CompilesTo}
+use Rattle.frozen_files.specs.mpy_compile.Checked.{IsTranslation}
+use Rattle.frozen_files.specs.mpy_merge.AsMerge.{ReadsAsMerge}
 use Rattle.meant_runs.specs.Units.{IsUnitFile, AreUnitFiles}
 use Rattle.meant_files.specs.Readings.{IsReading}
 use Rattle.meant_files.specs.Built.{IsBuilt, crossed, checked, merged, AreBuilt, last, next}

@@ -1,22 +1,22 @@
 -- The modules of the image of a manifest's sources, and what these are read as.
 use Rattle.std.proofs.Common.{◌≡◌, ℕ, List, [], ◌∷◌, ◌++◌, map, Option, Some, Ok, refl, sym, ap, ap₂, subst, ◌∙◌}
 use Rattle.std.specs.List.{AllZip}
-use Rattle.mpy_io.specs.Files.{FileOf}
-use Rattle.bc_scheme.specs.mpy_tree.File.{IsFile}
-use Rattle.bc_scheme.specs.mpy_tree.Raw.{Module}
-use Rattle.bc_scheme.specs.mpy_tree.Resolved.{ResolvedModule, Resolves}
+use Rattle.meant_runs.specs.mpy_io.Files.{FileOf}
+use Rattle.tr_source.specs.bc_scheme.mpy_tree.File.{IsFile}
+use Rattle.tr_source.specs.bc_scheme.mpy_tree.Raw.{Module}
+use Rattle.tr_source.specs.bc_scheme.mpy_tree.Resolved.{ResolvedModule, Resolves}
 use Rattle.image_open.specs.bc_library.Shelf as shelves
 use Rattle.image_open.specs.bc_library.Shelf.{Shelf}
-use Rattle.bc_scheme.specs.py_meaning.Tree.{Name}
-use Rattle.bc_scheme.specs.py_meaning.Program.{Source, Unit, Single, Entry, Runs, Program, entry_in}
-use Rattle.mpy_compile.specs.Compiled.{CompilesTo}
+use Rattle.tr_source.specs.bc_scheme.py_meaning.Tree.{Name}
+use Rattle.tr_source.specs.bc_scheme.py_meaning.Program.{Source, Unit, Single, Entry, Runs, Program, entry_in}
+use Rattle.frozen_files.specs.mpy_compile.Compiled.{CompilesTo}
 use Rattle.meant_files.specs.Readings.{IsReading}
 use Rattle.meant_runs.specs.Units.{IsUnitFile, HasUnit, HasEntry, AreUnits}
-use Rattle.manifest_lines.specs.declared.entry.Entry as manifests
+use Rattle.frozen_files.specs.manifest_lines.declared.entry.Entry as manifests
 use Rattle.manifest_files.specs.Entries.{Answer, IsAnswer, AreEntries}
 use Rattle.image_open.specs.Opens.{named, IsOpenedOf, Opens}
-use Rattle.image_freeze.specs.declared.named.Named.{Named}
-use Rattle.image_freeze.specs.Frozen.{entries_of, frozen}
+use Rattle.frozen_files.specs.image_freeze.declared.named.Named.{Named}
+use Rattle.frozen_files.specs.image_freeze.Frozen.{entries_of, frozen}
 use Rattle.frozen_files.specs.Sources.{HoldsSource}
 use Rattle.meant_files.specs.Programs.{AreSources, IsSourceOf, Sources}
 use Rattle.meant_files.proofs.Places.{Matched, has_in, has_entry}

@@ -1,14 +1,14 @@
 -- The merge of units' files is the file of the merged unit.
 use Rattle.std.proofs.Common.{◌≡◌, ℕ, suc, List, [], ◌∷◌, length, refl, sym, ap, subst, ◌∙◌, lit≤}
 use Rattle.std.specs.List.{AllZip}
-use Rattle.bc_scheme.specs.mpy_tree.File.{IsFile}
-use Rattle.bc_scheme.specs.mpy_tree.Raw.{Module}
-use Rattle.bc_scheme.specs.mpy_tree.Resolved.{instrs_of, line_numbers, Trees, ResolvedModule, Resolves}
-use Rattle.bc_scheme.specs.py_meaning.Program.{Unit, Merge, Units, Part, Parts}
-use Rattle.bc_scheme.specs.Link.{merged, AreModulesOf, last_unit, next_unit}
-use Rattle.bc_scheme.specs.Merge.{outer_body, trees_of, merge_of}
-use Rattle.trans_laws.specs.trans_parts.Comparing.{AllServe, parts, count_of, single, FitsTree, FitTrees}
-use Rattle.mpy_merge.specs.AsMerge.{ReadsAsMerge}
+use Rattle.tr_source.specs.bc_scheme.mpy_tree.File.{IsFile}
+use Rattle.tr_source.specs.bc_scheme.mpy_tree.Raw.{Module}
+use Rattle.tr_source.specs.bc_scheme.mpy_tree.Resolved.{instrs_of, line_numbers, Trees, ResolvedModule, Resolves}
+use Rattle.tr_source.specs.bc_scheme.py_meaning.Program.{Unit, Merge, Units, Part, Parts}
+use Rattle.tr_source.specs.bc_scheme.Link.{merged, AreModulesOf, last_unit, next_unit}
+use Rattle.tr_source.specs.bc_scheme.Merge.{outer_body, trees_of, merge_of}
+use Rattle.meant_runs.specs.trans_laws.trans_parts.Comparing.{AllServe, parts, count_of, single, FitsTree, FitTrees}
+use Rattle.frozen_files.specs.mpy_merge.AsMerge.{ReadsAsMerge}
 use Rattle.meant_runs.specs.Units.{IsUnitFile, AreUnitFiles}
 
 none_left : (trees : List ResolvedModule) → AllZip Resolves [] trees → trees ≡ []

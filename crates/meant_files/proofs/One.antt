@@ -1,17 +1,17 @@
 -- Of the sources in a folder there is one program at most.
 use Rattle.std.proofs.Common.{◌≡◌, ℕ, List, [], ◌∷◌, ◌++◌, Option, Some, None, codes, refl, sym, ap, ◌∙◌, subst}
 use Rattle.std.specs.Prelude.{IsSome}
-use Rattle.mpy_io.specs.Files.{FileOf}
-use Rattle.pkg_paths.specs.Finds.{NamedFile}
+use Rattle.meant_runs.specs.mpy_io.Files.{FileOf}
+use Rattle.frozen_files.specs.pkg_paths.Finds.{NamedFile}
 use Rattle.py_source.specs.declared.source.Accepted.{Accepted}
 use Rattle.py_source.specs.Source.{IsAccepted}
-use Rattle.bc_scheme.specs.py_meaning.Tree.{Name}
-use Rattle.bc_scheme.specs.py_meaning.Program.{Source, Unit, Single, Entry, Runs, entry_in, Program}
-use Rattle.bc_scheme.specs.py_meaning.Meaning.{source_of}
-use Rattle.library_files.specs.Asked.{asked_for}
+use Rattle.tr_source.specs.bc_scheme.py_meaning.Tree.{Name}
+use Rattle.tr_source.specs.bc_scheme.py_meaning.Program.{Source, Unit, Single, Entry, Runs, entry_in, Program}
+use Rattle.tr_source.specs.bc_scheme.py_meaning.Meaning.{source_of}
+use Rattle.frozen_files.specs.library_files.Asked.{asked_for}
 use Rattle.meant_files.specs.Readings.{IsReading}
 use Rattle.meant_files.specs.Imported.{source_imports}
-use Rattle.source_files.specs.Sources.{stored}
+use Rattle.frozen_files.specs.source_files.Sources.{stored}
 use Rattle.meant_files.specs.Sources.{HoldsSource, imports_with, with_source, LoadsSources, ends, next, known, taken, IsProgramOfSources}
 
 some_is : {A : Type 0} (a b : A) → Some a ≡ Some b → a ≡ b

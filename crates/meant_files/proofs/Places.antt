@@ -5,11 +5,11 @@ use Rattle.std.specs.List.{list_any, position_or_len}
 use Rattle.std.specs.Str.{bytes_eq}
 use Rattle.std.proofs.lemmas.Slice.Eq.{bytes_eq-Decides}
 use Rattle.std.proofs.lemmas.Bool.Decides.{nat_tests}
-use Rattle.bc_scheme.specs.mpy_tree.Raw.{Module}
+use Rattle.tr_source.specs.bc_scheme.mpy_tree.Raw.{Module}
 use Rattle.image_open.specs.bc_library.declared.fault.Member.TheVariants as members
 use Rattle.image_open.specs.bc_library.Shelf.{Shelf, Named, member_by, member_of, module_at}
-use Rattle.bc_scheme.specs.py_meaning.Tree.{Name}
-use Rattle.bc_scheme.specs.py_meaning.Program.{Unit, Entry, Runs, Refused, entry_in}
+use Rattle.tr_source.specs.bc_scheme.py_meaning.Tree.{Name}
+use Rattle.tr_source.specs.bc_scheme.py_meaning.Program.{Unit, Entry, Runs, Refused, entry_in}
 use Rattle.meant_runs.specs.Units.{IsUnitFile, HasUnit, HasEntry}
 
 -- names

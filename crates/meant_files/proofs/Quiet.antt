@@ -1,17 +1,17 @@
 -- The instructions of expressions and stores import nothing.
 use Rattle.std.proofs.Common.{◌≡◌, ℕ, zero, suc, Bool, true, false, List, [], ◌∷◌, ◌++◌, length, drop, Option, Some, None, refl, ap, ◌∙◌, slice_get, if◌then◌else◌}
 use Rattle.std.specs.Prelude.{nat_le}
-use Rattle.mpy_base.specs.Val.{Val, Nil, Truth, Int, Str}
-use Rattle.bc_scheme.specs.bc_ops.declared.instr.Op.{Op}
-use Rattle.bc_scheme.specs.bc_ops.declared.instr.Op.TheVariants as ops
-use Rattle.py_tree.specs.declared.expr.CompareOp.{CompareOp}
-use Rattle.py_tree.specs.declared.stmt.Alias.{Alias}
-use Rattle.bc_scheme.specs.py_meaning.Tree.{Name, Expr, Exprs, Links, Pairs, Keys, Target, Targets}
-use Rattle.bc_scheme.specs.py_meaning.Statements.{from_name}
-use Rattle.bc_scheme.specs.bc_machine.Library.{Item, Names, Loads, Line}
-use Rattle.bc_scheme.specs.Context.{Context, loads, stores, deletes, load_by, store_by, delete_by, slot_of, constant}
-use Rattle.bc_scheme.specs.Expressions.{StandsC, StandsE, StandsEs, StandsO, StandsL, StandsD, StandsK, straight, negated, literal, name, one, «not», two, «and», «or», compare, chain, cond, tuple, items, dict, attr, index, call, method, no_expr, next, no_operand, operand, last, link, no_pair, pair, no_key, key}
-use Rattle.bc_scheme.specs.Statements.{StandsT, StandsTs, StandsA, StandsG, StandsGs, StandsR, StandsN, StandsF, StandsJ, StandsDef, to_name, to_attr, to_index, to_each, one_store, next_store, one_assign, next_assign, gone_name, gone_index, one_gone, next_gone, no_part, part, no_text, text, no_name, taken, jumped, popped, unwound, bare, with_defaults}
+use Rattle.meant_runs.specs.mpy_base.Val.{Val, Nil, Truth, Int, Str}
+use Rattle.tr_source.specs.bc_scheme.bc_ops.declared.instr.Op.{Op}
+use Rattle.tr_source.specs.bc_scheme.bc_ops.declared.instr.Op.TheVariants as ops
+use Rattle.tr_source.specs.py_tree.declared.expr.CompareOp.{CompareOp}
+use Rattle.tr_source.specs.py_tree.declared.stmt.Alias.{Alias}
+use Rattle.tr_source.specs.bc_scheme.py_meaning.Tree.{Name, Expr, Exprs, Links, Pairs, Keys, Target, Targets}
+use Rattle.tr_source.specs.bc_scheme.py_meaning.Statements.{from_name}
+use Rattle.tr_source.specs.bc_scheme.bc_machine.Library.{Item, Names, Loads, Line}
+use Rattle.tr_source.specs.bc_scheme.Context.{Context, loads, stores, deletes, load_by, store_by, delete_by, slot_of, constant}
+use Rattle.tr_source.specs.bc_scheme.Expressions.{StandsC, StandsE, StandsEs, StandsO, StandsL, StandsD, StandsK, straight, negated, literal, name, one, «not», two, «and», «or», compare, chain, cond, tuple, items, dict, attr, index, call, method, no_expr, next, no_operand, operand, last, link, no_pair, pair, no_key, key}
+use Rattle.tr_source.specs.bc_scheme.Statements.{StandsT, StandsTs, StandsA, StandsG, StandsGs, StandsR, StandsN, StandsF, StandsJ, StandsDef, to_name, to_attr, to_index, to_each, one_store, next_store, one_assign, next_assign, gone_name, gone_index, one_gone, next_gone, no_part, part, no_text, text, no_name, taken, jumped, popped, unwound, bare, with_defaults}
 
 -- the name that an instruction imports
 abbrev pub imported_by : Item → List Name

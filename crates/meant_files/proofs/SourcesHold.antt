@@ -8,12 +8,12 @@ use Rattle.std.proofs.lemmas.List.{length-map, map-append}
 use Rattle.std.proofs.lemmas.List.Folds.{position_or_len_push}
 use Rattle.std.proofs.lemmas.Bool.Decides.{nat_tests}
 use Rattle.image_open.proofs.qstr_pool_lemmas.Places.{pushed, absent}
-use Rattle.bc_scheme.specs.mpy_tree.Raw.{Module}
+use Rattle.tr_source.specs.bc_scheme.mpy_tree.Raw.{Module}
 use Rattle.image_open.specs.bc_library.declared.fault.Member.{Member}
 use Rattle.image_open.specs.bc_library.declared.fault.Member.TheVariants as members
 use Rattle.image_open.specs.bc_library.Shelf.{Shelf, Named, names, no_entries, with_module, member_by, member_of, module_at}
-use Rattle.bc_scheme.specs.py_meaning.Tree.{Name}
-use Rattle.bc_scheme.specs.py_meaning.Program.{Unit, Entry, Runs, Refused, entry_in}
+use Rattle.tr_source.specs.bc_scheme.py_meaning.Tree.{Name}
+use Rattle.tr_source.specs.bc_scheme.py_meaning.Program.{Unit, Entry, Runs, Refused, entry_in}
 use Rattle.meant_runs.specs.Units.{IsUnitFile, HasUnit, HasEntry}
 
 -- names

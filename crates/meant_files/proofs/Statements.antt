@@ -1,12 +1,12 @@
 -- The instructions of statements import what the statements do, in their order.
 use Rattle.std.proofs.Common.{◌≡◌, ℕ, suc, List, [], ◌∷◌, ◌++◌, Some, slice_get, refl, sym, ap, ◌∙◌, append_assoc}
-use Rattle.bc_scheme.specs.bc_ops.declared.instr.Op.TheVariants as ops
-use Rattle.bc_scheme.specs.bc_machine.Library.{Names}
-use Rattle.py_tree.specs.declared.stmt.Alias.{Alias}
-use Rattle.bc_scheme.specs.py_meaning.Tree.{Name, Stmt, Block, Branches, Handlers}
-use Rattle.bc_scheme.specs.py_meaning.Statements.{bound_name}
-use Rattle.bc_scheme.specs.Context.{Context}
-use Rattle.bc_scheme.specs.Statements.{Around, StandsM, StandsS, StandsB, StandsI, StandsX, StandsH, no_import, imported, «do», assign, aug_name, aug_attr, aug_index, delete, pass, «break», «continue», return_none, «return», reraise, raise, no_assert, no_assert_with, assert, assert_with, «import», from, «if», «while», «for», «try», finally, try_finally, def, no_stmt, stmt, «else», last_branch, branch, «except», no_clause, any, on, on_as}
+use Rattle.tr_source.specs.bc_scheme.bc_ops.declared.instr.Op.TheVariants as ops
+use Rattle.tr_source.specs.bc_scheme.bc_machine.Library.{Names}
+use Rattle.tr_source.specs.py_tree.declared.stmt.Alias.{Alias}
+use Rattle.tr_source.specs.bc_scheme.py_meaning.Tree.{Name, Stmt, Block, Branches, Handlers}
+use Rattle.tr_source.specs.bc_scheme.py_meaning.Statements.{bound_name}
+use Rattle.tr_source.specs.bc_scheme.Context.{Context}
+use Rattle.tr_source.specs.bc_scheme.Statements.{Around, StandsM, StandsS, StandsB, StandsI, StandsX, StandsH, no_import, imported, «do», assign, aug_name, aug_attr, aug_index, delete, pass, «break», «continue», return_none, «return», reraise, raise, no_assert, no_assert_with, assert, assert_with, «import», from, «if», «while», «for», «try», finally, try_finally, def, no_stmt, stmt, «else», last_branch, branch, «except», no_clause, any, on, on_as}
 use Rattle.meant_files.specs.Imported.{names_of, imports, imports_in, imports_of, imports_by}
 use Rattle.meant_files.proofs.Quiet.{from_at, one_line, Quiet, ◌>>◌, nowhere, quiet, quiet_load, quiet_store, quiet_delete, quiet_e, quiet_t, quiet_a, quiet_gs, quiet_r, quiet_n, quiet_f, quiet_j, quiet_def}
 

@@ -2,17 +2,17 @@
 use Rattle.std.proofs.Common.{◌≡◌, ℕ, zero, suc, ◌+◌, Bool, true, false, List, [], ◌∷◌, ◌++◌, length, map, drop, Option, Some, None, refl, sym, ap, ap₂, ◌∙◌, append-nil, arith}
 use Rattle.std.specs.List.{flat_map, filter_map}
 use Rattle.std.proofs.lemmas.List.Concat.{flat_map-append}
-use Rattle.bc_scheme.specs.bc_ops.declared.instr.Op.{Op}
-use Rattle.bc_scheme.specs.bc_ops.declared.instr.Op.TheVariants as ops
-use Rattle.bc_scheme.specs.mpy_tree.Resolved.{Resolved, plain, named, object, jump, unwind, ResolvedLine, Tree, node, Trees, no_more, more, ResolvedModule}
-use Rattle.bc_scheme.specs.py_meaning.Tree.{Name, Function, functions}
-use Rattle.bc_scheme.specs.py_meaning.Program.{Source, Text, source_texts, function_texts}
-use Rattle.bc_scheme.specs.bc_machine.Library.{Code, Line, Names, item_of, line_of, size_of, codes_from, codes_of}
-use Rattle.bc_scheme.specs.Context.{Context}
-use Rattle.bc_scheme.specs.Translation.{StandsCode, StandAll, Translates}
+use Rattle.tr_source.specs.bc_scheme.bc_ops.declared.instr.Op.{Op}
+use Rattle.tr_source.specs.bc_scheme.bc_ops.declared.instr.Op.TheVariants as ops
+use Rattle.tr_source.specs.bc_scheme.mpy_tree.Resolved.{Resolved, plain, named, object, jump, unwind, ResolvedLine, Tree, node, Trees, no_more, more, ResolvedModule}
+use Rattle.tr_source.specs.bc_scheme.py_meaning.Tree.{Name, Function, functions}
+use Rattle.tr_source.specs.bc_scheme.py_meaning.Program.{Source, Text, source_texts, function_texts}
+use Rattle.tr_source.specs.bc_scheme.bc_machine.Library.{Code, Line, Names, item_of, line_of, size_of, codes_from, codes_of}
+use Rattle.tr_source.specs.bc_scheme.Context.{Context}
+use Rattle.tr_source.specs.bc_scheme.Translation.{StandsCode, StandAll, Translates}
 use Rattle.meant_files.specs.Imported.{imports, source_imports}
-use Rattle.library_files.specs.Imports as held
-use Rattle.library_files.specs.Imports.{import_of}
+use Rattle.frozen_files.specs.library_files.Imports as held
+use Rattle.frozen_files.specs.library_files.Imports.{import_of}
 use Rattle.meant_files.proofs.Quiet.{imported_by, imported, Quiet, ◌>>◌, quiet}
 use Rattle.meant_files.proofs.Statements.{of_block}
 

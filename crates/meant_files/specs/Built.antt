@@ -1,18 +1,18 @@
 -- Files of a program's units: those that compiling and merging make, and those that are translations, whoever made them.
 use Rattle.std.specs.Prelude.{◌≡◌, ◌≢◌, ℕ, List, [], ◌∷◌, Option, Some, None, IsSome, codes}
-use Rattle.mpy_io.specs.Files.{FileOf}
-use Rattle.bc_scheme.specs.mpy_tree.Raw.{Module}
-use Rattle.bc_scheme.specs.mpy_tree.File.{IsFile}
-use Rattle.pkg_paths.specs.Finds.{NamedFile, first_there}
-use Rattle.pkg_paths.specs.Paths.{candidates}
+use Rattle.meant_runs.specs.mpy_io.Files.{FileOf}
+use Rattle.tr_source.specs.bc_scheme.mpy_tree.Raw.{Module}
+use Rattle.tr_source.specs.bc_scheme.mpy_tree.File.{IsFile}
+use Rattle.frozen_files.specs.pkg_paths.Finds.{NamedFile, first_there}
+use Rattle.frozen_files.specs.pkg_paths.Paths.{candidates}
 use Rattle.image_open.specs.bc_library.Shelf.{Shelf, member_of}
-use Rattle.bc_scheme.specs.py_meaning.Tree.{Name}
-use Rattle.bc_scheme.specs.py_meaning.Program.{Source, Unit, Single, Merge, Units, Part, Parts, Entry, Runs, Refused, Program, entry_in}
-use Rattle.mpy_compile.specs.Compiled.{CompilesTo}
-use Rattle.mpy_compile.specs.Checked.{IsTranslation}
-use Rattle.mpy_merge.specs.AsMerge.{ReadsAsMerge}
+use Rattle.tr_source.specs.bc_scheme.py_meaning.Tree.{Name}
+use Rattle.tr_source.specs.bc_scheme.py_meaning.Program.{Source, Unit, Single, Merge, Units, Part, Parts, Entry, Runs, Refused, Program, entry_in}
+use Rattle.frozen_files.specs.mpy_compile.Compiled.{CompilesTo}
+use Rattle.frozen_files.specs.mpy_compile.Checked.{IsTranslation}
+use Rattle.frozen_files.specs.mpy_merge.AsMerge.{ReadsAsMerge}
 use Rattle.meant_files.specs.Readings.{IsReading}
-use Rattle.library_files.specs.Comes.{IsVerifiedFile, ending}
+use Rattle.frozen_files.specs.library_files.Comes.{IsVerifiedFile, ending}
 
 mutual
   -- the bytes are made of the unit

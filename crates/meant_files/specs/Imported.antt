@@ -2,9 +2,9 @@
 -- function's.
 use Rattle.std.specs.Prelude.{List, [], ◌∷◌, ◌++◌, map}
 use Rattle.std.specs.List.{flat_map}
-use Rattle.py_tree.specs.declared.stmt.Alias.{Alias}
-use Rattle.bc_scheme.specs.py_meaning.Tree.{Name, Stmt, Do, Assign, AugName, AugAttr, AugIndex, Delete, Pass, Break, Continue, ReturnNone, Return, Reraise, Raise, Assert, AssertWith, Import, From, If, While, For, Try, Finally, TryFinally, Def, Block, End, Next, Branches, Else, Case, Handlers, NoHandler, Any, On, OnAs, Function, functions}
-use Rattle.bc_scheme.specs.py_meaning.Program.{Source}
+use Rattle.tr_source.specs.py_tree.declared.stmt.Alias.{Alias}
+use Rattle.tr_source.specs.bc_scheme.py_meaning.Tree.{Name, Stmt, Do, Assign, AugName, AugAttr, AugIndex, Delete, Pass, Break, Continue, ReturnNone, Return, Reraise, Raise, Assert, AssertWith, Import, From, If, While, For, Try, Finally, TryFinally, Def, Block, End, Next, Branches, Else, Case, Handlers, NoHandler, Any, On, OnAs, Function, functions}
+use Rattle.tr_source.specs.bc_scheme.py_meaning.Program.{Source}
 
 -- the names that an import names
 abbrev pub names_of : List Alias → List Name

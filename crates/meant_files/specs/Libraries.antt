@@ -1,17 +1,17 @@
 -- The libraries that are loaded for a source: from the sources that it asks for, and from the files that these compile to.
 use Rattle.std.specs.Prelude.{◌≡◌, ℕ, List, Contains, Option, Some, None, ⊤}
-use Rattle.mpy_io.specs.Files.{FileOf}
-use Rattle.bc_scheme.specs.mpy_tree.Raw.{Module}
-use Rattle.pkg_paths.specs.Finds.{NamedFile, first_there}
-use Rattle.pkg_paths.specs.Paths.{candidates}
+use Rattle.meant_runs.specs.mpy_io.Files.{FileOf}
+use Rattle.tr_source.specs.bc_scheme.mpy_tree.Raw.{Module}
+use Rattle.frozen_files.specs.pkg_paths.Finds.{NamedFile, first_there}
+use Rattle.frozen_files.specs.pkg_paths.Paths.{candidates}
 use Rattle.image_open.specs.bc_library.Shelf.{Shelf}
-use Rattle.bc_scheme.specs.py_meaning.Tree.{Name}
-use Rattle.bc_scheme.specs.py_meaning.Program.{Source}
-use Rattle.mpy_compile.specs.Compiled.{CompilesTo}
-use Rattle.library_files.specs.Asked.{asked_for}
-use Rattle.library_files.specs.Comes.{ending}
-use Rattle.library_files.specs.Loads.{Loaded, LoadsFrom}
-use Rattle.source_files.specs.Sources.{stored, IsModuleOf, LoadsFromSources}
+use Rattle.tr_source.specs.bc_scheme.py_meaning.Tree.{Name}
+use Rattle.tr_source.specs.bc_scheme.py_meaning.Program.{Source}
+use Rattle.frozen_files.specs.mpy_compile.Compiled.{CompilesTo}
+use Rattle.frozen_files.specs.library_files.Asked.{asked_for}
+use Rattle.frozen_files.specs.library_files.Comes.{ending}
+use Rattle.frozen_files.specs.library_files.Loads.{Loaded, LoadsFrom}
+use Rattle.frozen_files.specs.source_files.Sources.{stored, IsModuleOf, LoadsFromSources}
 use Rattle.meant_files.specs.Readings.{IsReading}
 use Rattle.meant_files.specs.Imported.{source_imports}
 use Rattle.meant_files.specs.Sources.{source_file, HoldsSource}

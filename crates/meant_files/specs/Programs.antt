@@ -1,18 +1,18 @@
 -- The programs of manifests' sources, and the libraries of their images, of which one lies over the other.
 use Rattle.std.specs.Prelude.{◌≡◌, ℕ, List, [], ◌∷◌, ◌++◌, Some}
 use Rattle.std.specs.List.{AllZip}
-use Rattle.mpy_base.specs.World.{PortState}
-use Rattle.mpy_io.specs.Files.{FileOf}
+use Rattle.meant_runs.specs.mpy_base.World.{PortState}
+use Rattle.meant_runs.specs.mpy_io.Files.{FileOf}
 use Rattle.image_open.specs.bc_library.Shelf.{Shelf, no_entries}
 use Rattle.image_open.specs.Opens.{Opens, with_entries}
-use Rattle.image_freeze.specs.declared.named.Named.{Named}
-use Rattle.image_freeze.specs.Frozen.{entries_of}
+use Rattle.frozen_files.specs.image_freeze.declared.named.Named.{Named}
+use Rattle.frozen_files.specs.image_freeze.Frozen.{entries_of}
 use Rattle.frozen_files.specs.Sources.{HoldsSources}
-use Rattle.manifest_lines.specs.declared.entry.Entry as manifests
+use Rattle.frozen_files.specs.manifest_lines.declared.entry.Entry as manifests
 use Rattle.manifest_files.specs.Entries.{AreEntries}
-use Rattle.bc_scheme.specs.py_effects.Ends.{Run}
-use Rattle.bc_scheme.specs.py_meaning.Tree.{Name}
-use Rattle.bc_scheme.specs.py_meaning.Program.{Source, Single, Entry, Runs, Program, entry_in}
+use Rattle.tr_source.specs.bc_scheme.py_effects.Ends.{Run}
+use Rattle.tr_source.specs.bc_scheme.py_meaning.Tree.{Name}
+use Rattle.tr_source.specs.bc_scheme.py_meaning.Program.{Source, Single, Entry, Runs, Program, entry_in}
 use Rattle.meant_files.specs.Readings.{IsReading}
 use Rattle.meant_runs.specs.Runs.{MeansRun}
 

@@ -1,14 +1,14 @@
 -- The program of a source and of the sources that it asks for, and what a run says of it.
 use Rattle.std.specs.Prelude.{◌≡◌, ℕ, List, [], ◌∷◌, ◌++◌, Option, Some, None, IsSome, codes}
-use Rattle.mpy_base.specs.World.{PortState}
-use Rattle.mpy_io.specs.Files.{FileOf}
-use Rattle.pkg_paths.specs.Paths.{candidates}
-use Rattle.pkg_paths.specs.Finds.{NamedFile, first_there}
-use Rattle.bc_scheme.specs.py_effects.Ends.{Run}
-use Rattle.bc_scheme.specs.py_meaning.Tree.{Name}
-use Rattle.bc_scheme.specs.py_meaning.Program.{Source, Single, Entry, Runs, entry_in, Program}
-use Rattle.library_files.specs.Asked.{asked_for}
-use Rattle.source_files.specs.Sources.{stored, source_ending}
+use Rattle.meant_runs.specs.mpy_base.World.{PortState}
+use Rattle.meant_runs.specs.mpy_io.Files.{FileOf}
+use Rattle.frozen_files.specs.pkg_paths.Paths.{candidates}
+use Rattle.frozen_files.specs.pkg_paths.Finds.{NamedFile, first_there}
+use Rattle.tr_source.specs.bc_scheme.py_effects.Ends.{Run}
+use Rattle.tr_source.specs.bc_scheme.py_meaning.Tree.{Name}
+use Rattle.tr_source.specs.bc_scheme.py_meaning.Program.{Source, Single, Entry, Runs, entry_in, Program}
+use Rattle.frozen_files.specs.library_files.Asked.{asked_for}
+use Rattle.frozen_files.specs.source_files.Sources.{stored, source_ending}
 use Rattle.meant_files.specs.Readings.{IsReading}
 use Rattle.meant_runs.specs.Runs.{MeansRun}
 use Rattle.meant_files.specs.Imported.{source_imports}

@@ -1,13 +1,13 @@
 //! Files of units, and the libraries that they load to.
 
 ghost use Rattle.std.specs.Prelude.{ℕ, List, length};
-ghost use Rattle.mpy_io.specs.Files.{FileOf};
-ghost use Rattle.bc_scheme.specs.mpy_tree.File.{IsFile};
-ghost use Rattle.bc_scheme.specs.mpy_tree.Raw.{Module};
-ghost use Rattle.bc_verify.specs.Verified.{IsVerified};
+ghost use Rattle.meant_runs.specs.mpy_io.Files.{FileOf};
+ghost use Rattle.tr_source.specs.bc_scheme.mpy_tree.File.{IsFile};
+ghost use Rattle.tr_source.specs.bc_scheme.mpy_tree.Raw.{Module};
+ghost use Rattle.bc_resolved.specs.bc_verify.Verified.{IsVerified};
 ghost use Rattle.image_open.specs.bc_library.Shelf.{Shelf};
-ghost use Rattle.bc_scheme.specs.py_meaning.Program.{Unit, Program};
-ghost use Rattle.library_files.specs.Loads.{Loaded, LoadsFrom};
+ghost use Rattle.tr_source.specs.bc_scheme.py_meaning.Program.{Unit, Program};
+ghost use Rattle.frozen_files.specs.library_files.Loads.{Loaded, LoadsFrom};
 ghost use Rattle.meant_runs.specs.Units.{IsUnitFile, AreUnits};
 ghost use Rattle.meant_files.specs.Built.{IsBuilt, IsBuiltProgram};
 

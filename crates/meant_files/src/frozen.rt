@@ -1,21 +1,21 @@
 //! Programs of the sources of manifests, whose images lie one over another.
 
 ghost use Rattle.std.specs.Prelude.{◌≡◌, ℕ, List, [], Some, map};
-ghost use Rattle.mpy_base.specs.World.{PortState};
+ghost use Rattle.meant_runs.specs.mpy_base.World.{PortState};
 ghost use Rattle.image_open.specs.bc_library.declared.fault.Member.TheVariants as members;
 ghost use Rattle.image_open.specs.bc_library.Shelf.{Shelf, member_of, no_entries};
-ghost use Rattle.bc_scheme.specs.bc_machine.Machine.{run};
+ghost use Rattle.tr_source.specs.bc_scheme.bc_machine.Machine.{run};
 ghost use Rattle.manifest_files.specs.image_grammar.Image.{Differ};
-ghost use Rattle.image_freeze.specs.Migrated.{Migrates};
-ghost use Rattle.vm_starting.specs.vm_states.Means as machine;
-ghost use Rattle.vm_starting.specs.Programs.{IsProgramOf as IsMachineOf};
-ghost use Rattle.bc_scheme.specs.py_meaning.Program.{Program};
+ghost use Rattle.frozen_files.specs.image_freeze.Migrated.{Migrates};
+ghost use Rattle.meant_runs.specs.vm_starting.vm_states.Means as machine;
+ghost use Rattle.meant_runs.specs.vm_starting.Programs.{IsProgramOf as IsMachineOf};
+ghost use Rattle.tr_source.specs.bc_scheme.py_meaning.Program.{Program};
 ghost use Rattle.meant_runs.specs.Units.{AreUnits};
 ghost use Rattle.frozen_files.specs.Frozen.{HoldsFrozen};
 ghost use Rattle.meant_files.specs.Programs.{IsImageOfSources, IsLibraryOf, IsProgramOf, MeansManifests, Sources};
 
 use crate::units::crossed_law;
-use image_freeze::freeze_law;
+use frozen_files::freeze_law;
 use image_open::over_law;
 use manifest_files::entries_law;
 use meant_runs::runs_law;

@@ -1,16 +1,16 @@
 //! The program of sources, and the libraries that are loaded for it.
 
 ghost use Rattle.std.specs.Prelude.{◌≡◌, ℕ, List, codes};
-ghost use Rattle.mpy_base.specs.World.{PortState};
-ghost use Rattle.mpy_io.specs.Files.{FileOf};
-ghost use Rattle.bc_scheme.specs.mpy_tree.Resolved.{ResolvedModule};
+ghost use Rattle.meant_runs.specs.mpy_base.World.{PortState};
+ghost use Rattle.meant_runs.specs.mpy_io.Files.{FileOf};
+ghost use Rattle.tr_source.specs.bc_scheme.mpy_tree.Resolved.{ResolvedModule};
 ghost use Rattle.image_open.specs.bc_library.Shelf.{Shelf};
-ghost use Rattle.bc_scheme.specs.bc_machine.Machine.{run};
-ghost use Rattle.bc_scheme.specs.py_meaning.Program.{Source, Program};
-ghost use Rattle.bc_scheme.specs.Translation.{Translates};
-ghost use Rattle.library_files.specs.Imports.{imports_of};
-ghost use Rattle.vm_starting.specs.vm_states.Means as machine;
-ghost use Rattle.vm_starting.specs.Programs.{IsProgramOf};
+ghost use Rattle.tr_source.specs.bc_scheme.bc_machine.Machine.{run};
+ghost use Rattle.tr_source.specs.bc_scheme.py_meaning.Program.{Source, Program};
+ghost use Rattle.tr_source.specs.bc_scheme.Translation.{Translates};
+ghost use Rattle.frozen_files.specs.library_files.Imports.{imports_of};
+ghost use Rattle.meant_runs.specs.vm_starting.vm_states.Means as machine;
+ghost use Rattle.meant_runs.specs.vm_starting.Programs.{IsProgramOf};
 ghost use Rattle.meant_runs.specs.Units.{AreUnits};
 ghost use Rattle.meant_files.specs.Imported.{source_imports};
 ghost use Rattle.meant_files.specs.Sources.{IsProgramOfSources, MeansSources};

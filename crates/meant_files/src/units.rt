@@ -1,23 +1,22 @@
 //! Files of units, as they are compiled and merged.
 
 ghost use Rattle.std.specs.Prelude.{ℕ, List};
-ghost use Rattle.bc_scheme.specs.mpy_tree.File.{IsFile};
-ghost use Rattle.bc_scheme.specs.mpy_tree.Raw.{Module};
-ghost use Rattle.bc_verify.specs.Verified.{IsVerified};
-ghost use Rattle.bc_scheme.specs.py_meaning.Program.{Source, Single, Merge, Units};
-ghost use Rattle.mpy_compile.specs.Compiled.{CompilesTo};
-ghost use Rattle.mpy_compile.specs.Checked.{IsTranslation};
-ghost use Rattle.mpy_merge.specs.AsMerge.{ReadsAsMerge};
+ghost use Rattle.tr_source.specs.bc_scheme.mpy_tree.File.{IsFile};
+ghost use Rattle.tr_source.specs.bc_scheme.mpy_tree.Raw.{Module};
+ghost use Rattle.bc_resolved.specs.bc_verify.Verified.{IsVerified};
+ghost use Rattle.tr_source.specs.bc_scheme.py_meaning.Program.{Source, Single, Merge, Units};
+ghost use Rattle.frozen_files.specs.mpy_compile.Compiled.{CompilesTo};
+ghost use Rattle.frozen_files.specs.mpy_compile.Checked.{IsTranslation};
+ghost use Rattle.frozen_files.specs.mpy_merge.AsMerge.{ReadsAsMerge};
 ghost use Rattle.meant_runs.specs.Units.{IsUnitFile, AreUnitFiles};
 ghost use Rattle.meant_files.specs.Readings.{IsReading};
 
 use bc_resolved::resolves_law;
-use emit_module::resolved_law;
-use mpy_compile::within_law;
+use frozen_files::{resolved_law, within_law};
+use meant_runs::fitting_law;
 use mpy_reader::file_law;
 use py_source::{accepted_law, asked_law};
 use tr_source::compiled_law;
-use trans_laws::fitting_law;
 
 /// What a source compiles to under a stored name is a file, and one of the unit that the source is read as. Its module is
 /// verified, so that nothing that reads and verifies files refuses it.

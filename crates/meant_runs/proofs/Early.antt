@@ -1,21 +1,21 @@
 -- A run that hasn't taken a step is the meaning without turns.
 use Rattle.std.proofs.Common.{◌≡◌, ℕ, ◌≤◌, List, [], Option, Some, None, true, refl, sym, ap, ◌∙◌, subst, inl, inr, zero-le}
 use Rattle.std.specs.Prelude.{◌⊎◌}
-use Rattle.mpy_base.specs.World.{PortState}
-use Rattle.mpy_base.specs.Val.{PlainWorld}
-use Rattle.bc_scheme.specs.py_effects.Effect.{Place, Given, Gives, Throws, Fills, given}
-use Rattle.bc_scheme.specs.py_effects.Growth.{Prints}
-use Rattle.bc_scheme.specs.py_effects.Modules.{Made, make_module}
-use Rattle.bc_scheme.specs.py_effects.Ends.{End, Open, Ended, Raised, Memory, Run, is_over, new_world}
-use Rattle.bc_scheme.specs.py_meaning.Program.{Program, first_file, registered_main}
-use Rattle.bc_scheme.specs.py_meaning.Outcomes.{e_then, e_given, e_turns}
-use Rattle.bc_scheme.specs.py_meaning.Imports.{part_place}
-use Rattle.bc_scheme.specs.py_meaning.Meaning as meanings
-use Rattle.bc_scheme.specs.py_meaning.Meaning.{main_run, meaning}
-use Rattle.vm_frames.specs.bc_machine.Library.{Name, Code, Library, code_at}
-use Rattle.vm_frames.specs.bc_machine.Machine as machines
-use Rattle.vm_frames.specs.bc_machine.Machine.{begun, opened, run}
-use Rattle.bc_scheme.specs.Correct.{IsOpen, IsBehind}
+use Rattle.library_runs.specs.mpy_base.World.{PortState}
+use Rattle.library_runs.specs.mpy_base.Val.{PlainWorld}
+use Rattle.trans_laws.specs.bc_scheme.py_effects.Effect.{Place, Given, Gives, Throws, Fills, given}
+use Rattle.trans_laws.specs.bc_scheme.py_effects.Growth.{Prints}
+use Rattle.trans_laws.specs.bc_scheme.py_effects.Modules.{Made, make_module}
+use Rattle.trans_laws.specs.bc_scheme.py_effects.Ends.{End, Open, Ended, Raised, Memory, Run, is_over, new_world}
+use Rattle.trans_laws.specs.bc_scheme.py_meaning.Program.{Program, first_file, registered_main}
+use Rattle.trans_laws.specs.bc_scheme.py_meaning.Outcomes.{e_then, e_given, e_turns}
+use Rattle.trans_laws.specs.bc_scheme.py_meaning.Imports.{part_place}
+use Rattle.trans_laws.specs.bc_scheme.py_meaning.Meaning as meanings
+use Rattle.trans_laws.specs.bc_scheme.py_meaning.Meaning.{main_run, meaning}
+use Rattle.library_runs.specs.vm_frames.bc_machine.Library.{Name, Code, Library, code_at}
+use Rattle.library_runs.specs.vm_frames.bc_machine.Machine as machines
+use Rattle.library_runs.specs.vm_frames.bc_machine.Machine.{begun, opened, run}
+use Rattle.trans_laws.specs.bc_scheme.Correct.{IsOpen, IsBehind}
 use Rattle.sim_stmt.proofs.Whole.{module_still}
 
 pub open_or_over : (e : End) → (e ≡ Open) ⊎ (is_over e ≡ true)

@@ -1,3 +1,4 @@
+pub use Rattle.trans_laws.proofs as trans_laws_lemmas
 mod Early
 mod Links
 mod Means

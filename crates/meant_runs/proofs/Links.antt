@@ -1,15 +1,15 @@
 -- The machine's library of a program's files has the program's modules.
 use Rattle.std.proofs.Common.{◌≡◌, Option, Some, None, sym, ap, ◌∙◌}
-use Rattle.bc_scheme.specs.mpy_tree.Raw as raw
-use Rattle.bc_scheme.specs.mpy_tree.Resolved.{ResolvedModule, Resolves}
-use Rattle.bc_library.specs.Shelf.{Shelf}
-use Rattle.vm_frames.specs.bc_machine.Library as libraries
-use Rattle.vm_frames.specs.bc_machine.Library.{Library, module_of}
-use Rattle.bc_scheme.specs.py_meaning.Tree.{Name}
-use Rattle.bc_scheme.specs.py_meaning.Program.{Unit, Entry, Runs, Refused, Program, entry_in}
-use Rattle.bc_scheme.specs.Link.{IsModuleOf, IsEntryOf, Links}
+use Rattle.trans_laws.specs.bc_scheme.mpy_tree.Raw as raw
+use Rattle.trans_laws.specs.bc_scheme.mpy_tree.Resolved.{ResolvedModule, Resolves}
+use Rattle.library_runs.specs.bc_library.Shelf.{Shelf}
+use Rattle.library_runs.specs.vm_frames.bc_machine.Library as libraries
+use Rattle.library_runs.specs.vm_frames.bc_machine.Library.{Library, module_of}
+use Rattle.trans_laws.specs.bc_scheme.py_meaning.Tree.{Name}
+use Rattle.trans_laws.specs.bc_scheme.py_meaning.Program.{Unit, Entry, Runs, Refused, Program, entry_in}
+use Rattle.trans_laws.specs.bc_scheme.Link.{IsModuleOf, IsEntryOf, Links}
 use Rattle.trans_laws.proofs.Alike.{same_module, fits_module}
-use Rattle.vm_starting.specs.Programs.{FindsAll}
+use Rattle.library_runs.specs.vm_starting.Programs.{FindsAll}
 use Rattle.meant_runs.specs.Units.{HasUnit, HasEntry, AreUnits}
 
 module _ (one : (m : raw.Module) (a b : ResolvedModule) → Resolves m a → Resolves m b → a ≡ b) (shelf : Shelf) (library : Library) (finds : FindsAll shelf library) where

@@ -2,14 +2,14 @@
 use Rattle.std.proofs.Common.{◌≡◌, ℕ, suc, ◌+◌, ◌-◌, ◌*◌, ◌/◌, ◌<◌, ◌≤◌, List, ◌++◌, true, sym, ap, ◌∙◌, subst, inl, inr, append_assoc, arith}
 use Rattle.std.proofs.lemmas.Bool.{cases_lt}
 use Rattle.std.proofs.Math.Nat.{mul-div-le, div-le_self}
-use Rattle.mpy_base.specs.World.{PortState}
-use Rattle.bc_scheme.specs.py_effects.Ends.{Run, is_over}
-use Rattle.bc_scheme.specs.py_effects.Growth.{Prints}
-use Rattle.bc_scheme.specs.py_meaning.Program.{Program}
-use Rattle.bc_scheme.specs.py_meaning.Meaning.{meaning}
-use Rattle.vm_frames.specs.bc_machine.Library.{Library}
-use Rattle.vm_frames.specs.bc_machine.Machine.{run}
-use Rattle.bc_scheme.specs.Correct.{HasEnded, IsOpen, IsBehind, Behaves}
+use Rattle.library_runs.specs.mpy_base.World.{PortState}
+use Rattle.trans_laws.specs.bc_scheme.py_effects.Ends.{Run, is_over}
+use Rattle.trans_laws.specs.bc_scheme.py_effects.Growth.{Prints}
+use Rattle.trans_laws.specs.bc_scheme.py_meaning.Program.{Program}
+use Rattle.trans_laws.specs.bc_scheme.py_meaning.Meaning.{meaning}
+use Rattle.library_runs.specs.vm_frames.bc_machine.Library.{Library}
+use Rattle.library_runs.specs.vm_frames.bc_machine.Machine.{run}
+use Rattle.trans_laws.specs.bc_scheme.Correct.{HasEnded, IsOpen, IsBehind, Behaves}
 use Rattle.meant_runs.specs.Runs.{turns_within, EndsAs, IsStopped, MeansRun}
 use Rattle.meant_runs.proofs.Early.{open_or_over}
 

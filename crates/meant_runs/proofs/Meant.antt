@@ -1,16 +1,16 @@
 -- What a run that was made says of its program.
 use Rattle.std.proofs.Common.{◌≡◌, ◌⊎◌, inl, inr, ℕ, List, ◌++◌, Option, Some, refl, sym, ap, subst, ◌∙◌, append_assoc, arith}
-use Rattle.mpy_base.specs.declared.room.Room.{Room}
-use Rattle.mpy_base.specs.World.{PortState}
-use Rattle.mpy_io.specs.Told.{AppendsFront}
-use Rattle.port_set.specs.Calls.{Tell}
-use Rattle.bc_library.specs.Shelf.{Shelf}
-use Rattle.bc_scheme.specs.py_effects.Ends.{End, Open, Ended, Raised, Memory, Run}
-use Rattle.bc_scheme.specs.py_meaning.Program.{Program}
-use Rattle.bc_scheme.specs.py_meaning.Meaning.{meaning}
-use Rattle.vm_frames.specs.bc_machine.Machine.{run}
-use Rattle.vm_starting.specs.vm_states.Means as machine
-use Rattle.vm_starting.specs.Programs.{IsProgramOf}
+use Rattle.library_runs.specs.mpy_base.declared.room.Room.{Room}
+use Rattle.library_runs.specs.mpy_base.World.{PortState}
+use Rattle.library_runs.specs.mpy_io.Told.{AppendsFront}
+use Rattle.library_runs.specs.port_set.Calls.{Tell}
+use Rattle.library_runs.specs.bc_library.Shelf.{Shelf}
+use Rattle.trans_laws.specs.bc_scheme.py_effects.Ends.{End, Open, Ended, Raised, Memory, Run}
+use Rattle.trans_laws.specs.bc_scheme.py_meaning.Program.{Program}
+use Rattle.trans_laws.specs.bc_scheme.py_meaning.Meaning.{meaning}
+use Rattle.library_runs.specs.vm_frames.bc_machine.Machine.{run}
+use Rattle.library_runs.specs.vm_starting.vm_states.Means as machine
+use Rattle.library_runs.specs.vm_starting.Programs.{IsProgramOf}
 use Rattle.meant_runs.specs.Runs.{MeansRun}
 use Rattle.library_runs.specs.declared.ending.RunEnd.{RunEnd}
 use Rattle.library_runs.specs.declared.ending.RunEnd.TheVariants as ends

@@ -1,13 +1,13 @@
 -- What the run of a library of files says of the program whose units the library has.
 use Rattle.std.specs.Prelude.{◌≡◌, ℕ, ◌≤◌, List}
 use Rattle.std.specs.Io.KnownBytes.{Appends}
-use Rattle.mpy_base.specs.declared.room.Room.{Room}
-use Rattle.mpy_base.specs.World.{PortState}
-use Rattle.mpy_io.specs.Told.{AppendsFront}
-use Rattle.port_set.specs.Calls.{Tell}
-use Rattle.bc_scheme.specs.py_effects.Ends.{Run}
-use Rattle.bc_scheme.specs.py_meaning.Program.{Program}
-use Rattle.bc_scheme.specs.py_meaning.Meaning.{meaning}
+use Rattle.library_runs.specs.mpy_base.declared.room.Room.{Room}
+use Rattle.library_runs.specs.mpy_base.World.{PortState}
+use Rattle.library_runs.specs.mpy_io.Told.{AppendsFront}
+use Rattle.library_runs.specs.port_set.Calls.{Tell}
+use Rattle.trans_laws.specs.bc_scheme.py_effects.Ends.{Run}
+use Rattle.trans_laws.specs.bc_scheme.py_meaning.Program.{Program}
+use Rattle.trans_laws.specs.bc_scheme.py_meaning.Meaning.{meaning}
 use Rattle.meant_runs.specs.Runs.{MeansRun}
 use Rattle.library_runs.specs.declared.ending.RunEnd.{RunEnd}
 use Rattle.library_runs.specs.declared.ending.RunEnd.TheVariants as ends

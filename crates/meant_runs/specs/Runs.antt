@@ -1,10 +1,10 @@
 -- What a run of a library says of its program's meaning.
 use Rattle.std.specs.Prelude.{◌≡◌, ℕ, ◌+◌, ◌-◌, ◌*◌, ◌/◌, ◌<◌, ◌≤◌, List}
-use Rattle.mpy_base.specs.World.{PortState}
-use Rattle.bc_scheme.specs.py_effects.Ends.{Run}
-use Rattle.bc_scheme.specs.py_meaning.Program.{Program}
-use Rattle.bc_scheme.specs.py_meaning.Meaning.{meaning}
-use Rattle.bc_scheme.specs.Correct.{HasEnded, IsOpen, IsBehind}
+use Rattle.library_runs.specs.mpy_base.World.{PortState}
+use Rattle.trans_laws.specs.bc_scheme.py_effects.Ends.{Run}
+use Rattle.trans_laws.specs.bc_scheme.py_meaning.Program.{Program}
+use Rattle.trans_laws.specs.bc_scheme.py_meaning.Meaning.{meaning}
+use Rattle.trans_laws.specs.bc_scheme.Correct.{HasEnded, IsOpen, IsBehind}
 
 -- the turns that n steps suffice for: (n - 16) / 16, rounded down, and 0 below 32
 abbrev pub turns_within : ℕ → ℕ

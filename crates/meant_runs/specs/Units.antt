@@ -1,12 +1,12 @@
 -- Files of a program's units, and libraries that hold them.
 use Rattle.std.specs.Prelude.{◌≡◌, ℕ, List, [], ◌∷◌, Option, Some, None, codes}
-use Rattle.bc_scheme.specs.mpy_tree.Raw.{Module}
-use Rattle.bc_scheme.specs.mpy_tree.Resolved.{ResolvedModule, Resolves}
-use Rattle.bc_library.specs.declared.fault.Member.TheVariants as members
-use Rattle.bc_library.specs.Shelf.{Shelf, member_of, module_at}
-use Rattle.bc_scheme.specs.py_meaning.Tree.{Name}
-use Rattle.bc_scheme.specs.py_meaning.Program.{Unit, Units, Part, Parts, Entry, Runs, Refused, Program, entry_in}
-use Rattle.bc_scheme.specs.Link.{IsModuleOf}
+use Rattle.trans_laws.specs.bc_scheme.mpy_tree.Raw.{Module}
+use Rattle.trans_laws.specs.bc_scheme.mpy_tree.Resolved.{ResolvedModule, Resolves}
+use Rattle.library_runs.specs.bc_library.declared.fault.Member.TheVariants as members
+use Rattle.library_runs.specs.bc_library.Shelf.{Shelf, member_of, module_at}
+use Rattle.trans_laws.specs.bc_scheme.py_meaning.Tree.{Name}
+use Rattle.trans_laws.specs.bc_scheme.py_meaning.Program.{Unit, Units, Part, Parts, Entry, Runs, Refused, Program, entry_in}
+use Rattle.trans_laws.specs.bc_scheme.Link.{IsModuleOf}
 use Rattle.trans_laws.specs.trans_parts.Comparing.{FitsTree}
 
 -- the file's module resolves to a tree that fits the unit's: the translation of its source, or the merge of its parts' trees. So it is

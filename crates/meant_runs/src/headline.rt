@@ -1,12 +1,12 @@
 //! The run of a library of files prints and ends as its program means.
 
 ghost use Rattle.std.specs.Prelude.{◌≡◌, ℕ, List, Some};
-ghost use Rattle.mpy_base.specs.declared.room.Room.{Room};
-ghost use Rattle.mpy_base.specs.World.{PortState};
-ghost use Rattle.port_set.specs.Calls.{Tell};
-ghost use Rattle.port_set.specs.Counts.{AreAccounted};
-ghost use Rattle.bc_library.specs.Shelf.{Shelf};
-ghost use Rattle.bc_scheme.specs.py_meaning.Program.{Program};
+ghost use Rattle.library_runs.specs.mpy_base.declared.room.Room.{Room};
+ghost use Rattle.library_runs.specs.mpy_base.World.{PortState};
+ghost use Rattle.library_runs.specs.port_set.Calls.{Tell};
+ghost use Rattle.library_runs.specs.port_set.Counts.{AreAccounted};
+ghost use Rattle.library_runs.specs.bc_library.Shelf.{Shelf};
+ghost use Rattle.trans_laws.specs.bc_scheme.py_meaning.Program.{Program};
 ghost use Rattle.meant_runs.specs.Units.{AreUnits};
 ghost use Rattle.library_runs.specs.declared.ending.RunEnd.{RunEnd};
 ghost use Rattle.library_runs.specs.Runs.{Sight, RunsAs};

@@ -6,3 +6,4 @@ mod runs;
 
 pub use headline::meant_law;
 pub use runs::{links_law, runs_law};
+pub use trans_laws::fitting_law;

@@ -1,24 +1,24 @@
 //! What the run of a library means, whose files are those of a program's units.
 
 ghost use Rattle.std.specs.Prelude.{◌≡◌, ℕ, List};
-ghost use Rattle.mpy_base.specs.World.{PortState};
-ghost use Rattle.bc_library.specs.Shelf.{Shelf};
-ghost use Rattle.vm_frames.specs.bc_machine.Library.{Name, Library};
-ghost use Rattle.vm_frames.specs.bc_machine.Machine.{run};
-ghost use Rattle.bc_scheme.specs.py_meaning.Program.{Program};
-ghost use Rattle.bc_scheme.specs.py_meaning.Meaning.{meaning};
-ghost use Rattle.bc_scheme.specs.Link.{Links};
-ghost use Rattle.bc_scheme.specs.Correct.{IsOpen, IsBehind, Behaves};
-ghost use Rattle.vm_starting.specs.vm_states.Means as machine;
-ghost use Rattle.vm_starting.specs.Programs.{IsProgramOf};
+ghost use Rattle.library_runs.specs.mpy_base.World.{PortState};
+ghost use Rattle.library_runs.specs.bc_library.Shelf.{Shelf};
+ghost use Rattle.library_runs.specs.vm_frames.bc_machine.Library.{Name, Library};
+ghost use Rattle.library_runs.specs.vm_frames.bc_machine.Machine.{run};
+ghost use Rattle.trans_laws.specs.bc_scheme.py_meaning.Program.{Program};
+ghost use Rattle.trans_laws.specs.bc_scheme.py_meaning.Meaning.{meaning};
+ghost use Rattle.trans_laws.specs.bc_scheme.Link.{Links};
+ghost use Rattle.trans_laws.specs.bc_scheme.Correct.{IsOpen, IsBehind, Behaves};
+ghost use Rattle.library_runs.specs.vm_starting.vm_states.Means as machine;
+ghost use Rattle.library_runs.specs.vm_starting.Programs.{IsProgramOf};
 ghost use Rattle.meant_runs.specs.Units.{AreUnits};
 ghost use Rattle.meant_runs.specs.Runs.{MeansRun};
 
 use bc_machine::{ended_law as machine_ended_law, prefix_law as machine_prefix_law};
 use bc_resolved::resolves_law;
+use library_runs::program_law;
 use py_meaning::{ended_law, prefix_law};
 use sim_stmt::behaves_law;
-use vm_starting::program_law;
 
 /// The machine's library of a library of a program's files has the program's modules.
 pub fn links_law()

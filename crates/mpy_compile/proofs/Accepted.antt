@@ -1,6 +1,6 @@
 -- What is known of texts that pass no limit.
 use Rattle.std.proofs.Common.{◌≡◌, ◌≤◌, false, List, ◌∷◌, None, sym, ◌∙◌, arith}
-use Rattle.py_meaning.specs.Program.{Text}
+use Rattle.emit_module.specs.py_meaning.Program.{Text}
 use Rattle.emit_module.specs.emit_measures.declared.faults.Measures.{Measures}
 use Rattle.emit_module.specs.emit_measures.Faults.{fault_of, IsMeasured}
 use Rattle.emit_module.specs.emit_measures.Faults as limits

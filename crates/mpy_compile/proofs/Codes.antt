@@ -4,17 +4,17 @@ use Rattle.std.specs.Prelude.{nat_eq, if◌then◌else◌}
 use Rattle.std.specs.List.{list_all, AllByRecursion}
 use Rattle.std.proofs.lemmas.List.{length-map}
 use Rattle.std.proofs.lemmas.List.Elements.{All-from_recursion}
-use Rattle.bc_machine.specs.bc_ops.Table.{form_of, name_form, number_form, jump_form, plain_form, short_form}
+use Rattle.emit_module.specs.bc_machine.bc_ops.Table.{form_of, name_form, number_form, jump_form, plain_form, short_form}
 use Rattle.mpy_writer.specs.mpy_tree.declared.module.Code.{Code as Made, out-Code}
 use Rattle.mpy_writer.specs.mpy_tree.Resolved.{ResolvedLine, Body, resolved_item, IsBodyOf}
 use Rattle.mpy_writer.specs.Writable.{IsText, IsSoundItem, NeverFall, IsSoundCode}
-use Rattle.py_meaning.specs.Tree.{Name}
-use Rattle.py_meaning.specs.Program.{Text}
-use Rattle.bc_machine.specs.Library.{Code, Line, code_of, item_of, line_of}
+use Rattle.emit_module.specs.py_meaning.Tree.{Name}
+use Rattle.emit_module.specs.py_meaning.Program.{Text}
+use Rattle.emit_module.specs.bc_machine.Library.{Code, Line, code_of, item_of, line_of}
 use Rattle.emit_module.specs.bc_scheme.Context.{Context}
 use Rattle.emit_module.specs.bc_scheme.Translation.{own, StandsCode, HasState}
-use Rattle.bc_resolved.specs.Operands.{IsInside}
-use Rattle.bc_resolved.specs.Verified.{IsVerifiedBody}
+use Rattle.emit_module.specs.bc_resolved.Operands.{IsInside}
+use Rattle.emit_module.specs.bc_resolved.Verified.{IsVerifiedBody}
 use Rattle.emit_module.specs.tr_source.Within as limits
 use Rattle.emit_module.specs.emit_measures.Lengths.{text_length}
 use Rattle.emit_module.specs.emit_measures.Wide.{wide_length}

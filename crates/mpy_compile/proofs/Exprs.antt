@@ -1,14 +1,14 @@
 -- The code of expressions may be written.
 use Rattle.std.proofs.Common.{◌≡◌, ℕ, suc, ◌≤◌, Some, refl, arith, slice_get}
 use Rattle.std.specs.Prelude.{max}
-use Rattle.bc_machine.specs.bc_ops.declared.instr.Op.{Op}
-use Rattle.bc_machine.specs.bc_ops.declared.instr.Op.TheVariants as ops
-use Rattle.py_tree.specs.declared.expr.CompareOp.{CompareOp}
-use Rattle.py_meaning.specs.Tree.{Expr, Exprs, Links, Pairs, Keys, count, pair_count, key_count}
-use Rattle.py_meaning.specs.Tree as tree
-use Rattle.bc_machine.specs.Library.{Item, Line}
-use Rattle.bc_labels.specs.Labels.{HasOffset}
-use Rattle.bc_machine.specs.bc_ops.Table.{code_of, form_of, name_form, number_form, jump_form, plain_form, short_form}
+use Rattle.emit_module.specs.bc_machine.bc_ops.declared.instr.Op.{Op}
+use Rattle.emit_module.specs.bc_machine.bc_ops.declared.instr.Op.TheVariants as ops
+use Rattle.emit_module.specs.py_tree.declared.expr.CompareOp.{CompareOp}
+use Rattle.emit_module.specs.py_meaning.Tree.{Expr, Exprs, Links, Pairs, Keys, count, pair_count, key_count}
+use Rattle.emit_module.specs.py_meaning.Tree as tree
+use Rattle.emit_module.specs.bc_machine.Library.{Item, Line}
+use Rattle.emit_module.specs.bc_labels.Labels.{HasOffset}
+use Rattle.emit_module.specs.bc_machine.bc_ops.Table.{code_of, form_of, name_form, number_form, jump_form, plain_form, short_form}
 use Rattle.emit_module.specs.bc_scheme.Context.{Context, Has, constant}
 use Rattle.emit_module.specs.bc_scheme.Expressions.{StandsC, straight, negated, StandsE, literal, name, one, «not», two, «and», «or», compare, chain, cond, tuple, items, dict, attr, index, call, method, StandsEs, no_expr, next, StandsO, no_operand, operand, StandsL, last, link, StandsD, no_pair, pair, StandsK, no_key, key}
 use Rattle.emit_module.specs.tr_source.Greatest.{greatest, greatest_of, greatest_links, greatest_pairs, greatest_keys}

@@ -1,10 +1,10 @@
 -- What is known of the texts of a source is known of the codes of its translation.
 use Rattle.std.proofs.Common.{◌≡◌, ℕ, suc, ◌+◌, Bool, true, false, List, [], ◌∷◌, ◌++◌, length, refl, sym, ap, subst, append_assoc}
 use Rattle.mpy_writer.specs.mpy_tree.Resolved.{Body, Tree, node, Trees, no_more, more}
-use Rattle.py_meaning.specs.Program.{Text}
-use Rattle.bc_machine.specs.Library.{Code, code_of, size_of, numbers_from, codes_from, codes_of}
+use Rattle.emit_module.specs.py_meaning.Program.{Text}
+use Rattle.emit_module.specs.bc_machine.Library.{Code, code_of, size_of, numbers_from, codes_from, codes_of}
 use Rattle.emit_module.specs.bc_scheme.Translation.{StandAll, StandsCode, HasState, HaveStates, bodies, bodies_of}
-use Rattle.bc_resolved.specs.Verified.{count_of}
+use Rattle.emit_module.specs.bc_resolved.Verified.{count_of}
 use Rattle.mpy_compile.proofs.Codes.{Known, BodyFact}
 
 abbrev pub AllKnown : List Text → Type 0

@@ -12,9 +12,9 @@ use Rattle.mpy_writer.specs.mpy_tree.declared.module.Item.TheVariants as items
 use Rattle.mpy_writer.specs.mpy_tree.Resolved.{Resolved, ResolvedLine, resolved_item}
 use Rattle.mpy_writer.specs.mpy_tree.Values.{value_of, constant_step, tuple_value}
 use Rattle.mpy_writer.specs.Writable.{IsText, IsFine, IsFineBy, IsSoundItem, NeverFall}
-use Rattle.bc_machine.specs.Library.{Line, item_of, line_of}
+use Rattle.emit_module.specs.bc_machine.Library.{Line, item_of, line_of}
 use Rattle.emit_module.specs.bc_scheme.Context.{line_in, line_before}
-use Rattle.bc_resolved.specs.Operands.{IsInside}
+use Rattle.emit_module.specs.bc_resolved.Operands.{IsInside}
 use Rattle.emit_module.specs.tr_source.Spelled.{IsAscii}
 use Rattle.mpy_compile.specs.Texts.{text_fits, object_fits, item_fits}
 use Rattle.mpy_compile.proofs.Wells.{IsStr, IsWell}

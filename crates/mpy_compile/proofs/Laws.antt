@@ -4,12 +4,12 @@ use Rattle.mpy_base.specs.declared.source.SourceFault.{SourceFault}
 use Rattle.mpy_writer.specs.mpy_tree.declared.module.ModuleCode.{ModuleCode}
 use Rattle.mpy_writer.specs.File.{IsWritten}
 use Rattle.mpy_compile.specs.Texts.{module_fits}
-use Rattle.py_tree.specs.declared.stmt.Module.{Module}
-use Rattle.py_tree.specs.Formed.{IsFormed}
-use Rattle.py_scopes.specs.Scopes.{IsFaultless}
+use Rattle.emit_module.specs.py_tree.declared.stmt.Module.{Module}
+use Rattle.emit_module.specs.py_tree.Formed.{IsFormed}
+use Rattle.emit_measures.specs.py_scopes.Scopes.{IsFaultless}
 use Rattle.emit_module.specs.py_source.declared.source.Accepted.{Accepted}
 use Rattle.emit_module.specs.py_source.Source as sources
-use Rattle.py_meaning.specs.Program.{Source}
+use Rattle.emit_module.specs.py_meaning.Program.{Source}
 use Rattle.emit_module.specs.tr_source.Accepted.{IsAccepted}
 use Rattle.emit_module.specs.First.{AreWithin, IsFirstFault}
 use Rattle.emit_module.specs.Module.{source_of, IsTranslated}

@@ -1,7 +1,7 @@
 -- A text's code is as long as it defines functions, and as it has instructions.
 use Rattle.std.proofs.Common.{ℕ, ◌≤◌, Bool, true, false, List, [], ◌∷◌, ◌++◌, length, arith, length-append}
-use Rattle.bc_machine.specs.Library.{Line}
-use Rattle.py_meaning.specs.Tree.{Name, Exprs, NoExpr, More, Stmt, Do, Assign, AugName, AugAttr, AugIndex, Delete, Pass, Break, Continue, ReturnNone, Return, Reraise, Raise, Assert, AssertWith, Import, From, If, While, For, Try, Finally, TryFinally, Def, Block, End, Next, Branches, Else, Case, Handlers, NoHandler, Any, On, OnAs}
+use Rattle.emit_module.specs.bc_machine.Library.{Line}
+use Rattle.emit_module.specs.py_meaning.Tree.{Name, Exprs, NoExpr, More, Stmt, Do, Assign, AugName, AugAttr, AugIndex, Delete, Pass, Break, Continue, ReturnNone, Return, Reraise, Raise, Assert, AssertWith, Import, From, If, While, For, Try, Finally, TryFinally, Def, Block, End, Next, Branches, Else, Case, Handlers, NoHandler, Any, On, OnAs}
 use Rattle.emit_module.specs.bc_scheme.Translation.{own, own_in, own_of, own_by}
 use Rattle.emit_module.specs.emit_measures.Wide.{wide_length}
 use Rattle.emit_module.specs.emit_measures.Lengths.{defaults_length, stmt_length, block_length, branches_length, handlers_length}

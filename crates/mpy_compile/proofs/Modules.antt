@@ -1,9 +1,9 @@
 -- A source has one module at most.
 use Rattle.std.proofs.Common.{◌≡◌, ℕ, List, [], ◌∷◌, map, refl, sym, ap, ap₂, subst, ◌∙◌}
 use Rattle.mpy_base.specs.Val.{Val}
-use Rattle.bc_machine.specs.bc_ops.declared.instr.Op.{Op}
-use Rattle.bc_machine.specs.bc_ops.declared.instr.Instr.{Instr}
-use Rattle.bc_machine.specs.bc_ops.declared.listing.Target.TheVariants.{Position}
+use Rattle.emit_module.specs.bc_machine.bc_ops.declared.instr.Op.{Op}
+use Rattle.emit_module.specs.bc_machine.bc_ops.declared.instr.Instr.{Instr}
+use Rattle.emit_module.specs.bc_machine.bc_ops.declared.listing.Target.TheVariants.{Position}
 use Rattle.mpy_writer.specs.mpy_tree.declared.module.Item.{Item}
 use Rattle.mpy_writer.specs.mpy_tree.declared.module.Item.TheVariants as items
 use Rattle.mpy_writer.specs.mpy_tree.declared.module.Code.{Code, out-Code, roll-Code, roll-out-Code}
@@ -12,7 +12,7 @@ use Rattle.mpy_writer.specs.mpy_tree.declared.module.ModuleCode.{ModuleCode}
 use Rattle.mpy_writer.specs.mpy_tree.Resolved.{Resolved, plain, named, object, jump, unwind, Body, Tree, node, Trees, no_more, more, ResolvedModule, resolved_item, IsBodyOf, IsTreeOf, AreTreesOf}
 use Rattle.mpy_writer.specs.mpy_tree.Values.{value_of}
 use Rattle.mpy_writer.proofs.mpy_tree_lemmas.Values.{one_object}
-use Rattle.py_meaning.specs.Program.{Source}
+use Rattle.emit_module.specs.py_meaning.Program.{Source}
 use Rattle.emit_module.specs.Module.{IsTranslated}
 
 -- ---- instructions

@@ -3,9 +3,9 @@ use Rattle.std.proofs.Common.{ℕ, ◌<◌, Bool, true, false, cond, List, [], �
 use Rattle.std.specs.Prelude.{nat_eq}
 use Rattle.std.specs.List.{onto_first}
 use Rattle.std.proofs.lemmas.List.Elements.{All-nil, All-cons, All-head, All-tail}
-use Rattle.bc_machine.specs.py_effects.Modules.{parts_of, first_of}
-use Rattle.py_meaning.specs.Tree.{Name}
-use Rattle.py_meaning.specs.Statements.{bound_name, from_name, read_parts}
+use Rattle.emit_module.specs.bc_machine.py_effects.Modules.{parts_of, first_of}
+use Rattle.emit_module.specs.py_meaning.Tree.{Name}
+use Rattle.emit_module.specs.py_meaning.Statements.{bound_name, from_name, read_parts}
 use Rattle.emit_module.specs.tr_source.Spelled.{IsAscii, IsAsciiOption, AllAscii}
 
 abbrev Below : ℕ → Type 0

@@ -2,7 +2,7 @@
 use Rattle.std.proofs.Common.{◌≡◌, inl, inr, ℕ, suc, ◌<◌, ◌≤◌, Bool, true, false, Some, sym, ap, subst, ◌∙◌, arith, slice_get, if◌then◌else◌}
 use Rattle.std.specs.Prelude.{nat_eq}
 use Rattle.std.proofs.lemmas.Bool.{cases_lt}
-use Rattle.bc_machine.specs.Library.{Item, Line}
+use Rattle.emit_module.specs.bc_machine.Library.{Item, Line}
 use Rattle.emit_module.specs.bc_scheme.Context.{Context, Has, Behind, line_in, line_before}
 use Rattle.mpy_compile.proofs.Wells.{IsWell, Kept}
 

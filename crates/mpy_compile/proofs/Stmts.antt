@@ -1,9 +1,9 @@
 -- The code of statements may be written.
 use Rattle.std.proofs.Common.{◌≡◌, ℕ, zero, suc, ◌+◌, ◌≤◌, Bool, false, length, Some, refl, arith, slice_get}
-use Rattle.bc_machine.specs.bc_ops.Table.{form_of, name_form, number_form, jump_form, plain_form, short_form}
-use Rattle.py_meaning.specs.Tree.{Name, Expr, Exprs, Target, Stmt, Block, Branches, Handlers, count}
-use Rattle.py_meaning.specs.Tree as tree
-use Rattle.bc_machine.specs.Library.{Item, Line}
+use Rattle.emit_module.specs.bc_machine.bc_ops.Table.{form_of, name_form, number_form, jump_form, plain_form, short_form}
+use Rattle.emit_module.specs.py_meaning.Tree.{Name, Expr, Exprs, Target, Stmt, Block, Branches, Handlers, count}
+use Rattle.emit_module.specs.py_meaning.Tree as tree
+use Rattle.emit_module.specs.bc_machine.Library.{Item, Line}
 use Rattle.emit_module.specs.bc_scheme.Context.{Context, Has, Behind}
 use Rattle.emit_module.specs.bc_scheme.Heights.{at_level}
 use Rattle.emit_module.specs.bc_scheme.Statements.{StandsJ, jumped, popped, unwound, Around, deeper, StandsDef, bare, with_defaults, StandsS, «do», assign, aug_name, aug_attr, aug_index, delete, pass, «break», «continue», return_none, «return», reraise, raise, no_assert, no_assert_with, assert, assert_with, «import», from, «if», «while», «for», «try», finally, try_finally, def, StandsB, no_stmt, stmt, StandsI, «else», last_branch, branch, StandsX, «except», StandsH, no_clause, any, on, on_as}

@@ -1,11 +1,11 @@
 -- The code of stores, deletions and imports may be written.
 use Rattle.std.proofs.Common.{◌≡◌, ℕ, suc, ◌≤◌, List, Some, refl, arith, slice_get}
-use Rattle.bc_machine.specs.bc_ops.Table.{form_of, name_form, number_form, jump_form, plain_form, short_form}
-use Rattle.py_tree.specs.declared.stmt.Alias.{Alias}
-use Rattle.bc_machine.specs.py_effects.Modules.{parts_of}
-use Rattle.py_meaning.specs.Tree.{Name, Target, Targets, target_count}
-use Rattle.py_meaning.specs.Statements.{bound_name, from_name, read_parts}
-use Rattle.bc_machine.specs.Library.{Line}
+use Rattle.emit_module.specs.bc_machine.bc_ops.Table.{form_of, name_form, number_form, jump_form, plain_form, short_form}
+use Rattle.emit_module.specs.py_tree.declared.stmt.Alias.{Alias}
+use Rattle.emit_module.specs.bc_machine.py_effects.Modules.{parts_of}
+use Rattle.emit_module.specs.py_meaning.Tree.{Name, Target, Targets, target_count}
+use Rattle.emit_module.specs.py_meaning.Statements.{bound_name, from_name, read_parts}
+use Rattle.emit_module.specs.bc_machine.Library.{Line}
 use Rattle.emit_module.specs.bc_scheme.Context.{Context}
 use Rattle.emit_module.specs.bc_scheme.Statements.{StandsT, to_name, to_attr, to_index, to_each, StandsTs, one_store, next_store, StandsA, one_assign, next_assign, StandsG, gone_name, gone_index, StandsGs, one_gone, next_gone, StandsR, no_part, part, StandsM, no_import, imported, StandsN, no_text, text, StandsF, no_name, taken}
 use Rattle.emit_module.specs.tr_source.Greatest.{greatest_store, greatest_stores}

@@ -4,23 +4,23 @@ use Rattle.std.specs.Prelude.{nat_le, nat_lt, codes}
 use Rattle.std.proofs.lemmas.Bool.{ltb-true}
 use Rattle.std.proofs.lemmas.List.Elements.{All-from_recursion}
 use Rattle.mpy_base.specs.Val.{Val, Nil, Truth, Int, Str, Fixed, Empty, Built, At}
-use Rattle.bc_machine.specs.bc_ops.declared.form.Form.TheVariants as forms
-use Rattle.bc_machine.specs.bc_ops.declared.instr.Op.TheVariants as ops
-use Rattle.bc_machine.specs.bc_ops.declared.instr.Instr.TheVariants as instrs
-use Rattle.bc_machine.specs.bc_ops.Table.{code_of, form_of, name_form, number_form, jump_form, plain_form, short_form}
-use Rattle.bc_machine.specs.bc_ops.Code.{IsEncodable}
-use Rattle.bc_flow.specs.Code.{named}
-use Rattle.bc_labels.specs.Labels.{HasOffset}
-use Rattle.bc_machine.specs.Library.{Name, Item, Plain, Names, Loads, Jumps, Unwinds}
+use Rattle.emit_module.specs.bc_machine.bc_ops.declared.form.Form.TheVariants as forms
+use Rattle.emit_module.specs.bc_machine.bc_ops.declared.instr.Op.TheVariants as ops
+use Rattle.emit_module.specs.bc_machine.bc_ops.declared.instr.Instr.TheVariants as instrs
+use Rattle.emit_module.specs.bc_machine.bc_ops.Table.{code_of, form_of, name_form, number_form, jump_form, plain_form, short_form}
+use Rattle.emit_module.specs.bc_machine.bc_ops.Code.{IsEncodable}
+use Rattle.emit_module.specs.bc_flow.Code.{named}
+use Rattle.emit_module.specs.bc_labels.Labels.{HasOffset}
+use Rattle.emit_module.specs.bc_machine.Library.{Name, Item, Plain, Names, Loads, Jumps, Unwinds}
 use Rattle.emit_module.specs.bc_scheme.Context.{Context, number, load_by, store_by, delete_by, slot_of, loads, stores, deletes, constant, unary_number, comparing, in_place, binary}
-use Rattle.bc_resolved.specs.Operands.{Keeps}
+use Rattle.emit_module.specs.bc_resolved.Operands.{Keeps}
 use Rattle.mpy_writer.specs.Writable.{IsPlain}
-use Rattle.py_tree.specs.declared.expr.UnaryOp.{UnaryOp}
-use Rattle.py_tree.specs.declared.expr.UnaryOp.TheVariants as unaries
-use Rattle.py_tree.specs.declared.expr.BinaryOp.{BinaryOp}
-use Rattle.py_tree.specs.declared.expr.BinaryOp.TheVariants as binaries
-use Rattle.py_tree.specs.declared.expr.CompareOp.{CompareOp}
-use Rattle.py_tree.specs.declared.expr.CompareOp.TheVariants as compares
+use Rattle.emit_module.specs.py_tree.declared.expr.UnaryOp.{UnaryOp}
+use Rattle.emit_module.specs.py_tree.declared.expr.UnaryOp.TheVariants as unaries
+use Rattle.emit_module.specs.py_tree.declared.expr.BinaryOp.{BinaryOp}
+use Rattle.emit_module.specs.py_tree.declared.expr.BinaryOp.TheVariants as binaries
+use Rattle.emit_module.specs.py_tree.declared.expr.CompareOp.{CompareOp}
+use Rattle.emit_module.specs.py_tree.declared.expr.CompareOp.TheVariants as compares
 use Rattle.emit_module.specs.tr_source.Spelled.{IsAscii, IsNumber, IsLiteral}
 
 -- an object that is a str of ASCII

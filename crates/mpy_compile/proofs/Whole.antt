@@ -11,10 +11,10 @@ use Rattle.mpy_writer.specs.mpy_tree.declared.module.ModuleCode.{ModuleCode}
 use Rattle.mpy_writer.specs.mpy_tree.Resolved.{Tree, node, Trees, no_more, more, IsTreeOf, AreTreesOf}
 use Rattle.mpy_writer.specs.Codes.{codes_in, codes}
 use Rattle.mpy_writer.specs.Writable.{IsSoundCode, IsShallow, IsWritable}
-use Rattle.py_meaning.specs.Tree.{Name, Function, functions}
-use Rattle.py_meaning.specs.Program.{Source, Text, module_name, function_texts, source_texts}
-use Rattle.bc_machine.specs.Library.{Code, size_of, numbers_from, codes_from}
-use Rattle.bc_resolved.specs.Verified.{AreVerifiedIn, AreVerifiedAll, count_of}
+use Rattle.emit_module.specs.py_meaning.Tree.{Name, Function, functions}
+use Rattle.emit_module.specs.py_meaning.Program.{Source, Text, module_name, function_texts, source_texts}
+use Rattle.emit_module.specs.bc_machine.Library.{Code, size_of, numbers_from, codes_from}
+use Rattle.emit_module.specs.bc_resolved.Verified.{AreVerifiedIn, AreVerifiedAll, count_of}
 use Rattle.emit_module.specs.tr_source.Within as limits
 use Rattle.emit_module.specs.emit_measures.Lengths.{text_length}
 use Rattle.emit_module.specs.emit_measures.Faults.{is_big_state}

@@ -2,17 +2,17 @@
 
 ghost use Rattle.std.specs.Prelude.{◌≡◌, ℕ, []};
 ghost use Rattle.mpy_writer.specs.mpy_tree.declared.module.ModuleCode.{ModuleCode};
-ghost use Rattle.py_tree.specs.declared.stmt.Module.{Module};
-ghost use Rattle.py_tree.specs.Formed.{IsFormed};
-ghost use Rattle.py_scopes.specs.Scopes.{IsFaultless};
-ghost use Rattle.py_meaning.specs.Tree.{Name};
+ghost use Rattle.emit_module.specs.py_tree.declared.stmt.Module.{Module};
+ghost use Rattle.emit_module.specs.py_tree.Formed.{IsFormed};
+ghost use Rattle.emit_measures.specs.py_scopes.Scopes.{IsFaultless};
+ghost use Rattle.emit_module.specs.py_meaning.Tree.{Name};
 ghost use Rattle.emit_module.specs.First.{AreWithin};
 ghost use Rattle.emit_module.specs.Module.{source_of, IsTranslated};
-ghost use Rattle.bc_resolved.specs.Verified.{IsVerifiedTree};
+ghost use Rattle.emit_module.specs.bc_resolved.Verified.{IsVerifiedTree};
 ghost use Rattle.emit_module.specs.tr_source.Accepted.{IsAccepted};
 
 use emit_measures::within_law as text_law;
-use tr_source::{accepted_law, limits_law};
+use emit_module::{accepted_law, limits_law};
 
 /// A formed and faultless tree of whose texts none passes a limit is one that translations ask for.
 pub fn within_law()

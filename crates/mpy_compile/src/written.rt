@@ -6,16 +6,16 @@ ghost use Rattle.mpy_writer.specs.mpy_tree.declared.module.ModuleCode.{ModuleCod
 ghost use Rattle.mpy_writer.specs.mpy_tree.File.{IsAscii};
 ghost use Rattle.mpy_writer.specs.Writable.{IsShallow, IsWritable};
 ghost use Rattle.mpy_compile.specs.Texts.{TextsFit};
-ghost use Rattle.py_tree.specs.declared.stmt.Module.{Module};
-ghost use Rattle.py_tree.specs.Formed.{IsFormed};
-ghost use Rattle.py_scopes.specs.Scopes.{IsFaultless};
-ghost use Rattle.py_meaning.specs.Tree.{Name};
+ghost use Rattle.emit_module.specs.py_tree.declared.stmt.Module.{Module};
+ghost use Rattle.emit_module.specs.py_tree.Formed.{IsFormed};
+ghost use Rattle.emit_measures.specs.py_scopes.Scopes.{IsFaultless};
+ghost use Rattle.emit_module.specs.py_meaning.Tree.{Name};
 ghost use Rattle.emit_module.specs.First.{AreWithin};
 ghost use Rattle.emit_module.specs.Module.{source_of, IsTranslated};
 
 use crate::within::{module_law, within_law};
 use emit_measures::lengths_law;
-use tr_source::{limits_law, spelled_law};
+use emit_module::{limits_law, spelled_law};
 
 /// The module of an accepted source of whose texts none passes a limit is one that may be written, where its stored name is ASCII,
 /// no text in it is longer than a file, and its codes nest no deeper than a file's.

@@ -6,8 +6,8 @@ use Rattle.mpy_base.specs.declared.source.SourceFault.{SourceFault}
 use Rattle.mpy_base.specs.Source.{number_of, name_of}
 use Rattle.mpy_io.specs.Count.{Rose}
 use Rattle.mpy_io.specs.Told.{AppendsFront}
-use Rattle.library_files.specs.mpy_reader.declared.fault.FileFault.{FileFault}
-use Rattle.library_files.specs.mpy_reader.Fault as file
+use Rattle.image_runs.specs.library_files.mpy_reader.declared.fault.FileFault.{FileFault}
+use Rattle.image_runs.specs.library_files.mpy_reader.Fault as file
 use Rattle.bc_verify.specs.declared.fault.VerifyFault.{VerifyFault}
 use Rattle.bc_verify.specs.Rule as rule
 use Rattle.mpy_merge.specs.declared.fault.MergeFault.{MergeFault}
@@ -15,8 +15,8 @@ use Rattle.mpy_merge.specs.Numbers as merge
 use Rattle.manifest_files.specs.declared.fault.ManifestFault.{ManifestFault}
 use Rattle.manifest_files.specs.declared.fault.ManifestFault.TheVariants as manifests
 use Rattle.manifest_files.specs.Faults as manifest
-use Rattle.image_grammar.specs.declared.fault.ImageFault.{ImageFault}
-use Rattle.image_grammar.specs.Fault as image
+use Rattle.manifest_files.specs.image_grammar.declared.fault.ImageFault.{ImageFault}
+use Rattle.manifest_files.specs.image_grammar.Fault as image
 use Rattle.image_runs.specs.declared.fault.MainFault.{MainFault}
 use Rattle.image_runs.specs.declared.fault.MainFault.TheVariants as mains
 use Rattle.manifest_files.specs.declared.frozen_fault.SourcesFault.{SourcesFault}
@@ -36,7 +36,7 @@ use Rattle.mpy_endings.specs.declared.ending.BoardFault.{BoardFault}
 use Rattle.mpy_endings.specs.declared.ending.BoardFault.TheVariants as boards
 use Rattle.mpy_endings.specs.declared.ending.Stop.{Stop}
 use Rattle.mpy_endings.specs.declared.ending.Stop.TheVariants.{Past, LibraryFault, LibraryUnaccepted, Raised, Memory, Steps}
-use Rattle.library_files.specs.declared.limit.Limit.TheVariants as limits
+use Rattle.image_runs.specs.library_files.declared.limit.Limit.TheVariants as limits
 
 -- a word that a fault names, left out where it is empty
 abbrev pub spaced : List ℕ → List ℕ

@@ -7,8 +7,7 @@ ghost use Rattle.mpy_endings.specs.Line.{place_in};
 
 use bc_verify::VerifyFault;
 use board_plan::PlanFault;
-use image_runs::MainFault;
-use library_files::{Limit, UnacceptedSource};
+use image_runs::{Limit, MainFault, UnacceptedSource};
 use manifest_files::{FrozenFault, SourcesFault};
 use mpy_base::{Items, SourceFault, Text};
 use mpy_merge::MergeFault;

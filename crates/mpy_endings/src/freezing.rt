@@ -8,9 +8,8 @@ use crate::line::say_fault;
 use crate::put::{
     put, put_head, put_index, put_last_index, put_last_word, put_named, put_numbered, put_word,
 };
-use image_grammar::ImageFault;
 use image_runs::MainFault;
-use manifest_files::{FrozenFault, ManifestFault, SourcesFault};
+use manifest_files::{FrozenFault, ImageFault, ManifestFault, SourcesFault};
 use mpy_io::{Failed, Sink};
 
 /// The module name that the fault of an image tells.

@@ -10,6 +10,7 @@ mod put;
 mod words;
 
 pub use ending::{BoardFault, Difference, Ended, Ending, Stop};
+pub use image_runs::{MainFault, image_library, open_image, over_law};
 pub use line::{say_ending, say_words};
 pub use put::put_three;
 pub use words::{file_names, main_name, source_name, word_at};

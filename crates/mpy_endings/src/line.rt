@@ -1,7 +1,7 @@
 //! The line that is said at the end of a command.
 
 ghost use Rattle.std.specs.Prelude.{◌≡◌, ◌++◌, true, map, string_bytes, codes, decimal};
-ghost use Rattle.library_files.specs.mpy_reader.Fault as file;
+ghost use Rattle.image_runs.specs.library_files.mpy_reader.Fault as file;
 ghost use Rattle.bc_verify.specs.Rule as rules;
 ghost use Rattle.mpy_merge.specs.Numbers as merges;
 ghost use Rattle.mpy_endings.specs.Ending.{is_stop_said, is_said};
@@ -15,8 +15,8 @@ use crate::freezing::{say_frozen, say_main};
 use crate::put::{gap, put, put_head, put_named, put_three, put_two};
 use crate::words::word_at;
 use bc_verify::{Rule, VerifyFault};
+use image_runs::Limit;
 use itoa::Buffer;
-use library_files::Limit;
 use mpy_base::SourceFault;
 use mpy_io::{Failed, Sink};
 use mpy_merge::MergeFault;

@@ -8,7 +8,7 @@ use Rattle.mpy_base.specs.Vuint.{vuint}
 use Rattle.mpy_base.specs.declared.limits.TheConstants.{MAX_TABLE, MAX_CODE_BYTES}
 use Rattle.mpy_base.proofs.Groups.{vuint_spells}
 use Rattle.bc_scheme.specs.bc_ops.declared.instr.Instr.{Instr}
-use Rattle.bc_labels.specs.Choice.{instrs_of}
+use Rattle.mpy_writer.specs.bc_labels.Choice.{instrs_of}
 use Rattle.bc_verify.specs.bc_prelude.Lines.{Rises, table_of, line_of, line_among}
 use Rattle.bc_verify.specs.bc_prelude.Prelude.{Begins}
 use Rattle.bc_verify.specs.bc_prelude.Signature as signatures

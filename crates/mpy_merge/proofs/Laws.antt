@@ -7,8 +7,8 @@ use Rattle.mpy_writer.specs.mpy_tree.File.{IsModule, IsFile}
 use Rattle.mpy_writer.specs.mpy_tree.Raw.{Module}
 use Rattle.mpy_writer.specs.mpy_tree.Resolved.{ResolvedModule, Resolves}
 use Rattle.bc_verify.specs.Verified.{IsVerified}
-use Rattle.bc_resolved.specs.Known.{HasTexts}
-use Rattle.bc_resolved.specs.Verified.{IsVerifiedTree, AllVerifiedTrees}
+use Rattle.tr_source.specs.bc_resolved.Known.{HasTexts}
+use Rattle.tr_source.specs.bc_resolved.Verified.{IsVerifiedTree, AllVerifiedTrees}
 use Rattle.bc_scheme.specs.Merge.{merge_of}
 use Rattle.mpy_merge.specs.Ends.{IsMergedFile}
 use Rattle.mpy_merge.specs.Merged.{IsMerged}

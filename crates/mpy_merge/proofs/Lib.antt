@@ -1,3 +1,4 @@
+pub use Rattle.mpy_writer.proofs as mpy_writer_lemmas
 pub mod Ended
 pub mod Filed
 pub mod Held

@@ -7,8 +7,8 @@ use Rattle.bc_scheme.specs.bc_ops.declared.listing.Item as listings
 use Rattle.bc_scheme.specs.bc_ops.declared.listing.Item.TheVariants as listed
 use Rattle.bc_scheme.specs.bc_ops.Listing.{Lists}
 use Rattle.bc_scheme.proofs.bc_ops_lemmas.Lists.{one_listing}
-use Rattle.bc_labels.specs.Choice.{IsTooFar}
-use Rattle.bc_labels.proofs.Fewest.{never_both}
+use Rattle.mpy_writer.specs.bc_labels.Choice.{IsTooFar}
+use Rattle.mpy_writer.proofs.bc_labels_lemmas.Fewest.{never_both}
 use Rattle.bc_verify.specs.bc_prelude.declared.prelude.Prelude.{Prelude}
 use Rattle.bc_verify.specs.bc_prelude.Prelude.{Begins}
 use Rattle.bc_verify.specs.bc_prelude.Lines.{line_of}

@@ -13,11 +13,11 @@ use Rattle.bc_scheme.specs.bc_ops.declared.instr.Op.TheVariants as ops
 use Rattle.bc_scheme.specs.bc_ops.declared.instr.Instr.TheVariants as instrs
 use Rattle.bc_scheme.specs.bc_ops.Table.{code_of, form_of, number_form}
 use Rattle.bc_scheme.specs.bc_ops.Code.{spelling, number_bytes, TakesNumber}
-use Rattle.bc_labels.specs.declared.labelled.Labelled.{Labelled}
-use Rattle.bc_labels.specs.declared.labelled.Labelled.TheVariants as labels
-use Rattle.bc_labels.specs.Labels.{is_jump}
-use Rattle.bc_labels.specs.Places.{item_at, width_at, offset}
-use Rattle.bc_labels.specs.Choice.{instr_of, instrs_to, instrs_of, IsTooFar}
+use Rattle.mpy_writer.specs.bc_labels.declared.labelled.Labelled.{Labelled}
+use Rattle.mpy_writer.specs.bc_labels.declared.labelled.Labelled.TheVariants as labels
+use Rattle.mpy_writer.specs.bc_labels.Labels.{is_jump}
+use Rattle.mpy_writer.specs.bc_labels.Places.{item_at, width_at, offset}
+use Rattle.mpy_writer.specs.bc_labels.Choice.{instr_of, instrs_to, instrs_of, IsTooFar}
 use Rattle.bc_verify.specs.bc_prelude.declared.signature.Signature.{Signature}
 use Rattle.bc_verify.specs.bc_prelude.Signature as signatures
 use Rattle.bc_verify.specs.bc_prelude.Size as sizes

@@ -23,7 +23,7 @@ use Rattle.bc_verify.specs.bc_prelude.Names as names
 use Rattle.bc_verify.proofs.bc_prelude_lemmas.Written.{signature_spells, size_spells}
 use Rattle.bc_verify.proofs.bc_prelude_lemmas.Preludes.{same_prelude}
 use Rattle.bc_verify.proofs.bc_prelude_lemmas.Indexes.{same_indexes, names_spelled}
-use Rattle.bc_labels.specs.Choice.{instrs_of}
+use Rattle.mpy_writer.specs.bc_labels.Choice.{instrs_of}
 use Rattle.mpy_writer.specs.mpy_tree.declared.module.Constant.{Constant}
 use Rattle.mpy_writer.specs.mpy_tree.declared.module.Item.{Item}
 use Rattle.mpy_writer.specs.mpy_tree.declared.module.Code.{Code, out-Code}

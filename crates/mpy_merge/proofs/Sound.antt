@@ -23,7 +23,7 @@ use Rattle.bc_scheme.proofs.bc_ops_lemmas.Law.{encodable}
 use Rattle.bc_scheme.proofs.bc_ops_lemmas.Parts as parts
 use Rattle.bc_scheme.specs.bc_ops.Parting.{ended}
 use Rattle.bc_scheme.proofs.bc_ops_lemmas.Lists.{one_listing}
-use Rattle.bc_labels.specs.Labels.{HasNoOffset, HasOffset}
+use Rattle.mpy_writer.specs.bc_labels.Labels.{HasNoOffset, HasOffset}
 use Rattle.bc_verify.specs.bc_prelude.declared.prelude.Prelude.{Prelude}
 use Rattle.bc_verify.proofs.bc_prelude_lemmas.Preludes.{same_prelude}
 use Rattle.bc_verify.specs.bc_prelude.Lines.{Entry, entries_of, lines_passed, line_of}

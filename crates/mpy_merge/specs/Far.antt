@@ -1,6 +1,6 @@
 -- Why a code has no bytes with its numbers moved.
 use Rattle.std.specs.Prelude.{◌≡◌, ◌⊎◌, ℕ, List, Some}
-use Rattle.bc_labels.specs.Choice.{IsTooFar}
+use Rattle.mpy_writer.specs.bc_labels.Choice.{IsTooFar}
 use Rattle.mpy_writer.specs.mpy_tree.Codes.{code_at}
 use Rattle.mpy_writer.specs.mpy_tree.declared.module.Code.{Code}
 use Rattle.mpy_writer.specs.mpy_tree.declared.raw.RawCode.{RawCode, out-RawCode}

@@ -12,11 +12,10 @@ ghost use Rattle.mpy_merge.specs.Merged.{IsMerged};
 use crate::fault::MergeFault;
 use crate::file::{file_or_fault, modules_law};
 use bc_prelude::lines_law;
-use bc_resolved::{file_law, raw_law, resolves_law, tree_law};
 use bc_verify::Verified;
 use mpy_base::Refused;
 use std::alloc::Global;
-use tr_source::merge_law;
+use tr_source::{file_law, merge_law, raw_law, resolves_law, tree_law};
 
 /// The merged file of verified modules, or the fault that comes first.
 pub fn merge(alloc: Global, modules: &[Verified]) -> Result<Vec<u8>, Refused<MergeFault>>

@@ -2,26 +2,26 @@
 use Rattle.std.proofs.Common.{◌≡◌, ℕ, List, Option, Some, None, sym, ap, subst, ◌∙◌}
 use Rattle.std.specs.Io.KnownBytes.{Keeps}
 use Rattle.mpy_io.specs.Files.{FileOf}
-use Rattle.image_grammar.specs.bc_library.Shelf.{Shelf}
-use Rattle.source_files.specs.Sources.{stored}
+use Rattle.image_open.specs.image_grammar.bc_library.Shelf.{Shelf}
+use Rattle.meant_commands.specs.source_files.Sources.{stored}
 use Rattle.mpy_words.specs.declared.order.Command.{Command}
 use Rattle.mpy_words.specs.declared.order.Command.TheVariants.{Check, CheckAs, Dump, Cross, Merge, Freeze, Migrate, Board}
 use Rattle.mpy_words.specs.declared.order.Order.{Order}
 use Rattle.mpy_words.specs.Words.{first_name, second_name, source_name, file_names}
 use Rattle.mpy_endings.specs.declared.ending.Ending.{Ending}
 use Rattle.mpy_endings.specs.Line.{place_in}
-use Rattle.command_files.specs.Folder.{ChangesOnly}
-use Rattle.file_commands.specs.Check.{Checks}
-use Rattle.file_commands.specs.CheckAs.{ChecksAs}
-use Rattle.file_commands.specs.Cross.{Crosses}
-use Rattle.file_commands.specs.Dump.{Dumps}
-use Rattle.file_commands.specs.Merge.{Merges}
-use Rattle.file_commands.proofs.Crossed.{crosses_only}
-use Rattle.file_commands.proofs.Merged.{merges_only}
-use Rattle.image_commands.specs.Freeze.{Freezes}
-use Rattle.image_commands.specs.Migrate.{Migrates}
-use Rattle.image_commands.proofs.Freezing.{freezes_only}
-use Rattle.image_commands.proofs.Migrating.{migrates_only}
+use Rattle.board_command.specs.command_files.Folder.{ChangesOnly}
+use Rattle.meant_commands.specs.file_commands.Check.{Checks}
+use Rattle.meant_commands.specs.file_commands.CheckAs.{ChecksAs}
+use Rattle.meant_commands.specs.file_commands.Cross.{Crosses}
+use Rattle.meant_commands.specs.file_commands.Dump.{Dumps}
+use Rattle.meant_commands.specs.file_commands.Merge.{Merges}
+use Rattle.meant_commands.proofs.file_commands_lemmas.Crossed.{crosses_only}
+use Rattle.meant_commands.proofs.file_commands_lemmas.Merged.{merges_only}
+use Rattle.meant_commands.specs.image_commands.Freeze.{Freezes}
+use Rattle.meant_commands.specs.image_commands.Migrate.{Migrates}
+use Rattle.meant_commands.proofs.image_commands_lemmas.Freezing.{freezes_only}
+use Rattle.meant_commands.proofs.image_commands_lemmas.Migrating.{migrates_only}
 use Rattle.board_command.specs.Boards.{Boards}
 use Rattle.mpy_tool.specs.Below.{image_version}
 use Rattle.mpy_tool.specs.Doing.{DoesBy}

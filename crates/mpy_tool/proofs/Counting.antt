@@ -1,10 +1,10 @@
 -- Calls that failed are told by the status.
 use Rattle.std.proofs.Common.{ℕ, Option, Some, None, inl, inr}
-use Rattle.image_grammar.specs.bc_library.Shelf.{Shelf, no_entries}
+use Rattle.image_open.specs.image_grammar.bc_library.Shelf.{Shelf, no_entries}
 use Rattle.mpy_words.specs.declared.order.Command.{Command}
 use Rattle.mpy_words.specs.declared.order.Command.TheVariants.{Go, Check, CheckAs, Dump, Cross, Merge, Freeze, Migrate, Run, Board, Stress}
 use Rattle.mpy_words.specs.declared.order.Order.{Order}
-use Rattle.run_commands.specs.Run.{room_of}
+use Rattle.stress_command.specs.run_commands.Run.{room_of}
 use Rattle.mpy_endings.proofs.Statuses.{folder_stays, out_stays}
 use Rattle.stress_command.specs.Stress.{EndsStress}
 use Rattle.mpy_tool.specs.Below.{Based}

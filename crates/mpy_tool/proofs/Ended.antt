@@ -1,8 +1,8 @@
 -- How an order that runs no library ended, by its command.
 use Rattle.std.proofs.Common.{◌≡◌, ℕ, List, [], Option, Result, get_or, ap, subst, ◌∙◌, refl}
 use Rattle.mpy_io.specs.declared.fault.Failed.{Failed}
-use Rattle.image_grammar.specs.bc_library.Shelf.{Shelf}
-use Rattle.source_files.specs.Sources.{stored}
+use Rattle.image_open.specs.image_grammar.bc_library.Shelf.{Shelf}
+use Rattle.meant_commands.specs.source_files.Sources.{stored}
 use Rattle.mpy_words.specs.declared.order.Command.TheVariants.{Check, CheckAs, Dump, Cross, Merge, Freeze, Migrate, Board}
 use Rattle.mpy_words.specs.declared.order.Order.{Order}
 use Rattle.mpy_words.specs.Words.{first_name, second_name, source_name, file_names}
@@ -10,14 +10,14 @@ use Rattle.mpy_endings.specs.declared.ending.Ending.{Ending}
 use Rattle.mpy_endings.specs.declared.ending.Ending.TheVariants.{Done, Unaccepted, Unread, Unverified, Unmerged, Unopened, Unfrozen, Unboarded, Different, Stopped, ReadFault, WriteFault, Unwritten, NoMemory, Absent}
 use Rattle.mpy_endings.specs.Line.{Puts, Says, line_of, name_in, place_in}
 use Rattle.mpy_endings.proofs.Said.{says_from}
-use Rattle.command_files.specs.Outside.{Outside, Ends, EndsAt, Writes, WritesOf}
-use Rattle.file_commands.specs.Check.{Checks}
-use Rattle.file_commands.specs.CheckAs.{ChecksAs}
-use Rattle.file_commands.specs.Cross.{Crosses}
-use Rattle.file_commands.specs.Dump.{Dumps}
-use Rattle.file_commands.specs.Merge.{Merges}
-use Rattle.image_commands.specs.Freeze.{Freezes}
-use Rattle.image_commands.specs.Migrate.{Migrates}
+use Rattle.board_command.specs.command_files.Outside.{Outside, Ends, EndsAt, Writes, WritesOf}
+use Rattle.meant_commands.specs.file_commands.Check.{Checks}
+use Rattle.meant_commands.specs.file_commands.CheckAs.{ChecksAs}
+use Rattle.meant_commands.specs.file_commands.Cross.{Crosses}
+use Rattle.meant_commands.specs.file_commands.Dump.{Dumps}
+use Rattle.meant_commands.specs.file_commands.Merge.{Merges}
+use Rattle.meant_commands.specs.image_commands.Freeze.{Freezes}
+use Rattle.meant_commands.specs.image_commands.Migrate.{Migrates}
 use Rattle.board_command.specs.Boards.{Boards}
 use Rattle.mpy_tool.specs.Below.{image_version}
 use Rattle.mpy_tool.specs.Call.{Call, Shows}

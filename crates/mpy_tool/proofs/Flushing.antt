@@ -3,10 +3,10 @@ use Rattle.std.proofs.Common.{ℕ, List, Option, Some, None}
 use Rattle.std.specs.Io.KnownBytes.{Keeps}
 use Rattle.std.proofs.KnownBytes.{Appends-kept}
 use Rattle.mpy_io.specs.Files.{FileOf}
-use Rattle.image_grammar.specs.bc_library.Shelf.{Shelf}
-use Rattle.vm_states.specs.Means.{Program}
-use Rattle.board_plan.specs.declared.plan.Plan.{Plan}
-use Rattle.board_files.specs.Summaries.{HasRunIn}
+use Rattle.image_open.specs.image_grammar.bc_library.Shelf.{Shelf}
+use Rattle.meant_commands.specs.vm_states.Means.{Program}
+use Rattle.meant_commands.specs.board_plan.declared.plan.Plan.{Plan}
+use Rattle.board_command.specs.board_files.Summaries.{HasRunIn}
 use Rattle.mpy_endings.specs.declared.ending.Ending.TheVariants.{Done}
 use Rattle.board_command.specs.Boards.{Boards}
 

@@ -3,7 +3,7 @@ use Rattle.std.proofs.Common.{◌≡◌, inl, inr, ℕ, List, Option, Some, None
 use Rattle.std.specs.Io.KnownBytes.{Keeps}
 use Rattle.std.proofs.KnownBytes.{Appends-kept, Keeps-trans}
 use Rattle.mpy_io.specs.Files.{FileOf}
-use Rattle.image_grammar.specs.bc_library.Shelf.{Shelf}
+use Rattle.image_open.specs.image_grammar.bc_library.Shelf.{Shelf}
 use Rattle.mpy_words.specs.declared.order.Command.{Command}
 use Rattle.mpy_words.specs.declared.order.Command.TheVariants.{Go, Check, CheckAs, Dump, Cross, Merge, Freeze, Migrate, Run, Board, Stress}
 use Rattle.mpy_words.specs.declared.order.Order.{Order}
@@ -14,9 +14,9 @@ use Rattle.mpy_endings.specs.declared.ending.Stop.{Stop}
 use Rattle.mpy_endings.specs.declared.ending.Stop.TheVariants.{Raised, Memory, Steps}
 use Rattle.mpy_endings.specs.Ending.{IsRunStatus, status_of}
 use Rattle.mpy_endings.proofs.Statuses.{run_ended}
-use Rattle.file_commands.specs.Check.{verified_line}
-use Rattle.file_commands.specs.CheckAs.{translation_line}
-use Rattle.file_commands.proofs.HandedOn.{checks_cut, checks_as_cut, dumps_cut}
+use Rattle.meant_commands.specs.file_commands.Check.{verified_line}
+use Rattle.meant_commands.specs.file_commands.CheckAs.{translation_line}
+use Rattle.meant_commands.proofs.file_commands_lemmas.HandedOn.{checks_cut, checks_as_cut, dumps_cut}
 use Rattle.board_command.proofs.Ending.{unflushed}
 use Rattle.mpy_tool.specs.Doing.{DoesBy}
 use Rattle.mpy_tool.proofs.Flushing.{flushed}

@@ -2,14 +2,14 @@
 use Rattle.std.proofs.Common.{◌≡◌, ◌⊎◌, ℕ, List, subst, inl, inr}
 use Rattle.mpy_base.specs.declared.room.Room.{Room}
 use Rattle.mpy_io.specs.Ports.{PortView}
-use Rattle.image_runs.specs.declared.fault.MainFault.TheVariants as mains
+use Rattle.mpy_endings.specs.image_runs.declared.fault.MainFault.TheVariants as mains
 use Rattle.mpy_endings.specs.declared.ending.Ending.{Ending}
 use Rattle.mpy_endings.specs.declared.ending.Ending.TheVariants.{Done, Unaccepted, Unread, Unverified, Unmerged, Unopened, Unfrozen, Unboarded, Different, Stopped, ReadFault, WriteFault, Unwritten, NoMemory, Absent}
 use Rattle.mpy_endings.specs.declared.ending.Stop.TheVariants.{Past, LibraryFault, LibraryUnaccepted, Raised, Memory, Steps}
 use Rattle.mpy_endings.specs.Ending.{status_of, IsRunStatus}
-use Rattle.command_files.specs.Outside.{Outside}
-use Rattle.run_commands.specs.Ready.{GoLibrary}
-use Rattle.run_commands.specs.Run.{EndsRun, IsUnloaded}
+use Rattle.board_command.specs.command_files.Outside.{Outside}
+use Rattle.stress_command.specs.run_commands.Ready.{GoLibrary}
+use Rattle.stress_command.specs.run_commands.Run.{EndsRun, IsUnloaded}
 use Rattle.meant_commands.specs.GoMeant.{GoMeans}
 use Rattle.stress_command.specs.Stress.{EndsStress, Ran, beside, stress_name}
 use Rattle.mpy_tool.specs.Making.{MeansMade, StressMeans}

@@ -2,9 +2,9 @@
 use Rattle.std.proofs.Common.{◌≡◌, ℕ, Option, Some, None, Result, Ok, Err, refl, sym, ap, subst, inl, inr}
 use Rattle.std.specs.Prelude.{IfOk, IfSome}
 use Rattle.mpy_base.specs.declared.refused.NoMemory.{NoMemory}
-use Rattle.image_grammar.specs.bc_library.Shelf.{Shelf, names, no_entries}
-use Rattle.image_grammar.specs.Base.{IsOpened, base_of}
-use Rattle.image_freeze.specs.Fronts.{MayLieOver}
+use Rattle.image_open.specs.image_grammar.bc_library.Shelf.{Shelf, names, no_entries}
+use Rattle.image_open.specs.image_grammar.Base.{IsOpened, base_of}
+use Rattle.meant_commands.specs.image_freeze.Fronts.{MayLieOver}
 use Rattle.mpy_words.specs.declared.order.Command.{Command}
 use Rattle.mpy_words.specs.declared.order.Command.TheVariants.{Go, Check, CheckAs, Dump, Cross, Merge, Freeze, Migrate, Run, Board, Stress}
 use Rattle.mpy_tool.specs.Below.{MayLieBelow, image_version, library_below}

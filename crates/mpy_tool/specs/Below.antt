@@ -1,8 +1,8 @@
 -- Commands over the library of a base, or over one of no entries where no base is ordered.
 use Rattle.std.specs.Prelude.{◌≡◌, ◌⊎◌, ℕ, List, [], Option, Some, None, slice_index_or}
-use Rattle.image_grammar.specs.bc_library.Shelf.{Shelf, no_entries}
-use Rattle.image_grammar.specs.Base.{IsOpened}
-use Rattle.command_files.specs.Over.{EndsAtBase, WentOver}
+use Rattle.image_open.specs.image_grammar.bc_library.Shelf.{Shelf, no_entries}
+use Rattle.image_open.specs.image_grammar.Base.{IsOpened}
+use Rattle.board_command.specs.command_files.Over.{EndsAtBase, WentOver}
 use Rattle.mpy_tool.specs.Call.{Call, Shows}
 
 -- the version of the image that `freeze` writes: 1 where no base is ordered, and 2 over one

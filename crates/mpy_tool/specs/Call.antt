@@ -8,7 +8,7 @@ use Rattle.mpy_io.specs.declared.sink.Sink as sinks
 use Rattle.mpy_words.specs.declared.order.Command.{Command}
 use Rattle.mpy_words.specs.declared.order.Order.{Order}
 use Rattle.mpy_words.specs.Words.{order_of, first_name, second_name}
-use Rattle.command_files.specs.Outside.{Outside as Told, seen}
+use Rattle.board_command.specs.command_files.Outside.{Outside as Told, seen}
 use Rattle.mpy_tool.specs.declared.outside.Outside.{Outside}
 
 -- the words, what the folder, the sinks and the ports tell before the call and behind it, and the exit status

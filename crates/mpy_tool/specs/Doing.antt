@@ -2,25 +2,25 @@
 use Rattle.std.specs.Prelude.{◌≡◌, ℕ, List, Option}
 use Rattle.std.specs.Io.KnownBytes.{Keeps}
 use Rattle.mpy_io.specs.Files.{FileOf}
-use Rattle.image_grammar.specs.bc_library.Shelf.{Shelf}
+use Rattle.image_open.specs.image_grammar.bc_library.Shelf.{Shelf}
 use Rattle.mpy_words.specs.declared.order.Command.{Command}
 use Rattle.mpy_words.specs.declared.order.Command.TheVariants.{Go, Check, CheckAs, Dump, Cross, Merge, Freeze, Migrate, Run, Board, Stress}
 use Rattle.mpy_words.specs.declared.order.Order.{Order}
 use Rattle.mpy_words.specs.Words.{first_name, second_name, source_name, main_name, file_names}
-use Rattle.source_files.specs.Sources.{stored}
+use Rattle.meant_commands.specs.source_files.Sources.{stored}
 use Rattle.mpy_endings.specs.declared.ending.Ending.{Ending}
 use Rattle.mpy_endings.specs.Line.{place_in}
-use Rattle.command_files.specs.Outside.{EndsAt}
-use Rattle.file_commands.specs.Check.{Checks}
-use Rattle.file_commands.specs.CheckAs.{ChecksAs}
-use Rattle.file_commands.specs.Cross.{Crosses}
-use Rattle.file_commands.specs.Dump.{Dumps}
-use Rattle.file_commands.specs.Merge.{Merges}
-use Rattle.run_commands.specs.Ready.{GoLibrary, RunLibrary}
-use Rattle.run_commands.specs.Run.{EndsRun, room_of}
+use Rattle.board_command.specs.command_files.Outside.{EndsAt}
+use Rattle.meant_commands.specs.file_commands.Check.{Checks}
+use Rattle.meant_commands.specs.file_commands.CheckAs.{ChecksAs}
+use Rattle.meant_commands.specs.file_commands.Cross.{Crosses}
+use Rattle.meant_commands.specs.file_commands.Dump.{Dumps}
+use Rattle.meant_commands.specs.file_commands.Merge.{Merges}
+use Rattle.stress_command.specs.run_commands.Ready.{GoLibrary, RunLibrary}
+use Rattle.stress_command.specs.run_commands.Run.{EndsRun, room_of}
 use Rattle.meant_commands.specs.Meant.{Libraries}
-use Rattle.image_commands.specs.Freeze.{Freezes}
-use Rattle.image_commands.specs.Migrate.{Migrates}
+use Rattle.meant_commands.specs.image_commands.Freeze.{Freezes}
+use Rattle.meant_commands.specs.image_commands.Migrate.{Migrates}
 use Rattle.board_command.specs.Boards.{Boards}
 use Rattle.stress_command.specs.Stress.{EndsStress}
 use Rattle.mpy_tool.specs.Call.{Call, Shows, ShowsPorts}

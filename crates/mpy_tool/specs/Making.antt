@@ -3,7 +3,7 @@ use Rattle.std.specs.Prelude.{◌≡◌, ◌⊎◌, ℕ, List, Option}
 use Rattle.std.specs.Io.KnownBytes.{Appends}
 use Rattle.mpy_base.specs.declared.room.Room.{Room}
 use Rattle.mpy_io.specs.Ports.{PortView}
-use Rattle.command_files.specs.Outside.{Outside}
+use Rattle.board_command.specs.command_files.Outside.{Outside}
 use Rattle.meant_commands.specs.GoMeant.{GoMeans}
 use Rattle.mpy_endings.specs.Ending.{IsRunStatus}
 use Rattle.stress_command.specs.Stress.{HasLibrary, Unprinted, beside, lines, stress_name}

@@ -8,9 +8,9 @@ use Rattle.mpy_words.specs.declared.order.Command.TheVariants.{Go, Check, CheckA
 use Rattle.mpy_words.specs.declared.order.WordFault.{WordFault}
 use Rattle.mpy_words.specs.Words.{Outcome, first_name, second_name}
 use Rattle.mpy_endings.specs.Line.{Says, words_line}
-use Rattle.board_files.specs.Files.{KeepsOthers}
-use Rattle.command_files.specs.Folder.{ChangesOnly}
-use Rattle.command_files.specs.Outside.{Outside}
+use Rattle.board_command.specs.board_files.Files.{KeepsOthers}
+use Rattle.board_command.specs.command_files.Folder.{ChangesOnly}
+use Rattle.board_command.specs.command_files.Outside.{Outside}
 
 -- words of no order end with status 2, and nothing is done but to say so
 pub record RefusesWords (words : List (List ℕ)) (fault : WordFault) (old new : Outside) (status : ℕ) : Type 0 where

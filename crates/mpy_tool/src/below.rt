@@ -1,7 +1,7 @@
 //! The libraries that commands lie over.
 
 ghost use Rattle.std.specs.Prelude.{◌≡◌, IfOk, IfSome};
-ghost use Rattle.image_grammar.specs.Base.{IsOpened};
+ghost use Rattle.image_open.specs.image_grammar.Base.{IsOpened};
 ghost use Rattle.mpy_tool.specs.Below as spec;
 ghost use Rattle.mpy_tool.specs.Below.{library_below};
 

@@ -2,15 +2,15 @@
 
 ghost use Rattle.std.specs.Prelude.{◌≡◌, ◌≤◌, [], true, IfSome, IfOk, IfErr};
 ghost use Rattle.mpy_io.specs.Count.{Counts};
-ghost use Rattle.mpy_tree.specs.Raw.{Module};
-ghost use Rattle.library_files.specs.Ends.{HoldsModules};
-ghost use Rattle.image_grammar.specs.Base.{IsOpened};
-ghost use Rattle.image_runs.specs.Main.{IsMainAt};
+ghost use Rattle.image_open.specs.mpy_tree.Raw.{Module};
+ghost use Rattle.meant_commands.specs.library_files.Ends.{HoldsModules};
+ghost use Rattle.image_open.specs.image_grammar.Base.{IsOpened};
+ghost use Rattle.mpy_endings.specs.image_runs.Main.{IsMainAt};
 ghost use Rattle.mpy_words.specs.Words.{first_name};
 ghost use Rattle.mpy_endings.specs.Ending.{IsRunStatus};
-ghost use Rattle.command_files.specs.Opened.{failed_in};
-ghost use Rattle.run_commands.specs.Run.{IsUnloaded};
-ghost use Rattle.run_commands.specs.Ready.{RunLibrary};
+ghost use Rattle.board_command.specs.command_files.Opened.{failed_in};
+ghost use Rattle.stress_command.specs.run_commands.Run.{IsUnloaded};
+ghost use Rattle.stress_command.specs.run_commands.Ready.{RunLibrary};
 ghost use Rattle.mpy_tool.specs.Below.{MayLieBelow, library_below};
 ghost use Rattle.mpy_tool.specs.Call.{call_of, texts};
 ghost use Rattle.mpy_tool.specs.Doing.{LibraryBy, RunsBy};
@@ -23,8 +23,8 @@ use mpy_base::{NoMemory, Room};
 use mpy_endings::{Ending, main_name, say_ending, word_at};
 use mpy_io::{Folder, Port, Sink};
 use mpy_words::{Command, Order};
-use run_commands::{Ready, run_loaded, run_ready, source_ready};
 use std::alloc::Global;
+use stress_command::{Ready, run_loaded, run_ready, source_ready};
 
 /// The library of the file of this name, an image over the library of a base, if one is ordered, or what keeps it from being run.
 fn ready_below<F: Folder>(

@@ -3,7 +3,7 @@ use Rattle.std.proofs.Common.{◌≡◌, ◌⊎◌, inl, inr, ℕ, zero, suc, �
 use Rattle.std.specs.Prelude.{slice_get, option_and_then, sum_by}
 use Rattle.std.proofs.lemmas.List.{append-nil}
 use Rattle.std.proofs.lemmas.List.Sums.{sum_by-cons}
-use Rattle.mpy_base.specs.declared.limits.TheConstants.{MAX_CODE_BYTES, MAX_DEPTH, MAX_TABLE}
+use Rattle.qstr_pool.specs.mpy_base.declared.limits.TheConstants.{MAX_CODE_BYTES, MAX_DEPTH, MAX_TABLE}
 use Rattle.mpy_tree.specs.declared.raw.RawCode.{RawCode, out-RawCode, out-roll-RawCode}
 use Rattle.mpy_tree.specs.Codes.{code_at, IsBefore, Placed, Within, codes_by, numbers_by, codes_to, codes_of, IsPlaced}
 use Rattle.mpy_tree.specs.File.{Many, AreChildren, IsCode, IsOwnCode, IsModule}

@@ -1,6 +1,6 @@
 -- Objects are told apart by their values.
 use Rattle.std.proofs.Common.{◌≡◌, ℕ, List, [], ◌∷◌, map, refl, sym, ap, ap₂, ◌∙◌, true, false, ℤ, subst}
-use Rattle.mpy_base.specs.Val.{Val, Vals, Only, Then, Nil, Truth, Int, Str, Fixed, Empty}
+use Rattle.qstr_pool.specs.mpy_base.Val.{Val, Vals, Only, Then, Nil, Truth, Int, Str, Fixed, Empty}
 use Rattle.mpy_tree.specs.declared.module.Constant.{Constant, roll-Constant}
 use Rattle.mpy_tree.specs.declared.module.Constant.TheOpen.{Constant-F}
 use Rattle.mpy_tree.specs.declared.module.Constant.TheVariants as consts

@@ -2,8 +2,8 @@
 use Rattle.std.specs.Prelude.{◌≡◌, ℕ, zero, suc, ◌+◌, ◌*◌, List, [], ◌∷◌, ◌++◌, length, All, Bool, true, false, None, ◌==◌, if◌then◌else◌}
 use Rattle.std.specs.List.{flat_map, zip}
 use Rattle.std.specs.Fmt.{signed_decimal}
-use Rattle.mpy_base.specs.Vuint.{vuint}
-use Rattle.mpy_base.specs.declared.limits.TheConstants.{MAX_DEPTH}
+use Rattle.qstr_pool.specs.mpy_base.Vuint.{vuint}
+use Rattle.qstr_pool.specs.mpy_base.declared.limits.TheConstants.{MAX_DEPTH}
 use Rattle.bc_ops.specs.declared.instr.Instr.{Instr}
 use Rattle.bc_ops.specs.Code as instructions
 use Rattle.bc_prelude.specs.declared.prelude.Prelude.{Prelude}

@@ -1,6 +1,6 @@
 -- The codes of a module: by their paths, and one after another in preorder, with numbers.
 use Rattle.std.specs.Prelude.{◌≡◌, ◌⊎◌, ℕ, zero, suc, ◌+◌, ◌<◌, List, [], ◌∷◌, ◌++◌, length, Option, Some, slice_get, option_and_then}
-use Rattle.mpy_base.specs.declared.limits.TheConstants.{MAX_DEPTH}
+use Rattle.qstr_pool.specs.mpy_base.declared.limits.TheConstants.{MAX_DEPTH}
 use Rattle.mpy_tree.specs.declared.raw.RawCode.{RawCode, out-RawCode}
 use Rattle.mpy_tree.specs.Raw.{Module}
 

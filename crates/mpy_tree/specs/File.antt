@@ -1,8 +1,8 @@
 -- The grammar of a file.
 use Rattle.std.specs.Prelude.{◌≡◌, ◌⊎◌, ℕ, zero, suc, ◌+◌, ◌*◌, ◌^◌, ◌<◌, ◌≤◌, List, [], ◌∷◌, ◌++◌, length, All, Bool, true, false, ℤ, pos, ◌-ℤ◌, ◌≤ℤ◌, ◌<ℤ◌}
 use Rattle.std.specs.Str.Parse.{IsNumeral, digits_value}
-use Rattle.mpy_base.specs.Vuint.{Spells}
-use Rattle.mpy_base.specs.declared.limits.TheConstants.{MAX_FILE_BYTES, MAX_TABLE, MAX_CODE_BYTES, MAX_DEPTH}
+use Rattle.qstr_pool.specs.mpy_base.Vuint.{Spells}
+use Rattle.qstr_pool.specs.mpy_base.declared.limits.TheConstants.{MAX_FILE_BYTES, MAX_TABLE, MAX_CODE_BYTES, MAX_DEPTH}
 use Rattle.bc_ops.specs.declared.listing.Item.{Item}
 use Rattle.bc_ops.specs.Listing.{IsListOf}
 use Rattle.bc_prelude.specs.declared.prelude.Prelude.{Prelude}

@@ -1,7 +1,7 @@
 -- Tables in the order of first use.
 use Rattle.std.specs.Prelude.{◌≡◌, ◌⊎◌, ℕ, List, [], ◌∷◌, ◌++◌, map, Some, Contains}
 use Rattle.std.specs.List.{flat_map}
-use Rattle.mpy_base.specs.Val.{Val}
+use Rattle.qstr_pool.specs.mpy_base.Val.{Val}
 use Rattle.mpy_tree.specs.Raw.{Module, text_of}
 use Rattle.mpy_tree.specs.File.{IsFile}
 use Rattle.mpy_tree.specs.Resolved.{Resolved, named, object, Body, instrs_of, Tree, node, Trees, no_more, more, ResolvedModule, Resolves}

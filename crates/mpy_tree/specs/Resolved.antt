@@ -1,7 +1,7 @@
 -- Modules with texts, objects and positions in place of numbers and offsets. A number that leads to no text or object
 -- stays, as does the offset of a jump to no instruction's start.
 use Rattle.std.specs.Prelude.{◌≡◌, ℕ, List, [], ◌∷◌, map, Option, Some, slice_get, option_map, option_and_then, unwrap_or}
-use Rattle.mpy_base.specs.Val.{Val}
+use Rattle.qstr_pool.specs.mpy_base.Val.{Val}
 use Rattle.bc_ops.specs.declared.instr.Op.{Op}
 use Rattle.bc_ops.specs.declared.instr.Op.TheVariants.{LoadConstObj}
 use Rattle.bc_ops.specs.declared.instr.Instr.{Instr}

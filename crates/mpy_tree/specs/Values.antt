@@ -1,6 +1,6 @@
 -- The values of objects.
 use Rattle.std.specs.Prelude.{List, [], ◌∷◌, true, false}
-use Rattle.mpy_base.specs.Val.{Val, Vals, Only, Then, Nil, Truth, Int, Str, Fixed, Empty}
+use Rattle.qstr_pool.specs.mpy_base.Val.{Val, Vals, Only, Then, Nil, Truth, Int, Str, Fixed, Empty}
 use Rattle.mpy_tree.specs.declared.module.Constant.{Constant}
 use Rattle.mpy_tree.specs.declared.module.Constant.TheOpen.{Constant-F}
 use Rattle.mpy_tree.specs.declared.module.Constant.TheFolds.{fold-Constant}

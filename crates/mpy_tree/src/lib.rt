@@ -4,5 +4,6 @@
 mod module;
 mod raw;
 
+pub use bc_prelude::parts_of;
 pub use module::{Code, Constant, Item, ModuleCode};
 pub use raw::{Qstr, RawCode, RawModule, module_law, preorder_law, resolving_law};

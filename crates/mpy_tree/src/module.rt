@@ -1,7 +1,7 @@
 //! Modules with texts, objects and positions in place of numbers and offsets.
 
 use bc_ops::{Instr, Op};
-use mpy_base::{Items, Text};
+use qstr_pool::{Items, Text};
 
 /// An object that code loads.
 #[derive(Drop)]

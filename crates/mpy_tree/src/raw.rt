@@ -8,7 +8,7 @@ ghost use Rattle.mpy_tree.specs.Raw.{Module};
 ghost use Rattle.mpy_tree.specs.Resolved.{ResolvedModule, Resolves};
 
 use crate::module::Constant;
-use mpy_base::{Items, Text};
+use qstr_pool::{Items, Text};
 use std::marker::Model;
 
 /// An entry of a file's table of texts.

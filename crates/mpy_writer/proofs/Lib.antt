@@ -1,3 +1,4 @@
+pub use Rattle.bc_labels.proofs as bc_labels_lemmas
 pub use Rattle.mpy_tree.proofs as mpy_tree_lemmas
 pub mod Bodies
 pub mod Faults

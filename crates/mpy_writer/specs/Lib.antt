@@ -1,3 +1,4 @@
+pub use Rattle.bc_labels.specs as bc_labels
 pub use Rattle.mpy_tree.specs as mpy_tree
 pub use Rattle.mpy_tree.specs.qstr_pool
 pub mod Codes

@@ -2,7 +2,7 @@
 use Rattle.std.proofs.Common.{◌≡◌, ℕ, ℤ, zero, suc, ◌+◌, ◌-◌, ◌^◌, ◌<◌, ◌≤◌, true, false, Bool, List, [], ◌∷◌, length, map, Option, Some, None, Result, Ok, Err, is_err, inl, inr, refl, sym, ap, subst, ◌∙◌, arith, option_map}
 use Rattle.std.specs.Prelude.{◌⊎◌, IsTrue, IfSome, slice_get, slice_set, min}
 use Rattle.std.proofs.lemmas.Option.{slice_get-map}
-use Rattle.mpy_base.specs.World.{PortState}
+use Rattle.mpy_io.specs.mpy_base.World.{PortState}
 use Rattle.mpy_io.specs.Count.{Counts, Rose}
 use Rattle.mpy_io.specs.Ports.{PortView, IsFailing, Puts, Gets, called, after_put, after_get}
 use Rattle.port_set.specs.Calls.{CallsOne}

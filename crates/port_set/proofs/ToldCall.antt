@@ -2,7 +2,7 @@
 use Rattle.std.proofs.Common.{◌≡◌, ℕ, ℤ, Bool, IsTrue, List, map, set, slice_get, Option, Some, None, option_map, IfSome, Result, IfOk, is_err, refl, sym, ap, subst, ◌∙◌}
 use Rattle.std.proofs.lemmas.List.{map-set}
 use Rattle.std.proofs.lemmas.Option.{slice_get-map}
-use Rattle.mpy_base.specs.World.{PortState}
+use Rattle.mpy_io.specs.mpy_base.World.{PortState}
 use Rattle.mpy_io.specs.Ports.{PortView, IsFailing, first_pending, after_put, after_get, Puts, Gets}
 use Rattle.port_set.specs.Calls.{CallsOne, Tell, CallsTold}
 

@@ -1,6 +1,6 @@
 -- A call of one port of many.
 use Rattle.std.specs.Prelude.{◌≡◌, ℕ, List, Some, map, slice_get, slice_set}
-use Rattle.mpy_base.specs.World.{PortState}
+use Rattle.mpy_io.specs.mpy_base.World.{PortState}
 use Rattle.mpy_io.specs.Ports.{PortView}
 
 -- the port of this number was called, as the relation says, and every other port stayed

@@ -1,7 +1,7 @@
 -- Counts of faults, before and behind calls of ports.
 use Rattle.std.specs.Prelude.{◌≡◌, ◌⊎◌, ℕ, zero, suc, ◌+◌, ◌-◌, ◌^◌, ◌<◌, ◌≤◌, List, [], ◌∷◌, map, Option, Some, None, nat_eq, slice_get, if◌then◌else◌}
 use Rattle.std.specs.List.{list_any}
-use Rattle.mpy_base.specs.World.{PortState}
+use Rattle.mpy_io.specs.mpy_base.World.{PortState}
 use Rattle.mpy_io.specs.Ports.{PortView}
 
 -- how many of the calls below a number are among those that fail

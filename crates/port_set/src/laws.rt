@@ -1,7 +1,7 @@
 //! What a call does where every port tells its contents, and what counts of faults tell.
 
 ghost use Rattle.std.specs.Prelude.{◌≡◌, ℕ, ℤ, Bool, IsTrue, List, Option, Result, IfOk, is_err};
-ghost use Rattle.mpy_base.specs.World.{PortState};
+ghost use Rattle.mpy_io.specs.mpy_base.World.{PortState};
 ghost use Rattle.mpy_io.specs.Ports.{PortView, IsFailing, first_pending, after_put, after_get, Puts, Gets};
 ghost use Rattle.port_set.specs.Calls.{CallsOne, CallsTold, Tell};
 ghost use Rattle.port_set.specs.Counts.{AreAccounted, CountsKeep, RoseBeyond, Unfailed};

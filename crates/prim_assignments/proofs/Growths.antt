@@ -4,9 +4,9 @@ use Rattle.std.proofs.lemmas.List.{map-append, length-map, append-nil}
 use Rattle.prim_operators.specs.arena_heap.declared.value.Value.{Value}
 use Rattle.prim_operators.specs.arena_heap.declared.value.StrNo.{StrNo}
 use Rattle.prim_operators.specs.arena_heap.declared.value.ConstNo.{ConstNo}
-use Rattle.mpy_base.specs.World.{Object, ListObject, DictObject, Heap, items_at, room_at, with_object, with_dict}
-use Rattle.mpy_base.specs.Weights.{room_for, does_fit, Fits, with_used, with_pairs, with_list_room, list_growth, dict_growth, grown_room}
-use Rattle.mpy_base.specs.Val.{Val}
+use Rattle.prim_operators.specs.mpy_base.World.{Object, ListObject, DictObject, Heap, items_at, room_at, with_object, with_dict}
+use Rattle.prim_operators.specs.mpy_base.Weights.{room_for, does_fit, Fits, with_used, with_pairs, with_list_room, list_growth, dict_growth, grown_room}
+use Rattle.prim_operators.specs.mpy_base.Val.{Val}
 use Rattle.prim_operators.specs.arena_heap.Values.{ArenaObject}
 use Rattle.prim_operators.specs.py_values.Shown.{PlainHeap}
 use Rattle.prim_operators.specs.prim_walks.Plain.{plain_pair, plain_object, plain_heap}

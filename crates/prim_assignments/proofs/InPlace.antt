@@ -7,9 +7,9 @@ use Rattle.prim_operators.specs.arena_heap.declared.value.Value.TheVariants as v
 use Rattle.prim_operators.specs.arena_heap.declared.value.StrNo.{StrNo}
 use Rattle.prim_operators.specs.arena_heap.declared.value.ConstNo.{ConstNo}
 use Rattle.prim_operators.specs.arena_heap.declared.value.ListNo.{ListNo}
-use Rattle.mpy_base.specs.World.{Object, ListObject, TupleObject, TextObject, DictObject, FunctionObject, ExceptionObject, MethodObject, RangeObject, ModuleObject, Heap, ObjectKind, AList, object, kind_of, items_at, with_list}
-use Rattle.mpy_base.specs.Weights.{used, with_made, does_fit, room_for, cells_of, bytes_of, list_growth, with_list_room}
-use Rattle.mpy_base.specs.Val.{Val, At, Int}
+use Rattle.prim_operators.specs.mpy_base.World.{Object, ListObject, TupleObject, TextObject, DictObject, FunctionObject, ExceptionObject, MethodObject, RangeObject, ModuleObject, Heap, ObjectKind, AList, object, kind_of, items_at, with_list}
+use Rattle.prim_operators.specs.mpy_base.Weights.{used, with_made, does_fit, room_for, cells_of, bytes_of, list_growth, with_list_room}
+use Rattle.prim_operators.specs.mpy_base.Val.{Val, At, Int}
 use Rattle.prim_operators.specs.arena_heap.Values.{ArenaObject, Leads}
 use Rattle.prim_operators.specs.arena_objects.Iterables.{or_nothing}
 use Rattle.prim_operators.specs.py_values.declared.small_int.NumFault.{NumFault}

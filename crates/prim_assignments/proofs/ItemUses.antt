@@ -8,9 +8,9 @@ use Rattle.prim_operators.specs.arena_heap.declared.value.ConstNo.{ConstNo}
 use Rattle.prim_operators.specs.arena_heap.declared.value.DictNo.{DictNo}
 use Rattle.prim_operators.specs.arena_heap.declared.value.ListNo.{ListNo}
 use Rattle.prim_operators.specs.arena_heap.declared.value.ModuleNo.{ModuleNo}
-use Rattle.mpy_base.specs.World.{ListObject, TupleObject, TextObject, DictObject, FunctionObject, ExceptionObject, MethodObject, RangeObject, ModuleObject, Heap, AModule, object, kind_of, items_at, pairs_at}
-use Rattle.mpy_base.specs.World as world
-use Rattle.mpy_base.specs.Val.{Val, Str, At}
+use Rattle.prim_operators.specs.mpy_base.World.{ListObject, TupleObject, TextObject, DictObject, FunctionObject, ExceptionObject, MethodObject, RangeObject, ModuleObject, Heap, AModule, object, kind_of, items_at, pairs_at}
+use Rattle.prim_operators.specs.mpy_base.World as world
+use Rattle.prim_operators.specs.mpy_base.Val.{Val, Str, At}
 use Rattle.prim_operators.specs.arena_heap.Values.{ArenaObject, Leads}
 use Rattle.prim_operators.specs.arena_objects.Iterables.{or_nothing}
 use Rattle.prim_operators.specs.py_values.Shown.{PlainHeap, Shown, Nothing, Number, Text, Tuple, Items, Pairs, Range, Other}

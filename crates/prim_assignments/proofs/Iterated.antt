@@ -8,9 +8,9 @@ use Rattle.prim_operators.specs.arena_heap.declared.value.Value.{Value}
 use Rattle.prim_operators.specs.arena_heap.declared.value.Value.TheVariants as values
 use Rattle.prim_operators.specs.arena_heap.declared.value.StrNo.{StrNo}
 use Rattle.prim_operators.specs.arena_heap.declared.value.ConstNo.{ConstNo}
-use Rattle.mpy_base.specs.World.{ListObject, TupleObject, DictObject, FunctionObject, ExceptionObject, MethodObject, RangeObject, ModuleObject, Heap, ObjectKind, AList, ATuple, ADict, ARange, AFunction, AnException, AMethod, AModule, object, kind_of}
-use Rattle.mpy_base.specs.Weights.{used, Fits}
-use Rattle.mpy_base.specs.Val.{Val}
+use Rattle.prim_operators.specs.mpy_base.World.{ListObject, TupleObject, DictObject, FunctionObject, ExceptionObject, MethodObject, RangeObject, ModuleObject, Heap, ObjectKind, AList, ATuple, ADict, ARange, AFunction, AnException, AMethod, AModule, object, kind_of}
+use Rattle.prim_operators.specs.mpy_base.Weights.{used, Fits}
+use Rattle.prim_operators.specs.mpy_base.Val.{Val}
 use Rattle.prim_operators.specs.arena_heap.Values.{ArenaObject, Leads}
 use Rattle.prim_operators.specs.arena_objects.Iterables as arena
 use Rattle.prim_operators.specs.arena_objects.Iterables.{or_nothing, given, spelled, with_texts, texts_from}

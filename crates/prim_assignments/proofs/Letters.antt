@@ -5,9 +5,9 @@ use Rattle.prim_operators.specs.arena_heap.declared.value.Value.{Value}
 use Rattle.prim_operators.specs.arena_heap.declared.value.Value.TheVariants as values
 use Rattle.prim_operators.specs.arena_heap.declared.value.StrNo.{StrNo}
 use Rattle.prim_operators.specs.arena_heap.declared.value.ConstNo.{ConstNo}
-use Rattle.mpy_base.specs.World.{Heap, TextObject}
-use Rattle.mpy_base.specs.Weights.{used, does_fit, Fits, with_made}
-use Rattle.mpy_base.specs.Val.{Val, At}
+use Rattle.prim_operators.specs.mpy_base.World.{Heap, TextObject}
+use Rattle.prim_operators.specs.mpy_base.Weights.{used, does_fit, Fits, with_made}
+use Rattle.prim_operators.specs.mpy_base.Val.{Val, At}
 use Rattle.prim_operators.specs.arena_heap.Values.{ArenaObject}
 use Rattle.prim_operators.specs.arena_objects.Iterables.{with_texts, texts_from}
 use Rattle.prim_operators.proofs.arena_objects_lemmas.MadeTexts.{one_byte, text_more}

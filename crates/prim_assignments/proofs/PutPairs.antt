@@ -8,9 +8,9 @@ use Rattle.std.proofs.lemmas.Slice.Eq.{bytes_eq-Decides}
 use Rattle.prim_operators.specs.arena_heap.declared.value.Value.{Value}
 use Rattle.prim_operators.specs.arena_heap.declared.value.StrNo.{StrNo}
 use Rattle.prim_operators.specs.arena_heap.declared.value.ConstNo.{ConstNo}
-use Rattle.mpy_base.specs.World.{DictObject, Heap, ADict, IsA, object, kind_of, pairs_of, room_of, pairs_at, room_at, with_dict}
-use Rattle.mpy_base.specs.Weights.{Fits, does_fit, dict_growth, with_pairs}
-use Rattle.mpy_base.specs.Val.{Val, Nil}
+use Rattle.prim_operators.specs.mpy_base.World.{DictObject, Heap, ADict, IsA, object, kind_of, pairs_of, room_of, pairs_at, room_at, with_dict}
+use Rattle.prim_operators.specs.mpy_base.Weights.{Fits, does_fit, dict_growth, with_pairs}
+use Rattle.prim_operators.specs.mpy_base.Val.{Val, Nil}
 use Rattle.prim_operators.specs.arena_heap.Values.{ArenaObject, IsWithinRoom}
 use Rattle.prim_operators.specs.arena_heap.Dicts.{with_value}
 use Rattle.prim_operators.specs.arena_objects.Keys as arena

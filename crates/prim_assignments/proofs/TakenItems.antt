@@ -4,10 +4,10 @@ use Rattle.std.proofs.lemmas.List.{length-map, map-append, length-replicate}
 use Rattle.prim_operators.specs.arena_heap.declared.value.Value.{Value}
 use Rattle.prim_operators.specs.arena_heap.declared.value.StrNo.{StrNo}
 use Rattle.prim_operators.specs.arena_heap.declared.value.ConstNo.{ConstNo}
-use Rattle.mpy_base.specs.declared.room.NoRoom.{NoRoom}
-use Rattle.mpy_base.specs.World.{ListObject, Heap, Later, items_at, with_list}
-use Rattle.mpy_base.specs.Weights.{used, does_fit, Fits, Refused, list_growth, grown_room, with_list_room}
-use Rattle.mpy_base.specs.Val.{Val, At}
+use Rattle.prim_operators.specs.mpy_base.declared.room.NoRoom.{NoRoom}
+use Rattle.prim_operators.specs.mpy_base.World.{ListObject, Heap, Later, items_at, with_list}
+use Rattle.prim_operators.specs.mpy_base.Weights.{used, does_fit, Fits, Refused, list_growth, grown_room, with_list_room}
+use Rattle.prim_operators.specs.mpy_base.Val.{Val, At}
 use Rattle.prim_operators.specs.arena_heap.Values.{ArenaObject}
 use Rattle.prim_operators.specs.arena_objects.Keys.{AllTold}
 use Rattle.prim_operators.specs.arena_objects.Iterables as arena

@@ -9,11 +9,11 @@ use Rattle.prim_operators.specs.arena_heap.declared.value.Value.TheVariants as v
 use Rattle.prim_operators.specs.arena_heap.declared.value.StrNo.{StrNo}
 use Rattle.prim_operators.specs.arena_heap.declared.value.ConstNo.{ConstNo}
 use Rattle.prim_operators.specs.arena_heap.declared.value.TextNo.{TextNo}
-use Rattle.mpy_base.specs.declared.room.NoRoom.{NoRoom}
-use Rattle.mpy_base.specs.World.{Heap, Later}
-use Rattle.mpy_base.specs.Weights.{used, Fits, Refused}
-use Rattle.mpy_base.specs.Val.{Val, Int}
-use Rattle.mpy_base.proofs.Worlds.{later_same}
+use Rattle.prim_operators.specs.mpy_base.declared.room.NoRoom.{NoRoom}
+use Rattle.prim_operators.specs.mpy_base.World.{Heap, Later}
+use Rattle.prim_operators.specs.mpy_base.Weights.{used, Fits, Refused}
+use Rattle.prim_operators.specs.mpy_base.Val.{Val, Int}
+use Rattle.prim_operators.proofs.mpy_base_lemmas.Worlds.{later_same}
 use Rattle.prim_operators.specs.arena_heap.Values.{Leads, IsStr}
 use Rattle.prim_operators.specs.arena_objects.Keys.{AllTold}
 use Rattle.prim_operators.specs.arena_objects.Iterables as arena

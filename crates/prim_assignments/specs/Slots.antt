@@ -1,7 +1,7 @@
 -- What a primitive's call that gives several values answers, over an arena.
 use Rattle.std.specs.Prelude.{◌≡◌, ℕ, List, map, Option, Result, Ok, Err, All}
-use Rattle.mpy_base.specs.World.{Heap, Objects, Later}
-use Rattle.mpy_base.specs.Val.{Val}
+use Rattle.prim_operators.specs.mpy_base.World.{Heap, Objects, Later}
+use Rattle.prim_operators.specs.mpy_base.Val.{Val}
 use Rattle.prim_operators.specs.arena_heap.declared.value.Value.{Value}
 use Rattle.prim_operators.specs.arena_heap.declared.value.StrNo.{StrNo}
 use Rattle.prim_operators.specs.arena_heap.declared.value.ConstNo.{ConstNo}

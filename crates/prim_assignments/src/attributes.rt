@@ -1,15 +1,16 @@
 //! Attributes that are set.
 
 ghost use Rattle.std.specs.Prelude.{IsSome};
-ghost use Rattle.mpy_base.specs.World.{AModule, IsA};
-ghost use Rattle.mpy_base.specs.Val.{At};
+ghost use Rattle.prim_operators.specs.mpy_base.World.{AModule, IsA};
+ghost use Rattle.prim_operators.specs.mpy_base.Val.{At};
 ghost use Rattle.prim_operators.specs.arena_heap.Values.{Leads};
 ghost use Rattle.prim_operators.specs.py_primitives.Uses.{set_attr as set_attr_of};
 ghost use Rattle.prim_operators.specs.prim_faults.Sights.{Tells, TellsAll, Does};
 
 use crate::pairs::put_pair;
-use arena_heap::{Arena, Constants, ModuleNo, StrNo, Value, module_parts};
-use prim_faults::{Fault, Stop, type_of};
+use prim_operators::{
+    Arena, Constants, Fault, ModuleNo, Stop, StrNo, Value, module_parts, type_of,
+};
 
 /// Sets a name of a module's namespace, where one is set.
 fn set_name<C: Constants>(

@@ -1,16 +1,15 @@
 //! Lists that take the items of iterables.
 
 ghost use Rattle.std.specs.Prelude.{IsSome};
-ghost use Rattle.mpy_base.specs.World.{AList, IsA};
+ghost use Rattle.prim_operators.specs.mpy_base.World.{AList, IsA};
 ghost use Rattle.prim_operators.specs.arena_heap.Values.{Leads};
 ghost use Rattle.prim_operators.specs.py_primitives.Iterables.{items_in};
 ghost use Rattle.prim_operators.specs.py_primitives.Operators.{extend as extend_of};
 ghost use Rattle.prim_operators.specs.prim_faults.Sights.{sight, Tells, TellsAll, Does, CountsUpTo};
 
-use arena_heap::{Arena, Constants, ListNo, Value};
-use arena_objects::list_extend;
-use prim_faults::Stop;
-use prim_operators::{items_law, length_of, use_iter};
+use prim_operators::{
+    Arena, Constants, ListNo, Stop, Value, items_law, length_of, list_extend, use_iter,
+};
 
 /// Puts the items of what is an iterable behind those of a list.
 fn take_items<C: Constants>(

@@ -5,9 +5,7 @@ ghost use Rattle.prim_operators.specs.py_primitives.Operators.{Add, in_place};
 ghost use Rattle.prim_operators.specs.prim_faults.Sights.{Tells, TellsAll, Does, CountsUpTo};
 
 use crate::extensions::{extend_list, visits_extend};
-use arena_heap::{Arena, Constants, Value};
-use prim_faults::Stop;
-use prim_operators::{Operator, binary};
+use prim_operators::{Arena, Constants, Operator, Stop, Value, binary};
 
 /// `+` in place, by which a list takes the items of any iterable.
 pub fn inplace_add<C: Constants>(

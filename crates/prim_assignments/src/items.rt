@@ -1,8 +1,8 @@
 //! Items and keys that are set.
 
 ghost use Rattle.std.specs.Prelude.{map, slice_set};
-ghost use Rattle.mpy_base.specs.World.{ADict, AList, IsA, items_at, with_list};
-ghost use Rattle.mpy_base.specs.Val.{Nil, At};
+ghost use Rattle.prim_operators.specs.mpy_base.World.{ADict, AList, IsA, items_at, with_list};
+ghost use Rattle.prim_operators.specs.mpy_base.Val.{Nil, At};
 ghost use Rattle.prim_operators.specs.arena_heap.Values.{Leads};
 ghost use Rattle.prim_operators.specs.py_primitives.Operators.{with_key_of};
 ghost use Rattle.prim_operators.specs.py_primitives.Outcome.{gives};
@@ -10,9 +10,10 @@ ghost use Rattle.prim_operators.specs.py_primitives.Uses.{at_place, put_pair as 
 ghost use Rattle.prim_operators.specs.prim_faults.Sights.{Tells, TellsAll, Does};
 
 use crate::pairs::put_pair;
-use arena_heap::{Arena, Constants, DictNo, ListNo, Value, list_set};
-use prim_faults::{Fault, SpecialMethod, Stop, is_key, type_of};
-use prim_operators::{Container, container_of, items_law, place_of};
+use prim_operators::{
+    Arena, Constants, Container, DictNo, Fault, ListNo, SpecialMethod, Stop, Value, container_of,
+    is_key, items_law, list_set, place_of, type_of,
+};
 
 /// Sets the value of what may be a key.
 fn set_key<C: Constants>(

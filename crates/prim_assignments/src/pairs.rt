@@ -1,13 +1,11 @@
 //! Pairs of dicts that are set.
 
-ghost use Rattle.mpy_base.specs.World.{ADict, IsA};
+ghost use Rattle.prim_operators.specs.mpy_base.World.{ADict, IsA};
 ghost use Rattle.prim_operators.specs.arena_heap.Values.{Leads, IsKey};
 ghost use Rattle.prim_operators.specs.py_primitives.Uses.{put_pair as put_pair_of};
 ghost use Rattle.prim_operators.specs.prim_faults.Sights.{Tells, TellsAll, Does};
 
-use arena_heap::{Arena, Constants, DictNo, Value};
-use arena_objects::dict_set;
-use prim_faults::Stop;
+use prim_operators::{Arena, Constants, DictNo, Stop, Value, dict_set};
 
 /// Sets the value of a key. A new key may ask for the next room.
 pub(crate) fn put_pair<C: Constants>(

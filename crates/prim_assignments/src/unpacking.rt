@@ -8,10 +8,10 @@ ghost use Rattle.prim_operators.specs.py_primitives.Uses.{unpack as unpack_of};
 ghost use Rattle.prim_operators.specs.prim_faults.Sights.{sight, Tells, TellsAll, KnowsAll};
 ghost use Rattle.prim_assignments.specs.Slots.{FillsSlots};
 
-use arena_heap::{Arena, Constants, TextNo, Value};
-use arena_objects::{item_at, item_count, make_texts, text_bytes};
-use prim_faults::{Fault, Stop};
-use prim_operators::{items_law, use_iter};
+use prim_operators::{
+    Arena, Constants, Fault, Stop, TextNo, Value, item_at, item_count, items_law, make_texts,
+    text_bytes, use_iter,
+};
 
 /// Puts texts into the slots, from the first.
 fn fill_letters(slots: &mut [Value], first: u32)

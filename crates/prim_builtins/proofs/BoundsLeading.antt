@@ -4,7 +4,7 @@ use Rattle.std.specs.List.{All}
 use Rattle.prim_operators.specs.arena_heap.declared.value.Value.{Value}
 use Rattle.prim_operators.specs.arena_heap.declared.value.StrNo.{StrNo}
 use Rattle.prim_operators.specs.arena_heap.declared.value.ConstNo.{ConstNo}
-use Rattle.mpy_base.specs.World.{Objects}
+use Rattle.prim_operators.specs.mpy_base.World.{Objects}
 use Rattle.prim_operators.specs.prim_faults.Faults.{IsKnown}
 use Rattle.prim_builtins.specs.declared.ranges.Bounds.{Bounds}
 use Rattle.prim_builtins.specs.declared.ranges.Bounds.TheVariants as bounds

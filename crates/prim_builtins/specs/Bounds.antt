@@ -1,6 +1,6 @@
 -- The arguments of a range.
 use Rattle.std.specs.Prelude.{ℕ, List, [], ◌∷◌}
-use Rattle.mpy_base.specs.World.{Objects}
+use Rattle.prim_operators.specs.mpy_base.World.{Objects}
 use Rattle.prim_operators.specs.arena_heap.declared.value.Value.{Value}
 use Rattle.prim_operators.specs.arena_heap.Values.{Leads}
 use Rattle.prim_builtins.specs.declared.ranges.Bounds.{Bounds as Given}

@@ -1,6 +1,6 @@
 -- Arguments that are no numbers.
 use Rattle.std.specs.Prelude.{◌≡◌, ℕ, List, Option}
-use Rattle.mpy_base.specs.World.{Heap}
+use Rattle.prim_operators.specs.mpy_base.World.{Heap}
 use Rattle.prim_operators.specs.arena_heap.declared.value.Value.{Value}
 use Rattle.prim_operators.specs.arena_heap.declared.value.StrNo.{StrNo}
 use Rattle.prim_operators.specs.arena_heap.declared.value.ConstNo.{ConstNo}

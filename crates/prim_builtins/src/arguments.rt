@@ -5,8 +5,7 @@ ghost use Rattle.prim_operators.specs.py_primitives.Calls.{Exactly, Between};
 ghost use Rattle.prim_operators.specs.prim_faults.declared.fault.Fault.TheVariants as faults;
 ghost use Rattle.prim_builtins.specs.Arguments.{IsRefusal, IsMiscount, IsMisgiven, IsOtherCount};
 
-use arena_heap::Value;
-use prim_faults::Fault;
+use prim_operators::{Fault, Value};
 
 /// The fault of keyword arguments, if there are any.
 fn no_keywords(keys: &[(Value, Value)]) -> Result<(), Fault>

@@ -1,7 +1,7 @@
 //! `chr`: a number of 7 bits as a text of one byte.
 
 ghost use Rattle.std.specs.Prelude.{◌≡◌, ◌<◌, ◌^◌, ◌⊎◌, pos, ◌<ℤ◌, [], ◌∷◌, length, IfSome, MatchOption};
-ghost use Rattle.mpy_base.specs.declared.builtin.Builtin.TheVariants as builtins;
+ghost use Rattle.prim_operators.specs.mpy_base.declared.builtin.Builtin.TheVariants as builtins;
 ghost use Rattle.prim_operators.specs.arena_heap.Values.{Leads};
 ghost use Rattle.prim_operators.specs.py_primitives.Outcome.{making_text};
 ghost use Rattle.prim_operators.specs.py_primitives.Calls.{with_number, character as character_in};
@@ -9,9 +9,7 @@ ghost use Rattle.prim_operators.specs.prim_faults.Sights.{calling, TellsAll, Kno
 
 use crate::arguments::one_argument;
 use crate::numbers::number_of;
-use arena_heap::{Arena, Constants, Value};
-use arena_objects::make_byte;
-use prim_faults::{Fault, Stop};
+use prim_operators::{Arena, Constants, Fault, Stop, Value, make_byte};
 
 /// The byte that has this code, if it is one below 0x80.
 fn ascii_code(z: i32) -> Option<u8>

@@ -5,9 +5,7 @@ ghost use Rattle.prim_operators.specs.py_values.Small.{checked};
 ghost use Rattle.prim_operators.specs.py_primitives.Operators.{gives_number};
 ghost use Rattle.prim_operators.specs.Changeless.{IsAnswerOf};
 
-use arena_heap::Value;
-use prim_faults::{Fault, Stop};
-use py_values::NumFault;
+use prim_operators::{Fault, NumFault, Stop, Value};
 
 /// The greatest small int, 2^30 - 1.
 const GREATEST: usize = 1_073_741_823;

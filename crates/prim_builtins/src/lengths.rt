@@ -1,7 +1,7 @@
 //! `len` of what has items.
 
 ghost use Rattle.std.specs.Prelude.{◌<◌, ◌^◌, length};
-ghost use Rattle.mpy_base.specs.declared.builtin.Builtin.TheVariants as builtins;
+ghost use Rattle.prim_operators.specs.mpy_base.declared.builtin.Builtin.TheVariants as builtins;
 ghost use Rattle.prim_operators.specs.arena_heap.Values.{Leads};
 ghost use Rattle.prim_operators.specs.py_primitives.Iterables.{items_in};
 ghost use Rattle.prim_operators.specs.py_primitives.Calls.{call_len as len_in};
@@ -9,10 +9,7 @@ ghost use Rattle.prim_operators.specs.prim_faults.Sights.{calling, Tells, TellsA
 
 use crate::arguments::one_argument;
 use crate::counts::gives_count;
-use arena_heap::{Arena, Constants, Value};
-use prim_faults::{Fault, Stop, type_of};
-use prim_operators::length_of;
-use prim_walks::{Look, look_at};
+use prim_operators::{Arena, Constants, Fault, Look, Stop, Value, length_of, look_at, type_of};
 
 /// `len` of one value.
 fn len_of<C: Constants>(arena: &Arena, consts: &C, v: Value) -> Result<Value, Stop>

@@ -18,5 +18,9 @@ pub use lengths::call_len;
 pub use magnitudes::call_abs;
 pub use numbers::number_of;
 pub use ordinals::call_ord;
+pub use prim_operators::{
+    Fault, SpecialMethod, Stop, ValueType, is_key, items_law, length_of, name_bytes, type_of,
+    use_iter,
+};
 pub use ranges::call_range;
 pub use truths::call_bool;

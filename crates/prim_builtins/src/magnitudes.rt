@@ -1,7 +1,7 @@
 //! `abs` of a number.
 
 ghost use Rattle.std.specs.Prelude.{◌<◌, ◌^◌, length};
-ghost use Rattle.mpy_base.specs.declared.builtin.Builtin.TheVariants as builtins;
+ghost use Rattle.prim_operators.specs.mpy_base.declared.builtin.Builtin.TheVariants as builtins;
 ghost use Rattle.prim_operators.specs.arena_heap.Values.{Leads};
 ghost use Rattle.prim_operators.specs.py_primitives.Calls.{call_abs as abs_in};
 ghost use Rattle.prim_operators.specs.prim_faults.Sights.{calling, TellsAll, KnowsAll, Does};
@@ -9,8 +9,7 @@ ghost use Rattle.prim_operators.specs.prim_faults.Sights.{calling, TellsAll, Kno
 use crate::arguments::one_argument;
 use crate::counts::gives_count;
 use crate::numbers::number_of;
-use arena_heap::{Arena, Constants, Value};
-use prim_faults::Stop;
+use prim_operators::{Arena, Constants, Stop, Value};
 
 /// `abs` of one value.
 fn abs_of<C: Constants>(arena: &Arena, _consts: &C, v: Value) -> Result<Value, Stop>

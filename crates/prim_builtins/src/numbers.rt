@@ -5,8 +5,7 @@ ghost use Rattle.prim_operators.specs.arena_heap.Values.{Leads, IsSmall};
 ghost use Rattle.prim_operators.specs.Operands.{number_in};
 ghost use Rattle.prim_builtins.specs.Numbers.{IsNoNumber};
 
-use arena_heap::{Arena, Value};
-use prim_faults::{Fault, type_of};
+use prim_operators::{Arena, Fault, Value, type_of};
 
 /// The number that an argument counts as. Other values are refused.
 pub fn number_of(arena: &Arena, v: Value) -> Result<i32, Fault>

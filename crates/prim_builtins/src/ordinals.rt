@@ -1,7 +1,7 @@
 //! `ord` of a text of one byte.
 
 ghost use Rattle.std.specs.Prelude.{◌<◌, ◌^◌, length};
-ghost use Rattle.mpy_base.specs.declared.builtin.Builtin.TheVariants as builtins;
+ghost use Rattle.prim_operators.specs.mpy_base.declared.builtin.Builtin.TheVariants as builtins;
 ghost use Rattle.prim_operators.specs.arena_heap.Values.{Leads};
 ghost use Rattle.prim_operators.specs.py_values.Shown.{Text, shown};
 ghost use Rattle.prim_operators.specs.py_primitives.Calls.{ord_of as ord_in};
@@ -9,9 +9,7 @@ ghost use Rattle.prim_operators.specs.prim_faults.Sights.{calling, Tells, TellsA
 ghost use Rattle.prim_operators.specs.Changeless.{IsAnswerOf};
 
 use crate::arguments::one_argument;
-use arena_heap::{Arena, Constants, Value};
-use prim_faults::{Fault, Stop};
-use prim_walks::{Look, look_at};
+use prim_operators::{Arena, Constants, Fault, Look, Stop, Value, look_at};
 
 /// The code of a str of one byte.
 fn code_of(bytes: &[u8]) -> Result<Value, Stop>

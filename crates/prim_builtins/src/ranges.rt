@@ -1,8 +1,8 @@
 //! `range` of one to three numbers.
 
 ghost use Rattle.std.specs.Prelude.{◌≡◌, ◌≢◌, ◌<◌, ◌^◌, ◌≤◌, pos, length, map};
-ghost use Rattle.mpy_base.specs.World.{RangeObject};
-ghost use Rattle.mpy_base.specs.declared.builtin.Builtin.TheVariants as builtins;
+ghost use Rattle.prim_operators.specs.mpy_base.World.{RangeObject};
+ghost use Rattle.prim_operators.specs.mpy_base.declared.builtin.Builtin.TheVariants as builtins;
 ghost use Rattle.prim_operators.specs.arena_heap.Values.{Leads, IsSmall};
 ghost use Rattle.prim_operators.specs.py_primitives.Outcome.{making};
 ghost use Rattle.prim_operators.specs.py_primitives.Calls.{call_range as range_in, range_of as range_from, with_number};
@@ -11,8 +11,7 @@ ghost use Rattle.prim_builtins.specs.Bounds.{given_by, BoundsLead};
 
 use crate::arguments::only_between;
 use crate::numbers::number_of;
-use arena_heap::{Arena, Constants, Value};
-use prim_faults::{Fault, Stop};
+use prim_operators::{Arena, Constants, Fault, Stop, Value};
 
 /// What a range is called with.
 #[derive(Clone, Copy)]

@@ -1,17 +1,15 @@
 //! `bool` of any value.
 
 ghost use Rattle.std.specs.Prelude.{◌<◌, ◌^◌, length};
-ghost use Rattle.mpy_base.specs.declared.builtin.Builtin.TheVariants as builtins;
+ghost use Rattle.prim_operators.specs.mpy_base.declared.builtin.Builtin.TheVariants as builtins;
 ghost use Rattle.prim_operators.specs.arena_heap.Values.{Leads};
-ghost use Rattle.mpy_base.specs.Val.{Truth};
+ghost use Rattle.prim_operators.specs.mpy_base.Val.{Truth};
 ghost use Rattle.prim_operators.specs.py_values.Shown.{truth as truth_in};
 ghost use Rattle.prim_operators.specs.py_primitives.Outcome.{gives};
 ghost use Rattle.prim_operators.specs.prim_faults.Sights.{calling, Tells, TellsAll, KnowsAll, Does};
 
 use crate::arguments::one_argument;
-use arena_heap::{Arena, Constants, Value};
-use prim_faults::Stop;
-use prim_walks::truth;
+use prim_operators::{Arena, Constants, Stop, Value, truth};
 
 /// `bool` of one value.
 fn truth_of<C: Constants>(arena: &Arena, consts: &C, v: Value) -> Result<Value, Stop>

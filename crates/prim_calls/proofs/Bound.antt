@@ -8,9 +8,9 @@ use Rattle.std.proofs.lemmas.List.Elements.{All-append, All-map, All-replicate}
 use Rattle.mpy_base.specs.Val.{Val, PlainWorld}
 use Rattle.prim_types.specs.py_values.Shown.{PlainHeap, shown}
 use Rattle.prim_types.specs.py_primitives.Faults as plain
-use Rattle.py_effects.specs.Effect.{Effect, does, faults}
-use Rattle.py_effects.specs.Names.{Locals}
-use Rattle.py_effects.specs.Calling.{Keys, first_slots, with_keys, default_items, last_slots, empty_slots, complete, all_filled, bound}
+use Rattle.prim_outputs.specs.py_effects.Effect.{Effect, does, faults}
+use Rattle.prim_outputs.specs.py_effects.Names.{Locals}
+use Rattle.prim_outputs.specs.py_effects.Calling.{Keys, first_slots, with_keys, default_items, last_slots, empty_slots, complete, all_filled, bound}
 use Rattle.prim_calls.specs.Slots.{first_values, count_empty}
 use Rattle.prim_calls.specs.Binding.{bound_answer}
 

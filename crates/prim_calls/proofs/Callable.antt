@@ -13,8 +13,8 @@ use Rattle.prim_methods.specs.arena_heap.Values.{ArenaObject, Leads}
 use Rattle.prim_methods.specs.arena_objects.Iterables.{or_nothing}
 use Rattle.prim_types.specs.py_values.Names.{type_name}
 use Rattle.prim_types.specs.py_primitives.Faults.{NotCallable}
-use Rattle.py_effects.specs.Effect.{faults}
-use Rattle.py_effects.specs.Calling.{Callee, Acts, callee_object, callee_of}
+use Rattle.prim_outputs.specs.py_effects.Effect.{faults}
+use Rattle.prim_outputs.specs.py_effects.Calling.{Callee, Acts, callee_object, callee_of}
 use Rattle.prim_methods.specs.prim_walks.Plain.{plain, plain_by, plain_object, plain_heap, fixed_of, fixed_within}
 use Rattle.prim_methods.proofs.prim_walks_lemmas.PlainValues.{object_plain, within_step}
 use Rattle.prim_methods.specs.prim_faults.Sights.{world_over}

@@ -11,8 +11,8 @@ use Rattle.mpy_base.specs.World.{Heap}
 use Rattle.mpy_base.specs.Val.{Val}
 use Rattle.prim_methods.specs.arena_objects.Iterables.{items_in}
 use Rattle.prim_types.specs.py_values.Shown.{Shown}
-use Rattle.py_effects.specs.Names.{Locals}
-use Rattle.py_effects.specs.Calling.{default_items, or_default, with_defaults, last_slots}
+use Rattle.prim_outputs.specs.py_effects.Names.{Locals}
+use Rattle.prim_outputs.specs.py_effects.Calling.{default_items, or_default, with_defaults, last_slots}
 use Rattle.prim_methods.specs.prim_walks.declared.look.Look.{Look}
 use Rattle.prim_methods.specs.prim_walks.declared.look.Look.TheVariants as looks
 use Rattle.prim_methods.specs.prim_walks.Plain.{plain}

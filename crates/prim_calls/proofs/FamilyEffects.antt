@@ -5,8 +5,8 @@ use Rattle.mpy_base.specs.declared.builtin.Builtin.TheVariants as builtins
 use Rattle.mpy_base.specs.Val.{Val, PlainWorld}
 use Rattle.prim_types.specs.py_primitives.Calls.{call}
 use Rattle.prim_types.specs.py_primitives.Output.{call_port}
-use Rattle.py_effects.specs.Effect.{on_heap}
-use Rattle.py_effects.specs.Calling.{on_ports, call_builtin}
+use Rattle.prim_outputs.specs.py_effects.Effect.{on_heap}
+use Rattle.prim_outputs.specs.py_effects.Calling.{on_ports, call_builtin}
 use Rattle.prim_calls.specs.Families.{IsOnHeap, IsOfPorts}
 
 pub on_heap_effect : (w : PlainWorld) (b : Builtin) (args : List Val) (keys : List (Val × Val)) → IsOnHeap b → call_builtin w b args keys ≡ on_heap w (call w.heap b args keys)

@@ -11,7 +11,7 @@ use Rattle.prim_types.specs.py_primitives.Outcome.{Outcome, Stop, raises, making
 use Rattle.prim_types.specs.py_primitives.Iterables.{items_in}
 use Rattle.prim_types.specs.py_primitives.Calls as calls
 use Rattle.prim_types.specs.py_primitives.Calls.{counts_of, count_fault, of_number, call_len, call_abs, range_of, call_range, gives_numeral, signed_number, trimmed, int_of, ord_of, character, instance_of, call_isinstance, called}
-use Rattle.py_effects.specs.Calling.{written, call_builtin}
+use Rattle.prim_outputs.specs.py_effects.Calling.{written, call_builtin}
 use Rattle.prim_calls.proofs.FreeOutcomes.{either_free, unless_free, number_free, gives_free, making_free, text_free, exception_free}
 
 len_free : (heap : PlainHeap) (v : Val) (items : Option (List Val)) → (call_len heap v items).visits ≡ 0

@@ -16,8 +16,8 @@ use Rattle.prim_methods.specs.arena_objects.Iterables.{or_nothing}
 use Rattle.prim_types.specs.py_values.Shown.{Shown, Text, shown}
 use Rattle.prim_types.specs.py_primitives.Faults as plain
 use Rattle.prim_types.specs.py_primitives.Methods.{str_in}
-use Rattle.py_effects.specs.Names.{Locals}
-use Rattle.py_effects.specs.Calling.{filled, into_slot, one_key}
+use Rattle.prim_outputs.specs.py_effects.Names.{Locals}
+use Rattle.prim_outputs.specs.py_effects.Calling.{filled, into_slot, one_key}
 use Rattle.prim_methods.specs.prim_walks.Plain.{plain as plain_value, plain_by, plain_heap, fixed_within}
 use Rattle.prim_methods.proofs.prim_walks_lemmas.PlainValues.{within_step, shown_fixed}
 use Rattle.prim_calls.specs.Binding.{plain_slot, plain_slots}

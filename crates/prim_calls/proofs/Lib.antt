@@ -1,3 +1,4 @@
+pub use Rattle.prim_outputs.proofs as prim_outputs_lemmas
 pub mod Bound
 pub mod BuiltinNames
 pub mod CallFamilies

@@ -9,8 +9,8 @@ use Rattle.prim_methods.specs.arena_heap.declared.value.ConstNo.{ConstNo}
 use Rattle.prim_methods.specs.arena_objects.Iterables.{or_nothing}
 use Rattle.prim_types.specs.py_primitives.Faults as plain
 use Rattle.prim_types.specs.py_primitives.Outcome.{Stop, Raises}
-use Rattle.py_effects.specs.Effect.{Effect}
-use Rattle.py_effects.specs.Names.{Locals}
+use Rattle.prim_outputs.specs.py_effects.Effect.{Effect}
+use Rattle.prim_outputs.specs.py_effects.Names.{Locals}
 use Rattle.prim_methods.specs.prim_walks.Plain.{plain as plain_value}
 use Rattle.prim_methods.specs.prim_faults.declared.fault.Fault.{Fault}
 use Rattle.prim_methods.specs.prim_faults.Faults.{plain_fault, IsKnown, IsKnownFault}

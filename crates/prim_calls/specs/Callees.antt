@@ -8,8 +8,8 @@ use Rattle.prim_methods.specs.arena_heap.declared.value.StrNo.{StrNo}
 use Rattle.prim_methods.specs.arena_heap.declared.value.ConstNo.{ConstNo}
 use Rattle.prim_methods.specs.arena_heap.Values.{ArenaObject, IsDefaults, IsMethodOf}
 use Rattle.prim_types.specs.py_primitives.Faults.{NotCallable}
-use Rattle.py_effects.specs.Effect.{faults}
-use Rattle.py_effects.specs.Calling as plain
+use Rattle.prim_outputs.specs.py_effects.Effect.{faults}
+use Rattle.prim_outputs.specs.py_effects.Calling as plain
 use Rattle.prim_methods.specs.prim_walks.Plain.{plain as plain_value, plain_name}
 use Rattle.prim_methods.specs.prim_faults.Faults.{IsKnown}
 use Rattle.prim_methods.specs.prim_faults.Types.{type_text}

@@ -1,3 +1,4 @@
+pub use Rattle.prim_outputs.specs as prim_outputs
 pub mod Binding
 pub mod Callees
 pub mod Calls

@@ -2,7 +2,7 @@
 
 ghost use Rattle.std.specs.Prelude.{◌≡◌, ◌-◌, ◌<◌, ◌^◌, length, map, Ok};
 ghost use Rattle.prim_types.specs.py_values.Shown.{shown};
-ghost use Rattle.py_effects.specs.Calling.{all_filled, bound, bind as bind_of, default_items};
+ghost use Rattle.prim_outputs.specs.py_effects.Calling.{all_filled, bound, bind as bind_of, default_items};
 ghost use Rattle.prim_methods.specs.prim_faults.Sights.{under, sight, TellsAll, Knows, KnowsAll, KnowsPairs};
 ghost use Rattle.prim_calls.specs.Binding.{name_text, plain_slots, AreKnown, IsBound, IsKnownBound, plain_bound};
 
@@ -10,7 +10,7 @@ use crate::defaults::put_defaults;
 use crate::keywords::put_keywords;
 use crate::slots::{empty_slots, put_arguments};
 use arena_heap::{Arena, Constants, StrNo, Value};
-use prim_faults::Fault;
+use prim_builtins::Fault;
 
 /// The parameters of a function: their names, for how many of the last its code has defaults, and the function's defaults.
 #[derive(Clone, Copy)]

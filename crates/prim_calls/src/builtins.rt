@@ -11,10 +11,9 @@ ghost use Rattle.prim_calls.specs.Families.{IsOnHeap, IsUnbound};
 use arena_heap::{Arena, Constants, Value};
 use mpy_base::Builtin;
 use prim_builtins::{
-    call_abs, call_bool, call_chr, call_len, call_ord, call_range, only_between, only_so_many,
+    Stop, call_abs, call_bool, call_chr, call_len, call_ord, call_range, only_between, only_so_many,
 };
 use prim_collections::{call_list, call_max, call_min, call_tuple};
-use prim_faults::Stop;
 use prim_types::{call_dict, call_int, call_isinstance, call_kind, call_repr, call_str};
 
 /// A built-in that only judges how many arguments it is given.

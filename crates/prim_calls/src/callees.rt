@@ -3,13 +3,13 @@
 ghost use Rattle.std.specs.Prelude.{◌≡◌};
 ghost use Rattle.mpy_base.specs.World.{AFunction, IsA, object};
 ghost use Rattle.mpy_base.specs.Val.{PlainWorld};
-ghost use Rattle.py_effects.specs.Calling.{callee_of as callee_in};
+ghost use Rattle.prim_outputs.specs.py_effects.Calling.{callee_of as callee_in};
 ghost use Rattle.prim_methods.specs.prim_faults.Sights.{under, sight, TellsAll, Knows, world_over};
 ghost use Rattle.prim_calls.specs.Callees.{HasParts, plain_callee, IsKnownFunction, IsKnownCallee};
 
 use arena_heap::{Arena, Constants, DictNo, FunNo, MethodNo, Value, fun_parts, method_parts};
 use mpy_base::Builtin;
-use prim_faults::{ValueType, type_of};
+use prim_builtins::{ValueType, type_of};
 
 /// A function of the program: the numbers of its module's name and of its code, its namespace and its defaults.
 #[derive(Clone, Copy, Debug, PartialEq, Eq)]

@@ -12,7 +12,7 @@ use arena_heap::{Arena, Constants, Value};
 use mpy_base::Builtin;
 use mpy_io::{Failed, Port, Sink};
 use port_set::PortSet;
-use prim_faults::{Fault, Stop, ValueType};
+use prim_builtins::{Fault, Stop, ValueType};
 use prim_outputs::{PrintStop, call_port_count, call_port_get, call_port_put, call_print};
 
 /// Why a call of a built-in gives no value.

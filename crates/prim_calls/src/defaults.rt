@@ -3,7 +3,7 @@
 ghost use Rattle.std.specs.Prelude.{◌≡◌, ◌<◌, ◌≤◌, ◌^◌, length, IfSome, slice_get};
 ghost use Rattle.std.specs.Option.{option_or};
 ghost use Rattle.prim_types.specs.py_values.Shown.{shown};
-ghost use Rattle.py_effects.specs.Calling.{default_items, last_slots};
+ghost use Rattle.prim_outputs.specs.py_effects.Calling.{default_items, last_slots};
 ghost use Rattle.prim_methods.specs.prim_faults.Sights.{under, sight, TellsAll, Knows};
 ghost use Rattle.prim_calls.specs.Binding.{plain_slot, plain_slots, AreKnown};
 

@@ -5,14 +5,14 @@ ghost use Rattle.prim_methods.specs.arena_heap.Values.{IsStr};
 ghost use Rattle.prim_methods.specs.arena_objects.Iterables.{spelled};
 ghost use Rattle.prim_types.specs.py_values.Shown.{shown};
 ghost use Rattle.prim_types.specs.py_primitives.Methods.{str_in};
-ghost use Rattle.py_effects.specs.Calling.{filled, one_key, with_keys};
+ghost use Rattle.prim_outputs.specs.py_effects.Calling.{filled, one_key, with_keys};
 ghost use Rattle.prim_methods.specs.prim_faults.Sights.{under, sight, Knows, KnowsPairs, KnowsStr};
 ghost use Rattle.prim_calls.specs.Binding.{name_text, plain_slots, AreKnown, plain_bound, IsKnownBound};
 
 use crate::slots::slot_at;
 use arena_heap::{Arena, Constants, StrNo, Value};
 use arena_objects::text_bytes;
-use prim_faults::{Fault, name_bytes};
+use prim_builtins::{Fault, name_bytes};
 
 /// Whether a parameter has this name.
 fn is_named<C: Constants>(consts: &C, param: StrNo, name: &[u8]) -> bool

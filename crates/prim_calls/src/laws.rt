@@ -9,8 +9,8 @@ ghost use Rattle.prim_types.specs.py_primitives.Faults.{NotCallable};
 ghost use Rattle.prim_types.specs.py_primitives.Outcome.{raises};
 ghost use Rattle.prim_types.specs.py_primitives.Calls.{call};
 ghost use Rattle.prim_types.specs.py_primitives.Output.{printed, call_port};
-ghost use Rattle.py_effects.specs.Effect.{on_heap};
-ghost use Rattle.py_effects.specs.Calling.{prints, on_ports, call_builtin};
+ghost use Rattle.prim_outputs.specs.py_effects.Effect.{on_heap};
+ghost use Rattle.prim_outputs.specs.py_effects.Calling.{prints, on_ports, call_builtin};
 ghost use Rattle.prim_calls.specs.Families.{IsOnHeap, IsOfPorts};
 
 /// The effect of a call of a built-in is that of its family: what `IsCall` tells of the arena, the output and the ports.

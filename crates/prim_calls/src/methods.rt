@@ -7,7 +7,7 @@ ghost use Rattle.prim_methods.specs.prim_faults.Sights.{TellsAll, Knows, KnowsAl
 
 use arena_heap::{Arena, Constants, Value};
 use mpy_base::Builtin;
-use prim_faults::Stop;
+use prim_builtins::Stop;
 use prim_methods::{
     call_dict_get, call_dict_items, call_dict_keys, call_dict_pop, call_dict_values,
     call_list_append, call_list_extend, call_list_insert, call_list_pop,

@@ -4,7 +4,7 @@ ghost use Rattle.std.specs.Prelude.{◌≡◌, ◌<◌, ◌^◌, length, map, mi
 ghost use Rattle.mpy_base.specs.Val.{PlainWorld};
 ghost use Rattle.prim_methods.specs.arena_heap.Values.{IsMethodOf};
 ghost use Rattle.prim_types.specs.py_primitives.Methods.{call_method as call_method_in};
-ghost use Rattle.py_effects.specs.Calling.{call_builtin as call_builtin_in};
+ghost use Rattle.prim_outputs.specs.py_effects.Calling.{call_builtin as call_builtin_in};
 ghost use Rattle.prim_methods.specs.prim_faults.Sights.{sight, TellsAll, Knows, KnowsAll, KnowsPairs, CountsUpTo, world_over};
 
 use arena_heap::{Arena, Constants, Value};

@@ -5,9 +5,9 @@ use Rattle.prim_builtins.specs.arena_heap.declared.value.Value.{Value}
 use Rattle.prim_builtins.specs.arena_heap.declared.value.Value.TheVariants as values
 use Rattle.prim_builtins.specs.arena_heap.declared.value.StrNo.{StrNo}
 use Rattle.prim_builtins.specs.arena_heap.declared.value.ConstNo.{ConstNo}
-use Rattle.mpy_base.specs.declared.builtin.Builtin.TheVariants as builtins
-use Rattle.mpy_base.specs.World.{Heap}
-use Rattle.mpy_base.specs.Val.{Val, Str}
+use Rattle.prim_builtins.specs.mpy_base.declared.builtin.Builtin.TheVariants as builtins
+use Rattle.prim_builtins.specs.mpy_base.World.{Heap}
+use Rattle.prim_builtins.specs.mpy_base.Val.{Val, Str}
 use Rattle.prim_builtins.specs.arena_heap.Values.{Leads, IsStr}
 use Rattle.prim_builtins.specs.arena_objects.Keys.{AllTold}
 use Rattle.prim_builtins.specs.arena_objects.Iterables.{items_in as arena_items, spelled}

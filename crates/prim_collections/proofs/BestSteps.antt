@@ -5,7 +5,7 @@ use Rattle.std.specs.declared.cmp.Ordering.{Ordering}
 use Rattle.std.proofs.lemmas.List.{drop_all}
 use Rattle.prim_builtins.specs.arena_heap.declared.value.Value.{Value}
 use Rattle.prim_builtins.specs.arena_heap.declared.value.Value.TheVariants as values
-use Rattle.mpy_base.specs.Val.{Val}
+use Rattle.prim_builtins.specs.mpy_base.Val.{Val}
 use Rattle.prim_builtins.specs.py_values.Shown.{PlainHeap}
 use Rattle.prim_builtins.specs.py_values.Equality.{Walk, answers, visit}
 use Rattle.prim_builtins.specs.py_primitives.Walks.{go_on}

@@ -7,10 +7,10 @@ use Rattle.prim_builtins.specs.arena_heap.declared.value.Value.{Value}
 use Rattle.prim_builtins.specs.arena_heap.declared.value.Value.TheVariants as values
 use Rattle.prim_builtins.specs.arena_heap.declared.value.StrNo.{StrNo}
 use Rattle.prim_builtins.specs.arena_heap.declared.value.ConstNo.{ConstNo}
-use Rattle.mpy_base.specs.declared.room.NoRoom.{NoRoom}
-use Rattle.mpy_base.specs.World.{Object, ListObject, TupleObject, TextObject, DictObject, RangeObject, FunctionObject, ExceptionObject, MethodObject, ModuleObject, Heap, ObjectKind, AList, ATuple, AText, ADict, ARange, AFunction, AnException, AMethod, AModule, object, kind_of}
-use Rattle.mpy_base.specs.Weights.{used, does_fit, Fits, Made, Refused, cells_of, bytes_of, with_made}
-use Rattle.mpy_base.specs.Val.{Val, Int, At}
+use Rattle.prim_builtins.specs.mpy_base.declared.room.NoRoom.{NoRoom}
+use Rattle.prim_builtins.specs.mpy_base.World.{Object, ListObject, TupleObject, TextObject, DictObject, RangeObject, FunctionObject, ExceptionObject, MethodObject, ModuleObject, Heap, ObjectKind, AList, ATuple, AText, ADict, ARange, AFunction, AnException, AMethod, AModule, object, kind_of}
+use Rattle.prim_builtins.specs.mpy_base.Weights.{used, does_fit, Fits, Made, Refused, cells_of, bytes_of, with_made}
+use Rattle.prim_builtins.specs.mpy_base.Val.{Val, Int, At}
 use Rattle.prim_builtins.specs.arena_heap.Values.{ArenaObject, Leads, IsStr}
 use Rattle.prim_builtins.specs.arena_objects.Iterables as arena
 use Rattle.prim_builtins.specs.arena_objects.Iterables.{given, spelled, or_nothing, with_texts, texts_from, TextRefused}

@@ -8,12 +8,12 @@ use Rattle.prim_builtins.specs.arena_heap.declared.value.Value.TheVariants as va
 use Rattle.prim_builtins.specs.arena_heap.declared.value.ListNo.{ListNo}
 use Rattle.prim_builtins.specs.arena_heap.declared.value.StrNo.{StrNo}
 use Rattle.prim_builtins.specs.arena_heap.declared.value.ConstNo.{ConstNo}
-use Rattle.mpy_base.specs.declared.room.NoRoom.{NoRoom}
-use Rattle.mpy_base.specs.World.{ListObject, Heap, Later, object, items_of, items_at, room_of, room_at, text_of, with_list, with_object}
-use Rattle.mpy_base.specs.Weights.{used, Fits, Made, Refused, room_for, list_growth, with_used, with_list_room}
-use Rattle.mpy_base.specs.Val.{Val, At}
-use Rattle.mpy_base.proofs.Rooms.{room_is}
-use Rattle.mpy_base.proofs.Worlds.{object_before, object_made, used_made}
+use Rattle.prim_builtins.specs.mpy_base.declared.room.NoRoom.{NoRoom}
+use Rattle.prim_builtins.specs.mpy_base.World.{ListObject, Heap, Later, object, items_of, items_at, room_of, room_at, text_of, with_list, with_object}
+use Rattle.prim_builtins.specs.mpy_base.Weights.{used, Fits, Made, Refused, room_for, list_growth, with_used, with_list_room}
+use Rattle.prim_builtins.specs.mpy_base.Val.{Val, At}
+use Rattle.prim_builtins.proofs.mpy_base_lemmas.Rooms.{room_is}
+use Rattle.prim_builtins.proofs.mpy_base_lemmas.Worlds.{object_before, object_made, used_made}
 use Rattle.prim_builtins.specs.arena_heap.Values.{ArenaObject, Leads}
 use Rattle.prim_builtins.specs.arena_objects.Keys.{AllTold}
 use Rattle.prim_builtins.specs.arena_objects.Iterables.{given, items_in as arena_items, spelled, with_texts, texts_from, extended, extended_length, TextRefused, NotExtended}

@@ -6,11 +6,11 @@ use Rattle.prim_builtins.specs.arena_heap.declared.value.Value.TheVariants as va
 use Rattle.prim_builtins.specs.arena_heap.declared.value.TupleNo.{TupleNo}
 use Rattle.prim_builtins.specs.arena_heap.declared.value.StrNo.{StrNo}
 use Rattle.prim_builtins.specs.arena_heap.declared.value.ConstNo.{ConstNo}
-use Rattle.mpy_base.specs.declared.room.NoRoom.{NoRoom}
-use Rattle.mpy_base.specs.World.{TupleObject, Heap, ObjectKind, IsA, Later, items_of, items_at, with_tuple}
-use Rattle.mpy_base.specs.Weights.{used, Fits, Made, Refused, cells_of}
-use Rattle.mpy_base.specs.Val.{Val, Nil, Empty, At}
-use Rattle.mpy_base.proofs.Worlds.{is_within, later_later, later_made, object_made, used_made}
+use Rattle.prim_builtins.specs.mpy_base.declared.room.NoRoom.{NoRoom}
+use Rattle.prim_builtins.specs.mpy_base.World.{TupleObject, Heap, ObjectKind, IsA, Later, items_of, items_at, with_tuple}
+use Rattle.prim_builtins.specs.mpy_base.Weights.{used, Fits, Made, Refused, cells_of}
+use Rattle.prim_builtins.specs.mpy_base.Val.{Val, Nil, Empty, At}
+use Rattle.prim_builtins.proofs.mpy_base_lemmas.Worlds.{is_within, later_later, later_made, object_made, used_made}
 use Rattle.prim_builtins.specs.arena_heap.Values.{ArenaObject, Leads}
 use Rattle.prim_builtins.specs.arena_objects.Keys.{AllTold}
 use Rattle.prim_builtins.specs.arena_objects.Iterables.{items_in as arena_items, spelled, with_texts, texts_from, TextRefused}

@@ -6,7 +6,7 @@ use Rattle.prim_builtins.specs.arena_heap.declared.value.Value.{Value}
 use Rattle.prim_builtins.specs.arena_heap.declared.value.Value.TheVariants as values
 use Rattle.prim_builtins.specs.arena_heap.declared.value.StrNo.{StrNo}
 use Rattle.prim_builtins.specs.arena_heap.declared.value.ConstNo.{ConstNo}
-use Rattle.mpy_base.specs.World.{TupleObject, Heap, Objects, ATuple, AText, IsA, Later, object, kind_of, items_of, items_at, with_object, with_tuple}
+use Rattle.prim_builtins.specs.mpy_base.World.{TupleObject, Heap, Objects, ATuple, AText, IsA, Later, object, kind_of, items_of, items_at, with_object, with_tuple}
 use Rattle.prim_builtins.specs.arena_heap.Values.{ArenaObject}
 use Rattle.prim_builtins.specs.arena_objects.Iterables.{given, items_in, spelled, texts_from}
 use Rattle.prim_builtins.specs.prim_operators.Sources.{IsElsewhere}

@@ -5,10 +5,10 @@ use Rattle.std.proofs.lemmas.List.FromFn.{length-map-range_with_len}
 use Rattle.prim_builtins.specs.arena_heap.declared.value.Value.{Value}
 use Rattle.prim_builtins.specs.arena_heap.declared.value.StrNo.{StrNo}
 use Rattle.prim_builtins.specs.arena_heap.declared.value.ConstNo.{ConstNo}
-use Rattle.mpy_base.specs.declared.builtin.Builtin.TheVariants as builtins
-use Rattle.mpy_base.specs.World.{Object, ListObject, TupleObject, TextObject, Heap}
-use Rattle.mpy_base.specs.Weights.{does_fit, cells_of, bytes_of, used, with_made, room_for}
-use Rattle.mpy_base.specs.Val.{Val, Nil, Int, At}
+use Rattle.prim_builtins.specs.mpy_base.declared.builtin.Builtin.TheVariants as builtins
+use Rattle.prim_builtins.specs.mpy_base.World.{Object, ListObject, TupleObject, TextObject, Heap}
+use Rattle.prim_builtins.specs.mpy_base.Weights.{does_fit, cells_of, bytes_of, used, with_made, room_for}
+use Rattle.prim_builtins.specs.mpy_base.Val.{Val, Nil, Int, At}
 use Rattle.prim_builtins.specs.py_values.Shown.{PlainHeap, Shown, Text, Tuple, Items, Pairs, Range, range_len, shown}
 use Rattle.prim_builtins.specs.py_primitives.Outcome.{Outcome, Stop, gives, is_full, go_on_with, followed_by, making, making_text, making_texts, list_of, tuple_of}
 use Rattle.prim_builtins.specs.py_primitives.Iterables.{letter, shown_items, shown_length, over_items, iterating, kept_items, range_number, range_numbers, length_of}

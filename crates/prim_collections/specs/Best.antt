@@ -1,9 +1,9 @@
 -- The best of values, and the values that are compared.
 use Rattle.std.specs.Prelude.{ℕ, ◌^◌, ◌<◌, List, [], ◌∷◌, length, All, Option, Result, Ok, Err}
-use Rattle.mpy_base.specs.declared.builtin.Builtin.{Builtin}
-use Rattle.mpy_base.specs.declared.builtin.Builtin.TheVariants as builtins
-use Rattle.mpy_base.specs.World.{Heap, Objects}
-use Rattle.mpy_base.specs.Val.{Val, Nil}
+use Rattle.prim_builtins.specs.mpy_base.declared.builtin.Builtin.{Builtin}
+use Rattle.prim_builtins.specs.mpy_base.declared.builtin.Builtin.TheVariants as builtins
+use Rattle.prim_builtins.specs.mpy_base.World.{Heap, Objects}
+use Rattle.prim_builtins.specs.mpy_base.Val.{Val, Nil}
 use Rattle.prim_builtins.specs.arena_heap.declared.value.Value.{Value}
 use Rattle.prim_builtins.specs.arena_heap.declared.value.StrNo.{StrNo}
 use Rattle.prim_builtins.specs.arena_heap.declared.value.ConstNo.{ConstNo}

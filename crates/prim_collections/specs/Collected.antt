@@ -1,6 +1,6 @@
 -- Iterables of an arena, and what is kept of their items.
 use Rattle.std.specs.Prelude.{◌≡◌, ℕ, ◌+◌, ◌*◌, ◌<◌, List, [], ◌∷◌, length, Bool, true, false, Option, Some, None, if◌then◌else◌}
-use Rattle.mpy_base.specs.World.{Heap, Objects, AText, IsA}
+use Rattle.prim_builtins.specs.mpy_base.World.{Heap, Objects, AText, IsA}
 use Rattle.prim_builtins.specs.arena_heap.declared.value.Value.{Value}
 use Rattle.prim_builtins.specs.arena_heap.declared.value.Value.TheVariants as values
 use Rattle.prim_builtins.specs.arena_heap.declared.value.StrNo.{StrNo}

@@ -6,8 +6,7 @@ ghost use Rattle.prim_builtins.specs.Arguments.{IsRefusal};
 ghost use Rattle.prim_collections.specs.Collected.{AreOptional};
 
 use arena_heap::Value;
-use prim_builtins::only_between;
-use prim_faults::Fault;
+use prim_builtins::{Fault, only_between};
 
 /// The only argument, where there is one.
 pub(crate) fn optional_argument(

@@ -1,7 +1,7 @@
 //! `min` and `max`.
 
 ghost use Rattle.std.specs.Prelude.{◌≡◌, ◌<◌, ◌^◌, true, length, map};
-ghost use Rattle.mpy_base.specs.declared.builtin.Builtin.TheVariants as builtins;
+ghost use Rattle.prim_builtins.specs.mpy_base.declared.builtin.Builtin.TheVariants as builtins;
 ghost use Rattle.prim_builtins.specs.arena_heap.Values.{Leads};
 ghost use Rattle.prim_builtins.specs.py_values.Shown.{shown};
 ghost use Rattle.prim_builtins.specs.py_primitives.Outcome.{gives};
@@ -19,9 +19,7 @@ use crate::iterables::{is_iterable, is_str};
 use crate::letters::spelled_bytes;
 use crate::searches::best;
 use arena_heap::{Arena, Constants, Value};
-use prim_builtins::letter;
-use prim_faults::{Fault, Stop, type_of};
-use prim_operators::items_law;
+use prim_builtins::{Fault, Stop, items_law, letter, type_of};
 
 /// The best of values, which is one of them.
 fn best_value<C: Constants>(

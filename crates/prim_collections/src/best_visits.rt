@@ -1,7 +1,7 @@
 //! How many visits `min` and `max` make.
 
 ghost use Rattle.std.specs.Prelude.{◌≡◌, ◌<◌, ◌^◌, true, length, map};
-ghost use Rattle.mpy_base.specs.declared.builtin.Builtin.TheVariants as builtins;
+ghost use Rattle.prim_builtins.specs.mpy_base.declared.builtin.Builtin.TheVariants as builtins;
 ghost use Rattle.prim_builtins.specs.arena_heap.Values.{Leads};
 ghost use Rattle.prim_builtins.specs.py_values.Shown.{shown};
 ghost use Rattle.prim_builtins.specs.py_primitives.Outcome.{gives};
@@ -17,7 +17,7 @@ use crate::extreme::Extreme;
 use crate::iterables::{is_iterable, is_str, kept_count};
 use crate::searches::visits_best;
 use arena_heap::{Arena, Constants, Value};
-use prim_operators::items_law;
+use prim_builtins::items_law;
 
 fn visits_best_value<C: Constants>(
     arena: &Arena,

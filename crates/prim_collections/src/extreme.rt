@@ -6,7 +6,7 @@ ghost use Rattle.prim_builtins.specs.py_primitives.Operators.{sign_method};
 ghost use Rattle.prim_builtins.specs.prim_faults.Faults.{method_text};
 ghost use Rattle.prim_collections.specs.Best.{plain_extreme};
 
-use prim_faults::SpecialMethod;
+use prim_builtins::SpecialMethod;
 use std::cmp::Ordering;
 
 /// Which of some values is the best one.

@@ -1,7 +1,7 @@
 //! `list`.
 
 ghost use Rattle.std.specs.Prelude.{◌≡◌, ◌<◌, ◌^◌, true, [], length};
-ghost use Rattle.mpy_base.specs.declared.builtin.Builtin.TheVariants as builtins;
+ghost use Rattle.prim_builtins.specs.mpy_base.declared.builtin.Builtin.TheVariants as builtins;
 ghost use Rattle.prim_builtins.specs.arena_heap.Values.{Leads};
 ghost use Rattle.prim_builtins.specs.py_primitives.Outcome.{making_list};
 ghost use Rattle.prim_builtins.specs.py_primitives.Iterables.{iterating};
@@ -13,8 +13,7 @@ use crate::arguments::optional_argument;
 use crate::iterables::{is_iterable, kept_count};
 use arena_heap::{Arena, Constants, Value};
 use arena_objects::list_extend;
-use prim_faults::{Fault, Stop, type_of};
-use prim_operators::{items_law, length_of};
+use prim_builtins::{Fault, Stop, items_law, length_of, type_of};
 
 fn empty_list<C: Constants>(arena: &mut Arena, _consts: &C) -> Result<Value, Stop>
     requires all_told { TellsAll C.Constants _consts.now arena.old }

@@ -1,8 +1,8 @@
 //! `tuple`.
 
 ghost use Rattle.std.specs.Prelude.{◌≡◌, ◌<◌, ◌^◌, true, length, slice_index_or};
-ghost use Rattle.mpy_base.specs.declared.builtin.Builtin.TheVariants as builtins;
-ghost use Rattle.mpy_base.specs.World.{ATuple, IsA, Later, items_at, with_tuple};
+ghost use Rattle.prim_builtins.specs.mpy_base.declared.builtin.Builtin.TheVariants as builtins;
+ghost use Rattle.prim_builtins.specs.mpy_base.World.{ATuple, IsA, Later, items_at, with_tuple};
 ghost use Rattle.prim_builtins.specs.arena_heap.Values.{Leads};
 ghost use Rattle.prim_builtins.specs.py_primitives.Iterables.{iterating};
 ghost use Rattle.prim_builtins.specs.py_primitives.Calls.{tuple_shown, tuple_from as tuple_from_items};
@@ -15,8 +15,7 @@ use crate::arguments::optional_argument;
 use crate::iterables::{is_iterable, is_str, is_tuple, kept_count};
 use arena_heap::{Arena, Constants, TextNo, TupleNo, Value, tuple_fill};
 use arena_objects::{item_at, make_texts};
-use prim_faults::{Fault, Stop, type_of};
-use prim_operators::{items_law, length_of};
+use prim_builtins::{Fault, Stop, items_law, length_of, type_of};
 
 /// What is kept of an item of an iterable. Those of a str are texts of two cells each, from the first.
 fn kept_item<C: Constants>(

@@ -6,8 +6,8 @@ use Rattle.prim_faults.specs.arena_heap.declared.value.StrNo.{StrNo}
 use Rattle.prim_faults.specs.arena_heap.declared.value.ConstNo.{ConstNo}
 use Rattle.prim_faults.specs.arena_heap.declared.value.DictNo.{DictNo}
 use Rattle.prim_faults.specs.prim_walks.Plain.{plain_pair}
-use Rattle.mpy_base.specs.World.{Heap, pairs_at}
-use Rattle.mpy_base.specs.Val.{Val, Truth}
+use Rattle.prim_faults.specs.mpy_base.World.{Heap, pairs_at}
+use Rattle.prim_faults.specs.mpy_base.Val.{Val, Truth}
 use Rattle.prim_faults.specs.py_values.Shown.{PlainHeap, Shown, Nothing, Number, Text, Tuple, Items, Pairs, Range, Other}
 use Rattle.prim_faults.specs.py_values.Keys.{key_of, value_of_key}
 use Rattle.prim_faults.specs.py_primitives.Outcome.{Outcome, gives, raises}

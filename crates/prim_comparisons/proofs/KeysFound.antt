@@ -8,8 +8,8 @@ use Rattle.prim_faults.specs.arena_heap.declared.value.Value.{Value}
 use Rattle.prim_faults.specs.arena_heap.declared.value.Value.TheVariants as values
 use Rattle.prim_faults.specs.arena_heap.declared.value.StrNo.{StrNo}
 use Rattle.prim_faults.specs.arena_heap.declared.value.ConstNo.{ConstNo}
-use Rattle.mpy_base.specs.World.{Heap, DictObject, ADict, IsA, object, kind_of, pairs_of, pairs_at}
-use Rattle.mpy_base.specs.Val.{Val}
+use Rattle.prim_faults.specs.mpy_base.World.{Heap, DictObject, ADict, IsA, object, kind_of, pairs_of, pairs_at}
+use Rattle.prim_faults.specs.mpy_base.Val.{Val}
 use Rattle.prim_faults.specs.arena_heap.Values.{ArenaObject, Leads, Sound, IsKey, IsFormed, held}
 use Rattle.prim_faults.specs.arena_heap.Constants.{IsTold}
 use Rattle.prim_faults.specs.arena_objects.Keys.{AllTold, Lacks, IsValueOf, key_of, key_in}

@@ -4,8 +4,8 @@ use Rattle.prim_faults.specs.arena_heap.declared.value.Value.{Value}
 use Rattle.prim_faults.specs.arena_heap.declared.value.Value.TheVariants as values
 use Rattle.prim_faults.specs.arena_heap.declared.value.StrNo.{StrNo}
 use Rattle.prim_faults.specs.arena_heap.declared.value.ConstNo.{ConstNo}
-use Rattle.mpy_base.specs.World.{Heap}
-use Rattle.mpy_base.specs.Val.{Val}
+use Rattle.prim_faults.specs.mpy_base.World.{Heap}
+use Rattle.prim_faults.specs.mpy_base.Val.{Val}
 use Rattle.prim_faults.specs.arena_objects.Iterables.{or_nothing}
 use Rattle.prim_faults.specs.py_values.Shown.{Shown, shown}
 use Rattle.prim_faults.specs.prim_walks.Plain.{plain, plain_by, plain_heap, fixed_within}

@@ -3,7 +3,7 @@ use Rattle.std.proofs.Common.{◌≡◌, ℤ, w32, to_z, of_z, Some, Ok, refl, a
 use Rattle.std.specs.Ordering.{int_cmp, int_eq}
 use Rattle.prim_faults.specs.arena_heap.Values.{IsSmall}
 use Rattle.prim_faults.proofs.arena_objects_lemmas.RangeNumbers.{small_same}
-use Rattle.mpy_base.specs.Val.{Val}
+use Rattle.prim_faults.specs.mpy_base.Val.{Val}
 use Rattle.prim_faults.specs.py_values.Shown.{PlainHeap, Number, shown}
 use Rattle.prim_faults.specs.py_values.Equality.{equal}
 use Rattle.prim_faults.specs.py_primitives.Order.{order}

@@ -1,7 +1,7 @@
 -- What comes behind a walk over an arena's values.
 use Rattle.std.proofs.Common.{◌≡◌, ℕ, List, Bool, Option, Some, None, Result, Ok, Err, refl, sym, ap, subst, arith}
-use Rattle.mpy_base.specs.World.{Heap}
-use Rattle.mpy_base.specs.Val.{Val, Truth}
+use Rattle.prim_faults.specs.mpy_base.World.{Heap}
+use Rattle.prim_faults.specs.mpy_base.Val.{Val, Truth}
 use Rattle.prim_faults.specs.arena_heap.declared.value.Value.{Value}
 use Rattle.prim_faults.specs.arena_heap.declared.value.Value.TheVariants as values
 use Rattle.prim_faults.specs.arena_heap.declared.value.StrNo.{StrNo}

@@ -1,6 +1,6 @@
 -- What comparisons see of their operands.
 use Rattle.std.specs.Prelude.{◌≡◌, ℕ, ℤ, Bool, false, List, Option}
-use Rattle.mpy_base.specs.World.{Heap}
+use Rattle.prim_faults.specs.mpy_base.World.{Heap}
 use Rattle.prim_faults.specs.arena_heap.declared.value.Value.{Value}
 use Rattle.prim_faults.specs.arena_heap.declared.value.StrNo.{StrNo}
 use Rattle.prim_faults.specs.arena_heap.declared.value.ConstNo.{ConstNo}

@@ -8,8 +8,7 @@ ghost use Rattle.prim_faults.specs.py_values.Equality.{equal as walk_of};
 ghost use Rattle.prim_faults.specs.Sights.{sight, Tells, TellsAll, Does, CountsUpTo};
 
 use arena_heap::{Arena, Constants, Value};
-use prim_faults::{Fault, Stop};
-use prim_walks::{equal, is_one, visits_equal};
+use prim_faults::{Fault, Stop, equal, is_one, visits_equal};
 
 fn is_same_number(m: i32, n: i32) -> bool
     ensures { result ≡ int_eq m n }

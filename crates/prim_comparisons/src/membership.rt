@@ -1,8 +1,8 @@
 //! Membership.
 
 ghost use Rattle.std.specs.Prelude.{map, is_some};
-ghost use Rattle.mpy_base.specs.World.{ADict, IsA, pairs_at};
-ghost use Rattle.mpy_base.specs.Val.{Truth};
+ghost use Rattle.prim_faults.specs.mpy_base.World.{ADict, IsA, pairs_at};
+ghost use Rattle.prim_faults.specs.mpy_base.Val.{Truth};
 ghost use Rattle.prim_faults.specs.arena_heap.Values.{Leads};
 ghost use Rattle.prim_faults.specs.arena_objects.Iterables.{items_in};
 ghost use Rattle.prim_faults.specs.py_values.Shown.{Text, shown};
@@ -15,9 +15,9 @@ use crate::faults::unsupported;
 use crate::parts::has_part;
 use crate::ranges::has_number;
 use arena_heap::{Arena, Constants, DictNo, Value};
-use arena_objects::dict_get;
-use prim_faults::{Fault, SpecialMethod, Stop, is_key, type_of};
-use prim_walks::{Look, contains, look_at, visits_contains};
+use prim_faults::{
+    Fault, Look, SpecialMethod, Stop, contains, dict_get, is_key, look_at, type_of, visits_contains,
+};
 
 /// Whether a list or tuple has an item that equals a value.
 fn has_item<C: Constants>(arena: &Arena, consts: &C, v: Value, over: Value) -> Result<Value, Stop>

@@ -11,8 +11,7 @@ ghost use Rattle.prim_comparisons.specs.Signs.{plain_sign};
 use crate::faults::unsupported;
 use crate::signs::Sign;
 use arena_heap::{Arena, Constants, Value};
-use prim_faults::{Fault, Stop};
-use prim_walks::{Unordered, order, visits_order};
+use prim_faults::{Fault, Stop, Unordered, order, visits_order};
 use std::cmp::Ordering;
 
 /// The order of two values, as `prim_walks::order` gives it. Two numbers take no walk.

@@ -7,7 +7,7 @@ ghost use Rattle.prim_faults.specs.py_primitives.Operators.{is_in_range as is_nu
 ghost use Rattle.prim_comparisons.specs.Operands.{DecidesNumber};
 
 use arena_heap::{Arena, Value};
-use arena_objects::{range_count, range_number};
+use prim_faults::{range_count, range_number};
 
 fn is_one_number(a: i32, b: i32) -> bool
     ensures { result ≡ int_eq a b }

@@ -5,9 +5,9 @@ use Rattle.std.proofs.lemmas.List.{map-append, map-set, length-map}
 use Rattle.prim_walks.specs.arena_heap.declared.value.Value.{Value}
 use Rattle.prim_walks.specs.arena_heap.declared.value.StrNo.{StrNo}
 use Rattle.prim_walks.specs.arena_heap.declared.value.ConstNo.{ConstNo}
-use Rattle.mpy_base.specs.World.{Object, ListObject, TupleObject, TextObject, DictObject, FunctionObject, ExceptionObject, MethodObject, RangeObject, ModuleObject, Heap, object, kind_of, items_of, items_at, room_of, room_at, pairs_of, pairs_at, with_object, with_list, with_dict}
-use Rattle.mpy_base.specs.Weights.{used, more_cells, bytes_of, with_made, does_fit, no_room}
-use Rattle.mpy_base.specs.Val.{Val}
+use Rattle.prim_walks.specs.mpy_base.World.{Object, ListObject, TupleObject, TextObject, DictObject, FunctionObject, ExceptionObject, MethodObject, RangeObject, ModuleObject, Heap, object, kind_of, items_of, items_at, room_of, room_at, pairs_of, pairs_at, with_object, with_list, with_dict}
+use Rattle.prim_walks.specs.mpy_base.Weights.{used, more_cells, bytes_of, with_made, does_fit, no_room}
+use Rattle.prim_walks.specs.mpy_base.Val.{Val}
 use Rattle.prim_walks.specs.arena_heap.Values.{ArenaObject}
 use Rattle.prim_walks.specs.Plain.{plain, plain_pair, plain_name, plain_object, plain_heap}
 use Rattle.prim_walks.proofs.PlainValues.{object_plain}

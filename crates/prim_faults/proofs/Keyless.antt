@@ -1,8 +1,8 @@
 -- Constant tuples are no keys.
 use Rattle.std.proofs.Common.{◌≡◌, ℕ, List, map, false, Option, sym, ap, ◌∙◌}
 use Rattle.std.specs.Prelude.{is_some}
-use Rattle.mpy_base.specs.World.{Heap}
-use Rattle.mpy_base.specs.Val.{Val}
+use Rattle.prim_walks.specs.mpy_base.World.{Heap}
+use Rattle.prim_walks.specs.mpy_base.Val.{Val}
 use Rattle.prim_walks.specs.arena_heap.declared.value.Value.{Value}
 use Rattle.prim_walks.specs.arena_heap.declared.value.Value.TheVariants as values
 use Rattle.prim_walks.specs.arena_heap.declared.value.StrNo.{StrNo}

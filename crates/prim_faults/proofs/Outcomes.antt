@@ -4,11 +4,11 @@ use Rattle.std.specs.List.{All}
 use Rattle.prim_walks.specs.arena_heap.declared.value.Value.{Value}
 use Rattle.prim_walks.specs.arena_heap.declared.value.StrNo.{StrNo}
 use Rattle.prim_walks.specs.arena_heap.declared.value.ConstNo.{ConstNo}
-use Rattle.mpy_base.specs.declared.room.NoRoom.{NoRoom}
-use Rattle.mpy_base.specs.World.{Object, Heap, Later}
-use Rattle.mpy_base.specs.Weights.{used, does_fit, Fits, Made, Refused, cells_of, bytes_of, with_made}
-use Rattle.mpy_base.specs.Val.{Val, At}
-use Rattle.mpy_base.proofs.Worlds.{later_made, later_same}
+use Rattle.prim_walks.specs.mpy_base.declared.room.NoRoom.{NoRoom}
+use Rattle.prim_walks.specs.mpy_base.World.{Object, Heap, Later}
+use Rattle.prim_walks.specs.mpy_base.Weights.{used, does_fit, Fits, Made, Refused, cells_of, bytes_of, with_made}
+use Rattle.prim_walks.specs.mpy_base.Val.{Val, At}
+use Rattle.prim_walks.proofs.mpy_base_lemmas.Worlds.{later_made, later_same}
 use Rattle.prim_walks.specs.arena_heap.Values.{ArenaObject, Leads, held}
 use Rattle.prim_walks.specs.arena_heap.Constants.{IsTold}
 use Rattle.prim_walks.specs.arena_objects.Keys.{AllTold}

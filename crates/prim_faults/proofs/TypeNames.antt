@@ -5,8 +5,8 @@ use Rattle.prim_walks.specs.arena_heap.declared.value.Value.{Value}
 use Rattle.prim_walks.specs.arena_heap.declared.value.Value.TheVariants as values
 use Rattle.prim_walks.specs.arena_heap.declared.value.StrNo.{StrNo}
 use Rattle.prim_walks.specs.arena_heap.declared.value.ConstNo.{ConstNo}
-use Rattle.mpy_base.specs.World.{Heap}
-use Rattle.mpy_base.specs.Val.{Val}
+use Rattle.prim_walks.specs.mpy_base.World.{Heap}
+use Rattle.prim_walks.specs.mpy_base.Val.{Val}
 use Rattle.prim_walks.specs.arena_objects.Iterables.{or_nothing}
 use Rattle.prim_walks.specs.py_values.Shown.{PlainHeap}
 use Rattle.prim_walks.specs.py_values.Names.{type_name}

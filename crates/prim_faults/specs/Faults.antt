@@ -1,7 +1,7 @@
 -- Faults of an arena as the meaning of programs has them.
 use Rattle.std.specs.Prelude.{◌≡◌, ◌≤◌, ℕ, List, [], length, take, Option, IsSome, codes}
-use Rattle.mpy_base.specs.declared.kind.Kind.{Kind}
-use Rattle.mpy_base.specs.World.{Heap, Objects}
+use Rattle.prim_walks.specs.mpy_base.declared.kind.Kind.{Kind}
+use Rattle.prim_walks.specs.mpy_base.World.{Heap, Objects}
 use Rattle.prim_walks.specs.arena_heap.declared.value.Value.{Value}
 use Rattle.prim_walks.specs.arena_heap.declared.value.StrNo.{StrNo}
 use Rattle.prim_walks.specs.arena_heap.declared.value.ConstNo.{ConstNo}

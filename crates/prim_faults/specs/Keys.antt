@@ -1,6 +1,6 @@
 -- Keys, whatever the constants are.
 use Rattle.std.specs.Prelude.{◌≡◌, ℕ, Bool, List, Option, is_some}
-use Rattle.mpy_base.specs.World.{Heap}
+use Rattle.prim_walks.specs.mpy_base.World.{Heap}
 use Rattle.prim_walks.specs.arena_heap.declared.value.Value.{Value}
 use Rattle.prim_walks.specs.arena_heap.declared.value.StrNo.{StrNo}
 use Rattle.prim_walks.specs.arena_heap.declared.value.ConstNo.{ConstNo}

@@ -1,7 +1,7 @@
 -- What a primitive's call answers, over an arena.
 use Rattle.std.specs.Prelude.{◌≡◌, ℕ, List, Option, Result, Ok, Err}
-use Rattle.mpy_base.specs.World.{Heap, Objects, Later}
-use Rattle.mpy_base.specs.Val.{Val}
+use Rattle.prim_walks.specs.mpy_base.World.{Heap, Objects, Later}
+use Rattle.prim_walks.specs.mpy_base.Val.{Val}
 use Rattle.prim_walks.specs.arena_heap.declared.value.Value.{Value}
 use Rattle.prim_walks.specs.arena_heap.declared.value.StrNo.{StrNo}
 use Rattle.prim_walks.specs.arena_heap.declared.value.ConstNo.{ConstNo}

@@ -1,9 +1,9 @@
 -- What an arena is under constants, which have the texts and tuples of its values: what the meaning of programs sees of it,
 -- and what a call does to it. In a clause `C.Constants consts.now` are the constants.
 use Rattle.std.specs.Prelude.{◌≡◌, ℕ, min, List, map, Option, Result, All}
-use Rattle.mpy_base.specs.World.{Heap}
-use Rattle.mpy_base.specs.declared.builtin.Builtin.{Builtin}
-use Rattle.mpy_base.specs.Val.{Val, PlainWorld}
+use Rattle.prim_walks.specs.mpy_base.World.{Heap}
+use Rattle.prim_walks.specs.mpy_base.declared.builtin.Builtin.{Builtin}
+use Rattle.prim_walks.specs.mpy_base.Val.{Val, PlainWorld}
 use Rattle.prim_walks.specs.arena_heap.declared.value.Value.{Value}
 use Rattle.prim_walks.specs.arena_heap.declared.value.StrNo.{StrNo}
 use Rattle.prim_walks.specs.arena_heap.declared.value.ConstNo.{ConstNo}

@@ -1,7 +1,7 @@
 -- The names of types.
 use Rattle.std.specs.Prelude.{◌≡◌, ℕ, List, codes, Option}
-use Rattle.mpy_base.specs.Kind.{kind_name}
-use Rattle.mpy_base.specs.World.{Heap}
+use Rattle.prim_walks.specs.mpy_base.Kind.{kind_name}
+use Rattle.prim_walks.specs.mpy_base.World.{Heap}
 use Rattle.prim_walks.specs.arena_heap.declared.value.Value.{Value}
 use Rattle.prim_walks.specs.arena_heap.declared.value.StrNo.{StrNo}
 use Rattle.prim_walks.specs.arena_heap.declared.value.ConstNo.{ConstNo}

@@ -2,8 +2,7 @@
 
 use crate::method::SpecialMethod;
 use crate::types::ValueType;
-use arena_heap::{StrNo, Value};
-use py_values::NumFault;
+use prim_walks::{NumFault, StrNo, Value};
 
 /// A fault that a primitive or the machine raises. Names that a program may make are strs of the arena.
 #[derive(Clone, Copy, Debug, PartialEq, Eq)]

@@ -4,7 +4,7 @@ ghost use Rattle.std.specs.Prelude.{◌↔◌, IsTrue};
 ghost use Rattle.prim_walks.specs.arena_heap.Values.{Leads, IsKey};
 ghost use Rattle.prim_faults.specs.Keys.{DecidesKey};
 
-use arena_heap::{Arena, Value};
+use prim_walks::{Arena, Value};
 
 /// Whether a value may be a key.
 pub fn is_key(_arena: &Arena, v: Value) -> bool

@@ -5,8 +5,7 @@ ghost use Rattle.prim_walks.specs.py_primitives.Faults.{number_kind as kind_of_n
 ghost use Rattle.prim_faults.specs.Faults.{IsKindOf};
 
 use crate::fault::Fault;
-use mpy_base::Kind;
-use py_values::NumFault;
+use prim_walks::{Kind, NumFault};
 
 /// The kind of exception that a fault of arithmetic is.
 fn number_kind(fault: NumFault) -> Kind

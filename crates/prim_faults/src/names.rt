@@ -5,8 +5,7 @@ ghost use Rattle.prim_walks.specs.arena_objects.Iterables.{or_nothing, spelled};
 ghost use Rattle.prim_faults.specs.Faults.{IsKnownFault, IsKnownStr, IsPrefix, name_in};
 
 use crate::fault::Fault;
-use arena_heap::{Arena, Constants, StrNo, Value};
-use arena_objects::text_bytes;
+use prim_walks::{Arena, Constants, StrNo, Value, text_bytes};
 
 /// The bytes of a constant name.
 fn constant_name<C: Constants>(consts: &C, name: StrNo) -> &[u8]

@@ -3,7 +3,7 @@
 ghost use Rattle.std.specs.Prelude.{◌≡◌, ◌<◌, All};
 ghost use Rattle.prim_faults.specs.Sights.{sight};
 
-use arena_heap::{Constants, StrNo};
+use prim_walks::{Constants, StrNo};
 
 /// The bytes of a name: none where the constants have no such text.
 pub fn name_bytes<C: Constants>(consts: &C, name: StrNo) -> &[u8]

@@ -4,7 +4,7 @@ ghost use Rattle.std.specs.Prelude.{◌≡◌};
 ghost use Rattle.prim_faults.specs.declared.stop.Stop.TheVariants as stops;
 
 use crate::fault::Fault;
-use mpy_base::NoRoom;
+use prim_walks::NoRoom;
 
 /// Why a primitive's call gives no value.
 #[derive(Clone, Copy, Debug, PartialEq, Eq)]

@@ -8,7 +8,7 @@ use crate::fault::Fault;
 use crate::names::fault_name;
 use crate::piece::{pieces_byte, pieces_len};
 use crate::wording::wording;
-use arena_heap::{Arena, Constants};
+use prim_walks::{Arena, Constants};
 
 /// How many bytes a fault's text has.
 pub fn fault_len<C: Constants>(arena: &Arena, consts: &C, fault: Fault) -> usize

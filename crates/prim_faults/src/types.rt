@@ -5,8 +5,7 @@ ghost use Rattle.prim_walks.specs.arena_heap.Values.{Leads};
 ghost use Rattle.prim_walks.specs.py_values.Names.{builtin_type as type_of_builtin};
 ghost use Rattle.prim_faults.specs.Types.{type_text, IsTypeName};
 
-use arena_heap::{Arena, Value, exc_parts};
-use mpy_base::{Builtin, Kind};
+use prim_walks::{Arena, Builtin, Kind, Value, exc_parts};
 
 /// A type of values.
 #[derive(Clone, Copy, Debug, PartialEq, Eq)]

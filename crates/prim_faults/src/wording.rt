@@ -11,7 +11,7 @@ use crate::fault::Fault;
 use crate::method::SpecialMethod;
 use crate::piece::Piece;
 use crate::types::ValueType;
-use py_values::NumFault;
+use prim_walks::NumFault;
 
 /// The piece without a byte.
 const NOTHING: Piece = Piece::Text("");

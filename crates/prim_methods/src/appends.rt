@@ -10,8 +10,7 @@ ghost use Rattle.prim_assignments.specs.prim_faults.Sights.{calling_method, Tell
 use crate::objects::list_number;
 use crate::puts::put_item;
 use arena_heap::{Arena, Constants, ListNo, Value, list_len};
-use prim_builtins::one_argument;
-use prim_faults::Stop;
+use prim_builtins::{Stop, one_argument};
 
 fn append<C: Constants>(arena: &mut Arena, consts: &C, l: ListNo, v: Value) -> Result<Value, Stop>
     requires list { IsA arena.old.objects AList l.cell }

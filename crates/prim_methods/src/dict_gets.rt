@@ -12,9 +12,8 @@ ghost use Rattle.prim_assignments.specs.prim_faults.Sights.{calling_method, Tell
 
 use crate::objects::dict_number;
 use arena_heap::{Arena, Constants, DictNo, Value};
-use arena_objects::dict_get;
-use prim_builtins::only_between;
-use prim_faults::{Fault, SpecialMethod, Stop, is_key, type_of};
+use prim_assignments::dict_get;
+use prim_builtins::{Fault, SpecialMethod, Stop, is_key, only_between, type_of};
 
 /// The value of a key, and else the first of the other arguments, if there is one.
 fn get<C: Constants>(

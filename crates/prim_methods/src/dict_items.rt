@@ -15,8 +15,7 @@ use arena_heap::{
     Arena, Constants, DictNo, ListNo, TupleNo, Value, dict_at, dict_len, put_in_list, tuple_fill,
 };
 use mpy_base::NoRoom;
-use prim_builtins::only_so_many;
-use prim_faults::Stop;
+use prim_builtins::{Stop, only_so_many};
 
 /// Makes a tuple of two values.
 fn make_pair(arena: &mut Arena, key: Value, v: Value) -> Result<(), NoRoom>

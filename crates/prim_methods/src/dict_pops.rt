@@ -11,9 +11,8 @@ ghost use Rattle.prim_assignments.specs.prim_faults.Sights.{calling_method, Tell
 
 use crate::objects::dict_number;
 use arena_heap::{Arena, Constants, DictNo, Value};
-use arena_objects::dict_delete;
-use prim_builtins::only_between;
-use prim_faults::{Fault, SpecialMethod, Stop, is_key, type_of};
+use prim_assignments::dict_delete;
+use prim_builtins::{Fault, SpecialMethod, Stop, is_key, only_between, type_of};
 
 /// Takes out the pair of a key and gives its value, and else the first of the other arguments, if there is one.
 fn pop_key<C: Constants>(

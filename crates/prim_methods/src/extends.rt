@@ -11,10 +11,8 @@ ghost use Rattle.prim_assignments.specs.prim_faults.Sights.{calling_method, Tell
 
 use crate::objects::list_number;
 use arena_heap::{Arena, Constants, ListNo, Value};
-use prim_assignments::extend_list;
-use prim_builtins::one_argument;
-use prim_faults::Stop;
-use prim_operators::length_of;
+use prim_assignments::{extend_list, length_of};
+use prim_builtins::{Stop, one_argument};
 
 /// Extends a list, and gives None.
 fn extend_only<C: Constants>(

@@ -10,8 +10,7 @@ ghost use Rattle.prim_methods.specs.Halves.{half_of};
 
 use crate::objects::dict_number;
 use arena_heap::{Arena, Constants, DictNo, ListNo, Value, dict_at, dict_len, put_in_list};
-use prim_builtins::only_so_many;
-use prim_faults::Stop;
+use prim_builtins::{Stop, only_so_many};
 
 /// What a dict gives of each pair.
 #[derive(Clone, Copy)]

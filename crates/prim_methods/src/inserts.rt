@@ -11,8 +11,7 @@ ghost use Rattle.prim_assignments.specs.prim_faults.Sights.{calling_method, Tell
 use crate::objects::list_number;
 use crate::puts::put_item;
 use arena_heap::{Arena, Constants, ListNo, Value, list_len};
-use prim_builtins::{number_of, only_so_many};
-use prim_faults::Stop;
+use prim_builtins::{Stop, number_of, only_so_many};
 
 /// The place in front of which an index puts an item. A negative one counts from the end.
 fn place_before(len: u32, index: i32) -> u32

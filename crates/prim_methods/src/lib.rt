@@ -22,3 +22,4 @@ pub use halves::{
 };
 pub use inserts::call_list_insert;
 pub use pops::call_list_pop;
+pub use prim_assignments::{inplace_add, set_attr, set_item, unpack, visits_inplace_add};

@@ -10,9 +10,8 @@ ghost use Rattle.prim_assignments.specs.prim_faults.Sights.{calling_method, Tell
 
 use crate::objects::list_number;
 use arena_heap::{Arena, Constants, ListNo, Value, list_len, list_pop};
-use prim_builtins::{number_of, only_between};
-use prim_faults::{Fault, Stop};
-use prim_operators::{items_law, place_of};
+use prim_assignments::{items_law, place_of};
+use prim_builtins::{Fault, Stop, number_of, only_between};
 
 /// Takes out the item that a number names.
 fn pop_from<C: Constants>(

@@ -7,7 +7,7 @@ ghost use Rattle.prim_builtins.specs.py_primitives.Methods.{put_items};
 ghost use Rattle.prim_assignments.specs.prim_faults.Sights.{Tells, TellsAll, Does};
 
 use arena_heap::{Arena, Constants, ListNo, Value, list_insert};
-use prim_faults::Stop;
+use prim_builtins::Stop;
 
 /// Puts a value in front of a place of a list, or behind all items.
 pub(crate) fn put_item<C: Constants>(

@@ -11,5 +11,6 @@ mod stores;
 
 pub use entry::Entry;
 pub use makings::{Made, NewFunction, make_function, make_module};
+pub use prim_assignments::{Fault, Stop, ValueType, name_bytes};
 pub use registry::Modules;
 pub use stores::store_module;

@@ -14,8 +14,7 @@ ghost use Rattle.prim_modules.specs.Effects.{IsEffect, IsMade, IsMaking, AreMade
 
 use crate::registry::Modules;
 use arena_heap::{Arena, Constants, DictNo, ModuleNo, StrNo, Value, module_names};
-use prim_assignments::set_attr;
-use prim_faults::Stop;
+use prim_assignments::{Stop, set_attr};
 
 /// What a function has: the numbers of its name, of its module's name and of its code, the namespace of its module, and
 /// its defaults.

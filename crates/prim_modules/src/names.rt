@@ -4,7 +4,7 @@ ghost use Rattle.std.specs.Prelude.{◌≡◌, bytes_eq};
 ghost use Rattle.prim_assignments.specs.prim_faults.Sights.{sight};
 
 use arena_heap::{Constants, StrNo};
-use prim_faults::name_bytes;
+use prim_assignments::name_bytes;
 
 /// Whether a name has this text.
 pub(crate) fn is_named<C: Constants>(consts: &C, name: u32, text: &[u8]) -> bool

@@ -12,8 +12,7 @@ ghost use Rattle.prim_modules.specs.Effects.{IsStored};
 use crate::dots::last_dot;
 use crate::registry::Modules;
 use arena_heap::{Arena, Constants, ModuleNo, StrNo, Value};
-use prim_assignments::set_attr;
-use prim_faults::{Stop, name_bytes};
+use prim_assignments::{Stop, name_bytes, set_attr};
 
 /// The registered module before a dotted name.
 fn outer_module<C: Constants>(consts: &C, modules: &Modules, name: u32) -> Option<ModuleNo>

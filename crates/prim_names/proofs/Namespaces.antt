@@ -11,8 +11,8 @@ use Rattle.prim_methods.specs.arena_heap.declared.value.ConstNo.{ConstNo}
 use Rattle.prim_methods.specs.arena_heap.Values.{Sound}
 use Rattle.prim_methods.specs.arena_objects.Iterables.{or_nothing}
 use Rattle.prim_methods.specs.arena_objects.Keys.{AllTold, StandsAt, IsValueOf, Lacks}
-use Rattle.py_effects.specs.py_values.Keys.{value_of_key, without_key}
-use Rattle.py_effects.specs.Names.{named_in}
+use Rattle.prim_raising.specs.py_effects.py_values.Keys.{value_of_key, without_key}
+use Rattle.prim_raising.specs.py_effects.Names.{named_in}
 use Rattle.prim_methods.specs.prim_walks.Plain.{plain, plain_pair, plain_heap}
 use Rattle.prim_methods.proofs.prim_faults_lemmas.Heaps.{pairs_of_plain, dict_put}
 use Rattle.prim_methods.proofs.prim_operators_lemmas.DictKeys.{IsKnownKey}

@@ -10,14 +10,14 @@ use Rattle.prim_methods.specs.arena_heap.declared.value.StrNo.{StrNo}
 use Rattle.prim_methods.specs.arena_heap.declared.value.ConstNo.{ConstNo}
 use Rattle.prim_methods.specs.arena_heap.declared.value.DictNo.{DictNo}
 use Rattle.prim_methods.specs.arena_heap.Values.{Leads}
-use Rattle.py_effects.specs.py_values.Shown.{PlainHeap, Shown, Text, Tuple, Range, Pairs, shown}
-use Rattle.py_effects.specs.py_values.Keys.{key_of, with_key}
-use Rattle.py_effects.specs.py_values.Names.{type_name}
-use Rattle.py_effects.specs.py_primitives.Faults.{UnsupportedOne, NotAssignable}
-use Rattle.py_effects.specs.py_primitives.Outcome.{Outcome, gives, raises, is_full}
-use Rattle.py_effects.specs.py_primitives.Uses.{put_pair, set_item}
-use Rattle.py_effects.specs.Effect.{on_heap, faults}
-use Rattle.py_effects.specs.Names.{stored_shown, store_pair}
+use Rattle.prim_raising.specs.py_effects.py_values.Shown.{PlainHeap, Shown, Text, Tuple, Range, Pairs, shown}
+use Rattle.prim_raising.specs.py_effects.py_values.Keys.{key_of, with_key}
+use Rattle.prim_raising.specs.py_effects.py_values.Names.{type_name}
+use Rattle.prim_raising.specs.py_effects.py_primitives.Faults.{UnsupportedOne, NotAssignable}
+use Rattle.prim_raising.specs.py_effects.py_primitives.Outcome.{Outcome, gives, raises, is_full}
+use Rattle.prim_raising.specs.py_effects.py_primitives.Uses.{put_pair, set_item}
+use Rattle.prim_raising.specs.py_effects.Effect.{on_heap, faults}
+use Rattle.prim_raising.specs.py_effects.Names.{stored_shown, store_pair}
 use Rattle.prim_methods.specs.prim_walks.Plain.{plain, plain_heap}
 use Rattle.prim_methods.specs.prim_operators.declared.containers.Container.{Container}
 use Rattle.prim_methods.specs.prim_operators.declared.containers.Container.TheVariants as containers

@@ -6,9 +6,9 @@ use Rattle.prim_methods.specs.arena_heap.declared.value.Value.{Value}
 use Rattle.prim_methods.specs.arena_heap.declared.value.StrNo.{StrNo}
 use Rattle.prim_methods.specs.arena_heap.declared.value.ConstNo.{ConstNo}
 use Rattle.prim_methods.specs.arena_heap.Values.{IsMethodOf}
-use Rattle.py_effects.specs.py_primitives.Outcome as primitives
-use Rattle.py_effects.specs.Effect.{Effect}
-use Rattle.py_effects.specs.Names as effects
+use Rattle.prim_raising.specs.py_effects.py_primitives.Outcome as primitives
+use Rattle.prim_raising.specs.py_effects.Effect.{Effect}
+use Rattle.prim_raising.specs.py_effects.Names as effects
 use Rattle.prim_methods.specs.prim_walks.Plain.{plain}
 use Rattle.prim_methods.specs.prim_faults.declared.stop.Stop.{Stop}
 use Rattle.prim_methods.specs.prim_faults.declared.stop.Stop.TheVariants as stops

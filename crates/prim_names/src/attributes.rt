@@ -1,15 +1,14 @@
 //! Attributes of method calls and of imports.
 
 ghost use Rattle.std.specs.Prelude.{[], ◌∷◌, IsSome};
-ghost use Rattle.py_effects.specs.Names.{load_method as loads_method, import_from as imports};
+ghost use Rattle.prim_raising.specs.py_effects.Names.{load_method as loads_method, import_from as imports};
 ghost use Rattle.prim_methods.specs.prim_faults.Sights.{under};
 ghost use Rattle.prim_raising.specs.Worlds.{Stands, HasEffect};
 ghost use Rattle.prim_names.specs.Looks.{Looks};
 
 use arena_heap::{Arena, Constants, StrNo, Value};
 use mpy_base::Builtin;
-use prim_faults::{Fault, Stop, type_of};
-use prim_operators::{Attribute, attribute_of, bind_method};
+use prim_operators::{Attribute, Fault, Stop, attribute_of, bind_method, type_of};
 
 /// What a method call begins with: a method and its object, or any value.
 #[derive(Clone, Copy, Debug, PartialEq, Eq)]

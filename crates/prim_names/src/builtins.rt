@@ -2,16 +2,16 @@
 
 ghost use Rattle.std.specs.Prelude.{◌≡◌, map, IsSome};
 ghost use Rattle.std.specs.List.{range_with_len};
-ghost use Rattle.qstr_pool.specs.declared.table.TheConstants.{FIRST_OWN};
-ghost use Rattle.qstr_pool.specs.Static.{static_text_of};
+ghost use Rattle.prim_raising.specs.qstr_pool.declared.table.TheConstants.{FIRST_OWN};
+ghost use Rattle.prim_raising.specs.qstr_pool.Static.{static_text_of};
 ghost use Rattle.prim_methods.specs.arena_objects.Iterables.{or_nothing};
-ghost use Rattle.py_effects.specs.py_values.Names.{builtin_name as name_of};
-ghost use Rattle.py_effects.specs.py_primitives.Builtins.{named as first_named, globals as all_globals, global_named as builtin_of_name};
+ghost use Rattle.prim_raising.specs.py_effects.py_values.Names.{builtin_name as name_of};
+ghost use Rattle.prim_raising.specs.py_effects.py_primitives.Builtins.{named as first_named, globals as all_globals, global_named as builtin_of_name};
 
 use crate::globals::name_bytes;
 use arena_heap::{Constants, StrNo};
 use mpy_base::{Builtin, Kind};
-use prim_walks::builtin_name;
+use prim_operators::builtin_name;
 
 /// What names can mean that no namespace has, in the order in which a name is looked for.
 const GLOBALS: [Builtin; 39] = [

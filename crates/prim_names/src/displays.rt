@@ -4,12 +4,12 @@ ghost use Rattle.std.specs.Prelude.{◌≡◌, ◌<◌, ◌≤◌, ◌^◌, [], 
 ghost use Rattle.mpy_base.specs.World.{DictObject, AList, IsA, items_at, room_at, with_list};
 ghost use Rattle.mpy_base.specs.Weights.{room_for};
 ghost use Rattle.prim_methods.specs.arena_heap.Values.{Leads};
-ghost use Rattle.py_effects.specs.py_primitives.Outcome.{making, making_list};
+ghost use Rattle.prim_raising.specs.py_effects.py_primitives.Outcome.{making, making_list};
 ghost use Rattle.prim_methods.specs.prim_faults.Sights.{under, Does};
 ghost use Rattle.prim_raising.specs.Worlds.{Stands};
 
 use arena_heap::{Arena, Constants, ListNo, Value, put_in_list};
-use prim_faults::Stop;
+use prim_operators::Stop;
 
 /// The item at a place.
 fn item_at(items: &[Value], at: usize) -> Value

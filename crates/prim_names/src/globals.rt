@@ -3,16 +3,15 @@
 ghost use Rattle.std.specs.Prelude.{◌≡◌, [], ◌∷◌, IsSome};
 ghost use Rattle.mpy_base.specs.World.{ADict, IsA};
 ghost use Rattle.prim_methods.specs.arena_objects.Iterables.{or_nothing};
-ghost use Rattle.py_effects.specs.py_primitives.Builtins.{global_named as builtin_of_name};
-ghost use Rattle.py_effects.specs.Names.{load_global as loads, store_global as stores, delete_global as deletes, built_in as finds_builtin};
+ghost use Rattle.prim_raising.specs.py_effects.py_primitives.Builtins.{global_named as builtin_of_name};
+ghost use Rattle.prim_raising.specs.py_effects.Names.{load_global as loads, store_global as stores, delete_global as deletes, built_in as finds_builtin};
 ghost use Rattle.prim_methods.specs.prim_faults.Sights.{under};
 ghost use Rattle.prim_raising.specs.Worlds.{Stands, HasEffect};
 
 use crate::builtins::global_of;
 use arena_heap::{Arena, Constants, DictNo, StrNo, Value};
-use arena_objects::{dict_delete, dict_get};
-use prim_assignments::set_item;
-use prim_faults::{Fault, Stop};
+use prim_methods::set_item;
+use prim_operators::{Fault, Stop, dict_delete, dict_get};
 
 /// The bytes of a name.
 pub(crate) fn name_bytes<C: Constants>(consts: &C, name: StrNo) -> &[u8]

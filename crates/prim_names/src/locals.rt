@@ -2,12 +2,12 @@
 
 ghost use Rattle.std.specs.Prelude.{[], IfSome};
 ghost use Rattle.std.specs.Option.{option_map};
-ghost use Rattle.py_effects.specs.Names.{assigned as is_assigned};
+ghost use Rattle.prim_raising.specs.py_effects.Names.{assigned as is_assigned};
 ghost use Rattle.prim_methods.specs.prim_faults.Sights.{under, Knows};
 ghost use Rattle.prim_raising.specs.Worlds.{Stands, HasEffect};
 
 use arena_heap::{Arena, Constants, Value};
-use prim_faults::{Fault, Stop};
+use prim_operators::{Fault, Stop};
 
 /// The value of a local, which is a fault where its slot is empty.
 pub fn assigned<C: Constants>(

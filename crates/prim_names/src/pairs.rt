@@ -1,14 +1,13 @@
 //! Pairs of dicts that are made.
 
 ghost use Rattle.std.specs.Prelude.{[], ◌∷◌};
-ghost use Rattle.py_effects.specs.Names.{store_pair as stores};
+ghost use Rattle.prim_raising.specs.py_effects.Names.{store_pair as stores};
 ghost use Rattle.prim_methods.specs.prim_faults.Sights.{under};
 ghost use Rattle.prim_raising.specs.Worlds.{Stands, HasEffect};
 
 use arena_heap::{Arena, Constants, Value};
-use prim_assignments::set_item;
-use prim_faults::{Fault, Stop, type_of};
-use prim_operators::{Container, container_of};
+use prim_methods::set_item;
+use prim_operators::{Container, Fault, Stop, container_of, type_of};
 
 /// Sets a pair of the dict that is made. Any other value is a fault.
 pub fn store_pair<C: Constants>(

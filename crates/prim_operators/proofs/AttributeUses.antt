@@ -7,9 +7,9 @@ use Rattle.prim_faults.specs.arena_heap.declared.value.Value.TheVariants as valu
 use Rattle.prim_faults.specs.arena_heap.declared.value.StrNo.{StrNo}
 use Rattle.prim_faults.specs.arena_heap.declared.value.ConstNo.{ConstNo}
 use Rattle.prim_faults.specs.arena_heap.declared.value.DictNo.{DictNo}
-use Rattle.mpy_base.specs.declared.kind.Kind.{Kind}
-use Rattle.mpy_base.specs.World.{ListObject, TupleObject, DictObject, TextObject, FunctionObject, ExceptionObject, MethodObject, RangeObject, ModuleObject, Heap, ObjectKind, AList, ATuple, ADict, AText, AFunction, AMethod, ARange, IsA, object, kind_of, pairs_at}
-use Rattle.mpy_base.specs.Val.{Val, Str, At}
+use Rattle.prim_faults.specs.mpy_base.declared.kind.Kind.{Kind}
+use Rattle.prim_faults.specs.mpy_base.World.{ListObject, TupleObject, DictObject, TextObject, FunctionObject, ExceptionObject, MethodObject, RangeObject, ModuleObject, Heap, ObjectKind, AList, ATuple, ADict, AText, AFunction, AMethod, ARange, IsA, object, kind_of, pairs_at}
+use Rattle.prim_faults.specs.mpy_base.Val.{Val, Str, At}
 use Rattle.prim_faults.specs.arena_heap.Values.{ArenaObject, Leads, IsStr, IsList, IsDict}
 use Rattle.prim_faults.specs.arena_objects.Iterables.{or_nothing}
 use Rattle.prim_faults.specs.py_values.Shown.{PlainHeap}

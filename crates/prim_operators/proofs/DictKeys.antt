@@ -11,8 +11,8 @@ use Rattle.prim_faults.specs.arena_heap.declared.value.Value.{Value}
 use Rattle.prim_faults.specs.arena_heap.declared.value.Value.TheVariants as values
 use Rattle.prim_faults.specs.arena_heap.declared.value.StrNo.{StrNo}
 use Rattle.prim_faults.specs.arena_heap.declared.value.ConstNo.{ConstNo}
-use Rattle.mpy_base.specs.World.{TextObject, DictObject, AText, ADict, IsA, Heap, object, kind_of, text_of, pairs_of, pairs_at}
-use Rattle.mpy_base.specs.Val.{Val}
+use Rattle.prim_faults.specs.mpy_base.World.{TextObject, DictObject, AText, ADict, IsA, Heap, object, kind_of, text_of, pairs_of, pairs_at}
+use Rattle.prim_faults.specs.mpy_base.Val.{Val}
 use Rattle.prim_faults.specs.arena_heap.Values.{ArenaObject, Leads, IsKey, IsFormed, Sound, held}
 use Rattle.prim_faults.specs.arena_heap.Constants.{IsTold}
 use Rattle.prim_faults.specs.arena_heap.Dicts.{with_value}

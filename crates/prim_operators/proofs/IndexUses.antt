@@ -6,8 +6,8 @@ use Rattle.prim_faults.specs.arena_heap.declared.value.StrNo.{StrNo}
 use Rattle.prim_faults.specs.arena_heap.declared.value.ConstNo.{ConstNo}
 use Rattle.prim_faults.specs.arena_heap.declared.value.DictNo.{DictNo}
 use Rattle.prim_faults.specs.arena_heap.declared.value.ListNo.{ListNo}
-use Rattle.mpy_base.specs.World.{ListObject, DictObject, Heap, AList, ADict, object, kind_of, items_of, items_at, pairs_of, pairs_at}
-use Rattle.mpy_base.specs.Val.{Val, At}
+use Rattle.prim_faults.specs.mpy_base.World.{ListObject, DictObject, Heap, AList, ADict, object, kind_of, items_of, items_at, pairs_of, pairs_at}
+use Rattle.prim_faults.specs.mpy_base.Val.{Val, At}
 use Rattle.prim_faults.specs.arena_heap.Values.{ArenaObject, Leads}
 use Rattle.prim_faults.specs.arena_objects.Iterables.{or_nothing}
 use Rattle.prim_faults.specs.py_values.Shown.{PlainHeap, Shown, Nothing, Number, Text, Tuple, Items, Pairs, Range, Other, shown, shown_object}

@@ -12,10 +12,10 @@ use Rattle.prim_faults.specs.arena_heap.declared.value.Value.{Value}
 use Rattle.prim_faults.specs.arena_heap.declared.value.Value.TheVariants as values
 use Rattle.prim_faults.specs.arena_heap.declared.value.StrNo.{StrNo}
 use Rattle.prim_faults.specs.arena_heap.declared.value.ConstNo.{ConstNo}
-use Rattle.mpy_base.specs.World.{ListObject, TupleObject, Heap, ObjectKind, AList, ATuple, IsA, Later, object, kind_of, items_of, items_at, room_of, room_at, text_of, with_object, with_list, with_tuple}
-use Rattle.mpy_base.specs.Weights.{Fits, Made}
-use Rattle.mpy_base.specs.Val.{Val, Empty}
-use Rattle.mpy_base.proofs.Worlds.{is_within, object_before, object_made, used_made}
+use Rattle.prim_faults.specs.mpy_base.World.{ListObject, TupleObject, Heap, ObjectKind, AList, ATuple, IsA, Later, object, kind_of, items_of, items_at, room_of, room_at, text_of, with_object, with_list, with_tuple}
+use Rattle.prim_faults.specs.mpy_base.Weights.{Fits, Made}
+use Rattle.prim_faults.specs.mpy_base.Val.{Val, Empty}
+use Rattle.prim_faults.proofs.mpy_base_lemmas.Worlds.{is_within, object_before, object_made, used_made}
 use Rattle.prim_faults.specs.arena_heap.Values.{ArenaObject, Leads, held}
 use Rattle.prim_faults.specs.arena_heap.Constants.{IsTold}
 use Rattle.prim_faults.proofs.arena_heap_lemmas.Sounds.{leads_later}

@@ -8,8 +8,8 @@ use Rattle.prim_faults.specs.arena_heap.declared.value.Value.{Value}
 use Rattle.prim_faults.specs.arena_heap.declared.value.Value.TheVariants as values
 use Rattle.prim_faults.specs.arena_heap.declared.value.StrNo.{StrNo}
 use Rattle.prim_faults.specs.arena_heap.declared.value.ConstNo.{ConstNo}
-use Rattle.mpy_base.specs.World.{ListObject, TupleObject, TextObject, DictObject, RangeObject, Heap, ObjectKind, AList, ATuple, ADict, ARange, AText, object, kind_of, text_of}
-use Rattle.mpy_base.specs.Val.{Val}
+use Rattle.prim_faults.specs.mpy_base.World.{ListObject, TupleObject, TextObject, DictObject, RangeObject, Heap, ObjectKind, AList, ATuple, ADict, ARange, AText, object, kind_of, text_of}
+use Rattle.prim_faults.specs.mpy_base.Val.{Val}
 use Rattle.prim_faults.specs.arena_heap.Values.{ArenaObject, Leads, IsStr}
 use Rattle.prim_faults.specs.arena_objects.Iterables as arena
 use Rattle.prim_faults.specs.arena_objects.Iterables.{or_nothing, given, spelled}

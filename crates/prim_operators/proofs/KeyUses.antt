@@ -1,7 +1,7 @@
 -- Uses of the value of a key.
 use Rattle.std.proofs.Common.{◌≡◌, List, Bool, true, false, cond, Option, Some, None, sym, ap, ◌∙◌}
 use Rattle.std.specs.Prelude.{is_some, codes}
-use Rattle.mpy_base.specs.Val.{Val}
+use Rattle.prim_faults.specs.mpy_base.Val.{Val}
 use Rattle.prim_faults.specs.py_values.Shown.{PlainHeap}
 use Rattle.prim_faults.specs.py_values.Names.{type_name}
 use Rattle.prim_faults.specs.py_values.Keys.{key_of, value_of_key}

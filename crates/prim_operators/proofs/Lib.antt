@@ -1,6 +1,7 @@
 pub use Rattle.prim_faults.proofs as prim_faults_lemmas
 pub use Rattle.prim_faults.proofs.arena_heap_lemmas
 pub use Rattle.prim_faults.proofs.arena_objects_lemmas
+pub use Rattle.prim_faults.proofs.mpy_base_lemmas
 pub use Rattle.prim_faults.proofs.prim_walks_lemmas
 pub use Rattle.prim_faults.proofs.py_values_lemmas
 pub mod AttributeUses

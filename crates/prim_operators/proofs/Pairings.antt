@@ -1,6 +1,6 @@
 -- Operators over texts, tuples, lists and numbers, as what they show.
 use Rattle.std.proofs.Common.{◌≡◌, ℤ, refl, sym, ap, ap₂, ◌∙◌, subst}
-use Rattle.mpy_base.specs.Val.{Val}
+use Rattle.prim_faults.specs.mpy_base.Val.{Val}
 use Rattle.prim_faults.specs.py_values.Shown.{PlainHeap, Shown, Nothing, Number, Text, Tuple, Items, Pairs, Range, Other}
 use Rattle.prim_faults.specs.py_primitives.Operators.{Operator, Or, Xor, And, ShiftLeft, ShiftRight, Add, Subtract, Multiply, FloorDivide, Modulo, Power, operator_method, binary_shown, unsupported, gives_number, number_answer}
 use Rattle.prim_operators.specs.declared.operands.Shape.{Shape}

@@ -6,8 +6,8 @@ use Rattle.prim_faults.specs.arena_heap.declared.value.Value.{Value}
 use Rattle.prim_faults.specs.arena_heap.declared.value.Value.TheVariants as values
 use Rattle.prim_faults.specs.arena_heap.declared.value.StrNo.{StrNo}
 use Rattle.prim_faults.specs.arena_heap.declared.value.ConstNo.{ConstNo}
-use Rattle.mpy_base.specs.World.{ListObject, TupleObject, Heap, AList, ATuple, object, kind_of}
-use Rattle.mpy_base.specs.Val.{Val}
+use Rattle.prim_faults.specs.mpy_base.World.{ListObject, TupleObject, Heap, AList, ATuple, object, kind_of}
+use Rattle.prim_faults.specs.mpy_base.Val.{Val}
 use Rattle.prim_faults.specs.arena_heap.Values.{ArenaObject, Leads}
 use Rattle.prim_faults.specs.arena_objects.Iterables.{given, items_in, spelled}
 use Rattle.prim_faults.specs.py_values.Shown.{Shown, Number, Text, Tuple, Items, at_least_zero, shown, shown_object}

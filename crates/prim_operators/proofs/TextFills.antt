@@ -8,11 +8,11 @@ use Rattle.prim_faults.specs.arena_heap.declared.value.Value.{Value}
 use Rattle.prim_faults.specs.arena_heap.declared.value.Value.TheVariants as values
 use Rattle.prim_faults.specs.arena_heap.declared.value.StrNo.{StrNo}
 use Rattle.prim_faults.specs.arena_heap.declared.value.ConstNo.{ConstNo}
-use Rattle.mpy_base.specs.declared.room.NoRoom.{NoRoom}
-use Rattle.mpy_base.specs.World.{TextObject, Heap, AText, IsA, Later, object, kind_of, text_of, text_at, with_text}
-use Rattle.mpy_base.specs.Weights.{used, Fits, Made, Refused}
-use Rattle.mpy_base.specs.Val.{Str}
-use Rattle.mpy_base.proofs.Worlds.{is_within, object_before, object_made, used_made}
+use Rattle.prim_faults.specs.mpy_base.declared.room.NoRoom.{NoRoom}
+use Rattle.prim_faults.specs.mpy_base.World.{TextObject, Heap, AText, IsA, Later, object, kind_of, text_of, text_at, with_text}
+use Rattle.prim_faults.specs.mpy_base.Weights.{used, Fits, Made, Refused}
+use Rattle.prim_faults.specs.mpy_base.Val.{Str}
+use Rattle.prim_faults.proofs.mpy_base_lemmas.Worlds.{is_within, object_before, object_made, used_made}
 use Rattle.prim_faults.specs.arena_heap.Values.{ArenaObject}
 use Rattle.prim_faults.proofs.arena_heap_lemmas.Sounds.{leads_later}
 use Rattle.prim_faults.specs.arena_objects.Iterables.{given, spelled}

@@ -1,13 +1,13 @@
 -- Attributes of an arena's values.
 use Rattle.std.specs.Prelude.{◌≡◌, ℕ, List, Option, bytes_eq, codes, if◌then◌else◌}
-use Rattle.mpy_base.specs.declared.builtin.Builtin.{Builtin}
-use Rattle.mpy_base.specs.World.{Objects}
+use Rattle.prim_faults.specs.mpy_base.declared.builtin.Builtin.{Builtin}
+use Rattle.prim_faults.specs.mpy_base.World.{Objects}
 use Rattle.prim_faults.specs.arena_heap.declared.value.Value.{Value}
 use Rattle.prim_faults.specs.arena_heap.declared.value.Value.TheVariants as values
 use Rattle.prim_faults.specs.arena_heap.declared.value.StrNo.{StrNo}
 use Rattle.prim_faults.specs.arena_heap.declared.value.ConstNo.{ConstNo}
 use Rattle.prim_faults.specs.arena_heap.Values.{IsMethodOf}
-use Rattle.mpy_base.specs.Val.{Built}
+use Rattle.prim_faults.specs.mpy_base.Val.{Built}
 use Rattle.prim_faults.specs.py_values.Shown.{PlainHeap}
 use Rattle.prim_faults.specs.py_primitives.Builtins.{named}
 use Rattle.prim_faults.specs.py_primitives.Uses as uses

@@ -1,7 +1,7 @@
 -- Answers that no heap has a part in.
 use Rattle.std.specs.Prelude.{ℕ, List, Option, Result}
-use Rattle.mpy_base.specs.World.{Heap}
-use Rattle.mpy_base.specs.Val.{Val}
+use Rattle.prim_faults.specs.mpy_base.World.{Heap}
+use Rattle.prim_faults.specs.mpy_base.Val.{Val}
 use Rattle.prim_faults.specs.arena_heap.declared.value.Value.{Value}
 use Rattle.prim_faults.specs.arena_heap.declared.value.StrNo.{StrNo}
 use Rattle.prim_faults.specs.arena_heap.declared.value.ConstNo.{ConstNo}

@@ -1,12 +1,12 @@
 -- What indexes find in values.
 use Rattle.std.specs.Prelude.{◌≡◌, ℕ, List, Option}
-use Rattle.mpy_base.specs.World.{Heap}
+use Rattle.prim_faults.specs.mpy_base.World.{Heap}
 use Rattle.prim_faults.specs.arena_heap.declared.value.Value.{Value}
 use Rattle.prim_faults.specs.arena_heap.declared.value.Value.TheVariants as values
 use Rattle.prim_faults.specs.arena_heap.declared.value.StrNo.{StrNo}
 use Rattle.prim_faults.specs.arena_heap.declared.value.ConstNo.{ConstNo}
 use Rattle.prim_faults.specs.py_values.Shown.{Shown, Nothing, Number, Text, Tuple, Range, Other, shown}
-use Rattle.mpy_base.specs.Val.{Val}
+use Rattle.prim_faults.specs.mpy_base.Val.{Val}
 use Rattle.prim_faults.specs.py_primitives.Outcome.{Outcome, raises}
 use Rattle.prim_faults.specs.py_primitives.Uses.{at_place}
 use Rattle.prim_faults.specs.declared.fault.Fault.{Fault}

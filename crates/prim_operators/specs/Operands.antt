@@ -1,6 +1,6 @@
 -- What operators see of their operands.
 use Rattle.std.specs.Prelude.{◌≡◌, ℕ, ℤ, Bool, List, Option, Some, None, is_some}
-use Rattle.mpy_base.specs.World.{Heap}
+use Rattle.prim_faults.specs.mpy_base.World.{Heap}
 use Rattle.prim_faults.specs.arena_heap.declared.value.Value.{Value}
 use Rattle.prim_faults.specs.arena_heap.declared.value.Value.TheVariants as values
 use Rattle.prim_faults.specs.arena_heap.declared.value.StrNo.{StrNo}

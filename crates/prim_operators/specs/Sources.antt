@@ -1,7 +1,7 @@
 -- What joins and repeats are made of.
 use Rattle.std.specs.Prelude.{◌≢◌, ℕ, List, ◌++◌, Option}
 use Rattle.std.specs.List.{repeat}
-use Rattle.mpy_base.specs.World.{Heap, Objects}
+use Rattle.prim_faults.specs.mpy_base.World.{Heap, Objects}
 use Rattle.prim_faults.specs.arena_heap.declared.value.Value.{Value}
 use Rattle.prim_faults.specs.arena_heap.declared.value.Value.TheVariants as values
 use Rattle.prim_faults.specs.arena_heap.declared.value.StrNo.{StrNo}

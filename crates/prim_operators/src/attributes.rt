@@ -1,8 +1,8 @@
 //! Attributes of values: those of objects, the methods of types, and the names of modules.
 
 ghost use Rattle.std.specs.Prelude.{◌≡◌, IsSome};
-ghost use Rattle.mpy_base.specs.World.{MethodObject, AModule, IsA};
-ghost use Rattle.mpy_base.specs.Val.{At};
+ghost use Rattle.prim_faults.specs.mpy_base.World.{MethodObject, AModule, IsA};
+ghost use Rattle.prim_faults.specs.mpy_base.Val.{At};
 ghost use Rattle.prim_faults.specs.arena_heap.Values.{Leads, IsStr, IsList, IsDict, IsMethodOf};
 ghost use Rattle.prim_faults.specs.py_primitives.Builtins.{list_methods, dict_methods, str_methods};
 ghost use Rattle.prim_faults.specs.py_primitives.Outcome.{making};
@@ -10,10 +10,10 @@ ghost use Rattle.prim_faults.specs.py_primitives.Uses.{attribute as attribute_in
 ghost use Rattle.prim_faults.specs.Sights.{under, sight, Tells, TellsAll, Does};
 ghost use Rattle.prim_operators.specs.Attributes.{plain_attribute, IsKnownAttribute, IsMethodsAttribute, IsArgsAttribute, IsBuiltAttribute};
 
-use arena_heap::{Arena, Constants, ModuleNo, StrNo, Value, exc_parts, module_parts};
-use arena_objects::dict_get;
-use mpy_base::Builtin;
-use prim_faults::{Fault, Stop, name_bytes, type_of};
+use prim_faults::{
+    Arena, Builtin, Constants, Fault, ModuleNo, Stop, StrNo, Value, dict_get, exc_parts,
+    module_parts, name_bytes, type_of,
+};
 
 /// What an attribute of a value is: a value, a method of the value's type, or nothing.
 #[derive(Clone, Copy)]

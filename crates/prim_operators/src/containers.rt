@@ -3,7 +3,7 @@
 ghost use Rattle.prim_faults.specs.arena_heap.Values.{Leads};
 ghost use Rattle.prim_operators.specs.Containers.{IsContainer};
 
-use arena_heap::{Arena, DictNo, ListNo, Value};
+use prim_faults::{Arena, DictNo, ListNo, Value};
 
 /// What an index finds in a value: a dict's keys, places that can be set, places, or nothing.
 #[derive(Clone, Copy)]

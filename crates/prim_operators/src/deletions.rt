@@ -2,8 +2,8 @@
 
 ghost use Rattle.std.specs.Prelude.{map};
 ghost use Rattle.std.specs.List.{remove};
-ghost use Rattle.mpy_base.specs.World.{ADict, AList, IsA, items_at, pairs_at, with_dict, with_list};
-ghost use Rattle.mpy_base.specs.Val.{Nil, At};
+ghost use Rattle.prim_faults.specs.mpy_base.World.{ADict, AList, IsA, items_at, pairs_at, with_dict, with_list};
+ghost use Rattle.prim_faults.specs.mpy_base.Val.{Nil, At};
 ghost use Rattle.prim_faults.specs.arena_heap.Values.{Leads};
 ghost use Rattle.prim_faults.specs.py_values.Keys.{without_key};
 ghost use Rattle.prim_faults.specs.py_primitives.Outcome.{gives};
@@ -13,9 +13,10 @@ ghost use Rattle.prim_faults.specs.Sights.{Tells, TellsAll, Does};
 use crate::containers::{Container, container_of};
 use crate::indexes::place_of;
 use crate::items::items_law;
-use arena_heap::{Arena, Constants, DictNo, ListNo, Value, list_pop};
-use arena_objects::dict_delete;
-use prim_faults::{Fault, SpecialMethod, Stop, is_key, type_of};
+use prim_faults::{
+    Arena, Constants, DictNo, Fault, ListNo, SpecialMethod, Stop, Value, dict_delete, is_key,
+    list_pop, type_of,
+};
 
 /// Deletes the pair of a key.
 fn delete_key<C: Constants>(

@@ -13,8 +13,7 @@ use crate::keys::get_key;
 use crate::lengths::length_of;
 use crate::operand::number_of;
 use crate::places::place_at;
-use arena_heap::{Arena, Constants, Value};
-use prim_faults::{Fault, Stop, type_of};
+use prim_faults::{Arena, Constants, Fault, Stop, Value, type_of};
 
 /// The place that an index names, or the fault.
 pub fn place_of<C: Constants>(

@@ -1,14 +1,13 @@
 //! Tuples and lists that are joined and repeated.
 
 ghost use Rattle.std.specs.Prelude.{◌≡◌, ◌≤◌, length, map};
-ghost use Rattle.mpy_base.specs.World.{AList, ATuple, IsA, Later, items_at, room_at, with_list, with_tuple};
+ghost use Rattle.prim_faults.specs.mpy_base.World.{AList, ATuple, IsA, Later, items_at, room_at, with_list, with_tuple};
 ghost use Rattle.prim_faults.specs.py_primitives.Outcome.{making_tuple, making_list};
 ghost use Rattle.prim_faults.specs.Sights.{under, TellsAll, Does};
 ghost use Rattle.prim_operators.specs.Sources.{source_items, AreKnown, AreElsewhere};
 
 use crate::sources::{Source, items_len, source_item};
-use arena_heap::{Arena, Constants, ListNo, TupleNo, Value, put_in_list, tuple_fill};
-use prim_faults::Stop;
+use prim_faults::{Arena, Constants, ListNo, Stop, TupleNo, Value, put_in_list, tuple_fill};
 
 /// Fills a tuple with the items of values.
 fn fill_tuple<C: Constants>(arena: &mut Arena, consts: &C, t: TupleNo, count: u32, source: Source)

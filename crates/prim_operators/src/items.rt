@@ -8,9 +8,9 @@ ghost use Rattle.prim_faults.specs.py_primitives.Iterables.{use_iter as use_iter
 ghost use Rattle.prim_faults.specs.Sights.{sight, Tells, TellsAll, Does};
 ghost use Rattle.prim_operators.specs.Operands.{DecidesIterable, HasItems, IsNested};
 
-use arena_heap::{Arena, Constants, Value};
-use arena_objects::{item_at, item_count, make_byte, text_bytes};
-use prim_faults::{Fault, Stop, type_of};
+use prim_faults::{
+    Arena, Constants, Fault, Stop, Value, item_at, item_count, make_byte, text_bytes, type_of,
+};
 
 /// Can it be iterated over?
 fn is_iterable(_arena: &Arena, v: Value) -> bool

@@ -1,14 +1,13 @@
 //! Strs that are joined and repeated.
 
 ghost use Rattle.std.specs.Prelude.{◌≡◌, length};
-ghost use Rattle.mpy_base.specs.World.{AText, IsA, Later, text_at, with_text};
+ghost use Rattle.prim_faults.specs.mpy_base.World.{AText, IsA, Later, text_at, with_text};
 ghost use Rattle.prim_faults.specs.py_primitives.Outcome.{making_text};
 ghost use Rattle.prim_faults.specs.Sights.{under, TellsAll, Does};
 ghost use Rattle.prim_operators.specs.Sources.{source_bytes, AreStrs, IsApart};
 
 use crate::sources::{Source, byte_at, bytes_len};
-use arena_heap::{Arena, Constants, StrNo, TextNo, Value, text_fill};
-use prim_faults::Stop;
+use prim_faults::{Arena, Constants, Stop, StrNo, TextNo, Value, text_fill};
 
 /// Writes the bytes of strs to a text of their length.
 fn fill_text<C: Constants>(arena: &mut Arena, consts: &C, t: TextNo, count: u32, source: Source)

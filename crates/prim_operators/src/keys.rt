@@ -1,15 +1,15 @@
 //! Values of dicts by their keys.
 
 ghost use Rattle.std.specs.Prelude.{map};
-ghost use Rattle.mpy_base.specs.World.{ADict, IsA, pairs_at};
+ghost use Rattle.prim_faults.specs.mpy_base.World.{ADict, IsA, pairs_at};
 ghost use Rattle.prim_faults.specs.arena_heap.Values.{Leads};
 ghost use Rattle.prim_faults.specs.py_primitives.Outcome.{gives};
 ghost use Rattle.prim_faults.specs.py_primitives.Uses.{of_key};
 ghost use Rattle.prim_faults.specs.Sights.{Tells, TellsAll, Does};
 
-use arena_heap::{Arena, Constants, DictNo, Value};
-use arena_objects::dict_get;
-use prim_faults::{Fault, SpecialMethod, Stop, is_key, type_of};
+use prim_faults::{
+    Arena, Constants, DictNo, Fault, SpecialMethod, Stop, Value, dict_get, is_key, type_of,
+};
 
 /// The value of a key.
 pub(crate) fn get_key<C: Constants>(

@@ -5,9 +5,7 @@ ghost use Rattle.prim_faults.specs.arena_heap.Values.{Leads};
 ghost use Rattle.prim_faults.specs.py_primitives.Iterables.{length_of as length_in};
 ghost use Rattle.prim_faults.specs.Sights.{sight, Tells};
 
-use arena_heap::{Arena, Constants, Value, dict_len};
-use arena_objects::range_count;
-use prim_walks::{Look, look_at};
+use prim_faults::{Arena, Constants, Look, Value, dict_len, look_at, range_count};
 
 /// How many items an iterable has. Other values have none.
 pub fn length_of<C: Constants>(arena: &Arena, consts: &C, over: Value) -> usize

@@ -6,9 +6,7 @@ ghost use Rattle.prim_operators.specs.Operators.{plain_operator, plain_unary};
 ghost use Rattle.prim_operators.specs.Changeless.{IsAnswerOf};
 
 use crate::operators::{Operator, UnaryOperator};
-use arena_heap::Value;
-use prim_faults::{Fault, Stop};
-use py_values::{NumFault, SmallInt};
+use prim_faults::{Fault, NumFault, SmallInt, Stop, Value};
 
 /// What an operator gives of one number.
 pub(crate) fn unary_answer(op: UnaryOperator, n: SmallInt) -> Result<SmallInt, NumFault>

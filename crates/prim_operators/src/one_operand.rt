@@ -8,9 +8,7 @@ ghost use Rattle.prim_operators.specs.Operators.{plain_unary};
 use crate::numbers::{gives_number, unary_answer};
 use crate::operand::number_of;
 use crate::operators::UnaryOperator;
-use arena_heap::{Arena, Constants, Value};
-use prim_faults::{Fault, Stop, type_of};
-use prim_walks::truth;
+use prim_faults::{Arena, Constants, Fault, Stop, Value, truth, type_of};
 
 /// `+`, `-` or `~` of a value.
 pub fn unary<C: Constants>(

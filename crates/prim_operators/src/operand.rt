@@ -4,8 +4,7 @@ ghost use Rattle.std.specs.Prelude.{◌≡◌};
 ghost use Rattle.prim_faults.specs.arena_heap.Values.{HasSmall};
 ghost use Rattle.prim_operators.specs.Operands.{number_in};
 
-use arena_heap::Value;
-use py_values::SmallInt;
+use prim_faults::{SmallInt, Value};
 
 /// The number that a value counts as, if it does.
 pub fn number_of(v: Value) -> Option<SmallInt>

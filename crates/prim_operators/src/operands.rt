@@ -4,8 +4,7 @@ ghost use Rattle.prim_faults.specs.arena_heap.Values.{Leads};
 ghost use Rattle.prim_operators.specs.Pairs.{IsOperand, IsOperands};
 
 use crate::operand::number_of;
-use arena_heap::{Arena, Value};
-use py_values::SmallInt;
+use prim_faults::{Arena, SmallInt, Value};
 
 /// Strs, tuples and lists, which are joined and repeated.
 #[derive(Clone, Copy)]

@@ -3,7 +3,7 @@
 ghost use Rattle.std.specs.Prelude.{◌≡◌, ◌<◌, IfSome};
 ghost use Rattle.prim_faults.specs.py_primitives.Iterables.{place_at as place_in};
 
-use py_values::SmallInt;
+use prim_faults::SmallInt;
 
 /// The place that an index names, if it is there. A negative one counts from the end.
 pub(crate) fn place_at(len: usize, index: SmallInt) -> Option<usize>

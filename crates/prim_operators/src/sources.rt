@@ -6,8 +6,7 @@ ghost use Rattle.prim_faults.specs.arena_objects.Iterables.{spelled};
 ghost use Rattle.prim_faults.specs.Sights.{under, Tells, TellsAll, KnowsStr};
 ghost use Rattle.prim_operators.specs.Sources.{source_bytes, source_items, AreStrs, AreKnown};
 
-use arena_heap::{Arena, Constants, Value};
-use arena_objects::{item_at, item_count, text_bytes};
+use prim_faults::{Arena, Constants, Value, item_at, item_count, text_bytes};
 
 /// Two strs, tuples or lists that are joined, or one that is repeated.
 #[derive(Clone, Copy)]

@@ -15,9 +15,7 @@ use crate::numbers::{gives_number, number_answer};
 use crate::operands::{Operands, Shape, operands_of};
 use crate::operators::Operator;
 use crate::sources::Source;
-use arena_heap::{Arena, Constants, Value};
-use prim_faults::{Fault, Stop, type_of};
-use py_values::SmallInt;
+use prim_faults::{Arena, Constants, Fault, SmallInt, Stop, Value, type_of};
 
 /// A new str, tuple or list of these.
 fn make_shaped<C: Constants>(

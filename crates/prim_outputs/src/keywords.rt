@@ -10,7 +10,7 @@ ghost use Rattle.prim_outputs.specs.Ends.{AreStrs, IsKnownFound, given_as, nothi
 
 use crate::strs::str_of;
 use arena_heap::{Arena, Constants, Value};
-use prim_faults::Fault;
+use prim_builtins::Fault;
 
 /// What stands between the texts and behind them, where it is given.
 #[derive(Clone, Copy)]

@@ -15,8 +15,7 @@ ghost use Rattle.prim_outputs.specs.PortCalls.{DoesPorts, DoesTold, Failed, Fail
 use arena_heap::{Arena, Constants, Value};
 use mpy_io::Port;
 use port_set::{PortFault, PortSet};
-use prim_builtins::{number_of, one_argument, only_so_many};
-use prim_faults::{Fault, Stop};
+use prim_builtins::{Fault, Stop, number_of, one_argument, only_so_many};
 use py_values::NumFault;
 
 /// The place that a number names, if it is one.

@@ -16,7 +16,7 @@ use crate::printer::Printer;
 use arena_heap::{Arena, Constants, Value};
 use arena_objects::text_bytes;
 use mpy_io::{Failed, Sink};
-use prim_faults::Fault;
+use prim_builtins::Fault;
 use prim_walks::{Pen, text_len, visits_text, write_text};
 
 /// Why `print` gives no value.

@@ -19,7 +19,7 @@ use arena_heap::{Arena, Constants, ExcNo, StrNo, Value, exc_parts};
 use arena_objects::{item_at, text_bytes};
 use mpy_base::Kind;
 use mpy_io::{Failed, Sink};
-use prim_faults::name_bytes;
+use prim_builtins::name_bytes;
 use prim_walks::{Look, Pen, look_at};
 
 /// Writes the first two lines of a report, by the place where its exception was raised.

@@ -7,4 +7,5 @@ mod raising;
 mod texts;
 
 pub use place::Place;
+pub use prim_types::{make_tuple, op_match};
 pub use raising::{fault_at, raise_value, stop_at};

@@ -11,9 +11,8 @@ ghost use Rattle.prim_types.specs.prim_faults.Sights.{under, Tells, TellsAll, Kn
 ghost use Rattle.prim_raising.specs.Makings.{as_value};
 
 use crate::texts::make_fault_text;
-use arena_heap::{Arena, Constants, ExcNo, TupleNo, Value, tuple_fill};
 use mpy_base::{Kind, NoRoom};
-use prim_faults::{Fault, fault_kind};
+use prim_types::{Arena, Constants, ExcNo, Fault, TupleNo, Value, fault_kind, tuple_fill};
 
 /// The argument of a fault's exception: a value, or a text that is made.
 fn fault_argument<C: Constants>(

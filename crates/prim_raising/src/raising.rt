@@ -18,9 +18,8 @@ ghost use Rattle.prim_raising.specs.Worlds.{Stands, HasFailed};
 
 use crate::makings::{make_exception, make_fault};
 use crate::place::Place;
-use arena_heap::{Arena, Constants, ExcNo, Value, exc_place};
 use mpy_base::{Builtin, Kind, NoRoom};
-use prim_faults::{Fault, Stop};
+use prim_types::{Arena, Constants, ExcNo, Fault, Stop, Value, exc_place};
 
 /// What raising a value raises.
 #[derive(Clone, Copy)]

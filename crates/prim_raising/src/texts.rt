@@ -9,10 +9,10 @@ ghost use Rattle.prim_types.specs.prim_faults.Faults.{plain_fault, name_in};
 ghost use Rattle.prim_types.specs.prim_faults.Sights.{under, TellsAll, KnowsStr, KnowsFault, Does};
 ghost use Rattle.prim_raising.specs.Makings.{as_value, IsApart, HasCounts};
 
-use arena_heap::{Arena, Constants, StrNo, TextNo, Value, text_fill};
-use arena_objects::text_bytes;
 use mpy_base::NoRoom;
-use prim_faults::{Fault, fault_byte, fault_len};
+use prim_types::{
+    Arena, Constants, Fault, StrNo, TextNo, Value, fault_byte, fault_len, text_bytes, text_fill,
+};
 
 /// The bytes of a constant text are below 0x80.
 fn constant_law<C: Constants>(consts: &C, name: StrNo)

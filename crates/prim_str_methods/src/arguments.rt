@@ -4,7 +4,7 @@ ghost use Rattle.prim_builtins.specs.arena_heap.Values.{Leads};
 ghost use Rattle.prim_str_methods.specs.Arguments.{IsNoStr};
 
 use arena_heap::{Arena, Value};
-use prim_faults::{Fault, SpecialMethod, type_of};
+use prim_builtins::{Fault, SpecialMethod, type_of};
 
 /// What a str method raises over an argument that is no str.
 pub(crate) fn no_str(arena: &Arena, object: Value, v: Value) -> Fault

@@ -14,8 +14,7 @@ use crate::arguments::no_str;
 use arena_heap::{Arena, Constants, Value};
 use arena_objects::text_bytes;
 use memchr::memmem;
-use prim_builtins::{gives_count, one_argument};
-use prim_faults::Stop;
+use prim_builtins::{Stop, gives_count, one_argument};
 use prim_walks::{Look, look_at};
 
 /// The first place of the part, or -1 where it stands nowhere.

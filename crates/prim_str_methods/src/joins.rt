@@ -17,9 +17,7 @@ ghost use Rattle.prim_str_methods.specs.Parts.{strs_of, all_strs, looked_at, par
 use crate::cuts::{Cut, put_cut, str_len, whole};
 use crate::parts::{part_at, part_count, part_len};
 use arena_heap::{Arena, Constants, StrNo, TextNo, Value};
-use prim_builtins::one_argument;
-use prim_faults::{Fault, Stop};
-use prim_operators::{items_law, use_iter};
+use prim_builtins::{Fault, Stop, items_law, one_argument, use_iter};
 
 /// How many bytes a part and the separator in front of it have.
 fn step_len(at: u32, separator: u32, part: u32) -> u64

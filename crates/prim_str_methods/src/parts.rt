@@ -12,7 +12,7 @@ ghost use Rattle.prim_str_methods.specs.Parts.{strs_of, parts_in, cut_bytes, IsC
 use crate::cuts::{Cut, str_len};
 use arena_heap::{Arena, Constants, Value};
 use arena_objects::{item_at, item_count};
-use prim_operators::items_law;
+use prim_builtins::items_law;
 
 /// Whether a value is a str.
 pub(crate) fn is_str(v: Value) -> bool

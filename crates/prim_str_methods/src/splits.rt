@@ -17,8 +17,7 @@ use crate::parts::is_str;
 use crate::pieces::{Split, next_piece};
 use arena_heap::{Arena, Constants, ListNo, StrNo, TextNo, Value, list_len, put_in_list};
 use mpy_base::NoRoom;
-use prim_builtins::only_between;
-use prim_faults::{Fault, Stop};
+use prim_builtins::{Fault, Stop, only_between};
 
 /// How many pieces a str has.
 fn count_pieces<C: Constants>(arena: &Arena, consts: &C, object: Value, split: Split) -> u64

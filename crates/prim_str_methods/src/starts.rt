@@ -13,8 +13,7 @@ ghost use Rattle.prim_builtins.specs.prim_faults.Sights.{calling_method, Tells, 
 use crate::arguments::no_str;
 use arena_heap::{Arena, Constants, Value};
 use arena_objects::text_bytes;
-use prim_builtins::one_argument;
-use prim_faults::Stop;
+use prim_builtins::{Stop, one_argument};
 use prim_walks::{Look, look_at};
 
 /// Whether the bytes begin with the part.

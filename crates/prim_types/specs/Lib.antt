@@ -5,6 +5,7 @@ pub use Rattle.prim_builtins.specs.prim_operators
 pub use Rattle.prim_builtins.specs.prim_walks
 pub use Rattle.prim_builtins.specs.py_primitives
 pub use Rattle.prim_builtins.specs.py_values
+pub use Rattle.prim_builtins.specs.qstr_pool
 pub mod Members
 pub mod Texts
 pub mod Types

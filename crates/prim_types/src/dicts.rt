@@ -8,9 +8,8 @@ ghost use Rattle.prim_builtins.specs.prim_walks.Plain.{plain, plain_pair, plain_
 ghost use Rattle.prim_builtins.specs.prim_faults.Faults.{IsKnown};
 ghost use Rattle.prim_builtins.specs.prim_faults.Outcomes.{IsOutcome};
 
-use arena_heap::{Arena, Constants, Value};
 use prim_builtins::only_so_many;
-use prim_faults::Stop;
+use prim_operators::{Arena, Constants, Stop, Value};
 
 fn make_dict<C: Constants>(arena: &mut Arena, _consts: &C) -> Result<Value, Stop>
     requires all_told { AllTold (C.text_of _consts.now) (C.items_of _consts.now) arena.old.objects }

@@ -12,9 +12,8 @@ ghost use Rattle.prim_builtins.specs.prim_walks.Plain.{plain, plain_pair, plain_
 ghost use Rattle.prim_builtins.specs.prim_faults.Faults.{IsKnown};
 ghost use Rattle.prim_builtins.specs.prim_faults.Outcomes.{IsOutcome};
 
-use arena_heap::{Arena, Constants, TupleNo, Value, tuple_fill};
 use mpy_base::Kind;
-use prim_faults::{Fault, Stop};
+use prim_operators::{Arena, Constants, Fault, Stop, TupleNo, Value, tuple_fill};
 
 fn argument_at(args: &[Value], at: usize) -> Value
     requires { at < length args.now }

@@ -18,12 +18,11 @@ ghost use Rattle.prim_types.specs.Types.{IsNamedType, DecidesNumber, DecidesKind
 
 use crate::kinds::{exception_kind, is_under, kind_in};
 use crate::members::{member_at, member_count};
-use arena_heap::{Arena, Constants, Value};
 use mpy_base::{Builtin, Kind};
 use prim_builtins::only_so_many;
-use prim_faults::{Fault, Stop, type_name};
-use prim_operators::{items_law, number_of};
-use prim_walks::builtin_name;
+use prim_operators::{
+    Arena, Constants, Fault, Stop, Value, builtin_name, items_law, number_of, type_name,
+};
 
 fn is_type(b: Builtin) -> bool
     ensures { result ≡ is_type_in b }

@@ -6,8 +6,8 @@ ghost use Rattle.prim_builtins.specs.py_primitives.Builtins.{kind_in as kind_tha
 ghost use Rattle.prim_builtins.specs.py_primitives.Operators.{is_under as is_under_in};
 ghost use Rattle.prim_types.specs.Types.{IsExceptionKind, IsNamedKind};
 
-use arena_heap::{Arena, Value, exc_parts};
 use mpy_base::{Builtin, Kind};
+use prim_operators::{Arena, Value, exc_parts};
 
 /// The kind that a built-in is, if it is one.
 pub(crate) fn kind_in(b: Builtin) -> Option<Kind>

@@ -15,4 +15,8 @@ pub use exceptions::{call_kind, make_tuple};
 pub use instances::call_isinstance;
 pub use matches::op_match;
 pub use numerals::call_int;
+pub use prim_operators::{
+    Arena, Constants, ExcNo, Fault, Stop, StrNo, TextNo, TupleNo, Value, exc_place, fault_byte,
+    fault_kind, fault_len, text_bytes, text_fill, tuple_fill,
+};
 pub use texts::{call_repr, call_str, visits_call_repr, visits_call_str};

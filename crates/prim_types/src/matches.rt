@@ -14,10 +14,8 @@ ghost use Rattle.prim_types.specs.Members.{members_in};
 
 use crate::kinds::{exception_kind, is_under, named_kind};
 use crate::members::{member_at, member_count};
-use arena_heap::{Arena, Constants, Value};
 use mpy_base::Kind;
-use prim_faults::{Fault, Stop};
-use prim_operators::items_law;
+use prim_operators::{Arena, Constants, Fault, Stop, Value, items_law};
 
 /// Whether one of these kinds takes exceptions of this one. It gives None where one of them is no kind.
 fn takes<C: Constants>(arena: &Arena, consts: &C, kind: Kind, kinds: Value) -> Option<bool>

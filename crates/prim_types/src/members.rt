@@ -6,8 +6,7 @@ ghost use Rattle.prim_builtins.specs.arena_heap.Constants.{IsTold};
 ghost use Rattle.prim_builtins.specs.arena_objects.Keys.{AllTold};
 ghost use Rattle.prim_types.specs.Members.{members_in};
 
-use arena_heap::{Arena, Constants, Value};
-use arena_objects::{item_at, item_count};
+use prim_operators::{Arena, Constants, Value, item_at, item_count};
 
 /// How many members a value has.
 pub(crate) fn member_count<C: Constants>(arena: &Arena, consts: &C, v: Value) -> u32

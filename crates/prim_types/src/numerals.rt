@@ -18,11 +18,8 @@ ghost use Rattle.prim_builtins.specs.prim_faults.Faults.{IsKnown};
 ghost use Rattle.prim_builtins.specs.prim_faults.Outcomes.{IsOutcome};
 ghost use Rattle.prim_builtins.specs.prim_operators.Changeless.{IsAnswerOf};
 
-use arena_heap::{Arena, Constants, Value};
 use prim_builtins::{gives_count, number_of, one_argument};
-use prim_faults::{Fault, Stop};
-use prim_walks::{Look, look_at};
-use py_values::NumFault;
+use prim_operators::{Arena, Constants, Fault, Look, NumFault, Stop, Value, look_at};
 
 /// Past all small integers.
 const PAST: u64 = 2_147_483_648;

@@ -14,10 +14,11 @@ ghost use Rattle.prim_builtins.specs.prim_faults.Faults.{IsKnown};
 ghost use Rattle.prim_builtins.specs.prim_faults.Outcomes.{IsOutcome};
 ghost use Rattle.prim_types.specs.Texts.{found_text, text_in, IsApart, written_over};
 
-use arena_heap::{Arena, Constants, StrNo, TextNo, Value, text_fill};
 use prim_builtins::one_argument;
-use prim_faults::{Fault, Stop};
-use prim_walks::{TextPart, text_len, text_part, visits_text, whole_text};
+use prim_operators::{
+    Arena, Constants, Fault, Stop, StrNo, TextNo, TextPart, Value, text_fill, text_len, text_part,
+    visits_text, whole_text,
+};
 
 /// How many bytes a part has.
 fn part_size(part: &TextPart) -> usize

@@ -1,11 +1,11 @@
 -- The names of kinds and built-ins are ASCII.
 use Rattle.std.proofs.Common.{◌<◌, refl}
 use Rattle.std.specs.Prelude.{All}
-use Rattle.mpy_base.specs.declared.kind.Kind.{Kind}
-use Rattle.mpy_base.specs.declared.kind.Kind.TheVariants as kinds
-use Rattle.mpy_base.specs.declared.builtin.Builtin.{Builtin}
-use Rattle.mpy_base.specs.declared.builtin.Builtin.TheVariants as builtins
-use Rattle.mpy_base.specs.Kind.{kind_name}
+use Rattle.py_primitives.specs.mpy_base.declared.kind.Kind.{Kind}
+use Rattle.py_primitives.specs.mpy_base.declared.kind.Kind.TheVariants as kinds
+use Rattle.py_primitives.specs.mpy_base.declared.builtin.Builtin.{Builtin}
+use Rattle.py_primitives.specs.mpy_base.declared.builtin.Builtin.TheVariants as builtins
+use Rattle.py_primitives.specs.mpy_base.Kind.{kind_name}
 use Rattle.py_primitives.specs.py_values.Names.{builtin_name}
 use Rattle.prim_walks.proofs.PenSteps.{ascii_by}
 

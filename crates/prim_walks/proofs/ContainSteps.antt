@@ -1,7 +1,7 @@
 -- The search for an equal item, one item after another.
 use Rattle.std.proofs.Common.{◌≡◌, ℕ, ◌+◌, ◌≤◌, List, Bool, true, false, Option, Some, Result, Ok, length, map, drop, ap, ◌∙◌}
 use Rattle.std.specs.Prelude.{slice_get}
-use Rattle.mpy_base.specs.Val.{Val}
+use Rattle.py_primitives.specs.mpy_base.Val.{Val}
 use Rattle.py_primitives.specs.py_values.Shown.{PlainHeap}
 use Rattle.py_primitives.specs.py_values.Equality.{Walk, answers, equal, equal_within}
 use Rattle.py_primitives.specs.Operators.{contains_equal}

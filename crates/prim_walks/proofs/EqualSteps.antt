@@ -5,7 +5,7 @@ use Rattle.std.specs.Prelude.{slice_get}
 use Rattle.std.specs.Option.{option_map}
 use Rattle.std.proofs.lemmas.List.{length-map}
 use Rattle.std.proofs.lemmas.Option.{slice_get_within, get_or_from_slice_get, slice_get-map}
-use Rattle.mpy_base.specs.Val.{Val}
+use Rattle.py_primitives.specs.mpy_base.Val.{Val}
 use Rattle.py_primitives.specs.py_values.Shown.{PlainHeap, shown}
 use Rattle.py_primitives.specs.py_values.Keys.{value_of_key}
 use Rattle.py_primitives.specs.py_values.Equality.{Walk, visit, equal, equal_shown, equal_within, all_equal, all_found, equal_found}

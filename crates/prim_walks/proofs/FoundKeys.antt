@@ -10,8 +10,8 @@ use Rattle.arena_objects.specs.arena_heap.declared.value.Value.{Value}
 use Rattle.arena_objects.specs.arena_heap.declared.value.Value.TheVariants as values
 use Rattle.arena_objects.specs.arena_heap.declared.value.StrNo.{StrNo}
 use Rattle.arena_objects.specs.arena_heap.declared.value.ConstNo.{ConstNo}
-use Rattle.mpy_base.specs.World.{Heap}
-use Rattle.mpy_base.specs.Val.{Val}
+use Rattle.py_primitives.specs.mpy_base.World.{Heap}
+use Rattle.py_primitives.specs.mpy_base.Val.{Val}
 use Rattle.arena_objects.specs.arena_heap.Values.{Leads, IsKey}
 use Rattle.arena_objects.specs.arena_heap.Constants.{IsTold}
 use Rattle.arena_objects.specs.Keys.{key_of}

@@ -8,8 +8,8 @@ use Rattle.arena_objects.specs.arena_heap.declared.value.Value.{Value}
 use Rattle.arena_objects.specs.arena_heap.declared.value.Value.TheVariants as values
 use Rattle.arena_objects.specs.arena_heap.declared.value.StrNo.{StrNo}
 use Rattle.arena_objects.specs.arena_heap.declared.value.ConstNo.{ConstNo}
-use Rattle.mpy_base.specs.World.{Heap, DictObject, ADict, IsA, object, kind_of, pairs_of, pairs_at}
-use Rattle.mpy_base.specs.Val.{Val}
+use Rattle.py_primitives.specs.mpy_base.World.{Heap, DictObject, ADict, IsA, object, kind_of, pairs_of, pairs_at}
+use Rattle.py_primitives.specs.mpy_base.Val.{Val}
 use Rattle.arena_objects.specs.arena_heap.Values.{ArenaObject, Leads, Sound, IsKey, IsFormed, held}
 use Rattle.arena_objects.specs.arena_heap.Constants.{IsTold}
 use Rattle.arena_objects.specs.Keys.{AllTold, Lacks, IsValueOf, key_of, key_in}

@@ -1,6 +1,6 @@
 -- Identity of values as the meaning has them.
 use Rattle.std.proofs.Common.{◌≡◌, ℕ, List, [], ◌∷◌, false, Option, None, map, refl, ap, ◌∙◌}
-use Rattle.mpy_base.specs.declared.builtin.Builtin.{Builtin}
+use Rattle.py_primitives.specs.mpy_base.declared.builtin.Builtin.{Builtin}
 use Rattle.arena_objects.specs.arena_heap.declared.value.Value.{Value}
 use Rattle.arena_objects.specs.arena_heap.declared.value.Value.TheVariants as values
 use Rattle.arena_objects.specs.arena_heap.declared.value.StrNo.{StrNo}
@@ -14,7 +14,7 @@ use Rattle.arena_objects.specs.arena_heap.declared.value.ExcNo.{ExcNo}
 use Rattle.arena_objects.specs.arena_heap.declared.value.MethodNo.{MethodNo}
 use Rattle.arena_objects.specs.arena_heap.declared.value.RangeNo.{RangeNo}
 use Rattle.arena_objects.specs.arena_heap.declared.value.ModuleNo.{ModuleNo}
-use Rattle.mpy_base.specs.Val.{Val, Nil, Built}
+use Rattle.py_primitives.specs.mpy_base.Val.{Val, Nil, Built}
 use Rattle.arena_objects.specs.Iterables.{or_nothing}
 use Rattle.py_primitives.specs.py_values.Equality.{is_same}
 use Rattle.prim_walks.specs.Numbers.{number_in}

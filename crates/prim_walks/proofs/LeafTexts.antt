@@ -1,7 +1,7 @@
 -- What is written of the objects of an arena.
 use Rattle.std.proofs.Common.{◌≡◌, ℕ, suc, ◌-◌, List, [], ◌∷◌, Bool, true, false, Option, Some, None, Err, length, map, refl, sym, ap, ◌∙◌, subst, arith}
 use Rattle.std.specs.Prelude.{codes, slice_get, All}
-use Rattle.mpy_base.specs.declared.kind.Kind.{Kind}
+use Rattle.py_primitives.specs.mpy_base.declared.kind.Kind.{Kind}
 use Rattle.arena_objects.specs.arena_heap.declared.value.Value.{Value}
 use Rattle.arena_objects.specs.arena_heap.declared.value.Value.TheVariants as values
 use Rattle.arena_objects.specs.arena_heap.declared.value.StrNo.{StrNo}
@@ -10,8 +10,8 @@ use Rattle.arena_objects.specs.arena_heap.declared.value.ListNo.{ListNo}
 use Rattle.arena_objects.specs.arena_heap.declared.value.DictNo.{DictNo}
 use Rattle.arena_objects.specs.arena_heap.declared.value.TupleNo.{TupleNo}
 use Rattle.arena_objects.specs.arena_heap.declared.value.ExcNo.{ExcNo}
-use Rattle.mpy_base.specs.World.{Object, ListObject, TupleObject, TextObject, DictObject, FunctionObject, ExceptionObject, MethodObject, RangeObject, ModuleObject, Heap, AList, ATuple, AText, ADict, AFunction, AMethod, ARange, AModule, IsA, object, kind_of, pairs_of, text_of}
-use Rattle.mpy_base.specs.Val.{Val, Fixed, Empty, At, vals}
+use Rattle.py_primitives.specs.mpy_base.World.{Object, ListObject, TupleObject, TextObject, DictObject, FunctionObject, ExceptionObject, MethodObject, RangeObject, ModuleObject, Heap, AList, ATuple, AText, ADict, AFunction, AMethod, ARange, AModule, IsA, object, kind_of, pairs_of, text_of}
+use Rattle.py_primitives.specs.mpy_base.Val.{Val, Fixed, Empty, At, vals}
 use Rattle.arena_objects.specs.arena_heap.Values.{ArenaObject, Leads, IsTuple, held}
 use Rattle.arena_objects.specs.arena_heap.Constants.{IsTold}
 use Rattle.arena_objects.specs.Iterables.{given, or_nothing, items_in}

@@ -1,5 +1,6 @@
 pub use Rattle.arena_objects.proofs as arena_objects_lemmas
 pub use Rattle.arena_objects.proofs.arena_heap_lemmas
+pub use Rattle.py_primitives.proofs.mpy_base_lemmas
 pub use Rattle.py_primitives.proofs.py_values_lemmas
 pub mod AsciiNames
 pub mod ContainSteps

@@ -5,8 +5,8 @@ use Rattle.arena_objects.specs.arena_heap.declared.value.Value.{Value}
 use Rattle.arena_objects.specs.arena_heap.declared.value.Value.TheVariants as values
 use Rattle.arena_objects.specs.arena_heap.declared.value.StrNo.{StrNo}
 use Rattle.arena_objects.specs.arena_heap.declared.value.ConstNo.{ConstNo}
-use Rattle.mpy_base.specs.World.{Heap}
-use Rattle.mpy_base.specs.Val.{Val, Truth, Int}
+use Rattle.py_primitives.specs.mpy_base.World.{Heap}
+use Rattle.py_primitives.specs.mpy_base.Val.{Val, Truth, Int}
 use Rattle.arena_objects.specs.arena_heap.Constants.{NestsWithin}
 use Rattle.arena_objects.specs.Iterables.{or_nothing, items_in}
 use Rattle.py_primitives.specs.py_values.Shown.{PlainHeap}

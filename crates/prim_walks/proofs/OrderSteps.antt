@@ -5,7 +5,7 @@ use Rattle.std.specs.declared.cmp.Ordering.{Ordering}
 use Rattle.std.specs.declared.cmp.Ordering.TheVariants.{Less, Equal, Greater}
 use Rattle.std.specs.Ordering.{nat_cmp}
 use Rattle.std.proofs.lemmas.List.{length-map, length-drop}
-use Rattle.mpy_base.specs.Val.{Val}
+use Rattle.py_primitives.specs.mpy_base.Val.{Val}
 use Rattle.py_primitives.specs.py_values.Shown.{PlainHeap, shown}
 use Rattle.py_primitives.specs.py_values.Equality.{Walk, answers, visit, equal_within}
 use Rattle.py_primitives.specs.Order.{Unordered, order, order_items, order_shown, order_within}

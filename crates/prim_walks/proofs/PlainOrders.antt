@@ -9,7 +9,7 @@ use Rattle.arena_objects.specs.arena_heap.declared.value.StrNo.{StrNo}
 use Rattle.arena_objects.specs.arena_heap.declared.value.ConstNo.{ConstNo}
 use Rattle.prim_walks.specs.declared.budget.Halt.{Halt}
 use Rattle.prim_walks.specs.declared.orders.Unordered.{Unordered}
-use Rattle.mpy_base.specs.World.{Objects}
+use Rattle.py_primitives.specs.mpy_base.World.{Objects}
 use Rattle.prim_walks.specs.Orders.{plain_order, plain_answer, BothLead}
 
 pub answer_plain : (texts : StrNo → Option (List ℕ)) (tuples : ConstNo → Option (List Value)) (r : Result (Result Ordering Unordered) Halt)

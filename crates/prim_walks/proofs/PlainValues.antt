@@ -6,8 +6,8 @@ use Rattle.arena_objects.specs.arena_heap.declared.value.Value.{Value}
 use Rattle.arena_objects.specs.arena_heap.declared.value.Value.TheVariants as values
 use Rattle.arena_objects.specs.arena_heap.declared.value.StrNo.{StrNo}
 use Rattle.arena_objects.specs.arena_heap.declared.value.ConstNo.{ConstNo}
-use Rattle.mpy_base.specs.World.{TextObject, RangeObject, Heap, AText, IsA, object, kind_of, text_of, text_at}
-use Rattle.mpy_base.specs.Val.{Val, At, vals}
+use Rattle.py_primitives.specs.mpy_base.World.{TextObject, RangeObject, Heap, AText, IsA, object, kind_of, text_of, text_at}
+use Rattle.py_primitives.specs.mpy_base.Val.{Val, At, vals}
 use Rattle.arena_objects.specs.arena_heap.Values.{ArenaObject}
 use Rattle.arena_objects.specs.arena_heap.Constants.{NestsWithin}
 use Rattle.arena_objects.specs.Iterables.{or_nothing}

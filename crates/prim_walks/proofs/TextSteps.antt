@@ -5,7 +5,7 @@ use Rattle.std.specs.Option.{option_map}
 use Rattle.std.specs.List.{flat_map}
 use Rattle.std.proofs.lemmas.List.{append-nil, length-append}
 use Rattle.std.proofs.lemmas.List.Concat.{flat_map-append}
-use Rattle.mpy_base.specs.Val.{Val}
+use Rattle.py_primitives.specs.mpy_base.Val.{Val}
 use Rattle.py_primitives.specs.py_values.Shown.{PlainHeap}
 use Rattle.py_primitives.specs.py_values.Equality.{Walk, answers}
 use Rattle.py_primitives.specs.Walks.{and_then, walk_map, walk_all}

@@ -3,7 +3,7 @@ use Rattle.std.proofs.Common.{◌≡◌, ℕ, ◌+◌, ◌-◌, ◌^◌, ◌≤�
 use Rattle.std.specs.Prelude.{IfSome}
 use Rattle.std.specs.List.{flat_map}
 use Rattle.std.proofs.lemmas.List.{length-append, append-nil}
-use Rattle.mpy_base.specs.Val.{Val}
+use Rattle.py_primitives.specs.mpy_base.Val.{Val}
 use Rattle.py_primitives.specs.py_values.Shown.{PlainHeap}
 use Rattle.py_primitives.specs.py_values.Equality.{Walk}
 use Rattle.py_primitives.specs.Texts.{str_of, repr_of, write_within}

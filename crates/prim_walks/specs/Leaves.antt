@@ -1,12 +1,12 @@
 -- The texts of an arena's values that have no others in them.
 use Rattle.std.specs.Prelude.{◌≡◌, ℕ, zero, suc, Bool, List, [], ◌++◌, Option, Some, codes}
 use Rattle.std.specs.Fmt.{signed_decimal}
-use Rattle.mpy_base.specs.declared.kind.Kind.{Kind}
+use Rattle.py_primitives.specs.mpy_base.declared.kind.Kind.{Kind}
 use Rattle.arena_objects.specs.arena_heap.declared.value.Value.{Value}
 use Rattle.arena_objects.specs.arena_heap.declared.value.Value.TheVariants as values
 use Rattle.arena_objects.specs.arena_heap.declared.value.StrNo.{StrNo}
 use Rattle.arena_objects.specs.arena_heap.declared.value.StrNo.TheVariants as strs
-use Rattle.mpy_base.specs.World.{FunctionObject, ExceptionObject, RangeObject, ModuleObject, Heap, object, text_at}
+use Rattle.py_primitives.specs.mpy_base.World.{FunctionObject, ExceptionObject, RangeObject, ModuleObject, Heap, object, text_at}
 use Rattle.arena_objects.specs.arena_heap.Values.{ArenaObject}
 use Rattle.arena_objects.specs.Iterables.{or_nothing}
 use Rattle.py_primitives.specs.Texts.{truth_text, builtin_text, range_text, str_text}

@@ -3,7 +3,7 @@ use Rattle.std.specs.Prelude.{◌≡◌, ◌≢◌, ℕ, pos, List, length, map,
 use Rattle.arena_objects.specs.arena_heap.declared.value.Value.{Value}
 use Rattle.arena_objects.specs.arena_heap.declared.value.StrNo.{StrNo}
 use Rattle.arena_objects.specs.arena_heap.declared.value.ConstNo.{ConstNo}
-use Rattle.mpy_base.specs.World.{Heap, ADict, IsA, pairs_at}
+use Rattle.py_primitives.specs.mpy_base.World.{Heap, ADict, IsA, pairs_at}
 use Rattle.arena_objects.specs.arena_heap.Values.{IsSmall}
 use Rattle.arena_objects.specs.Iterables.{items_in}
 use Rattle.py_primitives.specs.py_values.Shown.{Shown, Nothing, Number, Text, Tuple, Items, Pairs, Range, Other}

@@ -3,8 +3,8 @@ use Rattle.std.specs.Prelude.{◌≡◌, ℕ, Bool, List, length, map, Option}
 use Rattle.arena_objects.specs.arena_heap.declared.value.Value.{Value}
 use Rattle.arena_objects.specs.arena_heap.declared.value.StrNo.{StrNo}
 use Rattle.arena_objects.specs.arena_heap.declared.value.ConstNo.{ConstNo}
-use Rattle.mpy_base.specs.World.{Heap, ADict, IsA, pairs_at}
-use Rattle.mpy_base.specs.Val.{Val}
+use Rattle.py_primitives.specs.mpy_base.World.{Heap, ADict, IsA, pairs_at}
+use Rattle.py_primitives.specs.mpy_base.Val.{Val}
 use Rattle.arena_objects.specs.Iterables.{items_in}
 use Rattle.py_primitives.specs.py_values.Equality.{Walk, answers, all_equal, all_found}
 use Rattle.prim_walks.specs.declared.meeting.Meeting.{Meeting}

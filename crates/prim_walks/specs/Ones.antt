@@ -2,7 +2,7 @@
 use Rattle.std.specs.Prelude.{ℕ, ◌-◌, ◌^◌, List, [], ◌∷◌, Bool, true, false, ◌&&◌}
 use Rattle.arena_objects.specs.arena_heap.declared.value.Value.{Value}
 use Rattle.arena_objects.specs.arena_heap.declared.value.Value.TheVariants as values
-use Rattle.mpy_base.specs.Val.{Val}
+use Rattle.py_primitives.specs.mpy_base.Val.{Val}
 use Rattle.py_primitives.specs.py_values.Shown.{PlainHeap}
 use Rattle.py_primitives.specs.Operators.{is_one}
 

@@ -5,8 +5,8 @@ use Rattle.arena_objects.specs.arena_heap.declared.value.Value.{Value}
 use Rattle.arena_objects.specs.arena_heap.declared.value.StrNo.{StrNo}
 use Rattle.arena_objects.specs.arena_heap.declared.value.ConstNo.{ConstNo}
 use Rattle.arena_objects.specs.arena_heap.Values.{Leads}
-use Rattle.mpy_base.specs.World.{Heap, Objects}
-use Rattle.mpy_base.specs.Val.{Val}
+use Rattle.py_primitives.specs.mpy_base.World.{Heap, Objects}
+use Rattle.py_primitives.specs.mpy_base.Val.{Val}
 use Rattle.arena_objects.specs.Iterables.{items_in}
 use Rattle.py_primitives.specs.py_values.Equality.{Walk, answers}
 use Rattle.py_primitives.specs.Order as meaning

@@ -5,8 +5,8 @@ use Rattle.arena_objects.specs.arena_heap.declared.value.Value.TheVariants as va
 use Rattle.arena_objects.specs.arena_heap.declared.value.StrNo.{StrNo}
 use Rattle.arena_objects.specs.arena_heap.declared.value.StrNo.TheVariants as strs
 use Rattle.arena_objects.specs.arena_heap.declared.value.ConstNo.{ConstNo}
-use Rattle.mpy_base.specs.World.{Object, ListObject, TupleObject, TextObject, DictObject, FunctionObject, ExceptionObject, MethodObject, RangeObject, ModuleObject, Heap}
-use Rattle.mpy_base.specs.Val.{Val, Nil, Truth, Int, Str, Fixed, Empty, Built, At, Vals, Only, Then}
+use Rattle.py_primitives.specs.mpy_base.World.{Object, ListObject, TupleObject, TextObject, DictObject, FunctionObject, ExceptionObject, MethodObject, RangeObject, ModuleObject, Heap}
+use Rattle.py_primitives.specs.mpy_base.Val.{Val, Nil, Truth, Int, Str, Fixed, Empty, Built, At, Vals, Only, Then}
 use Rattle.arena_objects.specs.arena_heap.Values.{ArenaObject}
 use Rattle.arena_objects.specs.Iterables.{or_nothing}
 use Rattle.py_primitives.specs.py_values.Shown.{PlainHeap}

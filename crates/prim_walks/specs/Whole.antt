@@ -1,6 +1,6 @@
 -- Whole texts.
 use Rattle.std.specs.Prelude.{◌≡◌, ℕ, List, Bool, true, false, Option, Some}
-use Rattle.mpy_base.specs.Val.{Val}
+use Rattle.py_primitives.specs.mpy_base.Val.{Val}
 use Rattle.py_primitives.specs.py_values.Shown.{PlainHeap}
 use Rattle.py_primitives.specs.py_values.Equality.{Walk}
 use Rattle.py_primitives.specs.Texts.{str_of, repr_of}

@@ -11,9 +11,8 @@ ghost use Rattle.prim_walks.specs.Runs.{run};
 
 use crate::budget::{Budget, Halt};
 use crate::equality::equal_values;
-use arena_heap::{Arena, Constants, Value};
-use arena_objects::{item_at, item_count};
-use mpy_base::limits::MAX_WALK_DEPTH;
+use arena_objects::{Arena, Constants, Value, item_at, item_count};
+use py_primitives::limits::MAX_WALK_DEPTH;
 
 /// Whether an iterable has an item that equals a value, or None where a comparison goes too deep. A str has no items.
 pub fn contains<C: Constants>(arena: &Arena, consts: &C, over: Value, v: Value) -> Option<bool>

@@ -1,7 +1,7 @@
 //! Equality, visit by visit.
 
 ghost use Rattle.std.specs.Prelude.{◌≡◌, length, map, min};
-ghost use Rattle.mpy_base.specs.World.{ADict, IsA, pairs_at};
+ghost use Rattle.py_primitives.specs.mpy_base.World.{ADict, IsA, pairs_at};
 ghost use Rattle.arena_objects.specs.arena_heap.Values.{Leads};
 ghost use Rattle.arena_objects.specs.arena_heap.Constants.{IsTold};
 ghost use Rattle.arena_objects.specs.Keys.{AllTold};
@@ -13,9 +13,8 @@ ghost use Rattle.prim_walks.specs.Runs.{run};
 use crate::budget::{Budget, Halt};
 use crate::meeting::{Meeting, meet};
 use crate::pairs::pair_at;
-use arena_heap::{Arena, Constants, DictNo, Value, dict_len};
-use arena_objects::{dict_get, item_at};
-use mpy_base::limits::MAX_WALK_DEPTH;
+use arena_objects::{Arena, Constants, DictNo, Value, dict_get, dict_len, item_at};
+use py_primitives::limits::MAX_WALK_DEPTH;
 
 /// Whether two values are equal, or None where the comparison goes too deep.
 pub fn equal<C: Constants>(arena: &Arena, consts: &C, a: Value, b: Value) -> Option<bool>

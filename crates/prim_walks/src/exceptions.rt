@@ -1,7 +1,7 @@
 //! The parts of exceptions that their texts show.
 
 ghost use Rattle.std.specs.Prelude.{◌≡◌, map};
-ghost use Rattle.mpy_base.specs.World.{AnException, IsA, object};
+ghost use Rattle.py_primitives.specs.mpy_base.World.{AnException, IsA, object};
 ghost use Rattle.arena_objects.specs.arena_heap.Values.{Leads};
 ghost use Rattle.arena_objects.specs.arena_heap.Constants.{IsTold};
 ghost use Rattle.arena_objects.specs.Keys.{AllTold};
@@ -12,8 +12,8 @@ ghost use Rattle.prim_walks.specs.Plain.{plain, plain_heap};
 ghost use Rattle.prim_walks.specs.Leaves.{IsRaised};
 
 use crate::look::look_at;
-use arena_heap::{Arena, Constants, ExcNo, Value, exc_parts};
-use mpy_base::Kind;
+use arena_objects::{Arena, Constants, ExcNo, Value, exc_parts};
+use py_primitives::Kind;
 
 /// The kind of an exception and its arguments.
 pub(crate) fn exception_parts<C: Constants>(arena: &Arena, consts: &C, e: ExcNo) -> (Kind, Value)

@@ -10,8 +10,8 @@ ghost use Rattle.prim_walks.specs.Plain.{plain};
 ghost use Rattle.prim_walks.specs.Numbers.{number_in};
 
 use crate::names::builtin_name;
-use arena_heap::Value;
-use mpy_base::Builtin;
+use arena_objects::Value;
+use py_primitives::Builtin;
 
 /// The number of the object that a value leads to, if it does.
 fn number_of(v: Value) -> Option<u32>

@@ -1,8 +1,8 @@
 //! The texts of values that have no others in them.
 
 ghost use Rattle.std.specs.Prelude.{◌≡◌, ◌<◌, All};
-ghost use Rattle.mpy_base.specs.Kind.{kind_name};
-ghost use Rattle.mpy_base.specs.World.{AFunction, AModule, ARange, IsA, object};
+ghost use Rattle.py_primitives.specs.mpy_base.Kind.{kind_name};
+ghost use Rattle.py_primitives.specs.mpy_base.World.{AFunction, AModule, ARange, IsA, object};
 ghost use Rattle.arena_objects.specs.arena_heap.Values.{Leads};
 ghost use Rattle.arena_objects.specs.arena_heap.Constants.{IsTold};
 ghost use Rattle.py_primitives.specs.Builtins.{is_type as is_one_type};
@@ -15,11 +15,11 @@ use crate::names::builtin_name;
 use crate::pen::Pen;
 use crate::pieces::{put, put_number, put_str, put_three};
 use crate::ranges::is_one_number;
-use arena_heap::{
+use arena_objects::{
     Arena, Constants, FunNo, ModuleNo, RangeNo, StrNo, Value, fun_parts, module_parts, range_parts,
+    text_bytes,
 };
-use arena_objects::text_bytes;
-use mpy_base::{Builtin, Kind};
+use py_primitives::{Builtin, Kind};
 
 fn is_type(b: Builtin) -> bool
     ensures { result ≡ is_one_type b }

@@ -7,8 +7,9 @@ ghost use Rattle.py_primitives.specs.py_values.Shown.{shown};
 ghost use Rattle.prim_walks.specs.Plain.{plain, plain_heap};
 ghost use Rattle.prim_walks.specs.Looks.{seen, IsLook};
 
-use arena_heap::{Arena, Constants, DictNo, Value, list_len, range_parts, tuple_len};
-use arena_objects::text_bytes;
+use arena_objects::{
+    Arena, Constants, DictNo, Value, list_len, range_parts, text_bytes, tuple_len,
+};
 
 /// What a walk sees of a value. A tuple or list comes with its count of items.
 #[derive(Clone, Copy)]

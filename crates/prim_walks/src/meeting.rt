@@ -1,8 +1,8 @@
 //! What a look at two values leaves to be compared.
 
 ghost use Rattle.std.specs.Prelude.{◌≡◌, ◌≢◌, Bool, false, nat_eq, length, pos, if◌then◌else◌};
-ghost use Rattle.mpy_base.specs.Val.{Val as PlainValue};
-ghost use Rattle.mpy_base.specs.World.{ADict, IsA, pairs_at};
+ghost use Rattle.py_primitives.specs.mpy_base.Val.{Val as PlainValue};
+ghost use Rattle.py_primitives.specs.mpy_base.World.{ADict, IsA, pairs_at};
 ghost use Rattle.arena_objects.specs.arena_heap.Values.{Leads};
 ghost use Rattle.arena_objects.specs.arena_heap.Constants.{IsTold};
 ghost use Rattle.py_primitives.specs.py_values.Shown.{shown};
@@ -13,7 +13,7 @@ ghost use Rattle.prim_walks.specs.Meetings.{met, IsMeeting};
 use crate::identity::is_same;
 use crate::look::{Look, look_at};
 use crate::ranges::{is_one_number, is_same_range};
-use arena_heap::{Arena, Constants, DictNo, Value, dict_len};
+use arena_objects::{Arena, Constants, DictNo, Value, dict_len};
 
 /// What a look at two values leaves to be compared.
 #[derive(Clone, Copy)]

@@ -3,7 +3,7 @@
 ghost use Rattle.std.specs.Prelude.{◌≡◌};
 ghost use Rattle.py_primitives.specs.py_values.Names.{builtin_name as name_of};
 
-use mpy_base::Builtin;
+use py_primitives::Builtin;
 
 /// The name that a built-in alone has: that of a method or of a call of `port` stands behind its type or `port`.
 pub fn builtin_name(b: Builtin) -> &'static str

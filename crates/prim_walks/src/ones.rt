@@ -5,7 +5,7 @@ ghost use Rattle.std.specs.Prelude.{◌≡◌, ◌<◌, ℕ, List, Option, Some,
 ghost use Rattle.arena_objects.specs.arena_heap.declared.value.Value.{Value as Item};
 ghost use Rattle.arena_objects.specs.arena_heap.declared.value.StrNo.{StrNo as TextName};
 ghost use Rattle.arena_objects.specs.arena_heap.declared.value.ConstNo.{ConstNo as TupleName};
-ghost use Rattle.mpy_base.specs.Val.{Truth, Int};
+ghost use Rattle.py_primitives.specs.mpy_base.Val.{Truth, Int};
 ghost use Rattle.arena_objects.specs.arena_heap.Values.{Leads};
 ghost use Rattle.arena_objects.specs.arena_heap.Constants.{IsTold, NestsWithin};
 ghost use Rattle.arena_objects.specs.Iterables.{items_in};
@@ -17,8 +17,7 @@ ghost use Rattle.prim_walks.specs.Plain.{plain, plain_heap};
 use crate::identity::is_same;
 use crate::look::{Look, look_at};
 use crate::ranges::is_one_number;
-use arena_heap::{Arena, Constants, Value};
-use arena_objects::item_count;
+use arena_objects::{Arena, Constants, Value, item_count};
 
 fn is_one_truth(x: bool, b: Value) -> bool
     ensures { (heap : PlainHeap) (texts : TextName → Option (List ℕ)) (tuples : TupleName → Option (List Item)) → result ≡ is_one_thing heap (Truth x) (plain texts tuples b) }

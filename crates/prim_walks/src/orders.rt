@@ -15,9 +15,8 @@ ghost use Rattle.prim_walks.specs.Runs.{run};
 use crate::budget::{Budget, Halt};
 use crate::equality::equal_values;
 use crate::ranking::{Ranking, rank};
-use arena_heap::{Arena, Constants, Value};
-use arena_objects::item_at;
-use mpy_base::limits::MAX_WALK_DEPTH;
+use arena_objects::{Arena, Constants, Value, item_at};
+use py_primitives::limits::MAX_WALK_DEPTH;
 use std::cmp::Ordering;
 
 /// Two values that have no order.

@@ -1,12 +1,12 @@
 //! The pairs of dicts.
 
 ghost use Rattle.std.specs.Prelude.{◌≡◌, ◌<◌, length, Some, slice_get};
-ghost use Rattle.mpy_base.specs.World.{ADict, IsA, pairs_at};
+ghost use Rattle.py_primitives.specs.mpy_base.World.{ADict, IsA, pairs_at};
 ghost use Rattle.arena_objects.specs.arena_heap.Values.{Leads, IsKey};
 ghost use Rattle.arena_objects.specs.arena_heap.Constants.{IsTold};
 ghost use Rattle.arena_objects.specs.Keys.{AllTold};
 
-use arena_heap::{Arena, Constants, DictNo, Value, dict_at};
+use arena_objects::{Arena, Constants, DictNo, Value, dict_at};
 
 /// The pair of a dict at a place.
 pub(crate) fn pair_at<C: Constants>(arena: &Arena, consts: &C, d: DictNo, at: u32) -> (Value, Value)

@@ -2,7 +2,7 @@
 
 ghost use Rattle.std.specs.Prelude.{◌≡◌, Bool, Result};
 ghost use Rattle.std.specs.declared.cmp.Ordering.{Ordering as Rank};
-ghost use Rattle.mpy_base.specs.Val.{Val as PlainValue};
+ghost use Rattle.py_primitives.specs.mpy_base.Val.{Val as PlainValue};
 ghost use Rattle.arena_objects.specs.arena_heap.Values.{Leads};
 ghost use Rattle.arena_objects.specs.arena_heap.Constants.{IsTold};
 ghost use Rattle.py_primitives.specs.py_values.Shown.{shown};
@@ -12,7 +12,7 @@ ghost use Rattle.prim_walks.specs.Plain.{plain, plain_heap};
 ghost use Rattle.prim_walks.specs.Orders.{ranked, IsRanking};
 
 use crate::look::{Look, look_at};
-use arena_heap::{Arena, Constants, Value};
+use arena_objects::{Arena, Constants, Value};
 use std::cmp::Ordering;
 
 /// What a look at two values tells of their order.

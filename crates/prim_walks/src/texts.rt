@@ -14,8 +14,8 @@ use crate::pen::Pen;
 use crate::ruler::Ruler;
 use crate::writer::Writer;
 use crate::writing::write_value;
-use arena_heap::{Arena, Constants, Value};
-use mpy_base::limits::MAX_WALK_DEPTH;
+use arena_objects::{Arena, Constants, Value};
+use py_primitives::limits::MAX_WALK_DEPTH;
 
 /// Writes the text of a value: its str where it is raw, and else its repr. It gives None where the text goes too deep.
 pub fn write_text<P: Pen, C: Constants>(

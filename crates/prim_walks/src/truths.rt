@@ -7,8 +7,7 @@ ghost use Rattle.py_primitives.specs.py_values.Shown.{truth as truth_of};
 ghost use Rattle.prim_walks.specs.Plain.{plain, plain_heap};
 
 use crate::look::{Look, look_at};
-use arena_heap::{Arena, Constants, Value, dict_len};
-use arena_objects::range_count;
+use arena_objects::{Arena, Constants, Value, dict_len, range_count};
 
 /// Whether a value counts as true.
 pub fn truth<C: Constants>(arena: &Arena, consts: &C, v: Value) -> bool

@@ -1,7 +1,7 @@
 //! What stands behind the items of a tuple.
 
 ghost use Rattle.std.specs.Prelude.{◌≡◌, ◌<◌, ℕ, List, Bool, All, map, codes};
-ghost use Rattle.mpy_base.specs.Val.{Val as PlainValue};
+ghost use Rattle.py_primitives.specs.mpy_base.Val.{Val as PlainValue};
 ghost use Rattle.arena_objects.specs.arena_heap.Values.{Leads, IsTuple};
 ghost use Rattle.arena_objects.specs.arena_heap.Constants.{IsTold};
 ghost use Rattle.arena_objects.specs.Iterables.{items_in};
@@ -11,8 +11,7 @@ ghost use Rattle.prim_walks.specs.Leaves.{end_of_tuple};
 ghost use Rattle.prim_walks.specs.Plain.{plain, plain_heap};
 
 use crate::look::look_at;
-use arena_heap::{Arena, Constants, Value};
-use arena_objects::item_count;
+use arena_objects::{Arena, Constants, Value, item_count};
 
 /// What stands behind the `count` items of a tuple: a lone one has a comma.
 fn end_of(count: u32) -> &'static [u8]

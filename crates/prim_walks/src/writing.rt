@@ -1,7 +1,7 @@
 //! Texts, visit by visit.
 
 ghost use Rattle.std.specs.Prelude.{◌≡◌, ◌<◌, map, false, All, codes};
-ghost use Rattle.mpy_base.specs.World.{ADict, AnException, IsA, object, pairs_at};
+ghost use Rattle.py_primitives.specs.mpy_base.World.{ADict, AnException, IsA, object, pairs_at};
 ghost use Rattle.arena_objects.specs.arena_heap.Values.{Leads};
 ghost use Rattle.arena_objects.specs.arena_heap.Constants.{IsTold};
 ghost use Rattle.arena_objects.specs.Keys.{AllTold};
@@ -19,8 +19,7 @@ use crate::pairs::pair_at;
 use crate::pen::Pen;
 use crate::pieces::{put, put_separator};
 use crate::tuples::tuple_end;
-use arena_heap::{Arena, Constants, DictNo, ExcNo, Value, dict_len};
-use arena_objects::{item_at, item_count};
+use arena_objects::{Arena, Constants, DictNo, ExcNo, Value, dict_len, item_at, item_count};
 
 /// Writes a value, no deeper than this, within the budget: its str where it is raw, and else its repr.
 #[cycle(write_value)]

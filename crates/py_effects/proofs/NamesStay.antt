@@ -2,8 +2,8 @@
 use Rattle.std.proofs.Common.{◌≡◌, ℕ, List, [], ◌∷◌, ◌++◌, filter, Bool, true, false, not, Option, Some, None, Result, Ok, Err, cond, refl, sym, ap, ◌∙◌}
 use Rattle.std.specs.Prelude.{bytes_eq}
 use Rattle.std.proofs.lemmas.Slice.Eq.{bytes_eq-Decides}
-use Rattle.mpy_base.specs.World.{FunctionObject, MethodObject, object}
-use Rattle.mpy_base.specs.Val.{Val, At, Built, PlainWorld}
+use Rattle.py_primitives.specs.mpy_base.World.{FunctionObject, MethodObject, object}
+use Rattle.py_primitives.specs.mpy_base.Val.{Val, At, Built, PlainWorld}
 use Rattle.py_primitives.specs.Operators.{named_kind, exception_kind}
 use Rattle.py_primitives.specs.Outcome.{Stop, making_fault}
 use Rattle.py_primitives.specs.Uses.{attribute}

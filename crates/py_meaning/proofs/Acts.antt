@@ -4,13 +4,13 @@ use Rattle.std.specs.List.{filter_map, flat_map, list_all}
 use Rattle.std.proofs.lemmas.List.Elements.{filter_map-append}
 use Rattle.std.proofs.lemmas.List.{append-nil}
 use Rattle.std.proofs.lemmas.List.Folds.{flat_map-map, list_all-map}
-use Rattle.py_tree.specs.declared.expr.Expr.{Expr, roll-Expr, map-Expr}
-use Rattle.py_tree.specs.declared.expr.Expr.TheOpen.{Expr-F}
-use Rattle.py_tree.specs.declared.expr.Expr.TheFolds.{fold-roll-Expr, ind-Expr}
-use Rattle.py_tree.specs.declared.stmt.Target.{Target, roll-Target, map-Target, out-Target, out-roll-Target}
-use Rattle.py_tree.specs.declared.stmt.Target.TheOpen.{Target-F}
-use Rattle.py_tree.specs.declared.stmt.Target.TheFolds.{fold-roll-Target, ind-Target}
-use Rattle.py_tree.specs.Formed as formed
+use Rattle.py_scopes.specs.py_tree.declared.expr.Expr.{Expr, roll-Expr, map-Expr}
+use Rattle.py_scopes.specs.py_tree.declared.expr.Expr.TheOpen.{Expr-F}
+use Rattle.py_scopes.specs.py_tree.declared.expr.Expr.TheFolds.{fold-roll-Expr, ind-Expr}
+use Rattle.py_scopes.specs.py_tree.declared.stmt.Target.{Target, roll-Target, map-Target, out-Target, out-roll-Target}
+use Rattle.py_scopes.specs.py_tree.declared.stmt.Target.TheOpen.{Target-F}
+use Rattle.py_scopes.specs.py_tree.declared.stmt.Target.TheFolds.{fold-roll-Target, ind-Target}
+use Rattle.py_scopes.specs.py_tree.Formed as formed
 use Rattle.py_scopes.specs.declared.event.Act.{Act}
 use Rattle.py_scopes.specs.declared.event.Act.TheVariants.{Use, Bind, Declare}
 use Rattle.py_scopes.specs.declared.names.Tells.TheVariants.{Bound, Declared}

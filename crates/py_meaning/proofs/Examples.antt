@@ -1,14 +1,14 @@
 -- Sources and what a reference says of them.
 use Rattle.std.proofs.Common.{◌≡◌, ℕ, List, [], ◌∷◌, true, false, Option, Some, None, codes, map, refl, sym, ap, ap₂, ◌∙◌, pos}
-use Rattle.mpy_base.specs.Val.{Int}
-use Rattle.py_tree.specs.declared.stmt.Alias.{Alias}
-use Rattle.py_tree.specs.declared.expr.BinaryOp.TheVariants as binaries
+use Rattle.py_effects.specs.mpy_base.Val.{Int}
+use Rattle.py_scopes.specs.py_tree.declared.stmt.Alias.{Alias}
+use Rattle.py_scopes.specs.py_tree.declared.expr.BinaryOp.TheVariants as binaries
 use Rattle.py_meaning.specs.Tree.{Constant, Named, ListOf, TupleOf, NoExpr, More, ToName, ToAttr, ToIndex, ToEach, Only, Then, Assign, AugName, Delete, Pass, Break, Continue, ReturnNone, Return, Import, From, If, While, For, TryFinally, Def, Block, End, Next, Else, Case, NoHandler, On, OnAs, functions}
-use Rattle.py_tree.specs.declared.stmt.Param.{Param}
-use Rattle.py_tree.specs.declared.stmt.Stmt.{Stmt, roll-Stmt}
-use Rattle.py_tree.specs.declared.stmt.StmtKind.TheOpen.{StmtKind-F}
-use Rattle.py_tree.specs.declared.stmt.StmtKind.TheVariants as s
-use Rattle.py_tree.specs.declared.stmt.StmtKind.TheFolds.{fold-roll-StmtKind, fold-roll-Stmt}
+use Rattle.py_scopes.specs.py_tree.declared.stmt.Param.{Param}
+use Rattle.py_scopes.specs.py_tree.declared.stmt.Stmt.{Stmt, roll-Stmt}
+use Rattle.py_scopes.specs.py_tree.declared.stmt.StmtKind.TheOpen.{StmtKind-F}
+use Rattle.py_scopes.specs.py_tree.declared.stmt.StmtKind.TheVariants as s
+use Rattle.py_scopes.specs.py_tree.declared.stmt.StmtKind.TheFolds.{fold-roll-StmtKind, fold-roll-Stmt}
 use Rattle.py_meaning.specs.Globals.{Globals, all, function, kind_step, branch_step, handler_step, stmt_step, stmt_globals, globals_of}
 use Rattle.py_meaning.proofs.Steps.{kind_globals}
 use Rattle.py_meaning.specs.Locals.{locals_of}

@@ -2,7 +2,7 @@
 use Rattle.std.proofs.Common.{◌≡◌, ℕ, suc, ◌+◌, ◌≤◌, Bool, true, false, List, [], ◌∷◌, ◌++◌, length, length-append, append_assoc, map, refl, sym, ap, subst, ◌∙◌, arith}
 use Rattle.std.specs.List.{filter_map}
 use Rattle.std.proofs.lemmas.List.{length-map, map-append}
-use Rattle.py_tree.specs.declared.stmt.Param.{Param}
+use Rattle.py_scopes.specs.py_tree.declared.stmt.Param.{Param}
 use Rattle.py_scopes.specs.declared.event.Act.{Act}
 use Rattle.py_scopes.specs.declared.event.Act.TheVariants.{Bind, Enter, Leave}
 use Rattle.py_scopes.specs.declared.event.Event.{Event}

@@ -3,9 +3,9 @@ use Rattle.std.proofs.Common.{◌≡◌, ℕ, ◌+◌, true, false, List, [], �
 use Rattle.std.specs.List.{list_all}
 use Rattle.std.proofs.lemmas.List.{length-map}
 use Rattle.std.proofs.lemmas.List.Folds.{list_all-map}
-use Rattle.py_tree.specs.declared.stmt.Module.{Module}
-use Rattle.py_tree.specs.declared.stmt.Stmt.{Stmt}
-use Rattle.py_tree.specs.Formed.{IsFormed, stmt_formed}
+use Rattle.py_scopes.specs.py_tree.declared.stmt.Module.{Module}
+use Rattle.py_scopes.specs.py_tree.declared.stmt.Stmt.{Stmt}
+use Rattle.py_scopes.specs.py_tree.Formed.{IsFormed, stmt_formed}
 use Rattle.py_scopes.specs.declared.names.Tells.TheVariants.{Bound, Declared}
 use Rattle.py_scopes.specs.Names.{Table, firsts}
 use Rattle.py_scopes.specs.Events as events

@@ -1,7 +1,7 @@
 -- More turns: units.
 use Rattle.std.proofs.Common.{ℕ, suc, ◌+◌, ◌≤◌}
 use Rattle.std.specs.Prelude.{[]}
-use Rattle.mpy_base.specs.Val.{Val, Nil, PlainWorld}
+use Rattle.py_effects.specs.mpy_base.Val.{Val, Nil, PlainWorld}
 use Rattle.py_effects.specs.py_primitives.Faults.{TooDeep}
 use Rattle.py_effects.specs.Effect.{fault_at}
 use Rattle.py_effects.specs.Modules.{make_function}

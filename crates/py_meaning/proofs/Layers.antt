@@ -2,13 +2,13 @@
 use Rattle.std.proofs.Common.{◌≡◌, ℕ, suc, ◌+◌, Bool, true, false, not, ◌&&◌, ◌||◌, List, [], ◌∷◌, ◌++◌, append_assoc, map, Option, Some, None, is_some, refl, sym, ap, arith}
 use Rattle.std.specs.List.{list_all}
 use Rattle.std.proofs.lemmas.List.{append-nil}
-use Rattle.py_tree.specs.declared.expr.Expr.{Expr}
-use Rattle.py_tree.specs.declared.stmt.Stmt.{Stmt, map-Stmt}
-use Rattle.py_tree.specs.declared.stmt.Branch.{Branch, map-Branch}
-use Rattle.py_tree.specs.declared.stmt.Handler.{Handler, map-Handler}
-use Rattle.py_tree.specs.declared.stmt.StmtKind.{StmtKind, map-StmtKind}
-use Rattle.py_tree.specs.declared.stmt.StmtKind.TheOpen.{StmtKind-F, Stmt-F, Branch-F, Handler-F}
-use Rattle.py_tree.specs.Formed as formed
+use Rattle.py_scopes.specs.py_tree.declared.expr.Expr.{Expr}
+use Rattle.py_scopes.specs.py_tree.declared.stmt.Stmt.{Stmt, map-Stmt}
+use Rattle.py_scopes.specs.py_tree.declared.stmt.Branch.{Branch, map-Branch}
+use Rattle.py_scopes.specs.py_tree.declared.stmt.Handler.{Handler, map-Handler}
+use Rattle.py_scopes.specs.py_tree.declared.stmt.StmtKind.{StmtKind, map-StmtKind}
+use Rattle.py_scopes.specs.py_tree.declared.stmt.StmtKind.TheOpen.{StmtKind-F, Stmt-F, Branch-F, Handler-F}
+use Rattle.py_scopes.specs.py_tree.Formed as formed
 use Rattle.py_scopes.specs.declared.event.Act.{Act}
 use Rattle.py_scopes.specs.declared.event.Event.{Event}
 use Rattle.py_scopes.specs.Events as events

@@ -2,11 +2,11 @@
 use Rattle.std.proofs.Common.{◌≡◌, ℕ, ◌+◌, Bool, true, false, ◌||◌, List, [], ◌∷◌, ◌++◌, append_assoc, map, refl, sym, ap₂, ◌⊎◌, inl, inr, arith}
 use Rattle.std.specs.List.{list_all}
 use Rattle.std.proofs.lemmas.List.{append-nil}
-use Rattle.py_tree.specs.declared.stmt.Stmt.{Stmt}
-use Rattle.py_tree.specs.declared.stmt.Branch.{Branch}
-use Rattle.py_tree.specs.declared.stmt.Handler.{Handler}
-use Rattle.py_tree.specs.declared.stmt.StmtKind.{StmtKind}
-use Rattle.py_tree.specs.Formed as formed
+use Rattle.py_scopes.specs.py_tree.declared.stmt.Stmt.{Stmt}
+use Rattle.py_scopes.specs.py_tree.declared.stmt.Branch.{Branch}
+use Rattle.py_scopes.specs.py_tree.declared.stmt.Handler.{Handler}
+use Rattle.py_scopes.specs.py_tree.declared.stmt.StmtKind.{StmtKind}
+use Rattle.py_scopes.specs.py_tree.Formed as formed
 use Rattle.py_scopes.specs.declared.event.Event.{Event}
 use Rattle.py_scopes.specs.Events as events
 use Rattle.py_meaning.specs.Tree as tree

@@ -5,14 +5,14 @@ use Rattle.std.specs.Str.{bytes_eq}
 use Rattle.std.proofs.lemmas.Slice.Eq.{bytes_eq-Decides}
 use Rattle.py_scopes.specs.Names.{firsts}
 use Rattle.std.proofs.lemmas.List.{append-nil}
-use Rattle.py_tree.specs.declared.expr.BinaryOp.{BinaryOp}
-use Rattle.py_tree.specs.declared.expr.Expr.{Expr}
-use Rattle.py_tree.specs.declared.stmt.Alias.{Alias}
-use Rattle.py_tree.specs.declared.stmt.Param.{Param}
-use Rattle.py_tree.specs.declared.stmt.Target.{Target, out-Target}
-use Rattle.py_tree.specs.declared.stmt.StmtKind.TheOpen.{StmtKind-F}
-use Rattle.py_tree.specs.Formed as formed
-use Rattle.py_tree.proofs.Formed.{both}
+use Rattle.py_scopes.specs.py_tree.declared.expr.BinaryOp.{BinaryOp}
+use Rattle.py_scopes.specs.py_tree.declared.expr.Expr.{Expr}
+use Rattle.py_scopes.specs.py_tree.declared.stmt.Alias.{Alias}
+use Rattle.py_scopes.specs.py_tree.declared.stmt.Param.{Param}
+use Rattle.py_scopes.specs.py_tree.declared.stmt.Target.{Target, out-Target}
+use Rattle.py_scopes.specs.py_tree.declared.stmt.StmtKind.TheOpen.{StmtKind-F}
+use Rattle.py_scopes.specs.py_tree.Formed as formed
+use Rattle.py_scopes.proofs.py_tree_lemmas.Formed.{both}
 use Rattle.py_scopes.specs.declared.event.Act.{Act}
 use Rattle.py_scopes.specs.declared.event.Act.TheVariants.{Declare, Jump, Return}
 use Rattle.py_scopes.specs.Events as events

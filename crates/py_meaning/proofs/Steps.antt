@@ -1,13 +1,13 @@
 -- The folds over a parser's tree side by side: its plain tree, its events, the names that it declares global, and whether it
 -- is formed. What each gives of one layer.
 use Rattle.std.proofs.Common.{ℕ, Bool}
-use Rattle.py_tree.specs.declared.stmt.Stmt.{Stmt, map-Stmt}
-use Rattle.py_tree.specs.declared.stmt.Branch.{Branch, map-Branch}
-use Rattle.py_tree.specs.declared.stmt.Handler.{Handler, map-Handler}
-use Rattle.py_tree.specs.declared.stmt.StmtKind.{StmtKind, map-StmtKind}
-use Rattle.py_tree.specs.declared.stmt.StmtKind.TheOpen.{StmtKind-F, Stmt-F, Branch-F, Handler-F}
-use Rattle.py_tree.specs.declared.stmt.StmtKind.TheFolds.{fold-StmtKind, fold-Branch, fold-Handler}
-use Rattle.py_tree.specs.Formed as formed
+use Rattle.py_scopes.specs.py_tree.declared.stmt.Stmt.{Stmt, map-Stmt}
+use Rattle.py_scopes.specs.py_tree.declared.stmt.Branch.{Branch, map-Branch}
+use Rattle.py_scopes.specs.py_tree.declared.stmt.Handler.{Handler, map-Handler}
+use Rattle.py_scopes.specs.py_tree.declared.stmt.StmtKind.{StmtKind, map-StmtKind}
+use Rattle.py_scopes.specs.py_tree.declared.stmt.StmtKind.TheOpen.{StmtKind-F, Stmt-F, Branch-F, Handler-F}
+use Rattle.py_scopes.specs.py_tree.declared.stmt.StmtKind.TheFolds.{fold-StmtKind, fold-Branch, fold-Handler}
+use Rattle.py_scopes.specs.py_tree.Formed as formed
 use Rattle.py_scopes.specs.Events as events
 use Rattle.py_meaning.specs.Tree as tree
 use Rattle.py_meaning.specs.Plain as plain

@@ -1,12 +1,12 @@
 -- Each statement of a formed tree fits its events: by induction, from layer to layer.
 use Rattle.std.proofs.Common.{◌≡◌, ℕ, Bool, true, sym, ap, subst, ◌∙◌}
-use Rattle.py_tree.specs.declared.stmt.Stmt.{Stmt, roll-Stmt}
-use Rattle.py_tree.specs.declared.stmt.Branch.{Branch, roll-Branch}
-use Rattle.py_tree.specs.declared.stmt.Handler.{Handler, roll-Handler}
-use Rattle.py_tree.specs.declared.stmt.StmtKind.{StmtKind, roll-StmtKind}
-use Rattle.py_tree.specs.declared.stmt.StmtKind.TheOpen.{StmtKind-F, Stmt-F, Branch-F, Handler-F}
-use Rattle.py_tree.specs.declared.stmt.StmtKind.TheFolds.{fold-roll-StmtKind, fold-roll-Branch, fold-roll-Handler, fold-roll-Stmt, ind-Stmt}
-use Rattle.py_tree.specs.Formed as formed
+use Rattle.py_scopes.specs.py_tree.declared.stmt.Stmt.{Stmt, roll-Stmt}
+use Rattle.py_scopes.specs.py_tree.declared.stmt.Branch.{Branch, roll-Branch}
+use Rattle.py_scopes.specs.py_tree.declared.stmt.Handler.{Handler, roll-Handler}
+use Rattle.py_scopes.specs.py_tree.declared.stmt.StmtKind.{StmtKind, roll-StmtKind}
+use Rattle.py_scopes.specs.py_tree.declared.stmt.StmtKind.TheOpen.{StmtKind-F, Stmt-F, Branch-F, Handler-F}
+use Rattle.py_scopes.specs.py_tree.declared.stmt.StmtKind.TheFolds.{fold-roll-StmtKind, fold-roll-Branch, fold-roll-Handler, fold-roll-Stmt, ind-Stmt}
+use Rattle.py_scopes.specs.py_tree.Formed as formed
 use Rattle.py_scopes.specs.Events as events
 use Rattle.py_meaning.specs.Tree as tree
 use Rattle.py_meaning.specs.Plain as plain

@@ -4,7 +4,7 @@ use Rattle.std.specs.Prelude.{slice_get, option_and_then}
 use Rattle.py_scopes.specs.declared.event.Act.{Act}
 use Rattle.py_scopes.specs.declared.event.Act.TheVariants.{Use, Bind, Declare, Jump, Return, Enter, Leave}
 use Rattle.py_scopes.specs.declared.names.Tells.TheVariants.{Bound, Declared, Occurring}
-use Rattle.mpy_base.specs.declared.source.SourceCode.TheVariants.{LateGlobal}
+use Rattle.py_effects.specs.mpy_base.declared.source.SourceCode.TheVariants.{LateGlobal}
 use Rattle.py_scopes.specs.Names.{Table, has}
 use Rattle.py_meaning.specs.Tree.{Name}
 use Rattle.std.specs.List.{filter_map}

@@ -1,9 +1,9 @@
 -- The names that functions declare global, which the plain tree leaves out.
 use Rattle.std.specs.Prelude.{List, [], ◌∷◌, ◌++◌, map, Option, Some, None}
-use Rattle.py_tree.specs.declared.stmt.Module.{Module}
-use Rattle.py_tree.specs.declared.stmt.Stmt.{Stmt}
-use Rattle.py_tree.specs.declared.stmt.StmtKind.TheOpen.{StmtKind-F, Stmt-F, Branch-F, Handler-F}
-use Rattle.py_tree.specs.declared.stmt.StmtKind.TheFolds.{fold-Stmt}
+use Rattle.py_scopes.specs.py_tree.declared.stmt.Module.{Module}
+use Rattle.py_scopes.specs.py_tree.declared.stmt.Stmt.{Stmt}
+use Rattle.py_scopes.specs.py_tree.declared.stmt.StmtKind.TheOpen.{StmtKind-F, Stmt-F, Branch-F, Handler-F}
+use Rattle.py_scopes.specs.py_tree.declared.stmt.StmtKind.TheFolds.{fold-Stmt}
 use Rattle.py_meaning.specs.Tree.{Name}
 
 -- what a part of a text declares: the text itself, and each function that is defined in it, in text order

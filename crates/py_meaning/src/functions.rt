@@ -2,8 +2,8 @@
 
 ghost use Rattle.std.specs.Prelude.{◌≡◌, ℕ, true, false, List, ◌∷◌, length};
 ghost use Rattle.std.specs.List.{list_all};
-ghost use Rattle.py_tree.specs.declared.stmt.Module.{Module};
-ghost use Rattle.py_tree.specs.Formed.{IsFormed};
+ghost use Rattle.py_scopes.specs.py_tree.declared.stmt.Module.{Module};
+ghost use Rattle.py_scopes.specs.py_tree.Formed.{IsFormed};
 ghost use Rattle.py_scopes.specs.Scopes.{slots_of, IsFaultless};
 ghost use Rattle.py_scopes.specs.Events.{first_part};
 ghost use Rattle.py_meaning.specs.Tree.{Name, functions};

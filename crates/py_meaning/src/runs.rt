@@ -1,8 +1,8 @@
 //! The meaning of sources: what a program prints, how it ends and what its world is then, within a bound on its turns.
 
 ghost use Rattle.std.specs.Prelude.{◌≡◌, ◌≤◌, ℕ, List, true};
-ghost use Rattle.mpy_base.specs.World.{PortState};
-ghost use Rattle.mpy_base.specs.Val.{PlainWorld};
+ghost use Rattle.py_effects.specs.mpy_base.World.{PortState};
+ghost use Rattle.py_effects.specs.mpy_base.Val.{PlainWorld};
 ghost use Rattle.py_effects.specs.Names.{Locals};
 ghost use Rattle.py_effects.specs.Ends.{is_over, new_world};
 ghost use Rattle.py_effects.specs.Growth.{Prints};

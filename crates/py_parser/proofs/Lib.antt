@@ -1,4 +1,6 @@
+pub use Rattle.py_expressions.proofs as py_expressions_lemmas
 pub use Rattle.py_nest.proofs as py_nest_lemmas
+pub use Rattle.py_statements.proofs as py_statements_lemmas
 pub mod Below
 pub mod Sounder
 pub mod Stops

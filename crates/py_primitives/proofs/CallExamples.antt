@@ -2,12 +2,12 @@
 -- cells that it took.
 use Rattle.std.proofs.Common.{◌≡◌, ℕ, ◌-◌, List, [], ◌∷◌, ◌++◌, codes, Option, refl, true, false, Some, None, Result, Ok, Err, pos, negsuc}
 use Rattle.std.specs.Fmt.{digits}
-use Rattle.mpy_base.specs.declared.builtin.Builtin.TheVariants as builtins
-use Rattle.mpy_base.specs.declared.kind.Kind.TheVariants as kinds
-use Rattle.mpy_base.specs.Kind.{kind_name}
-use Rattle.mpy_base.specs.World.{ListObject, TupleObject, TextObject, DictObject, ExceptionObject, RangeObject}
-use Rattle.mpy_base.specs.Weights.{used}
-use Rattle.mpy_base.specs.Val.{Val, Nil, Truth, Int, Str, Fixed, Only, Then, Empty, Built, At}
+use Rattle.py_values.specs.mpy_base.declared.builtin.Builtin.TheVariants as builtins
+use Rattle.py_values.specs.mpy_base.declared.kind.Kind.TheVariants as kinds
+use Rattle.py_values.specs.mpy_base.Kind.{kind_name}
+use Rattle.py_values.specs.mpy_base.World.{ListObject, TupleObject, TextObject, DictObject, ExceptionObject, RangeObject}
+use Rattle.py_values.specs.mpy_base.Weights.{used}
+use Rattle.py_values.specs.mpy_base.Val.{Val, Nil, Truth, Int, Str, Fixed, Only, Then, Empty, Built, At}
 use Rattle.py_values.specs.Small.{checked}
 use Rattle.py_values.specs.Power.{power}
 use Rattle.py_values.specs.Shown.{PlainHeap}

@@ -2,12 +2,12 @@
 -- visits and the cells that it took. The answers are those of a reference interpreter.
 use Rattle.std.proofs.Common.{◌≡◌, ℕ, ◌-◌, ℤ, List, [], ◌∷◌, ◌++◌, codes, Option, refl, true, false, Some, None, Result, Ok, Err, pos, negsuc}
 use Rattle.std.specs.Fmt.{decimal, digits}
-use Rattle.mpy_base.specs.declared.builtin.Builtin.TheVariants as builtins
-use Rattle.mpy_base.specs.declared.kind.Kind.TheVariants as kinds
-use Rattle.mpy_base.specs.Kind.{kind_name}
-use Rattle.mpy_base.specs.World.{Object, ListObject, TupleObject, TextObject, DictObject, ExceptionObject, RangeObject, ModuleObject, PortState}
-use Rattle.mpy_base.specs.Weights.{used}
-use Rattle.mpy_base.specs.Val.{Val, Nil, Truth, Int, Str, Fixed, Only, Then, Empty, Built, At}
+use Rattle.py_values.specs.mpy_base.declared.builtin.Builtin.TheVariants as builtins
+use Rattle.py_values.specs.mpy_base.declared.kind.Kind.TheVariants as kinds
+use Rattle.py_values.specs.mpy_base.Kind.{kind_name}
+use Rattle.py_values.specs.mpy_base.World.{Object, ListObject, TupleObject, TextObject, DictObject, ExceptionObject, RangeObject, ModuleObject, PortState}
+use Rattle.py_values.specs.mpy_base.Weights.{used}
+use Rattle.py_values.specs.mpy_base.Val.{Val, Nil, Truth, Int, Str, Fixed, Only, Then, Empty, Built, At}
 use Rattle.py_values.specs.Small.{checked}
 use Rattle.py_values.specs.Power.{power}
 use Rattle.py_values.specs.Shown.{PlainHeap}

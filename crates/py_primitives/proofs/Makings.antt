@@ -1,9 +1,9 @@
 -- Makings that fit, and those that don't.
 use Rattle.std.proofs.Common.{◌≡◌, ℕ, List, Ok, Err, Bool, true, false, cond, refl, arith}
-use Rattle.mpy_base.specs.declared.room.NoRoom.{NoRoom}
-use Rattle.mpy_base.specs.World.{Object}
-use Rattle.mpy_base.specs.Weights.{used, does_fit, Fits, Made, Refused, cells_of, bytes_of, with_made}
-use Rattle.mpy_base.specs.Val.{Val, At}
+use Rattle.py_values.specs.mpy_base.declared.room.NoRoom.{NoRoom}
+use Rattle.py_values.specs.mpy_base.World.{Object}
+use Rattle.py_values.specs.mpy_base.Weights.{used, does_fit, Fits, Made, Refused, cells_of, bytes_of, with_made}
+use Rattle.py_values.specs.mpy_base.Val.{Val, At}
 use Rattle.py_values.specs.Shown.{PlainHeap}
 use Rattle.py_primitives.specs.Outcome.{Outcome, Full, gives, is_full, making}
 

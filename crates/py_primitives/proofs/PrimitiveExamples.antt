@@ -1,10 +1,10 @@
 -- Primitives computed from their definitions.
 use Rattle.std.proofs.Common.{Less, ◌≡◌, ℕ, Option, List, [], ◌∷◌, codes, refl, true, false, Some, None, Ok, Err, pos, negsuc}
 use Rattle.std.specs.Fmt.{digits}
-use Rattle.mpy_base.specs.declared.builtin.Builtin.TheVariants as builtins
-use Rattle.mpy_base.specs.declared.kind.Kind.TheVariants as kinds
-use Rattle.mpy_base.specs.World.{Object, ListObject, TupleObject, TextObject, DictObject, ExceptionObject, RangeObject}
-use Rattle.mpy_base.specs.Val.{Val, Nil, Truth, Int, Str, Fixed, Only, Then, Empty, Built, At}
+use Rattle.py_values.specs.mpy_base.declared.builtin.Builtin.TheVariants as builtins
+use Rattle.py_values.specs.mpy_base.declared.kind.Kind.TheVariants as kinds
+use Rattle.py_values.specs.mpy_base.World.{Object, ListObject, TupleObject, TextObject, DictObject, ExceptionObject, RangeObject}
+use Rattle.py_values.specs.mpy_base.Val.{Val, Nil, Truth, Int, Str, Fixed, Only, Then, Empty, Built, At}
 use Rattle.py_values.specs.declared.small_int.NumFault.TheVariants.{Overflow, ZeroDivide}
 use Rattle.py_values.specs.Small.{checked}
 use Rattle.py_values.specs.Shown.{PlainHeap}

@@ -1,9 +1,9 @@
 -- The built-ins that a program finds by their names, and what each is.
 use Rattle.std.specs.Prelude.{ℕ, List, [], ◌∷◌, Bool, true, false, Option, Some, None, map, bytes_eq, codes, if◌then◌else◌}
-use Rattle.mpy_base.specs.declared.builtin.Builtin.{Builtin}
-use Rattle.mpy_base.specs.declared.builtin.Builtin.TheVariants as builtins
-use Rattle.mpy_base.specs.declared.kind.Kind.{Kind}
-use Rattle.mpy_base.specs.declared.kind.Kind.TheVariants as kinds
+use Rattle.py_values.specs.mpy_base.declared.builtin.Builtin.{Builtin}
+use Rattle.py_values.specs.mpy_base.declared.builtin.Builtin.TheVariants as builtins
+use Rattle.py_values.specs.mpy_base.declared.kind.Kind.{Kind}
+use Rattle.py_values.specs.mpy_base.declared.kind.Kind.TheVariants as kinds
 use Rattle.py_values.specs.Names.{builtin_name}
 
 -- the kind of exceptions that a built-in is

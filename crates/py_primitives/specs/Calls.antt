@@ -4,11 +4,11 @@ use Rattle.std.specs.Option.{option_map}
 use Rattle.std.specs.Char.{is_ascii_digit}
 use Rattle.std.specs.List.{list_any, list_all}
 use Rattle.std.specs.Ordering.{int_eq}
-use Rattle.mpy_base.specs.declared.builtin.Builtin.{Builtin}
-use Rattle.mpy_base.specs.declared.builtin.Builtin.TheVariants as builtins
-use Rattle.mpy_base.specs.declared.kind.Kind.{Kind}
-use Rattle.mpy_base.specs.World.{DictObject, RangeObject}
-use Rattle.mpy_base.specs.Val.{Val, Nil, Truth, Int, Str, Empty, Built}
+use Rattle.py_values.specs.mpy_base.declared.builtin.Builtin.{Builtin}
+use Rattle.py_values.specs.mpy_base.declared.builtin.Builtin.TheVariants as builtins
+use Rattle.py_values.specs.mpy_base.declared.kind.Kind.{Kind}
+use Rattle.py_values.specs.mpy_base.World.{DictObject, RangeObject}
+use Rattle.py_values.specs.mpy_base.Val.{Val, Nil, Truth, Int, Str, Empty, Built}
 use Rattle.py_values.specs.Small.{checked}
 use Rattle.py_values.specs.Shown.{PlainHeap, Shown, Number, Text, Tuple, shown, truth}
 use Rattle.py_values.specs.Names.{builtin_name, type_name}

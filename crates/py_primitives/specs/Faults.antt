@@ -1,9 +1,9 @@
 -- The faults that primitives and the machine raise: their kinds and texts. Types are given by their names.
 use Rattle.std.specs.Prelude.{ℕ, pos, List, [], ◌++◌, Option, Some, None, codes}
 use Rattle.std.specs.Fmt.{decimal}
-use Rattle.mpy_base.specs.declared.kind.Kind.{Kind}
-use Rattle.mpy_base.specs.declared.kind.Kind.TheVariants as kinds
-use Rattle.mpy_base.specs.Val.{Val, Int}
+use Rattle.py_values.specs.mpy_base.declared.kind.Kind.{Kind}
+use Rattle.py_values.specs.mpy_base.declared.kind.Kind.TheVariants as kinds
+use Rattle.py_values.specs.mpy_base.Val.{Val, Int}
 use Rattle.py_values.specs.declared.small_int.NumFault.{NumFault}
 use Rattle.py_values.specs.declared.small_int.NumFault.TheVariants.{Overflow, ZeroDivide, NegativeShift, NegativePower}
 

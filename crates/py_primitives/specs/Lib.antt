@@ -1,4 +1,5 @@
 pub use Rattle.py_values.specs as py_values
+pub use Rattle.py_values.specs.mpy_base
 pub mod Builtins
 pub mod Calls
 pub mod Faults

@@ -2,11 +2,11 @@
 use Rattle.std.specs.Prelude.{ℕ, zero, suc, ◌+◌, ◌-◌, ℤ, pos, negsuc, List, [], ◌∷◌, ◌++◌, length, map, filter, insert, Bool, not, ◌&&◌, ◌||◌, Option, Some, None, nat_eq, nat_le, slice_get, codes, if◌then◌else◌}
 use Rattle.std.specs.List.{remove, starts_with, slice_split, onto_first}
 use Rattle.std.specs.Option.{option_map}
-use Rattle.mpy_base.specs.declared.builtin.Builtin.{Builtin}
-use Rattle.mpy_base.specs.declared.builtin.Builtin.TheVariants as builtins
-use Rattle.mpy_base.specs.World.{with_list, with_dict}
-use Rattle.mpy_base.specs.Weights.{does_fit, list_growth, with_items}
-use Rattle.mpy_base.specs.Val.{Val, Nil, Truth, Int, At}
+use Rattle.py_values.specs.mpy_base.declared.builtin.Builtin.{Builtin}
+use Rattle.py_values.specs.mpy_base.declared.builtin.Builtin.TheVariants as builtins
+use Rattle.py_values.specs.mpy_base.World.{with_list, with_dict}
+use Rattle.py_values.specs.mpy_base.Weights.{does_fit, list_growth, with_items}
+use Rattle.py_values.specs.mpy_base.Val.{Val, Nil, Truth, Int, At}
 use Rattle.py_values.specs.Shown.{PlainHeap, Shown, Text, Items, Pairs, shown, is_empty}
 use Rattle.py_values.specs.Keys.{value_of_key, without_key}
 use Rattle.py_values.specs.Equality.{Walk, answers, visit}

@@ -4,11 +4,11 @@ use Rattle.std.specs.List.{repeat, list_any, starts_with, range_with_len}
 use Rattle.std.specs.Option.{option_map}
 use Rattle.std.specs.declared.cmp.Ordering.{Ordering}
 use Rattle.std.specs.Ordering.{int_eq}
-use Rattle.mpy_base.specs.declared.kind.Kind.{Kind}
-use Rattle.mpy_base.specs.Kind.{parent_of, kind_name}
-use Rattle.mpy_base.specs.World.{Object, ExceptionObject, items_at, object, with_list}
-use Rattle.mpy_base.specs.Weights.{does_fit, list_growth, with_list_room}
-use Rattle.mpy_base.specs.Val.{Val, Vals, Only, Then, Truth, Int, Fixed, Empty, Built, At}
+use Rattle.py_values.specs.mpy_base.declared.kind.Kind.{Kind}
+use Rattle.py_values.specs.mpy_base.Kind.{parent_of, kind_name}
+use Rattle.py_values.specs.mpy_base.World.{Object, ExceptionObject, items_at, object, with_list}
+use Rattle.py_values.specs.mpy_base.Weights.{does_fit, list_growth, with_list_room}
+use Rattle.py_values.specs.mpy_base.Val.{Val, Vals, Only, Then, Truth, Int, Fixed, Empty, Built, At}
 use Rattle.py_values.specs.declared.small_int.NumFault.{NumFault}
 use Rattle.py_values.specs.Small.{checked}
 use Rattle.py_values.specs.Division.{floor_div_of, modulo_of}

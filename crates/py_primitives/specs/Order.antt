@@ -4,8 +4,8 @@ use Rattle.std.specs.Prelude.{ℕ, zero, suc, List, [], ◌∷◌, length, Bool,
 use Rattle.std.specs.declared.cmp.Ordering.{Ordering}
 use Rattle.std.specs.Ordering.{nat_cmp, int_cmp, is_lt, is_gt, is_le, is_ge}
 use Rattle.std.specs.Cmp.Lexicographic.{slice_cmp}
-use Rattle.mpy_base.specs.declared.limits.TheConstants.{MAX_WALK_DEPTH}
-use Rattle.mpy_base.specs.Val.{Val}
+use Rattle.py_values.specs.mpy_base.declared.limits.TheConstants.{MAX_WALK_DEPTH}
+use Rattle.py_values.specs.mpy_base.Val.{Val}
 use Rattle.py_values.specs.Shown.{PlainHeap, Shown, Number, Text, Tuple, Items, shown}
 use Rattle.py_values.specs.Equality.{Walk, answers, goes_too_deep, visit, equal_within}
 use Rattle.py_primitives.specs.Walks.{and_then}

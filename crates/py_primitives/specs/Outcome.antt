@@ -1,10 +1,10 @@
 -- What a primitive gives: a value, a fault or a making that doesn't fit, with the heap behind it and its visits.
 use Rattle.std.specs.Prelude.{ℕ, zero, suc, ◌+◌, List, [], ◌∷◌, length, replicate, Option, Some, None, Result, Ok, Err, if◌then◌else◌}
-use Rattle.mpy_base.specs.declared.kind.Kind.{Kind}
-use Rattle.mpy_base.specs.declared.room.NoRoom.{NoRoom}
-use Rattle.mpy_base.specs.World.{Object, ListObject, TupleObject, TextObject, ExceptionObject, with_list, with_tuple}
-use Rattle.mpy_base.specs.Val.{Val, Nil, Str, Empty, At}
-use Rattle.mpy_base.specs.Weights.{used, does_fit, no_room, cells_of, bytes_of, with_made, room_for}
+use Rattle.py_values.specs.mpy_base.declared.kind.Kind.{Kind}
+use Rattle.py_values.specs.mpy_base.declared.room.NoRoom.{NoRoom}
+use Rattle.py_values.specs.mpy_base.World.{Object, ListObject, TupleObject, TextObject, ExceptionObject, with_list, with_tuple}
+use Rattle.py_values.specs.mpy_base.Val.{Val, Nil, Str, Empty, At}
+use Rattle.py_values.specs.mpy_base.Weights.{used, does_fit, no_room, cells_of, bytes_of, with_made, room_for}
 use Rattle.py_values.specs.Shown.{PlainHeap}
 use Rattle.py_values.specs.Equality.{Walk}
 use Rattle.py_primitives.specs.Faults.{Fault, TooDeep, fault_kind, fault_value, fault_text}

@@ -1,10 +1,10 @@
 -- Calls that write to the output, and those of ports.
 use Rattle.std.specs.Prelude.{ℕ, ◌+◌, ◌-◌, ◌^◌, min, ℤ, pos, negsuc, List, [], ◌∷◌, ◌++◌, length, Bool, Option, Some, None, Result, Ok, Err, nat_eq, bytes_eq, slice_get, slice_set, unwrap_or, codes, if◌then◌else◌}
 use Rattle.std.specs.List.{list_any}
-use Rattle.mpy_base.specs.declared.builtin.Builtin.{Builtin}
-use Rattle.mpy_base.specs.declared.builtin.Builtin.TheVariants as builtins
-use Rattle.mpy_base.specs.World.{PortState}
-use Rattle.mpy_base.specs.Val.{Val, Nil, Int}
+use Rattle.py_values.specs.mpy_base.declared.builtin.Builtin.{Builtin}
+use Rattle.py_values.specs.mpy_base.declared.builtin.Builtin.TheVariants as builtins
+use Rattle.py_values.specs.mpy_base.World.{PortState}
+use Rattle.py_values.specs.mpy_base.Val.{Val, Nil, Int}
 use Rattle.py_values.specs.declared.small_int.NumFault.TheVariants.{Overflow}
 use Rattle.py_values.specs.Range.{is_small}
 use Rattle.py_values.specs.Shown.{PlainHeap, Shown, Number, Text, shown}

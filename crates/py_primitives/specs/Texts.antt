@@ -4,13 +4,13 @@ use Rattle.std.specs.Prelude.{ℕ, zero, suc, ◌/◌, ◌%◌, ℤ, pos, Bool, 
 use Rattle.std.specs.List.{list_any, flat_map, join_by}
 use Rattle.std.specs.Fmt.{digit_glyph, signed_decimal}
 use Rattle.std.specs.Ordering.{int_eq}
-use Rattle.mpy_base.specs.declared.builtin.Builtin.{Builtin}
-use Rattle.mpy_base.specs.declared.builtin.Builtin.TheVariants as builtins
-use Rattle.mpy_base.specs.declared.kind.Kind.{Kind}
-use Rattle.mpy_base.specs.declared.limits.TheConstants.{MAX_WALK_DEPTH}
-use Rattle.mpy_base.specs.Kind.{kind_name}
-use Rattle.mpy_base.specs.World.{Object, ListObject, TupleObject, TextObject, DictObject, FunctionObject, ExceptionObject, MethodObject, RangeObject, ModuleObject, object}
-use Rattle.mpy_base.specs.Val.{Val, Nil, Truth, Int, Str, Fixed, Empty, Built, At, vals}
+use Rattle.py_values.specs.mpy_base.declared.builtin.Builtin.{Builtin}
+use Rattle.py_values.specs.mpy_base.declared.builtin.Builtin.TheVariants as builtins
+use Rattle.py_values.specs.mpy_base.declared.kind.Kind.{Kind}
+use Rattle.py_values.specs.mpy_base.declared.limits.TheConstants.{MAX_WALK_DEPTH}
+use Rattle.py_values.specs.mpy_base.Kind.{kind_name}
+use Rattle.py_values.specs.mpy_base.World.{Object, ListObject, TupleObject, TextObject, DictObject, FunctionObject, ExceptionObject, MethodObject, RangeObject, ModuleObject, object}
+use Rattle.py_values.specs.mpy_base.Val.{Val, Nil, Truth, Int, Str, Fixed, Empty, Built, At, vals}
 use Rattle.py_values.specs.Shown.{PlainHeap, Shown, Tuple, shown}
 use Rattle.py_values.specs.Names.{builtin_name}
 use Rattle.py_values.specs.Equality.{Walk, answers, goes_too_deep, visit}

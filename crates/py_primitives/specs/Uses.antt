@@ -2,11 +2,11 @@
 use Rattle.std.specs.Prelude.{ℕ, List, length, Option, Some, None, nat_lt, slice_set, bytes_eq, codes, if◌then◌else◌}
 use Rattle.std.specs.List.{remove}
 use Rattle.std.specs.Option.{option_map}
-use Rattle.mpy_base.specs.declared.builtin.Builtin.{Builtin}
-use Rattle.mpy_base.specs.declared.builtin.Builtin.TheVariants as builtins
-use Rattle.mpy_base.specs.World.{Object, ListObject, DictObject, TextObject, ExceptionObject, MethodObject, ModuleObject, object, pairs_at, with_list, with_dict}
-use Rattle.mpy_base.specs.Weights.{does_fit, dict_growth, with_pairs}
-use Rattle.mpy_base.specs.Val.{Val, Nil, Str, Built, At}
+use Rattle.py_values.specs.mpy_base.declared.builtin.Builtin.{Builtin}
+use Rattle.py_values.specs.mpy_base.declared.builtin.Builtin.TheVariants as builtins
+use Rattle.py_values.specs.mpy_base.World.{Object, ListObject, DictObject, TextObject, ExceptionObject, MethodObject, ModuleObject, object, pairs_at, with_list, with_dict}
+use Rattle.py_values.specs.mpy_base.Weights.{does_fit, dict_growth, with_pairs}
+use Rattle.py_values.specs.mpy_base.Val.{Val, Nil, Str, Built, At}
 use Rattle.py_values.specs.Shown.{PlainHeap, Shown, Number, Text, Tuple, Items, Pairs, Range, shown}
 use Rattle.py_values.specs.Keys.{value_of_key, with_key, without_key}
 use Rattle.py_values.specs.Names.{type_name}

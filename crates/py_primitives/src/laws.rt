@@ -2,10 +2,10 @@
 
 ghost use Rattle.std.specs.Prelude.{◌≡◌, ℕ, ℤ, List, Some, Ok, Err, map};
 ghost use Rattle.std.specs.Ordering.{int_cmp};
-ghost use Rattle.mpy_base.specs.declared.room.NoRoom.{NoRoom as Want};
-ghost use Rattle.mpy_base.specs.World.{Object};
-ghost use Rattle.mpy_base.specs.Weights.{Made, Refused, cells_of, bytes_of};
-ghost use Rattle.mpy_base.specs.Val.{Val, At};
+ghost use Rattle.py_values.specs.mpy_base.declared.room.NoRoom.{NoRoom as Want};
+ghost use Rattle.py_values.specs.mpy_base.World.{Object};
+ghost use Rattle.py_values.specs.mpy_base.Weights.{Made, Refused, cells_of, bytes_of};
+ghost use Rattle.py_values.specs.mpy_base.Val.{Val, At};
 ghost use Rattle.py_values.specs.Shown.{PlainHeap, Number, shown};
 ghost use Rattle.py_values.specs.Names.{builtin_name};
 ghost use Rattle.py_primitives.specs.Builtins.{globals, global_named};

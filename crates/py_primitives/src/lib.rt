@@ -5,3 +5,4 @@
 mod laws;
 
 pub use laws::{making_law, names_law, order_law};
+pub use py_values::{Builtin, Kind, NoRoom, NumFault, SmallInt, limits};

@@ -1,3 +1,4 @@
+pub use Rattle.py_tree.specs as py_tree
 pub mod Events
 pub mod Names
 pub mod Scopes

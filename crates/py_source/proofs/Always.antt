@@ -10,8 +10,8 @@ use Rattle.py_tree.specs.declared.stmt.Stmt.{Stmt}
 use Rattle.py_parser.specs.py_nest.Nest.{nest, Nests, IsTooDeep}
 use Rattle.py_parser.specs.py_nest.declared.nest.TheConstants.{MAX_NEST}
 use Rattle.py_parser.proofs.py_nest_lemmas.Shortest.{nests_more, nests_all, too_deep}
-use Rattle.py_expressions.specs.Input.{Outcome}
-use Rattle.py_statements.specs.Reading.{line_at}
+use Rattle.py_parser.specs.py_expressions.Input.{Outcome}
+use Rattle.py_parser.specs.py_statements.Reading.{line_at}
 use Rattle.py_parser.specs.Grammar.{IsTree}
 use Rattle.py_parser.specs.Reading.{file}
 use Rattle.py_parser.specs.Parsed.{fault_of, IsFault}

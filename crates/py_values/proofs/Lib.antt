@@ -1,3 +1,4 @@
+pub use Rattle.mpy_base.proofs as mpy_base_lemmas
 mod ValueExamples
 pub mod KeyPairs
 pub mod Powers

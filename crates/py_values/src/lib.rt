@@ -12,4 +12,5 @@ mod small_int;
 pub use bits::bits_law;
 pub use division::division_law;
 pub use laws::{equality_law, keys_law};
+pub use mpy_base::{Builtin, Kind, NoRoom, limits};
 pub use small_int::{NumFault, SmallInt};

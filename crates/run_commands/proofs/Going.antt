@@ -14,10 +14,10 @@ use Rattle.library_files.specs.declared.limit.LoadFault.TheVariants as faults
 use Rattle.library_files.specs.Ends.{EndsIn, FailsAmong}
 use Rattle.library_files.specs.Loads as loads
 use Rattle.library_files.specs.Loads.{Loading}
-use Rattle.source_files.specs.Sources.{stored, source_ending, IsModuleOf, SourceComesTo, LoadsFromSources}
-use Rattle.mpy_endings.specs.declared.ending.Ending.{Ending}
-use Rattle.mpy_endings.specs.declared.ending.Ending.TheVariants.{Done, Unaccepted, Unread, Unverified, Unmerged, Unopened, Unfrozen, Unboarded, Different, Stopped, ReadFault, WriteFault, Unwritten, NoMemory, Absent}
-use Rattle.mpy_endings.specs.declared.ending.Stop.TheVariants.{Past, LibraryFault, LibraryUnaccepted, Raised, Memory, Steps}
+use Rattle.command_files.specs.source_files.Sources.{stored, source_ending, IsModuleOf, SourceComesTo, LoadsFromSources}
+use Rattle.command_files.specs.mpy_endings.declared.ending.Ending.{Ending}
+use Rattle.command_files.specs.mpy_endings.declared.ending.Ending.TheVariants.{Done, Unaccepted, Unread, Unverified, Unmerged, Unopened, Unfrozen, Unboarded, Different, Stopped, ReadFault, WriteFault, Unwritten, NoMemory, Absent}
+use Rattle.command_files.specs.mpy_endings.declared.ending.Stop.TheVariants.{Past, LibraryFault, LibraryUnaccepted, Raised, Memory, Steps}
 use Rattle.run_commands.specs.Base.{base_of}
 use Rattle.command_files.specs.Folder.{MayHold}
 use Rattle.run_commands.specs.Go.{HoldsSource, SourceLoadsOf, RefusesSources}

@@ -1,3 +1,4 @@
+pub use Rattle.command_files.proofs.mpy_endings_lemmas
 pub mod Bases
 pub mod Running
 pub mod Going

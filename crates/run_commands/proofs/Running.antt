@@ -18,20 +18,20 @@ use Rattle.library_files.specs.Loads.{Loading, LoadsFrom}
 use Rattle.library_runs.specs.declared.ending.RunEnd.{RunEnd}
 use Rattle.library_runs.specs.declared.ending.RunEnd.TheVariants as ends
 use Rattle.library_runs.specs.Runs.{Sight, IsOver, RunsAs, is_write_fault, sight, speaks}
-use Rattle.mpy_endings.specs.declared.ending.Ending.{Ending}
-use Rattle.mpy_endings.specs.declared.ending.Ending.TheVariants.{Done, Unaccepted, Unread, Unverified, Unmerged, Unopened, Unfrozen, Unboarded, Different, Stopped, ReadFault, WriteFault, Unwritten, NoMemory, Absent}
-use Rattle.mpy_endings.specs.declared.ending.Stop.TheVariants.{Past, LibraryFault, LibraryUnaccepted, Raised, Memory, Steps}
+use Rattle.command_files.specs.mpy_endings.declared.ending.Ending.{Ending}
+use Rattle.command_files.specs.mpy_endings.declared.ending.Ending.TheVariants.{Done, Unaccepted, Unread, Unverified, Unmerged, Unopened, Unfrozen, Unboarded, Different, Stopped, ReadFault, WriteFault, Unwritten, NoMemory, Absent}
+use Rattle.command_files.specs.mpy_endings.declared.ending.Stop.TheVariants.{Past, LibraryFault, LibraryUnaccepted, Raised, Memory, Steps}
 use Rattle.run_commands.specs.Base.{base_of}
-use Rattle.mpy_endings.specs.Ending.{IsRunStatus, is_folder_fault, is_out_fault, is_said, status_of}
+use Rattle.command_files.specs.mpy_endings.Ending.{IsRunStatus, is_folder_fault, is_out_fault, is_said, status_of}
 use Rattle.command_files.specs.Folder.{MayHold}
-use Rattle.mpy_endings.specs.Line.{Puts, Says, line_of}
+use Rattle.command_files.specs.mpy_endings.Line.{Puts, Says, line_of}
 use Rattle.command_files.specs.Opened.{Opens, Refuses, failed_in}
 use Rattle.run_commands.specs.declared.ready.Ready.{Ready}
 use Rattle.command_files.specs.Outside.{Outside}
 use Rattle.run_commands.specs.Ready.{OpensMain}
 use Rattle.run_commands.specs.Run.{HoldsMain, LoadsOf, RefusesLibrary, IsUnloaded, Untouched, Runs, EndsRun, sight_in, load_end, ending_of}
-use Rattle.mpy_endings.proofs.Said.{says_from}
-use Rattle.mpy_endings.proofs.Statuses.{none_run, not_eight, not_nine}
+use Rattle.command_files.proofs.mpy_endings_lemmas.Said.{says_from}
+use Rattle.command_files.proofs.mpy_endings_lemmas.Statuses.{none_run, not_eight, not_nine}
 use Rattle.command_files.proofs.Verifying.{opened_err}
 
 -- the main file

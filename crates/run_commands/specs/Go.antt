@@ -3,16 +3,16 @@ use Rattle.std.specs.Prelude.{ℕ, List, Contains, Option, Some, None, IfSome, R
 use Rattle.mpy_io.specs.Files.{FileOf}
 use Rattle.bc_library.specs.mpy_tree.Raw.{Module}
 use Rattle.bc_library.specs.Shelf.{Shelf}
-use Rattle.pkg_paths.specs.Plain.{IsPlain}
-use Rattle.pkg_paths.specs.Paths.{candidates}
-use Rattle.mpy_compile.specs.Compiled.{IsFault}
+use Rattle.command_files.specs.pkg_paths.Plain.{IsPlain}
+use Rattle.command_files.specs.pkg_paths.Paths.{candidates}
+use Rattle.command_files.specs.mpy_compile.Compiled.{IsFault}
 use Rattle.library_files.specs.declared.limit.UnacceptedSource.{UnacceptedSource}
 use Rattle.library_files.specs.Loads as loads
 use Rattle.library_files.specs.Loads.{Loading, Loaded}
-use Rattle.source_files.specs.Sources.{stored, source_ending, IsModuleOf, LoadsFromSources}
-use Rattle.mpy_endings.specs.declared.ending.Ending.{Ending}
-use Rattle.mpy_endings.specs.declared.ending.Ending.TheVariants.{Done, Unaccepted, Unread, Unverified, Unmerged, Unopened, Unfrozen, Unboarded, Different, Stopped, ReadFault, WriteFault, Unwritten, NoMemory, Absent}
-use Rattle.mpy_endings.specs.declared.ending.Stop.TheVariants.{Past, LibraryFault, LibraryUnaccepted, Raised, Memory, Steps}
+use Rattle.command_files.specs.source_files.Sources.{stored, source_ending, IsModuleOf, LoadsFromSources}
+use Rattle.command_files.specs.mpy_endings.declared.ending.Ending.{Ending}
+use Rattle.command_files.specs.mpy_endings.declared.ending.Ending.TheVariants.{Done, Unaccepted, Unread, Unverified, Unmerged, Unopened, Unfrozen, Unboarded, Different, Stopped, ReadFault, WriteFault, Unwritten, NoMemory, Absent}
+use Rattle.command_files.specs.mpy_endings.declared.ending.Stop.TheVariants.{Past, LibraryFault, LibraryUnaccepted, Raised, Memory, Steps}
 use Rattle.run_commands.specs.Base.{base_of}
 use Rattle.command_files.specs.Source.{HoldsFaulty}
 use Rattle.command_files.specs.Folder.{MayHold}

@@ -1,3 +1,10 @@
+pub use Rattle.bc_library.specs as bc_library
+pub use Rattle.command_files.specs as command_files
+pub use Rattle.command_files.specs.board_plan
+pub use Rattle.command_files.specs.image_runs
+pub use Rattle.command_files.specs.mpy_endings
+pub use Rattle.library_files.specs as library_files
+pub use Rattle.library_runs.specs as library_runs
 pub mod Base
 pub mod Go
 pub mod Run

@@ -6,9 +6,9 @@ use Rattle.bc_library.specs.mpy_tree.File.{IsFile}
 use Rattle.bc_library.specs.bc_verify.Verified.{IsVerified}
 use Rattle.bc_library.specs.Shelf.{Shelf}
 use Rattle.library_files.specs.Loads.{main_name}
-use Rattle.image_runs.specs.Main.{HoldsMain, RefusesMain}
-use Rattle.mpy_endings.specs.declared.ending.Ending.{Ending}
-use Rattle.mpy_endings.specs.declared.ending.Ending.TheVariants.{Done, Unaccepted, Unread, Unverified, Unmerged, Unopened, Unfrozen, Unboarded, Different, Stopped, ReadFault, WriteFault, Unwritten, NoMemory, Absent}
+use Rattle.command_files.specs.image_runs.Main.{HoldsMain, RefusesMain}
+use Rattle.command_files.specs.mpy_endings.declared.ending.Ending.{Ending}
+use Rattle.command_files.specs.mpy_endings.declared.ending.Ending.TheVariants.{Done, Unaccepted, Unread, Unverified, Unmerged, Unopened, Unfrozen, Unboarded, Different, Stopped, ReadFault, WriteFault, Unwritten, NoMemory, Absent}
 use Rattle.run_commands.specs.declared.ready.Ready.{Ready}
 use Rattle.command_files.specs.Folder.{MayHold, IsNotRead}
 use Rattle.run_commands.specs.Go.{SourceLibrary}

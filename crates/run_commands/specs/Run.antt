@@ -13,23 +13,23 @@ use Rattle.mpy_base.specs.declared.refused.Refused.{Refused}
 use Rattle.mpy_base.specs.declared.refused.Refused.TheVariants as refused
 use Rattle.library_files.specs.declared.limit.LoadFault.{LoadFault}
 use Rattle.library_files.specs.declared.limit.LoadFault.TheVariants as faults
-use Rattle.pkg_paths.specs.Plain.{IsPlain}
-use Rattle.pkg_paths.specs.Paths.{candidates}
+use Rattle.command_files.specs.pkg_paths.Plain.{IsPlain}
+use Rattle.command_files.specs.pkg_paths.Paths.{candidates}
 use Rattle.library_files.specs.Comes.{ending as file_ending}
 use Rattle.library_files.specs.Loads as loads
 use Rattle.library_files.specs.Loads.{Loading, Loaded, LoadsFrom}
 use Rattle.library_runs.specs.declared.ending.RunEnd.{RunEnd}
 use Rattle.library_runs.specs.declared.ending.RunEnd.TheVariants as ends
 use Rattle.library_runs.specs.Runs.{Sight, RunsAs}
-use Rattle.mpy_words.specs.declared.order.Order.{Order}
-use Rattle.mpy_endings.specs.declared.ending.Ending.{Ending}
-use Rattle.mpy_endings.specs.declared.ending.Ending.TheVariants.{Done, Unaccepted, Unread, Unverified, Unmerged, Unopened, Unfrozen, Unboarded, Different, Stopped, ReadFault, WriteFault, Unwritten, NoMemory, Absent}
-use Rattle.mpy_endings.specs.declared.ending.Stop.TheVariants.{Past, LibraryFault, LibraryUnaccepted, Raised, Memory, Steps}
+use Rattle.command_files.specs.mpy_words.declared.order.Order.{Order}
+use Rattle.command_files.specs.mpy_endings.declared.ending.Ending.{Ending}
+use Rattle.command_files.specs.mpy_endings.declared.ending.Ending.TheVariants.{Done, Unaccepted, Unread, Unverified, Unmerged, Unopened, Unfrozen, Unboarded, Different, Stopped, ReadFault, WriteFault, Unwritten, NoMemory, Absent}
+use Rattle.command_files.specs.mpy_endings.declared.ending.Stop.TheVariants.{Past, LibraryFault, LibraryUnaccepted, Raised, Memory, Steps}
 use Rattle.run_commands.specs.declared.ready.Ready.{Ready}
 use Rattle.run_commands.specs.Base.{base_of}
-use Rattle.mpy_endings.specs.Ending.{is_folder_fault, is_out_fault, status_of}
+use Rattle.command_files.specs.mpy_endings.Ending.{is_folder_fault, is_out_fault, status_of}
 use Rattle.command_files.specs.Folder.{MayHold}
-use Rattle.mpy_endings.specs.Line.{Says, line_of}
+use Rattle.command_files.specs.mpy_endings.Line.{Says, line_of}
 use Rattle.command_files.specs.Opened.{Refuses}
 use Rattle.command_files.specs.Outside.{Outside}
 

@@ -6,7 +6,7 @@ ghost use Rattle.bc_library.specs.mpy_tree.Raw.{Module};
 ghost use Rattle.library_files.specs.Ends.{BeginsWith, HoldsModules};
 ghost use Rattle.run_commands.specs.Go.{HoldsSource, RefusesSources, SourceLibrary};
 ghost use Rattle.command_files.specs.Opened.{failed_in};
-ghost use Rattle.image_runs.specs.Main.{IsMainAt};
+ghost use Rattle.command_files.specs.image_runs.Main.{IsMainAt};
 ghost use Rattle.run_commands.specs.Ready.{GoLibrary};
 ghost use Rattle.run_commands.specs.Run.{IsUnloaded};
 
@@ -15,10 +15,9 @@ use crate::ready::{Ready, first_ready, main_text};
 use crate::run::load_ending;
 use bc_library::Library;
 use bc_verify::Verified;
+use command_files::{Ending, load_sources, source_module};
 use mpy_base::{Refused, SourceFault};
-use mpy_endings::Ending;
 use mpy_io::{Folder, ReadFault};
-use source_files::{load_sources, source_module};
 use std::alloc::Global;
 
 /// The verified module of the source of this name at a level and how many bytes its file has, or what keeps it from being one.

@@ -7,6 +7,8 @@ mod ready;
 mod run;
 
 pub use base::base_of;
+pub use command_files::{Ending, put_three, say_ending};
 pub use go::source_ready;
+pub use library_runs::accounted_law;
 pub use ready::Ready;
 pub use run::{run_loaded, run_ready};

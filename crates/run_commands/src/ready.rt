@@ -1,18 +1,17 @@
 //! Libraries that are ready to be run.
 
 ghost use Rattle.std.specs.Prelude.{◌≡◌, Ok, Err, IfOk, IfErr};
-ghost use Rattle.mpy_endings.specs.declared.ending.Ending.TheVariants.{NoMemory as WithoutMemory};
+ghost use Rattle.command_files.specs.mpy_endings.declared.ending.Ending.TheVariants.{NoMemory as WithoutMemory};
 ghost use Rattle.bc_library.specs.mpy_tree.Raw.{Module};
-ghost use Rattle.image_runs.specs.Main.{IsMainAt};
+ghost use Rattle.command_files.specs.image_runs.Main.{IsMainAt};
 ghost use Rattle.library_files.specs.Ends.{BeginsWith, HoldsModules};
 ghost use Rattle.library_files.specs.Loads.{main_name};
-ghost use Rattle.manifest_files.specs.image_grammar.Base.{IsOpened};
+ghost use Rattle.command_files.specs.manifest_files.image_grammar.Base.{IsOpened};
 ghost use Rattle.run_commands.specs.Ready.{ImageStart, IsFirst};
 
 use bc_library::Library;
-use image_runs::image_library;
+use command_files::{Ending, image_library};
 use mpy_base::{NoMemory, Refused, Text};
-use mpy_endings::Ending;
 use std::alloc::Global;
 
 /// A library and its main module.

@@ -3,7 +3,7 @@ use Rattle.std.proofs.Common.{◌≡◌, ℕ, zero, suc, ◌+◌, ◌-◌, ◌�
 use Rattle.std.proofs.lemmas.Bool.{le-leb, lt-leb}
 use Rattle.std.proofs.lemmas.List.{length-append}
 use Rattle.std.specs.Prelude.{slice_get, nat_eq, if◌then◌else◌}
-use Rattle.mpy_base.specs.Val.{Val, At, PlainWorld}
+use Rattle.bc_scheme.specs.mpy_base.Val.{Val, At, PlainWorld}
 use Rattle.bc_scheme.specs.py_effects.Effect.{Place}
 use Rattle.bc_scheme.specs.py_effects.Names.{Locals}
 use Rattle.bc_scheme.specs.py_meaning.Frames as meanings

@@ -1,8 +1,8 @@
 -- A program runs on the machine as it means: where it ends, and with what output while it is open.
 use Rattle.std.proofs.Common.{◌≡◌, ℕ, zero, suc, ◌+◌, ◌-◌, ◌*◌, ◌<◌, ◌≤◌, [], ◌++◌, append-nil, refl, sym, ap, ◌∙◌, subst, inl, inr, arith, mul-le-mul_left}
 use Rattle.std.proofs.lemmas.Bool.{cases_lt}
-use Rattle.mpy_base.specs.World.{PortState}
-use Rattle.mpy_base.specs.Val.{Val, PlainWorld}
+use Rattle.bc_scheme.specs.mpy_base.World.{PortState}
+use Rattle.bc_scheme.specs.mpy_base.Val.{Val, PlainWorld}
 use Rattle.std.specs.Prelude.{List, Some}
 use Rattle.bc_scheme.specs.py_effects.Effect.{Place, Given, Gives, Throws, Fills, given}
 use Rattle.bc_scheme.specs.py_effects.Growth.{Prints}
@@ -41,7 +41,7 @@ ended_is e = cc e
 raised_is : (x : ℕ) → Raised x ≡ Open → ⊥
 raised_is x e = cc e
 
-memory_is : (f : Rattle.mpy_base.specs.declared.room.NoRoom.NoRoom) → Memory f ≡ Open → ⊥
+memory_is : (f : Rattle.bc_scheme.specs.mpy_base.declared.room.NoRoom.NoRoom) → Memory f ≡ Open → ⊥
 memory_is f e = cc e
 
 over_halt : (s : State) → HasEnded (machines.run_of s) → s ≡ Halted (machines.run_of s).end (machines.run_of s).world

@@ -1,7 +1,7 @@
 -- How many turns expressions take at most without a step, and that code goes up.
 use Rattle.std.proofs.Common.{ℕ, suc, ◌+◌, ◌≤◌, arith}
 use Rattle.bc_scheme.specs.bc_ops.declared.instr.Op.{Op}
-use Rattle.py_tree.specs.declared.expr.CompareOp.{CompareOp}
+use Rattle.bc_scheme.specs.py_tree.declared.expr.CompareOp.{CompareOp}
 use Rattle.bc_scheme.specs.py_meaning.Tree.{Expr, Constant, Named, Unary, Not, Binary, And, Or, Compare, Cond, TupleOf, ListOf, DictOf, Attr, Index, Call, Method, Exprs, NoExpr, More, Links, Last, Link, Pairs, NoPair, Pair, Keys, NoKey, Key}
 use Rattle.bc_scheme.specs.Context.{Context}
 use Rattle.bc_scheme.specs.Expressions.{StandsC, straight, negated, StandsE, literal, name, one, «not», two, «and», «or», compare, chain, cond, tuple, items, dict, attr, index, call, method, StandsEs, no_expr, next, StandsO, no_operand, operand, StandsL, last, link, StandsD, no_pair, pair, StandsK, no_key, key}

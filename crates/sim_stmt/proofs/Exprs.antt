@@ -2,16 +2,16 @@
 use Rattle.std.proofs.Common.{◌≡◌, ℕ, zero, suc, pred, ◌+◌, ◌*◌, ◌≤◌, Bool, true, false, List, [], ◌∷◌, length, map, Option, Some, None, refl, sym, ap, ◌∙◌, subst, arith}
 use Rattle.std.proofs.lemmas.Bool.{ltb-true}
 use Rattle.std.specs.Prelude.{Result, Ok, Err, position, bytes_eq, nat_lt, nat_le, if◌then◌else◌, codes}
-use Rattle.mpy_base.specs.World.{DictObject}
-use Rattle.mpy_base.specs.Weights.{room_for}
-use Rattle.mpy_base.specs.Val.{Val, Nil, Truth, Int, Str, Fixed, Empty, Built, At, PlainWorld}
+use Rattle.bc_scheme.specs.mpy_base.World.{DictObject}
+use Rattle.bc_scheme.specs.mpy_base.Weights.{room_for}
+use Rattle.bc_scheme.specs.mpy_base.Val.{Val, Nil, Truth, Int, Str, Fixed, Empty, Built, At, PlainWorld}
 use Rattle.bc_scheme.specs.bc_ops.declared.instr.Op.TheVariants as ops
 use Rattle.bc_scheme.specs.bc_ops.declared.instr.Instr.TheVariants as instrs
 use Rattle.bc_scheme.specs.py_values.Shown.{PlainHeap, truth}
 use Rattle.bc_scheme.specs.py_primitives.Operators.{binary, unary, unary_not}
 use Rattle.bc_scheme.specs.py_primitives.Outcome.{Outcome, Stop, Raises, Full, making, making_tuple, making_list}
 use Rattle.bc_scheme.specs.py_primitives.Uses.{get_item, get_attr}
-use Rattle.py_tree.specs.declared.expr.CompareOp.{CompareOp}
+use Rattle.bc_scheme.specs.py_tree.declared.expr.CompareOp.{CompareOp}
 use Rattle.bc_scheme.specs.py_effects.Effect.{Place, on_heap, Gives, Fails, Thrown, Filled, failed, fault_at}
 use Rattle.bc_scheme.specs.py_effects.Names.{Locals, load_local, load_global, Looked, Bound, Free, load_method, store_pair}
 use Rattle.bc_scheme.specs.py_effects.Calling as calling

@@ -4,10 +4,10 @@ use Rattle.std.specs.Prelude.{position, bytes_eq, slice_set}
 use Rattle.std.proofs.lemmas.List.{get_or_past, get_or_append_left, get_or-append_right}
 use Rattle.std.proofs.lemmas.List.Quantifiers.{position-Some}
 use Rattle.std.proofs.lemmas.Bool.{cases_eq, cases_lt}
-use Rattle.mpy_base.specs.World.{ListObject, TupleObject, TextObject, DictObject, FunctionObject, ExceptionObject, MethodObject, RangeObject, ModuleObject, ADict, object, kind_of, IsA, pairs_of, pairs_at}
-use Rattle.mpy_base.specs.Weights.{dict_growth, grown_room, with_pairs}
-use Rattle.mpy_base.specs.Val.{Val, Nil, Truth, Int, Str, Fixed, Empty, Built, At, PlainWorld}
-use Rattle.mpy_base.proofs.Worlds.{object_nones}
+use Rattle.bc_scheme.specs.mpy_base.World.{ListObject, TupleObject, TextObject, DictObject, FunctionObject, ExceptionObject, MethodObject, RangeObject, ModuleObject, ADict, object, kind_of, IsA, pairs_of, pairs_at}
+use Rattle.bc_scheme.specs.mpy_base.Weights.{dict_growth, grown_room, with_pairs}
+use Rattle.bc_scheme.specs.mpy_base.Val.{Val, Nil, Truth, Int, Str, Fixed, Empty, Built, At, PlainWorld}
+use Rattle.bc_scheme.proofs.mpy_base_lemmas.Worlds.{object_nones}
 use Rattle.bc_scheme.specs.py_values.Shown.{PlainHeap, shown_object}
 use Rattle.bc_scheme.specs.py_values.Keys.{shown_key, key_of, is_same_key, has_key, value_of_key, with_key}
 use Rattle.bc_scheme.proofs.py_values_lemmas.KeyPairs.{set_is_found}

@@ -2,17 +2,17 @@
 use Rattle.std.proofs.Common.{◌≡◌, ℕ, zero, suc, ◌+◌, ◌*◌, ◌≤◌, pos, Bool, true, false, List, [], ◌∷◌, ◌++◌, length, map, reverse, Option, Some, None, append_assoc, refl, sym, ap, ◌∙◌, subst, arith}
 use Rattle.std.specs.Prelude.{nat_lt, cond}
 use Rattle.std.proofs.lemmas.Grind.{reverse_onto}
-use Rattle.mpy_base.specs.declared.limits.TheConstants.{MAX_CALLS}
-use Rattle.mpy_base.specs.World.{Object, TupleObject, names_of, object}
-use Rattle.mpy_base.specs.Weights.{does_fit, with_made, used, cells_of, bytes_of}
-use Rattle.mpy_base.specs.Val.{Val, Nil, Int, Str, At, PlainWorld}
+use Rattle.bc_scheme.specs.mpy_base.declared.limits.TheConstants.{MAX_CALLS}
+use Rattle.bc_scheme.specs.mpy_base.World.{Object, TupleObject, names_of, object}
+use Rattle.bc_scheme.specs.mpy_base.Weights.{does_fit, with_made, used, cells_of, bytes_of}
+use Rattle.bc_scheme.specs.mpy_base.Val.{Val, Nil, Int, Str, At, PlainWorld}
 use Rattle.bc_scheme.specs.bc_ops.declared.instr.Op.TheVariants as ops
 use Rattle.bc_scheme.specs.bc_ops.declared.instr.Instr.TheVariants as instrs
 use Rattle.bc_scheme.specs.py_primitives.Faults.{TooDeep, NoModule, IncompatibleFile}
 use Rattle.bc_scheme.specs.py_values.Shown.{PlainHeap}
 use Rattle.bc_scheme.specs.py_primitives.Outcome.{gives, is_full, making_tuple}
 use Rattle.bc_scheme.specs.py_primitives.Uses.{get_attr}
-use Rattle.py_tree.specs.declared.stmt.Alias.{Alias}
+use Rattle.bc_scheme.specs.py_tree.declared.stmt.Alias.{Alias}
 use Rattle.bc_scheme.specs.py_effects.Effect.{Place, on_heap, does, given, fault_at}
 use Rattle.bc_scheme.specs.py_effects.Names.{Locals, import_from}
 use Rattle.bc_scheme.specs.py_effects.Modules.{Made, make_module, store_module, stored_in, stored_under, forget_module, registered_as, is_port, outer_name, last_part, module_named, prefixes, prefixes_from, parts_of, first_of}

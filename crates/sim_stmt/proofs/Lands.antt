@@ -2,7 +2,7 @@
 use Rattle.std.proofs.Common.{◌≡◌, ℕ, zero, suc, ◌+◌, ◌≤◌, Bool, true, false, List, ◌∷◌, ◌++◌, length, map, refl, ap, ◌∙◌, arith}
 use Rattle.std.proofs.lemmas.Bool.{lt-ltb, le-ltb}
 use Rattle.std.specs.Prelude.{nat_lt, if◌then◌else◌}
-use Rattle.mpy_base.specs.Val.{Val, PlainWorld}
+use Rattle.bc_scheme.specs.mpy_base.Val.{Val, PlainWorld}
 use Rattle.bc_scheme.specs.py_effects.Effect.{Effect, Place, Given, Gives, Throws, Fills, Fails, Thrown, Filled, given}
 use Rattle.bc_scheme.specs.py_effects.Names.{Locals}
 use Rattle.bc_scheme.specs.py_effects.Ends.{Memory}

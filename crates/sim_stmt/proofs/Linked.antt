@@ -7,7 +7,7 @@ use Rattle.std.proofs.lemmas.Option.{slice_get-map}
 use Rattle.std.proofs.lemmas.List.{length-append, map-append}
 use Rattle.bc_scheme.specs.bc_ops.declared.instr.Op.TheVariants as ops
 use Rattle.bc_scheme.specs.bc_ops.declared.instr.Instr.TheVariants as instrs
-use Rattle.mpy_base.specs.World.{PortState}
+use Rattle.bc_scheme.specs.mpy_base.World.{PortState}
 use Rattle.bc_scheme.specs.mpy_tree.Resolved.{Resolved, plain, Tree, node, Trees, no_more, more, ResolvedModule}
 use Rattle.bc_scheme.specs.bc_machine.Library as libraries
 use Rattle.bc_scheme.specs.bc_machine.Library.{Line, line_of, Code, Library, Holds, module_in, code_in, code_at, size_of, sizes_of, numbers_from, codes_from, codes_of, module_of}

@@ -1,9 +1,9 @@
 -- The machine follows a clause with a name, which is deleted behind it.
 use Rattle.std.proofs.Common.{◌≡◌, ℕ, suc, ◌≤◌, ◌<◌, Bool, true, false, List, ◌∷◌, length, map, Option, Some, None, cond, refl, sym, ap, ◌∙◌, subst, arith}
 use Rattle.std.specs.Prelude.{position, bytes_eq, nat_lt}
-use Rattle.mpy_base.specs.World.{ADict, IsA, pairs_at}
-use Rattle.mpy_base.specs.Weights.{does_fit, dict_growth, with_pairs}
-use Rattle.mpy_base.specs.Val.{Val, Nil, Str, At, PlainWorld}
+use Rattle.bc_scheme.specs.mpy_base.World.{ADict, IsA, pairs_at}
+use Rattle.bc_scheme.specs.mpy_base.Weights.{does_fit, dict_growth, with_pairs}
+use Rattle.bc_scheme.specs.mpy_base.Val.{Val, Nil, Str, At, PlainWorld}
 use Rattle.bc_scheme.specs.bc_ops.declared.instr.Op.TheVariants as ops
 use Rattle.bc_scheme.specs.py_values.Keys.{with_key}
 use Rattle.bc_scheme.specs.py_primitives.Outcome.{gives, is_full}

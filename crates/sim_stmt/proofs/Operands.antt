@@ -3,15 +3,15 @@ use Rattle.std.proofs.Common.{◌≡◌, ℕ, suc, ◌+◌, ◌*◌, ◌<◌, tr
 use Rattle.std.proofs.lemmas.List.{reverse-reverse, length-reverse, take_at, drop_at, map-append}
 use Rattle.std.proofs.lemmas.Grind.{reverse_onto}
 use Rattle.std.specs.Prelude.{reverse, ◌/◌, ◌%◌}
-use Rattle.mpy_base.specs.Val.{Val}
+use Rattle.bc_scheme.specs.mpy_base.Val.{Val}
 use Rattle.bc_scheme.specs.py_values.Shown.{PlainHeap}
 use Rattle.bc_scheme.specs.py_primitives.Operators.{binary, in_place, unary}
-use Rattle.py_tree.specs.declared.expr.UnaryOp.{UnaryOp}
-use Rattle.py_tree.specs.declared.expr.UnaryOp.TheVariants as unaries
-use Rattle.py_tree.specs.declared.expr.BinaryOp.{BinaryOp}
-use Rattle.py_tree.specs.declared.expr.BinaryOp.TheVariants as binaries
-use Rattle.py_tree.specs.declared.expr.CompareOp.{CompareOp}
-use Rattle.py_tree.specs.declared.expr.CompareOp.TheVariants as compares
+use Rattle.bc_scheme.specs.py_tree.declared.expr.UnaryOp.{UnaryOp}
+use Rattle.bc_scheme.specs.py_tree.declared.expr.UnaryOp.TheVariants as unaries
+use Rattle.bc_scheme.specs.py_tree.declared.expr.BinaryOp.{BinaryOp}
+use Rattle.bc_scheme.specs.py_tree.declared.expr.BinaryOp.TheVariants as binaries
+use Rattle.bc_scheme.specs.py_tree.declared.expr.CompareOp.{CompareOp}
+use Rattle.bc_scheme.specs.py_tree.declared.expr.CompareOp.TheVariants as compares
 use Rattle.bc_scheme.specs.py_meaning.Expressions.{unary_of, binary_of, compare, negated}
 use Rattle.bc_scheme.specs.bc_machine.State.{Slot, Value}
 use Rattle.bc_scheme.specs.bc_machine.Operations.{operator_at, unary_at, value_in, values, paired, Operands, operands}

@@ -2,7 +2,7 @@
 use Rattle.std.proofs.Common.{◌≡◌, ℕ, zero, suc, ◌-◌, ◌≤◌, List, [], ◌∷◌, ◌++◌, length, drop, replicate, Bool, true, false, Option, Some, None, cond, refl, sym, ap, subst, arith}
 use Rattle.std.proofs.lemmas.List.{length-append, length-replicate, length-set}
 use Rattle.std.specs.Prelude.{nat_lt, nat_le, slice_get, slice_set, ◌%◌}
-use Rattle.mpy_base.specs.Val.{Val, Nil, Built, At, PlainWorld}
+use Rattle.bc_scheme.specs.mpy_base.Val.{Val, Nil, Built, At, PlainWorld}
 use Rattle.bc_scheme.specs.bc_ops.declared.instr.Op.{Op}
 use Rattle.bc_scheme.specs.bc_ops.declared.instr.Op.TheVariants as ops
 use Rattle.bc_scheme.specs.bc_ops.declared.instr.Instr.{Instr}

@@ -1,7 +1,7 @@
 -- Imports of a meaning: what is registered stays so, and a module that was begun and has ended is registered.
 use Rattle.std.proofs.Common.{◌≡◌, ℕ, zero, suc, List, [], ◌∷◌, ◌++◌, Bool, true, false, ◌||◌, Option, Some, None, refl, ap, ◌∙◌}
 use Rattle.std.specs.Prelude.{Result, Ok, Err, cond, is_some}
-use Rattle.mpy_base.specs.Val.{Val, PlainWorld}
+use Rattle.bc_scheme.specs.mpy_base.Val.{Val, PlainWorld}
 use Rattle.bc_scheme.specs.py_primitives.Outcome.{Stop, Raises, Full}
 use Rattle.bc_scheme.specs.py_primitives.Faults.{TooDeep, NoModule, IncompatibleFile}
 use Rattle.bc_scheme.specs.py_effects.Effect.{Place, Fails, Thrown, Filled, failed, fault_at, given, given_answer}

@@ -2,10 +2,10 @@
 use Rattle.std.proofs.Common.{◌≡◌, ℕ, zero, suc, ◌+◌, ◌≤◌, Bool, true, false, List, [], ◌∷◌, ◌++◌, length, map, Some, refl, sym, ap, ◌∙◌, subst, arith}
 use Rattle.std.proofs.lemmas.List.{get_or-append_right}
 use Rattle.std.specs.Prelude.{◌-◌, replicate, nat_lt, cond, None}
-use Rattle.mpy_base.specs.declared.limits.TheConstants.{MAX_CALLS}
-use Rattle.mpy_base.specs.World.{Object, FunctionObject, object}
-use Rattle.mpy_base.specs.Weights.{does_fit, with_made, more_cells, used, cells_of, bytes_of}
-use Rattle.mpy_base.specs.Val.{Val, Nil, At, PlainWorld}
+use Rattle.bc_scheme.specs.mpy_base.declared.limits.TheConstants.{MAX_CALLS}
+use Rattle.bc_scheme.specs.mpy_base.World.{Object, FunctionObject, object}
+use Rattle.bc_scheme.specs.mpy_base.Weights.{does_fit, with_made, more_cells, used, cells_of, bytes_of}
+use Rattle.bc_scheme.specs.mpy_base.Val.{Val, Nil, At, PlainWorld}
 use Rattle.bc_scheme.specs.bc_ops.declared.instr.Op.TheVariants as ops
 use Rattle.bc_scheme.specs.py_values.Shown.{PlainHeap}
 use Rattle.bc_scheme.specs.py_primitives.Faults.{TooDeep}

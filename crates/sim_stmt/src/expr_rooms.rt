@@ -1,7 +1,7 @@
 //! The machine follows expressions, to a depth of nested evaluations.
 
 ghost use Rattle.std.specs.Prelude.{ℕ};
-ghost use Rattle.mpy_base.specs.Val.{PlainWorld};
+ghost use Rattle.bc_scheme.specs.mpy_base.Val.{PlainWorld};
 ghost use Rattle.bc_scheme.specs.bc_machine.Library.{Name, Library};
 ghost use Rattle.bc_scheme.specs.bc_machine.State.{State};
 ghost use Rattle.bc_scheme.specs.bc_machine.Step.{step};

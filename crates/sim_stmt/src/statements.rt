@@ -1,7 +1,7 @@
 //! The machine follows statements and calls: a translation runs as it means.
 
 ghost use Rattle.std.specs.Prelude.{ℕ, List};
-ghost use Rattle.mpy_base.specs.World.{PortState};
+ghost use Rattle.bc_scheme.specs.mpy_base.World.{PortState};
 ghost use Rattle.bc_scheme.specs.py_meaning.Program.{Program};
 ghost use Rattle.bc_scheme.specs.bc_machine.Library.{Library};
 ghost use Rattle.bc_scheme.specs.Link.{Links};

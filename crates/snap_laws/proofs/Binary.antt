@@ -4,12 +4,12 @@ use Rattle.std.specs.Prelude.{ℤ, nat_le}
 use Rattle.std.specs.List.{repeat}
 use Rattle.std.specs.Option.{option_map}
 use Rattle.std.proofs.lemmas.List.{length-map, map-append}
-use Rattle.mpy_base.specs.World.{Object, ListObject, TupleObject, TextObject, DictObject, FunctionObject, ExceptionObject, MethodObject, RangeObject, ModuleObject, object}
-use Rattle.mpy_base.specs.Weights.{used, cells_of, bytes_of, does_fit, no_room, with_made, room_for}
-use Rattle.mpy_base.specs.Val.{Val, Nil, Truth, Int, Str, Fixed, Empty, Built, At}
-use Rattle.py_values.specs.declared.small_int.NumFault.{NumFault}
-use Rattle.py_values.specs.Shown.{PlainHeap, Shown, Nothing, Number, Text, Tuple, Items, Pairs, Range, Other, shown, at_least_zero}
-use Rattle.py_values.specs.Names.{type_name, object_type}
+use Rattle.bc_flow.specs.mpy_base.World.{Object, ListObject, TupleObject, TextObject, DictObject, FunctionObject, ExceptionObject, MethodObject, RangeObject, ModuleObject, object}
+use Rattle.bc_flow.specs.mpy_base.Weights.{used, cells_of, bytes_of, does_fit, no_room, with_made, room_for}
+use Rattle.bc_flow.specs.mpy_base.Val.{Val, Nil, Truth, Int, Str, Fixed, Empty, Built, At}
+use Rattle.py_primitives.specs.py_values.declared.small_int.NumFault.{NumFault}
+use Rattle.py_primitives.specs.py_values.Shown.{PlainHeap, Shown, Nothing, Number, Text, Tuple, Items, Pairs, Range, Other, shown, at_least_zero}
+use Rattle.py_primitives.specs.py_values.Names.{type_name, object_type}
 use Rattle.py_primitives.specs.Faults.{Fault, Arithmetic, Unsupported}
 use Rattle.py_primitives.specs.Outcome.{Outcome, gives, raises, is_full, making, making_text, making_tuple, making_list}
 use Rattle.py_primitives.specs.Operators.{Operator, Add, Multiply, number_answer, gives_number, operator_method, unsupported, binary_shown, binary}

@@ -3,11 +3,11 @@ use Rattle.std.proofs.Common.{◌≡◌, ℕ, zero, suc, ◌+◌, ◌-◌, ◌<�
 use Rattle.std.specs.Option.{option_map}
 use Rattle.std.proofs.lemmas.List.{get_or_past, get_or_append_left, get_or-append_right, length-set, length-map}
 use Rattle.std.proofs.lemmas.Bool.{cases_eq, cases_lt}
-use Rattle.mpy_base.specs.World.{Object, ListObject, TupleObject, TextObject, DictObject, FunctionObject, ExceptionObject, MethodObject, RangeObject, ModuleObject, object, with_object}
-use Rattle.mpy_base.specs.Weights.{used, more_cells, bytes_of, with_made, with_used}
-use Rattle.mpy_base.specs.Val.{Val, At}
-use Rattle.mpy_base.proofs.Worlds.{object_nones}
-use Rattle.py_values.specs.Shown.{PlainHeap}
+use Rattle.bc_flow.specs.mpy_base.World.{Object, ListObject, TupleObject, TextObject, DictObject, FunctionObject, ExceptionObject, MethodObject, RangeObject, ModuleObject, object, with_object}
+use Rattle.bc_flow.specs.mpy_base.Weights.{used, more_cells, bytes_of, with_made, with_used}
+use Rattle.bc_flow.specs.mpy_base.Val.{Val, At}
+use Rattle.bc_flow.proofs.mpy_base_lemmas.Worlds.{object_nones}
+use Rattle.py_primitives.specs.py_values.Shown.{PlainHeap}
 use Rattle.snap_laws.specs.Renamed.{Renaming, value, object_as, IsRenamed}
 
 abbrev Objs : Type 0

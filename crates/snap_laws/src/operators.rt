@@ -1,7 +1,7 @@
 //! Operators over heaps whose objects have other numbers.
 
-ghost use Rattle.mpy_base.specs.Val.{Val};
-ghost use Rattle.py_values.specs.Shown.{PlainHeap};
+ghost use Rattle.bc_flow.specs.mpy_base.Val.{Val};
+ghost use Rattle.py_primitives.specs.py_values.Shown.{PlainHeap};
 ghost use Rattle.py_primitives.specs.Operators.{Operator, binary};
 ghost use Rattle.snap_laws.specs.Renamed.{Renaming, IsRenamed, value};
 ghost use Rattle.snap_laws.specs.Outcomes.{IsOutcome};

@@ -3,14 +3,14 @@ use Rattle.std.proofs.Common.{◌≡◌, ℕ, List, subst}
 use Rattle.mpy_reader.specs.mpy_tree.declared.module.ModuleCode.{ModuleCode}
 use Rattle.mpy_reader.specs.mpy_tree.Raw as raw
 use Rattle.mpy_reader.specs.mpy_tree.Resolved.{ResolvedModule, Resolves}
-use Rattle.bc_library.specs.bc_verify.Verified.{IsVerified}
-use Rattle.py_tree.specs.declared.stmt.Module.{Module}
-use Rattle.py_tree.specs.Formed.{IsFormed}
-use Rattle.py_scopes.specs.Scopes.{IsFaultless}
+use Rattle.library_files.specs.bc_library.bc_verify.Verified.{IsVerified}
+use Rattle.mpy_compile.specs.py_tree.declared.stmt.Module.{Module}
+use Rattle.mpy_compile.specs.py_tree.Formed.{IsFormed}
+use Rattle.mpy_compile.specs.py_scopes.Scopes.{IsFaultless}
 use Rattle.mpy_compile.specs.py_source.declared.source.Accepted.{Accepted}
 use Rattle.mpy_compile.specs.py_source.Source as sources
-use Rattle.bc_scheme.specs.py_meaning.Meaning.{source_of}
-use Rattle.bc_scheme.specs.Translation.{Translates}
+use Rattle.mpy_compile.specs.bc_scheme.py_meaning.Meaning.{source_of}
+use Rattle.mpy_compile.specs.bc_scheme.Translation.{Translates}
 use Rattle.mpy_compile.specs.tr_source.Accepted.{IsAccepted}
 use Rattle.mpy_compile.specs.emit_module.First.{AreWithin}
 use Rattle.mpy_compile.specs.emit_module.Module.{IsResolved}

@@ -5,7 +5,7 @@ use Rattle.mpy_base.specs.declared.source.SourceFault.{SourceFault}
 use Rattle.mpy_base.specs.Fault.{too_long}
 use Rattle.mpy_reader.specs.mpy_tree.File.{IsFile}
 use Rattle.mpy_reader.specs.mpy_tree.Raw.{Module}
-use Rattle.bc_library.specs.bc_verify.Verified.{IsVerified}
+use Rattle.library_files.specs.bc_library.bc_verify.Verified.{IsVerified}
 use Rattle.mpy_compile.specs.Compiled.{CompilesTo, IsFault}
 use Rattle.library_files.specs.Comes.{IsVerifiedFile}
 use Rattle.source_files.specs.Sources.{stored, IsModuleOf}

@@ -6,9 +6,8 @@ ghost use Rattle.library_files.specs.Ends.{BeginsWith, EndsIn, FailsAmong, Holds
 ghost use Rattle.source_files.specs.Sources.{LoadsFromSources, SourceComesTo, source_ending};
 
 use crate::source::source_module;
-use bc_library::Library;
 use bc_verify::Verified;
-use library_files::{Entry, LoadFault, Reader, load_by};
+use library_files::{Entry, Library, LoadFault, Reader, load_by};
 use mpy_base::{Refused, SourceFault};
 use mpy_io::Folder;
 use std::alloc::Global;

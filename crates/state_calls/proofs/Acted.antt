@@ -1,13 +1,13 @@
 -- Calls of methods, of built-ins, and of what isn't callable.
 use Rattle.std.proofs.Common.{◌≡◌, ℕ, ◌<◌, ◌≤◌, List, [], ◌∷◌, length, map, Option, Some, Result, Ok, Err, inr, refl, sym, ap, subst, ◌∙◌, arith}
-use Rattle.mpy_base.specs.declared.builtin.Builtin.{Builtin}
-use Rattle.mpy_base.specs.World.{Heap}
-use Rattle.mpy_base.specs.Val.{PlainWorld}
+use Rattle.vm_states.specs.mpy_base.declared.builtin.Builtin.{Builtin}
+use Rattle.vm_states.specs.mpy_base.World.{Heap}
+use Rattle.vm_states.specs.mpy_base.Val.{PlainWorld}
 use Rattle.port_set.specs.Calls.{Tell}
 use Rattle.frame_calls.specs.arena_heap.declared.value.Value.{Value}
-use Rattle.py_effects.specs.py_primitives.Methods.{call_method}
-use Rattle.py_effects.specs.Effect.{Place}
-use Rattle.py_effects.specs.Ends.{new_world}
+use Rattle.bc_progress.specs.py_effects.py_primitives.Methods.{call_method}
+use Rattle.bc_progress.specs.py_effects.Effect.{Place}
+use Rattle.bc_progress.specs.py_effects.Ends.{new_world}
 use Rattle.vm_states.specs.bc_library.Constants.{items_at, text_at}
 use Rattle.vm_states.specs.bc_library.Shelf.{Shelf}
 use Rattle.vm_states.specs.bc_ops.declared.instr.Instr.TheVariants as instrs

@@ -3,17 +3,17 @@ use Rattle.std.proofs.Common.{◌≡◌, ℕ, zero, suc, ◌+◌, ◌-◌, ◌<�
 use Rattle.std.specs.Prelude.{IsOk, OnErr}
 use Rattle.std.proofs.lemmas.List.{length-map, length-replicate}
 use Rattle.std.proofs.lemmas.List.Elements.{All-nil, All-cons, All-head, All-tail, All-append, All-drop}
-use Rattle.mpy_base.specs.World.{Heap, Objects}
-use Rattle.mpy_base.specs.Val.{Val, PlainWorld}
+use Rattle.vm_states.specs.mpy_base.World.{Heap, Objects}
+use Rattle.vm_states.specs.mpy_base.Val.{Val, PlainWorld}
 use Rattle.frame_calls.specs.arena_heap.declared.value.Value.{Value}
 use Rattle.frame_calls.specs.arena_heap.declared.value.StrNo.{StrNo}
 use Rattle.frame_calls.specs.arena_heap.declared.value.StrNo.TheVariants as strs
 use Rattle.frame_calls.specs.arena_heap.declared.value.ConstNo.{ConstNo}
-use Rattle.py_effects.specs.Ends.{new_world}
+use Rattle.bc_progress.specs.py_effects.Ends.{new_world}
 use Rattle.frame_calls.specs.bc_machine.Library.{Name, Code, Library, code_at}
 use Rattle.frame_calls.specs.bc_machine.State.{Frame, Called}
 use Rattle.frame_calls.specs.bc_machine.Step.{step}
-use Rattle.bc_flow.proofs.Never.{start_good}
+use Rattle.bc_progress.proofs.bc_flow_lemmas.Never.{start_good}
 use Rattle.vm_states.specs.bc_progress.Plans.{Plans, Follows, flow_of}
 use Rattle.vm_states.specs.bc_progress.Slots.{anything, none}
 use Rattle.vm_states.specs.bc_progress.Fits.{Stands, IsWithin}

@@ -6,13 +6,13 @@ use Rattle.std.specs.Str.{bytes_eq}
 use Rattle.std.proofs.lemmas.Option.{same_Some, slice_get_within, slice_get-map}
 use Rattle.std.proofs.lemmas.List.{length-map}
 use Rattle.std.proofs.lemmas.List.Elements.{All-head}
-use Rattle.mpy_base.specs.World.{Objects}
+use Rattle.vm_states.specs.mpy_base.World.{Objects}
 use Rattle.frame_calls.specs.arena_heap.declared.value.Value.{Value}
 use Rattle.frame_calls.specs.arena_heap.declared.value.StrNo.{StrNo}
 use Rattle.frame_calls.specs.arena_heap.declared.value.StrNo.TheVariants as strs
 use Rattle.frame_calls.specs.arena_objects.Iterables.{or_nothing}
-use Rattle.mpy_tree.specs.qstr_pool.Pool.{Texts}
-use Rattle.mpy_tree.proofs.qstr_pool_lemmas.Places.{found}
+use Rattle.vm_states.specs.mpy_tree.qstr_pool.Pool.{Texts}
+use Rattle.vm_states.proofs.mpy_tree_lemmas.qstr_pool_lemmas.Places.{found}
 use Rattle.vm_states.specs.bc_library.declared.fault.Member.TheVariants as members
 use Rattle.vm_states.specs.bc_library.Constants.{items_at, text_at}
 use Rattle.vm_states.specs.bc_library.Shelf.{Shelf, Named, names, member_by, member_of}

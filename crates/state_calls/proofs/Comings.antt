@@ -1,16 +1,16 @@
 -- What a call comes to, from what was done.
 use Rattle.std.proofs.Common.{◌≡◌, ℕ, List, ◌++◌, map, Option, Some, Result, Ok, Err, inl, inr, refl, sym, ap, subst, ◌∙◌}
 use Rattle.std.specs.Prelude.{◌⊎◌}
-use Rattle.mpy_base.specs.declared.builtin.Builtin.{Builtin}
-use Rattle.mpy_base.specs.World.{Heap}
-use Rattle.mpy_base.specs.Val.{PlainWorld}
+use Rattle.vm_states.specs.mpy_base.declared.builtin.Builtin.{Builtin}
+use Rattle.vm_states.specs.mpy_base.World.{Heap}
+use Rattle.vm_states.specs.mpy_base.Val.{PlainWorld}
 use Rattle.port_set.specs.Calls.{Tell}
 use Rattle.frame_calls.specs.arena_heap.declared.value.Value.{Value}
 use Rattle.frame_calls.specs.arena_heap.declared.value.Value.TheVariants as values
-use Rattle.py_effects.specs.py_primitives.Faults as plain_faults
-use Rattle.py_effects.specs.py_primitives.Outcome as primitives
-use Rattle.py_effects.specs.Calling.{call_builtin}
-use Rattle.py_effects.specs.Effect.{Place}
+use Rattle.bc_progress.specs.py_effects.py_primitives.Faults as plain_faults
+use Rattle.bc_progress.specs.py_effects.py_primitives.Outcome as primitives
+use Rattle.bc_progress.specs.py_effects.Calling.{call_builtin}
+use Rattle.bc_progress.specs.py_effects.Effect.{Place}
 use Rattle.vm_states.specs.bc_library.Constants.{items_at, text_at}
 use Rattle.vm_states.specs.bc_library.Shelf.{Shelf}
 use Rattle.frame_calls.specs.bc_machine.State.{State}

@@ -4,19 +4,19 @@ use Rattle.std.specs.Prelude.{slice_get}
 use Rattle.std.proofs.lemmas.List.{drop-map}
 use Rattle.std.proofs.lemmas.List.Elements.{All-cons, All-head, All-tail}
 use Rattle.std.proofs.lemmas.Option.{same_Some}
-use Rattle.mpy_base.specs.Val.{PlainWorld}
-use Rattle.bc_flow.specs.bc_shapes.declared.kinds.Kind.TheVariants as kinds
-use Rattle.bc_flow.specs.bc_shapes.declared.kinds.Want.{Want}
-use Rattle.bc_flow.specs.bc_shapes.declared.kinds.Want.TheVariants as wants
-use Rattle.bc_flow.specs.bc_shapes.declared.kinds.Give.TheVariants.{New}
-use Rattle.bc_flow.specs.bc_shapes.Shape.{takes}
+use Rattle.vm_states.specs.mpy_base.Val.{PlainWorld}
+use Rattle.bc_progress.specs.bc_flow.bc_shapes.declared.kinds.Kind.TheVariants as kinds
+use Rattle.bc_progress.specs.bc_flow.bc_shapes.declared.kinds.Want.{Want}
+use Rattle.bc_progress.specs.bc_flow.bc_shapes.declared.kinds.Want.TheVariants as wants
+use Rattle.bc_progress.specs.bc_flow.bc_shapes.declared.kinds.Give.TheVariants.{New}
+use Rattle.bc_progress.specs.bc_flow.bc_shapes.Shape.{takes}
 use Rattle.vm_states.specs.bc_ops.declared.instr.Instr.TheVariants as instrs
-use Rattle.bc_flow.specs.Action.{Straight, op_action, instr_action, arguments}
-use Rattle.bc_flow.specs.Machine as flow
-use Rattle.mpy_tree.specs.bc_prelude.Lines as lines
+use Rattle.bc_progress.specs.bc_flow.Action.{Straight, op_action, instr_action, arguments}
+use Rattle.bc_progress.specs.bc_flow.Machine as flow
+use Rattle.vm_states.specs.mpy_tree.bc_prelude.Lines as lines
 use Rattle.frame_calls.specs.arena_heap.declared.value.Value.{Value}
-use Rattle.py_effects.specs.Effect.{Place}
-use Rattle.py_effects.specs.Ends.{new_world}
+use Rattle.bc_progress.specs.py_effects.Effect.{Place}
+use Rattle.bc_progress.specs.py_effects.Ends.{new_world}
 use Rattle.frame_calls.specs.bc_labels.Positions.{Starts, position_in}
 use Rattle.frame_calls.specs.bc_machine.Library.{Line, Plain}
 use Rattle.frame_calls.specs.bc_machine.State as states

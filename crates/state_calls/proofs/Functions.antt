@@ -1,11 +1,11 @@
 -- Calls of functions of the program.
 use Rattle.std.proofs.Common.{◌≡◌, ℕ, ◌≤◌, [], length, Some, None, Result, Ok, sym, subst, arith}
 use Rattle.std.specs.Prelude.{IsOk}
-use Rattle.mpy_base.specs.World.{Heap}
-use Rattle.mpy_base.specs.Val.{PlainWorld}
+use Rattle.vm_states.specs.mpy_base.World.{Heap}
+use Rattle.vm_states.specs.mpy_base.Val.{PlainWorld}
 use Rattle.frame_calls.specs.arena_heap.declared.value.Value.{Value}
 use Rattle.frame_calls.specs.arena_heap.declared.value.Value.TheVariants as values
-use Rattle.py_effects.specs.Ends.{new_world}
+use Rattle.bc_progress.specs.py_effects.Ends.{new_world}
 use Rattle.vm_states.specs.bc_library.Constants.{items_at, text_at}
 use Rattle.vm_states.specs.bc_library.Shelf.{Shelf}
 use Rattle.vm_states.specs.bc_ops.declared.instr.Instr.TheVariants as instrs

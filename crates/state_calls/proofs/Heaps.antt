@@ -1,9 +1,9 @@
 -- What a call does to the heap, the sink's count of faults and the ports, whatever the output and the ports tell.
 use Rattle.std.proofs.Common.{◌≡◌, ℕ, List, map, true, false, Option, Result, Ok, Err, inl, inr, refl, sym, ap, subst, ◌∙◌, arith}
 use Rattle.std.specs.Prelude.{◌⊎◌}
-use Rattle.mpy_base.specs.declared.builtin.Builtin.{Builtin}
-use Rattle.mpy_base.specs.declared.builtin.Builtin.TheVariants as builtins
-use Rattle.mpy_base.specs.Val.{Val, Built, PlainWorld}
+use Rattle.vm_states.specs.mpy_base.declared.builtin.Builtin.{Builtin}
+use Rattle.vm_states.specs.mpy_base.declared.builtin.Builtin.TheVariants as builtins
+use Rattle.vm_states.specs.mpy_base.Val.{Val, Built, PlainWorld}
 use Rattle.mpy_io.specs.Count.{Counts}
 use Rattle.port_set.specs.Calls.{Tell}
 use Rattle.port_set.specs.Counts.{CountsKeep}
@@ -11,14 +11,14 @@ use Rattle.port_set.proofs.Counting.{counts_are}
 use Rattle.frame_calls.specs.arena_heap.declared.value.Value.{Value}
 use Rattle.frame_calls.specs.arena_heap.declared.value.StrNo.{StrNo}
 use Rattle.frame_calls.specs.arena_heap.declared.value.ConstNo.{ConstNo}
-use Rattle.py_effects.specs.py_values.Names.{type_name}
-use Rattle.py_effects.specs.py_primitives.Faults as plain
-use Rattle.py_effects.specs.py_primitives.Faults.{NotCallable}
-use Rattle.py_effects.specs.py_primitives.Outcome as primitives
-use Rattle.py_effects.specs.py_primitives.Outcome.{Outcome, raises}
-use Rattle.py_effects.specs.py_primitives.Calls.{call}
-use Rattle.py_effects.specs.Effect.{Effect, on_heap}
-use Rattle.py_effects.specs.Calling.{written, call_builtin}
+use Rattle.bc_progress.specs.py_effects.py_values.Names.{type_name}
+use Rattle.bc_progress.specs.py_effects.py_primitives.Faults as plain
+use Rattle.bc_progress.specs.py_effects.py_primitives.Faults.{NotCallable}
+use Rattle.bc_progress.specs.py_effects.py_primitives.Outcome as primitives
+use Rattle.bc_progress.specs.py_effects.py_primitives.Outcome.{Outcome, raises}
+use Rattle.bc_progress.specs.py_effects.py_primitives.Calls.{call}
+use Rattle.bc_progress.specs.py_effects.Effect.{Effect, on_heap}
+use Rattle.bc_progress.specs.py_effects.Calling.{written, call_builtin}
 use Rattle.vm_states.specs.bc_library.Constants.{items_at, text_at}
 use Rattle.vm_states.specs.bc_library.Shelf.{Shelf}
 use Rattle.vm_states.specs.bc_rows.declared.row.Row.{Row}
@@ -34,7 +34,7 @@ use Rattle.frame_calls.specs.prim_outputs.declared.prints.PrintStop.TheVariants 
 use Rattle.frame_calls.specs.prim_outputs.Prints.{IsPrint}
 use Rattle.frame_calls.specs.prim_outputs.PortCalls.{Failed, IsListed, called_number}
 use Rattle.frame_calls.proofs.prim_outputs_lemmas.PortsTold.{failed_beyond}
-use Rattle.py_effects.specs.py_primitives.Output.{printed}
+use Rattle.bc_progress.specs.py_effects.py_primitives.Output.{printed}
 use Rattle.frame_calls.specs.prim_calls.declared.calls.CallStop.{CallStop}
 use Rattle.frame_calls.specs.prim_calls.declared.calls.CallStop.TheVariants as calls
 use Rattle.frame_calls.specs.prim_calls.declared.callees.Callee.TheVariants as callees

@@ -3,7 +3,7 @@ use Rattle.std.proofs.Common.{◌≡◌, ℕ, zero, suc, ◌+◌, List, [], ◌�
 use Rattle.std.specs.Prelude.{slice_get}
 use Rattle.std.proofs.lemmas.List.Elements.{All-cons, All-head, All-tail}
 use Rattle.std.proofs.lemmas.Option.{none-some}
-use Rattle.mpy_base.specs.World.{Objects}
+use Rattle.vm_states.specs.mpy_base.World.{Objects}
 use Rattle.frame_calls.specs.arena_heap.declared.value.Value.{Value}
 use Rattle.frame_calls.specs.arena_heap.declared.value.StrNo.{StrNo}
 use Rattle.frame_calls.specs.arena_heap.declared.value.ConstNo.{ConstNo}

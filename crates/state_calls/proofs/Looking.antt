@@ -2,14 +2,14 @@
 use Rattle.std.proofs.Common.{◌≡◌, ℕ, zero, suc, ◌+◌, List, [], ◌∷◌, ◌++◌, length, map, Option, Some, None, All, inl, inr, refl, sym, ap, subst, ◌∙◌, arith}
 use Rattle.std.specs.Prelude.{slice_get}
 use Rattle.std.proofs.lemmas.List.Elements.{All-head, All-tail, All-weaker}
-use Rattle.mpy_base.specs.declared.builtin.Builtin.{Builtin}
-use Rattle.mpy_base.specs.World.{Objects}
-use Rattle.mpy_base.specs.Val.{Val, Built}
+use Rattle.vm_states.specs.mpy_base.declared.builtin.Builtin.{Builtin}
+use Rattle.vm_states.specs.mpy_base.World.{Objects}
+use Rattle.vm_states.specs.mpy_base.Val.{Val, Built}
 use Rattle.frame_calls.specs.arena_heap.declared.value.Value.{Value}
 use Rattle.frame_calls.specs.arena_heap.declared.value.Value.TheVariants as values
 use Rattle.frame_calls.specs.arena_heap.declared.value.StrNo.{StrNo}
 use Rattle.frame_calls.specs.arena_heap.declared.value.ConstNo.{ConstNo}
-use Rattle.bc_flow.specs.Action.{arguments}
+use Rattle.bc_progress.specs.bc_flow.Action.{arguments}
 use Rattle.frame_calls.specs.prim_walks.Plain.{fixed_of, fixed_within, plain}
 use Rattle.vm_states.specs.vm_frames.declared.slot.Slot.{Slot}
 use Rattle.vm_states.specs.vm_frames.declared.slot.Slot.TheVariants as slots

@@ -2,10 +2,10 @@
 use Rattle.std.proofs.Common.{◌≡◌, ℕ, zero, suc, ◌<◌, ◌≤◌, List, [], ◌∷◌, length, Option, Some, None, refl, sym, ap, subst, ◌∙◌, arith}
 use Rattle.std.specs.Prelude.{IsSome, slice_get, option_and_then}
 use Rattle.std.proofs.lemmas.Option.{same_Some, slice_get_within, slice_get_past}
-use Rattle.mpy_tree.specs.File.{IsModule}
-use Rattle.mpy_tree.specs.Raw as raw
-use Rattle.mpy_tree.specs.Resolved.{ResolvedModule, Resolves}
-use Rattle.mpy_tree.specs.Codes.{codes_of}
+use Rattle.vm_states.specs.mpy_tree.File.{IsModule}
+use Rattle.vm_states.specs.mpy_tree.Raw as raw
+use Rattle.vm_states.specs.mpy_tree.Resolved.{ResolvedModule, Resolves}
+use Rattle.vm_states.specs.mpy_tree.Codes.{codes_of}
 use Rattle.vm_states.specs.bc_library.Constants.{items_at, text_at}
 use Rattle.vm_states.specs.bc_library.Shelf.{Shelf, Named, module_at}
 use Rattle.frame_calls.specs.arena_heap.declared.value.Value.{Value}

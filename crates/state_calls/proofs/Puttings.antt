@@ -1,13 +1,13 @@
 -- Calls that get a value, or that stop.
 use Rattle.std.proofs.Common.{◌≡◌, ℕ, List, [], ◌∷◌, drop, Option, Result, Ok, Err, refl, sym, ap, subst, ◌∙◌, arith}
 use Rattle.std.specs.Prelude.{OnErr}
-use Rattle.mpy_base.specs.World.{Heap, Objects, Later}
-use Rattle.mpy_base.specs.Val.{PlainWorld}
+use Rattle.vm_states.specs.mpy_base.World.{Heap, Objects, Later}
+use Rattle.vm_states.specs.mpy_base.Val.{PlainWorld}
 use Rattle.frame_calls.specs.arena_heap.declared.value.Value.{Value}
 use Rattle.frame_calls.specs.arena_heap.declared.value.StrNo.{StrNo}
 use Rattle.frame_calls.specs.arena_heap.declared.value.ConstNo.{ConstNo}
 use Rattle.frame_calls.specs.arena_objects.Keys.{AllTold}
-use Rattle.py_effects.specs.Ends.{new_world}
+use Rattle.bc_progress.specs.py_effects.Ends.{new_world}
 use Rattle.frame_calls.specs.bc_labels.Positions.{Starts}
 use Rattle.vm_states.specs.bc_rows.declared.row.Row.{Row}
 use Rattle.frame_calls.specs.prim_faults.declared.stop.Stop.{Stop}

@@ -2,13 +2,13 @@
 use Rattle.std.proofs.Common.{◌≡◌, ℕ, ◌+◌, ◌<◌, ◌≤◌, List, ◌∷◌, length, Some, All, sym, subst, arith}
 use Rattle.std.specs.Prelude.{slice_get}
 use Rattle.std.proofs.lemmas.Option.{slice_get_within}
-use Rattle.mpy_base.specs.World.{Heap}
+use Rattle.vm_states.specs.mpy_base.World.{Heap}
 use Rattle.frame_calls.specs.arena_heap.declared.value.Value.{Value}
 use Rattle.frame_calls.specs.arena_objects.Keys.{AllTold}
 use Rattle.vm_states.specs.bc_library.Constants.{items_at, text_at}
 use Rattle.vm_states.specs.bc_library.Shelf.{Shelf}
 use Rattle.vm_states.specs.bc_ops.declared.instr.Instr.TheVariants as instrs
-use Rattle.bc_flow.specs.Action.{arguments}
+use Rattle.bc_progress.specs.bc_flow.Action.{arguments}
 use Rattle.frame_calls.specs.bc_machine.Library.{Name, Code, Library, Plain, code_at}
 use Rattle.vm_states.specs.bc_progress.Plans.{Plan}
 use Rattle.vm_states.specs.bc_rows.declared.row.Row.{Row}

@@ -1,16 +1,16 @@
 -- What a call comes to that an instruction makes, over an arena, with the output and the ports.
 use Rattle.std.specs.Prelude.{◌≡◌, ◌⊎◌, ℕ, suc, ◌<◌, ◌≤◌, List, ◌++◌, map, Bool, true, false, Option, Some, Result, Ok, Err}
-use Rattle.mpy_base.specs.World.{Heap}
-use Rattle.mpy_base.specs.Val.{Val, PlainWorld}
+use Rattle.vm_states.specs.mpy_base.World.{Heap}
+use Rattle.vm_states.specs.mpy_base.Val.{Val, PlainWorld}
 use Rattle.mpy_io.specs.Ports.{PortView}
 use Rattle.port_set.specs.Calls.{Tell}
 use Rattle.port_set.specs.Counts.{RoseBeyond}
 use Rattle.frame_calls.specs.arena_heap.declared.value.Value.{Value}
-use Rattle.py_effects.specs.py_primitives.Faults as plain_faults
-use Rattle.py_effects.specs.py_primitives.Outcome.{Raises}
-use Rattle.py_effects.specs.Calling as plain
-use Rattle.py_effects.specs.Calling.{Keys}
-use Rattle.py_effects.specs.Effect.{Place}
+use Rattle.bc_progress.specs.py_effects.py_primitives.Faults as plain_faults
+use Rattle.bc_progress.specs.py_effects.py_primitives.Outcome.{Raises}
+use Rattle.bc_progress.specs.py_effects.Calling as plain
+use Rattle.bc_progress.specs.py_effects.Calling.{Keys}
+use Rattle.bc_progress.specs.py_effects.Effect.{Place}
 use Rattle.vm_states.specs.bc_library.Shelf.{Shelf}
 use Rattle.frame_calls.specs.bc_machine.State.{State}
 use Rattle.vm_states.specs.bc_rows.declared.row.Row.{Row}

@@ -1,6 +1,6 @@
 -- Calls that run a program of a library of files over an arena, at an instruction that was fetched.
 use Rattle.std.specs.Prelude.{◌≡◌, ℕ, ◌≤◌, Some, Result}
-use Rattle.mpy_base.specs.World.{Heap}
+use Rattle.vm_states.specs.mpy_base.World.{Heap}
 use Rattle.frame_calls.specs.arena_heap.declared.value.Value.{Value}
 use Rattle.vm_states.specs.bc_library.Shelf.{Shelf}
 use Rattle.frame_calls.specs.bc_machine.Library.{Name, Code, code_at}

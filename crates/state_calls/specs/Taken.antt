@@ -1,7 +1,7 @@
 -- What an instruction calls, with its operands.
 use Rattle.std.specs.Prelude.{◌≡◌, ℕ, suc, ◌+◌, ◌<◌, ◌≤◌, List, length, Some, All, slice_get}
-use Rattle.mpy_base.specs.declared.builtin.Builtin.{Builtin}
-use Rattle.mpy_base.specs.World.{Heap}
+use Rattle.vm_states.specs.mpy_base.declared.builtin.Builtin.{Builtin}
+use Rattle.vm_states.specs.mpy_base.World.{Heap}
 use Rattle.vm_states.specs.bc_ops.declared.instr.Instr.TheVariants as instrs
 use Rattle.frame_calls.specs.arena_heap.declared.value.Value.{Value}
 use Rattle.frame_calls.specs.arena_heap.declared.value.Value.TheVariants as values

@@ -1,8 +1,8 @@
 //! Calls that an instruction makes: what is called is looked at, the visits are paid, and then the call is carried out.
 
 ghost use Rattle.std.specs.Prelude.{◌≡◌, ◌<◌, ◌^◌, map, true, OnErr};
-ghost use Rattle.mpy_base.specs.declared.builtin.Builtin.{Builtin as BuiltIn};
-ghost use Rattle.mpy_base.specs.World.{Later};
+ghost use Rattle.vm_states.specs.mpy_base.declared.builtin.Builtin.{Builtin as BuiltIn};
+ghost use Rattle.vm_states.specs.mpy_base.World.{Later};
 ghost use Rattle.mpy_io.specs.Count.{Counts};
 ghost use Rattle.port_set.specs.Counts.{CountsKeep};
 ghost use Rattle.vm_states.specs.bc_library.Constants.{items_at, text_at};
@@ -16,16 +16,14 @@ ghost use Rattle.state_calls.specs.Taken.{CallsValue, Keeps, IsTaken};
 
 use crate::entering::call_code;
 use arena_heap::Arena;
-use bc_library::Library;
-use bc_rows::{Rows, rows_law};
-use frame_calls::{Bindings, Invocation, Operands, act_builtin, act_method, refuse_call};
+use frame_calls::{
+    Bindings, CallStop, Callee, Invocation, Operands, act_builtin, act_method, refuse_call,
+};
 use mpy_io::{Port, Sink};
 use port_set::PortSet;
-use prim_calls::{CallStop, Callee};
 use prim_faults::Stop;
-use vm_fetching::NumberOp;
 use vm_frames::Frames;
-use vm_states::{keeps_law, known_law};
+use vm_states::{Library, NumberOp, Rows, keeps_law, known_law, rows_law};
 
 /// A stop as that of a call.
 fn stopped(acted: Result<(), Stop>) -> Result<(), CallStop>

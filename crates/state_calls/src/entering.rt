@@ -11,15 +11,13 @@ ghost use Rattle.state_calls.specs.Taken.{CallsValue, Keeps, IsTaken};
 
 use crate::finding::code_of;
 use arena_heap::Arena;
-use bc_library::Library;
 use bc_progress::room_law;
-use bc_rows::{Rows, rows_law};
-use frame_calls::{Bindings, FunctionCode, Invocation, Operands, run_function, skip_function};
-use prim_calls::Function;
+use frame_calls::{
+    Bindings, Function, FunctionCode, Invocation, Operands, run_function, skip_function,
+};
 use prim_faults::Stop;
-use vm_fetching::NumberOp;
 use vm_frames::Frames;
-use vm_states::{keeps_law, known_law};
+use vm_states::{Library, NumberOp, Rows, keeps_law, known_law, rows_law};
 
 /// A function is called: its code is entered, or the call gives None where the library doesn't have the code.
 pub(crate) fn call_code(

@@ -8,11 +8,8 @@ ghost use Rattle.state_calls.specs.Children.{HasChildIn, IsChildIn};
 ghost use Rattle.state_calls.specs.Codes.{module_of_name, LacksCode};
 
 use arena_heap::{Constants, StrNo};
-use bc_library::Library;
-use bc_rows::{Row, Rows};
-use frame_calls::Child;
-use frame_exits::ModuleName;
-use prim_calls::Function;
+use frame_calls::{Child, Function};
+use vm_states::{Library, ModuleName, Row, Rows};
 
 /// The row of a code that is there.
 fn row_at<'b, 'a>(rows: &'b Rows<'a>, module_number: u32, code: u32) -> &'b Row<'a>

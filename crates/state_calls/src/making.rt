@@ -9,12 +9,9 @@ ghost use Rattle.state_calls.specs.Taken.{Keeps};
 
 use crate::finding::child_in;
 use arena_heap::Arena;
-use bc_library::Library;
-use bc_rows::{Rows, rows_law};
-use frame_exits::ModuleName;
 use prim_faults::Stop;
 use vm_frames::Frames;
-use vm_states::{keeps_law, known_law, tops_law};
+use vm_states::{Library, ModuleName, Rows, keeps_law, known_law, rows_law, tops_law};
 
 /// MAKE_FUNCTION, where it was fetched for the running call: a function of the child with the number, without defaults. Where it
 /// stops, the calls stay.

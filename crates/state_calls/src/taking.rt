@@ -1,7 +1,7 @@
 //! What an instruction calls, its operands, and the visits of the call.
 
 ghost use Rattle.std.specs.Prelude.{◌≡◌, ◌<◌, length, min};
-ghost use Rattle.mpy_base.specs.Val.{PlainWorld};
+ghost use Rattle.vm_states.specs.mpy_base.Val.{PlainWorld};
 ghost use Rattle.frame_calls.specs.arena_objects.Keys.{AllTold};
 ghost use Rattle.vm_states.specs.bc_library.Constants.{items_at, text_at};
 ghost use Rattle.frame_calls.specs.prim_calls.Callees.{IsKnownCallee};
@@ -14,12 +14,10 @@ ghost use Rattle.state_calls.specs.Runs.{RunsWithin};
 ghost use Rattle.state_calls.specs.Taken.{CallsValue, HasMethods, IsTaken};
 
 use arena_heap::Arena;
-use bc_library::Library;
 use bc_progress::room_law;
 use frame_calls::{Invocation, Operands, call_function, call_method, visits_call};
-use vm_fetching::NumberOp;
 use vm_frames::Frames;
-use vm_states::tops_law;
+use vm_states::{Library, NumberOp, tops_law};
 
 /// CALL_FUNCTION or CALL_METHOD, where it was fetched for the running call: what it calls. Its operands are copied. It changes
 /// nothing else, and takes no memory.

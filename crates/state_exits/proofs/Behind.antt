@@ -2,16 +2,16 @@
 use Rattle.std.proofs.Common.{◌≡◌, ◌<◌, ℕ, List, [], ◌∷◌, length, map, Bool, true, false, Option, Some, None, All, refl, sym, ap, ◌∙◌, subst, if◌then◌else◌}
 use Rattle.std.specs.Prelude.{IfNone, IfSome}
 use Rattle.std.proofs.lemmas.List.Elements.{All-weaker}
-use Rattle.mpy_base.specs.World.{Heap}
-use Rattle.mpy_base.specs.Val.{At, PlainWorld}
+use Rattle.vm_states.specs.mpy_base.World.{Heap}
+use Rattle.vm_states.specs.mpy_base.Val.{At, PlainWorld}
 use Rattle.prim_faults.specs.arena_heap.declared.value.Value.{Value}
 use Rattle.prim_faults.specs.py_primitives.Outcome as primitives
-use Rattle.py_effects.specs.Effect as effects
-use Rattle.py_effects.specs.Effect.{Fails, Thrown, Filled}
-use Rattle.py_effects.specs.Ends.{new_world}
-use Rattle.py_effects.specs.Growth.{fails_world}
-use Rattle.py_effects.specs.Heaps.{Sound, WorldFollows}
-use Rattle.py_effects.proofs.ModuleGrows.{forgotten, sounds}
+use Rattle.bc_progress.specs.py_effects.Effect as effects
+use Rattle.bc_progress.specs.py_effects.Effect.{Fails, Thrown, Filled}
+use Rattle.bc_progress.specs.py_effects.Ends.{new_world}
+use Rattle.bc_progress.specs.py_effects.Growth.{fails_world}
+use Rattle.bc_progress.specs.py_effects.Heaps.{Sound, WorldFollows}
+use Rattle.bc_machine.proofs.py_effects_lemmas.ModuleGrows.{forgotten, sounds}
 use Rattle.vm_states.specs.bc_machine.State as states
 use Rattle.vm_states.specs.bc_machine.State.{Role, Main, Called, Imported, Frame, State, Entry, throw_in, throw_out, throw, fail, enter, abandoned}
 use Rattle.vm_states.specs.bc_machine.Growth as growth
@@ -22,8 +22,8 @@ use Rattle.vm_states.proofs.bc_progress_lemmas.Knowing.{ThrowsKnown, all_covered
 use Rattle.vm_states.proofs.bc_progress_lemmas.Frames.{fails_fit}
 use Rattle.prim_faults.specs.declared.stop.Stop.{Stop}
 use Rattle.prim_faults.specs.Outcomes.{plain_stop}
-use Rattle.prim_raising.specs.Places.{stopped_at}
-use Rattle.prim_modules.specs.Registry.{Registry}
+use Rattle.vm_states.specs.prim_raising.Places.{stopped_at}
+use Rattle.vm_states.specs.prim_modules.Registry.{Registry}
 use Rattle.vm_states.specs.vm_frames.Calls.{Call, Calls}
 use Rattle.vm_states.specs.vm_frames.Placed.{IsPlaced}
 use Rattle.vm_states.specs.vm_frames.Views.{frame_of}

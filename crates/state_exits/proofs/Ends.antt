@@ -2,19 +2,19 @@
 use Rattle.std.proofs.Common.{◌≡◌, ◌<◌, ℕ, List, [], ◌∷◌, length, Option, Some, None, Result, Ok, Err, All, refl, sym, ap, ◌∙◌, subst}
 use Rattle.std.specs.Prelude.{IfSome, IfNone, IfOk}
 use Rattle.std.proofs.lemmas.List.Elements.{All-weaker}
-use Rattle.mpy_base.specs.declared.room.NoRoom.{NoRoom}
-use Rattle.mpy_base.specs.World.{Objects, Heap, AnException, IsA}
-use Rattle.mpy_base.specs.Val.{PlainWorld}
+use Rattle.vm_states.specs.mpy_base.declared.room.NoRoom.{NoRoom}
+use Rattle.vm_states.specs.mpy_base.World.{Objects, Heap, AnException, IsA}
+use Rattle.vm_states.specs.mpy_base.Val.{PlainWorld}
 use Rattle.prim_faults.specs.arena_heap.declared.value.Value.{Value}
 use Rattle.prim_faults.specs.arena_heap.declared.value.StrNo.{StrNo}
 use Rattle.prim_faults.specs.arena_heap.declared.value.ConstNo.{ConstNo}
 use Rattle.prim_faults.specs.arena_heap.declared.value.ExcNo.{ExcNo}
 use Rattle.prim_faults.specs.arena_objects.Keys.{AllTold}
-use Rattle.py_effects.specs.Heaps.{Sound}
+use Rattle.bc_progress.specs.py_effects.Heaps.{Sound}
 use Rattle.vm_states.specs.bc_machine.State.{State}
 use Rattle.vm_states.specs.bc_machine.Step.{step}
 use Rattle.vm_states.specs.bc_machine.Growth as growth
-use Rattle.prim_modules.specs.Registry.{Registry, plain_modules}
+use Rattle.vm_states.specs.prim_modules.Registry.{Registry, plain_modules}
 use Rattle.vm_states.specs.vm_frames.Calls.{Call, Calls}
 use Rattle.vm_states.specs.vm_frames.Placed.{IsPlaced}
 use Rattle.vm_states.specs.frame_moves.Shown.{view_of, running_of}

@@ -1,7 +1,7 @@
 -- The ends of finallys, where a run comes to.
 use Rattle.std.proofs.Common.{◌≡◌, ◌<◌, ℕ, List, [], ◌∷◌, length, drop, Some, slice_get, refl, sym, ap, ◌∙◌, subst, arith}
 use Rattle.std.proofs.lemmas.Option.{same_Some}
-use Rattle.mpy_base.specs.Val.{PlainWorld}
+use Rattle.vm_states.specs.mpy_base.Val.{PlainWorld}
 use Rattle.prim_faults.specs.arena_heap.declared.value.Value.{Value}
 use Rattle.vm_states.specs.bc_labels.Positions.{Starts}
 use Rattle.vm_states.specs.bc_machine.State.{State}

@@ -7,7 +7,7 @@ use Rattle.vm_states.specs.vm_frames.declared.slot.Slot.TheVariants as slots
 use Rattle.vm_states.specs.vm_frames.Calls.{Calls}
 use Rattle.vm_states.specs.vm_fetching.declared.instruction.Fetched.{Fetched}
 use Rattle.vm_states.specs.bc_rows.declared.row.Row.{Row}
-use Rattle.mpy_base.specs.World.{Objects}
+use Rattle.vm_states.specs.mpy_base.World.{Objects}
 use Rattle.vm_states.specs.Means.{Program}
 use Rattle.vm_states.specs.Ready.{IsReady}
 use Rattle.vm_states.specs.State.{IsState, IsKnownValue, IsKnownSlot, IsKnownCall}

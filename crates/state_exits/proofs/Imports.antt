@@ -3,18 +3,18 @@ use Rattle.std.proofs.Common.{◌≡◌, ◌<◌, ◌≤◌, ℕ, suc, List, [],
 use Rattle.std.specs.Prelude.{Contains, IfErr, IsSome, bytes_eq, nat_lt}
 use Rattle.std.proofs.lemmas.Bool.{ltb-true}
 use Rattle.std.proofs.lemmas.List.{length-map, map-append}
-use Rattle.mpy_base.specs.declared.limits.TheConstants.{MAX_CALLS}
-use Rattle.mpy_base.specs.World.{Objects, Heap, AModule, IsA, object, kind_of}
-use Rattle.mpy_base.specs.Val.{At, PlainWorld}
+use Rattle.vm_states.specs.mpy_base.declared.limits.TheConstants.{MAX_CALLS}
+use Rattle.vm_states.specs.mpy_base.World.{Objects, Heap, AModule, IsA, object, kind_of}
+use Rattle.vm_states.specs.mpy_base.Val.{At, PlainWorld}
 use Rattle.prim_faults.specs.arena_heap.declared.value.Value.{Value}
 use Rattle.prim_faults.specs.arena_heap.declared.value.StrNo.{StrNo}
 use Rattle.prim_faults.specs.arena_heap.declared.value.StrNo.TheVariants as strs
 use Rattle.prim_faults.specs.arena_heap.declared.value.ConstNo.{ConstNo}
 use Rattle.prim_faults.specs.py_values.Shown.{PlainHeap}
-use Rattle.py_effects.specs.Effect as effects
-use Rattle.py_effects.specs.Ends.{new_world}
-use Rattle.py_effects.specs.Heaps.{HasNames, Registered}
-use Rattle.py_effects.specs.Modules.{prefixes, registered_as, module_or_port, module_named}
+use Rattle.bc_progress.specs.py_effects.Effect as effects
+use Rattle.bc_progress.specs.py_effects.Ends.{new_world}
+use Rattle.bc_progress.specs.py_effects.Heaps.{HasNames, Registered}
+use Rattle.bc_progress.specs.py_effects.Modules.{prefixes, registered_as, module_or_port, module_named}
 use Rattle.vm_states.specs.bc_library.declared.fault.Member.TheVariants as members
 use Rattle.vm_states.specs.bc_library.Shelf.{Shelf, Named, member_of}
 use Rattle.vm_states.specs.bc_machine.Library.{Name}
@@ -24,9 +24,9 @@ use Rattle.prim_faults.proofs.prim_walks_lemmas.PlainValues.{object_plain}
 use Rattle.prim_faults.specs.declared.stop.Stop.{Stop}
 use Rattle.prim_faults.specs.Outcomes.{IsKnownAnswer}
 use Rattle.prim_faults.proofs.Heaps.{kind_plain}
-use Rattle.prim_modules.specs.declared.entry.Entry.{Entry}
-use Rattle.prim_modules.specs.declared.makings.Made.{Made}
-use Rattle.prim_modules.specs.Registry.{Registry, plain_entry, plain_modules, with_entry}
+use Rattle.vm_states.specs.prim_modules.declared.entry.Entry.{Entry}
+use Rattle.vm_states.specs.prim_modules.declared.makings.Made.{Made}
+use Rattle.vm_states.specs.prim_modules.Registry.{Registry, plain_entry, plain_modules, with_entry}
 use Rattle.vm_states.specs.vm_frames.declared.slot.Slot.{Slot}
 use Rattle.vm_states.specs.vm_frames.Calls.{Calls, OfRunning}
 use Rattle.vm_states.specs.vm_frames.Placed.{IsPlaced}

@@ -3,19 +3,19 @@ use Rattle.std.proofs.Common.{◌≡◌, ◌<◌, ℕ, zero, List, [], ◌∷◌
 use Rattle.std.specs.Prelude.{Contains, codes}
 use Rattle.std.specs.List.{IsDistinct}
 use Rattle.std.proofs.lemmas.List.Elements.{All-nil}
-use Rattle.mpy_base.specs.World.{Heap}
-use Rattle.mpy_base.specs.Val.{PlainWorld}
+use Rattle.vm_states.specs.mpy_base.World.{Heap}
+use Rattle.vm_states.specs.mpy_base.Val.{PlainWorld}
 use Rattle.prim_faults.specs.arena_heap.declared.value.Value.{Value}
-use Rattle.py_effects.specs.Ends.{new_world}
-use Rattle.py_effects.specs.Heaps.{Formed, Registered, Sound}
-use Rattle.py_effects.specs.Modules.{make_module}
-use Rattle.py_effects.proofs.ModuleGrows.{made_sound}
+use Rattle.bc_progress.specs.py_effects.Ends.{new_world}
+use Rattle.bc_progress.specs.py_effects.Heaps.{Formed, Registered, Sound}
+use Rattle.bc_progress.specs.py_effects.Modules.{make_module}
+use Rattle.bc_machine.proofs.py_effects_lemmas.ModuleGrows.{made_sound}
 use Rattle.vm_states.specs.bc_machine.Library.{Name}
 use Rattle.prim_faults.specs.prim_walks.Plain.{plain_name, plain_heap}
-use Rattle.prim_modules.specs.declared.entry.Entry.{Entry}
-use Rattle.prim_modules.specs.declared.makings.Made.{Made}
-use Rattle.prim_modules.specs.Registry.{Registry, plain_entry, plain_modules, with_entry}
-use Rattle.prim_modules.specs.Effects.{world_with, IsMaking}
+use Rattle.vm_states.specs.prim_modules.declared.entry.Entry.{Entry}
+use Rattle.vm_states.specs.prim_modules.declared.makings.Made.{Made}
+use Rattle.vm_states.specs.prim_modules.Registry.{Registry, plain_entry, plain_modules, with_entry}
+use Rattle.vm_states.specs.prim_modules.Effects.{world_with, IsMaking}
 use Rattle.vm_states.specs.Means.{Program}
 use Rattle.state_exits.specs.Own.{AreOwn}
 use Rattle.state_exits.specs.Modules.{registered_names, AreRegistered}

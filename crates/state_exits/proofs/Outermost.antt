@@ -4,10 +4,10 @@ use Rattle.std.specs.Prelude.{IsSome, option_and_then}
 use Rattle.std.specs.List.{AllByRecursion}
 use Rattle.std.proofs.lemmas.List.{length-append}
 use Rattle.std.proofs.lemmas.Option.{same_Some, slice_get_within}
-use Rattle.mpy_tree.specs.File.{IsModule}
-use Rattle.mpy_tree.specs.Raw as raw
-use Rattle.mpy_tree.specs.Resolved.{ResolvedModule, Resolves}
-use Rattle.mpy_tree.specs.Codes.{codes_of}
+use Rattle.vm_states.specs.mpy_tree.File.{IsModule}
+use Rattle.vm_states.specs.mpy_tree.Raw as raw
+use Rattle.vm_states.specs.mpy_tree.Resolved.{ResolvedModule, Resolves}
+use Rattle.vm_states.specs.mpy_tree.Codes.{codes_of}
 use Rattle.vm_states.specs.bc_ops.Listing.{Piece, IsPiece, joined, starts, items_at}
 use Rattle.vm_states.specs.bc_labels.Positions.{CodeList, Listed}
 use Rattle.vm_states.proofs.bc_labels_lemmas.Pieces.{some_text, all_spelled}

@@ -4,12 +4,12 @@ use Rattle.std.proofs.lemmas.List.Elements.{All-head}
 use Rattle.prim_faults.specs.arena_heap.declared.value.StrNo.{StrNo}
 use Rattle.prim_faults.specs.arena_heap.declared.value.StrNo.TheVariants as strs
 use Rattle.prim_faults.specs.arena_objects.Iterables.{or_nothing}
-use Rattle.mpy_tree.specs.bc_prelude.Lines as lines
+use Rattle.vm_states.specs.mpy_tree.bc_prelude.Lines as lines
 use Rattle.vm_states.specs.bc_library.Texts.{text_numbered}
-use Rattle.py_effects.specs.Effect as effects
+use Rattle.bc_progress.specs.py_effects.Effect as effects
 use Rattle.vm_states.specs.bc_rows.declared.row.Row.{Row}
 use Rattle.prim_faults.specs.prim_walks.Plain.{plain_name}
-use Rattle.prim_raising.specs.declared.place.Place.{Place}
+use Rattle.vm_states.specs.prim_raising.declared.place.Place.{Place}
 use Rattle.vm_states.specs.vm_frames.Calls.{Call, Calls, OfRunning}
 use Rattle.vm_states.specs.frame_exits.Ends.{place_of}
 use Rattle.vm_states.specs.vm_fetching.declared.instruction.Fetched.{Fetched}

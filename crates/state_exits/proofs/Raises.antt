@@ -1,16 +1,16 @@
 -- Stops and raises, where a run comes to.
 use Rattle.std.proofs.Common.{◌≡◌, ℕ, List, [], length, Option, All, ◌∙◌}
-use Rattle.mpy_base.specs.World.{Heap}
-use Rattle.mpy_base.specs.Val.{PlainWorld}
+use Rattle.vm_states.specs.mpy_base.World.{Heap}
+use Rattle.vm_states.specs.mpy_base.Val.{PlainWorld}
 use Rattle.prim_faults.specs.arena_heap.declared.value.Value.{Value}
 use Rattle.prim_faults.specs.arena_heap.declared.value.StrNo.{StrNo}
 use Rattle.prim_faults.specs.arena_heap.declared.value.ConstNo.{ConstNo}
-use Rattle.py_effects.specs.Effect as effects
-use Rattle.py_effects.specs.Ends.{new_world}
+use Rattle.bc_progress.specs.py_effects.Effect as effects
+use Rattle.bc_progress.specs.py_effects.Ends.{new_world}
 use Rattle.vm_states.specs.bc_machine.Growth as growth
 use Rattle.vm_states.specs.bc_rows.declared.row.Row.{Row}
 use Rattle.prim_faults.specs.declared.stop.Stop.{Stop}
-use Rattle.prim_modules.specs.Registry.{Registry, plain_modules}
+use Rattle.vm_states.specs.prim_modules.Registry.{Registry, plain_modules}
 use Rattle.vm_states.specs.vm_frames.Calls.{Calls}
 use Rattle.vm_states.specs.vm_frames.Views.{View}
 use Rattle.vm_states.specs.vm_frames.Placed.{IsPlaced}

@@ -9,7 +9,7 @@ use Rattle.std.proofs.lemmas.List.Elements.{All-nil, All-cons, All-head, All-tai
 use Rattle.std.proofs.lemmas.Map.Entries.{length-keys_of}
 use Rattle.std.proofs.lemmas.Map.Keys.{IsDistinct-cons, IsDistinct-push}
 use Rattle.std.proofs.lemmas.Map.Made.{length-le_from_is_member, is_member-Decides, IsDistinct-keys_filter}
-use Rattle.py_effects.specs.Modules.{registered_as}
+use Rattle.bc_progress.specs.py_effects.Modules.{registered_as}
 use Rattle.vm_states.specs.bc_machine.Library.{Name}
 use Rattle.state_exits.specs.Own.{AreOwn}
 

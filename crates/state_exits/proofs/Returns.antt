@@ -2,19 +2,19 @@
 use Rattle.std.proofs.Common.{◌≡◌, ℕ, List, [], ◌∷◌, length, Option, Some, None, All, sym, ap, ◌∙◌, subst, arith}
 use Rattle.std.specs.Prelude.{IfSome}
 use Rattle.std.proofs.lemmas.List.Elements.{All-weaker}
-use Rattle.mpy_base.specs.World.{Objects, Heap}
-use Rattle.mpy_base.specs.Val.{PlainWorld}
+use Rattle.vm_states.specs.mpy_base.World.{Objects, Heap}
+use Rattle.vm_states.specs.mpy_base.Val.{PlainWorld}
 use Rattle.prim_faults.specs.arena_heap.declared.value.Value.{Value}
 use Rattle.prim_faults.specs.arena_heap.declared.value.StrNo.{StrNo}
 use Rattle.prim_faults.specs.arena_heap.declared.value.ConstNo.{ConstNo}
-use Rattle.py_effects.specs.Ends.{new_world}
+use Rattle.bc_progress.specs.py_effects.Ends.{new_world}
 use Rattle.vm_states.specs.bc_machine.Library.{Library}
 use Rattle.vm_states.specs.bc_machine.State.{State}
 use Rattle.vm_states.specs.bc_machine.Step.{step}
 use Rattle.vm_states.specs.bc_progress.Plans.{Plans, Follows}
 use Rattle.vm_states.specs.bc_progress.Fits.{Fits}
 use Rattle.vm_states.specs.bc_rows.declared.row.Row.{Row}
-use Rattle.prim_modules.specs.Registry.{Registry, plain_modules}
+use Rattle.vm_states.specs.prim_modules.Registry.{Registry, plain_modules}
 use Rattle.vm_states.specs.vm_frames.Calls.{Call, Calls}
 use Rattle.vm_states.specs.vm_frames.Placed.{IsPlaced}
 use Rattle.vm_states.specs.frame_moves.Shown.{view_of, running_of, step_of}

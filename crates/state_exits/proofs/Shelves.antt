@@ -8,8 +8,8 @@ use Rattle.std.proofs.lemmas.Option.{none-some, same_Some, slice_get-map, slice_
 use Rattle.std.proofs.lemmas.Slice.Eq.{bytes_eq-Decides}
 use Rattle.std.proofs.lemmas.List.Quantifiers.{position-Some}
 use Rattle.std.proofs.lemmas.Map.Made.{is_member-Decides}
-use Rattle.mpy_base.specs.Val.{PlainWorld}
-use Rattle.py_effects.specs.Modules.{registered_as, is_port}
+use Rattle.vm_states.specs.mpy_base.Val.{PlainWorld}
+use Rattle.bc_progress.specs.py_effects.Modules.{registered_as, is_port}
 use Rattle.vm_states.specs.bc_library.declared.fault.Member.TheVariants as members
 use Rattle.vm_states.specs.bc_library.Shelf as shelves
 use Rattle.vm_states.specs.bc_library.Shelf.{Shelf, Named, member_by, member_of}

@@ -2,18 +2,18 @@
 use Rattle.std.proofs.Common.{◌≡◌, ℕ, List, [], ◌∷◌, map, filter, not, Option, Some, None, All, refl, sym, ap, ◌∙◌, subst}
 use Rattle.std.specs.Prelude.{bytes_eq}
 use Rattle.std.proofs.lemmas.List.Elements.{All-head, All-tail}
-use Rattle.mpy_base.specs.World.{Objects, Heap, ADict, IsA, object, kind_of}
-use Rattle.mpy_base.specs.Val.{PlainWorld}
+use Rattle.vm_states.specs.mpy_base.World.{Objects, Heap, ADict, IsA, object, kind_of}
+use Rattle.vm_states.specs.mpy_base.Val.{PlainWorld}
 use Rattle.vm_states.specs.bc_ops.declared.instr.Op.TheVariants as ops
 use Rattle.vm_states.specs.bc_ops.declared.instr.Instr.TheVariants as instrs
 use Rattle.prim_faults.specs.arena_heap.declared.value.Value.{Value}
 use Rattle.prim_faults.specs.arena_heap.declared.value.StrNo.{StrNo}
 use Rattle.prim_faults.specs.arena_heap.declared.value.ConstNo.{ConstNo}
 use Rattle.prim_faults.specs.py_primitives.Outcome as primitives
-use Rattle.py_effects.specs.Effect as effects
-use Rattle.py_effects.specs.Effect.{Fails, Thrown, Filled}
-use Rattle.py_effects.specs.Growth.{fails_world}
-use Rattle.py_effects.specs.Heaps.{Sound, WorldFollows, NamesStand}
+use Rattle.bc_progress.specs.py_effects.Effect as effects
+use Rattle.bc_progress.specs.py_effects.Effect.{Fails, Thrown, Filled}
+use Rattle.bc_progress.specs.py_effects.Growth.{fails_world}
+use Rattle.bc_progress.specs.py_effects.Heaps.{Sound, WorldFollows, NamesStand}
 use Rattle.vm_states.specs.bc_machine.Library.{Name, Library, Plain}
 use Rattle.vm_states.specs.bc_machine.State.{State}
 use Rattle.vm_states.specs.bc_machine.Step.{step}
@@ -23,9 +23,9 @@ use Rattle.prim_faults.specs.prim_walks.Plain.{plain_object}
 use Rattle.prim_faults.proofs.prim_walks_lemmas.PlainValues.{object_plain}
 use Rattle.prim_faults.specs.declared.stop.Stop.{Stop}
 use Rattle.prim_faults.specs.Outcomes.{plain_stop}
-use Rattle.prim_raising.specs.Places.{stopped_at}
+use Rattle.vm_states.specs.prim_raising.Places.{stopped_at}
 use Rattle.prim_faults.proofs.Heaps.{kind_plain}
-use Rattle.prim_modules.specs.Registry.{Registry}
+use Rattle.vm_states.specs.prim_modules.Registry.{Registry}
 use Rattle.vm_states.specs.vm_frames.Calls.{Call, Calls}
 use Rattle.vm_states.specs.vm_frames.Views.{frame_of}
 use Rattle.vm_states.specs.frame_moves.Shown.{Tables, view_of, running_of, step_of}

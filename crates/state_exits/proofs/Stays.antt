@@ -1,10 +1,10 @@
 -- Registered modules behind a step that registers and forgets none.
 use Rattle.std.proofs.Common.{◌≡◌, ℕ, subst}
-use Rattle.mpy_base.specs.World.{Heap}
-use Rattle.mpy_base.specs.Val.{PlainWorld}
+use Rattle.vm_states.specs.mpy_base.World.{Heap}
+use Rattle.vm_states.specs.mpy_base.Val.{PlainWorld}
 use Rattle.prim_faults.specs.arena_heap.declared.value.Value.{Value}
-use Rattle.py_effects.specs.Heaps.{Sound}
-use Rattle.prim_modules.specs.Registry.{Registry}
+use Rattle.bc_progress.specs.py_effects.Heaps.{Sound}
+use Rattle.vm_states.specs.prim_modules.Registry.{Registry}
 use Rattle.vm_states.specs.vm_frames.Calls.{Calls}
 use Rattle.vm_states.specs.frame_moves.Shown.{running_of}
 use Rattle.vm_states.specs.frame_moves.Outcomes.{world_of}

@@ -1,10 +1,10 @@
 -- The row of a call that waits, and what is fetched of it.
 use Rattle.std.proofs.Common.{◌≡◌, ℕ, length, true, false, Option, None, sym, subst}
 use Rattle.std.specs.Prelude.{IsSome}
-use Rattle.mpy_tree.specs.File.{IsModule}
-use Rattle.mpy_tree.specs.Raw as raw
-use Rattle.mpy_tree.specs.Resolved.{ResolvedModule, Resolves}
-use Rattle.mpy_tree.specs.Codes.{Placed, codes_of}
+use Rattle.vm_states.specs.mpy_tree.File.{IsModule}
+use Rattle.vm_states.specs.mpy_tree.Raw as raw
+use Rattle.vm_states.specs.mpy_tree.Resolved.{ResolvedModule, Resolves}
+use Rattle.vm_states.specs.mpy_tree.Codes.{Placed, codes_of}
 use Rattle.prim_faults.specs.arena_heap.declared.value.Value.{Value}
 use Rattle.vm_states.specs.bc_labels.Positions.{CodeList, Listed, Starts}
 use Rattle.vm_states.specs.bc_library.Shelf.{Shelf}

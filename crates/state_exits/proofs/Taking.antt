@@ -3,11 +3,11 @@ use Rattle.std.proofs.Common.{◌≡◌, ℕ, zero, suc, ◌<◌, List, [], ◌�
 use Rattle.std.specs.Prelude.{IsSome, slice_get, option_and_then}
 use Rattle.std.proofs.lemmas.Option.{none-some, same_Some}
 use Rattle.std.proofs.lemmas.List.Elements.{All-head}
-use Rattle.mpy_base.specs.Val.{PlainWorld}
-use Rattle.mpy_tree.specs.File.{IsModule}
-use Rattle.mpy_tree.specs.Raw as raw
-use Rattle.mpy_tree.specs.Resolved.{ResolvedModule, Resolves}
-use Rattle.mpy_tree.specs.Codes.{codes_of}
+use Rattle.vm_states.specs.mpy_base.Val.{PlainWorld}
+use Rattle.vm_states.specs.mpy_tree.File.{IsModule}
+use Rattle.vm_states.specs.mpy_tree.Raw as raw
+use Rattle.vm_states.specs.mpy_tree.Resolved.{ResolvedModule, Resolves}
+use Rattle.vm_states.specs.mpy_tree.Codes.{codes_of}
 use Rattle.vm_states.specs.bc_labels.Positions.{CodeList, Listed, Starts, position_in}
 use Rattle.vm_states.specs.bc_library.Shelf.{Shelf, Named, module_at}
 use Rattle.vm_states.specs.bc_machine.Library.{Code, Line, Module, Holds, Library, entry_in, module_in, code_in, module_of}

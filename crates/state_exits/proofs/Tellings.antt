@@ -3,10 +3,10 @@ use Rattle.std.proofs.Common.{◌≡◌, ◌<◌, ℕ, List, length, Option, Som
 use Rattle.prim_faults.specs.arena_heap.declared.value.Value.{Value}
 use Rattle.prim_faults.specs.arena_heap.declared.value.StrNo.{StrNo}
 use Rattle.prim_faults.specs.arena_heap.declared.value.ConstNo.{ConstNo}
-use Rattle.mpy_base.specs.World.{Objects, Heap}
-use Rattle.py_effects.specs.Heaps.{Registered}
+use Rattle.vm_states.specs.mpy_base.World.{Objects, Heap}
+use Rattle.bc_progress.specs.py_effects.Heaps.{Registered}
 use Rattle.prim_faults.specs.prim_walks.Plain.{plain_name, plain_heap}
-use Rattle.prim_modules.specs.Registry.{Registry, plain_modules}
+use Rattle.vm_states.specs.prim_modules.Registry.{Registry, plain_modules}
 use Rattle.vm_states.specs.vm_frames.Calls.{Call}
 use Rattle.vm_states.specs.frame_exits.declared.names.ModuleName.{ModuleName}
 use Rattle.vm_states.specs.frame_exits.Names.{AreTablesOf}

@@ -1,17 +1,17 @@
 -- The modules that are registered where a frame is left.
 use Rattle.std.proofs.Common.{◌≡◌, ℕ, zero, suc, List, [], ◌∷◌, filter, Bool, true, false, not, Some, Result, Ok, Err, refl, sym, ◌∙◌, subst, if◌then◌else◌}
 use Rattle.std.specs.Prelude.{bytes_eq}
-use Rattle.mpy_base.specs.Val.{Val, Nil, At, PlainWorld}
+use Rattle.vm_states.specs.mpy_base.Val.{Val, Nil, At, PlainWorld}
 use Rattle.vm_states.specs.bc_ops.declared.instr.Op.TheVariants as ops
 use Rattle.vm_states.specs.bc_ops.declared.instr.Instr.TheVariants as instrs
 use Rattle.prim_faults.specs.py_primitives.Outcome.{Stop, Raises, Full, making_fault}
 use Rattle.prim_faults.specs.py_primitives.Faults.{Fault, NothingToRaise}
 use Rattle.prim_faults.specs.py_primitives.Operators.{named_kind, exception_kind}
-use Rattle.py_effects.specs.Effect.{Place, Given, Gives, Throws, Fills, Fails, Thrown, Filled, failed, given, given_answer, fault_at}
-use Rattle.py_effects.specs.Names.{raise_value, raise_again}
-use Rattle.py_effects.specs.Modules.{store_module, outer_name}
-use Rattle.py_effects.specs.Growth.{given_world, fails_world}
-use Rattle.py_effects.proofs.ModuleGrows.{made_modules, raise_modules, under_modules}
+use Rattle.bc_progress.specs.py_effects.Effect.{Place, Given, Gives, Throws, Fills, Fails, Thrown, Filled, failed, given, given_answer, fault_at}
+use Rattle.bc_progress.specs.py_effects.Names.{raise_value, raise_again}
+use Rattle.bc_progress.specs.py_effects.Modules.{store_module, outer_name}
+use Rattle.bc_progress.specs.py_effects.Growth.{given_world, fails_world}
+use Rattle.bc_machine.proofs.py_effects_lemmas.ModuleGrows.{made_modules, raise_modules, under_modules}
 use Rattle.vm_states.specs.bc_machine.Library.{Name, Library, Plain}
 use Rattle.vm_states.specs.bc_machine.State.{Slot, Value, KeptReturn, KeptJump, Entry, Role, Main, Called, Imported, Frame, State, Running, throw_in, throw_out, throw, fail, on_given, give, leave, unwind, resume, is_run, enter, abandoned, cut}
 use Rattle.vm_states.specs.bc_machine.Operations.{kept_of}

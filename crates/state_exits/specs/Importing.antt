@@ -1,15 +1,15 @@
 -- What an import comes to that was fetched for the first of the calls of a program.
 use Rattle.std.specs.Prelude.{◌≡◌, ℕ, List, Option, Result, OnOk, OnErr}
-use Rattle.mpy_base.specs.World.{Heap, Later}
-use Rattle.mpy_base.specs.Val.{PlainWorld}
+use Rattle.vm_states.specs.mpy_base.World.{Heap, Later}
+use Rattle.vm_states.specs.mpy_base.Val.{PlainWorld}
 use Rattle.prim_faults.specs.arena_heap.declared.value.Value.{Value}
 use Rattle.prim_faults.specs.arena_heap.declared.value.StrNo.{StrNo}
 use Rattle.prim_faults.specs.arena_heap.declared.value.StrNo.TheVariants as strs
 use Rattle.prim_faults.specs.arena_heap.declared.value.ConstNo.{ConstNo}
-use Rattle.py_effects.specs.Effect as effects
+use Rattle.bc_progress.specs.py_effects.Effect as effects
 use Rattle.vm_states.specs.bc_rows.declared.row.Row.{Row}
 use Rattle.prim_faults.specs.declared.stop.Stop.{Stop}
-use Rattle.prim_modules.specs.Registry.{Registry}
+use Rattle.vm_states.specs.prim_modules.Registry.{Registry}
 use Rattle.vm_states.specs.vm_frames.Calls.{Calls}
 use Rattle.vm_states.specs.frame_moves.Outcomes.{outcome_of}
 use Rattle.vm_states.specs.frame_values.Effects.{IsKnownStop}

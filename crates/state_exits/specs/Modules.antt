@@ -1,13 +1,13 @@
 -- The names of a program's modules, and the modules that are registered while it runs.
 use Rattle.std.specs.Prelude.{◌≡◌, ◌<◌, ℕ, List, ◌∷◌, length, All, Some, IsSome, codes, slice_get}
-use Rattle.mpy_base.specs.World.{Heap}
+use Rattle.vm_states.specs.mpy_base.World.{Heap}
 use Rattle.prim_faults.specs.arena_heap.declared.value.Value.{Value}
 use Rattle.prim_faults.specs.arena_heap.declared.value.StrNo.TheVariants as strs
-use Rattle.py_effects.specs.Heaps.{Formed, Registered}
+use Rattle.bc_progress.specs.py_effects.Heaps.{Formed, Registered}
 use Rattle.vm_states.specs.bc_library.Shelf as shelves
 use Rattle.vm_states.specs.bc_machine.Library.{Name}
 use Rattle.prim_faults.specs.prim_walks.Plain.{plain_name, plain_heap}
-use Rattle.prim_modules.specs.Registry.{Registry, plain_modules}
+use Rattle.vm_states.specs.prim_modules.Registry.{Registry, plain_modules}
 use Rattle.vm_states.specs.frame_exits.declared.names.ModuleName.{ModuleName}
 use Rattle.vm_states.specs.frame_exits.Left.{HasLast}
 use Rattle.vm_states.specs.Means.{Program}

@@ -1,19 +1,19 @@
 -- Where a run of a program comes to, with the modules that are registered.
 use Rattle.std.specs.Prelude.{◌≡◌, ℕ, List, Option, IfSome, IfNone}
-use Rattle.mpy_base.specs.World.{Heap, Objects, Later}
-use Rattle.mpy_base.specs.Val.{PlainWorld}
+use Rattle.vm_states.specs.mpy_base.World.{Heap, Objects, Later}
+use Rattle.vm_states.specs.mpy_base.Val.{PlainWorld}
 use Rattle.prim_faults.specs.arena_heap.declared.value.Value.{Value}
 use Rattle.prim_faults.specs.arena_heap.declared.value.StrNo.{StrNo}
 use Rattle.prim_faults.specs.arena_heap.declared.value.ConstNo.{ConstNo}
 use Rattle.prim_faults.specs.arena_objects.Keys.{AllTold}
-use Rattle.mpy_tree.specs.bc_prelude.Lines as lines
+use Rattle.vm_states.specs.mpy_tree.bc_prelude.Lines as lines
 use Rattle.vm_states.specs.bc_library.Shelf.{Shelf}
-use Rattle.py_effects.specs.Effect as effects
+use Rattle.bc_progress.specs.py_effects.Effect as effects
 use Rattle.vm_states.specs.bc_machine.State.{State}
 use Rattle.vm_states.specs.bc_rows.declared.row.Row.{Row}
 use Rattle.prim_faults.specs.declared.stop.Stop.{Stop}
-use Rattle.prim_raising.specs.declared.place.Place.{Place}
-use Rattle.prim_modules.specs.Registry.{Registry}
+use Rattle.vm_states.specs.prim_raising.declared.place.Place.{Place}
+use Rattle.vm_states.specs.prim_modules.Registry.{Registry}
 use Rattle.vm_states.specs.vm_frames.Calls.{Calls}
 use Rattle.vm_states.specs.frame_moves.Outcomes.{world_of, stopping_of}
 use Rattle.vm_states.specs.frame_exits.declared.names.ModuleName.{ModuleName}

@@ -1,6 +1,6 @@
 -- Calls of which the first waits for the value of a call that it made.
 use Rattle.std.specs.Prelude.{◌≡◌, Option, All}
-use Rattle.mpy_base.specs.Val.{PlainWorld}
+use Rattle.vm_states.specs.mpy_base.Val.{PlainWorld}
 use Rattle.prim_faults.specs.arena_heap.declared.value.Value.{Value}
 use Rattle.vm_states.specs.bc_progress.Fits.{Fits}
 use Rattle.vm_states.specs.vm_frames.Calls.{Calls}

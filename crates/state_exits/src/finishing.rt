@@ -10,14 +10,10 @@ ghost use Rattle.state_exits.specs.Running.{fetched_plain, RunsWith, RunsOnBehin
 
 use crate::returning::settle;
 use arena_heap::{Arena, Constants};
-use bc_library::Library;
 use bc_machine::sound_law;
 use bc_progress::progress_law;
-use bc_rows::Rows;
-use frame_exits::{End, ModuleName, end_finally};
-use prim_modules::Modules;
 use vm_frames::Frames;
-use vm_states::{keeps_law, tops_law};
+use vm_states::{End, Library, ModuleName, Modules, Rows, end_finally, keeps_law, tops_law};
 
 /// END_FINALLY, where it was fetched for the running call, which goes on with what the finally kept: at `end`, behind the
 /// instruction, with an exception, with a return, or with a jump. It answers how the run ends, if it does.

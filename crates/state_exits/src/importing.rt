@@ -1,14 +1,14 @@
 //! Imports, and the modules that they begin.
 
 ghost use Rattle.std.specs.Prelude.{◌≡◌, ◌<◌, ◌^◌, ℕ, Some, IsSome, codes, length, nat_lt};
-ghost use Rattle.mpy_base.specs.declared.limits.TheConstants.{MAX_CALLS as LIMIT};
-ghost use Rattle.mpy_base.specs.Val.{PlainWorld};
+ghost use Rattle.vm_states.specs.mpy_base.declared.limits.TheConstants.{MAX_CALLS as LIMIT};
+ghost use Rattle.vm_states.specs.mpy_base.Val.{PlainWorld};
 ghost use Rattle.prim_faults.specs.arena_heap.declared.value.Value.{Value as Item};
 ghost use Rattle.vm_states.specs.bc_rows.declared.row.Row.{Row as CodeRow};
 ghost use Rattle.vm_states.specs.bc_rows.Codes.{code_numbered};
 ghost use Rattle.vm_states.specs.bc_rows.Rows.{IsRow};
 ghost use Rattle.prim_faults.specs.Sights.{under, sight};
-ghost use Rattle.prim_modules.specs.Registry.{plain_modules};
+ghost use Rattle.vm_states.specs.prim_modules.Registry.{plain_modules};
 ghost use Rattle.vm_states.specs.frame_exits.declared.importing.Import.TheVariants as imports;
 ghost use Rattle.vm_states.specs.frame_exits.Importing.{AreOperands, IsImport};
 ghost use Rattle.vm_states.specs.Means.{Program};
@@ -16,15 +16,14 @@ ghost use Rattle.state_exits.specs.Running.{RunsWith};
 ghost use Rattle.state_exits.specs.Importing.{fetched_import, ImportsBehind};
 
 use arena_heap::{Arena, Constants, StrNo};
-use bc_library::Library;
 use bc_machine::sound_law;
 use bc_progress::room_law;
-use bc_rows::{Rows, rows_law};
-use frame_exits::{Import, ModuleName, begin_import, import_name, put_import, refuse_import};
 use prim_faults::Stop;
-use prim_modules::Modules;
 use vm_frames::Frames;
-use vm_states::{keeps_law, known_law, standing_law, tops_law};
+use vm_states::{
+    Import, Library, ModuleName, Modules, Rows, begin_import, import_name, keeps_law, known_law,
+    put_import, refuse_import, rows_law, standing_law, tops_law,
+};
 
 /// The locals of the outermost code of a module, which are fewer than 2^32.
 fn outermost_locals(rows: &Rows<'_>, number: u32) -> u32

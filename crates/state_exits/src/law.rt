@@ -1,15 +1,15 @@
 //! How registered modules stay those of a program.
 
 ghost use Rattle.std.specs.Prelude.{◌≡◌, ◌<◌, ℕ, [], Ok, length, codes};
-ghost use Rattle.mpy_base.specs.World.{Heap};
-ghost use Rattle.mpy_base.specs.Val.{PlainWorld};
+ghost use Rattle.vm_states.specs.mpy_base.World.{Heap};
+ghost use Rattle.vm_states.specs.mpy_base.Val.{PlainWorld};
 ghost use Rattle.prim_faults.specs.arena_heap.declared.value.Value.{Value};
-ghost use Rattle.py_effects.specs.Heaps.{Formed};
-ghost use Rattle.py_effects.specs.Modules.{make_module};
+ghost use Rattle.bc_progress.specs.py_effects.Heaps.{Formed};
+ghost use Rattle.bc_progress.specs.py_effects.Modules.{make_module};
 ghost use Rattle.prim_faults.specs.prim_walks.Plain.{plain_name, plain_heap};
-ghost use Rattle.prim_modules.specs.declared.makings.Made.{Made};
-ghost use Rattle.prim_modules.specs.Effects.{IsMaking};
-ghost use Rattle.prim_modules.specs.Registry.{Registry, with_entry};
+ghost use Rattle.vm_states.specs.prim_modules.declared.makings.Made.{Made};
+ghost use Rattle.vm_states.specs.prim_modules.Effects.{IsMaking};
+ghost use Rattle.vm_states.specs.prim_modules.Registry.{Registry, with_entry};
 ghost use Rattle.vm_states.specs.vm_frames.Calls.{Calls};
 ghost use Rattle.vm_states.specs.frame_moves.Shown.{running_of};
 ghost use Rattle.vm_states.specs.frame_moves.Outcomes.{world_of};

@@ -12,3 +12,4 @@ pub use importing::import_on;
 pub use law::registered_law;
 pub use raising::{raise_again_on, raise_on, stop_on};
 pub use returning::return_on;
+pub use vm_states::{End, Fetched, Instruction, ModuleName, NameOp, NumberOp, PlainOp, Row, Rows};

@@ -16,14 +16,12 @@ ghost use Rattle.state_exits.specs.Running.{fetched_plain, place_at, RunsAt, Run
 
 use arena_heap::{Arena, Constants};
 use bc_machine::sound_law;
-use bc_rows::Row;
-use frame_exits::{End, ModuleName, raise, raise_last, raise_obj};
 use prim_faults::Stop;
-use prim_modules::Modules;
-use prim_raising::Place;
-use vm_fetching::line_of;
 use vm_frames::Frames;
-use vm_states::{keeps_law, tops_law};
+use vm_states::{
+    End, ModuleName, Modules, Place, Row, keeps_law, line_of, raise, raise_last, raise_obj,
+    tops_law,
+};
 
 /// The place of the running call's instruction, in the row of its code. It walks through the row's line table.
 fn place_in(frames: &Frames, row: &Row<'_>) -> Place

@@ -1,7 +1,7 @@
 //! Returns, and the ends of finallys.
 
 ghost use Rattle.std.specs.Prelude.{◌≡◌, ℕ, List, Option, None, IfSome, All};
-ghost use Rattle.mpy_base.specs.World.{Objects};
+ghost use Rattle.vm_states.specs.mpy_base.World.{Objects};
 ghost use Rattle.prim_faults.specs.arena_heap.declared.value.Value.{Value as Item};
 ghost use Rattle.prim_faults.specs.arena_heap.declared.value.StrNo.{StrNo as TextName};
 ghost use Rattle.prim_faults.specs.arena_heap.declared.value.ConstNo.{ConstNo as TupleName};
@@ -16,15 +16,13 @@ ghost use Rattle.state_exits.specs.Running.{fetched_plain, RunsWith, RunsOnBehin
 ghost use Rattle.state_exits.specs.Waiting.{IsWaiting, IsSettling, Settles};
 
 use arena_heap::{Arena, Constants, Value};
-use bc_library::Library;
 use bc_machine::sound_law;
 use bc_progress::{progress_law, room_law};
-use bc_rows::{Rows, rows_law};
-use frame_exits::{After, End, ModuleName, receive, return_value};
-use prim_modules::Modules;
-use vm_fetching::{fetch, step_law};
 use vm_frames::{Frames, placed_law};
-use vm_states::{keeps_law, standing_law, tops_law};
+use vm_states::{
+    After, End, Library, ModuleName, Modules, Rows, fetch, keeps_law, receive, return_value,
+    rows_law, standing_law, step_law, tops_law,
+};
 
 /// The call that waits takes the value of the one that it made, and goes on behind its instruction, which is fetched again.
 fn take(frames: &mut Frames, library: &Library, rows: &Rows<'_>, v: Value)

@@ -1,8 +1,8 @@
 -- Where a call comes to, and its stop.
 use Rattle.std.proofs.Common.{◌≡◌, ◌≤◌, ℕ, List, [], Option, Some, None, Result, Ok, Err, inl, inr, refl, sym, subst, ap, ◌∙◌, arith}
 use Rattle.std.specs.Prelude.{◌⊎◌, OnErr}
-use Rattle.mpy_base.specs.World.{Heap, Later}
-use Rattle.mpy_base.specs.Val.{PlainWorld}
+use Rattle.state_calls.specs.mpy_base.World.{Heap, Later}
+use Rattle.state_calls.specs.mpy_base.Val.{PlainWorld}
 use Rattle.mpy_io.specs.declared.fault.Failed.{Failed as SinkFault}
 use Rattle.mpy_io.specs.Ports.{PortView}
 use Rattle.port_set.specs.Calls.{Tell}

@@ -1,6 +1,6 @@
 -- Where a step comes to that makes no visits.
 use Rattle.std.proofs.Common.{ℕ, Option, arith}
-use Rattle.mpy_base.specs.World.{Heap}
+use Rattle.state_calls.specs.mpy_base.World.{Heap}
 use Rattle.state_calls.specs.arena_heap.declared.value.Value.{Value}
 use Rattle.state_calls.specs.prim_modules.Registry.{Registry}
 use Rattle.state_values.specs.vm_frames.Calls.{Calls}

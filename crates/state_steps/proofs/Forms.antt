@@ -1,6 +1,6 @@
 -- What was fetched, by the form of its instruction.
 use Rattle.std.proofs.Common.{◌≡◌, ℕ, List, Option, Result, sym, subst}
-use Rattle.mpy_base.specs.World.{Heap}
+use Rattle.state_calls.specs.mpy_base.World.{Heap}
 use Rattle.state_calls.specs.arena_heap.declared.value.Value.{Value}
 use Rattle.state_calls.specs.arena_heap.declared.value.StrNo.{StrNo}
 use Rattle.state_calls.specs.arena_heap.declared.value.ConstNo.{ConstNo}

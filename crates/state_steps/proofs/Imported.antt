@@ -1,7 +1,7 @@
 -- Where an import comes to, and its stop.
 use Rattle.std.proofs.Common.{◌≡◌, ℕ, List, [], Option, None, Result, Ok, Err, sym, subst, ◌∙◌, arith}
-use Rattle.mpy_base.specs.World.{Heap}
-use Rattle.mpy_base.specs.Val.{PlainWorld}
+use Rattle.state_calls.specs.mpy_base.World.{Heap}
+use Rattle.state_calls.specs.mpy_base.Val.{PlainWorld}
 use Rattle.state_calls.specs.arena_heap.declared.value.Value.{Value}
 use Rattle.state_calls.specs.arena_heap.declared.value.StrNo.{StrNo}
 use Rattle.state_calls.specs.arena_heap.declared.value.ConstNo.{ConstNo}

@@ -1,3 +1,4 @@
+pub use Rattle.state_calls.proofs.bc_progress_lemmas
 mod Forms
 mod Landing
 mod Imported

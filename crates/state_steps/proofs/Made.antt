@@ -1,6 +1,6 @@
 -- Where an instruction comes to that makes a function, and its stop.
 use Rattle.std.proofs.Common.{◌≡◌, ℕ, List, Option, None, Ok, Err, sym, subst, ap, ◌∙◌}
-use Rattle.mpy_base.specs.World.{Heap}
+use Rattle.state_calls.specs.mpy_base.World.{Heap}
 use Rattle.state_calls.specs.arena_heap.declared.value.Value.{Value}
 use Rattle.state_calls.specs.arena_heap.declared.value.StrNo.{StrNo}
 use Rattle.state_calls.specs.arena_heap.declared.value.ConstNo.{ConstNo}

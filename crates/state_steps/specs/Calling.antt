@@ -1,7 +1,7 @@
 -- Where a call comes to, with the output, the ports, and the modules that are registered.
 use Rattle.std.specs.Prelude.{◌≡◌, ◌⊎◌, ℕ, suc, ◌<◌, ◌≤◌, List, ◌++◌, true, Option, Some, None, Result, Ok, Err, OnErr}
-use Rattle.mpy_base.specs.World.{Heap, Later}
-use Rattle.mpy_base.specs.Val.{PlainWorld}
+use Rattle.state_calls.specs.mpy_base.World.{Heap, Later}
+use Rattle.state_calls.specs.mpy_base.Val.{PlainWorld}
 use Rattle.mpy_io.specs.declared.fault.Failed.{Failed as SinkFault}
 use Rattle.port_set.specs.Calls.{Tell}
 use Rattle.state_calls.specs.arena_heap.declared.value.Value.{Value}

@@ -1,7 +1,7 @@
 -- Where an instruction that makes visits comes to, with the modules that are registered.
 use Rattle.std.specs.Prelude.{◌≡◌, ℕ, suc, ◌<◌, ◌≤◌, List, Option}
-use Rattle.mpy_base.specs.World.{Heap, Later}
-use Rattle.mpy_base.specs.Val.{PlainWorld}
+use Rattle.state_calls.specs.mpy_base.World.{Heap, Later}
+use Rattle.state_calls.specs.mpy_base.Val.{PlainWorld}
 use Rattle.state_calls.specs.arena_heap.declared.value.Value.{Value}
 use Rattle.state_calls.specs.arena_heap.declared.value.StrNo.{StrNo}
 use Rattle.state_calls.specs.arena_heap.declared.value.ConstNo.{ConstNo}

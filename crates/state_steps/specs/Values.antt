@@ -1,7 +1,7 @@
 -- Instructions that act on values and frames, and leave the running call running. The others make functions, call, raise, return,
 -- end a finally or import a module.
 use Rattle.std.specs.Prelude.{ℕ, List, Option}
-use Rattle.mpy_base.specs.World.{Heap}
+use Rattle.state_calls.specs.mpy_base.World.{Heap}
 use Rattle.state_calls.specs.arena_heap.declared.value.Value.{Value}
 use Rattle.state_calls.specs.arena_heap.declared.value.StrNo.{StrNo}
 use Rattle.state_calls.specs.arena_heap.declared.value.ConstNo.{ConstNo}

@@ -14,16 +14,11 @@ ghost use Rattle.state_steps.specs.Calling.{end_in, CallsOnBehind, WentBehind};
 
 use arena_heap::Arena;
 use bc_library::Library;
-use bc_rows::{Row, Rows};
-use frame_calls::{Bindings, Invocation, Operands};
-use frame_exits::{End, ModuleName};
 use mpy_io::{Failed, Port, Sink};
 use port_set::PortSet;
-use prim_calls::CallStop;
 use prim_modules::Modules;
-use state_calls::call_on;
-use state_exits::{registered_law, stop_on};
-use vm_fetching::NumberOp;
+use state_calls::{Bindings, CallStop, Invocation, Operands, call_on};
+use state_exits::{End, ModuleName, NumberOp, Row, Rows, registered_law, stop_on};
 use vm_frames::Frames;
 
 /// CALL_FUNCTION or CALL_METHOD, that was fetched for the running call, of this row, and taken by `state_calls::take_call`, where its

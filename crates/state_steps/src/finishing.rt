@@ -11,10 +11,8 @@ ghost use Rattle.state_steps.specs.Comes.{ComesOnBehind};
 
 use arena_heap::{Arena, Constants};
 use bc_library::Library;
-use bc_rows::Rows;
-use frame_exits::{End, ModuleName};
 use prim_modules::Modules;
-use state_exits::end_finally_on;
+use state_exits::{End, ModuleName, Rows, end_finally_on};
 use vm_frames::Frames;
 
 /// END_FINALLY, that was fetched for the running call: it goes on with what the finally kept. It answers how the run ends, if it

@@ -9,10 +9,8 @@ ghost use Rattle.state_steps.specs.Comes.{ComesOnBehind};
 
 use arena_heap::{Arena, Constants, StrNo};
 use bc_library::Library;
-use bc_rows::{Row, Rows};
-use frame_exits::{End, ModuleName};
 use prim_modules::Modules;
-use state_exits::{import_on, stop_on};
+use state_exits::{End, ModuleName, Row, Rows, import_on, stop_on};
 use vm_frames::Frames;
 
 /// IMPORT_NAME of the text with the number, that was fetched for the running call, of this row; where it stops, the stop is raised

@@ -8,11 +8,8 @@ ghost use Rattle.state_steps.specs.Leaves.{LeavesCall};
 
 use arena_heap::{Arena, Constants};
 use bc_library::Library;
-use bc_rows::{Row, Rows};
-use frame_exits::{End, ModuleName};
 use prim_modules::Modules;
-use state_exits::{raise_again_on, raise_on, return_on};
-use vm_fetching::PlainOp;
+use state_exits::{End, ModuleName, PlainOp, Row, Rows, raise_again_on, raise_on, return_on};
 use vm_frames::Frames;
 
 /// A return or a raise that was fetched for the running call, of this row. It answers how the run ends, if it does. It makes no

@@ -10,11 +10,9 @@ ghost use Rattle.state_steps.specs.Comes.{ComesOnBehind};
 
 use arena_heap::Arena;
 use bc_library::Library;
-use bc_rows::{Row, Rows};
-use frame_exits::{End, ModuleName};
 use prim_modules::Modules;
 use state_calls::{make_function, make_function_with};
-use state_exits::{registered_law, stop_on};
+use state_exits::{End, ModuleName, Row, Rows, registered_law, stop_on};
 use vm_frames::Frames;
 
 /// MAKE_FUNCTION of the child with the number, that was fetched for the running call, of this row: a function without defaults.

@@ -12,16 +12,13 @@ ghost use Rattle.state_steps.specs.Comes.{ComesOnBehind};
 ghost use Rattle.state_steps.specs.Values.{UsesName, ActsOnValues, value_visits};
 
 use arena_heap::{Arena, Constants, StrNo, Value};
-use bc_rows::Row;
-use frame_exits::{End, ModuleName};
 use prim_faults::Stop;
 use prim_modules::Modules;
-use state_exits::{registered_law, stop_on};
+use state_exits::{End, Fetched, Instruction, ModuleName, NameOp, Row, registered_law, stop_on};
 use state_values::{
     attribute_on, binary_op, jump_to, load_int, load_object, name_on, number_on, plain_on,
     unary_op, unwind_jump,
 };
-use vm_fetching::{Fetched, Instruction, NameOp};
 use vm_frames::Frames;
 
 /// A text, a name of the running call's module, or an attribute of a value. It makes no visits.

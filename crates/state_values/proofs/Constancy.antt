@@ -3,25 +3,25 @@ use Rattle.std.proofs.Common.{◌≡◌, ℕ, zero, suc, ℤ, pos, negsuc, List,
 use Rattle.std.specs.Prelude.{slice_get, option_and_then, is_some}
 use Rattle.std.specs.List.{flat_map}
 use Rattle.std.proofs.lemmas.Int.{ints}
-use Rattle.mpy_base.specs.World.{Objects}
-use Rattle.mpy_base.specs.declared.limits.TheConstants.{MAX_DEPTH}
-use Rattle.prim_names.specs.arena_heap.declared.value.Value.{Value}
-use Rattle.prim_names.specs.arena_heap.declared.value.Value.TheVariants as values
-use Rattle.prim_names.specs.arena_heap.declared.value.StrNo.{StrNo}
-use Rattle.prim_names.specs.arena_heap.declared.value.ConstNo.{ConstNo}
-use Rattle.prim_names.specs.arena_heap.Values.{IsSmall}
+use Rattle.vm_states.specs.mpy_base.World.{Objects}
+use Rattle.vm_states.specs.mpy_base.declared.limits.TheConstants.{MAX_DEPTH}
+use Rattle.vm_states.specs.prim_names.arena_heap.declared.value.Value.{Value}
+use Rattle.vm_states.specs.prim_names.arena_heap.declared.value.Value.TheVariants as values
+use Rattle.vm_states.specs.prim_names.arena_heap.declared.value.StrNo.{StrNo}
+use Rattle.vm_states.specs.prim_names.arena_heap.declared.value.ConstNo.{ConstNo}
+use Rattle.vm_states.specs.prim_names.arena_heap.Values.{IsSmall}
 use Rattle.vm_states.specs.bc_ops.Signed as signed
-use Rattle.mpy_tree.specs.declared.module.Constant.{Constant, out-Constant}
-use Rattle.mpy_tree.specs.declared.module.Constant.TheOpen.{Constant-F}
-use Rattle.mpy_tree.specs.Raw.{Module}
-use Rattle.mpy_tree.specs.File.{IsModule}
+use Rattle.vm_states.specs.mpy_tree.declared.module.Constant.{Constant, out-Constant}
+use Rattle.vm_states.specs.mpy_tree.declared.module.Constant.TheOpen.{Constant-F}
+use Rattle.vm_states.specs.mpy_tree.Raw.{Module}
+use Rattle.vm_states.specs.mpy_tree.File.{IsModule}
 use Rattle.vm_states.specs.bc_library.Constants.{constants_of, items_in, bytes_in, preorder, numbered, value_by, values_from, constant_at, items_at, text_at, object_value}
 use Rattle.vm_states.specs.bc_library.Fine.{FineBy, AreFew, Fine}
 use Rattle.vm_states.specs.bc_library.Shelf.{Shelf, Named, module_at}
 use Rattle.vm_states.proofs.bc_library_lemmas.Files.{fine_objects}
 use Rattle.vm_states.proofs.bc_library_lemmas.Preorders.{leaf, opened}
 use Rattle.vm_states.proofs.bc_library_lemmas.Told.{value_at, told_items}
-use Rattle.prim_names.specs.prim_faults.Faults.{IsKnown}
+use Rattle.vm_states.specs.prim_names.prim_faults.Faults.{IsKnown}
 use Rattle.vm_states.specs.Means.{Program, Means}
 
 first_dropped : (all behind : List Constant) (p : ℕ) (x : Constant) → drop p all ≡ x ∷ behind → slice_get all p ≡ Some x

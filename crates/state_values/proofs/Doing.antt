@@ -1,17 +1,17 @@
 -- What an instruction acts as, from what it does in each program.
 use Rattle.std.proofs.Common.{◌≡◌, ℕ, List, [], ◌∷◌, length, Option, All, Result, Ok, Err, refl, sym, ap, subst, ◌∙◌, arith}
 use Rattle.std.proofs.lemmas.List.Elements.{All-cons, All-head, All-tail}
-use Rattle.mpy_base.specs.World.{Heap, Objects, Later}
-use Rattle.mpy_base.specs.Val.{PlainWorld}
-use Rattle.py_effects.specs.Ends.{new_world}
-use Rattle.prim_names.specs.arena_heap.declared.value.Value.{Value}
-use Rattle.prim_names.specs.arena_heap.declared.value.StrNo.{StrNo}
-use Rattle.prim_names.specs.arena_heap.declared.value.ConstNo.{ConstNo}
-use Rattle.prim_names.specs.arena_objects.Keys.{AllTold}
+use Rattle.vm_states.specs.mpy_base.World.{Heap, Objects, Later}
+use Rattle.vm_states.specs.mpy_base.Val.{PlainWorld}
+use Rattle.frame_moves.specs.py_effects.Ends.{new_world}
+use Rattle.vm_states.specs.prim_names.arena_heap.declared.value.Value.{Value}
+use Rattle.vm_states.specs.prim_names.arena_heap.declared.value.StrNo.{StrNo}
+use Rattle.vm_states.specs.prim_names.arena_heap.declared.value.ConstNo.{ConstNo}
+use Rattle.vm_states.specs.prim_names.arena_objects.Keys.{AllTold}
 use Rattle.vm_states.specs.bc_labels.Positions.{Starts, position_in}
 use Rattle.vm_states.specs.bc_machine.Library.{Item}
 use Rattle.vm_states.specs.bc_rows.declared.row.Row.{Row}
-use Rattle.prim_names.specs.prim_faults.declared.stop.Stop.{Stop}
+use Rattle.vm_states.specs.prim_names.prim_faults.declared.stop.Stop.{Stop}
 use Rattle.vm_states.specs.vm_frames.declared.slot.Slot.{Slot}
 use Rattle.vm_states.specs.vm_frames.Calls.{Call, Calls, change_first, on_running}
 use Rattle.vm_states.specs.vm_frames.Views.{starts_of}

@@ -1,11 +1,11 @@
 -- What an instruction acts as that changes slots in one of the shapes.
 use Rattle.std.proofs.Common.{◌≡◌, ℕ, List, Option, Result}
-use Rattle.mpy_base.specs.World.{Heap}
-use Rattle.prim_names.specs.arena_heap.declared.value.Value.{Value}
-use Rattle.prim_names.specs.arena_heap.declared.value.StrNo.{StrNo}
-use Rattle.prim_names.specs.arena_heap.declared.value.ConstNo.{ConstNo}
+use Rattle.vm_states.specs.mpy_base.World.{Heap}
+use Rattle.vm_states.specs.prim_names.arena_heap.declared.value.Value.{Value}
+use Rattle.vm_states.specs.prim_names.arena_heap.declared.value.StrNo.{StrNo}
+use Rattle.vm_states.specs.prim_names.arena_heap.declared.value.ConstNo.{ConstNo}
 use Rattle.vm_states.specs.bc_machine.Library.{Item}
-use Rattle.prim_names.specs.prim_faults.declared.stop.Stop.{Stop}
+use Rattle.vm_states.specs.prim_names.prim_faults.declared.stop.Stop.{Stop}
 use Rattle.vm_states.specs.vm_frames.Calls.{Call, Calls}
 use Rattle.vm_states.specs.frame_values.Effects.{Steps, Leaves}
 use Rattle.vm_states.specs.frame_values.Slots.{with_value, without, with_empty, with_iterator, Changes, Puts, PutsLooked, PutsValues}

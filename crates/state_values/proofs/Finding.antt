@@ -3,15 +3,15 @@ use Rattle.std.proofs.Common.{◌≡◌, ℕ, ◌+◌, ◌-◌, ◌<◌, ◌≤�
 use Rattle.std.specs.Prelude.{IfSome, IsSome, slice_get, get_or}
 use Rattle.std.proofs.lemmas.List.Elements.{All-head, All-get_or}
 use Rattle.std.proofs.lemmas.Option.{slice_get_within, slice_get-get_or, get_or_from_slice_get}
-use Rattle.mpy_base.specs.World.{Heap, ADict, IsA}
-use Rattle.prim_names.specs.arena_heap.declared.value.Value.{Value}
-use Rattle.prim_names.specs.arena_heap.declared.value.StrNo.{StrNo}
-use Rattle.prim_names.specs.arena_heap.declared.value.StrNo.TheVariants as strs
-use Rattle.prim_names.specs.arena_heap.declared.value.ConstNo.{ConstNo}
-use Rattle.prim_names.specs.arena_objects.Keys.{AllTold}
+use Rattle.vm_states.specs.mpy_base.World.{Heap, ADict, IsA}
+use Rattle.vm_states.specs.prim_names.arena_heap.declared.value.Value.{Value}
+use Rattle.vm_states.specs.prim_names.arena_heap.declared.value.StrNo.{StrNo}
+use Rattle.vm_states.specs.prim_names.arena_heap.declared.value.StrNo.TheVariants as strs
+use Rattle.vm_states.specs.prim_names.arena_heap.declared.value.ConstNo.{ConstNo}
+use Rattle.vm_states.specs.prim_names.arena_objects.Keys.{AllTold}
 use Rattle.vm_states.specs.bc_library.Constants.{text_at}
 use Rattle.vm_states.specs.bc_machine.State as states
-use Rattle.prim_names.specs.prim_faults.Faults.{IsKnown}
+use Rattle.vm_states.specs.prim_names.prim_faults.Faults.{IsKnown}
 use Rattle.vm_states.specs.vm_frames.declared.slot.Slot.{Slot}
 use Rattle.vm_states.specs.vm_frames.declared.slot.Slot.TheVariants as slots
 use Rattle.vm_states.specs.vm_frames.Calls.{Call, Calls, OfRunning}

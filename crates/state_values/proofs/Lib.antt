@@ -1,5 +1,7 @@
 pub use Rattle.vm_states.proofs.frame_moves_lemmas
 pub use Rattle.vm_states.proofs.frame_values_lemmas
+pub use Rattle.vm_states.proofs.prim_assignments_lemmas
+pub use Rattle.vm_states.proofs.prim_comparisons_lemmas
 mod Collecting
 mod Constancy
 mod Doing

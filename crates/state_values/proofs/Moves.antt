@@ -1,14 +1,14 @@
 -- What moves slots finds what it needs, and goes on.
 use Rattle.std.proofs.Common.{◌≡◌, ℕ, zero, suc, ◌≤◌, ◌<◌, List, [], ◌∷◌, length, Bool, true, false, Option, Some, All, refl, sym, ap, subst, ◌∙◌, arith, if◌then◌else◌}
 use Rattle.std.proofs.lemmas.List.Elements.{All-cons, All-head, All-tail}
-use Rattle.mpy_base.specs.Val.{PlainWorld}
+use Rattle.vm_states.specs.mpy_base.Val.{PlainWorld}
 use Rattle.vm_states.specs.bc_ops.declared.instr.Instr.TheVariants as instrs
-use Rattle.py_effects.specs.Ends.{new_world}
+use Rattle.frame_moves.specs.py_effects.Ends.{new_world}
 use Rattle.vm_states.specs.bc_machine.Library.{Plain, Code, Library}
 use Rattle.vm_states.specs.bc_machine.State.{Frame}
 use Rattle.vm_states.specs.bc_progress.Plans.{Plan}
 use Rattle.vm_states.specs.bc_rows.declared.row.Row.{Row}
-use Rattle.prim_names.specs.arena_heap.declared.value.Value.{Value}
+use Rattle.vm_states.specs.prim_names.arena_heap.declared.value.Value.{Value}
 use Rattle.vm_states.specs.vm_frames.declared.slot.Slot.{Slot}
 use Rattle.vm_states.specs.vm_frames.declared.slot.Slot.TheVariants as slots
 use Rattle.vm_states.specs.vm_frames.declared.slot.Entry.{Entry}

@@ -2,12 +2,12 @@
 use Rattle.std.proofs.Common.{◌≡◌, ℕ, List, [], ◌∷◌, drop, Bool, true, false, Option, Some, All}
 use Rattle.std.specs.Prelude.{IfSome, slice_set}
 use Rattle.std.proofs.lemmas.List.Elements.{All-cons, All-head, All-tail, All-drop, All-set}
-use Rattle.mpy_base.specs.World.{Objects}
-use Rattle.prim_names.specs.arena_heap.declared.value.Value.{Value}
-use Rattle.prim_names.specs.arena_heap.declared.value.Value.TheVariants as values
-use Rattle.prim_names.specs.arena_heap.declared.value.StrNo.{StrNo}
-use Rattle.prim_names.specs.arena_heap.declared.value.ConstNo.{ConstNo}
-use Rattle.prim_names.specs.prim_faults.Faults.{IsKnown}
+use Rattle.vm_states.specs.mpy_base.World.{Objects}
+use Rattle.vm_states.specs.prim_names.arena_heap.declared.value.Value.{Value}
+use Rattle.vm_states.specs.prim_names.arena_heap.declared.value.Value.TheVariants as values
+use Rattle.vm_states.specs.prim_names.arena_heap.declared.value.StrNo.{StrNo}
+use Rattle.vm_states.specs.prim_names.arena_heap.declared.value.ConstNo.{ConstNo}
+use Rattle.vm_states.specs.prim_names.prim_faults.Faults.{IsKnown}
 use Rattle.vm_states.specs.vm_frames.declared.slot.Slot.{Slot}
 use Rattle.vm_states.specs.vm_frames.declared.slot.Slot.TheVariants as slots
 use Rattle.vm_states.specs.vm_frames.Calls.{Call, Calls, on_running}

@@ -1,14 +1,14 @@
 -- What stores a local finds it, and a value on top.
 use Rattle.std.proofs.Common.{◌≡◌, ℕ, ◌<◌, List, Some, ap}
 use Rattle.std.specs.Prelude.{slice_get}
-use Rattle.mpy_base.specs.Val.{PlainWorld}
+use Rattle.vm_states.specs.mpy_base.Val.{PlainWorld}
 use Rattle.vm_states.specs.bc_ops.declared.instr.Op.TheVariants as ops
 use Rattle.vm_states.specs.bc_ops.declared.instr.Instr.TheVariants as instrs
 use Rattle.vm_states.specs.bc_machine.Library.{Plain, Code, Library}
 use Rattle.vm_states.specs.bc_machine.State.{Frame}
 use Rattle.vm_states.specs.bc_progress.Plans.{Plan}
 use Rattle.vm_states.specs.bc_rows.declared.row.Row.{Row}
-use Rattle.prim_names.specs.arena_heap.declared.value.Value.{Value}
+use Rattle.vm_states.specs.prim_names.arena_heap.declared.value.Value.{Value}
 use Rattle.vm_states.specs.vm_frames.declared.slot.Slot.{Slot}
 use Rattle.vm_states.specs.vm_frames.declared.slot.Slot.TheVariants as slots
 use Rattle.vm_states.specs.vm_frames.Calls.{Call, Calls}

@@ -1,11 +1,11 @@
 -- Jumps that test the top value find one, and go on at one of two offsets.
 use Rattle.std.proofs.Common.{◌≡◌, ℕ, List, drop, Bool, true, false, Option, Ok, arith}
 use Rattle.std.proofs.lemmas.List.Elements.{All-drop}
-use Rattle.mpy_base.specs.World.{Heap, Objects}
-use Rattle.mpy_base.specs.Val.{PlainWorld}
-use Rattle.prim_names.specs.arena_heap.declared.value.Value.{Value}
-use Rattle.prim_names.specs.arena_heap.declared.value.StrNo.{StrNo}
-use Rattle.prim_names.specs.arena_heap.declared.value.ConstNo.{ConstNo}
+use Rattle.vm_states.specs.mpy_base.World.{Heap, Objects}
+use Rattle.vm_states.specs.mpy_base.Val.{PlainWorld}
+use Rattle.vm_states.specs.prim_names.arena_heap.declared.value.Value.{Value}
+use Rattle.vm_states.specs.prim_names.arena_heap.declared.value.StrNo.{StrNo}
+use Rattle.vm_states.specs.prim_names.arena_heap.declared.value.ConstNo.{ConstNo}
 use Rattle.vm_states.specs.bc_labels.Positions.{position_in}
 use Rattle.vm_states.specs.bc_machine.Library.{Code, Library, Jumps}
 use Rattle.vm_states.specs.bc_machine.State.{Frame}

@@ -1,10 +1,10 @@
 -- The visits of an operator with two operands.
 use Rattle.std.proofs.Common.{◌≡◌, ℕ, List, [], ◌∷◌, Option, ap, ap₂}
-use Rattle.mpy_base.specs.World.{Heap}
-use Rattle.prim_names.specs.arena_heap.declared.value.Value.{Value}
-use Rattle.prim_names.specs.arena_heap.declared.value.StrNo.{StrNo}
-use Rattle.prim_names.specs.arena_heap.declared.value.ConstNo.{ConstNo}
-use Rattle.prim_names.specs.prim_walks.Plain.{plain, plain_heap}
+use Rattle.vm_states.specs.mpy_base.World.{Heap}
+use Rattle.vm_states.specs.prim_names.arena_heap.declared.value.Value.{Value}
+use Rattle.vm_states.specs.prim_names.arena_heap.declared.value.StrNo.{StrNo}
+use Rattle.vm_states.specs.prim_names.arena_heap.declared.value.ConstNo.{ConstNo}
+use Rattle.vm_states.specs.prim_names.prim_walks.Plain.{plain, plain_heap}
 use Rattle.vm_states.specs.bc_machine.Operations.{operator_at}
 use Rattle.vm_states.specs.vm_frames.Calls.{Call}
 use Rattle.vm_states.specs.frame_values.Operations.{visits_of}

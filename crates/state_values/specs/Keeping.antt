@@ -1,10 +1,10 @@
 -- What an instruction acts as that leaves the running call running, and what it keeps.
 use Rattle.std.specs.Prelude.{◌≡◌, ℕ, List, Option, Result, OnErr}
-use Rattle.mpy_base.specs.World.{Heap}
-use Rattle.prim_names.specs.arena_heap.declared.value.Value.{Value}
-use Rattle.prim_names.specs.arena_heap.declared.value.StrNo.{StrNo}
-use Rattle.prim_names.specs.arena_heap.declared.value.ConstNo.{ConstNo}
-use Rattle.prim_names.specs.prim_faults.declared.stop.Stop.{Stop}
+use Rattle.vm_states.specs.mpy_base.World.{Heap}
+use Rattle.vm_states.specs.prim_names.arena_heap.declared.value.Value.{Value}
+use Rattle.vm_states.specs.prim_names.arena_heap.declared.value.StrNo.{StrNo}
+use Rattle.vm_states.specs.prim_names.arena_heap.declared.value.ConstNo.{ConstNo}
+use Rattle.vm_states.specs.prim_names.prim_faults.declared.stop.Stop.{Stop}
 use Rattle.vm_states.specs.vm_frames.Calls.{Calls}
 use Rattle.vm_states.specs.vm_fetching.declared.instruction.Fetched.{Fetched}
 use Rattle.vm_states.specs.Acting.{ActsBehind}

@@ -1,11 +1,15 @@
-pub use Rattle.py_effects.specs as py_effects
+pub use Rattle.frame_moves.specs.py_effects
 pub use Rattle.vm_states.specs as vm_states
 pub use Rattle.vm_states.specs.bc_labels
 pub use Rattle.vm_states.specs.bc_library
+pub use Rattle.vm_states.specs.bc_progress
 pub use Rattle.vm_states.specs.bc_rows
 pub use Rattle.vm_states.specs.frame_exits
 pub use Rattle.vm_states.specs.frame_moves
 pub use Rattle.vm_states.specs.frame_values
+pub use Rattle.vm_states.specs.mpy_base
+pub use Rattle.vm_states.specs.prim_assignments
+pub use Rattle.vm_states.specs.prim_raising
 pub use Rattle.vm_states.specs.vm_fetching
 pub use Rattle.vm_states.specs.vm_frames
 pub mod Keeping

@@ -1,7 +1,7 @@
 -- Instructions without an operand that move slots alone, and what they come to.
 use Rattle.std.specs.Prelude.{◌≡◌, ℕ, List, ◌∷◌, drop, true, false}
-use Rattle.mpy_base.specs.Val.{PlainWorld}
-use Rattle.prim_names.specs.arena_heap.declared.value.Value.TheVariants as values
+use Rattle.vm_states.specs.mpy_base.Val.{PlainWorld}
+use Rattle.vm_states.specs.prim_names.arena_heap.declared.value.Value.TheVariants as values
 use Rattle.vm_states.specs.bc_rows.declared.row.Row.{Row}
 use Rattle.vm_states.specs.bc_machine.Step.{step}
 use Rattle.vm_states.specs.vm_frames.declared.slot.Slot.{Slot}

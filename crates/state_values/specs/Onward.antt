@@ -1,13 +1,13 @@
 -- What an instruction does in each program, and how it leaves the calls: what it acts as comes from these.
 use Rattle.std.specs.Prelude.{◌≡◌, ℕ, List, Option, IfSome, All, Result, Ok, Err}
-use Rattle.mpy_base.specs.World.{Heap, Objects}
-use Rattle.prim_names.specs.arena_heap.declared.value.Value.{Value}
-use Rattle.prim_names.specs.arena_heap.declared.value.StrNo.{StrNo}
-use Rattle.prim_names.specs.arena_heap.declared.value.ConstNo.{ConstNo}
+use Rattle.vm_states.specs.mpy_base.World.{Heap, Objects}
+use Rattle.vm_states.specs.prim_names.arena_heap.declared.value.Value.{Value}
+use Rattle.vm_states.specs.prim_names.arena_heap.declared.value.StrNo.{StrNo}
+use Rattle.vm_states.specs.prim_names.arena_heap.declared.value.ConstNo.{ConstNo}
 use Rattle.vm_states.specs.bc_labels.Positions.{Starts}
 use Rattle.vm_states.specs.bc_rows.declared.row.Row.{Row}
-use Rattle.prim_names.specs.prim_faults.declared.stop.Stop.{Stop}
-use Rattle.prim_names.specs.prim_faults.Faults.{IsKnown}
+use Rattle.vm_states.specs.prim_names.prim_faults.declared.stop.Stop.{Stop}
+use Rattle.vm_states.specs.prim_names.prim_faults.Faults.{IsKnown}
 use Rattle.vm_states.specs.vm_frames.declared.slot.Slot.{Slot}
 use Rattle.vm_states.specs.vm_frames.Calls.{Call, Calls, on_running}
 use Rattle.vm_states.specs.vm_frames.Views.{starts_of}

@@ -1,9 +1,9 @@
 //! Jumps that test the top value.
 
 ghost use Rattle.std.specs.Prelude.{◌≡◌, ◌<◌, ℕ, length};
-ghost use Rattle.mpy_base.specs.Val.{PlainWorld};
+ghost use Rattle.vm_states.specs.mpy_base.Val.{PlainWorld};
 ghost use Rattle.vm_states.specs.bc_machine.Library.{Jumps};
-ghost use Rattle.prim_names.specs.prim_faults.Sights.{under};
+ghost use Rattle.vm_states.specs.prim_names.prim_faults.Sights.{under};
 ghost use Rattle.vm_states.specs.vm_frames.Calls.{OfRunning, on_running};
 ghost use Rattle.vm_states.specs.frame_moves.Shown.{Tables, Steps, IsNext, IsAt, Tests};
 ghost use Rattle.vm_states.specs.vm_fetching.Operations.{jump_op};
@@ -15,11 +15,9 @@ ghost use Rattle.state_values.specs.Tests.{IsTest, tested};
 use crate::law::acting_law;
 use arena_heap::{Arena, Constants};
 use frame_moves::{jump_if_false_or_pop, jump_if_true_or_pop, pop_jump_if_false, pop_jump_if_true};
-use frame_values::top_truth;
 use prim_faults::Stop;
-use vm_fetching::JumpOp;
 use vm_frames::Frames;
-use vm_states::tops_law;
+use vm_states::{JumpOp, top_truth, tops_law};
 
 /// The jump, where the truth of the top value is given.
 pub fn jump_by(frames: &mut Frames, op: JumpOp, truth: bool, target: u32, end: u32)

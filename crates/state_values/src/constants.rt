@@ -1,14 +1,14 @@
 //! Constants that are known.
 
 ghost use Rattle.std.specs.Prelude.{◌≡◌, ℕ, ℤ, List, Option, Some};
-ghost use Rattle.mpy_base.specs.World.{Objects};
-ghost use Rattle.prim_names.specs.arena_heap.declared.value.Value.{Value};
-ghost use Rattle.prim_names.specs.arena_heap.declared.value.Value.TheVariants as values;
-ghost use Rattle.prim_names.specs.arena_heap.declared.value.StrNo.{StrNo};
-ghost use Rattle.prim_names.specs.arena_heap.declared.value.ConstNo.{ConstNo};
+ghost use Rattle.vm_states.specs.mpy_base.World.{Objects};
+ghost use Rattle.vm_states.specs.prim_names.arena_heap.declared.value.Value.{Value};
+ghost use Rattle.vm_states.specs.prim_names.arena_heap.declared.value.Value.TheVariants as values;
+ghost use Rattle.vm_states.specs.prim_names.arena_heap.declared.value.StrNo.{StrNo};
+ghost use Rattle.vm_states.specs.prim_names.arena_heap.declared.value.ConstNo.{ConstNo};
 ghost use Rattle.vm_states.specs.bc_ops.Signed.{IsSmall};
 ghost use Rattle.vm_states.specs.bc_library.Constants.{object_value};
-ghost use Rattle.prim_names.specs.prim_faults.Faults.{IsKnown};
+ghost use Rattle.vm_states.specs.prim_names.prim_faults.Faults.{IsKnown};
 ghost use Rattle.vm_states.specs.Means.{Program, Means};
 
 /// An object of one of a program's modules is known over each arena, and so is a small integer.

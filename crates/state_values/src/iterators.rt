@@ -1,7 +1,7 @@
 //! Operations on iterators, as they were fetched for calls of a program.
 
 ghost use Rattle.vm_states.specs.vm_fetching.declared.instruction.Instruction.TheVariants as fetched;
-ghost use Rattle.prim_names.specs.prim_faults.Sights.{under};
+ghost use Rattle.vm_states.specs.prim_names.prim_faults.Sights.{under};
 ghost use Rattle.vm_states.specs.vm_fetching.declared.operations.JumpOp.TheVariants as jump_ops;
 ghost use Rattle.vm_states.specs.vm_fetching.declared.operations.PlainOp.TheVariants as plain_ops;
 ghost use Rattle.state_values.specs.Moving.{fetched_plain};

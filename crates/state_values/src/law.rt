@@ -1,11 +1,11 @@
 //! What an instruction acts as, by what it does and how it leaves the calls.
 
 ghost use Rattle.std.specs.Prelude.{ℕ, List, Option, Result, Ok};
-ghost use Rattle.mpy_base.specs.World.{Heap};
-ghost use Rattle.prim_names.specs.arena_heap.declared.value.Value.{Value};
-ghost use Rattle.prim_names.specs.arena_heap.declared.value.StrNo.{StrNo};
-ghost use Rattle.prim_names.specs.arena_heap.declared.value.ConstNo.{ConstNo};
-ghost use Rattle.prim_names.specs.prim_faults.declared.stop.Stop.{Stop};
+ghost use Rattle.vm_states.specs.mpy_base.World.{Heap};
+ghost use Rattle.vm_states.specs.prim_names.arena_heap.declared.value.Value.{Value};
+ghost use Rattle.vm_states.specs.prim_names.arena_heap.declared.value.StrNo.{StrNo};
+ghost use Rattle.vm_states.specs.prim_names.arena_heap.declared.value.ConstNo.{ConstNo};
+ghost use Rattle.vm_states.specs.prim_names.prim_faults.declared.stop.Stop.{Stop};
 ghost use Rattle.vm_states.specs.vm_frames.Calls.{Calls};
 ghost use Rattle.vm_states.specs.frame_values.Effects.{Leaves};
 ghost use Rattle.vm_states.specs.vm_fetching.declared.instruction.Fetched.{Fetched};

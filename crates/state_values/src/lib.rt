@@ -31,3 +31,7 @@ pub use operating::{attribute_on, jump_to, name_on, number_on, plain_on};
 pub use operators::{binary_op, unary_op, visits_binary_op};
 pub use slot_moves::move_slots;
 pub use storing::store_local;
+pub use vm_states::{
+    End, Fetched, Instruction, JumpOp, ModuleName, NameOp, NumberOp, PlainOp, Row, Rows, assigned,
+    fetch, tops_law,
+};

@@ -1,7 +1,7 @@
 //! Constants that are loaded.
 
 ghost use Rattle.std.specs.Prelude.{◌≡◌, ◌∷◌};
-ghost use Rattle.prim_names.specs.arena_heap.declared.value.Value.TheVariants as values;
+ghost use Rattle.vm_states.specs.prim_names.arena_heap.declared.value.Value.TheVariants as values;
 ghost use Rattle.vm_states.specs.vm_frames.declared.slot.Slot.TheVariants as slots;
 ghost use Rattle.vm_states.specs.vm_frames.Calls.{on_running};
 ghost use Rattle.vm_states.specs.frame_moves.Stacks.{gone};

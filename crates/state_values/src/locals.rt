@@ -1,7 +1,7 @@
 //! Operations on locals, as they were fetched for calls of a program.
 
 ghost use Rattle.vm_states.specs.vm_fetching.declared.instruction.Instruction.TheVariants as fetched;
-ghost use Rattle.prim_names.specs.prim_faults.Sights.{under};
+ghost use Rattle.vm_states.specs.prim_names.prim_faults.Sights.{under};
 ghost use Rattle.vm_states.specs.vm_fetching.declared.operations.NumberOp.TheVariants as number_ops;
 ghost use Rattle.vm_states.specs.Acting.{RunsOver};
 ghost use Rattle.state_values.specs.Keeping.{ActsKeeping};

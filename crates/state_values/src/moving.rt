@@ -1,7 +1,7 @@
 //! Instructions that move frames alone, over an arena that stays.
 
 ghost use Rattle.vm_states.specs.vm_fetching.declared.instruction.Instruction.TheVariants as fetched;
-ghost use Rattle.prim_names.specs.prim_faults.Sights.{under};
+ghost use Rattle.vm_states.specs.prim_names.prim_faults.Sights.{under};
 ghost use Rattle.vm_states.specs.vm_fetching.declared.operations.JumpOp.TheVariants as jump_ops;
 ghost use Rattle.vm_states.specs.vm_fetching.declared.operations.NameOp.TheVariants as name_ops;
 ghost use Rattle.vm_states.specs.vm_fetching.declared.operations.NumberOp.TheVariants as number_ops;
@@ -16,9 +16,8 @@ use crate::slot_moves::move_slots;
 use crate::storing::store_local;
 use arena_heap::{Arena, Constants, StrNo, Value};
 use prim_faults::Stop;
-use vm_fetching::{NumberOp, PlainOp};
 use vm_frames::Frames;
-use vm_states::tops_law;
+use vm_states::{NumberOp, PlainOp, tops_law};
 
 /// An operation that moves slots alone.
 pub fn move_on<C: Constants>(

@@ -1,7 +1,7 @@
 //! Instructions by their forms, for the operations that act on values and frames.
 
 ghost use Rattle.std.specs.Prelude.{◌≤◌, length};
-ghost use Rattle.prim_names.specs.prim_faults.Sights.{under};
+ghost use Rattle.vm_states.specs.prim_names.prim_faults.Sights.{under};
 ghost use Rattle.vm_states.specs.vm_fetching.declared.instruction.Instruction.TheVariants as fetched;
 ghost use Rattle.state_values.specs.Moving.{fetched_plain};
 ghost use Rattle.vm_states.specs.Acting.{RunsOver};
@@ -21,9 +21,8 @@ use crate::names::{delete_global, delete_name, load_global, load_name, store_glo
 use crate::subscripts::{load_subscr, store_map, store_subscr};
 use arena_heap::{Arena, Constants, StrNo, Value};
 use prim_faults::Stop;
-use vm_fetching::{JumpOp, NameOp, NumberOp, PlainOp};
 use vm_frames::Frames;
-use vm_states::tops_law;
+use vm_states::{JumpOp, NameOp, NumberOp, PlainOp, tops_law};
 
 /// An operation without an operand: on constants, slots, items and iterators. It makes no visits.
 pub fn plain_on<C: Constants>(

@@ -1,7 +1,7 @@
 //! Instructions without an operand that move slots alone.
 
 ghost use Rattle.std.specs.Prelude.{◌≡◌};
-ghost use Rattle.mpy_base.specs.Val.{PlainWorld};
+ghost use Rattle.vm_states.specs.mpy_base.Val.{PlainWorld};
 ghost use Rattle.vm_states.specs.bc_ops.declared.instr.Instr.TheVariants as instrs;
 ghost use Rattle.vm_states.specs.bc_machine.Library.{Plain};
 ghost use Rattle.vm_states.specs.vm_frames.Calls.{on_running};
@@ -14,9 +14,8 @@ ghost use Rattle.state_values.specs.Needs.{Needs};
 use frame_moves::{
     dup_top, dup_top_two, load_false, load_none, load_null, load_true, pop_top, rot_three, rot_two,
 };
-use vm_fetching::PlainOp;
 use vm_frames::Frames;
-use vm_states::{keeps_law, tops_law};
+use vm_states::{PlainOp, keeps_law, tops_law};
 
 /// The operation, by what it needs.
 fn act(frames: &mut Frames, op: PlainOp, end: u32)

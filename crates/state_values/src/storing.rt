@@ -1,7 +1,7 @@
 //! A local gets a value.
 
 ghost use Rattle.std.specs.Prelude.{◌≡◌, Some, drop, slice_set};
-ghost use Rattle.prim_names.specs.arena_heap.declared.value.Value.{Value as Item};
+ghost use Rattle.vm_states.specs.prim_names.arena_heap.declared.value.Value.{Value as Item};
 ghost use Rattle.vm_states.specs.vm_frames.declared.slot.Slot.TheVariants as slots;
 ghost use Rattle.vm_states.specs.vm_frames.Calls.{on_running};
 ghost use Rattle.vm_states.specs.frame_moves.Shown.{IsTop};
@@ -10,9 +10,8 @@ ghost use Rattle.state_values.specs.Moving.{Runs, GoesBehind};
 ghost use Rattle.state_values.specs.Storing.{StoresLocal};
 
 use frame_moves::store_fast;
-use vm_fetching::NumberOp;
 use vm_frames::Frames;
-use vm_states::{keeps_law, tops_law};
+use vm_states::{NumberOp, keeps_law, tops_law};
 
 /// STORE_FAST, in one byte or in more, where it was fetched for the running call.
 pub fn store_local(frames: &mut Frames, op: NumberOp, n: u32, end: u32)

@@ -1,8 +1,8 @@
 //! Items of values, by index or key.
 
 ghost use Rattle.std.specs.Prelude.{◌≡◌, true, false};
-ghost use Rattle.prim_names.specs.arena_heap.declared.value.Value.{Value as Item};
-ghost use Rattle.prim_names.specs.prim_faults.Sights.{under};
+ghost use Rattle.vm_states.specs.prim_names.arena_heap.declared.value.Value.{Value as Item};
+ghost use Rattle.vm_states.specs.prim_names.prim_faults.Sights.{under};
 ghost use Rattle.vm_states.specs.frame_values.Slots.{HasValue, HasNull};
 ghost use Rattle.vm_states.specs.vm_fetching.declared.operations.PlainOp.TheVariants as plain_ops;
 ghost use Rattle.state_values.specs.Moving.{fetched_plain};

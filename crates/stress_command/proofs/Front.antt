@@ -6,11 +6,11 @@ use Rattle.mpy_io.specs.Count.{Counts, Rose}
 use Rattle.mpy_io.specs.Files.{FileOf}
 use Rattle.mpy_io.specs.Ports.{PortView}
 use Rattle.mpy_io.specs.Told.{AppendsFront}
-use Rattle.mpy_endings.specs.declared.ending.Ending.{Ending}
-use Rattle.mpy_endings.specs.declared.ending.Ending.TheVariants.{WriteFault}
-use Rattle.mpy_endings.specs.Ending.{is_folder_fault, is_out_fault, status_of}
-use Rattle.mpy_endings.specs.Line.{Says, line_of}
-use Rattle.command_files.specs.Outside.{Outside}
+use Rattle.run_commands.specs.mpy_endings.declared.ending.Ending.{Ending}
+use Rattle.run_commands.specs.mpy_endings.declared.ending.Ending.TheVariants.{WriteFault}
+use Rattle.run_commands.specs.mpy_endings.Ending.{is_folder_fault, is_out_fault, status_of}
+use Rattle.run_commands.specs.mpy_endings.Line.{Says, line_of}
+use Rattle.run_commands.specs.command_files.Outside.{Outside}
 use Rattle.run_commands.specs.declared.ready.Ready.{Ready}
 use Rattle.run_commands.specs.Ready.{GoLibrary}
 use Rattle.run_commands.specs.Run.{EndsRun, IsUnloaded, sight_in}

@@ -2,9 +2,9 @@
 use Rattle.std.proofs.Common.{◌≡◌, ◌⊎◌, ℕ, Bool, true, false, List, Option, Err, refl, sym, ap, subst, ◌∙◌, inl, inr, arith}
 use Rattle.mpy_io.specs.Count.{Counts}
 use Rattle.mpy_io.specs.Files.{FileOf}
-use Rattle.mpy_endings.specs.declared.ending.Ending.{Ending}
-use Rattle.mpy_endings.specs.declared.ending.Ending.TheVariants.{NoMemory}
-use Rattle.mpy_endings.specs.Ending.{is_folder_fault}
+use Rattle.run_commands.specs.mpy_endings.declared.ending.Ending.{Ending}
+use Rattle.run_commands.specs.mpy_endings.declared.ending.Ending.TheVariants.{NoMemory}
+use Rattle.run_commands.specs.mpy_endings.Ending.{is_folder_fault}
 use Rattle.run_commands.specs.Ready.{GoLibrary}
 use Rattle.run_commands.specs.Run.{IsUnloaded}
 

@@ -7,13 +7,13 @@ use Rattle.mpy_io.specs.Files.{FileOf}
 use Rattle.mpy_io.specs.Memory.{file_of}
 use Rattle.mpy_io.specs.Ports.{PortView}
 use Rattle.mpy_io.specs.Told.{AppendsFront}
-use Rattle.bc_library.specs.mpy_tree.Raw.{Module}
-use Rattle.bc_library.specs.mpy_tree.Codes.{codes_of}
-use Rattle.bc_library.specs.Shelf.{module_at}
-use Rattle.mpy_endings.specs.declared.ending.Ending.TheVariants.{WriteFault}
-use Rattle.mpy_endings.specs.Ending.{status_of}
-use Rattle.mpy_endings.specs.Line.{Says, line_of}
-use Rattle.command_files.specs.Outside.{Outside}
+use Rattle.run_commands.specs.bc_library.mpy_tree.Raw.{Module}
+use Rattle.run_commands.specs.bc_library.mpy_tree.Codes.{codes_of}
+use Rattle.run_commands.specs.bc_library.Shelf.{module_at}
+use Rattle.run_commands.specs.mpy_endings.declared.ending.Ending.TheVariants.{WriteFault}
+use Rattle.run_commands.specs.mpy_endings.Ending.{status_of}
+use Rattle.run_commands.specs.mpy_endings.Line.{Says, line_of}
+use Rattle.run_commands.specs.command_files.Outside.{Outside}
 use Rattle.run_commands.specs.declared.ready.Ready.{Ready}
 use Rattle.run_commands.specs.Ready.{GoLibrary}
 use Rattle.run_commands.specs.Run.{EndsRun, IsUnloaded}

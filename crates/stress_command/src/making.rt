@@ -1,23 +1,22 @@
 //! The made source and its library.
 
 ghost use Rattle.std.specs.Prelude.{◌≡◌, ◌≤◌, ◌⊎◌, [], ◌∷◌, false, length, IfOk, IfErr, Ok, Err, Some};
-ghost use Rattle.mpy_endings.specs.declared.ending.Ending.TheVariants.{NoMemory as WithoutMemory};
-ghost use Rattle.mpy_endings.specs.Ending.{is_folder_fault};
-ghost use Rattle.bc_library.specs.mpy_tree.Raw.{Module};
-ghost use Rattle.image_runs.specs.Main.{IsMainAt};
-ghost use Rattle.library_files.specs.Ends.{HoldsModules};
+ghost use Rattle.run_commands.specs.mpy_endings.declared.ending.Ending.TheVariants.{NoMemory as WithoutMemory};
+ghost use Rattle.run_commands.specs.mpy_endings.Ending.{is_folder_fault};
+ghost use Rattle.run_commands.specs.bc_library.mpy_tree.Raw.{Module};
+ghost use Rattle.run_commands.specs.image_runs.Main.{IsMainAt};
+ghost use Rattle.run_commands.specs.library_files.Ends.{HoldsModules};
 ghost use Rattle.stress_command.specs.Source.{stress_text};
 ghost use Rattle.mpy_io.specs.Memory.{file_of};
-ghost use Rattle.command_files.specs.Opened.{failed_in};
+ghost use Rattle.run_commands.specs.command_files.Opened.{failed_in};
 ghost use Rattle.run_commands.specs.Ready.{GoLibrary};
 ghost use Rattle.run_commands.specs.Run.{IsUnloaded};
 ghost use Rattle.stress_command.specs.Stress.{HasCodes, most_assignments, stress_files, stress_name};
 
 use crate::source::stress_source;
 use mpy_base::NoMemory;
-use mpy_endings::Ending;
 use mpy_io::{Folder, MemFolder};
-use run_commands::{Ready, source_ready};
+use run_commands::{Ending, Ready, source_ready};
 use std::alloc::Global;
 
 /// The name of the made source.

@@ -2,12 +2,12 @@
 
 ghost use Rattle.std.specs.Prelude.{◌≡◌, ◌≤◌, ◌++◌, ℕ, [], length, decimal, map, Option, Some, Ok};
 ghost use Rattle.mpy_io.specs.Files.{FileOf};
-ghost use Rattle.bc_library.specs.mpy_tree.Raw.{Module};
-ghost use Rattle.image_runs.specs.Main.{IsMainAt};
-ghost use Rattle.library_files.specs.Ends.{HoldsModules};
-ghost use Rattle.mpy_endings.specs.declared.ending.Ending.TheVariants.{WriteFault};
-ghost use Rattle.mpy_endings.specs.Ending.{IsRunStatus, status_of};
-ghost use Rattle.mpy_endings.specs.Line.{Puts, Says, line_of};
+ghost use Rattle.run_commands.specs.bc_library.mpy_tree.Raw.{Module};
+ghost use Rattle.run_commands.specs.image_runs.Main.{IsMainAt};
+ghost use Rattle.run_commands.specs.library_files.Ends.{HoldsModules};
+ghost use Rattle.run_commands.specs.mpy_endings.declared.ending.Ending.TheVariants.{WriteFault};
+ghost use Rattle.run_commands.specs.mpy_endings.Ending.{IsRunStatus, status_of};
+ghost use Rattle.run_commands.specs.mpy_endings.Line.{Puts, Says, line_of};
 ghost use Rattle.run_commands.specs.Ready.{GoLibrary};
 ghost use Rattle.run_commands.specs.Run.{EndsRun};
 ghost use Rattle.stress_command.specs.Source.{stress_text};
@@ -16,10 +16,9 @@ ghost use Rattle.stress_command.specs.Stress.{EndsStress, front_lines, most_assi
 use crate::making::{NAME, codes_of, made_ready};
 use itoa::Buffer;
 use mpy_base::Room;
-use mpy_endings::{Ending, put_three, say_ending};
 use mpy_io::{Failed, Port, Sink};
 use port_set::PortSet;
-use run_commands::{Ready, run_loaded};
+use run_commands::{Ending, Ready, put_three, run_loaded, say_ending};
 use std::alloc::Global;
 
 /// Puts a number between two pieces of a line.

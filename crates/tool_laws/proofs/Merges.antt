@@ -1,15 +1,15 @@
 -- The command that merges files.
 use Rattle.std.proofs.Common.{◌≡◌, ◌⊎◌, inl, inr, ℕ, zero, suc, ◌+◌, ◌<◌, List, [], ◌∷◌, length, take, get_or, Option, Some, None, refl, sym, ap, subst, ◌∙◌, arith}
 use Rattle.std.specs.List.{AllZip}
-use Rattle.mpy_io.specs.Files.{FileOf}
-use Rattle.mpy_writer.specs.mpy_tree.Raw.{Module}
-use Rattle.mpy_merge.specs.declared.fault.MergeFault.{MergeFault}
-use Rattle.mpy_merge.specs.Faults.{FirstFault}
-use Rattle.mpy_merge.proofs.Once.{one_beside}
-use Rattle.mpy_endings.specs.declared.ending.Ending.{Ending}
-use Rattle.mpy_endings.specs.declared.ending.Ending.TheVariants.{Done, Unaccepted, Unread, Unverified, Unmerged, Unopened, Unfrozen, Unboarded, Different, Stopped, ReadFault, WriteFault, Unwritten, NoMemory, Absent}
-use Rattle.mpy_endings.specs.Ending.{IsSettled}
-use Rattle.command_files.specs.Opened.{HoldsModule, Refuses}
+use Rattle.file_commands.specs.mpy_io.Files.{FileOf}
+use Rattle.file_commands.specs.mpy_writer.mpy_tree.Raw.{Module}
+use Rattle.file_commands.specs.mpy_merge.declared.fault.MergeFault.{MergeFault}
+use Rattle.file_commands.specs.mpy_merge.Faults.{FirstFault}
+use Rattle.file_commands.proofs.mpy_merge_lemmas.Once.{one_beside}
+use Rattle.file_commands.specs.mpy_endings.declared.ending.Ending.{Ending}
+use Rattle.file_commands.specs.mpy_endings.declared.ending.Ending.TheVariants.{Done, Unaccepted, Unread, Unverified, Unmerged, Unopened, Unfrozen, Unboarded, Different, Stopped, ReadFault, WriteFault, Unwritten, NoMemory, Absent}
+use Rattle.file_commands.specs.mpy_endings.Ending.{IsSettled}
+use Rattle.file_commands.specs.command_files.Opened.{HoldsModule, Refuses}
 use Rattle.file_commands.specs.Merge.{HoldMerged, HoldModules, HoldUnmerged, IsFirstRefused, Merges}
 use Rattle.tool_laws.specs.Laws.{FileLaws}
 use Rattle.tool_laws.specs.Once.{EndOnce, IsDone}

@@ -1,14 +1,14 @@
 -- Commands that read one file.
 use Rattle.std.proofs.Common.{◌≡◌, ◌⊎◌, ◌++◌, inl, inr, ℕ, List, Option, Some, None, refl, sym, ap, subst, ◌∙◌}
 use Rattle.std.specs.Io.KnownBytes.{Appends}
-use Rattle.mpy_io.specs.Files.{FileOf}
-use Rattle.mpy_writer.specs.mpy_tree.Raw.{Module}
-use Rattle.mpy_writer.specs.mpy_tree.File.{IsFile}
+use Rattle.file_commands.specs.mpy_io.Files.{FileOf}
+use Rattle.file_commands.specs.mpy_writer.mpy_tree.Raw.{Module}
+use Rattle.file_commands.specs.mpy_writer.mpy_tree.File.{IsFile}
 use Rattle.mpy_dump.specs.Listing.{IsListing}
-use Rattle.mpy_endings.specs.declared.ending.Ending.{Ending}
-use Rattle.mpy_endings.specs.declared.ending.Ending.TheVariants.{Done, Unaccepted, Unread, Unverified, Unmerged, Unopened, Unfrozen, Unboarded, Different, Stopped, ReadFault, WriteFault, Unwritten, NoMemory, Absent}
-use Rattle.mpy_endings.specs.Ending.{IsSettled}
-use Rattle.command_files.specs.Opened.{HoldsModule}
+use Rattle.file_commands.specs.mpy_endings.declared.ending.Ending.{Ending}
+use Rattle.file_commands.specs.mpy_endings.declared.ending.Ending.TheVariants.{Done, Unaccepted, Unread, Unverified, Unmerged, Unopened, Unfrozen, Unboarded, Different, Stopped, ReadFault, WriteFault, Unwritten, NoMemory, Absent}
+use Rattle.file_commands.specs.mpy_endings.Ending.{IsSettled}
+use Rattle.file_commands.specs.command_files.Opened.{HoldsModule}
 use Rattle.file_commands.specs.Check.{Checks, HoldsVerified, count_of, verified_line}
 use Rattle.file_commands.specs.Dump.{Dumps, HoldsListed}
 use Rattle.tool_laws.specs.Laws.{FileLaws}

@@ -1,7 +1,7 @@
 -- What laws of files and of verified modules say.
 use Rattle.std.specs.Prelude.{◌≡◌, ℕ, List}
-use Rattle.mpy_writer.specs.mpy_tree.Raw.{Module}
-use Rattle.mpy_writer.specs.mpy_tree.File.{IsFile}
+use Rattle.file_commands.specs.mpy_writer.mpy_tree.Raw.{Module}
+use Rattle.file_commands.specs.mpy_writer.mpy_tree.File.{IsFile}
 use Rattle.mpy_reader.specs.declared.fault.FileFault.{FileFault}
 use Rattle.mpy_reader.specs.Reading.{FirstFault}
 use Rattle.bc_verify.specs.declared.fault.VerifyFault.{VerifyFault}

@@ -1,8 +1,8 @@
 -- Commands that end in one way only, and those that are done.
 use Rattle.std.specs.Prelude.{◌≡◌}
-use Rattle.mpy_endings.specs.declared.ending.Ending.{Ending}
-use Rattle.mpy_endings.specs.declared.ending.Ending.TheVariants.{Done}
-use Rattle.mpy_endings.specs.Ending.{IsSettled}
+use Rattle.file_commands.specs.mpy_endings.declared.ending.Ending.{Ending}
+use Rattle.file_commands.specs.mpy_endings.declared.ending.Ending.TheVariants.{Done}
+use Rattle.file_commands.specs.mpy_endings.Ending.{IsSettled}
 
 -- of two ways in which a command may end, neither cut short by a call that failed outside or by want of memory, there is one ending
 abbrev pub EndOnce : (One Other : Ending → Type 0) → Type 0

@@ -1,8 +1,8 @@
 //! Commands that read one file.
 
 ghost use Rattle.std.specs.Prelude.{◌≡◌, ℕ, List, Option, Some};
-ghost use Rattle.mpy_io.specs.Files.{FileOf};
-ghost use Rattle.mpy_endings.specs.declared.ending.Ending.TheVariants.{Done};
+ghost use Rattle.file_commands.specs.mpy_io.Files.{FileOf};
+ghost use Rattle.file_commands.specs.mpy_endings.declared.ending.Ending.TheVariants.{Done};
 ghost use Rattle.file_commands.specs.Check.{Checks, HoldsVerified};
 ghost use Rattle.file_commands.specs.Dump.{Dumps, HoldsListed};
 ghost use Rattle.tool_laws.specs.Once.{EndOnce, IsDone};

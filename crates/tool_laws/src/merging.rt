@@ -1,11 +1,11 @@
 //! The command that merges files.
 
 ghost use Rattle.std.specs.Prelude.{◌≡◌, ℕ, List, Option, Some};
-ghost use Rattle.mpy_io.specs.Files.{FileOf};
-ghost use Rattle.mpy_writer.specs.mpy_tree.Raw.{Module};
-ghost use Rattle.mpy_merge.specs.declared.fault.MergeFault.{MergeFault};
-ghost use Rattle.mpy_merge.specs.Faults.{FirstFault};
-ghost use Rattle.mpy_merge.specs.Merged.{IsMerged};
+ghost use Rattle.file_commands.specs.mpy_io.Files.{FileOf};
+ghost use Rattle.file_commands.specs.mpy_writer.mpy_tree.Raw.{Module};
+ghost use Rattle.file_commands.specs.mpy_merge.declared.fault.MergeFault.{MergeFault};
+ghost use Rattle.file_commands.specs.mpy_merge.Faults.{FirstFault};
+ghost use Rattle.file_commands.specs.mpy_merge.Merged.{IsMerged};
 ghost use Rattle.file_commands.specs.Merge.{HoldModules, Merges};
 ghost use Rattle.tool_laws.specs.Once.{EndOnce, IsDone};
 

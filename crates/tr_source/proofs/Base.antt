@@ -3,18 +3,18 @@ use Rattle.std.proofs.Common.{◌≡◌, ℕ, zero, suc, ◌+◌, ◌-◌, ◌<�
 use Rattle.std.specs.Prelude.{nat_lt}
 use Rattle.std.proofs.lemmas.Bool.{and_parts, and_from, le-leb}
 use Rattle.std.proofs.lemmas.Option.{slice_get_within}
-use Rattle.bc_shapes.specs.declared.kinds.Kind.{Kind}
-use Rattle.bc_shapes.specs.declared.shape.Entry.{Entry}
-use Rattle.bc_shapes.specs.Shape.{At, Belows, fits, after}
-use Rattle.bc_shapes.proofs.Joins.{belows_refl}
-use Rattle.bc_progress.specs.bc_flow.Action.{Action}
-use Rattle.bc_progress.specs.bc_flow.Code.{Code}
-use Rattle.bc_progress.specs.bc_flow.Edges.{How, Next, There, takes, gives, gives_there, falls, target, change, runs, floor, behind, asks, floor_of, left, leaves, Way, mark, arrive, way_in, raise_ways, one_run, run_ways, next_way, jump_way, ways, is_marked, all_marked, holds, base, deep, finds, pushed, slots_of, has_room, room, stays, edge_of}
-use Rattle.bc_progress.specs.bc_flow.Verified.{Leads, Each, none, also, Fine}
-use Rattle.bc_scheme.specs.bc_machine.Library.{Line}
-use Rattle.bc_scheme.specs.Context.{Context}
-use Rattle.bc_progress.specs.Plans.{action_of}
-use Rattle.mpy_base.specs.declared.limits.TheConstants.{MAX_ITEMS}
+use Rattle.bc_resolved.specs.bc_shapes.declared.kinds.Kind.{Kind}
+use Rattle.bc_resolved.specs.bc_shapes.declared.shape.Entry.{Entry}
+use Rattle.bc_resolved.specs.bc_shapes.Shape.{At, Belows, fits, after}
+use Rattle.bc_resolved.proofs.bc_shapes_lemmas.Joins.{belows_refl}
+use Rattle.bc_resolved.specs.bc_progress.bc_flow.Action.{Action}
+use Rattle.bc_resolved.specs.bc_progress.bc_flow.Code.{Code}
+use Rattle.bc_resolved.specs.bc_progress.bc_flow.Edges.{How, Next, There, takes, gives, gives_there, falls, target, change, runs, floor, behind, asks, floor_of, left, leaves, Way, mark, arrive, way_in, raise_ways, one_run, run_ways, next_way, jump_way, ways, is_marked, all_marked, holds, base, deep, finds, pushed, slots_of, has_room, room, stays, edge_of}
+use Rattle.bc_resolved.specs.bc_progress.bc_flow.Verified.{Leads, Each, none, also, Fine}
+use Rattle.emit_measures.specs.bc_scheme.bc_machine.Library.{Line}
+use Rattle.emit_measures.specs.bc_scheme.Context.{Context}
+use Rattle.bc_resolved.specs.bc_progress.Plans.{action_of}
+use Rattle.bc_resolved.specs.mpy_base.declared.limits.TheConstants.{MAX_ITEMS}
 
 abbrev pub shape : List Kind → List Entry → At
 shape ks es = record { slots = ks; entries = es }

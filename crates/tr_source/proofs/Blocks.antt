@@ -3,17 +3,17 @@ use Rattle.std.proofs.Common.{◌≡◌, ℕ, zero, suc, ◌+◌, ◌≤◌, ◌
 use Rattle.std.specs.Prelude.{nat_le}
 use Rattle.std.proofs.lemmas.Bool.{true≢false, le-leb}
 use Rattle.std.proofs.lemmas.Bool.Decides.{leb_tells}
-use Rattle.bc_scheme.specs.bc_ops.declared.instr.Op.TheVariants as ops
-use Rattle.bc_shapes.specs.declared.kinds.Kind.{Kind}
-use Rattle.bc_shapes.specs.declared.kinds.Kind.TheVariants as kinds
-use Rattle.bc_shapes.specs.declared.shape.Entry.{Entry}
-use Rattle.bc_shapes.specs.Shape.{At, cause, also}
-use Rattle.bc_shapes.proofs.Joins.{belows_refl}
-use Rattle.bc_progress.specs.bc_flow.Action.{instr_action, op_action, jump_action}
-use Rattle.bc_progress.specs.bc_flow.Edges.{floor, lowest, pushed}
-use Rattle.bc_scheme.specs.bc_machine.Library.{Jumps}
-use Rattle.bc_scheme.specs.Context.{plain}
-use Rattle.bc_scheme.specs.Statements.{Around, deeper, top_bit, StandsJ, jumped, popped, unwound}
+use Rattle.emit_measures.specs.bc_scheme.bc_ops.declared.instr.Op.TheVariants as ops
+use Rattle.bc_resolved.specs.bc_shapes.declared.kinds.Kind.{Kind}
+use Rattle.bc_resolved.specs.bc_shapes.declared.kinds.Kind.TheVariants as kinds
+use Rattle.bc_resolved.specs.bc_shapes.declared.shape.Entry.{Entry}
+use Rattle.bc_resolved.specs.bc_shapes.Shape.{At, cause, also}
+use Rattle.bc_resolved.proofs.bc_shapes_lemmas.Joins.{belows_refl}
+use Rattle.bc_resolved.specs.bc_progress.bc_flow.Action.{instr_action, op_action, jump_action}
+use Rattle.bc_resolved.specs.bc_progress.bc_flow.Edges.{floor, lowest, pushed}
+use Rattle.emit_measures.specs.bc_scheme.bc_machine.Library.{Jumps}
+use Rattle.emit_measures.specs.bc_scheme.Context.{plain}
+use Rattle.emit_measures.specs.bc_scheme.Statements.{Around, deeper, top_bit, StandsJ, jumped, popped, unwound}
 use Rattle.tr_source.proofs.Base.{Setting, Safe, shape, cut, cut_all, cut_more, safe_more, length-more}
 use Rattle.tr_source.proofs.Parts.{Part, p_seq, p_weak, p_calm, Is, p_end}
 use Rattle.tr_source.proofs.Steps.{On, p_straight, p_straight_to, p_jump, p_unwind, p_setup, p_end_finally, waiting, active, iters, calm_waiting, calm_active, turns_entered}

@@ -1,11 +1,11 @@
 -- Sources and what a reference says of them.
 use Rattle.std.proofs.Common.{◌≡◌, List, [], ◌∷◌, codes, map, refl, pos}
-use Rattle.mpy_base.specs.Val.{Int, Str}
-use Rattle.bc_scheme.specs.bc_ops.declared.instr.Op.TheVariants as ops
-use Rattle.bc_scheme.specs.bc_ops.declared.instr.Instr.TheVariants as instrs
-use Rattle.bc_scheme.specs.bc_ops.declared.listing.Target.TheVariants.{Position}
-use Rattle.bc_scheme.specs.mpy_tree.Resolved.{Resolved, plain, named, object, jump, unwind, Body}
-use Rattle.bc_scheme.specs.py_meaning.Tree.{Constant, Named, DictOf, Call, NoExpr, More, NoPair, Pair, NoKey, Key, ToName, Only, Assign, Assert, Return, Def, Block, End, Next}
+use Rattle.bc_resolved.specs.mpy_base.Val.{Int, Str}
+use Rattle.emit_measures.specs.bc_scheme.bc_ops.declared.instr.Op.TheVariants as ops
+use Rattle.emit_measures.specs.bc_scheme.bc_ops.declared.instr.Instr.TheVariants as instrs
+use Rattle.emit_measures.specs.bc_scheme.bc_ops.declared.listing.Target.TheVariants.{Position}
+use Rattle.emit_measures.specs.bc_scheme.mpy_tree.Resolved.{Resolved, plain, named, object, jump, unwind, Body}
+use Rattle.emit_measures.specs.bc_scheme.py_meaning.Tree.{Constant, Named, DictOf, Call, NoExpr, More, NoPair, Pair, NoKey, Key, ToName, Only, Assign, Assert, Return, Def, Block, End, Next}
 use Rattle.tr_source.specs.Nested.{nested}
 use Rattle.tr_source.specs.Within.{most_arguments, most_pairs}
 use Rattle.tr_source.specs.Short.{wide_length}

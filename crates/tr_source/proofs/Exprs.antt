@@ -3,26 +3,26 @@ use Rattle.std.proofs.Common.{◌≡◌, ℕ, zero, suc, ◌+◌, ◌*◌, ◌�
 use Rattle.std.specs.Prelude.{nat_lt, nat_le, bytes_eq}
 use Rattle.std.proofs.lemmas.List.{length-replicate}
 use Rattle.std.proofs.lemmas.List.Quantifiers.{position-Some}
-use Rattle.mpy_base.specs.Val.{Val, Nil, Truth, Int, Str}
-use Rattle.mpy_base.specs.declared.limits.TheConstants.{MAX_ITEMS}
-use Rattle.bc_scheme.specs.bc_ops.declared.instr.Op.{Op}
-use Rattle.bc_scheme.specs.bc_ops.declared.instr.Op.TheVariants as ops
-use Rattle.bc_shapes.specs.declared.kinds.Kind.{Kind}
-use Rattle.bc_shapes.specs.declared.kinds.Kind.TheVariants as kinds
-use Rattle.bc_shapes.specs.declared.kinds.Want.{Want}
-use Rattle.bc_shapes.specs.declared.kinds.Want.TheVariants as wants
-use Rattle.bc_shapes.specs.declared.kinds.Give.TheVariants.{New, Again}
-use Rattle.bc_shapes.specs.declared.shape.Entry.{Entry}
-use Rattle.bc_shapes.specs.Shape.{At, Below, Belows, same, value, also, fits, takes as wanted}
-use Rattle.bc_shapes.proofs.Joins.{belows_refl}
-use Rattle.bc_progress.specs.bc_flow.Action.{Straight, Branch, instr_action, op_action, jump_action, arguments}
-use Rattle.py_tree.specs.declared.expr.CompareOp.{CompareOp}
-use Rattle.bc_scheme.specs.py_meaning.Tree.{Expr, Constant, Named, Unary, Not, Binary, And, Or, Compare, Cond, TupleOf, ListOf, DictOf, Attr, Index, Call, Method, Exprs, NoExpr, More, Links, Link, Pairs, Keys, NoKey, Key, count, key_count, pair_count}
-use Rattle.bc_scheme.specs.bc_machine.Library.{Name, Item, Names, Loads}
-use Rattle.bc_scheme.specs.Context.{Has, plain, number, loads, load_by, slot_of, constant}
-use Rattle.bc_scheme.specs.Expressions.{StandsC, straight, negated, StandsE, literal, name, one, «not», two, «and», «or», compare, chain, cond, tuple, items, dict, attr, index, call, method, StandsEs, no_expr, next, StandsO, no_operand, operand, StandsL, last, link, StandsD, no_pair, pair, StandsK, no_key, key}
-use Rattle.bc_scheme.specs.Heights.{tall, tallest, tall_above, tall_links, tall_pairs, tall_keys}
-use Rattle.bc_progress.specs.Plans.{action_of}
+use Rattle.bc_resolved.specs.mpy_base.Val.{Val, Nil, Truth, Int, Str}
+use Rattle.bc_resolved.specs.mpy_base.declared.limits.TheConstants.{MAX_ITEMS}
+use Rattle.emit_measures.specs.bc_scheme.bc_ops.declared.instr.Op.{Op}
+use Rattle.emit_measures.specs.bc_scheme.bc_ops.declared.instr.Op.TheVariants as ops
+use Rattle.bc_resolved.specs.bc_shapes.declared.kinds.Kind.{Kind}
+use Rattle.bc_resolved.specs.bc_shapes.declared.kinds.Kind.TheVariants as kinds
+use Rattle.bc_resolved.specs.bc_shapes.declared.kinds.Want.{Want}
+use Rattle.bc_resolved.specs.bc_shapes.declared.kinds.Want.TheVariants as wants
+use Rattle.bc_resolved.specs.bc_shapes.declared.kinds.Give.TheVariants.{New, Again}
+use Rattle.bc_resolved.specs.bc_shapes.declared.shape.Entry.{Entry}
+use Rattle.bc_resolved.specs.bc_shapes.Shape.{At, Below, Belows, same, value, also, fits, takes as wanted}
+use Rattle.bc_resolved.proofs.bc_shapes_lemmas.Joins.{belows_refl}
+use Rattle.bc_resolved.specs.bc_progress.bc_flow.Action.{Straight, Branch, instr_action, op_action, jump_action, arguments}
+use Rattle.py_meaning.specs.py_tree.declared.expr.CompareOp.{CompareOp}
+use Rattle.emit_measures.specs.bc_scheme.py_meaning.Tree.{Expr, Constant, Named, Unary, Not, Binary, And, Or, Compare, Cond, TupleOf, ListOf, DictOf, Attr, Index, Call, Method, Exprs, NoExpr, More, Links, Link, Pairs, Keys, NoKey, Key, count, key_count, pair_count}
+use Rattle.emit_measures.specs.bc_scheme.bc_machine.Library.{Name, Item, Names, Loads}
+use Rattle.emit_measures.specs.bc_scheme.Context.{Has, plain, number, loads, load_by, slot_of, constant}
+use Rattle.emit_measures.specs.bc_scheme.Expressions.{StandsC, straight, negated, StandsE, literal, name, one, «not», two, «and», «or», compare, chain, cond, tuple, items, dict, attr, index, call, method, StandsEs, no_expr, next, StandsO, no_operand, operand, StandsL, last, link, StandsD, no_pair, pair, StandsK, no_key, key}
+use Rattle.emit_measures.specs.bc_scheme.Heights.{tall, tallest, tall_above, tall_links, tall_pairs, tall_keys}
+use Rattle.bc_resolved.specs.bc_progress.Plans.{action_of}
 use Rattle.tr_source.specs.Widest.{widest, widest_of, widest_links, widest_pairs, widest_keys}
 use Rattle.tr_source.proofs.Base.{Setting, Safe, shape, safe_more}
 use Rattle.tr_source.proofs.Parts.{Part, p_none, p_seq, p_weak, Is, p_end}

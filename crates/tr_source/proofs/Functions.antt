@@ -1,11 +1,11 @@
 -- The functions in a spelled tree are spelled.
 use Rattle.std.proofs.Common.{ℕ, ◌≤◌, List, [], ◌∷◌, ◌++◌, map, arith}
 use Rattle.std.specs.List.{concat}
-use Rattle.py_tree.specs.declared.stmt.Module.{Module}
-use Rattle.py_tree.specs.Formed.{stmt_lines, IsFormed}
-use Rattle.bc_scheme.specs.py_meaning.Tree as tree
-use Rattle.bc_scheme.specs.py_meaning.Tree.{Function, functions, functions_in, functions_of, functions_by}
-use Rattle.bc_scheme.specs.py_meaning.Plain.{plain_tree}
+use Rattle.py_meaning.specs.py_tree.declared.stmt.Module.{Module}
+use Rattle.py_meaning.specs.py_tree.Formed.{stmt_lines, IsFormed}
+use Rattle.emit_measures.specs.bc_scheme.py_meaning.Tree as tree
+use Rattle.emit_measures.specs.bc_scheme.py_meaning.Tree.{Function, functions, functions_in, functions_of, functions_by}
+use Rattle.emit_measures.specs.bc_scheme.py_meaning.Plain.{plain_tree}
 use Rattle.tr_source.specs.Spelled.{BlockSpelled, StmtSpelled, BranchesSpelled, HandlersSpelled, FunctionsSpelled, TreeSpelled}
 use Rattle.tr_source.proofs.Lines.{end_of, block_up, stmt_up, handlers_up}
 use Rattle.tr_source.proofs.SpelledTrees.{own_spelled}

@@ -2,18 +2,18 @@
 use Rattle.std.proofs.Common.{◌≡◌, ℕ, Bool, true, ◌&&◌, List, map, Option, Some, None, refl, sym, ap, ◌∙◌}
 use Rattle.std.specs.List.{list_all}
 use Rattle.std.proofs.lemmas.List.Folds.{list_all-map}
-use Rattle.py_tree.specs.declared.expr.BinaryOp.{BinaryOp}
-use Rattle.py_tree.specs.declared.expr.Expr.{Expr}
-use Rattle.py_tree.specs.declared.stmt.Alias.{Alias}
-use Rattle.py_tree.specs.declared.stmt.Param.{Param}
-use Rattle.py_tree.specs.declared.stmt.Branch.{Branch, roll-Branch}
-use Rattle.py_tree.specs.declared.stmt.Handler.{Handler, roll-Handler}
-use Rattle.py_tree.specs.declared.stmt.Stmt.{Stmt, roll-Stmt}
-use Rattle.py_tree.specs.declared.stmt.StmtKind.{StmtKind, roll-StmtKind}
-use Rattle.py_tree.specs.declared.stmt.StmtKind.TheOpen.{StmtKind-F}
-use Rattle.py_tree.specs.declared.stmt.StmtKind.TheVariants as s
-use Rattle.py_tree.specs.declared.stmt.StmtKind.TheFolds.{fold-roll-StmtKind, fold-roll-Branch, fold-roll-Handler, fold-roll-Stmt}
-use Rattle.py_tree.specs.declared.stmt.Target.{Target}
+use Rattle.py_meaning.specs.py_tree.declared.expr.BinaryOp.{BinaryOp}
+use Rattle.py_meaning.specs.py_tree.declared.expr.Expr.{Expr}
+use Rattle.py_meaning.specs.py_tree.declared.stmt.Alias.{Alias}
+use Rattle.py_meaning.specs.py_tree.declared.stmt.Param.{Param}
+use Rattle.py_meaning.specs.py_tree.declared.stmt.Branch.{Branch, roll-Branch}
+use Rattle.py_meaning.specs.py_tree.declared.stmt.Handler.{Handler, roll-Handler}
+use Rattle.py_meaning.specs.py_tree.declared.stmt.Stmt.{Stmt, roll-Stmt}
+use Rattle.py_meaning.specs.py_tree.declared.stmt.StmtKind.{StmtKind, roll-StmtKind}
+use Rattle.py_meaning.specs.py_tree.declared.stmt.StmtKind.TheOpen.{StmtKind-F}
+use Rattle.py_meaning.specs.py_tree.declared.stmt.StmtKind.TheVariants as s
+use Rattle.py_meaning.specs.py_tree.declared.stmt.StmtKind.TheFolds.{fold-roll-StmtKind, fold-roll-Branch, fold-roll-Handler, fold-roll-Stmt}
+use Rattle.py_meaning.specs.py_tree.declared.stmt.Target.{Target}
 use Rattle.tr_source.specs.Names.{all_hold, names_undotted, kind_step, branch_step, handler_step, stmt_step, kind_undotted, branch_undotted, handler_undotted, stmt_undotted}
 
 abbrev pub block_undotted : List Stmt → Bool

@@ -1,3 +1,4 @@
+pub use Rattle.emit_measures.proofs.bc_scheme_lemmas
 pub mod Base
 pub mod Blocks
 pub mod Examples

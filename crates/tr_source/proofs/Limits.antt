@@ -1,11 +1,11 @@
 -- The limits of the texts of a source.
 use Rattle.std.proofs.Common.{ℕ, List, [], ◌∷◌}
-use Rattle.py_tree.specs.declared.stmt.Module.{Module}
-use Rattle.bc_scheme.specs.py_meaning.Tree.{Name, Function, functions}
-use Rattle.bc_scheme.specs.py_meaning.Plain.{plain_tree}
-use Rattle.bc_scheme.specs.py_meaning.Program.{Text, source_texts, function_text, function_texts}
-use Rattle.py_scopes.specs.Scopes.{slots_of}
-use Rattle.bc_scheme.specs.py_meaning.Params.{HasSlots, AllHaveSlots}
+use Rattle.py_meaning.specs.py_tree.declared.stmt.Module.{Module}
+use Rattle.emit_measures.specs.bc_scheme.py_meaning.Tree.{Name, Function, functions}
+use Rattle.emit_measures.specs.bc_scheme.py_meaning.Plain.{plain_tree}
+use Rattle.emit_measures.specs.bc_scheme.py_meaning.Program.{Text, source_texts, function_text, function_texts}
+use Rattle.emit_measures.specs.py_scopes.Scopes.{slots_of}
+use Rattle.emit_measures.specs.bc_scheme.py_meaning.Params.{HasSlots, AllHaveSlots}
 use Rattle.tr_source.specs.Limits.{IsLimited, AllLimited}
 use Rattle.tr_source.specs.Within.{IsWithin, AllWithin}
 use Rattle.tr_source.specs.Accepted.{source_of}

@@ -2,8 +2,8 @@
 use Rattle.std.proofs.Common.{◌≡◌, ℕ, ◌≤◌, Bool, true, false, ◌&&◌, List, [], ◌∷◌, ◌++◌, refl, arith}
 use Rattle.std.specs.Prelude.{nat_le}
 use Rattle.std.proofs.lemmas.Bool.{leb-true}
-use Rattle.py_tree.specs.Formed.{never_fall}
-use Rattle.bc_scheme.specs.py_meaning.Tree as tree
+use Rattle.py_meaning.specs.py_tree.Formed.{never_fall}
+use Rattle.emit_measures.specs.bc_scheme.py_meaning.Tree as tree
 use Rattle.tr_source.proofs.SpelledSteps.{and_left, and_right}
 use Rattle.tr_source.specs.Spelled.{BlockSpelled, StmtSpelled, BranchesSpelled, HandlersSpelled}
 

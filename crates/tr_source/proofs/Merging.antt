@@ -1,16 +1,16 @@
 -- The merge of verified modules is verified.
 use Rattle.std.proofs.Common.{◌≡◌, ℕ, zero, suc, ◌+◌, ◌≤◌, List, [], ◌∷◌, ◌++◌, length, map, drop, replicate, refl, sym, ap, subst, arith, zero-le, true}
 use Rattle.std.proofs.lemmas.List.{length-map, length-replicate}
-use Rattle.bc_scheme.specs.bc_ops.declared.instr.Op.TheVariants as ops
-use Rattle.bc_scheme.specs.bc_ops.declared.instr.Instr.TheVariants as instrs
-use Rattle.bc_shapes.specs.declared.kinds.Kind.TheVariants as kinds
-use Rattle.bc_shapes.specs.declared.kinds.Give.TheVariants.{New}
-use Rattle.bc_shapes.proofs.Joins.{belows_refl}
-use Rattle.bc_progress.specs.bc_flow.Action.{instr_action, op_action}
-use Rattle.bc_scheme.specs.mpy_tree.Resolved.{Resolved, ResolvedLine, plain, Body, ResolvedModule}
-use Rattle.bc_scheme.specs.bc_machine.Library.{Line, Plain, item_of, line_of, locals_of}
-use Rattle.bc_scheme.specs.Context.{Context}
-use Rattle.bc_scheme.specs.Merge.{calls, outer_body, on_line_1, trees_of, merge_of}
+use Rattle.emit_measures.specs.bc_scheme.bc_ops.declared.instr.Op.TheVariants as ops
+use Rattle.emit_measures.specs.bc_scheme.bc_ops.declared.instr.Instr.TheVariants as instrs
+use Rattle.bc_resolved.specs.bc_shapes.declared.kinds.Kind.TheVariants as kinds
+use Rattle.bc_resolved.specs.bc_shapes.declared.kinds.Give.TheVariants.{New}
+use Rattle.bc_resolved.proofs.bc_shapes_lemmas.Joins.{belows_refl}
+use Rattle.bc_resolved.specs.bc_progress.bc_flow.Action.{instr_action, op_action}
+use Rattle.emit_measures.specs.bc_scheme.mpy_tree.Resolved.{Resolved, ResolvedLine, plain, Body, ResolvedModule}
+use Rattle.emit_measures.specs.bc_scheme.bc_machine.Library.{Line, Plain, item_of, line_of, locals_of}
+use Rattle.emit_measures.specs.bc_scheme.Context.{Context}
+use Rattle.emit_measures.specs.bc_scheme.Merge.{calls, outer_body, on_line_1, trees_of, merge_of}
 use Rattle.bc_resolved.specs.Operands.{Keeps}
 use Rattle.bc_resolved.specs.Verified.{flow_of, IsVerifiedBody, count_of, AreVerifiedAll, IsVerifiedTree, AllVerifiedTrees}
 use Rattle.tr_source.proofs.Base.{Setting, shape}

@@ -1,15 +1,15 @@
 -- A tree has one code at most: two derivations end at the same positions, and say the same lines.
 use Rattle.std.proofs.Common.{◌≡◌, ℕ, suc, ◌+◌, Bool, true, false, List, Some, refl, sym, ap, ap₂, ◌∙◌, arith, slice_get}
 use Rattle.std.proofs.lemmas.Bool.{false≢true, true≢false}
-use Rattle.bc_scheme.specs.bc_ops.declared.instr.Op.{Op}
-use Rattle.bc_scheme.specs.bc_ops.declared.instr.Op.TheVariants as ops
-use Rattle.py_tree.specs.declared.expr.CompareOp.{CompareOp}
-use Rattle.py_tree.specs.declared.stmt.Alias.{Alias}
-use Rattle.bc_scheme.specs.py_meaning.Tree.{Name, Expr, Exprs, Links, Pairs, Keys, Target, Targets, Stmt, Block, Branches, Handlers}
-use Rattle.bc_scheme.specs.bc_machine.Library.{Item, Line, Code, Jumps, Unwinds}
-use Rattle.bc_scheme.specs.Context.{Context, Behind, number}
-use Rattle.bc_scheme.specs.Expressions.{StandsC, StandsE, StandsEs, StandsO, StandsL, StandsD, StandsK, straight, negated, literal, name, one, «not», two, «and», «or», compare, chain, cond, tuple, items, dict, attr, index, call, method, no_expr, next, no_operand, operand, last, link, no_pair, pair, no_key, key}
-use Rattle.bc_scheme.specs.Statements.{Around, deeper, top_bit, StandsT, StandsTs, StandsA, StandsG, StandsGs, StandsR, StandsM, StandsN, StandsF, StandsJ, StandsDef, StandsS, StandsB, StandsI, StandsX, StandsH, to_name, to_attr, to_index, to_each, one_store, next_store, one_assign, next_assign, gone_name, gone_index, one_gone, next_gone, no_part, part, no_import, imported, no_text, text, no_name, taken, jumped, popped, unwound, bare, with_defaults, «do», assign, aug_name, aug_attr, aug_index, delete, pass, «break», «continue», return_none, «return», reraise, raise, no_assert, no_assert_with, assert, assert_with, «import», from, «if», «while», «for», «try», finally, try_finally, def, no_stmt, stmt, «else», last_branch, branch, «except», no_clause, any, on, on_as}
+use Rattle.emit_measures.specs.bc_scheme.bc_ops.declared.instr.Op.{Op}
+use Rattle.emit_measures.specs.bc_scheme.bc_ops.declared.instr.Op.TheVariants as ops
+use Rattle.py_meaning.specs.py_tree.declared.expr.CompareOp.{CompareOp}
+use Rattle.py_meaning.specs.py_tree.declared.stmt.Alias.{Alias}
+use Rattle.emit_measures.specs.bc_scheme.py_meaning.Tree.{Name, Expr, Exprs, Links, Pairs, Keys, Target, Targets, Stmt, Block, Branches, Handlers}
+use Rattle.emit_measures.specs.bc_scheme.bc_machine.Library.{Item, Line, Code, Jumps, Unwinds}
+use Rattle.emit_measures.specs.bc_scheme.Context.{Context, Behind, number}
+use Rattle.emit_measures.specs.bc_scheme.Expressions.{StandsC, StandsE, StandsEs, StandsO, StandsL, StandsD, StandsK, straight, negated, literal, name, one, «not», two, «and», «or», compare, chain, cond, tuple, items, dict, attr, index, call, method, no_expr, next, no_operand, operand, last, link, no_pair, pair, no_key, key}
+use Rattle.emit_measures.specs.bc_scheme.Statements.{Around, deeper, top_bit, StandsT, StandsTs, StandsA, StandsG, StandsGs, StandsR, StandsM, StandsN, StandsF, StandsJ, StandsDef, StandsS, StandsB, StandsI, StandsX, StandsH, to_name, to_attr, to_index, to_each, one_store, next_store, one_assign, next_assign, gone_name, gone_index, one_gone, next_gone, no_part, part, no_import, imported, no_text, text, no_name, taken, jumped, popped, unwound, bare, with_defaults, «do», assign, aug_name, aug_attr, aug_index, delete, pass, «break», «continue», return_none, «return», reraise, raise, no_assert, no_assert_with, assert, assert_with, «import», from, «if», «while», «for», «try», finally, try_finally, def, no_stmt, stmt, «else», last_branch, branch, «except», no_clause, any, on, on_as}
 use Rattle.tr_source.proofs.Same.{other, Distinct, own_path}
 use Rattle.tr_source.proofs.Same as same
 

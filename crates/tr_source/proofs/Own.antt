@@ -1,9 +1,9 @@
 -- The numbers of a text's functions, in the words of both sides.
 use Rattle.std.proofs.Common.{◌≡◌, ℕ, ◌+◌, List, ◌++◌, map, refl, sym, ap, ◌∙◌, subst}
-use Rattle.bc_scheme.specs.py_meaning.Tree.{Stmt, Do, Assign, AugName, AugAttr, AugIndex, Delete, Pass, Break, Continue, ReturnNone, Return, Reraise, Raise, Assert, AssertWith, Import, From, If, While, For, Try, Finally, TryFinally, Def, Block, End, Next, Branches, Else, Case, Handlers, NoHandler, Any, On, OnAs}
-use Rattle.bc_scheme.specs.py_meaning.Program.{Text}
-use Rattle.bc_scheme.specs.py_meaning.Numbers.{numbers_in, numbers_by, numbers_of, numbers_from, NoneTwice, IsNumbered}
-use Rattle.bc_scheme.specs.Translation.{own, own_in, own_of, own_by}
+use Rattle.emit_measures.specs.bc_scheme.py_meaning.Tree.{Stmt, Do, Assign, AugName, AugAttr, AugIndex, Delete, Pass, Break, Continue, ReturnNone, Return, Reraise, Raise, Assert, AssertWith, Import, From, If, While, For, Try, Finally, TryFinally, Def, Block, End, Next, Branches, Else, Case, Handlers, NoHandler, Any, On, OnAs}
+use Rattle.emit_measures.specs.bc_scheme.py_meaning.Program.{Text}
+use Rattle.emit_measures.specs.bc_scheme.py_meaning.Numbers.{numbers_in, numbers_by, numbers_of, numbers_from, NoneTwice, IsNumbered}
+use Rattle.emit_measures.specs.bc_scheme.Translation.{own, own_in, own_of, own_by}
 
 both : (xs ys us vs : List ℕ) → xs ≡ ys → us ≡ vs → xs ++ us ≡ ys ++ vs
 both xs ys us vs e f = ap (λ z. z ++ us) e ∙ ap (λ z. ys ++ z) f

@@ -1,9 +1,9 @@
 -- Parts of a code: from what is assigned at the first position to what is assigned behind the last.
 use Rattle.std.proofs.Common.{◌≡◌, ℕ, zero, suc, ◌<◌, ◌≤◌, List, [], ◌∷◌, length, drop, Some, ap, subst, arith, slice_get, le_trans, ◌⊎◌, inl, inr}
-use Rattle.bc_shapes.specs.declared.shape.Entry.{Entry}
-use Rattle.bc_shapes.specs.Shape.{At}
-use Rattle.bc_progress.specs.bc_flow.Verified.{Fine}
-use Rattle.bc_scheme.specs.bc_machine.Library.{Line}
+use Rattle.bc_resolved.specs.bc_shapes.declared.shape.Entry.{Entry}
+use Rattle.bc_resolved.specs.bc_shapes.Shape.{At}
+use Rattle.bc_resolved.specs.bc_progress.bc_flow.Verified.{Fine}
+use Rattle.emit_measures.specs.bc_scheme.bc_machine.Library.{Line}
 use Rattle.bc_resolved.specs.Operands.{Keeps, local_in}
 use Rattle.tr_source.proofs.Base.{Setting, Turns}
 

@@ -1,8 +1,8 @@
 -- Two codes whose first lines are the same.
 use Rattle.std.proofs.Common.{◌≡◌, ℕ, zero, suc, ◌<◌, Bool, List, Some, refl, sym, ap, ap₂, ◌∙◌, arith, slice_get, ◌⊎◌, inl, inr}
-use Rattle.bc_scheme.specs.bc_machine.Library.{Item, Line, Code}
-use Rattle.bc_scheme.specs.Context.{Context, Behind, line_before, line_in}
-use Rattle.bc_scheme.specs.Statements.{Around}
+use Rattle.emit_measures.specs.bc_scheme.bc_machine.Library.{Item, Line, Code}
+use Rattle.emit_measures.specs.bc_scheme.Context.{Context, Behind, line_before, line_in}
+use Rattle.emit_measures.specs.bc_scheme.Statements.{Around}
 
 -- the same function with another code, in another module
 abbrev pub other : Context → List Line → List Code → Context

@@ -1,17 +1,17 @@
 -- A source takes no name with a dot.
 use Rattle.std.proofs.Common.{◌≡◌, ℕ, true, List, [], ◌∷◌, sym, ap, subst, ◌∙◌}
 use Rattle.std.specs.List.{list_all}
-use Rattle.py_tokens.specs.declared.token.Tok.TheVariants as tok
-use Rattle.py_tokens.specs.declared.token.Token.{Token}
-use Rattle.py_tokens.specs.Formed.{FormedFrom}
-use Rattle.py_tokens.specs.Tokens.{IsTokens}
-use Rattle.py_tokens.proofs.Fewer.{sources_formed}
-use Rattle.py_tokens.proofs.Named.{tokens_named}
-use Rattle.py_tree.specs.declared.stmt.Module.{Module}
-use Rattle.py_expressions.specs.Input.{at}
-use Rattle.py_expressions.proofs.Formed.{first_is}
-use Rattle.py_parser.specs.Grammar.{IsTree}
-use Rattle.py_parser.proofs.Formed.{next_from, here_from}
+use Rattle.py_source.specs.py_tokens.declared.token.Tok.TheVariants as tok
+use Rattle.py_source.specs.py_tokens.declared.token.Token.{Token}
+use Rattle.py_source.specs.py_tokens.Formed.{FormedFrom}
+use Rattle.py_source.specs.py_tokens.Tokens.{IsTokens}
+use Rattle.py_source.proofs.py_tokens_lemmas.Fewer.{sources_formed}
+use Rattle.py_source.proofs.py_tokens_lemmas.Named.{tokens_named}
+use Rattle.py_meaning.specs.py_tree.declared.stmt.Module.{Module}
+use Rattle.py_source.specs.py_expressions.Input.{at}
+use Rattle.py_source.proofs.py_expressions_lemmas.Formed.{first_is}
+use Rattle.py_source.specs.py_parser.Grammar.{IsTree}
+use Rattle.py_source.proofs.py_parser_lemmas.Formed.{next_from, here_from}
 use Rattle.py_source.specs.declared.source.Accepted.{Accepted}
 use Rattle.py_source.specs.Source.{IsAccepted}
 use Rattle.tr_source.specs.Names.{token_undotted, tokens_undotted, stmt_undotted, TakesUndotted}

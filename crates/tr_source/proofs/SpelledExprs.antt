@@ -3,18 +3,18 @@ use Rattle.std.proofs.Common.{◌≡◌, suc, ◌≤◌, ◌<◌, Bool, true, �
 use Rattle.std.specs.Prelude.{length}
 use Rattle.std.specs.List.{list_all}
 use Rattle.std.proofs.lemmas.List.Elements.{All-nil}
-use Rattle.py_tree.specs.declared.expr.CompareOp.{CompareOp}
-use Rattle.py_tree.specs.declared.expr.Expr.{Expr, roll-Expr, map-Expr}
-use Rattle.py_tree.specs.declared.expr.Expr.TheOpen.{Expr-F}
-use Rattle.py_tree.specs.declared.expr.Expr.TheFolds.{fold-roll-Expr, ind-Expr}
-use Rattle.py_tree.specs.declared.stmt.Param.{Param}
-use Rattle.py_tree.specs.declared.stmt.Target.{Target, roll-Target, map-Target}
-use Rattle.py_tree.specs.declared.stmt.Target.TheOpen.{Target-F}
-use Rattle.py_tree.specs.declared.stmt.Target.TheFolds.{fold-roll-Target, ind-Target}
-use Rattle.py_tree.specs.Formed as formed
-use Rattle.bc_scheme.specs.py_meaning.Tree as tree
-use Rattle.bc_scheme.specs.py_meaning.Tree.{Name}
-use Rattle.bc_scheme.specs.py_meaning.Plain as plain
+use Rattle.py_meaning.specs.py_tree.declared.expr.CompareOp.{CompareOp}
+use Rattle.py_meaning.specs.py_tree.declared.expr.Expr.{Expr, roll-Expr, map-Expr}
+use Rattle.py_meaning.specs.py_tree.declared.expr.Expr.TheOpen.{Expr-F}
+use Rattle.py_meaning.specs.py_tree.declared.expr.Expr.TheFolds.{fold-roll-Expr, ind-Expr}
+use Rattle.py_meaning.specs.py_tree.declared.stmt.Param.{Param}
+use Rattle.py_meaning.specs.py_tree.declared.stmt.Target.{Target, roll-Target, map-Target}
+use Rattle.py_meaning.specs.py_tree.declared.stmt.Target.TheOpen.{Target-F}
+use Rattle.py_meaning.specs.py_tree.declared.stmt.Target.TheFolds.{fold-roll-Target, ind-Target}
+use Rattle.py_meaning.specs.py_tree.Formed as formed
+use Rattle.emit_measures.specs.bc_scheme.py_meaning.Tree as tree
+use Rattle.emit_measures.specs.bc_scheme.py_meaning.Tree.{Name}
+use Rattle.emit_measures.specs.bc_scheme.py_meaning.Plain as plain
 use Rattle.tr_source.proofs.SpelledSteps.{and_left, and_right}
 use Rattle.tr_source.specs.Spelled.{IsSpelled, AreSpelled, LinksSpelled, PairsSpelled, KeysSpelled, TargetSpelled, TargetsSpelled, AllAscii, IsAscii}
 use Rattle.tr_source.proofs.Texts.{ascii, number}

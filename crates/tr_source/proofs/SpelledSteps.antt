@@ -1,15 +1,15 @@
 -- The plain tree of one layer of a parser's tree, whether it is formed, and its lines.
 use Rattle.std.proofs.Common.{◌≡◌, Bool, true, false, ◌&&◌, refl}
-use Rattle.py_tree.specs.declared.stmt.Stmt.{Stmt, map-Stmt}
-use Rattle.py_tree.specs.declared.stmt.Branch.{Branch, map-Branch}
-use Rattle.py_tree.specs.declared.stmt.Handler.{Handler, map-Handler}
-use Rattle.py_tree.specs.declared.stmt.StmtKind.{StmtKind, map-StmtKind}
-use Rattle.py_tree.specs.declared.stmt.StmtKind.TheOpen.{StmtKind-F, Stmt-F, Branch-F, Handler-F}
-use Rattle.py_tree.specs.declared.stmt.StmtKind.TheFolds.{fold-StmtKind, fold-Branch, fold-Handler}
-use Rattle.py_tree.specs.Formed as formed
-use Rattle.py_tree.specs.Formed.{Lines}
-use Rattle.bc_scheme.specs.py_meaning.Tree as tree
-use Rattle.bc_scheme.specs.py_meaning.Plain as plain
+use Rattle.py_meaning.specs.py_tree.declared.stmt.Stmt.{Stmt, map-Stmt}
+use Rattle.py_meaning.specs.py_tree.declared.stmt.Branch.{Branch, map-Branch}
+use Rattle.py_meaning.specs.py_tree.declared.stmt.Handler.{Handler, map-Handler}
+use Rattle.py_meaning.specs.py_tree.declared.stmt.StmtKind.{StmtKind, map-StmtKind}
+use Rattle.py_meaning.specs.py_tree.declared.stmt.StmtKind.TheOpen.{StmtKind-F, Stmt-F, Branch-F, Handler-F}
+use Rattle.py_meaning.specs.py_tree.declared.stmt.StmtKind.TheFolds.{fold-StmtKind, fold-Branch, fold-Handler}
+use Rattle.py_meaning.specs.py_tree.Formed as formed
+use Rattle.py_meaning.specs.py_tree.Formed.{Lines}
+use Rattle.emit_measures.specs.bc_scheme.py_meaning.Tree as tree
+use Rattle.emit_measures.specs.bc_scheme.py_meaning.Plain as plain
 
 pub and_left : (a b : Bool) → (a && b) ≡ true → a ≡ true
 and_left true b e = refl

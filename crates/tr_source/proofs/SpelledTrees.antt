@@ -3,21 +3,21 @@ use Rattle.std.proofs.Common.{◌≡◌, ℕ, suc, ◌+◌, ◌≤◌, Bool, tru
 use Rattle.std.specs.Prelude.{option_map}
 use Rattle.std.specs.List.{list_all, flat_map, concat}
 use Rattle.std.proofs.lemmas.List.Folds.{list_all-map}
-use Rattle.py_tree.specs.declared.expr.BinaryOp.{BinaryOp}
-use Rattle.py_tree.specs.declared.expr.Expr.{Expr}
-use Rattle.py_tree.specs.declared.stmt.Module.{Module}
-use Rattle.py_tree.specs.declared.stmt.Target.{Target}
-use Rattle.py_tree.specs.declared.stmt.Stmt.{Stmt, map-Stmt, roll-Stmt}
-use Rattle.py_tree.specs.declared.stmt.Branch.{Branch, map-Branch, roll-Branch}
-use Rattle.py_tree.specs.declared.stmt.Handler.{Handler, map-Handler, roll-Handler}
-use Rattle.py_tree.specs.declared.stmt.StmtKind.{StmtKind, map-StmtKind, roll-StmtKind}
-use Rattle.py_tree.specs.declared.stmt.StmtKind.TheOpen.{StmtKind-F, Stmt-F, Branch-F, Handler-F}
-use Rattle.py_tree.specs.declared.stmt.StmtKind.TheFolds.{fold-roll-StmtKind, fold-roll-Branch, fold-roll-Handler, fold-roll-Stmt, ind-Stmt}
-use Rattle.py_tree.specs.Formed as formed
-use Rattle.py_tree.specs.Formed.{Lines, IsFormed}
-use Rattle.bc_scheme.specs.py_meaning.Tree as tree
-use Rattle.bc_scheme.specs.py_meaning.Tree.{Name}
-use Rattle.bc_scheme.specs.py_meaning.Plain as plain
+use Rattle.py_meaning.specs.py_tree.declared.expr.BinaryOp.{BinaryOp}
+use Rattle.py_meaning.specs.py_tree.declared.expr.Expr.{Expr}
+use Rattle.py_meaning.specs.py_tree.declared.stmt.Module.{Module}
+use Rattle.py_meaning.specs.py_tree.declared.stmt.Target.{Target}
+use Rattle.py_meaning.specs.py_tree.declared.stmt.Stmt.{Stmt, map-Stmt, roll-Stmt}
+use Rattle.py_meaning.specs.py_tree.declared.stmt.Branch.{Branch, map-Branch, roll-Branch}
+use Rattle.py_meaning.specs.py_tree.declared.stmt.Handler.{Handler, map-Handler, roll-Handler}
+use Rattle.py_meaning.specs.py_tree.declared.stmt.StmtKind.{StmtKind, map-StmtKind, roll-StmtKind}
+use Rattle.py_meaning.specs.py_tree.declared.stmt.StmtKind.TheOpen.{StmtKind-F, Stmt-F, Branch-F, Handler-F}
+use Rattle.py_meaning.specs.py_tree.declared.stmt.StmtKind.TheFolds.{fold-roll-StmtKind, fold-roll-Branch, fold-roll-Handler, fold-roll-Stmt, ind-Stmt}
+use Rattle.py_meaning.specs.py_tree.Formed as formed
+use Rattle.py_meaning.specs.py_tree.Formed.{Lines, IsFormed}
+use Rattle.emit_measures.specs.bc_scheme.py_meaning.Tree as tree
+use Rattle.emit_measures.specs.bc_scheme.py_meaning.Tree.{Name}
+use Rattle.emit_measures.specs.bc_scheme.py_meaning.Plain as plain
 use Rattle.tr_source.proofs.SpelledSteps.{and_left, and_right, plain_kind, plain_branch, plain_handler, plain_of_kind, formed_of_kind, lines_of_kind, plain_of_branch, formed_of_branch, lines_of_branch, plain_of_handler, formed_of_handler, lines_of_handler, plain_of_stmt, formed_of_stmt, lines_of_stmt}
 use Rattle.tr_source.specs.Spelled.{IsSpelled, TargetSpelled, BlockSpelled, StmtSpelled, BranchesSpelled, HandlersSpelled}
 use Rattle.tr_source.proofs.Texts.{ascii, aliases}

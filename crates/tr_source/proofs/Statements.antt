@@ -3,25 +3,25 @@ use Rattle.std.proofs.Common.{◌≡◌, ℕ, Bool, true, ◌&&◌, List, [], �
 use Rattle.std.specs.List.{list_all}
 use Rattle.std.specs.Option.{option_map}
 use Rattle.std.proofs.lemmas.List.Folds.{list_all-append}
-use Rattle.py_tokens.specs.declared.token.Tok.TheVariants as tok
-use Rattle.py_tokens.specs.declared.token.Token.{Token}
-use Rattle.py_tokens.specs.declared.operator.Op.TheVariants as op
-use Rattle.py_tokens.specs.declared.word.Word.TheVariants as word
-use Rattle.py_tokens.specs.Formed.{token_formed}
-use Rattle.py_tree.specs.declared.expr.Expr.{Expr}
-use Rattle.py_tree.specs.declared.stmt.Alias.{Alias}
-use Rattle.py_tree.specs.declared.stmt.Handler.{Handler}
-use Rattle.py_tree.specs.declared.stmt.Stmt.{Stmt}
-use Rattle.py_tree.proofs.Formed.{both}
-use Rattle.py_expressions.specs.Input.{at}
-use Rattle.py_expressions.specs.Grammar as e
-use Rattle.py_expressions.specs.Targets as t
-use Rattle.py_statements.specs.Reading.{line_at, stmt_of}
-use Rattle.py_statements.specs.Grammar.{Name, Dotted, dotted, Renamed, same, renamed, Imported, bare, round, Small, Line, last_semicolon, semicolon, name_text, name_tree, dotted_text, dotted_tree, renamed_text, renamed_tree, series_list, assigned_targets, assigned_value, imported_text, imported_list, message_tree, small_text, small_tree, line_text, line_tree, statement_tree}
-use Rattle.py_statements.proofs.Formed as lines
-use Rattle.py_parser.specs.Clauses.{branch_of, handler_of, may_end, no_parts, with_clause, kind_of}
-use Rattle.py_parser.specs.Grammar as g
-use Rattle.py_parser.proofs.Formed as parser
+use Rattle.py_source.specs.py_tokens.declared.token.Tok.TheVariants as tok
+use Rattle.py_source.specs.py_tokens.declared.token.Token.{Token}
+use Rattle.py_source.specs.py_tokens.declared.operator.Op.TheVariants as op
+use Rattle.py_source.specs.py_tokens.declared.word.Word.TheVariants as word
+use Rattle.py_source.specs.py_tokens.Formed.{token_formed}
+use Rattle.py_meaning.specs.py_tree.declared.expr.Expr.{Expr}
+use Rattle.py_meaning.specs.py_tree.declared.stmt.Alias.{Alias}
+use Rattle.py_meaning.specs.py_tree.declared.stmt.Handler.{Handler}
+use Rattle.py_meaning.specs.py_tree.declared.stmt.Stmt.{Stmt}
+use Rattle.emit_measures.proofs.py_tree_lemmas.Formed.{both}
+use Rattle.py_source.specs.py_expressions.Input.{at}
+use Rattle.py_source.specs.py_expressions.Grammar as e
+use Rattle.py_source.specs.py_expressions.Targets as t
+use Rattle.py_source.specs.py_statements.Reading.{line_at, stmt_of}
+use Rattle.py_source.specs.py_statements.Grammar.{Name, Dotted, dotted, Renamed, same, renamed, Imported, bare, round, Small, Line, last_semicolon, semicolon, name_text, name_tree, dotted_text, dotted_tree, renamed_text, renamed_tree, series_list, assigned_targets, assigned_value, imported_text, imported_list, message_tree, small_text, small_tree, line_text, line_tree, statement_tree}
+use Rattle.py_source.proofs.py_statements_lemmas.Formed as lines
+use Rattle.py_source.specs.py_parser.Clauses.{branch_of, handler_of, may_end, no_parts, with_clause, kind_of}
+use Rattle.py_source.specs.py_parser.Grammar as g
+use Rattle.py_source.proofs.py_parser_lemmas.Formed as parser
 use Rattle.tr_source.specs.Names.{is_undotted, token_undotted, names_undotted, kind_undotted, branch_undotted, handler_undotted, stmt_undotted}
 use Rattle.tr_source.proofs.Layers.{block_undotted, option_undotted, of_stmt, of_Expr, of_Assign, of_Aug, of_Del, of_Pass, of_Break, of_Continue, of_Return, of_Raise, of_Global, of_Import, of_From, of_Assert, of_If, of_While, of_For, of_Def, of_Try, of_branch, of_handler}
 

@@ -4,24 +4,24 @@ use Rattle.std.specs.Prelude.{nat_le}
 use Rattle.std.proofs.lemmas.Bool.{and_from, false≢true, le-leb, lt-ltb, eq-eqb, ne_eqb}
 use Rattle.std.proofs.lemmas.Option.{slice_get-map, slice_get_within}
 use Rattle.std.proofs.lemmas.List.{length-map}
-use Rattle.bc_shapes.specs.declared.kinds.Kind.{Kind}
-use Rattle.bc_shapes.specs.declared.kinds.Kind.TheVariants as kinds
-use Rattle.bc_shapes.specs.declared.kinds.Want.{Want}
-use Rattle.bc_shapes.specs.declared.kinds.Want.TheVariants as wants
-use Rattle.bc_shapes.specs.declared.kinds.Give.{Give}
-use Rattle.bc_shapes.specs.declared.shape.Entry.{Entry}
-use Rattle.bc_shapes.specs.Shape.{At, Belows, stands, fits, after, give_of, takes as values_on, gives as given_on}
-use Rattle.bc_shapes.proofs.Joins.{belows_refl, belows-length}
-use Rattle.bc_progress.specs.bc_flow.Action.{Action, Straight, Branch, Jump, Setup, PopExcept, EndFinally, Unwind, Return, Raise, instr_action, op_action, jump_action, arguments}
-use Rattle.bc_progress.specs.bc_flow.Edges.{takes, gives, gives_there, falls, target, change, runs, floor, lowest, left}
-use Rattle.mpy_base.specs.declared.limits.TheConstants.{MAX_ITEMS}
-use Rattle.bc_scheme.specs.bc_ops.declared.instr.Instr.TheVariants as instrs
-use Rattle.bc_progress.specs.bc_flow.Code.{named}
-use Rattle.bc_scheme.specs.bc_ops.declared.instr.Op.{Op}
-use Rattle.bc_scheme.specs.bc_ops.declared.instr.Op.TheVariants as ops
-use Rattle.bc_scheme.specs.bc_machine.Library.{Line, Item, Plain, Names, Loads, Jumps, Unwinds}
-use Rattle.bc_scheme.specs.Context.{Context, plain}
-use Rattle.bc_progress.specs.Plans.{action_of}
+use Rattle.bc_resolved.specs.bc_shapes.declared.kinds.Kind.{Kind}
+use Rattle.bc_resolved.specs.bc_shapes.declared.kinds.Kind.TheVariants as kinds
+use Rattle.bc_resolved.specs.bc_shapes.declared.kinds.Want.{Want}
+use Rattle.bc_resolved.specs.bc_shapes.declared.kinds.Want.TheVariants as wants
+use Rattle.bc_resolved.specs.bc_shapes.declared.kinds.Give.{Give}
+use Rattle.bc_resolved.specs.bc_shapes.declared.shape.Entry.{Entry}
+use Rattle.bc_resolved.specs.bc_shapes.Shape.{At, Belows, stands, fits, after, give_of, takes as values_on, gives as given_on}
+use Rattle.bc_resolved.proofs.bc_shapes_lemmas.Joins.{belows_refl, belows-length}
+use Rattle.bc_resolved.specs.bc_progress.bc_flow.Action.{Action, Straight, Branch, Jump, Setup, PopExcept, EndFinally, Unwind, Return, Raise, instr_action, op_action, jump_action, arguments}
+use Rattle.bc_resolved.specs.bc_progress.bc_flow.Edges.{takes, gives, gives_there, falls, target, change, runs, floor, lowest, left}
+use Rattle.bc_resolved.specs.mpy_base.declared.limits.TheConstants.{MAX_ITEMS}
+use Rattle.emit_measures.specs.bc_scheme.bc_ops.declared.instr.Instr.TheVariants as instrs
+use Rattle.bc_resolved.specs.bc_progress.bc_flow.Code.{named}
+use Rattle.emit_measures.specs.bc_scheme.bc_ops.declared.instr.Op.{Op}
+use Rattle.emit_measures.specs.bc_scheme.bc_ops.declared.instr.Op.TheVariants as ops
+use Rattle.emit_measures.specs.bc_scheme.bc_machine.Library.{Line, Item, Plain, Names, Loads, Jumps, Unwinds}
+use Rattle.emit_measures.specs.bc_scheme.Context.{Context, plain}
+use Rattle.bc_resolved.specs.bc_progress.Plans.{action_of}
 use Rattle.bc_resolved.specs.Operands.{IsInside, IsThere, local_in, named_in, pairs_in}
 use Rattle.tr_source.proofs.Base.{Setting, Turns, Safe, Shown, shape, cut, cut_all, fine_of, safe_floor, safe_more, length-more}
 use Rattle.tr_source.proofs.Parts.{Right, Calm, Part, p_one, Is}

@@ -1,18 +1,18 @@
 -- Statements and blocks.
 use Rattle.std.proofs.Common.{ℕ, suc, ◌+◌, ◌≤◌, max, true, false, List, [], ◌∷◌, ◌++◌, length, drop, replicate, refl, ap, subst, arith, zero-le, append-nil}
 use Rattle.std.proofs.lemmas.Option.{slice_get_within}
-use Rattle.bc_scheme.specs.bc_ops.declared.instr.Op.TheVariants as ops
-use Rattle.bc_shapes.specs.declared.kinds.Kind.{Kind}
-use Rattle.bc_shapes.specs.declared.kinds.Kind.TheVariants as kinds
-use Rattle.bc_shapes.specs.declared.kinds.Give.TheVariants.{New}
-use Rattle.bc_shapes.specs.declared.shape.Entry.{Entry}
-use Rattle.bc_shapes.specs.Shape.{At, same, value, also}
-use Rattle.bc_shapes.proofs.Joins.{belows_refl}
-use Rattle.bc_progress.specs.bc_flow.Action.{instr_action, op_action, jump_action}
-use Rattle.bc_scheme.specs.py_meaning.Tree.{Exprs, NoExpr, More, count, Stmt, Block, Branches, Handlers, NoHandler, Any, On, OnAs}
-use Rattle.bc_scheme.specs.Context.{plain, stores, deletes, in_place}
-use Rattle.bc_scheme.specs.Statements.{Around, deeper, StandsDef, bare, with_defaults, StandsS, «do», assign, aug_name, aug_attr, aug_index, delete, pass, «break», «continue», return_none, «return», reraise, raise, no_assert, no_assert_with, assert, assert_with, «import», from, «if», «while», «for», «try», finally, try_finally, def, StandsB, no_stmt, stmt, StandsI, «else», last_branch, branch, StandsX, «except», StandsH, no_clause, any, on, on_as}
-use Rattle.bc_scheme.specs.Heights.{tall, tall_defaults, tall_stmt, tall_block, tall_branches, tall_handlers, at_level, held, held_in, held_by, held_of}
+use Rattle.emit_measures.specs.bc_scheme.bc_ops.declared.instr.Op.TheVariants as ops
+use Rattle.bc_resolved.specs.bc_shapes.declared.kinds.Kind.{Kind}
+use Rattle.bc_resolved.specs.bc_shapes.declared.kinds.Kind.TheVariants as kinds
+use Rattle.bc_resolved.specs.bc_shapes.declared.kinds.Give.TheVariants.{New}
+use Rattle.bc_resolved.specs.bc_shapes.declared.shape.Entry.{Entry}
+use Rattle.bc_resolved.specs.bc_shapes.Shape.{At, same, value, also}
+use Rattle.bc_resolved.proofs.bc_shapes_lemmas.Joins.{belows_refl}
+use Rattle.bc_resolved.specs.bc_progress.bc_flow.Action.{instr_action, op_action, jump_action}
+use Rattle.emit_measures.specs.bc_scheme.py_meaning.Tree.{Exprs, NoExpr, More, count, Stmt, Block, Branches, Handlers, NoHandler, Any, On, OnAs}
+use Rattle.emit_measures.specs.bc_scheme.Context.{plain, stores, deletes, in_place}
+use Rattle.emit_measures.specs.bc_scheme.Statements.{Around, deeper, StandsDef, bare, with_defaults, StandsS, «do», assign, aug_name, aug_attr, aug_index, delete, pass, «break», «continue», return_none, «return», reraise, raise, no_assert, no_assert_with, assert, assert_with, «import», from, «if», «while», «for», «try», finally, try_finally, def, StandsB, no_stmt, stmt, StandsI, «else», last_branch, branch, StandsX, «except», StandsH, no_clause, any, on, on_as}
+use Rattle.emit_measures.specs.bc_scheme.Heights.{tall, tall_defaults, tall_stmt, tall_block, tall_branches, tall_handlers, at_level, held, held_in, held_by, held_of}
 use Rattle.tr_source.specs.Widest.{widest, widest_of, widest_stmt, widest_block, widest_branches, widest_handlers}
 use Rattle.tr_source.proofs.Base.{Setting, Safe, shape, safe_more, length-more}
 use Rattle.tr_source.proofs.Parts.{Part, p_none, p_seq, p_weak, p_calm, Is, p_end, p_start}

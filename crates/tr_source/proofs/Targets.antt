@@ -2,22 +2,22 @@
 use Rattle.std.proofs.Common.{◌≡◌, ℕ, zero, suc, ◌+◌, ◌≤◌, Bool, true, false, List, [], ◌∷◌, ◌++◌, length, map, replicate, Option, Some, None, refl, sym, ap, subst, arith, if◌then◌else◌, zero-le, length-append}
 use Rattle.std.specs.Prelude.{nat_lt}
 use Rattle.std.proofs.lemmas.List.{length-replicate}
-use Rattle.bc_scheme.specs.bc_ops.declared.instr.Op.TheVariants as ops
-use Rattle.bc_shapes.specs.declared.kinds.Kind.{Kind}
-use Rattle.bc_shapes.specs.declared.kinds.Kind.TheVariants as kinds
-use Rattle.bc_shapes.specs.declared.kinds.Want.TheVariants as wants
-use Rattle.bc_shapes.specs.declared.shape.Entry.{Entry}
-use Rattle.bc_shapes.specs.Shape.{Belows, same, value, give_of, gives as given}
-use Rattle.bc_shapes.proofs.Joins.{belows_refl}
-use Rattle.bc_progress.specs.bc_flow.Action.{Straight, instr_action, op_action}
-use Rattle.py_tree.specs.declared.stmt.Alias.{Alias}
-use Rattle.bc_scheme.specs.py_meaning.Tree.{Expr, Target, Targets, Only, Then, target_count}
-use Rattle.bc_scheme.specs.bc_machine.Library.{Name, Item, Names}
-use Rattle.bc_scheme.specs.Context.{Has, number, stores, deletes, store_by, delete_by, slot_of}
-use Rattle.bc_scheme.specs.Expressions.{StandsE}
-use Rattle.bc_scheme.specs.Statements.{StandsT, to_name, to_attr, to_index, to_each, StandsTs, one_store, next_store, StandsA, one_assign, next_assign, StandsG, gone_name, gone_index, StandsGs, one_gone, next_gone, StandsR, no_part, part, StandsM, no_import, imported, StandsN, no_text, text, StandsF, no_name, taken}
-use Rattle.bc_scheme.specs.Heights.{tall, tall_store, tall_stores, tall_assign, tall_delete, tall_deletes, tall_import}
-use Rattle.bc_progress.specs.Plans.{action_of}
+use Rattle.emit_measures.specs.bc_scheme.bc_ops.declared.instr.Op.TheVariants as ops
+use Rattle.bc_resolved.specs.bc_shapes.declared.kinds.Kind.{Kind}
+use Rattle.bc_resolved.specs.bc_shapes.declared.kinds.Kind.TheVariants as kinds
+use Rattle.bc_resolved.specs.bc_shapes.declared.kinds.Want.TheVariants as wants
+use Rattle.bc_resolved.specs.bc_shapes.declared.shape.Entry.{Entry}
+use Rattle.bc_resolved.specs.bc_shapes.Shape.{Belows, same, value, give_of, gives as given}
+use Rattle.bc_resolved.proofs.bc_shapes_lemmas.Joins.{belows_refl}
+use Rattle.bc_resolved.specs.bc_progress.bc_flow.Action.{Straight, instr_action, op_action}
+use Rattle.py_meaning.specs.py_tree.declared.stmt.Alias.{Alias}
+use Rattle.emit_measures.specs.bc_scheme.py_meaning.Tree.{Expr, Target, Targets, Only, Then, target_count}
+use Rattle.emit_measures.specs.bc_scheme.bc_machine.Library.{Name, Item, Names}
+use Rattle.emit_measures.specs.bc_scheme.Context.{Has, number, stores, deletes, store_by, delete_by, slot_of}
+use Rattle.emit_measures.specs.bc_scheme.Expressions.{StandsE}
+use Rattle.emit_measures.specs.bc_scheme.Statements.{StandsT, to_name, to_attr, to_index, to_each, StandsTs, one_store, next_store, StandsA, one_assign, next_assign, StandsG, gone_name, gone_index, StandsGs, one_gone, next_gone, StandsR, no_part, part, StandsM, no_import, imported, StandsN, no_text, text, StandsF, no_name, taken}
+use Rattle.emit_measures.specs.bc_scheme.Heights.{tall, tall_store, tall_stores, tall_assign, tall_delete, tall_deletes, tall_import}
+use Rattle.bc_resolved.specs.bc_progress.Plans.{action_of}
 use Rattle.tr_source.specs.Widest.{widest, widest_store, widest_stores}
 use Rattle.tr_source.proofs.Base.{Setting}
 use Rattle.tr_source.proofs.Parts.{p_none}

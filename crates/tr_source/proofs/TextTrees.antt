@@ -2,20 +2,20 @@
 use Rattle.std.proofs.Common.{◌≡◌, ℕ, suc, ◌+◌, true, ◌&&◌, List, [], ◌∷◌, ◌++◌, map, Option, Some, None, refl, sym, ap, subst, ◌∙◌}
 use Rattle.std.specs.Prelude.{option_map}
 use Rattle.std.proofs.lemmas.List.Folds.{list_all-map}
-use Rattle.py_tree.specs.declared.expr.BinaryOp.{BinaryOp}
-use Rattle.py_tree.specs.declared.expr.Expr.{Expr}
-use Rattle.py_tree.specs.declared.stmt.Module.{Module}
-use Rattle.py_tree.specs.declared.stmt.Stmt.{Stmt, map-Stmt, roll-Stmt}
-use Rattle.py_tree.specs.declared.stmt.Branch.{Branch, map-Branch, roll-Branch}
-use Rattle.py_tree.specs.declared.stmt.Handler.{Handler, map-Handler, roll-Handler}
-use Rattle.py_tree.specs.declared.stmt.StmtKind.{StmtKind, map-StmtKind, roll-StmtKind}
-use Rattle.py_tree.specs.declared.stmt.StmtKind.TheOpen.{StmtKind-F, Stmt-F, Branch-F, Handler-F}
-use Rattle.py_tree.specs.declared.stmt.StmtKind.TheFolds.{fold-StmtKind, fold-Branch, fold-Handler, fold-roll-StmtKind, fold-roll-Branch, fold-roll-Handler, fold-roll-Stmt, ind-Stmt}
-use Rattle.bc_scheme.specs.py_meaning.Tree as tree
-use Rattle.bc_scheme.specs.py_meaning.Tree.{Name, Function, functions, functions_in, functions_of, functions_by}
-use Rattle.bc_scheme.specs.py_meaning.Plain as plain
-use Rattle.bc_scheme.specs.py_meaning.Program.{Source, function_texts, source_texts}
-use Rattle.bc_scheme.proofs.py_meaning_lemmas.Acts.{and_left, and_right}
+use Rattle.py_meaning.specs.py_tree.declared.expr.BinaryOp.{BinaryOp}
+use Rattle.py_meaning.specs.py_tree.declared.expr.Expr.{Expr}
+use Rattle.py_meaning.specs.py_tree.declared.stmt.Module.{Module}
+use Rattle.py_meaning.specs.py_tree.declared.stmt.Stmt.{Stmt, map-Stmt, roll-Stmt}
+use Rattle.py_meaning.specs.py_tree.declared.stmt.Branch.{Branch, map-Branch, roll-Branch}
+use Rattle.py_meaning.specs.py_tree.declared.stmt.Handler.{Handler, map-Handler, roll-Handler}
+use Rattle.py_meaning.specs.py_tree.declared.stmt.StmtKind.{StmtKind, map-StmtKind, roll-StmtKind}
+use Rattle.py_meaning.specs.py_tree.declared.stmt.StmtKind.TheOpen.{StmtKind-F, Stmt-F, Branch-F, Handler-F}
+use Rattle.py_meaning.specs.py_tree.declared.stmt.StmtKind.TheFolds.{fold-StmtKind, fold-Branch, fold-Handler, fold-roll-StmtKind, fold-roll-Branch, fold-roll-Handler, fold-roll-Stmt, ind-Stmt}
+use Rattle.emit_measures.specs.bc_scheme.py_meaning.Tree as tree
+use Rattle.emit_measures.specs.bc_scheme.py_meaning.Tree.{Name, Function, functions, functions_in, functions_of, functions_by}
+use Rattle.emit_measures.specs.bc_scheme.py_meaning.Plain as plain
+use Rattle.emit_measures.specs.bc_scheme.py_meaning.Program.{Source, function_texts, source_texts}
+use Rattle.emit_measures.proofs.bc_scheme_lemmas.py_meaning_lemmas.Acts.{and_left, and_right}
 use Rattle.tr_source.specs.Names as names
 use Rattle.emit_measures.specs.Named.{TakesUndotted, StmtTakesUndotted, BranchesTakeUndotted, HandlersTakeUndotted}
 use Rattle.tr_source.specs.Texts.{AllTakeUndotted}

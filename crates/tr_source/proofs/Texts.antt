@@ -3,8 +3,8 @@ use Rattle.std.proofs.Common.{◌≡◌, ℕ, ◌<◌, ◌^◌, ℤ, pos, negsuc
 use Rattle.std.specs.List.{list_all}
 use Rattle.std.proofs.lemmas.Bool.{ltb-true}
 use Rattle.std.proofs.lemmas.List.Elements.{All-nil, All-cons}
-use Rattle.py_tree.specs.declared.stmt.Alias.{Alias}
-use Rattle.py_tree.specs.Formed.{is_ascii, is_number, option_ascii, alias_formed}
+use Rattle.py_meaning.specs.py_tree.declared.stmt.Alias.{Alias}
+use Rattle.py_meaning.specs.py_tree.Formed.{is_ascii, is_number, option_ascii, alias_formed}
 use Rattle.tr_source.proofs.SpelledSteps.{and_left, and_right}
 use Rattle.tr_source.specs.Spelled.{IsAscii, IsNumber, IsAsciiOption, AliasesSpelled}
 

@@ -3,12 +3,12 @@ use Rattle.std.proofs.Common.{◌≡◌, inl, inr, ℕ, ◌≤◌, Bool, true, f
 use Rattle.std.specs.List.{All}
 use Rattle.std.proofs.lemmas.List.Elements.{All-head, All-tail}
 use Rattle.std.proofs.lemmas.Bool.Decides.{eqb_tells}
-use Rattle.py_tokens.specs.declared.token.Tok.{Tok}
-use Rattle.py_tokens.specs.declared.token.Tok.TheVariants as toks
-use Rattle.py_tokens.specs.declared.token.Token.{Token}
-use Rattle.py_tokens.specs.Name.{IsNamePart}
-use Rattle.py_tokens.proofs.Named.{TokNamed, AllNamed}
-use Rattle.py_tree.proofs.Formed.{both}
+use Rattle.py_source.specs.py_tokens.declared.token.Tok.{Tok}
+use Rattle.py_source.specs.py_tokens.declared.token.Tok.TheVariants as toks
+use Rattle.py_source.specs.py_tokens.declared.token.Token.{Token}
+use Rattle.py_source.specs.py_tokens.Name.{IsNamePart}
+use Rattle.py_source.proofs.py_tokens_lemmas.Named.{TokNamed, AllNamed}
+use Rattle.emit_measures.proofs.py_tree_lemmas.Formed.{both}
 use Rattle.tr_source.specs.Names.{is_undotted, token_undotted, tokens_undotted}
 
 pub second_is : (a b : Bool) → (a && b) ≡ true → b ≡ true

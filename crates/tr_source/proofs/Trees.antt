@@ -1,13 +1,13 @@
 -- The codes of a tree.
 use Rattle.std.proofs.Common.{◌≡◌, ℕ, zero, suc, ◌+◌, ◌≤◌, max, Bool, true, false, List, [], ◌∷◌, ◌++◌, length, map, drop, get_or, Some, refl, sym, ap, subst, arith, slice_get, append_assoc, append-nil, Option, None}
 use Rattle.std.proofs.lemmas.List.{length-map}
-use Rattle.bc_scheme.specs.mpy_tree.Resolved.{Resolved, ResolvedLine, plain, named, object, jump, unwind, Body, instrs_of, Tree, node, Trees, no_more, more, ResolvedModule}
-use Rattle.bc_scheme.specs.py_meaning.Program.{Source, Text, source_texts}
-use Rattle.bc_scheme.specs.bc_machine.Library.{Code, Line, item_of, line_of, local_of, locals_of, code_of, numbers_from, codes_from, codes_of, size_of}
-use Rattle.bc_scheme.specs.Context.{Context}
-use Rattle.bc_scheme.specs.Heights.{tall_block}
-use Rattle.bc_scheme.specs.Translation.{StandsCode, HasState, StandAll, HaveStates, bodies, bodies_of, Translates}
-use Rattle.bc_progress.specs.Plans.{action_of}
+use Rattle.emit_measures.specs.bc_scheme.mpy_tree.Resolved.{Resolved, ResolvedLine, plain, named, object, jump, unwind, Body, instrs_of, Tree, node, Trees, no_more, more, ResolvedModule}
+use Rattle.emit_measures.specs.bc_scheme.py_meaning.Program.{Source, Text, source_texts}
+use Rattle.emit_measures.specs.bc_scheme.bc_machine.Library.{Code, Line, item_of, line_of, local_of, locals_of, code_of, numbers_from, codes_from, codes_of, size_of}
+use Rattle.emit_measures.specs.bc_scheme.Context.{Context}
+use Rattle.emit_measures.specs.bc_scheme.Heights.{tall_block}
+use Rattle.emit_measures.specs.bc_scheme.Translation.{StandsCode, HasState, StandAll, HaveStates, bodies, bodies_of, Translates}
+use Rattle.bc_resolved.specs.bc_progress.Plans.{action_of}
 use Rattle.bc_resolved.specs.Operands.{local_in, Keeps}
 use Rattle.bc_resolved.specs.Verified.{flow_of, IsVerifiedBody, count_of, AreVerifiedIn, AreVerifiedAll, IsVerifiedTree}
 use Rattle.tr_source.specs.Limits.{IsLimited, AllLimited, SourceLimited}

@@ -1,13 +1,13 @@
 -- A source has one translation at most.
 use Rattle.std.proofs.Common.{◌≡◌, ℕ, suc, ◌+◌, ◌<◌, Bool, true, false, List, [], ◌∷◌, ◌++◌, length, map, Some, refl, sym, ap, ap₂, ◌∙◌, subst, arith, slice_get, append_assoc, append-nil, unwrap_or}
-use Rattle.bc_scheme.specs.bc_ops.declared.listing.Target.TheVariants.{Position, Offset}
-use Rattle.bc_scheme.specs.mpy_tree.Resolved.{Resolved, ResolvedLine, plain, named, object, jump, unwind, Body, Tree, node, Trees, no_more, more, ResolvedModule}
-use Rattle.bc_scheme.specs.py_meaning.Program.{Source, Text, source_texts}
-use Rattle.bc_scheme.specs.bc_machine.Library.{Code, Item, Plain, Names, Loads, Jumps, Unwinds, Line, item_of, line_of, code_of, numbers_from, codes_from, codes_of, size_of}
-use Rattle.bc_scheme.specs.py_meaning.Numbers.{IsNumbered, AllNumbered}
-use Rattle.bc_scheme.specs.Context.{Context}
-use Rattle.bc_scheme.specs.Statements.{StandsB}
-use Rattle.bc_scheme.specs.Translation.{StandsCode, HasState, StandAll, HaveStates, bodies, bodies_of, Translates}
+use Rattle.emit_measures.specs.bc_scheme.bc_ops.declared.listing.Target.TheVariants.{Position, Offset}
+use Rattle.emit_measures.specs.bc_scheme.mpy_tree.Resolved.{Resolved, ResolvedLine, plain, named, object, jump, unwind, Body, Tree, node, Trees, no_more, more, ResolvedModule}
+use Rattle.emit_measures.specs.bc_scheme.py_meaning.Program.{Source, Text, source_texts}
+use Rattle.emit_measures.specs.bc_scheme.bc_machine.Library.{Code, Item, Plain, Names, Loads, Jumps, Unwinds, Line, item_of, line_of, code_of, numbers_from, codes_from, codes_of, size_of}
+use Rattle.emit_measures.specs.bc_scheme.py_meaning.Numbers.{IsNumbered, AllNumbered}
+use Rattle.emit_measures.specs.bc_scheme.Context.{Context}
+use Rattle.emit_measures.specs.bc_scheme.Statements.{StandsB}
+use Rattle.emit_measures.specs.bc_scheme.Translation.{StandsCode, HasState, StandAll, HaveStates, bodies, bodies_of, Translates}
 use Rattle.bc_resolved.specs.Operands.{IsInside}
 use Rattle.bc_resolved.specs.Verified.{IsVerifiedBody, count_of}
 use Rattle.tr_source.specs.Limits.{AllLimited, SourceLimited}

@@ -1,12 +1,12 @@
 -- The modules of units of accepted sources.
 use Rattle.std.proofs.Common.{◌≡◌, ℕ, List, ◌∷◌, refl, ap, ◌∙◌, subst}
-use Rattle.bc_scheme.specs.mpy_tree.Resolved.{ResolvedModule}
-use Rattle.py_tree.specs.declared.stmt.Module.{Module}
-use Rattle.bc_scheme.specs.py_meaning.Tree.{Name}
-use Rattle.bc_scheme.specs.py_meaning.Program.{Source, Unit, Single, Merge, Units, Part, Parts}
-use Rattle.bc_scheme.specs.Translation.{Translates}
-use Rattle.bc_scheme.specs.Merge.{merge_of}
-use Rattle.bc_scheme.specs.Link.{IsModuleOf, translated, merged, AreModulesOf, last_unit, next_unit}
+use Rattle.emit_measures.specs.bc_scheme.mpy_tree.Resolved.{ResolvedModule}
+use Rattle.py_meaning.specs.py_tree.declared.stmt.Module.{Module}
+use Rattle.emit_measures.specs.bc_scheme.py_meaning.Tree.{Name}
+use Rattle.emit_measures.specs.bc_scheme.py_meaning.Program.{Source, Unit, Single, Merge, Units, Part, Parts}
+use Rattle.emit_measures.specs.bc_scheme.Translation.{Translates}
+use Rattle.emit_measures.specs.bc_scheme.Merge.{merge_of}
+use Rattle.emit_measures.specs.bc_scheme.Link.{IsModuleOf, translated, merged, AreModulesOf, last_unit, next_unit}
 use Rattle.bc_resolved.specs.Verified.{IsVerifiedTree, AllVerifiedTrees}
 use Rattle.tr_source.specs.Accepted.{source_of, IsAccepted}
 use Rattle.tr_source.specs.Units.{IsAcceptedSource, IsAcceptedUnit, AreAcceptedUnits}

@@ -1,18 +1,18 @@
 -- A whole code.
 use Rattle.std.proofs.Common.{◌≡◌, ℕ, suc, ◌<◌, ◌≤◌, max, false, List, [], ◌∷◌, length, drop, Some, refl, sym, ap, ◌∙◌, subst, arith, zero-le, slice_get, length-drop, unwrap_or}
 use Rattle.std.proofs.lemmas.Option.{slice_get_within}
-use Rattle.bc_scheme.specs.bc_ops.declared.instr.Op.TheVariants as ops
-use Rattle.bc_shapes.specs.declared.kinds.Kind.TheVariants as kinds
-use Rattle.bc_shapes.specs.declared.kinds.Give.TheVariants.{New}
-use Rattle.bc_shapes.specs.Shape.{At, none, value, also}
-use Rattle.bc_shapes.proofs.Joins.{under_refl}
-use Rattle.bc_progress.specs.bc_flow.Action.{instr_action, op_action, Return}
-use Rattle.bc_progress.specs.bc_flow.Verified.{Verified, Fine}
-use Rattle.bc_scheme.specs.py_meaning.Tree.{Block}
-use Rattle.bc_scheme.specs.bc_machine.Library.{Line}
-use Rattle.bc_scheme.specs.Context.{Context, Behind, plain}
-use Rattle.bc_scheme.specs.Statements.{Around, StandsB}
-use Rattle.bc_scheme.specs.Heights.{tall_block, held_in}
+use Rattle.emit_measures.specs.bc_scheme.bc_ops.declared.instr.Op.TheVariants as ops
+use Rattle.bc_resolved.specs.bc_shapes.declared.kinds.Kind.TheVariants as kinds
+use Rattle.bc_resolved.specs.bc_shapes.declared.kinds.Give.TheVariants.{New}
+use Rattle.bc_resolved.specs.bc_shapes.Shape.{At, none, value, also}
+use Rattle.bc_resolved.proofs.bc_shapes_lemmas.Joins.{under_refl}
+use Rattle.bc_resolved.specs.bc_progress.bc_flow.Action.{instr_action, op_action, Return}
+use Rattle.bc_resolved.specs.bc_progress.bc_flow.Verified.{Verified, Fine}
+use Rattle.emit_measures.specs.bc_scheme.py_meaning.Tree.{Block}
+use Rattle.emit_measures.specs.bc_scheme.bc_machine.Library.{Line}
+use Rattle.emit_measures.specs.bc_scheme.Context.{Context, Behind, plain}
+use Rattle.emit_measures.specs.bc_scheme.Statements.{Around, StandsB}
+use Rattle.emit_measures.specs.bc_scheme.Heights.{tall_block, held_in}
 use Rattle.bc_resolved.specs.Operands.{Keeps, local_in}
 use Rattle.tr_source.specs.Widest.{widest_block}
 use Rattle.tr_source.proofs.Base.{Setting, shape}

@@ -1,12 +1,12 @@
 -- Accepted sources, but for the limits that are counted on their code.
 use Rattle.std.specs.Prelude.{ℕ, ◌<◌, []}
-use Rattle.mpy_base.specs.declared.limits.TheConstants.{MAX_DEPTH}
-use Rattle.py_tree.specs.declared.stmt.Module.{Module}
-use Rattle.py_tree.specs.Formed.{IsFormed}
-use Rattle.py_scopes.specs.Scopes.{slots_of, IsFaultless}
-use Rattle.bc_scheme.specs.py_meaning.Tree.{Name}
-use Rattle.bc_scheme.specs.py_meaning.Plain.{plain_tree}
-use Rattle.bc_scheme.specs.py_meaning.Program.{Source, source_texts}
+use Rattle.bc_resolved.specs.mpy_base.declared.limits.TheConstants.{MAX_DEPTH}
+use Rattle.py_meaning.specs.py_tree.declared.stmt.Module.{Module}
+use Rattle.py_meaning.specs.py_tree.Formed.{IsFormed}
+use Rattle.emit_measures.specs.py_scopes.Scopes.{slots_of, IsFaultless}
+use Rattle.emit_measures.specs.bc_scheme.py_meaning.Tree.{Name}
+use Rattle.emit_measures.specs.bc_scheme.py_meaning.Plain.{plain_tree}
+use Rattle.emit_measures.specs.bc_scheme.py_meaning.Program.{Source, source_texts}
 use Rattle.tr_source.specs.Nested.{nested}
 use Rattle.tr_source.specs.Within.{AllWithin}
 

@@ -1,9 +1,9 @@
 -- What a source is compiled to.
 use Rattle.std.specs.Prelude.{ℕ}
-use Rattle.py_tree.specs.declared.stmt.Module.{Module}
-use Rattle.bc_scheme.specs.py_meaning.Tree.{Name}
-use Rattle.bc_scheme.specs.mpy_tree.Resolved.{ResolvedModule}
-use Rattle.bc_scheme.specs.Translation.{Translates}
+use Rattle.py_meaning.specs.py_tree.declared.stmt.Module.{Module}
+use Rattle.emit_measures.specs.bc_scheme.py_meaning.Tree.{Name}
+use Rattle.emit_measures.specs.bc_scheme.mpy_tree.Resolved.{ResolvedModule}
+use Rattle.emit_measures.specs.bc_scheme.Translation.{Translates}
 use Rattle.tr_source.specs.Accepted.{source_of, IsAccepted}
 use Rattle.tr_source.specs.Short.{IsShort}
 

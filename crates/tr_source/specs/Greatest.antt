@@ -1,8 +1,8 @@
 -- The greatest measure of a call or a dict display that stands in a text, code that is never reached included. From level 1 on an
 -- assertion has no code.
 use Rattle.std.specs.Prelude.{ℕ, max}
-use Rattle.bc_scheme.specs.py_meaning.Tree.{Expr, Constant, Named, Unary, Not, Binary, And, Or, Compare, Cond, TupleOf, ListOf, DictOf, Attr, Index, Call, Method, Exprs, NoExpr, More, Links, Last, Link, Pairs, NoPair, Pair, Keys, NoKey, Key, Target, ToName, ToAttr, ToIndex, ToEach, Targets, Only, Then, Stmt, Do, Assign, AugName, AugAttr, AugIndex, Delete, Return, Raise, Assert, AssertWith, If, While, For, Try, Finally, TryFinally, Def, Block, End, Next, Branches, Else, Case, Handlers, NoHandler, Any, On, OnAs}
-use Rattle.bc_scheme.specs.Heights.{at_level}
+use Rattle.emit_measures.specs.bc_scheme.py_meaning.Tree.{Expr, Constant, Named, Unary, Not, Binary, And, Or, Compare, Cond, TupleOf, ListOf, DictOf, Attr, Index, Call, Method, Exprs, NoExpr, More, Links, Last, Link, Pairs, NoPair, Pair, Keys, NoKey, Key, Target, ToName, ToAttr, ToIndex, ToEach, Targets, Only, Then, Stmt, Do, Assign, AugName, AugAttr, AugIndex, Delete, Return, Raise, Assert, AssertWith, If, While, For, Try, Finally, TryFinally, Def, Block, End, Next, Branches, Else, Case, Handlers, NoHandler, Any, On, OnAs}
+use Rattle.emit_measures.specs.bc_scheme.Heights.{at_level}
 
 -- what a call measures, by its arguments and keywords, and what a dict display does, by its pairs
 module _ (of_call : Exprs → Keys → ℕ) (of_dict : Pairs → ℕ) where

@@ -1,9 +1,9 @@
 -- What is known of an accepted source: the limits, and that a function's locals begin with its parameters.
 use Rattle.std.specs.Prelude.{◌+◌, ◌≤◌, max, List, [], ◌∷◌, length}
-use Rattle.mpy_base.specs.declared.limits.TheConstants.{MAX_ITEMS}
-use Rattle.bc_scheme.specs.py_meaning.Program.{Source, Text, source_texts}
-use Rattle.bc_scheme.specs.py_meaning.Params.{HasSlots}
-use Rattle.bc_scheme.specs.Heights.{held_in, tall_block}
+use Rattle.bc_resolved.specs.mpy_base.declared.limits.TheConstants.{MAX_ITEMS}
+use Rattle.emit_measures.specs.bc_scheme.py_meaning.Program.{Source, Text, source_texts}
+use Rattle.emit_measures.specs.bc_scheme.py_meaning.Params.{HasSlots}
+use Rattle.emit_measures.specs.bc_scheme.Heights.{held_in, tall_block}
 use Rattle.tr_source.specs.Widest.{widest_block}
 
 -- a text keeps the limits that its verified code asks for

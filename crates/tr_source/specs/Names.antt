@@ -1,17 +1,17 @@
 -- Names without a dot, among tokens and among what a tree takes from modules.
 use Rattle.std.specs.Prelude.{◌≡◌, ℕ, Bool, true, not, ◌&&◌, List, Option, Some, None, nat_eq}
 use Rattle.std.specs.List.{list_all}
-use Rattle.py_tokens.specs.declared.token.Tok.{Tok}
-use Rattle.py_tokens.specs.declared.token.Tok.TheVariants as toks
-use Rattle.py_tokens.specs.declared.token.Token.{Token}
-use Rattle.py_tree.specs.declared.stmt.Alias.{Alias}
-use Rattle.py_tree.specs.declared.stmt.Branch.{Branch}
-use Rattle.py_tree.specs.declared.stmt.Handler.{Handler}
-use Rattle.py_tree.specs.declared.stmt.Module.{Module}
-use Rattle.py_tree.specs.declared.stmt.Stmt.{Stmt}
-use Rattle.py_tree.specs.declared.stmt.StmtKind.{StmtKind}
-use Rattle.py_tree.specs.declared.stmt.StmtKind.TheOpen.{StmtKind-F, Stmt-F, Branch-F, Handler-F}
-use Rattle.py_tree.specs.declared.stmt.StmtKind.TheFolds.{fold-StmtKind, fold-Branch, fold-Handler, fold-Stmt}
+use Rattle.py_source.specs.py_tokens.declared.token.Tok.{Tok}
+use Rattle.py_source.specs.py_tokens.declared.token.Tok.TheVariants as toks
+use Rattle.py_source.specs.py_tokens.declared.token.Token.{Token}
+use Rattle.py_meaning.specs.py_tree.declared.stmt.Alias.{Alias}
+use Rattle.py_meaning.specs.py_tree.declared.stmt.Branch.{Branch}
+use Rattle.py_meaning.specs.py_tree.declared.stmt.Handler.{Handler}
+use Rattle.py_meaning.specs.py_tree.declared.stmt.Module.{Module}
+use Rattle.py_meaning.specs.py_tree.declared.stmt.Stmt.{Stmt}
+use Rattle.py_meaning.specs.py_tree.declared.stmt.StmtKind.{StmtKind}
+use Rattle.py_meaning.specs.py_tree.declared.stmt.StmtKind.TheOpen.{StmtKind-F, Stmt-F, Branch-F, Handler-F}
+use Rattle.py_meaning.specs.py_tree.declared.stmt.StmtKind.TheFolds.{fold-StmtKind, fold-Branch, fold-Handler, fold-Stmt}
 
 -- no byte of the name is a dot, 46
 abbrev pub is_undotted : List ℕ → Bool

@@ -1,6 +1,6 @@
 -- No two functions of a text have the same number.
-use Rattle.bc_scheme.specs.py_meaning.Program.{Source, source_texts}
-use Rattle.bc_scheme.specs.py_meaning.Numbers.{AllNumbered}
+use Rattle.emit_measures.specs.bc_scheme.py_meaning.Program.{Source, source_texts}
+use Rattle.emit_measures.specs.bc_scheme.py_meaning.Numbers.{AllNumbered}
 
 -- no two functions of one text of the source have the same number
 abbrev pub SourceNumbered : Source → Type 0

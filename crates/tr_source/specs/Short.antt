@@ -1,21 +1,21 @@
 -- The limits that are counted on the code of a translation.
 use Rattle.std.specs.Prelude.{◌≡◌, ℕ, ◌≤◌, List, All, map, ℤ, pos, negsuc, true, nat_lt, if◌then◌else◌}
 use Rattle.std.specs.List.{sum}
-use Rattle.mpy_base.specs.declared.limits.TheConstants.{MAX_DEPTH, MAX_WIDE_LENGTH}
-use Rattle.bc_scheme.specs.bc_ops.declared.instr.Op.{Op}
-use Rattle.bc_scheme.specs.bc_ops.declared.instr.Op.TheVariants as ops
-use Rattle.bc_scheme.specs.bc_ops.declared.instr.Instr.{Instr}
-use Rattle.bc_scheme.specs.bc_ops.declared.instr.Instr.TheVariants as instrs
-use Rattle.bc_scheme.specs.bc_ops.declared.listing.Item.{Item}
-use Rattle.bc_scheme.specs.bc_ops.Listing.{IsListOf}
-use Rattle.bc_verify.specs.bc_prelude.declared.prelude.Prelude.{Prelude}
-use Rattle.bc_verify.specs.bc_prelude.Prelude.{Begins}
-use Rattle.bc_scheme.specs.mpy_tree.Raw.{Module}
-use Rattle.bc_scheme.specs.mpy_tree.File.{IsFile}
-use Rattle.bc_scheme.specs.mpy_tree.Resolved.{Resolved, plain, named, object, jump, unwind, Body, instrs_of, ResolvedModule, Resolves}
-use Rattle.bc_scheme.specs.mpy_tree.Canonical.{AllCodes, Canonical}
-use Rattle.bc_scheme.specs.mpy_tree.FirstUse.{InFirstUse}
-use Rattle.bc_scheme.specs.Translation.{bodies}
+use Rattle.bc_resolved.specs.mpy_base.declared.limits.TheConstants.{MAX_DEPTH, MAX_WIDE_LENGTH}
+use Rattle.emit_measures.specs.bc_scheme.bc_ops.declared.instr.Op.{Op}
+use Rattle.emit_measures.specs.bc_scheme.bc_ops.declared.instr.Op.TheVariants as ops
+use Rattle.emit_measures.specs.bc_scheme.bc_ops.declared.instr.Instr.{Instr}
+use Rattle.emit_measures.specs.bc_scheme.bc_ops.declared.instr.Instr.TheVariants as instrs
+use Rattle.emit_measures.specs.bc_scheme.bc_ops.declared.listing.Item.{Item}
+use Rattle.emit_measures.specs.bc_scheme.bc_ops.Listing.{IsListOf}
+use Rattle.bc_resolved.specs.bc_verify.bc_prelude.declared.prelude.Prelude.{Prelude}
+use Rattle.bc_resolved.specs.bc_verify.bc_prelude.Prelude.{Begins}
+use Rattle.emit_measures.specs.bc_scheme.mpy_tree.Raw.{Module}
+use Rattle.emit_measures.specs.bc_scheme.mpy_tree.File.{IsFile}
+use Rattle.emit_measures.specs.bc_scheme.mpy_tree.Resolved.{Resolved, plain, named, object, jump, unwind, Body, instrs_of, ResolvedModule, Resolves}
+use Rattle.emit_measures.specs.bc_scheme.mpy_tree.Canonical.{AllCodes, Canonical}
+use Rattle.emit_measures.specs.bc_scheme.mpy_tree.FirstUse.{InFirstUse}
+use Rattle.emit_measures.specs.bc_scheme.Translation.{bodies}
 
 -- the wide length: a byte for each instruction, three for the number of an operand, five for an integer, two for an offset, and
 -- one for an unwinding byte. What stands inside the first byte takes no other

@@ -1,6 +1,6 @@
 -- Texts that take no name with a dot.
 use Rattle.std.specs.Prelude.{List, [], ◌∷◌}
-use Rattle.bc_scheme.specs.py_meaning.Program.{Text}
+use Rattle.emit_measures.specs.bc_scheme.py_meaning.Program.{Text}
 use Rattle.emit_measures.specs.Named.{TakesUndotted}
 
 -- no text takes a name with a dot from a module

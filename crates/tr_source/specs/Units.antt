@@ -1,7 +1,7 @@
 -- Units whose sources are accepted.
 use Rattle.std.specs.Prelude.{◌≡◌}
-use Rattle.py_tree.specs.declared.stmt.Module.{Module}
-use Rattle.bc_scheme.specs.py_meaning.Program.{Source, Unit, Single, Merge, Units, Part, Parts}
+use Rattle.py_meaning.specs.py_tree.declared.stmt.Module.{Module}
+use Rattle.emit_measures.specs.bc_scheme.py_meaning.Program.{Source, Unit, Single, Merge, Units, Part, Parts}
 use Rattle.tr_source.specs.Accepted.{source_of, IsAccepted}
 
 -- the source of an accepted tree

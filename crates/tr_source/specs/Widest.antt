@@ -1,7 +1,7 @@
 -- How many positional arguments the calls of a text have at most, and how many pairs past 3,841 its dict displays: one bound of
 -- 255 keeps both limits.
 use Rattle.std.specs.Prelude.{ℕ, ◌-◌}
-use Rattle.bc_scheme.specs.py_meaning.Tree.{Expr, Exprs, Links, Pairs, Keys, count, pair_count, Target, Targets, Stmt, Block, Branches, Handlers}
+use Rattle.emit_measures.specs.bc_scheme.py_meaning.Tree.{Expr, Exprs, Links, Pairs, Keys, count, pair_count, Target, Targets, Stmt, Block, Branches, Handlers}
 use Rattle.tr_source.specs.Greatest as greatest
 
 -- what a call counts

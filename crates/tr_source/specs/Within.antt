@@ -1,9 +1,9 @@
 -- The limits that are counted on the tree of a text.
 use Rattle.std.specs.Prelude.{ℕ, ◌+◌, ◌≤◌, max, List, [], ◌∷◌, length}
-use Rattle.mpy_base.specs.declared.limits.TheConstants.{MAX_STATE, MAX_ARGUMENTS, MAX_ITEMS}
-use Rattle.bc_scheme.specs.py_meaning.Tree.{Block, count, pair_count, key_count}
-use Rattle.bc_scheme.specs.py_meaning.Program.{Text}
-use Rattle.bc_scheme.specs.Heights.{held_in, tall_block}
+use Rattle.bc_resolved.specs.mpy_base.declared.limits.TheConstants.{MAX_STATE, MAX_ARGUMENTS, MAX_ITEMS}
+use Rattle.emit_measures.specs.bc_scheme.py_meaning.Tree.{Block, count, pair_count, key_count}
+use Rattle.emit_measures.specs.bc_scheme.py_meaning.Program.{Text}
+use Rattle.emit_measures.specs.bc_scheme.Heights.{held_in, tall_block}
 use Rattle.tr_source.specs.Greatest.{greatest_block}
 
 -- the most positional arguments of a call, or keyword arguments

@@ -1,16 +1,16 @@
 //! An accepted source keeps what translations ask of it.
 
 ghost use Rattle.std.specs.Prelude.{◌≡◌, ℕ, []};
-ghost use Rattle.bc_scheme.specs.mpy_tree.Raw as raw;
-ghost use Rattle.bc_scheme.specs.mpy_tree.Resolved.{ResolvedModule, Resolves};
-ghost use Rattle.py_tree.specs.declared.stmt.Module.{Module};
-ghost use Rattle.bc_scheme.specs.py_meaning.Tree.{Name};
-ghost use Rattle.bc_scheme.specs.py_meaning.Program.{Unit, source_texts};
-ghost use Rattle.bc_scheme.specs.Link.{IsModuleOf};
-ghost use Rattle.bc_scheme.specs.Translation.{Translates};
-ghost use Rattle.bc_verify.specs.Verified.{IsVerified};
-ghost use Rattle.bc_scheme.specs.bc_machine.Library.{module_of};
-ghost use Rattle.bc_progress.specs.Plans.{Plan, IsVerifiedModule};
+ghost use Rattle.emit_measures.specs.bc_scheme.mpy_tree.Raw as raw;
+ghost use Rattle.emit_measures.specs.bc_scheme.mpy_tree.Resolved.{ResolvedModule, Resolves};
+ghost use Rattle.py_meaning.specs.py_tree.declared.stmt.Module.{Module};
+ghost use Rattle.emit_measures.specs.bc_scheme.py_meaning.Tree.{Name};
+ghost use Rattle.emit_measures.specs.bc_scheme.py_meaning.Program.{Unit, source_texts};
+ghost use Rattle.emit_measures.specs.bc_scheme.Link.{IsModuleOf};
+ghost use Rattle.emit_measures.specs.bc_scheme.Translation.{Translates};
+ghost use Rattle.bc_resolved.specs.bc_verify.Verified.{IsVerified};
+ghost use Rattle.emit_measures.specs.bc_scheme.bc_machine.Library.{module_of};
+ghost use Rattle.bc_resolved.specs.bc_progress.Plans.{Plan, IsVerifiedModule};
 ghost use Rattle.bc_resolved.specs.Verified.{IsVerifiedTree};
 ghost use Rattle.tr_source.specs.Limits.{SourceLimited};
 ghost use Rattle.tr_source.specs.Numbered.{SourceNumbered};

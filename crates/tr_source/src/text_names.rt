@@ -1,9 +1,9 @@
 //! The names that the texts of a source take from modules.
 
 ghost use Rattle.std.specs.Prelude.{◌≡◌, ℕ};
-ghost use Rattle.py_tree.specs.declared.stmt.Module.{Module};
-ghost use Rattle.bc_scheme.specs.py_meaning.Plain.{plain_tree};
-ghost use Rattle.bc_scheme.specs.py_meaning.Program.{Source, source_texts};
+ghost use Rattle.py_meaning.specs.py_tree.declared.stmt.Module.{Module};
+ghost use Rattle.emit_measures.specs.bc_scheme.py_meaning.Plain.{plain_tree};
+ghost use Rattle.emit_measures.specs.bc_scheme.py_meaning.Program.{Source, source_texts};
 ghost use Rattle.tr_source.specs.Names.{TakesUndotted};
 ghost use Rattle.tr_source.specs.Texts.{AllTakeUndotted};
 

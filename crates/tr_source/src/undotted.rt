@@ -1,11 +1,11 @@
 //! The names that a source takes from modules.
 
 ghost use Rattle.std.specs.Prelude.{◌≡◌, ℕ, List, true};
-ghost use Rattle.py_tokens.specs.declared.token.Token.{Token};
-ghost use Rattle.py_tokens.specs.Formed.{AreFormed};
-ghost use Rattle.py_tokens.specs.Tokens.{IsTokens};
-ghost use Rattle.py_tree.specs.declared.stmt.Module.{Module as Tree};
-ghost use Rattle.py_parser.specs.Grammar.{IsTree};
+ghost use Rattle.py_source.specs.py_tokens.declared.token.Token.{Token};
+ghost use Rattle.py_source.specs.py_tokens.Formed.{AreFormed};
+ghost use Rattle.py_source.specs.py_tokens.Tokens.{IsTokens};
+ghost use Rattle.py_meaning.specs.py_tree.declared.stmt.Module.{Module as Tree};
+ghost use Rattle.py_source.specs.py_parser.Grammar.{IsTree};
 ghost use Rattle.py_source.specs.declared.source.Accepted.{Accepted as Found};
 ghost use Rattle.py_source.specs.Source.{IsAccepted};
 ghost use Rattle.tr_source.specs.Names.{tokens_undotted, TakesUndotted};

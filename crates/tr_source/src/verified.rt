@@ -1,14 +1,14 @@
 //! A translation is verified, and a source has one translation at most.
 
 ghost use Rattle.std.specs.Prelude.{◌≡◌, List, ◌∷◌};
-ghost use Rattle.bc_scheme.specs.mpy_tree.Resolved.{ResolvedModule};
-ghost use Rattle.bc_scheme.specs.py_meaning.Program.{Source};
-ghost use Rattle.bc_scheme.specs.py_meaning.Tree.{Block};
-ghost use Rattle.bc_scheme.specs.py_meaning.Numbers.{numbers_in};
-ghost use Rattle.bc_scheme.specs.Translation.{own, Translates};
+ghost use Rattle.emit_measures.specs.bc_scheme.mpy_tree.Resolved.{ResolvedModule};
+ghost use Rattle.emit_measures.specs.bc_scheme.py_meaning.Program.{Source};
+ghost use Rattle.emit_measures.specs.bc_scheme.py_meaning.Tree.{Block};
+ghost use Rattle.emit_measures.specs.bc_scheme.py_meaning.Numbers.{numbers_in};
+ghost use Rattle.emit_measures.specs.bc_scheme.Translation.{own, Translates};
 ghost use Rattle.tr_source.specs.Limits.{SourceLimited};
 ghost use Rattle.tr_source.specs.Numbered.{SourceNumbered};
-ghost use Rattle.bc_scheme.specs.Merge.{merge_of};
+ghost use Rattle.emit_measures.specs.bc_scheme.Merge.{merge_of};
 ghost use Rattle.bc_resolved.specs.Verified.{IsVerifiedTree, AllVerifiedTrees};
 
 /// A translation of a source that keeps the limits is verified.

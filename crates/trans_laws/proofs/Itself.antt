@@ -1,6 +1,6 @@
 -- A tree fits itself.
 use Rattle.std.proofs.Common.{ℕ, ◌≤◌, refl, arith}
-use Rattle.bc_scheme.specs.mpy_tree.Resolved.{Body, Tree, node, Trees, no_more, more}
+use Rattle.tr_source.specs.bc_scheme.mpy_tree.Resolved.{Body, Tree, node, Trees, no_more, more}
 use Rattle.trans_parts.specs.Comparing.{AllServe, parts, single, FitsTree, FitTrees}
 
 self_room : (n : ℕ) → n ≤ n

@@ -2,17 +2,17 @@
 #![tactic(auto)]
 
 ghost use Rattle.std.specs.Prelude.{◌≡◌, ◌≤◌, ℕ, List, Option};
-ghost use Rattle.mpy_base.specs.World.{PortState};
-ghost use Rattle.bc_scheme.specs.mpy_tree.Raw as raw;
-ghost use Rattle.bc_scheme.specs.mpy_tree.Resolved.{ResolvedModule, Resolves};
-ghost use Rattle.bc_progress.specs.bc_flow.Code as flow;
-ghost use Rattle.bc_progress.specs.bc_flow.Verified.{Verified};
-ghost use Rattle.bc_scheme.specs.bc_machine.Library.{Name, module_of};
-ghost use Rattle.bc_scheme.specs.bc_machine.Machine.{run};
-ghost use Rattle.bc_verify.specs.Verified.{IsVerified};
+ghost use Rattle.tr_source.specs.mpy_base.World.{PortState};
+ghost use Rattle.tr_source.specs.bc_scheme.mpy_tree.Raw as raw;
+ghost use Rattle.tr_source.specs.bc_scheme.mpy_tree.Resolved.{ResolvedModule, Resolves};
+ghost use Rattle.bc_resolved.specs.bc_progress.bc_flow.Code as flow;
+ghost use Rattle.bc_resolved.specs.bc_progress.bc_flow.Verified.{Verified};
+ghost use Rattle.tr_source.specs.bc_scheme.bc_machine.Library.{Name, module_of};
+ghost use Rattle.tr_source.specs.bc_scheme.bc_machine.Machine.{run};
+ghost use Rattle.bc_resolved.specs.bc_verify.Verified.{IsVerified};
 ghost use Rattle.bc_resolved.specs.Verified.{IsVerifiedTree};
-ghost use Rattle.py_tree.specs.declared.stmt.Module.{Module};
-ghost use Rattle.bc_scheme.specs.Translation.{Translates};
+ghost use Rattle.tr_source.specs.py_tree.declared.stmt.Module.{Module};
+ghost use Rattle.tr_source.specs.bc_scheme.Translation.{Translates};
 ghost use Rattle.tr_source.specs.Accepted.{source_of, IsAccepted};
 ghost use Rattle.trans_parts.specs.Comparing.{FitsTree};
 ghost use Rattle.trans_laws.specs.Alike.{AlikeModule, AllAlike, library_of};

@@ -1,8 +1,8 @@
 -- What an operator gives over two numbers, as values.
 use Rattle.std.proofs.Common.{◌≡◌, ℕ, ℤ, Bool, subst, sym, arith}
-use Rattle.mpy_base.specs.Val.{Val, Int, Truth}
-use Rattle.prim_assignments.specs.arena_heap.declared.value.Value.TheVariants as values
-use Rattle.prim_assignments.specs.arena_heap.Values.{IsSmall}
+use Rattle.state_values.specs.mpy_base.Val.{Val, Int, Truth}
+use Rattle.state_values.specs.prim_assignments.arena_heap.declared.value.Value.TheVariants as values
+use Rattle.state_values.specs.prim_assignments.arena_heap.Values.{IsSmall}
 use Rattle.vm_at_once.specs.Numbers.{Gives, IsAnswer}
 
 module _ (number : ℕ) (left right x y : ℤ) (is_left : x ≡ left) (is_right : y ≡ right) where

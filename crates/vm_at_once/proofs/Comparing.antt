@@ -3,14 +3,14 @@ use Rattle.std.proofs.Common.{◌≡◌, ℕ, ℤ, Bool, Some, Ok, Result, refl,
 use Rattle.std.specs.Prelude.{not}
 use Rattle.std.specs.declared.cmp.Ordering.{Ordering}
 use Rattle.std.specs.Ordering.{int_cmp, int_eq}
-use Rattle.mpy_base.specs.Val.{Val, Int, Truth}
-use Rattle.bc_progress.specs.py_values.Shown.{PlainHeap}
-use Rattle.bc_progress.specs.py_values.Equality.{Walk}
-use Rattle.bc_progress.specs.py_primitives.Order.{Sign, Unordered, has_sign}
-use Rattle.bc_progress.specs.py_primitives.Outcome.{Outcome, gives, after_walk}
-use Rattle.bc_progress.specs.py_primitives.Operators.{op_order, op_eq, op_ne, gives_order}
-use Rattle.bc_progress.specs.bc_machine.Operations.{operator_at}
-use Rattle.prim_comparisons.proofs.TwoNumbers.{ordered_as, equal_as}
+use Rattle.state_values.specs.mpy_base.Val.{Val, Int, Truth}
+use Rattle.state_values.specs.bc_progress.py_values.Shown.{PlainHeap}
+use Rattle.state_values.specs.bc_progress.py_values.Equality.{Walk}
+use Rattle.state_values.specs.bc_progress.py_primitives.Order.{Sign, Unordered, has_sign}
+use Rattle.state_values.specs.bc_progress.py_primitives.Outcome.{Outcome, gives, after_walk}
+use Rattle.state_values.specs.bc_progress.py_primitives.Operators.{op_order, op_eq, op_ne, gives_order}
+use Rattle.state_values.specs.bc_progress.bc_machine.Operations.{operator_at}
+use Rattle.state_values.proofs.prim_comparisons_lemmas.TwoNumbers.{ordered_as, equal_as}
 use Rattle.vm_at_once.specs.Numbers.{Gives}
 
 abbrev truth_of : PlainHeap → Bool → Outcome Val

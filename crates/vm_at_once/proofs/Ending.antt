@@ -1,12 +1,12 @@
 -- What an instruction acts as that puts a value, or takes slots.
 use Rattle.std.proofs.Common.{◌≡◌, ℕ, List, ◌∷◌, drop, Option, All, Result, Ok, Err, sym, subst}
 use Rattle.std.proofs.lemmas.List.Elements.{All-cons, All-drop}
-use Rattle.mpy_base.specs.World.{Heap, Objects}
-use Rattle.prim_assignments.specs.arena_heap.declared.value.Value.{Value}
-use Rattle.prim_assignments.specs.arena_heap.declared.value.StrNo.{StrNo}
-use Rattle.prim_assignments.specs.arena_heap.declared.value.ConstNo.{ConstNo}
-use Rattle.bc_progress.specs.bc_machine.Library.{Item}
-use Rattle.prim_assignments.specs.prim_faults.declared.stop.Stop.{Stop}
+use Rattle.state_values.specs.mpy_base.World.{Heap, Objects}
+use Rattle.state_values.specs.prim_assignments.arena_heap.declared.value.Value.{Value}
+use Rattle.state_values.specs.prim_assignments.arena_heap.declared.value.StrNo.{StrNo}
+use Rattle.state_values.specs.prim_assignments.arena_heap.declared.value.ConstNo.{ConstNo}
+use Rattle.state_values.specs.bc_progress.bc_machine.Library.{Item}
+use Rattle.state_values.specs.prim_assignments.prim_faults.declared.stop.Stop.{Stop}
 use Rattle.state_values.specs.vm_frames.declared.slot.Slot.{Slot}
 use Rattle.state_values.specs.vm_frames.declared.slot.Slot.TheVariants as slots
 use Rattle.state_values.specs.vm_frames.Calls.{Call, Calls, on_running}

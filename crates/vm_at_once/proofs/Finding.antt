@@ -3,15 +3,15 @@ use Rattle.std.proofs.Common.{◌≡◌, ℕ, ◌<◌, ◌≤◌, List, length, 
 use Rattle.std.specs.Prelude.{IfSome, IsSome, slice_get, get_or}
 use Rattle.std.proofs.lemmas.List.Elements.{All-head, All-get_or}
 use Rattle.std.proofs.lemmas.Option.{slice_get_within, slice_get-get_or, get_or_from_slice_get}
-use Rattle.mpy_base.specs.World.{Heap, ADict, IsA}
-use Rattle.prim_assignments.specs.arena_heap.declared.value.Value.{Value}
-use Rattle.prim_assignments.specs.arena_heap.declared.value.StrNo.{StrNo}
-use Rattle.prim_assignments.specs.arena_heap.declared.value.StrNo.TheVariants as strs
-use Rattle.prim_assignments.specs.arena_heap.declared.value.ConstNo.{ConstNo}
-use Rattle.prim_assignments.specs.arena_objects.Keys.{AllTold}
+use Rattle.state_values.specs.mpy_base.World.{Heap, ADict, IsA}
+use Rattle.state_values.specs.prim_assignments.arena_heap.declared.value.Value.{Value}
+use Rattle.state_values.specs.prim_assignments.arena_heap.declared.value.StrNo.{StrNo}
+use Rattle.state_values.specs.prim_assignments.arena_heap.declared.value.StrNo.TheVariants as strs
+use Rattle.state_values.specs.prim_assignments.arena_heap.declared.value.ConstNo.{ConstNo}
+use Rattle.state_values.specs.prim_assignments.arena_objects.Keys.{AllTold}
 use Rattle.state_values.specs.bc_library.Constants.{text_at}
-use Rattle.bc_progress.specs.bc_machine.State as states
-use Rattle.prim_assignments.specs.prim_faults.Faults.{IsKnown}
+use Rattle.state_values.specs.bc_progress.bc_machine.State as states
+use Rattle.state_values.specs.prim_assignments.prim_faults.Faults.{IsKnown}
 use Rattle.state_values.specs.vm_frames.declared.slot.Slot.{Slot}
 use Rattle.state_values.specs.vm_frames.declared.slot.Slot.TheVariants as slots
 use Rattle.state_values.specs.vm_frames.Calls.{Call, Calls, OfRunning}

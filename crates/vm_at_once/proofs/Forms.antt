@@ -1,9 +1,9 @@
 -- What was fetched, by the form of its instruction.
 use Rattle.std.proofs.Common.{◌≡◌, ℕ, List, Option, sym, subst}
-use Rattle.mpy_base.specs.World.{Heap}
-use Rattle.prim_assignments.specs.arena_heap.declared.value.Value.{Value}
-use Rattle.prim_assignments.specs.arena_heap.declared.value.StrNo.{StrNo}
-use Rattle.prim_assignments.specs.arena_heap.declared.value.ConstNo.{ConstNo}
+use Rattle.state_values.specs.mpy_base.World.{Heap}
+use Rattle.state_values.specs.prim_assignments.arena_heap.declared.value.Value.{Value}
+use Rattle.state_values.specs.prim_assignments.arena_heap.declared.value.StrNo.{StrNo}
+use Rattle.state_values.specs.prim_assignments.arena_heap.declared.value.ConstNo.{ConstNo}
 use Rattle.state_values.specs.vm_frames.Calls.{Calls}
 use Rattle.state_values.specs.vm_fetching.declared.instruction.Fetched.{Fetched}
 use Rattle.state_values.specs.vm_fetching.declared.instruction.Instruction.{Instruction}

@@ -4,39 +4,39 @@ use Rattle.std.specs.Option.{option_map}
 use Rattle.std.proofs.lemmas.List.{length-map, map-set}
 use Rattle.std.proofs.lemmas.List.Elements.{All-set}
 use Rattle.std.proofs.lemmas.Option.{slice_get-map}
-use Rattle.mpy_base.specs.World.{Heap, Later, ListObject, AList, items_at, room_at, with_list, object}
-use Rattle.mpy_base.specs.Val.{Val, Nil, Int, At}
-use Rattle.prim_assignments.specs.arena_heap.declared.value.Value.{Value}
-use Rattle.prim_assignments.specs.arena_heap.declared.value.Value.TheVariants as values
-use Rattle.prim_assignments.specs.arena_heap.declared.value.ListNo.{ListNo}
-use Rattle.prim_assignments.specs.arena_heap.declared.value.StrNo.{StrNo}
-use Rattle.prim_assignments.specs.arena_heap.declared.value.ConstNo.{ConstNo}
-use Rattle.prim_assignments.specs.arena_heap.Values.{Leads}
-use Rattle.prim_assignments.specs.arena_heap.Constants.{IsTold}
-use Rattle.prim_assignments.specs.arena_objects.Keys.{AllTold}
-use Rattle.prim_assignments.proofs.arena_objects_lemmas.Gifts.{read_item}
-use Rattle.prim_assignments.proofs.arena_objects_lemmas.Tolds.{held_list}
-use Rattle.bc_progress.specs.bc_ops.declared.instr.Op.TheVariants as ops
-use Rattle.bc_progress.specs.bc_ops.declared.instr.Instr.TheVariants as instrs
-use Rattle.bc_progress.specs.py_values.Shown.{PlainHeap, Shown, Items, shown}
-use Rattle.bc_progress.specs.py_primitives.Iterables.{place_at, shown_length, shown_item, item_of, or_nil}
-use Rattle.bc_progress.specs.py_primitives.Outcome.{Outcome, gives}
-use Rattle.bc_progress.specs.py_primitives.Uses.{at_found, get_item, set_item, set_shown, shown_at}
+use Rattle.state_values.specs.mpy_base.World.{Heap, Later, ListObject, AList, items_at, room_at, with_list, object}
+use Rattle.state_values.specs.mpy_base.Val.{Val, Nil, Int, At}
+use Rattle.state_values.specs.prim_assignments.arena_heap.declared.value.Value.{Value}
+use Rattle.state_values.specs.prim_assignments.arena_heap.declared.value.Value.TheVariants as values
+use Rattle.state_values.specs.prim_assignments.arena_heap.declared.value.ListNo.{ListNo}
+use Rattle.state_values.specs.prim_assignments.arena_heap.declared.value.StrNo.{StrNo}
+use Rattle.state_values.specs.prim_assignments.arena_heap.declared.value.ConstNo.{ConstNo}
+use Rattle.state_values.specs.prim_assignments.arena_heap.Values.{Leads}
+use Rattle.state_values.specs.prim_assignments.arena_heap.Constants.{IsTold}
+use Rattle.state_values.specs.prim_assignments.arena_objects.Keys.{AllTold}
+use Rattle.state_values.proofs.prim_assignments_lemmas.arena_objects_lemmas.Gifts.{read_item}
+use Rattle.state_values.proofs.prim_assignments_lemmas.arena_objects_lemmas.Tolds.{held_list}
+use Rattle.state_values.specs.bc_progress.bc_ops.declared.instr.Op.TheVariants as ops
+use Rattle.state_values.specs.bc_progress.bc_ops.declared.instr.Instr.TheVariants as instrs
+use Rattle.state_values.specs.bc_progress.py_values.Shown.{PlainHeap, Shown, Items, shown}
+use Rattle.state_values.specs.bc_progress.py_primitives.Iterables.{place_at, shown_length, shown_item, item_of, or_nil}
+use Rattle.state_values.specs.bc_progress.py_primitives.Outcome.{Outcome, gives}
+use Rattle.state_values.specs.bc_progress.py_primitives.Uses.{at_found, get_item, set_item, set_shown, shown_at}
 use Rattle.state_values.specs.py_effects.Effect.{on_heap}
-use Rattle.bc_progress.specs.bc_machine.Library.{Plain}
-use Rattle.prim_assignments.specs.prim_walks.Plain.{plain, plain_heap}
-use Rattle.prim_assignments.specs.prim_faults.Outcomes.{IsOutcome}
-use Rattle.prim_assignments.proofs.prim_faults_lemmas.Heaps.{list_put}
-use Rattle.prim_assignments.proofs.prim_faults_lemmas.Outcomes.{answered, gives_outcome}
-use Rattle.prim_assignments.specs.prim_faults.Sights.{world_over}
+use Rattle.state_values.specs.bc_progress.bc_machine.Library.{Plain}
+use Rattle.state_values.specs.prim_assignments.prim_walks.Plain.{plain, plain_heap}
+use Rattle.state_values.specs.prim_assignments.prim_faults.Outcomes.{IsOutcome}
+use Rattle.state_values.proofs.prim_assignments_lemmas.prim_faults_lemmas.Heaps.{list_put}
+use Rattle.state_values.proofs.prim_assignments_lemmas.prim_faults_lemmas.Outcomes.{answered, gives_outcome}
+use Rattle.state_values.specs.prim_assignments.prim_faults.Sights.{world_over}
 use Rattle.state_values.specs.vm_frames.declared.slot.Slot.TheVariants as slots
 use Rattle.state_values.specs.vm_frames.Calls.{Call, Calls, on_running}
 use Rattle.state_values.specs.vm_frames.Views.{starts_of, frame_of}
 use Rattle.state_values.specs.frame_moves.Shown.{view_of}
 use Rattle.state_values.proofs.frame_moves_lemmas.Stepping.{both}
-use Rattle.prim_assignments.proofs.prim_operators_lemmas.IndexUses.{list_shown}
-use Rattle.prim_assignments.proofs.prim_operators_lemmas.ItemFills.{told_put}
-use Rattle.prim_assignments.proofs.ItemUses.{set_list}
+use Rattle.state_values.proofs.prim_assignments_lemmas.prim_operators_lemmas.IndexUses.{list_shown}
+use Rattle.state_values.proofs.prim_assignments_lemmas.prim_operators_lemmas.ItemFills.{told_put}
+use Rattle.state_values.proofs.prim_assignments_lemmas.ItemUses.{set_list}
 use Rattle.state_values.specs.frame_values.Effects.{tables_of, Steps, Leaves}
 use Rattle.state_values.specs.frame_values.Slots.{HasValue, Puts, with_value, without}
 use Rattle.state_values.proofs.frame_values_lemmas.Items as items

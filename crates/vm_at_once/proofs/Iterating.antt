@@ -3,17 +3,17 @@ use Rattle.std.proofs.Common.{◌≡◌, ℕ, suc, ◌<◌, ◌≤◌, List, [],
 use Rattle.std.specs.Prelude.{slice_set, All}
 use Rattle.std.proofs.lemmas.List.{length-set, length-drop}
 use Rattle.std.proofs.lemmas.List.Elements.{All-cons, All-drop}
-use Rattle.mpy_base.specs.World.{Heap}
-use Rattle.prim_assignments.specs.arena_heap.declared.value.Value.{Value}
-use Rattle.prim_assignments.specs.arena_heap.declared.value.StrNo.{StrNo}
-use Rattle.prim_assignments.specs.arena_heap.declared.value.ConstNo.{ConstNo}
-use Rattle.bc_progress.specs.bc_ops.declared.instr.Op.TheVariants as ops
+use Rattle.state_values.specs.mpy_base.World.{Heap}
+use Rattle.state_values.specs.prim_assignments.arena_heap.declared.value.Value.{Value}
+use Rattle.state_values.specs.prim_assignments.arena_heap.declared.value.StrNo.{StrNo}
+use Rattle.state_values.specs.prim_assignments.arena_heap.declared.value.ConstNo.{ConstNo}
+use Rattle.state_values.specs.bc_progress.bc_ops.declared.instr.Op.TheVariants as ops
 use Rattle.state_values.specs.bc_labels.Positions.{position_in}
-use Rattle.bc_progress.specs.bc_machine.Library.{Jumps}
-use Rattle.bc_progress.specs.py_primitives.Iterables.{item_of, length_of}
-use Rattle.prim_assignments.specs.prim_walks.Plain.{plain, plain_heap}
-use Rattle.prim_assignments.specs.prim_faults.Faults.{IsKnown}
-use Rattle.prim_assignments.specs.prim_faults.Outcomes.{IsOutcome}
+use Rattle.state_values.specs.bc_progress.bc_machine.Library.{Jumps}
+use Rattle.state_values.specs.bc_progress.py_primitives.Iterables.{item_of, length_of}
+use Rattle.state_values.specs.prim_assignments.prim_walks.Plain.{plain, plain_heap}
+use Rattle.state_values.specs.prim_assignments.prim_faults.Faults.{IsKnown}
+use Rattle.state_values.specs.prim_assignments.prim_faults.Outcomes.{IsOutcome}
 use Rattle.state_values.specs.vm_frames.declared.slot.Slot.{Slot}
 use Rattle.state_values.specs.vm_frames.declared.slot.Slot.TheVariants as slots
 use Rattle.state_values.specs.vm_frames.Calls.{Call, Calls, OfRunning, on_running}

@@ -1,19 +1,19 @@
 -- A local that is loaded.
 use Rattle.std.proofs.Common.{◌≡◌, ℕ, List, drop, Option, Some, slice_get, Result, Ok, Err, refl, sym, ap, subst}
 use Rattle.std.specs.Option.{option_map}
-use Rattle.mpy_base.specs.World.{Heap}
-use Rattle.mpy_base.specs.Val.{Val, PlainWorld}
-use Rattle.prim_assignments.specs.arena_heap.declared.value.Value.{Value}
-use Rattle.prim_assignments.specs.arena_heap.declared.value.StrNo.{StrNo}
-use Rattle.prim_assignments.specs.arena_heap.declared.value.ConstNo.{ConstNo}
-use Rattle.bc_progress.specs.bc_ops.declared.instr.Op.TheVariants as ops
-use Rattle.bc_progress.specs.bc_ops.declared.instr.Instr.TheVariants as instrs
+use Rattle.state_values.specs.mpy_base.World.{Heap}
+use Rattle.state_values.specs.mpy_base.Val.{Val, PlainWorld}
+use Rattle.state_values.specs.prim_assignments.arena_heap.declared.value.Value.{Value}
+use Rattle.state_values.specs.prim_assignments.arena_heap.declared.value.StrNo.{StrNo}
+use Rattle.state_values.specs.prim_assignments.arena_heap.declared.value.ConstNo.{ConstNo}
+use Rattle.state_values.specs.bc_progress.bc_ops.declared.instr.Op.TheVariants as ops
+use Rattle.state_values.specs.bc_progress.bc_ops.declared.instr.Instr.TheVariants as instrs
 use Rattle.state_values.specs.py_effects.Effect.{Effect}
 use Rattle.state_values.specs.py_effects.Names.{assigned}
-use Rattle.bc_progress.specs.bc_machine.Library.{Plain}
-use Rattle.prim_assignments.specs.prim_faults.declared.stop.Stop.{Stop}
-use Rattle.prim_assignments.specs.prim_faults.Sights.{Sight, sight_of as sight, world_over}
-use Rattle.prim_raising.specs.Worlds.{HasEffect}
+use Rattle.state_values.specs.bc_progress.bc_machine.Library.{Plain}
+use Rattle.state_values.specs.prim_assignments.prim_faults.declared.stop.Stop.{Stop}
+use Rattle.state_values.specs.prim_assignments.prim_faults.Sights.{Sight, sight_of as sight, world_over}
+use Rattle.state_values.specs.prim_raising.Worlds.{HasEffect}
 use Rattle.state_values.specs.vm_frames.Calls.{Call, Calls, OfRunning}
 use Rattle.state_values.specs.vm_frames.Views.{starts_of, frame_of}
 use Rattle.state_values.specs.frame_moves.Shown.{view_of}

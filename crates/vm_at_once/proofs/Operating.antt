@@ -1,22 +1,22 @@
 -- An operator over two numbers, whose value is put in their place.
 use Rattle.std.proofs.Common.{◌≡◌, ℕ, ℤ, List, drop, Option, Some, slice_get, Ok, refl, sym, ap, subst, ◌∙◌}
-use Rattle.mpy_base.specs.World.{Heap}
-use Rattle.mpy_base.specs.Val.{Val, Int, PlainWorld}
-use Rattle.prim_assignments.specs.arena_heap.declared.value.Value.{Value}
-use Rattle.prim_assignments.specs.arena_heap.declared.value.Value.TheVariants as values
-use Rattle.prim_assignments.specs.arena_heap.declared.value.StrNo.{StrNo}
-use Rattle.prim_assignments.specs.arena_heap.declared.value.ConstNo.{ConstNo}
-use Rattle.prim_assignments.specs.arena_objects.Keys.{AllTold}
-use Rattle.bc_progress.specs.bc_ops.declared.instr.Instr.TheVariants as instrs
-use Rattle.bc_progress.specs.py_primitives.Outcome.{Outcome}
+use Rattle.state_values.specs.mpy_base.World.{Heap}
+use Rattle.state_values.specs.mpy_base.Val.{Val, Int, PlainWorld}
+use Rattle.state_values.specs.prim_assignments.arena_heap.declared.value.Value.{Value}
+use Rattle.state_values.specs.prim_assignments.arena_heap.declared.value.Value.TheVariants as values
+use Rattle.state_values.specs.prim_assignments.arena_heap.declared.value.StrNo.{StrNo}
+use Rattle.state_values.specs.prim_assignments.arena_heap.declared.value.ConstNo.{ConstNo}
+use Rattle.state_values.specs.prim_assignments.arena_objects.Keys.{AllTold}
+use Rattle.state_values.specs.bc_progress.bc_ops.declared.instr.Instr.TheVariants as instrs
+use Rattle.state_values.specs.bc_progress.py_primitives.Outcome.{Outcome}
 use Rattle.state_values.specs.py_effects.Effect.{Place, on_heap}
-use Rattle.bc_progress.specs.bc_machine.Library.{Library, Plain}
-use Rattle.bc_progress.specs.bc_machine.Operations.{TwoValued, operator_at}
-use Rattle.bc_progress.specs.bc_machine.State as states
-use Rattle.bc_progress.specs.bc_machine.Step as step
-use Rattle.prim_assignments.specs.prim_walks.Plain.{plain, plain_heap}
-use Rattle.prim_assignments.specs.prim_faults.Outcomes.{IsOutcome}
-use Rattle.prim_assignments.specs.prim_faults.Sights.{world_over}
+use Rattle.state_values.specs.bc_progress.bc_machine.Library.{Library, Plain}
+use Rattle.state_values.specs.bc_progress.bc_machine.Operations.{TwoValued, operator_at}
+use Rattle.state_values.specs.bc_progress.bc_machine.State as states
+use Rattle.state_values.specs.bc_progress.bc_machine.Step as step
+use Rattle.state_values.specs.prim_assignments.prim_walks.Plain.{plain, plain_heap}
+use Rattle.state_values.specs.prim_assignments.prim_faults.Outcomes.{IsOutcome}
+use Rattle.state_values.specs.prim_assignments.prim_faults.Sights.{world_over}
 use Rattle.state_values.specs.vm_frames.declared.slot.Slot.{Slot}
 use Rattle.state_values.specs.vm_frames.declared.slot.Slot.TheVariants as slots
 use Rattle.state_values.specs.vm_frames.Calls.{Call, Calls, on_running}

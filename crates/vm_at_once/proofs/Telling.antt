@@ -1,13 +1,13 @@
 -- What an instruction does in each program, by the texts and tuples that it tells.
 use Rattle.std.proofs.Common.{◌≡◌, ℕ, List, Option, Result, refl, sym, subst}
-use Rattle.mpy_base.specs.World.{Heap}
-use Rattle.prim_assignments.specs.arena_heap.declared.value.Value.{Value}
-use Rattle.prim_assignments.specs.arena_heap.declared.value.StrNo.{StrNo}
-use Rattle.prim_assignments.specs.arena_heap.declared.value.ConstNo.{ConstNo}
+use Rattle.state_values.specs.mpy_base.World.{Heap}
+use Rattle.state_values.specs.prim_assignments.arena_heap.declared.value.Value.{Value}
+use Rattle.state_values.specs.prim_assignments.arena_heap.declared.value.StrNo.{StrNo}
+use Rattle.state_values.specs.prim_assignments.arena_heap.declared.value.ConstNo.{ConstNo}
 use Rattle.state_values.specs.bc_labels.Positions.{position_in}
-use Rattle.bc_progress.specs.bc_machine.Library.{Item}
+use Rattle.state_values.specs.bc_progress.bc_machine.Library.{Item}
 use Rattle.state_values.specs.bc_rows.declared.row.Row.{Row}
-use Rattle.prim_assignments.specs.prim_faults.declared.stop.Stop.{Stop}
+use Rattle.state_values.specs.prim_assignments.prim_faults.declared.stop.Stop.{Stop}
 use Rattle.state_values.specs.vm_frames.Calls.{Call, Calls}
 use Rattle.state_values.specs.vm_frames.Views.{starts_of}
 use Rattle.state_values.specs.frame_moves.Shown.{view_of, IsAt}

@@ -1,15 +1,15 @@
 -- Jumps that test the top value find one, and go on at one of two offsets.
 use Rattle.std.proofs.Common.{◌≡◌, ℕ, List, drop, Bool, true, false, Option, Ok, arith}
 use Rattle.std.proofs.lemmas.List.Elements.{All-drop}
-use Rattle.mpy_base.specs.World.{Heap, Objects}
-use Rattle.mpy_base.specs.Val.{PlainWorld}
-use Rattle.prim_assignments.specs.arena_heap.declared.value.Value.{Value}
-use Rattle.prim_assignments.specs.arena_heap.declared.value.StrNo.{StrNo}
-use Rattle.prim_assignments.specs.arena_heap.declared.value.ConstNo.{ConstNo}
+use Rattle.state_values.specs.mpy_base.World.{Heap, Objects}
+use Rattle.state_values.specs.mpy_base.Val.{PlainWorld}
+use Rattle.state_values.specs.prim_assignments.arena_heap.declared.value.Value.{Value}
+use Rattle.state_values.specs.prim_assignments.arena_heap.declared.value.StrNo.{StrNo}
+use Rattle.state_values.specs.prim_assignments.arena_heap.declared.value.ConstNo.{ConstNo}
 use Rattle.state_values.specs.bc_labels.Positions.{position_in}
-use Rattle.bc_progress.specs.bc_machine.Library.{Code, Library, Jumps}
-use Rattle.bc_progress.specs.bc_machine.State.{Frame}
-use Rattle.bc_progress.specs.Plans.{Plan}
+use Rattle.state_values.specs.bc_progress.bc_machine.Library.{Code, Library, Jumps}
+use Rattle.state_values.specs.bc_progress.bc_machine.State.{Frame}
+use Rattle.state_values.specs.bc_progress.Plans.{Plan}
 use Rattle.state_values.specs.vm_frames.declared.slot.Slot.{Slot}
 use Rattle.state_values.specs.vm_frames.Calls.{Calls, on_running}
 use Rattle.state_values.specs.vm_frames.Views.{starts_of}

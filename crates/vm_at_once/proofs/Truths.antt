@@ -1,12 +1,12 @@
 -- A bool on top of the running call, which a jump tests.
 use Rattle.std.proofs.Common.{◌≡◌, ℕ, List, [], ◌∷◌, Bool, true, false, Option, refl}
-use Rattle.mpy_base.specs.World.{Heap}
-use Rattle.mpy_base.specs.Val.{PlainWorld, Truth}
-use Rattle.prim_assignments.specs.arena_heap.declared.value.Value.{Value}
-use Rattle.prim_assignments.specs.arena_heap.declared.value.Value.TheVariants as values
-use Rattle.prim_assignments.specs.arena_heap.declared.value.StrNo.{StrNo}
-use Rattle.prim_assignments.specs.arena_heap.declared.value.ConstNo.{ConstNo}
-use Rattle.bc_progress.specs.py_values.Shown.{PlainHeap, truth}
+use Rattle.state_values.specs.mpy_base.World.{Heap}
+use Rattle.state_values.specs.mpy_base.Val.{PlainWorld, Truth}
+use Rattle.state_values.specs.prim_assignments.arena_heap.declared.value.Value.{Value}
+use Rattle.state_values.specs.prim_assignments.arena_heap.declared.value.Value.TheVariants as values
+use Rattle.state_values.specs.prim_assignments.arena_heap.declared.value.StrNo.{StrNo}
+use Rattle.state_values.specs.prim_assignments.arena_heap.declared.value.ConstNo.{ConstNo}
+use Rattle.state_values.specs.bc_progress.py_values.Shown.{PlainHeap, truth}
 use Rattle.state_values.specs.vm_frames.Calls.{Call}
 use Rattle.state_values.specs.frame_moves.Shown.{Tests}
 use Rattle.state_values.specs.frame_moves.Outcomes.{world_of}

@@ -1,10 +1,10 @@
 -- What an instruction comes to that is carried out at once, if it is.
 use Rattle.std.specs.Prelude.{◌≡◌, ℕ, ◌≤◌, List, Option, Some, None, Result, Ok, Err}
-use Rattle.mpy_base.specs.World.{Heap}
-use Rattle.prim_assignments.specs.arena_heap.declared.value.Value.{Value}
-use Rattle.prim_assignments.specs.arena_heap.declared.value.StrNo.{StrNo}
-use Rattle.prim_assignments.specs.arena_heap.declared.value.ConstNo.{ConstNo}
-use Rattle.prim_assignments.specs.prim_faults.declared.stop.Stop.{Stop}
+use Rattle.state_values.specs.mpy_base.World.{Heap}
+use Rattle.state_values.specs.prim_assignments.arena_heap.declared.value.Value.{Value}
+use Rattle.state_values.specs.prim_assignments.arena_heap.declared.value.StrNo.{StrNo}
+use Rattle.state_values.specs.prim_assignments.arena_heap.declared.value.ConstNo.{ConstNo}
+use Rattle.state_values.specs.prim_assignments.prim_faults.declared.stop.Stop.{Stop}
 use Rattle.state_values.specs.vm_frames.Calls.{Calls}
 use Rattle.state_values.specs.vm_fetching.declared.instruction.Fetched.{Fetched}
 use Rattle.state_values.specs.Keeping.{ActsKeeping}

@@ -1,17 +1,17 @@
 -- Operators over two numbers.
 use Rattle.std.specs.Prelude.{◌≡◌, ℕ, ◌≤◌, ℤ, List, Option, Some, Result, Ok}
-use Rattle.mpy_base.specs.World.{Objects}
-use Rattle.mpy_base.specs.Val.{Val, Int}
-use Rattle.prim_assignments.specs.arena_heap.declared.value.Value.{Value}
-use Rattle.prim_assignments.specs.arena_heap.declared.value.StrNo.{StrNo}
-use Rattle.prim_assignments.specs.arena_heap.declared.value.ConstNo.{ConstNo}
-use Rattle.bc_progress.specs.py_values.declared.small_int.NumFault.{NumFault}
-use Rattle.bc_progress.specs.py_values.Shown.{PlainHeap}
-use Rattle.bc_progress.specs.py_primitives.Outcome.{Outcome}
-use Rattle.bc_progress.specs.py_primitives.Operators.{gives_number}
-use Rattle.prim_assignments.specs.prim_walks.Plain.{plain}
-use Rattle.prim_assignments.specs.prim_faults.Faults.{IsKnown}
-use Rattle.bc_progress.specs.bc_machine.Operations.{TwoValued, operator_at}
+use Rattle.state_values.specs.mpy_base.World.{Objects}
+use Rattle.state_values.specs.mpy_base.Val.{Val, Int}
+use Rattle.state_values.specs.prim_assignments.arena_heap.declared.value.Value.{Value}
+use Rattle.state_values.specs.prim_assignments.arena_heap.declared.value.StrNo.{StrNo}
+use Rattle.state_values.specs.prim_assignments.arena_heap.declared.value.ConstNo.{ConstNo}
+use Rattle.state_values.specs.bc_progress.py_values.declared.small_int.NumFault.{NumFault}
+use Rattle.state_values.specs.bc_progress.py_values.Shown.{PlainHeap}
+use Rattle.state_values.specs.bc_progress.py_primitives.Outcome.{Outcome}
+use Rattle.state_values.specs.bc_progress.py_primitives.Operators.{gives_number}
+use Rattle.state_values.specs.prim_assignments.prim_walks.Plain.{plain}
+use Rattle.state_values.specs.prim_assignments.prim_faults.Faults.{IsKnown}
+use Rattle.state_values.specs.bc_progress.bc_machine.Operations.{TwoValued, operator_at}
 
 -- the operator with this number comes to this over two numbers, whatever the heap is
 abbrev pub ComesTo : (number : ℕ) → (left right : ℤ) → (PlainHeap → Outcome Val) → Type 0

@@ -1,7 +1,7 @@
 //! Instructions by their forms.
 
 ghost use Rattle.std.specs.Prelude.{◌≡◌, Ok, true, false};
-ghost use Rattle.prim_assignments.specs.prim_faults.Sights.{under};
+ghost use Rattle.state_values.specs.prim_assignments.prim_faults.Sights.{under};
 ghost use Rattle.state_values.specs.vm_fetching.declared.instruction.Instruction.TheVariants as fetched;
 ghost use Rattle.state_values.specs.Moving.{fetched_plain};
 ghost use Rattle.state_values.specs.vm_states.Acting.{RunsOver};
@@ -15,8 +15,7 @@ use crate::locals::local_at_once;
 use crate::names::name_at_once;
 use crate::operators::binary_at_once;
 use arena_heap::{Arena, Constants};
-use state_values::{load_int, load_object, move_on, unary_op};
-use vm_fetching::{Fetched, Instruction, PlainOp};
+use state_values::{Fetched, Instruction, PlainOp, load_int, load_object, move_on, unary_op};
 use vm_frames::Frames;
 
 /// An operation without an operand: those that move slots alone are carried out.

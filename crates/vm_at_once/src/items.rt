@@ -1,14 +1,14 @@
 //! Items of lists, by whole numbers.
 
 ghost use Rattle.std.specs.Prelude.{◌≡◌, ◌<◌, ◌≤◌, ℤ, length, Some, Ok, true, false, IfSome};
-ghost use Rattle.mpy_base.specs.World.{items_at};
-ghost use Rattle.mpy_base.specs.Val.{Int};
-ghost use Rattle.prim_assignments.specs.arena_heap.declared.value.Value.TheVariants as values;
-ghost use Rattle.prim_assignments.specs.arena_heap.Values.{Leads};
-ghost use Rattle.bc_progress.specs.py_primitives.Iterables.{place_at};
-ghost use Rattle.bc_progress.specs.py_primitives.Uses.{get_item, set_item};
-ghost use Rattle.prim_assignments.specs.prim_faults.Outcomes.{IsOutcome};
-ghost use Rattle.prim_assignments.specs.prim_faults.Sights.{under, sight, Tells, TellsAll};
+ghost use Rattle.state_values.specs.mpy_base.World.{items_at};
+ghost use Rattle.state_values.specs.mpy_base.Val.{Int};
+ghost use Rattle.state_values.specs.prim_assignments.arena_heap.declared.value.Value.TheVariants as values;
+ghost use Rattle.state_values.specs.prim_assignments.arena_heap.Values.{Leads};
+ghost use Rattle.state_values.specs.bc_progress.py_primitives.Iterables.{place_at};
+ghost use Rattle.state_values.specs.bc_progress.py_primitives.Uses.{get_item, set_item};
+ghost use Rattle.state_values.specs.prim_assignments.prim_faults.Outcomes.{IsOutcome};
+ghost use Rattle.state_values.specs.prim_assignments.prim_faults.Sights.{under, sight, Tells, TellsAll};
 ghost use Rattle.state_values.specs.vm_frames.Calls.{OfRunning, on_running};
 ghost use Rattle.state_values.specs.frame_values.Slots.{HasValue, without};
 ghost use Rattle.state_values.specs.vm_fetching.declared.operations.PlainOp.TheVariants as plain_ops;
@@ -19,9 +19,8 @@ ghost use Rattle.vm_at_once.specs.AtOnce.{ActsAtOnce};
 
 use crate::operators::put;
 use arena_heap::{Arena, Constants, ListNo, Value, list_at, list_len, list_set};
-use state_values::acting_law;
+use state_values::{acting_law, tops_law};
 use vm_frames::{Frames, Slot};
-use vm_states::tops_law;
 
 /// The two topmost slots, where they are a list and, on top, a whole number.
 #[inline(always)]

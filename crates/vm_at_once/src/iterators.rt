@@ -1,13 +1,13 @@
 //! Iterators over lists and ranges.
 
 ghost use Rattle.std.specs.Prelude.{◌≡◌, ◌<◌, ◌≤◌, length, drop, suc, Ok, IfSome, slice_set};
-ghost use Rattle.prim_assignments.specs.arena_heap.Values.{Leads};
-ghost use Rattle.bc_progress.specs.py_primitives.Iterables.{item_of as item_in, length_of as length_in};
-ghost use Rattle.prim_assignments.specs.prim_faults.Outcomes.{IsOutcome};
-ghost use Rattle.prim_assignments.specs.prim_faults.Sights.{under, sight, Tells, TellsAll};
+ghost use Rattle.state_values.specs.prim_assignments.arena_heap.Values.{Leads};
+ghost use Rattle.state_values.specs.bc_progress.py_primitives.Iterables.{item_of as item_in, length_of as length_in};
+ghost use Rattle.state_values.specs.prim_assignments.prim_faults.Outcomes.{IsOutcome};
+ghost use Rattle.state_values.specs.prim_assignments.prim_faults.Sights.{under, sight, Tells, TellsAll};
 ghost use Rattle.state_values.specs.vm_frames.declared.slot.Slot.TheVariants as slots;
 ghost use Rattle.state_values.specs.vm_frames.Calls.{OfRunning, on_running};
-ghost use Rattle.prim_assignments.specs.prim_operators.Operands.{HasItems, IsNested};
+ghost use Rattle.state_values.specs.prim_assignments.prim_operators.Operands.{HasItems, IsNested};
 ghost use Rattle.state_values.specs.frame_values.Slots.{IsIterator, iterator_over, with_item};
 ghost use Rattle.state_values.specs.vm_fetching.declared.instruction.Instruction.TheVariants as fetched;
 ghost use Rattle.state_values.specs.vm_fetching.declared.operations.JumpOp.TheVariants as jump_ops;
@@ -17,9 +17,8 @@ ghost use Rattle.vm_at_once.specs.AtOnce.{ActsAtOnce};
 use crate::doing::go_with;
 use arena_heap::{Arena, Constants, Value};
 use arena_objects::{item_at, item_count};
-use state_values::acting_law;
+use state_values::{acting_law, tops_law};
 use vm_frames::{Frames, Slot};
-use vm_states::tops_law;
 
 /// What the iterator on top goes over, and its place.
 #[inline(always)]

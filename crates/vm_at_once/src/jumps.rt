@@ -1,6 +1,6 @@
 //! Jumps that change the running call alone, carried out at once.
 
-ghost use Rattle.prim_assignments.specs.prim_faults.Sights.{under};
+ghost use Rattle.state_values.specs.prim_assignments.prim_faults.Sights.{under};
 ghost use Rattle.state_values.specs.vm_fetching.declared.instruction.Instruction.TheVariants as fetched;
 ghost use Rattle.state_values.specs.vm_states.Acting.{RunsOver};
 ghost use Rattle.state_values.specs.Tests.{IsTest};
@@ -9,10 +9,8 @@ ghost use Rattle.vm_at_once.specs.AtOnce.{ActsAtOnce};
 use crate::doing::done;
 use crate::iterators::iterate;
 use arena_heap::{Arena, Constants, Value};
-use state_values::{acting_law, jump, jump_by};
-use vm_fetching::JumpOp;
+use state_values::{JumpOp, acting_law, jump, jump_by, tops_law};
 use vm_frames::{Frames, Slot};
-use vm_states::tops_law;
 
 /// A jump that tests the top value, where that is a bool.
 #[inline(always)]

@@ -12,3 +12,7 @@ mod numbers;
 mod operators;
 
 pub use acting::{act_at_once, store_at_once};
+pub use state_values::{
+    End, Fetched, Instruction, ModuleName, NameOp, NumberOp, PlainOp, Row, Rows, fetch,
+    visits_binary_op,
+};

@@ -1,10 +1,10 @@
 //! Locals that are loaded and stored.
 
 ghost use Rattle.std.specs.Prelude.{◌<◌, length};
-ghost use Rattle.bc_progress.specs.bc_ops.declared.instr.Op.TheVariants as ops;
-ghost use Rattle.bc_progress.specs.bc_ops.declared.instr.Instr.TheVariants as instrs;
-ghost use Rattle.bc_progress.specs.bc_machine.Library.{Plain};
-ghost use Rattle.prim_assignments.specs.prim_faults.Sights.{under, TellsAll};
+ghost use Rattle.state_values.specs.bc_progress.bc_ops.declared.instr.Op.TheVariants as ops;
+ghost use Rattle.state_values.specs.bc_progress.bc_ops.declared.instr.Instr.TheVariants as instrs;
+ghost use Rattle.state_values.specs.bc_progress.bc_machine.Library.{Plain};
+ghost use Rattle.state_values.specs.prim_assignments.prim_faults.Sights.{under, TellsAll};
 ghost use Rattle.state_values.specs.vm_frames.Calls.{OfRunning};
 ghost use Rattle.state_values.specs.vm_fetching.declared.instruction.Instruction.TheVariants as fetched;
 ghost use Rattle.state_values.specs.vm_fetching.declared.operations.NumberOp.TheVariants as number_ops;
@@ -16,9 +16,7 @@ ghost use Rattle.vm_at_once.specs.AtOnce.{ActsAtOnce};
 use crate::doing::{done, go_with};
 use arena_heap::{Arena, Constants};
 use prim_faults::Stop;
-use prim_names::assigned;
-use state_values::{acting_law, store_fast, store_fast_n};
-use vm_fetching::NumberOp;
+use state_values::{NumberOp, acting_law, assigned, store_fast, store_fast_n};
 use vm_frames::{Frames, Slot};
 
 /// LOAD_FAST, in one byte or in more, as `state_values::load_fast` does it.

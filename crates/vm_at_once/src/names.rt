@@ -1,15 +1,14 @@
 //! Names of modules that are looked up, and texts.
 
 ghost use Rattle.state_values.specs.vm_fetching.declared.instruction.Instruction.TheVariants as fetched;
-ghost use Rattle.prim_assignments.specs.prim_faults.Sights.{under};
+ghost use Rattle.state_values.specs.prim_assignments.prim_faults.Sights.{under};
 ghost use Rattle.state_values.specs.vm_fetching.declared.operations.NameOp.TheVariants as name_ops;
 ghost use Rattle.state_values.specs.vm_states.Acting.{RunsOver};
 ghost use Rattle.vm_at_once.specs.AtOnce.{ActsAtOnce};
 
 use crate::doing::done;
 use arena_heap::{Arena, Constants, StrNo};
-use state_values::{acting_law, load_text};
-use vm_fetching::NameOp;
+use state_values::{NameOp, acting_law, load_text};
 use vm_frames::Frames;
 
 /// LOAD_NAME.

@@ -2,8 +2,8 @@
 
 ghost use Rattle.std.specs.Prelude.{◌≡◌, IfSome};
 ghost use Rattle.std.specs.Ordering.{int_cmp, int_eq};
-ghost use Rattle.mpy_base.specs.Val.{Truth, Int};
-ghost use Rattle.prim_assignments.specs.arena_heap.Values.{IsSmall};
+ghost use Rattle.state_values.specs.mpy_base.Val.{Truth, Int};
+ghost use Rattle.state_values.specs.prim_assignments.arena_heap.Values.{IsSmall};
 ghost use Rattle.vm_at_once.specs.Numbers.{Gives, Computes};
 
 use py_values::{NumFault, SmallInt};

@@ -1,8 +1,8 @@
 //! Operators over two small integers.
 
 ghost use Rattle.std.specs.Prelude.{◌≡◌, ◌≤◌, ◌<◌, ◌∷◌, drop, length, IfSome};
-ghost use Rattle.prim_assignments.specs.arena_heap.declared.value.Value.TheVariants as values;
-ghost use Rattle.prim_assignments.specs.prim_faults.Sights.{under};
+ghost use Rattle.state_values.specs.prim_assignments.arena_heap.declared.value.Value.TheVariants as values;
+ghost use Rattle.state_values.specs.prim_assignments.prim_faults.Sights.{under};
 ghost use Rattle.state_values.specs.vm_frames.Calls.{OfRunning, on_running};
 ghost use Rattle.state_values.specs.frame_values.Slots.{HasValue, with_value};
 ghost use Rattle.state_values.specs.vm_fetching.declared.instruction.Instruction.TheVariants as fetched;
@@ -12,9 +12,8 @@ ghost use Rattle.vm_at_once.specs.Numbers.{IsAnswer};
 
 use crate::numbers::{compare, compute};
 use arena_heap::{Arena, Constants, Value};
-use state_values::{acting_law, constants_law};
+use state_values::{acting_law, constants_law, tops_law};
 use vm_frames::{Frames, Slot};
-use vm_states::tops_law;
 
 /// The two topmost slots, where they are integers: the lower one is the left operand.
 #[inline(always)]

@@ -3,8 +3,8 @@ use Rattle.std.proofs.Common.{◌≡◌, ℕ, zero, suc, ◌+◌, ◌<◌, ◌�
 use Rattle.std.specs.Prelude.{slice_get, option_and_then, IsSome, is_some}
 use Rattle.std.specs.List.{flat_map}
 use Rattle.std.proofs.lemmas.List.{append-nil}
-use Rattle.mpy_base.specs.declared.limits.TheConstants.{MAX_DEPTH}
-use Rattle.mpy_base.specs.Val.{Val, Vals, Then, Fixed}
+use Rattle.frame_moves.specs.mpy_base.declared.limits.TheConstants.{MAX_DEPTH}
+use Rattle.frame_moves.specs.mpy_base.Val.{Val, Vals, Then, Fixed}
 use Rattle.frame_moves.specs.arena_heap.declared.value.Value.{Value}
 use Rattle.frame_moves.specs.arena_heap.declared.value.StrNo.TheVariants as strs
 use Rattle.frame_moves.specs.arena_objects.Iterables.{or_nothing}
@@ -91,7 +91,7 @@ module _ (shelf : Shelf) (i : ℕ) (m : Module) (there : module_at shelf i ≡ S
   by_layer level place x Constant-F.False e s t = sym (rolled x Constant-F.False e ∙ fold-roll-Constant Val constant_step Constant-F.False)
   by_layer level place x Constant-F.True e s t = sym (rolled x Constant-F.True e ∙ fold-roll-Constant Val constant_step Constant-F.True)
   by_layer level place x (Constant-F.Str text) e s t =
-      ap (λ o. Rattle.mpy_base.specs.Val.Str (or_nothing o)) (s text refl) ∙ sym (rolled x (Constant-F.Str text) e ∙ fold-roll-Constant Val constant_step (Constant-F.Str text))
+      ap (λ o. Rattle.frame_moves.specs.mpy_base.Val.Str (or_nothing o)) (s text refl) ∙ sym (rolled x (Constant-F.Str text) e ∙ fold-roll-Constant Val constant_step (Constant-F.Str text))
   by_layer level place x (Constant-F.Int z) e s t = sym (rolled x (Constant-F.Int z) e ∙ fold-roll-Constant Val constant_step (Constant-F.Int z))
   by_layer level place x (Constant-F.Tuple []) e s t = sym (rolled x (Constant-F.Tuple []) e ∙ fold-roll-Constant Val constant_step (Constant-F.Tuple []))
   by_layer level place x (Constant-F.Tuple (y ∷ ys)) e s t = t (y ∷ ys) refl ∙ sym (rolled x (Constant-F.Tuple (y ∷ ys)) e ∙ fold-roll-Constant Val constant_step (Constant-F.Tuple (y ∷ ys)))

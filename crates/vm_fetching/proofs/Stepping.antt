@@ -1,7 +1,7 @@
 -- The machine's step of a call by its code's line.
 use Rattle.std.proofs.Common.{◌≡◌, ℕ, suc, List, ◌∷◌, map, Option, Some, sym, ap, ◌∙◌}
 use Rattle.std.specs.Prelude.{slice_get}
-use Rattle.mpy_base.specs.Val.{PlainWorld}
+use Rattle.frame_moves.specs.mpy_base.Val.{PlainWorld}
 use Rattle.bc_prelude.specs.Lines as lines
 use Rattle.frame_moves.specs.bc_labels.Positions.{CodeList, position_in}
 use Rattle.bc_rows.specs.bc_library.Shelf.{Shelf}

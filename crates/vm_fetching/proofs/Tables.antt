@@ -1,6 +1,6 @@
 -- How long the line table of a row is.
 use Rattle.std.proofs.Common.{ℕ, ◌≤◌, length, ap, arith}
-use Rattle.mpy_base.specs.declared.limits.TheConstants.{MAX_CODE_BYTES}
+use Rattle.frame_moves.specs.mpy_base.declared.limits.TheConstants.{MAX_CODE_BYTES}
 use Rattle.bc_prelude.proofs.Pieces.{parts_short}
 use Rattle.bc_rows.specs.mpy_tree.declared.raw.RawCode.{out-RawCode}
 use Rattle.bc_rows.proofs.bc_verify_lemmas.Trees as trees

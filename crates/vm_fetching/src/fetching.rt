@@ -18,9 +18,8 @@ use crate::instruction::{Fetched, Instruction};
 use crate::looking::{object_of, text_of};
 use crate::operations::{jump_op, name_op, number_op, plain_op};
 use bc_labels::jump_target;
-use bc_library::Library;
 use bc_ops::{Instr, Op, decode_at};
-use bc_rows::Row;
+use bc_rows::{Library, Row};
 
 /// The instruction that starts at the offset, and the offset that it ends at.
 #[inline(always)]

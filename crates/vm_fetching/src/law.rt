@@ -1,7 +1,7 @@
 //! The machine's step of a call is that of what is fetched for it.
 
 ghost use Rattle.std.specs.Prelude.{◌≡◌, ◌∷◌, ℕ, List, Some, slice_get};
-ghost use Rattle.mpy_base.specs.Val.{PlainWorld};
+ghost use Rattle.frame_moves.specs.mpy_base.Val.{PlainWorld};
 ghost use Rattle.bc_prelude.specs.Lines as lines;
 ghost use Rattle.frame_moves.specs.bc_labels.Positions.{CodeList, position_in};
 ghost use Rattle.bc_rows.specs.bc_library.Shelf.{Shelf};

@@ -8,6 +8,7 @@ mod lines;
 mod looking;
 mod operations;
 
+pub use bc_rows::{Row, Rows, rows_law};
 pub use fetching::fetch;
 pub use instruction::{Fetched, Instruction};
 pub use law::step_law;

@@ -1,7 +1,7 @@
 //! The line of an instruction.
 
 ghost use Rattle.std.specs.Prelude.{◌≡◌, ℕ, ◌≤◌, length};
-ghost use Rattle.mpy_base.specs.declared.limits.TheConstants.{MAX_CODE_BYTES};
+ghost use Rattle.frame_moves.specs.mpy_base.declared.limits.TheConstants.{MAX_CODE_BYTES};
 ghost use Rattle.bc_prelude.specs.Lines as tables;
 ghost use Rattle.bc_rows.specs.bc_library.Shelf.{Shelf};
 ghost use Rattle.vm_fetching.specs.Fetches.{IsVerifiedRow};

@@ -6,7 +6,7 @@ ghost use Rattle.bc_rows.specs.bc_library.Shelf.{entry_at, table_text};
 ghost use Rattle.vm_fetching.specs.Shows.{IsPooled};
 
 use arena_heap::{StrNo, Value};
-use bc_library::Library;
+use bc_rows::Library;
 
 /// The text of the module's table that has the number.
 #[inline(always)]

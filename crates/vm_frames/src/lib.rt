@@ -8,6 +8,7 @@ mod moves;
 mod placed;
 mod slot;
 
+pub use arena_heap::{StrNo, Value};
 pub use frame::Frame;
 pub use frames::Frames;
 pub use placed::{moves_law, placed_law};

@@ -3,26 +3,26 @@ use Rattle.std.proofs.Common.{◌≡◌, ℕ, zero, suc, ◌<◌, List, [], ◌�
 use Rattle.std.specs.Prelude.{slice_get}
 use Rattle.std.proofs.lemmas.List.{length-map}
 use Rattle.std.proofs.lemmas.Option.{same_Some, slice_get_within}
-use Rattle.mpy_base.specs.World.{ObjectKind, AList, ATuple, AText, ADict, AFunction, AnException, AMethod, ARange, AModule, Objects, object, kind_of, IsA}
-use Rattle.mpy_base.specs.Val.{Val, Nil, At}
+use Rattle.state_calls.specs.mpy_base.World.{ObjectKind, AList, ATuple, AText, ADict, AFunction, AnException, AMethod, ARange, AModule, Objects, object, kind_of, IsA}
+use Rattle.state_calls.specs.mpy_base.Val.{Val, Nil, At}
 use Rattle.state_calls.specs.arena_heap.declared.value.Value.{Value}
 use Rattle.state_calls.specs.arena_heap.declared.value.Value.TheVariants as values
 use Rattle.state_calls.specs.arena_heap.declared.value.StrNo.{StrNo}
 use Rattle.state_calls.specs.arena_heap.declared.value.ConstNo.{ConstNo}
 use Rattle.state_calls.specs.arena_heap.declared.value.ExcNo.{ExcNo}
 use Rattle.state_calls.specs.arena_heap.Values.{Leads}
-use Rattle.bc_flow.specs.bc_shapes.declared.shape.Entry.{Entry as FlowEntry}
-use Rattle.bc_flow.specs.bc_shapes.Shape.{At as Shape}
-use Rattle.bc_ops.specs.declared.instr.Op.TheVariants as ops
-use Rattle.bc_ops.specs.declared.instr.Instr.TheVariants as instrs
-use Rattle.bc_flow.specs.Action.{EndFinally, op_action, instr_action}
-use Rattle.bc_flow.specs.Code as flows
-use Rattle.bc_flow.specs.Verified.{Assigned, Holds as Meets}
-use Rattle.bc_flow.specs.Machine as flow
-use Rattle.bc_flow.specs.Machine.{Stack, St}
-use Rattle.bc_flow.proofs.Going.{Here}
-use Rattle.bc_flow.proofs.Never.{Good, end_height}
-use Rattle.bc_flow.proofs.Sound.{Fits as Heights, stands-length, Sound, CanUnwind}
+use Rattle.bc_progress.specs.bc_flow.bc_shapes.declared.shape.Entry.{Entry as FlowEntry}
+use Rattle.bc_progress.specs.bc_flow.bc_shapes.Shape.{At as Shape}
+use Rattle.bc_progress.specs.bc_ops.declared.instr.Op.TheVariants as ops
+use Rattle.bc_progress.specs.bc_ops.declared.instr.Instr.TheVariants as instrs
+use Rattle.bc_progress.specs.bc_flow.Action.{EndFinally, op_action, instr_action}
+use Rattle.bc_progress.specs.bc_flow.Code as flows
+use Rattle.bc_progress.specs.bc_flow.Verified.{Assigned, Holds as Meets}
+use Rattle.bc_progress.specs.bc_flow.Machine as flow
+use Rattle.bc_progress.specs.bc_flow.Machine.{Stack, St}
+use Rattle.bc_progress.proofs.bc_flow_lemmas.Going.{Here}
+use Rattle.bc_progress.proofs.bc_flow_lemmas.Never.{Good, end_height}
+use Rattle.bc_progress.proofs.bc_flow_lemmas.Sound.{Fits as Heights, stands-length, Sound, CanUnwind}
 use Rattle.state_calls.specs.bc_machine.Library.{Line, Library, Plain}
 use Rattle.state_calls.specs.bc_machine.State as states
 use Rattle.state_calls.specs.bc_machine.State.{Frame}

@@ -4,8 +4,8 @@ use Rattle.std.specs.Prelude.{slice_get, nat_eq}
 use Rattle.std.proofs.lemmas.Bool.{eqb-true}
 use Rattle.std.proofs.lemmas.List.Elements.{All-head}
 use Rattle.std.proofs.lemmas.Option.{same_Some}
-use Rattle.mpy_base.specs.World.{AnException, Objects, IsA}
-use Rattle.mpy_base.specs.Val.{Val, Nil, At}
+use Rattle.state_calls.specs.mpy_base.World.{AnException, Objects, IsA}
+use Rattle.state_calls.specs.mpy_base.Val.{Val, Nil, At}
 use Rattle.state_calls.specs.arena_heap.declared.value.Value.{Value}
 use Rattle.state_calls.specs.bc_labels.Positions.{Starts, position_in}
 use Rattle.state_calls.specs.bc_machine.Library.{Code}

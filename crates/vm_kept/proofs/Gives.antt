@@ -3,18 +3,18 @@ use Rattle.std.proofs.Common.{◌≡◌, ℕ, suc, ◌+◌, List, [], ◌∷◌,
 use Rattle.std.specs.Prelude.{slice_get}
 use Rattle.std.proofs.lemmas.List.{drop-map}
 use Rattle.std.proofs.lemmas.Option.{same_Some}
-use Rattle.mpy_base.specs.World.{Objects, Heap, Later}
-use Rattle.mpy_base.specs.Val.{PlainWorld}
-use Rattle.bc_flow.specs.bc_shapes.declared.kinds.Kind.TheVariants as kinds
-use Rattle.bc_flow.specs.bc_shapes.declared.kinds.Give.TheVariants.{New}
-use Rattle.bc_flow.specs.bc_shapes.declared.kinds.Want.{Want}
-use Rattle.bc_flow.specs.bc_shapes.declared.kinds.Want.TheVariants as wants
-use Rattle.bc_flow.specs.bc_shapes.Shape.{takes}
-use Rattle.bc_ops.specs.declared.instr.Instr.TheVariants as instrs
-use Rattle.bc_flow.specs.Action.{Straight, op_action, instr_action, arguments}
-use Rattle.bc_flow.specs.Machine as flow
+use Rattle.state_calls.specs.mpy_base.World.{Objects, Heap, Later}
+use Rattle.state_calls.specs.mpy_base.Val.{PlainWorld}
+use Rattle.bc_progress.specs.bc_flow.bc_shapes.declared.kinds.Kind.TheVariants as kinds
+use Rattle.bc_progress.specs.bc_flow.bc_shapes.declared.kinds.Give.TheVariants.{New}
+use Rattle.bc_progress.specs.bc_flow.bc_shapes.declared.kinds.Want.{Want}
+use Rattle.bc_progress.specs.bc_flow.bc_shapes.declared.kinds.Want.TheVariants as wants
+use Rattle.bc_progress.specs.bc_flow.bc_shapes.Shape.{takes}
+use Rattle.bc_progress.specs.bc_ops.declared.instr.Instr.TheVariants as instrs
+use Rattle.bc_progress.specs.bc_flow.Action.{Straight, op_action, instr_action, arguments}
+use Rattle.bc_progress.specs.bc_flow.Machine as flow
 use Rattle.state_calls.specs.arena_heap.declared.value.Value.{Value}
-use Rattle.py_effects.specs.Effect.{Place}
+use Rattle.bc_progress.specs.py_effects.Effect.{Place}
 use Rattle.state_calls.specs.bc_labels.Positions.{position_in}
 use Rattle.state_calls.specs.bc_machine.Library.{Code, Line}
 use Rattle.state_calls.specs.bc_machine.State as states

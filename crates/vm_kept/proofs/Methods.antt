@@ -3,17 +3,17 @@ use Rattle.std.proofs.Common.{◌≡◌, ℕ, zero, suc, List, [], ◌∷◌, ma
 use Rattle.std.specs.Prelude.{slice_get, bytes_eq}
 use Rattle.std.proofs.lemmas.Option.{same_Some}
 use Rattle.std.proofs.lemmas.List.Elements.{All-head}
-use Rattle.mpy_base.specs.declared.builtin.Builtin.{Builtin}
-use Rattle.mpy_base.specs.World.{ObjectKind, AList, ATuple, AText, ADict, AFunction, AnException, AMethod, ARange, AModule, Objects, object, kind_of, IsA}
-use Rattle.mpy_base.specs.Val.{Val, Built}
+use Rattle.state_calls.specs.mpy_base.declared.builtin.Builtin.{Builtin}
+use Rattle.state_calls.specs.mpy_base.World.{ObjectKind, AList, ATuple, AText, ADict, AFunction, AnException, AMethod, ARange, AModule, Objects, object, kind_of, IsA}
+use Rattle.state_calls.specs.mpy_base.Val.{Val, Built}
 use Rattle.state_calls.specs.arena_heap.declared.value.Value.{Value}
 use Rattle.state_calls.specs.arena_heap.declared.value.Value.TheVariants as values
 use Rattle.state_calls.specs.arena_heap.declared.value.StrNo.{StrNo}
 use Rattle.state_calls.specs.arena_heap.declared.value.ConstNo.{ConstNo}
 use Rattle.state_calls.specs.arena_heap.Values.{IsMethodOf, Leads}
-use Rattle.py_effects.specs.py_primitives.Builtins.{named, list_methods, dict_methods, str_methods}
-use Rattle.bc_flow.specs.Machine as flow
-use Rattle.bc_flow.specs.Machine.{Stack}
+use Rattle.bc_progress.specs.py_effects.py_primitives.Builtins.{named, list_methods, dict_methods, str_methods}
+use Rattle.bc_progress.specs.bc_flow.Machine as flow
+use Rattle.bc_progress.specs.bc_flow.Machine.{Stack}
 use Rattle.state_calls.specs.bc_machine.State as states
 use Rattle.state_calls.specs.bc_progress.Slots.{Facts, ShowsIn, value, nothing, exception, null, kept_return, kept_jump, iterator1, iterator2, iterator3, iterator4, ShowsAllIn, none, more, bound, free}
 use Rattle.state_calls.specs.bc_progress.Known.{KindHas, HasMethod, facts_of}

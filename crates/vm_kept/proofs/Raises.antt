@@ -1,10 +1,10 @@
 -- Calls behind a stop.
 use Rattle.std.proofs.Common.{◌≡◌, ℕ, List, [], ◌∷◌, map, sym, ap, ◌∙◌, subst}
-use Rattle.mpy_base.specs.World.{Heap, Later}
-use Rattle.mpy_base.specs.Val.{PlainWorld}
+use Rattle.state_calls.specs.mpy_base.World.{Heap, Later}
+use Rattle.state_calls.specs.mpy_base.Val.{PlainWorld}
 use Rattle.state_calls.specs.arena_heap.declared.value.Value.{Value}
-use Rattle.py_effects.specs.py_primitives.Outcome as primitives
-use Rattle.py_effects.specs.Effect.{Place, Fails}
+use Rattle.bc_progress.specs.py_effects.py_primitives.Outcome as primitives
+use Rattle.bc_progress.specs.py_effects.Effect.{Place, Fails}
 use Rattle.state_calls.specs.bc_progress.Slots.{Facts}
 use Rattle.state_calls.specs.bc_progress.Known.{facts_of, objects_of}
 use Rattle.state_calls.proofs.bc_progress_lemmas.Knowing.{Covers, FitsBehind, ThrowsKnown, fault_known, own_covered}
@@ -12,7 +12,7 @@ use Rattle.state_calls.proofs.bc_progress_lemmas.Frames.{fails_fit}
 use Rattle.state_calls.proofs.bc_progress_lemmas.Others.{stands_more, below_more, objects_more}
 use Rattle.state_calls.specs.prim_faults.declared.stop.Stop.{Stop}
 use Rattle.state_calls.specs.prim_faults.Outcomes.{plain_stop}
-use Rattle.prim_raising.specs.Places.{stopped_at}
+use Rattle.state_calls.specs.prim_raising.Places.{stopped_at}
 use Rattle.state_calls.specs.prim_modules.Registry.{Registry}
 use Rattle.state_calls.specs.vm_frames.Calls.{Call, Calls}
 use Rattle.state_calls.specs.vm_frames.Views.{frame_of}

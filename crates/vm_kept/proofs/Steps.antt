@@ -1,10 +1,10 @@
 -- Calls that have begun, and calls behind a step.
 use Rattle.std.proofs.Common.{◌≡◌, ℕ, List, [], ◌∷◌, map, Some, refl, sym, ap, ◌∙◌, subst}
 use Rattle.std.proofs.lemmas.List.Elements.{All-nil}
-use Rattle.mpy_base.specs.World.{Heap, Objects, Later}
-use Rattle.mpy_base.specs.Val.{Val, PlainWorld}
+use Rattle.state_calls.specs.mpy_base.World.{Heap, Objects, Later}
+use Rattle.state_calls.specs.mpy_base.Val.{Val, PlainWorld}
 use Rattle.state_calls.specs.arena_heap.declared.value.Value.{Value}
-use Rattle.bc_flow.specs.Machine.{Stack}
+use Rattle.bc_progress.specs.bc_flow.Machine.{Stack}
 use Rattle.state_calls.specs.bc_machine.Library.{Name, Module, Holds, Library, entry_in}
 use Rattle.state_calls.specs.bc_machine.Machine.{start}
 use Rattle.state_calls.specs.bc_machine.State as states

@@ -1,6 +1,6 @@
 -- What the calls of a program keep: exceptions and methods that the objects of its arena have.
 use Rattle.std.specs.Prelude.{ℕ, List, [], ◌∷◌, map}
-use Rattle.mpy_base.specs.World.{Objects}
+use Rattle.state_calls.specs.mpy_base.World.{Objects}
 use Rattle.state_calls.specs.arena_heap.declared.value.Value.{Value}
 use Rattle.state_calls.specs.bc_progress.Fits.{StandsIn, BelowIn}
 use Rattle.state_calls.specs.bc_progress.Known.{facts_of}

@@ -1,1 +1,3 @@
+pub use Rattle.state_calls.specs as state_calls
+pub use Rattle.state_exits.specs as state_exits
 pub mod Kept

@@ -3,10 +3,10 @@
 #![tactic(auto)]
 
 ghost use Rattle.std.specs.Prelude.{◌≡◌, ℕ, ◌+◌, [], ◌∷◌, Some};
-ghost use Rattle.mpy_base.specs.World.{Objects, Heap, Later};
-ghost use Rattle.mpy_base.specs.Val.{PlainWorld};
+ghost use Rattle.state_calls.specs.mpy_base.World.{Objects, Heap, Later};
+ghost use Rattle.state_calls.specs.mpy_base.Val.{PlainWorld};
 ghost use Rattle.state_calls.specs.arena_heap.declared.value.Value.{Value};
-ghost use Rattle.py_effects.specs.Effect.{Place};
+ghost use Rattle.bc_progress.specs.py_effects.Effect.{Place};
 ghost use Rattle.state_calls.specs.prim_faults.declared.stop.Stop.{Stop};
 ghost use Rattle.state_calls.specs.bc_machine.Library.{Name, Module, Holds, entry_in};
 ghost use Rattle.state_calls.specs.bc_machine.Machine.{start};
@@ -31,6 +31,8 @@ ghost use Rattle.state_calls.specs.Taken.{HasMethods, CallsValue, callee_slots};
 ghost use Rattle.vm_kept.specs.Kept.{HoldsKept};
 
 use bc_progress::known_law;
+pub use state_calls::{take_call, visits_call_on};
+pub use state_exits::registered_law;
 
 /// Calls that have begun keep nothing yet: where the machine's start of a module comes to them, and where there is one call,
 /// without slots and entries.

@@ -5,23 +5,23 @@ use Rattle.mpy_base.specs.Val.{PlainWorld}
 use Rattle.mpy_io.specs.declared.fault.Failed.{Failed as SinkFault}
 use Rattle.port_set.proofs.Counting.{counts_same}
 use Rattle.bc_library.specs.Shelf.{Shelf}
-use Rattle.vm_frames.specs.bc_machine.Machine.{steps}
-use Rattle.vm_frames.specs.bc_machine.State.{State}
-use Rattle.vm_frames.specs.bc_machine.Step.{step}
-use Rattle.state_calls.specs.bc_rows.declared.row.Row.{Row}
-use Rattle.state_calls.specs.frame_moves.Shown.{running_of}
-use Rattle.state_calls.specs.frame_exits.declared.ends.End.{End}
-use Rattle.state_calls.specs.frame_exits.Ends.{with_modules}
-use Rattle.state_calls.specs.vm_fetching.declared.operations.NumberOp.{NumberOp}
-use Rattle.state_calls.specs.vm_fetching.declared.instruction.Fetched.{Fetched}
-use Rattle.state_calls.specs.vm_fetching.declared.instruction.Instruction.TheVariants as fetched
+use Rattle.state_steps.specs.vm_frames.bc_machine.Machine.{steps}
+use Rattle.state_steps.specs.vm_frames.bc_machine.State.{State}
+use Rattle.state_steps.specs.vm_frames.bc_machine.Step.{step}
+use Rattle.vm_kept.specs.state_calls.bc_rows.declared.row.Row.{Row}
+use Rattle.vm_kept.specs.state_calls.frame_moves.Shown.{running_of}
+use Rattle.vm_kept.specs.state_calls.frame_exits.declared.ends.End.{End}
+use Rattle.vm_kept.specs.state_calls.frame_exits.Ends.{with_modules}
+use Rattle.vm_kept.specs.state_calls.vm_fetching.declared.operations.NumberOp.{NumberOp}
+use Rattle.vm_kept.specs.state_calls.vm_fetching.declared.instruction.Fetched.{Fetched}
+use Rattle.vm_kept.specs.state_calls.vm_fetching.declared.instruction.Instruction.TheVariants as fetched
 use Rattle.vm_starting.specs.frame_calls.declared.calling.Invocation.{Invocation}
 use Rattle.vm_starting.specs.vm_states.Means.{Program}
-use Rattle.state_calls.specs.Called as called
-use Rattle.state_calls.specs.Called.{visits}
-use Rattle.state_calls.specs.Taken.{IsTaken}
+use Rattle.vm_kept.specs.state_calls.Called as called
+use Rattle.vm_kept.specs.state_calls.Called.{visits}
+use Rattle.vm_kept.specs.state_calls.Taken.{IsTaken}
 use Rattle.vm_kept.specs.Kept.{HoldsKept}
-use Rattle.state_exits.specs.Running.{IsRun}
+use Rattle.vm_kept.specs.state_exits.Running.{IsRun}
 use Rattle.vm_starting.specs.Programs.{IsProgramOf}
 use Rattle.state_steps.specs.Calling as calling
 use Rattle.vm_starting.specs.declared.opening.Vm.{Vm}

@@ -1,28 +1,28 @@
 -- What the machine's instruction finds that was fetched.
 use Rattle.std.proofs.Common.{◌≡◌, ℕ, List, Option, ap, sym, subst, ◌∙◌, arith}
 use Rattle.std.specs.Prelude.{◌<◌, ◌^◌, min}
-use Rattle.prim_faults.specs.arena_heap.declared.value.StrNo.{StrNo}
-use Rattle.prim_faults.specs.arena_heap.declared.value.ConstNo.{ConstNo}
+use Rattle.state_steps.specs.prim_faults.arena_heap.declared.value.StrNo.{StrNo}
+use Rattle.state_steps.specs.prim_faults.arena_heap.declared.value.ConstNo.{ConstNo}
 use Rattle.mpy_base.specs.World.{Heap}
-use Rattle.prim_faults.specs.arena_heap.declared.value.Value.{Value}
+use Rattle.state_steps.specs.prim_faults.arena_heap.declared.value.Value.{Value}
 use Rattle.bc_library.specs.Constants.{items_at, text_at}
 use Rattle.bc_library.specs.Shelf.{Shelf}
-use Rattle.state_calls.specs.bc_rows.declared.row.Row.{Row}
-use Rattle.prim_modules.specs.Registry.{Registry}
-use Rattle.vm_frames.specs.Calls.{Call, Calls}
-use Rattle.state_calls.specs.frame_exits.declared.ends.End.{End}
-use Rattle.state_calls.specs.frame_exits.declared.names.ModuleName.{ModuleName}
-use Rattle.state_calls.specs.vm_fetching.declared.instruction.Fetched.{Fetched}
-use Rattle.state_calls.specs.vm_fetching.declared.instruction.Instruction.{Instruction}
-use Rattle.state_calls.specs.vm_fetching.Fetches.{IsVerifiedRow}
+use Rattle.vm_kept.specs.state_calls.bc_rows.declared.row.Row.{Row}
+use Rattle.state_steps.specs.prim_modules.Registry.{Registry}
+use Rattle.state_steps.specs.vm_frames.Calls.{Call, Calls}
+use Rattle.vm_kept.specs.state_calls.frame_exits.declared.ends.End.{End}
+use Rattle.vm_kept.specs.state_calls.frame_exits.declared.names.ModuleName.{ModuleName}
+use Rattle.vm_kept.specs.state_calls.vm_fetching.declared.instruction.Fetched.{Fetched}
+use Rattle.vm_kept.specs.state_calls.vm_fetching.declared.instruction.Instruction.{Instruction}
+use Rattle.vm_kept.specs.state_calls.vm_fetching.Fetches.{IsVerifiedRow}
 use Rattle.vm_starting.specs.frame_calls.Operands.{Given}
 use Rattle.vm_starting.specs.vm_states.Means.{Program, Means}
 use Rattle.vm_starting.specs.vm_states.Ready.{IsReady}
 use Rattle.vm_starting.specs.vm_states.Acting.{Tells, RunsOver}
 use Rattle.vm_starting.specs.vm_states.State.{IsState}
-use Rattle.state_exits.specs.Modules.{AreNames, AreRegistered}
-use Rattle.state_exits.specs.Running.{RunsWith, RunsOn}
-use Rattle.state_calls.specs.Runs.{RunsWithin}
+use Rattle.vm_kept.specs.state_exits.Modules.{AreNames, AreRegistered}
+use Rattle.vm_kept.specs.state_exits.Running.{RunsWith, RunsOn}
+use Rattle.vm_kept.specs.state_calls.Runs.{RunsWithin}
 use Rattle.vm_starting.specs.Programs.{IsProgramOf}
 use Rattle.state_steps.specs.Comes.{ComesOn}
 use Rattle.vm_starting.specs.declared.opening.Vm.{Vm}

@@ -2,25 +2,25 @@
 use Rattle.std.proofs.Common.{◌≡◌, ℕ, List, Option, Some, None, refl, sym, ap, subst, ◌∙◌}
 use Rattle.std.specs.Prelude.{IfSome, IfNone}
 use Rattle.mpy_base.specs.Val.{PlainWorld}
-use Rattle.prim_faults.specs.arena_heap.declared.value.Value.{Value}
-use Rattle.prim_faults.specs.arena_heap.declared.value.StrNo.{StrNo}
-use Rattle.prim_faults.specs.arena_heap.declared.value.ConstNo.{ConstNo}
-use Rattle.prim_faults.specs.arena_objects.Keys.{AllTold}
+use Rattle.state_steps.specs.prim_faults.arena_heap.declared.value.Value.{Value}
+use Rattle.state_steps.specs.prim_faults.arena_heap.declared.value.StrNo.{StrNo}
+use Rattle.state_steps.specs.prim_faults.arena_heap.declared.value.ConstNo.{ConstNo}
+use Rattle.state_steps.specs.prim_faults.arena_objects.Keys.{AllTold}
 use Rattle.bc_library.specs.Constants.{items_at, text_at}
 use Rattle.bc_library.specs.Shelf.{Shelf}
-use Rattle.vm_frames.specs.Calls.{Call, Calls}
-use Rattle.state_calls.specs.frame_moves.Shown.{running_of}
-use Rattle.state_calls.specs.frame_exits.declared.names.ModuleName.{ModuleName}
-use Rattle.state_calls.specs.frame_exits.declared.ends.End.{End}
-use Rattle.state_calls.specs.frame_exits.declared.ends.After.TheVariants as afters
-use Rattle.state_calls.specs.frame_exits.Ends.{state_of}
-use Rattle.state_calls.specs.frame_exits.Known.{IsKnownAfter}
+use Rattle.state_steps.specs.vm_frames.Calls.{Call, Calls}
+use Rattle.vm_kept.specs.state_calls.frame_moves.Shown.{running_of}
+use Rattle.vm_kept.specs.state_calls.frame_exits.declared.names.ModuleName.{ModuleName}
+use Rattle.vm_kept.specs.state_calls.frame_exits.declared.ends.End.{End}
+use Rattle.vm_kept.specs.state_calls.frame_exits.declared.ends.After.TheVariants as afters
+use Rattle.vm_kept.specs.state_calls.frame_exits.Ends.{state_of}
+use Rattle.vm_kept.specs.state_calls.frame_exits.Known.{IsKnownAfter}
 use Rattle.vm_starting.specs.frame_calls.Operands.{Given}
 use Rattle.vm_starting.specs.vm_states.Means.{Program}
 use Rattle.vm_starting.specs.vm_states.Acting.{Tells}
 use Rattle.vm_starting.specs.vm_states.State.{IsState}
 use Rattle.vm_kept.specs.Kept.{HoldsKept}
-use Rattle.state_exits.specs.Running.{IsRun}
+use Rattle.vm_kept.specs.state_exits.Running.{IsRun}
 use Rattle.vm_starting.specs.Programs.{IsProgramOf}
 use Rattle.vm_starting.specs.declared.opening.Vm.{Vm}
 use Rattle.vm_starting.specs.Opened.{HasMemory}

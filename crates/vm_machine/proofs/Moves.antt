@@ -2,28 +2,28 @@
 use Rattle.std.proofs.Common.{◌≡◌, ◌+◌, ℕ, List, [], ◌∷◌, map, Option, None, sym, ap, subst, ◌∙◌}
 use Rattle.mpy_base.specs.World.{Heap, Objects, Later}
 use Rattle.mpy_base.specs.Val.{PlainWorld}
-use Rattle.prim_faults.specs.arena_heap.declared.value.Value.{Value}
-use Rattle.vm_frames.specs.py_effects.Effect.{Place}
-use Rattle.vm_frames.specs.py_effects.Ends.{new_world}
-use Rattle.vm_frames.specs.bc_machine.State.{Running}
-use Rattle.bc_progress.specs.Known.{facts_of}
-use Rattle.bc_progress.proofs.Others.{fits_more, objects_more}
-use Rattle.state_calls.specs.bc_rows.declared.row.Row.{Row}
-use Rattle.prim_faults.specs.declared.stop.Stop.{Stop}
-use Rattle.prim_modules.specs.Registry.{Registry}
-use Rattle.vm_frames.specs.Calls.{Call, Calls, on_running}
-use Rattle.vm_frames.specs.Views.{frame_of}
-use Rattle.state_calls.specs.frame_moves.Shown.{view_of, running_of}
-use Rattle.state_calls.specs.frame_moves.Outcomes.{world_of, stopping_of}
-use Rattle.state_calls.specs.frame_exits.declared.ends.End.{End}
-use Rattle.state_calls.specs.frame_exits.Ends.{with_modules, state_of}
-use Rattle.state_calls.specs.vm_fetching.declared.operations.NumberOp.{NumberOp}
-use Rattle.state_calls.specs.vm_fetching.declared.instruction.Instruction.TheVariants as fetched
+use Rattle.state_steps.specs.prim_faults.arena_heap.declared.value.Value.{Value}
+use Rattle.state_steps.specs.vm_frames.py_effects.Effect.{Place}
+use Rattle.state_steps.specs.vm_frames.py_effects.Ends.{new_world}
+use Rattle.state_steps.specs.vm_frames.bc_machine.State.{Running}
+use Rattle.state_steps.specs.bc_progress.Known.{facts_of}
+use Rattle.state_steps.proofs.bc_progress_lemmas.Others.{fits_more, objects_more}
+use Rattle.vm_kept.specs.state_calls.bc_rows.declared.row.Row.{Row}
+use Rattle.state_steps.specs.prim_faults.declared.stop.Stop.{Stop}
+use Rattle.state_steps.specs.prim_modules.Registry.{Registry}
+use Rattle.state_steps.specs.vm_frames.Calls.{Call, Calls, on_running}
+use Rattle.state_steps.specs.vm_frames.Views.{frame_of}
+use Rattle.vm_kept.specs.state_calls.frame_moves.Shown.{view_of, running_of}
+use Rattle.vm_kept.specs.state_calls.frame_moves.Outcomes.{world_of, stopping_of}
+use Rattle.vm_kept.specs.state_calls.frame_exits.declared.ends.End.{End}
+use Rattle.vm_kept.specs.state_calls.frame_exits.Ends.{with_modules, state_of}
+use Rattle.vm_kept.specs.state_calls.vm_fetching.declared.operations.NumberOp.{NumberOp}
+use Rattle.vm_kept.specs.state_calls.vm_fetching.declared.instruction.Instruction.TheVariants as fetched
 use Rattle.vm_starting.specs.frame_calls.Operands.{operands_count}
 use Rattle.vm_starting.specs.frame_calls.Putting.{with_value}
 use Rattle.vm_starting.specs.vm_states.Means.{Program, Means}
 use Rattle.vm_starting.specs.vm_states.Ready.{IsReady}
-use Rattle.state_calls.specs.Taken.{CallsValue, callee_slots}
+use Rattle.vm_kept.specs.state_calls.Taken.{CallsValue, callee_slots}
 use Rattle.vm_kept.specs.Kept.{KeepCalls, HoldsKept}
 use Rattle.state_steps.specs.Calling.{Went, steps, gives, raises, same}
 use Rattle.vm_machine.proofs.Stepped.{StepLaw}

@@ -7,27 +7,27 @@ use Rattle.mpy_base.specs.declared.room.Room.{Room}
 use Rattle.mpy_base.specs.Val.{PlainWorld}
 use Rattle.mpy_base.specs.Weights.{empty}
 use Rattle.mpy_base.specs.World.{Heap, Objects}
-use Rattle.prim_faults.specs.arena_heap.declared.value.Value.{Value}
-use Rattle.prim_faults.specs.arena_objects.Keys.{AllTold}
-use Rattle.prim_faults.specs.arena_objects.Iterables.{or_nothing}
+use Rattle.state_steps.specs.prim_faults.arena_heap.declared.value.Value.{Value}
+use Rattle.state_steps.specs.prim_faults.arena_objects.Keys.{AllTold}
+use Rattle.state_steps.specs.prim_faults.arena_objects.Iterables.{or_nothing}
 use Rattle.bc_library.specs.Constants.{items_at, text_at}
 use Rattle.bc_library.specs.Shelf.{Shelf}
-use Rattle.vm_frames.specs.py_effects.Heaps.{Formed}
-use Rattle.vm_frames.specs.py_effects.Modules.{make_module}
-use Rattle.prim_faults.specs.prim_walks.Plain.{plain_name, plain_heap}
-use Rattle.prim_modules.specs.declared.makings.Made.{Made}
-use Rattle.prim_modules.specs.Effects.{IsMaking}
-use Rattle.prim_modules.specs.Registry.{Registry, with_entry}
-use Rattle.vm_frames.specs.Calls.{Call, Calls}
-use Rattle.state_calls.specs.frame_exits.declared.ends.End.{End}
-use Rattle.state_calls.specs.frame_exits.declared.ends.End.TheVariants as ends
-use Rattle.state_calls.specs.frame_exits.declared.ends.After.TheVariants as afters
-use Rattle.state_calls.specs.frame_exits.Known.{IsKnownAfter}
+use Rattle.state_steps.specs.vm_frames.py_effects.Heaps.{Formed}
+use Rattle.state_steps.specs.vm_frames.py_effects.Modules.{make_module}
+use Rattle.state_steps.specs.prim_faults.prim_walks.Plain.{plain_name, plain_heap}
+use Rattle.state_steps.specs.prim_modules.declared.makings.Made.{Made}
+use Rattle.state_steps.specs.prim_modules.Effects.{IsMaking}
+use Rattle.state_steps.specs.prim_modules.Registry.{Registry, with_entry}
+use Rattle.state_steps.specs.vm_frames.Calls.{Call, Calls}
+use Rattle.vm_kept.specs.state_calls.frame_exits.declared.ends.End.{End}
+use Rattle.vm_kept.specs.state_calls.frame_exits.declared.ends.End.TheVariants as ends
+use Rattle.vm_kept.specs.state_calls.frame_exits.declared.ends.After.TheVariants as afters
+use Rattle.vm_kept.specs.state_calls.frame_exits.Known.{IsKnownAfter}
 use Rattle.vm_starting.specs.vm_states.Means.{Program}
 use Rattle.vm_starting.specs.vm_states.Running.{IsRunning}
 use Rattle.vm_starting.specs.vm_states.State.{IsState}
 use Rattle.vm_kept.specs.Kept.{HoldsKept}
-use Rattle.state_exits.specs.Modules.{AreRegistered}
+use Rattle.vm_kept.specs.state_exits.Modules.{AreRegistered}
 use Rattle.vm_starting.specs.Programs.{IsProgramOf, IsRunnable}
 use Rattle.vm_starting.specs.declared.opening.Vm.{Vm}
 use Rattle.vm_starting.specs.Opened.{HasMemory, IsBegun, state_in}

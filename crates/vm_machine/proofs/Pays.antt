@@ -4,34 +4,34 @@ use Rattle.std.specs.Prelude.{slice_get, Bool}
 use Rattle.std.proofs.lemmas.Bool.{lt-ltb}
 use Rattle.mpy_base.specs.World.{Heap}
 use Rattle.mpy_base.specs.Val.{Val, PlainWorld}
-use Rattle.prim_faults.specs.arena_heap.declared.value.Value.{Value}
-use Rattle.vm_frames.specs.py_effects.Effect.{Effect, Place}
-use Rattle.vm_frames.specs.py_effects.Calling as plain
-use Rattle.vm_frames.specs.py_effects.Calling.{Keys}
+use Rattle.state_steps.specs.prim_faults.arena_heap.declared.value.Value.{Value}
+use Rattle.state_steps.specs.vm_frames.py_effects.Effect.{Effect, Place}
+use Rattle.state_steps.specs.vm_frames.py_effects.Calling as plain
+use Rattle.state_steps.specs.vm_frames.py_effects.Calling.{Keys}
 use Rattle.bc_library.specs.Shelf.{Shelf}
-use Rattle.vm_frames.specs.bc_machine.Library.{Library, Plain}
-use Rattle.vm_frames.specs.bc_machine.Operations.{TwoValued, operator_at}
-use Rattle.vm_frames.specs.bc_machine.State as states
-use Rattle.vm_frames.specs.bc_machine.State.{State, Running}
-use Rattle.vm_frames.specs.bc_machine.Step as step
-use Rattle.vm_frames.specs.bc_ops.declared.instr.Instr.TheVariants as instrs
-use Rattle.state_calls.specs.bc_rows.declared.row.Row.{Row}
-use Rattle.prim_faults.specs.prim_walks.Plain.{plain_pair}
-use Rattle.vm_frames.specs.declared.slot.Slot.{Slot}
-use Rattle.vm_frames.specs.declared.slot.Slot.TheVariants as slots
-use Rattle.vm_frames.specs.Calls.{Call, Calls}
-use Rattle.vm_frames.specs.Views.{slots_of, starts_of, frame_of}
-use Rattle.state_calls.specs.frame_moves.Shown.{Tables, value_of, view_of, running_of, step_of}
-use Rattle.state_calls.specs.frame_moves.Outcomes.{world_of}
-use Rattle.state_calls.specs.frame_values.Operations as operations
-use Rattle.state_values.specs.Operators.{value_in, visits_over, visits_binary}
-use Rattle.state_calls.specs.prim_calls.Callees.{plain_callee}
-use Rattle.state_calls.specs.vm_fetching.declared.instruction.Fetched.{Fetched}
-use Rattle.state_calls.specs.vm_fetching.declared.instruction.Instruction.{Instruction}
-use Rattle.state_calls.specs.vm_fetching.declared.instruction.Instruction.TheVariants as fetched
-use Rattle.state_calls.specs.vm_fetching.declared.operations.NumberOp.{NumberOp}
-use Rattle.state_calls.specs.vm_fetching.Operations.{number_op}
-use Rattle.state_calls.specs.vm_fetching.Shows.{item_of_fetched}
+use Rattle.state_steps.specs.vm_frames.bc_machine.Library.{Library, Plain}
+use Rattle.state_steps.specs.vm_frames.bc_machine.Operations.{TwoValued, operator_at}
+use Rattle.state_steps.specs.vm_frames.bc_machine.State as states
+use Rattle.state_steps.specs.vm_frames.bc_machine.State.{State, Running}
+use Rattle.state_steps.specs.vm_frames.bc_machine.Step as step
+use Rattle.state_steps.specs.vm_frames.bc_ops.declared.instr.Instr.TheVariants as instrs
+use Rattle.vm_kept.specs.state_calls.bc_rows.declared.row.Row.{Row}
+use Rattle.state_steps.specs.prim_faults.prim_walks.Plain.{plain_pair}
+use Rattle.state_steps.specs.vm_frames.declared.slot.Slot.{Slot}
+use Rattle.state_steps.specs.vm_frames.declared.slot.Slot.TheVariants as slots
+use Rattle.state_steps.specs.vm_frames.Calls.{Call, Calls}
+use Rattle.state_steps.specs.vm_frames.Views.{slots_of, starts_of, frame_of}
+use Rattle.vm_kept.specs.state_calls.frame_moves.Shown.{Tables, value_of, view_of, running_of, step_of}
+use Rattle.vm_kept.specs.state_calls.frame_moves.Outcomes.{world_of}
+use Rattle.vm_kept.specs.state_calls.frame_values.Operations as operations
+use Rattle.vm_at_once.specs.state_values.Operators.{value_in, visits_over, visits_binary}
+use Rattle.vm_kept.specs.state_calls.prim_calls.Callees.{plain_callee}
+use Rattle.vm_kept.specs.state_calls.vm_fetching.declared.instruction.Fetched.{Fetched}
+use Rattle.vm_kept.specs.state_calls.vm_fetching.declared.instruction.Instruction.{Instruction}
+use Rattle.vm_kept.specs.state_calls.vm_fetching.declared.instruction.Instruction.TheVariants as fetched
+use Rattle.vm_kept.specs.state_calls.vm_fetching.declared.operations.NumberOp.{NumberOp}
+use Rattle.vm_kept.specs.state_calls.vm_fetching.Operations.{number_op}
+use Rattle.vm_kept.specs.state_calls.vm_fetching.Shows.{item_of_fetched}
 use Rattle.vm_starting.specs.frame_calls.declared.calling.Invocation.{Invocation}
 use Rattle.vm_starting.specs.frame_calls.Invoking.{visits_of, calling_of, Invokes}
 use Rattle.vm_starting.specs.frame_calls.Layouts.{Layout, tables_of}
@@ -39,8 +39,8 @@ use Rattle.vm_starting.specs.frame_calls.Operands.{Given}
 use Rattle.vm_starting.specs.vm_states.Means.{Program}
 use Rattle.vm_starting.specs.vm_states.Ready.{IsReady}
 use Rattle.vm_starting.specs.vm_states.Acting.{stepped}
-use Rattle.state_calls.specs.Called.{visits}
-use Rattle.state_calls.specs.Taken.{IsTaken}
+use Rattle.vm_kept.specs.state_calls.Called.{visits}
+use Rattle.vm_kept.specs.state_calls.Taken.{IsTaken}
 use Rattle.vm_starting.specs.Programs.{IsProgramOf}
 use Rattle.state_steps.specs.Values.{value_visits}
 use Rattle.vm_machine.proofs.Machines.{in_program}

@@ -6,10 +6,10 @@ use Rattle.mpy_io.specs.Ports.{PortView}
 use Rattle.port_set.specs.Counts.{CountsKeep}
 use Rattle.port_set.proofs.Counting.{counts_same, counts_on}
 use Rattle.bc_library.specs.Shelf.{Shelf}
-use Rattle.vm_frames.specs.bc_machine.Machine.{steps}
-use Rattle.vm_frames.specs.bc_machine.State.{State}
-use Rattle.state_calls.specs.frame_exits.declared.ends.End.{End}
-use Rattle.state_calls.specs.frame_exits.Ends.{end_of}
+use Rattle.state_steps.specs.vm_frames.bc_machine.Machine.{steps}
+use Rattle.state_steps.specs.vm_frames.bc_machine.State.{State}
+use Rattle.vm_kept.specs.state_calls.frame_exits.declared.ends.End.{End}
+use Rattle.vm_kept.specs.state_calls.frame_exits.Ends.{end_of}
 use Rattle.vm_starting.specs.vm_states.Means.{Program}
 use Rattle.vm_starting.specs.declared.opening.Vm.{Vm}
 use Rattle.vm_machine.specs.Acting.{Stepped}

@@ -1,23 +1,23 @@
 -- The instruction that the first of the calls stands at.
 use Rattle.std.proofs.Common.{◌≡◌, ℕ, ◌<◌, List, [], ◌∷◌, length, Option, Some, None, refl, sym, ap, subst, arith}
 use Rattle.std.specs.Prelude.{IsSome, All}
-use Rattle.prim_faults.specs.arena_heap.declared.value.StrNo.TheVariants as strs
+use Rattle.state_steps.specs.prim_faults.arena_heap.declared.value.StrNo.TheVariants as strs
 use Rattle.bc_library.specs.Shelf.{Shelf}
-use Rattle.vm_frames.specs.bc_labels.Positions.{CodeList, Listed, Starts}
-use Rattle.state_calls.specs.bc_rows.declared.row.Row.{Row}
-use Rattle.state_calls.specs.bc_rows.Codes.{code_numbered}
-use Rattle.state_calls.specs.bc_rows.Rows.{IsRow}
-use Rattle.vm_frames.specs.Calls.{Call, Calls, OfRunning}
-use Rattle.state_calls.specs.frame_exits.declared.names.ModuleName.{ModuleName}
-use Rattle.state_calls.specs.frame_exits.Left.{HasLast}
-use Rattle.state_calls.specs.frame_exits.Names.{AreTablesOf}
-use Rattle.state_calls.specs.vm_fetching.declared.instruction.Fetched.{Fetched}
-use Rattle.state_calls.specs.vm_fetching.Fetches.{IsVerifiedRow}
+use Rattle.state_steps.specs.vm_frames.bc_labels.Positions.{CodeList, Listed, Starts}
+use Rattle.vm_kept.specs.state_calls.bc_rows.declared.row.Row.{Row}
+use Rattle.vm_kept.specs.state_calls.bc_rows.Codes.{code_numbered}
+use Rattle.vm_kept.specs.state_calls.bc_rows.Rows.{IsRow}
+use Rattle.state_steps.specs.vm_frames.Calls.{Call, Calls, OfRunning}
+use Rattle.vm_kept.specs.state_calls.frame_exits.declared.names.ModuleName.{ModuleName}
+use Rattle.vm_kept.specs.state_calls.frame_exits.Left.{HasLast}
+use Rattle.vm_kept.specs.state_calls.frame_exits.Names.{AreTablesOf}
+use Rattle.vm_kept.specs.state_calls.vm_fetching.declared.instruction.Fetched.{Fetched}
+use Rattle.vm_kept.specs.state_calls.vm_fetching.Fetches.{IsVerifiedRow}
 use Rattle.vm_starting.specs.vm_states.Means.{Program, Means}
 use Rattle.vm_starting.specs.vm_states.Ready.{IsFetched, IsReady}
 use Rattle.vm_starting.specs.vm_states.Running.{FitCalls, IsRunning}
-use Rattle.state_exits.specs.Modules.{AreNames}
-use Rattle.state_calls.specs.Runs.{IsFetchedAt}
+use Rattle.vm_kept.specs.state_exits.Modules.{AreNames}
+use Rattle.vm_kept.specs.state_calls.Runs.{IsFetchedAt}
 use Rattle.vm_starting.specs.Programs.{IsProgramOf}
 use Rattle.vm_starting.specs.declared.opening.Vm.{Vm}
 use Rattle.vm_starting.specs.Titles.{AreTitles}

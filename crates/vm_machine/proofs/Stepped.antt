@@ -3,24 +3,24 @@ use Rattle.std.proofs.Common.{◌≡◌, ℕ, suc, ◌+◌, ◌-◌, ◌<◌, �
 use Rattle.std.specs.Prelude.{min}
 use Rattle.mpy_base.specs.World.{Heap, Later}
 use Rattle.mpy_base.specs.Val.{PlainWorld}
-use Rattle.prim_faults.specs.arena_heap.declared.value.Value.{Value}
-use Rattle.vm_frames.specs.py_effects.Ends.{new_world}
+use Rattle.state_steps.specs.prim_faults.arena_heap.declared.value.Value.{Value}
+use Rattle.state_steps.specs.vm_frames.py_effects.Ends.{new_world}
 use Rattle.bc_library.specs.Constants.{items_at, text_at}
 use Rattle.bc_library.specs.Shelf.{Shelf}
-use Rattle.vm_frames.specs.bc_machine.Machine.{steps}
-use Rattle.vm_frames.specs.bc_machine.State.{State}
-use Rattle.vm_frames.specs.bc_machine.Step.{step}
-use Rattle.state_calls.specs.bc_rows.declared.row.Row.{Row}
-use Rattle.prim_modules.specs.Registry.{Registry}
-use Rattle.vm_frames.specs.Calls.{Calls}
-use Rattle.state_calls.specs.frame_moves.Shown.{running_of}
-use Rattle.state_calls.specs.frame_moves.Outcomes.{world_of}
-use Rattle.state_calls.specs.frame_exits.declared.ends.End.{End}
-use Rattle.state_calls.specs.frame_exits.Ends.{with_modules, state_of}
-use Rattle.state_calls.specs.vm_fetching.declared.instruction.Fetched.{Fetched}
+use Rattle.state_steps.specs.vm_frames.bc_machine.Machine.{steps}
+use Rattle.state_steps.specs.vm_frames.bc_machine.State.{State}
+use Rattle.state_steps.specs.vm_frames.bc_machine.Step.{step}
+use Rattle.vm_kept.specs.state_calls.bc_rows.declared.row.Row.{Row}
+use Rattle.state_steps.specs.prim_modules.Registry.{Registry}
+use Rattle.state_steps.specs.vm_frames.Calls.{Calls}
+use Rattle.vm_kept.specs.state_calls.frame_moves.Shown.{running_of}
+use Rattle.vm_kept.specs.state_calls.frame_moves.Outcomes.{world_of}
+use Rattle.vm_kept.specs.state_calls.frame_exits.declared.ends.End.{End}
+use Rattle.vm_kept.specs.state_calls.frame_exits.Ends.{with_modules, state_of}
+use Rattle.vm_kept.specs.state_calls.vm_fetching.declared.instruction.Fetched.{Fetched}
 use Rattle.vm_starting.specs.vm_states.Means.{Program, Means}
 use Rattle.vm_kept.specs.Kept.{HoldsKept}
-use Rattle.state_exits.specs.Running.{stepped_with}
+use Rattle.vm_kept.specs.state_exits.Running.{stepped_with}
 use Rattle.vm_starting.specs.Programs.{IsProgramOf}
 use Rattle.state_steps.specs.Values.{value_visits}
 use Rattle.vm_starting.specs.declared.opening.Vm.{Vm}

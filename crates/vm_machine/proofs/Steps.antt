@@ -1,11 +1,11 @@
 -- Runs of the machine in parts, and steps that are paid.
 use Rattle.std.proofs.Common.{◌≡◌, ℕ, zero, suc, ◌+◌, ◌<◌, refl, ap, ◌∙◌, arith}
 use Rattle.mpy_base.specs.Val.{PlainWorld}
-use Rattle.vm_frames.specs.py_effects.Ends.{End}
-use Rattle.vm_frames.specs.bc_machine.Library.{Library}
-use Rattle.vm_frames.specs.bc_machine.Machine.{steps}
-use Rattle.vm_frames.specs.bc_machine.State.{State, Halted}
-use Rattle.vm_frames.specs.bc_machine.Step.{step}
+use Rattle.state_steps.specs.vm_frames.py_effects.Ends.{End}
+use Rattle.state_steps.specs.vm_frames.bc_machine.Library.{Library}
+use Rattle.state_steps.specs.vm_frames.bc_machine.Machine.{steps}
+use Rattle.state_steps.specs.vm_frames.bc_machine.State.{State, Halted}
+use Rattle.state_steps.specs.vm_frames.bc_machine.Step.{step}
 
 -- a run that has ended stays
 pub halted : (library : Library) (n : ℕ) (e : End) (w : PlainWorld) → steps library n (Halted e w) ≡ Halted e w

@@ -1,8 +1,8 @@
 -- What every library has: texts by their numbers, and codes of few slots.
 use Rattle.std.proofs.Common.{◌≡◌, ℕ, zero, suc, ◌≤◌, Some, refl, arith}
 use Rattle.std.specs.Prelude.{codes}
-use Rattle.prim_faults.specs.arena_heap.declared.value.StrNo.TheVariants as strs
-use Rattle.bc_prelude.specs.declared.prelude.Prelude.{Prelude}
+use Rattle.state_steps.specs.prim_faults.arena_heap.declared.value.StrNo.TheVariants as strs
+use Rattle.state_steps.specs.bc_prelude.declared.prelude.Prelude.{Prelude}
 use Rattle.bc_library.specs.Constants.{text_at}
 use Rattle.bc_library.specs.Greatest.{ShelfHas, IsGreatestIn}
 use Rattle.bc_library.specs.Shelf.{Shelf}

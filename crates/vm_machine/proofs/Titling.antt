@@ -5,7 +5,7 @@ use Rattle.std.proofs.lemmas.Option.{slice_get_within}
 use Rattle.bc_library.specs.declared.texts.Title.{Title}
 use Rattle.bc_library.specs.Shelf.{Shelf, Named}
 use Rattle.bc_library.specs.Texts as texts
-use Rattle.state_calls.specs.frame_exits.declared.names.ModuleName.{ModuleName}
+use Rattle.vm_kept.specs.state_calls.frame_exits.declared.names.ModuleName.{ModuleName}
 use Rattle.vm_starting.specs.Titles.{IsTitle, AreTitles}
 
 -- the names of the first modules

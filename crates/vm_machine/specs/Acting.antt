@@ -3,19 +3,19 @@ use Rattle.std.specs.Prelude.{◌≡◌, ◌+◌, ◌≤◌, ℕ, List, length, 
 use Rattle.mpy_base.specs.Val.{PlainWorld}
 use Rattle.mpy_io.specs.declared.fault.Failed.{Failed as SinkFault}
 use Rattle.bc_library.specs.Shelf.{Shelf}
-use Rattle.vm_frames.specs.bc_machine.Machine.{steps}
-use Rattle.state_calls.specs.bc_rows.declared.row.Row.{Row}
-use Rattle.state_calls.specs.prim_calls.Calls.{Seen}
-use Rattle.state_calls.specs.prim_calls.declared.callees.Callee.{Callee}
-use Rattle.vm_frames.specs.Calls.{OfRunning}
-use Rattle.state_calls.specs.frame_exits.declared.ends.End.{End}
-use Rattle.state_calls.specs.vm_fetching.declared.instruction.Fetched.{Fetched}
-use Rattle.state_calls.specs.vm_fetching.Fetches.{IsVerifiedRow}
+use Rattle.state_steps.specs.vm_frames.bc_machine.Machine.{steps}
+use Rattle.vm_kept.specs.state_calls.bc_rows.declared.row.Row.{Row}
+use Rattle.vm_kept.specs.state_calls.prim_calls.Calls.{Seen}
+use Rattle.vm_kept.specs.state_calls.prim_calls.declared.callees.Callee.{Callee}
+use Rattle.state_steps.specs.vm_frames.Calls.{OfRunning}
+use Rattle.vm_kept.specs.state_calls.frame_exits.declared.ends.End.{End}
+use Rattle.vm_kept.specs.state_calls.vm_fetching.declared.instruction.Fetched.{Fetched}
+use Rattle.vm_kept.specs.state_calls.vm_fetching.Fetches.{IsVerifiedRow}
 use Rattle.vm_starting.specs.Kept.{IsFetchedOf, place_in}
 use Rattle.vm_starting.specs.vm_states.Means.{Program}
 use Rattle.vm_starting.specs.vm_states.Ready.{IsReady}
-use Rattle.state_exits.specs.Modules.{AreNames}
-use Rattle.state_calls.specs.Runs.{IsFetchedAt}
+use Rattle.vm_kept.specs.state_exits.Modules.{AreNames}
+use Rattle.vm_kept.specs.state_calls.Runs.{IsFetchedAt}
 use Rattle.vm_starting.specs.Programs.{IsProgramOf}
 use Rattle.state_steps.specs.Calling.{CallsOn}
 use Rattle.state_steps.specs.Comes.{ComesOn}

@@ -1,17 +1,17 @@
 -- Instructions by what carries them out.
 use Rattle.std.specs.Prelude.{◌≡◌, ℕ, List, Option}
 use Rattle.mpy_base.specs.World.{Heap}
-use Rattle.prim_faults.specs.arena_heap.declared.value.Value.{Value}
-use Rattle.prim_faults.specs.arena_heap.declared.value.StrNo.{StrNo}
-use Rattle.prim_faults.specs.arena_heap.declared.value.ConstNo.{ConstNo}
-use Rattle.prim_faults.specs.arena_heap.declared.value.StrNo.TheVariants as strs
-use Rattle.state_calls.specs.vm_fetching.declared.instruction.Instruction.{Instruction}
-use Rattle.state_calls.specs.vm_fetching.declared.instruction.Instruction.TheVariants as fetched
-use Rattle.state_calls.specs.vm_fetching.declared.operations.PlainOp.TheVariants as plain_ops
-use Rattle.state_calls.specs.vm_fetching.declared.operations.NumberOp.TheVariants as number_ops
-use Rattle.state_calls.specs.vm_fetching.declared.operations.NameOp.TheVariants as name_ops
-use Rattle.vm_frames.specs.Calls.{Call}
-use Rattle.state_calls.specs.Taken.{CallsValue}
+use Rattle.state_steps.specs.prim_faults.arena_heap.declared.value.Value.{Value}
+use Rattle.state_steps.specs.prim_faults.arena_heap.declared.value.StrNo.{StrNo}
+use Rattle.state_steps.specs.prim_faults.arena_heap.declared.value.ConstNo.{ConstNo}
+use Rattle.state_steps.specs.prim_faults.arena_heap.declared.value.StrNo.TheVariants as strs
+use Rattle.vm_kept.specs.state_calls.vm_fetching.declared.instruction.Instruction.{Instruction}
+use Rattle.vm_kept.specs.state_calls.vm_fetching.declared.instruction.Instruction.TheVariants as fetched
+use Rattle.vm_kept.specs.state_calls.vm_fetching.declared.operations.PlainOp.TheVariants as plain_ops
+use Rattle.vm_kept.specs.state_calls.vm_fetching.declared.operations.NumberOp.TheVariants as number_ops
+use Rattle.vm_kept.specs.state_calls.vm_fetching.declared.operations.NameOp.TheVariants as name_ops
+use Rattle.state_steps.specs.vm_frames.Calls.{Call}
+use Rattle.vm_kept.specs.state_calls.Taken.{CallsValue}
 use Rattle.state_steps.specs.Leaves.{LeavesCall}
 use Rattle.state_steps.specs.Values.{ActsOnValues, value_visits}
 use Rattle.vm_machine.specs.declared.forms.Form.{Form}

@@ -1,21 +1,21 @@
 -- Where the machine is that runs a library of files over an arena.
 use Rattle.std.specs.Prelude.{◌≡◌, ℕ, List, Option, Some, None, IfSome}
 use Rattle.mpy_base.specs.Val.{PlainWorld}
-use Rattle.prim_faults.specs.arena_objects.Keys.{AllTold}
+use Rattle.state_steps.specs.prim_faults.arena_objects.Keys.{AllTold}
 use Rattle.bc_library.specs.Constants.{items_at, text_at}
 use Rattle.bc_library.specs.Shelf.{Shelf}
-use Rattle.vm_frames.specs.bc_machine.State.{State, Halted}
-use Rattle.vm_frames.specs.Calls.{Call}
-use Rattle.state_calls.specs.frame_moves.Shown.{running_of}
-use Rattle.state_calls.specs.frame_moves.Outcomes.{world_of}
-use Rattle.state_calls.specs.frame_exits.declared.ends.End.{End}
-use Rattle.state_calls.specs.frame_exits.declared.ends.After.TheVariants as afters
-use Rattle.state_calls.specs.frame_exits.Ends.{end_of, with_modules}
-use Rattle.state_calls.specs.frame_exits.Known.{IsKnownAfter}
+use Rattle.state_steps.specs.vm_frames.bc_machine.State.{State, Halted}
+use Rattle.state_steps.specs.vm_frames.Calls.{Call}
+use Rattle.vm_kept.specs.state_calls.frame_moves.Shown.{running_of}
+use Rattle.vm_kept.specs.state_calls.frame_moves.Outcomes.{world_of}
+use Rattle.vm_kept.specs.state_calls.frame_exits.declared.ends.End.{End}
+use Rattle.vm_kept.specs.state_calls.frame_exits.declared.ends.After.TheVariants as afters
+use Rattle.vm_kept.specs.state_calls.frame_exits.Ends.{end_of, with_modules}
+use Rattle.vm_kept.specs.state_calls.frame_exits.Known.{IsKnownAfter}
 use Rattle.vm_starting.specs.vm_states.Means.{Program}
 use Rattle.vm_starting.specs.vm_states.State.{IsState}
 use Rattle.vm_kept.specs.Kept.{HoldsKept}
-use Rattle.state_exits.specs.Modules.{AreRegistered}
+use Rattle.vm_kept.specs.state_exits.Modules.{AreRegistered}
 use Rattle.vm_starting.specs.Programs.{IsRunnable, IsProgramOf}
 use Rattle.vm_starting.specs.declared.opening.Vm.{Vm}
 use Rattle.vm_starting.specs.Opened.{HasMemory}

@@ -7,21 +7,21 @@ use Rattle.mpy_io.specs.declared.fault.Failed.{Failed as SinkFault}
 use Rattle.port_set.specs.Calls.{Tell}
 use Rattle.port_set.specs.Counts.{CountsKeep}
 use Rattle.bc_library.specs.Shelf.{Shelf}
-use Rattle.vm_frames.specs.bc_machine.Machine.{steps}
-use Rattle.vm_frames.specs.bc_machine.Step.{step}
-use Rattle.state_calls.specs.bc_rows.declared.row.Row.{Row}
+use Rattle.state_steps.specs.vm_frames.bc_machine.Machine.{steps}
+use Rattle.state_steps.specs.vm_frames.bc_machine.Step.{step}
+use Rattle.vm_kept.specs.state_calls.bc_rows.declared.row.Row.{Row}
 use Rattle.vm_starting.specs.prim_outputs.Prints.{Puts}
-use Rattle.vm_frames.specs.Calls.{Call}
-use Rattle.state_calls.specs.frame_moves.Shown.{running_of}
-use Rattle.state_calls.specs.frame_exits.Ends.{with_modules}
-use Rattle.state_calls.specs.vm_fetching.declared.operations.NumberOp.{NumberOp}
-use Rattle.state_calls.specs.vm_fetching.declared.instruction.Instruction.TheVariants as fetched
+use Rattle.state_steps.specs.vm_frames.Calls.{Call}
+use Rattle.vm_kept.specs.state_calls.frame_moves.Shown.{running_of}
+use Rattle.vm_kept.specs.state_calls.frame_exits.Ends.{with_modules}
+use Rattle.vm_kept.specs.state_calls.vm_fetching.declared.operations.NumberOp.{NumberOp}
+use Rattle.vm_kept.specs.state_calls.vm_fetching.declared.instruction.Instruction.TheVariants as fetched
 use Rattle.vm_starting.specs.frame_calls.declared.calling.Invocation.{Invocation}
 use Rattle.vm_starting.specs.frame_calls.Operands.{Given}
 use Rattle.vm_starting.specs.vm_states.Means.{Program}
 use Rattle.vm_starting.specs.vm_states.Ready.{IsReady}
-use Rattle.state_calls.specs.Called as called
-use Rattle.state_calls.specs.Taken.{IsTaken}
+use Rattle.vm_kept.specs.state_calls.Called as called
+use Rattle.vm_kept.specs.state_calls.Taken.{IsTaken}
 use Rattle.vm_starting.specs.Programs.{IsProgramOf}
 use Rattle.vm_starting.specs.declared.opening.Vm.{Vm}
 use Rattle.vm_machine.specs.Machine.{IsVm, machine_of, world_in}

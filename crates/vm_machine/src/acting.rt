@@ -2,11 +2,11 @@
 
 ghost use Rattle.std.specs.Prelude.{◌≡◌};
 ghost use Rattle.bc_library.specs.Constants.{items_at, text_at};
-ghost use Rattle.state_calls.specs.vm_fetching.declared.instruction.Instruction.TheVariants as fetched_as;
-ghost use Rattle.state_calls.specs.vm_fetching.declared.operations.NumberOp.TheVariants as number_ops;
-ghost use Rattle.state_calls.specs.vm_fetching.declared.operations.PlainOp.TheVariants as plain_ops;
-ghost use Rattle.state_exits.specs.Importing.{fetched_import};
-ghost use Rattle.state_exits.specs.Running.{fetched_plain};
+ghost use Rattle.vm_kept.specs.state_calls.vm_fetching.declared.instruction.Instruction.TheVariants as fetched_as;
+ghost use Rattle.vm_kept.specs.state_calls.vm_fetching.declared.operations.NumberOp.TheVariants as number_ops;
+ghost use Rattle.vm_kept.specs.state_calls.vm_fetching.declared.operations.PlainOp.TheVariants as plain_ops;
+ghost use Rattle.vm_kept.specs.state_exits.Importing.{fetched_import};
+ghost use Rattle.vm_kept.specs.state_exits.Running.{fetched_plain};
 ghost use Rattle.state_steps.specs.Leaves.{LeavesCall};
 ghost use Rattle.state_steps.specs.Values.{ActsOnValues, value_visits};
 ghost use Rattle.vm_machine.specs.Acting.{Acted, HasFetched};
@@ -15,9 +15,8 @@ ghost use Rattle.vm_machine.specs.Forms.{HasForm, IsNoCall};
 use crate::forms::Form;
 use arena_heap::StrNo;
 use bc_library::Library;
-use bc_rows::{Row, Rows};
 use state_steps::{finish, import, leave, make, make_with, operate};
-use vm_fetching::{Fetched, PlainOp};
+use vm_at_once::{Fetched, PlainOp, Row, Rows};
 use vm_kept::cause_law;
 use vm_starting::{NAME, Vm};
 

@@ -1,7 +1,7 @@
 //! Instructions that are carried out at once, one after another.
 
 ghost use Rattle.std.specs.Prelude.{◌≡◌, ◌<◌, ◌≤◌, None, true};
-ghost use Rattle.state_calls.specs.bc_rows.declared.row.Row.{Row as CodeRow};
+ghost use Rattle.vm_kept.specs.state_calls.bc_rows.declared.row.Row.{Row as CodeRow};
 ghost use Rattle.vm_starting.specs.Kept.{AreFetched};
 ghost use Rattle.vm_machine.specs.Acting.{AreFetchedIn, HasFetched, Stepped};
 ghost use Rattle.vm_machine.specs.Machine.{IsVm};
@@ -10,11 +10,8 @@ use crate::acting::act;
 use crate::fetching::{fetch_in, fetch_kept, row_of};
 use crate::forms::unpaid_form;
 use bc_library::Library;
-use bc_rows::Rows;
-use state_exits::registered_law;
-use vm_at_once::{act_at_once, store_at_once};
-use vm_fetching::Fetched;
-use vm_kept::step_law;
+use vm_at_once::{Fetched, Rows, act_at_once, store_at_once};
+use vm_kept::{registered_law, step_law};
 use vm_starting::{Cache, Places, Vm, program_law};
 
 /// The instruction that was fetched, if it is no call and makes no visits. It answers how many steps were taken: none where it is

@@ -1,16 +1,14 @@
 //! The instruction that the machine stands at.
 
 ghost use Rattle.std.specs.Prelude.{◌≡◌, ◌<◌, None, IfSome, length, true};
-ghost use Rattle.state_calls.specs.bc_rows.declared.row.Row.{Row as CodeRow};
+ghost use Rattle.vm_kept.specs.state_calls.bc_rows.declared.row.Row.{Row as CodeRow};
 ghost use Rattle.vm_starting.specs.Kept.{AreFetched};
 ghost use Rattle.vm_machine.specs.Machine.{IsVm};
 ghost use Rattle.vm_machine.specs.Acting.{AreFetchedIn, HasFetched};
 
 use bc_library::Library;
-use bc_rows::{Row, Rows};
-use vm_fetching::{Fetched, fetch};
-use vm_starting::{Cache, Places, Vm, cache_law, names_law, program_law, row_law};
-use vm_states::ready_law;
+use vm_at_once::{Fetched, Row, Rows, fetch};
+use vm_starting::{Cache, Places, Vm, cache_law, names_law, program_law, ready_law, row_law};
 
 /// What is fetched for the running call, and the row of its code. It takes no memory.
 fn fetch_at<'b, 'a>(vm: &Vm, library: &Library, rows: &'b Rows<'a>) -> (&'b Row<'a>, Fetched)

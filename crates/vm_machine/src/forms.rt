@@ -1,14 +1,14 @@
 //! Instructions by what carries them out.
 
 ghost use Rattle.std.specs.Prelude.{◌≡◌, ℕ, false, IfSome, IfNone};
-ghost use Rattle.prim_faults.specs.arena_heap.declared.value.StrNo.TheVariants as strs;
+ghost use Rattle.state_steps.specs.prim_faults.arena_heap.declared.value.StrNo.TheVariants as strs;
 ghost use Rattle.bc_library.specs.Shelf.{Shelf};
-ghost use Rattle.state_calls.specs.vm_fetching.declared.instruction.Instruction.TheVariants as fetched;
-ghost use Rattle.state_calls.specs.vm_fetching.Shows.{TextIsThere};
+ghost use Rattle.vm_kept.specs.state_calls.vm_fetching.declared.instruction.Instruction.TheVariants as fetched;
+ghost use Rattle.vm_kept.specs.state_calls.vm_fetching.Shows.{TextIsThere};
 ghost use Rattle.vm_machine.specs.Forms.{HasForm, IsNoCall, MakesNoVisits};
 
 use arena_heap::StrNo;
-use vm_fetching::{Instruction, NameOp, NumberOp, PlainOp};
+use vm_at_once::{Instruction, NameOp, NumberOp, PlainOp};
 
 /// What carries out an instruction.
 #[derive(Clone, Copy, Debug, PartialEq, Eq)]

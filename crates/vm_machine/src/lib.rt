@@ -13,3 +13,5 @@ mod stepping;
 
 pub use opening::{open, used};
 pub use running::run;
+pub use vm_at_once::{End, Rows};
+pub use vm_starting::{Cache, Vm, program_law};

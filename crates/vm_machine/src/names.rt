@@ -4,10 +4,10 @@ ghost use Rattle.std.specs.Prelude.{IfOk};
 ghost use Rattle.vm_starting.specs.Titles.{AreTitles};
 
 use bc_library::{Library, library_law};
-use frame_exits::ModuleName;
 use mpy_base::NoMemory;
 use mpy_base::limits::MAX_MODULES;
 use std::alloc::Global;
+use vm_at_once::ModuleName;
 
 /// The names of the library's modules, in the order of their numbers.
 pub(crate) fn module_names(alloc: Global, library: &Library) -> Result<Vec<ModuleName>, NoMemory>

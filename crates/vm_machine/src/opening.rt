@@ -3,20 +3,19 @@
 ghost use Rattle.std.specs.Prelude.{◌≡◌, ◌<◌, List, IfOk, length};
 ghost use Rattle.mpy_base.specs.Weights.{used as cells_used};
 ghost use Rattle.mpy_base.specs.World.{PortState};
-ghost use Rattle.vm_frames.specs.bc_machine.Library.{Name};
-ghost use Rattle.vm_frames.specs.bc_machine.Machine.{start};
-ghost use Rattle.vm_frames.specs.py_effects.Ends.{new_world};
+ghost use Rattle.state_steps.specs.vm_frames.bc_machine.Library.{Name};
+ghost use Rattle.state_steps.specs.vm_frames.bc_machine.Machine.{start};
+ghost use Rattle.state_steps.specs.vm_frames.py_effects.Ends.{new_world};
 ghost use Rattle.vm_starting.specs.vm_states.Means.{Program};
 ghost use Rattle.vm_starting.specs.Programs.{IsProgramOf, IsRunnable};
 ghost use Rattle.vm_machine.specs.Machine.{IsVm, machine_of};
 
 use crate::names::module_names;
 use bc_library::{Library, library_law};
-use bc_rows::Rows;
 use mpy_base::{NoMemory, Room};
-use state_exits::registered_law;
 use std::alloc::Global;
-use vm_kept::begins_law;
+use vm_at_once::Rows;
+use vm_kept::{begins_law, registered_law};
 use vm_starting::Vm;
 
 /// A run of the library whose main module has this number, in an arena of this room. It takes all its memory here. Where the main

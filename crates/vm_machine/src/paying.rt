@@ -6,9 +6,7 @@ ghost use Rattle.state_steps.specs.Values.{value_visits};
 ghost use Rattle.vm_machine.specs.Acting.{HasFetched};
 
 use bc_library::Library;
-use bc_rows::Row;
-use state_values::visits_binary_op;
-use vm_fetching::{Fetched, Instruction};
+use vm_at_once::{Fetched, Instruction, Row, visits_binary_op};
 use vm_starting::Vm;
 
 /// How many visits the instruction makes, which is no call, up to `most`. It goes no further.

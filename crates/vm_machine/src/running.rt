@@ -9,9 +9,9 @@ ghost use Rattle.vm_machine.specs.Running.{Runs, RunsToFailure};
 
 use crate::stepping::advance;
 use bc_library::Library;
-use bc_rows::Rows;
 use mpy_io::{Failed, Port, Sink};
 use port_set::PortSet;
+use vm_at_once::Rows;
 use vm_starting::{Cache, Vm};
 
 /// The run of the library for these steps more, or up to its end (`Vm::end`). A run in parts is one run: what is paid on the

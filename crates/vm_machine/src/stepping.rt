@@ -3,9 +3,9 @@
 ghost use Rattle.std.specs.Prelude.{◌≡◌, ◌+◌, ◌<◌, ◌≤◌, ◌^◌, map, None, is_err};
 ghost use Rattle.mpy_io.specs.Count.{Counts};
 ghost use Rattle.port_set.specs.Counts.{CountsKeep};
-ghost use Rattle.state_calls.specs.vm_fetching.declared.instruction.Instruction.TheVariants as fetched_as;
+ghost use Rattle.vm_kept.specs.state_calls.vm_fetching.declared.instruction.Instruction.TheVariants as fetched_as;
 ghost use Rattle.vm_starting.specs.vm_states.Means.{Program};
-ghost use Rattle.state_calls.specs.Taken.{CallsValue, IsTaken};
+ghost use Rattle.vm_kept.specs.state_calls.Taken.{CallsValue, IsTaken};
 ghost use Rattle.vm_kept.specs.Kept.{HoldsKept};
 ghost use Rattle.vm_starting.specs.Programs.{IsProgramOf};
 ghost use Rattle.vm_starting.specs.Kept.{AreFetched};
@@ -20,15 +20,12 @@ use crate::fetching::{fetch_kept, row_of};
 use crate::forms::{Form, call_in, form_of};
 use crate::paying::{steps_before, visits_of};
 use bc_library::Library;
-use bc_rows::{Row, Rows};
-use frame_calls::Invocation;
 use mpy_io::{Failed, Port, Sink};
 use port_set::PortSet;
-use state_calls::{take_call, visits_call_on};
 use state_steps::call;
-use vm_fetching::{Fetched, NumberOp};
-use vm_kept::{gives_law, methods_law, raises_law, step_law};
-use vm_starting::{Cache, Vm};
+use vm_at_once::{Fetched, NumberOp, Row, Rows};
+use vm_kept::{gives_law, methods_law, raises_law, step_law, take_call, visits_call_on};
+use vm_starting::{Cache, Invocation, Vm};
 
 /// Steps of an instruction of this form, which is no call.
 #[tactic(none)]

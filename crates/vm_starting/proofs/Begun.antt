@@ -11,15 +11,15 @@ use Rattle.frame_calls.specs.arena_heap.declared.value.StrNo.{StrNo}
 use Rattle.frame_calls.specs.arena_heap.declared.value.ConstNo.{ConstNo}
 use Rattle.frame_calls.specs.arena_objects.Keys.{AllTold}
 use Rattle.frame_calls.specs.arena_objects.Iterables.{or_nothing}
-use Rattle.bc_verify.specs.mpy_tree.Raw as raw
+use Rattle.bc_resolved.specs.bc_verify.mpy_tree.Raw as raw
 use Rattle.vm_states.specs.bc_library.Constants.{items_at, text_at}
 use Rattle.vm_states.specs.bc_library.Shelf.{Shelf, Named, module_at}
 use Rattle.frame_calls.specs.bc_labels.Positions.{CodeList, Listed}
-use Rattle.py_effects.specs.py_primitives.Outcome as primitives
-use Rattle.py_effects.specs.Effect.{Place, given_answer}
-use Rattle.py_effects.specs.Modules as plain
-use Rattle.py_effects.specs.Modules.{make_module}
-use Rattle.py_effects.specs.Ends.{Memory}
+use Rattle.bc_progress.specs.py_effects.py_primitives.Outcome as primitives
+use Rattle.bc_progress.specs.py_effects.Effect.{Place, given_answer}
+use Rattle.bc_progress.specs.py_effects.Modules as plain
+use Rattle.bc_progress.specs.py_effects.Modules.{make_module}
+use Rattle.bc_progress.specs.py_effects.Ends.{Memory}
 use Rattle.frame_calls.specs.bc_machine.Library.{Name, Code, Module, Entry, Holds, Refused, Library, entry_in, code_at, code_in, module_in}
 use Rattle.frame_calls.specs.bc_machine.State as states
 use Rattle.frame_calls.specs.bc_machine.State.{State, Running, Halted, Main}

@@ -4,13 +4,13 @@ use Rattle.std.specs.Prelude.{slice_get, option_and_then}
 use Rattle.std.proofs.lemmas.Bool.Decides.{nat_tests}
 use Rattle.std.proofs.lemmas.List.{length-map}
 use Rattle.std.proofs.lemmas.Option.{slice_get_within}
-use Rattle.bc_verify.specs.bc_flow.Action.{Action}
-use Rattle.bc_verify.specs.bc_flow.Edges.{room}
+use Rattle.bc_resolved.specs.bc_verify.bc_flow.Action.{Action}
+use Rattle.bc_resolved.specs.bc_verify.bc_flow.Edges.{room}
 use Rattle.frame_calls.specs.bc_labels.Positions.{CodeList, Listed, Starts, position_in}
-use Rattle.bc_verify.specs.mpy_tree.File.{IsModule}
-use Rattle.bc_verify.specs.mpy_tree.Raw as raw
-use Rattle.bc_verify.specs.mpy_tree.Resolved.{ResolvedModule, Resolves}
-use Rattle.bc_verify.specs.mpy_tree.Codes.{codes_of}
+use Rattle.bc_resolved.specs.bc_verify.mpy_tree.File.{IsModule}
+use Rattle.bc_resolved.specs.bc_verify.mpy_tree.Raw as raw
+use Rattle.bc_resolved.specs.bc_verify.mpy_tree.Resolved.{ResolvedModule, Resolves}
+use Rattle.bc_resolved.specs.bc_verify.mpy_tree.Codes.{codes_of}
 use Rattle.vm_states.specs.bc_library.Shelf.{Shelf, Named, module_at}
 use Rattle.frame_calls.specs.bc_machine.Library.{Code, Line, Holds as Held, Entry, code_in, module_in, entry_in, code_at, module_of}
 use Rattle.vm_states.specs.bc_progress.Plans.{Plan, IsVerifiedCode, action_of}

@@ -5,8 +5,8 @@ use Rattle.std.proofs.lemmas.Bool.Decides.{nat_tests}
 use Rattle.std.proofs.lemmas.Grind.{reverse_onto}
 use Rattle.std.specs.List.{slice_split, onto_first}
 use Rattle.std.specs.Option.{option_or}
-use Rattle.py_effects.specs.Modules.{first_of}
-use Rattle.py_effects.specs.Modules as modules
+use Rattle.bc_progress.specs.py_effects.Modules.{first_of}
+use Rattle.bc_progress.specs.py_effects.Modules as modules
 use Rattle.vm_states.specs.bc_library.Texts.{last_part}
 use Rattle.vm_starting.specs.Titles.{last_of}
 

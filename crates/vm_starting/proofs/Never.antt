@@ -4,15 +4,15 @@ use Rattle.std.specs.Prelude.{codes}
 use Rattle.mpy_base.specs.World.{Object, ModuleObject, DictObject, with_names, pairs_at}
 use Rattle.mpy_base.specs.Weights.{used, does_fit, cells_of, bytes_of, with_made, dict_growth, with_pairs}
 use Rattle.mpy_base.specs.Val.{Val, Nil, Str, At, PlainWorld}
-use Rattle.py_effects.specs.py_values.Shown.{PlainHeap}
-use Rattle.py_effects.specs.py_values.Keys.{with_key}
-use Rattle.py_effects.specs.py_primitives.Faults.{Fault}
-use Rattle.py_effects.specs.py_primitives.Outcome as primitives
-use Rattle.py_effects.specs.py_primitives.Outcome.{Outcome, Raises, gives, is_full, making, followed_by, go_on_with}
-use Rattle.py_effects.specs.py_primitives.Uses.{put_pair}
-use Rattle.py_effects.specs.Effect.{Effect, number_of}
-use Rattle.py_effects.specs.Modules as plain
-use Rattle.py_effects.specs.Modules.{make_module, making_module, on_made}
+use Rattle.bc_progress.specs.py_effects.py_values.Shown.{PlainHeap}
+use Rattle.bc_progress.specs.py_effects.py_values.Keys.{with_key}
+use Rattle.bc_progress.specs.py_effects.py_primitives.Faults.{Fault}
+use Rattle.bc_progress.specs.py_effects.py_primitives.Outcome as primitives
+use Rattle.bc_progress.specs.py_effects.py_primitives.Outcome.{Outcome, Raises, gives, is_full, making, followed_by, go_on_with}
+use Rattle.bc_progress.specs.py_effects.py_primitives.Uses.{put_pair}
+use Rattle.bc_progress.specs.py_effects.Effect.{Effect, number_of}
+use Rattle.bc_progress.specs.py_effects.Modules as plain
+use Rattle.bc_progress.specs.py_effects.Modules.{make_module, making_module, on_made}
 
 abbrev Never : {A : Type 0} → Outcome A → Type 0
 Never o = (fault : Fault) → o.answer ≡ Err (Raises fault) → ⊥

@@ -5,11 +5,11 @@ use Rattle.mpy_base.specs.declared.limits.TheConstants.{MAX_DEPTH}
 use Rattle.vm_states.specs.bc_ops.declared.listing.Item.{Item}
 use Rattle.vm_states.specs.bc_ops.Listing.{Lists, starts}
 use Rattle.frame_calls.specs.bc_labels.Positions.{CodeList, Listed}
-use Rattle.bc_verify.specs.mpy_tree.declared.raw.RawCode.{RawCode, out-RawCode}
-use Rattle.bc_verify.specs.mpy_tree.Raw.{Module}
-use Rattle.bc_verify.specs.mpy_tree.File.{IsOwnCode, IsModule}
-use Rattle.bc_verify.specs.mpy_tree.Codes.{code_at, Placed, codes_of}
-use Rattle.bc_verify.proofs.mpy_tree_lemmas.Codes.{children, Nests, whole, module_nests, some_is, and_then_some, module_placed}
+use Rattle.bc_resolved.specs.bc_verify.mpy_tree.declared.raw.RawCode.{RawCode, out-RawCode}
+use Rattle.bc_resolved.specs.bc_verify.mpy_tree.Raw.{Module}
+use Rattle.bc_resolved.specs.bc_verify.mpy_tree.File.{IsOwnCode, IsModule}
+use Rattle.bc_resolved.specs.bc_verify.mpy_tree.Codes.{code_at, Placed, codes_of}
+use Rattle.bc_library.proofs.bc_verify_lemmas.mpy_tree_lemmas.Codes.{children, Nests, whole, module_nests, some_is, and_then_some, module_placed}
 use Rattle.vm_states.specs.bc_library.Shelf.{Shelf, module_at}
 use Rattle.vm_states.specs.bc_rows.declared.row.Row.{Row}
 use Rattle.vm_states.specs.bc_rows.Codes.{code_numbered}

@@ -1,13 +1,13 @@
 -- Two rows of one code say the same, and what is fetched from one is fetched from the other.
 use Rattle.std.proofs.Common.{◌≡◌, ℕ, List, ◌∷◌, length, map, Some, sym, ap, ap₂, subst, ◌∙◌}
 use Rattle.std.proofs.lemmas.Option.{same_Some}
-use Rattle.bc_verify.specs.mpy_tree.Raw as raw
-use Rattle.bc_verify.specs.mpy_tree.Codes.{Placed}
+use Rattle.bc_resolved.specs.bc_verify.mpy_tree.Raw as raw
+use Rattle.bc_resolved.specs.bc_verify.mpy_tree.Codes.{Placed}
 use Rattle.vm_states.specs.bc_ops.Listing.{item}
 use Rattle.vm_states.proofs.bc_ops_lemmas.Lists.{one_listing}
-use Rattle.bc_verify.specs.bc_prelude.declared.prelude.Prelude.{Prelude}
-use Rattle.bc_verify.specs.bc_prelude.Lines as lines
-use Rattle.bc_verify.specs.bc_flow.Code.{locals}
+use Rattle.bc_resolved.specs.bc_verify.bc_prelude.declared.prelude.Prelude.{Prelude}
+use Rattle.bc_resolved.specs.bc_verify.bc_prelude.Lines as lines
+use Rattle.bc_resolved.specs.bc_verify.bc_flow.Code.{locals}
 use Rattle.frame_calls.specs.bc_labels.Positions.{Listed}
 use Rattle.vm_states.specs.bc_library.Shelf.{Shelf, table_text}
 use Rattle.vm_states.specs.bc_library.Texts.{text_numbered}

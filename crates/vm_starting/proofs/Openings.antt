@@ -10,17 +10,17 @@ use Rattle.frame_calls.specs.arena_heap.declared.value.StrNo.{StrNo}
 use Rattle.frame_calls.specs.arena_heap.declared.value.ConstNo.{ConstNo}
 use Rattle.frame_calls.specs.arena_heap.Constants.{IsTold}
 use Rattle.frame_calls.specs.arena_objects.Keys.{AllTold}
-use Rattle.bc_verify.specs.bc_prelude.declared.prelude.Prelude.{Prelude}
-use Rattle.bc_verify.specs.mpy_tree.Raw.{Module}
+use Rattle.bc_resolved.specs.bc_verify.bc_prelude.declared.prelude.Prelude.{Prelude}
+use Rattle.bc_resolved.specs.bc_verify.mpy_tree.Raw.{Module}
 use Rattle.vm_states.specs.bc_library.Greatest.{ShelfHas, IsGreatestIn}
 use Rattle.vm_states.specs.bc_library.Shelf.{Shelf, Named}
 use Rattle.frame_calls.specs.bc_machine.Library.{Name}
 use Rattle.vm_states.specs.bc_rows.declared.row.Row.{Row}
-use Rattle.bc_verify.specs.mpy_tree.Codes.{Placed, codes_of}
-use Rattle.bc_verify.proofs.mpy_tree_lemmas.Codes.{own_place, codes_open}
+use Rattle.bc_resolved.specs.bc_verify.mpy_tree.Codes.{Placed, codes_of}
+use Rattle.bc_library.proofs.bc_verify_lemmas.mpy_tree_lemmas.Codes.{own_place, codes_open}
 use Rattle.vm_states.specs.bc_rows.Codes.{code_numbered}
 use Rattle.vm_states.specs.bc_rows.Rows.{IsRow}
-use Rattle.py_effects.specs.Ends.{new_world}
+use Rattle.bc_progress.specs.py_effects.Ends.{new_world}
 use Rattle.vm_states.specs.vm_frames.Calls.{Calls}
 use Rattle.frame_calls.specs.prim_modules.Registry.{Registry}
 use Rattle.vm_states.specs.frame_moves.Outcomes.{world_of}

@@ -5,8 +5,8 @@ use Rattle.std.specs.List.{list_any}
 use Rattle.std.specs.Str.{bytes_eq}
 use Rattle.std.proofs.lemmas.Slice.Eq.{bytes_eq-Decides}
 use Rattle.std.proofs.lemmas.Option.{slice_get-map}
-use Rattle.bc_verify.proofs.qstr_pool_lemmas.Places.{found, absent}
-use Rattle.bc_verify.specs.mpy_tree.Raw.{Module}
+use Rattle.bc_library.proofs.bc_verify_lemmas.qstr_pool_lemmas.Places.{found, absent}
+use Rattle.bc_resolved.specs.bc_verify.mpy_tree.Raw.{Module}
 use Rattle.vm_states.specs.bc_library.declared.fault.Member.TheVariants as members
 use Rattle.vm_states.specs.bc_library.Shelf.{Shelf, Named, names, member_by, member_of, module_at}
 use Rattle.frame_calls.specs.bc_machine.Library.{Name, Entry, Library, entry_in}

@@ -1,10 +1,10 @@
 -- The program of a library of files.
 use Rattle.std.proofs.Common.{◌≡◌, ℕ, suc, List, [], ◌∷◌, ◌++◌, map, Option, Some, None, refl, sym, ap, subst, ◌∙◌}
 use Rattle.std.specs.Prelude.{slice_get, option_and_then}
-use Rattle.bc_verify.specs.mpy_tree.File.{IsModule}
-use Rattle.bc_verify.specs.mpy_tree.Raw as raw
-use Rattle.bc_verify.specs.mpy_tree.Resolved.{ResolvedModule, Resolves}
-use Rattle.bc_verify.specs.Verified.{IsVerified}
+use Rattle.bc_resolved.specs.bc_verify.mpy_tree.File.{IsModule}
+use Rattle.bc_resolved.specs.bc_verify.mpy_tree.Raw as raw
+use Rattle.bc_resolved.specs.bc_verify.mpy_tree.Resolved.{ResolvedModule, Resolves}
+use Rattle.bc_resolved.specs.bc_verify.Verified.{IsVerified}
 use Rattle.vm_states.specs.bc_library.declared.fault.Member.TheVariants as members
 use Rattle.vm_states.specs.bc_library.Constants.{items_at, text_at}
 use Rattle.vm_states.specs.bc_library.Shelf.{Shelf, Named, member_of, module_at}

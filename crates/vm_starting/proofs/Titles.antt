@@ -6,7 +6,7 @@ use Rattle.std.proofs.lemmas.Option.{slice_get_within}
 use Rattle.frame_calls.specs.arena_heap.declared.value.StrNo.{StrNo}
 use Rattle.frame_calls.specs.arena_heap.declared.value.StrNo.TheVariants as strs
 use Rattle.frame_calls.specs.arena_objects.Iterables.{or_nothing}
-use Rattle.py_effects.specs.Modules as modules
+use Rattle.bc_progress.specs.py_effects.Modules as modules
 use Rattle.vm_states.specs.bc_library.Shelf.{Shelf, Named}
 use Rattle.frame_calls.specs.prim_walks.Plain.{plain_name}
 use Rattle.vm_states.specs.frame_exits.declared.names.ModuleName.{ModuleName}

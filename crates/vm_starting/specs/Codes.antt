@@ -1,7 +1,7 @@
 -- Codes of a program, by their rows.
 use Rattle.std.specs.Prelude.{◌≡◌, ℕ, ◌<◌, ◌≤◌, length, Some}
 use Rattle.frame_calls.specs.bc_labels.Positions.{CodeList, Listed}
-use Rattle.bc_verify.specs.mpy_tree.Raw.{Module}
+use Rattle.bc_resolved.specs.bc_verify.mpy_tree.Raw.{Module}
 use Rattle.vm_states.specs.bc_library.Shelf.{module_at}
 use Rattle.frame_calls.specs.bc_machine.Library.{Code, code_at}
 use Rattle.vm_states.specs.bc_rows.declared.row.Row.{Row}

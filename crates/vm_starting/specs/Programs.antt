@@ -1,9 +1,9 @@
 -- Libraries of files that the machine runs, and what it finds in them.
 use Rattle.std.specs.Prelude.{◌≡◌, ℕ, ◌≤◌, List, ◌++◌, map, Some, None, slice_get}
-use Rattle.bc_verify.specs.mpy_tree.File.{IsModule}
-use Rattle.bc_verify.specs.mpy_tree.Raw.{Module}
-use Rattle.bc_verify.specs.mpy_tree.Resolved.{ResolvedModule, Resolves}
-use Rattle.bc_verify.specs.Verified.{IsVerified}
+use Rattle.bc_resolved.specs.bc_verify.mpy_tree.File.{IsModule}
+use Rattle.bc_resolved.specs.bc_verify.mpy_tree.Raw.{Module}
+use Rattle.bc_resolved.specs.bc_verify.mpy_tree.Resolved.{ResolvedModule, Resolves}
+use Rattle.bc_resolved.specs.bc_verify.Verified.{IsVerified}
 use Rattle.vm_states.specs.bc_library.declared.fault.Member.TheVariants as members
 use Rattle.vm_states.specs.bc_library.Shelf.{Shelf, Named, member_of, module_at}
 use Rattle.frame_calls.specs.bc_machine.Library as machine

@@ -8,8 +8,8 @@ use Rattle.vm_states.specs.bc_library.Constants.{items_at, text_at}
 use Rattle.vm_states.specs.bc_library.Shelf.{Shelf}
 use Rattle.frame_calls.specs.bc_machine.Library.{Name}
 use Rattle.frame_calls.specs.bc_machine.State.{State, Halted}
-use Rattle.py_effects.specs.Ends.{Memory}
-use Rattle.py_effects.specs.Modules.{make_module}
+use Rattle.bc_progress.specs.py_effects.Ends.{Memory}
+use Rattle.bc_progress.specs.py_effects.Modules.{make_module}
 use Rattle.vm_states.specs.bc_rows.declared.row.Row.{Row}
 use Rattle.vm_states.specs.bc_rows.Rows.{IsRow}
 use Rattle.vm_states.specs.vm_frames.declared.slot.Role.TheVariants as roles

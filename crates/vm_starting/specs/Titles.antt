@@ -2,7 +2,7 @@
 use Rattle.std.specs.Prelude.{◌≡◌, ℕ, List, length, Some, slice_get, unwrap_or}
 use Rattle.vm_states.specs.bc_library.Shelf.{Shelf, Named}
 use Rattle.vm_states.specs.bc_library.Texts.{last_part, text_numbered}
-use Rattle.bc_verify.specs.qstr_pool.Pool.{Texts}
+use Rattle.bc_resolved.specs.bc_verify.qstr_pool.Pool.{Texts}
 use Rattle.vm_states.specs.frame_exits.declared.names.ModuleName.{ModuleName}
 
 -- what stands behind the last dot of a name, or the whole name where it has no dot

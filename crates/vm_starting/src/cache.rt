@@ -6,12 +6,11 @@ ghost use Rattle.vm_starting.specs.Kept.{AreFetched, kept_at, place_in, with_kep
 use crate::codes::Codes;
 use crate::places::Places;
 use bc_library::Library;
-use bc_rows::Rows;
 use mpy_base::NoMemory;
 use mpy_base::limits::MAX_MODULES;
 use std::alloc::Global;
 use std::marker::Model;
-use vm_fetching::Fetched;
+use vm_states::{Fetched, Rows};
 
 /// What was fetched of a library's codes. It takes 28 bytes for each byte of their instructions, where it is made; and no more later.
 #[derive(Drop)]

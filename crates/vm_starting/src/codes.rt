@@ -4,11 +4,10 @@ ghost use Rattle.std.specs.Prelude.{◌≡◌, ℕ, Some, IfOk, IfSome, All, sli
 ghost use Rattle.vm_starting.specs.Kept.{code_in, is_empty, place_in, update_at};
 
 use crate::places::Places;
-use bc_rows::Rows;
 use mpy_base::NoMemory;
 use std::alloc::Global;
 use std::marker::Model;
-use vm_fetching::Fetched;
+use vm_states::{Fetched, Rows};
 
 /// What was fetched of the codes of a module.
 #[derive(Drop)]

@@ -13,8 +13,10 @@ mod starting;
 
 pub use cache::Cache;
 pub use cached::{cache_law, row_law};
+pub use frame_calls::Invocation;
 pub use names::names_law;
 pub use opening::Vm;
 pub use places::Places;
 pub use shown_program::{code_law, program_law};
 pub use starting::{MAIN, NAME, start_main};
+pub use vm_states::ready_law;

@@ -10,7 +10,7 @@ ghost use Rattle.frame_calls.specs.bc_machine.Library.{Name};
 ghost use Rattle.frame_calls.specs.bc_machine.Machine.{start};
 ghost use Rattle.vm_states.specs.bc_rows.declared.row.Row.{Row as CodeRow};
 ghost use Rattle.vm_states.specs.bc_rows.Rows.{IsRow};
-ghost use Rattle.py_effects.specs.Ends.{new_world};
+ghost use Rattle.bc_progress.specs.py_effects.Ends.{new_world};
 ghost use Rattle.vm_states.specs.Means.{Program};
 ghost use Rattle.vm_states.specs.State.{IsState};
 ghost use Rattle.vm_starting.specs.Programs.{IsProgramOf, IsRunnable};
@@ -22,14 +22,13 @@ use crate::shown_program::{code_law, program_law};
 use crate::starting::start_main;
 use arena_heap::{Arena, Value};
 use bc_library::Library;
-use bc_rows::Rows;
 use frame_calls::{Bindings, Operands};
-use frame_exits::{End, ModuleName};
 use mpy_base::limits::MAX_MODULES;
 use mpy_base::{NoMemory, Room};
 use prim_modules::Modules;
 use std::alloc::Global;
 use vm_frames::Frames;
+use vm_states::{End, ModuleName, Rows};
 
 /// What a run of a library keeps. All its memory is taken where it is opened.
 #[derive(Drop)]

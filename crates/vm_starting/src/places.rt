@@ -6,7 +6,7 @@ ghost use Rattle.vm_starting.specs.Kept.{place_in};
 use mpy_base::NoMemory;
 use std::alloc::Global;
 use std::marker::Model;
-use vm_fetching::Fetched;
+use vm_states::Fetched;
 
 /// What was fetched at the offsets of a code. An offset at which nothing was fetched yet holds nothing.
 #[derive(Drop)]

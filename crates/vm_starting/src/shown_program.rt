@@ -11,7 +11,7 @@ ghost use Rattle.vm_starting.specs.Programs.{IsRunnable, IsProgramOf, FindsAll};
 use bc_labels::offsets_law;
 use bc_ops::listing_law;
 use bc_resolved::{module_law, stored_law};
-use bc_rows::rows_law;
+use vm_states::rows_law;
 
 /// A library of files, whose names differ and whose modules are verified, has a program: its machine's library is the one that
 /// the files' modules have, and its plans have no more room than their codes take. The machine's library of any program finds by

@@ -2,7 +2,7 @@
 use Rattle.std.proofs.Common.{◌≡◌, ℕ, suc, List, [], ◌∷◌, ◌++◌, length, map, Bool, Option, Some, None, refl, sym, ap, ap₂, subst, ◌∙◌}
 use Rattle.std.specs.Option.{option_map}
 use Rattle.std.proofs.lemmas.List.{length-map}
-use Rattle.mpy_base.specs.Val.{Val, Nil, Built, At}
+use Rattle.frame_exits.specs.mpy_base.Val.{Val, Nil, Built, At}
 use Rattle.frame_exits.specs.arena_heap.declared.value.Value.{Value}
 use Rattle.frame_exits.specs.vm_frames.declared.slot.Slot.{Slot}
 use Rattle.frame_exits.specs.vm_frames.declared.slot.Slot.TheVariants as slots

@@ -1,9 +1,9 @@
 -- The locals of a code are more than each that its instructions name.
 use Rattle.std.proofs.Common.{◌≡◌, ℕ, zero, suc, ◌+◌, ◌≤◌, List, [], ◌∷◌, ◌++◌, length, map, Some, refl, ap, subst, arith}
 use Rattle.std.specs.Prelude.{slice_get}
-use Rattle.bc_ops.specs.declared.instr.Op.TheVariants as ops
-use Rattle.bc_ops.specs.declared.instr.Instr.{Instr}
-use Rattle.bc_ops.specs.declared.instr.Instr.TheVariants as instrs
+use Rattle.bc_progress.specs.bc_ops.declared.instr.Op.TheVariants as ops
+use Rattle.bc_progress.specs.bc_ops.declared.instr.Instr.{Instr}
+use Rattle.bc_progress.specs.bc_ops.declared.instr.Instr.TheVariants as instrs
 use Rattle.vm_fetching.specs.mpy_tree.Resolved.{Resolved, plain, named, object, jump, unwind, ResolvedLine, Body, instrs_of, Tree, node, Trees, no_more, more, ResolvedModule}
 use Rattle.bc_progress.specs.bc_machine.Library.{Line, Code, item_of, line_of, local_of, locals_of, code_of, size_of, numbers_from, codes_from, codes_of, module_of}
 use Rattle.vm_states.specs.Locals.{InstrIsWithin, IsWithinLocals}

@@ -3,9 +3,9 @@ use Rattle.std.proofs.Common.{◌≡◌, ℕ, suc, ◌+◌, ◌-◌, ◌<◌, �
 use Rattle.std.specs.Prelude.{slice_get, nat_lt}
 use Rattle.std.proofs.lemmas.Bool.{ltb-true, false≢true}
 use Rattle.std.proofs.lemmas.List.{length-map}
-use Rattle.bc_shapes.specs.declared.kinds.Want.{Want}
-use Rattle.bc_shapes.specs.declared.kinds.Give.{Give}
-use Rattle.bc_shapes.specs.declared.shape.Entry.{Entry as FlowEntry}
+use Rattle.frame_exits.specs.bc_shapes.declared.kinds.Want.{Want}
+use Rattle.frame_exits.specs.bc_shapes.declared.kinds.Give.{Give}
+use Rattle.frame_exits.specs.bc_shapes.declared.shape.Entry.{Entry as FlowEntry}
 use Rattle.bc_progress.specs.bc_flow.Action.{Action, Straight, Branch}
 use Rattle.bc_progress.specs.bc_flow.Code as flows
 use Rattle.bc_progress.specs.bc_flow.Edges.{asks, change, falls, stays}

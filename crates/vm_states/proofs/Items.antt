@@ -3,21 +3,21 @@ use Rattle.std.proofs.Common.{◌≡◌, ℕ, zero, suc, ◌+◌, ◌-◌, ◌%�
 use Rattle.std.specs.Prelude.{nat_le}
 use Rattle.std.proofs.lemmas.Bool.{false≢true, leb-true, le-leb}
 use Rattle.std.proofs.lemmas.List.{length-map}
-use Rattle.bc_ops.specs.declared.form.Form.{Form}
-use Rattle.bc_ops.specs.declared.form.Form.TheVariants as forms
-use Rattle.bc_ops.specs.declared.instr.Op.{Op}
-use Rattle.bc_ops.specs.declared.instr.Op.TheVariants as ops
-use Rattle.bc_ops.specs.declared.instr.Instr.{Instr}
-use Rattle.bc_ops.specs.declared.instr.Instr.TheVariants as instrs
-use Rattle.bc_ops.specs.Table.{code_of, form_of, name_form, number_form, jump_form, plain_form, short_form}
-use Rattle.bc_ops.specs.Code.{TakesNumber}
-use Rattle.bc_shapes.specs.declared.kinds.Kind.TheVariants as kinds
-use Rattle.bc_shapes.specs.declared.kinds.Want.{Want}
-use Rattle.bc_shapes.specs.declared.kinds.Want.TheVariants as wants
-use Rattle.bc_shapes.specs.declared.kinds.Give.{Give}
-use Rattle.bc_shapes.specs.declared.kinds.Give.TheVariants.{New, Again}
-use Rattle.bc_shapes.specs.declared.shape.Entry.{Entry as FlowEntry}
-use Rattle.bc_shapes.specs.Shape.{takes, gives}
+use Rattle.bc_progress.specs.bc_ops.declared.form.Form.{Form}
+use Rattle.bc_progress.specs.bc_ops.declared.form.Form.TheVariants as forms
+use Rattle.bc_progress.specs.bc_ops.declared.instr.Op.{Op}
+use Rattle.bc_progress.specs.bc_ops.declared.instr.Op.TheVariants as ops
+use Rattle.bc_progress.specs.bc_ops.declared.instr.Instr.{Instr}
+use Rattle.bc_progress.specs.bc_ops.declared.instr.Instr.TheVariants as instrs
+use Rattle.bc_progress.specs.bc_ops.Table.{code_of, form_of, name_form, number_form, jump_form, plain_form, short_form}
+use Rattle.bc_progress.specs.bc_ops.Code.{TakesNumber}
+use Rattle.frame_exits.specs.bc_shapes.declared.kinds.Kind.TheVariants as kinds
+use Rattle.frame_exits.specs.bc_shapes.declared.kinds.Want.{Want}
+use Rattle.frame_exits.specs.bc_shapes.declared.kinds.Want.TheVariants as wants
+use Rattle.frame_exits.specs.bc_shapes.declared.kinds.Give.{Give}
+use Rattle.frame_exits.specs.bc_shapes.declared.kinds.Give.TheVariants.{New, Again}
+use Rattle.frame_exits.specs.bc_shapes.declared.shape.Entry.{Entry as FlowEntry}
+use Rattle.frame_exits.specs.bc_shapes.Shape.{takes, gives}
 use Rattle.bc_progress.specs.bc_flow.Action.{Action, Straight, Branch, Setup, PopExcept, EndFinally, Unwind, Return, Raise, op_action, jump_action, instr_action, arguments, iterator}
 use Rattle.bc_progress.specs.bc_flow.Edges.{change}
 use Rattle.bc_progress.specs.bc_flow.Verified.{Assigned}

@@ -1,7 +1,7 @@
 -- Calls that are known stay so.
 use Rattle.std.proofs.Common.{◌≡◌, ℕ, List, [], ◌∷◌, length, drop, Option, All, sym, ap, subst}
 use Rattle.std.proofs.lemmas.List.Elements.{All-cons, All-head, All-tail, All-drop, All-weaker}
-use Rattle.mpy_base.specs.World.{Objects, Later}
+use Rattle.frame_exits.specs.mpy_base.World.{Objects, Later}
 use Rattle.frame_exits.specs.arena_heap.declared.value.Value.{Value}
 use Rattle.frame_exits.specs.arena_objects.Keys.{AllTold}
 use Rattle.frame_exits.specs.vm_frames.declared.slot.Slot.{Slot}

@@ -1,12 +1,12 @@
 -- The flow leaves an instruction that goes on to the next one.
 use Rattle.std.proofs.Common.{◌≡◌, ℕ, Bool, true, refl, ap}
 use Rattle.std.proofs.lemmas.Bool.{false≢true}
-use Rattle.bc_ops.specs.declared.form.Form.TheVariants as forms
-use Rattle.bc_ops.specs.declared.instr.Op.{Op}
-use Rattle.bc_ops.specs.declared.instr.Op.TheVariants as ops
-use Rattle.bc_ops.specs.declared.instr.Instr.{Instr}
-use Rattle.bc_ops.specs.declared.instr.Instr.TheVariants as instrs
-use Rattle.bc_ops.specs.Table.{code_of, form_of, name_form, number_form, jump_form, plain_form, short_form}
+use Rattle.bc_progress.specs.bc_ops.declared.form.Form.TheVariants as forms
+use Rattle.bc_progress.specs.bc_ops.declared.instr.Op.{Op}
+use Rattle.bc_progress.specs.bc_ops.declared.instr.Op.TheVariants as ops
+use Rattle.bc_progress.specs.bc_ops.declared.instr.Instr.{Instr}
+use Rattle.bc_progress.specs.bc_ops.declared.instr.Instr.TheVariants as instrs
+use Rattle.bc_progress.specs.bc_ops.Table.{code_of, form_of, name_form, number_form, jump_form, plain_form, short_form}
 use Rattle.bc_progress.specs.bc_flow.Action.{op_action, jump_action, instr_action}
 use Rattle.bc_progress.specs.bc_flow.Edges.{falls}
 use Rattle.bc_progress.specs.bc_machine.Library.{Item, Plain, Names, Loads, Jumps, Unwinds}

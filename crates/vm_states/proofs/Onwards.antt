@@ -1,7 +1,7 @@
 -- Calls behind a step that leaves them running.
 use Rattle.std.proofs.Common.{◌≡◌, ℕ, List, [], ◌∷◌, Option, All, sym, ap, subst, ◌∙◌, arith}
 use Rattle.std.proofs.lemmas.List.Elements.{All-cons, All-head, All-tail}
-use Rattle.mpy_base.specs.Val.{PlainWorld}
+use Rattle.frame_exits.specs.mpy_base.Val.{PlainWorld}
 use Rattle.frame_exits.specs.arena_heap.declared.value.Value.{Value}
 use Rattle.frame_exits.specs.bc_labels.Positions.{Starts}
 use Rattle.bc_progress.specs.bc_machine.Library.{Library}

@@ -2,12 +2,12 @@
 use Rattle.std.proofs.Common.{◌≡◌, ℕ, zero, suc, ◌<◌, List, [], ◌∷◌, length, Option, Some, All, refl, sym, ap, subst, ◌∙◌, arith}
 use Rattle.std.specs.Prelude.{IsSome, slice_get, option_and_then}
 use Rattle.std.proofs.lemmas.List.Elements.{All-head}
-use Rattle.mpy_base.specs.Val.{PlainWorld}
+use Rattle.frame_exits.specs.mpy_base.Val.{PlainWorld}
 use Rattle.vm_fetching.specs.mpy_tree.File.{IsModule}
 use Rattle.vm_fetching.specs.mpy_tree.Raw as raw
 use Rattle.vm_fetching.specs.mpy_tree.Resolved.{ResolvedModule, Resolves}
 use Rattle.vm_fetching.specs.mpy_tree.Codes.{codes_of}
-use Rattle.bc_prelude.specs.Lines as lines
+use Rattle.frame_exits.specs.bc_prelude.Lines as lines
 use Rattle.frame_exits.specs.bc_labels.Positions.{CodeList, Listed, Starts, position_in}
 use Rattle.frame_exits.proofs.bc_labels_lemmas.Order.{each}
 use Rattle.frame_exits.specs.bc_library.Shelf.{Shelf, Named, module_at}

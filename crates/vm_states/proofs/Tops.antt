@@ -1,10 +1,10 @@
 -- Slots that are wanted lie on top.
 use Rattle.std.proofs.Common.{◌≡◌, ℕ, zero, suc, List, [], ◌∷◌, true, refl, ap}
 use Rattle.std.proofs.lemmas.Bool.{false≢true}
-use Rattle.mpy_base.specs.Val.{Nil, At}
-use Rattle.bc_shapes.specs.declared.kinds.Want.{Want}
-use Rattle.bc_shapes.specs.declared.kinds.Want.TheVariants as wants
-use Rattle.bc_shapes.specs.Shape.{takes}
+use Rattle.frame_exits.specs.mpy_base.Val.{Nil, At}
+use Rattle.frame_exits.specs.bc_shapes.declared.kinds.Want.{Want}
+use Rattle.frame_exits.specs.bc_shapes.declared.kinds.Want.TheVariants as wants
+use Rattle.frame_exits.specs.bc_shapes.Shape.{takes}
 use Rattle.bc_progress.specs.bc_flow.Action.{iterator}
 use Rattle.bc_progress.specs.bc_flow.Machine as flow
 use Rattle.bc_progress.specs.bc_flow.Machine.{Stack, is_wanted, all_wanted}

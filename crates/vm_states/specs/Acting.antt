@@ -1,7 +1,7 @@
 -- What an instruction comes to that was fetched for the first of the calls of a program, over an arena.
 use Rattle.std.specs.Prelude.{◌≡◌, ℕ, suc, ◌<◌, ◌≤◌, List, Option, Result}
-use Rattle.mpy_base.specs.World.{Heap, Later}
-use Rattle.mpy_base.specs.Val.{PlainWorld}
+use Rattle.frame_exits.specs.mpy_base.World.{Heap, Later}
+use Rattle.frame_exits.specs.mpy_base.Val.{PlainWorld}
 use Rattle.frame_exits.specs.arena_heap.declared.value.Value.{Value}
 use Rattle.frame_exits.specs.arena_heap.declared.value.StrNo.{StrNo}
 use Rattle.frame_exits.specs.arena_heap.declared.value.ConstNo.{ConstNo}

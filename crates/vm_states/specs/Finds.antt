@@ -1,16 +1,16 @@
 -- What an instruction finds on the frame that stands at it: the slots that it takes, the entries that it leaves, room for what
 -- it gives, its operator and its child.
 use Rattle.std.specs.Prelude.{◌≡◌, ℕ, suc, ◌+◌, ◌-◌, ◌%◌, ◌<◌, ◌≤◌, length, Some, slice_get}
-use Rattle.bc_ops.specs.declared.instr.Op.{Op}
-use Rattle.bc_ops.specs.declared.instr.Op.TheVariants as ops
-use Rattle.bc_ops.specs.declared.instr.Instr.{Instr}
-use Rattle.bc_ops.specs.declared.instr.Instr.TheVariants as instrs
+use Rattle.bc_progress.specs.bc_ops.declared.instr.Op.{Op}
+use Rattle.bc_progress.specs.bc_ops.declared.instr.Op.TheVariants as ops
+use Rattle.bc_progress.specs.bc_ops.declared.instr.Instr.{Instr}
+use Rattle.bc_progress.specs.bc_ops.declared.instr.Instr.TheVariants as instrs
 use Rattle.bc_progress.specs.bc_flow.Action.{arguments}
 use Rattle.bc_progress.specs.bc_machine.Library.{Item, Plain, Names, Loads, Jumps, Unwinds, Code, Library, code_at}
 use Rattle.bc_progress.specs.bc_machine.State.{Frame}
 use Rattle.bc_progress.specs.bc_machine.Operations.{TwoValued, operator_at, unary_at}
 use Rattle.bc_progress.specs.py_values.Shown.{PlainHeap}
-use Rattle.mpy_base.specs.Val.{Val}
+use Rattle.frame_exits.specs.mpy_base.Val.{Val}
 use Rattle.bc_progress.specs.py_primitives.Outcome.{Outcome}
 use Rattle.bc_progress.specs.Plans.{Plan}
 use Rattle.vm_states.specs.OnTop.{OneValue, TwoValues, ThreeValues, Values, Anything, OneDropped, TwoOperands, ThreeOperands, Stored, Defaults, IsLooked, Iterator, Ending, Except}

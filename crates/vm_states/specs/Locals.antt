@@ -1,8 +1,8 @@
 -- Locals that an instruction names.
 use Rattle.std.specs.Prelude.{ℕ, ◌<◌}
-use Rattle.bc_ops.specs.declared.instr.Op.TheVariants as ops
-use Rattle.bc_ops.specs.declared.instr.Instr.{Instr}
-use Rattle.bc_ops.specs.declared.instr.Instr.TheVariants as instrs
+use Rattle.bc_progress.specs.bc_ops.declared.instr.Op.TheVariants as ops
+use Rattle.bc_progress.specs.bc_ops.declared.instr.Instr.{Instr}
+use Rattle.bc_progress.specs.bc_ops.declared.instr.Instr.TheVariants as instrs
 use Rattle.bc_progress.specs.bc_machine.Library.{Item, Plain, Names, Loads, Jumps, Unwinds}
 
 -- the local that the instruction names, if it names one, is one of `locals`

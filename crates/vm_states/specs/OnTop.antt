@@ -1,7 +1,7 @@
 -- Kinds of slots on top, the topmost first, and what lies below them.
 use Rattle.std.specs.Prelude.{◌≡◌, ℕ, ◌≤◌, List, ◌∷◌, ◌++◌, length, map, Bool, true, false, Some, None}
-use Rattle.mpy_base.specs.declared.builtin.Builtin.{Builtin}
-use Rattle.mpy_base.specs.Val.{Val, Nil, Built, At}
+use Rattle.frame_exits.specs.mpy_base.declared.builtin.Builtin.{Builtin}
+use Rattle.frame_exits.specs.mpy_base.Val.{Val, Nil, Built, At}
 use Rattle.bc_progress.specs.bc_machine.State.{Slot, Value, Null, Object, Iter, KeptReturn, KeptJump, Entry}
 
 -- a value

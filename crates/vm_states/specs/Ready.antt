@@ -1,8 +1,8 @@
 -- What a fetched instruction finds on the running call.
 use Rattle.std.specs.Prelude.{◌≡◌, ℕ, ◌<◌, ◌≤◌, List, ◌∷◌, length, Some, slice_get}
-use Rattle.mpy_base.specs.Val.{PlainWorld}
+use Rattle.frame_exits.specs.mpy_base.Val.{PlainWorld}
 use Rattle.frame_exits.specs.bc_labels.Positions.{CodeList, Listed, Starts}
-use Rattle.bc_prelude.specs.Lines as lines
+use Rattle.frame_exits.specs.bc_prelude.Lines as lines
 use Rattle.vm_fetching.specs.mpy_tree.Raw as raw
 use Rattle.frame_exits.specs.bc_library.Shelf.{Shelf, module_at}
 use Rattle.frame_exits.specs.bc_library.Texts.{text_numbered}

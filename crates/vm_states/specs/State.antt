@@ -1,6 +1,6 @@
 -- Calls that run a program over an arena.
 use Rattle.std.specs.Prelude.{ℕ, length, Option, IfSome, All}
-use Rattle.mpy_base.specs.World.{Objects}
+use Rattle.frame_exits.specs.mpy_base.World.{Objects}
 use Rattle.frame_exits.specs.arena_heap.declared.value.Value.{Value}
 use Rattle.frame_exits.specs.arena_objects.Keys.{AllTold}
 use Rattle.frame_exits.specs.prim_faults.Faults.{IsKnown}

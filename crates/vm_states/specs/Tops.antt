@@ -1,7 +1,7 @@
 -- Kinds of slots on top of a call, the topmost first, and what lies below them.
 use Rattle.std.specs.Prelude.{◌≡◌, ℕ, ◌≤◌, List, ◌∷◌, ◌++◌, length, map, Bool, true, false, Some, None, nat_le}
-use Rattle.mpy_base.specs.declared.builtin.Builtin.{Builtin}
-use Rattle.mpy_base.specs.Val.{Nil, Built, At}
+use Rattle.frame_exits.specs.mpy_base.declared.builtin.Builtin.{Builtin}
+use Rattle.frame_exits.specs.mpy_base.Val.{Nil, Built, At}
 use Rattle.frame_exits.specs.arena_heap.declared.value.Value.{Value}
 use Rattle.frame_exits.specs.vm_frames.declared.slot.Slot.{Slot}
 use Rattle.frame_exits.specs.vm_frames.declared.slot.Slot.TheVariants as slots

@@ -1,7 +1,7 @@
 //! How calls that run a program over an arena stay so.
 
 ghost use Rattle.std.specs.Prelude.{◌≡◌, ℕ, List, Option, All};
-ghost use Rattle.mpy_base.specs.World.{Objects, Later};
+ghost use Rattle.frame_exits.specs.mpy_base.World.{Objects, Later};
 ghost use Rattle.frame_exits.specs.arena_heap.declared.value.Value.{Value};
 ghost use Rattle.frame_exits.specs.arena_objects.Keys.{AllTold};
 ghost use Rattle.frame_exits.specs.vm_frames.declared.slot.Slot.{Slot};

@@ -8,6 +8,15 @@ mod ready;
 mod standing;
 
 pub use call_tops::tops_law;
+pub use frame_exits::{
+    After, End, Import, Library, ModuleName, Modules, begin_import, end_finally, import_name,
+    put_import, raise, raise_last, raise_obj, receive, refuse_import, return_value,
+};
+pub use frame_values::{Place, assigned, top_truth};
 pub use known::known_law;
 pub use ready::{keeps_law, ready_law};
 pub use standing::{locals_law, standing_law};
+pub use vm_fetching::{
+    Fetched, Instruction, JumpOp, NameOp, NumberOp, PlainOp, Row, Rows, fetch, line_of, rows_law,
+    step_law,
+};

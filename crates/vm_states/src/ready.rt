@@ -1,7 +1,7 @@
 //! What a fetched instruction finds on the running call, and calls behind it.
 
 ghost use Rattle.std.specs.Prelude.{◌≡◌, ℕ, List, ◌∷◌, Option, Some, IsSome, All};
-ghost use Rattle.mpy_base.specs.Val.{PlainWorld};
+ghost use Rattle.frame_exits.specs.mpy_base.Val.{PlainWorld};
 ghost use Rattle.frame_exits.specs.arena_heap.declared.value.Value.{Value};
 ghost use Rattle.frame_exits.specs.bc_labels.Positions.{CodeList, Listed, Starts};
 ghost use Rattle.bc_progress.specs.bc_machine.Step.{step};
@@ -22,9 +22,8 @@ ghost use Rattle.vm_states.specs.Running.{IsOfModule, IsRunning};
 use crate::call_tops::tops_law;
 use crate::standing::standing_law;
 use bc_progress::{progress_law, room_law};
-use bc_rows::rows_law;
-use vm_fetching::step_law;
-use vm_frames::placed_law;
+use frame_values::placed_law;
+use vm_fetching::{rows_law, step_law};
 
 /// Of calls that run a program: the first one's code has a row, which is verified; an instruction starts at the call's offset;
 /// and what is fetched there is ready.

@@ -1,12 +1,12 @@
 -- Expressions, calls and assertions.
 use Rattle.std.proofs.Common.{◌≡◌, [], ◌∷◌, codes, refl, true, false, pos}
-use Rattle.mpy_base.specs.Val.{Truth, Int, Str}
+use Rattle.bc_scheme.specs.mpy_base.Val.{Truth, Int, Str}
 use Rattle.bc_scheme.specs.bc_ops.declared.instr.Op.TheVariants as ops
 use Rattle.bc_scheme.specs.bc_ops.declared.instr.Instr.TheVariants as instrs
 use Rattle.bc_scheme.specs.bc_ops.declared.listing.Target.TheVariants.{Position}
 use Rattle.bc_scheme.specs.mpy_tree.Resolved.{lines_of, plain, named, jump, node, no_more, more, ResolvedModule}
-use Rattle.py_tree.specs.declared.expr.BinaryOp.TheVariants as binaries
-use Rattle.py_tree.specs.declared.expr.CompareOp.TheVariants as compares
+use Rattle.bc_scheme.specs.py_tree.declared.expr.BinaryOp.TheVariants as binaries
+use Rattle.bc_scheme.specs.py_tree.declared.expr.CompareOp.TheVariants as compares
 use Rattle.bc_scheme.specs.py_meaning.Tree.{Constant, Named, Binary, Compare, Call, NoExpr, More, Last, Link, NoKey, Key, Do, Return, AssertWith, Def, End, Next}
 use Rattle.bc_scheme.specs.py_meaning.Program.{Source}
 use Rattle.bc_scheme.specs.Expressions.{literal, name, one, two, chain, call, no_expr, next, operand, last, link, no_key, key, straight}

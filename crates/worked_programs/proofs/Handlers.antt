@@ -1,11 +1,11 @@
 -- Exceptions, and what handles them.
 use Rattle.std.proofs.Common.{◌≡◌, [], ◌∷◌, codes, refl, pos}
-use Rattle.mpy_base.specs.Val.{Int, Str}
+use Rattle.bc_scheme.specs.mpy_base.Val.{Int, Str}
 use Rattle.bc_scheme.specs.bc_ops.declared.instr.Op.TheVariants as ops
 use Rattle.bc_scheme.specs.bc_ops.declared.instr.Instr.TheVariants as instrs
 use Rattle.bc_scheme.specs.bc_ops.declared.listing.Target.TheVariants.{Position}
 use Rattle.bc_scheme.specs.mpy_tree.Resolved.{lines_of, plain, named, jump, unwind, node, no_more, more, ResolvedModule}
-use Rattle.py_tree.specs.declared.expr.BinaryOp.TheVariants as binaries
+use Rattle.bc_scheme.specs.py_tree.declared.expr.BinaryOp.TheVariants as binaries
 use Rattle.bc_scheme.specs.py_meaning.Tree.{Constant, Named, Binary, Call, NoExpr, More, NoKey, ToName, Only, Do, Assign, Break, Continue, Return, Reraise, For, Try, Finally, Def, End, Next, NoHandler, On, OnAs}
 use Rattle.bc_scheme.specs.py_meaning.Program.{Source}
 use Rattle.bc_scheme.specs.Expressions.{literal, name, two, call, no_expr, next, last, no_key}

@@ -1,6 +1,6 @@
 -- Programs of several modules.
 use Rattle.std.proofs.Common.{◌≡◌, [], ◌∷◌, None, codes, refl, pos}
-use Rattle.mpy_base.specs.Val.{Int, Str}
+use Rattle.bc_scheme.specs.mpy_base.Val.{Int, Str}
 use Rattle.bc_scheme.specs.bc_ops.declared.instr.Op.TheVariants as ops
 use Rattle.bc_scheme.specs.bc_ops.declared.instr.Instr.TheVariants as instrs
 use Rattle.bc_scheme.specs.bc_ops.declared.listing.Target.TheVariants.{Position}

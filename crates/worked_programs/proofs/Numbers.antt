@@ -1,10 +1,10 @@
 -- The world of a run as one list of numbers.
 use Rattle.std.proofs.Common.{ℕ, ℤ, Bool, length, ◌++◌, List, [], ◌∷◌, Option, Some, None, true, false, pos, negsuc}
 use Rattle.std.specs.List.{flat_map}
-use Rattle.mpy_base.specs.Kind.{kind_name}
-use Rattle.mpy_base.specs.Val as vals
-use Rattle.mpy_base.specs.Val.{Val, Vals, Nil, Truth, Int, Str, Fixed, Empty, Built, At}
-use Rattle.mpy_base.specs.World.{PortState, Object, ListObject, TupleObject, TextObject, DictObject, FunctionObject, ExceptionObject, MethodObject, RangeObject, ModuleObject}
+use Rattle.bc_scheme.specs.mpy_base.Kind.{kind_name}
+use Rattle.bc_scheme.specs.mpy_base.Val as vals
+use Rattle.bc_scheme.specs.mpy_base.Val.{Val, Vals, Nil, Truth, Int, Str, Fixed, Empty, Built, At}
+use Rattle.bc_scheme.specs.mpy_base.World.{PortState, Object, ListObject, TupleObject, TextObject, DictObject, FunctionObject, ExceptionObject, MethodObject, RangeObject, ModuleObject}
 use Rattle.bc_scheme.specs.py_values.Names.{builtin_name}
 use Rattle.bc_scheme.specs.py_effects.Ends.{Run}
 

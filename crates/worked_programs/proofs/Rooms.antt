@@ -1,10 +1,10 @@
 -- Rooms that hold a run to the cell, and ports that fail.
 use Rattle.std.proofs.Common.{◌≡◌, [], ◌∷◌, None, codes, refl, false, pos}
-use Rattle.mpy_base.specs.Val.{Int, Str}
+use Rattle.bc_scheme.specs.mpy_base.Val.{Int, Str}
 use Rattle.bc_scheme.specs.bc_ops.declared.instr.Op.TheVariants as ops
 use Rattle.bc_scheme.specs.bc_ops.declared.instr.Instr.TheVariants as instrs
 use Rattle.bc_scheme.specs.mpy_tree.Resolved.{lines_of, plain, named, node, no_more, ResolvedModule}
-use Rattle.py_tree.specs.declared.expr.BinaryOp.TheVariants as binaries
+use Rattle.bc_scheme.specs.py_tree.declared.expr.BinaryOp.TheVariants as binaries
 use Rattle.bc_scheme.specs.py_meaning.Tree.{Constant, Named, Binary, ListOf, Call, Method, NoExpr, More, NoKey, ToName, Only, Do, Assign, Import, End, Next}
 use Rattle.bc_scheme.specs.py_meaning.Program.{Source}
 use Rattle.bc_scheme.specs.py_meaning.Meaning.{meaning}

@@ -1,11 +1,11 @@
 -- What a worked program tells.
 use Rattle.std.proofs.Common.{◌≡◌, ◌-◌, ℕ, ℤ, List, [], ◌∷◌, Option, codes, true}
 use Rattle.std.specs.Str.{bytes_eq}
-use Rattle.mpy_base.specs.declared.room.Room.{Room}
-use Rattle.mpy_base.specs.Weights.{used}
-use Rattle.mpy_base.specs.World.{PortState}
+use Rattle.bc_scheme.specs.mpy_base.declared.room.Room.{Room}
+use Rattle.bc_scheme.specs.mpy_base.Weights.{used}
+use Rattle.bc_scheme.specs.mpy_base.World.{PortState}
 use Rattle.bc_scheme.specs.mpy_tree.Resolved.{ResolvedModule}
-use Rattle.py_tree.specs.declared.stmt.Alias.{Alias}
+use Rattle.bc_scheme.specs.py_tree.declared.stmt.Alias.{Alias}
 use Rattle.bc_scheme.specs.py_effects.Ends.{Run, Open, report}
 use Rattle.bc_scheme.specs.py_meaning.Meaning.{meaning}
 use Rattle.bc_scheme.specs.py_meaning.Program.{Source, Unit, Single, Program}

@@ -1,5 +1,5 @@
 use Rattle.std.specs.Prelude.{ℕ}
-use Rattle.mpy_base.specs.World.{Heap}
+use Rattle.state_calls.specs.mpy_base.World.{Heap}
 use Rattle.state_calls.specs.arena_heap.declared.value.Value.{Value}
 use Rattle.vm_kept.proofs.Gives.{value_given}
 use Rattle.vm_kept.proofs.gives_law.Goals as goal

@@ -1,7 +1,7 @@
 use Rattle.std.proofs.Common.{◌+◌, ◌*◌, ◌≡◌, Some, sym, ◌∙◌, ap, subst, get_or, refl, arith}
 use Rattle.std.proofs.lemmas.Option.{slice_get-get_or, slice_get_past}
 use Rattle.arena_heap.specs.declared.value.Value.{Value}
-use Rattle.mpy_base.specs.World.{ADict, pairs_at}
+use Rattle.qstr_pool.specs.mpy_base.World.{ADict, pairs_at}
 use Rattle.arena_heap.proofs.DictSeen.{IsPair, seen_dict_len, seen_pair, dict_pairs}
 use Rattle.arena_heap.proofs.Seen.{seen_within, seen_head}
 use Rattle.arena_heap.proofs.dicts.dict_at.Goals as goal

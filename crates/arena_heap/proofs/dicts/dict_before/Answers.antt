@@ -1,5 +1,5 @@
 use Rattle.std.proofs.Common.{◌+◌, ◌*◌, refl, arith}
-use Rattle.mpy_base.specs.World.{ADict}
+use Rattle.qstr_pool.specs.mpy_base.World.{ADict}
 use Rattle.arena_heap.proofs.DictSeen.{seen_dict_len, dict_lies, seen_next}
 use Rattle.arena_heap.proofs.Seen.{seen_within, seen_head}
 use Rattle.arena_heap.proofs.dicts.dict_before.Goals as goal

@@ -1,6 +1,6 @@
 use Rattle.std.proofs.Common.{ℕ, List, ◌+◌, ◌*◌, length, refl, sym, ◌∙◌, subst}
 use Rattle.std.proofs.Math.Path.{ap₂}
-use Rattle.mpy_base.specs.World.{ADict, pairs_at}
+use Rattle.qstr_pool.specs.mpy_base.World.{ADict, pairs_at}
 use Rattle.arena_heap.specs.Links.{IsLast, bucket_of, buckets_at}
 use Rattle.arena_heap.proofs.DictSeen.{seen_dict_room, some_buckets, seen_first, texts_seen}
 use Rattle.arena_heap.proofs.Seen.{seen_within, seen_head}

@@ -1,5 +1,5 @@
 use Rattle.std.proofs.Common.{ℕ, ◌+◌, ◌*◌, ◌%◌, length, refl, ap, ◌∙◌, subst}
-use Rattle.mpy_base.specs.World.{ADict, pairs_at}
+use Rattle.qstr_pool.specs.mpy_base.World.{ADict, pairs_at}
 use Rattle.arena_heap.specs.Links.{IsLast, text_code, buckets_at}
 use Rattle.arena_heap.proofs.DictSeen.{seen_dict_room, some_buckets, seen_first}
 use Rattle.arena_heap.proofs.Seen.{seen_within, seen_head}

@@ -1,4 +1,4 @@
-use Rattle.mpy_base.specs.World.{ADict}
+use Rattle.qstr_pool.specs.mpy_base.World.{ADict}
 use Rattle.arena_heap.proofs.DictSeen.{seen_dict_len}
 use Rattle.arena_heap.proofs.Seen.{seen_within, seen_head}
 use Rattle.arena_heap.proofs.dicts.dict_len.Goals as goal

@@ -1,8 +1,8 @@
 use Rattle.std.proofs.Common.{ℕ, ◌+◌, ◌<◌, ◌≡◌, [], ◌∷◌, ◌++◌, length, Option, sym, ◌∙◌, ap, subst, arith}
 use Rattle.arena_heap.specs.declared.value.Value.{Value}
-use Rattle.mpy_base.specs.World.{Heap, Later, pairs_of, pairs_at, room_at, room_of, with_dict}
-use Rattle.mpy_base.specs.Weights.{with_dict_room}
-use Rattle.mpy_base.proofs.Worlds.{later_pairs}
+use Rattle.qstr_pool.specs.mpy_base.World.{Heap, Later, pairs_of, pairs_at, room_at, room_of, with_dict}
+use Rattle.qstr_pool.specs.mpy_base.Weights.{with_dict_room}
+use Rattle.qstr_pool.proofs.mpy_base_lemmas.Worlds.{later_pairs}
 use Rattle.arena_heap.specs.Values.{ArenaObject}
 use Rattle.arena_heap.proofs.DictSeen.{reserved_object, reserved_later, pushed_pairs, grown_holds}
 use Rattle.arena_heap.proofs.Sounds.{leads_later}

@@ -3,8 +3,8 @@ use Rattle.std.proofs.lemmas.Option.{slice_get-get_or}
 use Rattle.std.specs.List.{remove}
 use Rattle.std.specs.Vec.{vec_capacity}
 use Rattle.arena_heap.specs.declared.value.Value.{Value}
-use Rattle.mpy_base.specs.World.{Heap, ADict, Later, pairs_at}
-use Rattle.mpy_base.proofs.Worlds.{later_dict}
+use Rattle.qstr_pool.specs.mpy_base.World.{Heap, ADict, Later, pairs_at}
+use Rattle.qstr_pool.proofs.mpy_base_lemmas.Worlds.{later_dict}
 use Rattle.arena_heap.specs.Values.{Leads}
 use Rattle.arena_heap.proofs.DictCells.{removed_plain, removed_heads}
 use Rattle.arena_heap.proofs.KeyTexts.{bytes_same}

@@ -2,8 +2,8 @@ use Rattle.std.proofs.Common.{ℕ, ◌+◌, ◌*◌, List, Some, sym, subst, set
 use Rattle.std.proofs.Math.Path.{ap₂}
 use Rattle.arena_heap.specs.declared.value.Value.{Value}
 use Rattle.arena_heap.specs.declared.cells.Cell.{Cell}
-use Rattle.mpy_base.specs.World.{Heap, ADict, DictObject, Later, pairs_at, room_at}
-use Rattle.mpy_base.proofs.Worlds.{later_dict}
+use Rattle.qstr_pool.specs.mpy_base.World.{Heap, ADict, DictObject, Later, pairs_at, room_at}
+use Rattle.qstr_pool.proofs.mpy_base_lemmas.Worlds.{later_dict}
 use Rattle.arena_heap.specs.Dicts.{with_value}
 use Rattle.arena_heap.specs.Cells.{Holds}
 use Rattle.arena_heap.proofs.DictCells.{region_pairs, dict_stored}

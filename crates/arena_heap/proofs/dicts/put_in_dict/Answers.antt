@@ -6,7 +6,7 @@ use Rattle.arena_heap.specs.declared.cells.Cell.{Cell}
 use Rattle.arena_heap.specs.Cells.{IsArena}
 use Rattle.arena_heap.proofs.KeyTexts.{bytes_same}
 use Rattle.arena_heap.proofs.Frame.{length-objects}
-use Rattle.mpy_base.specs.World.{Heap, ADict}
+use Rattle.qstr_pool.specs.mpy_base.World.{Heap, ADict}
 use Rattle.arena_heap.proofs.DictCells.{pushed_plain, pushed_heads}
 use Rattle.arena_heap.proofs.DictSeen.{seen_dict_room, seen_dict_len, dict_lies, pushed_seen, text_end_fits}
 use Rattle.arena_heap.proofs.Seen.{seen_within, seen_head, holds_now}

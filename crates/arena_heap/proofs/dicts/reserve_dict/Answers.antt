@@ -3,9 +3,9 @@ use Rattle.std.proofs.Math.Path.{ap₂}
 use Rattle.std.specs.Result.{IfErr}
 use Rattle.arena_heap.specs.declared.value.Value.{Value}
 use Rattle.arena_heap.specs.declared.cells.Cell.TheVariants.{DictHead}
-use Rattle.mpy_base.specs.World.{ADict, DictObject, pairs_at, with_object}
-use Rattle.mpy_base.specs.Weights.{Fits, IsRoom, Refused, dict_growth, grown_room, room_for, with_used}
-use Rattle.mpy_base.proofs.Rooms.{room_is}
+use Rattle.qstr_pool.specs.mpy_base.World.{ADict, DictObject, pairs_at, with_object}
+use Rattle.qstr_pool.specs.mpy_base.Weights.{Fits, IsRoom, Refused, dict_growth, grown_room, room_for, with_used}
+use Rattle.qstr_pool.proofs.mpy_base_lemmas.Rooms.{room_is}
 use Rattle.arena_heap.specs.Cells.{Holds}
 use Rattle.arena_heap.proofs.DictCells.{dict_moved, moved_plain, moved_heads, moved_inside}
 use Rattle.arena_heap.proofs.KeyTexts.{bytes_same}

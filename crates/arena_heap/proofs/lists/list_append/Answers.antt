@@ -2,8 +2,8 @@ use Rattle.std.proofs.Common.{ℕ, ◌≡◌, List, ◌∙◌, ap, subst}
 use Rattle.std.specs.Result.{OnOk}
 use Rattle.std.specs.List.{insert}
 use Rattle.arena_heap.specs.declared.value.Value.{Value}
-use Rattle.mpy_base.specs.World.{items_at}
-use Rattle.mpy_base.specs.Weights.{with_items}
+use Rattle.qstr_pool.specs.mpy_base.World.{items_at}
+use Rattle.qstr_pool.specs.mpy_base.Weights.{with_items}
 use Rattle.std.proofs.lemmas.List.Edits.{insert_end}
 use Rattle.arena_heap.proofs.lists.list_append.Goals as goal
 

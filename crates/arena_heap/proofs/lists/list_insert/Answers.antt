@@ -1,8 +1,8 @@
 use Rattle.std.proofs.Common.{arith, ℕ, ◌+◌, List, length, sym, ◌∙◌, ap, subst}
 use Rattle.std.specs.List.{insert}
 use Rattle.arena_heap.specs.declared.value.Value.{Value}
-use Rattle.mpy_base.specs.World.{Heap, Later, items_at, with_list}
-use Rattle.mpy_base.proofs.Worlds.{later_items}
+use Rattle.qstr_pool.specs.mpy_base.World.{Heap, Later, items_at, with_list}
+use Rattle.qstr_pool.proofs.mpy_base_lemmas.Worlds.{later_items}
 use Rattle.std.proofs.lemmas.List.Edits.{length-insert}
 use Rattle.arena_heap.proofs.Growths.{reserved_later, reserved_items, reserved_room, reserved_put, room_grows}
 use Rattle.arena_heap.proofs.Sounds.{leads_later}

@@ -1,4 +1,4 @@
-use Rattle.mpy_base.specs.World.{AList}
+use Rattle.qstr_pool.specs.mpy_base.World.{AList}
 use Rattle.arena_heap.proofs.ListSeen.{seen_len}
 use Rattle.arena_heap.proofs.Seen.{seen_within, seen_head}
 use Rattle.arena_heap.proofs.lists.list_len.Goals as goal

@@ -5,8 +5,8 @@ use Rattle.std.specs.List.{remove}
 use Rattle.arena_heap.specs.declared.value.Value.{Value}
 use Rattle.arena_heap.specs.declared.value.Value.TheVariants as values
 use Rattle.arena_heap.specs.declared.cells.Cell.TheVariants.{ListHead}
-use Rattle.mpy_base.specs.World.{Heap, AList, Later, items_at}
-use Rattle.mpy_base.proofs.Worlds.{later_list}
+use Rattle.qstr_pool.specs.mpy_base.World.{Heap, AList, Later, items_at}
+use Rattle.qstr_pool.proofs.mpy_base_lemmas.Worlds.{later_list}
 use Rattle.arena_heap.specs.Values.{Leads}
 use Rattle.arena_heap.proofs.ListCells.{list_removed}
 use Rattle.arena_heap.proofs.ListSeen.{seen_len, seen_item, list_leads, list_changed}

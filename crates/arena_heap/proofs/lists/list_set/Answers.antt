@@ -2,8 +2,8 @@ use Rattle.std.proofs.Common.{arith, ℕ, ◌+◌, List, Some, sym, subst, set, 
 use Rattle.std.proofs.lemmas.List.Elements.{All-set}
 use Rattle.arena_heap.specs.declared.value.Value.{Value}
 use Rattle.arena_heap.specs.declared.cells.Cell.{Cell}
-use Rattle.mpy_base.specs.World.{Heap, AList, ListObject, Later, items_at}
-use Rattle.mpy_base.proofs.Worlds.{later_list}
+use Rattle.qstr_pool.specs.mpy_base.World.{Heap, AList, ListObject, Later, items_at}
+use Rattle.qstr_pool.proofs.mpy_base_lemmas.Worlds.{later_list}
 use Rattle.arena_heap.specs.Values.{Leads}
 use Rattle.arena_heap.specs.Cells.{Holds}
 use Rattle.arena_heap.proofs.ListCells.{items_in, list_stored}

@@ -3,7 +3,7 @@ use Rattle.std.proofs.lemmas.List.Elements.{All-append, All-take, All-drop, All-
 use Rattle.std.specs.List.{insert}
 use Rattle.arena_heap.specs.declared.value.Value.{Value}
 use Rattle.arena_heap.specs.declared.cells.Cell.TheVariants.{ListHead}
-use Rattle.mpy_base.specs.World.{AList, items_at}
+use Rattle.qstr_pool.specs.mpy_base.World.{AList, items_at}
 use Rattle.arena_heap.specs.Values.{Leads}
 use Rattle.arena_heap.proofs.ListCells.{list_put, inside_list}
 use Rattle.arena_heap.proofs.ListSeen.{seen_room, seen_len, list_leads, list_changed}

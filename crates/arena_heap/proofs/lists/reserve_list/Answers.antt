@@ -1,8 +1,8 @@
 use Rattle.std.proofs.Common.{arith, ℕ, ◌+◌, ◌*◌, ◌≡◌, sym, subst, refl, rules}
 use Rattle.std.specs.Result.{IfErr}
-use Rattle.mpy_base.specs.World.{AList}
-use Rattle.mpy_base.specs.Weights.{Fits, Refused, list_growth, room_for}
-use Rattle.mpy_base.proofs.Rooms.{room_is}
+use Rattle.qstr_pool.specs.mpy_base.World.{AList}
+use Rattle.qstr_pool.specs.mpy_base.Weights.{Fits, Refused, list_growth, room_for}
+use Rattle.qstr_pool.proofs.mpy_base_lemmas.Rooms.{room_is}
 use Rattle.arena_heap.proofs.ListCells.{full_list}
 use Rattle.arena_heap.proofs.ListSeen.{seen_room, reserved_nothing, no_growth, all_growth, list_reserved, nothing_fits}
 use Rattle.arena_heap.proofs.Seen.{seen_within, seen_head, seen_fits}

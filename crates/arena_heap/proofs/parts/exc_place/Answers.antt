@@ -1,6 +1,6 @@
 use Rattle.std.proofs.Common.{arith, ℕ, sym, subst}
-use Rattle.mpy_base.specs.World.{Heap, Later}
-use Rattle.mpy_base.proofs.Worlds.{later_place}
+use Rattle.qstr_pool.specs.mpy_base.World.{Heap, Later}
+use Rattle.qstr_pool.proofs.mpy_base_lemmas.Worlds.{later_place}
 use Rattle.arena_heap.specs.declared.value.Value.{Value}
 use Rattle.arena_heap.proofs.PartSeen.{behind, exception_head, placed_exception}
 use Rattle.arena_heap.proofs.parts.exc_place.Goals as goal

@@ -1,6 +1,6 @@
 use Rattle.std.proofs.Common.{arith}
 use Rattle.arena_heap.specs.declared.value.Value.TheVariants as values
-use Rattle.mpy_base.specs.World.{FunctionObject, AFunction}
+use Rattle.qstr_pool.specs.mpy_base.World.{FunctionObject, AFunction}
 use Rattle.arena_heap.proofs.PartSeen.{sound_parts, seen_function}
 use Rattle.arena_heap.proofs.Seen.{seen_within, seen_head}
 use Rattle.arena_heap.proofs.parts.fun_parts.Goals as goal

@@ -1,6 +1,6 @@
 use Rattle.std.proofs.Common.{arith}
 use Rattle.arena_heap.specs.declared.value.Value.TheVariants as values
-use Rattle.mpy_base.specs.World.{MethodObject, AMethod}
+use Rattle.qstr_pool.specs.mpy_base.World.{MethodObject, AMethod}
 use Rattle.arena_heap.proofs.PartSeen.{sound_parts, seen_method}
 use Rattle.arena_heap.proofs.Seen.{seen_within, seen_head}
 use Rattle.arena_heap.proofs.parts.method_parts.Goals as goal

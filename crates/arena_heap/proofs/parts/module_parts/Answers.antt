@@ -1,6 +1,6 @@
 use Rattle.std.specs.Option.{option_map}
 use Rattle.arena_heap.specs.declared.value.DictNo.{DictNo}
-use Rattle.mpy_base.specs.World.{AModule}
+use Rattle.qstr_pool.specs.mpy_base.World.{AModule}
 use Rattle.arena_heap.proofs.PartSeen.{namespace, seen_module}
 use Rattle.arena_heap.proofs.Seen.{seen_within, seen_head}
 use Rattle.arena_heap.proofs.parts.module_parts.Goals as goal

@@ -1,8 +1,8 @@
 use Rattle.std.proofs.Common.{◌≡◌, ◌<◌, ◌∙◌, length, get_or, sym, ap, subst, arith, Option, None}
 use Rattle.std.specs.Option.{MatchOption}
 use Rattle.std.proofs.lemmas.List.{get_or_default}
-use Rattle.mpy_base.specs.World.{object}
-use Rattle.mpy_base.specs.Weights.{used}
+use Rattle.qstr_pool.specs.mpy_base.World.{object}
+use Rattle.qstr_pool.specs.mpy_base.Weights.{used}
 use Rattle.arena_heap.specs.declared.value.ObjectNo.{ObjectNo}
 use Rattle.arena_heap.specs.Cells.{blank}
 use Rattle.arena_heap.specs.Values.{BeginsAt}

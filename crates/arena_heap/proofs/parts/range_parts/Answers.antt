@@ -1,6 +1,6 @@
 use Rattle.std.proofs.Common.{arith}
 use Rattle.arena_heap.specs.declared.value.Value.TheVariants as values
-use Rattle.mpy_base.specs.World.{RangeObject, ARange}
+use Rattle.qstr_pool.specs.mpy_base.World.{RangeObject, ARange}
 use Rattle.arena_heap.proofs.PartSeen.{sound_parts}
 use Rattle.arena_heap.proofs.Seen.{seen_within, seen_head, seen_object}
 use Rattle.arena_heap.proofs.parts.range_parts.Goals as goal

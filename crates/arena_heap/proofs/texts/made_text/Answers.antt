@@ -1,7 +1,7 @@
 use Rattle.std.proofs.Common.{arith, ℕ, ◌+◌, ◌-◌, ◌<◌, ◌≡◌, List, sym, ◌∙◌, subst, take, drop}
 use Rattle.std.proofs.Math.Path.{ap₂}
 use Rattle.std.specs.List.{All}
-use Rattle.mpy_base.specs.World.{AText}
+use Rattle.qstr_pool.specs.mpy_base.World.{AText}
 use Rattle.arena_heap.proofs.TupleSeen.{text_bytes, text_ascii}
 use Rattle.arena_heap.proofs.Seen.{seen_within, seen_head}
 use Rattle.arena_heap.proofs.texts.made_text.Goals as goal

@@ -1,8 +1,8 @@
 use Rattle.std.specs.Vec.{vec_capacity}
 use Rattle.std.proofs.Common.{arith, ℕ, ◌+◌, List, Option, sym, subst, set}
 use Rattle.arena_heap.specs.declared.value.Value.{Value}
-use Rattle.mpy_base.specs.World.{Heap, AText, Later, text_at}
-use Rattle.mpy_base.proofs.Worlds.{later_text}
+use Rattle.qstr_pool.specs.mpy_base.World.{Heap, AText, Later, text_at}
+use Rattle.qstr_pool.proofs.mpy_base_lemmas.Worlds.{later_text}
 use Rattle.arena_heap.specs.Cells.{IsArena}
 use Rattle.arena_heap.proofs.TupleSeen.{inside_text, text_length, text_filled}
 use Rattle.arena_heap.proofs.Seen.{seen_within, seen_head}

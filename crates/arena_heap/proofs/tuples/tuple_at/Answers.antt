@@ -1,7 +1,7 @@
 use Rattle.std.proofs.Common.{arith, Some, sym, ◌∙◌, ap, subst}
 use Rattle.std.proofs.lemmas.Option.{slice_get-get_or, slice_get_past}
 use Rattle.arena_heap.specs.declared.value.Value.TheVariants as values
-use Rattle.mpy_base.specs.World.{ATuple, items_at}
+use Rattle.qstr_pool.specs.mpy_base.World.{ATuple, items_at}
 use Rattle.arena_heap.specs.Values.{Leads}
 use Rattle.arena_heap.proofs.TupleSeen.{tuple_length, tuple_item, tuple_leads}
 use Rattle.arena_heap.proofs.Seen.{seen_within, seen_head}

@@ -1,7 +1,7 @@
 use Rattle.std.proofs.Common.{arith, ℕ, sym, subst, set}
 use Rattle.arena_heap.specs.declared.value.Value.{Value}
-use Rattle.mpy_base.specs.World.{Heap, Later, items_at}
-use Rattle.mpy_base.proofs.Worlds.{later_tuple}
+use Rattle.qstr_pool.specs.mpy_base.World.{Heap, Later, items_at}
+use Rattle.qstr_pool.proofs.mpy_base_lemmas.Worlds.{later_tuple}
 use Rattle.arena_heap.proofs.TupleSeen.{tuple_head, inside_tuple, tuple_length, tuple_filled}
 use Rattle.arena_heap.proofs.tuples.tuple_fill.Goals as goal
 

@@ -1,4 +1,4 @@
-use Rattle.mpy_base.specs.World.{ATuple}
+use Rattle.qstr_pool.specs.mpy_base.World.{ATuple}
 use Rattle.arena_heap.proofs.TupleSeen.{tuple_length}
 use Rattle.arena_heap.proofs.Seen.{seen_within, seen_head}
 use Rattle.arena_heap.proofs.tuples.tuple_len.Goals as goal

@@ -1,7 +1,7 @@
 use Rattle.std.proofs.Common.{ℕ, sym, subst}
 use Rattle.std.specs.List.{remove}
 use Rattle.arena_heap.specs.declared.value.Value.{Value}
-use Rattle.mpy_base.specs.World.{Heap, pairs_at, with_dict}
+use Rattle.py_values.specs.mpy_base.World.{Heap, pairs_at, with_dict}
 use Rattle.arena_objects.specs.Keys.{AllTold, Lacks, KeepsOthers, IsDistinct}
 use Rattle.arena_objects.proofs.AfterSet.{texts_kept, pairs_of_with, gone, distinct_removed, others_removed}
 use Rattle.arena_objects.proofs.Tolds.{told_dict, told_removed, told_read}

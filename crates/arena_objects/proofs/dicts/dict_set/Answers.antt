@@ -3,9 +3,9 @@ use Rattle.std.specs.Result.{OnOk, IfErr}
 use Rattle.arena_heap.specs.declared.value.Value.{Value}
 use Rattle.arena_heap.specs.declared.value.StrNo.{StrNo}
 use Rattle.arena_heap.specs.declared.value.ConstNo.{ConstNo}
-use Rattle.mpy_base.specs.declared.room.NoRoom.{NoRoom}
-use Rattle.mpy_base.specs.World.{Heap, pairs_at, with_dict}
-use Rattle.mpy_base.specs.Weights.{Refused, with_pairs}
+use Rattle.py_values.specs.mpy_base.declared.room.NoRoom.{NoRoom}
+use Rattle.py_values.specs.mpy_base.World.{Heap, pairs_at, with_dict}
+use Rattle.py_values.specs.mpy_base.Weights.{Refused, with_pairs}
 use Rattle.arena_heap.specs.Dicts.{with_value}
 use Rattle.arena_objects.specs.Keys.{AllTold, IsValueOf, KeepsOthers, IsDistinct}
 use Rattle.arena_objects.proofs.AfterSet.{texts_kept, texts_kept_more, pairs_of_with, pairs_of_more, found_set, found_added, others_set, others_added, others_unchanged, distinct_set, distinct_added}

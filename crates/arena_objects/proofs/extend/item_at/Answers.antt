@@ -4,7 +4,7 @@ use Rattle.std.specs.Option.{option_map}
 use Rattle.std.proofs.lemmas.Option.{slice_get-map}
 use Rattle.arena_heap.specs.declared.value.Value.{Value}
 use Rattle.arena_heap.specs.declared.value.Value.TheVariants as values
-use Rattle.mpy_base.specs.World.{object, items_at, pairs_at}
+use Rattle.py_values.specs.mpy_base.World.{object, items_at, pairs_at}
 use Rattle.arena_heap.specs.Values.{Leads}
 use Rattle.arena_heap.specs.Constants.{IsTold}
 use Rattle.arena_objects.specs.Iterables.{items_in}

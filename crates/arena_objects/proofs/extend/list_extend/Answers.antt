@@ -1,9 +1,9 @@
 use Rattle.std.proofs.Common.{◌≡◌, ℕ, ◌+◌, ◌-◌, ◌*◌, ◌/◌, ◌≤◌, ◌++◌, List, length, take, Result, Ok, Err, arith, sym, ◌∙◌, ap, subst, length-append}
 use Rattle.arena_heap.specs.declared.value.Value.{Value}
-use Rattle.mpy_base.specs.World.{Heap, AList, AText, IsA, Later, items_at, room_at, with_list}
-use Rattle.mpy_base.specs.Weights.{Fits, used}
+use Rattle.py_values.specs.mpy_base.World.{Heap, AList, AText, IsA, Later, items_at, room_at, with_list}
+use Rattle.py_values.specs.mpy_base.Weights.{Fits, used}
 use Rattle.std.specs.Result.{OnErr}
-use Rattle.mpy_base.specs.declared.room.NoRoom.{NoRoom}
+use Rattle.py_values.specs.mpy_base.declared.room.NoRoom.{NoRoom}
 use Rattle.arena_heap.proofs.Sounds.{leads_later}
 use Rattle.arena_objects.specs.Keys.{AllTold}
 use Rattle.arena_objects.specs.Iterables.{items_in, spelled, with_texts, texts_from}

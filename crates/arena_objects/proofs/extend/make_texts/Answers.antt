@@ -1,7 +1,7 @@
 use Rattle.std.proofs.Common.{◌≡◌, ℕ, ◌<◌, List, [], ◌∷◌, length, take, get_or, arith, sym, ◌∙◌, ap, subst}
 use Rattle.arena_heap.specs.declared.value.Value.{Value}
-use Rattle.mpy_base.specs.World.{Heap, TextObject, Later}
-use Rattle.mpy_base.specs.Weights.{Made}
+use Rattle.py_values.specs.mpy_base.World.{Heap, TextObject, Later}
+use Rattle.py_values.specs.mpy_base.Weights.{Made}
 use Rattle.arena_heap.proofs.Sounds.{leads_later}
 use Rattle.arena_objects.specs.Iterables.{spelled}
 use Rattle.arena_objects.proofs.Gifts.{spelled_kept}

@@ -1,5 +1,5 @@
 use Rattle.std.proofs.Common.{◌≡◌, ◌*◌, take}
-use Rattle.mpy_base.specs.Weights.{Fits}
+use Rattle.py_values.specs.mpy_base.Weights.{Fits}
 use Rattle.arena_objects.specs.Iterables.{spelled, with_texts}
 use Rattle.arena_objects.proofs.extend.make_texts.Given as goal
 

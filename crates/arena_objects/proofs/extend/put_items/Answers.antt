@@ -4,8 +4,8 @@ use Rattle.std.specs.Prelude.{slice_get}
 use Rattle.std.proofs.lemmas.List.Edits.{insert_end}
 use Rattle.std.proofs.lemmas.List.Elements.{All-push, All-nil}
 use Rattle.arena_heap.specs.declared.value.Value.{Value}
-use Rattle.mpy_base.specs.World.{Heap, AList, IsA, Later, items_at, with_list}
-use Rattle.mpy_base.proofs.Worlds.{later_list}
+use Rattle.py_values.specs.mpy_base.World.{Heap, AList, IsA, Later, items_at, with_list}
+use Rattle.py_values.proofs.mpy_base_lemmas.Worlds.{later_list}
 use Rattle.arena_heap.proofs.Sounds.{leads_later}
 use Rattle.arena_heap.specs.Constants.{IsTold}
 use Rattle.arena_objects.specs.Keys.{AllTold}

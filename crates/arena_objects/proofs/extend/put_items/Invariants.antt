@@ -1,5 +1,5 @@
 use Rattle.std.proofs.Common.{◌≡◌, ◌++◌, take}
-use Rattle.mpy_base.specs.World.{items_at, with_list}
+use Rattle.py_values.specs.mpy_base.World.{items_at, with_list}
 use Rattle.arena_objects.specs.Iterables.{items_in}
 use Rattle.arena_objects.specs.Keys.{AllTold}
 use Rattle.arena_objects.proofs.extend.put_items.Given as goal

@@ -2,7 +2,7 @@ use Rattle.std.proofs.Common.{◌≡◌, ℕ, ◌+◌, ◌*◌, ◌++◌, ◌∷
 use Rattle.std.proofs.lemmas.List.FromFn.{length-map-range_with_len}
 use Rattle.arena_heap.specs.declared.value.Value.{Value}
 use Rattle.arena_heap.specs.declared.value.Value.TheVariants as values
-use Rattle.mpy_base.specs.World.{Heap, items_at, room_at, items_of, room_of, with_list}
+use Rattle.py_values.specs.mpy_base.World.{Heap, items_at, room_at, items_of, room_of, with_list}
 use Rattle.arena_objects.specs.Iterables.{texts_from}
 use Rattle.arena_objects.proofs.Gifts.{texts_more, list_there, put_again}
 use Rattle.arena_objects.proofs.extend.put_texts.Goals as goal

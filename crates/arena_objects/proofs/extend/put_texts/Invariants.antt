@@ -1,5 +1,5 @@
 use Rattle.std.proofs.Common.{◌≡◌, ◌++◌}
-use Rattle.mpy_base.specs.World.{items_at, with_list}
+use Rattle.py_values.specs.mpy_base.World.{items_at, with_list}
 use Rattle.arena_objects.specs.Iterables.{texts_from}
 use Rattle.arena_objects.proofs.extend.put_texts.Given as goal
 

@@ -1,7 +1,7 @@
 use Rattle.std.proofs.Common.{ℕ, ◌≡◌, List, Option, Some, sym, ◌∙◌, ap, subst}
 use Rattle.std.specs.Prelude.{slice_get}
 use Rattle.arena_heap.specs.declared.value.Value.{Value}
-use Rattle.mpy_base.specs.World.{pairs_at}
+use Rattle.py_values.specs.mpy_base.World.{pairs_at}
 use Rattle.arena_heap.specs.Constants.{IsTold}
 use Rattle.arena_objects.specs.Keys.{key_of, key_in}
 use Rattle.py_values.specs.Keys.{PlainKey}

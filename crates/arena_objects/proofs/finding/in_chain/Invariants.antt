@@ -1,5 +1,5 @@
 use Rattle.std.proofs.Common.{ℕ, suc, ◌≡◌, ◌≤◌, length}
-use Rattle.mpy_base.specs.World.{pairs_at}
+use Rattle.py_values.specs.mpy_base.World.{pairs_at}
 use Rattle.arena_heap.specs.Links.{IsLast, buckets_at}
 use Rattle.arena_objects.specs.Found.{FirstFrom, HasKeyIn}
 use Rattle.arena_objects.specs.PlainKeys.{plain}

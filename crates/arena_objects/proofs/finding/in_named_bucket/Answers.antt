@@ -1,6 +1,6 @@
 use Rattle.std.proofs.Common.{ℕ, length, Option, None, sym, subst}
 use Rattle.std.specs.Prelude.{IfSome}
-use Rattle.mpy_base.specs.World.{pairs_at}
+use Rattle.py_values.specs.mpy_base.World.{pairs_at}
 use Rattle.arena_objects.specs.Found.{FirstFrom, HasKeyNamed}
 use Rattle.arena_objects.specs.PlainKeys.{plain}
 use Rattle.arena_objects.proofs.finding.in_named_bucket.Goals as goal

@@ -1,5 +1,5 @@
 use Rattle.std.proofs.Common.{ℕ, length, Option, sym, ◌∙◌, ap, subst}
-use Rattle.mpy_base.specs.World.{pairs_at}
+use Rattle.py_values.specs.mpy_base.World.{pairs_at}
 use Rattle.arena_objects.specs.Found.{FirstFrom, HasKey, least}
 use Rattle.arena_objects.specs.PlainKeys.{plain}
 use Rattle.arena_objects.proofs.KeyCodes.{str_first}

@@ -1,8 +1,8 @@
 use Rattle.std.proofs.Common.{◌≡◌, ◌≤◌, Result, Err, refl, sym, subst, ◌∙◌, arith}
 use Rattle.std.specs.Prelude.{IfErr}
 use Rattle.std.proofs.lemmas.Result.{err_from_is_err_and}
-use Rattle.vm_starting.specs.vm_states.Means.{Program}
-use Rattle.vm_starting.specs.Programs.{IsProgramOf}
+use Rattle.board_tasks.specs.vm_starting.vm_states.Means.{Program}
+use Rattle.board_tasks.specs.vm_starting.Programs.{IsProgramOf}
 use Rattle.board_files.specs.declared.stop.OutputStop.{OutputStop}
 use Rattle.board_files.specs.Files.{cut_of}
 use Rattle.board_files.specs.Runs.{StopsIn}

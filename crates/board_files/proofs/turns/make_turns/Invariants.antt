@@ -1,5 +1,5 @@
 use Rattle.std.proofs.Common.{◌≡◌, length}
-use Rattle.vm_starting.specs.Kept.{AreFetched}
+use Rattle.board_tasks.specs.vm_starting.Kept.{AreFetched}
 use Rattle.board_files.proofs.Loops.{MadeTurns}
 use Rattle.board_files.proofs.turns.make_turns.Given as goal
 

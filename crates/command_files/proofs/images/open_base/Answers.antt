@@ -1,7 +1,7 @@
 use Rattle.std.proofs.Common.{sym, subst}
 use Rattle.std.specs.Prelude.{IfErr, IfOk}
-use Rattle.image_open.specs.bc_library.Shelf.{Shelf}
-use Rattle.image_open.specs.image_grammar.Base.{IsOpened}
+use Rattle.mpy_endings.specs.image_open.bc_library.Shelf.{Shelf}
+use Rattle.mpy_endings.specs.image_open.image_grammar.Base.{IsOpened}
 use Rattle.command_files.specs.Images.{HoldsImage, RefusesImage}
 use Rattle.command_files.proofs.images.open_base.Goals as goal
 

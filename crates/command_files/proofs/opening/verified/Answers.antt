@@ -1,6 +1,6 @@
 use Rattle.std.proofs.Common.{sym, subst}
-use Rattle.image_open.specs.mpy_tree.File.{IsFile}
-use Rattle.image_open.specs.bc_verify.Verified.{IsVerified}
+use Rattle.mpy_endings.specs.image_open.mpy_tree.File.{IsFile}
+use Rattle.mpy_endings.specs.image_open.bc_verify.Verified.{IsVerified}
 use Rattle.command_files.proofs.opening.verified.Goals as goal
 
 pub returns-in-Ok-verify : goal.returns-in-Ok-verify

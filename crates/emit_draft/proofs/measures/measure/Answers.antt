@@ -1,6 +1,6 @@
 use Rattle.std.proofs.Common.{ℕ, length, sym, ap, ap₂, ◌∙◌}
-use Rattle.bc_scheme.specs.py_meaning.Tree.{Block}
-use Rattle.bc_scheme.specs.Heights.{tall_block, held_in}
+use Rattle.emit_measures.specs.bc_scheme.py_meaning.Tree.{Block}
+use Rattle.emit_measures.specs.bc_scheme.Heights.{tall_block, held_in}
 use Rattle.emit_measures.specs.Limits.{saturated}
 use Rattle.emit_draft.proofs.measures.measure.Goals as goal
 

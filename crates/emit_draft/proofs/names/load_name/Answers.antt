@@ -1,5 +1,5 @@
 use Rattle.std.proofs.Common.{refl, sym, ◌∙◌}
-use Rattle.bc_scheme.specs.Context.{load_by}
+use Rattle.emit_measures.specs.bc_scheme.Context.{load_by}
 use Rattle.emit_draft.proofs.Items.{by_slot, by_text}
 use Rattle.emit_draft.proofs.names.load_name.Goals as goal
 

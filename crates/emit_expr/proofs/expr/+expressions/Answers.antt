@@ -1,11 +1,11 @@
 use Rattle.std.proofs.Common.{◌∙◌, ℤ, map, true, false, refl, sym, ap, subst, arith, rules, SFits, w32}
 use Rattle.std.proofs.lemmas.Int.{to_z-of_z}
-use Rattle.bc_scheme.specs.bc_ops.declared.instr.Instr.TheVariants as instrs
-use Rattle.bc_scheme.specs.bc_machine.Library.{Item, Plain}
+use Rattle.emit_draft.specs.bc_scheme.bc_ops.declared.instr.Instr.TheVariants as instrs
+use Rattle.emit_draft.specs.bc_scheme.bc_machine.Library.{Item, Plain}
 use Rattle.mpy_base.specs.Val.{Nil, Truth, Int, Str}
-use Rattle.bc_scheme.specs.Context.{constant}
-use Rattle.bc_scheme.specs.py_meaning.Tree.{Constant, Named, Unary, Not, Binary, Cond, TupleOf, ListOf, DictOf, Attr, Index}
-use Rattle.bc_scheme.specs.py_meaning.Plain.{plain_expr, exprs, operands, compares, pairs_of, keys_of, call_of}
+use Rattle.emit_draft.specs.bc_scheme.Context.{constant}
+use Rattle.emit_draft.specs.bc_scheme.py_meaning.Tree.{Constant, Named, Unary, Not, Binary, Cond, TupleOf, ListOf, DictOf, Attr, Index}
+use Rattle.emit_draft.specs.bc_scheme.py_meaning.Plain.{plain_expr, exprs, operands, compares, pairs_of, keys_of, call_of}
 use Rattle.emit_expr.specs.Emits.{joins, plain_links, plain_pairs, plain_keys}
 use Rattle.emit_expr.proofs.Plains.{plain_None, plain_True, plain_False, plain_Int, plain_Str, plain_Name, plain_Unary, plain_Not, plain_Binary, plain_And, plain_Or, plain_Compare, plain_Cond, plain_Tuple, plain_List, plain_Dict, plain_Attr, plain_Index, plain_Call, IsCalled, others_called, compare_called}
 use Rattle.emit_expr.proofs.Forms.{on_ok, as_plain, as_callee, puts_item, literal_emits, name_emits, unary_emits, not_emits, attr_emits, binary_emits, index_emits, other_free, end_free, cond_emits, tuple_emits, list_emits, dict_emits, function_emits, method_emits, call_emits, compare_emits}
@@ -84,17 +84,17 @@ emit_expr-returns-in_ok-emit_expr-in-Cond-3 t c =
 
 pub emit_expr-returns-in_ok-emit_all-in-Tuple : goal.emit_expr-returns-in_ok-emit_all-in-Tuple
 emit_expr-returns-in_ok-emit_all-in-Tuple t c =
-    on_ok c.put_items.result c.put_items.ensures (λ p. as_plain (tuple_emits c.in_ok-emit_all-in-Tuple.ensures (c.len.ensures ∙ sym (count_plain c.in-Tuple.items) ∙ ap (λ z. Rattle.bc_scheme.specs.py_meaning.Tree.count (exprs (map plain_expr z))) (sym c.as_slice-in-Tuple.ensures)) p)
+    on_ok c.put_items.result c.put_items.ensures (λ p. as_plain (tuple_emits c.in_ok-emit_all-in-Tuple.ensures (c.len.ensures ∙ sym (count_plain c.in-Tuple.items) ∙ ap (λ z. Rattle.emit_draft.specs.bc_scheme.py_meaning.Tree.count (exprs (map plain_expr z))) (sym c.as_slice-in-Tuple.ensures)) p)
     (ap plain_expr c.in-Tuple.is ∙ plain_Tuple c.in-Tuple.items ∙ ap (λ z. TupleOf (exprs (map plain_expr z))) (sym c.as_slice-in-Tuple.ensures)))
 
 pub emit_expr-returns-in_ok-emit_all-in-List : goal.emit_expr-returns-in_ok-emit_all-in-List
 emit_expr-returns-in_ok-emit_all-in-List t c =
-    on_ok c.put_items-in-List.result c.put_items-in-List.ensures (λ p. as_plain (list_emits c.in_ok-emit_all-in-List.ensures (c.len-in-List.ensures ∙ sym (count_plain c.in-List.items) ∙ ap (λ z. Rattle.bc_scheme.specs.py_meaning.Tree.count (exprs (map plain_expr z))) (sym c.as_slice-in-List.ensures)) p)
+    on_ok c.put_items-in-List.result c.put_items-in-List.ensures (λ p. as_plain (list_emits c.in_ok-emit_all-in-List.ensures (c.len-in-List.ensures ∙ sym (count_plain c.in-List.items) ∙ ap (λ z. Rattle.emit_draft.specs.bc_scheme.py_meaning.Tree.count (exprs (map plain_expr z))) (sym c.as_slice-in-List.ensures)) p)
     (ap plain_expr c.in-List.is ∙ plain_List c.in-List.items ∙ ap (λ z. ListOf (exprs (map plain_expr z))) (sym c.as_slice-in-List.ensures)))
 
 pub emit_expr-returns-in_ok-put_items-in-Dict : goal.emit_expr-returns-in_ok-put_items-in-Dict
 emit_expr-returns-in_ok-put_items-in-Dict t c =
-    on_ok c.emit_pairs.result c.emit_pairs.ensures (λ p. as_plain (dict_emits (c.len-in-Dict.ensures ∙ sym (pairs_plain c.in-Dict.pairs) ∙ ap (λ z. Rattle.bc_scheme.specs.py_meaning.Tree.pair_count (pairs_of (plain_pairs z))) (sym c.as_slice-in-Dict.ensures)) c.in_ok-put_items-in-Dict.ensures p)
+    on_ok c.emit_pairs.result c.emit_pairs.ensures (λ p. as_plain (dict_emits (c.len-in-Dict.ensures ∙ sym (pairs_plain c.in-Dict.pairs) ∙ ap (λ z. Rattle.emit_draft.specs.bc_scheme.py_meaning.Tree.pair_count (pairs_of (plain_pairs z))) (sym c.as_slice-in-Dict.ensures)) c.in_ok-put_items-in-Dict.ensures p)
     (ap plain_expr c.in-Dict.is ∙ plain_Dict c.in-Dict.pairs ∙ ap (λ z. DictOf (pairs_of (plain_pairs z))) (sym c.as_slice-in-Dict.ensures)))
 
 pub emit_expr-returns-in_ok-emit_expr-in-Attr : goal.emit_expr-returns-in_ok-emit_expr-in-Attr
@@ -113,8 +113,8 @@ emit_expr-returns-in_ok-emit_expr-in-Index-2 t c =
 pub emit_expr-returns-in_ok-emit_keys-in-Call : goal.emit_expr-returns-in_ok-emit_keys-in-Call
 emit_expr-returns-in_ok-emit_keys-in-Call t c =
     on_ok c.put_call.result c.put_call.ensures (λ p. as_plain (call_emits c.in_ok-op-in-Call.ensures c.in_ok-emit_all-in-Call.ensures c.in_ok-emit_keys-in-Call.ensures
-    (c.len-in-Call.ensures ∙ sym (count_plain c.in-Call.args) ∙ ap (λ z. Rattle.bc_scheme.specs.py_meaning.Tree.count (exprs (map plain_expr z))) (sym c.as_slice-in-Call.ensures))
-    (c.len-in-Call-2.ensures ∙ sym (keys_plain c.in-Call.keys) ∙ ap (λ z. Rattle.bc_scheme.specs.py_meaning.Tree.key_count (keys_of (plain_keys z))) (sym c.as_slice-in-Call-2.ensures)) p)
+    (c.len-in-Call.ensures ∙ sym (count_plain c.in-Call.args) ∙ ap (λ z. Rattle.emit_draft.specs.bc_scheme.py_meaning.Tree.count (exprs (map plain_expr z))) (sym c.as_slice-in-Call.ensures))
+    (c.len-in-Call-2.ensures ∙ sym (keys_plain c.in-Call.keys) ∙ ap (λ z. Rattle.emit_draft.specs.bc_scheme.py_meaning.Tree.key_count (keys_of (plain_keys z))) (sym c.as_slice-in-Call-2.ensures)) p)
     (ap plain_expr c.in-Call.is ∙ plain_Call c.in-Call.callee c.in-Call.args c.in-Call.keys
     ∙ ap (λ z. call_of (plain_expr z) (exprs (map plain_expr c.in-Call.args)) (keys_of (plain_keys c.in-Call.keys))) (sym c.get-in-Call.ensures)
     ∙ ap (λ z. call_of (plain_expr c.get-in-Call.result.now) (exprs (map plain_expr z)) (keys_of (plain_keys c.in-Call.keys))) (sym c.as_slice-in-Call.ensures)

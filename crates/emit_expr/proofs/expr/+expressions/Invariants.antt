@@ -1,5 +1,5 @@
 use Rattle.std.proofs.Common.{drop, map}
-use Rattle.bc_scheme.specs.py_meaning.Plain.{plain_expr, exprs, pairs_of, keys_of}
+use Rattle.emit_draft.specs.bc_scheme.py_meaning.Plain.{plain_expr, exprs, pairs_of, keys_of}
 use Rattle.emit_expr.specs.Emits.{plain_links, plain_pairs, plain_keys}
 use Rattle.emit_expr.proofs.Rows.{BuildsEs, BuildsK, BuildsD, BuildsO, BuildsL}
 use Rattle.emit_expr.proofs.expr.+expressions.Given as goal

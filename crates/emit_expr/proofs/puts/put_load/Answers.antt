@@ -1,4 +1,4 @@
-use Rattle.bc_scheme.specs.Context.{loads}
+use Rattle.emit_draft.specs.bc_scheme.Context.{loads}
 use Rattle.emit_expr.proofs.Forms.{puts_name}
 use Rattle.emit_expr.proofs.puts.put_load.Goals as goal
 

@@ -1,6 +1,6 @@
 use Rattle.std.proofs.Common.{◌<◌, ◌≤◌, length, arith}
 use Rattle.mpy_base.specs.Val.{Str}
-use Rattle.bc_scheme.specs.Context.{constant}
+use Rattle.emit_draft.specs.bc_scheme.Context.{constant}
 use Rattle.emit_expr.proofs.Forms.{puts_item, short_str, long_str}
 use Rattle.emit_expr.proofs.puts.put_str.Goals as goal
 

@@ -1,7 +1,7 @@
 use Rattle.std.proofs.Common.{◌≡◌, refl}
 use Rattle.std.specs.Prelude.{Ok, Err}
 use Rattle.mpy_base.specs.declared.refused.Refused.TheVariants.{Fault}
-use Rattle.py_meaning.specs.Program.{module_text, source_texts}
+use Rattle.tr_source.specs.py_meaning.Program.{module_text, source_texts}
 use Rattle.emit_module.specs.declared.own.Place.{Place}
 use Rattle.emit_module.specs.Module.{source_of}
 use Rattle.emit_module.proofs.Fewer.{tree_few}

@@ -12,8 +12,8 @@ use Rattle.emit_stmt.proofs.emit_expr_lemmas.Rows.{filled_items}
 use Rattle.emit_stmt.proofs.Plains.{simple_by}
 use Rattle.py_tree.specs.declared.stmt.Branch.{out-Branch}
 use Rattle.py_tree.specs.declared.stmt.Handler.{out-Handler}
-use Rattle.py_meaning.specs.Tree.{Else, End}
-use Rattle.py_meaning.specs.Plain.{part}
+use Rattle.tr_source.specs.py_meaning.Tree.{Else, End}
+use Rattle.tr_source.specs.py_meaning.Plain.{part}
 use Rattle.emit_module.proofs.Forests.{none_taken, one_taken, one_fails, one_last, all_taken, begun_by, begins_by, then_all, fails_all, depth_so_far, depth_kept, depth_front}
 use Rattle.emit_module.proofs.Walking.{block_first, branches_first, handlers_first, handlers_last, handlers_begun, block_room, branches_room, handlers_room, same_defs, on_slice, untested, with_test, front_fails, front_walks, if_walks, if_fails, while_row, for_row, try_row, finally_row, both_row, tried_row, tried_rest_row, try_begins, body_begins, if_defs, while_defs, for_defs, try_defs, finally_defs, both_defs, try_within, def_walks, def_defs, simple_walks, on_ok, on_front, on_clauses, same_front, same_clauses}
 use Rattle.emit_module.proofs.Coding.{function_walked, function_fails, body_fails, no_memory, begun_ok, begun_err}

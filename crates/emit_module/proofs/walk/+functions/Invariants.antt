@@ -1,8 +1,8 @@
 use Rattle.std.proofs.Common.{◌≤◌, ◌+◌, ◌*◌, drop}
 use denote.Param.Weighed.{most}
 use Rattle.py_tree.proofs.stmt.Stmt.TheLaws.{the_size}
-use Rattle.py_meaning.specs.Plain.{Part}
-use Rattle.py_meaning.specs.Tree.{Branches}
+use Rattle.tr_source.specs.py_meaning.Plain.{Part}
+use Rattle.tr_source.specs.py_meaning.Tree.{Branches}
 use Rattle.emit_stmt.specs.Parts.{plain_block, plain_handlers}
 use Rattle.emit_module.specs.Walk.{front_defs}
 use Rattle.emit_module.proofs.Forests.{SoFar}

@@ -1,6 +1,6 @@
 use Rattle.std.proofs.Common.{false, length, refl}
 use Rattle.std.specs.Prelude.{slice_get}
-use Rattle.py_meaning.specs.Program.{or_none}
+use Rattle.tr_source.specs.py_meaning.Program.{or_none}
 use Rattle.emit_stmt.specs.emit_draft.Finished.{Names}
 use Rattle.emit_module.proofs.Coding.{function_codes, function_shallow, function_params, many_fault, if_none, if_some}
 use Rattle.emit_module.proofs.walk.function_code.Goals as goal

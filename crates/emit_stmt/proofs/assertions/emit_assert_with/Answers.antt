@@ -1,5 +1,5 @@
 use Rattle.std.proofs.Common.{arith}
-use Rattle.py_meaning.specs.Plain.{plain_expr}
+use Rattle.emit_expr.specs.py_meaning.Plain.{plain_expr}
 use Rattle.emit_stmt.proofs.StmtForms.{no_assert_with_emits, assert_with_free, assert_with_emits}
 use Rattle.emit_stmt.proofs.assertions.emit_assert_with.Goals as goal
 

@@ -1,6 +1,6 @@
 use Rattle.std.proofs.Common.{ap}
-use Rattle.py_meaning.specs.Tree.{Assert, AssertWith}
-use Rattle.py_meaning.specs.Plain.{plain_expr, on_option}
+use Rattle.emit_expr.specs.py_meaning.Tree.{Assert, AssertWith}
+use Rattle.emit_expr.specs.py_meaning.Plain.{plain_expr, on_option}
 use Rattle.emit_expr.proofs.Forms.{on_ok}
 use Rattle.emit_stmt.proofs.StmtForms.{as_stmt}
 use Rattle.emit_stmt.proofs.assertions.emit_assertion.Goals as goal

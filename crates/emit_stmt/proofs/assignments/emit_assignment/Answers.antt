@@ -1,4 +1,4 @@
-use Rattle.py_meaning.specs.Plain.{plain_expr}
+use Rattle.emit_expr.specs.py_meaning.Plain.{plain_expr}
 use Rattle.emit_expr.proofs.Rows.{drop_item}
 use Rattle.emit_stmt.proofs.SimpleRows.{row_begun, row_step, row_done}
 use Rattle.emit_stmt.proofs.StoreForms.{doubled, assign_emits, assign_nothing}

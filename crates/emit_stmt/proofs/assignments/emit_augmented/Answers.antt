@@ -1,6 +1,6 @@
 use Rattle.std.proofs.Common.{◌∙◌, [], map, sym, ap}
-use Rattle.py_meaning.specs.Tree.{ToName, ToEach, AugName, AugAttr}
-use Rattle.py_meaning.specs.Plain.{plain_expr, plain_target, from_targets, augmented}
+use Rattle.emit_expr.specs.py_meaning.Tree.{ToName, ToEach, AugName, AugAttr}
+use Rattle.emit_expr.specs.py_meaning.Plain.{plain_expr, plain_target, from_targets, augmented}
 use Rattle.emit_expr.proofs.Forms.{on_ok}
 use Rattle.emit_expr.proofs.Rows.{filled_items}
 use Rattle.emit_stmt.proofs.SimpleRows.{no_items}

@@ -3,7 +3,7 @@ use Rattle.py_tree.specs.declared.stmt.Branch.{out-Branch}
 use Rattle.py_tree.specs.declared.stmt.Handler.{out-Handler}
 use Rattle.py_tree.specs.declared.stmt.Stmt.{out-Stmt}
 use Rattle.emit_expr.proofs.Rows.{drop_item, empty_slice, filled_slice}
-use Rattle.py_meaning.specs.Plain.{numbered}
+use Rattle.emit_expr.specs.py_meaning.Plain.{numbered}
 use Rattle.emit_stmt.specs.Plain.{plain_kind}
 use Rattle.emit_stmt.proofs.Plains.{simple_by}
 use Rattle.emit_stmt.specs.Parts.{plain_block, plain_handlers, if_part}

@@ -1,5 +1,5 @@
 use Rattle.std.proofs.Common.{arith}
-use Rattle.py_meaning.specs.Plain.{defaults_of}
+use Rattle.emit_expr.specs.py_meaning.Plain.{defaults_of}
 use Rattle.emit_stmt.proofs.DefForms.{bare_emits, with_emits}
 use Rattle.emit_stmt.proofs.defs.emit_making.Goals as goal
 

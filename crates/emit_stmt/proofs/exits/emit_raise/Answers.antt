@@ -1,6 +1,6 @@
 use Rattle.std.proofs.Common.{ap}
-use Rattle.py_meaning.specs.Tree.{Reraise, Raise}
-use Rattle.py_meaning.specs.Plain.{on_option}
+use Rattle.emit_expr.specs.py_meaning.Tree.{Reraise, Raise}
+use Rattle.emit_expr.specs.py_meaning.Plain.{on_option}
 use Rattle.emit_stmt.proofs.StmtForms.{as_stmt, raise_emits, reraise_emits}
 use Rattle.emit_stmt.proofs.exits.emit_raise.Goals as goal
 

@@ -1,6 +1,6 @@
 use Rattle.std.proofs.Common.{ap}
-use Rattle.py_meaning.specs.Tree.{ReturnNone, Return}
-use Rattle.py_meaning.specs.Plain.{on_option}
+use Rattle.emit_expr.specs.py_meaning.Tree.{ReturnNone, Return}
+use Rattle.emit_expr.specs.py_meaning.Plain.{on_option}
 use Rattle.emit_stmt.proofs.StmtForms.{as_stmt, return_emits, return_none_emits}
 use Rattle.emit_stmt.proofs.exits.emit_return.Goals as goal
 

@@ -1,7 +1,7 @@
 use Rattle.std.proofs.Common.{◌∙◌, pos, map, refl, subst}
-use Rattle.bc_machine.specs.bc_ops.declared.instr.Op.TheVariants as ops
-use Rattle.bc_machine.specs.bc_ops.declared.instr.Instr.TheVariants as instrs
-use Rattle.bc_machine.specs.Library.{Plain}
+use Rattle.emit_expr.specs.bc_machine.bc_ops.declared.instr.Op.TheVariants as ops
+use Rattle.emit_expr.specs.bc_machine.bc_ops.declared.instr.Instr.TheVariants as instrs
+use Rattle.emit_expr.specs.bc_machine.Library.{Plain}
 use Rattle.emit_expr.specs.emit_draft.Draft.{Puts}
 use Rattle.emit_expr.specs.emit_draft.declared.draft.DraftItem.TheVariants as drafts
 use Rattle.emit_expr.proofs.Forms.{on_ok, puts_item}

@@ -1,6 +1,6 @@
 use Rattle.std.proofs.Common.{pos, refl}
-use Rattle.bc_machine.specs.bc_ops.declared.instr.Instr.TheVariants as instrs
-use Rattle.bc_machine.specs.Library.{Plain}
+use Rattle.emit_expr.specs.bc_machine.bc_ops.declared.instr.Instr.TheVariants as instrs
+use Rattle.emit_expr.specs.bc_machine.Library.{Plain}
 use Rattle.emit_expr.proofs.Forms.{puts_item}
 use Rattle.emit_stmt.proofs.ImportForms.{from_emits}
 use Rattle.emit_stmt.proofs.imports.emit_from.Goals as goal

@@ -1,8 +1,8 @@
 use Rattle.std.proofs.Common.{◌∙◌, map, sym, ap}
 use Rattle.py_tree.specs.declared.stmt.StmtKind.TheOpen.{StmtKind-F}
 use Rattle.py_tree.specs.declared.stmt.StmtKind.TheVariants as s
-use Rattle.py_meaning.specs.Tree.{Pass, Assign, Delete, Import, From}
-use Rattle.py_meaning.specs.Plain.{plain_expr, plain_target, from_targets}
+use Rattle.emit_expr.specs.py_meaning.Tree.{Pass, Assign, Delete, Import, From}
+use Rattle.emit_expr.specs.py_meaning.Plain.{plain_expr, plain_target, from_targets}
 use Rattle.emit_expr.proofs.Forms.{on_ok}
 use Rattle.emit_stmt.proofs.Plains.{made, no_code}
 use Rattle.emit_stmt.proofs.StmtForms.{as_stmt, pass_emits, do_emits, break_emits, continue_emits}

@@ -1,6 +1,6 @@
 use Rattle.std.proofs.Common.{◌∙◌, refl, sym, ap, arith}
-use Rattle.py_meaning.specs.Tree.{ToName, ToAttr}
-use Rattle.py_meaning.specs.Plain.{plain_expr, plain_target}
+use Rattle.emit_expr.specs.py_meaning.Tree.{ToName, ToAttr}
+use Rattle.emit_expr.specs.py_meaning.Plain.{plain_expr, plain_target}
 use Rattle.emit_expr.proofs.Forms.{on_ok}
 use Rattle.emit_expr.proofs.Rows.{drop_item, empty_slice, filled_slice}
 use Rattle.emit_stmt.proofs.SimpleRows.{row_begun, row_step, row_done}

@@ -1,6 +1,6 @@
 use Rattle.std.proofs.Common.{◌∙◌, [], map, refl, sym, ap}
-use Rattle.py_meaning.specs.Tree.{ToName, ToEach}
-use Rattle.py_meaning.specs.Plain.{plain_target, from_targets}
+use Rattle.emit_expr.specs.py_meaning.Tree.{ToName, ToEach}
+use Rattle.emit_expr.specs.py_meaning.Plain.{plain_target, from_targets}
 use Rattle.emit_stmt.specs.SimpleCrowded.{crowded_gone}
 use Rattle.emit_expr.proofs.Forms.{on_ok}
 use Rattle.emit_expr.proofs.Rows.{filled_items}

@@ -2,9 +2,9 @@ use Rattle.std.proofs.Common.{◌≡◌, ◌-◌, ◌^◌, ◌∙◌, [], ℕ, L
 use Rattle.std.specs.Prelude.{min}
 use Rattle.mpy_base.specs.declared.limits.TheConstants.{MAX_DEPTH}
 use Rattle.mpy_base.specs.declared.refused.Refused.TheVariants as refused
-use Rattle.mpy_writer.specs.mpy_tree.declared.raw.RawCode.{RawCode}
-use Rattle.mpy_writer.specs.mpy_tree.Codes.{codes_to}
-use Rattle.mpy_compile.specs.Compiled.{IsCompiled}
+use Rattle.command_files.specs.mpy_writer.mpy_tree.declared.raw.RawCode.{RawCode}
+use Rattle.command_files.specs.mpy_writer.mpy_tree.Codes.{codes_to}
+use Rattle.command_files.specs.mpy_compile.Compiled.{IsCompiled}
 use Rattle.file_commands.specs.Check.{count_of}
 use Rattle.file_commands.proofs.CheckedAs.{named, refused_as, unaccepted, same, different}
 use Rattle.file_commands.proofs.checking_as.codes_compared.Goals as goal

@@ -1,5 +1,5 @@
 use Rattle.std.proofs.Common.{sym, subst, ◌∙◌}
-use Rattle.mpy_writer.specs.mpy_tree.File.{IsAscii}
+use Rattle.command_files.specs.mpy_writer.mpy_tree.File.{IsAscii}
 use Rattle.file_commands.proofs.Crossings.{stored_is_ascii}
 use Rattle.file_commands.proofs.crossing.compiled.Goals as goal
 

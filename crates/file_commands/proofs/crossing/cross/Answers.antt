@@ -1,4 +1,4 @@
-use Rattle.source_files.specs.Sources.{stored}
+use Rattle.command_files.specs.source_files.Sources.{stored}
 use Rattle.command_files.proofs.Long.{long_source}
 use Rattle.file_commands.proofs.Crossed.{crossed_front, crossed_done}
 use Rattle.file_commands.proofs.crossing.cross.Goals as goal

@@ -1,6 +1,6 @@
 use Rattle.std.proofs.Common.{◌≡◌, List, ℕ, Option, Some, subst}
-use Rattle.mpy_writer.specs.mpy_tree.Raw.{Module}
-use Rattle.mpy_writer.specs.mpy_tree.File.{IsFile}
+use Rattle.command_files.specs.mpy_writer.mpy_tree.Raw.{Module}
+use Rattle.command_files.specs.mpy_writer.mpy_tree.File.{IsFile}
 use Rattle.mpy_io.specs.Files.{FileOf}
 use Rattle.mpy_dump.specs.Listing.{IsListing}
 use Rattle.command_files.specs.Folder.{MayHold}

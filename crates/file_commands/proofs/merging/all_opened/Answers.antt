@@ -2,8 +2,8 @@ use Rattle.std.proofs.Common.{◌≡◌, ◌++◌, ◌∷◌, [], false, ℕ, Li
 use Rattle.std.specs.Prelude.{is_ok, is_err, if◌then◌else◌}
 use Rattle.std.specs.declared.alloc.Global.{Global}
 use Rattle.mpy_io.specs.Files.{FileOf}
-use Rattle.mpy_writer.specs.mpy_tree.Raw.{Module}
-use Rattle.mpy_writer.proofs.Lists.{zip_seen}
+use Rattle.command_files.specs.mpy_writer.mpy_tree.Raw.{Module}
+use Rattle.command_files.proofs.mpy_writer_lemmas.Lists.{zip_seen}
 use Rattle.command_files.specs.Opened.{HoldsModule, Refuses}
 use Rattle.file_commands.proofs.Merged.{first_refused}
 use Rattle.file_commands.proofs.merging.all_opened.Goals as goal

@@ -1,6 +1,6 @@
 use Rattle.std.proofs.Common.{◌≡◌, List, Err, ap, subst}
 use Rattle.mpy_base.specs.declared.refused.Refused.TheVariants as refusals
-use Rattle.mpy_writer.specs.mpy_tree.Raw.{Module}
+use Rattle.command_files.specs.mpy_writer.mpy_tree.Raw.{Module}
 use Rattle.mpy_merge.specs.Faults.{FirstFault}
 use Rattle.file_commands.proofs.merging.merge_files.Goals as goal
 

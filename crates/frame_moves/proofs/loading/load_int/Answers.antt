@@ -1,6 +1,6 @@
 use Rattle.std.proofs.Common.{ℤ, ◌∷◌, refl, ap, ◌∙◌}
 use Rattle.std.proofs.lemmas.Int.{to_z-of_z}
-use Rattle.prim_faults.specs.arena_heap.declared.value.Value.TheVariants as values
+use Rattle.prim_raising.specs.prim_faults.arena_heap.declared.value.Value.TheVariants as values
 use Rattle.vm_frames.specs.bc_ops.declared.instr.Instr.TheVariants as instrs
 use Rattle.vm_frames.specs.bc_machine.Library.{Plain}
 use Rattle.vm_frames.specs.declared.slot.Slot.TheVariants as slots

@@ -1,5 +1,5 @@
 use Rattle.std.proofs.Common.{refl}
-use Rattle.prim_faults.specs.arena_heap.declared.value.Value.TheVariants as values
+use Rattle.prim_raising.specs.prim_faults.arena_heap.declared.value.Value.TheVariants as values
 use Rattle.vm_frames.specs.bc_ops.declared.instr.Op.TheVariants as ops
 use Rattle.vm_frames.specs.bc_ops.declared.instr.Instr.TheVariants as instrs
 use Rattle.vm_frames.specs.bc_machine.Library.{Plain}

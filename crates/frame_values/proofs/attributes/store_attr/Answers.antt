@@ -2,7 +2,7 @@ use Rattle.std.proofs.Common.{◌≡◌, Some, slice_get}
 use Rattle.frame_moves.specs.bc_ops.declared.instr.Op.TheVariants as ops
 use Rattle.prim_names.specs.arena_heap.declared.value.Value.{Value}
 use Rattle.prim_names.specs.arena_objects.Iterables.{or_nothing}
-use Rattle.prim_types.specs.py_primitives.Uses.{set_attr}
+use Rattle.prim_names.specs.prim_types.py_primitives.Uses.{set_attr}
 use Rattle.prim_names.specs.prim_walks.Plain.{plain, plain_heap}
 use Rattle.prim_names.specs.prim_faults.Sights.{world_over}
 use Rattle.frame_moves.specs.vm_frames.declared.slot.Slot.TheVariants as slots

@@ -1,7 +1,7 @@
 use Rattle.std.proofs.Common.{ℕ, ◌-◌, ◌<◌, ◌≤◌, suc, length, map, sym, subst}
 use Rattle.frame_moves.specs.bc_ops.declared.instr.Op.TheVariants as ops
 use Rattle.frame_moves.specs.bc_ops.declared.instr.Instr.TheVariants as instrs
-use Rattle.prim_types.specs.py_primitives.Outcome.{making_list}
+use Rattle.prim_names.specs.prim_types.py_primitives.Outcome.{making_list}
 use Rattle.prim_names.specs.prim_walks.Plain.{plain, plain_heap}
 use Rattle.prim_names.specs.prim_faults.Sights.{world_over}
 use Rattle.frame_moves.specs.vm_frames.Calls.{Call, OfRunning}

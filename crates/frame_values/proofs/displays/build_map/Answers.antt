@@ -1,9 +1,9 @@
 use Rattle.std.proofs.Common.{[], refl}
-use Rattle.mpy_base.specs.World.{DictObject}
-use Rattle.mpy_base.specs.Weights.{room_for}
+use Rattle.frame_moves.specs.mpy_base.World.{DictObject}
+use Rattle.frame_moves.specs.mpy_base.Weights.{room_for}
 use Rattle.frame_moves.specs.bc_ops.declared.instr.Op.TheVariants as ops
 use Rattle.frame_moves.specs.bc_ops.declared.instr.Instr.TheVariants as instrs
-use Rattle.prim_types.specs.py_primitives.Outcome.{making}
+use Rattle.prim_names.specs.prim_types.py_primitives.Outcome.{making}
 use Rattle.prim_names.specs.prim_walks.Plain.{plain_heap}
 use Rattle.frame_moves.specs.vm_frames.Calls.{Call}
 use Rattle.std.specs.Prelude.{◌<◌, length}

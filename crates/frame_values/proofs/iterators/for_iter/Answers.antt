@@ -1,6 +1,6 @@
 use Rattle.std.proofs.Common.{◌≡◌, ℕ, ◌≤◌, length, Some, Ok, slice_get, subst, arith}
 use Rattle.prim_names.specs.arena_heap.declared.value.Value.{Value}
-use Rattle.prim_types.specs.py_primitives.Iterables.{length_of as length_in, item_of as item_in}
+use Rattle.prim_names.specs.prim_types.py_primitives.Iterables.{length_of as length_in, item_of as item_in}
 use Rattle.prim_names.specs.prim_walks.Plain.{plain, plain_heap}
 use Rattle.frame_moves.specs.vm_frames.declared.slot.Slot.TheVariants as slots
 use Rattle.frame_moves.specs.vm_frames.Calls.{Call}

@@ -1,4 +1,4 @@
-use Rattle.prim_types.specs.py_primitives.Iterables.{use_iter as used}
+use Rattle.prim_names.specs.prim_types.py_primitives.Iterables.{use_iter as used}
 use Rattle.prim_names.specs.prim_walks.Plain.{plain, plain_heap}
 use Rattle.frame_values.specs.Slots.{with_iterator}
 use Rattle.frame_values.proofs.Visits.{use_free}

@@ -1,7 +1,7 @@
 use Rattle.std.proofs.Common.{◌≡◌, drop, Some, slice_get, ap}
 use Rattle.frame_moves.specs.bc_ops.declared.instr.Op.TheVariants as ops
 use Rattle.frame_moves.specs.bc_ops.declared.instr.Instr.TheVariants as instrs
-use Rattle.mpy_base.specs.Val.{Val}
+use Rattle.frame_moves.specs.mpy_base.Val.{Val}
 use Rattle.frame_moves.specs.py_effects.Effect.{Effect}
 use Rattle.prim_names.specs.prim_faults.Sights.{world_over}
 use Rattle.frame_moves.specs.vm_frames.Calls.{Call}

@@ -1,7 +1,7 @@
 use Rattle.std.proofs.Common.{◌≡◌, Some, slice_get}
 use Rattle.frame_moves.specs.bc_ops.declared.instr.Op.TheVariants as ops
 use Rattle.frame_moves.specs.bc_ops.declared.instr.Instr.TheVariants as instrs
-use Rattle.prim_types.specs.py_primitives.Uses.{get_item}
+use Rattle.prim_names.specs.prim_types.py_primitives.Uses.{get_item}
 use Rattle.prim_names.specs.prim_walks.Plain.{plain, plain_heap}
 use Rattle.prim_names.specs.prim_faults.Sights.{world_over}
 use Rattle.frame_moves.specs.vm_frames.declared.slot.Slot.TheVariants as slots

@@ -1,7 +1,7 @@
 use Rattle.std.proofs.Common.{List, ℕ, sym, subst, ◌∙◌}
-use Rattle.image_open.specs.mpy_tree.File.{IsAscii}
-use Rattle.image_open.specs.mpy_tree.Raw.{Module}
-use Rattle.library_files.specs.Comes.{IsVerifiedFile}
+use Rattle.image_freeze.specs.image_open.mpy_tree.File.{IsAscii}
+use Rattle.image_freeze.specs.image_open.mpy_tree.Raw.{Module}
+use Rattle.source_files.specs.library_files.Comes.{IsVerifiedFile}
 use Rattle.frozen_files.proofs.Given.{module_of, not_compiled}
 use Rattle.frozen_files.proofs.source.compiled.Goals as goal
 

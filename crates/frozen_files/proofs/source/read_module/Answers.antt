@@ -1,6 +1,6 @@
 use Rattle.std.proofs.Common.{subst}
-use Rattle.image_open.specs.bc_verify.Verified.{IsVerified}
-use Rattle.library_files.proofs.Read.{same_read, not_read}
+use Rattle.image_freeze.specs.image_open.bc_verify.Verified.{IsVerified}
+use Rattle.source_files.proofs.library_files_lemmas.Read.{same_read, not_read}
 use Rattle.frozen_files.proofs.source.read_module.Goals as goal
 
 pub returns-in-Ok : goal.returns-in-Ok

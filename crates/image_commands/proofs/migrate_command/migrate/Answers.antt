@@ -1,5 +1,5 @@
 use Rattle.std.proofs.Common.{sym, subst}
-use Rattle.mpy_endings.specs.declared.ending.Ending.{Ending}
+use Rattle.command_files.specs.mpy_endings.declared.ending.Ending.{Ending}
 use Rattle.image_commands.specs.Migrate.{Migrates}
 use Rattle.image_commands.proofs.Migrating.{unmigrated}
 use Rattle.image_commands.proofs.migrate_command.migrate.Goals as goal

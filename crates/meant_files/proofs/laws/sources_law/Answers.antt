@@ -1,5 +1,5 @@
 use Rattle.std.proofs.Common.{subst}
-use Rattle.bc_scheme.specs.py_meaning.Program.{Program}
+use Rattle.tr_source.specs.bc_scheme.py_meaning.Program.{Program}
 use Rattle.meant_runs.specs.Units.{AreUnits}
 use Rattle.meant_files.proofs.Loaded.{Below}
 use Rattle.meant_files.proofs.Follows.{Crosses, of_sources_units}

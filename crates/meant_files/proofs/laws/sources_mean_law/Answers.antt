@@ -1,6 +1,6 @@
 use Rattle.std.proofs.Common.{subst}
-use Rattle.bc_scheme.specs.bc_machine.Library.{Name}
-use Rattle.bc_scheme.specs.bc_machine.Machine.{run}
+use Rattle.tr_source.specs.bc_scheme.bc_machine.Library.{Name}
+use Rattle.tr_source.specs.bc_scheme.bc_machine.Machine.{run}
 use Rattle.meant_runs.specs.Runs.{MeansRun}
 use Rattle.meant_files.proofs.laws.sources_mean_law.Goals as goal
 

@@ -1,6 +1,6 @@
 use Rattle.std.proofs.Common.{subst}
-use Rattle.bc_library.specs.Shelf.{Shelf}
-use Rattle.vm_starting.specs.Programs.{FindsAll}
+use Rattle.library_runs.specs.bc_library.Shelf.{Shelf}
+use Rattle.library_runs.specs.vm_starting.Programs.{FindsAll}
 use Rattle.meant_runs.proofs.Links.{links}
 use Rattle.meant_runs.proofs.runs.links_law.Goals as goal
 

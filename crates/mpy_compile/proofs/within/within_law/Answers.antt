@@ -1,5 +1,5 @@
 use Rattle.std.proofs.Common.{arith}
-use Rattle.py_meaning.specs.Plain.{plain_tree}
+use Rattle.emit_module.specs.py_meaning.Plain.{plain_tree}
 use Rattle.mpy_compile.proofs.Nested.{block_nested}
 use Rattle.mpy_compile.proofs.Accepted.{all_within, shallow_behind}
 use Rattle.mpy_compile.proofs.within.within_law.Goals as goal

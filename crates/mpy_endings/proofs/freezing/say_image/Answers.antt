@@ -1,6 +1,6 @@
 use Rattle.std.proofs.Common.{◌≡◌, ◌++◌, ℕ, List, Option, codes, decimal, refl, ap, ◌∙◌}
 use Rattle.std.proofs.lemmas.Result.{err_from_is_err_and}
-use Rattle.image_grammar.specs.Fault.{number_of, name_of, index_of}
+use Rattle.manifest_files.specs.image_grammar.Fault.{number_of, name_of, index_of}
 use Rattle.mpy_endings.specs.Line.{spaced, tag_text, image_word}
 use Rattle.mpy_endings.proofs.Said.{cut_first, cut_second, cut_third, all_four}
 use Rattle.mpy_endings.proofs.freezing.say_image.Goals as goal

@@ -1,6 +1,6 @@
 use Rattle.std.proofs.Common.{◌++◌, codes, decimal, refl, ap}
 use Rattle.std.proofs.lemmas.Result.{err_from_is_err_and}
-use Rattle.library_files.specs.mpy_reader.Fault.{number_of, name_of, tag_of}
+use Rattle.image_runs.specs.library_files.mpy_reader.Fault.{number_of, name_of, tag_of}
 use Rattle.mpy_endings.specs.Line.{tag_text}
 use Rattle.mpy_endings.proofs.Said.{cut_first, cut_second, cut_third, all_four}
 use Rattle.mpy_endings.proofs.line.say_unread.Goals as goal

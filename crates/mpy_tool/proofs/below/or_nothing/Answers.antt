@@ -1,7 +1,7 @@
 use Rattle.std.proofs.Common.{Option, subst}
 use Rattle.std.specs.Prelude.{IfSome}
-use Rattle.image_grammar.specs.Base.{IsOpened}
-use Rattle.image_grammar.specs.bc_library.Shelf.{Shelf}
+use Rattle.image_open.specs.image_grammar.Base.{IsOpened}
+use Rattle.image_open.specs.image_grammar.bc_library.Shelf.{Shelf}
 use Rattle.mpy_tool.proofs.Under.{base_below, none_below, none_opened}
 use Rattle.mpy_tool.proofs.below.or_nothing.Goals as goal
 

@@ -1,7 +1,7 @@
 use Rattle.std.proofs.Common.{refl, subst, inl}
 use Rattle.std.proofs.KnownBytes.{Keeps-refl}
 use Rattle.mpy_base.specs.declared.limits.TheConstants.{MAX_TASKS}
-use Rattle.image_grammar.specs.bc_library.Shelf.{Shelf}
+use Rattle.image_open.specs.image_grammar.bc_library.Shelf.{Shelf}
 use Rattle.board_command.specs.Boards.{Boards}
 use Rattle.mpy_tool.proofs.Acting.{same_others}
 use Rattle.mpy_tool.proofs.doing.board_below.Goals as goal

@@ -1,9 +1,9 @@
 use Rattle.std.proofs.Common.{ℕ, List, Option, sym, subst}
 use Rattle.mpy_io.specs.Files.{FileOf}
-use Rattle.image_grammar.specs.bc_library.Shelf.{Shelf}
-use Rattle.image_grammar.specs.Base.{base_of}
-use Rattle.image_commands.specs.Freeze.{Freezes}
-use Rattle.image_freeze.specs.Fronts.{MayLieOver}
+use Rattle.image_open.specs.image_grammar.bc_library.Shelf.{Shelf}
+use Rattle.image_open.specs.image_grammar.Base.{base_of}
+use Rattle.meant_commands.specs.image_commands.Freeze.{Freezes}
+use Rattle.meant_commands.specs.image_freeze.Fronts.{MayLieOver}
 use Rattle.mpy_tool.specs.Below.{image_version}
 use Rattle.mpy_tool.proofs.Under.{is_opened, may_lie}
 use Rattle.mpy_tool.proofs.doing.freeze_below.Goals as goal

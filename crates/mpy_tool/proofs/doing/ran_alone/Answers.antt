@@ -1,7 +1,7 @@
 use Rattle.std.proofs.Common.{map, string_bytes, sym, subst}
 use Rattle.std.proofs.KnownBytes.{Keeps-refl}
 use Rattle.mpy_io.specs.Count.{Counts}
-use Rattle.source_files.specs.Sources.{stored}
+use Rattle.meant_commands.specs.source_files.Sources.{stored}
 use Rattle.mpy_endings.specs.declared.ending.Ending.{Ending}
 use Rattle.mpy_endings.specs.Ending.{is_folder_fault, is_out_fault}
 use Rattle.mpy_tool.proofs.Acting.{same_changes}

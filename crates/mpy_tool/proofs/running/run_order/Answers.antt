@@ -1,8 +1,8 @@
 use Rattle.std.proofs.Common.{◌≡◌, ℕ, List, ap, sym, subst}
 use Rattle.mpy_words.specs.Words.{first_name}
 use Rattle.mpy_endings.specs.Ending.{IsRunStatus}
-use Rattle.run_commands.specs.Run.{room_of}
-use Rattle.run_commands.proofs.Running.{says_run, ends_run}
+use Rattle.stress_command.specs.run_commands.Run.{room_of}
+use Rattle.stress_command.proofs.run_commands_lemmas.Running.{says_run, ends_run}
 use Rattle.mpy_tool.specs.Call.{call_of}
 use Rattle.mpy_tool.specs.Below.{library_below}
 use Rattle.mpy_tool.specs.Doing.{LibraryBy}

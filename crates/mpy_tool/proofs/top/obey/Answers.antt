@@ -1,9 +1,9 @@
 use Rattle.std.proofs.Common.{refl, subst}
 use Rattle.std.proofs.KnownBytes.{Keeps-refl}
-use Rattle.image_grammar.specs.bc_library.Shelf.{Shelf, no_entries}
+use Rattle.image_open.specs.image_grammar.bc_library.Shelf.{Shelf, no_entries}
 use Rattle.mpy_endings.specs.Ending.{IsRunStatus}
 use Rattle.mpy_endings.proofs.Statuses.{none_run}
-use Rattle.command_files.specs.Images.{RefusesImage}
+use Rattle.board_command.specs.command_files.Images.{RefusesImage}
 use Rattle.mpy_tool.specs.Call.{call_of}
 use Rattle.mpy_tool.specs.Doing.{ActsBy}
 use Rattle.mpy_tool.specs.Order.{base_by}

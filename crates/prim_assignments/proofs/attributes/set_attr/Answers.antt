@@ -1,5 +1,5 @@
 use Rattle.std.proofs.Common.{ℕ, List, sym, ap, ◌∙◌}
-use Rattle.mpy_base.specs.Val.{Val}
+use Rattle.prim_operators.specs.mpy_base.Val.{Val}
 use Rattle.prim_operators.specs.arena_objects.Iterables.{or_nothing}
 use Rattle.prim_operators.specs.py_primitives.Faults.{NoAttribute}
 use Rattle.prim_operators.specs.py_primitives.Outcome.{raises}

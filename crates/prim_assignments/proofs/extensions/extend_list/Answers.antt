@@ -1,5 +1,5 @@
 use Rattle.std.proofs.Common.{◌≡◌, Err, sym, ◌∙◌, subst}
-use Rattle.mpy_base.specs.Val.{Val}
+use Rattle.prim_operators.specs.mpy_base.Val.{Val}
 use Rattle.prim_operators.specs.py_primitives.Outcome.{Outcome, gives}
 use Rattle.prim_operators.specs.py_primitives.Iterables.{use_iter, items_in}
 use Rattle.prim_operators.specs.py_primitives.Operators.{extended_by, extend}

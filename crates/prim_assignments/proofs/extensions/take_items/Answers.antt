@@ -1,7 +1,7 @@
 use Rattle.std.proofs.Common.{length, take, Result, Ok, Err, refl, sym, subst, inl, inr}
-use Rattle.mpy_base.specs.World.{AList}
-use Rattle.mpy_base.specs.Weights.{list_growth, with_list_room}
-use Rattle.mpy_base.specs.Val.{Val}
+use Rattle.prim_operators.specs.mpy_base.World.{AList}
+use Rattle.prim_operators.specs.mpy_base.Weights.{list_growth, with_list_room}
+use Rattle.prim_operators.specs.mpy_base.Val.{Val}
 use Rattle.prim_operators.specs.arena_heap.declared.value.Value.{Value}
 use Rattle.prim_operators.specs.arena_heap.declared.value.Value.TheVariants as values
 use Rattle.prim_operators.specs.arena_objects.Iterables.{spelled, with_texts, extended_length}

@@ -1,6 +1,6 @@
 use Rattle.std.proofs.Common.{◌≡◌, ap, sym, ◌∙◌, arith}
 use Rattle.std.specs.Prelude.{ℕ, min}
-use Rattle.mpy_base.specs.Val.{Val}
+use Rattle.prim_operators.specs.mpy_base.Val.{Val}
 use Rattle.prim_operators.specs.py_primitives.Outcome.{Outcome}
 use Rattle.prim_operators.specs.prim_walks.Plain.{plain}
 use Rattle.prim_assignments.proofs.InPlace.{list_in_place, other_visits}

@@ -1,5 +1,5 @@
 use Rattle.std.proofs.Common.{ℕ, List, sym, ap, ◌∙◌, subst}
-use Rattle.mpy_base.specs.Val.{Val}
+use Rattle.prim_operators.specs.mpy_base.Val.{Val}
 use Rattle.prim_operators.specs.py_primitives.Faults.{NotAssignable}
 use Rattle.prim_operators.specs.py_primitives.Outcome.{Outcome, raises}
 use Rattle.prim_operators.specs.prim_walks.Plain.{plain, plain_heap}

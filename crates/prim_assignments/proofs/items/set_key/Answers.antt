@@ -1,6 +1,6 @@
 use Rattle.std.proofs.Common.{ℕ, List, sym, ap, ◌∙◌, subst}
 use Rattle.std.specs.Prelude.{codes}
-use Rattle.mpy_base.specs.Val.{Val}
+use Rattle.prim_operators.specs.mpy_base.Val.{Val}
 use Rattle.prim_operators.specs.py_primitives.Faults.{UnsupportedOne}
 use Rattle.prim_operators.specs.py_primitives.Outcome.{Outcome, raises}
 use Rattle.prim_operators.specs.prim_walks.Plain.{plain, plain_heap}

@@ -2,8 +2,8 @@ use Rattle.std.proofs.Common.{◌≡◌, ℕ, ◌<◌, List, map, set, length, O
 use Rattle.std.specs.Prelude.{IsSome, OnSome}
 use Rattle.std.proofs.lemmas.List.{map-set}
 use Rattle.std.proofs.lemmas.List.Elements.{All-set}
-use Rattle.mpy_base.specs.World.{Heap, ListObject, AList, items_at, room_at, with_list, object}
-use Rattle.mpy_base.specs.Val.{Val, Nil}
+use Rattle.prim_operators.specs.mpy_base.World.{Heap, ListObject, AList, items_at, room_at, with_list, object}
+use Rattle.prim_operators.specs.mpy_base.Val.{Val, Nil}
 use Rattle.prim_operators.specs.arena_heap.declared.value.Value.{Value}
 use Rattle.prim_operators.specs.arena_heap.declared.value.Value.TheVariants as values
 use Rattle.prim_operators.specs.arena_heap.Constants.{IsTold}

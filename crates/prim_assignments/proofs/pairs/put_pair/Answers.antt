@@ -1,9 +1,9 @@
 use Rattle.std.proofs.Common.{ℕ, sym, ap, ◌∙◌, inl, inr}
-use Rattle.mpy_base.specs.World.{Heap, pairs_at}
+use Rattle.prim_operators.specs.mpy_base.World.{Heap, pairs_at}
 use Rattle.prim_operators.specs.arena_heap.declared.value.Value.{Value}
 use Rattle.prim_operators.specs.arena_heap.declared.value.Value.TheVariants as values
 use Rattle.prim_operators.specs.py_primitives.Outcome.{gives}
-use Rattle.mpy_base.specs.Val.{Nil}
+use Rattle.prim_operators.specs.mpy_base.Val.{Nil}
 use Rattle.prim_operators.specs.prim_walks.Plain.{plain_heap}
 use Rattle.prim_operators.proofs.prim_faults_lemmas.Outcomes.{answered, full_outcome}
 use Rattle.prim_operators.proofs.DictKeys.{IsKnownKey, each_key}

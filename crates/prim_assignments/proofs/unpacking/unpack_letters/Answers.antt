@@ -1,6 +1,6 @@
 use Rattle.std.proofs.Common.{◌≡◌, ℕ, List, length, Ok, sym, ap₂, ◌∙◌, subst}
-use Rattle.mpy_base.specs.World.{Heap}
-use Rattle.mpy_base.specs.Weights.{used}
+use Rattle.prim_operators.specs.mpy_base.World.{Heap}
+use Rattle.prim_operators.specs.mpy_base.Weights.{used}
 use Rattle.prim_operators.specs.arena_heap.declared.value.Value.{Value}
 use Rattle.prim_operators.specs.arena_objects.Iterables.{spelled, with_texts, texts_from}
 use Rattle.prim_operators.specs.py_primitives.Uses.{unpack}

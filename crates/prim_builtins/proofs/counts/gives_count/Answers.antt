@@ -1,6 +1,6 @@
 use Rattle.std.proofs.Common.{◌<◌, ◌≤◌, ◌^◌, ℤ, pos, to_z, w32, Result, inr, sym, ap, ◌∙◌, subst, arith}
 use Rattle.prim_operators.specs.arena_heap.declared.value.Value.TheVariants as values
-use Rattle.mpy_base.specs.Val.{Int}
+use Rattle.prim_operators.specs.mpy_base.Val.{Int}
 use Rattle.prim_operators.specs.py_primitives.Outcome.{gives}
 use Rattle.prim_operators.specs.py_primitives.Operators.{gives_number}
 use Rattle.prim_operators.specs.py_values.Range.{IsSmall}

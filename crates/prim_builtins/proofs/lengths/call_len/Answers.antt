@@ -1,5 +1,5 @@
 use Rattle.std.proofs.Common.{refl}
-use Rattle.mpy_base.specs.declared.builtin.Builtin.TheVariants as builtins
+use Rattle.prim_operators.specs.mpy_base.declared.builtin.Builtin.TheVariants as builtins
 use Rattle.prim_operators.specs.py_primitives.Calls.{Exactly}
 use Rattle.prim_builtins.proofs.Calls.{one_known, refused}
 use Rattle.prim_builtins.proofs.lengths.call_len.Goals as goal

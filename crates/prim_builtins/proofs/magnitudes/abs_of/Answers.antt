@@ -1,6 +1,6 @@
 use Rattle.std.proofs.Common.{ℕ, ℤ, pos, sym, ap, ◌∙◌, subst}
 use Rattle.std.specs.Prelude.{unsigned_abs}
-use Rattle.mpy_base.specs.Val.{Val}
+use Rattle.prim_operators.specs.mpy_base.Val.{Val}
 use Rattle.prim_operators.proofs.arena_objects_lemmas.RangeNumbers.{small_same}
 use Rattle.prim_operators.specs.py_values.Small.{checked}
 use Rattle.prim_operators.specs.py_primitives.Outcome.{Outcome}

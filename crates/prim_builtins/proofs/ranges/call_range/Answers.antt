@@ -1,5 +1,5 @@
 use Rattle.std.proofs.Common.{refl}
-use Rattle.mpy_base.specs.declared.builtin.Builtin.TheVariants as builtins
+use Rattle.prim_operators.specs.mpy_base.declared.builtin.Builtin.TheVariants as builtins
 use Rattle.prim_operators.specs.py_primitives.Calls.{Between}
 use Rattle.prim_builtins.proofs.BoundsLeading.{bounds_lead}
 use Rattle.prim_builtins.proofs.Calls.{refused}

@@ -1,6 +1,6 @@
 use Rattle.std.proofs.Common.{[], ◌∷◌, refl, sym}
 use Rattle.std.proofs.lemmas.List.Elements.{All-nil, All-cons}
-use Rattle.mpy_base.specs.World.{RangeObject}
+use Rattle.prim_operators.specs.mpy_base.World.{RangeObject}
 use Rattle.prim_operators.specs.arena_heap.declared.value.Value.TheVariants as values
 use Rattle.prim_operators.specs.arena_heap.Values.{ArenaObject}
 use Rattle.prim_operators.specs.arena_heap.Constants.{IsTold}

@@ -1,5 +1,5 @@
 use Rattle.std.proofs.Common.{ℤ, sym, ◌∙◌, subst}
-use Rattle.mpy_base.specs.Val.{Val}
+use Rattle.prim_operators.specs.mpy_base.Val.{Val}
 use Rattle.prim_operators.specs.py_primitives.Outcome.{Outcome}
 use Rattle.prim_operators.specs.py_primitives.Calls.{range_of, with_number}
 use Rattle.prim_operators.specs.prim_walks.Plain.{plain, plain_heap}

@@ -1,5 +1,5 @@
 use Rattle.std.proofs.Common.{map, ap, ◌∙◌}
-use Rattle.py_effects.specs.Calling.{bound}
+use Rattle.prim_outputs.specs.py_effects.Calling.{bound}
 use Rattle.prim_methods.specs.prim_walks.Plain.{plain, plain_pair, plain_heap}
 use Rattle.prim_methods.specs.prim_faults.Sights.{world_over}
 use Rattle.prim_calls.specs.Binding.{name_text, bound_answer}

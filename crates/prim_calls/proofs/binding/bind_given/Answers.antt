@@ -4,8 +4,8 @@ use Rattle.std.proofs.lemmas.List.{length-map}
 use Rattle.prim_methods.specs.arena_heap.declared.value.Value.{Value}
 use Rattle.prim_types.specs.py_values.Shown.{shown}
 use Rattle.prim_types.specs.py_primitives.Faults as plain
-use Rattle.py_effects.specs.Names.{Locals}
-use Rattle.py_effects.specs.Calling.{with_keys, default_items, all_filled}
+use Rattle.prim_outputs.specs.py_effects.Names.{Locals}
+use Rattle.prim_outputs.specs.py_effects.Calling.{with_keys, default_items, all_filled}
 use Rattle.prim_methods.specs.prim_walks.Plain.{plain as plain_value, plain_pair, plain_heap}
 use Rattle.prim_methods.specs.prim_faults.Faults.{plain_fault, IsKnown}
 use Rattle.prim_calls.specs.Binding.{name_text, plain_slots}

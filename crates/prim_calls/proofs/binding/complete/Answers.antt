@@ -1,8 +1,8 @@
 use Rattle.std.proofs.Common.{◌-◌, ℕ, List, length, ap, ◌∙◌}
 use Rattle.mpy_base.specs.Val.{Val}
 use Rattle.prim_types.specs.py_values.Shown.{shown}
-use Rattle.py_effects.specs.Names.{Locals}
-use Rattle.py_effects.specs.Calling.{default_items, last_slots}
+use Rattle.prim_outputs.specs.py_effects.Names.{Locals}
+use Rattle.prim_outputs.specs.py_effects.Calling.{default_items, last_slots}
 use Rattle.prim_methods.specs.prim_walks.Plain.{plain, plain_heap}
 use Rattle.prim_calls.specs.Binding.{plain_slots}
 use Rattle.prim_calls.proofs.Bound.{filled_all, filled_some}

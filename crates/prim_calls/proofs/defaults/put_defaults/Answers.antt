@@ -5,8 +5,8 @@ use Rattle.std.proofs.lemmas.List.Elements.{All-set}
 use Rattle.mpy_base.specs.Val.{Val}
 use Rattle.prim_methods.specs.arena_heap.declared.value.Value.{Value}
 use Rattle.prim_types.specs.py_values.Shown.{shown}
-use Rattle.py_effects.specs.Names.{Locals}
-use Rattle.py_effects.specs.Calling.{default_items, last_slots}
+use Rattle.prim_outputs.specs.py_effects.Names.{Locals}
+use Rattle.prim_outputs.specs.py_effects.Calling.{default_items, last_slots}
 use Rattle.prim_methods.specs.prim_walks.Plain.{plain, plain_heap}
 use Rattle.prim_methods.specs.prim_faults.Faults.{IsKnown}
 use Rattle.prim_calls.specs.Binding.{plain_slot, plain_slots}

@@ -1,6 +1,6 @@
 use Rattle.std.proofs.Common.{◌≡◌, ◌-◌, drop}
 use Rattle.prim_types.specs.py_values.Shown.{shown}
-use Rattle.py_effects.specs.Calling.{default_items, last_slots}
+use Rattle.prim_outputs.specs.py_effects.Calling.{default_items, last_slots}
 use Rattle.prim_methods.specs.prim_walks.Plain.{plain, plain_heap}
 use Rattle.prim_calls.specs.Binding.{AreKnown, plain_slots}
 use Rattle.prim_calls.proofs.DefaultSteps.{halfway}

@@ -1,5 +1,5 @@
 use Rattle.std.proofs.Common.{◌≡◌, map, drop, Ok}
-use Rattle.py_effects.specs.Calling.{with_keys}
+use Rattle.prim_outputs.specs.py_effects.Calling.{with_keys}
 use Rattle.prim_methods.specs.prim_walks.Plain.{plain_heap, plain_pair}
 use Rattle.prim_calls.specs.Binding.{AreKnown, name_text, plain_slots}
 use Rattle.prim_calls.proofs.keywords.put_keywords.Given as goal

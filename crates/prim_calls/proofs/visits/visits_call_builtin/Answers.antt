@@ -1,7 +1,7 @@
 use Rattle.std.proofs.Common.{◌≡◌, ℕ, map, min, sym, ap, ◌∙◌, subst}
 use Rattle.mpy_base.specs.declared.builtin.Builtin.{Builtin}
 use Rattle.prim_types.specs.py_primitives.Output.{printed}
-use Rattle.py_effects.specs.Calling.{call_builtin}
+use Rattle.prim_outputs.specs.py_effects.Calling.{call_builtin}
 use Rattle.prim_methods.specs.prim_walks.Plain.{plain, plain_pair, plain_heap}
 use Rattle.prim_methods.specs.prim_faults.Sights.{world_over}
 use Rattle.prim_calls.proofs.FreeOutcomes.{nothing}

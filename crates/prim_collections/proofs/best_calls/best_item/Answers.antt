@@ -1,5 +1,5 @@
 use Rattle.std.proofs.Common.{◌≡◌, true, false, sym, ◌∙◌, subst}
-use Rattle.mpy_base.specs.Val.{Val}
+use Rattle.prim_builtins.specs.mpy_base.Val.{Val}
 use Rattle.prim_builtins.specs.py_values.Shown.{shown}
 use Rattle.prim_builtins.specs.py_primitives.Outcome.{Outcome}
 use Rattle.prim_builtins.specs.py_primitives.Calls.{best_of, made_letter}

@@ -1,6 +1,6 @@
 use Rattle.std.proofs.Common.{ℕ, ◌≡◌, ◌<◌, List, length, map, Some, Ok, sym, ap, ◌∙◌, subst, arith}
 use Rattle.std.proofs.lemmas.List.{length-map}
-use Rattle.mpy_base.specs.Val.{Val}
+use Rattle.prim_builtins.specs.mpy_base.Val.{Val}
 use Rattle.prim_builtins.specs.arena_objects.Iterables.{spelled}
 use Rattle.prim_builtins.specs.py_values.Shown.{Text}
 use Rattle.prim_builtins.specs.py_primitives.Outcome.{Outcome}

@@ -1,7 +1,7 @@
 use Rattle.std.proofs.Common.{ℕ, ◌≡◌, ◌<◌, List, length, map, Option, Some, Result, Ok, Err, refl, sym, ap, ◌∙◌, subst, arith}
 use Rattle.std.proofs.lemmas.List.{length-map}
 use Rattle.prim_builtins.specs.arena_heap.declared.value.Value.{Value}
-use Rattle.mpy_base.specs.Val.{Val}
+use Rattle.prim_builtins.specs.mpy_base.Val.{Val}
 use Rattle.prim_builtins.specs.py_values.Names.{type_name}
 use Rattle.prim_builtins.specs.py_primitives.Faults.{Unsupported}
 use Rattle.prim_builtins.specs.py_primitives.Outcome.{Outcome, gives, raises}

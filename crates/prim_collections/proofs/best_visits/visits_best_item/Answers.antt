@@ -1,5 +1,5 @@
 use Rattle.std.proofs.Common.{◌≡◌, min, true, false, sym, ap, ◌∙◌, arith}
-use Rattle.mpy_base.specs.Val.{Val}
+use Rattle.prim_builtins.specs.mpy_base.Val.{Val}
 use Rattle.prim_builtins.specs.py_primitives.Outcome.{Outcome}
 use Rattle.prim_builtins.specs.prim_walks.Plain.{plain_heap}
 use Rattle.prim_collections.specs.Collected.{is_str, is_iterable}

@@ -1,7 +1,7 @@
 use Rattle.std.proofs.Common.{◌≡◌, ◌<◌, length, map, refl, arith}
 use Rattle.std.proofs.lemmas.List.{length-map}
 use Rattle.prim_builtins.specs.arena_heap.declared.value.Value.{Value}
-use Rattle.mpy_base.specs.Val.{Val}
+use Rattle.prim_builtins.specs.mpy_base.Val.{Val}
 use Rattle.prim_builtins.specs.py_primitives.Outcome.{Outcome, gives}
 use Rattle.prim_builtins.specs.prim_walks.Plain.{plain, plain_heap}
 use Rattle.prim_collections.specs.Best.{plain_extreme, values_of}

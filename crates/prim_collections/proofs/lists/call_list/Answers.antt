@@ -1,5 +1,5 @@
 use Rattle.std.proofs.Common.{refl}
-use Rattle.mpy_base.specs.declared.builtin.Builtin.TheVariants as builtins
+use Rattle.prim_builtins.specs.mpy_base.declared.builtin.Builtin.TheVariants as builtins
 use Rattle.prim_builtins.specs.py_primitives.Calls.{Between}
 use Rattle.prim_builtins.proofs.Calls.{refused}
 use Rattle.prim_collections.proofs.lists.call_list.Goals as goal

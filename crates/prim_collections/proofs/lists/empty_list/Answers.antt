@@ -2,8 +2,8 @@ use Rattle.std.proofs.Common.{[], refl}
 use Rattle.std.proofs.lemmas.List.Elements.{All-nil}
 use Rattle.prim_builtins.specs.arena_heap.declared.value.Value.TheVariants as values
 use Rattle.prim_builtins.specs.arena_heap.Constants.{IsTold}
-use Rattle.mpy_base.specs.World.{ListObject}
-use Rattle.mpy_base.specs.Weights.{room_for}
+use Rattle.prim_builtins.specs.mpy_base.World.{ListObject}
+use Rattle.prim_builtins.specs.mpy_base.Weights.{room_for}
 use Rattle.prim_builtins.proofs.prim_faults_lemmas.Outcomes.{made_outcome}
 use Rattle.prim_collections.proofs.lists.empty_list.Goals as goal
 

@@ -1,7 +1,7 @@
 use Rattle.std.proofs.Common.{ℕ, ◌+◌, [], subst, refl}
-use Rattle.mpy_base.specs.World.{ListObject, AList}
-use Rattle.mpy_base.specs.Weights.{Made, Refused, room_for}
-use Rattle.mpy_base.proofs.Worlds.{later_later}
+use Rattle.prim_builtins.specs.mpy_base.World.{ListObject, AList}
+use Rattle.prim_builtins.specs.mpy_base.Weights.{Made, Refused, room_for}
+use Rattle.prim_builtins.proofs.mpy_base_lemmas.Worlds.{later_later}
 use Rattle.prim_builtins.proofs.prim_operators_lemmas.ItemFills.{told_empty}
 use Rattle.prim_collections.proofs.Kept.{iterable_kept}
 use Rattle.prim_collections.proofs.MadeLists.{list_refused, list_filled, list_stops}

@@ -1,6 +1,6 @@
 use Rattle.std.proofs.Common.{◌≡◌, map, refl, ap, subst, arith}
-use Rattle.mpy_base.specs.declared.builtin.Builtin.TheVariants as builtins
-use Rattle.mpy_base.specs.Val.{Val}
+use Rattle.prim_builtins.specs.mpy_base.declared.builtin.Builtin.TheVariants as builtins
+use Rattle.prim_builtins.specs.mpy_base.Val.{Val}
 use Rattle.prim_builtins.specs.py_primitives.Outcome.{Outcome}
 use Rattle.prim_builtins.specs.py_primitives.Calls.{call}
 use Rattle.prim_builtins.specs.prim_walks.Plain.{plain, plain_pair, plain_heap}

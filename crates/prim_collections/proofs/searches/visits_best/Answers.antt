@@ -1,7 +1,7 @@
 use Rattle.std.proofs.Common.{◌≡◌, ◌<◌, ◌≤◌, suc, length, map, drop, Option, Some, Result, Ok, sym, ap, ◌∙◌, arith}
 use Rattle.std.specs.declared.cmp.Ordering.{Ordering}
 use Rattle.prim_builtins.specs.arena_heap.declared.value.Value.{Value}
-use Rattle.mpy_base.specs.Val.{Val}
+use Rattle.prim_builtins.specs.mpy_base.Val.{Val}
 use Rattle.prim_builtins.specs.py_values.Equality.{Walk}
 use Rattle.prim_builtins.specs.py_primitives.Order as meaning
 use Rattle.prim_builtins.specs.py_primitives.Order.{has_sign, best_from}

@@ -1,7 +1,7 @@
 use Rattle.std.proofs.Common.{ℕ, ◌≤◌, List, length, sym, ap, subst, arith, ◌∙◌}
 use Rattle.prim_builtins.specs.arena_heap.declared.value.Value.{Value}
-use Rattle.mpy_base.specs.World.{Heap, ATuple, Later}
-use Rattle.mpy_base.proofs.Worlds.{later_tuple}
+use Rattle.prim_builtins.specs.mpy_base.World.{Heap, ATuple, Later}
+use Rattle.prim_builtins.proofs.mpy_base_lemmas.Worlds.{later_tuple}
 use Rattle.prim_builtins.proofs.arena_heap_lemmas.Sounds.{leads_later}
 use Rattle.prim_builtins.proofs.prim_operators_lemmas.ItemFills.{told_fill}
 use Rattle.prim_collections.proofs.TupleFills.{letters_later, fill_begins, fill_values, fill_length, fill_step, fill_ends}

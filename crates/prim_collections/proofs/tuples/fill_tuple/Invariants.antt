@@ -1,5 +1,5 @@
 use Rattle.std.proofs.Common.{◌≡◌}
-use Rattle.mpy_base.specs.World.{items_at, with_tuple}
+use Rattle.prim_builtins.specs.mpy_base.World.{items_at, with_tuple}
 use Rattle.prim_builtins.specs.arena_objects.Keys.{AllTold}
 use Rattle.prim_builtins.proofs.prim_operators_lemmas.TextFills.{partly}
 use Rattle.prim_collections.specs.Collected.{kept_values}

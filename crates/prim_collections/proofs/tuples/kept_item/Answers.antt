@@ -1,8 +1,8 @@
 use Rattle.std.proofs.Common.{◌≡◌, ◌+◌, ◌*◌, ◌<◌, List, length, get_or, true, false, sym, ap, ◌∙◌, arith}
 use Rattle.prim_builtins.specs.arena_heap.declared.value.Value.{Value}
 use Rattle.prim_builtins.specs.arena_heap.declared.value.Value.TheVariants as values
-use Rattle.mpy_base.specs.World.{AText}
-use Rattle.mpy_base.proofs.Worlds.{is_within}
+use Rattle.prim_builtins.specs.mpy_base.World.{AText}
+use Rattle.prim_builtins.proofs.mpy_base_lemmas.Worlds.{is_within}
 use Rattle.prim_builtins.specs.arena_objects.Iterables.{items_in}
 use Rattle.prim_builtins.proofs.prim_operators_lemmas.ItemFills.{read_value}
 use Rattle.prim_collections.specs.Collected.{is_str}

@@ -1,8 +1,8 @@
 use Rattle.std.proofs.Common.{ℕ, ◌+◌, ◌<◌, replicate, sym, subst, refl, arith, ◌∙◌}
 use Rattle.prim_builtins.specs.arena_heap.declared.value.Value.TheVariants as values
-use Rattle.mpy_base.specs.World.{TupleObject, ATuple}
-use Rattle.mpy_base.specs.Weights.{Made, Refused}
-use Rattle.mpy_base.proofs.Worlds.{later_later, later_made}
+use Rattle.prim_builtins.specs.mpy_base.World.{TupleObject, ATuple}
+use Rattle.prim_builtins.specs.mpy_base.Weights.{Made, Refused}
+use Rattle.prim_builtins.proofs.mpy_base_lemmas.Worlds.{later_later, later_made}
 use Rattle.prim_builtins.proofs.arena_heap_lemmas.Sounds.{leads_later}
 use Rattle.prim_collections.specs.Collected.{kept_length}
 use Rattle.prim_collections.proofs.Kept.{iterable_kept}

@@ -1,5 +1,5 @@
 use Rattle.std.proofs.Common.{◌≡◌, true, false, Err, sym, ap, ◌∙◌, subst}
-use Rattle.mpy_base.specs.Val.{Val}
+use Rattle.prim_builtins.specs.mpy_base.Val.{Val}
 use Rattle.prim_builtins.specs.py_values.Shown.{Shown, shown}
 use Rattle.prim_builtins.specs.py_primitives.Outcome.{Outcome}
 use Rattle.prim_builtins.specs.py_primitives.Calls.{tuple_shown, tuple_from}

@@ -1,5 +1,5 @@
 use Rattle.std.proofs.Common.{ℕ, Bool, min, refl, sym, ap, ◌∙◌}
-use Rattle.mpy_base.specs.Val.{Val, Truth}
+use Rattle.prim_faults.specs.mpy_base.Val.{Val, Truth}
 use Rattle.prim_faults.specs.py_values.Equality.{equal}
 use Rattle.prim_faults.specs.py_primitives.Outcome.{Outcome, gives}
 use Rattle.prim_faults.specs.prim_walks.Plain.{plain, plain_heap}

@@ -1,8 +1,8 @@
 use Rattle.std.proofs.Common.{ℕ, List, Ok, map, sym, ap, ◌∙◌, subst}
 use Rattle.std.specs.Prelude.{codes, is_some}
 use Rattle.prim_faults.specs.arena_heap.declared.value.Value.TheVariants as values
-use Rattle.mpy_base.specs.World.{pairs_at}
-use Rattle.mpy_base.specs.Val.{Val, Truth}
+use Rattle.prim_faults.specs.mpy_base.World.{pairs_at}
+use Rattle.prim_faults.specs.mpy_base.Val.{Val, Truth}
 use Rattle.prim_faults.specs.py_values.Keys.{value_of_key}
 use Rattle.prim_faults.specs.py_primitives.Faults.{UnsupportedOne}
 use Rattle.prim_faults.specs.py_primitives.Outcome.{Outcome, gives, raises}

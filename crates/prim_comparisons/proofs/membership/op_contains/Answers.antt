@@ -1,6 +1,6 @@
 use Rattle.std.proofs.Common.{Ok, sym, ap, ◌∙◌, subst}
 use Rattle.prim_faults.specs.arena_heap.declared.value.Value.TheVariants as values
-use Rattle.mpy_base.specs.Val.{Val}
+use Rattle.prim_faults.specs.mpy_base.Val.{Val}
 use Rattle.prim_faults.specs.py_values.Shown.{Shown, shown}
 use Rattle.prim_faults.specs.py_primitives.Faults.{Fault}
 use Rattle.prim_faults.specs.py_primitives.Outcome.{Outcome, raises}

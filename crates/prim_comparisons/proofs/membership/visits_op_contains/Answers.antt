@@ -1,5 +1,5 @@
 use Rattle.std.proofs.Common.{ℕ, Bool, map, min, refl, sym, ap, ◌∙◌, arith}
-use Rattle.mpy_base.specs.Val.{Val, Truth}
+use Rattle.prim_faults.specs.mpy_base.Val.{Val, Truth}
 use Rattle.prim_faults.specs.arena_objects.Iterables.{items_in}
 use Rattle.prim_faults.specs.py_values.Shown.{Shown, shown}
 use Rattle.prim_faults.specs.py_primitives.Outcome.{Outcome, gives}

@@ -1,6 +1,6 @@
 use Rattle.std.proofs.Common.{ℕ, List, Result, Option, Some, Ok, Err, ap, sym, ◌∙◌}
 use Rattle.std.specs.declared.cmp.Ordering.{Ordering}
-use Rattle.mpy_base.specs.Val.{Val}
+use Rattle.prim_faults.specs.mpy_base.Val.{Val}
 use Rattle.prim_faults.specs.py_primitives.Faults.{Fault, Unsupported}
 use Rattle.prim_faults.specs.py_primitives.Outcome.{raises}
 use Rattle.prim_faults.specs.py_primitives.Order as meaning

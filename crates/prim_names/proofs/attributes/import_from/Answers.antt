@@ -4,11 +4,11 @@ use Rattle.mpy_base.specs.Weights.{used, does_fit, cells_of, bytes_of, with_made
 use Rattle.mpy_base.specs.Val.{Val, At}
 use Rattle.prim_methods.specs.arena_heap.declared.value.Value.TheVariants as values
 use Rattle.prim_methods.specs.arena_objects.Iterables.{or_nothing}
-use Rattle.py_effects.specs.py_values.Shown.{PlainHeap}
-use Rattle.py_effects.specs.py_primitives.Outcome.{gives, is_full, making}
-use Rattle.py_effects.specs.py_primitives.Uses.{Attribute}
-use Rattle.py_effects.specs.Effect.{on_heap}
-use Rattle.py_effects.specs.Names.{imported_from}
+use Rattle.prim_raising.specs.py_effects.py_values.Shown.{PlainHeap}
+use Rattle.prim_raising.specs.py_effects.py_primitives.Outcome.{gives, is_full, making}
+use Rattle.prim_raising.specs.py_effects.py_primitives.Uses.{Attribute}
+use Rattle.prim_raising.specs.py_effects.Effect.{on_heap}
+use Rattle.prim_raising.specs.py_effects.Names.{imported_from}
 use Rattle.prim_methods.specs.prim_walks.Plain.{plain, plain_heap}
 use Rattle.prim_methods.specs.prim_faults.declared.fault.Fault.TheVariants as arena_faults
 use Rattle.prim_methods.specs.prim_faults.Sights.{world_over}

@@ -2,10 +2,10 @@ use Rattle.std.proofs.Common.{ℕ, List, sym, ap, ◌∙◌, lit<}
 use Rattle.mpy_base.specs.Val.{PlainWorld}
 use Rattle.prim_methods.specs.arena_heap.declared.value.Value.TheVariants as values
 use Rattle.prim_methods.specs.arena_objects.Iterables.{or_nothing}
-use Rattle.py_effects.specs.py_primitives.Faults.{NoAttribute}
-use Rattle.py_effects.specs.py_primitives.Uses.{Attribute}
-use Rattle.py_effects.specs.Effect.{Effect, faults}
-use Rattle.py_effects.specs.Names.{Looked, looked_up}
+use Rattle.prim_raising.specs.py_effects.py_primitives.Faults.{NoAttribute}
+use Rattle.prim_raising.specs.py_effects.py_primitives.Uses.{Attribute}
+use Rattle.prim_raising.specs.py_effects.Effect.{Effect, faults}
+use Rattle.prim_raising.specs.py_effects.Names.{Looked, looked_up}
 use Rattle.prim_methods.specs.prim_walks.Plain.{plain}
 use Rattle.prim_methods.specs.prim_faults.Sights.{world_over}
 use Rattle.prim_names.proofs.attributes.load_method.Goals as goal

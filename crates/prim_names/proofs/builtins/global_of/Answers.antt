@@ -1,8 +1,8 @@
 use Rattle.std.proofs.Common.{ℕ, List, Option, None, sym, ap, ◌∙◌}
 use Rattle.mpy_base.specs.declared.builtin.Builtin.{Builtin}
-use Rattle.py_effects.specs.py_primitives.Builtins.{global_named}
-use Rattle.qstr_pool.specs.declared.table.TheConstants.{FIRST_OWN}
-use Rattle.qstr_pool.specs.Static.{static_text_of}
+use Rattle.prim_raising.specs.py_effects.py_primitives.Builtins.{global_named}
+use Rattle.prim_raising.specs.qstr_pool.declared.table.TheConstants.{FIRST_OWN}
+use Rattle.prim_raising.specs.qstr_pool.Static.{static_text_of}
 use Rattle.prim_methods.specs.arena_heap.declared.value.StrNo.{StrNo}
 use Rattle.prim_methods.specs.arena_objects.Iterables.{or_nothing}
 use Rattle.prim_names.proofs.StaticNames.{within_table, table_at}

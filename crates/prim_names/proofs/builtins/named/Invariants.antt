@@ -1,7 +1,7 @@
 use Rattle.std.proofs.Common.{◌≡◌, ℕ, List, map, drop}
 use Rattle.mpy_base.specs.declared.builtin.Builtin.{Builtin}
-use Rattle.py_effects.specs.py_values.Names.{builtin_name}
-use Rattle.py_effects.specs.py_primitives.Builtins.{named}
+use Rattle.prim_raising.specs.py_effects.py_values.Names.{builtin_name}
+use Rattle.prim_raising.specs.py_effects.py_primitives.Builtins.{named}
 use Rattle.prim_names.proofs.builtins.named.Given as goal
 
 -- the first of them that has the name is among those that are left

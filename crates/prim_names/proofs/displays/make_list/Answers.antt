@@ -9,7 +9,7 @@ use Rattle.prim_methods.specs.arena_heap.declared.value.Value.TheVariants as val
 use Rattle.prim_methods.specs.arena_heap.Values.{Leads}
 use Rattle.prim_methods.specs.arena_heap.Constants.{IsTold}
 use Rattle.prim_methods.proofs.arena_heap_lemmas.Sounds.{leads_later}
-use Rattle.py_effects.specs.py_primitives.Outcome.{making}
+use Rattle.prim_raising.specs.py_effects.py_primitives.Outcome.{making}
 use Rattle.prim_methods.specs.prim_walks.Plain.{plain, plain_heap}
 use Rattle.prim_methods.specs.prim_faults.Faults.{IsKnown}
 use Rattle.prim_methods.proofs.prim_faults_lemmas.Outcomes.{made_outcome, refused_outcome}

@@ -4,10 +4,10 @@ use Rattle.mpy_base.specs.World.{Heap}
 use Rattle.mpy_base.specs.Val.{Val, Nil}
 use Rattle.prim_methods.specs.arena_heap.declared.value.Value.TheVariants as values
 use Rattle.prim_methods.specs.arena_objects.Iterables.{or_nothing}
-use Rattle.py_effects.specs.py_values.Shown.{PlainHeap}
-use Rattle.py_effects.specs.py_primitives.Outcome.{gives}
-use Rattle.py_effects.specs.Effect.{does}
-use Rattle.py_effects.specs.Names.{deleted_global, delete_global}
+use Rattle.prim_raising.specs.py_effects.py_values.Shown.{PlainHeap}
+use Rattle.prim_raising.specs.py_effects.py_primitives.Outcome.{gives}
+use Rattle.prim_raising.specs.py_effects.Effect.{does}
+use Rattle.prim_raising.specs.py_effects.Names.{deleted_global, delete_global}
 use Rattle.prim_methods.specs.prim_walks.Plain.{plain_heap}
 use Rattle.prim_methods.specs.prim_faults.declared.fault.Fault.TheVariants as faults
 use Rattle.prim_methods.specs.prim_faults.declared.stop.Stop.TheVariants.{Raises}

@@ -2,7 +2,7 @@ use Rattle.std.proofs.Common.{Option, sym, ap}
 use Rattle.mpy_base.specs.declared.builtin.Builtin.{Builtin}
 use Rattle.prim_methods.specs.arena_heap.declared.value.Value.TheVariants as values
 use Rattle.prim_methods.specs.arena_objects.Iterables.{or_nothing}
-use Rattle.py_effects.specs.Names.{built_in}
+use Rattle.prim_raising.specs.py_effects.Names.{built_in}
 use Rattle.prim_methods.specs.prim_faults.declared.fault.Fault.TheVariants as faults
 use Rattle.prim_methods.specs.prim_faults.Sights.{world_over}
 use Rattle.prim_raising.proofs.Effects.{value_effect, fault_effect}

@@ -1,7 +1,7 @@
 use Rattle.std.proofs.Common.{Option, ap}
 use Rattle.mpy_base.specs.Val.{Val}
 use Rattle.prim_methods.specs.arena_objects.Iterables.{or_nothing}
-use Rattle.py_effects.specs.Names.{found_global}
+use Rattle.prim_raising.specs.py_effects.Names.{found_global}
 use Rattle.prim_methods.specs.prim_faults.Sights.{world_over}
 use Rattle.prim_raising.proofs.Effects.{value_effect, same_effect}
 use Rattle.prim_names.proofs.Namespaces.{named_there, named_nowhere}

@@ -2,9 +2,9 @@ use Rattle.std.proofs.Common.{ap, ◌∙◌, sym, lit<}
 use Rattle.mpy_base.specs.Val.{Val, Str, At}
 use Rattle.prim_methods.specs.arena_heap.declared.value.Value.TheVariants as values
 use Rattle.prim_methods.specs.arena_objects.Iterables.{or_nothing}
-use Rattle.py_effects.specs.py_primitives.Outcome.{Outcome}
-use Rattle.py_effects.specs.Effect.{on_heap}
-use Rattle.py_effects.specs.py_primitives.Uses.{set_item}
+use Rattle.prim_raising.specs.py_effects.py_primitives.Outcome.{Outcome}
+use Rattle.prim_raising.specs.py_effects.Effect.{on_heap}
+use Rattle.prim_raising.specs.py_effects.py_primitives.Uses.{set_item}
 use Rattle.prim_methods.specs.prim_walks.Plain.{plain, plain_heap}
 use Rattle.prim_methods.specs.prim_faults.Sights.{world_over}
 use Rattle.prim_raising.proofs.Effects.{heap_effect}

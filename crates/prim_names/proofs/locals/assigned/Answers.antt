@@ -2,7 +2,7 @@ use Rattle.std.proofs.Common.{Option, ap, subst}
 use Rattle.std.specs.Option.{option_map}
 use Rattle.std.specs.Prelude.{IfSome}
 use Rattle.prim_methods.specs.arena_heap.declared.value.Value.{Value}
-use Rattle.py_effects.specs.Names.{assigned}
+use Rattle.prim_raising.specs.py_effects.Names.{assigned}
 use Rattle.prim_methods.specs.prim_walks.Plain.{plain}
 use Rattle.prim_methods.specs.prim_faults.declared.fault.Fault.TheVariants as faults
 use Rattle.prim_methods.specs.prim_faults.Faults.{IsKnown}

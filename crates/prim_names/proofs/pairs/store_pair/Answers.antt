@@ -1,9 +1,9 @@
 use Rattle.std.proofs.Common.{ℕ, List, ap, ◌∙◌, sym, lit<}
 use Rattle.prim_methods.specs.arena_heap.declared.value.Value.TheVariants as values
-use Rattle.py_effects.specs.py_primitives.Faults.{NotAssignable}
-use Rattle.py_effects.specs.Effect.{faults}
+use Rattle.prim_raising.specs.py_effects.py_primitives.Faults.{NotAssignable}
+use Rattle.prim_raising.specs.py_effects.Effect.{faults}
 use Rattle.mpy_base.specs.Val.{Val}
-use Rattle.py_effects.specs.py_primitives.Uses.{set_item}
+use Rattle.prim_raising.specs.py_effects.py_primitives.Uses.{set_item}
 use Rattle.prim_methods.specs.prim_walks.Plain.{plain, plain_heap}
 use Rattle.prim_methods.specs.prim_faults.declared.fault.Fault.TheVariants as arena_faults
 use Rattle.prim_methods.specs.prim_faults.Sights.{world_over}

@@ -1,7 +1,7 @@
 use Rattle.std.proofs.Common.{ℕ, zero, List, refl, sym, ap, ◌∙◌, subst, arith}
 use Rattle.std.specs.Prelude.{bytes_eq, codes, if◌then◌else◌, All}
-use Rattle.mpy_base.specs.Val.{Built}
-use Rattle.mpy_base.specs.World.{ATuple, AFunction, AMethod, ARange}
+use Rattle.prim_faults.specs.mpy_base.Val.{Built}
+use Rattle.prim_faults.specs.mpy_base.World.{ATuple, AFunction, AMethod, ARange}
 use Rattle.prim_faults.specs.arena_heap.declared.value.Value.{Value}
 use Rattle.prim_faults.specs.arena_heap.declared.value.Value.TheVariants as values
 use Rattle.prim_faults.specs.arena_heap.Values.{Leads, IsStr, IsList, IsDict, held}

@@ -1,5 +1,5 @@
 use Rattle.std.proofs.Common.{sym, subst}
-use Rattle.mpy_base.specs.declared.builtin.Builtin.{Builtin}
+use Rattle.prim_faults.specs.mpy_base.declared.builtin.Builtin.{Builtin}
 use Rattle.prim_operators.specs.Attributes.{IsBuiltAttribute}
 use Rattle.prim_operators.proofs.attributes.built_attribute.Goals as goal
 

@@ -4,8 +4,8 @@ use Rattle.std.proofs.lemmas.Option.{slice_get-get_or}
 use Rattle.prim_faults.specs.arena_heap.declared.value.Value.{Value}
 use Rattle.prim_faults.specs.arena_heap.declared.value.Value.TheVariants as values
 use Rattle.prim_faults.specs.arena_heap.declared.value.DictNo.{DictNo}
-use Rattle.mpy_base.specs.World.{ADict, IsA, pairs_at}
-use Rattle.mpy_base.specs.Val.{Val}
+use Rattle.prim_faults.specs.mpy_base.World.{ADict, IsA, pairs_at}
+use Rattle.prim_faults.specs.mpy_base.Val.{Val}
 use Rattle.prim_faults.specs.arena_objects.Iterables.{or_nothing}
 use Rattle.prim_faults.proofs.arena_objects_lemmas.Places.{no_pair}
 use Rattle.prim_faults.specs.py_primitives.Uses.{found_value}

@@ -1,8 +1,8 @@
 use Rattle.std.proofs.Common.{◌≡◌, ℕ, List, map, Err, sym, ap, ◌∙◌, subst}
 use Rattle.std.specs.Prelude.{codes}
 use Rattle.std.specs.List.{remove}
-use Rattle.mpy_base.specs.World.{Heap, pairs_at, with_dict}
-use Rattle.mpy_base.specs.Val.{Val, Nil}
+use Rattle.prim_faults.specs.mpy_base.World.{Heap, pairs_at, with_dict}
+use Rattle.prim_faults.specs.mpy_base.Val.{Val, Nil}
 use Rattle.prim_faults.specs.arena_heap.declared.value.Value.{Value}
 use Rattle.prim_faults.specs.arena_heap.declared.value.Value.TheVariants as values
 use Rattle.prim_faults.specs.py_values.Shown.{PlainHeap}

@@ -2,8 +2,8 @@ use Rattle.std.proofs.Common.{◌≡◌, ℕ, ◌<◌, List, map, length, get_or
 use Rattle.std.specs.Prelude.{OnSome}
 use Rattle.std.specs.List.{remove}
 use Rattle.std.proofs.lemmas.Option.{slice_get-get_or}
-use Rattle.mpy_base.specs.World.{Heap, ListObject, AList, items_at, room_at, with_list, object}
-use Rattle.mpy_base.specs.Val.{Val, Nil}
+use Rattle.prim_faults.specs.mpy_base.World.{Heap, ListObject, AList, items_at, room_at, with_list, object}
+use Rattle.prim_faults.specs.mpy_base.Val.{Val, Nil}
 use Rattle.prim_faults.specs.arena_heap.declared.value.Value.{Value}
 use Rattle.prim_faults.specs.arena_heap.declared.value.Value.TheVariants as values
 use Rattle.prim_faults.specs.arena_heap.Constants.{IsTold}

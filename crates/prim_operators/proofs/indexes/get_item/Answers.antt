@@ -1,5 +1,5 @@
 use Rattle.std.proofs.Common.{ℕ, List, sym, ap, ◌∙◌, subst}
-use Rattle.mpy_base.specs.Val.{Val}
+use Rattle.prim_faults.specs.mpy_base.Val.{Val}
 use Rattle.prim_faults.specs.py_values.Shown.{Shown}
 use Rattle.prim_faults.specs.py_primitives.Faults.{NotSubscriptable}
 use Rattle.prim_faults.specs.py_primitives.Outcome.{Outcome, raises}

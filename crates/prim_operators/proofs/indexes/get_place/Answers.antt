@@ -1,5 +1,5 @@
 use Rattle.std.proofs.Common.{sym, subst}
-use Rattle.mpy_base.specs.Val.{Val}
+use Rattle.prim_faults.specs.mpy_base.Val.{Val}
 use Rattle.prim_faults.specs.py_primitives.Outcome.{Outcome}
 use Rattle.prim_faults.specs.py_primitives.Iterables.{item_of}
 use Rattle.prim_faults.specs.prim_walks.Plain.{plain, plain_heap}

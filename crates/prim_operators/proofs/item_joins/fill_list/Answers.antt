@@ -1,7 +1,7 @@
 use Rattle.std.proofs.Common.{ℕ, ◌<◌, ◌≤◌, List, length, sym, ap, subst, arith}
 use Rattle.prim_faults.specs.arena_heap.declared.value.Value.{Value}
-use Rattle.mpy_base.specs.World.{Heap, AList, Later}
-use Rattle.mpy_base.proofs.Worlds.{later_list}
+use Rattle.prim_faults.specs.mpy_base.World.{Heap, AList, Later}
+use Rattle.prim_faults.proofs.mpy_base_lemmas.Worlds.{later_list}
 use Rattle.prim_operators.specs.Sources.{source_items}
 use Rattle.prim_operators.proofs.ItemFills.{source_later, list_begins, list_source, list_count, list_room, list_step, list_told, list_ends}
 use Rattle.prim_operators.proofs.item_joins.fill_list.Goals as goal

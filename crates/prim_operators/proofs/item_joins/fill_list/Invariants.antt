@@ -1,5 +1,5 @@
 use Rattle.std.proofs.Common.{◌≡◌, take}
-use Rattle.mpy_base.specs.World.{with_list}
+use Rattle.prim_faults.specs.mpy_base.World.{with_list}
 use Rattle.prim_faults.specs.arena_objects.Keys.{AllTold}
 use Rattle.prim_operators.specs.Sources.{source_items}
 use Rattle.prim_operators.proofs.item_joins.fill_list.Given as goal

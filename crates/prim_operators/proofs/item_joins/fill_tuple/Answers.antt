@@ -1,7 +1,7 @@
 use Rattle.std.proofs.Common.{ℕ, ◌≤◌, List, length, sym, ap, subst, arith}
 use Rattle.prim_faults.specs.arena_heap.declared.value.Value.{Value}
-use Rattle.mpy_base.specs.World.{Heap, ATuple, Later}
-use Rattle.mpy_base.proofs.Worlds.{later_tuple}
+use Rattle.prim_faults.specs.mpy_base.World.{Heap, ATuple, Later}
+use Rattle.prim_faults.proofs.mpy_base_lemmas.Worlds.{later_tuple}
 use Rattle.prim_operators.proofs.ItemFills.{source_later, told_fill, tuple_begins, tuple_source, tuple_length, tuple_step, tuple_ends}
 use Rattle.prim_operators.proofs.item_joins.fill_tuple.Goals as goal
 

@@ -1,5 +1,5 @@
 use Rattle.std.proofs.Common.{◌≡◌}
-use Rattle.mpy_base.specs.World.{items_at, with_tuple}
+use Rattle.prim_faults.specs.mpy_base.World.{items_at, with_tuple}
 use Rattle.prim_faults.specs.arena_objects.Keys.{AllTold}
 use Rattle.prim_operators.specs.Sources.{source_items}
 use Rattle.prim_operators.proofs.TextFills.{partly}

@@ -1,10 +1,10 @@
 use Rattle.std.proofs.Common.{◌≡◌, ℕ, suc, ◌+◌, List, [], length, map, refl, sym, ap, ◌∙◌, subst, arith}
 use Rattle.std.proofs.lemmas.List.{length-map}
-use Rattle.mpy_base.specs.World.{ListObject, AList, with_list}
-use Rattle.mpy_base.specs.Weights.{Made, Refused, room_for}
-use Rattle.mpy_base.specs.Val.{Val}
-use Rattle.mpy_base.proofs.Rooms.{room_is}
-use Rattle.mpy_base.proofs.Worlds.{object_made, used_made}
+use Rattle.prim_faults.specs.mpy_base.World.{ListObject, AList, with_list}
+use Rattle.prim_faults.specs.mpy_base.Weights.{Made, Refused, room_for}
+use Rattle.prim_faults.specs.mpy_base.Val.{Val}
+use Rattle.prim_faults.proofs.mpy_base_lemmas.Rooms.{room_is}
+use Rattle.prim_faults.proofs.mpy_base_lemmas.Worlds.{object_made, used_made}
 use Rattle.prim_faults.specs.arena_heap.declared.value.Value.{Value}
 use Rattle.prim_faults.specs.arena_heap.declared.value.Value.TheVariants as values
 use Rattle.prim_faults.specs.py_primitives.Outcome.{making}

@@ -1,9 +1,9 @@
 use Rattle.std.proofs.Common.{◌≡◌, ℕ, suc, ◌+◌, ◌<◌, List, length, replicate, refl, ap, ◌∙◌, subst, arith}
 use Rattle.std.proofs.lemmas.List.{length-replicate}
-use Rattle.mpy_base.specs.World.{TupleObject, ATuple, with_tuple}
-use Rattle.mpy_base.specs.Weights.{Made, Refused}
-use Rattle.mpy_base.specs.Val.{Val}
-use Rattle.mpy_base.proofs.Worlds.{object_made, used_made}
+use Rattle.prim_faults.specs.mpy_base.World.{TupleObject, ATuple, with_tuple}
+use Rattle.prim_faults.specs.mpy_base.Weights.{Made, Refused}
+use Rattle.prim_faults.specs.mpy_base.Val.{Val}
+use Rattle.prim_faults.proofs.mpy_base_lemmas.Worlds.{object_made, used_made}
 use Rattle.prim_faults.specs.arena_heap.declared.value.Value.{Value}
 use Rattle.prim_faults.specs.arena_heap.declared.value.Value.TheVariants as values
 use Rattle.prim_faults.specs.prim_walks.Plain.{plain, plain_heap}

@@ -1,6 +1,6 @@
 use Rattle.std.proofs.Common.{◌≡◌, ℕ, List, [], ◌∷◌, get_or, refl, ap, ◌∙◌}
 use Rattle.std.proofs.lemmas.List.Elements.{All-nil}
-use Rattle.mpy_base.specs.World.{TextObject}
+use Rattle.prim_faults.specs.mpy_base.World.{TextObject}
 use Rattle.prim_faults.specs.arena_heap.declared.value.Value.TheVariants as values
 use Rattle.prim_faults.specs.arena_heap.Values.{ArenaObject}
 use Rattle.prim_faults.specs.arena_heap.Constants.{IsTold}

@@ -1,7 +1,7 @@
 use Rattle.std.proofs.Common.{◌≡◌, ℕ, ◌≤◌, List, length, sym, ap, ◌∙◌, subst, arith}
 use Rattle.prim_faults.specs.arena_heap.declared.value.Value.{Value}
-use Rattle.mpy_base.specs.World.{Heap, AText, Later, text_at, with_text}
-use Rattle.mpy_base.proofs.Worlds.{later_text}
+use Rattle.prim_faults.specs.mpy_base.World.{Heap, AText, Later, text_at, with_text}
+use Rattle.prim_faults.proofs.mpy_base_lemmas.Worlds.{later_text}
 use Rattle.prim_operators.specs.Sources.{source_bytes}
 use Rattle.prim_operators.proofs.TextFills.{partly, begins, source_there, text_length, step, ends, sources_later}
 use Rattle.prim_operators.proofs.joins.fill_text.Goals as goal

@@ -1,5 +1,5 @@
 use Rattle.std.proofs.Common.{◌≡◌}
-use Rattle.mpy_base.specs.World.{text_at, with_text}
+use Rattle.prim_faults.specs.mpy_base.World.{text_at, with_text}
 use Rattle.prim_operators.specs.Sources.{source_bytes}
 use Rattle.prim_operators.proofs.TextFills.{partly}
 use Rattle.prim_operators.proofs.joins.fill_text.Given as goal

@@ -1,8 +1,8 @@
 use Rattle.std.proofs.Common.{◌≡◌, ℕ, ◌<◌, List, length, replicate, refl, ap, ◌∙◌, arith}
 use Rattle.std.proofs.lemmas.List.Elements.{All-nil}
-use Rattle.mpy_base.specs.World.{TextObject, AText, with_text}
+use Rattle.prim_faults.specs.mpy_base.World.{TextObject, AText, with_text}
 use Rattle.std.proofs.lemmas.List.{length-replicate}
-use Rattle.mpy_base.specs.Weights.{Made}
+use Rattle.prim_faults.specs.mpy_base.Weights.{Made}
 use Rattle.prim_faults.specs.arena_heap.declared.value.Value.TheVariants as values
 use Rattle.prim_faults.specs.arena_heap.Constants.{IsTold}
 use Rattle.prim_faults.specs.prim_walks.Plain.{plain_heap}

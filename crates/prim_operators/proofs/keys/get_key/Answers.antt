@@ -2,8 +2,8 @@ use Rattle.std.proofs.Common.{◌≡◌, ℕ, List, map, get_or, Some, Option, s
 use Rattle.std.specs.Option.{option_map}
 use Rattle.std.proofs.lemmas.Option.{slice_get-get_or}
 use Rattle.prim_faults.specs.arena_heap.declared.value.Value.{Value}
-use Rattle.mpy_base.specs.World.{pairs_at}
-use Rattle.mpy_base.specs.Val.{Val}
+use Rattle.prim_faults.specs.mpy_base.World.{pairs_at}
+use Rattle.prim_faults.specs.mpy_base.Val.{Val}
 use Rattle.prim_faults.proofs.arena_objects_lemmas.Places.{no_pair}
 use Rattle.prim_faults.specs.py_primitives.Faults.{UnsupportedOne}
 use Rattle.std.specs.Prelude.{codes}

@@ -1,5 +1,5 @@
 use Rattle.std.proofs.Common.{ℤ, Result, sym, ap, ◌∙◌, subst}
-use Rattle.mpy_base.specs.Val.{Val}
+use Rattle.prim_faults.specs.mpy_base.Val.{Val}
 use Rattle.prim_faults.specs.py_values.declared.small_int.NumFault.{NumFault}
 use Rattle.prim_faults.specs.py_primitives.Faults.{Fault}
 use Rattle.prim_faults.specs.py_primitives.Outcome.{Outcome, raises}

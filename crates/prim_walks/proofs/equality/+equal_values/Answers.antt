@@ -1,7 +1,7 @@
 use Rattle.std.proofs.Common.{ℕ, ◌-◌, Bool, true, false, Option, Result, Ok, Err, map, sym, ap, ◌∙◌, subst}
 use Rattle.std.specs.Prelude.{IfSome, IfNone}
 use Rattle.arena_objects.specs.arena_heap.declared.value.Value.{Value}
-use Rattle.mpy_base.specs.World.{pairs_at}
+use Rattle.py_primitives.specs.mpy_base.World.{pairs_at}
 use Rattle.arena_objects.specs.Iterables.{items_in}
 use Rattle.arena_objects.specs.Keys.{IsValueOf, Lacks}
 use Rattle.py_primitives.specs.py_values.Equality.{equal_within, answers}

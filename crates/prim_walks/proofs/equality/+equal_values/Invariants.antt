@@ -1,5 +1,5 @@
 use Rattle.std.proofs.Common.{◌≡◌, ◌+◌, ◌*◌, drop, map}
-use Rattle.mpy_base.specs.World.{pairs_at}
+use Rattle.py_primitives.specs.mpy_base.World.{pairs_at}
 use Rattle.arena_objects.specs.Iterables.{items_in}
 use Rattle.py_primitives.specs.py_values.Equality.{equal_within, all_equal, all_found}
 use Rattle.prim_walks.specs.Plain.{plain, plain_pair, plain_heap}

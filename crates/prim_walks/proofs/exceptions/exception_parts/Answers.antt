@@ -1,4 +1,4 @@
-use Rattle.mpy_base.specs.World.{object}
+use Rattle.py_primitives.specs.mpy_base.World.{object}
 use Rattle.prim_walks.proofs.LeafTexts.{items_looked, args_told, is_raised}
 use Rattle.prim_walks.proofs.exceptions.exception_parts.Goals as goal
 

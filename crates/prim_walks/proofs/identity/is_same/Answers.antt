@@ -1,6 +1,6 @@
 use Rattle.std.proofs.Common.{sym, ap, ◌∙◌}
 use Rattle.arena_objects.specs.arena_heap.declared.value.Value.{Value}
-use Rattle.mpy_base.specs.Val.{Built}
+use Rattle.py_primitives.specs.mpy_base.Val.{Built}
 use Rattle.py_primitives.specs.py_values.Equality.{is_same}
 use Rattle.prim_walks.specs.Plain.{plain}
 use Rattle.prim_walks.proofs.Identities.{nil_other, built_other, none_same}

@@ -1,6 +1,6 @@
 use Rattle.std.proofs.Common.{ℤ, true, false, sym, ap, ◌∙◌, subst}
 use Rattle.arena_objects.specs.arena_heap.declared.value.Value.{Value}
-use Rattle.mpy_base.specs.Val.{Int}
+use Rattle.py_primitives.specs.mpy_base.Val.{Int}
 use Rattle.arena_objects.specs.arena_heap.Values.{HasSmall}
 use Rattle.arena_objects.specs.Iterables.{items_in}
 use Rattle.arena_objects.proofs.RangeNumbers.{small_same}

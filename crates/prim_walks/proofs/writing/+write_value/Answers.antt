@@ -1,11 +1,11 @@
 use Rattle.std.proofs.Common.{ℕ, ◌-◌, List, [], ◌++◌, Bool, true, false, Option, Result, Err, map, sym, ap, ◌∙◌, subst, arith}
 use Rattle.std.specs.Prelude.{codes}
-use Rattle.mpy_base.specs.World.{object, pairs_at}
-use Rattle.mpy_base.specs.Val.{Val}
+use Rattle.py_primitives.specs.mpy_base.World.{object, pairs_at}
+use Rattle.py_primitives.specs.mpy_base.Val.{Val}
 use Rattle.arena_objects.specs.Iterables.{items_in}
 use Rattle.py_primitives.specs.py_values.Equality.{Walk}
 use Rattle.py_primitives.specs.Walks.{walk_all}
-use Rattle.mpy_base.specs.Kind.{kind_name}
+use Rattle.py_primitives.specs.mpy_base.Kind.{kind_name}
 use Rattle.arena_objects.specs.arena_heap.declared.value.Value.{Value}
 use Rattle.arena_objects.specs.arena_heap.Values.{Leads}
 use Rattle.py_primitives.specs.Texts.{write_within, pair_text, joined, object_text, exception_str, texts_between, written}

@@ -1,6 +1,6 @@
 use Rattle.std.proofs.Common.{ap, subst, sym, ◌∙◌}
 use Rattle.library_files.specs.Loads.{Loaded}
-use Rattle.mpy_endings.specs.declared.ending.Ending.{Ending}
+use Rattle.command_files.specs.mpy_endings.declared.ending.Ending.{Ending}
 use Rattle.run_commands.specs.Base.{base_of}
 use Rattle.run_commands.specs.Go.{RefusesSources}
 use Rattle.run_commands.proofs.Going.{source_loads_of, sources_refused}

@@ -1,7 +1,7 @@
 use Rattle.std.proofs.Common.{Bool, Err, refl, sym, subst}
 use Rattle.mpy_io.specs.Count.{Counts}
-use Rattle.mpy_endings.specs.declared.ending.Ending.{Ending}
-use Rattle.mpy_endings.specs.Ending.{is_folder_fault}
+use Rattle.command_files.specs.mpy_endings.declared.ending.Ending.{Ending}
+use Rattle.command_files.specs.mpy_endings.Ending.{is_folder_fault}
 use Rattle.run_commands.specs.Go.{SourceLibrary}
 use Rattle.run_commands.specs.Ready.{GoLibrary}
 use Rattle.run_commands.specs.Run.{IsUnloaded}

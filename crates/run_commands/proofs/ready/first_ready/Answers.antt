@@ -3,7 +3,7 @@ use Rattle.std.specs.Prelude.{IfOk}
 use Rattle.bc_library.specs.mpy_tree.Raw.{Module}
 use Rattle.bc_library.specs.Shelf.{Shelf}
 use Rattle.library_files.specs.Ends.{BeginsWith}
-use Rattle.mpy_endings.specs.declared.ending.Ending.{Ending}
+use Rattle.command_files.specs.mpy_endings.declared.ending.Ending.{Ending}
 use Rattle.run_commands.proofs.ready.first_ready.Goals as goal
 
 pub returns-in-Ok-clause-there : goal.returns-in-Ok-clause-there

@@ -1,6 +1,6 @@
 use Rattle.std.proofs.Common.{Bool, Err, sym, subst}
 use Rattle.mpy_io.specs.Count.{Counts}
-use Rattle.mpy_endings.specs.declared.ending.Ending.{Ending}
+use Rattle.command_files.specs.mpy_endings.declared.ending.Ending.{Ending}
 use Rattle.run_commands.specs.Ready.{FirstOf}
 use Rattle.run_commands.specs.Run.{FileLibrary, IsUnloaded}
 use Rattle.run_commands.proofs.Starting.{first_of, first_failed, first_unloaded}

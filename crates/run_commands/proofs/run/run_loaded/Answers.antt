@@ -2,11 +2,11 @@ use Rattle.std.proofs.Common.{◌≡◌, [], Result, refl, sym, subst}
 use Rattle.std.specs.Prelude.{IfOk, IfErr}
 use Rattle.std.proofs.lemmas.Option.{slice_get_within}
 use Rattle.bc_library.specs.mpy_tree.Raw.{Module}
-use Rattle.image_runs.specs.Main.{IsMainAt}
+use Rattle.command_files.specs.image_runs.Main.{IsMainAt}
 use Rattle.library_files.specs.Ends.{HoldsModules}
 use Rattle.library_runs.specs.declared.ending.RunEnd.TheVariants as ends
 use Rattle.library_runs.specs.Runs.{sight}
-use Rattle.mpy_endings.specs.declared.ending.Ending.{Ending}
+use Rattle.command_files.specs.mpy_endings.declared.ending.Ending.{Ending}
 use Rattle.run_commands.specs.declared.ready.Ready.{Ready}
 use Rattle.run_commands.specs.Run.{IsUnloaded, Runs}
 use Rattle.run_commands.proofs.Running.{ran_library, not_loaded, run_over, same_sight, says_nothing, unloaded_unrun}

@@ -1,5 +1,5 @@
 use Rattle.std.proofs.Common.{sym, subst}
-use Rattle.bc_library.specs.bc_verify.Verified.{IsVerified}
+use Rattle.library_files.specs.bc_library.bc_verify.Verified.{IsVerified}
 use Rattle.library_files.proofs.Read.{same_read, not_read}
 use Rattle.source_files.proofs.Given.{verified_as}
 use Rattle.source_files.proofs.source.verified_of.Goals as goal

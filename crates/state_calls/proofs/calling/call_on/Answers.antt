@@ -1,6 +1,6 @@
 use Rattle.std.proofs.Common.{◌≡◌, map, Err, inl, refl, sym, subst, arith, ◌∙◌}
 use Rattle.std.specs.Prelude.{OnErr}
-use Rattle.mpy_base.specs.declared.builtin.Builtin.{Builtin}
+use Rattle.vm_states.specs.mpy_base.declared.builtin.Builtin.{Builtin}
 use Rattle.vm_states.specs.bc_library.Constants.{items_at, text_at}
 use Rattle.mpy_io.specs.Count.{Counts}
 use Rattle.port_set.proofs.Counting.{counts_same}

@@ -1,5 +1,5 @@
 use Rattle.std.proofs.Common.{◌<◌, length, sym, ap, subst, arith}
-use Rattle.mpy_base.specs.World.{ADict, IsA}
+use Rattle.vm_states.specs.mpy_base.World.{ADict, IsA}
 use Rattle.frame_calls.specs.arena_objects.Keys.{AllTold}
 use Rattle.vm_states.specs.bc_library.Constants.{items_at, text_at}
 use Rattle.vm_states.specs.bc_library.Shelf.{Shelf}

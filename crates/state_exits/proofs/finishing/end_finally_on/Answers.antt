@@ -1,9 +1,9 @@
 use Rattle.std.proofs.Common.{◌≡◌, ◌<◌, length, [], Some, slice_get}
 use Rattle.prim_faults.specs.arena_objects.Keys.{AllTold}
-use Rattle.mpy_base.specs.Val.{PlainWorld}
+use Rattle.vm_states.specs.mpy_base.Val.{PlainWorld}
 use Rattle.vm_states.specs.bc_ops.declared.instr.Op.TheVariants as ops
 use Rattle.vm_states.specs.bc_ops.declared.instr.Instr.TheVariants as instrs
-use Rattle.py_effects.specs.Ends.{new_world}
+use Rattle.bc_progress.specs.py_effects.Ends.{new_world}
 use Rattle.vm_states.specs.bc_machine.Library.{Plain}
 use Rattle.vm_states.specs.vm_frames.Views.{starts_of, position_of}
 use Rattle.vm_states.specs.frame_moves.Shown.{view_of, step_of}

@@ -1,6 +1,6 @@
 use Rattle.std.proofs.Common.{ℕ, Bool, All, length, sym, ◌∙◌, subst, arith, []}
 use Rattle.std.specs.Prelude.{IsSome, nat_lt}
-use Rattle.mpy_base.specs.declared.limits.TheConstants.{MAX_CALLS}
+use Rattle.vm_states.specs.mpy_base.declared.limits.TheConstants.{MAX_CALLS}
 use Rattle.prim_faults.specs.arena_objects.Keys.{AllTold}
 use Rattle.prim_faults.specs.arena_heap.declared.value.StrNo.TheVariants as strs
 use Rattle.vm_states.specs.bc_library.Shelf.{Shelf}
@@ -18,9 +18,9 @@ use Rattle.vm_states.specs.frame_exits.Beginning.{IsOutermost}
 use Rattle.state_exits.proofs.Tellings.{out, into, tables_are}
 use Rattle.state_exits.proofs.Outermost.{stands_for, at_least, title_is, outermost_there, locals_fit, is_outermost}
 use Rattle.state_exits.proofs.Imports.{imported_rooms, imported_registry, room_for, operands_here, import_here, stop_here, begins_here, number_within, has_title, is_shallow, imports_so}
-use Rattle.mpy_base.specs.Val.{PlainWorld}
-use Rattle.prim_modules.specs.Registry.{plain_modules}
-use Rattle.py_effects.specs.Ends.{new_world}
+use Rattle.vm_states.specs.mpy_base.Val.{PlainWorld}
+use Rattle.vm_states.specs.prim_modules.Registry.{plain_modules}
+use Rattle.bc_progress.specs.py_effects.Ends.{new_world}
 use Rattle.state_exits.proofs.importing.begin.Goals as goal
 
 pub outermost_locals-locals-requires-clause-there : goal.outermost_locals-locals-requires-clause-there

@@ -1,14 +1,14 @@
 use Rattle.std.proofs.Common.{◌≡◌, ◌∷◌, ℕ, length, drop, refl, sym, ◌∙◌, subst, []}
 use Rattle.std.specs.Prelude.{IsSome, nat_lt}
-use Rattle.mpy_base.specs.declared.limits.TheConstants.{MAX_CALLS}
+use Rattle.vm_states.specs.mpy_base.declared.limits.TheConstants.{MAX_CALLS}
 use Rattle.prim_faults.specs.arena_heap.declared.value.StrNo.TheVariants as strs
 use Rattle.vm_states.specs.bc_library.Shelf.{Shelf}
-use Rattle.mpy_base.specs.Val.{PlainWorld}
+use Rattle.vm_states.specs.mpy_base.Val.{PlainWorld}
 use Rattle.vm_states.specs.bc_ops.declared.instr.Op.TheVariants as ops
 use Rattle.vm_states.specs.bc_machine.Library.{Names}
-use Rattle.py_effects.specs.Ends.{new_world}
+use Rattle.bc_progress.specs.py_effects.Ends.{new_world}
 use Rattle.prim_faults.specs.prim_walks.Plain.{plain, plain_name}
-use Rattle.prim_modules.specs.Registry.{plain_modules}
+use Rattle.vm_states.specs.prim_modules.Registry.{plain_modules}
 use Rattle.vm_states.specs.vm_frames.declared.slot.Slot.TheVariants as slots
 use Rattle.vm_states.specs.vm_frames.Views.{starts_of}
 use Rattle.vm_states.specs.frame_moves.Shown.{view_of, running_of, step_of}

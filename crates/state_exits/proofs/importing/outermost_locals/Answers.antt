@@ -1,6 +1,6 @@
 use Rattle.std.proofs.Common.{◌≡◌, true, false, Option, refl, subst, arith}
 use Rattle.std.specs.Prelude.{IsSome}
-use Rattle.mpy_tree.specs.Codes.{Placed}
+use Rattle.vm_states.specs.mpy_tree.Codes.{Placed}
 use Rattle.state_exits.proofs.importing.outermost_locals.Goals as goal
 
 pub unreachable-requires : goal.unreachable-requires

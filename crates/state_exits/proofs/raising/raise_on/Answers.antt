@@ -1,7 +1,7 @@
 use Rattle.std.proofs.Common.{◌≡◌, List, Some, slice_get, ap, subst}
 use Rattle.vm_states.specs.bc_ops.declared.instr.Op.TheVariants as ops
 use Rattle.vm_states.specs.bc_ops.declared.instr.Instr.TheVariants as instrs
-use Rattle.py_effects.specs.Effect.{Place}
+use Rattle.bc_progress.specs.py_effects.Effect.{Place}
 use Rattle.prim_faults.specs.arena_objects.Keys.{AllTold}
 use Rattle.vm_states.specs.bc_machine.Library.{Plain}
 use Rattle.prim_faults.specs.Faults.{IsKnown}

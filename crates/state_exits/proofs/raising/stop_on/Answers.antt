@@ -1,5 +1,5 @@
 use Rattle.std.proofs.Common.{◌≡◌, subst}
-use Rattle.py_effects.specs.Effect.{Place}
+use Rattle.bc_progress.specs.py_effects.Effect.{Place}
 use Rattle.prim_faults.specs.arena_objects.Keys.{AllTold}
 use Rattle.vm_states.specs.frame_moves.Outcomes.{world_of, stopping_of}
 use Rattle.vm_states.specs.frame_exits.Ends.{with_modules, state_of}

@@ -1,7 +1,7 @@
 use Rattle.std.proofs.Common.{ℕ, List, Option, ap}
 use Rattle.vm_states.specs.bc_ops.declared.instr.Op.TheVariants as ops
-use Rattle.prim_names.specs.arena_heap.declared.value.StrNo.{StrNo}
-use Rattle.prim_names.specs.arena_objects.Iterables.{or_nothing}
+use Rattle.vm_states.specs.prim_names.arena_heap.declared.value.StrNo.{StrNo}
+use Rattle.vm_states.specs.prim_names.arena_objects.Iterables.{or_nothing}
 use Rattle.vm_states.specs.bc_machine.Library.{Names}
 use Rattle.vm_states.specs.vm_fetching.declared.instruction.Instruction.TheVariants as fetched
 use Rattle.vm_states.specs.vm_fetching.declared.operations.NameOp.TheVariants as name_ops

@@ -1,5 +1,5 @@
-use Rattle.py_effects.specs.py_primitives.Iterables.{length_of}
-use Rattle.prim_names.specs.prim_walks.Plain.{plain, plain_heap}
+use Rattle.frame_moves.specs.py_effects.py_primitives.Iterables.{length_of}
+use Rattle.vm_states.specs.prim_names.prim_walks.Plain.{plain, plain_heap}
 use Rattle.state_values.proofs.Finding as finding
 use Rattle.state_values.proofs.Iterating as iterating
 use Rattle.state_values.proofs.iterators.for_iter.Goals as goal

@@ -1,7 +1,7 @@
 use Rattle.std.proofs.Common.{◌≡◌, ◌∷◌, ℤ, subst, rules, SFits, w32}
 use Rattle.std.proofs.lemmas.Int.{to_z-of_z}
 use Rattle.vm_states.specs.bc_ops.declared.instr.Instr.TheVariants as instrs
-use Rattle.prim_names.specs.arena_heap.declared.value.Value.TheVariants as values
+use Rattle.vm_states.specs.prim_names.arena_heap.declared.value.Value.TheVariants as values
 use Rattle.vm_states.specs.bc_machine.Library.{Plain}
 use Rattle.vm_states.specs.vm_frames.declared.slot.Slot.TheVariants as slots
 use Rattle.vm_states.specs.vm_frames.Calls.{on_running}

@@ -1,5 +1,5 @@
 use Rattle.std.proofs.Common.{◌∷◌}
-use Rattle.prim_names.specs.arena_heap.declared.value.Value.TheVariants as values
+use Rattle.vm_states.specs.prim_names.arena_heap.declared.value.Value.TheVariants as values
 use Rattle.vm_states.specs.vm_frames.declared.slot.Slot.TheVariants as slots
 use Rattle.vm_states.specs.vm_fetching.declared.instruction.Instruction.TheVariants as fetched
 use Rattle.vm_states.specs.vm_fetching.declared.operations.NameOp.TheVariants as name_ops

@@ -1,6 +1,6 @@
 use Rattle.std.proofs.Common.{◌≡◌, ◌∷◌, ℤ, subst, sym, rules, SFits, w32}
 use Rattle.std.proofs.lemmas.Int.{to_z-of_z}
-use Rattle.prim_names.specs.arena_heap.declared.value.Value.TheVariants as values
+use Rattle.vm_states.specs.prim_names.arena_heap.declared.value.Value.TheVariants as values
 use Rattle.vm_states.specs.vm_frames.declared.slot.Slot.TheVariants as slots
 use Rattle.vm_states.specs.vm_frames.Calls.{on_running}
 use Rattle.vm_states.specs.frame_moves.Stacks.{gone}

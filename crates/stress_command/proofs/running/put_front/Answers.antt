@@ -1,6 +1,6 @@
 use Rattle.std.proofs.lemmas.Result.{err_from_is_err_and}
 use Rattle.std.proofs.Common.{◌++◌, codes, decimal}
-use Rattle.mpy_endings.proofs.Said.{cut, both}
+use Rattle.run_commands.proofs.mpy_endings_lemmas.Said.{cut, both}
 use Rattle.stress_command.proofs.running.put_front.Goals as goal
 
 pub returns-in_err-put_number : goal.returns-in_err-put_number

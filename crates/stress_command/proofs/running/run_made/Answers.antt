@@ -1,6 +1,6 @@
 use Rattle.std.proofs.Common.{map, subst}
-use Rattle.mpy_endings.specs.Ending.{IsRunStatus}
-use Rattle.mpy_endings.proofs.Statuses.{not_eight}
+use Rattle.run_commands.specs.mpy_endings.Ending.{IsRunStatus}
+use Rattle.run_commands.proofs.mpy_endings_lemmas.Statuses.{not_eight}
 use Rattle.stress_command.proofs.Front.{cut_short, ran}
 use Rattle.stress_command.proofs.running.run_made.Goals as goal
 

@@ -1,5 +1,5 @@
 use Rattle.std.proofs.Common.{◌≡◌, ℕ, Some, Ok, map, ap, refl, subst}
-use Rattle.mpy_endings.specs.Ending.{IsRunStatus}
+use Rattle.run_commands.specs.mpy_endings.Ending.{IsRunStatus}
 use Rattle.run_commands.specs.Ready.{GoLibrary}
 use Rattle.run_commands.proofs.Running.{says_run, ends_run}
 use Rattle.stress_command.specs.Stress.{sinks, stress_files, stress_name}

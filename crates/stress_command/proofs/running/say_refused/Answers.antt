@@ -1,5 +1,5 @@
-use Rattle.mpy_endings.specs.Line.{line_of}
-use Rattle.mpy_endings.proofs.Said.{says_from}
+use Rattle.run_commands.specs.mpy_endings.Line.{line_of}
+use Rattle.run_commands.proofs.mpy_endings_lemmas.Said.{says_from}
 use Rattle.stress_command.specs.Stress.{stress_name}
 use Rattle.stress_command.proofs.running.say_refused.Goals as goal
 

@@ -1,5 +1,5 @@
 use Rattle.std.proofs.Common.{map, refl, subst}
-use Rattle.mpy_endings.specs.Ending.{IsRunStatus}
+use Rattle.run_commands.specs.mpy_endings.Ending.{IsRunStatus}
 use Rattle.run_commands.proofs.Running.{unloaded_unrun}
 use Rattle.stress_command.specs.Stress.{sinks}
 use Rattle.stress_command.proofs.Front.{no_library}

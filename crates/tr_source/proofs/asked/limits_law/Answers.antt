@@ -1,5 +1,5 @@
 use Rattle.std.proofs.Common.{[], refl}
-use Rattle.bc_scheme.specs.py_meaning.Program.{source_texts}
+use Rattle.emit_measures.specs.bc_scheme.py_meaning.Program.{source_texts}
 use Rattle.tr_source.specs.Accepted.{source_of}
 use Rattle.tr_source.proofs.Limits.{under_name, all_limited}
 use Rattle.tr_source.proofs.asked.limits_law.Goals as goal

@@ -1,6 +1,6 @@
 use Rattle.std.proofs.Common.{◌≡◌, ℕ, ℤ, Some, sym, subst, ◌∙◌, rules, SFits, w32}
 use Rattle.std.proofs.lemmas.Int.{to_z-of_z}
-use Rattle.bc_progress.specs.py_primitives.Iterables.{place_at}
+use Rattle.state_values.specs.bc_progress.py_primitives.Iterables.{place_at}
 use Rattle.vm_at_once.proofs.Indexing.{item_outcome}
 use Rattle.vm_at_once.proofs.items.item_in.Goals as goal
 

@@ -1,12 +1,12 @@
 use Rattle.std.proofs.Common.{ℤ, Ok, refl, arith, length, ◌<◌, ◌≤◌, subst, rules, SFits, w32}
 use Rattle.std.proofs.lemmas.Int.{to_z-of_z}
-use Rattle.bc_progress.specs.py_primitives.Uses.{get_item}
-use Rattle.prim_assignments.specs.prim_walks.Plain.{plain, plain_heap}
-use Rattle.prim_assignments.specs.prim_faults.Outcomes.{IsOutcome}
-use Rattle.prim_assignments.specs.arena_heap.declared.value.Value.TheVariants as values
-use Rattle.bc_progress.specs.bc_ops.declared.instr.Op.TheVariants as ops
-use Rattle.bc_progress.specs.bc_ops.declared.instr.Instr.TheVariants as instrs
-use Rattle.bc_progress.specs.bc_machine.Library.{Plain}
+use Rattle.state_values.specs.bc_progress.py_primitives.Uses.{get_item}
+use Rattle.state_values.specs.prim_assignments.prim_walks.Plain.{plain, plain_heap}
+use Rattle.state_values.specs.prim_assignments.prim_faults.Outcomes.{IsOutcome}
+use Rattle.state_values.specs.prim_assignments.arena_heap.declared.value.Value.TheVariants as values
+use Rattle.state_values.specs.bc_progress.bc_ops.declared.instr.Op.TheVariants as ops
+use Rattle.state_values.specs.bc_progress.bc_ops.declared.instr.Instr.TheVariants as instrs
+use Rattle.state_values.specs.bc_progress.bc_machine.Library.{Plain}
 use Rattle.state_values.specs.vm_frames.Calls.{Call}
 use Rattle.state_values.proofs.frame_moves_lemmas.Stepping.{weaker}
 use Rattle.state_values.specs.vm_fetching.declared.operations.PlainOp.TheVariants as plain_ops

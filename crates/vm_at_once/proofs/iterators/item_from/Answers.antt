@@ -1,8 +1,8 @@
 use Rattle.std.proofs.Common.{arith}
-use Rattle.prim_assignments.specs.prim_walks.Plain.{plain, plain_heap}
-use Rattle.bc_progress.specs.py_primitives.Iterables.{item_of}
-use Rattle.prim_assignments.proofs.prim_faults_lemmas.Outcomes.{gives_outcome}
-use Rattle.prim_assignments.proofs.prim_operators_lemmas.ItemsShown.{item_plain, length_plain}
+use Rattle.state_values.specs.prim_assignments.prim_walks.Plain.{plain, plain_heap}
+use Rattle.state_values.specs.bc_progress.py_primitives.Iterables.{item_of}
+use Rattle.state_values.proofs.prim_assignments_lemmas.prim_faults_lemmas.Outcomes.{gives_outcome}
+use Rattle.state_values.proofs.prim_assignments_lemmas.prim_operators_lemmas.ItemsShown.{item_plain, length_plain}
 use Rattle.vm_at_once.proofs.iterators.item_from.Goals as goal
 
 pub returns-then-at-item_count-clause-within : goal.returns-then-at-item_count-clause-within

@@ -1,7 +1,7 @@
 use Rattle.std.proofs.Common.{Option, refl, subst}
 use Rattle.std.specs.Prelude.{IfSome}
-use Rattle.prim_assignments.specs.arena_heap.declared.value.Value.{Value}
-use Rattle.prim_assignments.specs.prim_faults.Faults.{IsKnown}
+use Rattle.state_values.specs.prim_assignments.arena_heap.declared.value.Value.{Value}
+use Rattle.state_values.specs.prim_assignments.prim_faults.Faults.{IsKnown}
 use Rattle.state_values.proofs.frame_values_lemmas.Calls.{local_within, same_local}
 use Rattle.vm_at_once.proofs.Loading as loading
 use Rattle.vm_at_once.proofs.locals.load.Goals as goal

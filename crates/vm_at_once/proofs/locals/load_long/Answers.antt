@@ -1,7 +1,7 @@
 use Rattle.std.proofs.Common.{refl}
-use Rattle.bc_progress.specs.bc_ops.declared.instr.Op.TheVariants as ops
-use Rattle.bc_progress.specs.bc_ops.declared.instr.Instr.TheVariants as instrs
-use Rattle.bc_progress.specs.bc_machine.Library.{Plain}
+use Rattle.state_values.specs.bc_progress.bc_ops.declared.instr.Op.TheVariants as ops
+use Rattle.state_values.specs.bc_progress.bc_ops.declared.instr.Instr.TheVariants as instrs
+use Rattle.state_values.specs.bc_progress.bc_machine.Library.{Plain}
 use Rattle.state_values.specs.vm_fetching.declared.instruction.Fetched.{Fetched}
 use Rattle.state_values.specs.vm_fetching.declared.instruction.Instruction.TheVariants as fetched
 use Rattle.state_values.specs.vm_fetching.declared.operations.NumberOp.TheVariants as number_ops

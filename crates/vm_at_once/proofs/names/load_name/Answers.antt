@@ -1,8 +1,8 @@
 use Rattle.std.proofs.Common.{ℕ, List, Option, ap}
-use Rattle.bc_progress.specs.bc_ops.declared.instr.Op.TheVariants as ops
-use Rattle.prim_assignments.specs.arena_heap.declared.value.StrNo.{StrNo}
-use Rattle.prim_assignments.specs.arena_objects.Iterables.{or_nothing}
-use Rattle.bc_progress.specs.bc_machine.Library.{Names}
+use Rattle.state_values.specs.bc_progress.bc_ops.declared.instr.Op.TheVariants as ops
+use Rattle.state_values.specs.prim_assignments.arena_heap.declared.value.StrNo.{StrNo}
+use Rattle.state_values.specs.prim_assignments.arena_objects.Iterables.{or_nothing}
+use Rattle.state_values.specs.bc_progress.bc_machine.Library.{Names}
 use Rattle.state_values.specs.vm_fetching.declared.instruction.Instruction.TheVariants as fetched
 use Rattle.state_values.specs.vm_fetching.declared.operations.NameOp.TheVariants as name_ops
 use Rattle.vm_at_once.proofs.Ending as ending

@@ -1,7 +1,7 @@
 use Rattle.std.proofs.Common.{ℤ, Result, sym, ap}
-use Rattle.bc_progress.specs.py_values.declared.small_int.NumFault.{NumFault}
-use Rattle.bc_progress.specs.py_primitives.Operators.{in_place, binary, gives_number, Add, Subtract, Multiply, FloorDivide, Modulo}
-use Rattle.bc_progress.specs.bc_machine.Operations.{operator_at}
+use Rattle.state_values.specs.bc_progress.py_values.declared.small_int.NumFault.{NumFault}
+use Rattle.state_values.specs.bc_progress.py_primitives.Operators.{in_place, binary, gives_number, Add, Subtract, Multiply, FloorDivide, Modulo}
+use Rattle.state_values.specs.bc_progress.bc_machine.Operations.{operator_at}
 use Rattle.vm_at_once.proofs.numbers.answer_of.Goals as goal
 
 pub returns-in-14 : goal.returns-in-14

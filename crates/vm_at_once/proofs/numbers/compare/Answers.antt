@@ -2,8 +2,8 @@ use Rattle.std.proofs.Common.{sym, ap, ◌∙◌, w32}
 use Rattle.std.proofs.lemmas.Int.{to_z-of_z}
 use Rattle.std.specs.Prelude.{not}
 use Rattle.std.specs.Ordering.{is_lt, is_gt, is_le, is_ge}
-use Rattle.bc_progress.specs.py_primitives.Order.{Below, Above, NotAbove, NotBelow}
-use Rattle.bc_progress.specs.bc_machine.Operations.{operator_at}
+use Rattle.state_values.specs.bc_progress.py_primitives.Order.{Below, Above, NotAbove, NotBelow}
+use Rattle.state_values.specs.bc_progress.bc_machine.Operations.{operator_at}
 use Rattle.vm_at_once.proofs.Comparing.{ordered, equalled, told_apart}
 use Rattle.vm_at_once.proofs.numbers.compare.Goals as goal
 

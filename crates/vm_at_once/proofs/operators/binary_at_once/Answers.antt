@@ -1,7 +1,7 @@
 use Rattle.std.proofs.Common.{refl, arith, rules, length, ◌<◌, ◌≤◌, SFits, w32}
 use Rattle.std.proofs.lemmas.Int.{to_z-of_z}
-use Rattle.bc_progress.specs.bc_ops.declared.instr.Instr.TheVariants as instrs
-use Rattle.bc_progress.specs.bc_machine.Library.{Plain}
+use Rattle.state_values.specs.bc_progress.bc_ops.declared.instr.Instr.TheVariants as instrs
+use Rattle.state_values.specs.bc_progress.bc_machine.Library.{Plain}
 use Rattle.state_values.specs.vm_frames.Calls.{Call}
 use Rattle.state_values.proofs.frame_moves_lemmas.Stepping.{weaker}
 use Rattle.state_values.specs.vm_fetching.declared.instruction.Instruction.TheVariants as fetched

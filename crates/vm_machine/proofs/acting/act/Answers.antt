@@ -1,9 +1,9 @@
 use Rattle.std.proofs.Common.{refl, subst}
-use Rattle.prim_faults.specs.arena_heap.declared.value.StrNo.TheVariants as strs
-use Rattle.state_calls.specs.vm_fetching.declared.instruction.Instruction.TheVariants as fetched
-use Rattle.state_calls.specs.vm_fetching.declared.operations.NameOp.TheVariants as name_ops
-use Rattle.state_calls.specs.vm_fetching.declared.operations.NumberOp.TheVariants as number_ops
-use Rattle.state_calls.specs.vm_fetching.declared.operations.PlainOp.TheVariants as plain_ops
+use Rattle.state_steps.specs.prim_faults.arena_heap.declared.value.StrNo.TheVariants as strs
+use Rattle.vm_kept.specs.state_calls.vm_fetching.declared.instruction.Instruction.TheVariants as fetched
+use Rattle.vm_kept.specs.state_calls.vm_fetching.declared.operations.NameOp.TheVariants as name_ops
+use Rattle.vm_kept.specs.state_calls.vm_fetching.declared.operations.NumberOp.TheVariants as number_ops
+use Rattle.vm_kept.specs.state_calls.vm_fetching.declared.operations.PlainOp.TheVariants as plain_ops
 use Rattle.vm_machine.specs.Forms.{HasForm, IsNoCall}
 use Rattle.vm_machine.proofs.Fetched.{at_form, without_any}
 use Rattle.vm_machine.proofs.acting.act.Goals as goal

@@ -1,6 +1,6 @@
 use Rattle.std.proofs.Common.{refl}
-use Rattle.state_calls.specs.vm_fetching.declared.operations.PlainOp.TheVariants as plain_ops
-use Rattle.state_exits.specs.Running.{fetched_plain}
+use Rattle.vm_kept.specs.state_calls.vm_fetching.declared.operations.PlainOp.TheVariants as plain_ops
+use Rattle.vm_kept.specs.state_exits.Running.{fetched_plain}
 use Rattle.vm_machine.proofs.Fetched.{in_program, runs_with}
 use Rattle.vm_machine.proofs.acting.finish_on.Goals as goal
 

@@ -1,7 +1,7 @@
 use Rattle.std.proofs.Common.{refl, sym, subst, ◌∙◌}
 use Rattle.bc_library.specs.Shelf.{Shelf}
-use Rattle.state_exits.specs.Importing.{fetched_import}
-use Rattle.state_exits.specs.Running.{RunsWith}
+use Rattle.vm_kept.specs.state_exits.Importing.{fetched_import}
+use Rattle.vm_kept.specs.state_exits.Running.{RunsWith}
 use Rattle.bc_library.specs.Constants.{items_at, text_at}
 use Rattle.vm_machine.proofs.Texts.{name_text}
 use Rattle.vm_machine.proofs.Fetched.{few, in_program, runs_with}

@@ -1,5 +1,5 @@
 use Rattle.std.proofs.Common.{refl}
-use Rattle.state_exits.specs.Running.{fetched_plain}
+use Rattle.vm_kept.specs.state_exits.Running.{fetched_plain}
 use Rattle.vm_machine.proofs.Fetched.{in_program, runs_with, without_visits}
 use Rattle.vm_machine.proofs.acting.leave_on.Goals as goal
 

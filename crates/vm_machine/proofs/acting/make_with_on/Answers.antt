@@ -1,6 +1,6 @@
 use Rattle.std.proofs.Common.{refl}
-use Rattle.state_calls.specs.vm_fetching.declared.instruction.Instruction.TheVariants as fetched
-use Rattle.state_calls.specs.vm_fetching.declared.operations.NumberOp.TheVariants as number_ops
+use Rattle.vm_kept.specs.state_calls.vm_fetching.declared.instruction.Instruction.TheVariants as fetched
+use Rattle.vm_kept.specs.state_calls.vm_fetching.declared.operations.NumberOp.TheVariants as number_ops
 use Rattle.vm_machine.proofs.Fetched.{in_program, runs_with}
 use Rattle.vm_machine.proofs.acting.make_with_on.Goals as goal
 

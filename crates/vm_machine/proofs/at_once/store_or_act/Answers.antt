@@ -1,5 +1,5 @@
 use Rattle.std.proofs.Common.{sym, subst}
-use Rattle.state_calls.specs.bc_rows.declared.row.Row.{Row}
+use Rattle.vm_kept.specs.state_calls.bc_rows.declared.row.Row.{Row}
 use Rattle.vm_starting.specs.declared.opening.Vm.{Vm}
 use Rattle.vm_machine.specs.Acting.{HasFetched, Stepped}
 use Rattle.vm_machine.proofs.AtOnce.{at_once, stays}

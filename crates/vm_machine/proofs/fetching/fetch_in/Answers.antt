@@ -1,5 +1,5 @@
 use Rattle.std.proofs.Common.{◌≡◌, ℕ, sym, subst, ◌∙◌}
-use Rattle.vm_frames.specs.Calls.{OfRunning}
+use Rattle.state_steps.specs.vm_frames.Calls.{OfRunning}
 use Rattle.vm_machine.proofs.Standing as fetching
 use Rattle.vm_machine.proofs.fetching.fetch_in.Goals as goal
 

@@ -1,7 +1,7 @@
 use Rattle.std.proofs.Common.{sym, ap, subst, ◌∙◌}
 use Rattle.bc_library.specs.Shelf.{Shelf}
-use Rattle.state_calls.specs.bc_rows.Codes.{code_numbered}
-use Rattle.state_calls.specs.bc_rows.Rows.{IsRow}
+use Rattle.vm_kept.specs.state_calls.bc_rows.Codes.{code_numbered}
+use Rattle.vm_kept.specs.state_calls.bc_rows.Rows.{IsRow}
 use Rattle.vm_machine.proofs.AtOnce.{read_of}
 use Rattle.vm_machine.proofs.Standing as fetching
 use Rattle.vm_machine.proofs.fetching.row_of.Goals as goal

@@ -1,5 +1,5 @@
 use Rattle.std.proofs.Common.{◌∙◌, arith}
-use Rattle.vm_frames.specs.py_effects.Ends.{new_world}
+use Rattle.state_steps.specs.vm_frames.py_effects.Ends.{new_world}
 use Rattle.vm_machine.proofs.Opened.{starts_at, opened}
 use Rattle.vm_machine.proofs.opening.open.Goals as goal
 

@@ -1,8 +1,8 @@
 use Rattle.std.proofs.Common.{sym, ap, ◌∙◌, refl}
 use Rattle.std.specs.Prelude.{min}
 use Rattle.bc_library.specs.Constants.{items_at, text_at}
-use Rattle.state_calls.specs.vm_fetching.declared.instruction.Instruction.{Instruction}
-use Rattle.state_calls.specs.vm_fetching.declared.instruction.Instruction.TheVariants as fetched
+use Rattle.vm_kept.specs.state_calls.vm_fetching.declared.instruction.Instruction.{Instruction}
+use Rattle.vm_kept.specs.state_calls.vm_fetching.declared.instruction.Instruction.TheVariants as fetched
 use Rattle.state_steps.specs.Values.{value_visits}
 use Rattle.vm_machine.proofs.Fetched.{at_form, runs_over, no_visits}
 use Rattle.vm_machine.proofs.paying.visits_of.Goals as goal

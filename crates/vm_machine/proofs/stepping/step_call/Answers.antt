@@ -1,8 +1,8 @@
 use Rattle.std.proofs.Common.{◌≡◌, ◌+◌, [], refl, arith}
 use Rattle.std.specs.Prelude.{map}
 use Rattle.port_set.proofs.Counting.{counts_same}
-use Rattle.vm_frames.specs.py_effects.Ends.{new_world}
-use Rattle.state_calls.specs.frame_exits.Ends.{with_modules}
+use Rattle.state_steps.specs.vm_frames.py_effects.Ends.{new_world}
+use Rattle.vm_kept.specs.state_calls.frame_exits.Ends.{with_modules}
 use Rattle.vm_machine.proofs.Called.{at_call, call_paid, call_made, vm_called, call_failed, vm_failed}
 use Rattle.vm_machine.proofs.Fetched.{fetched_holding, runs_within}
 use Rattle.vm_machine.proofs.Machines.{vm_paid}

@@ -1,7 +1,7 @@
 use Rattle.std.proofs.Common.{refl, subst}
 use Rattle.std.specs.Prelude.{map}
 use Rattle.port_set.proofs.Counting.{counts_same}
-use Rattle.state_calls.specs.vm_fetching.declared.instruction.Instruction.TheVariants as fetched
+use Rattle.vm_kept.specs.state_calls.vm_fetching.declared.instruction.Instruction.TheVariants as fetched
 use Rattle.vm_machine.specs.Forms.{HasForm}
 use Rattle.vm_machine.proofs.Fetched.{at_form}
 use Rattle.vm_machine.proofs.Runs.{stepped_runs}

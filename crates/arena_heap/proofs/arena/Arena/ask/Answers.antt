@@ -1,6 +1,6 @@
 use Rattle.std.proofs.Common.{arith, ◌≡◌, ◌-◌, ◌^◌, min, length, sym, ◌∙◌, ap, subst, true, false}
 use Rattle.std.proofs.Math.Path.{ap₂}
-use Rattle.mpy_base.specs.Weights.{no_room, Fits}
+use Rattle.qstr_pool.specs.mpy_base.Weights.{no_room, Fits}
 use Rattle.arena_heap.proofs.Views.{no_cells, no_bytes, fits_is, fits_cells}
 use Rattle.arena_heap.proofs.arena.Arena.ask.Goals as goal
 

@@ -1,5 +1,5 @@
 use Rattle.std.proofs.Common.{ℕ, ◌+◌, ◌-◌, ◌*◌, ◌^◌, ◌<◌, ◌≡◌, min, sym, ◌∙◌, ap, subst, arith, le-mul_of_pos_right, mul_comm}
-use Rattle.mpy_base.specs.Weights.{Fits, no_room, room_for}
+use Rattle.qstr_pool.specs.mpy_base.Weights.{Fits, no_room, room_for}
 use Rattle.std.proofs.lemmas.Result.{err_from_is_err_and}
 use Rattle.arena_heap.proofs.Asking.{room_small, asked_for_room}
 use Rattle.arena_heap.proofs.Views.{no_room-capped, fits_capped, fits_uncapped, on_err}

@@ -3,10 +3,10 @@ use Rattle.std.proofs.Math.Path.{ap₂}
 use Rattle.std.proofs.lemmas.List.Elements.{All-nil}
 use Rattle.arena_heap.specs.declared.cells.Cell.{Cell}
 use Rattle.arena_heap.specs.declared.cells.Cell.TheVariants as variants
-use Rattle.mpy_base.specs.World.{kind_of, DictObject}
-use Rattle.mpy_base.specs.Weights.{Fits, more_cells, room_for}
-use Rattle.mpy_base.proofs.Worlds.{later_made, object_made}
-use Rattle.mpy_base.proofs.Rooms.{room_is}
+use Rattle.qstr_pool.specs.mpy_base.World.{kind_of, DictObject}
+use Rattle.qstr_pool.specs.mpy_base.Weights.{Fits, more_cells, room_for}
+use Rattle.qstr_pool.proofs.mpy_base_lemmas.Worlds.{later_made, object_made}
+use Rattle.qstr_pool.proofs.mpy_base_lemmas.Rooms.{room_is}
 use Rattle.arena_heap.specs.Values.{ArenaObject, Leads, IsKey}
 use Rattle.arena_heap.specs.Cells.{blank, Holds}
 use Rattle.arena_heap.proofs.NewObjects.{dict_made}

@@ -2,9 +2,9 @@ use Rattle.std.proofs.Common.{List, ◌∷◌, ◌++◌, Some, None, sym, ◌∙
 use Rattle.arena_heap.specs.declared.value.Value.TheVariants as values
 use Rattle.arena_heap.specs.declared.cells.Cell.{Cell}
 use Rattle.arena_heap.specs.declared.cells.Cell.TheVariants as variants
-use Rattle.mpy_base.specs.World.{kind_of, FunctionObject}
-use Rattle.mpy_base.specs.Weights.{more_cells}
-use Rattle.mpy_base.proofs.Worlds.{later_made, object_made}
+use Rattle.qstr_pool.specs.mpy_base.World.{kind_of, FunctionObject}
+use Rattle.qstr_pool.specs.mpy_base.Weights.{more_cells}
+use Rattle.qstr_pool.proofs.mpy_base_lemmas.Worlds.{later_made, object_made}
 use Rattle.arena_heap.specs.Values.{ArenaObject, Leads}
 use Rattle.arena_heap.specs.Cells.{blank, Holds}
 use Rattle.arena_heap.proofs.NewObjects.{function_made}

@@ -5,9 +5,9 @@ use Rattle.std.proofs.lemmas.List.Elements.{All-replicate}
 use Rattle.arena_heap.specs.declared.value.Value.TheVariants as values
 use Rattle.arena_heap.specs.declared.cells.Cell.{Cell}
 use Rattle.arena_heap.specs.declared.value.Value.{Value}
-use Rattle.mpy_base.specs.World.{kind_of, Heap, TupleObject}
-use Rattle.mpy_base.specs.Weights.{Fits, more_cells}
-use Rattle.mpy_base.proofs.Worlds.{later_made, object_made}
+use Rattle.qstr_pool.specs.mpy_base.World.{kind_of, Heap, TupleObject}
+use Rattle.qstr_pool.specs.mpy_base.Weights.{Fits, more_cells}
+use Rattle.qstr_pool.proofs.mpy_base_lemmas.Worlds.{later_made, object_made}
 use Rattle.arena_heap.specs.Values.{ArenaObject, Leads}
 use Rattle.arena_heap.specs.Cells.{Holds}
 use Rattle.arena_heap.proofs.NewObjects.{tuple_made}

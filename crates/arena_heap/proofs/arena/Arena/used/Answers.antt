@@ -1,5 +1,5 @@
 use Rattle.std.proofs.Common.{arith, ◌≡◌, length, sym, ◌∙◌, ap}
-use Rattle.mpy_base.specs.Weights.{used}
+use Rattle.qstr_pool.specs.mpy_base.Weights.{used}
 use Rattle.arena_heap.proofs.Views.{used_is}
 use Rattle.arena_heap.proofs.arena.Arena.used.Goals as goal
 

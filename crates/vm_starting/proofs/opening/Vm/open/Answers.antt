@@ -6,7 +6,7 @@ use Rattle.mpy_base.specs.World.{Heap}
 use Rattle.frame_calls.specs.arena_heap.declared.value.Value.{Value}
 use Rattle.frame_calls.specs.bc_machine.Library.{Name}
 use Rattle.frame_calls.specs.bc_machine.Machine.{start}
-use Rattle.py_effects.specs.Ends.{new_world}
+use Rattle.bc_progress.specs.py_effects.Ends.{new_world}
 use Rattle.vm_states.specs.vm_frames.Calls.{Calls}
 use Rattle.vm_states.specs.frame_moves.Outcomes.{world_of}
 use Rattle.vm_states.specs.frame_exits.declared.ends.End.{End}
