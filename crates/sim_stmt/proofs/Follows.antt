@@ -15,6 +15,7 @@ use Rattle.bc_scheme.specs.bc_machine.Parts.{looked_on, new_frame}
 use Rattle.bc_scheme.specs.bc_machine.Operations.{Operands}
 use Rattle.bc_scheme.specs.bc_machine.Step as steps
 use Rattle.bc_scheme.specs.bc_machine.Step.{call_function}
+use Rattle.bc_scheme.specs.Context.{number}
 use Rattle.bc_scheme.specs.Link.{Links}
 use Rattle.sim_stmt.specs.Sites.{Site, at, Sited, Fits}
 use Rattle.sim_stmt.specs.Order.{InOrder}
@@ -85,7 +86,7 @@ module _ (program : Program) (library : Library) (links : Links program library)
       let fits1 : Fits site.frame.entries (length below) = fits_one site.frame.entries (Value callee) slots fits in
       let st = given_on args keys below in
       goes library K _ _ t _ _ _ 3 _ order
-      (applied K (omega arith) (omega arith) depth site line p (Rattle.bc_scheme.specs.Context.number ops.CallFunction (length args + 256 * length keys)) env st slots t w callee args keys sited has (quiet (suc p) (omega arith) (omega arith))
+      (applied K (omega arith) (omega arith) depth site line p (number ops.CallFunction (length args + 256 * length keys)) env st slots t w callee args keys sited has (quiet (suc p) (omega arith) (omega arith))
       (given_falls site env args keys below slots fits1 (falls_over site env (Value callee ∷ []) slots fits)) fits le
       (λ paid. ap (λ (o : Operands). call_function library (place_at site.meant line) paid (at site.frame p env st) site.waiting w o o.below) (operands_are (length args) (length keys) args keys below refl refl small)))
 
@@ -147,6 +148,7 @@ module _ (program : Program) (library : Library) (links : Links program library)
     waits = refl;
     last = is.stands.last;
     body = is.stands.body;
+    below = record { quiet = λ r l h. refl; fits = tt; kept = refl; iter = tt };
   }
 
   pub texts : (name : Name) (number : ℕ) (text : Text) → content_at program name number ≡ Some (OfText text) → (names : ℕ) (role : Role) (waiting : List Frame) → HasSite library name number text names role waiting

@@ -149,7 +149,7 @@ module _ (program : Program) (library : Library) (K : ℕ) (some : 1 ≤ K) (n :
 
   -- on in the clause, from where it is left like the site around it
   normal_in : (k : Site) (a : Around) (m end h x : ℕ) (slots : List Slot) (d : Done) (env : Locals) (t y size : ℕ) (w : PlainWorld) (nx : Locals → ℕ → PlainWorld → SOut) → Fits k.frame.entries (length slots)
-      → GoesS library K 0 k a end slots (Running 0 (at (inside k (running h false (length slots) (Some x))).f m env slots) k.waiting w) t y size (nx env t w)
+      → GoesS library K 0 k a end slots (Running 0 (at (inside k (running h false (length slots) (Some x))).frame m env slots) k.waiting w) t y size (nx env t w)
       → GoesS library K 0 k a end slots (state_of (inside k (running h false (length slots) (Some x))) (deeper a) m slots d env w) t y size (on_normal nx d env t w)
   normal_in k a m end h x slots Normal env t y size w nx fits g = g
   normal_in k a m end h x slots Broke env t y size w nx fits g = g_wide library K _ _ t t 0 0 0 0 0 y 0 size (omega arith) (omega arith) (g_here library K _ _ t (out_handler k a m end h (Some x) slots Broke env w fits tt))

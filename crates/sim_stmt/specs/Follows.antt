@@ -1,5 +1,5 @@
 -- The machine follows the meaning: expressions, statements, calls and imports of a program, in a library of its modules.
-use Rattle.std.specs.Prelude.{◌≡◌, ℕ, suc, ◌+◌, ◌-◌, ◌*◌, ◌≤◌, ◌<◌, pos, List, [], ◌∷◌, length, false, Some}
+use Rattle.std.specs.Prelude.{◌≡◌, ℕ, suc, ◌+◌, ◌-◌, ◌*◌, ◌≤◌, ◌<◌, pos, List, [], ◌∷◌, length, false}
 use Rattle.bc_scheme.specs.mpy_base.Val.{Val, Int, PlainWorld}
 use Rattle.bc_scheme.specs.bc_ops.declared.instr.Op.TheVariants as ops
 use Rattle.bc_scheme.specs.py_effects.Names.{Locals, Looked}
@@ -102,7 +102,12 @@ module _ (program : Program) (library : Library) where
       → GoesTo library (λ done w1. standing site (suc p) env (Value (module_named w1 (target name)) ∷ slots) w1) site env slots
       (standing site p env (Value names ∷ Value (Int (pos 0)) ∷ slots) w) t 5 (import_name program (sem program depth).exec site.meant (place_at site.meant line) name t w)
 
--- the library's code of a text, in a frame that begins: both sides run the text, whose body stands from the code's start
+-- no loop is around the body of a text
+abbrev pub outside : (last : ℕ) → Around
+outside last = record { brk = last; cont = last; count = 0; iterator = false }
+
+-- the library's code of a text, in a frame that begins: both sides run the text, and its body stands from the code's start up to
+-- `last`, over no slots and entries
 pub record HasSite (library : Library) (name : Name) (number : ℕ) (text : Text) (names : ℕ) (role : Role) (waiting : List Frame) : Type 0 where
   pub site : Site
   pub sited : Sited library site
@@ -112,4 +117,5 @@ pub record HasSite (library : Library) (name : Name) (number : ℕ) (text : Text
   pub frame : site.frame ≡ new_frame name number site.code [] names role
   pub waits : site.waiting ≡ waiting
   pub last : ℕ
-  pub body : StandsB site.context (record { brk = last; cont = last; count = 0; iterator = false }) 0 text.body last
+  pub body : StandsB site.context (outside last) 0 text.body last
+  pub below : Below site (outside last) [] [] 0 last

@@ -48,9 +48,7 @@ pub fn order_law()
 /// Each text of a program has its code in a library of its modules, and where a frame begins on that code both sides run the
 /// text, as these laws ask.
 pub fn sites_law()
-    ensures {
-        (program : Program) (library : Library) → Links program library
+    ensures { (program : Program) (library : Library) → Links program library
         → (name : Name) (number : ℕ) (text : Text) → content_at program name number ≡ Some (OfText text)
-        → (names : ℕ) (role : Role) (waiting : List Frame) → HasSite library name number text names role waiting
-    }
+        → (names : ℕ) (role : Role) (waiting : List Frame) → HasSite library name number text names role waiting }
 {}
