@@ -6,14 +6,13 @@ use Rattle.std.specs.Prelude.{slice_get, nat_eq, if◌then◌else◌}
 use Rattle.bc_scheme.specs.mpy_base.Val.{Val, At, PlainWorld}
 use Rattle.bc_scheme.specs.py_effects.Effect.{Place}
 use Rattle.bc_scheme.specs.py_effects.Names.{Locals}
-use Rattle.bc_scheme.specs.py_meaning.Frames as meanings
 use Rattle.bc_scheme.specs.py_meaning.Frames.{place_at}
-use Rattle.bc_scheme.specs.bc_machine.Library.{Item, Code, Module, Library, entry_in, module_in, code_at}
+use Rattle.bc_scheme.specs.bc_machine.Library.{Item, Library}
 use Rattle.bc_scheme.specs.bc_machine.State.{Slot, Value, KeptReturn, Entry, Frame, State, Running, go, remark, cut, abandoned, throw_in, throw_out, throw, is_run, leave, unwind}
 use Rattle.bc_scheme.specs.bc_machine.Step.{item_step, step}
 use Rattle.bc_scheme.proofs.bc_machine_lemmas.Fetch.{fetch}
-use Rattle.bc_scheme.specs.Context.{Context, Has, Behind, line_before}
-use Rattle.sim_stmt.specs.Sites.{Site, at, shifted, Sited, Quiet, Fits}
+use Rattle.bc_scheme.specs.Context.{Has, Behind, line_before}
+use Rattle.sim_stmt.specs.Sites.{Site, at, Sited, Quiet, Fits}
 
 -- ---- sites
 

@@ -12,12 +12,12 @@ use Rattle.bc_scheme.specs.py_meaning.Program.{Program, first_file, registered_m
 use Rattle.bc_scheme.specs.py_meaning.Outcomes.{Out, EVal, EExc, EOpen, EFull, e_then, e_given, e_turns, e_does}
 use Rattle.bc_scheme.specs.py_meaning.Imports.{part_place, run_unit}
 use Rattle.bc_scheme.specs.py_meaning.Meaning as meanings
-use Rattle.bc_scheme.specs.py_meaning.Meaning.{sem, main_run, meaning}
+use Rattle.bc_scheme.specs.py_meaning.Meaning.{sem, main_run}
 use Rattle.bc_scheme.specs.py_meaning.Bounds.{left_e}
 use Rattle.bc_scheme.specs.bc_machine.Library.{Code, Library, code_at}
 use Rattle.bc_scheme.specs.bc_machine.State.{Main, State, Running, Halted, Stuck}
 use Rattle.bc_scheme.specs.bc_machine.Machine as machines
-use Rattle.bc_scheme.specs.bc_machine.Machine.{steps, begun, opened, start, run}
+use Rattle.bc_scheme.specs.bc_machine.Machine.{steps, begun, opened, start}
 use Rattle.bc_scheme.specs.bc_machine.Growth.{world_of}
 use Rattle.bc_scheme.proofs.bc_machine_lemmas.Laws as laws
 use Rattle.bc_scheme.proofs.bc_machine_lemmas.Laws.{steps_print}

@@ -1,7 +1,7 @@
 -- The machine follows an expression.
 use Rattle.std.proofs.Common.{◌≡◌, ℕ, zero, suc, pred, ◌+◌, ◌*◌, ◌≤◌, ◌<◌, Bool, true, false, List, [], ◌∷◌, length, map, Option, Some, None, refl, sym, ap, ◌∙◌, subst, arith}
 use Rattle.std.proofs.lemmas.Bool.{ltb-true}
-use Rattle.std.specs.Prelude.{Result, Ok, Err, position, bytes_eq, nat_lt, nat_le, if◌then◌else◌, codes}
+use Rattle.std.specs.Prelude.{Result, Ok, Err, position, bytes_eq, nat_lt, nat_le, if◌then◌else◌}
 use Rattle.bc_scheme.specs.mpy_base.World.{DictObject}
 use Rattle.bc_scheme.specs.mpy_base.Weights.{room_for}
 use Rattle.bc_scheme.specs.mpy_base.Val.{Val, Nil, Truth, Int, Str, Fixed, Empty, Built, At, PlainWorld}
@@ -15,7 +15,7 @@ use Rattle.bc_scheme.specs.py_tree.declared.expr.CompareOp.{CompareOp}
 use Rattle.bc_scheme.specs.py_effects.Effect.{Place, on_heap, Gives, Fails, Thrown, Filled, failed, fault_at}
 use Rattle.bc_scheme.specs.py_effects.Names.{Locals, load_local, load_global, Looked, Bound, Free, load_method, store_pair}
 use Rattle.bc_scheme.specs.py_effects.Calling as calling
-use Rattle.bc_scheme.specs.py_effects.Calling.{Callee, callee_of, call_method}
+use Rattle.bc_scheme.specs.py_effects.Calling.{callee_of, call_method}
 use Rattle.bc_scheme.specs.py_meaning.Tree.{Name, Expr, Exprs, Links, Link, Pairs, Keys, count, pair_count, key_count}
 use Rattle.bc_scheme.specs.py_meaning.Program.{Program}
 use Rattle.bc_scheme.specs.py_meaning.Outcomes.{Out, EVal, e_turns, e_then, e_given, e_does, e_choose}
@@ -28,9 +28,9 @@ use Rattle.bc_scheme.specs.bc_machine.Library.{Item, Plain, Names, Loads, Jumps,
 use Rattle.bc_scheme.specs.bc_machine.State.{Slot, Value, Object, Entry, Frame, State, Running, remark, go}
 use Rattle.bc_scheme.specs.bc_machine.Parts.{looked_on}
 use Rattle.bc_scheme.specs.bc_machine.Operations as operations
-use Rattle.bc_scheme.specs.bc_machine.Operations.{Operands, operands}
+use Rattle.bc_scheme.specs.bc_machine.Operations.{Operands}
 use Rattle.bc_scheme.specs.bc_machine.Step as steps
-use Rattle.bc_scheme.specs.bc_machine.Step.{item_step, one_step, two_step, name_step, call_function, call_looked}
+use Rattle.bc_scheme.specs.bc_machine.Step.{item_step, one_step, two_step, call_function, call_looked}
 use Rattle.bc_scheme.specs.Context.{Context, Has, plain, number, load_by, constant, unary_number, negation, comparing, arithmetic}
 use Rattle.bc_scheme.specs.Expressions.{StandsC, straight, StandsE, literal, name, one, «not», two, «and», «or», compare, chain, cond, tuple, items, dict, attr, index, call, method, StandsEs, no_expr, next, StandsO, no_operand, operand, StandsL, last, link, StandsD, no_pair, pair, StandsK, no_key, key}
 use Rattle.bc_scheme.specs.Expressions as patterns

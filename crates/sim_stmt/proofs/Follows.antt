@@ -1,5 +1,5 @@
 -- The laws of expressions, statements, calls and imports, of a program in a library of its modules.
-use Rattle.std.proofs.Common.{◌≡◌, ℕ, suc, ◌+◌, ◌-◌, ◌*◌, ◌≤◌, ◌<◌, pos, List, [], ◌∷◌, length, Some, refl, sym, ap, subst, arith}
+use Rattle.std.proofs.Common.{◌≡◌, ℕ, suc, ◌+◌, ◌-◌, ◌*◌, ◌≤◌, pos, List, [], ◌∷◌, length, Some, refl, sym, ap, subst, arith}
 use Rattle.bc_scheme.specs.mpy_base.Val.{Val, Nil, Truth, Int, Str, Fixed, Empty, Built, At, PlainWorld}
 use Rattle.bc_scheme.specs.bc_ops.declared.instr.Op.TheVariants as ops
 use Rattle.bc_scheme.specs.py_effects.Names.{Locals}
@@ -17,7 +17,7 @@ use Rattle.bc_scheme.specs.bc_machine.Step as steps
 use Rattle.bc_scheme.specs.bc_machine.Step.{call_function}
 use Rattle.bc_scheme.specs.Context.{number}
 use Rattle.bc_scheme.specs.Link.{Links}
-use Rattle.sim_stmt.specs.Sites.{Site, at, Sited, Fits}
+use Rattle.sim_stmt.specs.Sites.{Site, at, Fits}
 use Rattle.sim_stmt.specs.Order.{InOrder}
 use Rattle.sim_stmt.specs.Lands.{Goes}
 use Rattle.sim_stmt.specs.Follows.{pushed, laid, given_on, FollowsExpressions, FollowsStatements, FollowsBlocks, FollowsCalls, FollowsMethods, FollowsImports, HasSite}

@@ -5,16 +5,15 @@ use Rattle.std.specs.Prelude.{nat_lt, if◌then◌else◌}
 use Rattle.bc_scheme.specs.mpy_base.Val.{Val, PlainWorld}
 use Rattle.bc_scheme.specs.py_effects.Effect.{Effect, Place, Given, Gives, Throws, Fills, Fails, Thrown, Filled, given}
 use Rattle.bc_scheme.specs.py_effects.Names.{Locals}
-use Rattle.bc_scheme.specs.py_effects.Ends.{Memory}
 use Rattle.bc_scheme.specs.py_meaning.Outcomes.{Out, EVal, EExc, EOpen, EFull, e_turn, e_turns, e_then, e_given, e_fails, e_does, e_choose}
 use Rattle.bc_scheme.specs.py_meaning.Frames.{place_at}
 use Rattle.bc_scheme.specs.py_meaning.Bounds.{left_e}
 use Rattle.bc_scheme.specs.bc_machine.Library.{Item, Library}
-use Rattle.bc_scheme.specs.bc_machine.State.{Slot, Value, Frame, State, Running, Halted, Stuck, go, remark, throw, fail, on_given}
+use Rattle.bc_scheme.specs.bc_machine.State.{Slot, Value, Frame, State, Running, go, remark, throw, fail, on_given}
 use Rattle.bc_scheme.specs.bc_machine.Step.{item_step, paying, step}
 use Rattle.bc_scheme.specs.Context.{Has}
 use Rattle.sim_stmt.specs.Sites.{Site, at, Sited, Fits}
-use Rattle.sim_stmt.specs.Lands.{IsGoing, Lands, valued}
+use Rattle.sim_stmt.specs.Lands.{Lands, valued}
 use Rattle.sim_stmt.proofs.Goes.{g_then, GoesIn, g_here, g_open, g_wide, g_turn, g_pay, g_step, g_visit, g_map, g_bind}
 use Rattle.sim_stmt.proofs.Base.{stepped, thrown, went}
 

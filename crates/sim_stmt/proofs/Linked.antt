@@ -13,7 +13,7 @@ use Rattle.bc_scheme.specs.bc_machine.Library as libraries
 use Rattle.bc_scheme.specs.bc_machine.Library.{Line, line_of, Code, Library, Holds, module_in, code_in, code_at, size_of, sizes_of, numbers_from, codes_from, codes_of, module_of}
 use Rattle.bc_scheme.specs.py_meaning.Tree.{Name, Function, functions}
 use Rattle.bc_scheme.specs.py_meaning.Program as programs
-use Rattle.bc_scheme.specs.py_meaning.Program.{Source, Unit, Single, Merge, Units, Part, Parts, Runs, Refused, Program, Text, Content, OfText, OfParts, first_file, first_file_of, module_text, function_texts, source_texts, contents, contents_of, entry_in, unit_in, unit_of, content_at}
+use Rattle.bc_scheme.specs.py_meaning.Program.{Source, Unit, Single, Merge, Units, Part, Parts, Runs, Refused, Program, Text, Content, OfText, first_file, first_file_of, module_text, function_texts, source_texts, contents, contents_of, entry_in, unit_in}
 use Rattle.bc_scheme.specs.Statements.{StandsB}
 use Rattle.bc_scheme.specs.Translation.{own, StandsCode, StandAll, Translates}
 use Rattle.bc_scheme.specs.Merge.{calls, on_line_1, outer_body, trees_of, merge_of}

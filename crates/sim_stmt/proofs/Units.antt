@@ -28,7 +28,7 @@ use Rattle.bc_scheme.specs.bc_machine.State as states
 use Rattle.bc_scheme.specs.bc_machine.State.{Slot, Value, Role, Called, Frame, State, Running, Halted, remark, abandoned, give, throw_out}
 use Rattle.bc_scheme.specs.bc_machine.Parts.{has_depth, new_frame}
 use Rattle.bc_scheme.specs.bc_machine.Step as steps
-use Rattle.bc_scheme.specs.bc_machine.Step.{item_step, child_of, step}
+use Rattle.bc_scheme.specs.bc_machine.Step.{item_step, child_of}
 use Rattle.bc_scheme.specs.Context.{Behind, plain, number}
 use Rattle.bc_scheme.specs.Statements.{Around}
 use Rattle.sim_stmt.specs.Sites.{Site, at, Sited}

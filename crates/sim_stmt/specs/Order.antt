@@ -3,7 +3,7 @@ use Rattle.std.specs.Prelude.{◌≡◌, ℕ, codes}
 use Rattle.bc_scheme.specs.mpy_base.Val.{PlainWorld}
 use Rattle.bc_scheme.specs.py_effects.Growth.{IsRegistered}
 use Rattle.bc_scheme.specs.py_effects.Heaps.{NamesStand}
-use Rattle.bc_scheme.specs.bc_machine.Library.{Name, Library}
+use Rattle.bc_scheme.specs.bc_machine.Library.{Library}
 use Rattle.bc_scheme.specs.bc_machine.State.{Role, State}
 use Rattle.bc_scheme.specs.bc_machine.Growth.{OfModule, StateFits, StateHolds}
 use Rattle.sim_stmt.specs.Rooms.{StateRoom}
