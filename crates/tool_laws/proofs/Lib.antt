@@ -1,3 +1,17 @@
+pub mod Lists
 pub mod Opened
 pub mod Singles
 pub mod Merges
+pub mod Comparing
+pub mod CheckedAs
+pub mod Crossed
+pub mod Frozen
+pub mod Freezing
+pub mod Images
+pub mod Migrating
+pub mod Boards
+pub mod Libraries
+pub mod Running
+pub mod Statuses
+pub mod Stressing
+pub mod Ended
