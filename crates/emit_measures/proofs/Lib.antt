@@ -5,6 +5,7 @@ pub mod LayerLengths
 pub mod Limiting
 pub mod Locals
 pub mod Names
+pub mod Early
 pub mod Numbers
 pub mod PlainHeights
 pub mod PlainLengths

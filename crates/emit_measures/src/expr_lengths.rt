@@ -1,6 +1,7 @@
 //! The lengths of expressions, and of parts of them in a row.
 
-ghost use Rattle.std.specs.Prelude.{◌≡◌, map, position, ◌<◌, ◌≤◌};
+ghost use Rattle.std.specs.Prelude.{◌≡◌, map, ◌<◌, ◌≤◌};
+ghost use Rattle.std.specs.List.{list_any};
 ghost use Rattle.std.specs.Str.{bytes_eq};
 ghost use Rattle.bc_scheme.specs.py_meaning.Plain.{plain_expr, exprs, operands, pairs_of, keys_of};
 ghost use Rattle.bc_scheme.specs.py_meaning.Tree.{And};
@@ -13,26 +14,19 @@ use crate::number_lengths::{both, plus, three};
 use mpy_base::Text;
 use py_tree::{CompareOp, Expr};
 
-/// The slot of a name, if it is a local.
-fn place_of(locals: &[Text], name: &[u8]) -> Option<usize>
-    ensures { result ≡ position (λ local. bytes_eq name.now local) locals.now }
+/// Whether the name is one of the locals.
+fn is_among(locals: &[Text], name: &[u8]) -> bool
+    ensures { result ≡ list_any (λ local. bytes_eq name.now local) locals.now }
 {
-    locals.iter().position(|local| name == local.bytes())
+    locals.iter().any(|local| name == local.bytes())
 }
 
-/// A load of a name or a store to it. The first 16 locals have a short form.
+/// A load of a name or a store to it. The first 16 locals have a short form, and no other local is looked at.
 pub(crate) fn name_length(locals: &[Text], name: &[u8]) -> usize
     ensures { result ≡ name_wide locals.now name.now }
 {
-    match place_of(locals, name) {
-        Some(slot) => {
-            if slot < 16 {
-                return 1;
-            }
-            4
-        }
-        None => 4,
-    }
+    let early = &locals[..locals.len().min(16)];
+    if is_among(early, name) { 1 } else { 4 }
 }
 
 /// How many bytes a load of a small int takes with its operand at its longest.

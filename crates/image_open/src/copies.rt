@@ -12,10 +12,10 @@ ghost use Rattle.image_open.specs.Opens.{named, with_entries};
 use crate::modules::copy_module;
 use crate::shelving::shelve;
 use image_grammar::bc_library::{Library, library_law, modules_law};
-use image_grammar::bc_verify::{Verified, verified_law, verify};
+use image_grammar::bc_verify::{Verified, known_verified, verified_law};
 use image_grammar::{Entry, name_of};
 use mpy_base::limits::MAX_MODULES;
-use mpy_base::{Items, NoMemory, Refused, Text};
+use mpy_base::{Items, NoMemory, Text};
 use std::alloc::Global;
 
 /// A copy of a verified module.
@@ -23,11 +23,7 @@ fn copy_verified(alloc: Global, verified: &Verified) -> Result<Verified, NoMemor
     ensures { IfOk result (λ copy. copy ≡ verified.now) }
 {
     verified_law(verified);
-    match verify(alloc, copy_module(alloc, verified.module())?) {
-        Ok(copy) => Ok(copy),
-        Err((Refused::NoMemory, _)) => Err(NoMemory),
-        Err((Refused::Fault(_), _)) => unreachable!(),
-    }
+    Ok(known_verified(copy_module(alloc, verified.module())?))
 }
 
 /// A copy of a module and its name.

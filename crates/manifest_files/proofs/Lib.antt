@@ -1,6 +1,8 @@
 mod Examples
 pub mod Goes
 pub mod Names
+pub mod Passing
 mod Plain
+pub mod Quiet
 pub mod Said
 pub mod Tells

@@ -52,7 +52,7 @@ any_line files left opened name line = any_said (Says files left opened) (any_sa
 abbrev SaysOne : (List Said → Type 0) → Type 0
 SaysOne says = (first second : List Said) → says first → says second → first ≡ second
 
-one_reading : (bytes : List ℕ) (first second : List Line) → AreLines bytes first → AreLines bytes second → first ≡ second
+pub one_reading : (bytes : List ℕ) (first second : List Line) → AreLines bytes first → AreLines bytes second → first ≡ second
 one_reading bytes first second (inl p) (inl q) = p.2 ∙ ap lines_of (one_list 0 bytes p.0 q.0 p.1 q.1) ∙ sym q.2
 one_reading bytes first second (inl p) (inr q) = absurd (apart 0 bytes p.0 q.0 p.1 q.1)
 one_reading bytes first second (inr p) (inl q) = absurd (apart 0 bytes q.0 p.0 q.1 p.1)

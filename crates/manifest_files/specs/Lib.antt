@@ -4,3 +4,4 @@ pub mod Entries
 pub mod Faults
 pub mod FrozenFaults
 pub mod Plain
+pub mod Quiet

@@ -7,11 +7,14 @@ ghost use Rattle.mpy_io.specs.Files.{FileOf};
 ghost use Rattle.manifest_files.specs.declared.fault.ManifestFault.{ManifestFault as Fault};
 ghost use Rattle.manifest_files.specs.Answers.{Tells, is_failed, is_read_fault};
 ghost use Rattle.manifest_files.specs.Plain.{IsPlain};
+ghost use Rattle.manifest_files.specs.Quiet.{AllInclude, LeadsOn, AreQuiet};
 ghost use Rattle.manifest_files.specs.Entries.{Answer, Says, LineSays, AreSaid, AreEntries, IsAnswer, IsFault};
 
 use crate::fault::ManifestFault;
 use crate::following::follow;
+use crate::kept::{Quiet, is_known, keep};
 use crate::reading::read_lines;
+use indexmap::IndexMap;
 use manifest_lines::{Entry, Line};
 use mpy_base::{Refused, Text};
 use mpy_io::Folder;
@@ -41,18 +44,22 @@ fn one_line<F: Folder>(
     opened: &mut Vec<Text>,
     name: &str,
     line: &Line,
+    quiet: &mut Quiet,
     entries: &mut Vec<Entry>,
 ) -> Result<(), Refused<ManifestFault>>
-    requires { left < MAX_OPEN }
+    requires room { left < MAX_OPEN }
+    requires known { IfSome (F.files folder.old) (λ files. AreQuiet files quiet.old.entries) }
+    requires over { IfSome (F.files folder.old) (λ files. LeadsOn files opened.old.items name.now line.now) }
     ensures told { IfSome (F.files folder.old) (λ files. Tells (LineSays files left opened.old.items name.now line.now) entries.old.items result entries.new.items) }
     ensures opened { OnOk result (opened.new.items ≡ opened.old.items) }
+    ensures kept { OnOk result (IfSome (F.files folder.old) (λ files. AreQuiet files quiet.new.entries)) }
     ensures same { F.files folder.new ≡ F.files folder.old }
     ensures cause { Counts (F.count folder.old) (F.count folder.new) (is_failed result) }
     ensures plain { All IsPlain entries.old.items → OnOk result (All IsPlain entries.new.items) }
 {
     match follow(alloc, opened, name, line, entries) {
         Ok(None) => Ok(()),
-        Ok(Some(inner)) => manifest(alloc, folder, left, opened, text_of(&inner), entries),
+        Ok(Some(inner)) => once(alloc, folder, left, opened, text_of(&inner), quiet, entries),
         Err(refused) => Err(refused),
     }
 }
@@ -66,20 +73,59 @@ fn all_lines<F: Folder>(
     opened: &mut Vec<Text>,
     name: &str,
     lines: &[Line],
+    quiet: &mut Quiet,
     entries: &mut Vec<Entry>,
 ) -> Result<(), Refused<ManifestFault>>
-    requires { left < MAX_OPEN }
+    requires room { left < MAX_OPEN }
+    requires known { IfSome (F.files folder.old) (λ files. AreQuiet files quiet.old.entries) }
+    requires over { IfSome (F.files folder.old) (λ files. All (LeadsOn files opened.old.items name.now) lines.now) }
     ensures told { IfSome (F.files folder.old) (λ files. Tells (AreSaid (LineSays files left opened.old.items name.now) lines.now) entries.old.items result entries.new.items) }
     ensures opened { OnOk result (opened.new.items ≡ opened.old.items) }
+    ensures kept { OnOk result (IfSome (F.files folder.old) (λ files. AreQuiet files quiet.new.entries)) }
     ensures same { F.files folder.new ≡ F.files folder.old }
     ensures cause { Counts (F.count folder.old) (F.count folder.new) (is_failed result) }
     ensures plain { All IsPlain entries.old.items → OnOk result (All IsPlain entries.new.items) }
 {
     for line in lines {
-        match one_line(alloc, folder, left, opened, name, line, entries) {
+        match one_line(alloc, folder, left, opened, name, line, quiet, entries) {
             Ok(()) => {}
             Err(refused) => return Err(refused),
         }
+    }
+    Ok(())
+}
+
+/// Adds the entries of the manifest of this name, unless it is known that it gives nothing.
+#[cycle(manifest)]
+fn once<F: Folder>(
+    alloc: Global,
+    folder: &mut F,
+    left: usize,
+    opened: &mut Vec<Text>,
+    name: &str,
+    quiet: &mut Quiet,
+    entries: &mut Vec<Entry>,
+) -> Result<(), Refused<ManifestFault>>
+    requires room { left < MAX_OPEN }
+    requires known { IfSome (F.files folder.old) (λ files. AreQuiet files quiet.old.entries) }
+    requires over { IfSome (F.files folder.old) (λ files. AllInclude files opened.old.items name.now) }
+    ensures told { IfSome (F.files folder.old) (λ files. Tells (Says files left opened.old.items name.now) entries.old.items result entries.new.items) }
+    ensures opened { OnOk result (opened.new.items ≡ opened.old.items) }
+    ensures kept { OnOk result (IfSome (F.files folder.old) (λ files. AreQuiet files quiet.new.entries)) }
+    ensures same { F.files folder.new ≡ F.files folder.old }
+    ensures cause { Counts (F.count folder.old) (F.count folder.new) (is_failed result) }
+    ensures plain { All IsPlain entries.old.items → OnOk result (All IsPlain entries.new.items) }
+{
+    if is_known(quiet, left, name.as_bytes()) {
+        return Ok(());
+    }
+    let before = entries.len();
+    match manifest(alloc, folder, left, opened, name, quiet, entries) {
+        Ok(()) => {}
+        Err(refused) => return Err(refused),
+    }
+    if entries.len() == before {
+        keep(alloc, quiet, left, name.as_bytes())?;
     }
     Ok(())
 }
@@ -92,11 +138,15 @@ fn manifest<F: Folder>(
     left: usize,
     opened: &mut Vec<Text>,
     name: &str,
+    quiet: &mut Quiet,
     entries: &mut Vec<Entry>,
 ) -> Result<(), Refused<ManifestFault>>
-    requires { left ≤ MAX_OPEN }
+    requires room { left ≤ MAX_OPEN }
+    requires known { IfSome (F.files folder.old) (λ files. AreQuiet files quiet.old.entries) }
+    requires over { IfSome (F.files folder.old) (λ files. AllInclude files opened.old.items name.now) }
     ensures told { IfSome (F.files folder.old) (λ files. Tells (Says files left opened.old.items name.now) entries.old.items result entries.new.items) }
     ensures opened { OnOk result (opened.new.items ≡ opened.old.items) }
+    ensures kept { OnOk result (IfSome (F.files folder.old) (λ files. AreQuiet files quiet.new.entries)) }
     ensures same { F.files folder.new ≡ F.files folder.old }
     ensures cause { Counts (F.count folder.old) (F.count folder.new) (is_failed result) }
     ensures plain { All IsPlain entries.old.items → OnOk result (All IsPlain entries.new.items) }
@@ -110,7 +160,16 @@ fn manifest<F: Folder>(
         Err(refused) => return Err(refused),
     };
     opened.push(this)?;
-    match all_lines(alloc, folder, left - 1, opened, name, &lines, entries) {
+    match all_lines(
+        alloc,
+        folder,
+        left - 1,
+        opened,
+        name,
+        &lines,
+        quiet,
+        entries,
+    ) {
         Ok(()) => {}
         Err(refused) => return Err(refused),
     }
@@ -119,8 +178,8 @@ fn manifest<F: Folder>(
 }
 
 /// The entries of the manifest of this name, or its first fault in the order of reading: a manifest's tokens are read
-/// whole before its first line, and a line is judged whole before it adds an entry. Reads each manifest once for each
-/// include of it.
+/// whole before its first line, and a line is judged whole before it adds an entry. A manifest that gave nothing is passed
+/// over where it is included again with as many to open, so that each is read at most `MAX_OPEN` times.
 pub fn collect<F: Folder>(
     alloc: Global,
     folder: &mut F,
@@ -136,8 +195,17 @@ pub fn collect<F: Folder>(
     ensures plain { IfOk result (λ entries. All IsPlain entries.items) }
 {
     let mut opened = Vec::new(alloc);
+    let mut quiet = IndexMap::new(alloc);
     let mut entries = Vec::new(alloc);
-    match manifest(alloc, folder, MAX_OPEN, &mut opened, name, &mut entries) {
+    match manifest(
+        alloc,
+        folder,
+        MAX_OPEN,
+        &mut opened,
+        name,
+        &mut quiet,
+        &mut entries,
+    ) {
         Ok(()) => Ok(entries),
         Err(refused) => Err(refused),
     }

@@ -7,6 +7,7 @@ mod fault;
 mod following;
 mod frozen_fault;
 mod inner;
+mod kept;
 mod reading;
 
 pub use collecting::{collect, entries_law};

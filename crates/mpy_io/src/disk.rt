@@ -6,6 +6,7 @@ ghost use Rattle.mpy_io.specs.Count.{Counts};
 ghost use Rattle.mpy_io.specs.Files.{Reads, is_failed};
 ghost use Rattle.mpy_io.specs.Memory.{next};
 
+use crate::whole_file::write_whole;
 use crate::{Failed, Folder, ReadFault};
 use mpy_base::limits::MAX_READ_BYTES;
 use std::alloc::{AllocError, Allocator, Global};
@@ -16,7 +17,8 @@ use std::{fs, io};
 
 /// The files below a root on disk. What the disk does is trusted, and contracts are told nothing of it.
 ///
-/// A file that the system does not find is `Absent`. A name with a zero byte is a fault, as any other error is.
+/// A file that the system does not find is `Absent`: also where a folder has its name, or the name is longer than any file's. A name
+/// with a zero byte is a fault, as any other error is. A file that is written is replaced whole.
 #[derive(Drop)]
 pub struct DiskFolder<R: Files + Alloc + Drop> {
     rt: R,
@@ -110,9 +112,17 @@ fn read_file<R: Files + Alloc>(
         return Err(ReadFault::NoMemory);
     };
     match fs::open(rt, path.as_str()) {
-        Ok(file) => read_all(file, alloc),
+        Ok(file) => match read_all(file, alloc) {
+            Err(ReadFault::Failed) if is_folder(rt, path.as_str()) => Err(ReadFault::Absent),
+            result => result,
+        },
         Err(error) => Err(opening_fault(error.kind())),
     }
+}
+
+/// Whether a path leads to a folder. The system opens one as a file, and then doesn't read it.
+fn is_folder<R: Files>(rt: &R, path: &str) -> bool {
+    fs::metadata(rt, path).is_ok_and(|found| found.is_dir())
 }
 
 /// What is left to read, but for more than any file that is read has.
@@ -129,13 +139,17 @@ fn read_all<F: Read + Drop>(file: F, alloc: Global) -> Result<Vec<u8>, ReadFault
     }
 }
 
-/// Why a file isn't read that wasn't opened: it is absent also where a part of its path is no folder.
+/// Why a file isn't read that wasn't opened: it is absent also where a part of its path is no folder, where it is a folder itself, and
+/// where no file can have so long a name.
 fn opening_fault(kind: ErrorKind) -> ReadFault
-    ensures absent { (result ≡ ReadFault.Absent) ↔ ((kind ≡ ErrorKind.NotFound) ⊎ (kind ≡ ErrorKind.NotADirectory)) }
+    ensures absent { (result ≡ ReadFault.Absent) ↔ ((kind ≡ ErrorKind.NotFound) ⊎ (kind ≡ ErrorKind.NotADirectory) ⊎ (kind ≡ ErrorKind.IsADirectory) ⊎ (kind ≡ ErrorKind.InvalidFilename)) }
     ensures no_memory { (result ≡ ReadFault.NoMemory) ↔ (kind ≡ ErrorKind.OutOfMemory) }
 {
     match kind {
-        ErrorKind::NotFound | ErrorKind::NotADirectory => ReadFault::Absent,
+        ErrorKind::NotFound
+        | ErrorKind::NotADirectory
+        | ErrorKind::IsADirectory
+        | ErrorKind::InvalidFilename => ReadFault::Absent,
         ErrorKind::OutOfMemory => ReadFault::NoMemory,
         _ => ReadFault::Failed,
     }
@@ -144,7 +158,7 @@ fn opening_fault(kind: ErrorKind) -> ReadFault
 /// Makes these bytes the content of a file in a folder.
 fn write_file<R: Files + Alloc>(rt: &R, root: &str, name: &str, bytes: &[u8]) -> io::Result<()> {
     let path = path_of(rt.alloc(), root, name)?;
-    fs::write(rt, path.as_str(), bytes)
+    write_whole(rt, path.as_str(), bytes)
 }
 
 /// Adds these bytes to a file in a folder, which is made where it is absent.

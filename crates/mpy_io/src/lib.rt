@@ -16,6 +16,7 @@ mod port;
 mod real_disk;
 mod script_port;
 mod sink;
+mod whole_file;
 
 pub use disk::DiskFolder;
 pub use fault::{Failed, ReadFault};

@@ -14,6 +14,8 @@ pub mod Embedded
 pub mod Aims
 pub mod Singles
 pub mod Names
+pub mod Tabled
+pub mod Apart
 pub mod Behind
 pub mod Clauses
 pub mod Formed

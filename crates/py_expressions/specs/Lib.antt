@@ -2,6 +2,8 @@ pub mod Input
 pub mod Follow
 pub mod Reading
 pub mod Grammar
+pub mod Names
+pub mod Apart
 pub mod Targets
 pub mod Nests
 pub mod Laws

@@ -29,14 +29,16 @@ fn strings(alloc: Global, tokens: &mut Cursor<'_>) -> Result<Text, Refused<Synta
 
 impl<F: Fn(Global, &mut Cursor<'_>, usize, Rule) -> Result<Expr, Refused<Syntax>>> Grammar<F> {
     /// Reads `[ tests ] ")"`.
-    #[tactic(auto, unfolding(crate::specs::Reading::round))]
     fn round(&self, tokens: &mut Cursor<'_>) -> Result<Expr, Refused<Syntax>>
         requires { Nests self.now.depth (F.pre self.now.expr) (F.post self.now.expr) }
         ensures { Reads (spec.round (spec.expr self.now.depth) (input_of tokens.old)) result tokens.new }
     {
-        let (found, comma) = self.some_members(tokens)?;
-        tokens.expect(Mark::Op(Op::CloseParen))?;
-        Ok(tuple_of(found, comma))
+        if begins_test(tokens.peek()) {
+            self.closed_tests(tokens, Mark::Op(Op::CloseParen))
+        } else {
+            let empty = tuple_of(Items::new(self.alloc), false);
+            tokens.closed(Mark::Op(Op::CloseParen), empty)
+        }
     }
 
     /// Reads `[ tests ] "]"`.

@@ -1,17 +1,19 @@
 //! Calls, indexes and attributes.
 
-ghost use Rattle.std.specs.Prelude.{◌≡◌};
+ghost use Rattle.std.specs.Prelude.{◌≡◌, [], ◌∷◌, ◌++◌, true, IfOk};
 ghost use Rattle.std.specs.List.{list_any};
 ghost use Rattle.std.specs.Option.{option_copied};
 ghost use Rattle.std.specs.Str.{bytes_eq};
 ghost use Rattle.py_expressions.specs.Input.{Reads, input_of, seen};
 ghost use Rattle.py_expressions.specs.Reading as spec;
+ghost use Rattle.py_expressions.specs.Names.{HasLater};
 ghost use Rattle.py_expressions.specs.Nests.{Nests};
 
 use crate::cursor::{Cursor, Mark, Syntax};
 use crate::grammar::{Grammar, Rule};
-use crate::members::{begins_test, tuple_of};
-use mpy_base::{Boxed, Items, Refused, Text};
+use crate::members::begins_test;
+use crate::name_table::{FEW_NAMES, NameTable};
+use mpy_base::{Boxed, Items, NoMemory, Refused, Text};
 use py_tokens::{Op, Tok};
 use py_tree::Expr;
 use std::alloc::Global;
@@ -30,11 +32,25 @@ fn has_name(keys: &[(Text, Expr)], name: &Text) -> bool
     keys.iter().any(|key| key.0.bytes() == name.bytes())
 }
 
-/// Has none of the keyword arguments this name?
-fn is_new(name: &Text, keys: &Items<(Text, Expr)>) -> bool
-    ensures { result ≡ spec.is_new name.now (spec.names keys.now) }
+/// Has none of the keyword arguments this name? The first 16 are compared with it one by one; the names of the others are
+/// in the table, and a new name goes there too if it stands behind the first 16.
+fn is_new(
+    alloc: Global,
+    table: &mut NameTable,
+    name: &Text,
+    keys: &[(Text, Expr)],
+) -> Result<bool, NoMemory>
+    requires { HasLater table.old keys.now }
+    ensures tells { IfOk result (λ was_new. was_new ≡ spec.is_new name.now (spec.names keys.now)) }
+    ensures later { IfOk result (λ was_new. was_new ≡ true → (value : Expr) → HasLater table.new (keys.now ++ (name.now, value) ∷ [])) }
 {
-    !has_name(keys.as_slice(), name)
+    if keys.len() < FEW_NAMES {
+        return Ok(!has_name(keys, name));
+    }
+    if has_name(&keys[..FEW_NAMES], name) {
+        return Ok(false);
+    }
+    table.insert(alloc, name.bytes())
 }
 
 /// Whether a primary goes on so.
@@ -56,7 +72,8 @@ impl<F: Fn(Global, &mut Cursor<'_>, usize, Rule) -> Result<Expr, Refused<Syntax>
         given: Arguments,
     ) -> Result<Arguments, Refused<Syntax>>
         requires { Nests self.now.depth (F.pre self.now.expr) (F.post self.now.expr) }
-        ensures { Reads (spec.positional (spec.expr self.now.depth) given (input_of tokens.old)) result tokens.new }
+        ensures reads { Reads (spec.positional (spec.expr self.now.depth) given (input_of tokens.old)) result tokens.new }
+        ensures keys { IfOk result (λ more. more.keys ≡ given.keys) }
     {
         let value = self.inner(tokens, Rule::Test)?;
         let Arguments { mut args, keys } = given;
@@ -72,18 +89,21 @@ impl<F: Fn(Global, &mut Cursor<'_>, usize, Rule) -> Result<Expr, Refused<Syntax>
     fn keyword(
         &self,
         tokens: &mut Cursor<'_>,
+        table: &mut NameTable,
         given: Arguments,
     ) -> Result<Arguments, Refused<Syntax>>
-        requires { Nests self.now.depth (F.pre self.now.expr) (F.post self.now.expr) }
-        ensures { Reads (spec.keyword (spec.expr self.now.depth) given (input_of tokens.old)) result tokens.new }
+        requires nests { Nests self.now.depth (F.pre self.now.expr) (F.post self.now.expr) }
+        requires later { HasLater table.old given.keys }
+        ensures reads { Reads (spec.keyword (spec.expr self.now.depth) given (input_of tokens.old)) result tokens.new }
+        ensures later { IfOk result (λ more. HasLater table.new more.keys) }
     {
         let name = tokens.name(self.alloc)?;
         tokens.expect(Mark::Op(Op::Assign))?;
         let value = self.inner(tokens, Rule::Test)?;
         let Arguments { args, mut keys } = given;
-        let differs = is_new(&name, &keys);
+        let was_new = is_new(self.alloc, table, &name, keys.as_slice())?;
         keys.push((name, value))?;
-        if !differs {
+        if !was_new {
             return Err(tokens.refuse());
         }
         Ok(Arguments { args, keys })
@@ -94,13 +114,16 @@ impl<F: Fn(Global, &mut Cursor<'_>, usize, Rule) -> Result<Expr, Refused<Syntax>
     fn argument(
         &self,
         tokens: &mut Cursor<'_>,
+        table: &mut NameTable,
         given: Arguments,
     ) -> Result<Arguments, Refused<Syntax>>
-        requires { Nests self.now.depth (F.pre self.now.expr) (F.post self.now.expr) }
-        ensures { Reads (spec.argument (spec.expr self.now.depth) given (input_of tokens.old)) result tokens.new }
+        requires nests { Nests self.now.depth (F.pre self.now.expr) (F.post self.now.expr) }
+        requires later { HasLater table.old given.keys }
+        ensures reads { Reads (spec.argument (spec.expr self.now.depth) given (input_of tokens.old)) result tokens.new }
+        ensures later { IfOk result (λ more. HasLater table.new more.keys) }
     {
         if tokens.sees_keyword() {
-            self.keyword(tokens, given)
+            self.keyword(tokens, table, given)
         } else {
             self.positional(tokens, given)
         }
@@ -115,11 +138,12 @@ impl<F: Fn(Global, &mut Cursor<'_>, usize, Rule) -> Result<Expr, Refused<Syntax>
             args: Items::new(self.alloc),
             keys: Items::new(self.alloc),
         };
+        let mut table = NameTable::new(self.alloc);
         for _turn in 0..tokens.left() {
             if !begins_test(tokens.peek()) {
                 return Ok(given);
             }
-            given = self.argument(tokens, given)?;
+            given = self.argument(tokens, &mut table, given)?;
             if !tokens.eat(Mark::Op(Op::Comma)) {
                 return Ok(given);
             }
@@ -139,14 +163,12 @@ impl<F: Fn(Global, &mut Cursor<'_>, usize, Rule) -> Result<Expr, Refused<Syntax>
     }
 
     /// Reads `tests "]"` behind the object and its opening bracket.
-    #[tactic(auto, unfolding(crate::specs::Reading::index))]
     fn index(&self, tokens: &mut Cursor<'_>, object: Boxed<Expr>) -> Result<Expr, Refused<Syntax>>
         requires { Nests self.now.depth (F.pre self.now.expr) (F.post self.now.expr) }
         ensures { Reads (spec.index (spec.expr self.now.depth) object (input_of tokens.old)) result tokens.new }
     {
-        let (found, comma) = self.members(tokens, Rule::Test)?;
-        tokens.expect(Mark::Op(Op::CloseBracket))?;
-        let index = Boxed::new(self.alloc, tuple_of(found, comma))?;
+        let found = self.closed_tests(tokens, Mark::Op(Op::CloseBracket))?;
+        let index = Boxed::new(self.alloc, found)?;
         Ok(Expr::Index { object, index })
     }
 

@@ -166,6 +166,9 @@ impl<F: Fn(Global, &mut Cursor<'_>, usize, Rule) -> Result<Expr, Refused<Syntax>
         ensures { Reads (spec.and_test (spec.expr self.now.depth) (input_of tokens.old)) result tokens.new }
     {
         let first = self.not_test(tokens)?;
+        if !tokens.sees(Mark::Word(Word::And)) {
+            return Ok(first);
+        }
         let found = self.and_operands(tokens, first)?;
         Ok(and_of(found))
     }
@@ -198,6 +201,9 @@ impl<F: Fn(Global, &mut Cursor<'_>, usize, Rule) -> Result<Expr, Refused<Syntax>
         ensures { Reads (spec.or_test (spec.expr self.now.depth) (input_of tokens.old)) result tokens.new }
     {
         let first = self.and_test(tokens)?;
+        if !tokens.sees(Mark::Word(Word::Or)) {
+            return Ok(first);
+        }
         let found = self.or_operands(tokens, first)?;
         Ok(or_of(found))
     }

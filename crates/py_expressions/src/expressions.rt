@@ -10,18 +10,15 @@ ghost use Rattle.py_expressions.specs.Reading as spec;
 
 use crate::cursor::{Cursor, Syntax};
 use crate::grammar::{Grammar, Rule, expr};
-use crate::members::tuple_of;
 use mpy_base::Refused;
 use py_tree::Expr;
 use std::alloc::Global;
 
 /// Reads `test { "," test } [ "," ]`, with no more nestings than `depth`.
-#[tactic(auto, unfolding(crate::specs::Reading::tests))]
 fn tests(alloc: Global, tokens: &mut Cursor<'_>, depth: usize) -> Result<Expr, Refused<Syntax>>
     ensures { Reads (spec.tests depth (input_of tokens.old)) result tokens.new }
 {
-    let (found, comma) = Grammar { alloc, depth, expr }.members(tokens, Rule::Test)?;
-    Ok(tuple_of(found, comma))
+    Grammar { alloc, depth, expr }.joined_tests(tokens)
 }
 
 /// Reads `test { "," test } [ "," ]`, with room for each nesting of what is ahead.

@@ -9,6 +9,7 @@ pub mod Headers
 pub mod Whole
 pub mod Tails
 pub mod Names
+pub mod Differ
 pub mod Made
 pub mod Parses
 pub mod Formed

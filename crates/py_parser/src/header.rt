@@ -1,6 +1,6 @@
 //! Headers of clauses, from their first word up to the colon.
 
-ghost use Rattle.std.specs.Prelude.{◌≡◌, true};
+ghost use Rattle.std.specs.Prelude.{◌≡◌, true, IfOk};
 ghost use Rattle.std.specs.List.{list_any, list_all};
 ghost use Rattle.std.specs.Option.{is_some};
 ghost use Rattle.std.specs.Result.{result_map_both};
@@ -13,8 +13,10 @@ ghost use Rattle.py_parser.specs.Clauses as clauses;
 ghost use Rattle.py_parser.specs.Reading as spec;
 
 use crate::clause::{Head, Header};
-use mpy_base::{Items, Refused, Text};
-use py_expressions::{Cursor, Mark, Syntax, read_targets, read_test, read_tests, release};
+use mpy_base::{Items, NoMemory, Refused, Text};
+use py_expressions::{
+    Cursor, FEW_NAMES, Mark, NameTable, Syntax, read_targets, read_test, read_tests, release,
+};
 use py_tokens::{Op, Tok, Word};
 use py_tree::{Expr, Param, Target};
 use std::alloc::Global;
@@ -131,8 +133,8 @@ fn is_new(name: &Text, params: &[Param]) -> bool
     !has_name(params, name)
 }
 
-/// Do the names of parameters differ?
-fn names_differ(params: &[Param]) -> bool
+/// Do the names of a few parameters differ? Each is compared with all behind it.
+fn few_differ(params: &[Param]) -> bool
     ensures { result ≡ clauses.names_differ (clauses.param_names params.now) }
 {
     let mut rest = params;
@@ -143,6 +145,29 @@ fn names_differ(params: &[Param]) -> bool
         rest = others;
     }
     true
+}
+
+/// Do the names of parameters differ, however many they are? Each is looked up among those in front of it.
+fn many_differ(alloc: Global, params: &[Param]) -> Result<bool, NoMemory>
+    ensures { IfOk result (λ differ. differ ≡ clauses.names_differ (clauses.param_names params.now)) }
+{
+    let mut table = NameTable::new(alloc);
+    for param in params {
+        if !table.insert(alloc, param.name.bytes())? {
+            return Ok(false);
+        }
+    }
+    Ok(true)
+}
+
+/// Do the names of parameters differ?
+fn names_differ(alloc: Global, params: &[Param]) -> Result<bool, NoMemory>
+    ensures { IfOk result (λ differ. differ ≡ clauses.names_differ (clauses.param_names params.now)) }
+{
+    if params.len() <= FEW_NAMES {
+        return Ok(few_differ(params));
+    }
+    many_differ(alloc, params)
 }
 
 /// Has each parameter a default?
@@ -167,20 +192,25 @@ fn defaults_last(params: &[Param]) -> bool
 }
 
 /// Do the names of parameters differ, and are those with defaults the last?
-fn params_fit(params: &[Param]) -> bool
-    ensures { result ≡ clauses.params_fit params.now }
+fn params_fit(alloc: Global, params: &[Param]) -> Result<bool, NoMemory>
+    ensures { IfOk result (λ fit. fit ≡ clauses.params_fit params.now) }
 {
-    if !names_differ(params) {
-        return false;
+    if !names_differ(alloc, params)? {
+        return Ok(false);
     }
-    defaults_last(params)
+    Ok(defaults_last(params))
 }
 
 /// A `def` whose parameters fit; refused where they don't.
-fn fitting(tokens: &Cursor<'_>, name: Text, params: Items<Param>) -> Result<Head, Refused<Syntax>>
+fn fitting(
+    alloc: Global,
+    tokens: &Cursor<'_>,
+    name: Text,
+    params: Items<Param>,
+) -> Result<Head, Refused<Syntax>>
     ensures { Reads (spec.fitting name params (input_of tokens.now)) result tokens.now }
 {
-    if params_fit(params.as_slice()) {
+    if params_fit(alloc, params.as_slice())? {
         Ok(Head::Def { name, params })
     } else {
         Err(tokens.refuse())
@@ -195,7 +225,7 @@ fn defined(alloc: Global, tokens: &mut Cursor<'_>, name: Text) -> Result<Head, R
     let params = parameters(alloc, tokens)?;
     tokens.expect(Mark::Op(Op::CloseParen))?;
     tokens.expect(Mark::Op(Op::Colon))?;
-    fitting(tokens, name, params)
+    fitting(alloc, tokens, name, params)
 }
 
 /// Reads `"def" NAME "(" [ param { "," param } [ "," ] ] ")" ":"`.

@@ -1,9 +1,11 @@
-use Rattle.std.proofs.Common.{◌≡◌, ℕ, List, Err, Ok, arith, rules, subst, ◌∙◌}
+use Rattle.std.proofs.Common.{◌≡◌, ℕ, List, Err, Ok, arith, rules, subst, sym, ◌∙◌}
 use Rattle.mpy_base.specs.declared.refused.Refused.TheVariants as refused
 use Rattle.mpy_io.specs.Files.{FileOf}
 use Rattle.manifest_files.specs.declared.fault.ManifestFault.TheVariants.{Deep}
 use Rattle.manifest_files.specs.Answers.{Follows, LinesOf, Tells}
 use Rattle.manifest_files.specs.Entries.{Says, LineSays, line_saying}
+use Rattle.manifest_files.specs.Quiet.{AreQuiet, IsQuiet}
+use Rattle.manifest_files.proofs.Passing.{here_too, lines_lead, line_leads, inner_leads, passed_over, kept_now}
 use Rattle.manifest_files.proofs.Tells.{if_some, if_some_both, refuses, too_deep, unread, line_gave_up, line_went_on, lines_told, whole_told}
 use Rattle.manifest_files.proofs.collecting.+manifest.Goals as goal
 
@@ -19,6 +21,7 @@ all_lines-loop-line-preserved g t c = record {
       c.args.entries.now.items c.loop-line.entries.items c.one_line.new.entries.items
       c.loop-line.invariant.same c.loop-line.invariant.opened c.loop-line-test.true c.line-item.is c.loop-line.invariant.told c.in-Ok.ensures.told;
   opened = c.in-Ok.ensures.opened ∙ c.loop-line.invariant.opened;
+  kept = here_too (λ files. AreQuiet files c.one_line.new.quiet.entries) (g.F.Folder.files c.loop-line.folder) (g.F.Folder.files c.args.folder.now) (sym c.loop-line.invariant.same) c.in-Ok.ensures.kept;
   same = c.in-Ok.ensures.same ∙ c.loop-line.invariant.same;
   cause = c.in-Ok.ensures.cause ∙ c.loop-line.invariant.cause;
   plain = λ h. c.in-Ok.ensures.plain (c.loop-line.invariant.plain h);
@@ -63,3 +66,42 @@ one_line-returns-in-Err-clause-told g t c =
     if_some (λ (files : FileOf). Tells (LineSays files c.args.left c.args.opened.now.items c.args.name.now c.args.line.now) c.args.entries.now.items (Err c.in-Err.refused) c.follow.new.entries.items) (g.F.Folder.files c.args.folder.now)
     (λ files. refuses (Says files c.args.left c.args.opened.now.items) (line_saying c.args.opened.now.items c.args.name.now c.args.line.now) c.args.entries.now.items c.follow.new.entries.items c.follow.new.entries.items c.in-Err.refused
     (subst (λ (z : List (List ℕ)). Follows c.args.entries.now.items (line_saying z c.args.name.now c.args.line.now) (Err c.in-Err.refused) c.follow.new.entries.items) these c.in-Err.ensures.said))
+
+-- ---- what is known of quiet manifests
+
+pub all_lines-one_line-requires-clause-known : goal.all_lines-one_line-requires-clause-known
+all_lines-one_line-requires-clause-known g t c =
+    here_too (λ files. AreQuiet files c.loop-line.quiet.entries) (g.F.Folder.files c.args.folder.now) (g.F.Folder.files c.loop-line.folder) c.loop-line.invariant.same c.loop-line.invariant.kept
+
+pub all_lines-one_line-requires-clause-over : goal.all_lines-one_line-requires-clause-over
+all_lines-one_line-requires-clause-over g t c =
+    line_leads (g.F.Folder.files c.args.folder.now) (g.F.Folder.files c.loop-line.folder) c.args.opened.now.items c.loop-line.opened.items c.args.name.now c.args.lines.now c.loop-line.line-index c.line-item.result
+    c.loop-line.invariant.same c.loop-line.invariant.opened c.loop-line-test.true c.line-item.is c.requires.over
+
+pub all_lines-returns-clause-kept : goal.all_lines-returns-clause-kept
+all_lines-returns-clause-kept g t c = c.loop-line.invariant.kept
+
+pub manifest-all_lines-requires-clause-known : goal.manifest-all_lines-requires-clause-known
+manifest-all_lines-requires-clause-known g t c =
+    here_too (λ files. AreQuiet files c.args.quiet.now.entries) (g.F.Folder.files c.args.folder.now) (g.F.Folder.files c.read_lines.new.folder) c.read_lines.ensures.same c.requires.known
+
+pub manifest-all_lines-requires-clause-over : goal.manifest-all_lines-requires-clause-over
+manifest-all_lines-requires-clause-over g t c =
+    let those : c.deref.result.now ≡ c.in-Ok.lines.items = first_of (cc, search rules) in
+    lines_lead (g.F.Folder.files c.args.folder.now) (g.F.Folder.files c.read_lines.new.folder) c.args.opened.now.items c.push.new.self.items c.args.name.now c.in_ok-this.this c.in-Ok.lines c.deref.result.now
+    c.read_lines.ensures.same c.in_ok-push.ensures.items (c.in_ok-this.ensures ∙ c.as_bytes.ensures.value) those c.in-Ok.ensures.lines c.requires.over
+
+pub manifest-returns-clause-kept : goal.manifest-returns-clause-kept
+manifest-returns-clause-kept g t c =
+    here_too (λ files. AreQuiet files c.all_lines.new.quiet.entries) (g.F.Folder.files c.read_lines.new.folder) (g.F.Folder.files c.args.folder.now) (sym c.read_lines.ensures.same) c.in-Ok-all_lines.ensures.kept
+
+pub one_line-once-requires-clause-over : goal.one_line-once-requires-clause-over
+one_line-once-requires-clause-over g t c =
+    let these : c.deref.result.now ≡ c.args.opened.now.items = first_of (cc, search rules) in
+    inner_leads (g.F.Folder.files c.args.folder.now) c.args.opened.now.items c.deref.result.now c.args.name.now c.args.line.now c.args.entries.now.items c.follow.new.entries.items c.in-Ok-Some.inner c.text_of.result.now
+    these c.text_of.ensures c.in-Ok-Some.ensures.said c.requires.over
+
+pub once-returns-then-is_known-clause-told : goal.once-returns-then-is_known-clause-told
+once-returns-then-is_known-clause-told g t c =
+    passed_over (g.F.Folder.files c.args.folder.now) c.args.left c.args.opened.now.items c.args.name.now c.args.entries.now.items c.args.quiet.now.entries c.is_known.result
+    (λ files h yes. subst (IsQuiet files c.args.left) c.as_bytes.ensures.value (c.is_known.ensures files h yes)) c.if-is_known.true c.requires.known c.requires.over

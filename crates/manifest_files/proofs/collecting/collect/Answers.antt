@@ -3,6 +3,7 @@ use Rattle.std.specs.declared.alloc.Global.{Global}
 use Rattle.mpy_base.specs.declared.refused.Refused.{Refused}
 use Rattle.manifest_lines.specs.declared.entry.Entry.{Entry}
 use Rattle.manifest_files.specs.declared.fault.ManifestFault.{ManifestFault}
+use Rattle.manifest_files.proofs.Passing.{none_opened, none_kept}
 use Rattle.manifest_files.proofs.Tells.{found_all, first_fault}
 use Rattle.manifest_files.proofs.collecting.collect.Goals as goal
 
@@ -14,3 +15,6 @@ pub returns-clause-fault : goal.returns-clause-fault
 returns-clause-fault g c =
     let result : Result (Vec Entry Global) (Refused ManifestFault) = Err c.in-Err.refused in
     first_fault result (g.F.Folder.files c.args.folder.now) c.new-opened.result.items c.args.name.now c.new-entries.result.items c.manifest.new.entries.items c.in-Err.refused refl c.new-opened.ensures.items c.new-entries.ensures.items c.in-Err.ensures.told
+
+pub manifest-requires-clause-over : goal.manifest-requires-clause-over
+manifest-requires-clause-over g c = none_opened (g.F.Folder.files c.args.folder.now) c.new-opened.result.items c.args.name.now c.new-opened.ensures.items

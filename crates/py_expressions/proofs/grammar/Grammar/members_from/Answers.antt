@@ -1,13 +1,9 @@
 use Rattle.std.proofs.Common.{rules, arith}
 use Rattle.std.proofs.lemmas.Grind.{common_steps}
 use Rattle.py_expressions.specs.Input.{input_of}
-use Rattle.py_expressions.specs.Reading.{expr, members, members_from}
+use Rattle.py_expressions.specs.Reading.{expr, members_from}
 use Rattle.py_expressions.proofs.Turns.{one_more, no_more}
-use Rattle.py_expressions.proofs.grammar.Grammar.members.Goals as goal
-
-pub loop-turn-init : goal.loop-turn-init
-unfolding members
-loop-turn-init g c = first_of (search rules, grind (arith, common_steps))
+use Rattle.py_expressions.proofs.grammar.Grammar.members_from.Goals as goal
 
 pub returns-in_err-inner : goal.returns-in_err-inner
 unfolding members_from
