@@ -7,7 +7,7 @@ use Rattle.board_plan.specs.declared.plan.Plan.{Plan}
 use Rattle.board_plan.specs.declared.plan.PlanFault.{PlanFault}
 use Rattle.board_plan.specs.Lines.{lines_of}
 use Rattle.board_plan.specs.Plans.{IsPlan, HasFault}
-use Rattle.board_tasks.specs.Opened.{first_missing}
+use Rattle.board_command.specs.board_files.board_tasks.Opened.{first_missing}
 use Rattle.command_files.specs.mpy_endings.declared.ending.Ending.{Ending}
 use Rattle.command_files.specs.mpy_endings.declared.ending.Ending.TheVariants.{Done, Unaccepted, Unread, Unverified, Unmerged, Unopened, Unfrozen, Unboarded, Different, Stopped, ReadFault, WriteFault, Unwritten, NoMemory, Absent}
 use Rattle.command_files.specs.mpy_endings.declared.ending.BoardFault.TheVariants as boards

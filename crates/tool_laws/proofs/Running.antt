@@ -16,8 +16,8 @@ use Rattle.command_files.specs.mpy_endings.declared.ending.Ending.{Ending}
 use Rattle.command_files.specs.mpy_endings.declared.ending.Ending.TheVariants.{Done, Unaccepted, Unread, Unverified, Unmerged, Unopened, Unfrozen, Unboarded, Different, Stopped, ReadFault, WriteFault, Unwritten, NoMemory, Absent}
 use Rattle.command_files.specs.mpy_endings.declared.ending.Stop.TheVariants.{Past, LibraryFault, LibraryUnaccepted, Raised, Memory, Steps}
 use Rattle.command_files.specs.mpy_endings.Ending.{IsSettled, IsRunStatus, status_of}
-use Rattle.run_commands.specs.declared.ready.Ready.{Ready}
-use Rattle.run_commands.specs.Run.{IsUnloaded, NotLoaded, RanLibrary, Runs, Untouched, ending_of}
+use Rattle.meant_commands.specs.run_commands.declared.ready.Ready.{Ready}
+use Rattle.meant_commands.specs.run_commands.Run.{IsUnloaded, NotLoaded, RanLibrary, Runs, Untouched, ending_of}
 use Rattle.meant_commands.specs.Alike.{AreAlike, IsWholeRun, Tells}
 use Rattle.tool_laws.specs.Once.{EndOnce}
 use Rattle.tool_laws.specs.Runs.{AnswersOnce, RunLaws}

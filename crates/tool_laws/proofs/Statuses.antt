@@ -14,8 +14,8 @@ use Rattle.command_files.specs.mpy_endings.declared.ending.BoardFault.TheVariant
 use Rattle.command_files.specs.mpy_endings.declared.ending.Stop.TheVariants.{Past, LibraryFault, LibraryUnaccepted, Raised, Memory, Steps}
 use Rattle.command_files.specs.mpy_endings.Ending.{IsSettled, IsRunStatus, status_of}
 use Rattle.command_files.specs.Outside.{Ends, EndsAt, Outside, Writes, WritesOf}
-use Rattle.run_commands.specs.declared.ready.Ready.{Ready}
-use Rattle.run_commands.specs.Run.{EndsRun, Runs, sight_in}
+use Rattle.meant_commands.specs.run_commands.declared.ready.Ready.{Ready}
+use Rattle.meant_commands.specs.run_commands.Run.{EndsRun, Runs, sight_in}
 use Rattle.meant_commands.specs.Alike.{Tells}
 use Rattle.tool_laws.specs.Once.{EndOnce, IsDone, IsSettledStatus, OneStatus, Settled, Succeeds}
 use Rattle.tool_laws.specs.Runs.{AnswersOnce, OnFiles, OneRunStatus, RunLaws, SettledRun}

@@ -9,9 +9,9 @@ use Rattle.bc_library.specs.mpy_tree.Raw.{Module}
 use Rattle.bc_library.specs.mpy_tree.Codes.{codes_of}
 use Rattle.bc_library.specs.Shelf.{module_at}
 use Rattle.command_files.specs.mpy_endings.Ending.{IsSettled}
-use Rattle.run_commands.specs.declared.ready.Ready.{Ready}
-use Rattle.run_commands.specs.Ready.{GoLibrary}
-use Rattle.run_commands.specs.Run.{EndsRun, sight_in}
+use Rattle.meant_commands.specs.run_commands.declared.ready.Ready.{Ready}
+use Rattle.meant_commands.specs.run_commands.Ready.{GoLibrary}
+use Rattle.meant_commands.specs.run_commands.Run.{EndsRun, sight_in}
 use Rattle.stress_command.specs.Stress.{EndsStress, Goes, HasCodes, HasLibrary, Ran, Unloaded, beside, lines, stress_files, stress_name}
 use Rattle.tool_laws.specs.Once.{IsSettledStatus}
 use Rattle.tool_laws.specs.Runs.{AnswersOnce, OnFiles, OneRunStatus, RunLaws, SettledRun}

@@ -13,7 +13,7 @@ use Rattle.library_runs.specs.Runs.{Sight}
 use Rattle.command_files.specs.mpy_endings.declared.ending.Ending.{Ending}
 use Rattle.command_files.specs.mpy_endings.Ending.{IsSettled}
 use Rattle.command_files.specs.Outside.{Outside}
-use Rattle.run_commands.specs.declared.ready.Ready.{Ready}
+use Rattle.meant_commands.specs.run_commands.declared.ready.Ready.{Ready}
 use Rattle.meant_commands.specs.Alike.{AreAlike, IsWholeRun, Tells}
 use Rattle.tool_laws.specs.Once.{IsSettledStatus}
 

@@ -15,7 +15,7 @@ ghost use Rattle.image_freeze.specs.Migrated.{IsImageOf};
 ghost use Rattle.frozen_files.specs.Frozen.{HoldsFrozen};
 ghost use Rattle.frozen_files.specs.Sources.{HoldsSources};
 ghost use Rattle.board_plan.specs.declared.plan.Plan.{Plan};
-ghost use Rattle.board_tasks.specs.Opened.{first_missing};
+ghost use Rattle.board_command.specs.board_files.board_tasks.Opened.{first_missing};
 ghost use Rattle.command_files.specs.mpy_endings.declared.ending.Ending.{Ending};
 ghost use Rattle.command_files.specs.mpy_endings.Ending.{IsSettled};
 ghost use Rattle.command_files.specs.Images.{HoldsImage, RefusesImage};
