@@ -58,5 +58,10 @@ module _ (own : SourceLaws) (level : ℕ) (files : FileOf) (name stored : List �
   pub one_cross : (written : List ℕ) (a b : Option FileOf) → EndOnce (Crosses level name stored written (Some files) a) (Crosses level name stored written (Some files) b)
   one_cross written a b = λ one other s t p q. both_crossed one other (crossed_so written a one s p) (crossed_so written b other t q)
 
+  pub one_compiled : (one other : List ℕ) → HoldsCompiled level (Some files) name stored one → HoldsCompiled level (Some files) name stored other → one ≡ other
+  one_compiled one other h k =
+      let source = same_content (files name) h.source k.source h.holds k.holds in
+      own.one_file level k.source stored one other (subst (λ (z : List ℕ). CompilesTo level z stored one) source h.compiles) k.compiles
+
   pub cross_done : (written bytes : List ℕ) (new : Option FileOf) → HoldsCompiled level (Some files) name stored bytes → IsDone (Crosses level name stored written (Some files) new)
   cross_done written bytes new h = λ ending s p. both_crossed ending Done (crossed_so written new ending s p) (inl (refl, bytes, h))

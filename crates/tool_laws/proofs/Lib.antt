@@ -15,3 +15,4 @@ pub mod Running
 pub mod Statuses
 pub mod Stressing
 pub mod Ended
+pub mod Based

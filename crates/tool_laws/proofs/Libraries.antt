@@ -259,7 +259,7 @@ module _ (laws : FileLaws) (load : LoadLaws) (of_images : ImageLaws) (opened : L
   run_so answer read s (of_image bytes at begins p) = inr (inr (bytes, at, begins, image_so of_images opened below is_opened main bytes answer s p))
 
   never_both : (x y : List ℕ) → files name ≡ Some x → files name ≡ Some y → begins_image x ≡ false → begins_image y ≡ true → ⊥
-  never_both x y at there no yes = let wrong : false ≡ true = sym no ∙ (ap begins_image (same_content (files name) x y at there) ∙ yes) in cc
+  never_both x y at there other begins = let wrong : false ≡ true = sym other ∙ (ap begins_image (same_content (files name) x y at there) ∙ begins) in cc
 
   pub one_run_library : CanBeRead files name → AnswersOnce (RunLibrary below main (Some files) name)
   one_run_library read one other s t p q = by (run_so one read s p) (run_so other read t q) where

@@ -7,7 +7,7 @@ use Rattle.image_grammar.specs.declared.entry.Entry.{Entry}
 use Rattle.image_grammar.specs.declared.fault.ImageFault.{ImageFault}
 use Rattle.image_grammar.specs.declared.fault.ImageFault.TheVariants.{TooBig}
 use Rattle.image_grammar.specs.Opening.{FirstFault, image, nothing_below}
-use Rattle.image_freeze.specs.Frozen.{IsTooBig, second_front}
+use Rattle.image_freeze.specs.Frozen.{IsTooBig, image_bytes, second_front}
 use Rattle.image_freeze.specs.Migrated.{IsImageOf}
 use Rattle.image_runs.specs.declared.fault.MainFault.TheVariants as mains
 use Rattle.manifest_files.specs.declared.frozen_fault.FrozenFault.TheVariants as frozen
@@ -80,6 +80,12 @@ module _ (laws : ImageLaws) (files : FileOf) (name : List ℕ) where
 
   pub one_migrate : (written : List ℕ) (a b : Option FileOf) → CanBeRead files name → EndOnce (Migrates name written (Some files) a) (Migrates name written (Some files) b)
   one_migrate written a b read = λ one other s t p q. both_migrated one other (migrated_so written a one read s p) (migrated_so written b other read t q)
+
+  pub one_migrated : (one other : List ℕ) → HoldsMigrated (Some files) name one → HoldsMigrated (Some files) name other → one ≡ other
+  one_migrated one other h k =
+      let bytes = same_content (files name) h.bytes k.bytes h.holds k.holds in
+      let same = one_image k.bytes h.migrates.entries k.migrates.entries (subst (λ (z : List ℕ). IsImageOf h.migrates.entries z) bytes h.migrates.before) k.migrates.before in
+      h.migrates.written ∙ (ap (λ (es : List Entry). image_bytes (second_front nothing_below) nothing_below es) same ∙ sym k.migrates.written)
 
   pub migrate_done : (written bytes : List ℕ) (entries : List Entry) (new : Option FileOf) → CanBeRead files name → files name ≡ Some bytes → IsImageOf entries bytes
       → (IsTooBig (second_front nothing_below) nothing_below entries → ⊥) → IsDone (Migrates name written (Some files) new)

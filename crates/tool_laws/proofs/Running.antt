@@ -41,16 +41,16 @@ made_loaded ends.NoMemory steps o u = absurd o
 
 module _ (Comes : Result Ready Ending → Type 0) (room : Room) (steps : ℕ) (old new : Sight) (said : List ℕ) where
   -- the library was run up to an end, or for all steps
-  record Made (ending : Ending) : Type 0 where
-    end : RunEnd
-    over : IsOver end
-    is : ending ≡ ending_of end steps
-    ready : Ready
-    comes : Comes (Ok ready)
-    runs : RunsAs ready.library ready.main room steps old new end said
+  pub record Made (ending : Ending) : Type 0 where
+    pub end : RunEnd
+    pub over : IsOver end
+    pub is : ending ≡ ending_of end steps
+    pub ready : Ready
+    pub comes : Comes (Ok ready)
+    pub runs : RunsAs ready.library ready.main room steps old new end said
 
   -- or it wasn't loaded
-  abbrev RunSo : Ending → Type 0
+  abbrev pub RunSo : Ending → Type 0
   RunSo ending = Made ending ⊎ (Comes (Err ending) × Untouched old new said)
 
   made : (end : RunEnd) (ending : Ending) → IsOver end → ending ≡ ending_of end steps → RanLibrary Comes room steps old new said end → RunSo ending

@@ -1,11 +1,13 @@
 -- Commands that end in one way only, and those that are done.
-use Rattle.std.specs.Prelude.{◌≡◌, ◌≢◌, ◌≤◌, ℕ, List, length, Option, Some}
+use Rattle.std.specs.Prelude.{◌≡◌, ◌⊎◌, ◌≢◌, ◌≤◌, ℕ, List, length, Option, Some}
 use Rattle.mpy_base.specs.declared.limits.TheConstants.{MAX_READ_BYTES}
 use Rattle.mpy_io.specs.Files.{FileOf}
+use Rattle.bc_library.specs.Shelf.{Shelf}
 use Rattle.command_files.specs.mpy_endings.declared.ending.Ending.{Ending}
 use Rattle.command_files.specs.mpy_endings.declared.ending.Ending.TheVariants.{Done}
 use Rattle.command_files.specs.mpy_endings.Ending.{IsSettled}
 use Rattle.command_files.specs.Outside.{Outside}
+use Rattle.command_files.specs.Over.{EndsAtBase, WentOver}
 
 -- of two ways in which a command may end, neither cut short by a call that failed outside or by want of memory, there is one ending
 abbrev pub EndOnce : (One Other : Ending → Type 0) → Type 0
@@ -43,3 +45,7 @@ OneStatus Went files = (one other : ℕ) → Settled Went files one → Settled 
 -- a call that goes so on these files, and isn't cut short, has status 0
 abbrev pub Succeeds : (Went : (old new : Outside) → (status : ℕ) → Type 0) → FileOf → Type 0
 Succeeds Went files = (status : ℕ) → Settled Went files status → status ≡ 0
+
+-- a call over a base: the base's file isn't opened, or the call went so over its library
+abbrev pub OverBase : (base : List ℕ) → (Went : (below : Shelf) → (old new : Outside) → (status : ℕ) → Type 0) → (old new : Outside) → (status : ℕ) → Type 0
+OverBase base Went old new status = EndsAtBase base old new status ⊎ WentOver (λ below. Went below old new status) old.files base

@@ -1,5 +1,5 @@
 -- Libraries that files come to, and runs, in one way only.
-use Rattle.std.specs.Prelude.{◌≡◌, ℕ, List, Option, Some, Result, Ok, Err}
+use Rattle.std.specs.Prelude.{◌≡◌, ◌⊎◌, ℕ, List, Option, Some, Result, Ok, Err}
 use Rattle.mpy_base.specs.declared.room.Room.{Room}
 use Rattle.mpy_base.specs.World.{PortState}
 use Rattle.mpy_io.specs.Files.{FileOf}
@@ -13,6 +13,7 @@ use Rattle.library_runs.specs.Runs.{Sight}
 use Rattle.command_files.specs.mpy_endings.declared.ending.Ending.{Ending}
 use Rattle.command_files.specs.mpy_endings.Ending.{IsSettled}
 use Rattle.command_files.specs.Outside.{Outside}
+use Rattle.command_files.specs.Over.{EndsAtBase, WentOver}
 use Rattle.meant_commands.specs.run_commands.declared.ready.Ready.{Ready}
 use Rattle.meant_commands.specs.Alike.{AreAlike, IsWholeRun, Tells}
 use Rattle.tool_laws.specs.Once.{IsSettledStatus}
@@ -33,6 +34,11 @@ Going = (old new : Outside) → (ports_old ports_new : List PortView) → (statu
 -- the folder tells these files, and the call went so
 abbrev pub OnFiles : FileOf → Going → Going
 OnFiles files Went old new ports_old ports_new status = (old.files ≡ Some files) × Went old new ports_old ports_new status
+
+-- a call over a base: the base's file isn't opened, and no port was called, or the call went so over its library
+abbrev pub RunOver : (base : List ℕ) → (Went : (below : Shelf) → Going) → Going
+RunOver base Went old new ports_old ports_new status =
+    (EndsAtBase base old new status × (ports_new ≡ ports_old)) ⊎ WentOver (λ below. Went below old new ports_old ports_new status) old.files base
 
 -- A call that went so with this status, and wasn't cut short: it printed behind this, each port told its contents, and no port's count of
 -- faults rose by more than the faults that the port tells.

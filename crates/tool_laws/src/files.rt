@@ -49,10 +49,12 @@ pub fn check_as_law()
     source_laws();
 }
 
-/// Where a folder tells its files, writing a source's file ends in one way, and is done where the source compiles to a file.
+/// Where a folder tells its files, writing a source's file ends in one way, the file is one, and it is written where the source compiles to it.
 pub fn cross_law()
     ensures one_ending { (level : ℕ) (files : FileOf) (name stored written : List ℕ) (one other : Option FileOf)
         → EndOnce (Crosses level name stored written (Some files) one) (Crosses level name stored written (Some files) other) }
+    ensures one_file { (level : ℕ) (files : FileOf) (name stored one other : List ℕ) → HoldsCompiled level (Some files) name stored one
+        → HoldsCompiled level (Some files) name stored other → one ≡ other }
     ensures done { (level : ℕ) (files : FileOf) (name stored written bytes : List ℕ) (after : Option FileOf)
         → HoldsCompiled level (Some files) name stored bytes → IsDone (Crosses level name stored written (Some files) after) }
 {

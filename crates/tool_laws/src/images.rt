@@ -20,7 +20,7 @@ ghost use Rattle.command_files.specs.mpy_endings.declared.ending.Ending.{Ending}
 ghost use Rattle.command_files.specs.mpy_endings.Ending.{IsSettled};
 ghost use Rattle.command_files.specs.Images.{HoldsImage, RefusesImage};
 ghost use Rattle.image_commands.specs.Freeze.{Freezes};
-ghost use Rattle.image_commands.specs.Migrate.{Migrates};
+ghost use Rattle.image_commands.specs.Migrate.{HoldsMigrated, Migrates};
 ghost use Rattle.board_command.specs.Boards.{Boards};
 ghost use Rattle.board_command.specs.Plans.{HoldsPlan};
 ghost use Rattle.tool_laws.specs.Once.{CanBeRead, EndOnce, IsDone};
@@ -60,11 +60,13 @@ pub fn freeze_law()
     manifest_laws();
 }
 
-/// Where a folder tells its files, writing an image once more ends in one way, and is done where the file is an image over nothing whose
-/// modules aren't too many or too long.
+/// Where a folder tells its files, writing an image once more ends in one way, the new image is one, and it is written where the file is an
+/// image over nothing whose modules aren't too many or too long.
 pub fn migrate_law()
     ensures one_ending { (files : FileOf) (name written : List ℕ) (one other : Option FileOf) → CanBeRead files name
         → EndOnce (Migrates name written (Some files) one) (Migrates name written (Some files) other) }
+    ensures one_image { (files : FileOf) (name one other : List ℕ) → HoldsMigrated (Some files) name one → HoldsMigrated (Some files) name other
+        → one ≡ other }
     ensures done { (files : FileOf) (name written bytes : List ℕ) (entries : List Entry) (after : Option FileOf) → CanBeRead files name
         → files name ≡ Some bytes → IsImageOf entries bytes → (IsTooBig (second_front nothing_below) nothing_below entries → ⊥)
         → IsDone (Migrates name written (Some files) after) }

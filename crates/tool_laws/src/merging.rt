@@ -6,7 +6,7 @@ ghost use Rattle.mpy_writer.specs.mpy_tree.Raw.{Module};
 ghost use Rattle.mpy_merge.specs.declared.fault.MergeFault.{MergeFault};
 ghost use Rattle.mpy_merge.specs.Faults.{FirstFault};
 ghost use Rattle.mpy_merge.specs.Merged.{IsMerged};
-ghost use Rattle.file_commands.specs.Merge.{HoldModules, Merges};
+ghost use Rattle.file_commands.specs.Merge.{HoldMerged, HoldModules, Merges};
 ghost use Rattle.tool_laws.specs.Once.{EndOnce, IsDone};
 
 use crate::laws::file_laws;
@@ -17,11 +17,13 @@ pub fn merged_law()
     ensures one_fault { (modules : List Module) (one other : MergeFault) → FirstFault modules one → FirstFault modules other → one ≡ other }
 {}
 
-/// Where a folder tells its files, merging files ends in one way, and is done where each is one of a verified module and no fault keeps
-/// these from being merged.
+/// Where a folder tells its files, merging files ends in one way, the merged file is one, and it is written where each is one of a verified
+/// module and no fault keeps these from being merged.
 pub fn merge_law()
     ensures one_ending { (files : FileOf) (names : List (List ℕ)) (written : List ℕ) (one other : Option FileOf) (place another : ℕ)
         → EndOnce (Merges names written (Some files) one place) (Merges names written (Some files) other another) }
+    ensures one_file { (files : FileOf) (names : List (List ℕ)) (one other : List ℕ) → HoldMerged (Some files) names one
+        → HoldMerged (Some files) names other → one ≡ other }
     ensures done { (files : FileOf) (names : List (List ℕ)) (written : List ℕ) (modules : List Module) (after : Option FileOf) (place : ℕ)
         → HoldModules (Some files) names modules → ((fault : MergeFault) → FirstFault modules fault → ⊥)
         → IsDone (Merges names written (Some files) after place) }

@@ -42,12 +42,12 @@ ghost use Rattle.meant_commands.specs.run_commands.Ready.{GoLibrary, RunLibrary}
 ghost use Rattle.meant_commands.specs.run_commands.Run.{EndsRun};
 ghost use Rattle.meant_commands.specs.Meant.{HoldsProgram, end_status};
 ghost use Rattle.stress_command.specs.Stress.{EndsStress};
-ghost use Rattle.tool_laws.specs.Once.{CanBeRead, OneStatus, Succeeds};
-ghost use Rattle.tool_laws.specs.Runs.{OnFiles, OneRunStatus, SettledRun};
+ghost use Rattle.tool_laws.specs.Once.{CanBeRead, OneStatus, OverBase, Succeeds};
+ghost use Rattle.tool_laws.specs.Runs.{OnFiles, OneRunStatus, RunOver, SettledRun};
 
 use crate::files::{check_as_law, check_law, cross_law, dump_law};
 use crate::images::{board_law, freeze_law, migrate_law};
-use crate::laws::run_laws;
+use crate::laws::{image_laws, run_laws};
 use crate::merging::merge_law;
 use crate::runs::library_law;
 use meant_commands::{go_means_law, run_means_law};
@@ -67,7 +67,14 @@ pub fn one_status_law()
     ensures migrate { (files : FileOf) (name written : List ℕ) → CanBeRead files name → OneStatus (Writes (Migrates name written) name written) files }
     ensures board { (opened : List (List ℕ)) (below : Shelf) (files : FileOf) (image plan : List ℕ) (words : List (List ℕ)) → IsOpenedOf opened below
         → CanBeRead files image → CanBeRead files plan → OneStatus (EndsAt (Boards below image plan) words) files }
+
+    // And over a base.
+    ensures freeze_over { (version : ℕ) (files : FileOf) (base manifest written : List ℕ) → CanBeRead files base
+        → OneStatus (OverBase base (λ below. Writes (Freezes version below manifest written) manifest written)) files }
+    ensures board_over { (files : FileOf) (base image plan : List ℕ) (words : List (List ℕ)) → CanBeRead files base → CanBeRead files image
+        → CanBeRead files plan → OneStatus (OverBase base (λ below. EndsAt (Boards below image plan) words)) files }
 {
+    image_laws();
     check_law();
     check_as_law();
     dump_law();
@@ -85,8 +92,11 @@ pub fn one_run_status_law()
         → OneRunStatus (OnFiles files (EndsRun (GoLibrary level) room steps name)) }
     ensures run { (opened : List (List ℕ)) (below : Shelf) (main : List ℕ) (files : FileOf) (name : List ℕ) (room : Room) (steps : ℕ)
         → IsOpenedOf opened below → CanBeRead files name → OneRunStatus (OnFiles files (EndsRun (RunLibrary below main) room steps name)) }
+    ensures run_over { (files : FileOf) (base main name : List ℕ) (room : Room) (steps : ℕ) → CanBeRead files base → CanBeRead files name
+        → OneRunStatus (OnFiles files (RunOver base (λ below. EndsRun (RunLibrary below main) room steps name))) }
     ensures stress { (seed count : ℕ) (room : Room) (steps : ℕ) → OneRunStatus (EndsStress seed count room steps) }
 {
+    image_laws();
     library_law();
     run_laws();
 }

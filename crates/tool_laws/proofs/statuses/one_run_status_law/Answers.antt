@@ -3,6 +3,8 @@ use Rattle.std.proofs.Common.{ℕ, List, Some}
 use Rattle.mpy_io.specs.Files.{FileOf}
 use Rattle.meant_commands.specs.run_commands.Ready.{GoLibrary, RunLibrary}
 use Rattle.stress_command.specs.Stress.{stress_files, stress_name}
+use Rattle.meant_commands.specs.run_commands.Run.{EndsRun}
+use Rattle.tool_laws.proofs.Based.{run_over_once}
 use Rattle.tool_laws.proofs.Statuses.{run_once}
 use Rattle.tool_laws.proofs.Stressing.{one_stress}
 use Rattle.tool_laws.proofs.statuses.one_run_status_law.Goals as goal
@@ -13,5 +15,9 @@ returns c = record {
       run_once (GoLibrary level) room steps name files printed ports states c.run_laws.ensures (c.library_law.ensures.source level files name);
   run = λ opened below main files name room steps is read printed ports states.
       run_once (RunLibrary below main) room steps name files printed ports states c.run_laws.ensures (c.library_law.ensures.file opened below main files name is read);
+  run_over = λ files base main name room steps base_read read.
+      run_over_once c.image_laws.ensures files base base_read (λ below. EndsRun (RunLibrary below main) room steps name)
+      (λ opened below is printed ports states.
+      run_once (RunLibrary below main) room steps name files printed ports states c.run_laws.ensures (c.library_law.ensures.file opened below main files name is read));
   stress = λ seed count room steps. one_stress c.run_laws.ensures seed count (c.library_law.ensures.source 0 (stress_files seed count) stress_name) room steps;
 }

@@ -7,6 +7,8 @@ use Rattle.file_commands.specs.Merge.{Merges}
 use Rattle.image_commands.specs.Freeze.{Freezes}
 use Rattle.image_commands.specs.Migrate.{Migrates}
 use Rattle.board_command.specs.Boards.{Boards}
+use Rattle.command_files.specs.Outside.{EndsAt, Writes}
+use Rattle.tool_laws.proofs.Based.{over_once}
 use Rattle.tool_laws.proofs.Statuses.{ends_at_once, ends_once, writes_of_once, writes_once}
 use Rattle.tool_laws.proofs.statuses.one_status_law.Goals as goal
 
@@ -25,4 +27,12 @@ returns c = record {
   board = λ opened below files image plan words is read plan_read.
       ends_at_once files (Boards below image plan) words
       (λ a b before behind printed after place another. c.board_law.ensures.one_ending opened below files image plan a b before behind printed after place another is read plan_read);
+  freeze_over = λ version files base manifest written read.
+      over_once c.image_laws.ensures files base read (λ below. Writes (Freezes version below manifest written) manifest written)
+      (λ opened below is. writes_once files (Freezes version below manifest written) manifest written (c.freeze_law.ensures.one_ending version below files manifest written));
+  board_over = λ files base image plan words base_read read plan_read.
+      over_once c.image_laws.ensures files base base_read (λ below. EndsAt (Boards below image plan) words)
+      (λ opened below is.
+      ends_at_once files (Boards below image plan) words
+      (λ a b before behind printed after place another. c.board_law.ensures.one_ending opened below files image plan a b before behind printed after place another is read plan_read));
 }
