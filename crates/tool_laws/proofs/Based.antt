@@ -12,8 +12,8 @@ use Rattle.command_files.specs.Over.{EndsAtBase, WentOver}
 use Rattle.tool_laws.specs.Laws.{ImageLaws}
 use Rattle.tool_laws.specs.Once.{CanBeRead, IsSettledStatus, OneStatus, OverBase, Settled}
 use Rattle.tool_laws.specs.Runs.{Going, OnFiles, OneRunStatus, RunOver, SettledRun}
-use Rattle.tool_laws.proofs.Images.{NoImage, never_no_image, no_image, one_library, one_no_image}
-use Rattle.tool_laws.proofs.Statuses.{settled_by}
+use Rattle.tool_laws.proofs.ImageFiles.{NoImage, never_no_image, no_image, one_library, one_no_image}
+use Rattle.tool_laws.proofs.Settling.{settled_by}
 
 module _ (laws : ImageLaws) (files : FileOf) (base : List ℕ) (read : CanBeRead files base) where
   -- the base isn't opened

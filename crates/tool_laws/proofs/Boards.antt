@@ -17,7 +17,7 @@ use Rattle.board_command.specs.Boards.{Boards, IsRefused}
 use Rattle.board_command.specs.Plans.{HoldsPlan, HoldsNoPlan, RefusesPlan}
 use Rattle.tool_laws.specs.Laws.{ImageLaws, PlanLaws}
 use Rattle.tool_laws.specs.Once.{CanBeRead, EndOnce, IsDone}
-use Rattle.tool_laws.proofs.Images.{NoImage, image_read, never_long, never_no_image, no_image, one_library, one_no_image}
+use Rattle.tool_laws.proofs.ImageFiles.{NoImage, image_read, never_long, never_no_image, no_image, one_library, one_no_image}
 use Rattle.tool_laws.proofs.Opened.{AtAbsent, none_there, same_content}
 
 -- the plan

@@ -20,7 +20,7 @@ use Rattle.meant_commands.specs.run_commands.Run.{EndsRun}
 use Rattle.meant_commands.specs.GoMeant.{GoMeans, MeansSources}
 use Rattle.meant_commands.specs.Meant.{DoesAsMeant, HoldsProgram, RunMeans, end_status}
 use Rattle.tool_laws.specs.Runs.{AnswersOnce, OnFiles, SettledRun}
-use Rattle.tool_laws.proofs.Statuses.{run_ends}
+use Rattle.tool_laws.proofs.Settling.{run_ends}
 
 -- it ends so, where its meaning has ended in t turns
 ends_so : (program : Program) (room : Room) (steps : ℕ) (states : List PortState) (old new : Outside) (ports_new : List PortView) (status t : ℕ)

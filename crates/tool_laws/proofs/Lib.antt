@@ -7,12 +7,12 @@ pub mod CheckedAs
 pub mod Crossed
 pub mod Frozen
 pub mod Freezing
-pub mod Images
+pub mod ImageFiles
 pub mod Migrating
 pub mod Boards
 pub mod Libraries
 pub mod Running
-pub mod Statuses
+pub mod Settling
 pub mod Stressing
 pub mod Ended
 pub mod Based

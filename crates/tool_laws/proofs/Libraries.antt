@@ -36,7 +36,7 @@ use Rattle.meant_commands.specs.run_commands.Run.{FileLibrary, HoldsMain, LoadsO
 use Rattle.tool_laws.specs.Laws.{FileLaws, ImageLaws, LoadLaws, SourceLaws}
 use Rattle.tool_laws.specs.Once.{CanBeRead}
 use Rattle.tool_laws.specs.Runs.{AnswersOnce, IsSettledAnswer}
-use Rattle.tool_laws.proofs.Images.{never_faulty, never_long}
+use Rattle.tool_laws.proofs.ImageFiles.{never_faulty, never_long}
 use Rattle.tool_laws.proofs.Opened.{Refused, never_refused, none_there, one_refused, refused_of, same_content}
 
 -- the first module of a library is the main one

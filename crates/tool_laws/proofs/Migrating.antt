@@ -19,7 +19,7 @@ use Rattle.image_commands.specs.Migrate.{HoldsMigrated, HoldsTooBig, Migrates}
 use Rattle.tool_laws.specs.Laws.{ImageLaws}
 use Rattle.tool_laws.specs.Once.{CanBeRead, EndOnce, IsDone}
 use Rattle.tool_laws.proofs.Frozen.{never_big}
-use Rattle.tool_laws.proofs.Images.{NoImage, never_long, one_no_image}
+use Rattle.tool_laws.proofs.ImageFiles.{NoImage, never_long, one_no_image}
 use Rattle.tool_laws.proofs.Opened.{AtAbsent, none_there, same_content}
 
 module _ (laws : ImageLaws) (files : FileOf) (name : List ℕ) where

@@ -16,7 +16,7 @@ use Rattle.stress_command.specs.Stress.{EndsStress, Goes, HasCodes, HasLibrary, 
 use Rattle.tool_laws.specs.Once.{IsSettledStatus}
 use Rattle.tool_laws.specs.Runs.{AnswersOnce, OnFiles, OneRunStatus, RunLaws, SettledRun}
 use Rattle.tool_laws.proofs.Running.{run_unmade}
-use Rattle.tool_laws.proofs.Statuses.{run_once, settled_by}
+use Rattle.tool_laws.proofs.Settling.{run_once, settled_by}
 
 put_behind : (printed text : List ℕ) (before behind : Option (List ℕ)) → before ≡ Some printed → Appends before behind text → behind ≡ Some (printed ++ text)
 put_behind printed text None behind e h = absurd cc

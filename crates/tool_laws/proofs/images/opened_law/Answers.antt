@@ -1,6 +1,6 @@
 use Rattle.std.proofs.Common.{◌∷◌, [], refl}
 use Rattle.bc_library.specs.Shelf.{no_entries}
-use Rattle.tool_laws.proofs.Images.{image_read, never_no_image, no_image, one_library, one_no_image}
+use Rattle.tool_laws.proofs.ImageFiles.{image_read, never_no_image, no_image, one_library, one_no_image}
 use Rattle.tool_laws.proofs.images.opened_law.Goals as goal
 
 pub returns : goal.returns

@@ -7,7 +7,7 @@ use Rattle.file_commands.specs.Merge.{Merges}
 use Rattle.image_commands.specs.Freeze.{Freezes}
 use Rattle.image_commands.specs.Migrate.{Migrates}
 use Rattle.board_command.specs.Boards.{Boards}
-use Rattle.tool_laws.proofs.Statuses.{ends_at_done, ends_done, writes_done, writes_of_done}
+use Rattle.tool_laws.proofs.Settling.{ends_at_done, ends_done, writes_done, writes_of_done}
 use Rattle.tool_laws.proofs.statuses.completeness_law.Goals as goal
 
 pub returns : goal.returns

@@ -5,7 +5,7 @@ use Rattle.meant_commands.specs.run_commands.Ready.{GoLibrary, RunLibrary}
 use Rattle.stress_command.specs.Stress.{stress_files, stress_name}
 use Rattle.meant_commands.specs.run_commands.Run.{EndsRun}
 use Rattle.tool_laws.proofs.Based.{run_over_once}
-use Rattle.tool_laws.proofs.Statuses.{run_once}
+use Rattle.tool_laws.proofs.Settling.{run_once}
 use Rattle.tool_laws.proofs.Stressing.{one_stress}
 use Rattle.tool_laws.proofs.statuses.one_run_status_law.Goals as goal
 

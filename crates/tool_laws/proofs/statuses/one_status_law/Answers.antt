@@ -9,7 +9,7 @@ use Rattle.image_commands.specs.Migrate.{Migrates}
 use Rattle.board_command.specs.Boards.{Boards}
 use Rattle.command_files.specs.Outside.{EndsAt, Writes}
 use Rattle.tool_laws.proofs.Based.{over_once}
-use Rattle.tool_laws.proofs.Statuses.{ends_at_once, ends_once, writes_of_once, writes_once}
+use Rattle.tool_laws.proofs.Settling.{ends_at_once, ends_once, writes_of_once, writes_once}
 use Rattle.tool_laws.proofs.statuses.one_status_law.Goals as goal
 
 pub returns : goal.returns
