@@ -1,5 +1,5 @@
 -- Calls over a base.
-use Rattle.std.proofs.Common.{◌≡◌, ◌⊎◌, inl, inr, ℕ, List, [], ◌∷◌, Option, Some, refl, sym, ap, subst, ◌∙◌}
+use Rattle.std.proofs.Common.{◌≡◌, inl, inr, ℕ, List, [], ◌∷◌, Option, Some, refl, sym, ap, subst, ◌∙◌}
 use Rattle.mpy_base.specs.World.{PortState}
 use Rattle.mpy_io.specs.Files.{FileOf}
 use Rattle.mpy_io.specs.Ports.{PortView}
@@ -8,7 +8,7 @@ use Rattle.image_open.specs.Opens.{IsOpenedOf}
 use Rattle.command_files.specs.mpy_endings.Ending.{status_of}
 use Rattle.command_files.specs.Images.{HoldsImage, RefusesImage}
 use Rattle.command_files.specs.Outside.{Outside}
-use Rattle.command_files.specs.Over.{EndsAtBase, WentOver}
+use Rattle.command_files.specs.Over.{EndsAtBase}
 use Rattle.tool_laws.specs.Laws.{ImageLaws}
 use Rattle.tool_laws.specs.Once.{CanBeRead, IsSettledStatus, OneStatus, OverBase, Settled}
 use Rattle.tool_laws.specs.Runs.{Going, OnFiles, OneRunStatus, RunOver, SettledRun}

@@ -12,7 +12,7 @@ use Rattle.command_files.specs.mpy_endings.declared.ending.Ending.{Ending}
 use Rattle.command_files.specs.mpy_endings.declared.ending.Ending.TheVariants.{Done, Unaccepted, Unread, Unverified, Unmerged, Unopened, Unfrozen, Unboarded, Different, Stopped, ReadFault, WriteFault, Unwritten, NoMemory, Absent}
 use Rattle.command_files.specs.mpy_endings.declared.ending.BoardFault.TheVariants as boards
 use Rattle.command_files.specs.mpy_endings.Ending.{IsSettled}
-use Rattle.command_files.specs.Images.{HoldsImage, RefusesImage}
+use Rattle.command_files.specs.Images.{HoldsImage}
 use Rattle.board_command.specs.Boards.{Boards, IsRefused}
 use Rattle.board_command.specs.Plans.{HoldsPlan, HoldsNoPlan, RefusesPlan}
 use Rattle.tool_laws.specs.Laws.{ImageLaws, PlanLaws}

@@ -1,5 +1,5 @@
 -- A tree of codes fits another one, or differs first in one place.
-use Rattle.std.proofs.Common.{◌≡◌, ◌⊎◌, inl, inr, ℕ, zero, suc, ◌<◌, List, [], ◌∷◌, take, Option, slice_get, refl, sym, ap, ◌∙◌, arith}
+use Rattle.std.proofs.Common.{◌≡◌, ◌⊎◌, inl, inr, ℕ, zero, suc, ◌<◌, List, [], ◌∷◌, take, slice_get, refl, sym, ap, ◌∙◌, arith}
 use Rattle.mpy_tree.specs.Resolved.{Resolved, instrs_of, line_numbers, Tree, node, Trees, no_more, more}
 use Rattle.trans_parts.specs.declared.part.What.{What}
 use Rattle.trans_parts.specs.declared.part.What.TheVariants as whats

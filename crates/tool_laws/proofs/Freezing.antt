@@ -1,8 +1,7 @@
 -- The command that writes the image of a manifest's sources.
-use Rattle.std.proofs.Common.{◌≡◌, ◌⊎◌, inl, inr, ℕ, Bool, true, false, List, ◌∷◌, ◌++◌, Option, Some, None, refl, sym, ap, ap₂, subst, ◌∙◌}
+use Rattle.std.proofs.Common.{◌≡◌, ◌⊎◌, inl, inr, ℕ, false, List, Option, Some, refl, sym, ap, ap₂, subst, ◌∙◌}
 use Rattle.std.specs.Prelude.{Ok, Err}
 use Rattle.std.specs.List.{AllZip}
-use Rattle.mpy_base.specs.declared.source.SourceFault.{SourceFault}
 use Rattle.mpy_io.specs.Files.{FileOf}
 use Rattle.bc_library.specs.Shelf.{Shelf}
 use Rattle.mpy_writer.specs.mpy_tree.File.{IsFile}
@@ -18,15 +17,14 @@ use Rattle.manifest_files.specs.declared.fault.ManifestFault.{ManifestFault}
 use Rattle.manifest_files.specs.declared.fault.ManifestFault.TheVariants as manifests
 use Rattle.manifest_files.specs.declared.frozen_fault.SourcesFault.{SourcesFault}
 use Rattle.manifest_files.specs.declared.frozen_fault.SourcesFault.TheVariants as sources
-use Rattle.manifest_files.specs.declared.frozen_fault.FrozenFault.{FrozenFault}
 use Rattle.manifest_files.specs.declared.frozen_fault.FrozenFault.TheVariants as frozen
 use Rattle.manifest_files.specs.Answers as answers
-use Rattle.manifest_files.specs.Entries.{Answer, AreEntries, IsAnswer, IsFault}
+use Rattle.manifest_files.specs.Entries.{AreEntries, IsFault}
 use Rattle.manifest_files.specs.FrozenFaults.{is_read_fault, of_manifest}
 use Rattle.command_files.specs.mpy_compile.Compiled as compiled
 use Rattle.command_files.specs.mpy_compile.Compiled.{CompilesTo}
 use Rattle.frozen_files.specs.Frozen.{HoldsFrozen, RefusesImage}
-use Rattle.frozen_files.specs.Sources.{HoldsSource, HoldsSources, IsFaulty, IsFirstRefused, RefusesEntry, RefusesManifest, RefusesSource, RefusesSources}
+use Rattle.frozen_files.specs.Sources.{HoldsSource, HoldsSources, IsFirstRefused, RefusesEntry, RefusesManifest, RefusesSources}
 use Rattle.command_files.specs.mpy_endings.declared.ending.Ending.{Ending}
 use Rattle.command_files.specs.mpy_endings.declared.ending.Ending.TheVariants.{Done, Unaccepted, Unread, Unverified, Unmerged, Unopened, Unfrozen, Unboarded, Different, Stopped, ReadFault, WriteFault, Unwritten, NoMemory, Absent}
 use Rattle.command_files.specs.mpy_endings.Ending.{IsSettled}

@@ -1,16 +1,15 @@
 -- Modules that have an image have no fault for which they have none.
-use Rattle.std.proofs.Common.{◌≡◌, ◌⊎◌, inl, inr, ℕ, ◌+◌, ◌<◌, ◌≤◌, List, [], ◌∷◌, ◌++◌, length, map, refl, sym, ap, ap₂, subst, ◌∙◌, arith}
+use Rattle.std.proofs.Common.{◌≡◌, ◌⊎◌, inl, inr, ℕ, ◌+◌, ◌<◌, ◌≤◌, List, [], ◌∷◌, ◌++◌, length, map, refl, ap, ap₂, subst, arith}
 use Rattle.std.proofs.lemmas.List.{append_cancel_left}
 use Rattle.mpy_base.specs.declared.limits.TheConstants.{MAX_IMAGE_BYTES, MAX_MODULES, MAX_TABLE}
 use Rattle.qstr_pool.specs.Pool.{Texts}
-use Rattle.bc_library.specs.Shelf.{Named, Shelf}
+use Rattle.bc_library.specs.Shelf.{Shelf}
 use Rattle.image_grammar.specs.declared.entry.Entry.{Entry}
 use Rattle.image_grammar.specs.declared.fault.ImageFault.{ImageFault}
 use Rattle.image_grammar.specs.declared.fault.ImageFault.TheVariants.{BadHeader, Truncated, BadNumber, BadModule, Twice, Trailing, TooBig, BadBase}
-use Rattle.image_grammar.specs.Base.{base_of}
 use Rattle.image_grammar.specs.Image.{Differ, IsImage}
 use Rattle.image_grammar.specs.Opening.{Base, names_of}
-use Rattle.image_open.specs.Opens.{Opens, named, with_entries}
+use Rattle.image_open.specs.Opens.{named, with_entries}
 use Rattle.image_freeze.specs.Frozen.{FreezeFault, IsTooBig, IsTwice, image_bytes, pool_of}
 use Rattle.tool_laws.proofs.Lists.{behind_is, front_is}
 

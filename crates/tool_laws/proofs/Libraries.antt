@@ -1,10 +1,8 @@
 -- What the file or the source of a name comes to as a library with a main module.
-use Rattle.std.proofs.Common.{◌≡◌, ◌⊎◌, inl, inr, ℕ, Bool, true, false, ◌<◌, List, length, Option, Some, None, refl, sym, ap, ap₂, subst, ◌∙◌, arith}
+use Rattle.std.proofs.Common.{◌≡◌, ◌⊎◌, inl, inr, ℕ, true, false, List, length, Option, Some, None, refl, sym, ap, subst, ◌∙◌}
 use Rattle.std.specs.Prelude.{Result, Ok, Err}
-use Rattle.mpy_base.specs.declared.limits.TheConstants.{MAX_READ_BYTES}
 use Rattle.mpy_base.specs.declared.source.SourceFault.{SourceFault}
 use Rattle.mpy_io.specs.Files.{FileOf}
-use Rattle.mpy_reader.specs.declared.fault.FileFault.TheVariants.{TooBig}
 use Rattle.bc_library.specs.declared.fault.Member.{Member}
 use Rattle.bc_library.specs.declared.fault.Member.TheVariants as members
 use Rattle.bc_library.specs.mpy_tree.Raw.{Module}
@@ -15,8 +13,6 @@ use Rattle.image_grammar.specs.Base.{base_of as images_base}
 use Rattle.image_grammar.specs.Opening.{FirstFault}
 use Rattle.image_open.specs.Opens.{IsOpenedOf, Opens}
 use Rattle.image_runs.specs.declared.fault.MainFault.TheVariants as mains
-use Rattle.image_runs.specs.Main.{HoldsMain as IsMain, LacksMain}
-use Rattle.library_files.specs.declared.limit.UnacceptedSource.{UnacceptedSource}
 use Rattle.library_files.specs.Loads as loads
 use Rattle.library_files.specs.Loads.{Loading, Loaded, LoadsFrom, main_name}
 use Rattle.command_files.specs.mpy_compile.Compiled.{CompilesTo, IsFault}

@@ -1,12 +1,12 @@
 -- The command that writes an image once more.
-use Rattle.std.proofs.Common.{◌≡◌, ◌⊎◌, inl, inr, ℕ, List, [], Option, Some, None, refl, sym, ap, subst, ◌∙◌}
+use Rattle.std.proofs.Common.{◌≡◌, ◌⊎◌, inl, inr, ℕ, List, [], Option, Some, refl, sym, ap, subst, ◌∙◌}
 use Rattle.std.specs.Prelude.{Ok}
 use Rattle.mpy_io.specs.Files.{FileOf}
 use Rattle.bc_library.specs.Shelf.{no_entries}
 use Rattle.image_grammar.specs.declared.entry.Entry.{Entry}
 use Rattle.image_grammar.specs.declared.fault.ImageFault.{ImageFault}
 use Rattle.image_grammar.specs.declared.fault.ImageFault.TheVariants.{TooBig}
-use Rattle.image_grammar.specs.Opening.{FirstFault, image, nothing_below}
+use Rattle.image_grammar.specs.Opening.{image, nothing_below}
 use Rattle.image_freeze.specs.Frozen.{IsTooBig, image_bytes, second_front}
 use Rattle.image_freeze.specs.Migrated.{IsImageOf}
 use Rattle.image_runs.specs.declared.fault.MainFault.TheVariants as mains
@@ -14,13 +14,12 @@ use Rattle.manifest_files.specs.declared.frozen_fault.FrozenFault.TheVariants as
 use Rattle.command_files.specs.mpy_endings.declared.ending.Ending.{Ending}
 use Rattle.command_files.specs.mpy_endings.declared.ending.Ending.TheVariants.{Done, Unaccepted, Unread, Unverified, Unmerged, Unopened, Unfrozen, Unboarded, Different, Stopped, ReadFault, WriteFault, Unwritten, NoMemory, Absent}
 use Rattle.command_files.specs.mpy_endings.Ending.{IsSettled}
-use Rattle.command_files.specs.Images.{HoldsNoImage}
 use Rattle.image_commands.specs.Migrate.{HoldsMigrated, HoldsTooBig, Migrates}
 use Rattle.tool_laws.specs.Laws.{ImageLaws}
 use Rattle.tool_laws.specs.Once.{CanBeRead, EndOnce, IsDone}
 use Rattle.tool_laws.proofs.Frozen.{never_big}
 use Rattle.tool_laws.proofs.ImageFiles.{NoImage, never_long, one_no_image}
-use Rattle.tool_laws.proofs.Opened.{AtAbsent, none_there, same_content}
+use Rattle.tool_laws.proofs.Opened.{none_there, same_content}
 
 module _ (laws : ImageLaws) (files : FileOf) (name : List ℕ) where
   read_of : (entries : List Entry) (bytes : List ℕ) → IsImageOf entries bytes → image nothing_below bytes (Ok entries)

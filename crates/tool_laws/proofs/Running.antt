@@ -1,14 +1,10 @@
 -- The run of a library that files come to in one way.
-use Rattle.std.proofs.Common.{◌≡◌, ◌⊎◌, inl, inr, ℕ, List, [], ◌++◌, map, Option, Some, None, refl, sym, ap, ap₂, subst, ◌∙◌}
+use Rattle.std.proofs.Common.{◌≡◌, ◌⊎◌, inl, inr, ℕ, List, map, Option, Some, None, refl, sym, ap, subst, ◌∙◌}
 use Rattle.std.specs.Prelude.{Result, Ok, Err}
 use Rattle.std.specs.Io.KnownBytes.{Keeps}
 use Rattle.mpy_base.specs.declared.room.Room.{Room}
-use Rattle.mpy_base.specs.World.{PortState}
-use Rattle.mpy_io.specs.Files.{FileOf}
 use Rattle.mpy_io.specs.Ports.{PortView}
 use Rattle.port_set.specs.Counts.{AreAccounted}
-use Rattle.bc_library.specs.Shelf.{Shelf}
-use Rattle.library_runs.specs.bc_machine.Library.{Name}
 use Rattle.library_runs.specs.declared.ending.RunEnd.{RunEnd}
 use Rattle.library_runs.specs.declared.ending.RunEnd.TheVariants as ends
 use Rattle.library_runs.specs.Runs.{Sight, IsOver, RunsAs}
@@ -17,7 +13,7 @@ use Rattle.command_files.specs.mpy_endings.declared.ending.Ending.TheVariants.{D
 use Rattle.command_files.specs.mpy_endings.declared.ending.Stop.TheVariants.{Past, LibraryFault, LibraryUnaccepted, Raised, Memory, Steps}
 use Rattle.command_files.specs.mpy_endings.Ending.{IsSettled, IsRunStatus, status_of}
 use Rattle.meant_commands.specs.run_commands.declared.ready.Ready.{Ready}
-use Rattle.meant_commands.specs.run_commands.Run.{IsUnloaded, NotLoaded, RanLibrary, Runs, Untouched, ending_of}
+use Rattle.meant_commands.specs.run_commands.Run.{IsUnloaded, RanLibrary, Runs, Untouched, ending_of}
 use Rattle.meant_commands.specs.Alike.{AreAlike, IsWholeRun, Tells}
 use Rattle.tool_laws.specs.Once.{EndOnce}
 use Rattle.tool_laws.specs.Runs.{AnswersOnce, RunLaws}

@@ -1,6 +1,6 @@
 -- From endings to statuses.
-use Rattle.std.proofs.Common.{◌≡◌, ◌⊎◌, inl, inr, ℕ, Bool, true, false, List, Option, Some, None, refl, sym, ap, subst, ◌∙◌}
-use Rattle.std.specs.Prelude.{Result, Ok, Err}
+use Rattle.std.proofs.Common.{◌≡◌, ℕ, List, Option, Some, refl, sym, ap, subst, ◌∙◌}
+use Rattle.std.specs.Prelude.{Result, Ok}
 use Rattle.mpy_base.specs.declared.room.Room.{Room}
 use Rattle.mpy_base.specs.World.{PortState}
 use Rattle.mpy_io.specs.Files.{FileOf}
@@ -18,7 +18,7 @@ use Rattle.meant_commands.specs.run_commands.declared.ready.Ready.{Ready}
 use Rattle.meant_commands.specs.run_commands.Run.{EndsRun, Runs, sight_in}
 use Rattle.meant_commands.specs.Alike.{Tells}
 use Rattle.tool_laws.specs.Once.{EndOnce, IsDone, IsSettledStatus, OneStatus, Settled, Succeeds}
-use Rattle.tool_laws.specs.Runs.{AnswersOnce, OnFiles, OneRunStatus, RunLaws, SettledRun}
+use Rattle.tool_laws.specs.Runs.{AnswersOnce, OnFiles, RunLaws, SettledRun}
 use Rattle.tool_laws.proofs.Running.{one_run, run_made}
 
 pub settled_of : (ending : Ending) → IsSettledStatus (status_of ending) → IsSettled ending

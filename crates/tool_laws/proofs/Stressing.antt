@@ -1,5 +1,5 @@
 -- The command that runs a source which it makes.
-use Rattle.std.proofs.Common.{◌≡◌, ◌⊎◌, inl, inr, ℕ, List, ◌++◌, length, Option, Some, None, refl, sym, ap, subst, ◌∙◌}
+use Rattle.std.proofs.Common.{◌≡◌, inl, inr, ℕ, List, ◌++◌, length, Option, Some, None, refl, sym, ap, subst, ◌∙◌}
 use Rattle.std.specs.Prelude.{◌-◌, ◌^◌, min, Ok, Err}
 use Rattle.std.specs.Io.KnownBytes.{Appends}
 use Rattle.mpy_base.specs.declared.room.Room.{Room}
@@ -8,12 +8,10 @@ use Rattle.mpy_io.specs.Ports.{PortView}
 use Rattle.bc_library.specs.mpy_tree.Raw.{Module}
 use Rattle.bc_library.specs.mpy_tree.Codes.{codes_of}
 use Rattle.bc_library.specs.Shelf.{module_at}
-use Rattle.command_files.specs.mpy_endings.Ending.{IsSettled}
 use Rattle.meant_commands.specs.run_commands.declared.ready.Ready.{Ready}
 use Rattle.meant_commands.specs.run_commands.Ready.{GoLibrary}
 use Rattle.meant_commands.specs.run_commands.Run.{EndsRun, sight_in}
 use Rattle.stress_command.specs.Stress.{EndsStress, Goes, HasCodes, HasLibrary, Ran, Unloaded, beside, lines, stress_files, stress_name}
-use Rattle.tool_laws.specs.Once.{IsSettledStatus}
 use Rattle.tool_laws.specs.Runs.{AnswersOnce, OnFiles, OneRunStatus, RunLaws, SettledRun}
 use Rattle.tool_laws.proofs.Running.{run_unmade}
 use Rattle.tool_laws.proofs.Settling.{run_once, settled_by}

@@ -1,5 +1,5 @@
 -- Libraries that files come to, and runs, in one way only.
-use Rattle.std.specs.Prelude.{◌≡◌, ◌⊎◌, ℕ, List, Option, Some, Result, Ok, Err}
+use Rattle.std.specs.Prelude.{◌≡◌, ◌⊎◌, ℕ, List, Some, Result, Ok, Err}
 use Rattle.mpy_base.specs.declared.room.Room.{Room}
 use Rattle.mpy_base.specs.World.{PortState}
 use Rattle.mpy_io.specs.Files.{FileOf}

@@ -1,6 +1,6 @@
 //! Commands that run a library.
 
-ghost use Rattle.std.specs.Prelude.{◌≡◌, ℕ, List, Option, Some};
+ghost use Rattle.std.specs.Prelude.{◌≡◌, ℕ, List, Some};
 ghost use Rattle.mpy_base.specs.declared.room.Room.{Room};
 ghost use Rattle.mpy_io.specs.Files.{FileOf};
 ghost use Rattle.port_set.specs.Counts.{AreAccounted};

@@ -1,6 +1,6 @@
 //! Each command has one status, and the one of success where nothing keeps it from that.
 
-ghost use Rattle.std.specs.Prelude.{◌≡◌, ◌+◌, ◌*◌, ◌≤◌, ℕ, List, [], Ok, Option, Some, None};
+ghost use Rattle.std.specs.Prelude.{◌≡◌, ◌+◌, ◌*◌, ◌≤◌, ℕ, List, Ok, Some, None};
 ghost use Rattle.mpy_base.specs.declared.room.Room.{Room};
 ghost use Rattle.mpy_base.specs.World.{PortState};
 ghost use Rattle.mpy_io.specs.Files.{FileOf};

@@ -6,7 +6,7 @@ use Rattle.tool_laws.proofs.images.opened_law.Goals as goal
 pub returns : goal.returns
 returns c = record {
   nothing = refl;
-  base = λ files base below h. (h.bytes ∷ [], no_entries, refl, h.opens);
+  base = λ files base below h. (h.bytes ∷ [], (no_entries, refl, h.opens));
   one_library = λ opened below files name one other is. one_library c.image_laws.ensures opened below is files name one other;
   one_ending = λ opened below files name is read one other s t p q.
       one_no_image c.image_laws.ensures opened below is files name one other (no_image below files name one read s p) (no_image below files name other read t q);

@@ -1,6 +1,3 @@
-use Rattle.mpy_base.specs.declared.room.Room.{Room}
-use Rattle.std.proofs.Common.{ℕ, List, Some}
-use Rattle.mpy_io.specs.Files.{FileOf}
 use Rattle.meant_commands.specs.run_commands.Ready.{GoLibrary, RunLibrary}
 use Rattle.stress_command.specs.Stress.{stress_files, stress_name}
 use Rattle.meant_commands.specs.run_commands.Run.{EndsRun}

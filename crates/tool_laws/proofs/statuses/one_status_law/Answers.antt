@@ -1,4 +1,3 @@
-use Rattle.std.proofs.Common.{Some}
 use Rattle.file_commands.specs.Check.{Checks}
 use Rattle.file_commands.specs.CheckAs.{ChecksAs}
 use Rattle.file_commands.specs.Cross.{Crosses}
