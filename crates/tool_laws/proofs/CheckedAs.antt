@@ -62,7 +62,7 @@ module _ (laws : FileLaws) (own : SourceLaws) where
     never_faulty w a fault x y =
         let text = same_content (files source) x.text y.text x.has_source y.has_source in
         let read = one_read y.bytes a y.read
-            (subst (λ (z : List ℕ). Reads z a) (same_content (files file) x.bytes y.bytes x.has_file y.has_file) x.compares.is_have) y.reads in
+        (subst (λ (z : List ℕ). Reads z a) (same_content (files file) x.bytes y.bytes x.has_file y.has_file) x.compares.is_have) y.reads in
         let here = subst (λ (z : List ℕ). CompilesTo level z a.source x.compares.own) text x.compares.compiles in
         let there = subst (λ (m : ResolvedModule). CompilesTo level y.text m.source x.compares.own) read here in
         own.not_both level y.text y.read.source x.compares.own fault there y.first
@@ -71,7 +71,7 @@ module _ (laws : FileLaws) (own : SourceLaws) where
     one_faulty f g x y =
         let text = same_content (files source) x.text y.text x.has_source y.has_source in
         let read = one_read y.bytes x.read y.read
-            (subst (λ (z : List ℕ). Reads z x.read) (same_content (files file) x.bytes y.bytes x.has_file y.has_file) x.reads) y.reads in
+        (subst (λ (z : List ℕ). Reads z x.read) (same_content (files file) x.bytes y.bytes x.has_file y.has_file) x.reads) y.reads in
         let here = subst (λ (z : List ℕ). IsFault level z x.read.source f) text x.first in
         let there = subst (λ (m : ResolvedModule). IsFault level y.text m.source f) read here in
         own.one_fault level y.text y.read.source f g there y.first
@@ -117,7 +117,7 @@ module _ (laws : FileLaws) (own : SourceLaws) where
         let want = same_want h.is.want k.is.want h.is.have k.is.have x y in
         let have = same_have h.is.want k.is.want h.is.have k.is.have x y in
         let first = subst (λ (m : ResolvedModule). FirstIn m.code k.is.have.code h.is.inner d.what d.at) want
-            (subst (λ (m : ResolvedModule). FirstIn h.is.want.code m.code h.is.inner d.what d.at) have h.is.first) in
+        (subst (λ (m : ResolvedModule). FirstIn h.is.want.code m.code h.is.inner d.what d.at) have h.is.first) in
         let one = one_first k.is.want.code k.is.have.code h.is.inner k.is.inner d.what e.what d.at e.at first k.is.first in
         same_difference d e (h.is.path_is ∙ (ap (λ (inner : List ℕ). 0 ∷ inner) one.0 ∙ sym k.is.path_is)) one.1 one.2
 

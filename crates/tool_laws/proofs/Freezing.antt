@@ -103,7 +103,7 @@ module _ (laws : FileLaws) (own : SourceLaws) (files : FileOf) where
       → is_read_fault f ≡ false → is_read_fault g ≡ false → f ≡ g
   one_first entries f g h k s t =
       let same = first_bad (HoldsSource (Some files)) (Bad f g) (never_bad f g) h.before k.before h.entry k.entry h.behind k.behind h.modules k.modules
-          (sym h.parts ∙ k.parts) h.sources k.sources (inl (record { refused = h.refused; settled = s })) (inr (record { refused = k.refused; settled = t })) in
+      (sym h.parts ∙ k.parts) h.sources k.sources (inl (record { refused = h.refused; settled = s })) (inr (record { refused = k.refused; settled = t })) in
       one_refused k.entry f g (subst (λ (entry : Entry). RefusesEntry (Some files) entry f) same h.refused) k.refused s t
 
   never_first : (entries : List Entry) (modules : List Named) (f : SourcesFault) → AllZip (HoldsSource (Some files)) entries modules → IsFirstRefused (Some files) entries f

@@ -118,8 +118,7 @@ module _ (laws : RunLaws) (Comes : Result Ready Ending → Type 0) (once : Answe
   both_alike one other s t (inl h) (inl k) =
       let ready = same_ready k.ready h.ready k.comes h.comes in
       let a = whole_a one h in
-      let b = whole_b other h.ready k ready in
-      (
+      let b = whole_b other h.ready k ready in (
         laws.alike h.ready.library h.ready.main room steps old new_a new_b h.end k.end said_a said_b tells a b,
         laws.said h.ready.library h.ready.main room steps old new_a new_b h.end k.end said_a said_b tells a b,
       )

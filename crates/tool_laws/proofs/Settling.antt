@@ -66,7 +66,7 @@ module _ (files : FileOf) where
     pub ends_once : ((before behind printed after : Option (List ℕ)) → EndOnce (Ending_with before behind) (Ending_with printed after)) → OneStatus (Ends Relates name) files
     ends_once once one other x y =
         let same = once x.old.out x.new.out y.old.out y.new.out x.went.ending y.went.ending (settled_by x.went.ending one x.went.status_is x.settled)
-            (settled_by y.went.ending other y.went.status_is y.settled) (ended one x) (ended other y) in
+        (settled_by y.went.ending other y.went.status_is y.settled) (ended one x) (ended other y) in
         x.went.status_is ∙ (ap status_of same ∙ sym y.went.status_is)
 
     pub ends_done : ((before behind : Option (List ℕ)) → IsDone (Ending_with before behind)) → Succeeds (Ends Relates name) files
@@ -80,7 +80,7 @@ module _ (files : FileOf) where
     pub writes_once : ((a b : Option FileOf) → EndOnce (Relates (Some files) a) (Relates (Some files) b)) → OneStatus (Writes Relates read written) files
     writes_once once one other x y =
         let same = once x.new.files y.new.files x.went.ending y.went.ending (settled_by x.went.ending one x.went.status_is x.settled)
-            (settled_by y.went.ending other y.went.status_is y.settled) (wrote one x) (wrote other y) in
+        (settled_by y.went.ending other y.went.status_is y.settled) (wrote one x) (wrote other y) in
         x.went.status_is ∙ (ap status_of same ∙ sym y.went.status_is)
 
     pub writes_done : ((new : Option FileOf) → IsDone (Relates (Some files) new)) → Succeeds (Writes Relates read written) files
@@ -94,7 +94,7 @@ module _ (files : FileOf) where
     pub writes_of_once : ((a b : Option FileOf) (place another : ℕ) → EndOnce (Relates (Some files) a place) (Relates (Some files) b another)) → OneStatus (WritesOf Relates words) files
     writes_of_once once one other x y =
         let same = once x.new.files y.new.files x.went.place y.went.place x.went.ending y.went.ending (settled_by x.went.ending one x.went.status_is x.settled)
-            (settled_by y.went.ending other y.went.status_is y.settled) (wrote_of one x) (wrote_of other y) in
+        (settled_by y.went.ending other y.went.status_is y.settled) (wrote_of one x) (wrote_of other y) in
         x.went.status_is ∙ (ap status_of same ∙ sym y.went.status_is)
 
     pub writes_of_done : ((new : Option FileOf) (place : ℕ) → IsDone (Relates (Some files) new place)) → Succeeds (WritesOf Relates words) files
@@ -109,7 +109,7 @@ module _ (files : FileOf) where
         → EndOnce (Relates (Some files) a before behind place) (Relates (Some files) b printed after another)) → OneStatus (EndsAt Relates words) files
     ends_at_once once one other x y =
         let same = once x.new.files y.new.files x.old.out x.new.out y.old.out y.new.out x.went.place y.went.place x.went.ending y.went.ending
-            (settled_by x.went.ending one x.went.status_is x.settled) (settled_by y.went.ending other y.went.status_is y.settled) (ended_at one x) (ended_at other y) in
+        (settled_by x.went.ending one x.went.status_is x.settled) (settled_by y.went.ending other y.went.status_is y.settled) (ended_at one x) (ended_at other y) in
         x.went.status_is ∙ (ap status_of same ∙ sym y.went.status_is)
 
     pub ends_at_done : ((new : Option FileOf) (before behind : Option (List ℕ)) (place : ℕ) → IsDone (Relates (Some files) new before behind place)) → Succeeds (EndsAt Relates words) files
@@ -146,7 +146,7 @@ module _ (Comes : Option FileOf → (name : List ℕ) → Result Ready Ending �
   pub run_once : RunLaws → AnswersOnce (Comes (Some files) name) → (one other : ℕ) → Call one → Call other → one ≡ other
   run_once laws once one other x y =
       let same = one_run laws (Comes (Some files) name) once room steps (seen printed ports) (sight_in x.new x.ports_new) (sight_in y.new y.ports_new) x.went.1.said y.went.1.said
-          (tells_so one x) x.accounted y.accounted x.went.1.ending y.went.1.ending (settled_so one x) (settled_so other y) (went_so one x) (went_so other y) in
+      (tells_so one x) x.accounted y.accounted x.went.1.ending y.went.1.ending (settled_so one x) (settled_so other y) (went_so one x) (went_so other y) in
       x.went.1.status_is ∙ (ap status_of same ∙ sym y.went.1.status_is)
 
   pub run_ends : AnswersOnce (Comes (Some files) name) → (ready : Ready) → Comes (Some files) name (Ok ready) → (status : ℕ) → Call status → IsRunStatus status

@@ -63,7 +63,7 @@ module _ (laws : RunLaws) (seed count : ℕ) (once : AnswersOnce (GoLibrary 0 (S
     never_both status x u number has =
         let settled = settled_by u.goes.ending status u.goes.status_is x.settled in
         let none = run_unmade (GoLibrary 0 (Some (stress_files seed count)) stress_name) once room steps (sight_in (beside seed count x.old x.old.out) ports) (sight_in x.new x.ports_new)
-            u.goes.said u.goes.ending settled u.unloaded u.goes.went in
+        u.goes.said u.goes.ending settled u.unloaded u.goes.went in
         let wrong : Ok has.0 ≡ Err u.goes.ending = once (Ok has.0) (Err u.goes.ending) tt settled has.1 none in
         cc
 
