@@ -1,5 +1,5 @@
 -- Names that are among the first locals, which have a short form.
-use Rattle.std.proofs.Common.{◌≡◌, ℕ, zero, suc, ◌+◌, ◌<◌, ◌≤◌, Bool, true, false, not, cond, ◌||◌, nat_lt, List, [], ◌∷◌, length, take, min, Some, None, position, refl, sym, arith}
+use Rattle.std.proofs.Common.{◌≡◌, ℕ, zero, suc, ◌+◌, ◌<◌, ◌≤◌, Bool, true, false, not, cond, ◌||◌, nat_lt, List, [], ◌∷◌, length, take, min, Some, None, position, sym, arith}
 use Rattle.std.specs.List.{list_any, position_or_len}
 use Rattle.std.proofs.lemmas.Bool.Decides.{nat_tests}
 use Rattle.emit_measures.specs.Lengths.{slot_length}
@@ -35,9 +35,7 @@ short k l n few early there = grind (arith, nat_tests)
 long : (k l n : ℕ) → n ≡ min l 16 → (k < l → n ≤ k) → slot_length (cond (nat_lt k l) (Some k) None) ≡ 4
 long k l n few late = grind (arith, nat_tests)
 
-chosen : {X : Type 0} (p : X → Bool) (xs : List X) (n : ℕ) (b : Bool) → n ≡ min (length xs) 16 → list_any p (take n xs) ≡ b → cond b 1 4 ≡ slot_length (position p xs)
-chosen p xs n true few e = let h = among p xs n e in sym (short (position_or_len p xs) (length xs) n (omega (arith, few)) h.0 h.1)
-chosen p xs n false few e = sym (long (position_or_len p xs) (length xs) n few (not_among p xs n e))
-
-pub early_length : {X : Type 0} (p : X → Bool) (xs : List X) (n : ℕ) → n ≡ min (length xs) 16 → cond (list_any p (take n xs)) 1 4 ≡ slot_length (position p xs)
-early_length p xs n few = chosen p xs n (list_any p (take n xs)) few refl
+-- whether a name is among the first 16 tells how long its code is
+pub early_length : {X : Type 0} (p : X → Bool) (xs : List X) (n : ℕ) (b : Bool) → n ≡ min (length xs) 16 → list_any p (take n xs) ≡ b → cond b 1 4 ≡ slot_length (position p xs)
+early_length p xs n true few e = let h = among p xs n e in sym (short (position_or_len p xs) (length xs) n (omega (arith, few)) h.0 h.1)
+early_length p xs n false few e = sym (long (position_or_len p xs) (length xs) n few (not_among p xs n e))

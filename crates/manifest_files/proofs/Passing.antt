@@ -1,11 +1,11 @@
 -- What is known of quiet manifests, at each point of a collection, of a folder that may tell its files.
-use Rattle.std.proofs.Common.{◌≡◌, ℕ, ◌<◌, Bool, true, false, true≢false, List, [], ◌∷◌, ◌++◌, length, get_or, All, Option, Some, None, IfSome, Ok, Vec, refl, ap, sym, ◌∙◌, subst, arith}
+use Rattle.std.proofs.Common.{◌≡◌, ℕ, ◌<◌, Bool, true, true≢false, List, [], ◌∷◌, ◌++◌, length, get_or, All, Option, Some, None, IfSome, Ok, Vec, refl, ap, sym, ◌∙◌, subst}
 use Rattle.std.specs.declared.alloc.Global.{Global}
 use Rattle.mpy_io.specs.Files.{FileOf}
 use Rattle.manifest_lines.specs.declared.entry.Entry.{Entry}
 use Rattle.manifest_lines.specs.declared.manifest.Line.{Line}
 use Rattle.manifest_files.specs.Answers.{Follows, LinesOf, Tells}
-use Rattle.manifest_files.specs.Entries.{Said, Saying, Itself, Another, line_saying, Says, entries_after}
+use Rattle.manifest_files.specs.Entries.{Saying, Itself, Another, line_saying, Says}
 use Rattle.manifest_files.specs.Quiet.{IsQuiet, AllInclude, LeadsOn, AreQuiet}
 use Rattle.manifest_files.proofs.Quiet.{lead_on, quiet_says, quiet_now}
 
@@ -63,8 +63,8 @@ inner_leads (Some files) opened these name line before mid inner text are is f h
 pub passed_over : (o : Option FileOf) (left : ℕ) (opened : List (List ℕ)) (name : List ℕ) (before : List Entry) (kept : Kept) (b : Bool)
     → ((files : FileOf) → AreQuiet files kept → b ≡ true → IsQuiet files left name) → b ≡ true
     → IfSome o (λ files. AreQuiet files kept) → IfSome o (λ files. AllInclude files opened name) → IfSome o (λ files. Tells (Says files left opened name) before (Ok tt) before)
-passed_over None left opened name before kept b is yes h over = tt
-passed_over (Some files) left opened name before kept b is yes h over = ([], quiet_says files left opened name (is files h yes) over, refl)
+passed_over None left opened name before kept b each is h over = tt
+passed_over (Some files) left opened name before kept b each is h over = ([], quiet_says files left opened name (each files h is) over, refl)
 
 pub kept_now : (o : Option FileOf) (left : ℕ) (opened : List (List ℕ)) (name : List ℕ) (before after : List Entry) (old new : Kept)
     → ((files : FileOf) → AreQuiet files old → IsQuiet files left name → AreQuiet files new) → length after ≡ length before

@@ -1,5 +1,5 @@
 -- The entries that are added are plain.
-use Rattle.std.proofs.Common.{◌≡◌, ◌<◌, ◌≤◌, ◌&&◌, ℕ, Bool, true, false, true≢false, List, [], ◌∷◌, ◌++◌, length, map, nat_lt, nat_le, Option, Some, None, Result, Ok, Err, IsUtf8, refl, sym, subst, arith, if◌then◌else◌}
+use Rattle.std.proofs.Common.{◌≡◌, ◌<◌, ◌≤◌, ◌&&◌, ℕ, Bool, true, false, true≢false, List, [], ◌∷◌, ◌++◌, length, map, nat_lt, nat_le, Ok, Err, IsUtf8, refl, sym, subst, arith, if◌then◌else◌}
 use Rattle.std.specs.Prelude.{All}
 use Rattle.std.specs.List.{list_all}
 use Rattle.std.proofs.lemmas.Bool.{ltb-true}
@@ -9,7 +9,7 @@ use Rattle.std.proofs.lemmas.Str.{IsUtf8-append}
 use Rattle.mpy_base.specs.declared.limits.TheConstants.{MAX_MODULES}
 use Rattle.manifest_lines.specs.declared.entry.Entry.{Entry}
 use Rattle.manifest_files.specs.declared.fault.ManifestFault.TheVariants.{Twice, TooMany}
-use Rattle.manifest_files.specs.Entries.{is_ascii, is_plain, placed, said_entry, has_module, one_more, and_then, entries_after}
+use Rattle.manifest_files.specs.Entries.{is_ascii, is_plain, placed, said_entry, has_module, and_then, entries_after}
 use Rattle.manifest_files.specs.Plain.{IsPlain}
 use Rattle.manifest_files.proofs.Names.{ascii_utf8}
 

@@ -1,9 +1,10 @@
 -- Quiet manifests: they say nothing, and none includes itself.
-use Rattle.std.proofs.Common.{◌≡◌, ◌⊎◌, ℕ, zero, suc, ◌+◌, ◌<◌, ◌≤◌, Bool, true, false, true≢false, cond, ◌||◌, nat_lt, nat_le, List, [], ◌∷◌, ◌++◌, map, length, get_or, All, Contains, Option, Some, None, Ok, Err, Vec, if◌then◌else◌, inl, inr, refl, ap, sym, ◌∙◌, subst, arith}
+use Rattle.std.proofs.Common.{◌≡◌, ◌⊎◌, ℕ, zero, suc, ◌+◌, ◌<◌, ◌≤◌, Bool, true, false, cond, ◌||◌, nat_lt, nat_le, List, [], ◌∷◌, ◌++◌, map, length, get_or, All, Option, Some, None, Ok, Err, Vec, if◌then◌else◌, inl, inr, refl, ap, sym, ◌∙◌, subst, arith}
 use Rattle.std.specs.List.{list_all}
 use Rattle.std.specs.Map.{lookup}
 use Rattle.std.specs.Str.{bytes_eq}
 use Rattle.std.specs.declared.alloc.Global.{Global}
+use Rattle.std.proofs.lemmas.Bool.{leb-true}
 use Rattle.std.proofs.lemmas.List.{length_push}
 use Rattle.std.proofs.lemmas.List.Elements.{All-nil, All-cons, All-head, All-tail, All-contains, Contains-get_or}
 use Rattle.std.proofs.lemmas.Slice.Eq.{bytes_eq-Decides}
@@ -25,7 +26,7 @@ nothing_more : (P Q : List ℕ → Type 0) (saying : Saying) → ((inner : List 
 nothing_more P Q (Itself said) each n = n
 nothing_more P Q (Another inner) each n = each inner n
 
-pub more_quiet : (files : FileOf) (less left : ℕ) (name : List ℕ) → less ≤ left → IsQuiet files less name → IsQuiet files left name
+more_quiet : (files : FileOf) (less left : ℕ) (name : List ℕ) → less ≤ left → IsQuiet files less name → IsQuiet files left name
 more_quiet files zero left name l q = absurd q
 more_quiet files (suc less) zero name l q = absurd (omega (arith, l))
 more_quiet files (suc less) (suc left) name l q =
@@ -95,9 +96,14 @@ says_nothing files (suc left) opened name s =
     by : (file : Option (List ℕ)) → files name ≡ file → FileSays (AreSaid (LineSays files left (opened ++ name ∷ []) name)) name file []
         → ((inner : List ℕ) → Says files left (opened ++ name ∷ []) inner [] → IsQuiet files left inner) → IsQuiet files (suc left) name
     by None e f each = absurd cc
-    by (Some bytes) e f each =
-        (bytes, f.0, e, f.1, all_nothing (LineSays files left (opened ++ name ∷ []) name) (λ line. IsNothing (IsQuiet files left) (line_saying [] name line))
-        (λ line h. nothing_of (Says files left (opened ++ name ∷ [])) (IsQuiet files left) each (line_saying [] name line) (none_open (Says files left (opened ++ name ∷ [])) (opened ++ name ∷ []) name line.number line.order h)) f.0 f.2)
+    by (Some bytes) e f each = (
+      bytes,
+      f.0,
+      e,
+      f.1,
+      all_nothing (LineSays files left (opened ++ name ∷ []) name) (λ line. IsNothing (IsQuiet files left) (line_saying [] name line))
+          (λ line h. nothing_of (Says files left (opened ++ name ∷ [])) (IsQuiet files left) each (line_saying [] name line) (none_open (Says files left (opened ++ name ∷ [])) (opened ++ name ∷ []) name line.number line.order h)) f.0 f.2,
+    )
 
 -- ---- what is open
 
@@ -139,7 +145,7 @@ none_aside opened name inner number (Some (Freeze entries)) e = e
 none_aside opened name inner number (Some Nothing) e = e
 none_aside opened name inner number (Some (Require wanted)) e = e
 
-lead_on : (files : FileOf) (opened : List (List ℕ)) (name bytes : List ℕ) (lines : List Line) → files name ≡ Some bytes → AreLines bytes lines → AllInclude files opened name → All (LeadsOn files (opened ++ name ∷ []) name) lines
+pub lead_on : (files : FileOf) (opened : List (List ℕ)) (name bytes : List ℕ) (lines : List Line) → files name ≡ Some bytes → AreLines bytes lines → AllInclude files opened name → All (LeadsOn files (opened ++ name ∷ []) name) lines
 lead_on files opened name bytes lines file are over = λ k d lt inner e.
     let line = get_or lines k d in
     all_further files opened name inner over
@@ -152,17 +158,15 @@ order_says : (files : FileOf) (left : ℕ) (opened : List (List ℕ)) (name : Li
     → ((inner : List ℕ) → order_saying [] name number order ≡ Another inner → AllInclude files opened inner)
     → IsNothing (IsQuiet files left) (order_saying [] name number order) → IsSaid (Says files left opened) (order_saying opened name number order) []
 order_says files left opened name number None each over n = sym n
-order_says files left opened name number (Some (Include path)) each over n = by (is_ascii path) (is_open opened inner) refl over n
+order_says files left opened name number (Some (Include path)) each over n = by (folder_of name ++ path) (is_ascii path) (is_open opened (folder_of name ++ path)) refl over n
   where
-    abbrev inner : List ℕ
-    inner = folder_of name ++ path
-    by : (a b : Bool) → is_open opened inner ≡ b
+    by : (inner : List ℕ) (a b : Bool) → is_open opened inner ≡ b
         → ((other : List ℕ) → (if a then Another inner else faulty (BadCall name number)) ≡ Another other → AllInclude files opened other)
         → IsNothing (IsQuiet files left) (if a then Another inner else faulty (BadCall name number))
         → IsSaid (Says files left opened) (if a then (if b then faulty (Loop inner) else Another inner) else faulty (BadCall name number)) []
-    by true true is reach h = let itself = reach inner refl inner is in absurd (no_circle files left left itself.0 inner (omega arith) h itself.1)
-    by true false is reach h = each inner h (reach inner refl)
-    by false b is reach h = sym h
+    by inner true true is reach h = let itself = reach inner refl inner is in absurd (no_circle files left left itself.0 inner (omega arith) h itself.1)
+    by inner true false is reach h = each inner h (reach inner refl)
+    by inner false b is reach h = sym h
 order_says files left opened name number (Some (Freeze entries)) each over n = by (list_all is_plain entries) n
   where
     by : (a : Bool) → IsNothing (IsQuiet files left) (if a then Itself (map (said_entry (folder_of name)) entries) else faulty (BadCall name number))
@@ -181,11 +185,14 @@ pub quiet_says : (files : FileOf) (left : ℕ) (opened : List (List ℕ)) (name 
 quiet_says files zero opened name q over = absurd q
 quiet_says files (suc left) opened name q over =
     let now = opened ++ name ∷ [] in
-    subst (λ (z : Option (List ℕ)). FileSays (AreSaid (LineSays files left now name)) name z []) (sym q.2)
-    (q.1, q.3, all_silent (LineSays files left now name) q.1 (λ k d lt.
-    let line = get_or q.1 k d in
-    order_says files left now name line.number line.order (λ inner h its. quiet_says files left now inner h its)
-    (λ inner e. all_further files opened name inner over (q.0, q.1, line, q.2, q.3, Contains-get_or q.1 k d lt, e)) (q.4 k d lt)))
+    subst (λ (z : Option (List ℕ)). FileSays (AreSaid (LineSays files left now name)) name z []) (sym q.2) (
+      q.1,
+      q.3,
+      all_silent (LineSays files left now name) q.1 (λ k d lt.
+          let line = get_or q.1 k d in
+          order_says files left now name line.number line.order (λ inner h its. quiet_says files left now inner h its)
+          (λ inner e. all_further files opened name inner over (q.0, q.1, line, q.2, q.3, Contains-get_or q.1 k d lt, e)) (q.4 k d lt)),
+    )
 
 -- ---- what adds nothing
 
@@ -198,7 +205,7 @@ grown (Ok entry ∷ said) before after e =
     by : (b c : Bool)
         → and_then (if b then Err (Twice entry.«module») else (if c then Ok (before ++ entry ∷ []) else Err TooMany)) (λ more. entries_after more said) ≡ Ok after
         → (entries_after (before ++ entry ∷ []) said ≡ Ok after → length after ≡ length (before ++ entry ∷ []) + length said)
-        → length after ≡ length before + length (entry ∷ said)
+        → length after ≡ length before + suc (length said)
     by true c f more = absurd cc
     by false true f more = let l = more f in let p = length_push before entry in omega (arith, l, p)
     by false false f more = absurd cc
@@ -217,7 +224,7 @@ quiet_now files left opened name said before after s e l =
 abbrev Kept : Type 0
 Kept = List (Vec ℕ Global × ℕ)
 
-pub known : (files : FileOf) (name : List ℕ) (left : ℕ) (kept : Kept) → lookup (λ key. bytes_eq name key.items) kept ≡ Some left → AreQuiet files kept → IsQuiet files left name
+known : (files : FileOf) (name : List ℕ) (left : ℕ) (kept : Kept) → lookup (λ key. bytes_eq name key.items) kept ≡ Some left → AreQuiet files kept → IsQuiet files left name
 known files name left [] e h = absurd cc
 known files name left (one ∷ kept) e h = by (bytes_eq name one.0.items) refl e (λ f. known files name left kept f h.1)
   where
@@ -228,6 +235,9 @@ known files name left (one ∷ kept) e h = by (bytes_eq name one.0.items) refl e
         let number : one.1 ≡ left = cc in
         subst (λ (z : ℕ). IsQuiet files z name) number (subst (IsQuiet files one.1) (sym same) h.0)
     by false is f more = more f
+
+pub known_less : (files : FileOf) (name : List ℕ) (left less : ℕ) (kept : Kept) → Some less ≡ lookup (λ key. bytes_eq name key.items) kept → AreQuiet files kept → nat_le less left ≡ true → IsQuiet files left name
+known_less files name left less kept e h is = more_quiet files less left name (leb-true less left is) (known files name less kept (sym e) h)
 
 pub keep_one : (files : FileOf) (key : Vec ℕ Global) (left : ℕ) (kept : Kept) → IsQuiet files left key.items → AreQuiet files kept → AreQuiet files (insert_entry (λ x y. bytes_eq x.items y.items) kept key left)
 keep_one files key left [] q h = (q, tt)

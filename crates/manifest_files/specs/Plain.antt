@@ -1,5 +1,5 @@
 -- What holds of each entry of a manifest.
-use Rattle.std.specs.Prelude.{ℕ, ◌<◌, ◌≤◌, All, IsUtf8}
+use Rattle.std.specs.Prelude.{◌<◌, ◌≤◌, All, IsUtf8}
 use Rattle.manifest_lines.specs.declared.entry.Entry.{Entry}
 
 -- the names of its module and of its source are ASCII, its path is a text, and its level is one of the four

@@ -124,9 +124,10 @@ fn once<F: Folder>(
         Ok(()) => {}
         Err(refused) => return Err(refused),
     }
-    if entries.len() == before {
-        keep(alloc, quiet, left, name.as_bytes())?;
+    if entries.len() != before {
+        return Ok(());
     }
+    keep(alloc, quiet, left, name.as_bytes())?;
     Ok(())
 }
 

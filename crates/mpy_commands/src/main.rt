@@ -3,11 +3,12 @@
 //!
 //! The file `memory` has a row for each, with an empty line between two. A row's line begins with a tag: `$` the command's words, of
 //! which `''` is the empty one; `@` a file's name, and behind it `|` a line of it, `x` bytes of it in hexadecimal. `?` gives the answers
-//! of a port, and without it there is none; `!f`, `!o` and `!p` number a call of the folder, of the output and of the port that fails.
+//! of a port, and without it there is none; `!f`, `!o`, `!s` and `!p` number a call of the folder, of the output, of what is said and of
+//! the port that fails. `#` is a remark.
 //!
 //! What is to come of it: `=` is the status, `>` a line that is printed, `+` a text, and `<` says that only a front of that is printed;
-//! `-` is a line that is said, `w` has the numbers that the port has written, and `^` names a file that is there behind the command with
-//! the bytes in `o`, in hexadecimal, or isn't there where these are none.
+//! `-` is a line that is said and `-+` a text, `w` has the numbers that the port has written, and `^` names a file that is there behind
+//! the command with the bytes in `o`, in hexadecimal, or isn't there where these are none.
 #![tactic(auto)]
 
 mod parts;

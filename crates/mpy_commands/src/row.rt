@@ -16,6 +16,7 @@ struct Given {
     files: Vec<File>,
     folder_fails: Vec<u64>,
     out_fails: Vec<u64>,
+    say_fails: Vec<u64>,
     has_port: bool,
     answers: Vec<i32>,
     port_fails: Vec<u64>,
@@ -71,6 +72,7 @@ impl Given {
             files: Vec::new(alloc),
             folder_fails: Vec::new(alloc),
             out_fails: Vec::new(alloc),
+            say_fails: Vec::new(alloc),
             has_port: false,
             answers: Vec::new(alloc),
             port_fails: Vec::new(alloc),
@@ -85,6 +87,7 @@ impl Given {
             "|" | "x" => add_bytes(&mut self.files, tag, rest)?,
             "!f" => add_call(&mut self.folder_fails, rest)?,
             "!o" => add_call(&mut self.out_fails, rest)?,
+            "!s" => add_call(&mut self.say_fails, rest)?,
             "!p" => add_call(&mut self.port_fails, rest)?,
             "?" => {
                 self.has_port = true;
@@ -116,6 +119,7 @@ impl Wanted {
             ">" | "+" => put(&mut self.out, tag, rest)?,
             "<" => self.is_front = true,
             "-" => put(&mut self.say, tag, rest)?,
+            "-+" => put(&mut self.say, "+", rest)?,
             "w" => self.numbers = numbers(alloc, rest)?,
             "^" => add_file(alloc, &mut self.files, rest)?,
             "o" => add_bytes(&mut self.files, tag, rest)?,
@@ -181,6 +185,7 @@ impl Row {
             files,
             folder_fails,
             out_fails,
+            say_fails,
             has_port,
             answers,
             port_fails,
@@ -192,7 +197,7 @@ impl Row {
         let mut outside = Outside {
             folder: MemFolder::new(alloc, files, folder_fails),
             out: MemSink::new(alloc, out_fails),
-            say: MemSink::new(alloc, Vec::new(alloc)),
+            say: MemSink::new(alloc, say_fails),
             ports: PortSet::new(ports),
         };
         let status = mpy(alloc, &words, &mut outside);

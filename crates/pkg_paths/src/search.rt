@@ -75,6 +75,9 @@ pub fn find<F: Folder>(
     let paths = candidates(alloc, base, name, ending)?;
     match read_one(alloc, folder, paths.package) {
         Ok(None) => read_one(alloc, folder, paths.plain),
-        found => found,
+        found => {
+            drop(paths.plain);
+            found
+        }
     }
 }

@@ -58,6 +58,19 @@ loop-name-preserved g c =
       absent = c.in-Ok.ensures.absent;
     }
 
+pub loop-name-preserved-in-Ok-put_in_front : goal.loop-name-preserved-in-Ok-put_in_front
+loop-name-preserved-in-Ok-put_in_front g c =
+    let l = c.loop-name in
+    record {
+      leaving = leaving_on (NameComesTo (g.R.Reader.ending c.args.reader.now) (g.R.Reader.comes c.args.reader.now) c.args.base.now) (g.F.Folder.files c.args.folder.now) c.args.begun.now l.begun c.args.left.items (g.F.Folder.files l.folder) c.import.new.begun c.pop.new.self.items l.left.items
+          c.put_in_front.new.left.items c.in-Some.name c.in-Ok.found l.invariant.same c.in-Some.ensures.items c.in-Ok-put_in_front.ensures l.invariant.leaving
+          (subst (λ (z : List ℕ). IfSome (g.F.Folder.files l.folder) (λ files. AsksFound ((NameComesTo (g.R.Reader.ending c.args.reader.now) (g.R.Reader.comes c.args.reader.now) c.args.base.now) files) l.begun c.import.new.begun (asked_for z) (Ok c.in-Ok.found))) c.bytes.ensures c.in-Ok.ensures.loads)
+          c.in-Ok.ensures.step;
+      same = c.in-Ok.ensures.same ∙ l.invariant.same;
+      still = c.in-Ok.ensures.cause ∙ l.invariant.still;
+      absent = c.in-Ok.ensures.absent;
+    }
+
 pub loop-name-smaller : goal.loop-name-smaller
 loop-name-smaller g c =
     falls c.loop-name.begun.library c.import.new.begun.library c.loop-name.left.items c.put_in_front.new.left.items c.pop.new.self.items c.in-Some.name c.in-Ok.found.items

@@ -1,4 +1,4 @@
-use Rattle.std.proofs.Common.{◌≡◌, ℕ, List, Err, Ok, arith, rules, subst, sym, ◌∙◌}
+use Rattle.std.proofs.Common.{◌≡◌, ℕ, List, Option, Some, Err, Ok, arith, rules, subst, sym, ◌∙◌}
 use Rattle.mpy_base.specs.declared.refused.Refused.TheVariants as refused
 use Rattle.mpy_io.specs.Files.{FileOf}
 use Rattle.manifest_files.specs.declared.fault.ManifestFault.TheVariants.{Deep}
@@ -69,39 +69,71 @@ one_line-returns-in-Err-clause-told g t c =
 
 -- ---- what is known of quiet manifests
 
-pub all_lines-one_line-requires-clause-known : goal.all_lines-one_line-requires-clause-known
-all_lines-one_line-requires-clause-known g t c =
-    here_too (λ files. AreQuiet files c.loop-line.quiet.entries) (g.F.Folder.files c.args.folder.now) (g.F.Folder.files c.loop-line.folder) c.loop-line.invariant.same c.loop-line.invariant.kept
-
-pub all_lines-one_line-requires-clause-over : goal.all_lines-one_line-requires-clause-over
-all_lines-one_line-requires-clause-over g t c =
-    line_leads (g.F.Folder.files c.args.folder.now) (g.F.Folder.files c.loop-line.folder) c.args.opened.now.items c.loop-line.opened.items c.args.name.now c.args.lines.now c.loop-line.line-index c.line-item.result
-    c.loop-line.invariant.same c.loop-line.invariant.opened c.loop-line-test.true c.line-item.is c.requires.over
-
 pub all_lines-returns-clause-kept : goal.all_lines-returns-clause-kept
 all_lines-returns-clause-kept g t c = c.loop-line.invariant.kept
-
-pub manifest-all_lines-requires-clause-known : goal.manifest-all_lines-requires-clause-known
-manifest-all_lines-requires-clause-known g t c =
-    here_too (λ files. AreQuiet files c.args.quiet.now.entries) (g.F.Folder.files c.args.folder.now) (g.F.Folder.files c.read_lines.new.folder) c.read_lines.ensures.same c.requires.known
-
-pub manifest-all_lines-requires-clause-over : goal.manifest-all_lines-requires-clause-over
-manifest-all_lines-requires-clause-over g t c =
-    let those : c.deref.result.now ≡ c.in-Ok.lines.items = first_of (cc, search rules) in
-    lines_lead (g.F.Folder.files c.args.folder.now) (g.F.Folder.files c.read_lines.new.folder) c.args.opened.now.items c.push.new.self.items c.args.name.now c.in_ok-this.this c.in-Ok.lines c.deref.result.now
-    c.read_lines.ensures.same c.in_ok-push.ensures.items (c.in_ok-this.ensures ∙ c.as_bytes.ensures.value) those c.in-Ok.ensures.lines c.requires.over
 
 pub manifest-returns-clause-kept : goal.manifest-returns-clause-kept
 manifest-returns-clause-kept g t c =
     here_too (λ files. AreQuiet files c.all_lines.new.quiet.entries) (g.F.Folder.files c.read_lines.new.folder) (g.F.Folder.files c.args.folder.now) (sym c.read_lines.ensures.same) c.in-Ok-all_lines.ensures.kept
 
-pub one_line-once-requires-clause-over : goal.one_line-once-requires-clause-over
-one_line-once-requires-clause-over g t c =
-    let these : c.deref.result.now ≡ c.args.opened.now.items = first_of (cc, search rules) in
-    inner_leads (g.F.Folder.files c.args.folder.now) c.args.opened.now.items c.deref.result.now c.args.name.now c.args.line.now c.args.entries.now.items c.follow.new.entries.items c.in-Ok-Some.inner c.text_of.result.now
-    these c.text_of.ensures c.in-Ok-Some.ensures.said c.requires.over
-
 pub once-returns-then-is_known-clause-told : goal.once-returns-then-is_known-clause-told
 once-returns-then-is_known-clause-told g t c =
     passed_over (g.F.Folder.files c.args.folder.now) c.args.left c.args.opened.now.items c.args.name.now c.args.entries.now.items c.args.quiet.now.entries c.is_known.result
-    (λ files h yes. subst (IsQuiet files c.args.left) c.as_bytes.ensures.value (c.is_known.ensures files h yes)) c.if-is_known.true c.requires.known c.requires.over
+    (λ files h e. subst (IsQuiet files c.args.left) c.as_bytes.ensures.value (c.is_known.ensures files h e)) c.if-is_known.true c.requires.1.1.1.1.0 c.requires.1.1.1.1.1
+
+pub once-returns-clause-kept : goal.once-returns-clause-kept
+once-returns-clause-kept g t c =
+    kept_now (g.F.Folder.files c.args.folder.now) c.args.left c.args.opened.now.items c.args.name.now c.args.entries.now.items c.manifest.new.entries.items c.manifest.new.quiet.entries c.keep.new.quiet.entries
+    (λ files h is. c.in_ok-keep.ensures files h (subst (IsQuiet files c.args.left) (sym c.as_bytes-2.ensures.value) is)) (omega arith) c.in-Ok.ensures.told c.in-Ok.ensures.kept
+
+pub all_lines-one_line-requires : goal.all_lines-one_line-requires
+all_lines-one_line-requires g t c κs within_lives = (
+  omega arith,
+  (
+    within_lives,
+    (
+      omega arith,
+      (
+        here_too (λ files. AreQuiet files c.loop-line.quiet.entries) (g.F.Folder.files c.args.folder.now) (g.F.Folder.files c.loop-line.folder) c.loop-line.invariant.same c.loop-line.invariant.kept,
+        line_leads (g.F.Folder.files c.args.folder.now) (g.F.Folder.files c.loop-line.folder) c.args.opened.now.items c.loop-line.opened.items c.args.name.now c.args.lines.now c.loop-line.line-index c.line-item.result
+            c.loop-line.invariant.same c.loop-line.invariant.opened c.loop-line-test.true c.line-item.is c.requires.1.1.1.1.1,
+      ),
+    ),
+  ),
+)
+
+pub manifest-all_lines-requires : goal.manifest-all_lines-requires
+manifest-all_lines-requires g t c κs within_lives =
+    let those : c.deref.result.now ≡ c.in-Ok.lines.items = first_of (cc, search rules) in (
+      omega arith,
+      (
+        within_lives,
+        (
+          omega arith,
+          (
+            here_too (λ files. AreQuiet files c.args.quiet.now.entries) (g.F.Folder.files c.args.folder.now) (g.F.Folder.files c.read_lines.new.folder) c.read_lines.ensures.same c.requires.1.1.1.1.0,
+            lines_lead (g.F.Folder.files c.args.folder.now) (g.F.Folder.files c.read_lines.new.folder) c.args.opened.now.items c.push.new.self.items c.args.name.now c.in_ok-this.this c.in-Ok.lines c.deref.result.now
+                c.read_lines.ensures.same c.in_ok-push.ensures.items (c.in_ok-this.ensures ∙ c.as_bytes.ensures.value) those c.in-Ok.ensures.lines c.requires.1.1.1.1.1,
+          ),
+        ),
+      ),
+    )
+
+pub one_line-once-requires : goal.one_line-once-requires
+one_line-once-requires g t c κs within_lives =
+    let these : c.deref.result.now ≡ c.args.opened.now.items = first_of (cc, search rules) in
+    let some : c.in-Ok-Some.field-0 ≡ Some c.in-Ok-Some.inner = first_of (cc, search rules) in
+    let said = subst (λ (z : Option (List ℕ)). Follows c.args.entries.now.items (line_saying c.deref.result.now c.args.name.now c.args.line.now) (Ok z) c.follow.new.entries.items) some c.in-Ok-Some.ensures.said in (
+      omega arith,
+      (
+        within_lives,
+        (
+          omega arith,
+          (
+            c.requires.1.1.1.1.0,
+            inner_leads (g.F.Folder.files c.args.folder.now) c.args.opened.now.items c.deref.result.now c.args.name.now c.args.line.now c.args.entries.now.items c.follow.new.entries.items c.in-Ok-Some.inner c.text_of.result.now
+                these c.text_of.ensures said c.requires.1.1.1.1.1,
+          ),
+        ),
+      ),
+    )

@@ -3,7 +3,7 @@ use Rattle.std.specs.declared.alloc.Global.{Global}
 use Rattle.mpy_base.specs.declared.refused.Refused.{Refused}
 use Rattle.manifest_lines.specs.declared.entry.Entry.{Entry}
 use Rattle.manifest_files.specs.declared.fault.ManifestFault.{ManifestFault}
-use Rattle.manifest_files.proofs.Passing.{none_opened, none_kept}
+use Rattle.manifest_files.proofs.Passing.{none_opened}
 use Rattle.manifest_files.proofs.Tells.{found_all, first_fault}
 use Rattle.manifest_files.proofs.collecting.collect.Goals as goal
 
