@@ -10,16 +10,16 @@ use Rattle.command_files.specs.Images.{HoldsImage, RefusesImage}
 use Rattle.command_files.specs.Outside.{Outside}
 use Rattle.command_files.specs.Over.{EndsAtBase}
 use Rattle.tool_laws.specs.Laws.{ImageLaws}
-use Rattle.tool_laws.specs.Once.{CanBeRead, IsSettledStatus, OneStatus, OverBase, Settled}
+use Rattle.tool_laws.specs.Once.{IsSettledStatus, OneStatus, OverBase, Settled}
 use Rattle.tool_laws.specs.Runs.{Going, OnFiles, OneRunStatus, RunOver, SettledRun}
 use Rattle.tool_laws.proofs.ImageFiles.{NoImage, never_no_image, no_image, one_library, one_no_image}
 use Rattle.tool_laws.proofs.Settling.{settled_by}
 
-module _ (laws : ImageLaws) (files : FileOf) (base : List ℕ) (read : CanBeRead files base) where
+module _ (laws : ImageLaws) (files : FileOf) (base : List ℕ) where
   -- the base isn't opened
   stopped : (status : ℕ) (old new : Outside) → old.files ≡ Some files → IsSettledStatus status → (x : EndsAtBase base old new status) → NoImage no_entries files base x.ending
   stopped status old new tells settled x =
-      no_image no_entries files base x.ending read (settled_by x.ending status x.status_is settled) (subst (λ (f : Option FileOf). RefusesImage no_entries f base x.ending) tells x.refused)
+      no_image no_entries files base x.ending (settled_by x.ending status x.status_is settled) (subst (λ (f : Option FileOf). RefusesImage no_entries f base x.ending) tells x.refused)
 
   held : (f : Option FileOf) (shelf : Shelf) → f ≡ Some files → HoldsImage no_entries f base shelf → HoldsImage no_entries (Some files) base shelf
   held f shelf tells h = subst (λ (g : Option FileOf). HoldsImage no_entries g base shelf) tells h

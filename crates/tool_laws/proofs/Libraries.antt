@@ -1,6 +1,7 @@
 -- What the file or the source of a name comes to as a library with a main module.
-use Rattle.std.proofs.Common.{◌≡◌, ◌⊎◌, inl, inr, ℕ, true, false, List, length, Option, Some, None, refl, sym, ap, subst, ◌∙◌}
+use Rattle.std.proofs.Common.{◌≡◌, ◌⊎◌, ◌<◌, ◌≤◌, inl, inr, ℕ, Bool, true, false, List, length, Option, Some, None, refl, sym, ap, subst, ◌∙◌}
 use Rattle.std.specs.Prelude.{Result, Ok, Err}
+use Rattle.mpy_base.specs.declared.limits.TheConstants.{MAX_READ_BYTES}
 use Rattle.mpy_base.specs.declared.source.SourceFault.{SourceFault}
 use Rattle.mpy_io.specs.Files.{FileOf}
 use Rattle.bc_library.specs.declared.fault.Member.{Member}
@@ -8,6 +9,8 @@ use Rattle.bc_library.specs.declared.fault.Member.TheVariants as members
 use Rattle.mpy_tree.specs.Raw.{Module}
 use Rattle.mpy_tree.specs.File.{IsFile}
 use Rattle.bc_library.specs.Shelf.{Shelf, member_of}
+use Rattle.mpy_reader.specs.declared.fault.FileFault.{FileFault}
+use Rattle.mpy_reader.specs.declared.fault.FileFault.TheVariants.{TooBig}
 use Rattle.image_grammar.specs.declared.fault.ImageFault.{ImageFault}
 use Rattle.image_grammar.specs.Base.{base_of as images_base}
 use Rattle.image_grammar.specs.Opening.{FirstFault}
@@ -24,13 +27,13 @@ use Rattle.mpy_endings.specs.Ending.{IsSettled}
 use Rattle.command_files.specs.Folder.{IsNotRead}
 use Rattle.command_files.specs.Opened.{HoldsModule}
 use Rattle.command_files.specs.Source.{HoldsFaulty}
+use Rattle.command_files.proofs.Long.{not_read as refuses_unread}
 use Rattle.stress_command.specs.run_commands.declared.ready.Ready.{Ready}
 use Rattle.stress_command.specs.run_commands.Base.{base_of}
 use Rattle.stress_command.specs.run_commands.Go.{RefusesSources, SourceLoadsOf}
 use Rattle.stress_command.specs.run_commands.Ready.{FirstOf, GoLibrary, ImageStart, IsFirst, RunLibrary, begins_image, not_read, of_file, of_image}
 use Rattle.stress_command.specs.run_commands.Run.{FileLibrary, HoldsMain, LoadsOf, RefusesLibrary}
 use Rattle.tool_laws.specs.Laws.{FileLaws, ImageLaws, LoadLaws, SourceLaws}
-use Rattle.tool_laws.specs.Once.{CanBeRead}
 use Rattle.tool_laws.specs.Runs.{AnswersOnce, IsSettledAnswer}
 use Rattle.tool_laws.proofs.ImageFiles.{never_faulty, never_long}
 use Rattle.tool_laws.proofs.Opened.{Refused, never_refused, none_there, one_refused, refused_of, same_content}
@@ -225,40 +228,59 @@ module _ (of_images : ImageLaws) (opened : List (List ℕ)) (below : Shelf) (is_
 -- ==================
 
 module _ (laws : FileLaws) (load : LoadLaws) (of_images : ImageLaws) (opened : List (List ℕ)) (below : Shelf) (is_opened : IsOpenedOf opened below) (main : List ℕ) (files : FileOf) (name : List ℕ) where
+  -- bytes that begin as an image are too many to be read, or come to what an image comes to
+  abbrev ImageOr : (bytes : List ℕ) → Result Ready Ending → Type 0
+  ImageOr bytes answer =
+      ((MAX_READ_BYTES < length bytes) × (answer ≡ Err (Unread TooBig)))
+      ⊎ ((length bytes ≤ MAX_READ_BYTES) × ImageSo of_images opened below is_opened main bytes answer)
+
   -- nothing is there, a file is, or an image
   abbrev RunSo : Result Ready Ending → Type 0
   RunSo answer =
       ((files name ≡ None) × (answer ≡ Err Absent))
       ⊎ (((bytes : List ℕ) × (files name ≡ Some bytes) × (begins_image bytes ≡ false) × FileSo laws load files name answer)
-      ⊎ ((bytes : List ℕ) × (files name ≡ Some bytes) × (begins_image bytes ≡ true) × ImageSo of_images opened below is_opened main bytes answer))
+      ⊎ ((bytes : List ℕ) × (files name ≡ Some bytes) × (begins_image bytes ≡ true) × ImageOr bytes answer))
 
-  unread_so : (answer : Result Ready Ending) (ending : Ending) → CanBeRead files name → IsSettledAnswer answer → IsNotRead (Some files) name ending → answer ≡ Err ending → RunSo answer
-  unread_so answer Absent read s p e = inl (p, e)
-  unread_so answer (Unread fault) read s p e = absurd (never_long files name p.1.0 read p.1.1 p.1.2)
-  unread_so answer ReadFault read s p e = absurd (subst IsSettledAnswer e s)
-  unread_so answer NoMemory read s p e = absurd (subst IsSettledAnswer e s)
-  unread_so answer Done read s p e = absurd p
-  unread_so answer (Unaccepted fault) read s p e = absurd p
-  unread_so answer (Unverified fault) read s p e = absurd p
-  unread_so answer (Unmerged fault) read s p e = absurd p
-  unread_so answer (Unopened fault) read s p e = absurd p
-  unread_so answer (Unfrozen fault) read s p e = absurd p
-  unread_so answer (Unboarded fault) read s p e = absurd p
-  unread_so answer (Different difference) read s p e = absurd p
-  unread_so answer (Stopped stop) read s p e = absurd p
-  unread_so answer WriteFault read s p e = absurd p
-  unread_so answer Unwritten read s p e = absurd p
+  long_so : (answer : Result Ready Ending) (fault : FileFault) (bytes : List ℕ) → fault ≡ TooBig → files name ≡ Some bytes → MAX_READ_BYTES < length bytes
+      → answer ≡ Err (Unread fault) → (begins : Bool) → begins_image bytes ≡ begins → RunSo answer
+  long_so answer fault bytes big at long e false begins =
+      inr (inl (bytes, at, begins, inr (Unread fault, refused_of files name (Unread fault) tt (refuses_unread (Some files) name (Unread fault) (big, (bytes, at, long))), e)))
+  long_so answer fault bytes big at long e true begins =
+      inr (inr (bytes, at, begins, inl (long, e ∙ ap (λ (f : FileFault). Err (Unread f)) big)))
 
-  run_so : (answer : Result Ready Ending) → CanBeRead files name → IsSettledAnswer answer → RunLibrary below main (Some files) name answer → RunSo answer
-  run_so answer read s (not_read ending p e) = unread_so answer ending read s p e
-  run_so answer read s (of_file bytes at begins p) = inr (inl (bytes, at, begins, file_so laws load files name answer s p))
-  run_so answer read s (of_image bytes at begins p) = inr (inr (bytes, at, begins, image_so of_images opened below is_opened main bytes answer s p))
+  unread_so : (answer : Result Ready Ending) (ending : Ending) → IsSettledAnswer answer → IsNotRead (Some files) name ending → answer ≡ Err ending → RunSo answer
+  unread_so answer Absent s p e = inl (p, e)
+  unread_so answer (Unread fault) s p e = long_so answer fault p.1.0 p.0 p.1.1 p.1.2 e (begins_image p.1.0) refl
+  unread_so answer ReadFault s p e = absurd (subst IsSettledAnswer e s)
+  unread_so answer NoMemory s p e = absurd (subst IsSettledAnswer e s)
+  unread_so answer Done s p e = absurd p
+  unread_so answer (Unaccepted fault) s p e = absurd p
+  unread_so answer (Unverified fault) s p e = absurd p
+  unread_so answer (Unmerged fault) s p e = absurd p
+  unread_so answer (Unopened fault) s p e = absurd p
+  unread_so answer (Unfrozen fault) s p e = absurd p
+  unread_so answer (Unboarded fault) s p e = absurd p
+  unread_so answer (Different difference) s p e = absurd p
+  unread_so answer (Stopped stop) s p e = absurd p
+  unread_so answer WriteFault s p e = absurd p
+  unread_so answer Unwritten s p e = absurd p
+
+  run_so : (answer : Result Ready Ending) → IsSettledAnswer answer → RunLibrary below main (Some files) name answer → RunSo answer
+  run_so answer s (not_read ending p e) = unread_so answer ending s p e
+  run_so answer s (of_file bytes at begins p) = inr (inl (bytes, at, begins, file_so laws load files name answer s p))
+  run_so answer s (of_image bytes at short begins p) = inr (inr (bytes, at, begins, inr (short, image_so of_images opened below is_opened main bytes answer s p)))
+
+  both_or : (bytes : List ℕ) (one other : Result Ready Ending) → ImageOr bytes one → ImageOr bytes other → one ≡ other
+  both_or bytes one other (inl x) (inl y) = x.1 ∙ sym y.1
+  both_or bytes one other (inl x) (inr y) = absurd (never_long (Some bytes) bytes bytes refl refl y.0 x.0)
+  both_or bytes one other (inr x) (inl y) = absurd (never_long (Some bytes) bytes bytes refl refl x.0 y.0)
+  both_or bytes one other (inr x) (inr y) = both_images of_images opened below is_opened main bytes one other x.1 y.1
 
   never_both : (x y : List ℕ) → files name ≡ Some x → files name ≡ Some y → begins_image x ≡ false → begins_image y ≡ true → ⊥
   never_both x y at there other begins = let wrong : false ≡ true = sym other ∙ (ap begins_image (same_content (files name) x y at there) ∙ begins) in cc
 
-  pub one_run_library : CanBeRead files name → AnswersOnce (RunLibrary below main (Some files) name)
-  one_run_library read one other s t p q = by (run_so one read s p) (run_so other read t q) where
+  pub one_run_library : AnswersOnce (RunLibrary below main (Some files) name)
+  one_run_library one other s t p q = by (run_so one s p) (run_so other t q) where
     by : RunSo one → RunSo other → one ≡ other
     by (inl x) (inl y) = x.1 ∙ sym y.1
     by (inl x) (inr (inl y)) = absurd (none_there (files name) y.0 x.0 y.1)
@@ -270,4 +292,4 @@ module _ (laws : FileLaws) (load : LoadLaws) (of_images : ImageLaws) (opened : L
     by (inr (inr x)) (inr (inl y)) = absurd (never_both y.0 x.0 y.1 x.1 y.2 x.2)
     by (inr (inr x)) (inr (inr y)) =
         let bytes = same_content (files name) x.0 y.0 x.1 y.1 in
-        both_images of_images opened below is_opened main y.0 one other (subst (λ (z : List ℕ). ImageSo of_images opened below is_opened main z one) bytes x.3) y.3
+        both_or y.0 one other (subst (λ (z : List ℕ). ImageOr z one) bytes x.3) y.3

@@ -4,6 +4,7 @@ use Rattle.std.specs.Prelude.{Ok}
 use Rattle.mpy_io.specs.Files.{FileOf}
 use Rattle.bc_library.specs.Shelf.{no_entries}
 use Rattle.image_grammar.specs.declared.entry.Entry.{Entry}
+use Rattle.mpy_reader.specs.declared.fault.FileFault.{FileFault}
 use Rattle.image_grammar.specs.declared.fault.ImageFault.{ImageFault}
 use Rattle.image_grammar.specs.declared.fault.ImageFault.TheVariants.{TooBig}
 use Rattle.image_grammar.specs.Opening.{image, nothing_below}
@@ -16,9 +17,9 @@ use Rattle.mpy_endings.specs.declared.ending.Ending.TheVariants.{Done, Unaccepte
 use Rattle.mpy_endings.specs.Ending.{IsSettled}
 use Rattle.meant_commands.specs.image_commands.Migrate.{HoldsMigrated, HoldsTooBig, Migrates}
 use Rattle.tool_laws.specs.Laws.{ImageLaws}
-use Rattle.tool_laws.specs.Once.{CanBeRead, EndOnce, IsDone}
+use Rattle.tool_laws.specs.Once.{EndOnce, IsDone}
 use Rattle.tool_laws.proofs.Frozen.{never_big}
-use Rattle.tool_laws.proofs.ImageFiles.{NoImage, never_long, one_no_image}
+use Rattle.tool_laws.proofs.ImageFiles.{NoImage, image_short, never_long, one_no_image}
 use Rattle.tool_laws.proofs.Opened.{none_there, same_content}
 
 module _ (laws : ImageLaws) (files : FileOf) (name : List ℕ) where
@@ -32,7 +33,9 @@ module _ (laws : ImageLaws) (files : FileOf) (name : List ℕ) where
   never_none entries bytes ending at h (inl x) =
       let same = same_content (files name) bytes x.2.bytes at x.2.holds in
       laws.not_both nothing_below x.2.bytes entries x.0 (read_of entries x.2.bytes (subst (λ (z : List ℕ). IsImageOf entries z) same h)) x.2.first
-  never_none entries bytes ending at h (inr x) = none_there (files name) bytes x.at at
+  never_none entries bytes ending at h (inr (inl x)) =
+      never_long (files name) bytes x.bytes at x.at (image_short nothing_below entries bytes h.is_image) x.long
+  never_none entries bytes ending at h (inr (inr x)) = none_there (files name) bytes x.at at
 
   never_too_big : (out : List ℕ) → HoldsMigrated (Some files) name out → HoldsTooBig (Some files) name → ⊥
   never_too_big out h k =
@@ -47,24 +50,25 @@ module _ (laws : ImageLaws) (files : FileOf) (name : List ℕ) where
       ((ending ≡ Done) × (out : List ℕ) × HoldsMigrated (Some files) name out)
       ⊎ (((ending ≡ Unfrozen (frozen.Image TooBig)) × HoldsTooBig (Some files) name) ⊎ NoImage no_entries files name ending)
 
-  migrated_so : (written : List ℕ) (new : Option FileOf) (ending : Ending) → CanBeRead files name → IsSettled ending → Migrates name written (Some files) new ending → MigratedSo ending
-  migrated_so written new Done read s p = inl (refl, p.0, p.1)
-  migrated_so written new (Unaccepted fault) read s p = absurd p
-  migrated_so written new (Unread fault) read s p = absurd (never_long files name p.0.1.0 read p.0.1.1 p.0.1.2)
-  migrated_so written new (Unverified fault) read s p = absurd p
-  migrated_so written new (Unmerged fault) read s p = absurd p
-  migrated_so written new (Unopened (mains.Image fault)) read s p = inr (inr (inl (fault, refl, p.0)))
-  migrated_so written new (Unopened (mains.NoMain main)) read s p = absurd p
-  migrated_so written new (Unfrozen (frozen.Sources fault)) read s p = absurd p
-  migrated_so written new (Unfrozen (frozen.Image fault)) read s p = inr (inl (ap (λ (f : ImageFault). Unfrozen (frozen.Image f)) p.0, p.1))
-  migrated_so written new (Unboarded fault) read s p = absurd p
-  migrated_so written new (Different difference) read s p = absurd p
-  migrated_so written new (Stopped stop) read s p = absurd p
-  migrated_so written new ReadFault read s p = absurd s
-  migrated_so written new WriteFault read s p = absurd s
-  migrated_so written new Unwritten read s p = absurd s
-  migrated_so written new NoMemory read s p = absurd s
-  migrated_so written new Absent read s p = inr (inr (inr (record { is = refl; at = p.0 })))
+  migrated_so : (written : List ℕ) (new : Option FileOf) (ending : Ending) → IsSettled ending → Migrates name written (Some files) new ending → MigratedSo ending
+  migrated_so written new Done s p = inl (refl, p.0, p.1)
+  migrated_so written new (Unaccepted fault) s p = absurd p
+  migrated_so written new (Unread fault) s p =
+      inr (inr (inr (inl (record { is = ap (λ (f : FileFault). Unread f) p.0.0; bytes = p.0.1.0; at = p.0.1.1; long = p.0.1.2 }))))
+  migrated_so written new (Unverified fault) s p = absurd p
+  migrated_so written new (Unmerged fault) s p = absurd p
+  migrated_so written new (Unopened (mains.Image fault)) s p = inr (inr (inl (fault, refl, p.0)))
+  migrated_so written new (Unopened (mains.NoMain main)) s p = absurd p
+  migrated_so written new (Unfrozen (frozen.Sources fault)) s p = absurd p
+  migrated_so written new (Unfrozen (frozen.Image fault)) s p = inr (inl (ap (λ (f : ImageFault). Unfrozen (frozen.Image f)) p.0, p.1))
+  migrated_so written new (Unboarded fault) s p = absurd p
+  migrated_so written new (Different difference) s p = absurd p
+  migrated_so written new (Stopped stop) s p = absurd p
+  migrated_so written new ReadFault s p = absurd s
+  migrated_so written new WriteFault s p = absurd s
+  migrated_so written new Unwritten s p = absurd s
+  migrated_so written new NoMemory s p = absurd s
+  migrated_so written new Absent s p = inr (inr (inr (inr (record { is = refl; at = p.0 }))))
 
   both_migrated : (one other : Ending) → MigratedSo one → MigratedSo other → one ≡ other
   both_migrated one other (inl x) (inl y) = x.0 ∙ sym y.0
@@ -77,8 +81,8 @@ module _ (laws : ImageLaws) (files : FileOf) (name : List ℕ) where
   both_migrated one other (inr (inr x)) (inr (inl y)) = absurd (never_none y.1.entries y.1.bytes one y.1.holds y.1.is x)
   both_migrated one other (inr (inr x)) (inr (inr y)) = one_no_image laws [] no_entries refl files name one other x y
 
-  pub one_migrate : (written : List ℕ) (a b : Option FileOf) → CanBeRead files name → EndOnce (Migrates name written (Some files) a) (Migrates name written (Some files) b)
-  one_migrate written a b read = λ one other s t p q. both_migrated one other (migrated_so written a one read s p) (migrated_so written b other read t q)
+  pub one_migrate : (written : List ℕ) (a b : Option FileOf) → EndOnce (Migrates name written (Some files) a) (Migrates name written (Some files) b)
+  one_migrate written a b = λ one other s t p q. both_migrated one other (migrated_so written a one s p) (migrated_so written b other t q)
 
   pub one_migrated : (one other : List ℕ) → HoldsMigrated (Some files) name one → HoldsMigrated (Some files) name other → one ≡ other
   one_migrated one other h k =
@@ -86,9 +90,9 @@ module _ (laws : ImageLaws) (files : FileOf) (name : List ℕ) where
       let same = one_image k.bytes h.migrates.entries k.migrates.entries (subst (λ (z : List ℕ). IsImageOf h.migrates.entries z) bytes h.migrates.before) k.migrates.before in
       h.migrates.written ∙ (ap (λ (es : List Entry). image_bytes (second_front nothing_below) nothing_below es) same ∙ sym k.migrates.written)
 
-  pub migrate_done : (written bytes : List ℕ) (entries : List Entry) (new : Option FileOf) → CanBeRead files name → files name ≡ Some bytes → IsImageOf entries bytes
+  pub migrate_done : (written bytes : List ℕ) (entries : List Entry) (new : Option FileOf) → files name ≡ Some bytes → IsImageOf entries bytes
       → (IsTooBig (second_front nothing_below) nothing_below entries → ⊥) → IsDone (Migrates name written (Some files) new)
-  migrate_done written bytes entries new read at is small = λ ending s p. by ending (migrated_so written new ending read s p) where
+  migrate_done written bytes entries new at is small = λ ending s p. by ending (migrated_so written new ending s p) where
     by : (ending : Ending) → MigratedSo ending → ending ≡ Done
     by ending (inl x) = x.0
     by ending (inr (inl x)) =

@@ -1,6 +1,5 @@
 -- Commands that end in one way only, and those that are done.
-use Rattle.std.specs.Prelude.{◌≡◌, ◌⊎◌, ◌≢◌, ◌≤◌, ℕ, List, length, Some}
-use Rattle.mpy_base.specs.declared.limits.TheConstants.{MAX_READ_BYTES}
+use Rattle.std.specs.Prelude.{◌≡◌, ◌⊎◌, ◌≢◌, ℕ, List, Some}
 use Rattle.mpy_io.specs.Files.{FileOf}
 use Rattle.bc_library.specs.Shelf.{Shelf}
 use Rattle.mpy_endings.specs.declared.ending.Ending.{Ending}
@@ -16,10 +15,6 @@ EndOnce One Other = (one other : Ending) → IsSettled one → IsSettled other �
 -- a command that ends so is done, unless a call that failed outside or want of memory cuts it short
 abbrev pub IsDone : (Ends : Ending → Type 0) → Type 0
 IsDone Ends = (ending : Ending) → IsSettled ending → Ends ending → ending ≡ Done
-
--- the file of this name, where there is one, is short enough to be read
-abbrev pub CanBeRead : FileOf → (name : List ℕ) → Type 0
-CanBeRead files name = (bytes : List ℕ) → files name ≡ Some bytes → length bytes ≤ MAX_READ_BYTES
 
 -- statuses
 -- ========

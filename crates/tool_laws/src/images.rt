@@ -23,7 +23,7 @@ ghost use Rattle.meant_commands.specs.image_commands.Freeze.{Freezes};
 ghost use Rattle.meant_commands.specs.image_commands.Migrate.{HoldsMigrated, Migrates};
 ghost use Rattle.board_command.specs.Boards.{Boards};
 ghost use Rattle.board_command.specs.Plans.{HoldsPlan};
-ghost use Rattle.tool_laws.specs.Once.{CanBeRead, EndOnce, IsDone};
+ghost use Rattle.tool_laws.specs.Once.{EndOnce, IsDone};
 
 use crate::laws::{file_laws, image_laws, manifest_laws, plan_laws, source_laws};
 
@@ -35,7 +35,7 @@ pub fn opened_law()
         → (opened : List (List ℕ)) × IsOpenedOf opened below }
     ensures one_library { (opened : List (List ℕ)) (below : Shelf) (files : FileOf) (name : List ℕ) (one other : Shelf) → IsOpenedOf opened below
         → HoldsImage below (Some files) name one → HoldsImage below (Some files) name other → one ≡ other }
-    ensures one_ending { (opened : List (List ℕ)) (below : Shelf) (files : FileOf) (name : List ℕ) → IsOpenedOf opened below → CanBeRead files name
+    ensures one_ending { (opened : List (List ℕ)) (below : Shelf) (files : FileOf) (name : List ℕ) → IsOpenedOf opened below
         → EndOnce (RefusesImage below (Some files) name) (RefusesImage below (Some files) name) }
     ensures not_both { (opened : List (List ℕ)) (below : Shelf) (files : FileOf) (name : List ℕ) (shelf : Shelf) (ending : Ending)
         → IsOpenedOf opened below → HoldsImage below (Some files) name shelf → IsSettled ending → RefusesImage below (Some files) name ending → ⊥ }
@@ -63,11 +63,11 @@ pub fn freeze_law()
 /// Where a folder tells its files, writing an image once more ends in one way, the new image is one, and it is written where the file is an
 /// image over nothing whose modules aren't too many or too long.
 pub fn migrate_law()
-    ensures one_ending { (files : FileOf) (name written : List ℕ) (one other : Option FileOf) → CanBeRead files name
+    ensures one_ending { (files : FileOf) (name written : List ℕ) (one other : Option FileOf)
         → EndOnce (Migrates name written (Some files) one) (Migrates name written (Some files) other) }
     ensures one_image { (files : FileOf) (name one other : List ℕ) → HoldsMigrated (Some files) name one → HoldsMigrated (Some files) name other
         → one ≡ other }
-    ensures done { (files : FileOf) (name written bytes : List ℕ) (entries : List Entry) (after : Option FileOf) → CanBeRead files name
+    ensures done { (files : FileOf) (name written bytes : List ℕ) (entries : List Entry) (after : Option FileOf)
         → files name ≡ Some bytes → IsImageOf entries bytes → (IsTooBig (second_front nothing_below) nothing_below entries → ⊥)
         → IsDone (Migrates name written (Some files) after) }
 {
@@ -78,10 +78,10 @@ pub fn migrate_law()
 /// library has the module of each task.
 pub fn board_law()
     ensures one_ending { (opened : List (List ℕ)) (below : Shelf) (files : FileOf) (image plan : List ℕ) (one other : Option FileOf)
-        (before behind printed after : Option (List ℕ)) (place another : ℕ) → IsOpenedOf opened below → CanBeRead files image → CanBeRead files plan
+        (before behind printed after : Option (List ℕ)) (place another : ℕ) → IsOpenedOf opened below
         → EndOnce (Boards below image plan (Some files) one before behind place) (Boards below image plan (Some files) other printed after another) }
     ensures done { (opened : List (List ℕ)) (below : Shelf) (files : FileOf) (image name : List ℕ) (shelf : Shelf) (plan : Plan) (new : Option FileOf)
-        (before behind : Option (List ℕ)) (place : ℕ) → IsOpenedOf opened below → CanBeRead files name → HoldsImage below (Some files) image shelf
+        (before behind : Option (List ℕ)) (place : ℕ) → IsOpenedOf opened below → HoldsImage below (Some files) image shelf
         → HoldsPlan (Some files) name plan → first_missing shelf plan.tasks ≡ None
         → IsDone (Boards below image name (Some files) new before behind place) }
 {

@@ -12,7 +12,7 @@ ghost use Rattle.mpy_endings.specs.Ending.{IsSettled};
 ghost use Rattle.stress_command.specs.run_commands.Ready.{GoLibrary, RunLibrary};
 ghost use Rattle.stress_command.specs.run_commands.Run.{Runs};
 ghost use Rattle.meant_commands.specs.Alike.{AreAlike, Tells};
-ghost use Rattle.tool_laws.specs.Once.{CanBeRead, EndOnce};
+ghost use Rattle.tool_laws.specs.Once.{EndOnce};
 ghost use Rattle.tool_laws.specs.Runs.{AnswersOnce};
 
 use crate::laws::{file_laws, image_laws, load_laws, run_laws, source_laws};
@@ -22,7 +22,7 @@ use crate::laws::{file_laws, image_laws, load_laws, run_laws, source_laws};
 pub fn library_law()
     ensures source { (level : ℕ) (files : FileOf) (name : List ℕ) → AnswersOnce (GoLibrary level (Some files) name) }
     ensures file { (opened : List (List ℕ)) (below : Shelf) (main : List ℕ) (files : FileOf) (name : List ℕ) → IsOpenedOf opened below
-        → CanBeRead files name → AnswersOnce (RunLibrary below main (Some files) name) }
+        → AnswersOnce (RunLibrary below main (Some files) name) }
 {
     file_laws();
     source_laws();
@@ -48,12 +48,12 @@ pub fn go_law()
 /// And so does a run of a file or an image.
 pub fn run_law()
     ensures one_ending { (opened : List (List ℕ)) (below : Shelf) (main : List ℕ) (files : FileOf) (name : List ℕ) (room : Room) (steps : ℕ)
-        (old new_a new_b : Sight) (said_a said_b : List ℕ) → IsOpenedOf opened below → CanBeRead files name
+        (old new_a new_b : Sight) (said_a said_b : List ℕ) → IsOpenedOf opened below
         → Tells old → AreAccounted old.ports new_a.ports → AreAccounted old.ports new_b.ports
         → EndOnce (Runs (RunLibrary below main (Some files) name) room steps old new_a said_a)
         (Runs (RunLibrary below main (Some files) name) room steps old new_b said_b) }
     ensures alike { (opened : List (List ℕ)) (below : Shelf) (main : List ℕ) (files : FileOf) (name : List ℕ) (room : Room) (steps : ℕ)
-        (old new_a new_b : Sight) (said_a said_b : List ℕ) → IsOpenedOf opened below → CanBeRead files name
+        (old new_a new_b : Sight) (said_a said_b : List ℕ) → IsOpenedOf opened below
         → Tells old → AreAccounted old.ports new_a.ports → AreAccounted old.ports new_b.ports → (one other : Ending) → IsSettled one → IsSettled other
         → Runs (RunLibrary below main (Some files) name) room steps old new_a said_a one
         → Runs (RunLibrary below main (Some files) name) room steps old new_b said_b other → AreAlike new_a new_b × (said_a ≡ said_b) }

@@ -42,7 +42,7 @@ ghost use Rattle.stress_command.specs.run_commands.Ready.{GoLibrary, RunLibrary}
 ghost use Rattle.stress_command.specs.run_commands.Run.{EndsRun};
 ghost use Rattle.meant_commands.specs.Meant.{HoldsProgram, end_status};
 ghost use Rattle.stress_command.specs.Stress.{EndsStress};
-ghost use Rattle.tool_laws.specs.Once.{CanBeRead, OneStatus, OverBase, Succeeds};
+ghost use Rattle.tool_laws.specs.Once.{OneStatus, OverBase, Succeeds};
 ghost use Rattle.tool_laws.specs.Runs.{OnFiles, OneRunStatus, RunOver, SettledRun};
 
 use crate::files::{check_as_law, check_law, cross_law, dump_law};
@@ -64,15 +64,15 @@ pub fn one_status_law()
         → OneStatus (WritesOf (Merges names written) words) files }
     ensures freeze { (version : ℕ) (below : Shelf) (files : FileOf) (manifest written : List ℕ)
         → OneStatus (Writes (Freezes version below manifest written) manifest written) files }
-    ensures migrate { (files : FileOf) (name written : List ℕ) → CanBeRead files name → OneStatus (Writes (Migrates name written) name written) files }
+    ensures migrate { (files : FileOf) (name written : List ℕ) → OneStatus (Writes (Migrates name written) name written) files }
     ensures board { (opened : List (List ℕ)) (below : Shelf) (files : FileOf) (image plan : List ℕ) (words : List (List ℕ)) → IsOpenedOf opened below
-        → CanBeRead files image → CanBeRead files plan → OneStatus (EndsAt (Boards below image plan) words) files }
+        → OneStatus (EndsAt (Boards below image plan) words) files }
 
     // And over a base.
-    ensures freeze_over { (version : ℕ) (files : FileOf) (base manifest written : List ℕ) → CanBeRead files base
+    ensures freeze_over { (version : ℕ) (files : FileOf) (base manifest written : List ℕ)
         → OneStatus (OverBase base (λ below. Writes (Freezes version below manifest written) manifest written)) files }
-    ensures board_over { (files : FileOf) (base image plan : List ℕ) (words : List (List ℕ)) → CanBeRead files base → CanBeRead files image
-        → CanBeRead files plan → OneStatus (OverBase base (λ below. EndsAt (Boards below image plan) words)) files }
+    ensures board_over { (files : FileOf) (base image plan : List ℕ) (words : List (List ℕ))
+        → OneStatus (OverBase base (λ below. EndsAt (Boards below image plan) words)) files }
 {
     image_laws();
     check_law();
@@ -91,8 +91,8 @@ pub fn one_run_status_law()
     ensures go { (level : ℕ) (files : FileOf) (name : List ℕ) (room : Room) (steps : ℕ)
         → OneRunStatus (OnFiles files (EndsRun (GoLibrary level) room steps name)) }
     ensures run { (opened : List (List ℕ)) (below : Shelf) (main : List ℕ) (files : FileOf) (name : List ℕ) (room : Room) (steps : ℕ)
-        → IsOpenedOf opened below → CanBeRead files name → OneRunStatus (OnFiles files (EndsRun (RunLibrary below main) room steps name)) }
-    ensures run_over { (files : FileOf) (base main name : List ℕ) (room : Room) (steps : ℕ) → CanBeRead files base → CanBeRead files name
+        → IsOpenedOf opened below → OneRunStatus (OnFiles files (EndsRun (RunLibrary below main) room steps name)) }
+    ensures run_over { (files : FileOf) (base main name : List ℕ) (room : Room) (steps : ℕ)
         → OneRunStatus (OnFiles files (RunOver base (λ below. EndsRun (RunLibrary below main) room steps name))) }
     ensures stress { (seed count : ℕ) (room : Room) (steps : ℕ) → OneRunStatus (EndsStress seed count room steps) }
 {
@@ -119,11 +119,11 @@ pub fn completeness_law()
         → HoldsSources (Some files) manifest modules
         → ((fault : ImageFault) → FreezeFault (front_of version (base_of below)) (base_of below) (entries_of modules) fault → ⊥)
         → Succeeds (Writes (Freezes version below manifest written) manifest written) files }
-    ensures migrate { (files : FileOf) (name written bytes : List ℕ) (entries : List Entry) → CanBeRead files name → files name ≡ Some bytes
+    ensures migrate { (files : FileOf) (name written bytes : List ℕ) (entries : List Entry) → files name ≡ Some bytes
         → IsImageOf entries bytes → (IsTooBig (second_front nothing_below) nothing_below entries → ⊥)
         → Succeeds (Writes (Migrates name written) name written) files }
     ensures board { (opened : List (List ℕ)) (below : Shelf) (files : FileOf) (image name : List ℕ) (words : List (List ℕ)) (shelf : Shelf) (plan : Plan)
-        → IsOpenedOf opened below → CanBeRead files name → HoldsImage below (Some files) image shelf → HoldsPlan (Some files) name plan
+        → IsOpenedOf opened below → HoldsImage below (Some files) image shelf → HoldsPlan (Some files) name plan
         → first_missing shelf plan.tasks ≡ None → Succeeds (EndsAt (Boards below image name) words) files }
 {
     check_law();
@@ -146,7 +146,7 @@ pub fn run_completeness_law()
         → SettledRun (OnFiles files (EndsRun (GoLibrary level) room steps name)) printed ports states status
         → status ≡ end_status (meaning program room.cells room.bytes states t).end }
     ensures run { (opened : List (List ℕ)) (below : Shelf) (main : List ℕ) (files : FileOf) (name : List ℕ) (room : Room) (steps : ℕ) (printed : List ℕ)
-        (ports : List PortView) (states : List PortState) (ready : Ready) (program : Program) (t status : ℕ) → IsOpenedOf opened below → CanBeRead files name
+        (ports : List PortView) (states : List PortState) (ready : Ready) (program : Program) (t status : ℕ) → IsOpenedOf opened below
         → RunLibrary below main (Some files) name (Ok ready) → HoldsProgram (RunLibrary below main) (Some files) name program
         → HasEnded (meaning program room.cells room.bytes states t) → 16 * t + 16 ≤ steps
         → SettledRun (OnFiles files (EndsRun (RunLibrary below main) room steps name)) printed ports states status

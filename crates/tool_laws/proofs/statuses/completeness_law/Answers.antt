@@ -22,9 +22,9 @@ returns c = record {
       writes_of_done files (Merges names written) words (λ new place. c.merge_law.ensures.done files names written modules new place held none);
   freeze = λ version below files manifest written modules held none.
       writes_done files (Freezes version below manifest written) manifest written (λ new. c.freeze_law.ensures.done version below files manifest written modules new held none);
-  migrate = λ files name written bytes entries read at is small.
-      writes_done files (Migrates name written) name written (λ new. c.migrate_law.ensures.done files name written bytes entries new read at is small);
-  board = λ opened below files image name words shelf plan is read held planned none.
+  migrate = λ files name written bytes entries at is small.
+      writes_done files (Migrates name written) name written (λ new. c.migrate_law.ensures.done files name written bytes entries new at is small);
+  board = λ opened below files image name words shelf plan is held planned none.
       ends_at_done files (Boards below image name) words
-      (λ new before behind place. c.board_law.ensures.done opened below files image name shelf plan new before behind place is read held planned none);
+      (λ new before behind place. c.board_law.ensures.done opened below files image name shelf plan new before behind place is held planned none);
 }

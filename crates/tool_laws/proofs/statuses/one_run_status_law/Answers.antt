@@ -10,11 +10,11 @@ pub returns : goal.returns
 returns c = record {
   go = λ level files name room steps printed ports states.
       run_once (GoLibrary level) room steps name files printed ports states c.run_laws.ensures (c.library_law.ensures.source level files name);
-  run = λ opened below main files name room steps is read printed ports states.
-      run_once (RunLibrary below main) room steps name files printed ports states c.run_laws.ensures (c.library_law.ensures.file opened below main files name is read);
-  run_over = λ files base main name room steps base_read read.
-      run_over_once c.image_laws.ensures files base base_read (λ below. EndsRun (RunLibrary below main) room steps name)
+  run = λ opened below main files name room steps is printed ports states.
+      run_once (RunLibrary below main) room steps name files printed ports states c.run_laws.ensures (c.library_law.ensures.file opened below main files name is);
+  run_over = λ files base main name room steps.
+      run_over_once c.image_laws.ensures files base (λ below. EndsRun (RunLibrary below main) room steps name)
       (λ opened below is printed ports states.
-      run_once (RunLibrary below main) room steps name files printed ports states c.run_laws.ensures (c.library_law.ensures.file opened below main files name is read));
+      run_once (RunLibrary below main) room steps name files printed ports states c.run_laws.ensures (c.library_law.ensures.file opened below main files name is));
   stress = λ seed count room steps. one_stress c.run_laws.ensures seed count (c.library_law.ensures.source 0 (stress_files seed count) stress_name) room steps;
 }

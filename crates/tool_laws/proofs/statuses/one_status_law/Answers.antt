@@ -22,16 +22,16 @@ returns c = record {
   merge = λ files names written words. writes_of_once files (Merges names written) words (c.merge_law.ensures.one_ending files names written);
   freeze = λ version below files manifest written.
       writes_once files (Freezes version below manifest written) manifest written (c.freeze_law.ensures.one_ending version below files manifest written);
-  migrate = λ files name written read. writes_once files (Migrates name written) name written (λ a b. c.migrate_law.ensures.one_ending files name written a b read);
-  board = λ opened below files image plan words is read plan_read.
+  migrate = λ files name written. writes_once files (Migrates name written) name written (c.migrate_law.ensures.one_ending files name written);
+  board = λ opened below files image plan words is.
       ends_at_once files (Boards below image plan) words
-      (λ a b before behind printed after place another. c.board_law.ensures.one_ending opened below files image plan a b before behind printed after place another is read plan_read);
-  freeze_over = λ version files base manifest written read.
-      over_once c.image_laws.ensures files base read (λ below. Writes (Freezes version below manifest written) manifest written)
+      (λ a b before behind printed after place another. c.board_law.ensures.one_ending opened below files image plan a b before behind printed after place another is);
+  freeze_over = λ version files base manifest written.
+      over_once c.image_laws.ensures files base (λ below. Writes (Freezes version below manifest written) manifest written)
       (λ opened below is. writes_once files (Freezes version below manifest written) manifest written (c.freeze_law.ensures.one_ending version below files manifest written));
-  board_over = λ files base image plan words base_read read plan_read.
-      over_once c.image_laws.ensures files base base_read (λ below. EndsAt (Boards below image plan) words)
+  board_over = λ files base image plan words.
+      over_once c.image_laws.ensures files base (λ below. EndsAt (Boards below image plan) words)
       (λ opened below is.
       ends_at_once files (Boards below image plan) words
-      (λ a b before behind printed after place another. c.board_law.ensures.one_ending opened below files image plan a b before behind printed after place another is read plan_read));
+      (λ a b before behind printed after place another. c.board_law.ensures.one_ending opened below files image plan a b before behind printed after place another is));
 }
