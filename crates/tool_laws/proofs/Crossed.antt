@@ -65,3 +65,13 @@ module _ (own : SourceLaws) (level : ℕ) (files : FileOf) (name stored : List �
 
   pub cross_done : (written bytes : List ℕ) (new : Option FileOf) → HoldsCompiled level (Some files) name stored bytes → IsDone (Crosses level name stored written (Some files) new)
   cross_done written bytes new h = λ ending s p. both_crossed ending Done (crossed_so written new ending s p) (inl (refl, bytes, h))
+
+  pub accepted_done : (source written : List ℕ) (new : Option FileOf) → files name ≡ Some source → ((fault : SourceFault) → IsFault level source stored fault → ⊥)
+      → IsDone (Crosses level name stored written (Some files) new)
+  accepted_done source written new at none = λ ending s p. by ending (crossed_so written new ending s p) where
+    by : (ending : Ending) → CrossedSo ending → ending ≡ Done
+    by ending (inl x) = x.0
+    by ending (inr (inl x)) =
+        let same = same_content (files name) x.2.source source x.2.holds at in
+        absurd (none x.0 (subst (λ (z : List ℕ). IsFault level z stored x.0) same x.2.is))
+    by ending (inr (inr x)) = absurd (none_there (files name) source x.at at)

@@ -1,7 +1,9 @@
 //! Commands that read one file, or a source.
 
 ghost use Rattle.std.specs.Prelude.{◌≡◌, ℕ, List, Option, Some};
+ghost use Rattle.mpy_base.specs.declared.source.SourceFault.{SourceFault};
 ghost use Rattle.mpy_io.specs.Files.{FileOf};
+ghost use Rattle.command_files.specs.mpy_compile.Compiled.{IsFault};
 ghost use Rattle.mpy_endings.specs.declared.ending.Ending.TheVariants.{Done};
 ghost use Rattle.meant_commands.specs.file_commands.Check.{Checks, HoldsVerified};
 ghost use Rattle.meant_commands.specs.file_commands.CheckAs.{ChecksAs, HoldsTranslation};
@@ -49,7 +51,8 @@ pub fn check_as_law()
     source_laws();
 }
 
-/// Where a folder tells its files, writing a source's file ends in one way, the file is one, and it is written where the source compiles to it.
+/// Where a folder tells its files, writing a source's file ends in one way, the file is one, and it is written where the source compiles to it,
+/// and where the source has no fault.
 pub fn cross_law()
     ensures one_ending { (level : ℕ) (files : FileOf) (name stored written : List ℕ) (one other : Option FileOf)
         → EndOnce (Crosses level name stored written (Some files) one) (Crosses level name stored written (Some files) other) }
@@ -57,6 +60,8 @@ pub fn cross_law()
         → HoldsCompiled level (Some files) name stored other → one ≡ other }
     ensures done { (level : ℕ) (files : FileOf) (name stored written bytes : List ℕ) (after : Option FileOf)
         → HoldsCompiled level (Some files) name stored bytes → IsDone (Crosses level name stored written (Some files) after) }
+    ensures accepted { (level : ℕ) (files : FileOf) (name stored source written : List ℕ) (after : Option FileOf) → files name ≡ Some source
+        → ((fault : SourceFault) → IsFault level source stored fault → ⊥) → IsDone (Crosses level name stored written (Some files) after) }
 {
     source_laws();
 }

@@ -2,6 +2,7 @@
 
 ghost use Rattle.std.specs.Prelude.{◌≡◌, ◌+◌, ◌*◌, ◌≤◌, ℕ, List, Ok, Some, None};
 ghost use Rattle.mpy_base.specs.declared.room.Room.{Room};
+ghost use Rattle.mpy_base.specs.declared.source.SourceFault.{SourceFault};
 ghost use Rattle.mpy_base.specs.World.{PortState};
 ghost use Rattle.mpy_io.specs.Files.{FileOf};
 ghost use Rattle.mpy_io.specs.Ports.{PortView};
@@ -25,11 +26,12 @@ ghost use Rattle.py_meaning.specs.Program.{Program};
 ghost use Rattle.py_meaning.specs.Meaning.{meaning};
 ghost use Rattle.bc_scheme.specs.Correct.{HasEnded};
 ghost use Rattle.meant_files.specs.Sources.{IsProgramOfSources};
+ghost use Rattle.command_files.specs.mpy_compile.Compiled.{IsFault};
 ghost use Rattle.command_files.specs.Images.{HoldsImage};
 ghost use Rattle.command_files.specs.Outside.{Ends, EndsAt, Writes, WritesOf};
 ghost use Rattle.meant_commands.specs.file_commands.Check.{Checks, HoldsVerified};
 ghost use Rattle.meant_commands.specs.file_commands.CheckAs.{ChecksAs, HoldsTranslation};
-ghost use Rattle.meant_commands.specs.file_commands.Cross.{Crosses, HoldsCompiled};
+ghost use Rattle.meant_commands.specs.file_commands.Cross.{Crosses};
 ghost use Rattle.meant_commands.specs.file_commands.Dump.{Dumps, HoldsListed};
 ghost use Rattle.meant_commands.specs.file_commands.Merge.{HoldModules, Merges};
 ghost use Rattle.meant_commands.specs.image_commands.Freeze.{Freezes};
@@ -102,7 +104,7 @@ pub fn one_run_status_law()
 }
 
 /// What succeeds where no call failed and memory was found: a verified file is checked, a translation is found to be one, a file that is read
-/// is listed, an accepted source is compiled, verified files without a fault of theirs are merged, sources of a manifest are frozen, an
+/// is listed, a source without a fault is compiled, verified files without a fault of theirs are merged, sources of a manifest are frozen, an
 /// image is written once more, and the tasks of a plan that has no fault are run on an image that has their modules.
 pub fn completeness_law()
     ensures check { (files : FileOf) (name : List ℕ) (count : ℕ) → HoldsVerified (Some files) name count → Succeeds (Ends Checks name) files }
@@ -110,8 +112,8 @@ pub fn completeness_law()
         → HoldsTranslation level (Some files) source file count
         → Succeeds (EndsAt (λ old new before behind. ChecksAs level old source file before behind) words) files }
     ensures dump { (files : FileOf) (name text : List ℕ) → HoldsListed (Some files) name text → Succeeds (Ends Dumps name) files }
-    ensures cross { (level : ℕ) (files : FileOf) (name stored written bytes : List ℕ) → HoldsCompiled level (Some files) name stored bytes
-        → Succeeds (Writes (Crosses level name stored written) name written) files }
+    ensures cross { (level : ℕ) (files : FileOf) (name stored source written : List ℕ) → files name ≡ Some source
+        → ((fault : SourceFault) → IsFault level source stored fault → ⊥) → Succeeds (Writes (Crosses level name stored written) name written) files }
     ensures merge { (files : FileOf) (names : List (List ℕ)) (written : List ℕ) (words : List (List ℕ)) (modules : List Module)
         → HoldModules (Some files) names modules → ((fault : MergeFault) → FirstFault modules fault → ⊥)
         → Succeeds (WritesOf (Merges names written) words) files }

@@ -16,8 +16,8 @@ returns c = record {
       ends_at_done files (λ old new before behind. ChecksAs level old source file before behind) words
       (λ new before behind place. c.check_as_law.ensures.done level files source file count before behind place held);
   dump = λ files name text held. ends_done files Dumps name (λ before behind. c.dump_law.ensures.done files name text before behind held);
-  cross = λ level files name stored written bytes held.
-      writes_done files (Crosses level name stored written) name written (λ new. c.cross_law.ensures.done level files name stored written bytes new held);
+  cross = λ level files name stored source written at none.
+      writes_done files (Crosses level name stored written) name written (λ new. c.cross_law.ensures.accepted level files name stored source written new at none);
   merge = λ files names written words modules held none.
       writes_of_done files (Merges names written) words (λ new place. c.merge_law.ensures.done files names written modules new place held none);
   freeze = λ version below files manifest written modules held none.
