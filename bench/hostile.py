@@ -6,7 +6,7 @@ import sys
 CODES = dict(JUMP=0x42, POP_JUMP_IF_TRUE=0x43, JUMP_IF_TRUE_OR_POP=0x45, SETUP_EXCEPT=0x48, SETUP_FINALLY=0x49, POP_EXCEPT_JUMP=0x4A,
              LOAD_CONST_NONE=0x51, LOAD_CONST_TRUE=0x52, DUP_TOP=0x57, DUP_TOP_TWO=0x58, POP_TOP=0x59, END_FINALLY=0x5D,
              RETURN_VALUE=0x63, RAISE_LAST=0x64, BUILD_TUPLE=0x2A, UNPACK_SEQUENCE=0x30)
-SIGNED = ('JUMP', 'POP_JUMP_IF_TRUE')
+SIGNED = ('JUMP', 'POP_JUMP_IF_TRUE', 'POP_JUMP_IF_FALSE', 'UNWIND_JUMP')
 
 
 class Code:
@@ -31,6 +31,10 @@ class Code:
     def jump(self, name, label, far=True):
         return self.add((name, label, 2 if far else 1))
 
+    def unwind(self, label, left):
+        """A jump that leaves all entries but these."""
+        return self.add(('UNWIND_JUMP', label, 2)).add(('byte', left, 0))
+
     def label(self, label):
         return self.add((None, label, None))
 
@@ -45,6 +49,8 @@ class Code:
         name, n, width = part
         if name is None:
             return 0
+        if name == 'byte':
+            return 1
         return 1 + (width if width else 0 if n is None else len(number(n)))
 
     def bytes(self):
@@ -57,6 +63,9 @@ class Code:
         for part in self.parts:
             name, n, width = part
             if name is None:
+                continue
+            if name == 'byte':
+                out.append(n)
                 continue
             out.append(CODES[name])
             if width:
@@ -84,9 +93,12 @@ def offset(n, width, signed):
     return bytes([n & 127 | 128, n >> 7])
 
 
-def file_of(code):
-    """A file of one code, which has room for 4,096 slots and 255 entries."""
-    body = bytes.fromhex('fcb2b2b2b282820202 01'.replace(' ', '')) + code.bytes()
+GREATEST = bytes.fromhex('fcb2b2b2b2828202')  # room for 4,096 slots and 255 entries
+
+
+def file_of(code, room=None):
+    """A file of one code, which has the greatest room, or this."""
+    body = (room or GREATEST) + bytes([2, 1]) + code.bytes()
     assert len(body) <= 32767, len(body)
     return bytes.fromhex('4d06001f02000865') + b'.py\0\x0f' + number(len(body) * 8) + body
 
