@@ -1,0 +1,98 @@
+-- Bytes that are added one item after another.
+use Rattle.std.proofs.Common.{◌≡◌, ℕ, ◌+◌, ◌<◌, ◌≤◌, List, [], ◌∷◌, ◌++◌, length, drop, get_or, map, Option, Some, None, Bool, true, false, Result, Ok, Err, inl, inr, refl, sym, ap, subst, ◌∙◌, arith, append_assoc, length-append}
+use Rattle.std.specs.Prelude.{slice_get, IsSome}
+use Rattle.std.specs.Bool.{OnTrue, OnFalse}
+use Rattle.std.specs.List.{flat_map}
+use Rattle.std.proofs.lemmas.List.{drop_more, append-nil, length-map}
+use Rattle.std.proofs.lemmas.Option.{slice_get_cases, slice_get_within, get_or_from_slice_get}
+use Rattle.std.proofs.Math.ListN.{drop_of_length-le}
+use Rattle.mpy_base.specs.declared.refused.Refused.{Refused}
+use Rattle.mpy_base.specs.declared.refused.Refused.TheVariants as refused
+use Rattle.snap_grammar.specs.Spelling.{all_of}
+use Rattle.mpy_base.specs.Vuint.{vuint}
+use Rattle.snap_saving.specs.declared.bytes.SaveFault.{SaveFault}
+use Rattle.snap_saving.specs.Saved.{FaultBy, IfFault, IsLong}
+
+-- what stands at a place and after it
+pub drop_at : {X : Type 0} (xs : List X) (i : ℕ) (x : X) → slice_get xs i ≡ Some x → drop i xs ≡ x ∷ drop (i + 1) xs
+drop_at {X} xs i x at = drop_more xs i x (slice_get_within xs i x at) ∙ ap (λ (z : X). z ∷ drop (i + 1) xs) (get_or_from_slice_get xs i x x at)
+
+module _ {X : Type 0} (f : X → List ℕ) (xs : List X) where
+  -- an item more is added
+  pub stepped : (i : ℕ) (x : X) (out new whole : List ℕ) → slice_get xs i ≡ Some x → new ≡ out ++ f x → out ++ flat_map f (drop i xs) ≡ whole → new ++ flat_map f (drop (i + 1) xs) ≡ whole
+  stepped i x out new whole at e inv =
+      ap (λ (z : List ℕ). z ++ flat_map f (drop (i + 1) xs)) e
+      ∙ (append_assoc out (f x) (flat_map f (drop (i + 1) xs))
+      ∙ (ap (λ (ys : List X). out ++ flat_map f ys) (sym (drop_at xs i x at)) ∙ inv))
+
+  -- all are added
+  pub ended : (i : ℕ) (out whole : List ℕ) → length xs ≤ i → out ++ flat_map f (drop i xs) ≡ whole → out ≡ whole
+  ended i out whole le inv =
+      sym (append-nil out) ∙ (ap (λ (ys : List X). out ++ flat_map f ys) (sym (drop_of_length-le xs le)) ∙ inv)
+
+  -- bytes that are too long with an item more are too long after all
+  pub part_long : (i : ℕ) (x : X) (out whole : List ℕ) → slice_get xs i ≡ Some x → out ++ flat_map f (drop i xs) ≡ whole → IsLong (out ++ f x) → IsLong whole
+  part_long i x out whole at inv long =
+      let e : (out ++ f x) ++ flat_map f (drop (i + 1) xs) ≡ whole = stepped i x out (out ++ f x) whole at refl inv in
+      omega (arith, long, ap length e, length-append (out ++ f x) (flat_map f (drop (i + 1) xs)))
+
+  -- what is too long already is too long after all
+  pub too_long : (i : ℕ) (out whole : List ℕ) → out ++ flat_map f (drop i xs) ≡ whole → IsLong out → IsLong whole
+  too_long i out whole inv long = omega (arith, long, ap length inv, length-append out (flat_map f (drop i xs)))
+
+-- a fault of a part is one of the whole
+fault_more : (e : Refused SaveFault) (P Q : Type 0) → (P → Q) → FaultBy e P → FaultBy e Q
+fault_more (refused.Fault fault) P Q f p = f p
+fault_more refused.NoMemory P Q f p = p
+
+pub if_fault_more : {X : Type 0} (r : Result X (Refused SaveFault)) (P Q : Type 0) → (P → Q) → IfFault r P → IfFault r Q
+if_fault_more (Ok x) P Q f p = p
+if_fault_more (Err e) P Q f p = fault_more e P Q f p
+
+-- the exit of a call with a part's fault
+pub exit : {X : Type 0} (P Q : Type 0) (r : Result X (Refused SaveFault)) (y e : Refused SaveFault) → r ≡ Err y → y ≡ e → FaultBy e P → (P → Q) → IfFault r Q
+exit {X} P Q r y e is same h more =
+    let made : Result X (Refused SaveFault) = Err e in
+    let whole : r ≡ made = is ∙ ap (λ z. Err z) same in
+    let F : Result X (Refused SaveFault) → Type 0 = λ z. IfFault z Q in
+    subst F (sym whole) (fault_more e P Q more h)
+
+-- bytes before others
+pub long_front : (old a b rest : List ℕ) → IsLong ((old ++ a) ++ b) → IsLong (old ++ (a ++ (b ++ rest)))
+long_front old a b rest long =
+    omega (arith, long, length-append (old ++ a) b, length-append old a, length-append old (a ++ (b ++ rest)), length-append a (b ++ rest), length-append b rest)
+
+pub long_by : (front rest : List ℕ) → IsLong front → IsLong (front ++ rest)
+long_by front rest long = omega (arith, long, length-append front rest)
+
+pub joined3 : (old a b c d : List ℕ) → (((old ++ a) ++ b) ++ c) ++ d ≡ old ++ (a ++ (b ++ (c ++ d)))
+joined3 old a b c d = simp append_assoc
+
+-- two parts, added one after the other
+pub joined2 : (old one a b : List ℕ) → one ≡ old ++ a → one ++ b ≡ old ++ (a ++ b)
+joined2 old one a b e = ap (λ (z : List ℕ). z ++ b) e ∙ append_assoc old a b
+
+-- an item is there
+pub is_there : {X : Type 0} (o : Option X) (xs : List X) (i : ℕ) → o ≡ slice_get xs i → i < length xs → IsSome o
+is_there o xs i e lt = elim (slice_get_cases xs i).1 [
+  | inl h ↦ subst IsSome (sym (e ∙ h.2)) tt
+  | inr h ↦ absurd (omega (arith, lt, h.0))
+]
+
+-- what a test said
+pub on_true : (b : Bool) (P : Type 0) → b ≡ true → OnTrue b P → P
+on_true true P e h = h
+on_true false P e h = absurd cc
+
+pub on_false : (b : Bool) (P : Type 0) → b ≡ false → OnFalse b P → P
+on_false true P e h = absurd cc
+on_false false P e h = h
+
+-- how many there are, and these
+flat_map-map : {X Y : Type 0} (g : X → Y) (f : Y → List ℕ) (xs : List X) → flat_map f (map g xs) ≡ flat_map (λ x. f (g x)) xs
+flat_map-map g f [] = refl
+flat_map-map g f (x ∷ xs) = ap (λ (z : List ℕ). f (g x) ++ z) (flat_map-map g f xs)
+
+pub all_of_map : {X Y : Type 0} (g : X → Y) (f : Y → List ℕ) (xs : List X) → all_of f (map g xs) ≡ vuint (length xs) ++ flat_map (λ x. f (g x)) xs
+all_of_map g f xs =
+    ap (λ (n : ℕ). vuint n ++ flat_map f (map g xs)) (length-map xs g) ∙ ap (λ (z : List ℕ). vuint (length xs) ++ z) (flat_map-map g f xs)

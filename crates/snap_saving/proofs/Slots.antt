@@ -1,0 +1,39 @@
+-- Slots that are shown, one after another.
+use Rattle.std.proofs.Common.{◌≡◌, ℕ, zero, suc, ◌+◌, ◌≤◌, List, [], ◌∷◌, ◌++◌, length, drop, Option, Some, Bool, true, false, refl, sym, ap, ◌∙◌, arith, append_assoc}
+use Rattle.std.specs.Prelude.{slice_get, if◌then◌else◌}
+use Rattle.std.specs.List.{flat_map}
+use Rattle.vm_frames.specs.declared.slot.Slot.{Slot}
+use Rattle.snap_saving.specs.Shown.{is_shown, shown_slots}
+use Rattle.snap_saving.proofs.Adding.{drop_at}
+
+front_of : (xs : List Slot) (k : ℕ) → slice_get (drop k xs) 0 ≡ slice_get xs k
+front_of xs zero = refl
+front_of [] (suc k) = refl
+front_of (x ∷ xs) (suc k) = front_of xs k
+
+module _ (xs : List Slot) (i : ℕ) (s : Slot) (at : slice_get xs i ≡ Some s) where
+  split : shown_slots (drop i xs) ≡ (if is_shown s (slice_get xs (i + 1)) then s ∷ shown_slots (drop (i + 1) xs) else shown_slots (drop (i + 1) xs))
+  split =
+      ap shown_slots (drop_at xs i s at)
+      ∙ ap (λ (o : Option Slot). if is_shown s o then s ∷ shown_slots (drop (i + 1) xs) else shown_slots (drop (i + 1) xs)) (front_of xs (i + 1))
+
+  by_test : (b : Bool) → is_shown s (slice_get xs (i + 1)) ≡ b → shown_slots (drop i xs) ≡ (if b then s ∷ shown_slots (drop (i + 1) xs) else shown_slots (drop (i + 1) xs))
+  by_test b e = split ∙ ap (λ (t : Bool). if t then s ∷ shown_slots (drop (i + 1) xs) else shown_slots (drop (i + 1) xs)) e
+
+  -- a slot that is shown is added
+  pub added : (f : Slot → List ℕ) (out new whole : List ℕ) → is_shown s (slice_get xs (i + 1)) ≡ true → new ≡ out ++ f s → out ++ flat_map f (shown_slots (drop i xs)) ≡ whole
+      → new ++ flat_map f (shown_slots (drop (i + 1) xs)) ≡ whole
+  added f out new whole is e inv =
+      ap (λ (z : List ℕ). z ++ flat_map f (shown_slots (drop (i + 1) xs))) e
+      ∙ (append_assoc out (f s) (flat_map f (shown_slots (drop (i + 1) xs))) ∙ (ap (λ (ys : List Slot). out ++ flat_map f ys) (sym (by_test true is)) ∙ inv))
+
+  -- another one isn't
+  pub passed : (f : Slot → List ℕ) (out whole : List ℕ) → is_shown s (slice_get xs (i + 1)) ≡ false → out ++ flat_map f (shown_slots (drop i xs)) ≡ whole → out ++ flat_map f (shown_slots (drop (i + 1) xs)) ≡ whole
+  passed f out whole is inv = ap (λ (ys : List Slot). out ++ flat_map f ys) (sym (by_test false is)) ∙ inv
+
+  -- one more is counted, or none
+  pub counted : (n whole : ℕ) → is_shown s (slice_get xs (i + 1)) ≡ true → n + length (shown_slots (drop i xs)) ≡ whole → n + 1 + length (shown_slots (drop (i + 1) xs)) ≡ whole
+  counted n whole is inv = omega (arith, ap length (by_test true is), inv)
+
+  pub not_counted : (n whole : ℕ) → is_shown s (slice_get xs (i + 1)) ≡ false → n + length (shown_slots (drop i xs)) ≡ whole → n + length (shown_slots (drop (i + 1) xs)) ≡ whole
+  not_counted n whole is inv = omega (arith, ap length (by_test false is), inv)

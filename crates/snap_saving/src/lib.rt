@@ -1,0 +1,12 @@
+//! The snapshot of a state: which bytes it is, and how they are made.
+#![tactic(auto)]
+
+mod bytes;
+mod frames;
+mod names;
+mod objects;
+mod saving;
+mod values;
+
+pub use bytes::SaveFault;
+pub use saving::save;
