@@ -4,13 +4,13 @@ use Rattle.std.specs.Prelude.{slice_get, IsSome}
 use Rattle.std.specs.Bool.{OnTrue, OnFalse}
 use Rattle.std.specs.List.{flat_map}
 use Rattle.std.proofs.lemmas.List.{drop_more, append-nil, length-map}
-use Rattle.std.proofs.lemmas.Option.{slice_get_cases, slice_get_within, get_or_from_slice_get}
+use Rattle.std.proofs.lemmas.Option.{slice_get_cases, slice_get_within, get_or_from_slice_get, slice_get-get_or}
 use Rattle.std.proofs.Math.ListN.{drop_of_length-le}
 use Rattle.mpy_base.specs.declared.refused.Refused.{Refused}
 use Rattle.mpy_base.specs.declared.refused.Refused.TheVariants as refused
 use Rattle.snap_grammar.specs.Spelling.{all_of}
 use Rattle.mpy_base.specs.Vuint.{vuint}
-use Rattle.snap_saving.specs.declared.bytes.SaveFault.{SaveFault}
+use Rattle.snap_saving.specs.declared.fault.SaveFault.{SaveFault}
 use Rattle.snap_saving.specs.Saved.{FaultBy, IfFault, IsLong}
 
 -- what stands at a place and after it
@@ -39,6 +39,14 @@ module _ {X : Type 0} (f : X → List ℕ) (xs : List X) where
   -- what is too long already is too long after all
   pub too_long : (i : ℕ) (out whole : List ℕ) → out ++ flat_map f (drop i xs) ≡ whole → IsLong out → IsLong whole
   too_long i out whole inv long = omega (arith, long, ap length inv, length-append out (flat_map f (drop i xs)))
+
+-- what is too long already is too long with more
+pub more_long : (out rest whole : List ℕ) → out ++ rest ≡ whole → IsLong out → IsLong whole
+more_long out rest whole inv long = omega (arith, long, ap length inv, length-append out rest)
+
+-- an item of a slice
+pub item_at : {X : Type 0} (xs : List X) (i : ℕ) (x : X) → i < length xs → x ≡ get_or xs i x → slice_get xs i ≡ Some x
+item_at xs i x lt is = slice_get-get_or xs i x lt ∙ ap (λ y. Some y) (sym is)
 
 -- a fault of a part is one of the whole
 fault_more : (e : Refused SaveFault) (P Q : Type 0) → (P → Q) → FaultBy e P → FaultBy e Q

@@ -2,6 +2,7 @@
 use Rattle.std.proofs.Common.{◌≡◌, ℕ, zero, suc, ◌+◌, ◌≤◌, List, [], ◌∷◌, ◌++◌, length, drop, Option, Some, Bool, true, false, refl, sym, ap, ◌∙◌, arith, append_assoc}
 use Rattle.std.specs.Prelude.{slice_get, if◌then◌else◌}
 use Rattle.std.specs.List.{flat_map}
+use Rattle.std.proofs.lemmas.List.{append-nil}
 use Rattle.vm_frames.specs.declared.slot.Slot.{Slot}
 use Rattle.snap_saving.specs.Shown.{is_shown, shown_slots}
 use Rattle.snap_saving.proofs.Adding.{drop_at}
@@ -20,20 +21,24 @@ module _ (xs : List Slot) (i : ℕ) (s : Slot) (at : slice_get xs i ≡ Some s) 
   by_test : (b : Bool) → is_shown s (slice_get xs (i + 1)) ≡ b → shown_slots (drop i xs) ≡ (if b then s ∷ shown_slots (drop (i + 1) xs) else shown_slots (drop (i + 1) xs))
   by_test b e = split ∙ ap (λ (t : Bool). if t then s ∷ shown_slots (drop (i + 1) xs) else shown_slots (drop (i + 1) xs)) e
 
-  -- a slot that is shown is added
-  pub added : (f : Slot → List ℕ) (out new whole : List ℕ) → is_shown s (slice_get xs (i + 1)) ≡ true → new ≡ out ++ f s → out ++ flat_map f (shown_slots (drop i xs)) ≡ whole
+  added_by : (b : Bool) → is_shown s (slice_get xs (i + 1)) ≡ b → (f : Slot → List ℕ) (out new whole : List ℕ) → new ≡ out ++ (if b then f s else []) → out ++ flat_map f (shown_slots (drop i xs)) ≡ whole
       → new ++ flat_map f (shown_slots (drop (i + 1) xs)) ≡ whole
-  added f out new whole is e inv =
+  added_by true is f out new whole e inv =
       ap (λ (z : List ℕ). z ++ flat_map f (shown_slots (drop (i + 1) xs))) e
       ∙ (append_assoc out (f s) (flat_map f (shown_slots (drop (i + 1) xs))) ∙ (ap (λ (ys : List Slot). out ++ flat_map f ys) (sym (by_test true is)) ∙ inv))
+  added_by false is f out new whole e inv =
+      ap (λ (z : List ℕ). z ++ flat_map f (shown_slots (drop (i + 1) xs))) (e ∙ append-nil out)
+      ∙ (ap (λ (ys : List Slot). out ++ flat_map f ys) (sym (by_test false is)) ∙ inv)
 
-  -- another one isn't
-  pub passed : (f : Slot → List ℕ) (out whole : List ℕ) → is_shown s (slice_get xs (i + 1)) ≡ false → out ++ flat_map f (shown_slots (drop i xs)) ≡ whole → out ++ flat_map f (shown_slots (drop (i + 1) xs)) ≡ whole
-  passed f out whole is inv = ap (λ (ys : List Slot). out ++ flat_map f ys) (sym (by_test false is)) ∙ inv
+  -- one slot is added, if it is shown
+  pub added : (f : Slot → List ℕ) (out new whole : List ℕ) → new ≡ out ++ (if is_shown s (slice_get xs (i + 1)) then f s else []) → out ++ flat_map f (shown_slots (drop i xs)) ≡ whole
+      → new ++ flat_map f (shown_slots (drop (i + 1) xs)) ≡ whole
+  added = added_by (is_shown s (slice_get xs (i + 1))) refl
 
-  -- one more is counted, or none
-  pub counted : (n whole : ℕ) → is_shown s (slice_get xs (i + 1)) ≡ true → n + length (shown_slots (drop i xs)) ≡ whole → n + 1 + length (shown_slots (drop (i + 1) xs)) ≡ whole
-  counted n whole is inv = omega (arith, ap length (by_test true is), inv)
+  counted_by : (b : Bool) → is_shown s (slice_get xs (i + 1)) ≡ b → (n whole : ℕ) → n + length (shown_slots (drop i xs)) ≡ whole → n + (if b then 1 else 0) + length (shown_slots (drop (i + 1) xs)) ≡ whole
+  counted_by true is n whole inv = omega (arith, ap length (by_test true is), inv)
+  counted_by false is n whole inv = omega (arith, ap length (by_test false is), inv)
 
-  pub not_counted : (n whole : ℕ) → is_shown s (slice_get xs (i + 1)) ≡ false → n + length (shown_slots (drop i xs)) ≡ whole → n + length (shown_slots (drop (i + 1) xs)) ≡ whole
-  not_counted n whole is inv = omega (arith, ap length (by_test false is), inv)
+  -- one is counted, if it is shown
+  pub counted : (n more whole : ℕ) → more ≡ (if is_shown s (slice_get xs (i + 1)) then 1 else 0) → n + length (shown_slots (drop i xs)) ≡ whole → n + more + length (shown_slots (drop (i + 1) xs)) ≡ whole
+  counted n more whole e inv = ap (λ (m : ℕ). n + m + length (shown_slots (drop (i + 1) xs))) e ∙ counted_by (is_shown s (slice_get xs (i + 1))) refl n whole inv

@@ -9,7 +9,7 @@ use Rattle.vm_frames.specs.Calls.{Call}
 use Rattle.prim_modules.specs.Registry.{Registry}
 use Rattle.snap_grammar.specs.Spelling.{spelling}
 use Rattle.snap_saving.specs.Shown.{snapshot_of}
-use Rattle.snap_saving.specs.declared.bytes.SaveFault.{SaveFault}
+use Rattle.snap_saving.specs.declared.fault.SaveFault.{SaveFault}
 
 -- more bytes than a snapshot may have
 abbrev pub IsLong : List ℕ → Type 0

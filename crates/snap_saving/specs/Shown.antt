@@ -1,6 +1,6 @@
 -- The snapshot of a state. A state numbers an object by the cells that were used when it was made; its snapshot has the count
 -- of the objects that were made before it, the object's place.
-use Rattle.std.specs.Prelude.{◌≡◌, ℕ, ◌+◌, List, [], ◌∷◌, length, position, slice_get, option_and_then, map, reverse, take, filter, Bool, true, false, not, Option, Some, None, is_some, unwrap_or, nat_le, ◌==◌, if◌then◌else◌}
+use Rattle.std.specs.Prelude.{◌≡◌, ℕ, ◌+◌, List, [], ◌∷◌, length, position, slice_get, option_and_then, map, reverse, take, filter, Bool, true, false, not, Option, Some, None, is_some, unwrap_or, ◌==◌, if◌then◌else◌}
 use Rattle.std.specs.Option.{option_map}
 use Rattle.std.specs.Str.{bytes_eq}
 use Rattle.std.specs.List.{filter_map}
@@ -21,6 +21,7 @@ use Rattle.vm_frames.specs.declared.slot.Entry.{Entry}
 use Rattle.vm_frames.specs.declared.slot.Role.{Role}
 use Rattle.vm_frames.specs.declared.slot.Role.TheVariants as ends
 use Rattle.vm_frames.specs.Calls.{Call}
+use Rattle.vm_frames.specs.Moves.{is_active}
 use Rattle.prim_modules.specs.declared.entry.Entry.{Entry as Registered}
 use Rattle.prim_modules.specs.Registry.{Registry}
 use Rattle.snap_grammar.specs.declared.parts.ValuePart.{ValuePart}
@@ -80,9 +81,9 @@ module _ (place : ℕ → ℕ) where
   abbrev pub kept_part : ExcNo → ℕ
   kept_part x = place x.cell
 
-  -- an entry of a frame that stands at this offset: it is active where the frame stands at its handler or after it
+  -- an entry of a frame that stands at this offset
   abbrev pub entry_part : ℕ → Entry → EntryPart
-  entry_part at e = record { handler = e.handler; is_finally = e.is_finally; active = nat_le e.handler at; height = e.height; kept = option_map kept_part e.kept }
+  entry_part at e = record { handler = e.handler; is_finally = e.is_finally; active = is_active at e; height = e.height; kept = option_map kept_part e.kept }
 
   -- what the end of a frame does
   abbrev pub role_part : Role → RolePart

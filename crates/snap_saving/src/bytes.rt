@@ -10,13 +10,6 @@ ghost use Rattle.snap_saving.specs.Saved.{IsLong};
 use bc_ops::write_signed;
 use mpy_base::NoMemory;
 
-/// Why a state has no snapshot.
-#[derive(Clone, Copy, Debug, PartialEq, Eq)]
-pub enum SaveFault {
-    /// Its bytes would be too many, or too many steps are paid.
-    TooBig,
-}
-
 /// As many bytes as a snapshot may have.
 const MOST_BYTES: usize = 4_194_304;
 

@@ -1,14 +1,15 @@
 //! Frames of a snapshot, with their locals, slots and entries.
 
-ghost use Rattle.std.specs.Prelude.{◌≡◌, ◌+◌, ◌<◌, ◌^◌, ◌∷◌, ◌++◌, length, option_map, reverse, slice_get, OnOk};
+ghost use Rattle.std.specs.Prelude.{◌≡◌, ◌+◌, ◌<◌, ◌^◌, ◌∷◌, ◌++◌, length, option_map, reverse, slice_get, if◌then◌else◌, OnOk};
 ghost use Rattle.std.specs.List.{flat_map};
 ghost use Rattle.mpy_base.specs.Vuint.{vuint};
 ghost use Rattle.snap_grammar.specs.Spelling.{if_kept, mark, role as role_spelling, slot as slot_spelling, takes_iterator};
 ghost use Rattle.snap_saving.specs.Saved.{IfFault, IsLong};
-ghost use Rattle.snap_saving.specs.Shown.{goes_on as goes_on_in, is_shown as is_shown_in, iterator_part, role_part, shown_slots};
-ghost use Rattle.snap_saving.specs.Steps.{call_bytes, entries_bytes, entry_bytes, found, local_bytes, locals_bytes, running_bytes, slot_bytes, slots_bytes, value_bytes};
+ghost use Rattle.snap_saving.specs.Shown.{goes_on as goes_on_in, is_shown as is_shown_in, iterator_part, kept_part, role_part, shown_slots};
+ghost use Rattle.snap_saving.specs.Steps.{call_bytes, entries_bytes, entry_bytes, found, local_bytes, locals_bytes, running_bytes, shown_bytes, slot_bytes, slots_bytes, value_bytes};
 
-use crate::bytes::{SaveFault, is_long, put_byte, put_number};
+use crate::bytes::{is_long, put_byte, put_number};
+use crate::fault::SaveFault;
 use crate::values::{place, put_value};
 use arena_heap::{ExcNo, Value};
 use bc_library::Library;
@@ -77,6 +78,16 @@ fn above(slots: &[Slot], i: usize) -> Option<Slot>
     slots.get(i + 1).copied()
 }
 
+/// One, if a slot below another one is shown, and otherwise none.
+fn count_shown(slot: Slot, above: Option<Slot>) -> u32
+    ensures { result ≡ (if is_shown_in slot above then 1 else 0) }
+{
+    match is_shown(slot, above) {
+        true => 1,
+        false => 0,
+    }
+}
+
 /// How many slots are shown.
 fn count_slots(slots: &[Slot]) -> u32
     requires { length slots.now < 2 ^ 32 }
@@ -84,9 +95,7 @@ fn count_slots(slots: &[Slot]) -> u32
 {
     let mut count = 0;
     for (i, slot) in slots.iter().enumerate() {
-        if is_shown(*slot, above(slots, i)) {
-            count += 1;
-        }
+        count += count_shown(*slot, above(slots, i));
     }
     count
 }
@@ -186,6 +195,22 @@ fn put_slot(
     }
 }
 
+/// A slot below another one, if it is shown.
+fn put_shown(
+    out: &mut Vec<u8>,
+    library: &Library,
+    places: &[u32],
+    slot: Slot,
+    above: Option<Slot>,
+) -> Result<(), NoMemory>
+    ensures { OnOk result (out.new.items ≡ out.old.items ++ shown_bytes library.now (found places.now) slot above) }
+{
+    match is_shown(slot, above) {
+        true => put_slot(out, library, places, slot),
+        false => Ok(()),
+    }
+}
+
 /// The slots that are shown, from the lowest on.
 fn put_slots(
     out: &mut Vec<u8>,
@@ -197,9 +222,7 @@ fn put_slots(
     ensures fault { IfFault result (IsLong (out.old.items ++ flat_map (slot_bytes library.now (found places.now)) (shown_slots slots.now))) }
 {
     for (i, slot) in slots.iter().enumerate() {
-        if is_shown(*slot, above(slots, i)) {
-            put_slot(out, library, places, *slot)?;
-        }
+        put_shown(out, library, places, *slot, above(slots, i))?;
         if is_long(out) {
             return Err(Refused::Fault(SaveFault::TooBig));
         }
@@ -219,7 +242,7 @@ fn put_mark(out: &mut Vec<u8>, is: bool) -> Result<(), NoMemory>
 
 /// The exception that an entry keeps, if it keeps one.
 fn put_kept(out: &mut Vec<u8>, places: &[u32], kept: Option<ExcNo>) -> Result<(), NoMemory>
-    ensures { OnOk result (out.new.items ≡ out.old.items ++ if_kept (option_map (λ e. found places.now e.cell) kept)) }
+    ensures { OnOk result (out.new.items ≡ out.old.items ++ if_kept (option_map (kept_part (found places.now)) kept)) }
 {
     match kept {
         Some(e) => {

@@ -2,11 +2,12 @@
 #![tactic(auto)]
 
 mod bytes;
+mod fault;
 mod frames;
 mod names;
 mod objects;
 mod saving;
 mod values;
 
-pub use bytes::SaveFault;
+pub use fault::SaveFault;
 pub use saving::save;

@@ -12,7 +12,8 @@ ghost use Rattle.snap_saving.specs.Saved.{IfFault, IsLong};
 ghost use Rattle.snap_saving.specs.Shown.{name_of};
 ghost use Rattle.snap_saving.specs.Steps.{bytes_at, found, object_bytes, pair_bytes, value_bytes};
 
-use crate::bytes::{SaveFault, is_long, put_number, put_tagged, put_text};
+use crate::bytes::{is_long, put_number, put_tagged, put_text};
+use crate::fault::SaveFault;
 use crate::names::{module_of, put_builtin, text_of};
 use crate::values::{place, put_pair, put_value};
 use arena_heap::{

@@ -8,7 +8,8 @@ ghost use Rattle.snap_saving.specs.Saved.{IfFault, IsLong, IsTooBig};
 ghost use Rattle.snap_saving.specs.Shown.{IsSnapshotOf, snapshot_by};
 ghost use Rattle.snap_saving.specs.Steps.{ArePlaces, calls_bytes, found, head_bytes, heap_bytes, registered_bytes, registry_bytes};
 
-use crate::bytes::{SaveFault, is_long, put_number};
+use crate::bytes::{is_long, put_number};
+use crate::fault::SaveFault;
 use crate::frames::put_frames;
 use crate::objects::put_objects;
 use crate::values::{place, places_of};
