@@ -8,8 +8,8 @@ pub loop-high-init : goal.loop-high-init
 unfolding vuint
 loop-high-init c = record { room = omega arith; size = refl; below = omega arith; written = refl }
 
-pub returns-clause-ok : goal.returns-clause-ok
-returns-clause-ok c =
+pub returns : goal.returns-clause-ok
+returns c =
     let h = c.in_ok-extend_from_slice.ensures.items in
     let zero : c.loop-high.high ≡ 0 = omega arith in
     let none : high_groups c.loop-high.first c.loop-high.high ≡ [] = ap (high_groups c.loop-high.first) zero ∙ none_above c.loop-high.first in
