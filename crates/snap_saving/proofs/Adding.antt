@@ -25,6 +25,10 @@ module _ {X : Type 0} (f : X → List ℕ) (xs : List X) where
       ∙ (append_assoc out (f x) (flat_map f (drop (i + 1) xs))
       ∙ (ap (λ (ys : List X). out ++ flat_map f ys) (sym (drop_at xs i x at)) ∙ inv))
 
+  -- an item more of a slice is added, which is read with some item for want of one
+  pub added_more : (i : ℕ) (d : X) (out new whole : List ℕ) → i < length xs → new ≡ out ++ f (get_or xs i d) → out ++ flat_map f (drop i xs) ≡ whole → new ++ flat_map f (drop (i + 1) xs) ≡ whole
+  added_more i d out new whole lt e inv = stepped i (get_or xs i d) out new whole (slice_get-get_or xs i d lt) e inv
+
   -- all are added
   pub ended : (i : ℕ) (out whole : List ℕ) → length xs ≤ i → out ++ flat_map f (drop i xs) ≡ whole → out ≡ whole
   ended i out whole le inv =
@@ -43,10 +47,6 @@ module _ {X : Type 0} (f : X → List ℕ) (xs : List X) where
 -- what is too long already is too long with more
 pub more_long : (out rest whole : List ℕ) → out ++ rest ≡ whole → IsLong out → IsLong whole
 more_long out rest whole inv long = omega (arith, long, ap length inv, length-append out rest)
-
--- an item of a slice
-pub item_at : {X : Type 0} (xs : List X) (i : ℕ) (x : X) → i < length xs → x ≡ get_or xs i x → slice_get xs i ≡ Some x
-item_at xs i x lt is = slice_get-get_or xs i x lt ∙ ap (λ y. Some y) (sym is)
 
 -- a fault of a part is one of the whole
 fault_more : (e : Refused SaveFault) (P Q : Type 0) → (P → Q) → FaultBy e P → FaultBy e Q

@@ -1,6 +1,6 @@
 //! Frames of a snapshot, with their locals, slots and entries.
 
-ghost use Rattle.std.specs.Prelude.{◌≡◌, ◌+◌, ◌<◌, ◌^◌, ◌∷◌, ◌++◌, length, option_map, reverse, slice_get, if◌then◌else◌, OnOk};
+ghost use Rattle.std.specs.Prelude.{◌≡◌, ◌+◌, ◌<◌, ◌≤◌, ◌^◌, ◌∷◌, ◌++◌, length, option_map, reverse, slice_get, if◌then◌else◌, OnOk};
 ghost use Rattle.std.specs.List.{flat_map};
 ghost use Rattle.mpy_base.specs.Vuint.{vuint};
 ghost use Rattle.snap_grammar.specs.Spelling.{if_kept, mark, role as role_spelling, slot as slot_spelling, takes_iterator};
@@ -80,7 +80,8 @@ fn above(slots: &[Slot], i: usize) -> Option<Slot>
 
 /// One, if a slot below another one is shown, and otherwise none.
 fn count_shown(slot: Slot, above: Option<Slot>) -> u32
-    ensures { result ≡ (if is_shown_in slot above then 1 else 0) }
+    ensures is { result ≡ (if is_shown_in slot above then 1 else 0) }
+    ensures few { result ≤ 1 }
 {
     match is_shown(slot, above) {
         true => 1,

@@ -1,6 +1,6 @@
 //! Values of a snapshot.
 
-ghost use Rattle.std.specs.Prelude.{◌≡◌, ◌<◌, ◌∷◌, [], ◌++◌, is_some, slice_index, unwrap_or, if◌then◌else◌, OnOk, IfOk};
+ghost use Rattle.std.specs.Prelude.{◌≡◌, ◌<◌, ◌≤◌, ◌∷◌, [], ◌++◌, is_some, slice_index, unwrap_or, if◌then◌else◌, OnOk, IfOk};
 ghost use Rattle.mpy_base.specs.Vuint.{vuint};
 ghost use Rattle.mpy_base.specs.Weights.{used};
 ghost use Rattle.mpy_base.specs.World.{object};
@@ -21,7 +21,8 @@ use std::alloc::Global;
 #[tactic(auto, using(crate::proofs::Places::begins_one, crate::proofs::Places::begins_none))]
 fn count_at(arena: &Arena, cell: u32) -> u32
     requires { cell < used arena.now }
-    ensures { result ≡ (if is_some (object arena.now.objects cell) then 1 else 0) }
+    ensures is { result ≡ (if is_some (object arena.now.objects cell) then 1 else 0) }
+    ensures few { result ≤ 1 }
 {
     match object_at(arena, cell) {
         Some(_) => 1,

@@ -2,7 +2,7 @@ use Rattle.std.proofs.Common.{◌+◌, ◌≤◌, length, reverse, arith}
 use Rattle.std.proofs.lemmas.List.{length-reverse}
 use Rattle.std.proofs.lemmas.Result.{err_from_is_err_and}
 use Rattle.snap_saving.specs.Steps.{call_bytes, found}
-use Rattle.snap_saving.proofs.Adding.{ended, exit, on_true, part_long, stepped, too_long}
+use Rattle.snap_saving.proofs.Adding.{ended, exit, part_long, stepped, too_long}
 use Rattle.snap_saving.proofs.frames.put_frames.Goals as goal
 
 pub frame-requires : goal.frame-requires
@@ -19,7 +19,7 @@ returns-then-is_long-clause-fault c =
     let f = call_bytes c.args.library.now (found c.args.places.now) in
     let xs = reverse c.args.frames.now.calls in
     let next = stepped f xs c.loop-i.i c.frame.result.now.call c.loop-i.out.items c.put_frame.new.out.items _ c.frame.ensures c.in_ok-put_frame.ensures.ok c.loop-i.invariant in
-    too_long f xs (c.loop-i.i + 1) c.put_frame.new.out.items _ next (on_true c.is_long.result _ c.if-is_long.true c.is_long.ensures.yes)
+    too_long f xs (c.loop-i.i + 1) c.put_frame.new.out.items _ next c.if-is_long.ensures.yes
 
 pub loop-i-preserved : goal.loop-i-preserved
 loop-i-preserved c =

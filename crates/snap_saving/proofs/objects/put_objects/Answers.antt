@@ -3,7 +3,7 @@ use Rattle.std.proofs.lemmas.Option.{slice_get-get_or}
 use Rattle.std.proofs.lemmas.Result.{err_from_is_err_and}
 use Rattle.mpy_base.specs.World.{object}
 use Rattle.snap_saving.specs.Steps.{found, object_bytes}
-use Rattle.snap_saving.proofs.Adding.{ended, exit, on_true, part_long, stepped, too_long}
+use Rattle.snap_saving.proofs.Adding.{ended, exit, part_long, stepped, too_long}
 use Rattle.snap_saving.proofs.objects.put_objects.Goals as goal
 
 pub put_cell-requires : goal.put_cell-requires
@@ -23,7 +23,7 @@ returns-then-is_long-clause-fault c =
     let xs = c.args.arena.now.objects in
     let lt : c.loop-cell.cell < length xs = omega (arith, c.loop-cell-test.true, c.used.ensures.cells) in
     let next = stepped f xs c.loop-cell.cell (object xs c.loop-cell.cell) c.loop-cell.out.items c.put_cell.new.out.items _ (slice_get-get_or xs c.loop-cell.cell None lt) c.in_ok-put_cell.ensures.ok c.loop-cell.invariant in
-    too_long f xs (c.loop-cell.cell + 1) c.put_cell.new.out.items _ next (on_true c.is_long.result _ c.if-is_long.true c.is_long.ensures.yes)
+    too_long f xs (c.loop-cell.cell + 1) c.put_cell.new.out.items _ next c.if-is_long.ensures.yes
 
 pub loop-cell-preserved : goal.loop-cell-preserved
 loop-cell-preserved c =

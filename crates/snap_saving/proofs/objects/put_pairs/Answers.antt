@@ -1,7 +1,7 @@
 use Rattle.std.proofs.Common.{◌+◌, ◌∙◌, sym, arith}
 use Rattle.mpy_base.specs.World.{pairs_at}
 use Rattle.snap_saving.specs.Steps.{found, pair_bytes}
-use Rattle.snap_saving.proofs.Adding.{ended, is_there, on_true, stepped, too_long}
+use Rattle.snap_saving.proofs.Adding.{ended, is_there, stepped, too_long}
 use Rattle.snap_saving.proofs.objects.put_pairs.Goals as goal
 
 pub unwrap-pair-requires : goal.unwrap-pair-requires
@@ -12,7 +12,7 @@ returns-then-is_long-clause-fault c =
     let f = pair_bytes c.args.library.now (found c.args.places.now) in
     let xs = pairs_at c.args.arena.now c.args.d.cell in
     let next = stepped f xs c.loop-at.at c.unwrap-pair.result c.loop-at.out.items c.put_pair.new.out.items _ (sym c.dict_at.ensures.pair ∙ c.unwrap-pair.ensures) c.in_ok-put_pair.ensures c.loop-at.invariant in
-    too_long f xs (c.loop-at.at + 1) c.put_pair.new.out.items _ next (on_true c.is_long.result _ c.if-is_long.true c.is_long.ensures.yes)
+    too_long f xs (c.loop-at.at + 1) c.put_pair.new.out.items _ next c.if-is_long.ensures.yes
 
 pub loop-at-preserved : goal.loop-at-preserved
 loop-at-preserved c =

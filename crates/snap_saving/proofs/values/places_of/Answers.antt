@@ -13,7 +13,7 @@ loop-cell-init c = record { few = omega arith; found = subst (λ (ps : List ℕ)
 pub loop-cell-preserved : goal.loop-cell-preserved
 loop-cell-preserved c =
     let lt : c.loop-cell.cell < used c.args.arena.now = omega (arith, c.loop-cell-test.true, c.used.ensures.cells) in
-    let more = found_more c.args.arena.now c.loop-cell.places.items c.loop-cell.cell c.loop-cell.count (c.loop-cell.count + c.count_at.result) lt c.loop-cell.invariant.found (ap (λ (n : ℕ). c.loop-cell.count + n) c.count_at.ensures) in
+    let more = found_more c.args.arena.now c.loop-cell.places.items c.loop-cell.cell c.loop-cell.count (c.loop-cell.count + c.count_at.result) lt c.loop-cell.invariant.found (ap (λ (n : ℕ). c.loop-cell.count + n) c.count_at.ensures.is) in
     record { few = omega arith; found = subst (λ (ps : List ℕ). AreFound c.args.arena.now ps (c.loop-cell.cell + 1) (c.loop-cell.count + c.count_at.result)) (sym c.in_ok-push.ensures.items) more }
 
 pub returns : goal.returns
