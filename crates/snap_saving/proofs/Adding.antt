@@ -1,7 +1,6 @@
 -- Bytes that are added one item after another.
-use Rattle.std.proofs.Common.{◌≡◌, ℕ, ◌+◌, ◌<◌, ◌≤◌, List, [], ◌∷◌, ◌++◌, length, drop, get_or, map, Option, Some, None, Bool, true, false, Result, Ok, Err, inl, inr, refl, sym, ap, subst, ◌∙◌, arith, append_assoc, length-append}
+use Rattle.std.proofs.Common.{◌≡◌, ℕ, ◌+◌, ◌<◌, ◌≤◌, List, [], ◌∷◌, ◌++◌, length, drop, get_or, map, Option, Some, None, Result, Ok, Err, inl, inr, refl, sym, ap, subst, ◌∙◌, arith, append_assoc, length-append}
 use Rattle.std.specs.Prelude.{slice_get, IsSome}
-use Rattle.std.specs.Bool.{OnTrue, OnFalse}
 use Rattle.std.specs.List.{flat_map}
 use Rattle.std.proofs.lemmas.List.{drop_more, append-nil, length-map}
 use Rattle.std.proofs.lemmas.Option.{slice_get_cases, slice_get_within, get_or_from_slice_get, slice_get-get_or}
@@ -86,15 +85,6 @@ is_there o xs i e lt = elim (slice_get_cases xs i).1 [
   | inl h ↦ subst IsSome (sym (e ∙ h.2)) tt
   | inr h ↦ absurd (omega (arith, lt, h.0))
 ]
-
--- what a test said
-pub on_true : (b : Bool) (P : Type 0) → b ≡ true → OnTrue b P → P
-on_true true P e h = h
-on_true false P e h = absurd cc
-
-pub on_false : (b : Bool) (P : Type 0) → b ≡ false → OnFalse b P → P
-on_false true P e h = absurd cc
-on_false false P e h = h
 
 -- how many there are, and these
 flat_map-map : {X Y : Type 0} (g : X → Y) (f : Y → List ℕ) (xs : List X) → flat_map f (map g xs) ≡ flat_map (λ x. f (g x)) xs

@@ -11,11 +11,12 @@ use Rattle.bc_library.specs.Shelf.{Shelf}
 use Rattle.vm_frames.specs.Calls.{Call}
 use Rattle.prim_modules.specs.Registry.{Registry}
 use Rattle.snap_grammar.specs.Spelling as spelling
-use Rattle.snap_saving.specs.Shown.{entry_part, frame_part, local_part, registered_part, role_part, shown_slots, slot_part, snapshot_by}
+use Rattle.snap_saving.specs.Shown.{entry_part, frame_part, local_part, registered_part, role_part, shown_slots, slot_part, snapshot_by, snapshot_of}
 use Rattle.snap_saving.specs.Saved.{IsLong}
-use Rattle.snap_saving.specs.Steps.{call_bytes, calls_bytes, entries_bytes, head_bytes, heap_bytes, locals_bytes, registry_bytes, running_bytes, slots_bytes}
+use Rattle.snap_saving.specs.Steps.{ArePlaces, call_bytes, calls_bytes, entries_bytes, found, head_bytes, heap_bytes, locals_bytes, registry_bytes, running_bytes, slots_bytes}
 use Rattle.snap_saving.proofs.Adding.{all_of_map, joined3, long_by, long_front}
 use Rattle.snap_saving.proofs.OfObjects.{objects_bytes}
+use Rattle.snap_saving.proofs.Places.{found_is}
 
 frame_joined : (a b c d r l s e : List ℕ) → a ++ (b ++ (c ++ (d ++ (r ++ (l ++ (s ++ e)))))) ≡ (a ++ (b ++ (c ++ (d ++ r)))) ++ (l ++ (s ++ e))
 frame_joined a b c d r l s e = simp append_assoc
@@ -90,3 +91,8 @@ module _ (shelf : Shelf) (place : ℕ → ℕ) where
       let h = heap_bytes shelf place heap in
       let rest = registry_bytes place modules ++ calls_bytes shelf place calls in
       subst IsLong (ap (λ (z : List ℕ). old ++ z) (sym (state_is heap modules calls paid))) (long_front old (head_bytes heap paid) h rest (subst (λ (z : List ℕ). IsLong (z ++ h)) e long))
+
+  -- where the places are found in a list
+  pub placed : (heap : Heap Value ℕ) (modules : Registry) (calls : List Call) (paid : ℕ) (places : List ℕ) → ArePlaces heap places → (old : List ℕ)
+      → old ++ spelling.spelling (snapshot_by shelf (found places) heap modules calls paid) ≡ old ++ spelling.spelling (snapshot_of shelf heap modules calls paid)
+  placed heap modules calls paid places are old = ap (λ (by : ℕ → ℕ). old ++ spelling.spelling (snapshot_by shelf by heap modules calls paid)) (found_is heap places are)

@@ -1,11 +1,12 @@
 //! The bytes of a state.
 
 ghost use Rattle.std.specs.Prelude.{◌≡◌, ◌<◌, ◌≤◌, ◌^◌, ◌++◌, length, IfOk, OnOk};
+ghost use Rattle.std.specs.Bool.{OnTrue, OnFalse};
 ghost use Rattle.std.specs.List.{flat_map};
 ghost use Rattle.mpy_base.specs.Vuint.{vuint};
 ghost use Rattle.snap_grammar.specs.Spelling.{spelling};
 ghost use Rattle.snap_saving.specs.Saved.{IfFault, IsLong, IsTooBig};
-ghost use Rattle.snap_saving.specs.Shown.{IsSnapshotOf, snapshot_by};
+ghost use Rattle.snap_saving.specs.Shown.{IsSnapshotOf, snapshot_of};
 ghost use Rattle.snap_saving.specs.Steps.{ArePlaces, calls_bytes, found, head_bytes, heap_bytes, registered_bytes, registry_bytes};
 
 use crate::bytes::{is_long, put_number};
@@ -19,6 +20,9 @@ use mpy_base::{NoMemory, Refused};
 use prim_modules::{Entry, Modules};
 use std::alloc::Global;
 use vm_frames::Frames;
+
+/// So many paid steps are too many.
+const MANY_STEPS: u64 = 9_223_372_036_854_775_808;
 
 /// The header, the room and what is used of it, and the paid steps.
 fn put_head(out: &mut Vec<u8>, arena: &Arena, paid: u64) -> Result<(), NoMemory>
@@ -95,13 +99,21 @@ fn put_state(
     paid: u64,
 ) -> Result<(), Refused<SaveFault>>
     requires { ArePlaces arena.now places.now }
-    ensures ok { OnOk result (out.new.items ≡ out.old.items ++ spelling (snapshot_by library.now (found places.now) arena.now modules.now frames.now.calls paid)) }
-    ensures fault { IfFault result (IsLong (out.old.items ++ spelling (snapshot_by library.now (found places.now) arena.now modules.now frames.now.calls paid))) }
+    ensures ok { OnOk result (out.new.items ≡ out.old.items ++ spelling (snapshot_of library.now arena.now modules.now frames.now.calls paid)) }
+    ensures fault { IfFault result (IsLong (out.old.items ++ spelling (snapshot_of library.now arena.now modules.now frames.now.calls paid))) }
 {
     put_head(out, arena, paid)?;
     put_heap(out, library, arena, places)?;
     put_registry(out, places, modules)?;
     put_calls(out, library, places, frames)
+}
+
+/// Whether more steps are paid than may be.
+fn are_many(paid: u64) -> bool
+    ensures yes { OnTrue result (2 ^ 63 ≤ paid) }
+    ensures no { OnFalse result (paid < 2 ^ 63) }
+{
+    paid >= MANY_STEPS
 }
 
 /// The snapshot of a state of the library: of its arena, its registered modules, its calls, and the steps that are paid on the running
@@ -121,7 +133,7 @@ pub fn save(
     ensures few_steps { OnOk result (paid < 2 ^ 63) }
     ensures fault { IfFault result (IsTooBig library.now arena.now modules.now frames.now.calls paid) }
 {
-    if paid >= 1 << 63 {
+    if are_many(paid) {
         return Err(Refused::Fault(SaveFault::TooBig));
     }
     let places = places_of(alloc, arena)?;
