@@ -9,14 +9,14 @@ use Rattle.snap_saving.proofs.frames.put_frame.Goals as goal
 
 pub returns-in_err-put_all_locals-clause-fault : goal.returns-in_err-put_all_locals-clause-fault
 returns-in_err-put_all_locals-clause-fault c =
-    let p = err_from_is_err_and c.from_residual.result c.from_residual.ensures.1 in
+    let p = err_from_is_err_and c.from_residual-in_err-put_all_locals.result c.from_residual-in_err-put_all_locals.ensures.1 in
     exit _ _ _ _ _ p.1 p.2 c.in_err-put_all_locals.ensures.fault
     (λ long. locals_long c.args.library.now (found c.args.places.now) c.args.frame.now.call c.args.out.now.items c.put_running.new.out.items c.in_ok-put_running.ensures
     (rw c.locals.ensures.are at long))
 
 pub returns-in_err-put_all_slots-clause-fault : goal.returns-in_err-put_all_slots-clause-fault
 returns-in_err-put_all_slots-clause-fault c =
-    let p = err_from_is_err_and c.from_residual.result c.from_residual.ensures.1 in
+    let p = err_from_is_err_and c.from_residual-in_err-put_all_slots.result c.from_residual-in_err-put_all_slots.ensures.1 in
     exit _ _ _ _ _ p.1 p.2 c.in_err-put_all_slots.ensures.fault
     (λ long. slots_long c.args.library.now (found c.args.places.now) c.args.frame.now.call c.args.out.now.items c.put_running.new.out.items c.put_all_locals.new.out.items c.in_ok-put_running.ensures
     (rw c.locals.ensures.are at c.in_ok-put_all_locals.ensures.ok) (rw c.slots.ensures.are at long))

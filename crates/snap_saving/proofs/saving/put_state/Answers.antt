@@ -8,7 +8,7 @@ use Rattle.snap_saving.proofs.saving.put_state.Goals as goal
 
 pub returns-in_err-put_heap-clause-fault : goal.returns-in_err-put_heap-clause-fault
 returns-in_err-put_heap-clause-fault c =
-    let p = err_from_is_err_and c.from_residual.result c.from_residual.ensures.1 in
+    let p = err_from_is_err_and c.from_residual-in_err-put_heap.result c.from_residual-in_err-put_heap.ensures.1 in
     let same = placed c.args.library.now c.args.arena.now c.args.modules.now c.args.frames.now.calls c.args.paid c.args.places.now c.requires c.args.out.now.items in
     exit _ _ _ _ _ p.1 p.2 c.in_err-put_heap.ensures.fault
     (λ long. subst IsLong same (heap_long c.args.library.now (found c.args.places.now) c.args.arena.now c.args.modules.now c.args.frames.now.calls c.args.paid c.args.out.now.items c.put_head.new.out.items c.in_ok-put_head.ensures long))

@@ -11,7 +11,7 @@ returns-then-are_many-clause-fault c = inl c.if-are_many.ensures.yes
 
 pub returns-in_err-put_state-clause-fault : goal.returns-in_err-put_state-clause-fault
 returns-in_err-put_state-clause-fault c =
-    let p = err_from_is_err_and c.from_residual.result c.from_residual.ensures.1 in
+    let p = err_from_is_err_and c.from_residual-in_err-put_state.result c.from_residual-in_err-put_state.ensures.1 in
     let whole = spelling (snapshot_of c.args.library.now c.args.arena.now c.args.modules.now c.args.frames.now.calls c.args.paid) in
     exit _ _ _ _ _ p.1 p.2 c.in_err-put_state.ensures.fault (λ long. inr (subst IsLong (ap (λ (old : List ℕ). old ++ whole) c.new-out.ensures.items) long))
 
