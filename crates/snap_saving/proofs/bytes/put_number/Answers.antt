@@ -8,7 +8,7 @@ pub loop-high-init : goal.loop-high-init
 unfolding vuint
 loop-high-init c = record { room = omega arith; size = refl; below = omega arith; written = refl }
 
-pub returns : goal.returns-clause-ok
+pub returns : goal.returns
 returns c =
     let h = c.in_ok-extend_from_slice.ensures.items in
     let zero : c.loop-high.high ≡ 0 = omega arith in
