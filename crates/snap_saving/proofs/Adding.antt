@@ -82,7 +82,7 @@ joined2 old one a b e = ap (λ (z : List ℕ). z ++ b) e ∙ append_assoc old a 
 -- an item is there
 pub is_there : {X : Type 0} (o : Option X) (xs : List X) (i : ℕ) → o ≡ slice_get xs i → i < length xs → IsSome o
 is_there o xs i e lt = elim (slice_get_cases xs i).1 [
-  | inl h ↦ subst IsSome (sym (e ∙ h.2)) tt
+  | inl h ↦ subst IsSome (sym (e ∙ h.2)) refl
   | inr h ↦ absurd (omega (arith, lt, h.0))
 ]
 

@@ -134,12 +134,22 @@ imported held = refl
 --     e = (True, ())
 --     f = {5: False, 'x': e}
 --     for g in c: ..
-abbrev a b c d e f : Value
+abbrev a : Value
 a = values.List (record { cell = 19 })
+
+abbrev b : Value
 b = values.Text (record { cell = 26 })
+
+abbrev c : Value
 c = values.Range (record { cell = 28 })
+
+abbrev d : Value
 d = values.Method (record { cell = 32 })
+
+abbrev e : Value
 e = values.Tuple (record { cell = 59 })
+
+abbrev f : Value
 f = values.Dict (record { cell = 62 })
 
 abbrev four_names : List (Value × Value)

@@ -116,8 +116,8 @@ module _ (objects : Objects Value ℕ) (n : ℕ) where
   begins (numbers.Range r) b = at_cell r.cell ARange b
   begins (numbers.Module m) b = at_cell m.cell AModule b
 
-  pub begins_one : (x : ObjectNo) → BeginsAt objects n x → 1 ≡ (if is_some (object objects n) then 1 else 0)
+  pub begins_one : (x : ObjectNo) → BeginsAt objects n x → ◌≡◌ {A = ℕ} 1 (if is_some (object objects n) then 1 else 0)
   begins_one x b = ap (λ (t : Bool). if t then 1 else 0) (sym (begins x b))
 
-  pub begins_none : object objects n ≡ None → 0 ≡ (if is_some (object objects n) then 1 else 0)
+  pub begins_none : object objects n ≡ None → ◌≡◌ {A = ℕ} 0 (if is_some (object objects n) then 1 else 0)
   begins_none e = ap (λ (o : Option ArenaObject). if is_some o then 1 else 0) (sym e)

@@ -35,7 +35,7 @@ module _ (shelf : Shelf) (place : ℕ → ℕ) where
       ap (λ (l : List ℕ). F l S E) (all_of_map (local_part shelf place) spelling.slot c.locals)
       ∙ (ap (λ (s : List ℕ). F (locals_bytes shelf place c.locals) s E) (all_of_map (slot_part shelf place) spelling.slot (shown_slots (reverse c.slots)))
       ∙ (ap (λ (e : List ℕ). F (locals_bytes shelf place c.locals) (slots_bytes shelf place (reverse c.slots)) e) (all_of_map (entry_part place c.at) spelling.entry (reverse c.entries))
-      ∙ frame_joined _ _ _ _ _ _ _ _))
+      ∙ frame_joined (vuint c.module_number) (vuint c.code) (vuint c.at) (vuint (place c.names.cell)) (spelling.role (role_part place c.role)) (locals_bytes shelf place c.locals) (slots_bytes shelf place (reverse c.slots)) (entries_bytes place c.at (reverse c.entries))))
 
   -- a state from its parts
   pub state_is : (heap : Heap Value ℕ) (modules : Registry) (calls : List Call) (paid : ℕ) → spelling.spelling (snapshot_by shelf place heap modules calls paid)
@@ -48,7 +48,7 @@ module _ (shelf : Shelf) (place : ℕ → ℕ) where
       ∙ (ap (λ (m : List ℕ). F (heap_bytes shelf place heap) m C) (all_of_map (registered_part place) vuint modules.entries)
       ∙ (ap (λ (f : List ℕ). F (heap_bytes shelf place heap) (registry_bytes place modules) f) (all_of_map (frame_part shelf place) spelling.frame (reverse calls))
       ∙ (ap (λ (n : ℕ). F (heap_bytes shelf place heap) (registry_bytes place modules) (vuint n ++ flat_map (call_bytes shelf place) (reverse calls))) (length-reverse calls)
-      ∙ state_joined _ _ _ _ _ _ _ _ _)))
+      ∙ state_joined spelling.header (vuint heap.cell_size) (vuint heap.byte_size) (vuint (used heap)) (vuint heap.bytes) (to_le_bytes w64 paid) (heap_bytes shelf place heap) (registry_bytes place modules) (calls_bytes shelf place calls))))
 
   -- the parts of a frame, added one after another
   pub frame_added : (c : Call) (old one two three new : List ℕ) → one ≡ old ++ running_bytes place c → two ≡ one ++ locals_bytes shelf place c.locals → three ≡ two ++ slots_bytes shelf place (reverse c.slots)
