@@ -8,6 +8,6 @@ mod running;
 
 pub use ending::RunEnd;
 pub use laws::accounted_law;
-pub use running::run_library;
+pub use running::{run_for, run_library};
 pub use vm_frames::bc_machine;
 pub use vm_machine::vm_starting;

@@ -6,21 +6,21 @@ ghost use Rattle.mpy_tree.specs.Raw.{Module};
 ghost use Rattle.library_files.specs.Ends.{HoldsModules};
 ghost use Rattle.image_grammar.specs.Base.{IsOpened};
 ghost use Rattle.image_runs.specs.Main.{IsMainAt};
-ghost use Rattle.mpy_words.specs.Words.{first_name};
+ghost use Rattle.mpy_words.specs.Words.{first_name, saved_name};
 ghost use Rattle.meant_commands.specs.mpy_endings.Ending.{IsRunStatus};
 ghost use Rattle.board_command.specs.command_files.Opened.{failed_in};
 ghost use Rattle.meant_commands.specs.run_commands.Run.{IsUnloaded};
 ghost use Rattle.meant_commands.specs.run_commands.Ready.{RunLibrary};
 ghost use Rattle.mpy_tool.specs.Below.{MayLieBelow, library_below};
 ghost use Rattle.mpy_tool.specs.Call.{call_of, texts};
-ghost use Rattle.mpy_tool.specs.Doing.{LibraryBy, RunsBy};
-ghost use Rattle.mpy_tool.specs.Order.{runs_library};
+ghost use Rattle.mpy_tool.specs.Doing.{LibraryBy, RunsOrSaves};
+ghost use Rattle.mpy_tool.specs.Order.{ChangesSaved, runs_library};
 
 use crate::below::{or_nothing, release};
 use crate::outside::Outside;
 use image_grammar::bc_library::Library;
-use meant_commands::mpy_endings::{Ending, main_name, say_ending, word_at};
-use meant_commands::run_commands::{Ready, run_loaded, run_ready, source_ready};
+use meant_commands::mpy_endings::{Ended, Ending, main_name, say_ending, word_at};
+use meant_commands::run_commands::{Ready, run_loaded, run_ready, run_saving, source_ready};
 use mpy_base::{NoMemory, Room};
 use mpy_io::{Folder, Port, Sink};
 use mpy_words::{Command, Order};
@@ -84,6 +84,50 @@ fn library_of<F: Folder>(
     }
 }
 
+/// Runs what was loaded, saves its state where it takes all its steps and a file for that is ordered, and answers how that ended.
+fn run_to<F: Folder, S: Sink, P: Port, E: Sink>(
+    order: Order,
+    loaded: Result<Ready, Ending>,
+    alloc: Global,
+    words: &[String],
+    outside: &mut Outside<F, S, P, E>,
+) -> Ended
+{
+    let room = Room {
+        cells: order.cells,
+        bytes: order.bytes,
+    };
+    match order.save {
+        Some(at) => {
+            let ending = run_saving(
+                alloc,
+                loaded,
+                room,
+                order.steps,
+                word_at(words, at),
+                &mut outside.folder,
+                &mut outside.out,
+                &mut outside.ports,
+                &mut outside.say,
+            );
+            let place = if matches!(ending, Ending::Unwritten) { at } else { 1 };
+            Ended { ending, place }
+        }
+        None => Ended {
+            ending: run_loaded(
+                alloc,
+                loaded,
+                room,
+                order.steps,
+                &mut outside.out,
+                &mut outside.ports,
+                &mut outside.say,
+            ),
+            place: 1,
+        },
+    }
+}
+
 /// Runs the library that is ordered, over the library of a base, if one is ordered, says how that ended, and answers the exit status.
 pub(crate) fn run_order<F: Folder, S: Sink, P: Port, E: Sink>(
     order: Order,
@@ -96,25 +140,13 @@ pub(crate) fn run_order<F: Folder, S: Sink, P: Port, E: Sink>(
     requires runs { runs_library order.command ≡ true }
     requires below { MayLieBelow below order.base }
     ensures ended { let call = call_of F.Folder S.Sink P.Port E.Sink words.now outside.old outside.new result in
-        RunsBy order call (library_below below) order.command }
+        RunsOrSaves order call (library_below below) order.command }
     ensures flushed { IsRunStatus result → S.held outside.new.out ≡ [] }
-    ensures files { F.files outside.new.folder ≡ F.files outside.old.folder }
+    ensures files { ChangesSaved (saved_name (texts words.now) order.save) (F.files outside.old.folder) (F.files outside.new.folder) }
 {
-    let name = word_at(words, 1);
-    let room = Room {
-        cells: order.cells,
-        bytes: order.bytes,
-    };
     let loaded = library_of(order, alloc, words, below, &mut outside.folder);
-    let ending = run_loaded(
-        alloc,
-        loaded,
-        room,
-        order.steps,
-        &mut outside.out,
-        &mut outside.ports,
-        &mut outside.say,
-    );
-    let _ = say_ending(&mut outside.say, name, &ending);
-    ending.status()
+    let ended = run_to(order, loaded, alloc, words, outside);
+    let name = word_at(words, ended.place);
+    let _ = say_ending(&mut outside.say, name, &ended.ending);
+    ended.ending.status()
 }

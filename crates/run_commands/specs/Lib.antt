@@ -5,3 +5,4 @@ pub mod Base
 pub mod Go
 pub mod Run
 pub mod Ready
+pub mod Save

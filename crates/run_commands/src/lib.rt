@@ -5,9 +5,11 @@ mod base;
 mod go;
 mod ready;
 mod run;
+mod saving;
 
 pub use base::base_of;
 pub use command_files::mpy_endings;
 pub use go::source_ready;
 pub use ready::Ready;
 pub use run::{run_loaded, run_ready};
+pub use saving::run_saving;
