@@ -12,8 +12,8 @@ pub loop-i-preserved : goal.loop-i-preserved
 loop-i-preserved c =
     let xs = c.args.slots.now in
     record {
-      few = omega (arith, c.loop-i.invariant.few, c.count_shown.ensures.few);
-      counted = counted xs c.loop-i.i c.slot_at.result c.slot_at.ensures c.loop-i.count c.count_shown.result _ c.above.result c.above.ensures c.count_shown.ensures.is c.loop-i.invariant.counted;
+      few = omega (arith, c.loop-i.invariant.few, c.count_shown-count.ensures.few);
+      counted = counted xs c.loop-i.i c.slot_at.result c.slot_at.ensures c.loop-i.count c.count_shown-count.result _ c.above.result c.above.ensures c.count_shown-count.ensures.is c.loop-i.invariant.counted;
     }
 
 pub returns : goal.returns
