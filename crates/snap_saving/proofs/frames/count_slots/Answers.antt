@@ -3,10 +3,10 @@ use Rattle.snap_saving.proofs.Slots.{counted, all_counted}
 use Rattle.snap_saving.proofs.frames.count_slots.Goals as goal
 
 pub above-requires : goal.above-requires
-above-requires c = omega (arith, c.loop-i-test.true, c.len.ensures)
+above-requires c = omega (arith, c.loop-i-test.true)
 
 pub slot_at-requires : goal.slot_at-requires
-slot_at-requires c = omega (arith, c.loop-i-test.true, c.len.ensures)
+slot_at-requires c = omega (arith, c.loop-i-test.true)
 
 pub loop-i-preserved : goal.loop-i-preserved
 loop-i-preserved c =
@@ -17,4 +17,4 @@ loop-i-preserved c =
     }
 
 pub returns : goal.returns
-returns c = all_counted c.args.slots.now c.loop-i.i (omega (arith, c.loop-i-test.false, c.len.ensures)) c.loop-i.count _ c.loop-i.invariant.counted
+returns c = all_counted c.args.slots.now c.loop-i.i (omega (arith, c.loop-i-test.false)) c.loop-i.count _ c.loop-i.invariant.counted

@@ -6,7 +6,7 @@ use Rattle.snap_saving.proofs.Adding.{ended, exit, part_long, stepped, too_long}
 use Rattle.snap_saving.proofs.frames.put_frames.Goals as goal
 
 pub frame-requires : goal.frame-requires
-frame-requires c = omega (arith, c.loop-i-test.true, c.depth.ensures)
+frame-requires c = omega (arith, c.loop-i-test.true, c.depth-i-end.ensures)
 
 pub returns-in_err-put_frame-clause-fault : goal.returns-in_err-put_frame-clause-fault
 returns-in_err-put_frame-clause-fault c =
@@ -28,4 +28,4 @@ loop-i-preserved c =
 pub returns-clause-ok : goal.returns-clause-ok
 returns-clause-ok c =
     let turned = length-reverse c.args.frames.now.calls in
-    ended (call_bytes c.args.library.now (found c.args.places.now)) (reverse c.args.frames.now.calls) c.loop-i.i c.loop-i.out.items _ (omega (arith, c.loop-i-test.false, c.depth.ensures, turned)) c.loop-i.invariant
+    ended (call_bytes c.args.library.now (found c.args.places.now)) (reverse c.args.frames.now.calls) c.loop-i.i c.loop-i.out.items _ (omega (arith, c.loop-i-test.false, c.depth-i-end.ensures, turned)) c.loop-i.invariant

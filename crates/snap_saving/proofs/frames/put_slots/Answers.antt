@@ -7,10 +7,10 @@ use Rattle.snap_saving.proofs.Slots.{added, all_added}
 use Rattle.snap_saving.proofs.frames.put_slots.Goals as goal
 
 pub above-requires : goal.above-requires
-above-requires c = omega (arith, c.loop-i-test.true, c.len.ensures)
+above-requires c = omega (arith, c.loop-i-test.true)
 
 pub slot_at-requires : goal.slot_at-requires
-slot_at-requires c = omega (arith, c.loop-i-test.true, c.len.ensures)
+slot_at-requires c = omega (arith, c.loop-i-test.true)
 
 pub returns-then-is_long-clause-fault : goal.returns-then-is_long-clause-fault
 returns-then-is_long-clause-fault c =
@@ -25,4 +25,4 @@ loop-i-preserved c =
     added xs c.loop-i.i c.slot_at.result c.slot_at.ensures (slot_bytes c.args.library.now (found c.args.places.now)) c.loop-i.out.items c.put_shown.new.out.items _ c.above.result c.above.ensures c.in_ok-put_shown.ensures c.loop-i.invariant
 
 pub returns-clause-ok : goal.returns-clause-ok
-returns-clause-ok c = all_added c.args.slots.now c.loop-i.i (omega (arith, c.loop-i-test.false, c.len.ensures)) (slot_bytes c.args.library.now (found c.args.places.now)) c.loop-i.out.items _ c.loop-i.invariant
+returns-clause-ok c = all_added c.args.slots.now c.loop-i.i (omega (arith, c.loop-i-test.false)) (slot_bytes c.args.library.now (found c.args.places.now)) c.loop-i.out.items _ c.loop-i.invariant
