@@ -1,7 +1,8 @@
-use Rattle.std.proofs.Common.{◌<◌, ◌+◌, length, None, sym, arith}
+use Rattle.std.proofs.Common.{◌≡◌, ◌<◌, ◌+◌, ◌++◌, length, None, Err, arith}
 use Rattle.std.proofs.lemmas.Option.{slice_get-get_or}
 use Rattle.std.proofs.lemmas.Result.{err_from_is_err_and}
 use Rattle.mpy_base.specs.World.{object}
+use Rattle.snap_saving.specs.Saved.{IsLong}
 use Rattle.snap_saving.specs.Steps.{found, object_bytes}
 use Rattle.snap_saving.proofs.Adding.{ended, exit, part_long, stepped, too_long}
 use Rattle.snap_saving.proofs.objects.put_objects.Goals as goal
@@ -14,7 +15,8 @@ returns-in_err-put_cell-clause-fault c =
     let xs = c.args.arena.now.objects in
     let lt : c.loop-cell.cell < length xs = omega (arith, c.loop-cell-test.true, c.used-used.ensures.cells) in
     let p = err_from_is_err_and c.from_residual.result c.from_residual.ensures.1 in
-    exit _ _ _ _ _ p.1 p.2 c.in_err-put_cell.ensures.fault
+    let same : c.from_residual.result ≡ Err c.in_err-put_cell.field-0 = cc (p.1, p.2) in
+    exit (IsLong (c.loop-cell.out.items ++ object_bytes c.args.library.now (found c.args.places.now) (object xs c.loop-cell.cell))) _ c.from_residual.result c.in_err-put_cell.field-0 same c.in_err-put_cell.ensures.fault
     (part_long (object_bytes c.args.library.now (found c.args.places.now)) xs c.loop-cell.cell (object xs c.loop-cell.cell) c.loop-cell.out.items _ (slice_get-get_or xs c.loop-cell.cell None lt) c.loop-cell.invariant)
 
 pub returns-then-is_long-clause-fault : goal.returns-then-is_long-clause-fault
