@@ -205,6 +205,7 @@ fn put_slot(
 }
 
 /// A slot below another one, if it is shown.
+#[tactic(auto, using(crate::proofs::Slots::is_put, crate::proofs::Slots::not_put))]
 fn put_shown(
     out: &mut Vec<u8>,
     library: &Library,
