@@ -1,6 +1,6 @@
 -- Bytes that are added one item after another.
 use Rattle.std.proofs.Common.{◌≡◌, ℕ, ◌+◌, ◌<◌, ◌≤◌, List, [], ◌∷◌, ◌++◌, length, drop, get_or, map, Option, Some, None, Result, Ok, Err, inl, inr, refl, sym, ap, subst, ◌∙◌, arith, append_assoc, length-append}
-use Rattle.std.specs.Prelude.{slice_get, IsSome}
+use Rattle.std.specs.Prelude.{slice_get, IsSome, OnOk}
 use Rattle.std.specs.List.{flat_map}
 use Rattle.std.proofs.lemmas.List.{drop_more, append-nil, length-map}
 use Rattle.std.proofs.lemmas.Option.{slice_get_cases, slice_get_within, get_or_from_slice_get, slice_get-get_or}
@@ -52,17 +52,18 @@ fault_more : (e : Refused SaveFault) (P Q : Type 0) → (P → Q) → FaultBy e 
 fault_more (refused.Fault fault) P Q f p = f p
 fault_more refused.NoMemory P Q f p = p
 
-pub if_fault_more : {X : Type 0} (r : Result X (Refused SaveFault)) (P Q : Type 0) → (P → Q) → IfFault r P → IfFault r Q
-if_fault_more (Ok x) P Q f p = p
-if_fault_more (Err e) P Q f p = fault_more e P Q f p
-
 -- the exit of a call with a part's fault
-pub exit : {X : Type 0} (P Q : Type 0) (r : Result X (Refused SaveFault)) (y e : Refused SaveFault) → r ≡ Err y → y ≡ e → FaultBy e P → (P → Q) → IfFault r Q
-exit {X} P Q r y e is same h more =
-    let made : Result X (Refused SaveFault) = Err e in
-    let whole : r ≡ made = is ∙ ap (λ z. Err z) same in
+pub exit : {X : Type 0} (P Q : Type 0) (r : Result X (Refused SaveFault)) (e : Refused SaveFault) → r ≡ Err e → FaultBy e P → (P → Q) → IfFault r Q
+exit {X} P Q r e is h more =
     let F : Result X (Refused SaveFault) → Type 0 = λ z. IfFault z Q in
-    subst F (sym whole) (fault_more e P Q more h)
+    subst F (sym is) (fault_more e P Q more h)
+
+-- the answer of a call with its last part
+pub ok_moved : {X E : Type 0} (r : Result X E) (new x y : List ℕ) → x ≡ y → OnOk r (new ≡ x) → OnOk r (new ≡ y)
+ok_moved r new x y e h = subst (λ (z : List ℕ). OnOk r (new ≡ z)) e h
+
+pub long_moved : {X : Type 0} (r : Result X (Refused SaveFault)) (x y : List ℕ) → x ≡ y → IfFault r (IsLong x) → IfFault r (IsLong y)
+long_moved r x y e h = subst (λ (z : List ℕ). IfFault r (IsLong z)) e h
 
 -- bytes before others
 pub long_front : (old a b rest : List ℕ) → IsLong ((old ++ a) ++ b) → IsLong (old ++ (a ++ (b ++ rest)))

@@ -1,6 +1,7 @@
 -- Objects by their kinds, and their bytes.
 use Rattle.std.proofs.Common.{◌≡◌, ℕ, List, [], ◌∷◌, ◌++◌, length, map, Option, Some, None, is_some, suc, refl, sym, ap, ap₂, ◌∙◌, append_assoc}
 use Rattle.std.specs.Prelude.{filter}
+use Rattle.std.proofs.lemmas.List.{append-nil}
 use Rattle.std.specs.List.{filter_map, flat_map}
 use Rattle.std.specs.Option.{option_map}
 use Rattle.mpy_base.specs.Vuint.{vuint}
@@ -83,6 +84,10 @@ module _ (shelf : Shelf) (place : ℕ → ℕ) (heap : Heap Value ℕ) (n : ℕ)
   pub text_carried : (cell : ℕ) → n ≡ cell → IsA heap.objects AText n → (old new : List ℕ) → new ≡ old ++ (4 ∷ spelling.text (text_at heap n)) → new ≡ old ++ bytes_at shelf place heap cell
   text_carried cell same is old new e =
       e ∙ ap (λ (z : List ℕ). old ++ z) (sym (text_bytes is) ∙ ap (bytes_at shelf place heap) same)
+
+  -- no object begins there
+  pub nothing_at : object heap.objects n ≡ None → (old : List ℕ) → old ≡ old ++ bytes_at shelf place heap n
+  nothing_at none old = sym (append-nil old) ∙ ap (λ (o : Option ArenaObject). old ++ object_bytes shelf place o) (sym none)
 
 -- all objects
 module _ (shelf : Shelf) (place : ℕ → ℕ) where

@@ -58,3 +58,11 @@ module _ (xs : List Slot) (i : ℕ) (le : length xs ≤ i) where
   -- all are counted
   pub all_counted : (n whole : ℕ) → n + length (shown_slots (drop i xs)) ≡ whole → n ≡ whole
   all_counted n whole inv = omega (arith, ap length none_left, inv)
+
+-- what is put of a slot that is shown, and of another one
+module _ (s : Slot) (above : Option Slot) (bytes old : List ℕ) where
+  pub is_put : (new : List ℕ) → true ≡ is_shown s above → new ≡ old ++ bytes → new ≡ old ++ (if is_shown s above then bytes else [])
+  is_put new is e = e ∙ ap (λ (b : Bool). old ++ (if b then bytes else [])) is
+
+  pub not_put : false ≡ is_shown s above → old ≡ old ++ (if is_shown s above then bytes else [])
+  not_put is = sym (append-nil old) ∙ ap (λ (b : Bool). old ++ (if b then bytes else [])) is

@@ -1,6 +1,6 @@
 //! Frames of a snapshot, with their locals, slots and entries.
 
-ghost use Rattle.std.specs.Prelude.{◌≡◌, ◌+◌, ◌<◌, ◌≤◌, ◌^◌, ◌∷◌, ◌++◌, length, option_map, reverse, slice_get, if◌then◌else◌, OnOk};
+ghost use Rattle.std.specs.Prelude.{◌≡◌, ◌+◌, ◌<◌, ◌≤◌, ◌^◌, ◌∷◌, ◌++◌, length, option_map, reverse, slice_get, Some, if◌then◌else◌, OnOk};
 ghost use Rattle.std.specs.List.{flat_map};
 ghost use Rattle.mpy_base.specs.Vuint.{vuint};
 ghost use Rattle.snap_grammar.specs.Spelling.{if_kept, mark, role as role_spelling, slot as slot_spelling, takes_iterator};
@@ -70,6 +70,14 @@ fn is_shown(slot: Slot, above: Option<Slot>) -> bool
     }
 }
 
+/// The slot at a place.
+fn slot_at(slots: &[Slot], i: usize) -> Slot
+    requires { i < length slots.now }
+    ensures { slice_get slots.now i ≡ Some result }
+{
+    slots[i]
+}
+
 /// The slot above another one.
 fn above(slots: &[Slot], i: usize) -> Option<Slot>
     requires { i < length slots.now }
@@ -95,8 +103,8 @@ fn count_slots(slots: &[Slot]) -> u32
     ensures { result ≡ length (shown_slots slots.now) }
 {
     let mut count = 0;
-    for (i, slot) in slots.iter().enumerate() {
-        count += count_shown(*slot, above(slots, i));
+    for i in 0..slots.len() {
+        count += count_shown(slot_at(slots, i), above(slots, i));
     }
     count
 }
@@ -197,6 +205,7 @@ fn put_slot(
 }
 
 /// A slot below another one, if it is shown.
+#[tactic(auto, using(crate::proofs::Slots::is_put, crate::proofs::Slots::not_put))]
 fn put_shown(
     out: &mut Vec<u8>,
     library: &Library,
@@ -222,8 +231,8 @@ fn put_slots(
     ensures ok { OnOk result (out.new.items ≡ out.old.items ++ flat_map (slot_bytes library.now (found places.now)) (shown_slots slots.now)) }
     ensures fault { IfFault result (IsLong (out.old.items ++ flat_map (slot_bytes library.now (found places.now)) (shown_slots slots.now))) }
 {
-    for (i, slot) in slots.iter().enumerate() {
-        put_shown(out, library, places, *slot, above(slots, i))?;
+    for i in 0..slots.len() {
+        put_shown(out, library, places, slot_at(slots, i), above(slots, i))?;
         if is_long(out) {
             return Err(Refused::Fault(SaveFault::TooBig));
         }

@@ -333,7 +333,8 @@ pub(crate) fn put_objects(
     ensures ok { OnOk result (out.new.items ≡ out.old.items ++ flat_map (object_bytes library.now (found places.now)) arena.now.objects) }
     ensures fault { IfFault result (IsLong (out.old.items ++ flat_map (object_bytes library.now (found places.now)) arena.now.objects)) }
 {
-    for cell in 0..arena.used().cells {
+    let used = arena.used().cells;
+    for cell in 0..used {
         put_cell(out, library, arena, places, cell)?;
         if is_long(out) {
             return Err(Refused::Fault(SaveFault::TooBig));

@@ -1,17 +1,19 @@
-use Rattle.std.proofs.Common.{◌+◌, ◌≤◌, length, reverse, arith}
+use Rattle.std.proofs.Common.{◌≡◌, ◌+◌, ◌++◌, Err, reverse, arith}
 use Rattle.std.proofs.lemmas.List.{length-reverse}
 use Rattle.std.proofs.lemmas.Result.{err_from_is_err_and}
+use Rattle.snap_saving.specs.Saved.{IsLong}
 use Rattle.snap_saving.specs.Steps.{call_bytes, found}
 use Rattle.snap_saving.proofs.Adding.{ended, exit, part_long, stepped, too_long}
 use Rattle.snap_saving.proofs.frames.put_frames.Goals as goal
 
 pub frame-requires : goal.frame-requires
-frame-requires c = omega (arith, c.loop-i-test.true, c.depth.ensures)
+frame-requires c = omega (arith, c.loop-i-test.true, c.depth-i-end.ensures)
 
 pub returns-in_err-put_frame-clause-fault : goal.returns-in_err-put_frame-clause-fault
 returns-in_err-put_frame-clause-fault c =
     let p = err_from_is_err_and c.from_residual.result c.from_residual.ensures.1 in
-    exit _ _ _ _ _ p.1 p.2 c.in_err-put_frame.ensures.fault
+    let same : c.from_residual.result ≡ Err c.in_err-put_frame.field-0 = cc (p.1, p.2) in
+    exit (IsLong (c.loop-i.out.items ++ call_bytes c.args.library.now (found c.args.places.now) c.frame.result.now.call)) _ c.from_residual.result c.in_err-put_frame.field-0 same c.in_err-put_frame.ensures.fault
     (part_long (call_bytes c.args.library.now (found c.args.places.now)) (reverse c.args.frames.now.calls) c.loop-i.i c.frame.result.now.call c.loop-i.out.items _ c.frame.ensures c.loop-i.invariant)
 
 pub returns-then-is_long-clause-fault : goal.returns-then-is_long-clause-fault
@@ -28,4 +30,4 @@ loop-i-preserved c =
 pub returns-clause-ok : goal.returns-clause-ok
 returns-clause-ok c =
     let turned = length-reverse c.args.frames.now.calls in
-    ended (call_bytes c.args.library.now (found c.args.places.now)) (reverse c.args.frames.now.calls) c.loop-i.i c.loop-i.out.items _ (omega (arith, c.loop-i-test.false, c.depth.ensures, turned)) c.loop-i.invariant
+    ended (call_bytes c.args.library.now (found c.args.places.now)) (reverse c.args.frames.now.calls) c.loop-i.i c.loop-i.out.items _ (omega (arith, c.loop-i-test.false, c.depth-i-end.ensures, turned)) c.loop-i.invariant

@@ -5,7 +5,7 @@ use Rattle.snap_saving.proofs.Adding.{ended, is_there, stepped, too_long}
 use Rattle.snap_saving.proofs.objects.put_items.Goals as goal
 
 pub unwrap-v-requires : goal.unwrap-v-requires
-unwrap-v-requires c = is_there c.list_at.result (items_at c.args.arena.now c.args.l.cell) c.loop-at.at c.list_at.ensures.item (omega (arith, c.loop-at-test.true, c.list_len.ensures))
+unwrap-v-requires c = is_there c.list_at.result (items_at c.args.arena.now c.args.l.cell) c.loop-at.at c.list_at.ensures.item (omega (arith, c.loop-at-test.true, c.list_len-at-end.ensures))
 
 pub returns-then-is_long-clause-fault : goal.returns-then-is_long-clause-fault
 returns-then-is_long-clause-fault c =
@@ -21,4 +21,4 @@ loop-at-preserved c =
 
 pub returns-clause-ok : goal.returns-clause-ok
 returns-clause-ok c =
-    ended (value_bytes c.args.library.now (found c.args.places.now)) (items_at c.args.arena.now c.args.l.cell) c.loop-at.at c.loop-at.out.items _ (omega (arith, c.loop-at-test.false, c.list_len.ensures)) c.loop-at.invariant
+    ended (value_bytes c.args.library.now (found c.args.places.now)) (items_at c.args.arena.now c.args.l.cell) c.loop-at.at c.loop-at.out.items _ (omega (arith, c.loop-at-test.false, c.list_len-at-end.ensures)) c.loop-at.invariant

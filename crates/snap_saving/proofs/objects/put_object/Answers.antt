@@ -1,10 +1,8 @@
-use Rattle.std.proofs.Common.{◌++◌, ◌∙◌, List, ℕ, ap, subst}
+use Rattle.std.proofs.Common.{◌++◌, ℕ, ap}
 use Rattle.std.specs.Option.{option_map}
-use Rattle.std.proofs.lemmas.Result.{on_ok_weaker}
 use Rattle.mpy_base.specs.World.{AText, FunctionObject, ExceptionObject, MethodObject, RangeObject, ModuleObject}
-use Rattle.snap_saving.specs.Saved.{IsLong}
 use Rattle.snap_saving.specs.Steps.{bytes_at, found}
-use Rattle.snap_saving.proofs.Adding.{if_fault_more}
+use Rattle.snap_saving.proofs.Adding.{long_moved, ok_moved}
 use Rattle.snap_saving.proofs.OfObjects.{carried, text_carried}
 use Rattle.snap_saving.proofs.objects.put_object.Goals as goal
 
@@ -14,12 +12,12 @@ put_list-requires c = (rw c.in-List.is at c.requires).1
 pub returns-in-List-clause-ok : goal.returns-in-List-clause-ok
 returns-in-List-clause-ok c =
     let r = rw c.in-List.is at c.requires in
-    on_ok_weaker c.put_list.result (λ e. e ∙ ap (λ (cell : ℕ). c.args.out.now.items ++ bytes_at c.args.library.now (found c.args.places.now) c.args.arena.now cell) r.0) c.put_list.ensures.ok
+    ok_moved c.put_list.result c.put_list.new.out.items _ _ (ap (λ (cell : ℕ). c.args.out.now.items ++ bytes_at c.args.library.now (found c.args.places.now) c.args.arena.now cell) r.0) c.put_list.ensures.ok
 
 pub returns-in-List-clause-fault : goal.returns-in-List-clause-fault
 returns-in-List-clause-fault c =
     let r = rw c.in-List.is at c.requires in
-    if_fault_more c.put_list.result _ _ (λ long. subst (λ (cell : ℕ). IsLong (c.args.out.now.items ++ bytes_at c.args.library.now (found c.args.places.now) c.args.arena.now cell)) r.0 long) c.put_list.ensures.fault
+    long_moved c.put_list.result _ _ (ap (λ (cell : ℕ). c.args.out.now.items ++ bytes_at c.args.library.now (found c.args.places.now) c.args.arena.now cell) r.0) c.put_list.ensures.fault
 
 pub put_dict-requires : goal.put_dict-requires
 put_dict-requires c = (rw c.in-Dict.is at c.requires).1
@@ -27,12 +25,12 @@ put_dict-requires c = (rw c.in-Dict.is at c.requires).1
 pub returns-in-Dict-clause-ok : goal.returns-in-Dict-clause-ok
 returns-in-Dict-clause-ok c =
     let r = rw c.in-Dict.is at c.requires in
-    on_ok_weaker c.put_dict.result (λ e. e ∙ ap (λ (cell : ℕ). c.args.out.now.items ++ bytes_at c.args.library.now (found c.args.places.now) c.args.arena.now cell) r.0) c.put_dict.ensures.ok
+    ok_moved c.put_dict.result c.put_dict.new.out.items _ _ (ap (λ (cell : ℕ). c.args.out.now.items ++ bytes_at c.args.library.now (found c.args.places.now) c.args.arena.now cell) r.0) c.put_dict.ensures.ok
 
 pub returns-in-Dict-clause-fault : goal.returns-in-Dict-clause-fault
 returns-in-Dict-clause-fault c =
     let r = rw c.in-Dict.is at c.requires in
-    if_fault_more c.put_dict.result _ _ (λ long. subst (λ (cell : ℕ). IsLong (c.args.out.now.items ++ bytes_at c.args.library.now (found c.args.places.now) c.args.arena.now cell)) r.0 long) c.put_dict.ensures.fault
+    long_moved c.put_dict.result _ _ (ap (λ (cell : ℕ). c.args.out.now.items ++ bytes_at c.args.library.now (found c.args.places.now) c.args.arena.now cell) r.0) c.put_dict.ensures.fault
 
 pub put_tuple-requires : goal.put_tuple-requires
 put_tuple-requires c = (rw c.in-Tuple.is at c.requires).1
@@ -40,12 +38,12 @@ put_tuple-requires c = (rw c.in-Tuple.is at c.requires).1
 pub returns-in-Tuple-clause-ok : goal.returns-in-Tuple-clause-ok
 returns-in-Tuple-clause-ok c =
     let r = rw c.in-Tuple.is at c.requires in
-    on_ok_weaker c.put_tuple.result (λ e. e ∙ ap (λ (cell : ℕ). c.args.out.now.items ++ bytes_at c.args.library.now (found c.args.places.now) c.args.arena.now cell) r.0) c.put_tuple.ensures.ok
+    ok_moved c.put_tuple.result c.put_tuple.new.out.items _ _ (ap (λ (cell : ℕ). c.args.out.now.items ++ bytes_at c.args.library.now (found c.args.places.now) c.args.arena.now cell) r.0) c.put_tuple.ensures.ok
 
 pub returns-in-Tuple-clause-fault : goal.returns-in-Tuple-clause-fault
 returns-in-Tuple-clause-fault c =
     let r = rw c.in-Tuple.is at c.requires in
-    if_fault_more c.put_tuple.result _ _ (λ long. subst (λ (cell : ℕ). IsLong (c.args.out.now.items ++ bytes_at c.args.library.now (found c.args.places.now) c.args.arena.now cell)) r.0 long) c.put_tuple.ensures.fault
+    long_moved c.put_tuple.result _ _ (ap (λ (cell : ℕ). c.args.out.now.items ++ bytes_at c.args.library.now (found c.args.places.now) c.args.arena.now cell) r.0) c.put_tuple.ensures.fault
 
 pub put_made_text-requires : goal.put_made_text-requires
 put_made_text-requires c = (rw c.in-Text.is at c.requires).1

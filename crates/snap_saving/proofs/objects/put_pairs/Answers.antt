@@ -5,7 +5,7 @@ use Rattle.snap_saving.proofs.Adding.{ended, is_there, stepped, too_long}
 use Rattle.snap_saving.proofs.objects.put_pairs.Goals as goal
 
 pub unwrap-pair-requires : goal.unwrap-pair-requires
-unwrap-pair-requires c = is_there c.dict_at.result (pairs_at c.args.arena.now c.args.d.cell) c.loop-at.at c.dict_at.ensures.pair (omega (arith, c.loop-at-test.true, c.dict_len.ensures))
+unwrap-pair-requires c = is_there c.dict_at.result (pairs_at c.args.arena.now c.args.d.cell) c.loop-at.at c.dict_at.ensures.pair (omega (arith, c.loop-at-test.true, c.dict_len-at-end.ensures))
 
 pub returns-then-is_long-clause-fault : goal.returns-then-is_long-clause-fault
 returns-then-is_long-clause-fault c =
@@ -21,4 +21,4 @@ loop-at-preserved c =
 
 pub returns-clause-ok : goal.returns-clause-ok
 returns-clause-ok c =
-    ended (pair_bytes c.args.library.now (found c.args.places.now)) (pairs_at c.args.arena.now c.args.d.cell) c.loop-at.at c.loop-at.out.items _ (omega (arith, c.loop-at-test.false, c.dict_len.ensures)) c.loop-at.invariant
+    ended (pair_bytes c.args.library.now (found c.args.places.now)) (pairs_at c.args.arena.now c.args.d.cell) c.loop-at.at c.loop-at.out.items _ (omega (arith, c.loop-at-test.false, c.dict_len-at-end.ensures)) c.loop-at.invariant
