@@ -1,15 +1,18 @@
 //! Orders that run a library.
 
-ghost use Rattle.std.specs.Prelude.{◌≡◌, ◌≤◌, [], true, IfSome, IfOk, IfErr};
+ghost use Rattle.std.specs.Prelude.{◌≡◌, ◌≤◌, ◌||◌, ℕ, List, [], false, true, IfSome, IfOk, IfErr};
 ghost use Rattle.mpy_io.specs.Count.{Counts};
 ghost use Rattle.mpy_tree.specs.Raw.{Module};
 ghost use Rattle.library_files.specs.Ends.{HoldsModules};
 ghost use Rattle.image_grammar.specs.Base.{IsOpened};
 ghost use Rattle.image_runs.specs.Main.{IsMainAt};
 ghost use Rattle.mpy_words.specs.Words.{first_name, saved_name};
-ghost use Rattle.meant_commands.specs.mpy_endings.Ending.{IsRunStatus};
+ghost use Rattle.meant_commands.specs.mpy_endings.Ending.{IsRunStatus, is_folder_fault, is_out_fault, is_said, status_of};
+ghost use Rattle.meant_commands.specs.mpy_endings.Line.{Says};
+ghost use Rattle.library_runs.specs.Runs.{sight};
 ghost use Rattle.board_command.specs.command_files.Opened.{failed_in};
-ghost use Rattle.meant_commands.specs.run_commands.Run.{IsUnloaded};
+ghost use Rattle.meant_commands.specs.run_commands.Run.{IsUnloaded, room_of};
+ghost use Rattle.meant_commands.specs.run_commands.Save.{RunsTo, is_unwritten, place_to};
 ghost use Rattle.meant_commands.specs.run_commands.Ready.{RunLibrary};
 ghost use Rattle.mpy_tool.specs.Below.{MayLieBelow, library_below};
 ghost use Rattle.mpy_tool.specs.Call.{call_of, texts};
@@ -92,6 +95,20 @@ fn run_to<F: Folder, S: Sink, P: Port, E: Sink>(
     words: &[String],
     outside: &mut Outside<F, S, P, E>,
 ) -> Ended
+    requires there { IfOk loaded (λ ready. (m : Module) × IsMainAt ready.main ready.place m ready.library) }
+    requires holds { IfOk loaded (λ ready. HoldsModules ready.library) }
+    requires unloaded { IfErr loaded IsUnloaded }
+    ensures went { (said : List ℕ)
+        × RunsTo (saved_name (texts words.now) order.save) (λ ready. ready ≡ loaded) (room_of order) order.steps
+            (sight S.told P.seen outside.old.out outside.old.ports) (sight S.told P.seen outside.new.out outside.new.ports)
+            said (F.files outside.old.folder) (F.files outside.new.folder) result.ending
+        × Says (E.told outside.old.say) (E.told outside.new.say) (E.count outside.old.say) (E.count outside.new.say) said }
+    ensures place { result.place ≡ place_to order.save result.ending }
+    ensures flushed { IsRunStatus (status_of result.ending) → S.held outside.new.out ≡ [] }
+    ensures silent { is_said result.ending ≡ false → outside.new.say ≡ outside.old.say }
+    ensures unwritten { Counts (F.count outside.old.folder) (F.count outside.new.folder) (is_unwritten result.ending) }
+    ensures folder { (failed_in loaded || is_unwritten result.ending) ≡ is_folder_fault result.ending }
+    ensures out_counts { Counts (S.count outside.old.out) (S.count outside.new.out) (is_out_fault result.ending) }
 {
     let room = Room {
         cells: order.cells,

@@ -83,6 +83,16 @@ module _ (Comes : Result Ready Ending → Type 0) (room : Room) (steps : ℕ) (o
     RunsSaving NoMemory = (Untouched old new said ⊎ Suspends (λ shelf vm. Unit {0})) × (files_new ≡ files_old)
     RunsSaving Absent = RunsToEnd Absent
 
+-- how a run ended, whose state is saved to a file, if one is named, and what the folder's files became
+abbrev pub RunsTo : (snap : Option (List ℕ)) → (Comes : Result Ready Ending → Type 0) → Room → (steps : ℕ) → (old new : Sight) → (said : List ℕ) → (files_old files_new : Option FileOf) → Ending → Type 0
+RunsTo None Comes room steps old new said files_old files_new ending = Runs Comes room steps old new said ending × (files_new ≡ files_old)
+RunsTo (Some snap) Comes room steps old new said files_old files_new ending = RunsSaving Comes room steps old new said snap files_old files_new ending
+
+-- the place of the word that the line of a run names which saves to the word at a place, if it does: that word where it wasn't written
+abbrev pub place_to : (save : Option ℕ) → Ending → ℕ
+place_to (Some at) Unwritten = at
+place_to save ending = 1
+
 -- A run of the library that comes so of the folder's files and of this name ended so, and its state was saved to the other name where it took
 -- all its steps: why, with what printed, what the ports tell and what in the folder, which count of faults rose, and what was said, in
 -- the run and behind it.
