@@ -43,10 +43,12 @@ example: mpy go examples/loop.py -O 1 --steps 1000
   mpy run board.img -m main     run a module of an image
 ",
         text: "usage: mpy run FILE [-m NAME] [--base IMAGE] [--cells N] [--bytes N] [--steps N]
+               [--save SNAP]
 
 Verifies and runs the file FILE with the files of the modules that it imports,
 from the folder of FILE; or a module of the image FILE, which has all its
-modules. No file is written. Port 0 is as that of `mpy go`.
+modules. Port 0 is as that of `mpy go`. No file is written but SNAP, where the
+run takes all its steps.
 
   -m NAME       the module of an image that is run (main)
   --base IMAGE  the image over which the image FILE was frozen
@@ -54,6 +56,7 @@ modules. No file is written. Port 0 is as that of `mpy go`.
   --bytes N     room of its texts in bytes, at most 16,777,216 (262,144)
   --steps N     how many steps it may take, at most 1,000,000,000,000
                 (10,000,000)
+  --save SNAP   the file that gets its state as bytes where it takes them all
 
 example: mpy run examples/sensor.mpy --cells 4000
 ",

@@ -1,0 +1,7 @@
+pub mod Adding
+mod Examples
+pub mod Naming
+pub mod OfObjects
+pub mod Places
+pub mod Slots
+pub mod Whole
