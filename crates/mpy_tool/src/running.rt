@@ -23,11 +23,11 @@ use crate::below::{or_nothing, release};
 use crate::outside::Outside;
 use bc_library::Library;
 use mpy_base::{NoMemory, Room};
-use mpy_endings::{Ending, main_name, say_ending, word_at};
+use mpy_endings::{Ended, Ending, main_name, say_ending, word_at};
 use mpy_io::{Folder, Port, Sink};
 use mpy_words::{Command, Order};
 use std::alloc::Global;
-use stress_command::{Ready, run_loaded, run_ready, source_ready};
+use stress_command::{Ready, run_loaded, run_ready, run_saving, source_ready};
 
 /// The library of the file of this name, an image over the library of a base, if one is ordered, or what keeps it from being run.
 fn ready_below<F: Folder>(

@@ -7,8 +7,8 @@ use Rattle.mpy_base.specs.World.{Heap, ListObject, TupleObject, TextObject, Dict
 use Rattle.mpy_base.specs.Weights.{empty, with_made, with_items, with_pairs, with_used}
 use Rattle.mpy_base.specs.Vuint.{vuint}
 use Rattle.bc_ops.specs.Signed.{signed}
-use Rattle.qstr_pool.specs.declared.table.TheConstants.{FIRST_OWN}
-use Rattle.mpy_tree.specs.Raw.{Module}
+use Rattle.arena_heap.specs.qstr_pool.declared.table.TheConstants.{FIRST_OWN}
+use Rattle.bc_library.specs.mpy_tree.Raw.{Module}
 use Rattle.arena_heap.specs.declared.value.Value.{Value}
 use Rattle.arena_heap.specs.declared.value.Value.TheVariants as values
 use Rattle.arena_heap.specs.declared.value.StrNo.TheVariants as strs

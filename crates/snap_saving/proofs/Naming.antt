@@ -7,7 +7,7 @@ use Rattle.mpy_base.specs.declared.builtin.Builtin.TheVariants as builtins
 use Rattle.mpy_base.specs.declared.kind.Kind.{Kind}
 use Rattle.mpy_base.specs.declared.kind.Kind.TheVariants as kinds
 use Rattle.mpy_base.specs.Kind.{kind_name}
-use Rattle.py_values.specs.Names.{builtin_name}
+use Rattle.prim_walks.specs.py_values.Names.{builtin_name}
 use Rattle.arena_heap.specs.declared.value.StrNo.TheVariants as strs
 use Rattle.bc_library.specs.declared.fault.Member.{Member}
 use Rattle.bc_library.specs.Shelf.{Shelf, names, member_by, member_of}

@@ -7,7 +7,7 @@ use Rattle.std.specs.List.{filter_map}
 use Rattle.mpy_base.specs.Kind.{kind_name}
 use Rattle.mpy_base.specs.World.{Heap, ListObject, TupleObject, TextObject, DictObject, FunctionObject, ExceptionObject, MethodObject, RangeObject, ModuleObject}
 use Rattle.mpy_base.specs.Weights.{used}
-use Rattle.py_values.specs.Names.{builtin_name}
+use Rattle.prim_walks.specs.py_values.Names.{builtin_name}
 use Rattle.arena_heap.specs.declared.value.Value.{Value}
 use Rattle.arena_heap.specs.declared.value.Value.TheVariants as values
 use Rattle.arena_heap.specs.declared.value.StrNo.TheVariants as strs

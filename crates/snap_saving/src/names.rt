@@ -1,7 +1,7 @@
 //! Texts by their numbers, and modules and built-ins by their names.
 
 ghost use Rattle.std.specs.Prelude.{◌≡◌, ◌<◌, ◌^◌, [], ◌++◌, length, unwrap_or, OnOk};
-ghost use Rattle.py_values.specs.Names.{builtin_name as name_of_builtin};
+ghost use Rattle.prim_walks.specs.py_values.Names.{builtin_name as name_of_builtin};
 ghost use Rattle.bc_library.specs.Constants.{text_at};
 ghost use Rattle.snap_grammar.specs.Spelling.{text};
 ghost use Rattle.snap_saving.specs.Shown.{module_part};

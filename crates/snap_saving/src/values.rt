@@ -4,7 +4,7 @@ ghost use Rattle.std.specs.Prelude.{◌≡◌, ◌<◌, ◌≤◌, ◌∷◌, []
 ghost use Rattle.mpy_base.specs.Vuint.{vuint};
 ghost use Rattle.mpy_base.specs.Weights.{used};
 ghost use Rattle.mpy_base.specs.World.{object};
-ghost use Rattle.py_values.specs.Names.{builtin_name as name_of_builtin};
+ghost use Rattle.prim_walks.specs.py_values.Names.{builtin_name as name_of_builtin};
 ghost use Rattle.bc_library.specs.Constants.{text_at};
 ghost use Rattle.snap_grammar.specs.Spelling.{text, value as value_spelling};
 ghost use Rattle.snap_saving.specs.Shown.{bool_part};
