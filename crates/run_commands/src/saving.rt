@@ -32,7 +32,7 @@ fn save_state<F: Folder>(
     snap: &str,
     folder: &mut F,
 ) -> Ending
-    ensures { SavesState library.now vm.now steps snap.now (F.files folder.old) (F.files folder.new) result }
+    ensures saves { SavesState library.now vm.now steps snap.now (F.files folder.old) (F.files folder.new) result }
     ensures unwritten { Counts (F.count folder.old) (F.count folder.new) (is_unwritten result) }
 {
     match save(alloc, library, &vm.arena, &vm.modules, &vm.frames, vm.paid) {
