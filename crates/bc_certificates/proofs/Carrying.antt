@@ -12,7 +12,7 @@ use Rattle.bc_flow.specs.Verified.{Assigned, Leads, Each, none, also, Fine, Hold
 use Rattle.bc_certificates.specs.Rows.{Rows, row, goes_on, fall, at_if, fallen, brought, or_else, carried, other_ways, Keeps, Certifies}
 
 -- a row is carried
-row_carried : (code : Code) (rows : Rows) (p : ℕ) (x : At) → row rows p ≡ Some x → carried code rows p ≡ Some x
+pub row_carried : (code : Code) (rows : Rows) (p : ℕ) (x : At) → row rows p ≡ Some x → carried code rows p ≡ Some x
 row_carried code rows zero x e = e
 row_carried code rows (suc p) x e = ap (λ o. or_else o (brought code p (carried code rows p))) e
 

@@ -1,14 +1,14 @@
 -- What a check of rows finds out of one position.
-use Rattle.std.specs.Prelude.{◌≡◌, ℕ, zero, suc, true, ◌&&◌, List, length, map, Option, None, IfSome, nat_le, option_map, Bool}
+use Rattle.std.specs.Prelude.{◌≡◌, ℕ, zero, suc, true, ◌&&◌, ◌||◌, List, [], ◌∷◌, length, map, Option, None, IfSome, nat_le, nat_lt, option_map, slice_get, Some, Bool, if◌then◌else◌}
 use Rattle.bc_flow.specs.bc_shapes.declared.shape.Shape.{Shape}
 use Rattle.bc_flow.specs.bc_shapes.declared.shape.Entry.{Entry}
 use Rattle.bc_flow.specs.bc_shapes.Shape.{At, Under}
 use Rattle.bc_flow.specs.bc_shapes.Views.{at_of}
 use Rattle.bc_flow.specs.Action.{Action}
 use Rattle.bc_flow.specs.Code.{Code}
-use Rattle.bc_flow.specs.Edges.{Edge, asks, behind, change, edges_marked, is_marked, finds, room, stays}
+use Rattle.bc_flow.specs.Edges.{Edge, asks, behind, change, edge_of, edges_marked, is_marked, finds, jump_way, raise_ways, room, stays, target}
 use Rattle.bc_flow.specs.Verified.{Each, Leads, begin}
-use Rattle.bc_certificates.specs.Rows.{Rows, row, other_edges, carried, brought}
+use Rattle.bc_certificates.specs.Rows.{Rows, row, carried, brought, fall, goes_on}
 
 -- the rows that the code's values are
 abbrev pub rows_of : List (Option Shape) → Rows
@@ -23,13 +23,36 @@ pub record Lead (rows : Rows) (es : List Edge) : Type 0 where
 abbrev pub fits_entries : Code → Action → ℕ → List Entry → Bool
 fits_entries code i n es = asks (change i) es && nat_le (length (behind (change i) n es)) code.n_exc
 
--- the rules at one position but for the edge to the next one
+-- the entry stands no higher than that many slots, and its handler lies behind the position, if it isn't active
+abbrev pub stands_on : ℕ → ℕ → Entry → Bool
+stands_on n p e = nat_le e.height n && (e.active || nat_lt p e.handler)
+
+-- the handler of an entry that isn't active, and else the position
+abbrev pub last_handler : ℕ → Entry → ℕ
+last_handler p e = if e.active then p else e.handler
+
+-- each entry stands no higher than the one above it, and of those that aren't active each has its handler behind that of the one above
+abbrev pub ordered : ℕ → ℕ → List Entry → Bool
+ordered n p [] = true
+ordered n p (e ∷ es) = stands_on n p e && ordered e.height (last_handler p e) es
+
+-- the edges of a jump, and of a raise
+abbrev pub jump_edges : Action → At → List Edge
+jump_edges i x = map (edge_of i x) (jump_way (target i) (behind (change i) (length x.slots) x.entries))
+
+abbrev pub raise_edges : Action → At → List Edge
+raise_edges i x = map (edge_of i x) (raise_ways x.entries)
+
+-- the rules at one position but for the edge to the next one, and for those to the finally handlers that run: the entries are ordered, so
+-- that these follow from where raises lead
 pub record Stands (code : Code) (rows : Rows) (i : Action) (p : ℕ) (x : At) : Type 0 where
   pub entries : fits_entries code i (length x.slots) x.entries ≡ true
+  pub order : ordered (length x.slots) p x.entries ≡ true
   pub height : finds i x ≡ true
   pub state : room code i x ≡ true
   pub falls : stays code i p ≡ true
-  pub others : Lead rows (other_edges i x)
+  pub jumps : Lead rows (jump_edges i x)
+  pub raises : Lead rows (raise_edges i x)
 
 -- what the edge to the next position brings: its entries are marked, and it lies below a row that stands there
 pub record Falls (rows : Rows) (e : Edge) : Type 0 where
@@ -44,3 +67,10 @@ arriving code rows (suc p) = brought code p (carried code rows p)
 -- a row at the first position lies above what holds at the start
 abbrev pub Begins : Rows → Type 0
 Begins rows = Leads (row rows) (record { to = 0; at = begin })
+
+-- the rules at one position but for the edges to the finally handlers that run
+pub record Kept (code : Code) (rows : Rows) (p : ℕ) (x : At) : Type 0 where
+  pub action : Action
+  pub is : slice_get code.actions p ≡ Some action
+  pub stands : Stands code rows action p x
+  pub next : goes_on code p action ≡ true → Falls rows (fall p action x)

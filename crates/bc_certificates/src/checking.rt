@@ -8,16 +8,16 @@ ghost use Rattle.bc_flow.specs.Action.{Action as Does};
 ghost use Rattle.bc_flow.specs.Code.{code_of};
 ghost use Rattle.bc_flow.specs.Edges as edges_specs;
 ghost use Rattle.bc_flow.specs.Views.{action_of, behind_of, edge_of_rust, option_list};
-ghost use Rattle.bc_certificates.specs.Rows as specs;
-ghost use Rattle.bc_certificates.specs.Rows.{Certifies, Keeps, at_if, brought, or_else, row};
-ghost use Rattle.bc_certificates.specs.Checking.{Begins, Falls, Lead, Stands, rows_of};
+ghost use Rattle.bc_certificates.specs.Rows.{Certifies, at_if, brought, or_else, row};
+ghost use Rattle.bc_certificates.specs.Checking as checking_specs;
+ghost use Rattle.bc_certificates.specs.Checking.{Begins, Falls, Kept, Lead, Stands, jump_edges, rows_of};
 
 use bc_flow::{
     Action, Code, Edge, action_at, are_marked, base, change_of, copy, entries_behind, falls, finds,
-    fits_entries, jump_edge, locals, next_edge, nothing, raise_edge, room, run_count, run_edge,
-    stays,
+    fits_entries, jump_edge, locals, next_edge, nothing, raise_edge, room, stays,
 };
-use bc_shapes::{Entry, Kind, NoMemory, Shape, below, under};
+use bc_shapes::{Entry, Kind, Shape, under};
+use mpy_base::NoMemory;
 use std::alloc::Global;
 use std::mem;
 
@@ -71,30 +71,8 @@ fn leads_if(rows: &[Option<Shape>], edge: Option<Edge>, y: &mut Shape) -> Result
     }
 }
 
-/// Do the edges to the finally handlers that run among the `count` topmost entries lead to such rows?
-fn runs_lead(
-    rows: &[Option<Shape>],
-    x: &Shape,
-    entries: &[Entry],
-    count: usize,
-    y: &mut Shape,
-) -> Result<bool, NoMemory>
-    ensures { (a : Does) → IfOk result (λ yes. OnTrue yes (Lead (rows_of rows.now)
-        (map (edges_specs.edge_of a (at_of x.now)) (edges_specs.run_ways count entries.now)))) }
-{
-    for (i, entry) in entries.iter().enumerate() {
-        if i >= count {
-            return Ok(true);
-        }
-        if !leads_if(rows, run_edge(x, *entry, below(entries, i + 1)), y)? {
-            return Ok(false);
-        }
-    }
-    Ok(true)
-}
-
-/// Do all edges but the one to the next position lead to such rows?
-fn others_lead(
+/// Does the edge of a jump lead to such a row, if there is one?
+fn jump_leads(
     rows: &[Option<Shape>],
     action: &Action,
     x: &Shape,
@@ -102,22 +80,43 @@ fn others_lead(
     y: &mut Shape,
 ) -> Result<bool, NoMemory>
     requires base_is { base.now ≡ edges_specs.base (action_of action.now) (at_of x.now) }
-    ensures { IfOk result (λ yes. OnTrue yes (Lead (rows_of rows.now) (specs.other_edges (action_of action.now) (at_of x.now)))) }
+    ensures { IfOk result (λ yes. OnTrue yes (Lead (rows_of rows.now) (jump_edges (action_of action.now) (at_of x.now)))) }
 {
     let behind = entries_behind(change_of(action), x.slots.len(), &x.entries);
-    if !leads_if(rows, jump_edge(action, behind, base), y)? {
-        return Ok(false);
-    }
-    if !leads_if(rows, raise_edge(x), y)? {
-        return Ok(false);
-    }
-    if !runs_lead(rows, x, &x.entries, run_count(action, x.entries.len()), y)? {
-        return Ok(false);
-    }
-    Ok(true)
+    leads_if(rows, jump_edge(action, behind, base), y)
 }
 
-/// Are the rules kept but for the edge to the next position?
+/// Does an entry stand no higher than that many slots, with its handler behind the position if it isn't active?
+fn stands_on(slots: usize, p: usize, entry: Entry) -> bool
+    ensures { result ≡ checking_specs.stands_on slots p entry }
+{
+    entry.height <= slots && (entry.active || p < entry.handler)
+}
+
+/// The handler of an entry that isn't active, and else the position.
+fn last_handler(p: usize, entry: Entry) -> usize
+    ensures { result ≡ checking_specs.last_handler p entry }
+{
+    if entry.active { p } else { entry.handler }
+}
+
+/// Does each entry stand no higher than the one above it, and have those that aren't active their handlers one behind another?
+fn are_ordered(slots: usize, p: usize, entries: &[Entry]) -> bool
+    ensures { result ≡ checking_specs.ordered slots p entries.now }
+{
+    let mut height = slots;
+    let mut handler = p;
+    for entry in entries {
+        if !stands_on(height, handler, *entry) {
+            return false;
+        }
+        handler = last_handler(handler, *entry);
+        height = entry.height;
+    }
+    true
+}
+
+/// Are the rules kept but for the edges to the next position and to the finally handlers that run?
 fn stands(
     code: &Code,
     locals: usize,
@@ -136,6 +135,9 @@ fn stands(
     if !fits_entries(code, action, x.slots.len(), &x.entries) {
         return Ok(false);
     }
+    if !are_ordered(x.slots.len(), p, &x.entries) {
+        return Ok(false);
+    }
     if !finds(action, x, base) {
         return Ok(false);
     }
@@ -145,7 +147,10 @@ fn stands(
     if !stays(code, action, p) {
         return Ok(false);
     }
-    if !others_lead(rows, action, x, base, y)? {
+    if !jump_leads(rows, action, x, base, y)? {
+        return Ok(false);
+    }
+    if !leads_if(rows, raise_edge(x), y)? {
         return Ok(false);
     }
     Ok(true)
@@ -183,7 +188,7 @@ fn go(
     requires within { p < length code.now.items.items }
     requires locals_are { locals ≡ (code_of code.now).locals }
     requires here { held.now.here ≡ true }
-    ensures keeps { IfOk result (λ yes. OnTrue yes (Keeps (code_of code.now) (rows_of rows.now) p (at_of held.old.x))) }
+    ensures keeps { IfOk result (λ yes. OnTrue yes (Kept (code_of code.now) (rows_of rows.now) p (at_of held.old.x))) }
     ensures brings { IfOk result (λ yes. OnTrue yes (at_if held.new.here (at_of held.new.x)
         ≡ brought (code_of code.now) p (Some (at_of held.old.x)))) }
 {
@@ -217,7 +222,7 @@ fn go_if(
     requires within { p < length code.now.items.items }
     requires locals_are { locals ≡ (code_of code.now).locals }
     ensures keeps { (x : At) → at_if held.old.here (at_of held.old.x) ≡ Some x
-        → IfOk result (λ yes. OnTrue yes (Keeps (code_of code.now) (rows_of rows.now) p x)) }
+        → IfOk result (λ yes. OnTrue yes (Kept (code_of code.now) (rows_of rows.now) p x)) }
     ensures brings { IfOk result (λ yes. OnTrue yes (at_if held.new.here (at_of held.new.x)
         ≡ brought (code_of code.now) p (at_if held.old.here (at_of held.old.x)))) }
 {

@@ -5,9 +5,12 @@ ghost use Rattle.bc_flow.specs.Code.{Code};
 ghost use Rattle.bc_flow.specs.Verified.{Holds, Verified};
 ghost use Rattle.bc_certificates.specs.Rows.{Rows, carried, Certifies};
 
+mod blocks;
 mod checking;
+mod groups;
+mod passing;
 mod searching;
-mod spreading;
+mod walking;
 
 pub use checking::check;
 pub use searching::{certified, search};

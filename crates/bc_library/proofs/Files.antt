@@ -4,14 +4,14 @@ use Rattle.std.specs.Prelude.{slice_get}
 use Rattle.std.proofs.lemmas.Int.{ints}
 use Rattle.arena_heap.specs.Values.{IsSmall}
 use Rattle.mpy_base.specs.declared.limits.TheConstants.{MAX_DEPTH}
-use Rattle.bc_verify.specs.mpy_tree.declared.module.Constant.{Constant, out-Constant, roll-Constant, out-roll-Constant}
-use Rattle.bc_verify.specs.mpy_tree.declared.module.Constant.TheVariants as constants
-use Rattle.bc_verify.specs.mpy_tree.declared.module.Constant.TheOpen.{Constant-F}
-use Rattle.bc_verify.specs.mpy_tree.declared.raw.Qstr.{Qstr}
-use Rattle.bc_verify.specs.mpy_tree.declared.raw.Qstr.TheVariants.{Static, Own}
-use Rattle.bc_verify.specs.mpy_tree.Raw.{Module}
-use Rattle.bc_verify.specs.mpy_tree.File as file
-use Rattle.bc_verify.specs.mpy_tree.File.{Many, IsQstr, IsAtom, IsObject, IsModule}
+use Rattle.mpy_tree.specs.declared.module.Constant.{Constant, out-Constant, roll-Constant, out-roll-Constant}
+use Rattle.mpy_tree.specs.declared.module.Constant.TheVariants as constants
+use Rattle.mpy_tree.specs.declared.module.Constant.TheOpen.{Constant-F}
+use Rattle.mpy_tree.specs.declared.raw.Qstr.{Qstr}
+use Rattle.mpy_tree.specs.declared.raw.Qstr.TheVariants.{Static, Own}
+use Rattle.mpy_tree.specs.Raw.{Module}
+use Rattle.mpy_tree.specs.File as file
+use Rattle.mpy_tree.specs.File.{Many, IsQstr, IsAtom, IsObject, IsModule}
 use Rattle.bc_library.specs.Fine.{Each, FineBy, AreFew, Fine, FineQstr}
 use Rattle.bc_library.proofs.Preorders.{tuple_rolls}
 use denote.Hole.Carrier.{roll}

@@ -5,8 +5,8 @@ use Rattle.std.proofs.lemmas.List.Elements.{All-nil, All-cons}
 use Rattle.arena_heap.specs.declared.value.Value.{Value}
 use Rattle.arena_heap.specs.declared.value.ConstNo.{ConstNo}
 use Rattle.arena_heap.specs.Constants.{HoldsNoObject, HoldNoObjects}
-use Rattle.bc_verify.specs.mpy_tree.declared.module.Constant.{Constant, out-Constant}
-use Rattle.bc_verify.specs.mpy_tree.declared.module.Constant.TheOpen.{Constant-F}
+use Rattle.mpy_tree.specs.declared.module.Constant.{Constant, out-Constant}
+use Rattle.mpy_tree.specs.declared.module.Constant.TheOpen.{Constant-F}
 use Rattle.bc_library.specs.Shelf.{Shelf}
 use Rattle.bc_library.specs.Constants.{constant_at, items_at, items_in, numbered, preorder, tuple_value, value_by, values_from}
 

@@ -9,10 +9,10 @@ use Rattle.std.proofs.lemmas.Bool.Decides.{nat_tests}
 use Rattle.bc_verify.specs.qstr_pool.declared.table.TheConstants.{FIRST_OWN}
 use Rattle.bc_verify.specs.qstr_pool.Pool.{Texts, text_of, interned, IsOneToOne}
 use Rattle.bc_verify.specs.qstr_pool.Static.{static_texts, static_pool, static_text_of, static_number_of}
-use Rattle.bc_verify.specs.mpy_tree.declared.raw.Qstr.{Qstr}
-use Rattle.bc_verify.specs.mpy_tree.declared.raw.Qstr.TheVariants.{Static, Own}
-use Rattle.bc_verify.specs.mpy_tree.Raw as raw
-use Rattle.bc_verify.specs.mpy_tree.Raw.{Module}
+use Rattle.mpy_tree.specs.declared.raw.Qstr.{Qstr}
+use Rattle.mpy_tree.specs.declared.raw.Qstr.TheVariants.{Static, Own}
+use Rattle.mpy_tree.specs.Raw as raw
+use Rattle.mpy_tree.specs.Raw.{Module}
 use Rattle.bc_library.specs.Fine.{Each, FineQstr}
 use Rattle.bc_library.specs.Own.{IsOwnText, IsOwnPool}
 use Rattle.bc_library.specs.Texts.{IsPlain, text_numbered, with_text, with_texts, last_part, texts_of}

@@ -15,9 +15,9 @@ use Rattle.bc_verify.specs.qstr_pool.declared.table.TheConstants.{FIRST_OWN, STA
 use Rattle.bc_verify.specs.qstr_pool.Pool.{Texts, text_of, number_of, interned, first_texts, all_differ, IsOneToOne}
 use Rattle.bc_verify.specs.qstr_pool.Static.{static_texts, static_pool, static_text_of, static_number_of}
 use Rattle.bc_verify.proofs.qstr_pool_lemmas.Places.{absent}
-use Rattle.bc_verify.specs.mpy_tree.declared.raw.Qstr.{Qstr}
-use Rattle.bc_verify.specs.mpy_tree.declared.raw.Qstr.TheVariants.{Static, Own}
-use Rattle.bc_verify.specs.mpy_tree.Raw as raw
+use Rattle.mpy_tree.specs.declared.raw.Qstr.{Qstr}
+use Rattle.mpy_tree.specs.declared.raw.Qstr.TheVariants.{Static, Own}
+use Rattle.mpy_tree.specs.Raw as raw
 use Rattle.bc_library.specs.Fine.{FineQstr}
 use Rattle.bc_library.specs.Texts.{AreNumbers, Extends, text_numbered, with_text, with_texts}
 

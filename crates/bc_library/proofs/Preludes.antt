@@ -1,11 +1,11 @@
 -- The greatest of preludes, one after another.
 use Rattle.std.proofs.Common.{◌≡◌, ◌⊎◌, ℕ, zero, suc, ◌+◌, ◌<◌, ◌≤◌, List, [], ◌∷◌, length, option_map, Option, Some, None, inl, inr, refl, sym, ap, subst, ◌∙◌, arith}
 use Rattle.std.specs.Prelude.{slice_get, option_and_then, max}
-use Rattle.bc_verify.specs.mpy_tree.declared.raw.RawCode.{RawCode, out-RawCode}
-use Rattle.bc_verify.specs.mpy_tree.Raw.{Module}
+use Rattle.mpy_tree.specs.declared.raw.RawCode.{RawCode, out-RawCode}
+use Rattle.mpy_tree.specs.Raw.{Module}
 use Rattle.bc_verify.specs.bc_prelude.declared.prelude.Prelude.{Prelude}
 use Rattle.bc_verify.specs.bc_prelude.Prelude.{Begins}
-use Rattle.bc_verify.specs.mpy_tree.Codes.{code_at}
+use Rattle.mpy_tree.specs.Codes.{code_at}
 use Rattle.bc_verify.proofs.bc_prelude_lemmas.Preludes.{same_prelude}
 use Rattle.bc_verify.proofs.mpy_tree_lemmas.Codes.{children, and_then_some}
 use Rattle.std.proofs.lemmas.Option.{slice_get_within, slice_get-map}

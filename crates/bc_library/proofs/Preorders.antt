@@ -5,10 +5,10 @@ use Rattle.std.specs.List.{flat_map}
 use Rattle.std.proofs.lemmas.List.{append-nil, take_more}
 use Rattle.mpy_base.specs.declared.limits.TheConstants.{MAX_DEPTH}
 use Rattle.arena_heap.specs.declared.value.Value.{Value}
-use Rattle.bc_verify.specs.mpy_tree.declared.module.Constant.{Constant, out-Constant, roll-Constant, roll-out-Constant, out-roll-Constant}
-use Rattle.bc_verify.specs.mpy_tree.declared.module.Constant.TheVariants as constants
+use Rattle.mpy_tree.specs.declared.module.Constant.{Constant, out-Constant, roll-Constant, roll-out-Constant, out-roll-Constant}
+use Rattle.mpy_tree.specs.declared.module.Constant.TheVariants as constants
 use denote.Hole.Carrier.{roll}
-use Rattle.bc_verify.specs.mpy_tree.declared.module.Constant.TheOpen.{Constant-F}
+use Rattle.mpy_tree.specs.declared.module.Constant.TheOpen.{Constant-F}
 use Rattle.bc_library.specs.declared.parts.Part.{Part}
 use Rattle.bc_library.specs.declared.parts.Part.TheVariants as parts
 use Rattle.bc_library.specs.Constants.{items_in, preorder_by, preorder_to, preorder, numbered, value_by, values_from}

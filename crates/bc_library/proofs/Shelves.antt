@@ -13,10 +13,10 @@ use Rattle.mpy_base.specs.declared.refused.Refused.TheVariants as refusals
 use Rattle.bc_verify.specs.qstr_pool.Pool.{Texts}
 use Rattle.bc_verify.proofs.qstr_pool_lemmas.Places.{position-map, absent}
 use Rattle.bc_verify.specs.Verified.{IsVerified}
-use Rattle.bc_verify.specs.mpy_tree.declared.raw.Qstr.{Qstr}
-use Rattle.bc_verify.specs.mpy_tree.File.{IsModule}
-use Rattle.bc_verify.specs.mpy_tree.Raw as raw
-use Rattle.bc_verify.specs.mpy_tree.Raw.{Module}
+use Rattle.mpy_tree.specs.declared.raw.Qstr.{Qstr}
+use Rattle.mpy_tree.specs.File.{IsModule}
+use Rattle.mpy_tree.specs.Raw as raw
+use Rattle.mpy_tree.specs.Raw.{Module}
 use Rattle.bc_library.specs.declared.fault.LibFault.{LibFault}
 use Rattle.bc_library.specs.declared.fault.LibFault.TheVariants as faults
 use Rattle.bc_library.specs.declared.fault.Member.{Member}

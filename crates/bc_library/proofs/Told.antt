@@ -8,9 +8,9 @@ use Rattle.arena_heap.specs.declared.value.Value.TheVariants as values
 use Rattle.arena_heap.specs.declared.value.StrNo.TheVariants as strs
 use Rattle.arena_heap.specs.declared.value.ConstNo.{ConstNo}
 use Rattle.arena_heap.specs.Constants.{IsItemOf, NestsWithin}
-use Rattle.bc_verify.specs.mpy_tree.declared.module.Constant.{Constant, out-Constant}
-use Rattle.bc_verify.specs.mpy_tree.declared.module.Constant.TheOpen.{Constant-F}
-use Rattle.bc_verify.specs.mpy_tree.Raw.{Module}
+use Rattle.mpy_tree.specs.declared.module.Constant.{Constant, out-Constant}
+use Rattle.mpy_tree.specs.declared.module.Constant.TheOpen.{Constant-F}
+use Rattle.mpy_tree.specs.Raw.{Module}
 use Rattle.bc_library.specs.Constants.{constants_of, items_in, bytes_in, preorder, numbered, value_by, values_from, constant_at, items_at, text_at}
 use Rattle.bc_library.specs.Fine.{Each, FineBy, AreFew, Fine}
 use Rattle.bc_library.specs.Shelf.{Shelf, Named, module_at}

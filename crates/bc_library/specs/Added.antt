@@ -2,8 +2,8 @@
 use Rattle.std.specs.Prelude.{◌≡◌, ℕ, List}
 use Rattle.mpy_base.specs.declared.limits.TheConstants.{MAX_DEPTH}
 use Rattle.bc_verify.specs.qstr_pool.Pool.{Texts}
-use Rattle.bc_verify.specs.mpy_tree.File.{IsModule}
-use Rattle.bc_verify.specs.mpy_tree.Raw.{Module}
+use Rattle.mpy_tree.specs.File.{IsModule}
+use Rattle.mpy_tree.specs.Raw.{Module}
 use Rattle.bc_library.specs.declared.library.Brought.{Brought}
 use Rattle.bc_library.specs.Constants.{constants_of, values_from}
 use Rattle.bc_library.specs.Fine.{Each, Fine}

@@ -2,10 +2,10 @@
 use Rattle.std.specs.Prelude.{◌≡◌, ℕ, zero, suc, ◌^◌, ◌<◌, ◌≤◌, List, length, Some, slice_get}
 use Rattle.bc_verify.specs.qstr_pool.declared.table.TheConstants.{STATIC_COUNT}
 use Rattle.arena_heap.specs.Values.{IsSmall}
-use Rattle.bc_verify.specs.mpy_tree.declared.module.Constant.{Constant, out-Constant}
-use Rattle.bc_verify.specs.mpy_tree.declared.module.Constant.TheOpen.{Constant-F}
-use Rattle.bc_verify.specs.mpy_tree.declared.raw.Qstr.{Qstr}
-use Rattle.bc_verify.specs.mpy_tree.declared.raw.Qstr.TheVariants.{Static, Own}
+use Rattle.mpy_tree.specs.declared.module.Constant.{Constant, out-Constant}
+use Rattle.mpy_tree.specs.declared.module.Constant.TheOpen.{Constant-F}
+use Rattle.mpy_tree.specs.declared.raw.Qstr.{Qstr}
+use Rattle.mpy_tree.specs.declared.raw.Qstr.TheVariants.{Static, Own}
 use Rattle.bc_library.specs.Texts.{IsPlain}
 
 -- such a fact holds of each element

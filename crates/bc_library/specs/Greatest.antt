@@ -1,10 +1,10 @@
 -- The greatest numbers of slots and of handler entries.
 use Rattle.std.specs.Prelude.{◌≡◌, ℕ, ◌<◌, ◌≤◌, List, Some}
-use Rattle.bc_verify.specs.mpy_tree.declared.raw.RawCode.{RawCode, out-RawCode}
-use Rattle.bc_verify.specs.mpy_tree.Raw.{Module}
+use Rattle.mpy_tree.specs.declared.raw.RawCode.{RawCode, out-RawCode}
+use Rattle.mpy_tree.specs.Raw.{Module}
 use Rattle.bc_verify.specs.bc_prelude.declared.prelude.Prelude.{Prelude}
 use Rattle.bc_verify.specs.bc_prelude.Prelude.{Begins}
-use Rattle.bc_verify.specs.mpy_tree.Codes.{code_at}
+use Rattle.mpy_tree.specs.Codes.{code_at}
 use Rattle.bc_library.specs.Shelf.{Shelf, module_at}
 
 -- a code, or one of those in it, begins with the prelude

@@ -1,7 +1,7 @@
 -- What a library keeps of its modules.
 use Rattle.std.specs.Prelude.{◌≡◌, ℕ, ◌+◌, ◌≤◌, List, length, map, Some, slice_get}
 use Rattle.mpy_base.specs.declared.limits.TheConstants.{MAX_DEPTH, MAX_MODULES}
-use Rattle.bc_verify.specs.mpy_tree.File.{IsModule}
+use Rattle.mpy_tree.specs.File.{IsModule}
 use Rattle.bc_verify.specs.qstr_pool.Pool.{Texts}
 use Rattle.bc_library.specs.declared.library.Loaded.{Loaded}
 use Rattle.bc_library.specs.Constants.{constants_of, values_from}

@@ -1,7 +1,7 @@
 pub use Rattle.bc_verify.specs as bc_verify
 pub use Rattle.bc_verify.specs.bc_flow
 pub use Rattle.bc_verify.specs.bc_shapes
-pub use Rattle.bc_verify.specs.mpy_tree
+pub use Rattle.mpy_tree.specs as mpy_tree
 pub mod Added
 pub mod Constants
 pub mod Fine

@@ -1,8 +1,8 @@
 -- What is kept of constants.
 use Rattle.std.specs.Prelude.{ℕ, ◌+◌, List, [], ◌∷◌, Option, Some, None}
 use Rattle.arena_heap.specs.declared.value.Value.{Value}
-use Rattle.bc_verify.specs.mpy_tree.declared.module.Constant.{Constant, out-Constant}
-use Rattle.bc_verify.specs.mpy_tree.declared.module.Constant.TheOpen.{Constant-F}
+use Rattle.mpy_tree.specs.declared.module.Constant.{Constant, out-Constant}
+use Rattle.mpy_tree.specs.declared.module.Constant.TheOpen.{Constant-F}
 use Rattle.bc_library.specs.declared.parts.Part.{Part}
 use Rattle.bc_library.specs.declared.parts.Part.TheVariants as parts
 use Rattle.bc_library.specs.Constants.{values_from}

@@ -7,9 +7,9 @@ use Rattle.mpy_base.specs.declared.refused.Refused.{Refused}
 use Rattle.mpy_base.specs.declared.refused.Refused.TheVariants as refused
 use Rattle.bc_verify.specs.qstr_pool.declared.table.TheConstants.{FIRST_OWN}
 use Rattle.bc_verify.specs.qstr_pool.Pool.{Texts}
-use Rattle.bc_verify.specs.mpy_tree.declared.raw.Qstr.{Qstr}
-use Rattle.bc_verify.specs.mpy_tree.Raw as raw
-use Rattle.bc_verify.specs.mpy_tree.Raw.{Module}
+use Rattle.mpy_tree.specs.declared.raw.Qstr.{Qstr}
+use Rattle.mpy_tree.specs.Raw as raw
+use Rattle.mpy_tree.specs.Raw.{Module}
 use Rattle.bc_library.specs.declared.fault.LibFault.{LibFault}
 use Rattle.bc_library.specs.declared.fault.Member.{Member}
 use Rattle.bc_library.specs.declared.fault.Member.TheVariants as members

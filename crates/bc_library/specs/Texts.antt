@@ -5,9 +5,9 @@ use Rattle.std.specs.List.{filter_map}
 use Rattle.bc_verify.specs.qstr_pool.declared.table.TheConstants.{FIRST_OWN}
 use Rattle.bc_verify.specs.qstr_pool.Pool.{Texts, text_of, interned}
 use Rattle.bc_verify.specs.qstr_pool.Static.{static_text_of, static_number_of}
-use Rattle.bc_verify.specs.mpy_tree.declared.raw.Qstr.{Qstr}
-use Rattle.bc_verify.specs.mpy_tree.Raw as raw
-use Rattle.bc_verify.specs.mpy_tree.Raw.{Module}
+use Rattle.mpy_tree.specs.declared.raw.Qstr.{Qstr}
+use Rattle.mpy_tree.specs.Raw as raw
+use Rattle.mpy_tree.specs.Raw.{Module}
 use Rattle.bc_library.specs.declared.texts.Title.{Title}
 
 -- the text of a number: one that every file may name, or one of the pool

@@ -1,8 +1,8 @@
 //! The greatest numbers of slots and of handler entries of codes.
 
 ghost use Rattle.std.specs.Prelude.{◌≡◌, ℕ, ◌<◌, ◌≤◌, List, Some};
-ghost use Rattle.bc_verify.specs.mpy_tree.declared.raw.RawCode.{RawCode};
-ghost use Rattle.bc_verify.specs.mpy_tree.File.{IsCode};
+ghost use Rattle.mpy_tree.specs.declared.raw.RawCode.{RawCode};
+ghost use Rattle.mpy_tree.specs.File.{IsCode};
 ghost use Rattle.bc_verify.specs.bc_prelude.declared.prelude.Prelude.{Prelude};
 ghost use Rattle.bc_library.specs.Greatest.{HasPrelude, IsGreatestIn};
 

@@ -2,8 +2,8 @@
 
 ghost use Rattle.std.specs.Prelude.{◌≡◌, ℕ, ◌+◌, ◌≤◌, List, length, Some, slice_get};
 ghost use Rattle.mpy_base.specs.declared.limits.TheConstants.{MAX_MODULES};
-ghost use Rattle.bc_verify.specs.mpy_tree.File.{IsModule};
-ghost use Rattle.bc_verify.specs.mpy_tree.Raw.{Module};
+ghost use Rattle.mpy_tree.specs.File.{IsModule};
+ghost use Rattle.mpy_tree.specs.Raw.{Module};
 ghost use Rattle.bc_verify.specs.Verified.{IsVerified};
 ghost use Rattle.bc_library.specs.Shelf.{Named, module_at};
 ghost use Rattle.bc_library.specs.Texts.{text_numbered};

@@ -49,8 +49,8 @@ pub struct Library {
 
 impl Model for Library {
     ghost use Rattle.std.specs.Coded.{codes};
-    ghost use Rattle.bc_verify.specs.mpy_tree.contracts.module.Constant as constants;
-    ghost use Rattle.bc_verify.specs.mpy_tree.contracts.raw.RawCode as raw_codes;
+    ghost use Rattle.mpy_tree.specs.contracts.module.Constant as constants;
+    ghost use Rattle.mpy_tree.specs.contracts.raw.RawCode as raw_codes;
     ghost use Rattle.bc_library.specs.Own.{IsOwnPool};
     ghost use Rattle.bc_library.specs.Shelf.{Shelf};
 

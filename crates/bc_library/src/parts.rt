@@ -2,15 +2,15 @@
 
 ghost use Rattle.std.specs.Prelude.{◌≡◌, ℕ, ◌+◌, ◌≤◌, ◌++◌, length, IfOk, OnOk};
 ghost use Rattle.std.specs.List.{flat_map};
-ghost use Rattle.bc_verify.specs.mpy_tree.declared.module.Constant.{out-Constant};
+ghost use Rattle.mpy_tree.specs.declared.module.Constant.{out-Constant};
 ghost use Rattle.bc_library.specs.Constants.{preorder, numbered, value_by, values_from};
 ghost use Rattle.bc_library.specs.Fine.{Each, Fine};
 ghost use Rattle.bc_library.specs.Parts.{own_part_by, parts_from};
 
 use arena_heap::{ConstNo, StrNo, Value};
-use bc_verify::Constant;
 use mpy_base::limits::MAX_DEPTH;
 use mpy_base::{Items, NoMemory, Text};
+use mpy_tree::Constant;
 use std::alloc::Global;
 
 /// What is kept of a constant.

@@ -6,7 +6,7 @@ ghost use Rattle.std.specs.Option.{option_to_list};
 ghost use Rattle.mpy_base.specs.declared.refused.Refused.TheVariants as refused;
 ghost use Rattle.bc_verify.specs.qstr_pool.Full.{pool_full};
 ghost use Rattle.bc_verify.specs.qstr_pool.Pool.{text_of};
-ghost use Rattle.bc_verify.specs.mpy_tree.Raw as raw;
+ghost use Rattle.mpy_tree.specs.Raw as raw;
 ghost use Rattle.bc_library.specs.Fine.{Each, FineQstr};
 ghost use Rattle.bc_library.specs.Texts.{AreNumbers, Extends, IsTitle, last_part, text_numbered, with_text, with_texts};
 

@@ -90,7 +90,7 @@ fn moved_item(
     tables: &Tables,
     base: u32,
     module: &RawModule,
-    item: &bc_scheme::bc_ops::Item,
+    item: &bc_ops::Item,
     count: usize,
 ) -> Item
     requires kept { IsKept module.now count item.now }
@@ -99,11 +99,9 @@ fn moved_item(
     ensures { IsMovedItem tables.now base module.now item.now result }
 {
     match *item {
-        bc_scheme::bc_ops::Item::Plain(instr) => Item::Plain(moved_instr(
-            tables, base, module, instr,
-        )),
-        bc_scheme::bc_ops::Item::Jump(op, target) => Item::Jump(op, position_of(target)),
-        bc_scheme::bc_ops::Item::Unwind(target, byte) => Item::Unwind(position_of(target), byte),
+        bc_ops::Item::Plain(instr) => Item::Plain(moved_instr(tables, base, module, instr)),
+        bc_ops::Item::Jump(op, target) => Item::Jump(op, position_of(target)),
+        bc_ops::Item::Unwind(target, byte) => Item::Unwind(position_of(target), byte),
     }
 }
 
@@ -113,7 +111,7 @@ fn moved_items(
     tables: &Tables,
     base: u32,
     module: &RawModule,
-    items: &[bc_scheme::bc_ops::Item],
+    items: &[bc_ops::Item],
 ) -> Result<Vec<Item>, NoMemory>
     requires kept { All (IsKept module.now (length items.now)) items.now }
     requires short { length items.now ≤ MAX_CODE_BYTES }

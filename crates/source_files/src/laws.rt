@@ -14,5 +14,5 @@ pub fn compiled_law()
     asked_law();
     resolved_law();
     within_law();
-    mpy_compile::tr_source::compiled_law();
+    tr_source::compiled_law();
 }

@@ -25,7 +25,7 @@ pub(crate) fn load_attr<C: Constants>(
 {
     acting_law();
     tops_law();
-    vm_states::frame_values::load_attr(frames, arena, consts, name, end)
+    frame_values::load_attr(frames, arena, consts, name, end)
 }
 
 /// LOAD_METHOD.
@@ -41,7 +41,7 @@ pub(crate) fn load_method<C: Constants>(
 {
     acting_law();
     tops_law();
-    vm_states::frame_values::load_method(frames, arena, consts, name, end)
+    frame_values::load_method(frames, arena, consts, name, end)
 }
 
 /// STORE_ATTR.
@@ -57,7 +57,7 @@ pub(crate) fn store_attr<C: Constants>(
 {
     acting_law();
     tops_law();
-    vm_states::frame_values::store_attr(frames, arena, consts, name, end)
+    frame_values::store_attr(frames, arena, consts, name, end)
 }
 
 /// IMPORT_FROM.
@@ -73,5 +73,5 @@ pub(crate) fn import_from<C: Constants>(
 {
     acting_law();
     tops_law();
-    vm_states::frame_values::import_from(frames, arena, consts, name, end)
+    frame_values::import_from(frames, arena, consts, name, end)
 }

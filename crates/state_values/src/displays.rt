@@ -29,7 +29,7 @@ pub(crate) fn build_tuple<C: Constants>(
     acting_law();
     tops_law();
     let _ = n;
-    vm_states::frame_values::build_tuple(frames, arena, consts, items, end)
+    frame_values::build_tuple(frames, arena, consts, items, end)
 }
 
 /// BUILD_LIST, where a place is lent for each item.
@@ -48,7 +48,7 @@ pub(crate) fn build_list<C: Constants>(
     acting_law();
     tops_law();
     let _ = n;
-    vm_states::frame_values::build_list(frames, arena, consts, items, end)
+    frame_values::build_list(frames, arena, consts, items, end)
 }
 
 /// BUILD_MAP, with room for a number of pairs.
@@ -63,7 +63,7 @@ pub(crate) fn build_map<C: Constants>(
     ensures acts { under C.Constants consts.now ActsKeeping (record { instruction = fetched.Number number_ops.BuildMap pairs; end = end }) 0 arena.old arena.new frames.old frames.new result }
 {
     acting_law();
-    vm_states::frame_values::build_map(frames, arena, consts, pairs, end)
+    frame_values::build_map(frames, arena, consts, pairs, end)
 }
 
 /// UNPACK_SEQUENCE, where a place is lent for each item.
@@ -82,5 +82,5 @@ pub(crate) fn unpack_sequence<C: Constants>(
     acting_law();
     tops_law();
     let _ = n;
-    vm_states::frame_values::unpack_sequence(frames, arena, consts, items, end)
+    frame_values::unpack_sequence(frames, arena, consts, items, end)
 }

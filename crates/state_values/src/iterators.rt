@@ -26,7 +26,7 @@ pub(crate) fn get_iter_stack<C: Constants>(
 {
     acting_law();
     tops_law();
-    vm_states::frame_values::get_iter_stack(frames, arena, consts, end)
+    frame_values::get_iter_stack(frames, arena, consts, end)
 }
 
 /// FOR_ITER.
@@ -42,5 +42,5 @@ pub(crate) fn for_iter<C: Constants>(
 {
     acting_law();
     tops_law();
-    vm_states::frame_values::for_iter(frames, arena, consts, target, end)
+    frame_values::for_iter(frames, arena, consts, target, end)
 }

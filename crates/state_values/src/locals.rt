@@ -23,7 +23,7 @@ pub(crate) fn load_fast<C: Constants>(
     ensures acts { under C.Constants consts.now ActsKeeping (record { instruction = fetched.Number number_ops.LoadFast n; end = end }) 0 arena.now arena.now frames.old frames.new result }
 {
     acting_law();
-    vm_states::frame_values::load_fast(frames, arena, consts, n, end)
+    frame_values::load_fast(frames, arena, consts, n, end)
 }
 
 /// LOAD_FAST in more bytes.
@@ -38,7 +38,7 @@ pub(crate) fn load_fast_n<C: Constants>(
     ensures acts { under C.Constants consts.now ActsKeeping (record { instruction = fetched.Number number_ops.LoadFastN n; end = end }) 0 arena.now arena.now frames.old frames.new result }
 {
     acting_law();
-    vm_states::frame_values::load_fast(frames, arena, consts, n, end)
+    frame_values::load_fast(frames, arena, consts, n, end)
 }
 
 /// DELETE_FAST.
@@ -53,5 +53,5 @@ pub(crate) fn delete_fast<C: Constants>(
     ensures acts { under C.Constants consts.now ActsKeeping (record { instruction = fetched.Number number_ops.DeleteFast n; end = end }) 0 arena.now arena.now frames.old frames.new result }
 {
     acting_law();
-    vm_states::frame_values::delete_fast(frames, arena, consts, n, end)
+    frame_values::delete_fast(frames, arena, consts, n, end)
 }

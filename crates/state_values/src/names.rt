@@ -24,7 +24,7 @@ pub(crate) fn load_name<C: Constants>(
     ensures acts { under C.Constants consts.now ActsKeeping (record { instruction = fetched.Name name_ops.LoadName name; end = end }) 0 arena.now arena.now frames.old frames.new result }
 {
     acting_law();
-    vm_states::frame_values::load_name(frames, arena, consts, name, end)
+    frame_values::load_name(frames, arena, consts, name, end)
 }
 
 /// LOAD_GLOBAL.
@@ -39,7 +39,7 @@ pub(crate) fn load_global<C: Constants>(
     ensures acts { under C.Constants consts.now ActsKeeping (record { instruction = fetched.Name name_ops.LoadGlobal name; end = end }) 0 arena.now arena.now frames.old frames.new result }
 {
     acting_law();
-    vm_states::frame_values::load_name(frames, arena, consts, name, end)
+    frame_values::load_name(frames, arena, consts, name, end)
 }
 
 /// STORE_NAME.
@@ -55,7 +55,7 @@ pub(crate) fn store_name<C: Constants>(
 {
     acting_law();
     tops_law();
-    vm_states::frame_values::store_name(frames, arena, consts, name, end)
+    frame_values::store_name(frames, arena, consts, name, end)
 }
 
 /// STORE_GLOBAL.
@@ -71,7 +71,7 @@ pub(crate) fn store_global<C: Constants>(
 {
     acting_law();
     tops_law();
-    vm_states::frame_values::store_name(frames, arena, consts, name, end)
+    frame_values::store_name(frames, arena, consts, name, end)
 }
 
 /// DELETE_NAME.
@@ -86,7 +86,7 @@ pub(crate) fn delete_name<C: Constants>(
     ensures acts { under C.Constants consts.now ActsKeeping (record { instruction = fetched.Name name_ops.DeleteName name; end = end }) 0 arena.old arena.new frames.old frames.new result }
 {
     acting_law();
-    vm_states::frame_values::delete_name(frames, arena, consts, name, end)
+    frame_values::delete_name(frames, arena, consts, name, end)
 }
 
 /// DELETE_GLOBAL.
@@ -101,5 +101,5 @@ pub(crate) fn delete_global<C: Constants>(
     ensures acts { under C.Constants consts.now ActsKeeping (record { instruction = fetched.Name name_ops.DeleteGlobal name; end = end }) 0 arena.old arena.new frames.old frames.new result }
 {
     acting_law();
-    vm_states::frame_values::delete_name(frames, arena, consts, name, end)
+    frame_values::delete_name(frames, arena, consts, name, end)
 }

@@ -26,7 +26,7 @@ pub fn unary_op<C: Constants>(
 {
     acting_law();
     tops_law();
-    vm_states::frame_values::unary_op(frames, arena, consts, number, end)
+    frame_values::unary_op(frames, arena, consts, number, end)
 }
 
 /// BINARY_OP. Its visits are those of the operator (`visits_binary_op`).
@@ -42,7 +42,7 @@ pub fn binary_op<C: Constants>(
 {
     acting_law();
     tops_law();
-    vm_states::frame_values::binary_op(frames, arena, consts, number, end)
+    frame_values::binary_op(frames, arena, consts, number, end)
 }
 
 /// How many visits BINARY_OP makes, up to `most`. It goes no further.
@@ -59,5 +59,5 @@ pub fn visits_binary_op<C: Constants>(
 {
     tops_law();
     let _ = end;
-    vm_states::frame_values::visits_binary_op(frames, arena, consts, number, most)
+    frame_values::visits_binary_op(frames, arena, consts, number, most)
 }

@@ -28,7 +28,7 @@ pub(crate) fn load_subscr<C: Constants>(
 {
     acting_law();
     tops_law();
-    vm_states::frame_values::load_subscr(frames, arena, consts, end)
+    frame_values::load_subscr(frames, arena, consts, end)
 }
 
 /// Is the slot empty?
@@ -68,7 +68,7 @@ fn set_subscr<C: Constants>(
 {
     acting_law();
     tops_law();
-    vm_states::frame_values::store_subscr(frames, arena, consts, end)
+    frame_values::store_subscr(frames, arena, consts, end)
 }
 
 /// STORE_SUBSCR, where an item is deleted: no value lies below the object.
@@ -84,7 +84,7 @@ fn delete_subscr<C: Constants>(
 {
     acting_law();
     tops_law();
-    vm_states::frame_values::delete_subscr(frames, arena, consts, end)
+    frame_values::delete_subscr(frames, arena, consts, end)
 }
 
 /// STORE_SUBSCR: an item is set, or deleted where no value lies below the object.
@@ -117,5 +117,5 @@ pub(crate) fn store_map<C: Constants>(
 {
     acting_law();
     tops_law();
-    vm_states::frame_values::store_map(frames, arena, consts, end)
+    frame_values::store_map(frames, arena, consts, end)
 }

@@ -24,7 +24,7 @@ fn load_name<C: Constants>(
     ensures { under C.Constants consts.now ActsAtOnce (record { instruction = fetched.Name name_ops.LoadName name; end = end }) arena.now frames.old frames.new result }
 {
     acting_law();
-    done(state_values::frame_values::load_name(frames, arena, consts, name, end))
+    done(frame_values::load_name(frames, arena, consts, name, end))
 }
 
 /// LOAD_GLOBAL.
@@ -40,7 +40,7 @@ fn load_global<C: Constants>(
     ensures { under C.Constants consts.now ActsAtOnce (record { instruction = fetched.Name name_ops.LoadGlobal name; end = end }) arena.now frames.old frames.new result }
 {
     acting_law();
-    done(state_values::frame_values::load_name(frames, arena, consts, name, end))
+    done(frame_values::load_name(frames, arena, consts, name, end))
 }
 
 /// A text that is loaded, or what has a name of the running call's module.

@@ -6,7 +6,8 @@ use Rattle.bc_flow.specs.Action.{action}
 use Rattle.bc_flow.specs.Code.{code_of}
 use Rattle.bc_certificates.specs.Rows.{at_if}
 use Rattle.bc_certificates.specs.Checking.{rows_of}
-use Rattle.bc_certificates.proofs.Checks.{begins, ends_all, goes_on_checked}
+use Rattle.bc_certificates.proofs.Checks.{begins, goes_on_checked}
+use Rattle.bc_certificates.proofs.Ends.{ends_all}
 use Rattle.bc_certificates.proofs.checking.check.Goals as goal
 
 pub loop-p-init : goal.loop-p-init

@@ -5,14 +5,14 @@ use Rattle.bc_flow.specs.Code.{code_of}
 use Rattle.bc_flow.specs.Edges.{edge_of, arrive, Next}
 use Rattle.bc_flow.specs.Views.{action_of, behind_of, edge_of_rust}
 use Rattle.bc_flow.proofs.Walks.{action_there}
-use Rattle.bc_certificates.specs.Rows.{Keeps, at_if, brought}
-use Rattle.bc_certificates.specs.Checking.{rows_of}
+use Rattle.bc_certificates.specs.Rows.{at_if, brought}
+use Rattle.bc_certificates.specs.Checking.{Kept, rows_of}
 use Rattle.bc_certificates.proofs.Checks.{go_ends, go_falls, behind_from}
 use Rattle.bc_certificates.proofs.checking.go.Goals.{After-held-1, After-swap}
 use Rattle.bc_certificates.proofs.checking.go.Goals as goal
 
 -- behind an instruction that ends the flow
-ends : (c : After-held-1) → Keeps (code_of c.args.code.now) (rows_of c.args.rows.now) c.args.p (at_of c.args.held.now.x) × (None ≡ brought (code_of c.args.code.now) c.args.p (Some (at_of c.args.held.now.x)))
+ends : (c : After-held-1) → Kept (code_of c.args.code.now) (rows_of c.args.rows.now) c.args.p (at_of c.args.held.now.x) × (None ≡ brought (code_of c.args.code.now) c.args.p (Some (at_of c.args.held.now.x)))
 ends c =
     let items = c.args.code.now.items.items in
     let i = action_of c.action_at-action.result in
@@ -21,7 +21,7 @@ ends c =
     go_ends (code_of c.args.code.now) (rows_of c.args.rows.now) i c.args.p (at_of c.args.held.now.x) is (OnTrue_at c.if-not-branch.false c.in_ok-stands.ensures) (sym c.falls.ensures ∙ c.if-not-falls.true)
 
 -- and behind one that goes on
-goes_on : (c : After-swap) → Keeps (code_of c.args.code.now) (rows_of c.args.rows.now) c.args.p (at_of c.args.held.now.x) × (Some (edge_of_rust c.next_edge.result).at ≡ brought (code_of c.args.code.now) c.args.p (Some (at_of c.args.held.now.x)))
+goes_on : (c : After-swap) → Kept (code_of c.args.code.now) (rows_of c.args.rows.now) c.args.p (at_of c.args.held.now.x) × (Some (edge_of_rust c.next_edge.result).at ≡ brought (code_of c.args.code.now) c.args.p (Some (at_of c.args.held.now.x)))
 goes_on c =
     let items = c.args.code.now.items.items in
     let i = action_of c.action_at-action.result in

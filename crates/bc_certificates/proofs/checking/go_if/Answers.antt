@@ -3,8 +3,8 @@ use Rattle.std.proofs.lemmas.Bool.{OnTrue_at}
 use Rattle.std.proofs.lemmas.Option.{none-some, same_Some}
 use Rattle.bc_flow.specs.bc_shapes.Views.{at_of}
 use Rattle.bc_flow.specs.Code.{code_of}
-use Rattle.bc_certificates.specs.Rows.{Keeps, at_if, brought}
-use Rattle.bc_certificates.specs.Checking.{rows_of}
+use Rattle.bc_certificates.specs.Rows.{at_if, brought}
+use Rattle.bc_certificates.specs.Checking.{Kept, rows_of}
 use Rattle.bc_certificates.proofs.checking.go_if.Goals as goal
 
 pub returns-then-not-held-clause-keeps : goal.returns-then-not-held-clause-keeps
@@ -20,7 +20,7 @@ returns-then-not-held-clause-brings c =
 pub returns-clause-keeps : goal.returns-clause-keeps
 returns-clause-keeps c x e =
     let some = ap (λ b. at_if b (at_of c.args.held.now.x)) c.if-not-held.false in
-    subst (Keeps (code_of c.args.code.now) (rows_of c.args.rows.now) c.args.p) (same_Some _ x (sym some ∙ e)) (OnTrue_at c.if-not-branch.false c.in_ok-go.ensures.keeps)
+    subst (Kept (code_of c.args.code.now) (rows_of c.args.rows.now) c.args.p) (same_Some _ x (sym some ∙ e)) (OnTrue_at c.if-not-branch.false c.in_ok-go.ensures.keeps)
 
 pub returns-clause-brings : goal.returns-clause-brings
 returns-clause-brings c =

@@ -2,7 +2,7 @@ use Rattle.std.proofs.Common.{◌≡◌, ◌≤◌, List, ◌++◌, length, Err,
 use Rattle.std.specs.List.{flat_map}
 use Rattle.std.proofs.lemmas.Result.{err_from_is_err_and}
 use Rattle.mpy_base.specs.declared.limits.TheConstants.{MAX_DEPTH, MAX_TABLE}
-use Rattle.bc_verify.specs.mpy_tree.declared.module.Constant.{Constant}
+use Rattle.mpy_tree.specs.declared.module.Constant.{Constant}
 use Rattle.bc_verify.specs.qstr_pool.Pool.{Texts}
 use Rattle.bc_library.specs.Constants.{preorder, values_from}
 use Rattle.bc_library.specs.Fine.{Each, Fine}

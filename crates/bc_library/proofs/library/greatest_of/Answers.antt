@@ -1,8 +1,8 @@
 use Rattle.std.proofs.Common.{◌≡◌, ◌+◌, Some, sym, ap, subst, ◌∙◌, arith}
 use Rattle.std.specs.Prelude.{slice_get, max}
 use Rattle.bc_verify.proofs.mpy_tree_lemmas.Codes.{get_at}
-use Rattle.bc_verify.specs.mpy_tree.declared.raw.RawCode.{RawCode}
-use Rattle.bc_verify.specs.mpy_tree.Raw.{Module}
+use Rattle.mpy_tree.specs.declared.raw.RawCode.{RawCode}
+use Rattle.mpy_tree.specs.Raw.{Module}
 use Rattle.bc_library.specs.Greatest.{IsGreatestIn, HasPrelude}
 use Rattle.bc_library.proofs.Preludes.{OneBelow, next_module, all_modules}
 use Rattle.bc_library.proofs.library.greatest_of.Goals as goal

@@ -4,8 +4,8 @@ use Rattle.std.specs.List.{filter_map}
 use Rattle.std.proofs.lemmas.Result.{err_from_is_err_and}
 use Rattle.mpy_base.specs.declared.limits.TheConstants.{MAX_TABLE}
 use Rattle.mpy_base.specs.declared.refused.Refused.TheVariants as refused
-use Rattle.bc_verify.specs.mpy_tree.declared.raw.Qstr.{Qstr}
-use Rattle.bc_verify.specs.mpy_tree.Raw as raw
+use Rattle.mpy_tree.specs.declared.raw.Qstr.{Qstr}
+use Rattle.mpy_tree.specs.Raw as raw
 use Rattle.bc_verify.specs.qstr_pool.Full.{pool_full}
 use Rattle.bc_verify.specs.qstr_pool.Pool.{Texts}
 use Rattle.bc_library.specs.Fine.{Each, FineQstr}

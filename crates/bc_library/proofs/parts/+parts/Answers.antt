@@ -1,6 +1,6 @@
 use Rattle.std.proofs.Common.{◌≡◌, ◌-◌, ◌++◌, length, sym, ap, subst, ◌∙◌, arith}
 use Rattle.std.specs.List.{flat_map}
-use Rattle.bc_verify.specs.mpy_tree.declared.module.Constant.{out-Constant}
+use Rattle.mpy_tree.specs.declared.module.Constant.{out-Constant}
 use Rattle.bc_library.specs.Constants.{items_in, preorder, numbered, value_by, values_from}
 use Rattle.bc_library.specs.Fine.{Each, Fine}
 use Rattle.bc_library.specs.Parts.{parts_from}

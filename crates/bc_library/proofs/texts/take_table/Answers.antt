@@ -3,7 +3,7 @@ use Rattle.std.proofs.lemmas.Option.{slice_get_read}
 use Rattle.std.proofs.lemmas.Result.{err_from_is_err_and}
 use Rattle.std.specs.List.{filter_map}
 use Rattle.mpy_base.specs.declared.refused.Refused.TheVariants as refused
-use Rattle.bc_verify.specs.mpy_tree.Raw as raw
+use Rattle.mpy_tree.specs.Raw as raw
 use Rattle.bc_verify.specs.qstr_pool.Full.{pool_full}
 use Rattle.bc_verify.specs.qstr_pool.Pool.{Texts}
 use Rattle.bc_library.proofs.Pools.{same_first, entry_there, next_taken, table_overflows, extends_by, extends_trans, on_err}

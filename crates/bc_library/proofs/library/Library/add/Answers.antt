@@ -2,7 +2,7 @@ use Rattle.std.proofs.Common.{◌≡◌, ℕ, ◌<◌, ◌≤◌, List, length, 
 use Rattle.mpy_base.specs.declared.limits.TheConstants.{MAX_TABLE}
 use Rattle.mpy_base.specs.declared.refused.Refused.{Refused}
 use Rattle.mpy_base.specs.declared.refused.Refused.TheVariants as refusals
-use Rattle.bc_verify.specs.mpy_tree.Raw.{Module}
+use Rattle.mpy_tree.specs.Raw.{Module}
 use Rattle.bc_verify.specs.qstr_pool.Pool.{Texts}
 use Rattle.bc_library.specs.declared.fault.LibFault.{LibFault}
 use Rattle.bc_library.specs.declared.fault.LibFault.TheVariants as faults

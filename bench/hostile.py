@@ -1,0 +1,212 @@
+"""Codes made to be slow to verify. `python3 bench/hostile.py FOLDER` writes a file of one code for each; all are verified but those that
+begin with `refused`. Time them by `mpy check`."""
+import os
+import sys
+
+CODES = dict(JUMP=0x42, POP_JUMP_IF_TRUE=0x43, JUMP_IF_TRUE_OR_POP=0x45, SETUP_EXCEPT=0x48, SETUP_FINALLY=0x49, POP_EXCEPT_JUMP=0x4A,
+             LOAD_CONST_NONE=0x51, LOAD_CONST_TRUE=0x52, DUP_TOP=0x57, DUP_TOP_TWO=0x58, POP_TOP=0x59, END_FINALLY=0x5D,
+             RETURN_VALUE=0x63, RAISE_LAST=0x64, BUILD_TUPLE=0x2A, UNPACK_SEQUENCE=0x30)
+SIGNED = ('JUMP', 'POP_JUMP_IF_TRUE')
+
+
+class Code:
+    """Instructions with labels. A far jump has an offset of two bytes."""
+
+    def __init__(self):
+        self.parts, self.length, self.hops, self.last = [], 0, 0, None
+
+    def add(self, part):
+        self.parts.append(part)
+        self.length += self.size(part)
+        return self
+
+    def op(self, *names):
+        for name in names:
+            self.add((name, None, None))
+        return self
+
+    def num(self, name, n):
+        return self.add((name, n, None))
+
+    def jump(self, name, label, far=True):
+        return self.add((name, label, 2 if far else 1))
+
+    def label(self, label):
+        return self.add((None, label, None))
+
+    def hop(self):
+        """A jump back can't pass more than 16,384 bytes: one more hop, where the last one is far."""
+        if self.last is not None and self.length - self.last > 15000:
+            self.jump('JUMP', ('over', self.hops), False).label(('hop', self.hops + 1)).jump('JUMP', ('hop', self.hops)).label(('over', self.hops))
+            self.hops, self.last = self.hops + 1, self.length
+        return self
+
+    def size(self, part):
+        name, n, width = part
+        if name is None:
+            return 0
+        return 1 + (width if width else 0 if n is None else len(number(n)))
+
+    def bytes(self):
+        at, places = 0, {}
+        for part in self.parts:
+            if part[0] is None:
+                places[part[1]] = at
+            at += self.size(part)
+        out = bytearray()
+        for part in self.parts:
+            name, n, width = part
+            if name is None:
+                continue
+            out.append(CODES[name])
+            if width:
+                out += offset(places[n] - len(out) - width, width, name in SIGNED)
+            elif n is not None:
+                out += number(n)
+        return bytes(out)
+
+
+def number(n):
+    out = [n & 127]
+    while n > 127:
+        n >>= 7
+        out.insert(0, n & 127 | 128)
+    return bytes(out)
+
+
+def offset(n, width, signed):
+    if width == 1:
+        n += 0x40 if signed else 0
+        assert 0 <= n < 0x80, n
+        return bytes([n])
+    n += 0x4000 if signed else 0
+    assert 0 <= n < 0x8000, n
+    return bytes([n & 127 | 128, n >> 7])
+
+
+def file_of(code):
+    """A file of one code, which has room for 4,096 slots and 255 entries."""
+    body = bytes.fromhex('fcb2b2b2b282820202 01'.replace(' ', '')) + code.bytes()
+    assert len(body) <= 32767, len(body)
+    return bytes.fromhex('4d06001f02000865') + b'.py\0\x0f' + number(len(body) * 8) + body
+
+
+def branches(c, count):
+    """Branches that take a value and go on to the same position."""
+    for i in range(count):
+        c.op('LOAD_CONST_TRUE').jump('POP_JUMP_IF_TRUE', ('look', i), False).label(('look', i)).hop()
+
+
+def closing(slots, below, looks):
+    """Open slots that close one by one, one in each round of a loop, over others and with branches that look on."""
+    c = Code()
+    if below:
+        c.op('LOAD_CONST_TRUE').num('UNPACK_SEQUENCE', below)
+    c.op('LOAD_CONST_TRUE', *['LOAD_CONST_NONE'] * (slots - 1)).label(('hop', 0))
+    c.last = c.length
+    branches(c, looks)
+    for j in range(slots, 0, -1):
+        if j < slots:
+            c.op('DUP_TOP').jump('JUMP_IF_TRUE_OR_POP', ('up', j + 1))
+        c.op('POP_TOP').hop()
+    c.op(*['POP_TOP'] * below, 'LOAD_CONST_NONE', 'RETURN_VALUE')
+    for j in range(2, slots + 1):
+        c.label(('up', j))
+        if j < slots:
+            c.op('LOAD_CONST_NONE')
+    return c.jump('JUMP', ('hop', c.hops))
+
+
+def named(slots, body):
+    """A slot that stands in many places, in a try of many instructions."""
+    c = Code().op('LOAD_CONST_NONE', *['DUP_TOP'] * (slots - 1)).jump('SETUP_FINALLY', 'handler')
+    return c.op(*['LOAD_CONST_NONE', 'POP_TOP'] * (body // 2), 'LOAD_CONST_NONE').label('handler').op('END_FINALLY', 'LOAD_CONST_NONE', 'RETURN_VALUE')
+
+
+def looking(slots, count, opens):
+    """Branches over many slots."""
+    c = Code()
+    if opens:
+        c.op('LOAD_CONST_NONE', 'LOAD_CONST_NONE', *['DUP_TOP_TWO'] * (slots // 2 - 1))
+    else:
+        c.op('LOAD_CONST_TRUE').num('UNPACK_SEQUENCE', slots)
+    branches(c, count)
+    return c.op('LOAD_CONST_NONE', 'RETURN_VALUE')
+
+
+def finallys(depth, returns, below):
+    """Returns that each run many finally handlers."""
+    c = Code().op('LOAD_CONST_TRUE').num('UNPACK_SEQUENCE', below)
+    for d in range(depth):
+        c.jump('SETUP_FINALLY', ('h', d))
+    for i in range(returns):
+        c.op('LOAD_CONST_NONE', 'LOAD_CONST_TRUE').jump('POP_JUMP_IF_TRUE', ('l', i), False).op('RETURN_VALUE').label(('l', i)).op('POP_TOP')
+    c.op('LOAD_CONST_NONE', 'RETURN_VALUE')
+    for d in reversed(range(depth)):
+        c.label(('h', d)).op('END_FINALLY', 'LOAD_CONST_NONE', 'RETURN_VALUE')
+    return c
+
+
+def tries(depth, count, below):
+    """Many short tries within many others."""
+    c = Code().op('LOAD_CONST_TRUE').num('UNPACK_SEQUENCE', below)
+    for d in range(depth):
+        c.jump('SETUP_FINALLY', ('h', d))
+    for i in range(count):
+        c.jump('SETUP_FINALLY', ('f', i), False).op('LOAD_CONST_NONE').label(('f', i)).op('END_FINALLY')
+    c.op('LOAD_CONST_NONE', 'RETURN_VALUE')
+    for d in reversed(range(depth)):
+        c.label(('h', d)).op('END_FINALLY', 'LOAD_CONST_NONE', 'RETURN_VALUE')
+    return c
+
+
+def excepts(slots, count):
+    """Many tries with one handler."""
+    c = Code().op('LOAD_CONST_TRUE').num('UNPACK_SEQUENCE', slots)
+    for i in range(count):
+        c.jump('SETUP_EXCEPT', 'handler').jump('POP_EXCEPT_JUMP', ('l', i), False).label(('l', i))
+    return c.op('LOAD_CONST_NONE', 'RETURN_VALUE').label('handler').op('RAISE_LAST')
+
+
+def unpacked(slots, count):
+    """Many slots that are new at each branch."""
+    c = Code()
+    for i in range(count):
+        c.op('LOAD_CONST_TRUE').num('UNPACK_SEQUENCE', slots).op('LOAD_CONST_TRUE').jump('POP_JUMP_IF_TRUE', ('l', i), False).label(('l', i))
+        c.num('BUILD_TUPLE', slots).op('POP_TOP')
+    return c.op('LOAD_CONST_NONE', 'RETURN_VALUE')
+
+
+def plain(count):
+    """No jump at all."""
+    return Code().op(*['LOAD_CONST_NONE', 'POP_TOP'] * (count // 2), 'LOAD_CONST_NONE', 'RETURN_VALUE')
+
+
+def refused(code):
+    """The same code with a fault that is the last thing found: a value where a cause is asked, behind all."""
+    c = Code().op('LOAD_CONST_TRUE').jump('JUMP_IF_TRUE_OR_POP', 'bad').op('LOAD_CONST_NONE', 'POP_TOP')
+    c.parts += code.parts
+    return c.label('bad').op('END_FINALLY')
+
+
+HOSTILE = {
+    'closing-1000': closing(1000, 0, 8200),
+    'closing-2000': closing(2000, 0, 6000),
+    'closing-2800': closing(2800, 0, 4000),
+    'closing-3600': closing(3600, 0, 2300),
+    'closing-1000-over-2700': closing(1000, 2700, 7000),
+    'named-3850': named(3850, 28000),
+    'branches-over-values': looking(4000, 9500, False),
+    'branches-over-open': looking(4000, 9500, True),
+    'finallys-200': finallys(200, 4500, 3700),
+    'tries-in-250': tries(250, 6000, 3500),
+    'excepts-4000': excepts(4000, 6500),
+    'unpacked-4000': unpacked(4000, 2500),
+    'plain': plain(32700),
+    'refused-closing-400': refused(closing(400, 0, 2500)),
+}
+
+if __name__ == '__main__':
+    for name, code in HOSTILE.items():
+        with open(os.path.join(sys.argv[1], name + '.mpy'), 'wb') as out:
+            out.write(file_of(code))
