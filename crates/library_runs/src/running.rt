@@ -65,11 +65,12 @@ pub fn run_for<S: Sink, P: Port, E: Sink>(
         Err(Failed) => return (RunEnd::WriteFault, None),
     }
     match out.flush() {
-        Ok(()) => {}
-        Err(Failed) => return (RunEnd::WriteFault, None),
+        Ok(()) => {
+            let end = say_end(&vm, library, say);
+            (end, unended(vm))
+        }
+        Err(Failed) => (RunEnd::WriteFault, None),
     }
-    let end = say_end(&vm, library, say);
-    (end, unended(vm))
 }
 
 /// The machine, where its run hasn't ended.

@@ -1,0 +1,75 @@
+use Rattle.std.proofs.Common.{◌≡◌, [], Bool, Result, Some, None, refl, sym, subst, ap, ◌∙◌}
+use Rattle.std.specs.Prelude.{◌≢◌, IfOk, IfErr, MatchOption}
+use Rattle.std.proofs.lemmas.Option.{slice_get_within}
+use Rattle.mpy_io.specs.Count.{Counts}
+use Rattle.bc_library.specs.mpy_tree.Raw.{Module}
+use Rattle.command_files.specs.image_runs.Main.{IsMainAt}
+use Rattle.library_files.specs.Ends.{HoldsModules}
+use Rattle.library_runs.specs.declared.ending.RunEnd.{RunEnd}
+use Rattle.library_runs.specs.declared.ending.RunEnd.TheVariants as ends
+use Rattle.library_runs.specs.Runs.{RunsAs, StandsAt, sight}
+use Rattle.command_files.specs.mpy_endings.declared.ending.Ending.{Ending}
+use Rattle.run_commands.specs.declared.ready.Ready.{Ready}
+use Rattle.run_commands.specs.Run.{IsUnloaded}
+use Rattle.run_commands.specs.Save.{RunsSaving}
+use Rattle.run_commands.proofs.Running.{run_over, same_sight, says_nothing, unloaded_unrun}
+use Rattle.run_commands.proofs.Suspending.{ended_so, not_begun, was_saved}
+use Rattle.run_commands.proofs.saving.run_saving.Goals as goal
+
+pub run_for-end-requires-clause-runnable : goal.run_for-end-requires-clause-runnable
+run_for-end-requires-clause-runnable g c =
+    let holds = subst (λ (r : Result Ready Ending). IfOk r (λ ready. HoldsModules ready.library)) c.in-Ok.is c.requires.holds in
+    record { distinct = holds.distinct; are_modules = holds.are_modules; are_verified = holds.are_verified }
+
+pub run_for-end-requires-clause-there : goal.run_for-end-requires-clause-there
+run_for-end-requires-clause-there g c =
+    let first = subst (λ (r : Result Ready Ending). IfOk r (λ ready. (m : Module) × IsMainAt ready.main ready.place m ready.library)) c.in-Ok.is c.requires.there in
+    slice_get_within c.in-Ok.ready.library.modules c.in-Ok.ready.place (record { name = c.in-Ok.ready.main; held = first.0 }) first.1
+
+-- it took all its steps
+pub returns-in-Ok-Some-clause-went : goal.returns-in-Ok-Some-clause-went
+returns-in-Ok-Some-clause-went g c =
+    let old = sight g.S.Sink.told g.P.Port.seen c.args.out.now c.args.ports.now in
+    let new = sight g.S.Sink.told g.P.Port.seen c.run_for-end.new.out c.run_for-end.new.ports in
+    let Comes = λ (r : Result Ready Ending). r ≡ c.args.loaded in
+    let ready = c.in-Ok.ready in
+    let first = subst (λ (r : Result Ready Ending). IfOk r (λ ready. (m : Module) × IsMainAt ready.main ready.place m ready.library)) c.in-Ok.is c.requires.there in
+    let named = record { name = ready.main; held = first.0 } in
+    let ran = c.run_for-end.ensures.runs named first.1 in
+    let left = c.in-Some.ensures.leaves named first.1 in
+    let runs = subst (λ (end : RunEnd). RunsAs ready.library ready.main c.args.room c.args.steps old new end ran.0) left.0 ran.1 in
+    (ran.0,
+     was_saved Comes c.args.room c.args.steps old new ran.0 c.args.snap.now (g.F.Folder.files c.args.folder.now) (g.F.Folder.files c.save_state.new.folder) ready (sym c.in-Ok.is) runs c.in-Some.vm left.1 c.save_state.result c.save_state.ensures.saves,
+     ran.2)
+
+-- it ended before
+pub returns-in-Ok-None-clause-went : goal.returns-in-Ok-None-clause-went
+returns-in-Ok-None-clause-went g c =
+    let old = sight g.S.Sink.told g.P.Port.seen c.args.out.now c.args.ports.now in
+    let new = sight g.S.Sink.told g.P.Port.seen c.run_for-end.new.out c.run_for-end.new.ports in
+    let end = c.run_for-end.result.0 in
+    let files = g.F.Folder.files c.args.folder.now in
+    let Comes = λ (r : Result Ready Ending). r ≡ c.args.loaded in
+    let ready = c.in-Ok.ready in
+    let first = subst (λ (r : Result Ready Ending). IfOk r (λ ready. (m : Module) × IsMainAt ready.main ready.place m ready.library)) c.in-Ok.is c.requires.there in
+    let named = record { name = ready.main; held = first.0 } in
+    let ran = c.run_for-end.ensures.runs named first.1 in
+    let none = λ (e : end ≡ ends.NoMemory). same_sight g.S.Sink.told g.P.Port.seen c.args.out.now c.run_for-end.new.out c.args.ports.now c.run_for-end.new.ports (c.run_for-end.ensures.none e).0 (c.run_for-end.ensures.none e).1 in
+    let went = ended_so Comes c.args.room c.args.steps old new ran.0 c.args.snap.now files files ready (sym c.in-Ok.is) end (c.in-None.ensures.leaves named first.1) none ran.1 refl in
+    (ran.0, subst (λ (x : Ending). RunsSaving Comes c.args.room c.args.steps old new ran.0 c.args.snap.now files files x) (sym c.ending_of.ensures) went, ran.2)
+
+-- it wasn't begun
+pub returns-in-Err-clause-went : goal.returns-in-Err-clause-went
+returns-in-Err-clause-went g c =
+    let here = sight g.S.Sink.told g.P.Port.seen c.args.out.now c.args.ports.now in
+    let files = g.F.Folder.files c.args.folder.now in
+    let Comes = λ (r : Result Ready Ending). r ≡ c.args.loaded in
+    ([], not_begun Comes c.args.room c.args.steps here here [] c.args.snap.now files files c.in-Err.ending (subst (λ (r : Result Ready Ending). IfErr r IsUnloaded) c.in-Err.is c.requires.unloaded) (sym c.in-Err.is) refl refl refl,
+     says_nothing (g.E.Sink.told c.args.say.now) (g.E.Sink.count c.args.say.now))
+
+pub returns-in-Ok-None-clause-flushed : goal.returns-in-Ok-None-clause-flushed
+returns-in-Ok-None-clause-flushed g c = λ s. c.run_for-end.ensures.flushed (run_over c.run_for-end.result.0 c.args.steps c.ending_of.result c.ending_of.ensures s)
+
+pub returns-in-Err-clause-flushed : goal.returns-in-Err-clause-flushed
+returns-in-Err-clause-flushed g c = λ s.
+    absurd (unloaded_unrun c.in-Err.ending (subst (λ (r : Result Ready Ending). IfErr r IsUnloaded) c.in-Err.is c.requires.unloaded) s)
